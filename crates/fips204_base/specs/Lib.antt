@@ -1,0 +1,7 @@
+pub mod Faults
+pub mod Streams
+pub mod Residues
+pub mod Products
+pub mod Transforms
+pub mod Packing
+pub mod Encodings

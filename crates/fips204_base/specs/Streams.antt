@@ -1,0 +1,26 @@
+-- Streams: what stands in the place of SHAKE256 and SHAKE128 (FIPS 204, section 3.7).
+use Rattle.std.specs.Prelude.{ℕ, zero, suc, ◌/◌, List, [], ◌++◌}
+use Rattle.std.specs.Int.{w32, to_le_bytes}
+use Rattle.sha2.specs.Sha256.{sha256}
+use Rattle.sha2.specs.Sha512.{sha512}
+
+-- how many bytes a front has; every limit on sampling is written by it
+abbrev pub front_length : ℕ
+front_length = 4096
+
+-- block i of a stream in counter mode: the hash of the seed followed by i as four bytes, the lowest first
+unfoldable pub counter_block : (List ℕ → List ℕ) → List ℕ → ℕ → List ℕ
+counter_block hash seed i = hash (seed ++ to_le_bytes w32 i)
+
+-- the first n blocks of a stream in counter mode, joined
+unfoldable pub counter_blocks : (List ℕ → List ℕ) → List ℕ → ℕ → List ℕ
+counter_blocks hash seed zero = []
+counter_blocks hash seed (suc n) = counter_blocks hash seed n ++ counter_block hash seed n
+
+-- the front of `Sha256Ctr`: 128 blocks of SHA-256 over the digest of the input
+abbrev pub sha256_front : List ℕ → List ℕ
+sha256_front input = counter_blocks sha256 (sha256 input) 128
+
+-- the front of `Sha512Ctr`: 64 blocks of SHA-512 over the digest of the input
+abbrev pub sha512_front : List ℕ → List ℕ
+sha512_front input = counter_blocks sha512 (sha512 input) 64

@@ -1,0 +1,75 @@
+//! The refusals of the library.
+#![tactic(auto)]
+
+ghost use Rattle.std.specs.Prelude.{◌≡◌};
+ghost use Rattle.fips204_base.specs.Faults.{words};
+
+use std::error::Error;
+use std::fmt;
+
+/// Why a call refused. `as_str` and `Display` give the words of each.
+#[derive(Debug, Clone, Copy, PartialEq, Eq)]
+pub enum Fault {
+    /// The generator refused in key generation.
+    KeyGenRng,
+    /// The context of plain signing has more than 255 bytes.
+    SignCtx,
+    /// The generator refused in plain signing.
+    SignRng,
+    /// The context of pre-hash signing has more than 255 bytes.
+    HashCtx,
+    /// The object identifier of pre-hash signing is empty.
+    OidEmpty,
+    /// The object identifier of pre-hash signing has not the form of a DER encoding.
+    OidNotDer,
+    /// The digest of pre-hash signing has more than 1024 bytes.
+    DigestTooLong,
+    /// The digest has not the length that a known object identifier asks for.
+    DigestLength,
+    /// The generator refused in pre-hash signing.
+    HashRng,
+    /// The generator refused in a hook of signing.
+    InternalRng,
+    /// All 814 attempts of signing were rejected.
+    TooManyAttempts,
+    /// A field of s1 or s2 in the bytes of a private key is above `2 eta`.
+    KeyRange,
+    /// A sampler had too few good values within its limit.
+    SamplingLimit,
+}
+
+impl Fault {
+    /// The words of the refusal.
+    pub fn as_str(&self) -> &'static str
+        ensures { result.now ≡ words self.now }
+    {
+        match self {
+            Fault::KeyGenRng => "KeyGen: Random number generator failed",
+            Fault::SignCtx => "ML-DSA.Sign: ctx too long",
+            Fault::SignRng => "ML-DSA.Sign: random number generator failed",
+            Fault::HashCtx => "HashML-DSA.Sign: ctx too long",
+            Fault::OidEmpty => "HashML-DSA.Sign: OID is empty",
+            Fault::OidNotDer => "HashML-DSA.Sign: OID is not DER encoded",
+            Fault::DigestTooLong => "Hash of message is too long, should not be more than 1KiB",
+            Fault::DigestLength => "HashML-DSA.Sign: digest length does not match the OID",
+            Fault::HashRng => "HashML-DSA.Sign: random number generator failed",
+            Fault::InternalRng => "ML-DSA.Sign_internal: random number generator failed",
+            Fault::TooManyAttempts => "ML-DSA.Sign: too many attempts",
+            Fault::KeyRange => "Alg 25: s1 or s2 out of range",
+            Fault::SamplingLimit => "sampling limit reached",
+        }
+    }
+}
+
+impl fmt::Display for Fault {
+    ghost use Rattle.std.specs.Prelude.{Some};
+    ghost use Rattle.fips204_base.specs.Faults.{words};
+
+    ghost output = { λ fault. Some (words fault) };
+
+    fn fmt<W: fmt::Write>(&self, f: &mut fmt::Formatter<W>) -> fmt::Result {
+        f.write_str(self.as_str())
+    }
+}
+
+impl Error for Fault {}

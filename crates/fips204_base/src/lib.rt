@@ -1,0 +1,20 @@
+//! The lower half of ML-DSA (FIPS 204): byte streams, arithmetic, conversions and encodings, over
+//! polynomials of 256 coefficients modulo `q`.
+//!
+//! The crate `fips204` names every item here again; depend on that one.
+#![tactic(auto)]
+
+pub mod fault;
+pub mod types;
+pub mod xof;
+
+pub use fault::Fault;
+
+/// The modulus `q = 2^23 - 2^13 + 1` (FIPS 204, Table 1).
+pub const Q: i32 = 8380417;
+
+/// A 512th root of unity modulo `q` (FIPS 204, Table 1).
+pub const ZETA: i32 = 1753;
+
+/// How many low bits `power2round` drops from t (FIPS 204, Table 1).
+pub const D: u32 = 13;
