@@ -5,6 +5,7 @@ ghost use Rattle.std.specs.Prelude.{◌≡◌, ◌≤◌, ◌<◌, ◌*◌, ◌+
 ghost use Rattle.std.specs.List.{flat_map};
 ghost use Rattle.fips204_base.specs.Streams.{counter_block, counter_blocks, front_length};
 
+use sha2::Digest;
 use std::marker::{Model, PhantomData};
 
 /// A stream in counter mode: a hash with digests of `N` bytes, and how many of its blocks make a
@@ -47,6 +48,17 @@ impl<H: BlockHash<N>, const N: usize> Model for BlockReader<H, N> {
     ghost view = { λ r. drop r.given r.block ++ drop (r.next * N) (counter_blocks H.hash r.seed H.BLOCKS) };
 
     ghost invariant = { λ r. (r.given ≤ N) × (r.next ≤ H.BLOCKS) };
+}
+
+/// The digest of the joined parts.
+pub(crate) fn digest_of_parts<D: Digest>(parts: &[&[u8]]) -> D::Output
+    ensures { D.digest_of (flat_map (λ part. part.now) parts.now) result }
+{
+    let mut hasher = D::new();
+    for part in parts {
+        hasher.update(*part);
+    }
+    hasher.finalize()
 }
 
 /// Block `number` of the stream.

@@ -8,9 +8,9 @@ ghost use Rattle.std.proofs.Common.{rules};
 ghost use Rattle.fips204_base.specs.Blocks.{length-sha256_front};
 ghost use Rattle.fips204_base.specs.Streams.{sha256_front};
 
-use crate::xof::counter::{BlockHash, BlockReader};
+use crate::xof::counter::{digest_of_parts, BlockHash, BlockReader};
 use crate::xof::{Xof, XofReader};
-use sha2::{Digest, Sha256};
+use sha2::Sha256;
 use std::marker::Model;
 
 /// The stream that hashes its input by SHA-256, and gives 128 blocks: block `i` is SHA-256 of the
@@ -29,11 +29,7 @@ impl BlockHash<32> for Sha256Ctr {
     ghost blocks_fill_front = { Prim.search rules };
 
     fn digest(parts: &[&[u8]]) -> [u8; 32] {
-        let mut hasher = Sha256::new();
-        for part in parts {
-            hasher.update(*part);
-        }
-        hasher.finalize()
+        digest_of_parts::<Sha256>(parts)
     }
 }
 

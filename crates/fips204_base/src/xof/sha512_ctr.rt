@@ -8,9 +8,9 @@ ghost use Rattle.std.proofs.Common.{rules};
 ghost use Rattle.fips204_base.specs.Blocks.{length-sha512_front};
 ghost use Rattle.fips204_base.specs.Streams.{sha512_front};
 
-use crate::xof::counter::{BlockHash, BlockReader};
+use crate::xof::counter::{digest_of_parts, BlockHash, BlockReader};
 use crate::xof::{Xof, XofReader};
-use sha2::{Digest, Sha512};
+use sha2::Sha512;
 use std::marker::Model;
 
 /// The stream that hashes its input by SHA-512, and gives 64 blocks: block `i` is SHA-512 of the
@@ -29,11 +29,7 @@ impl BlockHash<64> for Sha512Ctr {
     ghost blocks_fill_front = { Prim.search rules };
 
     fn digest(parts: &[&[u8]]) -> [u8; 64] {
-        let mut hasher = Sha512::new();
-        for part in parts {
-            hasher.update(*part);
-        }
-        hasher.finalize()
+        digest_of_parts::<Sha512>(parts)
     }
 }
 
