@@ -1,5 +1,5 @@
 -- Reading a stream in counter mode block by block.
-use Rattle.std.proofs.Common.{◌≡◌, ◌⊎◌, inl, inr, ℕ, zero, suc, ◌+◌, ◌-◌, ◌*◌, ◌<◌, ◌≤◌, List, [], ◌∷◌, ◌++◌, length, min, take, drop, length-append, length-drop, arith, refl, sym, ◌∙◌, ap, append_assoc, append-nil}
+use Rattle.std.proofs.Common.{◌≡◌, inl, inr, ℕ, zero, suc, ◌+◌, ◌-◌, ◌*◌, ◌<◌, ◌≤◌, List, ◌++◌, length, min, take, drop, length-append, length-drop, arith, sym, ◌∙◌, ap, append_assoc, append-nil}
 use Rattle.std.proofs.lemmas.Bool.{cases_lt}
 use Rattle.std.proofs.lemmas.List.{drop_all, drop_at, drop-drop, drop-append-le, take-append-le, take_at, length-take-le}
 use Rattle.std.proofs.Math.Seq.{take-add}
@@ -114,12 +114,12 @@ filled_more out whole left part tail rest filled count f n room size before at w
     let length_now = length-append (take filled out) (part ++ after) in
     let length_part = length-append part after in
     let given : take count part ≡ take count (drop filled whole) =
-        rw (written, at) (take_at (take count (drop filled whole)) tail count (length-take-le count (drop filled whole) in_left)) in (
+    rw (written, at) (take_at (take count (drop filled whole)) tail count (length-take-le count (drop filled whole) in_left)) in (
       omega (arith, length_now, length_part, front, in_part),
       take-add filled count (put_mid filled k out part)
-      ∙ ap (λ l. l ++ take count (drop filled (put_mid filled k out part))) (take_at (take filled out) (part ++ after) filled front ∙ before)
-      ∙ ap (λ l. take filled whole ++ take count l) (drop_at (take filled out) (part ++ after) filled front)
-      ∙ ap (λ l. take filled whole ++ l) (take-append-le count part after in_part ∙ given)
-      ∙ sym (take-add filled count whole),
+          ∙ ap (λ l. l ++ take count (drop filled (put_mid filled k out part))) (take_at (take filled out) (part ++ after) filled front ∙ before)
+          ∙ ap (λ l. take filled whole ++ take count l) (drop_at (take filled out) (part ++ after) filled front)
+          ∙ ap (λ l. take filled whole ++ l) (take-append-le count part after in_part ∙ given)
+          ∙ sym (take-add filled count whole),
       dropped ∙ ap (drop count) at ∙ drop-drop count filled whole,
     )

@@ -8,7 +8,7 @@ ghost use Rattle.std.proofs.Common.{rules};
 ghost use Rattle.fips204_base.specs.Blocks.{length-sha256_front};
 ghost use Rattle.fips204_base.specs.Streams.{sha256_front};
 
-use crate::xof::counter::{digest_of_parts, BlockHash, BlockReader};
+use crate::xof::counter::{BlockHash, BlockReader, digest_of_parts};
 use crate::xof::{Xof, XofReader};
 use sha2::Sha256;
 use std::marker::Model;

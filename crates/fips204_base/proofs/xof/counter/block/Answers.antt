@@ -1,4 +1,4 @@
-use Rattle.std.proofs.Common.{rules, ◌≡◌}
+use Rattle.std.proofs.Common.{rules}
 use Rattle.fips204_base.specs.Streams.{counter_block}
 use Rattle.fips204_base.proofs.xof.counter.block.Goals as goal
 

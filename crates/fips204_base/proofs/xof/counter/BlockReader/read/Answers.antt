@@ -1,4 +1,4 @@
-use Rattle.std.proofs.Common.{◌≡◌, ◌≤◌, ◌<◌, ◌++◌, ℕ, List, length, take, drop, ◌+◌, ◌-◌, length-drop, arith}
+use Rattle.std.proofs.Common.{length-drop, arith}
 use Rattle.std.proofs.lemmas.List.{take_rest}
 use Rattle.fips204_base.proofs.Reading.{filled_more}
 use Rattle.fips204_base.proofs.xof.counter.BlockReader.read.Goals as goal

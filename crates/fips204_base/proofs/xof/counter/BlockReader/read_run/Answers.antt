@@ -1,6 +1,5 @@
-use Rattle.std.proofs.Common.{◌≡◌, ◌≤◌, ◌*◌, ◌++◌, List, length, take, drop, ◌+◌, ◌∙◌, ap, arith}
+use Rattle.std.proofs.Common.{◌++◌, length, drop, ◌∙◌, ap, arith}
 use Rattle.std.proofs.lemmas.List.{take_rest}
-use Rattle.fips204_base.specs.Streams.{counter_blocks}
 use Rattle.fips204_base.proofs.Reading.{InHand, InHand-made, InHand-run, Run}
 use Rattle.fips204_base.proofs.xof.counter.BlockReader.read_run.Given.{Over}
 use Rattle.fips204_base.proofs.xof.counter.BlockReader.read_run.Goals as goal
