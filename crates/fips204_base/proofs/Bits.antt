@@ -6,7 +6,7 @@ use Rattle.std.proofs.lemmas.List.{flat_map_more, take_at, drop_at}
 use Rattle.std.proofs.lemmas.List.Elements.{All-head, All-tail}
 use Rattle.std.proofs.lemmas.Nat.{pow_pos, pow-add, shl_below, shr_below, mul-add-lt, mod_below, shr_split, mul-le}
 use Rattle.std.proofs.Math.Nat.{pow-succ', pow-le-pow_right}
-use Rattle.fips204_base.specs.Packing.{Packs, integer_to_bits, bits}
+use Rattle.fips204_base.specs.Packing.{integer_to_bits, bits}
 
 pub digits-zero : (x : ℕ) → integer_to_bits zero x ≡ []
 unfolding integer_to_bits

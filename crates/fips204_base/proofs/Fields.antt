@@ -1,5 +1,5 @@
 -- How many bits a number has, and the field of a coefficient.
-use Rattle.std.proofs.Common.{◌≡◌, ℕ, true, false, cond, nat_le, zero, suc, ◌+◌, ◌*◌, ◌-◌, ◌^◌, ◌<◌, ◌≤◌, List, [], ◌∷◌, ◌++◌, ℤ, pos, ◌+ℤ◌, ◌-ℤ◌, ◌≤ℤ◌, ◌<ℤ◌, nat_abs, length, take, set, map, refl, ap, sym, ◌∙◌, subst, arith, append-nil, ◌⊎◌,  inl, inr}
+use Rattle.std.proofs.Common.{◌≡◌, ℕ, true, false, cond, nat_le, zero, suc, ◌+◌, ◌*◌, ◌^◌, ◌<◌, ◌≤◌, List, [], ◌∷◌, ◌++◌, ℤ, pos, ◌+ℤ◌, ◌-ℤ◌, ◌≤ℤ◌, ◌<ℤ◌, nat_abs, length, take, set, map, refl, ap, sym, ◌∙◌, subst, arith, append-nil, ◌⊎◌, inl, inr}
 use Rattle.std.specs.List.{All, Any, range_with_len, count_by}
 use Rattle.std.specs.Int.{leading_zeros, w32}
 use Rattle.std.proofs.lemmas.Bool.{cases_lt}
@@ -10,7 +10,7 @@ use Rattle.std.proofs.lemmas.List.Sums.{sum_by-cons}
 use Rattle.std.proofs.lemmas.List.Elements.{All-map, All-weaker, All-push, All-nil, All-cons, All-head, All-tail}
 use Rattle.std.proofs.lemmas.Nat.{leading_length}
 use Rattle.std.proofs.Math.Nat.{pow-succ', pow-le-pow_right}
-use Rattle.fips204_base.specs.Packing.{Bounds, InRange, Packs, PacksAbove, Unpacks, bit_length, bits, coefficient, field, integer_to_bits, width}
+use Rattle.fips204_base.specs.Packing.{Bounds, InRange, PacksAbove, Unpacks, bit_length, bits, coefficient, field, integer_to_bits, width}
 use Rattle.fips204_base.proofs.Bits.{all_taken, digits-zero}
 
 -- the powers of two that are at most a number of c digits, counted from 2 ^ s on
@@ -174,3 +174,11 @@ refused a b v w none_below u outside =
       | inl none ↦ absurd (outside (within_range b w z.coefficients (subst (λ a. All (λ f. pos f ≤ℤ b) (map (field a b) w)) none_below none)))
       | inr some ↦ record { fields = map (field a b) w; same_fields = u.same_fields; count = length-map w (field a b) ∙ u.count; above = some }
     ]
+
+-- no field of c bits is above the greatest number of c bits
+pub none_above : (b c : ℕ) (v : List ℕ) → 2 ^ c ≤ b + 1 → PacksAbove (pos b) c v → ⊥
+none_above b c v room p =
+    let field = p.above.1 in
+    let small : field < 2 ^ c = subst (λ f. f < 2 ^ c) p.above.3 (p.same_fields.small_fields p.above.0 field p.above.2) in
+    let above : pos b <ℤ pos field = p.above.4 in
+    omega (arith, ints, small, above)

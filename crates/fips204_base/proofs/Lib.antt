@@ -1,3 +1,4 @@
 mod Bits
 mod Fields
 mod Packings
+mod Pieces

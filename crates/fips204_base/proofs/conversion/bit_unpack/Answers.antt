@@ -76,8 +76,7 @@ returns c =
     let B = to_z-of_z w32 c.args.b c.ranges.b in
     let bytes = All-from_get_or (λ (x : ℕ). x < 256) c.args.v.now 0 (λ i h. (c.type_inv.v i).fits) in
     let unpacks = rw (A, B) at (unpacked _ _ c.field_width-c.result c.loop-byte.at c.loop-byte.have c.loop-byte.byte-index c.loop-byte.word c.loop-byte.out c.args.v.now c.field_width-c.ensures.value
-    c.loop-byte.invariant.long c.loop-byte.invariant.bits_done (rw c.field_width-c.ensures.value (rw (A, B) (omega arith))) c.loop-byte-test.false c.loop-byte.invariant.few bytes c.loop-byte.invariant.so_far c.loop-byte.invariant.fields) in
-    (
+    c.loop-byte.invariant.long c.loop-byte.invariant.bits_done (rw c.field_width-c.ensures.value (rw (A, B) (omega arith))) c.loop-byte-test.false c.loop-byte.invariant.few bytes c.loop-byte.invariant.so_far c.loop-byte.invariant.fields) in (
       unpacks,
       λ zero. elim c.else-a-eq0.branch [
         | else-a-eq0-via-then-a-eq0+else-not-is_in_range w ↦ rw B at w.is_in_range.ensures.0 (search rules)

@@ -1,5 +1,5 @@
-use Rattle.std.proofs.Common.{◌≡◌, ◌+◌, ◌*◌, ◌++◌, pos, take, length}
-use Rattle.std.specs.List.{All, flat_map}
+use Rattle.std.proofs.Common.{◌≡◌, ◌+◌, ◌*◌, pos, take, length}
+use Rattle.std.specs.List.{All}
 use Rattle.fips204_base.specs.Encodings.{public_key_bytes}
 use Rattle.fips204_base.specs.Packing.{InRange}
 use Rattle.fips204_base.proofs.encodings.pk_decode.Given as goal

@@ -1,5 +1,4 @@
-use Rattle.std.proofs.Common.{◌≡◌, ◌+◌, ◌*◌, ◌++◌, pos, take, length}
-use Rattle.std.specs.List.{flat_map}
+use Rattle.std.proofs.Common.{◌≡◌, ◌+◌, ◌*◌, take, length}
 use Rattle.fips204_base.specs.Encodings.{public_key_bytes}
 use Rattle.fips204_base.proofs.encodings.pk_encode.Given as goal
 
