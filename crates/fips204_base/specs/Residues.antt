@@ -1,5 +1,6 @@
 -- Residues modulo q = 8380417, and sums of them (FIPS 204, section 2.3).
-use Rattle.std.specs.Prelude.{◌≡◌, ℕ, zero, suc, ◌+◌, ◌-◌, ◌%◌, List, ℤ, pos, negsuc, slice_index_or}
+use Rattle.std.specs.Prelude.{◌≡◌, ℕ, zero, suc, ◌+◌, ◌-◌, ◌%◌, List, ℤ, pos, negsuc, map, slice_index_or}
+use Rattle.std.specs.List.{range_with_len}
 
 -- the residue of an integer, from 0 to q - 1
 abbrev pub residue : ℤ → ℕ
