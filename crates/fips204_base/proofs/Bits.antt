@@ -111,7 +111,7 @@ same_digits (suc w) x y k l e =
     omega (arith, head, rest)
 
 -- two joined lists, cut at one place
-cut : (xs ys us vs : List ℕ) (n : ℕ) → length xs ≡ n → length ys ≡ n → xs ++ us ≡ ys ++ vs → (xs ≡ ys) × (us ≡ vs)
+pub cut : (xs ys us vs : List ℕ) (n : ℕ) → length xs ≡ n → length ys ≡ n → xs ++ us ≡ ys ++ vs → (xs ≡ ys) × (us ≡ vs)
 cut xs ys us vs n k l e = (sym (take_at xs us n k) ∙ ap (take n) e ∙ take_at ys vs n l, sym (drop_at xs us n k) ∙ ap (drop n) e ∙ drop_at ys vs n l)
 
 pub same_numbers : (w : ℕ) (xs ys : List ℕ) → length xs ≡ length ys → All (λ x. x < 2 ^ w) xs → All (λ y. y < 2 ^ w) ys → bits w xs ≡ bits w ys → xs ≡ ys

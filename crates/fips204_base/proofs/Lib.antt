@@ -2,3 +2,6 @@ mod Bits
 mod Fields
 mod Packings
 mod Pieces
+mod WorkedPacking
+mod PolynomialBytes
+mod PublicKeys
