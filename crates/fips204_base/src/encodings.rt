@@ -49,7 +49,8 @@ fn t1_polynomial(bytes: &[u8]) -> R
 }
 
 /// `pkDecode` (Algorithm 23): the parts of a public key, `rho` and `t1`. `PK_LEN` is
-/// `32 + 320 * K`.
+/// `32 + 320 * K`. Any bytes are a public key: this never refuses, and `pk_encode` of the parts
+/// gives `pk` again.
 pub fn pk_decode<const K: usize, const PK_LEN: usize>(pk: &[u8; PK_LEN]) -> (&[u8; 32], [R; K])
     requires { PK_LEN ≡ 32 + 320 * K }
     ensures same_bytes { pk.now ≡ public_key_bytes result.0.now result.1 }
