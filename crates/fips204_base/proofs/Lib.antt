@@ -1,0 +1,8 @@
+pub mod Reading
+mod Bits
+mod Fields
+mod Packings
+mod Pieces
+mod WorkedPacking
+mod PolynomialBytes
+mod PublicKeys
