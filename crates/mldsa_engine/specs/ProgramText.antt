@@ -1,7 +1,9 @@
 -- The program's text: what a run answers and writes, by what its input spells.
 use Rattle.std.specs.Prelude.{◌≡◌, ℕ, Bool, true, List, [], ◌∷◌, ◌++◌, take, Option, Some, None}
 use Rattle.std.specs.List.{flat_map}
+use Rattle.std.specs.Io.KnownBytes.{Appends}
 use Rattle.hex.specs.Hex.{encode_lower}
+use Rattle.mldsa_engine.specs.Lines.{TakesLines}
 use Rattle.mldsa_engine.specs.declared.call.Task.{Task}
 use Rattle.mldsa_engine.specs.declared.call.Task.TheVariants.{Id}
 use Rattle.mldsa_engine.specs.declared.call.SetName.{SetName}
@@ -26,3 +28,11 @@ Answers H G Id set (key ∷ other ∷ lines) written answer = ⊥
 -- lines as they are written, each ended by LF
 abbrev pub text : List (List ℕ) → List ℕ
 text lines = flat_map (λ line. line ++ 10 ∷ []) lines
+
+-- a run over the streams H and G ended with this answer: its reader gave the wanted lines and has left what follows them, and its
+-- writer got what the command writes for them, and nothing else
+abbrev pub Runs : (List ℕ → List ℕ) → (List ℕ → List ℕ) → Task → SetName → Option (List ℕ) → Option (List ℕ) → Option (List ℕ) → Option (List ℕ) → Bool → Type 0
+Runs H G task set given left before after answer = (lines written : List (List ℕ))
+    × TakesLines 1 (wanted_lines task set) given left lines
+    × Answers H G task set lines written answer
+    × Appends before after (text written)
