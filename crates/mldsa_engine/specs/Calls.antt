@@ -1,6 +1,6 @@
 -- The words of a call.
 use Rattle.std.specs.Prelude.{ℕ, List, [], ◌∷◌, codes, replicate}
-use Rattle.fips204_base.specs.Streams.{front_length, sha256_front, sha512_front}
+use Rattle.fips204.specs.Streams.{front_length, sha256_front, sha512_front}
 use Rattle.mldsa_engine.specs.declared.call.Streams.{Streams}
 use Rattle.mldsa_engine.specs.declared.call.Streams.TheVariants.{Sha2, Fill00, Fill55, FillFf}
 use Rattle.mldsa_engine.specs.declared.call.Task.{Task}
