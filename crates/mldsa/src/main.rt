@@ -7,9 +7,9 @@
 ghost use Rattle.std.specs.Prelude.{◌≡◌, false};
 
 use mldsa_engine::{Marked, RunFault, from_words};
-use std::io::{Read, Write};
-use std::process::ExitCode;
 use std::env;
+use std::io::{ErrorKind, Read, Write};
+use std::process::ExitCode;
 
 fn main(rt: HostRuntime) -> ExitCode {
     let mut input = Marked::new(rt.stdin());
@@ -33,8 +33,10 @@ fn answer<I: Read, O: Write>(
 ) -> Result<bool, RunFault>
     requires unmarked { (input.old.failed ≡ false) × (output.old.failed ≡ false) }
 {
-    let Ok(arguments) = env::args(rt) else {
-        return Err(RunFault::Usage);
+    let arguments = match env::args(rt) {
+        Ok(arguments) => arguments,
+        Err(error) if error.kind() == ErrorKind::OutOfMemory => return Err(RunFault::Memory),
+        Err(_) => return Err(RunFault::Usage),
     };
     let mut words = Vec::new(rt.alloc());
     for word in arguments.skip(1) {
