@@ -1,5 +1,5 @@
 -- The answer of `id`.
-use Rattle.std.proofs.Common.{◌≡◌, ℕ, true, List, [], ◌∷◌, take, map, get_or, refl, ◌++◌, ap, ◌∙◌, sym, append-nil}
+use Rattle.std.proofs.Common.{◌≡◌, ℕ, true, List, [], ◌∷◌, take, map, get_or, refl, ◌++◌, append-nil}
 use Rattle.hex.specs.Hex.{encode_lower}
 use Rattle.mldsa_engine.specs.declared.call.Task.{Task}
 use Rattle.mldsa_engine.specs.declared.call.Task.TheVariants.{Id}

@@ -1,8 +1,8 @@
 -- Wanted lines one after another.
-use Rattle.std.proofs.Common.{◌≡◌, ℕ, zero, suc, ◌+◌, List, [], ◌∷◌, ◌++◌, length, Option, Some, None, Result, Ok, Err, refl, sym, ap, ◌∙◌, arith, add-zero, take, drop, map, get_or, ◌<◌, subst, take-append-drop}
+use Rattle.std.proofs.Common.{◌≡◌, ℕ, suc, ◌+◌, List, [], ◌∷◌, ◌++◌, length, Option, Some, None, Result, Ok, Err, refl, sym, ap, ◌∙◌, arith, add-zero, take, drop, map, get_or, ◌<◌, subst, take-append-drop}
 use Rattle.std.proofs.lemmas.List.{take_more, drop_more, length-take-le, map-append}
 use Rattle.mldsa_engine.specs.declared.fault.RunFault.{RunFault}
-use Rattle.mldsa_engine.specs.Lines.{after_line, after_lines, line_bytes, before_lines, lines_bytes, Fits, AllFit, TakesLine, TakesLines, FaultOfLines, judged, first_line}
+use Rattle.mldsa_engine.specs.Lines.{after_line, after_lines, line_bytes, before_lines, lines_bytes, Fits, AllFit, TakesLine, TakesLines, FaultOfLines, judged}
 
 -- the lines of one part of an input, and then those of the next, or the first fault among them
 abbrev pub join_lines : Result (List (List ℕ)) RunFault → Result (List (List ℕ)) RunFault → Result (List (List ℕ)) RunFault

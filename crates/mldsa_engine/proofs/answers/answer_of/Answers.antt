@@ -1,4 +1,4 @@
-use Rattle.std.proofs.Common.{◌≡◌, ◌∷◌, [], take, rules}
+use Rattle.std.proofs.Common.{◌∷◌, [], take, rules}
 use Rattle.hex.specs.Hex.{encode_lower}
 use Rattle.mldsa_engine.proofs.Identity.{id_answers}
 use Rattle.mldsa_engine.proofs.answers.answer_of.Goals as goal

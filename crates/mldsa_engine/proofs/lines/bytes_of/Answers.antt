@@ -1,4 +1,4 @@
-use Rattle.std.proofs.Common.{rules, ◌≡◌, ◌∙◌, sym, refl, ap, subst, inl, inr, Ok, Err}
+use Rattle.std.proofs.Common.{rules, ◌∙◌, sym, refl, ap, subst, inl, inr, Err}
 use Rattle.mldsa_engine.specs.Lines.{IsLineFault}
 use Rattle.mldsa_engine.proofs.Judging.{judged_not_hex, judged_hex, sized_other, sized_same}
 use Rattle.mldsa_engine.proofs.lines.bytes_of.Goals.{in_default-via-in-Some+else-len-wants, in_default-via-in_default}

@@ -1,6 +1,5 @@
-use Rattle.std.proofs.Common.{rules, ◌≡◌, ◌<◌, length, arith}
+use Rattle.std.proofs.Common.{rules}
 use Rattle.std.proofs.KnownBytes.{Consumes-trans}
-use Rattle.mldsa_engine.specs.Lines.{longest_line}
 use Rattle.mldsa_engine.proofs.Endings.{takes_ended, long_line}
 use Rattle.mldsa_engine.proofs.lines.read_line.Goals as goal
 

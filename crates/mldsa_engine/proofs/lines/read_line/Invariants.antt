@@ -1,4 +1,4 @@
-use Rattle.std.proofs.Common.{◌≡◌, ◌≤◌, ◌+◌, ◌-◌, false, vec_len, length}
+use Rattle.std.proofs.Common.{◌≡◌, ◌+◌, ◌-◌, false, vec_len}
 use Rattle.std.specs.Io.KnownBytes.{Consumes}
 use Rattle.mldsa_engine.specs.Lines.{longest_line}
 use Rattle.mldsa_engine.proofs.Endings.{HasNoEnd}

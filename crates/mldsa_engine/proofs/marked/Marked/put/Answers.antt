@@ -1,4 +1,4 @@
-use Rattle.std.proofs.Common.{take-add, take, drop, rules}
+use Rattle.std.proofs.Common.{take-add, rules}
 use Rattle.std.proofs.lemmas.List.{take_rest}
 use Rattle.std.proofs.KnownBytes.{Appends-trans}
 use Rattle.mldsa_engine.proofs.marked.Marked.put.Goals as goal
