@@ -1,0 +1,4 @@
+mod WorkedPolynomials
+mod WorkedRounding
+mod WorkedHints
+mod WorkedSamplers
