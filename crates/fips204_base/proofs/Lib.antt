@@ -2,3 +2,4 @@ mod WorkedPolynomials
 mod WorkedRounding
 mod WorkedHints
 mod WorkedSamplers
+pub mod Reading
