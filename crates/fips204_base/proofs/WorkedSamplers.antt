@@ -3,12 +3,13 @@ use Rattle.std.proofs.Common.{◌≡◌, [], ◌∷◌, ◌++◌, pos, negsuc, r
 use Rattle.std.specs.Prelude.{replicate, flat_map}
 use Rattle.std.specs.Int.{w16, to_le_bytes}
 use Rattle.std.specs.List.{range_with_len}
-use Rattle.fips204_base.specs.Packing.{bits, integer_to_bits}
+use Rattle.fips204_base.specs.Packing.{bits, integer_to_bits, bits_to_integer, coefficient, bit_length}
 use Rattle.fips204_base.specs.Vectors.{polynomial_of}
 use Rattle.fips204_base.specs.Coefficients.{coefficient_from_three_bytes, coefficient_from_half_byte}
 use Rattle.fips204_base.specs.Sampling.{first_256}
 use Rattle.fips204_base.specs.MatrixEntry.{triple, kept_triples, matrix_entry}
 use Rattle.fips204_base.specs.SmallPolynomial.{kept_half_bytes, small_polynomial}
+use Rattle.fips204_base.specs.Mask.{field_at, unpacked, mask_polynomial}
 use Rattle.fips204_base.specs.Challenge.{picks, moved, places, signed_sum, challenge_picks, challenge}
 
 three_bytes_examples : (coefficient_from_three_bytes 0x12 0x34 0x56 ∷ coefficient_from_three_bytes 0x12 0x34 0x80 ∷ coefficient_from_three_bytes 0x01 0xE0 0x80 ∷ coefficient_from_three_bytes 0x01 0xE0 0x7F ∷ coefficient_from_three_bytes 0x00 0xE0 0x7F ∷ [])
@@ -52,6 +53,16 @@ challenge_over_55 = refl
 challenge_past_its_limit : challenge 39 (replicate 8 0 ++ replicate 986 0xFF ++ replicate 3102 0x00) ≡ None
 unfolding challenge challenge_picks picks places moved signed_sum polynomial_of bits integer_to_bits
 challenge_past_its_limit = refl
+
+-- over bytes 55 every field of 18 bits is 87381, and every coefficient 131072 less it
+mask_over_55 : mask_polynomial 131072 (replicate 4096 0x55) ≡ record { 0 = replicate 256 (pos 43691) }
+unfolding polynomial_of unpacked field_at bits integer_to_bits bits_to_integer coefficient bit_length
+mask_over_55 = refl
+
+-- over zeros every coefficient is gamma1, also with 20 bits
+mask_over_zeros : mask_polynomial 524288 (replicate 4096 0) ≡ record { 0 = replicate 256 (pos 524288) }
+unfolding polynomial_of unpacked field_at bits integer_to_bits bits_to_integer coefficient bit_length
+mask_over_zeros = refl
 
 -- the largest counter of the mask, 813 * 7 + 6
 mask_counter : to_le_bytes w16 5697 ≡ 0x41 ∷ 0x16 ∷ []
