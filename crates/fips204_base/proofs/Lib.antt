@@ -3,3 +3,10 @@ mod WorkedRounding
 mod WorkedHints
 mod WorkedSamplers
 pub mod Reading
+mod Bits
+mod Fields
+mod Packings
+mod Pieces
+mod WorkedPacking
+mod PolynomialBytes
+mod PublicKeys
