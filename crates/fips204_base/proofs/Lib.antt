@@ -2,6 +2,7 @@ mod WorkedPolynomials
 mod WorkedRounding
 mod WorkedHints
 mod WorkedSamplers
+mod Samplings
 pub mod Reading
 mod Bits
 mod Fields
