@@ -3,6 +3,8 @@ mod WorkedRounding
 mod WorkedHints
 mod WorkedSamplers
 mod Samplings
+mod Masks
+mod Decomposed
 pub mod Reading
 mod Bits
 mod Fields
