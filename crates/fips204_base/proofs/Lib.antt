@@ -4,6 +4,8 @@ mod WorkedHints
 mod WorkedSamplers
 mod Samplings
 mod Masks
+mod Hints
+mod Spellings
 mod Decomposed
 pub mod Reading
 mod Bits
