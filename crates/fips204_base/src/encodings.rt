@@ -45,6 +45,7 @@ fn t1_polynomial(bytes: &[u8]) -> R
 pub fn pk_decode<const K: usize, const PK_LEN: usize>(pk: &[u8; PK_LEN]) -> (&[u8; 32], [R; K])
     requires { PK_LEN ≡ 32 + 320 * K }
     ensures same_bytes { pk.now ≡ public_key_bytes result.0.now result.1 }
+    ensures seed { length result.0.now ≡ 32 }
     ensures range { All (λ w. InRange (pos 0) (pos 1023) w.0) result.1 }
     ensures count { All (λ w. length w.0 ≡ 256) result.1 }
 {

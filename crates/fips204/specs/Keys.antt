@@ -1,0 +1,25 @@
+-- Keys as values (FIPS 204, sections 3.3 and 7.2).
+use Rattle.std.specs.Prelude.{◌≡◌, ℕ, List, pos, take, length}
+use Rattle.std.specs.List.{All}
+use Rattle.fips204_base.specs.declared.types.R.{R}
+use Rattle.fips204_base.specs.Encodings.{public_key_bytes}
+use Rattle.fips204_base.specs.Packing.{InRange}
+
+-- a public key: the seed of its matrix, the hash of its bytes, and the high part of its vector t
+pub record PublicParts : Type 0 where
+  pub rho : List ℕ
+  pub tr : List ℕ
+  pub t1 : List R
+
+-- k polynomials of 256 coefficients from 0 to 1023
+pub record IsHighPart (k : ℕ) (t1 : List R) : Type 0 where
+  pub rows : length t1 ≡ k
+  pub places : All (λ w. length w.0 ≡ 256) t1
+  pub range : All (λ w. InRange (pos 0) (pos 1023) w.0) t1
+
+-- the public key, with k polynomials, that has these bytes, over the stream H
+pub record IsPublicKeyOf (H : List ℕ → List ℕ) (k : ℕ) (bytes : List ℕ) (key : PublicParts) : Type 0 where
+  pub seed : length key.rho ≡ 32
+  pub high : IsHighPart k key.t1
+  pub same_bytes : public_key_bytes key.rho key.t1 ≡ bytes
+  pub hash : key.tr ≡ take 64 (H bytes)
