@@ -1,0 +1,2 @@
+mod WorkedSets
+mod WorkedMessages

@@ -61,7 +61,7 @@ spells-before o k h y (suc i) s l = spells-totals o k h y i s (omega arith) ∙ 
 -- totals don't fall, and none is above omega
 pub spells-rises : (o k : ℕ) (h : List R) (y : List ℕ) (i : ℕ) → Spells o k h y → i < k → (before o y i ≤ get_or y (o + i) 0) × (get_or y (o + i) 0 ≤ o)
 spells-rises o k h y i s l =
-    let n = s.hint.polynomials in
+    let n = s.hint.rows in
     let inside : i < length h = omega (arith, n, l) in
     let a = spells-before o k h y i s (omega (arith, inside)) in
     let b = spells-totals o k h y i s inside in
@@ -72,7 +72,7 @@ spells-rises o k h y i s l =
 
 spells-count : (o k : ℕ) (h : List R) (y : List ℕ) (i : ℕ) (d : R) → Spells o k h y → i < k → get_or y (o + i) 0 ≡ before o y i + length (ones (get_or h i d))
 spells-count o k h y i d s l =
-    let n = s.hint.polynomials in
+    let n = s.hint.rows in
     let inside : i < length h = omega (arith, n, l) in
     spells-totals o k h y i s inside ∙ total_more h i d inside ∙ ap (λ t. t + length (ones (get_or h i d))) (sym (spells-before o k h y i s (omega (arith, inside))))
 
@@ -85,7 +85,7 @@ middle y a b c m n e k l = ap (λ x. take n (drop m x)) e ∙ ap (take n) (drop_
 -- the bytes between two totals are the places of a polynomial's ones
 pub spells-piece : (o k : ℕ) (h : List R) (y : List ℕ) (i : ℕ) (d : R) → Spells o k h y → i < k → take (get_or y (o + i) 0 - before o y i) (drop (before o y i) y) ≡ ones (get_or h i d)
 spells-piece o k h y i d s l =
-    let count = s.hint.polynomials in
+    let count = s.hint.rows in
     let inside : i < length h = omega (arith, count, l) in
     let a = spells-before o k h y i s (omega (arith, inside)) in
     let b = spells-totals o k h y i s inside in
@@ -118,7 +118,7 @@ spells-piece_rises o k h y i j d s l low high =
 -- what is left before byte omega is zeros
 pub spells-rest : (o k : ℕ) (h : List R) (y : List ℕ) (j : ℕ) → Spells o k h y → before o y k ≤ j → j < o → get_or y j 0 ≡ 0
 spells-rest o k h y j s l u =
-    let count = s.hint.polynomials in
+    let count = s.hint.rows in
     let last : before o y (length h) ≡ before o y k = ap (before o y) count in
     let a : before o y (length h) ≡ length (all_ones h) = spells-before o k h y (length h) s (omega arith) ∙ ap (λ x. length (all_ones x)) (take_all (length h) h (omega arith)) in
     let f = s.few in
@@ -135,8 +135,8 @@ spells-bytes o k h y z s t = sym s.spelling ∙ t.spelling
 -- bytes spell one hint
 pub spells-hint : (o k : ℕ) (g h : List R) (y : List ℕ) → Spells o k g y → Spells o k h y → g ≡ h
 spells-hint o k g h y s t =
-    let m = s.hint.polynomials in
-    let n = t.hint.polynomials in
+    let m = s.hint.rows in
+    let n = t.hint.rows in
     let d : R = record { 0 = [] } in
     ext_get_or d g h (m ∙ sym n) (λ i l.
     let inside : i < k = omega (arith, m, l) in
