@@ -1,2 +1,3 @@
 mod WorkedSets
+mod FirstAnswers
 mod WorkedMessages

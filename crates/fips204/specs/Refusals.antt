@@ -1,5 +1,5 @@
 -- Whole calls, with their refusals in order (FIPS 204, Algorithms 1 to 5).
-use Rattle.std.specs.Prelude.{◌≡◌, ◌≤◌, ◌⊎◌, ℕ, List, length, nat_lt, Option, Some, None, Result, Err, ok_or, if◌then◌else◌}
+use Rattle.std.specs.Prelude.{◌≡◌, ◌≤◌, ◌⊎◌, ℕ, List, length, nat_lt, Option, Some, None, Result, Err, ok_or, Bool, true, false, replicate, if◌then◌else◌}
 use Rattle.fips204_base.specs.declared.fault.Fault.{Fault}
 use Rattle.fips204_base.specs.declared.fault.Fault.TheVariants.{SignCtx, HashCtx, SamplingLimit}
 use Rattle.fips204.specs.ParameterSets.{ParameterSet}
@@ -60,3 +60,8 @@ Draws gives refuses before after refusal answer result =
 abbrev pub DrawsUnless : {S A : Type 0} → Option Fault → (S → ℕ → List ℕ → S → Type 0) → (S → ℕ → S → Type 0) → S → S → Fault → (List ℕ → Result A Fault) → Result A Fault → Type 0
 DrawsUnless None gives refuses before after refusal answer result = Draws gives refuses before after refusal answer result
 DrawsUnless (Some fault) gives refuses before after refusal answer result = (after ≡ before) × (result ≡ Err fault)
+
+-- the same of a hook of signing: without hedging 32 zeros stand for the random bytes, and the generator isn't asked
+abbrev pub DrawsIf : {S A : Type 0} → Bool → (S → ℕ → List ℕ → S → Type 0) → (S → ℕ → S → Type 0) → S → S → Fault → (List ℕ → Result A Fault) → Result A Fault → Type 0
+DrawsIf true gives refuses before after refusal answer result = Draws gives refuses before after refusal answer result
+DrawsIf false gives refuses before after refusal answer result = (after ≡ before) × (result ≡ answer (replicate 32 0))
