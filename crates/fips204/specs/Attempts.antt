@@ -1,4 +1,4 @@
--- One attempt of signing (FIPS 204, Algorithm 7, lines 11 to 32).
+-- One attempt of signing: the body of the loop of ML-DSA.Sign_internal (FIPS 204, Algorithm 7).
 use Rattle.std.specs.Prelude.{ℕ, ◌-◌, List, ◌++◌, pos, Bool, ◌&&◌, nat_lt, nat_le, length, take, Option, Some, None, if◌then◌else◌}
 use Rattle.fips204_base.specs.declared.types.R.{R}
 use Rattle.fips204_base.specs.declared.types.T.{T}

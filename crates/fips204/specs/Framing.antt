@@ -1,4 +1,4 @@
--- Framing (FIPS 204, Algorithms 2 to 5, and line 6 of Algorithm 7).
+-- Framing, and the hash of a framed message (FIPS 204, Algorithms 2 to 5, 7 and 8).
 use Rattle.std.specs.Prelude.{ℕ, List, ◌∷◌, ◌++◌, length, take}
 
 -- M' of a message and a context: byte 0, a byte of the context's length, the context, and the message
