@@ -1,8 +1,8 @@
 -- The places of a hint's ones, and the polynomial that they tell.
-use Rattle.std.proofs.Common.{ℕ, ℤ, pos, zero, suc, ◌+◌, ◌<◌, ◌≤◌, ◌≤ℤ◌, ◌≡◌, List, [], ◌∷◌, ◌++◌, Bool, true, false, get_or, length, refl, ap, sym, ◌∙◌, arith, append-nil, length-append, cond, inl, inr, int_lt, add-one}
+use Rattle.std.proofs.Common.{ℕ, ℤ, pos, zero, suc, ◌+◌, ◌<◌, ◌≤ℤ◌, ◌≡◌, List, [], ◌∷◌, ◌++◌, true, false, get_or, length, refl, ap, sym, ◌∙◌, arith, append-nil, length-append, cond, inl, inr, int_lt, add-one}
 use Rattle.std.specs.List.{All, range_with_len}
 use Rattle.std.proofs.lemmas.Int.{ints}
-use Rattle.std.proofs.lemmas.List.{map-id, get_or_append_left, get_or_at, get_or_past, same_from_push, ext_get_or}
+use Rattle.std.proofs.lemmas.List.{map-id, get_or_append_left, get_or_at, same_from_push, ext_get_or}
 use Rattle.std.proofs.lemmas.List.FromFn.{filter_of_map_range_with_len_more}
 use Rattle.std.proofs.lemmas.List.Elements.{All-nil, All-push, All-weaker, All-get_or, All-same}
 use Rattle.std.proofs.lemmas.Bool.{cases_lt, cases_Bool}

@@ -1,11 +1,11 @@
 -- The polynomial that bytes hold is the one that they unpack to.
-use Rattle.std.proofs.Common.{◌≡◌, ◌<◌, ◌*◌, ◌^◌, ℕ, List, ℤ, pos, get_or, length, take, drop, map, refl, ap, sym, ◌∙◌, arith}
-use Rattle.std.specs.List.{All, range_with_len}
+use Rattle.std.proofs.Common.{◌≡◌, ◌<◌, ◌*◌, ◌^◌, ℕ, List, ℤ, pos, get_or, length, take, drop, map, ap, sym, ◌∙◌, arith}
+use Rattle.std.specs.List.{range_with_len}
 use Rattle.std.proofs.lemmas.List.{ext_get_or, get_or-map, length-map}
 use Rattle.std.proofs.lemmas.List.Elements.{All-get_or}
 use Rattle.std.proofs.lemmas.List.FromFn.{get_or-map-range_with_len, length-map-range_with_len}
 use Rattle.fips204_base.specs.declared.types.R.{R}
-use Rattle.fips204_base.specs.Packing.{bits, bits_to_integer, integer_to_bits, coefficient, field, width, Packs, Unpacks}
+use Rattle.fips204_base.specs.Packing.{bits_to_integer, coefficient, field, width, Packs, Unpacks}
 use Rattle.fips204_base.specs.Vectors.{polynomial_of}
 use Rattle.fips204_base.specs.Mask.{field_at, unpacked}
 use Rattle.fips204_base.proofs.Packings.{integer_of_digits, digits_at}

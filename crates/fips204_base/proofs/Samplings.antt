@@ -1,16 +1,15 @@
 -- What is sampled: vectors and matrices of values that are all there, and what is kept of a front.
-use Rattle.std.proofs.Common.{◌≡◌, ◌<◌, ◌≤◌, ◌≤ℤ◌, ◌<ℤ◌, ◌+◌, ◌-◌, ◌*◌, ℕ, zero, suc, List, [], ◌∷◌, ◌++◌, ℤ, pos, get_or, length, take, map, refl, ap, sym, ◌∙◌, arith, rules, Some, None, true, false, inl, inr, nat_lt, length-append, append-nil, append_assoc, add-zero}
+use Rattle.std.proofs.Common.{◌≡◌, ◌<◌, ◌≤ℤ◌, ◌+◌, ◌*◌, ℕ, zero, suc, List, [], ◌∷◌, ℤ, pos, get_or, length, take, map, refl, ap, sym, ◌∙◌, arith, Some, None, true, false, inl, inr, nat_lt, add-zero}
 use Rattle.std.specs.declared.option.Option.{Option}
 use Rattle.std.specs.Prelude.{option_map, option_and_then, filter_map, IfSome, if◌then◌else◌}
 use Rattle.std.specs.List.{All, cons_option, range_with_len}
-use Rattle.std.proofs.lemmas.Bool.{le-ltb, lt-ltb, cases_lt, cases_Bool}
+use Rattle.std.proofs.lemmas.Bool.{le-ltb, lt-ltb, cases_lt}
 use Rattle.std.proofs.lemmas.Int.{ints}
 use Rattle.std.proofs.lemmas.Option.{none-some}
-use Rattle.std.proofs.lemmas.List.{take_at, length-take-le}
-use Rattle.std.proofs.lemmas.List.Elements.{All-nil, All-cons, All-take, filter_map-append}
-use Rattle.std.proofs.lemmas.List.FromFn.{map-range_with_len_more}
+use Rattle.std.proofs.lemmas.List.{length-take-le}
+use Rattle.std.proofs.lemmas.List.Elements.{All-nil, All-cons, All-take}
 use Rattle.fips204_base.specs.declared.types.T.{T}
-use Rattle.fips204_base.specs.Coefficients.{three_bytes, coefficient_from_three_bytes}
+use Rattle.fips204_base.specs.Coefficients.{three_bytes}
 use Rattle.fips204_base.specs.Sampling.{first_256, all_present}
 use Rattle.fips204_base.specs.MatrixEntry.{triple, kept_triples, matrix_entry}
 

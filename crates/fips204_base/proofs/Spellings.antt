@@ -1,13 +1,12 @@
 -- What the bytes of a spelled hint are, place by place, and that they tell the hint.
-use Rattle.std.proofs.Common.{ℕ, zero, suc, ◌+◌, ◌-◌, ◌<◌, ◌≤◌, ◌≡◌, List, [], ◌∷◌, ◌++◌, get_or, length, take, drop, map, refl, ap, sym, ◌∙◌, arith, append-nil, append_assoc, length-append, get_or-take, get_or-drop, add-one}
-use Rattle.std.specs.List.{All, flat_map, range_with_len}
+use Rattle.std.proofs.Common.{ℕ, zero, suc, ◌+◌, ◌-◌, ◌<◌, ◌≤◌, ◌≡◌, List, [], ◌∷◌, ◌++◌, get_or, length, take, drop, refl, ap, sym, ◌∙◌, arith, append-nil, append_assoc, length-append, get_or-take, get_or-drop, add-one}
+use Rattle.std.specs.List.{flat_map}
 use Rattle.std.specs.Prelude.{replicate}
 use Rattle.std.proofs.lemmas.List.{take_at, drop_at, take_more, take_all, take-append-drop, get_or-append_right, get_or-replicate, length-replicate, ext_get_or}
 use Rattle.std.proofs.lemmas.List.Concat.{flat_map-append}
-use Rattle.std.proofs.lemmas.List.Elements.{All-get_or}
 use Rattle.std.proofs.lemmas.List.FromFn.{get_or-map-range_with_len}
 use Rattle.fips204_base.specs.declared.types.R.{R}
-use Rattle.fips204_base.specs.HintSpelling.{ones_below, ones, all_ones, running_totals, hint_bytes, Spells}
+use Rattle.fips204_base.specs.HintSpelling.{ones_below, ones, all_ones, running_totals, Spells}
 use Rattle.fips204_base.proofs.Hints.{ones-rise, ones-polynomial}
 
 -- how many ones the bytes count before polynomial i

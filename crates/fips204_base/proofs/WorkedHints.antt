@@ -1,5 +1,5 @@
 -- Worked spellings of hints.
-use Rattle.std.proofs.Common.{arith, ◌<◌, ◌≤◌, ◌≡◌, List, [], ◌∷◌, ◌++◌, pos, refl, if◌then◌else◌, ◌||◌}
+use Rattle.std.proofs.Common.{arith, ◌≡◌, List, [], ◌∷◌, ◌++◌, pos, refl, if◌then◌else◌, ◌||◌}
 use Rattle.std.specs.Prelude.{replicate, nat_eq}
 use Rattle.std.specs.List.{range_with_len}
 use Rattle.fips204_base.specs.declared.types.R.{R}
