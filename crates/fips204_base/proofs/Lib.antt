@@ -7,6 +7,7 @@ mod Masks
 mod Challenges
 mod Hints
 mod Spellings
+mod EncodedParts
 mod Decomposed
 pub mod Reading
 mod Bits
