@@ -10,6 +10,7 @@ use Rattle.fips204_base.specs.declared.types.R.{R}
 use Rattle.fips204_base.specs.Packing.{bits}
 use Rattle.fips204_base.specs.Vectors.{polynomial_of}
 use Rattle.fips204_base.proofs.Packings.{length-bits}
+use Rattle.fips204_base.proofs.VectorsOf.{polynomial_of-at}
 use Rattle.fips204_base.specs.Challenge.{picks, moved, places, sign, signed_sum, challenge_picks, challenge}
 
 -- ---- places
@@ -141,10 +142,6 @@ sum-at_place (place ∷ ps) (bit ∷ sign_bits) (suc k) apart h enough =
 abbrev pub challenge_places : ℕ → List ℕ → List ℕ
 challenge_places tau front = places (256 - tau) (challenge_picks tau front)
 
-coefficient_at : (f : ℕ → ℤ) (n : ℕ) → n < 256 → get_or (polynomial_of f).0 n (pos 0) ≡ f n
-unfolding polynomial_of
-coefficient_at f n h = get_or-map-range_with_len f 0 256 n n (pos 0) h (omega arith)
-
 taken-within : (i n : ℕ) (ps : List ℕ) → AreWithin i ps → AreWithin i (take n ps)
 taken-within i n ps within k h =
     let short = length-take n ps in
@@ -196,7 +193,7 @@ challenge-at_place tau front c k few enough e h =
     let sixty_four : length (bits 8 (take 8 front)) ≡ 8 * length (take 8 front) = length-bits 8 (take 8 front) in
     let eight : length (take 8 front) ≡ 8 = length-take-le 8 front enough in
     ap (λ (w : R). get_or w.0 (get_or (challenge_places tau front) k 0) (pos 0)) w.2
-    ∙ coefficient_at (signed_sum (challenge_places tau front) (bits 8 (take 8 front))) (get_or (challenge_places tau front) k 0) (challenge_places-below tau front c k (omega (arith, few)) e h)
+    ∙ polynomial_of-at (signed_sum (challenge_places tau front) (bits 8 (take 8 front))) (get_or (challenge_places tau front) k 0) (challenge_places-below tau front c k (omega (arith, few)) e h)
     ∙ sum-at_place (challenge_places tau front) (bits 8 (take 8 front)) k (λ i j l m. challenge_places-apart tau front c i j e l (omega (arith, m, long))) (omega (arith, h, long)) (omega (arith, long, sixty_four, eight, few))
 
 -- and 0 at every other
@@ -205,5 +202,5 @@ challenge-elsewhere tau front c n e h other =
     let w = whole tau front c e in
     let long = length-challenge_places tau front c e in
     ap (λ (w : R). get_or w.0 n (pos 0)) w.2
-    ∙ coefficient_at (signed_sum (challenge_places tau front) (bits 8 (take 8 front))) n h
+    ∙ polynomial_of-at (signed_sum (challenge_places tau front) (bits 8 (take 8 front))) n h
     ∙ sum-elsewhere (challenge_places tau front) (bits 8 (take 8 front)) n (λ k l. other k (omega (arith, l, long)))

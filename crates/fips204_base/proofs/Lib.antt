@@ -4,6 +4,7 @@ mod WorkedHints
 mod WorkedSamplers
 mod Samplings
 mod Masks
+mod VectorsOf
 mod Challenges
 mod Hints
 mod Spellings

@@ -1,5 +1,5 @@
 -- What is sampled: vectors and matrices of values that are all there, and what is kept of a front.
-use Rattle.std.proofs.Common.{◌≡◌, ◌<◌, ◌≤ℤ◌, ◌+◌, ◌*◌, ℕ, zero, suc, List, [], ◌∷◌, ℤ, pos, get_or, length, take, map, refl, ap, sym, ◌∙◌, arith, Some, None, true, false, inl, inr, nat_lt, add-zero}
+use Rattle.std.proofs.Common.{◌≡◌, ◌<◌, ◌≤ℤ◌, ◌+◌, ◌*◌, ℕ, zero, suc, List, [], ◌∷◌, ℤ, pos, get_or, length, take, map, refl, ap, sym, subst, ◌∙◌, arith, Some, None, true, false, inl, inr, nat_lt, add-zero}
 use Rattle.std.specs.declared.option.Option.{Option}
 use Rattle.std.specs.Prelude.{option_map, option_and_then, filter_map, IfSome, if◌then◌else◌}
 use Rattle.std.specs.List.{All, cons_option, range_with_len}
@@ -38,6 +38,33 @@ all_present-none f a (suc n) (suc i) h e =
     let m : a + 1 + i ≡ a + suc i = omega arith in
     let later = all_present-none f (a + 1) n i (omega arith) (ap f m ∙ e) in
     rw later (none_then (f a))
+
+-- f is there for each of n numbers from a on, and xs are its values
+abbrev pub AreValues : {A : Type 0} → (ℕ → Option A) → ℕ → ℕ → List A → Type 0
+AreValues {A} f a n xs = (length xs ≡ n) × ((i : ℕ) (d : A) → i < n → f (a + i) ≡ Some (get_or xs i d))
+
+first_value : {A : Type 0} (f : ℕ → Option A) (a n : ℕ) (x : A) (xs : List A) → f a ≡ Some x → AreValues f (a + 1) n xs → (i : ℕ) (d : A) → i < suc n → f (a + i) ≡ Some (get_or (x ∷ xs) i d)
+first_value f a n x xs here later zero d h = ap f (add-zero a) ∙ here
+first_value f a n x xs here later (suc i) d h = let m : a + suc i ≡ a + 1 + i = omega arith in ap f m ∙ later.1 i d (omega (arith, h))
+
+first_and_later : {A : Type 0} (f : ℕ → Option A) (a n : ℕ) (xs : List A) (o : Option A) (later : Option (List A)) → f a ≡ o → ((ys : List A) → later ≡ Some ys → AreValues f (a + 1) n ys)
+    → option_and_then (λ value. option_map (λ values. value ∷ values) later) o ≡ Some xs → AreValues f a (suc n) xs
+first_and_later f a n xs None later here rest e = absurd (none-some xs e)
+first_and_later f a n xs (Some x) None here rest e = absurd (none-some xs e)
+first_and_later {A = A} f a n xs (Some x) (Some ys) here rest e =
+    let made : Some (x ∷ ys) ≡ Some xs = e in
+    let same : (x ∷ ys) ≡ xs = cc in
+    let values = rest ys refl in
+    subst (λ (l : List A). AreValues f a (suc n) l) same (ap suc values.0, first_value f a n x ys here values)
+
+-- and all are there exactly if there is a list of them
+pub all_present-at : {A : Type 0} (f : ℕ → Option A) (a n : ℕ) (xs : List A) → all_present (map f (range_with_len a n)) ≡ Some xs → AreValues f a n xs
+unfolding all_present
+all_present-at {A = A} f a zero xs e =
+    let made : Some [] ≡ Some xs = e in
+    let same : [] ≡ xs = cc in
+    (ap length (sym same), λ i d h. absurd (omega (arith, h)))
+all_present-at f a (suc n) xs e = first_and_later f a n xs (f a) (all_present (map f (range_with_len (a + 1) n))) refl (λ ys same. all_present-at f (a + 1) n ys same) e
 
 -- ---- what is kept
 
