@@ -1,5 +1,5 @@
 -- What is sampled: vectors and matrices of values that are all there, and what is kept of a front.
-use Rattle.std.proofs.Common.{◌≡◌, ◌<◌, ◌≤ℤ◌, ◌+◌, ◌*◌, ℕ, zero, suc, List, [], ◌∷◌, ℤ, pos, get_or, length, take, map, refl, ap, sym, subst, ◌∙◌, arith, Some, None, true, false, inl, inr, nat_lt, add-zero}
+use Rattle.std.proofs.Common.{◌≡◌, ◌<◌, ◌≤ℤ◌, ◌+◌, ◌*◌, ℕ, zero, suc, List, [], ◌∷◌, ◌++◌, ℤ, pos, get_or, length, take, map, refl, ap, sym, subst, ◌∙◌, arith, Some, None, true, false, inl, inr, nat_lt, add-zero}
 use Rattle.std.specs.declared.option.Option.{Option}
 use Rattle.std.specs.Prelude.{option_map, option_and_then, filter_map, IfSome, if◌then◌else◌}
 use Rattle.std.specs.List.{All, cons_option, range_with_len}
@@ -11,7 +11,7 @@ use Rattle.std.proofs.lemmas.List.Elements.{All-nil, All-cons, All-take}
 use Rattle.fips204_base.specs.declared.types.T.{T}
 use Rattle.fips204_base.specs.Coefficients.{three_bytes}
 use Rattle.fips204_base.specs.Sampling.{first_256, all_present}
-use Rattle.fips204_base.specs.MatrixEntry.{triple, kept_triples, matrix_entry}
+use Rattle.fips204_base.specs.MatrixEntry.{triple, kept_triples, matrix_entry, sampled_matrix}
 
 -- ---- values that are all there
 
@@ -112,3 +112,44 @@ matrix_entry-residues front t e =
     let P = λ (x : ℤ). (pos 0 ≤ℤ x) × (x ≤ℤ pos 8380416) in
     let kept = filter_map (triple front) (range_with_len 0 1024) in
     first_kept P kept t.0 (all_kept P (triple front) (range_with_len 0 1024) (triple_residue front)) (whole_entry kept (first_256 kept) t refl e)
+
+-- ---- the matrix, entry by entry
+
+abbrev pub entry_at : (List ℕ → List ℕ) → List ℕ → ℕ → ℕ → Option T
+entry_at G rho r s = matrix_entry (G (rho ++ s ∷ r ∷ []))
+
+row_at : (List ℕ → List ℕ) → List ℕ → ℕ → ℕ → Option (List T)
+row_at G rho l r = all_present (map (entry_at G rho r) (range_with_len 0 l))
+
+from_zero : (i : ℕ) → 0 + i ≡ i
+from_zero i = omega arith
+
+-- a matrix whose entries are the sampled ones is the sampled matrix
+pub sampled_matrix-is : (G : List ℕ → List ℕ) (rho : List ℕ) (a : List (List T)) (l : ℕ) → All (λ row. length row ≡ l) a
+    → ((r s : ℕ) (d : List T) (e : T) → r < length a → s < l → entry_at G rho r s ≡ Some (get_or (get_or a r d) s e)) → sampled_matrix G rho (length a) l ≡ Some a
+unfolding sampled_matrix row_at
+sampled_matrix-is G rho a l rows entries =
+    all_present-values (row_at G rho l) 0 a (λ r d h.
+    let n : length (get_or a r d) ≡ l = rows r d h in
+    ap (row_at G rho l) (from_zero r)
+    ∙ ap (λ k. all_present (map (entry_at G rho r) (range_with_len 0 k))) (sym n)
+    ∙ all_present-values (entry_at G rho r) 0 (get_or a r d) (λ s e m. ap (entry_at G rho r) (from_zero s) ∙ entries r s d e h (omega (arith, m, n))))
+
+-- where an entry is none there is no matrix
+pub sampled_matrix-none : (G : List ℕ → List ℕ) (rho : List ℕ) (k l r s : ℕ) → r < k → s < l → entry_at G rho r s ≡ None → sampled_matrix G rho k l ≡ None
+unfolding sampled_matrix row_at
+sampled_matrix-none G rho k l r s h m e =
+    all_present-none (row_at G rho l) 0 k r h (ap (row_at G rho l) (from_zero r) ∙ all_present-none (entry_at G rho r) 0 l s m (ap (entry_at G rho r) (from_zero s) ∙ e))
+
+-- the entries of a sampled matrix
+pub sampled_matrix-entries : (G : List ℕ → List ℕ) (rho : List ℕ) (k l : ℕ) (a : List (List T)) → sampled_matrix G rho k l ≡ Some a
+    → (length a ≡ k) × ((r : ℕ) (d : List T) → r < k → length (get_or a r d) ≡ l) × ((r s : ℕ) (d : List T) (e : T) → r < k → s < l → entry_at G rho r s ≡ Some (get_or (get_or a r d) s e))
+unfolding sampled_matrix row_at
+sampled_matrix-entries G rho k l a e =
+    let rows = all_present-at (row_at G rho l) 0 k a e in
+    let row : (r : ℕ) (d : List T) → r < k → AreValues (entry_at G rho r) 0 l (get_or a r d) =
+    λ r d h. all_present-at (entry_at G rho r) 0 l (get_or a r d) (ap (row_at G rho l) (sym (from_zero r)) ∙ rows.1 r d h) in (
+      rows.0,
+      λ r d h. (row r d h).0,
+      λ r s d f h m. ap (entry_at G rho r) (sym (from_zero s)) ∙ (row r d h).1 s f m,
+    )
