@@ -19,8 +19,8 @@ skipped f a (suc n) count h =
     let m : suc n + count ≡ suc (n + count) = omega arith in
     let k : a + suc n ≡ a + 1 + n = omega arith in
     rw (m, k) (
-      rejected-first (map f (range_with_len (a + 1) (n + count))) (f a) (ap f (sym (add-zero a)) ∙ h 0 (omega arith))
-          ∙ skipped f (a + 1) n count (λ i l. let j : a + 1 + i ≡ a + suc i = omega arith in ap f j ∙ h (suc i) (omega (arith, l)))
+    rejected-first (map f (range_with_len (a + 1) (n + count))) (f a) (ap f (sym (add-zero a)) ∙ h 0 (omega arith))
+    ∙ skipped f (a + 1) n count (λ i l. let j : a + 1 + i ≡ a + suc i = omega arith in ap f j ∙ h (suc i) (omega (arith, l)))
     )
 
 from_here : (f : ℕ → Attempt) (n count : ℕ) → n < count → ((m : ℕ) → m < n → f m ≡ rejected)

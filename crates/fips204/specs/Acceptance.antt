@@ -26,7 +26,8 @@ verified_vector p a t1 z c r = minus (matrix_product p.l a (vector z) r) (scaled
 unfoldable pub hinted_vector : ParameterSet → List (List T) → List R → List R → List R → R → List R
 hinted_vector p a t1 z h c = vector_of p.k (λ r n. pos (use_hint p.gamma2 (is_one (slice_index_or h r record { 0 = [] }) n) (verified_vector p a t1 z c r n)))
 
--- ML-DSA.Verify_internal (Algorithm 8) from mu, with the matrix a
+-- ML-DSA.Verify_internal (Algorithm 8) from mu, with the matrix a: the signature has parts, so that its last bytes spell the
+-- hint h; there is a challenge; the norm of z is small; and c_tilde is the one that w1' gives
 pub record Accepts (p : ParameterSet) (H : List ℕ → List ℕ) (a : List (List T)) (t1 : List R) (mu signature : List ℕ) : Type 0 where
   pub c_tilde : List ℕ
   pub z : List R

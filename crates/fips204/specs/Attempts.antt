@@ -37,23 +37,23 @@ unfoldable pub response : ParameterSet → PrivateParts → List R → R → Lis
 response p sk y c = vector_of p.l (λ r n. centred 8380417 (plus (vector y r) (scaled c (vector sk.s1) r) n))
 
 -- w - c s2
-abbrev pub rest : PrivateParts → (ℕ → ℕ → ℕ) → R → ℕ → ℕ → ℕ
-rest sk w c r = minus (w r) (scaled c (vector sk.s2) r)
+abbrev pub lowered_vector : PrivateParts → (ℕ → ℕ → ℕ) → R → ℕ → ℕ → ℕ
+lowered_vector sk w c r = minus (w r) (scaled c (vector sk.s2) r)
 
 -- r0, the low bits of w - c s2
 unfoldable pub low_vector : ParameterSet → PrivateParts → (ℕ → ℕ → ℕ) → R → List R
-low_vector p sk w c = vector_of p.k (λ r n. low_bits p.gamma2 (rest sk w c r n))
+low_vector p sk w c = vector_of p.k (λ r n. low_bits p.gamma2 (lowered_vector sk w c r n))
 
 -- c t0
 unfoldable pub scaled_low_part : ParameterSet → PrivateParts → R → List R
 scaled_low_part p sk c = vector_of p.k (λ r n. pos (scaled c (vector sk.t0) r n))
 
 -- h = MakeHint(-c t0, w - c s2 + c t0)
-unfoldable pub hint : ParameterSet → PrivateParts → (ℕ → ℕ → ℕ) → R → List R
-hint p sk w c =
+unfoldable pub hint_vector : ParameterSet → PrivateParts → (ℕ → ℕ → ℕ) → R → List R
+hint_vector p sk w c =
     vector_of p.k (λ r n.
     let ct0 = scaled c (vector sk.t0) r in
-    if make_hint p.gamma2 (minus (λ _. 0) ct0 n) (plus (rest sk w c r) ct0 n) then pos 1 else pos 0)
+    if make_hint p.gamma2 (minus (λ _. 0) ct0 n) (plus (lowered_vector sk w c r) ct0 n) then pos 1 else pos 0)
 
 -- whether an attempt is kept: the norm of z is below gamma1 - beta, that of r0 below gamma2 - beta, that of c t0 below
 -- gamma2, and h has at most omega ones
@@ -62,13 +62,13 @@ is_kept p sk y w c =
     nat_lt (vector_norm (response p sk y c)) (p.gamma1 - p.beta)
     && nat_lt (vector_norm (low_vector p sk w c)) (p.gamma2 - p.beta)
     && nat_lt (vector_norm (scaled_low_part p sk c)) p.gamma2
-    && nat_le (length (all_ones (hint p sk w c))) p.omega
+    && nat_le (length (all_ones (hint_vector p sk w c))) p.omega
 
 -- what a challenge makes of an attempt with mask y, whose A y is w
 unfoldable pub judged : ParameterSet → PrivateParts → List R → (ℕ → ℕ → ℕ) → List ℕ → Option R → Attempt
 judged p sk y w c_tilde None = limit
 judged p sk y w c_tilde (Some c) =
-    if is_kept p sk y w c then signed (signature_bytes p.gamma1 p.omega c_tilde (response p sk y c) (hint p sk w c)) else rejected
+    if is_kept p sk y w c then signed (signature_bytes p.gamma1 p.omega c_tilde (response p sk y c) (hint_vector p sk w c)) else rejected
 
 -- the attempt at counter kappa, with the matrix a and the seed rho'' of masks
 unfoldable pub attempt : ParameterSet → (List ℕ → List ℕ) → List (List T) → PrivateParts → List ℕ → List ℕ → ℕ → Attempt

@@ -5,13 +5,12 @@ use Rattle.std.proofs.lemmas.Int.{ints}
 use Rattle.std.proofs.lemmas.Bool.{cases_Bool, cases_lt, eqb-true, eqb-false, leb-true, ne_eqb, eq-eqb, lt-ltb, le-ltb}
 use Rattle.std.proofs.lemmas.Option.{none-some}
 use Rattle.std.proofs.lemmas.List.{length-take-le}
-use Rattle.std.proofs.lemmas.List.FromFn.{get_or-map-range_with_len}
 use Rattle.fips204_base.specs.declared.types.R.{R}
 use Rattle.fips204_base.specs.Packing.{bits}
 use Rattle.fips204_base.specs.Vectors.{polynomial_of}
 use Rattle.fips204_base.proofs.Packings.{length-bits}
 use Rattle.fips204_base.proofs.VectorsOf.{polynomial_of-at}
-use Rattle.fips204_base.specs.Challenge.{picks, moved, places, sign, signed_sum, challenge_picks, challenge}
+use Rattle.fips204_base.specs.Challenge.{picks, moved, places, sign_of, signed_sum, challenge_picks, challenge}
 
 -- ---- places
 
@@ -123,18 +122,18 @@ sum-elsewhere (place ∷ ps) (bit ∷ sign_bits) n other =
     rw (not, rest) refl
 
 pub sum-at_place : (ps sign_bits : List ℕ) (k : ℕ) → ((i j : ℕ) → i < j → j < length ps → get_or ps i 0 ≡ get_or ps j 0 → ⊥) → k < length ps → length ps ≤ length sign_bits
-    → signed_sum ps sign_bits (get_or ps k 0) ≡ sign (get_or sign_bits k 0)
+    → signed_sum ps sign_bits (get_or ps k 0) ≡ sign_of (get_or sign_bits k 0)
 unfolding signed_sum
 sum-at_place [] sign_bits k apart h enough = absurd (omega (arith, h))
 sum-at_place (place ∷ ps) [] k apart h enough = absurd (omega (arith, enough))
 sum-at_place (place ∷ ps) (bit ∷ sign_bits) zero apart h enough =
     let here : nat_eq place place ≡ true = eq-eqb place place refl in
     let rest = sum-elsewhere ps sign_bits place (λ k l e. apart 0 (suc k) (omega arith) (omega (arith, l)) (sym e)) in
-    rw (here, rest) (plus_zero (sign bit))
+    rw (here, rest) (plus_zero (sign_of bit))
 sum-at_place (place ∷ ps) (bit ∷ sign_bits) (suc k) apart h enough =
     let not : nat_eq place (get_or ps k 0) ≡ false = ne_eqb place (get_or ps k 0) (apart 0 (suc k) (omega arith) (omega (arith, h))) in
     let rest = sum-at_place ps sign_bits k (λ i j l m. apart (suc i) (suc j) (omega (arith, l)) (omega (arith, m))) (omega (arith, h)) (omega (arith, enough)) in
-    rw (not, rest) (zero_plus (sign (get_or sign_bits k 0)))
+    rw (not, rest) (zero_plus (sign_of (get_or sign_bits k 0)))
 
 -- ---- the challenge
 
@@ -186,7 +185,7 @@ challenge_places-apart tau front c j k e l h = let w = whole tau front c e in pl
 
 -- the coefficient at place k is the sign of bit k
 pub challenge-at_place : (tau : ℕ) (front : List ℕ) (c : R) (k : ℕ) → tau ≤ 64 → 8 ≤ length front → challenge tau front ≡ Some c → k < tau
-    → get_or c.0 (get_or (challenge_places tau front) k 0) (pos 0) ≡ sign (get_or (bits 8 (take 8 front)) k 0)
+    → get_or c.0 (get_or (challenge_places tau front) k 0) (pos 0) ≡ sign_of (get_or (bits 8 (take 8 front)) k 0)
 challenge-at_place tau front c k few enough e h =
     let w = whole tau front c e in
     let long = length-challenge_places tau front c e in

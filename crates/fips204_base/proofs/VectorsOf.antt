@@ -1,6 +1,6 @@
 -- Vectors that are given by their coefficients.
-use Rattle.std.proofs.Common.{◌≡◌, ◌<◌, ◌≤ℤ◌, ◌-ℤ◌, ◌+◌, ℕ, List, ℤ, pos, get_or, length, map, refl, ap, sym, subst, ◌∙◌, arith, []}
-use Rattle.std.specs.List.{All, range_with_len}
+use Rattle.std.proofs.Common.{◌≡◌, ◌<◌, ◌≤ℤ◌, ◌-ℤ◌, ℕ, List, ℤ, pos, get_or, length, ap, sym, subst, ◌∙◌, arith, []}
+use Rattle.std.specs.List.{All}
 use Rattle.std.proofs.lemmas.List.{ext_get_or}
 use Rattle.std.proofs.lemmas.List.Elements.{All-from_get_or}
 use Rattle.std.proofs.lemmas.List.FromFn.{get_or-map-range_with_len, length-map-range_with_len}
@@ -43,13 +43,13 @@ vector_of-range k a b f range =
     record {
       rows = rows;
       places = All-from_get_or (λ (w : R). length w.0 ≡ 256) (vector_of k f) empty (λ r h.
-        ap (λ (w : R). length w.0) (vector_of-row k f r empty (omega (arith, h, rows))) ∙ length-polynomial_of (f r));
+          ap (λ (w : R). length w.0) (vector_of-row k f r empty (omega (arith, h, rows))) ∙ length-polynomial_of (f r));
       range = All-from_get_or (λ (w : R). InRange (pos 0 -ℤ pos a) (pos b) w.0) (vector_of k f) empty (λ r h.
-        let inside : r < k = omega (arith, h, rows) in
-        subst (λ (w : R). InRange (pos 0 -ℤ pos a) (pos b) w.0) (sym (vector_of-row k f r empty inside))
-        (All-from_get_or (λ x. ((pos 0 -ℤ pos a) ≤ℤ x) × (x ≤ℤ pos b)) (polynomial_of (f r)).0 (pos 0) (λ n l.
-        let l' : n < 256 = omega (arith, l, length-polynomial_of (f r)) in
-        subst (λ x. ((pos 0 -ℤ pos a) ≤ℤ x) × (x ≤ℤ pos b)) (sym (polynomial_of-at (f r) n l')) (range r n inside l'))));
+          let inside : r < k = omega (arith, h, rows) in
+          subst (λ (w : R). InRange (pos 0 -ℤ pos a) (pos b) w.0) (sym (vector_of-row k f r empty inside))
+          (All-from_get_or (λ x. ((pos 0 -ℤ pos a) ≤ℤ x) × (x ≤ℤ pos b)) (polynomial_of (f r)).0 (pos 0) (λ n l.
+          let l' : n < 256 = omega (arith, l, length-polynomial_of (f r)) in
+          subst (λ x. ((pos 0 -ℤ pos a) ≤ℤ x) × (x ≤ℤ pos b)) (sym (polynomial_of-at (f r) n l')) (range r n inside l'))));
     }
 
 -- k polynomials of 256 coefficients f r n are this vector

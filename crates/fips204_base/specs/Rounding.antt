@@ -37,5 +37,5 @@ high_values gamma2 = 8380416 / (2 * gamma2)
 unfoldable pub use_hint : ℕ → Bool → ℕ → ℕ
 use_hint gamma2 hint r =
     if hint then (if int_lt (pos 0) (low_bits gamma2 r) then (high_bits gamma2 r + 1) % high_values gamma2
-        else (high_bits gamma2 r + (high_values gamma2 - 1)) % high_values gamma2)
+    else (high_bits gamma2 r + (high_values gamma2 - 1)) % high_values gamma2)
     else high_bits gamma2 r
