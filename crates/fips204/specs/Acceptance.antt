@@ -4,7 +4,7 @@ use Rattle.fips204_base.specs.declared.types.R.{R}
 use Rattle.fips204_base.specs.declared.types.T.{T}
 use Rattle.fips204_base.specs.CentredValues.{vector_norm}
 use Rattle.fips204_base.specs.Products.{minus}
-use Rattle.fips204_base.specs.Vectors.{vector, matrix_product, vector_of}
+use Rattle.fips204_base.specs.Vectors.{vector_coefficients, matrix_product, vector_of}
 use Rattle.fips204_base.specs.Rounding.{use_hint}
 use Rattle.fips204_base.specs.HintSpelling.{is_one}
 use Rattle.fips204_base.specs.Encodings.{IsSignature}
@@ -16,11 +16,11 @@ use Rattle.fips204.specs.Attempts.{commitment, scaled}
 
 -- t1 2^13
 abbrev pub raised : List R → ℕ → ℕ → ℕ
-raised t1 r n = 8192 * vector t1 r n % 8380417
+raised t1 r n = 8192 * vector_coefficients t1 r n % 8380417
 
 -- w' = A z - c t1 2^13
 abbrev pub verified_vector : ParameterSet → List (List T) → List R → List R → R → ℕ → ℕ → ℕ
-verified_vector p a t1 z c r = minus (matrix_product p.l a (vector z) r) (scaled c (raised t1) r)
+verified_vector p a t1 z c r = minus (matrix_product p.l a (vector_coefficients z) r) (scaled c (raised t1) r)
 
 -- w1' = UseHint(h, w')
 unfoldable pub hinted_vector : ParameterSet → List (List T) → List R → List R → List R → R → List R

@@ -5,7 +5,7 @@ use Rattle.fips204_base.specs.declared.types.T.{T}
 use Rattle.fips204_base.specs.CentredValues.{centred, vector_norm}
 use Rattle.fips204_base.specs.Products.{product, plus, minus}
 use Rattle.fips204_base.specs.Residues.{coefficients}
-use Rattle.fips204_base.specs.Vectors.{vector, matrix_product, vector_of}
+use Rattle.fips204_base.specs.Vectors.{vector_coefficients, matrix_product, vector_of}
 use Rattle.fips204_base.specs.Rounding.{high_bits, low_bits, make_hint}
 use Rattle.fips204_base.specs.HintSpelling.{all_ones}
 use Rattle.fips204_base.specs.Encodings.{signature_bytes, w1_bytes}
@@ -34,11 +34,11 @@ scaled c v r = product (coefficients c.0) (v r)
 
 -- z = y + c s1, centred
 unfoldable pub response : ParameterSet → PrivateParts → List R → R → List R
-response p sk y c = vector_of p.l (λ r n. centred 8380417 (plus (vector y r) (scaled c (vector sk.s1) r) n))
+response p sk y c = vector_of p.l (λ r n. centred (pos (plus (vector_coefficients y r) (scaled c (vector_coefficients sk.s1) r) n)))
 
 -- w - c s2
 abbrev pub lowered_vector : PrivateParts → (ℕ → ℕ → ℕ) → R → ℕ → ℕ → ℕ
-lowered_vector sk w c r = minus (w r) (scaled c (vector sk.s2) r)
+lowered_vector sk w c r = minus (w r) (scaled c (vector_coefficients sk.s2) r)
 
 -- r0, the low bits of w - c s2
 unfoldable pub low_vector : ParameterSet → PrivateParts → (ℕ → ℕ → ℕ) → R → List R
@@ -46,13 +46,13 @@ low_vector p sk w c = vector_of p.k (λ r n. low_bits p.gamma2 (lowered_vector s
 
 -- c t0
 unfoldable pub scaled_low_part : ParameterSet → PrivateParts → R → List R
-scaled_low_part p sk c = vector_of p.k (λ r n. pos (scaled c (vector sk.t0) r n))
+scaled_low_part p sk c = vector_of p.k (λ r n. pos (scaled c (vector_coefficients sk.t0) r n))
 
 -- h = MakeHint(-c t0, w - c s2 + c t0)
 unfoldable pub hint_vector : ParameterSet → PrivateParts → (ℕ → ℕ → ℕ) → R → List R
 hint_vector p sk w c =
     vector_of p.k (λ r n.
-    let ct0 = scaled c (vector sk.t0) r in
+    let ct0 = scaled c (vector_coefficients sk.t0) r in
     if make_hint p.gamma2 (minus (λ _. 0) ct0 n) (plus (lowered_vector sk w c r) ct0 n) then pos 1 else pos 0)
 
 -- whether an attempt is kept: the norm of z is below gamma1 - beta, that of r0 below gamma2 - beta, that of c t0 below
@@ -74,6 +74,6 @@ judged p sk y w c_tilde (Some c) =
 unfoldable pub attempt : ParameterSet → (List ℕ → List ℕ) → List (List T) → PrivateParts → List ℕ → List ℕ → ℕ → Attempt
 attempt p H a sk mu rho'' kappa =
     let y = mask p.gamma1 H rho'' p.l kappa in
-    let w = matrix_product p.l a (vector y) in
+    let w = matrix_product p.l a (vector_coefficients y) in
     let c_tilde = commitment p H mu (high_vector p w) in
     judged p sk y w c_tilde (challenge p.tau (H c_tilde))

@@ -3,7 +3,7 @@ use Rattle.std.specs.Prelude.{◌≡◌, ℕ, List, [], ◌∷◌, ◌++◌, pos
 use Rattle.fips204_base.specs.declared.types.R.{R}
 use Rattle.fips204_base.specs.declared.types.T.{T}
 use Rattle.fips204_base.specs.Products.{plus}
-use Rattle.fips204_base.specs.Vectors.{vector, matrix_product, vector_of}
+use Rattle.fips204_base.specs.Vectors.{vector_coefficients, matrix_product, vector_of}
 use Rattle.fips204_base.specs.Rounding.{power2round}
 use Rattle.fips204_base.specs.Encodings.{public_key_bytes}
 use Rattle.fips204_base.specs.MatrixEntry.{sampled_matrix}
@@ -13,7 +13,7 @@ use Rattle.fips204.specs.Keys.{PublicParts, PrivateParts}
 
 -- coefficient n of polynomial r of t = A s1 + s2
 abbrev pub key_vector : ParameterSet → List (List T) → List R → List R → ℕ → ℕ → ℕ
-key_vector p a s1 s2 r = plus (matrix_product p.l a (vector s1) r) (vector s2 r)
+key_vector p a s1 s2 r = plus (matrix_product p.l a (vector_coefficients s1) r) (vector_coefficients s2 r)
 
 -- t1, the high part of A s1 + s2
 unfoldable pub high_part : ParameterSet → List (List T) → List R → List R → List R
