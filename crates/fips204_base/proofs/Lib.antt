@@ -4,6 +4,7 @@ mod WorkedHints
 mod WorkedSamplers
 mod Samplings
 mod Masks
+mod Centring
 mod VectorsOf
 mod Challenges
 mod Hints
