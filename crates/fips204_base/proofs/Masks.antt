@@ -5,12 +5,12 @@ use Rattle.std.proofs.lemmas.List.{ext_get_or, get_or-map, length-map}
 use Rattle.std.proofs.lemmas.List.Elements.{All-get_or}
 use Rattle.std.proofs.lemmas.List.FromFn.{get_or-map-range_with_len, length-map-range_with_len}
 use Rattle.fips204_base.specs.declared.types.R.{R}
-use Rattle.fips204_base.specs.Packing.{bits_to_integer, coefficient, field, width, Packs, Unpacks}
+use Rattle.fips204_base.specs.Packing.{bits, bits_to_integer, coefficient, field, width, Packs, Unpacks}
 use Rattle.fips204_base.specs.Vectors.{polynomial_of}
 use Rattle.fips204_base.specs.Mask.{field_at, unpacked}
 use Rattle.fips204_base.proofs.Packings.{integer_of_digits, digits_at}
 
-pub field_at-packs : (c : ℕ) (bytes fields : List ℕ) (n : ℕ) → Packs c bytes fields → n < length fields → field_at c bytes n ≡ get_or fields n 0
+pub field_at-packs : (c : ℕ) (bytes fields : List ℕ) (n : ℕ) → Packs c bytes fields → n < length fields → field_at c (bits 8 bytes) n ≡ get_or fields n 0
 unfolding field_at
 field_at-packs c bytes fields n p h =
     ap (λ l. bits_to_integer (take c (drop (c * n) l))) p.same_bits ∙ ap bits_to_integer (digits_at c n fields h)
@@ -20,7 +20,7 @@ pub unpacked-unpacks : (a b : ℕ) (bytes : List ℕ) (w : R) → Unpacks (pos a
 unfolding unpacked polynomial_of
 unpacked-unpacks a b bytes w u =
     let c = width (pos a) (pos b) in
-    let value = λ (n : ℕ). coefficient (pos a) (pos b) (field_at c bytes n) in
+    let value = λ (n : ℕ). coefficient (pos a) (pos b) (field_at c (bits 8 bytes) n) in
     let fields = map (field (pos a) (pos b)) w.0 in
     let long : length fields ≡ 256 = length-map w.0 (field (pos a) (pos b)) ∙ u.count in
     let same : map value (range_with_len 0 256) ≡ w.0 =

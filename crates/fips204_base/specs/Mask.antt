@@ -6,13 +6,16 @@ use Rattle.fips204_base.specs.declared.types.R.{R}
 use Rattle.fips204_base.specs.Packing.{bits, bits_to_integer, coefficient, width}
 use Rattle.fips204_base.specs.Vectors.{polynomial_of}
 
--- field n of bytes that hold fields of c bits each
+-- field n of bits that are those of fields of c bits each
 unfoldable pub field_at : ℕ → List ℕ → ℕ → ℕ
-field_at c bytes n = bits_to_integer (take c (drop (c * n) (bits 8 bytes)))
+field_at c all n = bits_to_integer (take c (drop (c * n) all))
 
 -- BitUnpack (Algorithm 19): the polynomial that bytes hold, of coefficients from -a to b
 unfoldable pub unpacked : ℕ → ℕ → List ℕ → R
-unpacked a b bytes = polynomial_of (λ n. coefficient (pos a) (pos b) (field_at (width (pos a) (pos b)) bytes n))
+unpacked a b bytes =
+    let c = width (pos a) (pos b) in
+    let all = bits 8 bytes in
+    polynomial_of (λ n. coefficient (pos a) (pos b) (field_at c all n))
 
 -- how many bits a coefficient of z has: 18 or 20
 abbrev pub mask_width : ℕ → ℕ
