@@ -2,7 +2,11 @@
 #![tactic(auto)]
 
 #[cfg(test)]
+mod devices;
+#[cfg(test)]
 mod fronts;
+#[cfg(test)]
+mod program;
 #[cfg(test)]
 mod public_keys;
 #[cfg(test)]

@@ -6,7 +6,7 @@ use Rattle.mldsa_engine.specs.declared.call.Streams.TheVariants.{Sha2, Fill00, F
 use Rattle.mldsa_engine.specs.declared.call.Task.{Task}
 use Rattle.mldsa_engine.specs.declared.call.Task.TheVariants.{Id}
 use Rattle.mldsa_engine.specs.declared.call.SetName.{SetName}
-use Rattle.mldsa_engine.specs.declared.call.SetName.TheVariants.{MlDsa44}
+use Rattle.mldsa_engine.specs.declared.call.SetName.TheVariants.{MlDsa44, MlDsa65, MlDsa87}
 
 -- the word that names the streams
 abbrev pub streams_word : Streams → List ℕ
@@ -22,6 +22,8 @@ task_word Id = codes "id"
 -- the word that names a parameter set
 abbrev pub set_word : SetName → List ℕ
 set_word MlDsa44 = codes "44"
+set_word MlDsa65 = codes "65"
+set_word MlDsa87 = codes "87"
 
 -- the words of a call, after the program's name
 abbrev pub call_words : Streams → Task → SetName → List (List ℕ)

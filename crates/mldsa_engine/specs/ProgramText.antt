@@ -7,11 +7,13 @@ use Rattle.mldsa_engine.specs.Lines.{TakesLines}
 use Rattle.mldsa_engine.specs.declared.call.Task.{Task}
 use Rattle.mldsa_engine.specs.declared.call.Task.TheVariants.{Id}
 use Rattle.mldsa_engine.specs.declared.call.SetName.{SetName}
-use Rattle.mldsa_engine.specs.declared.call.SetName.TheVariants.{MlDsa44}
+use Rattle.mldsa_engine.specs.declared.call.SetName.TheVariants.{MlDsa44, MlDsa65, MlDsa87}
 
 -- how many bytes a public key has (FIPS 204, Table 2)
 abbrev pub public_key_length : SetName → ℕ
 public_key_length MlDsa44 = 1312
+public_key_length MlDsa65 = 1952
+public_key_length MlDsa87 = 2592
 
 -- the lines that a command wants: a number of bytes each, or any number of them
 abbrev pub wanted_lines : Task → SetName → List (Option ℕ)

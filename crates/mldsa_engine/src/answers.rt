@@ -4,13 +4,13 @@
 ghost use Rattle.std.specs.Prelude.{◌≡◌, ◌++◌, ◌∷◌, [], ℕ, List, length, map, take, Ok, Err, IfOk, IfErr, OnOk};
 ghost use Rattle.hex.specs.Hex.{encode_lower};
 ghost use Rattle.mldsa_engine.specs.Lines.{AllFit};
-ghost use Rattle.mldsa_engine.specs.ProgramText.{wanted_lines, Answers, text};
+ghost use Rattle.mldsa_engine.specs.ProgramText.{public_key_length, wanted_lines, Answers, text};
 
 use crate::call::{SetName, Task};
 use crate::fault::RunFault;
-use fips204::ml_dsa_44;
 use fips204::traits::SerDes;
 use fips204::xof::Xof;
+use fips204::{ml_dsa_44, ml_dsa_65, ml_dsa_87};
 use std::alloc::Global;
 
 /// The lines that a command wants: a number of bytes each, or any number of them.
@@ -19,6 +19,8 @@ pub(crate) fn wanted_of(task: Task, set: SetName) -> &'static [Option<usize>]
 {
     match (task, set) {
         (Task::Id, SetName::MlDsa44) => &[Some(ml_dsa_44::PK_LEN)],
+        (Task::Id, SetName::MlDsa65) => &[Some(ml_dsa_65::PK_LEN)],
+        (Task::Id, SetName::MlDsa87) => &[Some(ml_dsa_87::PK_LEN)],
     }
 }
 
@@ -33,11 +35,24 @@ pub(crate) fn answer_of<H: Xof, G: Xof>(
     ensures given { IfOk result (λ given. (written : List (List ℕ)) × Answers H.front G.front task set (map (λ line. line.items) lines.now) written given.1 × (given.0.items ≡ text written)) }
     ensures memory { IfErr result (λ fault. fault ≡ RunFault.Memory) }
 {
-    match (task, set) {
-        (Task::Id, SetName::MlDsa44) => {
-            let written = identity_44::<H, G>(alloc, lines[0].as_slice())?;
+    match task {
+        Task::Id => {
+            let written = identity::<H, G>(alloc, set, lines[0].as_slice())?;
             Ok((written, true))
         }
+    }
+}
+
+/// A public key of a set and its hash, as lines of hex.
+fn identity<H: Xof, G: Xof>(alloc: Global, set: SetName, key: &[u8]) -> Result<Vec<u8>, RunFault>
+    requires { length key.now ≡ public_key_length set }
+    ensures given { IfOk result (λ written. written.items ≡ text (encode_lower key.now ∷ encode_lower (take 64 (H.front key.now)) ∷ [])) }
+    ensures memory { IfErr result (λ fault. fault ≡ RunFault.Memory) }
+{
+    match set {
+        SetName::MlDsa44 => identity_44::<H, G>(alloc, key),
+        SetName::MlDsa65 => identity_65::<H, G>(alloc, key),
+        SetName::MlDsa87 => identity_87::<H, G>(alloc, key),
     }
 }
 
@@ -51,9 +66,43 @@ fn identity_44<H: Xof, G: Xof>(alloc: Global, key: &[u8]) -> Result<Vec<u8>, Run
     bytes.copy_from_slice(key);
     let key = ml_dsa_44::PublicKey::<H, G>::try_from_bytes(bytes).unwrap();
     let tr = *key.tr();
+    two_lines(alloc, &key.into_bytes(), &tr)
+}
+
+/// A public key of ML-DSA-65 and its hash, as lines of hex.
+fn identity_65<H: Xof, G: Xof>(alloc: Global, key: &[u8]) -> Result<Vec<u8>, RunFault>
+    requires { length key.now ≡ 1952 }
+    ensures given { IfOk result (λ written. written.items ≡ text (encode_lower key.now ∷ encode_lower (take 64 (H.front key.now)) ∷ [])) }
+    ensures memory { IfErr result (λ fault. fault ≡ RunFault.Memory) }
+{
+    let mut bytes = [0; ml_dsa_65::PK_LEN];
+    bytes.copy_from_slice(key);
+    let key = ml_dsa_65::PublicKey::<H, G>::try_from_bytes(bytes).unwrap();
+    let tr = *key.tr();
+    two_lines(alloc, &key.into_bytes(), &tr)
+}
+
+/// A public key of ML-DSA-87 and its hash, as lines of hex.
+fn identity_87<H: Xof, G: Xof>(alloc: Global, key: &[u8]) -> Result<Vec<u8>, RunFault>
+    requires { length key.now ≡ 2592 }
+    ensures given { IfOk result (λ written. written.items ≡ text (encode_lower key.now ∷ encode_lower (take 64 (H.front key.now)) ∷ [])) }
+    ensures memory { IfErr result (λ fault. fault ≡ RunFault.Memory) }
+{
+    let mut bytes = [0; ml_dsa_87::PK_LEN];
+    bytes.copy_from_slice(key);
+    let key = ml_dsa_87::PublicKey::<H, G>::try_from_bytes(bytes).unwrap();
+    let tr = *key.tr();
+    two_lines(alloc, &key.into_bytes(), &tr)
+}
+
+/// Two lines that spell these bytes in lower case hex.
+fn two_lines(alloc: Global, first: &[u8], second: &[u8]) -> Result<Vec<u8>, RunFault>
+    ensures given { IfOk result (λ written. written.items ≡ text (encode_lower first.now ∷ encode_lower second.now ∷ [])) }
+    ensures memory { IfErr result (λ fault. fault ≡ RunFault.Memory) }
+{
     let mut written = Vec::new(alloc);
-    push_line(alloc, &mut written, &key.into_bytes())?;
-    push_line(alloc, &mut written, &tr)?;
+    push_line(alloc, &mut written, first)?;
+    push_line(alloc, &mut written, second)?;
     Ok(written)
 }
 

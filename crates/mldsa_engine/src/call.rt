@@ -29,6 +29,10 @@ pub enum Task {
 pub enum SetName {
     /// ML-DSA-44.
     MlDsa44,
+    /// ML-DSA-65.
+    MlDsa65,
+    /// ML-DSA-87.
+    MlDsa87,
 }
 
 /// The streams that a word names.
@@ -63,6 +67,8 @@ fn set_of(word: &str) -> Option<SetName>
 {
     match word {
         "44" => Some(SetName::MlDsa44),
+        "65" => Some(SetName::MlDsa65),
+        "87" => Some(SetName::MlDsa87),
         _ => None,
     }
 }

@@ -15,9 +15,8 @@ pub mod marked;
 
 pub use call::{SetName, Streams, Task};
 pub use fault::RunFault;
-pub use marked::Marked;
-
 use fips204::xof::{Fill, Sha256Ctr, Sha512Ctr, Xof};
+pub use marked::Marked;
 use std::alloc::Global;
 use std::io::{Read, Write};
 
