@@ -1,3 +1,16 @@
+mod WorkedPolynomials
+mod WorkedRounding
+mod WorkedHints
+mod WorkedSamplers
+mod Samplings
+mod Masks
+mod Centring
+mod VectorsOf
+mod Challenges
+mod Hints
+mod Spellings
+mod EncodedParts
+mod Decomposed
 pub mod Reading
 mod Bits
 mod Fields

@@ -1,4 +1,4 @@
-use Rattle.std.proofs.Common.{rules, sym, ◌∙◌, arith, ap, take, append-nil}
+use Rattle.std.proofs.Common.{rules, sym, ◌∙◌, ap, take, append-nil}
 use Rattle.fips204.proofs.ml_dsa.expand_public.Goals as goal
 
 pub returns : goal.returns
