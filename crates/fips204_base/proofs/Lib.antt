@@ -2,6 +2,7 @@ pub mod Cases
 pub mod Residues
 pub mod Sums
 pub mod Integers
+pub mod Montgomery
 pub mod Roots
 pub mod Forward
 pub mod Backward

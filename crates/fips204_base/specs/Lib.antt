@@ -1,8 +1,11 @@
 pub mod Faults
 pub mod Streams
 pub mod Residues
+pub mod Reductions
+pub mod Polynomials
 pub mod Products
 pub mod Transforms
+pub mod Lanes
 pub mod Network
 pub mod Packing
 pub mod Encodings
