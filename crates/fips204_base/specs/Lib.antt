@@ -5,6 +5,7 @@ pub mod Reductions
 pub mod Polynomials
 pub mod Products
 pub mod Transforms
+pub mod Counts
 pub mod Lanes
 pub mod Network
 pub mod Packing

@@ -3,11 +3,21 @@
 
 ghost use Rattle.std.specs.Prelude.{◌≡◌};
 
+use std::marker::Model;
+
 /// How many products and sums were made. A butterfly is one product and two sums.
 #[derive(Drop)]
 pub struct Count {
     pub(crate) products: u64,
     pub(crate) sums: u64,
+}
+
+impl Model for Count {
+    ghost use Rattle.fips204_base.specs.Counts.{Steps};
+
+    ghost Value = { Steps };
+
+    ghost view = { λ count. record { products = count.products; sums = count.sums } };
 }
 
 impl Count {
