@@ -1,5 +1,5 @@
 -- The network backwards, times 8347681, is the inverse transform.
-use Rattle.std.proofs.Common.{◌≡◌, ℕ, ◌<◌, ◌+◌, ◌*◌, ◌^◌, ◌-◌, ◌/◌, arith, ap, sym, subst, ◌∙◌, add-zero}
+use Rattle.std.proofs.Common.{◌≡◌, ℕ, ◌<◌, ◌+◌, ◌*◌, ◌^◌, ◌-◌, ◌/◌, arith, ◌%◌, ap, sym, subst, ◌∙◌, add-zero}
 use Rattle.std.proofs.lemmas.Nat.{pow-add}
 use Rattle.std.proofs.Math.Nat.{pow-zero}
 use Rattle.fips204_base.proofs.Forward.{level_shape}
@@ -49,6 +49,10 @@ leaves_scaled len start y j v h =
     turn : (a x : ℕ) → a * x ^ (j + len) ≡ x ^ len * (a * x ^ j)
     turn a x = rw (pow-add x j len) (omega arith)
 
+-- minus z times (a - b) is z times (b - a)
+minus_turned : (z a b : ℕ) → Same (8380416 * (z * (a + 8380416 * b))) (z * (b + 8380416 * a))
+minus_turned z a b = record { same = omega arith }
+
 module _ (s : ℕ) (first w v : ℕ → ℕ) (p : s < 8) (level : IsInverseLevel (2 ^ s) (2 ^ (7 - s)) w v) (held : HoldsSums (2 * 2 ^ s) (2 ^ (7 - s)) first w) where
   held_low : (b j : ℕ) → b < 2 ^ s → j < 2 ^ (7 - s) → Same (w (2 * 2 ^ (7 - s) * b + j)) (leaf_sum (2 ^ (7 - s)) (2 * 2 ^ (7 - s) * b) first j)
   held_low b j q r =
@@ -75,7 +79,7 @@ module _ (s : ℕ) (first w v : ℕ → ℕ) (p : s < 8) (level : IsInverseLevel
       let e : 2 * len * b + len + k ≡ 2 * len * b + k + len = omega arith in rw e (inverse_second_half s b k p q h)) in
       let both : Same (leaf_sum len (2 * len * b) first (j + len) + leaf_sum len (2 * len * b + len) first (j + len)) (8380416 * z * leaf_sum len (2 * len * b) first j + z * leaf_sum len (2 * len * b + len) first j) = same_add low high in
       let moved : Same (v (2 * len * b + j + len)) (z * (leaf_sum len (2 * len * b + len) first j + 8380416 * leaf_sum len (2 * len * b) first j)) =
-      same_trans (level b j q r).1 (same_mul (same_refl z) (same_add (held_high b j q r) (same_mul (same_refl 8380416) (held_low b j q r)))) in
+      same_trans (level b j q r).1 (same_trans (minus_turned z (w (2 * len * b + j)) (w (2 * len * b + j + len))) (same_mul (same_refl z) (same_add (held_high b j q r) (same_mul (same_refl 8380416) (held_low b j q r))))) in
       same_trans moved (same_trans (same_of (omega arith)) (same_trans (same_sym both) (same_of (sym (two_blocks len (2 * len) (2 * len * b) (j + len) first (omega arith))))))
 
 pub sums_level : (s : ℕ) (first w v : ℕ → ℕ) → s < 8 → IsInverseLevel (2 ^ s) (2 ^ (7 - s)) w v →

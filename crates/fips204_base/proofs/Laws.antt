@@ -28,6 +28,13 @@ pub inverse_below : (v : ℕ → ℕ) (j : ℕ) → inverse_transform v j < 8380
 unfolding inverse_transform
 inverse_below v j = omega arith
 
+inverse_reduced : (v : ℕ → ℕ) (j : ℕ) → inverse_transform v j ≡ inverse_transform v j % 8380417
+inverse_reduced v j = omega (arith, inverse_below v j)
+
+-- a number congruent to a value of the inverse transform, reduced
+pub inverse_residue : (v : ℕ → ℕ) (j a : ℕ) → Same a (inverse_transform v j) → a % 8380417 ≡ inverse_transform v j
+inverse_residue v j a s = same_equal_mod s ∙ sym (inverse_reduced v j)
+
 pub row_below : (l : ℕ) (a s : ℕ → ℕ → ℕ) (n : ℕ) → row_product l a s n < 8380417
 unfolding row_product
 row_below l a s n = omega arith
@@ -45,10 +52,7 @@ pub product_of_transforms : (a b : ℕ → ℕ) (n : ℕ) → n < 256 → invers
 product_of_transforms a b n p =
     inverse_same (pointwise (transform a) (transform b)) (transform (product a b)) (λ i q.
     same_trans (same_mod (transform a i * transform b i)) (same_sym (transform_of_product a b i q))) n
-    ∙ (inverse_residue (transform (product a b)) n ∙ (same_equal_mod (inverse_of_transform (product a b) n p) ∙ product_residue a b n))
-  where
-    inverse_residue : (v : ℕ → ℕ) (j : ℕ) → inverse_transform v j ≡ inverse_transform v j % 8380417
-    inverse_residue v j = omega (arith, inverse_below v j)
+    ∙ (inverse_reduced (transform (product a b)) n ∙ (same_equal_mod (inverse_of_transform (product a b) n p) ∙ product_residue a b n))
 
 -- ---- the ring laws
 pub product_same : (a b c d : ℕ → ℕ) → ((j : ℕ) → j < 256 → Same (a j) (c j)) → ((j : ℕ) → j < 256 → Same (b j) (d j)) → (n : ℕ) → n < 256 → product a b n ≡ product c d n

@@ -7,6 +7,8 @@ pub mod Roots
 pub mod Forward
 pub mod Backward
 pub mod Inverse
+pub mod Blocks
+pub mod Rows
 pub mod Products
 pub mod Laws
 pub mod Worked

@@ -6,6 +6,7 @@
 
 pub mod fault;
 pub mod helpers;
+pub mod ntt;
 pub mod types;
 pub mod xof;
 
