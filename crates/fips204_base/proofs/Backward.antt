@@ -1,5 +1,5 @@
 -- The network backwards, times 8347681, is the inverse transform.
-use Rattle.std.proofs.Common.{◌≡◌, ℕ, ◌<◌, ◌+◌, ◌*◌, ◌^◌, ◌-◌, ◌/◌, arith, ◌%◌, ap, sym, subst, ◌∙◌, add-zero}
+use Rattle.std.proofs.Common.{◌≡◌, ℕ, ◌<◌, ◌+◌, ◌*◌, ◌^◌, ◌-◌, ◌/◌, arith, ap, sym, subst, ◌∙◌, add-zero}
 use Rattle.std.proofs.lemmas.Nat.{pow-add}
 use Rattle.std.proofs.Math.Nat.{pow-zero}
 use Rattle.fips204_base.proofs.Forward.{level_shape}

@@ -138,9 +138,9 @@ place_found len zero p h = absurd (omega arith)
 place_found len (suc done) p h = elim (dec_lt p (2 * len * done)) [
   | yes q ↦ (let r = place_found len done p q in record { block = r.block; within = omega (arith, r.within); offset = r.offset; inside = r.inside; either = r.either })
   | no q ↦ elim (dec_lt (p - 2 * len * done) len) [
-      | yes r ↦ record { block = done; within = omega arith; offset = p - 2 * len * done; inside = r; either = inl (omega arith) }
-      | no r ↦ record { block = done; within = omega arith; offset = p - 2 * len * done - len; inside = omega arith; either = inr (omega arith) }
-    ]
+    | yes r ↦ record { block = done; within = omega arith; offset = p - 2 * len * done; inside = r; either = inl (omega arith) }
+    | no r ↦ record { block = done; within = omega arith; offset = p - 2 * len * done - len; inside = omega arith; either = inr (omega arith) }
+  ]
 ]
 
 -- what holds of both results of each pair holds at every place

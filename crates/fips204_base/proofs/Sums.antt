@@ -1,5 +1,5 @@
 -- Sums over the numbers below a bound, and powers.
-use Rattle.std.proofs.Common.{◌≡◌, ℕ, zero, suc, ◌<◌, ◌+◌, ◌*◌, ◌^◌, arith, ap, sym, refl, ◌∙◌, add-zero, add-suc}
+use Rattle.std.proofs.Common.{◌≡◌, ℕ, zero, suc, ◌<◌, ◌+◌, ◌*◌, ◌^◌, arith, ap, sym, refl, ◌∙◌, add-zero, add-one, add-suc}
 use Rattle.std.proofs.Math.Nat.{pow-suc, pow-zero, mul-zero}
 use native.Mathlib.Decide.{dec_lt}
 use Rattle.std.proofs.lemmas.Nat.{pow-add}
@@ -21,6 +21,10 @@ pow_mul x m (suc n) =
     ap (λ k. x ^ k) e ∙ (pow-add x (m * n) m ∙ (ap (λ r. r * x ^ m) (pow_mul x m n) ∙ sym (pow-suc (x ^ m) n)))
 
 -- ---- sums
+pub sum_more : (n : ℕ) (f : ℕ → ℕ) → sum_below (n + 1) f ≡ sum_below n f + f n
+unfolding sum_below
+sum_more n f = rw (add-one n) refl
+
 pub sum_same : (n : ℕ) (f g : ℕ → ℕ) → ((i : ℕ) → i < n → Same (f i) (g i)) → Same (sum_below n f) (sum_below n g)
 unfolding sum_below
 sum_same zero f g h = same_refl 0

@@ -30,7 +30,10 @@ pub fn ntt<V: Residue, const KL: usize>(w: &[[V; 256]; KL], meter: &mut V::Meter
 /// The inverse transform (FIPS 204, Algorithm 42) of each row of 256 values, lane by lane, from 0 to
 /// `q - 1`. The lanes have an absolute value of at most `q - 1` before. Each row raises the meter by
 /// 1024 butterflies, for which it needs room.
-pub fn inv_ntt<V: Residue, const KL: usize>(w_hat: &[[V; 256]; KL], meter: &mut V::Meter) -> [[V; 256]; KL]
+pub fn inv_ntt<V: Residue, const KL: usize>(
+    w_hat: &[[V; 256]; KL],
+    meter: &mut V::Meter,
+) -> [[V; 256]; KL]
     requires room { (V.products meter.old + 1024 * KL < 2 ^ 64) × (V.sums meter.old + 2048 * KL < 2 ^ 64) }
     requires range { (row i j : ℕ) (d : List V) (e : V) → row < KL → i < 256 → j < V.width → nat_abs (lane_at V.lanes j e (slice_index_or w_hat.now row d) i) ≤ 8380416 }
     ensures values { (row i j : ℕ) (d : List V) (e : V) → row < KL → i < 256 → j < V.width → lane_at V.lanes j e (slice_index_or result row d) i ≡ pos (inverse_transform (residues V.lanes j e (slice_index_or w_hat.now row d)) i) }

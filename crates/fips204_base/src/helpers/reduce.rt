@@ -42,7 +42,14 @@ fn high_word(a: i64) -> i32
     (a >> 32) as i32
 }
 
-/// A number congruent to `a` and below `2 q` in absolute value, for `a` of an absolute value of at
+/// The product, which always fits.
+pub(crate) fn wide_product(x: i32, y: i32) -> i64
+    ensures { result ≡ x *ℤ y }
+{
+    i64::from(x) * i64::from(y)
+}
+
+/// A number congruent to `a` and below `q` in absolute value, for `a` of an absolute value of at
 /// most `67000000 * 2^32`.
 pub fn partial_reduce64(a: i64) -> i32
     requires { nat_abs a ≤ 287762808832000000 }
@@ -77,11 +84,7 @@ pub fn full_reduce32(a: i32) -> i32
     ensures { result ≡ pos (residue a) }
 {
     let near = partial_reduce32(a);
-    if near < 0 {
-        near + 8380417
-    } else {
-        near
-    }
+    if near < 0 { near + 8380417 } else { near }
 }
 
 /// `m` modulo `q`, from `-(q - 1) / 2` to `(q - 1) / 2`, for `m` below `2^31 - 2^22` in absolute

@@ -7,8 +7,7 @@ ghost use Rattle.fips204_base.specs.Transforms.{zeta_at};
 ghost use Rattle.fips204_base.specs.Lanes.{lane};
 
 use crate::helpers::count::Count;
-use crate::helpers::reduce::mont_reduce;
-use crate::helpers::reduce::partial_reduce32;
+use crate::helpers::reduce::{mont_reduce, partial_reduce32, wide_product};
 use crate::helpers::zeta_table::zeta_mont;
 
 /// A value that the butterflies work on, seen as a row of lanes, as many as its type has. Each
@@ -114,11 +113,7 @@ impl Residue for i32 {
     fn finish(self) -> i32 {
         // 8347681 * 2^32 is 16382 modulo q
         let near = mont_product(self, 16382);
-        if near < 0 {
-            near + 8380417
-        } else {
-            near
-        }
+        if near < 0 { near + 8380417 } else { near }
     }
 }
 
@@ -128,5 +123,5 @@ fn mont_product(x: i32, factor: i32) -> i32
     ensures congruent { Same (4294967296 * residue result) (residue x * residue factor) }
     ensures small { nat_abs result ≤ 8380416 }
 {
-    mont_reduce(i64::from(x) * i64::from(factor))
+    mont_reduce(wide_product(x, factor))
 }

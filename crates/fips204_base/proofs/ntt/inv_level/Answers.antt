@@ -1,4 +1,4 @@
-use Rattle.std.proofs.Common.{arith, ◌≡◌, ◌+◌, ◌-◌, ◌*◌, subst, rules}
+use Rattle.std.proofs.Common.{arith, ◌≡◌, ◌-◌, ◌*◌, subst, rules}
 use Rattle.fips204_base.specs.Lanes.{lane_at}
 use Rattle.fips204_base.specs.Network.{IsInverseButterfly}
 use Rattle.fips204_base.proofs.Blocks.{SoFar, level_none, level_more, level_whole, block_fits, count_below, level_products, level_sums}
@@ -8,11 +8,18 @@ pub inv_block-requires : goal.inv_block-requires
 inv_block-requires g c =
     let inside = block_fits c.args.count c.args.len c.loop-b.b c.requires.whole c.loop-b-test.true in
     let below = count_below c.args.count c.args.len c.requires.whole in (
-      search rules, (
-      omega (arith, below, c.loop-b-test.true), (
-      omega (arith, inside, c.loop-b.invariant.place), (
-      (omega (arith, inside, c.loop-b.invariant.products, c.requires.room), omega (arith, inside, c.loop-b.invariant.sums, c.requires.room)),
-      λ p j d q r h. rw ((c.loop-b.invariant.values j d h).rest p (omega (arith, q, c.loop-b.invariant.place))) (c.requires.fits p j d r h)))))
+      search rules,
+      (
+        omega (arith, below, c.loop-b-test.true),
+        (
+          omega (arith, inside, c.loop-b.invariant.place),
+          (
+            (omega (arith, inside, c.loop-b.invariant.products, c.requires.room), omega (arith, inside, c.loop-b.invariant.sums, c.requires.room)),
+            λ p j d q r h. rw ((c.loop-b.invariant.values j d h).rest p (omega (arith, q, c.loop-b.invariant.place))) (c.requires.fits p j d r h),
+          ),
+        ),
+      ),
+    )
 
 pub loop-b-init : goal.loop-b-init
 loop-b-init g c = record {

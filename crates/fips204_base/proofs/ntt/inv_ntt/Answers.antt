@@ -1,7 +1,5 @@
-use Rattle.std.proofs.Common.{◌≡◌, ℕ, ◌<◌, ◌≤◌, [], pos, get_or, length-set, ◌∙◌, arith, rules}
-use Rattle.std.specs.Prelude.{nat_abs}
+use Rattle.std.proofs.Common.{◌≡◌, ℕ, ◌<◌, [], pos, get_or, length-set, ◌∙◌, arith, rules}
 use Rattle.std.proofs.lemmas.List.{get_or_default}
-use Rattle.fips204_base.specs.Residues.{Same}
 use Rattle.fips204_base.specs.Transforms.{inverse_transform}
 use Rattle.fips204_base.specs.Lanes.{lane_at, residues}
 use Rattle.fips204_base.proofs.Rows.{row_written, rows_ahead}
@@ -10,9 +8,12 @@ use Rattle.fips204_base.proofs.ntt.inv_ntt.Goals as goal
 pub inv_ntt_row-requires : goal.inv_ntt_row-requires
 inv_ntt_row-requires g c =
     let before = c.loop-row.invariant.rest c.loop-row.row [] (omega arith) in (
-      search rules, (
-      (omega (arith, c.loop-row-test.true, c.loop-row.invariant.products, c.requires.room), omega (arith, c.loop-row-test.true, c.loop-row.invariant.sums, c.requires.room)),
-      λ i j d p q. rw before (c.requires.range c.loop-row.row i j [] d c.loop-row-test.true p q)))
+      search rules,
+      (
+        (omega (arith, c.loop-row-test.true, c.loop-row.invariant.products, c.requires.room), omega (arith, c.loop-row-test.true, c.loop-row.invariant.sums, c.requires.room)),
+        λ i j d p q. rw before (c.requires.range c.loop-row.row i j [] d c.loop-row-test.true p q),
+      ),
+    )
 
 pub loop-row-preserved : goal.loop-row-preserved
 loop-row-preserved g c = record {

@@ -1,4 +1,4 @@
-use Rattle.std.proofs.Common.{arith, ap, ◌∙◌, ◌*◌, ◌%◌, pos}
+use Rattle.std.proofs.Common.{ap, ◌∙◌, pos}
 use Rattle.fips204_base.specs.Lanes.{residues}
 use Rattle.fips204_base.proofs.Laws.{inverse_residue}
 use Rattle.fips204_base.proofs.ntt.inv_ntt_row.Goals as goal

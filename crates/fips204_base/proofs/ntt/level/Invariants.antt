@@ -1,4 +1,4 @@
-use Rattle.std.proofs.Common.{◌≡◌, ℕ, ◌<◌, ◌+◌, ◌-◌, ◌*◌, length}
+use Rattle.std.proofs.Common.{◌≡◌, ℕ, ◌<◌, ◌+◌, ◌*◌, length}
 use Rattle.fips204_base.specs.Lanes.{lane_at}
 use Rattle.fips204_base.specs.Network.{IsButterfly}
 use Rattle.fips204_base.proofs.Blocks.{SoFar}

@@ -9,10 +9,15 @@ pub level-requires : goal.level-requires
 level-requires g c =
     let shape = level_shape c.loop-s.s c.loop-s-test.true in
     let whole : c.loop-s.count * c.loop-s.len ≡ 128 = rw (c.loop-s.invariant.count, c.loop-s.invariant.len, shape.0) shape.2 in (
-      search rules, (
-      whole, (
-      (omega (arith, c.loop-s-test.true, c.loop-s.invariant.products, c.requires.room), omega (arith, c.loop-s-test.true, c.loop-s.invariant.sums, c.requires.room)),
-      λ p j d q h. omega (arith, c.loop-s-test.true, c.loop-s.invariant.range p j d q h))))
+      search rules,
+      (
+        whole,
+        (
+          (omega (arith, c.loop-s-test.true, c.loop-s.invariant.products, c.requires.room), omega (arith, c.loop-s-test.true, c.loop-s.invariant.sums, c.requires.room)),
+          λ p j d q h. omega (arith, c.loop-s-test.true, c.loop-s.invariant.range p j d q h),
+        ),
+      ),
+    )
 
 pub overflow_mul-count : goal.overflow_mul-count
 overflow_mul-count g c = let below = pow_below c.loop-s.s 8 c.loop-s-test.true in omega (arith, c.loop-s.invariant.count, below)
@@ -38,8 +43,11 @@ loop-s-preserved g c =
       len = halved c.loop-s.s c.loop-s.len c.loop-s-test.true c.loop-s.invariant.len;
       products = omega (arith, c.level.ensures.products, c.loop-s.invariant.products);
       sums = omega (arith, c.level.ensures.sums, c.loop-s.invariant.sums);
-      range = λ p j d q h. omega (arith, level_sizes c.loop-s.count c.loop-s.len (8380416 * (c.loop-s.s + 1)) (lane_at g.V.Residue.lanes j d c.loop-s.w) (lane_at g.V.Residue.lanes j d c.level.new.w)
-          whole (c.level.ensures.values j d h) (λ a b. c.loop-s.invariant.range a j d b h) p q);
+      range = λ p j d q h. omega (
+        arith,
+        level_sizes c.loop-s.count c.loop-s.len (8380416 * (c.loop-s.s + 1)) (lane_at g.V.Residue.lanes j d c.loop-s.w) (lane_at g.V.Residue.lanes j d c.level.new.w)
+            whole (c.level.ensures.values j d h) (λ a b. c.loop-s.invariant.range a j d b h) p q,
+      );
       values = λ j d h. values_next c.loop-s.s c.loop-s.count c.loop-s.len (residues g.V.Residue.lanes j d c.args.w.now) (residues g.V.Residue.lanes j d c.loop-s.w) (residues g.V.Residue.lanes j d c.level.new.w)
           c.loop-s-test.true c.loop-s.invariant.count c.loop-s.invariant.len
           (level_of_blocks c.loop-s.count c.loop-s.len (lane_at g.V.Residue.lanes j d c.loop-s.w) (lane_at g.V.Residue.lanes j d c.level.new.w) (c.level.ensures.values j d h)) (c.loop-s.invariant.values j d h);

@@ -1,7 +1,6 @@
-use Rattle.std.proofs.Common.{arith, rules, ◌≡◌, ◌*◌, ℤ, pos, ◌+ℤ◌, ◌-ℤ◌, ◌*ℤ◌, to_z, of_z}
+use Rattle.std.proofs.Common.{arith, rules, to_z, of_z}
 use Rattle.std.specs.Int.{w32}
-use mir.Val.{SFits}
-use Rattle.std.proofs.lemmas.Int.{ints, to_z-of_z}
+use Rattle.std.proofs.lemmas.Int.{ints}
 use Rattle.fips204_base.proofs.Integers.{montgomery_congruent}
 use Rattle.fips204_base.proofs.helpers.reduce.mont_reduce.Goals as goal
 
