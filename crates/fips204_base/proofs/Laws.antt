@@ -1,11 +1,12 @@
 -- The laws of the product, each through the transforms, which determine a polynomial.
-use Rattle.std.proofs.Common.{◌≡◌, ℕ, ◌<◌, ◌+◌, ◌*◌, ◌^◌, ◌%◌, arith, sym, ◌∙◌}
+use Rattle.std.proofs.Common.{◌≡◌, ℕ, ◌<◌, ◌+◌, ◌*◌, ◌^◌, ◌%◌, arith, ap, sym, ◌∙◌}
 use Rattle.fips204_base.proofs.Integers.{listed_same}
 use Rattle.fips204_base.specs.Residues.{listed, sum_below, Same}
+use Rattle.fips204_base.specs.Laws.{ProductOfTransforms, InverseOfTransform}
 use Rattle.fips204_base.specs.Transforms.{root, inverse_root, transform, inverse_transform}
 use Rattle.fips204_base.specs.Products.{product, plus, minus, pointwise, row_product}
 use Rattle.fips204_base.proofs.Residues.{same_refl, same_of, same_sym, same_trans, same_mod, same_add, same_mul, same_equal_mod, same_equal}
-use Rattle.fips204_base.proofs.Sums.{sum_same, sum_add, sum_swap, sum_times, sum_times_right}
+use Rattle.fips204_base.proofs.Sums.{sum_same, sum_equal, sum_add, sum_swap, sum_times, sum_times_right}
 use Rattle.fips204_base.proofs.Inverse.{transform_value, inverse_of_transform, transform_of_inverse}
 use Rattle.fips204_base.proofs.Products.{transform_of_product}
 
@@ -34,6 +35,14 @@ inverse_reduced v j = omega (arith, inverse_below v j)
 -- a number congruent to a value of the inverse transform, reduced
 pub inverse_residue : (v : ℕ → ℕ) (j a : ℕ) → Same a (inverse_transform v j) → a % 8380417 ≡ inverse_transform v j
 inverse_residue v j a s = same_equal_mod s ∙ sym (inverse_reduced v j)
+
+pub transform_below : (w : ℕ → ℕ) (i : ℕ) → transform w i < 8380417
+unfolding transform
+transform_below w i = omega arith
+
+-- a number congruent to a value of the transform, reduced
+pub transform_residue : (w : ℕ → ℕ) (i a : ℕ) → Same a (transform w i) → a % 8380417 ≡ transform w i
+transform_residue w i a s = let below = transform_below w i in omega (arith, s.same)
 
 pub row_below : (l : ℕ) (a s : ℕ → ℕ → ℕ) (n : ℕ) → row_product l a s n < 8380417
 unfolding row_product
@@ -168,22 +177,67 @@ row_of_sum l a s t n p =
     spread : (x y z : ℕ) → x * (y + z) ≡ x * y + x * z
     spread x y z = omega arith
 
--- ---- lists of reduced polynomials
-pub inverse_of_transform_listed : (w : ℕ → ℕ) → ((j : ℕ) → j < 256 → w j < 8380417) → listed (inverse_transform (transform w)) ≡ listed w
-inverse_of_transform_listed w h = listed_same (inverse_transform (transform w)) w (λ j p. same_equal (inverse_of_transform w j p) (inverse_below (transform w) j) (h j p))
+row_same : (l : ℕ) (p : ℕ → ℕ) (v t s : ℕ → ℕ → ℕ) → ((j : ℕ) → j < 256 → p j ≡ sum_below l (λ k. v k j * t k j) % 8380417) →
+    ((k j : ℕ) → k < l → j < 256 → t k j ≡ transform (s k) j) → (j : ℕ) → j < 256 → Same (p j) (sum_below l (λ k. v k j * transform (s k) j))
+row_same l p v t s h g j q =
+    same_trans (same_of (h j q)) (same_trans (same_mod (sum_below l (λ k. v k j * t k j)))
+    (same_of (sum_equal l (λ k. v k j * t k j) (λ k. v k j * transform (s k) j) (λ k r. ap (λ x. v k j * x) (g k j r q)))))
+
+products_same : (p x y a b : ℕ → ℕ) → ((j : ℕ) → j < 256 → p j ≡ pointwise x y j) → ((j : ℕ) → j < 256 → x j ≡ transform a j) → ((j : ℕ) → j < 256 → y j ≡ transform b j) →
+    (j : ℕ) → j < 256 → Same (p j) (pointwise (transform a) (transform b) j)
+products_same p x y a b h f g j q = same_of (h j q ∙ rw (f j q, g j q))
+
+-- the sums of products at a place are the transform of the row's product
+row_value : (l : ℕ) (v s : ℕ → ℕ → ℕ) (i : ℕ) → i < 256 → Same (sum_below l (λ k. v k i * transform (s k) i)) (transform (row_product l (λ k. inverse_transform (v k)) s) i)
+row_value l v s i q =
+    same_trans (sum_same l (λ k. v k i * transform (s k) i) (λ k. transform (inverse_transform (v k)) i * transform (s k) i) (λ k r.
+    same_mul (same_sym (transform_of_inverse (v k) i q)) (same_refl (transform (s k) i))))
+    (same_sym (transform_of_row l (λ k. inverse_transform (v k)) s i q))
 
 -- a row of A times s, where the row is given by its transforms: the inverse transform of the sums of products
 pub row_by_transforms : (l : ℕ) (v s : ℕ → ℕ → ℕ) (n : ℕ) → n < 256 →
     inverse_transform (λ i. sum_below l (λ k. v k i * transform (s k) i)) n ≡ row_product l (λ k. inverse_transform (v k)) s n
 row_by_transforms l v s n p =
-    inverse_same (λ i. sum_below l (λ k. v k i * transform (s k) i)) (transform (row_product l (λ k. inverse_transform (v k)) s)) (λ i q.
-    same_trans (sum_same l (λ k. v k i * transform (s k) i) (λ k. transform (inverse_transform (v k)) i * transform (s k) i) (λ k r.
-    same_mul (same_sym (transform_of_inverse (v k) i q)) (same_refl (transform (s k) i))))
-    (same_sym (transform_of_row l (λ k. inverse_transform (v k)) s i q))) n
+    inverse_same (λ i. sum_below l (λ k. v k i * transform (s k) i)) (transform (row_product l (λ k. inverse_transform (v k)) s)) (row_value l v s) n
     ∙ same_equal (inverse_of_transform (row_product l (λ k. inverse_transform (v k)) s) n p) (inverse_below (transform (row_product l (λ k. inverse_transform (v k)) s)) n) (row_below l (λ k. inverse_transform (v k)) s n)
 
-pub product_of_transforms_listed : (a b : ℕ → ℕ) → listed (inverse_transform (pointwise (transform a) (transform b))) ≡ listed (product a b)
+-- ---- what is computed from transforms
+-- sums of products of transforms make a row of the plain product
+pub row_of_products : (l : ℕ) (p : ℕ → ℕ) (v t s : ℕ → ℕ → ℕ) → ((j : ℕ) → j < 256 → p j ≡ sum_below l (λ k. v k j * t k j) % 8380417) →
+    ((k j : ℕ) → k < l → j < 256 → t k j ≡ transform (s k) j) → (n : ℕ) → n < 256 → inverse_transform p n ≡ row_product l (λ k. inverse_transform (v k)) s n
+row_of_products l p v t s h g n q =
+    inverse_same p (λ j. sum_below l (λ k. v k j * transform (s k) j)) (row_same l p v t s h g) n ∙ row_by_transforms l v s n q
+
+-- products of transforms make a plain product
+pub product_of_products : (p x y a b : ℕ → ℕ) → ((j : ℕ) → j < 256 → p j ≡ pointwise x y j) → ((j : ℕ) → j < 256 → x j ≡ transform a j) → ((j : ℕ) → j < 256 → y j ≡ transform b j) →
+    (n : ℕ) → n < 256 → inverse_transform p n ≡ product a b n
+product_of_products p x y a b h f g n q =
+    inverse_same p (pointwise (transform a) (transform b)) (products_same p x y a b h f g) n ∙ product_of_transforms a b n q
+
+-- differences of both make the difference of the plain products
+pub difference_of_products : (l : ℕ) (d p c x y a b : ℕ → ℕ) (v t s : ℕ → ℕ → ℕ) → ((j : ℕ) → j < 256 → d j ≡ minus p c j) →
+    ((j : ℕ) → j < 256 → p j ≡ sum_below l (λ k. v k j * t k j) % 8380417) → ((k j : ℕ) → k < l → j < 256 → t k j ≡ transform (s k) j) →
+    ((j : ℕ) → j < 256 → c j ≡ pointwise x y j) → ((j : ℕ) → j < 256 → x j ≡ transform a j) → ((j : ℕ) → j < 256 → y j ≡ transform b j) →
+    (n : ℕ) → n < 256 → inverse_transform d n ≡ minus (row_product l (λ k. inverse_transform (v k)) s) (product a b) n
+difference_of_products l d p c x y a b v t s e h g i f k n q =
+    let matrix = λ (k : ℕ). inverse_transform (v k) in
+    inverse_same d (transform (minus (row_product l matrix s) (product a b))) (λ j r.
+    same_trans (same_of (e j r)) (same_trans (same_mod (p j + 8380416 * c j))
+    (same_trans (same_add
+    (same_trans (row_same l p v t s h g j r) (row_value l v s j r))
+    (same_mul (same_refl 8380416) (same_trans (products_same c x y a b i f k j r) (same_trans (same_mod (transform a j * transform b j)) (same_sym (transform_of_product a b j r))))))
+    (same_sym (transform_of_minus (row_product l matrix s) (product a b) j))))) n
+    ∙ (inverse_reduced (transform (minus (row_product l matrix s) (product a b))) n ∙ (same_equal_mod (inverse_of_transform (minus (row_product l matrix s) (product a b)) n q) ∙ omega arith))
+
+-- ---- the same for whole lists
+pub product_of_transforms_listed : ProductOfTransforms
 product_of_transforms_listed a b = listed_same (inverse_transform (pointwise (transform a) (transform b))) (product a b) (product_of_transforms a b)
+
+pub inverse_of_transform_listed : InverseOfTransform
+inverse_of_transform_listed w = (
+  listed_same (inverse_transform (transform w)) (λ j. w j % 8380417) (λ j p. sym (inverse_residue (transform w) j (w j) (same_sym (inverse_of_transform w j p)))),
+  listed_same (transform (inverse_transform w)) (λ i. w i % 8380417) (λ i p. sym (transform_residue (inverse_transform w) i (w i) (same_sym (transform_of_inverse w i p)))),
+)
 
 pub product_comm_listed : (a b : ℕ → ℕ) → listed (product a b) ≡ listed (product b a)
 product_comm_listed a b = listed_same (product a b) (product b a) (product_comm a b)

@@ -2,11 +2,12 @@ pub mod Faults
 pub mod Streams
 pub mod Residues
 pub mod Reductions
-pub mod Polynomials
 pub mod Products
 pub mod Transforms
 pub mod Counts
 pub mod Lanes
 pub mod Network
+pub mod Polynomials
+pub mod Laws
 pub mod Packing
 pub mod Encodings

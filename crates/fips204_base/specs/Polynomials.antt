@@ -3,8 +3,9 @@ use Rattle.std.specs.Prelude.{◌≡◌, ◌≤◌, ◌<◌, ℕ, List, [], ℤ,
 use Rattle.std.specs.List.{All, fold}
 use Rattle.fips204_base.specs.declared.types.R.{R}
 use Rattle.fips204_base.specs.declared.types.T.{T}
-use Rattle.fips204_base.specs.declared.types.TheConstants.{T0}
+use Rattle.fips204_base.specs.declared.types.TheConstants.{R0, T0}
 use Rattle.fips204_base.specs.Residues.{centred, coefficients}
+use Rattle.fips204_base.specs.Transforms.{inverse_transform}
 
 -- every coefficient has an absolute value of at most n
 abbrev pub Within : ℕ → List ℤ → Type 0
@@ -33,3 +34,11 @@ matrix_residues a i = vector_residues (slice_index_or a i [])
 -- every value of a vector of transforms has an absolute value of at most n
 abbrev pub AllWithin : ℕ → List T → Type 0
 AllWithin n v = All (λ t. Within n t.0) v
+
+-- the residues of a vector of polynomials, by row and place
+abbrev pub vector_coefficients : List R → ℕ → ℕ → ℕ
+vector_coefficients v i = coefficients (slice_index_or v i R0).0
+
+-- the plain matrix of a matrix of transforms, by row, column and place
+abbrev pub plain_matrix : List (List T) → ℕ → ℕ → ℕ → ℕ
+plain_matrix a i k = inverse_transform (matrix_residues a i k)

@@ -7,6 +7,7 @@
 pub mod fault;
 pub mod helpers;
 pub mod ntt;
+pub mod product;
 pub mod types;
 pub mod xof;
 

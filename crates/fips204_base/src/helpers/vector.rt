@@ -41,7 +41,7 @@ fn sum(v: &R, w: &R) -> R
 pub fn to_mont<const L: usize>(v: &[T; L]) -> [T; L]
     requires { AllWithin 67000000 v.now }
     ensures values { (i j : ℕ) → i < L → j < 256 → vector_residues result i j ≡ 4294967296 * vector_residues v.now i j % 8380417 }
-    ensures small { (i j : ℕ) → i < L → j < 256 → nat_abs (slice_index_or (slice_index_or result i T0).0 j (pos 0)) ≤ 8380416 }
+    ensures small { AllWithin 8380416 result }
 {
     let mut out = [T0; L];
     for i in 0..L {
@@ -54,7 +54,7 @@ pub fn to_mont<const L: usize>(v: &[T; L]) -> [T; L]
 fn transform_to_mont(t: &T) -> T
     requires { Within 67000000 t.now.0 }
     ensures values { (j : ℕ) → j < 256 → coefficients result.0 j ≡ 4294967296 * coefficients t.now.0 j % 8380417 }
-    ensures small { (j : ℕ) → j < 256 → nat_abs (slice_index_or result.0 j (pos 0)) ≤ 8380416 }
+    ensures small { Within 8380416 result.0 }
 {
     let mut out = [0; 256];
     for j in 0..256 {
@@ -80,7 +80,7 @@ pub fn mat_vec_mul<const K: usize, const L: usize>(a: &[[T; L]; K], u: &[T; L]) 
     requires matrix { All (AllWithin 8380416) a.now }
     requires vector { AllWithin 8380416 u.now }
     ensures values { (i j : ℕ) → i < K → j < 256 → vector_residues result i j ≡ sum_below L (λ k. matrix_residues a.now i k j * vector_residues u.now k j) % 8380417 }
-    ensures small { (i j : ℕ) → i < K → j < 256 → nat_abs (slice_index_or (slice_index_or result i T0).0 j (pos 0)) ≤ 8380416 }
+    ensures small { AllWithin 8380416 result }
 {
     let mut out = [T0; K];
     for i in 0..K {
@@ -95,7 +95,7 @@ fn row_sum<const L: usize>(row: &[T; L], u: &[T; L]) -> T
     requires row { AllWithin 8380416 row.now }
     requires vector { AllWithin 8380416 u.now }
     ensures values { (j : ℕ) → j < 256 → coefficients result.0 j ≡ sum_below L (λ k. vector_residues row.now k j * vector_residues u.now k j) % 8380417 }
-    ensures small { (j : ℕ) → j < 256 → nat_abs (slice_index_or result.0 j (pos 0)) ≤ 8380416 }
+    ensures small { Within 8380416 result.0 }
 {
     let mut out = [0; 256];
     for j in 0..256 {
