@@ -19,3 +19,17 @@ mod Pieces
 mod WorkedPacking
 mod PolynomialBytes
 mod PublicKeys
+pub mod Cases
+pub mod Residues
+pub mod Sums
+pub mod Integers
+pub mod Montgomery
+pub mod Roots
+pub mod Forward
+pub mod Backward
+pub mod Inverse
+pub mod Blocks
+pub mod Rows
+pub mod Products
+pub mod Laws
+pub mod Worked

@@ -4,6 +4,20 @@
 ghost use Rattle.std.specs.Prelude.{◌≡◌, ◌↔◌, ℤ, pos, ◌-ℤ◌, ◌≤ℤ◌, nat_abs, IsTrue};
 ghost use Rattle.fips204_base.specs.Packing.{InRange, bit_length};
 
+pub mod count;
+pub mod norm;
+pub mod reduce;
+pub mod residue;
+pub mod vector;
+pub mod zeta_table;
+
+pub use count::Count;
+pub use norm::infinity_norm;
+pub use reduce::{center_mod, full_reduce32, mont_reduce, partial_reduce32, partial_reduce64};
+pub use residue::Residue;
+pub use vector::{add_vector_ntt, mat_vec_mul, to_mont};
+pub use zeta_table::ZETA_TABLE_MONT;
+
 use crate::types::R;
 
 /// How many binary digits `x` has, for `x` from 1 on.

@@ -8,6 +8,8 @@ pub mod conversion;
 pub mod encodings;
 pub mod fault;
 pub mod helpers;
+pub mod ntt;
+pub mod product;
 pub mod types;
 pub mod xof;
 

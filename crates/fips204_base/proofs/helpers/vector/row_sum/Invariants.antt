@@ -1,0 +1,12 @@
+use Rattle.std.proofs.Common.{ℕ, ℤ, ◌≡◌, ◌<◌, ◌≤◌, ◌*◌, ◌%◌, get_or, pos, length}
+use Rattle.std.specs.Prelude.{nat_abs}
+use Rattle.fips204_base.specs.Residues.{coefficients, sum_below}
+use Rattle.fips204_base.specs.Polynomials.{vector_residues}
+use Rattle.fips204_base.proofs.helpers.vector.row_sum.Given as goal
+
+abbrev pub invariant-loop-j : goal.invariant-loop-j
+invariant-loop-j g l = record {
+  size : length l.out ≡ 256;
+  values : (p : ℕ) → p < l.j → coefficients l.out p ≡ sum_below g.row.L (λ k. vector_residues l.row k p * vector_residues l.u k p) % 8380417;
+  small : (p : ℕ) (d : ℤ) → p < l.j → nat_abs (get_or l.out p d) ≤ 8380416;
+}
