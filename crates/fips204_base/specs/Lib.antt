@@ -1,7 +1,17 @@
 pub mod Faults
 pub mod Streams
 pub mod Residues
+pub mod CentredValues
 pub mod Products
 pub mod Transforms
+pub mod Vectors
+pub mod Rounding
 pub mod Packing
+pub mod HintSpelling
 pub mod Encodings
+pub mod Coefficients
+pub mod Sampling
+pub mod MatrixEntry
+pub mod SmallPolynomial
+pub mod Challenge
+pub mod Mask

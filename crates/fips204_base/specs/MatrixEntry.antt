@@ -1,0 +1,23 @@
+-- The matrix (FIPS 204, Algorithms 30 and 32).
+use Rattle.std.specs.Prelude.{ℕ, ◌+◌, ◌*◌, ◌/◌, List, [], ◌∷◌, ◌++◌, ℤ, map, filter_map, Option, option_map, slice_index}
+use Rattle.std.specs.List.{range_with_len}
+use Rattle.fips204_base.specs.declared.types.T.{T}
+use Rattle.fips204_base.specs.Streams.{front_length}
+use Rattle.fips204_base.specs.Coefficients.{coefficient_from_three_bytes}
+use Rattle.fips204_base.specs.Sampling.{first_256, all_present}
+
+-- the coefficient that triple p of a front gives, if any
+unfoldable pub triple : List ℕ → ℕ → Option ℤ
+triple front p = coefficient_from_three_bytes (slice_index front (3 * p)) (slice_index front (3 * p + 1)) (slice_index front (3 * p + 2))
+
+-- the coefficients that the first n triples give
+unfoldable pub kept_triples : List ℕ → ℕ → List ℤ
+kept_triples front n = filter_map (triple front) (range_with_len 0 n)
+
+-- RejNTTPoly (Algorithm 30): the first 256 coefficients of the first 1024 triples, or none
+unfoldable pub matrix_entry : List ℕ → Option T
+matrix_entry front = option_map (λ values. record { 0 = values }) (first_256 (kept_triples front (front_length / 4)))
+
+-- ExpandA (Algorithm 32): at row r and column s the entry from G(rho, byte s, byte r); none where an entry is none
+unfoldable pub sampled_matrix : (List ℕ → List ℕ) → List ℕ → ℕ → ℕ → Option (List (List T))
+sampled_matrix G rho k l = all_present (map (λ r. all_present (map (λ s. matrix_entry (G (rho ++ s ∷ r ∷ []))) (range_with_len 0 l))) (range_with_len 0 k))

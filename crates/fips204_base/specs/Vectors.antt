@@ -1,0 +1,28 @@
+-- Vectors and matrices of polynomials (FIPS 204, sections 2.3 to 2.5).
+use Rattle.std.specs.Prelude.{ℕ, List, [], ℤ, map, slice_index_or}
+use Rattle.std.specs.List.{range_with_len}
+use Rattle.fips204_base.specs.declared.types.R.{R}
+use Rattle.fips204_base.specs.declared.types.T.{T}
+use Rattle.fips204_base.specs.Residues.{coefficients}
+use Rattle.fips204_base.specs.Products.{row_product}
+use Rattle.fips204_base.specs.Transforms.{inverse_transform}
+
+-- coefficient n of polynomial r of a vector, as a residue
+abbrev pub vector : List R → ℕ → ℕ → ℕ
+vector v r = coefficients (slice_index_or v r record { 0 = [] }).0
+
+-- the plain matrix of a matrix of transforms: at row r and column s the inverse transform of the entry there
+abbrev pub plain : List (List T) → ℕ → ℕ → ℕ → ℕ
+plain a r s = inverse_transform (coefficients (slice_index_or (slice_index_or a r []) s record { 0 = [] }).0)
+
+-- coefficient n of polynomial r of A v, where A is the plain matrix and v a vector of l polynomials
+abbrev pub matrix_product : ℕ → List (List T) → (ℕ → ℕ → ℕ) → ℕ → ℕ → ℕ
+matrix_product l a v r = row_product l (plain a r) v
+
+-- the polynomial whose coefficient n is f n
+unfoldable pub polynomial_of : (ℕ → ℤ) → R
+polynomial_of f = record { 0 = map f (range_with_len 0 256) }
+
+-- the vector of k polynomials whose coefficient n of polynomial r is f r n
+unfoldable pub vector_of : ℕ → (ℕ → ℕ → ℤ) → List R
+vector_of k f = map (λ r. polynomial_of (f r)) (range_with_len 0 k)
