@@ -4,6 +4,7 @@
 //! The crate `fips204` names every item here again; depend on that one.
 #![tactic(auto)]
 
+pub mod conversion;
 pub mod fault;
 pub mod types;
 pub mod xof;

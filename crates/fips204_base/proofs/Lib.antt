@@ -1,0 +1,3 @@
+pub mod HintPlaces
+pub mod HintPieces
+pub mod UniqueHint
