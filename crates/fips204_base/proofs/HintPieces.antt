@@ -39,24 +39,24 @@ length-hint_bytes o h few =
     let b = length-running_totals h in
     length-append (all_ones h ++ replicate (o - length (all_ones h)) 0) (running_totals h) ∙ omega (arith, a, b)
 
-pub pieces : (o : ℕ) (h : List R) (y : List ℕ) → Spells o h y → Pieces o h y
-pieces o h y s =
+pub pieces : (o k : ℕ) (h : List R) (y : List ℕ) → Spells o k h y → Pieces o h y
+pieces o k h y s =
     let size = length-front o h s.few in
     record {
       few = s.few;
-      places = ap (take o) s.spelling ∙ take_at (all_ones h ++ replicate (o - length (all_ones h)) 0) (running_totals h) o size;
+      places = ap (take o) (sym s.spelling) ∙ take_at (all_ones h ++ replicate (o - length (all_ones h)) 0) (running_totals h) o size;
       totals = λ i l.
-          let rest : drop o y ≡ running_totals h = ap (drop o) s.spelling ∙ drop_at (all_ones h ++ replicate (o - length (all_ones h)) 0) (running_totals h) o size in
+          let rest : drop o y ≡ running_totals h = ap (drop o) (sym s.spelling) ∙ drop_at (all_ones h ++ replicate (o - length (all_ones h)) 0) (running_totals h) o size in
           sym (get_or-drop o y i 0) ∙ ap (λ l. get_or l i 0) rest ∙ running_total h i l;
     }
 
-pub spelling : (o : ℕ) (h : List R) (y : List ℕ) → length y ≡ o + length h → Pieces o h y → y ≡ hint_bytes o h
+pub spelling : (o : ℕ) (h : List R) (y : List ℕ) → length y ≡ o + length h → Pieces o h y → hint_bytes o h ≡ y
 spelling o h y size p =
     let left = length-drop o y in
     let count = length-running_totals h in
     let rest : drop o y ≡ running_totals h = same_number_lists (drop o y) (running_totals h) (omega (arith, left, size, count))
     (λ k l. get_or-drop o y k 0 ∙ p.totals k (omega (arith, left, size, l)) ∙ sym (running_total h k (omega (arith, left, size, l)))) in
-    sym (take-append-drop o y) ∙ ap (λ l. l ++ drop o y) p.places ∙ ap (λ l. (all_ones h ++ replicate (o - length (all_ones h)) 0) ++ l) rest
+    ap (λ l. (all_ones h ++ replicate (o - length (all_ones h)) 0) ++ l) (sym rest) ∙ ap (λ l. l ++ drop o y) (sym p.places) ∙ take-append-drop o y
 
 -- the ones of one polynomial more
 pub ones_more : (h : List R) (i : ℕ) (d : R) → i < length h → all_ones (take (i + 1) h) ≡ all_ones (take i h) ++ ones (get_or h i d)
@@ -117,7 +117,7 @@ zero_rest o h y k p l u =
     ∙ get_or-append_right (all_ones h) (replicate (o - length (all_ones h)) 0) (length (all_ones h)) k 0 refl (omega (arith, a, l))
     ∙ get_or-replicate (o - length (all_ones h)) (k - length (all_ones h)) 0 0 (omega (arith, a, l, f, u))
 
--- ---- a spelling from its pieces
+-- ---- pieces put together
 
 take_join : (m n : ℕ) (y : List ℕ) → m ≤ n → take n y ≡ take m y ++ take (n - m) (drop m y)
 take_join m n y l =
@@ -142,10 +142,10 @@ totals_more h y o i end w size l e le whole so_far k kl = elim (cases_lt k i) [
       rw n (sym e ∙ sym (length-take-le end y le) ∙ ap length whole)
 ]
 
-pub spelt : (h : List R) (y : List ℕ) (o index : ℕ) → index ≤ o → length y ≡ o + length h → take index y ≡ all_ones h
+pub gathered : (h : List R) (y : List ℕ) (o index : ℕ) → index ≤ o → length y ≡ o + length h → take index y ≡ all_ones h
     → ((k : ℕ) → k < length h → get_or y (o + k) 0 ≡ length (all_ones (take (k + 1) h)))
-    → ((j : ℕ) → index ≤ j → j < o → get_or y j 0 ≡ 0) → Spells o h y
-spelt h y o index few size places totals zeros =
+    → ((j : ℕ) → index ≤ j → j < o → get_or y j 0 ≡ 0) → Pieces o h y
+gathered h y o index few size places totals zeros =
     let n : length (all_ones h) ≡ index = sym (ap length places) ∙ length-take-le index y (omega arith) in
     let tail : take (o - index) (drop index y) ≡ replicate (o - index) 0 =
     let ld = length-drop index y in
@@ -153,12 +153,11 @@ spelt h y o index few size places totals zeros =
     same_number_lists (take (o - index) (drop index y)) (replicate (o - index) 0) (lt ∙ sym (length-replicate (o - index) 0))
     (λ k l. get_or-take (o - index) (drop index y) k 0 (omega (arith, lt, l)) ∙ get_or-drop index y k 0 ∙ zeros (index + k) (omega arith) (omega (arith, lt, l))
     ∙ sym (get_or-replicate (o - index) k 0 0 (omega (arith, lt, l)))) in
-    let all : Pieces o h y = record {
+    record {
       few = omega (arith, n);
       places = take_join index o y few ∙ ap (λ x. x ++ take (o - index) (drop index y)) places ∙ ap (λ x. all_ones h ++ x) (tail ∙ ap (λ k. replicate (o - k) 0) (sym n));
       totals = totals;
-    } in
-    record { few = all.few; spelling = spelling o h y size all }
+    }
 
 -- the places of one polynomial more are written, and then its total
 pub written : (h : List R) (y z : List ℕ) (o i index end : ℕ) (d : R) → i < length h → o + i < length z → end ≤ o

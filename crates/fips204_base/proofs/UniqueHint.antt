@@ -8,7 +8,8 @@ use Rattle.std.proofs.lemmas.Bool.{cases_lt, cases_Bool}
 use Rattle.fips204_base.specs.declared.types.R.{R}
 use Rattle.fips204_base.specs.declared.types.TheConstants.{R0}
 use Rattle.fips204_base.specs.Packing.{InRange}
-use Rattle.fips204_base.specs.HintSpelling.{is_one, ones_below, ones, all_ones, hint_bytes, Spells, IsHint}
+use Rattle.fips204_base.specs.HintSpelling.{is_one, ones_below, ones, all_ones, hint_bytes, Spells}
+use Rattle.fips204_base.specs.Vectors.{IsVector}
 use Rattle.fips204_base.proofs.HintPlaces.{ones-keep, ones-skip, ones-within}
 use Rattle.fips204_base.proofs.HintPieces.{pieces, piece}
 
@@ -58,16 +59,18 @@ ones-polynomial v w m n a b e =
 -- ---- hints
 
 -- bytes spell at most one hint
-pub one_hint : (o k : ℕ) (g h : List R) (y : List ℕ) → IsHint k g → IsHint k h → Spells o g y → Spells o h y → g ≡ h
-one_hint o k g h y u v s t =
-    let n : length g ≡ length h = u.count ∙ sym v.count in
+pub one_hint : (o k : ℕ) (g h : List R) (y : List ℕ) → Spells o k g y → Spells o k h y → g ≡ h
+one_hint o k g h y s t =
+    let u = s.hint in
+    let v = t.hint in
+    let n : length g ≡ length h = u.polynomials ∙ sym v.polynomials in
     ext_get_or R0 g h n (λ i l.
     let m : i < length h = omega (arith, n, l) in
-    ones-polynomial (get_or g i R0) (get_or h i R0) (u.places i R0 l) (v.places i R0 m) (u.bits i R0 l) (v.bits i R0 m) (sym (piece o g y i (pieces o g y s) l) ∙ piece o h y i (pieces o h y t) m))
+    ones-polynomial (get_or g i R0) (get_or h i R0) (u.places i R0 l) (v.places i R0 m) (u.range i R0 l) (v.range i R0 m) (sym (piece o g y i (pieces o k g y s) l) ∙ piece o h y i (pieces o k h y t) m))
 
 -- a hint with at most omega ones has a spelling, and no other
-pub spelling_exists : (o : ℕ) (h : List R) → length (all_ones h) ≤ o → Spells o h (hint_bytes o h)
-spelling_exists o h few = record { few = few; spelling = refl }
+pub spelling_exists : (o k : ℕ) (h : List R) → IsVector k 0 1 h → length (all_ones h) ≤ o → Spells o k h (hint_bytes o h)
+spelling_exists o k h bits few = record { hint = bits; few = few; spelling = refl }
 
-pub one_spelling : (o : ℕ) (h : List R) (y z : List ℕ) → Spells o h y → Spells o h z → y ≡ z
-one_spelling o h y z s t = s.spelling ∙ sym t.spelling
+pub one_spelling : (o k : ℕ) (h : List R) (y z : List ℕ) → Spells o k h y → Spells o k h z → y ≡ z
+one_spelling o k h y z s t = sym s.spelling ∙ t.spelling

@@ -5,7 +5,9 @@
 #![tactic(auto)]
 
 pub mod conversion;
+pub mod encodings;
 pub mod fault;
+pub mod helpers;
 pub mod types;
 pub mod xof;
 

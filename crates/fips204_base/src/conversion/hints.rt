@@ -3,7 +3,7 @@
 
 ghost use Rattle.std.specs.Prelude.{◌≡◌, ◌<◌, ◌≤◌, ◌+◌, ◌≤ℤ◌, ℕ, List, pos, nat_abs, length, take, drop, ◌++◌, MatchOption};
 ghost use Rattle.std.specs.List.{All};
-ghost use Rattle.fips204_base.specs.HintSpelling.{IsHint, Spells, all_ones, hint_bytes, ones};
+ghost use Rattle.fips204_base.specs.HintSpelling.{Spells, all_ones, hint_bytes, ones};
 ghost use Rattle.fips204_base.specs.Packing.{InRange};
 
 use crate::types::{R, R0};
@@ -31,7 +31,7 @@ pub fn hint_bit_unpack<const K: usize>(omega: i32, y: &[u8]) -> Option<[R; K]>
     requires some { pos 1 ≤ℤ omega }
     requires sizes { nat_abs omega + K < 256 }
     requires room { length y.now ≡ nat_abs omega + K }
-    ensures { MatchOption result ((h : List R) → IsHint K h → Spells (nat_abs omega) h y.now → ⊥) (λ h. IsHint K h × Spells (nat_abs omega) h y.now) }
+    ensures { MatchOption result ((h : List R) → Spells (nat_abs omega) K h y.now → ⊥) (λ h. Spells (nat_abs omega) K h y.now) }
 {
     let limit = omega as usize;
     let mut h = [R0; K];

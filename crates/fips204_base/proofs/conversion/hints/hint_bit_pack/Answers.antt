@@ -1,9 +1,9 @@
-use Rattle.std.proofs.Common.{rules, arith, ◌≡◌, ◌+◌, nat_abs, take, [], ◌∙◌, ap, w32, to_z, of_z}
+use Rattle.std.proofs.Common.{rules, arith, ◌≡◌, ◌+◌, nat_abs, take, [], ◌∙◌, ap, sym, length, w32, to_z, of_z}
 use Rattle.std.specs.List.{flat_map}
 use Rattle.std.proofs.lemmas.Int.{to_z-of_z}
 use Rattle.std.proofs.lemmas.List.{take_all}
 use Rattle.fips204_base.specs.HintSpelling.{ones}
-use Rattle.fips204_base.proofs.HintPieces.{total_more, total_le, written, spelt}
+use Rattle.fips204_base.proofs.HintPieces.{total_more, total_le, written, gathered, spelling}
 use Rattle.fips204_base.proofs.conversion.hints.hint_bit_pack.Goals as goal
 
 pub put_places-index-requires : goal.put_places-index-requires
@@ -29,7 +29,8 @@ returns g c =
     let limit : nat_abs (to_z w32 (of_z w32 c.args.omega)) ≡ nat_abs c.args.omega = ap nat_abs O in
     let whole : take c.loop-i.i c.args.h.now ≡ c.args.h.now = take_all c.loop-i.i c.args.h.now (omega arith) in
     let le = total_le c.args.h.now c.loop-i.i in
-    let spells = spelt c.args.h.now c.loop-i.y (nat_abs (to_z w32 (of_z w32 c.args.omega))) c.loop-i.index (omega (arith, le, limit)) (search rules)
+    let size : length c.loop-i.y ≡ nat_abs (to_z w32 (of_z w32 c.args.omega)) + length c.args.h.now = search rules in
+    let pieces = gathered c.args.h.now c.loop-i.y (nat_abs (to_z w32 (of_z w32 c.args.omega))) c.loop-i.index (omega (arith, le, limit)) size
     (c.loop-i.invariant.places ∙ ap (flat_map ones) whole) (λ k l. c.loop-i.invariant.totals k (omega (arith, l))) c.loop-i.invariant.zeros in
-    let spelling = spells.spelling in
-    rw O at spelling
+    let same = spelling _ c.args.h.now c.loop-i.y size pieces in
+    sym (rw O at same)
