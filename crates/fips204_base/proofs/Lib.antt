@@ -14,3 +14,5 @@ mod Pieces
 mod WorkedPacking
 mod PolynomialBytes
 mod PublicKeys
+pub mod VectorBytes
+pub mod Signatures

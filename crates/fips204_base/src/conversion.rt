@@ -8,11 +8,10 @@ ghost use Rattle.fips204_base.specs.Packing.{Bounds, InRange, Packs, PacksAbove,
 mod coefficients;
 mod hints;
 
-pub use coefficients::{coeff_from_half_byte, coeff_from_three_bytes};
-pub use hints::{hint_bit_pack, hint_bit_unpack};
-
 use crate::helpers::{bit_length, is_in_range};
 use crate::types::R;
+pub use coefficients::{coeff_from_half_byte, coeff_from_three_bytes};
+pub use hints::{hint_bit_pack, hint_bit_unpack};
 
 /// How many bits the fields of coefficients in `[-a, b]` have.
 fn field_width(a: i32, b: i32) -> u32

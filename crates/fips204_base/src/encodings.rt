@@ -6,8 +6,12 @@ ghost use Rattle.std.specs.List.{All};
 ghost use Rattle.fips204_base.specs.Encodings.{public_key_bytes};
 ghost use Rattle.fips204_base.specs.Packing.{InRange, polynomial_bytes};
 
+mod signature;
+mod vectors;
+
 use crate::conversion::{simple_bit_pack, simple_bit_unpack};
 use crate::types::{R, R0};
+pub use signature::{sig_decode, w1_encode};
 
 /// `pkEncode` (Algorithm 22): a public key as bytes, `rho` and then the polynomials of `t1`, whose
 /// coefficients are in `[0, 1023]`. `PK_LEN` is `32 + 320 * K`.
