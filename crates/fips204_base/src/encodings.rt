@@ -11,7 +11,7 @@ mod vectors;
 
 use crate::conversion::{simple_bit_pack, simple_bit_unpack};
 use crate::types::{R, R0};
-pub use signature::{sig_decode, w1_encode};
+pub use signature::{sig_decode, sig_encode, w1_encode};
 
 /// `pkEncode` (Algorithm 22): a public key as bytes, `rho` and then the polynomials of `t1`, whose
 /// coefficients are in `[0, 1023]`. `PK_LEN` is `32 + 320 * K`.
