@@ -1,3 +1,6 @@
+pub mod HintPlaces
+pub mod HintPieces
+pub mod UniqueHint
 mod WorkedPolynomials
 mod WorkedRounding
 mod WorkedHints
@@ -33,3 +36,5 @@ pub mod Rows
 pub mod Products
 pub mod Laws
 pub mod Worked
+pub mod VectorBytes
+pub mod Signatures

@@ -6,8 +6,12 @@ ghost use Rattle.std.specs.List.{All};
 ghost use Rattle.fips204_base.specs.Encodings.{public_key_bytes};
 ghost use Rattle.fips204_base.specs.Packing.{InRange, polynomial_bytes};
 
+mod signature;
+mod vectors;
+
 use crate::conversion::{simple_bit_pack, simple_bit_unpack};
 use crate::types::{R, R0};
+pub use signature::{sig_decode, sig_encode, w1_encode};
 
 /// Writes `piece` from `at` on.
 fn write_at(out: &mut [u8], at: usize, piece: &[u8])

@@ -1,0 +1,105 @@
+-- The bytes of a vector, polynomial by polynomial.
+use Rattle.std.proofs.Common.{◌≡◌, ℕ, ◌+◌, ◌*◌, ◌^◌, ◌<◌, ◌≤◌, List, [], ◌∷◌, ◌++◌, ℤ, pos, ◌+ℤ◌, ◌-ℤ◌, ◌≤ℤ◌, nat_abs, length, length-append, append_assoc, take, drop, set, get_or, map, subst, ap, sym, ◌∙◌, arith}
+use Rattle.std.specs.List.{All, flat_map}
+use Rattle.std.proofs.lemmas.Int.{ints}
+use Rattle.std.proofs.lemmas.List.Elements.{All-take, All-head, All-tail, All-nil, All-cons}
+use Rattle.std.proofs.lemmas.Nat.{mul-le}
+use Rattle.std.proofs.lemmas.List.{take_more, take_more_set, take_all, take_at, drop_at, take-append-drop, length-take-le, flat_map_more}
+use Rattle.std.proofs.lemmas.List.Concat.{flat_map-append}
+use borrow.Rule.Slice.PartMut.{put_mid}
+use Rattle.fips204_base.specs.declared.types.R.{R}
+use Rattle.fips204_base.specs.Encodings.{vector_bytes}
+use Rattle.fips204_base.specs.Vectors.{IsVector}
+use Rattle.fips204_base.proofs.Pieces.{length-put_mid, put_piece}
+use Rattle.fips204_base.proofs.PolynomialBytes.{length-polynomial_bytes}
+use Rattle.fips204_base.specs.Packing.{Bounds, InRange, Unpacks, coefficient, field, polynomial_bytes, width}
+
+-- where there are as many fields as coefficients, each field is that of a coefficient in range
+whole_coefficient : (a b x : ℤ) (p : ℕ) → Bounds a b → pos p ≡ a +ℤ b +ℤ pos 1 → field a b x < p → coefficient a b (field a b x) ≡ x → ((pos 0 -ℤ a) ≤ℤ x) × (x ≤ℤ b)
+unfolding field coefficient
+whole_coefficient a b x p bounds whole small same = grind (arith, ints, bounds, whole, small, same)
+
+whole_range : (a b : ℤ) (w : List ℤ) → Bounds a b → pos (2 ^ width a b) ≡ a +ℤ b +ℤ pos 1 → All (λ f. f < 2 ^ width a b) (map (field a b) w)
+    → All (λ x. coefficient a b (field a b x) ≡ x) w → InRange (pos 0 -ℤ a) b w
+whole_range a b [] bounds whole small same = All-nil (λ (x : ℤ). ((pos 0 -ℤ a) ≤ℤ x) × (x ≤ℤ b))
+whole_range a b (x ∷ w) bounds whole small same =
+    let P = λ (f : ℕ). f < 2 ^ width a b in
+    let E = λ (y : ℤ). coefficient a b (field a b y) ≡ y in
+    let here = whole_coefficient a b x (2 ^ width a b) bounds whole (All-head P (field a b x) (map (field a b) w) small) (All-head E x w same) in
+    let rest = whole_range a b w bounds whole (All-tail P (field a b x) (map (field a b) w) small) (All-tail E x w same) in
+    All-cons (λ (y : ℤ). ((pos 0 -ℤ a) ≤ℤ y) × (y ≤ℤ b)) x w here rest
+
+pub unpacked_range : (a b : ℤ) (bytes : List ℕ) (w : List ℤ) → Bounds a b → pos (2 ^ width a b) ≡ a +ℤ b +ℤ pos 1 → Unpacks a b bytes w → InRange (pos 0 -ℤ a) b w
+unpacked_range a b bytes w bounds whole u = whole_range a b w bounds whole u.same_fields.small_fields u.coefficients
+
+-- piece i of n pieces of one size ends within them
+pub piece_within : (size i n len : ℕ) → len ≡ size * n → i < n → size * i + size ≤ len
+piece_within size i n len all h =
+    let l = mul-le size (i + 1) size n (omega arith) (omega arith) in
+    omega (arith, l, all)
+
+-- one polynomial more
+pub vector_more : (f : R → List ℕ) (v : List R) (i : ℕ) (d : R) → i < length v → flat_map f (take (i + 1) v) ≡ flat_map f (take i v) ++ f (get_or v i d)
+vector_more f v i d l = ap (flat_map f) (take_more v i d l) ∙ sym (flat_map_more f [] (take i v) (get_or v i d))
+
+pub vector_stored : (f : R → List ℕ) (v : List R) (i : ℕ) (w : R) → i < length v → flat_map f (take (i + 1) (set v i w)) ≡ flat_map f (take i v) ++ f w
+vector_stored f v i w l = ap (flat_map f) (take_more_set v i w l) ∙ sym (flat_map_more f [] (take i v) w)
+
+-- the bounds as natural numbers
+pub bytes_at_integers : (a b : ℤ) (v : List R) → Bounds a b → vector_bytes (nat_abs a) (nat_abs b) v ≡ flat_map (λ w. polynomial_bytes a b w.0) v
+bytes_at_integers a b v bounds =
+    let p : pos (nat_abs a) ≡ a = omega (arith, ints, bounds) in
+    let q : pos (nat_abs b) ≡ b = omega (arith, ints, bounds) in
+    ap (λ m. flat_map (λ (w : R). polynomial_bytes m (pos (nat_abs b)) w.0) v) p ∙ ap (λ m. flat_map (λ (w : R). polynomial_bytes a m w.0) v) q
+
+pub vector_at_integers : (n : ℕ) (a b : ℤ) (v : List R) → Bounds a b → length v ≡ n → All (λ w. length w.0 ≡ 256) v → All (λ w. InRange (pos 0 -ℤ a) b w.0) v
+    → IsVector n (nat_abs a) (nat_abs b) v
+vector_at_integers n a b v bounds count places range =
+    let p : a ≡ pos (nat_abs a) = omega (arith, ints, bounds) in
+    let q : b ≡ pos (nat_abs b) = omega (arith, ints, bounds) in
+    record {
+      polynomials = count;
+      places = places;
+      range = subst (λ m. All (λ (w : R). InRange (pos 0 -ℤ m) (pos (nat_abs b)) w.0) v) p (subst (λ m. All (λ (w : R). InRange (pos 0 -ℤ a) m w.0) v) q range);
+    }
+
+pub same_bounds : (n a b c d : ℕ) (v : List R) (bytes : List ℕ) → a ≡ c → b ≡ d → IsVector n a b v → vector_bytes a b v ≡ bytes → IsVector n c d v × (vector_bytes c d v ≡ bytes)
+same_bounds n a b c d v bytes p q vector packed =
+    subst (λ m. IsVector n c m v × (vector_bytes c m v ≡ bytes)) q (subst (λ m. IsVector n m b v × (vector_bytes m b v ≡ bytes)) p (vector, packed))
+
+pub range_at_integers : (a b : ℤ) (v : List R) → Bounds a b → All (λ w. InRange (pos 0 -ℤ pos (nat_abs a)) (pos (nat_abs b)) w.0) v → All (λ w. InRange (pos 0 -ℤ a) b w.0) v
+range_at_integers a b v bounds range =
+    let p : pos (nat_abs a) ≡ a = omega (arith, ints, bounds) in
+    let q : pos (nat_abs b) ≡ b = omega (arith, ints, bounds) in
+    subst (λ m. All (λ (w : R). InRange (pos 0 -ℤ m) b w.0) v) p (subst (λ m. All (λ (w : R). InRange (pos 0 -ℤ pos (nat_abs a)) m w.0) v) q range)
+
+length-vector : (a b : ℤ) (v : List R) → All (λ w. length w.0 ≡ 256) v → length (flat_map (λ w. polynomial_bytes a b w.0) v) ≡ 32 * width a b * length v
+length-vector a b [] h = omega arith
+length-vector a b (w ∷ v) h =
+    let P = λ (w : R). length w.0 ≡ 256 in
+    let here = length-polynomial_bytes a b w.0 (All-head P w v h) in
+    let rest = length-vector a b v (All-tail P w v h) in
+    length-append (polynomial_bytes a b w.0) (flat_map (λ (w : R). polynomial_bytes a b w.0) v) ∙ omega (arith, here, rest)
+
+pub length-vector_bytes : (a b : ℕ) (v : List R) → All (λ w. length w.0 ≡ 256) v → length (vector_bytes a b v) ≡ 32 * width (pos a) (pos b) * length v
+length-vector_bytes a b v h = length-vector (pos a) (pos b) v h
+
+-- the bytes of polynomial i
+pub vector_piece : (a b : ℤ) (v : List R) (bytes : List ℕ) (size i : ℕ) (d : R) → All (λ w. length w.0 ≡ 256) v → size ≡ 32 * width a b
+    → flat_map (λ w. polynomial_bytes a b w.0) v ≡ bytes → i < length v → take size (drop (size * i) bytes) ≡ polynomial_bytes a b (get_or v i d).0
+vector_piece a b v bytes size i d h size_is e l =
+    let f = λ (w : R). polynomial_bytes a b w.0 in
+    let count : length (take i v) ≡ i = length-take-le i v (omega arith) in
+    let front : length (flat_map f (take i v)) ≡ size * i = length-vector a b (take i v) (All-take (λ (w : R). length w.0 ≡ 256) i v h) ∙ ap (λ n. 32 * width a b * n) count ∙ ap (λ s. s * i) (sym size_is) in
+    let here : length (f (get_or v i d)) ≡ size = length-polynomial_bytes a b (get_or v i d).0 (h i d l) ∙ sym size_is in
+    let cut : bytes ≡ flat_map f (take i v) ++ (f (get_or v i d) ++ flat_map f (drop (i + 1) v)) =
+    sym e ∙ ap (flat_map f) (sym (take-append-drop (i + 1) v)) ∙ flat_map-append f (take (i + 1) v) (drop (i + 1) v)
+    ∙ ap (λ x. x ++ flat_map f (drop (i + 1) v)) (vector_more f v i d l) ∙ append_assoc (flat_map f (take i v)) (f (get_or v i d)) (flat_map f (drop (i + 1) v)) in
+    ap (λ x. take size (drop (size * i) x)) cut ∙ ap (take size) (drop_at (flat_map f (take i v)) (f (get_or v i d) ++ flat_map f (drop (i + 1) v)) (size * i) front)
+    ∙ take_at (f (get_or v i d)) (flat_map f (drop (i + 1) v)) size here
+
+-- the last piece is written after the front
+pub put_last : (a k : ℕ) (xs ys front : List ℕ) → length ys ≡ k → a + k ≡ length xs → take a xs ≡ front → put_mid a k xs ys ≡ front ++ ys
+put_last a k xs ys front e h before =
+    let size = length-put_mid a k xs ys e (omega (arith, h)) in
+    sym (take_all (a + k) (put_mid a k xs ys) (omega (arith, size, h))) ∙ put_piece a k (a + k) xs ys front e (omega (arith, h)) (omega arith) before
