@@ -6,6 +6,10 @@ pub mod Products
 pub mod Transforms
 pub mod Vectors
 pub mod Rounding
+pub mod Reductions
+pub mod Polynomials
+pub mod Lanes
+pub mod Network
 pub mod Packing
 pub mod HintSpelling
 pub mod Encodings

@@ -19,6 +19,10 @@ plus a b n = (a n + b n) % 8380417
 abbrev pub minus : (ℕ → ℕ) → (ℕ → ℕ) → ℕ → ℕ
 minus a b n = (a n + 8380416 * b n) % 8380417
 
+-- value i of the product of two transforms, value by value
+abbrev pub pointwise : (ℕ → ℕ) → (ℕ → ℕ) → ℕ → ℕ
+pointwise a b i = a i * b i % 8380417
+
 -- coefficient n of the product of a matrix's row with a vector, of l polynomials each
 unfoldable pub row_product : ℕ → (ℕ → ℕ → ℕ) → (ℕ → ℕ → ℕ) → ℕ → ℕ
 row_product l row v n = sum_below l (λ k. product (row k) (v k) n) % 8380417

@@ -8,8 +8,9 @@ ghost use Rattle.fips204_base.specs.Packing.{InRange};
 ghost use Rattle.fips204_base.specs.Vectors.{vector};
 ghost use Rattle.fips204_base.specs.Rounding.{power2round, high_bits, low_bits, make_hint, high_values, use_hint};
 
+use crate::helpers::full_reduce32;
 use crate::types::{R, R0, Zq};
-use crate::{D, Q};
+use crate::D;
 
 /// `Power2Round` (FIPS 204, Algorithm 35) of each coefficient, from 0 to `q - 1`: the high parts,
 /// from 0 to 1023, and the low parts, from -4095 to 4096.
@@ -48,13 +49,6 @@ fn power2round_coefficient(r: Zq) -> (Zq, Zq)
 {
     let high = (r + 4095) >> D;
     (high, r - (high << D))
-}
-
-fn full_reduce32(a: i32) -> i32
-    requires { nat_abs a < 2143289344 }
-    ensures { result ≡ pos (residue a) }
-{
-    a.rem_euclid(8380417)
 }
 
 /// `Decompose` (FIPS 204, Algorithm 36) of `r` modulo `q`, as the high and the low bits, where

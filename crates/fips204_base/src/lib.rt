@@ -5,6 +5,7 @@
 #![tactic(auto)]
 
 pub mod fault;
+pub mod helpers;
 pub mod high_low;
 pub mod types;
 pub mod xof;

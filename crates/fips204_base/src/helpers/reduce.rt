@@ -1,0 +1,101 @@
+//! Reductions modulo `q`.
+#![tactic(auto)]
+
+ghost use Rattle.std.specs.Prelude.{◌≡◌, ◌<◌, ◌≤◌, ◌+◌, ◌*◌, ◌/◌, ℤ, pos, ◌+ℤ◌, ◌-ℤ◌, ◌*ℤ◌, ◌≤ℤ◌, nat_abs};
+ghost use Rattle.std.specs.Int.{int_rem_euclid};
+ghost use Rattle.fips204_base.specs.Residues.{residue, Same, centred};
+ghost use Rattle.fips204_base.specs.Reductions.{IsMontgomery};
+
+/// `MontgomeryReduce` (FIPS 204, Algorithm 49): `a` times the inverse of `2^32` modulo `q`, strictly
+/// between `-q` and `q`, for `a` from `-2^31 q` to `(2^31 - 1) q`.
+pub fn mont_reduce(a: i64) -> i32
+    requires low { (pos 0 -ℤ pos 17996808470921216) ≤ℤ a }
+    requires high { a ≤ℤ pos 17996808462540799 }
+    ensures value { IsMontgomery a result }
+    ensures congruent { Same (4294967296 * residue result) (residue a) }
+    ensures small { nat_abs result ≤ 8380416 }
+{
+    let factor = signed_factor(low_word(a));
+    high_word(a - i64::from(factor) * 8380417)
+}
+
+/// The lowest 32 bits.
+fn low_word(a: i64) -> u32
+    ensures { int_rem_euclid a (pos 4294967296) ≡ pos result }
+{
+    (a.cast_unsigned() % 4294967296) as u32
+}
+
+/// The signed word whose product with `q` has the lowest 32 bits `low`; 58728449 is the inverse of
+/// `q` modulo `2^32`.
+fn signed_factor(low: u32) -> i32
+    ensures { int_rem_euclid (result *ℤ pos 8380417) (pos 4294967296) ≡ pos low }
+{
+    low.wrapping_mul(58728449).cast_signed()
+}
+
+/// The quotient of a multiple of `2^32`.
+fn high_word(a: i64) -> i32
+    requires whole { int_rem_euclid a (pos 4294967296) ≡ pos 0 }
+    ensures { a ≡ pos 4294967296 *ℤ result }
+{
+    (a >> 32) as i32
+}
+
+/// A number congruent to `a` and below `2 q` in absolute value, for `a` of an absolute value of at
+/// most `67000000 * 2^32`.
+pub fn partial_reduce64(a: i64) -> i32
+    requires { nat_abs a ≤ 287762808832000000 }
+    ensures congruent { residue result ≡ residue a }
+    ensures small { nat_abs result ≤ 8380416 }
+{
+    partial_reduce32(folded(folded(folded(a))) as i32)
+}
+
+/// A number congruent to `a` and smaller about a thousand times; `2^23` is 8191 modulo `q`.
+fn folded(a: i64) -> i64
+    requires { nat_abs a ≤ 287762808832000000 }
+    ensures congruent { residue result ≡ residue a }
+    ensures small { nat_abs result ≤ nat_abs a / 1024 + 8396800 }
+{
+    a - (a >> 23) * 8380417
+}
+
+/// A number congruent to `a` and below `q` in absolute value, for `a` below `2^31 - 2^22` in
+/// absolute value.
+pub fn partial_reduce32(a: i32) -> i32
+    requires { nat_abs a < 2143289344 }
+    ensures congruent { residue result ≡ residue a }
+    ensures small { nat_abs result ≤ 8380416 }
+{
+    a - ((a + 4194304) >> 23) * 8380417
+}
+
+/// `a` modulo `q`, from 0 to `q - 1`, for `a` below `2^31 - 2^22` in absolute value.
+pub fn full_reduce32(a: i32) -> i32
+    requires { nat_abs a < 2143289344 }
+    ensures { result ≡ pos (residue a) }
+{
+    let near = partial_reduce32(a);
+    if near < 0 {
+        near + 8380417
+    } else {
+        near
+    }
+}
+
+/// `m` modulo `q`, from `-(q - 1) / 2` to `(q - 1) / 2`, for `m` below `2^31 - 2^22` in absolute
+/// value.
+#[tactic(auto, unfolding(crate::specs::Residues::centred))]
+pub fn center_mod(m: i32) -> i32
+    requires { nat_abs m < 2143289344 }
+    ensures value { result ≡ centred m }
+    ensures small { nat_abs result ≤ 4190208 }
+{
+    let full = full_reduce32(m);
+    if full <= 4190208 {
+        full
+    } else {
+        full - 8380417
+    }
+}

@@ -1,0 +1,132 @@
+//! The values that the butterflies work on.
+#![tactic(auto)]
+
+ghost use Rattle.std.specs.Prelude.{◌≡◌, ℕ, ◌<◌, ◌≤◌, ◌+◌, ◌*◌, ◌%◌, ◌^◌, List, ℤ, pos, ◌+ℤ◌, ◌-ℤ◌, nat_abs};
+ghost use Rattle.fips204_base.specs.Residues.{residue, Same};
+ghost use Rattle.fips204_base.specs.Transforms.{zeta_at};
+ghost use Rattle.fips204_base.specs.Lanes.{lane};
+
+use crate::helpers::count::Count;
+use crate::helpers::reduce::mont_reduce;
+use crate::helpers::reduce::partial_reduce32;
+use crate::helpers::zeta_table::zeta_mont;
+
+/// A value that the butterflies work on, seen as a row of lanes, as many as its type has. Each
+/// operation works on every lane. Products, sums and differences raise the meter, which has to have
+/// room for them and which nothing here can make, copy or read.
+pub trait Residue: Copy {
+    /// What counts the steps.
+    type Meter;
+
+    ghost lanes: { Self → List ℤ };
+
+    ghost width: { ℕ };
+
+    ghost products: { Self.Meter → ℕ };
+
+    ghost sums: { Self.Meter → ℕ };
+
+    /// The sum, which has to fit `i32`.
+    fn add(self, other: Self, meter: &mut Self::Meter) -> Self
+        requires room { sums meter.old + 1 < 2 ^ 64 }
+        requires fits { (j : ℕ) → j < width → nat_abs (lane (lanes self) j +ℤ lane (lanes other) j) ≤ 2147483647 }
+        ensures value { (j : ℕ) → j < width → lane (lanes result) j ≡ lane (lanes self) j +ℤ lane (lanes other) j }
+        ensures products_same { products meter.new ≡ products meter.old }
+        ensures sums_up { sums meter.new ≡ sums meter.old + 1 };
+
+    /// The difference, which has to fit `i32`.
+    fn sub(self, other: Self, meter: &mut Self::Meter) -> Self
+        requires room { sums meter.old + 1 < 2 ^ 64 }
+        requires fits { (j : ℕ) → j < width → nat_abs (lane (lanes self) j -ℤ lane (lanes other) j) ≤ 2147483647 }
+        ensures value { (j : ℕ) → j < width → lane (lanes result) j ≡ lane (lanes self) j -ℤ lane (lanes other) j }
+        ensures products_same { products meter.new ≡ products meter.old }
+        ensures sums_up { sums meter.new ≡ sums meter.old + 1 };
+
+    /// The product with `zeta^BitRev8(m)` modulo `q`, below `q` in absolute value, for `m` below
+    /// 256.
+    fn mul_zeta(self, m: usize, meter: &mut Self::Meter) -> Self
+        requires room { products meter.old + 1 < 2 ^ 64 }
+        requires place { m < 256 }
+        ensures value { (j : ℕ) → j < width → Same (residue (lane (lanes result) j)) (zeta_at m * residue (lane (lanes self) j)) }
+        ensures small { (j : ℕ) → j < width → nat_abs (lane (lanes result) j) ≤ 8380416 }
+        ensures products_up { products meter.new ≡ products meter.old + 1 }
+        ensures sums_same { sums meter.new ≡ sums meter.old };
+
+    /// The product with `-zeta^BitRev8(m)` modulo `q`, below `q` in absolute value, for `m` below
+    /// 256.
+    fn mul_neg_zeta(self, m: usize, meter: &mut Self::Meter) -> Self
+        requires room { products meter.old + 1 < 2 ^ 64 }
+        requires place { m < 256 }
+        ensures value { (j : ℕ) → j < width → Same (residue (lane (lanes result) j)) (8380416 * (zeta_at m * residue (lane (lanes self) j))) }
+        ensures small { (j : ℕ) → j < width → nat_abs (lane (lanes result) j) ≤ 8380416 }
+        ensures products_up { products meter.new ≡ products meter.old + 1 }
+        ensures sums_same { sums meter.new ≡ sums meter.old };
+
+    /// A value congruent and below `q` in absolute value, for one below `2^31 - 2^22` in absolute
+    /// value.
+    fn reduce(self) -> Self
+        requires range { (j : ℕ) → j < width → nat_abs (lane (lanes self) j) < 2143289344 }
+        ensures value { (j : ℕ) → j < width → residue (lane (lanes result) j) ≡ residue (lane (lanes self) j) }
+        ensures small { (j : ℕ) → j < width → nat_abs (lane (lanes result) j) ≤ 8380416 };
+
+    /// The product with 8347681, the inverse of 256, modulo `q`, from 0 to `q - 1`.
+    fn finish(self) -> Self
+        ensures { (j : ℕ) → j < width → lane (lanes result) j ≡ pos (8347681 * residue (lane (lanes self) j) % 8380417) };
+}
+
+impl Residue for i32 {
+    ghost use Rattle.std.specs.Prelude.{◌∷◌, []};
+
+    type Meter = Count;
+
+    ghost lanes = { λ x. x ∷ [] };
+
+    ghost width = { 1 };
+
+    ghost products = { λ count. count.products };
+
+    ghost sums = { λ count. count.sums };
+
+    fn add(self, other: i32, meter: &mut Count) -> i32 {
+        meter.sums += 1;
+        self + other
+    }
+
+    fn sub(self, other: i32, meter: &mut Count) -> i32 {
+        meter.sums += 1;
+        self - other
+    }
+
+    fn mul_zeta(self, m: usize, meter: &mut Count) -> i32 {
+        meter.products += 1;
+        mont_product(self, zeta_mont(m))
+    }
+
+    fn mul_neg_zeta(self, m: usize, meter: &mut Count) -> i32 {
+        meter.products += 1;
+        mont_product(self, -zeta_mont(m))
+    }
+
+    fn reduce(self) -> i32 {
+        partial_reduce32(self)
+    }
+
+    fn finish(self) -> i32 {
+        // 8347681 * 2^32 is 16382 modulo q
+        let near = mont_product(self, 16382);
+        if near < 0 {
+            near + 8380417
+        } else {
+            near
+        }
+    }
+}
+
+/// The product times the inverse of `2^32` modulo `q`, below `q` in absolute value.
+fn mont_product(x: i32, factor: i32) -> i32
+    requires { nat_abs factor ≤ 8380416 }
+    ensures congruent { Same (4294967296 * residue result) (residue x * residue factor) }
+    ensures small { nat_abs result ≤ 8380416 }
+{
+    mont_reduce(i64::from(x) * i64::from(factor))
+}
