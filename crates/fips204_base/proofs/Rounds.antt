@@ -1,8 +1,9 @@
 -- Rounding: r is near the multiple k * 2 g, where k is the quotient (r + g - 1) / (2 g).
-use Rattle.std.proofs.Common.{◌≡◌, ◌≢◌, ℕ, ◌<◌, ◌≤◌, ◌+◌, ◌-◌, ◌*◌, ◌/◌, ◌%◌, ℤ, pos, ◌-ℤ◌, Bool, true, false, arith, sym, ap, ◌∙◌, inl, inr}
+use Rattle.std.proofs.Common.{◌≡◌, ◌≢◌, ℕ, zero, suc, ◌<◌, ◌≤◌, ◌+◌, ◌-◌, ◌*◌, ◌/◌, ◌%◌, ℤ, pos, negsuc, ◌+ℤ◌, ◌-ℤ◌, nat_abs, refl, Bool, true, false, arith, sym, ap, ◌∙◌, inl, inr}
 use Rattle.std.proofs.lemmas.Int.{ints}
-use Rattle.std.proofs.lemmas.Nat.{div-mul-add, mod-mul-add, div-add-mod', mod_below}
+use Rattle.std.proofs.lemmas.Nat.{div-mul-add, mod-mul-add, mul-le, div-add-mod', mod_below}
 use Rattle.std.proofs.lemmas.Bool.{cases_lt, le-leb, lt-leb, eq-eqb, ne_eqb, cases_eq}
+use Rattle.fips204_base.specs.Residues.{residue}
 use Rattle.fips204_base.specs.CentredValues.{centred}
 use Rattle.fips204_base.specs.Rounding.{multiple_below, decompose, high_bits, low_bits, high_values, use_hint}
 use Rattle.std.specs.Prelude.{◌⊎◌, ◌<ℤ◌, ◌≤ℤ◌, int_lt}
@@ -122,3 +123,114 @@ unfolding use_hint
 hint_down_round g r h one low first some = rw (one, not_above (low_bits g r) low) (remainder (high_bits g r + (high_values g - 1)) 0 (high_values g) (high_values g - 1) (omega arith) (omega arith))
 
 pub ruleset hinted = (hint_none, hint_up, hint_up_round, hint_down, hint_down_round)
+
+-- the nearest quotient: r is at most g above its multiple, and less than g below it
+nearest : (g r k : ℕ) → 0 < g → k ≡ (r + g - 1) / (2 * g) → (k * (2 * g) < r + g) × (r ≤ k * (2 * g) + g)
+nearest g r k p is =
+    let parts : (r + g - 1) / (2 * g) * (2 * g) + (r + g - 1) % (2 * g) ≡ r + g - 1 = div-add-mod' (r + g - 1) (2 * g) in
+    let below : (r + g - 1) % (2 * g) < 2 * g = mod_below (r + g - 1) (2 * g) (omega arith) in
+    rw is (omega arith, omega arith)
+
+-- where r stands: within g below q, with high bits 0; or near the multiple of its high bits
+pub record IsLast (g r : ℕ) : Type 0 where
+  pub high : high_bits g r ≡ 0
+  pub low : low_bits g r ≡ pos r -ℤ pos 8380417
+  pub near : 8380416 < r + g
+
+pub record IsNear (g r : ℕ) : Type 0 where
+  pub low : low_bits g r ≡ pos r -ℤ pos (high_bits g r * (2 * g))
+  pub above : high_bits g r * (2 * g) < r + g
+  pub below : r ≤ high_bits g r * (2 * g) + g
+
+pub decompose_sides : (g r : ℕ) → 0 < g → IsLast g r ⊎ IsNear g r
+decompose_sides g r p =
+    let k = (r + g - 1) / (2 * g) in
+    let here = nearest g r k p refl in
+    elim (cases_eq (k * (2 * g)) 8380416) [
+      | inl edge ↦ inl record {
+        high = high_edge g r k p refl edge;
+        low = low_edge g r k p refl edge ∙ omega (arith, ints, edge);
+        near = omega (arith, edge, here);
+      }
+      | inr other ↦
+          let high = high_other g r k p refl other in
+          inr record {
+            low = rw high (low_other g r k p refl other);
+            above = rw high here.0;
+            below = rw high here.1;
+          }
+    ]
+
+-- low bits are at most g in absolute value
+pub low_bits_near : (g r : ℕ) → 0 < g → r < 8380417 → nat_abs (low_bits g r) ≤ g
+low_bits_near g r p h = elim (decompose_sides g r p) [
+  | inl last ↦ rw last.low (omega (arith, ints, last.near))
+  | inr near ↦ rw near.low (omega (arith, ints, near.above, near.below))
+]
+
+-- the high and the low bits give r back
+pub decompose_back : (g r : ℕ) → 0 < g → r < 8380417 → residue (pos (high_bits g r * (2 * g)) +ℤ low_bits g r) ≡ r
+decompose_back g r p h = elim (decompose_sides g r p) [
+  | inl last ↦
+      let e : pos (0 * (2 * g)) +ℤ (pos r -ℤ pos 8380417) ≡ negsuc (8380416 - r) = omega (arith, ints) in
+      rw (last.high, last.low, e) (omega arith)
+  | inr near ↦
+      let e : pos (high_bits g r * (2 * g)) +ℤ (pos r -ℤ pos (high_bits g r * (2 * g))) ≡ pos r = omega (arith, ints) in
+      rw (near.low, e) (omega arith)
+]
+
+-- the multiple near r is the only one, so it has the high bits, but for the multiple q - 1
+pub high_bits_only : (g r h : ℕ) → 0 < g → h * (2 * g) < r + g → r ≤ h * (2 * g) + g → h * (2 * g) ≢ 8380416 → high_bits g r ≡ h
+high_bits_only g r h p above below other =
+    let e : r + g - 1 ≡ h * (2 * g) + (r + g - 1 - h * (2 * g)) = omega arith in
+    let k : (r + g - 1) / (2 * g) ≡ h = ap (λ n. n / (2 * g)) e ∙ div-mul-add h (2 * g) (r + g - 1 - h * (2 * g)) (omega arith) in
+    high_other g r h p (sym k) other
+
+-- less than g below q the high bits are 0, where q - 1 is a multiple
+pub high_bits_last : (g r m : ℕ) → 0 < g → m * (2 * g) ≡ 8380416 → 8380416 < r + g → r < 8380417 → high_bits g r ≡ 0
+high_bits_last g r m p whole near h =
+    let e : r + g - 1 ≡ m * (2 * g) + (r + g - 1 - m * (2 * g)) = omega (arith, whole) in
+    let k : (r + g - 1) / (2 * g) ≡ m = ap (λ n. n / (2 * g)) e ∙ div-mul-add m (2 * g) (r + g - 1 - m * (2 * g)) (omega (arith, whole)) in
+    high_edge g r m p (sym k) whole
+
+only_inside : (g r m h : ℕ) (l : ℤ) → 0 < g → m * (2 * g) ≡ 8380416 → h < m → pos 0 <ℤ (l +ℤ pos g) → l ≤ℤ pos g → pos r ≡ pos (h * (2 * g)) +ℤ l → (high_bits g r ≡ h) × (low_bits g r ≡ l)
+only_inside g r m h l p whole few above below is =
+    let room : (h + 1) * (2 * g) ≤ m * (2 * g) = mul-le (h + 1) (2 * g) m (2 * g) (omega arith) (omega arith) in
+    let high : high_bits g r ≡ h = high_bits_only g r h p (omega (arith, ints)) (omega (arith, ints)) (λ edge. omega arith) in
+    elim (decompose_sides g r p) [
+      | inl last ↦ absurd (omega (arith, ints, last.near))
+      | inr near ↦ (high, near.low ∙ (rw high (omega (arith, ints))))
+    ]
+
+only_last : (g r m : ℕ) (l : ℤ) → 0 < g → m * (2 * g) ≡ 8380416 → 0 < m → pos 0 <ℤ (l +ℤ pos g) → l <ℤ pos 0 → pos r ≡ pos 8380417 +ℤ l → (high_bits g r ≡ 0) × (low_bits g r ≡ l)
+only_last g r m l p whole some above below is =
+    let room : 1 * (2 * g) ≤ m * (2 * g) = mul-le 1 (2 * g) m (2 * g) (omega arith) (omega arith) in
+    let high : high_bits g r ≡ 0 = high_bits_last g r m p whole (omega (arith, ints)) (omega (arith, ints)) in
+    elim (decompose_sides g r p) [
+      | inl last ↦ (high, last.low ∙ omega (arith, ints))
+      | inr near ↦
+          let at_most : r ≤ 0 * (2 * g) + g = rw high at near.below in
+          absurd (omega (arith, ints))
+    ]
+
+-- r has the high bits h and the low bits l where it is h * 2 g + l modulo q, l is above -g and at most g, and h is below
+-- the number m of values
+pub decompose_only : (g r m h : ℕ) (l : ℤ) → 0 < g → m * (2 * g) ≡ 8380416 → h < m → pos 0 <ℤ (l +ℤ pos g) → l ≤ℤ pos g → residue (pos (h * (2 * g)) +ℤ l) ≡ r → (high_bits g r ≡ h) × (low_bits g r ≡ l)
+decompose_only g r m h (pos n) p whole few above below is =
+    let room : (h + 1) * (2 * g) ≤ m * (2 * g) = mul-le (h + 1) (2 * g) m (2 * g) (omega arith) (omega arith) in
+    let at_most : n ≤ g = omega (arith, ints) in
+    let same : r ≡ h * (2 * g) + n = omega arith in
+    only_inside g r m h (pos n) p whole few above below (omega (arith, ints))
+decompose_only g r m zero (negsuc n) p whole few above below is =
+    let room : 1 * (2 * g) ≤ m * (2 * g) = mul-le 1 (2 * g) m (2 * g) (omega arith) (omega arith) in
+    let at_most : n < g = omega (arith, ints) in
+    let sum : pos (0 * (2 * g)) +ℤ negsuc n ≡ negsuc n = omega (arith, ints) in
+    let rest : 8380416 - n % 8380417 ≡ r = rw sum at is in
+    only_last g r m (negsuc n) p whole (omega arith) above (omega (arith, ints)) (omega (arith, ints))
+decompose_only g r m (suc h) (negsuc n) p whole few above below is =
+    let room : (suc h + 1) * (2 * g) ≤ m * (2 * g) = mul-le (suc h + 1) (2 * g) m (2 * g) (omega arith) (omega arith) in
+    let at_most : n < g = omega (arith, ints) in
+    let sum : pos (suc h * (2 * g)) +ℤ negsuc n ≡ pos (suc h * (2 * g) - suc n) = omega (arith, ints) in
+    let rest : (suc h * (2 * g) - suc n) % 8380417 ≡ r = rw sum at is in
+    let same : r ≡ suc h * (2 * g) - suc n = omega arith in
+    only_inside g r m (suc h) (negsuc n) p whole few above below (omega (arith, ints))

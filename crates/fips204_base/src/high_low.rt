@@ -8,9 +8,9 @@ ghost use Rattle.fips204_base.specs.Packing.{InRange};
 ghost use Rattle.fips204_base.specs.Vectors.{vector};
 ghost use Rattle.fips204_base.specs.Rounding.{power2round, high_bits, low_bits, make_hint, high_values, use_hint};
 
+use crate::D;
 use crate::helpers::full_reduce32;
 use crate::types::{R, R0, Zq};
-use crate::D;
 
 /// `Power2Round` (FIPS 204, Algorithm 35) of each coefficient, from 0 to `q - 1`: the high parts,
 /// from 0 to 1023, and the low parts, from -4095 to 4096.
