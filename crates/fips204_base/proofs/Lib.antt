@@ -1,4 +1,5 @@
-mod Rounds
+pub mod Rounds
+pub mod VectorLists
 pub mod Cases
 pub mod Residues
 pub mod Sums

@@ -5,7 +5,7 @@ use Rattle.std.proofs.lemmas.Nat.{div-mul-add, mod-mul-add, mul-le, div-add-mod'
 use Rattle.std.proofs.lemmas.Bool.{cases_lt, le-leb, lt-leb, eq-eqb, ne_eqb, cases_eq}
 use Rattle.fips204_base.specs.Residues.{residue}
 use Rattle.fips204_base.specs.CentredValues.{centred}
-use Rattle.fips204_base.specs.Rounding.{multiple_below, decompose, high_bits, low_bits, high_values, use_hint}
+use Rattle.fips204_base.specs.Rounding.{power2round, multiple_below, decompose, high_bits, low_bits, high_values, use_hint}
 use Rattle.std.specs.Prelude.{◌⊎◌, ◌<ℤ◌, ◌≤ℤ◌, int_lt}
 
 -- the two reciprocals: 1488 * 11275 is 2^24 - 16, and 4092 * 1025 is 2^22 - 4
@@ -234,3 +234,13 @@ decompose_only g r m (suc h) (negsuc n) p whole few above below is =
     let rest : (suc h * (2 * g) - suc n) % 8380417 ≡ r = rw sum at is in
     let same : r ≡ suc h * (2 * g) - suc n = omega arith in
     only_inside g r m (suc h) (negsuc n) p whole few above below (omega (arith, ints))
+
+-- Power2Round: r1 is at most 1023, r0 is from -4095 to 4096, and they give r back
+pub power2round_high : (r : ℕ) → r < 8380417 → (power2round r).0 ≤ 1023
+power2round_high r h = rw (centred_is 4096 r (omega arith)) (omega (arith, ints))
+
+pub power2round_low : (r : ℕ) → r < 8380417 → ((pos 0 -ℤ pos 4095) ≤ℤ (power2round r).1) × ((power2round r).1 ≤ℤ pos 4096)
+power2round_low r h = rw (centred_is 4096 r (omega arith)) (omega (arith, ints), omega (arith, ints))
+
+pub power2round_back : (r : ℕ) → r < 8380417 → pos ((power2round r).0 * 8192) +ℤ (power2round r).1 ≡ pos r
+power2round_back r h = rw (centred_is 4096 r (omega arith)) (omega (arith, ints))
