@@ -1,5 +1,6 @@
 pub mod Rounds
 pub mod VectorLists
+pub mod HintLaws
 pub mod Cases
 pub mod Residues
 pub mod Sums

@@ -92,10 +92,10 @@ high_bits_below g r (inr is) h = rw is (below_16 r h)
       | inr other ↦ rw (high_other 261888 n ((n + 261887) / 523776) (omega arith) (omega arith) other) (omega arith)
     ]
 
-above : (z : ℤ) → pos 0 <ℤ z → int_lt (pos 0) z ≡ true
+pub above : (z : ℤ) → pos 0 <ℤ z → int_lt (pos 0) z ≡ true
 above z h = grind (arith, ints)
 
-not_above : (z : ℤ) → z ≤ℤ pos 0 → int_lt (pos 0) z ≡ false
+pub not_above : (z : ℤ) → z ≤ℤ pos 0 → int_lt (pos 0) z ≡ false
 not_above z h = grind (arith, ints)
 
 remainder : (n k m b : ℕ) → b < m → n ≡ k * m + b → n % m ≡ b
