@@ -4,7 +4,7 @@ use Rattle.std.specs.Prelude.{◌⊎◌, ◌<ℤ◌, ◌≤ℤ◌, nat_eq}
 use Rattle.std.proofs.lemmas.Int.{ints, by_lt_z}
 use Rattle.std.proofs.lemmas.Bool.{cases_eq, cases_lt, eq-eqb, ne_eqb, le-leb, lt-leb}
 use Rattle.fips204_base.specs.Residues.{residue}
-use Rattle.fips204_base.specs.CentredValues.{centred}
+use Rattle.fips204_base.specs.CentredValues.{centred_modulo}
 use Rattle.fips204_base.specs.Rounding.{high_bits, low_bits, high_values, use_hint, make_hint}
 use Rattle.fips204_base.proofs.Rounds.{IsLast, IsNear, decompose_sides, high_bits_below, above, not_above}
 
@@ -65,7 +65,7 @@ down_16 r z below small near low differs =
         | inr s_at ↦ omega (arith, ints, at.low, at.above, at.below, s_at.above, s_at.below) ] ]
 
 -- a residue whose centred value is at most g in absolute value
-near_zero : (g z : ℕ) → z < 8380417 → nat_abs (centred 8380417 z) ≤ g → (z ≤ g) ⊎ (8380417 ≤ z + g)
+near_zero : (g z : ℕ) → z < 8380417 → nat_abs (centred_modulo 8380417 z) ≤ g → (z ≤ g) ⊎ (8380417 ≤ z + g)
 near_zero g z small near = elim (cases_lt 4190208 (z % 8380417)) [
     inl far ↦
       let e = rw (lt-leb (z % 8380417) 4190208 far) at near in
@@ -92,12 +92,12 @@ hint_16 z r below small near = elim (cases_eq (high_bits 261888 r) (high_bits 26
         (λ up. rw (above (low_bits 261888 r) up) (up_16 r z below small near up differs))
         (λ down. rw (not_above (low_bits 261888 r) down) (down_16 r z below small near down differs))) ]
 
-pub use_hint_of_make_hint : (g z r : ℕ) → (g ≡ 95232) ⊎ (g ≡ 261888) → r < 8380417 → z < 8380417 → nat_abs (centred 8380417 z) ≤ g → use_hint g (make_hint g z r) r ≡ high_bits g ((r + z) % 8380417)
+pub use_hint_of_make_hint : (g z r : ℕ) → (g ≡ 95232) ⊎ (g ≡ 261888) → r < 8380417 → z < 8380417 → nat_abs (centred_modulo 8380417 z) ≤ g → use_hint g (make_hint g z r) r ≡ high_bits g ((r + z) % 8380417)
 use_hint_of_make_hint g z r (inl is) below small near = rw is (hint_44 z r below small (near_zero 95232 z small (rw is at near)))
 use_hint_of_make_hint g z r (inr is) below small near = rw is (hint_16 z r below small (near_zero 261888 z small (rw is at near)))
 
 -- a number at most n from 0 or from q has a centred value of at most n
-size_near : (x n : ℕ) → x < 8380417 → n ≤ 4190208 → (x ≤ n) ⊎ (8380417 ≤ x + n) → nat_abs (centred 8380417 x) ≤ n
+size_near : (x n : ℕ) → x < 8380417 → n ≤ 4190208 → (x ≤ n) ⊎ (8380417 ≤ x + n) → nat_abs (centred_modulo 8380417 x) ≤ n
 size_near x n small few (inl near) = rw (le-leb (x % 8380417) 4190208 (omega arith)) (omega (arith, ints))
 size_near x n small few (inr near) = elim (cases_lt 4190208 (x % 8380417)) [
     inl far ↦ rw (lt-leb (x % 8380417) 4190208 far) (omega (arith, ints))
@@ -182,7 +182,7 @@ unmoved : (g r : ℕ) → use_hint g false r ≡ high_bits g r
 unfolding use_hint
 unmoved g r = refl
 
-distance_none_44 : (r : ℕ) → r < 8380417 → nat_abs (centred 8380417 (residue (pos r -ℤ pos (use_hint 95232 false r * 190464)))) ≤ 95232
+distance_none_44 : (r : ℕ) → r < 8380417 → nat_abs (centred_modulo 8380417 (residue (pos r -ℤ pos (use_hint 95232 false r * 190464)))) ≤ 95232
 distance_none_44 r below =
     let moved = unmoved 95232 r in
     let fits = high_bits_below 95232 r (inl refl) below in
@@ -190,7 +190,7 @@ distance_none_44 r below =
     let small = residue_small (pos r -ℤ pos (use_hint 95232 false r * 190464)) in
     size_near x 95232 small (omega arith) (far_none_44 r (use_hint 95232 false r) x below moved (difference r (use_hint 95232 false r * 190464) below (omega arith)) small)
 
-distance_hint_44 : (r : ℕ) → r < 8380417 → nat_abs (centred 8380417 (residue (pos r -ℤ pos (use_hint 95232 true r * 190464)))) ≤ 190465
+distance_hint_44 : (r : ℕ) → r < 8380417 → nat_abs (centred_modulo 8380417 (residue (pos r -ℤ pos (use_hint 95232 true r * 190464)))) ≤ 190465
 distance_hint_44 r below =
     let x = residue (pos r -ℤ pos (use_hint 95232 true r * 190464)) in
     let small = residue_small (pos r -ℤ pos (use_hint 95232 true r * 190464)) in
@@ -202,7 +202,7 @@ distance_hint_44 r below =
         let moved = moved_down 95232 r down in
         size_near x 190465 small (omega arith) (far_down_44 r (use_hint 95232 true r) x below down moved (difference r (use_hint 95232 true r * 190464) below (omega arith)) small))
 
-distance_none_16 : (r : ℕ) → r < 8380417 → nat_abs (centred 8380417 (residue (pos r -ℤ pos (use_hint 261888 false r * 523776)))) ≤ 261888
+distance_none_16 : (r : ℕ) → r < 8380417 → nat_abs (centred_modulo 8380417 (residue (pos r -ℤ pos (use_hint 261888 false r * 523776)))) ≤ 261888
 distance_none_16 r below =
     let moved = unmoved 261888 r in
     let fits = high_bits_below 261888 r (inr refl) below in
@@ -210,7 +210,7 @@ distance_none_16 r below =
     let small = residue_small (pos r -ℤ pos (use_hint 261888 false r * 523776)) in
     size_near x 261888 small (omega arith) (far_none_16 r (use_hint 261888 false r) x below moved (difference r (use_hint 261888 false r * 523776) below (omega arith)) small)
 
-distance_hint_16 : (r : ℕ) → r < 8380417 → nat_abs (centred 8380417 (residue (pos r -ℤ pos (use_hint 261888 true r * 523776)))) ≤ 523777
+distance_hint_16 : (r : ℕ) → r < 8380417 → nat_abs (centred_modulo 8380417 (residue (pos r -ℤ pos (use_hint 261888 true r * 523776)))) ≤ 523777
 distance_hint_16 r below =
     let x = residue (pos r -ℤ pos (use_hint 261888 true r * 523776)) in
     let small = residue_small (pos r -ℤ pos (use_hint 261888 true r * 523776)) in
@@ -223,10 +223,10 @@ distance_hint_16 r below =
         size_near x 523777 small (omega arith) (far_down_16 r (use_hint 261888 true r) x below down moved (difference r (use_hint 261888 true r * 523776) below (omega arith)) small))
 
 -- r less its high bits, moved by no hint, times 2 gamma2 is at most gamma2 in size, and moved by a hint at most 2 gamma2 + 1
-pub use_hint_distance_none : (g r : ℕ) → (g ≡ 95232) ⊎ (g ≡ 261888) → r < 8380417 → nat_abs (centred 8380417 (residue (pos r -ℤ pos (use_hint g false r * (2 * g))))) ≤ g
+pub use_hint_distance_none : (g r : ℕ) → (g ≡ 95232) ⊎ (g ≡ 261888) → r < 8380417 → nat_abs (centred_modulo 8380417 (residue (pos r -ℤ pos (use_hint g false r * (2 * g))))) ≤ g
 use_hint_distance_none g r (inl is) below = rw is (distance_none_44 r below)
 use_hint_distance_none g r (inr is) below = rw is (distance_none_16 r below)
 
-pub use_hint_distance_hint : (g r : ℕ) → (g ≡ 95232) ⊎ (g ≡ 261888) → r < 8380417 → nat_abs (centred 8380417 (residue (pos r -ℤ pos (use_hint g true r * (2 * g))))) ≤ 2 * g + 1
+pub use_hint_distance_hint : (g r : ℕ) → (g ≡ 95232) ⊎ (g ≡ 261888) → r < 8380417 → nat_abs (centred_modulo 8380417 (residue (pos r -ℤ pos (use_hint g true r * (2 * g))))) ≤ 2 * g + 1
 use_hint_distance_hint g r (inl is) below = rw is (distance_hint_44 r below)
 use_hint_distance_hint g r (inr is) below = rw is (distance_hint_16 r below)

@@ -1,5 +1,4 @@
 pub mod Rounds
-pub mod VectorLists
 pub mod HintLaws
 pub mod Cases
 pub mod Residues
@@ -13,3 +12,24 @@ pub mod Inverse
 pub mod Products
 pub mod Laws
 pub mod Worked
+mod WorkedPolynomials
+mod WorkedRounding
+mod WorkedHints
+mod WorkedSamplers
+mod Samplings
+mod Masks
+mod Centring
+mod VectorsOf
+mod Challenges
+mod Hints
+mod Spellings
+mod EncodedParts
+mod Decomposed
+pub mod Reading
+mod Bits
+mod Fields
+mod Packings
+mod Pieces
+mod WorkedPacking
+mod PolynomialBytes
+mod PublicKeys

@@ -4,7 +4,7 @@ use Rattle.std.proofs.lemmas.Int.{ints}
 use Rattle.std.proofs.lemmas.Nat.{div-mul-add, mod-mul-add, mul-le, div-add-mod', mod_below}
 use Rattle.std.proofs.lemmas.Bool.{cases_lt, le-leb, lt-leb, eq-eqb, ne_eqb, cases_eq}
 use Rattle.fips204_base.specs.Residues.{residue}
-use Rattle.fips204_base.specs.CentredValues.{centred}
+use Rattle.fips204_base.specs.CentredValues.{centred_modulo}
 use Rattle.fips204_base.specs.Rounding.{power2round, multiple_below, decompose, high_bits, low_bits, high_values, use_hint}
 use Rattle.std.specs.Prelude.{◌⊎◌, ◌<ℤ◌, ◌≤ℤ◌, int_lt}
 
@@ -30,7 +30,7 @@ rounds_up g a s p h =
     rw e (div-mul-add (a + 1) (2 * g) (s - g - 1) (omega arith))
 
 -- what is left of r is centred
-pub centred_is : (g r : ℕ) → 0 < g → centred (2 * g) r ≡ pos r -ℤ pos ((r + g - 1) / (2 * g) * (2 * g))
+pub centred_is : (g r : ℕ) → 0 < g → centred_modulo (2 * g) r ≡ pos r -ℤ pos ((r + g - 1) / (2 * g) * (2 * g))
 centred_is g r p =
     let parts = div-add-mod' r (2 * g) in
     let below = mod_below r (2 * g) (omega arith) in

@@ -1,21 +1,21 @@
 -- Rounding and hints (FIPS 204, Algorithms 35 to 40). Each r and z is a residue, from 0 to q - 1.
 use Rattle.std.specs.Prelude.{ℕ, ◌+◌, ◌-◌, ◌*◌, ◌/◌, ◌%◌, ℤ, pos, ◌-ℤ◌, nat_abs, Bool, not, if◌then◌else◌, nat_eq, int_lt}
-use Rattle.fips204_base.specs.CentredValues.{centred}
+use Rattle.fips204_base.specs.CentredValues.{centred_modulo}
 
 -- Power2Round (Algorithm 35): (r1, r0), where r0 is r centred modulo 2^13 and r1 is (r - r0) / 2^13
 abbrev pub power2round : ℕ → ℕ × ℤ
-power2round r = (nat_abs (pos r -ℤ centred 8192 r) / 8192, centred 8192 r)
+power2round r = (nat_abs (pos r -ℤ centred_modulo 8192 r) / 8192, centred_modulo 8192 r)
 
 -- r - r0, where r0 is r centred modulo 2 gamma2: a multiple of 2 gamma2
 abbrev pub multiple_below : ℕ → ℕ → ℕ
-multiple_below gamma2 r = nat_abs (pos r -ℤ centred (2 * gamma2) r)
+multiple_below gamma2 r = nat_abs (pos r -ℤ centred_modulo (2 * gamma2) r)
 
 -- Decompose (Algorithm 36): (r1, r0), where r0 is r centred modulo 2 gamma2 and r1 is (r - r0) / (2 gamma2);
 -- but where r - r0 is q - 1, r1 is 0 and r0 is one less
 unfoldable pub decompose : ℕ → ℕ → ℕ × ℤ
 decompose gamma2 r =
-    if nat_eq (multiple_below gamma2 r) 8380416 then (0, centred (2 * gamma2) r -ℤ pos 1)
-    else (multiple_below gamma2 r / (2 * gamma2), centred (2 * gamma2) r)
+    if nat_eq (multiple_below gamma2 r) 8380416 then (0, centred_modulo (2 * gamma2) r -ℤ pos 1)
+    else (multiple_below gamma2 r / (2 * gamma2), centred_modulo (2 * gamma2) r)
 
 -- HighBits (Algorithm 37)
 abbrev pub high_bits : ℕ → ℕ → ℕ
@@ -33,9 +33,10 @@ make_hint gamma2 z r = not (nat_eq (high_bits gamma2 r) (high_bits gamma2 ((r + 
 abbrev pub high_values : ℕ → ℕ
 high_values gamma2 = 8380416 / (2 * gamma2)
 
--- UseHint (Algorithm 40): the high bits of r, which a hint moves one up where r0 > 0 and else one down, modulo the number of values
+-- UseHint (Algorithm 40): without a hint the high bits of r; with one they go one up where r0 > 0 and else one down,
+-- modulo the number of values
 unfoldable pub use_hint : ℕ → Bool → ℕ → ℕ
 use_hint gamma2 hint r =
-    if hint then (if int_lt (pos 0) (low_bits gamma2 r) then (high_bits gamma2 r + 1) % high_values gamma2
-        else (high_bits gamma2 r + (high_values gamma2 - 1)) % high_values gamma2)
-    else high_bits gamma2 r
+    if not hint then high_bits gamma2 r
+    else if int_lt (pos 0) (low_bits gamma2 r) then (high_bits gamma2 r + 1) % high_values gamma2
+    else (high_bits gamma2 r + (high_values gamma2 - 1)) % high_values gamma2

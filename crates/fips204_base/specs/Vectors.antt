@@ -1,23 +1,31 @@
 -- Vectors and matrices of polynomials (FIPS 204, sections 2.3 to 2.5).
-use Rattle.std.specs.Prelude.{ℕ, List, [], ℤ, map, slice_index_or}
-use Rattle.std.specs.List.{range_with_len}
+use Rattle.std.specs.Prelude.{◌≡◌, ℕ, List, [], ℤ, pos, ◌-ℤ◌, length, map, slice_index_or}
+use Rattle.std.specs.List.{All, range_with_len}
 use Rattle.fips204_base.specs.declared.types.R.{R}
 use Rattle.fips204_base.specs.declared.types.T.{T}
+use Rattle.fips204_base.specs.declared.types.TheConstants.{R0, T0}
+use Rattle.fips204_base.specs.Packing.{InRange}
 use Rattle.fips204_base.specs.Residues.{coefficients}
 use Rattle.fips204_base.specs.Products.{row_product}
 use Rattle.fips204_base.specs.Transforms.{inverse_transform}
 
--- coefficient n of polynomial r of a vector, as a residue
-abbrev pub vector : List R → ℕ → ℕ → ℕ
-vector v r = coefficients (slice_index_or v r record { 0 = [] }).0
+-- a vector of so many polynomials, with coefficients from -a to b
+pub record IsVector (count a b : ℕ) (v : List R) : Type 0 where
+  pub rows : length v ≡ count
+  pub places : All (λ w. length w.0 ≡ 256) v
+  pub range : All (λ w. InRange (pos 0 -ℤ pos a) (pos b) w.0) v
 
--- the plain matrix of a matrix of transforms: at row r and column s the inverse transform of the entry there
-abbrev pub plain : List (List T) → ℕ → ℕ → ℕ → ℕ
-plain a r s = inverse_transform (coefficients (slice_index_or (slice_index_or a r []) s record { 0 = [] }).0)
+-- the residues of a vector of polynomials, by row and place
+abbrev pub vector_coefficients : List R → ℕ → ℕ → ℕ
+vector_coefficients v i = coefficients (slice_index_or v i R0).0
+
+-- the plain matrix of a matrix of transforms, by row, column and place: the inverse transform of each entry
+abbrev pub plain_matrix : List (List T) → ℕ → ℕ → ℕ → ℕ
+plain_matrix a i k = inverse_transform (coefficients (slice_index_or (slice_index_or a i []) k T0).0)
 
 -- coefficient n of polynomial r of A v, where A is the plain matrix and v a vector of l polynomials
 abbrev pub matrix_product : ℕ → List (List T) → (ℕ → ℕ → ℕ) → ℕ → ℕ → ℕ
-matrix_product l a v r = row_product l (plain a r) v
+matrix_product l a v r = row_product l (plain_matrix a r) v
 
 -- the polynomial whose coefficient n is f n
 unfoldable pub polynomial_of : (ℕ → ℤ) → R

@@ -5,7 +5,7 @@ ghost use Rattle.std.specs.Prelude.{◌≡◌, ◌⊎◌, ◌<◌, ◌≤◌, �
 ghost use Rattle.std.specs.List.{All};
 ghost use Rattle.fips204_base.specs.Residues.{residue};
 ghost use Rattle.fips204_base.specs.Packing.{InRange};
-ghost use Rattle.fips204_base.specs.Vectors.{vector};
+ghost use Rattle.fips204_base.specs.Vectors.{vector_coefficients};
 ghost use Rattle.fips204_base.specs.Rounding.{power2round, high_bits, low_bits, make_hint, high_values, use_hint};
 
 use crate::D;
@@ -16,8 +16,8 @@ use crate::types::{R, R0, Zq};
 /// from 0 to 1023, and the low parts, from -4095 to 4096.
 pub fn power2round<const K: usize>(r: &[R; K]) -> ([R; K], [R; K])
     requires { All (λ w. InRange (pos 0) (pos 8380416) w.0) r.now }
-    ensures high { (i j : ℕ) → i < K → j < 256 → slice_index_or (slice_index_or result.0 i R0).0 j (pos 0) ≡ pos (power2round (vector r.now i j)).0 }
-    ensures low { (i j : ℕ) → i < K → j < 256 → slice_index_or (slice_index_or result.1 i R0).0 j (pos 0) ≡ (power2round (vector r.now i j)).1 }
+    ensures high { (i j : ℕ) → i < K → j < 256 → slice_index_or (slice_index_or result.0 i R0).0 j (pos 0) ≡ pos (power2round (vector_coefficients r.now i j)).0 }
+    ensures low { (i j : ℕ) → i < K → j < 256 → slice_index_or (slice_index_or result.1 i R0).0 j (pos 0) ≡ (power2round (vector_coefficients r.now i j)).1 }
 {
     let mut high = [R0; K];
     let mut low = [R0; K];

@@ -4,6 +4,8 @@
 //! The crate `fips204` names every item here again; depend on that one.
 #![tactic(auto)]
 
+pub mod conversion;
+pub mod encodings;
 pub mod fault;
 pub mod helpers;
 pub mod high_low;
