@@ -1,6 +1,20 @@
 pub mod HintPlaces
 pub mod HintPieces
 pub mod UniqueHint
+pub mod Rounds
+pub mod HintLaws
+pub mod Cases
+pub mod Residues
+pub mod Sums
+pub mod Integers
+pub mod Montgomery
+pub mod Roots
+pub mod Forward
+pub mod Backward
+pub mod Inverse
+pub mod Products
+pub mod Laws
+pub mod Worked
 mod WorkedPolynomials
 mod WorkedRounding
 mod WorkedHints

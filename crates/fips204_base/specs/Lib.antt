@@ -11,6 +11,7 @@ pub mod Reductions
 pub mod Products
 pub mod Transforms
 pub mod Counts
+pub mod Polynomials
 pub mod Lanes
 pub mod Network
 pub mod Polynomials

@@ -8,6 +8,7 @@ pub mod conversion;
 pub mod encodings;
 pub mod fault;
 pub mod helpers;
+pub mod high_low;
 pub mod ntt;
 pub mod product;
 pub mod types;

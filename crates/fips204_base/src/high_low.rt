@@ -1,0 +1,168 @@
+//! Rounding and hints (FIPS 204, Algorithms 35 to 40).
+#![tactic(auto)]
+
+ghost use Rattle.std.specs.Prelude.{◌≡◌, ◌⊎◌, ◌<◌, ◌≤◌, ◌+◌, ◌-◌, ◌*◌, ◌/◌, ℕ, ℤ, pos, ◌≤ℤ◌, nat_abs, int_lt, slice_index_or};
+ghost use Rattle.std.specs.List.{All};
+ghost use Rattle.fips204_base.specs.Residues.{residue};
+ghost use Rattle.fips204_base.specs.Packing.{InRange};
+ghost use Rattle.fips204_base.specs.Vectors.{vector_coefficients};
+ghost use Rattle.fips204_base.specs.Rounding.{power2round, high_bits, low_bits, make_hint, high_values, use_hint};
+
+use crate::D;
+use crate::helpers::full_reduce32;
+use crate::types::{R, R0, Zq};
+
+/// `Power2Round` (FIPS 204, Algorithm 35) of each coefficient, from 0 to `q - 1`: the high parts,
+/// from 0 to 1023, and the low parts, from -4095 to 4096.
+pub fn power2round<const K: usize>(r: &[R; K]) -> ([R; K], [R; K])
+    requires { All (λ w. InRange (pos 0) (pos 8380416) w.0) r.now }
+    ensures high { (i j : ℕ) → i < K → j < 256 → slice_index_or (slice_index_or result.0 i R0).0 j (pos 0) ≡ pos (power2round (vector_coefficients r.now i j)).0 }
+    ensures low { (i j : ℕ) → i < K → j < 256 → slice_index_or (slice_index_or result.1 i R0).0 j (pos 0) ≡ (power2round (vector_coefficients r.now i j)).1 }
+{
+    let mut high = [R0; K];
+    let mut low = [R0; K];
+    for i in 0..K {
+        power2round_polynomial(&r[i], &mut high[i], &mut low[i]);
+    }
+    (high, low)
+}
+
+/// `power2round` of one polynomial.
+fn power2round_polynomial(r: &R, high: &mut R, low: &mut R)
+    requires { InRange (pos 0) (pos 8380416) r.now.0 }
+    ensures high { (j : ℕ) → j < 256 → slice_index_or high.new.0 j (pos 0) ≡ pos (power2round (residue (slice_index_or r.now.0 j (pos 0)))).0 }
+    ensures low { (j : ℕ) → j < 256 → slice_index_or low.new.0 j (pos 0) ≡ (power2round (residue (slice_index_or r.now.0 j (pos 0)))).1 }
+{
+    for j in 0..256 {
+        let (top, rest) = power2round_coefficient(r.0[j]);
+        high.0[j] = top;
+        low.0[j] = rest;
+    }
+}
+
+/// `power2round` of one coefficient.
+fn power2round_coefficient(r: Zq) -> (Zq, Zq)
+    requires low { pos 0 ≤ℤ r }
+    requires high { r ≤ℤ pos 8380416 }
+    ensures high { result.0 ≡ pos (power2round (residue r)).0 }
+    ensures low { result.1 ≡ (power2round (residue r)).1 }
+{
+    let high = (r + 4095) >> D;
+    (high, r - (high << D))
+}
+
+/// `Decompose` (FIPS 204, Algorithm 36) of `r` modulo `q`, as the high and the low bits, where
+/// `gamma2` is 95232 or 261888 and `r` is below `2^31 - 2^22` in absolute value. The high bits are
+/// from 0 to 43 or to 15, the low bits from `-gamma2` to `gamma2`.
+pub fn decompose(gamma2: i32, r: Zq) -> (Zq, Zq)
+    requires set { (gamma2 ≡ pos 95232) ⊎ (gamma2 ≡ pos 261888) }
+    requires range { nat_abs r < 2143289344 }
+    ensures high { result.0 ≡ pos (high_bits (nat_abs gamma2) (residue r)) }
+    ensures low { result.1 ≡ low_bits (nat_abs gamma2) (residue r) }
+{
+    decompose_residue(gamma2 as u32, full_reduce32(r) as u32)
+}
+
+/// `decompose` of a residue.
+#[tactic(auto, using(crate::proofs::Rounds::decomposed))]
+fn decompose_residue(gamma2: u32, r: u32) -> (Zq, Zq)
+    requires set { (gamma2 ≡ 95232) ⊎ (gamma2 ≡ 261888) }
+    requires range { r < 8380417 }
+    ensures high { result.0 ≡ pos (high_bits gamma2 r) }
+    ensures low { result.1 ≡ low_bits gamma2 r }
+{
+    let quotient = nearest_quotient(gamma2, r);
+    let multiple = quotient * (2 * gamma2);
+    let low = r as i32 - multiple as i32;
+    if multiple == 8380416 {
+        (0, low - 1)
+    } else {
+        (quotient as i32, low)
+    }
+}
+
+/// The quotient of `r` by `2 gamma2` that is nearest, the lower one of two. The reciprocals are of
+/// `2 gamma2 / 128`: `1488 * 11275` is `2^24 - 16`, and `4092 * 1025` is `2^22 - 4`.
+#[tactic(auto, using(crate::proofs::Rounds::reciprocal_95232, crate::proofs::Rounds::reciprocal_261888))]
+fn nearest_quotient(gamma2: u32, r: u32) -> u32
+    requires set { (gamma2 ≡ 95232) ⊎ (gamma2 ≡ 261888) }
+    requires range { r < 8380417 }
+    ensures { result ≡ (r + gamma2 - 1) / (2 * gamma2) }
+{
+    let blocks = (r + 127) >> 7;
+    if gamma2 == 95232 {
+        (blocks * 11275 + (1 << 23)) >> 24
+    } else {
+        (blocks * 1025 + (1 << 21)) >> 22
+    }
+}
+
+/// `HighBits` (FIPS 204, Algorithm 37), under the conditions of `decompose`.
+pub fn high_bits(gamma2: i32, r: Zq) -> Zq
+    requires set { (gamma2 ≡ pos 95232) ⊎ (gamma2 ≡ pos 261888) }
+    requires range { nat_abs r < 2143289344 }
+    ensures { result ≡ pos (high_bits (nat_abs gamma2) (residue r)) }
+{
+    decompose(gamma2, r).0
+}
+
+/// `LowBits` (FIPS 204, Algorithm 38), under the conditions of `decompose`.
+pub fn low_bits(gamma2: i32, r: Zq) -> Zq
+    requires set { (gamma2 ≡ pos 95232) ⊎ (gamma2 ≡ pos 261888) }
+    requires range { nat_abs r < 2143289344 }
+    ensures { result ≡ low_bits (nat_abs gamma2) (residue r) }
+{
+    decompose(gamma2, r).1
+}
+
+/// `MakeHint` (FIPS 204, Algorithm 39): whether the high bits of `r + z` are others than those of
+/// `r`, where `gamma2` is 95232 or 261888 and `z` and `r` are at most 1071644671 in absolute value.
+pub fn make_hint(gamma2: i32, z: Zq, r: Zq) -> bool
+    requires set { (gamma2 ≡ pos 95232) ⊎ (gamma2 ≡ pos 261888) }
+    requires z { nat_abs z ≤ 1071644671 }
+    requires r { nat_abs r ≤ 1071644671 }
+    ensures { result ≡ make_hint (nat_abs gamma2) (residue z) (residue r) }
+{
+    high_bits(gamma2, r) != high_bits(gamma2, r + z)
+}
+
+/// `UseHint` (FIPS 204, Algorithm 40): the high bits of `r`, which a hint moves by one, up where the
+/// low bits are above 0 and else down, and round at the ends. `h` is 0 or 1, and the conditions of
+/// `decompose` hold.
+pub fn use_hint(gamma2: i32, h: Zq, r: Zq) -> Zq
+    requires set { (gamma2 ≡ pos 95232) ⊎ (gamma2 ≡ pos 261888) }
+    requires hint { (h ≡ pos 0) ⊎ (h ≡ pos 1) }
+    requires range { nat_abs r < 2143289344 }
+    ensures { result ≡ pos (use_hint (nat_abs gamma2) (int_lt (pos 0) h) (residue r)) }
+{
+    use_hint_residue(gamma2 as u32, h > 0, full_reduce32(r) as u32)
+}
+
+/// `use_hint` of a residue.
+#[tactic(auto, using(crate::proofs::Rounds::hinted, crate::proofs::Rounds::high_bits_below))]
+fn use_hint_residue(gamma2: u32, hint: bool, r: u32) -> Zq
+    requires set { (gamma2 ≡ 95232) ⊎ (gamma2 ≡ 261888) }
+    requires range { r < 8380417 }
+    ensures { result ≡ pos (use_hint gamma2 hint r) }
+{
+    let (high, low) = decompose_residue(gamma2, r);
+    if !hint {
+        return high;
+    }
+    let last = high_values(gamma2) - 1;
+    if low > 0 {
+        if high == last { 0 } else { high + 1 }
+    } else if high == 0 {
+        last
+    } else {
+        high - 1
+    }
+}
+
+/// How many values high bits have: `(q - 1) / (2 gamma2)`.
+fn high_values(gamma2: u32) -> Zq
+    requires { (gamma2 ≡ 95232) ⊎ (gamma2 ≡ 261888) }
+    ensures { result ≡ pos (high_values gamma2) }
+{
+    if gamma2 == 95232 { 44 } else { 16 }
+}
