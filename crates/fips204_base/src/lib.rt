@@ -5,6 +5,7 @@
 #![tactic(auto)]
 
 pub mod fault;
+pub mod hashing;
 pub mod types;
 pub mod xof;
 

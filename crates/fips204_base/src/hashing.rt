@@ -1,0 +1,7 @@
+//! Samplers: the matrix, the secret vectors, the challenge and the mask from streams (FIPS 204,
+//! section 7.3).
+#![tactic(auto)]
+
+mod matrix;
+
+pub use matrix::rej_ntt_poly;

@@ -1,0 +1,64 @@
+//! The matrix, from the stream in the place of SHAKE128.
+#![tactic(auto)]
+
+ghost use Rattle.std.specs.Prelude.{◌≡◌, ◌<◌, ◌≤◌, ◌++◌, length, take, ok_or, slice_index};
+ghost use Rattle.std.specs.List.{flat_map};
+ghost use Rattle.fips204_base.specs.Coefficients.{coefficient_from_three_bytes};
+ghost use Rattle.fips204_base.specs.MatrixEntry.{kept_triples, matrix_entry};
+
+use crate::fault::Fault;
+use crate::types::{T, T0};
+use crate::xof::{Xof, XofReader};
+
+/// `CoeffFromThreeBytes` (Algorithm 14).
+fn coeff_from_three_bytes(bytes: [u8; 3]) -> Option<i32>
+    ensures { result ≡ coefficient_from_three_bytes (slice_index bytes 0) (slice_index bytes 1) (slice_index bytes 2) }
+{
+    let [b0, b1, b2] = bytes;
+    let value = b0 as u32 + 256 * b1 as u32 + 65536 * (b2 % 128) as u32;
+    if value < 8380417 {
+        Some(value as i32)
+    } else {
+        None
+    }
+}
+
+/// Puts the coefficients that the 64 triples of `piece` give into `values` from place `kept` on, as
+/// many as have room, and answers how many there are then.
+fn keep_triples(piece: &[u8; 192], values: &mut [i32; 256], kept: usize) -> usize
+    requires room { kept < 256 }
+    ensures count { result ≤ 256 }
+    ensures kept { take result values.new ≡ take 256 (take kept values.old ++ kept_triples piece.now 64) }
+{
+    let mut count = kept;
+    for p in 0..64usize {
+        let triple = [piece[3 * p], piece[3 * p + 1], piece[3 * p + 2]];
+        if let Some(coefficient) = coeff_from_three_bytes(triple) {
+            values[count] = coefficient;
+            count += 1;
+            if count == 256 {
+                return count;
+            }
+        }
+    }
+    count
+}
+
+/// `RejNTTPoly` (Algorithm 30): a matrix entry from the joined `parts`. Refuses with `SamplingLimit`
+/// where the first 1024 triples of the stream give fewer than 256 coefficients.
+pub fn rej_ntt_poly<G: Xof>(parts: &[&[u8]]) -> Result<T, Fault>
+    ensures { result ≡ ok_or (matrix_entry (G.front (flat_map (λ part. part.now) parts.now))) Fault.SamplingLimit }
+{
+    let mut reader = G::open(parts);
+    let mut values = [0i32; 256];
+    let mut count = 0;
+    for _piece in 0..16usize {
+        let mut piece = [0u8; 192];
+        reader.read(&mut piece);
+        count = keep_triples(&piece, &mut values, count);
+        if count == 256 {
+            return Ok(T(values));
+        }
+    }
+    Err(Fault::SamplingLimit)
+}
