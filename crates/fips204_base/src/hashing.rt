@@ -4,4 +4,4 @@
 
 mod matrix;
 
-pub use matrix::rej_ntt_poly;
+pub use matrix::{expand_a, rej_ntt_poly};

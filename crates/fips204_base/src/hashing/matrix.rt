@@ -1,10 +1,11 @@
 //! The matrix, from the stream in the place of SHAKE128.
 #![tactic(auto)]
 
-ghost use Rattle.std.specs.Prelude.{◌≡◌, ◌<◌, ◌≤◌, ◌++◌, length, take, ok_or, slice_index};
-ghost use Rattle.std.specs.List.{flat_map};
+ghost use Rattle.std.specs.Prelude.{◌≡◌, ◌<◌, ◌≤◌, ◌++◌, ◌∷◌, [], length, map, take, ok_or, slice_index};
+ghost use Rattle.std.specs.List.{flat_map, range_with_len};
 ghost use Rattle.fips204_base.specs.Coefficients.{coefficient_from_three_bytes};
-ghost use Rattle.fips204_base.specs.MatrixEntry.{kept_triples, matrix_entry};
+ghost use Rattle.fips204_base.specs.Sampling.{all_present};
+ghost use Rattle.fips204_base.specs.MatrixEntry.{kept_triples, matrix_entry, sampled_matrix};
 
 use crate::fault::Fault;
 use crate::types::{T, T0};
@@ -61,4 +62,32 @@ pub fn rej_ntt_poly<G: Xof>(parts: &[&[u8]]) -> Result<T, Fault>
         }
     }
     Err(Fault::SamplingLimit)
+}
+
+/// Row `r` of the matrix.
+fn expand_row<const L: usize, G: Xof>(rho: &[u8; 32], r: u8) -> Result<[T; L], Fault>
+    requires { L ≤ 7 }
+    ensures { result ≡ ok_or (all_present (map (λ s. matrix_entry (G.front (rho.now ++ s ∷ r ∷ []))) (range_with_len 0 L))) Fault.SamplingLimit }
+{
+    let mut row = [T0; L];
+    for s in 0..L {
+        row[s] = rej_ntt_poly::<G>(&[rho.as_slice(), &[s as u8], &[r]])?;
+    }
+    Ok(row)
+}
+
+/// `ExpandA` (Algorithm 32): the matrix of transforms, with the entry at row `r` and column `s` from
+/// `rho`, byte `s` and byte `r`. `K` and `L` are those of a parameter set. Refuses with
+/// `SamplingLimit` where an entry passes its limit.
+pub fn expand_a<const K: usize, const L: usize, G: Xof>(
+    rho: &[u8; 32],
+) -> Result<[[T; L]; K], Fault>
+    requires shape { (K ≤ 8) × (L ≤ 7) }
+    ensures { result ≡ ok_or (sampled_matrix G.front rho.now K L) Fault.SamplingLimit }
+{
+    let mut matrix = [[T0; L]; K];
+    for r in 0..K {
+        matrix[r] = expand_row::<L, G>(rho, r as u8)?;
+    }
+    Ok(matrix)
 }
