@@ -3,6 +3,7 @@ use Rattle.std.proofs.Common.{◌≡◌, ℕ, ℤ, pos, ◌+ℤ◌, zero, suc, �
 use Rattle.std.specs.Prelude.{if◌then◌else◌, nat_eq, nat_le, nat_lt, ◌≢◌}
 use Rattle.std.specs.List.{All}
 use Rattle.std.proofs.lemmas.Int.{ints}
+use Rattle.std.proofs.lemmas.List.Elements.{All-append, All-tail}
 use Rattle.std.proofs.lemmas.Bool.{cases_lt}
 use Rattle.std.proofs.lemmas.Bool.Decides.{nat_tests}
 use Rattle.fips204_base.specs.Challenge.{picks, moved, places, sign, signed_sum}
@@ -49,3 +50,56 @@ pub length-places : (i : ℕ) (before : List ℕ) → length (places i before) �
 unfolding places
 length-places i [] = refl
 length-places i (p ∷ before) = ap suc (length-places (i + 1) before)
+
+moved_below : (ps : List ℕ) (i j : ℕ) → All (λ p. p < i) ps → All (λ p. p < i + 1) (map (moved_once i j) ps)
+moved_below ps i j h = λ k d l. ?
+
+one_below : (i j : ℕ) → j ≤ i → All (λ p. p < i + 1) (j ∷ [])
+one_below i j l = λ k d h. ?
+
+-- all places of earlier coefficients are below the next
+pub below-push : (ps : List ℕ) (i j : ℕ) → j ≤ i → All (λ p. p < i) ps → All (λ p. p < i + 1) (map (moved_once i j) ps ++ j ∷ [])
+below-push ps i j l h = All-append (λ p. p < i + 1) (map (moved_once i j) ps) (j ∷ []) (moved_below ps i j h) (one_below i j l)
+
+-- what a sum is at a number
+
+sum-push : (ps bits : List ℕ) (p n : ℕ) → length ps < length bits
+    → signed_sum (ps ++ p ∷ []) bits n ≡ signed_sum ps bits n +ℤ (if nat_eq p n then sign (get_or bits (length ps) 0) else pos 0)
+unfolding signed_sum
+sum-push [] [] p n l = absurd (omega (arith, l))
+sum-push [] (b ∷ bits) p n l = omega (arith, ints)
+sum-push (q ∷ ps) [] p n l = absurd (omega (arith, l))
+sum-push (q ∷ ps) (b ∷ bits) p n l =
+    let rest = sum-push ps bits p n (omega (arith, l)) in
+    rw rest (omega (arith, ints))
+
+-- places that are moved, and a number that is at a place after the move where another was before it
+sum-moved : (f : ℕ → ℕ) (ps bits : List ℕ) (n m : ℕ) → All (λ p. nat_eq (f p) n ≡ nat_eq p m) ps → signed_sum (map f ps) bits n ≡ signed_sum ps bits m
+unfolding signed_sum
+sum-moved f [] bits n m h = refl
+sum-moved f (p ∷ ps) [] n m h = refl
+sum-moved f (p ∷ ps) (b ∷ bits) n m h =
+    let here : nat_eq (f p) n ≡ nat_eq p m = h 0 0 (omega arith) in
+    let rest = sum-moved f ps bits n m (All-tail (λ p. nat_eq (f p) n ≡ nat_eq p m) p ps h) in
+    rw (here, rest) refl
+
+-- no place is at the number
+sum-none : (ps bits : List ℕ) (n : ℕ) → All (λ p. nat_eq p n ≡ false) ps → signed_sum ps bits n ≡ pos 0
+unfolding signed_sum
+sum-none [] bits n h = refl
+sum-none (p ∷ ps) [] n h = refl
+sum-none (p ∷ ps) (b ∷ bits) n h =
+    let here : nat_eq p n ≡ false = h 0 0 (omega arith) in
+    let rest = sum-none ps bits n (All-tail (λ p. nat_eq p n ≡ false) p ps h) in
+    rw (here, rest) (omega (arith, ints))
+
+-- a place after the pick of i, where it was below i before it
+
+moved-at_pick : (i j p : ℕ) → p < i → nat_eq (moved_once i j p) j ≡ false
+moved-at_pick i j p l = grind (arith, nat_tests)
+
+moved-at_next : (i j p : ℕ) → p < i → nat_eq (moved_once i j p) i ≡ nat_eq p j
+moved-at_next i j p l = grind (arith, nat_tests)
+
+moved-elsewhere : (i j p n : ℕ) → n ≢ i → n ≢ j → nat_eq (moved_once i j p) n ≡ nat_eq p n
+moved-elsewhere i j p n a b = grind (arith, nat_tests)
