@@ -1,4 +1,12 @@
+mod Bits
+mod Fields
 pub mod Keeping
+mod Packings
+mod Pieces
 pub mod Places
+mod PolynomialBytes
 pub mod Present
+mod PublicKeys
+mod SignBits
 pub mod Triples
+mod WorkedPacking

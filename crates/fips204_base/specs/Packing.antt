@@ -1,6 +1,6 @@
 -- Bits, fields and bytes (FIPS 204, Algorithms 9 to 13 and 16 to 19).
-use Rattle.std.specs.Prelude.{◌≡◌, ◌<◌, ◌≤◌, ◌*◌, ◌/◌, ◌%◌, ◌+◌, ◌^◌, ℕ, zero, suc, List, [], ◌∷◌, ℤ, pos, ◌+ℤ◌, ◌-ℤ◌, ◌≤ℤ◌, nat_abs, length, map, take, drop, count_by, nat_le, if◌then◌else◌, int_lt}
-use Rattle.std.specs.List.{All, flat_map, range_with_len}
+use Rattle.std.specs.Prelude.{◌≡◌, ◌<◌, ◌*◌, ◌/◌, ◌%◌, ◌+◌, ◌^◌, ℕ, zero, suc, List, [], ◌∷◌, ℤ, pos, ◌+ℤ◌, ◌-ℤ◌, ◌≤ℤ◌, ◌<ℤ◌, nat_abs, length, map, take, drop, count_by, nat_le, if◌then◌else◌, int_lt}
+use Rattle.std.specs.List.{All, Any, flat_map, range_with_len}
 
 -- IntegerToBits (Algorithm 9): the w binary digits of a number, lowest first
 unfoldable pub integer_to_bits : ℕ → ℕ → List ℕ
@@ -57,3 +57,16 @@ Bounds a b = (pos 0 ≤ℤ a) × (a ≤ℤ pos 1048575) × (pos 1 ≤ℤ b) × (
 -- the bytes of a polynomial with coefficients from -a to b: SimpleBitPack and BitPack (Algorithms 16 and 17)
 abbrev pub polynomial_bytes : ℤ → ℤ → List ℤ → List ℕ
 polynomial_bytes a b w = packed (width a b) (map (field a b) w)
+
+-- SimpleBitUnpack and BitUnpack (Algorithms 18 and 19): the bytes pack the fields of 256 coefficients, each the one that its field has
+pub record Unpacks (a b : ℤ) (bytes : List ℕ) (w : List ℤ) : Type 0 where
+  pub same_fields : Packs (width a b) bytes (map (field a b) w)
+  pub count : length w ≡ 256
+  pub coefficients : All (λ x. coefficient a b (field a b x) ≡ x) w
+
+-- the bytes pack 256 fields of c bits each, and one of them is above b
+pub record PacksAbove (b : ℤ) (c : ℕ) (bytes : List ℕ) : Type 0 where
+  pub fields : List ℕ
+  pub same_fields : Packs c bytes fields
+  pub count : length fields ≡ 256
+  pub above : Any (λ field. b <ℤ pos field) fields

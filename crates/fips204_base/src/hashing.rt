@@ -2,6 +2,8 @@
 //! section 7.3).
 #![tactic(auto)]
 
+mod challenge;
 mod matrix;
 
+pub use challenge::sample_in_ball;
 pub use matrix::{expand_a, rej_ntt_poly};

@@ -4,8 +4,11 @@
 //! The crate `fips204` names every item here again; depend on that one.
 #![tactic(auto)]
 
+pub mod conversion;
+pub mod encodings;
 pub mod fault;
 pub mod hashing;
+pub mod helpers;
 pub mod types;
 pub mod xof;
 

@@ -1,0 +1,184 @@
+-- How many bits a number has, and the field of a coefficient.
+use Rattle.std.proofs.Common.{◌≡◌, ℕ, true, false, cond, nat_le, zero, suc, ◌+◌, ◌*◌, ◌^◌, ◌<◌, ◌≤◌, List, [], ◌∷◌, ◌++◌, ℤ, pos, ◌+ℤ◌, ◌-ℤ◌, ◌≤ℤ◌, ◌<ℤ◌, nat_abs, length, take, set, map, refl, ap, sym, ◌∙◌, subst, arith, append-nil, ◌⊎◌, inl, inr}
+use Rattle.std.specs.List.{All, Any, range_with_len, count_by}
+use Rattle.std.specs.Int.{leading_zeros, w32}
+use Rattle.std.proofs.lemmas.Bool.{cases_lt}
+use Rattle.std.proofs.lemmas.Bool.Decides.{nat_tests}
+use Rattle.std.proofs.lemmas.Int.{ints, by_lt_z}
+use Rattle.std.proofs.lemmas.List.{take_more_set, map_push, take_all, length-map}
+use Rattle.std.proofs.lemmas.List.Sums.{sum_by-cons}
+use Rattle.std.proofs.lemmas.List.Elements.{All-map, All-weaker, All-push, All-nil, All-cons, All-head, All-tail}
+use Rattle.std.proofs.lemmas.Nat.{leading_length}
+use Rattle.std.proofs.Math.Nat.{pow-succ', pow-le-pow_right}
+use Rattle.fips204_base.specs.Packing.{Bounds, InRange, PacksAbove, Unpacks, bit_length, bits, coefficient, field, integer_to_bits, width}
+use Rattle.fips204_base.proofs.Bits.{all_taken, digits-zero}
+
+-- the powers of two that are at most a number of c digits, counted from 2 ^ s on
+
+powers_none : (x c s n : ℕ) → x < 2 ^ c → c ≤ s → count_by (λ k. nat_le (2 ^ k) x) (range_with_len s n) ≡ 0
+powers_none x c s zero small past = refl
+powers_none x c s (suc n) small past =
+    let above : 2 ^ c ≤ 2 ^ s = pow-le-pow_right (omega arith) {i = c} {j = s} past in
+    let here : nat_le (2 ^ s) x ≡ false = grind (arith, nat_tests) in
+    sum_by-cons (λ k. cond (nat_le (2 ^ k) x) 1 0) s (range_with_len (s + 1) n) ∙ rw here (omega (arith, powers_none x c (s + 1) n small (omega arith)))
+
+powers_from : (x c s n : ℕ) → x < 2 ^ c → 2 ^ c ≤ 2 * x + 1 → s ≤ c → c ≤ s + n → s + count_by (λ k. nat_le (2 ^ k) x) (range_with_len s n) ≡ c
+powers_from x c s zero small large past room = omega arith
+powers_from x c s (suc n) small large past room = elim (cases_lt s c) [
+  | inl below ↦
+      let power : 2 ^ suc s ≤ 2 ^ c = pow-le-pow_right (omega arith) {i = suc s} {j = c} (omega arith) in
+      let twice : 2 ^ suc s ≡ 2 * 2 ^ s = pow-succ' 2 s in
+      let le : 2 ^ s ≤ x = omega (arith, power, twice) in
+      let here : nat_le (2 ^ s) x ≡ true = grind (arith, nat_tests) in
+      let rest = powers_from x c (s + 1) n small large (omega arith) (omega arith) in
+      let all = sum_by-cons (λ k. cond (nat_le (2 ^ k) x) 1 0) s (range_with_len (s + 1) n) in
+      let more = rw here at all in
+      omega (arith, more, rest)
+  | inr none ↦ omega (arith, powers_none x c s (suc n) small none)
+]
+
+pub bit_length-unique : (n c : ℕ) → c ≤ 32 → n < 2 ^ c → 2 ^ c ≤ 2 * n + 1 → bit_length n ≡ c
+unfolding bit_length
+bit_length-unique n c few low high = let all = powers_from n c 0 32 low high (omega arith) (omega arith) in omega (arith, all)
+
+pub bit_length-leading : (n : ℕ) → n < 2 ^ 32 → bit_length n + leading_zeros w32 n ≡ 32
+bit_length-leading n h =
+    let m = leading_length 32 n h in
+    let e = bit_length-unique n m.0 (omega (arith, m.1)) m.2 m.3 in
+    omega (arith, e, m.1)
+
+pub bit_length-below : (n : ℕ) → n < 2 ^ 32 → n < 2 ^ bit_length n
+bit_length-below n h =
+    let m = leading_length 32 n h in
+    rw (bit_length-unique n m.0 (omega (arith, m.1)) m.2 m.3) m.2
+
+pub bit_length-le : (n c : ℕ) → c ≤ 32 → n < 2 ^ c → bit_length n ≤ c
+bit_length-le n c few h =
+    let power : 2 ^ c ≤ 2 ^ 32 = pow-le-pow_right (omega arith) {i = c} {j = 32} few in
+    let m = leading_length 32 n (omega (arith, power)) in
+    let e = bit_length-unique n m.0 (omega (arith, m.1)) m.2 m.3 in
+    elim (cases_lt c m.0) [
+      | inl big ↦ let more : 2 ^ suc c ≤ 2 ^ m.0 = pow-le-pow_right (omega arith) {i = suc c} {j = m.0} (omega arith) in absurd (omega (arith, more, pow-succ' 2 c, m.3))
+      | inr fits ↦ rw e fits
+    ]
+
+pub bit_length-some : (n : ℕ) → 1 ≤ n → n < 2 ^ 32 → 1 ≤ bit_length n
+bit_length-some n h k = elim (cases_lt 0 (bit_length n)) [
+  | inl some ↦ some
+  | inr none ↦
+      let z : bit_length n ≡ 0 = omega arith in
+      let l : n < 2 ^ 0 = subst (λ c. n < 2 ^ c) z (bit_length-below n k) in
+      absurd (omega (arith, l))
+]
+
+-- widths
+
+pub width-le : (a b : ℤ) → Bounds a b → width a b ≤ 21
+width-le a b bounds = bit_length-le (nat_abs (a +ℤ b)) 21 (omega arith) (omega (arith, ints, bounds))
+
+pub width-some : (a b : ℤ) → Bounds a b → 1 ≤ width a b
+width-some a b bounds = bit_length-some (nat_abs (a +ℤ b)) (omega (arith, ints, bounds)) (omega (arith, ints, bounds))
+
+pub width-below : (a b : ℤ) (n : ℕ) → Bounds a b → n ≤ nat_abs (a +ℤ b) → n < 2 ^ width a b
+width-below a b n bounds h =
+    let s : nat_abs (a +ℤ b) < 2 ^ 32 = omega (arith, ints, bounds) in
+    let l = bit_length-below (nat_abs (a +ℤ b)) s in
+    omega (arith, l)
+
+pub width_0_1023 : width (pos 0) (pos 1023) ≡ 10
+unfolding bit_length
+width_0_1023 = refl
+
+-- the coefficient is that of a field of so many bits
+abbrev pub HasField : ℤ → ℤ → ℤ → Type 0
+HasField a b x = (field a b x < 2 ^ width a b) × (coefficient a b (field a b x) ≡ x)
+
+pub field-le : (a b x : ℤ) → Bounds a b → (pos 0 -ℤ a) ≤ℤ x → x ≤ℤ b → field a b x ≤ nat_abs (a +ℤ b)
+unfolding field
+field-le a b x bounds low high = grind (arith, ints, bounds)
+
+pub coefficient-field : (a b x : ℤ) → Bounds a b → (pos 0 -ℤ a) ≤ℤ x → x ≤ℤ b → coefficient a b (field a b x) ≡ x
+unfolding field coefficient
+coefficient-field a b x bounds low high = grind (arith, ints, bounds)
+
+pub field-coefficient : (a b : ℤ) (f : ℕ) → field a b (coefficient a b f) ≡ f
+unfolding field coefficient
+field-coefficient a b f = grind (arith, ints)
+
+-- the coefficient of a field is stored after the ones before it
+pub stored : (a b : ℤ) (f at : ℕ) (out : List ℤ) (z : ℤ) → at < length out → z ≡ coefficient a b f → f < 2 ^ width a b → All (HasField a b) (take at out)
+    → (map (field a b) (take (at + 1) (set out at z)) ≡ map (field a b) (take at out) ++ f ∷ []) × All (HasField a b) (take (at + 1) (set out at z))
+stored a b f at out z room e small before =
+    let more : take (at + 1) (set out at z) ≡ take at out ++ z ∷ [] = take_more_set out at z room in
+    let back : field a b z ≡ f = ap (field a b) e ∙ field-coefficient a b f in
+    let here : HasField a b z = rw back (small, sym e) in (
+      ap (map (field a b)) more ∙ map_push (field a b) (take at out) z ∙ ap (λ n. map (field a b) (take at out) ++ n ∷ []) back,
+      rw more (All-push (HasField a b) (take at out) z before here),
+    )
+
+pub fields_fit : (a b : ℤ) (w : List ℤ) → Bounds a b → InRange (pos 0 -ℤ a) b w → All (λ f. f < 2 ^ width a b) (map (field a b) w)
+fields_fit a b w bounds range =
+    All-map (λ f. f < 2 ^ width a b) (field a b) w (All-weaker (λ (x : ℤ). ((pos 0 -ℤ a) ≤ℤ x) × (x ≤ℤ b)) (λ (x : ℤ). field a b x < 2 ^ width a b)
+    (λ x r. width-below a b (field a b x) bounds (field-le a b x bounds r.0 r.1)) w range)
+
+-- the bytes and fields of a finished word
+pub unpacked : (a b : ℤ) (c at have k word : ℕ) (out : List ℤ) (v : List ℕ) → c ≡ width a b → length out ≡ 256 → c * at + have ≡ 8 * k → k ≡ 32 * c → length v ≤ k → have < c → All (λ byte. byte < 256) v
+    → bits c (map (field a b) (take at out)) ++ integer_to_bits have word ≡ bits 8 (take k v) → All (HasField a b) (take at out) → Unpacks a b v out
+unpacked a b c at have k word out v w long done end whole few bytes same fields =
+    let all : at ≡ 256 = all_taken c at have (omega (arith, done, end)) few in
+    let n : c * at ≡ c * 256 = ap (λ i. c * i) all in
+    let none : have ≡ 0 = omega (arith, done, end, n) in
+    let kept : take at out ≡ out = take_all at out (omega arith) in
+    let read : take k v ≡ v = take_all k v whole in
+    let bits_same = rw (none, digits-zero word, append-nil, kept, read, w) at same in
+    let have_fields : All (HasField a b) out = rw kept at fields in
+    record {
+      same_fields = record {
+        same_bits = sym bits_same;
+        whole_bytes = bytes;
+        small_fields = All-map (λ f. f < 2 ^ width a b) (field a b) out (All-weaker (HasField a b) (λ (x : ℤ). field a b x < 2 ^ width a b) (λ x h. h.0) out have_fields);
+      };
+      count = long;
+      coefficients = All-weaker (HasField a b) (λ (x : ℤ). coefficient a b (field a b x) ≡ x) (λ x h. h.1) out have_fields;
+    }
+
+Any-cons : (P : ℕ → Type 0) (y : ℕ) (xs : List ℕ) → Any P xs → Any P (y ∷ xs)
+Any-cons P y xs h = (suc h.0, h.1, omega (arith, h.2), h.3, h.4)
+
+-- all numbers are at most b, or one is above
+pub one_above : (b : ℤ) (fields : List ℕ) → All (λ f. pos f ≤ℤ b) fields ⊎ Any (λ f. b <ℤ pos f) fields
+one_above b [] = inl (All-nil (λ (f : ℕ). pos f ≤ℤ b))
+one_above b (f ∷ fields) = by_lt_z b (pos f)
+    (λ above. inr (0, f, omega arith, refl, above))
+    (λ within. elim (one_above b fields) [
+      | inl none ↦ inl (All-cons (λ (g : ℕ). pos g ≤ℤ b) f fields within none)
+      | inr some ↦ inr (Any-cons (λ (g : ℕ). b <ℤ pos g) f fields some)
+    ])
+
+-- where a is 0 the coefficients are in range exactly if their fields are at most b
+within_range : (b : ℤ) (w : List ℤ) → All (λ x. coefficient (pos 0) b (field (pos 0) b x) ≡ x) w → All (λ f. pos f ≤ℤ b) (map (field (pos 0) b) w) → InRange (pos 0) b w
+unfolding field coefficient
+within_range b [] h k = All-nil (λ (x : ℤ). (pos 0 ≤ℤ x) × (x ≤ℤ b))
+within_range b (x ∷ w) h k =
+    let P = λ (f : ℕ). pos f ≤ℤ b in
+    let here = All-head P (field (pos 0) b x) (map (field (pos 0) b) w) k in
+    let same : pos (nat_abs x) ≡ x = All-head (λ (y : ℤ). coefficient (pos 0) b (field (pos 0) b y) ≡ y) x w h in
+    let rest = within_range b w (All-tail (λ (y : ℤ). coefficient (pos 0) b (field (pos 0) b y) ≡ y) x w h) (All-tail P (field (pos 0) b x) (map (field (pos 0) b) w) k) in
+    All-cons (λ (x : ℤ). (pos 0 ≤ℤ x) × (x ≤ℤ b)) x w (omega (arith, ints, same), omega (arith, ints, same, here)) rest
+
+-- where a is 0 and the coefficients are not in range, a field is above b
+pub refused : (a b : ℤ) (v : List ℕ) (w : List ℤ) → a ≡ pos 0 → Unpacks a b v w → (InRange (pos 0) b w → ⊥) → PacksAbove b (width a b) v
+refused a b v w none_below u outside =
+    let z : Unpacks (pos 0) b v w = subst (λ a. Unpacks a b v w) none_below u in
+    elim (one_above b (map (field a b) w)) [
+      | inl none ↦ absurd (outside (within_range b w z.coefficients (subst (λ a. All (λ f. pos f ≤ℤ b) (map (field a b) w)) none_below none)))
+      | inr some ↦ record { fields = map (field a b) w; same_fields = u.same_fields; count = length-map w (field a b) ∙ u.count; above = some }
+    ]
+
+-- no field of c bits is above the greatest number of c bits
+pub none_above : (b c : ℕ) (v : List ℕ) → 2 ^ c ≤ b + 1 → PacksAbove (pos b) c v → ⊥
+none_above b c v room p =
+    let field = p.above.1 in
+    let small : field < 2 ^ c = subst (λ f. f < 2 ^ c) p.above.3 (p.same_fields.small_fields p.above.0 field p.above.2) in
+    let above : pos b <ℤ pos field = p.above.4 in
+    omega (arith, ints, small, above)

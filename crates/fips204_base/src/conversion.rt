@@ -1,0 +1,145 @@
+//! Polynomials as bytes, in fields of as many bits as the range of their coefficients asks for.
+#![tactic(auto)]
+
+ghost use Rattle.std.specs.Prelude.{◌≡◌, ◌<◌, ◌≤◌, ◌+◌, ◌*◌, ◌%◌, ◌^◌, ℤ, pos, ◌-ℤ◌, ◌≤ℤ◌, length, map, MatchOption};
+ghost use Rattle.fips204_base.specs.Packing.{Bounds, InRange, Packs, PacksAbove, Unpacks, coefficient, field, width};
+
+use crate::helpers::{bit_length, is_in_range};
+use crate::types::R;
+
+/// How many bits the fields of coefficients in `[-a, b]` have.
+fn field_width(a: i32, b: i32) -> u32
+    requires { Bounds a b }
+    ensures value { result ≡ width a b }
+    ensures few { result ≤ 21 }
+    ensures some { 1 ≤ result }
+{
+    bit_length(a + b) as u32
+}
+
+/// Puts `field` above the `have` bits of `word`.
+fn put(word: u32, have: u32, field: u32) -> u32
+    requires room { (have < 32) × (field * 2 ^ have < 2 ^ 32) }
+    requires word { word < 2 ^ have }
+    ensures { result ≡ word + field * 2 ^ have }
+{
+    field << have | word
+}
+
+/// The low `c` bits of `word`.
+fn low(word: u32, c: u32) -> u32
+    requires { c < 32 }
+    ensures { result ≡ word % 2 ^ c }
+{
+    word & (1u32 << c) - 1
+}
+
+/// The field of a coefficient.
+#[tactic(auto, using(std::proofs::lemmas::Int::ints), unfolding(crate::specs::Packing::field))]
+fn field_of(x: i32, a: i32, b: i32) -> u32
+    requires bounds { Bounds a b }
+    requires range { ((pos 0 -ℤ a) ≤ℤ x) × (x ≤ℤ b) }
+    ensures value { result ≡ field a b x }
+    ensures below { result < 2 ^ width a b }
+{
+    if a > 0 { (b - x) as u32 } else { x as u32 }
+}
+
+/// The coefficient of a field.
+#[tactic(auto, using(std::proofs::lemmas::Int::ints), unfolding(crate::specs::Packing::coefficient))]
+fn coefficient_of(field: u32, a: i32, b: i32) -> i32
+    requires bounds { Bounds a b }
+    requires below { field < 2 ^ 21 }
+    ensures { result ≡ coefficient a b field }
+{
+    if a > 0 {
+        b - field as i32
+    } else {
+        field as i32
+    }
+}
+
+/// `SimpleBitPack` (Algorithm 16): writes each coefficient in as many bits as `b` has.
+///
+/// Coefficients are in `[0, b]`, `b` is from 1 to `2^20 - 1`, and `out` has exactly
+/// `32 * bit_length(b)` bytes.
+pub fn simple_bit_pack(w: &R, b: i32, out: &mut [u8])
+    requires bounds { Bounds (pos 0) b }
+    requires range { InRange (pos 0) b w.now.0 }
+    requires room { length out.old ≡ 32 * width (pos 0) b }
+    ensures { Packs (width (pos 0) b) out.new (map (field (pos 0) b) w.now.0) }
+{
+    bit_pack(w, 0, b, out);
+}
+
+/// `BitPack` (Algorithm 17): writes the fields of coefficients in `[-a, b]`, each of as many bits
+/// as `a + b` has. The field of a coefficient is its distance from `b`, and where `a` is 0 the
+/// coefficient itself.
+///
+/// `a` is from 0 and `b` from 1 to `2^20 - 1`, and `out` has exactly `32 * bit_length(a + b)`
+/// bytes.
+pub fn bit_pack(w: &R, a: i32, b: i32, out: &mut [u8])
+    requires bounds { Bounds a b }
+    requires range { InRange (pos 0 -ℤ a) b w.now.0 }
+    requires room { length out.old ≡ 32 * width a b }
+    ensures { Packs (width a b) out.new (map (field a b) w.now.0) }
+{
+    let c = field_width(a, b);
+    let mut word = 0u32;
+    let mut have = 0u32;
+    let mut at = 0usize;
+    for x in &w.0 {
+        word = put(word, have, field_of(*x, a, b));
+        have += c;
+        while have >= 8 {
+            out[at] = (word & 0xff) as u8;
+            word >>= 8;
+            have -= 8;
+            at += 1;
+        }
+    }
+}
+
+/// `SimpleBitUnpack` (Algorithm 18): the polynomial whose coefficients are the fields of `v`, each
+/// of as many bits as `b` has. `None` where one is above `b`.
+///
+/// `b` is from 1 to `2^20 - 1`, and `v` has exactly `32 * bit_length(b)` bytes.
+pub fn simple_bit_unpack(v: &[u8], b: i32) -> Option<R>
+    requires bounds { Bounds (pos 0) b }
+    requires room { length v.now ≡ 32 * width (pos 0) b }
+    ensures { MatchOption result (PacksAbove b (width (pos 0) b) v.now) (λ w. Unpacks (pos 0) b v.now w.0 × InRange (pos 0) b w.0) }
+{
+    bit_unpack(v, 0, b)
+}
+
+/// `BitUnpack` (Algorithm 19): the polynomial whose fields stand in `v`, each of as many bits as
+/// `a + b` has. `None` where `a` is 0 and a field is above `b`; where `a` is above 0 a coefficient
+/// may come out below `-a`.
+///
+/// `a` is from 0 and `b` from 1 to `2^20 - 1`, and `v` has exactly `32 * bit_length(a + b)` bytes.
+pub fn bit_unpack(v: &[u8], a: i32, b: i32) -> Option<R>
+    requires bounds { Bounds a b }
+    requires room { length v.now ≡ 32 * width a b }
+    ensures { MatchOption result ((a ≡ pos 0) × PacksAbove b (width a b) v.now) (λ w. Unpacks a b v.now w.0 × (a ≡ pos 0 → InRange (pos 0) b w.0)) }
+{
+    let c = field_width(a, b);
+    let mut out = [0i32; 256];
+    let mut word = 0u32;
+    let mut have = 0u32;
+    let mut at = 0usize;
+    for byte in v {
+        word = put(word, have, *byte as u32);
+        have += 8;
+        while have >= c {
+            out[at] = coefficient_of(low(word, c), a, b);
+            word >>= c;
+            have -= c;
+            at += 1;
+        }
+    }
+    let w = R(out);
+    if a == 0 && !is_in_range(&w, 0, b) {
+        return None;
+    }
+    Some(w)
+}

@@ -1,0 +1,29 @@
+//! Helpers on numbers and polynomials.
+#![tactic(auto)]
+
+ghost use Rattle.std.specs.Prelude.{◌≡◌, ◌↔◌, ℤ, pos, ◌-ℤ◌, ◌≤ℤ◌, nat_abs, IsTrue};
+ghost use Rattle.fips204_base.specs.Packing.{InRange, bit_length};
+
+use crate::types::R;
+
+/// How many binary digits `x` has, for `x` from 1 on.
+pub fn bit_length(x: i32) -> usize
+    requires { pos 1 ≤ℤ x }
+    ensures { result ≡ bit_length (nat_abs x) }
+{
+    (32 - (x as u32).leading_zeros()) as usize
+}
+
+/// Whether every coefficient is in `[-lo, hi]`, for `lo` and `hi` that are not negative.
+pub fn is_in_range(w: &R, lo: i32, hi: i32) -> bool
+    requires low { pos 0 ≤ℤ lo }
+    requires high { pos 0 ≤ℤ hi }
+    ensures { IsTrue result ↔ InRange (pos 0 -ℤ lo) hi w.now.0 }
+{
+    for x in &w.0 {
+        if *x < -lo || *x > hi {
+            return false;
+        }
+    }
+    true
+}
