@@ -1,3 +1,12 @@
+pub mod HintPlaces
+pub mod HintPieces
+pub mod UniqueHint
+mod WorkedPolynomials
+mod WorkedRounding
+mod WorkedHints
+mod WorkedSamplers
+mod Samplings
+pub mod Reading
 mod Bits
 mod Fields
 pub mod Keeping

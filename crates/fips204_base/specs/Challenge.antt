@@ -1,6 +1,5 @@
 -- The challenge (FIPS 204, Algorithm 29).
-use Rattle.std.specs.Prelude.{ℕ, zero, suc, ◌+◌, ◌-◌, ◌/◌, List, [], ◌∷◌, ◌++◌, ℤ, pos, ◌+ℤ◌, neg_ℤ, length, map, take, drop, fold, Option, Some, None, slice_index, if◌then◌else◌, nat_eq, nat_lt, nat_le}
-use Rattle.std.specs.List.{range_with_len}
+use Rattle.std.specs.Prelude.{ℕ, ◌+◌, ◌-◌, ◌/◌, List, [], ◌∷◌, ◌++◌, ℤ, pos, ◌+ℤ◌, neg_ℤ, length, take, drop, Option, Some, None, if◌then◌else◌, nat_eq, nat_lt, nat_le}
 use Rattle.fips204_base.specs.declared.types.R.{R}
 use Rattle.fips204_base.specs.Streams.{front_length}
 use Rattle.fips204_base.specs.Packing.{bits}

@@ -1,10 +1,11 @@
 -- Keys and signatures as bytes (FIPS 204, Algorithms 22 to 28).
-use Rattle.std.specs.Prelude.{ℕ, List, ◌++◌, ◌-◌, pos}
+use Rattle.std.specs.Prelude.{◌≡◌, ◌≤◌, ℕ, List, ◌++◌, ◌-◌, pos, length}
 use Rattle.std.specs.List.{flat_map}
 use Rattle.fips204_base.specs.declared.types.R.{R}
 use Rattle.fips204_base.specs.Packing.{polynomial_bytes}
 use Rattle.fips204_base.specs.Rounding.{high_values}
-use Rattle.fips204_base.specs.HintSpelling.{hint_bytes}
+use Rattle.fips204_base.specs.HintSpelling.{all_ones, hint_bytes}
+use Rattle.fips204_base.specs.Vectors.{IsVector}
 
 -- pkEncode (Algorithm 22): rho, and then the polynomials of t1 in ten bits a coefficient
 abbrev pub public_key_bytes : List ℕ → List R → List ℕ
@@ -24,9 +25,28 @@ vector_bytes a b v = flat_map (λ w. polynomial_bytes (pos a) (pos b) w.0) v
 abbrev pub private_key_bytes : ℕ → List ℕ → List ℕ → List ℕ → List R → List R → List R → List ℕ
 private_key_bytes eta rho key tr s1 s2 t0 = rho ++ key ++ tr ++ vector_bytes eta eta s1 ++ vector_bytes eta eta s2 ++ vector_bytes 4095 4096 t0
 
+-- skDecode (Algorithm 25): the parts whose encoding the bytes are; there are none where an s1 or s2 is out of its range
+pub record IsPrivateKey (eta k l : ℕ) (bytes rho key tr : List ℕ) (s1 s2 t0 : List R) : Type 0 where
+  pub seed : length rho ≡ 32
+  pub private_seed : length key ≡ 32
+  pub hash : length tr ≡ 64
+  pub first : IsVector l eta eta s1
+  pub second : IsVector k eta eta s2
+  pub low : IsVector k 4095 4096 t0
+  pub encoding : private_key_bytes eta rho key tr s1 s2 t0 ≡ bytes
+
 -- sigEncode (Algorithm 26): c_tilde, z, and the spelling of the hint
 abbrev pub signature_bytes : ℕ → ℕ → List ℕ → List R → List R → List ℕ
 signature_bytes gamma1 omega c_tilde z h = c_tilde ++ vector_bytes (gamma1 - 1) gamma1 z ++ hint_bytes omega h
+
+-- sigDecode (Algorithm 27): the parts whose encoding the bytes are: c_tilde of so many bytes, z of l polynomials,
+-- and a hint of k polynomials and at most omega ones
+pub record IsSignature (gamma1 omega k l n : ℕ) (bytes c_tilde : List ℕ) (z h : List R) : Type 0 where
+  pub commitment : length c_tilde ≡ n
+  pub response : IsVector l (gamma1 - 1) gamma1 z
+  pub hint : IsVector k 0 1 h
+  pub few : length (all_ones h) ≤ omega
+  pub encoding : signature_bytes gamma1 omega c_tilde z h ≡ bytes
 
 -- w1Encode (Algorithm 28)
 abbrev pub w1_bytes : ℕ → List R → List ℕ

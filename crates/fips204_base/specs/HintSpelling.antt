@@ -1,8 +1,8 @@
 -- The spelling of a hint (FIPS 204, Algorithms 20 and 21).
 use Rattle.std.specs.Prelude.{◌≡◌, ◌≤◌, ◌+◌, ◌-◌, ℕ, List, ◌++◌, Bool, pos, length, map, take, replicate, slice_index_or, int_lt}
-use Rattle.std.specs.List.{All, filter, flat_map, range_with_len}
+use Rattle.std.specs.List.{filter, flat_map, range_with_len}
 use Rattle.fips204_base.specs.declared.types.R.{R}
-use Rattle.fips204_base.specs.Packing.{InRange}
+use Rattle.fips204_base.specs.Vectors.{IsVector}
 
 -- whether a polynomial of a hint has a one at a place
 unfoldable pub is_one : R → ℕ → Bool
@@ -28,13 +28,8 @@ running_totals h = map (λ i. length (all_ones (take (i + 1) h))) (range_with_le
 abbrev pub hint_bytes : ℕ → List R → List ℕ
 hint_bytes omega h = all_ones h ++ replicate (omega - length (all_ones h)) 0 ++ running_totals h
 
--- the bytes spell the hint, which has at most omega ones
-pub record Spells (omega : ℕ) (h : List R) (bytes : List ℕ) : Type 0 where
+-- the bytes spell a hint of k polynomials, which has at most omega ones
+pub record Spells (omega k : ℕ) (h : List R) (bytes : List ℕ) : Type 0 where
+  pub hint : IsVector k 0 1 h
   pub few : length (all_ones h) ≤ omega
-  pub spelling : bytes ≡ hint_bytes omega h
-
--- a hint is k polynomials with coefficients 0 and 1
-pub record IsHint (k : ℕ) (h : List R) : Type 0 where
-  pub count : length h ≡ k
-  pub places : All (λ w. length w.0 ≡ 256) h
-  pub bits : All (λ w. InRange (pos 0) (pos 1) w.0) h
+  pub spelling : hint_bytes omega h ≡ bytes

@@ -1,5 +1,5 @@
 -- What the samplers share: the first 256 of what was kept, and whole vectors and matrices of what was sampled.
-use Rattle.std.specs.Prelude.{ℕ, List, [], ◌∷◌, ℤ, length, take, Option, Some, None, option_map, option_and_then, if◌then◌else◌, nat_lt}
+use Rattle.std.specs.Prelude.{List, [], ◌∷◌, ℤ, length, take, Option, Some, None, option_map, option_and_then, if◌then◌else◌, nat_lt}
 
 -- the first 256 of the coefficients kept, or none where fewer were kept
 unfoldable pub first_256 : List ℤ → Option (List ℤ)

@@ -1,5 +1,5 @@
 -- Streams: what stands in the place of SHAKE256 and SHAKE128 (FIPS 204, section 3.7).
-use Rattle.std.specs.Prelude.{ℕ, zero, suc, ◌/◌, List, [], ◌++◌}
+use Rattle.std.specs.Prelude.{ℕ, zero, suc, List, [], ◌++◌}
 use Rattle.std.specs.Int.{w32, to_le_bytes}
 use Rattle.sha2.specs.Sha256.{sha256}
 use Rattle.sha2.specs.Sha512.{sha512}

@@ -1,11 +1,18 @@
 -- Vectors and matrices of polynomials (FIPS 204, sections 2.3 to 2.5).
-use Rattle.std.specs.Prelude.{ℕ, List, [], ℤ, map, slice_index_or}
-use Rattle.std.specs.List.{range_with_len}
+use Rattle.std.specs.Prelude.{◌≡◌, ℕ, List, [], ℤ, pos, ◌-ℤ◌, length, map, slice_index_or}
+use Rattle.std.specs.List.{All, range_with_len}
 use Rattle.fips204_base.specs.declared.types.R.{R}
 use Rattle.fips204_base.specs.declared.types.T.{T}
+use Rattle.fips204_base.specs.Packing.{InRange}
 use Rattle.fips204_base.specs.Residues.{coefficients}
 use Rattle.fips204_base.specs.Products.{row_product}
 use Rattle.fips204_base.specs.Transforms.{inverse_transform}
+
+-- a vector of so many polynomials, with coefficients from -a to b
+pub record IsVector (count a b : ℕ) (v : List R) : Type 0 where
+  pub polynomials : length v ≡ count
+  pub places : All (λ w. length w.0 ≡ 256) v
+  pub range : All (λ w. InRange (pos 0 -ℤ pos a) (pos b) w.0) v
 
 -- coefficient n of polynomial r of a vector, as a residue
 abbrev pub vector : List R → ℕ → ℕ → ℕ

@@ -1,8 +1,15 @@
-//! Polynomials as bytes, in fields of as many bits as the range of their coefficients asks for.
+//! Coefficients and hints as bytes, and polynomials in fields of as many bits as the range of their
+//! coefficients asks for.
 #![tactic(auto)]
 
 ghost use Rattle.std.specs.Prelude.{◌≡◌, ◌<◌, ◌≤◌, ◌+◌, ◌*◌, ◌%◌, ◌^◌, ℤ, pos, ◌-ℤ◌, ◌≤ℤ◌, length, map, MatchOption};
 ghost use Rattle.fips204_base.specs.Packing.{Bounds, InRange, Packs, PacksAbove, Unpacks, coefficient, field, width};
+
+mod coefficients;
+mod hints;
+
+pub use coefficients::{coeff_from_half_byte, coeff_from_three_bytes};
+pub use hints::{hint_bit_pack, hint_bit_unpack};
 
 use crate::helpers::{bit_length, is_in_range};
 use crate::types::R;

@@ -8,6 +8,13 @@ ghost use Rattle.fips204_base.specs.Streams.{front_length};
 
 use std::marker::Model;
 
+mod counter;
+mod sha256_ctr;
+mod sha512_ctr;
+
+pub use sha256_ctr::{Sha256Ctr, Sha256CtrReader};
+pub use sha512_ctr::{Sha512Ctr, Sha512CtrReader};
+
 /// A reader of a stream. Contracts see it as `rest`, the list of the bytes still to come.
 pub trait XofReader: Drop {
     ghost rest: { Self → List ℕ };

@@ -1,0 +1,69 @@
+-- Worked values of the samplers.
+use Rattle.std.proofs.Common.{◌≡◌, [], ◌∷◌, ◌++◌, pos, negsuc, refl, Some, None}
+use Rattle.std.specs.Prelude.{replicate, flat_map}
+use Rattle.std.specs.Int.{w16, to_le_bytes}
+use Rattle.std.specs.List.{range_with_len}
+use Rattle.fips204_base.specs.Packing.{bits, integer_to_bits, bits_to_integer, coefficient, bit_length}
+use Rattle.fips204_base.specs.Vectors.{polynomial_of}
+use Rattle.fips204_base.specs.Coefficients.{coefficient_from_three_bytes, coefficient_from_half_byte}
+use Rattle.fips204_base.specs.Sampling.{first_256}
+use Rattle.fips204_base.specs.MatrixEntry.{triple, kept_triples, matrix_entry}
+use Rattle.fips204_base.specs.SmallPolynomial.{kept_half_bytes, small_polynomial}
+use Rattle.fips204_base.specs.Mask.{field_at, unpacked, mask_polynomial}
+use Rattle.fips204_base.specs.Challenge.{picks, moved, places, signed_sum, challenge_picks, challenge}
+
+three_bytes_examples : (coefficient_from_three_bytes 0x12 0x34 0x56 ∷ coefficient_from_three_bytes 0x12 0x34 0x80 ∷ coefficient_from_three_bytes 0x01 0xE0 0x80 ∷ coefficient_from_three_bytes 0x01 0xE0 0x7F ∷ coefficient_from_three_bytes 0x00 0xE0 0x7F ∷ [])
+    ≡ Some (pos 5649426) ∷ Some (pos 13330) ∷ Some (pos 57345) ∷ None ∷ Some (pos 8380416) ∷ []
+three_bytes_examples = refl
+
+half_byte_examples : (coefficient_from_half_byte 2 3 ∷ coefficient_from_half_byte 2 15 ∷ coefficient_from_half_byte 4 8 ∷ coefficient_from_half_byte 4 9 ∷ []) ≡ Some (negsuc 0) ∷ None ∷ Some (negsuc 3) ∷ None ∷ []
+half_byte_examples = refl
+
+-- over zeros every coefficient of a matrix entry is 0; over FF there is none
+entry_over_zeros : matrix_entry (replicate 4096 0) ≡ Some record { 0 = replicate 256 (pos 0) }
+unfolding matrix_entry kept_triples triple first_256
+entry_over_zeros = refl
+
+-- over bytes 55 every half byte is 5, so every coefficient is 2
+small_over_55 : small_polynomial 2 (replicate 4096 0x55) ≡ Some record { 0 = replicate 256 (pos 2) }
+unfolding small_polynomial kept_half_bytes first_256
+small_over_55 = refl
+
+-- bytes 10: the low half, 0, stands before the high half, 1
+small_over_10 : small_polynomial 4 (replicate 4096 0x10) ≡ Some record { 0 = flat_map (λ _. pos 4 ∷ pos 3 ∷ []) (range_with_len 0 128) }
+unfolding small_polynomial kept_half_bytes first_256
+small_over_10 = refl
+
+-- 896 bytes FF give nothing, and then 128 bytes 00 just enough; with one byte more there are too few within the limit
+small_at_its_limit : small_polynomial 2 (replicate 896 0xFF ++ replicate 3200 0x00) ≡ Some record { 0 = replicate 256 (pos 2) }
+unfolding small_polynomial kept_half_bytes first_256
+small_at_its_limit = refl
+
+small_past_its_limit : small_polynomial 2 (replicate 897 0xFF ++ replicate 3199 0x00) ≡ None
+unfolding small_polynomial kept_half_bytes first_256
+small_past_its_limit = refl
+
+-- over bytes 55 with tau 39 every pick is 85: -1 at place 85, and from 218 to 255 -1 and 1 in turn
+challenge_over_55 : challenge 39 (replicate 4096 0x55)
+    ≡ Some record { 0 = replicate 85 (pos 0) ++ negsuc 0 ∷ replicate 132 (pos 0) ++ flat_map (λ _. negsuc 0 ∷ pos 1 ∷ []) (range_with_len 0 19) }
+unfolding challenge challenge_picks picks places moved signed_sum polynomial_of bits integer_to_bits
+challenge_over_55 = refl
+
+-- no pick is at most 217 within 985 bytes FF and more; 39 bytes then are just enough
+challenge_past_its_limit : challenge 39 (replicate 8 0 ++ replicate 986 0xFF ++ replicate 3102 0x00) ≡ None
+unfolding challenge challenge_picks picks places moved signed_sum polynomial_of bits integer_to_bits
+challenge_past_its_limit = refl
+
+-- over bytes 55 every field of 18 bits is 87381, and every coefficient 131072 less it
+mask_over_55 : mask_polynomial 131072 (replicate 4096 0x55) ≡ record { 0 = replicate 256 (pos 43691) }
+unfolding polynomial_of unpacked field_at bits integer_to_bits bits_to_integer coefficient bit_length
+mask_over_55 = refl
+
+-- over zeros every coefficient is gamma1, also with 20 bits
+mask_over_zeros : mask_polynomial 524288 (replicate 4096 0) ≡ record { 0 = replicate 256 (pos 524288) }
+unfolding polynomial_of unpacked field_at bits integer_to_bits bits_to_integer coefficient bit_length
+mask_over_zeros = refl
+
+-- the largest counter of the mask, 813 * 7 + 6
+mask_counter : to_le_bytes w16 5697 ≡ 0x41 ∷ 0x16 ∷ []
+mask_counter = refl

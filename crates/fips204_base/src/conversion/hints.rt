@@ -1,0 +1,98 @@
+//! The spelling of hints.
+#![tactic(auto)]
+
+ghost use Rattle.std.specs.Prelude.{◌≡◌, ◌<◌, ◌≤◌, ◌+◌, ◌≤ℤ◌, ℕ, List, pos, nat_abs, length, take, drop, ◌++◌, MatchOption};
+ghost use Rattle.std.specs.List.{All};
+ghost use Rattle.fips204_base.specs.HintSpelling.{Spells, all_ones, hint_bytes, ones};
+ghost use Rattle.fips204_base.specs.Packing.{InRange};
+
+use crate::types::{R, R0};
+
+/// The polynomial with ones at `places` and zeros elsewhere, or `None` where the places do not
+/// strictly rise.
+fn row_of(places: &[u8]) -> Option<R>
+    ensures { MatchOption result ((row : R) → places.now ≡ ones row → ⊥) (λ row. (places.now ≡ ones row) × (length row.0 ≡ 256) × InRange (pos 0) (pos 1) row.0) }
+{
+    let mut row = [0i32; 256];
+    for k in 0..places.len() {
+        let place = places[k] as usize;
+        if k > 0 && places[k - 1] as usize >= place {
+            return None;
+        }
+        row[place] = 1;
+    }
+    Some(R(row))
+}
+
+/// `HintBitUnpack` (Algorithm 21): the hint that `y` spells, or `None` where it spells none.
+///
+/// `omega` is at least 1, `omega + K` is below 256, and `y` has exactly `omega + K` bytes.
+pub fn hint_bit_unpack<const K: usize>(omega: i32, y: &[u8]) -> Option<[R; K]>
+    requires some { pos 1 ≤ℤ omega }
+    requires sizes { nat_abs omega + K < 256 }
+    requires room { length y.now ≡ nat_abs omega + K }
+    ensures { MatchOption result ((h : List R) → Spells (nat_abs omega) K h y.now → ⊥) (λ h. Spells (nat_abs omega) K h y.now) }
+{
+    let limit = omega as usize;
+    let mut h = [R0; K];
+    let mut index = 0usize;
+    for i in 0..K {
+        let end = y[limit + i] as usize;
+        if end < index || end > limit {
+            return None;
+        }
+        match row_of(&y[index..end]) {
+            None => {
+                return None;
+            }
+            Some(row) => {
+                h[i] = row;
+            }
+        }
+        index = end;
+    }
+    for k in index..limit {
+        if y[k] != 0 {
+            return None;
+        }
+    }
+    Some(h)
+}
+
+/// Writes the places of the ones from `from` on, and answers where they end.
+fn put_places(row: &R, y: &mut [u8], from: usize) -> usize
+    requires { from + length (ones row.now) ≤ length y.old }
+    ensures end { result ≡ from + length (ones row.now) }
+    ensures places { take result y.new ≡ take from y.old ++ ones row.now }
+    ensures rest { drop result y.new ≡ drop result y.old }
+{
+    let mut at = from;
+    for j in 0..256usize {
+        if row.0[j] > 0 {
+            y[at] = j as u8;
+            at += 1;
+        }
+    }
+    at
+}
+
+/// `HintBitPack` (Algorithm 20): writes the spelling of the hint `h`, whose coefficients are 0 or
+/// 1, with at most `omega` ones in all.
+///
+/// `omega` is at least 1, `omega + K` is below 256, and `y` has exactly `omega + K` bytes.
+pub fn hint_bit_pack<const K: usize>(omega: i32, h: &[R; K], y: &mut [u8])
+    requires some { pos 1 ≤ℤ omega }
+    requires sizes { nat_abs omega + K < 256 }
+    requires room { length y.old ≡ nat_abs omega + K }
+    requires bits { All (λ w. InRange (pos 0) (pos 1) w.0) h.now }
+    requires few { length (all_ones h.now) ≤ nat_abs omega }
+    ensures { y.new ≡ hint_bytes (nat_abs omega) h.now }
+{
+    y.fill(0);
+    let limit = omega as usize;
+    let mut index = 0usize;
+    for i in 0..K {
+        index = put_places(&h[i], y, index);
+        y[limit + i] = index as u8;
+    }
+}
