@@ -1,11 +1,11 @@
 -- What a sampler keeps: the places written so far, and the first 256 coefficients of all that were given.
-use Rattle.std.proofs.Common.{◌≡◌, ℕ, ℤ, zero, suc, ◌+◌, ◌-◌, ◌<◌, ◌≤◌, min, List, [], ◌∷◌, ◌++◌, length, take, drop, get_or, set, refl, ap, sym, ◌∙◌, arith, rules, Some, None, true, false, nat_lt, append_assoc, append-nil, length-append, length-take, length-set, add-zero, map}
+use Rattle.std.proofs.Common.{◌≡◌, ℕ, ℤ, zero, suc, ◌+◌, ◌-◌, ◌<◌, ◌≤◌, min, List, [], ◌∷◌, ◌++◌, length, take, drop, get_or, set, refl, ap, sym, ◌∙◌, arith, rules, Some, None, true, false, nat_lt, append_assoc, append-nil, length-append, length-take, length-set, add-zero, map, inl, inr}
 use Rattle.std.specs.declared.option.Option.{Option}
 use Rattle.std.specs.List.{filter_map, range_with_len}
 use Rattle.std.proofs.lemmas.List.{take_all, take_at, take-append-le, take-take, take_more_set}
 use Rattle.std.proofs.lemmas.List.Elements.{filter_map-append}
 use Rattle.std.proofs.lemmas.List.FromFn.{map-range_with_len_more}
-use Rattle.std.proofs.lemmas.Bool.{le-ltb, lt-ltb}
+use Rattle.std.proofs.lemmas.Bool.{cases_lt, le-ltb, lt-ltb}
 use Rattle.fips204_base.specs.Sampling.{first_256}
 
 -- the first count of 256 values are the first 256 of those given
@@ -28,13 +28,9 @@ keeps_count {values} {count} {given} k =
 pub keeps_none : (values : List ℤ) → length values ≡ 256 → Keeps values 0 []
 keeps_none values w = record { within = omega arith; whole = w; same = refl }
 
--- those given before are few
-pub keeps_before : (values : List ℤ) (count : ℕ) → length values ≡ 256 → count < 256 → Keeps values count (take count values ++ [])
-keeps_before values count w l = record {
-  within = omega arith;
-  whole = w;
-  same = sym (ap (take 256) (append-nil (take count values)) ∙ take_all 256 (take count values) (omega (arith, length-take count values)));
-}
+-- the values there are kept
+pub keeps_there : (values : List ℤ) (count : ℕ) → length values ≡ 256 → count ≤ 256 → Keeps values count (take count values)
+keeps_there values count w l = record { within = l; whole = w; same = sym (take_all 256 (take count values) (omega (arith, length-take count values))) }
 
 -- one more is written and given
 pub keeps_more : {values : List ℤ} {count : ℕ} {given : List ℤ} (x : ℤ) → Keeps values count given → count < 256 → Keeps (set values count x) (count + 1) (given ++ x ∷ [])
@@ -54,11 +50,17 @@ keeps_full {values} {given} more k =
     let n = keeps_count k in
     record { within = k.within; whole = k.whole; same = k.same ∙ sym (take-append-le 256 given more (omega (arith, n))) }
 
--- after another piece
-pub keeps_joined : {values new : List ℤ} {count n : ℕ} {given : List ℤ} (more : List ℤ) → Keeps values count given → count < 256
+-- after others are put behind those there, as many as have room
+pub keeps_joined : {values new : List ℤ} {count n : ℕ} {given : List ℤ} (more : List ℤ) → Keeps values count given
     → length new ≡ 256 → n ≤ 256 → take n new ≡ take 256 (take count values ++ more) → Keeps new n (given ++ more)
-keeps_joined {values} {new} {count} {n} {given} more k l w m e =
-    record { within = m; whole = w; same = e ∙ ap (λ l. take 256 (l ++ more)) (sym (keeps_all k l)) }
+keeps_joined {values} {new} {count} {n} {given} more k w m e = elim (cases_lt count 256) [
+  | inl l ↦ record { within = m; whole = w; same = e ∙ ap (λ l. take 256 (l ++ more)) (sym (keeps_all k l)) }
+  | inr g ↦
+      let all : count ≡ 256 = omega (arith, g, k.within) in
+      let long = keeps_count k in
+      let first : take 256 (take count values ++ more) ≡ take count values = take_at (take count values) more 256 (length-take count values ∙ omega (arith, k.whole, all)) in
+      record { within = m; whole = w; same = e ∙ first ∙ k.same ∙ sym (take-append-le 256 given more (omega (arith, long, all))) }
+]
 
 pub first_of_full : {values : List ℤ} {given : List ℤ} → Keeps values 256 given → first_256 given ≡ Some values
 unfolding first_256

@@ -9,6 +9,7 @@ mod Samplings
 pub mod Reading
 mod Bits
 mod Fields
+pub mod HalfBytes
 pub mod Keeping
 mod Packings
 mod Pieces

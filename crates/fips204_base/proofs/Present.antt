@@ -31,22 +31,6 @@ present_next f a n j values v at l e there =
     ap all_present (map-range_with_len_more f a n j at) ∙ ap (λ x. all_present (map f (range_with_len a n) ++ x ∷ [])) there
         ∙ present_push (map f (range_with_len a n)) (take n values) v e ∙ ap Some (sym (take_more_set values n v l))
 
-none_behind : {A : Type 0} (x : Option A) → option_and_then (λ value. option_map (λ values. value ∷ values) None) x ≡ None
-none_behind None = refl
-none_behind (Some x) = refl
-
--- one of them is none
-pub present_none : {A : Type 0} (f : ℕ → Option A) (a i k j : ℕ) → a + i ≡ j → i < k → f j ≡ None → all_present (map f (range_with_len a k)) ≡ None
-unfolding all_present
-present_none f a i zero j at l e = absurd (omega (arith, l))
-present_none f a zero (suc k) j at l e =
-    let n : a ≡ j = omega arith in
-    let here : f a ≡ None = ap f n ∙ e in
-    rw here refl
-present_none f a (suc i) (suc k) j at l e =
-    let rest = present_none f (a + 1) i k j (omega arith) (omega arith) e in
-    rw rest (none_behind (f a))
-
 -- what a refusal says of a value that may be none
 
 pub some_of_ok : {A : Type 0} (o : Option A) (x : A) → Ok x ≡ ok_or o SamplingLimit → o ≡ Some x

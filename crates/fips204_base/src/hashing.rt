@@ -4,6 +4,8 @@
 
 mod challenge;
 mod matrix;
+mod small;
 
 pub use challenge::sample_in_ball;
 pub use matrix::{expand_a, rej_ntt_poly};
+pub use small::rej_bounded_poly;

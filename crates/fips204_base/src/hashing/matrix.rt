@@ -1,28 +1,15 @@
 //! The matrix, from the stream in the place of SHAKE128.
 #![tactic(auto)]
 
-ghost use Rattle.std.specs.Prelude.{◌≡◌, ◌<◌, ◌≤◌, ◌++◌, ◌∷◌, [], length, map, take, ok_or, slice_index};
+ghost use Rattle.std.specs.Prelude.{◌≡◌, ◌<◌, ◌≤◌, ◌++◌, ◌∷◌, [], length, map, take, ok_or};
 ghost use Rattle.std.specs.List.{flat_map, range_with_len};
-ghost use Rattle.fips204_base.specs.Coefficients.{coefficient_from_three_bytes};
 ghost use Rattle.fips204_base.specs.Sampling.{all_present};
 ghost use Rattle.fips204_base.specs.MatrixEntry.{kept_triples, matrix_entry, sampled_matrix};
 
+use crate::conversion::coeff_from_three_bytes;
 use crate::fault::Fault;
 use crate::types::{T, T0};
 use crate::xof::{Xof, XofReader};
-
-/// `CoeffFromThreeBytes` (Algorithm 14).
-fn coeff_from_three_bytes(bytes: [u8; 3]) -> Option<i32>
-    ensures { result ≡ coefficient_from_three_bytes (slice_index bytes 0) (slice_index bytes 1) (slice_index bytes 2) }
-{
-    let [b0, b1, b2] = bytes;
-    let value = b0 as u32 + 256 * b1 as u32 + 65536 * (b2 % 128) as u32;
-    if value < 8380417 {
-        Some(value as i32)
-    } else {
-        None
-    }
-}
 
 /// Puts the coefficients that the 64 triples of `piece` give into `values` from place `kept` on, as
 /// many as have room, and answers how many there are then.

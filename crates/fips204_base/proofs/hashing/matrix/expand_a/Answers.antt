@@ -4,7 +4,8 @@ use Rattle.fips204_base.specs.declared.fault.Fault.TheVariants.{SamplingLimit}
 use Rattle.std.specs.List.{range_with_len}
 use Rattle.fips204_base.specs.MatrixEntry.{matrix_entry, sampled_matrix}
 use Rattle.fips204_base.specs.Sampling.{all_present}
-use Rattle.fips204_base.proofs.Present.{present_nil, present_next, present_none, some_of_ok, none_of_err}
+use Rattle.fips204_base.proofs.Samplings.{all_present-none}
+use Rattle.fips204_base.proofs.Present.{present_nil, present_next, some_of_ok, none_of_err}
 use Rattle.fips204_base.proofs.hashing.matrix.expand_a.Goals as goal
 
 pub loop-r-init : goal.loop-r-init
@@ -15,7 +16,7 @@ unfolding sampled_matrix
 returns-in_err-matrix g c =
     let row = λ (r : ℕ). all_present (map (λ s. matrix_entry (g.G.Xof.front (c.args.rho.now ++ s ∷ r ∷ []))) (range_with_len 0 g.row.L)) in
     let fault = none_of_err (row c.loop-r.r) c.in_err-matrix.field-0.0 c.in_err-matrix.ensures in
-    let none : all_present (map row (range_with_len 0 g.row.K)) ≡ None = present_none row 0 c.loop-r.r g.row.K c.loop-r.r (omega arith) c.loop-r-test.true fault.0 in
+    let none : all_present (map row (range_with_len 0 g.row.K)) ≡ None = (let n : 0 + c.loop-r.r ≡ c.loop-r.r = omega arith in all_present-none row 0 g.row.K c.loop-r.r c.loop-r-test.true (ap row n ∙ fault.0)) in
     let refused : c.from_residual.result ≡ Err SamplingLimit = search rules in
     rw none refused
 

@@ -4,7 +4,8 @@ use Rattle.fips204_base.specs.declared.fault.Fault.TheVariants.{SamplingLimit}
 use Rattle.std.specs.List.{range_with_len}
 use Rattle.fips204_base.specs.MatrixEntry.{matrix_entry}
 use Rattle.fips204_base.specs.Sampling.{all_present}
-use Rattle.fips204_base.proofs.Present.{present_nil, present_next, present_none, some_of_ok, none_of_err}
+use Rattle.fips204_base.proofs.Samplings.{all_present-none}
+use Rattle.fips204_base.proofs.Present.{present_nil, present_next, some_of_ok, none_of_err}
 use Rattle.fips204_base.proofs.hashing.matrix.expand_row.Goals as goal
 
 pub loop-s-init : goal.loop-s-init
@@ -16,7 +17,7 @@ returns-in_err-row g c =
     let fault = none_of_err _ c.in_err-row.field-0.0 c.in_err-row.ensures in
     let same : c.as_slice.result.now ≡ c.args.rho.now = search rules in
     let here : entry c.loop-s.s ≡ None = ap (λ l. matrix_entry (g.G.Xof.front (l ++ c.loop-s.s ∷ c.args.r ∷ []))) (sym same) ∙ fault.0 in
-    let none : all_present (map entry (range_with_len 0 g.row.L)) ≡ None = present_none entry 0 c.loop-s.s g.row.L c.loop-s.s (omega arith) c.loop-s-test.true here in
+    let none : all_present (map entry (range_with_len 0 g.row.L)) ≡ None = (let n : 0 + c.loop-s.s ≡ c.loop-s.s = omega arith in all_present-none entry 0 g.row.L c.loop-s.s c.loop-s-test.true (ap entry n ∙ here)) in
     let refused : c.from_residual.result ≡ Err SamplingLimit = search rules in
     rw none refused
 

@@ -1,7 +1,7 @@
-use Rattle.std.proofs.Common.{ℕ, ℤ, ◌≡◌, ◌∙◌, ◌+◌, ◌*◌, ◌<◌, ◌++◌, ◌∷◌, [], List, ◌-◌, ap, sym, refl, arith, take, drop, set, append_assoc, to_z, of_z, Some, None}
+use Rattle.std.proofs.Common.{ℕ, ℤ, ◌≡◌, ◌∙◌, ◌+◌, ◌*◌, ◌<◌, ◌++◌, ◌∷◌, [], List, ◌-◌, ap, sym, refl, arith, take, drop, set, append_assoc, append-nil, to_z, of_z, Some, None}
 use Rattle.std.specs.Int.{w32}
 use Rattle.fips204_base.specs.MatrixEntry.{kept_triples, triple}
-use Rattle.fips204_base.proofs.Keeping.{Keeps, keeps_before, keeps_more, keeps_full}
+use Rattle.fips204_base.proofs.Keeping.{Keeps, keeps_there, keeps_more, keeps_full}
 use Rattle.fips204_base.proofs.Triples.{kept_triples-zero, kept_triples-keep, kept_triples-skip, kept_triples-joined, triple-at, residue-read}
 use Rattle.fips204_base.proofs.hashing.matrix.keep_triples.Goals as goal
 use Rattle.fips204_base.proofs.hashing.matrix.keep_triples.Goals.{in-Some+else-count-eq256, in_default}
@@ -17,7 +17,7 @@ next_kept values before piece p count x k l e =
 pub loop-p-init : goal.loop-p-init
 loop-p-init c =
     let none = kept_triples-zero c.args.piece.now in
-    (c.requires.room, rw none (keeps_before c.args.values.now c.args.kept c.told-values c.requires.room))
+    (c.requires.room, rw (none, append-nil (take c.args.kept c.args.values.now)) (keeps_there c.args.values.now c.args.kept c.told-values (omega arith)))
 
 pub returns-then-count-eq256-clause-kept : goal.returns-then-count-eq256-clause-kept
 returns-then-count-eq256-clause-kept c =
