@@ -8,4 +8,4 @@ mod small;
 
 pub use challenge::sample_in_ball;
 pub use matrix::{expand_a, rej_ntt_poly};
-pub use small::rej_bounded_poly;
+pub use small::{expand_s, rej_bounded_poly};

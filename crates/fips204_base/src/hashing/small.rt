@@ -1,7 +1,7 @@
 //! Small polynomials, from the stream in the place of SHAKE256.
 #![tactic(auto)]
 
-ghost use Rattle.std.specs.Prelude.{◌≡◌, ◌<◌, ◌≤◌, ◌⊎◌, ◌+◌, ◌++◌, length, pos, nat_abs, take, ok_or, option_to_list};
+ghost use Rattle.std.specs.Prelude.{◌≡◌, ◌<◌, ◌≤◌, ◌⊎◌, ◌+◌, ◌++◌, length, pos, nat_abs, take, ok_or, option_to_list, IfOk, IfErr, Some, None};
 ghost use Rattle.std.specs.List.{flat_map};
 ghost use Rattle.fips204_base.specs.SmallPolynomial.{kept_half_bytes, small_polynomial, small_vector};
 
@@ -90,7 +90,9 @@ pub fn expand_s<const K: usize, const L: usize, H: Xof>(
 ) -> Result<([R; L], [R; K]), Fault>
     requires eta { (eta ≡ pos 2) ⊎ (eta ≡ pos 4) }
     requires shape { (K ≤ 8) × (L ≤ 7) }
-    ensures { result ≡ ok_or (secret_vectors (nat_abs eta) H.front rho.now K L) Fault.SamplingLimit }
+    ensures s1 { IfOk result (λ vectors. small_vector (nat_abs eta) H.front rho.now 0 L ≡ Some vectors.0) }
+    ensures s2 { IfOk result (λ vectors. small_vector (nat_abs eta) H.front rho.now L K ≡ Some vectors.1) }
+    ensures limit { IfErr result (λ fault. (fault ≡ Fault.SamplingLimit) × ((small_vector (nat_abs eta) H.front rho.now 0 L ≡ None) ⊎ (small_vector (nat_abs eta) H.front rho.now L K ≡ None))) }
 {
     let s1 = small_polynomials::<L, H>(eta, rho, 0)?;
     let s2 = small_polynomials::<K, H>(eta, rho, L)?;
