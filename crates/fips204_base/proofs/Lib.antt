@@ -19,4 +19,5 @@ pub mod Present
 mod PublicKeys
 mod SignBits
 pub mod Triples
+pub mod Unpacking
 mod WorkedPacking

@@ -3,9 +3,11 @@
 #![tactic(auto)]
 
 mod challenge;
+mod mask;
 mod matrix;
 mod small;
 
 pub use challenge::sample_in_ball;
+pub use mask::expand_mask;
 pub use matrix::{expand_a, rej_ntt_poly};
 pub use small::{expand_s, rej_bounded_poly};
