@@ -122,9 +122,9 @@ fields_fit a b w bounds range =
     (λ x r. width-below a b (field a b x) bounds (field-le a b x bounds r.0 r.1)) w range)
 
 -- the bytes and fields of a finished word
-pub unpacked : (a b : ℤ) (c at have k word : ℕ) (out : List ℤ) (v : List ℕ) → c ≡ width a b → length out ≡ 256 → c * at + have ≡ 8 * k → k ≡ 32 * c → length v ≤ k → have < c → All (λ byte. byte < 256) v
+pub word_finished : (a b : ℤ) (c at have k word : ℕ) (out : List ℤ) (v : List ℕ) → c ≡ width a b → length out ≡ 256 → c * at + have ≡ 8 * k → k ≡ 32 * c → length v ≤ k → have < c → All (λ byte. byte < 256) v
     → bits c (map (field a b) (take at out)) ++ integer_to_bits have word ≡ bits 8 (take k v) → All (HasField a b) (take at out) → Unpacks a b v out
-unpacked a b c at have k word out v w long done end whole few bytes same fields =
+word_finished a b c at have k word out v w long done end whole few bytes same fields =
     let all : at ≡ 256 = all_taken c at have (omega (arith, done, end)) few in
     let n : c * at ≡ c * 256 = ap (λ i. c * i) all in
     let none : have ≡ 0 = omega (arith, done, end, n) in

@@ -6,6 +6,13 @@ mod WorkedRounding
 mod WorkedHints
 mod WorkedSamplers
 mod Samplings
+mod Masks
+mod VectorsOf
+mod Challenges
+mod Hints
+mod Spellings
+mod EncodedParts
+mod Decomposed
 pub mod Reading
 mod Bits
 mod Fields

@@ -130,3 +130,6 @@ packs_packed c n fields e h =
 
 pub same_fields : (c : ℕ) (bytes fields others : List ℕ) → length fields ≡ length others → Packs c bytes fields → Packs c bytes others → fields ≡ others
 same_fields c bytes fields others n p q = same_numbers c fields others n p.small_fields q.small_fields (sym p.same_bits ∙ q.same_bits)
+
+pub same_bytes : (c : ℕ) (bytes others fields : List ℕ) → Packs c bytes fields → Packs c others fields → bytes ≡ others
+same_bytes c bytes others fields p q = is_packed c bytes fields p ∙ sym (is_packed c others fields q)

@@ -1,4 +1,5 @@
--- A public key determines rho and t1.
+-- A public key determines rho and t1. So `pk_decode` of what `pk_encode` gives are the parts again; the other way round is
+-- one equation of the two contracts, `pk ≡ public_key_bytes rho t1` and `result ≡ public_key_bytes rho t1`.
 use Rattle.std.proofs.Common.{◌≡◌, ℕ, List, [], ◌∷◌, ℤ, pos, length, refl, ap, ◌∙◌, arith}
 use Rattle.std.specs.List.{All, flat_map}
 use Rattle.std.proofs.lemmas.Int.{ints}

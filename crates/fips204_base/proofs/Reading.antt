@@ -1,5 +1,5 @@
 -- Reading a stream in counter mode block by block.
-use Rattle.std.proofs.Common.{◌≡◌, inl, inr, ℕ, zero, suc, ◌+◌, ◌-◌, ◌*◌, ◌<◌, ◌≤◌, List, ◌++◌, length, min, take, drop, length-append, length-drop, arith, sym, ◌∙◌, ap, append_assoc, append-nil}
+use Rattle.std.proofs.Common.{◌≡◌, inl, inr, ℕ, zero, suc, ◌+◌, ◌-◌, ◌*◌, ◌<◌, ◌≤◌, List, ◌++◌, length, take, drop, length-append, length-drop, arith, sym, ◌∙◌, ap, append_assoc, append-nil}
 use Rattle.std.proofs.lemmas.Bool.{cases_lt}
 use Rattle.std.proofs.lemmas.List.{drop_all, drop_at, drop-drop, drop-append-le, take-append-le, take_at, length-take-le}
 use Rattle.std.proofs.Math.Seq.{take-add}
@@ -7,96 +7,85 @@ use borrow.Rule.Slice.PartMut.{put_mid, post_of}
 use Rattle.fips204_base.specs.Streams.{counter_block, counter_blocks}
 use Rattle.fips204_base.specs.Blocks.{length-counter_block, length-counter_blocks}
 
--- what is left from block i on begins with block i
-pub next_block : (hash : List ℕ → List ℕ) (size : ℕ) → ((message : List ℕ) → length (hash message) ≡ size) →
-    (seed : List ℕ) (n i : ℕ) → i < n →
-    drop (i * size) (counter_blocks hash seed n) ≡ counter_block hash seed i ++ drop ((i + 1) * size) (counter_blocks hash seed n)
-unfolding counter_blocks
-next_block hash size sized seed zero i h = absurd (omega arith)
-next_block hash size sized seed (suc n) i h =
-    let B = counter_blocks hash seed n in
-    let b = counter_block hash seed n in
-    let before = length-counter_blocks hash size sized seed n in
-    let last = length-counter_block hash size sized seed n in
-    let both = length-append B b in
-    elim (cases_lt i n) [
-      | inl lt ↦
-          let k : ℕ = n - (i + 1) in
-          let e : n ≡ i + 1 + k = omega arith in
-          let room : (i + 1) * size ≤ length B = rw (before, e) (omega arith) in
-          drop-append-le (i * size) B b (omega (arith, room))
-          ∙ ap (λ l. l ++ b) (next_block hash size sized seed n i lt)
-          ∙ append_assoc (counter_block hash seed i) (drop ((i + 1) * size) B) b
-          ∙ ap (λ l. counter_block hash seed i ++ l) (sym (drop-append-le ((i + 1) * size) B b room))
-      | inr ge ↦
-          let e : i ≡ n = omega arith in
-          let none = drop_all ((n + 1) * size) (B ++ b) (omega (arith, before, last, both)) in
-          rw e (drop_at B b (n * size) before ∙ rw none (sym (append-nil b)))
-    ]
+-- a hash whose digests have `size` bytes
+module _ (hash : List ℕ → List ℕ) (size : ℕ) (sized : (message : List ℕ) → length (hash message) ≡ size) (seed : List ℕ) where
+  -- what is left from block i on begins with block i
+  pub next_block : (n i : ℕ) → i < n →
+      drop (i * size) (counter_blocks hash seed n) ≡ counter_block hash seed i ++ drop ((i + 1) * size) (counter_blocks hash seed n)
+  unfolding counter_blocks
+  next_block zero i h = absurd (omega arith)
+  next_block (suc n) i h =
+      let before = length-counter_blocks hash size sized seed n in
+      let last = length-counter_block hash size sized seed n in
+      let earlier = counter_blocks hash seed n in
+      let block = counter_block hash seed n in
+      let both = length-append earlier block in
+      elim (cases_lt i n) [
+        | inl lt ↦
+            let k : ℕ = n - (i + 1) in
+            let e : n ≡ i + 1 + k = omega arith in
+            let room : (i + 1) * size ≤ length earlier = rw (before, e) (omega arith) in
+            drop-append-le (i * size) earlier block (omega (arith, room))
+            ∙ ap (λ l. l ++ block) (next_block n i lt)
+            ∙ append_assoc (counter_block hash seed i) (drop ((i + 1) * size) earlier) block
+            ∙ ap (λ l. counter_block hash seed i ++ l) (sym (drop-append-le ((i + 1) * size) earlier block room))
+        | inr ge ↦
+            let e : i ≡ n = omega arith in
+            let none = drop_all ((n + 1) * size) (earlier ++ block) (omega (arith, before, last, both)) in
+            rw e (drop_at earlier block (n * size) before ∙ rw none (sym (append-nil block)))
+      ]
 
--- how many bytes are left of a block and of the blocks after it
-pub left_size : (size given next count : ℕ) (block blocks : List ℕ) → length block ≡ size → length blocks ≡ count * size → given ≤ size → next ≤ count →
-    size - given + (count - next) * size ≡ length (drop given block ++ drop (next * size) blocks)
-left_size size given next count block blocks one all g n =
-    let k : ℕ = count - next in
-    let e : count ≡ next + k = omega arith in
-    let whole = length-append (drop given block) (drop (next * size) blocks) in
-    let first = length-drop given block in
-    let rest = length-drop (next * size) blocks in
-    let total = rw e at all in
-    omega (arith, whole, first, rest, total)
+-- the same over `count` blocks, where the list `left` is still to come
+module _ (hash : List ℕ → List ℕ) (size : ℕ) (sized : (message : List ℕ) → length (hash message) ≡ size) (seed : List ℕ) (count : ℕ) (left : List ℕ) where
+  -- the bytes of `block` after the first `given`, and the blocks from `next` on, are what is left
+  abbrev pub InHand : ℕ → List ℕ → ℕ → Type 0
+  InHand next block given = (given ≤ size) × (next ≤ count) × (length block ≡ size)
+      × (drop given block ++ drop (next * size) (counter_blocks hash seed count) ≡ left)
 
--- where a byte is left and none in hand, a block is left
-pub block_left : (size next count : ℕ) (block blocks left : List ℕ) → length block ≡ size → length blocks ≡ count * size → next ≤ count →
-    drop size block ++ drop (next * size) blocks ≡ left → 0 < length left → next < count
-block_left size next count block blocks left one all n e h = elim (cases_lt next count) [
-  | inl lt ↦ lt
-  | inr ge ↦
-      let same : next ≡ count = omega arith in
-      let whole = length-append (drop size block) (drop (next * size) blocks) in
-      let first = length-drop size block in
-      let rest : length (drop (next * size) blocks) ≡ length blocks - count * size = rw (← same) (length-drop (next * size) blocks) in
-      let total = ap length e in
-      absurd (omega (arith, whole, first, rest, total, all, one, h))
-]
+  pub InHand-left : (next : ℕ) (block : List ℕ) (given : ℕ) → InHand next block given → size - given + (count - next) * size ≡ length left
+  InHand-left next block given hand =
+      let k : ℕ = count - next in
+      let e : count ≡ next + k = omega (arith, hand.1) in
+      let blocks = counter_blocks hash seed count in
+      let whole = length-append (drop given block) (drop (next * size) blocks) in
+      let first = length-drop given block in
+      let rest = length-drop (next * size) blocks in
+      let total : length blocks ≡ (next + k) * size = length-counter_blocks hash size sized seed count ∙ ap (λ n. n * size) e in
+      let same = ap length hand.3 in
+      omega (arith, whole, first, rest, total, same, hand.0, hand.2)
 
--- Between two runs: the block in hand is whole, and its bytes after the first `given`, with the
--- blocks from `next` on, are what is left.
-abbrev pub InHand : (List ℕ → List ℕ) → ℕ → ℕ → List ℕ → List ℕ → ℕ → List ℕ → ℕ → Type 0
-InHand hash size count left seed next block given = (given ≤ size) × (next ≤ count) × (length block ≡ size)
-    × (drop given block ++ drop (next * size) (counter_blocks hash seed count) ≡ left)
+  -- the next block is taken in hand where none is
+  pub InHand-made : (next : ℕ) (block : List ℕ) (given : ℕ) → 0 < length left → given ≡ size → InHand next block given →
+      InHand (next + 1) (counter_block hash seed next) 0
+  InHand-made next block given h spent hand =
+      let none = drop_all given block (omega (arith, hand.2)) in
+      let below : next < count = elim (cases_lt next count) [
+        | inl lt ↦ lt
+        | inr ge ↦
+            let at_end : count - next ≡ 0 = omega arith in
+            let none_left = ap (λ n. n * size) at_end in
+            let total = InHand-left next block given hand in
+            absurd (omega (arith, none_left, total, spent, h))
+      ] in (
+        omega arith,
+        omega (arith, below),
+        length-counter_block hash size sized seed next,
+        sym (next_block hash size sized seed count next below) ∙ rw none at hand.3,
+      )
 
--- the next block taken in hand
-pub InHand-made : (hash : List ℕ → List ℕ) (size : ℕ) → ((message : List ℕ) → length (hash message) ≡ size) →
-    (count : ℕ) (left seed : List ℕ) (next : ℕ) (block : List ℕ) (given : ℕ) → 0 < length left → given ≡ size →
-    InHand hash size count left seed next block given → InHand hash size count left seed (next + 1) (counter_block hash seed next) 0
-InHand-made hash size sized count left seed next block given h spent hand =
-    let view = rw spent at hand.3 in
-    let below = block_left size next count block (counter_blocks hash seed count) left hand.2 (length-counter_blocks hash size sized seed count) hand.1 view h in
-    let none = drop_all size block (omega (arith, hand.2)) in (
-      omega arith,
-      omega (arith, below),
-      length-counter_block hash size sized seed next,
-      sym (next_block hash size sized seed count next below) ∙ (rw none at view),
-    )
+  -- `run` bytes of the block in hand are the next ones of what is left
+  abbrev pub IsRun : ℕ → List ℕ → ℕ → ℕ → Type 0
+  IsRun next block given run = (given + run ≤ size) × (take run (drop given block) ≡ take run left)
+      × (drop (given + run) block ++ drop (next * size) (counter_blocks hash seed count) ≡ drop run left)
 
--- what a run of `count` bytes out of the block in hand gives and leaves
-abbrev pub Run : (List ℕ → List ℕ) → ℕ → ℕ → List ℕ → List ℕ → ℕ → List ℕ → ℕ → ℕ → Type 0
-Run hash size total left seed next block given count = (given + count ≤ size) × (take count (drop given block) ≡ take count left)
-    × (drop (given + count) block ++ drop (next * size) (counter_blocks hash seed total) ≡ drop count left)
-
-pub InHand-run : (hash : List ℕ → List ℕ) (size total : ℕ) (left seed : List ℕ) (next : ℕ) (block : List ℕ) (given count n : ℕ) →
-    InHand hash size total left seed next block given → count ≡ min (length (drop given block)) n → Run hash size total left seed next block given count
-InHand-run hash size total left seed next block given count n hand e =
-    let room = length-drop given block in
-    let fits : count ≤ length (drop given block) = omega arith in
-    let later = drop (next * size) (counter_blocks hash seed total) in
-    let one = hand.2 in
-    let within = hand.0 in (
-      omega (arith, room, fits, one, within),
-      sym (take-append-le count (drop given block) later fits) ∙ ap (take count) hand.3,
-      ap (λ l. l ++ later) (sym (drop-drop count given block)) ∙ sym (drop-append-le count (drop given block) later fits) ∙ ap (drop count) hand.3,
-    )
+  pub InHand-run : (next : ℕ) (block : List ℕ) (given run : ℕ) → InHand next block given → run ≤ length (drop given block) → IsRun next block given run
+  InHand-run next block given run hand fits =
+      let room = length-drop given block in
+      let later = drop (next * size) (counter_blocks hash seed count) in (
+        omega (arith, room, fits, hand.2, hand.0),
+        sym (take-append-le run (drop given block) later fits) ∙ ap (take run) hand.3,
+        ap (λ l. l ++ later) (sym (drop-drop run given block)) ∙ sym (drop-append-le run (drop given block) later fits) ∙ ap (drop run) hand.3,
+      )
 
 -- a run of `count` bytes, then `tail`, written over what followed the first `filled` bytes
 pub filled_more : (out whole left part tail rest : List ℕ) (filled count : ℕ) → filled ≤ length out → filled + count ≤ length out → length out ≤ length whole →

@@ -7,22 +7,22 @@ use Rattle.sha2.proofs.Facts256.{length-sha256}
 use Rattle.sha2.proofs.Facts512.{length-sha512}
 use Rattle.fips204_base.specs.Streams.{counter_block, counter_blocks, front_length, sha256_front, sha512_front}
 
--- a block is as long as a digest
-pub length-counter_block : (hash : List ℕ → List ℕ) (size : ℕ) → ((message : List ℕ) → length (hash message) ≡ size) →
-    (seed : List ℕ) (i : ℕ) → length (counter_block hash seed i) ≡ size
-unfolding counter_block
-length-counter_block hash size sized seed i = sized (seed ++ to_le_bytes w32 i)
+-- a hash whose digests have `size` bytes
+module _ (hash : List ℕ → List ℕ) (size : ℕ) (sized : (message : List ℕ) → length (hash message) ≡ size) (seed : List ℕ) where
+  -- a block is as long as a digest
+  pub length-counter_block : (i : ℕ) → length (counter_block hash seed i) ≡ size
+  unfolding counter_block
+  length-counter_block i = sized (seed ++ to_le_bytes w32 i)
 
--- n blocks are n times as long
-pub length-counter_blocks : (hash : List ℕ → List ℕ) (size : ℕ) → ((message : List ℕ) → length (hash message) ≡ size) →
-    (seed : List ℕ) (n : ℕ) → length (counter_blocks hash seed n) ≡ n * size
-unfolding counter_blocks
-length-counter_blocks hash size sized seed zero = omega arith
-length-counter_blocks hash size sized seed (suc n) =
-    let before = length-counter_blocks hash size sized seed n in
-    let last = length-counter_block hash size sized seed n in
-    let both = length-append (counter_blocks hash seed n) (counter_block hash seed n) in
-    omega (arith, before, last, both)
+  -- n blocks are n times as long
+  pub length-counter_blocks : (n : ℕ) → length (counter_blocks hash seed n) ≡ n * size
+  unfolding counter_blocks
+  length-counter_blocks zero = omega arith
+  length-counter_blocks (suc n) =
+      let before = length-counter_blocks n in
+      let last = length-counter_block n in
+      let both = length-append (counter_blocks hash seed n) (counter_block hash seed n) in
+      omega (arith, before, last, both)
 
 pub length-sha256_front : (input : List ℕ) → length (sha256_front input) ≡ front_length
 length-sha256_front input = length-counter_blocks sha256 32 length-sha256 (sha256 input) 128

@@ -21,14 +21,14 @@ places i [] = []
 places i (pick ∷ later) = moved (i + 1) pick later ∷ places (i + 1) later
 
 -- the sign of a set bit is -1, of another 1
-abbrev pub sign : ℕ → ℤ
-sign bit = if nat_eq bit 1 then neg_ℤ (pos 1) else pos 1
+abbrev pub sign_of : ℕ → ℤ
+sign_of bit = if nat_eq bit 1 then neg_ℤ (pos 1) else pos 1
 
 -- coefficient n of the sum over i of sign_i X^place(i)
 unfoldable pub signed_sum : List ℕ → List ℕ → ℕ → ℤ
 signed_sum [] sign_bits n = pos 0
 signed_sum (place ∷ later) [] n = pos 0
-signed_sum (place ∷ later) (bit ∷ sign_bits) n = (if nat_eq place n then sign bit else pos 0) +ℤ signed_sum later sign_bits n
+signed_sum (place ∷ later) (bit ∷ sign_bits) n = (if nat_eq place n then sign_of bit else pos 0) +ℤ signed_sum later sign_bits n
 
 -- the picks of 256 - tau to 255 from the 1024 bytes after the first eight
 unfoldable pub challenge_picks : ℕ → List ℕ → List ℕ

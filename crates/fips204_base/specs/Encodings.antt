@@ -7,10 +7,6 @@ use Rattle.fips204_base.specs.Rounding.{high_values}
 use Rattle.fips204_base.specs.HintSpelling.{all_ones, hint_bytes}
 use Rattle.fips204_base.specs.Vectors.{IsVector}
 
--- pkEncode (Algorithm 22): rho, and then the polynomials of t1 in ten bits a coefficient
-abbrev pub public_key_bytes : List ℕ → List R → List ℕ
-public_key_bytes rho t1 = rho ++ flat_map (λ w. polynomial_bytes (pos 0) (pos 1023) w.0) t1
-
 -- the polynomials of a vector one after another, with coefficients from -a to b:
 --   part            a             b             bits          bytes that decode
 --   t1              0             1023          10            all
@@ -20,6 +16,10 @@ public_key_bytes rho t1 = rho ++ flat_map (λ w. polynomial_bytes (pos 0) (pos 1
 --   w1              0             43 or 15      6 or 4        written only
 abbrev pub vector_bytes : ℕ → ℕ → List R → List ℕ
 vector_bytes a b v = flat_map (λ w. polynomial_bytes (pos a) (pos b) w.0) v
+
+-- pkEncode (Algorithm 22): rho, t1
+abbrev pub public_key_bytes : List ℕ → List R → List ℕ
+public_key_bytes rho t1 = rho ++ vector_bytes 0 1023 t1
 
 -- skEncode (Algorithm 24): rho, K, tr, s1, s2, t0
 abbrev pub private_key_bytes : ℕ → List ℕ → List ℕ → List ℕ → List R → List R → List R → List ℕ

@@ -10,7 +10,7 @@ use Rattle.fips204_base.specs.Transforms.{inverse_transform}
 
 -- a vector of so many polynomials, with coefficients from -a to b
 pub record IsVector (count a b : ℕ) (v : List R) : Type 0 where
-  pub polynomials : length v ≡ count
+  pub rows : length v ≡ count
   pub places : All (λ w. length w.0 ≡ 256) v
   pub range : All (λ w. InRange (pos 0 -ℤ pos a) (pos b) w.0) v
 

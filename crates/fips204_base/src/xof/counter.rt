@@ -125,6 +125,7 @@ impl<H: BlockHash<N>, const N: usize> BlockReader<H, N> {
             self.next += 1;
             self.given = 0;
         }
+        // A part with a start is taken of a slice: the length of the array is a parameter.
         let whole = &self.block[..];
         let count = copy_run(&whole[self.given..], out);
         self.given += count;

@@ -33,7 +33,7 @@ impl BlockHash<32> for Sha256Ctr {
     }
 }
 
-/// A reader of `Sha256Ctr`.
+/// A reader of `Sha256Ctr`. It makes a block when a byte of it is asked for, and holds one.
 #[derive(Drop)]
 pub struct Sha256CtrReader {
     blocks: BlockReader<Sha256Ctr, 32>,

@@ -33,7 +33,7 @@ impl BlockHash<64> for Sha512Ctr {
     }
 }
 
-/// A reader of `Sha512Ctr`.
+/// A reader of `Sha512Ctr`. It makes a block when a byte of it is asked for, and holds one.
 #[derive(Drop)]
 pub struct Sha512CtrReader {
     blocks: BlockReader<Sha512Ctr, 64>,

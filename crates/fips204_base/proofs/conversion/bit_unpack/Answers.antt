@@ -4,7 +4,7 @@ use Rattle.std.proofs.lemmas.List.{take_more}
 use Rattle.std.proofs.lemmas.Nat.{mod_below, pow_pos}
 use Rattle.fips204_base.specs.Packing.{width, field, bits}
 use Rattle.fips204_base.proofs.Bits.{digits-zero, bits-nil, put_bits, put_below, put_fits, give_bits, give_below, low_small}
-use Rattle.fips204_base.proofs.Fields.{refused, stored, unpacked}
+use Rattle.fips204_base.proofs.Fields.{refused, stored, word_finished}
 use Rattle.fips204_base.proofs.conversion.bit_unpack.Goals as goal
 use Rattle.fips204_base.proofs.conversion.bit_unpack.Goals.{else-a-eq0-via-then-a-eq0+else-not-is_in_range, else-a-eq0-via-else-a-eq0}
 use Rattle.std.proofs.lemmas.Bool.{iff_false}
@@ -63,7 +63,7 @@ returns-then-not-is_in_range c =
     let A = to_z-of_z w32 c.args.a c.ranges.a in
     let B = to_z-of_z w32 c.args.b c.ranges.b in
     let bytes = All-from_get_or (λ (x : ℕ). x < 256) c.args.v.now 0 (λ i h. (c.type_inv.v i).fits) in
-    let unpacks = rw (A, B) at (unpacked _ _ c.field_width-c.result c.loop-byte.at c.loop-byte.have c.loop-byte.byte-index c.loop-byte.word c.loop-byte.out c.args.v.now c.field_width-c.ensures.value
+    let unpacks = rw (A, B) at (word_finished _ _ c.field_width-c.result c.loop-byte.at c.loop-byte.have c.loop-byte.byte-index c.loop-byte.word c.loop-byte.out c.args.v.now c.field_width-c.ensures.value
     c.loop-byte.invariant.long c.loop-byte.invariant.bits_done (rw c.field_width-c.ensures.value (rw (A, B) (omega arith))) c.loop-byte-test.false c.loop-byte.invariant.few bytes c.loop-byte.invariant.so_far c.loop-byte.invariant.fields) in
     let zero : c.args.a ≡ pos 0 = omega (arith, ints, c.if-a-eq0.true) in (
       zero,
@@ -75,7 +75,7 @@ returns c =
     let A = to_z-of_z w32 c.args.a c.ranges.a in
     let B = to_z-of_z w32 c.args.b c.ranges.b in
     let bytes = All-from_get_or (λ (x : ℕ). x < 256) c.args.v.now 0 (λ i h. (c.type_inv.v i).fits) in
-    let unpacks = rw (A, B) at (unpacked _ _ c.field_width-c.result c.loop-byte.at c.loop-byte.have c.loop-byte.byte-index c.loop-byte.word c.loop-byte.out c.args.v.now c.field_width-c.ensures.value
+    let unpacks = rw (A, B) at (word_finished _ _ c.field_width-c.result c.loop-byte.at c.loop-byte.have c.loop-byte.byte-index c.loop-byte.word c.loop-byte.out c.args.v.now c.field_width-c.ensures.value
     c.loop-byte.invariant.long c.loop-byte.invariant.bits_done (rw c.field_width-c.ensures.value (rw (A, B) (omega arith))) c.loop-byte-test.false c.loop-byte.invariant.few bytes c.loop-byte.invariant.so_far c.loop-byte.invariant.fields) in (
       unpacks,
       λ zero. elim c.else-a-eq0.branch [

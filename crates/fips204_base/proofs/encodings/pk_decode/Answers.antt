@@ -44,8 +44,10 @@ returns g c =
     let done : c.loop-i.i ≡ g.row.K = omega (arith, c.loop-i-test.false, c.loop-i.auto.i-end) in
     let whole : take (32 + 320 * c.loop-i.i) c.args.pk.now ≡ c.args.pk.now = take_all _ _ (omega (arith, done, c.requires, c.told-pk)) in
     let all : take c.loop-i.i c.loop-i.t1 ≡ c.loop-i.t1 = take_all _ _ (omega (arith, done, c.loop-i.invariant.size)) in
+    let first : c.unwrap-rho.result.now ≡ take 32 c.args.pk.now = search rules in
     record {
       same_bytes = sym whole ∙ c.loop-i.invariant.read ∙ ap (public_key_bytes c.unwrap-rho.result.now) all;
+      seed = rw first (simp length-take (omega (arith, c.requires, c.told-pk)));
       range = rw all at c.loop-i.invariant.range;
       count = rw all at c.loop-i.invariant.count;
     }

@@ -1,4 +1,4 @@
-use Rattle.std.proofs.Common.{◌≡◌, ◌+◌, ◌*◌, ◌-◌, ◌≤◌, ◌++◌, ◌∙◌, ap, sym, arith, rules, pos, length, length-take, length-drop, length-append, take}
+use Rattle.std.proofs.Common.{◌≡◌, append-nil, ◌+◌, ◌*◌, ◌-◌, ◌≤◌, ◌++◌, ◌∙◌, ap, sym, arith, pos, length, length-take, length-drop, take}
 use Rattle.std.proofs.lemmas.List.{length-replicate, take_all, take_at, take_more, flat_map_more}
 use Rattle.fips204_base.specs.declared.types.R.{R}
 use Rattle.fips204_base.specs.Encodings.{public_key_bytes}
@@ -8,19 +8,14 @@ use Rattle.fips204_base.proofs.Packings.{is_packed}
 use Rattle.fips204_base.proofs.Pieces.{length-put_mid, put_piece}
 use Rattle.fips204_base.proofs.encodings.pk_encode.Goals as goal
 
-pub slice_bounds-copy_from_slice-end-2 : goal.slice_bounds-copy_from_slice-end-2
-slice_bounds-copy_from_slice-end-2 g c = simp (length-take, length-replicate) (omega (arith, c.requires))
-
-pub copy_from_slice-requires : goal.copy_from_slice-requires
-copy_from_slice-requires g c = simp (length-take, length-replicate) (omega (arith, c.requires, c.told-rho))
+pub write_at-requires : goal.write_at-requires
+write_at-requires g c = simp length-replicate (omega (arith, c.requires, c.told-rho))
 
 pub loop-i-init : goal.loop-i-init
-loop-i-init g c =
-    let written : length c.copy_from_slice.new.self ≡ 32 = rw c.copy_from_slice.ensures.after (omega (arith, c.told-rho)) in
-    record {
-      size = simp (length-append, length-drop, length-replicate) (omega (arith, written, c.requires));
-      written = take_at c.copy_from_slice.new.self _ 32 written ∙ search rules;
-    }
+loop-i-init g c = record {
+  size = c.write_at.auto.out ∙ length-replicate _ _;
+  written = ap (take 32) c.write_at.ensures ∙ take_at c.args.rho.now _ 32 c.told-rho ∙ sym (append-nil c.args.rho.now);
+}
 
 pub simple_bit_pack-requires-clause-room : goal.simple_bit_pack-requires-clause-room
 simple_bit_pack-requires-clause-room g c =

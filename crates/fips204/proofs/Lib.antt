@@ -1,0 +1,3 @@
+mod WorkedSets
+mod FirstAnswers
+mod WorkedMessages

@@ -1,0 +1,45 @@
+-- Acceptance (FIPS 204, Algorithm 8).
+use Rattle.std.specs.Prelude.{◌≡◌, ◌<◌, ℕ, ◌-◌, ◌*◌, ◌%◌, List, pos, Some, slice_index_or, []}
+use Rattle.fips204_base.specs.declared.types.R.{R}
+use Rattle.fips204_base.specs.declared.types.T.{T}
+use Rattle.fips204_base.specs.CentredValues.{vector_norm}
+use Rattle.fips204_base.specs.Products.{minus}
+use Rattle.fips204_base.specs.Vectors.{vector, matrix_product, vector_of}
+use Rattle.fips204_base.specs.Rounding.{use_hint}
+use Rattle.fips204_base.specs.HintSpelling.{is_one}
+use Rattle.fips204_base.specs.Encodings.{IsSignature}
+use Rattle.fips204_base.specs.MatrixEntry.{sampled_matrix}
+use Rattle.fips204_base.specs.Challenge.{challenge}
+use Rattle.fips204.specs.ParameterSets.{ParameterSet, commitment_length}
+use Rattle.fips204.specs.Keys.{PublicParts}
+use Rattle.fips204.specs.Attempts.{commitment, scaled}
+
+-- t1 2^13
+abbrev pub raised : List R → ℕ → ℕ → ℕ
+raised t1 r n = 8192 * vector t1 r n % 8380417
+
+-- w' = A z - c t1 2^13
+abbrev pub verified_vector : ParameterSet → List (List T) → List R → List R → R → ℕ → ℕ → ℕ
+verified_vector p a t1 z c r = minus (matrix_product p.l a (vector z) r) (scaled c (raised t1) r)
+
+-- w1' = UseHint(h, w')
+unfoldable pub hinted_vector : ParameterSet → List (List T) → List R → List R → List R → R → List R
+hinted_vector p a t1 z h c = vector_of p.k (λ r n. pos (use_hint p.gamma2 (is_one (slice_index_or h r record { 0 = [] }) n) (verified_vector p a t1 z c r n)))
+
+-- ML-DSA.Verify_internal (Algorithm 8) from mu, with the matrix a: the signature has parts, so that its last bytes spell the
+-- hint h; there is a challenge; the norm of z is small; and c_tilde is the one that w1' gives
+pub record Accepts (p : ParameterSet) (H : List ℕ → List ℕ) (a : List (List T)) (t1 : List R) (mu signature : List ℕ) : Type 0 where
+  pub c_tilde : List ℕ
+  pub z : List R
+  pub h : List R
+  pub hint : IsSignature p.gamma1 p.omega p.k p.l (commitment_length p) signature c_tilde z h
+  pub c : R
+  pub challenge : challenge p.tau (H c_tilde) ≡ Some c
+  pub norm : vector_norm z < p.gamma1 - p.beta
+  pub commitment : c_tilde ≡ commitment p H mu (hinted_vector p a t1 z h c)
+
+-- the same with a plain key, whose matrix has to be there
+pub record Verifies (p : ParameterSet) (H G : List ℕ → List ℕ) (pk : PublicParts) (mu signature : List ℕ) : Type 0 where
+  pub a : List (List T)
+  pub matrix : sampled_matrix G pk.rho p.k p.l ≡ Some a
+  pub accepted : Accepts p H a pk.t1 mu signature

@@ -1,0 +1,13 @@
+pub mod ParameterSets
+pub mod Keys
+pub mod KeyGeneration
+pub mod Attempts
+pub mod Signing
+pub mod Acceptance
+pub mod Framing
+pub mod PreHash
+pub mod Refusals
+pub use Rattle.fips204_base.specs.Encodings
+pub use Rattle.fips204_base.specs.Faults
+pub use Rattle.fips204_base.specs.Packing
+pub use Rattle.fips204_base.specs.Streams

@@ -1,0 +1,53 @@
+-- The parameter sets (FIPS 204, Tables 1 and 2).
+use Rattle.std.specs.Prelude.{ℕ, ◌+◌, ◌-◌, ◌*◌, ◌/◌, pos, Bool, ◌&&◌, ◌||◌, nat_eq}
+use Rattle.fips204_base.specs.Packing.{width}
+
+-- the columns of Table 1; beta is tau eta
+pub record ParameterSet : Type 0 where
+  pub tau : ℕ
+  pub lambda : ℕ
+  pub gamma1 : ℕ
+  pub gamma2 : ℕ
+  pub k : ℕ
+  pub l : ℕ
+  pub eta : ℕ
+  pub beta : ℕ
+  pub omega : ℕ
+
+-- ML-DSA-44
+abbrev pub set_44 : ParameterSet
+set_44 = record { tau = 39; lambda = 128; gamma1 = 131072; gamma2 = 95232; k = 4; l = 4; eta = 2; beta = 78; omega = 80 }
+
+-- ML-DSA-65
+abbrev pub set_65 : ParameterSet
+set_65 = record { tau = 49; lambda = 192; gamma1 = 524288; gamma2 = 261888; k = 6; l = 5; eta = 4; beta = 196; omega = 55 }
+
+-- ML-DSA-87
+abbrev pub set_87 : ParameterSet
+set_87 = record { tau = 60; lambda = 256; gamma1 = 524288; gamma2 = 261888; k = 8; l = 7; eta = 2; beta = 120; omega = 75 }
+
+-- whether two sets agree in each column
+abbrev pub same_row : ParameterSet → ParameterSet → Bool
+same_row p row =
+    nat_eq p.tau row.tau && nat_eq p.lambda row.lambda && nat_eq p.gamma1 row.gamma1 && nat_eq p.gamma2 row.gamma2
+    && nat_eq p.k row.k && nat_eq p.l row.l && nat_eq p.eta row.eta && nat_eq p.beta row.beta && nat_eq p.omega row.omega
+
+-- whether the numbers are those of one of the three sets
+abbrev pub is_row : ParameterSet → Bool
+is_row p = same_row p set_44 || same_row p set_65 || same_row p set_87
+
+-- how many bytes a public key has
+abbrev pub public_key_length : ParameterSet → ℕ
+public_key_length p = 32 + 320 * p.k
+
+-- how many bytes a private key has
+abbrev pub private_key_length : ParameterSet → ℕ
+private_key_length p = 128 + 32 * ((p.l + p.k) * width (pos p.eta) (pos p.eta) + p.k * 13)
+
+-- how many bytes c_tilde has
+abbrev pub commitment_length : ParameterSet → ℕ
+commitment_length p = p.lambda / 4
+
+-- how many bytes a signature has
+abbrev pub signature_length : ParameterSet → ℕ
+signature_length p = commitment_length p + 32 * (p.l * width (pos (p.gamma1 - 1)) (pos p.gamma1)) + p.omega + p.k

@@ -1,0 +1,67 @@
+-- Whole calls, with their refusals in order (FIPS 204, Algorithms 1 to 5).
+use Rattle.std.specs.Prelude.{◌≡◌, ◌≤◌, ◌⊎◌, ℕ, List, length, nat_lt, Option, Some, None, Result, Err, ok_or, Bool, true, false, replicate, if◌then◌else◌}
+use Rattle.fips204_base.specs.declared.fault.Fault.{Fault}
+use Rattle.fips204_base.specs.declared.fault.Fault.TheVariants.{SignCtx, HashCtx, SamplingLimit}
+use Rattle.fips204.specs.ParameterSets.{ParameterSet}
+use Rattle.fips204.specs.Keys.{PublicParts, PrivateParts}
+use Rattle.fips204.specs.KeyGeneration.{key_generation, public_key_of}
+use Rattle.fips204.specs.Framing.{framed, framed_digest, message_hash}
+use Rattle.fips204.specs.PreHash.{pre_hash_fault}
+use Rattle.fips204.specs.Signing.{sign}
+use Rattle.fips204.specs.Acceptance.{Verifies}
+
+-- a refusal that stands first, or else the answer
+abbrev pub refused_or : {A : Type 0} → Option Fault → Result A Fault → Result A Fault
+refused_or None answer = answer
+refused_or (Some fault) answer = Err fault
+
+-- what refuses plain signing before its random bytes are drawn: a context of more than 255 bytes
+abbrev pub message_fault : List ℕ → Option Fault
+message_fault context = if nat_lt 255 (length context) then Some SignCtx else None
+
+-- what refuses pre-hash signing before its random bytes are drawn: such a context, and then the conditions on the digest
+abbrev pub digest_fault : List ℕ → List ℕ → List ℕ → Option Fault
+digest_fault context oid digest = if nat_lt 255 (length context) then Some HashCtx else pre_hash_fault digest oid
+
+-- ML-DSA.KeyGen (Algorithm 1) from the seed xi
+abbrev pub generated : ParameterSet → (List ℕ → List ℕ) → (List ℕ → List ℕ) → List ℕ → Result (PublicParts × PrivateParts) Fault
+generated p H G xi = ok_or (key_generation p H G xi) SamplingLimit
+
+-- the public key of a private key
+abbrev pub derived : ParameterSet → (List ℕ → List ℕ) → PrivateParts → Result PublicParts Fault
+derived p G sk = ok_or (public_key_of p G sk) SamplingLimit
+
+-- ML-DSA.Sign (Algorithm 2) from rnd
+abbrev pub sign_message : ParameterSet → (List ℕ → List ℕ) → (List ℕ → List ℕ) → PrivateParts → List ℕ → List ℕ → List ℕ → Result (List ℕ) Fault
+sign_message p H G sk rnd message context = refused_or (message_fault context) (sign p H G sk (message_hash H sk.tr (framed context message)) rnd)
+
+-- HashML-DSA.Sign (Algorithm 4) from rnd and the digest
+abbrev pub sign_digest : ParameterSet → (List ℕ → List ℕ) → (List ℕ → List ℕ) → PrivateParts → List ℕ → List ℕ → List ℕ → List ℕ → Result (List ℕ) Fault
+sign_digest p H G sk rnd digest context oid = refused_or (digest_fault context oid digest) (sign p H G sk (message_hash H sk.tr (framed_digest context oid digest)) rnd)
+
+-- ML-DSA.Verify (Algorithm 3)
+pub record VerifiesMessage (p : ParameterSet) (H G : List ℕ → List ℕ) (pk : PublicParts) (message signature context : List ℕ) : Type 0 where
+  pub short : length context ≤ 255
+  pub verified : Verifies p H G pk (message_hash H pk.tr (framed context message)) signature
+
+-- HashML-DSA.Verify (Algorithm 5), from the digest
+pub record VerifiesDigest (p : ParameterSet) (H G : List ℕ → List ℕ) (pk : PublicParts) (digest signature context oid : List ℕ) : Type 0 where
+  pub short : length context ≤ 255
+  pub whole : pre_hash_fault digest oid ≡ None
+  pub verified : Verifies p H G pk (message_hash H pk.tr (framed_digest context oid digest)) signature
+
+-- what a call answers that asks a generator once, for 32 bytes: the answer over bytes that it gave, or the refusal where it
+-- refused; gives and refuses are what the generator states of such a call, from before to after
+abbrev pub Draws : {S A : Type 0} → (S → ℕ → List ℕ → S → Type 0) → (S → ℕ → S → Type 0) → S → S → Fault → (List ℕ → Result A Fault) → Result A Fault → Type 0
+Draws gives refuses before after refusal answer result =
+    ((bytes : List ℕ) × gives before 32 bytes after × (result ≡ answer bytes)) ⊎ (refuses before 32 after × (result ≡ Err refusal))
+
+-- the same with a refusal that stands before the generator, which then stays as it was
+abbrev pub DrawsUnless : {S A : Type 0} → Option Fault → (S → ℕ → List ℕ → S → Type 0) → (S → ℕ → S → Type 0) → S → S → Fault → (List ℕ → Result A Fault) → Result A Fault → Type 0
+DrawsUnless None gives refuses before after refusal answer result = Draws gives refuses before after refusal answer result
+DrawsUnless (Some fault) gives refuses before after refusal answer result = (after ≡ before) × (result ≡ Err fault)
+
+-- the same of a hook of signing: without hedging 32 zeros stand for the random bytes, and the generator isn't asked
+abbrev pub DrawsIf : {S A : Type 0} → Bool → (S → ℕ → List ℕ → S → Type 0) → (S → ℕ → S → Type 0) → S → S → Fault → (List ℕ → Result A Fault) → Result A Fault → Type 0
+DrawsIf true gives refuses before after refusal answer result = Draws gives refuses before after refusal answer result
+DrawsIf false gives refuses before after refusal answer result = (after ≡ before) × (result ≡ answer (replicate 32 0))

@@ -1,0 +1,104 @@
+//! The fronts of the streams. The expected bytes were computed with Python's `hashlib`.
+#![tactic(auto)]
+
+ghost use Rattle.std.specs.Prelude.{◌≤◌, ◌<◌};
+
+use fips204::xof::{Fill, Sha256Ctr, Sha512Ctr, Xof, XofReader};
+use hex::FromHexError;
+use sha2::{Digest, Sha256};
+use std::alloc::Global;
+use std::test::Fail;
+
+/// The whole front of a stream.
+fn front<H: Xof>(parts: &[&[u8]]) -> [u8; 4096] {
+    let mut reader = H::open(parts);
+    let mut out = [0u8; 4096];
+    reader.read(&mut out);
+    out
+}
+
+/// Whether the front over these parts begins and ends with these bytes and has this SHA-256, all in
+/// hex.
+fn has_front<H: Xof>(
+    alloc: Global,
+    parts: &[&[u8]],
+    first: &str,
+    last: &str,
+    digest: &str,
+) -> Result<bool, FromHexError> {
+    let whole = front::<H>(parts);
+    let first = hex::decode(alloc, first)?;
+    let last = hex::decode(alloc, last)?;
+    let digest = hex::decode(alloc, digest)?;
+    let found = Sha256::digest(whole.as_slice());
+    Ok(
+        whole.as_slice().starts_with(first.as_slice())
+            && whole.as_slice().ends_with(last.as_slice())
+            && found.as_slice() == digest.as_slice(),
+    )
+}
+
+/// Whether a reader gives the front of `abc` also in pieces of so many bytes, and then has none left.
+fn comes_in_pieces<H: Xof>(size: usize) -> bool
+    requires { 0 < size }
+{
+    let whole = front::<H>(&[b"abc"]);
+    let mut reader = H::open(&[b"abc"]);
+    for wanted in whole.chunks(size) {
+        let mut piece = [0u8; 4096];
+        if wanted.len() > reader.left() || wanted.len() > 4096 {
+            return false;
+        }
+        let piece = &mut piece[..wanted.len()];
+        reader.read(piece);
+        if *piece != *wanted {
+            return false;
+        }
+    }
+    reader.left() == 0
+}
+
+#[test]
+fn sha256_counter_front(rt: HostRuntime) -> Result<(), Fail> {
+    for parts in [[b"abc".as_slice(), b"", b""], [b"a".as_slice(), b"", b"bc"]] {
+        let same = has_front::<Sha256Ctr>(
+            rt.alloc(),
+            &parts,
+            "7c9bbb36dd3046a17eaaf5cf578b09b2da8b77af4e6087533990f8266c4434d4",
+            "da937ab2c6ef33db074d92e4a0c771c03a09b77081ba1c81832637f8dc037344",
+            "3877dda6e5b6cd94f65876837b2e9b0e4ddd74b558309906ba303e3225c47dd6",
+        )?;
+        assert!(rt; same);
+    }
+    Ok(())
+}
+
+#[test]
+fn sha512_counter_front(rt: HostRuntime) -> Result<(), Fail> {
+    for parts in [[b"abc".as_slice(), b"", b""], [b"a".as_slice(), b"", b"bc"]] {
+        let same = has_front::<Sha512Ctr>(
+            rt.alloc(),
+            &parts,
+            "a6516db8a72d238b6601010bff0f00efa6a2b36fa1f7efc0f7c2144e5ba936e4c3dbf79ba1a4c9bbf5f8f9882c29bdce4ca8193517cb7dcc33eb53e39dc2abb7",
+            "3b890eaa8add7ec45032b357d327d38ee08ed83c0469ef386ded9b8c7a6f87081e9ba0824002aa4fbe0cb94bb3c0a0493bac72b8439c85cc00865370edc1aee1",
+            "54b615cc53cf77f93bd8213a0b540d245b72592e574ddb063cf641ca0259c89e",
+        )?;
+        assert!(rt; same);
+    }
+    Ok(())
+}
+
+#[test]
+fn fronts_in_pieces(rt: HostRuntime) {
+    for size in [1usize, 7, 31, 32, 33, 63, 64, 65, 100, 200, 4095, 4096] {
+        assert!(rt; comes_in_pieces::<Sha256Ctr>(size), "SHA-256 by {size}");
+        assert!(rt; comes_in_pieces::<Sha512Ctr>(size), "SHA-512 by {size}");
+        assert!(rt; comes_in_pieces::<Fill<0x55>>(size), "constant by {size}");
+    }
+}
+
+#[test]
+fn constant_front(rt: HostRuntime) {
+    assert!(rt; front::<Fill<0x55>>(&[b"abc"]) == [0x55; 4096]);
+    assert!(rt; front::<Fill<0x00>>(&[]) == [0; 4096]);
+}

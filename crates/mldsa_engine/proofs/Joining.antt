@@ -1,0 +1,111 @@
+-- Wanted lines one after another.
+use Rattle.std.proofs.Common.{◌≡◌, ℕ, zero, suc, ◌+◌, List, [], ◌∷◌, ◌++◌, length, Option, Some, None, Result, Ok, Err, refl, sym, ap, ◌∙◌, arith, add-zero, take, drop, map, get_or, ◌<◌, subst, take-append-drop}
+use Rattle.std.proofs.lemmas.List.{take_more, drop_more, length-take-le, map-append}
+use Rattle.mldsa_engine.specs.declared.fault.RunFault.{RunFault}
+use Rattle.mldsa_engine.specs.Lines.{after_line, after_lines, line_bytes, before_lines, lines_bytes, Fits, AllFit, TakesLine, TakesLines, FaultOfLines, judged, first_line}
+
+-- the lines of one part of an input, and then those of the next, or the first fault among them
+abbrev pub join_lines : Result (List (List ℕ)) RunFault → Result (List (List ℕ)) RunFault → Result (List (List ℕ)) RunFault
+join_lines (Err fault) later = Err fault
+join_lines (Ok lines) (Err fault) = Err fault
+join_lines (Ok lines) (Ok more) = Ok (lines ++ more)
+
+before_join : (first : Result (List ℕ) RunFault) (lines more : Result (List (List ℕ)) RunFault)
+    → before_lines first (join_lines lines more) ≡ join_lines (before_lines first lines) more
+before_join (Err fault) lines more = refl
+before_join (Ok bytes) (Err fault) more = refl
+before_join (Ok bytes) (Ok lines) (Err fault) = refl
+before_join (Ok bytes) (Ok lines) (Ok more) = refl
+
+join_nil : (more : Result (List (List ℕ)) RunFault) → join_lines (Ok []) more ≡ more
+join_nil (Err fault) = refl
+join_nil (Ok more) = refl
+
+pub lines_bytes-append : (number : ℕ) (wanted more : List (Option ℕ)) (input : List ℕ)
+    → lines_bytes number (wanted ++ more) input ≡ join_lines (lines_bytes number wanted input) (lines_bytes (number + length wanted) more (after_lines (length wanted) input))
+lines_bytes-append number [] more input =
+    sym (join_nil (lines_bytes (number + 0) more input) ∙ ap (λ n. lines_bytes n more input) (add-zero number))
+lines_bytes-append number (want ∷ wanted) more input =
+    let e : number + 1 + length wanted ≡ number + suc (length wanted) = omega arith in
+    let rest = lines_bytes-append (number + 1) wanted more (after_line input) in
+    ap (before_lines (line_bytes number want input)) rest
+    ∙ before_join (line_bytes number want input) (lines_bytes (number + 1) wanted (after_line input)) _
+    ∙ ap (λ n. join_lines (lines_bytes number (want ∷ wanted) input) (lines_bytes n more (after_lines (length wanted) (after_line input)))) e
+
+pub after_lines-append : (wanted more : List (Option ℕ)) (input : List ℕ)
+    → after_lines (length (wanted ++ more)) input ≡ after_lines (length more) (after_lines (length wanted) input)
+after_lines-append [] more input = refl
+after_lines-append (want ∷ wanted) more input = after_lines-append wanted more (after_line input)
+
+pub AllFit-append : (wanted more : List (Option ℕ)) (lines others : List (List ℕ)) → AllFit wanted lines → AllFit more others → AllFit (wanted ++ more) (lines ++ others)
+AllFit-append [] more [] others p q = q
+AllFit-append [] more (line ∷ lines) others p q = absurd p
+AllFit-append (want ∷ wanted) more [] others p q = absurd p
+AllFit-append (want ∷ wanted) more (line ∷ lines) others p q = (p.0, AllFit-append wanted more lines others p.1 q)
+
+pub takes_more : (number next : ℕ) (wanted more : List (Option ℕ)) (old mid new : Option (List ℕ)) (lines others : List (List ℕ))
+    → next ≡ number + length wanted → TakesLines number wanted old mid lines → TakesLines next more mid new others → TakesLines number (wanted ++ more) old new (lines ++ others)
+takes_more number next wanted more None mid new lines others e p q = tt
+takes_more number next wanted more (Some input) None new lines others e p q = absurd p
+takes_more number next wanted more (Some input) (Some middle) None lines others e p q = absurd q
+takes_more number next wanted more (Some input) (Some middle) (Some left) lines others e p q = (
+  lines_bytes-append number wanted more input ∙ rw (p.0, ← e, ← p.1, q.0) refl,
+  q.1 ∙ ap (after_lines (length more)) p.1 ∙ sym (after_lines-append wanted more input),
+)
+
+pub later_fault : (number next : ℕ) (wanted more : List (Option ℕ)) (old mid : Option (List ℕ)) (lines : List (List ℕ)) (fault : RunFault)
+    → next ≡ number + length wanted → TakesLines number wanted old mid lines → FaultOfLines next more mid fault → FaultOfLines number (wanted ++ more) old fault
+later_fault number next wanted more None mid lines fault e p q = tt
+later_fault number next wanted more (Some input) None lines fault e p q = absurd p
+later_fault number next wanted more (Some input) (Some middle) lines fault e p q =
+    lines_bytes-append number wanted more input ∙ rw (p.0, ← e, ← p.1, q) refl
+
+pub earlier_fault : (number : ℕ) (wanted more : List (Option ℕ)) (old : Option (List ℕ)) (fault : RunFault)
+    → FaultOfLines number wanted old fault → FaultOfLines number (wanted ++ more) old fault
+earlier_fault number wanted more None fault p = tt
+earlier_fault number wanted more (Some input) fault p =
+    lines_bytes-append number wanted more input ∙ rw p refl
+
+-- a line that was taken, and what it was judged to be
+pub takes_one : (number : ℕ) (wanted : Option ℕ) (old new : Option (List ℕ)) (line bytes : List ℕ)
+    → TakesLine old new line → judged number wanted line ≡ Ok bytes → TakesLines number (wanted ∷ []) old new (bytes ∷ [])
+takes_one number wanted None new line bytes p q = tt
+takes_one number wanted (Some input) None line bytes p q = absurd p
+takes_one number wanted (Some []) (Some left) line bytes p q = absurd (omega arith)
+takes_one number wanted (Some (byte ∷ later)) (Some left) line bytes p q =
+    let good : line_bytes number wanted (byte ∷ later) ≡ Ok bytes = ap (judged number wanted) (sym p.1) ∙ q in
+    (ap (λ r. before_lines r (Ok [])) good, p.2)
+
+pub fault_of_one : (number : ℕ) (wanted : Option ℕ) (old new : Option (List ℕ)) (line : List ℕ) (fault : RunFault)
+    → TakesLine old new line → judged number wanted line ≡ Err fault → FaultOfLines number (wanted ∷ []) old fault
+fault_of_one number wanted None new line fault p q = tt
+fault_of_one number wanted (Some input) None line fault p q = absurd p
+fault_of_one number wanted (Some []) (Some left) line fault p q = absurd (omega arith)
+fault_of_one number wanted (Some (byte ∷ later)) (Some left) line fault p q =
+    let bad : line_bytes number wanted (byte ∷ later) ≡ Err fault = ap (judged number wanted) (sym p.1) ∙ q in
+    ap (λ r. before_lines r (Ok [])) bad
+
+-- one line more of those that are wanted
+pub next_line : {V : Type 0} (items : V → List ℕ) (wanted : List (Option ℕ)) (index : ℕ) (old mid new : Option (List ℕ)) (lines all : List V) (line : V)
+    → index < length wanted → all ≡ lines ++ line ∷ []
+    → AllFit (take index wanted) (map items lines) → TakesLines 1 (take index wanted) old mid (map items lines)
+    → Fits (get_or wanted index None) (items line) → TakesLines (index + 1) (get_or wanted index None ∷ []) mid new (items line ∷ [])
+    → AllFit (take (index + 1) wanted) (map items all) × TakesLines 1 (take (index + 1) wanted) old new (map items all)
+next_line items wanted index old mid new lines all line within grown fit taken fits takes =
+    let front = take_more wanted index None within in
+    let many : map items all ≡ map items lines ++ items line ∷ [] = ap (map items) grown ∙ map-append items lines (line ∷ []) in
+    let next : index + 1 ≡ 1 + length (take index wanted) = omega (arith, length-take-le index wanted (omega arith)) in (
+      rw (front, many) (AllFit-append _ _ _ _ fit (fits, tt)),
+      rw (front, many) (takes_more 1 (index + 1) (take index wanted) _ old mid new _ _ next taken takes),
+    )
+
+-- the fault of a line is that of them all, where those before it were good
+pub fault_at : (wanted : List (Option ℕ)) (index : ℕ) (old mid : Option (List ℕ)) (lines : List (List ℕ)) (fault : RunFault)
+    → index < length wanted → TakesLines 1 (take index wanted) old mid lines
+    → FaultOfLines (index + 1) (get_or wanted index None ∷ []) mid fault → FaultOfLines 1 wanted old fault
+fault_at wanted index old mid lines fault within taken bad =
+    let whole : wanted ≡ take index wanted ++ (get_or wanted index None ∷ drop (index + 1) wanted) =
+    sym (take-append-drop index wanted) ∙ ap (λ l. take index wanted ++ l) (drop_more wanted index None within) in
+    let next : index + 1 ≡ 1 + length (take index wanted) = omega (arith, length-take-le index wanted (omega arith)) in
+    subst (λ l. FaultOfLines 1 l old fault) (sym whole)
+    (later_fault 1 (index + 1) (take index wanted) _ old mid lines fault next taken (earlier_fault (index + 1) (get_or wanted index None ∷ []) (drop (index + 1) wanted) mid fault bad))

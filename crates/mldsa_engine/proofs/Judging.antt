@@ -1,0 +1,30 @@
+-- What the characters of a line are judged to be.
+use Rattle.std.proofs.Common.{◌≡◌, ◌≤◌, ◌<◌, ◌==◌, ◌⊎◌, ℕ, true, false, List, length, Option, Some, None, Result, Ok, Err, refl, sym, ap, ◌∙◌, arith}
+use Rattle.std.proofs.lemmas.Bool.Decides.{nat_tests}
+use Rattle.hex.specs.Hex.{decode_of}
+use Rattle.hex.specs.declared.error.FromHexError.{FromHexError}
+use Rattle.mldsa_engine.specs.declared.fault.RunFault.{RunFault}
+use Rattle.mldsa_engine.specs.declared.fault.RunFault.TheVariants.{TooLong, NotHex, Length}
+use Rattle.mldsa_engine.specs.Lines.{longest_line, judged, decoded, sized}
+
+pub judged_short : (number : ℕ) (wanted : Option ℕ) (line : List ℕ) → length line ≤ longest_line → judged number wanted line ≡ decoded number wanted (decode_of line)
+unfolding judged
+judged_short number wanted line short = grind (arith, nat_tests)
+
+pub judged_long : (number : ℕ) (wanted : Option ℕ) (line : List ℕ) → longest_line < length line → judged number wanted line ≡ Err (TooLong number)
+unfolding judged
+judged_long number wanted line long = grind (arith, nat_tests)
+
+pub judged_not_hex : (number : ℕ) (wanted : Option ℕ) (line : List ℕ) (e : FromHexError) → length line ≤ longest_line → decode_of line ≡ Err e
+    → judged number wanted line ≡ Err (NotHex number)
+judged_not_hex number wanted line e short bad = judged_short number wanted line short ∙ ap (decoded number wanted) bad
+
+pub judged_hex : (number : ℕ) (wanted : Option ℕ) (line bytes : List ℕ) → length line ≤ longest_line → decode_of line ≡ Ok bytes
+    → judged number wanted line ≡ sized number wanted bytes
+judged_hex number wanted line bytes short good = judged_short number wanted line short ∙ ap (decoded number wanted) good
+
+pub sized_other : (number wants : ℕ) (bytes : List ℕ) → ¬ (length bytes ≡ wants) → sized number (Some wants) bytes ≡ Err (Length number wants (length bytes))
+sized_other number wants bytes other = grind (arith, nat_tests)
+
+pub sized_same : (number wants : ℕ) (bytes : List ℕ) → length bytes ≡ wants → sized number (Some wants) bytes ≡ Ok bytes
+sized_same number wants bytes same = grind (arith, nat_tests)

@@ -1,0 +1,4 @@
+pub mod Endings
+pub mod Judging
+pub mod Joining
+pub mod Identity

@@ -1,0 +1,42 @@
+-- The words of a call.
+use Rattle.std.specs.Prelude.{ℕ, List, [], ◌∷◌, codes, replicate}
+use Rattle.fips204.specs.Streams.{front_length, sha256_front, sha512_front}
+use Rattle.mldsa_engine.specs.declared.call.Streams.{Streams}
+use Rattle.mldsa_engine.specs.declared.call.Streams.TheVariants.{Sha2, Fill00, Fill55, FillFf}
+use Rattle.mldsa_engine.specs.declared.call.Task.{Task}
+use Rattle.mldsa_engine.specs.declared.call.Task.TheVariants.{Id}
+use Rattle.mldsa_engine.specs.declared.call.SetName.{SetName}
+use Rattle.mldsa_engine.specs.declared.call.SetName.TheVariants.{MlDsa44}
+
+-- the word that names the streams
+abbrev pub streams_word : Streams → List ℕ
+streams_word Sha2 = codes "sha2"
+streams_word Fill00 = codes "fill00"
+streams_word Fill55 = codes "fill55"
+streams_word FillFf = codes "fillff"
+
+-- the word that names a command
+abbrev pub task_word : Task → List ℕ
+task_word Id = codes "id"
+
+-- the word that names a parameter set
+abbrev pub set_word : SetName → List ℕ
+set_word MlDsa44 = codes "44"
+
+-- the words of a call, after the program's name
+abbrev pub call_words : Streams → Task → SetName → List (List ℕ)
+call_words streams task set = streams_word streams ∷ task_word task ∷ set_word set ∷ []
+
+-- the stream that stands for H
+abbrev pub first_stream : Streams → List ℕ → List ℕ
+first_stream Sha2 input = sha256_front input
+first_stream Fill00 input = replicate front_length 0x00
+first_stream Fill55 input = replicate front_length 0x55
+first_stream FillFf input = replicate front_length 0xFF
+
+-- the stream that stands for G
+abbrev pub second_stream : Streams → List ℕ → List ℕ
+second_stream Sha2 input = sha512_front input
+second_stream Fill00 input = replicate front_length 0x00
+second_stream Fill55 input = replicate front_length 0x00
+second_stream FillFf input = replicate front_length 0xFF

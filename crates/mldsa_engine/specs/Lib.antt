@@ -1,0 +1,4 @@
+pub mod Devices
+pub mod Calls
+pub mod Lines
+pub mod ProgramText

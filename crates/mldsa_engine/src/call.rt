@@ -1,0 +1,83 @@
+//! The words of a call.
+#![tactic(auto)]
+
+ghost use Rattle.std.specs.Prelude.{◌≡◌, ℕ, List, [], ◌∷◌, Some, None, map, string_bytes, IfSome, IfNone};
+ghost use Rattle.mldsa_engine.specs.Calls.{streams_word, task_word, set_word, call_words};
+
+/// The streams of a run: what stands for `H` and for `G`.
+#[derive(Debug, Clone, Copy, PartialEq, Eq)]
+pub enum Streams {
+    /// `Sha256Ctr` and `Sha512Ctr`.
+    Sha2,
+    /// `Fill<0x00>` twice.
+    Fill00,
+    /// `Fill<0x55>` and `Fill<0x00>`.
+    Fill55,
+    /// `Fill<0xFF>` twice.
+    FillFf,
+}
+
+/// What a run does.
+#[derive(Debug, Clone, Copy, PartialEq, Eq)]
+pub enum Task {
+    /// Prints a public key and its hash.
+    Id,
+}
+
+/// A parameter set of FIPS 204.
+#[derive(Debug, Clone, Copy, PartialEq, Eq)]
+pub enum SetName {
+    /// ML-DSA-44.
+    MlDsa44,
+}
+
+/// The streams that a word names.
+fn streams_of(word: &str) -> Option<Streams>
+    ensures named { IfSome result (λ streams. word.now ≡ streams_word streams) }
+    ensures unnamed { IfNone result ((streams : Streams) → ¬ (word.now ≡ streams_word streams)) }
+{
+    match word {
+        "sha2" => Some(Streams::Sha2),
+        "fill00" => Some(Streams::Fill00),
+        "fill55" => Some(Streams::Fill55),
+        "fillff" => Some(Streams::FillFf),
+        _ => None,
+    }
+}
+
+/// The command that a word names.
+fn task_of(word: &str) -> Option<Task>
+    ensures named { IfSome result (λ task. word.now ≡ task_word task) }
+    ensures unnamed { IfNone result ((task : Task) → ¬ (word.now ≡ task_word task)) }
+{
+    match word {
+        "id" => Some(Task::Id),
+        _ => None,
+    }
+}
+
+/// The parameter set that a word names.
+fn set_of(word: &str) -> Option<SetName>
+    ensures named { IfSome result (λ set. word.now ≡ set_word set) }
+    ensures unnamed { IfNone result ((set : SetName) → ¬ (word.now ≡ set_word set)) }
+{
+    match word {
+        "44" => Some(SetName::MlDsa44),
+        _ => None,
+    }
+}
+
+/// The call that these words are, if they are one.
+pub(crate) fn call_of(words: &[String]) -> Option<(Streams, Task, SetName)>
+    ensures named { IfSome result (λ call. map string_bytes words.now ≡ call_words call.0 call.1 call.2) }
+    ensures unnamed { IfNone result ((streams : Streams) (task : Task) (set : SetName) → ¬ (map string_bytes words.now ≡ call_words streams task set)) }
+{
+    match words {
+        [streams, task, set] => Some((
+            streams_of(streams.as_str())?,
+            task_of(task.as_str())?,
+            set_of(set.as_str())?,
+        )),
+        _ => None,
+    }
+}

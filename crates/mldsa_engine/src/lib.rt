@@ -1,0 +1,76 @@
+//! The program `mldsa` as a library, generic over the streams, the reader and the writer.
+#![tactic(auto)]
+
+ghost use Rattle.std.specs.Prelude.{◌≡◌, ◌↔◌, ℕ, List, false, Ok, Err, IsTrue, IfOk, IfErr, map, string_bytes};
+ghost use Rattle.std.specs.Io.KnownBytes.{Keeps};
+ghost use Rattle.mldsa_engine.specs.Calls.{call_words, first_stream, second_stream};
+ghost use Rattle.mldsa_engine.specs.Lines.{IsLineFault, FaultOfLines};
+ghost use Rattle.mldsa_engine.specs.ProgramText.{wanted_lines, Runs};
+
+mod answers;
+pub mod call;
+pub mod fault;
+pub mod lines;
+pub mod marked;
+
+pub use call::{SetName, Streams, Task};
+pub use fault::RunFault;
+pub use marked::Marked;
+
+use fips204::xof::{Fill, Sha256Ctr, Sha512Ctr, Xof};
+use std::alloc::Global;
+use std::io::{Read, Write};
+
+/// Runs a command: reads the lines that it wants, and then writes its whole output. True is done or
+/// `yes`, false is `no` or a refusal.
+///
+/// After a fault nothing is said of how far the input was read, and after `RunFault::Write` nothing
+/// of how much was written; after every other fault nothing was.
+pub fn run<H: Xof, G: Xof, I: Read, O: Write>(
+    alloc: Global,
+    task: Task,
+    set: SetName,
+    input: &mut Marked<I>,
+    output: &mut Marked<O>,
+) -> Result<bool, RunFault>
+    requires unmarked { (input.old.failed ≡ false) × (output.old.failed ≡ false) }
+    ensures read_failed { IsTrue input.new.failed ↔ (result ≡ Err RunFault.Read) }
+    ensures write_failed { IsTrue output.new.failed ↔ (result ≡ Err RunFault.Write) }
+    ensures answer { IfOk result (λ answer. Runs H.front G.front task set (I.remaining input.old.device) (I.remaining input.new.device) (O.contents output.old.device) (O.contents output.new.device) answer) }
+    ensures line_fault { IfErr result (λ fault. IsLineFault fault → FaultOfLines 1 (wanted_lines task set) (I.remaining input.old.device) fault) }
+    ensures nothing_written { IfErr result (λ fault. ¬ (fault ≡ RunFault.Write) → Keeps (O.contents output.old.device) (O.contents output.new.device)) }
+    ensures no_usage { ¬ (result ≡ Err RunFault.Usage) }
+{
+    let lines = lines::read_lines(alloc, answers::wanted_of(task, set), input)?;
+    let (written, answer) = answers::answer_of::<H, G>(alloc, task, set, lines.as_slice())?;
+    output.put(written.as_slice())?;
+    Ok(answer)
+}
+
+/// Runs the command that the words after the program's name call for, compared byte for byte.
+/// Where they are no call, nothing is read or written.
+pub fn from_words<I: Read, O: Write>(
+    alloc: Global,
+    words: &[String],
+    input: &mut Marked<I>,
+    output: &mut Marked<O>,
+) -> Result<bool, RunFault>
+    requires unmarked { (input.old.failed ≡ false) × (output.old.failed ≡ false) }
+    ensures usage { (result ≡ Err RunFault.Usage) ↔ ((streams : Streams) (task : Task) (set : SetName) → ¬ (map string_bytes words.now ≡ call_words streams task set)) }
+    ensures untouched { result ≡ Err RunFault.Usage → (input.new ≡ input.old) × (output.new ≡ output.old) }
+    ensures read_failed { IsTrue input.new.failed ↔ (result ≡ Err RunFault.Read) }
+    ensures write_failed { IsTrue output.new.failed ↔ (result ≡ Err RunFault.Write) }
+    ensures answer { IfOk result (λ answer. (streams : Streams) × ((task : Task) × ((set : SetName) × (map string_bytes words.now ≡ call_words streams task set) × Runs (first_stream streams) (second_stream streams) task set (I.remaining input.old.device) (I.remaining input.new.device) (O.contents output.old.device) (O.contents output.new.device) answer))) }
+    ensures line_fault { IfErr result (λ fault. IsLineFault fault → (streams : Streams) × ((task : Task) × ((set : SetName) × (map string_bytes words.now ≡ call_words streams task set) × FaultOfLines 1 (wanted_lines task set) (I.remaining input.old.device) fault))) }
+    ensures nothing_written { IfErr result (λ fault. ¬ (fault ≡ RunFault.Write) → Keeps (O.contents output.old.device) (O.contents output.new.device)) }
+{
+    let Some((streams, task, set)) = call::call_of(words) else {
+        return Err(RunFault::Usage);
+    };
+    match streams {
+        Streams::Sha2 => run::<Sha256Ctr, Sha512Ctr, I, O>(alloc, task, set, input, output),
+        Streams::Fill00 => run::<Fill<0x00>, Fill<0x00>, I, O>(alloc, task, set, input, output),
+        Streams::Fill55 => run::<Fill<0x55>, Fill<0x00>, I, O>(alloc, task, set, input, output),
+        Streams::FillFf => run::<Fill<0xFF>, Fill<0xFF>, I, O>(alloc, task, set, input, output),
+    }
+}

@@ -1,0 +1,119 @@
+//! The lines of an input.
+#![tactic(auto)]
+
+ghost use Rattle.std.specs.Prelude.{◌≡◌, ◌≢◌, ◌≤◌, ◌↔◌, ◌⊎◌, ℕ, List, Option, length, map, Ok, Err, IsTrue, IfOk, IfErr, IfSome, MatchResult, false, ◌∷◌, [], take};
+ghost use Rattle.mldsa_engine.specs.Lines.{longest_line, judged, Fits, AllFit, IsInputFault, IsLineFault, TakesLine, TakesLines, FaultOfLines};
+
+use crate::fault::RunFault;
+use crate::marked::Marked;
+use hex::FromHexError;
+use std::alloc::Global;
+use std::io::Read;
+
+/// The most characters that a line may have.
+pub const LONGEST_LINE: usize = 2097152;
+
+/// The characters of the next line, without its LF. At most one character more than a line may have
+/// is read.
+fn read_line<I: Read>(
+    alloc: Global,
+    number: usize,
+    input: &mut Marked<I>,
+) -> Result<Vec<u8>, RunFault>
+    requires unmarked { input.old.failed ≡ false }
+    ensures read_failed { IsTrue input.new.failed ↔ (result ≡ Err RunFault.Read) }
+    ensures short { IfOk result (λ line. length line.items ≤ longest_line) }
+    ensures taken { IfOk result (λ line. TakesLine (I.remaining input.old.device) (I.remaining input.new.device) line.items) }
+    ensures line_fault { IfErr result (λ fault. IsLineFault fault → (wanted : Option ℕ) → FaultOfLines number (wanted ∷ []) (I.remaining input.old.device) fault) }
+    ensures faults { IfErr result (λ fault. IsInputFault fault) }
+{
+    let mut line = Vec::new(alloc);
+    while line.len() <= LONGEST_LINE {
+        match input.read_byte()? {
+            Some(b'\n') => return Ok(line),
+            Some(byte) => line.push(byte)?,
+            None if line.is_empty() => return Err(RunFault::Missing { line: number }),
+            None => return Ok(line),
+        }
+    }
+    Err(RunFault::TooLong { line: number })
+}
+
+/// The fault of a line that was refused by `hex`.
+fn fault_of(number: usize, refusal: FromHexError) -> RunFault
+    ensures memory { refusal ≡ FromHexError.OutOfMemory → result ≡ RunFault.Memory }
+    ensures either { (result ≡ RunFault.Memory) ⊎ (result ≡ RunFault.NotHex number) }
+{
+    match refusal {
+        FromHexError::OutOfMemory => RunFault::Memory,
+        _ => RunFault::NotHex { line: number },
+    }
+}
+
+/// The bytes that the characters of a line spell.
+fn bytes_of(
+    alloc: Global,
+    number: usize,
+    wanted: Option<usize>,
+    line: &[u8],
+) -> Result<Vec<u8>, RunFault>
+    requires short { length line.now ≤ longest_line }
+    ensures spelt { IfOk result (λ bytes. judged number wanted line.now ≡ Ok bytes.items) }
+    ensures fits { IfOk result (λ bytes. Fits wanted bytes.items) }
+    ensures line_fault { IfErr result (λ fault. IsLineFault fault → judged number wanted line.now ≡ Err fault) }
+    ensures faults { IfErr result (λ fault. IsInputFault fault) }
+    ensures no_read { result ≢ Err RunFault.Read }
+{
+    let bytes = match hex::decode(alloc, line) {
+        Ok(bytes) => bytes,
+        Err(refusal) => return Err(fault_of(number, refusal)),
+    };
+    match wanted {
+        Some(wants) if bytes.len() != wants => Err(RunFault::Length {
+            line: number,
+            wants,
+            has: bytes.len(),
+        }),
+        _ => Ok(bytes),
+    }
+}
+
+/// The bytes of the next line, which has this number.
+fn read_bytes<I: Read>(
+    alloc: Global,
+    number: usize,
+    wanted: Option<usize>,
+    input: &mut Marked<I>,
+) -> Result<Vec<u8>, RunFault>
+    requires unmarked { input.old.failed ≡ false }
+    ensures read_failed { IsTrue input.new.failed ↔ (result ≡ Err RunFault.Read) }
+    ensures fits { IfOk result (λ bytes. Fits wanted bytes.items) }
+    ensures taken { IfOk result (λ bytes. TakesLines number (wanted ∷ []) (I.remaining input.old.device) (I.remaining input.new.device) (bytes.items ∷ [])) }
+    ensures line_fault { IfErr result (λ fault. IsLineFault fault → FaultOfLines number (wanted ∷ []) (I.remaining input.old.device) fault) }
+    ensures faults { IfErr result (λ fault. IsInputFault fault) }
+{
+    let line = read_line(alloc, number, input)?;
+    bytes_of(alloc, number, wanted, line.as_slice())
+}
+
+/// The bytes of the wanted lines: as many bytes of each as are wanted of it, or any number of them.
+/// Each line is judged before the next is read, and no byte past the last one's LF is taken.
+pub(crate) fn read_lines<I: Read>(
+    alloc: Global,
+    wanted: &[Option<usize>],
+    input: &mut Marked<I>,
+) -> Result<Vec<Vec<u8>>, RunFault>
+    requires unmarked { input.old.failed ≡ false }
+    ensures read_failed { IsTrue input.new.failed ↔ (result ≡ Err RunFault.Read) }
+    ensures fit { IfOk result (λ lines. AllFit wanted.now (map (λ line. line.items) lines.items)) }
+    ensures taken { IfOk result (λ lines. TakesLines 1 wanted.now (I.remaining input.old.device) (I.remaining input.new.device) (map (λ line. line.items) lines.items)) }
+    ensures line_fault { IfErr result (λ fault. IsLineFault fault → FaultOfLines 1 wanted.now (I.remaining input.old.device) fault) }
+    ensures faults { IfErr result (λ fault. IsInputFault fault) }
+{
+    let mut lines = Vec::new(alloc);
+    for (index, length) in wanted.iter().enumerate() {
+        let bytes = read_bytes(alloc, index + 1, *length, input)?;
+        lines.push(bytes)?;
+    }
+    Ok(lines)
+}
