@@ -7,8 +7,9 @@ use Rattle.std.proofs.lemmas.List.{get_or-set_same, get_or-set_other, get_or-rep
 use Rattle.std.proofs.lemmas.List.Elements.{All-append, All-cons, All-map, All-nil, All-tail}
 use Rattle.std.proofs.lemmas.Bool.{cases_lt}
 use Rattle.std.proofs.lemmas.Bool.Decides.{nat_tests}
-use Rattle.fips204_base.specs.Challenge.{challenge, challenge_picks, picks, moved, places, sign, signed_sum}
+use Rattle.fips204_base.specs.Challenge.{challenge, challenge_picks, picks, moved, places, sign_of, signed_sum}
 use Rattle.fips204_base.specs.Packing.{bits}
+use Rattle.fips204_base.proofs.Challenges.{length-places}
 use Rattle.fips204_base.proofs.Packings.{length-bits}
 use Rattle.fips204_base.specs.Vectors.{polynomial_of}
 use Rattle.fips204_base.specs.declared.types.R.{R}
@@ -64,11 +65,6 @@ places-push i pick j (p ∷ before) e =
     let rest = places-push (i + 1) pick j before (omega (arith, e)) in
     rw (here, rest) refl
 
-pub length-places : (i : ℕ) (before : List ℕ) → length (places i before) ≡ length before
-unfolding places
-length-places i [] = refl
-length-places i (p ∷ before) = ap suc (length-places (i + 1) before)
-
 moved_small : (i j p : ℕ) → p < i → moved_once i j p < i + 1
 moved_small i j p l = grind (arith, nat_tests)
 
@@ -85,7 +81,7 @@ below-push ps i j l h = All-append (λ p. p < i + 1) (map (moved_once i j) ps) (
 -- what a sum is at a number
 
 sum-push : (ps bits : List ℕ) (p n : ℕ) → length ps < length bits
-    → signed_sum (ps ++ p ∷ []) bits n ≡ signed_sum ps bits n +ℤ (if nat_eq p n then sign (get_or bits (length ps) 0) else pos 0)
+    → signed_sum (ps ++ p ∷ []) bits n ≡ signed_sum ps bits n +ℤ (if nat_eq p n then sign_of (get_or bits (length ps) 0) else pos 0)
 unfolding signed_sum
 sum-push [] [] p n l = absurd (omega (arith, l))
 sum-push [] (b ∷ bits) p n l = omega (arith, ints)
@@ -142,7 +138,7 @@ placed_none first bits = record {
   sums = λ n l. get_or-replicate 256 n (pos 0) (pos 0) l;
 }
 
-step_sums : (ps bits : List ℕ) (c : List ℤ) (i j n : ℕ) (x : ℤ) → length c ≡ 256 → i < 256 → j ≤ i → All (λ p. p < i) ps → length ps < length bits → x ≡ sign (get_or bits (length ps) 0)
+step_sums : (ps bits : List ℕ) (c : List ℤ) (i j n : ℕ) (x : ℤ) → length c ≡ 256 → i < 256 → j ≤ i → All (λ p. p < i) ps → length ps < length bits → x ≡ sign_of (get_or bits (length ps) 0)
     → ((n : ℕ) → n < 256 → get_or c n (pos 0) ≡ signed_sum ps bits n) → n < 256
     → get_or (set (set c i (get_or c j (pos 0))) j x) n (pos 0) ≡ signed_sum (map (moved_once i j) ps ++ j ∷ []) bits n
 step_sums ps bits c i j n x w l m below room s sums h =
@@ -169,13 +165,13 @@ step_sums ps bits c i j n x w l m below room s sums h =
     ]
 
 -- the pick of i: coefficient i becomes the one at the pick, and that becomes the sign
-pub placed_more : {first : ℕ} {bits picked : List ℕ} {c : List ℤ} {i : ℕ} (j : ℕ) (x : ℤ) → Placed first bits picked c i → i < 256 → j ≤ i → length picked < length bits → x ≡ sign (get_or bits (length picked) 0)
+pub placed_more : {first : ℕ} {bits picked : List ℕ} {c : List ℤ} {i : ℕ} (j : ℕ) (x : ℤ) → Placed first bits picked c i → i < 256 → j ≤ i → length picked < length bits → x ≡ sign_of (get_or bits (length picked) 0)
     → Placed first bits (picked ++ j ∷ []) (set (set c i (get_or c j (pos 0))) j x) (i + 1)
 placed_more {first} {bits} {picked} {c} {i} j x k l m room s =
     let ps = places first picked in
     let push : places first (picked ++ j ∷ []) ≡ map (moved_once i j) ps ++ j ∷ [] = places-push first j i picked (sym k.next) in
-    let long : length ps ≡ length picked = length-places first picked in
-    let named : x ≡ sign (get_or bits (length ps) 0) = rw long s in
+    let long : length ps ≡ length picked = length-places picked first in
+    let named : x ≡ sign_of (get_or bits (length ps) 0) = rw long s in
     record {
       next = omega (arith, k.next, length-append picked (j ∷ []));
       whole = length-set (set c i (get_or c j (pos 0))) j x ∙ length-set c i (get_or c j (pos 0)) ∙ k.whole;
@@ -243,7 +239,7 @@ byte_after front out rest n given at =
 
 -- the next byte is the pick of i, with the sign of its bit
 pub challenge-more : (first n i byte : ℕ) (front signs : List ℕ) (c : List ℤ) (x : ℤ) → length front ≡ 4096 → n < 1024 → signs ≡ take 8 front → 192 ≤ first
-    → byte ≡ get_or (drop 8 front) n 0 → i < 256 → byte ≤ i → x ≡ sign (get_or (bits 8 signs) (i - first) 0)
+    → byte ≡ get_or (drop 8 front) n 0 → i < 256 → byte ≤ i → x ≡ sign_of (get_or (bits 8 signs) (i - first) 0)
     → Placed first (bits 8 (take 8 front)) (picks first (take n (drop 8 front))) c i
     → Placed first (bits 8 (take 8 front)) (picks first (take (n + 1) (drop 8 front))) (set (set c i (get_or c byte (pos 0))) byte x) (i + 1)
 challenge-more first n i byte front signs c x size l first_eight most read h m s k =
@@ -252,7 +248,7 @@ challenge-more first n i byte front signs c x size l first_eight most read h m s
     let more = picked-more first n i byte (drop 8 front) room read k.next m in
     let digits : length (bits 8 (take 8 front)) ≡ 64 = length-bits 8 (take 8 front) ∙ ap (λ n. 8 * n) (length-take-le 8 front (omega (arith, size))) in
     let at : i - first ≡ length picked = omega (arith, k.next) in
-    let named : x ≡ sign (get_or (bits 8 (take 8 front)) (length picked) 0) = s ∙ ap (λ l. sign (get_or (bits 8 l) (i - first) 0)) first_eight ∙ ap (λ n. sign (get_or (bits 8 (take 8 front)) n 0)) at in
+    let named : x ≡ sign_of (get_or (bits 8 (take 8 front)) (length picked) 0) = s ∙ ap (λ l. sign_of (get_or (bits 8 l) (i - first) 0)) first_eight ∙ ap (λ n. sign_of (get_or (bits 8 (take 8 front)) n 0)) at in
     rw more (placed_more byte x k h m (omega (arith, digits, k.next, h, most)) named)
 
 -- the next byte is no pick

@@ -3,7 +3,7 @@ use Rattle.std.proofs.Common.{◌≡◌, ℕ, zero, suc, ◌+◌, ◌*◌, ◌%�
 use Rattle.std.specs.Prelude.{◌≢◌, nat_eq, if◌then◌else◌}
 use Rattle.std.specs.Int.{w32}
 use Rattle.std.proofs.lemmas.Bool.Decides.{nat_tests}
-use Rattle.fips204_base.specs.Challenge.{sign}
+use Rattle.fips204_base.specs.Challenge.{sign_of}
 use Rattle.std.proofs.Math.Nat.{pow-succ', div-div-eq-div-mul}
 use Rattle.fips204_base.specs.Packing.{bits, integer_to_bits}
 use Rattle.fips204_base.proofs.Bits.{digits-suc}
@@ -24,17 +24,17 @@ bit_at bytes k l =
     get_or-take 8 (drop (8 * (k / 8)) (bits 8 bytes)) (k % 8) 0 (omega arith) ∙ get_or-drop (8 * (k / 8)) (bits 8 bytes) (k % 8) 0 ∙ ap (λ n. get_or (bits 8 bytes) n 0) split in
     sym at ∙ ap (λ digits. get_or digits (k % 8) 0) (digits_at 8 (k / 8) bytes (omega (arith, l))) ∙ digit 8 (get_or bytes (k / 8) 0) (k % 8) (omega arith)
 
-pub sign-set : (bit : ℕ) → bit ≡ 1 → negsuc 0 ≡ sign bit
+pub sign-set : (bit : ℕ) → bit ≡ 1 → negsuc 0 ≡ sign_of bit
 sign-set bit e = rw e refl
 
-pub sign-clear : (bit : ℕ) → bit ≢ 1 → pos 1 ≡ sign bit
+pub sign-clear : (bit : ℕ) → bit ≢ 1 → pos 1 ≡ sign_of bit
 sign-clear bit n = let t : nat_eq bit 1 ≡ false = grind (arith, nat_tests) in rw t refl
 
-sign-fits : (bit : ℕ) → to_z w32 (of_z w32 (sign bit)) ≡ sign bit
+sign-fits : (bit : ℕ) → to_z w32 (of_z w32 (sign_of bit)) ≡ sign_of bit
 sign-fits bit = elim (nat_eq bit 1) as (λ t. to_z w32 (of_z w32 (if t then negsuc 0 else pos 1)) ≡ (if t then negsuc 0 else pos 1)) [
   | true ↦ refl
   | false ↦ refl
 ]
 
-pub sign-read : (bit : ℕ) (x : ℤ) → x ≡ sign bit → to_z w32 (of_z w32 x) ≡ x
+pub sign-read : (bit : ℕ) (x : ℤ) → x ≡ sign_of bit → to_z w32 (of_z w32 x) ≡ x
 sign-read bit x e = rw e (sign-fits bit)

@@ -2,7 +2,7 @@
 #![tactic(auto)]
 
 ghost use Rattle.std.specs.Prelude.{◌≡◌, ◌<◌, ◌≤ℤ◌, pos, nat_abs, ok_or, slice_index};
-ghost use Rattle.fips204_base.specs.Challenge.{challenge, sign};
+ghost use Rattle.fips204_base.specs.Challenge.{challenge, sign_of};
 ghost use Rattle.fips204_base.specs.Packing.{bits};
 
 use crate::fault::Fault;
@@ -12,7 +12,7 @@ use crate::xof::{Xof, XofReader};
 /// The sign that bit `k` of `bytes` stands for.
 fn sign_at(bytes: &[u8; 8], k: usize) -> i32
     requires { k < 64 }
-    ensures { result ≡ sign (slice_index (bits 8 bytes.now) k) }
+    ensures { result ≡ sign_of (slice_index (bits 8 bytes.now) k) }
 {
     if (bytes[k / 8] >> (k % 8)) % 2 == 1 {
         -1

@@ -1,11 +1,9 @@
-use Rattle.std.proofs.Common.{ℕ, ℤ, ◌≡◌, ◌∙◌, ◌+◌, ◌-◌, ◌*◌, ◌<◌, ◌≤◌, ◌++◌, ◌∷◌, [], List, pos, nat_abs, ap, sym, refl, arith, rules, take, drop, set, get_or, length, Some, None, Ok, Err, drop-drop, get_or-drop, get_or-take, length-drop, append-nil, to_z, of_z}
+use Rattle.std.proofs.Common.{◌≡◌, ◌∙◌, ◌+◌, ◌-◌, ◌≤◌, pos, nat_abs, ap, refl, arith, rules, take, drop, get_or, length, drop-drop, append-nil, to_z, of_z}
 use Rattle.std.specs.Int.{w32}
-use Rattle.std.specs.List.{flat_map}
 use Rattle.std.proofs.lemmas.Int.{ints}
-use Rattle.fips204_base.specs.declared.types.R.{R}
-use Rattle.fips204_base.specs.Challenge.{challenge, picks}
+use Rattle.fips204_base.specs.Challenge.{picks}
 use Rattle.fips204_base.specs.Packing.{bits}
-use Rattle.fips204_base.proofs.Places.{Placed, placed_none, placed_more, picks-nil, picked-more, picked-same, byte_after, challenge-more, challenge-same, challenge-full, challenge-few}
+use Rattle.fips204_base.proofs.Places.{Placed, placed_none, picks-nil, byte_after, challenge-more, challenge-same, challenge-full, challenge-few}
 use Rattle.fips204_base.proofs.SignBits.{sign-read}
 use Rattle.fips204_base.proofs.hashing.challenge.sample_in_ball.Goals as goal
 use Rattle.fips204_base.proofs.hashing.challenge.sample_in_ball.Goals.{then-pick-i+else-i-eq256, else-pick-i}

@@ -1,4 +1,4 @@
-use Rattle.std.proofs.Common.{◌∙◌, ap, sym, arith}
+use Rattle.std.proofs.Common.{◌∙◌, sym, arith}
 use Rattle.fips204_base.proofs.SignBits.{bit_at, sign-set, sign-clear}
 use Rattle.fips204_base.proofs.hashing.challenge.sign_at.Goals as goal
 

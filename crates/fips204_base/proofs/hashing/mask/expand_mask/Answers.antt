@@ -1,4 +1,4 @@
-use Rattle.std.proofs.Common.{ℕ, ◌≡◌, ◌∙◌, ◌+◌, ◌<◌, ◌++◌, List, [], length, get_or, nat_abs, to_z, of_z, refl, ap, sym, arith, rules}
+use Rattle.std.proofs.Common.{ℕ, ◌≡◌, ◌+◌, ◌<◌, ◌++◌, [], get_or, nat_abs, to_z, of_z, arith, rules}
 use Rattle.std.specs.Int.{w16, w32, to_le_bytes}
 use Rattle.std.proofs.lemmas.List.FromFn.{fill_by_all}
 use Rattle.fips204_base.specs.declared.types.R.{R}

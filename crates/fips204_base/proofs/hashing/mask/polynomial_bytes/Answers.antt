@@ -1,4 +1,4 @@
-use Rattle.std.proofs.Common.{◌≡◌, ◌∙◌, sym, ap, arith, pos, inl, inr, of_z}
+use Rattle.std.proofs.Common.{◌≡◌, ◌∙◌, sym, ap, arith, inl, inr, of_z}
 use Rattle.std.specs.Int.{w32}
 use Rattle.fips204_base.proofs.Unpacking.{mask_width-low, mask_width-high}
 use Rattle.fips204_base.proofs.hashing.mask.polynomial_bytes.Goals as goal

@@ -1,4 +1,4 @@
-use Rattle.std.proofs.Common.{ℕ, ℤ, ◌≡◌, ◌∙◌, ◌+◌, ◌*◌, ◌<◌, ◌++◌, ◌∷◌, [], List, ◌-◌, ap, sym, refl, arith, take, drop, set, append_assoc, append-nil, to_z, of_z, Some, None}
+use Rattle.std.proofs.Common.{ℕ, ℤ, ◌≡◌, ◌∙◌, ◌+◌, ◌*◌, ◌<◌, ◌++◌, ◌∷◌, [], List, ◌-◌, ap, sym, arith, take, drop, set, append_assoc, append-nil, to_z, of_z, Some}
 use Rattle.std.specs.Int.{w32}
 use Rattle.fips204_base.specs.MatrixEntry.{kept_triples, triple}
 use Rattle.fips204_base.proofs.Keeping.{Keeps, keeps_there, keeps_more, keeps_full}

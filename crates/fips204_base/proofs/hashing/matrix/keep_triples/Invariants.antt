@@ -1,4 +1,4 @@
-use Rattle.std.proofs.Common.{◌≡◌, ◌<◌, take, ◌++◌}
+use Rattle.std.proofs.Common.{◌<◌, take, ◌++◌}
 use Rattle.fips204_base.specs.MatrixEntry.{kept_triples}
 use Rattle.fips204_base.proofs.Keeping.{Keeps}
 use Rattle.fips204_base.proofs.hashing.matrix.keep_triples.Given as goal

@@ -1,8 +1,6 @@
-use Rattle.std.proofs.Common.{ℕ, ℤ, ◌≡◌, ◌∙◌, ◌+◌, ◌*◌, ◌<◌, ◌++◌, ◌∷◌, [], List, ◌≤◌, ap, sym, refl, arith, take, drop, replicate, pos, length, drop-drop, Ok, Err, ok_or}
+use Rattle.std.proofs.Common.{ℕ, ℤ, ◌≡◌, ◌∙◌, ◌+◌, ◌*◌, ◌++◌, List, ◌≤◌, ap, sym, refl, arith, take, drop, replicate, pos, length, drop-drop}
 use Rattle.std.specs.List.{flat_map}
-use Rattle.fips204_base.specs.declared.types.T.{T}
-use Rattle.fips204_base.specs.declared.fault.Fault.TheVariants.{SamplingLimit}
-use Rattle.fips204_base.specs.MatrixEntry.{kept_triples, matrix_entry}
+use Rattle.fips204_base.specs.MatrixEntry.{kept_triples}
 use Rattle.fips204_base.proofs.Keeping.{Keeps, keeps_none, keeps_joined}
 use Rattle.fips204_base.proofs.Triples.{kept_triples-zero, kept_triples-joined, entry-full, entry-few}
 use Rattle.fips204_base.proofs.hashing.matrix.rej_ntt_poly.Goals as goal

@@ -1,7 +1,7 @@
-use Rattle.std.proofs.Common.{ℕ, ℤ, ◌≡◌, ◌∙◌, ◌+◌, ◌<◌, ◌++◌, ◌∷◌, [], List, ap, sym, refl, arith, rules, take, set, append-nil, to_z, of_z, Some, None}
+use Rattle.std.proofs.Common.{◌≡◌, sym, arith, rules, take, append-nil, to_z, of_z}
 use Rattle.std.specs.Prelude.{option_to_list}
 use Rattle.std.specs.Int.{w32}
-use Rattle.fips204_base.proofs.Keeping.{Keeps, keeps_there, keeps_more, keeps_full}
+use Rattle.fips204_base.proofs.Keeping.{keeps_there, keeps_more, keeps_full}
 use Rattle.fips204_base.proofs.hashing.small.keep.Goals as goal
 
 pub returns-in-Some-clause-kept : goal.returns-in-Some-clause-kept

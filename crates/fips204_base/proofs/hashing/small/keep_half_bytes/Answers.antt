@@ -1,9 +1,9 @@
-use Rattle.std.proofs.Common.{ℕ, ℤ, ◌≡◌, ◌∙◌, ◌+◌, ◌/◌, ◌%◌, ◌<◌, ◌++◌, ◌∷◌, [], List, ap, sym, refl, arith, rules, take, get_or, append_assoc, append-nil, nat_abs, to_z, of_z, Some, None}
+use Rattle.std.proofs.Common.{◌≡◌, ◌∙◌, ◌+◌, ◌/◌, ◌%◌, ◌++◌, ap, sym, refl, arith, take, get_or, append_assoc, append-nil, nat_abs, to_z, of_z}
 use Rattle.std.specs.Prelude.{option_to_list}
 use Rattle.std.specs.Int.{w32}
 use Rattle.fips204_base.specs.Coefficients.{coefficient_from_half_byte}
 use Rattle.fips204_base.specs.SmallPolynomial.{kept_half_bytes}
-use Rattle.fips204_base.proofs.Keeping.{Keeps, keeps_there, keeps_joined}
+use Rattle.fips204_base.proofs.Keeping.{keeps_there, keeps_joined}
 use Rattle.fips204_base.proofs.HalfBytes.{kept_half_bytes-zero, kept_half_bytes-more}
 use Rattle.fips204_base.proofs.hashing.small.keep_half_bytes.Goals as goal
 
