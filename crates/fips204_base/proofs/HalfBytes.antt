@@ -1,13 +1,12 @@
 -- The coefficients that the half bytes of a front give, byte by byte and piece by piece.
-use Rattle.std.proofs.Common.{◌≡◌, ℕ, ℤ, ◌+◌, ◌*◌, ◌-◌, ◌/◌, ◌%◌, ◌<◌, ◌≤◌, List, [], ◌∷◌, ◌++◌, length, take, drop, get_or, refl, ap, sym, ◌∙◌, arith, Some, None, append-nil, length-append, append_assoc}
-use Rattle.std.specs.Prelude.{option_map, option_to_list}
+use Rattle.std.proofs.Common.{◌≡◌, ℕ, ℤ, ◌+◌, ◌-◌, ◌/◌, ◌%◌, ◌<◌, ◌≤◌, List, [], ◌∷◌, ◌++◌, length, take, drop, get_or, refl, ap, sym, ◌∙◌, arith, Some, None, append_assoc}
+use Rattle.std.specs.Prelude.{option_to_list}
 use Rattle.std.specs.declared.option.Option.{Option}
-use Rattle.std.specs.List.{cons_option, filter_map, flat_map}
+use Rattle.std.specs.List.{cons_option, filter_map}
 use Rattle.std.proofs.lemmas.List.{take_more, take-take}
 use Rattle.std.proofs.lemmas.List.Elements.{filter_map-append}
 use Rattle.std.proofs.lemmas.Grind.{flat_map-append}
 use Rattle.std.proofs.Math.Seq.{take-add}
-use Rattle.fips204_base.specs.declared.types.R.{R}
 use Rattle.fips204_base.specs.Sampling.{first_256}
 use Rattle.fips204_base.specs.Coefficients.{coefficient_from_half_byte}
 use Rattle.fips204_base.specs.SmallPolynomial.{half_bytes, kept_half_bytes, small_polynomial}

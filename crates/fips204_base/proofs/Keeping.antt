@@ -1,8 +1,8 @@
 -- What a sampler keeps: the places written so far, and the first 256 coefficients of all that were given.
-use Rattle.std.proofs.Common.{◌≡◌, ℕ, ℤ, zero, suc, ◌+◌, ◌-◌, ◌<◌, ◌≤◌, min, List, [], ◌∷◌, ◌++◌, length, take, drop, get_or, set, refl, ap, sym, ◌∙◌, arith, rules, Some, None, true, false, nat_lt, append_assoc, append-nil, length-append, length-take, length-set, add-zero, map, inl, inr}
+use Rattle.std.proofs.Common.{◌≡◌, ℕ, ℤ, zero, suc, ◌+◌, ◌<◌, ◌≤◌, min, List, [], ◌∷◌, ◌++◌, length, take, set, refl, ap, sym, ◌∙◌, arith, Some, None, true, false, nat_lt, append_assoc, append-nil, length-append, length-take, length-set, add-zero, map, inl, inr}
 use Rattle.std.specs.declared.option.Option.{Option}
 use Rattle.std.specs.List.{filter_map, range_with_len}
-use Rattle.std.proofs.lemmas.List.{take_all, take_at, take-append-le, take-take, take_more_set}
+use Rattle.std.proofs.lemmas.List.{take_all, take_at, take-append-le, take_more_set}
 use Rattle.std.proofs.lemmas.List.Elements.{filter_map-append}
 use Rattle.std.proofs.lemmas.List.FromFn.{map-range_with_len_more}
 use Rattle.std.proofs.lemmas.Bool.{cases_lt, le-ltb, lt-ltb}

@@ -25,6 +25,7 @@ mod PolynomialBytes
 pub mod Present
 mod PublicKeys
 mod SignBits
+mod SmallPolynomials
 pub mod Triples
 pub mod Unpacking
 mod WorkedPacking

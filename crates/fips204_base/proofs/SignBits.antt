@@ -1,5 +1,5 @@
 -- One bit of bytes.
-use Rattle.std.proofs.Common.{◌≡◌, ℕ, zero, suc, ◌+◌, ◌*◌, ◌%◌, ◌/◌, ◌^◌, ◌<◌, ℤ, List, [], ◌∷◌, length, take, drop, get_or, refl, ap, sym, ◌∙◌, arith, get_or-drop, get_or-take, pos, negsuc, true, false, to_z, of_z}
+use Rattle.std.proofs.Common.{◌≡◌, ℕ, zero, suc, ◌+◌, ◌*◌, ◌%◌, ◌/◌, ◌^◌, ◌<◌, ℤ, List, length, take, drop, get_or, refl, ap, sym, ◌∙◌, arith, get_or-drop, get_or-take, pos, negsuc, true, false, to_z, of_z}
 use Rattle.std.specs.Prelude.{◌≢◌, nat_eq, if◌then◌else◌}
 use Rattle.std.specs.Int.{w32}
 use Rattle.std.proofs.lemmas.Bool.Decides.{nat_tests}

@@ -1,12 +1,10 @@
 -- The coefficients that the triples of a front give, piece by piece.
-use Rattle.std.proofs.Common.{◌≡◌, ℕ, ℤ, ◌+◌, ◌*◌, ◌-◌, ◌<◌, ◌≤◌, List, [], ◌∷◌, ◌++◌, length, take, drop, get_or, map, refl, ap, sym, ◌∙◌, arith, Some, None, append-nil, get_or-drop, get_or-take, add-zero, true, false, nat_lt, inl, inr, to_z, of_z, pos}
+use Rattle.std.proofs.Common.{◌≡◌, ℕ, ℤ, ◌+◌, ◌*◌, ◌-◌, ◌<◌, ◌≤◌, List, [], ◌∷◌, ◌++◌, take, drop, get_or, refl, ap, sym, ◌∙◌, arith, Some, None, append-nil, get_or-drop, get_or-take, true, false, nat_lt, inl, inr, to_z, of_z, pos}
 use Rattle.std.specs.Int.{w32}
 use Rattle.std.proofs.lemmas.Int.{to_z_pos}
 use Rattle.std.proofs.lemmas.Bool.{cases_lt, le-ltb, lt-ltb}
-use Rattle.std.specs.Prelude.{slice_index, option_map}
-use Rattle.std.specs.declared.option.Option.{Option}
-use Rattle.std.specs.List.{filter_map, range_with_len}
-use Rattle.fips204_base.specs.declared.types.T.{T}
+use Rattle.std.specs.Prelude.{slice_index}
+use Rattle.std.specs.List.{filter_map}
 use Rattle.fips204_base.specs.Sampling.{first_256}
 use Rattle.fips204_base.specs.Coefficients.{three_bytes, coefficient_from_three_bytes}
 use Rattle.fips204_base.specs.MatrixEntry.{triple, kept_triples, matrix_entry}

@@ -10,7 +10,7 @@ use crate::types::{R, R0};
 use crate::xof::{Xof, XofReader};
 
 /// How many bytes a polynomial of the mask takes, of 18 or 20 bits a coefficient.
-fn polynomial_bytes(gamma1: i32) -> usize
+fn polynomial_length(gamma1: i32) -> usize
     requires gamma1 { (gamma1 ≡ pos 131072) ⊎ (gamma1 ≡ pos 524288) }
     ensures value { result ≡ 32 * mask_width (nat_abs gamma1) }
     ensures few { result ≤ 640 }
@@ -29,7 +29,7 @@ fn polynomial<H: Xof>(gamma1: i32, rho: &[u8; 64], number: u16) -> R
 {
     let mut reader = H::open(&[rho.as_slice(), number.to_le_bytes().as_slice()]);
     let mut room = [0u8; 640];
-    let bytes = &mut room[..polynomial_bytes(gamma1)];
+    let bytes = &mut room[..polynomial_length(gamma1)];
     reader.read(bytes);
     bit_unpack(bytes, gamma1 - 1, gamma1).unwrap()
 }

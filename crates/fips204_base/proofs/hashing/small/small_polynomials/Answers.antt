@@ -1,4 +1,4 @@
-use Rattle.std.proofs.Common.{ℕ, ◌≡◌, ◌∙◌, ◌+◌, ◌++◌, refl, arith, rules, take, length-set, append-nil, map, nat_abs, to_z, of_z, Some, None, Err}
+use Rattle.std.proofs.Common.{ℕ, ◌≡◌, ◌∙◌, ◌+◌, ◌++◌, [], refl, arith, rules, take, length-set, append-nil, map, nat_abs, to_z, of_z, Some, None, Err}
 use Rattle.std.specs.Int.{w16, w32, to_le_bytes}
 use Rattle.std.specs.List.{range_with_len}
 use Rattle.std.proofs.lemmas.List.{length-replicate, take_all}
@@ -19,7 +19,8 @@ returns-in_err-polynomials g c =
     let eta : to_z w32 (of_z w32 c.args.eta) ≡ c.args.eta = search rules in
     let seed : c.as_slice.result.now ≡ c.args.rho.now = search rules in
     let number : c.as_slice-in-loop-r.result.now ≡ to_le_bytes w16 (c.args.first + c.loop-r.r) = search rules in
-    let fault = none_of_err _ c.in_err-polynomials.field-0.0 c.in_err-polynomials.ensures in
+    let input = c.as_slice.result.now ++ (c.as_slice-in-loop-r.result.now ++ []) in
+    let fault = none_of_err (small_polynomial (nat_abs (to_z w32 (of_z w32 c.args.eta))) (g.H.Xof.front input)) c.in_err-polynomials.field-0.0 c.in_err-polynomials.ensures in
     let refused : c.from_residual.result ≡ Err SamplingLimit = search rules in
     let here : polynomial (c.args.first + c.loop-r.r) ≡ None = rw (eta, seed, number, append-nil (to_le_bytes w16 (c.args.first + c.loop-r.r))) at fault.0 in
     let none : all_present (map polynomial (range_with_len c.args.first g.row.N)) ≡ None = all_present-none polynomial c.args.first g.row.N c.loop-r.r c.loop-r-test.true here in
@@ -31,7 +32,8 @@ loop-r-preserved g c =
     let polynomial = λ (r : ℕ). small_polynomial eta (g.H.Xof.front (c.args.rho.now ++ to_le_bytes w16 r)) in
     let seed : c.as_slice.result.now ≡ c.args.rho.now = search rules in
     let number : c.as_slice-in-loop-r.result.now ≡ to_le_bytes w16 (c.args.first + c.loop-r.r) = search rules in
-    let there = some_of_ok _ c.in_ok-polynomials.field-0 c.in_ok-polynomials.ensures in
+    let input = c.as_slice.result.now ++ (c.as_slice-in-loop-r.result.now ++ []) in
+    let there = some_of_ok (small_polynomial eta (g.H.Xof.front input)) c.in_ok-polynomials.field-0 c.in_ok-polynomials.ensures in
     let here : polynomial (c.args.first + c.loop-r.r) ≡ Some c.in_ok-polynomials.field-0 = rw (seed, number, append-nil (to_le_bytes w16 (c.args.first + c.loop-r.r))) at there in
     (
       length-set c.loop-r.polynomials c.loop-r.r c.in_ok-polynomials.field-0 ∙ c.loop-r.invariant.0,

@@ -1,7 +1,7 @@
 use Rattle.std.proofs.Common.{◌≡◌, ◌∙◌, sym, ap, arith, inl, inr, of_z}
 use Rattle.std.specs.Int.{w32}
 use Rattle.fips204_base.proofs.Unpacking.{mask_width-low, mask_width-high}
-use Rattle.fips204_base.proofs.hashing.mask.polynomial_bytes.Goals as goal
+use Rattle.fips204_base.proofs.hashing.mask.polynomial_length.Goals as goal
 
 pub returns-then-gamma1-eq131072-clause-value : goal.returns-then-gamma1-eq131072-clause-value
 returns-then-gamma1-eq131072-clause-value c = elim c.requires.gamma1 [
