@@ -31,10 +31,13 @@ mod Decomposed
 pub mod Reading
 mod Bits
 mod Fields
+pub mod HalfBytes
+pub mod Keeping
 mod Packings
 mod Pieces
-mod WorkedPacking
+pub mod Places
 mod PolynomialBytes
+pub mod Present
 mod PublicKeys
 pub mod Cases
 pub mod Residues
@@ -52,3 +55,8 @@ pub mod Laws
 pub mod Worked
 pub mod VectorBytes
 pub mod Signatures
+mod SignBits
+mod SmallPolynomials
+pub mod Triples
+pub mod Unpacking
+mod WorkedPacking

@@ -60,7 +60,7 @@ digits_below : (w x : ℕ) → All (λ digit. digit < 2) (integer_to_bits w x)
 digits_below zero x = rw (digits-zero x) (All-nil (λ (d : ℕ). d < 2))
 digits_below (suc w) x = rw (digits-suc w x) (All-cons (λ (d : ℕ). d < 2) (x % 2) (integer_to_bits w (x / 2)) (omega arith) (digits_below w (x / 2)))
 
-bits_below : (w : ℕ) (xs : List ℕ) → All (λ digit. digit < 2) (bits w xs)
+pub bits_below : (w : ℕ) (xs : List ℕ) → All (λ digit. digit < 2) (bits w xs)
 unfolding bits
 bits_below w [] = All-nil (λ (d : ℕ). d < 2)
 bits_below w (x ∷ xs) = All-append (λ (d : ℕ). d < 2) (integer_to_bits w x) (bits w xs) (digits_below w x) (bits_below w xs)
@@ -96,7 +96,7 @@ byte_count : (all : List ℕ) → length (bits_to_bytes all) ≡ length all / 8
 unfolding bits_to_bytes
 byte_count all = length-map-range_with_len (λ i. bits_to_integer (take 8 (drop (8 * i) all))) 0 (length all / 8)
 
-integer_small : (w : ℕ) (digits : List ℕ) → length digits ≤ w → All (λ digit. digit < 2) digits → bits_to_integer digits < 2 ^ w
+pub integer_small : (w : ℕ) (digits : List ℕ) → length digits ≤ w → All (λ digit. digit < 2) digits → bits_to_integer digits < 2 ^ w
 integer_small w [] h d = rw integer-nil (pow_pos w)
 integer_small zero (x ∷ xs) h d = absurd (omega (arith, h))
 integer_small (suc w) (x ∷ xs) h d =

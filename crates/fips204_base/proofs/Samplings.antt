@@ -72,12 +72,12 @@ kept_or_not : {Y : Type 0} (P : Y → Type 0) (o : Option Y) (kept : List Y) →
 kept_or_not P None kept here all = all
 kept_or_not P (Some x) kept here all = All-cons P x kept here all
 
-all_kept : {X Y : Type 0} (P : Y → Type 0) (h : X → Option Y) (xs : List X) → ((x : X) → IfSome (h x) P) → All P (filter_map h xs)
+pub all_kept : {X Y : Type 0} (P : Y → Type 0) (h : X → Option Y) (xs : List X) → ((x : X) → IfSome (h x) P) → All P (filter_map h xs)
 all_kept P h [] each = All-nil P
 all_kept P h (x ∷ xs) each = kept_or_not P (h x) (filter_map h xs) (each x) (all_kept P h xs each)
 
 -- a whole polynomial is of coefficients that were kept
-first_kept : (P : ℤ → Type 0) (kept values : List ℤ) → All P kept → first_256 kept ≡ Some values → (length values ≡ 256) × All P values
+pub first_kept : (P : ℤ → Type 0) (kept values : List ℤ) → All P kept → first_256 kept ≡ Some values → (length values ≡ 256) × All P values
 unfolding first_256
 first_kept P kept values all e = elim (cases_lt (length kept) 256) [
   | inl few ↦

@@ -63,7 +63,7 @@ pub one_hint : (o k : ℕ) (g h : List R) (y : List ℕ) → Spells o k g y → 
 one_hint o k g h y s t =
     let u = s.hint in
     let v = t.hint in
-    let n : length g ≡ length h = u.polynomials ∙ sym v.polynomials in
+    let n : length g ≡ length h = u.rows ∙ sym v.rows in
     ext_get_or R0 g h n (λ i l.
     let m : i < length h = omega (arith, n, l) in
     ones-polynomial (get_or g i R0) (get_or h i R0) (u.places i R0 l) (v.places i R0 m) (u.range i R0 l) (v.range i R0 m) (sym (piece o g y i (pieces o k g y s) l) ∙ piece o h y i (pieces o k h y t) m))

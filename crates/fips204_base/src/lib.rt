@@ -7,6 +7,7 @@
 pub mod conversion;
 pub mod encodings;
 pub mod fault;
+pub mod hashing;
 pub mod helpers;
 pub mod high_low;
 pub mod ntt;

@@ -15,7 +15,7 @@ pub returns-then-end-index : goal.returns-then-end-index
 returns-then-end-index g c = λ h s.
     let O = to_z-of_z w32 c.args.omega c.ranges.omega in
     let S : Spells (nat_abs (to_z w32 (of_z w32 c.args.omega))) g.row.K h c.args.y.now = rw O s in
-    let n = S.hint.polynomials in
+    let n = S.hint.rows in
     let rise = totals_rise _ h c.args.y.now c.loop-i.i (pieces _ _ h c.args.y.now S) (omega (arith, n)) in
     elim c.then-end-index.branch [
       | then-end-index-via-then-end-index w ↦ omega (arith, rise.0, c.loop-i.invariant.at, w.if-end-index.true)
@@ -26,7 +26,7 @@ pub returns-in-None : goal.returns-in-None
 returns-in-None g c = λ h s.
     let O = to_z-of_z w32 c.args.omega c.ranges.omega in
     let S : Spells (nat_abs (to_z w32 (of_z w32 c.args.omega))) g.row.K h c.args.y.now = rw O s in
-    let n = S.hint.polynomials in
+    let n = S.hint.rows in
     c.in-None.ensures (get_or h c.loop-i.i R0) (rw c.loop-i.invariant.at (piece _ h c.args.y.now c.loop-i.i (pieces _ _ h c.args.y.now S) (omega (arith, n))))
 
 pub loop-i-preserved : goal.loop-i-preserved
@@ -49,7 +49,7 @@ pub returns-then-y-k-ne0 : goal.returns-then-y-k-ne0
 returns-then-y-k-ne0 g c = λ h s.
     let O = to_z-of_z w32 c.args.omega c.ranges.omega in
     let S : Spells (nat_abs (to_z w32 (of_z w32 c.args.omega))) g.row.K h c.args.y.now = rw O s in
-    let n = S.hint.polynomials in
+    let n = S.hint.rows in
     let all : c.loop-i.i ≡ length h = omega (arith, n) in
     let end = rw all at c.loop-i.invariant.at in
     c.if-y-k-ne0.true (zero_rest _ h c.args.y.now c.loop-k.k (pieces _ _ h c.args.y.now S) (omega (arith, end)) c.loop-k-test.true)
@@ -64,7 +64,7 @@ returns g c =
     let all_pieces = gathered c.loop-i.h c.args.y.now (nat_abs (to_z w32 (of_z w32 c.args.omega))) c.loop-i.index c.loop-i.invariant.few size (c.loop-i.invariant.places ∙ ap (flat_map ones) whole)
     (λ k l. c.loop-i.invariant.totals k (omega (arith, l))) (λ j l u. c.loop-k.invariant j l (omega (arith, u))) in
     let spells : Spells (nat_abs (to_z w32 (of_z w32 c.args.omega))) g.row.K c.loop-i.h c.args.y.now = record {
-      hint = record { polynomials = c.loop-i.invariant.count; places = rw whole at c.loop-i.invariant.sizes; range = rw whole at c.loop-i.invariant.bits };
+      hint = record { rows = c.loop-i.invariant.count; places = rw whole at c.loop-i.invariant.sizes; range = rw whole at c.loop-i.invariant.bits };
       few = all_pieces.few;
       spelling = spelling _ c.loop-i.h c.args.y.now size all_pieces;
     } in

@@ -1,0 +1,51 @@
+//! The challenge, from the stream in the place of SHAKE256.
+#![tactic(auto)]
+
+ghost use Rattle.std.specs.Prelude.{◌≡◌, ◌<◌, ◌≤ℤ◌, pos, nat_abs, ok_or, slice_index};
+ghost use Rattle.fips204_base.specs.Challenge.{challenge, sign_of};
+ghost use Rattle.fips204_base.specs.Packing.{bits};
+
+use crate::fault::Fault;
+use crate::types::R;
+use crate::xof::{Xof, XofReader};
+
+/// The sign that bit `k` of `bytes` stands for.
+fn sign_at(bytes: &[u8; 8], k: usize) -> i32
+    requires { k < 64 }
+    ensures { result ≡ sign_of (slice_index (bits 8 bytes.now) k) }
+{
+    if (bytes[k / 8] >> (k % 8)) % 2 == 1 {
+        -1
+    } else {
+        1
+    }
+}
+
+/// `SampleInBall` (Algorithm 29): a polynomial of which `tau` coefficients are 1 or -1 and the others
+/// zero. `tau` is from 1 to 64. Refuses with `SamplingLimit` where the 1024 bytes after the first
+/// eight give fewer than `tau` places.
+pub fn sample_in_ball<H: Xof>(tau: i32, rho: &[u8]) -> Result<R, Fault>
+    requires tau { (pos 1 ≤ℤ tau) × (tau ≤ℤ pos 64) }
+    ensures { result ≡ ok_or (challenge (nat_abs tau) (H.front rho.now)) Fault.SamplingLimit }
+{
+    let first = 256 - tau as usize;
+    let mut reader = H::open(&[rho]);
+    let mut signs = [0u8; 8];
+    reader.read(&mut signs);
+    let mut c = [0i32; 256];
+    let mut i = first;
+    for _byte in 0..1024usize {
+        let mut byte = [0u8; 1];
+        reader.read(&mut byte);
+        let pick = byte[0] as usize;
+        if pick <= i {
+            c[i] = c[pick];
+            c[pick] = sign_at(&signs, i - first);
+            i += 1;
+            if i == 256 {
+                return Ok(R(c));
+            }
+        }
+    }
+    Err(Fault::SamplingLimit)
+}

@@ -1,0 +1,100 @@
+//! Small polynomials, from the stream in the place of SHAKE256.
+#![tactic(auto)]
+
+ghost use Rattle.std.specs.Prelude.{◌≡◌, ◌<◌, ◌≤◌, ◌⊎◌, ◌+◌, ◌++◌, length, pos, nat_abs, take, ok_or, option_to_list, IfOk, IfErr, Some, None};
+ghost use Rattle.std.specs.List.{flat_map};
+ghost use Rattle.fips204_base.specs.SmallPolynomial.{kept_half_bytes, small_polynomial, small_vector};
+
+use crate::conversion::coeff_from_half_byte;
+use crate::fault::Fault;
+use crate::types::{R, R0};
+use crate::xof::{Xof, XofReader};
+
+/// Puts a coefficient, if there is one, at place `kept` of `values`, if there is room, and answers how
+/// many there are then.
+fn keep(coefficient: Option<i32>, values: &mut [i32; 256], kept: usize) -> usize
+    requires room { kept ≤ 256 }
+    ensures count { result ≤ 256 }
+    ensures kept { take result values.new ≡ take 256 (take kept values.old ++ option_to_list coefficient) }
+{
+    match coefficient {
+        Some(coefficient) if kept < 256 => {
+            values[kept] = coefficient;
+            kept + 1
+        }
+        _ => kept,
+    }
+}
+
+/// Puts the coefficients that the half bytes of `piece` give into `values` from place `kept` on, as
+/// many as have room, and answers how many there are then.
+fn keep_half_bytes(eta: i32, piece: &[u8; 64], values: &mut [i32; 256], kept: usize) -> usize
+    requires eta { (eta ≡ pos 2) ⊎ (eta ≡ pos 4) }
+    requires room { kept ≤ 256 }
+    ensures count { result ≤ 256 }
+    ensures kept { take result values.new ≡ take 256 (take kept values.old ++ kept_half_bytes (nat_abs eta) piece.now 64) }
+{
+    let mut count = kept;
+    for byte in piece {
+        count = keep(coeff_from_half_byte(eta, *byte % 16), values, count);
+        count = keep(coeff_from_half_byte(eta, *byte / 16), values, count);
+    }
+    count
+}
+
+/// `RejBoundedPoly` (Algorithm 31): a polynomial with coefficients in `[-eta, eta]` from the joined
+/// `parts`. `eta` is 2 or 4. Refuses with `SamplingLimit` where the half bytes of the first 1024 bytes
+/// of the stream give fewer than 256 coefficients.
+pub fn rej_bounded_poly<H: Xof>(eta: i32, parts: &[&[u8]]) -> Result<R, Fault>
+    requires eta { (eta ≡ pos 2) ⊎ (eta ≡ pos 4) }
+    ensures { result ≡ ok_or (small_polynomial (nat_abs eta) (H.front (flat_map (λ part. part.now) parts.now))) Fault.SamplingLimit }
+{
+    let mut reader = H::open(parts);
+    let mut values = [0i32; 256];
+    let mut count = 0;
+    for _piece in 0..16usize {
+        let mut piece = [0u8; 64];
+        reader.read(&mut piece);
+        count = keep_half_bytes(eta, &piece, &mut values, count);
+        if count == 256 {
+            return Ok(R(values));
+        }
+    }
+    Err(Fault::SamplingLimit)
+}
+
+/// `N` small polynomials, the one at `r` from `rho` and the number `first + r` in two bytes.
+fn small_polynomials<const N: usize, H: Xof>(
+    eta: i32,
+    rho: &[u8; 64],
+    first: usize,
+) -> Result<[R; N], Fault>
+    requires eta { (eta ≡ pos 2) ⊎ (eta ≡ pos 4) }
+    requires numbers { first + N ≤ 65536 }
+    ensures { result ≡ ok_or (small_vector (nat_abs eta) H.front rho.now first N) Fault.SamplingLimit }
+{
+    let mut polynomials = [R0; N];
+    for r in 0..N {
+        let number = (first + r) as u16;
+        polynomials[r] = rej_bounded_poly::<H>(eta, &[rho.as_slice(), number.to_le_bytes().as_slice()])?;
+    }
+    Ok(polynomials)
+}
+
+/// `ExpandS` (Algorithm 33): the secret vectors s1 of `L` and s2 of `K` polynomials, with coefficients
+/// in `[-eta, eta]`. `eta` is 2 or 4, and `K` and `L` are those of a parameter set. Refuses with
+/// `SamplingLimit` where a polynomial passes its limit.
+pub fn expand_s<const K: usize, const L: usize, H: Xof>(
+    eta: i32,
+    rho: &[u8; 64],
+) -> Result<([R; L], [R; K]), Fault>
+    requires eta { (eta ≡ pos 2) ⊎ (eta ≡ pos 4) }
+    requires shape { (K ≤ 8) × (L ≤ 7) }
+    ensures s1 { IfOk result (λ vectors. small_vector (nat_abs eta) H.front rho.now 0 L ≡ Some vectors.0) }
+    ensures s2 { IfOk result (λ vectors. small_vector (nat_abs eta) H.front rho.now L K ≡ Some vectors.1) }
+    ensures limit { IfErr result (λ fault. (fault ≡ Fault.SamplingLimit) × ((small_vector (nat_abs eta) H.front rho.now 0 L ≡ None) ⊎ (small_vector (nat_abs eta) H.front rho.now L K ≡ None))) }
+{
+    let s1 = small_polynomials::<L, H>(eta, rho, 0)?;
+    let s2 = small_polynomials::<K, H>(eta, rho, L)?;
+    Ok((s1, s2))
+}
