@@ -39,20 +39,8 @@ pub mod Places
 mod PolynomialBytes
 pub mod Present
 mod PublicKeys
-pub mod Cases
-pub mod Residues
-pub mod Sums
-pub mod Integers
-pub mod Montgomery
-pub mod Roots
-pub mod Forward
-pub mod Backward
-pub mod Inverse
 pub mod Blocks
 pub mod Rows
-pub mod Products
-pub mod Laws
-pub mod Worked
 pub mod VectorBytes
 pub mod Signatures
 mod SignBits

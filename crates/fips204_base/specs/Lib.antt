@@ -8,13 +8,10 @@ pub mod Transforms
 pub mod Vectors
 pub mod Rounding
 pub mod Reductions
-pub mod Products
-pub mod Transforms
 pub mod Counts
 pub mod Polynomials
 pub mod Lanes
 pub mod Network
-pub mod Polynomials
 pub mod Laws
 pub mod Packing
 pub mod HintSpelling
