@@ -1,12 +1,13 @@
--- A hint that MakeHint gives leads UseHint to the high bits of the sum.
-use Rattle.std.proofs.Common.{◌≡◌, ◌≢◌, ℕ, ◌<◌, ◌≤◌, ◌+◌, ◌-◌, ◌*◌, ◌/◌, ◌%◌, ℤ, pos, negsuc, ◌+ℤ◌, ◌-ℤ◌, nat_abs, true, false, arith, sym, ap, refl, ◌∙◌, inl, inr}
-use Rattle.std.specs.Prelude.{◌⊎◌, ◌<ℤ◌, ◌≤ℤ◌, nat_eq}
+-- Laws of high bits and hints: UseHint at what MakeHint gives, how far UseHint leaves a residue, and sums that keep high bits.
+use Rattle.std.proofs.Common.{◌≡◌, ◌≢◌, ℕ, ◌<◌, ◌≤◌, ◌+◌, ◌-◌, ◌*◌, ◌%◌, pos, negsuc, ◌-ℤ◌, nat_abs, true, false, arith, refl, inl, inr}
+use Rattle.std.specs.Prelude.{◌⊎◌, ◌<ℤ◌, ◌≤ℤ◌}
 use Rattle.std.proofs.lemmas.Int.{ints, by_lt_z}
 use Rattle.std.proofs.lemmas.Bool.{cases_eq, cases_lt, eq-eqb, ne_eqb, le-leb, lt-leb}
 use Rattle.fips204_base.specs.Residues.{residue}
 use Rattle.fips204_base.specs.CentredValues.{centred_modulo}
 use Rattle.fips204_base.specs.Rounding.{high_bits, low_bits, high_values, use_hint, make_hint}
-use Rattle.fips204_base.proofs.Rounds.{IsLast, IsNear, decompose_sides, high_bits_below, above, not_above}
+use Rattle.fips204_base.proofs.Integers.{residue_below}
+use Rattle.fips204_base.proofs.Rounds.{decompose_sides, high_bits_below, above, not_above}
 
 -- where r + z has other high bits than r, they are one further on, round the end
 up_44 : (r z : ℕ) → r < 8380417 → z < 8380417 → (z ≤ 95232) ⊎ (8380417 ≤ z + 95232) → pos 0 <ℤ low_bits 95232 r → high_bits 95232 r ≢ high_bits 95232 ((r + z) % 8380417) → (high_bits 95232 r + 1) % 44 ≡ high_bits 95232 ((r + z) % 8380417)
@@ -15,12 +16,15 @@ up_44 r z below small near low differs =
     let r_fits = high_bits_below 95232 r (inl refl) below in
     let s_fits = high_bits_below 95232 s (inl refl) (omega arith) in
     elim (decompose_sides 95232 r (omega arith)) [
-      inl last ↦ elim (decompose_sides 95232 s (omega arith)) [
-          inl s_last ↦ omega (arith, ints, last.low, last.high, last.near, s_last.high, s_last.near)
-        | inr s_at ↦ omega (arith, ints, last.low, last.high, last.near, s_at.above, s_at.below) ]
-    | inr at ↦ elim (decompose_sides 95232 s (omega arith)) [
-          inl s_last ↦ omega (arith, ints, at.low, at.above, at.below, s_last.high, s_last.near)
-        | inr s_at ↦ omega (arith, ints, at.low, at.above, at.below, s_at.above, s_at.below) ] ]
+      | inl last ↦ elim (decompose_sides 95232 s (omega arith)) [
+        | inl s_last ↦ omega (arith, ints, last.low, last.high, last.near, s_last.high, s_last.near)
+        | inr s_at ↦ omega (arith, ints, last.low, last.high, last.near, s_at.above, s_at.below)
+      ]
+      | inr at ↦ elim (decompose_sides 95232 s (omega arith)) [
+        | inl s_last ↦ omega (arith, ints, at.low, at.above, at.below, s_last.high, s_last.near)
+        | inr s_at ↦ omega (arith, ints, at.low, at.above, at.below, s_at.above, s_at.below)
+      ]
+    ]
 
 -- where r + z has other high bits than r, they are one further back, round the end
 down_44 : (r z : ℕ) → r < 8380417 → z < 8380417 → (z ≤ 95232) ⊎ (8380417 ≤ z + 95232) → low_bits 95232 r ≤ℤ pos 0 → high_bits 95232 r ≢ high_bits 95232 ((r + z) % 8380417) → (high_bits 95232 r + 43) % 44 ≡ high_bits 95232 ((r + z) % 8380417)
@@ -29,12 +33,15 @@ down_44 r z below small near low differs =
     let r_fits = high_bits_below 95232 r (inl refl) below in
     let s_fits = high_bits_below 95232 s (inl refl) (omega arith) in
     elim (decompose_sides 95232 r (omega arith)) [
-      inl last ↦ elim (decompose_sides 95232 s (omega arith)) [
-          inl s_last ↦ omega (arith, ints, last.low, last.high, last.near, s_last.high, s_last.near)
-        | inr s_at ↦ omega (arith, ints, last.low, last.high, last.near, s_at.above, s_at.below) ]
-    | inr at ↦ elim (decompose_sides 95232 s (omega arith)) [
-          inl s_last ↦ omega (arith, ints, at.low, at.above, at.below, s_last.high, s_last.near)
-        | inr s_at ↦ omega (arith, ints, at.low, at.above, at.below, s_at.above, s_at.below) ] ]
+      | inl last ↦ elim (decompose_sides 95232 s (omega arith)) [
+        | inl s_last ↦ omega (arith, ints, last.low, last.high, last.near, s_last.high, s_last.near)
+        | inr s_at ↦ omega (arith, ints, last.low, last.high, last.near, s_at.above, s_at.below)
+      ]
+      | inr at ↦ elim (decompose_sides 95232 s (omega arith)) [
+        | inl s_last ↦ omega (arith, ints, at.low, at.above, at.below, s_last.high, s_last.near)
+        | inr s_at ↦ omega (arith, ints, at.low, at.above, at.below, s_at.above, s_at.below)
+      ]
+    ]
 
 -- where r + z has other high bits than r, they are one further on, round the end
 up_16 : (r z : ℕ) → r < 8380417 → z < 8380417 → (z ≤ 261888) ⊎ (8380417 ≤ z + 261888) → pos 0 <ℤ low_bits 261888 r → high_bits 261888 r ≢ high_bits 261888 ((r + z) % 8380417) → (high_bits 261888 r + 1) % 16 ≡ high_bits 261888 ((r + z) % 8380417)
@@ -43,12 +50,15 @@ up_16 r z below small near low differs =
     let r_fits = high_bits_below 261888 r (inr refl) below in
     let s_fits = high_bits_below 261888 s (inr refl) (omega arith) in
     elim (decompose_sides 261888 r (omega arith)) [
-      inl last ↦ elim (decompose_sides 261888 s (omega arith)) [
-          inl s_last ↦ omega (arith, ints, last.low, last.high, last.near, s_last.high, s_last.near)
-        | inr s_at ↦ omega (arith, ints, last.low, last.high, last.near, s_at.above, s_at.below) ]
-    | inr at ↦ elim (decompose_sides 261888 s (omega arith)) [
-          inl s_last ↦ omega (arith, ints, at.low, at.above, at.below, s_last.high, s_last.near)
-        | inr s_at ↦ omega (arith, ints, at.low, at.above, at.below, s_at.above, s_at.below) ] ]
+      | inl last ↦ elim (decompose_sides 261888 s (omega arith)) [
+        | inl s_last ↦ omega (arith, ints, last.low, last.high, last.near, s_last.high, s_last.near)
+        | inr s_at ↦ omega (arith, ints, last.low, last.high, last.near, s_at.above, s_at.below)
+      ]
+      | inr at ↦ elim (decompose_sides 261888 s (omega arith)) [
+        | inl s_last ↦ omega (arith, ints, at.low, at.above, at.below, s_last.high, s_last.near)
+        | inr s_at ↦ omega (arith, ints, at.low, at.above, at.below, s_at.above, s_at.below)
+      ]
+    ]
 
 -- where r + z has other high bits than r, they are one further back, round the end
 down_16 : (r z : ℕ) → r < 8380417 → z < 8380417 → (z ≤ 261888) ⊎ (8380417 ≤ z + 261888) → low_bits 261888 r ≤ℤ pos 0 → high_bits 261888 r ≢ high_bits 261888 ((r + z) % 8380417) → (high_bits 261888 r + 15) % 16 ≡ high_bits 261888 ((r + z) % 8380417)
@@ -57,40 +67,46 @@ down_16 r z below small near low differs =
     let r_fits = high_bits_below 261888 r (inr refl) below in
     let s_fits = high_bits_below 261888 s (inr refl) (omega arith) in
     elim (decompose_sides 261888 r (omega arith)) [
-      inl last ↦ elim (decompose_sides 261888 s (omega arith)) [
-          inl s_last ↦ omega (arith, ints, last.low, last.high, last.near, s_last.high, s_last.near)
-        | inr s_at ↦ omega (arith, ints, last.low, last.high, last.near, s_at.above, s_at.below) ]
-    | inr at ↦ elim (decompose_sides 261888 s (omega arith)) [
-          inl s_last ↦ omega (arith, ints, at.low, at.above, at.below, s_last.high, s_last.near)
-        | inr s_at ↦ omega (arith, ints, at.low, at.above, at.below, s_at.above, s_at.below) ] ]
+      | inl last ↦ elim (decompose_sides 261888 s (omega arith)) [
+        | inl s_last ↦ omega (arith, ints, last.low, last.high, last.near, s_last.high, s_last.near)
+        | inr s_at ↦ omega (arith, ints, last.low, last.high, last.near, s_at.above, s_at.below)
+      ]
+      | inr at ↦ elim (decompose_sides 261888 s (omega arith)) [
+        | inl s_last ↦ omega (arith, ints, at.low, at.above, at.below, s_last.high, s_last.near)
+        | inr s_at ↦ omega (arith, ints, at.low, at.above, at.below, s_at.above, s_at.below)
+      ]
+    ]
 
 -- a residue whose centred value is at most g in absolute value
 near_zero : (g z : ℕ) → z < 8380417 → nat_abs (centred_modulo 8380417 z) ≤ g → (z ≤ g) ⊎ (8380417 ≤ z + g)
 near_zero g z small near = elim (cases_lt 4190208 (z % 8380417)) [
-    inl far ↦
+  | inl far ↦
       let e = rw (lt-leb (z % 8380417) 4190208 far) at near in
       inr (omega (arith, ints, e))
   | inr least ↦
       let e = rw (le-leb (z % 8380417) 4190208 least) at near in
-      inl (omega (arith, ints, e)) ]
+      inl (omega (arith, ints, e))
+]
 
 hint_44 : (z r : ℕ) → r < 8380417 → z < 8380417 → (z ≤ 95232) ⊎ (8380417 ≤ z + 95232) → use_hint 95232 (make_hint 95232 z r) r ≡ high_bits 95232 ((r + z) % 8380417)
 unfolding use_hint
 hint_44 z r below small near = elim (cases_eq (high_bits 95232 r) (high_bits 95232 ((r + z) % 8380417))) [
-    inl same ↦ rw (eq-eqb (high_bits 95232 r) (high_bits 95232 ((r + z) % 8380417)) same) same
+  | inl same ↦ rw (eq-eqb (high_bits 95232 r) (high_bits 95232 ((r + z) % 8380417)) same) same
   | inr differs ↦ rw (ne_eqb (high_bits 95232 r) (high_bits 95232 ((r + z) % 8380417)) differs)
       (by_lt_z (pos 0) (low_bits 95232 r)
-        (λ up. rw (above (low_bits 95232 r) up) (up_44 r z below small near up differs))
-        (λ down. rw (not_above (low_bits 95232 r) down) (down_44 r z below small near down differs))) ]
+      (λ up. rw (above (low_bits 95232 r) up) (up_44 r z below small near up differs))
+      (λ down. rw (not_above (low_bits 95232 r) down) (down_44 r z below small near down differs)))
+]
 
 hint_16 : (z r : ℕ) → r < 8380417 → z < 8380417 → (z ≤ 261888) ⊎ (8380417 ≤ z + 261888) → use_hint 261888 (make_hint 261888 z r) r ≡ high_bits 261888 ((r + z) % 8380417)
 unfolding use_hint
 hint_16 z r below small near = elim (cases_eq (high_bits 261888 r) (high_bits 261888 ((r + z) % 8380417))) [
-    inl same ↦ rw (eq-eqb (high_bits 261888 r) (high_bits 261888 ((r + z) % 8380417)) same) same
+  | inl same ↦ rw (eq-eqb (high_bits 261888 r) (high_bits 261888 ((r + z) % 8380417)) same) same
   | inr differs ↦ rw (ne_eqb (high_bits 261888 r) (high_bits 261888 ((r + z) % 8380417)) differs)
       (by_lt_z (pos 0) (low_bits 261888 r)
-        (λ up. rw (above (low_bits 261888 r) up) (up_16 r z below small near up differs))
-        (λ down. rw (not_above (low_bits 261888 r) down) (down_16 r z below small near down differs))) ]
+      (λ up. rw (above (low_bits 261888 r) up) (up_16 r z below small near up differs))
+      (λ down. rw (not_above (low_bits 261888 r) down) (down_16 r z below small near down differs)))
+]
 
 pub use_hint_of_make_hint : (g z r : ℕ) → (g ≡ 95232) ⊎ (g ≡ 261888) → r < 8380417 → z < 8380417 → nat_abs (centred_modulo 8380417 z) ≤ g → use_hint g (make_hint g z r) r ≡ high_bits g ((r + z) % 8380417)
 use_hint_of_make_hint g z r (inl is) below small near = rw is (hint_44 z r below small (near_zero 95232 z small (rw is at near)))
@@ -100,75 +116,85 @@ use_hint_of_make_hint g z r (inr is) below small near = rw is (hint_16 z r below
 size_near : (x n : ℕ) → x < 8380417 → n ≤ 4190208 → (x ≤ n) ⊎ (8380417 ≤ x + n) → nat_abs (centred_modulo 8380417 x) ≤ n
 size_near x n small few (inl near) = rw (le-leb (x % 8380417) 4190208 (omega arith)) (omega (arith, ints))
 size_near x n small few (inr near) = elim (cases_lt 4190208 (x % 8380417)) [
-    inl far ↦ rw (lt-leb (x % 8380417) 4190208 far) (omega (arith, ints))
-  | inr least ↦ rw (le-leb (x % 8380417) 4190208 least) (omega (arith, ints)) ]
+  | inl far ↦ rw (lt-leb (x % 8380417) 4190208 far) (omega (arith, ints))
+  | inr least ↦ rw (le-leb (x % 8380417) 4190208 least) (omega (arith, ints))
+]
 
 difference : (a b : ℕ) → a < 8380417 → b < 8380417 → (residue (pos a -ℤ pos b) + b ≡ a) ⊎ (residue (pos a -ℤ pos b) + b ≡ a + 8380417)
 difference a b p q = elim (cases_lt a b) [
-    inl less ↦
+  | inl less ↦
       let e : pos a -ℤ pos b ≡ negsuc (b - a - 1) = omega (arith, ints) in
       rw e (inr (omega arith))
   | inr least ↦
       let e : pos a -ℤ pos b ≡ pos (a - b) = omega (arith, ints) in
-      rw e (inl (omega arith)) ]
-
-residue_small : (z : ℤ) → residue z < 8380417
-residue_small (pos n) = omega arith
-residue_small (negsuc n) = omega arith
+      rw e (inl (omega arith))
+]
 
 far_none_44 : (r u x : ℕ) → r < 8380417 → u ≡ high_bits 95232 r → (x + u * 190464 ≡ r) ⊎ (x + u * 190464 ≡ r + 8380417) → x < 8380417 → (x ≤ 95232) ⊎ (8380417 ≤ x + 95232)
 far_none_44 r u x below moved where_x small =
     let fits = high_bits_below 95232 r (inl refl) below in
     elim (cases_lt 95232 x) [
-      inr least ↦ inl least
-    | inl far ↦ elim (decompose_sides 95232 r (omega arith)) [
-          inl last ↦ inr (omega (arith, ints, last.low, last.high, last.near))
-        | inr at ↦ inr (omega (arith, ints, at.low, at.above, at.below)) ] ]
+      | inr least ↦ inl least
+      | inl far ↦ elim (decompose_sides 95232 r (omega arith)) [
+        | inl last ↦ inr (omega (arith, ints, last.low, last.high, last.near))
+        | inr at ↦ inr (omega (arith, ints, at.low, at.above, at.below))
+      ]
+    ]
 
 far_up_44 : (r u x : ℕ) → r < 8380417 → pos 0 <ℤ low_bits 95232 r → u ≡ (high_bits 95232 r + 1) % 44 → (x + u * 190464 ≡ r) ⊎ (x + u * 190464 ≡ r + 8380417) → x < 8380417 → (x ≤ 190465) ⊎ (8380417 ≤ x + 190465)
 far_up_44 r u x below low moved where_x small =
     let fits = high_bits_below 95232 r (inl refl) below in
     elim (cases_lt 190465 x) [
-      inr least ↦ inl least
-    | inl far ↦ elim (decompose_sides 95232 r (omega arith)) [
-          inl last ↦ inr (omega (arith, ints, last.low, last.high, last.near))
-        | inr at ↦ inr (omega (arith, ints, at.low, at.above, at.below)) ] ]
+      | inr least ↦ inl least
+      | inl far ↦ elim (decompose_sides 95232 r (omega arith)) [
+        | inl last ↦ inr (omega (arith, ints, last.low, last.high, last.near))
+        | inr at ↦ inr (omega (arith, ints, at.low, at.above, at.below))
+      ]
+    ]
 
 far_down_44 : (r u x : ℕ) → r < 8380417 → low_bits 95232 r ≤ℤ pos 0 → u ≡ (high_bits 95232 r + 43) % 44 → (x + u * 190464 ≡ r) ⊎ (x + u * 190464 ≡ r + 8380417) → x < 8380417 → (x ≤ 190465) ⊎ (8380417 ≤ x + 190465)
 far_down_44 r u x below low moved where_x small =
     let fits = high_bits_below 95232 r (inl refl) below in
     elim (cases_lt 190465 x) [
-      inr least ↦ inl least
-    | inl far ↦ elim (decompose_sides 95232 r (omega arith)) [
-          inl last ↦ inr (omega (arith, ints, last.low, last.high, last.near))
-        | inr at ↦ inr (omega (arith, ints, at.low, at.above, at.below)) ] ]
+      | inr least ↦ inl least
+      | inl far ↦ elim (decompose_sides 95232 r (omega arith)) [
+        | inl last ↦ inr (omega (arith, ints, last.low, last.high, last.near))
+        | inr at ↦ inr (omega (arith, ints, at.low, at.above, at.below))
+      ]
+    ]
 
 far_none_16 : (r u x : ℕ) → r < 8380417 → u ≡ high_bits 261888 r → (x + u * 523776 ≡ r) ⊎ (x + u * 523776 ≡ r + 8380417) → x < 8380417 → (x ≤ 261888) ⊎ (8380417 ≤ x + 261888)
 far_none_16 r u x below moved where_x small =
     let fits = high_bits_below 261888 r (inr refl) below in
     elim (cases_lt 261888 x) [
-      inr least ↦ inl least
-    | inl far ↦ elim (decompose_sides 261888 r (omega arith)) [
-          inl last ↦ inr (omega (arith, ints, last.low, last.high, last.near))
-        | inr at ↦ inr (omega (arith, ints, at.low, at.above, at.below)) ] ]
+      | inr least ↦ inl least
+      | inl far ↦ elim (decompose_sides 261888 r (omega arith)) [
+        | inl last ↦ inr (omega (arith, ints, last.low, last.high, last.near))
+        | inr at ↦ inr (omega (arith, ints, at.low, at.above, at.below))
+      ]
+    ]
 
 far_up_16 : (r u x : ℕ) → r < 8380417 → pos 0 <ℤ low_bits 261888 r → u ≡ (high_bits 261888 r + 1) % 16 → (x + u * 523776 ≡ r) ⊎ (x + u * 523776 ≡ r + 8380417) → x < 8380417 → (x ≤ 523777) ⊎ (8380417 ≤ x + 523777)
 far_up_16 r u x below low moved where_x small =
     let fits = high_bits_below 261888 r (inr refl) below in
     elim (cases_lt 523777 x) [
-      inr least ↦ inl least
-    | inl far ↦ elim (decompose_sides 261888 r (omega arith)) [
-          inl last ↦ inr (omega (arith, ints, last.low, last.high, last.near))
-        | inr at ↦ inr (omega (arith, ints, at.low, at.above, at.below)) ] ]
+      | inr least ↦ inl least
+      | inl far ↦ elim (decompose_sides 261888 r (omega arith)) [
+        | inl last ↦ inr (omega (arith, ints, last.low, last.high, last.near))
+        | inr at ↦ inr (omega (arith, ints, at.low, at.above, at.below))
+      ]
+    ]
 
 far_down_16 : (r u x : ℕ) → r < 8380417 → low_bits 261888 r ≤ℤ pos 0 → u ≡ (high_bits 261888 r + 15) % 16 → (x + u * 523776 ≡ r) ⊎ (x + u * 523776 ≡ r + 8380417) → x < 8380417 → (x ≤ 523777) ⊎ (8380417 ≤ x + 523777)
 far_down_16 r u x below low moved where_x small =
     let fits = high_bits_below 261888 r (inr refl) below in
     elim (cases_lt 523777 x) [
-      inr least ↦ inl least
-    | inl far ↦ elim (decompose_sides 261888 r (omega arith)) [
-          inl last ↦ inr (omega (arith, ints, last.low, last.high, last.near))
-        | inr at ↦ inr (omega (arith, ints, at.low, at.above, at.below)) ] ]
+      | inr least ↦ inl least
+      | inl far ↦ elim (decompose_sides 261888 r (omega arith)) [
+        | inl last ↦ inr (omega (arith, ints, last.low, last.high, last.near))
+        | inr at ↦ inr (omega (arith, ints, at.low, at.above, at.below))
+      ]
+    ]
 
 moved_up : (g r : ℕ) → pos 0 <ℤ low_bits g r → use_hint g true r ≡ (high_bits g r + 1) % high_values g
 unfolding use_hint
@@ -187,40 +213,40 @@ distance_none_44 r below =
     let moved = unmoved 95232 r in
     let fits = high_bits_below 95232 r (inl refl) below in
     let x = residue (pos r -ℤ pos (use_hint 95232 false r * 190464)) in
-    let small = residue_small (pos r -ℤ pos (use_hint 95232 false r * 190464)) in
+    let small = residue_below (pos r -ℤ pos (use_hint 95232 false r * 190464)) in
     size_near x 95232 small (omega arith) (far_none_44 r (use_hint 95232 false r) x below moved (difference r (use_hint 95232 false r * 190464) below (omega arith)) small)
 
 distance_hint_44 : (r : ℕ) → r < 8380417 → nat_abs (centred_modulo 8380417 (residue (pos r -ℤ pos (use_hint 95232 true r * 190464)))) ≤ 190465
 distance_hint_44 r below =
     let x = residue (pos r -ℤ pos (use_hint 95232 true r * 190464)) in
-    let small = residue_small (pos r -ℤ pos (use_hint 95232 true r * 190464)) in
+    let small = residue_below (pos r -ℤ pos (use_hint 95232 true r * 190464)) in
     by_lt_z (pos 0) (low_bits 95232 r)
-      (λ up.
-        let moved = moved_up 95232 r up in
-        size_near x 190465 small (omega arith) (far_up_44 r (use_hint 95232 true r) x below up moved (difference r (use_hint 95232 true r * 190464) below (omega arith)) small))
-      (λ down.
-        let moved = moved_down 95232 r down in
-        size_near x 190465 small (omega arith) (far_down_44 r (use_hint 95232 true r) x below down moved (difference r (use_hint 95232 true r * 190464) below (omega arith)) small))
+    (λ up.
+    let moved = moved_up 95232 r up in
+    size_near x 190465 small (omega arith) (far_up_44 r (use_hint 95232 true r) x below up moved (difference r (use_hint 95232 true r * 190464) below (omega arith)) small))
+    (λ down.
+    let moved = moved_down 95232 r down in
+    size_near x 190465 small (omega arith) (far_down_44 r (use_hint 95232 true r) x below down moved (difference r (use_hint 95232 true r * 190464) below (omega arith)) small))
 
 distance_none_16 : (r : ℕ) → r < 8380417 → nat_abs (centred_modulo 8380417 (residue (pos r -ℤ pos (use_hint 261888 false r * 523776)))) ≤ 261888
 distance_none_16 r below =
     let moved = unmoved 261888 r in
     let fits = high_bits_below 261888 r (inr refl) below in
     let x = residue (pos r -ℤ pos (use_hint 261888 false r * 523776)) in
-    let small = residue_small (pos r -ℤ pos (use_hint 261888 false r * 523776)) in
+    let small = residue_below (pos r -ℤ pos (use_hint 261888 false r * 523776)) in
     size_near x 261888 small (omega arith) (far_none_16 r (use_hint 261888 false r) x below moved (difference r (use_hint 261888 false r * 523776) below (omega arith)) small)
 
 distance_hint_16 : (r : ℕ) → r < 8380417 → nat_abs (centred_modulo 8380417 (residue (pos r -ℤ pos (use_hint 261888 true r * 523776)))) ≤ 523777
 distance_hint_16 r below =
     let x = residue (pos r -ℤ pos (use_hint 261888 true r * 523776)) in
-    let small = residue_small (pos r -ℤ pos (use_hint 261888 true r * 523776)) in
+    let small = residue_below (pos r -ℤ pos (use_hint 261888 true r * 523776)) in
     by_lt_z (pos 0) (low_bits 261888 r)
-      (λ up.
-        let moved = moved_up 261888 r up in
-        size_near x 523777 small (omega arith) (far_up_16 r (use_hint 261888 true r) x below up moved (difference r (use_hint 261888 true r * 523776) below (omega arith)) small))
-      (λ down.
-        let moved = moved_down 261888 r down in
-        size_near x 523777 small (omega arith) (far_down_16 r (use_hint 261888 true r) x below down moved (difference r (use_hint 261888 true r * 523776) below (omega arith)) small))
+    (λ up.
+    let moved = moved_up 261888 r up in
+    size_near x 523777 small (omega arith) (far_up_16 r (use_hint 261888 true r) x below up moved (difference r (use_hint 261888 true r * 523776) below (omega arith)) small))
+    (λ down.
+    let moved = moved_down 261888 r down in
+    size_near x 523777 small (omega arith) (far_down_16 r (use_hint 261888 true r) x below down moved (difference r (use_hint 261888 true r * 523776) below (omega arith)) small))
 
 -- r less its high bits, moved by no hint, times 2 gamma2 is at most gamma2 in size, and moved by a hint at most 2 gamma2 + 1
 pub use_hint_distance_none : (g r : ℕ) → (g ≡ 95232) ⊎ (g ≡ 261888) → r < 8380417 → nat_abs (centred_modulo 8380417 (residue (pos r -ℤ pos (use_hint g false r * (2 * g))))) ≤ g
@@ -230,3 +256,40 @@ use_hint_distance_none g r (inr is) below = rw is (distance_none_16 r below)
 pub use_hint_distance_hint : (g r : ℕ) → (g ≡ 95232) ⊎ (g ≡ 261888) → r < 8380417 → nat_abs (centred_modulo 8380417 (residue (pos r -ℤ pos (use_hint g true r * (2 * g))))) ≤ 2 * g + 1
 use_hint_distance_hint g r (inl is) below = rw is (distance_hint_44 r below)
 use_hint_distance_hint g r (inr is) below = rw is (distance_hint_16 r below)
+
+stay_44 : (r s beta : ℕ) → r < 8380417 → s < 8380417 → (s ≤ beta) ⊎ (8380417 ≤ s + beta) → nat_abs (low_bits 95232 r) + beta < 95232 → high_bits 95232 ((r + s) % 8380417) ≡ high_bits 95232 r
+stay_44 r s beta below small near room =
+    let sum = (r + s) % 8380417 in
+    let r_fits = high_bits_below 95232 r (inl refl) below in
+    let sum_fits = high_bits_below 95232 sum (inl refl) (omega arith) in
+    elim (decompose_sides 95232 r (omega arith)) [
+      | inl last ↦ elim (decompose_sides 95232 sum (omega arith)) [
+        | inl sum_last ↦ omega (arith, ints, last.low, last.high, last.near, sum_last.high, sum_last.near)
+        | inr sum_at ↦ omega (arith, ints, last.low, last.high, last.near, sum_at.above, sum_at.below)
+      ]
+      | inr at ↦ elim (decompose_sides 95232 sum (omega arith)) [
+        | inl sum_last ↦ omega (arith, ints, at.low, at.above, at.below, sum_last.high, sum_last.near)
+        | inr sum_at ↦ omega (arith, ints, at.low, at.above, at.below, sum_at.above, sum_at.below)
+      ]
+    ]
+
+stay_16 : (r s beta : ℕ) → r < 8380417 → s < 8380417 → (s ≤ beta) ⊎ (8380417 ≤ s + beta) → nat_abs (low_bits 261888 r) + beta < 261888 → high_bits 261888 ((r + s) % 8380417) ≡ high_bits 261888 r
+stay_16 r s beta below small near room =
+    let sum = (r + s) % 8380417 in
+    let r_fits = high_bits_below 261888 r (inr refl) below in
+    let sum_fits = high_bits_below 261888 sum (inr refl) (omega arith) in
+    elim (decompose_sides 261888 r (omega arith)) [
+      | inl last ↦ elim (decompose_sides 261888 sum (omega arith)) [
+        | inl sum_last ↦ omega (arith, ints, last.low, last.high, last.near, sum_last.high, sum_last.near)
+        | inr sum_at ↦ omega (arith, ints, last.low, last.high, last.near, sum_at.above, sum_at.below)
+      ]
+      | inr at ↦ elim (decompose_sides 261888 sum (omega arith)) [
+        | inl sum_last ↦ omega (arith, ints, at.low, at.above, at.below, sum_last.high, sum_last.near)
+        | inr sum_at ↦ omega (arith, ints, at.low, at.above, at.below, sum_at.above, sum_at.below)
+      ]
+    ]
+
+-- a sum with a small number keeps the high bits, where the low bits leave it room
+pub high_bits_stay : (g r s beta : ℕ) → (g ≡ 95232) ⊎ (g ≡ 261888) → r < 8380417 → s < 8380417 → nat_abs (centred_modulo 8380417 s) ≤ beta → nat_abs (low_bits g r) + beta < g → high_bits g ((r + s) % 8380417) ≡ high_bits g r
+high_bits_stay g r s beta (inl is) below small near room = rw is (stay_44 r s beta below small (near_zero beta s small near) (rw is at room))
+high_bits_stay g r s beta (inr is) below small near room = rw is (stay_16 r s beta below small (near_zero beta s small near) (rw is at room))
