@@ -10,6 +10,7 @@ use Rattle.std.proofs.lemmas.List.FromFn.{get_or-map-range_with_len}
 use borrow.Author.Differences.{up, down, product_is}
 use Rattle.fips204_base.specs.Residues.{Same, residue, listed, sum_below}
 use Rattle.fips204_base.specs.Polynomials.{Within}
+use Rattle.fips204_base.specs.Reductions.{IsMontgomery}
 use Rattle.fips204_base.proofs.Residues.{same_refl, same_of, same_sym, same_trans, same_mod, same_add, same_mul}
 use Rattle.fips204_base.proofs.Sums.{sum_more}
 
@@ -104,3 +105,7 @@ listed_at f j p = get_or-map-range_with_len f 0 256 j j 0 p (omega arith)
 pub listed_same : (f g : ℕ → ℕ) → ((j : ℕ) → j < 256 → f j ≡ g j) → listed f ≡ listed g
 listed_same f g h = same_lists (listed f) (listed g) refl (λ k d p.
     get_or-map-range_with_len f 0 256 k k d p (omega arith) ∙ (h k p ∙ sym (get_or-map-range_with_len g 0 256 k k d p (omega arith))))
+
+-- ---- Montgomery reduction has one answer
+pub montgomery_unique : (a r s : ℤ) → IsMontgomery a r → IsMontgomery a s → r ≡ s
+montgomery_unique a r s p q = omega (arith, ints, p.sum, q.sum, p.low, p.high, q.low, q.high)

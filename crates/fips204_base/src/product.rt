@@ -8,22 +8,18 @@ ghost use Rattle.fips204_base.specs.Products.{product, minus, pointwise, row_pro
 ghost use Rattle.fips204_base.specs.Transforms.{transform, inverse_transform};
 ghost use Rattle.fips204_base.specs.Polynomials.{Within, AllWithin, vector_coefficients, vector_residues, plain_matrix};
 
-use crate::helpers::Count;
-use crate::helpers::mat_vec_mul;
-use crate::helpers::partial_reduce32;
-use crate::helpers::partial_reduce64;
 use crate::helpers::reduce::wide_product;
-use crate::ntt::inv_ntt;
-use crate::ntt::ntt;
-use crate::types::R;
-use crate::types::R0;
-use crate::types::T;
-use crate::types::T0;
+use crate::helpers::{Count, mat_vec_mul, partial_reduce32, partial_reduce64};
+use crate::ntt::{inv_ntt, ntt};
+use crate::types::{R, R0, T, T0};
 
 /// The product of a matrix, which is given by its transforms with values from 0 to `q - 1`, with a
 /// vector of plain polynomials: coefficients from 0 to `q - 1`. The vector's coefficients have an
 /// absolute value of at most `q - 1`, and `L` is at most 7.
-pub fn matrix_times_vector<const K: usize, const L: usize>(a_hat: &[[T; L]; K], v: &[R; L]) -> [R; K]
+pub fn matrix_times_vector<const K: usize, const L: usize>(
+    a_hat: &[[T; L]; K],
+    v: &[R; L],
+) -> [R; K]
     requires columns { L ≤ 7 }
     requires matrix { All (AllWithin 8380416) a_hat.now }
     requires vector { All (λ p. Within 8380416 p.0) v.now }
@@ -55,7 +51,12 @@ pub fn challenge_times_vector<const K: usize>(c: &R, v: &[R; K]) -> [R; K]
 /// The product of a matrix with a vector, less the product of a challenge with a vector: coefficients
 /// from 0 to `q - 1`. The matrix is given by its transforms with values from 0 to `q - 1`; all
 /// coefficients have an absolute value of at most `q - 1`, and `L` is at most 7.
-pub fn matrix_times_vector_less<const K: usize, const L: usize>(a_hat: &[[T; L]; K], z: &[R; L], c: &R, t: &[R; K]) -> [R; K]
+pub fn matrix_times_vector_less<const K: usize, const L: usize>(
+    a_hat: &[[T; L]; K],
+    z: &[R; L],
+    c: &R,
+    t: &[R; K],
+) -> [R; K]
     requires columns { L ≤ 7 }
     requires matrix { All (AllWithin 8380416) a_hat.now }
     requires vector { All (λ p. Within 8380416 p.0) z.now }

@@ -1,4 +1,4 @@
-use Rattle.std.proofs.Common.{ℤ, ℕ, ◌≡◌, ◌≤◌, ◌∙◌, ap, pos, get_or, length-set, to_z, of_z, arith}
+use Rattle.std.proofs.Common.{ℤ, ◌≡◌, ◌≤◌, ◌∙◌, ap, pos, get_or, length-set, to_z, of_z, arith}
 use Rattle.std.specs.Prelude.{nat_abs}
 use Rattle.std.specs.Int.{w32}
 use Rattle.std.proofs.lemmas.Int.{to_z-of_z, fits_signed_from_abs}

@@ -1,5 +1,4 @@
-use Rattle.std.proofs.Common.{ℕ, ◌≡◌, ◌<◌, ◌≤◌, ◌*◌, ◌%◌, get_or, pos, length}
-use Rattle.std.specs.Prelude.{nat_abs}
+use Rattle.std.proofs.Common.{ℕ, ◌≡◌, ◌<◌, ◌*◌, ◌%◌, get_or, length}
 use Rattle.fips204_base.specs.declared.types.T.{T}
 use Rattle.fips204_base.specs.Polynomials.{Within, vector_residues}
 use Rattle.fips204_base.proofs.helpers.vector.to_mont.Given as goal

@@ -1,4 +1,4 @@
-use Rattle.std.proofs.Common.{ℕ, ℤ, ◌≡◌, ◌<◌, ◌≤◌, ◌*◌, ◌%◌, get_or, pos, length}
+use Rattle.std.proofs.Common.{ℕ, ℤ, ◌≡◌, ◌<◌, ◌≤◌, ◌*◌, ◌%◌, get_or, length}
 use Rattle.std.specs.Prelude.{nat_abs}
 use Rattle.fips204_base.specs.Residues.{coefficients}
 use Rattle.fips204_base.proofs.helpers.vector.transform_to_mont.Given as goal
