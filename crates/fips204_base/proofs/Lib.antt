@@ -16,3 +16,4 @@ mod PolynomialBytes
 mod PublicKeys
 pub mod VectorBytes
 pub mod Signatures
+pub mod PrivateKeys
