@@ -29,6 +29,9 @@ three_seeds s size = ap (λ x. x ++ take 64 (drop 64 s)) (sym (take-add 32 32 s)
 regroup : (x a b c : List ℕ) → x ++ a ++ b ++ c ≡ x ++ (a ++ (b ++ c))
 regroup x a b c = append_assoc (x ++ a) b c ∙ append_assoc x a (b ++ c)
 
+pub join : (x a b c : List ℕ) → x ++ (a ++ b ++ c) ≡ x ++ a ++ b ++ c
+join x a b c = sym (append_assoc x (a ++ b) c) ∙ ap (λ y. y ++ c) (sym (append_assoc x a b))
+
 pub key_of_parts : (eta k l : ℕ) (bytes rho key tr first second low : List ℕ) (s1 s2 t0 : List R) → bytes ≡ (rho ++ key ++ tr) ++ (first ++ (second ++ low))
     → length rho ≡ 32 → length key ≡ 32 → length tr ≡ 64 → IsVector l eta eta s1 → IsVector k eta eta s2 → IsVector k 4095 4096 t0
     → vector_bytes eta eta s1 ≡ first → vector_bytes eta eta s2 ≡ second → vector_bytes 4095 4096 t0 ≡ low → IsPrivateKey eta k l bytes rho key tr s1 s2 t0

@@ -12,7 +12,7 @@ mod vectors;
 
 use crate::conversion::{simple_bit_pack, simple_bit_unpack};
 use crate::types::{R, R0};
-pub use private_key::sk_decode;
+pub use private_key::{sk_decode, sk_encode};
 pub use signature::{sig_decode, sig_encode, w1_encode};
 
 /// `pkEncode` (Algorithm 22): a public key as bytes, `rho` and then the polynomials of `t1`, whose
