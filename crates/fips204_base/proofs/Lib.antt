@@ -48,3 +48,4 @@ mod SmallPolynomials
 pub mod Triples
 pub mod Unpacking
 mod WorkedPacking
+pub mod PrivateKeys

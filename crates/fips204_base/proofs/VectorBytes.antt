@@ -1,5 +1,5 @@
 -- The bytes of a vector, polynomial by polynomial.
-use Rattle.std.proofs.Common.{◌≡◌, ℕ, ◌+◌, ◌*◌, ◌^◌, ◌<◌, ◌≤◌, List, [], ◌∷◌, ◌++◌, ℤ, pos, ◌+ℤ◌, ◌-ℤ◌, ◌≤ℤ◌, nat_abs, length, length-append, append_assoc, take, drop, set, get_or, map, subst, ap, sym, ◌∙◌, arith}
+use Rattle.std.proofs.Common.{◌≡◌, ℕ, ◌+◌, ◌*◌, ◌^◌, ◌<◌, ◌≤◌, List, [], ◌∷◌, ◌++◌, ℤ, pos, ◌+ℤ◌, ◌-ℤ◌, ◌≤ℤ◌, nat_abs, length, length-append, length-drop, ◌-◌, append_assoc, take, drop, set, get_or, map, subst, ap, sym, ◌∙◌, arith}
 use Rattle.std.specs.List.{All, flat_map}
 use Rattle.std.proofs.lemmas.Int.{ints}
 use Rattle.std.proofs.lemmas.List.Elements.{All-take, All-head, All-tail, All-nil, All-cons}
@@ -103,3 +103,16 @@ pub put_last : (a k : ℕ) (xs ys front : List ℕ) → length ys ≡ k → a + 
 put_last a k xs ys front e h before =
     let size = length-put_mid a k xs ys e (omega (arith, h)) in
     sym (take_all (a + k) (put_mid a k xs ys) (omega (arith, size, h))) ∙ put_piece a k (a + k) xs ys front e (omega (arith, h)) (omega arith) before
+
+-- three pieces that fill the bytes, written in turn
+pub three_pieces : (a b m : ℕ) (xs p q r : List ℕ) → length p ≡ a → length q ≡ b → m ≡ b → a + b ≤ length xs
+    → length r ≡ length (put_mid a m (p ++ drop a xs) q) - (a + b)
+    → put_mid (a + b) (length (put_mid a m (p ++ drop a xs) q) - (a + b)) (put_mid a m (p ++ drop a xs) q) r ≡ p ++ q ++ r
+three_pieces a b m xs p q r d e same h k =
+    let one = p ++ drop a xs in
+    let left = length-drop a xs in
+    let long : length (p ++ drop a xs) ≡ length xs = length-append p (drop a xs) ∙ omega (arith, left, d, h) in
+    let inside : a + m ≤ length (p ++ drop a xs) = omega (arith, long, h, same) in
+    let whole = length-put_mid a m one q (e ∙ sym same) inside in
+    put_last (a + b) (length (put_mid a m one q) - (a + b)) (put_mid a m one q) r (p ++ q) k (omega (arith, whole, long, h))
+    (put_piece a m (a + b) one q p (e ∙ sym same) inside (omega (arith, same)) (take_at p (drop a xs) a d))

@@ -6,11 +6,13 @@ ghost use Rattle.std.specs.List.{All};
 ghost use Rattle.fips204_base.specs.Encodings.{public_key_bytes};
 ghost use Rattle.fips204_base.specs.Packing.{InRange, polynomial_bytes};
 
+mod private_key;
 mod signature;
 mod vectors;
 
 use crate::conversion::{simple_bit_pack, simple_bit_unpack};
 use crate::types::{R, R0};
+pub use private_key::{sk_decode, sk_encode};
 pub use signature::{sig_decode, sig_encode, w1_encode};
 
 /// Writes `piece` from `at` on.

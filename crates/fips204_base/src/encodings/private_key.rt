@@ -1,0 +1,137 @@
+//! Private keys as bytes.
+#![tactic(auto)]
+
+ghost use Rattle.std.specs.Prelude.{◌≡◌, ◌⊎◌, ◌≤◌, ◌+◌, ◌*◌, ℕ, ℤ, List, pos, nat_abs, length, take, drop, MatchResult, ◌++◌, ◌-ℤ◌};
+ghost use Rattle.std.specs.List.{All};
+ghost use Rattle.fips204_base.specs.Encodings.{IsPrivateKey, private_key_bytes, vector_bytes};
+ghost use Rattle.fips204_base.specs.Packing.{InRange, width};
+
+use super::vectors::{pack_vector, polynomial_size, unpack_short_vector, unpack_vector};
+use crate::fault::Fault;
+use crate::types::R;
+
+/// `skDecode` (Algorithm 25): the parts of a private key: rho, K, tr, s1, s2 and t0. Refuses with
+/// `Fault::KeyRange` where a field of s1 or s2 is above `2 eta`.
+///
+/// `eta` is 2 or 4, and `SK_LEN` is 128, then 96 (128 at `eta` 4) for each of the `L + K` polynomials of
+/// s1 and s2, and 416 for each of the `K` polynomials of t0.
+pub fn sk_decode<const K: usize, const L: usize, const SK_LEN: usize>(
+    eta: i32,
+    sk: &[u8; SK_LEN],
+) -> Result<(&[u8; 32], &[u8; 32], &[u8; 64], [R; L], [R; K], [R; K]), Fault>
+    requires set { (eta ≡ pos 2) ⊎ (eta ≡ pos 4) }
+    requires size { SK_LEN ≡ 128 + 32 * width eta eta * L + 32 * width eta eta * K + 416 * K }
+    ensures { MatchResult result
+        (λ parts. IsPrivateKey (nat_abs eta) K L sk.now parts.0.now parts.1.now parts.2.now parts.3 parts.4 parts.5)
+        (λ fault.
+        (fault ≡ Fault.KeyRange)
+        × ((rho key tr : List ℕ) (s1 s2 t0 : List R) → IsPrivateKey (nat_abs eta) K L sk.now rho key tr s1 s2 t0 → ⊥)) }
+{
+    let bytes: &[u8] = sk;
+    let (seeds, vectors) = bytes.split_at(128);
+    let size = polynomial_size(eta, eta);
+    let (first, rest) = vectors.split_at(size * L);
+    let (second, low) = rest.split_at(size * K);
+    match unpack_short_vector(first, eta) {
+        None => Err(Fault::KeyRange),
+        Some(s1) => match unpack_short_vector(second, eta) {
+            None => Err(Fault::KeyRange),
+            Some(s2) => Ok((
+                part(seeds, 0),
+                part(seeds, 32),
+                part(seeds, 64),
+                s1,
+                s2,
+                unpack_vector(low, 4095, 4096),
+            )),
+        },
+    }
+}
+
+/// Writes the three seeds of a private key.
+fn write_seeds(rho: &[u8; 32], k: &[u8; 32], tr: &[u8; 64], out: &mut [u8])
+    requires { length out.old ≡ 128 }
+    ensures { out.new ≡ rho.now ++ k.now ++ tr.now }
+{
+    out[..32].copy_from_slice(rho);
+    out[32..64].copy_from_slice(k);
+    out[64..].copy_from_slice(tr);
+}
+
+/// Writes the three vectors of a private key.
+fn write_vectors<const K: usize, const L: usize>(
+    eta: i32,
+    s1: &[R; L],
+    s2: &[R; K],
+    t0: &[R; K],
+    out: &mut [u8],
+)
+    requires set { (eta ≡ pos 2) ⊎ (eta ≡ pos 4) }
+    requires size { length out.old ≡ 32 * width eta eta * L + 32 * width eta eta * K + 416 * K }
+    requires s1_range { All (λ w. InRange (pos 0 -ℤ eta) eta w.0) s1.now }
+    requires s2_range { All (λ w. InRange (pos 0 -ℤ eta) eta w.0) s2.now }
+    requires t0_range { All (λ w. InRange (pos 0 -ℤ pos 4095) (pos 4096) w.0) t0.now }
+    ensures { out.new ≡ vector_bytes (nat_abs eta) (nat_abs eta) s1.now ++ vector_bytes (nat_abs eta) (nat_abs eta) s2.now ++ vector_bytes 4095 4096 t0.now }
+{
+    let size = polynomial_size(eta, eta);
+    let second = size * L;
+    let low = second + size * K;
+    pack_vector(s1, eta, eta, &mut out[..second]);
+    pack_vector(s2, eta, eta, &mut out[second..low]);
+    pack_vector(t0, 4095, 4096, &mut out[low..]);
+}
+
+/// Writes the parts of a private key.
+fn write_private_key<const K: usize, const L: usize>(
+    eta: i32,
+    rho: &[u8; 32],
+    k: &[u8; 32],
+    tr: &[u8; 64],
+    s1: &[R; L],
+    s2: &[R; K],
+    t0: &[R; K],
+    out: &mut [u8],
+)
+    requires set { (eta ≡ pos 2) ⊎ (eta ≡ pos 4) }
+    requires size { length out.old ≡ 128 + 32 * width eta eta * L + 32 * width eta eta * K + 416 * K }
+    requires s1_range { All (λ w. InRange (pos 0 -ℤ eta) eta w.0) s1.now }
+    requires s2_range { All (λ w. InRange (pos 0 -ℤ eta) eta w.0) s2.now }
+    requires t0_range { All (λ w. InRange (pos 0 -ℤ pos 4095) (pos 4096) w.0) t0.now }
+    ensures { out.new ≡ private_key_bytes (nat_abs eta) rho.now k.now tr.now s1.now s2.now t0.now }
+{
+    write_seeds(rho, k, tr, &mut out[..128]);
+    write_vectors(eta, s1, s2, t0, &mut out[128..]);
+}
+
+/// `skEncode` (Algorithm 24): a private key of its parts: rho, K, tr, then s1 and s2 with coefficients
+/// in `[-eta, eta]`, then t0 with coefficients in `[-4095, 4096]`.
+///
+/// `eta` is 2 or 4, and `SK_LEN` is as for `sk_decode`.
+pub fn sk_encode<const K: usize, const L: usize, const SK_LEN: usize>(
+    eta: i32,
+    rho: &[u8; 32],
+    k: &[u8; 32],
+    tr: &[u8; 64],
+    s1: &[R; L],
+    s2: &[R; K],
+    t0: &[R; K],
+) -> [u8; SK_LEN]
+    requires set { (eta ≡ pos 2) ⊎ (eta ≡ pos 4) }
+    requires size { SK_LEN ≡ 128 + 32 * width eta eta * L + 32 * width eta eta * K + 416 * K }
+    requires s1_range { All (λ w. InRange (pos 0 -ℤ eta) eta w.0) s1.now }
+    requires s2_range { All (λ w. InRange (pos 0 -ℤ eta) eta w.0) s2.now }
+    requires t0_range { All (λ w. InRange (pos 0 -ℤ pos 4095) (pos 4096) w.0) t0.now }
+    ensures { result ≡ private_key_bytes (nat_abs eta) rho.now k.now tr.now s1.now s2.now t0.now }
+{
+    let mut sk = [0u8; SK_LEN];
+    write_private_key(eta, rho, k, tr, s1, s2, t0, &mut sk);
+    sk
+}
+
+/// The `N` bytes from a place on.
+fn part<const N: usize>(bytes: &[u8], at: usize) -> &[u8; N]
+    requires { at + N ≤ length bytes.now }
+    ensures { result.now ≡ take N (drop at bytes.now) }
+{
+    bytes[at..].first_chunk::<N>().unwrap()
+}
