@@ -28,7 +28,7 @@ two_kept f a b = both (f a) (f b)
 given-append : (eta : ℕ) (xs ys : List ℕ) → filter_map (coefficient_from_half_byte eta) (half_bytes (xs ++ ys)) ≡ filter_map (coefficient_from_half_byte eta) (half_bytes xs) ++ filter_map (coefficient_from_half_byte eta) (half_bytes ys)
 given-append eta xs ys =
     ap (filter_map (coefficient_from_half_byte eta)) (flat_map-append (λ byte. byte % 16 ∷ byte / 16 ∷ []) xs ys)
-        ∙ filter_map-append (coefficient_from_half_byte eta) (half_bytes xs) (half_bytes ys)
+    ∙ filter_map-append (coefficient_from_half_byte eta) (half_bytes xs) (half_bytes ys)
 
 -- one more byte
 pub kept_half_bytes-more : (eta : ℕ) (front : List ℕ) (n byte : ℕ) → n < length front → byte ≡ get_or front n 0
@@ -38,8 +38,8 @@ kept_half_bytes-more eta front n byte l e =
     let f = coefficient_from_half_byte eta in
     let more : take (n + 1) front ≡ take n front ++ byte ∷ [] = take_more front n 0 l ∙ ap (λ b. take n front ++ b ∷ []) (sym e) in
     ap (λ l. filter_map f (half_bytes l)) more ∙ given-append eta (take n front) (byte ∷ [])
-        ∙ ap (λ l. kept_half_bytes eta front n ++ l) (two_kept f (byte % 16) (byte / 16))
-        ∙ sym (append_assoc (kept_half_bytes eta front n) (option_to_list (f (byte % 16))) (option_to_list (f (byte / 16))))
+    ∙ ap (λ l. kept_half_bytes eta front n ++ l) (two_kept f (byte % 16) (byte / 16))
+    ∙ sym (append_assoc (kept_half_bytes eta front n) (option_to_list (f (byte % 16))) (option_to_list (f (byte / 16))))
 
 -- another piece
 pub kept_half_bytes-joined : (eta : ℕ) (front : List ℕ) (n m : ℕ) → kept_half_bytes eta front (n + m) ≡ kept_half_bytes eta front n ++ kept_half_bytes eta (take m (drop n front)) m
@@ -47,7 +47,7 @@ unfolding kept_half_bytes
 kept_half_bytes-joined eta front n m =
     let f = coefficient_from_half_byte eta in
     ap (λ l. filter_map f (half_bytes l)) (take-add n m front) ∙ given-append eta (take n front) (take m (drop n front))
-        ∙ ap (λ l. kept_half_bytes eta front n ++ filter_map f (half_bytes l)) (sym (take-take m m (drop n front) (omega arith)))
+    ∙ ap (λ l. kept_half_bytes eta front n ++ filter_map f (half_bytes l)) (sym (take-take m m (drop n front) (omega arith)))
 
 pub polynomial-full : (eta : ℕ) (front : List ℕ) (n : ℕ) (values : List ℤ) → n ≤ 1024 → Keeps values 256 (kept_half_bytes eta front n) → small_polynomial eta front ≡ Some record { 0 = values }
 unfolding small_polynomial

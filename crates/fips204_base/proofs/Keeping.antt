@@ -99,7 +99,7 @@ given_joined f g n (suc m) same =
     let j : suc m ≡ m + 1 = omega arith in
     let one : filter_map f ((n + m) ∷ []) ≡ filter_map g (m ∷ []) = rw (same m (omega arith)) refl in
     ap (λ k. filter_map f (range_with_len 0 k)) k ∙ given_next f (n + m) ∙ ap (λ l. l ++ filter_map f ((n + m) ∷ [])) before
-        ∙ append_assoc (filter_map f (range_with_len 0 n)) (filter_map g (range_with_len 0 m)) (filter_map f ((n + m) ∷ []))
-        ∙ ap (λ l. filter_map f (range_with_len 0 n) ++ (filter_map g (range_with_len 0 m) ++ l)) one
-        ∙ ap (λ l. filter_map f (range_with_len 0 n) ++ l) (sym (given_next g m))
-        ∙ ap (λ k. filter_map f (range_with_len 0 n) ++ filter_map g (range_with_len 0 k)) (sym j)
+    ∙ append_assoc (filter_map f (range_with_len 0 n)) (filter_map g (range_with_len 0 m)) (filter_map f ((n + m) ∷ []))
+    ∙ ap (λ l. filter_map f (range_with_len 0 n) ++ (filter_map g (range_with_len 0 m) ++ l)) one
+    ∙ ap (λ l. filter_map f (range_with_len 0 n) ++ l) (sym (given_next g m))
+    ∙ ap (λ k. filter_map f (range_with_len 0 n) ++ filter_map g (range_with_len 0 k)) (sym j)

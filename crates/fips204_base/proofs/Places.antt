@@ -200,7 +200,7 @@ pub picked-same : (first n i byte : ℕ) (bytes : List ℕ) → n < length bytes
 picked-same first n i byte bytes l e k m =
     let more : take (n + 1) bytes ≡ take n bytes ++ byte ∷ [] = take_more bytes n 0 l ∙ ap (λ b. take n bytes ++ b ∷ []) (sym e) in
     ap (picks first) more ∙ picks-append first (take n bytes) (byte ∷ []) ∙ ap (λ i. picks first (take n bytes) ++ picks i (byte ∷ [])) (sym k)
-        ∙ ap (λ l. picks first (take n bytes) ++ l) (picks-no_byte i byte m) ∙ append-nil (picks first (take n bytes))
+    ∙ ap (λ l. picks first (take n bytes) ++ l) (picks-no_byte i byte m) ∙ append-nil (picks first (take n bytes))
 
 -- the whole challenge
 
@@ -235,7 +235,7 @@ challenge-few tau i front c l m k =
 pub byte_after : (front out rest : List ℕ) (n : ℕ) → out ≡ take 1 rest → rest ≡ drop (8 + n) front → get_or out 0 0 ≡ get_or (drop 8 front) n 0
 byte_after front out rest n given at =
     ap (λ l. get_or l 0 0) (given ∙ ap (take 1) at) ∙ get_or-take 1 (drop (8 + n) front) 0 0 (omega arith) ∙ get_or-drop (8 + n) front 0 0
-        ∙ ap (λ k. get_or front k 0) (add-zero (8 + n)) ∙ sym (get_or-drop 8 front n 0)
+    ∙ ap (λ k. get_or front k 0) (add-zero (8 + n)) ∙ sym (get_or-drop 8 front n 0)
 
 -- the next byte is the pick of i, with the sign of its bit
 pub challenge-more : (first n i byte : ℕ) (front signs : List ℕ) (c : List ℤ) (x : ℤ) → length front ≡ 4096 → n < 1024 → signs ≡ take 8 front → 192 ≤ first

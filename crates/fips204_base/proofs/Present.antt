@@ -29,7 +29,7 @@ pub present_next : {A : Type 0} (f : ℕ → Option A) (a n j : ℕ) (values : L
     → all_present (map f (range_with_len a (n + 1))) ≡ Some (take (n + 1) (set values n v))
 present_next f a n j values v at l e there =
     ap all_present (map-range_with_len_more f a n j at) ∙ ap (λ x. all_present (map f (range_with_len a n) ++ x ∷ [])) there
-        ∙ present_push (map f (range_with_len a n)) (take n values) v e ∙ ap Some (sym (take_more_set values n v l))
+    ∙ present_push (map f (range_with_len a n)) (take n values) v e ∙ ap Some (sym (take_more_set values n v l))
 
 -- what a refusal says of a value that may be none
 

@@ -17,13 +17,13 @@ use Rattle.fips204_base.proofs.Samplings.{all_kept, all_present-at, first_kept}
 -- a coefficient from a half byte is from -eta to eta
 small_or_none : (eta b : ℕ) → (eta ≡ 2) ⊎ (eta ≡ 4) → IfSome (coefficient_from_half_byte eta b) (λ x. ((pos 0 -ℤ pos eta) ≤ℤ x) × (x ≤ℤ pos eta))
 small_or_none eta b (inl e) = rw e (elim (cases_lt b 15) [
-    | inl l ↦ let t : nat_lt b 15 ≡ true = lt-ltb b 15 l in rw t (omega (arith, ints), omega (arith, ints))
-    | inr g ↦ let t : nat_lt b 15 ≡ false = le-ltb b 15 g in rw t tt
-  ])
+  | inl l ↦ let t : nat_lt b 15 ≡ true = lt-ltb b 15 l in rw t (omega (arith, ints), omega (arith, ints))
+  | inr g ↦ let t : nat_lt b 15 ≡ false = le-ltb b 15 g in rw t tt
+])
 small_or_none eta b (inr e) = rw e (elim (cases_lt b 9) [
-    | inl l ↦ let t : nat_lt b 9 ≡ true = lt-ltb b 9 l in rw t (omega (arith, ints, l), omega (arith, ints))
-    | inr g ↦ let t : nat_lt b 9 ≡ false = le-ltb b 9 g in rw t tt
-  ])
+  | inl l ↦ let t : nat_lt b 9 ≡ true = lt-ltb b 9 l in rw t (omega (arith, ints, l), omega (arith, ints))
+  | inr g ↦ let t : nat_lt b 9 ≡ false = le-ltb b 9 g in rw t tt
+])
 
 whole_polynomial : (kept : List ℤ) (o : Option (List ℤ)) (w : R) → first_256 kept ≡ o → option_map (λ values. let w : R = record { 0 = values } in w) o ≡ Some w → first_256 kept ≡ Some w.0
 whole_polynomial kept None w e m = absurd (none-some w m)

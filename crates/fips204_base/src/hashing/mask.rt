@@ -15,11 +15,7 @@ fn polynomial_length(gamma1: i32) -> usize
     ensures value { result ≡ 32 * mask_width (nat_abs gamma1) }
     ensures few { result ≤ 640 }
 {
-    if gamma1 == 131072 {
-        576
-    } else {
-        640
-    }
+    if gamma1 == 131072 { 576 } else { 640 }
 }
 
 /// The polynomial of the mask from `rho` and `number` in two bytes.

@@ -76,7 +76,10 @@ fn small_polynomials<const N: usize, H: Xof>(
     let mut polynomials = [R0; N];
     for r in 0..N {
         let number = (first + r) as u16;
-        polynomials[r] = rej_bounded_poly::<H>(eta, &[rho.as_slice(), number.to_le_bytes().as_slice()])?;
+        polynomials[r] = rej_bounded_poly::<H>(
+            eta,
+            &[rho.as_slice(), number.to_le_bytes().as_slice()],
+        )?;
     }
     Ok(polynomials)
 }

@@ -13,8 +13,7 @@ loop-byte-init g c =
     let front = g.H.Xof.front c.args.rho.now in
     let first = 256 - nat_abs (to_z w32 (of_z w32 c.args.tau)) in
     let tau : to_z w32 (of_z w32 c.args.tau) ≡ c.args.tau = search rules in
-    let opened : g.H.Reader.XofReader.rest c.open-reader.result ≡ front = c.open-reader.ensures ∙ ap g.H.Xof.front (append-nil c.args.rho.now) in
-    (
+    let opened : g.H.Reader.XofReader.rest c.open-reader.result ≡ front = c.open-reader.ensures ∙ ap g.H.Xof.front (append-nil c.args.rho.now) in (
       c.read.ensures.dropped ∙ ap (drop 8) opened,
       c.read.ensures.given ∙ ap (take 8) opened,
       rw tau (omega (arith, ints, c.requires.tau)),
@@ -32,7 +31,7 @@ returns-then-i-eq256 g c =
     let size : length front ≡ 4096 = search rules in
     let byte : pick ≡ get_or (drop 8 front) c.loop-byte._byte 0 = byte_after front c.read-in-loop-byte.new.out _ c.loop-byte._byte c.read-in-loop-byte.ensures.given c.loop-byte.invariant.0 in
     let placed = challenge-more (256 - nat_abs (to_z w32 (of_z w32 c.args.tau))) c.loop-byte._byte c.loop-byte.i pick front c.read.new.out c.loop-byte.c c.sign_at.result
-      size (omega (arith, c.loop-byte-test.true)) c.loop-byte.invariant.1 (omega (arith, small)) byte c.loop-byte.invariant.2 c.if-pick-i.true c.sign_at.ensures c.loop-byte.invariant.3 in
+    size (omega (arith, c.loop-byte-test.true)) c.loop-byte.invariant.1 (omega (arith, small)) byte c.loop-byte.invariant.2 c.if-pick-i.true c.sign_at.ensures c.loop-byte.invariant.3 in
     let full = rw (tau, c.if-i-eq256.true) at placed in
     let whole = challenge-full (nat_abs c.args.tau) (c.loop-byte._byte + 1) front _ (rw tau at small) (omega (arith, c.loop-byte-test.true)) full in
     rw (moved, signed, whole) refl
@@ -52,11 +51,13 @@ loop-byte-preserved g c =
           let moved : to_z w32 (of_z w32 (get_or c.loop-byte.c pick (pos 0))) ≡ get_or c.loop-byte.c pick (pos 0) = search rules in
           let signed : to_z w32 (of_z w32 w.sign_at.result) ≡ w.sign_at.result = sign-read _ w.sign_at.result w.sign_at.ensures in
           let placed = challenge-more (256 - nat_abs (to_z w32 (of_z w32 c.args.tau))) c.loop-byte._byte c.loop-byte.i pick front c.read.new.out c.loop-byte.c w.sign_at.result
-            size (omega (arith, c.loop-byte-test.true)) c.loop-byte.invariant.1 (omega (arith, small)) byte c.loop-byte.invariant.2 w.if-pick-i.true w.sign_at.ensures c.loop-byte.invariant.3 in
+          size (omega (arith, c.loop-byte-test.true)) c.loop-byte.invariant.1 (omega (arith, small)) byte c.loop-byte.invariant.2 w.if-pick-i.true w.sign_at.ensures c.loop-byte.invariant.3 in
           rw (w.c-is, w.i-is, moved, signed) (rest, c.loop-byte.invariant.1, omega (arith, c.loop-byte.invariant.2, w.if-i-eq256.false), placed)
       | else-pick-i w ↦
           rw (w.c-is, w.i-is) (
-            rest, c.loop-byte.invariant.1, c.loop-byte.invariant.2,
+            rest,
+            c.loop-byte.invariant.1,
+            c.loop-byte.invariant.2,
             challenge-same (256 - nat_abs (to_z w32 (of_z w32 c.args.tau))) c.loop-byte._byte c.loop-byte.i pick front c.loop-byte.c size (omega (arith, c.loop-byte-test.true)) byte w.if-pick-i.false c.loop-byte.invariant.3,
           )
     ]

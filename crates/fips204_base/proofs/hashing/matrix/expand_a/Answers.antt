@@ -23,8 +23,7 @@ returns-in_err-matrix g c =
 pub loop-r-preserved : goal.loop-r-preserved
 loop-r-preserved g c =
     let row = λ (r : ℕ). all_present (map (λ s. matrix_entry (g.G.Xof.front (c.args.rho.now ++ s ∷ r ∷ []))) (range_with_len 0 g.row.L)) in
-    let there = some_of_ok (row c.loop-r.r) c.in_ok-matrix.field-0 c.in_ok-matrix.ensures in
-    (
+    let there = some_of_ok (row c.loop-r.r) c.in_ok-matrix.field-0 c.in_ok-matrix.ensures in (
       length-set c.loop-r.matrix c.loop-r.r c.in_ok-matrix.field-0 ∙ c.loop-r.invariant.0,
       present_next row 0 c.loop-r.r c.loop-r.r c.loop-r.matrix c.in_ok-matrix.field-0 (omega arith) (omega (arith, c.loop-r.invariant.0, c.loop-r-test.true)) c.loop-r.invariant.1 there,
     )

@@ -26,8 +26,7 @@ loop-s-preserved g c =
     let entry = λ (s : ℕ). matrix_entry (g.G.Xof.front (c.args.rho.now ++ s ∷ c.args.r ∷ [])) in
     let same : c.as_slice.result.now ≡ c.args.rho.now = search rules in
     let there = some_of_ok _ c.in_ok-row.field-0 c.in_ok-row.ensures in
-    let here : entry c.loop-s.s ≡ Some c.in_ok-row.field-0 = ap (λ l. matrix_entry (g.G.Xof.front (l ++ c.loop-s.s ∷ c.args.r ∷ []))) (sym same) ∙ there in
-    (
+    let here : entry c.loop-s.s ≡ Some c.in_ok-row.field-0 = ap (λ l. matrix_entry (g.G.Xof.front (l ++ c.loop-s.s ∷ c.args.r ∷ []))) (sym same) ∙ there in (
       length-set c.loop-s.row c.loop-s.s c.in_ok-row.field-0 ∙ c.loop-s.invariant.0,
       present_next entry 0 c.loop-s.s c.loop-s.s c.loop-s.row c.in_ok-row.field-0 (omega arith) (omega (arith, c.loop-s.invariant.0, c.loop-s-test.true)) c.loop-s.invariant.1 here,
     )

@@ -28,7 +28,7 @@ returns-then-count-eq256 g c =
     let new = c.keep_triples-count.new.values in
     let read : c.read.new.out ≡ take 192 (drop (3 * (64 * j)) front) = c.read.ensures.given ∙ ap (take 192) c.loop-piece.invariant.0 in
     let next = next_piece front c.read.new.out c.loop-piece.values new c.loop-piece.count c.keep_triples-count.result j c.loop-piece.invariant.2
-      read c.keep_triples-count.array_long c.keep_triples-count.ensures.count c.keep_triples-count.ensures.kept in
+    read c.keep_triples-count.array_long c.keep_triples-count.ensures.count c.keep_triples-count.ensures.kept in
     let full : Keeps new 256 (kept_triples front (64 * (j + 1))) = rw c.if-count-eq256.true at next in
     rw (entry-full front (64 * (j + 1)) new (omega (arith, c.loop-piece-test.true)) full) refl
 
@@ -38,9 +38,8 @@ loop-piece-preserved g c =
     let j = c.loop-piece._piece in
     let read : c.read.new.out ≡ take 192 (drop (3 * (64 * j)) front) = c.read.ensures.given ∙ ap (take 192) c.loop-piece.invariant.0 in
     let next = next_piece front c.read.new.out c.loop-piece.values c.keep_triples-count.new.values c.loop-piece.count c.keep_triples-count.result j c.loop-piece.invariant.2
-      read c.keep_triples-count.array_long c.keep_triples-count.ensures.count c.keep_triples-count.ensures.kept in
-    let e : 3 * (64 * j) + 192 ≡ 3 * (64 * (j + 1)) = omega arith in
-    (
+    read c.keep_triples-count.array_long c.keep_triples-count.ensures.count c.keep_triples-count.ensures.kept in
+    let e : 3 * (64 * j) + 192 ≡ 3 * (64 * (j + 1)) = omega arith in (
       c.read.ensures.dropped ∙ ap (drop 192) c.loop-piece.invariant.0 ∙ drop-drop 192 (3 * (64 * j)) front ∙ ap (λ n. drop n front) e,
       omega (arith, c.keep_triples-count.ensures.count, c.if-count-eq256.false),
       next,

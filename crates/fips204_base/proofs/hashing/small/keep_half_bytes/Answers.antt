@@ -27,5 +27,5 @@ loop-byte-preserved c =
     let kept2 = keeps_joined high kept1 c.keep-count-in-loop-byte.array_long c.keep-count-in-loop-byte.ensures.count given2 in
     let more : before ++ kept_half_bytes eta piece (n + 1) ≡ ((before ++ kept_half_bytes eta piece n) ++ low) ++ high =
     ap (λ l. before ++ l) (kept_half_bytes-more eta piece n byte (omega (arith, c.told-piece, c.loop-byte-test.true)) refl ∙ append_assoc (kept_half_bytes eta piece n) low high)
-        ∙ sym (append_assoc before (kept_half_bytes eta piece n) (low ++ high)) ∙ sym (append_assoc (before ++ kept_half_bytes eta piece n) low high) in
+    ∙ sym (append_assoc before (kept_half_bytes eta piece n) (low ++ high)) ∙ sym (append_assoc (before ++ kept_half_bytes eta piece n) low high) in
     rw more kept2

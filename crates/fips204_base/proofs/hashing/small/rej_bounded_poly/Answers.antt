@@ -30,7 +30,7 @@ returns-then-count-eq256 g c =
     let new = c.keep_half_bytes-count.new.values in
     let read : c.read.new.out ≡ take 64 (drop (64 * j) front) = c.read.ensures.given ∙ ap (take 64) c.loop-piece.invariant.0 in
     let next = next_piece (nat_abs (to_z w32 (of_z w32 c.args.eta))) front c.read.new.out c.loop-piece.values new c.loop-piece.count c.keep_half_bytes-count.result j c.loop-piece.invariant.2
-      read c.keep_half_bytes-count.array_long c.keep_half_bytes-count.ensures.count c.keep_half_bytes-count.ensures.kept in
+    read c.keep_half_bytes-count.array_long c.keep_half_bytes-count.ensures.count c.keep_half_bytes-count.ensures.kept in
     let full : Keeps new 256 (kept_half_bytes (nat_abs c.args.eta) front (64 * (j + 1))) = rw (eta, c.if-count-eq256.true) at next in
     rw (polynomial-full (nat_abs c.args.eta) front (64 * (j + 1)) new (omega (arith, c.loop-piece-test.true)) full) refl
 
@@ -40,9 +40,8 @@ loop-piece-preserved g c =
     let j = c.loop-piece._piece in
     let read : c.read.new.out ≡ take 64 (drop (64 * j) front) = c.read.ensures.given ∙ ap (take 64) c.loop-piece.invariant.0 in
     let next = next_piece (nat_abs (to_z w32 (of_z w32 c.args.eta))) front c.read.new.out c.loop-piece.values c.keep_half_bytes-count.new.values c.loop-piece.count c.keep_half_bytes-count.result j c.loop-piece.invariant.2
-      read c.keep_half_bytes-count.array_long c.keep_half_bytes-count.ensures.count c.keep_half_bytes-count.ensures.kept in
-    let e : 64 * j + 64 ≡ 64 * (j + 1) = omega arith in
-    (
+    read c.keep_half_bytes-count.array_long c.keep_half_bytes-count.ensures.count c.keep_half_bytes-count.ensures.kept in
+    let e : 64 * j + 64 ≡ 64 * (j + 1) = omega arith in (
       c.read.ensures.dropped ∙ ap (drop 64) c.loop-piece.invariant.0 ∙ drop-drop 64 (64 * j) front ∙ ap (λ n. drop n front) e,
       omega (arith, c.keep_half_bytes-count.ensures.count, c.if-count-eq256.false),
       next,

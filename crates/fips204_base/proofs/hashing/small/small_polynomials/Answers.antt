@@ -34,8 +34,7 @@ loop-r-preserved g c =
     let number : c.as_slice-in-loop-r.result.now ≡ to_le_bytes w16 (c.args.first + c.loop-r.r) = search rules in
     let input = c.as_slice.result.now ++ (c.as_slice-in-loop-r.result.now ++ []) in
     let there = some_of_ok (small_polynomial eta (g.H.Xof.front input)) c.in_ok-polynomials.field-0 c.in_ok-polynomials.ensures in
-    let here : polynomial (c.args.first + c.loop-r.r) ≡ Some c.in_ok-polynomials.field-0 = rw (seed, number, append-nil (to_le_bytes w16 (c.args.first + c.loop-r.r))) at there in
-    (
+    let here : polynomial (c.args.first + c.loop-r.r) ≡ Some c.in_ok-polynomials.field-0 = rw (seed, number, append-nil (to_le_bytes w16 (c.args.first + c.loop-r.r))) at there in (
       length-set c.loop-r.polynomials c.loop-r.r c.in_ok-polynomials.field-0 ∙ c.loop-r.invariant.0,
       present_next polynomial c.args.first c.loop-r.r (c.args.first + c.loop-r.r) c.loop-r.polynomials c.in_ok-polynomials.field-0 refl (omega (arith, c.loop-r.invariant.0, c.loop-r-test.true)) c.loop-r.invariant.1 here,
     )
