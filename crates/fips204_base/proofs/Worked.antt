@@ -1,11 +1,12 @@
 -- Worked values of the definitions of residues, products and transforms.
 use Rattle.std.proofs.Common.{◌≡◌, pos, negsuc, [], ◌∷◌, refl, cond, rules}
 use Rattle.std.proofs.Math.Dec.{eqb}
-use Rattle.fips204_base.specs.Residues.{residue, centred, sum_below}
+use Rattle.fips204_base.specs.Residues.{residue, sum_below}
+use Rattle.fips204_base.specs.CentredValues.{centred}
 use Rattle.fips204_base.specs.Reductions.{IsMontgomery}
 use Rattle.fips204_base.specs.Transforms.{bit_reversed, zeta_at, root, transform}
 use Rattle.fips204_base.specs.Products.{product, shifted}
-use Rattle.fips204_base.specs.Polynomials.{norm}
+use Rattle.fips204_base.specs.CentredValues.{norm}
 
 residues : (residue (negsuc 0) ≡ 8380416) × (residue (pos 8380417) ≡ 0) × (residue (negsuc 8380416) ≡ 0)
 residues = (refl, refl, refl)

@@ -1,23 +1,13 @@
--- Sizes and sums of polynomials, whose 256 coefficients are a list of integers (FIPS 204, section 2.3).
-use Rattle.std.specs.Prelude.{◌≡◌, ◌≤◌, ◌<◌, ℕ, List, [], ℤ, pos, ◌+ℤ◌, nat_abs, max, slice_index_or}
-use Rattle.std.specs.List.{All, fold}
-use Rattle.fips204_base.specs.declared.types.R.{R}
+-- Bounds and sums of polynomials, whose 256 coefficients are a list of integers (FIPS 204, section 2.3).
+use Rattle.std.specs.Prelude.{◌≡◌, ◌≤◌, ◌<◌, ℕ, List, [], ℤ, pos, ◌+ℤ◌, nat_abs, slice_index_or}
+use Rattle.std.specs.List.{All}
 use Rattle.fips204_base.specs.declared.types.T.{T}
-use Rattle.fips204_base.specs.declared.types.TheConstants.{R0, T0}
-use Rattle.fips204_base.specs.Residues.{centred, coefficients}
-use Rattle.fips204_base.specs.Transforms.{inverse_transform}
+use Rattle.fips204_base.specs.declared.types.TheConstants.{T0}
+use Rattle.fips204_base.specs.Residues.{coefficients}
 
 -- every coefficient has an absolute value of at most n
 abbrev pub Within : ℕ → List ℤ → Type 0
 Within n w = All (λ x. nat_abs x ≤ n) w
-
--- the norm of a polynomial: the largest absolute value of a coefficient that is centred modulo q
-abbrev pub norm : List ℤ → ℕ
-norm w = fold (λ most x. max most (nat_abs (centred x))) 0 w
-
--- the norm of a vector: the largest norm of its polynomials
-abbrev pub vector_norm : List R → ℕ
-vector_norm v = fold (λ most w. max most (norm w.0)) 0 v
 
 -- s is the sum of v and w, coefficient by coefficient
 abbrev pub IsSum : List ℤ → List ℤ → List ℤ → Type 0
@@ -34,11 +24,3 @@ matrix_residues a i = vector_residues (slice_index_or a i [])
 -- every value of a vector of transforms has an absolute value of at most n
 abbrev pub AllWithin : ℕ → List T → Type 0
 AllWithin n v = All (λ t. Within n t.0) v
-
--- the residues of a vector of polynomials, by row and place
-abbrev pub vector_coefficients : List R → ℕ → ℕ → ℕ
-vector_coefficients v i = coefficients (slice_index_or v i R0).0
-
--- the plain matrix of a matrix of transforms, by row, column and place
-abbrev pub plain_matrix : List (List T) → ℕ → ℕ → ℕ → ℕ
-plain_matrix a i k = inverse_transform (matrix_residues a i k)

@@ -6,7 +6,8 @@ ghost use Rattle.std.specs.List.{All};
 ghost use Rattle.fips204_base.specs.Residues.{residue, coefficients};
 ghost use Rattle.fips204_base.specs.Products.{product, minus, pointwise, row_product};
 ghost use Rattle.fips204_base.specs.Transforms.{transform, inverse_transform};
-ghost use Rattle.fips204_base.specs.Polynomials.{Within, AllWithin, vector_coefficients, vector_residues, plain_matrix};
+ghost use Rattle.fips204_base.specs.Polynomials.{Within, AllWithin, vector_residues};
+ghost use Rattle.fips204_base.specs.Vectors.{vector_coefficients, plain_matrix};
 
 use crate::helpers::reduce::wide_product;
 use crate::helpers::{Count, mat_vec_mul, partial_reduce32, partial_reduce64};

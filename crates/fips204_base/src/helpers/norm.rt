@@ -3,8 +3,9 @@
 
 ghost use Rattle.std.specs.Prelude.{◌≡◌, ◌<◌, ◌≤◌, pos, nat_abs};
 ghost use Rattle.std.specs.List.{All};
-ghost use Rattle.fips204_base.specs.Residues.{centred};
-ghost use Rattle.fips204_base.specs.Polynomials.{Within, norm, vector_norm};
+ghost use Rattle.fips204_base.specs.CentredValues.{centred};
+ghost use Rattle.fips204_base.specs.Polynomials.{Within};
+ghost use Rattle.fips204_base.specs.CentredValues.{norm, vector_norm};
 
 use crate::helpers::reduce::center_mod;
 use crate::types::R;

@@ -3,7 +3,7 @@ use Rattle.std.proofs.lemmas.List.{get_or_default}
 use Rattle.fips204_base.specs.declared.types.TheConstants.{R0}
 use Rattle.fips204_base.specs.Residues.{coefficients}
 use Rattle.fips204_base.specs.Products.{product}
-use Rattle.fips204_base.specs.Polynomials.{vector_coefficients}
+use Rattle.fips204_base.specs.Vectors.{vector_coefficients}
 use Rattle.fips204_base.proofs.Laws.{product_of_products}
 use Rattle.fips204_base.proofs.Rows.{row_written}
 use Rattle.fips204_base.proofs.product.challenge_times_vector.Goals as goal

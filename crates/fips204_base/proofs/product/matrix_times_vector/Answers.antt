@@ -1,5 +1,6 @@
 use Rattle.std.proofs.Common.{arith, ap, pos, ◌∙◌}
-use Rattle.fips204_base.specs.Polynomials.{vector_residues, matrix_residues, vector_coefficients}
+use Rattle.fips204_base.specs.Polynomials.{vector_residues, matrix_residues}
+use Rattle.fips204_base.specs.Vectors.{vector_coefficients}
 use Rattle.fips204_base.proofs.Laws.{row_of_products}
 use Rattle.fips204_base.proofs.product.matrix_times_vector.Goals as goal
 

@@ -3,7 +3,8 @@ use Rattle.std.proofs.lemmas.List.{get_or_default}
 use Rattle.fips204_base.specs.declared.types.TheConstants.{R0, T0}
 use Rattle.fips204_base.specs.Residues.{coefficients}
 use Rattle.fips204_base.specs.Products.{product, minus, row_product}
-use Rattle.fips204_base.specs.Polynomials.{vector_coefficients, vector_residues, matrix_residues, plain_matrix}
+use Rattle.fips204_base.specs.Polynomials.{vector_residues, matrix_residues}
+use Rattle.fips204_base.specs.Vectors.{vector_coefficients, plain_matrix}
 use Rattle.fips204_base.proofs.Laws.{difference_of_products}
 use Rattle.fips204_base.proofs.Rows.{row_written}
 use Rattle.fips204_base.proofs.product.matrix_times_vector_less.Goals as goal

@@ -2,7 +2,7 @@ use Rattle.std.proofs.Common.{ℕ, ◌≡◌, ◌<◌, get_or, pos, length}
 use Rattle.fips204_base.specs.declared.types.TheConstants.{R0}
 use Rattle.fips204_base.specs.Residues.{coefficients}
 use Rattle.fips204_base.specs.Products.{product, minus, row_product}
-use Rattle.fips204_base.specs.Polynomials.{vector_coefficients, plain_matrix}
+use Rattle.fips204_base.specs.Vectors.{vector_coefficients, plain_matrix}
 use Rattle.fips204_base.proofs.product.matrix_times_vector_less.Given as goal
 
 abbrev pub invariant-loop-i : goal.invariant-loop-i

@@ -1,7 +1,8 @@
 use Rattle.std.proofs.Common.{ℕ, ◌≡◌, ◌<◌, get_or, length}
 use Rattle.fips204_base.specs.declared.types.T.{T}
 use Rattle.fips204_base.specs.Transforms.{transform}
-use Rattle.fips204_base.specs.Polynomials.{Within, vector_coefficients, vector_residues}
+use Rattle.fips204_base.specs.Polynomials.{Within, vector_residues}
+use Rattle.fips204_base.specs.Vectors.{vector_coefficients}
 use Rattle.fips204_base.proofs.product.transforms.Given as goal
 
 abbrev pub invariant-loop-k : goal.invariant-loop-k
