@@ -56,7 +56,7 @@ vectors_of eta k l bytes rho key tr s1 s2 t0 s =
 
 -- the bytes of s1, and of s2
 length-short : (eta n : ℕ) (v : List R) → IsVector n eta eta v → length (vector_bytes eta eta v) ≡ 32 * width (pos eta) (pos eta) * n
-length-short eta n v h = length-vector_bytes eta eta v h.places ∙ ap (λ i. 32 * width (pos eta) (pos eta) * i) h.polynomials
+length-short eta n v h = length-vector_bytes eta eta v h.places ∙ ap (λ i. 32 * width (pos eta) (pos eta) * i) h.rows
 
 pub first_part : (eta k l a : ℕ) (bytes rho key tr : List ℕ) (s1 s2 t0 : List R) → IsPrivateKey eta k l bytes rho key tr s1 s2 t0 → a ≡ 32 * width (pos eta) (pos eta) * l
     → vector_bytes eta eta s1 ≡ take a (drop 128 bytes)

@@ -52,7 +52,7 @@ pub hint_part : (gamma1 omega' k l n m : ℕ) (sigma c_tilde : List ℕ) (z h : 
     → Spells omega' k h (drop m sigma)
 hint_part gamma1 omega' k l n m sigma c_tilde z h s e =
     let size = length-vector_bytes (gamma1 - 1) gamma1 z s.response.places in
-    let count = ap (λ i. 32 * width (pos (gamma1 - 1)) (pos gamma1) * i) s.response.polynomials in
+    let count = ap (λ i. 32 * width (pos (gamma1 - 1)) (pos gamma1) * i) s.response.rows in
     let front : length (c_tilde ++ vector_bytes (gamma1 - 1) gamma1 z) ≡ m = length-append c_tilde (vector_bytes (gamma1 - 1) gamma1 z) ∙ omega (arith, size, count, s.commitment, e) in
     record {
       hint = s.hint;

@@ -40,7 +40,7 @@ as_long out rest m n e l =
 
 -- the range of the mask
 
-field_small : (c n : ℕ) (bytes : List ℕ) → field_at c bytes n < 2 ^ c
+field_small : (c n : ℕ) (bytes : List ℕ) → field_at c (bits 8 bytes) n < 2 ^ c
 unfolding field_at
 field_small c n bytes =
     let short : length (take c (drop (c * n) (bits 8 bytes))) ≤ c = simp length-take (omega arith) in
@@ -61,8 +61,8 @@ all_of f a b each = (length-map-range_with_len f 0 256, All-map (λ x. (a ≤ℤ
 pub mask_polynomial-range : (gamma1 : ℕ) (front : List ℕ) → (gamma1 ≡ 131072) ⊎ (gamma1 ≡ 524288)
     → (length (mask_polynomial gamma1 front).0 ≡ 256) × InRange (pos 0 -ℤ pos (gamma1 - 1)) (pos gamma1) (mask_polynomial gamma1 front).0
 unfolding unpacked bit_length
-mask_polynomial-range gamma1 front (inl e) = rw e (all_of (λ n. coefficient (pos 131071) (pos 131072) (field_at 18 (take 576 front) n)) (pos 0 -ℤ pos 131071) (pos 131072) (λ n. coefficient-low (field_at 18 (take 576 front) n) (field_small 18 n (take 576 front))))
-mask_polynomial-range gamma1 front (inr e) = rw e (all_of (λ n. coefficient (pos 524287) (pos 524288) (field_at 20 (take 640 front) n)) (pos 0 -ℤ pos 524287) (pos 524288) (λ n. coefficient-high (field_at 20 (take 640 front) n) (field_small 20 n (take 640 front))))
+mask_polynomial-range gamma1 front (inl e) = rw e (all_of (λ n. coefficient (pos 131071) (pos 131072) (field_at 18 (bits 8 (take 576 front)) n)) (pos 0 -ℤ pos 131071) (pos 131072) (λ n. coefficient-low (field_at 18 (bits 8 (take 576 front)) n) (field_small 18 n (take 576 front))))
+mask_polynomial-range gamma1 front (inr e) = rw e (all_of (λ n. coefficient (pos 524287) (pos 524288) (field_at 20 (bits 8 (take 640 front)) n)) (pos 0 -ℤ pos 524287) (pos 524288) (λ n. coefficient-high (field_at 20 (bits 8 (take 640 front)) n) (field_small 20 n (take 640 front))))
 
 pub mask-range : (gamma1 : ℕ) (H : List ℕ → List ℕ) (rho : List ℕ) (l kappa : ℕ) → (gamma1 ≡ 131072) ⊎ (gamma1 ≡ 524288) → IsVector l (gamma1 - 1) gamma1 (mask gamma1 H rho l kappa)
 unfolding mask

@@ -58,7 +58,7 @@ vector_at_integers n a b v bounds count places range =
     let p : a ≡ pos (nat_abs a) = omega (arith, ints, bounds) in
     let q : b ≡ pos (nat_abs b) = omega (arith, ints, bounds) in
     record {
-      polynomials = count;
+      rows = count;
       places = places;
       range = subst (λ m. All (λ (w : R). InRange (pos 0 -ℤ m) (pos (nat_abs b)) w.0) v) p (subst (λ m. All (λ (w : R). InRange (pos 0 -ℤ a) m w.0) v) q range);
     }

@@ -18,11 +18,11 @@ returns-in-None g c = λ v vector same.
     let place = c.loop-i-test.true in
     let range = range_at_integers c.args.eta c.args.eta v c.requires.bounds vector.range in
     let bytes = sym (bytes_at_integers c.args.eta c.args.eta v c.requires.bounds) ∙ same in
-    let piece = vector_piece c.args.eta c.args.eta v c.args.bytes.now c.polynomial_size-size.result c.loop-i.i R0 vector.places size_is bytes (omega (arith, place, vector.polynomials)) in
+    let piece = vector_piece c.args.eta c.args.eta v c.args.bytes.now c.polynomial_size-size.result c.loop-i.i R0 vector.places size_is bytes (omega (arith, place, vector.rows)) in
     let refused = c.in-None.ensures in
     let at = c.polynomial_size-size.result * c.loop-i.i in
     let width_is : at + c.polynomial_size-size.result - at ≡ c.polynomial_size-size.result = omega arith in
-    let inside : c.loop-i.i < length v = omega (arith, place, vector.polynomials) in
+    let inside : c.loop-i.i < length v = omega (arith, place, vector.rows) in
     (rw E at refused) (get_or v c.loop-i.i R0).0 (range c.loop-i.i R0 inside) (vector.places c.loop-i.i R0 inside) (sym piece ∙ ap (λ n. take n (drop at c.args.bytes.now)) (sym width_is))
 
 pub loop-i-preserved : goal.loop-i-preserved
