@@ -27,7 +27,6 @@ mod Challenges
 mod Hints
 mod Spellings
 mod EncodedParts
-mod Decomposed
 pub mod Reading
 mod Bits
 mod Fields
