@@ -10,7 +10,7 @@ use Rattle.fips204_base.specs.HintSpelling.{Spells, hint_bytes}
 use Rattle.fips204_base.specs.Encodings.{vector_bytes, private_key_bytes, signature_bytes, IsPrivateKey, IsSignature}
 use Rattle.fips204_base.proofs.Bits.{cut}
 use Rattle.fips204_base.proofs.PolynomialBytes.{length-polynomial_bytes, same_polynomial}
-use Rattle.fips204_base.proofs.Spellings.{spells-hint}
+use Rattle.fips204_base.proofs.UniqueHint.{one_hint}
 
 -- ---- vectors
 
@@ -74,7 +74,7 @@ same_signature gamma1 omega' k l n bytes c d z y g h low high p q =
     let right : Spells omega' k h (hint_bytes omega' h) = record { hint = q.hint; few = q.few; spelling = refl } in (
       inner.0,
       same_vector l l (gamma1 - 1) gamma1 z y (omega (arith, high), low, high) (p.response.rows ∙ sym q.response.rows) p.response q.response inner.1,
-      spells-hint omega' k g h (hint_bytes omega' h) left right,
+      one_hint omega' k g h (hint_bytes omega' h) left right,
     )
 
 -- ---- private keys

@@ -24,8 +24,6 @@ mod Masks
 mod Centring
 mod VectorsOf
 mod Challenges
-mod Hints
-mod Spellings
 mod EncodedParts
 pub mod Reading
 mod Bits

@@ -1,5 +1,5 @@
 -- The picks of a challenge and the places that they lead to, one pick after another.
-use Rattle.std.proofs.Common.{◌≡◌, ℕ, ℤ, pos, ◌+ℤ◌, suc, ◌+◌, ◌-◌, ◌<◌, ◌≤◌, List, [], ◌∷◌, ◌++◌, length, take, get_or, set, map, refl, ap, sym, ◌∙◌, arith, rules, true, false, length-append, add-zero, inl, inr, replicate, length-set, ◌⊎◌, drop, append-nil, length-take, length-take-le, length-drop, get_or-take, get_or-drop, ◌*◌, Some, None}
+use Rattle.std.proofs.Common.{◌≡◌, ℕ, ℤ, pos, ◌+ℤ◌, suc, ◌+◌, ◌-◌, ◌<◌, ◌≤◌, List, [], ◌∷◌, ◌++◌, length, take, get_or, set, map, refl, ap, sym, ◌∙◌, arith, rules, true, false, length-append, add-zero, inl, inr, replicate, length-set, drop, append-nil, length-take, length-take-le, length-drop, get_or-take, get_or-drop, ◌*◌, Some, None}
 use Rattle.std.specs.Prelude.{if◌then◌else◌, nat_eq, nat_le, nat_lt, ◌≢◌}
 use Rattle.std.specs.List.{All}
 use Rattle.std.proofs.lemmas.Int.{ints}
