@@ -79,8 +79,8 @@ length-vector a b (w ∷ v) h =
     let rest = length-vector a b v (All-tail P w v h) in
     length-append (polynomial_bytes a b w.0) (flat_map (λ (w : R). polynomial_bytes a b w.0) v) ∙ omega (arith, here, rest)
 
-pub length-vector_bytes : (a b : ℕ) (v : List R) → All (λ w. length w.0 ≡ 256) v → length (vector_bytes a b v) ≡ 32 * width (pos a) (pos b) * length v
-length-vector_bytes a b v h = length-vector (pos a) (pos b) v h
+pub vector-length : (n a b : ℕ) (v : List R) → IsVector n a b v → length (vector_bytes a b v) ≡ 32 * width (pos a) (pos b) * n
+vector-length n a b v h = length-vector (pos a) (pos b) v h.places ∙ ap (λ i. 32 * width (pos a) (pos b) * i) h.rows
 
 -- the bytes of polynomial i
 pub vector_piece : (a b : ℤ) (v : List R) (bytes : List ℕ) (size i : ℕ) (d : R) → All (λ w. length w.0 ≡ 256) v → size ≡ 32 * width a b
