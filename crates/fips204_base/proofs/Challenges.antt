@@ -14,24 +14,24 @@ use Rattle.fips204_base.specs.Challenge.{picks, moved, places, sign_of, signed_s
 
 -- ---- places
 
--- where a coefficient at a place goes at i
-abbrev next : ℕ → ℕ → ℕ → ℕ
-next i pick place = if nat_eq pick place then i else place
+-- where a coefficient is after the pick of i
+abbrev pub moved_once : ℕ → ℕ → ℕ → ℕ
+moved_once i pick place = if nat_eq pick place then i else place
 
-next-below : (i pick place : ℕ) → place < i → next i pick place < i + 1
-next-below i pick place h = elim (cases_Bool (nat_eq pick place)) [
+pub moved_once-below : (i pick place : ℕ) → place < i → moved_once i pick place < i + 1
+moved_once-below i pick place h = elim (cases_Bool (nat_eq pick place)) [
   | inl here ↦ rw here (omega arith)
   | inr not ↦ rw not (omega (arith, h))
 ]
 
-next-other : (i pick place : ℕ) → place < i → next i pick place ≡ pick → ⊥
-next-other i pick place h e = elim (cases_Bool (nat_eq pick place)) [
+moved_once-other : (i pick place : ℕ) → place < i → moved_once i pick place ≡ pick → ⊥
+moved_once-other i pick place h e = elim (cases_Bool (nat_eq pick place)) [
   | inl here ↦ let same = eqb-true pick place here in let to : i ≡ pick = rw here at e in omega (arith, h, same, to)
   | inr not ↦ let other = eqb-false pick place not in let to : place ≡ pick = rw not at e in other (sym to)
 ]
 
-next-apart : (i pick a b : ℕ) → a < i → b < i → (a ≡ b → ⊥) → next i pick a ≡ next i pick b → ⊥
-next-apart i pick a b h k apart e = elim (cases_Bool (nat_eq pick a)) [
+moved_once-apart : (i pick a b : ℕ) → a < i → b < i → (a ≡ b → ⊥) → moved_once i pick a ≡ moved_once i pick b → ⊥
+moved_once-apart i pick a b h k apart e = elim (cases_Bool (nat_eq pick a)) [
   | inl here ↦ elim (cases_Bool (nat_eq pick b)) [
     | inl there ↦ apart (sym (eqb-true pick a here) ∙ eqb-true pick b there)
     | inr not ↦ let to : i ≡ b = rw (here, not) at e in omega (arith, k, to)
@@ -45,13 +45,13 @@ next-apart i pick a b h k apart e = elim (cases_Bool (nat_eq pick a)) [
 moved-below : (later : List ℕ) (i place : ℕ) → place < i → moved i place later < i + length later
 unfolding moved
 moved-below [] i place h = omega (arith, h)
-moved-below (pick ∷ later) i place h = let more = moved-below later (i + 1) (next i pick place) (next-below i pick place h) in omega (arith, more)
+moved-below (pick ∷ later) i place h = let more = moved-below later (i + 1) (moved_once i pick place) (moved_once-below i pick place h) in omega (arith, more)
 
 moved-apart : (later : List ℕ) (i a b : ℕ) → a < i → b < i → (a ≡ b → ⊥) → moved i a later ≡ moved i b later → ⊥
 unfolding moved
 moved-apart [] i a b h k apart e = apart e
 moved-apart (pick ∷ later) i a b h k apart e =
-    moved-apart later (i + 1) (next i pick a) (next i pick b) (next-below i pick a h) (next-below i pick b k) (next-apart i pick a b h k apart) e
+    moved-apart later (i + 1) (moved_once i pick a) (moved_once i pick b) (moved_once-below i pick a h) (moved_once-below i pick b k) (moved_once-apart i pick a b h k apart) e
 
 -- each pick is at most its number
 abbrev AreWithin : ℕ → List ℕ → Type 0
@@ -79,8 +79,8 @@ fresh : (ps : List ℕ) (i place k : ℕ) → place < i → AreWithin i ps → k
 unfolding places moved
 fresh [] i place k h within l e = absurd (omega (arith, l))
 fresh (pick ∷ ps) i place zero h within l e =
-    moved-apart ps (i + 1) pick (next i pick place) (omega (arith, first-within i pick ps within)) (next-below i pick place h) (λ same. next-other i pick place h (sym same)) e
-fresh (pick ∷ ps) i place (suc k) h within l e = fresh ps (i + 1) (next i pick place) k (next-below i pick place h) (later-within i pick ps within) (omega (arith, l)) e
+    moved-apart ps (i + 1) pick (moved_once i pick place) (omega (arith, first-within i pick ps within)) (moved_once-below i pick place h) (λ same. moved_once-other i pick place h (sym same)) e
+fresh (pick ∷ ps) i place (suc k) h within l e = fresh ps (i + 1) (moved_once i pick place) k (moved_once-below i pick place h) (later-within i pick ps within) (omega (arith, l)) e
 
 pub places-apart : (ps : List ℕ) (i j k : ℕ) → AreWithin i ps → j < k → k < length ps → get_or (places i ps) j 0 ≡ get_or (places i ps) k 0 → ⊥
 unfolding places

@@ -1,6 +1,5 @@
 -- The bytes of a private key and of a signature determine their parts.
 use Rattle.std.proofs.Common.{◌≡◌, ◌≤◌, ◌+◌, ◌-◌, ◌*◌, ℕ, List, [], ◌∷◌, ◌++◌, ℤ, pos, ◌-ℤ◌, length, refl, ap, sym, ◌∙◌, arith, length-append}
-use Rattle.std.specs.List.{All}
 use Rattle.std.proofs.lemmas.Int.{ints}
 use Rattle.std.proofs.lemmas.List.Elements.{All-head, All-tail}
 use Rattle.fips204_base.specs.declared.types.R.{R}
@@ -10,20 +9,14 @@ use Rattle.fips204_base.specs.HintSpelling.{Spells, hint_bytes}
 use Rattle.fips204_base.specs.Encodings.{vector_bytes, private_key_bytes, signature_bytes, IsPrivateKey, IsSignature}
 use Rattle.fips204_base.proofs.Bits.{cut}
 use Rattle.fips204_base.proofs.PolynomialBytes.{length-polynomial_bytes, same_polynomial}
-use Rattle.fips204_base.proofs.Spellings.{spells-hint}
+use Rattle.fips204_base.proofs.UniqueHint.{one_hint}
+use Rattle.fips204_base.proofs.VectorBytes.{vector-length}
 
 -- ---- vectors
 
 -- the a and b of every vector
 abbrev pub AreBounds : ℕ → ℕ → Type 0
 AreBounds a b = (a ≤ 1048575) × (1 ≤ b) × (b ≤ 1048575)
-
-pub length-vector_bytes : (a b : ℕ) (v : List R) → All (λ w. length w.0 ≡ 256) v → length (vector_bytes a b v) ≡ length v * (32 * width (pos a) (pos b))
-length-vector_bytes a b [] places = omega arith
-length-vector_bytes a b (w ∷ v) places =
-    let first = length-polynomial_bytes (pos a) (pos b) w.0 (All-head (λ (w : R). length w.0 ≡ 256) w v places) in
-    let later = length-vector_bytes a b v (All-tail (λ (w : R). length w.0 ≡ 256) w v places) in
-    length-append (polynomial_bytes (pos a) (pos b) w.0) (vector_bytes a b v) ∙ rw (first, later) (omega arith)
 
 same_row : (a b : ℕ) (v w : R) → AreBounds a b → length v.0 ≡ 256 → length w.0 ≡ 256 → InRange (pos 0 -ℤ pos a) (pos b) v.0 → InRange (pos 0 -ℤ pos a) (pos b) w.0
     → polynomial_bytes (pos a) (pos b) v.0 ≡ polynomial_bytes (pos a) (pos b) w.0 → v ≡ w
@@ -53,9 +46,6 @@ same_vector n m a b (x ∷ v) (y ∷ w) bounds l p q e =
     let tail = same_vector (length v) (length w) a b v w bounds (omega (arith, l)) (rest_of_vector n a b x v p) (rest_of_vector m a b y w q) both.1 in
     cc
 
-vector-length : (n a b : ℕ) (v : List R) → IsVector n a b v → length (vector_bytes a b v) ≡ n * (32 * width (pos a) (pos b))
-vector-length n a b v h = length-vector_bytes a b v h.places ∙ ap (λ k. k * (32 * width (pos a) (pos b))) h.rows
-
 -- ---- signatures
 
 pub same_signature : (gamma1 omega' k l n : ℕ) (bytes c d : List ℕ) (z y g h : List R) → 1 ≤ gamma1 → gamma1 ≤ 1048575
@@ -66,7 +56,7 @@ same_signature gamma1 omega' k l n bytes c d z y g h low high p q =
     let Y = vector_bytes (gamma1 - 1) gamma1 y in
     let a = vector-length l (gamma1 - 1) gamma1 z p.response in
     let b = vector-length l (gamma1 - 1) gamma1 y q.response in
-    let whole = l * (32 * width (pos (gamma1 - 1)) (pos gamma1)) in
+    let whole = 32 * width (pos (gamma1 - 1)) (pos gamma1) * l in
     let outer = cut (c ++ Z) (d ++ Y) (hint_bytes omega' g) (hint_bytes omega' h) (n + whole)
     (length-append c Z ∙ rw (p.commitment, a) refl) (length-append d Y ∙ rw (q.commitment, b) refl) same in
     let inner = cut c d Z Y n p.commitment q.commitment outer.0 in
@@ -74,7 +64,7 @@ same_signature gamma1 omega' k l n bytes c d z y g h low high p q =
     let right : Spells omega' k h (hint_bytes omega' h) = record { hint = q.hint; few = q.few; spelling = refl } in (
       inner.0,
       same_vector l l (gamma1 - 1) gamma1 z y (omega (arith, high), low, high) (p.response.rows ∙ sym q.response.rows) p.response q.response inner.1,
-      spells-hint omega' k g h (hint_bytes omega' h) left right,
+      one_hint omega' k g h (hint_bytes omega' h) left right,
     )
 
 -- ---- private keys
@@ -97,12 +87,12 @@ same_private_key eta k l bytes rho key tr seed other hash s1 s2 t0 u1 u2 v0 low 
     let n : length (seed ++ other) ≡ 64 = length-append seed other ∙ rw (q.seed, q.private_seed) refl in
     let m' : length (rho ++ key ++ tr) ≡ 128 = length-append (rho ++ key) tr ∙ rw (m, p.hash) refl in
     let n' : length (seed ++ other ++ hash) ≡ 128 = length-append (seed ++ other) hash ∙ rw (n, q.hash) refl in
-    let f : length (rho ++ key ++ tr ++ S1) ≡ 128 + l * c = length-append (rho ++ key ++ tr) S1 ∙ rw (m', a) refl in
-    let g : length (seed ++ other ++ hash ++ U1) ≡ 128 + l * c = length-append (seed ++ other ++ hash) U1 ∙ rw (n', b) refl in
-    let f' : length (rho ++ key ++ tr ++ S1 ++ S2) ≡ 128 + l * c + k * c = length-append (rho ++ key ++ tr ++ S1) S2 ∙ rw (f, d) refl in
-    let g' : length (seed ++ other ++ hash ++ U1 ++ U2) ≡ 128 + l * c + k * c = length-append (seed ++ other ++ hash ++ U1) U2 ∙ rw (g, e) refl in
-    let one = cut (rho ++ key ++ tr ++ S1 ++ S2) (seed ++ other ++ hash ++ U1 ++ U2) (vector_bytes 4095 4096 t0) (vector_bytes 4095 4096 v0) (128 + l * c + k * c) f' g' same in
-    let two = cut (rho ++ key ++ tr ++ S1) (seed ++ other ++ hash ++ U1) S2 U2 (128 + l * c) f g one.0 in
+    let f : length (rho ++ key ++ tr ++ S1) ≡ 128 + c * l = length-append (rho ++ key ++ tr) S1 ∙ rw (m', a) refl in
+    let g : length (seed ++ other ++ hash ++ U1) ≡ 128 + c * l = length-append (seed ++ other ++ hash) U1 ∙ rw (n', b) refl in
+    let f' : length (rho ++ key ++ tr ++ S1 ++ S2) ≡ 128 + c * l + c * k = length-append (rho ++ key ++ tr ++ S1) S2 ∙ rw (f, d) refl in
+    let g' : length (seed ++ other ++ hash ++ U1 ++ U2) ≡ 128 + c * l + c * k = length-append (seed ++ other ++ hash ++ U1) U2 ∙ rw (g, e) refl in
+    let one = cut (rho ++ key ++ tr ++ S1 ++ S2) (seed ++ other ++ hash ++ U1 ++ U2) (vector_bytes 4095 4096 t0) (vector_bytes 4095 4096 v0) (128 + c * l + c * k) f' g' same in
+    let two = cut (rho ++ key ++ tr ++ S1) (seed ++ other ++ hash ++ U1) S2 U2 (128 + c * l) f g one.0 in
     let three = cut (rho ++ key ++ tr) (seed ++ other ++ hash) S1 U1 128 m' n' two.0 in
     let four = cut (rho ++ key) (seed ++ other) tr hash 64 m n three.0 in
     let five = cut rho seed key other 32 p.seed q.seed four.0 in (

@@ -10,6 +10,7 @@ use Rattle.std.proofs.lemmas.Grind.{same_number_lists}
 use Rattle.fips204_base.specs.declared.types.R.{R}
 use Rattle.fips204_base.specs.declared.types.TheConstants.{R0}
 use Rattle.fips204_base.specs.HintSpelling.{ones_below, ones, all_ones, running_totals, hint_bytes, Spells}
+use Rattle.fips204_base.proofs.HintPlaces.{ones-rise}
 
 -- how many ones the bytes count before polynomial i
 abbrev pub before : ℕ → List ℕ → ℕ → ℕ
@@ -107,6 +108,22 @@ piece o h y i p l =
     ∙ regroup (all_ones (take i h)) (ones (get_or h i R0)) (all_ones (drop (i + 1) h)) (replicate (o - length (all_ones h)) 0) (drop o y) in
     middle y (all_ones (take i h)) (ones (get_or h i R0)) (all_ones (drop (i + 1) h) ++ (replicate (o - length (all_ones h)) 0 ++ drop o y))
     (before o y i) (get_or y (o + i) 0 - before o y i) whole (sym a) (omega (arith, a, b, m))
+
+-- and they rise strictly
+pub piece_rises : (o : ℕ) (h : List R) (y : List ℕ) (i j : ℕ) → Pieces o h y → i < length h → before o y i ≤ j → j + 1 < get_or y (o + i) 0 → get_or y j 0 < get_or y (j + 1) 0
+piece_rises o h y i j p l low high =
+    let start = before o y i in
+    let count = get_or y (o + i) 0 - start in
+    let m : start + (j - start) ≡ j = omega (arith, low) in
+    let n : start + (j - start + 1) ≡ j + 1 = omega (arith, low) in
+    let places : take count (drop start y) ≡ ones_below (get_or h i R0) 256 = piece o h y i p l in
+    let at : (t : ℕ) → t < count → get_or (ones_below (get_or h i R0) 256) t 0 ≡ get_or y (start + t) 0 =
+    λ t u. ap (λ b. get_or b t 0) (sym places) ∙ get_or-take count (drop start y) t 0 u ∙ get_or-drop start y t 0 in
+    let long : get_or y (o + i) 0 ≡ start + length (ones_below (get_or h i R0) 256) = p.totals i l ∙ total_more h i R0 l ∙ ap (λ t. t + length (ones (get_or h i R0))) (sym (before_is o h y i p (omega arith))) in
+    let rises = ones-rise (get_or h i R0) 256 (j - start) (omega (arith, low, high, long, m)) in
+    let first : get_or (ones_below (get_or h i R0) 256) (j - start) 0 ≡ get_or y j 0 = at (j - start) (omega (arith, low, high, m)) ∙ ap (λ t. get_or y t 0) m in
+    let second : get_or (ones_below (get_or h i R0) 256) (j - start + 1) 0 ≡ get_or y (j + 1) 0 = at (j - start + 1) (omega (arith, low, high, m)) ∙ ap (λ t. get_or y t 0) n in
+    rw (first, second) at rises
 
 -- zeros after the last place
 pub zero_rest : (o : ℕ) (h : List R) (y : List ℕ) (k : ℕ) → Pieces o h y → before o y (length h) ≤ k → k < o → get_or y k 0 ≡ 0

@@ -39,7 +39,7 @@ ones-within w (suc n) =
     ]
 
 -- they strictly rise
-ones-rise : (w : R) (n k : ℕ) → k + 1 < length (ones_below w n) → get_or (ones_below w n) k 0 < get_or (ones_below w n) (k + 1) 0
+pub ones-rise : (w : R) (n k : ℕ) → k + 1 < length (ones_below w n) → get_or (ones_below w n) k 0 < get_or (ones_below w n) (k + 1) 0
 ones-rise w zero k h = absurd (omega (arith, rw (ones-none w) at h))
 ones-rise w (suc n) k h = elim (cases_Bool (is_one w n)) [
   | inl here ↦

@@ -24,10 +24,7 @@ mod Masks
 mod Centring
 mod VectorsOf
 mod Challenges
-mod Hints
-mod Spellings
 mod EncodedParts
-mod Decomposed
 pub mod Reading
 mod Bits
 mod Fields

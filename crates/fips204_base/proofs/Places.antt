@@ -1,15 +1,15 @@
 -- The picks of a challenge and the places that they lead to, one pick after another.
-use Rattle.std.proofs.Common.{◌≡◌, ℕ, ℤ, pos, ◌+ℤ◌, suc, ◌+◌, ◌-◌, ◌<◌, ◌≤◌, List, [], ◌∷◌, ◌++◌, length, take, get_or, set, map, refl, ap, sym, ◌∙◌, arith, rules, true, false, length-append, add-zero, inl, inr, replicate, length-set, ◌⊎◌, drop, append-nil, length-take, length-take-le, length-drop, get_or-take, get_or-drop, ◌*◌, Some, None}
+use Rattle.std.proofs.Common.{◌≡◌, ℕ, ℤ, pos, ◌+ℤ◌, suc, ◌+◌, ◌-◌, ◌<◌, ◌≤◌, List, [], ◌∷◌, ◌++◌, length, take, get_or, set, map, refl, ap, sym, ◌∙◌, arith, rules, true, false, length-append, add-zero, inl, inr, replicate, length-set, drop, append-nil, length-take, length-take-le, length-drop, get_or-take, get_or-drop, ◌*◌, Some, None}
 use Rattle.std.specs.Prelude.{if◌then◌else◌, nat_eq, nat_le, nat_lt, ◌≢◌}
 use Rattle.std.specs.List.{All}
 use Rattle.std.proofs.lemmas.Int.{ints}
 use Rattle.std.proofs.lemmas.List.{get_or-set_same, get_or-set_other, get_or-replicate, length-map}
 use Rattle.std.proofs.lemmas.List.Elements.{All-append, All-cons, All-map, All-nil, All-tail}
-use Rattle.std.proofs.lemmas.Bool.{cases_lt}
+use Rattle.std.proofs.lemmas.Bool.{cases_lt, cases_eq}
 use Rattle.std.proofs.lemmas.Bool.Decides.{nat_tests}
 use Rattle.fips204_base.specs.Challenge.{challenge, challenge_picks, picks, moved, places, sign_of, signed_sum}
 use Rattle.fips204_base.specs.Packing.{bits}
-use Rattle.fips204_base.proofs.Challenges.{length-places}
+use Rattle.fips204_base.proofs.Challenges.{length-places, moved_once, moved_once-below}
 use Rattle.fips204_base.proofs.Packings.{length-bits}
 use Rattle.fips204_base.specs.Vectors.{polynomial_of}
 use Rattle.fips204_base.specs.declared.types.R.{R}
@@ -39,19 +39,6 @@ picks-append i (x ∷ xs) ys = elim (cases_lt i x) [
 
 -- one more pick
 
-nat_cases : (n m : ℕ) → (n ≡ m) ⊎ (n ≢ m)
-nat_cases n m = elim (cases_lt n m) [
-  | inl l ↦ inr (λ e. omega (arith, e, l))
-  | inr g ↦ elim (cases_lt m n) [
-    | inl l ↦ inr (λ e. omega (arith, e, l))
-    | inr h ↦ inl (omega (arith, g, h))
-  ]
-]
-
--- where a coefficient is after the pick of i
-abbrev pub moved_once : ℕ → ℕ → ℕ → ℕ
-moved_once i pick place = if nat_eq pick place then i else place
-
 moved-push : (i place pick j : ℕ) (later : List ℕ) → i + length later ≡ j → moved i place (later ++ pick ∷ []) ≡ moved_once j pick (moved i place later)
 unfolding moved
 moved-push i place pick j [] e = let n : i ≡ j = omega arith in rw n refl
@@ -65,11 +52,8 @@ places-push i pick j (p ∷ before) e =
     let rest = places-push (i + 1) pick j before (omega (arith, e)) in
     rw (here, rest) refl
 
-moved_small : (i j p : ℕ) → p < i → moved_once i j p < i + 1
-moved_small i j p l = grind (arith, nat_tests)
-
 moved_below : (ps : List ℕ) (i j : ℕ) → All (λ p. p < i) ps → All (λ p. p < i + 1) (map (moved_once i j) ps)
-moved_below ps i j h = All-map (λ p. p < i + 1) (moved_once i j) ps (λ k d l. moved_small i j (get_or ps k d) (h k d l))
+moved_below ps i j h = All-map (λ p. p < i + 1) (moved_once i j) ps (λ k d l. moved_once-below i j (get_or ps k d) (h k d l))
 
 one_below : (i j : ℕ) → j ≤ i → All (λ p. p < i + 1) (j ∷ [])
 one_below i j l = All-cons (λ p. p < i + 1) j [] (omega (arith, l)) (All-nil (λ p. p < i + 1))
@@ -146,7 +130,7 @@ step_sums ps bits c i j n x w l m below room s sums h =
     let pushed : signed_sum (map (moved_once i j) ps ++ j ∷ []) bits n ≡ signed_sum (map (moved_once i j) ps) bits n +ℤ (if nat_eq j n then x else pos 0) =
     sum-push (map (moved_once i j) ps) bits j n (omega (arith, long, room)) ∙ rw (long, s) refl in
     let inner : length (set c i (get_or c j (pos 0))) ≡ 256 = length-set c i (get_or c j (pos 0)) ∙ w in
-    elim (nat_cases n j) [
+    elim (cases_eq n j) [
       | inl at ↦
           let t : nat_eq j n ≡ true = grind (arith, nat_tests) in
           let none : signed_sum (map (moved_once i j) ps) bits n ≡ pos 0 = sum-none (map (moved_once i j) ps) bits n (All-map (λ p. nat_eq p n ≡ false) (moved_once i j) ps (λ k d l. rw at (moved-at_pick i j (get_or ps k d) (below k d l)))) in
@@ -155,7 +139,7 @@ step_sums ps bits c i j n x w l m below room s sums h =
       | inr off ↦
           let t : nat_eq j n ≡ false = grind (arith, nat_tests) in
           let past : get_or (set (set c i (get_or c j (pos 0))) j x) n (pos 0) ≡ get_or (set c i (get_or c j (pos 0))) n (pos 0) = get_or-set_other (set c i (get_or c j (pos 0))) j n x (pos 0) off in
-          let same : signed_sum (map (moved_once i j) ps) bits n ≡ get_or (set c i (get_or c j (pos 0))) n (pos 0) = elim (nat_cases n i) [
+          let same : signed_sum (map (moved_once i j) ps) bits n ≡ get_or (set c i (get_or c j (pos 0))) n (pos 0) = elim (cases_eq n i) [
             | inl at ↦
                 rw at (sum-moved (moved_once i j) ps bits i j (λ k d l. moved-at_next i j (get_or ps k d) (below k d l)) ∙ sym (sums j (omega (arith, l, m))) ∙ sym (get_or-set_same c i (get_or c j (pos 0)) (pos 0) (omega (arith, w, l))))
             | inr away ↦

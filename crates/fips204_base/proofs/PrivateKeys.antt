@@ -7,7 +7,7 @@ use Rattle.fips204_base.specs.declared.types.R.{R}
 use Rattle.fips204_base.specs.Encodings.{IsPrivateKey, vector_bytes}
 use Rattle.fips204_base.specs.Packing.{Bounds, bit_length, width}
 use Rattle.fips204_base.specs.Vectors.{IsVector}
-use Rattle.fips204_base.proofs.VectorBytes.{length-vector_bytes}
+use Rattle.fips204_base.proofs.VectorBytes.{vector-length}
 
 pub width_4095_4096 : width (pos 4095) (pos 4096) ≡ 13
 unfolding bit_length
@@ -55,17 +55,14 @@ vectors_of eta k l bytes rho key tr s1 s2 t0 s =
     ∙ drop_at (rho ++ key ++ tr) (vector_bytes eta eta s1 ++ (vector_bytes eta eta s2 ++ vector_bytes 4095 4096 t0)) 128 size
 
 -- the bytes of s1, and of s2
-length-short : (eta n : ℕ) (v : List R) → IsVector n eta eta v → length (vector_bytes eta eta v) ≡ 32 * width (pos eta) (pos eta) * n
-length-short eta n v h = length-vector_bytes eta eta v h.places ∙ ap (λ i. 32 * width (pos eta) (pos eta) * i) h.rows
-
 pub first_part : (eta k l a : ℕ) (bytes rho key tr : List ℕ) (s1 s2 t0 : List R) → IsPrivateKey eta k l bytes rho key tr s1 s2 t0 → a ≡ 32 * width (pos eta) (pos eta) * l
     → vector_bytes eta eta s1 ≡ take a (drop 128 bytes)
 first_part eta k l a bytes rho key tr s1 s2 t0 s e =
-    sym (ap (take a) (vectors_of eta k l bytes rho key tr s1 s2 t0 s) ∙ take_at (vector_bytes eta eta s1) (vector_bytes eta eta s2 ++ vector_bytes 4095 4096 t0) a (length-short eta l s1 s.first ∙ sym e))
+    sym (ap (take a) (vectors_of eta k l bytes rho key tr s1 s2 t0 s) ∙ take_at (vector_bytes eta eta s1) (vector_bytes eta eta s2 ++ vector_bytes 4095 4096 t0) a (vector-length l eta eta s1 s.first ∙ sym e))
 
 pub second_part : (eta k l a b : ℕ) (bytes rho key tr : List ℕ) (s1 s2 t0 : List R) → IsPrivateKey eta k l bytes rho key tr s1 s2 t0 → a ≡ 32 * width (pos eta) (pos eta) * l
     → b ≡ 32 * width (pos eta) (pos eta) * k → vector_bytes eta eta s2 ≡ take b (drop a (drop 128 bytes))
 second_part eta k l a b bytes rho key tr s1 s2 t0 s e f =
     sym (ap (λ x. take b (drop a x)) (vectors_of eta k l bytes rho key tr s1 s2 t0 s)
-    ∙ ap (take b) (drop_at (vector_bytes eta eta s1) (vector_bytes eta eta s2 ++ vector_bytes 4095 4096 t0) a (length-short eta l s1 s.first ∙ sym e))
-    ∙ take_at (vector_bytes eta eta s2) (vector_bytes 4095 4096 t0) b (length-short eta k s2 s.second ∙ sym f))
+    ∙ ap (take b) (drop_at (vector_bytes eta eta s1) (vector_bytes eta eta s2 ++ vector_bytes 4095 4096 t0) a (vector-length l eta eta s1 s.first ∙ sym e))
+    ∙ take_at (vector_bytes eta eta s2) (vector_bytes 4095 4096 t0) b (vector-length k eta eta s2 s.second ∙ sym f))

@@ -7,7 +7,7 @@ use Rattle.fips204_base.specs.Encodings.{IsSignature, vector_bytes}
 use Rattle.fips204_base.specs.HintSpelling.{Spells, hint_bytes}
 use Rattle.fips204_base.specs.Packing.{Bounds, bit_length, width}
 use Rattle.fips204_base.specs.Vectors.{IsVector}
-use Rattle.fips204_base.proofs.VectorBytes.{length-vector_bytes}
+use Rattle.fips204_base.proofs.VectorBytes.{vector-length}
 
 width_131071_131072 : width (pos 131071) (pos 131072) ≡ 18
 unfolding bit_length
@@ -51,9 +51,8 @@ signature_of_parts gamma1 omega' k l n sigma c_tilde response hint z h cut size 
 pub hint_part : (gamma1 omega' k l n m : ℕ) (sigma c_tilde : List ℕ) (z h : List R) → IsSignature gamma1 omega' k l n sigma c_tilde z h → m ≡ n + 32 * width (pos (gamma1 - 1)) (pos gamma1) * l
     → Spells omega' k h (drop m sigma)
 hint_part gamma1 omega' k l n m sigma c_tilde z h s e =
-    let size = length-vector_bytes (gamma1 - 1) gamma1 z s.response.places in
-    let count = ap (λ i. 32 * width (pos (gamma1 - 1)) (pos gamma1) * i) s.response.rows in
-    let front : length (c_tilde ++ vector_bytes (gamma1 - 1) gamma1 z) ≡ m = length-append c_tilde (vector_bytes (gamma1 - 1) gamma1 z) ∙ omega (arith, size, count, s.commitment, e) in
+    let size = vector-length l (gamma1 - 1) gamma1 z s.response in
+    let front : length (c_tilde ++ vector_bytes (gamma1 - 1) gamma1 z) ≡ m = length-append c_tilde (vector_bytes (gamma1 - 1) gamma1 z) ∙ omega (arith, size, s.commitment, e) in
     record {
       hint = s.hint;
       few = s.few;

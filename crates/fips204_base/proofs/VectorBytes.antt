@@ -1,16 +1,14 @@
 -- The bytes of a vector, polynomial by polynomial.
-use Rattle.std.proofs.Common.{◌≡◌, ℕ, ◌+◌, ◌*◌, ◌^◌, ◌<◌, ◌≤◌, List, [], ◌∷◌, ◌++◌, ℤ, pos, ◌+ℤ◌, ◌-ℤ◌, ◌≤ℤ◌, nat_abs, length, length-append, length-drop, ◌-◌, append_assoc, take, drop, set, get_or, map, subst, ap, sym, ◌∙◌, arith}
+use Rattle.std.proofs.Common.{◌≡◌, ℕ, ◌+◌, ◌*◌, ◌^◌, ◌<◌, ◌≤◌, List, [], ◌∷◌, ◌++◌, ℤ, pos, ◌+ℤ◌, ◌-ℤ◌, ◌≤ℤ◌, nat_abs, length, length-append, append_assoc, take, drop, set, get_or, map, subst, ap, sym, ◌∙◌, arith}
 use Rattle.std.specs.List.{All, flat_map}
 use Rattle.std.proofs.lemmas.Int.{ints}
 use Rattle.std.proofs.lemmas.List.Elements.{All-take, All-head, All-tail, All-nil, All-cons}
 use Rattle.std.proofs.lemmas.Nat.{mul-le}
-use Rattle.std.proofs.lemmas.List.{take_more, take_more_set, take_all, take_at, drop_at, take-append-drop, length-take-le, flat_map_more}
+use Rattle.std.proofs.lemmas.List.{take_more, take_more_set, take_at, drop_at, take-append-drop, length-take-le, flat_map_more}
 use Rattle.std.proofs.lemmas.List.Concat.{flat_map-append}
-use borrow.Rule.Slice.PartMut.{put_mid}
 use Rattle.fips204_base.specs.declared.types.R.{R}
 use Rattle.fips204_base.specs.Encodings.{vector_bytes}
 use Rattle.fips204_base.specs.Vectors.{IsVector}
-use Rattle.fips204_base.proofs.Pieces.{length-put_mid, put_piece}
 use Rattle.fips204_base.proofs.PolynomialBytes.{length-polynomial_bytes}
 use Rattle.fips204_base.specs.Packing.{Bounds, InRange, Unpacks, coefficient, field, polynomial_bytes, width}
 
@@ -81,8 +79,8 @@ length-vector a b (w ∷ v) h =
     let rest = length-vector a b v (All-tail P w v h) in
     length-append (polynomial_bytes a b w.0) (flat_map (λ (w : R). polynomial_bytes a b w.0) v) ∙ omega (arith, here, rest)
 
-pub length-vector_bytes : (a b : ℕ) (v : List R) → All (λ w. length w.0 ≡ 256) v → length (vector_bytes a b v) ≡ 32 * width (pos a) (pos b) * length v
-length-vector_bytes a b v h = length-vector (pos a) (pos b) v h
+pub vector-length : (n a b : ℕ) (v : List R) → IsVector n a b v → length (vector_bytes a b v) ≡ 32 * width (pos a) (pos b) * n
+vector-length n a b v h = length-vector (pos a) (pos b) v h.places ∙ ap (λ i. 32 * width (pos a) (pos b) * i) h.rows
 
 -- the bytes of polynomial i
 pub vector_piece : (a b : ℤ) (v : List R) (bytes : List ℕ) (size i : ℕ) (d : R) → All (λ w. length w.0 ≡ 256) v → size ≡ 32 * width a b
@@ -97,22 +95,3 @@ vector_piece a b v bytes size i d h size_is e l =
     ∙ ap (λ x. x ++ flat_map f (drop (i + 1) v)) (vector_more f v i d l) ∙ append_assoc (flat_map f (take i v)) (f (get_or v i d)) (flat_map f (drop (i + 1) v)) in
     ap (λ x. take size (drop (size * i) x)) cut ∙ ap (take size) (drop_at (flat_map f (take i v)) (f (get_or v i d) ++ flat_map f (drop (i + 1) v)) (size * i) front)
     ∙ take_at (f (get_or v i d)) (flat_map f (drop (i + 1) v)) size here
-
--- the last piece is written after the front
-pub put_last : (a k : ℕ) (xs ys front : List ℕ) → length ys ≡ k → a + k ≡ length xs → take a xs ≡ front → put_mid a k xs ys ≡ front ++ ys
-put_last a k xs ys front e h before =
-    let size = length-put_mid a k xs ys e (omega (arith, h)) in
-    sym (take_all (a + k) (put_mid a k xs ys) (omega (arith, size, h))) ∙ put_piece a k (a + k) xs ys front e (omega (arith, h)) (omega arith) before
-
--- three pieces that fill the bytes, written in turn
-pub three_pieces : (a b m : ℕ) (xs p q r : List ℕ) → length p ≡ a → length q ≡ b → m ≡ b → a + b ≤ length xs
-    → length r ≡ length (put_mid a m (p ++ drop a xs) q) - (a + b)
-    → put_mid (a + b) (length (put_mid a m (p ++ drop a xs) q) - (a + b)) (put_mid a m (p ++ drop a xs) q) r ≡ p ++ q ++ r
-three_pieces a b m xs p q r d e same h k =
-    let one = p ++ drop a xs in
-    let left = length-drop a xs in
-    let long : length (p ++ drop a xs) ≡ length xs = length-append p (drop a xs) ∙ omega (arith, left, d, h) in
-    let inside : a + m ≤ length (p ++ drop a xs) = omega (arith, long, h, same) in
-    let whole = length-put_mid a m one q (e ∙ sym same) inside in
-    put_last (a + b) (length (put_mid a m one q) - (a + b)) (put_mid a m one q) r (p ++ q) k (omega (arith, whole, long, h))
-    (put_piece a m (a + b) one q p (e ∙ sym same) inside (omega (arith, same)) (take_at p (drop a xs) a d))

@@ -1,10 +1,11 @@
 -- Vectors and matrices of polynomials (FIPS 204, sections 2.3 to 2.5).
-use Rattle.std.specs.Prelude.{◌≡◌, ℕ, List, [], ℤ, pos, ◌-ℤ◌, length, map, slice_index_or}
+use Rattle.std.specs.Prelude.{◌≡◌, ℕ, List, ℤ, pos, ◌-ℤ◌, length, map, slice_index_or}
 use Rattle.std.specs.List.{All, range_with_len}
 use Rattle.fips204_base.specs.declared.types.R.{R}
 use Rattle.fips204_base.specs.declared.types.T.{T}
-use Rattle.fips204_base.specs.declared.types.TheConstants.{R0, T0}
+use Rattle.fips204_base.specs.declared.types.TheConstants.{R0}
 use Rattle.fips204_base.specs.Packing.{InRange}
+use Rattle.fips204_base.specs.Polynomials.{matrix_residues}
 use Rattle.fips204_base.specs.Residues.{coefficients}
 use Rattle.fips204_base.specs.Products.{row_product}
 use Rattle.fips204_base.specs.Transforms.{inverse_transform}
@@ -21,7 +22,7 @@ vector_coefficients v i = coefficients (slice_index_or v i R0).0
 
 -- the plain matrix of a matrix of transforms, by row, column and place: the inverse transform of each entry
 abbrev pub plain_matrix : List (List T) → ℕ → ℕ → ℕ → ℕ
-plain_matrix a i k = inverse_transform (coefficients (slice_index_or (slice_index_or a i []) k T0).0)
+plain_matrix a i k = inverse_transform (matrix_residues a i k)
 
 -- coefficient n of polynomial r of A v, where A is the plain matrix and v a vector of l polynomials
 abbrev pub matrix_product : ℕ → List (List T) → (ℕ → ℕ → ℕ) → ℕ → ℕ → ℕ

@@ -11,14 +11,13 @@ pub mod residue;
 pub mod vector;
 pub mod zeta_table;
 
+use crate::types::R;
 pub use count::Count;
 pub use norm::infinity_norm;
 pub use reduce::{center_mod, full_reduce32, mont_reduce, partial_reduce32, partial_reduce64};
 pub use residue::Residue;
 pub use vector::{add_vector_ntt, mat_vec_mul, to_mont};
 pub use zeta_table::ZETA_TABLE_MONT;
-
-use crate::types::R;
 
 /// How many binary digits `x` has, for `x` from 1 on.
 pub fn bit_length(x: i32) -> usize

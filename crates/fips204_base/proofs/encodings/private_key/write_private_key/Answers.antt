@@ -3,7 +3,7 @@ use Rattle.std.proofs.lemmas.Int.{to_z-of_z}
 use Rattle.std.proofs.lemmas.List.{take_at}
 use Rattle.fips204_base.specs.Encodings.{vector_bytes}
 use Rattle.fips204_base.proofs.PrivateKeys.{join}
-use Rattle.fips204_base.proofs.VectorBytes.{put_last}
+use Rattle.fips204_base.proofs.Pieces.{put_last}
 use Rattle.fips204_base.proofs.encodings.private_key.write_private_key.Goals as goal
 
 pub slice_bounds-write_seeds-end-2 : goal.slice_bounds-write_seeds-end-2

@@ -1,5 +1,5 @@
 use Rattle.std.proofs.Common.{◌++◌, ◌∙◌, ap, refl, arith, length, length-take, length-drop}
-use Rattle.fips204_base.proofs.VectorBytes.{three_pieces}
+use Rattle.fips204_base.proofs.Pieces.{three_pieces}
 use Rattle.fips204_base.proofs.encodings.private_key.write_seeds.Goals as goal
 
 pub slice_bounds-copy_from_slice-end-2 : goal.slice_bounds-copy_from_slice-end-2

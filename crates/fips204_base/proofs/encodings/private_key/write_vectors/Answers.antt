@@ -3,8 +3,7 @@ use Rattle.std.proofs.lemmas.Int.{ints, to_z-of_z}
 use Rattle.fips204_base.specs.Encodings.{vector_bytes}
 use Rattle.fips204_base.specs.Packing.{width}
 use Rattle.fips204_base.proofs.PrivateKeys.{width_4095_4096}
-use Rattle.fips204_base.proofs.Pieces.{length-put_mid}
-use Rattle.fips204_base.proofs.VectorBytes.{three_pieces}
+use Rattle.fips204_base.proofs.Pieces.{length-put_mid, three_pieces}
 use borrow.Rule.Slice.PartMut.{put_mid}
 use Rattle.fips204_base.proofs.encodings.private_key.write_vectors.Goals as goal
 

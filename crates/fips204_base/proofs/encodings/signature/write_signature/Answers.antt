@@ -5,9 +5,8 @@ use borrow.Rule.Slice.PartMut.{put_mid}
 use Rattle.fips204_base.specs.Encodings.{vector_bytes}
 use Rattle.fips204_base.specs.HintSpelling.{hint_bytes}
 use Rattle.fips204_base.specs.Packing.{width}
-use Rattle.fips204_base.proofs.Pieces.{length-put_mid, put_piece}
+use Rattle.fips204_base.proofs.Pieces.{length-put_mid, put_piece, put_last}
 use Rattle.fips204_base.proofs.Signatures.{response_bounds, response_least}
-use Rattle.fips204_base.proofs.VectorBytes.{put_last}
 use Rattle.fips204_base.proofs.encodings.signature.write_signature.Goals as goal
 
 pub pack_vector-requires : goal.pack_vector-requires
