@@ -5,7 +5,7 @@ use Rattle.std.proofs.lemmas.Nat.{div-mul-add, mod-mul-add, mul-le, div-add-mod'
 use Rattle.std.proofs.lemmas.Bool.{cases_lt, le-leb, lt-leb, eq-eqb, ne_eqb, cases_eq}
 use Rattle.fips204_base.specs.Residues.{residue}
 use Rattle.fips204_base.specs.CentredValues.{centred_modulo}
-use Rattle.fips204_base.specs.Rounding.{power2round, multiple_below, decompose, high_bits, low_bits, high_values, use_hint}
+use Rattle.fips204_base.specs.Rounding.{power2round, nearest_multiple, decompose, high_bits, low_bits, high_values, use_hint}
 use Rattle.std.specs.Prelude.{◌⊎◌, ◌<ℤ◌, ◌≤ℤ◌, int_lt}
 
 -- the two reciprocals: 1488 * 11275 is 2^24 - 16, and 4092 * 1025 is 2^22 - 4
@@ -44,7 +44,7 @@ centred_is g r p =
     ]
 
 -- the multiple that Decompose goes down to
-multiple_is : (g r : ℕ) → 0 < g → multiple_below g r ≡ (r + g - 1) / (2 * g) * (2 * g)
+multiple_is : (g r : ℕ) → 0 < g → nearest_multiple g r ≡ (r + g - 1) / (2 * g) * (2 * g)
 multiple_is g r p = rw (centred_is g r p) (omega (arith, ints))
 
 quotient_of : (k g : ℕ) → 0 < g → k * (2 * g) / (2 * g) ≡ k
