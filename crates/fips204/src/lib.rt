@@ -5,6 +5,7 @@
 //! fronts of these two streams. No call allocates.
 #![tactic(auto)]
 
+pub mod laws;
 pub mod ml_dsa;
 pub mod ml_dsa_44;
 pub mod ml_dsa_65;
@@ -12,4 +13,6 @@ pub mod ml_dsa_87;
 pub mod traits;
 pub mod types;
 
-pub use fips204_base::{D, Fault, Q, ZETA, conversion, encodings, fault, helpers, xof};
+pub use fips204_base::{
+    D, Fault, Q, ZETA, conversion, encodings, fault, hashing, helpers, high_low, ntt, product, xof,
+};
