@@ -1,4 +1,4 @@
-//! Reductions, transforms and products on worked values.
+//! Reductions, norms and the inverse transform on values worked out from the standard's arithmetic.
 #![tactic(auto)]
 
 ghost use Rattle.std.specs.Prelude.{◌≤◌, ◌<◌, nat_abs};
