@@ -4,7 +4,6 @@ use Rattle.hex.specs.Hex.{encode_lower}
 use Rattle.mldsa_engine.specs.declared.call.Task.{Task}
 use Rattle.mldsa_engine.specs.declared.call.Task.TheVariants.{Id}
 use Rattle.mldsa_engine.specs.declared.call.SetName.{SetName}
-use Rattle.mldsa_engine.specs.declared.call.SetName.TheVariants.{MlDsa44, MlDsa65, MlDsa87}
 use Rattle.mldsa_engine.specs.Lines.{AllFit}
 use Rattle.mldsa_engine.specs.ProgramText.{wanted_lines, Answers, text}
 
