@@ -5,7 +5,8 @@ ghost use Rattle.std.specs.Prelude.{◌≤◌, ◌<◌, nat_abs};
 ghost use Rattle.std.specs.List.{All};
 
 use fips204::helpers::{Count, ZETA_TABLE_MONT, center_mod, infinity_norm, mont_reduce};
-use fips204::ntt::inv_ntt;
+use fips204::ntt::{inv_ntt, ntt};
+use fips204::product::challenge_times_vector;
 use fips204::types::R;
 use std::test::Fail;
 
@@ -61,13 +62,100 @@ fn counted_inv_ntt(w: [i32; 256]) -> ([i32; 256], bool)
     (out[0], count.products() == 1024 && count.sums() == 2048)
 }
 
+/// The transform of a polynomial, and whether it took 1024 products and 2048 sums.
+fn counted_ntt(w: [i32; 256]) -> ([i32; 256], bool)
+    requires { All (λ x. nat_abs x ≤ 8380416) w }
+    ensures { All (λ x. nat_abs x ≤ 8380416) result.0 }
+{
+    let mut count = Count::new();
+    let out = ntt(&[w], &mut count);
+    (out[0], count.products() == 1024 && count.sums() == 2048)
+}
+
 /// The polynomial that has this coefficient at a place and else zero.
 fn monomial(place: usize, x: i32) -> [i32; 256]
-    requires { place < 256 }
+    requires place { place < 256 }
+    requires range { nat_abs x ≤ 8380416 }
+    ensures { All (λ y. nat_abs y ≤ 8380416) result }
 {
     let mut out = [0; 256];
     out[place] = x;
     out
+}
+
+/// A polynomial with coefficients from 0 to `q - 1`, fixed by its number: a linear congruence.
+fn scattered(number: u32) -> [i32; 256]
+    ensures { All (λ y. nat_abs y ≤ 8380416) result }
+{
+    let mut out = [0; 256];
+    let mut state = number;
+    for i in 0..256usize {
+        state = state.wrapping_mul(1664525).wrapping_add(1013904223);
+        out[i] = (state % 8380417) as i32;
+    }
+    out
+}
+
+/// The product modulo `X^256 + 1` and modulo `q`, by double sums.
+fn slow_product(a: &[i32; 256], b: &[i32; 256]) -> [i32; 256] {
+    let mut out = [0; 256];
+    for n in 0..256usize {
+        let mut sum = 0i64;
+        for i in 0..256usize {
+            let term = i64::from(a[i]).wrapping_mul(i64::from(b[(256 + n - i) % 256]));
+            sum = if i <= n {
+                sum.wrapping_add(term)
+            } else {
+                sum.wrapping_sub(term)
+            };
+        }
+        out[n] = sum.rem_euclid(8380417) as i32;
+    }
+    out
+}
+
+/// The product by the library.
+fn fast_product(a: [i32; 256], b: [i32; 256]) -> [i32; 256]
+    requires first { All (λ x. nat_abs x ≤ 8380416) a }
+    requires second { All (λ x. nat_abs x ≤ 8380416) b }
+{
+    challenge_times_vector(&R(a), &[R(b)])[0].0
+}
+
+/// Whether every value is congruent to this one modulo `q`.
+fn all_congruent(values: &[i32], x: i32) -> bool {
+    values
+        .iter()
+        .all(|value| value.rem_euclid(8380417) == x.rem_euclid(8380417))
+}
+
+#[test]
+fn transforms_of_one_and_x(rt: HostRuntime) -> Result<(), Fail> {
+    let (values, counted) = counted_ntt(monomial(0, 1));
+    assert!(rt; all_congruent(values.as_slice(), 1));
+    assert!(rt; counted);
+    let (values, counted) = counted_ntt(monomial(1, 1));
+    assert!(rt; all_congruent(&[values[0]], 1753));
+    assert!(rt; all_congruent(&[values[1]], 8378664));
+    assert!(rt; counted);
+    Ok(())
+}
+
+#[test]
+fn products_of_polynomials(rt: HostRuntime) -> Result<(), Fail> {
+    let product = fast_product(monomial(255, 1), monomial(1, 1));
+    assert!(rt; product == monomial(0, 8380416));
+    for number in [1u32, 77, 40000, 1234567890] {
+        let a = scattered(number);
+        let b = scattered(number.wrapping_add(1));
+        assert!(rt;
+            fast_product(a, b) == slow_product(&a, &b),
+            "polynomials {number}"
+        );
+    }
+    let most = [8380416; 256];
+    assert!(rt; fast_product(most, most) == slow_product(&most, &most));
+    Ok(())
 }
 
 #[test]
