@@ -1,11 +1,19 @@
 //! What the parameter sets share (FIPS 204, sections 5 and 6).
 #![tactic(auto)]
 
-ghost use Rattle.std.specs.Prelude.{◌≡◌, ◌+◌, ◌*◌};
-ghost use Rattle.fips204.specs.Keys.{IsPublicKeyOf};
+ghost use Rattle.std.specs.Prelude.{◌≡◌, ◌≤◌, ◌<◌, ◌⊎◌, ◌+◌, ◌*◌, ◌++◌, ◌≤ℤ◌, pos, nat_abs, ℕ, ◌%◌, ◌-◌, ◌↔◌, IsTrue, take};
+ghost use Rattle.std.specs.List.{All, flat_map};
+ghost use Rattle.fips204_base.specs.Packing.{InRange};
+ghost use Rattle.fips204_base.specs.Polynomials.{Within};
+ghost use Rattle.fips204_base.specs.Residues.{residue, coefficients};
+ghost use Rattle.fips204_base.specs.CentredValues.{vector_norm};
+ghost use Rattle.fips204_base.specs.Vectors.{vector_coefficients};
+ghost use Rattle.fips204.specs.Acceptance.{raised};
+ghost use Rattle.fips204.specs.Keys.{IsPublicKeyOf, IsHighPart};
 
-use crate::types::PublicKey;
+use crate::types::{Params, PublicKey, R, R0};
 use fips204_base::encodings::pk_decode;
+use fips204_base::helpers::infinity_norm;
 use fips204_base::xof::{Xof, XofReader};
 use std::marker::PhantomData;
 
@@ -27,4 +35,86 @@ pub fn expand_public<const K: usize, const L: usize, const PK_LEN: usize, H: Xof
         t1,
         streams: PhantomData,
     }
+}
+
+/// The first 64 bytes of `H` over the joined parts (lines 6 of Algorithm 7 and 7 of Algorithm 8).
+pub fn mu<H: Xof>(parts: &[&[u8]]) -> [u8; 64]
+    ensures { result ≡ take 64 (H.front (flat_map (λ p. p.now) parts.now)) }
+{
+    let mut out = [0u8; 64];
+    let mut reader = H::open(parts);
+    reader.read(&mut out);
+    out
+}
+
+/// The largest absolute value of a coefficient that the norm test of `z` accepts, and one more.
+fn response_bound(p: &Params) -> i32
+    ensures value { result ≡ pos (nat_abs p.now.gamma1 - nat_abs p.now.beta) }
+    ensures low { pos 130000 ≤ℤ result }
+    ensures high { result ≤ℤ pos 524288 }
+{
+    p.gamma1 - p.beta
+}
+
+/// How many bytes `w1Encode` gives for one polynomial.
+fn high_part_size(p: &Params) -> usize
+    ensures { ((p.now.gamma2 ≡ pos 95232) × (result ≡ 192)) ⊎ ((p.now.gamma2 ≡ pos 261888) × (result ≡ 128)) }
+{
+    if p.gamma2 == 95_232 { 192 } else { 128 }
+}
+
+/// `t1 2^13`, with coefficients from 0 to `q - 1`.
+fn raised<const K: usize>(t1: &[R; K]) -> [R; K]
+    requires { IsHighPart K t1.now }
+    ensures values { (r n : ℕ) → r < K → n < 256 → vector_coefficients result r n ≡ raised t1.now r n }
+    ensures small { All (λ p. Within 8380416 p.0) result }
+{
+    let mut out = [R0; K];
+    for r in 0..K {
+        out[r] = raised_polynomial(&t1[r]);
+    }
+    out
+}
+
+/// One polynomial times `2^13`.
+fn raised_polynomial(w: &R) -> R
+    requires { InRange (pos 0) (pos 1023) w.now.0 }
+    ensures values { (n : ℕ) → n < 256 → coefficients result.0 n ≡ 8192 * coefficients w.now.0 n % 8380417 }
+    ensures small { Within 8380416 result.0 }
+{
+    let mut out = [0; 256];
+    for n in 0..256 {
+        out[n] = raised_coefficient(w.0[n]);
+    }
+    R(out)
+}
+
+/// One coefficient times `2^13`.
+fn raised_coefficient(x: i32) -> i32
+    requires low { pos 0 ≤ℤ x }
+    requires high { x ≤ℤ pos 1023 }
+    ensures value { residue result ≡ 8192 * residue x % 8380417 }
+    ensures small { nat_abs result ≤ 8380416 }
+{
+    x * 8192
+}
+
+/// The first `N` bytes of `H` over `mu` and bytes. `N` is at most 64.
+fn commitment_to_bytes<const N: usize, H: Xof>(mu: &[u8; 64], bytes: &[u8]) -> [u8; N]
+    requires { N ≤ 64 }
+    ensures { result ≡ take N (H.front (mu.now ++ bytes.now)) }
+{
+    let mut out = [0u8; N];
+    let mut reader = H::open(&[mu.as_slice(), bytes]);
+    reader.read(&mut out);
+    out
+}
+
+/// Whether the norm of `z` is below `gamma1 - beta`. Coefficients are in `[1 - gamma1, gamma1]`.
+fn has_small_norm<const L: usize>(p: &Params, z: &[R; L]) -> bool
+    requires columns { 1 ≤ L }
+    requires range { All (λ w. Within 524288 w.0) z.now }
+    ensures { IsTrue result ↔ (vector_norm z.now < nat_abs p.now.gamma1 - nat_abs p.now.beta) }
+{
+    infinity_norm(z) < response_bound(p)
 }
