@@ -1,10 +1,12 @@
 //! What the parameter sets share (FIPS 204, sections 5 and 6).
 #![tactic(auto)]
 
-ghost use Rattle.std.specs.Prelude.{◌≡◌, ◌≤◌, ◌<◌, ◌⊎◌, ◌+◌, ◌*◌, ◌++◌, ◌≤ℤ◌, pos, nat_abs, ℕ, ◌%◌, ◌-◌, ◌↔◌, IsTrue, take};
+ghost use Rattle.std.specs.Prelude.{◌≡◌, ◌≤◌, ◌<◌, ◌⊎◌, ◌+◌, ◌*◌, ◌++◌, ◌≤ℤ◌, pos, nat_abs, ℕ, ◌%◌, ◌-◌, ◌↔◌, IsTrue, slice_index_or, take};
 ghost use Rattle.std.specs.List.{All, flat_map};
 ghost use Rattle.fips204_base.specs.Packing.{InRange};
 ghost use Rattle.fips204_base.specs.Polynomials.{Within};
+ghost use Rattle.fips204_base.specs.HintSpelling.{is_one};
+ghost use Rattle.fips204_base.specs.Rounding.{use_hint};
 ghost use Rattle.fips204_base.specs.Residues.{residue, coefficients};
 ghost use Rattle.fips204_base.specs.CentredValues.{vector_norm};
 ghost use Rattle.fips204_base.specs.Vectors.{vector_coefficients};
@@ -14,6 +16,7 @@ ghost use Rattle.fips204.specs.Keys.{IsPublicKeyOf, IsHighPart};
 use crate::types::{Params, PublicKey, R, R0};
 use fips204_base::encodings::pk_decode;
 use fips204_base::helpers::infinity_norm;
+use fips204_base::high_low::use_hint;
 use fips204_base::xof::{Xof, XofReader};
 use std::marker::PhantomData;
 
@@ -117,4 +120,34 @@ fn has_small_norm<const L: usize>(p: &Params, z: &[R; L]) -> bool
     ensures { IsTrue result ↔ (vector_norm z.now < nat_abs p.now.gamma1 - nat_abs p.now.beta) }
 {
     infinity_norm(z) < response_bound(p)
+}
+
+/// `UseHint` of each coefficient of a vector with its hint: high parts. `gamma2` is 95232 or 261888,
+/// coefficients of `w` are below `q` in absolute value, those of `h` are 0 or 1.
+fn hinted<const K: usize>(gamma2: i32, h: &[R; K], w: &[R; K]) -> [R; K]
+    requires set { (gamma2 ≡ pos 95232) ⊎ (gamma2 ≡ pos 261888) }
+    requires hint { All (λ x. InRange (pos 0) (pos 1) x.0) h.now }
+    requires range { All (λ x. Within 8380416 x.0) w.now }
+    ensures { (r n : ℕ) → r < K → n < 256 → slice_index_or (slice_index_or result r R0).0 n (pos 0) ≡ pos (use_hint (nat_abs gamma2) (is_one (slice_index_or h.now r R0) n) (vector_coefficients w.now r n)) }
+{
+    let mut out = [R0; K];
+    for r in 0..K {
+        out[r] = hinted_polynomial(gamma2, &h[r], &w[r]);
+    }
+    out
+}
+
+/// `hinted` of one polynomial.
+#[tactic(auto, unfolding(fips204_base::specs::HintSpelling::is_one))]
+fn hinted_polynomial(gamma2: i32, h: &R, w: &R) -> R
+    requires set { (gamma2 ≡ pos 95232) ⊎ (gamma2 ≡ pos 261888) }
+    requires hint { InRange (pos 0) (pos 1) h.now.0 }
+    requires range { Within 8380416 w.now.0 }
+    ensures { (n : ℕ) → n < 256 → slice_index_or result.0 n (pos 0) ≡ pos (use_hint (nat_abs gamma2) (is_one h.now n) (coefficients w.now.0 n)) }
+{
+    let mut out = [0; 256];
+    for n in 0..256 {
+        out[n] = use_hint(gamma2, h.0[n], w.0[n]);
+    }
+    R(out)
 }
