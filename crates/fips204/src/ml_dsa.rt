@@ -4,19 +4,21 @@
 ghost use Rattle.std.specs.Prelude.{◌≡◌, ◌≤◌, ◌<◌, ◌⊎◌, ◌+◌, ◌*◌, ◌++◌, ◌≤ℤ◌, pos, nat_abs, ℕ, ◌%◌, ◌-◌, ◌↔◌, IsTrue, slice_index_or, take};
 ghost use Rattle.std.specs.List.{All, flat_map};
 ghost use Rattle.fips204_base.specs.Packing.{InRange};
-ghost use Rattle.fips204_base.specs.Polynomials.{Within};
+ghost use Rattle.fips204_base.specs.Polynomials.{Within, AllWithin};
 ghost use Rattle.fips204_base.specs.HintSpelling.{is_one};
 ghost use Rattle.fips204_base.specs.Rounding.{use_hint};
 ghost use Rattle.fips204_base.specs.Residues.{residue, coefficients};
 ghost use Rattle.fips204_base.specs.CentredValues.{vector_norm};
-ghost use Rattle.fips204_base.specs.Vectors.{vector_coefficients};
+ghost use Rattle.fips204_base.specs.Vectors.{vector_coefficients, plain_matrix};
+ghost use Rattle.fips204_base.specs.Products.{minus, product, row_product};
 ghost use Rattle.fips204.specs.Acceptance.{raised};
 ghost use Rattle.fips204.specs.Keys.{IsPublicKeyOf, IsHighPart};
 
-use crate::types::{Params, PublicKey, R, R0};
+use crate::types::{Params, PublicKey, R, R0, T};
 use fips204_base::encodings::pk_decode;
 use fips204_base::helpers::infinity_norm;
 use fips204_base::high_low::use_hint;
+use fips204_base::product::matrix_times_vector_less;
 use fips204_base::xof::{Xof, XofReader};
 use std::marker::PhantomData;
 
@@ -150,4 +152,21 @@ fn hinted_polynomial(gamma2: i32, h: &R, w: &R) -> R
         out[n] = use_hint(gamma2, h.0[n], w.0[n]);
     }
     R(out)
+}
+
+/// `A z - c t1 2^13`, with coefficients from 0 to `q - 1`.
+fn verified<const K: usize, const L: usize>(
+    a_hat: &[[T; L]; K],
+    t1: &[R; K],
+    z: &[R; L],
+    c: &R,
+) -> [R; K]
+    requires columns { L ≤ 7 }
+    requires matrix { All (AllWithin 8380416) a_hat.now }
+    requires high { IsHighPart K t1.now }
+    requires response { All (λ p. Within 8380416 p.0) z.now }
+    requires challenge { Within 8380416 c.now.0 }
+    ensures { (r n : ℕ) → r < K → n < 256 → slice_index_or (slice_index_or result r R0).0 n (pos 0) ≡ pos (minus (row_product L (plain_matrix a_hat.now r) (vector_coefficients z.now)) (product (coefficients c.now.0) (raised t1.now r)) n) }
+{
+    matrix_times_vector_less(a_hat, z, c, &raised(t1))
 }
