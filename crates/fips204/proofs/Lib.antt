@@ -1,3 +1,4 @@
 mod WorkedSets
 mod FirstAnswers
 mod WorkedMessages
+mod Rows

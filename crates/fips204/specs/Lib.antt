@@ -1,4 +1,5 @@
 pub mod ParameterSets
+pub mod Sets
 pub mod Keys
 pub mod KeyGeneration
 pub mod Attempts

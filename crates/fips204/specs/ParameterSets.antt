@@ -1,5 +1,5 @@
 -- The parameter sets (FIPS 204, Tables 1 and 2).
-use Rattle.std.specs.Prelude.{ℕ, ◌+◌, ◌-◌, ◌*◌, ◌/◌, pos, Bool, ◌&&◌, ◌||◌, nat_eq}
+use Rattle.std.specs.Prelude.{ℕ, ◌+◌, ◌-◌, ◌*◌, ◌/◌, ℤ, pos, nat_abs, Bool, ◌&&◌, ◌||◌, nat_eq, int_le}
 use Rattle.fips204_base.specs.Packing.{width}
 
 -- the columns of Table 1; beta is tau eta
@@ -35,6 +35,28 @@ same_row p row =
 -- whether the numbers are those of one of the three sets
 abbrev pub is_row : ParameterSet → Bool
 is_row p = same_row p set_44 || same_row p set_65 || same_row p set_87
+
+-- the set with these numbers, where tau, gamma1, gamma2, eta, beta and omega stand in signed words
+abbrev pub row_of : ℤ → ℕ → ℤ → ℤ → ℕ → ℕ → ℤ → ℤ → ℤ → ParameterSet
+row_of tau lambda gamma1 gamma2 k l eta beta omega =
+    record {
+      tau = nat_abs tau;
+      lambda = lambda;
+      gamma1 = nat_abs gamma1;
+      gamma2 = nat_abs gamma2;
+      k = k;
+      l = l;
+      eta = nat_abs eta;
+      beta = nat_abs beta;
+      omega = nat_abs omega;
+    }
+
+-- whether these numbers are those of one of the three sets
+abbrev pub are_row : ℤ → ℕ → ℤ → ℤ → ℕ → ℕ → ℤ → ℤ → ℤ → Bool
+are_row tau lambda gamma1 gamma2 k l eta beta omega =
+    is_row (row_of tau lambda gamma1 gamma2 k l eta beta omega)
+    && int_le (pos 0) tau && int_le (pos 0) gamma1 && int_le (pos 0) gamma2
+    && int_le (pos 0) eta && int_le (pos 0) beta && int_le (pos 0) omega
 
 -- how many bytes a public key has
 abbrev pub public_key_length : ParameterSet → ℕ

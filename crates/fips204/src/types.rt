@@ -1,10 +1,74 @@
 //! Polynomials, and keys as values.
 #![tactic(auto)]
 
-ghost use Rattle.std.specs.Prelude.{◌≡◌};
+ghost use Rattle.std.specs.Prelude.{◌≡◌, IsTrue};
+ghost use Rattle.fips204.specs.ParameterSets.{are_row};
 
 pub use fips204_base::types::{R, R0, T, T0, Zq};
 use std::marker::{Model, PhantomData};
+
+/// The numbers of a parameter set (FIPS 204, Tables 1 and 2): one of the three rows.
+#[derive(Clone, Copy, Debug, PartialEq, Eq)]
+pub struct Params {
+    /// How many coefficients of a challenge are 1 or -1.
+    pub tau: i32,
+    /// The strength of a collision of `c_tilde`, which has `lambda / 4` bytes.
+    pub lambda: usize,
+    /// The range of a mask.
+    pub gamma1: i32,
+    /// The range of low parts.
+    pub gamma2: i32,
+    /// How many rows the matrix has.
+    pub k: usize,
+    /// How many columns the matrix has.
+    pub l: usize,
+    /// The range of a private key.
+    pub eta: i32,
+    /// `tau eta`.
+    pub beta: i32,
+    /// The largest number of ones in a hint.
+    pub omega: i32,
+    ghost known: { IsTrue (are_row tau lambda gamma1 gamma2 k l eta beta omega) },
+}
+
+/// The numbers of ML-DSA-44.
+pub const ML_DSA_44: Params = Params {
+    tau: 39,
+    lambda: 128,
+    gamma1: 131_072,
+    gamma2: 95_232,
+    k: 4,
+    l: 4,
+    eta: 2,
+    beta: 78,
+    omega: 80,
+};
+
+/// The numbers of ML-DSA-65.
+pub const ML_DSA_65: Params = Params {
+    tau: 49,
+    lambda: 192,
+    gamma1: 524_288,
+    gamma2: 261_888,
+    k: 6,
+    l: 5,
+    eta: 4,
+    beta: 196,
+    omega: 55,
+};
+
+/// The numbers of ML-DSA-87.
+pub const ML_DSA_87: Params = Params {
+    tau: 60,
+    lambda: 256,
+    gamma1: 524_288,
+    gamma2: 261_888,
+    k: 8,
+    l: 7,
+    eta: 2,
+    beta: 120,
+    omega: 75,
+};
 
 /// A public key of a set with a matrix of `K` rows and `L` columns, over the streams `H` and `G`.
 ///
