@@ -1,5 +1,4 @@
-use Rattle.std.proofs.Common.{ℤ, ◌≤◌, nat_abs, pos, replicate, rules, arith, length-set, ◌∙◌}
-use Rattle.std.proofs.lemmas.Int.{ints}
+use Rattle.std.proofs.Common.{ℤ, ◌≤◌, nat_abs, pos, rules, arith, length-set, ◌∙◌}
 use Rattle.std.proofs.lemmas.List.Elements.{All-set, All-replicate}
 use Rattle.mldsa_bench.proofs.arithmetic.scattered.Goals as goal
 
