@@ -3,6 +3,7 @@ use Rattle.std.proofs.Common.{◌≡◌, [], ◌∷◌, refl, map, length, Some,
 use Rattle.std.specs.Prelude.{replicate}
 use Rattle.std.specs.List.{range_with_len}
 use Rattle.fips204_base.specs.declared.fault.Fault.TheVariants.{SignCtx, HashCtx, OidEmpty, OidNotDer, DigestTooLong, DigestLength}
+use Rattle.fips204.specs.declared.types.pre_hash.TheConstants.{SHA2_224, SHA2_256, SHA2_384, SHA2_512, SHA2_512_224, SHA2_512_256, SHA3_224, SHA3_256, SHA3_384, SHA3_512, SHAKE_128, SHAKE_256}
 use Rattle.fips204.specs.Framing.{framed, framed_digest}
 use Rattle.fips204.specs.PreHash.{hash_oid, hashes, digest_length, pre_hash_fault}
 use Rattle.fips204.specs.Refusals.{message_fault, digest_fault}
@@ -25,11 +26,26 @@ digest_lengths : map (λ n. digest_length (hash_oid n)) (range_with_len 0 14)
 unfolding digest_length hashes
 digest_lengths = refl
 
+-- the constants of the program, by last byte
+oids_by_name : SHA2_256 ∷ SHA2_384 ∷ SHA2_512 ∷ SHA2_224 ∷ SHA2_512_224 ∷ SHA2_512_256 ∷ SHA3_224 ∷ SHA3_256 ∷ SHA3_384 ∷ SHA3_512 ∷ SHAKE_128 ∷ SHAKE_256 ∷ []
+    ≡ map hash_oid (range_with_len 1 12)
+oids_by_name = refl
+
 -- an empty OID; four that aren't DER, the last cut short
 bad_oids : map (pre_hash_fault (replicate 32 0)) ([] ∷ (0xFF ∷ []) ∷ (0x06 ∷ []) ∷ (0x06 ∷ 0x00 ∷ []) ∷ (0x04 ∷ 0x01 ∷ 0x00 ∷ []) ∷ (0x06 ∷ 0x09 ∷ 0x60 ∷ 0x86 ∷ 0x48 ∷ 0x01 ∷ 0x65 ∷ 0x03 ∷ 0x04 ∷ 0x02 ∷ []) ∷ [])
     ≡ Some OidEmpty ∷ Some OidNotDer ∷ Some OidNotDer ∷ Some OidNotDer ∷ Some OidNotDer ∷ Some OidNotDer ∷ []
 unfolding pre_hash_fault digest_length hashes
 bad_oids = refl
+
+-- the shortest OID and the longest; one byte more, and the second byte no longer is a length
+oids_at_the_edges : map (pre_hash_fault []) ((0x06 ∷ 0x01 ∷ 0x00 ∷ []) ∷ (0x06 ∷ 0x7F ∷ replicate 127 1) ∷ (0x06 ∷ 0x80 ∷ replicate 128 1) ∷ []) ≡ None ∷ None ∷ Some OidNotDer ∷ []
+unfolding pre_hash_fault digest_length hashes
+oids_at_the_edges = refl
+
+-- a second byte that is one less or one more than the number of bytes after it
+other_lengths : map (pre_hash_fault []) ((0x06 ∷ 0x02 ∷ 0x2A ∷ 0x03 ∷ 0x04 ∷ []) ∷ (0x06 ∷ 0x03 ∷ 0x2A ∷ 0x03 ∷ 0x04 ∷ []) ∷ (0x06 ∷ 0x04 ∷ 0x2A ∷ 0x03 ∷ 0x04 ∷ []) ∷ []) ≡ Some OidNotDer ∷ None ∷ Some OidNotDer ∷ []
+unfolding pre_hash_fault digest_length hashes
+other_lengths = refl
 
 -- under SHA2-256 a digest of 1025 bytes is too long before it has another length
 digests_of_sha2_256 : map (λ n. pre_hash_fault (replicate n 0) (hash_oid 1)) (0 ∷ 31 ∷ 32 ∷ 33 ∷ 1024 ∷ 1025 ∷ [])

@@ -8,6 +8,8 @@ pub mod Acceptance
 pub mod Framing
 pub mod PreHash
 pub mod Refusals
+pub mod MessageLaws
+pub mod SchemeLaws
 pub use Rattle.fips204_base.specs.Blocks
 pub use Rattle.fips204_base.specs.CentredValues
 pub use Rattle.fips204_base.specs.Challenge
@@ -32,3 +34,4 @@ pub use Rattle.fips204_base.specs.SmallPolynomial
 pub use Rattle.fips204_base.specs.Streams
 pub use Rattle.fips204_base.specs.Transforms
 pub use Rattle.fips204_base.specs.Vectors
+pub use Rattle.fips204_base.specs.declared.fault

@@ -20,6 +20,12 @@ first_answer (limit ∷ later) = Err SamplingLimit
 first_answer (rejected ∷ later) = first_answer later
 first_answer (signed signature ∷ later) = Ok signature
 
+-- an attempt as an answer: a refusal, none where it is rejected, or its signature
+unfoldable pub attempt_answer : Attempt → Result (Option (List ℕ)) Fault
+attempt_answer limit = Err SamplingLimit
+attempt_answer rejected = Ok None
+attempt_answer (signed signature) = Ok (Some signature)
+
 -- rho'', the seed of the masks
 abbrev pub mask_seed : (List ℕ → List ℕ) → PrivateParts → List ℕ → List ℕ → List ℕ
 mask_seed H sk rnd mu = take 64 (H (sk.key ++ rnd ++ mu))

@@ -1,10 +1,13 @@
-//! The laws by which transforms compute products of polynomials (FIPS 204, section 2.5).
+//! Facts of the definitions that users rest on. A call of one of these functions computes nothing and
+//! gives its caller the law.
 //!
-//! Polynomials are functions from a place to a residue modulo `q`; a call of one of these functions
-//! computes nothing and gives its caller the law.
+//! In the laws of transforms (FIPS 204, section 2.5) polynomials are functions from a place to a residue
+//! modulo `q`.
 #![tactic(auto)]
 
 ghost use Rattle.fips204_base.specs.Laws.{ProductOfTransforms, InverseOfTransform};
+ghost use Rattle.fips204.specs.MessageLaws.{FramingIsOneToOne, SignatureBindsMessage};
+ghost use Rattle.fips204.specs.SchemeLaws.{HintGivesHighBits, HintStaysNear, HighBitsStay, ChallengeProductIsSmall, SignatureHasOneSpelling, HintHasOneSpelling};
 
 /// The inverse transform of the product of two transforms, value by value, is the product of the two
 /// polynomials modulo `X^256 + 1` and modulo `q`.
@@ -15,4 +18,51 @@ pub fn product_of_transforms()
 /// The inverse transform undoes the transform, and the transform undoes its inverse, modulo `q`.
 pub fn inverse_of_transform()
     ensures { InverseOfTransform }
+{}
+
+/// `UseHint(MakeHint(z, r), r)` is `HighBits(r + z)`, for residues `r` and `z` where the centred value of `z`
+/// is at most gamma2 in absolute value.
+pub fn use_hint_of_make_hint()
+    ensures { HintGivesHighBits }
+{}
+
+/// The centred value of `r - 2 gamma2 UseHint(h, r)` is at most gamma2 in absolute value where `h` is 0, and
+/// at most 2 gamma2 + 1 where it is 1.
+pub fn use_hint_distance()
+    ensures { HintStaysNear }
+{}
+
+/// `HighBits(r + s)` is `HighBits(r)`, for residues `r` and `s` where the centred value of `s` is at most beta in
+/// absolute value, and `LowBits(r)` is below gamma2 - beta.
+pub fn high_bits_stay()
+    ensures { HighBitsStay }
+{}
+
+/// The norm of `c s` is at most tau eta, for a challenge `c` and a polynomial `s` whose norm is at most eta.
+pub fn challenge_product_bound()
+    ensures { ChallengeProductIsSmall }
+{}
+
+/// Two signatures that decode to the same commitment, response and hint are the same bytes.
+pub fn signature_spelling()
+    ensures { SignatureHasOneSpelling }
+{}
+
+/// Each hint with at most omega ones has exactly one spelling, and no bytes spell two hints.
+pub fn hint_spelling()
+    ensures { HintHasOneSpelling }
+{}
+
+/// What is signed determines its framed message, and the framed message what is signed: two inputs that
+/// break no condition on context, object identifier and digest have equal framed messages only if their
+/// modes, their contexts and their messages are equal, or their modes, contexts, identifiers and digests.
+pub fn framing()
+    ensures { FramingIsOneToOne }
+{}
+
+/// A signature binds its message as firmly as the stream `H` has no collisions: where one public key
+/// accepts one signature for two framed messages that differ, either these collide in the 64 bytes of mu,
+/// or the two values of mu collide, before the one encoded `w1`, in the bytes of `c_tilde`.
+pub fn binding()
+    ensures { SignatureBindsMessage }
 {}

@@ -16,3 +16,7 @@ pub mod types;
 pub use fips204_base::{
     D, Fault, Q, ZETA, conversion, encodings, fault, hashing, helpers, high_low, ntt, product, xof,
 };
+pub use ml_dsa::MAX_SIGN_ATTEMPTS;
+pub use traits::RngError;
+pub use types::pre_hash;
+pub use types::pre_hash::{MAX_PREHASH_LEN, check_pre_hash};

@@ -1,16 +1,29 @@
-//! ML-DSA-87.
-#![tactic(auto)]
+//! ML-DSA-87 (FIPS 204, Table 1).
+#![tactic(auto, unfolding(fips204_base::specs::Packing::bit_length))]
 
-ghost use Rattle.std.specs.Prelude.{◌≡◌};
+ghost use Rattle.std.specs.Prelude.{◌↔◌, IsTrue};
+ghost use Rattle.fips204.specs.Acceptance.{Verifies};
+ghost use Rattle.fips204.specs.Framing.{message_hash};
+ghost use Rattle.fips204.specs.ParameterSets.{set_87};
+ghost use Rattle.fips204.specs.Refusals.{generated, Draws, DrawsIf};
+ghost use Rattle.fips204.specs.Signing.{sign};
 
-use crate::traits::SerDes;
-use crate::{ml_dsa, types};
+use crate::ml_dsa;
+use crate::traits::{CryptoRngCore, KeyGen, SerDes, Signer, Verifier, draw};
+use crate::types::{self, ML_DSA_87};
 use fips204_base::Fault;
-use fips204_base::encodings::pk_encode;
+use fips204_base::encodings::{pk_encode, sk_encode};
 use fips204_base::xof::Xof;
+use std::marker::PhantomData;
+
+/// How many bytes a private key has (FIPS 204, Table 2).
+pub const SK_LEN: usize = 4896;
 
 /// How many bytes a public key has (FIPS 204, Table 2).
 pub const PK_LEN: usize = 2592;
+
+/// How many bytes a signature has (FIPS 204, Table 2).
+pub const SIG_LEN: usize = 4627;
 
 /// How many rows the matrix has (FIPS 204, Table 1).
 const K: usize = 8;
@@ -18,8 +31,193 @@ const K: usize = 8;
 /// How many columns the matrix has (FIPS 204, Table 1).
 const L: usize = 7;
 
+/// How many bytes `c_tilde` has: `lambda / 4`.
+const LAMBDA_DIV4: usize = 64;
+
+/// A private key.
+pub type PrivateKey<H, G> = types::PrivateKey<K, L, H, G>;
+
 /// A public key.
 pub type PublicKey<H, G> = types::PublicKey<K, L, H, G>;
+
+/// Key generation.
+pub struct KG<H, G> {
+    streams: PhantomData<(H, G)>,
+}
+
+/// Both keys of 32 bytes that the generator is asked for once, as `KeyGen::try_keygen_with_rng`.
+pub fn try_keygen_with_rng<H: Xof, G: Xof, R: CryptoRngCore>(
+    rng: &mut R,
+) -> Result<(PublicKey<H, G>, PrivateKey<H, G>), Fault>
+    ensures { Draws R.gives R.refuses rng.old rng.new Fault.KeyGenRng (generated set_87 H.front G.front) result }
+{
+    KG::<H, G>::try_keygen_with_rng(rng)
+}
+
+impl<H: Xof, G: Xof> KeyGen for KG<H, G> {
+    ghost use Rattle.fips204.specs.ParameterSets.{set_87};
+    ghost use Rattle.fips204.specs.Refusals.{generated};
+
+    type PublicKey = PublicKey<H, G>;
+
+    type PrivateKey = PrivateKey<H, G>;
+
+    ghost generated = { generated set_87 H.front G.front };
+
+    fn keygen_from_seed(xi: &[u8; 32]) -> Result<(PublicKey<H, G>, PrivateKey<H, G>), Fault> {
+        ml_dsa::key_gen_internal::<K, L, PK_LEN, H, G>(&ML_DSA_87, xi)
+    }
+}
+
+impl<H: Xof, G: Xof> Signer for PrivateKey<H, G> {
+    ghost use Rattle.fips204.specs.ParameterSets.{set_87};
+    ghost use Rattle.fips204.specs.Refusals.{sign_message, sign_digest, derived};
+
+    type Signature = [u8; SIG_LEN];
+
+    type PublicKey = PublicKey<H, G>;
+
+    ghost signs = { sign_message set_87 H.front G.front };
+
+    ghost signs_digest = { sign_digest set_87 H.front G.front };
+
+    ghost derives = { derived set_87 G.front };
+
+    fn try_sign_with_seed(
+        &self,
+        seed: &[u8; 32],
+        message: &[u8],
+        ctx: &[u8],
+    ) -> Result<[u8; SIG_LEN], Fault> {
+        ml_dsa::sign_message::<K, L, LAMBDA_DIV4, SIG_LEN, H, G>(
+            &ML_DSA_87, self, seed, message, ctx,
+        )
+    }
+
+    fn try_hash_sign_with_seed(
+        &self,
+        seed: &[u8; 32],
+        hash: &[u8],
+        ctx: &[u8],
+        hash_oid: &[u8],
+    ) -> Result<[u8; SIG_LEN], Fault> {
+        ml_dsa::sign_digest::<K, L, LAMBDA_DIV4, SIG_LEN, H, G>(
+            &ML_DSA_87, self, seed, hash, ctx, hash_oid,
+        )
+    }
+
+    fn get_public_key(&self) -> Result<PublicKey<H, G>, Fault> {
+        ml_dsa::private_to_public_key::<K, L, H, G>(&ML_DSA_87, self)
+    }
+}
+
+impl<H: Xof, G: Xof> Verifier for PublicKey<H, G> {
+    ghost use Rattle.fips204.specs.ParameterSets.{set_87};
+    ghost use Rattle.fips204.specs.Refusals.{VerifiesMessage, VerifiesDigest};
+
+    type Signature = [u8; SIG_LEN];
+
+    ghost accepts = { VerifiesMessage set_87 H.front G.front };
+
+    ghost accepts_digest = { VerifiesDigest set_87 H.front G.front };
+
+    fn verify(&self, message: &[u8], signature: &[u8; SIG_LEN], ctx: &[u8]) -> bool {
+        ml_dsa::verify_message::<K, L, LAMBDA_DIV4, SIG_LEN, H, G>(
+            &ML_DSA_87, self, message, signature, ctx,
+        )
+    }
+
+    fn hash_verify(
+        &self,
+        hash: &[u8],
+        signature: &[u8; SIG_LEN],
+        ctx: &[u8],
+        hash_oid: &[u8],
+    ) -> bool {
+        ml_dsa::verify_digest::<K, L, LAMBDA_DIV4, SIG_LEN, H, G>(
+            &ML_DSA_87, self, hash, signature, ctx, hash_oid,
+        )
+    }
+}
+
+impl<H: Xof, G: Xof> PrivateKey<H, G> {
+    /// Signs a framed message `m` (Algorithm 7). With `hedged` the generator is asked once for the 32
+    /// random bytes, and `Fault::InternalRng` stands for its refusal; without, they are zeros and it is
+    /// not asked.
+    pub fn sign_internal<R: CryptoRngCore>(
+        &self,
+        rng: &mut R,
+        m: &[u8],
+        hedged: bool,
+    ) -> Result<[u8; SIG_LEN], Fault>
+        ensures { DrawsIf hedged R.gives R.refuses rng.old rng.new Fault.InternalRng (sign set_87 H.front G.front self.now (message_hash H.front self.now.tr m.now)) result }
+    {
+        self.sign_mu(rng, &ml_dsa::mu::<H>(&[&self.tr, m]), hedged)
+    }
+
+    /// Signs the hash `mu` of a framed message; the random bytes are those of `sign_internal`.
+    pub fn sign_mu<R: CryptoRngCore>(
+        &self,
+        rng: &mut R,
+        mu: &[u8; 64],
+        hedged: bool,
+    ) -> Result<[u8; SIG_LEN], Fault>
+        ensures { DrawsIf hedged R.gives R.refuses rng.old rng.new Fault.InternalRng (sign set_87 H.front G.front self.now mu.now) result }
+    {
+        let rnd = if hedged {
+            draw(rng, Fault::InternalRng)?
+        } else {
+            [0; 32]
+        };
+        ml_dsa::sign_internal::<K, L, LAMBDA_DIV4, SIG_LEN, H, G>(&ML_DSA_87, self, mu, &rnd)
+    }
+}
+
+impl<H: Xof, G: Xof> PublicKey<H, G> {
+    /// Whether the signature of a framed message `m` is accepted (Algorithm 8).
+    pub fn verify_internal(&self, m: &[u8], sig: &[u8; SIG_LEN]) -> bool
+        ensures { IsTrue result ↔ Verifies set_87 H.front G.front self.now (message_hash H.front self.now.tr m.now) sig.now }
+    {
+        self.verify_mu(&ml_dsa::mu::<H>(&[&self.tr, m]), sig)
+    }
+
+    /// Whether the signature of the hash `mu` of a framed message is accepted.
+    pub fn verify_mu(&self, mu: &[u8; 64], sig: &[u8; SIG_LEN]) -> bool
+        ensures { IsTrue result ↔ Verifies set_87 H.front G.front self.now mu.now sig.now }
+    {
+        ml_dsa::verify_internal::<K, L, LAMBDA_DIV4, SIG_LEN, H, G>(&ML_DSA_87, self, mu, sig)
+    }
+}
+
+impl<H: Xof, G: Xof> SerDes for PrivateKey<H, G> {
+    ghost use Rattle.fips204.specs.Keys.{DecodesPrivate};
+    ghost use Rattle.fips204_base.specs.Encodings.{private_key_bytes};
+
+    type ByteArray = [u8; SK_LEN];
+
+    ghost bytes_of = { λ key. private_key_bytes 2 key.rho key.key key.tr key.s1 key.s2 key.t0 };
+
+    ghost decodes = { DecodesPrivate 2 8 7 };
+
+    ghost restored = { λ bytes key decoded. decoded.encoding };
+
+    fn into_bytes(self) -> [u8; SK_LEN] {
+        sk_encode(
+            ML_DSA_87.eta,
+            &self.rho,
+            &self.key,
+            &self.tr,
+            &self.s1,
+            &self.s2,
+            &self.t0,
+        )
+    }
+
+    /// Refuses with `Fault::KeyRange` where a field of s1 or s2 is above `2 eta`.
+    fn try_from_bytes(ba: [u8; SK_LEN]) -> Result<PrivateKey<H, G>, Fault> {
+        ml_dsa::expand_private(&ML_DSA_87, &ba)
+    }
+}
 
 impl<H: Xof, G: Xof> SerDes for PublicKey<H, G> {
     ghost use Rattle.std.specs.Prelude.{MatchResult};

@@ -1,9 +1,207 @@
 //! What every parameter set offers.
 #![tactic(auto)]
 
-ghost use Rattle.std.specs.Prelude.{◌≡◌};
+ghost use Rattle.std.specs.Prelude.{◌≡◌, ◌≢◌, ◌↔◌, ℕ, List, length, IsTrue, MatchResult};
 
+use crate::types::pre_hash::check_pre_hash;
 use fips204_base::Fault;
+
+/// The refusal of a generator.
+#[derive(Debug, Clone, Copy, PartialEq, Eq)]
+pub struct RngError;
+
+/// A generator of random bytes.
+pub trait CryptoRngCore {
+    // A call, asked for so many bytes, may give these bytes and leave the generator so.
+    ghost gives: { Self → ℕ → List ℕ → Self → Type 0 };
+
+    // A call, asked for so many bytes, may refuse and leave the generator so.
+    ghost refuses: { Self → ℕ → Self → Type 0 };
+
+    /// Fills `out` with random bytes, or refuses.
+    fn try_fill_bytes(&mut self, out: &mut [u8]) -> Result<(), RngError>
+        ensures { MatchResult result (λ _. gives self.old (length out.old) out.new self.new) (λ _. refuses self.old (length out.old) self.new) };
+}
+
+/// The generator of one seed: it gives these 32 bytes to each call that asks for 32, and refuses every
+/// other, leaving `out` as it was.
+pub struct DummyRng {
+    /// The bytes.
+    pub bytes: [u8; 32],
+}
+
+impl CryptoRngCore for DummyRng {
+    ghost gives = { λ before asked bytes after. (asked ≡ 32) × (bytes ≡ before.bytes) × (after ≡ before) };
+
+    ghost refuses = { λ before asked after. (asked ≢ 32) × (after ≡ before) };
+
+    fn try_fill_bytes(&mut self, out: &mut [u8]) -> Result<(), RngError>
+        ensures answer { MatchResult result (λ _. (length out.old ≡ 32) × (out.new ≡ self.old.bytes) × (self.new ≡ self.old)) (λ _. (length out.old ≢ 32) × (self.new ≡ self.old)) }
+        ensures untouched { (length out.old ≢ 32) → out.new ≡ out.old }
+    {
+        if out.len() != 32 {
+            return Err(RngError);
+        }
+        out.copy_from_slice(&self.bytes);
+        Ok(())
+    }
+}
+
+/// 32 bytes that the generator is asked for once, or the refusal that stands for its own.
+pub(crate) fn draw<R: CryptoRngCore>(rng: &mut R, refusal: Fault) -> Result<[u8; 32], Fault>
+    ensures { MatchResult result (λ bytes. R.gives rng.old 32 bytes rng.new) (λ fault. (fault ≡ refusal) × R.refuses rng.old 32 rng.new) }
+{
+    let mut bytes = [0u8; 32];
+    match rng.try_fill_bytes(&mut bytes) {
+        Ok(()) => Ok(bytes),
+        Err(_) => Err(refusal),
+    }
+}
+
+/// Making keys (FIPS 204, Algorithm 1).
+pub trait KeyGen {
+    ghost use Rattle.std.specs.Prelude.{◌≡◌, ℕ, List, Result};
+    ghost use Rattle.fips204_base.specs.declared.fault.Fault.{Fault};
+    ghost use Rattle.fips204_base.specs.declared.fault.Fault.TheVariants.{KeyGenRng};
+    ghost use Rattle.fips204.specs.Refusals.{Draws};
+
+    /// The public key of a pair.
+    type PublicKey;
+
+    /// The private key of a pair.
+    type PrivateKey;
+
+    // Both keys of a seed, or the refusal.
+    ghost generated: { List ℕ → Result (Self.PublicKey × Self.PrivateKey) Fault };
+
+    /// Both keys of 32 bytes that the generator is asked for once. Refuses with `Fault::KeyGenRng` where
+    /// it refuses, and as `keygen_from_seed` does.
+    fn try_keygen_with_rng<R: CryptoRngCore>(
+        rng: &mut R,
+    ) -> Result<(Self::PublicKey, Self::PrivateKey), Fault>
+        ensures { Draws R.gives R.refuses rng.old rng.new KeyGenRng generated result }
+    {
+        Self::keygen_from_seed(&draw(rng, Fault::KeyGenRng)?)
+    }
+
+    /// Both keys of a seed. Refuses with `Fault::SamplingLimit` where a sampler passes its limit.
+    fn keygen_from_seed(xi: &[u8; 32]) -> Result<(Self::PublicKey, Self::PrivateKey), Fault>
+        ensures { result ≡ generated xi.now };
+}
+
+/// Signing (FIPS 204, Algorithms 2 and 4).
+pub trait Signer {
+    ghost use Rattle.std.specs.Prelude.{◌≡◌, ℕ, List, Result};
+    ghost use Rattle.fips204_base.specs.declared.fault.Fault.{Fault};
+    ghost use Rattle.fips204_base.specs.declared.fault.Fault.TheVariants.{SignRng, HashRng};
+    ghost use Rattle.fips204.specs.Refusals.{DrawsUnless, message_fault, digest_fault};
+
+    /// The array of a signature.
+    type Signature;
+
+    /// The public key of a pair.
+    type PublicKey;
+
+    // What signing answers for random bytes, a message and a context.
+    ghost signs: { Self → List ℕ → List ℕ → List ℕ → Result Self.Signature Fault };
+
+    // What pre-hash signing answers for random bytes, a digest, a context and an object identifier.
+    ghost signs_digest: { Self → List ℕ → List ℕ → List ℕ → List ℕ → Result Self.Signature Fault };
+
+    // The public key that belongs to the private one, or the refusal.
+    ghost derives: { Self → Result Self.PublicKey Fault };
+
+    /// Signs with 32 bytes that the generator is asked for once. Refuses with `Fault::SignCtx` a context
+    /// of more than 255 bytes, and does not ask then; with `Fault::SignRng` where the generator refuses;
+    /// and as `try_sign_with_seed` does.
+    fn try_sign_with_rng<R: CryptoRngCore>(
+        &self,
+        rng: &mut R,
+        message: &[u8],
+        ctx: &[u8],
+    ) -> Result<Self::Signature, Fault>
+        ensures { DrawsUnless (message_fault ctx.now) R.gives R.refuses rng.old rng.new SignRng (λ rnd. signs self.now rnd message.now ctx.now) result }
+    {
+        if ctx.len() > 255 {
+            return Err(Fault::SignCtx);
+        }
+        self.try_sign_with_seed(&draw(rng, Fault::SignRng)?, message, ctx)
+    }
+
+    /// Signs with these random bytes. Refuses with `Fault::SignCtx` a context of more than 255 bytes,
+    /// with `Fault::SamplingLimit` where a sampler passes its limit, and with `Fault::TooManyAttempts`
+    /// where all attempts are rejected.
+    fn try_sign_with_seed(
+        &self,
+        seed: &[u8; 32],
+        message: &[u8],
+        ctx: &[u8],
+    ) -> Result<Self::Signature, Fault>
+        ensures { result ≡ signs self.now seed.now message.now ctx.now };
+
+    /// Signs a digest with 32 bytes that the generator is asked for once. Refuses with `Fault::HashCtx`
+    /// a context of more than 255 bytes, then what `check_pre_hash` refuses, and does not ask then; with
+    /// `Fault::HashRng` where the generator refuses; and as `try_hash_sign_with_seed` does.
+    fn try_hash_sign_with_rng<R: CryptoRngCore>(
+        &self,
+        rng: &mut R,
+        hash: &[u8],
+        ctx: &[u8],
+        hash_oid: &[u8],
+    ) -> Result<Self::Signature, Fault>
+        ensures { DrawsUnless (digest_fault ctx.now hash_oid.now hash.now) R.gives R.refuses rng.old rng.new HashRng (λ rnd. signs_digest self.now rnd hash.now ctx.now hash_oid.now) result }
+    {
+        if ctx.len() > 255 {
+            return Err(Fault::HashCtx);
+        }
+        check_pre_hash(hash, hash_oid)?;
+        self.try_hash_sign_with_seed(&draw(rng, Fault::HashRng)?, hash, ctx, hash_oid)
+    }
+
+    /// Signs a digest with these random bytes. Refuses with `Fault::HashCtx` a context of more than 255
+    /// bytes, then what `check_pre_hash` refuses, and then as `try_sign_with_seed` does.
+    fn try_hash_sign_with_seed(
+        &self,
+        seed: &[u8; 32],
+        hash: &[u8],
+        ctx: &[u8],
+        hash_oid: &[u8],
+    ) -> Result<Self::Signature, Fault>
+        ensures { result ≡ signs_digest self.now seed.now hash.now ctx.now hash_oid.now };
+
+    /// The public key of the private key. Refuses with `Fault::SamplingLimit` where its matrix passes
+    /// its limit.
+    fn get_public_key(&self) -> Result<Self::PublicKey, Fault>
+        ensures { result ≡ derives self.now };
+}
+
+/// Verifying (FIPS 204, Algorithms 3 and 5).
+pub trait Verifier {
+    /// The array of a signature.
+    type Signature;
+
+    // Whether the key accepts a message, a signature and a context.
+    ghost accepts: { Self → List ℕ → Self.Signature → List ℕ → Type 0 };
+
+    // Whether the key accepts a digest, a signature, a context and an object identifier.
+    ghost accepts_digest: { Self → List ℕ → Self.Signature → List ℕ → List ℕ → Type 0 };
+
+    /// Whether the signature of a message and a context is accepted; false for a context of more than
+    /// 255 bytes.
+    fn verify(&self, message: &[u8], signature: &Self::Signature, ctx: &[u8]) -> bool
+        ensures { IsTrue result ↔ accepts self.now message.now signature.now ctx.now };
+
+    /// Whether the signature of a digest and a context is accepted; false for a context of more than 255
+    /// bytes, and for what `check_pre_hash` refuses.
+    fn hash_verify(
+        &self,
+        hash: &[u8],
+        signature: &Self::Signature,
+        ctx: &[u8],
+        hash_oid: &[u8],
+    ) -> bool
+        ensures { IsTrue result ↔ accepts_digest self.now hash.now signature.now ctx.now hash_oid.now };
+}
 
 /// Values that go through byte arrays of one length and back.
 pub trait SerDes: Sized {

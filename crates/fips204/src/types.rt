@@ -1,10 +1,13 @@
 //! Polynomials, and keys as values.
 #![tactic(auto)]
 
-ghost use Rattle.std.specs.Prelude.{◌≡◌, IsTrue};
+ghost use Rattle.std.specs.Prelude.{◌≡◌, ⊤, IsTrue};
 ghost use Rattle.fips204.specs.ParameterSets.{are_row};
 
+pub mod pre_hash;
+
 pub use fips204_base::types::{R, R0, T, T0, Zq};
+use std::alloc::AllocError;
 use std::marker::{Model, PhantomData};
 
 /// The numbers of a parameter set (FIPS 204, Tables 1 and 2): one of the three rows.
@@ -92,11 +95,72 @@ impl<const K: usize, const L: usize, H, G> Model for PublicKey<K, L, H, G> {
     ghost invariant = { λ key. IsHighPart K key.t1 };
 }
 
+impl<const K: usize, const L: usize, H, G> Clone for PublicKey<K, L, H, G> {
+    ghost is_clone = { λ x y. y ≡ x };
+
+    ghost is_infallible = { λ _. ⊤ };
+
+    /// The same key; this never refuses.
+    fn clone(&self) -> Result<Self, AllocError> {
+        Ok(PublicKey {
+            rho: self.rho,
+            tr: self.tr,
+            t1: self.t1,
+            streams: PhantomData,
+        })
+    }
+}
+
 impl<const K: usize, const L: usize, H, G> PublicKey<K, L, H, G> {
     /// The hash of the key's bytes, which signing and verifying put before the message.
     pub fn tr(&self) -> &[u8; 64]
         ensures { result.now ≡ self.now.tr }
     {
         &self.tr
+    }
+}
+
+/// A private key of a set with a matrix of `K` rows and `L` columns, over the streams `H` and `G`.
+///
+/// Contracts see it as its parts: the matrix's seed `rho`, the seed `key` of the masks, the hash `tr` of
+/// the public key's bytes, the vectors `s1` of `L` and `s2` of `K` polynomials with coefficients in
+/// `[-eta, eta]`, and `t0`, `K` polynomials with coefficients in `[-4095, 4096]`.
+#[derive(Drop)]
+pub struct PrivateKey<const K: usize, const L: usize, H, G> {
+    pub(crate) rho: [u8; 32],
+    pub(crate) key: [u8; 32],
+    pub(crate) tr: [u8; 64],
+    pub(crate) s1: [R; L],
+    pub(crate) s2: [R; K],
+    pub(crate) t0: [R; K],
+    pub(crate) streams: PhantomData<(H, G)>,
+}
+
+impl<const K: usize, const L: usize, H, G> Model for PrivateKey<K, L, H, G> {
+    ghost use Rattle.fips204.specs.Keys.{PrivateParts, ArePrivateParts};
+
+    ghost Value = { PrivateParts };
+
+    ghost view = { λ key. record { rho = key.rho; key = key.key; tr = key.tr; s1 = key.s1; s2 = key.s2; t0 = key.t0 } };
+
+    ghost invariant = { λ key. ArePrivateParts K L record { rho = key.rho; key = key.key; tr = key.tr; s1 = key.s1; s2 = key.s2; t0 = key.t0 } };
+}
+
+impl<const K: usize, const L: usize, H, G> Clone for PrivateKey<K, L, H, G> {
+    ghost is_clone = { λ x y. y ≡ x };
+
+    ghost is_infallible = { λ _. ⊤ };
+
+    /// The same key; this never refuses.
+    fn clone(&self) -> Result<Self, AllocError> {
+        Ok(PrivateKey {
+            rho: self.rho,
+            key: self.key,
+            tr: self.tr,
+            s1: self.s1,
+            s2: self.s2,
+            t0: self.t0,
+            streams: PhantomData,
+        })
     }
 }

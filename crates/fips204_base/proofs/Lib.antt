@@ -14,34 +14,34 @@ pub mod Backward
 pub mod Inverse
 pub mod Products
 pub mod Laws
-pub mod Worked
+mod Worked
 mod WorkedPolynomials
 mod WorkedRounding
 mod WorkedHints
 mod WorkedSamplers
-mod Samplings
-mod Masks
-mod Centring
-mod VectorsOf
-mod Challenges
-mod EncodedParts
+pub mod Samplings
+pub mod Masks
+pub mod Centring
+pub mod VectorsOf
+pub mod Challenges
+pub mod EncodedParts
 pub mod Reading
-mod Bits
-mod Fields
+pub mod Bits
+pub mod Fields
 pub mod HalfBytes
 pub mod Keeping
-mod Packings
-mod Pieces
+pub mod Packings
+pub mod Pieces
 pub mod Places
-mod PolynomialBytes
+pub mod PolynomialBytes
 pub mod Present
-mod PublicKeys
+pub mod PublicKeys
 pub mod Blocks
 pub mod Rows
 pub mod VectorBytes
 pub mod Signatures
-mod SignBits
-mod SmallPolynomials
+pub mod SignBits
+pub mod SmallPolynomials
 pub mod Triples
 pub mod Unpacking
 mod WorkedPacking

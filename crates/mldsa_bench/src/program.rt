@@ -28,9 +28,15 @@ fn words(
     Ok(words)
 }
 
-/// A run of `id` at set 44 on these bytes.
-fn id_44(alloc: Global, streams: &str, bytes: &[u8]) -> Result<Outcome, AllocError> {
-    let words = words(alloc, streams, "id", "44")?;
+/// A run on these bytes.
+fn run_of(
+    alloc: Global,
+    streams: &str,
+    command: &str,
+    set: &str,
+    bytes: &[u8],
+) -> Result<Outcome, AllocError> {
+    let words = words(alloc, streams, command, set)?;
     let mut input = Marked::new(bytes);
     let mut output = Marked::new(Vec::new(alloc));
     let answer = from_words(alloc, words.as_slice(), &mut input, &mut output);
@@ -39,6 +45,21 @@ fn id_44(alloc: Global, streams: &str, bytes: &[u8]) -> Result<Outcome, AllocErr
         written: output.into_device(),
         unread: input.into_device().len(),
     })
+}
+
+/// A run of `id` at set 44 on these bytes.
+fn id_44(alloc: Global, streams: &str, bytes: &[u8]) -> Result<Outcome, AllocError> {
+    run_of(alloc, streams, "id", "44", bytes)
+}
+
+/// Lines, each of so many copies of a digit.
+fn lines_of(alloc: Global, lines: &[(u8, usize)]) -> Result<Vec<u8>, AllocError> {
+    let mut bytes = Vec::new(alloc);
+    for (digit, digits) in lines {
+        let line = line_of(alloc, *digit, *digits)?;
+        bytes.extend_from_slice(line.as_slice())?;
+    }
+    Ok(bytes)
 }
 
 /// So many copies of a digit, then LF.
@@ -146,11 +167,103 @@ fn last_line_without_its_end(rt: HostRuntime) -> Result<(), Fail> {
 }
 
 #[test]
+fn seeds_that_are_none(rt: HostRuntime) -> Result<(), Fail> {
+    for (digits, fault) in [
+        (63usize, RunFault::NotHex { line: 1 }),
+        (
+            62,
+            RunFault::Length {
+                line: 1,
+                wants: 32,
+                has: 31,
+            },
+        ),
+    ] {
+        let line = line_of(rt.alloc(), b'0', digits)?;
+        let outcome = run_of(rt.alloc(), "fillff", "keygen", "65", line.as_slice())?;
+        assert_eq!(rt; outcome.answer, Err(fault));
+        assert!(rt; outcome.written.is_empty());
+    }
+    let outcome = run_of(rt.alloc(), "fillff", "keygen", "65", b"")?;
+    assert_eq!(rt; outcome.answer, Err(RunFault::Missing { line: 1 }));
+    Ok(())
+}
+
+#[test]
+fn keys_past_the_sampling_limit(rt: HostRuntime) -> Result<(), Fail> {
+    let line = line_of(rt.alloc(), b'0', 64)?;
+    for set in ["44", "65", "87"] {
+        let outcome = run_of(rt.alloc(), "fillff", "keygen", set, line.as_slice())?;
+        assert_eq!(rt; outcome.answer, Ok(false));
+        assert!(rt; outcome.written.as_slice() == b"sampling limit reached\n".as_slice());
+    }
+    Ok(())
+}
+
+#[test]
+fn refusals_of_signing_in_order(rt: HostRuntime) -> Result<(), Fail> {
+    for (digit, text) in [
+        (b'f', b"Alg 25: s1 or s2 out of range\n".as_slice()),
+        (b'0', b"ML-DSA.Sign: ctx too long\n".as_slice()),
+    ] {
+        let bytes = lines_of(
+            rt.alloc(),
+            &[(digit, 5120), (b'0', 64), (b'0', 512), (b'0', 2)],
+        )?;
+        let outcome = run_of(rt.alloc(), "fill55", "sign", "44", bytes.as_slice())?;
+        assert_eq!(rt; outcome.answer, Ok(false));
+        assert!(rt; outcome.written.as_slice() == text);
+    }
+    Ok(())
+}
+
+#[test]
+fn faults_of_lines_before_refusals_of_signing(rt: HostRuntime) -> Result<(), Fail> {
+    let bytes = lines_of(rt.alloc(), &[(b'f', 5120), (b'0', 64), (b'0', 512)])?;
+    let outcome = run_of(rt.alloc(), "fill55", "sign", "44", bytes.as_slice())?;
+    assert_eq!(rt; outcome.answer, Err(RunFault::Missing { line: 4 }));
+    assert!(rt; outcome.written.is_empty());
+    Ok(())
+}
+
+#[test]
+fn signatures_of_another_length(rt: HostRuntime) -> Result<(), Fail> {
+    let bytes = lines_of(
+        rt.alloc(),
+        &[(b'0', 2624), (b'0', 4838), (b'0', 0), (b'0', 2)],
+    )?;
+    let outcome = run_of(rt.alloc(), "fill55", "verify", "44", bytes.as_slice())?;
+    let fault = RunFault::Length {
+        line: 2,
+        wants: 2420,
+        has: 2419,
+    };
+    assert_eq!(rt; outcome.answer, Err(fault));
+    assert!(rt; outcome.written.is_empty());
+    Ok(())
+}
+
+#[test]
+fn signature_over_a_key_without_matrix(rt: HostRuntime) -> Result<(), Fail> {
+    let bytes = lines_of(
+        rt.alloc(),
+        &[(b'0', 2624), (b'0', 4840), (b'0', 0), (b'0', 0), (b'0', 2)],
+    )?;
+    let outcome = run_of(rt.alloc(), "fillff", "verify", "44", bytes.as_slice())?;
+    assert_eq!(rt; outcome.answer, Ok(false));
+    assert!(rt; outcome.written.as_slice() == b"no\n".as_slice());
+    assert_eq!(rt; outcome.unread, 3);
+    Ok(())
+}
+
+#[test]
 fn words_that_are_no_call(rt: HostRuntime) -> Result<(), Fail> {
     for (streams, command, set) in [
         ("fill55", "id", "45"),
         ("FILL55", "id", "44"),
         ("fill55", "ID", "44"),
+        ("fillff", "Sign", "65"),
+        ("fillff", "keygen", ""),
         ("fill55 ", "id", "44"),
         ("", "", ""),
         ("44", "id", "fill55"),
@@ -194,14 +307,14 @@ fn texts_of_faults(rt: HostRuntime) -> Result<(), Fail> {
     Ok(())
 }
 
-/// A run of `id` at set 44 over devices that fail at these calls.
-fn id_44_failing(
+/// A run over devices that fail at these calls.
+fn failing(
     alloc: Global,
+    words: &[String],
     bytes: &[u8],
     read_fails: usize,
     write_fails: usize,
 ) -> Result<(Result<bool, RunFault>, Vec<u8>), AllocError> {
-    let words = words(alloc, "fill55", "id", "44")?;
     let mut input = Marked::new(Trickle {
         bytes,
         fails_at: read_fails,
@@ -210,26 +323,39 @@ fn id_44_failing(
         taken: Vec::new(alloc),
         fails_at: write_fails,
     });
-    let answer = from_words(alloc, words.as_slice(), &mut input, &mut output);
+    let answer = from_words(alloc, words, &mut input, &mut output);
     let Drip { taken, fails_at: _ } = output.into_device();
     Ok((answer, taken))
 }
 
 #[test]
 fn devices_that_fail(rt: HostRuntime) -> Result<(), Fail> {
+    let words = words(rt.alloc(), "fill55", "id", "44")?;
     let line = line_of(rt.alloc(), b'0', 2624)?;
     for call in [0usize, 1, 2, 1312, 2623, 2624] {
-        let (answer, taken) = id_44_failing(rt.alloc(), line.as_slice(), call, 10000)?;
+        let (answer, taken) = failing(rt.alloc(), words.as_slice(), line.as_slice(), call, 10000)?;
         assert_eq!(rt; answer, Err(RunFault::Read));
         assert!(rt; taken.is_empty());
     }
     for call in [0usize, 1, 2624, 2625, 2626, 2753] {
-        let (answer, taken) = id_44_failing(rt.alloc(), line.as_slice(), 10000, call)?;
+        let (answer, taken) = failing(rt.alloc(), words.as_slice(), line.as_slice(), 10000, call)?;
         assert_eq!(rt; answer, Err(RunFault::Write));
         assert_eq!(rt; taken.len(), call);
     }
-    let (answer, taken) = id_44_failing(rt.alloc(), line.as_slice(), 2625, 2754)?;
+    let (answer, taken) = failing(rt.alloc(), words.as_slice(), line.as_slice(), 2625, 2754)?;
     assert_eq!(rt; answer, Ok(true));
     assert_eq!(rt; taken.len(), 2754);
+    Ok(())
+}
+
+#[test]
+fn writer_that_fails_at_a_refusal(rt: HostRuntime) -> Result<(), Fail> {
+    let words = words(rt.alloc(), "fillff", "keygen", "65")?;
+    let line = line_of(rt.alloc(), b'0', 64)?;
+    for call in [0usize, 1, 22] {
+        let (answer, taken) = failing(rt.alloc(), words.as_slice(), line.as_slice(), 100, call)?;
+        assert_eq!(rt; answer, Err(RunFault::Write));
+        assert_eq!(rt; taken.len(), call);
+    }
     Ok(())
 }

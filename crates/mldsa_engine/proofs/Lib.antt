@@ -1,4 +1,5 @@
+pub mod Counted
 pub mod Endings
 pub mod Judging
 pub mod Joining
-pub mod Identity
+pub mod Lengths

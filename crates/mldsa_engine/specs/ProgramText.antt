@@ -1,40 +1,94 @@
 -- The program's text: what a run answers and writes, by what its input spells.
-use Rattle.std.specs.Prelude.{◌≡◌, ℕ, Bool, true, List, [], ◌∷◌, ◌++◌, take, Option, Some}
+use Rattle.std.specs.Prelude.{◌≡◌, ◌↔◌, ℕ, Bool, true, false, IsTrue, List, [], ◌∷◌, ◌++◌, map, take, codes, Option, Some, None, Result, Ok, Err, MatchResult}
 use Rattle.std.specs.List.{flat_map}
 use Rattle.std.specs.Io.KnownBytes.{Appends}
 use Rattle.hex.specs.Hex.{encode_lower}
+use Rattle.fips204.specs.fault.Fault.{Fault}
+use Rattle.fips204.specs.Encodings.{public_key_bytes, private_key_bytes}
+use Rattle.fips204.specs.Faults.{words}
+use Rattle.fips204.specs.Keys.{PublicParts, IsPublicKeyOf, DecodesPrivate}
+use Rattle.fips204.specs.ParameterSets.{ParameterSet, set_44, set_65, set_87, public_key_length, private_key_length, signature_length}
+use Rattle.fips204.specs.Refusals.{generated, sign_message, VerifiesMessage}
 use Rattle.mldsa_engine.specs.Lines.{TakesLines}
 use Rattle.mldsa_engine.specs.declared.call.Task.{Task}
-use Rattle.mldsa_engine.specs.declared.call.Task.TheVariants.{Id}
+use Rattle.mldsa_engine.specs.declared.call.Task.TheVariants.{Id, Keygen, Sign, Verify}
 use Rattle.mldsa_engine.specs.declared.call.SetName.{SetName}
 use Rattle.mldsa_engine.specs.declared.call.SetName.TheVariants.{MlDsa44, MlDsa65, MlDsa87}
 
--- how many bytes a public key has (FIPS 204, Table 2)
-abbrev pub public_key_length : SetName → ℕ
-public_key_length MlDsa44 = 1312
-public_key_length MlDsa65 = 1952
-public_key_length MlDsa87 = 2592
+-- the parameters of a set
+abbrev pub named_set : SetName → ParameterSet
+named_set MlDsa44 = set_44
+named_set MlDsa65 = set_65
+named_set MlDsa87 = set_87
 
 -- the lines that a command wants: a number of bytes each, or any number of them
 abbrev pub wanted_lines : Task → SetName → List (Option ℕ)
-wanted_lines Id set = Some (public_key_length set) ∷ []
-
--- what a command writes, line by line, and answers, given the bytes of its lines, over the streams H and G:
--- `id` writes the public key and its hash
-abbrev pub Answers : (List ℕ → List ℕ) → (List ℕ → List ℕ) → Task → SetName → List (List ℕ) → List (List ℕ) → Bool → Type 0
-Answers H G Id set [] written answer = ⊥
-Answers H G Id set (key ∷ []) written answer =
-    (written ≡ encode_lower key ∷ encode_lower (take 64 (H key)) ∷ []) × (answer ≡ true)
-Answers H G Id set (key ∷ other ∷ lines) written answer = ⊥
+wanted_lines Id set = Some (public_key_length (named_set set)) ∷ []
+wanted_lines Keygen set = Some 32 ∷ []
+wanted_lines Sign set = Some (private_key_length (named_set set)) ∷ Some 32 ∷ None ∷ None ∷ []
+wanted_lines Verify set = Some (public_key_length (named_set set)) ∷ Some (signature_length (named_set set)) ∷ None ∷ None ∷ []
 
 -- lines as they are written, each ended by LF
 abbrev pub text : List (List ℕ) → List ℕ
 text lines = flat_map (λ line. line ++ 10 ∷ []) lines
 
+-- lines that spell bytes in lower case hex
+abbrev pub hex_text : List (List ℕ) → List ℕ
+hex_text lines = text (map encode_lower lines)
+
+-- a refusal is its words, and false
+abbrev pub Refuses : Fault → List ℕ → Bool → Type 0
+Refuses fault output answer = (output ≡ text (words fault ∷ [])) × (answer ≡ false)
+
+-- what is told of a call: lines that spell what it answered, and true, or its refusal
+abbrev pub Tells : {A : Type 0} → (A → List (List ℕ)) → Result A Fault → List ℕ → Bool → Type 0
+Tells lines (Ok value) output answer = (output ≡ hex_text (lines value)) × (answer ≡ true)
+Tells lines (Err fault) output answer = Refuses fault output answer
+
+-- what is told of bytes that spell a key or are refused: what is told of the key, or the refusal
+abbrev pub TellsOfKey : {K : Type 0} → (Result K Fault → Type 0) → (K → List ℕ → Bool → Type 0) → List ℕ → Bool → Type 0
+TellsOfKey {K} decodes tells output answer = (decoded : Result K Fault) × decodes decoded
+    × MatchResult decoded (λ key. tells key output answer) (λ fault. Refuses fault output answer)
+
+-- `keygen`: the public key and the private key of a seed
+abbrev pub Generates : ParameterSet → (List ℕ → List ℕ) → (List ℕ → List ℕ) → List ℕ → List ℕ → Bool → Type 0
+Generates p H G seed output answer =
+    Tells (λ keys. public_key_bytes keys.0.rho keys.0.t1 ∷ private_key_bytes p.eta keys.1.rho keys.1.key keys.1.tr keys.1.s1 keys.1.s2 keys.1.t0 ∷ [])
+    (generated p H G seed) output answer
+
+-- `sign`: the signature by the private key that has these bytes, or the refusal; that of the bytes stands first
+abbrev pub Signs : ParameterSet → (List ℕ → List ℕ) → (List ℕ → List ℕ) → List ℕ → List ℕ → List ℕ → List ℕ → List ℕ → Bool → Type 0
+Signs p H G key seed context message output answer =
+    TellsOfKey (DecodesPrivate p.eta p.k p.l key) (λ sk. Tells (λ signature. signature ∷ []) (sign_message p H G sk seed message context)) output answer
+
+-- the word for an answer
+abbrev pub answer_word : Bool → List ℕ
+answer_word true = codes "yes"
+answer_word false = codes "no"
+
+-- `verify`: whether the public key that has these bytes accepts the signature
+abbrev pub Judges : ParameterSet → (List ℕ → List ℕ) → (List ℕ → List ℕ) → List ℕ → List ℕ → List ℕ → List ℕ → List ℕ → Bool → Type 0
+Judges p H G key signature context message output answer = (pk : PublicParts)
+    × IsPublicKeyOf H p.k key pk
+    × (IsTrue answer ↔ VerifiesMessage p H G pk message signature context)
+    × (output ≡ text (answer_word answer ∷ []))
+
+-- what a command writes and answers, given the bytes of its lines, over the streams H and G; `id` writes the public key and
+-- its hash
+abbrev pub Answers : (List ℕ → List ℕ) → (List ℕ → List ℕ) → Task → SetName → List (List ℕ) → List ℕ → Bool → Type 0
+Answers H G Id set lines output answer = (key : List ℕ) × (lines ≡ key ∷ [])
+    × (output ≡ hex_text (key ∷ take 64 (H key) ∷ [])) × (answer ≡ true)
+Answers H G Keygen set lines output answer = (seed : List ℕ) × (lines ≡ seed ∷ [])
+    × Generates (named_set set) H G seed output answer
+Answers H G Sign set lines output answer = (key seed context message : List ℕ) × (lines ≡ key ∷ seed ∷ context ∷ message ∷ [])
+    × Signs (named_set set) H G key seed context message output answer
+Answers H G Verify set lines output answer = (key signature context message : List ℕ) × (lines ≡ key ∷ signature ∷ context ∷ message ∷ [])
+    × Judges (named_set set) H G key signature context message output answer
+
 -- a run over the streams H and G ended with this answer: its reader gave the wanted lines and has left what follows them, and its
 -- writer got what the command writes for them, and nothing else
 abbrev pub Runs : (List ℕ → List ℕ) → (List ℕ → List ℕ) → Task → SetName → Option (List ℕ) → Option (List ℕ) → Option (List ℕ) → Option (List ℕ) → Bool → Type 0
-Runs H G task set given left before after answer = (lines written : List (List ℕ))
+Runs H G task set given left before after answer = (lines : List (List ℕ)) × ((output : List ℕ)
     × TakesLines 1 (wanted_lines task set) given left lines
-    × Answers H G task set lines written answer
-    × Appends before after (text written)
+    × Answers H G task set lines output answer
+    × Appends before after output)

@@ -1,19 +1,23 @@
 //! What each command wants, writes and answers.
 #![tactic(auto)]
 
-ghost use Rattle.std.specs.Prelude.{◌≡◌, ◌++◌, ◌∷◌, [], ℕ, List, length, map, take, Ok, Err, IfOk, IfErr, OnOk};
-ghost use Rattle.hex.specs.Hex.{encode_lower};
+ghost use Rattle.std.specs.Prelude.{◌≡◌, length, map, Ok, Err, IfOk, IfErr};
 ghost use Rattle.mldsa_engine.specs.Lines.{AllFit};
-ghost use Rattle.mldsa_engine.specs.ProgramText.{public_key_length, wanted_lines, Answers, text};
+ghost use Rattle.mldsa_engine.specs.ProgramText.{wanted_lines, Answers};
+
+mod keys;
+mod signing;
+mod verifying;
+mod writing;
 
 use crate::call::{SetName, Task};
 use crate::fault::RunFault;
-use fips204::traits::SerDes;
 use fips204::xof::Xof;
 use fips204::{ml_dsa_44, ml_dsa_65, ml_dsa_87};
 use std::alloc::Global;
 
 /// The lines that a command wants: a number of bytes each, or any number of them.
+#[tactic(auto, using(crate::proofs::Lengths::lengths))]
 pub(crate) fn wanted_of(task: Task, set: SetName) -> &'static [Option<usize>]
     ensures { result.now ≡ wanted_lines task set }
 {
@@ -21,6 +25,34 @@ pub(crate) fn wanted_of(task: Task, set: SetName) -> &'static [Option<usize>]
         (Task::Id, SetName::MlDsa44) => &[Some(ml_dsa_44::PK_LEN)],
         (Task::Id, SetName::MlDsa65) => &[Some(ml_dsa_65::PK_LEN)],
         (Task::Id, SetName::MlDsa87) => &[Some(ml_dsa_87::PK_LEN)],
+        (Task::Keygen, _) => &[Some(32)],
+        (Task::Sign, SetName::MlDsa44) => &[Some(ml_dsa_44::SK_LEN), Some(32), None, None],
+        (Task::Sign, SetName::MlDsa65) => &[Some(ml_dsa_65::SK_LEN), Some(32), None, None],
+        (Task::Sign, SetName::MlDsa87) => &[Some(ml_dsa_87::SK_LEN), Some(32), None, None],
+        (Task::Verify, SetName::MlDsa44) => {
+            &[
+                Some(ml_dsa_44::PK_LEN),
+                Some(ml_dsa_44::SIG_LEN),
+                None,
+                None,
+            ]
+        }
+        (Task::Verify, SetName::MlDsa65) => {
+            &[
+                Some(ml_dsa_65::PK_LEN),
+                Some(ml_dsa_65::SIG_LEN),
+                None,
+                None,
+            ]
+        }
+        (Task::Verify, SetName::MlDsa87) => {
+            &[
+                Some(ml_dsa_87::PK_LEN),
+                Some(ml_dsa_87::SIG_LEN),
+                None,
+                None,
+            ]
+        }
     }
 }
 
@@ -32,87 +64,40 @@ pub(crate) fn answer_of<H: Xof, G: Xof>(
     lines: &[Vec<u8>],
 ) -> Result<(Vec<u8>, bool), RunFault>
     requires fit { AllFit (wanted_lines task set) (map (λ line. line.items) lines.now) }
-    ensures given { IfOk result (λ given. (written : List (List ℕ)) × Answers H.front G.front task set (map (λ line. line.items) lines.now) written given.1 × (given.0.items ≡ text written)) }
+    ensures given { IfOk result (λ given. Answers H.front G.front task set (map (λ line. line.items) lines.now) given.0.items given.1) }
     ensures memory { IfErr result (λ fault. fault ≡ RunFault.Memory) }
 {
     match task {
         Task::Id => {
-            let written = identity::<H, G>(alloc, set, lines[0].as_slice())?;
+            let written = keys::identity::<H, G>(alloc, set, lines[0].as_slice())?;
             Ok((written, true))
         }
+        Task::Keygen => keys::keys_of::<H, G>(alloc, set, &array_of(lines[0].as_slice())),
+        Task::Sign => signing::signature_of::<H, G>(
+            alloc,
+            set,
+            lines[0].as_slice(),
+            &array_of(lines[1].as_slice()),
+            lines[2].as_slice(),
+            lines[3].as_slice(),
+        ),
+        Task::Verify => verifying::verdict_of::<H, G>(
+            alloc,
+            set,
+            lines[0].as_slice(),
+            lines[1].as_slice(),
+            lines[2].as_slice(),
+            lines[3].as_slice(),
+        ),
     }
 }
 
-/// A public key of a set and its hash, as lines of hex.
-fn identity<H: Xof, G: Xof>(alloc: Global, set: SetName, key: &[u8]) -> Result<Vec<u8>, RunFault>
-    requires { length key.now ≡ public_key_length set }
-    ensures given { IfOk result (λ written. written.items ≡ text (encode_lower key.now ∷ encode_lower (take 64 (H.front key.now)) ∷ [])) }
-    ensures memory { IfErr result (λ fault. fault ≡ RunFault.Memory) }
+/// Bytes of a known number as an array.
+fn array_of<const N: usize>(bytes: &[u8]) -> [u8; N]
+    requires { length bytes.now ≡ N }
+    ensures { result ≡ bytes.now }
 {
-    match set {
-        SetName::MlDsa44 => identity_44::<H, G>(alloc, key),
-        SetName::MlDsa65 => identity_65::<H, G>(alloc, key),
-        SetName::MlDsa87 => identity_87::<H, G>(alloc, key),
-    }
-}
-
-/// A public key of ML-DSA-44 and its hash, as lines of hex.
-fn identity_44<H: Xof, G: Xof>(alloc: Global, key: &[u8]) -> Result<Vec<u8>, RunFault>
-    requires { length key.now ≡ 1312 }
-    ensures given { IfOk result (λ written. written.items ≡ text (encode_lower key.now ∷ encode_lower (take 64 (H.front key.now)) ∷ [])) }
-    ensures memory { IfErr result (λ fault. fault ≡ RunFault.Memory) }
-{
-    let mut bytes = [0; ml_dsa_44::PK_LEN];
-    bytes.copy_from_slice(key);
-    let key = ml_dsa_44::PublicKey::<H, G>::try_from_bytes(bytes).unwrap();
-    let tr = *key.tr();
-    two_lines(alloc, &key.into_bytes(), &tr)
-}
-
-/// A public key of ML-DSA-65 and its hash, as lines of hex.
-fn identity_65<H: Xof, G: Xof>(alloc: Global, key: &[u8]) -> Result<Vec<u8>, RunFault>
-    requires { length key.now ≡ 1952 }
-    ensures given { IfOk result (λ written. written.items ≡ text (encode_lower key.now ∷ encode_lower (take 64 (H.front key.now)) ∷ [])) }
-    ensures memory { IfErr result (λ fault. fault ≡ RunFault.Memory) }
-{
-    let mut bytes = [0; ml_dsa_65::PK_LEN];
-    bytes.copy_from_slice(key);
-    let key = ml_dsa_65::PublicKey::<H, G>::try_from_bytes(bytes).unwrap();
-    let tr = *key.tr();
-    two_lines(alloc, &key.into_bytes(), &tr)
-}
-
-/// A public key of ML-DSA-87 and its hash, as lines of hex.
-fn identity_87<H: Xof, G: Xof>(alloc: Global, key: &[u8]) -> Result<Vec<u8>, RunFault>
-    requires { length key.now ≡ 2592 }
-    ensures given { IfOk result (λ written. written.items ≡ text (encode_lower key.now ∷ encode_lower (take 64 (H.front key.now)) ∷ [])) }
-    ensures memory { IfErr result (λ fault. fault ≡ RunFault.Memory) }
-{
-    let mut bytes = [0; ml_dsa_87::PK_LEN];
-    bytes.copy_from_slice(key);
-    let key = ml_dsa_87::PublicKey::<H, G>::try_from_bytes(bytes).unwrap();
-    let tr = *key.tr();
-    two_lines(alloc, &key.into_bytes(), &tr)
-}
-
-/// Two lines that spell these bytes in lower case hex.
-fn two_lines(alloc: Global, first: &[u8], second: &[u8]) -> Result<Vec<u8>, RunFault>
-    ensures given { IfOk result (λ written. written.items ≡ text (encode_lower first.now ∷ encode_lower second.now ∷ [])) }
-    ensures memory { IfErr result (λ fault. fault ≡ RunFault.Memory) }
-{
-    let mut written = Vec::new(alloc);
-    push_line(alloc, &mut written, first)?;
-    push_line(alloc, &mut written, second)?;
-    Ok(written)
-}
-
-/// Adds a line that spells the bytes in lower case hex.
-fn push_line(alloc: Global, written: &mut Vec<u8>, bytes: &[u8]) -> Result<(), RunFault>
-    ensures given { OnOk result (written.new.items ≡ written.old.items ++ (encode_lower bytes.now ++ 10 ∷ [])) }
-    ensures memory { IfErr result (λ fault. fault ≡ RunFault.Memory) }
-{
-    let line = hex::encode(alloc, bytes)?;
-    written.extend_from_slice(line.as_bytes())?;
-    written.push(b'\n')?;
-    Ok(())
+    let mut array = [0; N];
+    array.copy_from_slice(bytes);
+    array
 }

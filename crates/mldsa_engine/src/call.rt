@@ -22,6 +22,12 @@ pub enum Streams {
 pub enum Task {
     /// Prints a public key and its hash.
     Id,
+    /// Makes the keys of a seed and prints them.
+    Keygen,
+    /// Signs a message and prints the signature.
+    Sign,
+    /// Prints whether a signature is accepted.
+    Verify,
 }
 
 /// A parameter set of FIPS 204.
@@ -56,6 +62,9 @@ fn task_of(word: &str) -> Option<Task>
 {
     match word {
         "id" => Some(Task::Id),
+        "keygen" => Some(Task::Keygen),
+        "sign" => Some(Task::Sign),
+        "verify" => Some(Task::Verify),
         _ => None,
     }
 }

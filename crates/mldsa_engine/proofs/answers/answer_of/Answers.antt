@@ -1,11 +1,21 @@
-use Rattle.std.proofs.Common.{◌∷◌, [], take, rules}
-use Rattle.hex.specs.Hex.{encode_lower}
-use Rattle.mldsa_engine.proofs.Identity.{id_answers}
+use Rattle.std.proofs.Common.{rules, ◌∙◌}
+use Rattle.mldsa_engine.proofs.Counted.{id_answers, sign_answers, verify_answers}
 use Rattle.mldsa_engine.proofs.answers.answer_of.Goals as goal
 
-pub returns-clause-given : goal.returns-clause-given
-returns-clause-given g c = (
-  encode_lower c.index-lines-0.result.items ∷ encode_lower (take 64 (g.H.Xof.front c.index-lines-0.result.items)) ∷ [],
-  id_answers (λ line. line.items) g.H.Xof.front g.G.Xof.front _ _ _ _ c.requires.fit c.index-lines-0.is,
-  search rules,
-)
+pub returns-in_ok-written-in-Id-clause-given : goal.returns-in_ok-written-in-Id-clause-given
+returns-in_ok-written-in-Id-clause-given g c =
+    id_answers (λ line. line.items) _ _ _ _ _ _ _ c.in-Id.is c.requires.fit c.index-lines-0.is (search rules)
+
+pub returns-in-Sign-clause-given : goal.returns-in-Sign-clause-given
+returns-in-Sign-clause-given g c =
+    sign_answers (λ line. line.items) (λ written. written.items) _ _ _ _ _ _ _ _ _ _ _ _ _ _ c.in-Sign.is c.requires.fit
+    c.index-lines-0-in-Sign.is c.index-lines-1.is c.index-lines-2.is c.index-lines-3.is
+    c.as_slice-in-Sign.ensures.value (c.array_of-in-Sign.ensures ∙ c.as_slice-in-Sign-2.ensures.value) c.as_slice-in-Sign-3.ensures.value c.as_slice-in-Sign-4.ensures.value
+    c.signature_of.ensures.given
+
+pub returns-in-Verify-clause-given : goal.returns-in-Verify-clause-given
+returns-in-Verify-clause-given g c =
+    verify_answers (λ line. line.items) (λ written. written.items) _ _ _ _ _ _ _ _ _ _ _ _ _ _ c.in-Verify.is c.requires.fit
+    c.index-lines-0-in-Verify.is c.index-lines-1-in-Verify.is c.index-lines-2-in-Verify.is c.index-lines-3-in-Verify.is
+    c.as_slice-in-Verify.ensures.value c.as_slice-in-Verify-2.ensures.value c.as_slice-in-Verify-3.ensures.value c.as_slice-in-Verify-4.ensures.value
+    c.verdict_of.ensures.given

@@ -1,0 +1,80 @@
+-- A framed message determines what was framed.
+use Rattle.std.proofs.Common.{◌≡◌, ◌+◌, ℕ, List, [], ◌∷◌, ◌++◌, length, take, drop, get_or, Bool, true, false, not, ◌&&◌, nat_eq, nat_lt, nat_le, IsTrue, if◌then◌else◌, Option, Some, None, refl, sym, ap, ◌∙◌, arith, append_assoc, true≢false, eqb-true}
+use Rattle.fips204_base.specs.declared.fault.Fault.{Fault}
+use Rattle.fips204_base.specs.declared.fault.Fault.TheVariants.{OidEmpty, OidNotDer, DigestTooLong, DigestLength, HashCtx}
+use Rattle.std.proofs.Math.Seq.{take-append_seam, drop-append_seam}
+use Rattle.fips204.specs.PreHash.{is_der, differs, digest_length, pre_hash_fault}
+use Rattle.fips204.specs.MessageLaws.{Input, plain, hashed, framed_input, input_fault, FramingIsOneToOne}
+use Rattle.fips204.proofs.Rows.{and_out}
+
+-- two joined lists, cut at one place
+cut : (xs ys us vs : List ℕ) → length xs ≡ length ys → xs ++ us ≡ ys ++ vs → (xs ≡ ys) × (us ≡ vs)
+cut xs ys us vs l e = (
+  sym (take-append_seam xs us) ∙ ap (take (length xs)) e ∙ ap (λ n. take n (ys ++ vs)) l ∙ take-append_seam ys vs,
+  sym (drop-append_seam xs us) ∙ ap (drop (length xs)) e ∙ ap (λ n. drop n (ys ++ vs)) l ∙ drop-append_seam ys vs,
+)
+
+-- no refusal: neither the first one nor a later one
+later_none : (b : Bool) (fault : Fault) (rest : Option Fault) → (if b then Some fault else rest) ≡ None → rest ≡ None
+later_none true fault rest e = absurd (cc)
+later_none false fault rest e = e
+
+test_true : (b : Bool) (fault : Fault) (rest : Option Fault) → (if not b then Some fault else rest) ≡ None → IsTrue b
+test_true true fault rest e = refl
+test_true false fault rest e = absurd (cc)
+
+der_of_none : (digest oid : List ℕ) → pre_hash_fault digest oid ≡ None → IsTrue (is_der oid)
+unfolding pre_hash_fault
+der_of_none digest oid e =
+    let last = if nat_lt 1024 (length digest) then Some DigestTooLong else if differs (digest_length oid) (length digest) then Some DigestLength else None in
+    test_true (is_der oid) OidNotDer last (later_none (nat_eq (length oid) 0) OidEmpty (if not (is_der oid) then Some OidNotDer else last) e)
+
+-- ---- OIDs
+
+-- the second byte is the number of bytes after it
+second_byte : (x y : ℕ) (rest : List ℕ) → IsTrue (is_der (x ∷ y ∷ rest)) → y ≡ length rest
+second_byte x y rest t =
+    let oid = x ∷ y ∷ rest in
+    let tests = and_out (nat_le 3 (length oid) && nat_eq x 0x06 && nat_lt y 128) (nat_eq (y + 2) (length oid)) t in
+    let e = eqb-true (y + 2) (length oid) tests.1 in
+    omega (arith, e)
+
+same_oid : (o p d e : List ℕ) → IsTrue (is_der o) → IsTrue (is_der p) → o ++ d ≡ p ++ e → (o ≡ p) × (d ≡ e)
+same_oid [] p d e s t same = absurd (true≢false (sym s))
+same_oid (w ∷ []) p d e s t same = absurd (true≢false (sym s))
+same_oid (w ∷ x ∷ o) [] d e s t same = absurd (true≢false (sym t))
+same_oid (w ∷ x ∷ o) (y ∷ []) d e s t same = absurd (true≢false (sym t))
+same_oid (w ∷ x ∷ o) (y ∷ z ∷ p) d e s t same =
+    let one = second_byte w x o s in
+    let two = second_byte y z p t in
+    let bytes : x ≡ z = ap (λ l. get_or l 1 0) same in
+    cut (w ∷ x ∷ o) (y ∷ z ∷ p) d e (omega (arith, one, two, bytes)) same
+
+-- ---- framed messages
+
+modes : (xs ys : List ℕ) (m n : ℕ) → m ∷ xs ≡ n ∷ ys → m ≡ n
+modes xs ys m n e = ap (λ l. get_or l 0 0) e
+
+-- a context with its length before it, and what follows
+same_context : (c d us vs : List ℕ) (mode : ℕ) → mode ∷ length c ∷ c ++ us ≡ mode ∷ length d ∷ d ++ vs → (c ≡ d) × (us ≡ vs)
+same_context c d us vs mode e =
+    let lengths : length c ≡ length d = ap (λ l. get_or l 1 0) e in
+    let rest : c ++ us ≡ d ++ vs = cc in
+    cut c d us vs lengths rest
+
+same_input : (x y : Input) → input_fault x ≡ None → input_fault y ≡ None → framed_input x ≡ framed_input y → x ≡ y
+same_input (plain c m) (plain d n) s t e =
+    let both = same_context c d m n 0 e in
+    cc
+same_input (plain c m) (hashed d o h) s t e = absurd (omega (arith, modes _ _ _ _ e))
+same_input (hashed c o h) (plain d n) s t e = absurd (omega (arith, modes _ _ _ _ e))
+same_input (hashed c o h) (hashed d p i) s t e =
+    let left : 1 ∷ length c ∷ c ++ (o ++ h) ≡ 1 ∷ length d ∷ d ++ (p ++ i) = ap (λ l. 1 ∷ length c ∷ l) (sym (append_assoc c o h)) ∙ e ∙ ap (λ l. 1 ∷ length d ∷ l) (append_assoc d p i) in
+    let outer = same_context c d (o ++ h) (p ++ i) 1 left in
+    let first = der_of_none h o (later_none _ HashCtx (pre_hash_fault h o) s) in
+    let second = der_of_none i p (later_none _ HashCtx (pre_hash_fault i p) t) in
+    let inner = same_oid o p h i first second outer.1 in
+    cc
+
+pub framing_is_one_to_one : FramingIsOneToOne
+framing_is_one_to_one = same_input

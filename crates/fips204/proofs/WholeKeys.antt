@@ -1,0 +1,143 @@
+-- A generated pair of keys: the private key is whole and in range, and the public key is its own.
+use Rattle.std.proofs.Common.{◌≡◌, ◌<◌, ◌-◌, ℕ, List, pos, length, take, drop, IsTrue, Some, None, Ok, refl, ap, sym, subst, ◌∙◌, arith, length-drop}
+use Rattle.std.specs.Prelude.{option_map}
+use Rattle.std.specs.declared.option.Option.{Option}
+use Rattle.std.proofs.lemmas.Int.{ints}
+use Rattle.std.proofs.lemmas.List.{length-take-le}
+use Rattle.std.proofs.lemmas.Option.{none-some}
+use Rattle.fips204_base.specs.declared.types.R.{R}
+use Rattle.fips204_base.specs.declared.types.T.{T}
+use Rattle.fips204_base.specs.Encodings.{public_key_bytes}
+use Rattle.fips204_base.specs.MatrixEntry.{sampled_matrix}
+use Rattle.fips204_base.specs.Rounding.{power2round}
+use Rattle.fips204_base.specs.SmallPolynomial.{small_vector}
+use Rattle.fips204_base.specs.Vectors.{IsVector}
+use Rattle.fips204_base.proofs.Rounds.{power2round_high, power2round_low}
+use Rattle.fips204_base.proofs.SmallPolynomials.{small_vector-range}
+use Rattle.fips204_base.proofs.VectorsOf.{vector_of-range}
+use Rattle.fips204.specs.ParameterSets.{ParameterSet, is_row}
+use Rattle.fips204.specs.Keys.{PublicParts, PrivateParts, ArePrivateParts, IsHighPart, IsPublicKeyOf, eta_of_rows}
+use Rattle.fips204.specs.KeyGeneration.{IsWhole, key_vector, high_part, low_part, key_pair, key_pair_if_all, seeds, key_generation, public_key_of}
+use Rattle.fips204.specs.Signing.{sign}
+use Rattle.fips204.specs.Acceptance.{Verifies}
+use Rattle.fips204.proofs.Completeness.{completeness}
+use Rattle.fips204.proofs.SetNumbers.{AreSetNumbers, set_numbers}
+
+-- ---- the parts of t
+
+key_vector_below : (p : ParameterSet) (a : List (List T)) (s1 s2 : List R) (r n : ℕ) → key_vector p a s1 s2 r n < 8380417
+key_vector_below p a s1 s2 r n = omega arith
+
+high_range : (p : ParameterSet) (a : List (List T)) (s1 s2 : List R) → IsHighPart p.k (high_part p a s1 s2)
+unfolding high_part
+high_range p a s1 s2 = vector_of-range p.k 0 1023 (λ r n. pos (power2round (key_vector p a s1 s2 r n)).0) (λ r n h below.
+    let high = power2round_high (key_vector p a s1 s2 r n) (key_vector_below p a s1 s2 r n) in
+    (omega (arith, ints), omega (arith, ints, high)))
+
+low_range : (p : ParameterSet) (a : List (List T)) (s1 s2 : List R) → IsVector p.k 4095 4096 (low_part p a s1 s2)
+unfolding low_part
+low_range p a s1 s2 = vector_of-range p.k 4095 4096 (λ r n. (power2round (key_vector p a s1 s2 r n)).1) (λ r n h below. power2round_low (key_vector p a s1 s2 r n) (key_vector_below p a s1 s2 r n))
+
+-- ---- a private key and its public key
+
+-- the private key is whole and in range, and the public key is its own
+pub record ArePair (p : ParameterSet) (H G : List ℕ → List ℕ) (pk : PublicParts) (sk : PrivateParts) : Type 0 where
+  pub whole : IsWhole p G sk
+  pub parts : ArePrivateParts p.k p.l sk
+  pub same : pk ≡ record { rho = sk.rho; tr = sk.tr; t1 = high_part p whole.matrix sk.s1 sk.s2 }
+  pub encoded : IsPublicKeyOf H p.k (public_key_bytes pk.rho pk.t1) pk
+
+pub public_key_of_whole : (p : ParameterSet) (G : List ℕ → List ℕ) (sk : PrivateParts) → (whole : IsWhole p G sk) → public_key_of p G sk ≡ Some record { rho = sk.rho; tr = sk.tr; t1 = high_part p whole.matrix sk.s1 sk.s2 }
+unfolding public_key_of
+public_key_of_whole p G sk whole = ap (option_map (λ a. let pk : PublicParts = record { rho = sk.rho; tr = sk.tr; t1 = high_part p a sk.s1 sk.s2 } in pk)) whole.sampled
+
+-- a pair's public key is what its private key gives
+pub public_key_of_pair : (p : ParameterSet) (H G : List ℕ → List ℕ) (pk : PublicParts) (sk : PrivateParts) → ArePair p H G pk sk → public_key_of p G sk ≡ Some pk
+public_key_of_pair p H G pk sk pair = public_key_of_whole p G sk pair.whole ∙ ap Some (sym pair.same)
+
+-- ---- key generation
+
+small : (p : ParameterSet) (H : List ℕ → List ℕ) (rho : List ℕ) (first count : ℕ) (v : List R) → AreSetNumbers p → small_vector p.eta H rho first count ≡ Some v → IsVector count (eta_of_rows p.k) (eta_of_rows p.k) v
+small p H rho first count v numbers e = subst (λ m. IsVector count m m v) numbers.eta (small_vector-range p.eta H rho first count v numbers.small e)
+
+pair_of_parts : (p : ParameterSet) (H G : List ℕ → List ℕ) (rho key : List ℕ) (a : List (List T)) (s1 s2 : List R) → ((x : List ℕ) → length (H x) ≡ 4096) → length rho ≡ 32 → length key ≡ 32
+    → sampled_matrix G rho p.k p.l ≡ Some a → IsVector p.l (eta_of_rows p.k) (eta_of_rows p.k) s1 → IsVector p.k (eta_of_rows p.k) (eta_of_rows p.k) s2
+    → ArePair p H G (key_pair p H rho key a s1 s2).0 (key_pair p H rho key a s1 s2).1
+unfolding key_pair
+pair_of_parts p H G rho key a s1 s2 law m n there first second =
+    let t1 = high_part p a s1 s2 in
+    let long = law (public_key_bytes rho t1) in
+    record {
+      whole = record { matrix = a; sampled = there; low = refl };
+      parts = record {
+        seed = m;
+        private_seed = n;
+        hash = length-take-le 64 (H (public_key_bytes rho t1)) (omega (arith, long));
+        first = first;
+        second = second;
+        low = low_range p a s1 s2;
+      };
+      same = refl;
+      encoded = record { seed = m; high = high_range p a s1 s2; same_bytes = refl; hash = refl };
+    }
+
+-- what a pair that is there was made of
+record WasMade (p : ParameterSet) (H : List ℕ → List ℕ) (rho key : List ℕ) (a : Option (List (List T))) (s1 s2 : Option (List R)) (pk : PublicParts) (sk : PrivateParts) : Type 0 where
+  matrix : List (List T)
+  first : List R
+  second : List R
+  has_matrix : a ≡ Some matrix
+  has_first : s1 ≡ Some first
+  has_second : s2 ≡ Some second
+  made : key_pair p H rho key matrix first second ≡ (pk, sk)
+
+some_same : {A : Type 0} (x y : A) → Some x ≡ Some y → x ≡ y
+some_same x y e = cc
+
+made_of : (p : ParameterSet) (H : List ℕ → List ℕ) (rho key : List ℕ) (a : Option (List (List T))) (s1 s2 : Option (List R)) (pk : PublicParts) (sk : PrivateParts)
+    → key_pair_if_all p H rho key a s1 s2 ≡ Some (pk, sk) → WasMade p H rho key a s1 s2 pk sk
+unfolding key_pair_if_all
+made_of p H rho key None s1 s2 pk sk e = absurd (none-some (pk, sk) e)
+made_of p H rho key (Some a) None s2 pk sk e = absurd (none-some (pk, sk) e)
+made_of p H rho key (Some a) (Some s1) None pk sk e = absurd (none-some (pk, sk) e)
+made_of p H rho key (Some a) (Some s1) (Some s2) pk sk e = record {
+  matrix = a;
+  first = s1;
+  second = s2;
+  has_matrix = refl;
+  has_first = refl;
+  has_second = refl;
+  made = some_same (key_pair p H rho key a s1 s2) (pk, sk) e;
+}
+
+-- the keys of a seed are a pair
+pub generated_pair : (p : ParameterSet) (H G : List ℕ → List ℕ) (xi : List ℕ) (pk : PublicParts) (sk : PrivateParts) → IsTrue (is_row p) → ((x : List ℕ) → length (H x) ≡ 4096)
+    → key_generation p H G xi ≡ Some (pk, sk) → ArePair p H G pk sk
+unfolding key_generation
+generated_pair p H G xi pk sk row law e =
+    let numbers = set_numbers p row in
+    let all = seeds p H xi in
+    let rho = take 32 all in
+    let rho' = take 64 (drop 32 all) in
+    let key = take 32 (drop 96 all) in
+    let was = made_of p H rho key (sampled_matrix G rho p.k p.l) (small_vector p.eta H rho' 0 p.l) (small_vector p.eta H rho' p.l p.k) pk sk e in
+    let long : length all ≡ 4096 = law _ in
+    let rest : length (drop 96 all) ≡ length all - 96 = length-drop 96 all in
+    subst (λ (pair : PublicParts × PrivateParts). ArePair p H G pair.0 pair.1) was.made
+    (pair_of_parts p H G rho key was.matrix was.first was.second law (length-take-le 32 all (omega (arith, long))) (length-take-le 32 (drop 96 all) (omega (arith, long, rest)))
+    was.has_matrix (small p H rho' 0 p.l was.first numbers was.has_first) (small p H rho' p.l p.k was.second numbers was.has_second))
+
+-- ---- what signing gives is accepted by the pair's public key
+
+pub pair_accepts : (p : ParameterSet) (H G : List ℕ → List ℕ) (pk : PublicParts) (sk : PrivateParts) (mu rnd signature : List ℕ) → IsTrue (is_row p) → ((x : List ℕ) → length (H x) ≡ 4096)
+    → ArePair p H G pk sk → sign p H G sk mu rnd ≡ Ok signature → Verifies p H G pk mu signature
+pair_accepts p H G pk sk mu rnd signature row law pair made =
+    subst (λ (k : PublicParts). Verifies p H G k mu signature) (sym pair.same) (completeness p H G sk mu rnd signature row pair.parts pair.whole law made)
+
+-- and by the key that a whole private key gives
+pub derived_accepts : (p : ParameterSet) (H G : List ℕ → List ℕ) (pk : PublicParts) (sk : PrivateParts) (mu rnd signature : List ℕ) → IsTrue (is_row p) → ((x : List ℕ) → length (H x) ≡ 4096)
+    → ArePrivateParts p.k p.l sk → IsWhole p G sk → public_key_of p G sk ≡ Some pk → sign p H G sk mu rnd ≡ Ok signature → Verifies p H G pk mu signature
+derived_accepts p H G pk sk mu rnd signature row law parts whole derived made =
+    let own : PublicParts = record { rho = sk.rho; tr = sk.tr; t1 = high_part p whole.matrix sk.s1 sk.s2 } in
+    let same : own ≡ pk = some_same own pk (sym (public_key_of_whole p G sk whole) ∙ derived) in
+    subst (λ (k : PublicParts). Verifies p H G k mu signature) same (completeness p H G sk mu rnd signature row parts whole law made)

@@ -1,0 +1,5 @@
+use Rattle.fips204.proofs.Bindings.{signature_binds_message}
+use Rattle.fips204.proofs.laws.binding.Goals as goal
+
+pub returns : goal.returns
+returns _ = signature_binds_message

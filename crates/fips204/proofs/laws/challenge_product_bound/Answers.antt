@@ -1,0 +1,5 @@
+use Rattle.fips204.proofs.SmallProducts.{challenge_product_is_small}
+use Rattle.fips204.proofs.laws.challenge_product_bound.Goals as goal
+
+pub returns : goal.returns
+returns _ = challenge_product_is_small

@@ -1,0 +1,169 @@
+//! Making keys (FIPS 204, Algorithms 1 and 6).
+#![tactic(auto)]
+
+ghost use Rattle.std.specs.Prelude.{◌≡◌, ◌≤◌, ◌<◌, ◌+◌, ◌*◌, ℕ, pos, take, drop, slice_index_or};
+ghost use Rattle.std.specs.List.{All};
+ghost use Rattle.fips204_base.specs.Packing.{InRange};
+ghost use Rattle.fips204_base.specs.Polynomials.{Within, AllWithin};
+ghost use Rattle.fips204_base.specs.Products.{plus};
+ghost use Rattle.fips204_base.specs.Residues.{coefficients};
+ghost use Rattle.fips204_base.specs.Vectors.{vector_coefficients, matrix_product};
+ghost use Rattle.fips204.specs.KeyGeneration.{seeds, key_hash};
+ghost use Rattle.fips204.specs.ParameterSets.{public_key_length};
+ghost use Rattle.fips204.specs.Refusals.{generated, derived, Draws};
+ghost use Rattle.fips204.specs.Sets.{set_of};
+
+use crate::traits::{CryptoRngCore, draw};
+use crate::types::{Params, PrivateKey, PublicKey, R, R0, T};
+use fips204_base::Fault;
+use fips204_base::encodings::pk_encode;
+use fips204_base::hashing::{expand_a, expand_s};
+use fips204_base::helpers::{add_vector_ntt, full_reduce32};
+use fips204_base::high_low::power2round;
+use fips204_base::product::matrix_times_vector;
+use fips204_base::xof::{Xof, XofReader};
+use std::marker::PhantomData;
+
+/// `ML-DSA.KeyGen_internal` (Algorithm 6): both keys of the seed `xi`. Refuses with
+/// `Fault::SamplingLimit` where a sampler of the seed passes its limit.
+///
+/// `K` and `L` are those of the set, and `PK_LEN` is the length of its public keys.
+pub fn key_gen_internal<const K: usize, const L: usize, const PK_LEN: usize, H: Xof, G: Xof>(
+    p: &Params,
+    xi: &[u8; 32],
+) -> Result<(PublicKey<K, L, H, G>, PrivateKey<K, L, H, G>), Fault>
+    requires rows { K ≡ p.now.k }
+    requires columns { L ≡ p.now.l }
+    requires size { PK_LEN ≡ public_key_length (set_of p.now) }
+    ensures { result ≡ generated (set_of p.now) H.front G.front xi.now }
+{
+    let (rho, rho_prime, key) = key_seeds::<H>(p, xi);
+    let a_hat = expand_a::<K, L, G>(&rho)?;
+    let (s1, s2) = expand_s::<K, L, H>(p.eta, &rho_prime)?;
+    let (t1, t0) = power2round(&key_vector(&a_hat, &s1, &s2));
+    let tr = key_hash::<K, PK_LEN, H>(&rho, &t1);
+    let public = PublicKey {
+        rho,
+        tr,
+        t1,
+        streams: PhantomData,
+    };
+    let private = PrivateKey {
+        rho,
+        key,
+        tr,
+        s1,
+        s2,
+        t0,
+        streams: PhantomData,
+    };
+    Ok((public, private))
+}
+
+/// The seeds of both keys, rho, rho' and K: 128 bytes of `H` over `xi`, byte `k` and byte `l`
+/// (Algorithm 6, line 1).
+fn key_seeds<H: Xof>(p: &Params, xi: &[u8; 32]) -> ([u8; 32], [u8; 64], [u8; 32])
+    ensures matrix { result.0 ≡ take 32 (seeds (set_of p.now) H.front xi.now) }
+    ensures vectors { result.1 ≡ take 64 (drop 32 (seeds (set_of p.now) H.front xi.now)) }
+    ensures masks { result.2 ≡ take 32 (drop 96 (seeds (set_of p.now) H.front xi.now)) }
+{
+    let mut bytes = [0u8; 128];
+    let mut reader = H::open(&[xi.as_slice(), &[p.k as u8], &[p.l as u8]]);
+    reader.read(&mut bytes);
+    (part(&bytes, 0), part(&bytes, 32), part(&bytes, 96))
+}
+
+/// The `N` bytes from `at` on.
+fn part<const N: usize>(bytes: &[u8; 128], at: usize) -> [u8; N]
+    requires { at + N ≤ 128 }
+    ensures { result ≡ take N (drop at bytes.now) }
+{
+    *bytes[at..].first_chunk::<N>().unwrap()
+}
+
+/// `t = A s1 + s2` (Algorithm 6, line 5), with coefficients from 0 to `q - 1`. The matrix is given by
+/// its transforms with values from 0 to `q - 1`, coefficients are below `q` in absolute value, and `L`
+/// is at most 7.
+fn key_vector<const K: usize, const L: usize>(
+    a_hat: &[[T; L]; K],
+    s1: &[R; L],
+    s2: &[R; K],
+) -> [R; K]
+    requires columns { L ≤ 7 }
+    requires matrix { All (AllWithin 8380416) a_hat.now }
+    requires first { All (λ w. Within 8380416 w.0) s1.now }
+    requires second { All (λ w. Within 8380416 w.0) s2.now }
+    ensures values { (r n : ℕ) → r < K → n < 256 → slice_index_or (slice_index_or result r R0).0 n (pos 0) ≡ pos (plus (matrix_product L a_hat.now (vector_coefficients s1.now) r) (vector_coefficients s2.now r) n) }
+    ensures range { All (λ w. InRange (pos 0) (pos 8380416) w.0) result }
+{
+    let sums = add_vector_ntt(&matrix_times_vector(a_hat, s1), s2);
+    let mut out = [R0; K];
+    for r in 0..K {
+        out[r] = reduced(&sums[r]);
+    }
+    out
+}
+
+/// The residues of a polynomial whose coefficients are below `2^31 - 2^22` in absolute value.
+fn reduced(w: &R) -> R
+    requires { Within 2143289343 w.now.0 }
+    ensures values { (n : ℕ) → n < 256 → slice_index_or result.0 n (pos 0) ≡ pos (coefficients w.now.0 n) }
+    ensures range { InRange (pos 0) (pos 8380416) result.0 }
+{
+    let mut out = [0; 256];
+    for n in 0..256 {
+        out[n] = full_reduce32(w.0[n]);
+    }
+    R(out)
+}
+
+/// `tr`: the first 64 bytes of `H` over a public key's bytes (Algorithm 6, line 9).
+fn key_hash<const K: usize, const PK_LEN: usize, H: Xof>(rho: &[u8; 32], t1: &[R; K]) -> [u8; 64]
+    requires size { PK_LEN ≡ 32 + 320 * K }
+    requires range { All (λ w. InRange (pos 0) (pos 1023) w.0) t1.now }
+    ensures { result ≡ key_hash H.front rho.now t1.now }
+{
+    let pk: [u8; PK_LEN] = pk_encode(rho, t1);
+    let mut tr = [0u8; 64];
+    let mut reader = H::open(&[pk.as_slice()]);
+    reader.read(&mut tr);
+    tr
+}
+
+/// `ML-DSA.KeyGen` (Algorithm 1): both keys of 32 bytes that the generator is asked for once. Refuses
+/// with `Fault::KeyGenRng` where it refuses, and as `key_gen_internal` does.
+pub fn key_gen<
+    const K: usize,
+    const L: usize,
+    const PK_LEN: usize,
+    H: Xof,
+    G: Xof,
+    R: CryptoRngCore,
+>(p: &Params, rng: &mut R) -> Result<(PublicKey<K, L, H, G>, PrivateKey<K, L, H, G>), Fault>
+    requires rows { K ≡ p.now.k }
+    requires columns { L ≡ p.now.l }
+    requires size { PK_LEN ≡ public_key_length (set_of p.now) }
+    ensures { Draws R.gives R.refuses rng.old rng.new Fault.KeyGenRng (generated (set_of p.now) H.front G.front) result }
+{
+    key_gen_internal::<K, L, PK_LEN, H, G>(p, &draw(rng, Fault::KeyGenRng)?)
+}
+
+/// The public key of a private key: its `rho` and `tr`, and the high part of `A s1 + s2`. Refuses with
+/// `Fault::SamplingLimit` where the matrix of `rho` passes its limit.
+pub fn private_to_public_key<const K: usize, const L: usize, H, G: Xof>(
+    p: &Params,
+    sk: &PrivateKey<K, L, H, G>,
+) -> Result<PublicKey<K, L, H, G>, Fault>
+    requires rows { K ≡ p.now.k }
+    requires columns { L ≡ p.now.l }
+    ensures { result ≡ derived (set_of p.now) G.front sk.now }
+{
+    let a_hat = expand_a::<K, L, G>(&sk.rho)?;
+    let (t1, _) = power2round(&key_vector(&a_hat, &sk.s1, &sk.s2));
+    Ok(PublicKey {
+        rho: sk.rho,
+        tr: sk.tr,
+        t1,
+        streams: PhantomData,
+    })
+}

@@ -1,0 +1,133 @@
+//! Hashes whose digests are signed (FIPS 204, section 5.4).
+//!
+//! Each hash is named by its object identifier in DER: tag 06, a byte that counts the bytes which
+//! follow, and these. All twelve here stand below 2.16.840.1.101.3.4.2.
+#![tactic(auto)]
+
+ghost use Rattle.std.specs.Prelude.{◌≡◌, MatchResult, Some, None};
+ghost use Rattle.fips204.specs.PreHash.{digest_length, is_der, pre_hash_fault};
+
+use fips204_base::Fault;
+
+/// The most bytes of a digest that pre-hash signing takes.
+pub const MAX_PREHASH_LEN: usize = 1024;
+
+/// SHA-224, with a digest of 28 bytes.
+pub const SHA2_224: [u8; 11] = [
+    0x06, 0x09, 0x60, 0x86, 0x48, 0x01, 0x65, 0x03, 0x04, 0x02, 0x04,
+];
+
+/// SHA-256, with a digest of 32 bytes.
+pub const SHA2_256: [u8; 11] = [
+    0x06, 0x09, 0x60, 0x86, 0x48, 0x01, 0x65, 0x03, 0x04, 0x02, 0x01,
+];
+
+/// SHA-384, with a digest of 48 bytes.
+pub const SHA2_384: [u8; 11] = [
+    0x06, 0x09, 0x60, 0x86, 0x48, 0x01, 0x65, 0x03, 0x04, 0x02, 0x02,
+];
+
+/// SHA-512, with a digest of 64 bytes.
+pub const SHA2_512: [u8; 11] = [
+    0x06, 0x09, 0x60, 0x86, 0x48, 0x01, 0x65, 0x03, 0x04, 0x02, 0x03,
+];
+
+/// SHA-512/224, with a digest of 28 bytes.
+pub const SHA2_512_224: [u8; 11] = [
+    0x06, 0x09, 0x60, 0x86, 0x48, 0x01, 0x65, 0x03, 0x04, 0x02, 0x05,
+];
+
+/// SHA-512/256, with a digest of 32 bytes.
+pub const SHA2_512_256: [u8; 11] = [
+    0x06, 0x09, 0x60, 0x86, 0x48, 0x01, 0x65, 0x03, 0x04, 0x02, 0x06,
+];
+
+/// SHA3-224, with a digest of 28 bytes.
+pub const SHA3_224: [u8; 11] = [
+    0x06, 0x09, 0x60, 0x86, 0x48, 0x01, 0x65, 0x03, 0x04, 0x02, 0x07,
+];
+
+/// SHA3-256, with a digest of 32 bytes.
+pub const SHA3_256: [u8; 11] = [
+    0x06, 0x09, 0x60, 0x86, 0x48, 0x01, 0x65, 0x03, 0x04, 0x02, 0x08,
+];
+
+/// SHA3-384, with a digest of 48 bytes.
+pub const SHA3_384: [u8; 11] = [
+    0x06, 0x09, 0x60, 0x86, 0x48, 0x01, 0x65, 0x03, 0x04, 0x02, 0x09,
+];
+
+/// SHA3-512, with a digest of 64 bytes.
+pub const SHA3_512: [u8; 11] = [
+    0x06, 0x09, 0x60, 0x86, 0x48, 0x01, 0x65, 0x03, 0x04, 0x02, 0x0A,
+];
+
+/// SHAKE128, with a digest of 32 bytes.
+pub const SHAKE_128: [u8; 11] = [
+    0x06, 0x09, 0x60, 0x86, 0x48, 0x01, 0x65, 0x03, 0x04, 0x02, 0x0B,
+];
+
+/// SHAKE256, with a digest of 64 bytes.
+pub const SHAKE_256: [u8; 11] = [
+    0x06, 0x09, 0x60, 0x86, 0x48, 0x01, 0x65, 0x03, 0x04, 0x02, 0x0C,
+];
+
+/// The twelve hashes with the bytes of their digests, by the last byte of the identifier.
+const DIGEST_LENS: [([u8; 11], usize); 12] = [
+    (SHA2_256, 32),
+    (SHA2_384, 48),
+    (SHA2_512, 64),
+    (SHA2_224, 28),
+    (SHA2_512_224, 28),
+    (SHA2_512_256, 32),
+    (SHA3_224, 28),
+    (SHA3_256, 32),
+    (SHA3_384, 48),
+    (SHA3_512, 64),
+    (SHAKE_128, 32),
+    (SHAKE_256, 64),
+];
+
+/// How many bytes the digest has of the hash that this object identifier names, where it is one of the
+/// twelve.
+pub fn digest_len(oid: &[u8]) -> Option<usize>
+    ensures { result ≡ digest_length oid.now }
+{
+    for (known, length) in &DIGEST_LENS {
+        if oid == known.as_slice() {
+            return Some(*length);
+        }
+    }
+    None
+}
+
+/// Whether an object identifier has the form of a DER encoding: at least three bytes, the first 06, the
+/// second below 128 and the number of bytes after it.
+fn has_der_form(oid: &[u8]) -> bool
+    ensures { result ≡ is_der oid.now }
+{
+    oid.len() >= 3 && oid[0] == 0x06 && oid[1] < 0x80 && oid[1] as usize + 2 == oid.len()
+}
+
+/// Whether a digest and the object identifier of its hash may be signed. Refuses, in this order, with
+/// `Fault::OidEmpty`, `Fault::OidNotDer` where the identifier has not the form of a DER encoding,
+/// `Fault::DigestTooLong` above 1024 bytes, and `Fault::DigestLength` where the identifier is one of the
+/// twelve and the digest has another length.
+#[tactic(auto, unfolding(crate::specs::PreHash::pre_hash_fault))]
+pub fn check_pre_hash(hash: &[u8], oid: &[u8]) -> Result<(), Fault>
+    ensures { MatchResult result (λ _. pre_hash_fault hash.now oid.now ≡ None) (λ fault. pre_hash_fault hash.now oid.now ≡ Some fault) }
+{
+    if oid.is_empty() {
+        return Err(Fault::OidEmpty);
+    }
+    if !has_der_form(oid) {
+        return Err(Fault::OidNotDer);
+    }
+    if hash.len() > MAX_PREHASH_LEN {
+        return Err(Fault::DigestTooLong);
+    }
+    match digest_len(oid) {
+        Some(wanted) if hash.len() != wanted => Err(Fault::DigestLength),
+        _ => Ok(()),
+    }
+}

@@ -1,0 +1,60 @@
+-- Lines that are as many as are wanted.
+use Rattle.std.proofs.Common.{◌≡◌, ℕ, Bool, true, List, [], ◌∷◌, map, take, get_or, Option, Result, Ok, Err, IfOk, Some, None, refl}
+use Rattle.fips204.specs.ParameterSets.{public_key_length, private_key_length, signature_length}
+use Rattle.mldsa_engine.specs.declared.call.Task.{Task}
+use Rattle.mldsa_engine.specs.declared.call.Task.TheVariants.{Id, Sign, Verify}
+use Rattle.mldsa_engine.specs.declared.call.SetName.{SetName}
+use Rattle.mldsa_engine.specs.Lines.{AllFit}
+use Rattle.mldsa_engine.specs.ProgramText.{named_set, wanted_lines, hex_text, Signs, Judges, Answers}
+
+-- one line is wanted, so the first is all of them
+pub one_counted : {V : Type 0} (items : V → List ℕ) (w : Option ℕ) (lines : List V) (first : V)
+    → AllFit (w ∷ []) (map items lines) → first ≡ get_or lines 0 first → map items lines ≡ items first ∷ []
+one_counted items w [] first fit is = absurd fit
+one_counted items w (a ∷ []) first fit is = rw is refl
+one_counted items w (a ∷ b ∷ more) first fit is = absurd fit.1
+
+-- four are wanted, so the first four are all of them
+pub four_counted : {V : Type 0} (items : V → List ℕ) (w x y z : Option ℕ) (lines : List V) (first second third fourth : V)
+    → AllFit (w ∷ x ∷ y ∷ z ∷ []) (map items lines)
+    → first ≡ get_or lines 0 first → second ≡ get_or lines 1 second → third ≡ get_or lines 2 third → fourth ≡ get_or lines 3 fourth
+    → map items lines ≡ items first ∷ items second ∷ items third ∷ items fourth ∷ []
+four_counted items w x y z [] first second third fourth fit is is' is'' is''' = absurd fit
+four_counted items w x y z (a ∷ []) first second third fourth fit is is' is'' is''' = absurd fit.1
+four_counted items w x y z (a ∷ b ∷ []) first second third fourth fit is is' is'' is''' = absurd fit.1.1
+four_counted items w x y z (a ∷ b ∷ c ∷ []) first second third fourth fit is is' is'' is''' = absurd fit.1.1.1
+four_counted items w x y z (a ∷ b ∷ c ∷ d ∷ []) first second third fourth fit is is' is'' is''' = rw (is, is', is'', is''') refl
+four_counted items w x y z (a ∷ b ∷ c ∷ d ∷ e ∷ more) first second third fourth fit is is' is'' is''' = absurd fit.1.1.1.1
+
+pub id_answers : {V : Type 0} (items : V → List ℕ) (H G : List ℕ → List ℕ) (task : Task) (set : SetName) (lines : List V) (key : V) (output : List ℕ)
+    → task ≡ Id → AllFit (wanted_lines task set) (map items lines) → key ≡ get_or lines 0 key
+    → output ≡ hex_text (items key ∷ take 64 (H (items key)) ∷ [])
+    → Answers H G task set (map items lines) output true
+id_answers items H G task set lines key output named fit is given =
+    rw named (items key, one_counted items (Some (public_key_length (named_set set))) lines key (rw named at fit) is, given, refl)
+
+pub sign_answers : {V W E : Type 0} (items : V → List ℕ) (bytes : W → List ℕ) (H G : List ℕ → List ℕ) (task : Task) (set : SetName)
+    (lines : List V) (key seed context message : V) (k r c m : List ℕ) (result : Result (W × Bool) E)
+    → task ≡ Sign → AllFit (wanted_lines task set) (map items lines)
+    → key ≡ get_or lines 0 key → seed ≡ get_or lines 1 seed → context ≡ get_or lines 2 context → message ≡ get_or lines 3 message
+    → k ≡ items key → r ≡ items seed → c ≡ items context → m ≡ items message
+    → IfOk result (λ given. Signs (named_set set) H G k r c m (bytes given.0) given.1)
+    → IfOk result (λ given. Answers H G task set (map items lines) (bytes given.0) given.1)
+sign_answers items bytes H G task set lines key seed context message k r c m (Err fault) named fit p0 p1 p2 p3 e0 e1 e2 e3 signs = signs
+sign_answers items bytes H G task set lines key seed context message k r c m (Ok given) named fit p0 p1 p2 p3 e0 e1 e2 e3 signs =
+    let wanted = rw named at fit in
+    let four = four_counted items (Some (private_key_length (named_set set))) (Some 32) None None lines key seed context message wanted p0 p1 p2 p3 in
+    rw named (items key, items seed, items context, items message, four, rw (e0, e1, e2, e3) at signs)
+
+pub verify_answers : {V W E : Type 0} (items : V → List ℕ) (bytes : W → List ℕ) (H G : List ℕ → List ℕ) (task : Task) (set : SetName)
+    (lines : List V) (key signature context message : V) (k s c m : List ℕ) (result : Result (W × Bool) E)
+    → task ≡ Verify → AllFit (wanted_lines task set) (map items lines)
+    → key ≡ get_or lines 0 key → signature ≡ get_or lines 1 signature → context ≡ get_or lines 2 context → message ≡ get_or lines 3 message
+    → k ≡ items key → s ≡ items signature → c ≡ items context → m ≡ items message
+    → IfOk result (λ given. Judges (named_set set) H G k s c m (bytes given.0) given.1)
+    → IfOk result (λ given. Answers H G task set (map items lines) (bytes given.0) given.1)
+verify_answers items bytes H G task set lines key signature context message k s c m (Err fault) named fit p0 p1 p2 p3 e0 e1 e2 e3 judges = judges
+verify_answers items bytes H G task set lines key signature context message k s c m (Ok given) named fit p0 p1 p2 p3 e0 e1 e2 e3 judges =
+    let wanted = rw named at fit in
+    let four = four_counted items (Some (public_key_length (named_set set))) (Some (signature_length (named_set set))) None None lines key signature context message wanted p0 p1 p2 p3 in
+    rw named (items key, items signature, items context, items message, four, rw (e0, e1, e2, e3) at judges)

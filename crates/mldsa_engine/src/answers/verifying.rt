@@ -1,0 +1,73 @@
+//! What `verify` writes.
+#![tactic(auto)]
+
+ghost use Rattle.std.specs.Prelude.{◌≡◌, ◌↔◌, ◌∷◌, [], length, IsTrue, IfOk, IfErr};
+ghost use Rattle.fips204.specs.ParameterSets.{public_key_length, signature_length};
+ghost use Rattle.mldsa_engine.specs.ProgramText.{named_set, text, answer_word, TellsOfKey, Judges};
+
+use super::array_of;
+use super::writing::{refusal, word_line};
+use crate::call::SetName;
+use crate::fault::RunFault;
+use fips204::traits::{SerDes, Verifier};
+use fips204::xof::Xof;
+use fips204::{ml_dsa_44, ml_dsa_65, ml_dsa_87};
+use std::alloc::Global;
+
+/// Whether a public key of a set accepts a signature, as a word and a truth value.
+#[tactic(auto, using(crate::proofs::Lengths::signatures))]
+pub(super) fn verdict_of<H: Xof, G: Xof>(
+    alloc: Global,
+    set: SetName,
+    key: &[u8],
+    signature: &[u8],
+    context: &[u8],
+    message: &[u8],
+) -> Result<(Vec<u8>, bool), RunFault>
+    requires key { length key.now ≡ public_key_length (named_set set) }
+    requires signature { length signature.now ≡ signature_length (named_set set) }
+    ensures given { IfOk result (λ given. Judges (named_set set) H.front G.front key.now signature.now context.now message.now given.0.items given.1) }
+    ensures memory { IfErr result (λ fault. fault ≡ RunFault.Memory) }
+{
+    match set {
+        SetName::MlDsa44 => {
+            judged::<ml_dsa_44::PublicKey<H, G>, _, _>(alloc, key, signature, context, message)
+        }
+        SetName::MlDsa65 => {
+            judged::<ml_dsa_65::PublicKey<H, G>, _, _>(alloc, key, signature, context, message)
+        }
+        SetName::MlDsa87 => {
+            judged::<ml_dsa_87::PublicKey<H, G>, _, _>(alloc, key, signature, context, message)
+        }
+    }
+}
+
+/// Whether the public key that has these bytes accepts a signature, or the refusal.
+fn judged<K, const PK_LEN: usize, const SIG_LEN: usize>(
+    alloc: Global,
+    key: &[u8],
+    signature: &[u8],
+    context: &[u8],
+    message: &[u8],
+) -> Result<(Vec<u8>, bool), RunFault>
+where
+    K: SerDes<ByteArray = [u8; PK_LEN]> + Verifier<Signature = [u8; SIG_LEN]> + Drop,
+    requires key { length key.now ≡ PK_LEN }
+    requires signature { length signature.now ≡ SIG_LEN }
+    ensures given { IfOk result (λ given. TellsOfKey (K.decodes key.now) (λ pk output answer. (IsTrue answer ↔ K.accepts pk message.now signature.now context.now) × (output ≡ text (answer_word answer ∷ []))) given.0.items given.1) }
+    ensures memory { IfErr result (λ fault. fault ≡ RunFault.Memory) }
+{
+    match K::try_from_bytes(array_of(key)) {
+        Ok(key) => verdict(alloc, key.verify(message, &array_of(signature), context)),
+        Err(fault) => refusal(alloc, fault),
+    }
+}
+
+/// The word for an answer, on a line, and the answer.
+fn verdict(alloc: Global, answer: bool) -> Result<(Vec<u8>, bool), RunFault>
+    ensures given { IfOk result (λ given. (given.0.items ≡ text (answer_word answer ∷ [])) × (given.1 ≡ answer)) }
+    ensures memory { IfErr result (λ fault. fault ≡ RunFault.Memory) }
+{
+    let word = if answer { "yes" } else { "no" };
+    Ok((word_line(alloc, word)?, answer))
+}

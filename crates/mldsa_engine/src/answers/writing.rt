@@ -1,0 +1,57 @@
+//! Lines of output.
+#![tactic(auto)]
+
+ghost use Rattle.std.specs.Prelude.{◌≡◌, ◌++◌, ◌∷◌, [], IfOk, IfErr, OnOk};
+ghost use Rattle.mldsa_engine.specs.ProgramText.{text, hex_text, Refuses};
+
+use crate::fault::RunFault;
+use fips204::Fault;
+use std::alloc::Global;
+
+/// A refusal: its words on a line, and false.
+pub(super) fn refusal(alloc: Global, fault: Fault) -> Result<(Vec<u8>, bool), RunFault>
+    ensures given { IfOk result (λ given. Refuses fault given.0.items given.1) }
+    ensures memory { IfErr result (λ fault. fault ≡ RunFault.Memory) }
+{
+    Ok((word_line(alloc, fault.as_str())?, false))
+}
+
+/// A line of these characters.
+pub(super) fn word_line(alloc: Global, word: &str) -> Result<Vec<u8>, RunFault>
+    ensures given { IfOk result (λ written. written.items ≡ text (word.now ∷ [])) }
+    ensures memory { IfErr result (λ fault. fault ≡ RunFault.Memory) }
+{
+    let mut written = Vec::new(alloc);
+    push_line(&mut written, word)?;
+    Ok(written)
+}
+
+/// A line that spells these bytes in lower case hex.
+pub(super) fn one_line(alloc: Global, bytes: &[u8]) -> Result<Vec<u8>, RunFault>
+    ensures given { IfOk result (λ written. written.items ≡ hex_text (bytes.now ∷ [])) }
+    ensures memory { IfErr result (λ fault. fault ≡ RunFault.Memory) }
+{
+    let line = hex::encode(alloc, bytes)?;
+    word_line(alloc, line.as_str())
+}
+
+/// Two lines that spell these bytes in lower case hex.
+pub(super) fn two_lines(alloc: Global, first: &[u8], second: &[u8]) -> Result<Vec<u8>, RunFault>
+    ensures given { IfOk result (λ written. written.items ≡ hex_text (first.now ∷ second.now ∷ [])) }
+    ensures memory { IfErr result (λ fault. fault ≡ RunFault.Memory) }
+{
+    let mut written = one_line(alloc, first)?;
+    let line = hex::encode(alloc, second)?;
+    push_line(&mut written, line.as_str())?;
+    Ok(written)
+}
+
+/// Adds a line of these characters.
+fn push_line(written: &mut Vec<u8>, word: &str) -> Result<(), RunFault>
+    ensures given { OnOk result (written.new.items ≡ written.old.items ++ (word.now ++ 10 ∷ [])) }
+    ensures memory { IfErr result (λ fault. fault ≡ RunFault.Memory) }
+{
+    written.extend_from_slice(word.as_bytes())?;
+    written.push(b'\n')?;
+    Ok(())
+}
