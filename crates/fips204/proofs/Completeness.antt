@@ -1,5 +1,5 @@
 -- What signing gives with a whole private key is accepted.
-use Rattle.std.proofs.Common.{◌≡◌, ◌<◌, ◌≤◌, ◌≤ℤ◌, ◌-◌, ℕ, List, ◌++◌, ℤ, pos, negsuc, ◌-ℤ◌, length, nat_abs, Bool, true, false, IsTrue, Ok, refl, ap, sym, arith, if◌then◌else◌}
+use Rattle.std.proofs.Common.{◌≡◌, ◌<◌, ◌≤◌, ◌≤ℤ◌, ◌-◌, ℕ, List, ◌++◌, ℤ, pos, negsuc, ◌-ℤ◌, length, nat_abs, Bool, true, false, IsTrue, Ok, ap, sym, arith, if◌then◌else◌}
 use Rattle.std.proofs.lemmas.Int.{ints}
 use Rattle.std.proofs.lemmas.List.{length-take-le}
 use Rattle.fips204_base.specs.declared.types.R.{R}
@@ -16,10 +16,10 @@ use Rattle.fips204.specs.KeyGeneration.{IsWhole, high_part, low_part}
 use Rattle.fips204.specs.Attempts.{commitment, high_vector, scaled, response, lowered_vector, hint_vector}
 use Rattle.fips204.specs.Signing.{sign}
 use Rattle.fips204.specs.Acceptance.{Accepts, Verifies}
+use Rattle.fips204.proofs.Judgements.{centred-again}
 use Rattle.fips204.proofs.KeptHints.{norm_of_place, hinted_is_high}
 use Rattle.fips204.proofs.SetNumbers.{AreSetNumbers, set_numbers}
 use Rattle.fips204.proofs.SignedAttempts.{WasSigned, signed_by_attempt}
-use Rattle.fips204.proofs.VerifiedVectors.{centred_residue}
 
 -- ---- the parts of the signature
 
@@ -28,11 +28,6 @@ unfolding commitment
 length-commitment p H mu w1 whole short =
     let long = whole (mu ++ w1_bytes p.gamma2 w1) in
     length-take-le (commitment_length p) (H (mu ++ w1_bytes p.gamma2 w1)) (omega (arith, long, short))
-
--- centring twice is centring once
-pub centred_twice : (x : ℤ) → centred (centred x) ≡ centred x
-unfolding centred
-centred_twice x = let e = centred_residue x in rw e refl
 
 within_range : (g : ℕ) (x : ℤ) → nat_abs x < g → ((pos 0 -ℤ pos (g - 1)) ≤ℤ x) × (x ≤ℤ pos g)
 within_range g (pos n) h = (omega (arith, ints, h), omega (arith, ints, h))
@@ -44,7 +39,7 @@ response_range p sk y c norm =
     let x = λ (r n : ℕ). pos (plus (vector_coefficients y r) (scaled c (vector_coefficients sk.s1) r) n) in
     vector_of-range p.l (p.gamma1 - 1) p.gamma1 (λ r n. centred (x r n)) (λ r n h below.
     let place = norm_of_place p.l (λ r n. centred (x r n)) r n h below in
-    let same : nat_abs (centred (centred (x r n))) ≡ nat_abs (centred (x r n)) = ap nat_abs (centred_twice (x r n)) in
+    let same : nat_abs (centred (centred (x r n))) ≡ nat_abs (centred (x r n)) = ap nat_abs (centred-again (x r n)) in
     within_range p.gamma1 (centred (x r n)) (omega (arith, place, same, norm)))
 
 bit_range : (b : Bool) → ((pos 0 -ℤ pos 0) ≤ℤ (if b then pos 1 else pos 0)) × ((if b then pos 1 else pos 0) ≤ℤ pos 1)

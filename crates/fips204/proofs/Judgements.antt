@@ -34,7 +34,7 @@ centred-small x =
     ]
 
 -- a small integer is its own centred value
-centred-own : (x : ℤ) → nat_abs x ≤ 4190208 → centred x ≡ x
+pub centred-own : (x : ℤ) → nat_abs x ≤ 4190208 → centred x ≡ x
 unfolding centred
 centred-own x h =
     let below = residue_below x in

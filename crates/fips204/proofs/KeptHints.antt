@@ -2,8 +2,6 @@
 use Rattle.std.proofs.Common.{◌≡◌, inl, inr, ◌<◌, ◌≤◌, ◌≤ℤ◌, ◌+◌, ◌-◌, ◌*◌, ◌%◌, ℕ, List, [], ℤ, pos, negsuc, ◌-ℤ◌, get_or, length, nat_abs, Bool, true, false, Some, refl, ap, sym, subst, ◌∙◌, arith, if◌then◌else◌}
 use Rattle.std.specs.Prelude.{int_lt}
 use Rattle.std.proofs.lemmas.Int.{ints}
-use Rattle.std.proofs.lemmas.Bool.{le-leb, lt-leb}
-use Rattle.std.proofs.lemmas.List.Elements.{All-from_get_or}
 use Rattle.fips204_base.specs.declared.types.R.{R}
 use Rattle.fips204_base.specs.declared.types.T.{T}
 use Rattle.fips204_base.specs.declared.types.TheConstants.{R0}
@@ -19,7 +17,7 @@ use Rattle.fips204_base.proofs.HintLaws.{use_hint_of_make_hint, high_bits_stay}
 use Rattle.fips204_base.proofs.Laws.{row_below}
 use Rattle.fips204_base.proofs.Residues.{same_of, same_mod, same_sym}
 use Rattle.fips204_base.proofs.Rounds.{low_bits_near}
-use Rattle.fips204_base.proofs.VectorsOf.{length-vector_of, length-polynomial_of, vector_of-row, vector_of-at, vector_of-same}
+use Rattle.fips204_base.proofs.VectorsOf.{length-vector_of, length-polynomial_of, vector_of-row, vector_of-at}
 use Rattle.fips204.specs.ParameterSets.{ParameterSet}
 use Rattle.fips204.specs.Keys.{PrivateParts, eta_of_rows}
 use Rattle.fips204.specs.KeyGeneration.{high_part, low_part}
@@ -27,19 +25,12 @@ use Rattle.fips204.specs.SchemeLaws.{IsGamma2}
 use Rattle.fips204.specs.Attempts.{scaled, response, lowered_vector, low_vector, scaled_low_part, hint_vector, high_vector}
 use Rattle.fips204.specs.Acceptance.{verified_vector, hinted_vector}
 use Rattle.fips204.proofs.ChallengeBounds.{Near, near_same, near_turned, near_challenge_product}
+use Rattle.fips204.proofs.Judgements.{vector_of-ext, centred-own}
 use Rattle.fips204.proofs.Norms.{vector_norm_at, near_of_centred, centred_of_near}
 use Rattle.fips204.proofs.SetNumbers.{AreSetNumbers}
 use Rattle.fips204.proofs.VerifiedVectors.{verified_is}
 
 -- ---- vectors by their coefficients
-
-pub vector_of-equal : (k : ℕ) (f g : ℕ → ℕ → ℤ) → ((r n : ℕ) → r < k → n < 256 → f r n ≡ g r n) → vector_of k f ≡ vector_of k g
-vector_of-equal k f g h =
-    let empty : R = record { 0 = [] } in
-    let rows = length-vector_of k f in
-    vector_of-same k g (vector_of k f) rows (All-from_get_or (λ (w : R). length w.0 ≡ 256) (vector_of k f) empty (λ r l.
-    ap (λ (w : R). length w.0) (vector_of-row k f r empty (omega (arith, l, rows))) ∙ length-polynomial_of (f r)))
-    (λ r n d l below. vector_of-at k f r n d l below ∙ h r n l below)
 
 -- a coefficient is within the norm
 pub norm_of_place : (k : ℕ) (f : ℕ → ℕ → ℤ) (r n : ℕ) → r < k → n < 256 → nat_abs (centred (f r n)) ≤ vector_norm (vector_of k f)
@@ -50,15 +41,6 @@ norm_of_place k f r n h below =
     (vector_norm_at (vector_of k f) r n R0 (omega (arith, h, rows)) (omega (arith, below, long)))
 
 -- ---- sizes
-
--- a small integer is its own centred value
-pub centred_own : (x : ℤ) → nat_abs x ≤ 4190208 → centred x ≡ x
-unfolding centred
-centred_own (pos n) h = let e : residue (pos n) ≡ n = omega (arith, ints, h) in rw (e, le-leb n 4190208 (omega (arith, ints, h))) refl
-centred_own (negsuc n) h =
-    let e : residue (negsuc n) ≡ 8380416 - n = omega (arith, ints, h) in
-    let d : pos (8380416 - n) -ℤ pos 8380417 ≡ negsuc n = omega (arith, ints, h) in
-    rw (e, lt-leb (8380416 - n) 4190208 (omega (arith, ints, h))) d
 
 size_of_near : (n x : ℕ) → x < 8380417 → Near n x → nat_abs (centred_modulo 8380417 x) ≤ n
 size_of_near n x below p =
@@ -134,7 +116,7 @@ low_place p sk w c r n set norm h below =
     let x = low_bits p.gamma2 (lowered_vector sk w c r n) in
     let place = norm_of_place p.k (λ r n. low_bits p.gamma2 (lowered_vector sk w c r n)) r n h below in
     let small = low_bits_near p.gamma2 (lowered_vector sk w c r n) fits.0 (omega arith) in
-    let own : nat_abs (centred x) ≡ nat_abs x = ap nat_abs (centred_own x (omega (arith, small, fits))) in
+    let own : nat_abs (centred x) ≡ nat_abs x = ap nat_abs (centred-own x (omega (arith, small, fits))) in
     omega (arith, place, own, norm)
 
 scaled_place : (p : ParameterSet) (sk : PrivateParts) (c : R) (r n : ℕ) → vector_norm (scaled_low_part p sk c) < p.gamma2 → r < p.k → n < 256 → Near p.gamma2 (scaled c (vector_coefficients sk.t0) r n)
@@ -156,7 +138,7 @@ hinted_is_high p a sk y front c numbers second low made kept =
     let empty : R = record { 0 = [] } in
     let h = hint_vector p sk w c in
     let v = verified_vector p a (high_part p a sk.s1 sk.s2) (response p sk y c) c in
-    vector_of-equal p.k (λ r n. pos (use_hint p.gamma2 (is_one (get_or h r empty) n) (v r n))) (λ r n. pos (high_bits p.gamma2 (w r n))) (λ r n inside below.
+    vector_of-ext p.k (λ r n. pos (use_hint p.gamma2 (is_one (get_or h r empty) n) (v r n))) (λ r n. pos (high_bits p.gamma2 (w r n))) (λ r n inside below.
     let s = scaled c (vector_coefficients sk.s2) r n in
     let t = scaled c (vector_coefficients sk.t0) r n in
     let small : Near p.beta s = subst (λ b. Near b s) numbers.beta (near_challenge_product p.tau front c (vector_coefficients sk.s2 r) p.eta n made (λ j q.

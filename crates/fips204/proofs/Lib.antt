@@ -26,5 +26,6 @@ mod Completeness
 mod WholeKeys
 mod DecodedKeys
 mod AcceptedMessages
+mod SeedKeys
 mod AttemptParts
 mod Signings

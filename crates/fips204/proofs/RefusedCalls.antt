@@ -11,6 +11,10 @@ use Rattle.fips204.specs.PreHash.{pre_hash_fault}
 use Rattle.fips204.specs.Acceptance.{Verifies}
 use Rattle.fips204.specs.Refusals.{refused_or, digest_fault, VerifiesDigest}
 
+-- two values are the same where the options that hold them are
+pub same_some : {A : Type 0} (x y : A) → Some x ≡ Some y → x ≡ y
+same_some x y e = cc
+
 -- an answer comes where no refusal stands first
 pub no_fault : {A : Type 0} (fault : Option Fault) (a x : A) → refused_or fault (Ok a) ≡ Ok x → fault ≡ None
 no_fault None a x e = refl

@@ -26,6 +26,7 @@ use Rattle.fips204.specs.Acceptance.{verified_vector, hinted_vector, Verifies}
 use Rattle.fips204.specs.Attempts.{commitment}
 use Rattle.fips204.specs.Keys.{PublicParts}
 use Rattle.fips204.specs.ParameterSets.{ParameterSet, commitment_length}
+use Rattle.fips204.proofs.RefusedCalls.{same_some}
 use Rattle.fips204.proofs.Sampled.{within-more}
 
 -- ---- w1'
@@ -87,9 +88,6 @@ small_rows k f w rows values r d l n m =
     rw (row, values r n (omega (arith, l, rows)) m) (omega arith)
 
 -- ---- the parts of a signature
-
-same_some : {A : Type 0} (x y : A) → Some x ≡ Some y → x ≡ y
-same_some x y e = cc
 
 -- with the matrix, the challenge and w1' at hand the commitment decides
 pub decided : (p : ParameterSet) (H : List ℕ → List ℕ) (t1 z h w1 : List R) (mu c_tilde : List ℕ) (matrix : Option (List (List T))) (ball : Option R) (a : List (List T)) (c : R) (answer : Bool)

@@ -1,42 +1,25 @@
 -- A generated pair of keys: the private key is whole and in range, and the public key is its own.
-use Rattle.std.proofs.Common.{◌≡◌, ◌<◌, ◌-◌, ℕ, List, pos, length, take, drop, IsTrue, Some, None, Ok, refl, ap, sym, subst, ◌∙◌, arith, length-drop}
+use Rattle.std.proofs.Common.{◌≡◌, ◌-◌, ℕ, List, length, take, drop, IsTrue, Some, None, Ok, refl, ap, sym, subst, ◌∙◌, arith, length-drop}
 use Rattle.std.specs.Prelude.{option_map}
 use Rattle.std.specs.declared.option.Option.{Option}
-use Rattle.std.proofs.lemmas.Int.{ints}
 use Rattle.std.proofs.lemmas.List.{length-take-le}
 use Rattle.std.proofs.lemmas.Option.{none-some}
 use Rattle.fips204_base.specs.declared.types.R.{R}
 use Rattle.fips204_base.specs.declared.types.T.{T}
 use Rattle.fips204_base.specs.Encodings.{public_key_bytes}
 use Rattle.fips204_base.specs.MatrixEntry.{sampled_matrix}
-use Rattle.fips204_base.specs.Rounding.{power2round}
 use Rattle.fips204_base.specs.SmallPolynomial.{small_vector}
 use Rattle.fips204_base.specs.Vectors.{IsVector}
-use Rattle.fips204_base.proofs.Rounds.{power2round_high, power2round_low}
 use Rattle.fips204_base.proofs.SmallPolynomials.{small_vector-range}
-use Rattle.fips204_base.proofs.VectorsOf.{vector_of-range}
 use Rattle.fips204.specs.ParameterSets.{ParameterSet, is_row}
-use Rattle.fips204.specs.Keys.{PublicParts, PrivateParts, ArePrivateParts, IsHighPart, IsPublicKeyOf, eta_of_rows}
-use Rattle.fips204.specs.KeyGeneration.{IsWhole, key_vector, high_part, low_part, key_pair, key_pair_if_all, seeds, key_generation, public_key_of}
+use Rattle.fips204.specs.Keys.{PublicParts, PrivateParts, ArePrivateParts, IsPublicKeyOf, eta_of_rows}
+use Rattle.fips204.specs.KeyGeneration.{IsWhole, high_part, key_pair, key_pair_if_all, seeds, key_generation, public_key_of}
 use Rattle.fips204.specs.Signing.{sign}
 use Rattle.fips204.specs.Acceptance.{Verifies}
 use Rattle.fips204.proofs.Completeness.{completeness}
+use Rattle.fips204.proofs.KeyVectors.{high_part-range, low_part-range}
+use Rattle.fips204.proofs.RefusedCalls.{same_some}
 use Rattle.fips204.proofs.SetNumbers.{AreSetNumbers, set_numbers}
-
--- ---- the parts of t
-
-key_vector_below : (p : ParameterSet) (a : List (List T)) (s1 s2 : List R) (r n : ℕ) → key_vector p a s1 s2 r n < 8380417
-key_vector_below p a s1 s2 r n = omega arith
-
-high_range : (p : ParameterSet) (a : List (List T)) (s1 s2 : List R) → IsHighPart p.k (high_part p a s1 s2)
-unfolding high_part
-high_range p a s1 s2 = vector_of-range p.k 0 1023 (λ r n. pos (power2round (key_vector p a s1 s2 r n)).0) (λ r n h below.
-    let high = power2round_high (key_vector p a s1 s2 r n) (key_vector_below p a s1 s2 r n) in
-    (omega (arith, ints), omega (arith, ints, high)))
-
-low_range : (p : ParameterSet) (a : List (List T)) (s1 s2 : List R) → IsVector p.k 4095 4096 (low_part p a s1 s2)
-unfolding low_part
-low_range p a s1 s2 = vector_of-range p.k 4095 4096 (λ r n. (power2round (key_vector p a s1 s2 r n)).1) (λ r n h below. power2round_low (key_vector p a s1 s2 r n) (key_vector_below p a s1 s2 r n))
 
 -- ---- a private key and its public key
 
@@ -75,10 +58,10 @@ pair_of_parts p H G rho key a s1 s2 law m n there first second =
         hash = length-take-le 64 (H (public_key_bytes rho t1)) (omega (arith, long));
         first = first;
         second = second;
-        low = low_range p a s1 s2;
+        low = low_part-range p a s1 s2;
       };
       same = refl;
-      encoded = record { seed = m; high = high_range p a s1 s2; same_bytes = refl; hash = refl };
+      encoded = record { seed = m; high = high_part-range p a s1 s2; same_bytes = refl; hash = refl };
     }
 
 -- what a pair that is there was made of
@@ -90,9 +73,6 @@ record WasMade (p : ParameterSet) (H : List ℕ → List ℕ) (rho key : List �
   has_first : s1 ≡ Some first
   has_second : s2 ≡ Some second
   made : key_pair p H rho key matrix first second ≡ (pk, sk)
-
-some_same : {A : Type 0} (x y : A) → Some x ≡ Some y → x ≡ y
-some_same x y e = cc
 
 made_of : (p : ParameterSet) (H : List ℕ → List ℕ) (rho key : List ℕ) (a : Option (List (List T))) (s1 s2 : Option (List R)) (pk : PublicParts) (sk : PrivateParts)
     → key_pair_if_all p H rho key a s1 s2 ≡ Some (pk, sk) → WasMade p H rho key a s1 s2 pk sk
@@ -107,7 +87,7 @@ made_of p H rho key (Some a) (Some s1) (Some s2) pk sk e = record {
   has_matrix = refl;
   has_first = refl;
   has_second = refl;
-  made = some_same (key_pair p H rho key a s1 s2) (pk, sk) e;
+  made = same_some (key_pair p H rho key a s1 s2) (pk, sk) e;
 }
 
 -- the keys of a seed are a pair
@@ -139,5 +119,5 @@ pub derived_accepts : (p : ParameterSet) (H G : List ℕ → List ℕ) (pk : Pub
     → ArePrivateParts p.k p.l sk → IsWhole p G sk → public_key_of p G sk ≡ Some pk → sign p H G sk mu rnd ≡ Ok signature → Verifies p H G pk mu signature
 derived_accepts p H G pk sk mu rnd signature row law parts whole derived made =
     let own : PublicParts = record { rho = sk.rho; tr = sk.tr; t1 = high_part p whole.matrix sk.s1 sk.s2 } in
-    let same : own ≡ pk = some_same own pk (sym (public_key_of_whole p G sk whole) ∙ derived) in
+    let same : own ≡ pk = same_some own pk (sym (public_key_of_whole p G sk whole) ∙ derived) in
     subst (λ (k : PublicParts). Verifies p H G k mu signature) same (completeness p H G sk mu rnd signature row parts whole law made)

@@ -10,6 +10,7 @@ pub mod PreHash
 pub mod Refusals
 pub mod MessageLaws
 pub mod SchemeLaws
+pub mod Completeness
 pub use Rattle.fips204_base.specs.Blocks
 pub use Rattle.fips204_base.specs.CentredValues
 pub use Rattle.fips204_base.specs.Challenge

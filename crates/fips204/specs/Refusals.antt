@@ -54,7 +54,7 @@ pub record VerifiesDigest (p : ParameterSet) (H G : List ℕ → List ℕ) (pk :
 -- refused; gives and refuses are what the generator states of such a call, from before to after
 abbrev pub Draws : {S A : Type 0} → (S → ℕ → List ℕ → S → Type 0) → (S → ℕ → S → Type 0) → S → S → Fault → (List ℕ → Result A Fault) → Result A Fault → Type 0
 Draws gives refuses before after refusal answer result =
-    ((bytes : List ℕ) × gives before 32 bytes after × (result ≡ answer bytes)) ⊎ (refuses before 32 after × (result ≡ Err refusal))
+    ((bytes : List ℕ) × gives before 32 bytes after × (length bytes ≡ 32) × (result ≡ answer bytes)) ⊎ (refuses before 32 after × (result ≡ Err refusal))
 
 -- the same with a refusal that stands before the generator, which then stays as it was
 abbrev pub DrawsUnless : {S A : Type 0} → Option Fault → (S → ℕ → List ℕ → S → Type 0) → (S → ℕ → S → Type 0) → S → S → Fault → (List ℕ → Result A Fault) → Result A Fault → Type 0

@@ -6,6 +6,7 @@
 #![tactic(auto)]
 
 ghost use Rattle.fips204_base.specs.Laws.{ProductOfTransforms, InverseOfTransform};
+ghost use Rattle.fips204.specs.Completeness.{SignedIsAccepted};
 ghost use Rattle.fips204.specs.MessageLaws.{FramingIsOneToOne, SignatureBindsMessage};
 ghost use Rattle.fips204.specs.SchemeLaws.{HintGivesHighBits, HintStaysNear, HighBitsStay, ChallengeProductIsSmall, SignatureHasOneSpelling, HintHasOneSpelling};
 
@@ -65,4 +66,12 @@ pub fn framing()
 /// or the two values of mu collide, before the one encoded `w1`, in the bytes of `c_tilde`.
 pub fn binding()
     ensures { SignatureBindsMessage }
+{}
+
+/// What a whole private key signs is accepted by the public key that is derived of it. And both keys of a
+/// seed stay the same where they go through their bytes, or where the public key is derived of the private
+/// one; so what the private key signs is accepted by the public key, whichever way the two came. Both hold
+/// of messages, digests and the hooks' hashes, and whatever the random bytes.
+pub fn signed_is_accepted()
+    ensures { SignedIsAccepted }
 {}

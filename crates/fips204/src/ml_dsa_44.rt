@@ -9,7 +9,7 @@ ghost use Rattle.fips204.specs.Refusals.{generated, Draws, DrawsIf};
 ghost use Rattle.fips204.specs.Signing.{sign};
 
 use crate::ml_dsa;
-use crate::traits::{CryptoRngCore, KeyGen, SerDes, Signer, Verifier, draw};
+use crate::traits::{CryptoRngCore, KeyGen, Scheme, SerDes, Signer, Verifier, draw};
 use crate::types::{self, ML_DSA_44};
 use fips204_base::Fault;
 use fips204_base::encodings::{pk_encode, sk_encode};
@@ -66,6 +66,40 @@ impl<H: Xof, G: Xof> KeyGen for KG<H, G> {
 
     fn keygen_from_seed(xi: &[u8; 32]) -> Result<(PublicKey<H, G>, PrivateKey<H, G>), Fault> {
         ml_dsa::key_gen_internal::<K, L, PK_LEN, H, G>(&ML_DSA_44, xi)
+    }
+}
+
+impl<H: Xof, G: Xof> Scheme for KG<H, G> {
+    ghost use Rattle.fips204.specs.ParameterSets.{set_44};
+    ghost use Rattle.fips204.specs.Refusals.{generated, sign_message, VerifiesMessage};
+
+    type Public = PublicKey<H, G>;
+
+    type Private = PrivateKey<H, G>;
+
+    type Signature = [u8; SIG_LEN];
+
+    ghost generated = { generated set_44 H.front G.front };
+
+    ghost signs = { sign_message set_44 H.front G.front };
+
+    ghost accepts = { VerifiesMessage set_44 H.front G.front };
+
+    fn keygen(xi: &[u8; 32]) -> Result<(PublicKey<H, G>, PrivateKey<H, G>), Fault> {
+        KG::<H, G>::keygen_from_seed(xi)
+    }
+
+    fn sign(
+        sk: &PrivateKey<H, G>,
+        rnd: &[u8; 32],
+        message: &[u8],
+        ctx: &[u8],
+    ) -> Result<[u8; SIG_LEN], Fault> {
+        sk.try_sign_with_seed(rnd, message, ctx)
+    }
+
+    fn verify(pk: &PublicKey<H, G>, message: &[u8], signature: &[u8; SIG_LEN], ctx: &[u8]) -> bool {
+        pk.verify(message, signature, ctx)
     }
 }
 

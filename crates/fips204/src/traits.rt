@@ -1,7 +1,7 @@
 //! What every parameter set offers.
 #![tactic(auto)]
 
-ghost use Rattle.std.specs.Prelude.{◌≡◌, ◌≢◌, ◌↔◌, ℕ, List, length, IsTrue, MatchResult};
+ghost use Rattle.std.specs.Prelude.{◌≡◌, ◌≢◌, ◌↔◌, ℕ, List, length, Ok, Err, true, IsTrue, MatchResult};
 
 use crate::types::pre_hash::check_pre_hash;
 use fips204_base::Fault;
@@ -25,6 +25,7 @@ pub trait CryptoRngCore {
 
 /// The generator of one seed: it gives these 32 bytes to each call that asks for 32, and refuses every
 /// other, leaving `out` as it was.
+#[derive(Drop)]
 pub struct DummyRng {
     /// The bytes.
     pub bytes: [u8; 32],
@@ -49,7 +50,7 @@ impl CryptoRngCore for DummyRng {
 
 /// 32 bytes that the generator is asked for once, or the refusal that stands for its own.
 pub(crate) fn draw<R: CryptoRngCore>(rng: &mut R, refusal: Fault) -> Result<[u8; 32], Fault>
-    ensures { MatchResult result (λ bytes. R.gives rng.old 32 bytes rng.new) (λ fault. (fault ≡ refusal) × R.refuses rng.old 32 rng.new) }
+    ensures { MatchResult result (λ bytes. R.gives rng.old 32 bytes rng.new × (length bytes ≡ 32)) (λ fault. (fault ≡ refusal) × R.refuses rng.old 32 rng.new) }
 {
     let mut bytes = [0u8; 32];
     match rng.try_fill_bytes(&mut bytes) {
@@ -201,6 +202,63 @@ pub trait Verifier {
         hash_oid: &[u8],
     ) -> bool
         ensures { IsTrue result ↔ accepts_digest self.now hash.now signature.now ctx.now hash_oid.now };
+}
+
+/// A signature scheme: what it signs with the private key of a pair, it accepts with the public one.
+pub trait Scheme {
+    ghost use Rattle.std.specs.Prelude.{◌≡◌, ◌↔◌, ℕ, List, Ok, Result, IsTrue};
+    ghost use Rattle.fips204_base.specs.declared.fault.Fault.{Fault};
+
+    /// The public key of a pair.
+    type Public: Drop;
+
+    /// The private key of a pair.
+    type Private: Drop;
+
+    /// A signature.
+    type Signature: Drop;
+
+    // Both keys of a seed, or the refusal.
+    ghost generated: { List ℕ → Result (Self.Public × Self.Private) Fault };
+
+    // What signing answers for random bytes, a message and a context.
+    ghost signs: { Self.Private → List ℕ → List ℕ → List ℕ → Result Self.Signature Fault };
+
+    // Whether the key accepts a message, a signature and a context.
+    ghost accepts: { Self.Public → List ℕ → Self.Signature → List ℕ → Type 0 };
+
+    /// Both keys of a seed, or the refusal.
+    fn keygen(xi: &[u8; 32]) -> Result<(Self::Public, Self::Private), Fault>
+        ensures { result ≡ generated xi.now };
+
+    /// Signs a message under a context with these random bytes, or refuses.
+    fn sign(
+        sk: &Self::Private,
+        rnd: &[u8; 32],
+        message: &[u8],
+        ctx: &[u8],
+    ) -> Result<Self::Signature, Fault>
+        ensures { result ≡ signs sk.now rnd.now message.now ctx.now };
+
+    /// Whether the signature of a message and a context is accepted. True for what `sign` answers with the
+    /// private key of a pair, whose public key this is, for the same message and context.
+    fn verify(pk: &Self::Public, message: &[u8], signature: &Self::Signature, ctx: &[u8]) -> bool
+        ensures answer { IsTrue result ↔ accepts pk.now message.now signature.now ctx.now }
+        ensures signed_is_accepted { (xi rnd : List ℕ) (sk : Self.Private) → generated xi ≡ Ok (pk.now, sk) → signs sk rnd message.now ctx.now ≡ Ok signature.now → IsTrue result };
+}
+
+/// Makes a pair, signs with it and verifies: true, or the first refusal, and never false.
+pub fn pairwise_check<S: Scheme>(
+    xi: &[u8; 32],
+    rnd: &[u8; 32],
+    message: &[u8],
+    ctx: &[u8],
+) -> Result<bool, Fault>
+    ensures { MatchResult (S.generated xi.now) (λ pair. MatchResult (S.signs pair.1 rnd.now message.now ctx.now) (λ _. result ≡ Ok true) (λ fault. result ≡ Err fault)) (λ fault. result ≡ Err fault) }
+{
+    let (pk, sk) = S::keygen(xi)?;
+    let signature = S::sign(&sk, rnd, message, ctx)?;
+    Ok(S::verify(&pk, message, &signature, ctx))
 }
 
 /// Values that go through byte arrays of one length and back.

@@ -4,7 +4,7 @@ use Rattle.fips204_base.specs.Residues.{listed}
 use Rattle.fips204_base.specs.Transforms.{transform, inverse_transform}
 use Rattle.fips204_base.specs.Products.{product, pointwise}
 
--- the product of two transforms, value by value, is the transform of the negacyclic product
+-- the inverse transform of the product of two transforms, value by value, is the negacyclic product
 abbrev pub ProductOfTransforms : Type 0
 ProductOfTransforms = (a b : ℕ → ℕ) → listed (inverse_transform (pointwise (transform a) (transform b))) ≡ listed (product a b)
 

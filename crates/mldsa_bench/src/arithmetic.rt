@@ -4,10 +4,12 @@
 ghost use Rattle.std.specs.Prelude.{◌≤◌, ◌<◌, nat_abs};
 ghost use Rattle.std.specs.List.{All};
 
-use fips204::helpers::{Count, ZETA_TABLE_MONT, center_mod, infinity_norm, mont_reduce};
+use fips204::hashing::sample_in_ball;
+use fips204::helpers::{Count, ZETA_TABLE_MONT, center_mod, infinity_norm, mont_reduce, to_mont};
 use fips204::ntt::{inv_ntt, ntt};
 use fips204::product::challenge_times_vector;
-use fips204::types::R;
+use fips204::types::{R, T};
+use fips204::xof::Fill;
 use std::test::Fail;
 
 #[test]
@@ -122,6 +124,31 @@ fn fast_product(a: [i32; 256], b: [i32; 256]) -> [i32; 256]
     challenge_times_vector(&R(a), &[R(b)])[0].0
 }
 
+/// What `mont_reduce` gives, or 0 outside of its range.
+fn reduced(wide: i64) -> i32
+    ensures { nat_abs result ≤ 8380416 }
+{
+    if -17996808470921216 <= wide && wide <= 17996808462540799 {
+        mont_reduce(wide)
+    } else {
+        0
+    }
+}
+
+/// The product, by transforms in Montgomery form.
+fn product_of_transforms(a: [i32; 256], b: [i32; 256]) -> [i32; 256]
+    requires first { All (λ x. nat_abs x ≤ 8380416) a }
+    requires second { All (λ x. nat_abs x ≤ 8380416) b }
+{
+    let [T(first)] = to_mont(&[T(counted_ntt(a).0)]);
+    let (second, _) = counted_ntt(b);
+    let mut product = [0; 256];
+    for i in 0..256usize {
+        product[i] = reduced(i64::from(first[i]) * i64::from(second[i]));
+    }
+    counted_inv_ntt(product).0
+}
+
 /// Whether every value is congruent to this one modulo `q`.
 fn all_congruent(values: &[i32], x: i32) -> bool {
     values
@@ -145,6 +172,8 @@ fn transforms_of_one_and_x(rt: HostRuntime) -> Result<(), Fail> {
 fn products_of_polynomials(rt: HostRuntime) -> Result<(), Fail> {
     let product = fast_product(monomial(255, 1), monomial(1, 1));
     assert!(rt; product == monomial(0, 8380416));
+    let product = product_of_transforms(monomial(255, 1), monomial(1, 1));
+    assert!(rt; product == monomial(0, 8380416));
     for number in [1u32, 77, 40000, 1234567890] {
         let a = scattered(number);
         let b = scattered(number.wrapping_add(1));
@@ -155,6 +184,23 @@ fn products_of_polynomials(rt: HostRuntime) -> Result<(), Fail> {
     }
     let most = [8380416; 256];
     assert!(rt; fast_product(most, most) == slow_product(&most, &most));
+    Ok(())
+}
+
+#[test]
+fn challenge_times_a_constant(rt: HostRuntime) -> Result<(), Fail> {
+    let R(c) = sample_in_ball::<Fill<0x55>>(39, b"abc")?;
+    let product = slow_product(&c, &[2; 256]);
+    for i in 0..256usize {
+        let wanted = if i < 85 {
+            2
+        } else if i >= 218 && i % 2 == 0 {
+            -6
+        } else {
+            -2
+        };
+        assert!(rt; all_congruent(&[product[i]], wanted), "place {i}");
+    }
     Ok(())
 }
 

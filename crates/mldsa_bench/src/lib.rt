@@ -4,12 +4,46 @@
 #[cfg(test)]
 mod arithmetic;
 #[cfg(test)]
+mod coefficients;
+#[cfg(test)]
 mod devices;
 #[cfg(test)]
+mod digests;
+#[cfg(test)]
+mod drawing;
+#[cfg(test)]
+mod expected;
+#[cfg(test)]
 mod fronts;
+#[cfg(test)]
+mod generator;
+#[cfg(test)]
+mod hints;
+#[cfg(test)]
+mod keys;
+#[cfg(test)]
+mod limits;
+#[cfg(test)]
+mod object_identifiers;
 #[cfg(test)]
 mod program;
 #[cfg(test)]
 mod public_keys;
 #[cfg(test)]
+mod recorded;
+#[cfg(test)]
+mod recorded_44;
+#[cfg(test)]
+mod recorded_65;
+#[cfg(test)]
+mod recorded_87;
+#[cfg(test)]
 mod refusals;
+#[cfg(test)]
+mod rounding;
+#[cfg(test)]
+mod samplers;
+#[cfg(test)]
+mod signatures;
+#[cfg(test)]
+mod streams;

@@ -257,6 +257,36 @@ fn signature_over_a_key_without_matrix(rt: HostRuntime) -> Result<(), Fail> {
 }
 
 #[test]
+fn pairs_checked_by_what_they_sign(rt: HostRuntime) -> Result<(), Fail> {
+    for (streams, digits, answer, text) in [
+        ("fill55", 0usize, true, b"yes\n".as_slice()),
+        (
+            "fill00",
+            0,
+            false,
+            b"ML-DSA.Sign: too many attempts\n".as_slice(),
+        ),
+        (
+            "fill55",
+            512,
+            false,
+            b"ML-DSA.Sign: ctx too long\n".as_slice(),
+        ),
+        ("fillff", 512, false, b"sampling limit reached\n".as_slice()),
+    ] {
+        let bytes = lines_of(
+            rt.alloc(),
+            &[(b'0', 64), (b'0', 64), (b'0', digits), (b'0', 2)],
+        )?;
+        let outcome = run_of(rt.alloc(), streams, "check", "44", bytes.as_slice())?;
+        assert_eq!(rt; outcome.answer, Ok(answer));
+        assert!(rt; outcome.written.as_slice() == text);
+        assert_eq!(rt; outcome.unread, 0);
+    }
+    Ok(())
+}
+
+#[test]
 fn words_that_are_no_call(rt: HostRuntime) -> Result<(), Fail> {
     for (streams, command, set) in [
         ("fill55", "id", "45"),

@@ -2,10 +2,10 @@
 use Rattle.std.proofs.Common.{◌≡◌, ℕ, Bool, true, List, [], ◌∷◌, map, take, get_or, Option, Result, Ok, Err, IfOk, Some, None, refl}
 use Rattle.fips204.specs.ParameterSets.{public_key_length, private_key_length, signature_length}
 use Rattle.mldsa_engine.specs.declared.call.Task.{Task}
-use Rattle.mldsa_engine.specs.declared.call.Task.TheVariants.{Id, Sign, Verify}
+use Rattle.mldsa_engine.specs.declared.call.Task.TheVariants.{Id, Sign, Verify, Check}
 use Rattle.mldsa_engine.specs.declared.call.SetName.{SetName}
 use Rattle.mldsa_engine.specs.Lines.{AllFit}
-use Rattle.mldsa_engine.specs.ProgramText.{named_set, wanted_lines, hex_text, Signs, Judges, Answers}
+use Rattle.mldsa_engine.specs.ProgramText.{named_set, wanted_lines, hex_text, Signs, Judges, Checks, Answers}
 
 -- one line is wanted, so the first is all of them
 pub one_counted : {V : Type 0} (items : V → List ℕ) (w : Option ℕ) (lines : List V) (first : V)
@@ -58,3 +58,16 @@ verify_answers items bytes H G task set lines key signature context message k s 
     let wanted = rw named at fit in
     let four = four_counted items (Some (public_key_length (named_set set))) (Some (signature_length (named_set set))) None None lines key signature context message wanted p0 p1 p2 p3 in
     rw named (items key, items signature, items context, items message, four, rw (e0, e1, e2, e3) at judges)
+
+pub check_answers : {V W E : Type 0} (items : V → List ℕ) (bytes : W → List ℕ) (H G : List ℕ → List ℕ) (task : Task) (set : SetName)
+    (lines : List V) (xi rnd context message : V) (x r c m : List ℕ) (result : Result (W × Bool) E)
+    → task ≡ Check → AllFit (wanted_lines task set) (map items lines)
+    → xi ≡ get_or lines 0 xi → rnd ≡ get_or lines 1 rnd → context ≡ get_or lines 2 context → message ≡ get_or lines 3 message
+    → x ≡ items xi → r ≡ items rnd → c ≡ items context → m ≡ items message
+    → IfOk result (λ given. Checks (named_set set) H G x r c m (bytes given.0) given.1)
+    → IfOk result (λ given. Answers H G task set (map items lines) (bytes given.0) given.1)
+check_answers items bytes H G task set lines xi rnd context message x r c m (Err fault) named fit p0 p1 p2 p3 e0 e1 e2 e3 checks = checks
+check_answers items bytes H G task set lines xi rnd context message x r c m (Ok given) named fit p0 p1 p2 p3 e0 e1 e2 e3 checks =
+    let wanted = rw named at fit in
+    let four = four_counted items (Some 32) (Some 32) None None lines xi rnd context message wanted p0 p1 p2 p3 in
+    rw named (items xi, items rnd, items context, items message, four, rw (e0, e1, e2, e3) at checks)

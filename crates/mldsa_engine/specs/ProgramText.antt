@@ -11,7 +11,7 @@ use Rattle.fips204.specs.ParameterSets.{ParameterSet, set_44, set_65, set_87, pu
 use Rattle.fips204.specs.Refusals.{generated, sign_message, VerifiesMessage}
 use Rattle.mldsa_engine.specs.Lines.{TakesLines}
 use Rattle.mldsa_engine.specs.declared.call.Task.{Task}
-use Rattle.mldsa_engine.specs.declared.call.Task.TheVariants.{Id, Keygen, Sign, Verify}
+use Rattle.mldsa_engine.specs.declared.call.Task.TheVariants.{Id, Keygen, Sign, Verify, Check}
 use Rattle.mldsa_engine.specs.declared.call.SetName.{SetName}
 use Rattle.mldsa_engine.specs.declared.call.SetName.TheVariants.{MlDsa44, MlDsa65, MlDsa87}
 
@@ -27,6 +27,7 @@ wanted_lines Id set = Some (public_key_length (named_set set)) ∷ []
 wanted_lines Keygen set = Some 32 ∷ []
 wanted_lines Sign set = Some (private_key_length (named_set set)) ∷ Some 32 ∷ None ∷ None ∷ []
 wanted_lines Verify set = Some (public_key_length (named_set set)) ∷ Some (signature_length (named_set set)) ∷ None ∷ None ∷ []
+wanted_lines Check set = Some 32 ∷ Some 32 ∷ None ∷ None ∷ []
 
 -- lines as they are written, each ended by LF
 abbrev pub text : List (List ℕ) → List ℕ
@@ -73,6 +74,15 @@ Judges p H G key signature context message output answer = (pk : PublicParts)
     × (IsTrue answer ↔ VerifiesMessage p H G pk message signature context)
     × (output ≡ text (answer_word answer ∷ []))
 
+-- `check`: yes where the seed's pair signs the message, which its public key then accepts, or the first refusal
+abbrev pub Checks : ParameterSet → (List ℕ → List ℕ) → (List ℕ → List ℕ) → List ℕ → List ℕ → List ℕ → List ℕ → List ℕ → Bool → Type 0
+Checks p H G xi rnd context message output answer =
+    MatchResult (generated p H G xi)
+    (λ keys. MatchResult (sign_message p H G keys.1 rnd message context)
+    (λ _. (output ≡ text (answer_word true ∷ [])) × (answer ≡ true))
+    (λ fault. Refuses fault output answer))
+    (λ fault. Refuses fault output answer)
+
 -- what a command writes and answers, given the bytes of its lines, over the streams H and G; `id` writes the public key and
 -- its hash
 abbrev pub Answers : (List ℕ → List ℕ) → (List ℕ → List ℕ) → Task → SetName → List (List ℕ) → List ℕ → Bool → Type 0
@@ -84,6 +94,8 @@ Answers H G Sign set lines output answer = (key seed context message : List ℕ)
     × Signs (named_set set) H G key seed context message output answer
 Answers H G Verify set lines output answer = (key signature context message : List ℕ) × (lines ≡ key ∷ signature ∷ context ∷ message ∷ [])
     × Judges (named_set set) H G key signature context message output answer
+Answers H G Check set lines output answer = (xi rnd context message : List ℕ) × (lines ≡ xi ∷ rnd ∷ context ∷ message ∷ [])
+    × Checks (named_set set) H G xi rnd context message output answer
 
 -- a run over the streams H and G ended with this answer: its reader gave the wanted lines and has left what follows them, and its
 -- writer got what the command writes for them, and nothing else

@@ -5,6 +5,7 @@ ghost use Rattle.std.specs.Prelude.{◌≡◌, length, map, Ok, Err, IfOk, IfErr
 ghost use Rattle.mldsa_engine.specs.Lines.{AllFit};
 ghost use Rattle.mldsa_engine.specs.ProgramText.{wanted_lines, Answers};
 
+mod checking;
 mod keys;
 mod signing;
 mod verifying;
@@ -53,6 +54,7 @@ pub(crate) fn wanted_of(task: Task, set: SetName) -> &'static [Option<usize>]
                 None,
             ]
         }
+        (Task::Check, _) => &[Some(32), Some(32), None, None],
     }
 }
 
@@ -86,6 +88,14 @@ pub(crate) fn answer_of<H: Xof, G: Xof>(
             set,
             lines[0].as_slice(),
             lines[1].as_slice(),
+            lines[2].as_slice(),
+            lines[3].as_slice(),
+        ),
+        Task::Check => checking::check_of::<H, G>(
+            alloc,
+            set,
+            &array_of(lines[0].as_slice()),
+            &array_of(lines[1].as_slice()),
             lines[2].as_slice(),
             lines[3].as_slice(),
         ),

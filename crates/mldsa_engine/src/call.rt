@@ -28,6 +28,8 @@ pub enum Task {
     Sign,
     /// Prints whether a signature is accepted.
     Verify,
+    /// Makes the keys of a seed, signs with them and prints whether that is accepted.
+    Check,
 }
 
 /// A parameter set of FIPS 204.
@@ -65,6 +67,7 @@ fn task_of(word: &str) -> Option<Task>
         "keygen" => Some(Task::Keygen),
         "sign" => Some(Task::Sign),
         "verify" => Some(Task::Verify),
+        "check" => Some(Task::Check),
         _ => None,
     }
 }

@@ -6,7 +6,7 @@ ghost use Rattle.fips204.specs.ParameterSets.{public_key_length, signature_lengt
 ghost use Rattle.mldsa_engine.specs.ProgramText.{named_set, text, answer_word, TellsOfKey, Judges};
 
 use super::array_of;
-use super::writing::{refusal, word_line};
+use super::writing::{refusal, verdict};
 use crate::call::SetName;
 use crate::fault::RunFault;
 use fips204::traits::{SerDes, Verifier};
@@ -61,13 +61,4 @@ where
         Ok(key) => verdict(alloc, key.verify(message, &array_of(signature), context)),
         Err(fault) => refusal(alloc, fault),
     }
-}
-
-/// The word for an answer, on a line, and the answer.
-fn verdict(alloc: Global, answer: bool) -> Result<(Vec<u8>, bool), RunFault>
-    ensures given { IfOk result (λ given. (given.0.items ≡ text (answer_word answer ∷ [])) × (given.1 ≡ answer)) }
-    ensures memory { IfErr result (λ fault. fault ≡ RunFault.Memory) }
-{
-    let word = if answer { "yes" } else { "no" };
-    Ok((word_line(alloc, word)?, answer))
 }

@@ -2,7 +2,7 @@
 #![tactic(auto)]
 
 ghost use Rattle.std.specs.Prelude.{◌≡◌, ◌++◌, ◌∷◌, [], IfOk, IfErr, OnOk};
-ghost use Rattle.mldsa_engine.specs.ProgramText.{text, hex_text, Refuses};
+ghost use Rattle.mldsa_engine.specs.ProgramText.{text, hex_text, answer_word, Refuses};
 
 use crate::fault::RunFault;
 use fips204::Fault;
@@ -14,6 +14,15 @@ pub(super) fn refusal(alloc: Global, fault: Fault) -> Result<(Vec<u8>, bool), Ru
     ensures memory { IfErr result (λ fault. fault ≡ RunFault.Memory) }
 {
     Ok((word_line(alloc, fault.as_str())?, false))
+}
+
+/// The word for an answer, on a line, and the answer.
+pub(super) fn verdict(alloc: Global, answer: bool) -> Result<(Vec<u8>, bool), RunFault>
+    ensures given { IfOk result (λ given. (given.0.items ≡ text (answer_word answer ∷ [])) × (given.1 ≡ answer)) }
+    ensures memory { IfErr result (λ fault. fault ≡ RunFault.Memory) }
+{
+    let word = if answer { "yes" } else { "no" };
+    Ok((word_line(alloc, word)?, answer))
 }
 
 /// A line of these characters.

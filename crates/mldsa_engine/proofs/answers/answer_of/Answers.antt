@@ -1,5 +1,5 @@
 use Rattle.std.proofs.Common.{rules, ◌∙◌}
-use Rattle.mldsa_engine.proofs.Counted.{id_answers, sign_answers, verify_answers}
+use Rattle.mldsa_engine.proofs.Counted.{id_answers, sign_answers, verify_answers, check_answers}
 use Rattle.mldsa_engine.proofs.answers.answer_of.Goals as goal
 
 pub returns-in_ok-written-in-Id-clause-given : goal.returns-in_ok-written-in-Id-clause-given
@@ -19,3 +19,10 @@ returns-in-Verify-clause-given g c =
     c.index-lines-0-in-Verify.is c.index-lines-1-in-Verify.is c.index-lines-2-in-Verify.is c.index-lines-3-in-Verify.is
     c.as_slice-in-Verify.ensures.value c.as_slice-in-Verify-2.ensures.value c.as_slice-in-Verify-3.ensures.value c.as_slice-in-Verify-4.ensures.value
     c.verdict_of.ensures.given
+
+pub returns-in-Check-clause-given : goal.returns-in-Check-clause-given
+returns-in-Check-clause-given g c =
+    check_answers (λ line. line.items) (λ written. written.items) _ _ _ _ _ _ _ _ _ _ _ _ _ _ c.in-Check.is c.requires.fit
+    c.index-lines-0-in-Check.is c.index-lines-1-in-Check.is c.index-lines-2-in-Check.is c.index-lines-3-in-Check.is
+    (c.array_of-in-Check.ensures ∙ c.as_slice-in-Check.ensures.value) (c.array_of-in-Check-2.ensures ∙ c.as_slice-in-Check-2.ensures.value) c.as_slice-in-Check-3.ensures.value c.as_slice-in-Check-4.ensures.value
+    c.check_of.ensures.given

@@ -1,0 +1,28 @@
+//! Coefficients from bytes.
+#![tactic(auto)]
+
+use fips204::conversion::{coeff_from_half_byte, coeff_from_three_bytes};
+use std::test::Fail;
+
+#[test]
+fn coefficients_of_three_bytes(rt: HostRuntime) -> Result<(), Fail> {
+    for (bytes, coefficient) in [
+        ([0x12, 0x34, 0x56], Some(5649426)),
+        ([0x12, 0x34, 0x80], Some(13330)),
+        ([0x01, 0xe0, 0x80], Some(57345)),
+        ([0x01, 0xe0, 0x7f], None),
+        ([0x00, 0xe0, 0x7f], Some(8380416)),
+    ] {
+        assert_eq!(rt; coeff_from_three_bytes(bytes), coefficient);
+    }
+    Ok(())
+}
+
+#[test]
+fn coefficients_of_half_bytes(rt: HostRuntime) -> Result<(), Fail> {
+    assert_eq!(rt; coeff_from_half_byte(2, 3), Some(-1));
+    assert_eq!(rt; coeff_from_half_byte(2, 15), None);
+    assert_eq!(rt; coeff_from_half_byte(4, 8), Some(-4));
+    assert_eq!(rt; coeff_from_half_byte(4, 9), None);
+    Ok(())
+}

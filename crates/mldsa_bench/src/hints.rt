@@ -1,0 +1,102 @@
+//! Hints as bytes.
+#![tactic(auto)]
+
+use fips204::conversion::{hint_bit_pack, hint_bit_unpack};
+use fips204::types::R;
+use std::test::Fail;
+
+/// 18, 12, 15 and 22 places, rising from 0 each time.
+const MANY_PLACES: [u8; 67] = [
+    0, 1, 2, 3, 4, 5, 6, 7, 8, 9, 10, 11, 12, 13, 14, 15, 16, 17, 0, 1, 2, 3, 4, 5, 6, 7, 8, 9, 10,
+    11, 0, 1, 2, 3, 4, 5, 6, 7, 8, 9, 10, 11, 12, 13, 14, 0, 1, 2, 3, 4, 5, 6, 7, 8, 9, 10, 11, 12,
+    13, 14, 15, 16, 17, 18, 19, 20, 21,
+];
+
+/// The hint part of a signature of set 44: these places, zeros up to byte 80, and four counts.
+pub fn part_of(places: &[u8], counts: [u8; 4]) -> [u8; 84] {
+    let mut part = [0u8; 84];
+    let shown = places.len().min(80);
+    part[..shown].copy_from_slice(&places[..shown]);
+    part[80..].copy_from_slice(&counts);
+    part
+}
+
+/// The hint that a part spells, and whether it is packed again as it was.
+fn hint_and_back(part: &[u8; 84]) -> Option<([R; 4], bool)> {
+    let hint = hint_bit_unpack::<4>(80, part)?;
+    let mut again = [0xffu8; 84];
+    hint_bit_pack(80, &hint, &mut again);
+    Some((hint, again == *part))
+}
+
+/// The polynomial that has ones at these places.
+fn with_ones(places: &[u8]) -> [i32; 256] {
+    let mut out = [0i32; 256];
+    for place in places {
+        out[*place as usize] = 1;
+    }
+    out
+}
+
+/// The numbers 0, 1, 2 and so on.
+pub fn rising() -> [u8; 80] {
+    let mut places = [0u8; 80];
+    for i in 0..80u8 {
+        places[i as usize] = i;
+    }
+    places
+}
+
+/// How many ones each polynomial of a hint has.
+fn ones_of(hint: &[R; 4]) -> [usize; 4] {
+    hint.map(|w| w.0.iter().filter(|x| **x == 1).count())
+}
+
+#[test]
+fn ones_and_their_places(rt: HostRuntime) -> Result<(), Fail> {
+    let part = part_of(&[0x05, 0x00, 0xff], [1, 1, 3, 3]);
+    let (hint, same) = hint_and_back(&part).ok_or("no hint")?;
+    let [first, second, third, fourth] = hint;
+    assert!(rt; same);
+    assert!(rt; first.0 == with_ones(&[5]));
+    assert!(rt; second.0 == [0; 256]);
+    assert!(rt; third.0 == with_ones(&[0, 255]));
+    assert!(rt; fourth.0 == [0; 256]);
+    Ok(())
+}
+
+#[test]
+fn parts_that_spell_hints(rt: HostRuntime) -> Result<(), Fail> {
+    for (part, ones) in [
+        (part_of(&[], [0, 0, 0, 0]), [0usize, 0, 0, 0]),
+        (part_of(&[], [0, 0, 0, 1]), [0, 0, 0, 1]),
+        (part_of(&rising(), [80, 80, 80, 80]), [80, 0, 0, 0]),
+        (part_of(&[0xff, 0x00], [1, 2, 2, 2]), [1, 1, 0, 0]),
+        (
+            part_of(&MANY_PLACES, [0x12, 0x1e, 0x2d, 0x43]),
+            [18, 12, 15, 22],
+        ),
+    ] {
+        let (hint, same) = hint_and_back(&part).ok_or("no hint")?;
+        assert!(rt; same);
+        assert_eq!(rt; ones_of(&hint), ones);
+    }
+    Ok(())
+}
+
+#[test]
+fn parts_that_spell_none(rt: HostRuntime) -> Result<(), Fail> {
+    let mut late = [0u8; 80];
+    late[79] = 1;
+    for part in [
+        part_of(&[0x05, 0xff, 0x00], [1, 1, 3, 3]),
+        part_of(&[0x01], [0, 0, 0, 0]),
+        part_of(&late, [0, 0, 0, 0]),
+        part_of(&rising(), [81, 81, 81, 81]),
+        part_of(&[0x05, 0x05], [2, 2, 2, 2]),
+        part_of(&[0x01, 0x02], [2, 1, 2, 2]),
+    ] {
+        assert!(rt; hint_bit_unpack::<4>(80, &part).is_none());
+    }
+    Ok(())
+}

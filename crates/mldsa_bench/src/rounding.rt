@@ -1,0 +1,52 @@
+//! Rounding and hints of single coefficients.
+#![tactic(auto)]
+
+ghost use Rattle.std.specs.Prelude.{◌≤ℤ◌, pos};
+ghost use Rattle.std.specs.List.{All};
+
+use fips204::helpers::center_mod;
+use fips204::high_low::{decompose, high_bits, make_hint, power2round, use_hint};
+use fips204::types::R;
+use std::test::Fail;
+
+#[test]
+fn edges_of_decompose(rt: HostRuntime) -> Result<(), Fail> {
+    assert_eq!(rt; decompose(95232, 8285184), (43, 95232));
+    assert_eq!(rt; decompose(95232, 8285185), (0, -95232));
+    assert_eq!(rt; decompose(261888, 8118529), (0, -261888));
+    Ok(())
+}
+
+#[test]
+fn hints_round_the_end(rt: HostRuntime) -> Result<(), Fail> {
+    assert_eq!(rt; use_hint(95232, 1, 0), 43);
+    assert_eq!(rt; use_hint(261888, 1, 0), 15);
+    assert_eq!(rt; center_mod(0 - 43 * 190464), 190465);
+    assert_eq!(rt; center_mod(0 - 15 * 523776), 523777);
+    Ok(())
+}
+
+#[test]
+fn hints_at_the_range_of_a_change(rt: HostRuntime) -> Result<(), Fail> {
+    assert!(rt; !make_hint(95232, 95232, 0));
+    assert_eq!(rt; high_bits(95232, 95232), 0);
+    assert!(rt; make_hint(95232, 95233, 0));
+    assert_eq!(rt; high_bits(95232, 95233), 1);
+    Ok(())
+}
+
+/// Both parts of a polynomial whose coefficients are all the same.
+fn parts_of(coefficients: [i32; 256]) -> ([i32; 256], [i32; 256])
+    requires { All (λ x. (pos 0 ≤ℤ x) × (x ≤ℤ pos 8380416)) coefficients }
+{
+    let (high, low) = power2round(&[R(coefficients)]);
+    (high[0].0, low[0].0)
+}
+
+#[test]
+fn parts_of_coefficients(rt: HostRuntime) -> Result<(), Fail> {
+    assert!(rt; parts_of([4096; 256]) == ([0; 256], [4096; 256]));
+    assert!(rt; parts_of([4097; 256]) == ([1; 256], [-4095; 256]));
+    assert!(rt; parts_of([8380416; 256]) == ([1023; 256], [0; 256]));
+    Ok(())
+}

@@ -1,0 +1,49 @@
+//! What `check` writes.
+#![tactic(auto)]
+
+ghost use Rattle.std.specs.Prelude.{◌≡◌, ◌∷◌, [], true, IfOk, IfErr, MatchResult};
+ghost use Rattle.mldsa_engine.specs.ProgramText.{named_set, text, answer_word, Refuses, Checks};
+
+use super::writing::{refusal, verdict};
+use crate::call::SetName;
+use crate::fault::RunFault;
+use fips204::traits::{Scheme, pairwise_check};
+use fips204::xof::Xof;
+use fips204::{ml_dsa_44, ml_dsa_65, ml_dsa_87};
+use std::alloc::Global;
+
+/// Whether the pair of a seed verifies what it signs, as a word and a truth value, or the first refusal.
+pub(super) fn check_of<H: Xof, G: Xof>(
+    alloc: Global,
+    set: SetName,
+    xi: &[u8; 32],
+    rnd: &[u8; 32],
+    context: &[u8],
+    message: &[u8],
+) -> Result<(Vec<u8>, bool), RunFault>
+    ensures given { IfOk result (λ given. Checks (named_set set) H.front G.front xi.now rnd.now context.now message.now given.0.items given.1) }
+    ensures memory { IfErr result (λ fault. fault ≡ RunFault.Memory) }
+{
+    match set {
+        SetName::MlDsa44 => checked::<ml_dsa_44::KG<H, G>>(alloc, xi, rnd, context, message),
+        SetName::MlDsa65 => checked::<ml_dsa_65::KG<H, G>>(alloc, xi, rnd, context, message),
+        SetName::MlDsa87 => checked::<ml_dsa_87::KG<H, G>>(alloc, xi, rnd, context, message),
+    }
+}
+
+/// Whether a scheme's pair of a seed verifies what it signs, as `yes` and true, or the first refusal.
+fn checked<S: Scheme>(
+    alloc: Global,
+    xi: &[u8; 32],
+    rnd: &[u8; 32],
+    context: &[u8],
+    message: &[u8],
+) -> Result<(Vec<u8>, bool), RunFault>
+    ensures given { IfOk result (λ given. MatchResult (S.generated xi.now) (λ pair. MatchResult (S.signs pair.1 rnd.now message.now context.now) (λ _. (given.0.items ≡ text (answer_word true ∷ [])) × (given.1 ≡ true)) (λ fault. Refuses fault given.0.items given.1)) (λ fault. Refuses fault given.0.items given.1)) }
+    ensures memory { IfErr result (λ fault. fault ≡ RunFault.Memory) }
+{
+    match pairwise_check::<S>(xi, rnd, message, context) {
+        Ok(answer) => verdict(alloc, answer),
+        Err(fault) => refusal(alloc, fault),
+    }
+}
