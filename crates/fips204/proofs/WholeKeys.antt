@@ -1,6 +1,6 @@
--- A generated pair of keys: the private key is whole and in range, and the public key is its own.
-use Rattle.std.proofs.Common.{◌≡◌, ◌-◌, ℕ, List, length, take, drop, IsTrue, Some, None, Ok, refl, ap, sym, subst, ◌∙◌, arith, length-drop}
-use Rattle.std.specs.Prelude.{option_map}
+-- A generated pair of keys: the private key is whole, the public key is its own, and whole calls that sign are accepted.
+use Rattle.std.proofs.Common.{◌≡◌, ◌-◌, ℕ, List, length, take, drop, IsTrue, Some, None, Ok, refl, ap, sym, subst, ◌∙◌, arith, length-drop, ◌≤◌, nat_lt, inl, inr}
+use Rattle.std.specs.Prelude.{option_map, if◌then◌else◌}
 use Rattle.std.specs.declared.option.Option.{Option}
 use Rattle.std.proofs.lemmas.List.{length-take-le}
 use Rattle.std.proofs.lemmas.Option.{none-some}
@@ -10,16 +10,25 @@ use Rattle.fips204_base.specs.Encodings.{public_key_bytes}
 use Rattle.fips204_base.specs.MatrixEntry.{sampled_matrix}
 use Rattle.fips204_base.specs.SmallPolynomial.{small_vector}
 use Rattle.fips204_base.specs.Vectors.{IsVector}
-use Rattle.fips204_base.proofs.SmallPolynomials.{small_vector-range}
-use Rattle.fips204.specs.ParameterSets.{ParameterSet, is_row}
+use Rattle.fips204_base.proofs.Sampled.{small_vector-range, some_of_ok}
+use Rattle.fips204.specs.ParameterSets.{ParameterSet, is_parameter_set}
 use Rattle.fips204.specs.Keys.{PublicParts, PrivateParts, ArePrivateParts, IsPublicKeyOf, eta_of_rows}
 use Rattle.fips204.specs.KeyGeneration.{IsWhole, high_part, key_pair, key_pair_if_all, seeds, key_generation, public_key_of}
 use Rattle.fips204.specs.Signing.{sign}
 use Rattle.fips204.specs.Acceptance.{Verifies}
 use Rattle.fips204.proofs.Completeness.{completeness}
-use Rattle.fips204.proofs.KeyVectors.{high_part-range, low_part-range}
+use Rattle.fips204.proofs.KeyGeneration.{high_part-range, low_part-range}
 use Rattle.fips204.proofs.RefusedCalls.{same_some}
-use Rattle.fips204.proofs.SetNumbers.{AreSetNumbers, set_numbers}
+use Rattle.fips204.proofs.ParameterSets.{AreSetNumbers, set_numbers}
+use Rattle.std.specs.declared.result.Result.{Result}
+use Rattle.fips204_base.specs.declared.fault.Fault.{Fault}
+use Rattle.fips204_base.specs.declared.fault.Fault.TheVariants.{SignCtx, HashCtx}
+use Rattle.std.proofs.lemmas.Bool.{cases_lt, le-ltb, lt-ltb}
+use Rattle.fips204.specs.Framing.{framed, framed_digest, message_hash}
+use Rattle.fips204.specs.PreHash.{pre_hash_fault}
+use Rattle.fips204.specs.Refusals.{refused_or, message_fault, digest_fault, generated, derived, sign_message, sign_digest, VerifiesMessage, VerifiesDigest}
+
+-- A generated pair of keys: the private key is whole and in range, and the public key is its own.
 
 -- ---- a private key and its public key
 
@@ -43,7 +52,7 @@ public_key_of_pair p H G pk sk pair = public_key_of_whole p G sk pair.whole ∙ 
 small : (p : ParameterSet) (H : List ℕ → List ℕ) (rho : List ℕ) (first count : ℕ) (v : List R) → AreSetNumbers p → small_vector p.eta H rho first count ≡ Some v → IsVector count (eta_of_rows p.k) (eta_of_rows p.k) v
 small p H rho first count v numbers e = subst (λ m. IsVector count m m v) numbers.eta (small_vector-range p.eta H rho first count v numbers.small e)
 
-pair_of_parts : (p : ParameterSet) (H G : List ℕ → List ℕ) (rho key : List ℕ) (a : List (List T)) (s1 s2 : List R) → ((x : List ℕ) → length (H x) ≡ 4096) → length rho ≡ 32 → length key ≡ 32
+pair_of_parts : (p : ParameterSet) (H G : List ℕ → List ℕ) (rho key : List ℕ) (a : List (List T)) (s1 s2 : List R) → ((x : List ℕ) → 4096 ≤ length (H x)) → length rho ≡ 32 → length key ≡ 32
     → sampled_matrix G rho p.k p.l ≡ Some a → IsVector p.l (eta_of_rows p.k) (eta_of_rows p.k) s1 → IsVector p.k (eta_of_rows p.k) (eta_of_rows p.k) s2
     → ArePair p H G (key_pair p H rho key a s1 s2).0 (key_pair p H rho key a s1 s2).1
 unfolding key_pair
@@ -91,7 +100,7 @@ made_of p H rho key (Some a) (Some s1) (Some s2) pk sk e = record {
 }
 
 -- the keys of a seed are a pair
-pub generated_pair : (p : ParameterSet) (H G : List ℕ → List ℕ) (xi : List ℕ) (pk : PublicParts) (sk : PrivateParts) → IsTrue (is_row p) → ((x : List ℕ) → length (H x) ≡ 4096)
+pub generated_pair : (p : ParameterSet) (H G : List ℕ → List ℕ) (xi : List ℕ) (pk : PublicParts) (sk : PrivateParts) → IsTrue (is_parameter_set p) → ((x : List ℕ) → 4096 ≤ length (H x))
     → key_generation p H G xi ≡ Some (pk, sk) → ArePair p H G pk sk
 unfolding key_generation
 generated_pair p H G xi pk sk row law e =
@@ -101,7 +110,7 @@ generated_pair p H G xi pk sk row law e =
     let rho' = take 64 (drop 32 all) in
     let key = take 32 (drop 96 all) in
     let was = made_of p H rho key (sampled_matrix G rho p.k p.l) (small_vector p.eta H rho' 0 p.l) (small_vector p.eta H rho' p.l p.k) pk sk e in
-    let long : length all ≡ 4096 = law _ in
+    let long : 4096 ≤ length all = law _ in
     let rest : length (drop 96 all) ≡ length all - 96 = length-drop 96 all in
     subst (λ (pair : PublicParts × PrivateParts). ArePair p H G pair.0 pair.1) was.made
     (pair_of_parts p H G rho key was.matrix was.first was.second law (length-take-le 32 all (omega (arith, long))) (length-take-le 32 (drop 96 all) (omega (arith, long, rest)))
@@ -109,15 +118,84 @@ generated_pair p H G xi pk sk row law e =
 
 -- ---- what signing gives is accepted by the pair's public key
 
-pub pair_accepts : (p : ParameterSet) (H G : List ℕ → List ℕ) (pk : PublicParts) (sk : PrivateParts) (mu rnd signature : List ℕ) → IsTrue (is_row p) → ((x : List ℕ) → length (H x) ≡ 4096)
+pub pair_accepts : (p : ParameterSet) (H G : List ℕ → List ℕ) (pk : PublicParts) (sk : PrivateParts) (mu rnd signature : List ℕ) → IsTrue (is_parameter_set p) → ((x : List ℕ) → 4096 ≤ length (H x))
     → ArePair p H G pk sk → sign p H G sk mu rnd ≡ Ok signature → Verifies p H G pk mu signature
 pair_accepts p H G pk sk mu rnd signature row law pair made =
     subst (λ (k : PublicParts). Verifies p H G k mu signature) (sym pair.same) (completeness p H G sk mu rnd signature row pair.parts pair.whole law made)
 
 -- and by the key that a whole private key gives
-pub derived_accepts : (p : ParameterSet) (H G : List ℕ → List ℕ) (pk : PublicParts) (sk : PrivateParts) (mu rnd signature : List ℕ) → IsTrue (is_row p) → ((x : List ℕ) → length (H x) ≡ 4096)
+pub derived_accepts : (p : ParameterSet) (H G : List ℕ → List ℕ) (pk : PublicParts) (sk : PrivateParts) (mu rnd signature : List ℕ) → IsTrue (is_parameter_set p) → ((x : List ℕ) → 4096 ≤ length (H x))
     → ArePrivateParts p.k p.l sk → IsWhole p G sk → public_key_of p G sk ≡ Some pk → sign p H G sk mu rnd ≡ Ok signature → Verifies p H G pk mu signature
 derived_accepts p H G pk sk mu rnd signature row law parts whole derived made =
     let own : PublicParts = record { rho = sk.rho; tr = sk.tr; t1 = high_part p whole.matrix sk.s1 sk.s2 } in
     let same : own ≡ pk = same_some own pk (sym (public_key_of_whole p G sk whole) ∙ derived) in
     subst (λ (k : PublicParts). Verifies p H G k mu signature) same (completeness p H G sk mu rnd signature row parts whole law made)
+
+-- Whole calls: a message or a digest that is signed is accepted under the same context.
+
+-- ---- keys that go together
+
+-- both keys have one tr, and what the private key signs the public key accepts
+pub record GoTogether (p : ParameterSet) (H G : List ℕ → List ℕ) (pk : PublicParts) (sk : PrivateParts) : Type 0 where
+  pub hash : sk.tr ≡ pk.tr
+  pub accepts : (mu rnd signature : List ℕ) → sign p H G sk mu rnd ≡ Ok signature → Verifies p H G pk mu signature
+
+pub generated_go_together : (p : ParameterSet) (H G : List ℕ → List ℕ) (xi : List ℕ) (pk : PublicParts) (sk : PrivateParts) → IsTrue (is_parameter_set p) → ((x : List ℕ) → 4096 ≤ length (H x))
+    → generated p H G xi ≡ Ok (pk, sk) → GoTogether p H G pk sk
+generated_go_together p H G xi pk sk row law e =
+    let pair = generated_pair p H G xi pk sk row law (some_of_ok (key_generation p H G xi) (pk, sk) (sym e)) in
+    record {
+      hash = sym (ap (λ (k : PublicParts). k.tr) pair.same);
+      accepts = λ mu rnd signature made. pair_accepts p H G pk sk mu rnd signature row law pair made;
+    }
+
+pub derived_go_together : (p : ParameterSet) (H G : List ℕ → List ℕ) (pk : PublicParts) (sk : PrivateParts) → IsTrue (is_parameter_set p) → ((x : List ℕ) → 4096 ≤ length (H x))
+    → ArePrivateParts p.k p.l sk → IsWhole p G sk → derived p G sk ≡ Ok pk → GoTogether p H G pk sk
+derived_go_together p H G pk sk row law parts whole e =
+    let there = some_of_ok (public_key_of p G sk) pk (sym e) in
+    record {
+      hash = one_hash (sym (public_key_of_whole p G sk whole) ∙ there);
+      accepts = λ mu rnd signature made. derived_accepts p H G pk sk mu rnd signature row law parts whole there made;
+    }
+  where
+    one_hash : {own : PublicParts} → Some own ≡ Some pk → own.tr ≡ pk.tr
+    one_hash {own} s = let same : own ≡ pk = cc in ap (λ (k : PublicParts). k.tr) same
+
+-- ---- signing that isn't refused
+
+not_refused : {A : Type 0} (o : Option Fault) (answer : Result A Fault) (x : A) → refused_or o answer ≡ Ok x → (o ≡ None) × (answer ≡ Ok x)
+not_refused None answer x e = (refl, e)
+not_refused (Some fault) answer x e = absurd cc
+
+-- a context that isn't refused is short, and what is asked after it isn't refused either
+short_context : (context : List ℕ) (fault : Fault) (rest : Option Fault) → (if nat_lt 255 (length context) then Some fault else rest) ≡ None → (length context ≤ 255) × (rest ≡ None)
+short_context context fault rest e = elim (cases_lt 255 (length context)) [
+  | inl long ↦ absurd (some_is_none fault (rw (lt-ltb 255 (length context) long) at e))
+  | inr short ↦ (short, rw (le-ltb 255 (length context) short) at e)
+]
+  where
+    some_is_none : (f : Fault) → Some f ≡ None → ⊥
+    some_is_none f s = cc
+
+-- ---- calls
+
+pub message_accepted : (p : ParameterSet) (H G : List ℕ → List ℕ) (pk : PublicParts) (sk : PrivateParts) (rnd message context signature : List ℕ) → GoTogether p H G pk sk
+    → sign_message p H G sk rnd message context ≡ Ok signature → VerifiesMessage p H G pk message signature context
+message_accepted p H G pk sk rnd message context signature keys made =
+    let both = not_refused (message_fault context) (sign p H G sk (message_hash H sk.tr (framed context message)) rnd) signature made in
+    record {
+      short = (short_context context SignCtx None both.0).0;
+      verified = subst (λ tr. Verifies p H G pk (message_hash H tr (framed context message)) signature) keys.hash (keys.accepts (message_hash H sk.tr (framed context message)) rnd signature both.1);
+    }
+
+pub digest_accepted : (p : ParameterSet) (H G : List ℕ → List ℕ) (pk : PublicParts) (sk : PrivateParts) (rnd digest context oid signature : List ℕ) → GoTogether p H G pk sk
+    → sign_digest p H G sk rnd digest context oid ≡ Ok signature → VerifiesDigest p H G pk digest signature context oid
+digest_accepted p H G pk sk rnd digest context oid signature keys made =
+    let both = not_refused (digest_fault context oid digest) (sign p H G sk (message_hash H sk.tr (framed_digest context oid digest)) rnd) signature made in
+    let conditions = short_context context HashCtx (pre_hash_fault digest oid) both.0 in
+    record {
+      short = conditions.0;
+      whole = conditions.1;
+      verified = subst (λ tr. Verifies p H G pk (message_hash H tr (framed_digest context oid digest)) signature) keys.hash
+          (keys.accepts (message_hash H sk.tr (framed_digest context oid digest)) rnd signature both.1);
+    }

@@ -15,16 +15,16 @@ use Rattle.fips204.specs.Keys.{PublicParts}
 use Rattle.fips204.specs.Attempts.{commitment, scaled}
 
 -- t1 2^13
-abbrev pub raised : List R → ℕ → ℕ → ℕ
-raised t1 r n = 8192 * vector_coefficients t1 r n % 8380417
+abbrev pub t1_shifted : List R → ℕ → ℕ → ℕ
+t1_shifted t1 r n = 8192 * vector_coefficients t1 r n % 8380417
 
 -- w' = A z - c t1 2^13
-abbrev pub verified_vector : ParameterSet → List (List T) → List R → List R → R → ℕ → ℕ → ℕ
-verified_vector p a t1 z c r = minus (matrix_product p.l a (vector_coefficients z) r) (scaled c (raised t1) r)
+abbrev pub w_approx : ParameterSet → List (List T) → List R → List R → R → ℕ → ℕ → ℕ
+w_approx p a t1 z c r = minus (matrix_product p.l a (vector_coefficients z) r) (scaled c (t1_shifted t1) r)
 
 -- w1' = UseHint(h, w')
-unfoldable pub hinted_vector : ParameterSet → List (List T) → List R → List R → List R → R → List R
-hinted_vector p a t1 z h c = vector_of p.k (λ r n. pos (use_hint p.gamma2 (is_one (slice_index_or h r record { 0 = [] }) n) (verified_vector p a t1 z c r n)))
+unfoldable pub w1_prime : ParameterSet → List (List T) → List R → List R → List R → R → List R
+w1_prime p a t1 z h c = vector_of p.k (λ r n. pos (use_hint p.gamma2 (is_one (slice_index_or h r record { 0 = [] }) n) (w_approx p a t1 z c r n)))
 
 -- ML-DSA.Verify_internal (Algorithm 8) from mu, with the matrix a: the signature has parts, so that its last bytes spell the
 -- hint h; there is a challenge; the norm of z is small; and c_tilde is the one that w1' gives
@@ -36,7 +36,7 @@ pub record Accepts (p : ParameterSet) (H : List ℕ → List ℕ) (a : List (Lis
   pub c : R
   pub challenge : challenge p.tau (H c_tilde) ≡ Some c
   pub norm : vector_norm z < p.gamma1 - p.beta
-  pub commitment : c_tilde ≡ commitment p H mu (hinted_vector p a t1 z h c)
+  pub commitment : c_tilde ≡ commitment p H mu (w1_prime p a t1 z h c)
 
 -- the same with a plain key, whose matrix has to be there
 pub record Verifies (p : ParameterSet) (H G : List ℕ → List ℕ) (pk : PublicParts) (mu signature : List ℕ) : Type 0 where

@@ -1,5 +1,5 @@
 -- One attempt of signing: the body of the loop of ML-DSA.Sign_internal (FIPS 204, Algorithm 7).
-use Rattle.std.specs.Prelude.{ℕ, ◌-◌, List, ◌++◌, pos, Bool, ◌&&◌, nat_lt, nat_le, length, take, Option, Some, None, if◌then◌else◌}
+use Rattle.std.specs.Prelude.{ℕ, ℤ, ◌+◌, ◌-◌, ◌*◌, ◌%◌, List, ◌++◌, pos, Bool, ◌&&◌, nat_lt, nat_le, length, take, Option, Some, None, if◌then◌else◌}
 use Rattle.fips204_base.specs.declared.types.R.{R}
 use Rattle.fips204_base.specs.declared.types.T.{T}
 use Rattle.fips204_base.specs.CentredValues.{centred, vector_norm}
@@ -37,38 +37,39 @@ unfoldable pub response : ParameterSet → PrivateParts → List R → R → Lis
 response p sk y c = vector_of p.l (λ r n. centred (pos (plus (vector_coefficients y r) (scaled c (vector_coefficients sk.s1) r) n)))
 
 -- w - c s2
-abbrev pub lowered_vector : PrivateParts → (ℕ → ℕ → ℕ) → R → ℕ → ℕ → ℕ
-lowered_vector sk w c r = minus (w r) (scaled c (vector_coefficients sk.s2) r)
+abbrev pub w_minus_cs2 : PrivateParts → (ℕ → ℕ → ℕ) → R → ℕ → ℕ → ℕ
+w_minus_cs2 sk w c r = minus (w r) (scaled c (vector_coefficients sk.s2) r)
 
 -- r0, the low bits of w - c s2
 unfoldable pub low_vector : ParameterSet → PrivateParts → (ℕ → ℕ → ℕ) → R → List R
-low_vector p sk w c = vector_of p.k (λ r n. low_bits p.gamma2 (lowered_vector sk w c r n))
+low_vector p sk w c = vector_of p.k (λ r n. low_bits p.gamma2 (w_minus_cs2 sk w c r n))
 
 -- c t0
-unfoldable pub scaled_low_part : ParameterSet → PrivateParts → R → List R
-scaled_low_part p sk c = vector_of p.k (λ r n. pos (scaled c (vector_coefficients sk.t0) r n))
+unfoldable pub ct0 : ParameterSet → PrivateParts → R → List R
+ct0 p sk c = vector_of p.k (λ r n. pos (scaled c (vector_coefficients sk.t0) r n))
+
+-- MakeHint(0 - t, v + t) at one place, as a coefficient
+abbrev pub hint_bit : ℕ → ℕ → ℕ → ℤ
+hint_bit gamma2 v t = if make_hint gamma2 ((0 + 8380416 * t) % 8380417) ((v + t) % 8380417) then pos 1 else pos 0
 
 -- h = MakeHint(-c t0, w - c s2 + c t0)
 unfoldable pub hint_vector : ParameterSet → PrivateParts → (ℕ → ℕ → ℕ) → R → List R
-hint_vector p sk w c =
-    vector_of p.k (λ r n.
-    let ct0 = scaled c (vector_coefficients sk.t0) r in
-    if make_hint p.gamma2 (minus (λ _. 0) ct0 n) (plus (lowered_vector sk w c r) ct0 n) then pos 1 else pos 0)
+hint_vector p sk w c = vector_of p.k (λ r n. hint_bit p.gamma2 (w_minus_cs2 sk w c r n) (scaled c (vector_coefficients sk.t0) r n))
 
 -- whether an attempt is kept: the norm of z is below gamma1 - beta, that of r0 below gamma2 - beta, that of c t0 below
 -- gamma2, and h has at most omega ones
-unfoldable pub is_kept : ParameterSet → PrivateParts → List R → (ℕ → ℕ → ℕ) → R → Bool
-is_kept p sk y w c =
+unfoldable pub passes_checks : ParameterSet → PrivateParts → List R → (ℕ → ℕ → ℕ) → R → Bool
+passes_checks p sk y w c =
     nat_lt (vector_norm (response p sk y c)) (p.gamma1 - p.beta)
     && nat_lt (vector_norm (low_vector p sk w c)) (p.gamma2 - p.beta)
-    && nat_lt (vector_norm (scaled_low_part p sk c)) p.gamma2
+    && nat_lt (vector_norm (ct0 p sk c)) p.gamma2
     && nat_le (length (all_ones (hint_vector p sk w c))) p.omega
 
 -- what a challenge makes of an attempt with mask y, whose A y is w
-unfoldable pub judged : ParameterSet → PrivateParts → List R → (ℕ → ℕ → ℕ) → List ℕ → Option R → Attempt
-judged p sk y w c_tilde None = limit
-judged p sk y w c_tilde (Some c) =
-    if is_kept p sk y w c then signed (signature_bytes p.gamma1 p.omega c_tilde (response p sk y c) (hint_vector p sk w c)) else rejected
+unfoldable pub checked_attempt : ParameterSet → PrivateParts → List R → (ℕ → ℕ → ℕ) → List ℕ → Option R → Attempt
+checked_attempt p sk y w c_tilde None = limit
+checked_attempt p sk y w c_tilde (Some c) =
+    if passes_checks p sk y w c then signed (signature_bytes p.gamma1 p.omega c_tilde (response p sk y c) (hint_vector p sk w c)) else rejected
 
 -- the attempt at counter kappa, with the matrix a and the seed rho'' of masks
 unfoldable pub attempt : ParameterSet → (List ℕ → List ℕ) → List (List T) → PrivateParts → List ℕ → List ℕ → ℕ → Attempt
@@ -76,4 +77,4 @@ attempt p H a sk mu rho'' kappa =
     let y = mask p.gamma1 H rho'' p.l kappa in
     let w = matrix_product p.l a (vector_coefficients y) in
     let c_tilde = commitment p H mu (high_vector p w) in
-    judged p sk y w c_tilde (challenge p.tau (H c_tilde))
+    checked_attempt p sk y w c_tilde (challenge p.tau (H c_tilde))

@@ -1,8 +1,7 @@
 -- What is signed is accepted (FIPS 204, Algorithms 1 to 8).
-use Rattle.std.specs.Prelude.{◌≡◌, ℕ, List, length, IsTrue, Ok}
+use Rattle.std.specs.Prelude.{◌≡◌, ◌≤◌, ℕ, List, length, IsTrue, Ok}
 use Rattle.fips204_base.specs.Encodings.{public_key_bytes, private_key_bytes}
-use Rattle.fips204_base.specs.Streams.{front_length}
-use Rattle.fips204.specs.ParameterSets.{ParameterSet, is_row}
+use Rattle.fips204.specs.ParameterSets.{ParameterSet, is_parameter_set}
 use Rattle.fips204.specs.Keys.{PublicParts, PrivateParts, ArePrivateParts, IsPublicKeyOf, IsPrivateKeyOf}
 use Rattle.fips204.specs.KeyGeneration.{IsWhole}
 use Rattle.fips204.specs.Signing.{sign}
@@ -34,7 +33,7 @@ pub data ComeOfSeed (p : ParameterSet) (H G : List ℕ → List ℕ) (xi : List 
 -- one signs
 abbrev pub SignedIsAccepted : Type 0
 SignedIsAccepted =
-    (p : ParameterSet) (H G : List ℕ → List ℕ) (pk : PublicParts) (sk : PrivateParts) → IsTrue (is_row p)
-    → ((x : List ℕ) → length (H x) ≡ front_length)
+    (p : ParameterSet) (H G : List ℕ → List ℕ) (pk : PublicParts) (sk : PrivateParts) → IsTrue (is_parameter_set p)
+    → ((x : List ℕ) → 4096 ≤ length (H x))
     → (ArePrivateParts p.k p.l sk → IsWhole p G sk → derived p G sk ≡ Ok pk → AcceptsSigned p H G pk sk)
     × ((xi : List ℕ) → ComeOfSeed p H G xi pk sk → (generated p H G xi ≡ Ok (pk, sk)) × AcceptsSigned p H G pk sk)

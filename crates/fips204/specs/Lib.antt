@@ -11,6 +11,7 @@ pub mod Refusals
 pub mod MessageLaws
 pub mod SchemeLaws
 pub mod Completeness
+pub mod LongerFronts
 pub use Rattle.fips204_base.specs.Blocks
 pub use Rattle.fips204_base.specs.CentredValues
 pub use Rattle.fips204_base.specs.Challenge

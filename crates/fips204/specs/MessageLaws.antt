@@ -2,9 +2,9 @@
 use Rattle.std.specs.Prelude.{◌≡◌, ◌≢◌, ◌⊎◌, ℕ, List, ◌++◌, take, Option, None, IsTrue}
 use Rattle.fips204_base.specs.declared.fault.Fault.{Fault}
 use Rattle.fips204_base.specs.Encodings.{w1_bytes}
-use Rattle.fips204.specs.ParameterSets.{ParameterSet, is_row, commitment_length}
+use Rattle.fips204.specs.ParameterSets.{ParameterSet, is_parameter_set, commitment_length}
 use Rattle.fips204.specs.Keys.{PublicParts}
-use Rattle.fips204.specs.Acceptance.{Verifies, hinted_vector}
+use Rattle.fips204.specs.Acceptance.{Verifies, w1_prime}
 use Rattle.fips204.specs.Framing.{framed, framed_digest, message_hash}
 use Rattle.fips204.specs.Refusals.{message_fault, digest_fault}
 
@@ -34,13 +34,13 @@ pub record Collide (H : List ℕ → List ℕ) (n : ℕ) (x y : List ℕ) : Type
 
 -- the encoded w1' of a signature that is accepted
 abbrev pub accepted_w1 : (p : ParameterSet) (H G : List ℕ → List ℕ) (pk : PublicParts) (mu signature : List ℕ) → Verifies p H G pk mu signature → List ℕ
-accepted_w1 p H G pk mu signature v = w1_bytes p.gamma2 (hinted_vector p v.a pk.t1 v.accepted.z v.accepted.h v.accepted.c)
+accepted_w1 p H G pk mu signature v = w1_bytes p.gamma2 (w1_prime p v.a pk.t1 v.accepted.z v.accepted.h v.accepted.c)
 
 -- one signature that a key accepts for two different M' has one encoded w1', and gives a collision: of the two M' in mu,
 -- or of the two mu in c_tilde
 abbrev pub SignatureBindsMessage : Type 0
 SignatureBindsMessage =
-    (p : ParameterSet) (H G : List ℕ → List ℕ) (pk : PublicParts) (m n signature : List ℕ) → IsTrue (is_row p) → m ≢ n
+    (p : ParameterSet) (H G : List ℕ → List ℕ) (pk : PublicParts) (m n signature : List ℕ) → IsTrue (is_parameter_set p) → m ≢ n
     → (first : Verifies p H G pk (message_hash H pk.tr m) signature) → (second : Verifies p H G pk (message_hash H pk.tr n) signature)
     → (accepted_w1 p H G pk (message_hash H pk.tr m) signature first ≡ accepted_w1 p H G pk (message_hash H pk.tr n) signature second)
     × (Collide H 64 (pk.tr ++ m) (pk.tr ++ n)

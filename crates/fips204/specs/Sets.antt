@@ -1,7 +1,12 @@
 -- The parameter sets as values of the program (FIPS 204, Tables 1 and 2).
+use Rattle.std.specs.Prelude.{◌≡◌, ℕ}
 use Rattle.fips204.specs.declared.types.Params.{Params}
-use Rattle.fips204.specs.ParameterSets.{ParameterSet, row_of}
+use Rattle.fips204.specs.ParameterSets.{ParameterSet, parameter_set, commitment_length, signature_length}
 
 -- the set of a value
 abbrev pub set_of : Params → ParameterSet
-set_of p = row_of p.tau p.lambda p.gamma1 p.gamma2 p.k p.l p.eta p.beta p.omega
+set_of p = parameter_set p.tau p.lambda p.gamma1 p.gamma2 p.k p.l p.eta p.beta p.omega
+
+-- k rows and l columns, n bytes of c_tilde and s bytes of a signature are those of the set
+abbrev pub HasSizes : Params → ℕ → ℕ → ℕ → ℕ → Type 0
+HasSizes p k l n s = (k ≡ p.k) × (l ≡ p.l) × (n ≡ commitment_length (set_of p)) × (s ≡ signature_length (set_of p))

@@ -7,8 +7,11 @@
 
 ghost use Rattle.fips204_base.specs.Laws.{ProductOfTransforms, InverseOfTransform};
 ghost use Rattle.fips204.specs.Completeness.{SignedIsAccepted};
+ghost use Rattle.fips204.specs.LongerFronts.{LongerFrontsKeep};
 ghost use Rattle.fips204.specs.MessageLaws.{FramingIsOneToOne, SignatureBindsMessage};
 ghost use Rattle.fips204.specs.SchemeLaws.{HintGivesHighBits, HintStaysNear, HighBitsStay, ChallengeProductIsSmall, SignatureHasOneSpelling, HintHasOneSpelling};
+
+use crate::xof::Xof;
 
 /// The inverse transform of the product of two transforms, value by value, is the product of the two
 /// polynomials modulo `X^256 + 1` and modulo `q`.
@@ -74,4 +77,14 @@ pub fn binding()
 /// of messages, digests and the hooks' hashes, and whatever the random bytes.
 pub fn signed_is_accepted()
     ensures { SignedIsAccepted }
+{}
+
+/// Longer fronts keep answers. Where each front of `H` is a prefix of the matching front of `LongerH`, and
+/// each front of `G` one of that of `LongerG`: a matrix entry, a small polynomial or a challenge that the
+/// first pair gives is the second's. So these stay: a key pair, a derived public key, a signature, the
+/// refusal of too many attempts, a yes of a verifying call, and a no of one where the matrix of the key and
+/// the challenge of the signature are there. All this holds of messages, digests and the hooks' hashes.
+/// What may change is the refusal `SamplingLimit`, and the no of a verifying call for a passed limit.
+pub fn longer_front<H: Xof, G: Xof, LongerH: Xof, LongerG: Xof>()
+    ensures { LongerFrontsKeep H.front G.front LongerH.front LongerG.front }
 {}

@@ -1,23 +1,23 @@
 //! What the parameter sets share (FIPS 204, sections 5 and 6).
 #![tactic(auto)]
 
-ghost use Rattle.std.specs.Prelude.{◌≡◌, ◌+◌, ◌*◌, ◌++◌, take};
+ghost use Rattle.std.specs.Prelude.{◌≡◌, ◌+◌, ◌*◌, take};
 ghost use Rattle.std.specs.List.{flat_map};
 ghost use Rattle.fips204.specs.Keys.{IsPublicKeyOf};
 
 mod attempt;
 mod calls;
 mod commitment;
-mod judgement;
 mod key_generation;
 mod private_key;
+mod rejection;
 mod signing;
 mod verification;
 
 use crate::types::PublicKey;
 pub(crate) use calls::{sign_digest, sign_message, verify_digest, verify_message};
 use fips204_base::encodings::pk_decode;
-use fips204_base::xof::{Xof, XofReader};
+use fips204_base::xof::{Xof, hash};
 pub use key_generation::{key_gen, key_gen_internal, private_to_public_key};
 pub use private_key::expand_private;
 pub use signing::{MAX_SIGN_ATTEMPTS, sign_internal};
@@ -33,23 +33,18 @@ pub fn expand_public<const K: usize, const L: usize, const PK_LEN: usize, H: Xof
     ensures { IsPublicKeyOf H.front K pk.now result }
 {
     let (rho, t1) = pk_decode(pk);
-    let mut tr = [0u8; 64];
-    let mut reader = H::open(&[pk.as_slice()]);
-    reader.read(&mut tr);
     PublicKey {
         rho: *rho,
-        tr,
+        tr: hash::<H, 64>(&[pk.as_slice()]),
         t1,
         streams: PhantomData,
     }
 }
 
-/// The first 64 bytes of `H` over the joined parts (lines 6 of Algorithm 7 and 7 of Algorithm 8).
+/// The first 64 bytes of `H` over the concatenation of the parts (lines 6 of Algorithm 7 and 7 of
+/// Algorithm 8).
 pub fn mu<H: Xof>(parts: &[&[u8]]) -> [u8; 64]
     ensures { result ≡ take 64 (H.front (flat_map (λ p. p.now) parts.now)) }
 {
-    let mut out = [0u8; 64];
-    let mut reader = H::open(parts);
-    reader.read(&mut out);
-    out
+    hash::<H, 64>(parts)
 }

@@ -1,12 +1,14 @@
 //! ML-DSA-65 (FIPS 204, Table 1).
 #![tactic(auto, unfolding(fips204_base::specs::Packing::bit_length))]
 
-ghost use Rattle.std.specs.Prelude.{◌↔◌, IsTrue};
+ghost use Rattle.std.specs.Prelude.{◌↔◌, IsTrue, MatchResult};
 ghost use Rattle.fips204.specs.Acceptance.{Verifies};
 ghost use Rattle.fips204.specs.Framing.{message_hash};
+ghost use Rattle.fips204.specs.Keys.{DecodesPrivate, IsPublicKeyOf};
 ghost use Rattle.fips204.specs.ParameterSets.{set_65};
-ghost use Rattle.fips204.specs.Refusals.{generated, Draws, DrawsIf};
+ghost use Rattle.fips204.specs.Refusals.{generated, derived, sign_message, sign_digest, VerifiesMessage, VerifiesDigest, Draws, DrawsIf};
 ghost use Rattle.fips204.specs.Signing.{sign};
+ghost use Rattle.fips204_base.specs.Encodings.{public_key_bytes, private_key_bytes};
 
 use crate::ml_dsa;
 use crate::traits::{CryptoRngCore, KeyGen, Scheme, SerDes, Signer, Verifier, draw};
@@ -55,9 +57,6 @@ pub fn try_keygen_with_rng<H: Xof, G: Xof, R: CryptoRngCore>(
 }
 
 impl<H: Xof, G: Xof> KeyGen for KG<H, G> {
-    ghost use Rattle.fips204.specs.ParameterSets.{set_65};
-    ghost use Rattle.fips204.specs.Refusals.{generated};
-
     type PublicKey = PublicKey<H, G>;
 
     type PrivateKey = PrivateKey<H, G>;
@@ -70,9 +69,6 @@ impl<H: Xof, G: Xof> KeyGen for KG<H, G> {
 }
 
 impl<H: Xof, G: Xof> Scheme for KG<H, G> {
-    ghost use Rattle.fips204.specs.ParameterSets.{set_65};
-    ghost use Rattle.fips204.specs.Refusals.{generated, sign_message, VerifiesMessage};
-
     type Public = PublicKey<H, G>;
 
     type Private = PrivateKey<H, G>;
@@ -104,9 +100,6 @@ impl<H: Xof, G: Xof> Scheme for KG<H, G> {
 }
 
 impl<H: Xof, G: Xof> Signer for PrivateKey<H, G> {
-    ghost use Rattle.fips204.specs.ParameterSets.{set_65};
-    ghost use Rattle.fips204.specs.Refusals.{sign_message, sign_digest, derived};
-
     type Signature = [u8; SIG_LEN];
 
     type PublicKey = PublicKey<H, G>;
@@ -146,9 +139,6 @@ impl<H: Xof, G: Xof> Signer for PrivateKey<H, G> {
 }
 
 impl<H: Xof, G: Xof> Verifier for PublicKey<H, G> {
-    ghost use Rattle.fips204.specs.ParameterSets.{set_65};
-    ghost use Rattle.fips204.specs.Refusals.{VerifiesMessage, VerifiesDigest};
-
     type Signature = [u8; SIG_LEN];
 
     ghost accepts = { VerifiesMessage set_65 H.front G.front };
@@ -224,9 +214,6 @@ impl<H: Xof, G: Xof> PublicKey<H, G> {
 }
 
 impl<H: Xof, G: Xof> SerDes for PrivateKey<H, G> {
-    ghost use Rattle.fips204.specs.Keys.{DecodesPrivate};
-    ghost use Rattle.fips204_base.specs.Encodings.{private_key_bytes};
-
     type ByteArray = [u8; SK_LEN];
 
     ghost bytes_of = { λ key. private_key_bytes 4 key.rho key.key key.tr key.s1 key.s2 key.t0 };
@@ -254,10 +241,6 @@ impl<H: Xof, G: Xof> SerDes for PrivateKey<H, G> {
 }
 
 impl<H: Xof, G: Xof> SerDes for PublicKey<H, G> {
-    ghost use Rattle.std.specs.Prelude.{MatchResult};
-    ghost use Rattle.fips204.specs.Keys.{IsPublicKeyOf};
-    ghost use Rattle.fips204_base.specs.Encodings.{public_key_bytes};
-
     type ByteArray = [u8; PK_LEN];
 
     ghost bytes_of = { λ key. public_key_bytes key.rho key.t1 };

@@ -1,7 +1,10 @@
 //! What every parameter set offers.
 #![tactic(auto)]
 
-ghost use Rattle.std.specs.Prelude.{◌≡◌, ◌≢◌, ◌↔◌, ℕ, List, length, Ok, Err, true, IsTrue, MatchResult};
+ghost use Rattle.std.specs.Prelude.{◌≡◌, ◌≢◌, ◌↔◌, ℕ, List, length, Result, Ok, Err, true, IsTrue, MatchResult};
+ghost use Rattle.fips204_base.specs.declared.fault.Fault.{Fault};
+ghost use Rattle.fips204_base.specs.declared.fault.Fault.TheVariants.{KeyGenRng, SignRng, HashRng};
+ghost use Rattle.fips204.specs.Refusals.{Draws, DrawsUnless, message_fault, digest_fault};
 
 use crate::types::pre_hash::check_pre_hash;
 use fips204_base::Fault;
@@ -61,11 +64,6 @@ pub(crate) fn draw<R: CryptoRngCore>(rng: &mut R, refusal: Fault) -> Result<[u8;
 
 /// Making keys (FIPS 204, Algorithm 1).
 pub trait KeyGen {
-    ghost use Rattle.std.specs.Prelude.{◌≡◌, ℕ, List, Result};
-    ghost use Rattle.fips204_base.specs.declared.fault.Fault.{Fault};
-    ghost use Rattle.fips204_base.specs.declared.fault.Fault.TheVariants.{KeyGenRng};
-    ghost use Rattle.fips204.specs.Refusals.{Draws};
-
     /// The public key of a pair.
     type PublicKey;
 
@@ -92,11 +90,6 @@ pub trait KeyGen {
 
 /// Signing (FIPS 204, Algorithms 2 and 4).
 pub trait Signer {
-    ghost use Rattle.std.specs.Prelude.{◌≡◌, ℕ, List, Result};
-    ghost use Rattle.fips204_base.specs.declared.fault.Fault.{Fault};
-    ghost use Rattle.fips204_base.specs.declared.fault.Fault.TheVariants.{SignRng, HashRng};
-    ghost use Rattle.fips204.specs.Refusals.{DrawsUnless, message_fault, digest_fault};
-
     /// The array of a signature.
     type Signature;
 
@@ -206,9 +199,6 @@ pub trait Verifier {
 
 /// A signature scheme: what it signs with the private key of a pair, it accepts with the public one.
 pub trait Scheme {
-    ghost use Rattle.std.specs.Prelude.{◌≡◌, ◌↔◌, ℕ, List, Ok, Result, IsTrue};
-    ghost use Rattle.fips204_base.specs.declared.fault.Fault.{Fault};
-
     /// The public key of a pair.
     type Public: Drop;
 
@@ -263,9 +253,6 @@ pub fn pairwise_check<S: Scheme>(
 
 /// Values that go through byte arrays of one length and back.
 pub trait SerDes: Sized {
-    ghost use Rattle.std.specs.Prelude.{◌≡◌, Ok, Result};
-    ghost use Rattle.fips204_base.specs.declared.fault.Fault.{Fault};
-
     /// The array that holds the bytes.
     type ByteArray;
 

@@ -1,8 +1,10 @@
 //! Polynomials, and keys as values.
 #![tactic(auto)]
 
-ghost use Rattle.std.specs.Prelude.{◌≡◌, ⊤, IsTrue};
-ghost use Rattle.fips204.specs.ParameterSets.{are_row};
+ghost use Rattle.std.specs.Prelude.{◌≡◌, ◌⊎◌, ◌≤◌, ◌-◌, ◌*◌, ⊤, pos, nat_abs, IsTrue};
+ghost use Rattle.fips204_base.specs.Packing.{width};
+ghost use Rattle.fips204_base.specs.Rounding.{high_values};
+ghost use Rattle.fips204.specs.ParameterSets.{are_parameters};
 
 pub mod pre_hash;
 
@@ -10,7 +12,7 @@ pub use fips204_base::types::{R, R0, T, T0, Zq};
 use std::alloc::AllocError;
 use std::marker::{Model, PhantomData};
 
-/// The numbers of a parameter set (FIPS 204, Tables 1 and 2): one of the three rows.
+/// The numbers of a parameter set (FIPS 204, Tables 1 and 2): those of one of the three sets.
 #[derive(Clone, Copy, Debug, PartialEq, Eq)]
 pub struct Params {
     /// How many coefficients of a challenge are 1 or -1.
@@ -31,7 +33,38 @@ pub struct Params {
     pub beta: i32,
     /// The largest number of ones in a hint.
     pub omega: i32,
-    ghost known: { IsTrue (are_row tau lambda gamma1 gamma2 k l eta beta omega) },
+    ghost known: { IsTrue (are_parameters tau lambda gamma1 gamma2 k l eta beta omega) },
+}
+
+impl Params {
+    /// The exclusive bound on the norm of z: `gamma1 - beta`.
+    pub(crate) fn z_bound(&self) -> i32
+        ensures { result ≡ pos (nat_abs self.now.gamma1 - nat_abs self.now.beta) }
+    {
+        self.gamma1 - self.beta
+    }
+
+    /// The exclusive bound on the norm of r0: `gamma2 - beta`.
+    pub(crate) fn r0_bound(&self) -> i32
+        ensures { result ≡ pos (nat_abs self.now.gamma2 - nat_abs self.now.beta) }
+    {
+        self.gamma2 - self.beta
+    }
+
+    /// How many bytes `w1Encode` gives (FIPS 204, Algorithm 28).
+    pub(crate) fn w1_length(&self) -> usize
+        ensures size { result ≡ 32 * width (pos 0) (pos (high_values (nat_abs self.now.gamma2) - 1)) * self.now.k }
+        ensures few { result ≤ 1024 }
+    {
+        self.w1_polynomial_length() * self.k
+    }
+
+    /// How many bytes `w1Encode` gives for one polynomial.
+    fn w1_polynomial_length(&self) -> usize
+        ensures { ((self.now.gamma2 ≡ pos 95232) × (result ≡ 192)) ⊎ ((self.now.gamma2 ≡ pos 261888) × (result ≡ 128)) }
+    {
+        if self.gamma2 == 95_232 { 192 } else { 128 }
+    }
 }
 
 /// The numbers of ML-DSA-44.

@@ -1,16 +1,139 @@
--- The bytes of a private key and of a signature determine their parts.
-use Rattle.std.proofs.Common.{◌≡◌, ◌≤◌, ◌+◌, ◌-◌, ◌*◌, ℕ, List, [], ◌∷◌, ◌++◌, ℤ, pos, ◌-ℤ◌, length, refl, ap, sym, ◌∙◌, arith, length-append}
+-- Keys and signatures as bytes, and their parts, which the bytes determine.
+use Rattle.std.proofs.Common.{◌≡◌, ℕ, List, [], ◌∷◌, ℤ, pos, length, refl, ap, ◌∙◌, arith, ◌+◌, ◌*◌, ◌++◌, nat_abs, take, drop, sym, append_assoc, length-append, inl, inr, ◌-◌, ◌^◌, ◌+ℤ◌, ◌-ℤ◌, ◌≤◌}
+use Rattle.std.specs.List.{All}
 use Rattle.std.proofs.lemmas.Int.{ints}
 use Rattle.std.proofs.lemmas.List.Elements.{All-head, All-tail}
 use Rattle.fips204_base.specs.declared.types.R.{R}
-use Rattle.fips204_base.specs.Packing.{InRange, polynomial_bytes, width}
-use Rattle.fips204_base.specs.Vectors.{IsVector}
-use Rattle.fips204_base.specs.HintSpelling.{Spells, hint_bytes}
-use Rattle.fips204_base.specs.Encodings.{vector_bytes, private_key_bytes, signature_bytes, IsPrivateKey, IsSignature}
+use Rattle.fips204_base.specs.Coefficients.{IsEta}
+use Rattle.fips204_base.specs.Encodings.{IsGamma1, public_key_bytes, IsPrivateKey, vector_bytes, IsSignature, private_key_bytes, signature_bytes}
+use Rattle.fips204_base.specs.Packing.{InRange, polynomial_bytes, Bounds, bit_length, width}
 use Rattle.fips204_base.proofs.Bits.{cut}
-use Rattle.fips204_base.proofs.PolynomialBytes.{length-polynomial_bytes, same_polynomial}
-use Rattle.fips204_base.proofs.UniqueHint.{one_hint}
+use Rattle.fips204_base.proofs.Packing.{length-polynomial_bytes, same_polynomial}
+use Rattle.std.proofs.lemmas.List.{take_all, take_at, drop_at}
+use Rattle.std.proofs.Math.Seq.{take-add}
+use Rattle.fips204_base.specs.Vectors.{IsVector}
 use Rattle.fips204_base.proofs.VectorBytes.{vector-length}
+use Rattle.fips204_base.specs.HintSpelling.{Spells, hint_bytes}
+use Rattle.fips204_base.proofs.HintSpelling.{one_hint}
+
+-- A public key determines rho and t1. So `pk_decode` of what `pk_encode` gives are the parts again; the other way round is
+-- one equation of the two contracts, `pk ≡ public_key_bytes rho t1` and `result ≡ public_key_bytes rho t1`.
+
+-- the polynomials that a public key has
+pub record IsT1 (w : R) : Type 0 where
+  pub range : InRange (pos 0) (pos 1023) w.0
+  pub count : length w.0 ≡ 256
+
+-- The parts of a private key.
+
+pub width_4095_4096 : width (pos 4095) (pos 4096) ≡ 13
+unfolding bit_length
+width_4095_4096 = refl
+
+pub eta_bounds : (eta : ℤ) → IsEta eta → Bounds eta eta
+eta_bounds eta set = (omega (arith, ints, set), omega (arith, ints, set), omega (arith, ints, set), omega (arith, ints, set))
+
+pub eta_width : (eta : ℤ) → IsEta eta → width eta eta ≡ width (pos (nat_abs eta)) (pos (nat_abs eta))
+eta_width eta set = elim set [
+  | inl e ↦ rw e refl
+  | inr e ↦ rw e refl
+]
+
+-- the three seeds of the first 128 bytes
+pub three_seeds : (s : List ℕ) → length s ≡ 128 → take 32 (drop 0 s) ++ take 32 (drop 32 s) ++ take 64 (drop 64 s) ≡ s
+three_seeds s size = ap (λ x. x ++ take 64 (drop 64 s)) (sym (take-add 32 32 s)) ∙ sym (take-add 64 64 s) ∙ take_all 128 s (omega (arith, size))
+
+regroup : (x a b c : List ℕ) → x ++ a ++ b ++ c ≡ x ++ (a ++ (b ++ c))
+regroup x a b c = append_assoc (x ++ a) b c ∙ append_assoc x a (b ++ c)
+
+pub private_key-of_parts : (eta k l : ℕ) (bytes rho key tr first second low : List ℕ) (s1 s2 t0 : List R) → bytes ≡ (rho ++ key ++ tr) ++ (first ++ (second ++ low))
+    → length rho ≡ 32 → length key ≡ 32 → length tr ≡ 64 → IsVector l eta eta s1 → IsVector k eta eta s2 → IsVector k 4095 4096 t0
+    → vector_bytes eta eta s1 ≡ first → vector_bytes eta eta s2 ≡ second → vector_bytes 4095 4096 t0 ≡ low → IsPrivateKey eta k l bytes rho key tr s1 s2 t0
+private_key-of_parts eta k l bytes rho key tr first second low s1 s2 t0 cut a b c u v w p q r = record {
+  seed = a;
+  private_seed = b;
+  hash = c;
+  first = u;
+  second = v;
+  low = w;
+  encoding = ap (λ x. rho ++ key ++ tr ++ x ++ vector_bytes eta eta s2 ++ vector_bytes 4095 4096 t0) p
+      ∙ ap (λ x. rho ++ key ++ tr ++ first ++ x ++ vector_bytes 4095 4096 t0) q ∙ ap (λ x. rho ++ key ++ tr ++ first ++ second ++ x) r
+      ∙ regroup (rho ++ key ++ tr) first second low ∙ sym cut;
+}
+
+private_key-vectors : (eta k l : ℕ) (bytes rho key tr : List ℕ) (s1 s2 t0 : List R) → IsPrivateKey eta k l bytes rho key tr s1 s2 t0
+    → drop 128 bytes ≡ vector_bytes eta eta s1 ++ (vector_bytes eta eta s2 ++ vector_bytes 4095 4096 t0)
+private_key-vectors eta k l bytes rho key tr s1 s2 t0 s =
+    let size : length (rho ++ key ++ tr) ≡ 128 = length-append (rho ++ key) tr ∙ ap (λ n. n + length tr) (length-append rho key) ∙ omega (arith, s.seed, s.private_seed, s.hash) in
+    ap (drop 128) (sym s.encoding ∙ regroup (rho ++ key ++ tr) (vector_bytes eta eta s1) (vector_bytes eta eta s2) (vector_bytes 4095 4096 t0))
+    ∙ drop_at (rho ++ key ++ tr) (vector_bytes eta eta s1 ++ (vector_bytes eta eta s2 ++ vector_bytes 4095 4096 t0)) 128 size
+
+-- the bytes of s1, and of s2
+pub private_key-first : (eta k l a : ℕ) (bytes rho key tr : List ℕ) (s1 s2 t0 : List R) → IsPrivateKey eta k l bytes rho key tr s1 s2 t0 → a ≡ 32 * width (pos eta) (pos eta) * l
+    → vector_bytes eta eta s1 ≡ take a (drop 128 bytes)
+private_key-first eta k l a bytes rho key tr s1 s2 t0 s e =
+    sym (ap (take a) (private_key-vectors eta k l bytes rho key tr s1 s2 t0 s) ∙ take_at (vector_bytes eta eta s1) (vector_bytes eta eta s2 ++ vector_bytes 4095 4096 t0) a (vector-length l eta eta s1 s.first ∙ sym e))
+
+pub private_key-second : (eta k l a b : ℕ) (bytes rho key tr : List ℕ) (s1 s2 t0 : List R) → IsPrivateKey eta k l bytes rho key tr s1 s2 t0 → a ≡ 32 * width (pos eta) (pos eta) * l
+    → b ≡ 32 * width (pos eta) (pos eta) * k → vector_bytes eta eta s2 ≡ take b (drop a (drop 128 bytes))
+private_key-second eta k l a b bytes rho key tr s1 s2 t0 s e f =
+    sym (ap (λ x. take b (drop a x)) (private_key-vectors eta k l bytes rho key tr s1 s2 t0 s)
+    ∙ ap (take b) (drop_at (vector_bytes eta eta s1) (vector_bytes eta eta s2 ++ vector_bytes 4095 4096 t0) a (vector-length l eta eta s1 s.first ∙ sym e))
+    ∙ take_at (vector_bytes eta eta s2) (vector_bytes 4095 4096 t0) b (vector-length k eta eta s2 s.second ∙ sym f))
+
+-- The parts of a signature.
+
+width_131071_131072 : width (pos 131071) (pos 131072) ≡ 18
+unfolding bit_length
+width_131071_131072 = refl
+
+width_524287_524288 : width (pos 524287) (pos 524288) ≡ 20
+unfolding bit_length
+width_524287_524288 = refl
+
+-- every field of z is that of a coefficient in range
+pub whole_response : (gamma1 : ℤ) → IsGamma1 gamma1 → pos (2 ^ width (gamma1 -ℤ pos 1) gamma1) ≡ gamma1 -ℤ pos 1 +ℤ gamma1 +ℤ pos 1
+whole_response gamma1 set = elim set [
+  | inl e ↦ rw e (ap (λ n. pos (2 ^ n)) width_131071_131072)
+  | inr e ↦ rw e (ap (λ n. pos (2 ^ n)) width_524287_524288)
+]
+
+pub response_bounds : (gamma1 : ℤ) → IsGamma1 gamma1 → Bounds (gamma1 -ℤ pos 1) gamma1
+response_bounds gamma1 set = (omega (arith, ints, set), omega (arith, ints, set), omega (arith, ints, set), omega (arith, ints, set))
+
+pub response_least : (gamma1 : ℤ) → IsGamma1 gamma1 → nat_abs (gamma1 -ℤ pos 1) ≡ nat_abs gamma1 - 1
+response_least gamma1 set = omega (arith, ints, set)
+
+pub response_width : (gamma1 : ℤ) → IsGamma1 gamma1 → width (gamma1 -ℤ pos 1) gamma1 ≡ width (pos (nat_abs gamma1 - 1)) (pos (nat_abs gamma1))
+response_width gamma1 set = elim set [
+  | inl e ↦ rw e refl
+  | inr e ↦ rw e refl
+]
+
+-- a signature from its parts
+pub signature-of_parts : (gamma1 omega' k l n : ℕ) (sigma c_tilde response hint : List ℕ) (z h : List R) → sigma ≡ c_tilde ++ (response ++ hint) → length c_tilde ≡ n
+    → IsVector l (gamma1 - 1) gamma1 z → vector_bytes (gamma1 - 1) gamma1 z ≡ response → Spells omega' k h hint → IsSignature gamma1 omega' k l n sigma c_tilde z h
+signature-of_parts gamma1 omega' k l n sigma c_tilde response hint z h cut size vector packed spells = record {
+  commitment = size;
+  response = vector;
+  hint = spells.hint;
+  few = spells.few;
+  encoding = ap (λ r. c_tilde ++ r ++ hint_bytes omega' h) packed ∙ ap (λ r. c_tilde ++ response ++ r) spells.spelling ∙ append_assoc c_tilde response hint ∙ sym cut;
+}
+
+-- the hint of a signature is spelled by its last bytes
+pub signature-hint : (gamma1 omega' k l n m : ℕ) (sigma c_tilde : List ℕ) (z h : List R) → IsSignature gamma1 omega' k l n sigma c_tilde z h → m ≡ n + 32 * width (pos (gamma1 - 1)) (pos gamma1) * l
+    → Spells omega' k h (drop m sigma)
+signature-hint gamma1 omega' k l n m sigma c_tilde z h s e =
+    let size = vector-length l (gamma1 - 1) gamma1 z s.response in
+    let front : length (c_tilde ++ vector_bytes (gamma1 - 1) gamma1 z) ≡ m = length-append c_tilde (vector_bytes (gamma1 - 1) gamma1 z) ∙ omega (arith, size, s.commitment, e) in
+    record {
+      hint = s.hint;
+      few = s.few;
+      spelling = sym (drop_at (c_tilde ++ vector_bytes (gamma1 - 1) gamma1 z) (hint_bytes omega' h) m front) ∙ ap (drop m) s.encoding;
+    }
+
+-- The bytes of a private key and of a signature determine their parts.
 
 -- ---- vectors
 
@@ -45,6 +168,17 @@ same_vector n m a b (x ∷ v) (y ∷ w) bounds l p q e =
     let head = same_row a b x y bounds i j (All-head Range x v p.range) (All-head Range y w q.range) both.0 in
     let tail = same_vector (length v) (length w) a b v w bounds (omega (arith, l)) (rest_of_vector n a b x v p) (rest_of_vector m a b y w q) both.1 in
     cc
+
+-- ---- public keys
+
+vector_of_t1 : (v : List R) → All IsT1 v → IsVector (length v) 0 1023 v
+vector_of_t1 v h = record { rows = refl; places = λ i d l. (h i d l).count; range = λ i d l. (h i d l).range }
+
+pub same_parts : (rho seed : List ℕ) (t1 others : List R) → length rho ≡ 32 → length seed ≡ 32 → length t1 ≡ length others → All IsT1 t1 → All IsT1 others
+    → public_key_bytes rho t1 ≡ public_key_bytes seed others → (rho ≡ seed) × (t1 ≡ others)
+same_parts rho seed t1 others r s n p q e =
+    let both = cut rho seed (vector_bytes 0 1023 t1) (vector_bytes 0 1023 others) 32 r s e in
+    (both.0, same_vector (length t1) (length others) 0 1023 t1 others (omega arith, omega arith, omega arith) n (vector_of_t1 t1 p) (vector_of_t1 others q) both.1)
 
 -- ---- signatures
 

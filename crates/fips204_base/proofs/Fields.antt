@@ -174,11 +174,3 @@ refused a b v w none_below u outside =
       | inl none ↦ absurd (outside (within_range b w z.coefficients (subst (λ a. All (λ f. pos f ≤ℤ b) (map (field a b) w)) none_below none)))
       | inr some ↦ record { fields = map (field a b) w; same_fields = u.same_fields; count = length-map w (field a b) ∙ u.count; above = some }
     ]
-
--- no field of c bits is above the greatest number of c bits
-pub none_above : (b c : ℕ) (v : List ℕ) → 2 ^ c ≤ b + 1 → PacksAbove (pos b) c v → ⊥
-none_above b c v room p =
-    let field = p.above.1 in
-    let small : field < 2 ^ c = subst (λ f. f < 2 ^ c) p.above.3 (p.same_fields.small_fields p.above.0 field p.above.2) in
-    let above : pos b <ℤ pos field = p.above.4 in
-    omega (arith, ints, small, above)

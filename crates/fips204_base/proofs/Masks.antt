@@ -1,14 +1,18 @@
--- The polynomial that bytes hold is the one that they unpack to.
-use Rattle.std.proofs.Common.{◌≡◌, ◌<◌, ◌*◌, ◌^◌, ℕ, List, ℤ, pos, get_or, length, take, drop, map, ap, sym, ◌∙◌, arith}
+-- The polynomials of the mask, as they are read and unpacked.
+use Rattle.std.proofs.Common.{◌≡◌, ◌<◌, ◌*◌, ◌^◌, ℕ, List, ℤ, pos, get_or, length, take, drop, map, ap, sym, ◌∙◌, arith, ◌+◌, ◌≤◌, ◌≤ℤ◌, ◌++◌, length-take, ◌-◌, ◌-ℤ◌, ◌⊎◌, inl, inr, nat_abs, refl}
 use Rattle.std.specs.List.{range_with_len}
-use Rattle.std.proofs.lemmas.List.{ext_get_or, get_or-map, length-map}
-use Rattle.std.proofs.lemmas.List.Elements.{All-get_or}
+use Rattle.std.proofs.lemmas.List.{ext_get_or, get_or-map, length-map, take_all, take-take}
+use Rattle.std.proofs.lemmas.List.Elements.{All-get_or, All-drop, All-map, All-take}
 use Rattle.std.proofs.lemmas.List.FromFn.{get_or-map-range_with_len, length-map-range_with_len}
 use Rattle.fips204_base.specs.declared.types.R.{R}
-use Rattle.fips204_base.specs.Packing.{bits, bits_to_integer, coefficient, field, width, Packs, Unpacks}
-use Rattle.fips204_base.specs.Vectors.{polynomial_of}
-use Rattle.fips204_base.specs.Mask.{field_at, unpacked}
-use Rattle.fips204_base.proofs.Packings.{integer_of_digits, digits_at}
+use Rattle.fips204_base.specs.Packing.{bits, bits_to_integer, coefficient, field, width, Packs, Unpacks, InRange, bit_length}
+use Rattle.fips204_base.specs.Vectors.{polynomial_of, IsVector}
+use Rattle.fips204_base.specs.Mask.{field_at, unpacked, mask, mask_polynomial, mask_width}
+use Rattle.fips204_base.proofs.Packing.{integer_of_digits, digits_at, bits_below, integer_small}
+use Rattle.std.specs.Int.{w16, to_le_bytes}
+use Rattle.std.proofs.lemmas.Int.{ints}
+
+-- The polynomial that bytes hold is the one that they unpack to.
 
 pub field_at-packs : (c : ℕ) (bytes fields : List ℕ) (n : ℕ) → Packs c bytes fields → n < length fields → field_at c (bits 8 bytes) n ≡ get_or fields n 0
 unfolding field_at
@@ -31,3 +35,66 @@ unpacked-unpacks a b bytes w u =
     ∙ ap (coefficient (pos a) (pos b)) (field_at-packs c bytes fields n u.same_fields (omega (arith, inside, long)) ∙ get_or-map (field (pos a) (pos b)) w.0 n (pos 0) 0 inside')
     ∙ All-get_or (λ x. coefficient (pos a) (pos b) (field (pos a) (pos b) x) ≡ x) w.0 n (pos 0) inside' u.coefficients) in
     ap (λ (l : List ℤ). let w : R = record { 0 = l } in w) same
+
+-- The polynomials of the mask, as they are read and unpacked.
+
+-- the two ranges of the mask
+
+pub mask_width-is : (gamma1 : ℤ) → (gamma1 ≡ pos 131072) ⊎ (gamma1 ≡ pos 524288) → width (gamma1 -ℤ pos 1) gamma1 ≡ mask_width (nat_abs gamma1)
+mask_width-is gamma1 (inl e) = rw e refl
+mask_width-is gamma1 (inr e) = rw e refl
+
+pub mask_is_unpacked : (gamma1 : ℤ) (bytes : List ℕ) (w : R) → (gamma1 ≡ pos 131072) ⊎ (gamma1 ≡ pos 524288) → Unpacks (gamma1 -ℤ pos 1) gamma1 bytes w.0
+    → w ≡ unpacked (nat_abs gamma1 - 1) (nat_abs gamma1) bytes
+mask_is_unpacked gamma1 bytes w (inl e) u = let v : Unpacks (pos 131071) (pos 131072) bytes w.0 = rw e at u in rw e (sym (unpacked-unpacks 131071 131072 bytes w v))
+mask_is_unpacked gamma1 bytes w (inr e) u = let v : Unpacks (pos 524287) (pos 524288) bytes w.0 = rw e at u in rw e (sym (unpacked-unpacks 524287 524288 bytes w v))
+
+pub mask_width-low : (gamma1 : ℤ) → gamma1 ≡ pos 131072 → 576 ≡ 32 * mask_width (nat_abs gamma1)
+unfolding bit_length
+mask_width-low gamma1 e = rw e refl
+
+pub mask_width-high : (gamma1 : ℤ) → gamma1 ≡ pos 524288 → 640 ≡ 32 * mask_width (nat_abs gamma1)
+unfolding bit_length
+mask_width-high gamma1 e = rw e refl
+
+-- what is read is as much as is there for it
+pub as_long : (out rest : List ℕ) (m n : ℕ) → out ≡ take m rest → length out ≡ n → out ≡ take n rest
+as_long out rest m n e l =
+    let short : n ≤ m = omega (arith, l, ap length e, length-take m rest) in
+    sym (take_all n out (omega (arith, l))) ∙ ap (take n) e ∙ take-take n m rest short
+
+-- the range of the mask
+
+field_small : (c n : ℕ) (bytes : List ℕ) → field_at c (bits 8 bytes) n < 2 ^ c
+unfolding field_at
+field_small c n bytes =
+    let short : length (take c (drop (c * n) (bits 8 bytes))) ≤ c = simp length-take (omega arith) in
+    integer_small c (take c (drop (c * n) (bits 8 bytes))) short (All-take (λ (x : ℕ). x < 2) c (drop (c * n) (bits 8 bytes)) (All-drop (λ (x : ℕ). x < 2) (c * n) (bits 8 bytes) (bits_below 8 bytes)))
+
+coefficient-low : (f : ℕ) → f < 262144 → ((pos 0 -ℤ pos 131071) ≤ℤ coefficient (pos 131071) (pos 131072) f) × (coefficient (pos 131071) (pos 131072) f ≤ℤ pos 131072)
+unfolding coefficient
+coefficient-low f l = (omega (arith, ints, l), omega (arith, ints))
+
+coefficient-high : (f : ℕ) → f < 1048576 → ((pos 0 -ℤ pos 524287) ≤ℤ coefficient (pos 524287) (pos 524288) f) × (coefficient (pos 524287) (pos 524288) f ≤ℤ pos 524288)
+unfolding coefficient
+coefficient-high f l = (omega (arith, ints, l), omega (arith, ints))
+
+all_of : (f : ℕ → ℤ) (a b : ℤ) → ((n : ℕ) → (a ≤ℤ f n) × (f n ≤ℤ b)) → (length (polynomial_of f).0 ≡ 256) × InRange a b (polynomial_of f).0
+unfolding polynomial_of
+all_of f a b each = (length-map-range_with_len f 0 256, All-map (λ x. (a ≤ℤ x) × (x ≤ℤ b)) f (range_with_len 0 256) (λ k d l. each (get_or (range_with_len 0 256) k d)))
+
+pub mask_polynomial-range : (gamma1 : ℕ) (front : List ℕ) → (gamma1 ≡ 131072) ⊎ (gamma1 ≡ 524288)
+    → (length (mask_polynomial gamma1 front).0 ≡ 256) × InRange (pos 0 -ℤ pos (gamma1 - 1)) (pos gamma1) (mask_polynomial gamma1 front).0
+unfolding unpacked bit_length
+mask_polynomial-range gamma1 front (inl e) = rw e (all_of (λ n. coefficient (pos 131071) (pos 131072) (field_at 18 (bits 8 (take 576 front)) n)) (pos 0 -ℤ pos 131071) (pos 131072) (λ n. coefficient-low (field_at 18 (bits 8 (take 576 front)) n) (field_small 18 n (take 576 front))))
+mask_polynomial-range gamma1 front (inr e) = rw e (all_of (λ n. coefficient (pos 524287) (pos 524288) (field_at 20 (bits 8 (take 640 front)) n)) (pos 0 -ℤ pos 524287) (pos 524288) (λ n. coefficient-high (field_at 20 (bits 8 (take 640 front)) n) (field_small 20 n (take 640 front))))
+
+pub mask-range : (gamma1 : ℕ) (H : List ℕ → List ℕ) (rho : List ℕ) (l kappa : ℕ) → (gamma1 ≡ 131072) ⊎ (gamma1 ≡ 524288) → IsVector l (gamma1 - 1) gamma1 (mask gamma1 H rho l kappa)
+unfolding mask
+mask-range gamma1 H rho l kappa set =
+    let polynomial = λ (r : ℕ). mask_polynomial gamma1 (H (rho ++ to_le_bytes w16 (kappa + r))) in
+    record {
+      rows = length-map-range_with_len polynomial 0 l;
+      places = All-map (λ w. length w.0 ≡ 256) polynomial (range_with_len 0 l) (λ k d h. (mask_polynomial-range gamma1 _ set).0);
+      range = All-map (λ w. InRange (pos 0 -ℤ pos (gamma1 - 1)) (pos gamma1) w.0) polynomial (range_with_len 0 l) (λ k d h. (mask_polynomial-range gamma1 _ set).1);
+    }

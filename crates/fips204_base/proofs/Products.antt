@@ -1,33 +1,35 @@
--- The transform of a product is the product of the transforms, and the laws of the product follow.
+-- The transform of a product is the product of the transforms, and the laws of the ring follow.
 use Rattle.std.proofs.Common.{◌≡◌, ℕ, ◌<◌, ◌%◌, ◌≤◌, ◌+◌, ◌*◌, ◌^◌, ◌-◌, arith, ap, sym, ◌∙◌}
 use Rattle.std.proofs.lemmas.Nat.{pow-add}
 use Rattle.std.proofs.lemmas.Bool.{lt-ltb, le-ltb}
-use Rattle.fips204_base.specs.Residues.{sum_below, Same}
-use Rattle.fips204_base.specs.Transforms.{root, transform}
-use Rattle.fips204_base.specs.Products.{shifted, product}
-use Rattle.fips204_base.proofs.Residues.{same_refl, same_of, same_sym, same_trans, same_mod, same_add, same_mul}
-use Rattle.fips204_base.proofs.Sums.{sum_same, sum_equal, sum_swap, sum_split, sum_times, sum_times_right}
+use Rattle.fips204_base.specs.Residues.{sum_below, IsCongruent}
+use Rattle.fips204_base.specs.Transforms.{root, transform, inverse_root, inverse_transform}
+use Rattle.fips204_base.specs.Products.{shifted, product, plus, minus, pointwise, row_product}
+use Rattle.fips204_base.proofs.Residues.{congruent_refl, congruent_of, congruent_sym, congruent_trans, congruent_mod, congruent_add, congruent_mul, sum_same, sum_equal, sum_below-swap, sum_below-plus, sum_below-times, sum_below-times_right, listed_same, congruent_equal_mod, congruent_equal, sum_add}
 use Rattle.fips204_base.proofs.Roots.{root_turn}
-use Rattle.fips204_base.proofs.Inverse.{value_at, transform_value}
+use Rattle.fips204_base.proofs.Transforms.{value_at, transform_value, inverse_of_transform, transform_of_inverse}
+use Rattle.fips204_base.specs.Laws.{ProductOfTransforms, InverseOfTransform}
 
-shifted_low : (b : ℕ → ℕ) (i n : ℕ) → n < i → shifted b i n ≡ 8380416 * b (256 + n - i)
-unfolding shifted
-shifted_low b i n h = rw (lt-ltb n i h)
+-- The transform of a product is the product of the transforms, and the laws of the product follow.
 
-shifted_high : (b : ℕ → ℕ) (i n : ℕ) → i ≤ n → shifted b i n ≡ b (n - i)
+shifted-low : (b : ℕ → ℕ) (i n : ℕ) → n < i → shifted b i n ≡ 8380416 * b (256 + n - i)
 unfolding shifted
-shifted_high b i n h = rw (le-ltb n i h)
+shifted-low b i n h = rw (lt-ltb n i h)
+
+shifted-high : (b : ℕ → ℕ) (i n : ℕ) → i ≤ n → shifted b i n ≡ b (n - i)
+unfolding shifted
+shifted-high b i n h = rw (le-ltb n i h)
 
 -- where x^256 = -1, the value at x of X^i b is x^i times that of b
-module _ (x i c : ℕ) (b : ℕ → ℕ) (e : i + c ≡ 256) (turn : Same (x ^ 256) 8380416) where
-  shift_low : (n : ℕ) → n < i → Same (shifted b i n * x ^ n) (x ^ i * (b (c + n) * x ^ (c + n)))
+module _ (x i c : ℕ) (b : ℕ → ℕ) (e : i + c ≡ 256) (turn : IsCongruent (x ^ 256) 8380416) where
+  shift_low : (n : ℕ) → n < i → IsCongruent (shifted b i n * x ^ n) (x ^ i * (b (c + n) * x ^ (c + n)))
   shift_low n h =
       let place : 256 + n - i ≡ c + n = omega arith in
       let whole : x ^ 256 ≡ x ^ i * x ^ c = ap (λ k. x ^ k) (sym e) ∙ pow-add x i c in
-      let value : shifted b i n ≡ 8380416 * b (c + n) = shifted_low b i n h ∙ ap (λ k. 8380416 * b k) place in
-      same_trans (same_of (ap (λ t. t * x ^ n) value ∙ regroup 8380416 (b (c + n)) (x ^ n)))
-      (same_trans (same_mul (same_sym turn) (same_refl (b (c + n) * x ^ n)))
-      (same_of (rw (whole, pow-add x c n) (omega arith))))
+      let value : shifted b i n ≡ 8380416 * b (c + n) = shifted-low b i n h ∙ ap (λ k. 8380416 * b k) place in
+      congruent_trans (congruent_of (ap (λ t. t * x ^ n) value ∙ regroup 8380416 (b (c + n)) (x ^ n)))
+      (congruent_trans (congruent_mul (congruent_sym turn) (congruent_refl (b (c + n) * x ^ n)))
+      (congruent_of (rw (whole, pow-add x c n) (omega arith))))
     where
       regroup : (m a y : ℕ) → m * a * y ≡ m * (a * y)
       regroup m a y = omega arith
@@ -35,58 +37,248 @@ module _ (x i c : ℕ) (b : ℕ → ℕ) (e : i + c ≡ 256) (turn : Same (x ^ 2
   shift_high : (m : ℕ) → m < c → shifted b i (i + m) * x ^ (i + m) ≡ x ^ i * (b m * x ^ m)
   shift_high m h =
       let place : i + m - i ≡ m = omega arith in
-      rw (shifted_high b i (i + m) (omega arith), place, pow-add x i m) (omega arith)
+      rw (shifted-high b i (i + m) (omega arith), place, pow-add x i m) (omega arith)
 
-  shift_value : Same (value_at (shifted b i) x) (x ^ i * value_at b x)
+  shift_value : IsCongruent (value_at (shifted b i) x) (x ^ i * value_at b x)
   shift_value =
       let f = λ (n : ℕ). shifted b i n * x ^ n in
       let g = λ (n : ℕ). x ^ i * (b n * x ^ n) in
-      let left : sum_below 256 f ≡ sum_below i f + sum_below c (λ m. f (i + m)) = ap (λ n. sum_below n f) (sym e) ∙ sum_split i c f in
+      let left : sum_below 256 f ≡ sum_below i f + sum_below c (λ m. f (i + m)) = ap (λ n. sum_below n f) (sym e) ∙ sum_below-plus i c f in
       let turned : c + i ≡ 256 = omega arith in
       let right : x ^ i * value_at b x ≡ sum_below c g + sum_below i (λ n. g (c + n)) =
-      sym (sum_times 256 (x ^ i) (λ n. b n * x ^ n)) ∙ (ap (λ n. sum_below n g) (sym turned) ∙ sum_split c i g) in
+      sym (sum_below-times 256 (x ^ i) (λ n. b n * x ^ n)) ∙ (ap (λ n. sum_below n g) (sym turned) ∙ sum_below-plus c i g) in
       let low = sum_same i f (λ n. g (c + n)) shift_low in
       let high = sum_equal c (λ m. f (i + m)) g shift_high in
-      same_trans (same_of left) (same_trans (same_add low (same_of high)) (same_of (omega (arith, right))))
+      congruent_trans (congruent_of left) (congruent_trans (congruent_add low (congruent_of high)) (congruent_of (omega (arith, right))))
 
-pub product_value : (a b : ℕ → ℕ) (x : ℕ) → Same (x ^ 256) 8380416 → Same (value_at (product a b) x) (value_at a x * value_at b x)
+pub product_value : (a b : ℕ → ℕ) (x : ℕ) → IsCongruent (x ^ 256) 8380416 → IsCongruent (value_at (product a b) x) (value_at a x * value_at b x)
 unfolding product
 product_value a b x turn =
     let rows = λ (n : ℕ) (i : ℕ). a i * (shifted b i n * x ^ n) in
-    let columns : Same (sum_below 256 (λ i. sum_below 256 (λ n. rows n i))) (sum_below 256 (λ i. a i * x ^ i * value_at b x)) =
+    let columns : IsCongruent (sum_below 256 (λ i. sum_below 256 (λ n. rows n i))) (sum_below 256 (λ i. a i * x ^ i * value_at b x)) =
     sum_same 256 (λ i. sum_below 256 (λ n. rows n i)) (λ i. a i * x ^ i * value_at b x) (λ i p.
-    same_trans (same_of (sum_times 256 (a i) (λ n. shifted b i n * x ^ n)))
-    (same_trans (same_mul (same_refl (a i)) (shift_value x i (256 - i) b (omega arith) turn)) (same_of (regroup (a i) (x ^ i) (value_at b x))))) in
-    same_trans (sum_same 256 (λ n. product a b n * x ^ n) (λ n. sum_below 256 (rows n)) (λ n p.
-    same_trans (same_mul (same_mod (sum_below 256 (λ i. a i * shifted b i n))) (same_refl (x ^ n)))
-    (same_of (sum_times_right 256 (x ^ n) (λ i. a i * shifted b i n) ∙ sum_equal 256 (λ i. a i * shifted b i n * x ^ n) (rows n) (λ i q. omega arith)))))
-    (same_trans (same_of (sum_swap 256 256 rows))
-    (same_trans columns (same_of (sym (sum_times_right 256 (value_at b x) (λ i. a i * x ^ i))))))
+    congruent_trans (congruent_of (sum_below-times 256 (a i) (λ n. shifted b i n * x ^ n)))
+    (congruent_trans (congruent_mul (congruent_refl (a i)) (shift_value x i (256 - i) b (omega arith) turn)) (congruent_of (regroup (a i) (x ^ i) (value_at b x))))) in
+    congruent_trans (sum_same 256 (λ n. product a b n * x ^ n) (λ n. sum_below 256 (rows n)) (λ n p.
+    congruent_trans (congruent_mul (congruent_mod (sum_below 256 (λ i. a i * shifted b i n))) (congruent_refl (x ^ n)))
+    (congruent_of (sum_below-times_right 256 (x ^ n) (λ i. a i * shifted b i n) ∙ sum_equal 256 (λ i. a i * shifted b i n * x ^ n) (rows n) (λ i q. omega arith)))))
+    (congruent_trans (congruent_of (sum_below-swap 256 256 rows))
+    (congruent_trans columns (congruent_of (sym (sum_below-times_right 256 (value_at b x) (λ i. a i * x ^ i))))))
   where
     regroup : (s t u : ℕ) → s * (t * u) ≡ s * t * u
     regroup s t u = omega arith
 
-pub transform_of_product : (a b : ℕ → ℕ) (i : ℕ) → i < 256 → Same (transform (product a b) i) (transform a i * transform b i)
+pub transform_of_product : (a b : ℕ → ℕ) (i : ℕ) → i < 256 → IsCongruent (transform (product a b) i) (transform a i * transform b i)
 transform_of_product a b i p =
-    same_trans (transform_value (product a b) i)
-    (same_trans (product_value a b (root i) (root_turn i p))
-    (same_mul (same_sym (transform_value a i)) (same_sym (transform_value b i))))
+    congruent_trans (transform_value (product a b) i)
+    (congruent_trans (product_value a b (root i) (root_turn i p))
+    (congruent_mul (congruent_sym (transform_value a i)) (congruent_sym (transform_value b i))))
 
--- the product as it is written in words: a_i b_(n - i) for i ≤ n, less a_i b_(256 + n - i) for i > n
-pub product_in_words : (a b : ℕ → ℕ) (n : ℕ) → n < 256 →
-    product a b n ≡ (sum_below (n + 1) (λ i. a i * b (n - i)) + 8380416 * sum_below (255 - n) (λ i. a (n + 1 + i) * b (255 - i))) % 8380417
+-- The laws of the product, each through the transforms, which determine a polynomial.
+
+-- ---- the transforms and the product go by residues
+pub transform_same : (v w : ℕ → ℕ) → ((j : ℕ) → j < 256 → IsCongruent (v j) (w j)) → (i : ℕ) → transform v i ≡ transform w i
+unfolding transform
+transform_same v w h i = congruent_equal_mod (sum_same 256 (λ j. v j * root i ^ j) (λ j. w j * root i ^ j) (λ j p. congruent_mul (h j p) (congruent_refl (root i ^ j))))
+
+pub inverse_same : (v w : ℕ → ℕ) → ((i : ℕ) → i < 256 → IsCongruent (v i) (w i)) → (j : ℕ) → inverse_transform v j ≡ inverse_transform w j
+unfolding inverse_transform
+inverse_same v w h j = congruent_equal_mod (congruent_mul (congruent_refl 8347681) (sum_same 256 (λ i. v i * inverse_root i ^ j) (λ i. w i * inverse_root i ^ j) (λ i p. congruent_mul (h i p) (congruent_refl (inverse_root i ^ j)))))
+
+-- two polynomials with one transform are the same
+pub by_transforms : (v w : ℕ → ℕ) → ((i : ℕ) → i < 256 → IsCongruent (transform v i) (transform w i)) → (j : ℕ) → j < 256 → IsCongruent (v j) (w j)
+by_transforms v w h j p =
+    congruent_trans (congruent_sym (inverse_of_transform v j p))
+    (congruent_trans (congruent_of (inverse_same (transform v) (transform w) h j)) (inverse_of_transform w j p))
+
+pub inverse_below : (v : ℕ → ℕ) (j : ℕ) → inverse_transform v j < 8380417
+unfolding inverse_transform
+inverse_below v j = omega arith
+
+inverse_reduced : (v : ℕ → ℕ) (j : ℕ) → inverse_transform v j ≡ inverse_transform v j % 8380417
+inverse_reduced v j = omega (arith, inverse_below v j)
+
+-- a number congruent to a value of the inverse transform, reduced
+pub inverse_residue : (v : ℕ → ℕ) (j a : ℕ) → IsCongruent a (inverse_transform v j) → a % 8380417 ≡ inverse_transform v j
+inverse_residue v j a s = congruent_equal_mod s ∙ sym (inverse_reduced v j)
+
+pub transform_below : (w : ℕ → ℕ) (i : ℕ) → transform w i < 8380417
+unfolding transform
+transform_below w i = omega arith
+
+-- a number congruent to a value of the transform, reduced
+pub transform_residue : (w : ℕ → ℕ) (i a : ℕ) → IsCongruent a (transform w i) → a % 8380417 ≡ transform w i
+transform_residue w i a s = let below = transform_below w i in omega (arith, s.same)
+
+pub pointwise_turned : (a b : ℕ → ℕ) (j : ℕ) → pointwise a b j ≡ pointwise b a j
+pointwise_turned a b j = ap (λ x. x % 8380417) (omega arith)
+
+pub product_below : (a b : ℕ → ℕ) (n : ℕ) → product a b n < 8380417
 unfolding product
-product_in_words a b n p =
-    let f = λ (i : ℕ). a i * shifted b i n in
-    let e : n + 1 + (255 - n) ≡ 256 = omega arith in
-    let split : sum_below 256 f ≡ sum_below (n + 1) f + sum_below (255 - n) (λ i. f (n + 1 + i)) = ap (λ m. sum_below m f) (sym e) ∙ sum_split (n + 1) (255 - n) f in
-    let low : sum_below (n + 1) f ≡ sum_below (n + 1) (λ i. a i * b (n - i)) = sum_equal (n + 1) f (λ i. a i * b (n - i)) (λ i h. ap (λ t. a i * t) (shifted_high b i n (omega arith))) in
-    let high : sum_below (255 - n) (λ i. f (n + 1 + i)) ≡ 8380416 * sum_below (255 - n) (λ i. a (n + 1 + i) * b (255 - i)) =
-    sum_equal (255 - n) (λ i. f (n + 1 + i)) (λ i. 8380416 * (a (n + 1 + i) * b (255 - i))) (λ i h.
-    let place : 256 + n - (n + 1 + i) ≡ 255 - i = omega arith in
-    ap (λ t. a (n + 1 + i) * t) (shifted_low b (n + 1 + i) n (omega arith) ∙ ap (λ k. 8380416 * b k) place) ∙ turn (a (n + 1 + i)) (b (255 - i)))
-    ∙ sum_times (255 - n) 8380416 (λ i. a (n + 1 + i) * b (255 - i)) in
-    ap (λ t. t % 8380417) (rw (split, low, high))
+product_below a b n = omega arith
+
+pub row_below : (l : ℕ) (a s : ℕ → ℕ → ℕ) (n : ℕ) → row_product l a s n < 8380417
+unfolding row_product
+row_below l a s n = omega arith
+
+product_residue : (a b : ℕ → ℕ) (n : ℕ) → product a b n % 8380417 ≡ product a b n
+unfolding product
+product_residue a b n = omega arith
+
+pub by_transforms_exactly : (a b c d : ℕ → ℕ) → ((i : ℕ) → i < 256 → IsCongruent (transform (product a b) i) (transform (product c d) i)) → (n : ℕ) → n < 256 → product a b n ≡ product c d n
+by_transforms_exactly a b c d h n p =
+    sym (product_residue a b n) ∙ (congruent_equal_mod (by_transforms (product a b) (product c d) h n p) ∙ product_residue c d n)
+
+-- ---- the inverse transform of the coordinatewise product is the product
+pub product_of_transforms : (a b : ℕ → ℕ) (n : ℕ) → n < 256 → inverse_transform (pointwise (transform a) (transform b)) n ≡ product a b n
+product_of_transforms a b n p =
+    inverse_same (pointwise (transform a) (transform b)) (transform (product a b)) (λ i q.
+    congruent_trans (congruent_mod (transform a i * transform b i)) (congruent_sym (transform_of_product a b i q))) n
+    ∙ (inverse_reduced (transform (product a b)) n ∙ (congruent_equal_mod (inverse_of_transform (product a b) n p) ∙ product_residue a b n))
+
+-- ---- the ring laws
+pub product_same : (a b c d : ℕ → ℕ) → ((j : ℕ) → j < 256 → IsCongruent (a j) (c j)) → ((j : ℕ) → j < 256 → IsCongruent (b j) (d j)) → (n : ℕ) → n < 256 → product a b n ≡ product c d n
+product_same a b c d e f = by_transforms_exactly a b c d (λ i p.
+    congruent_trans (transform_of_product a b i p)
+    (congruent_trans (congruent_mul (congruent_of (transform_same a c e i)) (congruent_of (transform_same b d f i))) (congruent_sym (transform_of_product c d i p))))
+
+pub transform_of_plus : (a b : ℕ → ℕ) (i : ℕ) → IsCongruent (transform (plus a b) i) (transform a i + transform b i)
+transform_of_plus a b i =
+    let x = root i in
+    congruent_trans (transform_value (plus a b) i)
+    (congruent_trans (sum_same 256 (λ j. plus a b j * x ^ j) (λ j. a j * x ^ j + b j * x ^ j) (λ j p.
+    congruent_trans (congruent_mul (congruent_mod (a j + b j)) (congruent_refl (x ^ j))) (congruent_of (spread (a j) (b j) (x ^ j)))))
+    (congruent_trans (congruent_of (sum_add 256 (λ j. a j * x ^ j) (λ j. b j * x ^ j))) (congruent_add (congruent_sym (transform_value a i)) (congruent_sym (transform_value b i)))))
   where
-    turn : (s t : ℕ) → s * (8380416 * t) ≡ 8380416 * (s * t)
-    turn s t = omega arith
+    spread : (s t u : ℕ) → (s + t) * u ≡ s * u + t * u
+    spread s t u = omega arith
+
+pub product_plus : (a b c : ℕ → ℕ) (n : ℕ) → n < 256 → product a (plus b c) n ≡ plus (product a b) (product a c) n
+product_plus a b c n p =
+    sym (product_residue a (plus b c) n) ∙ (congruent_equal_mod (by_transforms (product a (plus b c)) (plus (product a b) (product a c)) (λ i q.
+    congruent_trans (transform_of_product a (plus b c) i q)
+    (congruent_trans (congruent_mul (congruent_refl (transform a i)) (transform_of_plus b c i))
+    (congruent_trans (congruent_of (spread (transform a i) (transform b i) (transform c i)))
+    (congruent_trans (congruent_add (congruent_sym (transform_of_product a b i q)) (congruent_sym (transform_of_product a c i q))) (congruent_sym (transform_of_plus (product a b) (product a c) i)))))) n p)
+    ∙ omega arith)
+  where
+    spread : (s t u : ℕ) → s * (t + u) ≡ s * t + s * u
+    spread s t u = omega arith
+
+-- a difference is a sum with q - 1 times the second
+pub transform_of_minus : (a b : ℕ → ℕ) (i : ℕ) → IsCongruent (transform (minus a b) i) (transform a i + 8380416 * transform b i)
+transform_of_minus a b i =
+    let x = root i in
+    congruent_trans (transform_value (minus a b) i)
+    (congruent_trans (sum_same 256 (λ j. minus a b j * x ^ j) (λ j. a j * x ^ j + 8380416 * (b j * x ^ j)) (λ j p.
+    congruent_trans (congruent_mul (congruent_mod (a j + 8380416 * b j)) (congruent_refl (x ^ j))) (congruent_of (spread (a j) (b j) (x ^ j)))))
+    (congruent_trans (congruent_of (sum_add 256 (λ j. a j * x ^ j) (λ j. 8380416 * (b j * x ^ j))))
+    (congruent_add (congruent_sym (transform_value a i)) (congruent_trans (congruent_of (sum_below-times 256 8380416 (λ j. b j * x ^ j))) (congruent_mul (congruent_refl 8380416) (congruent_sym (transform_value b i)))))))
+  where
+    spread : (s t u : ℕ) → (s + 8380416 * t) * u ≡ s * u + 8380416 * (t * u)
+    spread s t u = omega arith
+
+-- ---- rows of a matrix
+pub transform_of_row : (l : ℕ) (a s : ℕ → ℕ → ℕ) (i : ℕ) → i < 256 → IsCongruent (transform (row_product l a s) i) (sum_below l (λ k. transform (a k) i * transform (s k) i))
+unfolding row_product
+transform_of_row l a s i p =
+    let x = root i in
+    congruent_trans (transform_value (row_product l a s) i)
+    (congruent_trans (sum_same 256 (λ j. row_product l a s j * x ^ j) (λ j. sum_below l (λ k. product (a k) (s k) j * x ^ j)) (λ j q.
+    congruent_trans (congruent_mul (congruent_mod (sum_below l (λ k. product (a k) (s k) j))) (congruent_refl (x ^ j))) (congruent_of (sum_below-times_right l (x ^ j) (λ k. product (a k) (s k) j)))))
+    (congruent_trans (congruent_of (sum_below-swap 256 l (λ j k. product (a k) (s k) j * x ^ j)))
+    (sum_same l (λ k. sum_below 256 (λ j. product (a k) (s k) j * x ^ j)) (λ k. transform (a k) i * transform (s k) i) (λ k q.
+    congruent_trans (congruent_sym (transform_value (product (a k) (s k)) i)) (transform_of_product (a k) (s k) i p)))))
+
+row_residue : (l : ℕ) (a s : ℕ → ℕ → ℕ) (n : ℕ) → row_product l a s n ≡ row_product l a s n % 8380417
+row_residue l a s n = omega (arith, row_below l a s n)
+
+-- A (c s) = c (A s), row by row
+pub row_of_multiple : (l : ℕ) (a s : ℕ → ℕ → ℕ) (c : ℕ → ℕ) (n : ℕ) → n < 256 → row_product l a (λ k. product c (s k)) n ≡ product c (row_product l a s) n
+row_of_multiple l a s c n p =
+    row_residue l a (λ k. product c (s k)) n ∙ (congruent_equal_mod (by_transforms (row_product l a (λ k. product c (s k))) (product c (row_product l a s)) (λ i q.
+    congruent_trans (transform_of_row l a (λ k. product c (s k)) i q)
+    (congruent_trans (sum_same l (λ k. transform (a k) i * transform (product c (s k)) i) (λ k. transform c i * (transform (a k) i * transform (s k) i)) (λ k r.
+    congruent_trans (congruent_mul (congruent_refl (transform (a k) i)) (transform_of_product c (s k) i q)) (congruent_of (turn (transform (a k) i) (transform c i) (transform (s k) i)))))
+    (congruent_trans (congruent_of (sum_below-times l (transform c i) (λ k. transform (a k) i * transform (s k) i)))
+    (congruent_trans (congruent_mul (congruent_refl (transform c i)) (congruent_sym (transform_of_row l a s i q))) (congruent_sym (transform_of_product c (row_product l a s) i q)))))) n p)
+    ∙ product_residue c (row_product l a s) n)
+  where
+    turn : (x y z : ℕ) → x * (y * z) ≡ y * (x * z)
+    turn x y z = omega arith
+
+-- A (s + t) = A s + A t, row by row
+pub row_of_sum : (l : ℕ) (a s t : ℕ → ℕ → ℕ) (n : ℕ) → n < 256 → row_product l a (λ k. plus (s k) (t k)) n ≡ plus (row_product l a s) (row_product l a t) n
+row_of_sum l a s t n p =
+    row_residue l a (λ k. plus (s k) (t k)) n ∙ (congruent_equal_mod (by_transforms (row_product l a (λ k. plus (s k) (t k))) (plus (row_product l a s) (row_product l a t)) (λ i q.
+    congruent_trans (transform_of_row l a (λ k. plus (s k) (t k)) i q)
+    (congruent_trans (sum_same l (λ k. transform (a k) i * transform (plus (s k) (t k)) i) (λ k. transform (a k) i * transform (s k) i + transform (a k) i * transform (t k) i) (λ k r.
+    congruent_trans (congruent_mul (congruent_refl (transform (a k) i)) (transform_of_plus (s k) (t k) i)) (congruent_of (spread (transform (a k) i) (transform (s k) i) (transform (t k) i)))))
+    (congruent_trans (congruent_of (sum_add l (λ k. transform (a k) i * transform (s k) i) (λ k. transform (a k) i * transform (t k) i)))
+    (congruent_trans (congruent_add (congruent_sym (transform_of_row l a s i q)) (congruent_sym (transform_of_row l a t i q))) (congruent_sym (transform_of_plus (row_product l a s) (row_product l a t) i)))))) n p)
+    ∙ omega arith)
+  where
+    spread : (x y z : ℕ) → x * (y + z) ≡ x * y + x * z
+    spread x y z = omega arith
+
+row_same : (l : ℕ) (p : ℕ → ℕ) (v t s : ℕ → ℕ → ℕ) → ((j : ℕ) → j < 256 → p j ≡ sum_below l (λ k. v k j * t k j) % 8380417) →
+    ((k j : ℕ) → k < l → j < 256 → t k j ≡ transform (s k) j) → (j : ℕ) → j < 256 → IsCongruent (p j) (sum_below l (λ k. v k j * transform (s k) j))
+row_same l p v t s h g j q =
+    congruent_trans (congruent_of (h j q)) (congruent_trans (congruent_mod (sum_below l (λ k. v k j * t k j)))
+    (congruent_of (sum_equal l (λ k. v k j * t k j) (λ k. v k j * transform (s k) j) (λ k r. ap (λ x. v k j * x) (g k j r q)))))
+
+products_same : (p x y a b : ℕ → ℕ) → ((j : ℕ) → j < 256 → p j ≡ pointwise x y j) → ((j : ℕ) → j < 256 → x j ≡ transform a j) → ((j : ℕ) → j < 256 → y j ≡ transform b j) →
+    (j : ℕ) → j < 256 → IsCongruent (p j) (pointwise (transform a) (transform b) j)
+products_same p x y a b h f g j q = congruent_of (h j q ∙ rw (f j q, g j q))
+
+-- the sums of products at a place are the transform of the row's product
+row_value : (l : ℕ) (v s : ℕ → ℕ → ℕ) (i : ℕ) → i < 256 → IsCongruent (sum_below l (λ k. v k i * transform (s k) i)) (transform (row_product l (λ k. inverse_transform (v k)) s) i)
+row_value l v s i q =
+    congruent_trans (sum_same l (λ k. v k i * transform (s k) i) (λ k. transform (inverse_transform (v k)) i * transform (s k) i) (λ k r.
+    congruent_mul (congruent_sym (transform_of_inverse (v k) i q)) (congruent_refl (transform (s k) i))))
+    (congruent_sym (transform_of_row l (λ k. inverse_transform (v k)) s i q))
+
+-- a row of A times s, where the row is given by its transforms: the inverse transform of the sums of products
+pub row_by_transforms : (l : ℕ) (v s : ℕ → ℕ → ℕ) (n : ℕ) → n < 256 →
+    inverse_transform (λ i. sum_below l (λ k. v k i * transform (s k) i)) n ≡ row_product l (λ k. inverse_transform (v k)) s n
+row_by_transforms l v s n p =
+    inverse_same (λ i. sum_below l (λ k. v k i * transform (s k) i)) (transform (row_product l (λ k. inverse_transform (v k)) s)) (row_value l v s) n
+    ∙ congruent_equal (inverse_of_transform (row_product l (λ k. inverse_transform (v k)) s) n p) (inverse_below (transform (row_product l (λ k. inverse_transform (v k)) s)) n) (row_below l (λ k. inverse_transform (v k)) s n)
+
+-- ---- what is computed from transforms
+-- sums of products of transforms make a row of the plain product
+pub row_of_products : (l : ℕ) (p : ℕ → ℕ) (v t s : ℕ → ℕ → ℕ) → ((j : ℕ) → j < 256 → p j ≡ sum_below l (λ k. v k j * t k j) % 8380417) →
+    ((k j : ℕ) → k < l → j < 256 → t k j ≡ transform (s k) j) → (n : ℕ) → n < 256 → inverse_transform p n ≡ row_product l (λ k. inverse_transform (v k)) s n
+row_of_products l p v t s h g n q =
+    inverse_same p (λ j. sum_below l (λ k. v k j * transform (s k) j)) (row_same l p v t s h g) n ∙ row_by_transforms l v s n q
+
+-- products of transforms make a plain product
+pub product_of_products : (p x y a b : ℕ → ℕ) → ((j : ℕ) → j < 256 → p j ≡ pointwise x y j) → ((j : ℕ) → j < 256 → x j ≡ transform a j) → ((j : ℕ) → j < 256 → y j ≡ transform b j) →
+    (n : ℕ) → n < 256 → inverse_transform p n ≡ product a b n
+product_of_products p x y a b h f g n q =
+    inverse_same p (pointwise (transform a) (transform b)) (products_same p x y a b h f g) n ∙ product_of_transforms a b n q
+
+-- differences of both make the difference of the plain products
+pub difference_of_products : (l : ℕ) (d p c x y a b : ℕ → ℕ) (v t s : ℕ → ℕ → ℕ) → ((j : ℕ) → j < 256 → d j ≡ minus p c j) →
+    ((j : ℕ) → j < 256 → p j ≡ sum_below l (λ k. v k j * t k j) % 8380417) → ((k j : ℕ) → k < l → j < 256 → t k j ≡ transform (s k) j) →
+    ((j : ℕ) → j < 256 → c j ≡ pointwise x y j) → ((j : ℕ) → j < 256 → x j ≡ transform a j) → ((j : ℕ) → j < 256 → y j ≡ transform b j) →
+    (n : ℕ) → n < 256 → inverse_transform d n ≡ minus (row_product l (λ k. inverse_transform (v k)) s) (product a b) n
+difference_of_products l d p c x y a b v t s e h g i f k n q =
+    let matrix = λ (k : ℕ). inverse_transform (v k) in
+    inverse_same d (transform (minus (row_product l matrix s) (product a b))) (λ j r.
+    congruent_trans (congruent_of (e j r)) (congruent_trans (congruent_mod (p j + 8380416 * c j))
+    (congruent_trans (congruent_add
+    (congruent_trans (row_same l p v t s h g j r) (row_value l v s j r))
+    (congruent_mul (congruent_refl 8380416) (congruent_trans (products_same c x y a b i f k j r) (congruent_trans (congruent_mod (transform a j * transform b j)) (congruent_sym (transform_of_product a b j r))))))
+    (congruent_sym (transform_of_minus (row_product l matrix s) (product a b) j))))) n
+    ∙ (inverse_reduced (transform (minus (row_product l matrix s) (product a b))) n ∙ (congruent_equal_mod (inverse_of_transform (minus (row_product l matrix s) (product a b)) n q) ∙ omega arith))
+
+-- ---- the same for whole lists
+pub product_of_transforms_listed : ProductOfTransforms
+product_of_transforms_listed a b = listed_same (inverse_transform (pointwise (transform a) (transform b))) (product a b) (product_of_transforms a b)
+
+pub inverse_of_transform_listed : InverseOfTransform
+inverse_of_transform_listed w = (
+  listed_same (inverse_transform (transform w)) (λ j. w j % 8380417) (λ j p. sym (inverse_residue (transform w) j (w j) (congruent_sym (inverse_of_transform w j p)))),
+  listed_same (transform (inverse_transform w)) (λ i. w i % 8380417) (λ i p. sym (transform_residue (inverse_transform w) i (w i) (congruent_sym (transform_of_inverse w i p)))),
+)

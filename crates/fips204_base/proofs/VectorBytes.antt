@@ -1,16 +1,69 @@
--- The bytes of a vector, polynomial by polynomial.
-use Rattle.std.proofs.Common.{◌≡◌, ℕ, ◌+◌, ◌*◌, ◌^◌, ◌<◌, ◌≤◌, List, [], ◌∷◌, ◌++◌, ℤ, pos, ◌+ℤ◌, ◌-ℤ◌, ◌≤ℤ◌, nat_abs, length, length-append, append_assoc, take, drop, set, get_or, map, subst, ap, sym, ◌∙◌, arith}
+-- Lists of bytes that are written or read piece by piece, and the bytes of a vector.
+use Rattle.std.proofs.Common.{◌≡◌, ℕ, ◌+◌, ◌-◌, ◌≤◌, List, ◌++◌, length, take, drop, ap, sym, ◌∙◌, arith, length-append, length-take, length-drop, ◌*◌, ◌^◌, ◌<◌, [], ◌∷◌, ℤ, pos, ◌+ℤ◌, ◌-ℤ◌, ◌≤ℤ◌, nat_abs, append_assoc, set, get_or, map, subst}
+use Rattle.std.proofs.lemmas.List.{take_all, take_at, take_more, take_more_set, drop_at, take-append-drop, length-take-le, flat_map_more}
+use Rattle.std.proofs.lemmas.Slice.{take-put_mid}
+use borrow.Rule.Slice.PartMut.{put_mid}
 use Rattle.std.specs.List.{All, flat_map}
 use Rattle.std.proofs.lemmas.Int.{ints}
 use Rattle.std.proofs.lemmas.List.Elements.{All-take, All-head, All-tail, All-nil, All-cons}
 use Rattle.std.proofs.lemmas.Nat.{mul-le}
-use Rattle.std.proofs.lemmas.List.{take_more, take_more_set, take_at, drop_at, take-append-drop, length-take-le, flat_map_more}
 use Rattle.std.proofs.lemmas.List.Concat.{flat_map-append}
 use Rattle.fips204_base.specs.declared.types.R.{R}
 use Rattle.fips204_base.specs.Encodings.{vector_bytes}
 use Rattle.fips204_base.specs.Vectors.{IsVector}
-use Rattle.fips204_base.proofs.PolynomialBytes.{length-polynomial_bytes}
+use Rattle.fips204_base.proofs.Packing.{length-polynomial_bytes}
 use Rattle.fips204_base.specs.Packing.{Bounds, InRange, Unpacks, coefficient, field, polynomial_bytes, width}
+
+-- A list of bytes that is written or read piece by piece.
+
+pub length-put_mid : (a k : ℕ) (xs ys : List ℕ) → length ys ≡ k → a + k ≤ length xs → length (put_mid a k xs ys) ≡ length xs
+length-put_mid a k xs ys e h = simp (length-append, length-take, length-drop) (omega (arith, e, h))
+
+-- the front of the result is the front before and the piece
+pub put_piece : (a k n : ℕ) (xs ys front : List ℕ) → length ys ≡ k → a + k ≤ length xs → n ≡ a + k → take a xs ≡ front → take n (put_mid a k xs ys) ≡ front ++ ys
+put_piece a k n xs ys front e h same before =
+    take-put_mid a k xs ys n (omega (arith, same, e)) (omega (arith, h)) ∙ ap (λ l. l ++ ys) before
+
+-- the last piece is written after the front
+pub put_last : (a k : ℕ) (xs ys front : List ℕ) → length ys ≡ k → a + k ≡ length xs → take a xs ≡ front → put_mid a k xs ys ≡ front ++ ys
+put_last a k xs ys front e h before =
+    let size = length-put_mid a k xs ys e (omega (arith, h)) in
+    sym (take_all (a + k) (put_mid a k xs ys) (omega (arith, size, h))) ∙ put_piece a k (a + k) xs ys front e (omega (arith, h)) (omega arith) before
+
+-- of n bytes the first a are written
+pub record Written (a n : ℕ) (front xs : List ℕ) : Type 0 where
+  pub before : take a xs ≡ front
+  pub size : length xs ≡ n
+  pub inside : a ≤ n
+
+pub room_within : (a k n : ℕ) (front xs : List ℕ) → Written a n front xs → a + k ≤ n → length (take k (drop a xs)) ≡ k
+room_within a k n front xs w h = simp (length-take, length-drop) (omega (arith, w.size, h))
+
+pub room_left : (a n : ℕ) (front xs : List ℕ) → Written a n front xs → length (take (length xs - a) (drop a xs)) ≡ n - a
+room_left a n front xs w = simp (length-take, length-drop) (omega (arith, w.size, w.inside))
+
+-- the first piece, one more, and the last
+pub written_first : (a n : ℕ) (xs p : List ℕ) → length xs ≡ n → a ≤ n → length p ≡ a → Written a n p (p ++ drop a xs)
+written_first a n xs p size inside e = record {
+  before = take_at p (drop a xs) a e;
+  size = simp (length-append, length-drop) (omega (arith, size, inside, e));
+  inside = inside;
+}
+
+pub written_more : (a k b n : ℕ) (front xs p : List ℕ) → Written a n front xs → a + k ≡ b → b ≤ n → length p ≡ length (take k (drop a xs)) → Written b n (front ++ p) (put_mid a k xs p)
+written_more a k b n front xs p w end inside e =
+    let long = e ∙ room_within a k n front xs w (omega (arith, end, inside)) in
+    let within : a + k ≤ length xs = omega (arith, end, inside, w.size) in
+    record {
+      before = put_piece a k b xs p front long within (sym end) w.before;
+      size = length-put_mid a k xs p long within ∙ w.size;
+      inside = inside;
+    }
+
+pub written_last : (a n : ℕ) (front xs p : List ℕ) → Written a n front xs → length p ≡ length (take (length xs - a) (drop a xs)) → put_mid a (length xs - a) xs p ≡ front ++ p
+written_last a n front xs p w e = put_last a (length xs - a) xs p front (e ∙ simp (length-take, length-drop) (omega arith)) (omega (arith, w.size, w.inside)) w.before
+
+-- The bytes of a vector, polynomial by polynomial.
 
 -- where there are as many fields as coefficients, each field is that of a coefficient in range
 whole_coefficient : (a b x : ℤ) (p : ℕ) → Bounds a b → pos p ≡ a +ℤ b +ℤ pos 1 → field a b x < p → coefficient a b (field a b x) ≡ x → ((pos 0 -ℤ a) ≤ℤ x) × (x ≤ℤ b)
@@ -31,8 +84,8 @@ pub unpacked_range : (a b : ℤ) (bytes : List ℕ) (w : List ℤ) → Bounds a 
 unpacked_range a b bytes w bounds whole u = whole_range a b w bounds whole u.same_fields.small_fields u.coefficients
 
 -- piece i of n pieces of one size ends within them
-pub piece_within : (size i n len : ℕ) → len ≡ size * n → i < n → size * i + size ≤ len
-piece_within size i n len all h =
+pub piece-within : (size i n len : ℕ) → len ≡ size * n → i < n → size * i + size ≤ len
+piece-within size i n len all h =
     let l = mul-le size (i + 1) size n (omega arith) (omega arith) in
     omega (arith, l, all)
 

@@ -38,16 +38,16 @@ small_past_its_limit : small_polynomial 2 (replicate 897 0xFF ++ replicate 3199 
 unfolding small_polynomial kept_half_bytes first_256
 small_past_its_limit = refl
 
--- the seed of an entry ends in the byte of its column and then that of its row: with a front that begins with the two
--- bytes and 0, coefficient 0 of the entry at row r and column s is s + 256 r
-seeds_of_entries : option_map (λ a. map (λ row. map (λ t. get_or t.0 0 (pos 0)) row) a) (sampled_matrix (λ seed. seed ++ 0 ∷ []) [] 2 2)
+-- the seed of an entry ends in the byte of its column and then that of its row: with a front of the two
+-- bytes and then zeros, coefficient 0 of the entry at row r and column s is s + 256 r
+seeds_of_entries : option_map (λ a. map (λ row. map (λ t. get_or t.0 0 (pos 0)) row) a) (sampled_matrix (λ seed. seed ++ replicate 4094 0) [] 2 2)
     ≡ Some ((pos 0 ∷ pos 1 ∷ []) ∷ (pos 256 ∷ pos 257 ∷ []) ∷ [])
 unfolding sampled_matrix all_present matrix_entry kept_triples triple first_256
 seeds_of_entries = refl
 
 -- the seed of a small polynomial ends in its number, the low byte first: with a front that repeats the first of the two
 -- bytes, those of numbers 3 and 4 have 4 less the number at even places
-seeds_of_small : option_map (λ v. map (λ w. get_or w.0 254 (pos 0)) v) (small_vector 4 (λ seed. replicate 128 (get_or seed 0 0)) [] 3 2) ≡ Some (pos 1 ∷ pos 0 ∷ [])
+seeds_of_small : option_map (λ v. map (λ w. get_or w.0 254 (pos 0)) v) (small_vector 4 (λ seed. replicate 4096 (get_or seed 0 0)) [] 3 2) ≡ Some (pos 1 ∷ pos 0 ∷ [])
 unfolding small_vector all_present small_polynomial kept_half_bytes first_256
 seeds_of_small = refl
 

@@ -5,7 +5,7 @@ use Rattle.sha2.specs.Sha256.{sha256}
 use Rattle.sha2.specs.Sha512.{sha512}
 use Rattle.sha2.proofs.Facts256.{length-sha256}
 use Rattle.sha2.proofs.Facts512.{length-sha512}
-use Rattle.fips204_base.specs.Streams.{counter_block, counter_blocks, front_length, sha256_front, sha512_front}
+use Rattle.fips204_base.specs.Streams.{counter_block, counter_blocks, sha256_front, sha512_front, sha256_long_front, sha512_long_front}
 
 -- a hash whose digests have `size` bytes
 module _ (hash : List ℕ → List ℕ) (size : ℕ) (sized : (message : List ℕ) → length (hash message) ≡ size) (seed : List ℕ) where
@@ -24,8 +24,14 @@ module _ (hash : List ℕ → List ℕ) (size : ℕ) (sized : (message : List �
       let both = length-append (counter_blocks hash seed n) (counter_block hash seed n) in
       omega (arith, before, last, both)
 
-pub length-sha256_front : (input : List ℕ) → length (sha256_front input) ≡ front_length
+pub length-sha256_front : (input : List ℕ) → length (sha256_front input) ≡ 4096
 length-sha256_front input = length-counter_blocks sha256 32 length-sha256 (sha256 input) 128
 
-pub length-sha512_front : (input : List ℕ) → length (sha512_front input) ≡ front_length
+pub length-sha256_long_front : (input : List ℕ) → length (sha256_long_front input) ≡ 16384
+length-sha256_long_front input = length-counter_blocks sha256 32 length-sha256 (sha256 input) 512
+
+pub length-sha512_front : (input : List ℕ) → length (sha512_front input) ≡ 4096
 length-sha512_front input = length-counter_blocks sha512 64 length-sha512 (sha512 input) 64
+
+pub length-sha512_long_front : (input : List ℕ) → length (sha512_long_front input) ≡ 16384
+length-sha512_long_front input = length-counter_blocks sha512 64 length-sha512 (sha512 input) 256

@@ -1,7 +1,6 @@
 -- The challenge (FIPS 204, Algorithm 29).
 use Rattle.std.specs.Prelude.{ℕ, ◌+◌, ◌-◌, ◌/◌, List, [], ◌∷◌, ◌++◌, ℤ, pos, ◌+ℤ◌, neg_ℤ, length, take, drop, Option, Some, None, if◌then◌else◌, nat_eq, nat_lt, nat_le}
 use Rattle.fips204_base.specs.declared.types.R.{R}
-use Rattle.fips204_base.specs.Streams.{front_length}
 use Rattle.fips204_base.specs.Packing.{bits}
 use Rattle.fips204_base.specs.Vectors.{polynomial_of}
 
@@ -30,9 +29,9 @@ signed_sum [] sign_bits n = pos 0
 signed_sum (place ∷ later) [] n = pos 0
 signed_sum (place ∷ later) (bit ∷ sign_bits) n = (if nat_eq place n then sign_of bit else pos 0) +ℤ signed_sum later sign_bits n
 
--- the picks of 256 - tau to 255 from the 1024 bytes after the first eight
+-- the picks of 256 - tau to 255 from the bytes after the first eight, a quarter as many as the front has
 unfoldable pub challenge_picks : ℕ → List ℕ → List ℕ
-challenge_picks tau front = take tau (picks (256 - tau) (take (front_length / 4) (drop 8 front)))
+challenge_picks tau front = take tau (picks (256 - tau) (take (length front / 4) (drop 8 front)))
 
 -- SampleInBall (Algorithm 29): the sum over i from 256 - tau to 255 of sign_i X^place(i), or none where a pick is missing;
 -- sign_i is that of bit i + tau - 256 of the first eight bytes

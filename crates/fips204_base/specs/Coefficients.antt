@@ -1,5 +1,9 @@
 -- Coefficients from bytes (FIPS 204, Algorithms 14 and 15).
-use Rattle.std.specs.Prelude.{ℕ, ◌+◌, ◌*◌, ◌%◌, ℤ, pos, ◌-ℤ◌, Option, Some, None, ◌&&◌, if◌then◌else◌, nat_eq, nat_lt}
+use Rattle.std.specs.Prelude.{ℕ, ◌+◌, ◌*◌, ◌%◌, ℤ, pos, ◌-ℤ◌, Option, Some, None, ◌&&◌, ◌≡◌, ◌⊎◌, if◌then◌else◌, nat_eq, nat_lt}
+
+-- eta at the parameter sets (FIPS 204, Table 1)
+abbrev pub IsEta : ℤ → Type 0
+IsEta eta = (eta ≡ pos 2) ⊎ (eta ≡ pos 4)
 
 -- the number of three bytes, the lowest first, without the top bit of the last
 abbrev pub three_bytes : ℕ → ℕ → ℕ → ℕ

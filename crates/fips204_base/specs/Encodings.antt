@@ -1,11 +1,15 @@
 -- Keys and signatures as bytes (FIPS 204, Algorithms 22 to 28).
-use Rattle.std.specs.Prelude.{◌≡◌, ◌≤◌, ℕ, List, ◌++◌, ◌-◌, pos, length}
+use Rattle.std.specs.Prelude.{◌≡◌, ◌≤◌, ◌⊎◌, ℕ, ℤ, List, ◌++◌, ◌-◌, pos, length}
 use Rattle.std.specs.List.{flat_map}
 use Rattle.fips204_base.specs.declared.types.R.{R}
 use Rattle.fips204_base.specs.Packing.{polynomial_bytes}
 use Rattle.fips204_base.specs.Rounding.{high_values}
 use Rattle.fips204_base.specs.HintSpelling.{all_ones, hint_bytes}
 use Rattle.fips204_base.specs.Vectors.{IsVector}
+
+-- gamma1 at the parameter sets (FIPS 204, Table 1)
+abbrev pub IsGamma1 : ℤ → Type 0
+IsGamma1 gamma1 = (gamma1 ≡ pos 131072) ⊎ (gamma1 ≡ pos 524288)
 
 -- the polynomials of a vector one after another, with coefficients from -a to b:
 --   part            a             b             bits          bytes that decode

@@ -1,19 +1,19 @@
--- The butterflies, and the levels that they make up, by place (FIPS 204, Algorithms 41 and 42).
+-- The butterflies, and the layers that they make up, by place (FIPS 204, Algorithms 41 and 42).
 use Rattle.std.specs.Prelude.{◌≡◌, ℕ, ◌+◌, ◌*◌, ◌-◌, ◌<◌, ◌≤◌, ℤ, nat_abs}
-use Rattle.fips204_base.specs.Residues.{residue, Same}
+use Rattle.fips204_base.specs.Residues.{residue, IsCongruent}
 use Rattle.fips204_base.specs.Transforms.{zeta_at}
 
 -- one butterfly at m makes a + zeta b and a - zeta b of a and b
 pub record IsButterfly (m : ℕ) (a b x y : ℤ) : Type 0 where
-  pub sum : Same (residue x) (residue a + zeta_at m * residue b)
-  pub difference : Same (residue y) (residue a + 8380416 * (zeta_at m * residue b))
+  pub sum : IsCongruent (residue x) (residue a + zeta_at m * residue b)
+  pub difference : IsCongruent (residue y) (residue a + 8380416 * (zeta_at m * residue b))
   pub sum_small : nat_abs x ≤ nat_abs a + 8380416
   pub difference_small : nat_abs y ≤ nat_abs a + 8380416
 
 -- one butterfly backwards at m makes a + b and -zeta (a - b) of a and b
 pub record IsInverseButterfly (m : ℕ) (a b x y : ℤ) : Type 0 where
-  pub sum : Same (residue x) (residue a + residue b)
-  pub difference : Same (residue y) (8380416 * (zeta_at m * (residue a + 8380416 * residue b)))
+  pub sum : IsCongruent (residue x) (residue a + residue b)
+  pub difference : IsCongruent (residue y) (8380416 * (zeta_at m * (residue a + 8380416 * residue b)))
   pub sum_small : nat_abs x ≤ nat_abs a + nat_abs b
   pub difference_small : nat_abs y ≤ 8380416
 
@@ -28,14 +28,14 @@ abbrev pub AreBlocks : (ℕ → ℤ → ℤ → ℤ → ℤ → Type 0) → ℕ 
 AreBlocks Pair count len before after = (b k : ℕ) → b < count → k < len →
     Pair b (before (2 * len * b + k)) (before (2 * len * b + k + len)) (after (2 * len * b + k)) (after (2 * len * b + k + len))
 
--- a level in residues: count blocks of 2 * len coefficients; block b multiplies by zeta_at (count + b)
-abbrev pub IsLevel : ℕ → ℕ → (ℕ → ℕ) → (ℕ → ℕ) → Type 0
-IsLevel count len before after = (b j : ℕ) → b < count → j < len →
-    Same (after (2 * len * b + j)) (before (2 * len * b + j) + zeta_at (count + b) * before (2 * len * b + j + len))
-    × Same (after (2 * len * b + j + len)) (before (2 * len * b + j) + 8380416 * (zeta_at (count + b) * before (2 * len * b + j + len)))
+-- a layer in residues: count blocks of 2 * len coefficients; block b multiplies by zeta_at (count + b)
+abbrev pub IsLayer : ℕ → ℕ → (ℕ → ℕ) → (ℕ → ℕ) → Type 0
+IsLayer count len before after = (b j : ℕ) → b < count → j < len →
+    IsCongruent (after (2 * len * b + j)) (before (2 * len * b + j) + zeta_at (count + b) * before (2 * len * b + j + len))
+    × IsCongruent (after (2 * len * b + j + len)) (before (2 * len * b + j) + 8380416 * (zeta_at (count + b) * before (2 * len * b + j + len)))
 
 -- the same backwards: block b multiplies the differences by minus zeta_at (2 * count - 1 - b)
-abbrev pub IsInverseLevel : ℕ → ℕ → (ℕ → ℕ) → (ℕ → ℕ) → Type 0
-IsInverseLevel count len before after = (b j : ℕ) → b < count → j < len →
-    Same (after (2 * len * b + j)) (before (2 * len * b + j) + before (2 * len * b + j + len))
-    × Same (after (2 * len * b + j + len)) (8380416 * (zeta_at (2 * count - 1 - b) * (before (2 * len * b + j) + 8380416 * before (2 * len * b + j + len))))
+abbrev pub IsInverseLayer : ℕ → ℕ → (ℕ → ℕ) → (ℕ → ℕ) → Type 0
+IsInverseLayer count len before after = (b j : ℕ) → b < count → j < len →
+    IsCongruent (after (2 * len * b + j)) (before (2 * len * b + j) + before (2 * len * b + j + len))
+    × IsCongruent (after (2 * len * b + j + len)) (8380416 * (zeta_at (2 * count - 1 - b) * (before (2 * len * b + j) + 8380416 * before (2 * len * b + j + len))))

@@ -1,6 +1,10 @@
 -- Rounding and hints (FIPS 204, Algorithms 35 to 40). Each r and z is a residue, from 0 to q - 1.
-use Rattle.std.specs.Prelude.{ℕ, ◌+◌, ◌-◌, ◌*◌, ◌/◌, ◌%◌, ℤ, pos, ◌-ℤ◌, nat_abs, Bool, not, if◌then◌else◌, nat_eq, int_lt}
+use Rattle.std.specs.Prelude.{◌≡◌, ◌⊎◌, ℕ, ◌+◌, ◌-◌, ◌*◌, ◌/◌, ◌%◌, ℤ, pos, ◌-ℤ◌, nat_abs, Bool, not, if◌then◌else◌, nat_eq, int_lt}
 use Rattle.fips204_base.specs.CentredValues.{centred_modulo}
+
+-- gamma2 at the parameter sets (FIPS 204, Table 1)
+abbrev pub IsGamma2 : ℤ → Type 0
+IsGamma2 gamma2 = (gamma2 ≡ pos 95232) ⊎ (gamma2 ≡ pos 261888)
 
 -- Power2Round (Algorithm 35): (r1, r0), where r0 is r centred modulo 2^13 and r1 is (r - r0) / 2^13
 abbrev pub power2round : ℕ → ℕ × ℤ
@@ -25,7 +29,7 @@ high_bits gamma2 r = (decompose gamma2 r).0
 abbrev pub low_bits : ℕ → ℕ → ℤ
 low_bits gamma2 r = (decompose gamma2 r).1
 
--- MakeHint (Algorithm 39): whether the high bits of r + z are others than those of r
+-- MakeHint (Algorithm 39): whether the high bits of r + z differ from those of r
 abbrev pub make_hint : ℕ → ℕ → ℕ → Bool
 make_hint gamma2 z r = not (nat_eq (high_bits gamma2 r) (high_bits gamma2 ((r + z) % 8380417)))
 

@@ -1,9 +1,8 @@
 -- Small polynomials (FIPS 204, Algorithms 31 and 33).
-use Rattle.std.specs.Prelude.{ℕ, ◌/◌, ◌%◌, List, [], ◌∷◌, ◌++◌, ℤ, map, take, filter_map, flat_map, Option, option_map}
+use Rattle.std.specs.Prelude.{ℕ, ◌/◌, ◌%◌, List, [], ◌∷◌, ◌++◌, ℤ, length, map, take, filter_map, flat_map, Option, option_map}
 use Rattle.std.specs.Int.{w16, to_le_bytes}
 use Rattle.std.specs.List.{range_with_len}
 use Rattle.fips204_base.specs.declared.types.R.{R}
-use Rattle.fips204_base.specs.Streams.{front_length}
 use Rattle.fips204_base.specs.Coefficients.{coefficient_from_half_byte}
 use Rattle.fips204_base.specs.Sampling.{first_256, all_present}
 
@@ -15,9 +14,9 @@ half_bytes bytes = flat_map (λ byte. byte % 16 ∷ byte / 16 ∷ []) bytes
 unfoldable pub kept_half_bytes : ℕ → List ℕ → ℕ → List ℤ
 kept_half_bytes eta front n = filter_map (coefficient_from_half_byte eta) (half_bytes (take n front))
 
--- RejBoundedPoly (Algorithm 31): the first 256 coefficients of the first 1024 bytes, or none
+-- RejBoundedPoly (Algorithm 31): the first 256 coefficients of the first bytes, a quarter of the front, or none
 unfoldable pub small_polynomial : ℕ → List ℕ → Option R
-small_polynomial eta front = option_map (λ values. record { 0 = values }) (first_256 (kept_half_bytes eta front (front_length / 4)))
+small_polynomial eta front = option_map (λ values. record { 0 = values }) (first_256 (kept_half_bytes eta front (length front / 4)))
 
 -- ExpandS (Algorithm 33), a part of it: count polynomials from H(rho', number in two bytes), the numbers from first on;
 -- none where one of them is none

@@ -1,12 +1,8 @@
 -- Streams: what stands in the place of SHAKE256 and SHAKE128 (FIPS 204, section 3.7).
-use Rattle.std.specs.Prelude.{ℕ, zero, suc, List, [], ◌++◌}
+use Rattle.std.specs.Prelude.{◌≡◌, ℕ, zero, suc, List, [], ◌++◌, length, take}
 use Rattle.std.specs.Int.{w32, to_le_bytes}
 use Rattle.sha2.specs.Sha256.{sha256}
 use Rattle.sha2.specs.Sha512.{sha512}
-
--- how many bytes a front has; every limit on sampling is written by it
-abbrev pub front_length : ℕ
-front_length = 4096
 
 -- block i of a stream in counter mode: the hash of the seed followed by i as four bytes, the lowest first
 unfoldable pub counter_block : (List ℕ → List ℕ) → List ℕ → ℕ → List ℕ
@@ -24,3 +20,19 @@ sha256_front input = counter_blocks sha256 (sha256 input) 128
 -- the front of `Sha512Ctr`: 64 blocks of SHA-512 over the digest of the input
 abbrev pub sha512_front : List ℕ → List ℕ
 sha512_front input = counter_blocks sha512 (sha512 input) 64
+
+-- the front of `Sha256CtrLong`: the first 512 of the blocks of `Sha256Ctr`
+abbrev pub sha256_long_front : List ℕ → List ℕ
+sha256_long_front input = counter_blocks sha256 (sha256 input) 512
+
+-- the front of `Sha512CtrLong`: the first 256 of the blocks of `Sha512Ctr`
+abbrev pub sha512_long_front : List ℕ → List ℕ
+sha512_long_front input = counter_blocks sha512 (sha512 input) 256
+
+-- a front is a prefix of a longer one
+abbrev pub IsPrefix : List ℕ → List ℕ → Type 0
+IsPrefix front longer = take (length front) longer ≡ front
+
+-- each front of H is a prefix of the matching front of H'
+abbrev pub ArePrefixes : (List ℕ → List ℕ) → (List ℕ → List ℕ) → Type 0
+ArePrefixes H H' = (input : List ℕ) → IsPrefix (H input) (H' input)

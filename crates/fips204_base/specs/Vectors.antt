@@ -1,24 +1,27 @@
 -- Vectors and matrices of polynomials (FIPS 204, sections 2.3 to 2.5).
-use Rattle.std.specs.Prelude.{◌≡◌, ℕ, List, ℤ, pos, ◌-ℤ◌, length, map, slice_index_or}
+use Rattle.std.specs.Prelude.{◌≡◌, ℕ, List, [], ℤ, pos, ◌-ℤ◌, length, map, slice_index_or}
 use Rattle.std.specs.List.{All, range_with_len}
 use Rattle.fips204_base.specs.declared.types.R.{R}
 use Rattle.fips204_base.specs.declared.types.T.{T}
-use Rattle.fips204_base.specs.declared.types.TheConstants.{R0}
 use Rattle.fips204_base.specs.Packing.{InRange}
 use Rattle.fips204_base.specs.Polynomials.{matrix_residues}
 use Rattle.fips204_base.specs.Residues.{coefficients}
-use Rattle.fips204_base.specs.Products.{row_product}
+use Rattle.fips204_base.specs.Products.{minus, product, row_product}
 use Rattle.fips204_base.specs.Transforms.{inverse_transform}
+
+-- every coefficient of a vector's polynomials is from lo to hi
+abbrev pub VectorInRange : ℤ → ℤ → List R → Type 0
+VectorInRange lo hi v = All (λ w. InRange lo hi w.0) v
 
 -- a vector of so many polynomials, with coefficients from -a to b
 pub record IsVector (count a b : ℕ) (v : List R) : Type 0 where
   pub rows : length v ≡ count
   pub places : All (λ w. length w.0 ≡ 256) v
-  pub range : All (λ w. InRange (pos 0 -ℤ pos a) (pos b) w.0) v
+  pub range : VectorInRange (pos 0 -ℤ pos a) (pos b) v
 
 -- the residues of a vector of polynomials, by row and place
 abbrev pub vector_coefficients : List R → ℕ → ℕ → ℕ
-vector_coefficients v i = coefficients (slice_index_or v i R0).0
+vector_coefficients v i = coefficients (slice_index_or v i record { 0 = [] }).0
 
 -- the plain matrix of a matrix of transforms, by row, column and place: the inverse transform of each entry
 abbrev pub plain_matrix : List (List T) → ℕ → ℕ → ℕ → ℕ
@@ -27,6 +30,10 @@ plain_matrix a i k = inverse_transform (matrix_residues a i k)
 -- coefficient n of polynomial r of A v, where A is the plain matrix and v a vector of l polynomials
 abbrev pub matrix_product : ℕ → List (List T) → (ℕ → ℕ → ℕ) → ℕ → ℕ → ℕ
 matrix_product l a v r = row_product l (plain_matrix a r) v
+
+-- coefficient n of polynomial r of A z - c t, where A is the plain matrix and z a vector of l polynomials
+abbrev pub product_difference : ℕ → List (List T) → List R → R → List R → ℕ → ℕ → ℕ
+product_difference l a z c t r = minus (matrix_product l a (vector_coefficients z) r) (product (coefficients c.0) (vector_coefficients t r))
 
 -- the polynomial whose coefficient n is f n
 unfoldable pub polynomial_of : (ℕ → ℤ) → R

@@ -14,7 +14,7 @@ pub use coefficients::{coeff_from_half_byte, coeff_from_three_bytes};
 pub use hints::{hint_bit_pack, hint_bit_unpack};
 
 /// How many bits the fields of coefficients in `[-a, b]` have.
-fn field_width(a: i32, b: i32) -> u32
+pub(crate) fn field_width(a: i32, b: i32) -> u32
     requires { Bounds a b }
     ensures value { result ≡ width a b }
     ensures few { result ≤ 21 }
@@ -84,6 +84,7 @@ pub fn simple_bit_pack(w: &R, b: i32, out: &mut [u8])
 ///
 /// `a` is from 0 and `b` from 1 to `2^20 - 1`, and `out` has exactly `32 * bit_length(a + b)`
 /// bytes.
+#[inline(always)]
 pub fn bit_pack(w: &R, a: i32, b: i32, out: &mut [u8])
     requires bounds { Bounds a b }
     requires range { InRange (pos 0 -ℤ a) b w.now.0 }
@@ -95,6 +96,7 @@ pub fn bit_pack(w: &R, a: i32, b: i32, out: &mut [u8])
     let mut have = 0u32;
     let mut at = 0usize;
     for x in &w.0 {
+        // z = z || IntegerToBits(b - w_i, bitlen(a + b)), given out in bytes as they fill
         word = put(word, have, field_of(*x, a, b));
         have += c;
         while have >= 8 {
@@ -126,7 +128,9 @@ pub fn simple_bit_unpack(v: &[u8], b: i32) -> Option<R>
 pub fn bit_unpack(v: &[u8], a: i32, b: i32) -> Option<R>
     requires bounds { Bounds a b }
     requires room { length v.now ≡ 32 * width a b }
-    ensures { MatchOption result ((a ≡ pos 0) × PacksAbove b (width a b) v.now) (λ w. Unpacks a b v.now w.0 × (a ≡ pos 0 → InRange (pos 0) b w.0)) }
+    ensures { MatchOption result
+        ((a ≡ pos 0) × PacksAbove b (width a b) v.now)
+        (λ w. Unpacks a b v.now w.0 × (a ≡ pos 0 → InRange (pos 0) b w.0)) }
 {
     let c = field_width(a, b);
     let mut out = [0i32; 256];
@@ -137,6 +141,7 @@ pub fn bit_unpack(v: &[u8], a: i32, b: i32) -> Option<R>
         word = put(word, have, *byte as u32);
         have += 8;
         while have >= c {
+            // w_i = b - BitsToInteger(z[i c .. (i + 1) c - 1], c)
             out[at] = coefficient_of(low(word, c), a, b);
             word >>= c;
             have -= c;

@@ -2,6 +2,9 @@
 //! section 7.3).
 #![tactic(auto)]
 
+ghost use Rattle.std.specs.Prelude.{◌≤◌, option_to_list};
+ghost use Rattle.fips204_base.specs.Sampling.{AreKept};
+
 mod challenge;
 mod mask;
 mod matrix;
@@ -11,3 +14,19 @@ pub use challenge::sample_in_ball;
 pub use mask::expand_mask;
 pub use matrix::{expand_a, rej_ntt_poly};
 pub use small::{expand_s, rej_bounded_poly};
+
+/// Puts a coefficient, if there is one, at place `kept` of `values`, if there is room, and answers how
+/// many there are then.
+fn keep(coefficient: Option<i32>, values: &mut [i32; 256], kept: usize) -> usize
+    requires room { kept ≤ 256 }
+    ensures count { result ≤ 256 }
+    ensures kept { AreKept values.old kept (option_to_list coefficient) values.new result }
+{
+    match coefficient {
+        Some(coefficient) if kept < 256 => {
+            values[kept] = coefficient;
+            kept + 1
+        }
+        _ => kept,
+    }
+}

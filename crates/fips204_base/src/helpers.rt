@@ -14,7 +14,9 @@ pub mod zeta_table;
 use crate::types::R;
 pub use count::Count;
 pub use norm::infinity_norm;
-pub use reduce::{center_mod, full_reduce32, mont_reduce, partial_reduce32, partial_reduce64};
+pub use reduce::{
+    center_mod, difference, full_reduce32, mont_reduce, partial_reduce32, partial_reduce64,
+};
 pub use residue::Residue;
 pub use vector::{add_vector_ntt, mat_vec_mul, to_mont};
 pub use zeta_table::ZETA_TABLE_MONT;

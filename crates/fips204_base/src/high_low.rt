@@ -1,43 +1,39 @@
 //! Rounding and hints (FIPS 204, Algorithms 35 to 40).
 #![tactic(auto)]
 
-ghost use Rattle.std.specs.Prelude.{◌≡◌, ◌⊎◌, ◌<◌, ◌≤◌, ◌+◌, ◌-◌, ◌*◌, ◌/◌, ℕ, ℤ, pos, ◌≤ℤ◌, nat_abs, int_lt, slice_index_or};
-ghost use Rattle.std.specs.List.{All};
+ghost use Rattle.std.specs.Prelude.{◌≡◌, ◌⊎◌, ◌<◌, ◌≤◌, ◌+◌, ◌-◌, ◌*◌, ◌/◌, ℕ, ℤ, pos, ◌≤ℤ◌, nat_abs, int_lt};
 ghost use Rattle.fips204_base.specs.Residues.{residue};
-ghost use Rattle.fips204_base.specs.Packing.{InRange};
-ghost use Rattle.fips204_base.specs.Vectors.{vector_coefficients};
-ghost use Rattle.fips204_base.specs.Rounding.{power2round, high_bits, low_bits, make_hint, high_values, use_hint};
+ghost use Rattle.fips204_base.specs.Polynomials.{AreResidues};
+ghost use Rattle.fips204_base.specs.Vectors.{vector_coefficients, vector_of};
+ghost use Rattle.fips204_base.specs.Rounding.{IsGamma2, power2round, high_bits, low_bits, make_hint, high_values, use_hint};
 
 use crate::D;
 use crate::helpers::full_reduce32;
-use crate::types::{R, R0, Zq};
+use crate::maps::map_vector;
+use crate::types::{R, Zq};
 
 /// `Power2Round` (FIPS 204, Algorithm 35) of each coefficient, from 0 to `q - 1`: the high parts,
 /// from 0 to 1023, and the low parts, from -4095 to 4096.
 pub fn power2round<const K: usize>(r: &[R; K]) -> ([R; K], [R; K])
-    requires { All (λ w. InRange (pos 0) (pos 8380416) w.0) r.now }
-    ensures high { (i j : ℕ) → i < K → j < 256 → slice_index_or (slice_index_or result.0 i R0).0 j (pos 0) ≡ pos (power2round (vector_coefficients r.now i j)).0 }
-    ensures low { (i j : ℕ) → i < K → j < 256 → slice_index_or (slice_index_or result.1 i R0).0 j (pos 0) ≡ (power2round (vector_coefficients r.now i j)).1 }
+    requires { AreResidues K r.now }
+    ensures high { result.0 ≡ vector_of K (λ i n. pos (power2round (vector_coefficients r.now i n)).0) }
+    ensures low { result.1 ≡ vector_of K (λ i n. (power2round (vector_coefficients r.now i n)).1) }
 {
-    let mut high = [R0; K];
-    let mut low = [R0; K];
-    for i in 0..K {
-        power2round_polynomial(&r[i], &mut high[i], &mut low[i]);
-    }
+    let high = map_vector(
+        r,
+        |x|
+            requires { (pos 0 ≤ℤ x) × (x ≤ℤ pos 8380416) }
+            ensures { result ≡ pos (power2round (residue x)).0 }
+        { power2round_coefficient(x).0 },
+    );
+    let low = map_vector(
+        r,
+        |x|
+            requires { (pos 0 ≤ℤ x) × (x ≤ℤ pos 8380416) }
+            ensures { result ≡ (power2round (residue x)).1 }
+        { power2round_coefficient(x).1 },
+    );
     (high, low)
-}
-
-/// `power2round` of one polynomial.
-fn power2round_polynomial(r: &R, high: &mut R, low: &mut R)
-    requires { InRange (pos 0) (pos 8380416) r.now.0 }
-    ensures high { (j : ℕ) → j < 256 → slice_index_or high.new.0 j (pos 0) ≡ pos (power2round (residue (slice_index_or r.now.0 j (pos 0)))).0 }
-    ensures low { (j : ℕ) → j < 256 → slice_index_or low.new.0 j (pos 0) ≡ (power2round (residue (slice_index_or r.now.0 j (pos 0)))).1 }
-{
-    for j in 0..256 {
-        let (top, rest) = power2round_coefficient(r.0[j]);
-        high.0[j] = top;
-        low.0[j] = rest;
-    }
 }
 
 /// `power2round` of one coefficient.
@@ -47,6 +43,7 @@ fn power2round_coefficient(r: Zq) -> (Zq, Zq)
     ensures high { result.0 ≡ pos (power2round (residue r)).0 }
     ensures low { result.1 ≡ (power2round (residue r)).1 }
 {
+    // r0 = r mod± 2^d, r1 = (r - r0) / 2^d
     let high = (r + 4095) >> D;
     (high, r - (high << D))
 }
@@ -55,7 +52,7 @@ fn power2round_coefficient(r: Zq) -> (Zq, Zq)
 /// `gamma2` is 95232 or 261888 and `r` is below `2^31 - 2^22` in absolute value. The high bits are
 /// from 0 to 43 or to 15, the low bits from `-gamma2` to `gamma2`.
 pub fn decompose(gamma2: i32, r: Zq) -> (Zq, Zq)
-    requires set { (gamma2 ≡ pos 95232) ⊎ (gamma2 ≡ pos 261888) }
+    requires set { IsGamma2 gamma2 }
     requires range { nat_abs r < 2143289344 }
     ensures high { result.0 ≡ pos (high_bits (nat_abs gamma2) (residue r)) }
     ensures low { result.1 ≡ low_bits (nat_abs gamma2) (residue r) }
@@ -64,26 +61,29 @@ pub fn decompose(gamma2: i32, r: Zq) -> (Zq, Zq)
 }
 
 /// `decompose` of a residue.
-#[tactic(auto, using(crate::proofs::Rounds::decomposed))]
+#[tactic(auto, using(crate::proofs::Rounding::decomposed))]
 fn decompose_residue(gamma2: u32, r: u32) -> (Zq, Zq)
     requires set { (gamma2 ≡ 95232) ⊎ (gamma2 ≡ 261888) }
     requires range { r < 8380417 }
     ensures high { result.0 ≡ pos (high_bits gamma2 r) }
     ensures low { result.1 ≡ low_bits gamma2 r }
 {
+    // r0 = r mod± (2 gamma2)
     let quotient = nearest_quotient(gamma2, r);
     let multiple = quotient * (2 * gamma2);
     let low = r as i32 - multiple as i32;
     if multiple == 8380416 {
+        // r - r0 = q - 1: r1 = 0, r0 = r0 - 1
         (0, low - 1)
     } else {
+        // r1 = (r - r0) / (2 gamma2)
         (quotient as i32, low)
     }
 }
 
 /// The quotient of `r` by `2 gamma2` that is nearest, the lower one of two. The reciprocals are of
 /// `2 gamma2 / 128`: `1488 * 11275` is `2^24 - 16`, and `4092 * 1025` is `2^22 - 4`.
-#[tactic(auto, using(crate::proofs::Rounds::reciprocal_95232, crate::proofs::Rounds::reciprocal_261888))]
+#[tactic(auto, using(crate::proofs::Rounding::reciprocal_95232, crate::proofs::Rounding::reciprocal_261888))]
 fn nearest_quotient(gamma2: u32, r: u32) -> u32
     requires set { (gamma2 ≡ 95232) ⊎ (gamma2 ≡ 261888) }
     requires range { r < 8380417 }
@@ -99,7 +99,7 @@ fn nearest_quotient(gamma2: u32, r: u32) -> u32
 
 /// `HighBits` (FIPS 204, Algorithm 37), under the conditions of `decompose`.
 pub fn high_bits(gamma2: i32, r: Zq) -> Zq
-    requires set { (gamma2 ≡ pos 95232) ⊎ (gamma2 ≡ pos 261888) }
+    requires set { IsGamma2 gamma2 }
     requires range { nat_abs r < 2143289344 }
     ensures { result ≡ pos (high_bits (nat_abs gamma2) (residue r)) }
 {
@@ -108,21 +108,22 @@ pub fn high_bits(gamma2: i32, r: Zq) -> Zq
 
 /// `LowBits` (FIPS 204, Algorithm 38), under the conditions of `decompose`.
 pub fn low_bits(gamma2: i32, r: Zq) -> Zq
-    requires set { (gamma2 ≡ pos 95232) ⊎ (gamma2 ≡ pos 261888) }
+    requires set { IsGamma2 gamma2 }
     requires range { nat_abs r < 2143289344 }
     ensures { result ≡ low_bits (nat_abs gamma2) (residue r) }
 {
     decompose(gamma2, r).1
 }
 
-/// `MakeHint` (FIPS 204, Algorithm 39): whether the high bits of `r + z` are others than those of
-/// `r`, where `gamma2` is 95232 or 261888 and `z` and `r` are at most 1071644671 in absolute value.
+/// `MakeHint` (FIPS 204, Algorithm 39): whether the high bits of `r + z` differ from those of `r`,
+/// where `gamma2` is 95232 or 261888 and `z` and `r` are at most 1071644671 in absolute value.
 pub fn make_hint(gamma2: i32, z: Zq, r: Zq) -> bool
-    requires set { (gamma2 ≡ pos 95232) ⊎ (gamma2 ≡ pos 261888) }
+    requires set { IsGamma2 gamma2 }
     requires z { nat_abs z ≤ 1071644671 }
     requires r { nat_abs r ≤ 1071644671 }
     ensures { result ≡ make_hint (nat_abs gamma2) (residue z) (residue r) }
 {
+    // r1 = HighBits(r), v1 = HighBits(r + z), r1 != v1
     high_bits(gamma2, r) != high_bits(gamma2, r + z)
 }
 
@@ -130,7 +131,7 @@ pub fn make_hint(gamma2: i32, z: Zq, r: Zq) -> bool
 /// low bits are above 0 and else down, and round at the ends. `h` is 0 or 1, and the conditions of
 /// `decompose` hold.
 pub fn use_hint(gamma2: i32, h: Zq, r: Zq) -> Zq
-    requires set { (gamma2 ≡ pos 95232) ⊎ (gamma2 ≡ pos 261888) }
+    requires set { IsGamma2 gamma2 }
     requires hint { (h ≡ pos 0) ⊎ (h ≡ pos 1) }
     requires range { nat_abs r < 2143289344 }
     ensures { result ≡ pos (use_hint (nat_abs gamma2) (int_lt (pos 0) h) (residue r)) }
@@ -139,28 +140,29 @@ pub fn use_hint(gamma2: i32, h: Zq, r: Zq) -> Zq
 }
 
 /// `use_hint` of a residue.
-#[tactic(auto, using(crate::proofs::Rounds::hinted, crate::proofs::Rounds::high_bits_below))]
+#[tactic(auto, using(crate::proofs::Rounding::hinted, crate::proofs::Rounding::high_bits_below))]
 fn use_hint_residue(gamma2: u32, hint: bool, r: u32) -> Zq
     requires set { (gamma2 ≡ 95232) ⊎ (gamma2 ≡ 261888) }
     requires range { r < 8380417 }
     ensures { result ≡ pos (use_hint gamma2 hint r) }
 {
+    // (r1, r0) = Decompose(r), m = (q - 1) / (2 gamma2)
     let (high, low) = decompose_residue(gamma2, r);
     if !hint {
         return high;
     }
     let last = high_values(gamma2) - 1;
     if low > 0 {
+        // h = 1 and r0 > 0: (r1 + 1) mod m
         if high == last { 0 } else { high + 1 }
-    } else if high == 0 {
-        last
     } else {
-        high - 1
+        // h = 1 and r0 <= 0: (r1 - 1) mod m
+        if high == 0 { last } else { high - 1 }
     }
 }
 
 /// How many values high bits have: `(q - 1) / (2 gamma2)`.
-fn high_values(gamma2: u32) -> Zq
+pub(crate) fn high_values(gamma2: u32) -> Zq
     requires { (gamma2 ≡ 95232) ⊎ (gamma2 ≡ 261888) }
     ensures { result ≡ pos (high_values gamma2) }
 {

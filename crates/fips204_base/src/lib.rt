@@ -10,6 +10,7 @@ pub mod fault;
 pub mod hashing;
 pub mod helpers;
 pub mod high_low;
+pub mod maps;
 pub mod ntt;
 pub mod product;
 pub mod types;

@@ -1,17 +1,17 @@
 //! Products of plain polynomials, computed through transforms.
 #![tactic(auto)]
 
-ghost use Rattle.std.specs.Prelude.{◌≡◌, ◌≤◌, ◌<◌, ◌+◌, ◌*◌, ◌%◌, ℕ, pos, nat_abs, length, slice_index_or};
-ghost use Rattle.std.specs.List.{All};
+ghost use Rattle.std.specs.Prelude.{◌≡◌, ◌≤◌, ◌<◌, ◌+◌, ◌*◌, ◌%◌, ℕ, pos, nat_abs, length};
 ghost use Rattle.fips204_base.specs.Residues.{residue, coefficients};
 ghost use Rattle.fips204_base.specs.Products.{product, minus, pointwise, row_product};
 ghost use Rattle.fips204_base.specs.Transforms.{transform, inverse_transform};
-ghost use Rattle.fips204_base.specs.Polynomials.{Within, AllWithin, vector_residues};
-ghost use Rattle.fips204_base.specs.Vectors.{vector_coefficients, plain_matrix};
+ghost use Rattle.fips204_base.specs.Polynomials.{coefficient_at, entry, Within, IsReduced, IsReducedVector, AreReduced, IsReducedMatrix, vector_residues};
+ghost use Rattle.fips204_base.specs.Vectors.{vector_coefficients, matrix_product, product_difference};
 
-use crate::helpers::reduce::wide_product;
-use crate::helpers::{Count, mat_vec_mul, partial_reduce32, partial_reduce64};
-use crate::ntt::{inv_ntt, ntt};
+use crate::helpers::reduce::{difference, wide_product};
+use crate::helpers::{Count, mat_vec_mul, partial_reduce64};
+use crate::maps::update_with;
+use crate::ntt::{inv_ntt_row, ntt_row};
 use crate::types::{R, R0, T, T0};
 
 /// The product of a matrix, which is given by its transforms with values from 0 to `q - 1`, with a
@@ -22,9 +22,10 @@ pub fn matrix_times_vector<const K: usize, const L: usize>(
     v: &[R; L],
 ) -> [R; K]
     requires columns { L ≤ 7 }
-    requires matrix { All (AllWithin 8380416) a_hat.now }
-    requires vector { All (λ p. Within 8380416 p.0) v.now }
-    ensures { (i n : ℕ) → i < K → n < 256 → slice_index_or (slice_index_or result i R0).0 n (pos 0) ≡ pos (row_product L (plain_matrix a_hat.now i) (vector_coefficients v.now) n) }
+    requires matrix { IsReducedMatrix a_hat.now }
+    requires vector { IsReducedVector L v.now }
+    ensures values { (r n : ℕ) → r < K → n < 256 → entry result r n ≡ pos (matrix_product L a_hat.now (vector_coefficients v.now) r n) }
+    ensures range { IsReducedVector K result }
 {
     let products = mat_vec_mul(a_hat, &transforms(v));
     let mut out = [R0; K];
@@ -37,14 +38,17 @@ pub fn matrix_times_vector<const K: usize, const L: usize>(
 /// The product of a challenge with each polynomial of a vector: coefficients from 0 to `q - 1`. All
 /// coefficients have an absolute value of at most `q - 1`.
 pub fn challenge_times_vector<const K: usize>(c: &R, v: &[R; K]) -> [R; K]
-    requires challenge { Within 8380416 c.now.0 }
-    requires vector { All (λ p. Within 8380416 p.0) v.now }
-    ensures { (i n : ℕ) → i < K → n < 256 → slice_index_or (slice_index_or result i R0).0 n (pos 0) ≡ pos (product (coefficients c.now.0) (vector_coefficients v.now i) n) }
+    requires challenge { IsReduced c.now.0 }
+    requires vector { IsReducedVector K v.now }
+    ensures values { (r n : ℕ) → r < K → n < 256 → entry result r n ≡ pos (product (coefficients c.now.0) (vector_coefficients v.now r) n) }
+    ensures range { IsReducedVector K result }
 {
     let c_hat = transform_of(c);
     let mut out = [R0; K];
     for i in 0..K {
-        out[i] = inverse_of(&pointwise(&c_hat, &transform_of(&v[i])));
+        let mut multiple = transform_of(&v[i]);
+        multiply(&mut multiple, &c_hat);
+        out[i] = inverse_of(&multiple);
     }
     out
 }
@@ -59,27 +63,31 @@ pub fn matrix_times_vector_less<const K: usize, const L: usize>(
     t: &[R; K],
 ) -> [R; K]
     requires columns { L ≤ 7 }
-    requires matrix { All (AllWithin 8380416) a_hat.now }
-    requires vector { All (λ p. Within 8380416 p.0) z.now }
-    requires challenge { Within 8380416 c.now.0 }
-    requires less { All (λ p. Within 8380416 p.0) t.now }
-    ensures { (i n : ℕ) → i < K → n < 256 → slice_index_or (slice_index_or result i R0).0 n (pos 0) ≡ pos (minus (row_product L (plain_matrix a_hat.now i) (vector_coefficients z.now)) (product (coefficients c.now.0) (vector_coefficients t.now i)) n) }
+    requires matrix { IsReducedMatrix a_hat.now }
+    requires vector { IsReducedVector L z.now }
+    requires challenge { IsReduced c.now.0 }
+    requires less { IsReducedVector K t.now }
+    ensures values { (r n : ℕ) → r < K → n < 256 → entry result r n ≡ pos (product_difference L a_hat.now z.now c.now t.now r n) }
+    ensures range { IsReducedVector K result }
 {
     let products = mat_vec_mul(a_hat, &transforms(z));
     let c_hat = transform_of(c);
     let mut out = [R0; K];
     for i in 0..K {
-        let multiple = pointwise(&c_hat, &transform_of(&t[i]));
-        out[i] = inverse_of(&difference(&products[i], &multiple));
+        let mut multiple = transform_of(&t[i]);
+        multiply(&mut multiple, &c_hat);
+        let mut rest = products[i];
+        subtract(&mut rest, &multiple);
+        out[i] = inverse_of(&rest);
     }
     out
 }
 
 /// The transforms of a vector.
 fn transforms<const L: usize>(v: &[R; L]) -> [T; L]
-    requires { All (λ p. Within 8380416 p.0) v.now }
+    requires { IsReducedVector L v.now }
     ensures values { (k i : ℕ) → k < L → i < 256 → vector_residues result k i ≡ transform (vector_coefficients v.now k) i }
-    ensures small { AllWithin 8380416 result }
+    ensures small { AreReduced result }
 {
     let mut out = [T0; L];
     for k in 0..L {
@@ -90,35 +98,44 @@ fn transforms<const L: usize>(v: &[R; L]) -> [T; L]
 
 /// The transform of a polynomial.
 fn transform_of(w: &R) -> T
-    requires { Within 8380416 w.now.0 }
+    requires { IsReduced w.now.0 }
     ensures values { (i : ℕ) → i < 256 → coefficients result.0 i ≡ transform (coefficients w.now.0) i }
     ensures small { Within 8380416 result.0 }
 {
-    let out = ntt(&[w.0], &mut Count::new());
-    T(out[0])
-}
-
-/// The polynomial that has a transform.
-fn inverse_of(t: &T) -> R
-    requires { Within 8380416 t.now.0 }
-    ensures { (n : ℕ) → n < 256 → slice_index_or result.0 n (pos 0) ≡ pos (inverse_transform (coefficients t.now.0) n) }
-{
-    let out = inv_ntt(&[t.0], &mut Count::new());
-    R(out[0])
-}
-
-/// The product of two transforms, value by value, below `q` in absolute value.
-fn pointwise(a: &T, b: &T) -> T
-    requires a { Within 8380416 a.now.0 }
-    requires b { Within 8380416 b.now.0 }
-    ensures values { (j : ℕ) → j < 256 → coefficients result.0 j ≡ pointwise (coefficients a.now.0) (coefficients b.now.0) j }
-    ensures small { Within 8380416 result.0 }
-{
-    let mut out = [0; 256];
-    for j in 0..256 {
-        out[j] = value_product(a.0[j], b.0[j]);
-    }
+    let mut out = w.0;
+    ntt_row(&mut out, &mut Count::new());
     T(out)
+}
+
+/// The polynomial that has a transform, with coefficients from 0 to `q - 1`.
+fn inverse_of(t: &T) -> R
+    requires { IsReduced t.now.0 }
+    ensures values { (n : ℕ) → n < 256 → coefficient_at result.0 n ≡ pos (inverse_transform (coefficients t.now.0) n) }
+    ensures small { IsReduced result.0 }
+{
+    let mut out = t.0;
+    inv_ntt_row(&mut out, &mut Count::new());
+    R(out)
+}
+
+/// Multiplies a transform by another one, value by value.
+fn multiply(a: &mut T, b: &T)
+    requires a { IsReduced a.old.0 }
+    requires b { IsReduced b.now.0 }
+    ensures values { (j : ℕ) → j < 256 → coefficients a.new.0 j ≡ pointwise (coefficients a.old.0) (coefficients b.now.0) j }
+    ensures small { IsReduced a.new.0 }
+{
+    update_with(&mut a.0, &b.0, value_product);
+}
+
+/// Takes a transform from another one, value by value.
+fn subtract(a: &mut T, b: &T)
+    requires a { IsReduced a.old.0 }
+    requires b { IsReduced b.now.0 }
+    ensures values { (j : ℕ) → j < 256 → coefficients a.new.0 j ≡ minus (coefficients a.old.0) (coefficients b.now.0) j }
+    ensures small { IsReduced a.new.0 }
+{
+    update_with(&mut a.0, &b.0, difference);
 }
 
 /// The product of two values, below `q` in absolute value.
@@ -129,28 +146,4 @@ fn value_product(x: i32, y: i32) -> i32
     ensures small { nat_abs result ≤ 8380416 }
 {
     partial_reduce64(wide_product(x, y))
-}
-
-/// The difference of two transforms, below `q` in absolute value.
-fn difference(a: &T, b: &T) -> T
-    requires a { Within 8380416 a.now.0 }
-    requires b { Within 8380416 b.now.0 }
-    ensures values { (j : ℕ) → j < 256 → coefficients result.0 j ≡ minus (coefficients a.now.0) (coefficients b.now.0) j }
-    ensures small { Within 8380416 result.0 }
-{
-    let mut out = [0; 256];
-    for j in 0..256 {
-        out[j] = value_difference(a.0[j], b.0[j]);
-    }
-    T(out)
-}
-
-/// The difference of two values, below `q` in absolute value.
-fn value_difference(x: i32, y: i32) -> i32
-    requires x { nat_abs x ≤ 8380416 }
-    requires y { nat_abs y ≤ 8380416 }
-    ensures value { residue result ≡ (residue x + 8380416 * residue y) % 8380417 }
-    ensures small { nat_abs result ≤ 8380416 }
-{
-    partial_reduce32(x - y)
 }

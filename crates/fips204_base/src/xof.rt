@@ -4,7 +4,6 @@
 ghost use Rattle.std.specs.Prelude.{◌≡◌, ◌≤◌, ℕ, List, length, take, drop, replicate};
 ghost use Rattle.std.specs.List.{flat_map};
 ghost use Rattle.std.proofs.Common.{rules};
-ghost use Rattle.fips204_base.specs.Streams.{front_length};
 
 use std::marker::Model;
 
@@ -12,8 +11,8 @@ mod counter;
 mod sha256_ctr;
 mod sha512_ctr;
 
-pub use sha256_ctr::{Sha256Ctr, Sha256CtrReader};
-pub use sha512_ctr::{Sha512Ctr, Sha512CtrReader};
+pub use sha256_ctr::{Sha256Ctr, Sha256CtrLong, Sha256CtrReader};
+pub use sha512_ctr::{Sha512Ctr, Sha512CtrLong, Sha512CtrReader};
 
 /// A reader of a stream. Contracts see it as `rest`, the list of the bytes still to come.
 pub trait XofReader: Drop {
@@ -31,9 +30,16 @@ pub trait XofReader: Drop {
         ensures dropped { rest self.new ≡ drop (length out.old) (rest self.old) };
 }
 
-/// A stream: a fixed function from its input to a front of 4096 bytes.
+/// A stream: a fixed function from its input to a front of `FRONT` bytes. A sampler tries a quarter of
+/// these, rounded down: so many triples for a matrix entry, bytes for a small polynomial, and bytes after
+/// the first eight for a challenge.
 pub trait Xof {
     type Reader: XofReader;
+
+    /// How many bytes the front has, from 4096 to 1048576.
+    const FRONT: usize;
+
+    ghost FRONT: { ℕ };
 
     ghost front: { List ℕ → List ℕ };
 
@@ -41,7 +47,22 @@ pub trait Xof {
     fn open(parts: &[&[u8]]) -> Self::Reader
         ensures { Self.Reader.rest result ≡ front (flat_map (λ part. part.now) parts.now) };
 
-    ghost front_size: { (input : List ℕ) → length (front input) ≡ front_length };
+    ghost front_size: { (input : List ℕ) → length (front input) ≡ FRONT };
+
+    ghost front_least: { 4096 ≤ FRONT };
+
+    ghost front_most: { FRONT ≤ 1048576 };
+}
+
+/// The first `N` bytes of a stream over the concatenation of the parts.
+pub fn hash<H: Xof, const N: usize>(parts: &[&[u8]]) -> [u8; N]
+    requires { N ≤ 4096 }
+    ensures { result ≡ take N (H.front (flat_map (λ part. part.now) parts.now)) }
+{
+    let mut out = [0u8; N];
+    let mut reader = H::open(parts);
+    reader.read(&mut out);
+    out
 }
 
 /// The stream that gives 4096 times the byte `B`, whatever its input.
@@ -75,9 +96,17 @@ impl<const B: u8> XofReader for FillReader<B> {
 impl<const B: u8> Xof for Fill<B> {
     type Reader = FillReader<B>;
 
-    ghost front = { λ _. replicate front_length B };
+    const FRONT: usize = 4096;
+
+    ghost FRONT = { 4096 };
+
+    ghost front = { λ _. replicate 4096 B };
 
     ghost front_size = { Prim.search rules };
+
+    ghost front_least = { Prim.search rules };
+
+    ghost front_most = { Prim.search rules };
 
     fn open(_parts: &[&[u8]]) -> FillReader<B> {
         FillReader { left: 4096 }

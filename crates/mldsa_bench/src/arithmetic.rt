@@ -99,7 +99,7 @@ fn scattered(number: u32) -> [i32; 256]
 }
 
 /// The product modulo `X^256 + 1` and modulo `q`, by double sums.
-fn slow_product(a: &[i32; 256], b: &[i32; 256]) -> [i32; 256] {
+pub fn slow_product(a: &[i32; 256], b: &[i32; 256]) -> [i32; 256] {
     let mut out = [0; 256];
     for n in 0..256usize {
         let mut sum = 0i64;

@@ -102,9 +102,15 @@ fn digests_that_are_not_signed(rt: HostRuntime) -> Result<(), Fail> {
             Fault::HashCtx,
         ),
         (&[0; 32], &[], &[], Fault::OidEmpty),
+        (&[0; 32], &[], &[0xff], Fault::OidNotDer),
+        (&[0; 32], &[], &[0x06], Fault::OidNotDer),
         (&[0; 32], &[], &[0x06, 0x00], Fault::OidNotDer),
+        (&[0; 32], &[], &[0x04, 0x01, 0x00], Fault::OidNotDer),
+        (&[0; 32], &[], &sha256[..10], Fault::OidNotDer),
         (&[0; 1025], &[], &sha256, Fault::DigestTooLong),
+        (&[], &[], &sha256, Fault::DigestLength),
         (&[0; 31], &[], &sha256, Fault::DigestLength),
+        (&[0; 33], &[], &sha256, Fault::DigestLength),
     ] {
         let answer = private.try_hash_sign_with_seed(&[0; 32], digest, ctx, identifier);
         assert_eq!(rt; answer.err(), Some(fault));

@@ -103,6 +103,16 @@ pub fn signature_44() -> [u8; 2420] {
     signature
 }
 
+/// The signature of set 44 with the private key whose first coefficient of s1 is -2: the first polynomial
+/// of z is smaller by four times the challenge.
+pub fn signature_44_of_least_coefficient() -> [u8; 2420] {
+    let mut signature = signature_44();
+    let mut fields = fields(219, 87379, 87383, 87387);
+    fields[85] = 87379;
+    put_fields(&mut signature[32..608], &fields, 18);
+    signature
+}
+
 /// The signature of set 65.
 pub fn signature_65() -> [u8; 3309] {
     let mut signature = [0u8; 3309];

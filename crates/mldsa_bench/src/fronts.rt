@@ -3,30 +3,34 @@
 
 ghost use Rattle.std.specs.Prelude.{◌≤◌, ◌<◌};
 
-use fips204::xof::{Fill, Sha256Ctr, Sha512Ctr, Xof, XofReader};
+use fips204::xof::{Fill, Sha256Ctr, Sha256CtrLong, Sha512Ctr, Sha512CtrLong, Xof, XofReader};
 use hex::FromHexError;
 use sha2::{Digest, Sha256};
 use std::alloc::Global;
 use std::test::Fail;
 
-/// The whole front of a stream.
-fn front<H: Xof>(parts: &[&[u8]]) -> [u8; 4096] {
+/// The first `N` bytes of the front of a stream.
+fn front<H: Xof, const N: usize>(parts: &[&[u8]]) -> [u8; N]
+    requires { N ≤ H.FRONT }
+{
     let mut reader = H::open(parts);
-    let mut out = [0u8; 4096];
+    let mut out = [0u8; N];
     reader.read(&mut out);
     out
 }
 
-/// Whether the front over these parts begins and ends with these bytes and has this SHA-256, all in
-/// hex.
-fn has_front<H: Xof>(
+/// Whether the front over these parts, of `N` bytes, begins and ends with these bytes and has this
+/// SHA-256, all in hex.
+fn has_front<H: Xof, const N: usize>(
     alloc: Global,
     parts: &[&[u8]],
     first: &str,
     last: &str,
     digest: &str,
-) -> Result<bool, FromHexError> {
-    let whole = front::<H>(parts);
+) -> Result<bool, FromHexError>
+    requires { N ≤ H.FRONT }
+{
+    let whole = front::<H, N>(parts);
     let first = hex::decode(alloc, first)?;
     let last = hex::decode(alloc, last)?;
     let digest = hex::decode(alloc, digest)?;
@@ -38,15 +42,17 @@ fn has_front<H: Xof>(
     )
 }
 
-/// Whether a reader gives the front of `abc` also in pieces of so many bytes, and then has none left.
-fn comes_in_pieces<H: Xof>(size: usize) -> bool
-    requires { 0 < size }
+/// Whether a reader gives the front of `abc`, of `N` bytes, also in pieces of so many bytes, and then has
+/// none left.
+fn comes_in_pieces<H: Xof, const N: usize>(size: usize) -> bool
+    requires some { 0 < size }
+    requires whole { N ≤ H.FRONT }
 {
-    let whole = front::<H>(&[b"abc"]);
+    let whole = front::<H, N>(&[b"abc"]);
     let mut reader = H::open(&[b"abc"]);
     for wanted in whole.chunks(size) {
-        let mut piece = [0u8; 4096];
-        if wanted.len() > reader.left() || wanted.len() > 4096 {
+        let mut piece = [0u8; N];
+        if wanted.len() > reader.left() || wanted.len() > N {
             return false;
         }
         let piece = &mut piece[..wanted.len()];
@@ -61,7 +67,7 @@ fn comes_in_pieces<H: Xof>(size: usize) -> bool
 #[test]
 fn sha256_counter_front(rt: HostRuntime) -> Result<(), Fail> {
     for parts in [[b"abc".as_slice(), b"", b""], [b"a".as_slice(), b"", b"bc"]] {
-        let same = has_front::<Sha256Ctr>(
+        let same = has_front::<Sha256Ctr, 4096>(
             rt.alloc(),
             &parts,
             "7c9bbb36dd3046a17eaaf5cf578b09b2da8b77af4e6087533990f8266c4434d4",
@@ -76,7 +82,7 @@ fn sha256_counter_front(rt: HostRuntime) -> Result<(), Fail> {
 #[test]
 fn sha512_counter_front(rt: HostRuntime) -> Result<(), Fail> {
     for parts in [[b"abc".as_slice(), b"", b""], [b"a".as_slice(), b"", b"bc"]] {
-        let same = has_front::<Sha512Ctr>(
+        let same = has_front::<Sha512Ctr, 4096>(
             rt.alloc(),
             &parts,
             "a6516db8a72d238b6601010bff0f00efa6a2b36fa1f7efc0f7c2144e5ba936e4c3dbf79ba1a4c9bbf5f8f9882c29bdce4ca8193517cb7dcc33eb53e39dc2abb7",
@@ -89,16 +95,69 @@ fn sha512_counter_front(rt: HostRuntime) -> Result<(), Fail> {
 }
 
 #[test]
+fn long_sha256_counter_front(rt: HostRuntime) -> Result<(), Fail> {
+    for parts in [[b"abc".as_slice(), b"", b""], [b"a".as_slice(), b"", b"bc"]] {
+        let same = has_front::<Sha256CtrLong, 16384>(
+            rt.alloc(),
+            &parts,
+            "7c9bbb36dd3046a17eaaf5cf578b09b2da8b77af4e6087533990f8266c4434d4",
+            "ab7a852167150d7f6f8b94b218b40c9459f7af3e30f7e459cd5307bd14c5dd5f",
+            "8b48cef8b2d1b9aa813f0599f6bd5cf19d7413308558ae7ce4fbcb243c576212",
+        )?;
+        assert!(rt; same);
+    }
+    Ok(())
+}
+
+#[test]
+fn long_sha512_counter_front(rt: HostRuntime) -> Result<(), Fail> {
+    for parts in [[b"abc".as_slice(), b"", b""], [b"a".as_slice(), b"", b"bc"]] {
+        let same = has_front::<Sha512CtrLong, 16384>(
+            rt.alloc(),
+            &parts,
+            "a6516db8a72d238b6601010bff0f00efa6a2b36fa1f7efc0f7c2144e5ba936e4c3dbf79ba1a4c9bbf5f8f9882c29bdce4ca8193517cb7dcc33eb53e39dc2abb7",
+            "a4ca646faa63c7a6aa57ac02337eab80d163637ac4e705c996777969b72d5d9ce10d54b4f6907338d720d91ea01fd33a596bd7424b730c69cad720339e2a8839",
+            "48107536c17ee63c93e596561c9a594b3502ebe34c928ec2a4507ed68dfadc40",
+        )?;
+        assert!(rt; same);
+    }
+    Ok(())
+}
+
+#[test]
 fn fronts_in_pieces(rt: HostRuntime) {
     for size in [1usize, 7, 31, 32, 33, 63, 64, 65, 100, 200, 4095, 4096] {
-        assert!(rt; comes_in_pieces::<Sha256Ctr>(size), "SHA-256 by {size}");
-        assert!(rt; comes_in_pieces::<Sha512Ctr>(size), "SHA-512 by {size}");
-        assert!(rt; comes_in_pieces::<Fill<0x55>>(size), "constant by {size}");
+        assert!(rt;
+            comes_in_pieces::<Sha256Ctr, 4096>(size),
+            "SHA-256 by {size}"
+        );
+        assert!(rt;
+            comes_in_pieces::<Sha512Ctr, 4096>(size),
+            "SHA-512 by {size}"
+        );
+        assert!(rt;
+            comes_in_pieces::<Fill<0x55>, 4096>(size),
+            "constant by {size}"
+        );
+    }
+}
+
+#[test]
+fn long_fronts_in_pieces(rt: HostRuntime) {
+    for size in [33usize, 100, 4096, 16384] {
+        assert!(rt;
+            comes_in_pieces::<Sha256CtrLong, 16384>(size),
+            "SHA-256 by {size}"
+        );
+        assert!(rt;
+            comes_in_pieces::<Sha512CtrLong, 16384>(size),
+            "SHA-512 by {size}"
+        );
     }
 }
 
 #[test]
 fn constant_front(rt: HostRuntime) {
-    assert!(rt; front::<Fill<0x55>>(&[b"abc"]) == [0x55; 4096]);
-    assert!(rt; front::<Fill<0x00>>(&[]) == [0; 4096]);
+    assert!(rt; front::<Fill<0x55>, 4096>(&[b"abc"]) == [0x55; 4096]);
+    assert!(rt; front::<Fill<0x00>, 4096>(&[]) == [0; 4096]);
 }

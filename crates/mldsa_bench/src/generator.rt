@@ -39,3 +39,34 @@ impl CryptoRngCore for Listed<'_> {
         }
     }
 }
+
+/// A generator that refuses at one call, counted from 0, and every call that asks for another number of
+/// bytes than 32; it gives 32 bytes 07 to every other. Where it `writes`, it has written over `out` before
+/// it refuses.
+#[derive(Drop)]
+pub struct RefusesAt {
+    pub call: u8,
+    pub asked: u8,
+    pub writes: bool,
+}
+
+impl CryptoRngCore for RefusesAt {
+    ghost use Rattle.std.specs.Prelude.{◌≡◌, ◌≢◌, ◌⊎◌, replicate};
+
+    ghost gives = { λ before asked bytes after. (asked ≡ 32) × (before.asked ≢ before.call) × (bytes ≡ replicate 32 7) × (after.call ≡ before.call) };
+
+    ghost refuses = { λ before asked after. ((asked ≢ 32) ⊎ (before.asked ≡ before.call)) × (after.call ≡ before.call) };
+
+    fn try_fill_bytes(&mut self, out: &mut [u8]) -> Result<(), RngError> {
+        let call = self.asked;
+        self.asked = call.wrapping_add(1);
+        if out.len() == 32 && call != self.call {
+            out.fill(7);
+            return Ok(());
+        }
+        if self.writes {
+            out.fill(0xaa);
+        }
+        Err(RngError)
+    }
+}

@@ -71,15 +71,35 @@ fn first_fields_of_private_keys(rt: HostRuntime) -> Result<(), Fail> {
     Ok(())
 }
 
+/// The bytes of the value that bytes decode to, or their refusal.
+fn through_bytes<S: SerDes>(bytes: S::ByteArray) -> Result<S::ByteArray, Fault> {
+    Ok(S::try_from_bytes(bytes)?.into_bytes())
+}
+
+/// What bytes with a field of s1 or s2 decode to: themselves up to `2 eta`, and else a refusal.
+fn in_range<const N: usize>(field: u8, most: u8, bytes: [u8; N]) -> Result<[u8; N], Fault> {
+    if field <= most {
+        Ok(bytes)
+    } else {
+        Err(Fault::KeyRange)
+    }
+}
+
 #[test]
 fn field_ranges_of_set_44(rt: HostRuntime) {
     for field in 0..8u8 {
         let mut bytes = private_44();
         bytes[128] = (bytes[128] & 0xf8) | field;
-        assert_eq!(rt; Private44::try_from_bytes(bytes).is_ok(), field <= 4);
+        assert!(rt;
+            through_bytes::<Private44>(bytes) == in_range(field, 4, bytes),
+            "first field {field}"
+        );
         let mut bytes = private_44();
         bytes[895] = (bytes[895] & 0x1f) | (field << 5);
-        assert_eq!(rt; Private44::try_from_bytes(bytes).is_ok(), field <= 4);
+        assert!(rt;
+            through_bytes::<Private44>(bytes) == in_range(field, 4, bytes),
+            "last field {field}"
+        );
     }
 }
 
@@ -88,10 +108,16 @@ fn field_ranges_of_set_65(rt: HostRuntime) {
     for field in 0..16u8 {
         let mut bytes = private_65();
         bytes[128] = (bytes[128] & 0xf0) | field;
-        assert_eq!(rt; Private65::try_from_bytes(bytes).is_ok(), field <= 8);
+        assert!(rt;
+            through_bytes::<Private65>(bytes) == in_range(field, 8, bytes),
+            "first field {field}"
+        );
         let mut bytes = private_65();
         bytes[1535] = (bytes[1535] & 0x0f) | (field << 4);
-        assert_eq!(rt; Private65::try_from_bytes(bytes).is_ok(), field <= 8);
+        assert!(rt;
+            through_bytes::<Private65>(bytes) == in_range(field, 8, bytes),
+            "last field {field}"
+        );
     }
 }
 
@@ -100,10 +126,16 @@ fn field_ranges_of_set_87(rt: HostRuntime) {
     for field in 0..8u8 {
         let mut bytes = private_87();
         bytes[128] = (bytes[128] & 0xf8) | field;
-        assert_eq!(rt; Private87::try_from_bytes(bytes).is_ok(), field <= 4);
+        assert!(rt;
+            through_bytes::<Private87>(bytes) == in_range(field, 4, bytes),
+            "first field {field}"
+        );
         let mut bytes = private_87();
         bytes[1567] = (bytes[1567] & 0x1f) | (field << 5);
-        assert_eq!(rt; Private87::try_from_bytes(bytes).is_ok(), field <= 4);
+        assert!(rt;
+            through_bytes::<Private87>(bytes) == in_range(field, 4, bytes),
+            "last field {field}"
+        );
     }
 }
 

@@ -20,13 +20,25 @@ mod generator;
 #[cfg(test)]
 mod hints;
 #[cfg(test)]
+mod input_streams;
+#[cfg(test)]
 mod keys;
 #[cfg(test)]
 mod limits;
 #[cfg(test)]
+mod longer_fronts;
+#[cfg(test)]
 mod object_identifiers;
 #[cfg(test)]
 mod program;
+#[cfg(test)]
+mod program_cuts;
+#[cfg(test)]
+mod program_devices;
+#[cfg(test)]
+mod program_lines;
+#[cfg(test)]
+mod program_runs;
 #[cfg(test)]
 mod public_keys;
 #[cfg(test)]
@@ -38,12 +50,20 @@ mod recorded_65;
 #[cfg(test)]
 mod recorded_87;
 #[cfg(test)]
+mod recorded_long;
+#[cfg(test)]
 mod refusals;
+#[cfg(test)]
+mod refusing_generators;
 #[cfg(test)]
 mod rounding;
 #[cfg(test)]
 mod samplers;
 #[cfg(test)]
 mod signatures;
+#[cfg(test)]
+mod slow_hints;
+#[cfg(test)]
+mod stream_limits;
 #[cfg(test)]
 mod streams;

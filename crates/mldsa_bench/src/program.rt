@@ -8,14 +8,14 @@ use std::test::Fail;
 
 /// What a run answered, what it wrote, and how many bytes of its input it left unread.
 #[derive(Drop)]
-struct Outcome {
-    answer: Result<bool, RunFault>,
-    written: Vec<u8>,
-    unread: usize,
+pub struct Outcome {
+    pub answer: Result<bool, RunFault>,
+    pub written: Vec<u8>,
+    pub unread: usize,
 }
 
 /// The words of a call, as the program gets them.
-fn words(
+pub fn words(
     alloc: Global,
     streams: &str,
     command: &str,
@@ -29,7 +29,7 @@ fn words(
 }
 
 /// A run on these bytes.
-fn run_of(
+pub fn run_of(
     alloc: Global,
     streams: &str,
     command: &str,
@@ -48,7 +48,7 @@ fn run_of(
 }
 
 /// A run of `id` at set 44 on these bytes.
-fn id_44(alloc: Global, streams: &str, bytes: &[u8]) -> Result<Outcome, AllocError> {
+pub fn id_44(alloc: Global, streams: &str, bytes: &[u8]) -> Result<Outcome, AllocError> {
     run_of(alloc, streams, "id", "44", bytes)
 }
 
@@ -63,7 +63,7 @@ fn lines_of(alloc: Global, lines: &[(u8, usize)]) -> Result<Vec<u8>, AllocError>
 }
 
 /// So many copies of a digit, then LF.
-fn line_of(alloc: Global, digit: u8, digits: usize) -> Result<Vec<u8>, AllocError> {
+pub fn line_of(alloc: Global, digit: u8, digits: usize) -> Result<Vec<u8>, AllocError> {
     let mut line = vec![in alloc; digit; digits]?;
     line.push(b'\n')?;
     Ok(line)

@@ -12,7 +12,7 @@ use std::alloc::Global;
 use std::test::Fail;
 
 /// Whether bytes have this text in hex.
-fn has_text(alloc: Global, bytes: &[u8], text: &str) -> Result<bool, FromHexError> {
+pub fn has_text(alloc: Global, bytes: &[u8], text: &str) -> Result<bool, FromHexError> {
     Ok(hex::decode(alloc, text)?.as_slice() == bytes)
 }
 

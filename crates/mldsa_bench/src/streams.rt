@@ -4,6 +4,7 @@
 ghost use Rattle.std.specs.Prelude.{◌≡◌, ◌≤◌, ℕ, List, map, drop};
 ghost use Rattle.std.specs.List.{range_with_len};
 ghost use Rattle.std.proofs.lemmas.List.FromFn.{length-map-range_with_len};
+ghost use Rattle.std.proofs.Common.{rules};
 
 use fips204::xof::{Xof, XofReader};
 use std::marker::{Model, PhantomData};
@@ -17,67 +18,161 @@ pub trait Pattern {
         ensures { result ≡ byte place };
 }
 
-/// The stream whose front has the bytes of a pattern, whatever its input.
-pub struct Patterned<P> {
+/// The stream whose front has the bytes of a pattern, `N` of them, whatever its input.
+pub struct PatternedBy<P, const N: usize> {
     pattern: PhantomData<P>,
 }
 
-/// A reader of a front that it holds.
+/// The same with a front of 4096 bytes.
+pub type Patterned<P> = PatternedBy<P, 4096>;
+
+/// A reader of a front of `N` bytes, which it holds.
 #[derive(Drop)]
-pub struct FrontReader {
-    front: [u8; 4096],
+pub struct FrontReader<const N: usize> {
+    front: [u8; N],
     given: usize,
 }
 
-impl Model for FrontReader {
+impl<const N: usize> Model for FrontReader<N> {
     ghost use Rattle.std.specs.Prelude.{◌≤◌, ℕ, List, drop};
 
     ghost Value = { List ℕ };
 
     ghost view = { λ reader. drop reader.given reader.front };
 
-    ghost invariant = { λ reader. reader.given ≤ 4096 };
+    ghost invariant = { λ reader. reader.given ≤ N };
 }
 
-impl XofReader for FrontReader {
+impl<const N: usize> XofReader for FrontReader<N> {
     ghost rest = { λ bytes. bytes };
 
     fn left(&self) -> usize {
-        4096 - self.given
+        N - self.given
     }
 
     fn read(&mut self, out: &mut [u8]) {
         let end = self.given + out.len();
-        out.copy_from_slice(&self.front[self.given..end]);
+        // A part with a start is taken of a slice: the length of the array is a parameter.
+        let whole = &self.front[..];
+        out.copy_from_slice(&whole[self.given..end]);
         self.given = end;
     }
 }
 
-/// The front of a pattern.
-fn front_of<P: Pattern>() -> [u8; 4096]
-    ensures { result ≡ map P.byte (range_with_len 0 4096) }
+/// The first `N` bytes of a pattern.
+fn front_of<P: Pattern, const N: usize>() -> [u8; N]
+    ensures { result ≡ map P.byte (range_with_len 0 N) }
 {
-    let mut front = [0u8; 4096];
-    for place in 0..4096usize {
+    let mut front = [0u8; N];
+    for place in 0..N {
         front[place] = P::byte_at(place);
     }
     front
 }
 
-impl<P: Pattern> Xof for Patterned<P> {
+impl<P: Pattern> Xof for PatternedBy<P, 4096> {
     ghost use Rattle.std.specs.Prelude.{map};
     ghost use Rattle.std.specs.List.{range_with_len};
     ghost use Rattle.std.proofs.lemmas.List.FromFn.{length-map-range_with_len};
 
-    type Reader = FrontReader;
+    type Reader = FrontReader<4096>;
+
+    const FRONT: usize = 4096;
+
+    ghost FRONT = { 4096 };
 
     ghost front = { λ _. map P.byte (range_with_len 0 4096) };
 
     ghost front_size = { λ _. length-map-range_with_len P.byte 0 4096 };
 
-    fn open(_parts: &[&[u8]]) -> FrontReader {
+    ghost front_least = { Prim.search rules };
+
+    ghost front_most = { Prim.search rules };
+
+    fn open(_parts: &[&[u8]]) -> FrontReader<4096> {
         FrontReader {
-            front: front_of::<P>(),
+            front: front_of::<P, 4096>(),
+            given: 0,
+        }
+    }
+}
+
+impl<P: Pattern> Xof for PatternedBy<P, 4097> {
+    ghost use Rattle.std.specs.Prelude.{map};
+    ghost use Rattle.std.specs.List.{range_with_len};
+    ghost use Rattle.std.proofs.lemmas.List.FromFn.{length-map-range_with_len};
+
+    type Reader = FrontReader<4097>;
+
+    const FRONT: usize = 4097;
+
+    ghost FRONT = { 4097 };
+
+    ghost front = { λ _. map P.byte (range_with_len 0 4097) };
+
+    ghost front_size = { λ _. length-map-range_with_len P.byte 0 4097 };
+
+    ghost front_least = { Prim.search rules };
+
+    ghost front_most = { Prim.search rules };
+
+    fn open(_parts: &[&[u8]]) -> FrontReader<4097> {
+        FrontReader {
+            front: front_of::<P, 4097>(),
+            given: 0,
+        }
+    }
+}
+
+impl<P: Pattern> Xof for PatternedBy<P, 5000> {
+    ghost use Rattle.std.specs.Prelude.{map};
+    ghost use Rattle.std.specs.List.{range_with_len};
+    ghost use Rattle.std.proofs.lemmas.List.FromFn.{length-map-range_with_len};
+
+    type Reader = FrontReader<5000>;
+
+    const FRONT: usize = 5000;
+
+    ghost FRONT = { 5000 };
+
+    ghost front = { λ _. map P.byte (range_with_len 0 5000) };
+
+    ghost front_size = { λ _. length-map-range_with_len P.byte 0 5000 };
+
+    ghost front_least = { Prim.search rules };
+
+    ghost front_most = { Prim.search rules };
+
+    fn open(_parts: &[&[u8]]) -> FrontReader<5000> {
+        FrontReader {
+            front: front_of::<P, 5000>(),
+            given: 0,
+        }
+    }
+}
+
+impl<P: Pattern> Xof for PatternedBy<P, 8192> {
+    ghost use Rattle.std.specs.Prelude.{map};
+    ghost use Rattle.std.specs.List.{range_with_len};
+    ghost use Rattle.std.proofs.lemmas.List.FromFn.{length-map-range_with_len};
+
+    type Reader = FrontReader<8192>;
+
+    const FRONT: usize = 8192;
+
+    ghost FRONT = { 8192 };
+
+    ghost front = { λ _. map P.byte (range_with_len 0 8192) };
+
+    ghost front_size = { λ _. length-map-range_with_len P.byte 0 8192 };
+
+    ghost front_least = { Prim.search rules };
+
+    ghost front_most = { Prim.search rules };
+
+    fn open(_parts: &[&[u8]]) -> FrontReader<8192> {
+        FrontReader {
+            front: front_of::<P, 8192>(),
             given: 0,
         }
     }
@@ -109,6 +204,43 @@ impl<const START: usize> Pattern for FourthTriples<START> {
             0
         } else {
             255
+        }
+    }
+}
+
+/// The last triple of each four, up to place `END`, is of bytes 0, and every other byte up to there is 255;
+/// zeros follow.
+pub struct FourthTriplesTo<const END: usize>;
+
+impl<const END: usize> Pattern for FourthTriplesTo<END> {
+    ghost use Rattle.std.specs.Prelude.{◌/◌, ◌%◌, ◌||◌, ◌&&◌, nat_lt, nat_le, if◌then◌else◌};
+
+    ghost byte = { λ place. if nat_lt 11 place && nat_le 9 (place % 12) || nat_le END place then 0 else 255 };
+
+    fn byte_at(place: usize) -> u8 {
+        if 11 < place && 9 <= place % 12 || END <= place {
+            0
+        } else {
+            255
+        }
+    }
+}
+
+/// Eight bytes 85, `COUNT` bytes 255, and then zeros.
+pub struct SignsThenTurn<const COUNT: usize>;
+
+impl<const COUNT: usize> Pattern for SignsThenTurn<COUNT> {
+    ghost use Rattle.std.specs.Prelude.{◌+◌, nat_lt, if◌then◌else◌};
+
+    ghost byte = { λ place. if nat_lt place 8 then 85 else if nat_lt place (COUNT + 8) then 255 else 0 };
+
+    fn byte_at(place: usize) -> u8 {
+        if place < 8 {
+            85
+        } else if place - 8 < COUNT {
+            255
+        } else {
+            0
         }
     }
 }

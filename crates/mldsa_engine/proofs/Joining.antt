@@ -1,8 +1,9 @@
 -- Wanted lines one after another.
-use Rattle.std.proofs.Common.{◌≡◌, ℕ, suc, ◌+◌, List, [], ◌∷◌, ◌++◌, length, Option, Some, None, Result, Ok, Err, refl, sym, ap, ◌∙◌, arith, add-zero, take, drop, map, get_or, ◌<◌, subst, take-append-drop}
+use Rattle.std.proofs.Common.{◌≡◌, ℕ, suc, ◌+◌, List, [], ◌∷◌, ◌++◌, length, Option, Some, None, Result, Ok, Err, IfOk, MatchResult, refl, sym, ap, ◌∙◌, arith, add-zero, take, drop, map, get_or, ◌<◌, ◌≤◌, subst, take-append-drop}
 use Rattle.std.proofs.lemmas.List.{take_more, drop_more, length-take-le, map-append}
 use Rattle.mldsa_engine.specs.declared.fault.RunFault.{RunFault}
-use Rattle.mldsa_engine.specs.Lines.{after_line, after_lines, line_bytes, before_lines, lines_bytes, Fits, AllFit, TakesLine, TakesLines, FaultOfLines, judged}
+use Rattle.mldsa_engine.specs.Lines.{longest_line, line_reach, first_line, after_line, after_lines, line_bytes, before_lines, lines_bytes, Fits, AllFit, LeavesAllBut, TakesLine, TakesLines, FaultOfLines, StopsInTurn, InTurn, judged}
+use Rattle.mldsa_engine.proofs.Judging.{judged_digits}
 
 -- the lines of one part of an input, and then those of the next, or the first fault among them
 abbrev pub join_lines : Result (List (List ℕ)) RunFault → Result (List (List ℕ)) RunFault → Result (List (List ℕ)) RunFault
@@ -67,23 +68,75 @@ earlier_fault number wanted more (Some input) fault p =
     lines_bytes-append number wanted more input ∙ rw p refl
 
 -- a line that was taken, and what it was judged to be
-pub takes_one : (number : ℕ) (wanted : Option ℕ) (old new : Option (List ℕ)) (line bytes : List ℕ)
-    → TakesLine old new line → judged number wanted line ≡ Ok bytes → TakesLines number (wanted ∷ []) old new (bytes ∷ [])
-takes_one number wanted None new line bytes p q = tt
-takes_one number wanted (Some input) None line bytes p q = absurd p
-takes_one number wanted (Some []) (Some left) line bytes p q = absurd (omega arith)
-takes_one number wanted (Some (byte ∷ later)) (Some left) line bytes p q =
+takes_one : (number : ℕ) (wanted : Option ℕ) (old new : Option (List ℕ)) (line bytes : List ℕ)
+    → length line ≤ longest_line → TakesLine wanted old new line → judged number wanted line ≡ Ok bytes → TakesLines number (wanted ∷ []) old new (bytes ∷ [])
+takes_one number wanted None new line bytes short p q = tt
+takes_one number wanted (Some input) None line bytes short p q = absurd p
+takes_one number wanted (Some []) (Some left) line bytes short p q = absurd (omega arith)
+takes_one number wanted (Some (byte ∷ later)) (Some left) line bytes short p q =
     let good : line_bytes number wanted (byte ∷ later) ≡ Ok bytes = ap (judged number wanted) (sym p.1) ∙ q in
-    (ap (λ r. before_lines r (Ok [])) good, p.2)
+    (ap (λ r. before_lines r (Ok [])) good, p.3 (judged_digits number wanted line bytes short q))
+
+pub takes_judged : {V : Type 0} (items : V → List ℕ) (number : ℕ) (wanted : Option ℕ) (old new : Option (List ℕ)) (line : List ℕ) (judgement : Result V RunFault)
+    → length line ≤ longest_line → TakesLine wanted old new line → IfOk judgement (λ bytes. judged number wanted line ≡ Ok (items bytes))
+    → IfOk judgement (λ bytes. TakesLines number (wanted ∷ []) old new (items bytes ∷ []))
+takes_judged items number wanted old new line (Err fault) short p q = q
+takes_judged items number wanted old new line (Ok bytes) short p q = takes_one number wanted old new line (items bytes) short p q
 
 pub fault_of_one : (number : ℕ) (wanted : Option ℕ) (old new : Option (List ℕ)) (line : List ℕ) (fault : RunFault)
-    → TakesLine old new line → judged number wanted line ≡ Err fault → FaultOfLines number (wanted ∷ []) old fault
+    → TakesLine wanted old new line → judged number wanted line ≡ Err fault → FaultOfLines number (wanted ∷ []) old fault
 fault_of_one number wanted None new line fault p q = tt
 fault_of_one number wanted (Some input) None line fault p q = absurd p
 fault_of_one number wanted (Some []) (Some left) line fault p q = absurd (omega arith)
 fault_of_one number wanted (Some (byte ∷ later)) (Some left) line fault p q =
     let bad : line_bytes number wanted (byte ∷ later) ≡ Err fault = ap (judged number wanted) (sym p.1) ∙ q in
     ap (λ r. before_lines r (Ok [])) bad
+
+pub in_turn_of_one : (number : ℕ) (wanted : Option ℕ) (old new : Option (List ℕ)) (line : List ℕ) (fault : RunFault)
+    → TakesLine wanted old new line → judged number wanted line ≡ Err fault → InTurn number (wanted ∷ []) old new
+in_turn_of_one number wanted None new line fault p q = tt
+in_turn_of_one number wanted (Some input) None line fault p q = absurd p
+in_turn_of_one number wanted (Some []) (Some left) line fault p q = absurd (omega arith)
+in_turn_of_one number wanted (Some (byte ∷ later)) (Some left) line fault p q =
+    let input = byte ∷ later in
+    let bad : line_bytes number wanted input ≡ Err fault = ap (judged number wanted) (sym p.1) ∙ q in
+    subst (λ r. MatchResult r (λ _. StopsInTurn (number + 1) [] (after_line input) left) (λ _. LeavesAllBut (line_reach wanted (first_line input)) input left))
+    (sym bad) (subst (λ l. LeavesAllBut (line_reach wanted l) input left) p.1 p.2)
+
+-- good lines were taken before those that were judged in turn
+before_good : (first : Result (List ℕ) RunFault) (later : Result (List (List ℕ)) RunFault) (lines : List (List ℕ)) → before_lines first later ≡ Ok lines
+    → (bytes : List ℕ) × (first ≡ Ok bytes) × ((others : List (List ℕ)) × (later ≡ Ok others))
+before_good (Err fault) later lines good = cc good
+before_good (Ok bytes) (Err fault) lines good = cc good
+before_good (Ok bytes) (Ok others) lines good = (bytes, refl, (others, refl))
+
+stops_later : (number next : ℕ) (wanted more : List (Option ℕ)) (input left : List ℕ) (lines : List (List ℕ))
+    → next ≡ number + length wanted → lines_bytes number wanted input ≡ Ok lines
+    → StopsInTurn next more (after_lines (length wanted) input) left → StopsInTurn number (wanted ++ more) input left
+stops_later number next [] more input left lines e good stops =
+    subst (λ n. StopsInTurn n more input left) (e ∙ add-zero number) stops
+stops_later number next (want ∷ wanted) more input left lines e good stops =
+    let parts = before_good (line_bytes number want input) (lines_bytes (number + 1) wanted (after_line input)) lines good in
+    subst (λ r. MatchResult r (λ _. StopsInTurn (number + 1) (wanted ++ more) (after_line input) left) (λ _. LeavesAllBut (line_reach want (first_line input)) input left))
+    (sym parts.1) (stops_later (number + 1) next wanted more (after_line input) left parts.2.0 (omega (arith, e)) parts.2.1 stops)
+
+pub later_in_turn : (number next : ℕ) (wanted more : List (Option ℕ)) (old mid new : Option (List ℕ)) (lines : List (List ℕ))
+    → next ≡ number + length wanted → TakesLines number wanted old mid lines → InTurn next more mid new → InTurn number (wanted ++ more) old new
+later_in_turn number next wanted more None mid new lines e p q = tt
+later_in_turn number next wanted more (Some input) None new lines e p q = absurd p
+later_in_turn number next wanted more (Some input) (Some middle) None lines e p q = absurd q
+later_in_turn number next wanted more (Some input) (Some middle) (Some left) lines e p q =
+    stops_later number next wanted more input left lines e p.0 (subst (λ x. StopsInTurn next more x left) p.1 q)
+
+no_good : {A E : Type 0} (P : A → Type 0) (Q : E → Type 0) (r : Result A E) → MatchResult r (λ _. ⊥) Q → MatchResult r P Q
+no_good P Q (Ok a) h = absurd h
+no_good P Q (Err e) h = h
+
+pub earlier_in_turn : (number : ℕ) (wanted : Option ℕ) (more : List (Option ℕ)) (old new : Option (List ℕ))
+    → InTurn number (wanted ∷ []) old new → InTurn number (wanted ∷ more) old new
+earlier_in_turn number wanted more None new p = tt
+earlier_in_turn number wanted more (Some input) None p = absurd p
+earlier_in_turn number wanted more (Some input) (Some left) p = no_good _ _ (line_bytes number wanted input) p
 
 -- one line more of those that are wanted
 pub next_line : {V : Type 0} (items : V → List ℕ) (wanted : List (Option ℕ)) (index : ℕ) (old mid new : Option (List ℕ)) (lines all : List V) (line : V)
@@ -109,3 +162,13 @@ fault_at wanted index old mid lines fault within taken bad =
     let next : index + 1 ≡ 1 + length (take index wanted) = omega (arith, length-take-le index wanted (omega arith)) in
     subst (λ l. FaultOfLines 1 l old fault) (sym whole)
     (later_fault 1 (index + 1) (take index wanted) _ old mid lines fault next taken (earlier_fault (index + 1) (get_or wanted index None ∷ []) (drop (index + 1) wanted) mid fault bad))
+
+pub in_turn_at : (wanted : List (Option ℕ)) (index : ℕ) (old mid new : Option (List ℕ)) (lines : List (List ℕ))
+    → index < length wanted → TakesLines 1 (take index wanted) old mid lines
+    → InTurn (index + 1) (get_or wanted index None ∷ []) mid new → InTurn 1 wanted old new
+in_turn_at wanted index old mid new lines within taken bad =
+    let whole : wanted ≡ take index wanted ++ (get_or wanted index None ∷ drop (index + 1) wanted) =
+    sym (take-append-drop index wanted) ∙ ap (λ l. take index wanted ++ l) (drop_more wanted index None within) in
+    let next : index + 1 ≡ 1 + length (take index wanted) = omega (arith, length-take-le index wanted (omega arith)) in
+    subst (λ l. InTurn 1 l old new) (sym whole)
+    (later_in_turn 1 (index + 1) (take index wanted) _ old mid new lines next taken (earlier_in_turn (index + 1) (get_or wanted index None) (drop (index + 1) wanted) mid new bad))

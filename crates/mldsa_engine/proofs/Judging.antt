@@ -1,10 +1,12 @@
 -- What the characters of a line are judged to be.
-use Rattle.std.proofs.Common.{◌≡◌, ◌≤◌, ◌<◌, ℕ, List, length, Option, Some, Ok, Err, ap, ◌∙◌, arith}
+use Rattle.std.proofs.Common.{◌≡◌, ◌≤◌, ◌<◌, ℕ, List, length, Option, Some, None, Result, Ok, Err, ap, sym, ◌∙◌, arith, refl, inl, inr}
+use Rattle.std.proofs.lemmas.Bool.{cases_eq}
 use Rattle.std.proofs.lemmas.Bool.Decides.{nat_tests}
 use Rattle.hex.specs.Hex.{decode_of}
+use Rattle.hex.proofs.HexLemmas.{decode_of-ok}
 use Rattle.hex.specs.declared.error.FromHexError.{FromHexError}
 use Rattle.mldsa_engine.specs.declared.fault.RunFault.TheVariants.{TooLong, NotHex, Length}
-use Rattle.mldsa_engine.specs.Lines.{longest_line, judged, decoded, sized}
+use Rattle.mldsa_engine.specs.Lines.{longest_line, line_digits, judged, decoded, sized}
 
 pub judged_short : (number : ℕ) (wanted : Option ℕ) (line : List ℕ) → length line ≤ longest_line → judged number wanted line ≡ decoded number wanted (decode_of line)
 unfolding judged
@@ -27,3 +29,19 @@ sized_other number wants bytes other = grind (arith, nat_tests)
 
 pub sized_same : (number wants : ℕ) (bytes : List ℕ) → length bytes ≡ wants → sized number (Some wants) bytes ≡ Ok bytes
 sized_same number wants bytes same = grind (arith, nat_tests)
+
+-- a good line has the wanted digits
+decoded_digits : (number : ℕ) (wanted : Option ℕ) (line : List ℕ) (spelt : Result (List ℕ) FromHexError) (bytes : List ℕ)
+    → decode_of line ≡ spelt → decoded number wanted spelt ≡ Ok bytes → line_digits wanted ≤ length line
+decoded_digits number None line spelt bytes e good = omega arith
+decoded_digits number (Some wants) line (Err refusal) bytes e good = cc good
+decoded_digits number (Some wants) line (Ok given) bytes e good =
+    let twice = (decode_of-ok line given e).2 in
+    elim (cases_eq (length given) wants) [
+      | inl same ↦ omega (arith, twice, same)
+      | inr other ↦ cc (sym (sized_other number wants given other) ∙ good)
+    ]
+
+pub judged_digits : (number : ℕ) (wanted : Option ℕ) (line bytes : List ℕ) → length line ≤ longest_line → judged number wanted line ≡ Ok bytes → line_digits wanted ≤ length line
+judged_digits number wanted line bytes short good =
+    decoded_digits number wanted line (decode_of line) bytes refl (sym (judged_short number wanted line short) ∙ good)

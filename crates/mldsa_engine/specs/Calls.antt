@@ -1,6 +1,6 @@
 -- The words of a call.
 use Rattle.std.specs.Prelude.{ℕ, List, [], ◌∷◌, codes, replicate}
-use Rattle.fips204.specs.Streams.{front_length, sha256_front, sha512_front}
+use Rattle.fips204.specs.Streams.{sha256_front, sha512_front}
 use Rattle.mldsa_engine.specs.declared.call.Streams.{Streams}
 use Rattle.mldsa_engine.specs.declared.call.Streams.TheVariants.{Sha2, Fill00, Fill55, FillFf}
 use Rattle.mldsa_engine.specs.declared.call.Task.{Task}
@@ -36,13 +36,13 @@ call_words streams task set = streams_word streams ∷ task_word task ∷ set_wo
 -- the stream that stands for H
 abbrev pub first_stream : Streams → List ℕ → List ℕ
 first_stream Sha2 input = sha256_front input
-first_stream Fill00 input = replicate front_length 0x00
-first_stream Fill55 input = replicate front_length 0x55
-first_stream FillFf input = replicate front_length 0xFF
+first_stream Fill00 input = replicate 4096 0x00
+first_stream Fill55 input = replicate 4096 0x55
+first_stream FillFf input = replicate 4096 0xFF
 
 -- the stream that stands for G
 abbrev pub second_stream : Streams → List ℕ → List ℕ
 second_stream Sha2 input = sha512_front input
-second_stream Fill00 input = replicate front_length 0x00
-second_stream Fill55 input = replicate front_length 0x00
-second_stream FillFf input = replicate front_length 0xFF
+second_stream Fill00 input = replicate 4096 0x00
+second_stream Fill55 input = replicate 4096 0x00
+second_stream FillFf input = replicate 4096 0xFF

@@ -1,5 +1,5 @@
 -- The lines of an input, and the bytes that they spell in hex.
-use Rattle.std.specs.Prelude.{◌≡◌, ◌<◌, ℕ, zero, suc, ◌+◌, ◌==◌, Bool, if◌then◌else◌, nat_lt, List, [], ◌∷◌, length, Option, Some, None, Result, Ok, Err, ⊤}
+use Rattle.std.specs.Prelude.{◌≡◌, ◌<◌, ◌≤◌, ℕ, zero, suc, ◌+◌, ◌*◌, max, drop, MatchResult, ◌==◌, Bool, if◌then◌else◌, nat_lt, List, [], ◌∷◌, length, Option, Some, None, Result, Ok, Err, ⊤}
 use Rattle.std.specs.List.{before_first, after_first}
 use Rattle.hex.specs.Hex.{decode_of}
 use Rattle.hex.specs.declared.error.FromHexError.{FromHexError}
@@ -80,11 +80,27 @@ IsInputFault Read = ⊤
 IsInputFault Write = ⊥
 IsInputFault Memory = ⊤
 
--- a reader gave the line that its bytes begin with, and has left what follows it, where it tells its bytes
-abbrev pub TakesLine : Option (List ℕ) → Option (List ℕ) → List ℕ → Type 0
-TakesLine None left line = ⊤
-TakesLine (Some input) None line = ⊥
-TakesLine (Some input) (Some left) line = (0 < length input) × (line ≡ first_line input) × (left ≡ after_line input)
+-- the digits that a line of the wanted bytes has
+abbrev pub line_digits : Option ℕ → ℕ
+line_digits None = 0
+line_digits (Some wants) = 2 * wants
+
+-- the most characters that are taken before a line is judged: its own or the wanted digits, whichever are more, and LF
+abbrev pub line_reach : Option ℕ → List ℕ → ℕ
+line_reach wanted line = max (length line) (line_digits wanted) + 1
+
+-- at most so many characters were taken of an input, and this is left
+abbrev pub LeavesAllBut : ℕ → List ℕ → List ℕ → Type 0
+LeavesAllBut most input left = (taken : ℕ) × (taken ≤ most) × (left ≡ drop taken input)
+
+-- a reader gave the line that its bytes begin with, where it tells its bytes, and has left what follows the line's reach; a line
+-- with the wanted digits was taken alone
+abbrev pub TakesLine : Option ℕ → Option (List ℕ) → Option (List ℕ) → List ℕ → Type 0
+TakesLine wanted None left line = ⊤
+TakesLine wanted (Some input) None line = ⊥
+TakesLine wanted (Some input) (Some left) line = (0 < length input) × (line ≡ first_line input)
+    × LeavesAllBut (line_reach wanted line) input left
+    × (line_digits wanted ≤ length line → left ≡ after_line input)
 
 -- a reader gave the wanted lines, the first of which has this number, which spell these bytes, and has left what follows them,
 -- where it tells its bytes
@@ -98,6 +114,21 @@ TakesLines number wanted (Some input) (Some left) lines =
 abbrev pub FaultOfLines : ℕ → List (Option ℕ) → Option (List ℕ) → RunFault → Type 0
 FaultOfLines number wanted None fault = ⊤
 FaultOfLines number wanted (Some input) fault = lines_bytes number wanted input ≡ Err fault
+
+-- each line was judged before the next was read: the wanted lines, the first of which has this number, have a fault, and of what
+-- follows the reach of the first line at fault nothing was taken
+abbrev pub StopsInTurn : ℕ → List (Option ℕ) → List ℕ → List ℕ → Type 0
+StopsInTurn number [] input left = ⊥
+StopsInTurn number (wanted ∷ later) input left =
+    MatchResult (line_bytes number wanted input)
+    (λ _. StopsInTurn (number + 1) later (after_line input) left)
+    (λ _. LeavesAllBut (line_reach wanted (first_line input)) input left)
+
+-- the same where the reader tells its bytes
+abbrev pub InTurn : ℕ → List (Option ℕ) → Option (List ℕ) → Option (List ℕ) → Type 0
+InTurn number wanted None left = ⊤
+InTurn number wanted (Some input) None = ⊥
+InTurn number wanted (Some input) (Some left) = StopsInTurn number wanted input left
 
 -- the bytes are as many as are wanted
 abbrev pub Fits : Option ℕ → List ℕ → Type 0

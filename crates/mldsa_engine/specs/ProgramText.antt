@@ -10,6 +10,7 @@ use Rattle.fips204.specs.Keys.{PublicParts, IsPublicKeyOf, DecodesPrivate}
 use Rattle.fips204.specs.ParameterSets.{ParameterSet, set_44, set_65, set_87, public_key_length, private_key_length, signature_length}
 use Rattle.fips204.specs.Refusals.{generated, sign_message, VerifiesMessage}
 use Rattle.mldsa_engine.specs.Lines.{TakesLines}
+use Rattle.mldsa_engine.specs.declared.fault.RunFault.{RunFault}
 use Rattle.mldsa_engine.specs.declared.call.Task.{Task}
 use Rattle.mldsa_engine.specs.declared.call.Task.TheVariants.{Id, Keygen, Sign, Verify, Check}
 use Rattle.mldsa_engine.specs.declared.call.SetName.{SetName}
@@ -104,3 +105,9 @@ Runs H G task set given left before after answer = (lines : List (List ℕ)) × 
     × TakesLines 1 (wanted_lines task set) given left lines
     × Answers H G task set lines output answer
     × Appends before after output)
+
+-- the exit status of an answer, true being done or `yes`, and false `no` or a refusal; a fault has one status, whichever it is
+abbrev pub status_of : Result Bool RunFault → ℕ
+status_of (Ok true) = 0
+status_of (Ok false) = 1
+status_of (Err fault) = 2

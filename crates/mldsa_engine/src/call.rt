@@ -73,7 +73,7 @@ fn task_of(word: &str) -> Option<Task>
 }
 
 /// The parameter set that a word names.
-fn set_of(word: &str) -> Option<SetName>
+fn set_name(word: &str) -> Option<SetName>
     ensures named { IfSome result (λ set. word.now ≡ set_word set) }
     ensures unnamed { IfNone result ((set : SetName) → ¬ (word.now ≡ set_word set)) }
 {
@@ -94,7 +94,7 @@ pub(crate) fn call_of(words: &[String]) -> Option<(Streams, Task, SetName)>
         [streams, task, set] => Some((
             streams_of(streams.as_str())?,
             task_of(task.as_str())?,
-            set_of(set.as_str())?,
+            set_name(set.as_str())?,
         )),
         _ => None,
     }

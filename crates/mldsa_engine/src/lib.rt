@@ -4,15 +4,19 @@
 ghost use Rattle.std.specs.Prelude.{◌≡◌, ◌↔◌, ℕ, List, false, Ok, Err, IsTrue, IfOk, IfErr, map, string_bytes};
 ghost use Rattle.std.specs.Io.KnownBytes.{Keeps};
 ghost use Rattle.mldsa_engine.specs.Calls.{call_words, first_stream, second_stream};
-ghost use Rattle.mldsa_engine.specs.Lines.{IsLineFault, FaultOfLines};
+ghost use Rattle.mldsa_engine.specs.Lines.{IsLineFault, FaultOfLines, InTurn};
 ghost use Rattle.mldsa_engine.specs.ProgramText.{wanted_lines, Runs};
 
 mod answers;
+pub mod bytewise;
 pub mod call;
 pub mod fault;
 pub mod lines;
 pub mod marked;
+pub mod output;
+pub mod process;
 
+pub use bytewise::Bytewise;
 pub use call::{SetName, Streams, Task};
 pub use fault::RunFault;
 use fips204::xof::{Fill, Sha256Ctr, Sha512Ctr, Xof};
@@ -23,8 +27,10 @@ use std::io::{Read, Write};
 /// Runs a command: reads the lines that it wants, and then writes its whole output. True is done or
 /// `yes`, false is `no` or a refusal.
 ///
-/// After a fault nothing is said of how far the input was read, and after `RunFault::Write` nothing
-/// of how much was written; after every other fault nothing was.
+/// Each line is judged before the next is read. After a line's fault no more was taken of the input
+/// than the lines up to that one, and the characters that it would have if it were good. After another
+/// fault nothing is said of how far the input was read, and after `RunFault::Write` nothing of how much
+/// was written; after every other fault nothing was.
 pub fn run<H: Xof, G: Xof, I: Read, O: Write>(
     alloc: Global,
     task: Task,
@@ -37,12 +43,13 @@ pub fn run<H: Xof, G: Xof, I: Read, O: Write>(
     ensures write_failed { IsTrue output.new.failed ↔ (result ≡ Err RunFault.Write) }
     ensures answer { IfOk result (λ answer. Runs H.front G.front task set (I.remaining input.old.device) (I.remaining input.new.device) (O.contents output.old.device) (O.contents output.new.device) answer) }
     ensures line_fault { IfErr result (λ fault. IsLineFault fault → FaultOfLines 1 (wanted_lines task set) (I.remaining input.old.device) fault) }
+    ensures in_turn { IfErr result (λ fault. IsLineFault fault → InTurn 1 (wanted_lines task set) (I.remaining input.old.device) (I.remaining input.new.device)) }
     ensures nothing_written { IfErr result (λ fault. ¬ (fault ≡ RunFault.Write) → Keeps (O.contents output.old.device) (O.contents output.new.device)) }
     ensures no_usage { ¬ (result ≡ Err RunFault.Usage) }
 {
     let lines = lines::read_lines(alloc, answers::wanted_of(task, set), input)?;
     let (written, answer) = answers::answer_of::<H, G>(alloc, task, set, lines.as_slice())?;
-    output.put(written.as_slice())?;
+    output::put(output, written.as_slice())?;
     Ok(answer)
 }
 
@@ -61,6 +68,7 @@ pub fn from_words<I: Read, O: Write>(
     ensures write_failed { IsTrue output.new.failed ↔ (result ≡ Err RunFault.Write) }
     ensures answer { IfOk result (λ answer. (streams : Streams) × ((task : Task) × ((set : SetName) × (map string_bytes words.now ≡ call_words streams task set) × Runs (first_stream streams) (second_stream streams) task set (I.remaining input.old.device) (I.remaining input.new.device) (O.contents output.old.device) (O.contents output.new.device) answer))) }
     ensures line_fault { IfErr result (λ fault. IsLineFault fault → (streams : Streams) × ((task : Task) × ((set : SetName) × (map string_bytes words.now ≡ call_words streams task set) × FaultOfLines 1 (wanted_lines task set) (I.remaining input.old.device) fault))) }
+    ensures in_turn { IfErr result (λ fault. IsLineFault fault → (streams : Streams) × ((task : Task) × ((set : SetName) × (map string_bytes words.now ≡ call_words streams task set) × InTurn 1 (wanted_lines task set) (I.remaining input.old.device) (I.remaining input.new.device)))) }
     ensures nothing_written { IfErr result (λ fault. ¬ (fault ≡ RunFault.Write) → Keeps (O.contents output.old.device) (O.contents output.new.device)) }
 {
     let Some((streams, task, set)) = call::call_of(words) else {

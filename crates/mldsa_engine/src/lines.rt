@@ -1,8 +1,8 @@
 //! The lines of an input.
 #![tactic(auto)]
 
-ghost use Rattle.std.specs.Prelude.{◌≡◌, ◌≢◌, ◌≤◌, ◌↔◌, ◌⊎◌, ℕ, List, Option, length, map, Ok, Err, IsTrue, IfOk, IfErr, IfSome, MatchResult, false, ◌∷◌, [], take};
-ghost use Rattle.mldsa_engine.specs.Lines.{longest_line, judged, Fits, AllFit, IsInputFault, IsLineFault, TakesLine, TakesLines, FaultOfLines};
+ghost use Rattle.std.specs.Prelude.{◌≡◌, ◌≢◌, ◌≤◌, ◌+◌, ◌↔◌, ◌⊎◌, ℕ, List, Option, length, map, Ok, Err, IsTrue, IfOk, IfErr, IfSome, MatchResult, false, ◌∷◌, [], position};
+ghost use Rattle.mldsa_engine.specs.Lines.{longest_line, line_digits, ends_line, judged, Fits, AllFit, IsInputFault, IsLineFault, TakesLine, TakesLines, FaultOfLines, InTurn};
 
 use crate::fault::RunFault;
 use crate::marked::Marked;
@@ -13,25 +13,58 @@ use std::io::Read;
 /// The most characters that a line may have.
 pub const LONGEST_LINE: usize = 2097152;
 
-/// The characters of the next line, without its LF. At most one character more than a line may have
-/// is read.
+/// The most bytes that are asked for at once.
+const PIECE: usize = 4096;
+
+/// How many characters of a line are asked for before it is known to be too short or too long: two
+/// for each wanted byte, and its LF.
+fn characters_of(wanted: Option<usize>) -> usize
+    ensures value { result ≤ line_digits wanted + 1 }
+    ensures most { result ≤ longest_line + 1 }
+{
+    match wanted {
+        Some(wants) => 2 * wants.min(LONGEST_LINE / 2) + 1,
+        None => 0,
+    }
+}
+
+/// The place of the first LF.
+fn end_of(given: &[u8]) -> Option<usize>
+    ensures { result ≡ position ends_line given.now }
+{
+    given.iter().position(|byte| *byte == b'\n')
+}
+
+/// The characters of the next line, without its LF. They are asked for one at a time, but for those
+/// that a line needs to have the wanted bytes, which are asked for in pieces. At most one character more
+/// than a line may have is read.
 fn read_line<I: Read>(
     alloc: Global,
     number: usize,
+    wanted: Option<usize>,
     input: &mut Marked<I>,
 ) -> Result<Vec<u8>, RunFault>
     requires unmarked { input.old.failed ≡ false }
     ensures read_failed { IsTrue input.new.failed ↔ (result ≡ Err RunFault.Read) }
     ensures short { IfOk result (λ line. length line.items ≤ longest_line) }
-    ensures taken { IfOk result (λ line. TakesLine (I.remaining input.old.device) (I.remaining input.new.device) line.items) }
-    ensures line_fault { IfErr result (λ fault. IsLineFault fault → (wanted : Option ℕ) → FaultOfLines number (wanted ∷ []) (I.remaining input.old.device) fault) }
+    ensures taken { IfOk result (λ line. TakesLine wanted (I.remaining input.old.device) (I.remaining input.new.device) line.items) }
+    ensures line_fault { IfErr result (λ fault. IsLineFault fault → FaultOfLines number (wanted ∷ []) (I.remaining input.old.device) fault) }
+    ensures in_turn { IfErr result (λ fault. IsLineFault fault → InTurn number (wanted ∷ []) (I.remaining input.old.device) (I.remaining input.new.device)) }
     ensures faults { IfErr result (λ fault. IsInputFault fault) }
 {
+    let characters = characters_of(wanted);
+    let mut room = [0; PIECE];
     let mut line = Vec::new(alloc);
     while line.len() <= LONGEST_LINE {
-        match input.read_byte()? {
-            Some(b'\n') => return Ok(line),
-            Some(byte) => line.push(byte)?,
+        let asked = characters.saturating_sub(line.len()).clamp(1, PIECE);
+        let count = input.read(&mut room[..asked])?;
+        let given = &room[..count];
+        match end_of(given) {
+            Some(end) => {
+                line.extend_from_slice(&given[..end])?;
+                return Ok(line);
+            }
+            None if count > 0 => line.extend_from_slice(given)?,
             None if line.is_empty() => return Err(RunFault::Missing { line: number }),
             None => return Ok(line),
         }
@@ -90,9 +123,10 @@ fn read_bytes<I: Read>(
     ensures fits { IfOk result (λ bytes. Fits wanted bytes.items) }
     ensures taken { IfOk result (λ bytes. TakesLines number (wanted ∷ []) (I.remaining input.old.device) (I.remaining input.new.device) (bytes.items ∷ [])) }
     ensures line_fault { IfErr result (λ fault. IsLineFault fault → FaultOfLines number (wanted ∷ []) (I.remaining input.old.device) fault) }
+    ensures in_turn { IfErr result (λ fault. IsLineFault fault → InTurn number (wanted ∷ []) (I.remaining input.old.device) (I.remaining input.new.device)) }
     ensures faults { IfErr result (λ fault. IsInputFault fault) }
 {
-    let line = read_line(alloc, number, input)?;
+    let line = read_line(alloc, number, wanted, input)?;
     bytes_of(alloc, number, wanted, line.as_slice())
 }
 
@@ -108,6 +142,7 @@ pub(crate) fn read_lines<I: Read>(
     ensures fit { IfOk result (λ lines. AllFit wanted.now (map (λ line. line.items) lines.items)) }
     ensures taken { IfOk result (λ lines. TakesLines 1 wanted.now (I.remaining input.old.device) (I.remaining input.new.device) (map (λ line. line.items) lines.items)) }
     ensures line_fault { IfErr result (λ fault. IsLineFault fault → FaultOfLines 1 wanted.now (I.remaining input.old.device) fault) }
+    ensures in_turn { IfErr result (λ fault. IsLineFault fault → InTurn 1 wanted.now (I.remaining input.old.device) (I.remaining input.new.device)) }
     ensures faults { IfErr result (λ fault. IsInputFault fault) }
 {
     let mut lines = Vec::new(alloc);

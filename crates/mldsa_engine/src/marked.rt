@@ -1,8 +1,8 @@
 //! Devices with a mark.
 #![tactic(auto)]
 
-ghost use Rattle.std.specs.Prelude.{◌≡◌, ◌∷◌, [], false, true, Ok, Err, Some, None, MatchResult, MatchOption};
-ghost use Rattle.std.specs.Io.KnownBytes.{Appends, Consumes, IsAtEnd, Keeps};
+ghost use Rattle.std.specs.Prelude.{◌≡◌, ◌<◌, ◌≤◌, length, false, true, IfOk, MatchResult};
+ghost use Rattle.std.specs.Io.KnownBytes.{ReadConsumes, WriteAppends};
 
 use crate::fault::RunFault;
 use std::io::{Read, Write};
@@ -55,16 +55,16 @@ impl<D> Marked<D> {
 }
 
 impl<D: Read> Marked<D> {
-    /// The next byte, or none at the end; one call of the device.
-    pub(crate) fn read_byte(&mut self) -> Result<Option<u8>, RunFault>
+    /// Asks the device once for bytes, and hands on how many it gave: none where it is at its end, or
+    /// where no room is.
+    pub(crate) fn read(&mut self, room: &mut [u8]) -> Result<usize, RunFault>
         requires unmarked { self.old.failed ≡ false }
-        ensures byte { MatchResult result (λ next. self.new.failed ≡ false) (λ fault. (self.new.failed ≡ true) × (fault ≡ RunFault.Read)) }
-        ensures taken { MatchResult result (λ next. MatchOption next (Keeps (D.remaining self.old.device) (D.remaining self.new.device) × IsAtEnd (D.remaining self.new.device)) (λ byte. Consumes (D.remaining self.old.device) (D.remaining self.new.device) (byte ∷ []))) (λ _. Keeps (D.remaining self.old.device) (D.remaining self.new.device)) }
+        ensures mark { MatchResult result (λ _. self.new.failed ≡ false) (λ fault. (self.new.failed ≡ true) × (fault ≡ RunFault.Read)) }
+        ensures bound { IfOk result (λ count. count ≤ length room.new) }
+        ensures bytes { ReadConsumes (D.remaining self.old.device) (D.remaining self.new.device) result room.new }
     {
-        let mut byte = [0u8; 1];
-        match self.device.read(&mut byte) {
-            Ok(0) => Ok(None),
-            Ok(_) => Ok(Some(byte[0])),
+        match self.device.read(room) {
+            Ok(count) => Ok(count),
             Err(_) => {
                 self.failed = true;
                 Err(RunFault::Read)
@@ -74,21 +74,20 @@ impl<D: Read> Marked<D> {
 }
 
 impl<D: Write> Marked<D> {
-    /// Writes all of these bytes, in one call of the device where it takes them all.
-    pub(crate) fn put(&mut self, bytes: &[u8]) -> Result<(), RunFault>
+    /// Hands the device bytes once, and hands on how many it took: some, unless there are none.
+    pub(crate) fn write(&mut self, bytes: &[u8]) -> Result<usize, RunFault>
         requires unmarked { self.old.failed ≡ false }
-        ensures { MatchResult result (λ _. (self.new.failed ≡ false) × Appends (D.contents self.old.device) (D.contents self.new.device) bytes.now) (λ fault. (self.new.failed ≡ true) × (fault ≡ RunFault.Write)) }
+        ensures mark { MatchResult result (λ _. self.new.failed ≡ false) (λ fault. (self.new.failed ≡ true) × (fault ≡ RunFault.Write)) }
+        ensures bound { IfOk result (λ count. count ≤ length bytes.now) }
+        ensures some { IfOk result (λ count. 0 < length bytes.now → 0 < count) }
+        ensures bytes { WriteAppends (D.contents self.old.device) (D.contents self.new.device) result bytes.now }
     {
-        let mut written = 0;
-        while written < bytes.len() {
-            match self.device.write(&bytes[written..]) {
-                Ok(0) | Err(_) => {
-                    self.failed = true;
-                    return Err(RunFault::Write);
-                }
-                Ok(count) => written += count,
+        match self.device.write(bytes) {
+            Ok(count) if count > 0 || bytes.is_empty() => Ok(count),
+            _ => {
+                self.failed = true;
+                Err(RunFault::Write)
             }
         }
-        Ok(())
     }
 }

@@ -3,9 +3,8 @@
 
 ghost use Rattle.std.specs.Prelude.{◌≡◌, ◌↔◌, ◌<◌, Ok, IsTrue, length, IfSome, IfNone};
 ghost use Rattle.fips204.specs.Framing.{framed, framed_digest, message_hash};
-ghost use Rattle.fips204.specs.ParameterSets.{commitment_length, signature_length};
 ghost use Rattle.fips204.specs.Refusals.{refused_or, message_fault, digest_fault, sign_message, sign_digest, VerifiesMessage, VerifiesDigest};
-ghost use Rattle.fips204.specs.Sets.{set_of};
+ghost use Rattle.fips204.specs.Sets.{HasSizes, set_of};
 
 use super::{mu, sign_internal, verify_internal};
 use crate::types::pre_hash::check_pre_hash;
@@ -29,10 +28,7 @@ pub(crate) fn sign_message<
     message: &[u8],
     ctx: &[u8],
 ) -> Result<[u8; SIG_LEN], Fault>
-    requires rows { K ≡ p.now.k }
-    requires columns { L ≡ p.now.l }
-    requires commitment_size { LAMBDA_DIV4 ≡ commitment_length (set_of p.now) }
-    requires size { SIG_LEN ≡ signature_length (set_of p.now) }
+    requires sizes { HasSizes p.now K L LAMBDA_DIV4 SIG_LEN }
     ensures { result ≡ sign_message (set_of p.now) H.front G.front sk.now rnd.now message.now ctx.now }
 {
     let mu = message_mu::<H>(&sk.tr, message, ctx)?;
@@ -56,10 +52,7 @@ pub(crate) fn sign_digest<
     ctx: &[u8],
     hash_oid: &[u8],
 ) -> Result<[u8; SIG_LEN], Fault>
-    requires rows { K ≡ p.now.k }
-    requires columns { L ≡ p.now.l }
-    requires commitment_size { LAMBDA_DIV4 ≡ commitment_length (set_of p.now) }
-    requires size { SIG_LEN ≡ signature_length (set_of p.now) }
+    requires sizes { HasSizes p.now K L LAMBDA_DIV4 SIG_LEN }
     ensures { result ≡ sign_digest (set_of p.now) H.front G.front sk.now rnd.now hash.now ctx.now hash_oid.now }
 {
     let mu = digest_mu::<H>(&sk.tr, hash, ctx, hash_oid)?;
@@ -75,10 +68,7 @@ pub(crate) fn verify_message<
     H: Xof,
     G: Xof,
 >(p: &Params, pk: &PublicKey<K, L, H, G>, message: &[u8], sig: &[u8; SIG_LEN], ctx: &[u8]) -> bool
-    requires rows { K ≡ p.now.k }
-    requires columns { L ≡ p.now.l }
-    requires commitment_size { LAMBDA_DIV4 ≡ commitment_length (set_of p.now) }
-    requires size { SIG_LEN ≡ signature_length (set_of p.now) }
+    requires sizes { HasSizes p.now K L LAMBDA_DIV4 SIG_LEN }
     ensures { IsTrue result ↔ VerifiesMessage (set_of p.now) H.front G.front pk.now message.now sig.now ctx.now }
 {
     match message_mu::<H>(&pk.tr, message, ctx) {
@@ -104,10 +94,7 @@ pub(crate) fn verify_digest<
     ctx: &[u8],
     hash_oid: &[u8],
 ) -> bool
-    requires rows { K ≡ p.now.k }
-    requires columns { L ≡ p.now.l }
-    requires commitment_size { LAMBDA_DIV4 ≡ commitment_length (set_of p.now) }
-    requires size { SIG_LEN ≡ signature_length (set_of p.now) }
+    requires sizes { HasSizes p.now K L LAMBDA_DIV4 SIG_LEN }
     ensures { IsTrue result ↔ VerifiesDigest (set_of p.now) H.front G.front pk.now hash.now sig.now ctx.now hash_oid.now }
 {
     match digest_mu::<H>(&pk.tr, hash, ctx, hash_oid) {

@@ -1,9 +1,9 @@
 //! The commitment of a high part (FIPS 204, Algorithm 7, line 15, and Algorithm 8, line 12).
 #![tactic(auto)]
 
-ghost use Rattle.std.specs.Prelude.{◌≡◌, ◌≤◌, ◌⊎◌, ◌*◌, ◌-◌, ◌++◌, pos, nat_abs, take};
+ghost use Rattle.std.specs.Prelude.{◌≡◌, ◌-◌, pos, nat_abs};
 ghost use Rattle.std.specs.List.{All};
-ghost use Rattle.fips204_base.specs.Packing.{InRange, width};
+ghost use Rattle.fips204_base.specs.Packing.{InRange};
 ghost use Rattle.fips204_base.specs.Rounding.{high_values};
 ghost use Rattle.fips204.specs.Attempts.{commitment};
 ghost use Rattle.fips204.specs.ParameterSets.{commitment_length};
@@ -11,7 +11,7 @@ ghost use Rattle.fips204.specs.Sets.{set_of};
 
 use crate::types::{Params, R};
 use fips204_base::encodings::w1_encode;
-use fips204_base::xof::{Xof, XofReader};
+use fips204_base::xof::{Xof, hash};
 
 /// `c_tilde` of `w1`: the first `lambda / 4` bytes of `H` over `mu` and the bytes of `w1`, whose
 /// coefficients are high bits.
@@ -26,33 +26,7 @@ pub(crate) fn commitment<const K: usize, const N: usize, H: Xof>(
     ensures { result ≡ commitment (set_of p.now) H.front mu.now w1.now }
 {
     let mut room = [0u8; 1024];
-    let bytes = &mut room[..high_part_size(p)];
+    let bytes = &mut room[..p.w1_length()];
     w1_encode(p.gamma2, w1, bytes);
-    commitment_to_bytes::<N, H>(mu, bytes)
-}
-
-/// How many bytes `w1Encode` gives.
-fn high_part_size(p: &Params) -> usize
-    ensures size { result ≡ 32 * width (pos 0) (pos (high_values (nat_abs p.now.gamma2) - 1)) * p.now.k }
-    ensures few { result ≤ 1024 }
-{
-    high_polynomial_size(p) * p.k
-}
-
-/// How many bytes `w1Encode` gives for one polynomial.
-fn high_polynomial_size(p: &Params) -> usize
-    ensures { ((p.now.gamma2 ≡ pos 95232) × (result ≡ 192)) ⊎ ((p.now.gamma2 ≡ pos 261888) × (result ≡ 128)) }
-{
-    if p.gamma2 == 95_232 { 192 } else { 128 }
-}
-
-/// The first `N` bytes of `H` over `mu` and `bytes`. `N` is at most 64.
-fn commitment_to_bytes<const N: usize, H: Xof>(mu: &[u8; 64], bytes: &[u8]) -> [u8; N]
-    requires { N ≤ 64 }
-    ensures { result ≡ take N (H.front (mu.now ++ bytes.now)) }
-{
-    let mut out = [0u8; N];
-    let mut reader = H::open(&[mu.as_slice(), bytes]);
-    reader.read(&mut out);
-    out
+    hash::<H, N>(&[mu.as_slice(), bytes])
 }

@@ -1,27 +1,28 @@
 //! Making keys (FIPS 204, Algorithms 1 and 6).
 #![tactic(auto)]
 
-ghost use Rattle.std.specs.Prelude.{◌≡◌, ◌≤◌, ◌<◌, ◌+◌, ◌*◌, ℕ, pos, take, drop, slice_index_or};
+ghost use Rattle.std.specs.Prelude.{◌≡◌, ◌≤◌, ◌<◌, ◌+◌, ◌*◌, ◌%◌, ℕ, pos, nat_abs, take, drop};
 ghost use Rattle.std.specs.List.{All};
 ghost use Rattle.fips204_base.specs.Packing.{InRange};
-ghost use Rattle.fips204_base.specs.Polynomials.{Within, AllWithin};
+ghost use Rattle.fips204_base.specs.Polynomials.{AreResidues, IsReducedVector, IsReducedMatrix};
 ghost use Rattle.fips204_base.specs.Products.{plus};
-ghost use Rattle.fips204_base.specs.Residues.{coefficients};
-ghost use Rattle.fips204_base.specs.Vectors.{vector_coefficients, matrix_product};
+ghost use Rattle.fips204_base.specs.Residues.{residue};
+ghost use Rattle.fips204_base.specs.Vectors.{vector_coefficients, vector_of, matrix_product};
 ghost use Rattle.fips204.specs.KeyGeneration.{seeds, key_hash};
 ghost use Rattle.fips204.specs.ParameterSets.{public_key_length};
 ghost use Rattle.fips204.specs.Refusals.{generated, derived, Draws};
 ghost use Rattle.fips204.specs.Sets.{set_of};
 
 use crate::traits::{CryptoRngCore, draw};
-use crate::types::{Params, PrivateKey, PublicKey, R, R0, T};
+use crate::types::{Params, PrivateKey, PublicKey, R, T};
 use fips204_base::Fault;
 use fips204_base::encodings::pk_encode;
 use fips204_base::hashing::{expand_a, expand_s};
-use fips204_base::helpers::{add_vector_ntt, full_reduce32};
+use fips204_base::helpers::full_reduce32;
 use fips204_base::high_low::power2round;
+use fips204_base::maps::update_vector_with;
 use fips204_base::product::matrix_times_vector;
-use fips204_base::xof::{Xof, XofReader};
+use fips204_base::xof::{Xof, hash};
 use std::marker::PhantomData;
 
 /// `ML-DSA.KeyGen_internal` (Algorithm 6): both keys of the seed `xi`. Refuses with
@@ -37,10 +38,15 @@ pub fn key_gen_internal<const K: usize, const L: usize, const PK_LEN: usize, H: 
     requires size { PK_LEN ≡ public_key_length (set_of p.now) }
     ensures { result ≡ generated (set_of p.now) H.front G.front xi.now }
 {
+    // (rho, rho', K) = H(xi || k || l)
     let (rho, rho_prime, key) = key_seeds::<H>(p, xi);
+    // A = ExpandA(rho)
     let a_hat = expand_a::<K, L, G>(&rho)?;
+    // (s1, s2) = ExpandS(rho')
     let (s1, s2) = expand_s::<K, L, H>(p.eta, &rho_prime)?;
+    // t = A s1 + s2, (t1, t0) = Power2Round(t)
     let (t1, t0) = power2round(&key_vector(&a_hat, &s1, &s2));
+    // tr = H(pkEncode(rho, t1))
     let tr = key_hash::<K, PK_LEN, H>(&rho, &t1);
     let public = PublicKey {
         rho,
@@ -67,9 +73,7 @@ fn key_seeds<H: Xof>(p: &Params, xi: &[u8; 32]) -> ([u8; 32], [u8; 64], [u8; 32]
     ensures vectors { result.1 ≡ take 64 (drop 32 (seeds (set_of p.now) H.front xi.now)) }
     ensures masks { result.2 ≡ take 32 (drop 96 (seeds (set_of p.now) H.front xi.now)) }
 {
-    let mut bytes = [0u8; 128];
-    let mut reader = H::open(&[xi.as_slice(), &[p.k as u8], &[p.l as u8]]);
-    reader.read(&mut bytes);
+    let bytes = hash::<H, 128>(&[xi.as_slice(), &[p.k as u8], &[p.l as u8]]);
     (part(&bytes, 0), part(&bytes, 32), part(&bytes, 96))
 }
 
@@ -90,31 +94,22 @@ fn key_vector<const K: usize, const L: usize>(
     s2: &[R; K],
 ) -> [R; K]
     requires columns { L ≤ 7 }
-    requires matrix { All (AllWithin 8380416) a_hat.now }
-    requires first { All (λ w. Within 8380416 w.0) s1.now }
-    requires second { All (λ w. Within 8380416 w.0) s2.now }
-    ensures values { (r n : ℕ) → r < K → n < 256 → slice_index_or (slice_index_or result r R0).0 n (pos 0) ≡ pos (plus (matrix_product L a_hat.now (vector_coefficients s1.now) r) (vector_coefficients s2.now r) n) }
-    ensures range { All (λ w. InRange (pos 0) (pos 8380416) w.0) result }
+    requires matrix { IsReducedMatrix a_hat.now }
+    requires first { IsReducedVector L s1.now }
+    requires second { IsReducedVector K s2.now }
+    ensures values { result ≡ vector_of K (λ r n. pos (plus (matrix_product L a_hat.now (vector_coefficients s1.now) r) (vector_coefficients s2.now r) n)) }
+    ensures range { AreResidues K result }
 {
-    let sums = add_vector_ntt(&matrix_times_vector(a_hat, s1), s2);
-    let mut out = [R0; K];
-    for r in 0..K {
-        out[r] = reduced(&sums[r]);
-    }
-    out
-}
-
-/// The residues of a polynomial whose coefficients are below `2^31 - 2^22` in absolute value.
-fn reduced(w: &R) -> R
-    requires { Within 2143289343 w.now.0 }
-    ensures values { (n : ℕ) → n < 256 → slice_index_or result.0 n (pos 0) ≡ pos (coefficients w.now.0 n) }
-    ensures range { InRange (pos 0) (pos 8380416) result.0 }
-{
-    let mut out = [0; 256];
-    for n in 0..256 {
-        out[n] = full_reduce32(w.0[n]);
-    }
-    R(out)
+    let mut t = matrix_times_vector(a_hat, s1);
+    update_vector_with(
+        &mut t,
+        s2,
+        |x, y|
+            requires { (nat_abs x ≤ 8380416) × (nat_abs y ≤ 8380416) }
+            ensures { result ≡ pos ((residue x + residue y) % 8380417) }
+        { full_reduce32(x + y) },
+    );
+    t
 }
 
 /// `tr`: the first 64 bytes of `H` over a public key's bytes (Algorithm 6, line 9).
@@ -124,10 +119,7 @@ fn key_hash<const K: usize, const PK_LEN: usize, H: Xof>(rho: &[u8; 32], t1: &[R
     ensures { result ≡ key_hash H.front rho.now t1.now }
 {
     let pk: [u8; PK_LEN] = pk_encode(rho, t1);
-    let mut tr = [0u8; 64];
-    let mut reader = H::open(&[pk.as_slice()]);
-    reader.read(&mut tr);
-    tr
+    hash::<H, 64>(&[pk.as_slice()])
 }
 
 /// `ML-DSA.KeyGen` (Algorithm 1): both keys of 32 bytes that the generator is asked for once. Refuses
@@ -158,7 +150,9 @@ pub fn private_to_public_key<const K: usize, const L: usize, H, G: Xof>(
     requires columns { L ≡ p.now.l }
     ensures { result ≡ derived (set_of p.now) G.front sk.now }
 {
+    // A = ExpandA(rho)
     let a_hat = expand_a::<K, L, G>(&sk.rho)?;
+    // t = A s1 + s2, (t1, _) = Power2Round(t)
     let (t1, _) = power2round(&key_vector(&a_hat, &sk.s1, &sk.s2));
     Ok(PublicKey {
         rho: sk.rho,

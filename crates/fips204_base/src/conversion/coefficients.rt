@@ -1,8 +1,8 @@
 //! Coefficients of sampled polynomials from bytes.
 #![tactic(auto)]
 
-ghost use Rattle.std.specs.Prelude.{◌≡◌, ◌<◌, ◌⊎◌, pos, nat_abs, slice_index};
-ghost use Rattle.fips204_base.specs.Coefficients.{coefficient_from_three_bytes, coefficient_from_half_byte};
+ghost use Rattle.std.specs.Prelude.{◌≡◌, ◌<◌, nat_abs, slice_index};
+ghost use Rattle.fips204_base.specs.Coefficients.{IsEta, coefficient_from_three_bytes, coefficient_from_half_byte};
 
 use crate::Q;
 
@@ -12,6 +12,7 @@ pub fn coeff_from_three_bytes(bytes: [u8; 3]) -> Option<i32>
     ensures { result ≡ coefficient_from_three_bytes (slice_index bytes 0) (slice_index bytes 1) (slice_index bytes 2) }
 {
     let [low, middle, high] = bytes;
+    // z = 2^16 b2 + 2^8 b1 + b0, where b2 has lost its top bit
     let value = low as u32 + 256 * middle as u32 + 65536 * (high % 128) as u32;
     if value < Q as u32 {
         Some(value as i32)
@@ -24,7 +25,7 @@ pub fn coeff_from_three_bytes(bytes: [u8; 3]) -> Option<i32>
 /// is below 16; `eta` is 2 or 4. `None` where `b` is 15 at `eta` 2, and where it is above 8 at
 /// `eta` 4.
 pub fn coeff_from_half_byte(eta: i32, b: u8) -> Option<i32>
-    requires set { (eta ≡ pos 2) ⊎ (eta ≡ pos 4) }
+    requires set { IsEta eta }
     requires half { b < 16 }
     ensures { result ≡ coefficient_from_half_byte (nat_abs eta) b }
 {

@@ -2,26 +2,30 @@
 #![tactic(auto)]
 
 ghost use Rattle.std.specs.Prelude.{◌≡◌, ◌<◌, ◌≤◌, ◌+◌, ◌≤ℤ◌, ℕ, List, pos, nat_abs, length, take, drop, ◌++◌, MatchOption};
-ghost use Rattle.std.specs.List.{All};
 ghost use Rattle.fips204_base.specs.HintSpelling.{Spells, all_ones, hint_bytes, ones};
 ghost use Rattle.fips204_base.specs.Packing.{InRange};
+ghost use Rattle.fips204_base.specs.Vectors.{VectorInRange};
 
 use crate::types::{R, R0};
 
 /// The polynomial with ones at `places` and zeros elsewhere, or `None` where the places do not
 /// strictly rise.
-fn row_of(places: &[u8]) -> Option<R>
-    ensures { MatchOption result ((row : R) → places.now ≡ ones row → ⊥) (λ row. (places.now ≡ ones row) × (length row.0 ≡ 256) × InRange (pos 0) (pos 1) row.0) }
+fn polynomial_of(places: &[u8]) -> Option<R>
+    ensures { MatchOption result
+        ((w : R) → places.now ≡ ones w → ⊥)
+        (λ w. (places.now ≡ ones w) × (length w.0 ≡ 256) × InRange (pos 0) (pos 1) w.0) }
 {
-    let mut row = [0i32; 256];
+    let mut w = [0i32; 256];
     for k in 0..places.len() {
         let place = places[k] as usize;
+        // y[Index - 1] >= y[Index]: none
         if k > 0 && places[k - 1] as usize >= place {
             return None;
         }
-        row[place] = 1;
+        // h[i]_y[Index] = 1
+        w[place] = 1;
     }
-    Some(R(row))
+    Some(R(w))
 }
 
 /// `HintBitUnpack` (Algorithm 21): the hint that `y` spells, or `None` where it spells none.
@@ -38,19 +42,14 @@ pub fn hint_bit_unpack<const K: usize>(omega: i32, y: &[u8]) -> Option<[R; K]>
     let mut index = 0usize;
     for i in 0..K {
         let end = y[limit + i] as usize;
+        // y[omega + i] < Index or y[omega + i] > omega: none
         if end < index || end > limit {
             return None;
         }
-        match row_of(&y[index..end]) {
-            None => {
-                return None;
-            }
-            Some(row) => {
-                h[i] = row;
-            }
-        }
+        h[i] = polynomial_of(&y[index..end])?;
         index = end;
     }
+    // y[i] != 0 for an i from Index to omega - 1: none
     for k in index..limit {
         if y[k] != 0 {
             return None;
@@ -60,15 +59,16 @@ pub fn hint_bit_unpack<const K: usize>(omega: i32, y: &[u8]) -> Option<[R; K]>
 }
 
 /// Writes the places of the ones from `from` on, and answers where they end.
-fn put_places(row: &R, y: &mut [u8], from: usize) -> usize
-    requires { from + length (ones row.now) ≤ length y.old }
-    ensures end { result ≡ from + length (ones row.now) }
-    ensures places { take result y.new ≡ take from y.old ++ ones row.now }
+fn put_places(w: &R, y: &mut [u8], from: usize) -> usize
+    requires { from + length (ones w.now) ≤ length y.old }
+    ensures end { result ≡ from + length (ones w.now) }
+    ensures places { take result y.new ≡ take from y.old ++ ones w.now }
     ensures rest { drop result y.new ≡ drop result y.old }
 {
     let mut at = from;
     for j in 0..256usize {
-        if row.0[j] > 0 {
+        if w.0[j] > 0 {
+            // h[i]_j != 0: y[Index] = j, Index = Index + 1
             y[at] = j as u8;
             at += 1;
         }
@@ -84,7 +84,7 @@ pub fn hint_bit_pack<const K: usize>(omega: i32, h: &[R; K], y: &mut [u8])
     requires some { pos 1 ≤ℤ omega }
     requires sizes { nat_abs omega + K < 256 }
     requires room { length y.old ≡ nat_abs omega + K }
-    requires bits { All (λ w. InRange (pos 0) (pos 1) w.0) h.now }
+    requires bits { VectorInRange (pos 0) (pos 1) h.now }
     requires few { length (all_ones h.now) ≤ nat_abs omega }
     ensures { y.new ≡ hint_bytes (nat_abs omega) h.now }
 {
@@ -93,6 +93,7 @@ pub fn hint_bit_pack<const K: usize>(omega: i32, h: &[R; K], y: &mut [u8])
     let mut index = 0usize;
     for i in 0..K {
         index = put_places(&h[i], y, index);
+        // y[omega + i] = Index
         y[limit + i] = index as u8;
     }
 }

@@ -1,10 +1,11 @@
 //! Private keys as bytes.
 #![tactic(auto)]
 
-ghost use Rattle.std.specs.Prelude.{◌≡◌, ◌⊎◌, ◌≤◌, ◌+◌, ◌*◌, ℕ, ℤ, List, pos, nat_abs, length, take, drop, MatchResult, ◌++◌, ◌-ℤ◌};
-ghost use Rattle.std.specs.List.{All};
-ghost use Rattle.fips204_base.specs.Encodings.{IsPrivateKey, private_key_bytes, vector_bytes};
-ghost use Rattle.fips204_base.specs.Packing.{InRange, width};
+ghost use Rattle.std.specs.Prelude.{◌≡◌, ◌≤◌, ◌+◌, ◌*◌, ℕ, ℤ, List, pos, nat_abs, length, take, drop, MatchResult, ◌++◌, ◌-ℤ◌};
+ghost use Rattle.fips204_base.specs.Coefficients.{IsEta};
+ghost use Rattle.fips204_base.specs.Encodings.{IsPrivateKey, private_key_bytes};
+ghost use Rattle.fips204_base.specs.Packing.{width};
+ghost use Rattle.fips204_base.specs.Vectors.{VectorInRange};
 
 use super::vectors::{pack_vector, polynomial_size, unpack_short_vector, unpack_vector};
 use crate::fault::Fault;
@@ -19,7 +20,7 @@ pub fn sk_decode<const K: usize, const L: usize, const SK_LEN: usize>(
     eta: i32,
     sk: &[u8; SK_LEN],
 ) -> Result<(&[u8; 32], &[u8; 32], &[u8; 64], [R; L], [R; K], [R; K]), Fault>
-    requires set { (eta ≡ pos 2) ⊎ (eta ≡ pos 4) }
+    requires set { IsEta eta }
     requires size { SK_LEN ≡ 128 + 32 * width eta eta * L + 32 * width eta eta * K + 416 * K }
     ensures { MatchResult result
         (λ parts. IsPrivateKey (nat_abs eta) K L sk.now parts.0.now parts.1.now parts.2.now parts.3 parts.4 parts.5)
@@ -28,10 +29,12 @@ pub fn sk_decode<const K: usize, const L: usize, const SK_LEN: usize>(
         × ((rho key tr : List ℕ) (s1 s2 t0 : List R) → IsPrivateKey (nat_abs eta) K L sk.now rho key tr s1 s2 t0 → ⊥)) }
 {
     let bytes: &[u8] = sk;
+    // line 1: (rho, K, tr, y, z, w) = sk
     let (seeds, vectors) = bytes.split_at(128);
     let size = polynomial_size(eta, eta);
     let (first, rest) = vectors.split_at(size * L);
     let (second, low) = rest.split_at(size * K);
+    // lines 2 to 10: s1[i], s2[i] = BitUnpack(_, eta, eta), t0[i] = BitUnpack(w_i, 2^(d - 1) - 1, 2^(d - 1))
     match unpack_short_vector(first, eta) {
         None => Err(Fault::KeyRange),
         Some(s1) => match unpack_short_vector(second, eta) {
@@ -48,61 +51,6 @@ pub fn sk_decode<const K: usize, const L: usize, const SK_LEN: usize>(
     }
 }
 
-/// Writes the three seeds of a private key.
-fn write_seeds(rho: &[u8; 32], k: &[u8; 32], tr: &[u8; 64], out: &mut [u8])
-    requires { length out.old ≡ 128 }
-    ensures { out.new ≡ rho.now ++ k.now ++ tr.now }
-{
-    out[..32].copy_from_slice(rho);
-    out[32..64].copy_from_slice(k);
-    out[64..].copy_from_slice(tr);
-}
-
-/// Writes the three vectors of a private key.
-fn write_vectors<const K: usize, const L: usize>(
-    eta: i32,
-    s1: &[R; L],
-    s2: &[R; K],
-    t0: &[R; K],
-    out: &mut [u8],
-)
-    requires set { (eta ≡ pos 2) ⊎ (eta ≡ pos 4) }
-    requires size { length out.old ≡ 32 * width eta eta * L + 32 * width eta eta * K + 416 * K }
-    requires s1_range { All (λ w. InRange (pos 0 -ℤ eta) eta w.0) s1.now }
-    requires s2_range { All (λ w. InRange (pos 0 -ℤ eta) eta w.0) s2.now }
-    requires t0_range { All (λ w. InRange (pos 0 -ℤ pos 4095) (pos 4096) w.0) t0.now }
-    ensures { out.new ≡ vector_bytes (nat_abs eta) (nat_abs eta) s1.now ++ vector_bytes (nat_abs eta) (nat_abs eta) s2.now ++ vector_bytes 4095 4096 t0.now }
-{
-    let size = polynomial_size(eta, eta);
-    let second = size * L;
-    let low = second + size * K;
-    pack_vector(s1, eta, eta, &mut out[..second]);
-    pack_vector(s2, eta, eta, &mut out[second..low]);
-    pack_vector(t0, 4095, 4096, &mut out[low..]);
-}
-
-/// Writes the parts of a private key.
-fn write_private_key<const K: usize, const L: usize>(
-    eta: i32,
-    rho: &[u8; 32],
-    k: &[u8; 32],
-    tr: &[u8; 64],
-    s1: &[R; L],
-    s2: &[R; K],
-    t0: &[R; K],
-    out: &mut [u8],
-)
-    requires set { (eta ≡ pos 2) ⊎ (eta ≡ pos 4) }
-    requires size { length out.old ≡ 128 + 32 * width eta eta * L + 32 * width eta eta * K + 416 * K }
-    requires s1_range { All (λ w. InRange (pos 0 -ℤ eta) eta w.0) s1.now }
-    requires s2_range { All (λ w. InRange (pos 0 -ℤ eta) eta w.0) s2.now }
-    requires t0_range { All (λ w. InRange (pos 0 -ℤ pos 4095) (pos 4096) w.0) t0.now }
-    ensures { out.new ≡ private_key_bytes (nat_abs eta) rho.now k.now tr.now s1.now s2.now t0.now }
-{
-    write_seeds(rho, k, tr, &mut out[..128]);
-    write_vectors(eta, s1, s2, t0, &mut out[128..]);
-}
-
 /// `skEncode` (Algorithm 24): a private key of its parts: rho, K, tr, then s1 and s2 with coefficients
 /// in `[-eta, eta]`, then t0 with coefficients in `[-4095, 4096]`.
 ///
@@ -116,15 +64,28 @@ pub fn sk_encode<const K: usize, const L: usize, const SK_LEN: usize>(
     s2: &[R; K],
     t0: &[R; K],
 ) -> [u8; SK_LEN]
-    requires set { (eta ≡ pos 2) ⊎ (eta ≡ pos 4) }
+    requires set { IsEta eta }
     requires size { SK_LEN ≡ 128 + 32 * width eta eta * L + 32 * width eta eta * K + 416 * K }
-    requires s1_range { All (λ w. InRange (pos 0 -ℤ eta) eta w.0) s1.now }
-    requires s2_range { All (λ w. InRange (pos 0 -ℤ eta) eta w.0) s2.now }
-    requires t0_range { All (λ w. InRange (pos 0 -ℤ pos 4095) (pos 4096) w.0) t0.now }
+    requires s1_range { VectorInRange (pos 0 -ℤ eta) eta s1.now }
+    requires s2_range { VectorInRange (pos 0 -ℤ eta) eta s2.now }
+    requires t0_range { VectorInRange (pos 0 -ℤ pos 4095) (pos 4096) t0.now }
     ensures { result ≡ private_key_bytes (nat_abs eta) rho.now k.now tr.now s1.now s2.now t0.now }
 {
+    let size = polynomial_size(eta, eta);
+    let second = 128 + size * L;
+    let low = second + size * K;
     let mut sk = [0u8; SK_LEN];
-    write_private_key(eta, rho, k, tr, s1, s2, t0, &mut sk);
+    let bytes = &mut sk[..];
+    // line 1: sk = rho || K || tr
+    bytes[..32].copy_from_slice(rho);
+    bytes[32..64].copy_from_slice(k);
+    bytes[64..128].copy_from_slice(tr);
+    // lines 2 to 4: sk = sk || BitPack(s1[i], eta, eta)
+    pack_vector(s1, eta, eta, &mut bytes[128..second]);
+    // lines 5 to 7: sk = sk || BitPack(s2[i], eta, eta)
+    pack_vector(s2, eta, eta, &mut bytes[second..low]);
+    // lines 8 to 10: sk = sk || BitPack(t0[i], 2^(d - 1) - 1, 2^(d - 1))
+    pack_vector(t0, 4095, 4096, &mut bytes[low..]);
     sk
 }
 

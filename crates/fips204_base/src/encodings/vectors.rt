@@ -2,13 +2,12 @@
 #![tactic(auto)]
 
 ghost use Rattle.std.specs.Prelude.{◌≡◌, ◌≤◌, ◌+◌, ◌*◌, ◌^◌, ℤ, List, pos, nat_abs, ◌+ℤ◌, ◌-ℤ◌, length, MatchOption};
-ghost use Rattle.std.specs.List.{All};
 ghost use Rattle.fips204_base.specs.Encodings.{vector_bytes};
 ghost use Rattle.fips204_base.specs.Packing.{Bounds, InRange, polynomial_bytes, width};
-ghost use Rattle.fips204_base.specs.Vectors.{IsVector};
+ghost use Rattle.fips204_base.specs.Vectors.{IsVector, VectorInRange};
 
-use crate::conversion::{bit_pack, bit_unpack};
-use crate::helpers::{bit_length, is_in_range};
+use crate::conversion::{bit_pack, bit_unpack, field_width};
+use crate::helpers::is_in_range;
 use crate::types::{R, R0};
 
 /// How many bytes a polynomial with coefficients in `[-a, b]` has.
@@ -17,13 +16,14 @@ pub fn polynomial_size(a: i32, b: i32) -> usize
     ensures size { result ≡ 32 * width a b }
     ensures few { result ≤ 672 }
 {
-    32 * bit_length(a + b)
+    32 * field_width(a, b) as usize
 }
 
 /// Writes the polynomials of `v`, whose coefficients are in `[-a, b]`.
+#[inline(always)]
 pub fn pack_vector<const N: usize>(v: &[R; N], a: i32, b: i32, out: &mut [u8])
     requires bounds { Bounds a b }
-    requires range { All (λ w. InRange (pos 0 -ℤ a) b w.0) v.now }
+    requires range { VectorInRange (pos 0 -ℤ a) b v.now }
     requires room { length out.old ≡ 32 * width a b * N }
     ensures { out.new ≡ vector_bytes (nat_abs a) (nat_abs b) v.now }
 {
@@ -43,10 +43,7 @@ pub fn unpack_polynomial(bytes: &[u8], a: i32, b: i32) -> R
     ensures range { InRange (pos 0 -ℤ a) b result.0 }
     ensures places { length result.0 ≡ 256 }
 {
-    match bit_unpack(bytes, a, b) {
-        None => unreachable!(),
-        Some(w) => w,
-    }
+    bit_unpack(bytes, a, b).unwrap()
 }
 
 /// The vector whose bytes these are, where every field is that of a coefficient in `[-a, b]`.
@@ -75,15 +72,11 @@ pub fn unpack_short_polynomial(bytes: &[u8], eta: i32) -> Option<R>
         ((w : List ℤ) → InRange (pos 0 -ℤ eta) eta w → length w ≡ 256 → polynomial_bytes eta eta w ≡ bytes.now → ⊥)
         (λ w. InRange (pos 0 -ℤ eta) eta w.0 × (length w.0 ≡ 256) × (polynomial_bytes eta eta w.0 ≡ bytes.now)) }
 {
-    match bit_unpack(bytes, eta, eta) {
-        None => None,
-        Some(w) => {
-            if is_in_range(&w, eta, eta) {
-                Some(w)
-            } else {
-                None
-            }
-        }
+    let w = bit_unpack(bytes, eta, eta)?;
+    if is_in_range(&w, eta, eta) {
+        Some(w)
+    } else {
+        None
     }
 }
 
@@ -100,14 +93,7 @@ pub fn unpack_short_vector<const N: usize>(bytes: &[u8], eta: i32) -> Option<[R;
     let mut v = [R0; N];
     for i in 0..N {
         let at = size * i;
-        match unpack_short_polynomial(&bytes[at..at + size], eta) {
-            None => {
-                return None;
-            }
-            Some(w) => {
-                v[i] = w;
-            }
-        }
+        v[i] = unpack_short_polynomial(&bytes[at..at + size], eta)?;
     }
     Some(v)
 }

@@ -22,23 +22,27 @@ fn sign_at(bytes: &[u8; 8], k: usize) -> i32
 }
 
 /// `SampleInBall` (Algorithm 29): a polynomial of which `tau` coefficients are 1 or -1 and the others
-/// zero. `tau` is from 1 to 64. Refuses with `SamplingLimit` where the 1024 bytes after the first
-/// eight give fewer than `tau` places.
+/// zero. `tau` is from 1 to 64. Refuses with `SamplingLimit` where rejection sampling reaches its limit:
+/// where the bytes after the first eight, a quarter as many as the front has, give fewer than `tau` places.
 pub fn sample_in_ball<H: Xof>(tau: i32, rho: &[u8]) -> Result<R, Fault>
     requires tau { (pos 1 ≤ℤ tau) × (tau ≤ℤ pos 64) }
     ensures { result ≡ ok_or (challenge (nat_abs tau) (H.front rho.now)) Fault.SamplingLimit }
 {
     let first = 256 - tau as usize;
+    // ctx = H.Absorb(rho); s = H.Squeeze(ctx, 8)
     let mut reader = H::open(&[rho]);
     let mut signs = [0u8; 8];
     reader.read(&mut signs);
     let mut c = [0i32; 256];
+    // i from 256 - tau to 255
     let mut i = first;
-    for _byte in 0..1024usize {
+    for _byte in 0..H::FRONT / 4 {
+        // j = H.Squeeze(ctx, 1), rejected where j > i
         let mut byte = [0u8; 1];
         reader.read(&mut byte);
         let pick = byte[0] as usize;
         if pick <= i {
+            // c[i] = c[j]; c[j] = (-1)^h[i + tau - 256]
             c[i] = c[pick];
             c[pick] = sign_at(&signs, i - first);
             i += 1;

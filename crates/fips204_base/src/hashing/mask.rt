@@ -1,32 +1,26 @@
 //! The mask, from the stream in the place of SHAKE256.
 #![tactic(auto)]
 
-ghost use Rattle.std.specs.Prelude.{◌≡◌, ◌≤◌, ◌⊎◌, ◌+◌, ◌*◌, ◌++◌, pos, nat_abs};
+ghost use Rattle.std.specs.Prelude.{◌≡◌, ◌≤◌, ◌⊎◌, ◌+◌, ◌++◌, pos, nat_abs};
 ghost use Rattle.std.specs.Int.{w16, to_le_bytes};
-ghost use Rattle.fips204_base.specs.Mask.{mask, mask_polynomial, mask_width};
+ghost use Rattle.fips204_base.specs.Mask.{mask, mask_polynomial};
 
 use crate::conversion::bit_unpack;
+use crate::encodings::polynomial_size;
 use crate::types::{R, R0};
 use crate::xof::{Xof, XofReader};
-
-/// How many bytes a polynomial of the mask takes, of 18 or 20 bits a coefficient.
-fn polynomial_length(gamma1: i32) -> usize
-    requires gamma1 { (gamma1 ≡ pos 131072) ⊎ (gamma1 ≡ pos 524288) }
-    ensures value { result ≡ 32 * mask_width (nat_abs gamma1) }
-    ensures few { result ≤ 640 }
-{
-    if gamma1 == 131072 { 576 } else { 640 }
-}
 
 /// The polynomial of the mask from `rho` and `number` in two bytes.
 fn polynomial<H: Xof>(gamma1: i32, rho: &[u8; 64], number: u16) -> R
     requires gamma1 { (gamma1 ≡ pos 131072) ⊎ (gamma1 ≡ pos 524288) }
     ensures { result ≡ mask_polynomial (nat_abs gamma1) (H.front (rho.now ++ to_le_bytes w16 number)) }
 {
+    // v = H(rho || number, 32 c)
     let mut reader = H::open(&[rho.as_slice(), number.to_le_bytes().as_slice()]);
-    let mut room = [0u8; 640];
-    let bytes = &mut room[..polynomial_length(gamma1)];
+    let mut room = [0u8; 672];
+    let bytes = &mut room[..polynomial_size(gamma1 - 1, gamma1)];
     reader.read(bytes);
+    // y[r] = BitUnpack(v, gamma1 - 1, gamma1)
     bit_unpack(bytes, gamma1 - 1, gamma1).unwrap()
 }
 

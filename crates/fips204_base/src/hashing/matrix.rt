@@ -1,52 +1,56 @@
 //! The matrix, from the stream in the place of SHAKE128.
 #![tactic(auto)]
 
-ghost use Rattle.std.specs.Prelude.{◌≡◌, ◌<◌, ◌≤◌, ◌++◌, ◌∷◌, [], length, map, take, ok_or};
-ghost use Rattle.std.specs.List.{flat_map, range_with_len};
-ghost use Rattle.fips204_base.specs.Sampling.{all_present};
-ghost use Rattle.fips204_base.specs.MatrixEntry.{kept_triples, matrix_entry, sampled_matrix};
+ghost use Rattle.std.specs.Prelude.{◌≡◌, ◌≤◌, ◌/◌, length, ok_or};
+ghost use Rattle.std.specs.List.{flat_map};
+ghost use Rattle.fips204_base.specs.Sampling.{AreKept};
+ghost use Rattle.fips204_base.specs.MatrixEntry.{kept_triples, matrix_entry, sampled_matrix, sampled_row};
 
 use crate::conversion::coeff_from_three_bytes;
 use crate::fault::Fault;
+use crate::hashing::keep;
 use crate::types::{T, T0};
 use crate::xof::{Xof, XofReader};
 
-/// Puts the coefficients that the 64 triples of `piece` give into `values` from place `kept` on, as
-/// many as have room, and answers how many there are then.
-fn keep_triples(piece: &[u8; 192], values: &mut [i32; 256], kept: usize) -> usize
-    requires room { kept < 256 }
+/// Puts the coefficients that the triples of `piece` give into `values` from place `kept` on, as many as
+/// have room, and answers how many there are then.
+fn keep_triples(piece: &[u8], values: &mut [i32; 256], kept: usize) -> usize
+    requires room { kept ≤ 256 }
     ensures count { result ≤ 256 }
-    ensures kept { take result values.new ≡ take 256 (take kept values.old ++ kept_triples piece.now 64) }
+    ensures kept { AreKept values.old kept (kept_triples piece.now (length piece.now / 3)) values.new result }
 {
     let mut count = kept;
-    for p in 0..64usize {
+    for p in 0..piece.len() / 3 {
         let triple = [piece[3 * p], piece[3 * p + 1], piece[3 * p + 2]];
-        if let Some(coefficient) = coeff_from_three_bytes(triple) {
-            values[count] = coefficient;
-            count += 1;
-            if count == 256 {
-                return count;
-            }
-        }
+        count = keep(coeff_from_three_bytes(triple), values, count);
     }
     count
 }
 
-/// `RejNTTPoly` (Algorithm 30): a matrix entry from the joined `parts`. Refuses with `SamplingLimit`
-/// where the first 1024 triples of the stream give fewer than 256 coefficients.
+/// `RejNTTPoly` (Algorithm 30): a matrix entry from the joined `parts`. Refuses with `SamplingLimit` where
+/// rejection sampling reaches its limit: where as many triples as a quarter of the front has bytes give
+/// fewer than 256 coefficients.
 pub fn rej_ntt_poly<G: Xof>(parts: &[&[u8]]) -> Result<T, Fault>
     ensures { result ≡ ok_or (matrix_entry (G.front (flat_map (λ part. part.now) parts.now))) Fault.SamplingLimit }
 {
+    // ctx = G.Absorb(rho)
     let mut reader = G::open(parts);
     let mut values = [0i32; 256];
     let mut count = 0;
-    for _piece in 0..16usize {
-        let mut piece = [0u8; 192];
-        reader.read(&mut piece);
-        count = keep_triples(&piece, &mut values, count);
+    let limit = G::FRONT / 4;
+    let mut tried = 0;
+    while tried < limit {
+        // s = the next 64 triples, or as many as are left; in place of G.Squeeze(ctx, 3)
+        let triples = (limit - tried).min(64);
+        let mut room = [0u8; 192];
+        let piece = &mut room[..3 * triples];
+        reader.read(piece);
+        // a[j] = CoeffFromThreeBytes(s[0], s[1], s[2]), kept unless it is none
+        count = keep_triples(piece, &mut values, count);
         if count == 256 {
             return Ok(T(values));
         }
+        tried += triples;
     }
     Err(Fault::SamplingLimit)
 }
@@ -54,7 +58,7 @@ pub fn rej_ntt_poly<G: Xof>(parts: &[&[u8]]) -> Result<T, Fault>
 /// Row `r` of the matrix.
 fn expand_row<const L: usize, G: Xof>(rho: &[u8; 32], r: u8) -> Result<[T; L], Fault>
     requires { L ≤ 7 }
-    ensures { result ≡ ok_or (all_present (map (λ s. matrix_entry (G.front (rho.now ++ s ∷ r ∷ []))) (range_with_len 0 L))) Fault.SamplingLimit }
+    ensures { result ≡ ok_or (sampled_row G.front rho.now L r) Fault.SamplingLimit }
 {
     let mut row = [T0; L];
     for s in 0..L {

@@ -1,38 +1,24 @@
 //! Small polynomials, from the stream in the place of SHAKE256.
 #![tactic(auto)]
 
-ghost use Rattle.std.specs.Prelude.{◌≡◌, ◌<◌, ◌≤◌, ◌⊎◌, ◌+◌, ◌++◌, length, pos, nat_abs, take, ok_or, option_to_list, IfOk, IfErr, Some, None};
+ghost use Rattle.std.specs.Prelude.{◌≡◌, ◌≤◌, ◌⊎◌, ◌+◌, length, pos, nat_abs, ok_or, IfOk, IfErr, Some, None};
+ghost use Rattle.fips204_base.specs.Sampling.{AreKept};
 ghost use Rattle.std.specs.List.{flat_map};
 ghost use Rattle.fips204_base.specs.SmallPolynomial.{kept_half_bytes, small_polynomial, small_vector};
 
 use crate::conversion::coeff_from_half_byte;
 use crate::fault::Fault;
+use crate::hashing::keep;
 use crate::types::{R, R0};
 use crate::xof::{Xof, XofReader};
 
-/// Puts a coefficient, if there is one, at place `kept` of `values`, if there is room, and answers how
-/// many there are then.
-fn keep(coefficient: Option<i32>, values: &mut [i32; 256], kept: usize) -> usize
-    requires room { kept ≤ 256 }
-    ensures count { result ≤ 256 }
-    ensures kept { take result values.new ≡ take 256 (take kept values.old ++ option_to_list coefficient) }
-{
-    match coefficient {
-        Some(coefficient) if kept < 256 => {
-            values[kept] = coefficient;
-            kept + 1
-        }
-        _ => kept,
-    }
-}
-
 /// Puts the coefficients that the half bytes of `piece` give into `values` from place `kept` on, as
 /// many as have room, and answers how many there are then.
-fn keep_half_bytes(eta: i32, piece: &[u8; 64], values: &mut [i32; 256], kept: usize) -> usize
+fn keep_half_bytes(eta: i32, piece: &[u8], values: &mut [i32; 256], kept: usize) -> usize
     requires eta { (eta ≡ pos 2) ⊎ (eta ≡ pos 4) }
     requires room { kept ≤ 256 }
     ensures count { result ≤ 256 }
-    ensures kept { take result values.new ≡ take 256 (take kept values.old ++ kept_half_bytes (nat_abs eta) piece.now 64) }
+    ensures kept { AreKept values.old kept (kept_half_bytes (nat_abs eta) piece.now (length piece.now)) values.new result }
 {
     let mut count = kept;
     for byte in piece {
@@ -43,22 +29,30 @@ fn keep_half_bytes(eta: i32, piece: &[u8; 64], values: &mut [i32; 256], kept: us
 }
 
 /// `RejBoundedPoly` (Algorithm 31): a polynomial with coefficients in `[-eta, eta]` from the joined
-/// `parts`. `eta` is 2 or 4. Refuses with `SamplingLimit` where the half bytes of the first 1024 bytes
-/// of the stream give fewer than 256 coefficients.
+/// `parts`. `eta` is 2 or 4. Refuses with `SamplingLimit` where rejection sampling reaches its limit:
+/// where the half bytes of the first quarter of the front give fewer than 256 coefficients.
 pub fn rej_bounded_poly<H: Xof>(eta: i32, parts: &[&[u8]]) -> Result<R, Fault>
     requires eta { (eta ≡ pos 2) ⊎ (eta ≡ pos 4) }
     ensures { result ≡ ok_or (small_polynomial (nat_abs eta) (H.front (flat_map (λ part. part.now) parts.now))) Fault.SamplingLimit }
 {
+    // ctx = H.Absorb(rho)
     let mut reader = H::open(parts);
     let mut values = [0i32; 256];
     let mut count = 0;
-    for _piece in 0..16usize {
-        let mut piece = [0u8; 64];
-        reader.read(&mut piece);
-        count = keep_half_bytes(eta, &piece, &mut values, count);
+    let limit = H::FRONT / 4;
+    let mut tried = 0;
+    while tried < limit {
+        // z = the next 64 bytes, or as many as are left; in place of H.Squeeze(ctx, 1)
+        let bytes = (limit - tried).min(64);
+        let mut room = [0u8; 64];
+        let piece = &mut room[..bytes];
+        reader.read(piece);
+        // a[j] = CoeffFromHalfByte(z mod 16, eta), then that of z / 16, each kept unless it is none
+        count = keep_half_bytes(eta, piece, &mut values, count);
         if count == 256 {
             return Ok(R(values));
         }
+        tried += bytes;
     }
     Err(Fault::SamplingLimit)
 }

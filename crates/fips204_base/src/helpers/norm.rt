@@ -1,11 +1,9 @@
 //! The norm of a vector.
 #![tactic(auto)]
 
-ghost use Rattle.std.specs.Prelude.{◌≡◌, ◌<◌, ◌≤◌, pos, nat_abs};
-ghost use Rattle.std.specs.List.{All};
-ghost use Rattle.fips204_base.specs.CentredValues.{centred};
-ghost use Rattle.fips204_base.specs.Polynomials.{Within};
-ghost use Rattle.fips204_base.specs.CentredValues.{norm, vector_norm};
+ghost use Rattle.std.specs.Prelude.{◌≡◌, ◌<◌, ◌≤◌, ℕ, pos, nat_abs};
+ghost use Rattle.fips204_base.specs.Polynomials.{coefficient_at, VectorWithin};
+ghost use Rattle.fips204_base.specs.CentredValues.{centred, norm, vector_norm};
 
 use crate::helpers::reduce::center_mod;
 use crate::types::R;
@@ -14,7 +12,7 @@ use crate::types::R;
 /// is centred modulo `q`. Coefficients are below `2^31 - 2^22` in absolute value.
 pub fn infinity_norm<const ROW: usize>(w: &[R; ROW]) -> i32
     requires rows { 1 ≤ ROW }
-    requires range { All (λ p. Within 2143289343 p.0) w.now }
+    requires range { VectorWithin ROW 2143289343 w.now }
     ensures { result ≡ pos (vector_norm w.now) }
 {
     let mut most = 0;
@@ -26,7 +24,7 @@ pub fn infinity_norm<const ROW: usize>(w: &[R; ROW]) -> i32
 
 /// The norm of a polynomial.
 fn norm(w: &R) -> i32
-    requires { Within 2143289343 w.now.0 }
+    requires { (n : ℕ) → n < 256 → nat_abs (coefficient_at w.now.0 n) ≤ 2143289343 }
     ensures { result ≡ pos (norm w.now.0) }
 {
     let mut most = 0;

@@ -1,11 +1,13 @@
 //! Reductions modulo `q`.
 #![tactic(auto)]
 
-ghost use Rattle.std.specs.Prelude.{◌≡◌, ◌<◌, ◌≤◌, ◌+◌, ◌*◌, ◌/◌, ℤ, pos, ◌+ℤ◌, ◌-ℤ◌, ◌*ℤ◌, ◌≤ℤ◌, nat_abs};
+ghost use Rattle.std.specs.Prelude.{◌≡◌, ◌<◌, ◌≤◌, ◌+◌, ◌*◌, ◌/◌, ◌%◌, ℤ, pos, ◌+ℤ◌, ◌-ℤ◌, ◌*ℤ◌, ◌≤ℤ◌, nat_abs};
 ghost use Rattle.std.specs.Int.{int_rem_euclid};
-ghost use Rattle.fips204_base.specs.Residues.{residue, Same};
+ghost use Rattle.fips204_base.specs.Residues.{residue, IsCongruent};
 ghost use Rattle.fips204_base.specs.CentredValues.{centred};
 ghost use Rattle.fips204_base.specs.Reductions.{IsMontgomery};
+
+use crate::Q;
 
 /// `MontgomeryReduce` (FIPS 204, Algorithm 49): `a` times the inverse of `2^32` modulo `q`, strictly
 /// between `-q` and `q`, for `a` from `-2^31 q` to `(2^31 - 1) q`.
@@ -13,11 +15,11 @@ pub fn mont_reduce(a: i64) -> i32
     requires low { (pos 0 -ℤ pos 17996808470921216) ≤ℤ a }
     requires high { a ≤ℤ pos 17996808462540799 }
     ensures value { IsMontgomery a result }
-    ensures congruent { Same (4294967296 * residue result) (residue a) }
+    ensures congruent { IsCongruent (4294967296 * residue result) (residue a) }
     ensures small { nat_abs result ≤ 8380416 }
 {
     let factor = signed_factor(low_word(a));
-    high_word(a - i64::from(factor) * 8380417)
+    high_word(a - wide_product(factor, Q))
 }
 
 /// The lowest 32 bits.
@@ -66,7 +68,7 @@ fn folded(a: i64) -> i64
     ensures congruent { residue result ≡ residue a }
     ensures small { nat_abs result ≤ nat_abs a / 1024 + 8396800 }
 {
-    a - (a >> 23) * 8380417
+    a - (a >> 23) * i64::from(Q)
 }
 
 /// A number congruent to `a` and below `q` in absolute value, for `a` below `2^31 - 2^22` in
@@ -76,7 +78,18 @@ pub fn partial_reduce32(a: i32) -> i32
     ensures congruent { residue result ≡ residue a }
     ensures small { nat_abs result ≤ 8380416 }
 {
-    a - ((a + 4194304) >> 23) * 8380417
+    a - ((a + (1 << 22)) >> 23) * Q
+}
+
+/// The difference modulo `q` of two numbers below `q` in absolute value, and again below `q` in absolute
+/// value.
+pub fn difference(x: i32, y: i32) -> i32
+    requires x { nat_abs x ≤ 8380416 }
+    requires y { nat_abs y ≤ 8380416 }
+    ensures value { residue result ≡ (residue x + 8380416 * residue y) % 8380417 }
+    ensures small { nat_abs result ≤ 8380416 }
+{
+    partial_reduce32(x - y)
 }
 
 /// `a` modulo `q`, from 0 to `q - 1`, for `a` below `2^31 - 2^22` in absolute value.
@@ -85,7 +98,7 @@ pub fn full_reduce32(a: i32) -> i32
     ensures { result ≡ pos (residue a) }
 {
     let near = partial_reduce32(a);
-    if near < 0 { near + 8380417 } else { near }
+    if near < 0 { near + Q } else { near }
 }
 
 /// `m` modulo `q`, from `-(q - 1) / 2` to `(q - 1) / 2`, for `m` below `2^31 - 2^22` in absolute
@@ -97,9 +110,5 @@ pub fn center_mod(m: i32) -> i32
     ensures small { nat_abs result ≤ 4190208 }
 {
     let full = full_reduce32(m);
-    if full <= 4190208 {
-        full
-    } else {
-        full - 8380417
-    }
+    if full <= (Q - 1) / 2 { full } else { full - Q }
 }

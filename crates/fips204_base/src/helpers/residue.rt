@@ -2,10 +2,11 @@
 #![tactic(auto)]
 
 ghost use Rattle.std.specs.Prelude.{◌≡◌, ℕ, ◌<◌, ◌≤◌, ◌+◌, ◌*◌, ◌%◌, ◌^◌, List, ℤ, pos, ◌+ℤ◌, ◌-ℤ◌, nat_abs};
-ghost use Rattle.fips204_base.specs.Residues.{residue, Same};
+ghost use Rattle.fips204_base.specs.Residues.{residue, IsCongruent};
 ghost use Rattle.fips204_base.specs.Transforms.{zeta_at};
-ghost use Rattle.fips204_base.specs.Lanes.{lane};
+ghost use Rattle.fips204_base.specs.Lanes.{lane, EachLane};
 
+use crate::Q;
 use crate::helpers::count::Count;
 use crate::helpers::reduce::{mont_reduce, partial_reduce32, wide_product};
 use crate::helpers::zeta_table::zeta_mont;
@@ -46,7 +47,7 @@ pub trait Residue: Copy {
     fn mul_zeta(self, m: usize, meter: &mut Self::Meter) -> Self
         requires room { products meter.old + 1 < 2 ^ 64 }
         requires place { m < 256 }
-        ensures value { (j : ℕ) → j < width → Same (residue (lane (lanes result) j)) (zeta_at m * residue (lane (lanes self) j)) }
+        ensures value { EachLane (λ x y. IsCongruent (residue y) (zeta_at m * residue x)) width (lanes self) (lanes result) }
         ensures small { (j : ℕ) → j < width → nat_abs (lane (lanes result) j) ≤ 8380416 }
         ensures products_up { products meter.new ≡ products meter.old + 1 }
         ensures sums_same { sums meter.new ≡ sums meter.old };
@@ -56,7 +57,7 @@ pub trait Residue: Copy {
     fn mul_neg_zeta(self, m: usize, meter: &mut Self::Meter) -> Self
         requires room { products meter.old + 1 < 2 ^ 64 }
         requires place { m < 256 }
-        ensures value { (j : ℕ) → j < width → Same (residue (lane (lanes result) j)) (8380416 * (zeta_at m * residue (lane (lanes self) j))) }
+        ensures value { EachLane (λ x y. IsCongruent (residue y) (8380416 * (zeta_at m * residue x))) width (lanes self) (lanes result) }
         ensures small { (j : ℕ) → j < width → nat_abs (lane (lanes result) j) ≤ 8380416 }
         ensures products_up { products meter.new ≡ products meter.old + 1 }
         ensures sums_same { sums meter.new ≡ sums meter.old };
@@ -65,12 +66,12 @@ pub trait Residue: Copy {
     /// value.
     fn reduce(self) -> Self
         requires range { (j : ℕ) → j < width → nat_abs (lane (lanes self) j) < 2143289344 }
-        ensures value { (j : ℕ) → j < width → residue (lane (lanes result) j) ≡ residue (lane (lanes self) j) }
+        ensures value { EachLane (λ x y. residue y ≡ residue x) width (lanes self) (lanes result) }
         ensures small { (j : ℕ) → j < width → nat_abs (lane (lanes result) j) ≤ 8380416 };
 
     /// The product with 8347681, the inverse of 256, modulo `q`, from 0 to `q - 1`.
     fn finish(self) -> Self
-        ensures { (j : ℕ) → j < width → lane (lanes result) j ≡ pos (8347681 * residue (lane (lanes self) j) % 8380417) };
+        ensures { EachLane (λ x y. y ≡ pos (8347681 * residue x % 8380417)) width (lanes self) (lanes result) };
 }
 
 impl Residue for i32 {
@@ -113,14 +114,14 @@ impl Residue for i32 {
     fn finish(self) -> i32 {
         // 8347681 * 2^32 is 16382 modulo q
         let near = mont_product(self, 16382);
-        if near < 0 { near + 8380417 } else { near }
+        if near < 0 { near + Q } else { near }
     }
 }
 
 /// The product times the inverse of `2^32` modulo `q`, below `q` in absolute value.
 fn mont_product(x: i32, factor: i32) -> i32
     requires { nat_abs factor ≤ 8380416 }
-    ensures congruent { Same (4294967296 * residue result) (residue x * residue factor) }
+    ensures congruent { IsCongruent (4294967296 * residue result) (residue x * residue factor) }
     ensures small { nat_abs result ≤ 8380416 }
 {
     mont_reduce(wide_product(x, factor))

@@ -3,18 +3,13 @@
 
 ghost use Rattle.std.specs.Prelude.{◌≡◌, ◌≤◌, ◌<◌, ◌*◌, ◌++◌, ℕ, List, length, min, take, drop};
 ghost use Rattle.std.specs.List.{flat_map};
-ghost use Rattle.fips204_base.specs.Streams.{counter_block, counter_blocks, front_length};
+ghost use Rattle.fips204_base.specs.Streams.{counter_block, counter_blocks};
 
 use sha2::Digest;
 use std::marker::{Model, PhantomData};
 
-/// A stream in counter mode: a hash with digests of `N` bytes, and how many of its blocks make a
-/// front.
+/// A hash with digests of `N` bytes, for streams in counter mode.
 pub(crate) trait BlockHash<const N: usize> {
-    const BLOCKS: u32;
-
-    ghost BLOCKS: { ℕ };
-
     ghost hash: { List ℕ → List ℕ };
 
     /// The digest of the joined parts.
@@ -22,16 +17,15 @@ pub(crate) trait BlockHash<const N: usize> {
         ensures { result ≡ hash (flat_map (λ part. part.now) parts.now) };
 
     ghost digest_size: { (message : List ℕ) → length (hash message) ≡ N };
-
-    ghost blocks_fill_front: { BLOCKS * N ≡ front_length };
 }
 
-/// A reader of the blocks over `seed`. It holds one block, and makes the next one when a byte of it
+/// A reader of the first `blocks` blocks over `seed`. It holds one block, and makes the next one when a byte of it
 /// is asked for.
 #[derive(Drop)]
 pub(crate) struct BlockReader<H: BlockHash<N>, const N: usize> {
     hash: PhantomData<H>,
     seed: [u8; N],
+    blocks: u32,
     /// The number of the next block.
     next: u32,
     block: [u8; N],
@@ -45,9 +39,9 @@ impl<H: BlockHash<N>, const N: usize> Model for BlockReader<H, N> {
 
     ghost Value = { List ℕ };
 
-    ghost view = { λ r. drop r.given r.block ++ drop (r.next * N) (counter_blocks H.hash r.seed H.BLOCKS) };
+    ghost view = { λ r. drop r.given r.block ++ drop (r.next * N) (counter_blocks H.hash r.seed r.blocks) };
 
-    ghost invariant = { λ r. (r.given ≤ N) × (r.next ≤ H.BLOCKS) };
+    ghost invariant = { λ r. (r.given ≤ N) × (r.next ≤ r.blocks) × (r.blocks * N ≤ 1048576) };
 }
 
 /// The digest of the joined parts.
@@ -79,13 +73,15 @@ fn copy_run(source: &[u8], out: &mut [u8]) -> usize
 }
 
 impl<H: BlockHash<N>, const N: usize> BlockReader<H, N> {
-    /// A reader of all blocks over `seed`.
-    pub(crate) fn new(seed: [u8; N]) -> BlockReader<H, N>
-        ensures { result ≡ counter_blocks H.hash seed.entry H.BLOCKS }
+    /// A reader of the first `blocks` blocks over `seed`.
+    pub(crate) fn new(seed: [u8; N], blocks: u32) -> BlockReader<H, N>
+        requires { blocks * N ≤ 1048576 }
+        ensures { result ≡ counter_blocks H.hash seed.entry blocks }
     {
         BlockReader {
             hash: PhantomData,
             seed,
+            blocks,
             next: 0,
             block: [0; N],
             given: N,
@@ -96,7 +92,7 @@ impl<H: BlockHash<N>, const N: usize> BlockReader<H, N> {
     pub(crate) fn left(&self) -> usize
         ensures { result ≡ length self.now }
     {
-        N - self.given + (H::BLOCKS - self.next) as usize * N
+        N - self.given + (self.blocks - self.next) as usize * N
     }
 
     /// Fills `out` with the next bytes, and drops them from what is still to come.

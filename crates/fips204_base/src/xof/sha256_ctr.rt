@@ -5,8 +5,8 @@ ghost use Rattle.std.specs.Prelude.{List, ℕ};
 ghost use Rattle.sha2.specs.Sha256.{sha256};
 ghost use Rattle.sha2.proofs.Facts256.{length-sha256};
 ghost use Rattle.std.proofs.Common.{rules};
-ghost use Rattle.fips204_base.specs.Blocks.{length-sha256_front};
-ghost use Rattle.fips204_base.specs.Streams.{sha256_front};
+ghost use Rattle.fips204_base.specs.Blocks.{length-sha256_front, length-sha256_long_front};
+ghost use Rattle.fips204_base.specs.Streams.{sha256_front, sha256_long_front};
 
 use crate::xof::counter::{BlockHash, BlockReader, digest_of_parts};
 use crate::xof::{Xof, XofReader};
@@ -17,26 +17,23 @@ use std::marker::Model;
 /// digest followed by `i` as four bytes, the lowest first.
 pub struct Sha256Ctr;
 
-impl BlockHash<32> for Sha256Ctr {
-    const BLOCKS: u32 = 128;
+/// SHA-256, as both streams use it.
+struct Sha256Blocks;
 
-    ghost BLOCKS = { 128 };
-
+impl BlockHash<32> for Sha256Blocks {
     ghost hash = { sha256 };
 
     ghost digest_size = { length-sha256 };
-
-    ghost blocks_fill_front = { Prim.search rules };
 
     fn digest(parts: &[&[u8]]) -> [u8; 32] {
         digest_of_parts::<Sha256>(parts)
     }
 }
 
-/// A reader of `Sha256Ctr`. It makes a block when a byte of it is asked for, and holds one.
+/// A reader of `Sha256Ctr` or `Sha256CtrLong`. It makes a block when a byte of it is asked for, and holds one.
 #[derive(Drop)]
 pub struct Sha256CtrReader {
-    blocks: BlockReader<Sha256Ctr, 32>,
+    blocks: BlockReader<Sha256Blocks, 32>,
 }
 
 impl Model for Sha256CtrReader {
@@ -60,13 +57,46 @@ impl XofReader for Sha256CtrReader {
 impl Xof for Sha256Ctr {
     type Reader = Sha256CtrReader;
 
+    const FRONT: usize = 4096;
+
+    ghost FRONT = { 4096 };
+
     ghost front = { sha256_front };
 
     ghost front_size = { length-sha256_front };
 
+    ghost front_least = { Prim.search rules };
+
+    ghost front_most = { Prim.search rules };
+
     fn open(parts: &[&[u8]]) -> Sha256CtrReader {
         Sha256CtrReader {
-            blocks: BlockReader::new(Sha256Ctr::digest(parts)),
+            blocks: BlockReader::new(Sha256Blocks::digest(parts), 128),
+        }
+    }
+}
+
+/// The stream with the blocks of `Sha256Ctr`, 512 of them: its front has 16384 bytes.
+pub struct Sha256CtrLong;
+
+impl Xof for Sha256CtrLong {
+    type Reader = Sha256CtrReader;
+
+    const FRONT: usize = 16384;
+
+    ghost FRONT = { 16384 };
+
+    ghost front = { sha256_long_front };
+
+    ghost front_size = { length-sha256_long_front };
+
+    ghost front_least = { Prim.search rules };
+
+    ghost front_most = { Prim.search rules };
+
+    fn open(parts: &[&[u8]]) -> Sha256CtrReader {
+        Sha256CtrReader {
+            blocks: BlockReader::new(Sha256Blocks::digest(parts), 512),
         }
     }
 }

@@ -5,8 +5,8 @@ ghost use Rattle.std.specs.Prelude.{List, ℕ};
 ghost use Rattle.sha2.specs.Sha512.{sha512};
 ghost use Rattle.sha2.proofs.Facts512.{length-sha512};
 ghost use Rattle.std.proofs.Common.{rules};
-ghost use Rattle.fips204_base.specs.Blocks.{length-sha512_front};
-ghost use Rattle.fips204_base.specs.Streams.{sha512_front};
+ghost use Rattle.fips204_base.specs.Blocks.{length-sha512_front, length-sha512_long_front};
+ghost use Rattle.fips204_base.specs.Streams.{sha512_front, sha512_long_front};
 
 use crate::xof::counter::{BlockHash, BlockReader, digest_of_parts};
 use crate::xof::{Xof, XofReader};
@@ -17,26 +17,23 @@ use std::marker::Model;
 /// digest followed by `i` as four bytes, the lowest first.
 pub struct Sha512Ctr;
 
-impl BlockHash<64> for Sha512Ctr {
-    const BLOCKS: u32 = 64;
+/// SHA-512, as both streams use it.
+struct Sha512Blocks;
 
-    ghost BLOCKS = { 64 };
-
+impl BlockHash<64> for Sha512Blocks {
     ghost hash = { sha512 };
 
     ghost digest_size = { length-sha512 };
-
-    ghost blocks_fill_front = { Prim.search rules };
 
     fn digest(parts: &[&[u8]]) -> [u8; 64] {
         digest_of_parts::<Sha512>(parts)
     }
 }
 
-/// A reader of `Sha512Ctr`. It makes a block when a byte of it is asked for, and holds one.
+/// A reader of `Sha512Ctr` or `Sha512CtrLong`. It makes a block when a byte of it is asked for, and holds one.
 #[derive(Drop)]
 pub struct Sha512CtrReader {
-    blocks: BlockReader<Sha512Ctr, 64>,
+    blocks: BlockReader<Sha512Blocks, 64>,
 }
 
 impl Model for Sha512CtrReader {
@@ -60,13 +57,46 @@ impl XofReader for Sha512CtrReader {
 impl Xof for Sha512Ctr {
     type Reader = Sha512CtrReader;
 
+    const FRONT: usize = 4096;
+
+    ghost FRONT = { 4096 };
+
     ghost front = { sha512_front };
 
     ghost front_size = { length-sha512_front };
 
+    ghost front_least = { Prim.search rules };
+
+    ghost front_most = { Prim.search rules };
+
     fn open(parts: &[&[u8]]) -> Sha512CtrReader {
         Sha512CtrReader {
-            blocks: BlockReader::new(Sha512Ctr::digest(parts)),
+            blocks: BlockReader::new(Sha512Blocks::digest(parts), 64),
+        }
+    }
+}
+
+/// The stream with the blocks of `Sha512Ctr`, 256 of them: its front has 16384 bytes.
+pub struct Sha512CtrLong;
+
+impl Xof for Sha512CtrLong {
+    type Reader = Sha512CtrReader;
+
+    const FRONT: usize = 16384;
+
+    ghost FRONT = { 16384 };
+
+    ghost front = { sha512_long_front };
+
+    ghost front_size = { length-sha512_long_front };
+
+    ghost front_least = { Prim.search rules };
+
+    ghost front_most = { Prim.search rules };
+
+    fn open(parts: &[&[u8]]) -> Sha512CtrReader {
+        Sha512CtrReader {
+            blocks: BlockReader::new(Sha512Blocks::digest(parts), 256),
         }
     }
 }

@@ -1,4 +1,4 @@
-use Rattle.fips204.proofs.SmallProducts.{challenge_product_is_small}
+use Rattle.fips204.proofs.ChallengeProducts.{challenge_product_is_small}
 use Rattle.fips204.proofs.laws.challenge_product_bound.Goals as goal
 
 pub returns : goal.returns

@@ -1,4 +1,4 @@
-use Rattle.fips204.proofs.Inputs.{framing_is_one_to_one}
+use Rattle.fips204.proofs.Framing.{framing_is_one_to_one}
 use Rattle.fips204.proofs.laws.framing.Goals as goal
 
 pub returns : goal.returns

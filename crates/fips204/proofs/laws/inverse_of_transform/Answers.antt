@@ -1,4 +1,4 @@
-use Rattle.fips204_base.proofs.Laws.{inverse_of_transform_listed}
+use Rattle.fips204_base.proofs.Products.{inverse_of_transform_listed}
 use Rattle.fips204.proofs.laws.inverse_of_transform.Goals as goal
 
 pub returns : goal.returns

@@ -1,7 +1,7 @@
 use Rattle.std.proofs.Common.{◌≡◌, ℕ, ◌<◌, ◌+◌, ◌*◌, length}
 use Rattle.fips204_base.specs.Lanes.{lane_at}
 use Rattle.fips204_base.specs.Network.{IsButterfly}
-use Rattle.fips204_base.proofs.Blocks.{Part}
+use Rattle.fips204_base.proofs.Layers.{Part}
 use Rattle.fips204_base.proofs.ntt.block.Given as goal
 
 abbrev pub invariant-loop-k : goal.invariant-loop-k

@@ -2,7 +2,7 @@ use Rattle.std.proofs.Common.{◌≡◌, ℕ, ◌<◌, [], pos, get_or, length-s
 use Rattle.std.proofs.lemmas.List.{get_or_default}
 use Rattle.fips204_base.specs.Transforms.{inverse_transform}
 use Rattle.fips204_base.specs.Lanes.{lane_at, residues}
-use Rattle.fips204_base.proofs.Rows.{row_written, rows_ahead}
+use Rattle.fips204_base.proofs.Vectors.{row_written, rows_ahead}
 use Rattle.fips204_base.proofs.ntt.inv_ntt.Goals as goal
 
 pub inv_ntt_row-requires : goal.inv_ntt_row-requires

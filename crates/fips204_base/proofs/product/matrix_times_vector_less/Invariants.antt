@@ -1,5 +1,6 @@
-use Rattle.std.proofs.Common.{ℕ, ◌≡◌, ◌<◌, get_or, pos, length}
-use Rattle.fips204_base.specs.declared.types.TheConstants.{R0}
+use Rattle.std.proofs.Common.{ℕ, ◌≡◌, ◌<◌, ◌≤◌, pos, length}
+use Rattle.std.specs.Prelude.{nat_abs}
+use Rattle.fips204_base.specs.Polynomials.{entry}
 use Rattle.fips204_base.specs.Residues.{coefficients}
 use Rattle.fips204_base.specs.Products.{product, minus, row_product}
 use Rattle.fips204_base.specs.Vectors.{vector_coefficients, plain_matrix}
@@ -8,6 +9,7 @@ use Rattle.fips204_base.proofs.product.matrix_times_vector_less.Given as goal
 abbrev pub invariant-loop-i : goal.invariant-loop-i
 invariant-loop-i g l = record {
   size : length l.out ≡ g.row.K;
-  values : (r n : ℕ) → r < l.i → n < 256 → get_or (get_or l.out r R0).0 n (pos 0)
+  values : (r n : ℕ) → r < l.i → n < 256 → entry l.out r n
       ≡ pos (minus (row_product g.row.L (plain_matrix l.a_hat r) (vector_coefficients l.z)) (product (coefficients l.c.0) (vector_coefficients l.t r)) n);
+  small : (r n : ℕ) → r < l.i → n < 256 → nat_abs (entry l.out r n) ≤ 8380416;
 }

@@ -2,7 +2,7 @@ use Rattle.std.proofs.Common.{arith, ap, ◌≡◌, ◌*◌, ◌*ℤ◌, ◌%◌
 use Rattle.std.specs.Int.{w32, w64}
 use Rattle.std.proofs.lemmas.Int.{to_z-of_z}
 use Rattle.fips204_base.specs.Residues.{residue}
-use Rattle.fips204_base.proofs.Integers.{residue_mul, residue_below}
+use Rattle.fips204_base.proofs.Residues.{residue_mul, residue_below}
 use Rattle.fips204_base.proofs.product.value_product.Goals as goal
 
 pub returns-clause-value : goal.returns-clause-value

@@ -5,4 +5,4 @@ use Rattle.mldsa_bench.proofs.streams.front_of.Goals as goal
 pub returns : goal.returns
 returns g c =
     let kept = c.loop-place.invariant in
-    fill_by_all g.P.Pattern.byte c.loop-place.front 4096 0 kept.size (λ k below. kept.bytes k (search (rules, arith)))
+    fill_by_all g.P.Pattern.byte c.loop-place.front g.row.N 0 kept.size (λ k below. kept.bytes k (search (rules, arith)))

@@ -3,6 +3,6 @@ use Rattle.mldsa_bench.proofs.streams.front_of.Given as goal
 
 abbrev pub invariant-loop-place : goal.invariant-loop-place
 invariant-loop-place g l = record {
-  size : length l.front ≡ 4096;
+  size : length l.front ≡ g.row.N;
   bytes : (k : ℕ) → k < l.place → get_or l.front k 0 ≡ g.P.Pattern.byte k;
 }

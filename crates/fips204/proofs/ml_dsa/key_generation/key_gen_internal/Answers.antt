@@ -1,17 +1,16 @@
-use Rattle.std.proofs.Common.{rules, ◌≡◌, ◌∙◌, ◌+◌, ◌*◌, inl, inr, w32, ap, sym, refl, length, arith, Some, None, Err}
+use Rattle.std.proofs.Common.{rules, ◌≡◌, ◌∙◌, ◌+◌, ◌*◌, inl, inr, w32, ap, sym, refl, Some, None, Err}
 use Rattle.std.proofs.lemmas.Int.{to_z-of_z}
 use Rattle.fips204_base.specs.declared.fault.Fault.TheVariants.{SamplingLimit}
 use Rattle.fips204_base.specs.MatrixEntry.{sampled_matrix}
 use Rattle.fips204_base.specs.SmallPolynomial.{small_vector}
 use Rattle.fips204_base.specs.Vectors.{IsVector}
-use Rattle.fips204_base.proofs.Present.{some_of_ok, none_of_err}
+use Rattle.fips204_base.proofs.Sampled.{some_of_ok, none_of_err}
+use Rattle.fips204_base.proofs.Vectors.{vector-within}
 use Rattle.fips204.specs.KeyGeneration.{high_part, low_part}
 use Rattle.fips204.specs.Sets.{set_of}
-use Rattle.fips204.proofs.RowLengths.{whole_rows}
-use Rattle.fips204.proofs.Sampled.{matrix-within}
-use Rattle.fips204.proofs.KeyNumbers.{eta_is, small_vector-parts, matrix-shape, eta_of_rows-small}
-use Rattle.fips204.proofs.KeyPairs.{AreSampled, AreSeeds, generated-none, generated-some}
-use Rattle.fips204.proofs.KeyVectors.{vector_within, key_vector-values, high_part-is, high_part-range, low_part-is, low_part-range}
+use Rattle.fips204.proofs.Ranges.{matrix-within}
+use Rattle.fips204.proofs.ParameterSets.{limits, small_vector-parts, matrix-shape, eta_of_rows-small}
+use Rattle.fips204.proofs.KeyGeneration.{AreSampled, AreSeeds, generated-none, generated-some, key_vector-is, high_part-is, high_part-range, low_part-is, low_part-range}
 use Rattle.fips204.proofs.ml_dsa.key_generation.key_gen_internal.Given.{Over}
 use Rattle.fips204.proofs.ml_dsa.key_generation.key_gen_internal.Goals.{After-key_seeds, After-power2round-t1}
 use Rattle.fips204.proofs.ml_dsa.key_generation.key_gen_internal.Goals as goal
@@ -22,7 +21,7 @@ seeds-here g c = record { matrix = c.key_seeds.ensures.matrix; vectors = c.key_s
 pub expand_a-requires : goal.expand_a-requires
 expand_a-requires g c =
     let p = c.args.p.now in
-    let shape = matrix-shape p.tau p.lambda p.gamma1 p.gamma2 p.k p.l p.eta p.beta p.omega g.row.K g.row.L (search rules) c.requires.rows c.requires.columns in
+    let shape = matrix-shape p g.row.K g.row.L (search rules) c.requires.rows c.requires.columns in
     (shape.0, (search rules, shape.1))
 
 pub returns-in_err-a_hat : goal.returns-in_err-a_hat
@@ -40,8 +39,8 @@ pub expand_s-requires : goal.expand_s-requires
 expand_s-requires g c =
     let p = c.args.p.now in
     let E = to_z-of_z w32 p.eta (search rules) in
-    let set = eta_is p.tau p.lambda p.gamma1 p.gamma2 p.k p.l p.eta p.beta p.omega (search rules) in
-    let shape = matrix-shape p.tau p.lambda p.gamma1 p.gamma2 p.k p.l p.eta p.beta p.omega g.row.K g.row.L (search rules) c.requires.rows c.requires.columns in
+    let set = (limits p (search rules)).eta in
+    let shape = matrix-shape p g.row.K g.row.L (search rules) c.requires.rows c.requires.columns in
     rw E (search rules, (search rules, (set, shape.1)))
 
 pub returns-in_err-s1 : goal.returns-in_err-s1
@@ -64,31 +63,23 @@ key_vector-requires g c =
     let E = to_z-of_z w32 p.eta (search rules) in
     let s1 = c.in_ok-s1.ensures.s1 in
     let s2 = c.in_ok-s1.ensures.s2 in
-    let first = small_vector-parts p.tau p.lambda p.gamma1 p.gamma2 p.k p.l p.eta p.beta p.omega _ _ g.row.K _ _ c.in_ok-s1.s1 (search rules) c.requires.rows (rw E at s1) in
-    let second = small_vector-parts p.tau p.lambda p.gamma1 p.gamma2 p.k p.l p.eta p.beta p.omega _ _ g.row.K _ _ c.in_ok-s1.s2 (search rules) c.requires.rows (rw E at s2) in
-    let shape = matrix-shape p.tau p.lambda p.gamma1 p.gamma2 p.k p.l p.eta p.beta p.omega g.row.K g.row.L (search rules) c.requires.rows c.requires.columns in
+    let first = small_vector-parts p _ _ g.row.K _ _ c.in_ok-s1.s1 (search rules) c.requires.rows (rw E at s1) in
+    let second = small_vector-parts p _ _ g.row.K _ _ c.in_ok-s1.s2 (search rules) c.requires.rows (rw E at s2) in
+    let shape = matrix-shape p g.row.K g.row.L (search rules) c.requires.rows c.requires.columns in
     let there = some_of_ok (sampled_matrix g.G.Xof.front c.key_seeds.result.0 g.row.K g.row.L) c.in_ok-a_hat.a_hat c.in_ok-a_hat.ensures in
     let eta = eta_of_rows-small g.row.K in
-    (shape.0, (search rules, (search rules, (search rules, (shape.1.1, (matrix-within _ _ _ _ _ there, (vector_within _ _ _ _ eta first, vector_within _ _ _ _ eta second)))))))
+    (shape.0, (search rules, (search rules, (search rules, (shape.1.1, (matrix-within _ _ _ _ _ there, (vector-within _ _ _ _ _ eta eta first, vector-within _ _ _ _ _ eta eta second)))))))
 
 -- the parts of the vector
 high_part-here : (g : Over) (c : After-power2round-t1 g) → c.power2round-t1.result.0 ≡ high_part (set_of c.args.p.now) c.in_ok-a_hat.a_hat c.in_ok-s1.s1 c.in_ok-s1.s2
 high_part-here g c =
-    let parts = c.power2round-t1.result in
-    let typed = c.power2round-t1.type_inv in
-    let size : length parts.0 ≡ g.row.K = search rules in
-    high_part-is (set_of c.args.p.now) c.in_ok-a_hat.a_hat c.in_ok-s1.s1 c.in_ok-s1.s2 c.key_vector.result parts.0 (size ∙ c.requires.rows) (whole_rows g.row.K parts.0 (typed.1.0.0, typed.1.1.1.0))
-    (key_vector-values (set_of c.args.p.now) c.in_ok-a_hat.a_hat c.in_ok-s1.s1 c.in_ok-s1.s2 c.key_vector.result g.row.K g.row.L c.requires.rows c.requires.columns c.key_vector.ensures.values)
-    (λ r n h q. c.power2round-t1.ensures.high r n (omega (arith, h, c.requires.rows)) q)
+    high_part-is (set_of c.args.p.now) c.in_ok-a_hat.a_hat c.in_ok-s1.s1 c.in_ok-s1.s2 c.key_vector.result c.power2round-t1.result.0 g.row.K c.requires.rows
+    (key_vector-is (set_of c.args.p.now) c.in_ok-a_hat.a_hat c.in_ok-s1.s1 c.in_ok-s1.s2 c.key_vector.result g.row.K g.row.L c.requires.rows c.requires.columns c.key_vector.ensures.values) c.power2round-t1.ensures.high
 
 low_part-here : (g : Over) (c : After-power2round-t1 g) → c.power2round-t1.result.1 ≡ low_part (set_of c.args.p.now) c.in_ok-a_hat.a_hat c.in_ok-s1.s1 c.in_ok-s1.s2
 low_part-here g c =
-    let parts = c.power2round-t1.result in
-    let typed = c.power2round-t1.type_inv in
-    let size : length parts.1 ≡ g.row.K = search rules in
-    low_part-is (set_of c.args.p.now) c.in_ok-a_hat.a_hat c.in_ok-s1.s1 c.in_ok-s1.s2 c.key_vector.result parts.1 (size ∙ c.requires.rows) (whole_rows g.row.K parts.1 (typed.1.0.1.0, typed.1.1.1.1.0))
-    (key_vector-values (set_of c.args.p.now) c.in_ok-a_hat.a_hat c.in_ok-s1.s1 c.in_ok-s1.s2 c.key_vector.result g.row.K g.row.L c.requires.rows c.requires.columns c.key_vector.ensures.values)
-    (λ r n h q. c.power2round-t1.ensures.low r n (omega (arith, h, c.requires.rows)) q)
+    low_part-is (set_of c.args.p.now) c.in_ok-a_hat.a_hat c.in_ok-s1.s1 c.in_ok-s1.s2 c.key_vector.result c.power2round-t1.result.1 g.row.K c.requires.rows
+    (key_vector-is (set_of c.args.p.now) c.in_ok-a_hat.a_hat c.in_ok-s1.s1 c.in_ok-s1.s2 c.key_vector.result g.row.K g.row.L c.requires.rows c.requires.columns c.key_vector.ensures.values) c.power2round-t1.ensures.low
 
 high_part-vector : (g : Over) (c : After-power2round-t1 g) → IsVector g.row.K 0 1023 c.power2round-t1.result.0
 high_part-vector g c = rw (high_part-here g c, c.requires.rows) (high_part-range (set_of c.args.p.now) c.in_ok-a_hat.a_hat c.in_ok-s1.s1 c.in_ok-s1.s2)
@@ -111,8 +102,8 @@ invariant_of-private g c =
       seed = search rules;
       private_seed = search rules;
       hash = search rules;
-      first = small_vector-parts p.tau p.lambda p.gamma1 p.gamma2 p.k p.l p.eta p.beta p.omega _ _ g.row.K _ _ c.in_ok-s1.s1 (search rules) c.requires.rows (rw E at s1);
-      second = small_vector-parts p.tau p.lambda p.gamma1 p.gamma2 p.k p.l p.eta p.beta p.omega _ _ g.row.K _ _ c.in_ok-s1.s2 (search rules) c.requires.rows (rw E at s2);
+      first = small_vector-parts p _ _ g.row.K _ _ c.in_ok-s1.s1 (search rules) c.requires.rows (rw E at s1);
+      second = small_vector-parts p _ _ g.row.K _ _ c.in_ok-s1.s2 (search rules) c.requires.rows (rw E at s2);
       low = rw (low_part-here g (goal.at.invariant_of-private g c).After-power2round-t1, c.requires.rows) (low_part-range (set_of p) c.in_ok-a_hat.a_hat c.in_ok-s1.s1 c.in_ok-s1.s2);
     }
 

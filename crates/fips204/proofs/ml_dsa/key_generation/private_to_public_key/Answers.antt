@@ -1,16 +1,15 @@
-use Rattle.std.proofs.Common.{rules, ◌≡◌, ◌∙◌, sym, subst, length, arith, Ok, Err}
+use Rattle.std.proofs.Common.{rules, ◌≡◌, ◌∙◌, sym, subst, Ok, Err}
 use Rattle.fips204_base.specs.declared.fault.Fault.TheVariants.{SamplingLimit}
 use Rattle.fips204_base.specs.MatrixEntry.{sampled_matrix}
-use Rattle.fips204_base.proofs.Present.{some_of_ok, none_of_err}
+use Rattle.fips204_base.proofs.Sampled.{some_of_ok, none_of_err}
+use Rattle.fips204_base.proofs.Vectors.{vector-within}
 use Rattle.fips204.specs.KeyGeneration.{high_part}
 use Rattle.fips204.specs.Keys.{PublicParts, PrivateParts}
 use Rattle.fips204.specs.Refusals.{derived}
 use Rattle.fips204.specs.Sets.{set_of}
-use Rattle.fips204.proofs.RowLengths.{whole_rows}
-use Rattle.fips204.proofs.Sampled.{matrix-within}
-use Rattle.fips204.proofs.KeyNumbers.{matrix-shape, eta_of_rows-small}
-use Rattle.fips204.proofs.KeyPairs.{derived-none, derived-some}
-use Rattle.fips204.proofs.KeyVectors.{vector_within, key_vector-values, high_part-is, high_part-range}
+use Rattle.fips204.proofs.Ranges.{matrix-within}
+use Rattle.fips204.proofs.ParameterSets.{matrix-shape, eta_of_rows-small}
+use Rattle.fips204.proofs.KeyGeneration.{derived-none, derived-some, key_vector-is, high_part-is, high_part-range}
 use Rattle.fips204.proofs.ml_dsa.key_generation.private_to_public_key.Given.{Over}
 use Rattle.fips204.proofs.ml_dsa.key_generation.private_to_public_key.Goals.{After-power2round-t1}
 use Rattle.fips204.proofs.ml_dsa.key_generation.private_to_public_key.Goals as goal
@@ -18,7 +17,7 @@ use Rattle.fips204.proofs.ml_dsa.key_generation.private_to_public_key.Goals as g
 pub expand_a-requires : goal.expand_a-requires
 expand_a-requires g c =
     let p = c.args.p.now in
-    let shape = matrix-shape p.tau p.lambda p.gamma1 p.gamma2 p.k p.l p.eta p.beta p.omega g.row.K g.row.L (search rules) c.requires.rows c.requires.columns in
+    let shape = matrix-shape p g.row.K g.row.L (search rules) c.requires.rows c.requires.columns in
     (shape.0, (search rules, shape.1))
 
 pub returns-in_err-a_hat : goal.returns-in_err-a_hat
@@ -31,20 +30,16 @@ returns-in_err-a_hat g c =
 pub key_vector-requires : goal.key_vector-requires
 key_vector-requires g c =
     let p = c.args.p.now in
-    let shape = matrix-shape p.tau p.lambda p.gamma1 p.gamma2 p.k p.l p.eta p.beta p.omega g.row.K g.row.L (search rules) c.requires.rows c.requires.columns in
+    let shape = matrix-shape p g.row.K g.row.L (search rules) c.requires.rows c.requires.columns in
     let there = some_of_ok (sampled_matrix g.G.Xof.front c.sk.inside.rho g.row.K g.row.L) c.in_ok-a_hat.a_hat c.in_ok-a_hat.ensures in
     let eta = eta_of_rows-small g.row.K in
-    (shape.0, (search rules, (search rules, (search rules, (shape.1.1, (matrix-within _ _ _ _ _ there, (vector_within _ _ _ _ eta c.sk.invariant.first, vector_within _ _ _ _ eta c.sk.invariant.second)))))))
+    (shape.0, (search rules, (search rules, (search rules, (shape.1.1, (matrix-within _ _ _ _ _ there, (vector-within _ _ _ _ _ eta eta c.sk.invariant.first, vector-within _ _ _ _ _ eta eta c.sk.invariant.second)))))))
 
 -- the high part of the vector
 high_part-here : (g : Over) (c : After-power2round-t1 g) → c.power2round-t1.result.0 ≡ high_part (set_of c.args.p.now) c.in_ok-a_hat.a_hat c.sk.inside.s1 c.sk.inside.s2
 high_part-here g c =
-    let parts = c.power2round-t1.result in
-    let typed = c.power2round-t1.type_inv in
-    let size : length parts.0 ≡ g.row.K = search rules in
-    high_part-is (set_of c.args.p.now) c.in_ok-a_hat.a_hat c.sk.inside.s1 c.sk.inside.s2 c.key_vector.result parts.0 (size ∙ c.requires.rows) (whole_rows g.row.K parts.0 (typed.1.0.0, typed.1.1.1.0))
-    (key_vector-values (set_of c.args.p.now) c.in_ok-a_hat.a_hat c.sk.inside.s1 c.sk.inside.s2 c.key_vector.result g.row.K g.row.L c.requires.rows c.requires.columns c.key_vector.ensures.values)
-    (λ r n h q. c.power2round-t1.ensures.high r n (omega (arith, h, c.requires.rows)) q)
+    high_part-is (set_of c.args.p.now) c.in_ok-a_hat.a_hat c.sk.inside.s1 c.sk.inside.s2 c.key_vector.result c.power2round-t1.result.0 g.row.K c.requires.rows
+    (key_vector-is (set_of c.args.p.now) c.in_ok-a_hat.a_hat c.sk.inside.s1 c.sk.inside.s2 c.key_vector.result g.row.K g.row.L c.requires.rows c.requires.columns c.key_vector.ensures.values) c.power2round-t1.ensures.high
 
 pub invariant_of-result : goal.invariant_of-result
 invariant_of-result g c = rw (high_part-here g (goal.at.invariant_of-result g c).After-power2round-t1, c.requires.rows) (high_part-range (set_of c.args.p.now) c.in_ok-a_hat.a_hat c.sk.inside.s1 c.sk.inside.s2)

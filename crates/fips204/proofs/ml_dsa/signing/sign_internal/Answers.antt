@@ -1,18 +1,18 @@
 use Rattle.std.proofs.Common.{rules, ◌≡◌, ◌∙◌, sym, arith, Err, Some, None}
 use Rattle.fips204_base.specs.MatrixEntry.{sampled_matrix}
 use Rattle.fips204_base.specs.declared.fault.Fault.TheVariants.{SamplingLimit}
-use Rattle.fips204_base.proofs.Present.{some_of_ok, none_of_err}
+use Rattle.fips204_base.proofs.Sampled.{some_of_ok, none_of_err}
 use Rattle.fips204.specs.Sets.{set_of}
-use Rattle.fips204.proofs.Limits.{limits}
-use Rattle.fips204.proofs.Sampled.{matrix-within}
-use Rattle.fips204.proofs.Signings.{sign-by_matrix, sign-no_matrix}
+use Rattle.fips204.proofs.ParameterSets.{limits}
+use Rattle.fips204.proofs.Ranges.{matrix-within}
+use Rattle.fips204.proofs.Signing.{sign-by_matrix, sign-no_matrix}
 use Rattle.fips204.proofs.ml_dsa.signing.sign_internal.Goals as goal
 
 pub expand_a-requires : goal.expand_a-requires
 expand_a-requires g c =
     let p = c.args.p.now in
-    let known = limits p.tau p.lambda p.gamma1 p.gamma2 p.k p.l p.eta p.beta p.omega (search rules) in
-    (search rules, (search rules, (omega (arith, c.requires.rows, known.few_rows), omega (arith, c.requires.columns, known.few_columns))))
+    let known = limits p (search rules) in
+    (search rules, (search rules, (omega (arith, c.requires.sizes.0, known.few_rows), omega (arith, c.requires.sizes.1, known.few_columns))))
 
 pub returns-in_err-a_hat : goal.returns-in_err-a_hat
 returns-in_err-a_hat g c =
@@ -20,17 +20,16 @@ returns-in_err-a_hat g c =
     let refused : c.from_residual.result ≡ Err SamplingLimit = search rules in
     let same : c.sk.inside.rho ≡ c.args.sk.now.rho = search rules in
     let none = none_of_err (sampled_matrix g.G.Xof.front c.sk.inside.rho g.row.K g.row.L) c.in_err-a_hat.field-0.0 c.in_err-a_hat.ensures in
-    let there : sampled_matrix g.G.Xof.front c.args.sk.now.rho p.k p.l ≡ None = rw (same, c.requires.rows, c.requires.columns) at none.0 in
+    let there : sampled_matrix g.G.Xof.front c.args.sk.now.rho p.k p.l ≡ None = rw (same, c.requires.sizes.0, c.requires.sizes.1) at none.0 in
     refused ∙ sym (sign-no_matrix p g.H.Xof.front g.G.Xof.front c.args.sk.now c.args.mu.now c.args.rnd.now there)
 
 pub sign_with-requires : goal.sign_with-requires
 sign_with-requires g c =
     let p = c.args.p.now in
-    let known = limits p.tau p.lambda p.gamma1 p.gamma2 p.k p.l p.eta p.beta p.omega (search rules) in
-    let r = c.requires in
+    let known = limits p (search rules) in
     let a = c.in_ok-a_hat.a_hat in
     let some = some_of_ok (sampled_matrix g.G.Xof.front c.sk.inside.rho g.row.K g.row.L) a c.in_ok-a_hat.ensures in
-    (search rules, (search rules, (search rules, (search rules, (r.rows, (r.columns, (r.commitment_size, (r.size, matrix-within g.G.Xof.front c.sk.inside.rho g.row.K g.row.L a some))))))))
+    (search rules, (search rules, (search rules, (search rules, (c.requires.sizes, matrix-within g.G.Xof.front c.sk.inside.rho g.row.K g.row.L a some)))))
 
 pub returns : goal.returns
 returns g c =
@@ -38,5 +37,5 @@ returns g c =
     let a = c.in_ok-a_hat.a_hat in
     let same : c.sk.inside.rho ≡ c.args.sk.now.rho = search rules in
     let some = some_of_ok (sampled_matrix g.G.Xof.front c.sk.inside.rho g.row.K g.row.L) a c.in_ok-a_hat.ensures in
-    let there : sampled_matrix g.G.Xof.front c.args.sk.now.rho p.k p.l ≡ Some a = rw (same, c.requires.rows, c.requires.columns) at some in
+    let there : sampled_matrix g.G.Xof.front c.args.sk.now.rho p.k p.l ≡ Some a = rw (same, c.requires.sizes.0, c.requires.sizes.1) at some in
     sign-by_matrix p g.H.Xof.front g.G.Xof.front c.args.sk.now c.args.mu.now c.args.rnd.now a c.sign_with.result there c.sign_with.ensures

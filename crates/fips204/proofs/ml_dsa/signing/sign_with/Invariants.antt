@@ -1,5 +1,5 @@
 use Rattle.fips204.specs.Sets.{set_of}
-use Rattle.fips204.proofs.Signings.{AreRejected}
+use Rattle.fips204.proofs.Signing.{AreRejected}
 use Rattle.fips204.proofs.ml_dsa.signing.sign_with.Given as goal
 
 abbrev pub invariant-loop-n : goal.invariant-loop-n

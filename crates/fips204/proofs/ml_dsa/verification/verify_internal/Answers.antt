@@ -1,11 +1,13 @@
 use Rattle.std.proofs.Common.{rules, arith, ◌≡◌, ◌≤◌, ◌<◌, ◌+◌, ◌-◌, ◌∙◌, ℕ, List, sym, true≢false, nat_abs, to_z, of_z, w32}
+use Rattle.std.proofs.lemmas.Bool.{ltb-true, lt-ltb}
+use Rattle.std.proofs.lemmas.Int.{ints, to_z-of_z}
 use Rattle.fips204_base.specs.CentredValues.{vector_norm}
 use Rattle.fips204_base.specs.declared.types.R.{R}
 use Rattle.fips204_base.specs.Encodings.{IsSignature}
 use Rattle.fips204.specs.ParameterSets.{commitment_length}
 use Rattle.fips204.specs.Sets.{set_of}
-use Rattle.fips204.proofs.Limits.{limits, mask-size, signature-size}
-use Rattle.fips204.proofs.Verifying.{response-within, no_parts, verifies-in, verifies-out}
+use Rattle.fips204.proofs.ParameterSets.{limits, mask-size, signature-size}
+use Rattle.fips204.proofs.Verification.{response-within, no_parts, verifies-in, verifies-out}
 use Rattle.fips204.proofs.ml_dsa.verification.verify_internal.Goals as goal
 
 pub sig_decode-requires : goal.sig_decode-requires
@@ -13,27 +15,28 @@ sig_decode-requires g c =
     let p = c.args.p.now in
     let M : to_z w32 (of_z w32 p.gamma1) ≡ p.gamma1 = search rules in
     let O : to_z w32 (of_z w32 p.omega) ≡ p.omega = search rules in
-    let some = limits p.tau p.lambda p.gamma1 p.gamma2 p.k p.l p.eta p.beta p.omega (search rules) in
-    let ones : nat_abs p.omega + g.row.K < 256 = rw c.requires.rows some.hint_size in
-    let size = c.requires.size ∙ signature-size p.gamma1 (commitment_length (set_of p)) p.k p.l (nat_abs p.omega) some.mask in
-    (search rules, (search rules, (search rules, (search rules, (rw M some.mask, (rw O some.some_ones, (rw O ones, rw (M, O, c.requires.rows, c.requires.columns, c.requires.commitment_size) size)))))))
+    let some = limits p (search rules) in
+    let ones : nat_abs p.omega + g.row.K < 256 = rw c.requires.sizes.0 some.hint_size in
+    let size = c.requires.sizes.3 ∙ signature-size p.gamma1 (commitment_length (set_of p)) p.k p.l (nat_abs p.omega) some.mask in
+    (search rules, (search rules, (search rules, (search rules, (rw M some.mask, (rw O some.some_ones, (rw O ones, rw (M, O, c.requires.sizes.0, c.requires.sizes.1, c.requires.sizes.2) size)))))))
 
-pub has_small_norm-requires : goal.has_small_norm-requires
-has_small_norm-requires g c =
+pub has_norm_below-requires : goal.has_norm_below-requires
+has_norm_below-requires g c =
     let p = c.args.p.now in
+    let some = limits p (search rules) in
+    let columns : 1 ≤ g.row.L = rw c.requires.sizes.1 some.some_columns in
+    let bound = to_z-of_z w32 c.z_bound.result (search rules) ∙ c.z_bound.ensures in
     let M : to_z w32 (of_z w32 p.gamma1) ≡ p.gamma1 = search rules in
-    let some = limits p.tau p.lambda p.gamma1 p.gamma2 p.k p.l p.eta p.beta p.omega (search rules) in
-    let columns : 1 ≤ g.row.L = rw c.requires.columns some.some_columns in
     let z = response-within (nat_abs (to_z w32 (of_z w32 p.gamma1))) g.row.L c.in-Some.parts.1 (rw M (mask-size p.gamma1 some.mask).1) c.in-Some.ensures.response in
-    (search rules, (columns, z))
+    (search rules, (columns, (λ r n h l. (let x = z r n h l in omega (arith, x)), rw bound (omega (arith, ints)))))
 
 pub accepts-requires : goal.accepts-requires
 accepts-requires g c =
     let p = c.args.p.now in
     let M : to_z w32 (of_z w32 p.gamma1) ≡ p.gamma1 = search rules in
-    let some = limits p.tau p.lambda p.gamma1 p.gamma2 p.k p.l p.eta p.beta p.omega (search rules) in
+    let some = limits p (search rules) in
     let z = response-within (nat_abs (to_z w32 (of_z w32 p.gamma1))) g.row.L c.in-Some.parts.1 (rw M (mask-size p.gamma1 some.mask).1) c.in-Some.ensures.response in
-    (search rules, (search rules, (search rules, (search rules, (c.requires.rows, (c.requires.columns, (c.requires.commitment_size, (z, c.in-Some.ensures.hint.range))))))))
+    (search rules, (search rules, (search rules, (search rules, (c.requires.sizes.0, (c.requires.sizes.1, (c.requires.sizes.2, (z, c.in-Some.ensures.hint))))))))
 
 pub returns-in-None : goal.returns-in-None
 returns-in-None g c =
@@ -41,36 +44,39 @@ returns-in-None g c =
     let M : to_z w32 (of_z w32 p.gamma1) ≡ p.gamma1 = search rules in
     let O : to_z w32 (of_z w32 p.omega) ≡ p.omega = search rules in
     let none : (c_tilde : List ℕ) (z h : List R) → IsSignature (nat_abs p.gamma1) (nat_abs p.omega) p.k p.l (commitment_length (set_of p)) c.args.sig.now c_tilde z h → ⊥ =
-    rw (M, O, c.requires.rows, c.requires.columns, c.requires.commitment_size) at c.in-None.ensures in (
+    rw (M, O, c.requires.sizes.0, c.requires.sizes.1, c.requires.sizes.2) at c.in-None.ensures in (
       λ t. absurd (true≢false (sym t)),
       λ v. absurd (no_parts (set_of p) g.H.Xof.front g.G.Xof.front c.args.pk.now c.args.mu.now c.args.sig.now none v),
     )
 
-pub returns-then-has_small_norm : goal.returns-then-has_small_norm
-returns-then-has_small_norm g c =
+pub returns-then-has_norm_below : goal.returns-then-has_norm_below
+returns-then-has_norm_below g c =
     let p = c.args.p.now in
     let M : to_z w32 (of_z w32 p.gamma1) ≡ p.gamma1 = search rules in
     let O : to_z w32 (of_z w32 p.omega) ≡ p.omega = search rules in
-    let some = limits p.tau p.lambda p.gamma1 p.gamma2 p.k p.l p.eta p.beta p.omega (search rules) in
+    let some = limits p (search rules) in
     let sizes = mask-size p.gamma1 some.mask in
     let parts : IsSignature (nat_abs p.gamma1) (nat_abs p.omega) p.k p.l (commitment_length (set_of p)) c.args.sig.now c.in-Some.parts.0 c.in-Some.parts.1 c.in-Some.parts.2 =
-    rw (M, O, c.requires.rows, c.requires.columns, c.requires.commitment_size) at c.in-Some.ensures in
-    let norm : vector_norm c.in-Some.parts.1 < nat_abs p.gamma1 - nat_abs p.beta = c.has_small_norm.ensures.0 c.if-has_small_norm.true in (
+    rw (M, O, c.requires.sizes.0, c.requires.sizes.1, c.requires.sizes.2) at c.in-Some.ensures in
+    let bound = to_z-of_z w32 c.z_bound.result (search rules) ∙ c.z_bound.ensures in
+    let norm : vector_norm c.in-Some.parts.1 < nat_abs p.gamma1 - nat_abs p.beta = ltb-true _ _ (sym (rw bound at c.has_norm_below.ensures) ∙ c.if-has_norm_below.true) in (
       λ t. verifies-in (set_of p) g.H.Xof.front g.G.Xof.front c.args.pk.now c.args.mu.now c.args.sig.now c.in-Some.parts.0 c.in-Some.parts.1 c.in-Some.parts.2 parts norm (c.accepts.ensures.0 t),
       λ v. c.accepts.ensures.1 (verifies-out (set_of p) g.H.Xof.front g.G.Xof.front c.args.pk.now c.args.mu.now c.args.sig.now c.in-Some.parts.0 c.in-Some.parts.1 c.in-Some.parts.2
           sizes.0 (omega (arith, sizes.1)) parts v).1,
     )
 
-pub returns-else-has_small_norm : goal.returns-else-has_small_norm
-returns-else-has_small_norm g c =
+pub returns-else-has_norm_below : goal.returns-else-has_norm_below
+returns-else-has_norm_below g c =
     let p = c.args.p.now in
     let M : to_z w32 (of_z w32 p.gamma1) ≡ p.gamma1 = search rules in
     let O : to_z w32 (of_z w32 p.omega) ≡ p.omega = search rules in
-    let some = limits p.tau p.lambda p.gamma1 p.gamma2 p.k p.l p.eta p.beta p.omega (search rules) in
+    let some = limits p (search rules) in
     let sizes = mask-size p.gamma1 some.mask in
     let parts : IsSignature (nat_abs p.gamma1) (nat_abs p.omega) p.k p.l (commitment_length (set_of p)) c.args.sig.now c.in-Some.parts.0 c.in-Some.parts.1 c.in-Some.parts.2 =
-    rw (M, O, c.requires.rows, c.requires.columns, c.requires.commitment_size) at c.in-Some.ensures in (
-      λ t. absurd (true≢false (sym t ∙ c.if-has_small_norm.false)),
-      λ v. c.has_small_norm.ensures.1 (verifies-out (set_of p) g.H.Xof.front g.G.Xof.front c.args.pk.now c.args.mu.now c.args.sig.now c.in-Some.parts.0 c.in-Some.parts.1 c.in-Some.parts.2
+    rw (M, O, c.requires.sizes.0, c.requires.sizes.1, c.requires.sizes.2) at c.in-Some.ensures in
+    let bound = to_z-of_z w32 c.z_bound.result (search rules) ∙ c.z_bound.ensures in
+    let test = rw bound at c.has_norm_below.ensures in (
+      λ t. absurd (true≢false (sym t ∙ c.if-has_norm_below.false)),
+      λ v. test ∙ lt-ltb _ _ (verifies-out (set_of p) g.H.Xof.front g.G.Xof.front c.args.pk.now c.args.mu.now c.args.sig.now c.in-Some.parts.0 c.in-Some.parts.1 c.in-Some.parts.2
           sizes.0 (omega (arith, sizes.1)) parts v).0,
     )

@@ -1,6 +1,6 @@
 use Rattle.std.proofs.Common.{◌≡◌, drop}
 use Rattle.fips204.specs.PreHash.{digest_length}
-use Rattle.fips204.proofs.Hashes.{length_in}
+use Rattle.fips204.proofs.PreHash.{length_in}
 use Rattle.fips204.proofs.types.pre_hash.digest_len.Given as goal
 
 -- none of the hashes so far has this OID

@@ -1,4 +1,4 @@
-use Rattle.std.proofs.Common.{rules, arith, ◌≡◌, ◌<◌, ◌+◌, pos, nat_abs, length, take, get_or, ◌∙◌, ap, sym, refl, length-set, w32, to_z, of_z, add-one}
+use Rattle.std.proofs.Common.{rules, arith, ◌≡◌, ◌<◌, ◌+◌, pos, nat_abs, length, take, get_or, ◌∙◌, ap, sym, refl, length-set, w32, to_z, of_z, add-one, None}
 use Rattle.std.specs.List.{flat_map}
 use Rattle.std.proofs.lemmas.Int.{to_z-of_z}
 use Rattle.std.proofs.lemmas.List.{take_more_set, take_all}
@@ -7,7 +7,7 @@ use Rattle.fips204_base.specs.declared.types.R.{R}
 use Rattle.fips204_base.specs.declared.types.TheConstants.{R0}
 use Rattle.fips204_base.specs.Packing.{InRange}
 use Rattle.fips204_base.specs.HintSpelling.{ones, Spells}
-use Rattle.fips204_base.proofs.HintPieces.{before, pieces, totals_rise, piece, zero_rest, one_more, totals_more, gathered, spelling}
+use Rattle.fips204_base.proofs.HintSpelling.{before, pieces, totals_rise, piece, zero_rest, one_more, totals_more, gathered, spelling}
 use Rattle.fips204_base.proofs.conversion.hints.hint_bit_unpack.Goals as goal
 use Rattle.fips204_base.proofs.conversion.hints.hint_bit_unpack.Goals.{then-end-index-via-then-end-index, then-end-index-via-else-end-index+then-end-limit}
 
@@ -22,27 +22,29 @@ returns-then-end-index g c = λ h s.
       | then-end-index-via-else-end-index+then-end-limit w ↦ omega (arith, rise.1, w.if-end-limit.true)
     ]
 
-pub returns-in-None : goal.returns-in-None
-returns-in-None g c = λ h s.
+pub returns-in_err-h : goal.returns-in_err-h
+returns-in_err-h g c =
+    let none : c.from_residual.result ≡ None = search rules in
+    rw none (λ h s.
     let O = to_z-of_z w32 c.args.omega c.ranges.omega in
     let S : Spells (nat_abs (to_z w32 (of_z w32 c.args.omega))) g.row.K h c.args.y.now = rw O s in
     let n = S.hint.rows in
-    c.in-None.ensures (get_or h c.loop-i.i R0) (rw c.loop-i.invariant.at (piece _ h c.args.y.now c.loop-i.i (pieces _ _ h c.args.y.now S) (omega (arith, n))))
+    c.in_err-h.ensures (get_or h c.loop-i.i R0) (rw c.loop-i.invariant.at (piece _ h c.args.y.now c.loop-i.i (pieces _ _ h c.args.y.now S) (omega (arith, n)))))
 
 pub loop-i-preserved : goal.loop-i-preserved
 loop-i-preserved g c =
     let end = get_or c.args.y.now (nat_abs (to_z w32 (of_z w32 c.args.omega)) + c.loop-i.i) 0 in
     let inside : c.loop-i.i < length c.loop-i.h = omega arith in
-    let places = one_more c.loop-i.h c.args.y.now c.loop-i.i c.loop-i.index end c.in-Some.row inside c.if-end-index.false c.loop-i.invariant.places c.in-Some.ensures.0 in
-    let more = take_more_set c.loop-i.h c.loop-i.i c.in-Some.row inside in
+    let places = one_more c.loop-i.h c.args.y.now c.loop-i.i c.loop-i.index end c.in_ok-h.field-0 inside c.if-end-index.false c.loop-i.invariant.places c.in_ok-h.ensures.0 in
+    let more = take_more_set c.loop-i.h c.loop-i.i c.in_ok-h.field-0 inside in
     record {
-      count = length-set c.loop-i.h c.loop-i.i c.in-Some.row ∙ c.loop-i.invariant.count;
+      count = length-set c.loop-i.h c.loop-i.i c.in_ok-h.field-0 ∙ c.loop-i.invariant.count;
       at = ap (before _ c.args.y.now) (sym (add-one c.loop-i.i));
       few = c.if-end-limit.false;
       places = places;
-      totals = totals_more c.loop-i.h c.args.y.now _ c.loop-i.i end c.in-Some.row inside (search rules) refl (search rules) places c.loop-i.invariant.totals;
-      sizes = rw more (All-push (λ (w : R). length w.0 ≡ 256) (take c.loop-i.i c.loop-i.h) c.in-Some.row c.loop-i.invariant.sizes c.in-Some.ensures.1);
-      bits = rw more (All-push (λ (w : R). InRange (pos 0) (pos 1) w.0) (take c.loop-i.i c.loop-i.h) c.in-Some.row c.loop-i.invariant.bits c.in-Some.ensures.2);
+      totals = totals_more c.loop-i.h c.args.y.now _ c.loop-i.i end c.in_ok-h.field-0 inside (search rules) refl (search rules) places c.loop-i.invariant.totals;
+      sizes = rw more (All-push (λ (w : R). length w.0 ≡ 256) (take c.loop-i.i c.loop-i.h) c.in_ok-h.field-0 c.loop-i.invariant.sizes c.in_ok-h.ensures.1);
+      bits = rw more (All-push (λ (w : R). InRange (pos 0) (pos 1) w.0) (take c.loop-i.i c.loop-i.h) c.in_ok-h.field-0 c.loop-i.invariant.bits c.in_ok-h.ensures.2);
     }
 
 pub returns-then-y-k-ne0 : goal.returns-then-y-k-ne0

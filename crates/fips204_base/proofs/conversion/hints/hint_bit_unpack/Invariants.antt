@@ -2,7 +2,7 @@ use Rattle.std.proofs.Common.{ℕ, ◌≡◌, ◌<◌, ◌+◌, ◌≤◌, get_o
 use Rattle.std.specs.List.{All}
 use Rattle.fips204_base.specs.HintSpelling.{all_ones}
 use Rattle.fips204_base.specs.Packing.{InRange}
-use Rattle.fips204_base.proofs.HintPieces.{before}
+use Rattle.fips204_base.proofs.HintSpelling.{before}
 use Rattle.fips204_base.proofs.conversion.hints.hint_bit_unpack.Given as goal
 
 abbrev pub invariant-loop-i : goal.invariant-loop-i

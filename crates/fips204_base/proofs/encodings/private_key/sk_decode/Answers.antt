@@ -2,7 +2,7 @@ use Rattle.std.proofs.Common.{◌≡◌, ◌*◌, ◌^◌, ◌++◌, ◌∙◌, 
 use Rattle.std.proofs.lemmas.Int.{ints, to_z-of_z}
 use Rattle.std.proofs.lemmas.List.{take-append-drop, length-take-le}
 use Rattle.fips204_base.specs.Packing.{width}
-use Rattle.fips204_base.proofs.PrivateKeys.{width_4095_4096, eta_width, three_seeds, key_of_parts, first_part, second_part}
+use Rattle.fips204_base.proofs.EncodedParts.{width_4095_4096, eta_width, three_seeds, private_key-of_parts, private_key-first, private_key-second}
 use Rattle.fips204_base.proofs.VectorBytes.{same_bounds}
 use Rattle.fips204_base.proofs.encodings.private_key.sk_decode.Goals as goal
 
@@ -23,7 +23,7 @@ returns-in-None g c =
     let refused = c.in-None.ensures in
     let given = rw E at refused in
     let first = c.split_at-2.ensures.front ∙ ap (take (c.polynomial_size-size.result * g.row.L)) c.split_at.ensures.back in
-    (refl, λ rho key tr s1 s2 t0 s. given s1 s.first (first_part _ _ _ _ _ _ _ _ _ _ _ s (ap (λ w. w * g.row.L) natural) ∙ sym first))
+    (refl, λ rho key tr s1 s2 t0 s. given s1 s.first (private_key-first _ _ _ _ _ _ _ _ _ _ _ s (ap (λ w. w * g.row.L) natural) ∙ sym first))
 
 pub returns-in-None-unpack_short_vector : goal.returns-in-None-unpack_short_vector
 returns-in-None-unpack_short_vector g c =
@@ -33,7 +33,7 @@ returns-in-None-unpack_short_vector g c =
     let refused = c.in-None-unpack_short_vector.ensures in
     let given = rw E at refused in
     let second = c.split_at-3.ensures.front ∙ ap (take (c.polynomial_size-size.result * g.row.K)) (c.split_at-2.ensures.back ∙ ap (drop (c.polynomial_size-size.result * g.row.L)) c.split_at.ensures.back) in
-    (refl, λ rho key tr s1 s2 t0 s. given s2 s.second (second_part _ _ _ _ _ _ _ _ _ _ _ _ s (ap (λ w. w * g.row.L) natural) (ap (λ w. w * g.row.K) natural) ∙ sym second))
+    (refl, λ rho key tr s1 s2 t0 s. given s2 s.second (private_key-second _ _ _ _ _ _ _ _ _ _ _ _ s (ap (λ w. w * g.row.L) natural) (ap (λ w. w * g.row.K) natural) ∙ sym second))
 
 pub returns-in-Some-unpack_short_vector : goal.returns-in-Some-unpack_short_vector
 returns-in-Some-unpack_short_vector g c =
@@ -58,7 +58,7 @@ returns-in-Some-unpack_short_vector g c =
     let n = ap nat_abs E in
     let one = same_bounds g.row.L _ _ (nat_abs c.args.eta) (nat_abs c.args.eta) c.in-Some.s1 first n n c.in-Some.ensures.0 c.in-Some.ensures.1 in
     let two = same_bounds g.row.K _ _ (nat_abs c.args.eta) (nat_abs c.args.eta) c.in-Some-unpack_short_vector.s2 second n n c.in-Some-unpack_short_vector.ensures.0 c.in-Some-unpack_short_vector.ensures.1 in
-    key_of_parts (nat_abs c.args.eta) g.row.K g.row.L c.args.sk.now c.part.result.now c.part-in-Some-unpack_short_vector.result.now c.part-in-Some-unpack_short_vector-2.result.now first second low
+    private_key-of_parts (nat_abs c.args.eta) g.row.K g.row.L c.args.sk.now c.part.result.now c.part-in-Some-unpack_short_vector.result.now c.part-in-Some-unpack_short_vector-2.result.now first second low
     c.in-Some.s1 c.in-Some-unpack_short_vector.s2 c.unpack_vector.result cut
     (ap length rho ∙ length-take-le 32 (drop 0 seeds) (omega (arith, long)))
     (ap length key ∙ length-take-le 32 (drop 32 seeds) (simp length-drop (omega (arith, long))))

@@ -1,8 +1,8 @@
-use Rattle.std.proofs.Common.{◌≡◌, ◌+◌, ◌*◌, ◌-◌, ◌≤◌, ◌++◌, ◌∙◌, ◌-ℤ◌, pos, ap, sym, subst, arith, rules, nat_abs, length, take, drop, w32, to_z, of_z, length-drop}
+use Rattle.std.proofs.Common.{◌≡◌, ◌+◌, ◌*◌, ◌-◌, ◌≤◌, ◌++◌, ◌∙◌, ◌-ℤ◌, pos, ap, sym, subst, arith, rules, nat_abs, length, take, drop, w32, to_z, of_z, length-drop, None}
 use Rattle.std.proofs.lemmas.Int.{ints, to_z-of_z}
 use Rattle.std.proofs.lemmas.List.{drop-drop, take-append-drop, take_all, length-take-le}
 use Rattle.fips204_base.specs.HintSpelling.{Spells}
-use Rattle.fips204_base.proofs.Signatures.{whole_response, response_bounds, response_least, response_width, signature_of_parts, hint_part}
+use Rattle.fips204_base.proofs.EncodedParts.{whole_response, response_bounds, response_least, response_width, signature-of_parts, signature-hint}
 use Rattle.fips204_base.proofs.VectorBytes.{same_bounds}
 use Rattle.fips204_base.proofs.encodings.signature.sig_decode.Goals as goal
 
@@ -14,22 +14,24 @@ unpack_vector-requires g c =
     let room = c.split_at.ensures.front_len ∙ ap (λ s. s * g.row.L) size in
     (search rules, (rw (L, G) (response_bounds c.args.gamma1 c.requires.set), (rw (L, G) (whole_response c.args.gamma1 c.requires.set), room)))
 
-pub returns-in-None : goal.returns-in-None
-returns-in-None g c = λ c_tilde z h s.
+pub returns-in_err-h : goal.returns-in_err-h
+returns-in_err-h g c =
+    let none : c.from_residual.result ≡ None = search rules in
+    rw none (λ c_tilde z h s.
     let n = g.row.LAMBDA_DIV4 in
     let G = to_z-of_z w32 c.args.gamma1 c.ranges.gamma1 in
     let O = to_z-of_z w32 c.args.omega c.ranges.omega in
     let L : to_z w32 (of_z w32 (to_z w32 (of_z w32 c.args.gamma1) -ℤ pos 1)) ≡ c.args.gamma1 -ℤ pos 1 = omega (arith, ints, c.requires.set) in
     let size = c.polynomial_size.ensures.size in
     let natural = (rw (L, G) at size) ∙ ap (λ w. 32 * w) (response_width c.args.gamma1 c.requires.set) in
-    let part = hint_part _ _ _ _ _ (n + c.polynomial_size.result * g.row.L) c.args.sigma.now c_tilde z h s (ap (λ s. n + s * g.row.L) natural) in
+    let part = signature-hint _ _ _ _ _ (n + c.polynomial_size.result * g.row.L) c.args.sigma.now c_tilde z h s (ap (λ s. n + s * g.row.L) natural) in
     let whole : take (length c.args.sigma.now - n) (drop n c.args.sigma.now) ≡ drop n c.args.sigma.now = take_all _ _ (simp length-drop (omega arith)) in
     let rest : c.split_at.result.1.now ≡ drop (n + c.polynomial_size.result * g.row.L) c.args.sigma.now =
     c.split_at.ensures.back ∙ ap (drop (c.polynomial_size.result * g.row.L)) whole ∙ drop-drop (c.polynomial_size.result * g.row.L) n c.args.sigma.now in
-    c.in-None.ensures h (subst (λ y. Spells (nat_abs (to_z w32 (of_z w32 c.args.omega))) g.row.K h y) (sym rest) (subst (λ o. Spells (nat_abs o) g.row.K h (drop (n + c.polynomial_size.result * g.row.L) c.args.sigma.now)) (sym O) part))
+    c.in_err-h.ensures h (subst (λ y. Spells (nat_abs (to_z w32 (of_z w32 c.args.omega))) g.row.K h y) (sym rest) (subst (λ o. Spells (nat_abs o) g.row.K h (drop (n + c.polynomial_size.result * g.row.L) c.args.sigma.now)) (sym O) part)))
 
-pub returns-in-Some : goal.returns-in-Some
-returns-in-Some g c =
+pub returns : goal.returns
+returns g c =
     let n = g.row.LAMBDA_DIV4 in
     let k = c.polynomial_size.result * g.row.L in
     let sigma = c.args.sigma.now in
@@ -47,5 +49,5 @@ returns-in-Some g c =
     sym (ap (λ l. l ++ (response ++ hint)) first ∙ ap (λ l. take n sigma ++ l) joined ∙ take-append-drop n sigma) in
     let vector = same_bounds g.row.L _ _ (nat_abs c.args.gamma1 - 1) (nat_abs c.args.gamma1) c.unpack_vector.result response (ap nat_abs L ∙ response_least c.args.gamma1 c.requires.set) (ap nat_abs G)
     c.unpack_vector.ensures.vector c.unpack_vector.ensures.same_bytes in
-    signature_of_parts (nat_abs c.args.gamma1) (nat_abs c.args.omega) g.row.K g.row.L n sigma c.unwrap-c_tilde.result.now response hint c.unpack_vector.result c.in-Some.h cut
-    (ap length first ∙ length-take-le n sigma inside) vector.0 vector.1 (subst (λ o. Spells (nat_abs o) g.row.K c.in-Some.h hint) O c.in-Some.ensures)
+    signature-of_parts (nat_abs c.args.gamma1) (nat_abs c.args.omega) g.row.K g.row.L n sigma c.unwrap-c_tilde.result.now response hint c.unpack_vector.result c.in_ok-h.h cut
+    (ap length first ∙ length-take-le n sigma inside) vector.0 vector.1 (subst (λ o. Spells (nat_abs o) g.row.K c.in_ok-h.h hint) O c.in_ok-h.ensures)

@@ -4,16 +4,15 @@ use Rattle.std.proofs.lemmas.Int.{to_z-of_z}
 use Rattle.std.proofs.lemmas.List.{take_all}
 use Rattle.fips204_base.specs.declared.types.R.{R}
 use Rattle.fips204_base.specs.Packing.{polynomial_bytes, width}
-use Rattle.fips204_base.proofs.Packings.{is_packed}
-use Rattle.fips204_base.proofs.Pieces.{length-put_mid, put_piece}
-use Rattle.fips204_base.proofs.VectorBytes.{piece_within, vector_more, bytes_at_integers}
+use Rattle.fips204_base.proofs.Packing.{is_packed}
+use Rattle.fips204_base.proofs.VectorBytes.{length-put_mid, put_piece, piece-within, vector_more, bytes_at_integers}
 use Rattle.fips204_base.proofs.encodings.vectors.pack_vector.Goals as goal
 
 pub slice_bounds-bit_pack-end : goal.slice_bounds-bit_pack-end
 slice_bounds-bit_pack-end g c =
     let e = c.polynomial_size-size.ensures.size in
     let size_is = rw (to_z-of_z w32 c.args.a c.ranges.a, to_z-of_z w32 c.args.b c.ranges.b) at e in
-    let within = piece_within c.polynomial_size-size.result c.loop-i.i g.row.N (length c.loop-i.out) (c.loop-i.invariant.size ∙ c.requires.room ∙ ap (λ s. s * g.row.N) (sym size_is)) c.loop-i-test.true in
+    let within = piece-within c.polynomial_size-size.result c.loop-i.i g.row.N (length c.loop-i.out) (c.loop-i.invariant.size ∙ c.requires.room ∙ ap (λ s. s * g.row.N) (sym size_is)) c.loop-i-test.true in
     omega (arith, within)
 
 pub loop-i-preserved : goal.loop-i-preserved
@@ -24,7 +23,7 @@ loop-i-preserved g c =
     let width_is : at + size - at ≡ size = omega arith in
     let e = c.polynomial_size-size.ensures.size in
     let size_is = rw (to_z-of_z w32 c.args.a c.ranges.a, to_z-of_z w32 c.args.b c.ranges.b) at e in
-    let within = piece_within size c.loop-i.i g.row.N (length c.loop-i.out) (c.loop-i.invariant.size ∙ c.requires.room ∙ ap (λ s. s * g.row.N) (sym size_is)) c.loop-i-test.true in
+    let within = piece-within size c.loop-i.i g.row.N (length c.loop-i.out) (c.loop-i.invariant.size ∙ c.requires.room ∙ ap (λ s. s * g.row.N) (sym size_is)) c.loop-i-test.true in
     let long : length c.bit_pack.new.out ≡ at + size - at = c.bit_pack.auto.out ∙ simp (length-take, length-drop) (omega (arith, within)) in
     let ends : at + (at + size - at) ≤ length c.loop-i.out = omega (arith, within) in
     let next : size * (c.loop-i.i + 1) ≡ at + (at + size - at) = omega (arith, width_is) in

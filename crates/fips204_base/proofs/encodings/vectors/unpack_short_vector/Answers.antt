@@ -1,4 +1,4 @@
-use Rattle.std.proofs.Common.{◌≡◌, ◌+◌, ◌*◌, ◌-◌, ◌<◌, ◌++◌, ◌∙◌, ◌-ℤ◌, pos, ap, sym, subst, arith, length, length-set, take, drop, get_or, w32, to_z, of_z}
+use Rattle.std.proofs.Common.{◌≡◌, ◌+◌, ◌*◌, ◌-◌, ◌<◌, ◌++◌, ◌∙◌, ◌-ℤ◌, pos, ap, sym, subst, arith, length, length-set, take, drop, get_or, w32, to_z, of_z, None, rules}
 use Rattle.std.specs.List.{All, flat_map}
 use Rattle.std.proofs.lemmas.Int.{to_z-of_z}
 use Rattle.std.proofs.lemmas.List.{take_all, take_more_set}
@@ -10,8 +10,10 @@ use Rattle.fips204_base.specs.Packing.{InRange, polynomial_bytes, width}
 use Rattle.fips204_base.proofs.VectorBytes.{vector_stored, vector_piece, bytes_at_integers, vector_at_integers, range_at_integers}
 use Rattle.fips204_base.proofs.encodings.vectors.unpack_short_vector.Goals as goal
 
-pub returns-in-None : goal.returns-in-None
-returns-in-None g c = λ v vector same.
+pub returns-in_err-v : goal.returns-in_err-v
+returns-in_err-v g c =
+    let none : c.from_residual.result ≡ None = search rules in
+    rw none (λ v vector same.
     let E = to_z-of_z w32 c.args.eta c.ranges.eta in
     let e = c.polynomial_size-size.ensures.size in
     let size_is = rw E at e in
@@ -19,17 +21,17 @@ returns-in-None g c = λ v vector same.
     let range = range_at_integers c.args.eta c.args.eta v c.requires.bounds vector.range in
     let bytes = sym (bytes_at_integers c.args.eta c.args.eta v c.requires.bounds) ∙ same in
     let piece = vector_piece c.args.eta c.args.eta v c.args.bytes.now c.polynomial_size-size.result c.loop-i.i R0 vector.places size_is bytes (omega (arith, place, vector.rows)) in
-    let refused = c.in-None.ensures in
+    let refused = c.in_err-v.ensures in
     let at = c.polynomial_size-size.result * c.loop-i.i in
     let width_is : at + c.polynomial_size-size.result - at ≡ c.polynomial_size-size.result = omega arith in
     let inside : c.loop-i.i < length v = omega (arith, place, vector.rows) in
-    (rw E at refused) (get_or v c.loop-i.i R0).0 (range c.loop-i.i R0 inside) (vector.places c.loop-i.i R0 inside) (sym piece ∙ ap (λ n. take n (drop at c.args.bytes.now)) (sym width_is))
+    (rw E at refused) (get_or v c.loop-i.i R0).0 (range c.loop-i.i R0 inside) (vector.places c.loop-i.i R0 inside) (sym piece ∙ ap (λ n. take n (drop at c.args.bytes.now)) (sym width_is)))
 
 pub loop-i-preserved : goal.loop-i-preserved
 loop-i-preserved g c =
     let size = c.polynomial_size-size.result in
     let at = c.polynomial_size-size.result * c.loop-i.i in
-    let w = c.in-Some.w in
+    let w = c.in_ok-v.field-0 in
     let E = to_z w32 (of_z w32 c.args.eta) in
     let f = λ (w : R). polynomial_bytes (to_z w32 (of_z w32 c.args.eta)) (to_z w32 (of_z w32 c.args.eta)) w.0 in
     let place : c.loop-i.i < length c.loop-i.v = omega (arith, c.loop-i-test.true, c.loop-i.invariant.count) in
@@ -39,11 +41,11 @@ loop-i-preserved g c =
       count = length-set c.loop-i.v c.loop-i.i w ∙ c.loop-i.invariant.count;
       read = vector_stored f c.loop-i.v c.loop-i.i w place
           ∙ ap (λ l. l ++ f w) c.loop-i.invariant.read
-          ∙ ap (λ l. take at c.args.bytes.now ++ l) c.in-Some.ensures.2
+          ∙ ap (λ l. take at c.args.bytes.now ++ l) c.in_ok-v.ensures.2
           ∙ sym (take-add at (at + size - at) c.args.bytes.now)
           ∙ ap (λ n. take n c.args.bytes.now) (sym next);
-      range = rw more (All-push (λ (w : R). InRange (pos 0 -ℤ E) E w.0) (take c.loop-i.i c.loop-i.v) w c.loop-i.invariant.range c.in-Some.ensures.0);
-      places = rw more (All-push (λ (w : R). length w.0 ≡ 256) (take c.loop-i.i c.loop-i.v) w c.loop-i.invariant.places c.in-Some.ensures.1);
+      range = rw more (All-push (λ (w : R). InRange (pos 0 -ℤ E) E w.0) (take c.loop-i.i c.loop-i.v) w c.loop-i.invariant.range c.in_ok-v.ensures.0);
+      places = rw more (All-push (λ (w : R). length w.0 ≡ 256) (take c.loop-i.i c.loop-i.v) w c.loop-i.invariant.places c.in_ok-v.ensures.1);
     }
 
 pub returns : goal.returns

@@ -6,14 +6,14 @@ use Rattle.std.proofs.lemmas.List.Elements.{All-push}
 use Rattle.std.proofs.Math.Seq.{take-add}
 use Rattle.fips204_base.specs.declared.types.R.{R}
 use Rattle.fips204_base.specs.Packing.{InRange, polynomial_bytes, width}
-use Rattle.fips204_base.proofs.VectorBytes.{piece_within, vector_stored, bytes_at_integers, vector_at_integers}
+use Rattle.fips204_base.proofs.VectorBytes.{piece-within, vector_stored, bytes_at_integers, vector_at_integers}
 use Rattle.fips204_base.proofs.encodings.vectors.unpack_vector.Goals as goal
 
 pub slice_bounds-unpack_polynomial-end : goal.slice_bounds-unpack_polynomial-end
 slice_bounds-unpack_polynomial-end g c =
     let e = c.polynomial_size-size.ensures.size in
     let size_is = rw (to_z-of_z w32 c.args.a c.ranges.a, to_z-of_z w32 c.args.b c.ranges.b) at e in
-    let within = piece_within c.polynomial_size-size.result c.loop-i.i g.row.N (length c.args.bytes.now) (c.requires.room ∙ ap (λ s. s * g.row.N) (sym size_is)) c.loop-i-test.true in
+    let within = piece-within c.polynomial_size-size.result c.loop-i.i g.row.N (length c.args.bytes.now) (c.requires.room ∙ ap (λ s. s * g.row.N) (sym size_is)) c.loop-i-test.true in
     omega (arith, within)
 
 pub loop-i-preserved : goal.loop-i-preserved

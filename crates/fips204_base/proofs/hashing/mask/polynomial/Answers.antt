@@ -1,20 +1,13 @@
-use Rattle.std.proofs.Common.{ℤ, ◌≡◌, ◌∙◌, ◌*◌, ◌++◌, length, take, pos, nat_abs, ◌-ℤ◌, append-nil, to_z, of_z, inl, inr, ◌⊎◌, ◌-◌, refl, ap, sym, rules}
+use Rattle.std.proofs.Common.{ℤ, ◌≡◌, ◌∙◌, ◌*◌, ◌++◌, length, take, pos, nat_abs, ◌-ℤ◌, append-nil, to_z, of_z, inl, inr, ◌⊎◌, ◌-◌, refl, ap, rules}
 use Rattle.std.specs.Int.{w16, w32, to_le_bytes}
 use Rattle.fips204_base.specs.Mask.{mask_width, unpacked}
 use Rattle.fips204_base.specs.Packing.{Unpacks}
-use Rattle.fips204_base.proofs.Unpacking.{as_long, mask_width-is, mask_is_unpacked}
+use Rattle.fips204_base.proofs.Masks.{as_long, mask_width-is, mask_is_unpacked}
 use Rattle.fips204_base.proofs.hashing.mask.polynomial.Goals as goal
 
 less_read : (gamma1 : ℤ) → (gamma1 ≡ pos 131072) ⊎ (gamma1 ≡ pos 524288) → to_z w32 (of_z w32 (gamma1 -ℤ pos 1)) ≡ gamma1 -ℤ pos 1
 less_read gamma1 (inl e) = rw e refl
 less_read gamma1 (inr e) = rw e refl
-
-pub bit_unpack-requires-clause-room : goal.bit_unpack-requires-clause-room
-bit_unpack-requires-clause-room g c =
-    let gamma1 : to_z w32 (of_z w32 c.args.gamma1) ≡ c.args.gamma1 = search rules in
-    let less : to_z w32 (of_z w32 (c.args.gamma1 -ℤ pos 1)) ≡ c.args.gamma1 -ℤ pos 1 = less_read c.args.gamma1 c.requires.gamma1 in
-    let long : length c.read.new.out ≡ c.polynomial_length.result = search rules in
-    long ∙ c.polynomial_length.ensures.value ∙ rw (gamma1, less) (ap (λ n. 32 * n) (sym (mask_width-is c.args.gamma1 c.requires.gamma1)))
 
 pub returns : goal.returns
 returns g c =
@@ -24,8 +17,8 @@ returns g c =
     let seed : c.as_slice.result.now ≡ c.args.rho.now = search rules in
     let number : c.as_slice-2.result.now ≡ to_le_bytes w16 c.args.number = search rules in
     let opened : g.H.Reader.XofReader.rest c.open-reader.result ≡ front = rw (seed, number, append-nil (to_le_bytes w16 c.args.number)) at c.open-reader.ensures in
-    let long : length c.read.new.out ≡ c.polynomial_length.result = search rules in
-    let size : c.polynomial_length.result ≡ 32 * mask_width (nat_abs c.args.gamma1) = rw gamma1 at c.polynomial_length.ensures.value in
+    let long : length c.read.new.out ≡ c.polynomial_size.result = search rules in
+    let size : c.polynomial_size.result ≡ 32 * mask_width (nat_abs c.args.gamma1) = (rw (gamma1, less) at c.polynomial_size.ensures.size) ∙ ap (λ n. 32 * n) (mask_width-is c.args.gamma1 c.requires.gamma1) in
     let read : c.read.new.out ≡ take (32 * mask_width (nat_abs c.args.gamma1)) front =
     as_long c.read.new.out _ _ (32 * mask_width (nat_abs c.args.gamma1)) c.read.ensures.given (long ∙ size) ∙ ap (take (32 * mask_width (nat_abs c.args.gamma1))) opened in
     let some = rw c.unwrap.ensures at c.bit_unpack.ensures in

@@ -1,11 +1,10 @@
-use Rattle.std.proofs.Common.{ℕ, ◌≡◌, ◌∙◌, ◌+◌, ◌++◌, ◌∷◌, [], ap, refl, arith, rules, take, length-set, map, Some, None, Err}
+use Rattle.std.proofs.Common.{◌≡◌, ◌∙◌, ◌+◌, ap, refl, arith, rules, take, length-set, map, Some, None, Err}
 use Rattle.std.proofs.lemmas.List.{length-replicate, take_all}
 use Rattle.fips204_base.specs.declared.fault.Fault.TheVariants.{SamplingLimit}
 use Rattle.std.specs.List.{range_with_len}
-use Rattle.fips204_base.specs.MatrixEntry.{matrix_entry, sampled_matrix}
+use Rattle.fips204_base.specs.MatrixEntry.{sampled_row, sampled_matrix}
 use Rattle.fips204_base.specs.Sampling.{all_present}
-use Rattle.fips204_base.proofs.Samplings.{all_present-none}
-use Rattle.fips204_base.proofs.Present.{present_nil, present_next, some_of_ok, none_of_err}
+use Rattle.fips204_base.proofs.Sampled.{all_present-none, present_nil, present_next, some_of_ok, none_of_err}
 use Rattle.fips204_base.proofs.hashing.matrix.expand_a.Goals as goal
 
 pub loop-r-init : goal.loop-r-init
@@ -14,7 +13,7 @@ loop-r-init g c = (length-replicate _ _, present_nil)
 pub returns-in_err-matrix : goal.returns-in_err-matrix
 unfolding sampled_matrix
 returns-in_err-matrix g c =
-    let row = λ (r : ℕ). all_present (map (λ s. matrix_entry (g.G.Xof.front (c.args.rho.now ++ s ∷ r ∷ []))) (range_with_len 0 g.row.L)) in
+    let row = sampled_row g.G.Xof.front c.args.rho.now g.row.L in
     let fault = none_of_err (row c.loop-r.r) c.in_err-matrix.field-0.0 c.in_err-matrix.ensures in
     let none : all_present (map row (range_with_len 0 g.row.K)) ≡ None = (let n : 0 + c.loop-r.r ≡ c.loop-r.r = omega arith in all_present-none row 0 g.row.K c.loop-r.r c.loop-r-test.true (ap row n ∙ fault.0)) in
     let refused : c.from_residual.result ≡ Err SamplingLimit = search rules in
@@ -22,7 +21,7 @@ returns-in_err-matrix g c =
 
 pub loop-r-preserved : goal.loop-r-preserved
 loop-r-preserved g c =
-    let row = λ (r : ℕ). all_present (map (λ s. matrix_entry (g.G.Xof.front (c.args.rho.now ++ s ∷ r ∷ []))) (range_with_len 0 g.row.L)) in
+    let row = sampled_row g.G.Xof.front c.args.rho.now g.row.L in
     let there = some_of_ok (row c.loop-r.r) c.in_ok-matrix.field-0 c.in_ok-matrix.ensures in (
       length-set c.loop-r.matrix c.loop-r.r c.in_ok-matrix.field-0 ∙ c.loop-r.invariant.0,
       present_next row 0 c.loop-r.r c.loop-r.r c.loop-r.matrix c.in_ok-matrix.field-0 (omega arith) (omega (arith, c.loop-r.invariant.0, c.loop-r-test.true)) c.loop-r.invariant.1 there,
@@ -32,7 +31,7 @@ pub returns : goal.returns
 unfolding sampled_matrix
 returns g c =
     let end : c.loop-r.r ≡ g.row.K = omega (arith, c.loop-r-test.false, c.loop-r.auto.r-end) in
-    let row = λ (r : ℕ). all_present (map (λ s. matrix_entry (g.G.Xof.front (c.args.rho.now ++ s ∷ r ∷ []))) (range_with_len 0 g.row.L)) in
+    let row = sampled_row g.G.Xof.front c.args.rho.now g.row.L in
     let all : all_present (map row (range_with_len 0 g.row.K)) ≡ Some (take g.row.K c.loop-r.matrix) = rw end at c.loop-r.invariant.1 in
     let whole : take g.row.K c.loop-r.matrix ≡ c.loop-r.matrix = take_all g.row.K c.loop-r.matrix (omega (arith, c.loop-r.invariant.0)) in
     rw (all, whole) refl

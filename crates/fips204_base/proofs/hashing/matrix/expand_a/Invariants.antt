@@ -1,10 +1,10 @@
-use Rattle.std.proofs.Common.{◌≡◌, ◌++◌, ◌∷◌, [], length, map, take, Some}
+use Rattle.std.proofs.Common.{◌≡◌, length, map, take, Some}
 use Rattle.std.specs.List.{range_with_len}
-use Rattle.fips204_base.specs.MatrixEntry.{matrix_entry}
+use Rattle.fips204_base.specs.MatrixEntry.{sampled_row}
 use Rattle.fips204_base.specs.Sampling.{all_present}
 use Rattle.fips204_base.proofs.hashing.matrix.expand_a.Given as goal
 
 abbrev pub invariant-loop-r : goal.invariant-loop-r
 invariant-loop-r g l =
     (length l.matrix ≡ g.row.K)
-    × (all_present (map (λ r. all_present (map (λ s. matrix_entry (g.G.Xof.front (l.rho ++ s ∷ r ∷ []))) (range_with_len 0 g.row.L))) (range_with_len 0 l.r)) ≡ Some (take l.r l.matrix))
+    × (all_present (map (sampled_row g.G.Xof.front l.rho g.row.L) (range_with_len 0 l.r)) ≡ Some (take l.r l.matrix))

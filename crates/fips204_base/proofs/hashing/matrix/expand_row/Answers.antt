@@ -1,11 +1,10 @@
-use Rattle.std.proofs.Common.{ℕ, ◌≡◌, ◌∙◌, ◌+◌, ◌++◌, ◌∷◌, [], ap, sym, arith, rules, length-set, map, Some, None, Err}
+use Rattle.std.proofs.Common.{◌≡◌, ◌∙◌, ◌+◌, ◌++◌, ◌∷◌, [], ap, sym, arith, rules, length-set, map, Some, None, Err}
 use Rattle.std.proofs.lemmas.List.{length-replicate}
 use Rattle.fips204_base.specs.declared.fault.Fault.TheVariants.{SamplingLimit}
 use Rattle.std.specs.List.{range_with_len}
-use Rattle.fips204_base.specs.MatrixEntry.{matrix_entry}
+use Rattle.fips204_base.specs.MatrixEntry.{matrix_entry, sampled_entry}
 use Rattle.fips204_base.specs.Sampling.{all_present}
-use Rattle.fips204_base.proofs.Samplings.{all_present-none}
-use Rattle.fips204_base.proofs.Present.{present_nil, present_next, some_of_ok, none_of_err}
+use Rattle.fips204_base.proofs.Sampled.{all_present-none, present_nil, present_next, some_of_ok, none_of_err}
 use Rattle.fips204_base.proofs.hashing.matrix.expand_row.Goals as goal
 
 pub loop-s-init : goal.loop-s-init
@@ -13,7 +12,7 @@ loop-s-init g c = (length-replicate _ _, present_nil)
 
 pub returns-in_err-row : goal.returns-in_err-row
 returns-in_err-row g c =
-    let entry = λ (s : ℕ). matrix_entry (g.G.Xof.front (c.args.rho.now ++ s ∷ c.args.r ∷ [])) in
+    let entry = sampled_entry g.G.Xof.front c.args.rho.now c.args.r in
     let same : c.as_slice.result.now ≡ c.args.rho.now = search rules in
     let fault = none_of_err _ c.in_err-row.field-0.0 c.in_err-row.ensures in
     let here : entry c.loop-s.s ≡ None = ap (λ l. matrix_entry (g.G.Xof.front (l ++ c.loop-s.s ∷ c.args.r ∷ []))) (sym same) ∙ fault.0 in
@@ -23,7 +22,7 @@ returns-in_err-row g c =
 
 pub loop-s-preserved : goal.loop-s-preserved
 loop-s-preserved g c =
-    let entry = λ (s : ℕ). matrix_entry (g.G.Xof.front (c.args.rho.now ++ s ∷ c.args.r ∷ [])) in
+    let entry = sampled_entry g.G.Xof.front c.args.rho.now c.args.r in
     let same : c.as_slice.result.now ≡ c.args.rho.now = search rules in
     let there = some_of_ok _ c.in_ok-row.field-0 c.in_ok-row.ensures in
     let here : entry c.loop-s.s ≡ Some c.in_ok-row.field-0 = ap (λ l. matrix_entry (g.G.Xof.front (l ++ c.loop-s.s ∷ c.args.r ∷ []))) (sym same) ∙ there in (

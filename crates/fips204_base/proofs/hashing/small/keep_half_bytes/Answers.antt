@@ -3,8 +3,7 @@ use Rattle.std.specs.Prelude.{option_to_list}
 use Rattle.std.specs.Int.{w32}
 use Rattle.fips204_base.specs.Coefficients.{coefficient_from_half_byte}
 use Rattle.fips204_base.specs.SmallPolynomial.{kept_half_bytes}
-use Rattle.fips204_base.proofs.Keeping.{keeps_there, keeps_joined}
-use Rattle.fips204_base.proofs.HalfBytes.{kept_half_bytes-zero, kept_half_bytes-more}
+use Rattle.fips204_base.proofs.Sampling.{keeps_there, keeps_joined, kept_half_bytes-zero, kept_half_bytes-more}
 use Rattle.fips204_base.proofs.hashing.small.keep_half_bytes.Goals as goal
 
 pub loop-byte-init : goal.loop-byte-init
@@ -26,6 +25,6 @@ loop-byte-preserved c =
     let given2 = c.keep-count-in-loop-byte.ensures.kept ∙ ap (λ o. take 256 (take c.keep-count.result c.keep-count.new.values ++ option_to_list o)) c.coeff_from_half_byte-in-loop-byte.ensures in
     let kept2 = keeps_joined high kept1 c.keep-count-in-loop-byte.array_long c.keep-count-in-loop-byte.ensures.count given2 in
     let more : before ++ kept_half_bytes eta piece (n + 1) ≡ ((before ++ kept_half_bytes eta piece n) ++ low) ++ high =
-    ap (λ l. before ++ l) (kept_half_bytes-more eta piece n byte (omega (arith, c.told-piece, c.loop-byte-test.true)) refl ∙ append_assoc (kept_half_bytes eta piece n) low high)
+    ap (λ l. before ++ l) (kept_half_bytes-more eta piece n byte (omega (arith, c.loop-byte-test.true)) refl ∙ append_assoc (kept_half_bytes eta piece n) low high)
     ∙ sym (append_assoc before (kept_half_bytes eta piece n) (low ++ high)) ∙ sym (append_assoc (before ++ kept_half_bytes eta piece n) low high) in
     rw more kept2

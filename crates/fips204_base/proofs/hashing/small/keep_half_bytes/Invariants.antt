@@ -1,6 +1,6 @@
 use Rattle.std.proofs.Common.{◌++◌, take, nat_abs}
 use Rattle.fips204_base.specs.SmallPolynomial.{kept_half_bytes}
-use Rattle.fips204_base.proofs.Keeping.{Keeps}
+use Rattle.fips204_base.proofs.Sampling.{Keeps}
 use Rattle.fips204_base.proofs.hashing.small.keep_half_bytes.Given as goal
 
 abbrev pub invariant-loop-byte : goal.invariant-loop-byte

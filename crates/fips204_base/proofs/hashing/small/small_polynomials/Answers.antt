@@ -5,8 +5,7 @@ use Rattle.std.proofs.lemmas.List.{length-replicate, take_all}
 use Rattle.fips204_base.specs.declared.fault.Fault.TheVariants.{SamplingLimit}
 use Rattle.fips204_base.specs.SmallPolynomial.{small_polynomial, small_vector}
 use Rattle.fips204_base.specs.Sampling.{all_present}
-use Rattle.fips204_base.proofs.Samplings.{all_present-none}
-use Rattle.fips204_base.proofs.Present.{present_nil, present_next, some_of_ok, none_of_err}
+use Rattle.fips204_base.proofs.Sampled.{all_present-none, present_nil, present_next, some_of_ok, none_of_err}
 use Rattle.fips204_base.proofs.hashing.small.small_polynomials.Goals as goal
 
 pub loop-r-init : goal.loop-r-init

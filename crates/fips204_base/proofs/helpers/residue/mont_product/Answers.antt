@@ -1,8 +1,7 @@
 use Rattle.std.proofs.Common.{◌≡◌, ◌*ℤ◌, arith, to_z, of_z}
 use Rattle.std.specs.Int.{w32, w64}
 use Rattle.std.proofs.lemmas.Int.{ints, to_z-of_z}
-use Rattle.fips204_base.proofs.Residues.{same_trans}
-use Rattle.fips204_base.proofs.Integers.{product_bound, residue_mul}
+use Rattle.fips204_base.proofs.Residues.{congruent_trans, product_bound, residue_mul}
 use Rattle.fips204_base.proofs.helpers.residue.mont_product.Goals as goal
 
 pub mont_reduce-requires : goal.mont_reduce-requires
@@ -16,4 +15,4 @@ returns-clause-congruent c =
     let product : c.wide_product.result ≡ c.args.x *ℤ c.args.factor = rw (to_z-of_z w32 c.args.x c.ranges.x, to_z-of_z w32 c.args.factor c.ranges.factor) at c.wide_product.ensures in
     let read : to_z w64 (of_z w64 c.wide_product.result) ≡ c.wide_product.result = to_z-of_z w64 c.wide_product.result record { sfits = c.wide_product.type_inv } in
     let back : to_z w32 (of_z w32 c.mont_reduce.result) ≡ c.mont_reduce.result = to_z-of_z w32 c.mont_reduce.result record { sfits = c.mont_reduce.type_inv } in
-    rw back (same_trans (rw (read, product) at c.mont_reduce.ensures.congruent) (residue_mul c.args.x c.args.factor))
+    rw back (congruent_trans (rw (read, product) at c.mont_reduce.ensures.congruent) (residue_mul c.args.x c.args.factor))

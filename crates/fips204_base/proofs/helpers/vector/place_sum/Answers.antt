@@ -3,11 +3,9 @@ use Rattle.std.specs.Prelude.{nat_abs}
 use Rattle.std.specs.Int.{w32, w64}
 use mir.Val.{SFits}
 use Rattle.std.proofs.lemmas.Int.{ints, to_z-of_z, fits_signed_from_abs}
-use Rattle.std.proofs.lemmas.List.{get_or_default}
-use Rattle.fips204_base.specs.declared.types.TheConstants.{T0}
 use Rattle.fips204_base.specs.Residues.{residue, sum_below}
 use Rattle.fips204_base.specs.Polynomials.{vector_residues}
-use Rattle.fips204_base.proofs.Integers.{residue_sum_more, size_sum_more, size_at}
+use Rattle.fips204_base.proofs.Residues.{residue_sum_more, size_sum_more, size_at}
 use Rattle.fips204_base.proofs.helpers.vector.place_sum.Goals as goal
 
 -- a product of two small numbers, added
@@ -50,11 +48,7 @@ loop-k-preserved g c =
     let hy = size_at 8380416 column.0 c.args.j (c.requires.vector k record { 0 = [] } (omega (arith, c.loop-k-test.true, in_column))) in
     let s = to_z w64 c.loop-k.sum-bits in
     let next = (added s x y c.wide_product-sum.result k c.loop-k.invariant.small (omega (arith, c.loop-k-test.true, c.requires.columns)) hx hy c.wide_product-sum.ensures).1 in
-    let same_row : row ≡ get_or c.args.row.now k T0 = get_or_default c.args.row.now k record { 0 = [] } T0 (omega (arith, c.loop-k-test.true, in_row)) in
-    let same_column : column ≡ get_or c.args.u.now k T0 = get_or_default c.args.u.now k record { 0 = [] } T0 (omega (arith, c.loop-k-test.true, in_column)) in
-    let term : residue x * residue y ≡ vector_residues c.args.row.now k c.args.j * vector_residues c.args.u.now k c.args.j =
-    ap (λ t. residue (get_or t.0 c.args.j (pos 0)) * residue y) same_row ∙ ap (λ t. vector_residues c.args.row.now k c.args.j * residue (get_or t.0 c.args.j (pos 0))) same_column in
     record {
-      value = ap residue next ∙ residue_sum_more s x y k (λ k. vector_residues c.args.row.now k c.args.j * vector_residues c.args.u.now k c.args.j) c.loop-k.invariant.value term;
+      value = ap residue next ∙ residue_sum_more s x y k (λ k. vector_residues c.args.row.now k c.args.j * vector_residues c.args.u.now k c.args.j) c.loop-k.invariant.value refl;
       small = rw next (size_sum_more s x y k c.loop-k.invariant.small hx hy);
     }

@@ -1,10 +1,10 @@
 use Rattle.std.proofs.Common.{◌≡◌, ◌*◌, to_z, of_z, neg_ℤ, pos, ◌-ℤ◌, arith, ◌∙◌, ap}
 use Rattle.std.specs.Int.{w32}
 use Rattle.std.proofs.lemmas.Int.{ints, to_z-of_z}
-use Rattle.fips204_base.specs.Residues.{residue, Same}
+use Rattle.fips204_base.specs.Residues.{residue, IsCongruent}
 use Rattle.fips204_base.specs.Transforms.{zeta_at}
-use Rattle.fips204_base.proofs.Residues.{same_of, same_trans}
-use Rattle.fips204_base.proofs.Montgomery.{only_lane, minus_factor_is, factor_taken}
+use Rattle.fips204_base.proofs.Residues.{congruent_of, congruent_trans}
+use Rattle.fips204_base.proofs.Reductions.{only_lane, minus_factor_is, factor_taken}
 use Rattle.fips204_base.proofs.helpers.residue.I32Residue.mul_neg_zeta.Goals as goal
 
 pub returns-clause-value : goal.returns-clause-value
@@ -17,5 +17,5 @@ returns-clause-value c =
     let minus : factor ≡ neg_ℤ zeta = omega (arith, ints, c.zeta_mont.ensures) in
     let read_x : to_z w32 (of_z w32 x) ≡ x = to_z-of_z w32 x c.ranges.self in
     let s = rw read_x at c.mont_product.ensures.congruent in
-    only_lane (λ a b. Same (residue b) (8380416 * (z * residue a))) x r (to_z w32 (of_z w32 r)) (to_z-of_z w32 r record { sfits = c.mont_product.type_inv })
-    (same_trans (factor_taken x r factor (8380416 * z) (minus_factor_is factor z (minus ∙ ap neg_ℤ c.zeta_mont.ensures)) s) (same_of (omega arith)))
+    only_lane (λ a b. IsCongruent (residue b) (8380416 * (z * residue a))) x r (to_z w32 (of_z w32 r)) (to_z-of_z w32 r record { sfits = c.mont_product.type_inv })
+    (congruent_trans (factor_taken x r factor (8380416 * z) (minus_factor_is factor z (minus ∙ ap neg_ℤ c.zeta_mont.ensures)) s) (congruent_of (omega arith)))

@@ -1,9 +1,9 @@
 use Rattle.std.proofs.Common.{◌≡◌, ◌*◌, to_z, of_z}
 use Rattle.std.specs.Int.{w32}
 use Rattle.std.proofs.lemmas.Int.{to_z-of_z}
-use Rattle.fips204_base.specs.Residues.{residue, Same}
+use Rattle.fips204_base.specs.Residues.{residue, IsCongruent}
 use Rattle.fips204_base.specs.Transforms.{zeta_at}
-use Rattle.fips204_base.proofs.Montgomery.{only_lane, factor_is, factor_taken}
+use Rattle.fips204_base.proofs.Reductions.{only_lane, factor_is, factor_taken}
 use Rattle.fips204_base.proofs.helpers.residue.I32Residue.mul_zeta.Goals as goal
 
 pub returns-clause-value : goal.returns-clause-value
@@ -15,5 +15,5 @@ returns-clause-value c =
     let read_x : to_z w32 (of_z w32 x) ≡ x = to_z-of_z w32 x c.ranges.self in
     let read_factor : to_z w32 (of_z w32 factor) ≡ factor = to_z-of_z w32 factor record { sfits = c.zeta_mont.type_inv } in
     let s = rw (read_x, read_factor) at c.mont_product.ensures.congruent in
-    only_lane (λ a b. Same (residue b) (z * residue a)) x r (to_z w32 (of_z w32 r)) (to_z-of_z w32 r record { sfits = c.mont_product.type_inv })
+    only_lane (λ a b. IsCongruent (residue b) (z * residue a)) x r (to_z w32 (of_z w32 r)) (to_z-of_z w32 r record { sfits = c.mont_product.type_inv })
     (factor_taken x r factor z (factor_is factor z c.zeta_mont.ensures) s)

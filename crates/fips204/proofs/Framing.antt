@@ -1,0 +1,159 @@
+-- A framed message determines what was framed; one signature for two framed messages gives a collision.
+use Rattle.std.proofs.Common.{◌≡◌, ◌+◌, ℕ, List, [], ◌∷◌, ◌++◌, length, take, drop, get_or, Bool, true, false, not, ◌&&◌, nat_eq, nat_lt, nat_le, IsTrue, if◌then◌else◌, Option, Some, None, refl, sym, ap, ◌∙◌, arith, append_assoc, true≢false, eqb-true, ◌≢◌, ◌≤◌, ◌⊎◌, inl, inr, ◌||◌, Decides}
+use Rattle.fips204_base.specs.declared.fault.Fault.{Fault}
+use Rattle.fips204_base.specs.declared.fault.Fault.TheVariants.{OidEmpty, OidNotDer, DigestTooLong, DigestLength, HashCtx}
+use Rattle.std.proofs.Math.Seq.{take-append_seam, drop-append_seam}
+use Rattle.fips204.specs.PreHash.{is_der, differs, digest_length, pre_hash_fault}
+use Rattle.fips204.specs.MessageLaws.{Input, plain, hashed, framed_input, input_fault, FramingIsOneToOne, SignatureBindsMessage}
+use Rattle.fips204.proofs.ParameterSets.{and_out, or_out, agrees}
+use Rattle.std.specs.Prelude.{bytes_eq}
+use Rattle.std.proofs.lemmas.List.{append_cancel_left, append_cancel_right}
+use Rattle.std.proofs.lemmas.Slice.Eq.{bytes_eq-Decides}
+use Rattle.fips204_base.specs.declared.types.R.{R}
+use Rattle.fips204_base.specs.declared.types.T.{T}
+use Rattle.fips204_base.specs.Encodings.{w1_bytes}
+use Rattle.fips204_base.specs.Challenge.{challenge}
+use Rattle.fips204_base.proofs.EncodedParts.{same_signature}
+use Rattle.fips204.specs.ParameterSets.{ParameterSet, is_parameter_set, set_44, set_65, set_87, same_parameters, commitment_length}
+use Rattle.fips204.specs.Attempts.{commitment}
+use Rattle.fips204.specs.Acceptance.{Accepts, w1_prime}
+use Rattle.fips204.specs.Framing.{message_hash}
+
+-- A framed message determines what was framed.
+
+-- two joined lists, cut at one place
+cut : (xs ys us vs : List ℕ) → length xs ≡ length ys → xs ++ us ≡ ys ++ vs → (xs ≡ ys) × (us ≡ vs)
+cut xs ys us vs l e = (
+  sym (take-append_seam xs us) ∙ ap (take (length xs)) e ∙ ap (λ n. take n (ys ++ vs)) l ∙ take-append_seam ys vs,
+  sym (drop-append_seam xs us) ∙ ap (drop (length xs)) e ∙ ap (λ n. drop n (ys ++ vs)) l ∙ drop-append_seam ys vs,
+)
+
+-- no refusal: neither the first one nor a later one
+later_none : (b : Bool) (fault : Fault) (rest : Option Fault) → (if b then Some fault else rest) ≡ None → rest ≡ None
+later_none true fault rest e = absurd (cc)
+later_none false fault rest e = e
+
+test_true : (b : Bool) (fault : Fault) (rest : Option Fault) → (if not b then Some fault else rest) ≡ None → IsTrue b
+test_true true fault rest e = refl
+test_true false fault rest e = absurd (cc)
+
+der_of_none : (digest oid : List ℕ) → pre_hash_fault digest oid ≡ None → IsTrue (is_der oid)
+unfolding pre_hash_fault
+der_of_none digest oid e =
+    let last = if nat_lt 1024 (length digest) then Some DigestTooLong else if differs (digest_length oid) (length digest) then Some DigestLength else None in
+    test_true (is_der oid) OidNotDer last (later_none (nat_eq (length oid) 0) OidEmpty (if not (is_der oid) then Some OidNotDer else last) e)
+
+-- ---- OIDs
+
+-- the second byte is the number of bytes after it
+second_byte : (x y : ℕ) (rest : List ℕ) → IsTrue (is_der (x ∷ y ∷ rest)) → y ≡ length rest
+second_byte x y rest t =
+    let oid = x ∷ y ∷ rest in
+    let tests = and_out (nat_le 3 (length oid) && nat_eq x 0x06 && nat_lt y 128) (nat_eq (y + 2) (length oid)) t in
+    let e = eqb-true (y + 2) (length oid) tests.1 in
+    omega (arith, e)
+
+same_oid : (o p d e : List ℕ) → IsTrue (is_der o) → IsTrue (is_der p) → o ++ d ≡ p ++ e → (o ≡ p) × (d ≡ e)
+same_oid [] p d e s t same = absurd (true≢false (sym s))
+same_oid (w ∷ []) p d e s t same = absurd (true≢false (sym s))
+same_oid (w ∷ x ∷ o) [] d e s t same = absurd (true≢false (sym t))
+same_oid (w ∷ x ∷ o) (y ∷ []) d e s t same = absurd (true≢false (sym t))
+same_oid (w ∷ x ∷ o) (y ∷ z ∷ p) d e s t same =
+    let one = second_byte w x o s in
+    let two = second_byte y z p t in
+    let bytes : x ≡ z = ap (λ l. get_or l 1 0) same in
+    cut (w ∷ x ∷ o) (y ∷ z ∷ p) d e (omega (arith, one, two, bytes)) same
+
+-- ---- framed messages
+
+modes : (xs ys : List ℕ) (m n : ℕ) → m ∷ xs ≡ n ∷ ys → m ≡ n
+modes xs ys m n e = ap (λ l. get_or l 0 0) e
+
+-- a context with its length before it, and what follows
+same_context : (c d us vs : List ℕ) (mode : ℕ) → mode ∷ length c ∷ c ++ us ≡ mode ∷ length d ∷ d ++ vs → (c ≡ d) × (us ≡ vs)
+same_context c d us vs mode e =
+    let lengths : length c ≡ length d = ap (λ l. get_or l 1 0) e in
+    let rest : c ++ us ≡ d ++ vs = cc in
+    cut c d us vs lengths rest
+
+same_input : (x y : Input) → input_fault x ≡ None → input_fault y ≡ None → framed_input x ≡ framed_input y → x ≡ y
+same_input (plain c m) (plain d n) s t e =
+    let both = same_context c d m n 0 e in
+    cc
+same_input (plain c m) (hashed d o h) s t e = absurd (omega (arith, modes _ _ _ _ e))
+same_input (hashed c o h) (plain d n) s t e = absurd (omega (arith, modes _ _ _ _ e))
+same_input (hashed c o h) (hashed d p i) s t e =
+    let left : 1 ∷ length c ∷ c ++ (o ++ h) ≡ 1 ∷ length d ∷ d ++ (p ++ i) = ap (λ l. 1 ∷ length c ∷ l) (sym (append_assoc c o h)) ∙ e ∙ ap (λ l. 1 ∷ length d ∷ l) (append_assoc d p i) in
+    let outer = same_context c d (o ++ h) (p ++ i) 1 left in
+    let first = der_of_none h o (later_none _ HashCtx (pre_hash_fault h o) s) in
+    let second = der_of_none i p (later_none _ HashCtx (pre_hash_fault i p) t) in
+    let inner = same_oid o p h i first second outer.1 in
+    cc
+
+pub framing_is_one_to_one : FramingIsOneToOne
+framing_is_one_to_one = same_input
+
+-- One signature for two framed messages gives a collision.
+
+-- ---- two lists are the same or they differ
+
+by_test : (P : Type 0) (b : Bool) → Decides b P → P ⊎ (P → ⊥)
+by_test P true d = inl (d.0 refl)
+by_test P false d = inr (λ p. true≢false (sym (d.1 p)))
+
+same_or_not : (xs ys : List ℕ) → (xs ≡ ys) ⊎ (xs ≢ ys)
+same_or_not xs ys = by_test (xs ≡ ys) (bytes_eq xs ys) (bytes_eq-Decides xs ys)
+
+-- ---- one signature has one w1'
+
+gamma1_fits : (p : ParameterSet) → IsTrue (is_parameter_set p) → (1 ≤ p.gamma1) × (p.gamma1 ≤ 1048575)
+gamma1_fits p t =
+    let fits : (row : ParameterSet) → 1 ≤ row.gamma1 → row.gamma1 ≤ 1048575 → IsTrue (same_parameters p row) → (1 ≤ p.gamma1) × (p.gamma1 ≤ 1048575) =
+    λ row low high s. let a = (agrees p row s).gamma1 in rw a (low, high) in
+    elim (or_out (same_parameters p set_44 || same_parameters p set_65) (same_parameters p set_87) t) [
+      | inl y ↦ elim (or_out (same_parameters p set_44) (same_parameters p set_65) y) [
+        | inl x ↦ fits set_44 (omega arith) (omega arith) x
+        | inr x ↦ fits set_65 (omega arith) (omega arith) x
+      ]
+      | inr x ↦ fits set_87 (omega arith) (omega arith) x
+    ]
+
+-- c_tilde and w1' are the same for both
+pub one_commitment : (p : ParameterSet) (H : List ℕ → List ℕ) (a b : List (List T)) (t1 : List R) (mu nu signature : List ℕ)
+    → IsTrue (is_parameter_set p) → a ≡ b → (x : Accepts p H a t1 mu signature) (y : Accepts p H b t1 nu signature)
+    → (x.c_tilde ≡ y.c_tilde) × (w1_prime p a t1 x.z x.h x.c ≡ w1_prime p b t1 y.z y.h y.c)
+one_commitment p H a b t1 mu nu signature row same x y =
+    let fits = gamma1_fits p row in
+    let parts = same_signature p.gamma1 p.omega p.k p.l (commitment_length p) signature x.c_tilde y.c_tilde x.z y.z x.h y.h fits.0 fits.1 x.hint y.hint in
+    let challenges : Some x.c ≡ Some y.c = sym x.challenge ∙ ap (λ bytes. challenge p.tau (H bytes)) parts.0 ∙ y.challenge in
+    let one : x.c ≡ y.c = cc in
+    let z = parts.1 in
+    let h = parts.2 in
+    (parts.0, ap (λ m. w1_prime p m t1 x.z x.h x.c) same ∙ ap (λ v. w1_prime p b t1 v x.h x.c) z ∙ ap (λ v. w1_prime p b t1 y.z v x.c) h ∙ ap (λ v. w1_prime p b t1 y.z y.h v) one)
+
+-- ---- the collision
+
+committed : (p : ParameterSet) (H : List ℕ → List ℕ) (mu nu c d : List ℕ) (v w : List R) → c ≡ commitment p H mu v → d ≡ commitment p H nu w → c ≡ d → v ≡ w
+    → take (commitment_length p) (H (mu ++ w1_bytes p.gamma2 v)) ≡ take (commitment_length p) (H (nu ++ w1_bytes p.gamma2 v))
+unfolding commitment
+committed p H mu nu c d v w m n same one = sym m ∙ same ∙ n ∙ ap (λ u. take (commitment_length p) (H (nu ++ w1_bytes p.gamma2 u))) (sym one)
+
+pub signature_binds_message : SignatureBindsMessage
+signature_binds_message p H G pk m n signature row differ first second =
+    let mu = message_hash H pk.tr m in
+    let nu = message_hash H pk.tr n in
+    let matrices : Some first.a ≡ Some second.a = sym first.matrix ∙ second.matrix in
+    let matrix : first.a ≡ second.a = cc in
+    let x = first.accepted in
+    let y = second.accepted in
+    let both = one_commitment p H first.a second.a pk.t1 mu nu signature row matrix x y in
+    let bytes = w1_bytes p.gamma2 (w1_prime p first.a pk.t1 x.z x.h x.c) in (
+      ap (w1_bytes p.gamma2) both.1,
+      elim (same_or_not mu nu) [
+        | inl e ↦ inl record { differ = λ d. differ (append_cancel_left pk.tr m n d); same = e }
+        | inr other ↦ inr record {
+          differ = λ d. other (append_cancel_right mu nu bytes d);
+          same = committed p H mu nu x.c_tilde y.c_tilde _ _ x.commitment y.commitment both.0 both.1;
+        }
+      ],
+    )

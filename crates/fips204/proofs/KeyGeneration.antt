@@ -1,0 +1,134 @@
+-- The vector t = A s1 + s2 of a pair of keys, and what key generation and derivation answer.
+use Rattle.std.proofs.Common.{◌≡◌, ◌<◌, ◌%◌, ℕ, List, pos, ap, ◌∙◌, arith, ◌⊎◌, inl, inr, refl, sym, Some, None, Ok, Err, take, drop}
+use Rattle.std.proofs.lemmas.Int.{ints}
+use Rattle.fips204_base.specs.declared.types.R.{R}
+use Rattle.fips204_base.specs.declared.types.T.{T}
+use Rattle.fips204_base.specs.Products.{plus}
+use Rattle.fips204_base.specs.Residues.{residue}
+use Rattle.fips204_base.specs.Rounding.{power2round}
+use Rattle.fips204_base.specs.Vectors.{IsVector, vector_coefficients, vector_of, matrix_product}
+use Rattle.fips204_base.proofs.Rounding.{power2round_high, power2round_low}
+use Rattle.fips204_base.proofs.Vectors.{vector_of-ext, vector_of-entry, vector_of-range}
+use Rattle.fips204.specs.KeyGeneration.{key_vector, high_part, low_part, seeds, key_hash, key_pair, key_pair_if_all, key_generation, public_key_of}
+use Rattle.fips204.specs.ParameterSets.{ParameterSet}
+use Rattle.std.specs.Prelude.{ok_or}
+use Rattle.std.specs.declared.option.Option.{Option}
+use Rattle.fips204_base.specs.declared.fault.Fault.TheVariants.{SamplingLimit}
+use Rattle.fips204_base.specs.MatrixEntry.{sampled_matrix}
+use Rattle.fips204_base.specs.SmallPolynomial.{small_vector}
+use Rattle.fips204.specs.Keys.{PublicParts, PrivateParts}
+use Rattle.fips204.specs.Refusals.{generated, derived}
+
+-- The vector t = A s1 + s2 of a pair of keys, and its parts.
+
+-- coefficients of t are residues
+abbrev pub IsKeyVector : ParameterSet → List (List T) → List R → List R → List R → Type 0
+IsKeyVector p a s1 s2 t = t ≡ vector_of p.k (λ r n. pos (key_vector p a s1 s2 r n))
+
+pub key_vector-is : (p : ParameterSet) (a : List (List T)) (s1 s2 t : List R) (k l : ℕ) → k ≡ p.k → l ≡ p.l
+    → t ≡ vector_of k (λ r n. pos (plus (matrix_product l a (vector_coefficients s1) r) (vector_coefficients s2 r) n)) → IsKeyVector p a s1 s2 t
+key_vector-is p a s1 s2 t k l rows columns e = e ∙ rw (rows, columns) refl
+
+key_vector-below : (p : ParameterSet) (a : List (List T)) (s1 s2 : List R) (r n : ℕ) → key_vector p a s1 s2 r n < 8380417
+key_vector-below p a s1 s2 r n = omega arith
+
+read_back : (p : ParameterSet) (a : List (List T)) (s1 s2 t : List R) (r n : ℕ) → IsKeyVector p a s1 s2 t → r < p.k → n < 256 → vector_coefficients t r n ≡ key_vector p a s1 s2 r n
+read_back p a s1 s2 t r n e h q =
+    ap (λ v. vector_coefficients v r n) e ∙ ap residue (vector_of-entry p.k (λ r n. pos (key_vector p a s1 s2 r n)) r n h q) ∙ own (key_vector p a s1 s2 r n) (key_vector-below p a s1 s2 r n)
+  where
+    own : (x : ℕ) → x < 8380417 → x % 8380417 ≡ x
+    own x h = omega (arith, h)
+
+-- the high parts of t are its high part
+pub high_part-is : (p : ParameterSet) (a : List (List T)) (s1 s2 t t1 : List R) (k : ℕ) → k ≡ p.k → IsKeyVector p a s1 s2 t
+    → t1 ≡ vector_of k (λ r n. pos (power2round (vector_coefficients t r n)).0) → t1 ≡ high_part p a s1 s2
+unfolding high_part
+high_part-is p a s1 s2 t t1 k rows e high =
+    high ∙ rw rows (vector_of-ext p.k _ _ (λ r n h q. ap (λ x. pos (power2round x).0) (read_back p a s1 s2 t r n e h q)))
+
+-- and the low ones its low part
+pub low_part-is : (p : ParameterSet) (a : List (List T)) (s1 s2 t t0 : List R) (k : ℕ) → k ≡ p.k → IsKeyVector p a s1 s2 t
+    → t0 ≡ vector_of k (λ r n. (power2round (vector_coefficients t r n)).1) → t0 ≡ low_part p a s1 s2
+unfolding low_part
+low_part-is p a s1 s2 t t0 k rows e low =
+    low ∙ rw rows (vector_of-ext p.k _ _ (λ r n h q. ap (λ x. (power2round x).1) (read_back p a s1 s2 t r n e h q)))
+
+pub high_part-range : (p : ParameterSet) (a : List (List T)) (s1 s2 : List R) → IsVector p.k 0 1023 (high_part p a s1 s2)
+unfolding high_part
+high_part-range p a s1 s2 =
+    vector_of-range p.k 0 1023 (λ r n. pos (power2round (key_vector p a s1 s2 r n)).0) (λ r n h q.
+    let high = power2round_high (key_vector p a s1 s2 r n) (key_vector-below p a s1 s2 r n) in
+    (omega (arith, ints), omega (arith, ints, high)))
+
+pub low_part-range : (p : ParameterSet) (a : List (List T)) (s1 s2 : List R) → IsVector p.k 4095 4096 (low_part p a s1 s2)
+unfolding low_part
+low_part-range p a s1 s2 =
+    vector_of-range p.k 4095 4096 (λ r n. (power2round (key_vector p a s1 s2 r n)).1) (λ r n h q.
+    power2round_low (key_vector p a s1 s2 r n) (key_vector-below p a s1 s2 r n))
+
+-- What key generation and derivation answer.
+
+-- the matrix by other names of its rows and columns
+matrix_of : (G : List ℕ → List ℕ) (rho : List ℕ) (k l m n : ℕ) (o : Option (List (List T))) → k ≡ m → l ≡ n → sampled_matrix G rho k l ≡ o → sampled_matrix G rho m n ≡ o
+matrix_of G rho k l m n o rows columns e = rw (rows, columns) at e
+
+pub derived-none : (p : ParameterSet) (G : List ℕ → List ℕ) (sk : PrivateParts) (k l : ℕ) → k ≡ p.k → l ≡ p.l → sampled_matrix G sk.rho k l ≡ None → derived p G sk ≡ Err SamplingLimit
+unfolding public_key_of
+derived-none p G sk k l rows columns e =
+    let none = matrix_of G sk.rho k l p.k p.l None rows columns e in
+    rw none refl
+
+pub derived-some : (p : ParameterSet) (G : List ℕ → List ℕ) (sk : PrivateParts) (k l : ℕ) (a : List (List T)) (t1 : List R) → k ≡ p.k → l ≡ p.l → sampled_matrix G sk.rho k l ≡ Some a
+    → t1 ≡ high_part p a sk.s1 sk.s2 → derived p G sk ≡ Ok (record { rho = sk.rho; tr = sk.tr; t1 = t1 })
+unfolding public_key_of
+derived-some p G sk k l a t1 rows columns e high =
+    let there = matrix_of G sk.rho k l p.k p.l (Some a) rows columns e in
+    rw (there, high) refl
+
+-- ---- key generation
+
+-- what is sampled of the seeds, by other names of the rows and columns
+pub record AreSampled (p : ParameterSet) (H G : List ℕ → List ℕ) (k l : ℕ) (rho rho' : List ℕ) (a : Option (List (List T))) (s1 s2 : Option (List R)) : Type 0 where
+  pub rows : k ≡ p.k
+  pub columns : l ≡ p.l
+  pub matrix : sampled_matrix G rho k l ≡ a
+  pub first : small_vector p.eta H rho' 0 l ≡ s1
+  pub second : small_vector p.eta H rho' l k ≡ s2
+
+-- the seeds
+pub record AreSeeds (p : ParameterSet) (H : List ℕ → List ℕ) (xi rho rho' key : List ℕ) : Type 0 where
+  pub matrix : rho ≡ take 32 (seeds p H xi)
+  pub vectors : rho' ≡ take 64 (drop 32 (seeds p H xi))
+  pub masks : key ≡ take 32 (drop 96 (seeds p H xi))
+
+generated-is : (p : ParameterSet) (H G : List ℕ → List ℕ) (xi rho rho' key : List ℕ) (k l : ℕ) (a : Option (List (List T))) (s1 s2 : Option (List R))
+    → AreSeeds p H xi rho rho' key → AreSampled p H G k l rho rho' a s1 s2 → generated p H G xi ≡ ok_or (key_pair_if_all p H rho key a s1 s2) SamplingLimit
+unfolding key_generation
+generated-is p H G xi rho rho' key k l a s1 s2 from given =
+    let matrix = rw (given.rows, given.columns) at given.matrix in
+    let first = rw given.columns at given.first in
+    let second = rw (given.rows, given.columns) at given.second in
+    rw (sym from.matrix, sym from.vectors, sym from.masks) (rw (matrix, first, second) refl)
+
+no_pair : (p : ParameterSet) (H : List ℕ → List ℕ) (rho key : List ℕ) (a : Option (List (List T))) (s1 s2 : Option (List R)) → (a ≡ None) ⊎ ((s1 ≡ None) ⊎ (s2 ≡ None)) → key_pair_if_all p H rho key a s1 s2 ≡ None
+unfolding key_pair_if_all
+no_pair p H rho key None s1 s2 h = refl
+no_pair p H rho key (Some a) None s2 h = refl
+no_pair p H rho key (Some a) (Some s1) None h = refl
+no_pair p H rho key (Some a) (Some s1) (Some s2) (inl e) = absurd cc
+no_pair p H rho key (Some a) (Some s1) (Some s2) (inr (inl e)) = absurd cc
+no_pair p H rho key (Some a) (Some s1) (Some s2) (inr (inr e)) = absurd cc
+
+-- one of the samplings is none
+pub generated-none : (p : ParameterSet) (H G : List ℕ → List ℕ) (xi rho rho' key : List ℕ) (k l : ℕ) (a : Option (List (List T))) (s1 s2 : Option (List R))
+    → AreSeeds p H xi rho rho' key → AreSampled p H G k l rho rho' a s1 s2 → (a ≡ None) ⊎ ((s1 ≡ None) ⊎ (s2 ≡ None)) → generated p H G xi ≡ Err SamplingLimit
+generated-none p H G xi rho rho' key k l a s1 s2 from given h =
+    generated-is p H G xi rho rho' key k l a s1 s2 from given ∙ ap (λ (o : Option (PublicParts × PrivateParts)). ok_or o SamplingLimit) (no_pair p H rho key a s1 s2 h)
+
+-- all are there
+pub generated-some : (p : ParameterSet) (H G : List ℕ → List ℕ) (xi rho rho' key tr : List ℕ) (k l : ℕ) (a : List (List T)) (s1 s2 t1 t0 : List R)
+    → AreSeeds p H xi rho rho' key → AreSampled p H G k l rho rho' (Some a) (Some s1) (Some s2) → t1 ≡ high_part p a s1 s2 → t0 ≡ low_part p a s1 s2 → tr ≡ key_hash H rho t1
+    → generated p H G xi ≡ Ok ((let pk : PublicParts = record { rho = rho; tr = tr; t1 = t1 } in pk), (let sk : PrivateParts = record { rho = rho; key = key; tr = tr; s1 = s1; s2 = s2; t0 = t0 } in sk))
+unfolding key_pair_if_all key_pair
+generated-some p H G xi rho rho' key tr k l a s1 s2 t1 t0 from given high low hash =
+    generated-is p H G xi rho rho' key k l (Some a) (Some s1) (Some s2) from given ∙ rw (hash, high, low) refl

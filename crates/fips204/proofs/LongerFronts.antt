@@ -1,0 +1,256 @@
+-- Answers stay where the fronts are prefixes of longer ones.
+use Rattle.std.proofs.Common.{◌≡◌, ◌||◌, ℕ, ◌+◌, ◌-◌, ◌*◌, ◌≤◌, ◌⊎◌, inl, inr, List, [], ◌∷◌, ◌++◌, length, take, drop, map, refl, ap, sym, ◌∙◌, arith, Some, None, ok_or, IsTrue, append_assoc}
+use Rattle.std.specs.Prelude.{option_map}
+use Rattle.std.specs.declared.option.Option.{Option}
+use Rattle.std.specs.declared.result.Result.{Result}
+use Rattle.std.specs.List.{range_with_len}
+use Rattle.std.proofs.lemmas.List.{take_at}
+use Rattle.std.proofs.lemmas.Option.{none-some}
+use Rattle.fips204_base.specs.declared.fault.Fault.{Fault}
+use Rattle.fips204_base.specs.declared.fault.Fault.TheVariants.{SamplingLimit}
+use Rattle.fips204_base.specs.declared.types.R.{R}
+use Rattle.fips204_base.specs.declared.types.T.{T}
+use Rattle.fips204_base.specs.Streams.{ArePrefixes}
+use Rattle.fips204_base.specs.Vectors.{vector_coefficients, matrix_product}
+use Rattle.fips204_base.specs.Encodings.{w1_bytes, public_key_bytes, vector_bytes, IsSignature}
+use Rattle.fips204_base.specs.HintSpelling.{hint_bytes}
+use Rattle.fips204_base.specs.MatrixEntry.{sampled_matrix}
+use Rattle.fips204_base.specs.Challenge.{challenge}
+use Rattle.fips204_base.specs.Mask.{mask}
+use Rattle.fips204_base.proofs.LongerFronts.{prefix-take, prefix-part, matrix_entry-longer, small_polynomial-longer, challenge-longer, sampled_matrix-longer, small_vector-longer, mask-longer}
+use Rattle.fips204.specs.ParameterSets.{ParameterSet, set_44, set_65, set_87, same_parameters, is_parameter_set, commitment_length}
+use Rattle.fips204.specs.Keys.{PublicParts, PrivateParts}
+use Rattle.fips204.specs.KeyGeneration.{high_part, key_hash, key_pair, key_pair_if_all, key_generation, public_key_of}
+use Rattle.fips204.specs.Framing.{framed, framed_digest, message_hash}
+use Rattle.fips204.specs.Attempts.{Attempt, limit, rejected, signed, commitment, high_vector, checked_attempt, attempt}
+use Rattle.fips204.specs.Signing.{attempt_limit, first_answer, mask_seed, sign_with, sign_if_matrix, sign}
+use Rattle.fips204.specs.Acceptance.{w1_prime, Verifies}
+use Rattle.fips204.specs.Refusals.{refused_or, message_fault, digest_fault}
+use Rattle.fips204.specs.LongerFronts.{SamplesStay, Stays, AnswersStay, IsSampled, AcceptanceStays, LongerFrontsKeep}
+use Rattle.fips204.proofs.ParameterSets.{or_out, agrees, set_numbers}
+
+-- a front has at least 4096 bytes
+abbrev pub AreLong : (List ℕ → List ℕ) → Type 0
+AreLong H = (input : List ℕ) → 4096 ≤ length (H input)
+
+mask_numbers : (p : ParameterSet) → IsTrue (is_parameter_set p) → (p.gamma1 ≡ 131072) ⊎ (p.gamma1 ≡ 524288)
+mask_numbers p t = elim (or_out (same_parameters p set_44 || same_parameters p set_65) (same_parameters p set_87) t) [
+  | inl y ↦ elim (or_out (same_parameters p set_44) (same_parameters p set_65) y) [
+    | inl x ↦ inl (agrees p set_44 x).gamma1
+    | inr x ↦ inr (agrees p set_65 x).gamma1
+  ]
+  | inr x ↦ inr (agrees p set_87 x).gamma1
+]
+
+-- ---- answers that may be none
+
+ok_stays : {A : Type 0} (o longer : Option A) → ((x : A) → o ≡ Some x → longer ≡ Some x) → Stays (ok_or o SamplingLimit) (ok_or longer SamplingLimit)
+ok_stays None longer same not = absurd (not refl)
+ok_stays (Some x) longer same not = ap (λ o. ok_or o SamplingLimit) (same x refl)
+
+mapped_stays : {A B : Type 0} (f : A → B) (o longer : Option A) (y : B) → ((x : A) → o ≡ Some x → longer ≡ Some x) → option_map f o ≡ Some y → option_map f longer ≡ Some y
+mapped_stays f None longer y same e = absurd (none-some y e)
+mapped_stays f (Some x) longer y same e = ap (option_map f) (same x refl) ∙ e
+
+refused_stays : {A : Type 0} (fault : Option Fault) (answer longer : Result A Fault) → Stays answer longer → Stays (refused_or fault answer) (refused_or fault longer)
+refused_stays None answer longer stays = stays
+refused_stays (Some fault) answer longer stays = λ not. refl
+
+-- a signature begins with c_tilde
+signature-first : (gamma1 omega' k l n : ℕ) (bytes c_tilde : List ℕ) (z h : List R) → IsSignature gamma1 omega' k l n bytes c_tilde z h → take n bytes ≡ c_tilde
+signature-first gamma1 omega' k l n bytes c_tilde z h s =
+    let response = vector_bytes (gamma1 - 1) gamma1 z in
+    let hint = hint_bytes omega' h in
+    let same : (c_tilde ++ response) ++ hint ≡ bytes = s.encoding in
+    ap (take n) (sym same ∙ append_assoc c_tilde response hint) ∙ take_at c_tilde (response ++ hint) n s.commitment
+
+-- from here on: the streams H and G, and H' and G' with longer fronts
+module _ (H G H' G' : List ℕ → List ℕ) (first : ArePrefixes H H') (second : ArePrefixes G G') (enough : AreLong H) where
+  hash-longer : (n : ℕ) (input : List ℕ) → n ≤ 4096 → take n (H' input) ≡ take n (H input)
+  hash-longer n input l = prefix-take (H input) (H' input) n (first input) (omega (arith, l, enough input))
+
+  part-longer : (m n : ℕ) (input : List ℕ) → m + n ≤ 4096 → take n (drop m (H' input)) ≡ take n (drop m (H input))
+  part-longer m n input l = prefix-part (H input) (H' input) m n (first input) (omega (arith, l, enough input))
+
+  samples_stay : SamplesStay H G H' G'
+  samples_stay = record {
+    entries = λ input t e. matrix_entry-longer (G input) (G' input) t (second input) e;
+    small_polynomials = λ eta input w e. small_polynomial-longer eta (H input) (H' input) w (first input) e;
+    challenges = λ tau input c e. challenge-longer tau (H input) (H' input) c (first input) (enough input) e;
+  }
+
+  -- ---- key generation
+
+  key_pair-longer : (p : ParameterSet) (rho key : List ℕ) (a : List (List T)) (s1 s2 : List R) → key_pair p H' rho key a s1 s2 ≡ key_pair p H rho key a s1 s2
+  unfolding key_pair
+  key_pair-longer p rho key a s1 s2 =
+      let tr : key_hash H' rho (high_part p a s1 s2) ≡ key_hash H rho (high_part p a s1 s2) = hash-longer 64 (public_key_bytes rho (high_part p a s1 s2)) (omega arith) in
+      rw tr refl
+
+  pair_stays : (p : ParameterSet) (rho key : List ℕ) (a a' : Option (List (List T))) (s1 s1' s2 s2' : Option (List R)) (keys : PublicParts × PrivateParts)
+      → ((x : List (List T)) → a ≡ Some x → a' ≡ Some x) → ((x : List R) → s1 ≡ Some x → s1' ≡ Some x) → ((x : List R) → s2 ≡ Some x → s2' ≡ Some x)
+      → key_pair_if_all p H rho key a s1 s2 ≡ Some keys → key_pair_if_all p H' rho key a' s1' s2' ≡ Some keys
+  unfolding key_pair_if_all
+  pair_stays p rho key None a' s1 s1' s2 s2' keys x y z e = absurd (none-some keys e)
+  pair_stays p rho key (Some a) a' None s1' s2 s2' keys x y z e = absurd (none-some keys e)
+  pair_stays p rho key (Some a) a' (Some s1) s1' None s2' keys x y z e = absurd (none-some keys e)
+  pair_stays p rho key (Some a) a' (Some s1) s1' (Some s2) s2' keys x y z e = rw (x a refl, y s1 refl, z s2 refl) (ap Some (key_pair-longer p rho key a s1 s2) ∙ e)
+
+  key_generation-longer : (p : ParameterSet) (xi : List ℕ) (keys : PublicParts × PrivateParts) → key_generation p H G xi ≡ Some keys → key_generation p H' G' xi ≡ Some keys
+  unfolding key_generation
+  key_generation-longer p xi keys e =
+      let input = xi ++ p.k ∷ p.l ∷ [] in
+      let rho : take 32 (H' input) ≡ take 32 (H input) = hash-longer 32 input (omega arith) in
+      let rho' : take 64 (drop 32 (H' input)) ≡ take 64 (drop 32 (H input)) = part-longer 32 64 input (omega arith) in
+      let key : take 32 (drop 96 (H' input)) ≡ take 32 (drop 96 (H input)) = part-longer 96 32 input (omega arith) in
+      rw (rho, rho', key)
+      (pair_stays p (take 32 (H input)) (take 32 (drop 96 (H input))) _ _ _ _ _ _ keys
+      (λ a there. sampled_matrix-longer G G' (take 32 (H input)) p.k p.l a second there)
+      (λ v there. small_vector-longer p.eta H H' (take 64 (drop 32 (H input))) 0 p.l v first there)
+      (λ v there. small_vector-longer p.eta H H' (take 64 (drop 32 (H input))) p.l p.k v first there) e)
+
+  public_key_of-longer : (p : ParameterSet) (sk : PrivateParts) (pk : PublicParts) → public_key_of p G sk ≡ Some pk → public_key_of p G' sk ≡ Some pk
+  unfolding public_key_of
+  public_key_of-longer p sk pk e =
+      mapped_stays (λ a. record { rho = sk.rho; tr = sk.tr; t1 = high_part p a sk.s1 sk.s2 }) (sampled_matrix G sk.rho p.k p.l) (sampled_matrix G' sk.rho p.k p.l) pk
+      (λ a there. sampled_matrix-longer G G' sk.rho p.k p.l a second there) e
+
+  -- ---- signing
+
+  commitment-longer : (p : ParameterSet) (mu : List ℕ) (w1 : List R) → IsTrue (is_parameter_set p) → commitment p H' mu w1 ≡ commitment p H mu w1
+  unfolding commitment
+  commitment-longer p mu w1 t = hash-longer (commitment_length p) (mu ++ w1_bytes p.gamma2 w1) (omega (arith, (set_numbers p t).short))
+
+  checked_stays : (p : ParameterSet) (sk : PrivateParts) (y : List R) (w : ℕ → ℕ → ℕ) (c_tilde : List ℕ) (c longer : Option R) → ((x : R) → c ≡ Some x → longer ≡ Some x)
+      → (checked_attempt p sk y w c_tilde c ≡ limit) ⊎ (checked_attempt p sk y w c_tilde longer ≡ checked_attempt p sk y w c_tilde c)
+  unfolding checked_attempt
+  checked_stays p sk y w c_tilde None longer same = inl refl
+  checked_stays p sk y w c_tilde (Some c) longer same = inr (ap (checked_attempt p sk y w c_tilde) (same c refl))
+
+  attempt-longer : (p : ParameterSet) (a : List (List T)) (sk : PrivateParts) (mu rho : List ℕ) (kappa : ℕ) → IsTrue (is_parameter_set p)
+      → (attempt p H a sk mu rho kappa ≡ limit) ⊎ (attempt p H' a sk mu rho kappa ≡ attempt p H a sk mu rho kappa)
+  unfolding attempt
+  attempt-longer p a sk mu rho kappa t =
+      let y = mask p.gamma1 H rho p.l kappa in
+      let w = matrix_product p.l a (vector_coefficients y) in
+      let c_tilde = commitment p H mu (high_vector p w) in
+      let masks : mask p.gamma1 H' rho p.l kappa ≡ mask p.gamma1 H rho p.l kappa = mask-longer p.gamma1 H H' rho p.l kappa (mask_numbers p t) first enough in
+      let committed : commitment p H' mu (high_vector p w) ≡ c_tilde = commitment-longer p mu (high_vector p w) t in
+      rw (masks, committed)
+      (checked_stays p sk y w c_tilde (challenge p.tau (H c_tilde)) (challenge p.tau (H' c_tilde)) (λ c there. challenge-longer p.tau (H c_tilde) (H' c_tilde) c (first c_tilde) (enough c_tilde) there))
+
+  next_stays : (x : Attempt) (later longer : List Attempt) → Stays (first_answer later) (first_answer longer) → Stays (first_answer (x ∷ later)) (first_answer (x ∷ longer))
+  unfolding first_answer
+  next_stays limit later longer stays not = absurd (not refl)
+  next_stays rejected later longer stays not = stays not
+  next_stays (signed signature) later longer stays not = refl
+
+  first_stays : (f g : ℕ → Attempt) (ns : List ℕ) → ((n : ℕ) → (f n ≡ limit) ⊎ (g n ≡ f n)) → Stays (first_answer (map f ns)) (first_answer (map g ns))
+  unfolding first_answer
+  first_stays f g [] each not = refl
+  first_stays f g (n ∷ ns) each not = elim (each n) [
+    | inl passed ↦ absurd (not (ap (λ x. first_answer (x ∷ map f ns)) passed))
+    | inr same ↦ ap (λ x. first_answer (x ∷ map g ns)) same ∙ next_stays (f n) (map f ns) (map g ns) (first_stays f g ns each) not
+  ]
+
+  sign_with-longer : (p : ParameterSet) (a : List (List T)) (sk : PrivateParts) (mu rnd : List ℕ) → IsTrue (is_parameter_set p) → Stays (sign_with p H a sk mu rnd) (sign_with p H' a sk mu rnd)
+  unfolding sign_with
+  sign_with-longer p a sk mu rnd t not =
+      let seed : mask_seed H' sk rnd mu ≡ mask_seed H sk rnd mu = hash-longer 64 (sk.key ++ rnd ++ mu) (omega arith) in
+      let rho = mask_seed H sk rnd mu in
+      ap (λ s. first_answer (map (λ n. attempt p H' a sk mu s (n * p.l)) (range_with_len 0 attempt_limit))) seed
+      ∙ first_stays (λ n. attempt p H a sk mu rho (n * p.l)) (λ n. attempt p H' a sk mu rho (n * p.l)) (range_with_len 0 attempt_limit) (λ n. attempt-longer p a sk mu rho (n * p.l) t) not
+
+  matrix_stays : (p : ParameterSet) (a longer : Option (List (List T))) (sk : PrivateParts) (mu rnd : List ℕ) → IsTrue (is_parameter_set p)
+      → ((x : List (List T)) → a ≡ Some x → longer ≡ Some x) → Stays (sign_if_matrix p H a sk mu rnd) (sign_if_matrix p H' longer sk mu rnd)
+  unfolding sign_if_matrix
+  matrix_stays p None longer sk mu rnd t same not = absurd (not refl)
+  matrix_stays p (Some a) longer sk mu rnd t same not = rw (same a refl) (sign_with-longer p a sk mu rnd t not)
+
+  sign-longer : (p : ParameterSet) (sk : PrivateParts) (mu rnd : List ℕ) → IsTrue (is_parameter_set p) → Stays (sign p H G sk mu rnd) (sign p H' G' sk mu rnd)
+  unfolding sign
+  sign-longer p sk mu rnd t =
+      matrix_stays p (sampled_matrix G sk.rho p.k p.l) (sampled_matrix G' sk.rho p.k p.l) sk mu rnd t (λ a there. sampled_matrix-longer G G' sk.rho p.k p.l a second there)
+
+  framed-longer : (p : ParameterSet) (sk : PrivateParts) (m rnd : List ℕ) → IsTrue (is_parameter_set p)
+      → Stays (sign p H G sk (message_hash H sk.tr m) rnd) (sign p H' G' sk (message_hash H' sk.tr m) rnd)
+  framed-longer p sk m rnd t =
+      let mu : message_hash H' sk.tr m ≡ message_hash H sk.tr m = hash-longer 64 (sk.tr ++ m) (omega arith) in
+      rw mu (sign-longer p sk (message_hash H sk.tr m) rnd t)
+
+  answers_stay : (p : ParameterSet) → IsTrue (is_parameter_set p) → AnswersStay p H G H' G'
+  answers_stay p t = record {
+    key_pairs = λ xi. ok_stays (key_generation p H G xi) (key_generation p H' G' xi) (key_generation-longer p xi);
+    public_keys = λ sk. ok_stays (public_key_of p G sk) (public_key_of p G' sk) (public_key_of-longer p sk);
+    hashes = λ sk mu rnd. sign-longer p sk mu rnd t;
+    framed = λ sk m rnd. framed-longer p sk m rnd t;
+    messages = λ sk rnd message context. refused_stays (message_fault context) _ _ (framed-longer p sk (framed context message) rnd t);
+    digests = λ sk rnd digest context oid. refused_stays (digest_fault context oid digest) _ _ (framed-longer p sk (framed_digest context oid digest) rnd t);
+  }
+
+  -- ---- verifying
+
+  verifies-longer : (p : ParameterSet) (pk : PublicParts) (mu signature : List ℕ) → IsTrue (is_parameter_set p) → Verifies p H G pk mu signature → Verifies p H' G' pk mu signature
+  verifies-longer p pk mu signature t v =
+      let accepted = v.accepted in
+      record {
+        a = v.a;
+        matrix = sampled_matrix-longer G G' pk.rho p.k p.l v.a second v.matrix;
+        accepted = record {
+          c_tilde = accepted.c_tilde;
+          z = accepted.z;
+          h = accepted.h;
+          hint = accepted.hint;
+          c = accepted.c;
+          challenge = challenge-longer p.tau (H accepted.c_tilde) (H' accepted.c_tilde) accepted.c (first accepted.c_tilde) (enough accepted.c_tilde) accepted.challenge;
+          norm = accepted.norm;
+          commitment = accepted.commitment ∙ sym (commitment-longer p mu (w1_prime p v.a pk.t1 accepted.z accepted.h accepted.c) t);
+        };
+      }
+
+  verifies-shorter : (p : ParameterSet) (pk : PublicParts) (mu signature : List ℕ) → IsTrue (is_parameter_set p) → IsSampled p H G pk signature
+      → Verifies p H' G' pk mu signature → Verifies p H G pk mu signature
+  verifies-shorter p pk mu signature t s v =
+      let accepted = v.accepted in
+      let matrices : Some s.a ≡ Some v.a = sym (sampled_matrix-longer G G' pk.rho p.k p.l s.a second s.matrix) ∙ v.matrix in
+      let same_matrix : s.a ≡ v.a = cc in
+      let c_tilde : take (commitment_length p) signature ≡ accepted.c_tilde = signature-first p.gamma1 p.omega p.k p.l (commitment_length p) signature accepted.c_tilde accepted.z accepted.h accepted.hint in
+      let here : challenge p.tau (H accepted.c_tilde) ≡ Some s.c = ap (λ l. challenge p.tau (H l)) (sym c_tilde) ∙ s.challenge in
+      let there = challenge-longer p.tau (H accepted.c_tilde) (H' accepted.c_tilde) s.c (first accepted.c_tilde) (enough accepted.c_tilde) here in
+      let challenges : Some s.c ≡ Some accepted.c = sym there ∙ accepted.challenge in
+      record {
+        a = v.a;
+        matrix = s.matrix ∙ matrices;
+        accepted = record {
+          c_tilde = accepted.c_tilde;
+          z = accepted.z;
+          h = accepted.h;
+          hint = accepted.hint;
+          c = accepted.c;
+          challenge = here ∙ challenges;
+          norm = accepted.norm;
+          commitment = accepted.commitment ∙ commitment-longer p mu (w1_prime p v.a pk.t1 accepted.z accepted.h accepted.c) t;
+        };
+      }
+
+  acceptance_stays : (p : ParameterSet) → IsTrue (is_parameter_set p) → AcceptanceStays p H G H' G'
+  acceptance_stays p t =
+      let mu : (tr m : List ℕ) → message_hash H' tr m ≡ message_hash H tr m = λ tr m. hash-longer 64 (tr ++ m) (omega arith) in
+      record {
+        hashes = λ pk mu signature. record { yes_stays = verifies-longer p pk mu signature t; no_stays = verifies-shorter p pk mu signature t };
+        framed = λ pk m signature. rw (mu pk.tr m)
+            record { yes_stays = verifies-longer p pk (message_hash H pk.tr m) signature t; no_stays = verifies-shorter p pk (message_hash H pk.tr m) signature t };
+        messages = λ pk message signature context. record {
+          yes_stays = λ v. record { short = v.short; verified = rw (mu pk.tr (framed context message)) (verifies-longer p pk (message_hash H pk.tr (framed context message)) signature t v.verified) };
+          no_stays = λ s v. record { short = v.short; verified = verifies-shorter p pk (message_hash H pk.tr (framed context message)) signature t s (rw (mu pk.tr (framed context message)) at v.verified) };
+        };
+        digests = λ pk digest signature context oid. record {
+          yes_stays = λ v. record { short = v.short; whole = v.whole; verified = rw (mu pk.tr (framed_digest context oid digest)) (verifies-longer p pk (message_hash H pk.tr (framed_digest context oid digest)) signature t v.verified) };
+          no_stays = λ s v. record { short = v.short; whole = v.whole; verified = verifies-shorter p pk (message_hash H pk.tr (framed_digest context oid digest)) signature t s (rw (mu pk.tr (framed_digest context oid digest)) at v.verified) };
+        };
+        decoded = λ bytes pk d. record { seed = d.seed; high = d.high; same_bytes = d.same_bytes; hash = d.hash ∙ sym (hash-longer 64 bytes (omega arith)) };
+      }
+
+pub longer_fronts_keep : (H G H' G' : List ℕ → List ℕ) → AreLong H → LongerFrontsKeep H G H' G'
+longer_fronts_keep H G H' G' enough first second =
+    (samples_stay H G H' G' first second enough, λ p t. (answers_stay H G H' G' first second enough p t, acceptance_stays H G H' G' first second enough p t))

@@ -1,0 +1,331 @@
+-- The three parameter sets: their numbers, what these have in common, and the lengths that follow.
+use Rattle.std.proofs.Common.{◌≡◌, ◌⊎◌, inl, inr, ℕ, ℤ, pos, negsuc, nat_abs, Bool, true, false, ◌&&◌, ◌||◌, IsTrue, refl, ap, sym, true≢false, eqb-true, ◌≤◌, ◌*◌, arith, ◌<◌, ◌+◌, ◌-◌, ◌/◌, ◌-ℤ◌, ◌≤ℤ◌, List, ◌∙◌, Some}
+use Rattle.std.specs.Prelude.{int_le, nat_eq}
+use Rattle.fips204.specs.declared.types.Params.{Params}
+use Rattle.fips204.specs.ParameterSets.{ParameterSet, set_44, set_65, set_87, same_parameters, is_parameter_set, parameter_set, are_parameters, commitment_length}
+use Rattle.fips204.specs.Keys.{eta_of_rows, PrivateParts, IsPrivateKeyOf, ArePrivateParts}
+use Rattle.fips204.specs.SchemeLaws.{IsGamma2}
+use Rattle.std.proofs.lemmas.Int.{ints}
+use Rattle.std.proofs.lemmas.Nat.{mul-le}
+use Rattle.fips204_base.specs.Packing.{width, bit_length}
+use Rattle.fips204_base.specs.Rounding.{high_values}
+use Rattle.fips204_base.proofs.EncodedParts.{response_width, eta_width}
+use Rattle.std.proofs.lemmas.Bool.{cases_Bool}
+use Rattle.fips204_base.specs.declared.types.R.{R}
+use Rattle.fips204_base.specs.SmallPolynomial.{small_vector}
+use Rattle.fips204_base.specs.Vectors.{IsVector}
+use Rattle.fips204_base.proofs.Sampled.{small_vector-range}
+
+-- The rows of the parameter sets.
+
+pub and_out : (x y : Bool) → IsTrue (x && y) → IsTrue x × IsTrue y
+and_out true y t = (refl, t)
+and_out false y t = absurd (true≢false (sym t))
+
+pub or_out : (x y : Bool) → IsTrue (x || y) → IsTrue x ⊎ IsTrue y
+or_out true y t = inl refl
+or_out false y t = inr t
+
+pub of_size : (x : ℤ) (n : ℕ) → IsTrue (int_le (pos 0) x) → nat_abs x ≡ n → x ≡ pos n
+of_size (pos m) n t e = ap pos e
+of_size (negsuc m) n t e = absurd (true≢false (sym t))
+
+-- a set that agrees with another in each column has its numbers
+pub record Agrees (p row : ParameterSet) : Type 0 where
+  pub tau : p.tau ≡ row.tau
+  pub lambda : p.lambda ≡ row.lambda
+  pub gamma1 : p.gamma1 ≡ row.gamma1
+  pub gamma2 : p.gamma2 ≡ row.gamma2
+  pub k : p.k ≡ row.k
+  pub l : p.l ≡ row.l
+  pub eta : p.eta ≡ row.eta
+  pub beta : p.beta ≡ row.beta
+  pub omega' : p.omega ≡ row.omega
+
+pub agrees : (p row : ParameterSet) → IsTrue (same_parameters p row) → Agrees p row
+agrees p row t =
+    let s8 = and_out (nat_eq p.tau row.tau && nat_eq p.lambda row.lambda && nat_eq p.gamma1 row.gamma1 && nat_eq p.gamma2 row.gamma2 && nat_eq p.k row.k && nat_eq p.l row.l && nat_eq p.eta row.eta && nat_eq p.beta row.beta) (nat_eq p.omega row.omega) t in
+    let s7 = and_out (nat_eq p.tau row.tau && nat_eq p.lambda row.lambda && nat_eq p.gamma1 row.gamma1 && nat_eq p.gamma2 row.gamma2 && nat_eq p.k row.k && nat_eq p.l row.l && nat_eq p.eta row.eta) (nat_eq p.beta row.beta) s8.0 in
+    let s6 = and_out (nat_eq p.tau row.tau && nat_eq p.lambda row.lambda && nat_eq p.gamma1 row.gamma1 && nat_eq p.gamma2 row.gamma2 && nat_eq p.k row.k && nat_eq p.l row.l) (nat_eq p.eta row.eta) s7.0 in
+    let s5 = and_out (nat_eq p.tau row.tau && nat_eq p.lambda row.lambda && nat_eq p.gamma1 row.gamma1 && nat_eq p.gamma2 row.gamma2 && nat_eq p.k row.k) (nat_eq p.l row.l) s6.0 in
+    let s4 = and_out (nat_eq p.tau row.tau && nat_eq p.lambda row.lambda && nat_eq p.gamma1 row.gamma1 && nat_eq p.gamma2 row.gamma2) (nat_eq p.k row.k) s5.0 in
+    let s3 = and_out (nat_eq p.tau row.tau && nat_eq p.lambda row.lambda && nat_eq p.gamma1 row.gamma1) (nat_eq p.gamma2 row.gamma2) s4.0 in
+    let s2 = and_out (nat_eq p.tau row.tau && nat_eq p.lambda row.lambda) (nat_eq p.gamma1 row.gamma1) s3.0 in
+    let s1 = and_out (nat_eq p.tau row.tau) (nat_eq p.lambda row.lambda) s2.0 in
+    record {
+      tau = eqb-true p.tau row.tau s1.0;
+      lambda = eqb-true p.lambda row.lambda s1.1;
+      gamma1 = eqb-true p.gamma1 row.gamma1 s2.1;
+      gamma2 = eqb-true p.gamma2 row.gamma2 s3.1;
+      k = eqb-true p.k row.k s4.1;
+      l = eqb-true p.l row.l s5.1;
+      eta = eqb-true p.eta row.eta s6.1;
+      beta = eqb-true p.beta row.beta s7.1;
+      omega' = eqb-true p.omega row.omega s8.1;
+    }
+
+-- the numbers of a set in signed words
+pub record Numbers (row : ParameterSet) (tau : ℤ) (lambda : ℕ) (gamma1 gamma2 : ℤ) (k l : ℕ) (eta beta omega' : ℤ) : Type 0 where
+  pub tau_is : tau ≡ pos row.tau
+  pub lambda_is : lambda ≡ row.lambda
+  pub gamma1_is : gamma1 ≡ pos row.gamma1
+  pub gamma2_is : gamma2 ≡ pos row.gamma2
+  pub k_is : k ≡ row.k
+  pub l_is : l ≡ row.l
+  pub eta_is : eta ≡ pos row.eta
+  pub beta_is : beta ≡ pos row.beta
+  pub omega_is : omega' ≡ pos row.omega
+
+-- numbers of a row are those of the first, the second or the third set
+pub rows : (tau : ℤ) (lambda : ℕ) (gamma1 gamma2 : ℤ) (k l : ℕ) (eta beta omega' : ℤ) → IsTrue (are_parameters tau lambda gamma1 gamma2 k l eta beta omega')
+    → Numbers set_44 tau lambda gamma1 gamma2 k l eta beta omega' ⊎ (Numbers set_65 tau lambda gamma1 gamma2 k l eta beta omega' ⊎ Numbers set_87 tau lambda gamma1 gamma2 k l eta beta omega')
+rows tau lambda gamma1 gamma2 k l eta beta omega' t =
+    let p = parameter_set tau lambda gamma1 gamma2 k l eta beta omega' in
+    let s6 = and_out (is_parameter_set p && int_le (pos 0) tau && int_le (pos 0) gamma1 && int_le (pos 0) gamma2 && int_le (pos 0) eta && int_le (pos 0) beta) (int_le (pos 0) omega') t in
+    let s5 = and_out (is_parameter_set p && int_le (pos 0) tau && int_le (pos 0) gamma1 && int_le (pos 0) gamma2 && int_le (pos 0) eta) (int_le (pos 0) beta) s6.0 in
+    let s4 = and_out (is_parameter_set p && int_le (pos 0) tau && int_le (pos 0) gamma1 && int_le (pos 0) gamma2) (int_le (pos 0) eta) s5.0 in
+    let s3 = and_out (is_parameter_set p && int_le (pos 0) tau && int_le (pos 0) gamma1) (int_le (pos 0) gamma2) s4.0 in
+    let s2 = and_out (is_parameter_set p && int_le (pos 0) tau) (int_le (pos 0) gamma1) s3.0 in
+    let s1 = and_out (is_parameter_set p) (int_le (pos 0) tau) s2.0 in
+    let numbers : (row : ParameterSet) → Agrees p row → Numbers row tau lambda gamma1 gamma2 k l eta beta omega' = λ row a. record {
+      tau_is = of_size tau row.tau s1.1 a.tau;
+      lambda_is = a.lambda;
+      gamma1_is = of_size gamma1 row.gamma1 s2.1 a.gamma1;
+      gamma2_is = of_size gamma2 row.gamma2 s3.1 a.gamma2;
+      k_is = a.k;
+      l_is = a.l;
+      eta_is = of_size eta row.eta s4.1 a.eta;
+      beta_is = of_size beta row.beta s5.1 a.beta;
+      omega_is = of_size omega' row.omega s6.1 a.omega';
+    } in
+    elim (or_out (same_parameters p set_44 || same_parameters p set_65) (same_parameters p set_87) s1.0) [
+      | inl y ↦ elim (or_out (same_parameters p set_44) (same_parameters p set_65) y) [
+        | inl x ↦ inl (numbers set_44 (agrees p set_44 x))
+        | inr x ↦ inr (inl (numbers set_65 (agrees p set_65 x)))
+      ]
+      | inr x ↦ inr (inr (numbers set_87 (agrees p set_87 x)))
+    ]
+
+-- What the numbers of a parameter set have to do with one another.
+
+pub record AreSetNumbers (p : ParameterSet) : Type 0 where
+  pub beta : p.tau * p.eta ≡ p.beta
+  pub gamma2 : IsGamma2 p.gamma2
+  pub eta : p.eta ≡ eta_of_rows p.k
+  pub small : (p.eta ≡ 2) ⊎ (p.eta ≡ 4)
+  pub short : commitment_length p ≤ 64
+
+of_row : (p row : ParameterSet) → Agrees p row → AreSetNumbers row → AreSetNumbers p
+of_row p row a n = record {
+  beta = rw (a.tau, a.eta, a.beta) n.beta;
+  gamma2 = rw a.gamma2 n.gamma2;
+  eta = rw (a.eta, a.k) n.eta;
+  small = rw a.eta n.small;
+  short = rw a.lambda n.short;
+}
+
+numbers_44 : AreSetNumbers set_44
+numbers_44 = record { beta = refl; gamma2 = inl refl; eta = refl; small = inl refl; short = omega arith }
+
+numbers_65 : AreSetNumbers set_65
+numbers_65 = record { beta = refl; gamma2 = inr refl; eta = refl; small = inr refl; short = omega arith }
+
+numbers_87 : AreSetNumbers set_87
+numbers_87 = record { beta = refl; gamma2 = inr refl; eta = refl; small = inl refl; short = omega arith }
+
+pub set_numbers : (p : ParameterSet) → IsTrue (is_parameter_set p) → AreSetNumbers p
+set_numbers p t = elim (or_out (same_parameters p set_44 || same_parameters p set_65) (same_parameters p set_87) t) [
+  | inl y ↦ elim (or_out (same_parameters p set_44) (same_parameters p set_65) y) [
+    | inl x ↦ of_row p set_44 (agrees p set_44 x) numbers_44
+    | inr x ↦ of_row p set_65 (agrees p set_65 x) numbers_65
+  ]
+  | inr x ↦ of_row p set_87 (agrees p set_87 x) numbers_87
+]
+
+-- What the three rows of the parameter sets have in common.
+
+-- whether the numbers of a value are those of a set, as its type says
+abbrev pub IsKnown : Params → Type 0
+IsKnown p = IsTrue (are_parameters p.tau p.lambda p.gamma1 p.gamma2 p.k p.l p.eta p.beta p.omega)
+
+-- the ranges of a set's numbers
+pub record Limits (p : Params) : Type 0 where
+  pub mask : (p.gamma1 ≡ pos 131072) ⊎ (p.gamma1 ≡ pos 524288)
+  pub rounding : (p.gamma2 ≡ pos 95232) ⊎ (p.gamma2 ≡ pos 261888)
+  pub some_signs : pos 1 ≤ℤ p.tau
+  pub few_signs : p.tau ≤ℤ pos 64
+  pub short : p.lambda / 4 ≤ 64
+  pub some_rows : 1 ≤ p.k
+  pub few_rows : p.k ≤ 8
+  pub some_columns : 1 ≤ p.l
+  pub few_columns : p.l ≤ 7
+  pub some_ones : pos 1 ≤ℤ p.omega
+  pub hint_size : nat_abs p.omega + p.k < 256
+  pub z_bound : p.gamma1 -ℤ p.beta ≡ pos (nat_abs p.gamma1 - nat_abs p.beta)
+  pub r0_bound : p.gamma2 -ℤ p.beta ≡ pos (nat_abs p.gamma2 - nat_abs p.beta)
+  pub eta : (p.eta ≡ pos 2) ⊎ (p.eta ≡ pos 4)
+  pub small_low : nat_abs p.gamma2 ≤ 261888
+  pub eta_by_rows : nat_abs p.eta ≡ eta_of_rows p.k
+
+of_44 : (p : Params) → Numbers set_44 p.tau p.lambda p.gamma1 p.gamma2 p.k p.l p.eta p.beta p.omega → Limits p
+of_44 p n = record {
+  mask = inl n.gamma1_is;
+  rounding = inl n.gamma2_is;
+  some_signs = rw n.tau_is (omega (arith, ints));
+  few_signs = rw n.tau_is (omega (arith, ints));
+  short = rw n.lambda_is (omega arith);
+  some_rows = rw n.k_is (omega arith);
+  few_rows = rw n.k_is (omega arith);
+  some_columns = rw n.l_is (omega arith);
+  few_columns = rw n.l_is (omega arith);
+  some_ones = rw n.omega_is (omega (arith, ints));
+  hint_size = rw (n.omega_is, n.k_is) (omega arith);
+  z_bound = rw (n.gamma1_is, n.beta_is) refl;
+  r0_bound = rw (n.gamma2_is, n.beta_is) refl;
+  eta = inl n.eta_is;
+  small_low = rw n.gamma2_is (omega arith);
+  eta_by_rows = rw (n.eta_is, n.k_is) refl;
+}
+
+of_65 : (p : Params) → Numbers set_65 p.tau p.lambda p.gamma1 p.gamma2 p.k p.l p.eta p.beta p.omega → Limits p
+of_65 p n = record {
+  mask = inr n.gamma1_is;
+  rounding = inr n.gamma2_is;
+  some_signs = rw n.tau_is (omega (arith, ints));
+  few_signs = rw n.tau_is (omega (arith, ints));
+  short = rw n.lambda_is (omega arith);
+  some_rows = rw n.k_is (omega arith);
+  few_rows = rw n.k_is (omega arith);
+  some_columns = rw n.l_is (omega arith);
+  few_columns = rw n.l_is (omega arith);
+  some_ones = rw n.omega_is (omega (arith, ints));
+  hint_size = rw (n.omega_is, n.k_is) (omega arith);
+  z_bound = rw (n.gamma1_is, n.beta_is) refl;
+  r0_bound = rw (n.gamma2_is, n.beta_is) refl;
+  eta = inr n.eta_is;
+  small_low = rw n.gamma2_is (omega arith);
+  eta_by_rows = rw (n.eta_is, n.k_is) refl;
+}
+
+of_87 : (p : Params) → Numbers set_87 p.tau p.lambda p.gamma1 p.gamma2 p.k p.l p.eta p.beta p.omega → Limits p
+of_87 p n = record {
+  mask = inr n.gamma1_is;
+  rounding = inr n.gamma2_is;
+  some_signs = rw n.tau_is (omega (arith, ints));
+  few_signs = rw n.tau_is (omega (arith, ints));
+  short = rw n.lambda_is (omega arith);
+  some_rows = rw n.k_is (omega arith);
+  few_rows = rw n.k_is (omega arith);
+  some_columns = rw n.l_is (omega arith);
+  few_columns = rw n.l_is (omega arith);
+  some_ones = rw n.omega_is (omega (arith, ints));
+  hint_size = rw (n.omega_is, n.k_is) (omega arith);
+  z_bound = rw (n.gamma1_is, n.beta_is) refl;
+  r0_bound = rw (n.gamma2_is, n.beta_is) refl;
+  eta = inl n.eta_is;
+  small_low = rw n.gamma2_is (omega arith);
+  eta_by_rows = rw (n.eta_is, n.k_is) refl;
+}
+
+pub limits : (p : Params) → IsKnown p → Limits p
+limits p t = elim (rows p.tau p.lambda p.gamma1 p.gamma2 p.k p.l p.eta p.beta p.omega t) [
+  | inl n ↦ of_44 p n
+  | inr (inl n) ↦ of_65 p n
+  | inr (inr n) ↦ of_87 p n
+]
+
+-- ---- the bytes of a high part
+
+high_widths-44 : (gamma2 : ℤ) (k : ℕ) → gamma2 ≡ pos 95232 → 192 * k ≡ 32 * width (pos 0) (pos (high_values (nat_abs gamma2) - 1)) * k
+unfolding bit_length
+high_widths-44 gamma2 k e = rw e refl
+
+high_widths : (gamma2 : ℤ) (k : ℕ) → gamma2 ≡ pos 261888 → 128 * k ≡ 32 * width (pos 0) (pos (high_values (nat_abs gamma2) - 1)) * k
+unfolding bit_length
+high_widths gamma2 k e = rw e refl
+
+-- a polynomial of a high part has 192 bytes or 128
+pub high_part-size : (gamma2 : ℤ) (k size : ℕ) → ((gamma2 ≡ pos 95232) × (size ≡ 192)) ⊎ ((gamma2 ≡ pos 261888) × (size ≡ 128)) → size * k ≡ 32 * width (pos 0) (pos (high_values (nat_abs gamma2) - 1)) * k
+high_part-size gamma2 k size (inl h) = rw h.1 (high_widths-44 gamma2 k h.0)
+high_part-size gamma2 k size (inr h) = rw h.1 (high_widths gamma2 k h.0)
+
+-- and all of them have at most 1024
+pub high_part-few : (p : Params) (size : ℕ) → IsKnown p → ((p.gamma2 ≡ pos 95232) × (size ≡ 192)) ⊎ ((p.gamma2 ≡ pos 261888) × (size ≡ 128)) → size * p.k ≤ 1024
+high_part-few p size t h = elim (rows p.tau p.lambda p.gamma1 p.gamma2 p.k p.l p.eta p.beta p.omega t) [
+  | inl n ↦ rw n.k_is (elim h [ inl e ↦ omega (arith, e.1) | inr e ↦ omega (arith, e.1) ])
+  | inr (inl n) ↦ rw n.k_is (elim h [ inl e ↦ absurd (omega (arith, ints, n.gamma2_is, e.0)) | inr e ↦ omega (arith, e.1) ])
+  | inr (inr n) ↦ rw n.k_is (elim h [ inl e ↦ absurd (omega (arith, ints, n.gamma2_is, e.0)) | inr e ↦ omega (arith, e.1) ])
+]
+
+-- gamma2 without its sign
+pub rounding-size : (gamma2 : ℤ) → (gamma2 ≡ pos 95232) ⊎ (gamma2 ≡ pos 261888) → (nat_abs gamma2 ≡ 95232) ⊎ (nat_abs gamma2 ≡ 261888)
+rounding-size gamma2 (inl e) = inl (rw e refl)
+rounding-size gamma2 (inr e) = inr (rw e refl)
+
+pub rounding-some : (gamma2 : ℤ) → (gamma2 ≡ pos 95232) ⊎ (gamma2 ≡ pos 261888) → pos 0 ≤ℤ gamma2
+rounding-some gamma2 (inl e) = rw e (omega (arith, ints))
+rounding-some gamma2 (inr e) = rw e (omega (arith, ints))
+
+-- a matrix fits
+pub matrix_room : (k l : ℕ) → k ≤ 8 → l ≤ 7 → k * (l * 1024) < 9223372036854775808
+matrix_room k l h m = let bound = mul-le k (l * 1024) 8 7168 h (omega (arith, m)) in omega (arith, bound)
+
+-- the length of a signature, as its decoder has it
+lengths : (n k l a w : ℕ) → n + 32 * (l * w) + a + k ≡ n + 32 * w * l + (a + k)
+lengths n k l a w = omega arith
+
+pub signature-size : (gamma1 : ℤ) (n k l a : ℕ) → (gamma1 ≡ pos 131072) ⊎ (gamma1 ≡ pos 524288)
+    → n + 32 * (l * width (pos (nat_abs gamma1 - 1)) (pos (nat_abs gamma1))) + a + k ≡ n + 32 * width (gamma1 -ℤ pos 1) gamma1 * l + (a + k)
+signature-size gamma1 n k l a set = rw (response_width gamma1 set) (lengths n k l a (width (pos (nat_abs gamma1 - 1)) (pos (nat_abs gamma1))))
+
+pub mask-size : (gamma1 : ℤ) → (gamma1 ≡ pos 131072) ⊎ (gamma1 ≡ pos 524288) → (1 ≤ nat_abs gamma1) × (nat_abs gamma1 ≤ 524288)
+mask-size gamma1 (inl e) = rw e (omega arith, omega arith)
+mask-size gamma1 (inr e) = rw e (omega arith, omega arith)
+
+-- What the rows of the parameter sets say of keys.
+
+eta_size : (eta : ℤ) → (eta ≡ pos 2) ⊎ (eta ≡ pos 4) → (nat_abs eta ≡ 2) ⊎ (nat_abs eta ≡ 4)
+eta_size eta (inl e) = inl (ap nat_abs e)
+eta_size eta (inr e) = inr (ap nat_abs e)
+
+-- the range of a small vector
+pub small_vector-parts : (p : Params) (H : List ℕ → List ℕ) (rho : List ℕ) (K first count : ℕ) (v : List R) → IsKnown p → K ≡ p.k
+    → small_vector (nat_abs p.eta) H rho first count ≡ Some v → IsVector count (eta_of_rows K) (eta_of_rows K) v
+small_vector-parts p H rho K first count v t rows_are e =
+    let known = limits p t in
+    rw (sym (known.eta_by_rows ∙ ap eta_of_rows (sym rows_are))) (small_vector-range (nat_abs p.eta) H rho first count v (eta_size p.eta known.eta) e)
+
+-- the bytes of a private key, part by part
+pub private_key-size : (eta : ℤ) (K L k l size : ℕ) → (eta ≡ pos 2) ⊎ (eta ≡ pos 4) → K ≡ k → L ≡ l
+    → size ≡ 128 + 32 * ((l + k) * width (pos (nat_abs eta)) (pos (nat_abs eta)) + k * 13)
+    → size ≡ 128 + 32 * width eta eta * L + 32 * width eta eta * K + 416 * K
+private_key-size eta K L k l size set rows columns e =
+    let w = eta_width eta set in
+    rw (w, rows, columns) (omega (arith, e))
+
+-- the parts of a private key are those of its matrix's rows
+pub parts_of_key : (eta k l : ℕ) (bytes : List ℕ) (sk : PrivateParts) → eta ≡ eta_of_rows k → IsPrivateKeyOf eta k l bytes sk → ArePrivateParts k l sk
+parts_of_key eta k l bytes sk e key =
+    record {
+      seed = key.seed;
+      private_seed = key.private_seed;
+      hash = key.hash;
+      first = rw (sym e) key.first;
+      second = rw (sym e) key.second;
+      low = key.low;
+    }
+
+-- a matrix of these rows and columns
+pub matrix-shape : (p : Params) (K L : ℕ) → IsKnown p → K ≡ p.k → L ≡ p.l → (K * (L * 1024) < 9223372036854775808) × ((K ≤ 8) × (L ≤ 7))
+matrix-shape p K L t rows_are columns_are =
+    let all = limits p t in
+    let few_rows : K ≤ 8 = omega (arith, rows_are, all.few_rows) in
+    let few_columns : L ≤ 7 = omega (arith, columns_are, all.few_columns) in
+    (matrix_room K L few_rows few_columns, (few_rows, few_columns))
+
+-- coefficients of s1 and s2 are small
+pub eta_of_rows-small : (k : ℕ) → eta_of_rows k ≤ 8380416
+eta_of_rows-small k = elim (cases_Bool (nat_eq k 6)) [
+  | inl e ↦ rw e (omega arith)
+  | inr e ↦ rw e (omega arith)
+]

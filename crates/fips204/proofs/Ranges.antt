@@ -1,0 +1,96 @@
+-- The ranges of what is sampled or given by a type.
+use Rattle.std.proofs.Common.{◌≡◌, ℕ, List, [], ◌∷◌, length, ◌<◌, ◌≤◌, ◌≤ℤ◌, suc, ◌++◌, ℤ, pos, nat_abs, get_or, take, sym, subst, ◌∙◌, arith, Some, true, false, inl, inr}
+use Rattle.std.specs.List.{All}
+use Rattle.std.proofs.lemmas.List.Elements.{All-nil, All-cons}
+use mir.Val.{Val}
+use denote.Array.{each, in_array}
+use denote.Shadow.{shadow}
+use Rattle.fips204_base.specs.declared.types.R.{R}
+use Rattle.fips204_base.specs.contracts.types.R.{the_row}
+use Rattle.std.specs.Prelude.{nat_eq, nat_lt}
+use Rattle.std.proofs.lemmas.Bool.{cases_Bool, cases_lt, eqb-true, lt-ltb, le-ltb}
+use Rattle.std.proofs.lemmas.Int.{ints}
+use Rattle.std.proofs.lemmas.Option.{none-some}
+use Rattle.fips204_base.specs.declared.types.T.{T}
+use Rattle.fips204_base.specs.Packing.{bits}
+use Rattle.fips204_base.specs.Polynomials.{coefficient_at, entry, IsReduced, Within, IsReducedMatrix}
+use Rattle.fips204_base.specs.MatrixEntry.{sampled_matrix}
+use Rattle.fips204_base.specs.Challenge.{sign_of, signed_sum, challenge_picks, challenge}
+use Rattle.fips204_base.specs.Vectors.{polynomial_of, vector_of}
+use Rattle.fips204_base.proofs.Sampled.{matrix_entry-residues, sampled_matrix-entries}
+use Rattle.fips204_base.proofs.Challenges.{challenge_places, challenge_places-apart, length-challenge_places, sum-elsewhere}
+use Rattle.fips204_base.proofs.Vectors.{polynomial_of-at, vector_of-same}
+
+-- What the type of an array of polynomials says of its rows.
+
+each_whole : (v : List R) (words : List Val) → shadow (each the_row.Denot the_row.own_val v words) → All (λ w. length w.0 ≡ 256) v
+each_whole [] words h = All-nil (λ (w : R). length w.0 ≡ 256)
+each_whole (w ∷ v) [] h = absurd h
+each_whole (w ∷ v) (word ∷ words) h = All-cons (λ (w : R). length w.0 ≡ 256) w v h.0.1.1.0.1.0.1 (each_whole v words h.1)
+
+-- each row of an array has 256 places; `typed` is the `type_inv` of the call that gave it
+pub whole_rows : (k : ℕ) (v : List R) (typed : (words : List Val) × shadow (in_array the_row.Denot the_row.own_val k v words)) → All (λ w. length w.0 ≡ 256) v
+whole_rows k v typed = each_whole v typed.1.0 typed.1.1.1
+
+-- a vector that a call gave, by its coefficients
+pub whole_vector : (k : ℕ) (f : ℕ → ℕ → ℤ) (v : List R) → length v ≡ k → (words : List Val) × shadow (in_array the_row.Denot the_row.own_val k v words)
+    → ((r n : ℕ) → r < k → n < 256 → entry v r n ≡ f r n) → v ≡ vector_of k f
+whole_vector k f v rows typed at = vector_of-same k f v rows (λ r h. whole_rows k v typed r record { 0 = [] } (omega (arith, h, rows))) at
+
+-- The ranges of what is sampled: a matrix has residues, and a challenge has ones, minus ones and zeros.
+
+-- ---- the matrix
+
+residues-within : (xs : List ℤ) → All (λ x. (pos 0 ≤ℤ x) × (x ≤ℤ pos 8380416)) xs → Within 8380416 xs
+residues-within xs h i d l = let b = h i d l in omega (arith, ints, b)
+
+pub matrix-within : (G : List ℕ → List ℕ) (rho : List ℕ) (k l : ℕ) (a : List (List T)) → sampled_matrix G rho k l ≡ Some a → IsReducedMatrix a
+matrix-within G rho k l a e r d h s f m =
+    let entries = sampled_matrix-entries G rho k l a e in
+    let row : r < k = omega (arith, h, entries.0) in
+    let size : length (get_or a r d) ≡ l = entries.1 r d row in
+    let column : s < l = omega (arith, m, size) in
+    residues-within (get_or (get_or a r d) s f).0 (matrix_entry-residues (G (rho ++ s ∷ r ∷ [])) (get_or (get_or a r d) s f) (entries.2 r s d f row column)).1
+
+-- ---- the challenge
+
+sign-within : (bit : ℕ) → nat_abs (sign_of bit) ≤ 1
+sign-within bit = elim (cases_Bool (nat_eq bit 1)) [
+  | inl one ↦ rw one (omega arith)
+  | inr other ↦ rw other (omega arith)
+]
+
+-- at places that all differ at most one sign counts
+signed_sum-within : (ps sign_bits : List ℕ) (n : ℕ) → ((i j : ℕ) → i < j → j < length ps → get_or ps i 0 ≡ get_or ps j 0 → ⊥) → nat_abs (signed_sum ps sign_bits n) ≤ 1
+unfolding signed_sum
+signed_sum-within [] sign_bits n apart = omega arith
+signed_sum-within (place ∷ ps) [] n apart = omega arith
+signed_sum-within (place ∷ ps) (bit ∷ sign_bits) n apart = elim (cases_Bool (nat_eq place n)) [
+  | inl here ↦
+      let same : place ≡ n = eqb-true place n here in
+      let rest = sum-elsewhere ps sign_bits n (λ k l e. apart 0 (suc k) (omega arith) (omega (arith, l)) (same ∙ sym e)) in
+      let one = sign-within bit in
+      rw (here, rest) (omega (arith, ints, one))
+  | inr other ↦
+      let rest = signed_sum-within ps sign_bits n (λ i j h l. apart (suc i) (suc j) (omega (arith, h)) (omega (arith, l))) in
+      rw other (omega (arith, ints, rest))
+]
+
+challenge-sum : (tau : ℕ) (front : List ℕ) (c : R) → challenge tau front ≡ Some c → polynomial_of (signed_sum (challenge_places tau front) (bits 8 (take 8 front))) ≡ c
+unfolding challenge
+challenge-sum tau front c e = elim (cases_lt (length (challenge_picks tau front)) tau) [
+  | inl few ↦
+      let test : nat_lt (length (challenge_picks tau front)) tau ≡ true = lt-ltb (length (challenge_picks tau front)) tau few in
+      absurd (none-some c (rw test at e))
+  | inr enough ↦
+      let test : nat_lt (length (challenge_picks tau front)) tau ≡ false = le-ltb (length (challenge_picks tau front)) tau enough in
+      let made : Some (polynomial_of (signed_sum (challenge_places tau front) (bits 8 (take 8 front)))) ≡ Some c = rw test at e in
+      cc
+]
+
+pub challenge-reduced : (tau : ℕ) (front : List ℕ) (c : R) → challenge tau front ≡ Some c → IsReduced c.0
+challenge-reduced tau front c e n h =
+    let f = signed_sum (challenge_places tau front) (bits 8 (take 8 front)) in
+    let count = length-challenge_places tau front c e in
+    let one = signed_sum-within (challenge_places tau front) (bits 8 (take 8 front)) n (λ i j l m. challenge_places-apart tau front c i j e l (omega (arith, m, count))) in
+    subst (λ (w : R). nat_abs (coefficient_at w.0 n) ≤ 8380416) (challenge-sum tau front c e) (rw (polynomial_of-at f n h) (omega (arith, one)))

@@ -1,0 +1,239 @@
+-- The vectors of an attempt, their norms and hints, and which attempts are kept, check by check.
+use Rattle.std.proofs.Common.{◌≡◌, ◌⊎◌, inl, inr, ℕ, ℤ, pos, ◌+◌, ◌-◌, ◌*◌, ◌%◌, ◌<◌, ◌≤◌, ◌+ℤ◌, ◌-ℤ◌, ◌≤ℤ◌, List, length, true, false, arith, refl, ap, sym, ◌∙◌, Bool, ◌&&◌, Ok, Some, None, true≢false}
+use Rattle.std.specs.Prelude.{nat_abs, nat_lt, if◌then◌else◌}
+use Rattle.std.specs.List.{All}
+use Rattle.std.proofs.lemmas.Bool.{cases_lt, le-leb, lt-leb}
+use Rattle.std.proofs.lemmas.Int.{ints}
+use Rattle.fips204_base.specs.declared.types.R.{R}
+use Rattle.fips204_base.specs.CentredValues.{centred, vector_norm}
+use Rattle.fips204_base.specs.Packing.{InRange, width}
+use Rattle.fips204_base.specs.Polynomials.{entry, IsReducedVector}
+use Rattle.fips204_base.specs.Products.{product, plus, minus}
+use Rattle.fips204_base.specs.Residues.{residue}
+use Rattle.fips204_base.specs.Rounding.{low_bits, make_hint}
+use Rattle.fips204_base.specs.Vectors.{vector_of, IsVector, vector_coefficients}
+use Rattle.fips204_base.proofs.Residues.{residue_add, residue_sub, residue_is, residue_below}
+use Rattle.fips204_base.proofs.Rounding.{low_bits_near}
+use Rattle.fips204_base.proofs.Products.{product_below}
+use Rattle.fips204_base.proofs.Vectors.{vector_of-ext, vector_of-range, vector-within}
+use Rattle.fips204_base.specs.Encodings.{signature_bytes}
+use Rattle.fips204_base.specs.HintSpelling.{all_ones}
+use Rattle.fips204.specs.declared.types.Params.{Params}
+use Rattle.fips204.specs.Attempts.{scaled, response, low_vector, ct0, hint_bit, hint_vector, passes_checks, checked_attempt}
+use Rattle.fips204.specs.Keys.{PrivateParts, eta_of_rows}
+use Rattle.fips204.specs.ParameterSets.{ParameterSet, commitment_length, signature_length}
+use Rattle.fips204.specs.Sets.{set_of}
+use Rattle.fips204.specs.Signing.{attempt_answer}
+use Rattle.fips204.proofs.ChallengeProducts.{norm_of_place}
+use Rattle.fips204.proofs.ParameterSets.{eta_of_rows-small}
+
+-- Sums, norms and hints of an attempt's vectors.
+
+centred-same : (x y : ℤ) → residue x ≡ residue y → centred x ≡ centred y
+unfolding centred
+centred-same x y e = rw e refl
+
+pub centred-small : (x : ℤ) → nat_abs (centred x) ≤ 4190208
+unfolding centred
+centred-small x =
+    let below = residue_below x in
+    elim (cases_lt 4190208 (residue x)) [
+      | inl above ↦ rw (lt-leb (residue x) 4190208 above) (omega (arith, ints))
+      | inr least ↦ rw (le-leb (residue x) 4190208 least) (omega arith)
+    ]
+
+-- a small integer is its own centred value
+pub centred-own : (x : ℤ) → nat_abs x ≤ 4190208 → centred x ≡ x
+unfolding centred
+centred-own x h =
+    let below = residue_below x in
+    let same = (residue_is x).same in
+    elim (cases_lt 4190208 (residue x)) [
+      | inl above ↦ rw (lt-leb (residue x) 4190208 above) (omega (arith, ints, same))
+      | inr least ↦ rw (le-leb (residue x) 4190208 least) (omega (arith, ints, same))
+    ]
+
+pub centred-again : (x : ℤ) → centred (centred x) ≡ centred x
+centred-again x = centred-own (centred x) (centred-small x)
+
+residue-sum : (x y : ℤ) → residue (x +ℤ y) ≡ (residue x + residue y) % 8380417
+residue-sum x y =
+    let below = residue_below (x +ℤ y) in
+    omega (arith, below, (residue_add x y).same)
+
+pub centred-sum : (x y : ℤ) → centred (x +ℤ y) ≡ centred (pos ((residue x + residue y) % 8380417))
+centred-sum x y = centred-same (x +ℤ y) (pos ((residue x + residue y) % 8380417)) (let e = residue-sum x y in omega (arith, e))
+
+pub residue-difference : (x y : ℤ) → residue (x -ℤ y) ≡ (residue x + 8380416 * residue y) % 8380417
+residue-difference x y =
+    let below = residue_below (x -ℤ y) in
+    omega (arith, below, (residue_sub x y).same)
+
+-- ---- products
+
+pub product-own : (a b : ℕ → ℕ) (n : ℕ) (x : ℤ) → x ≡ pos (product a b n) → residue x ≡ product a b n
+product-own a b n x e = let below = product_below a b n in rw e (omega (arith, below))
+
+-- a coefficient of a product is from 0 to q - 1
+pub product-small : (a b : ℕ → ℕ) (n : ℕ) (x : ℤ) → x ≡ pos (product a b n) → nat_abs x ≤ 8380416
+product-small a b n x e = let below = product_below a b n in rw e (omega (arith, below))
+
+pub plus-same : (s m : ℕ) (x : ℤ) → x ≡ pos m → (s + residue x) % 8380417 ≡ (s + m) % 8380417
+plus-same s m x e = rw e (omega arith)
+
+pub minus-same : (s m : ℕ) (x : ℤ) → x ≡ pos m → (s + 8380416 * residue x) % 8380417 ≡ (s + 8380416 * m) % 8380417
+minus-same s m x e = rw e (omega arith)
+
+-- ---- low bits
+pub low_bits-small : (g : ℤ) (x : ℤ) → (g ≡ pos 95232) ⊎ (g ≡ pos 261888) → nat_abs (low_bits (nat_abs g) (residue x)) ≤ 8380416
+low_bits-small g x (inl e) = let near = low_bits_near 95232 (residue x) (omega arith) (residue_below x) in rw e (omega (arith, near))
+low_bits-small g x (inr e) = let near = low_bits_near 261888 (residue x) (omega arith) (residue_below x) in rw e (omega (arith, near))
+
+-- ---- hints
+
+-- MakeHint of -t and x + t, in integers and in residues
+pub hint_bit-is : (g : ℕ) (x t : ℤ) (b : Bool) → b ≡ make_hint g (residue (pos 0 -ℤ t)) (residue (x +ℤ t))
+    → (if b then pos 1 else pos 0) ≡ hint_bit g (residue x) (residue t)
+hint_bit-is g x t b e = ap (λ c. if c then pos 1 else pos 0) (e ∙ rw (residue-difference (pos 0) t, residue-sum x t) refl)
+
+-- Which attempts are kept, test by test.
+
+-- ---- the four tests
+
+and-first : (a b c d : Bool) → false ≡ a → (a && b && c && d) ≡ false
+and-first false b c d e = refl
+and-first true b c d e = absurd (true≢false (sym e))
+
+and-second : (a b c d : Bool) → true ≡ a → false ≡ b → (a && b && c && d) ≡ false
+and-second a b c d e f = rw (sym e, sym f) refl
+
+and-third : (a b c d : Bool) → true ≡ a → true ≡ b → false ≡ c → (a && b && c && d) ≡ false
+and-third a b c d e f h = rw (sym e, sym f, sym h) refl
+
+and-fourth : (a b c d : Bool) → true ≡ a → true ≡ b → true ≡ c → (a && b && c && d) ≡ d
+and-fourth a b c d e f h = rw (sym e, sym f, sym h) refl
+
+rejected : (p : ParameterSet) (sk : PrivateParts) (y : List R) (w : ℕ → ℕ → ℕ) (c_tilde : List ℕ) (c : R) → passes_checks p sk y w c ≡ false → Ok None ≡ attempt_answer (checked_attempt p sk y w c_tilde (Some c))
+unfolding checked_attempt attempt_answer
+rejected p sk y w c_tilde c e = rw e refl
+
+signed : (p : ParameterSet) (sk : PrivateParts) (y : List R) (w : ℕ → ℕ → ℕ) (c_tilde : List ℕ) (c : R) → passes_checks p sk y w c ≡ true
+    → Ok (Some (signature_bytes p.gamma1 p.omega c_tilde (response p sk y c) (hint_vector p sk w c))) ≡ attempt_answer (checked_attempt p sk y w c_tilde (Some c))
+unfolding checked_attempt attempt_answer
+signed p sk y w c_tilde c e = rw e refl
+
+-- an attempt is rejected at the first test that fails, and kept where none does
+pub rejected-first : (p : ParameterSet) (sk : PrivateParts) (y : List R) (w : ℕ → ℕ → ℕ) (c_tilde : List ℕ) (c : R)
+    → false ≡ nat_lt (vector_norm (response p sk y c)) (p.gamma1 - p.beta)
+    → Ok None ≡ attempt_answer (checked_attempt p sk y w c_tilde (Some c))
+unfolding passes_checks
+rejected-first p sk y w c_tilde c e = rejected p sk y w c_tilde c (and-first _ _ _ _ e)
+
+pub rejected-second : (p : ParameterSet) (sk : PrivateParts) (y : List R) (w : ℕ → ℕ → ℕ) (c_tilde : List ℕ) (c : R)
+    → true ≡ nat_lt (vector_norm (response p sk y c)) (p.gamma1 - p.beta)
+    → false ≡ nat_lt (vector_norm (low_vector p sk w c)) (p.gamma2 - p.beta)
+    → Ok None ≡ attempt_answer (checked_attempt p sk y w c_tilde (Some c))
+unfolding passes_checks
+rejected-second p sk y w c_tilde c e f = rejected p sk y w c_tilde c (and-second _ _ _ _ e f)
+
+pub rejected-third : (p : ParameterSet) (sk : PrivateParts) (y : List R) (w : ℕ → ℕ → ℕ) (c_tilde : List ℕ) (c : R)
+    → true ≡ nat_lt (vector_norm (response p sk y c)) (p.gamma1 - p.beta)
+    → true ≡ nat_lt (vector_norm (low_vector p sk w c)) (p.gamma2 - p.beta)
+    → false ≡ nat_lt (vector_norm (ct0 p sk c)) p.gamma2
+    → Ok None ≡ attempt_answer (checked_attempt p sk y w c_tilde (Some c))
+unfolding passes_checks
+rejected-third p sk y w c_tilde c e f h = rejected p sk y w c_tilde c (and-third _ _ _ _ e f h)
+
+pub rejected-fourth : (p : ParameterSet) (sk : PrivateParts) (y : List R) (w : ℕ → ℕ → ℕ) (c_tilde : List ℕ) (c : R)
+    → true ≡ nat_lt (vector_norm (response p sk y c)) (p.gamma1 - p.beta)
+    → true ≡ nat_lt (vector_norm (low_vector p sk w c)) (p.gamma2 - p.beta)
+    → true ≡ nat_lt (vector_norm (ct0 p sk c)) p.gamma2
+    → p.omega < length (all_ones (hint_vector p sk w c))
+    → Ok None ≡ attempt_answer (checked_attempt p sk y w c_tilde (Some c))
+unfolding passes_checks
+rejected-fourth p sk y w c_tilde c e f h many = rejected p sk y w c_tilde c (and-fourth _ _ _ _ e f h ∙ lt-leb _ _ many)
+
+pub kept : (p : ParameterSet) (sk : PrivateParts) (y : List R) (w : ℕ → ℕ → ℕ) (c_tilde : List ℕ) (c : R)
+    → true ≡ nat_lt (vector_norm (response p sk y c)) (p.gamma1 - p.beta)
+    → true ≡ nat_lt (vector_norm (low_vector p sk w c)) (p.gamma2 - p.beta)
+    → true ≡ nat_lt (vector_norm (ct0 p sk c)) p.gamma2
+    → length (all_ones (hint_vector p sk w c)) ≤ p.omega
+    → Ok (Some (signature_bytes p.gamma1 p.omega c_tilde (response p sk y c) (hint_vector p sk w c))) ≡ attempt_answer (checked_attempt p sk y w c_tilde (Some c))
+unfolding passes_checks
+kept p sk y w c_tilde c e f h few = signed p sk y w c_tilde c (and-fourth _ _ _ _ e f h ∙ le-leb _ _ few)
+
+-- ---- the vectors of an attempt
+
+-- y + c s1
+abbrev pub masked : List R → R → List R → ℕ → ℕ → ℕ
+masked y c s1 r n = plus (vector_coefficients y r) (scaled c (vector_coefficients s1) r) n
+
+pub response-is : (p : ParameterSet) (sk : PrivateParts) (y : List R) (c : R) (s1 z : List R) (k : ℕ) → s1 ≡ sk.s1 → k ≡ p.l
+    → z ≡ vector_of k (λ r n. centred (pos (masked y c s1 r n))) → z ≡ response p sk y c
+unfolding response
+response-is p sk y c s1 z k own size e = e ∙ rw (own, size) refl
+
+pub low-is : (p : ParameterSet) (sk : PrivateParts) (w : ℕ → ℕ → ℕ) (c : R) (s2 v : List R) (k : ℕ) → s2 ≡ sk.s2 → k ≡ p.k
+    → ((r n : ℕ) → r < k → n < 256 → vector_coefficients v r n ≡ minus (w r) (scaled c (vector_coefficients s2) r) n)
+    → vector_of k (λ r n. low_bits p.gamma2 (vector_coefficients v r n)) ≡ low_vector p sk w c
+unfolding low_vector
+low-is p sk w c s2 v k own size e =
+    vector_of-ext k (λ r n. low_bits p.gamma2 (vector_coefficients v r n)) (λ r n. low_bits p.gamma2 (minus (w r) (scaled c (vector_coefficients s2) r) n)) (λ r n h l. ap (low_bits p.gamma2) (e r n h l))
+    ∙ rw (own, size) refl
+
+pub ct0-is : (p : ParameterSet) (sk : PrivateParts) (c : R) (t0 v : List R) (k : ℕ) → t0 ≡ sk.t0 → k ≡ p.k → v ≡ vector_of k (λ r n. pos (scaled c (vector_coefficients t0) r n)) → v ≡ ct0 p sk c
+unfolding ct0
+ct0-is p sk c t0 v k own size e = e ∙ rw (own, size) refl
+
+pub hint-is : (p : ParameterSet) (sk : PrivateParts) (w : ℕ → ℕ → ℕ) (c : R) (s2 t0 v t h : List R) (k : ℕ) → s2 ≡ sk.s2 → t0 ≡ sk.t0 → k ≡ p.k
+    → ((r n : ℕ) → r < k → n < 256 → vector_coefficients v r n ≡ minus (w r) (scaled c (vector_coefficients s2) r) n)
+    → ((r n : ℕ) → r < k → n < 256 → entry t r n ≡ pos (scaled c (vector_coefficients t0) r n))
+    → h ≡ vector_of k (λ r n. hint_bit p.gamma2 (vector_coefficients v r n) (vector_coefficients t r n)) → h ≡ hint_vector p sk w c
+unfolding hint_vector
+hint-is p sk w c s2 t0 v t h k own low size e f is =
+    is
+    ∙ vector_of-ext k (λ r n. hint_bit p.gamma2 (vector_coefficients v r n) (vector_coefficients t r n))
+    (λ r n. hint_bit p.gamma2 (minus (w r) (scaled c (vector_coefficients s2) r) n) (scaled c (vector_coefficients t0) r n))
+    (λ r n q l. rw (e r n q l, product-own _ _ n _ (f r n q l)) refl)
+    ∙ rw (own, low, size) refl
+
+-- ---- ranges
+
+-- s1 and s2 of a private key
+pub short-within : (k m : ℕ) (v : List R) → IsVector m (eta_of_rows k) (eta_of_rows k) v → IsReducedVector m v
+short-within k m v is = vector-within m (eta_of_rows k) (eta_of_rows k) 8380416 v (eta_of_rows-small k) (eta_of_rows-small k) is
+
+-- t0 of a private key
+pub low-within : (m : ℕ) (v : List R) → IsVector m 4095 4096 v → IsReducedVector m v
+low-within m v is = vector-within m 4095 4096 8380416 v (omega arith) (omega arith) is
+
+-- coefficients of a response
+pub response-range : (gamma1 : ℤ) (b k : ℕ) (f : ℕ → ℕ → ℤ) (z : List R) → (gamma1 ≡ pos 131072) ⊎ (gamma1 ≡ pos 524288) → b ≤ nat_abs gamma1
+    → z ≡ vector_of k (λ r n. centred (f r n)) → vector_norm z < b → All (λ u. InRange (pos 0 -ℤ (gamma1 -ℤ pos 1)) gamma1 u.0) z
+response-range gamma1 b k f z set most e small =
+    let item : ℕ → ℕ → ℤ = λ r n. centred (f r n) in
+    let below : vector_norm (vector_of k item) < b = rw e at small in
+    let place : (r n : ℕ) → r < k → n < 256 → nat_abs (item r n) < nat_abs gamma1 = λ r n h l.
+    (let one = norm_of_place k item r n h l in let same = centred-again (f r n) in omega (arith, rw same at one, below, most)) in
+    rw e (elim set [
+      | inl is ↦ rw is (vector_of-range k 131071 131072 item (λ r n h l. let p = rw is at place r n h l in (omega (arith, ints, p), omega (arith, ints, p)))).range
+      | inr is ↦ rw is (vector_of-range k 524287 524288 item (λ r n h l. let p = rw is at place r n h l in (omega (arith, ints, p), omega (arith, ints, p)))).range
+    ])
+
+-- coefficients of a hint
+pub hint-range : (k g : ℕ) (v t : ℕ → ℕ → ℕ) (h : List R) → h ≡ vector_of k (λ r n. hint_bit g (v r n) (t r n)) → All (λ u. InRange (pos 0) (pos 1) u.0) h
+hint-range k g v t h e = rw e (vector_of-range k 0 1 (λ r n. hint_bit g (v r n) (t r n)) (λ r n q l. bit (make_hint g ((0 + 8380416 * t r n) % 8380417) ((v r n + t r n) % 8380417)))).range
+  where
+    bit : (b : Bool) → ((pos 0 -ℤ pos 0) ≤ℤ (if b then pos 1 else pos 0)) × ((if b then pos 1 else pos 0) ≤ℤ pos 1)
+    bit true = (omega (arith, ints), omega (arith, ints))
+    bit false = (omega (arith, ints), omega (arith, ints))
+
+-- how long a signature is
+pub signature_size : (p : Params) (k l n size : ℕ) → (p.gamma1 ≡ pos 131072) ⊎ (p.gamma1 ≡ pos 524288) → k ≡ p.k → l ≡ p.l → n ≡ commitment_length (set_of p) → size ≡ signature_length (set_of p)
+    → size ≡ n + 32 * width (p.gamma1 -ℤ pos 1) p.gamma1 * l + (nat_abs p.omega + k)
+signature_size p k l n size set rows_is columns_is commitment_is is =
+    let fields : width (pos (nat_abs p.gamma1 - 1)) (pos (nat_abs p.gamma1)) ≡ width (p.gamma1 -ℤ pos 1) p.gamma1 = elim set [
+      | inl e ↦ rw e refl
+      | inr e ↦ rw e refl
+    ] in
+    is ∙ rw (rows_is, columns_is, commitment_is, fields) (omega arith)

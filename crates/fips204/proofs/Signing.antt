@@ -1,0 +1,151 @@
+-- The first attempt that isn't rejected decides what signing answers.
+use Rattle.std.proofs.Common.{◌≡◌, ◌<◌, ◌+◌, ◌-◌, ℕ, zero, suc, List, [], ◌∷◌, Ok, Err, map, refl, ap, sym, ◌∙◌, arith, add-zero, ◌≤◌, ◌*◌, Option, Some, None, Result}
+use Rattle.std.specs.List.{range_with_len}
+use Rattle.fips204_base.specs.declared.fault.Fault.TheVariants.{TooManyAttempts, SamplingLimit}
+use Rattle.fips204.specs.Attempts.{Attempt, limit, rejected, signed, attempt}
+use Rattle.fips204.specs.Signing.{first_answer, attempt_answer, mask_seed, sign, sign_if_matrix, sign_with}
+use native.Mathlib.Decide.{dec_lt}
+use Rattle.std.proofs.Math.Nat.{mul-le-mul}
+use Rattle.fips204_base.specs.declared.fault.Fault.{Fault}
+use Rattle.fips204_base.specs.declared.types.T.{T}
+use Rattle.fips204_base.specs.MatrixEntry.{sampled_matrix}
+use Rattle.fips204.specs.Keys.{PrivateParts}
+use Rattle.fips204.specs.ParameterSets.{ParameterSet}
+
+-- The first attempt that isn't rejected decides signing's answer.
+
+rejected-first : (later : List Attempt) (this : Attempt) → this ≡ rejected → first_answer (this ∷ later) ≡ first_answer later
+unfolding first_answer
+rejected-first later this e = rw e refl
+
+-- after n rejected attempts of count
+skipped : (f : ℕ → Attempt) (a n count : ℕ) → ((m : ℕ) → m < n → f (a + m) ≡ rejected) → first_answer (map f (range_with_len a (n + count))) ≡ first_answer (map f (range_with_len (a + n) count))
+skipped f a zero count h =
+    let m : 0 + count ≡ count = omega arith in
+    let k : a + 0 ≡ a = omega arith in
+    rw (m, k) refl
+skipped f a (suc n) count h =
+    let m : suc n + count ≡ suc (n + count) = omega arith in
+    let k : a + suc n ≡ a + 1 + n = omega arith in
+    rw (m, k) (
+    rejected-first (map f (range_with_len (a + 1) (n + count))) (f a) (ap f (sym (add-zero a)) ∙ h 0 (omega arith))
+    ∙ skipped f (a + 1) n count (λ i l. let j : a + 1 + i ≡ a + suc i = omega arith in ap f j ∙ h (suc i) (omega (arith, l)))
+    )
+
+from_here : (f : ℕ → Attempt) (n count : ℕ) → n < count → ((m : ℕ) → m < n → f m ≡ rejected)
+    → first_answer (map f (range_with_len 0 count)) ≡ first_answer (f n ∷ map f (range_with_len (n + 1) (count - n - 1)))
+from_here f n count l before =
+    let whole : count ≡ n + suc (count - n - 1) = omega (arith, l) in
+    let start : 0 + n ≡ n = omega arith in
+    ap (λ k. first_answer (map f (range_with_len 0 k))) whole
+    ∙ skipped f 0 n (suc (count - n - 1)) (λ m h. let k : 0 + m ≡ m = omega arith in ap f k ∙ before m h)
+    ∙ ap (λ k. first_answer (map f (range_with_len k (suc (count - n - 1))))) start
+
+answer-signed : (later : List Attempt) (this : Attempt) (signature : List ℕ) → this ≡ signed signature → first_answer (this ∷ later) ≡ Ok signature
+unfolding first_answer
+answer-signed later this signature e = rw e refl
+
+answer-limit : (later : List Attempt) (this : Attempt) → this ≡ limit → first_answer (this ∷ later) ≡ Err SamplingLimit
+unfolding first_answer
+answer-limit later this e = rw e refl
+
+answer-none : first_answer [] ≡ Err TooManyAttempts
+unfolding first_answer
+answer-none = refl
+
+-- attempt n gives a signature, after attempts that were all rejected
+pub first_answer-signed : (f : ℕ → Attempt) (n count : ℕ) (signature : List ℕ) → n < count → ((m : ℕ) → m < n → f m ≡ rejected) → f n ≡ signed signature
+    → first_answer (map f (range_with_len 0 count)) ≡ Ok signature
+first_answer-signed f n count signature l before this = from_here f n count l before ∙ answer-signed (map f (range_with_len (n + 1) (count - n - 1))) (f n) signature this
+
+-- attempt n is past its limit
+pub first_answer-limit : (f : ℕ → Attempt) (n count : ℕ) → n < count → ((m : ℕ) → m < n → f m ≡ rejected) → f n ≡ limit
+    → first_answer (map f (range_with_len 0 count)) ≡ Err SamplingLimit
+first_answer-limit f n count l before this = from_here f n count l before ∙ answer-limit (map f (range_with_len (n + 1) (count - n - 1))) (f n) this
+
+-- all are rejected
+pub first_answer-none : (f : ℕ → Attempt) (count : ℕ) → ((m : ℕ) → m < count → f m ≡ rejected) → first_answer (map f (range_with_len 0 count)) ≡ Err TooManyAttempts
+first_answer-none f count before =
+    let whole : count ≡ count + 0 = omega arith in
+    ap (λ k. first_answer (map f (range_with_len 0 k))) whole
+    ∙ skipped f 0 count 0 (λ m h. let k : 0 + m ≡ m = omega arith in ap f k ∙ before m h)
+    ∙ answer-none
+
+-- What signing answers, by its attempts and its matrix.
+
+-- ---- an attempt by its answer
+
+answered-rejected : (this : Attempt) (o : Option (List ℕ)) → o ≡ None → Ok o ≡ attempt_answer this → this ≡ rejected
+unfolding attempt_answer
+answered-rejected limit o n e = absurd cc
+answered-rejected rejected o n e = refl
+answered-rejected (signed signature) o n e = absurd cc
+
+answered-signed : (this : Attempt) (o : Option (List ℕ)) (signature : List ℕ) → o ≡ Some signature → Ok o ≡ attempt_answer this → this ≡ signed signature
+unfolding attempt_answer
+answered-signed limit o signature s e = absurd cc
+answered-signed rejected o signature s e = absurd cc
+answered-signed (signed other) o signature s e = let same : signature ≡ other = cc in ap signed (sym same)
+
+answered-limit : (this : Attempt) (fault : Fault) → Err fault ≡ attempt_answer this → this ≡ limit
+unfolding attempt_answer
+answered-limit limit fault e = refl
+answered-limit rejected fault e = absurd cc
+answered-limit (signed signature) fault e = absurd cc
+
+pub answered-fault : (this : Attempt) (fault : Fault) → Err fault ≡ attempt_answer this → fault ≡ SamplingLimit
+unfolding attempt_answer
+answered-fault limit fault e = cc
+answered-fault rejected fault e = absurd cc
+answered-fault (signed signature) fault e = absurd cc
+
+-- the counters of the attempts fit 16 bits
+pub counter_fits : (n l : ℕ) → n < 814 → l ≤ 7 → n * l + l ≤ 65535
+counter_fits n l h few = let most : n * l ≤ 813 * 7 = (let last : n ≤ 813 = omega (arith, h) in mul-le-mul last few) in omega (arith, most, few)
+
+-- ---- signing with the matrix
+
+-- the attempts before n were rejected
+abbrev pub AreRejected : ParameterSet → (List ℕ → List ℕ) → List (List T) → PrivateParts → List ℕ → List ℕ → ℕ → ℕ → Type 0
+AreRejected p H a sk mu seed l n = (m : ℕ) → m < n → attempt p H a sk mu seed (m * l) ≡ rejected
+
+pub one_more : (p : ParameterSet) (H : List ℕ → List ℕ) (a : List (List T)) (sk : PrivateParts) (mu seed : List ℕ) (l n : ℕ) (o : Option (List ℕ)) → AreRejected p H a sk mu seed l n → o ≡ None
+    → Ok o ≡ attempt_answer (attempt p H a sk mu seed (n * l)) → AreRejected p H a sk mu seed l (n + 1)
+one_more p H a sk mu seed l n o before none this m h = elim (dec_lt m n) [
+  | yes earlier ↦ before m earlier
+  | no last ↦ (let e : m ≡ n = omega arith in rw e (answered-rejected (attempt p H a sk mu seed (n * l)) o none this))
+]
+
+pub sign_with-signed : (p : ParameterSet) (H : List ℕ → List ℕ) (a : List (List T)) (sk : PrivateParts) (mu rnd seed : List ℕ) (l n : ℕ) (o : Option (List ℕ)) (signature : List ℕ) → seed ≡ mask_seed H sk rnd mu → l ≡ p.l → n < 814
+    → AreRejected p H a sk mu seed l n → o ≡ Some signature → Ok o ≡ attempt_answer (attempt p H a sk mu seed (n * l)) → sign_with p H a sk mu rnd ≡ Ok signature
+unfolding sign_with
+sign_with-signed p H a sk mu rnd seed l n o signature seeded columns h before some this =
+    let before' : AreRejected p H a sk mu (mask_seed H sk rnd mu) p.l n = rw (seeded, columns) at before in
+    let this' : attempt p H a sk mu (mask_seed H sk rnd mu) (n * p.l) ≡ signed signature = rw (seeded, columns) at (answered-signed (attempt p H a sk mu seed (n * l)) o signature some this) in
+    first_answer-signed (λ n. attempt p H a sk mu (mask_seed H sk rnd mu) (n * p.l)) n 814 signature h before' this'
+
+pub sign_with-limit : (p : ParameterSet) (H : List ℕ → List ℕ) (a : List (List T)) (sk : PrivateParts) (mu rnd seed : List ℕ) (l n : ℕ) (fault : Fault) → seed ≡ mask_seed H sk rnd mu → l ≡ p.l → n < 814
+    → AreRejected p H a sk mu seed l n → Err fault ≡ attempt_answer (attempt p H a sk mu seed (n * l)) → sign_with p H a sk mu rnd ≡ Err SamplingLimit
+unfolding sign_with
+sign_with-limit p H a sk mu rnd seed l n fault seeded columns h before this =
+    let before' : AreRejected p H a sk mu (mask_seed H sk rnd mu) p.l n = rw (seeded, columns) at before in
+    let this' : attempt p H a sk mu (mask_seed H sk rnd mu) (n * p.l) ≡ limit = rw (seeded, columns) at (answered-limit (attempt p H a sk mu seed (n * l)) fault this) in
+    first_answer-limit (λ n. attempt p H a sk mu (mask_seed H sk rnd mu) (n * p.l)) n 814 h before' this'
+
+pub sign_with-none : (p : ParameterSet) (H : List ℕ → List ℕ) (a : List (List T)) (sk : PrivateParts) (mu rnd seed : List ℕ) (l : ℕ) → seed ≡ mask_seed H sk rnd mu → l ≡ p.l
+    → AreRejected p H a sk mu seed l 814 → sign_with p H a sk mu rnd ≡ Err TooManyAttempts
+unfolding sign_with
+sign_with-none p H a sk mu rnd seed l seeded columns before =
+    let before' : AreRejected p H a sk mu (mask_seed H sk rnd mu) p.l 814 = rw (seeded, columns) at before in
+    first_answer-none (λ n. attempt p H a sk mu (mask_seed H sk rnd mu) (n * p.l)) 814 before'
+
+-- ---- signing
+
+pub sign-by_matrix : (p : ParameterSet) (H G : List ℕ → List ℕ) (sk : PrivateParts) (mu rnd : List ℕ) (a : List (List T)) (answer : Result (List ℕ) Fault) → sampled_matrix G sk.rho p.k p.l ≡ Some a → answer ≡ sign_with p H a sk mu rnd
+    → answer ≡ sign p H G sk mu rnd
+unfolding sign sign_if_matrix
+sign-by_matrix p H G sk mu rnd a answer e with_matrix = rw e with_matrix
+
+pub sign-no_matrix : (p : ParameterSet) (H G : List ℕ → List ℕ) (sk : PrivateParts) (mu rnd : List ℕ) → sampled_matrix G sk.rho p.k p.l ≡ None → sign p H G sk mu rnd ≡ Err SamplingLimit
+unfolding sign sign_if_matrix
+sign-no_matrix p H G sk mu rnd e = rw e refl

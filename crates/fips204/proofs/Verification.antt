@@ -1,0 +1,147 @@
+-- Verifying: w1' as a vector, and what a signature's parts have to keep.
+use Rattle.std.proofs.Common.{◌≡◌, ◌<◌, ◌≤◌, ◌⊎◌, ◌+◌, ◌-◌, ◌%◌, ℕ, List, [], pos, get_or, length, ap, sym, subst, ◌∙◌, arith, Bool, Some, true, false, inl, inr, refl, IsTrue, ℤ, zero, suc, negsuc, ◌≤ℤ◌}
+use Rattle.std.specs.Prelude.{int_lt, ◌↔◌}
+use Rattle.std.specs.declared.option.Option.{Option}
+use Rattle.std.specs.List.{All}
+use Rattle.std.proofs.lemmas.Bool.{cases_Bool}
+use Rattle.std.proofs.lemmas.Int.{ints}
+use Rattle.std.proofs.lemmas.Nat.{mod_below}
+use Rattle.fips204_base.specs.declared.types.R.{R}
+use Rattle.fips204_base.specs.declared.types.T.{T}
+use Rattle.fips204_base.specs.CentredValues.{vector_norm}
+use Rattle.fips204_base.specs.Challenge.{challenge}
+use Rattle.fips204_base.specs.Encodings.{IsSignature}
+use Rattle.fips204_base.specs.MatrixEntry.{sampled_matrix}
+use Rattle.fips204_base.specs.HintSpelling.{is_one}
+use Rattle.fips204_base.specs.Packing.{InRange}
+use Rattle.fips204_base.specs.Polynomials.{entry, VectorWithin}
+use Rattle.fips204_base.specs.Products.{product, minus}
+use Rattle.fips204_base.specs.Residues.{residue, coefficients}
+use Rattle.fips204_base.specs.Rounding.{use_hint, high_bits, low_bits, high_values}
+use Rattle.fips204_base.specs.Vectors.{IsVector, vector_coefficients, matrix_product, vector_of}
+use Rattle.fips204_base.proofs.Rounding.{high_bits_below}
+use Rattle.fips204_base.proofs.Products.{product_same}
+use Rattle.fips204_base.proofs.Residues.{congruent_of, congruent_refl}
+use Rattle.fips204_base.proofs.Vectors.{vector_of-ext, vector_of-range, vector-within}
+use Rattle.fips204_base.proofs.EncodedParts.{same_signature}
+use Rattle.fips204.specs.Acceptance.{t1_shifted, w_approx, w1_prime, Verifies}
+use Rattle.fips204.specs.Attempts.{commitment}
+use Rattle.fips204.specs.Keys.{PublicParts}
+use Rattle.fips204.specs.ParameterSets.{ParameterSet, commitment_length}
+use Rattle.fips204.proofs.RefusedCalls.{same_some}
+
+-- ---- w1'
+
+some_values : (g : ℕ) → (g ≡ 95232) ⊎ (g ≡ 261888) → 0 < high_values g
+some_values g (inl e) = rw e (omega arith)
+some_values g (inr e) = rw e (omega arith)
+
+pub use_hint-below : (g r : ℕ) (h : Bool) → (g ≡ 95232) ⊎ (g ≡ 261888) → r < 8380417 → use_hint g h r < high_values g
+unfolding use_hint
+use_hint-below g r false set below = high_bits_below g r set below
+use_hint-below g r true set below = elim (cases_Bool (int_lt (pos 0) (low_bits g r))) [
+  | inl up ↦ rw up (mod_below (high_bits g r + 1) (high_values g) (some_values g set))
+  | inr down ↦ rw down (mod_below (high_bits g r + (high_values g - 1)) (high_values g) (some_values g set))
+]
+
+-- w' is A z less c t1 2^13, where the coefficients of u are those of t1 2^13
+pub w_approx-is : (p : ParameterSet) (a : List (List T)) (t1 z u w : List R) (c : R) (l r n : ℕ) → l ≡ p.l → ((j : ℕ) → j < 256 → vector_coefficients u r j ≡ t1_shifted t1 r j) → n < 256
+    → entry w r n ≡ pos (minus (matrix_product l a (vector_coefficients z) r) (product (coefficients c.0) (vector_coefficients u r)) n) → vector_coefficients w r n ≡ w_approx p a t1 z c r n
+w_approx-is p a t1 z u w c l r n columns shifted below e =
+    let challenge = coefficients c.0 in
+    let same = product_same challenge (vector_coefficients u r) challenge (t1_shifted t1 r) (λ j q. congruent_refl (challenge j)) (λ j q. congruent_of (shifted j q)) n below in
+    ap residue e ∙ mod-mod _ ∙ rw (same, columns) refl
+  where
+    mod-mod : (x : ℕ) → x % 8380417 % 8380417 ≡ x % 8380417
+    mod-mod x = omega arith
+
+bit : (x : ℤ) → pos 0 ≤ℤ x → x ≤ℤ pos 1 → (x ≡ pos 0) ⊎ (x ≡ pos 1)
+bit (pos zero) low high = inl refl
+bit (pos (suc zero)) low high = inr refl
+bit (pos (suc (suc n))) low high = absurd (omega (arith, ints, high))
+bit (negsuc n) low high = absurd (omega (arith, ints, low))
+
+-- a hint has zeros and ones
+pub hint-bit : (k : ℕ) (h : List R) (r n : ℕ) → IsVector k 0 1 h → r < k → n < 256 → (entry h r n ≡ pos 0) ⊎ (entry h r n ≡ pos 1)
+hint-bit k h r n is l m =
+    let empty : R = record { 0 = [] } in
+    let inside : r < length h = omega (arith, l, is.rows) in
+    let range = is.range r empty inside n (pos 0) (omega (arith, m, is.places r empty inside)) in
+    bit (entry h r n) (omega (arith, ints, range.0)) range.1
+
+-- UseHint of h and w' is w1'
+pub w1_prime-is : (p : ParameterSet) (a : List (List T)) (t1 z h : List R) (c : R) (w v : List R) (k : ℕ) → k ≡ p.k
+    → ((r n : ℕ) → r < k → n < 256 → vector_coefficients w r n ≡ w_approx p a t1 z c r n)
+    → v ≡ vector_of k (λ r n. pos (use_hint p.gamma2 (int_lt (pos 0) (entry h r n)) (vector_coefficients w r n))) → v ≡ w1_prime p a t1 z h c
+unfolding w1_prime is_one
+w1_prime-is p a t1 z h c w v k rows approx e =
+    e ∙ vector_of-ext k _ _ (λ r n l m. ap (λ x. pos (use_hint p.gamma2 (int_lt (pos 0) (entry h r n)) x)) (approx r n l m)) ∙ rw rows refl
+
+pub hinted-range : (p : ParameterSet) (a : List (List T)) (t1 z h : List R) (c : R) (v : List R) → (p.gamma2 ≡ 95232) ⊎ (p.gamma2 ≡ 261888) → v ≡ w1_prime p a t1 z h c
+    → All (λ x. InRange (pos 0) (pos (high_values p.gamma2 - 1)) x.0) v
+unfolding w1_prime
+hinted-range p a t1 z h c v set e =
+    let empty : R = record { 0 = [] } in
+    let f = λ (r n : ℕ). pos (use_hint p.gamma2 (is_one (get_or h r empty) n) (w_approx p a t1 z c r n)) in
+    let vector = vector_of-range p.k 0 (high_values p.gamma2 - 1) f (λ r n l m.
+    let below = use_hint-below p.gamma2 (w_approx p a t1 z c r n) (is_one (get_or h r empty) n) set (mod_below _ 8380417 (omega arith)) in
+    (omega (arith, ints), omega (arith, ints, below))) in
+    subst (λ (x : List R). All (λ x. InRange (pos 0) (pos (high_values p.gamma2 - 1)) x.0) x) (sym e) vector.range
+
+-- ---- ranges
+
+-- a vector with coefficients in [1 - gamma1, gamma1]
+pub response-within : (gamma1 l : ℕ) (z : List R) → gamma1 ≤ 524288 → IsVector l (gamma1 - 1) gamma1 z → VectorWithin l 524288 z
+response-within gamma1 l z h vector = vector-within l (gamma1 - 1) gamma1 524288 z (omega (arith, h)) h vector
+
+-- ---- the parts of a signature
+
+-- with the matrix, the challenge and w1' at hand the commitment decides
+pub decided : (p : ParameterSet) (H : List ℕ → List ℕ) (t1 z h w1 : List R) (mu c_tilde : List ℕ) (matrix : Option (List (List T))) (ball : Option R) (a : List (List T)) (c : R) (answer : Bool)
+    → matrix ≡ Some a → ball ≡ Some c → w1 ≡ w1_prime p a t1 z h c → (IsTrue answer ↔ (c_tilde ≡ commitment p H mu w1))
+    → IsTrue answer ↔ ((a : List (List T)) × (c : R) × (matrix ≡ Some a) × (ball ≡ Some c) × (c_tilde ≡ commitment p H mu (w1_prime p a t1 z h c)))
+decided p H t1 z h w1 mu c_tilde matrix ball a c answer m b w both = (
+  λ t. (a, c, m, b, both.0 t ∙ ap (commitment p H mu) w),
+  λ x.
+      let a' : x.0 ≡ a = same_some x.0 a (sym x.2 ∙ m) in
+      let c' : x.1 ≡ c = same_some x.1 c (sym x.3 ∙ b) in
+      both.1 (x.4 ∙ ap (λ a. commitment p H mu (w1_prime p a t1 z h x.1)) a' ∙ ap (λ c. commitment p H mu (w1_prime p a t1 z h c)) c' ∙ sym (ap (commitment p H mu) w)),
+)
+
+-- what the parts c_tilde, z and h of a signature keep besides the norm of z
+abbrev pub Gives : ParameterSet → (List ℕ → List ℕ) → (List ℕ → List ℕ) → PublicParts → List ℕ → List ℕ → List R → List R → Type 0
+Gives p H G pk mu c_tilde z h =
+    (a : List (List T)) × (c : R) × (sampled_matrix G pk.rho p.k p.l ≡ Some a) × (challenge p.tau (H c_tilde) ≡ Some c)
+    × (c_tilde ≡ commitment p H mu (w1_prime p a pk.t1 z h c))
+
+pub no_parts : (p : ParameterSet) (H G : List ℕ → List ℕ) (pk : PublicParts) (mu sig : List ℕ)
+    → ((c_tilde : List ℕ) (z h : List R) → IsSignature p.gamma1 p.omega p.k p.l (commitment_length p) sig c_tilde z h → ⊥) → Verifies p H G pk mu sig → ⊥
+no_parts p H G pk mu sig none v = none v.accepted.c_tilde v.accepted.z v.accepted.h v.accepted.hint
+
+pub verifies-in : (p : ParameterSet) (H G : List ℕ → List ℕ) (pk : PublicParts) (mu sig c_tilde : List ℕ) (z h : List R) → IsSignature p.gamma1 p.omega p.k p.l (commitment_length p) sig c_tilde z h
+    → vector_norm z < p.gamma1 - p.beta → Gives p H G pk mu c_tilde z h → Verifies p H G pk mu sig
+verifies-in p H G pk mu sig c_tilde z h parts small x = record {
+  a = x.0;
+  matrix = x.2;
+  accepted = record {
+    c_tilde = c_tilde;
+    z = z;
+    h = h;
+    hint = parts;
+    c = x.1;
+    challenge = x.3;
+    norm = small;
+    commitment = x.4;
+  };
+}
+
+-- a signature has no other parts
+pub verifies-out : (p : ParameterSet) (H G : List ℕ → List ℕ) (pk : PublicParts) (mu sig c_tilde : List ℕ) (z h : List R) → 1 ≤ p.gamma1 → p.gamma1 ≤ 1048575
+    → IsSignature p.gamma1 p.omega p.k p.l (commitment_length p) sig c_tilde z h → Verifies p H G pk mu sig → (vector_norm z < p.gamma1 - p.beta) × Gives p H G pk mu c_tilde z h
+verifies-out p H G pk mu sig c_tilde z h low high parts v =
+    let v' = v.accepted in
+    let same = same_signature p.gamma1 p.omega p.k p.l (commitment_length p) sig v'.c_tilde c_tilde v'.z z v'.h h low high v'.hint parts in
+    let norm = subst (λ (z : List R). vector_norm z < p.gamma1 - p.beta) same.1 v'.norm in
+    let ball = subst (λ (x : List ℕ). challenge p.tau (H x) ≡ Some v'.c) same.0 v'.challenge in
+    let value = sym same.0 ∙ v'.commitment ∙ ap (λ (z : List R). commitment p H mu (w1_prime p v.a pk.t1 z v'.h v'.c)) same.1 ∙ ap (λ (h : List R). commitment p H mu (w1_prime p v.a pk.t1 z h v'.c)) same.2 in
+    (norm, (v.a, v'.c, v.matrix, ball, value))

@@ -1,0 +1,11 @@
+use Rattle.std.proofs.Common.{rules, ◌∙◌, w32}
+use Rattle.std.proofs.lemmas.Int.{to_z-of_z}
+use Rattle.fips204.proofs.RejectionChecks.{low_bits-small}
+use Rattle.fips204.proofs.ml_dsa.rejection.low_coefficient.Goals as goal
+
+pub returns-clause-small : goal.returns-clause-small
+returns-clause-small c =
+    let gamma2 = to_z-of_z w32 c.args.gamma2 c.ranges.gamma2 in
+    let x = to_z-of_z w32 c.args.x c.ranges.x in
+    let value = to_z-of_z w32 c.low_bits.result (search rules) ∙ (rw (gamma2, x) at c.low_bits.ensures) in
+    rw value (low_bits-small c.args.gamma2 c.args.x c.requires.set)

@@ -1,0 +1,26 @@
+use Rattle.std.proofs.Common.{rules, arith, ◌≡◌, pos, true, false, length, get_or, ◌∙◌, ap, sym, w32, SFits, add-one, length-append, [], ◌∷◌}
+use Rattle.std.proofs.lemmas.Int.{to_z-of_z}
+use Rattle.fips204_base.specs.HintSpelling.{ones_below, is_one}
+use Rattle.fips204_base.proofs.HintSpelling.{ones-none, is_one-test, ones-keep, ones-skip}
+use Rattle.fips204.proofs.ml_dsa.rejection.ones_of.Goals as goal
+use Rattle.fips204.proofs.ml_dsa.rejection.ones_of.Goals.{then-row-n-gt0, else-row-n-gt0}
+
+pub loop-n-init : goal.loop-n-init
+loop-n-init c = let none = ap length (ones-none c.args.row.now) in record { value = sym none; few = omega arith }
+
+pub loop-n-preserved : goal.loop-n-preserved
+loop-n-preserved c =
+    let row = c.args.row.now in
+    let n = c.loop-n.n in
+    let fits : SFits w32 (get_or row.0 n (pos 0)) = search rules in
+    let next = ap (λ m. length (ones_below row m)) (add-one n) in
+    elim c.if-row-n-gt0.branch [
+      | then-row-n-gt0 w ↦
+          let one : is_one row n ≡ true = is_one-test row n _ true (to_z-of_z w32 _ fits) w.if-row-n-gt0.true in
+          let more = next ∙ ap length (ones-keep row n one) ∙ length-append (ones_below row n) (n ∷ []) in
+          rw (w.total-is) (record { value = omega (arith, more, c.loop-n.invariant.value); few = omega (arith, c.loop-n.invariant.few) })
+      | else-row-n-gt0 w ↦
+          let not : is_one row n ≡ false = is_one-test row n _ false (to_z-of_z w32 _ fits) w.if-row-n-gt0.false in
+          let same = next ∙ ap length (ones-skip row n not) in
+          rw (w.total-is) (record { value = c.loop-n.invariant.value ∙ sym same; few = omega (arith, c.loop-n.invariant.few) })
+    ]

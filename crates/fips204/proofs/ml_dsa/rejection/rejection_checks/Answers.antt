@@ -1,0 +1,184 @@
+use Rattle.std.proofs.Common.{rules, arith, pos, ◌≡◌, ◌∙◌, ◌-◌, inl, inr, length, Ok, Some, sym, ap, nat_abs, w32}
+use Rattle.std.specs.Prelude.{nat_lt}
+use Rattle.std.proofs.lemmas.Int.{to_z-of_z, ints}
+use Rattle.std.proofs.lemmas.Bool.{ltb-true}
+use Rattle.fips204_base.specs.HintSpelling.{all_ones}
+use Rattle.fips204_base.specs.CentredValues.{vector_norm}
+use Rattle.fips204_base.specs.Vectors.{vector_coefficients}
+use Rattle.fips204.specs.Attempts.{response, low_vector, ct0, hint_vector}
+use Rattle.fips204.specs.Keys.{PrivateParts}
+use Rattle.fips204.specs.Sets.{set_of}
+use Rattle.fips204.proofs.RejectionChecks.{rejected-first, rejected-second, rejected-third, rejected-fourth, kept, masked, response-is, low-is, ct0-is, hint-is, short-within, low-within, response-range, hint-range, signature_size}
+use Rattle.fips204.proofs.ParameterSets.{limits, rounding-some, rows}
+use Rattle.fips204.proofs.Ranges.{whole_vector}
+use Rattle.fips204.proofs.ml_dsa.rejection.rejection_checks.Given.{Over}
+use Rattle.fips204.proofs.ml_dsa.rejection.rejection_checks.Goals as goal
+use Rattle.fips204.proofs.ml_dsa.rejection.rejection_checks.Goals.{After-has_norm_below, After-has_norm_below-2, After-has_norm_below-3, After-number_of_ones}
+
+-- the checks that the calls answer
+first : (g : Over) (c : After-has_norm_below g) → c.has_norm_below.result ≡ nat_lt (vector_norm (response (set_of c.args.p.now) c.args.sk.now c.args.y.now c.args.c.now)) (nat_abs c.args.p.now.gamma1 - nat_abs c.args.p.now.beta)
+first g c =
+    let p = c.args.p.now in
+    let bound = to_z-of_z w32 c.z_bound.result (search rules) ∙ c.z_bound.ensures in
+    let own = ap (λ (k : PrivateParts). k.s1) c.sk.view_is in
+    (rw bound at c.has_norm_below.ensures)
+    ∙ ap (λ v. nat_lt (vector_norm v) (nat_abs p.gamma1 - nat_abs p.beta)) (response-is (set_of p) c.args.sk.now c.args.y.now c.args.c.now c.sk.inside.s1 c.response-z.result g.row.L own c.requires.sizes.1 c.response-z.ensures.value)
+
+second : (g : Over) (c : After-has_norm_below-2 g) → c.has_norm_below-2.result ≡ nat_lt (vector_norm (low_vector (set_of c.args.p.now) c.args.sk.now (vector_coefficients c.args.w.now) c.args.c.now)) (nat_abs c.args.p.now.gamma2 - nat_abs c.args.p.now.beta)
+second g c =
+    let p = c.args.p.now in
+    let bound = to_z-of_z w32 c.r0_bound.result (search rules) ∙ c.r0_bound.ensures in
+    let gamma2 = to_z-of_z w32 p.gamma2 (search rules) in
+    let own = ap (λ (k : PrivateParts). k.s2) c.sk.view_is in
+    (rw bound at c.has_norm_below-2.ensures)
+    ∙ ap (λ v. nat_lt (vector_norm v) (nat_abs p.gamma2 - nat_abs p.beta)) ((rw gamma2 at c.low_vector.ensures.value) ∙ low-is (set_of p) c.args.sk.now (vector_coefficients c.args.w.now) c.args.c.now _ _ _ own c.requires.sizes.0 c.w_minus_cs2-w_minus_cs2.ensures.values)
+
+third : (g : Over) (c : After-has_norm_below-3 g) → c.has_norm_below-3.result ≡ nat_lt (vector_norm (ct0 (set_of c.args.p.now) c.args.sk.now c.args.c.now)) (nat_abs c.args.p.now.gamma2)
+third g c =
+    let p = c.args.p.now in
+    let gamma2 = to_z-of_z w32 p.gamma2 (search rules) in
+    let own = ap (λ (k : PrivateParts). k.t0) c.sk.view_is in
+    let t = c.challenge_times_vector-ct0 in
+    (rw gamma2 at c.has_norm_below-3.ensures)
+    ∙ ap (λ v. nat_lt (vector_norm v) (nat_abs p.gamma2)) (ct0-is (set_of p) c.args.sk.now c.args.c.now _ _ _ own c.requires.sizes.0 (whole_vector g.row.K _ t.result (search rules) t.type_inv t.ensures.values))
+
+hint_of : (g : Over) (c : After-number_of_ones g) → c.hint-h.result ≡ hint_vector (set_of c.args.p.now) c.args.sk.now (vector_coefficients c.args.w.now) c.args.c.now
+hint_of g c =
+    let p = c.args.p.now in
+    let gamma2 = to_z-of_z w32 p.gamma2 (search rules) in
+    let second = ap (λ (k : PrivateParts). k.s2) c.sk.view_is in
+    let low = ap (λ (k : PrivateParts). k.t0) c.sk.view_is in
+    hint-is (set_of p) c.args.sk.now (vector_coefficients c.args.w.now) c.args.c.now _ _ _ _ _ _ second low c.requires.sizes.0 c.w_minus_cs2-w_minus_cs2.ensures.values c.challenge_times_vector-ct0.ensures.values
+    (rw gamma2 at c.hint-h.ensures)
+
+pub response-z-requires : goal.response-z-requires
+response-z-requires g c =
+    (search rules, (short-within g.row.K g.row.L c.sk.inside.s1 c.sk.invariant.first, (c.requires.mask, c.requires.challenge)))
+
+pub has_norm_below-requires : goal.has_norm_below-requires
+has_norm_below-requires g c =
+    let bound = to_z-of_z w32 c.z_bound.result (search rules) ∙ c.z_bound.ensures in
+    (search rules, (rw c.requires.sizes.1 (limits c.args.p.now (search rules)).some_columns, (c.response-z.ensures.range, rw bound (omega (arith, ints)))))
+
+pub w_minus_cs2-w_minus_cs2-requires : goal.w_minus_cs2-w_minus_cs2-requires
+w_minus_cs2-w_minus_cs2-requires g c =
+    (search rules, (short-within g.row.K g.row.K c.sk.inside.s2 c.sk.invariant.second, (c.requires.product, c.requires.challenge)))
+
+pub low_vector-requires : goal.low_vector-requires
+low_vector-requires g c =
+    let gamma2 = to_z-of_z w32 c.args.p.now.gamma2 (search rules) in
+    (search rules, (rw gamma2 (limits c.args.p.now (search rules)).rounding, c.w_minus_cs2-w_minus_cs2.ensures.range))
+
+pub has_norm_below-requires-2 : goal.has_norm_below-requires-2
+has_norm_below-requires-2 g c =
+    let bound = to_z-of_z w32 c.r0_bound.result (search rules) ∙ c.r0_bound.ensures in
+    (search rules, (rw c.requires.sizes.0 (limits c.args.p.now (search rules)).some_rows, (c.low_vector.ensures.range, rw bound (omega (arith, ints)))))
+
+pub challenge_times_vector-ct0-requires : goal.challenge_times_vector-ct0-requires
+challenge_times_vector-ct0-requires g c =
+    (search rules, (c.requires.challenge, low-within g.row.K c.sk.inside.t0 c.sk.invariant.low))
+
+pub has_norm_below-requires-3 : goal.has_norm_below-requires-3
+has_norm_below-requires-3 g c =
+    let gamma2 = to_z-of_z w32 c.args.p.now.gamma2 (search rules) in
+    let known = limits c.args.p.now (search rules) in
+    (search rules, (rw c.requires.sizes.0 known.some_rows, (c.challenge_times_vector-ct0.ensures.range, rw gamma2 (rounding-some c.args.p.now.gamma2 known.rounding))))
+
+pub hint-h-requires : goal.hint-h-requires
+hint-h-requires g c =
+    let gamma2 = to_z-of_z w32 c.args.p.now.gamma2 (search rules) in
+    (search rules, (rw gamma2 (limits c.args.p.now (search rules)).rounding, (c.w_minus_cs2-w_minus_cs2.ensures.range, c.challenge_times_vector-ct0.ensures.range)))
+
+pub number_of_ones-requires : goal.number_of_ones-requires
+number_of_ones-requires g c =
+    let few = (limits c.args.p.now (search rules)).few_rows in
+    (search rules, rw (sym c.requires.sizes.0) at few)
+
+pub overflow_cast-p : goal.overflow_cast-p
+overflow_cast-p g c =
+    let p = c.args.p.now in
+    elim (rows p.tau p.lambda p.gamma1 p.gamma2 p.k p.l p.eta p.beta p.omega (search rules)) [
+      | inl n ↦ rw n.omega_is (search rules)
+      | inr (inl n) ↦ rw n.omega_is (search rules)
+      | inr (inr n) ↦ rw n.omega_is (search rules)
+    ]
+
+pub returns-then-not-has_norm_below : goal.returns-then-not-has_norm_below
+returns-then-not-has_norm_below g c =
+    let at = goal.at.returns-then-not-has_norm_below g c in
+    rejected-first (set_of c.args.p.now) c.args.sk.now c.args.y.now _ _ c.args.c.now (sym c.if-not-has_norm_below.true ∙ first g at.After-has_norm_below)
+
+pub returns-then-not-has_norm_below-2 : goal.returns-then-not-has_norm_below-2
+returns-then-not-has_norm_below-2 g c =
+    let at = goal.at.returns-then-not-has_norm_below-2 g c in
+    rejected-second (set_of c.args.p.now) c.args.sk.now c.args.y.now _ _ c.args.c.now (sym c.if-not-has_norm_below.false ∙ first g at.After-has_norm_below)
+    (sym c.if-not-has_norm_below-2.true ∙ second g at.After-has_norm_below-2)
+
+pub returns-then-not-has_norm_below-3 : goal.returns-then-not-has_norm_below-3
+returns-then-not-has_norm_below-3 g c =
+    let at = goal.at.returns-then-not-has_norm_below-3 g c in
+    rejected-third (set_of c.args.p.now) c.args.sk.now c.args.y.now _ _ c.args.c.now (sym c.if-not-has_norm_below.false ∙ first g at.After-has_norm_below)
+    (sym c.if-not-has_norm_below-2.false ∙ second g at.After-has_norm_below-2) (sym c.if-not-has_norm_below-3.true ∙ third g at.After-has_norm_below-3)
+
+pub returns-then-number_of_ones-p : goal.returns-then-number_of_ones-p
+returns-then-number_of_ones-p g c =
+    let at = goal.at.returns-then-number_of_ones-p g c in
+    let omega_is = to_z-of_z w32 c.args.p.now.omega (search rules) in
+    let count = c.number_of_ones.ensures ∙ ap (λ h. length (all_ones h)) (hint_of g at.After-number_of_ones) in
+    rejected-fourth (set_of c.args.p.now) c.args.sk.now c.args.y.now _ _ c.args.c.now (sym c.if-not-has_norm_below.false ∙ first g at.After-has_norm_below)
+    (sym c.if-not-has_norm_below-2.false ∙ second g at.After-has_norm_below-2) (sym c.if-not-has_norm_below-3.false ∙ third g at.After-has_norm_below-3)
+    (rw (omega_is, count) at c.if-number_of_ones-p.true)
+
+pub sig_encode-requires : goal.sig_encode-requires
+sig_encode-requires g c =
+    let p = c.args.p.now in
+    let at = goal.at.sig_encode-requires g c in
+    let known = limits p (search rules) in
+    let gamma1 = to_z-of_z w32 p.gamma1 (search rules) in
+    let gamma2 = to_z-of_z w32 p.gamma2 (search rules) in
+    let omega_is = to_z-of_z w32 p.omega (search rules) in
+    let own = ap (λ (k : PrivateParts). k.s1) c.sk.view_is in
+    let z = response-is (set_of p) c.args.sk.now c.args.y.now c.args.c.now _ _ _ own c.requires.sizes.1 c.response-z.ensures.value in
+    let test = sym c.if-not-has_norm_below.false ∙ first g at.After-has_norm_below ∙ ap (λ v. nat_lt (vector_norm v) (nat_abs p.gamma1 - nat_abs p.beta)) (sym z) in (
+      search rules,
+      (
+        search rules,
+        (
+          search rules,
+          (
+            search rules,
+            (
+              rw gamma1 known.mask,
+              (
+                rw omega_is known.some_ones,
+                (
+                  rw (omega_is, c.requires.sizes.0) known.hint_size,
+                  (
+                    rw (gamma1, omega_is) (signature_size p _ _ _ _ known.mask c.requires.sizes.0 c.requires.sizes.1 c.requires.sizes.2 c.requires.sizes.3),
+                    (
+                      rw gamma1 (response-range p.gamma1 (nat_abs p.gamma1 - nat_abs p.beta) g.row.L (λ r n. pos (masked c.args.y.now c.args.c.now c.sk.inside.s1 r n)) c.response-z.result known.mask (omega arith) c.response-z.ensures.value (ltb-true _ _ (sym test))),
+                      (hint-range g.row.K (nat_abs p.gamma2) (vector_coefficients c.w_minus_cs2-w_minus_cs2.result) (vector_coefficients c.challenge_times_vector-ct0.result) c.hint-h.result (rw gamma2 at c.hint-h.ensures), rw c.number_of_ones.ensures at c.if-number_of_ones-p.false),
+                    ),
+                  ),
+                ),
+              ),
+            ),
+          ),
+        ),
+      ),
+    )
+
+pub returns : goal.returns
+returns g c =
+    let p = c.args.p.now in
+    let at = goal.at.returns g c in
+    let gamma1 = to_z-of_z w32 p.gamma1 (search rules) in
+    let omega_is = to_z-of_z w32 p.omega (search rules) in
+    let own = ap (λ (k : PrivateParts). k.s1) c.sk.view_is in
+    let z = response-is (set_of p) c.args.sk.now c.args.y.now c.args.c.now _ _ _ own c.requires.sizes.1 c.response-z.ensures.value in
+    let h = hint_of g at.After-number_of_ones in
+    let count = c.number_of_ones.ensures ∙ ap (λ h. length (all_ones h)) h in
+    ap (λ s. Ok (Some s)) (rw (gamma1, omega_is, z, h) at c.sig_encode.ensures)
+    ∙ kept (set_of p) c.args.sk.now c.args.y.now (vector_coefficients c.args.w.now) c.args.c_tilde.now c.args.c.now (sym c.if-not-has_norm_below.false ∙ first g at.After-has_norm_below)
+    (sym c.if-not-has_norm_below-2.false ∙ second g at.After-has_norm_below-2) (sym c.if-not-has_norm_below-3.false ∙ third g at.After-has_norm_below-3)
+    (rw (omega_is, count) at c.if-number_of_ones-p.false)

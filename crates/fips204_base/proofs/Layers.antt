@@ -1,0 +1,181 @@
+-- Blocks and layers of butterflies, so far as a loop over them has come.
+use Rattle.std.proofs.Common.{◌≡◌, ℕ, zero, suc, ◌<◌, ◌≤◌, ◌+◌, ◌*◌, ◌-◌, List, ℤ, length, get_or, set, length-set, get_or-set_same, get_or-set_other, arith, ap, subst, refl, ◌∙◌, ◌⊎◌, inl, inr}
+use Rattle.std.specs.Prelude.{nat_abs}
+use Rattle.std.proofs.lemmas.List.{get_or_default}
+use Rattle.std.proofs.lemmas.Nat.{mul-le}
+use native.Mathlib.Decide.{dec_lt}
+use Rattle.fips204_base.specs.Residues.{residue}
+use Rattle.fips204_base.specs.Lanes.{lane, lane_at}
+use Rattle.fips204_base.specs.Network.{IsButterfly, IsInverseButterfly, IsBlock, AreBlocks, IsLayer, IsInverseLayer}
+
+-- ---- a block: the first n of its pairs are done
+pub record Part (Pair : ℤ → ℤ → ℤ → ℤ → Type 0) (start len n : ℕ) (before after : ℕ → ℤ) : Type 0 where
+  pub pairs : (k : ℕ) → k < n → Pair (before (start + k)) (before (start + k + len)) (after (start + k)) (after (start + k + len))
+  pub rest : (p : ℕ) → ((k : ℕ) → k < n → ¬ (p ≡ start + k)) → ((k : ℕ) → k < n → ¬ (p ≡ start + k + len)) → after p ≡ before p
+
+pub part_whole : (Pair : ℤ → ℤ → ℤ → ℤ → Type 0) (start len : ℕ) (before after : ℕ → ℤ) → Part Pair start len len before after → IsBlock Pair start len before after
+part_whole Pair start len before after part = record {
+  pairs = part.pairs;
+  below = λ p h. part.rest p (λ k q e. absurd (omega arith)) (λ k q e. absurd (omega arith));
+  above = λ p h. part.rest p (λ k q e. absurd (omega arith)) (λ k q e. absurd (omega arith));
+}
+
+pub part_none : (Pair : ℤ → ℤ → ℤ → ℤ → Type 0) (start len : ℕ) (before : ℕ → ℤ) → Part Pair start len 0 before before
+part_none Pair start len before = record {
+  pairs = λ k h. absurd (omega arith);
+  rest = λ p f g. refl;
+}
+
+-- the places of the pairs that are still to come hold what they held
+pub part_ahead : (Pair : ℤ → ℤ → ℤ → ℤ → Type 0) (start len n : ℕ) (before after : ℕ → ℤ) → n < len → Part Pair start len n before after →
+    (after (start + n) ≡ before (start + n)) × (after (start + n + len) ≡ before (start + n + len))
+part_ahead Pair start len n before after r part = (
+  part.rest (start + n) (λ k q e. absurd (omega arith)) (λ k q e. absurd (omega arith)),
+  part.rest (start + n + len) (λ k q e. absurd (omega arith)) (λ k q e. absurd (omega arith)),
+)
+
+-- one pair more
+pub part_more : (Pair : ℤ → ℤ → ℤ → ℤ → Type 0) (start len n : ℕ) (x y : ℤ) (first before after : ℕ → ℤ) → n < len → Part Pair start len n first before →
+    after (start + n) ≡ x → after (start + n + len) ≡ y →
+    ((p : ℕ) → ¬ (p ≡ start + n) → ¬ (p ≡ start + n + len) → after p ≡ before p) →
+    Pair (before (start + n)) (before (start + n + len)) x y →
+    Part Pair start len (n + 1) first after
+part_more Pair start len n x y first before after r part ex ey others pair =
+    let keep = part_ahead Pair start len n first before r part in
+    record {
+      pairs = λ k h. elim (dec_lt k n) [
+        | yes q ↦ rw (others (start + k) (omega arith) (omega arith), others (start + k + len) (omega arith) (omega arith)) (part.pairs k q)
+        | no q ↦ (let e : k ≡ n = omega arith in rw e (rw (ex, ey) (rw (keep.0, keep.1) at pair)))
+      ];
+      rest = λ p f g. others p (f n (omega arith)) (g n (omega arith)) ∙ part.rest p (λ k q. f k (omega arith)) (λ k q. g k (omega arith));
+    }
+
+-- the same, for the list with the two results written
+pub part_step : {V : Type 0} (Pair : ℤ → ℤ → ℤ → ℤ → Type 0) (lanes : V → List ℤ) (j : ℕ) (d : V) (first w : List V) (start len n : ℕ) (a b x y : V) →
+    n < len → start + 2 * len ≤ 256 → length w ≡ 256 →
+    Part Pair start len n (lane_at lanes j d first) (lane_at lanes j d w) →
+    Pair (lane (lanes (get_or w (start + n) a)) j) (lane (lanes (get_or w (start + n + len) b)) j) (lane (lanes x) j) (lane (lanes y) j) →
+    Part Pair start len (n + 1) (lane_at lanes j d first) (lane_at lanes j d (set (set w (start + n) x) (start + n + len) y))
+part_step {V} Pair lanes j d first w start len n a b x y r inside size part pair =
+    let f = λ (v : V). lane (lanes v) j in
+    let one = get_or_default w (start + n) a d (omega arith) in
+    let two = get_or_default w (start + n + len) b d (omega arith) in
+    let size2 : length (set w (start + n) x) ≡ 256 = length-set w (start + n) x ∙ size in
+    part_more Pair start len n (f x) (f y) (lane_at lanes j d first) (lane_at lanes j d w) (lane_at lanes j d (set (set w (start + n) x) (start + n + len) y)) r part
+    (ap f (get_or-set_other (set w (start + n) x) (start + n + len) (start + n) y d (omega arith) ∙ get_or-set_same w (start + n) x d (omega arith)))
+    (ap f (get_or-set_same (set w (start + n) x) (start + n + len) y d (omega arith)))
+    (λ p h k. ap f (get_or-set_other (set w (start + n) x) (start + n + len) p y d k ∙ get_or-set_other w (start + n) p x d h))
+    (rw (ap f one, ap f two) at pair)
+
+-- ---- a layer: its first blocks are done
+pub record SoFar (Pair : ℕ → ℤ → ℤ → ℤ → ℤ → Type 0) (len done : ℕ) (before after : ℕ → ℤ) : Type 0 where
+  pub pairs : (b k : ℕ) → b < done → k < len → Pair b (before (2 * len * b + k)) (before (2 * len * b + k + len)) (after (2 * len * b + k)) (after (2 * len * b + k + len))
+  pub rest : (p : ℕ) → 2 * len * done ≤ p → after p ≡ before p
+
+pub layer_none : (Pair : ℕ → ℤ → ℤ → ℤ → ℤ → Type 0) (len : ℕ) (before : ℕ → ℤ) → SoFar Pair len 0 before before
+layer_none Pair len before = record {
+  pairs = λ b k h. absurd (omega arith);
+  rest = λ p h. refl;
+}
+
+-- block c ends where block b begins, or before
+blocks_apart : (len b c : ℕ) → c < b → 2 * len * c + 2 * len ≤ 2 * len * b
+blocks_apart len b c h = let e = mul-le (2 * len) (c + 1) (2 * len) b (omega arith) (omega arith) in omega (arith, e)
+
+pub block_fits : (count len b : ℕ) → count * len ≡ 128 → b < count → 2 * len * b + 2 * len ≤ 256
+block_fits count len b e h = let f = blocks_apart len count b h in omega (arith, f, e)
+
+pub count_below : (count len : ℕ) → count * len ≡ 128 → count ≤ 128
+count_below count zero e = absurd (omega (arith, e))
+count_below count (suc len) e = omega (arith, e)
+
+pub factor_positive : (a b : ℕ) → a * b ≡ 128 → 1 ≤ a
+factor_positive zero b e = absurd (omega (arith, e))
+factor_positive (suc a) b e = omega arith
+
+-- the steps of all blocks
+pub layer_products : (count len b old new : ℕ) → b ≡ count → count * len ≡ 128 → new ≡ old + len * b → new ≡ old + 128
+layer_products count len b old new e f h = h ∙ rw e (omega (arith, f))
+
+pub layer_sums : (count len b old new : ℕ) → b ≡ count → count * len ≡ 128 → new ≡ old + 2 * len * b → new ≡ old + 256
+layer_sums count len b old new e f h = h ∙ rw e (omega (arith, f))
+
+pub layer_more : (Pair : ℕ → ℤ → ℤ → ℤ → ℤ → Type 0) (len b start : ℕ) (first before after : ℕ → ℤ) → start ≡ 2 * len * b → IsBlock (Pair b) start len before after →
+    SoFar Pair len b first before → SoFar Pair len (b + 1) first after
+layer_more Pair len b start first before after e block done =
+    let this = subst (λ t. IsBlock (Pair b) t len before after) e block in
+    record {
+      pairs = λ c k h q. elim (dec_lt c b) [
+        | yes r ↦ (let apart = blocks_apart len b c r in
+            rw (this.below (2 * len * c + k) (omega arith), this.below (2 * len * c + k + len) (omega arith)) (done.pairs c k r q))
+        | no r ↦ (let f : c ≡ b = omega arith in
+            rw f (rw (done.rest (2 * len * b + k) (omega arith), done.rest (2 * len * b + k + len) (omega arith)) at (this.pairs k q)))
+      ];
+      rest = λ p h. this.above p (omega arith) ∙ done.rest p (omega arith);
+    }
+
+pub layer_whole : (Pair : ℕ → ℤ → ℤ → ℤ → ℤ → Type 0) (count len : ℕ) (before after : ℕ → ℤ) → SoFar Pair len count before after → AreBlocks Pair count len before after
+layer_whole Pair count len before after done b k h q = done.pairs b k h q
+
+-- ---- layers in residues
+pub layer_of_blocks : (count len : ℕ) (before after : ℕ → ℤ) → AreBlocks (λ b. IsButterfly (count + b)) count len before after → IsLayer count len (λ p. residue (before p)) (λ p. residue (after p))
+layer_of_blocks count len before after blocks b j h q = let pair = blocks b j h q in (pair.sum, pair.difference)
+
+pub inverse_layer_of_blocks : (count len : ℕ) (before after : ℕ → ℤ) → AreBlocks (λ b. IsInverseButterfly (2 * count - 1 - b)) count len before after → IsInverseLayer count len (λ p. residue (before p)) (λ p. residue (after p))
+inverse_layer_of_blocks count len before after blocks b j h q = let pair = blocks b j h q in (pair.sum, pair.difference)
+
+-- ---- sizes
+-- each place of the first blocks is in the first or the second half of one of them
+pub record Place (len done p : ℕ) : Type 0 where
+  pub block : ℕ
+  pub within : block < done
+  pub offset : ℕ
+  pub inside : offset < len
+  pub either : (p ≡ 2 * len * block + offset) ⊎ (p ≡ 2 * len * block + offset + len)
+
+place_found : (len done p : ℕ) → p < 2 * len * done → Place len done p
+place_found len zero p h = absurd (omega arith)
+place_found len (suc done) p h = elim (dec_lt p (2 * len * done)) [
+  | yes q ↦ (let r = place_found len done p q in record { block = r.block; within = omega (arith, r.within); offset = r.offset; inside = r.inside; either = r.either })
+  | no q ↦ elim (dec_lt (p - 2 * len * done) len) [
+    | yes r ↦ record { block = done; within = omega arith; offset = p - 2 * len * done; inside = r; either = inl (omega arith) }
+    | no r ↦ record { block = done; within = omega arith; offset = p - 2 * len * done - len; inside = omega arith; either = inr (omega arith) }
+  ]
+]
+
+-- what holds of both results of each pair holds at every place
+everywhere : (P : ℤ → Type 0) (Pair : ℕ → ℤ → ℤ → ℤ → ℤ → Type 0) (count len : ℕ) (before after : ℕ → ℤ) → count * len ≡ 128 → AreBlocks Pair count len before after →
+    ((b a c : ℕ) (x y : ℤ) → a < 256 → c < 256 → Pair b (before a) (before c) x y → P x × P y) →
+    (p : ℕ) → p < 256 → P (after p)
+everywhere P Pair count len before after e blocks h p q =
+    let found = place_found len count p (omega (arith, e)) in
+    let fits = block_fits count len found.block e found.within in
+    let low = 2 * len * found.block + found.offset in
+    let both = h found.block low (low + len) (after low) (after (low + len)) (omega (arith, found.inside)) (omega (arith, found.inside)) (blocks found.block found.offset found.within found.inside) in
+    elim found.either [
+      | inl f ↦ rw f both.0
+      | inr f ↦ rw f both.1
+    ]
+
+pub layer_sizes : (count len bound : ℕ) (before after : ℕ → ℤ) → count * len ≡ 128 → AreBlocks (λ b. IsButterfly (count + b)) count len before after →
+    ((p : ℕ) → p < 256 → nat_abs (before p) ≤ bound) → (p : ℕ) → p < 256 → nat_abs (after p) ≤ bound + 8380416
+layer_sizes count len bound before after e blocks h =
+    everywhere (λ x. nat_abs x ≤ bound + 8380416) (λ b. IsButterfly (count + b)) count len before after e blocks
+    (λ b a c x y p q pair. (omega (arith, pair.sum_small, h a p), omega (arith, pair.difference_small, h a p)))
+
+pub inverse_layer_sizes : (count len bound : ℕ) (before after : ℕ → ℤ) → count * len ≡ 128 → AreBlocks (λ b. IsInverseButterfly (2 * count - 1 - b)) count len before after →
+    8380416 ≤ bound → ((p : ℕ) → p < 256 → nat_abs (before p) ≤ bound) → (p : ℕ) → p < 256 → nat_abs (after p) ≤ 2 * bound
+inverse_layer_sizes count len bound before after e blocks least h =
+    everywhere (λ x. nat_abs x ≤ 2 * bound) (λ b. IsInverseButterfly (2 * count - 1 - b)) count len before after e blocks
+    (λ b a c x y p q pair. (omega (arith, pair.sum_small, h a p, h c q), omega (arith, pair.difference_small)))
+
+-- ---- one value of a row is changed: what the values before it have, and it, all have then; and the others stay
+pub one_changed : {V : Type 0} (P : ℕ → ℤ → Type 0) (lanes : V → List ℤ) (j n : ℕ) (d x : V) (w : List V) → n < length w →
+    ((p : ℕ) → p < n → P p (lane_at lanes j d w p)) → P n (lane (lanes x) j) → (p : ℕ) → p < n + 1 → P p (lane_at lanes j d (set w n x) p)
+one_changed P lanes j n d x w inside before here p h = elim (dec_lt p n) [
+  | yes q ↦ rw (get_or-set_other w n p x d (λ e. omega (arith, e, q))) (before p q)
+  | no q ↦ (let e : p ≡ n = omega arith in rw (e, get_or-set_same w n x d inside) here)
+]
+
+pub others_stay : {V : Type 0} (lanes : V → List ℤ) (j n : ℕ) (d x : V) (w : List V) (p : ℕ) → n + 1 ≤ p → lane_at lanes j d (set w n x) p ≡ lane_at lanes j d w p
+others_stay lanes j n d x w p h = ap (λ v. lane (lanes v) j) (get_or-set_other w n p x d (λ e. omega (arith, e, h)))

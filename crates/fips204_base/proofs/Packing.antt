@@ -1,0 +1,183 @@
+-- Bytes determine the fields that they pack, and fields the bytes; so it is with the bytes of a polynomial.
+use Rattle.std.proofs.Common.{◌≡◌, ℕ, zero, suc, ◌+◌, ◌*◌, ◌%◌, ◌/◌, ◌^◌, ◌<◌, ◌≤◌, List, [], ◌∷◌, ◌++◌, length, take, drop, map, get_or, refl, ap, sym, ◌∙◌, arith, length-append, length-take, length-drop, ℤ, pos, ◌-ℤ◌, ◌≤ℤ◌}
+use Rattle.std.specs.List.{All, range_with_len}
+use Rattle.std.proofs.lemmas.List.{take_at, drop-drop, take_all, length-map}
+use Rattle.std.proofs.lemmas.List.Elements.{All-head, All-tail, All-nil, All-cons, All-append, All-map, All-take, All-drop, All-weaker}
+use Rattle.std.proofs.lemmas.List.FromFn.{fill_by_all, length-map-range_with_len}
+use Rattle.std.proofs.lemmas.Nat.{pow_pos}
+use Rattle.std.proofs.Math.Seq.{take-add, drop-append-add}
+use Rattle.std.proofs.Math.Nat.{pow-succ'}
+use Rattle.fips204_base.specs.Packing.{Packs, bits, bits_to_bytes, bits_to_integer, integer_to_bits, packed, Bounds, InRange, Unpacks, coefficient, field, polynomial_bytes, width}
+use Rattle.fips204_base.proofs.Bits.{digits-zero, digits-suc, length-digits, same_numbers}
+use Rattle.fips204_base.proofs.Fields.{coefficient-field, fields_fit}
+
+-- Bytes determine the fields that they pack, and fields the bytes.
+
+integer-nil : bits_to_integer [] ≡ 0
+unfolding bits_to_integer
+integer-nil = refl
+
+integer-cons : (bit : ℕ) (higher : List ℕ) → bits_to_integer (bit ∷ higher) ≡ bit + 2 * bits_to_integer higher
+unfolding bits_to_integer
+integer-cons bit higher = refl
+
+-- the number of its digits
+pub integer_of_digits : (w x : ℕ) → x < 2 ^ w → bits_to_integer (integer_to_bits w x) ≡ x
+integer_of_digits zero x h = ap bits_to_integer (digits-zero x) ∙ integer-nil ∙ omega arith
+integer_of_digits (suc w) x h =
+    let p : 2 ^ suc w ≡ 2 * 2 ^ w = pow-succ' 2 w in
+    let rest = integer_of_digits w (x / 2) (omega (arith, p)) in
+    ap bits_to_integer (digits-suc w x) ∙ integer-cons (x % 2) (integer_to_bits w (x / 2)) ∙ omega (arith, rest)
+
+-- the digits of a number that is made of digits
+pub digits_of_integer : (w : ℕ) (digits : List ℕ) → length digits ≡ w → All (λ digit. digit < 2) digits → integer_to_bits w (bits_to_integer digits) ≡ digits
+digits_of_integer w [] e h = ap (λ n. integer_to_bits n (bits_to_integer [])) (sym e) ∙ digits-zero (bits_to_integer [])
+digits_of_integer zero (digit ∷ higher) e h = absurd (omega (arith, e))
+digits_of_integer (suc w) (digit ∷ higher) e h =
+    let here = All-head (λ (d : ℕ). d < 2) digit higher h in
+    let rest = digits_of_integer w higher (omega (arith, e)) (All-tail (λ (d : ℕ). d < 2) digit higher h) in
+    let low : (digit + 2 * bits_to_integer higher) % 2 ≡ digit = omega (arith, here) in
+    let high : (digit + 2 * bits_to_integer higher) / 2 ≡ bits_to_integer higher = omega (arith, here) in
+    ap (integer_to_bits (suc w)) (integer-cons digit higher) ∙ digits-suc w (digit + 2 * bits_to_integer higher) ∙ rw (low, high, rest) refl
+
+pub length-bits : (w : ℕ) (xs : List ℕ) → length (bits w xs) ≡ w * length xs
+unfolding bits
+length-bits w [] = omega arith
+length-bits w (x ∷ xs) = length-append (integer_to_bits w x) (bits w xs) ∙ rw (length-digits w x, length-bits w xs) (omega arith)
+
+drop_front : (n m : ℕ) (xs ys : List ℕ) → length xs ≡ n → drop (n + m) (xs ++ ys) ≡ drop m ys
+drop_front n m xs ys e = ap (λ k. drop (k + m) (xs ++ ys)) (sym e) ∙ drop-append-add xs ys m
+
+-- the digits of one of the numbers
+pub digits_at : (w k : ℕ) (xs : List ℕ) → k < length xs → take w (drop (w * k) (bits w xs)) ≡ integer_to_bits w (get_or xs k 0)
+unfolding bits
+digits_at w k [] h = absurd (omega arith)
+digits_at w zero (x ∷ xs) h =
+    let none : w * 0 ≡ 0 = omega arith in
+    rw none (take_at (integer_to_bits w x) (bits w xs) w (length-digits w x))
+digits_at w (suc k) (x ∷ xs) h =
+    let more : w * suc k ≡ w + w * k = omega arith in
+    rw (more, drop_front w (w * k) (integer_to_bits w x) (bits w xs) (length-digits w x)) (digits_at w k xs (omega (arith, h)))
+
+digits_below : (w x : ℕ) → All (λ digit. digit < 2) (integer_to_bits w x)
+digits_below zero x = rw (digits-zero x) (All-nil (λ (d : ℕ). d < 2))
+digits_below (suc w) x = rw (digits-suc w x) (All-cons (λ (d : ℕ). d < 2) (x % 2) (integer_to_bits w (x / 2)) (omega arith) (digits_below w (x / 2)))
+
+pub bits_below : (w : ℕ) (xs : List ℕ) → All (λ digit. digit < 2) (bits w xs)
+unfolding bits
+bits_below w [] = All-nil (λ (d : ℕ). d < 2)
+bits_below w (x ∷ xs) = All-append (λ (d : ℕ). d < 2) (integer_to_bits w x) (bits w xs) (digits_below w x) (bits_below w xs)
+
+-- the bytes of whole bytes' bits
+bytes_of_bits : (bytes : List ℕ) → All (λ byte. byte < 256) bytes → bits_to_bytes (bits 8 bytes) ≡ bytes
+unfolding bits_to_bytes
+bytes_of_bits bytes h =
+    let n : length (bits 8 bytes) / 8 ≡ length bytes = omega (arith, length-bits 8 bytes) in
+    rw n (sym (fill_by_all (λ i. bits_to_integer (take 8 (drop (8 * i) (bits 8 bytes)))) bytes (length bytes) 0 refl
+    (λ k l. sym (ap bits_to_integer (digits_at 8 k bytes l) ∙ integer_of_digits 8 (get_or bytes k 0) (h k 0 l)))))
+
+-- the bits of bytes that were cut from bits
+bits_of_bytes : (all : List ℕ) (s n : ℕ) → 8 * (s + n) ≤ length all → All (λ digit. digit < 2) all
+    → bits 8 (map (λ i. bits_to_integer (take 8 (drop (8 * i) all))) (range_with_len s n)) ≡ take (8 * n) (drop (8 * s) all)
+unfolding bits
+bits_of_bytes all s zero h d = refl
+bits_of_bytes all s (suc n) h d =
+    let here : integer_to_bits 8 (bits_to_integer (take 8 (drop (8 * s) all))) ≡ take 8 (drop (8 * s) all) =
+    digits_of_integer 8 (take 8 (drop (8 * s) all)) (simp (length-take, length-drop) (omega (arith, h))) (All-take (λ (x : ℕ). x < 2) 8 (drop (8 * s) all) (All-drop (λ (x : ℕ). x < 2) (8 * s) all d)) in
+    let rest = bits_of_bytes all (s + 1) n (omega (arith, h)) d in
+    let later : 8 * (s + 1) ≡ 8 * s + 8 = omega arith in
+    let count : 8 * suc n ≡ 8 + 8 * n = omega arith in
+    let cut : take (8 * suc n) (drop (8 * s) all) ≡ take 8 (drop (8 * s) all) ++ take (8 * n) (drop (8 * (s + 1)) all) =
+    ap (λ k. take k (drop (8 * s) all)) count ∙ take-add 8 (8 * n) (drop (8 * s) all) ∙ ap (λ l. take 8 (drop (8 * s) all) ++ take (8 * n) l) (drop-drop 8 (8 * s) all ∙ ap (λ k. drop k all) (sym later)) in
+    ap (λ l. l ++ bits 8 (map (λ i. bits_to_integer (take 8 (drop (8 * i) all))) (range_with_len (s + 1) n))) here ∙ ap (λ l. take 8 (drop (8 * s) all) ++ l) rest ∙ sym cut
+
+pub is_packed : (c : ℕ) (bytes fields : List ℕ) → Packs c bytes fields → bytes ≡ packed c fields
+unfolding packed
+is_packed c bytes fields p = sym (bytes_of_bits bytes p.whole_bytes) ∙ ap bits_to_bytes p.same_bits
+
+byte_count : (all : List ℕ) → length (bits_to_bytes all) ≡ length all / 8
+unfolding bits_to_bytes
+byte_count all = length-map-range_with_len (λ i. bits_to_integer (take 8 (drop (8 * i) all))) 0 (length all / 8)
+
+pub integer_small : (w : ℕ) (digits : List ℕ) → length digits ≤ w → All (λ digit. digit < 2) digits → bits_to_integer digits < 2 ^ w
+integer_small w [] h d = rw integer-nil (pow_pos w)
+integer_small zero (x ∷ xs) h d = absurd (omega (arith, h))
+integer_small (suc w) (x ∷ xs) h d =
+    let here = All-head (λ (y : ℕ). y < 2) x xs d in
+    let rest = integer_small w xs (omega (arith, h)) (All-tail (λ (y : ℕ). y < 2) x xs d) in
+    rw integer-cons (omega (arith, here, rest, pow-succ' 2 w))
+
+byte_small : (all : List ℕ) (i : ℕ) → All (λ digit. digit < 2) all → bits_to_integer (take 8 (drop (8 * i) all)) < 256
+byte_small all i d =
+    let short : length (take 8 (drop (8 * i) all)) ≤ 8 = simp length-take (omega arith) in
+    integer_small 8 (take 8 (drop (8 * i) all)) short (All-take (λ (x : ℕ). x < 2) 8 (drop (8 * i) all) (All-drop (λ (x : ℕ). x < 2) (8 * i) all d))
+
+pub length-packed : (c n : ℕ) (fields : List ℕ) → c * length fields ≡ 8 * n → length (packed c fields) ≡ n
+unfolding packed
+length-packed c n fields e =
+    let eighths : length (bits c fields) / 8 ≡ n = omega (arith, length-bits c fields, e) in
+    byte_count (bits c fields) ∙ eighths
+
+pub packs_packed : (c n : ℕ) (fields : List ℕ) → c * length fields ≡ 8 * n → All (λ field. field < 2 ^ c) fields → Packs c (packed c fields) fields
+unfolding packed bits_to_bytes
+packs_packed c n fields e h =
+    let long : length (bits c fields) ≡ 8 * n = length-bits c fields ∙ e in
+    let eighths : length (bits c fields) / 8 ≡ n = omega (arith, long) in
+    let all = bits_of_bytes (bits c fields) 0 n (omega (arith, long)) (bits_below c fields) in
+    record {
+      same_bits = rw eighths (all ∙ take_all (8 * n) (bits c fields) (omega (arith, long)));
+      whole_bytes = All-map (λ (b : ℕ). b < 256) (λ i. bits_to_integer (take 8 (drop (8 * i) (bits c fields)))) (range_with_len 0 (length (bits c fields) / 8))
+          (λ k d l. byte_small (bits c fields) _ (bits_below c fields));
+      small_fields = h;
+    }
+
+pub same_fields : (c : ℕ) (bytes fields others : List ℕ) → length fields ≡ length others → Packs c bytes fields → Packs c bytes others → fields ≡ others
+same_fields c bytes fields others n p q = same_numbers c fields others n p.small_fields q.small_fields (sym p.same_bits ∙ q.same_bits)
+
+pub same_bytes : (c : ℕ) (bytes others fields : List ℕ) → Packs c bytes fields → Packs c others fields → bytes ≡ others
+same_bytes c bytes others fields p q = is_packed c bytes fields p ∙ sym (is_packed c others fields q)
+
+-- The bytes of a polynomial determine it, and it determines them.
+
+eighths : (c : ℕ) → c * 256 ≡ 8 * (32 * c)
+eighths c = omega arith
+
+coefficients_again : (a b : ℤ) (w : List ℤ) → All (λ x. coefficient a b (field a b x) ≡ x) w → map (coefficient a b) (map (field a b) w) ≡ w
+coefficients_again a b [] h = refl
+coefficients_again a b (x ∷ w) h =
+    let head = All-head (λ (y : ℤ). coefficient a b (field a b y) ≡ y) x w h in
+    let tail = coefficients_again a b w (All-tail (λ (y : ℤ). coefficient a b (field a b y) ≡ y) x w h) in
+    cc
+
+in_range_again : (a b : ℤ) (w : List ℤ) → Bounds a b → InRange (pos 0 -ℤ a) b w → All (λ x. coefficient a b (field a b x) ≡ x) w
+in_range_again a b w bounds range =
+    All-weaker (λ (x : ℤ). ((pos 0 -ℤ a) ≤ℤ x) × (x ≤ℤ b)) (λ (x : ℤ). coefficient a b (field a b x) ≡ x) (λ x r. coefficient-field a b x bounds r.0 r.1) w range
+
+pub length-polynomial_bytes : (a b : ℤ) (w : List ℤ) → length w ≡ 256 → length (polynomial_bytes a b w) ≡ 32 * width a b
+length-polynomial_bytes a b w n =
+    let all : length (map (field a b) w) ≡ 256 = length-map w (field a b) ∙ n in
+    length-packed (width a b) (32 * width a b) (map (field a b) w) (rw all (eighths (width a b)))
+
+-- bytes unpack to a polynomial in range exactly if they are its bytes
+pub unpacks_bytes : (a b : ℤ) (bytes : List ℕ) (w : List ℤ) → Unpacks a b bytes w → bytes ≡ polynomial_bytes a b w
+unpacks_bytes a b bytes w u = is_packed (width a b) bytes (map (field a b) w) u.same_fields
+
+pub bytes_unpack : (a b : ℤ) (w : List ℤ) → Bounds a b → InRange (pos 0 -ℤ a) b w → length w ≡ 256 → Unpacks a b (polynomial_bytes a b w) w
+bytes_unpack a b w bounds range n =
+    let all : length (map (field a b) w) ≡ 256 = length-map w (field a b) ∙ n in
+    record {
+      same_fields = packs_packed (width a b) (32 * width a b) (map (field a b) w) (rw all (eighths (width a b))) (fields_fit a b w bounds range);
+      count = n;
+      coefficients = in_range_again a b w bounds range;
+    }
+
+pub unpacks_once : (a b : ℤ) (bytes : List ℕ) (v w : List ℤ) → Unpacks a b bytes v → Unpacks a b bytes w → v ≡ w
+unpacks_once a b bytes v w p q =
+    let counts : length (map (field a b) v) ≡ length (map (field a b) w) = length-map v (field a b) ∙ p.count ∙ sym q.count ∙ sym (length-map w (field a b)) in
+    let fields = same_fields (width a b) bytes (map (field a b) v) (map (field a b) w) counts p.same_fields q.same_fields in
+    sym (coefficients_again a b v p.coefficients) ∙ ap (map (coefficient a b)) fields ∙ coefficients_again a b w q.coefficients
+
+pub same_polynomial : (a b : ℤ) (v w : List ℤ) → Bounds a b → InRange (pos 0 -ℤ a) b v → InRange (pos 0 -ℤ a) b w → length v ≡ 256 → length w ≡ 256
+    → polynomial_bytes a b v ≡ polynomial_bytes a b w → v ≡ w
+same_polynomial a b v w bounds p q n m e =
+    unpacks_once a b (polynomial_bytes a b w) v w (rw e at (bytes_unpack a b v bounds p n)) (bytes_unpack a b w bounds q m)

@@ -1,0 +1,108 @@
+-- Worked values of residues, products, transforms, norms and rounding.
+use Rattle.std.proofs.Common.{◌≡◌, pos, negsuc, [], ◌∷◌, refl, cond, rules, ◌++◌, if◌then◌else◌, map, true, false}
+use Rattle.std.proofs.Math.Dec.{eqb}
+use Rattle.fips204_base.specs.Residues.{residue, sum_below}
+use Rattle.fips204_base.specs.CentredValues.{centred, norm, centred_modulo}
+use Rattle.fips204_base.specs.Reductions.{IsMontgomery}
+use Rattle.fips204_base.specs.Transforms.{bit_reversed, zeta_at, root, transform}
+use Rattle.fips204_base.specs.Products.{product, shifted}
+use Rattle.std.specs.Prelude.{replicate, nat_eq}
+use Rattle.std.specs.List.{range_with_len, flat_map}
+use Rattle.fips204_base.specs.Packing.{polynomial_bytes, packed, bits_to_bytes, bits, integer_to_bits, bits_to_integer, field, bit_length}
+use Rattle.fips204_base.specs.Rounding.{power2round, decompose, make_hint, use_hint, high_values}
+
+-- Worked values of the definitions of residues, products and transforms.
+
+residues : (residue (negsuc 0) ≡ 8380416) × (residue (pos 8380417) ≡ 0) × (residue (negsuc 8380416) ≡ 0)
+residues = (refl, refl, refl)
+
+centres : (centred (pos 4190208) ≡ pos 4190208) × (centred (pos 4190209) ≡ negsuc 4190207) × (centred (negsuc 0) ≡ negsuc 0)
+unfolding centred
+centres = (refl, refl, refl)
+
+norms : norm (pos 3 ∷ pos 8380416 ∷ pos 4190209 ∷ []) ≡ 4190208
+unfolding centred
+norms = refl
+
+-- 2^32 is 1 in Montgomery form, and 1 is -114592
+montgomery_of_word : IsMontgomery (pos 4294967296) (pos 1)
+montgomery_of_word = record { factor = pos 0; sum = refl; low = search rules; high = search rules }
+
+montgomery_of_one : IsMontgomery (pos 1) (negsuc 114591)
+montgomery_of_one = record { factor = pos 58728449; sum = refl; low = search rules; high = search rules }
+
+reversals : (bit_reversed 1 ≡ 128) × (bit_reversed 6 ≡ 96) × (bit_reversed 255 ≡ 255)
+unfolding bit_reversed sum_below
+reversals = (refl, refl, refl)
+
+zetas : (zeta_at 1 ≡ 4808194) × (zeta_at 2 ≡ 3765607) × (zeta_at 3 ≡ 3761513) × (zeta_at 255 ≡ 7648983)
+unfolding zeta_at bit_reversed sum_below
+zetas = (refl, refl, refl, refl)
+
+-- the transform of X is the list of the roots
+transform_of_x : (transform (λ j. cond (eqb j 1) 1 0) 0 ≡ 1753) × (transform (λ j. cond (eqb j 1) 1 0) 1 ≡ 8378664)
+unfolding transform root bit_reversed sum_below
+transform_of_x = (refl, refl)
+
+-- the transform of 1 is 1 everywhere
+transform_of_one : (transform (λ j. cond (eqb j 0) 1 0) 0 ≡ 1) × (transform (λ j. cond (eqb j 0) 1 0) 200 ≡ 1)
+unfolding transform root bit_reversed sum_below
+transform_of_one = (refl, refl)
+
+-- X^255 X is minus one
+product_of_powers : (product (λ j. cond (eqb j 255) 1 0) (λ j. cond (eqb j 1) 1 0) 0 ≡ 8380416) × (product (λ j. cond (eqb j 255) 1 0) (λ j. cond (eqb j 1) 1 0) 1 ≡ 0)
+unfolding product shifted sum_below
+product_of_powers = (refl, refl)
+
+-- Worked values of centring, the norm, the product, and packing.
+
+-- modulo an even number the upper end belongs to the range, and the lower one doesn't
+centred_even : map (centred_modulo 8192) (4096 ∷ 4097 ∷ 8191 ∷ []) ≡ (pos 4096 ∷ negsuc 4094 ∷ negsuc 0 ∷ [])
+centred_even = refl
+
+-- modulo an odd number both ends belong to it
+centred_odd : map centred (pos 4190208 ∷ pos 4190209 ∷ pos 8380416 ∷ negsuc 4190208 ∷ []) ≡ (pos 4190208 ∷ negsuc 4190207 ∷ negsuc 0 ∷ pos 4190208 ∷ [])
+unfolding centred
+centred_odd = refl
+
+-- the norm is that of the centred coefficients
+norm_at_the_ends : map norm ((pos 1 ∷ pos 4190208 ∷ []) ∷ (pos 4190209 ∷ negsuc 5 ∷ []) ∷ (pos 8380416 ∷ negsuc 0 ∷ []) ∷ (negsuc 4190208 ∷ []) ∷ []) ≡ (4190208 ∷ 4190208 ∷ 1 ∷ 4190208 ∷ [])
+unfolding centred
+norm_at_the_ends = refl
+
+-- X^255 times X is -1: q - 1 at place 0, and 0 at others
+highest_times_x : map (product (λ i. if nat_eq i 255 then 1 else 0) (λ i. if nat_eq i 1 then 1 else 0)) (range_with_len 0 8 ++ range_with_len 248 8) ≡ 8380416 ∷ replicate 15 0
+unfolding product shifted sum_below
+highest_times_x = refl
+
+-- every coefficient of t0 is 2, so every field is 4094, in 13 bits
+fields_of_t0 : polynomial_bytes (pos 4095) (pos 4096) (replicate 256 (pos 2)) ≡ flat_map (λ _. 0xFE ∷ 0xCF ∷ 0xFF ∷ 0xF9 ∷ 0x3F ∷ 0xFF ∷ 0xE7 ∷ 0xFF ∷ 0xFC ∷ 0x9F ∷ 0xFF ∷ 0xF3 ∷ 0x7F ∷ []) (range_with_len 0 32)
+unfolding packed bits_to_bytes bits integer_to_bits bits_to_integer field bit_length
+fields_of_t0 = refl
+
+-- Worked values of rounding and of hints.
+
+power2round_edges : map power2round (4096 ∷ 4097 ∷ 8380416 ∷ []) ≡ (0, pos 4096) ∷ (1, negsuc 4094) ∷ (1023, pos 0) ∷ []
+power2round_edges = refl
+
+-- the last multiple of 2 gamma2 below q - 1, and the edge above it
+decompose_edge_44 : map (decompose 95232) (8285184 ∷ 8285185 ∷ 8380416 ∷ []) ≡ (43, pos 95232) ∷ (0, negsuc 95231) ∷ (0, negsuc 0) ∷ []
+unfolding decompose
+decompose_edge_44 = refl
+
+decompose_edge_65_87 : map (decompose 261888) (8118528 ∷ 8118529 ∷ 8380416 ∷ []) ≡ (15, pos 261888) ∷ (0, negsuc 261887) ∷ (0, negsuc 0) ∷ []
+unfolding decompose
+decompose_edge_65_87 = refl
+
+high_values_of_sets : map high_values (95232 ∷ 261888 ∷ []) ≡ 44 ∷ 16 ∷ []
+high_values_of_sets = refl
+
+-- at 0 a hint goes down, past 0 to the last value; above 0 up; at the last value from above back to 0
+use_hint_at_zero : (use_hint 95232 true 0 ∷ use_hint 261888 true 0 ∷ use_hint 95232 true 1 ∷ use_hint 95232 false 0 ∷ use_hint 95232 true 8285184 ∷ []) ≡ 43 ∷ 15 ∷ 1 ∷ 0 ∷ 0 ∷ []
+unfolding use_hint decompose
+use_hint_at_zero = refl
+
+-- from 95232 one more is the next multiple; from 8285184 the edge at q - 1, which has high bits 0
+make_hint_steps : (make_hint 95232 1 95232 ∷ make_hint 95232 1 95231 ∷ make_hint 95232 1 8285184 ∷ make_hint 95232 1 8380416 ∷ []) ≡ true ∷ false ∷ true ∷ false ∷ []
+unfolding decompose
+make_hint_steps = refl

@@ -1,0 +1,132 @@
+-- Worked values of packing and of the spelling of hints.
+use Rattle.std.proofs.Common.{◌≡◌, [], ◌∷◌, refl, pos, negsuc, arith, length, ℕ, List, ◌++◌, if◌then◌else◌, ◌||◌}
+use Rattle.fips204_base.specs.Packing.{bit_length, bits, bits_to_bytes, bits_to_integer, coefficient, field, integer_to_bits, packed, width}
+use Rattle.std.specs.Prelude.{replicate, nat_eq}
+use Rattle.std.specs.List.{range_with_len}
+use Rattle.fips204_base.specs.declared.types.R.{R}
+use Rattle.fips204_base.specs.Vectors.{polynomial_of}
+use Rattle.fips204_base.specs.HintSpelling.{is_one, ones_below, hint_bytes, Spells}
+use Rattle.fips204_base.proofs.HintSpelling.{pieces, totals_rise, piece_rises, zero_rest}
+
+-- Worked values of the definitions in specs/Packing.antt.
+
+six_in_four_bits : integer_to_bits 4 6 ≡ 0 ∷ 1 ∷ 1 ∷ 0 ∷ []
+unfolding integer_to_bits
+six_in_four_bits = refl
+
+bits_of_thirteen : bits_to_integer (1 ∷ 0 ∷ 1 ∷ 1 ∷ []) ≡ 13
+unfolding bits_to_integer
+bits_of_thirteen = refl
+
+two_fields_of_three_bits : bits 3 (4 ∷ 3 ∷ []) ≡ 0 ∷ 0 ∷ 1 ∷ 1 ∷ 1 ∷ 0 ∷ []
+unfolding bits integer_to_bits
+two_fields_of_three_bits = refl
+
+one_has_one_bit : bit_length 1 ≡ 1
+unfolding bit_length
+one_has_one_bit = refl
+
+two_has_two_bits : bit_length 2 ≡ 2
+unfolding bit_length
+two_has_two_bits = refl
+
+bits_below_a_power : bit_length 1023 ≡ 10
+unfolding bit_length
+bits_below_a_power = refl
+
+bits_of_a_power : bit_length 1024 ≡ 11
+unfolding bit_length
+bits_of_a_power = refl
+
+bits_below_a_high_power : bit_length 2097151 ≡ 21
+unfolding bit_length
+bits_below_a_high_power = refl
+
+most_bits_of_a_field : width (pos 1048575) (pos 1048575) ≡ 21
+unfolding bit_length
+most_bits_of_a_field = refl
+
+bits_of_the_mask : width (pos 131071) (pos 131072) ≡ 18
+unfolding bit_length
+bits_of_the_mask = refl
+
+-- 1 + 2 * 2^10 + 3 * 2^20 + 4 * 2^30, in five bytes
+ten_bits : packed 10 (1 ∷ 2 ∷ 3 ∷ 4 ∷ []) ≡ 1 ∷ 8 ∷ 48 ∷ 0 ∷ 1 ∷ []
+unfolding packed bits_to_bytes bits_to_integer bits integer_to_bits
+ten_bits = refl
+
+-- 0 + 1 * 8 + 2 * 64 + 3 * 512 + 4 * 4096 + 2^18 + 2 * 2^21, in three bytes
+three_bits : packed 3 (0 ∷ 1 ∷ 2 ∷ 3 ∷ 4 ∷ 0 ∷ 1 ∷ 2 ∷ []) ≡ 136 ∷ 70 ∷ 68 ∷ []
+unfolding packed bits_to_bytes bits_to_integer bits integer_to_bits
+three_bits = refl
+
+-- 1 + (2^20 - 1) * 2^20, in five bytes
+twenty_bits : packed 20 (1 ∷ 1048575 ∷ []) ≡ 1 ∷ 0 ∷ 240 ∷ 255 ∷ 255 ∷ []
+unfolding packed bits_to_bytes bits_to_integer bits integer_to_bits
+twenty_bits = refl
+
+field_of_least : field (pos 2) (pos 2) (negsuc 1) ≡ 4
+unfolding field
+field_of_least = refl
+
+field_of_most : field (pos 2) (pos 2) (pos 2) ≡ 0
+unfolding field
+field_of_most = refl
+
+simple_field : field (pos 0) (pos 1023) (pos 700) ≡ 700
+unfolding field
+simple_field = refl
+
+coefficient_below_range : coefficient (pos 2) (pos 2) 7 ≡ negsuc 4
+unfolding coefficient
+coefficient_below_range = refl
+
+-- Worked spellings of hints.
+
+-- ones at place 5 of polynomial 0 and at places 0 and 255 of polynomial 2
+example : List R
+example = polynomial_of (λ n. if nat_eq n 5 then pos 1 else pos 0) ∷ polynomial_of (λ _. pos 0) ∷ polynomial_of (λ n. if nat_eq n 0 || nat_eq n 255 then pos 1 else pos 0) ∷ polynomial_of (λ _. pos 0) ∷ []
+
+spelling_of_example : hint_bytes 80 example ≡ 0x05 ∷ 0x00 ∷ 0xFF ∷ replicate 77 0 ++ 1 ∷ 1 ∷ 3 ∷ 3 ∷ []
+unfolding example polynomial_of is_one ones_below
+spelling_of_example = refl
+
+-- ---- bytes that spell no hint
+
+-- in polynomial 2 the place 0 stands after 255
+falling_places : (h : List R) → Spells 80 4 h (0x05 ∷ 0xFF ∷ 0x00 ∷ replicate 77 0 ++ 1 ∷ 1 ∷ 3 ∷ 3 ∷ []) → ⊥
+falling_places h s =
+    let rows : length h ≡ 4 = s.hint.rows in
+    let bytes : List ℕ = 0x05 ∷ 0xFF ∷ 0x00 ∷ replicate 77 0 ++ 1 ∷ 1 ∷ 3 ∷ 3 ∷ [] in
+    let rise = piece_rises 80 h bytes 2 1 (pieces 80 4 h bytes s) (omega (arith, rows)) (omega arith) (omega arith) in
+    omega (arith, rise)
+
+-- a place stands twice
+equal_places : (h : List R) → Spells 80 4 h (0x05 ∷ 0x05 ∷ replicate 78 0 ++ 2 ∷ 2 ∷ 2 ∷ 2 ∷ []) → ⊥
+equal_places h s =
+    let rows : length h ≡ 4 = s.hint.rows in
+    let bytes : List ℕ = 0x05 ∷ 0x05 ∷ replicate 78 0 ++ 2 ∷ 2 ∷ 2 ∷ 2 ∷ [] in
+    let rise = piece_rises 80 h bytes 0 0 (pieces 80 4 h bytes s) (omega (arith, rows)) (omega arith) (omega arith) in
+    omega (arith, rise)
+
+-- a place that no total counts
+uncounted_place : (h : List R) → Spells 80 4 h (0x01 ∷ replicate 83 0) → ⊥
+uncounted_place h s =
+    let rows : length h ≡ 4 = s.hint.rows in
+    let bytes : List ℕ = 0x01 ∷ replicate 83 0 in
+    let zero = zero_rest 80 h bytes 0 (pieces 80 4 h bytes s) (rw rows (omega arith)) (omega arith) in
+    omega (arith, zero)
+
+falling_total : (h : List R) → Spells 80 4 h (0x05 ∷ 0x06 ∷ replicate 78 0 ++ 2 ∷ 1 ∷ 2 ∷ 2 ∷ []) → ⊥
+falling_total h s =
+    let rows : length h ≡ 4 = s.hint.rows in
+    let bytes : List ℕ = 0x05 ∷ 0x06 ∷ replicate 78 0 ++ 2 ∷ 1 ∷ 2 ∷ 2 ∷ [] in
+    let rise = totals_rise 80 h bytes 1 (pieces 80 4 h bytes s) (omega (arith, rows)) in
+    omega (arith, rise.0)
+
+total_above_omega : (h : List R) → Spells 80 4 h (range_with_len 0 80 ++ 0 ∷ 0 ∷ 0 ∷ 81 ∷ []) → ⊥
+total_above_omega h s =
+    let rows : length h ≡ 4 = s.hint.rows in
+    let bytes : List ℕ = range_with_len 0 80 ++ 0 ∷ 0 ∷ 0 ∷ 81 ∷ [] in
+    let rise = totals_rise 80 h bytes 3 (pieces 80 4 h bytes s) (omega (arith, rows)) in
+    omega (arith, rise.1)

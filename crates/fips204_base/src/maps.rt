@@ -1,0 +1,105 @@
+//! Steps over the coefficients of polynomials and of vectors, each by one closure, as new values or in
+//! place.
+//!
+//! The form for vectors also states the whole result: where the closure's answer at each place is that of
+//! a function of the place, the vector is the one of this function.
+#![tactic(auto)]
+
+ghost use Rattle.std.specs.Prelude.{◌≡◌, ◌<◌, ℕ, ℤ, length};
+ghost use Rattle.fips204_base.specs.Polynomials.{coefficient_at, entry};
+ghost use Rattle.fips204_base.specs.Vectors.{vector_of};
+
+use crate::types::{R, R0};
+
+/// The 256 numbers that `f` gives for those of `w`.
+#[inline(always)]
+pub fn map<F: Fn(i32) -> i32>(w: &[i32; 256], f: F) -> [i32; 256]
+    requires { (n : ℕ) → n < 256 → F.pre f (coefficient_at w.now n) }
+    ensures { (n : ℕ) → n < 256 → F.post f (coefficient_at w.now n) (coefficient_at result n) }
+{
+    let mut out = [0; 256];
+    for n in 0..256 {
+        out[n] = f(w[n]);
+    }
+    out
+}
+
+/// Changes each of the 256 numbers to `f` of it.
+#[inline(always)]
+pub fn update<F: Fn(i32) -> i32>(w: &mut [i32; 256], f: F)
+    requires { (n : ℕ) → n < 256 → F.pre f (coefficient_at w.old n) }
+    ensures values { (n : ℕ) → n < 256 → F.post f (coefficient_at w.old n) (coefficient_at w.new n) }
+    ensures places { length w.new ≡ 256 }
+{
+    for n in 0..256 {
+        w[n] = f(w[n]);
+    }
+}
+
+/// Changes each of the 256 numbers of `v` to `f` of it and that of `w` at the same place.
+#[inline(always)]
+pub fn update_with<F: Fn(i32, i32) -> i32>(v: &mut [i32; 256], w: &[i32; 256], f: F)
+    requires { (n : ℕ) → n < 256 → F.pre f (coefficient_at v.old n) (coefficient_at w.now n) }
+    ensures values { (n : ℕ) → n < 256 → F.post f (coefficient_at v.old n) (coefficient_at w.now n) (coefficient_at v.new n) }
+    ensures places { length v.new ≡ 256 }
+{
+    for n in 0..256 {
+        v[n] = f(v[n], w[n]);
+    }
+}
+
+/// The vector whose coefficients are `f` of those of `v`.
+#[inline(always)]
+pub fn map_vector<const K: usize, F: Fn(i32) -> i32>(v: &[R; K], f: F) -> [R; K]
+    requires { (r n : ℕ) → r < K → n < 256 → F.pre f (entry v.now r n) }
+    ensures values { (r n : ℕ) → r < K → n < 256 → F.post f (entry v.now r n) (entry result r n) }
+    ensures whole { (g : ℕ → ℕ → ℤ)
+        → ((r n : ℕ) (y : ℤ) → r < K → n < 256 → F.post f (entry v.now r n) y → y ≡ g r n)
+        → result ≡ vector_of K g }
+{
+    let mut out = *v;
+    update_vector(&mut out, f);
+    out
+}
+
+/// The vector whose coefficients are `f` of those of `v` and `w` at the same place.
+#[inline(always)]
+pub fn zip_vectors<const K: usize, F: Fn(i32, i32) -> i32>(v: &[R; K], w: &[R; K], f: F) -> [R; K]
+    requires { (r n : ℕ) → r < K → n < 256 → F.pre f (entry v.now r n) (entry w.now r n) }
+    ensures values { (r n : ℕ) → r < K → n < 256 → F.post f (entry v.now r n) (entry w.now r n) (entry result r n) }
+    ensures whole { (g : ℕ → ℕ → ℤ)
+        → ((r n : ℕ) (y : ℤ) → r < K → n < 256 → F.post f (entry v.now r n) (entry w.now r n) y → y ≡ g r n)
+        → result ≡ vector_of K g }
+{
+    let mut out = *v;
+    update_vector_with(&mut out, w, f);
+    out
+}
+
+/// Changes each coefficient of `v` to `f` of it.
+#[inline(always)]
+pub fn update_vector<const K: usize, F: Fn(i32) -> i32>(v: &mut [R; K], f: F)
+    requires { (r n : ℕ) → r < K → n < 256 → F.pre f (entry v.old r n) }
+    ensures values { (r n : ℕ) → r < K → n < 256 → F.post f (entry v.old r n) (entry v.new r n) }
+    ensures whole { (g : ℕ → ℕ → ℤ)
+        → ((r n : ℕ) (y : ℤ) → r < K → n < 256 → F.post f (entry v.old r n) y → y ≡ g r n)
+        → v.new ≡ vector_of K g }
+{
+    for r in 0..K {
+        update(&mut v[r].0, &f);
+    }
+}
+
+/// Changes each coefficient of `v` to `f` of it and that of `w` at the same place.
+#[inline(always)]
+pub fn update_vector_with<const K: usize, F: Fn(i32, i32) -> i32>(v: &mut [R; K], w: &[R; K], f: F)
+    requires { (r n : ℕ) → r < K → n < 256 → F.pre f (entry v.old r n) (entry w.now r n) }
+    ensures values { (r n : ℕ) → r < K → n < 256 → F.post f (entry v.old r n) (entry w.now r n) (entry v.new r n) }
+    ensures whole { (g : ℕ → ℕ → ℤ)
+        → ((r n : ℕ) (y : ℤ) → r < K → n < 256 → F.post f (entry v.old r n) (entry w.now r n) y → y ≡ g r n)
+        → v.new ≡ vector_of K g }
+{
+    for r in 0..K {
+        update_with(&mut v[r].0, &w[r].0, &f);
+    }
+}

@@ -1,0 +1,27 @@
+//! A reader whose single bytes come from a buffer.
+#![tactic(auto)]
+
+use std::io::{self, BufRead, Read};
+
+/// A buffered reader from which a single byte is taken out of the buffer, and more are read as the
+/// reader itself reads them. So standard input that can seek is read a byte at a time without a call of
+/// the system for each, and from a pipe, where only single bytes are buffered, a longer piece still
+/// comes in as few calls as the pipe gives. It tells none of its bytes.
+#[derive(Drop)]
+pub struct Bytewise<B> {
+    pub reader: B,
+}
+
+impl<B: BufRead> Read for Bytewise<B> {
+    fn read(&mut self, room: &mut [u8]) -> io::Result<usize> {
+        if room.len() != 1 {
+            return self.reader.read(room);
+        }
+        let Some(byte) = self.reader.fill_buf()?.first().copied() else {
+            return Ok(0);
+        };
+        self.reader.consume(1);
+        room[0] = byte;
+        Ok(1)
+    }
+}

@@ -1,0 +1,50 @@
+//! What the program takes from its process, and leaves to it.
+#![tactic(auto)]
+
+ghost use Rattle.std.specs.Prelude.{◌≡◌, ◌⊎◌, IfErr};
+ghost use Rattle.std.specs.Process.{exit_status};
+ghost use Rattle.mldsa_engine.specs.ProgramText.{status_of};
+
+use crate::fault::RunFault;
+use std::env;
+use std::io::ErrorKind;
+use std::process::ExitCode;
+use std::rt::Env;
+
+/// The words after the program's name. Words that aren't text are no call.
+pub fn words<R: Env + AllocGlobal>(rt: &R) -> Result<Vec<String>, RunFault>
+    ensures faults { IfErr result (λ fault. (fault ≡ RunFault.Usage) ⊎ (fault ≡ RunFault.Memory)) }
+{
+    let arguments = match env::args(rt) {
+        Ok(arguments) => arguments,
+        Err(error) if error.kind() == ErrorKind::OutOfMemory => return Err(RunFault::Memory),
+        Err(_) => return Err(RunFault::Usage),
+    };
+    let mut words = Vec::new(rt.alloc());
+    for word in arguments.skip(1) {
+        words.push(word)?;
+    }
+    Ok(words)
+}
+
+/// The exit status of an answer: 0 for done or `yes`, 1 for `no` or a refusal, 2 for a fault.
+pub fn status(answer: Result<bool, RunFault>) -> u8
+    ensures { result ≡ status_of answer }
+{
+    match answer {
+        Ok(true) => 0,
+        Ok(false) => 1,
+        Err(_) => 2,
+    }
+}
+
+/// Ends a run: prints its fault, if it has one, as a line on the standard error, and gives its exit
+/// status, also where this printing fails.
+pub fn end<R: Eprint>(rt: &R, answer: Result<bool, RunFault>) -> ExitCode
+    ensures { exit_status result ≡ status_of answer }
+{
+    if let Err(fault) = answer {
+        let _ = rt.eprintln(fault);
+    }
+    ExitCode::from(status(answer))
+}
