@@ -175,7 +175,9 @@ fn each_command_at_each_set(rt: HostRuntime) -> Result<(), Fail> {
         let reads = pieces(private).wrapping_add(5);
         assert!(rt; runs_as(alloc, ["sign", set], &lines, reads, true, &[signature])?);
         let lines = [public, signature, "", "00"];
-        let reads = pieces(public).wrapping_add(pieces(signature)).wrapping_add(4);
+        let reads = pieces(public)
+            .wrapping_add(pieces(signature))
+            .wrapping_add(4);
         assert!(rt; runs_as(alloc, ["verify", set], &lines, reads, true, &["yes"])?);
         let lines = [public, signature, "", "01"];
         assert!(rt; runs_as(alloc, ["verify", set], &lines, reads, false, &["no"])?);
