@@ -7,6 +7,7 @@ pub mod Signing
 pub mod Acceptance
 pub mod Framing
 pub mod PreHash
+pub mod Constants
 pub mod Refusals
 pub mod MessageLaws
 pub mod SchemeLaws

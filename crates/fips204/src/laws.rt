@@ -7,11 +7,19 @@
 
 ghost use Rattle.fips204_base.specs.Laws.{ProductOfTransforms, InverseOfTransform};
 ghost use Rattle.fips204.specs.Completeness.{SignedIsAccepted};
+ghost use Rattle.fips204.specs.Constants.{ConstantsStand, LengthsStand};
 ghost use Rattle.fips204.specs.LongerFronts.{LongerFrontsKeep};
 ghost use Rattle.fips204.specs.MessageLaws.{FramingIsOneToOne, SignatureBindsMessage};
 ghost use Rattle.fips204.specs.SchemeLaws.{HintGivesHighBits, HintStaysNear, HighBitsStay, ChallengeProductIsSmall, SignatureHasOneSpelling, HintHasOneSpelling};
 
 use crate::xof::Xof;
+
+/// The public constants have the standard's values: the modulus and the root of unity, whose powers are the
+/// table of the butterflies; zeros; limits; object identifiers; the lengths of keys and signatures.
+pub fn constants()
+    ensures values { ConstantsStand }
+    ensures lengths { LengthsStand }
+{}
 
 /// The inverse transform of the product of two transforms, value by value, is the product of the two
 /// polynomials modulo `X^256 + 1` and modulo `q`.
