@@ -15,7 +15,6 @@ mod signing;
 mod verification;
 
 use crate::types::PublicKey;
-pub(crate) use calls::{sign_digest, sign_message, verify_digest, verify_message};
 use fips204_base::encodings::pk_decode;
 use fips204_base::xof::{Xof, hash};
 pub use key_generation::{key_gen, key_gen_internal, private_to_public_key};
