@@ -164,7 +164,8 @@ impl<H: Xof, G: Xof> PrivateKey<H, G> {
         m: &[u8],
         hedged: bool,
     ) -> Result<[u8; SIG_LEN], Fault>
-        ensures { DrawsIf hedged R.gives R.refuses rng.old rng.new Fault.InternalRng (sign set_87 H.front G.front self.now (message_hash H.front self.now.tr m.now)) result }
+        ensures { DrawsIf hedged R.gives R.refuses rng.old rng.new Fault.InternalRng
+            (sign set_87 H.front G.front self.now (message_hash H.front self.now.tr m.now)) result }
     {
         self.sign_mu(rng, &ml_dsa::mu::<H>(&[&self.tr, m]), hedged)
     }

@@ -105,7 +105,8 @@ fn digest_mu<'a, H: Xof>(
     ctx: &'a [u8],
     hash_oid: &'a [u8],
 ) -> Result<[u8; 64], Fault>
-    ensures { result ≡ refused_or (digest_fault ctx.now hash_oid.now hash.now) (Ok (message_hash H.front tr.now (framed_digest ctx.now hash_oid.now hash.now))) }
+    ensures { result ≡ refused_or (digest_fault ctx.now hash_oid.now hash.now)
+        (Ok (message_hash H.front tr.now (framed_digest ctx.now hash_oid.now hash.now))) }
 {
     let length = context_length(ctx).ok_or(Fault::HashCtx)?;
     check_pre_hash(hash, hash_oid)?;
