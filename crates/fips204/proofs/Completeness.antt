@@ -158,7 +158,7 @@ bit_range false = (omega (arith, ints), omega (arith, ints))
 hint_range : (p : ParameterSet) (sk : PrivateParts) (w : ℕ → ℕ → ℕ) (c : R) → IsVector p.k 0 1 (hint_vector p sk w c)
 unfolding hint_vector
 hint_range p sk w c =
-    let b = λ (r n : ℕ). make_hint p.gamma2 (minus (λ _. 0) (scaled c (vector_coefficients sk.t0) r) n) (plus (w_minus_cs2 sk w c r) (scaled c (vector_coefficients sk.t0) r) n) in
+    let b = λ (r n : ℕ). make_hint p.gamma2 (minus (λ _. 0) (scaled c (vector_coefficients sk.t0) r) n) (plus (w_minus_cs2 sk.s2 w c r) (scaled c (vector_coefficients sk.t0) r) n) in
     vector_of-range p.k 0 1 (λ r n. if b r n then pos 1 else pos 0) (λ r n h below. bit_range (b r n))
 
 -- ---- acceptance

@@ -8,7 +8,7 @@ use Rattle.fips204_base.specs.declared.types.R.{R}
 use Rattle.fips204_base.specs.CentredValues.{centred, vector_norm}
 use Rattle.fips204_base.specs.Packing.{InRange, width}
 use Rattle.fips204_base.specs.Polynomials.{entry, IsReducedVector}
-use Rattle.fips204_base.specs.Products.{product, plus, minus}
+use Rattle.fips204_base.specs.Products.{product}
 use Rattle.fips204_base.specs.Residues.{residue}
 use Rattle.fips204_base.specs.Rounding.{low_bits, make_hint}
 use Rattle.fips204_base.specs.Vectors.{vector_of, IsVector, vector_coefficients}
@@ -19,7 +19,7 @@ use Rattle.fips204_base.proofs.Vectors.{vector_of-ext, vector_of-range, vector-w
 use Rattle.fips204_base.specs.Encodings.{signature_bytes}
 use Rattle.fips204_base.specs.HintSpelling.{all_ones}
 use Rattle.fips204.specs.declared.types.Params.{Params}
-use Rattle.fips204.specs.Attempts.{scaled, response, low_vector, ct0, hint_bit, hint_vector, passes_checks, checked_attempt}
+use Rattle.fips204.specs.Attempts.{scaled, response, low_vector, ct0, hint_bit, hint_vector, passes_checks, checked_attempt, w_minus_cs2, y_plus_cs1}
 use Rattle.fips204.specs.Keys.{PrivateParts, eta_of_rows}
 use Rattle.fips204.specs.ParameterSets.{ParameterSet, commitment_length, signature_length}
 use Rattle.fips204.specs.Sets.{set_of}
@@ -73,16 +73,6 @@ residue-difference x y =
 
 pub product-own : (a b : ℕ → ℕ) (n : ℕ) (x : ℤ) → x ≡ pos (product a b n) → residue x ≡ product a b n
 product-own a b n x e = let below = product_below a b n in rw e (omega (arith, below))
-
--- a coefficient of a product is from 0 to q - 1
-pub product-small : (a b : ℕ → ℕ) (n : ℕ) (x : ℤ) → x ≡ pos (product a b n) → nat_abs x ≤ 8380416
-product-small a b n x e = let below = product_below a b n in rw e (omega (arith, below))
-
-pub plus-same : (s m : ℕ) (x : ℤ) → x ≡ pos m → (s + residue x) % 8380417 ≡ (s + m) % 8380417
-plus-same s m x e = rw e (omega arith)
-
-pub minus-same : (s m : ℕ) (x : ℤ) → x ≡ pos m → (s + 8380416 * residue x) % 8380417 ≡ (s + 8380416 * m) % 8380417
-minus-same s m x e = rw e (omega arith)
 
 -- ---- low bits
 pub low_bits-small : (g : ℤ) (x : ℤ) → (g ≡ pos 95232) ⊎ (g ≡ pos 261888) → nat_abs (low_bits (nat_abs g) (residue x)) ≤ 8380416
@@ -164,21 +154,17 @@ kept p sk y w c_tilde c e f h few = signed p sk y w c_tilde c (and-fourth _ _ _ 
 
 -- ---- the vectors of an attempt
 
--- y + c s1
-abbrev pub masked : List R → R → List R → ℕ → ℕ → ℕ
-masked y c s1 r n = plus (vector_coefficients y r) (scaled c (vector_coefficients s1) r) n
-
 pub response-is : (p : ParameterSet) (sk : PrivateParts) (y : List R) (c : R) (s1 z : List R) (k : ℕ) → s1 ≡ sk.s1 → k ≡ p.l
-    → z ≡ vector_of k (λ r n. centred (pos (masked y c s1 r n))) → z ≡ response p sk y c
+    → z ≡ vector_of k (λ r n. centred (pos (y_plus_cs1 s1 y c r n))) → z ≡ response p sk y c
 unfolding response
 response-is p sk y c s1 z k own size e = e ∙ rw (own, size) refl
 
 pub low-is : (p : ParameterSet) (sk : PrivateParts) (w : ℕ → ℕ → ℕ) (c : R) (s2 v : List R) (k : ℕ) → s2 ≡ sk.s2 → k ≡ p.k
-    → ((r n : ℕ) → r < k → n < 256 → vector_coefficients v r n ≡ minus (w r) (scaled c (vector_coefficients s2) r) n)
+    → ((r n : ℕ) → r < k → n < 256 → vector_coefficients v r n ≡ w_minus_cs2 s2 w c r n)
     → vector_of k (λ r n. low_bits p.gamma2 (vector_coefficients v r n)) ≡ low_vector p sk w c
 unfolding low_vector
 low-is p sk w c s2 v k own size e =
-    vector_of-ext k (λ r n. low_bits p.gamma2 (vector_coefficients v r n)) (λ r n. low_bits p.gamma2 (minus (w r) (scaled c (vector_coefficients s2) r) n)) (λ r n h l. ap (low_bits p.gamma2) (e r n h l))
+    vector_of-ext k (λ r n. low_bits p.gamma2 (vector_coefficients v r n)) (λ r n. low_bits p.gamma2 (w_minus_cs2 s2 w c r n)) (λ r n h l. ap (low_bits p.gamma2) (e r n h l))
     ∙ rw (own, size) refl
 
 pub ct0-is : (p : ParameterSet) (sk : PrivateParts) (c : R) (t0 v : List R) (k : ℕ) → t0 ≡ sk.t0 → k ≡ p.k → v ≡ vector_of k (λ r n. pos (scaled c (vector_coefficients t0) r n)) → v ≡ ct0 p sk c
@@ -186,14 +172,14 @@ unfolding ct0
 ct0-is p sk c t0 v k own size e = e ∙ rw (own, size) refl
 
 pub hint-is : (p : ParameterSet) (sk : PrivateParts) (w : ℕ → ℕ → ℕ) (c : R) (s2 t0 v t h : List R) (k : ℕ) → s2 ≡ sk.s2 → t0 ≡ sk.t0 → k ≡ p.k
-    → ((r n : ℕ) → r < k → n < 256 → vector_coefficients v r n ≡ minus (w r) (scaled c (vector_coefficients s2) r) n)
+    → ((r n : ℕ) → r < k → n < 256 → vector_coefficients v r n ≡ w_minus_cs2 s2 w c r n)
     → ((r n : ℕ) → r < k → n < 256 → entry t r n ≡ pos (scaled c (vector_coefficients t0) r n))
     → h ≡ vector_of k (λ r n. hint_bit p.gamma2 (vector_coefficients v r n) (vector_coefficients t r n)) → h ≡ hint_vector p sk w c
 unfolding hint_vector
 hint-is p sk w c s2 t0 v t h k own low size e f is =
     is
     ∙ vector_of-ext k (λ r n. hint_bit p.gamma2 (vector_coefficients v r n) (vector_coefficients t r n))
-    (λ r n. hint_bit p.gamma2 (minus (w r) (scaled c (vector_coefficients s2) r) n) (scaled c (vector_coefficients t0) r n))
+    (λ r n. hint_bit p.gamma2 (w_minus_cs2 s2 w c r n) (scaled c (vector_coefficients t0) r n))
     (λ r n q l. rw (e r n q l, product-own _ _ n _ (f r n q l)) refl)
     ∙ rw (own, low, size) refl
 

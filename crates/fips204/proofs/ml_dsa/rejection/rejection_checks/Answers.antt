@@ -5,10 +5,10 @@ use Rattle.std.proofs.lemmas.Bool.{ltb-true}
 use Rattle.fips204_base.specs.HintSpelling.{all_ones}
 use Rattle.fips204_base.specs.CentredValues.{vector_norm}
 use Rattle.fips204_base.specs.Vectors.{vector_coefficients}
-use Rattle.fips204.specs.Attempts.{response, low_vector, ct0, hint_vector}
+use Rattle.fips204.specs.Attempts.{response, low_vector, ct0, hint_vector, y_plus_cs1}
 use Rattle.fips204.specs.Keys.{PrivateParts}
 use Rattle.fips204.specs.Sets.{set_of}
-use Rattle.fips204.proofs.RejectionChecks.{rejected-first, rejected-second, rejected-third, rejected-fourth, kept, masked, response-is, low-is, ct0-is, hint-is, short-within, low-within, response-range, hint-range, signature_size}
+use Rattle.fips204.proofs.RejectionChecks.{rejected-first, rejected-second, rejected-third, rejected-fourth, kept, response-is, low-is, ct0-is, hint-is, short-within, low-within, response-range, hint-range, signature_size}
 use Rattle.fips204.proofs.ParameterSets.{limits, rounding-some, rows}
 use Rattle.fips204.proofs.Ranges.{whole_vector}
 use Rattle.fips204.proofs.ml_dsa.rejection.rejection_checks.Given.{Over}
@@ -156,7 +156,7 @@ sig_encode-requires g c =
                   (
                     rw (gamma1, omega_is) (signature_size p _ _ _ _ known.mask c.requires.sizes.0 c.requires.sizes.1 c.requires.sizes.2 c.requires.sizes.3),
                     (
-                      rw gamma1 (response-range p.gamma1 (nat_abs p.gamma1 - nat_abs p.beta) g.row.L (λ r n. pos (masked c.args.y.now c.args.c.now c.sk.inside.s1 r n)) c.response-z.result known.mask (omega arith) c.response-z.ensures.value (ltb-true _ _ (sym test))),
+                      rw gamma1 (response-range p.gamma1 (nat_abs p.gamma1 - nat_abs p.beta) g.row.L (λ r n. pos (y_plus_cs1 c.sk.inside.s1 c.args.y.now c.args.c.now r n)) c.response-z.result known.mask (omega arith) c.response-z.ensures.value (ltb-true _ _ (sym test))),
                       (hint-range g.row.K (nat_abs p.gamma2) (vector_coefficients c.w_minus_cs2-w_minus_cs2.result) (vector_coefficients c.challenge_times_vector-ct0.result) c.hint-h.result (rw gamma2 at c.hint-h.ensures), rw c.number_of_ones.ensures at c.if-number_of_ones-p.false),
                     ),
                   ),
