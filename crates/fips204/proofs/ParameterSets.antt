@@ -1,10 +1,11 @@
 -- The three parameter sets: their numbers, what these have in common, and the lengths that follow.
-use Rattle.std.proofs.Common.{◌≡◌, ◌⊎◌, inl, inr, ℕ, ℤ, pos, negsuc, nat_abs, Bool, true, false, ◌&&◌, ◌||◌, IsTrue, refl, ap, sym, true≢false, eqb-true, ◌≤◌, ◌*◌, arith, ◌<◌, ◌+◌, ◌-◌, ◌/◌, ◌-ℤ◌, ◌≤ℤ◌, List, ◌∙◌, Some}
+use Rattle.std.proofs.Common.{◌≡◌, ◌⊎◌, inl, inr, ℕ, ℤ, pos, negsuc, nat_abs, Bool, true, false, ◌&&◌, ◌||◌, IsTrue, refl, ap, sym, subst, true≢false, eqb-true, ◌≤◌, ◌*◌, arith, ◌<◌, ◌+◌, ◌-◌, ◌/◌, ◌-ℤ◌, ◌≤ℤ◌, List, ◌∙◌, Some}
 use Rattle.std.specs.Prelude.{int_le, nat_eq}
 use Rattle.fips204.specs.declared.types.Params.{Params}
 use Rattle.fips204.specs.ParameterSets.{ParameterSet, set_44, set_65, set_87, same_parameters, is_parameter_set, parameter_set, are_parameters, commitment_length}
 use Rattle.fips204.specs.Keys.{eta_of_rows, PrivateParts, IsPrivateKeyOf, ArePrivateParts}
 use Rattle.fips204.specs.SchemeLaws.{IsGamma2}
+use Rattle.fips204.specs.Sets.{set_of}
 use Rattle.std.proofs.lemmas.Int.{ints}
 use Rattle.std.proofs.lemmas.Nat.{mul-le}
 use Rattle.fips204_base.specs.Packing.{width, bit_length}
@@ -105,6 +106,11 @@ rows tau lambda gamma1 gamma2 k l eta beta omega' t =
       ]
       | inr x ↦ inr (inr (numbers set_87 (agrees p set_87 x)))
     ]
+
+-- the set of numbers of a row is the row
+row-set : (row : ParameterSet) (tau : ℤ) (lambda : ℕ) (gamma1 gamma2 : ℤ) (k l : ℕ) (eta beta omega' : ℤ)
+    → Numbers row tau lambda gamma1 gamma2 k l eta beta omega' → parameter_set tau lambda gamma1 gamma2 k l eta beta omega' ≡ row
+row-set row tau lambda gamma1 gamma2 k l eta beta omega' n = rw (n.tau_is, n.lambda_is, n.gamma1_is, n.gamma2_is, n.k_is, n.l_is, n.eta_is, n.beta_is, n.omega_is) refl
 
 -- What the numbers of a parameter set have to do with one another.
 
@@ -232,6 +238,17 @@ limits p t = elim (rows p.tau p.lambda p.gamma1 p.gamma2 p.k p.l p.eta p.beta p.
   | inl n ↦ of_44 p n
   | inr (inl n) ↦ of_65 p n
   | inr (inr n) ↦ of_87 p n
+]
+
+-- the numbers of a row make a set
+abbrev is_set : ParameterSet → Type 0
+is_set row = IsTrue (is_parameter_set row)
+
+pub known-set : (p : Params) → IsKnown p → IsTrue (is_parameter_set (set_of p))
+known-set p t = elim (rows p.tau p.lambda p.gamma1 p.gamma2 p.k p.l p.eta p.beta p.omega t) [
+  | inl n ↦ subst is_set (sym (row-set set_44 p.tau p.lambda p.gamma1 p.gamma2 p.k p.l p.eta p.beta p.omega n)) refl
+  | inr (inl n) ↦ subst is_set (sym (row-set set_65 p.tau p.lambda p.gamma1 p.gamma2 p.k p.l p.eta p.beta p.omega n)) refl
+  | inr (inr n) ↦ subst is_set (sym (row-set set_87 p.tau p.lambda p.gamma1 p.gamma2 p.k p.l p.eta p.beta p.omega n)) refl
 ]
 
 -- ---- the bytes of a high part

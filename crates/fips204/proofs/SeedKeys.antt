@@ -1,17 +1,21 @@
 -- Keys that came of a seed, through bytes and by deriving, are the keys that it generates.
-use Rattle.std.proofs.Common.{◌≡◌, ◌≤◌, ℕ, List, IsTrue, refl, sym, subst, ◌∙◌, length, Ok, arith}
+use Rattle.std.proofs.Common.{◌≡◌, ◌≤◌, ℕ, List, IsTrue, refl, sym, subst, ◌∙◌, length, Result, Ok, arith}
 use Rattle.std.specs.List.{All}
+use Rattle.fips204_base.specs.declared.fault.Fault.{Fault}
 use Rattle.fips204_base.specs.declared.types.R.{R}
 use Rattle.fips204_base.specs.Encodings.{private_key_bytes, public_key_bytes}
 use Rattle.fips204_base.specs.Vectors.{IsVector}
 use Rattle.fips204_base.proofs.EncodedParts.{same_private_key, IsT1, same_parts}
 use Rattle.fips204.specs.ParameterSets.{ParameterSet, is_parameter_set}
 use Rattle.fips204.specs.Keys.{PublicParts, PrivateParts, ArePrivateParts, IsHighPart, IsPublicKeyOf, IsPrivateKeyOf}
-use Rattle.fips204.proofs.ParameterSets.{set_numbers}
+use Rattle.fips204.specs.declared.types.Params.{Params}
+use Rattle.fips204.specs.Sets.{set_of}
+use Rattle.fips204.specs.Signing.{sign}
+use Rattle.fips204.proofs.ParameterSets.{set_numbers, IsKnown, known-set}
 use Rattle.fips204_base.proofs.Sampled.{some_of_ok}
-use Rattle.fips204.specs.KeyGeneration.{key_generation, public_key_of}
-use Rattle.fips204.specs.Refusals.{generated, sign_message, VerifiesMessage}
-use Rattle.fips204.specs.Completeness.{AcceptsSigned, ComeOfSeed, both_generated, public_decoded, private_decoded, public_derived, SignedIsAccepted}
+use Rattle.fips204.specs.KeyGeneration.{IsWhole, key_generation, public_key_of}
+use Rattle.fips204.specs.Refusals.{generated, derived, sign_message, sign_digest, VerifiesMessage}
+use Rattle.fips204.specs.Completeness.{HashAccepted, MessageAccepted, DigestAccepted, AcceptsSigned, ComeOfSeed, both_generated, public_decoded, private_decoded, public_derived, SignedIsAccepted}
 use Rattle.fips204.proofs.WholeKeys.{GoTogether, generated_go_together, derived_go_together, message_accepted, digest_accepted, ArePair, generated_pair, public_key_of_pair}
 use Rattle.fips204.proofs.RefusedCalls.{same_some}
 
@@ -100,3 +104,27 @@ signed_is_accepted p H G pk sk row law = (
 pub seed_accepts : (p : ParameterSet) (H G : List ℕ → List ℕ) (xi rnd message context signature : List ℕ) (pk : PublicParts) (sk : PrivateParts) → IsTrue (is_parameter_set p) → ((x : List ℕ) → 4096 ≤ length (H x))
     → generated p H G xi ≡ Ok (pk, sk) → sign_message p H G sk rnd message context ≡ Ok signature → VerifiesMessage p H G pk message signature context
 seed_accepts p H G xi rnd message context signature pk sk row law from made = message_accepted p H G pk sk rnd message context signature (generated_go_together p H G xi pk sk row law from) made
+
+-- What the signing calls answer with a private key of a row of numbers is accepted where the key is whole.
+
+key_accepts : (p : Params) (H G : List ℕ → List ℕ) (K L : ℕ) (sk : PrivateParts) (pk : PublicParts) → IsKnown p → ((x : List ℕ) → 4096 ≤ length (H x))
+    → K ≡ p.k → L ≡ p.l → ArePrivateParts K L sk → IsWhole (set_of p) G sk → derived (set_of p) G sk ≡ Ok pk → AcceptsSigned (set_of p) H G pk sk
+key_accepts p H G K L sk pk known law rows columns parts whole derives =
+    (signed_is_accepted (set_of p) H G pk sk (known-set p known) law).0 (rw (rows, columns) at parts) whole derives
+
+pub hash_accepted : (p : Params) (H G : List ℕ → List ℕ) (K L : ℕ) (sk : PrivateParts) (mu rnd : List ℕ) (answer : Result (List ℕ) Fault) → IsKnown p
+    → ((x : List ℕ) → 4096 ≤ length (H x)) → K ≡ p.k → L ≡ p.l → ArePrivateParts K L sk → answer ≡ sign (set_of p) H G sk mu rnd → HashAccepted (set_of p) H G sk mu answer
+hash_accepted p H G K L sk mu rnd answer known law rows columns parts same =
+    λ pk signature whole derives e. (key_accepts p H G K L sk pk known law rows columns parts whole derives).hashes mu rnd signature (sym same ∙ e)
+
+pub message_accepted_if : (p : Params) (H G : List ℕ → List ℕ) (K L : ℕ) (sk : PrivateParts) (rnd message context : List ℕ) (answer : Result (List ℕ) Fault) → IsKnown p
+    → ((x : List ℕ) → 4096 ≤ length (H x)) → K ≡ p.k → L ≡ p.l → ArePrivateParts K L sk → answer ≡ sign_message (set_of p) H G sk rnd message context
+    → MessageAccepted (set_of p) H G sk message context answer
+message_accepted_if p H G K L sk rnd message context answer known law rows columns parts same =
+    λ pk signature whole derives e. (key_accepts p H G K L sk pk known law rows columns parts whole derives).messages rnd message context signature (sym same ∙ e)
+
+pub digest_accepted_if : (p : Params) (H G : List ℕ → List ℕ) (K L : ℕ) (sk : PrivateParts) (rnd digest context oid : List ℕ) (answer : Result (List ℕ) Fault) → IsKnown p
+    → ((x : List ℕ) → 4096 ≤ length (H x)) → K ≡ p.k → L ≡ p.l → ArePrivateParts K L sk → answer ≡ sign_digest (set_of p) H G sk rnd digest context oid
+    → DigestAccepted (set_of p) H G sk digest context oid answer
+digest_accepted_if p H G K L sk rnd digest context oid answer known law rows columns parts same =
+    λ pk signature whole derives e. (key_accepts p H G K L sk pk known law rows columns parts whole derives).digests rnd digest context oid signature (sym same ∙ e)

@@ -1,5 +1,6 @@
 -- What is signed is accepted (FIPS 204, Algorithms 1 to 8).
-use Rattle.std.specs.Prelude.{◌≡◌, ◌≤◌, ℕ, List, length, IsTrue, Ok}
+use Rattle.std.specs.Prelude.{◌≡◌, ◌≤◌, ℕ, List, length, IsTrue, Result, Ok}
+use Rattle.fips204_base.specs.declared.fault.Fault.{Fault}
 use Rattle.fips204_base.specs.Encodings.{public_key_bytes, private_key_bytes}
 use Rattle.fips204.specs.ParameterSets.{ParameterSet, is_parameter_set}
 use Rattle.fips204.specs.Keys.{PublicParts, PrivateParts, ArePrivateParts, IsPublicKeyOf, IsPrivateKeyOf}
@@ -16,6 +17,22 @@ pub record AcceptsSigned (p : ParameterSet) (H G : List ℕ → List ℕ) (pk : 
       → VerifiesMessage p H G pk message signature context
   pub digests : (rnd digest context oid signature : List ℕ) → sign_digest p H G sk rnd digest context oid ≡ Ok signature
       → VerifiesDigest p H G pk digest signature context oid
+
+-- what a signing call answers is accepted: where the private key is whole, by the public key that is derived of it
+abbrev pub AcceptedIfWhole : {P S : Type 0} → Type 0 → Result P Fault → (P → S → Type 0) → Result S Fault → Type 0
+AcceptedIfWhole {P} {S} whole derives accepts answer = (pk : P) (signature : S) → whole → derives ≡ Ok pk → answer ≡ Ok signature → accepts pk signature
+
+-- the same of a private key's signature of a hash mu, of a message under its context, and of a digest under its context and OID
+abbrev pub HashAccepted : ParameterSet → (List ℕ → List ℕ) → (List ℕ → List ℕ) → PrivateParts → List ℕ → Result (List ℕ) Fault → Type 0
+HashAccepted p H G sk mu answer = AcceptedIfWhole (IsWhole p G sk) (derived p G sk) (λ pk signature. Verifies p H G pk mu signature) answer
+
+abbrev pub MessageAccepted : ParameterSet → (List ℕ → List ℕ) → (List ℕ → List ℕ) → PrivateParts → List ℕ → List ℕ → Result (List ℕ) Fault → Type 0
+MessageAccepted p H G sk message context answer =
+    AcceptedIfWhole (IsWhole p G sk) (derived p G sk) (λ pk signature. VerifiesMessage p H G pk message signature context) answer
+
+abbrev pub DigestAccepted : ParameterSet → (List ℕ → List ℕ) → (List ℕ → List ℕ) → PrivateParts → List ℕ → List ℕ → List ℕ → Result (List ℕ) Fault → Type 0
+DigestAccepted p H G sk digest context oid answer =
+    AcceptedIfWhole (IsWhole p G sk) (derived p G sk) (λ pk signature. VerifiesDigest p H G pk digest signature context oid) answer
 
 -- keys that come of a seed: both keys that it generates; and of keys that come of it also the public key that their bytes
 -- decode to, the private key that its bytes decode to, and the public key that is derived of the private one

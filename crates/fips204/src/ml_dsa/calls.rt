@@ -2,6 +2,7 @@
 #![tactic(auto)]
 
 ghost use Rattle.std.specs.Prelude.{◌≡◌, ◌↔◌, ◌<◌, Ok, IsTrue, length, IfSome, IfNone};
+ghost use Rattle.fips204.specs.Completeness.{MessageAccepted, DigestAccepted};
 ghost use Rattle.fips204.specs.Framing.{framed, framed_digest, message_hash};
 ghost use Rattle.fips204.specs.Refusals.{refused_or, message_fault, digest_fault, sign_message, sign_digest, VerifiesMessage, VerifiesDigest};
 ghost use Rattle.fips204.specs.Sets.{HasSizes, set_of};
@@ -23,7 +24,8 @@ impl<const K: usize, const L: usize, H: Xof, G: Xof> PrivateKey<K, L, H, G> {
         ctx: &[u8],
     ) -> Result<[u8; SIG_LEN], Fault>
         requires sizes { HasSizes p.now K L LAMBDA_DIV4 SIG_LEN }
-        ensures { result ≡ sign_message (set_of p.now) H.front G.front self.now rnd.now message.now ctx.now }
+        ensures answer { result ≡ sign_message (set_of p.now) H.front G.front self.now rnd.now message.now ctx.now }
+        ensures accepted { MessageAccepted (set_of p.now) H.front G.front self.now message.now ctx.now result }
     {
         let mu = message_mu::<H>(&self.tr, message, ctx)?;
         sign_internal::<K, L, LAMBDA_DIV4, SIG_LEN, H, G>(p, self, &mu, rnd)
@@ -40,7 +42,8 @@ impl<const K: usize, const L: usize, H: Xof, G: Xof> PrivateKey<K, L, H, G> {
         hash_oid: &[u8],
     ) -> Result<[u8; SIG_LEN], Fault>
         requires sizes { HasSizes p.now K L LAMBDA_DIV4 SIG_LEN }
-        ensures { result ≡ sign_digest (set_of p.now) H.front G.front self.now rnd.now hash.now ctx.now hash_oid.now }
+        ensures answer { result ≡ sign_digest (set_of p.now) H.front G.front self.now rnd.now hash.now ctx.now hash_oid.now }
+        ensures accepted { DigestAccepted (set_of p.now) H.front G.front self.now hash.now ctx.now hash_oid.now result }
     {
         let mu = digest_mu::<H>(&self.tr, hash, ctx, hash_oid)?;
         sign_internal::<K, L, LAMBDA_DIV4, SIG_LEN, H, G>(p, self, &mu, rnd)

@@ -3,6 +3,7 @@
 
 ghost use Rattle.std.specs.Prelude.{◌≡◌};
 ghost use Rattle.fips204_base.specs.Polynomials.{IsReducedMatrix};
+ghost use Rattle.fips204.specs.Completeness.{HashAccepted};
 ghost use Rattle.fips204.specs.Sets.{HasSizes, set_of};
 ghost use Rattle.fips204.specs.Signing.{sign, sign_with};
 
@@ -18,7 +19,7 @@ pub const MAX_SIGN_ATTEMPTS: u16 = 814;
 /// `ML-DSA.Sign_internal` (Algorithm 7) from `mu` and `rnd`: the signature of the first of 814 attempts
 /// that is not rejected. Refuses with `Fault::SamplingLimit` where the matrix passes its limit, or the
 /// challenge of an attempt before any that signs, and with `Fault::TooManyAttempts` where all attempts
-/// are rejected.
+/// are rejected. With a whole key, what is answered is accepted.
 ///
 /// `K` and `L` are those of the set, and `LAMBDA_DIV4` and `SIG_LEN` its lengths.
 pub fn sign_internal<
@@ -35,7 +36,8 @@ pub fn sign_internal<
     rnd: &[u8; 32],
 ) -> Result<[u8; SIG_LEN], Fault>
     requires sizes { HasSizes p.now K L LAMBDA_DIV4 SIG_LEN }
-    ensures { result ≡ sign (set_of p.now) H.front G.front sk.now mu.now rnd.now }
+    ensures answer { result ≡ sign (set_of p.now) H.front G.front sk.now mu.now rnd.now }
+    ensures accepted { HashAccepted (set_of p.now) H.front G.front sk.now mu.now result }
 {
     // A = ExpandA(rho)
     let a_hat = expand_a::<K, L, G>(&sk.rho)?;

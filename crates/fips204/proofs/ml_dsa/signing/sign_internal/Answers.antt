@@ -5,6 +5,7 @@ use Rattle.fips204_base.proofs.Sampled.{some_of_ok, none_of_err}
 use Rattle.fips204.specs.Sets.{set_of}
 use Rattle.fips204.proofs.ParameterSets.{limits}
 use Rattle.fips204.proofs.Ranges.{matrix-within}
+use Rattle.fips204.proofs.SeedKeys.{hash_accepted}
 use Rattle.fips204.proofs.Signing.{sign-by_matrix, sign-no_matrix}
 use Rattle.fips204.proofs.ml_dsa.signing.sign_internal.Goals as goal
 
@@ -14,8 +15,8 @@ expand_a-requires g c =
     let known = limits p (search rules) in
     (search rules, (search rules, (omega (arith, c.requires.sizes.0, known.few_rows), omega (arith, c.requires.sizes.1, known.few_columns))))
 
-pub returns-in_err-a_hat : goal.returns-in_err-a_hat
-returns-in_err-a_hat g c =
+pub returns-in_err-a_hat-clause-answer : goal.returns-in_err-a_hat-clause-answer
+returns-in_err-a_hat-clause-answer g c =
     let p = set_of c.args.p.now in
     let refused : c.from_residual.result ≡ Err SamplingLimit = search rules in
     let same : c.sk.inside.rho ≡ c.args.sk.now.rho = search rules in
@@ -31,11 +32,16 @@ sign_with-requires g c =
     let some = some_of_ok (sampled_matrix g.G.Xof.front c.sk.inside.rho g.row.K g.row.L) a c.in_ok-a_hat.ensures in
     (search rules, (search rules, (search rules, (search rules, (c.requires.sizes, matrix-within g.G.Xof.front c.sk.inside.rho g.row.K g.row.L a some)))))
 
-pub returns : goal.returns
-returns g c =
+pub returns-clause-answer : goal.returns-clause-answer
+returns-clause-answer g c =
     let p = set_of c.args.p.now in
     let a = c.in_ok-a_hat.a_hat in
     let same : c.sk.inside.rho ≡ c.args.sk.now.rho = search rules in
     let some = some_of_ok (sampled_matrix g.G.Xof.front c.sk.inside.rho g.row.K g.row.L) a c.in_ok-a_hat.ensures in
     let there : sampled_matrix g.G.Xof.front c.args.sk.now.rho p.k p.l ≡ Some a = rw (same, c.requires.sizes.0, c.requires.sizes.1) at some in
     sign-by_matrix p g.H.Xof.front g.G.Xof.front c.args.sk.now c.args.mu.now c.args.rnd.now a c.sign_with.result there c.sign_with.ensures
+
+pub returns-clause-accepted : goal.returns-clause-accepted
+returns-clause-accepted g c =
+    hash_accepted c.args.p.now g.H.Xof.front g.G.Xof.front g.row.K g.row.L c.args.sk.now c.args.mu.now c.args.rnd.now c.sign_with.result (search rules)
+    (λ input. omega (arith, g.met.H.Xof.front_size input, g.met.H.Xof.front_least)) c.requires.sizes.0 c.requires.sizes.1 (search rules) (returns-clause-answer g c)
