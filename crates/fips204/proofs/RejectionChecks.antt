@@ -1,5 +1,5 @@
 -- The vectors of an attempt, their norms and hints, and which attempts are kept, check by check.
-use Rattle.std.proofs.Common.{◌≡◌, ◌⊎◌, inl, inr, ℕ, ℤ, pos, ◌+◌, ◌-◌, ◌*◌, ◌%◌, ◌<◌, ◌≤◌, ◌+ℤ◌, ◌-ℤ◌, ◌≤ℤ◌, List, length, true, false, arith, refl, ap, sym, ◌∙◌, Bool, ◌&&◌, Ok, Some, None, true≢false}
+use Rattle.std.proofs.Common.{◌≡◌, ◌⊎◌, inl, inr, ℕ, ℤ, pos, negsuc, ◌+◌, ◌-◌, ◌*◌, ◌%◌, ◌<◌, ◌≤◌, ◌+ℤ◌, ◌-ℤ◌, ◌≤ℤ◌, List, length, true, false, arith, refl, ap, sym, ◌∙◌, Bool, ◌&&◌, Ok, Some, None, true≢false}
 use Rattle.std.specs.Prelude.{nat_abs, nat_lt, if◌then◌else◌}
 use Rattle.std.specs.List.{All}
 use Rattle.std.proofs.lemmas.Bool.{cases_lt, le-leb, lt-leb}
@@ -193,26 +193,31 @@ short-within k m v is = vector-within m (eta_of_rows k) (eta_of_rows k) 8380416 
 pub low-within : (m : ℕ) (v : List R) → IsVector m 4095 4096 v → IsReducedVector m v
 low-within m v is = vector-within m 4095 4096 8380416 v (omega arith) (omega arith) is
 
+-- an integer from 1 - g to g
+within_range : (g : ℕ) (x : ℤ) → nat_abs x < g → ((pos 0 -ℤ pos (g - 1)) ≤ℤ x) × (x ≤ℤ pos g)
+within_range g (pos n) h = (omega (arith, ints, h), omega (arith, ints, h))
+within_range g (negsuc n) h = (omega (arith, ints, h), omega (arith, ints, h))
+
+-- coefficients of a centred vector whose norm is below a bound
+pub centred-range : (g b k : ℕ) (f : ℕ → ℕ → ℤ) → b ≤ g → vector_norm (vector_of k (λ r n. centred (f r n))) < b → IsVector k (g - 1) g (vector_of k (λ r n. centred (f r n)))
+centred-range g b k f most small = vector_of-range k (g - 1) g (λ r n. centred (f r n)) (λ r n h l.
+    let place = norm_of_place k (λ r n. centred (f r n)) r n h l in
+    let same = ap nat_abs (centred-again (f r n)) in
+    within_range g (centred (f r n)) (omega (arith, place, same, small, most)))
+
 -- coefficients of a response
 pub response-range : (gamma1 : ℤ) (b k : ℕ) (f : ℕ → ℕ → ℤ) (z : List R) → (gamma1 ≡ pos 131072) ⊎ (gamma1 ≡ pos 524288) → b ≤ nat_abs gamma1
     → z ≡ vector_of k (λ r n. centred (f r n)) → vector_norm z < b → All (λ u. InRange (pos 0 -ℤ (gamma1 -ℤ pos 1)) gamma1 u.0) z
-response-range gamma1 b k f z set most e small =
-    let item : ℕ → ℕ → ℤ = λ r n. centred (f r n) in
-    let below : vector_norm (vector_of k item) < b = rw e at small in
-    let place : (r n : ℕ) → r < k → n < 256 → nat_abs (item r n) < nat_abs gamma1 = λ r n h l.
-    (let one = norm_of_place k item r n h l in let same = centred-again (f r n) in omega (arith, rw same at one, below, most)) in
-    rw e (elim set [
-      | inl is ↦ rw is (vector_of-range k 131071 131072 item (λ r n h l. let p = rw is at place r n h l in (omega (arith, ints, p), omega (arith, ints, p)))).range
-      | inr is ↦ rw is (vector_of-range k 524287 524288 item (λ r n h l. let p = rw is at place r n h l in (omega (arith, ints, p), omega (arith, ints, p)))).range
-    ])
+response-range gamma1 b k f z (inl is) most e small = rw (e, is) (centred-range 131072 b k f (rw is at most) (rw e at small)).range
+response-range gamma1 b k f z (inr is) most e small = rw (e, is) (centred-range 524288 b k f (rw is at most) (rw e at small)).range
 
 -- coefficients of a hint
-pub hint-range : (k g : ℕ) (v t : ℕ → ℕ → ℕ) (h : List R) → h ≡ vector_of k (λ r n. hint_bit g (v r n) (t r n)) → All (λ u. InRange (pos 0) (pos 1) u.0) h
-hint-range k g v t h e = rw e (vector_of-range k 0 1 (λ r n. hint_bit g (v r n) (t r n)) (λ r n q l. bit (make_hint g ((0 + 8380416 * t r n) % 8380417) ((v r n + t r n) % 8380417)))).range
-  where
-    bit : (b : Bool) → ((pos 0 -ℤ pos 0) ≤ℤ (if b then pos 1 else pos 0)) × ((if b then pos 1 else pos 0) ≤ℤ pos 1)
-    bit true = (omega (arith, ints), omega (arith, ints))
-    bit false = (omega (arith, ints), omega (arith, ints))
+bit_range : (b : Bool) → ((pos 0 -ℤ pos 0) ≤ℤ (if b then pos 1 else pos 0)) × ((if b then pos 1 else pos 0) ≤ℤ pos 1)
+bit_range true = (omega (arith, ints), omega (arith, ints))
+bit_range false = (omega (arith, ints), omega (arith, ints))
+
+pub hint-range : (k g : ℕ) (v t : ℕ → ℕ → ℕ) → IsVector k 0 1 (vector_of k (λ r n. hint_bit g (v r n) (t r n)))
+hint-range k g v t = vector_of-range k 0 1 (λ r n. hint_bit g (v r n) (t r n)) (λ r n h l. bit_range (make_hint g ((0 + 8380416 * t r n) % 8380417) ((v r n + t r n) % 8380417)))
 
 -- how long a signature is
 pub signature_size : (p : Params) (k l n size : ℕ) → (p.gamma1 ≡ pos 131072) ⊎ (p.gamma1 ≡ pos 524288) → k ≡ p.k → l ≡ p.l → n ≡ commitment_length (set_of p) → size ≡ signature_length (set_of p)

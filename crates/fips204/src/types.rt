@@ -163,9 +163,9 @@ impl<const K: usize, const L: usize, H, G> Model for PrivateKey<K, L, H, G> {
 
     ghost Value = { PrivateParts };
 
-    ghost view = { λ key. record { rho = key.rho; key = key.key; tr = key.tr; s1 = key.s1; s2 = key.s2; t0 = key.t0 } };
+    ghost view = { λ sk. record { rho = sk.rho; key = sk.key; tr = sk.tr; s1 = sk.s1; s2 = sk.s2; t0 = sk.t0 } };
 
-    ghost invariant = { λ key. ArePrivateParts K L record { rho = key.rho; key = key.key; tr = key.tr; s1 = key.s1; s2 = key.s2; t0 = key.t0 } };
+    ghost invariant = { λ sk. ArePrivateParts K L record { rho = sk.rho; key = sk.key; tr = sk.tr; s1 = sk.s1; s2 = sk.s2; t0 = sk.t0 } };
 }
 
 impl<const K: usize, const L: usize, H, G> Clone for PrivateKey<K, L, H, G> {

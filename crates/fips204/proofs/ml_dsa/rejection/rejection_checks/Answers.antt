@@ -137,6 +137,7 @@ sig_encode-requires g c =
     let gamma1 = to_z-of_z w32 p.gamma1 (search rules) in
     let gamma2 = to_z-of_z w32 p.gamma2 (search rules) in
     let omega_is = to_z-of_z w32 p.omega (search rules) in
+    let hint = rw gamma2 at c.hint-h.ensures in
     let own = ap (λ (k : PrivateParts). k.s1) c.sk.view_is in
     let z = response-is (set_of p) c.args.sk.now c.args.y.now c.args.c.now _ _ _ own c.requires.sizes.1 c.response-z.ensures.value in
     let test = sym c.if-not-has_norm_below.false ∙ first g at.After-has_norm_below ∙ ap (λ v. nat_lt (vector_norm v) (nat_abs p.gamma1 - nat_abs p.beta)) (sym z) in (
@@ -157,7 +158,7 @@ sig_encode-requires g c =
                     rw (gamma1, omega_is) (signature_size p _ _ _ _ known.mask c.requires.sizes.0 c.requires.sizes.1 c.requires.sizes.2 c.requires.sizes.3),
                     (
                       rw gamma1 (response-range p.gamma1 (nat_abs p.gamma1 - nat_abs p.beta) g.row.L (λ r n. pos (y_plus_cs1 c.sk.inside.s1 c.args.y.now c.args.c.now r n)) c.response-z.result known.mask (omega arith) c.response-z.ensures.value (ltb-true _ _ (sym test))),
-                      (hint-range g.row.K (nat_abs p.gamma2) (vector_coefficients c.w_minus_cs2-w_minus_cs2.result) (vector_coefficients c.challenge_times_vector-ct0.result) c.hint-h.result (rw gamma2 at c.hint-h.ensures), rw c.number_of_ones.ensures at c.if-number_of_ones-p.false),
+                      (rw hint (hint-range g.row.K (nat_abs p.gamma2) (vector_coefficients c.w_minus_cs2-w_minus_cs2.result) (vector_coefficients c.challenge_times_vector-ct0.result)).range, rw c.number_of_ones.ensures at c.if-number_of_ones-p.false),
                     ),
                   ),
                 ),
