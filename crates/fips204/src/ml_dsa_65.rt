@@ -3,7 +3,9 @@
 
 ghost use Rattle.std.specs.Prelude.{◌↔◌, IsTrue, MatchResult};
 ghost use Rattle.fips204.specs.Acceptance.{Verifies};
+ghost use Rattle.fips204.specs.Completeness.{HashAccepted};
 ghost use Rattle.fips204.specs.Framing.{message_hash};
+ghost use Rattle.fips204.specs.KeyGeneration.{IsWhole};
 ghost use Rattle.fips204.specs.Keys.{DecodesPrivate, IsPublicKeyOf};
 ghost use Rattle.fips204.specs.ParameterSets.{set_65};
 ghost use Rattle.fips204.specs.Refusals.{generated, derived, sign_message, sign_digest, VerifiesMessage, VerifiesDigest, Draws, DrawsIf};
@@ -108,6 +110,12 @@ impl<H: Xof, G: Xof> Signer for PrivateKey<H, G> {
 
     ghost derives = { derived set_65 G.front };
 
+    ghost whole = { IsWhole set_65 G.front };
+
+    ghost accepts = { VerifiesMessage set_65 H.front G.front };
+
+    ghost accepts_digest = { VerifiesDigest set_65 H.front G.front };
+
     fn try_sign_with_seed(
         &self,
         seed: &[u8; 32],
@@ -164,8 +172,9 @@ impl<H: Xof, G: Xof> PrivateKey<H, G> {
         m: &[u8],
         hedged: bool,
     ) -> Result<[u8; SIG_LEN], Fault>
-        ensures { DrawsIf hedged R.gives R.refuses rng.old rng.new Fault.InternalRng
+        ensures answer { DrawsIf hedged R.gives R.refuses rng.old rng.new Fault.InternalRng
             (sign set_65 H.front G.front self.now (message_hash H.front self.now.tr m.now)) result }
+        ensures accepted { HashAccepted set_65 H.front G.front self.now (message_hash H.front self.now.tr m.now) result }
     {
         self.sign_mu(rng, &ml_dsa::mu::<H>(&[&self.tr, m]), hedged)
     }
@@ -177,7 +186,8 @@ impl<H: Xof, G: Xof> PrivateKey<H, G> {
         mu: &[u8; 64],
         hedged: bool,
     ) -> Result<[u8; SIG_LEN], Fault>
-        ensures { DrawsIf hedged R.gives R.refuses rng.old rng.new Fault.InternalRng (sign set_65 H.front G.front self.now mu.now) result }
+        ensures answer { DrawsIf hedged R.gives R.refuses rng.old rng.new Fault.InternalRng (sign set_65 H.front G.front self.now mu.now) result }
+        ensures accepted { HashAccepted set_65 H.front G.front self.now mu.now result }
     {
         let rnd = if hedged {
             draw(rng, Fault::InternalRng)?

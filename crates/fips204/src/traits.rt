@@ -4,6 +4,7 @@
 ghost use Rattle.std.specs.Prelude.{◌≡◌, ◌≢◌, ◌↔◌, ℕ, List, length, Result, Ok, Err, true, IsTrue, MatchResult};
 ghost use Rattle.fips204_base.specs.declared.fault.Fault.{Fault};
 ghost use Rattle.fips204_base.specs.declared.fault.Fault.TheVariants.{KeyGenRng, SignRng, HashRng};
+ghost use Rattle.fips204.specs.Completeness.{AcceptedIfWhole};
 ghost use Rattle.fips204.specs.Refusals.{Draws, DrawsUnless, message_fault, digest_fault};
 
 use crate::types::pre_hash::check_pre_hash;
@@ -111,6 +112,15 @@ pub trait Signer {
     // The public key that belongs to the private one, or the refusal.
     ghost derives: { Self → Result Self.PublicKey Fault };
 
+    // Whether the key is whole.
+    ghost whole: { Self → Type 0 };
+
+    // Whether a public key accepts a message, a signature and a context.
+    ghost accepts: { Self.PublicKey → List ℕ → Self.Signature → List ℕ → Type 0 };
+
+    // Whether a public key accepts a digest, a signature, a context and an object identifier.
+    ghost accepts_digest: { Self.PublicKey → List ℕ → Self.Signature → List ℕ → List ℕ → Type 0 };
+
     /// Signs with 32 bytes that the generator is asked for once. Refuses with `Fault::SignCtx` a context
     /// of more than 255 bytes, and does not ask then; with `Fault::SignRng` where the generator refuses;
     /// and as `try_sign_with_seed` does.
@@ -120,8 +130,9 @@ pub trait Signer {
         message: &[u8],
         ctx: &[u8],
     ) -> Result<Self::Signature, Fault>
-        ensures { DrawsUnless (message_fault ctx.now) R.gives R.refuses rng.old rng.new SignRng
+        ensures answer { DrawsUnless (message_fault ctx.now) R.gives R.refuses rng.old rng.new SignRng
             (λ rnd. signs self.now rnd message.now ctx.now) result }
+        ensures accepted { AcceptedIfWhole (whole self.now) (derives self.now) (λ pk signature. accepts pk message.now signature ctx.now) result }
     {
         if ctx.len() > 255 {
             return Err(Fault::SignCtx);
@@ -138,7 +149,8 @@ pub trait Signer {
         message: &[u8],
         ctx: &[u8],
     ) -> Result<Self::Signature, Fault>
-        ensures { result ≡ signs self.now seed.now message.now ctx.now };
+        ensures answer { result ≡ signs self.now seed.now message.now ctx.now }
+        ensures accepted { AcceptedIfWhole (whole self.now) (derives self.now) (λ pk signature. accepts pk message.now signature ctx.now) result };
 
     /// Signs a digest with 32 bytes that the generator is asked for once. Refuses with `Fault::HashCtx`
     /// a context of more than 255 bytes, then what `check_pre_hash` refuses, and does not ask then; with
@@ -150,8 +162,9 @@ pub trait Signer {
         ctx: &[u8],
         hash_oid: &[u8],
     ) -> Result<Self::Signature, Fault>
-        ensures { DrawsUnless (digest_fault ctx.now hash_oid.now hash.now) R.gives R.refuses rng.old rng.new HashRng
+        ensures answer { DrawsUnless (digest_fault ctx.now hash_oid.now hash.now) R.gives R.refuses rng.old rng.new HashRng
             (λ rnd. signs_digest self.now rnd hash.now ctx.now hash_oid.now) result }
+        ensures accepted { AcceptedIfWhole (whole self.now) (derives self.now) (λ pk signature. accepts_digest pk hash.now signature ctx.now hash_oid.now) result }
     {
         if ctx.len() > 255 {
             return Err(Fault::HashCtx);
@@ -169,7 +182,8 @@ pub trait Signer {
         ctx: &[u8],
         hash_oid: &[u8],
     ) -> Result<Self::Signature, Fault>
-        ensures { result ≡ signs_digest self.now seed.now hash.now ctx.now hash_oid.now };
+        ensures answer { result ≡ signs_digest self.now seed.now hash.now ctx.now hash_oid.now }
+        ensures accepted { AcceptedIfWhole (whole self.now) (derives self.now) (λ pk signature. accepts_digest pk hash.now signature ctx.now hash_oid.now) result };
 
     /// The public key of the private key. Refuses with `Fault::SamplingLimit` where its matrix passes
     /// its limit.
