@@ -26,6 +26,11 @@ w_approx p a t1 z c r = minus (matrix_product p.l a (vector_coefficients z) r) (
 unfoldable pub w1_prime : ParameterSet → List (List T) → List R → List R → List R → R → List R
 w1_prime p a t1 z h c = vector_of p.k (λ r n. pos (use_hint p.gamma2 (is_one (slice_index_or h r record { 0 = [] }) n) (w_approx p a t1 z c r n)))
 
+-- the signature has these parts, so that its last bytes spell the hint h, and the norm of z is small
+pub record HasShortParts (p : ParameterSet) (signature c_tilde : List ℕ) (z h : List R) : Type 0 where
+  pub hint : IsSignature p.gamma1 p.omega p.k p.l (commitment_length p) signature c_tilde z h
+  pub norm : vector_norm z < p.gamma1 - p.beta
+
 -- ML-DSA.Verify_internal (Algorithm 8) from mu, with the matrix a: the signature has parts, so that its last bytes spell the
 -- hint h; there is a challenge; the norm of z is small; and c_tilde is the one that w1' gives
 pub record Accepts (p : ParameterSet) (H : List ℕ → List ℕ) (a : List (List T)) (t1 : List R) (mu signature : List ℕ) : Type 0 where

@@ -1,16 +1,15 @@
 //! Verifying a signature (FIPS 204, Algorithm 8).
 #![tactic(auto)]
 
-ghost use Rattle.std.specs.Prelude.{◌≡◌, ◌≤◌, ◌<◌, ◌⊎◌, ◌-◌, ◌*◌, ◌%◌, ◌≤ℤ◌, ◌↔◌, ℕ, List, pos, nat_abs, IsTrue, Some, int_lt};
+ghost use Rattle.std.specs.Prelude.{◌≡◌, ◌≤◌, ◌<◌, ◌⊎◌, ◌-◌, ◌*◌, ◌%◌, ◌≤ℤ◌, ◌↔◌, ℕ, List, pos, nat_abs, IsTrue, Some, int_lt, MatchOption};
 ghost use Rattle.std.specs.List.{All};
 ghost use Rattle.fips204_base.specs.Challenge.{challenge};
-ghost use Rattle.fips204_base.specs.MatrixEntry.{sampled_matrix};
 ghost use Rattle.fips204_base.specs.Packing.{InRange};
 ghost use Rattle.fips204_base.specs.Polynomials.{VectorWithin, IsReduced, IsReducedVector, IsReducedMatrix};
 ghost use Rattle.fips204_base.specs.Residues.{residue};
 ghost use Rattle.fips204_base.specs.Rounding.{use_hint, high_values};
 ghost use Rattle.fips204_base.specs.Vectors.{IsVector, vector_coefficients};
-ghost use Rattle.fips204.specs.Acceptance.{t1_shifted, w1_prime, Verifies};
+ghost use Rattle.fips204.specs.Acceptance.{t1_shifted, w1_prime, HasShortParts, Accepts, Verifies};
 ghost use Rattle.fips204.specs.Attempts.{commitment};
 ghost use Rattle.fips204.specs.Keys.{IsHighPart};
 ghost use Rattle.fips204.specs.ParameterSets.{commitment_length};
@@ -18,7 +17,7 @@ ghost use Rattle.fips204.specs.Sets.{HasSizes, set_of};
 
 use super::commitment::commitment;
 use super::rejection::has_norm_below;
-use crate::types::{Params, PublicKey, R, T};
+use crate::types::{Params, PreparedPublicKey, PublicKey, R, T};
 use fips204_base::D;
 use fips204_base::encodings::sig_decode;
 use fips204_base::hashing::{expand_a, sample_in_ball};
@@ -41,52 +40,86 @@ pub fn verify_internal<
     requires sizes { HasSizes p.now K L LAMBDA_DIV4 SIG_LEN }
     ensures { IsTrue result ↔ Verifies (set_of p.now) H.front G.front pk.now mu.now sig.now }
 {
-    // (c_tilde, z, h) = sigDecode(sigma)
-    match sig_decode::<K, L, LAMBDA_DIV4, SIG_LEN>(p.gamma1, p.omega, sig) {
+    match short_parts::<K, L, LAMBDA_DIV4, SIG_LEN>(p, sig) {
         None => false,
-        Some(parts) => {
-            let (c_tilde, z, h) = parts;
-            // the norm of z is below gamma1 - beta, and c_tilde is what the parts give
-            has_norm_below(&z, p.z_bound()) && accepts(p, pk, mu, &c_tilde, &z, &h)
-        }
+        // A = ExpandA(rho)
+        Some(parts) => match expand_a::<K, L, G>(&pk.rho) {
+            Err(_) => false,
+            Ok(a_hat) => accepts::<K, L, LAMBDA_DIV4, H>(p, &a_hat, &pk.t1, mu, &parts),
+        },
     }
 }
 
-/// Whether `c_tilde` is the commitment that the parts of a signature give: there is a matrix of the key
-/// and a challenge of `c_tilde`, and the `w1'` that they give has this commitment.
-///
-/// Coefficients of `z` have an absolute value of at most 524288, those of `h` are 0 or 1. `K` and `L`
-/// are those of the set, and `LAMBDA_DIV4` is the length of `c_tilde`.
-fn accepts<const K: usize, const L: usize, const LAMBDA_DIV4: usize, H: Xof, G: Xof>(
+/// `verify_internal` with the matrix of a prepared key.
+pub(crate) fn verify_prepared<
+    const K: usize,
+    const L: usize,
+    const LAMBDA_DIV4: usize,
+    const SIG_LEN: usize,
+    H: Xof,
+>(p: &Params, pk: &PreparedPublicKey<K, L, H>, mu: &[u8; 64], sig: &[u8; SIG_LEN]) -> bool
+    requires sizes { HasSizes p.now K L LAMBDA_DIV4 SIG_LEN }
+    ensures { IsTrue result ↔ Accepts (set_of p.now) H.front pk.now.matrix pk.now.key.t1 mu.now sig.now }
+{
+    match short_parts::<K, L, LAMBDA_DIV4, SIG_LEN>(p, sig) {
+        None => false,
+        Some(parts) => accepts::<K, L, LAMBDA_DIV4, H>(p, &pk.a_hat, &pk.key.t1, mu, &parts),
+    }
+}
+
+/// The parts `c_tilde`, `z` and `h` of a signature (lines 2 to 4), or `None` where its last bytes spell no
+/// hint, or the norm of `z` is not below gamma1 - beta.
+fn short_parts<const K: usize, const L: usize, const LAMBDA_DIV4: usize, const SIG_LEN: usize>(
     p: &Params,
-    pk: &PublicKey<K, L, H, G>,
+    sig: &[u8; SIG_LEN],
+) -> Option<([u8; LAMBDA_DIV4], [R; L], [R; K])>
+    requires sizes { HasSizes p.now K L LAMBDA_DIV4 SIG_LEN }
+    ensures { MatchOption result
+        ((c_tilde : List ℕ) (z h : List R) → HasShortParts (set_of p.now) sig.now c_tilde z h → ⊥)
+        (λ parts. HasShortParts (set_of p.now) sig.now parts.0 parts.1 parts.2) }
+{
+    // (c_tilde, z, h) = sigDecode(sigma)
+    let parts = sig_decode::<K, L, LAMBDA_DIV4, SIG_LEN>(p.gamma1, p.omega, sig)?;
+    // the norm of z is below gamma1 - beta
+    if has_norm_below(&parts.1, p.z_bound()) {
+        Some(parts)
+    } else {
+        None
+    }
+}
+
+/// Whether `c_tilde` is the commitment that the parts of a signature give: there is a challenge of `c_tilde`,
+/// and the `w1'` that it and the matrix give has this commitment.
+///
+/// Values of the matrix are below `q` in absolute value, coefficients of `t1` from 0 to 1023, those of `z` at
+/// most 524288 in absolute value, those of `h` 0 or 1. `K` and `L` are those of the set, and `LAMBDA_DIV4` is
+/// the length of `c_tilde`.
+fn accepts<const K: usize, const L: usize, const LAMBDA_DIV4: usize, H: Xof>(
+    p: &Params,
+    a_hat: &[[T; L]; K],
+    t1: &[R; K],
     mu: &[u8; 64],
-    c_tilde: &[u8; LAMBDA_DIV4],
-    z: &[R; L],
-    h: &[R; K],
+    parts: &([u8; LAMBDA_DIV4], [R; L], [R; K]),
 ) -> bool
     requires rows { K ≡ p.now.k }
     requires columns { L ≡ p.now.l }
     requires commitment_size { LAMBDA_DIV4 ≡ commitment_length (set_of p.now) }
-    requires response { VectorWithin L 524288 z.now }
-    requires hint { IsVector K 0 1 h.now }
-    ensures { IsTrue result ↔ ((a : List (List T)) × (c : R)
-        × (sampled_matrix G.front pk.now.rho p.now.k p.now.l ≡ Some a)
-        × (challenge (nat_abs p.now.tau) (H.front c_tilde.now) ≡ Some c)
-        × (c_tilde.now ≡ commitment (set_of p.now) H.front mu.now (w1_prime (set_of p.now) a pk.now.t1 z.now h.now c))) }
+    requires matrix { IsReducedMatrix a_hat.now }
+    requires high { IsHighPart K t1.now }
+    requires response { VectorWithin L 524288 parts.now.1 }
+    requires hint { IsVector K 0 1 parts.now.2 }
+    ensures { IsTrue result ↔ ((c : R) × (challenge (nat_abs p.now.tau) (H.front parts.now.0) ≡ Some c)
+        × (parts.now.0 ≡ commitment (set_of p.now) H.front mu.now (w1_prime (set_of p.now) a_hat.now t1.now parts.now.1 parts.now.2 c))) }
 {
+    let (c_tilde, z, h) = parts;
     // c = SampleInBall(c_tilde)
     match sample_in_ball::<H>(p.tau, c_tilde) {
         Err(_) => false,
-        // A = ExpandA(rho)
-        Ok(c) => match expand_a::<K, L, G>(&pk.rho) {
-            Err(_) => false,
-            // c_tilde = H(mu || w1Encode(w1'))
-            Ok(a_hat) => {
-                let w1 = w1_prime(p, &a_hat, &pk.t1, z, h, &c);
-                *c_tilde == commitment::<K, LAMBDA_DIV4, H>(p, mu, &w1)
-            }
-        },
+        // c_tilde = H(mu || w1Encode(w1'))
+        Ok(c) => {
+            let w1 = w1_prime(p, a_hat, t1, z, h, &c);
+            *c_tilde == commitment::<K, LAMBDA_DIV4, H>(p, mu, &w1)
+        }
     }
 }
 
