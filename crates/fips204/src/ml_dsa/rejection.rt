@@ -20,55 +20,50 @@ use fips204_base::high_low::{low_bits, make_hint};
 use fips204_base::maps::{map_vector, update_vector_with, zip_vectors};
 use fips204_base::product::challenge_times_vector;
 
-/// The signature of an attempt with mask `y`, `w = A y`, commitment and challenge, or `None` where one of
-/// the checks rejects it.
-///
-/// Coefficients of `y` are in `[1 - gamma1, gamma1]`, those of `w` and `c` below `q` in absolute value.
-/// `K` and `L` are those of the set, and `LAMBDA_DIV4` and `SIG_LEN` its lengths.
-pub(crate) fn rejection_checks<
-    const K: usize,
-    const L: usize,
-    const LAMBDA_DIV4: usize,
-    const SIG_LEN: usize,
-    H,
-    G,
->(
-    p: &Params,
-    sk: &PrivateKey<K, L, H, G>,
-    y: &[R; L],
-    w: &[R; K],
-    c_tilde: &[u8; LAMBDA_DIV4],
-    c: &R,
-) -> Option<[u8; SIG_LEN]>
-    requires sizes { HasSizes p.now K L LAMBDA_DIV4 SIG_LEN }
-    requires mask { VectorWithin L 524288 y.now }
-    requires product { IsReducedVector K w.now }
-    requires challenge { IsReduced c.now.0 }
-    ensures { Ok result
-        ≡ attempt_answer (checked_attempt (set_of p.now) sk.now y.now (vector_coefficients w.now) c_tilde.now (Some c.now)) }
-{
-    // z = y + c s1, with a norm below gamma1 - beta
-    let z = response(&sk.s1, y, c);
-    if !has_norm_below(&z, p.z_bound()) {
-        return None;
+impl<const K: usize, const L: usize, H, G> PrivateKey<K, L, H, G> {
+    /// The signature of an attempt with mask `y`, `w = A y`, commitment and challenge, or `None` where one of
+    /// the checks rejects it.
+    ///
+    /// Coefficients of `y` are in `[1 - gamma1, gamma1]`, those of `w` and `c` below `q` in absolute value.
+    /// `K` and `L` are those of the set, and `LAMBDA_DIV4` and `SIG_LEN` its lengths.
+    pub(crate) fn rejection_checks<const LAMBDA_DIV4: usize, const SIG_LEN: usize>(
+        &self,
+        p: &Params,
+        y: &[R; L],
+        w: &[R; K],
+        c_tilde: &[u8; LAMBDA_DIV4],
+        c: &R,
+    ) -> Option<[u8; SIG_LEN]>
+        requires sizes { HasSizes p.now K L LAMBDA_DIV4 SIG_LEN }
+        requires mask { VectorWithin L 524288 y.now }
+        requires product { IsReducedVector K w.now }
+        requires challenge { IsReduced c.now.0 }
+        ensures { Ok result
+            ≡ attempt_answer (checked_attempt (set_of p.now) self.now y.now (vector_coefficients w.now) c_tilde.now (Some c.now)) }
+    {
+        // z = y + c s1, with a norm below gamma1 - beta
+        let z = response(&self.s1, y, c);
+        if !has_norm_below(&z, p.z_bound()) {
+            return None;
+        }
+        // r0 = LowBits(w - c s2), with a norm below gamma2 - beta
+        let w_minus_cs2 = w_minus_cs2(&self.s2, w, c);
+        if !has_norm_below(&low_vector(p.gamma2, &w_minus_cs2), p.r0_bound()) {
+            return None;
+        }
+        // c t0, with a norm below gamma2
+        let ct0 = challenge_times_vector(c, &self.t0);
+        if !has_norm_below(&ct0, p.gamma2) {
+            return None;
+        }
+        // h = MakeHint(-c t0, w - c s2 + c t0), with at most omega ones
+        let h = hint(p.gamma2, &w_minus_cs2, &ct0);
+        if number_of_ones(&h) > p.omega as usize {
+            return None;
+        }
+        // sigEncode(c_tilde, z, h)
+        Some(sig_encode(p.gamma1, p.omega, c_tilde, &z, &h))
     }
-    // r0 = LowBits(w - c s2), with a norm below gamma2 - beta
-    let w_minus_cs2 = w_minus_cs2(&sk.s2, w, c);
-    if !has_norm_below(&low_vector(p.gamma2, &w_minus_cs2), p.r0_bound()) {
-        return None;
-    }
-    // c t0, with a norm below gamma2
-    let ct0 = challenge_times_vector(c, &sk.t0);
-    if !has_norm_below(&ct0, p.gamma2) {
-        return None;
-    }
-    // h = MakeHint(-c t0, w - c s2 + c t0), with at most omega ones
-    let h = hint(p.gamma2, &w_minus_cs2, &ct0);
-    if number_of_ones(&h) > p.omega as usize {
-        return None;
-    }
-    // sigEncode(c_tilde, z, h)
-    Some(sig_encode(p.gamma1, p.omega, c_tilde, &z, &h))
 }
 
 /// Whether the norm of a vector of at least one polynomial is below an exclusive bound. Coefficients are
