@@ -1,5 +1,5 @@
 -- Verifying: w1' as a vector, and what a signature's parts have to keep.
-use Rattle.std.proofs.Common.{◌≡◌, ◌<◌, ◌≤◌, ◌⊎◌, ◌+◌, ◌-◌, ◌%◌, ℕ, List, [], pos, get_or, length, ap, sym, subst, ◌∙◌, arith, Bool, Some, true, false, inl, inr, refl, IsTrue, ℤ, zero, suc, negsuc, ◌≤ℤ◌}
+use Rattle.std.proofs.Common.{◌≡◌, ◌<◌, ◌≤◌, ◌⊎◌, ◌+◌, ◌-◌, ◌%◌, ℕ, List, [], pos, nat_abs, get_or, length, ap, sym, subst, ◌∙◌, arith, Bool, Some, true, false, inl, inr, refl, IsTrue, ℤ, zero, suc, negsuc, ◌≤ℤ◌}
 use Rattle.std.specs.Prelude.{int_lt, ◌↔◌}
 use Rattle.std.specs.declared.option.Option.{Option}
 use Rattle.std.specs.List.{All}
@@ -24,10 +24,13 @@ use Rattle.fips204_base.proofs.Products.{product_same}
 use Rattle.fips204_base.proofs.Residues.{congruent_of, congruent_refl}
 use Rattle.fips204_base.proofs.Vectors.{vector_of-ext, vector_of-range, vector-within}
 use Rattle.fips204_base.proofs.EncodedParts.{same_signature}
-use Rattle.fips204.specs.Acceptance.{t1_shifted, w_approx, w1_prime, Verifies}
+use Rattle.fips204.specs.Acceptance.{t1_shifted, w_approx, w1_prime, HasShortParts, Accepts, Verifies}
 use Rattle.fips204.specs.Attempts.{commitment}
 use Rattle.fips204.specs.Keys.{PublicParts}
+use Rattle.fips204.specs.declared.types.Params.{Params}
 use Rattle.fips204.specs.ParameterSets.{ParameterSet, commitment_length}
+use Rattle.fips204.specs.Sets.{set_of}
+use Rattle.fips204.proofs.ParameterSets.{IsKnown, limits, mask-size}
 use Rattle.fips204.proofs.RefusedCalls.{same_some}
 
 -- ---- w1'
@@ -96,52 +99,73 @@ response-within gamma1 l z h vector = vector-within l (gamma1 - 1) gamma1 524288
 
 -- ---- the parts of a signature
 
--- with the matrix, the challenge and w1' at hand the commitment decides
-pub decided : (p : ParameterSet) (H : List ℕ → List ℕ) (t1 z h w1 : List R) (mu c_tilde : List ℕ) (matrix : Option (List (List T))) (ball : Option R) (a : List (List T)) (c : R) (answer : Bool)
-    → matrix ≡ Some a → ball ≡ Some c → w1 ≡ w1_prime p a t1 z h c → (IsTrue answer ↔ (c_tilde ≡ commitment p H mu w1))
-    → IsTrue answer ↔ ((a : List (List T)) × (c : R) × (matrix ≡ Some a) × (ball ≡ Some c) × (c_tilde ≡ commitment p H mu (w1_prime p a t1 z h c)))
-decided p H t1 z h w1 mu c_tilde matrix ball a c answer m b w both = (
-  λ t. (a, c, m, b, both.0 t ∙ ap (commitment p H mu) w),
+-- with the challenge and w1' at hand the commitment decides
+pub decided : (p : ParameterSet) (H : List ℕ → List ℕ) (a : List (List T)) (t1 z h w1 : List R) (mu c_tilde : List ℕ) (ball : Option R) (c : R) (answer : Bool)
+    → ball ≡ Some c → w1 ≡ w1_prime p a t1 z h c → (IsTrue answer ↔ (c_tilde ≡ commitment p H mu w1))
+    → IsTrue answer ↔ ((c : R) × (ball ≡ Some c) × (c_tilde ≡ commitment p H mu (w1_prime p a t1 z h c)))
+decided p H a t1 z h w1 mu c_tilde ball c answer b w both = (
+  λ t. (c, b, both.0 t ∙ ap (commitment p H mu) w),
   λ x.
-      let a' : x.0 ≡ a = same_some x.0 a (sym x.2 ∙ m) in
-      let c' : x.1 ≡ c = same_some x.1 c (sym x.3 ∙ b) in
-      both.1 (x.4 ∙ ap (λ a. commitment p H mu (w1_prime p a t1 z h x.1)) a' ∙ ap (λ c. commitment p H mu (w1_prime p a t1 z h c)) c' ∙ sym (ap (commitment p H mu) w)),
+      let c' : x.0 ≡ c = same_some x.0 c (sym x.1 ∙ b) in
+      both.1 (x.2 ∙ ap (λ c. commitment p H mu (w1_prime p a t1 z h c)) c' ∙ sym (ap (commitment p H mu) w)),
 )
 
 -- what the parts c_tilde, z and h of a signature keep besides the norm of z
-abbrev pub Gives : ParameterSet → (List ℕ → List ℕ) → (List ℕ → List ℕ) → PublicParts → List ℕ → List ℕ → List R → List R → Type 0
-Gives p H G pk mu c_tilde z h =
-    (a : List (List T)) × (c : R) × (sampled_matrix G pk.rho p.k p.l ≡ Some a) × (challenge p.tau (H c_tilde) ≡ Some c)
-    × (c_tilde ≡ commitment p H mu (w1_prime p a pk.t1 z h c))
+abbrev pub Gives : ParameterSet → (List ℕ → List ℕ) → List (List T) → List R → List ℕ → List ℕ → List R → List R → Type 0
+Gives p H a t1 mu c_tilde z h = (c : R) × (challenge p.tau (H c_tilde) ≡ Some c) × (c_tilde ≡ commitment p H mu (w1_prime p a t1 z h c))
 
-pub no_parts : (p : ParameterSet) (H G : List ℕ → List ℕ) (pk : PublicParts) (mu sig : List ℕ)
-    → ((c_tilde : List ℕ) (z h : List R) → IsSignature p.gamma1 p.omega p.k p.l (commitment_length p) sig c_tilde z h → ⊥) → Verifies p H G pk mu sig → ⊥
-no_parts p H G pk mu sig none v = none v.accepted.c_tilde v.accepted.z v.accepted.h v.accepted.hint
+pub accepts-none : (p : ParameterSet) (H : List ℕ → List ℕ) (a : List (List T)) (t1 : List R) (mu sig : List ℕ)
+    → ((c_tilde : List ℕ) (z h : List R) → HasShortParts p sig c_tilde z h → ⊥) → Accepts p H a t1 mu sig → ⊥
+accepts-none p H a t1 mu sig none v = none v.c_tilde v.z v.h record { hint = v.hint; norm = v.norm }
 
-pub verifies-in : (p : ParameterSet) (H G : List ℕ → List ℕ) (pk : PublicParts) (mu sig c_tilde : List ℕ) (z h : List R) → IsSignature p.gamma1 p.omega p.k p.l (commitment_length p) sig c_tilde z h
-    → vector_norm z < p.gamma1 - p.beta → Gives p H G pk mu c_tilde z h → Verifies p H G pk mu sig
-verifies-in p H G pk mu sig c_tilde z h parts small x = record {
-  a = x.0;
-  matrix = x.2;
-  accepted = record {
-    c_tilde = c_tilde;
-    z = z;
-    h = h;
-    hint = parts;
-    c = x.1;
-    challenge = x.3;
-    norm = small;
-    commitment = x.4;
-  };
+pub accepts-in : (p : ParameterSet) (H : List ℕ → List ℕ) (a : List (List T)) (t1 : List R) (mu sig c_tilde : List ℕ) (z h : List R)
+    → HasShortParts p sig c_tilde z h → Gives p H a t1 mu c_tilde z h → Accepts p H a t1 mu sig
+accepts-in p H a t1 mu sig c_tilde z h parts x = record {
+  c_tilde = c_tilde;
+  z = z;
+  h = h;
+  hint = parts.hint;
+  c = x.0;
+  challenge = x.1;
+  norm = parts.norm;
+  commitment = x.2;
 }
 
 -- a signature has no other parts
-pub verifies-out : (p : ParameterSet) (H G : List ℕ → List ℕ) (pk : PublicParts) (mu sig c_tilde : List ℕ) (z h : List R) → 1 ≤ p.gamma1 → p.gamma1 ≤ 1048575
-    → IsSignature p.gamma1 p.omega p.k p.l (commitment_length p) sig c_tilde z h → Verifies p H G pk mu sig → (vector_norm z < p.gamma1 - p.beta) × Gives p H G pk mu c_tilde z h
-verifies-out p H G pk mu sig c_tilde z h low high parts v =
-    let v' = v.accepted in
-    let same = same_signature p.gamma1 p.omega p.k p.l (commitment_length p) sig v'.c_tilde c_tilde v'.z z v'.h h low high v'.hint parts in
-    let norm = subst (λ (z : List R). vector_norm z < p.gamma1 - p.beta) same.1 v'.norm in
-    let ball = subst (λ (x : List ℕ). challenge p.tau (H x) ≡ Some v'.c) same.0 v'.challenge in
-    let value = sym same.0 ∙ v'.commitment ∙ ap (λ (z : List R). commitment p H mu (w1_prime p v.a pk.t1 z v'.h v'.c)) same.1 ∙ ap (λ (h : List R). commitment p H mu (w1_prime p v.a pk.t1 z h v'.c)) same.2 in
-    (norm, (v.a, v'.c, v.matrix, ball, value))
+pub same_norm : (p : ParameterSet) (sig c_tilde c_tilde' : List ℕ) (z z' h h' : List R) → 1 ≤ p.gamma1 → p.gamma1 ≤ 1048575
+    → IsSignature p.gamma1 p.omega p.k p.l (commitment_length p) sig c_tilde z h → HasShortParts p sig c_tilde' z' h' → vector_norm z < p.gamma1 - p.beta
+same_norm p sig c_tilde c_tilde' z z' h h' low high parts v =
+    let same = same_signature p.gamma1 p.omega p.k p.l (commitment_length p) sig c_tilde' c_tilde z' z h' h low high v.hint parts in
+    subst (λ (z : List R). vector_norm z < p.gamma1 - p.beta) same.1 v.norm
+
+pub accepts-out : (p : ParameterSet) (H : List ℕ → List ℕ) (a : List (List T)) (t1 : List R) (mu sig c_tilde : List ℕ) (z h : List R) → 1 ≤ p.gamma1 → p.gamma1 ≤ 1048575
+    → HasShortParts p sig c_tilde z h → Accepts p H a t1 mu sig → Gives p H a t1 mu c_tilde z h
+accepts-out p H a t1 mu sig c_tilde z h low high parts v =
+    let same = same_signature p.gamma1 p.omega p.k p.l (commitment_length p) sig v.c_tilde c_tilde v.z z v.h h low high v.hint parts.hint in
+    let ball = subst (λ (x : List ℕ). challenge p.tau (H x) ≡ Some v.c) same.0 v.challenge in
+    let value = sym same.0 ∙ v.commitment ∙ ap (λ (z : List R). commitment p H mu (w1_prime p a t1 z v.h v.c)) same.1 ∙ ap (λ (h : List R). commitment p H mu (w1_prime p a t1 z h v.c)) same.2 in
+    (v.c, ball, value)
+
+-- with the parts at hand acceptance is what they give
+pub accepts-by_parts : (p : Params) (H : List ℕ → List ℕ) (a : List (List T)) (t1 : List R) (mu sig c_tilde : List ℕ) (z h : List R) (answer : Bool) → IsKnown p
+    → HasShortParts (set_of p) sig c_tilde z h → (IsTrue answer ↔ Gives (set_of p) H a t1 mu c_tilde z h) → IsTrue answer ↔ Accepts (set_of p) H a t1 mu sig
+accepts-by_parts p H a t1 mu sig c_tilde z h answer known parts both =
+    let sizes = mask-size p.gamma1 (limits p known).mask in (
+      λ t. accepts-in (set_of p) H a t1 mu sig c_tilde z h parts (both.0 t),
+      λ v. both.1 (accepts-out (set_of p) H a t1 mu sig c_tilde z h sizes.0 (omega (arith, sizes.1)) parts v),
+    )
+
+-- ranges of the parts
+pub short-response : (p : Params) (L : ℕ) (sig c_tilde : List ℕ) (z h : List R) → IsKnown p → L ≡ p.l → HasShortParts (set_of p) sig c_tilde z h → VectorWithin L 524288 z
+short-response p L sig c_tilde z h known columns parts = response-within (nat_abs p.gamma1) L z (mask-size p.gamma1 (limits p known).mask).1 (rw columns parts.hint.response)
+
+pub short-hint : (p : Params) (K : ℕ) (sig c_tilde : List ℕ) (z h : List R) → K ≡ p.k → HasShortParts (set_of p) sig c_tilde z h → IsVector K 0 1 h
+short-hint p K sig c_tilde z h rows parts = rw rows parts.hint.hint
+
+-- with the matrix at hand acceptance is that of the plain key
+pub verifies-with : (p : ParameterSet) (H G : List ℕ → List ℕ) (pk : PublicParts) (mu sig : List ℕ) (a : List (List T)) (answer : Bool)
+    → sampled_matrix G pk.rho p.k p.l ≡ Some a → (IsTrue answer ↔ Accepts p H a pk.t1 mu sig) → IsTrue answer ↔ Verifies p H G pk mu sig
+verifies-with p H G pk mu sig a answer there both = (
+  λ t. record { a = a; matrix = there; accepted = both.0 t },
+  λ v. both.1 (subst (λ (x : List (List T)). Accepts p H x pk.t1 mu sig) (same_some v.a a (sym v.matrix ∙ there)) v.accepted),
+)

@@ -9,6 +9,7 @@ pub mod Framing
 pub mod PreHash
 pub mod Constants
 pub mod Refusals
+pub mod Prepared
 pub mod MessageLaws
 pub mod SchemeLaws
 pub mod Completeness

@@ -11,6 +11,7 @@ mod attempt;
 mod calls;
 mod commitment;
 mod key_generation;
+mod prepared;
 mod rejection;
 mod signing;
 mod verification;

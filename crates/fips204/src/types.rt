@@ -7,8 +7,10 @@ ghost use Rattle.fips204_base.specs.Rounding.{high_values};
 ghost use Rattle.fips204.specs.ParameterSets.{are_parameters};
 
 pub mod pre_hash;
+mod prepared;
 
 pub use fips204_base::types::{R, R0, T, T0, Zq};
+pub use prepared::{PreparedPrivateKey, PreparedPublicKey};
 use std::alloc::AllocError;
 use std::marker::{Model, PhantomData};
 

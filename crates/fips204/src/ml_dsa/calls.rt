@@ -89,7 +89,7 @@ impl<const K: usize, const L: usize, H: Xof, G: Xof> PublicKey<K, L, H, G> {
 }
 
 /// `mu` of a message and a context. Refuses with `Fault::SignCtx` a context of more than 255 bytes.
-fn message_mu<'a, H: Xof>(
+pub(crate) fn message_mu<'a, H: Xof>(
     tr: &'a [u8; 64],
     message: &'a [u8],
     ctx: &'a [u8],
@@ -102,7 +102,7 @@ fn message_mu<'a, H: Xof>(
 
 /// `mu` of a digest, a context and the object identifier of the hash. Refuses with `Fault::HashCtx` a
 /// context of more than 255 bytes, and then what `check_pre_hash` refuses.
-fn digest_mu<'a, H: Xof>(
+pub(crate) fn digest_mu<'a, H: Xof>(
     tr: &'a [u8; 64],
     hash: &'a [u8],
     ctx: &'a [u8],

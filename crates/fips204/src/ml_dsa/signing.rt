@@ -45,7 +45,7 @@ pub fn sign_internal<
 
 impl<const K: usize, const L: usize, H: Xof, G> PrivateKey<K, L, H, G> {
     /// `sign_internal` with the matrix, whose values are below `q` in absolute value (lines 7 to 33).
-    fn sign_with<const LAMBDA_DIV4: usize, const SIG_LEN: usize>(
+    pub(crate) fn sign_with<const LAMBDA_DIV4: usize, const SIG_LEN: usize>(
         &self,
         p: &Params,
         a_hat: &[[T; L]; K],

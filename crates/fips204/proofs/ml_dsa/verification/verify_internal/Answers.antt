@@ -1,82 +1,42 @@
-use Rattle.std.proofs.Common.{rules, arith, ◌≡◌, ◌≤◌, ◌<◌, ◌+◌, ◌-◌, ◌∙◌, ℕ, List, sym, true≢false, nat_abs, to_z, of_z, w32}
-use Rattle.std.proofs.lemmas.Bool.{ltb-true, lt-ltb}
-use Rattle.std.proofs.lemmas.Int.{ints, to_z-of_z}
-use Rattle.fips204_base.specs.CentredValues.{vector_norm}
-use Rattle.fips204_base.specs.declared.types.R.{R}
-use Rattle.fips204_base.specs.Encodings.{IsSignature}
-use Rattle.fips204.specs.ParameterSets.{commitment_length}
+use Rattle.std.proofs.Common.{rules, arith, ◌≡◌, ◌≤◌, ◌∙◌, Some, ap}
+use Rattle.fips204_base.specs.MatrixEntry.{sampled_matrix}
+use Rattle.fips204_base.proofs.Sampled.{some_of_ok}
+use Rattle.fips204.specs.Keys.{PublicParts}
 use Rattle.fips204.specs.Sets.{set_of}
-use Rattle.fips204.proofs.ParameterSets.{limits, mask-size, signature-size}
-use Rattle.fips204.proofs.Verification.{response-within, no_parts, verifies-in, verifies-out}
+use Rattle.fips204.proofs.ParameterSets.{IsKnown, limits, matrix_room}
+use Rattle.fips204.proofs.Ranges.{matrix-within}
+use Rattle.fips204.proofs.Verification.{short-response, short-hint, accepts-by_parts, verifies-with}
 use Rattle.fips204.proofs.ml_dsa.verification.verify_internal.Goals as goal
 
-pub sig_decode-requires : goal.sig_decode-requires
-sig_decode-requires g c =
-    let p = c.args.p.now in
-    let M : to_z w32 (of_z w32 p.gamma1) ≡ p.gamma1 = search rules in
-    let O : to_z w32 (of_z w32 p.omega) ≡ p.omega = search rules in
-    let some = limits p (search rules) in
-    let ones : nat_abs p.omega + g.row.K < 256 = rw c.requires.sizes.0 some.hint_size in
-    let size = c.requires.sizes.3 ∙ signature-size p.gamma1 (commitment_length (set_of p)) p.k p.l (nat_abs p.omega) some.mask in
-    (search rules, (search rules, (search rules, (search rules, (rw M some.mask, (rw O some.some_ones, (rw O ones, rw (M, O, c.requires.sizes.0, c.requires.sizes.1, c.requires.sizes.2) size)))))))
-
-pub has_norm_below-requires : goal.has_norm_below-requires
-has_norm_below-requires g c =
+pub expand_a-requires : goal.expand_a-requires
+expand_a-requires g c =
     let p = c.args.p.now in
     let some = limits p (search rules) in
-    let columns : 1 ≤ g.row.L = rw c.requires.sizes.1 some.some_columns in
-    let bound = to_z-of_z w32 c.z_bound.result (search rules) ∙ c.z_bound.ensures in
-    let M : to_z w32 (of_z w32 p.gamma1) ≡ p.gamma1 = search rules in
-    let z = response-within (nat_abs (to_z w32 (of_z w32 p.gamma1))) g.row.L c.in-Some.parts.1 (rw M (mask-size p.gamma1 some.mask).1) c.in-Some.ensures.response in
-    (search rules, (columns, (λ r n h l. (let x = z r n h l in omega (arith, x)), rw bound (omega (arith, ints)))))
+    let rows : g.row.K ≤ 8 = rw c.requires.sizes.0 some.few_rows in
+    let columns : g.row.L ≤ 7 = rw c.requires.sizes.1 some.few_columns in
+    (matrix_room g.row.K g.row.L rows columns, (omega (arith, columns), (rows, columns)))
 
 pub accepts-requires : goal.accepts-requires
 accepts-requires g c =
     let p = c.args.p.now in
-    let M : to_z w32 (of_z w32 p.gamma1) ≡ p.gamma1 = search rules in
-    let some = limits p (search rules) in
-    let z = response-within (nat_abs (to_z w32 (of_z w32 p.gamma1))) g.row.L c.in-Some.parts.1 (rw M (mask-size p.gamma1 some.mask).1) c.in-Some.ensures.response in
-    (search rules, (search rules, (search rules, (search rules, (c.requires.sizes.0, (c.requires.sizes.1, (c.requires.sizes.2, (z, c.in-Some.ensures.hint))))))))
+    let known : IsKnown p = search rules in
+    let some = limits p known in
+    let rows : g.row.K ≤ 8 = rw c.requires.sizes.0 some.few_rows in
+    let columns : g.row.L ≤ 7 = rw c.requires.sizes.1 some.few_columns in
+    let matrix = some_of_ok (sampled_matrix g.G.Xof.front c.pk.inside.rho g.row.K g.row.L) c.in-Ok.a_hat c.in-Ok.ensures in
+    let small = matrix-within g.G.Xof.front c.pk.inside.rho g.row.K g.row.L c.in-Ok.a_hat matrix in
+    let z = short-response p g.row.L c.args.sig.now c.in-Some.parts.0 c.in-Some.parts.1 c.in-Some.parts.2 known c.requires.sizes.1 c.in-Some.ensures in
+    let h = short-hint p g.row.K c.args.sig.now c.in-Some.parts.0 c.in-Some.parts.1 c.in-Some.parts.2 c.requires.sizes.0 c.in-Some.ensures in
+    (matrix_room g.row.K g.row.L rows columns, (omega (arith, columns), (omega (arith, rows), (search rules, (omega (arith, columns),
+    (c.requires.sizes.0, (c.requires.sizes.1, (c.requires.sizes.2, (small, (c.pk.invariant, (z, h)))))))))))
 
-pub returns-in-None : goal.returns-in-None
-returns-in-None g c =
+pub returns-in-Ok : goal.returns-in-Ok
+returns-in-Ok g c =
     let p = c.args.p.now in
-    let M : to_z w32 (of_z w32 p.gamma1) ≡ p.gamma1 = search rules in
-    let O : to_z w32 (of_z w32 p.omega) ≡ p.omega = search rules in
-    let none : (c_tilde : List ℕ) (z h : List R) → IsSignature (nat_abs p.gamma1) (nat_abs p.omega) p.k p.l (commitment_length (set_of p)) c.args.sig.now c_tilde z h → ⊥ =
-    rw (M, O, c.requires.sizes.0, c.requires.sizes.1, c.requires.sizes.2) at c.in-None.ensures in (
-      λ t. absurd (true≢false (sym t)),
-      λ v. absurd (no_parts (set_of p) g.H.Xof.front g.G.Xof.front c.args.pk.now c.args.mu.now c.args.sig.now none v),
-    )
-
-pub returns-then-has_norm_below : goal.returns-then-has_norm_below
-returns-then-has_norm_below g c =
-    let p = c.args.p.now in
-    let M : to_z w32 (of_z w32 p.gamma1) ≡ p.gamma1 = search rules in
-    let O : to_z w32 (of_z w32 p.omega) ≡ p.omega = search rules in
-    let some = limits p (search rules) in
-    let sizes = mask-size p.gamma1 some.mask in
-    let parts : IsSignature (nat_abs p.gamma1) (nat_abs p.omega) p.k p.l (commitment_length (set_of p)) c.args.sig.now c.in-Some.parts.0 c.in-Some.parts.1 c.in-Some.parts.2 =
-    rw (M, O, c.requires.sizes.0, c.requires.sizes.1, c.requires.sizes.2) at c.in-Some.ensures in
-    let bound = to_z-of_z w32 c.z_bound.result (search rules) ∙ c.z_bound.ensures in
-    let norm : vector_norm c.in-Some.parts.1 < nat_abs p.gamma1 - nat_abs p.beta = ltb-true _ _ (sym (rw bound at c.has_norm_below.ensures) ∙ c.if-has_norm_below.true) in (
-      λ t. verifies-in (set_of p) g.H.Xof.front g.G.Xof.front c.args.pk.now c.args.mu.now c.args.sig.now c.in-Some.parts.0 c.in-Some.parts.1 c.in-Some.parts.2 parts norm (c.accepts.ensures.0 t),
-      λ v. c.accepts.ensures.1 (verifies-out (set_of p) g.H.Xof.front g.G.Xof.front c.args.pk.now c.args.mu.now c.args.sig.now c.in-Some.parts.0 c.in-Some.parts.1 c.in-Some.parts.2
-          sizes.0 (omega (arith, sizes.1)) parts v).1,
-    )
-
-pub returns-else-has_norm_below : goal.returns-else-has_norm_below
-returns-else-has_norm_below g c =
-    let p = c.args.p.now in
-    let M : to_z w32 (of_z w32 p.gamma1) ≡ p.gamma1 = search rules in
-    let O : to_z w32 (of_z w32 p.omega) ≡ p.omega = search rules in
-    let some = limits p (search rules) in
-    let sizes = mask-size p.gamma1 some.mask in
-    let parts : IsSignature (nat_abs p.gamma1) (nat_abs p.omega) p.k p.l (commitment_length (set_of p)) c.args.sig.now c.in-Some.parts.0 c.in-Some.parts.1 c.in-Some.parts.2 =
-    rw (M, O, c.requires.sizes.0, c.requires.sizes.1, c.requires.sizes.2) at c.in-Some.ensures in
-    let bound = to_z-of_z w32 c.z_bound.result (search rules) ∙ c.z_bound.ensures in
-    let test = rw bound at c.has_norm_below.ensures in (
-      λ t. absurd (true≢false (sym t ∙ c.if-has_norm_below.false)),
-      λ v. test ∙ lt-ltb _ _ (verifies-out (set_of p) g.H.Xof.front g.G.Xof.front c.args.pk.now c.args.mu.now c.args.sig.now c.in-Some.parts.0 c.in-Some.parts.1 c.in-Some.parts.2
-          sizes.0 (omega (arith, sizes.1)) parts v).0,
-    )
+    let inside = some_of_ok (sampled_matrix g.G.Xof.front c.pk.inside.rho g.row.K g.row.L) c.in-Ok.a_hat c.in-Ok.ensures in
+    let rho : c.pk.inside.rho ≡ c.args.pk.now.rho = ap (λ (k : PublicParts). k.rho) c.pk.view_is in
+    let t1 : c.pk.inside.t1 ≡ c.args.pk.now.t1 = ap (λ (k : PublicParts). k.t1) c.pk.view_is in
+    let matrix : sampled_matrix g.G.Xof.front c.args.pk.now.rho p.k p.l ≡ Some c.in-Ok.a_hat = rw (rho, c.requires.sizes.0, c.requires.sizes.1) at inside in
+    verifies-with (set_of p) g.H.Xof.front g.G.Xof.front c.args.pk.now c.args.mu.now c.args.sig.now c.in-Ok.a_hat c.accepts.result matrix
+    (accepts-by_parts p g.H.Xof.front c.in-Ok.a_hat c.args.pk.now.t1 c.args.mu.now c.args.sig.now c.in-Some.parts.0 c.in-Some.parts.1 c.in-Some.parts.2 c.accepts.result
+    (search rules) c.in-Some.ensures (rw t1 at c.accepts.ensures))

@@ -1,0 +1,47 @@
+//! Keys that are prepared once for many calls: a key with the matrix of its seed.
+#![tactic(auto)]
+
+use super::{PrivateKey, PublicKey, T};
+use std::marker::Model;
+
+/// A private key of a set with a matrix of `K` rows and `L` columns, over the stream `H`, with its matrix.
+///
+/// Contracts see it as the private key's parts and the matrix, whose entries are the transforms of the plain
+/// matrix.
+#[derive(Drop)]
+pub struct PreparedPrivateKey<const K: usize, const L: usize, H> {
+    pub(crate) key: PrivateKey<K, L, H, ()>,
+    pub(crate) a_hat: [[T; L]; K],
+}
+
+impl<const K: usize, const L: usize, H> Model for PreparedPrivateKey<K, L, H> {
+    ghost use Rattle.fips204_base.specs.Polynomials.{IsReducedMatrix};
+    ghost use Rattle.fips204.specs.Prepared.{PreparedPrivate};
+
+    ghost Value = { PreparedPrivate };
+
+    ghost view = { λ sk. record { key = sk.key; matrix = sk.a_hat } };
+
+    ghost invariant = { λ sk. IsReducedMatrix sk.a_hat };
+}
+
+/// A public key of a set with a matrix of `K` rows and `L` columns, over the stream `H`, with its matrix.
+///
+/// Contracts see it as the public key's parts and the matrix, whose entries are the transforms of the plain
+/// matrix.
+#[derive(Drop)]
+pub struct PreparedPublicKey<const K: usize, const L: usize, H> {
+    pub(crate) key: PublicKey<K, L, H, ()>,
+    pub(crate) a_hat: [[T; L]; K],
+}
+
+impl<const K: usize, const L: usize, H> Model for PreparedPublicKey<K, L, H> {
+    ghost use Rattle.fips204_base.specs.Polynomials.{IsReducedMatrix};
+    ghost use Rattle.fips204.specs.Prepared.{PreparedPublic};
+
+    ghost Value = { PreparedPublic };
+
+    ghost view = { λ pk. record { key = pk.key; matrix = pk.a_hat } };
+
+    ghost invariant = { λ pk. IsReducedMatrix pk.a_hat };
+}
