@@ -166,6 +166,11 @@ accepts p H a sk mu signature numbers parts low whole was =
       commitment = ap (commitment p H mu) (sym (hinted_is_high p a sk was.y (H c_tilde) g.c numbers parts.second low g.there g.tests));
     }
 
+-- what signing gives with the matrix and a private key that is whole with it
+pub accepts_signed_with : (p : ParameterSet) (H : List ℕ → List ℕ) (a : List (List T)) (sk : PrivateParts) (mu rnd signature : List ℕ) → IsTrue (is_parameter_set p) → ArePrivateParts p.k p.l sk
+    → sk.t0 ≡ low_part p a sk.s1 sk.s2 → ((x : List ℕ) → 4096 ≤ length (H x)) → sign_with p H a sk mu rnd ≡ Ok signature → Accepts p H a (high_part p a sk.s1 sk.s2) mu signature
+accepts_signed_with p H a sk mu rnd signature row parts low law made = accepts p H a sk mu signature (set_numbers p row) parts low law (sign_with_signed p H a sk mu rnd signature made)
+
 -- what signing gives with a whole private key, the public key accepts whose high part is that of A s1 + s2
 pub completeness : (p : ParameterSet) (H G : List ℕ → List ℕ) (sk : PrivateParts) (mu rnd signature : List ℕ) → IsTrue (is_parameter_set p) → ArePrivateParts p.k p.l sk → (whole : IsWhole p G sk)
     → ((x : List ℕ) → 4096 ≤ length (H x)) → sign p H G sk mu rnd ≡ Ok signature

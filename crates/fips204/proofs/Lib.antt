@@ -3,6 +3,7 @@ mod Ranges
 mod KeyGeneration
 mod WholeKeys
 mod SeedKeys
+mod Prepared
 mod RejectionChecks
 mod ChallengeProducts
 mod KeptHints

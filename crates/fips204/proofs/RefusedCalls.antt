@@ -9,6 +9,7 @@ use Rattle.fips204.specs.Keys.{PublicParts}
 use Rattle.fips204.specs.Framing.{framed_digest, message_hash}
 use Rattle.fips204.specs.PreHash.{pre_hash_fault}
 use Rattle.fips204.specs.Acceptance.{Verifies}
+use Rattle.fips204.specs.Prepared.{PreparedPublic, AcceptsHash, AcceptsDigest}
 use Rattle.fips204.specs.Refusals.{refused_or, digest_fault, VerifiesDigest}
 
 -- two values are the same where the options that hold them are
@@ -31,17 +32,31 @@ short_context context fault later e =
     let both = passed (nat_lt 255 (length context)) fault later e in
     (ltb-false 255 (length context) both.0, both.1)
 
--- a verdict over the hash that a digest was given is the verdict of the whole call
+-- what the hash that a digest was given says of the call
+pub given_digest : (H : List ℕ → List ℕ) (digest context oid tr own mu : List ℕ) → tr ≡ own → Ok mu ≡ refused_or (digest_fault context oid digest) (Ok (message_hash H tr (framed_digest context oid digest)))
+    → (length context ≤ 255) × (pre_hash_fault digest oid ≡ None) × (mu ≡ message_hash H own (framed_digest context oid digest))
+given_digest H digest context oid tr own mu same e =
+    let hash = message_hash H tr (framed_digest context oid digest) in
+    let made = not_refused (digest_fault context oid digest) (Ok hash) mu (sym e) in
+    let none = short_context context HashCtx (pre_hash_fault digest oid) made.0 in
+    let is : hash ≡ mu = let answer = made.1 in cc in
+    (none.0, none.1, sym is ∙ ap (λ t. message_hash H t (framed_digest context oid digest)) same)
+
+-- a verdict over the hash that a digest was given is the verdict of the whole call, of a plain key and of a prepared one
 pub verified_digest : (p : ParameterSet) (H G : List ℕ → List ℕ) (pk : PublicParts) (digest signature context oid tr mu : List ℕ) (r : Bool) → tr ≡ pk.tr
     → Ok mu ≡ refused_or (digest_fault context oid digest) (Ok (message_hash H tr (framed_digest context oid digest)))
     → IsTrue r ↔ Verifies p H G pk mu signature → IsTrue r ↔ VerifiesDigest p H G pk digest signature context oid
 verified_digest p H G pk digest signature context oid tr mu r same e verdict =
-    let fault = digest_fault context oid digest in
-    let hash = message_hash H tr (framed_digest context oid digest) in
-    let made = not_refused fault (Ok hash) mu (sym e) in
-    let none = short_context context HashCtx (pre_hash_fault digest oid) made.0 in
-    let own : hash ≡ mu = let same = made.1 in cc in
-    let is : mu ≡ message_hash H pk.tr (framed_digest context oid digest) = sym own ∙ ap (λ t. message_hash H t (framed_digest context oid digest)) same in (
-      λ t. record { short = none.0; whole = none.1; verified = subst (λ m. Verifies p H G pk m signature) is (verdict.0 t) },
-      λ v. verdict.1 (subst (λ m. Verifies p H G pk m signature) (sym is) v.verified),
+    let given = given_digest H digest context oid tr pk.tr mu same e in (
+      λ t. record { short = given.0; whole = given.1; verified = subst (λ m. Verifies p H G pk m signature) given.2 (verdict.0 t) },
+      λ v. verdict.1 (subst (λ m. Verifies p H G pk m signature) (sym given.2) v.verified),
+    )
+
+pub accepted_digest : (p : ParameterSet) (H : List ℕ → List ℕ) (pk : PreparedPublic) (digest signature context oid tr mu : List ℕ) (r : Bool) → tr ≡ pk.key.tr
+    → Ok mu ≡ refused_or (digest_fault context oid digest) (Ok (message_hash H tr (framed_digest context oid digest)))
+    → IsTrue r ↔ AcceptsHash p H pk mu signature → IsTrue r ↔ AcceptsDigest p H pk digest signature context oid
+accepted_digest p H pk digest signature context oid tr mu r same e verdict =
+    let given = given_digest H digest context oid tr pk.key.tr mu same e in (
+      λ t. record { short = given.0; whole = given.1; accepted = subst (λ m. AcceptsHash p H pk m signature) given.2 (verdict.0 t) },
+      λ v. verdict.1 (subst (λ m. AcceptsHash p H pk m signature) (sym given.2) v.accepted),
     )

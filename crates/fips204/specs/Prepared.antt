@@ -1,5 +1,5 @@
 -- Keys that are prepared once: a key with the matrix of its seed, and whole calls with the kept matrix (FIPS 204, Algorithms 2 to 8).
-use Rattle.std.specs.Prelude.{◌≡◌, ◌≤◌, ◌↔◌, ℕ, List, length, None, Result, Ok, ok_or, option_map}
+use Rattle.std.specs.Prelude.{◌≡◌, ◌≤◌, ◌<◌, ◌↔◌, ℕ, List, [], length, slice_index_or, Bool, false, IsTrue, None, Result, Ok, Err, ok_or, option_map}
 use Rattle.fips204_base.specs.declared.fault.Fault.{Fault}
 use Rattle.fips204_base.specs.declared.fault.Fault.TheVariants.{SamplingLimit}
 use Rattle.fips204_base.specs.declared.types.T.{T}
@@ -53,6 +53,18 @@ pub record AcceptsDigest (p : ParameterSet) (H : List ℕ → List ℕ) (pk : Pr
   pub short : length context ≤ 255
   pub whole : pre_hash_fault digest oid ≡ None
   pub accepted : AcceptsHash p H pk (message_hash H pk.key.tr (framed_digest context oid digest)) signature
+
+-- each message is signed under the context, with its own random bytes
+abbrev pub SignsEach : ParameterSet → (List ℕ → List ℕ) → PreparedPrivate → List (List ℕ) → List (List ℕ) → List ℕ → List (Result (List ℕ) Fault) → Type 0
+SignsEach p H sk seeds messages context answers = (length answers ≡ length messages)
+    × ((i : ℕ) → i < length messages
+    → slice_index_or answers i (Err SamplingLimit) ≡ sign_message_prepared p H sk (slice_index_or seeds i []) (slice_index_or messages i []) context)
+
+-- each answer is whether the signature of its message is accepted under the context
+abbrev pub VerifiesEach : ParameterSet → (List ℕ → List ℕ) → PreparedPublic → List (List ℕ) → List (List ℕ) → List ℕ → List Bool → Type 0
+VerifiesEach p H pk messages signatures context answers = (length answers ≡ length messages)
+    × ((i : ℕ) → i < length messages
+    → IsTrue (slice_index_or answers i false) ↔ AcceptsMessage p H pk (slice_index_or messages i []) (slice_index_or signatures i []) context)
 
 -- a prepared private key is whole where t0 is the low part of A s1 + s2; the public key that belongs to it has the high part
 abbrev pub IsWholePrepared : ParameterSet → PreparedPrivate → Type 0

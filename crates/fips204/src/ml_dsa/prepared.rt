@@ -1,9 +1,9 @@
 //! Whole calls of signing and verifying with keys that were prepared once (FIPS 204, Algorithms 2 to 5).
 #![tactic(auto)]
 
-ghost use Rattle.std.specs.Prelude.{◌≡◌, ◌↔◌, ◌<◌, ℕ, length, IsTrue, slice_index};
+ghost use Rattle.std.specs.Prelude.{◌≡◌, ◌↔◌, length, map, IsTrue};
 ghost use Rattle.fips204.specs.Prepared.{prepared_private, prepared_public, sign_hash_prepared, sign_message_prepared, sign_digest_prepared, AcceptsMessage, AcceptsDigest};
-ghost use Rattle.fips204.specs.Prepared.{AcceptsHash, AcceptedIfWholePrepared};
+ghost use Rattle.fips204.specs.Prepared.{AcceptsHash, AcceptedIfWholePrepared, SignsEach, VerifiesEach};
 ghost use Rattle.fips204.specs.Sets.{HasSizes, set_of};
 
 use super::calls::{digest_mu, message_mu};
@@ -117,9 +117,7 @@ impl<const K: usize, const L: usize, H: Xof> PreparedPrivateKey<K, L, H> {
         requires sizes { HasSizes p.now K L LAMBDA_DIV4 SIG_LEN }
         requires seeds { length seeds.now ≡ length messages.now }
         requires room { length out.old ≡ length messages.now }
-        ensures size { length out.new ≡ length messages.now }
-        ensures each { (i : ℕ) → i < length messages.now
-            → slice_index out.new i ≡ sign_message_prepared (set_of p.now) H.front self.now (slice_index seeds.now i) (slice_index messages.now i).now ctx.now }
+        ensures { SignsEach (set_of p.now) H.front self.now seeds.now (map (λ m. m.now) messages.now) ctx.now out.new }
     {
         for i in 0..messages.len() {
             out[i] = self.sign_message::<LAMBDA_DIV4, SIG_LEN>(p, &seeds[i], messages[i], ctx);
@@ -175,9 +173,7 @@ impl<const K: usize, const L: usize, H: Xof> PreparedPublicKey<K, L, H> {
         requires sizes { HasSizes p.now K L LAMBDA_DIV4 SIG_LEN }
         requires signatures { length signatures.now ≡ length messages.now }
         requires room { length out.old ≡ length messages.now }
-        ensures size { length out.new ≡ length messages.now }
-        ensures each { (i : ℕ) → i < length messages.now
-            → IsTrue (slice_index out.new i) ↔ AcceptsMessage (set_of p.now) H.front self.now (slice_index messages.now i).now (slice_index signatures.now i) ctx.now }
+        ensures { VerifiesEach (set_of p.now) H.front self.now (map (λ m. m.now) messages.now) signatures.now ctx.now out.new }
     {
         for i in 0..messages.len() {
             out[i] = self.verify_message::<LAMBDA_DIV4, SIG_LEN>(p, messages[i], &signatures[i], ctx);

@@ -16,13 +16,14 @@ pub struct PreparedPrivateKey<const K: usize, const L: usize, H> {
 
 impl<const K: usize, const L: usize, H> Model for PreparedPrivateKey<K, L, H> {
     ghost use Rattle.fips204_base.specs.Polynomials.{IsReducedMatrix};
+    ghost use Rattle.fips204.specs.Keys.{ArePrivateParts};
     ghost use Rattle.fips204.specs.Prepared.{PreparedPrivate};
 
     ghost Value = { PreparedPrivate };
 
     ghost view = { λ sk. record { key = sk.key; matrix = sk.a_hat } };
 
-    ghost invariant = { λ sk. IsReducedMatrix sk.a_hat };
+    ghost invariant = { λ sk. IsReducedMatrix sk.a_hat × ArePrivateParts K L sk.key };
 }
 
 /// A public key of a set with a matrix of `K` rows and `L` columns, over the stream `H`, with its matrix.
