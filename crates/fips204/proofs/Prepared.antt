@@ -1,6 +1,8 @@
 -- Keys with their matrix: what is signed with one is accepted, and each answers as its plain key.
-use Rattle.std.proofs.Common.{◌≡◌, ◌≤◌, ◌<◌, ◌+◌, ℕ, List, [], IsTrue, Bool, refl, sym, ap, subst, ◌∙◌, length, get_or, Result, Ok, Err, Some, None, arith}
+use Rattle.std.proofs.Common.{◌≡◌, ◌≤◌, ◌<◌, ◌+◌, ℕ, List, [], IsTrue, Bool, refl, sym, ap, subst, ◌∙◌, length, get_or, set, inl, inr, Result, Ok, Err, Some, None, arith}
 use Rattle.std.specs.Prelude.{◌↔◌, ok_or, option_map}
+use Rattle.std.proofs.lemmas.List.{get_or-set_same, get_or-set_other}
+use Rattle.std.proofs.lemmas.Bool.{cases_lt}
 use Rattle.std.specs.declared.option.Option.{Option}
 use Rattle.fips204_base.specs.declared.fault.Fault.{Fault}
 use Rattle.fips204_base.specs.declared.fault.Fault.TheVariants.{SignCtx, HashCtx, SamplingLimit}
@@ -116,3 +118,15 @@ prepared_answers_as_plain p H G = record {
         λ v. record { short = v.short; whole = v.whole; accepted = subst (λ mu. AcceptsHash p H prepared mu signature) tr (both.1 v.verified) },
       );
 }
+
+-- ---- one answer a message
+
+-- what holds of the answers before place i, and of the one that is written there, holds of those up to it
+pub each_more : {A : Type 0} (P : ℕ → A → Type 0) (answers : List A) (i : ℕ) (x d : A) → i < length answers → ((k : ℕ) → k < i → P k (get_or answers k d)) → P i x
+    → (k : ℕ) → k < i + 1 → P k (get_or (set answers i x) k d)
+each_more P answers i x d room before now k h = elim (cases_lt k i) [
+  | inl below ↦ subst (P k) (sym (get_or-set_other answers i k x d (λ e. absurd (omega (arith, below, e))))) (before k below)
+  | inr last ↦
+      let same : i ≡ k = omega (arith, h, last) in
+      subst (λ j. P j (get_or (set answers i x) j d)) same (subst (P i) (sym (get_or-set_same answers i x d room)) now)
+]
