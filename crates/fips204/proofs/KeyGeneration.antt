@@ -103,7 +103,8 @@ pub record AreSeeds (p : ParameterSet) (H : List ℕ → List ℕ) (xi rho rho' 
   pub masks : key ≡ take 32 (drop 96 (seeds p H xi))
 
 -- n items of the first 128, from a place on
-part_of_front : (at n : ℕ) (front bytes part : List ℕ) → at + n ≤ 128 → bytes ≡ take 128 front → part ≡ take n (drop at bytes) → part ≡ take n (drop at front)
+part_of_front : (at n : ℕ) (front bytes part : List ℕ) → at + n ≤ 128 → bytes ≡ take 128 front → part ≡ take n (drop at bytes)
+    → part ≡ take n (drop at front)
 part_of_front at n front bytes part room first here =
     let m : 128 ≡ at + (n + (128 - at - n)) = omega (arith, room) in
     here ∙ ap (λ l. take n (drop at l)) (first ∙ ap (λ k. take k front) m) ∙ ap (take n) (drop-take at (n + (128 - at - n)) front)

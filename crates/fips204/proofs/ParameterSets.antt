@@ -170,7 +170,8 @@ signed : (x a b : ℕ) → (x ≡ a) ⊎ (x ≡ b) → (pos x ≡ pos a) ⊎ (po
 signed x a b (inl e) = inl (ap pos e)
 signed x a b (inr e) = inr (ap pos e)
 
-limits_of : (p : Params) (row : ParameterSet) → Numbers row p.tau p.lambda p.gamma1 p.gamma2 p.k p.l p.eta p.beta p.omega → AreSetNumbers row → Limits p
+limits_of : (p : Params) (row : ParameterSet) → Numbers row p.tau p.lambda p.gamma1 p.gamma2 p.k p.l p.eta p.beta p.omega
+    → AreSetNumbers row → Limits p
 limits_of p row n s = record {
   mask = rw n.gamma1_is (signed row.gamma1 131072 524288 s.gamma1);
   rounding = rw n.gamma2_is (signed row.gamma2 95232 261888 s.gamma2);

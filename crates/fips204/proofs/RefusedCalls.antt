@@ -17,7 +17,8 @@ pub same_some : {A : Type 0} (x y : A) → Some x ≡ Some y → x ≡ y
 same_some x y e = cc
 
 -- an answer comes where no refusal stands first
-pub not_refused : {A : Type 0} (fault : Option Fault) (answer : Result A Fault) (x : A) → refused_or fault answer ≡ Ok x → (fault ≡ None) × (answer ≡ Ok x)
+pub not_refused : {A : Type 0} (fault : Option Fault) (answer : Result A Fault) (x : A) → refused_or fault answer ≡ Ok x
+    → (fault ≡ None) × (answer ≡ Ok x)
 not_refused None answer x e = (refl, e)
 not_refused (Some fault) answer x e = absurd cc
 
@@ -27,7 +28,8 @@ passed true fault later e = absurd (cc)
 passed false fault later e = (refl, e)
 
 -- a context that isn't refused is short, and what is asked after it isn't refused either
-pub short_context : (context : List ℕ) (fault : Fault) (later : Option Fault) → (if nat_lt 255 (length context) then Some fault else later) ≡ None → (length context ≤ 255) × (later ≡ None)
+pub short_context : (context : List ℕ) (fault : Fault) (later : Option Fault) → (if nat_lt 255 (length context) then Some fault else later) ≡ None
+    → (length context ≤ 255) × (later ≡ None)
 short_context context fault later e =
     let both = passed (nat_lt 255 (length context)) fault later e in
     (ltb-false 255 (length context) both.0, both.1)

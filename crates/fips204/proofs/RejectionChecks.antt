@@ -199,7 +199,8 @@ within_range g (pos n) h = (omega (arith, ints, h), omega (arith, ints, h))
 within_range g (negsuc n) h = (omega (arith, ints, h), omega (arith, ints, h))
 
 -- coefficients of a centred vector whose norm is below a bound
-pub centred-range : (g b k : ℕ) (f : ℕ → ℕ → ℤ) → b ≤ g → vector_norm (vector_of k (λ r n. centred (f r n))) < b → IsVector k (g - 1) g (vector_of k (λ r n. centred (f r n)))
+pub centred-range : (g b k : ℕ) (f : ℕ → ℕ → ℤ) → b ≤ g → vector_norm (vector_of k (λ r n. centred (f r n))) < b
+    → IsVector k (g - 1) g (vector_of k (λ r n. centred (f r n)))
 centred-range g b k f most small = vector_of-range k (g - 1) g (λ r n. centred (f r n)) (λ r n h l.
     let place = norm_of_place k (λ r n. centred (f r n)) r n h l in
     let same = ap nat_abs (centred-again (f r n)) in
@@ -217,7 +218,8 @@ bit_range true = (omega (arith, ints), omega (arith, ints))
 bit_range false = (omega (arith, ints), omega (arith, ints))
 
 pub hint-range : (k g : ℕ) (v t : ℕ → ℕ → ℕ) → IsVector k 0 1 (vector_of k (λ r n. hint_bit g (v r n) (t r n)))
-hint-range k g v t = vector_of-range k 0 1 (λ r n. hint_bit g (v r n) (t r n)) (λ r n h l. bit_range (make_hint g ((0 + 8380416 * t r n) % 8380417) ((v r n + t r n) % 8380417)))
+hint-range k g v t = vector_of-range k 0 1 (λ r n. hint_bit g (v r n) (t r n)) (λ r n h l.
+    bit_range (make_hint g ((0 + 8380416 * t r n) % 8380417) ((v r n + t r n) % 8380417)))
 
 -- how long a signature is
 pub signature_size : (p : Params) (k l n size : ℕ) → (p.gamma1 ≡ pos 131072) ⊎ (p.gamma1 ≡ pos 524288) → k ≡ p.k → l ≡ p.l → n ≡ commitment_length (set_of p) → size ≡ signature_length (set_of p)

@@ -58,9 +58,7 @@ impl CryptoRngCore for DummyRng {
 
 /// 32 bytes that the generator is asked for once, or the refusal that stands for its own.
 pub(crate) fn draw<R: CryptoRngCore>(rng: &mut R, refusal: Fault) -> Result<[u8; 32], Fault>
-    ensures { MatchResult result
-        (λ bytes. R.gives rng.old 32 bytes rng.new × (length bytes ≡ 32))
-        (λ fault. (fault ≡ refusal) × R.refuses rng.old 32 rng.new) }
+    ensures { Draws R.gives R.refuses rng.old rng.new refusal Ok result }
 {
     let mut bytes = [0u8; 32];
     match rng.try_fill_bytes(&mut bytes) {

@@ -1,13 +1,10 @@
 //! Making keys (FIPS 204, Algorithms 1 and 6).
 #![tactic(auto)]
 
-ghost use Rattle.std.specs.Prelude.{◌≡◌, ◌≤◌, ◌<◌, ◌+◌, ◌*◌, ◌%◌, ℕ, pos, nat_abs, take, drop};
-ghost use Rattle.std.specs.List.{All};
-ghost use Rattle.fips204_base.specs.Packing.{InRange};
+ghost use Rattle.std.specs.Prelude.{◌≡◌, ◌≤◌, ◌<◌, ◌+◌, ◌*◌, ◌%◌, pos, nat_abs, take, drop};
 ghost use Rattle.fips204_base.specs.Polynomials.{AreResidues, IsReducedVector, IsReducedMatrix};
-ghost use Rattle.fips204_base.specs.Products.{plus};
 ghost use Rattle.fips204_base.specs.Residues.{residue};
-ghost use Rattle.fips204_base.specs.Vectors.{vector_coefficients, vector_of, matrix_product};
+ghost use Rattle.fips204_base.specs.Vectors.{vector_of};
 ghost use Rattle.fips204.specs.KeyGeneration.{key_vector};
 ghost use Rattle.fips204.specs.ParameterSets.{public_key_length};
 ghost use Rattle.fips204.specs.Refusals.{generated, derived, Draws};

@@ -1,11 +1,10 @@
 //! The rejection checks of an attempt of signing (FIPS 204, Algorithm 7, lines 18 to 32).
 #![tactic(auto)]
 
-ghost use Rattle.std.specs.Prelude.{◌≡◌, ◌⊎◌, ◌<◌, ◌≤◌, ◌+◌, ◌*◌, ◌%◌, ℕ, pos, nat_abs, nat_lt, ◌≤ℤ◌, Ok, Some, length, if◌then◌else◌};
+ghost use Rattle.std.specs.Prelude.{◌≡◌, ◌⊎◌, ◌<◌, ◌≤◌, ◌+◌, ◌%◌, ℕ, pos, nat_abs, nat_lt, ◌≤ℤ◌, Ok, Some, length};
 ghost use Rattle.fips204_base.specs.CentredValues.{centred, vector_norm};
-ghost use Rattle.fips204_base.specs.HintSpelling.{all_ones, ones};
+ghost use Rattle.fips204_base.specs.HintSpelling.{all_ones};
 ghost use Rattle.fips204_base.specs.Polynomials.{IsReduced, IsReducedVector, VectorWithin};
-ghost use Rattle.fips204_base.specs.Products.{plus, minus};
 ghost use Rattle.fips204_base.specs.Residues.{residue};
 ghost use Rattle.fips204_base.specs.Rounding.{low_bits};
 ghost use Rattle.fips204_base.specs.Vectors.{vector_coefficients, vector_of};

@@ -61,7 +61,9 @@ impl<const K: usize, const L: usize, H: Xof, G> PrivateKey<K, L, H, G> {
         for n in 0..MAX_SIGN_ATTEMPTS {
             // kappa = n l
             let kappa = n * L as u16;
-            if let Some(signature) = self.attempt::<LAMBDA_DIV4, _>(p, a_hat, mu, &seed, kappa)? {
+            if let Some(signature) = self.attempt::<LAMBDA_DIV4, SIG_LEN>(
+                p, a_hat, mu, &seed, kappa,
+            )? {
                 return Ok(signature);
             }
         }

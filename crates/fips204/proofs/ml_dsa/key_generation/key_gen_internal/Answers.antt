@@ -15,8 +15,11 @@ use Rattle.fips204.proofs.ml_dsa.key_generation.key_gen_internal.Given.{Over}
 use Rattle.fips204.proofs.ml_dsa.key_generation.key_gen_internal.Goals.{After-part-key, After-power2round-t1}
 use Rattle.fips204.proofs.ml_dsa.key_generation.key_gen_internal.Goals as goal
 
-seeds-here : (g : Over) (c : After-part-key g) → AreSeeds (set_of c.args.p.now) g.H.Xof.front c.args.xi.now c.part-rho.result c.part-rho_prime.result c.part-key.result
-seeds-here g c = are_seeds (set_of c.args.p.now) g.H.Xof.front c.args.xi.now c.hash-seeds.result _ _ _ (search rules) c.part-rho.ensures c.part-rho_prime.ensures c.part-key.ensures
+seeds-here : (g : Over) (c : After-part-key g)
+    → AreSeeds (set_of c.args.p.now) g.H.Xof.front c.args.xi.now c.part-rho.result c.part-rho_prime.result c.part-key.result
+seeds-here g c =
+    are_seeds (set_of c.args.p.now) g.H.Xof.front c.args.xi.now c.hash-seeds.result _ _ _ (search rules)
+    c.part-rho.ensures c.part-rho_prime.ensures c.part-key.ensures
 
 pub overflow_cast-p : goal.overflow_cast-p
 overflow_cast-p g c = omega (arith, (limits c.args.p.now (search rules)).few_rows)
