@@ -1,7 +1,7 @@
 //! Private keys as bytes.
 #![tactic(auto)]
 
-ghost use Rattle.std.specs.Prelude.{◌≡◌, ◌≤◌, ◌+◌, ◌*◌, ℕ, ℤ, List, pos, nat_abs, length, take, drop, MatchResult, ◌++◌, ◌-ℤ◌};
+ghost use Rattle.std.specs.Prelude.{◌≡◌, ◌≤◌, ◌+◌, ◌*◌, ℕ, List, pos, nat_abs, length, take, drop, MatchResult, ◌-ℤ◌};
 ghost use Rattle.fips204_base.specs.Coefficients.{IsEta};
 ghost use Rattle.fips204_base.specs.Encodings.{IsPrivateKey, private_key_bytes};
 ghost use Rattle.fips204_base.specs.Packing.{width};
