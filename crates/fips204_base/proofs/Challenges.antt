@@ -18,7 +18,6 @@ use Rattle.fips204_base.proofs.Vectors.{polynomial_of-at, polynomial_of-same}
 use Rattle.std.specs.List.{All}
 use Rattle.std.proofs.lemmas.List.Elements.{All-append, All-cons, All-map, All-nil, All-tail}
 use Rattle.std.proofs.Math.Seq.{take-add}
-use Rattle.std.proofs.lemmas.List.FromFn.{fill_by_all}
 
 -- One bit of bytes.
 

@@ -1,6 +1,5 @@
 -- Products in Montgomery form, and centring modulo q.
-use Rattle.std.proofs.Common.{◌≡◌, ℕ, zero, suc, ◌<◌, ◌*◌, ◌%◌, ℤ, pos, [], ◌∷◌, neg_ℤ, ◌+ℤ◌, ◌<ℤ◌, ◌≤ℤ◌, ◌≤◌, arith, ap, refl, negsuc}
-use Rattle.std.specs.Prelude.{nat_abs}
+use Rattle.std.proofs.Common.{◌≡◌, ℕ, zero, suc, ◌<◌, ◌*◌, ◌%◌, ℤ, pos, [], ◌∷◌, neg_ℤ, arith, ap, refl, negsuc}
 use Rattle.std.proofs.lemmas.Int.{ints}
 use Rattle.fips204_base.specs.Residues.{residue, IsCongruent}
 use Rattle.fips204_base.specs.Lanes.{lane}

@@ -1,8 +1,8 @@
-use Rattle.std.proofs.Common.{◌≡◌, ◌∙◌, ◌+◌, ◌++◌, ◌∷◌, [], ap, sym, refl, arith, rules, take, length-set, map, Some, None, Err}
+use Rattle.std.proofs.Common.{◌≡◌, ◌∙◌, refl, arith, rules, take, length-set, map, Some, None, Err}
 use Rattle.std.proofs.lemmas.List.{length-replicate, take_all}
 use Rattle.fips204_base.specs.declared.fault.Fault.TheVariants.{SamplingLimit}
 use Rattle.std.specs.List.{range_with_len}
-use Rattle.fips204_base.specs.MatrixEntry.{matrix_entry, sampled_entry, sampled_row, sampled_matrix}
+use Rattle.fips204_base.specs.MatrixEntry.{sampled_entry, sampled_row, sampled_matrix}
 use Rattle.fips204_base.specs.Sampling.{all_present}
 use Rattle.fips204_base.proofs.Sampled.{all_present-none, present_nil, present_next, some_of_ok, none_of_err}
 use Rattle.fips204_base.proofs.hashing.matrix.expand_a.Goals as goal
