@@ -24,8 +24,9 @@ pub trait BlockHash<const N: usize> {
 /// A reader of blocks: block `i` is the digest of a seed followed by `i` as four bytes, the lowest first. It
 /// holds one block, and makes the next one when a byte of it is asked for.
 ///
-/// For a stream over another digest, implement `BlockHash` for it, take this as the `Reader` of your `Xof`,
-/// and open it by `new` with `FRONT / N` blocks.
+/// For a stream of your own take this as the `Reader` of your `Xof`, and open it by `new` with `FRONT / N`
+/// blocks. `Sha256` and `Sha512` of the crate `sha2` are a `BlockHash`; implement it for another digest. The
+/// front is `counter_blocks`, and `length-counter_blocks` is its length.
 #[derive(Drop)]
 pub struct BlockReader<H: BlockHash<N>, const N: usize> {
     hash: PhantomData<H>,
