@@ -432,7 +432,8 @@ challenge-full tau n front c l m k =
     let all : take tau (picks (256 - tau) (take (length front / 4) bytes)) ≡ picked =
     picks-beyond tau (256 - tau) n (length front / 4) bytes m (omega (arith, size)) ∙ take_all tau picked (omega (arith, size)) in
     let t : nat_lt (length picked) tau ≡ false = le-ltb (length picked) tau (omega (arith, size)) in
-    rw (all, t) (ap Some (sym (polynomial_of-same (signed_sum (places (256 - tau) picked) (bits 8 (take 8 front))) record { 0 = c } k.whole k.sums)))
+    let whole = polynomial_of-same (signed_sum (places (256 - tau) picked) (bits 8 (take 8 front))) record { 0 = c } k.whole k.sums in
+    rw (all, t) (ap Some (sym whole))
 
 pub challenge-few : (tau i : ℕ) (front : List ℕ) (c : List ℤ) → tau ≤ 64 → i < 256
     → Placed (256 - tau) (bits 8 (take 8 front)) (picks (256 - tau) (take (length front / 4) (drop 8 front))) c i → challenge tau front ≡ None

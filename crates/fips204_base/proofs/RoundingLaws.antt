@@ -10,8 +10,16 @@ use Rattle.fips204_base.specs.Rounding.{high_bits, low_bits, high_values, use_hi
 use Rattle.fips204_base.proofs.Residues.{residue_below}
 use Rattle.fips204_base.proofs.Rounding.{decompose_sides, high_bits_below, above, not_above}
 
+-- gamma2 at the parameter sets
+abbrev IsGamma : ℕ → Type 0
+IsGamma g = (g ≡ 95232) ⊎ (g ≡ 261888)
+
+-- a residue at most n from 0, from above or from below
+abbrev IsNearZero : ℕ → ℕ → Type 0
+IsNearZero n z = (z ≤ n) ⊎ (8380417 ≤ z + n)
+
 -- where r + z has other high bits than r, they are one further on, round the end, or one further back
-high_bits-up : (g : ℕ) → (g ≡ 95232) ⊎ (g ≡ 261888) → (r z : ℕ) → r < 8380417 → z < 8380417 → (z ≤ g) ⊎ (8380417 ≤ z + g) → pos 0 <ℤ low_bits g r
+high_bits-up : (g : ℕ) → IsGamma g → (r z : ℕ) → r < 8380417 → z < 8380417 → IsNearZero g z → pos 0 <ℤ low_bits g r
     → high_bits g r ≢ high_bits g ((r + z) % 8380417) → (high_bits g r + 1) % high_values g ≡ high_bits g ((r + z) % 8380417)
 high_bits-up g (inl is) = rw is (λ r z below small near low differs.
     let s = (r + z) % 8380417 in
@@ -24,8 +32,9 @@ high_bits-up g (inr is) = rw is (λ r z below small near low differs.
     let s_fits = high_bits_below 261888 s (inr refl) (omega arith) in
     omega (arith, ints, decompose_sides 261888 r (omega arith), decompose_sides 261888 s (omega arith)))
 
-high_bits-down : (g : ℕ) → (g ≡ 95232) ⊎ (g ≡ 261888) → (r z : ℕ) → r < 8380417 → z < 8380417 → (z ≤ g) ⊎ (8380417 ≤ z + g) → low_bits g r ≤ℤ pos 0
-    → high_bits g r ≢ high_bits g ((r + z) % 8380417) → (high_bits g r + (high_values g - 1)) % high_values g ≡ high_bits g ((r + z) % 8380417)
+high_bits-down : (g : ℕ) → IsGamma g → (r z : ℕ) → r < 8380417 → z < 8380417 → IsNearZero g z → low_bits g r ≤ℤ pos 0
+    → high_bits g r ≢ high_bits g ((r + z) % 8380417)
+    → (high_bits g r + (high_values g - 1)) % high_values g ≡ high_bits g ((r + z) % 8380417)
 high_bits-down g (inl is) = rw is (λ r z below small near low differs.
     let s = (r + z) % 8380417 in
     let r_fits = high_bits_below 95232 r (inl refl) below in
@@ -38,7 +47,7 @@ high_bits-down g (inr is) = rw is (λ r z below small near low differs.
     omega (arith, ints, decompose_sides 261888 r (omega arith), decompose_sides 261888 s (omega arith)))
 
 -- a residue whose centred value is at most g in absolute value
-near_zero : (g z : ℕ) → z < 8380417 → nat_abs (centred_modulo 8380417 z) ≤ g → (z ≤ g) ⊎ (8380417 ≤ z + g)
+near_zero : (g z : ℕ) → z < 8380417 → nat_abs (centred_modulo 8380417 z) ≤ g → IsNearZero g z
 near_zero g z small near = elim (cases_lt 4190208 (z % 8380417)) [
   | inl far ↦
       let e = rw (lt-leb (z % 8380417) 4190208 far) at near in
@@ -48,7 +57,8 @@ near_zero g z small near = elim (cases_lt 4190208 (z % 8380417)) [
       inl (omega (arith, ints, e))
 ]
 
-hint_moves : (g z r : ℕ) → (g ≡ 95232) ⊎ (g ≡ 261888) → r < 8380417 → z < 8380417 → (z ≤ g) ⊎ (8380417 ≤ z + g) → use_hint g (make_hint g z r) r ≡ high_bits g ((r + z) % 8380417)
+hint_moves : (g z r : ℕ) → IsGamma g → r < 8380417 → z < 8380417 → IsNearZero g z
+    → use_hint g (make_hint g z r) r ≡ high_bits g ((r + z) % 8380417)
 unfolding use_hint
 hint_moves g z r set below small near = elim (cases_eq (high_bits g r) (high_bits g ((r + z) % 8380417))) [
   | inl same ↦ rw (eq-eqb (high_bits g r) (high_bits g ((r + z) % 8380417)) same) same
@@ -58,7 +68,8 @@ hint_moves g z r set below small near = elim (cases_eq (high_bits g r) (high_bit
       (λ down. rw (not_above (low_bits g r) down) (high_bits-down g set r z below small near down differs)))
 ]
 
-pub use_hint_of_make_hint : (g z r : ℕ) → (g ≡ 95232) ⊎ (g ≡ 261888) → r < 8380417 → z < 8380417 → nat_abs (centred_modulo 8380417 z) ≤ g → use_hint g (make_hint g z r) r ≡ high_bits g ((r + z) % 8380417)
+pub use_hint_of_make_hint : (g z r : ℕ) → IsGamma g → r < 8380417 → z < 8380417 → nat_abs (centred_modulo 8380417 z) ≤ g
+    → use_hint g (make_hint g z r) r ≡ high_bits g ((r + z) % 8380417)
 use_hint_of_make_hint g z r set below small near = hint_moves g z r set below small (near_zero g z small near)
 
 -- a number at most n from 0 or from q has a centred value of at most n
@@ -78,7 +89,7 @@ difference a b p q = elim (cases_lt a b) [
       rw e (inl (omega arith))
 ]
 
-far_none : (g : ℕ) → (g ≡ 95232) ⊎ (g ≡ 261888) → (r u x : ℕ) → r < 8380417 → u ≡ high_bits g r
+far_none : (g : ℕ) → IsGamma g → (r u x : ℕ) → r < 8380417 → u ≡ high_bits g r
     → (x + u * (2 * g) ≡ r) ⊎ (x + u * (2 * g) ≡ r + 8380417) → x < 8380417 → g < x → 8380417 ≤ x + g
 far_none g (inl is) = rw is (λ r u x below moved where_x small far.
     let fits = high_bits_below 95232 r (inl refl) below in
@@ -87,7 +98,7 @@ far_none g (inr is) = rw is (λ r u x below moved where_x small far.
     let fits = high_bits_below 261888 r (inr refl) below in
     omega (arith, ints, decompose_sides 261888 r (omega arith)))
 
-far_up : (g : ℕ) → (g ≡ 95232) ⊎ (g ≡ 261888) → (r u x : ℕ) → r < 8380417 → pos 0 <ℤ low_bits g r → u ≡ (high_bits g r + 1) % high_values g
+far_up : (g : ℕ) → IsGamma g → (r u x : ℕ) → r < 8380417 → pos 0 <ℤ low_bits g r → u ≡ (high_bits g r + 1) % high_values g
     → (x + u * (2 * g) ≡ r) ⊎ (x + u * (2 * g) ≡ r + 8380417) → x < 8380417 → 2 * g + 1 < x → 8380417 ≤ x + (2 * g + 1)
 far_up g (inl is) = rw is (λ r u x below low moved where_x small far.
     let fits = high_bits_below 95232 r (inl refl) below in
@@ -96,7 +107,8 @@ far_up g (inr is) = rw is (λ r u x below low moved where_x small far.
     let fits = high_bits_below 261888 r (inr refl) below in
     omega (arith, ints, decompose_sides 261888 r (omega arith)))
 
-far_down : (g : ℕ) → (g ≡ 95232) ⊎ (g ≡ 261888) → (r u x : ℕ) → r < 8380417 → low_bits g r ≤ℤ pos 0 → u ≡ (high_bits g r + (high_values g - 1)) % high_values g
+far_down : (g : ℕ) → IsGamma g → (r u x : ℕ) → r < 8380417 → low_bits g r ≤ℤ pos 0
+    → u ≡ (high_bits g r + (high_values g - 1)) % high_values g
     → (x + u * (2 * g) ≡ r) ⊎ (x + u * (2 * g) ≡ r + 8380417) → x < 8380417 → 2 * g + 1 < x → 8380417 ≤ x + (2 * g + 1)
 far_down g (inl is) = rw is (λ r u x below low moved where_x small far.
     let fits = high_bits_below 95232 r (inl refl) below in
@@ -125,17 +137,18 @@ moved_few g r true some few = by_lt_z (pos 0) (low_bits g r)
     (λ up. rw (above (low_bits g r) up) (mod_below (high_bits g r + 1) (high_values g) some))
     (λ down. rw (not_above (low_bits g r) down) (mod_below (high_bits g r + (high_values g - 1)) (high_values g) some))
 
-times_below : (g : ℕ) → (g ≡ 95232) ⊎ (g ≡ 261888) → (u : ℕ) → u < high_values g → u * (2 * g) < 8380417
+times_below : (g : ℕ) → IsGamma g → (u : ℕ) → u < high_values g → u * (2 * g) < 8380417
 times_below g (inl is) = rw is (λ u few. omega (arith, few))
 times_below g (inr is) = rw is (λ u few. omega (arith, few))
 
-moved_below : (g r : ℕ) (hint : Bool) → (g ≡ 95232) ⊎ (g ≡ 261888) → r < 8380417 → use_hint g hint r * (2 * g) < 8380417
+moved_below : (g r : ℕ) (hint : Bool) → IsGamma g → r < 8380417 → use_hint g hint r * (2 * g) < 8380417
 moved_below g r hint set below =
     let few = high_bits_below g r set below in
     times_below g set (use_hint g hint r) (moved_few g r hint (omega (arith, few)) few)
 
 -- r less its high bits, moved by no hint, times 2 gamma2 is at most gamma2 in size, and moved by a hint at most 2 gamma2 + 1
-pub use_hint_distance_none : (g r : ℕ) → (g ≡ 95232) ⊎ (g ≡ 261888) → r < 8380417 → nat_abs (centred_modulo 8380417 (residue (pos r -ℤ pos (use_hint g false r * (2 * g))))) ≤ g
+pub use_hint_distance_none : (g r : ℕ) → IsGamma g → r < 8380417
+    → nat_abs (centred_modulo 8380417 (residue (pos r -ℤ pos (use_hint g false r * (2 * g))))) ≤ g
 use_hint_distance_none g r set below =
     let u = use_hint g false r in
     let x = residue (pos r -ℤ pos (use_hint g false r * (2 * g))) in
@@ -143,7 +156,8 @@ use_hint_distance_none g r set below =
     let where_x = difference r (use_hint g false r * (2 * g)) below (moved_below g r false set below) in
     size_near x g small (omega (arith, set)) (far_none g set r u x below (use_hint-unmoved g r) where_x small)
 
-pub use_hint_distance_hint : (g r : ℕ) → (g ≡ 95232) ⊎ (g ≡ 261888) → r < 8380417 → nat_abs (centred_modulo 8380417 (residue (pos r -ℤ pos (use_hint g true r * (2 * g))))) ≤ 2 * g + 1
+pub use_hint_distance_hint : (g r : ℕ) → IsGamma g → r < 8380417
+    → nat_abs (centred_modulo 8380417 (residue (pos r -ℤ pos (use_hint g true r * (2 * g))))) ≤ 2 * g + 1
 use_hint_distance_hint g r set below =
     let u = use_hint g true r in
     let x = residue (pos r -ℤ pos (use_hint g true r * (2 * g))) in
@@ -154,7 +168,7 @@ use_hint_distance_hint g r set below =
     (λ up. far_up g set r u x below up (use_hint-moved_up g r up) where_x small)
     (λ down. far_down g set r u x below down (use_hint-moved_down g r down) where_x small))
 
-high_bits-stay : (g : ℕ) → (g ≡ 95232) ⊎ (g ≡ 261888) → (r s beta : ℕ) → r < 8380417 → s < 8380417 → (s ≤ beta) ⊎ (8380417 ≤ s + beta) → nat_abs (low_bits g r) + beta < g
+high_bits-stay : (g : ℕ) → IsGamma g → (r s beta : ℕ) → r < 8380417 → s < 8380417 → IsNearZero beta s → nat_abs (low_bits g r) + beta < g
     → high_bits g ((r + s) % 8380417) ≡ high_bits g r
 high_bits-stay g (inl is) = rw is (λ r s beta below small near room.
     let sum = (r + s) % 8380417 in
@@ -168,5 +182,6 @@ high_bits-stay g (inr is) = rw is (λ r s beta below small near room.
     omega (arith, ints, decompose_sides 261888 r (omega arith), decompose_sides 261888 sum (omega arith)))
 
 -- a sum with a small number keeps the high bits, where the low bits leave it room
-pub high_bits_stay : (g r s beta : ℕ) → (g ≡ 95232) ⊎ (g ≡ 261888) → r < 8380417 → s < 8380417 → nat_abs (centred_modulo 8380417 s) ≤ beta → nat_abs (low_bits g r) + beta < g → high_bits g ((r + s) % 8380417) ≡ high_bits g r
+pub high_bits_stay : (g r s beta : ℕ) → IsGamma g → r < 8380417 → s < 8380417 → nat_abs (centred_modulo 8380417 s) ≤ beta
+    → nat_abs (low_bits g r) + beta < g → high_bits g ((r + s) % 8380417) ≡ high_bits g r
 high_bits_stay g r s beta set below small near room = high_bits-stay g set r s beta below small (near_zero beta s small near) room

@@ -68,11 +68,14 @@ none_then None = refl
 none_then (Some x) = refl
 
 -- one of them is none
-pub all_present-none : {A : Type 0} (f : ℕ → Option A) (a n i j : ℕ) → i < n → a + i ≡ j → f j ≡ None → all_present (map f (range_with_len a n)) ≡ None
+pub all_present-none : {A : Type 0} (f : ℕ → Option A) (a n i j : ℕ) → i < n → a + i ≡ j → f j ≡ None
+    → all_present (map f (range_with_len a n)) ≡ None
 unfolding all_present
 all_present-none f a zero i j h at e = absurd (omega arith)
 all_present-none f a (suc n) zero j h at e = let first : a ≡ j = omega (arith, at) in let here = ap f first ∙ e in rw here refl
-all_present-none f a (suc n) (suc i) j h at e = let later = all_present-none f (a + 1) n i j (omega arith) (omega (arith, at)) e in rw later (none_then (f a))
+all_present-none f a (suc n) (suc i) j h at e =
+    let later = all_present-none f (a + 1) n i j (omega arith) (omega (arith, at)) e in
+    rw later (none_then (f a))
 
 -- f is there for each of n numbers from a on, and xs are its values
 abbrev pub AreValues : {A : Type 0} → (ℕ → Option A) → ℕ → ℕ → List A → Type 0

@@ -22,7 +22,7 @@ returns-in_err-row g c =
     let fault = none_of_err _ c.in_err-row.field-0.0 c.in_err-row.ensures in
     let here : entry c.loop-s.s ≡ None = rw same at fault.0 in
     let none = all_present-none entry 0 g.row.L c.loop-s.s c.loop-s.s c.loop-s-test.true (omega arith) here in
-    let all : all_present (map row (range_with_len 0 g.row.K)) ≡ None = all_present-none row 0 g.row.K c.loop-r.r c.loop-r.r c.loop-r-test.true (omega arith) none in
+    let all = all_present-none row 0 g.row.K c.loop-r.r c.loop-r.r c.loop-r-test.true (omega arith) none in
     let refused : c.from_residual.result ≡ Err SamplingLimit = search rules in
     rw all refused
 
