@@ -24,6 +24,7 @@ pub use key_generation::{key_gen, key_gen_internal, private_to_public_key};
 pub use signing::{MAX_SIGN_ATTEMPTS, sign_internal};
 use std::marker::PhantomData;
 pub use verification::verify_internal;
+pub(crate) use verification::verify_prepared;
 
 /// The public key that has these bytes, with the first 64 bytes of `H` over them as `tr`
 /// (FIPS 204, Algorithm 23, and line 6 of Algorithm 8). Every array of `32 + 320 K` bytes is one.

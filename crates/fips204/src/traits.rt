@@ -3,9 +3,9 @@
 
 ghost use Rattle.std.specs.Prelude.{◌≡◌, ◌≢◌, ◌↔◌, ℕ, List, length, Result, Ok, Err, true, IsTrue, MatchResult};
 ghost use Rattle.fips204_base.specs.declared.fault.Fault.{Fault};
-ghost use Rattle.fips204_base.specs.declared.fault.Fault.TheVariants.{KeyGenRng, SignRng, HashRng};
+ghost use Rattle.fips204_base.specs.declared.fault.Fault.TheVariants.{KeyGenRng, SignRng, HashRng, InternalRng};
 ghost use Rattle.fips204.specs.Completeness.{AcceptedIfWhole};
-ghost use Rattle.fips204.specs.Refusals.{Draws, DrawsUnless, message_fault, digest_fault};
+ghost use Rattle.fips204.specs.Refusals.{Draws, DrawsUnless, DrawsIf, message_fault, digest_fault};
 
 use crate::types::pre_hash::check_pre_hash;
 use fips204_base::Fault;
@@ -64,6 +64,18 @@ pub(crate) fn draw<R: CryptoRngCore>(rng: &mut R, refusal: Fault) -> Result<[u8;
     match rng.try_fill_bytes(&mut bytes) {
         Ok(()) => Ok(bytes),
         Err(_) => Err(refusal),
+    }
+}
+
+/// The random bytes of a hook of signing: with `hedged` the generator is asked once, and
+/// `Fault::InternalRng` stands for its refusal; without, they are zeros.
+pub(crate) fn draw_if<R: CryptoRngCore>(hedged: bool, rng: &mut R) -> Result<[u8; 32], Fault>
+    ensures { DrawsIf hedged R.gives R.refuses rng.old rng.new InternalRng Ok result }
+{
+    if hedged {
+        draw(rng, Fault::InternalRng)
+    } else {
+        Ok([0; 32])
     }
 }
 

@@ -4,10 +4,13 @@
 ghost use Rattle.std.specs.Prelude.{◌≡◌, ◌↔◌, length, map, IsTrue};
 ghost use Rattle.fips204.specs.Prepared.{prepared_private, prepared_public, sign_hash_prepared, sign_message_prepared, sign_digest_prepared, AcceptsMessage, AcceptsDigest};
 ghost use Rattle.fips204.specs.Prepared.{AcceptsHash, AcceptedIfWholePrepared, SignsEach, VerifiesEach};
+ghost use Rattle.fips204.specs.Refusals.{message_fault, digest_fault, DrawsIf, DrawsUnless};
 ghost use Rattle.fips204.specs.Sets.{HasSizes, set_of};
 
 use super::calls::{digest_mu, message_mu};
 use super::verification::verify_prepared;
+use crate::traits::{CryptoRngCore, draw, draw_if};
+use crate::types::pre_hash::check_pre_hash;
 use crate::types::{Params, PreparedPrivateKey, PreparedPublicKey, PrivateKey, PublicKey};
 use fips204_base::Fault;
 use fips204_base::hashing::expand_a;
@@ -70,6 +73,27 @@ impl<const K: usize, const L: usize, H: Xof> PreparedPrivateKey<K, L, H> {
             .sign_with::<LAMBDA_DIV4, SIG_LEN>(p, &self.a_hat, mu, rnd)
     }
 
+    /// `sign_hash` with the random bytes of a hook of signing.
+    pub(crate) fn sign_hash_drawn<
+        const LAMBDA_DIV4: usize,
+        const SIG_LEN: usize,
+        R: CryptoRngCore,
+    >(
+        &self,
+        p: &Params,
+        rng: &mut R,
+        mu: &[u8; 64],
+        hedged: bool,
+    ) -> Result<[u8; SIG_LEN], Fault>
+        requires sizes { HasSizes p.now K L LAMBDA_DIV4 SIG_LEN }
+        ensures answer { DrawsIf hedged R.gives R.refuses rng.old rng.new Fault.InternalRng
+            (sign_hash_prepared (set_of p.now) H.front self.now mu.now) result }
+        ensures accepted { AcceptedIfWholePrepared (set_of p.now) self.now
+            (λ pk signature. AcceptsHash (set_of p.now) H.front pk mu.now signature) result }
+    {
+        self.sign_hash::<LAMBDA_DIV4, SIG_LEN>(p, mu, &draw_if(hedged, rng)?)
+    }
+
     /// `PrivateKey::sign_message` with the kept matrix.
     pub(crate) fn sign_message<const LAMBDA_DIV4: usize, const SIG_LEN: usize>(
         &self,
@@ -85,6 +109,30 @@ impl<const K: usize, const L: usize, H: Xof> PreparedPrivateKey<K, L, H> {
     {
         let mu = message_mu::<H>(&self.key.tr, message, ctx)?;
         self.sign_hash::<LAMBDA_DIV4, SIG_LEN>(p, &mu, rnd)
+    }
+
+    /// `sign_message` with 32 bytes that the generator is asked for once.
+    pub(crate) fn sign_message_drawn<
+        const LAMBDA_DIV4: usize,
+        const SIG_LEN: usize,
+        R: CryptoRngCore,
+    >(
+        &self,
+        p: &Params,
+        rng: &mut R,
+        message: &[u8],
+        ctx: &[u8],
+    ) -> Result<[u8; SIG_LEN], Fault>
+        requires sizes { HasSizes p.now K L LAMBDA_DIV4 SIG_LEN }
+        ensures answer { DrawsUnless (message_fault ctx.now) R.gives R.refuses rng.old rng.new Fault.SignRng
+            (λ rnd. sign_message_prepared (set_of p.now) H.front self.now rnd message.now ctx.now) result }
+        ensures accepted { AcceptedIfWholePrepared (set_of p.now) self.now
+            (λ pk signature. AcceptsMessage (set_of p.now) H.front pk message.now signature ctx.now) result }
+    {
+        if ctx.len() > 255 {
+            return Err(Fault::SignCtx);
+        }
+        self.sign_message::<LAMBDA_DIV4, SIG_LEN>(p, &draw(rng, Fault::SignRng)?, message, ctx)
     }
 
     /// `PrivateKey::sign_digest` with the kept matrix.
@@ -105,8 +153,35 @@ impl<const K: usize, const L: usize, H: Xof> PreparedPrivateKey<K, L, H> {
         self.sign_hash::<LAMBDA_DIV4, SIG_LEN>(p, &mu, rnd)
     }
 
+    /// `sign_digest` with 32 bytes that the generator is asked for once.
+    pub(crate) fn sign_digest_drawn<
+        const LAMBDA_DIV4: usize,
+        const SIG_LEN: usize,
+        R: CryptoRngCore,
+    >(
+        &self,
+        p: &Params,
+        rng: &mut R,
+        hash: &[u8],
+        ctx: &[u8],
+        hash_oid: &[u8],
+    ) -> Result<[u8; SIG_LEN], Fault>
+        requires sizes { HasSizes p.now K L LAMBDA_DIV4 SIG_LEN }
+        ensures answer { DrawsUnless (digest_fault ctx.now hash_oid.now hash.now) R.gives R.refuses rng.old rng.new Fault.HashRng
+            (λ rnd. sign_digest_prepared (set_of p.now) H.front self.now rnd hash.now ctx.now hash_oid.now) result }
+        ensures accepted { AcceptedIfWholePrepared (set_of p.now) self.now
+            (λ pk signature. AcceptsDigest (set_of p.now) H.front pk hash.now signature ctx.now hash_oid.now) result }
+    {
+        if ctx.len() > 255 {
+            return Err(Fault::HashCtx);
+        }
+        check_pre_hash(hash, hash_oid)?;
+        let rnd = draw(rng, Fault::HashRng)?;
+        self.sign_digest::<LAMBDA_DIV4, SIG_LEN>(p, &rnd, hash, ctx, hash_oid)
+    }
+
     /// Signs message `i` with the random bytes `i` into `out[i]`, each as `sign_message` does.
-    pub(crate) fn sign_each<const LAMBDA_DIV4: usize, const SIG_LEN: usize>(
+    pub(crate) fn sign_all<const LAMBDA_DIV4: usize, const SIG_LEN: usize>(
         &self,
         p: &Params,
         seeds: &[[u8; 32]],
@@ -162,7 +237,7 @@ impl<const K: usize, const L: usize, H: Xof> PreparedPublicKey<K, L, H> {
     }
 
     /// Writes into `out[i]` whether signature `i` of message `i` is accepted, as `verify_message` answers.
-    pub(crate) fn verify_each<const LAMBDA_DIV4: usize, const SIG_LEN: usize>(
+    pub(crate) fn verify_all<const LAMBDA_DIV4: usize, const SIG_LEN: usize>(
         &self,
         p: &Params,
         messages: &[&[u8]],

@@ -5,7 +5,7 @@ use Rattle.std.proofs.lemmas.List.{get_or-map}
 use Rattle.fips204.specs.Prepared.{sign_message_prepared}
 use Rattle.fips204.specs.Sets.{set_of}
 use Rattle.fips204.proofs.Prepared.{each_more}
-use Rattle.fips204.proofs.types.prepared.PreparedPrivateKey.sign_each.Goals as goal
+use Rattle.fips204.proofs.types.prepared.PreparedPrivateKey.sign_all.Goals as goal
 
 pub loop-i-preserved : goal.loop-i-preserved
 loop-i-preserved g c =

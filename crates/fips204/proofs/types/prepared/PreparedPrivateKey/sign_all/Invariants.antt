@@ -2,7 +2,7 @@ use Rattle.std.proofs.Common.{◌≡◌, ◌<◌, ℕ, [], length, map, get_or, 
 use Rattle.fips204_base.specs.declared.fault.Fault.TheVariants.{SamplingLimit}
 use Rattle.fips204.specs.Prepared.{sign_message_prepared}
 use Rattle.fips204.specs.Sets.{set_of}
-use Rattle.fips204.proofs.types.prepared.PreparedPrivateKey.sign_each.Given as goal
+use Rattle.fips204.proofs.types.prepared.PreparedPrivateKey.sign_all.Given as goal
 
 abbrev pub invariant-loop-i : goal.invariant-loop-i
 invariant-loop-i g l = record {

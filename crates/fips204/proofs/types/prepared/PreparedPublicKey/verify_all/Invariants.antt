@@ -2,7 +2,7 @@ use Rattle.std.proofs.Common.{◌≡◌, ◌<◌, ℕ, [], length, map, get_or, 
 use Rattle.std.specs.Prelude.{◌↔◌}
 use Rattle.fips204.specs.Prepared.{AcceptsMessage}
 use Rattle.fips204.specs.Sets.{set_of}
-use Rattle.fips204.proofs.types.prepared.PreparedPublicKey.verify_each.Given as goal
+use Rattle.fips204.proofs.types.prepared.PreparedPublicKey.verify_all.Given as goal
 
 abbrev pub invariant-loop-i : goal.invariant-loop-i
 invariant-loop-i g l = record {

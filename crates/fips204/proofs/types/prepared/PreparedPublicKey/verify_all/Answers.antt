@@ -4,7 +4,7 @@ use Rattle.std.proofs.lemmas.List.{get_or-map, get_or_default, length-map}
 use Rattle.fips204.specs.Prepared.{AcceptsMessage}
 use Rattle.fips204.specs.Sets.{set_of}
 use Rattle.fips204.proofs.Prepared.{each_more}
-use Rattle.fips204.proofs.types.prepared.PreparedPublicKey.verify_each.Goals as goal
+use Rattle.fips204.proofs.types.prepared.PreparedPublicKey.verify_all.Goals as goal
 
 pub loop-i-preserved : goal.loop-i-preserved
 loop-i-preserved g c =
