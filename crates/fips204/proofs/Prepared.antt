@@ -37,26 +37,26 @@ pub message_accepted : (p : Params) (H : List ℕ → List ℕ) (K L : ℕ) (sk 
     → AcceptedIfWholePrepared (set_of p) sk (λ pk signature. AcceptsMessage (set_of p) H pk message signature context) answer
 message_accepted p H K L sk rnd message context answer known law rows columns parts same =
     λ signature whole e.
-        let mu = message_hash H sk.key.tr (framed context message) in
-        let both = not_refused (message_fault context) (sign_hash_prepared (set_of p) H sk mu rnd) signature (sym same ∙ e) in
-        record {
-          short = (short_context context SignCtx None both.0).0;
-          accepted = hash_accepted p H K L sk mu rnd (sign_hash_prepared (set_of p) H sk mu rnd) known law rows columns parts refl signature whole both.1;
-        }
+    let mu = message_hash H sk.key.tr (framed context message) in
+    let both = not_refused (message_fault context) (sign_hash_prepared (set_of p) H sk mu rnd) signature (sym same ∙ e) in
+    record {
+      short = (short_context context SignCtx None both.0).0;
+      accepted = hash_accepted p H K L sk mu rnd (sign_hash_prepared (set_of p) H sk mu rnd) known law rows columns parts refl signature whole both.1;
+    }
 
 pub digest_accepted : (p : Params) (H : List ℕ → List ℕ) (K L : ℕ) (sk : PreparedPrivate) (rnd digest context oid : List ℕ) (answer : Result (List ℕ) Fault) → IsKnown p
     → ((x : List ℕ) → 4096 ≤ length (H x)) → K ≡ p.k → L ≡ p.l → ArePrivateParts K L sk.key → answer ≡ sign_digest_prepared (set_of p) H sk rnd digest context oid
     → AcceptedIfWholePrepared (set_of p) sk (λ pk signature. AcceptsDigest (set_of p) H pk digest signature context oid) answer
 digest_accepted p H K L sk rnd digest context oid answer known law rows columns parts same =
     λ signature whole e.
-        let mu = message_hash H sk.key.tr (framed_digest context oid digest) in
-        let both = not_refused (digest_fault context oid digest) (sign_hash_prepared (set_of p) H sk mu rnd) signature (sym same ∙ e) in
-        let conditions = short_context context HashCtx (pre_hash_fault digest oid) both.0 in
-        record {
-          short = conditions.0;
-          whole = conditions.1;
-          accepted = hash_accepted p H K L sk mu rnd (sign_hash_prepared (set_of p) H sk mu rnd) known law rows columns parts refl signature whole both.1;
-        }
+    let mu = message_hash H sk.key.tr (framed_digest context oid digest) in
+    let both = not_refused (digest_fault context oid digest) (sign_hash_prepared (set_of p) H sk mu rnd) signature (sym same ∙ e) in
+    let conditions = short_context context HashCtx (pre_hash_fault digest oid) both.0 in
+    record {
+      short = conditions.0;
+      whole = conditions.1;
+      accepted = hash_accepted p H K L sk mu rnd (sign_hash_prepared (set_of p) H sk mu rnd) known law rows columns parts refl signature whole both.1;
+    }
 
 -- ---- a prepared key answers as its plain key
 

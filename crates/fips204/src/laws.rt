@@ -10,6 +10,9 @@ ghost use Rattle.fips204.specs.Completeness.{SignedIsAccepted};
 ghost use Rattle.fips204.specs.Constants.{ConstantsStand, LengthsStand};
 ghost use Rattle.fips204.specs.LongerFronts.{LongerFrontsKeep};
 ghost use Rattle.fips204.specs.MessageLaws.{FramingIsOneToOne, SignatureBindsMessage};
+ghost use Rattle.fips204.specs.Prepared.{PreparedAnswersAsPlain};
+ghost use Rattle.fips204.specs.ParameterSets.{ParameterSet};
+ghost use Rattle.std.specs.Prelude.{ℕ, List};
 ghost use Rattle.fips204.specs.SchemeLaws.{HintGivesHighBits, HintStaysNear, HighBitsStay, ChallengeProductIsSmall, SignatureHasOneSpelling, HintHasOneSpelling};
 
 use crate::xof::Xof;
@@ -85,6 +88,13 @@ pub fn binding()
 /// of messages, digests and the hooks' hashes, and whatever the random bytes.
 pub fn signed_is_accepted()
     ensures { SignedIsAccepted }
+{}
+
+/// A prepared key answers as the key that it was prepared of: what it signs and accepts of messages, digests
+/// and the hooks' hashes is what the plain key signs and accepts; and so is each entry of `sign_each` and
+/// `verify_each`, which are stated in terms of the single calls.
+pub fn prepared_keys()
+    ensures { (p : ParameterSet) (H G : List ℕ → List ℕ) → PreparedAnswersAsPlain p H G }
 {}
 
 /// Longer fronts keep answers. Where each front of `H` is a prefix of the matching front of `LongerH`, and

@@ -74,11 +74,7 @@ impl<const K: usize, const L: usize, H: Xof> PreparedPrivateKey<K, L, H> {
     }
 
     /// `sign_hash` with the random bytes of a hook of signing.
-    pub(crate) fn sign_hash_drawn<
-        const LAMBDA_DIV4: usize,
-        const SIG_LEN: usize,
-        R: CryptoRngCore,
-    >(
+    pub(crate) fn sign_hash_drawn<const LAMBDA_DIV4: usize, const SIG_LEN: usize, R: CryptoRngCore>(
         &self,
         p: &Params,
         rng: &mut R,
@@ -116,13 +112,7 @@ impl<const K: usize, const L: usize, H: Xof> PreparedPrivateKey<K, L, H> {
         const LAMBDA_DIV4: usize,
         const SIG_LEN: usize,
         R: CryptoRngCore,
-    >(
-        &self,
-        p: &Params,
-        rng: &mut R,
-        message: &[u8],
-        ctx: &[u8],
-    ) -> Result<[u8; SIG_LEN], Fault>
+    >(&self, p: &Params, rng: &mut R, message: &[u8], ctx: &[u8]) -> Result<[u8; SIG_LEN], Fault>
         requires sizes { HasSizes p.now K L LAMBDA_DIV4 SIG_LEN }
         ensures answer { DrawsUnless (message_fault ctx.now) R.gives R.refuses rng.old rng.new Fault.SignRng
             (λ rnd. sign_message_prepared (set_of p.now) H.front self.now rnd message.now ctx.now) result }
@@ -251,7 +241,12 @@ impl<const K: usize, const L: usize, H: Xof> PreparedPublicKey<K, L, H> {
         ensures { VerifiesEach (set_of p.now) H.front self.now (map (λ m. m.now) messages.now) signatures.now ctx.now out.new }
     {
         for i in 0..messages.len() {
-            out[i] = self.verify_message::<LAMBDA_DIV4, SIG_LEN>(p, messages[i], &signatures[i], ctx);
+            out[i] = self.verify_message::<LAMBDA_DIV4, SIG_LEN>(
+                p,
+                messages[i],
+                &signatures[i],
+                ctx,
+            );
         }
     }
 }

@@ -27,8 +27,16 @@ w1_prime-w1-requires g c =
     let ball = some_of_ok (challenge (nat_abs (to_z w32 (of_z w32 p.tau))) front) c.in-Ok.c c.in-Ok.ensures in
     let signs = challenge-reduced (nat_abs (to_z w32 (of_z w32 p.tau))) front c.in-Ok.c ball in (
       matrix_room g.row.K g.row.L rows columns,
-      (omega (arith, columns), (omega (arith, rows), (omega (arith, columns),
-      (c.requires.rows, (c.requires.columns, (c.requires.matrix, (c.requires.high, (c.requires.response, (c.requires.hint, signs))))))))),
+      (
+        omega (arith, columns),
+        (
+          omega (arith, rows),
+          (
+            omega (arith, columns),
+            (c.requires.rows, (c.requires.columns, (c.requires.matrix, (c.requires.high, (c.requires.response, (c.requires.hint, signs)))))),
+          ),
+        ),
+      ),
     )
 
 pub returns-in-Ok : goal.returns-in-Ok

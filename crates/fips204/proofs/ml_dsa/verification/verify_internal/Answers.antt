@@ -26,9 +26,22 @@ accepts-requires g c =
     let matrix = some_of_ok (sampled_matrix g.G.Xof.front c.pk.inside.rho g.row.K g.row.L) c.in-Ok.a_hat c.in-Ok.ensures in
     let small = matrix-within g.G.Xof.front c.pk.inside.rho g.row.K g.row.L c.in-Ok.a_hat matrix in
     let z = short-response p g.row.L c.args.sig.now c.in-Some.parts.0 c.in-Some.parts.1 c.in-Some.parts.2 known c.requires.sizes.1 c.in-Some.ensures in
-    let h = short-hint p g.row.K c.args.sig.now c.in-Some.parts.0 c.in-Some.parts.1 c.in-Some.parts.2 c.requires.sizes.0 c.in-Some.ensures in
-    (matrix_room g.row.K g.row.L rows columns, (omega (arith, columns), (omega (arith, rows), (search rules, (omega (arith, columns),
-    (c.requires.sizes.0, (c.requires.sizes.1, (c.requires.sizes.2, (small, (c.pk.invariant, (z, h)))))))))))
+    let h = short-hint p g.row.K c.args.sig.now c.in-Some.parts.0 c.in-Some.parts.1 c.in-Some.parts.2 c.requires.sizes.0 c.in-Some.ensures in (
+      matrix_room g.row.K g.row.L rows columns,
+      (
+        omega (arith, columns),
+        (
+          omega (arith, rows),
+          (
+            search rules,
+            (
+              omega (arith, columns),
+              (c.requires.sizes.0, (c.requires.sizes.1, (c.requires.sizes.2, (small, (c.pk.invariant, (z, h)))))),
+            ),
+          ),
+        ),
+      ),
+    )
 
 pub returns-in-Ok : goal.returns-in-Ok
 returns-in-Ok g c =

@@ -11,9 +11,22 @@ accepts-requires g c =
     let rows : g.row.K ≤ 8 = rw c.requires.sizes.0 some.few_rows in
     let columns : g.row.L ≤ 7 = rw c.requires.sizes.1 some.few_columns in
     let z = short-response p g.row.L c.args.sig.now c.in-Some.parts.0 c.in-Some.parts.1 c.in-Some.parts.2 known c.requires.sizes.1 c.in-Some.ensures in
-    let h = short-hint p g.row.K c.args.sig.now c.in-Some.parts.0 c.in-Some.parts.1 c.in-Some.parts.2 c.requires.sizes.0 c.in-Some.ensures in
-    (matrix_room g.row.K g.row.L rows columns, (omega (arith, columns), (omega (arith, rows), (search rules, (omega (arith, columns),
-    (c.requires.sizes.0, (c.requires.sizes.1, (c.requires.sizes.2, (search rules, (search rules, (z, h)))))))))))
+    let h = short-hint p g.row.K c.args.sig.now c.in-Some.parts.0 c.in-Some.parts.1 c.in-Some.parts.2 c.requires.sizes.0 c.in-Some.ensures in (
+      matrix_room g.row.K g.row.L rows columns,
+      (
+        omega (arith, columns),
+        (
+          omega (arith, rows),
+          (
+            search rules,
+            (
+              omega (arith, columns),
+              (c.requires.sizes.0, (c.requires.sizes.1, (c.requires.sizes.2, (search rules, (search rules, (z, h)))))),
+            ),
+          ),
+        ),
+      ),
+    )
 
 pub returns-in-Some : goal.returns-in-Some
 returns-in-Some g c =
