@@ -30,6 +30,8 @@ mod longer_fronts;
 #[cfg(test)]
 mod object_identifiers;
 #[cfg(test)]
+mod prepared;
+#[cfg(test)]
 mod program;
 #[cfg(test)]
 mod program_cuts;
