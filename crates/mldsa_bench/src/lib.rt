@@ -32,6 +32,8 @@ mod object_identifiers;
 #[cfg(test)]
 mod program;
 #[cfg(test)]
+mod program_batch;
+#[cfg(test)]
 mod program_cuts;
 #[cfg(test)]
 mod program_devices;

@@ -1,19 +1,16 @@
 -- The lines of a batch, entry by entry.
-use Rattle.std.proofs.Common.{◌≡◌, ℕ, zero, suc, ◌+◌, ◌-◌, ◌*◌, ◌/◌, ◌<◌, Bool, false, IsTrue, ◌↔◌, All, append-nil, length-append, inl, inr, List, [], ◌∷◌, ◌++◌, take, length, map, get_or, Option, Some, None, Ok, refl, sym, ap, ◌∙◌, arith, subst}
-use Rattle.std.proofs.lemmas.List.{get_or_append_left, get_or-map, length-map, length-take-le, take_more, get_or-take, map-append}
-use Rattle.std.proofs.lemmas.List.Elements.{All-more, All-get_or, All-from_get_or}
-use Rattle.std.proofs.lemmas.Bool.{cases_eq}
-use Rattle.std.proofs.lemmas.Grind.{flat_map-append}
-use Rattle.std.proofs.Math.Seq.{get_or-append_seam}
+use Rattle.std.proofs.Common.{◌≡◌, ℕ, zero, suc, ◌+◌, ◌-◌, ◌*◌, ◌/◌, ◌<◌, List, [], ◌∷◌, ◌++◌, length, map, get_or, Option, Some, None, Ok, refl, sym, ap, ◌∙◌, arith, subst}
+use Rattle.std.proofs.lemmas.List.{get_or_append_left, get_or-map, length-map}
 use Rattle.fips204.specs.ParameterSets.{signature_length}
 use Rattle.mldsa_engine.specs.declared.fault.RunFault.{RunFault}
 use Rattle.mldsa_engine.specs.declared.call.Task.{Task}
 use Rattle.mldsa_engine.specs.declared.call.Task.TheVariants.{Id, Keygen, Sign, Verify, Check, Batch}
 use Rattle.mldsa_engine.specs.declared.call.SetName.{SetName}
 use Rattle.mldsa_engine.specs.Lines.{after_line, after_lines, line_bytes, lines_bytes, AllFit, AddsLines, TakesLines, FaultOfLines, InTurn}
-use Rattle.mldsa_engine.specs.ProgramText.{text, answer_word, TellsAll, named_set, entry_lines, lines_of_entries, two_bytes, entries_of, entries_of_line, wanted_lines}
+use Rattle.mldsa_engine.specs.ProgramText.{named_set, entry_lines, lines_of_entries, two_bytes, entries_of, entries_of_line, wanted_lines}
 use Rattle.mldsa_engine.proofs.Joining.{AllFit-length, before_good, adds_all, adds_more, fault_after, in_turn_after, earlier_fault, earlier_in_turn}
 
+-- the lines of entries are those of the first and then those of the others
 entries_more : (size entries more : ℕ) → entry_lines size (entries + more) ≡ entry_lines size entries ++ entry_lines size more
 entries_more size zero more = ap (entry_lines size) (omega arith)
 entries_more size (suc entries) more =
@@ -26,7 +23,7 @@ batch_more set entries more =
     ap (λ l. lines_of_entries Batch set 0 ++ l) (entries_more (signature_length (named_set set)) entries more)
 
 -- what a command wants after the lines that it wants of every input
-abbrev pub later_lines : Task → SetName → ℕ → List (Option ℕ)
+abbrev later_lines : Task → SetName → ℕ → List (Option ℕ)
 later_lines Id set entries = []
 later_lines Keygen set entries = []
 later_lines Sign set entries = []
@@ -34,6 +31,7 @@ later_lines Verify set entries = []
 later_lines Check set entries = []
 later_lines Batch set entries = entry_lines (signature_length (named_set set)) entries
 
+-- every command wants its first lines, whatever the number of entries
 lines_split : (task : Task) (set : SetName) (entries : ℕ) → lines_of_entries task set entries ≡ lines_of_entries task set 0 ++ later_lines task set entries
 lines_split Id set entries = refl
 lines_split Keygen set entries = refl
@@ -65,6 +63,7 @@ entries_said : (set : SetName) (entries : ℕ) (input : List ℕ) (left : Option
 entries_said set entries input None lines p = absurd p
 entries_said set entries input (Some left) lines p = ap entries_of_line (third_line _ _ _ (entry_lines _ entries) input lines p.0)
 
+-- the fault of one of the first lines is that of them all
 pub first_fault : (task : Task) (set : SetName) (given : Option (List ℕ)) (fault : RunFault)
     → FaultOfLines 1 (lines_of_entries task set 0) given fault → FaultOfLines 1 (wanted_lines task set given) given fault
 first_fault task set given fault bad =
@@ -88,8 +87,8 @@ other_taken task set given left lines other added =
     )
 
 -- a batch has its lines once as many entries were read as its third line says
-pub batch_taken : (task : Task) (set : SetName) (entry entries : ℕ) (given left : Option (List ℕ)) (lines : List (List ℕ)) → task ≡ Batch → entry ≡ entries
-    → entries ≡ two_bytes (get_or lines 2 []) → AddsLines (lines_of_entries Batch set entry) given left [] lines
+pub batch_taken : (task : Task) (set : SetName) (entry entries : ℕ) (given left : Option (List ℕ)) (lines : List (List ℕ))
+    → task ≡ Batch → entry ≡ entries → entries ≡ two_bytes (get_or lines 2 []) → AddsLines (lines_of_entries Batch set entry) given left [] lines
     → AllFit (lines_of_entries task set (two_bytes (get_or lines 2 []))) lines × TakesLines 1 (wanted_lines task set given) given left lines
 batch_taken task set entry entries None left lines named last said added =
     let all = adds_all (lines_of_entries Batch set entry) None left lines added in
@@ -104,25 +103,26 @@ batch_taken task set entry entries (Some input) left lines named last said added
 
 -- one entry more
 pub next_entry : (set : SetName) (entry : ℕ) (given mid new : Option (List ℕ)) (lines all : List (List ℕ))
-    → AddsLines (lines_of_entries Batch set entry) given mid [] lines → AddsLines (entry_lines (signature_length (named_set set)) 1) mid new lines all
+    → AddsLines (lines_of_entries Batch set entry) given mid [] lines
+    → AddsLines (entry_lines (signature_length (named_set set)) 1) mid new lines all
     → AddsLines (lines_of_entries Batch set (entry + 1)) given new [] all × (get_or all 2 [] ≡ get_or lines 2 [])
 next_entry set entry given mid new lines all added more =
     let size = signature_length (named_set set) in
-    let counted = AllFit-length (lines_of_entries Batch set entry) lines (adds_all (lines_of_entries Batch set entry) given mid lines added).0 in (
-      subst (λ l. AddsLines l given new [] all) (sym (batch_more set entry 1))
-          (adds_more (lines_of_entries Batch set entry) (entry_lines size 1) given mid new [] lines all added more),
+    let front = lines_of_entries Batch set entry in
+    let counted = AllFit-length front lines (adds_all front given mid lines added).0 in (
+      subst (λ l. AddsLines l given new [] all) (sym (batch_more set entry 1)) (adds_more front (entry_lines size 1) given mid new [] lines all added more),
       ap (λ l. get_or l 2 []) more.1 ∙ get_or_append_left lines more.0 [] 2 (omega (arith, counted)),
     )
 
 -- the lines of a batch, of which those of an entry are next
-whole_at : (set : SetName) (entry entries : ℕ) → entry < entries
-    → lines_of_entries Batch set entry ++ entry_lines (signature_length (named_set set)) 1 ++ entry_lines (signature_length (named_set set)) (entries - entry - 1)
-    ≡ lines_of_entries Batch set entries
-whole_at set entry entries within =
+whole_batch : (set : SetName) (entry entries : ℕ) → entry < entries
+    → lines_of_entries Batch set entry ++ entry_lines (signature_length (named_set set)) 1
+    ++ entry_lines (signature_length (named_set set)) (entries - entry - 1) ≡ lines_of_entries Batch set entries
+whole_batch set entry entries within =
     let size = signature_length (named_set set) in
     let sum : entry + 1 + (entries - entry - 1) ≡ entries = omega (arith, within) in
-    ap (λ l. l ++ entry_lines size (entries - entry - 1)) (sym (batch_more set entry 1)) ∙ sym (batch_more set (entry + 1) (entries - entry - 1))
-    ∙ ap (lines_of_entries Batch set) sum
+    ap (λ l. l ++ entry_lines size (entries - entry - 1)) (sym (batch_more set entry 1))
+    ∙ sym (batch_more set (entry + 1) (entries - entry - 1)) ∙ ap (lines_of_entries Batch set) sum
 
 -- a line at its place among the bytes of lines
 pub line_at : {V : Type 0} (items : V → List ℕ) (lines : List V) (index : ℕ) (line : V) → index < length lines → line ≡ get_or lines index line
@@ -131,65 +131,45 @@ line_at items lines index line within is = ap items is ∙ sym (get_or-map items
 
 -- the third line says how many entries there are
 pub third_says : {V : Type 0} (items : V → List ℕ) (set : SetName) (given mid : Option (List ℕ)) (lines : List V) (third : V)
-    → AddsLines (lines_of_entries Batch set 0) given mid [] (map items lines) → third ≡ get_or lines 2 third → items third ≡ get_or (map items lines) 2 []
+    → AddsLines (lines_of_entries Batch set 0) given mid [] (map items lines) → third ≡ get_or lines 2 third
+    → items third ≡ get_or (map items lines) 2 []
 third_says items set given mid lines third added is =
-    let counted = AllFit-length (lines_of_entries Batch set 0) (map items lines) (adds_all (lines_of_entries Batch set 0) given mid (map items lines) added).0 in
+    let front = lines_of_entries Batch set 0 in
+    let counted = AllFit-length front (map items lines) (adds_all front given mid (map items lines) added).0 in
     line_at items lines 2 third (omega (arith, counted, length-map lines items)) is
 
-pub fault_of_entry : {V : Type 0} (items : V → List ℕ) (task : Task) (set : SetName) (entry entries : ℕ) (given mid : Option (List ℕ)) (lines : List V) (fault : RunFault)
-    → task ≡ Batch → entry < entries → entries ≡ two_bytes (get_or (map items lines) 2 []) → AddsLines (lines_of_entries Batch set entry) given mid [] (map items lines)
+-- the fault of an entry's line is that of them all, where the entries before it were good
+pub fault_of_entry : {V : Type 0} (items : V → List ℕ) (task : Task) (set : SetName) (entry entries : ℕ) (given mid : Option (List ℕ))
+    (lines : List V) (fault : RunFault) → task ≡ Batch → entry < entries → entries ≡ two_bytes (get_or (map items lines) 2 [])
+    → AddsLines (lines_of_entries Batch set entry) given mid [] (map items lines)
     → FaultOfLines (length lines + 1) (entry_lines (signature_length (named_set set)) 1) mid fault → FaultOfLines 1 (wanted_lines task set given) given fault
 fault_of_entry items task set entry entries None mid lines fault named within said added bad = tt
 fault_of_entry items task set entry entries (Some input) mid lines fault named within said added bad =
     let all = adds_all (lines_of_entries Batch set entry) (Some input) mid (map items lines) added in
     let same : entries ≡ entries_of (Some input) = said ∙ sym (entries_said set entry input mid (map items lines) all.1) in
     let size = signature_length (named_set set) in
-    let sofar = fault_after (lines_of_entries Batch set entry) (entry_lines size 1) (Some input) mid [] (map items lines) fault added (subst (λ n. FaultOfLines (n + 1) (entry_lines size 1) mid fault) (sym (length-map lines items)) bad) in
-    let whole = earlier_fault 1 (lines_of_entries Batch set entry ++ entry_lines size 1) (entry_lines size (entries - entry - 1)) (Some input) fault sofar in
-    rw named (subst (λ l. FaultOfLines 1 l (Some input) fault) (whole_at set entry entries within ∙ ap (lines_of_entries Batch set) same) whole)
+    let front = lines_of_entries Batch set entry in
+    let this = subst (λ n. FaultOfLines (n + 1) (entry_lines size 1) mid fault) (sym (length-map lines items)) bad in
+    let sofar = fault_after front (entry_lines size 1) (Some input) mid [] (map items lines) fault added this in
+    let whole = earlier_fault 1 (front ++ entry_lines size 1) (entry_lines size (entries - entry - 1)) (Some input) fault sofar in
+    rw named (subst (λ l. FaultOfLines 1 l (Some input) fault) (whole_batch set entry entries within ∙ ap (lines_of_entries Batch set) same) whole)
 
-pub in_turn_of_entry : {V : Type 0} (items : V → List ℕ) (task : Task) (set : SetName) (entry entries : ℕ) (given mid new : Option (List ℕ)) (lines : List V)
-    → task ≡ Batch → entry < entries → entries ≡ two_bytes (get_or (map items lines) 2 []) → AddsLines (lines_of_entries Batch set entry) given mid [] (map items lines)
+pub in_turn_of_entry : {V : Type 0} (items : V → List ℕ) (task : Task) (set : SetName) (entry entries : ℕ) (given mid new : Option (List ℕ))
+    (lines : List V) → task ≡ Batch → entry < entries → entries ≡ two_bytes (get_or (map items lines) 2 [])
+    → AddsLines (lines_of_entries Batch set entry) given mid [] (map items lines)
     → InTurn (length lines + 1) (entry_lines (signature_length (named_set set)) 1) mid new → InTurn 1 (wanted_lines task set given) given new
 in_turn_of_entry items task set entry entries None mid new lines named within said added bad = tt
 in_turn_of_entry items task set entry entries (Some input) mid new lines named within said added bad =
     let all = adds_all (lines_of_entries Batch set entry) (Some input) mid (map items lines) added in
     let same : entries ≡ entries_of (Some input) = said ∙ sym (entries_said set entry input mid (map items lines) all.1) in
     let size = signature_length (named_set set) in
-    let sofar = in_turn_after (lines_of_entries Batch set entry) (entry_lines size 1) (Some input) mid new [] (map items lines) added (subst (λ n. InTurn (n + 1) (entry_lines size 1) mid new) (sym (length-map lines items)) bad) in
-    let whole = earlier_in_turn 1 (lines_of_entries Batch set entry ++ entry_lines size 1) (entry_lines size (entries - entry - 1)) (Some input) new sofar in
-    rw named (subst (λ l. InTurn 1 l (Some input) new) (whole_at set entry entries within ∙ ap (lines_of_entries Batch set) same) whole)
+    let front = lines_of_entries Batch set entry in
+    let this = subst (λ n. InTurn (n + 1) (entry_lines size 1) mid new) (sym (length-map lines items)) bad in
+    let sofar = in_turn_after front (entry_lines size 1) (Some input) mid new [] (map items lines) added this in
+    let whole = earlier_in_turn 1 (front ++ entry_lines size 1) (entry_lines size (entries - entry - 1)) (Some input) new sofar in
+    rw named (subst (λ l. InTurn 1 l (Some input) new) (whole_batch set entry entries within ∙ ap (lines_of_entries Batch set) same) whole)
 
--- answers that are all true are so one by one
-true_at : (answers : List Bool) (index i : ℕ) → i < index + 1 → index < length answers → All IsTrue (take (index + 1) answers) → IsTrue (get_or answers i false)
-true_at answers index i before within h =
-    subst IsTrue (get_or-take (index + 1) answers i false before)
-    (All-get_or IsTrue (take (index + 1) answers) i false (omega (arith, length-take-le (index + 1) answers (omega (arith, within)), before)) h)
-
-true_before : (answers : List Bool) (index i : ℕ) → i < index → index < length answers → All IsTrue (take (index + 1) answers) → IsTrue (get_or (take index answers) i false)
-true_before answers index i before within h =
-    subst IsTrue (sym (get_or-take index answers i false before)) (true_at answers index i (omega (arith, before)) within h)
-
--- answers that are told one after another
-pub tells_more : (answers : List Bool) (index : ℕ) (old new word : List ℕ) (all next : Bool) → index < length answers
-    → word ≡ answer_word (get_or answers index false) → new ≡ old ++ (word ++ 10 ∷ []) → (IsTrue next ↔ IsTrue all × IsTrue (get_or answers index false))
-    → TellsAll (take index answers) old all → TellsAll (take (index + 1) answers) new next
-tells_more answers index old new word all next within named grown both tells =
-    let answer = get_or answers index false in
-    let front = take_more answers index false within in
-    let words = ap (map answer_word) front ∙ map-append answer_word (take index answers) (answer ∷ []) in
-    let lines = ap text words ∙ flat_map-append (λ line. line ++ 10 ∷ []) (map answer_word (take index answers)) (answer_word answer ∷ []) in
-    let last : word ++ 10 ∷ [] ≡ text (answer_word answer ∷ []) = ap (λ w. w ++ 10 ∷ []) named ∙ sym (append-nil (answer_word answer ++ 10 ∷ [])) in (
-      grown ∙ ap (λ l. l ++ (word ++ 10 ∷ [])) tells.0 ∙ ap (λ l. text (map answer_word (take index answers)) ++ l) last ∙ sym lines,
-      (
-        λ t. All-more IsTrue answers index false within (tells.1.0 (both.0 t).0) (both.0 t).1,
-        λ h. both.1 (
-          tells.1.1 (All-from_get_or IsTrue (take index answers) false (λ i w. true_before answers index i (omega (arith, length-take-le index answers (omega (arith, within)), w)) within h)),
-          true_at answers index index (omega arith) within h,
-        ),
-      ),
-    )
-
+-- what holds of the first and of each next
 first_or_later : (P : ℕ → Type 0) (count : ℕ) → P 0 → ((entry : ℕ) → entry < count → P (entry + 1)) → (entry : ℕ) → entry < suc count → P entry
 first_or_later P count first later zero within = first
 first_or_later P count first later (suc entry) within = subst P (omega arith) (later entry (omega (arith, within)))
@@ -211,24 +191,9 @@ entries_fit size (suc count) (line ∷ other ∷ lines) fit =
 
 -- the signature of an entry has its size
 pub signature_fits : {V : Type 0} (items : V → List ℕ) (size : ℕ) (entries : List V) (entry : ℕ) (signature : V)
-    → ((count : ℕ) × AllFit (entry_lines size count) (map items entries)) → entry < length entries / 2 → signature ≡ get_or entries (2 * entry) signature
-    → length (items signature) ≡ size
+    → ((count : ℕ) × AllFit (entry_lines size count) (map items entries)) → entry < length entries / 2
+    → signature ≡ get_or entries (2 * entry) signature → length (items signature) ≡ size
 signature_fits items size entries entry signature fit within is =
     let rest = entries_fit size fit.0 (map items entries) fit.1 in
-    ap length (line_at items entries (2 * entry) signature (omega (arith, within)) is) ∙ rest.1 entry (omega (arith, within, rest.0, length-map entries items))
-
--- one answer more
-pub next_answer : (P : ℕ → Bool → Type 0) (answers all : List Bool) (count : ℕ) (answer : Bool) → length answers ≡ count → all ≡ answers ++ answer ∷ []
-    → ((entry : ℕ) → entry < count → P entry (get_or answers entry false)) → P count answer
-    → (length all ≡ count + 1) × ((entry : ℕ) → entry < count + 1 → P entry (get_or all entry false))
-next_answer P answers all count answer size grown before now = (
-  omega (arith, ap length grown, length-append answers (answer ∷ []), size),
-  λ entry within. elim (cases_eq entry count) [
-    | inl same ↦
-        let here : get_or all entry false ≡ answer = ap (λ l. get_or l entry false) grown ∙ ap (λ n. get_or (answers ++ answer ∷ []) n false) (same ∙ sym size) ∙ get_or-append_seam answers answer [] false in
-        subst (λ a. P entry a) (sym here) (subst (λ n. P n answer) (sym same) now)
-    | inr other ↦
-        let earlier : entry < count = omega (arith, within, other) in
-        subst (λ a. P entry a) (sym (ap (λ l. get_or l entry false) grown ∙ get_or_append_left answers (answer ∷ []) false entry (omega (arith, earlier, size)))) (before entry earlier)
-  ],
-)
+    let here = line_at items entries (2 * entry) signature (omega (arith, within)) is in
+    ap length here ∙ rest.1 entry (omega (arith, within, rest.0, length-map entries items))

@@ -4,3 +4,4 @@ pub mod Entries
 pub mod Judging
 pub mod Joining
 pub mod Lengths
+pub mod Verdicts

@@ -1,6 +1,7 @@
 use Rattle.std.proofs.Common.{rules, arith, ap, ◌≡◌, ◌+◌, ◌*◌, ◌/◌, ◌↔◌, [], length, map, get_or, IsTrue, ◌∙◌}
 use Rattle.std.proofs.lemmas.List.{length-map}
-use Rattle.mldsa_engine.proofs.Entries.{line_at, entries_fit, signature_fits, next_answer}
+use Rattle.mldsa_engine.proofs.Entries.{line_at, entries_fit, signature_fits}
+use Rattle.mldsa_engine.proofs.Verdicts.{next_answer}
 use Rattle.mldsa_engine.proofs.answers.verifying.answers_of.Goals as goal
 
 pub array_of-signature-requires : goal.array_of-signature-requires

@@ -1,6 +1,6 @@
 use Rattle.std.proofs.Common.{◌≡◌, rules, take, ◌↔◌, IsTrue, get_or, false}
 use Rattle.std.proofs.lemmas.List.{take_all}
-use Rattle.mldsa_engine.proofs.Entries.{tells_more}
+use Rattle.mldsa_engine.proofs.Verdicts.{tells_more}
 use Rattle.mldsa_engine.proofs.answers.writing.verdicts.Goals.{then-all, else-all}
 use Rattle.mldsa_engine.proofs.answers.writing.verdicts.Goals as goal
 
