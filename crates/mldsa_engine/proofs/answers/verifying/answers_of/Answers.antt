@@ -6,17 +6,23 @@ use Rattle.mldsa_engine.proofs.answers.verifying.answers_of.Goals as goal
 
 pub array_of-signature-requires : goal.array_of-signature-requires
 array_of-signature-requires g c =
-    let size : length c.as_slice.result.now ≡ g.row.SIG_LEN =
-    ap length c.as_slice.ensures.value ∙ signature_fits (λ line. line.items) _ c.args.entries.now c.loop-entry.entry _ c.requires.entries c.loop-entry-test.true c.index-entries-entry.is in
+    let fits = signature_fits (λ line. line.items) _ c.args.entries.now c.loop-entry.entry _
+    c.requires.entries c.loop-entry-test.true c.index-entries-entry.is in
+    let size : length c.as_slice.result.now ≡ g.row.SIG_LEN = ap length c.as_slice.ensures.value ∙ fits in
     (search (rules, size), size)
 
 pub loop-entry-preserved : goal.loop-entry-preserved
 loop-entry-preserved g c =
-    let signature = c.array_of-signature.ensures ∙ c.as_slice.ensures.value ∙ line_at (λ line. line.items) c.args.entries.now (2 * c.loop-entry.entry) _ (search rules) c.index-entries-entry.is in
-    let message = c.as_slice-message.ensures.value ∙ line_at (λ line. line.items) c.args.entries.now (2 * c.loop-entry.entry + 1) _ (search rules) c.index-entries-entry-in-loop-entry.is in
-    next_answer (λ entry answer. IsTrue answer ↔ g.K.Verifier.accepts c.args.key.now
-    (get_or (map (λ line. line.items) c.args.entries.now) (2 * entry + 1) []) (get_or (map (λ line. line.items) c.args.entries.now) (2 * entry) []) c.args.context.now)
-    c.loop-entry.answers.items _ c.loop-entry.entry c.verify.result c.loop-entry.invariant.0 c.in_ok-push.ensures.items c.loop-entry.invariant.1
+    let entries = c.args.entries.now in
+    let lines = map (λ line. line.items) entries in
+    let entry = c.loop-entry.entry in
+    let first = line_at (λ line. line.items) entries (2 * entry) _ (search rules) c.index-entries-entry.is in
+    let signature = c.array_of-signature.ensures ∙ c.as_slice.ensures.value ∙ first in
+    let second = line_at (λ line. line.items) entries (2 * entry + 1) _ (search rules) c.index-entries-entry-in-loop-entry.is in
+    let message = c.as_slice-message.ensures.value ∙ second in
+    next_answer (λ n answer. IsTrue answer ↔ g.K.Verifier.accepts c.args.key.now
+    (get_or lines (2 * n + 1) []) (get_or lines (2 * n) []) c.args.context.now)
+    c.loop-entry.answers.items _ entry c.verify.result c.loop-entry.invariant.0 c.in_ok-push.ensures.items c.loop-entry.invariant.1
     (rw (signature, message) at c.verify.ensures)
 
 pub returns-clause-each : goal.returns-clause-each

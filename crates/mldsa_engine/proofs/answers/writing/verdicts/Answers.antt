@@ -6,13 +6,15 @@ use Rattle.mldsa_engine.proofs.answers.writing.verdicts.Goals as goal
 
 pub loop-answer-preserved : goal.loop-answer-preserved
 loop-answer-preserved c =
-    let both : IsTrue c.if-all.all ↔ IsTrue c.loop-answer.all × IsTrue (get_or c.args.answers.now c.loop-answer.answer-index false) = elim c.if-all.branch [
+    let answers = c.args.answers.now in
+    let index = c.loop-answer.answer-index in
+    let both : IsTrue c.if-all.all ↔ IsTrue c.loop-answer.all × IsTrue (get_or answers index false) = elim c.if-all.branch [
       | then-all w ↦ rw w.all-is (search rules)
       | else-all w ↦ rw w.all-is (search rules)
     ] in
-    tells_more c.args.answers.now c.loop-answer.answer-index _ _ c.word_of.result.now _ _ (search rules) (search rules) (search rules) both c.loop-answer.invariant
+    tells_more answers index _ _ c.word_of.result.now _ _ (search rules) (search rules) (search rules) both c.loop-answer.invariant
 
 pub returns-clause-given : goal.returns-clause-given
 returns-clause-given c =
-    let all : take c.loop-answer.answer-index c.args.answers.now ≡ c.args.answers.now = take_all c.loop-answer.answer-index c.args.answers.now (search rules) in
+    let all : take c.loop-answer.answer-index c.args.answers.now ≡ c.args.answers.now = take_all _ c.args.answers.now (search rules) in
     rw all at c.loop-answer.invariant
