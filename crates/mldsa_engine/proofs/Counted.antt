@@ -30,7 +30,8 @@ four_counted items w x y z (a ∷ b ∷ c ∷ []) first second third fourth fit 
 four_counted items w x y z (a ∷ b ∷ c ∷ d ∷ []) first second third fourth fit is is' is'' is''' = rw (is, is', is'', is''') refl
 four_counted items w x y z (a ∷ b ∷ c ∷ d ∷ e ∷ more) first second third fourth fit is is' is'' is''' = absurd fit.1.1.1.1
 
-pub id_answers : {V : Type 0} (items : V → List ℕ) (H G : List ℕ → List ℕ) (task : Task) (set : SetName) (entries : ℕ) (lines : List V) (key : V) (output : List ℕ)
+pub id_answers : {V : Type 0} (items : V → List ℕ) (H G : List ℕ → List ℕ) (task : Task) (set : SetName) (entries : ℕ)
+    (lines : List V) (key : V) (output : List ℕ)
     → task ≡ Id → AllFit (lines_of_entries task set entries) (map items lines) → key ≡ get_or lines 0 key
     → output ≡ hex_text (items key ∷ take 64 (H (items key)) ∷ [])
     → Answers H G task set (map items lines) output true
@@ -77,9 +78,12 @@ check_answers items bytes H G task set entries lines xi rnd context message x r 
     rw named (items xi, items rnd, items context, items message, four, rw (e0, e1, e2, e3) at checks)
 
 -- public keys are never refused, so what is told of one is told
-pub told_of_key : {W E : Type 0} (bytes : W → List ℕ) (p : ParameterSet) (H G : List ℕ → List ℕ) (key context : List ℕ) (entries : List (List ℕ)) (result : Result (W × Bool) E)
-    → IfOk result (λ given. TellsOfKey (λ decoded. MatchResult decoded (λ pk. IsPublicKeyOf H p.k key pk) (λ _. ⊥)) (λ pk output answer. (answers : List Bool)
-    × AnswersEach (λ signature message. VerifiesMessage p H G pk message signature context) entries answers × TellsAll answers output answer) (bytes given.0) given.1)
+pub told_of_key : {W E : Type 0} (bytes : W → List ℕ) (p : ParameterSet) (H G : List ℕ → List ℕ) (key context : List ℕ)
+    (entries : List (List ℕ)) (result : Result (W × Bool) E)
+    → IfOk result (λ given. TellsOfKey (λ decoded. MatchResult decoded (λ pk. IsPublicKeyOf H p.k key pk) (λ _. ⊥))
+    (λ pk output answer. (answers : List Bool)
+    × AnswersEach (λ signature message. VerifiesMessage p H G pk message signature context) entries answers
+    × TellsAll answers output answer) (bytes given.0) given.1)
     → IfOk result (λ given. JudgesEach p H G key context entries (bytes given.0) given.1)
 told_of_key bytes p H G key context entries (Err fault) tells = tells
 told_of_key bytes p H G key context entries (Ok given) (Ok pk, is, tells) = (pk, is, tells)
@@ -104,8 +108,12 @@ pub batch_answers : {V W E : Type 0} (items : V → List ℕ) (bytes : W → Lis
     → IfOk result (λ given. Answers H G task set (map items lines) (bytes given.0) given.1)
 batch_answers items bytes H G task set lines key context k c (Err fault) named fit p0 p1 e0 e1 judges = judges
 batch_answers items bytes H G task set [] key context k c (Ok given) named fit p0 p1 e0 e1 judges = absurd (rw named at fit)
-batch_answers items bytes H G task set (x ∷ []) key context k c (Ok given) named fit p0 p1 e0 e1 judges = let wanted = rw named at fit in absurd wanted.1
-batch_answers items bytes H G task set (x ∷ y ∷ []) key context k c (Ok given) named fit p0 p1 e0 e1 judges = let wanted = rw named at fit in absurd wanted.1.1
+batch_answers items bytes H G task set (x ∷ []) key context k c (Ok given) named fit p0 p1 e0 e1 judges =
+    let wanted = rw named at fit in
+    absurd wanted.1
+batch_answers items bytes H G task set (x ∷ y ∷ []) key context k c (Ok given) named fit p0 p1 e0 e1 judges =
+    let wanted = rw named at fit in
+    absurd wanted.1.1
 batch_answers items bytes H G task set (x ∷ y ∷ z ∷ more) key context k c (Ok given) named fit p0 p1 e0 e1 judges =
     let wanted = rw named at fit in
     let counted = entries_fit (signature_length (named_set set)) (two_bytes (items z)) (map items more) wanted.1.1.1 in

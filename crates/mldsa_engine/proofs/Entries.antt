@@ -7,7 +7,7 @@ use Rattle.mldsa_engine.specs.declared.call.Task.{Task}
 use Rattle.mldsa_engine.specs.declared.call.Task.TheVariants.{Id, Keygen, Sign, Verify, Check, Batch}
 use Rattle.mldsa_engine.specs.declared.call.SetName.{SetName}
 use Rattle.mldsa_engine.specs.Lines.{after_line, after_lines, line_bytes, lines_bytes, AllFit, AddsLines, TakesLines, FaultOfLines, InTurn}
-use Rattle.mldsa_engine.specs.ProgramText.{named_set, entry_lines, lines_of_entries, two_bytes, entries_of, entries_of_line, wanted_lines}
+use Rattle.mldsa_engine.specs.ProgramText.{named_set, wanted_lines, entry_lines, later_lines, lines_of_entries, two_bytes, entries_of, entries_of_line, lines_of_input}
 use Rattle.mldsa_engine.proofs.Joining.{AllFit-length, before_good, adds_all, adds_more, fault_after, in_turn_after, earlier_fault, earlier_in_turn}
 
 -- the lines of entries are those of the first and then those of the others
@@ -22,25 +22,8 @@ batch_more : (set : SetName) (entries more : ℕ)
 batch_more set entries more =
     ap (λ l. lines_of_entries Batch set 0 ++ l) (entries_more (signature_length (named_set set)) entries more)
 
--- what a command wants after the lines that it wants of every input
-abbrev later_lines : Task → SetName → ℕ → List (Option ℕ)
-later_lines Id set entries = []
-later_lines Keygen set entries = []
-later_lines Sign set entries = []
-later_lines Verify set entries = []
-later_lines Check set entries = []
-later_lines Batch set entries = entry_lines (signature_length (named_set set)) entries
-
--- every command wants its first lines, whatever the number of entries
-lines_split : (task : Task) (set : SetName) (entries : ℕ) → lines_of_entries task set entries ≡ lines_of_entries task set 0 ++ later_lines task set entries
-lines_split Id set entries = refl
-lines_split Keygen set entries = refl
-lines_split Sign set entries = refl
-lines_split Verify set entries = refl
-lines_split Check set entries = refl
-lines_split Batch set entries = refl
-
-lines_alike : (task : Task) (set : SetName) (entries : ℕ) → ¬ (task ≡ Batch) → lines_of_entries task set 0 ≡ lines_of_entries task set entries
+-- every command but a batch wants the same lines of every input
+lines_alike : (task : Task) (set : SetName) (entries : ℕ) → ¬ (task ≡ Batch) → wanted_lines task set ≡ lines_of_entries task set entries
 lines_alike Id set entries other = refl
 lines_alike Keygen set entries other = refl
 lines_alike Sign set entries other = refl
@@ -65,23 +48,21 @@ entries_said set entries input (Some left) lines p = ap entries_of_line (third_l
 
 -- the fault of one of the first lines is that of them all
 pub first_fault : (task : Task) (set : SetName) (given : Option (List ℕ)) (fault : RunFault)
-    → FaultOfLines 1 (lines_of_entries task set 0) given fault → FaultOfLines 1 (wanted_lines task set given) given fault
+    → FaultOfLines 1 (wanted_lines task set) given fault → FaultOfLines 1 (lines_of_input task set given) given fault
 first_fault task set given fault bad =
-    subst (λ l. FaultOfLines 1 l given fault) (sym (lines_split task set (entries_of given)))
-    (earlier_fault 1 (lines_of_entries task set 0) (later_lines task set (entries_of given)) given fault bad)
+    earlier_fault 1 (wanted_lines task set) (later_lines task set (entries_of given)) given fault bad
 
 pub first_in_turn : (task : Task) (set : SetName) (given left : Option (List ℕ))
-    → InTurn 1 (lines_of_entries task set 0) given left → InTurn 1 (wanted_lines task set given) given left
+    → InTurn 1 (wanted_lines task set) given left → InTurn 1 (lines_of_input task set given) given left
 first_in_turn task set given left bad =
-    subst (λ l. InTurn 1 l given left) (sym (lines_split task set (entries_of given)))
-    (earlier_in_turn 1 (lines_of_entries task set 0) (later_lines task set (entries_of given)) given left bad)
+    earlier_in_turn 1 (wanted_lines task set) (later_lines task set (entries_of given)) given left bad
 
 -- a command that wants no entries has its lines
 pub other_taken : (task : Task) (set : SetName) (given left : Option (List ℕ)) (lines : List (List ℕ)) → ¬ (task ≡ Batch)
-    → AddsLines (lines_of_entries task set 0) given left [] lines
-    → AllFit (lines_of_entries task set (two_bytes (get_or lines 2 []))) lines × TakesLines 1 (wanted_lines task set given) given left lines
+    → AddsLines (wanted_lines task set) given left [] lines
+    → AllFit (lines_of_entries task set (two_bytes (get_or lines 2 []))) lines × TakesLines 1 (lines_of_input task set given) given left lines
 other_taken task set given left lines other added =
-    let all = adds_all (lines_of_entries task set 0) given left lines added in (
+    let all = adds_all (wanted_lines task set) given left lines added in (
       subst (λ l. AllFit l lines) (lines_alike task set (two_bytes (get_or lines 2 [])) other) all.0,
       subst (λ l. TakesLines 1 l given left lines) (lines_alike task set (entries_of given) other) all.1,
     )
@@ -89,7 +70,7 @@ other_taken task set given left lines other added =
 -- a batch has its lines once as many entries were read as its third line says
 pub batch_taken : (task : Task) (set : SetName) (entry entries : ℕ) (given left : Option (List ℕ)) (lines : List (List ℕ))
     → task ≡ Batch → entry ≡ entries → entries ≡ two_bytes (get_or lines 2 []) → AddsLines (lines_of_entries Batch set entry) given left [] lines
-    → AllFit (lines_of_entries task set (two_bytes (get_or lines 2 []))) lines × TakesLines 1 (wanted_lines task set given) given left lines
+    → AllFit (lines_of_entries task set (two_bytes (get_or lines 2 []))) lines × TakesLines 1 (lines_of_input task set given) given left lines
 batch_taken task set entry entries None left lines named last said added =
     let all = adds_all (lines_of_entries Batch set entry) None left lines added in
     rw named (subst (λ n. AllFit (lines_of_entries Batch set n) lines) (last ∙ said) all.0, tt)
@@ -110,7 +91,8 @@ next_entry set entry given mid new lines all added more =
     let size = signature_length (named_set set) in
     let front = lines_of_entries Batch set entry in
     let counted = AllFit-length front lines (adds_all front given mid lines added).0 in (
-      subst (λ l. AddsLines l given new [] all) (sym (batch_more set entry 1)) (adds_more front (entry_lines size 1) given mid new [] lines all added more),
+      subst (λ l. AddsLines l given new [] all) (sym (batch_more set entry 1))
+          (adds_more front (entry_lines size 1) given mid new [] lines all added more),
       ap (λ l. get_or l 2 []) more.1 ∙ get_or_append_left lines more.0 [] 2 (omega (arith, counted)),
     )
 
@@ -142,7 +124,8 @@ third_says items set given mid lines third added is =
 pub fault_of_entry : {V : Type 0} (items : V → List ℕ) (task : Task) (set : SetName) (entry entries : ℕ) (given mid : Option (List ℕ))
     (lines : List V) (fault : RunFault) → task ≡ Batch → entry < entries → entries ≡ two_bytes (get_or (map items lines) 2 [])
     → AddsLines (lines_of_entries Batch set entry) given mid [] (map items lines)
-    → FaultOfLines (length lines + 1) (entry_lines (signature_length (named_set set)) 1) mid fault → FaultOfLines 1 (wanted_lines task set given) given fault
+    → FaultOfLines (length lines + 1) (entry_lines (signature_length (named_set set)) 1) mid fault
+    → FaultOfLines 1 (lines_of_input task set given) given fault
 fault_of_entry items task set entry entries None mid lines fault named within said added bad = tt
 fault_of_entry items task set entry entries (Some input) mid lines fault named within said added bad =
     let all = adds_all (lines_of_entries Batch set entry) (Some input) mid (map items lines) added in
@@ -152,12 +135,13 @@ fault_of_entry items task set entry entries (Some input) mid lines fault named w
     let this = subst (λ n. FaultOfLines (n + 1) (entry_lines size 1) mid fault) (sym (length-map lines items)) bad in
     let sofar = fault_after front (entry_lines size 1) (Some input) mid [] (map items lines) fault added this in
     let whole = earlier_fault 1 (front ++ entry_lines size 1) (entry_lines size (entries - entry - 1)) (Some input) fault sofar in
-    rw named (subst (λ l. FaultOfLines 1 l (Some input) fault) (whole_batch set entry entries within ∙ ap (lines_of_entries Batch set) same) whole)
+    let all = whole_batch set entry entries within ∙ ap (lines_of_entries Batch set) same in
+    rw named (subst (λ l. FaultOfLines 1 l (Some input) fault) all whole)
 
 pub in_turn_of_entry : {V : Type 0} (items : V → List ℕ) (task : Task) (set : SetName) (entry entries : ℕ) (given mid new : Option (List ℕ))
     (lines : List V) → task ≡ Batch → entry < entries → entries ≡ two_bytes (get_or (map items lines) 2 [])
     → AddsLines (lines_of_entries Batch set entry) given mid [] (map items lines)
-    → InTurn (length lines + 1) (entry_lines (signature_length (named_set set)) 1) mid new → InTurn 1 (wanted_lines task set given) given new
+    → InTurn (length lines + 1) (entry_lines (signature_length (named_set set)) 1) mid new → InTurn 1 (lines_of_input task set given) given new
 in_turn_of_entry items task set entry entries None mid new lines named within said added bad = tt
 in_turn_of_entry items task set entry entries (Some input) mid new lines named within said added bad =
     let all = adds_all (lines_of_entries Batch set entry) (Some input) mid (map items lines) added in
@@ -167,10 +151,12 @@ in_turn_of_entry items task set entry entries (Some input) mid new lines named w
     let this = subst (λ n. InTurn (n + 1) (entry_lines size 1) mid new) (sym (length-map lines items)) bad in
     let sofar = in_turn_after front (entry_lines size 1) (Some input) mid new [] (map items lines) added this in
     let whole = earlier_in_turn 1 (front ++ entry_lines size 1) (entry_lines size (entries - entry - 1)) (Some input) new sofar in
-    rw named (subst (λ l. InTurn 1 l (Some input) new) (whole_batch set entry entries within ∙ ap (lines_of_entries Batch set) same) whole)
+    let all = whole_batch set entry entries within ∙ ap (lines_of_entries Batch set) same in
+    rw named (subst (λ l. InTurn 1 l (Some input) new) all whole)
 
 -- what holds of the first and of each next
-first_or_later : (P : ℕ → Type 0) (count : ℕ) → P 0 → ((entry : ℕ) → entry < count → P (entry + 1)) → (entry : ℕ) → entry < suc count → P entry
+first_or_later : (P : ℕ → Type 0) (count : ℕ) → P 0 → ((entry : ℕ) → entry < count → P (entry + 1))
+    → (entry : ℕ) → entry < suc count → P entry
 first_or_later P count first later zero within = first
 first_or_later P count first later (suc entry) within = subst P (omega arith) (later entry (omega (arith, within)))
 

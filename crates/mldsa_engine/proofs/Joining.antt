@@ -133,7 +133,8 @@ and_good P Q R (Ok a) f h = f a h
 and_good P Q R (Err e) f h = h
 
 -- lines that were judged in turn are so before others
-stops_earlier : (number : ℕ) (wanted more : List (Option ℕ)) (input left : List ℕ) → StopsInTurn number wanted input left → StopsInTurn number (wanted ++ more) input left
+stops_earlier : (number : ℕ) (wanted more : List (Option ℕ)) (input left : List ℕ) → StopsInTurn number wanted input left
+    → StopsInTurn number (wanted ++ more) input left
 stops_earlier number [] more input left p = absurd p
 stops_earlier number (want ∷ wanted) more input left p =
     and_good _ _ _ (line_bytes number want input) (λ _ q. stops_earlier (number + 1) wanted more (after_line input) left q) p
@@ -177,7 +178,8 @@ adds_more wanted more old mid new before between after p q = (
 
 -- the fault of a line that is wanted after those that were added is that of them all
 pub fault_after : (wanted more : List (Option ℕ)) (old mid : Option (List ℕ)) (before after : List (List ℕ)) (fault : RunFault)
-    → AddsLines wanted old mid before after → FaultOfLines (length after + 1) more mid fault → FaultOfLines (length before + 1) (wanted ++ more) old fault
+    → AddsLines wanted old mid before after → FaultOfLines (length after + 1) more mid fault
+    → FaultOfLines (length before + 1) (wanted ++ more) old fault
 fault_after wanted more old mid before after fault p bad =
     later_fault (length before + 1) (length after + 1) wanted more old mid p.0 fault (numbered_on wanted old mid before after p) p.3 bad
 
@@ -187,15 +189,16 @@ in_turn_after wanted more old mid new before after p bad =
     later_in_turn (length before + 1) (length after + 1) wanted more old mid new p.0 (numbered_on wanted old mid before after p) p.3 bad
 
 -- one line more of those that are wanted
-pub next_line : {V : Type 0} (items : V → List ℕ) (wanted : List (Option ℕ)) (index count : ℕ) (old mid new : Option (List ℕ)) (before lines all : List V) (line : V)
-    → index < length wanted → count ≡ length lines → all ≡ lines ++ line ∷ []
+pub next_line : {V : Type 0} (items : V → List ℕ) (wanted : List (Option ℕ)) (index count : ℕ) (old mid new : Option (List ℕ))
+    (before lines all : List V) (line : V) → index < length wanted → count ≡ length lines → all ≡ lines ++ line ∷ []
     → AddsLines (take index wanted) old mid (map items before) (map items lines)
     → Fits (get_or wanted index None) (items line) → TakesLines (count + 1) (get_or wanted index None ∷ []) mid new (items line ∷ [])
     → AddsLines (take (index + 1) wanted) old new (map items before) (map items all)
 next_line items wanted index count old mid new before lines all line within counted grown added fits takes =
     let front = take_more wanted index None within in
     let many : map items all ≡ map items lines ++ items line ∷ [] = ap (map items) grown ∙ map-append items lines (line ∷ []) in
-    let taken = subst (λ n. TakesLines (n + 1) (get_or wanted index None ∷ []) mid new (items line ∷ [])) (counted ∙ sym (length-map lines items)) takes in
+    let next = counted ∙ sym (length-map lines items) in
+    let taken = subst (λ n. TakesLines (n + 1) (get_or wanted index None ∷ []) mid new (items line ∷ [])) next takes in
     rw (front, many) (adds_more (take index wanted) _ old mid new _ _ _ added (items line ∷ [], refl, (fits, tt), taken))
 
 -- the wanted lines, of which one is the next
@@ -204,8 +207,8 @@ whole_at : (wanted : List (Option ℕ)) (index : ℕ) → index < length wanted
 whole_at wanted index within = ap (λ l. take index wanted ++ l) (sym (drop_more wanted index None within)) ∙ take-append-drop index wanted
 
 -- the fault of a line is that of them all, where those before it were good
-pub fault_at : {V : Type 0} (items : V → List ℕ) (wanted : List (Option ℕ)) (index count : ℕ) (old mid : Option (List ℕ)) (before lines : List V) (fault : RunFault)
-    → index < length wanted → count ≡ length lines → AddsLines (take index wanted) old mid (map items before) (map items lines)
+pub fault_at : {V : Type 0} (items : V → List ℕ) (wanted : List (Option ℕ)) (index count : ℕ) (old mid : Option (List ℕ))
+    (before lines : List V) (fault : RunFault) → index < length wanted → count ≡ length lines → AddsLines (take index wanted) old mid (map items before) (map items lines)
     → FaultOfLines (count + 1) (get_or wanted index None ∷ []) mid fault → FaultOfLines (length before + 1) wanted old fault
 fault_at items wanted index count old mid before lines fault within counted added bad =
     let this = get_or wanted index None ∷ [] in
@@ -215,8 +218,8 @@ fault_at items wanted index count old mid before lines fault within counted adde
     let all = fault_after (take index wanted) (this ++ later) old mid (map items before) (map items lines) fault added one in
     rw (length-map before items, whole_at wanted index within) at all
 
-pub in_turn_at : {V : Type 0} (items : V → List ℕ) (wanted : List (Option ℕ)) (index count : ℕ) (old mid new : Option (List ℕ)) (before lines : List V)
-    → index < length wanted → count ≡ length lines → AddsLines (take index wanted) old mid (map items before) (map items lines)
+pub in_turn_at : {V : Type 0} (items : V → List ℕ) (wanted : List (Option ℕ)) (index count : ℕ) (old mid new : Option (List ℕ))
+    (before lines : List V) → index < length wanted → count ≡ length lines → AddsLines (take index wanted) old mid (map items before) (map items lines)
     → InTurn (count + 1) (get_or wanted index None ∷ []) mid new → InTurn (length before + 1) wanted old new
 in_turn_at items wanted index count old mid new before lines within counted added bad =
     let this = get_or wanted index None ∷ [] in

@@ -19,7 +19,8 @@ next_answer P answers all count answer size grown before now =
         | inl same ↦ subst (λ n. P n (get_or all n false)) (sym same) (subst (λ a. P count a) (sym here) now)
         | inr other ↦
             let earlier : entry < count = omega (arith, within, other) in
-            let there = ap (λ l. get_or l entry false) grown ∙ get_or_append_left answers (answer ∷ []) false entry (omega (arith, earlier, size)) in
+            let kept = get_or_append_left answers (answer ∷ []) false entry (omega (arith, earlier, size)) in
+            let there = ap (λ l. get_or l entry false) grown ∙ kept in
             subst (λ a. P entry a) (sym there) (before entry earlier)
       ],
     )
@@ -29,9 +30,11 @@ true_at : (answers : List Bool) (index i : ℕ) → i < index + 1 → index < le
     → IsTrue (get_or answers i false)
 true_at answers index i before within h =
     let size = length-take-le (index + 1) answers (omega (arith, within)) in
-    subst IsTrue (get_or-take (index + 1) answers i false before) (All-get_or IsTrue (take (index + 1) answers) i false (omega (arith, size, before)) h)
+    let here = All-get_or IsTrue (take (index + 1) answers) i false (omega (arith, size, before)) h in
+    subst IsTrue (get_or-take (index + 1) answers i false before) here
 
-true_before : (answers : List Bool) (index : ℕ) → index < length answers → All IsTrue (take (index + 1) answers) → All IsTrue (take index answers)
+true_before : (answers : List Bool) (index : ℕ) → index < length answers → All IsTrue (take (index + 1) answers)
+    → All IsTrue (take index answers)
 true_before answers index within h =
     let size = length-take-le index answers (omega (arith, within)) in
     All-from_get_or IsTrue (take index answers) false (λ i w.

@@ -22,19 +22,32 @@ named_set MlDsa44 = set_44
 named_set MlDsa65 = set_65
 named_set MlDsa87 = set_87
 
+-- the lines that a command wants of every input: a number of bytes each, or any number of them
+abbrev pub wanted_lines : Task → SetName → List (Option ℕ)
+wanted_lines Id set = Some (public_key_length (named_set set)) ∷ []
+wanted_lines Keygen set = Some 32 ∷ []
+wanted_lines Sign set = Some (private_key_length (named_set set)) ∷ Some 32 ∷ None ∷ None ∷ []
+wanted_lines Verify set = Some (public_key_length (named_set set)) ∷ Some (signature_length (named_set set)) ∷ None ∷ None ∷ []
+wanted_lines Check set = Some 32 ∷ Some 32 ∷ None ∷ None ∷ []
+wanted_lines Batch set = Some (public_key_length (named_set set)) ∷ None ∷ Some 2 ∷ []
+
 -- the lines of so many entries of a batch: a signature of this size and a message each
 abbrev pub entry_lines : ℕ → ℕ → List (Option ℕ)
 entry_lines size zero = []
 entry_lines size (suc entries) = Some size ∷ None ∷ entry_lines size entries
 
--- the lines that a command wants, a number of bytes each, or any number of them; only those of a batch depend on a number of entries
+-- the lines that a command wants after those: of a batch with so many entries theirs, and of every other none
+abbrev pub later_lines : Task → SetName → ℕ → List (Option ℕ)
+later_lines Id set entries = []
+later_lines Keygen set entries = []
+later_lines Sign set entries = []
+later_lines Verify set entries = []
+later_lines Check set entries = []
+later_lines Batch set entries = entry_lines (signature_length (named_set set)) entries
+
+-- all the lines that a command wants, of a batch with so many entries
 abbrev pub lines_of_entries : Task → SetName → ℕ → List (Option ℕ)
-lines_of_entries Id set entries = Some (public_key_length (named_set set)) ∷ []
-lines_of_entries Keygen set entries = Some 32 ∷ []
-lines_of_entries Sign set entries = Some (private_key_length (named_set set)) ∷ Some 32 ∷ None ∷ None ∷ []
-lines_of_entries Verify set entries = Some (public_key_length (named_set set)) ∷ Some (signature_length (named_set set)) ∷ None ∷ None ∷ []
-lines_of_entries Check set entries = Some 32 ∷ Some 32 ∷ None ∷ None ∷ []
-lines_of_entries Batch set entries = Some (public_key_length (named_set set)) ∷ None ∷ Some 2 ∷ entry_lines (signature_length (named_set set)) entries
+lines_of_entries task set entries = wanted_lines task set ++ later_lines task set entries
 
 -- the number that two bytes spell, the high byte first
 abbrev pub two_bytes : List ℕ → ℕ
@@ -50,9 +63,9 @@ abbrev pub entries_of : Option (List ℕ) → ℕ
 entries_of None = 0
 entries_of (Some input) = entries_of_line (line_bytes 3 (Some 2) (after_lines 2 input))
 
--- the lines that a command wants of an input
-abbrev pub wanted_lines : Task → SetName → Option (List ℕ) → List (Option ℕ)
-wanted_lines task set given = lines_of_entries task set (entries_of given)
+-- all the lines that a command wants of an input
+abbrev pub lines_of_input : Task → SetName → Option (List ℕ) → List (Option ℕ)
+lines_of_input task set given = lines_of_entries task set (entries_of given)
 
 -- lines as they are written, each ended by LF
 abbrev pub text : List (List ℕ) → List ℕ
@@ -144,7 +157,7 @@ Answers H G Batch set lines output answer = (key context count : List ℕ) × ((
 -- writer got what the command writes for them, and nothing else
 abbrev pub Runs : (List ℕ → List ℕ) → (List ℕ → List ℕ) → Task → SetName → Option (List ℕ) → Option (List ℕ) → Option (List ℕ) → Option (List ℕ) → Bool → Type 0
 Runs H G task set given left before after answer = (lines : List (List ℕ)) × ((output : List ℕ)
-    × TakesLines 1 (wanted_lines task set given) given left lines
+    × TakesLines 1 (lines_of_input task set given) given left lines
     × Answers H G task set lines output answer
     × Appends before after output)
 

@@ -4,7 +4,7 @@
 ghost use Rattle.std.specs.Prelude.{◌≡◌, ◌↔◌, length, map, get_or, [], false, Ok, Err, IsTrue, IfOk, IfErr};
 ghost use Rattle.fips204.specs.ParameterSets.{signature_length};
 ghost use Rattle.mldsa_engine.specs.Lines.{AllFit, IsInputFault, IsLineFault, TakesLines, FaultOfLines, InTurn};
-ghost use Rattle.mldsa_engine.specs.ProgramText.{named_set, entry_lines, two_bytes, lines_of_entries, wanted_lines};
+ghost use Rattle.mldsa_engine.specs.ProgramText.{named_set, entry_lines, two_bytes, wanted_lines, lines_of_entries, lines_of_input};
 
 use crate::call::{SetName, Task};
 use crate::fault::RunFault;
@@ -24,9 +24,9 @@ pub(crate) fn lines_of<I: Read>(
     requires unmarked { input.old.failed ≡ false }
     ensures read_failed { IsTrue input.new.failed ↔ (result ≡ Err RunFault.Read) }
     ensures fit { IfOk result (λ lines. AllFit (lines_of_entries task set (two_bytes (get_or (map (λ line. line.items) lines.items) 2 []))) (map (λ line. line.items) lines.items)) }
-    ensures taken { IfOk result (λ lines. TakesLines 1 (wanted_lines task set (I.remaining input.old.device)) (I.remaining input.old.device) (I.remaining input.new.device) (map (λ line. line.items) lines.items)) }
-    ensures line_fault { IfErr result (λ fault. IsLineFault fault → FaultOfLines 1 (wanted_lines task set (I.remaining input.old.device)) (I.remaining input.old.device) fault) }
-    ensures in_turn { IfErr result (λ fault. IsLineFault fault → InTurn 1 (wanted_lines task set (I.remaining input.old.device)) (I.remaining input.old.device) (I.remaining input.new.device)) }
+    ensures taken { IfOk result (λ lines. TakesLines 1 (lines_of_input task set (I.remaining input.old.device)) (I.remaining input.old.device) (I.remaining input.new.device) (map (λ line. line.items) lines.items)) }
+    ensures line_fault { IfErr result (λ fault. IsLineFault fault → FaultOfLines 1 (lines_of_input task set (I.remaining input.old.device)) (I.remaining input.old.device) fault) }
+    ensures in_turn { IfErr result (λ fault. IsLineFault fault → InTurn 1 (lines_of_input task set (I.remaining input.old.device)) (I.remaining input.old.device) (I.remaining input.new.device)) }
     ensures faults { IfErr result (λ fault. IsInputFault fault) }
 {
     let mut lines = Vec::new(alloc);
@@ -48,10 +48,10 @@ fn number_of(bytes: &[u8]) -> usize
     usize::from(bytes[0]) * 256 + usize::from(bytes[1])
 }
 
-/// The lines that a command wants at first: a number of bytes each, or any number of them.
+/// The lines that a command wants of every input: a number of bytes each, or any number of them.
 #[tactic(auto, using(crate::proofs::Lengths::lengths))]
 fn wanted_of(task: Task, set: SetName) -> &'static [Option<usize>]
-    ensures { result.now ≡ lines_of_entries task set 0 }
+    ensures { result.now ≡ wanted_lines task set }
 {
     match (task, set) {
         (Task::Id, SetName::MlDsa44) => &[Some(ml_dsa_44::PK_LEN)],
