@@ -34,6 +34,8 @@ mod prepared;
 #[cfg(test)]
 mod program;
 #[cfg(test)]
+mod program_batch;
+#[cfg(test)]
 mod program_cuts;
 #[cfg(test)]
 mod program_devices;

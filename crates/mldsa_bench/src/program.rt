@@ -314,7 +314,7 @@ fn texts_of_faults(rt: HostRuntime) -> Result<(), Fail> {
     for (fault, text) in [
         (
             RunFault::Usage,
-            "usage: mldsa sha2|fill00|fill55|fillff id|keygen|sign|verify|check 44|65|87",
+            "usage: mldsa sha2|fill00|fill55|fillff id|keygen|sign|verify|check|batch 44|65|87",
         ),
         (RunFault::Missing { line: 4 }, "line 4: missing"),
         (RunFault::TooLong { line: 1 }, "line 1: too long"),

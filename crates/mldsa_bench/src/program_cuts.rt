@@ -9,7 +9,7 @@ use std::alloc::{AllocError, Global};
 use std::test::Fail;
 
 /// A line of an input: how many digits it has, and whether the command takes any other number of bytes.
-type Line = (usize, bool);
+pub type Line = (usize, bool);
 
 /// The fault of an input of these lines that is cut after so many characters, or none where the last line
 /// is good.
@@ -41,7 +41,7 @@ fn fault_of_cut(lines: &[Line], cut: usize) -> Option<RunFault> {
 
 /// The first number of characters after which a cut of the input of these values, with `fill55` at set 44,
 /// is not answered as it has to be: by its fault with nothing written, or by what is written for the whole input.
-fn first_wrong_cut(
+pub fn first_wrong_cut(
     alloc: Global,
     command: &str,
     values: &[&[u8]],

@@ -94,7 +94,7 @@ fn lines_of(alloc: Global, lines: &[&str]) -> Result<Vec<u8>, AllocError> {
 const ZEROS: &str = "0000000000000000000000000000000000000000000000000000000000000000";
 
 /// The sets with their keys and signatures over the counter streams.
-const RECORDED: [[&str; 4]; 3] = [
+pub const RECORDED: [[&str; 4]; 3] = [
     [
         "44",
         recorded_44::PUBLIC_KEY,
@@ -118,7 +118,7 @@ const RECORDED: [[&str; 4]; 3] = [
 /// Whether a run over the counter streams answers and writes this, with this number of reads where the
 /// reader gives all that it is asked for, and leaves what follows unread; and the same where each device
 /// moves a byte a call.
-fn runs_as(
+pub fn runs_as(
     alloc: Global,
     command: [&str; 2],
     lines: &[&str],
@@ -149,7 +149,7 @@ fn runs_as(
 }
 
 /// The reads of a line of known length with its LF, in pieces of 4096 bytes.
-fn pieces(line: &str) -> usize {
+pub fn pieces(line: &str) -> usize {
     (line.len() / 4096).wrapping_add(1)
 }
 
@@ -215,12 +215,12 @@ fn ends_with(
 }
 
 /// Whether each fault of each line of a call is answered before anything that follows is read. The lines
-/// are good, and of the first of them so many bytes are wanted as they spell.
+/// are good, and of those at these places so many bytes are wanted as they spell.
 fn faults_in_turn(
     alloc: Global,
     call: [&str; 3],
     lines: &[&str],
-    known: usize,
+    known: &[usize],
 ) -> Result<bool, AllocError> {
     let mut alike = true;
     for (index, good) in lines.iter().enumerate() {
@@ -252,7 +252,7 @@ fn faults_in_turn(
         }
         let wants = good.len() / 2;
         for has in [0, 1, wants.wrapping_sub(1), wants.wrapping_add(1)] {
-            if index < known && has < 5000 {
+            if known.contains(&index) && has < 5000 {
                 let digits = vec![in alloc; b'0'; 2 * has]?;
                 let mut bytes = before.clone()?;
                 bytes.extend_from_slice(digits.as_slice())?;
@@ -271,14 +271,17 @@ fn faults_in_turn(
 fn each_line_is_judged_before_the_next_is_read(rt: HostRuntime) -> Result<(), Fail> {
     let alloc = rt.alloc();
     for [set, public, private, signature] in RECORDED {
-        assert!(rt; faults_in_turn(alloc, ["fill55", "id", set], &[public], 1)?);
-        assert!(rt; faults_in_turn(alloc, ["fill55", "keygen", set], &[ZEROS], 1)?);
+        assert!(rt; faults_in_turn(alloc, ["fill55", "id", set], &[public], &[0])?);
+        assert!(rt; faults_in_turn(alloc, ["fill55", "keygen", set], &[ZEROS], &[0])?);
         let lines = [private, ZEROS, "00", "00"];
-        assert!(rt; faults_in_turn(alloc, ["fill55", "sign", set], &lines, 2)?);
+        assert!(rt; faults_in_turn(alloc, ["fill55", "sign", set], &lines, &[0, 1])?);
         let lines = [public, signature, "00", "00"];
-        assert!(rt; faults_in_turn(alloc, ["fill55", "verify", set], &lines, 2)?);
+        assert!(rt; faults_in_turn(alloc, ["fill55", "verify", set], &lines, &[0, 1])?);
         let lines = [ZEROS, ZEROS, "00", "00"];
-        assert!(rt; faults_in_turn(alloc, ["fill55", "check", set], &lines, 2)?);
+        assert!(rt; faults_in_turn(alloc, ["fill55", "check", set], &lines, &[0, 1])?);
+        let lines = [public, "00", "0002", signature, "00", signature, "00"];
+        let known = [0, 2, 3, 5];
+        assert!(rt; faults_in_turn(alloc, ["fill55", "batch", set], &lines, &known)?);
     }
     Ok(())
 }
@@ -377,7 +380,8 @@ fn writes_of_every_size(rt: HostRuntime) -> Result<(), Fail> {
 
 #[test]
 fn statuses_and_lines_of_faults(rt: HostRuntime) -> Result<(), Fail> {
-    let usage = "usage: mldsa sha2|fill00|fill55|fillff id|keygen|sign|verify|check 44|65|87\n";
+    let usage =
+        "usage: mldsa sha2|fill00|fill55|fillff id|keygen|sign|verify|check|batch 44|65|87\n";
     let length = |line, wants, has| Err(RunFault::Length { line, wants, has });
     for (answer, status, text) in [
         (Ok(true), 0u8, ""),

@@ -22,7 +22,7 @@ pub fn hex_lines(alloc: Global, values: &[&[u8]]) -> Result<Vec<u8>, AllocError>
 }
 
 /// Whether a run on these lines answers so, reads them all, and writes these bytes.
-fn gives(
+pub fn gives(
     alloc: Global,
     call: (&str, &str, &str),
     lines: &[&[u8]],

@@ -1,8 +1,8 @@
 -- Wanted lines one after another.
-use Rattle.std.proofs.Common.{◌≡◌, ℕ, suc, ◌+◌, List, [], ◌∷◌, ◌++◌, length, Option, Some, None, Result, Ok, Err, IfOk, MatchResult, refl, sym, ap, ◌∙◌, arith, add-zero, take, drop, map, get_or, ◌<◌, ◌≤◌, subst, take-append-drop}
-use Rattle.std.proofs.lemmas.List.{take_more, drop_more, length-take-le, map-append}
+use Rattle.std.proofs.Common.{◌≡◌, ℕ, suc, ◌+◌, List, [], ◌∷◌, ◌++◌, length, Option, Some, None, Result, Ok, Err, IfOk, MatchResult, refl, sym, ap, ◌∙◌, arith, add-zero, append-nil, length-append, append_assoc, take, drop, map, get_or, ◌<◌, ◌≤◌, subst, take-append-drop}
+use Rattle.std.proofs.lemmas.List.{take_more, drop_more, length-map, map-append}
 use Rattle.mldsa_engine.specs.declared.fault.RunFault.{RunFault}
-use Rattle.mldsa_engine.specs.Lines.{longest_line, line_reach, first_line, after_line, after_lines, line_bytes, before_lines, lines_bytes, Fits, AllFit, LeavesAllBut, TakesLine, TakesLines, FaultOfLines, StopsInTurn, InTurn, judged}
+use Rattle.mldsa_engine.specs.Lines.{longest_line, line_reach, first_line, after_line, after_lines, line_bytes, before_lines, lines_bytes, Fits, AllFit, AddsLines, LeavesAllBut, TakesLine, TakesLines, FaultOfLines, StopsInTurn, InTurn, judged}
 use Rattle.mldsa_engine.proofs.Judging.{judged_digits}
 
 -- the lines of one part of an input, and then those of the next, or the first fault among them
@@ -104,11 +104,11 @@ in_turn_of_one number wanted (Some (byte ∷ later)) (Some left) line fault p q 
     (sym bad) (subst (λ l. LeavesAllBut (line_reach wanted l) input left) p.1 p.2)
 
 -- good lines were taken before those that were judged in turn
-before_good : (first : Result (List ℕ) RunFault) (later : Result (List (List ℕ)) RunFault) (lines : List (List ℕ)) → before_lines first later ≡ Ok lines
-    → (bytes : List ℕ) × (first ≡ Ok bytes) × ((others : List (List ℕ)) × (later ≡ Ok others))
+pub before_good : (first : Result (List ℕ) RunFault) (later : Result (List (List ℕ)) RunFault) (lines : List (List ℕ)) → before_lines first later ≡ Ok lines
+    → (bytes : List ℕ) × (first ≡ Ok bytes) × ((others : List (List ℕ)) × (later ≡ Ok others) × (lines ≡ bytes ∷ others))
 before_good (Err fault) later lines good = cc good
 before_good (Ok bytes) (Err fault) lines good = cc good
-before_good (Ok bytes) (Ok others) lines good = (bytes, refl, (others, refl))
+before_good (Ok bytes) (Ok others) lines good = (bytes, refl, (others, refl, cc good))
 
 stops_later : (number next : ℕ) (wanted more : List (Option ℕ)) (input left : List ℕ) (lines : List (List ℕ))
     → next ≡ number + length wanted → lines_bytes number wanted input ≡ Ok lines
@@ -128,47 +128,103 @@ later_in_turn number next wanted more (Some input) (Some middle) None lines e p 
 later_in_turn number next wanted more (Some input) (Some middle) (Some left) lines e p q =
     stops_later number next wanted more input left lines e p.0 (subst (λ x. StopsInTurn next more x left) p.1 q)
 
-no_good : {A E : Type 0} (P : A → Type 0) (Q : E → Type 0) (r : Result A E) → MatchResult r (λ _. ⊥) Q → MatchResult r P Q
-no_good P Q (Ok a) h = absurd h
-no_good P Q (Err e) h = h
+and_good : {A E : Type 0} (P Q : A → Type 0) (R : E → Type 0) (r : Result A E) → ((a : A) → P a → Q a) → MatchResult r P R → MatchResult r Q R
+and_good P Q R (Ok a) f h = f a h
+and_good P Q R (Err e) f h = h
 
-pub earlier_in_turn : (number : ℕ) (wanted : Option ℕ) (more : List (Option ℕ)) (old new : Option (List ℕ))
-    → InTurn number (wanted ∷ []) old new → InTurn number (wanted ∷ more) old new
+-- lines that were judged in turn are so before others
+stops_earlier : (number : ℕ) (wanted more : List (Option ℕ)) (input left : List ℕ) → StopsInTurn number wanted input left
+    → StopsInTurn number (wanted ++ more) input left
+stops_earlier number [] more input left p = absurd p
+stops_earlier number (want ∷ wanted) more input left p =
+    and_good _ _ _ (line_bytes number want input) (λ _ q. stops_earlier (number + 1) wanted more (after_line input) left q) p
+
+pub earlier_in_turn : (number : ℕ) (wanted more : List (Option ℕ)) (old new : Option (List ℕ))
+    → InTurn number wanted old new → InTurn number (wanted ++ more) old new
 earlier_in_turn number wanted more None new p = tt
 earlier_in_turn number wanted more (Some input) None p = absurd p
-earlier_in_turn number wanted more (Some input) (Some left) p = no_good _ _ (line_bytes number wanted input) p
+earlier_in_turn number wanted more (Some input) (Some left) p = stops_earlier number wanted more input left p
+
+-- lines that fit are as many as are wanted
+pub AllFit-length : (wanted : List (Option ℕ)) (lines : List (List ℕ)) → AllFit wanted lines → length lines ≡ length wanted
+AllFit-length [] [] fit = refl
+AllFit-length [] (line ∷ lines) fit = absurd fit
+AllFit-length (want ∷ wanted) [] fit = absurd fit
+AllFit-length (want ∷ wanted) (line ∷ lines) fit = ap suc (AllFit-length wanted lines fit.1)
+
+-- no line was added
+pub adds_none : (given : Option (List ℕ)) (lines : List (List ℕ)) → AddsLines [] given given lines lines
+adds_none None lines = ([], sym (append-nil lines), tt, tt)
+adds_none (Some input) lines = ([], sym (append-nil lines), tt, (refl, refl))
+
+-- lines that were added to all that were read are all of them
+pub adds_all : (wanted : List (Option ℕ)) (old new : Option (List ℕ)) (lines : List (List ℕ)) → AddsLines wanted old new [] lines
+    → AllFit wanted lines × TakesLines 1 wanted old new lines
+adds_all wanted old new lines p = (subst (λ l. AllFit wanted l) (sym p.1) p.2, subst (λ l. TakesLines 1 wanted old new l) (sym p.1) p.3)
+
+-- how the lines that are added next are numbered
+numbered_on : (wanted : List (Option ℕ)) (old new : Option (List ℕ)) (before after : List (List ℕ)) → AddsLines wanted old new before after
+    → length after + 1 ≡ length before + 1 + length wanted
+numbered_on wanted old new before after p = omega (arith, ap length p.1, length-append before p.0, AllFit-length wanted p.0 p.2)
+
+pub adds_more : (wanted more : List (Option ℕ)) (old mid new : Option (List ℕ)) (before between after : List (List ℕ))
+    → AddsLines wanted old mid before between → AddsLines more mid new between after → AddsLines (wanted ++ more) old new before after
+adds_more wanted more old mid new before between after p q = (
+  p.0 ++ q.0,
+  q.1 ∙ ap (λ l. l ++ q.0) p.1 ∙ append_assoc before p.0 q.0,
+  AllFit-append wanted more p.0 q.0 p.2 q.2,
+  takes_more (length before + 1) (length between + 1) wanted more old mid new p.0 q.0 (numbered_on wanted old mid before between p) p.3 q.3,
+)
+
+-- the fault of a line that is wanted after those that were added is that of them all
+pub fault_after : (wanted more : List (Option ℕ)) (old mid : Option (List ℕ)) (before after : List (List ℕ)) (fault : RunFault)
+    → AddsLines wanted old mid before after → FaultOfLines (length after + 1) more mid fault
+    → FaultOfLines (length before + 1) (wanted ++ more) old fault
+fault_after wanted more old mid before after fault p bad =
+    later_fault (length before + 1) (length after + 1) wanted more old mid p.0 fault (numbered_on wanted old mid before after p) p.3 bad
+
+pub in_turn_after : (wanted more : List (Option ℕ)) (old mid new : Option (List ℕ)) (before after : List (List ℕ))
+    → AddsLines wanted old mid before after → InTurn (length after + 1) more mid new → InTurn (length before + 1) (wanted ++ more) old new
+in_turn_after wanted more old mid new before after p bad =
+    later_in_turn (length before + 1) (length after + 1) wanted more old mid new p.0 (numbered_on wanted old mid before after p) p.3 bad
 
 -- one line more of those that are wanted
-pub next_line : {V : Type 0} (items : V → List ℕ) (wanted : List (Option ℕ)) (index : ℕ) (old mid new : Option (List ℕ)) (lines all : List V) (line : V)
-    → index < length wanted → all ≡ lines ++ line ∷ []
-    → AllFit (take index wanted) (map items lines) → TakesLines 1 (take index wanted) old mid (map items lines)
-    → Fits (get_or wanted index None) (items line) → TakesLines (index + 1) (get_or wanted index None ∷ []) mid new (items line ∷ [])
-    → AllFit (take (index + 1) wanted) (map items all) × TakesLines 1 (take (index + 1) wanted) old new (map items all)
-next_line items wanted index old mid new lines all line within grown fit taken fits takes =
+pub next_line : {V : Type 0} (items : V → List ℕ) (wanted : List (Option ℕ)) (index count : ℕ) (old mid new : Option (List ℕ))
+    (before lines all : List V) (line : V) → index < length wanted → count ≡ length lines → all ≡ lines ++ line ∷ []
+    → AddsLines (take index wanted) old mid (map items before) (map items lines)
+    → Fits (get_or wanted index None) (items line) → TakesLines (count + 1) (get_or wanted index None ∷ []) mid new (items line ∷ [])
+    → AddsLines (take (index + 1) wanted) old new (map items before) (map items all)
+next_line items wanted index count old mid new before lines all line within counted grown added fits takes =
     let front = take_more wanted index None within in
     let many : map items all ≡ map items lines ++ items line ∷ [] = ap (map items) grown ∙ map-append items lines (line ∷ []) in
-    let next : index + 1 ≡ 1 + length (take index wanted) = omega (arith, length-take-le index wanted (omega arith)) in (
-      rw (front, many) (AllFit-append _ _ _ _ fit (fits, tt)),
-      rw (front, many) (takes_more 1 (index + 1) (take index wanted) _ old mid new _ _ next taken takes),
-    )
+    let next = counted ∙ sym (length-map lines items) in
+    let taken = subst (λ n. TakesLines (n + 1) (get_or wanted index None ∷ []) mid new (items line ∷ [])) next takes in
+    rw (front, many) (adds_more (take index wanted) _ old mid new _ _ _ added (items line ∷ [], refl, (fits, tt), taken))
+
+-- the wanted lines, of which one is the next
+whole_at : (wanted : List (Option ℕ)) (index : ℕ) → index < length wanted
+    → take index wanted ++ ((get_or wanted index None ∷ []) ++ drop (index + 1) wanted) ≡ wanted
+whole_at wanted index within = ap (λ l. take index wanted ++ l) (sym (drop_more wanted index None within)) ∙ take-append-drop index wanted
 
 -- the fault of a line is that of them all, where those before it were good
-pub fault_at : (wanted : List (Option ℕ)) (index : ℕ) (old mid : Option (List ℕ)) (lines : List (List ℕ)) (fault : RunFault)
-    → index < length wanted → TakesLines 1 (take index wanted) old mid lines
-    → FaultOfLines (index + 1) (get_or wanted index None ∷ []) mid fault → FaultOfLines 1 wanted old fault
-fault_at wanted index old mid lines fault within taken bad =
-    let whole : wanted ≡ take index wanted ++ (get_or wanted index None ∷ drop (index + 1) wanted) =
-    sym (take-append-drop index wanted) ∙ ap (λ l. take index wanted ++ l) (drop_more wanted index None within) in
-    let next : index + 1 ≡ 1 + length (take index wanted) = omega (arith, length-take-le index wanted (omega arith)) in
-    subst (λ l. FaultOfLines 1 l old fault) (sym whole)
-    (later_fault 1 (index + 1) (take index wanted) _ old mid lines fault next taken (earlier_fault (index + 1) (get_or wanted index None ∷ []) (drop (index + 1) wanted) mid fault bad))
+pub fault_at : {V : Type 0} (items : V → List ℕ) (wanted : List (Option ℕ)) (index count : ℕ) (old mid : Option (List ℕ))
+    (before lines : List V) (fault : RunFault) → index < length wanted → count ≡ length lines → AddsLines (take index wanted) old mid (map items before) (map items lines)
+    → FaultOfLines (count + 1) (get_or wanted index None ∷ []) mid fault → FaultOfLines (length before + 1) wanted old fault
+fault_at items wanted index count old mid before lines fault within counted added bad =
+    let this = get_or wanted index None ∷ [] in
+    let later = drop (index + 1) wanted in
+    let next : count + 1 ≡ length (map items lines) + 1 = omega (arith, counted, length-map lines items) in
+    let one = earlier_fault (length (map items lines) + 1) this later mid fault (subst (λ n. FaultOfLines n this mid fault) next bad) in
+    let all = fault_after (take index wanted) (this ++ later) old mid (map items before) (map items lines) fault added one in
+    rw (length-map before items, whole_at wanted index within) at all
 
-pub in_turn_at : (wanted : List (Option ℕ)) (index : ℕ) (old mid new : Option (List ℕ)) (lines : List (List ℕ))
-    → index < length wanted → TakesLines 1 (take index wanted) old mid lines
-    → InTurn (index + 1) (get_or wanted index None ∷ []) mid new → InTurn 1 wanted old new
-in_turn_at wanted index old mid new lines within taken bad =
-    let whole : wanted ≡ take index wanted ++ (get_or wanted index None ∷ drop (index + 1) wanted) =
-    sym (take-append-drop index wanted) ∙ ap (λ l. take index wanted ++ l) (drop_more wanted index None within) in
-    let next : index + 1 ≡ 1 + length (take index wanted) = omega (arith, length-take-le index wanted (omega arith)) in
-    subst (λ l. InTurn 1 l old new) (sym whole)
-    (later_in_turn 1 (index + 1) (take index wanted) _ old mid new lines next taken (earlier_in_turn (index + 1) (get_or wanted index None) (drop (index + 1) wanted) mid new bad))
+pub in_turn_at : {V : Type 0} (items : V → List ℕ) (wanted : List (Option ℕ)) (index count : ℕ) (old mid new : Option (List ℕ))
+    (before lines : List V) → index < length wanted → count ≡ length lines → AddsLines (take index wanted) old mid (map items before) (map items lines)
+    → InTurn (count + 1) (get_or wanted index None ∷ []) mid new → InTurn (length before + 1) wanted old new
+in_turn_at items wanted index count old mid new before lines within counted added bad =
+    let this = get_or wanted index None ∷ [] in
+    let later = drop (index + 1) wanted in
+    let next : count + 1 ≡ length (map items lines) + 1 = omega (arith, counted, length-map lines items) in
+    let one = earlier_in_turn (length (map items lines) + 1) this later mid new (subst (λ n. InTurn n this mid new) next bad) in
+    let all = in_turn_after (take index wanted) (this ++ later) old mid new (map items before) (map items lines) added one in
+    rw (length-map before items, whole_at wanted index within) at all

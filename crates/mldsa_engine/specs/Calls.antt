@@ -4,7 +4,7 @@ use Rattle.fips204.specs.Streams.{sha256_front, sha512_front}
 use Rattle.mldsa_engine.specs.declared.call.Streams.{Streams}
 use Rattle.mldsa_engine.specs.declared.call.Streams.TheVariants.{Sha2, Fill00, Fill55, FillFf}
 use Rattle.mldsa_engine.specs.declared.call.Task.{Task}
-use Rattle.mldsa_engine.specs.declared.call.Task.TheVariants.{Id, Keygen, Sign, Verify, Check}
+use Rattle.mldsa_engine.specs.declared.call.Task.TheVariants.{Id, Keygen, Sign, Verify, Check, Batch}
 use Rattle.mldsa_engine.specs.declared.call.SetName.{SetName}
 use Rattle.mldsa_engine.specs.declared.call.SetName.TheVariants.{MlDsa44, MlDsa65, MlDsa87}
 
@@ -22,6 +22,7 @@ task_word Keygen = codes "keygen"
 task_word Sign = codes "sign"
 task_word Verify = codes "verify"
 task_word Check = codes "check"
+task_word Batch = codes "batch"
 
 -- the word that names a parameter set
 abbrev pub set_word : SetName → List ℕ

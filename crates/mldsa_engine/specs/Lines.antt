@@ -1,5 +1,5 @@
 -- The lines of an input, and the bytes that they spell in hex.
-use Rattle.std.specs.Prelude.{◌≡◌, ◌<◌, ◌≤◌, ℕ, zero, suc, ◌+◌, ◌*◌, max, drop, MatchResult, ◌==◌, Bool, if◌then◌else◌, nat_lt, List, [], ◌∷◌, length, Option, Some, None, Result, Ok, Err, ⊤}
+use Rattle.std.specs.Prelude.{◌≡◌, ◌<◌, ◌≤◌, ℕ, zero, suc, ◌+◌, ◌*◌, max, drop, MatchResult, ◌==◌, Bool, if◌then◌else◌, nat_lt, List, [], ◌∷◌, ◌++◌, length, Option, Some, None, Result, Ok, Err, ⊤}
 use Rattle.std.specs.List.{before_first, after_first}
 use Rattle.hex.specs.Hex.{decode_of}
 use Rattle.hex.specs.declared.error.FromHexError.{FromHexError}
@@ -141,3 +141,8 @@ AllFit [] [] = ⊤
 AllFit [] (line ∷ lines) = ⊥
 AllFit (wanted ∷ later) [] = ⊥
 AllFit (wanted ∷ later) (line ∷ lines) = Fits wanted line × AllFit later lines
+
+-- the wanted lines came after those that were read before, and are numbered on
+abbrev pub AddsLines : List (Option ℕ) → Option (List ℕ) → Option (List ℕ) → List (List ℕ) → List (List ℕ) → Type 0
+AddsLines wanted given left before after = (added : List (List ℕ)) × (after ≡ before ++ added)
+    × AllFit wanted added × TakesLines (length before + 1) wanted given left added

@@ -1,5 +1,5 @@
 -- The program's text: what a run answers and writes, by what its input spells.
-use Rattle.std.specs.Prelude.{◌≡◌, ◌↔◌, ℕ, Bool, true, false, IsTrue, List, [], ◌∷◌, ◌++◌, map, take, codes, Option, Some, None, Result, Ok, Err, MatchResult}
+use Rattle.std.specs.Prelude.{◌≡◌, ◌<◌, ◌↔◌, ℕ, zero, suc, ◌+◌, ◌*◌, Bool, true, false, IsTrue, List, [], ◌∷◌, ◌++◌, length, get_or, map, take, All, codes, Option, Some, None, Result, Ok, Err, MatchResult}
 use Rattle.std.specs.List.{flat_map}
 use Rattle.std.specs.Io.KnownBytes.{Appends}
 use Rattle.hex.specs.Hex.{encode_lower}
@@ -9,10 +9,10 @@ use Rattle.fips204.specs.Faults.{words}
 use Rattle.fips204.specs.Keys.{PublicParts, IsPublicKeyOf, DecodesPrivate}
 use Rattle.fips204.specs.ParameterSets.{ParameterSet, set_44, set_65, set_87, public_key_length, private_key_length, signature_length}
 use Rattle.fips204.specs.Refusals.{generated, sign_message, VerifiesMessage}
-use Rattle.mldsa_engine.specs.Lines.{TakesLines}
+use Rattle.mldsa_engine.specs.Lines.{after_lines, line_bytes, TakesLines}
 use Rattle.mldsa_engine.specs.declared.fault.RunFault.{RunFault}
 use Rattle.mldsa_engine.specs.declared.call.Task.{Task}
-use Rattle.mldsa_engine.specs.declared.call.Task.TheVariants.{Id, Keygen, Sign, Verify, Check}
+use Rattle.mldsa_engine.specs.declared.call.Task.TheVariants.{Id, Keygen, Sign, Verify, Check, Batch}
 use Rattle.mldsa_engine.specs.declared.call.SetName.{SetName}
 use Rattle.mldsa_engine.specs.declared.call.SetName.TheVariants.{MlDsa44, MlDsa65, MlDsa87}
 
@@ -22,13 +22,50 @@ named_set MlDsa44 = set_44
 named_set MlDsa65 = set_65
 named_set MlDsa87 = set_87
 
--- the lines that a command wants: a number of bytes each, or any number of them
+-- the lines that a command wants of every input: a number of bytes each, or any number of them
 abbrev pub wanted_lines : Task → SetName → List (Option ℕ)
 wanted_lines Id set = Some (public_key_length (named_set set)) ∷ []
 wanted_lines Keygen set = Some 32 ∷ []
 wanted_lines Sign set = Some (private_key_length (named_set set)) ∷ Some 32 ∷ None ∷ None ∷ []
 wanted_lines Verify set = Some (public_key_length (named_set set)) ∷ Some (signature_length (named_set set)) ∷ None ∷ None ∷ []
 wanted_lines Check set = Some 32 ∷ Some 32 ∷ None ∷ None ∷ []
+wanted_lines Batch set = Some (public_key_length (named_set set)) ∷ None ∷ Some 2 ∷ []
+
+-- the lines of so many entries of a batch: a signature of this size and a message each
+abbrev pub entry_lines : ℕ → ℕ → List (Option ℕ)
+entry_lines size zero = []
+entry_lines size (suc entries) = Some size ∷ None ∷ entry_lines size entries
+
+-- the lines that a command wants after those: of a batch with so many entries theirs, and of every other none
+abbrev pub later_lines : Task → SetName → ℕ → List (Option ℕ)
+later_lines Id set entries = []
+later_lines Keygen set entries = []
+later_lines Sign set entries = []
+later_lines Verify set entries = []
+later_lines Check set entries = []
+later_lines Batch set entries = entry_lines (signature_length (named_set set)) entries
+
+-- all the lines that a command wants, of a batch with so many entries
+abbrev pub lines_of_entries : Task → SetName → ℕ → List (Option ℕ)
+lines_of_entries task set entries = wanted_lines task set ++ later_lines task set entries
+
+-- the number that two bytes spell, the high byte first
+abbrev pub two_bytes : List ℕ → ℕ
+two_bytes bytes = get_or bytes 0 0 * 256 + get_or bytes 1 0
+
+-- how many entries a batch has whose third line is judged so: what its two bytes spell, and none where it has a fault
+abbrev pub entries_of_line : Result (List ℕ) RunFault → ℕ
+entries_of_line (Ok bytes) = two_bytes bytes
+entries_of_line (Err fault) = 0
+
+-- how many entries a batch has on this input
+abbrev pub entries_of : Option (List ℕ) → ℕ
+entries_of None = 0
+entries_of (Some input) = entries_of_line (line_bytes 3 (Some 2) (after_lines 2 input))
+
+-- all the lines that a command wants of an input
+abbrev pub lines_of_input : Task → SetName → Option (List ℕ) → List (Option ℕ)
+lines_of_input task set given = lines_of_entries task set (entries_of given)
 
 -- lines as they are written, each ended by LF
 abbrev pub text : List (List ℕ) → List ℕ
@@ -84,6 +121,21 @@ Checks p H G xi rnd context message output answer =
     (λ fault. Refuses fault output answer))
     (λ fault. Refuses fault output answer)
 
+-- the answer to each entry, a signature and a message, is whether it is accepted
+abbrev pub AnswersEach : (List ℕ → List ℕ → Type 0) → List (List ℕ) → List Bool → Type 0
+AnswersEach accepts entries answers = (length entries ≡ 2 * length answers)
+    × ((entry : ℕ) → entry < length answers → IsTrue (get_or answers entry false) ↔ accepts (get_or entries (2 * entry) []) (get_or entries (2 * entry + 1) []))
+
+-- answers are written as a word each, and are true together where none is `no`
+abbrev pub TellsAll : List Bool → List ℕ → Bool → Type 0
+TellsAll answers output answer = (output ≡ text (map answer_word answers)) × (IsTrue answer ↔ All IsTrue answers)
+
+-- `batch`: whether the public key that has these bytes accepts each of the entries
+abbrev pub JudgesEach : ParameterSet → (List ℕ → List ℕ) → (List ℕ → List ℕ) → List ℕ → List ℕ → List (List ℕ) → List ℕ → Bool → Type 0
+JudgesEach p H G key context entries output answer = (pk : PublicParts) × IsPublicKeyOf H p.k key pk
+    × ((answers : List Bool) × AnswersEach (λ signature message. VerifiesMessage p H G pk message signature context) entries answers
+    × TellsAll answers output answer)
+
 -- what a command writes and answers, given the bytes of its lines, over the streams H and G; `id` writes the public key and
 -- its hash
 abbrev pub Answers : (List ℕ → List ℕ) → (List ℕ → List ℕ) → Task → SetName → List (List ℕ) → List ℕ → Bool → Type 0
@@ -97,12 +149,15 @@ Answers H G Verify set lines output answer = (key signature context message : Li
     × Judges (named_set set) H G key signature context message output answer
 Answers H G Check set lines output answer = (xi rnd context message : List ℕ) × (lines ≡ xi ∷ rnd ∷ context ∷ message ∷ [])
     × Checks (named_set set) H G xi rnd context message output answer
+Answers H G Batch set lines output answer = (key context count : List ℕ) × ((entries : List (List ℕ)) × (lines ≡ key ∷ context ∷ count ∷ entries)
+    × (length entries ≡ 2 * two_bytes count)
+    × JudgesEach (named_set set) H G key context entries output answer)
 
 -- a run over the streams H and G ended with this answer: its reader gave the wanted lines and has left what follows them, and its
 -- writer got what the command writes for them, and nothing else
 abbrev pub Runs : (List ℕ → List ℕ) → (List ℕ → List ℕ) → Task → SetName → Option (List ℕ) → Option (List ℕ) → Option (List ℕ) → Option (List ℕ) → Bool → Type 0
 Runs H G task set given left before after answer = (lines : List (List ℕ)) × ((output : List ℕ)
-    × TakesLines 1 (wanted_lines task set) given left lines
+    × TakesLines 1 (lines_of_input task set given) given left lines
     × Answers H G task set lines output answer
     × Appends before after output)
 

@@ -1,9 +1,9 @@
-//! What each command wants, writes and answers.
+//! What each command writes and answers.
 #![tactic(auto)]
 
-ghost use Rattle.std.specs.Prelude.{◌≡◌, length, map, Ok, Err, IfOk, IfErr};
+ghost use Rattle.std.specs.Prelude.{◌≡◌, length, map, get_or, [], Ok, Err, IfOk, IfErr};
 ghost use Rattle.mldsa_engine.specs.Lines.{AllFit};
-ghost use Rattle.mldsa_engine.specs.ProgramText.{wanted_lines, Answers};
+ghost use Rattle.mldsa_engine.specs.ProgramText.{two_bytes, lines_of_entries, Answers};
 
 mod checking;
 mod keys;
@@ -14,49 +14,7 @@ mod writing;
 use crate::call::{SetName, Task};
 use crate::fault::RunFault;
 use fips204::xof::Xof;
-use fips204::{ml_dsa_44, ml_dsa_65, ml_dsa_87};
 use std::alloc::Global;
-
-/// The lines that a command wants: a number of bytes each, or any number of them.
-#[tactic(auto, using(crate::proofs::Lengths::lengths))]
-pub(crate) fn wanted_of(task: Task, set: SetName) -> &'static [Option<usize>]
-    ensures { result.now ≡ wanted_lines task set }
-{
-    match (task, set) {
-        (Task::Id, SetName::MlDsa44) => &[Some(ml_dsa_44::PK_LEN)],
-        (Task::Id, SetName::MlDsa65) => &[Some(ml_dsa_65::PK_LEN)],
-        (Task::Id, SetName::MlDsa87) => &[Some(ml_dsa_87::PK_LEN)],
-        (Task::Keygen, _) => &[Some(32)],
-        (Task::Sign, SetName::MlDsa44) => &[Some(ml_dsa_44::SK_LEN), Some(32), None, None],
-        (Task::Sign, SetName::MlDsa65) => &[Some(ml_dsa_65::SK_LEN), Some(32), None, None],
-        (Task::Sign, SetName::MlDsa87) => &[Some(ml_dsa_87::SK_LEN), Some(32), None, None],
-        (Task::Verify, SetName::MlDsa44) => {
-            &[
-                Some(ml_dsa_44::PK_LEN),
-                Some(ml_dsa_44::SIG_LEN),
-                None,
-                None,
-            ]
-        }
-        (Task::Verify, SetName::MlDsa65) => {
-            &[
-                Some(ml_dsa_65::PK_LEN),
-                Some(ml_dsa_65::SIG_LEN),
-                None,
-                None,
-            ]
-        }
-        (Task::Verify, SetName::MlDsa87) => {
-            &[
-                Some(ml_dsa_87::PK_LEN),
-                Some(ml_dsa_87::SIG_LEN),
-                None,
-                None,
-            ]
-        }
-        (Task::Check, _) => &[Some(32), Some(32), None, None],
-    }
-}
 
 /// What a command writes, and its answer, given the bytes of its lines.
 pub(crate) fn answer_of<H: Xof, G: Xof>(
@@ -65,7 +23,7 @@ pub(crate) fn answer_of<H: Xof, G: Xof>(
     set: SetName,
     lines: &[Vec<u8>],
 ) -> Result<(Vec<u8>, bool), RunFault>
-    requires fit { AllFit (wanted_lines task set) (map (λ line. line.items) lines.now) }
+    requires fit { AllFit (lines_of_entries task set (two_bytes (get_or (map (λ line. line.items) lines.now) 2 []))) (map (λ line. line.items) lines.now) }
     ensures given { IfOk result (λ given. Answers H.front G.front task set (map (λ line. line.items) lines.now) given.0.items given.1) }
     ensures memory { IfErr result (λ fault. fault ≡ RunFault.Memory) }
 {
@@ -98,6 +56,13 @@ pub(crate) fn answer_of<H: Xof, G: Xof>(
             &array_of(lines[1].as_slice()),
             lines[2].as_slice(),
             lines[3].as_slice(),
+        ),
+        Task::Batch => verifying::verdicts_of::<H, G>(
+            alloc,
+            set,
+            lines[0].as_slice(),
+            lines[1].as_slice(),
+            &lines[3..],
         ),
     }
 }

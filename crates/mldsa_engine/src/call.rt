@@ -30,6 +30,8 @@ pub enum Task {
     Verify,
     /// Makes the keys of a seed, signs with them and prints whether that is accepted.
     Check,
+    /// Prints of each of many signatures whether it is accepted.
+    Batch,
 }
 
 /// A parameter set of FIPS 204.
@@ -68,6 +70,7 @@ fn task_of(word: &str) -> Option<Task>
         "sign" => Some(Task::Sign),
         "verify" => Some(Task::Verify),
         "check" => Some(Task::Check),
+        "batch" => Some(Task::Batch),
         _ => None,
     }
 }

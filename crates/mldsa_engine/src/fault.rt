@@ -8,7 +8,7 @@ use thiserror::Error;
 #[derive(Debug, Clone, Copy, PartialEq, Eq, Error)]
 pub enum RunFault {
     /// The words after the program's name are no call.
-    #[error("usage: mldsa sha2|fill00|fill55|fillff id|keygen|sign|verify|check 44|65|87")]
+    #[error("usage: mldsa sha2|fill00|fill55|fillff id|keygen|sign|verify|check|batch 44|65|87")]
     Usage,
     /// The input ended before this line.
     #[error("line {line}: missing")]

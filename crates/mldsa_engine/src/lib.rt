@@ -5,7 +5,7 @@ ghost use Rattle.std.specs.Prelude.{◌≡◌, ◌↔◌, ℕ, List, false, Ok, 
 ghost use Rattle.std.specs.Io.KnownBytes.{Keeps};
 ghost use Rattle.mldsa_engine.specs.Calls.{call_words, first_stream, second_stream};
 ghost use Rattle.mldsa_engine.specs.Lines.{IsLineFault, FaultOfLines, InTurn};
-ghost use Rattle.mldsa_engine.specs.ProgramText.{wanted_lines, Runs};
+ghost use Rattle.mldsa_engine.specs.ProgramText.{lines_of_input, Runs};
 
 mod answers;
 pub mod bytewise;
@@ -15,6 +15,7 @@ pub mod lines;
 pub mod marked;
 pub mod output;
 pub mod process;
+mod wanted;
 
 pub use bytewise::Bytewise;
 pub use call::{SetName, Streams, Task};
@@ -42,12 +43,12 @@ pub fn run<H: Xof, G: Xof, I: Read, O: Write>(
     ensures read_failed { IsTrue input.new.failed ↔ (result ≡ Err RunFault.Read) }
     ensures write_failed { IsTrue output.new.failed ↔ (result ≡ Err RunFault.Write) }
     ensures answer { IfOk result (λ answer. Runs H.front G.front task set (I.remaining input.old.device) (I.remaining input.new.device) (O.contents output.old.device) (O.contents output.new.device) answer) }
-    ensures line_fault { IfErr result (λ fault. IsLineFault fault → FaultOfLines 1 (wanted_lines task set) (I.remaining input.old.device) fault) }
-    ensures in_turn { IfErr result (λ fault. IsLineFault fault → InTurn 1 (wanted_lines task set) (I.remaining input.old.device) (I.remaining input.new.device)) }
+    ensures line_fault { IfErr result (λ fault. IsLineFault fault → FaultOfLines 1 (lines_of_input task set (I.remaining input.old.device)) (I.remaining input.old.device) fault) }
+    ensures in_turn { IfErr result (λ fault. IsLineFault fault → InTurn 1 (lines_of_input task set (I.remaining input.old.device)) (I.remaining input.old.device) (I.remaining input.new.device)) }
     ensures nothing_written { IfErr result (λ fault. ¬ (fault ≡ RunFault.Write) → Keeps (O.contents output.old.device) (O.contents output.new.device)) }
     ensures no_usage { ¬ (result ≡ Err RunFault.Usage) }
 {
-    let lines = lines::read_lines(alloc, answers::wanted_of(task, set), input)?;
+    let lines = wanted::lines_of(alloc, task, set, input)?;
     let (written, answer) = answers::answer_of::<H, G>(alloc, task, set, lines.as_slice())?;
     output::put(output, written.as_slice())?;
     Ok(answer)
@@ -67,8 +68,8 @@ pub fn from_words<I: Read, O: Write>(
     ensures read_failed { IsTrue input.new.failed ↔ (result ≡ Err RunFault.Read) }
     ensures write_failed { IsTrue output.new.failed ↔ (result ≡ Err RunFault.Write) }
     ensures answer { IfOk result (λ answer. (streams : Streams) × ((task : Task) × ((set : SetName) × (map string_bytes words.now ≡ call_words streams task set) × Runs (first_stream streams) (second_stream streams) task set (I.remaining input.old.device) (I.remaining input.new.device) (O.contents output.old.device) (O.contents output.new.device) answer))) }
-    ensures line_fault { IfErr result (λ fault. IsLineFault fault → (streams : Streams) × ((task : Task) × ((set : SetName) × (map string_bytes words.now ≡ call_words streams task set) × FaultOfLines 1 (wanted_lines task set) (I.remaining input.old.device) fault))) }
-    ensures in_turn { IfErr result (λ fault. IsLineFault fault → (streams : Streams) × ((task : Task) × ((set : SetName) × (map string_bytes words.now ≡ call_words streams task set) × InTurn 1 (wanted_lines task set) (I.remaining input.old.device) (I.remaining input.new.device)))) }
+    ensures line_fault { IfErr result (λ fault. IsLineFault fault → (streams : Streams) × ((task : Task) × ((set : SetName) × (map string_bytes words.now ≡ call_words streams task set) × FaultOfLines 1 (lines_of_input task set (I.remaining input.old.device)) (I.remaining input.old.device) fault))) }
+    ensures in_turn { IfErr result (λ fault. IsLineFault fault → (streams : Streams) × ((task : Task) × ((set : SetName) × (map string_bytes words.now ≡ call_words streams task set) × InTurn 1 (lines_of_input task set (I.remaining input.old.device)) (I.remaining input.old.device) (I.remaining input.new.device)))) }
     ensures nothing_written { IfErr result (λ fault. ¬ (fault ≡ RunFault.Write) → Keeps (O.contents output.old.device) (O.contents output.new.device)) }
 {
     let Some((streams, task, set)) = call::call_of(words) else {

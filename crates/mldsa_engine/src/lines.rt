@@ -1,8 +1,8 @@
 //! The lines of an input.
 #![tactic(auto)]
 
-ghost use Rattle.std.specs.Prelude.{◌≡◌, ◌≢◌, ◌≤◌, ◌+◌, ◌↔◌, ◌⊎◌, ℕ, List, Option, length, map, Ok, Err, IsTrue, IfOk, IfErr, IfSome, MatchResult, false, ◌∷◌, [], position};
-ghost use Rattle.mldsa_engine.specs.Lines.{longest_line, line_digits, ends_line, judged, Fits, AllFit, IsInputFault, IsLineFault, TakesLine, TakesLines, FaultOfLines, InTurn};
+ghost use Rattle.std.specs.Prelude.{◌≡◌, ◌≢◌, ◌≤◌, ◌+◌, ◌↔◌, ◌⊎◌, ℕ, List, Option, length, map, Ok, Err, IsTrue, IfOk, IfErr, OnOk, IfSome, MatchResult, false, ◌∷◌, [], position};
+ghost use Rattle.mldsa_engine.specs.Lines.{longest_line, line_digits, ends_line, judged, Fits, AddsLines, IsInputFault, IsLineFault, TakesLine, TakesLines, FaultOfLines, InTurn};
 
 use crate::fault::RunFault;
 use crate::marked::Marked;
@@ -130,25 +130,25 @@ fn read_bytes<I: Read>(
     bytes_of(alloc, number, wanted, line.as_slice())
 }
 
-/// The bytes of the wanted lines: as many bytes of each as are wanted of it, or any number of them.
-/// Each line is judged before the next is read, and no byte past the last one's LF is taken.
+/// Adds the bytes of the wanted lines: as many bytes of each as are wanted of it, or any number of them.
+/// Each line is judged before the next is read, and no byte past the last one's LF is taken. The lines
+/// are numbered on.
 pub(crate) fn read_lines<I: Read>(
     alloc: Global,
     wanted: &[Option<usize>],
     input: &mut Marked<I>,
-) -> Result<Vec<Vec<u8>>, RunFault>
+    lines: &mut Vec<Vec<u8>>,
+) -> Result<(), RunFault>
     requires unmarked { input.old.failed ≡ false }
     ensures read_failed { IsTrue input.new.failed ↔ (result ≡ Err RunFault.Read) }
-    ensures fit { IfOk result (λ lines. AllFit wanted.now (map (λ line. line.items) lines.items)) }
-    ensures taken { IfOk result (λ lines. TakesLines 1 wanted.now (I.remaining input.old.device) (I.remaining input.new.device) (map (λ line. line.items) lines.items)) }
-    ensures line_fault { IfErr result (λ fault. IsLineFault fault → FaultOfLines 1 wanted.now (I.remaining input.old.device) fault) }
-    ensures in_turn { IfErr result (λ fault. IsLineFault fault → InTurn 1 wanted.now (I.remaining input.old.device) (I.remaining input.new.device)) }
+    ensures added { OnOk result (AddsLines wanted.now (I.remaining input.old.device) (I.remaining input.new.device) (map (λ line. line.items) lines.old.items) (map (λ line. line.items) lines.new.items)) }
+    ensures line_fault { IfErr result (λ fault. IsLineFault fault → FaultOfLines (length lines.old.items + 1) wanted.now (I.remaining input.old.device) fault) }
+    ensures in_turn { IfErr result (λ fault. IsLineFault fault → InTurn (length lines.old.items + 1) wanted.now (I.remaining input.old.device) (I.remaining input.new.device)) }
     ensures faults { IfErr result (λ fault. IsInputFault fault) }
 {
-    let mut lines = Vec::new(alloc);
-    for (index, length) in wanted.iter().enumerate() {
-        let bytes = read_bytes(alloc, index + 1, *length, input)?;
+    for length in wanted {
+        let bytes = read_bytes(alloc, lines.len() + 1, *length, input)?;
         lines.push(bytes)?;
     }
-    Ok(lines)
+    Ok(())
 }

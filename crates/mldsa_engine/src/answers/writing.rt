@@ -2,7 +2,7 @@
 #![tactic(auto)]
 
 ghost use Rattle.std.specs.Prelude.{◌≡◌, ◌++◌, ◌∷◌, [], IfOk, IfErr, OnOk};
-ghost use Rattle.mldsa_engine.specs.ProgramText.{text, hex_text, answer_word, Refuses};
+ghost use Rattle.mldsa_engine.specs.ProgramText.{text, hex_text, answer_word, Refuses, TellsAll};
 
 use crate::fault::RunFault;
 use fips204::Fault;
@@ -21,8 +21,28 @@ pub(super) fn verdict(alloc: Global, answer: bool) -> Result<(Vec<u8>, bool), Ru
     ensures given { IfOk result (λ given. (given.0.items ≡ text (answer_word answer ∷ [])) × (given.1 ≡ answer)) }
     ensures memory { IfErr result (λ fault. fault ≡ RunFault.Memory) }
 {
-    let word = if answer { "yes" } else { "no" };
-    Ok((word_line(alloc, word)?, answer))
+    Ok((word_line(alloc, word_of(answer))?, answer))
+}
+
+/// The word for each answer, on a line, and whether none is `no`.
+pub(super) fn verdicts(alloc: Global, answers: &[bool]) -> Result<(Vec<u8>, bool), RunFault>
+    ensures given { IfOk result (λ given. TellsAll answers.now given.0.items given.1) }
+    ensures memory { IfErr result (λ fault. fault ≡ RunFault.Memory) }
+{
+    let mut written = Vec::new(alloc);
+    let mut all = true;
+    for answer in answers {
+        push_line(&mut written, word_of(*answer))?;
+        all = all && *answer;
+    }
+    Ok((written, all))
+}
+
+/// The word for an answer.
+fn word_of(answer: bool) -> &'static str
+    ensures { result.now ≡ answer_word answer }
+{
+    if answer { "yes" } else { "no" }
 }
 
 /// A line of these characters.

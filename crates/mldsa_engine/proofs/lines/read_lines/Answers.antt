@@ -1,21 +1,30 @@
 use Rattle.std.proofs.Common.{rules}
 use Rattle.mldsa_engine.specs.Lines.{IsLineFault, FaultOfLines, InTurn}
-use Rattle.mldsa_engine.proofs.Joining.{next_line, fault_at, in_turn_at}
+use Rattle.mldsa_engine.proofs.Joining.{adds_none, next_line, fault_at, in_turn_at}
 use Rattle.mldsa_engine.proofs.lines.read_lines.Goals as goal
+
+pub loop-length-init : goal.loop-length-init
+loop-length-init g c = (search rules, adds_none _ _)
 
 pub returns-in_err-bytes-clause-line_fault : goal.returns-in_err-bytes-clause-line_fault
 returns-in_err-bytes-clause-line_fault g c =
-    let bad : IsLineFault c.in_err-bytes.field-0.0 → FaultOfLines 1 c.args.wanted.now (g.I.Read.remaining c.args.input.now.device) c.in_err-bytes.field-0.0 =
-    λ of_line. fault_at _ _ _ _ _ _ (search rules) c.loop-index.invariant.2 (c.in_err-bytes.ensures.line_fault of_line) in
+    let given = g.I.Read.remaining c.args.input.now.device in
+    let bad : IsLineFault c.in_err-bytes.field-0.0 → FaultOfLines _ c.args.wanted.now given c.in_err-bytes.field-0.0 = λ of_line.
+    fault_at (λ line. line.items) _ _ c.len.result _ _ c.args.lines.now.items _ _
+    (search rules) (search rules) c.loop-length.invariant.1 (c.in_err-bytes.ensures.line_fault of_line) in
     search (rules, bad)
 
 pub returns-in_err-bytes-clause-in_turn : goal.returns-in_err-bytes-clause-in_turn
 returns-in_err-bytes-clause-in_turn g c =
-    let bad : IsLineFault c.in_err-bytes.field-0.0 → InTurn 1 c.args.wanted.now (g.I.Read.remaining c.args.input.now.device) (g.I.Read.remaining c.read_bytes.new.input.device) =
-    λ of_line. in_turn_at _ _ _ _ _ _ (search rules) c.loop-index.invariant.2 (c.in_err-bytes.ensures.in_turn of_line) in
+    let given = g.I.Read.remaining c.args.input.now.device in
+    let left = g.I.Read.remaining c.read_bytes.new.input.device in
+    let bad : IsLineFault c.in_err-bytes.field-0.0 → InTurn _ c.args.wanted.now given left = λ of_line.
+    in_turn_at (λ line. line.items) _ _ c.len.result _ _ _ c.args.lines.now.items _
+    (search rules) (search rules) c.loop-length.invariant.1 (c.in_err-bytes.ensures.in_turn of_line) in
     search (rules, bad)
 
-pub loop-index-preserved : goal.loop-index-preserved
-loop-index-preserved g c =
-    let both = next_line (λ line. line.items) _ _ _ _ _ _ _ _ (search rules) c.in_ok-push.ensures.items c.loop-index.invariant.1 c.loop-index.invariant.2 c.in_ok-bytes.ensures.fits c.in_ok-bytes.ensures.taken in
-    (search rules, both.0, both.1)
+pub loop-length-preserved : goal.loop-length-preserved
+loop-length-preserved g c =
+    let added = next_line (λ line. line.items) _ _ c.len.result _ _ _ c.args.lines.now.items _ _ _
+    (search rules) (search rules) c.in_ok-push.ensures.items c.loop-length.invariant.1 c.in_ok-bytes.ensures.fits c.in_ok-bytes.ensures.taken in
+    (search rules, added)
