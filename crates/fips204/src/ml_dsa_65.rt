@@ -194,7 +194,8 @@ impl<H: Xof, G: Xof> PrivateKey<H, G> {
         mu: &[u8; 64],
         hedged: bool,
     ) -> Result<[u8; SIG_LEN], Fault>
-        ensures answer { DrawsIf hedged R.gives R.refuses rng.old rng.new Fault.InternalRng (sign set_65 H.front G.front self.now mu.now) result }
+        ensures answer { DrawsIf hedged R.gives R.refuses rng.old rng.new Fault.InternalRng
+            (sign set_65 H.front G.front self.now mu.now) result }
         ensures accepted { HashAccepted set_65 H.front G.front self.now mu.now result }
     {
         let rnd = draw_if(hedged, rng)?;

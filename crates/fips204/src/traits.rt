@@ -142,7 +142,8 @@ pub trait Signer {
     ) -> Result<Self::Signature, Fault>
         ensures answer { DrawsUnless (message_fault ctx.now) R.gives R.refuses rng.old rng.new SignRng
             (λ rnd. signs self.now rnd message.now ctx.now) result }
-        ensures accepted { AcceptedIfWhole (whole self.now) (derives self.now) (λ pk signature. accepts pk message.now signature ctx.now) result }
+        ensures accepted { AcceptedIfWhole (whole self.now) (derives self.now)
+            (λ pk signature. accepts pk message.now signature ctx.now) result }
     {
         if ctx.len() > 255 {
             return Err(Fault::SignCtx);
@@ -160,7 +161,8 @@ pub trait Signer {
         ctx: &[u8],
     ) -> Result<Self::Signature, Fault>
         ensures answer { result ≡ signs self.now seed.now message.now ctx.now }
-        ensures accepted { AcceptedIfWhole (whole self.now) (derives self.now) (λ pk signature. accepts pk message.now signature ctx.now) result };
+        ensures accepted { AcceptedIfWhole (whole self.now) (derives self.now)
+            (λ pk signature. accepts pk message.now signature ctx.now) result };
 
     /// Signs a digest with 32 bytes that the generator is asked for once. Refuses with `Fault::HashCtx`
     /// a context of more than 255 bytes, then what `check_pre_hash` refuses, and does not ask then; with
@@ -174,7 +176,8 @@ pub trait Signer {
     ) -> Result<Self::Signature, Fault>
         ensures answer { DrawsUnless (digest_fault ctx.now hash_oid.now hash.now) R.gives R.refuses rng.old rng.new HashRng
             (λ rnd. signs_digest self.now rnd hash.now ctx.now hash_oid.now) result }
-        ensures accepted { AcceptedIfWhole (whole self.now) (derives self.now) (λ pk signature. accepts_digest pk hash.now signature ctx.now hash_oid.now) result }
+        ensures accepted { AcceptedIfWhole (whole self.now) (derives self.now)
+            (λ pk signature. accepts_digest pk hash.now signature ctx.now hash_oid.now) result }
     {
         if ctx.len() > 255 {
             return Err(Fault::HashCtx);
@@ -193,7 +196,8 @@ pub trait Signer {
         hash_oid: &[u8],
     ) -> Result<Self::Signature, Fault>
         ensures answer { result ≡ signs_digest self.now seed.now hash.now ctx.now hash_oid.now }
-        ensures accepted { AcceptedIfWhole (whole self.now) (derives self.now) (λ pk signature. accepts_digest pk hash.now signature ctx.now hash_oid.now) result };
+        ensures accepted { AcceptedIfWhole (whole self.now) (derives self.now)
+            (λ pk signature. accepts_digest pk hash.now signature ctx.now hash_oid.now) result };
 
     /// The public key of the private key. Refuses with `Fault::SamplingLimit` where its matrix passes
     /// its limit.

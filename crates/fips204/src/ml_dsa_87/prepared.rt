@@ -47,7 +47,8 @@ impl<H: Xof> PreparedPrivateKey<H> {
     ) -> Result<[u8; SIG_LEN], Fault>
         ensures answer { DrawsUnless (message_fault ctx.now) R.gives R.refuses rng.old rng.new Fault.SignRng
             (λ rnd. sign_message_prepared set_87 H.front self.now rnd message.now ctx.now) result }
-        ensures accepted { AcceptedIfWholePrepared set_87 self.now (λ pk signature. AcceptsMessage set_87 H.front pk message.now signature ctx.now) result }
+        ensures accepted { AcceptedIfWholePrepared set_87 self.now
+            (λ pk signature. AcceptsMessage set_87 H.front pk message.now signature ctx.now) result }
     {
         self.sign_message_drawn::<LAMBDA_DIV4, SIG_LEN, R>(&ML_DSA_87, rng, message, ctx)
     }
@@ -60,7 +61,8 @@ impl<H: Xof> PreparedPrivateKey<H> {
         ctx: &[u8],
     ) -> Result<[u8; SIG_LEN], Fault>
         ensures answer { result ≡ sign_message_prepared set_87 H.front self.now seed.now message.now ctx.now }
-        ensures accepted { AcceptedIfWholePrepared set_87 self.now (λ pk signature. AcceptsMessage set_87 H.front pk message.now signature ctx.now) result }
+        ensures accepted { AcceptedIfWholePrepared set_87 self.now
+            (λ pk signature. AcceptsMessage set_87 H.front pk message.now signature ctx.now) result }
     {
         self.sign_message::<LAMBDA_DIV4, SIG_LEN>(&ML_DSA_87, seed, message, ctx)
     }
@@ -118,7 +120,8 @@ impl<H: Xof> PreparedPrivateKey<H> {
         mu: &[u8; 64],
         hedged: bool,
     ) -> Result<[u8; SIG_LEN], Fault>
-        ensures answer { DrawsIf hedged R.gives R.refuses rng.old rng.new Fault.InternalRng (sign_hash_prepared set_87 H.front self.now mu.now) result }
+        ensures answer { DrawsIf hedged R.gives R.refuses rng.old rng.new Fault.InternalRng
+            (sign_hash_prepared set_87 H.front self.now mu.now) result }
         ensures accepted { AcceptedIfWholePrepared set_87 self.now (λ pk signature. AcceptsHash set_87 H.front pk mu.now signature) result }
     {
         self.sign_hash_drawn::<LAMBDA_DIV4, SIG_LEN, R>(&ML_DSA_87, rng, mu, hedged)
