@@ -1,15 +1,13 @@
 -- Lines that are as many as are wanted.
-use Rattle.std.proofs.Common.{◌≡◌, ℕ, Bool, true, List, [], ◌∷◌, ◌-◌, length, map, take, drop, get_or, MatchResult, Option, Result, Ok, Err, IfOk, Some, None, refl}
+use Rattle.std.proofs.Common.{◌≡◌, ℕ, Bool, true, List, [], ◌∷◌, ◌-◌, length, map, take, drop, get_or, Option, Result, Ok, Err, IfOk, Some, None, refl}
 use Rattle.std.proofs.lemmas.List.{take_rest}
-use Rattle.fips204.specs.Keys.{IsPublicKeyOf}
-use Rattle.fips204.specs.Refusals.{VerifiesMessage}
-use Rattle.fips204.specs.ParameterSets.{ParameterSet, public_key_length, private_key_length, signature_length}
+use Rattle.fips204.specs.ParameterSets.{public_key_length, private_key_length, signature_length}
 use Rattle.mldsa_engine.specs.declared.call.Task.{Task}
 use Rattle.mldsa_engine.specs.declared.call.Task.TheVariants.{Id, Sign, Verify, Check, Batch}
 use Rattle.mldsa_engine.specs.declared.call.SetName.{SetName}
 use Rattle.mldsa_engine.specs.Lines.{AllFit}
 use Rattle.mldsa_engine.proofs.Entries.{entries_fit}
-use Rattle.mldsa_engine.specs.ProgramText.{named_set, lines_of_entries, hex_text, Signs, Judges, Checks, TellsOfKey, entry_lines, two_bytes, AnswersEach, TellsAll, JudgesEach, Answers}
+use Rattle.mldsa_engine.specs.ProgramText.{named_set, lines_of_entries, hex_text, Signs, Judges, Checks, entry_lines, two_bytes, JudgesEach, Answers}
 
 -- one line is wanted, so the first is all of them
 pub one_counted : {V : Type 0} (items : V → List ℕ) (w : Option ℕ) (lines : List V) (first : V)
@@ -76,18 +74,6 @@ check_answers items bytes H G task set entries lines xi rnd context message x r 
     let wanted = rw named at fit in
     let four = four_counted items (Some 32) (Some 32) None None lines xi rnd context message wanted p0 p1 p2 p3 in
     rw named (items xi, items rnd, items context, items message, four, rw (e0, e1, e2, e3) at checks)
-
--- public keys are never refused, so what is told of one is told
-pub told_of_key : {W E : Type 0} (bytes : W → List ℕ) (p : ParameterSet) (H G : List ℕ → List ℕ) (key context : List ℕ)
-    (entries : List (List ℕ)) (result : Result (W × Bool) E)
-    → IfOk result (λ given. TellsOfKey (λ decoded. MatchResult decoded (λ pk. IsPublicKeyOf H p.k key pk) (λ _. ⊥))
-    (λ pk output answer. (answers : List Bool)
-    × AnswersEach (λ signature message. VerifiesMessage p H G pk message signature context) entries answers
-    × TellsAll answers output answer) (bytes given.0) given.1)
-    → IfOk result (λ given. JudgesEach p H G key context entries (bytes given.0) given.1)
-told_of_key bytes p H G key context entries (Err fault) tells = tells
-told_of_key bytes p H G key context entries (Ok given) (Ok pk, is, tells) = (pk, is, tells)
-told_of_key bytes p H G key context entries (Ok given) (Err fault, none, tells) = absurd none
 
 -- what follows the three lines of a batch are its entries
 pub entries_counted : {V : Type 0} (items : V → List ℕ) (task : Task) (set : SetName) (count : ℕ) (lines : List V) → task ≡ Batch

@@ -1,11 +1,22 @@
--- The answers of a batch, one after another.
-use Rattle.std.proofs.Common.{◌≡◌, ℕ, ◌+◌, ◌<◌, Bool, false, IsTrue, ◌↔◌, All, List, [], ◌∷◌, ◌++◌, take, length, map, get_or, sym, ap, ◌∙◌, arith, subst, append-nil, length-append, inl, inr}
+-- The answers of a batch, one after another, and by a prepared key.
+use Rattle.std.proofs.Common.{◌≡◌, ℕ, ◌+◌, ◌*◌, ◌<◌, Bool, false, IsTrue, ◌↔◌, All, List, [], ◌∷◌, ◌++◌, take, length, map, get_or, inl, inr}
+use Rattle.std.proofs.Common.{refl, sym, ap, ◌∙◌, arith, subst, append-nil, length-append, Result, Ok, Err, MatchResult, Some, None}
 use Rattle.std.proofs.lemmas.List.{get_or_append_left, length-take-le, take_more, get_or-take, map-append}
 use Rattle.std.proofs.lemmas.List.Elements.{All-more, All-get_or, All-from_get_or}
 use Rattle.std.proofs.lemmas.Bool.{cases_eq}
 use Rattle.std.proofs.lemmas.Grind.{flat_map-append}
 use Rattle.std.proofs.Math.Seq.{get_or-append_seam}
-use Rattle.mldsa_engine.specs.ProgramText.{text, answer_word, TellsAll}
+use Rattle.std.specs.Prelude.{IfOk, ok_or, option_map}
+use Rattle.std.specs.declared.option.Option.{Option}
+use Rattle.fips204.specs.fault.Fault.{Fault}
+use Rattle.fips204.specs.fault.Fault.TheVariants.{SamplingLimit}
+use Rattle.fips204.specs.Keys.{PublicParts, IsPublicKeyOf}
+use Rattle.fips204.specs.MatrixEntry.{sampled_matrix}
+use Rattle.fips204.specs.ParameterSets.{ParameterSet}
+use Rattle.fips204.specs.Prepared.{PreparedPublic, prepared_public, AcceptsMessage, PreparedAnswersAsPlain}
+use Rattle.fips204.specs.Refusals.{VerifiesMessage}
+use Rattle.fips204.specs.declared.types.T.{T}
+use Rattle.mldsa_engine.specs.ProgramText.{text, answer_word, TellsAll, AnswersEach, JudgesEach}
 
 -- one answer more
 pub next_answer : (P : ℕ → Bool → Type 0) (answers all : List Bool) (count : ℕ) (answer : Bool) → length answers ≡ count
@@ -60,3 +71,43 @@ tells_more answers index old new word all next within named grown both tells =
         λ h. both.1 (tells.1.1 (true_before answers index within h), true_at answers index index (omega arith) within h),
       ),
     )
+
+-- what preparing a key answered accepts a message: nothing where it refused
+abbrev pub AcceptsIfPrepared : ParameterSet → (List ℕ → List ℕ) → Result PreparedPublic Fault → List ℕ → List ℕ → List ℕ → Type 0
+AcceptsIfPrepared p H prepared message signature context =
+    MatchResult prepared (λ key. AcceptsMessage p H key message signature context) (λ _. ⊥)
+
+-- it accepts what the key does
+accepts_as_key : (p : ParameterSet) (H G : List ℕ → List ℕ) (matrix : Option (List (List T))) (pk : PublicParts)
+    (message signature context : List ℕ) → PreparedAnswersAsPlain p H G → sampled_matrix G pk.rho p.k p.l ≡ matrix
+    → AcceptsIfPrepared p H (ok_or (option_map (λ a. record { key = pk; matrix = a }) matrix) SamplingLimit) message signature context
+    ↔ VerifiesMessage p H G pk message signature context
+accepts_as_key p H G None pk message signature context law none =
+    (λ x. absurd x, λ v. let there = sym none ∙ v.verified.matrix in absurd cc)
+accepts_as_key p H G (Some a) pk message signature context law there =
+    law.verify_message pk record { key = pk; matrix = a } message signature context
+    (ap (λ matrix. ok_or (option_map (λ a. record { key = pk; matrix = a }) matrix) SamplingLimit) there)
+
+-- the answers are those of what accepts the same
+answers_alike : (accepts alike : List ℕ → List ℕ → Type 0) (entries : List (List ℕ)) (answers : List Bool)
+    → ((signature message : List ℕ) → accepts signature message ↔ alike signature message)
+    → AnswersEach accepts entries answers → AnswersEach alike entries answers
+answers_alike accepts alike entries answers same (size, each) = (
+  size,
+  λ entry within.
+      let here = same (get_or entries (2 * entry) []) (get_or entries (2 * entry + 1) []) in
+      (λ t. here.0 ((each entry within).0 t), λ a. (each entry within).1 (here.1 a)),
+)
+
+-- so what it answers for each entry is whether the key accepts it
+pub judged_by_prepared : {W E : Type 0} (bytes : W → List ℕ) (p : ParameterSet) (H G : List ℕ → List ℕ) (pk : PublicParts)
+    (prepared : Result PreparedPublic Fault) (key context : List ℕ) (entries : List (List ℕ)) (answers : List Bool)
+    (result : Result (W × Bool) E) → PreparedAnswersAsPlain p H G → IsPublicKeyOf H p.k key pk → prepared ≡ prepared_public p G pk
+    → AnswersEach (λ signature message. AcceptsIfPrepared p H prepared message signature context) entries answers
+    → IfOk result (λ given. TellsAll answers (bytes given.0) given.1)
+    → IfOk result (λ given. JudgesEach p H G key context entries (bytes given.0) given.1)
+judged_by_prepared bytes p H G pk prepared key context entries answers (Err fault) law is same each tells = tells
+judged_by_prepared bytes p H G pk prepared key context entries answers (Ok given) law is same each tells =
+    let judged = answers_alike _ (λ signature message. VerifiesMessage p H G pk message signature context) entries answers
+    (λ signature message. accepts_as_key p H G (sampled_matrix G pk.rho p.k p.l) pk message signature context law refl) (rw same at each) in
+    (pk, is, (answers, judged, tells))

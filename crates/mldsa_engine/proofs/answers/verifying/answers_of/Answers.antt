@@ -20,7 +20,7 @@ loop-entry-preserved g c =
     let signature = c.array_of-signature.ensures ∙ c.as_slice.ensures.value ∙ first in
     let second = line_at (λ line. line.items) entries (2 * entry + 1) _ (search rules) c.index-entries-entry-in-loop-entry.is in
     let message = c.as_slice-message.ensures.value ∙ second in
-    next_answer (λ n answer. IsTrue answer ↔ g.K.Verifier.accepts c.args.key.now
+    next_answer (λ n answer. IsTrue answer ↔ g.K.Prepared.accepts c.args.key.now
     (get_or lines (2 * n + 1) []) (get_or lines (2 * n) []) c.args.context.now)
     c.loop-entry.answers.items _ entry c.verify.result c.loop-entry.invariant.0 c.in_ok-push.ensures.items c.loop-entry.invariant.1
     (rw (signature, message) at c.verify.ensures)
