@@ -15,6 +15,7 @@ expand_a-requires g c =
 pub invariant_of-result : goal.invariant_of-result
 invariant_of-result g c = (
   matrix-within g.G.Xof.front c.self.inside.rho g.row.K g.row.L c.in_ok-a_hat.a_hat
-  (some_of_ok (sampled_matrix g.G.Xof.front c.self.inside.rho g.row.K g.row.L) c.in_ok-a_hat.a_hat c.in_ok-a_hat.ensures),
+      (some_of_ok (sampled_matrix g.G.Xof.front c.self.inside.rho g.row.K g.row.L) c.in_ok-a_hat.a_hat c.in_ok-a_hat.ensures),
+  search rules,
   search rules,
 )
