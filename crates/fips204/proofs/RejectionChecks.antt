@@ -154,34 +154,34 @@ kept p sk y w c_tilde c e f h few = signed p sk y w c_tilde c (and-fourth _ _ _ 
 
 -- ---- the vectors of an attempt
 
-pub response-is : (p : ParameterSet) (sk : PrivateParts) (y : List R) (c : R) (s1 z : List R) (k : ℕ) → s1 ≡ sk.s1 → k ≡ p.l
-    → z ≡ vector_of k (λ r n. centred (pos (y_plus_cs1 s1 y c r n))) → z ≡ response p sk y c
+pub response-is : (p : ParameterSet) (sk : PrivateParts) (y : List R) (c : R) (z : List R) (k : ℕ) → k ≡ p.l
+    → z ≡ vector_of k (λ r n. centred (pos (y_plus_cs1 sk.s1 y c r n))) → z ≡ response p sk y c
 unfolding response
-response-is p sk y c s1 z k own size e = e ∙ rw (own, size) refl
+response-is p sk y c z k size e = e ∙ rw size refl
 
-pub low-is : (p : ParameterSet) (sk : PrivateParts) (w : ℕ → ℕ → ℕ) (c : R) (s2 v : List R) (k : ℕ) → s2 ≡ sk.s2 → k ≡ p.k
-    → ((r n : ℕ) → r < k → n < 256 → vector_coefficients v r n ≡ w_minus_cs2 s2 w c r n)
+pub low-is : (p : ParameterSet) (sk : PrivateParts) (w : ℕ → ℕ → ℕ) (c : R) (v : List R) (k : ℕ) → k ≡ p.k
+    → ((r n : ℕ) → r < k → n < 256 → vector_coefficients v r n ≡ w_minus_cs2 sk.s2 w c r n)
     → vector_of k (λ r n. low_bits p.gamma2 (vector_coefficients v r n)) ≡ low_vector p sk w c
 unfolding low_vector
-low-is p sk w c s2 v k own size e =
-    vector_of-ext k (λ r n. low_bits p.gamma2 (vector_coefficients v r n)) (λ r n. low_bits p.gamma2 (w_minus_cs2 s2 w c r n)) (λ r n h l. ap (low_bits p.gamma2) (e r n h l))
-    ∙ rw (own, size) refl
+low-is p sk w c v k size e =
+    vector_of-ext k (λ r n. low_bits p.gamma2 (vector_coefficients v r n)) (λ r n. low_bits p.gamma2 (w_minus_cs2 sk.s2 w c r n)) (λ r n h l. ap (low_bits p.gamma2) (e r n h l))
+    ∙ rw size refl
 
-pub ct0-is : (p : ParameterSet) (sk : PrivateParts) (c : R) (t0 v : List R) (k : ℕ) → t0 ≡ sk.t0 → k ≡ p.k → v ≡ vector_of k (λ r n. pos (scaled c (vector_coefficients t0) r n)) → v ≡ ct0 p sk c
+pub ct0-is : (p : ParameterSet) (sk : PrivateParts) (c : R) (v : List R) (k : ℕ) → k ≡ p.k → v ≡ vector_of k (λ r n. pos (scaled c (vector_coefficients sk.t0) r n)) → v ≡ ct0 p sk c
 unfolding ct0
-ct0-is p sk c t0 v k own size e = e ∙ rw (own, size) refl
+ct0-is p sk c v k size e = e ∙ rw size refl
 
-pub hint-is : (p : ParameterSet) (sk : PrivateParts) (w : ℕ → ℕ → ℕ) (c : R) (s2 t0 v t h : List R) (k : ℕ) → s2 ≡ sk.s2 → t0 ≡ sk.t0 → k ≡ p.k
-    → ((r n : ℕ) → r < k → n < 256 → vector_coefficients v r n ≡ w_minus_cs2 s2 w c r n)
-    → ((r n : ℕ) → r < k → n < 256 → entry t r n ≡ pos (scaled c (vector_coefficients t0) r n))
+pub hint-is : (p : ParameterSet) (sk : PrivateParts) (w : ℕ → ℕ → ℕ) (c : R) (v t h : List R) (k : ℕ) → k ≡ p.k
+    → ((r n : ℕ) → r < k → n < 256 → vector_coefficients v r n ≡ w_minus_cs2 sk.s2 w c r n)
+    → ((r n : ℕ) → r < k → n < 256 → entry t r n ≡ pos (scaled c (vector_coefficients sk.t0) r n))
     → h ≡ vector_of k (λ r n. hint_bit p.gamma2 (vector_coefficients v r n) (vector_coefficients t r n)) → h ≡ hint_vector p sk w c
 unfolding hint_vector
-hint-is p sk w c s2 t0 v t h k own low size e f is =
+hint-is p sk w c v t h k size e f is =
     is
     ∙ vector_of-ext k (λ r n. hint_bit p.gamma2 (vector_coefficients v r n) (vector_coefficients t r n))
-    (λ r n. hint_bit p.gamma2 (w_minus_cs2 s2 w c r n) (scaled c (vector_coefficients t0) r n))
+    (λ r n. hint_bit p.gamma2 (w_minus_cs2 sk.s2 w c r n) (scaled c (vector_coefficients sk.t0) r n))
     (λ r n q l. rw (e r n q l, product-own _ _ n _ (f r n q l)) refl)
-    ∙ rw (own, low, size) refl
+    ∙ rw size refl
 
 -- ---- ranges
 

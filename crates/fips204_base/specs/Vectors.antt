@@ -1,13 +1,13 @@
 -- Vectors and matrices of polynomials (FIPS 204, sections 2.3 to 2.5).
-use Rattle.std.specs.Prelude.{◌≡◌, ℕ, List, [], ℤ, pos, ◌-ℤ◌, length, map, slice_index_or}
+use Rattle.std.specs.Prelude.{◌≡◌, ◌<◌, ℕ, List, [], ℤ, pos, ◌-ℤ◌, length, map, slice_index_or}
 use Rattle.std.specs.List.{All, range_with_len}
 use Rattle.fips204_base.specs.declared.types.R.{R}
 use Rattle.fips204_base.specs.declared.types.T.{T}
 use Rattle.fips204_base.specs.Packing.{InRange}
-use Rattle.fips204_base.specs.Polynomials.{matrix_residues}
+use Rattle.fips204_base.specs.Polynomials.{vector_residues, matrix_residues}
 use Rattle.fips204_base.specs.Residues.{coefficients}
 use Rattle.fips204_base.specs.Products.{minus, product, row_product}
-use Rattle.fips204_base.specs.Transforms.{inverse_transform}
+use Rattle.fips204_base.specs.Transforms.{transform, inverse_transform}
 
 -- every coefficient of a vector's polynomials is from lo to hi
 abbrev pub VectorInRange : ℤ → ℤ → List R → Type 0
@@ -22,6 +22,14 @@ pub record IsVector (count a b : ℕ) (v : List R) : Type 0 where
 -- the residues of a vector of polynomials, by row and place
 abbrev pub vector_coefficients : List R → ℕ → ℕ → ℕ
 vector_coefficients v i = coefficients (slice_index_or v i record { 0 = [] }).0
+
+-- the values of t are those of the transform of the polynomial w
+abbrev pub IsTransformOf : (ℕ → ℕ) → T → Type 0
+IsTransformOf w t = (i : ℕ) → i < 256 → coefficients t.0 i ≡ transform w i
+
+-- the first l of t are the transforms of the polynomials of v
+abbrev pub AreTransformsOf : ℕ → (ℕ → ℕ → ℕ) → List T → Type 0
+AreTransformsOf l v t = (k i : ℕ) → k < l → i < 256 → vector_residues t k i ≡ transform (v k) i
 
 -- the plain matrix of a matrix of transforms, by row, column and place: the inverse transform of each entry
 abbrev pub plain_matrix : List (List T) → ℕ → ℕ → ℕ → ℕ

@@ -4,9 +4,9 @@
 ghost use Rattle.std.specs.Prelude.{◌≡◌, ◌≤◌, ◌<◌, ◌*◌, ◌%◌, ℕ, pos, nat_abs};
 ghost use Rattle.fips204_base.specs.Residues.{residue, coefficients};
 ghost use Rattle.fips204_base.specs.Products.{product};
-ghost use Rattle.fips204_base.specs.Transforms.{transform, inverse_transform};
-ghost use Rattle.fips204_base.specs.Polynomials.{coefficient_at, entry, Within, IsReduced, IsReducedVector, AreReduced, IsReducedMatrix, vector_residues};
-ghost use Rattle.fips204_base.specs.Vectors.{vector_coefficients, matrix_product, product_difference};
+ghost use Rattle.fips204_base.specs.Transforms.{inverse_transform};
+ghost use Rattle.fips204_base.specs.Polynomials.{coefficient_at, entry, Within, IsReduced, IsReducedVector, AreReduced, IsReducedMatrix};
+ghost use Rattle.fips204_base.specs.Vectors.{vector_coefficients, matrix_product, product_difference, IsTransformOf, AreTransformsOf};
 
 use crate::helpers::reduce::{difference, wide_product};
 use crate::helpers::{Count, mat_vec_mul, partial_reduce64};
@@ -43,10 +43,21 @@ pub fn challenge_times_vector<const K: usize>(c: &R, v: &[R; K]) -> [R; K]
     ensures values { (r n : ℕ) → r < K → n < 256 → entry result r n ≡ pos (product (coefficients c.now.0) (vector_coefficients v.now r) n) }
     ensures range { IsReducedVector K result }
 {
-    let c_hat = transform_of(c);
+    challenge_times_transforms(&transform_of(c), &transforms(v))
+}
+
+/// The product of a challenge with each polynomial of a vector, given by their transforms with values below
+/// `q` in absolute value: coefficients from 0 to `q - 1`.
+pub fn challenge_times_transforms<const K: usize>(c_hat: &T, v_hat: &[T; K]) -> [R; K]
+    requires challenge { Within 8380416 c_hat.now.0 }
+    requires vector { AreReduced v_hat.now }
+    ensures values { (c : ℕ → ℕ) (v : ℕ → ℕ → ℕ) → IsTransformOf c c_hat.now → AreTransformsOf K v v_hat.now
+        → (r n : ℕ) → r < K → n < 256 → entry result r n ≡ pos (product c (v r) n) }
+    ensures range { IsReducedVector K result }
+{
     let mut out = [R0; K];
     for i in 0..K {
-        let mut multiple = transform_of(&v[i]);
+        let mut multiple = v_hat[i];
         update_with(&mut multiple.0, &c_hat.0, value_product);
         out[i] = inverse_of(&multiple);
     }
@@ -83,10 +94,10 @@ pub fn matrix_times_vector_less<const K: usize, const L: usize>(
     out
 }
 
-/// The transforms of a vector.
-fn transforms<const L: usize>(v: &[R; L]) -> [T; L]
+/// The transforms of a vector. Its coefficients are below `q` in absolute value, and so are the values.
+pub fn transforms<const L: usize>(v: &[R; L]) -> [T; L]
     requires { IsReducedVector L v.now }
-    ensures values { (k i : ℕ) → k < L → i < 256 → vector_residues result k i ≡ transform (vector_coefficients v.now k) i }
+    ensures values { AreTransformsOf L (vector_coefficients v.now) result }
     ensures small { AreReduced result }
 {
     let mut out = [T0; L];
@@ -96,10 +107,10 @@ fn transforms<const L: usize>(v: &[R; L]) -> [T; L]
     out
 }
 
-/// The transform of a polynomial.
-fn transform_of(w: &R) -> T
+/// The transform of a polynomial. Its coefficients are below `q` in absolute value, and so are the values.
+pub fn transform_of(w: &R) -> T
     requires { IsReduced w.now.0 }
-    ensures values { (i : ℕ) → i < 256 → coefficients result.0 i ≡ transform (coefficients w.now.0) i }
+    ensures values { IsTransformOf (coefficients w.now.0) result }
     ensures small { Within 8380416 result.0 }
 {
     let mut out = w.0;

@@ -7,11 +7,12 @@ ghost use Rattle.fips204_base.specs.Residues.{residue};
 ghost use Rattle.fips204_base.specs.Rounding.{high_bits};
 ghost use Rattle.fips204_base.specs.Vectors.{vector_coefficients, vector_of};
 ghost use Rattle.fips204.specs.Attempts.{attempt};
+ghost use Rattle.fips204.specs.KeyTransforms.{AreKeyTransforms};
 ghost use Rattle.fips204.specs.Sets.{HasSizes, set_of};
 ghost use Rattle.fips204.specs.Signing.{attempt_answer};
 
 use super::commitment::commitment;
-use crate::types::{Params, PrivateKey, R, T};
+use crate::types::{KeyTransforms, Params, PrivateKey, R, T};
 use fips204_base::Fault;
 use fips204_base::hashing::{expand_mask, sample_in_ball};
 use fips204_base::high_low::high_bits;
@@ -20,21 +21,22 @@ use fips204_base::product::matrix_times_vector;
 use fips204_base::xof::Xof;
 
 impl<const K: usize, const L: usize, H: Xof, G> PrivateKey<K, L, H, G> {
-    /// The attempt at counter `kappa`, with the matrix and the seed `rho''` of the masks (lines 11 to 32):
-    /// its signature, or `None` where it is rejected. Refuses with `Fault::SamplingLimit` where its
-    /// challenge passes its limit.
+    /// The attempt at counter `kappa`, with the matrix, the transforms of the key's vectors, and the seed
+    /// `rho''` of the masks (lines 11 to 32): its signature, or `None` where it is rejected. Refuses with
+    /// `Fault::SamplingLimit` where its challenge passes its limit.
     ///
     /// `K` and `L` are those of the set, and `LAMBDA_DIV4` and `SIG_LEN` its lengths.
     pub(crate) fn attempt<const LAMBDA_DIV4: usize, const SIG_LEN: usize>(
         &self,
         p: &Params,
         a_hat: &[[T; L]; K],
+        transforms: &KeyTransforms<K, L>,
         mu: &[u8; 64],
         seed: &[u8; 64],
         kappa: u16,
     ) -> Result<Option<[u8; SIG_LEN]>, Fault>
         requires sizes { HasSizes p.now K L LAMBDA_DIV4 SIG_LEN }
-        requires matrix { IsReducedMatrix a_hat.now }
+        requires transforms { IsReducedMatrix a_hat.now × AreKeyTransforms K L self.now transforms.now }
         requires counter { kappa + L ≤ 65536 }
         ensures { result ≡ attempt_answer (attempt (set_of p.now) H.front a_hat.now self.now mu.now seed.now kappa) }
     {
@@ -48,7 +50,7 @@ impl<const K: usize, const L: usize, H: Xof, G> PrivateKey<K, L, H, G> {
         let c_tilde = commitment::<K, LAMBDA_DIV4, H>(p, mu, &w1);
         // c = SampleInBall(c_tilde)
         let c = sample_in_ball::<H>(p.tau, &c_tilde)?;
-        Ok(self.rejection_checks(p, &y, &w, &c_tilde, &c))
+        Ok(self.rejection_checks(p, transforms, &y, &w, &c_tilde, &c))
     }
 }
 

@@ -18,7 +18,8 @@ use fips204_base::xof::Xof;
 use std::marker::PhantomData;
 
 impl<const K: usize, const L: usize, H, G: Xof> PrivateKey<K, L, H, G> {
-    /// The key with its matrix. Refuses with `Fault::SamplingLimit` where the matrix passes its limit.
+    /// The key with its matrix and the transforms of its vectors. Refuses with `Fault::SamplingLimit` where
+    /// the matrix passes its limit.
     pub(crate) fn prepared(&self, p: &Params) -> Result<PreparedPrivateKey<K, L, H>, Fault>
         requires rows { K ≡ p.now.k }
         requires columns { L ≡ p.now.l }
@@ -34,7 +35,12 @@ impl<const K: usize, const L: usize, H, G: Xof> PrivateKey<K, L, H, G> {
             t0: self.t0,
             streams: PhantomData,
         };
-        Ok(PreparedPrivateKey { key, a_hat })
+        let transforms = self.transforms();
+        Ok(PreparedPrivateKey {
+            key,
+            a_hat,
+            transforms,
+        })
     }
 }
 
@@ -57,7 +63,7 @@ impl<const K: usize, const L: usize, H, G: Xof> PublicKey<K, L, H, G> {
 }
 
 impl<const K: usize, const L: usize, H: Xof> PreparedPrivateKey<K, L, H> {
-    /// `sign_internal` with the kept matrix.
+    /// `sign_internal` with the kept matrix and transforms.
     pub(crate) fn sign_hash<const LAMBDA_DIV4: usize, const SIG_LEN: usize>(
         &self,
         p: &Params,
@@ -70,7 +76,7 @@ impl<const K: usize, const L: usize, H: Xof> PreparedPrivateKey<K, L, H> {
             (λ pk signature. AcceptsHash (set_of p.now) H.front pk mu.now signature) result }
     {
         self.key
-            .sign_with::<LAMBDA_DIV4, SIG_LEN>(p, &self.a_hat, mu, rnd)
+            .sign_with::<LAMBDA_DIV4, SIG_LEN>(p, &self.a_hat, &self.transforms, mu, rnd)
     }
 
     /// `sign_hash` with the random bytes of a hook of signing.

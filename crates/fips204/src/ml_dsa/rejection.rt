@@ -1,57 +1,62 @@
 //! The rejection checks of an attempt of signing (FIPS 204, Algorithm 7, lines 18 to 32).
 #![tactic(auto)]
 
-ghost use Rattle.std.specs.Prelude.{◌≡◌, ◌⊎◌, ◌<◌, ◌≤◌, ◌+◌, ◌%◌, ℕ, pos, nat_abs, nat_lt, ◌≤ℤ◌, Ok, Some, length};
+ghost use Rattle.std.specs.Prelude.{◌≡◌, ◌⊎◌, ◌<◌, ◌≤◌, ◌+◌, ◌%◌, ℕ, List, pos, nat_abs, nat_lt, ◌≤ℤ◌, Ok, Some, length};
 ghost use Rattle.fips204_base.specs.CentredValues.{centred, vector_norm};
 ghost use Rattle.fips204_base.specs.HintSpelling.{all_ones};
-ghost use Rattle.fips204_base.specs.Polynomials.{IsReduced, IsReducedVector, VectorWithin};
-ghost use Rattle.fips204_base.specs.Residues.{residue};
+ghost use Rattle.fips204_base.specs.Polynomials.{AreReduced, IsReduced, IsReducedVector, VectorWithin, Within};
+ghost use Rattle.fips204_base.specs.Residues.{coefficients, residue};
 ghost use Rattle.fips204_base.specs.Rounding.{low_bits};
-ghost use Rattle.fips204_base.specs.Vectors.{vector_coefficients, vector_of};
+ghost use Rattle.fips204_base.specs.Vectors.{vector_coefficients, vector_of, AreTransformsOf, IsTransformOf};
+ghost use Rattle.fips204_base.specs.declared.types.R.{R};
 ghost use Rattle.fips204.specs.Attempts.{checked_attempt, hint_bit, w_minus_cs2, y_plus_cs1};
+ghost use Rattle.fips204.specs.KeyTransforms.{AreKeyTransforms};
 ghost use Rattle.fips204.specs.Sets.{HasSizes, set_of};
 ghost use Rattle.fips204.specs.Signing.{attempt_answer};
 
-use crate::types::{Params, PrivateKey, R};
+use crate::types::{KeyTransforms, Params, PrivateKey, R, T};
 use fips204_base::encodings::sig_encode;
 use fips204_base::helpers::{center_mod, difference, infinity_norm};
 use fips204_base::high_low::{low_bits, make_hint};
 use fips204_base::maps::{map_vector, update_vector_with, zip_vectors};
-use fips204_base::product::challenge_times_vector;
+use fips204_base::product::{challenge_times_transforms, transform_of};
 
 impl<const K: usize, const L: usize, H, G> PrivateKey<K, L, H, G> {
-    /// The signature of an attempt with mask `y`, `w = A y`, commitment and challenge, or `None` where one of
-    /// the checks rejects it.
+    /// The signature of an attempt with the transforms of the key's vectors, mask `y`, `w = A y`, commitment
+    /// and challenge, or `None` where one of the checks rejects it.
     ///
     /// Coefficients of `y` are in `[1 - gamma1, gamma1]`, those of `w` and `c` below `q` in absolute value.
     /// `K` and `L` are those of the set, and `LAMBDA_DIV4` and `SIG_LEN` its lengths.
     pub(crate) fn rejection_checks<const LAMBDA_DIV4: usize, const SIG_LEN: usize>(
         &self,
         p: &Params,
+        transforms: &KeyTransforms<K, L>,
         y: &[R; L],
         w: &[R; K],
         c_tilde: &[u8; LAMBDA_DIV4],
         c: &R,
     ) -> Option<[u8; SIG_LEN]>
         requires sizes { HasSizes p.now K L LAMBDA_DIV4 SIG_LEN }
+        requires transforms { AreKeyTransforms K L self.now transforms.now }
         requires mask { VectorWithin L 524288 y.now }
         requires product { IsReducedVector K w.now }
         requires challenge { IsReduced c.now.0 }
         ensures { Ok result
             ≡ attempt_answer (checked_attempt (set_of p.now) self.now y.now (vector_coefficients w.now) c_tilde.now (Some c.now)) }
     {
+        let c_hat = transform_of(c);
         // z = y + c s1, with a norm below gamma1 - beta
-        let z = response(&self.s1, y, c);
+        let z = response(&transforms.s1_hat, y, &c_hat);
         if !has_norm_below(&z, p.z_bound()) {
             return None;
         }
         // r0 = LowBits(w - c s2), with a norm below gamma2 - beta
-        let w_minus_cs2 = w_minus_cs2(&self.s2, w, c);
+        let w_minus_cs2 = w_minus_cs2(&transforms.s2_hat, w, &c_hat);
         if !has_norm_below(&low_vector(p.gamma2, &w_minus_cs2), p.r0_bound()) {
             return None;
         }
         // c t0, with a norm below gamma2
-        let ct0 = challenge_times_vector(c, &self.t0);
+        let ct0 = challenge_times_transforms(&c_hat, &transforms.t0_hat);
         if !has_norm_below(&ct0, p.gamma2) {
             return None;
         }
@@ -76,16 +81,17 @@ pub(crate) fn has_norm_below<const N: usize>(v: &[R; N], bound: i32) -> bool
     infinity_norm(v) < bound
 }
 
-/// `z = y + c s1`, centred. Coefficients of `s1` and `c` are below `q` in absolute value, those of `y`
-/// at most 524288.
-fn response<const L: usize>(s1: &[R; L], y: &[R; L], c: &R) -> [R; L]
-    requires private { IsReducedVector L s1.now }
+/// `z = y + c s1`, centred, from the transforms of `s1` and `c`. Their values are below `q` in absolute value,
+/// and coefficients of `y` at most 524288.
+fn response<const L: usize>(s1_hat: &[T; L], y: &[R; L], c_hat: &T) -> [R; L]
+    requires private { AreReduced s1_hat.now }
     requires mask { VectorWithin L 524288 y.now }
-    requires challenge { IsReduced c.now.0 }
-    ensures value { result ≡ vector_of L (λ r n. centred (pos (y_plus_cs1 s1.now y.now c.now r n))) }
+    requires challenge { Within 8380416 c_hat.now.0 }
+    ensures value { (s1 : List R) (c : R) → AreTransformsOf L (vector_coefficients s1) s1_hat.now → IsTransformOf (coefficients c.0) c_hat.now
+        → result ≡ vector_of L (λ r n. centred (pos (y_plus_cs1 s1 y.now c r n))) }
     ensures range { IsReducedVector L result }
 {
-    let mut z = challenge_times_vector(c, s1);
+    let mut z = challenge_times_transforms(c_hat, s1_hat);
     update_vector_with(&mut z, y, centred_sum);
     z
 }
@@ -100,16 +106,17 @@ fn centred_sum(product: i32, mask: i32) -> i32
     center_mod(mask + product)
 }
 
-/// `w - c s2`, below `q` in absolute value, as the coefficients of all three are.
-fn w_minus_cs2<const K: usize>(s2: &[R; K], w: &[R; K], c: &R) -> [R; K]
-    requires private { IsReducedVector K s2.now }
+/// `w - c s2` from the transforms of `s2` and `c`, below `q` in absolute value, as their values and the
+/// coefficients of `w` are.
+fn w_minus_cs2<const K: usize>(s2_hat: &[T; K], w: &[R; K], c_hat: &T) -> [R; K]
+    requires private { AreReduced s2_hat.now }
     requires product { IsReducedVector K w.now }
-    requires challenge { IsReduced c.now.0 }
-    ensures values { (r n : ℕ) → r < K → n < 256
-        → vector_coefficients result r n ≡ w_minus_cs2 s2.now (vector_coefficients w.now) c.now r n }
+    requires challenge { Within 8380416 c_hat.now.0 }
+    ensures values { (s2 : List R) (c : R) → AreTransformsOf K (vector_coefficients s2) s2_hat.now → IsTransformOf (coefficients c.0) c_hat.now
+        → (r n : ℕ) → r < K → n < 256 → vector_coefficients result r n ≡ w_minus_cs2 s2 (vector_coefficients w.now) c r n }
     ensures range { IsReducedVector K result }
 {
-    let product = challenge_times_vector(c, s2);
+    let product = challenge_times_transforms(c_hat, s2_hat);
     zip_vectors(w, &product, difference)
 }
 

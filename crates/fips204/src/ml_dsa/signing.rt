@@ -4,12 +4,14 @@
 ghost use Rattle.std.specs.Prelude.{◌≡◌};
 ghost use Rattle.fips204_base.specs.Polynomials.{IsReducedMatrix};
 ghost use Rattle.fips204.specs.Completeness.{HashAccepted};
+ghost use Rattle.fips204.specs.KeyTransforms.{AreKeyTransforms};
 ghost use Rattle.fips204.specs.Sets.{HasSizes, set_of};
 ghost use Rattle.fips204.specs.Signing.{sign, sign_with};
 
-use crate::types::{Params, PrivateKey, T};
+use crate::types::{KeyTransforms, Params, PrivateKey, T};
 use fips204_base::Fault;
 use fips204_base::hashing::expand_a;
+use fips204_base::product::transforms;
 use fips204_base::xof::{Xof, hash};
 
 /// How many attempts signing makes (FIPS 204, Appendix C).
@@ -40,20 +42,36 @@ pub fn sign_internal<
 {
     // A = ExpandA(rho)
     let a_hat = expand_a::<K, L, G>(&sk.rho)?;
-    sk.sign_with::<LAMBDA_DIV4, SIG_LEN>(p, &a_hat, mu, rnd)
+    sk.sign_with::<LAMBDA_DIV4, SIG_LEN>(p, &a_hat, &sk.transforms(), mu, rnd)
+}
+
+impl<const K: usize, const L: usize, H, G> PrivateKey<K, L, H, G> {
+    /// The transforms of s1, s2 and t0 (lines 2 to 4).
+    pub(crate) fn transforms(&self) -> KeyTransforms<K, L>
+        ensures { AreKeyTransforms K L self.now result }
+    {
+        KeyTransforms {
+            s1_hat: transforms(&self.s1),
+            s2_hat: transforms(&self.s2),
+            t0_hat: transforms(&self.t0),
+        }
+    }
 }
 
 impl<const K: usize, const L: usize, H: Xof, G> PrivateKey<K, L, H, G> {
-    /// `sign_internal` with the matrix, whose values are below `q` in absolute value (lines 7 to 33).
+    /// `sign_internal` with the matrix, whose values are below `q` in absolute value, and the transforms of the
+    /// key's vectors (lines 7 to 33).
     pub(crate) fn sign_with<const LAMBDA_DIV4: usize, const SIG_LEN: usize>(
         &self,
         p: &Params,
         a_hat: &[[T; L]; K],
+        transforms: &KeyTransforms<K, L>,
         mu: &[u8; 64],
         rnd: &[u8; 32],
     ) -> Result<[u8; SIG_LEN], Fault>
         requires sizes { HasSizes p.now K L LAMBDA_DIV4 SIG_LEN }
         requires matrix { IsReducedMatrix a_hat.now }
+        requires transforms { AreKeyTransforms K L self.now transforms.now }
         ensures { result ≡ sign_with (set_of p.now) H.front a_hat.now self.now mu.now rnd.now }
     {
         // rho'' = H(K || rnd || mu)
@@ -62,7 +80,7 @@ impl<const K: usize, const L: usize, H: Xof, G> PrivateKey<K, L, H, G> {
             // kappa = n l
             let kappa = n * L as u16;
             if let Some(signature) = self.attempt::<LAMBDA_DIV4, SIG_LEN>(
-                p, a_hat, mu, &seed, kappa,
+                p, a_hat, transforms, mu, &seed, kappa,
             )? {
                 return Ok(signature);
             }

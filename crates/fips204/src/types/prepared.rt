@@ -1,10 +1,21 @@
-//! Keys that are prepared once for many calls: a key with the matrix of its seed.
+//! Keys that are prepared once for many calls: a key with the matrix of its seed, and a private one with the
+//! transforms of its vectors.
 #![tactic(auto)]
 
 use super::{PrivateKey, PublicKey, T};
 use std::marker::Model;
 
-/// A private key of a set with a matrix of `K` rows and `L` columns, over the stream `H`, with its matrix.
+/// The transforms of a private key's vectors (FIPS 204, Algorithm 7, lines 2 to 4), with values below `q` in
+/// absolute value.
+#[derive(Drop)]
+pub struct KeyTransforms<const K: usize, const L: usize> {
+    pub(crate) s1_hat: [T; L],
+    pub(crate) s2_hat: [T; K],
+    pub(crate) t0_hat: [T; K],
+}
+
+/// A private key of a set with a matrix of `K` rows and `L` columns, over the stream `H`, with its matrix and
+/// the transforms of its vectors.
 ///
 /// Contracts see it as the private key's parts and the matrix, whose entries are the transforms of the plain
 /// matrix.
@@ -12,10 +23,12 @@ use std::marker::Model;
 pub struct PreparedPrivateKey<const K: usize, const L: usize, H> {
     pub(crate) key: PrivateKey<K, L, H, ()>,
     pub(crate) a_hat: [[T; L]; K],
+    pub(crate) transforms: KeyTransforms<K, L>,
 }
 
 impl<const K: usize, const L: usize, H> Model for PreparedPrivateKey<K, L, H> {
     ghost use Rattle.fips204_base.specs.Polynomials.{IsReducedMatrix};
+    ghost use Rattle.fips204.specs.KeyTransforms.{AreKeyTransforms};
     ghost use Rattle.fips204.specs.Keys.{ArePrivateParts};
     ghost use Rattle.fips204.specs.Prepared.{PreparedPrivate};
 
@@ -23,7 +36,7 @@ impl<const K: usize, const L: usize, H> Model for PreparedPrivateKey<K, L, H> {
 
     ghost view = { λ sk. record { key = sk.key; matrix = sk.a_hat } };
 
-    ghost invariant = { λ sk. IsReducedMatrix sk.a_hat × ArePrivateParts K L sk.key };
+    ghost invariant = { λ sk. IsReducedMatrix sk.a_hat × ArePrivateParts K L sk.key × AreKeyTransforms K L sk.key sk.transforms };
 }
 
 /// A public key of a set with a matrix of `K` rows and `L` columns, over the stream `H`, with its matrix.

@@ -30,7 +30,7 @@ sign_with-requires g c =
     let known = limits p (search rules) in
     let a = c.in_ok-a_hat.a_hat in
     let some = some_of_ok (sampled_matrix g.G.Xof.front c.sk.inside.rho g.row.K g.row.L) a c.in_ok-a_hat.ensures in
-    (search rules, (search rules, (search rules, (search rules, (c.requires.sizes, matrix-within g.G.Xof.front c.sk.inside.rho g.row.K g.row.L a some)))))
+    (search rules, (search rules, (search rules, (search rules, (search rules, (c.requires.sizes, (matrix-within g.G.Xof.front c.sk.inside.rho g.row.K g.row.L a some, c.transforms.ensures)))))))
 
 pub returns-clause-answer : goal.returns-clause-answer
 returns-clause-answer g c =

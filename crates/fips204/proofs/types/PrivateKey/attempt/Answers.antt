@@ -42,7 +42,7 @@ pub matrix_times_vector-w-requires : goal.matrix_times_vector-w-requires
 matrix_times_vector-w-requires g c =
     let known = limits c.args.p.now (search rules) in
     let mask = small g (goal.at.matrix_times_vector-w-requires g c).After-expand_mask-y in
-    (search rules, (search rules, (search rules, (search rules, (omega (arith, c.requires.sizes.1, known.few_columns), (c.requires.matrix, λ r n h l. (let x = mask r n h l in omega (arith, x))))))))
+    (search rules, (search rules, (search rules, (search rules, (omega (arith, c.requires.sizes.1, known.few_columns), (c.requires.transforms.0, λ r n h l. (let x = mask r n h l in omega (arith, x))))))))
 
 pub high_vector-w1-requires : goal.high_vector-w1-requires
 high_vector-w1-requires g c =
@@ -77,7 +77,7 @@ rejection_checks-requires g c =
     let sampled : Ok c.in_ok-c.c ≡ ok_or (challenge (nat_abs p.tau) front) SamplingLimit = rw (to_z-of_z w32 p.tau (search rules)) at c.in_ok-c.ensures in
     let reduced = challenge-reduced (nat_abs p.tau) front c.in_ok-c.c (some_of_ok (challenge (nat_abs p.tau) front) c.in_ok-c.c sampled) in
     let mask = small g (goal.at.rejection_checks-requires g c).After-expand_mask-y in
-    (search rules, (search rules, (search rules, (search rules, (search rules, (c.requires.sizes, (mask, (c.matrix_times_vector-w.ensures.range, reduced))))))))
+    (search rules, (search rules, (search rules, (search rules, (search rules, (search rules, (c.requires.sizes, (c.requires.transforms.1, (mask, (c.matrix_times_vector-w.ensures.range, reduced))))))))))
 
 pub returns : goal.returns
 returns g c =

@@ -17,4 +17,5 @@ invariant_of-result g c = (
   matrix-within g.G.Xof.front c.self.inside.rho g.row.K g.row.L c.in_ok-a_hat.a_hat
       (some_of_ok (sampled_matrix g.G.Xof.front c.self.inside.rho g.row.K g.row.L) c.in_ok-a_hat.a_hat c.in_ok-a_hat.ensures),
   search rules,
+  search rules,
 )

@@ -24,7 +24,7 @@ pub attempt-requires : goal.attempt-requires
 attempt-requires g c =
     let few : g.row.L ≤ 7 = omega (arith, c.requires.sizes.1, (limits c.args.p.now (search rules)).few_columns) in
     let fits = counter_fits c.loop-n.n g.row.L c.loop-n-test.true few in
-    (search rules, (search rules, (search rules, (search rules, (c.requires.sizes, (c.requires.matrix, omega (arith, fits, few)))))))
+    (search rules, (search rules, (search rules, (search rules, (search rules, (c.requires.sizes, ((c.requires.matrix, c.requires.transforms), omega (arith, fits, few))))))))
 
 pub overflow_cast-kappa : goal.overflow_cast-kappa
 overflow_cast-kappa g c =

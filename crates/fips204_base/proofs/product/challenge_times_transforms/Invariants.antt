@@ -1,14 +1,14 @@
 use Rattle.std.proofs.Common.{ℕ, ◌≡◌, ◌<◌, ◌≤◌, pos, length}
 use Rattle.std.specs.Prelude.{nat_abs}
 use Rattle.fips204_base.specs.Polynomials.{entry}
-use Rattle.fips204_base.specs.Residues.{coefficients}
 use Rattle.fips204_base.specs.Products.{product}
-use Rattle.fips204_base.specs.Vectors.{vector_coefficients}
-use Rattle.fips204_base.proofs.product.challenge_times_vector.Given as goal
+use Rattle.fips204_base.specs.Vectors.{IsTransformOf, AreTransformsOf}
+use Rattle.fips204_base.proofs.product.challenge_times_transforms.Given as goal
 
 abbrev pub invariant-loop-i : goal.invariant-loop-i
 invariant-loop-i g l = record {
   size : length l.out ≡ g.row.K;
-  values : (r n : ℕ) → r < l.i → n < 256 → entry l.out r n ≡ pos (product (coefficients l.c.0) (vector_coefficients l.v r) n);
+  values : (c : ℕ → ℕ) (v : ℕ → ℕ → ℕ) → IsTransformOf c l.c_hat → AreTransformsOf g.row.K v l.v_hat
+      → (r n : ℕ) → r < l.i → n < 256 → entry l.out r n ≡ pos (product c (v r) n);
   small : (r n : ℕ) → r < l.i → n < 256 → nat_abs (entry l.out r n) ≤ 8380416;
 }
