@@ -7,6 +7,7 @@ use crate::expected::{
 };
 use crate::object_identifiers::oid;
 use crate::recorded::has_text;
+use crate::stream_limits::{LastTriple, PastLastTriple};
 use crate::{recorded_44, recorded_65, recorded_87};
 use fips204::traits::{DummyRng, KeyGen, SerDes, Signer, Verifier};
 use fips204::xof::{Fill, Sha256Ctr, Sha512Ctr};
@@ -123,6 +124,17 @@ fn keys_of_set_44_without_a_matrix(rt: HostRuntime) -> Result<(), Fail> {
     let public = ml_dsa_44::PublicKey::<Fill<0x55>, Fill<0xff>>::try_from_bytes(public_44())?;
     assert_eq!(rt; private.prepare().err(), Some(Fault::SamplingLimit));
     assert_eq!(rt; public.prepare().err(), Some(Fault::SamplingLimit));
+    let private = ml_dsa_44::PrivateKey::<Fill<0x55>, PastLastTriple>::try_from_bytes(
+        private_44(),
+    )?;
+    assert_eq!(rt; private.prepare().err(), Some(Fault::SamplingLimit));
+    let private = ml_dsa_44::PrivateKey::<Fill<0x55>, LastTriple>::try_from_bytes(private_44())?;
+    let signature = private
+        .prepare()?
+        .try_sign_with_seed(&[0; 32], b"abc", &[])?;
+    assert!(rt; signature == signature_44());
+    let public = ml_dsa_44::PublicKey::<Fill<0x55>, LastTriple>::try_from_bytes(public_44())?;
+    assert!(rt; public.prepare()?.verify(b"abc", &signature, &[]));
     Ok(())
 }
 
@@ -230,6 +242,17 @@ fn keys_of_set_65_without_a_matrix(rt: HostRuntime) -> Result<(), Fail> {
     let public = ml_dsa_65::PublicKey::<Fill<0x55>, Fill<0xff>>::try_from_bytes(public_65())?;
     assert_eq!(rt; private.prepare().err(), Some(Fault::SamplingLimit));
     assert_eq!(rt; public.prepare().err(), Some(Fault::SamplingLimit));
+    let private = ml_dsa_65::PrivateKey::<Fill<0x55>, PastLastTriple>::try_from_bytes(
+        private_65(),
+    )?;
+    assert_eq!(rt; private.prepare().err(), Some(Fault::SamplingLimit));
+    let private = ml_dsa_65::PrivateKey::<Fill<0x55>, LastTriple>::try_from_bytes(private_65())?;
+    let signature = private
+        .prepare()?
+        .try_sign_with_seed(&[0; 32], b"abc", &[])?;
+    assert!(rt; signature == signature_65());
+    let public = ml_dsa_65::PublicKey::<Fill<0x55>, LastTriple>::try_from_bytes(public_65())?;
+    assert!(rt; public.prepare()?.verify(b"abc", &signature, &[]));
     Ok(())
 }
 
@@ -337,5 +360,16 @@ fn keys_of_set_87_without_a_matrix(rt: HostRuntime) -> Result<(), Fail> {
     let public = ml_dsa_87::PublicKey::<Fill<0x55>, Fill<0xff>>::try_from_bytes(public_87())?;
     assert_eq!(rt; private.prepare().err(), Some(Fault::SamplingLimit));
     assert_eq!(rt; public.prepare().err(), Some(Fault::SamplingLimit));
+    let private = ml_dsa_87::PrivateKey::<Fill<0x55>, PastLastTriple>::try_from_bytes(
+        private_87(),
+    )?;
+    assert_eq!(rt; private.prepare().err(), Some(Fault::SamplingLimit));
+    let private = ml_dsa_87::PrivateKey::<Fill<0x55>, LastTriple>::try_from_bytes(private_87())?;
+    let signature = private
+        .prepare()?
+        .try_sign_with_seed(&[0; 32], b"abc", &[])?;
+    assert!(rt; signature == signature_87());
+    let public = ml_dsa_87::PublicKey::<Fill<0x55>, LastTriple>::try_from_bytes(public_87())?;
+    assert!(rt; public.prepare()?.verify(b"abc", &signature, &[]));
     Ok(())
 }

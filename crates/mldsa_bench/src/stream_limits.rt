@@ -18,10 +18,10 @@ use fips204::{Fault, ml_dsa_44, ml_dsa_65, ml_dsa_87};
 use std::test::Fail;
 
 /// The streams whose matrix entries keep their last coefficient from the last triple.
-type LastTriple = Patterned<FourthTriples<0>>;
+pub type LastTriple = Patterned<FourthTriples<0>>;
 
 /// The streams whose matrix entries keep one coefficient fewer.
-type PastLastTriple = Patterned<FourthTriples<12>>;
+pub type PastLastTriple = Patterned<FourthTriples<12>>;
 
 /// Whether these calls answer these bytes, or their refusals: a pair of keys, the public key of the private
 /// one, and a signature; and at last whether the signature is accepted.
