@@ -14,11 +14,10 @@ use Rattle.std.proofs.lemmas.Option.{none-some}
 use Rattle.std.proofs.lemmas.List.{get_or-set_same, get_or-set_other, get_or-replicate, length-map, take_more, take_all, take-append-le}
 use Rattle.fips204_base.specs.declared.types.R.{R}
 use Rattle.fips204_base.specs.Vectors.{polynomial_of}
-use Rattle.fips204_base.proofs.Vectors.{polynomial_of-at}
+use Rattle.fips204_base.proofs.Vectors.{polynomial_of-at, polynomial_of-same}
 use Rattle.std.specs.List.{All}
 use Rattle.std.proofs.lemmas.List.Elements.{All-append, All-cons, All-map, All-nil, All-tail}
 use Rattle.std.proofs.Math.Seq.{take-add}
-use Rattle.std.proofs.lemmas.List.FromFn.{fill_by_all}
 
 -- One bit of bytes.
 
@@ -320,13 +319,7 @@ sum-moved f (p ∷ ps) (b ∷ bits) n m h =
 
 -- no place is at the number
 sum-none : (ps bits : List ℕ) (n : ℕ) → All (λ p. nat_eq p n ≡ false) ps → signed_sum ps bits n ≡ pos 0
-unfolding signed_sum
-sum-none [] bits n h = refl
-sum-none (p ∷ ps) [] n h = refl
-sum-none (p ∷ ps) (b ∷ bits) n h =
-    let here : nat_eq p n ≡ false = h 0 0 (omega arith) in
-    let rest = sum-none ps bits n (All-tail (λ p. nat_eq p n ≡ false) p ps h) in
-    rw (here, rest) (omega (arith, ints))
+sum-none ps bits n h = sum-elsewhere ps bits n (λ k l. eqb-false (get_or ps k 0) n (h k 0 l))
 
 -- a place after the pick of i, where it was below i before it
 
@@ -422,10 +415,6 @@ picked-same first n i byte bytes l e k m =
 
 -- the whole challenge
 
-whole_polynomial : (f : ℕ → ℤ) (c : List ℤ) → length c ≡ 256 → ((n : ℕ) → n < 256 → get_or c n (pos 0) ≡ f n) → polynomial_of f ≡ record { 0 = c }
-unfolding polynomial_of
-whole_polynomial f c w h = ap (λ (l : List ℤ). let p : R = record { 0 = l } in p) (sym (fill_by_all f c 256 (pos 0) w h))
-
 -- further bytes don't matter where there are tau picks
 pub picks-beyond : (tau i n m : ℕ) (bytes : List ℕ) → n ≤ m → tau ≤ length (picks i (take n bytes)) → take tau (picks i (take m bytes)) ≡ take tau (picks i (take n bytes))
 picks-beyond tau i n m bytes l enough =
@@ -443,7 +432,8 @@ challenge-full tau n front c l m k =
     let all : take tau (picks (256 - tau) (take (length front / 4) bytes)) ≡ picked =
     picks-beyond tau (256 - tau) n (length front / 4) bytes m (omega (arith, size)) ∙ take_all tau picked (omega (arith, size)) in
     let t : nat_lt (length picked) tau ≡ false = le-ltb (length picked) tau (omega (arith, size)) in
-    rw (all, t) (ap Some (whole_polynomial (signed_sum (places (256 - tau) picked) (bits 8 (take 8 front))) c k.whole k.sums))
+    let whole = polynomial_of-same (signed_sum (places (256 - tau) picked) (bits 8 (take 8 front))) record { 0 = c } k.whole k.sums in
+    rw (all, t) (ap Some (sym whole))
 
 pub challenge-few : (tau i : ℕ) (front : List ℕ) (c : List ℤ) → tau ≤ 64 → i < 256
     → Placed (256 - tau) (bits 8 (take 8 front)) (picks (256 - tau) (take (length front / 4) (drop 8 front))) c i → challenge tau front ≡ None

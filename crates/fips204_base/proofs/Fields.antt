@@ -85,10 +85,6 @@ width-below a b n bounds h =
     let l = bit_length-below (nat_abs (a +ℤ b)) s in
     omega (arith, l)
 
-pub width_0_1023 : width (pos 0) (pos 1023) ≡ 10
-unfolding bit_length
-width_0_1023 = refl
-
 -- the coefficient is that of a field of so many bits
 abbrev pub HasField : ℤ → ℤ → ℤ → Type 0
 HasField a b x = (field a b x < 2 ^ width a b) × (coefficient a b (field a b x) ≡ x)

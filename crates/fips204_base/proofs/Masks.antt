@@ -49,14 +49,6 @@ pub mask_is_unpacked : (gamma1 : ℤ) (bytes : List ℕ) (w : R) → (gamma1 ≡
 mask_is_unpacked gamma1 bytes w (inl e) u = let v : Unpacks (pos 131071) (pos 131072) bytes w.0 = rw e at u in rw e (sym (unpacked-unpacks 131071 131072 bytes w v))
 mask_is_unpacked gamma1 bytes w (inr e) u = let v : Unpacks (pos 524287) (pos 524288) bytes w.0 = rw e at u in rw e (sym (unpacked-unpacks 524287 524288 bytes w v))
 
-pub mask_width-low : (gamma1 : ℤ) → gamma1 ≡ pos 131072 → 576 ≡ 32 * mask_width (nat_abs gamma1)
-unfolding bit_length
-mask_width-low gamma1 e = rw e refl
-
-pub mask_width-high : (gamma1 : ℤ) → gamma1 ≡ pos 524288 → 640 ≡ 32 * mask_width (nat_abs gamma1)
-unfolding bit_length
-mask_width-high gamma1 e = rw e refl
-
 -- what is read is as much as is there for it
 pub as_long : (out rest : List ℕ) (m n : ℕ) → out ≡ take m rest → length out ≡ n → out ≡ take n rest
 as_long out rest m n e l =

@@ -1,6 +1,5 @@
 -- Products in Montgomery form, and centring modulo q.
-use Rattle.std.proofs.Common.{◌≡◌, ℕ, zero, suc, ◌<◌, ◌*◌, ◌%◌, ℤ, pos, [], ◌∷◌, neg_ℤ, ◌+ℤ◌, ◌<ℤ◌, ◌≤ℤ◌, ◌≤◌, arith, ap, refl, negsuc}
-use Rattle.std.specs.Prelude.{nat_abs}
+use Rattle.std.proofs.Common.{◌≡◌, ℕ, zero, suc, ◌<◌, ◌*◌, ◌%◌, ℤ, pos, [], ◌∷◌, neg_ℤ, arith, ap, refl, negsuc}
 use Rattle.std.proofs.lemmas.Int.{ints}
 use Rattle.fips204_base.specs.Residues.{residue, IsCongruent}
 use Rattle.fips204_base.specs.Lanes.{lane}
@@ -27,16 +26,6 @@ factor_is factor z e = congruent_trans (congruent_of (ap residue e)) (congruent_
 
 pub minus_factor_is : (factor : ℤ) (z : ℕ) → factor ≡ neg_ℤ (pos (z * 4294967296 % 8380417)) → IsCongruent (residue factor) (8380416 * z * 4294967296)
 minus_factor_is factor z e = record { same = omega (arith, ints, e, (residue_is factor).same) }
-
--- the product with 16382, which is 8347681 in Montgomery form
-pub finished : (x near : ℤ) → IsCongruent (4294967296 * residue near) (residue x * 16382) → nat_abs near ≤ 8380416 →
-    (near <ℤ pos 0 → near +ℤ pos 8380417 ≡ pos (8347681 * residue x % 8380417)) × (pos 0 ≤ℤ near → near ≡ pos (8347681 * residue x % 8380417))
-finished x near s small =
-    let value : IsCongruent (residue near) (8347681 * residue x) = factor_taken x near (pos 16382) 8347681 record { same = refl } s in
-    let is = residue_is near in (
-      λ h. omega (arith, ints, h, small, value.same, is.same),
-      λ h. omega (arith, ints, h, small, value.same, is.same),
-    )
 
 -- The centred value modulo q is the centred value modulo any number, at q.
 

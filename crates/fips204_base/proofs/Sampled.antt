@@ -67,24 +67,14 @@ none_then : {A : Type 0} (o : Option A) → option_and_then (λ value. option_ma
 none_then None = refl
 none_then (Some x) = refl
 
--- from a number on, the values of f are those of a list
-pub all_present-values : {A : Type 0} (f : ℕ → Option A) (a : ℕ) (xs : List A) → ((i : ℕ) (d : A) → i < length xs → f (a + i) ≡ Some (get_or xs i d))
-    → all_present (map f (range_with_len a (length xs))) ≡ Some xs
-unfolding all_present
-all_present-values f a [] h = refl
-all_present-values f a (x ∷ xs) h =
-    let here : f a ≡ Some x = ap f (sym (add-zero a)) ∙ h 0 x (omega arith) in
-    let later = all_present-values f (a + 1) xs (λ i d l. let n : a + 1 + i ≡ a + suc i = omega arith in ap f n ∙ h (suc i) d (omega (arith, l))) in
-    rw (here, later) refl
-
 -- one of them is none
-pub all_present-none : {A : Type 0} (f : ℕ → Option A) (a n i : ℕ) → i < n → f (a + i) ≡ None → all_present (map f (range_with_len a n)) ≡ None
+pub all_present-none : {A : Type 0} (f : ℕ → Option A) (a n i j : ℕ) → i < n → a + i ≡ j → f j ≡ None
+    → all_present (map f (range_with_len a n)) ≡ None
 unfolding all_present
-all_present-none f a zero i h e = absurd (omega arith)
-all_present-none f a (suc n) zero h e = let here : f a ≡ None = ap f (sym (add-zero a)) ∙ e in rw here refl
-all_present-none f a (suc n) (suc i) h e =
-    let m : a + 1 + i ≡ a + suc i = omega arith in
-    let later = all_present-none f (a + 1) n i (omega arith) (ap f m ∙ e) in
+all_present-none f a zero i j h at e = absurd (omega arith)
+all_present-none f a (suc n) zero j h at e = let first : a ≡ j = omega (arith, at) in let here = ap f first ∙ e in rw here refl
+all_present-none f a (suc n) (suc i) j h at e =
+    let later = all_present-none f (a + 1) n i j (omega arith) (omega (arith, at)) e in
     rw later (none_then (f a))
 
 -- f is there for each of n numbers from a on, and xs are its values
@@ -165,23 +155,6 @@ matrix_entry-residues front t e =
 
 from_zero : (i : ℕ) → 0 + i ≡ i
 from_zero i = omega arith
-
--- a matrix whose entries are the sampled ones is the sampled matrix
-pub sampled_matrix-is : (G : List ℕ → List ℕ) (rho : List ℕ) (a : List (List T)) (l : ℕ) → All (λ row. length row ≡ l) a
-    → ((r s : ℕ) (d : List T) (e : T) → r < length a → s < l → sampled_entry G rho r s ≡ Some (get_or (get_or a r d) s e)) → sampled_matrix G rho (length a) l ≡ Some a
-unfolding sampled_matrix
-sampled_matrix-is G rho a l rows entries =
-    all_present-values (sampled_row G rho l) 0 a (λ r d h.
-    let n : length (get_or a r d) ≡ l = rows r d h in
-    ap (sampled_row G rho l) (from_zero r)
-    ∙ ap (λ k. all_present (map (sampled_entry G rho r) (range_with_len 0 k))) (sym n)
-    ∙ all_present-values (sampled_entry G rho r) 0 (get_or a r d) (λ s e m. ap (sampled_entry G rho r) (from_zero s) ∙ entries r s d e h (omega (arith, m, n))))
-
--- where an entry is none there is no matrix
-pub sampled_matrix-none : (G : List ℕ → List ℕ) (rho : List ℕ) (k l r s : ℕ) → r < k → s < l → sampled_entry G rho r s ≡ None → sampled_matrix G rho k l ≡ None
-unfolding sampled_matrix
-sampled_matrix-none G rho k l r s h m e =
-    all_present-none (sampled_row G rho l) 0 k r h (ap (sampled_row G rho l) (from_zero r) ∙ all_present-none (sampled_entry G rho r) 0 l s m (ap (sampled_entry G rho r) (from_zero s) ∙ e))
 
 -- the entries of a sampled matrix
 pub sampled_matrix-entries : (G : List ℕ → List ℕ) (rho : List ℕ) (k l : ℕ) (a : List (List T)) → sampled_matrix G rho k l ≡ Some a

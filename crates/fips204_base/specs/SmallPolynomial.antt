@@ -1,5 +1,5 @@
 -- Small polynomials (FIPS 204, Algorithms 31 and 33).
-use Rattle.std.specs.Prelude.{ℕ, ◌/◌, ◌%◌, List, [], ◌∷◌, ◌++◌, ℤ, length, map, take, filter_map, flat_map, Option, option_map}
+use Rattle.std.specs.Prelude.{◌≡◌, ◌⊎◌, ℕ, ◌/◌, ◌%◌, List, [], ◌∷◌, ◌++◌, ℤ, length, map, take, filter_map, flat_map, Option, None, option_map}
 use Rattle.std.specs.Int.{w16, to_le_bytes}
 use Rattle.std.specs.List.{range_with_len}
 use Rattle.fips204_base.specs.declared.types.R.{R}
@@ -22,3 +22,7 @@ small_polynomial eta front = option_map (λ values. record { 0 = values }) (firs
 -- none where one of them is none
 unfoldable pub small_vector : ℕ → (List ℕ → List ℕ) → List ℕ → ℕ → ℕ → Option (List R)
 small_vector eta H rho first count = all_present (map (λ r. small_polynomial eta (H (rho ++ to_le_bytes w16 r))) (range_with_len first count))
+
+-- ExpandS (Algorithm 33) gives none: of s1, with the numbers from 0 on, and s2, with those from l on, one is none
+abbrev pub LacksSmallVector : ℕ → (List ℕ → List ℕ) → List ℕ → ℕ → ℕ → Type 0
+LacksSmallVector eta H rho k l = (small_vector eta H rho 0 l ≡ None) ⊎ (small_vector eta H rho l k ≡ None)

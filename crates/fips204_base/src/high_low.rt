@@ -1,7 +1,7 @@
 //! Rounding and hints (FIPS 204, Algorithms 35 to 40).
 #![tactic(auto)]
 
-ghost use Rattle.std.specs.Prelude.{◌≡◌, ◌⊎◌, ◌<◌, ◌≤◌, ◌+◌, ◌-◌, ◌*◌, ◌/◌, ℕ, ℤ, pos, ◌≤ℤ◌, nat_abs, int_lt};
+ghost use Rattle.std.specs.Prelude.{◌≡◌, ◌⊎◌, ◌<◌, ◌≤◌, ◌+◌, ◌-◌, ◌*◌, ◌/◌, ℤ, pos, ◌≤ℤ◌, nat_abs, int_lt};
 ghost use Rattle.fips204_base.specs.Residues.{residue};
 ghost use Rattle.fips204_base.specs.Polynomials.{AreResidues};
 ghost use Rattle.fips204_base.specs.Vectors.{vector_coefficients, vector_of};

@@ -9,7 +9,7 @@ ghost use Rattle.std.specs.Prelude.{◌≡◌, ◌<◌, ℕ, ℤ, length};
 ghost use Rattle.fips204_base.specs.Polynomials.{coefficient_at, entry};
 ghost use Rattle.fips204_base.specs.Vectors.{vector_of};
 
-use crate::types::{R, R0};
+use crate::types::R;
 
 /// The 256 numbers that `f` gives for those of `w`.
 #[inline(always)]
@@ -17,10 +17,8 @@ pub fn map<F: Fn(i32) -> i32>(w: &[i32; 256], f: F) -> [i32; 256]
     requires { (n : ℕ) → n < 256 → F.pre f (coefficient_at w.now n) }
     ensures { (n : ℕ) → n < 256 → F.post f (coefficient_at w.now n) (coefficient_at result n) }
 {
-    let mut out = [0; 256];
-    for n in 0..256 {
-        out[n] = f(w[n]);
-    }
+    let mut out = *w;
+    update(&mut out, f);
     out
 }
 

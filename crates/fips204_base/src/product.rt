@@ -1,9 +1,9 @@
 //! Products of plain polynomials, computed through transforms.
 #![tactic(auto)]
 
-ghost use Rattle.std.specs.Prelude.{◌≡◌, ◌≤◌, ◌<◌, ◌+◌, ◌*◌, ◌%◌, ℕ, pos, nat_abs, length};
+ghost use Rattle.std.specs.Prelude.{◌≡◌, ◌≤◌, ◌<◌, ◌*◌, ◌%◌, ℕ, pos, nat_abs};
 ghost use Rattle.fips204_base.specs.Residues.{residue, coefficients};
-ghost use Rattle.fips204_base.specs.Products.{product, minus, pointwise, row_product};
+ghost use Rattle.fips204_base.specs.Products.{product};
 ghost use Rattle.fips204_base.specs.Transforms.{transform, inverse_transform};
 ghost use Rattle.fips204_base.specs.Polynomials.{coefficient_at, entry, Within, IsReduced, IsReducedVector, AreReduced, IsReducedMatrix, vector_residues};
 ghost use Rattle.fips204_base.specs.Vectors.{vector_coefficients, matrix_product, product_difference};
@@ -47,7 +47,7 @@ pub fn challenge_times_vector<const K: usize>(c: &R, v: &[R; K]) -> [R; K]
     let mut out = [R0; K];
     for i in 0..K {
         let mut multiple = transform_of(&v[i]);
-        multiply(&mut multiple, &c_hat);
+        update_with(&mut multiple.0, &c_hat.0, value_product);
         out[i] = inverse_of(&multiple);
     }
     out
@@ -75,9 +75,9 @@ pub fn matrix_times_vector_less<const K: usize, const L: usize>(
     let mut out = [R0; K];
     for i in 0..K {
         let mut multiple = transform_of(&t[i]);
-        multiply(&mut multiple, &c_hat);
+        update_with(&mut multiple.0, &c_hat.0, value_product);
         let mut rest = products[i];
-        subtract(&mut rest, &multiple);
+        update_with(&mut rest.0, &multiple.0, difference);
         out[i] = inverse_of(&rest);
     }
     out
@@ -116,26 +116,6 @@ fn inverse_of(t: &T) -> R
     let mut out = t.0;
     inv_ntt_row(&mut out, &mut Count::new());
     R(out)
-}
-
-/// Multiplies a transform by another one, value by value.
-fn multiply(a: &mut T, b: &T)
-    requires a { IsReduced a.old.0 }
-    requires b { IsReduced b.now.0 }
-    ensures values { (j : ℕ) → j < 256 → coefficients a.new.0 j ≡ pointwise (coefficients a.old.0) (coefficients b.now.0) j }
-    ensures small { IsReduced a.new.0 }
-{
-    update_with(&mut a.0, &b.0, value_product);
-}
-
-/// Takes a transform from another one, value by value.
-fn subtract(a: &mut T, b: &T)
-    requires a { IsReduced a.old.0 }
-    requires b { IsReduced b.now.0 }
-    ensures values { (j : ℕ) → j < 256 → coefficients a.new.0 j ≡ minus (coefficients a.old.0) (coefficients b.now.0) j }
-    ensures small { IsReduced a.new.0 }
-{
-    update_with(&mut a.0, &b.0, difference);
 }
 
 /// The product of two values, below `q` in absolute value.

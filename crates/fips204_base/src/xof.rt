@@ -8,11 +8,12 @@ ghost use Rattle.std.proofs.Common.{rules};
 use std::marker::Model;
 
 mod counter;
-mod sha256_ctr;
-mod sha512_ctr;
+mod sha2_ctr;
 
-pub use sha256_ctr::{Sha256Ctr, Sha256CtrLong, Sha256CtrReader};
-pub use sha512_ctr::{Sha512Ctr, Sha512CtrLong, Sha512CtrReader};
+pub use counter::{BlockHash, BlockReader};
+pub use sha2_ctr::{
+    Sha256Ctr, Sha256CtrLong, Sha256CtrReader, Sha512Ctr, Sha512CtrLong, Sha512CtrReader,
+};
 
 /// A reader of a stream. Contracts see it as `rest`, the list of the bytes still to come.
 pub trait XofReader: Drop {

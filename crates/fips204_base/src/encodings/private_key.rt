@@ -1,7 +1,7 @@
 //! Private keys as bytes.
 #![tactic(auto)]
 
-ghost use Rattle.std.specs.Prelude.{◌≡◌, ◌≤◌, ◌+◌, ◌*◌, ℕ, ℤ, List, pos, nat_abs, length, take, drop, MatchResult, ◌++◌, ◌-ℤ◌};
+ghost use Rattle.std.specs.Prelude.{◌≡◌, ◌≤◌, ◌+◌, ◌*◌, ℕ, List, pos, nat_abs, length, take, drop, MatchResult, ◌-ℤ◌};
 ghost use Rattle.fips204_base.specs.Coefficients.{IsEta};
 ghost use Rattle.fips204_base.specs.Encodings.{IsPrivateKey, private_key_bytes};
 ghost use Rattle.fips204_base.specs.Packing.{width};
@@ -35,20 +35,16 @@ pub fn sk_decode<const K: usize, const L: usize, const SK_LEN: usize>(
     let (first, rest) = vectors.split_at(size * L);
     let (second, low) = rest.split_at(size * K);
     // lines 2 to 10: s1[i], s2[i] = BitUnpack(_, eta, eta), t0[i] = BitUnpack(w_i, 2^(d - 1) - 1, 2^(d - 1))
-    match unpack_short_vector(first, eta) {
-        None => Err(Fault::KeyRange),
-        Some(s1) => match unpack_short_vector(second, eta) {
-            None => Err(Fault::KeyRange),
-            Some(s2) => Ok((
-                part(seeds, 0),
-                part(seeds, 32),
-                part(seeds, 64),
-                s1,
-                s2,
-                unpack_vector(low, 4095, 4096),
-            )),
-        },
-    }
+    let s1 = unpack_short_vector(first, eta).ok_or(Fault::KeyRange)?;
+    let s2 = unpack_short_vector(second, eta).ok_or(Fault::KeyRange)?;
+    Ok((
+        part(seeds, 0),
+        part(seeds, 32),
+        part(seeds, 64),
+        s1,
+        s2,
+        unpack_vector(low, 4095, 4096),
+    ))
 }
 
 /// `skEncode` (Algorithm 24): a private key of its parts: rho, K, tr, then s1 and s2 with coefficients

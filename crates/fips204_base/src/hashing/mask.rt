@@ -1,8 +1,9 @@
 //! The mask, from the stream in the place of SHAKE256.
 #![tactic(auto)]
 
-ghost use Rattle.std.specs.Prelude.{◌≡◌, ◌≤◌, ◌⊎◌, ◌+◌, ◌++◌, pos, nat_abs};
+ghost use Rattle.std.specs.Prelude.{◌≡◌, ◌≤◌, ◌+◌, ◌++◌, nat_abs};
 ghost use Rattle.std.specs.Int.{w16, to_le_bytes};
+ghost use Rattle.fips204_base.specs.Encodings.{IsGamma1};
 ghost use Rattle.fips204_base.specs.Mask.{mask, mask_polynomial};
 
 use crate::conversion::bit_unpack;
@@ -12,7 +13,7 @@ use crate::xof::{Xof, XofReader};
 
 /// The polynomial of the mask from `rho` and `number` in two bytes.
 fn polynomial<H: Xof>(gamma1: i32, rho: &[u8; 64], number: u16) -> R
-    requires gamma1 { (gamma1 ≡ pos 131072) ⊎ (gamma1 ≡ pos 524288) }
+    requires gamma1 { IsGamma1 gamma1 }
     ensures { result ≡ mask_polynomial (nat_abs gamma1) (H.front (rho.now ++ to_le_bytes w16 number)) }
 {
     // v = H(rho || number, 32 c)
@@ -28,7 +29,7 @@ fn polynomial<H: Xof>(gamma1: i32, rho: &[u8; 64], number: u16) -> R
 /// at `r` from `rho` and the number `mu + r` in two bytes. `gamma1` is 131072 or 524288, and the
 /// largest number is at most 65535.
 pub fn expand_mask<const L: usize, H: Xof>(gamma1: i32, rho: &[u8; 64], mu: u16) -> [R; L]
-    requires gamma1 { (gamma1 ≡ pos 131072) ⊎ (gamma1 ≡ pos 524288) }
+    requires gamma1 { IsGamma1 gamma1 }
     requires numbers { mu + L ≤ 65536 }
     ensures { result ≡ mask (nat_abs gamma1) H.front rho.now L mu }
 {

@@ -4,7 +4,7 @@
 ghost use Rattle.std.specs.Prelude.{◌≡◌, ◌≤◌, ◌/◌, length, ok_or};
 ghost use Rattle.std.specs.List.{flat_map};
 ghost use Rattle.fips204_base.specs.Sampling.{AreKept};
-ghost use Rattle.fips204_base.specs.MatrixEntry.{kept_triples, matrix_entry, sampled_matrix, sampled_row};
+ghost use Rattle.fips204_base.specs.MatrixEntry.{kept_triples, matrix_entry, sampled_matrix};
 
 use crate::conversion::coeff_from_three_bytes;
 use crate::fault::Fault;
@@ -55,18 +55,6 @@ pub fn rej_ntt_poly<G: Xof>(parts: &[&[u8]]) -> Result<T, Fault>
     Err(Fault::SamplingLimit)
 }
 
-/// Row `r` of the matrix.
-fn expand_row<const L: usize, G: Xof>(rho: &[u8; 32], r: u8) -> Result<[T; L], Fault>
-    requires { L ≤ 7 }
-    ensures { result ≡ ok_or (sampled_row G.front rho.now L r) Fault.SamplingLimit }
-{
-    let mut row = [T0; L];
-    for s in 0..L {
-        row[s] = rej_ntt_poly::<G>(&[rho.as_slice(), &[s as u8], &[r]])?;
-    }
-    Ok(row)
-}
-
 /// `ExpandA` (Algorithm 32): the matrix of transforms, with the entry at row `r` and column `s` from
 /// `rho`, byte `s` and byte `r`. `K` and `L` are those of a parameter set. Refuses with
 /// `SamplingLimit` where an entry passes its limit.
@@ -78,7 +66,11 @@ pub fn expand_a<const K: usize, const L: usize, G: Xof>(
 {
     let mut matrix = [[T0; L]; K];
     for r in 0..K {
-        matrix[r] = expand_row::<L, G>(rho, r as u8)?;
+        let mut row = [T0; L];
+        for s in 0..L {
+            row[s] = rej_ntt_poly::<G>(&[rho.as_slice(), &[s as u8], &[r as u8]])?;
+        }
+        matrix[r] = row;
     }
     Ok(matrix)
 }

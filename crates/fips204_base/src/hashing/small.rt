@@ -1,10 +1,11 @@
 //! Small polynomials, from the stream in the place of SHAKE256.
 #![tactic(auto)]
 
-ghost use Rattle.std.specs.Prelude.{◌≡◌, ◌≤◌, ◌⊎◌, ◌+◌, length, pos, nat_abs, ok_or, IfOk, IfErr, Some, None};
-ghost use Rattle.fips204_base.specs.Sampling.{AreKept};
+ghost use Rattle.std.specs.Prelude.{◌≡◌, ◌≤◌, ◌+◌, length, nat_abs, ok_or, IfOk, IfErr, Some};
 ghost use Rattle.std.specs.List.{flat_map};
-ghost use Rattle.fips204_base.specs.SmallPolynomial.{kept_half_bytes, small_polynomial, small_vector};
+ghost use Rattle.fips204_base.specs.Coefficients.{IsEta};
+ghost use Rattle.fips204_base.specs.Sampling.{AreKept};
+ghost use Rattle.fips204_base.specs.SmallPolynomial.{LacksSmallVector, kept_half_bytes, small_polynomial, small_vector};
 
 use crate::conversion::coeff_from_half_byte;
 use crate::fault::Fault;
@@ -15,7 +16,7 @@ use crate::xof::{Xof, XofReader};
 /// Puts the coefficients that the half bytes of `piece` give into `values` from place `kept` on, as
 /// many as have room, and answers how many there are then.
 fn keep_half_bytes(eta: i32, piece: &[u8], values: &mut [i32; 256], kept: usize) -> usize
-    requires eta { (eta ≡ pos 2) ⊎ (eta ≡ pos 4) }
+    requires eta { IsEta eta }
     requires room { kept ≤ 256 }
     ensures count { result ≤ 256 }
     ensures kept { AreKept values.old kept (kept_half_bytes (nat_abs eta) piece.now (length piece.now)) values.new result }
@@ -32,7 +33,7 @@ fn keep_half_bytes(eta: i32, piece: &[u8], values: &mut [i32; 256], kept: usize)
 /// `parts`. `eta` is 2 or 4. Refuses with `SamplingLimit` where rejection sampling reaches its limit:
 /// where the half bytes of the first quarter of the front give fewer than 256 coefficients.
 pub fn rej_bounded_poly<H: Xof>(eta: i32, parts: &[&[u8]]) -> Result<R, Fault>
-    requires eta { (eta ≡ pos 2) ⊎ (eta ≡ pos 4) }
+    requires eta { IsEta eta }
     ensures { result ≡ ok_or (small_polynomial (nat_abs eta) (H.front (flat_map (λ part. part.now) parts.now))) Fault.SamplingLimit }
 {
     // ctx = H.Absorb(rho)
@@ -63,7 +64,7 @@ fn small_polynomials<const N: usize, H: Xof>(
     rho: &[u8; 64],
     first: usize,
 ) -> Result<[R; N], Fault>
-    requires eta { (eta ≡ pos 2) ⊎ (eta ≡ pos 4) }
+    requires eta { IsEta eta }
     requires numbers { first + N ≤ 65536 }
     ensures { result ≡ ok_or (small_vector (nat_abs eta) H.front rho.now first N) Fault.SamplingLimit }
 {
@@ -85,11 +86,11 @@ pub fn expand_s<const K: usize, const L: usize, H: Xof>(
     eta: i32,
     rho: &[u8; 64],
 ) -> Result<([R; L], [R; K]), Fault>
-    requires eta { (eta ≡ pos 2) ⊎ (eta ≡ pos 4) }
+    requires eta { IsEta eta }
     requires shape { (K ≤ 8) × (L ≤ 7) }
     ensures s1 { IfOk result (λ vectors. small_vector (nat_abs eta) H.front rho.now 0 L ≡ Some vectors.0) }
     ensures s2 { IfOk result (λ vectors. small_vector (nat_abs eta) H.front rho.now L K ≡ Some vectors.1) }
-    ensures limit { IfErr result (λ fault. (fault ≡ Fault.SamplingLimit) × ((small_vector (nat_abs eta) H.front rho.now 0 L ≡ None) ⊎ (small_vector (nat_abs eta) H.front rho.now L K ≡ None))) }
+    ensures limit { IfErr result (λ fault. (fault ≡ Fault.SamplingLimit) × LacksSmallVector (nat_abs eta) H.front rho.now K L) }
 {
     let s1 = small_polynomials::<L, H>(eta, rho, 0)?;
     let s2 = small_polynomials::<K, H>(eta, rho, L)?;

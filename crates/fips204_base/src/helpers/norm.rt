@@ -3,7 +3,7 @@
 
 ghost use Rattle.std.specs.Prelude.{◌≡◌, ◌<◌, ◌≤◌, ℕ, pos, nat_abs};
 ghost use Rattle.fips204_base.specs.Polynomials.{coefficient_at, VectorWithin};
-ghost use Rattle.fips204_base.specs.CentredValues.{centred, norm, vector_norm};
+ghost use Rattle.fips204_base.specs.CentredValues.{norm, vector_norm};
 
 use crate::helpers::reduce::center_mod;
 use crate::types::R;
@@ -29,15 +29,7 @@ fn norm(w: &R) -> i32
 {
     let mut most = 0;
     for x in &w.0 {
-        most = most.max(centred_size(*x));
+        most = most.max(center_mod(*x).abs());
     }
     most
-}
-
-/// The absolute value of a number that is centred modulo `q`.
-fn centred_size(x: i32) -> i32
-    requires { nat_abs x < 2143289344 }
-    ensures { result ≡ pos (nat_abs (centred x)) }
-{
-    center_mod(x).abs()
 }

@@ -1,28 +1,34 @@
-//! What the streams in counter mode share: a reader of blocks that a hash gives.
+//! Counter mode: a reader of the blocks that a hash gives.
 #![tactic(auto)]
 
 ghost use Rattle.std.specs.Prelude.{◌≡◌, ◌≤◌, ◌<◌, ◌*◌, ◌++◌, ℕ, List, length, min, take, drop};
 ghost use Rattle.std.specs.List.{flat_map};
 ghost use Rattle.fips204_base.specs.Streams.{counter_block, counter_blocks};
 
+use crate::xof::XofReader;
 use sha2::Digest;
 use std::marker::{Model, PhantomData};
 
-/// A hash with digests of `N` bytes, for streams in counter mode.
-pub(crate) trait BlockHash<const N: usize> {
+/// A hash with digests of `N` bytes, for a stream in counter mode. Its digest is a fixed function of the
+/// joined parts.
+pub trait BlockHash<const N: usize> {
     ghost hash: { List ℕ → List ℕ };
 
-    /// The digest of the joined parts.
+    /// The digest of the joined parts, however they are cut.
     fn digest(parts: &[&[u8]]) -> [u8; N]
         ensures { result ≡ hash (flat_map (λ part. part.now) parts.now) };
 
     ghost digest_size: { (message : List ℕ) → length (hash message) ≡ N };
 }
 
-/// A reader of the first `blocks` blocks over `seed`. It holds one block, and makes the next one when a byte of it
-/// is asked for.
+/// A reader of blocks: block `i` is the digest of a seed followed by `i` as four bytes, the lowest first. It
+/// holds one block, and makes the next one when a byte of it is asked for.
+///
+/// For a stream of your own take this as the `Reader` of your `Xof`, and open it by `new` with `FRONT / N`
+/// blocks. `Sha256` and `Sha512` of the crate `sha2` are a `BlockHash`; implement it for another digest. The
+/// front is `counter_blocks`, and `length-counter_blocks` is its length.
 #[derive(Drop)]
-pub(crate) struct BlockReader<H: BlockHash<N>, const N: usize> {
+pub struct BlockReader<H: BlockHash<N>, const N: usize> {
     hash: PhantomData<H>,
     seed: [u8; N],
     blocks: u32,
@@ -73,37 +79,19 @@ fn copy_run(source: &[u8], out: &mut [u8]) -> usize
 }
 
 impl<H: BlockHash<N>, const N: usize> BlockReader<H, N> {
-    /// A reader of the first `blocks` blocks over `seed`.
-    pub(crate) fn new(seed: [u8; N], blocks: u32) -> BlockReader<H, N>
+    /// A reader of the first `blocks` blocks, at most 1048576 bytes. The seed is the digest of the joined
+    /// parts.
+    pub fn new(parts: &[&[u8]], blocks: u32) -> BlockReader<H, N>
         requires { blocks * N ≤ 1048576 }
-        ensures { result ≡ counter_blocks H.hash seed.entry blocks }
+        ensures { result ≡ counter_blocks H.hash (H.hash (flat_map (λ part. part.now) parts.now)) blocks }
     {
         BlockReader {
             hash: PhantomData,
-            seed,
+            seed: H::digest(parts),
             blocks,
             next: 0,
             block: [0; N],
             given: N,
-        }
-    }
-
-    /// How many bytes are still to come.
-    pub(crate) fn left(&self) -> usize
-        ensures { result ≡ length self.now }
-    {
-        N - self.given + (self.blocks - self.next) as usize * N
-    }
-
-    /// Fills `out` with the next bytes, and drops them from what is still to come.
-    pub(crate) fn read(&mut self, out: &mut [u8])
-        requires { length out.old ≤ length self.old }
-        ensures given { out.new ≡ take (length out.old) self.old }
-        ensures dropped { self.new ≡ drop (length out.old) self.old }
-    {
-        let mut filled = 0;
-        while filled < out.len() {
-            filled += self.read_run(&mut out[filled..]);
         }
     }
 
@@ -126,5 +114,20 @@ impl<H: BlockHash<N>, const N: usize> BlockReader<H, N> {
         let count = copy_run(&whole[self.given..], out);
         self.given += count;
         count
+    }
+}
+
+impl<H: BlockHash<N>, const N: usize> XofReader for BlockReader<H, N> {
+    ghost rest = { λ bytes. bytes };
+
+    fn left(&self) -> usize {
+        N - self.given + (self.blocks - self.next) as usize * N
+    }
+
+    fn read(&mut self, out: &mut [u8]) {
+        let mut filled = 0;
+        while filled < out.len() {
+            filled += self.read_run(&mut out[filled..]);
+        }
     }
 }

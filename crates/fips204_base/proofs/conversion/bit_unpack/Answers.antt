@@ -2,11 +2,11 @@ use Rattle.std.proofs.Common.{rules, arith, ℕ, ◌≡◌, pos, ◌<◌, ◌^�
 use Rattle.std.proofs.lemmas.Int.{to_z-of_z, ints}
 use Rattle.std.proofs.lemmas.List.{take_more}
 use Rattle.std.proofs.lemmas.Nat.{mod_below, pow_pos}
-use Rattle.fips204_base.specs.Packing.{width, field, bits}
+use Rattle.fips204_base.specs.Packing.{Unpacks, width, field, bits}
 use Rattle.fips204_base.proofs.Bits.{digits-zero, bits-nil, put_bits, put_below, put_fits, give_bits, give_below, low_small}
 use Rattle.fips204_base.proofs.Fields.{refused, stored, word_finished}
 use Rattle.fips204_base.proofs.conversion.bit_unpack.Goals as goal
-use Rattle.fips204_base.proofs.conversion.bit_unpack.Goals.{else-a-eq0-via-then-a-eq0+else-not-is_in_range, else-a-eq0-via-else-a-eq0}
+use Rattle.fips204_base.proofs.conversion.bit_unpack.Goals.{After-loop-byte, else-a-eq0-via-then-a-eq0+else-not-is_in_range, else-a-eq0-via-else-a-eq0}
 use Rattle.std.proofs.lemmas.Bool.{iff_false}
 use Rattle.std.proofs.lemmas.List.Elements.{All-from_get_or}
 
@@ -58,28 +58,27 @@ loop-have-preserved c =
       fields = new.1;
     }
 
+-- all fields are read once all bytes are
+all_read : (c : After-loop-byte) → Unpacks c.args.a c.args.b c.args.v.now c.loop-byte.out
+all_read c =
+    let A = to_z-of_z w32 c.args.a c.ranges.a in
+    let B = to_z-of_z w32 c.args.b c.ranges.b in
+    let bytes = All-from_get_or (λ (x : ℕ). x < 256) c.args.v.now 0 (λ i h. (c.type_inv.v i).fits) in
+    rw (A, B) at (word_finished _ _ c.field_width-c.result c.loop-byte.at c.loop-byte.have c.loop-byte.byte-index c.loop-byte.word c.loop-byte.out c.args.v.now c.field_width-c.ensures.value
+    c.loop-byte.invariant.long c.loop-byte.invariant.bits_done (rw c.field_width-c.ensures.value (rw (A, B) (omega arith))) c.loop-byte-test.false c.loop-byte.invariant.few bytes c.loop-byte.invariant.so_far c.loop-byte.invariant.fields)
+
 pub returns-then-not-is_in_range : goal.returns-then-not-is_in_range
 returns-then-not-is_in_range c =
-    let A = to_z-of_z w32 c.args.a c.ranges.a in
     let B = to_z-of_z w32 c.args.b c.ranges.b in
-    let bytes = All-from_get_or (λ (x : ℕ). x < 256) c.args.v.now 0 (λ i h. (c.type_inv.v i).fits) in
-    let unpacks = rw (A, B) at (word_finished _ _ c.field_width-c.result c.loop-byte.at c.loop-byte.have c.loop-byte.byte-index c.loop-byte.word c.loop-byte.out c.args.v.now c.field_width-c.ensures.value
-    c.loop-byte.invariant.long c.loop-byte.invariant.bits_done (rw c.field_width-c.ensures.value (rw (A, B) (omega arith))) c.loop-byte-test.false c.loop-byte.invariant.few bytes c.loop-byte.invariant.so_far c.loop-byte.invariant.fields) in
-    let zero : c.args.a ≡ pos 0 = omega (arith, ints, c.if-a-eq0.true) in (
-      zero,
-      refused c.args.a c.args.b c.args.v.now c.loop-byte.out zero unpacks (λ r. iff_false c.is_in_range.ensures c.if-not-is_in_range.true (rw B r)),
-    )
+    let zero : c.args.a ≡ pos 0 = omega (arith, ints, c.if-a-eq0.true) in
+    let unpacks = all_read (goal.at.returns-then-not-is_in_range c).After-loop-byte in
+    (zero, refused c.args.a c.args.b c.args.v.now c.loop-byte.out zero unpacks (λ r. iff_false c.is_in_range.ensures c.if-not-is_in_range.true (rw B r)))
 
 pub returns : goal.returns
-returns c =
-    let A = to_z-of_z w32 c.args.a c.ranges.a in
-    let B = to_z-of_z w32 c.args.b c.ranges.b in
-    let bytes = All-from_get_or (λ (x : ℕ). x < 256) c.args.v.now 0 (λ i h. (c.type_inv.v i).fits) in
-    let unpacks = rw (A, B) at (word_finished _ _ c.field_width-c.result c.loop-byte.at c.loop-byte.have c.loop-byte.byte-index c.loop-byte.word c.loop-byte.out c.args.v.now c.field_width-c.ensures.value
-    c.loop-byte.invariant.long c.loop-byte.invariant.bits_done (rw c.field_width-c.ensures.value (rw (A, B) (omega arith))) c.loop-byte-test.false c.loop-byte.invariant.few bytes c.loop-byte.invariant.so_far c.loop-byte.invariant.fields) in (
-      unpacks,
-      λ zero. elim c.else-a-eq0.branch [
-        | else-a-eq0-via-then-a-eq0+else-not-is_in_range w ↦ rw B at w.is_in_range.ensures.0 (search rules)
-        | else-a-eq0-via-else-a-eq0 w ↦ absurd (omega (arith, ints, zero, w.if-a-eq0.false))
-      ],
-    )
+returns c = (
+  all_read (goal.at.returns c).After-loop-byte,
+  λ zero. elim c.else-a-eq0.branch [
+    | else-a-eq0-via-then-a-eq0+else-not-is_in_range w ↦ rw (to_z-of_z w32 c.args.b c.ranges.b) at w.is_in_range.ensures.0 (search rules)
+    | else-a-eq0-via-else-a-eq0 w ↦ absurd (omega (arith, ints, zero, w.if-a-eq0.false))
+  ],
+)

@@ -79,7 +79,7 @@ loop-i-preserved g c =
           one_changed (λ p z. z ≡ pos (inverse_transform (residues g.V.Residue.lanes j d c.args.w.now) p)) g.V.Residue.lanes j c.loop-i.i d _ c.loop-i.w inside (λ p q. c.loop-i.invariant.done p j d q h)
           (c.finish.ensures j h ∙ ap (λ v. pos (8347681 * residue (lane (g.V.Residue.lanes v) j) % 8380417)) read
           ∙ ap pos (inverse_residue first c.loop-i.i _ (c.loop-i.invariant.ahead c.loop-i.i j d (omega arith) c.loop-i-test.true h))) p q;
-      ahead = λ p j d l q h. rw (others_stay g.V.Residue.lanes j c.loop-i.i d c.finish.result c.loop-i.w p l) (c.loop-i.invariant.ahead p j d (omega (arith, l)) q h);
+      ahead = λ p j d l q h. rw (others_stay g.V.Residue.lanes j c.loop-i.i d _ c.loop-i.w p l) (c.loop-i.invariant.ahead p j d (omega (arith, l)) q h);
     }
 
 pub returns : goal.returns

@@ -82,7 +82,7 @@ loop-i-preserved g c =
           one_changed (λ p z. IsCongruent (residue z) (transform (residues g.V.Residue.lanes j d c.args.w.now) p) × (nat_abs z ≤ 8380416)) g.V.Residue.lanes j c.loop-i.i d _ c.loop-i.w inside
           (λ p q. c.loop-i.invariant.done p j d q h)
           (congruent_trans (congruent_of (c.reduce.ensures.value j h ∙ ap (λ v. residue (lane (g.V.Residue.lanes v) j)) read)) old.0, c.reduce.ensures.small j h) p q;
-      ahead = λ p j d l q h. rw (others_stay g.V.Residue.lanes j c.loop-i.i d c.reduce.result c.loop-i.w p l) (c.loop-i.invariant.ahead p j d (omega (arith, l)) q h);
+      ahead = λ p j d l q h. rw (others_stay g.V.Residue.lanes j c.loop-i.i d _ c.loop-i.w p l) (c.loop-i.invariant.ahead p j d (omega (arith, l)) q h);
     }
 
 pub returns : goal.returns

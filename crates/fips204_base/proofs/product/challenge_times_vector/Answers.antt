@@ -18,8 +18,8 @@ loop-i-preserved g c =
       size = length-set _ _ _ ∙ c.loop-i.invariant.size;
       values = λ r n h q. row_written (λ r w. (n : ℕ) → n < 256 → coefficient_at w.0 n ≡ pos (product challenge (vector_coefficients v r) n)) c.loop-i.out i c.inverse_of.result record { 0 = [] }
           inside (λ r h n q. c.loop-i.invariant.values r n h q)
-          (λ n q. c.inverse_of.ensures.values n q ∙ ap pos (product_of_products (coefficients c.multiply.new.a.0) (coefficients c.transform_of-c_hat.result.0) (coefficients c.transform_of-multiple.result.0) challenge (vector_coefficients v i)
-          (λ j p. c.multiply.ensures.values j p ∙ pointwise_turned (coefficients c.transform_of-multiple.result.0) (coefficients c.transform_of-c_hat.result.0) j) c.transform_of-c_hat.ensures.values c.transform_of-multiple.ensures.values n q)) r h n q;
+          (λ n q. c.inverse_of.ensures.values n q ∙ ap pos (product_of_products (coefficients c.update_with.new.v) (coefficients c.transform_of-c_hat.result.0) (coefficients c.transform_of-multiple.result.0) challenge (vector_coefficients v i)
+          (λ j p. (c.update_with.ensures.values j p).0 ∙ pointwise_turned (coefficients c.transform_of-multiple.result.0) (coefficients c.transform_of-c_hat.result.0) j) c.transform_of-c_hat.ensures.values c.transform_of-multiple.ensures.values n q)) r h n q;
       small = λ r n h q. row_written (λ r w. (n : ℕ) → n < 256 → nat_abs (coefficient_at w.0 n) ≤ 8380416) c.loop-i.out i c.inverse_of.result record { 0 = [] }
           inside (λ r h n q. c.loop-i.invariant.small r n h q) c.inverse_of.ensures.small r h n q;
     }

@@ -21,9 +21,9 @@ loop-i-preserved g c =
       size = length-set _ _ _ ∙ c.loop-i.invariant.size;
       values = λ r n h q. row_written (λ r w. (n : ℕ) → n < 256 → coefficient_at w.0 n ≡ pos (minus (matrix_product g.row.L matrix z r) (product challenge (vector_coefficients t r)) n)) c.loop-i.out i c.inverse_of.result record { 0 = [] }
           inside (λ r h n q. c.loop-i.invariant.values r n h q)
-          (λ n q. c.inverse_of.ensures.values n q ∙ ap pos (difference_of_products g.row.L (coefficients c.subtract.new.a.0) (vector_residues products i) (coefficients c.multiply.new.a.0) (coefficients c.transform_of-c_hat.result.0) (coefficients c.transform_of-multiple.result.0)
+          (λ n q. c.inverse_of.ensures.values n q ∙ ap pos (difference_of_products g.row.L (coefficients c.update_with-in-loop-i.new.v) (vector_residues products i) (coefficients c.update_with.new.v) (coefficients c.transform_of-c_hat.result.0) (coefficients c.transform_of-multiple.result.0)
           challenge (vector_coefficients t i) (matrix_residues matrix i) (vector_residues c.transforms.result) z
-          c.subtract.ensures.values (λ j p. c.mat_vec_mul-products.ensures.values i j c.loop-i-test.true p) c.transforms.ensures.values (λ j p. c.multiply.ensures.values j p ∙ pointwise_turned (coefficients c.transform_of-multiple.result.0) (coefficients c.transform_of-c_hat.result.0) j) c.transform_of-c_hat.ensures.values c.transform_of-multiple.ensures.values n q)) r h n q;
+          (λ j p. (c.update_with-in-loop-i.ensures.values j p).0) (λ j p. c.mat_vec_mul-products.ensures.values i j c.loop-i-test.true p) c.transforms.ensures.values (λ j p. (c.update_with.ensures.values j p).0 ∙ pointwise_turned (coefficients c.transform_of-multiple.result.0) (coefficients c.transform_of-c_hat.result.0) j) c.transform_of-c_hat.ensures.values c.transform_of-multiple.ensures.values n q)) r h n q;
       small = λ r n h q. row_written (λ r w. (n : ℕ) → n < 256 → nat_abs (coefficient_at w.0 n) ≤ 8380416) c.loop-i.out i c.inverse_of.result record { 0 = [] }
           inside (λ r h n q. c.loop-i.invariant.small r n h q) c.inverse_of.ensures.small r h n q;
     }

@@ -1,7 +1,8 @@
-use Rattle.std.proofs.Common.{◌≡◌, ◌*◌, ◌^◌, ◌++◌, ◌∙◌, pos, ap, refl, sym, arith, rules, nat_abs, length, take, drop, w32, length-drop}
+use Rattle.std.proofs.Common.{◌≡◌, ◌*◌, ◌^◌, ◌++◌, ◌∙◌, Some, None, Err, pos, ap, refl, sym, arith, rules, nat_abs, length, take, drop, w32, length-drop}
 use Rattle.std.proofs.lemmas.Int.{ints, to_z-of_z}
 use Rattle.std.proofs.lemmas.List.{take-append-drop, length-take-le}
 use Rattle.fips204_base.specs.Packing.{width}
+use Rattle.fips204_base.specs.declared.fault.Fault.TheVariants.{KeyRange}
 use Rattle.fips204_base.proofs.EncodedParts.{width_4095_4096, eta_width, three_seeds, private_key-of_parts, private_key-first, private_key-second}
 use Rattle.fips204_base.proofs.VectorBytes.{same_bounds}
 use Rattle.fips204_base.proofs.encodings.private_key.sk_decode.Goals as goal
@@ -15,28 +16,30 @@ unpack_vector-requires g c =
     let room : length c.split_at-3.result.1.now ≡ 32 * 13 * g.row.K = omega (arith, a, b, c.requires.size, c.told-sk, c.split_at.ensures.back_len, c.split_at-2.ensures.back_len, c.split_at-3.ensures.back_len) in
     (search rules, ((omega (arith, ints), omega (arith, ints), omega (arith, ints), omega (arith, ints)), (ap (λ n. pos (2 ^ n)) width_4095_4096, room ∙ ap (λ n. 32 * n * g.row.K) (sym width_4095_4096))))
 
-pub returns-in-None : goal.returns-in-None
-returns-in-None g c =
+pub returns-in_err-s1 : goal.returns-in_err-s1
+returns-in_err-s1 g c =
     let E = to_z-of_z w32 c.args.eta c.ranges.eta in
     let size : c.polynomial_size-size.result ≡ 32 * width c.args.eta c.args.eta = let e = c.polynomial_size-size.ensures.size in rw E at e in
     let natural = size ∙ ap (λ w. 32 * w) (eta_width c.args.eta c.requires.set) in
-    let refused = c.in-None.ensures in
-    let given = rw E at refused in
+    let none : c.unpack_short_vector.result ≡ None = search rules in
+    let refused : c.from_residual.result ≡ Err KeyRange = search rules in
+    let given = rw (none, E) at c.unpack_short_vector.ensures in
     let first = c.split_at-2.ensures.front ∙ ap (take (c.polynomial_size-size.result * g.row.L)) c.split_at.ensures.back in
-    (refl, λ rho key tr s1 s2 t0 s. given s1 s.first (private_key-first _ _ _ _ _ _ _ _ _ _ _ s (ap (λ w. w * g.row.L) natural) ∙ sym first))
+    rw refused (refl, λ rho key tr s1 s2 t0 s. given s1 s.first (private_key-first _ _ _ _ _ _ _ _ _ _ _ s (ap (λ w. w * g.row.L) natural) ∙ sym first))
 
-pub returns-in-None-unpack_short_vector : goal.returns-in-None-unpack_short_vector
-returns-in-None-unpack_short_vector g c =
+pub returns-in_err-s2 : goal.returns-in_err-s2
+returns-in_err-s2 g c =
     let E = to_z-of_z w32 c.args.eta c.ranges.eta in
     let size : c.polynomial_size-size.result ≡ 32 * width c.args.eta c.args.eta = let e = c.polynomial_size-size.ensures.size in rw E at e in
     let natural = size ∙ ap (λ w. 32 * w) (eta_width c.args.eta c.requires.set) in
-    let refused = c.in-None-unpack_short_vector.ensures in
-    let given = rw E at refused in
+    let none : c.unpack_short_vector-2.result ≡ None = search rules in
+    let refused : c.from_residual-in_err-s2.result ≡ Err KeyRange = search rules in
+    let given = rw (none, E) at c.unpack_short_vector-2.ensures in
     let second = c.split_at-3.ensures.front ∙ ap (take (c.polynomial_size-size.result * g.row.K)) (c.split_at-2.ensures.back ∙ ap (drop (c.polynomial_size-size.result * g.row.L)) c.split_at.ensures.back) in
-    (refl, λ rho key tr s1 s2 t0 s. given s2 s.second (private_key-second _ _ _ _ _ _ _ _ _ _ _ _ s (ap (λ w. w * g.row.L) natural) (ap (λ w. w * g.row.K) natural) ∙ sym second))
+    rw refused (refl, λ rho key tr s1 s2 t0 s. given s2 s.second (private_key-second _ _ _ _ _ _ _ _ _ _ _ _ s (ap (λ w. w * g.row.L) natural) (ap (λ w. w * g.row.K) natural) ∙ sym second))
 
-pub returns-in-Some-unpack_short_vector : goal.returns-in-Some-unpack_short_vector
-returns-in-Some-unpack_short_vector g c =
+pub returns : goal.returns
+returns g c =
     let E = to_z-of_z w32 c.args.eta c.ranges.eta in
     let seeds = c.split_at.result.0.now in
     let vectors = c.split_at.result.1.now in
@@ -47,19 +50,23 @@ returns-in-Some-unpack_short_vector g c =
     let a = c.polynomial_size-size.result * g.row.L in
     let b = c.polynomial_size-size.result * g.row.K in
     let rho : c.part.result.now ≡ take 32 (drop 0 seeds) = c.part.ensures in
-    let key : c.part-in-Some-unpack_short_vector.result.now ≡ take 32 (drop 32 seeds) = c.part-in-Some-unpack_short_vector.ensures in
-    let tr : c.part-in-Some-unpack_short_vector-2.result.now ≡ take 64 (drop 64 seeds) = c.part-in-Some-unpack_short_vector-2.ensures in
+    let key : c.part-2.result.now ≡ take 32 (drop 32 seeds) = c.part-2.ensures in
+    let tr : c.part-3.result.now ≡ take 64 (drop 64 seeds) = c.part-3.ensures in
     let long : length seeds ≡ 128 = c.split_at.ensures.front_len in
     let ends : second ++ low ≡ rest = ap (λ l. l ++ low) c.split_at-3.ensures.front ∙ ap (λ l. take b rest ++ l) c.split_at-3.ensures.back ∙ take-append-drop b rest in
     let all : first ++ (second ++ low) ≡ vectors = ap (λ l. first ++ l) ends ∙ ap (λ l. l ++ rest) c.split_at-2.ensures.front ∙ ap (λ l. take a vectors ++ l) c.split_at-2.ensures.back ∙ take-append-drop a vectors in
-    let front : c.part.result.now ++ c.part-in-Some-unpack_short_vector.result.now ++ c.part-in-Some-unpack_short_vector-2.result.now ≡ seeds = rw (rho, key, tr) (three_seeds seeds long) in
-    let cut : c.args.sk.now ≡ (c.part.result.now ++ c.part-in-Some-unpack_short_vector.result.now ++ c.part-in-Some-unpack_short_vector-2.result.now) ++ (first ++ (second ++ low)) =
+    let front : c.part.result.now ++ c.part-2.result.now ++ c.part-3.result.now ≡ seeds = rw (rho, key, tr) (three_seeds seeds long) in
+    let cut : c.args.sk.now ≡ (c.part.result.now ++ c.part-2.result.now ++ c.part-3.result.now) ++ (first ++ (second ++ low)) =
     sym (ap (λ l. l ++ (first ++ (second ++ low))) front ∙ ap (λ l. seeds ++ l) all ∙ ap (λ l. l ++ vectors) c.split_at.ensures.front ∙ ap (λ l. take 128 c.args.sk.now ++ l) c.split_at.ensures.back ∙ take-append-drop 128 c.args.sk.now) in
     let n = ap nat_abs E in
-    let one = same_bounds g.row.L _ _ (nat_abs c.args.eta) (nat_abs c.args.eta) c.in-Some.s1 first n n c.in-Some.ensures.0 c.in-Some.ensures.1 in
-    let two = same_bounds g.row.K _ _ (nat_abs c.args.eta) (nat_abs c.args.eta) c.in-Some-unpack_short_vector.s2 second n n c.in-Some-unpack_short_vector.ensures.0 c.in-Some-unpack_short_vector.ensures.1 in
-    private_key-of_parts (nat_abs c.args.eta) g.row.K g.row.L c.args.sk.now c.part.result.now c.part-in-Some-unpack_short_vector.result.now c.part-in-Some-unpack_short_vector-2.result.now first second low
-    c.in-Some.s1 c.in-Some-unpack_short_vector.s2 c.unpack_vector.result cut
+    let first_there : c.unpack_short_vector.result ≡ Some c.in_ok-s1.s1 = search rules in
+    let second_there : c.unpack_short_vector-2.result ≡ Some c.in_ok-s2.s2 = search rules in
+    let s1 = rw first_there at c.unpack_short_vector.ensures in
+    let s2 = rw second_there at c.unpack_short_vector-2.ensures in
+    let one = same_bounds g.row.L _ _ (nat_abs c.args.eta) (nat_abs c.args.eta) c.in_ok-s1.s1 first n n s1.0 s1.1 in
+    let two = same_bounds g.row.K _ _ (nat_abs c.args.eta) (nat_abs c.args.eta) c.in_ok-s2.s2 second n n s2.0 s2.1 in
+    private_key-of_parts (nat_abs c.args.eta) g.row.K g.row.L c.args.sk.now c.part.result.now c.part-2.result.now c.part-3.result.now first second low
+    c.in_ok-s1.s1 c.in_ok-s2.s2 c.unpack_vector.result cut
     (ap length rho ∙ length-take-le 32 (drop 0 seeds) (omega (arith, long)))
     (ap length key ∙ length-take-le 32 (drop 32 seeds) (simp length-drop (omega (arith, long))))
     (ap length tr ∙ length-take-le 64 (drop 64 seeds) (simp length-drop (omega (arith, long))))

@@ -22,7 +22,7 @@ returns-in_err-polynomials g c =
     let fault = none_of_err (small_polynomial (nat_abs (to_z w32 (of_z w32 c.args.eta))) (g.H.Xof.front input)) c.in_err-polynomials.field-0.0 c.in_err-polynomials.ensures in
     let refused : c.from_residual.result ≡ Err SamplingLimit = search rules in
     let here : polynomial (c.args.first + c.loop-r.r) ≡ None = rw (eta, seed, number, append-nil (to_le_bytes w16 (c.args.first + c.loop-r.r))) at fault.0 in
-    let none : all_present (map polynomial (range_with_len c.args.first g.row.N)) ≡ None = all_present-none polynomial c.args.first g.row.N c.loop-r.r c.loop-r-test.true here in
+    let none : all_present (map polynomial (range_with_len c.args.first g.row.N)) ≡ None = all_present-none polynomial c.args.first g.row.N c.loop-r.r _ c.loop-r-test.true refl here in
     rw none refused
 
 pub loop-r-preserved : goal.loop-r-preserved

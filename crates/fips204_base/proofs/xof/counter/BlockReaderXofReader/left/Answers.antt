@@ -1,5 +1,5 @@
 use Rattle.fips204_base.proofs.CounterStreams.{InHand-left}
-use Rattle.fips204_base.proofs.xof.counter.BlockReader.left.Goals as goal
+use Rattle.fips204_base.proofs.xof.counter.BlockReaderXofReader.left.Goals as goal
 
 pub returns : goal.returns
 returns g c =

@@ -1,5 +1,5 @@
 use Rattle.std.proofs.Common.{length, ◌-◌, ◌≡◌, ◌≤◌, take, drop}
-use Rattle.fips204_base.proofs.xof.counter.BlockReader.read.Given as goal
+use Rattle.fips204_base.proofs.xof.counter.BlockReaderXofReader.read.Given as goal
 
 abbrev pub invariant-loop-filled : goal.invariant-loop-filled
 invariant-loop-filled g l = (l.filled ≤ length l.out) × (take l.filled l.out ≡ take l.filled l.fn.self) × (l.self ≡ drop l.filled l.fn.self)

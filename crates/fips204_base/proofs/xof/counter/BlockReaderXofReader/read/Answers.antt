@@ -1,7 +1,7 @@
 use Rattle.std.proofs.Common.{length-drop, arith}
 use Rattle.std.proofs.lemmas.List.{take_rest}
 use Rattle.fips204_base.proofs.CounterStreams.{filled_more}
-use Rattle.fips204_base.proofs.xof.counter.BlockReader.read.Goals as goal
+use Rattle.fips204_base.proofs.xof.counter.BlockReaderXofReader.read.Goals as goal
 
 pub loop-filled-preserved : goal.loop-filled-preserved
 loop-filled-preserved g c =

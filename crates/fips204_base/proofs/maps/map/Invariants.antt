@@ -1,9 +1,0 @@
-use Rattle.std.proofs.Common.{ℕ, ◌≡◌, ◌<◌, length}
-use Rattle.fips204_base.specs.Polynomials.{coefficient_at}
-use Rattle.fips204_base.proofs.maps.map.Given as goal
-
-abbrev pub invariant-loop-n : goal.invariant-loop-n
-invariant-loop-n g l = record {
-  size : length l.out ≡ 256;
-  values : (k : ℕ) → k < l.n → goal.F-post g l.f (coefficient_at l.w k) (coefficient_at l.out k);
-}
