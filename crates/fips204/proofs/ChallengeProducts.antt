@@ -1,10 +1,9 @@
 -- A product with a challenge is small, coefficient by coefficient and in its norm.
-use Rattle.std.proofs.Common.{◌≡◌, ◌≢◌, ◌⊎◌, inl, inr, ◌<◌, ◌≤◌, ◌+◌, ◌-◌, ◌*◌, ◌%◌, ℕ, List, [], ◌∷◌, pos, ◌+ℤ◌, get_or, length, take, Some, suc, true, false, refl, ap, sym, subst, ◌∙◌, arith, if◌then◌else◌, zero, ℤ, nat_abs}
-use Rattle.std.specs.Prelude.{nat_eq, nat_lt, max, fold}
+use Rattle.std.proofs.Common.{◌≡◌, ◌≢◌, ◌⊎◌, inl, inr, ◌<◌, ◌≤◌, ◌+◌, ◌-◌, ◌*◌, ◌%◌, ℕ, List, [], ◌∷◌, pos, ◌+ℤ◌, get_or, length, take, Some, suc, refl, ap, sym, subst, ◌∙◌, arith, if◌then◌else◌, zero, ℤ, nat_abs}
+use Rattle.std.specs.Prelude.{nat_eq, max, fold}
 use Rattle.std.proofs.lemmas.Bool.{cases_Bool, cases_lt, ne_eqb, eq-eqb, lt-ltb, le-ltb, le-leb, lt-leb}
-use Rattle.std.proofs.lemmas.Option.{none-some}
 use Rattle.fips204_base.specs.declared.types.R.{R}
-use Rattle.fips204_base.specs.Challenge.{sign_of, signed_sum, challenge_picks, challenge}
+use Rattle.fips204_base.specs.Challenge.{sign_of, signed_sum, challenge}
 use Rattle.fips204_base.specs.Packing.{bits}
 use Rattle.fips204_base.specs.Products.{shifted, product}
 use Rattle.fips204_base.specs.Residues.{IsCongruent, residue, coefficients, sum_below}
@@ -17,6 +16,7 @@ use Rattle.std.proofs.lemmas.Int.{ints}
 use Rattle.fips204_base.specs.CentredValues.{centred, norm, vector_norm}
 use Rattle.std.proofs.lemmas.List.{get_or_past}
 use Rattle.fips204.specs.SchemeLaws.{ChallengeProductIsSmall}
+use Rattle.fips204.proofs.Ranges.{challenge-sum}
 
 -- A product with a challenge is small: each of its coefficients is a sum of at most tau coefficients, each with a sign.
 
@@ -97,19 +97,6 @@ near_shifted b i n m inside below h = elim (cases_lt n i) [
   | inr least ↦ rw (le-ltb n i least) (h (n - i) (omega arith))
 ]
 
--- a challenge is a sum of its signs at its places
-challenge_is : (tau : ℕ) (front : List ℕ) (c : R) → challenge tau front ≡ Some c → polynomial_of (signed_sum (challenge_places tau front) (bits 8 (take 8 front))) ≡ c
-unfolding challenge
-challenge_is tau front c e = elim (cases_lt (length (challenge_picks tau front)) tau) [
-  | inl few ↦
-      let test : nat_lt (length (challenge_picks tau front)) tau ≡ true = lt-ltb (length (challenge_picks tau front)) tau few in
-      absurd (none-some c (rw test at e))
-  | inr enough ↦
-      let test : nat_lt (length (challenge_picks tau front)) tau ≡ false = le-ltb (length (challenge_picks tau front)) tau enough in
-      let made : Some (polynomial_of (signed_sum (challenge_places tau front) (bits 8 (take 8 front)))) ≡ Some c = rw test at e in
-      cc
-]
-
 near_sum : (c : R) (ps sign_bits : List ℕ) (b : ℕ → ℕ) (n m : ℕ) → polynomial_of (signed_sum ps sign_bits) ≡ c → ((j : ℕ) → j < 256 → Near m (b j)) → n < 256
     → Near (length ps * m) (product (coefficients c.0) b n)
 unfolding product
@@ -126,7 +113,7 @@ pub near_challenge_product : (tau : ℕ) (front : List ℕ) (c : R) (b : ℕ →
     → Near (tau * m) (product (coefficients c.0) b n)
 near_challenge_product tau front c b m n e h below =
     subst (λ t. Near (t * m) (product (coefficients c.0) b n)) (length-challenge_places tau front c e)
-    (near_sum c (challenge_places tau front) (bits 8 (take 8 front)) b n m (challenge_is tau front c e) h below)
+    (near_sum c (challenge_places tau front) (bits 8 (take 8 front)) b n m (challenge-sum tau front c e) h below)
 
 -- A norm is at most n exactly where each coefficient is at most n from a multiple of q.
 

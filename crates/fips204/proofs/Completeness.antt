@@ -1,11 +1,11 @@
 -- What signing answers is the signature of a kept attempt, and it is accepted.
-use Rattle.std.proofs.Common.{◌≡◌, ◌⊎◌, inl, inr, ◌+◌, ◌-◌, ◌*◌, ℕ, zero, suc, List, [], ◌∷◌, IsTrue, ◌&&◌, nat_lt, nat_le, length, map, Some, None, Ok, refl, ap, sym, ◌∙◌, ◌<◌, ◌≤◌, ◌≤ℤ◌, ◌++◌, ℤ, pos, negsuc, ◌-ℤ◌, nat_abs, Bool, true, false, arith, if◌then◌else◌}
+use Rattle.std.proofs.Common.{◌≡◌, ◌⊎◌, inl, inr, ◌+◌, ◌-◌, ◌*◌, ℕ, zero, suc, List, [], ◌∷◌, IsTrue, ◌&&◌, nat_lt, nat_le, length, map, Some, None, Ok, refl, ap, sym, ◌∙◌, ◌<◌, ◌≤◌, ◌++◌, pos, arith}
 use Rattle.std.specs.declared.option.Option.{Option}
 use Rattle.std.specs.List.{range_with_len}
 use Rattle.std.proofs.lemmas.Bool.{cases_Bool, ltb-true, leb-true}
 use Rattle.fips204_base.specs.declared.types.R.{R}
 use Rattle.fips204_base.specs.declared.types.T.{T}
-use Rattle.fips204_base.specs.CentredValues.{vector_norm, centred}
+use Rattle.fips204_base.specs.CentredValues.{vector_norm}
 use Rattle.fips204_base.specs.Challenge.{challenge}
 use Rattle.fips204_base.specs.Encodings.{signature_bytes, w1_bytes}
 use Rattle.fips204_base.specs.HintSpelling.{all_ones}
@@ -14,19 +14,14 @@ use Rattle.fips204_base.specs.MatrixEntry.{sampled_matrix}
 use Rattle.fips204_base.specs.Vectors.{vector_coefficients, matrix_product, IsVector}
 use Rattle.fips204.specs.ParameterSets.{ParameterSet, is_parameter_set, commitment_length}
 use Rattle.fips204.specs.Keys.{PrivateParts, ArePrivateParts}
-use Rattle.fips204.specs.Attempts.{Attempt, limit, rejected, signed, response, low_vector, ct0, hint_vector, high_vector, passes_checks, commitment, checked_attempt, attempt, scaled, w_minus_cs2}
+use Rattle.fips204.specs.Attempts.{Attempt, limit, rejected, signed, response, low_vector, ct0, hint_vector, high_vector, passes_checks, commitment, checked_attempt, attempt, scaled, w_minus_cs2, y_plus_cs1}
 use Rattle.fips204.specs.Signing.{first_answer, mask_seed, sign_with, sign_if_matrix, sign}
 use Rattle.fips204.proofs.ParameterSets.{and_out, AreSetNumbers, set_numbers}
-use Rattle.fips204.proofs.ChallengeProducts.{norm_of_place}
 use Rattle.fips204.proofs.KeptHints.{IsKept, hinted_is_high}
-use Rattle.std.proofs.lemmas.Int.{ints}
 use Rattle.std.proofs.lemmas.List.{length-take-le}
-use Rattle.fips204_base.specs.Products.{plus, minus}
-use Rattle.fips204_base.specs.Rounding.{make_hint}
-use Rattle.fips204_base.proofs.Vectors.{vector_of-range}
 use Rattle.fips204.specs.KeyGeneration.{IsWhole, high_part, low_part}
 use Rattle.fips204.specs.Acceptance.{Accepts, Verifies}
-use Rattle.fips204.proofs.RejectionChecks.{centred-again}
+use Rattle.fips204.proofs.RejectionChecks.{centred-range, hint-range}
 
 -- What signing answers is the signature of an attempt that was kept.
 
@@ -138,28 +133,13 @@ length-commitment p H mu w1 whole short =
     let long = whole (mu ++ w1_bytes p.gamma2 w1) in
     length-take-le (commitment_length p) (H (mu ++ w1_bytes p.gamma2 w1)) (omega (arith, long, short))
 
-within_range : (g : ℕ) (x : ℤ) → nat_abs x < g → ((pos 0 -ℤ pos (g - 1)) ≤ℤ x) × (x ≤ℤ pos g)
-within_range g (pos n) h = (omega (arith, ints, h), omega (arith, ints, h))
-within_range g (negsuc n) h = (omega (arith, ints, h), omega (arith, ints, h))
-
 response_range : (p : ParameterSet) (sk : PrivateParts) (y : List R) (c : R) → vector_norm (response p sk y c) < p.gamma1 - p.beta → IsVector p.l (p.gamma1 - 1) p.gamma1 (response p sk y c)
 unfolding response
-response_range p sk y c norm =
-    let x = λ (r n : ℕ). pos (plus (vector_coefficients y r) (scaled c (vector_coefficients sk.s1) r) n) in
-    vector_of-range p.l (p.gamma1 - 1) p.gamma1 (λ r n. centred (x r n)) (λ r n h below.
-    let place = norm_of_place p.l (λ r n. centred (x r n)) r n h below in
-    let same : nat_abs (centred (centred (x r n))) ≡ nat_abs (centred (x r n)) = ap nat_abs (centred-again (x r n)) in
-    within_range p.gamma1 (centred (x r n)) (omega (arith, place, same, norm)))
-
-bit_range : (b : Bool) → ((pos 0 -ℤ pos 0) ≤ℤ (if b then pos 1 else pos 0)) × ((if b then pos 1 else pos 0) ≤ℤ pos 1)
-bit_range true = (omega (arith, ints), omega (arith, ints))
-bit_range false = (omega (arith, ints), omega (arith, ints))
+response_range p sk y c norm = centred-range p.gamma1 (p.gamma1 - p.beta) p.l (λ r n. pos (y_plus_cs1 sk.s1 y c r n)) (omega arith) norm
 
 hint_range : (p : ParameterSet) (sk : PrivateParts) (w : ℕ → ℕ → ℕ) (c : R) → IsVector p.k 0 1 (hint_vector p sk w c)
 unfolding hint_vector
-hint_range p sk w c =
-    let b = λ (r n : ℕ). make_hint p.gamma2 (minus (λ _. 0) (scaled c (vector_coefficients sk.t0) r) n) (plus (w_minus_cs2 sk w c r) (scaled c (vector_coefficients sk.t0) r) n) in
-    vector_of-range p.k 0 1 (λ r n. if b r n then pos 1 else pos 0) (λ r n h below. bit_range (b r n))
+hint_range p sk w c = hint-range p.k p.gamma2 (w_minus_cs2 sk.s2 w c) (λ r. scaled c (vector_coefficients sk.t0) r)
 
 -- ---- acceptance
 

@@ -1,11 +1,12 @@
 -- A framed message determines what was framed; one signature for two framed messages gives a collision.
-use Rattle.std.proofs.Common.{◌≡◌, ◌+◌, ℕ, List, [], ◌∷◌, ◌++◌, length, take, drop, get_or, Bool, true, false, not, ◌&&◌, nat_eq, nat_lt, nat_le, IsTrue, if◌then◌else◌, Option, Some, None, refl, sym, ap, ◌∙◌, arith, append_assoc, true≢false, eqb-true, ◌≢◌, ◌≤◌, ◌⊎◌, inl, inr, ◌||◌, Decides}
+use Rattle.std.proofs.Common.{◌≡◌, ◌+◌, ℕ, List, [], ◌∷◌, ◌++◌, length, take, drop, get_or, Bool, true, false, not, ◌&&◌, nat_eq, nat_lt, nat_le, IsTrue, if◌then◌else◌, Option, Some, None, refl, sym, ap, ◌∙◌, arith, append_assoc, true≢false, eqb-true, ◌≢◌, ◌⊎◌, inl, inr, Decides}
 use Rattle.fips204_base.specs.declared.fault.Fault.{Fault}
 use Rattle.fips204_base.specs.declared.fault.Fault.TheVariants.{OidEmpty, OidNotDer, DigestTooLong, DigestLength, HashCtx}
 use Rattle.std.proofs.Math.Seq.{take-append_seam, drop-append_seam}
 use Rattle.fips204.specs.PreHash.{is_der, differs, digest_length, pre_hash_fault}
 use Rattle.fips204.specs.MessageLaws.{Input, plain, hashed, framed_input, input_fault, FramingIsOneToOne, SignatureBindsMessage}
-use Rattle.fips204.proofs.ParameterSets.{and_out, or_out, agrees}
+use Rattle.fips204.proofs.ParameterSets.{and_out, set_numbers}
+use Rattle.fips204.proofs.RefusedCalls.{passed, short_context}
 use Rattle.std.specs.Prelude.{bytes_eq}
 use Rattle.std.proofs.lemmas.List.{append_cancel_left, append_cancel_right}
 use Rattle.std.proofs.lemmas.Slice.Eq.{bytes_eq-Decides}
@@ -14,7 +15,7 @@ use Rattle.fips204_base.specs.declared.types.T.{T}
 use Rattle.fips204_base.specs.Encodings.{w1_bytes}
 use Rattle.fips204_base.specs.Challenge.{challenge}
 use Rattle.fips204_base.proofs.EncodedParts.{same_signature}
-use Rattle.fips204.specs.ParameterSets.{ParameterSet, is_parameter_set, set_44, set_65, set_87, same_parameters, commitment_length}
+use Rattle.fips204.specs.ParameterSets.{ParameterSet, is_parameter_set, commitment_length}
 use Rattle.fips204.specs.Attempts.{commitment}
 use Rattle.fips204.specs.Acceptance.{Accepts, w1_prime}
 use Rattle.fips204.specs.Framing.{message_hash}
@@ -28,11 +29,6 @@ cut xs ys us vs l e = (
   sym (drop-append_seam xs us) ∙ ap (drop (length xs)) e ∙ ap (λ n. drop n (ys ++ vs)) l ∙ drop-append_seam ys vs,
 )
 
--- no refusal: neither the first one nor a later one
-later_none : (b : Bool) (fault : Fault) (rest : Option Fault) → (if b then Some fault else rest) ≡ None → rest ≡ None
-later_none true fault rest e = absurd (cc)
-later_none false fault rest e = e
-
 test_true : (b : Bool) (fault : Fault) (rest : Option Fault) → (if not b then Some fault else rest) ≡ None → IsTrue b
 test_true true fault rest e = refl
 test_true false fault rest e = absurd (cc)
@@ -41,7 +37,7 @@ der_of_none : (digest oid : List ℕ) → pre_hash_fault digest oid ≡ None →
 unfolding pre_hash_fault
 der_of_none digest oid e =
     let last = if nat_lt 1024 (length digest) then Some DigestTooLong else if differs (digest_length oid) (length digest) then Some DigestLength else None in
-    test_true (is_der oid) OidNotDer last (later_none (nat_eq (length oid) 0) OidEmpty (if not (is_der oid) then Some OidNotDer else last) e)
+    test_true (is_der oid) OidNotDer last (passed (nat_eq (length oid) 0) OidEmpty (if not (is_der oid) then Some OidNotDer else last) e).1
 
 -- ---- OIDs
 
@@ -85,8 +81,8 @@ same_input (hashed c o h) (plain d n) s t e = absurd (omega (arith, modes _ _ _ 
 same_input (hashed c o h) (hashed d p i) s t e =
     let left : 1 ∷ length c ∷ c ++ (o ++ h) ≡ 1 ∷ length d ∷ d ++ (p ++ i) = ap (λ l. 1 ∷ length c ∷ l) (sym (append_assoc c o h)) ∙ e ∙ ap (λ l. 1 ∷ length d ∷ l) (append_assoc d p i) in
     let outer = same_context c d (o ++ h) (p ++ i) 1 left in
-    let first = der_of_none h o (later_none _ HashCtx (pre_hash_fault h o) s) in
-    let second = der_of_none i p (later_none _ HashCtx (pre_hash_fault i p) t) in
+    let first = der_of_none h o (short_context c HashCtx (pre_hash_fault h o) s).1 in
+    let second = der_of_none i p (short_context d HashCtx (pre_hash_fault i p) t).1 in
     let inner = same_oid o p h i first second outer.1 in
     cc
 
@@ -106,25 +102,13 @@ same_or_not xs ys = by_test (xs ≡ ys) (bytes_eq xs ys) (bytes_eq-Decides xs ys
 
 -- ---- one signature has one w1'
 
-gamma1_fits : (p : ParameterSet) → IsTrue (is_parameter_set p) → (1 ≤ p.gamma1) × (p.gamma1 ≤ 1048575)
-gamma1_fits p t =
-    let fits : (row : ParameterSet) → 1 ≤ row.gamma1 → row.gamma1 ≤ 1048575 → IsTrue (same_parameters p row) → (1 ≤ p.gamma1) × (p.gamma1 ≤ 1048575) =
-    λ row low high s. let a = (agrees p row s).gamma1 in rw a (low, high) in
-    elim (or_out (same_parameters p set_44 || same_parameters p set_65) (same_parameters p set_87) t) [
-      | inl y ↦ elim (or_out (same_parameters p set_44) (same_parameters p set_65) y) [
-        | inl x ↦ fits set_44 (omega arith) (omega arith) x
-        | inr x ↦ fits set_65 (omega arith) (omega arith) x
-      ]
-      | inr x ↦ fits set_87 (omega arith) (omega arith) x
-    ]
-
 -- c_tilde and w1' are the same for both
 pub one_commitment : (p : ParameterSet) (H : List ℕ → List ℕ) (a b : List (List T)) (t1 : List R) (mu nu signature : List ℕ)
     → IsTrue (is_parameter_set p) → a ≡ b → (x : Accepts p H a t1 mu signature) (y : Accepts p H b t1 nu signature)
     → (x.c_tilde ≡ y.c_tilde) × (w1_prime p a t1 x.z x.h x.c ≡ w1_prime p b t1 y.z y.h y.c)
 one_commitment p H a b t1 mu nu signature row same x y =
-    let fits = gamma1_fits p row in
-    let parts = same_signature p.gamma1 p.omega p.k p.l (commitment_length p) signature x.c_tilde y.c_tilde x.z y.z x.h y.h fits.0 fits.1 x.hint y.hint in
+    let gamma1 = (set_numbers p row).gamma1 in
+    let parts = same_signature p.gamma1 p.omega p.k p.l (commitment_length p) signature x.c_tilde y.c_tilde x.z y.z x.h y.h (omega (arith, gamma1)) (omega (arith, gamma1)) x.hint y.hint in
     let challenges : Some x.c ≡ Some y.c = sym x.challenge ∙ ap (λ bytes. challenge p.tau (H bytes)) parts.0 ∙ y.challenge in
     let one : x.c ≡ y.c = cc in
     let z = parts.1 in

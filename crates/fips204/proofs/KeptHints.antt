@@ -88,12 +88,12 @@ matrix_response p a sk y c r n below =
 
 -- t1 2^13 + t0 = A s1 + s2
 pub parts_of_vector : (p : ParameterSet) (a : List (List T)) (s1 s2 : List R) (r j : ℕ) → r < p.k → j < 256
-    → IsCongruent (t1_shifted (high_part p a s1 s2) r j + vector_coefficients (low_part p a s1 s2) r j) (key_vector p a s1 s2 r j)
+    → IsCongruent (t1_shifted (high_part p a s1 s2) r j + vector_coefficients (low_part p a s1 s2) r j) (key_vector p.l a s1 s2 r j)
 unfolding high_part low_part
 parts_of_vector p a s1 s2 r j h below =
-    let t = key_vector p a s1 s2 r j in
-    let high = λ (r n : ℕ). pos (power2round (key_vector p a s1 s2 r n)).0 in
-    let low = λ (r n : ℕ). (power2round (key_vector p a s1 s2 r n)).1 in
+    let t = key_vector p.l a s1 s2 r j in
+    let high = λ (r n : ℕ). pos (power2round (key_vector p.l a s1 s2 r n)).0 in
+    let low = λ (r n : ℕ). (power2round (key_vector p.l a s1 s2 r n)).1 in
     let one : vector_coefficients (vector_of p.k high) r j ≡ (power2round t).0 % 8380417 = ap residue (vector_of-entry p.k high r j h below) in
     let two : vector_coefficients (vector_of p.k low) r j ≡ residue (power2round t).1 = ap residue (vector_of-entry p.k low r j h below) in
     let back = power2round_back t (omega arith) in
@@ -107,7 +107,7 @@ parts_of_vector p a s1 s2 r j h below =
 
 pub w_approx_is : (p : ParameterSet) (a : List (List T)) (sk : PrivateParts) (y : List R) (c : R) (r n : ℕ) → sk.t0 ≡ low_part p a sk.s1 sk.s2 → r < p.k → n < 256
     → w_approx p a (high_part p a sk.s1 sk.s2) (response p sk y c) c r n
-    ≡ plus (w_minus_cs2 sk (matrix_product p.l a (vector_coefficients y)) c r) (scaled c (vector_coefficients sk.t0) r) n
+    ≡ plus (w_minus_cs2 sk.s2 (matrix_product p.l a (vector_coefficients y)) c r) (scaled c (vector_coefficients sk.t0) r) n
 w_approx_is p a sk y c r n low h below =
     let C = coefficients c.0 in
     let w = matrix_product p.l a (vector_coefficients y) r in
@@ -163,10 +163,10 @@ hint_bit false = refl
 
 hint_at : (p : ParameterSet) (sk : PrivateParts) (w : ℕ → ℕ → ℕ) (c : R) (r n : ℕ) (d : R) → r < p.k → n < 256
     → is_one (get_or (hint_vector p sk w c) r d) n
-    ≡ make_hint p.gamma2 (minus (λ _. 0) (scaled c (vector_coefficients sk.t0) r) n) (plus (w_minus_cs2 sk w c r) (scaled c (vector_coefficients sk.t0) r) n)
+    ≡ make_hint p.gamma2 (minus (λ _. 0) (scaled c (vector_coefficients sk.t0) r) n) (plus (w_minus_cs2 sk.s2 w c r) (scaled c (vector_coefficients sk.t0) r) n)
 unfolding is_one hint_vector
 hint_at p sk w c r n d h below =
-    let b = λ (r n : ℕ). make_hint p.gamma2 (minus (λ _. 0) (scaled c (vector_coefficients sk.t0) r) n) (plus (w_minus_cs2 sk w c r) (scaled c (vector_coefficients sk.t0) r) n) in
+    let b = λ (r n : ℕ). make_hint p.gamma2 (minus (λ _. 0) (scaled c (vector_coefficients sk.t0) r) n) (plus (w_minus_cs2 sk.s2 w c r) (scaled c (vector_coefficients sk.t0) r) n) in
     ap (int_lt (pos 0)) (vector_of-at p.k (λ r n. if b r n then pos 1 else pos 0) r n d h below) ∙ hint_bit (b r n)
 
 -- ---- the high bits of w' with the hint
@@ -182,13 +182,13 @@ gamma2_fits : (g : ℕ) → IsGamma2 g → (0 < g) × (g ≤ 4190208)
 gamma2_fits g set = (omega (arith, set), omega (arith, set))
 
 low_place : (p : ParameterSet) (sk : PrivateParts) (w : ℕ → ℕ → ℕ) (c : R) (r n : ℕ) → IsGamma2 p.gamma2 → vector_norm (low_vector p sk w c) < p.gamma2 - p.beta → r < p.k → n < 256
-    → nat_abs (low_bits p.gamma2 (w_minus_cs2 sk w c r n)) + p.beta < p.gamma2
+    → nat_abs (low_bits p.gamma2 (w_minus_cs2 sk.s2 w c r n)) + p.beta < p.gamma2
 unfolding low_vector
 low_place p sk w c r n set norm h below =
     let fits = gamma2_fits p.gamma2 set in
-    let x = low_bits p.gamma2 (w_minus_cs2 sk w c r n) in
-    let place = norm_of_place p.k (λ r n. low_bits p.gamma2 (w_minus_cs2 sk w c r n)) r n h below in
-    let small = low_bits_near p.gamma2 (w_minus_cs2 sk w c r n) fits.0 (omega arith) in
+    let x = low_bits p.gamma2 (w_minus_cs2 sk.s2 w c r n) in
+    let place = norm_of_place p.k (λ r n. low_bits p.gamma2 (w_minus_cs2 sk.s2 w c r n)) r n h below in
+    let small = low_bits_near p.gamma2 (w_minus_cs2 sk.s2 w c r n) fits.0 (omega arith) in
     let own : nat_abs (centred x) ≡ nat_abs x = ap nat_abs (centred-own x (omega (arith, small, fits))) in
     omega (arith, place, own, norm)
 
@@ -218,6 +218,6 @@ hinted_is_high p a sk y front c numbers second low made kept =
     subst (λ m. Near m (vector_coefficients sk.s2 r j)) (sym numbers.eta) (near_of_vector p.k (eta_of_rows p.k) sk.s2 r j second inside q)) below) in
     ap pos (
     ap (λ b. use_hint p.gamma2 b (v r n)) (hint_at p sk w c r n empty inside below)
-    ∙ ap (use_hint p.gamma2 (make_hint p.gamma2 (minus (λ _. 0) (scaled c (vector_coefficients sk.t0) r) n) (plus (w_minus_cs2 sk w c r) (scaled c (vector_coefficients sk.t0) r) n))) (w_approx_is p a sk y c r n low inside below)
+    ∙ ap (use_hint p.gamma2 (make_hint p.gamma2 (minus (λ _. 0) (scaled c (vector_coefficients sk.t0) r) n) (plus (w_minus_cs2 sk.s2 w c r) (scaled c (vector_coefficients sk.t0) r) n))) (w_approx_is p a sk y c r n low inside below)
     ∙ hinted_place p.gamma2 p.beta (w r n) s t numbers.gamma2 (row_below p.l (plain_matrix a r) (vector_coefficients y) n) (product_below (coefficients c.0) (vector_coefficients sk.s2 r) n) small
     (low_place p sk w c r n numbers.gamma2 kept.low_norm inside below) (scaled_place p sk c r n kept.scaled_norm inside below)))

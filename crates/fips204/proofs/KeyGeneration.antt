@@ -1,5 +1,5 @@
 -- The vector t = A s1 + s2 of a pair of keys, and what key generation and derivation answer.
-use Rattle.std.proofs.Common.{◌≡◌, ◌<◌, ◌%◌, ℕ, List, pos, ap, ◌∙◌, arith, ◌⊎◌, inl, inr, refl, sym, Some, None, Ok, Err, take, drop}
+use Rattle.std.proofs.Common.{◌≡◌, ◌<◌, ◌≤◌, ◌+◌, ◌-◌, ◌%◌, ℕ, List, pos, ap, ◌∙◌, arith, ◌⊎◌, inl, inr, refl, sym, Some, None, Ok, Err, take, drop}
 use Rattle.std.proofs.lemmas.Int.{ints}
 use Rattle.fips204_base.specs.declared.types.R.{R}
 use Rattle.fips204_base.specs.declared.types.T.{T}
@@ -12,6 +12,7 @@ use Rattle.fips204_base.proofs.Vectors.{vector_of-ext, vector_of-entry, vector_o
 use Rattle.fips204.specs.KeyGeneration.{key_vector, high_part, low_part, seeds, key_hash, key_pair, key_pair_if_all, key_generation, public_key_of}
 use Rattle.fips204.specs.ParameterSets.{ParameterSet}
 use Rattle.std.specs.Prelude.{ok_or}
+use Rattle.std.proofs.lemmas.List.{drop-take, take-take}
 use Rattle.std.specs.declared.option.Option.{Option}
 use Rattle.fips204_base.specs.declared.fault.Fault.TheVariants.{SamplingLimit}
 use Rattle.fips204_base.specs.MatrixEntry.{sampled_matrix}
@@ -23,18 +24,18 @@ use Rattle.fips204.specs.Refusals.{generated, derived}
 
 -- coefficients of t are residues
 abbrev pub IsKeyVector : ParameterSet → List (List T) → List R → List R → List R → Type 0
-IsKeyVector p a s1 s2 t = t ≡ vector_of p.k (λ r n. pos (key_vector p a s1 s2 r n))
+IsKeyVector p a s1 s2 t = t ≡ vector_of p.k (λ r n. pos (key_vector p.l a s1 s2 r n))
 
 pub key_vector-is : (p : ParameterSet) (a : List (List T)) (s1 s2 t : List R) (k l : ℕ) → k ≡ p.k → l ≡ p.l
     → t ≡ vector_of k (λ r n. pos (plus (matrix_product l a (vector_coefficients s1) r) (vector_coefficients s2 r) n)) → IsKeyVector p a s1 s2 t
 key_vector-is p a s1 s2 t k l rows columns e = e ∙ rw (rows, columns) refl
 
-key_vector-below : (p : ParameterSet) (a : List (List T)) (s1 s2 : List R) (r n : ℕ) → key_vector p a s1 s2 r n < 8380417
+key_vector-below : (p : ParameterSet) (a : List (List T)) (s1 s2 : List R) (r n : ℕ) → key_vector p.l a s1 s2 r n < 8380417
 key_vector-below p a s1 s2 r n = omega arith
 
-read_back : (p : ParameterSet) (a : List (List T)) (s1 s2 t : List R) (r n : ℕ) → IsKeyVector p a s1 s2 t → r < p.k → n < 256 → vector_coefficients t r n ≡ key_vector p a s1 s2 r n
+read_back : (p : ParameterSet) (a : List (List T)) (s1 s2 t : List R) (r n : ℕ) → IsKeyVector p a s1 s2 t → r < p.k → n < 256 → vector_coefficients t r n ≡ key_vector p.l a s1 s2 r n
 read_back p a s1 s2 t r n e h q =
-    ap (λ v. vector_coefficients v r n) e ∙ ap residue (vector_of-entry p.k (λ r n. pos (key_vector p a s1 s2 r n)) r n h q) ∙ own (key_vector p a s1 s2 r n) (key_vector-below p a s1 s2 r n)
+    ap (λ v. vector_coefficients v r n) e ∙ ap residue (vector_of-entry p.k (λ r n. pos (key_vector p.l a s1 s2 r n)) r n h q) ∙ own (key_vector p.l a s1 s2 r n) (key_vector-below p a s1 s2 r n)
   where
     own : (x : ℕ) → x < 8380417 → x % 8380417 ≡ x
     own x h = omega (arith, h)
@@ -56,15 +57,15 @@ low_part-is p a s1 s2 t t0 k rows e low =
 pub high_part-range : (p : ParameterSet) (a : List (List T)) (s1 s2 : List R) → IsVector p.k 0 1023 (high_part p a s1 s2)
 unfolding high_part
 high_part-range p a s1 s2 =
-    vector_of-range p.k 0 1023 (λ r n. pos (power2round (key_vector p a s1 s2 r n)).0) (λ r n h q.
-    let high = power2round_high (key_vector p a s1 s2 r n) (key_vector-below p a s1 s2 r n) in
+    vector_of-range p.k 0 1023 (λ r n. pos (power2round (key_vector p.l a s1 s2 r n)).0) (λ r n h q.
+    let high = power2round_high (key_vector p.l a s1 s2 r n) (key_vector-below p a s1 s2 r n) in
     (omega (arith, ints), omega (arith, ints, high)))
 
 pub low_part-range : (p : ParameterSet) (a : List (List T)) (s1 s2 : List R) → IsVector p.k 4095 4096 (low_part p a s1 s2)
 unfolding low_part
 low_part-range p a s1 s2 =
-    vector_of-range p.k 4095 4096 (λ r n. (power2round (key_vector p a s1 s2 r n)).1) (λ r n h q.
-    power2round_low (key_vector p a s1 s2 r n) (key_vector-below p a s1 s2 r n))
+    vector_of-range p.k 4095 4096 (λ r n. (power2round (key_vector p.l a s1 s2 r n)).1) (λ r n h q.
+    power2round_low (key_vector p.l a s1 s2 r n) (key_vector-below p a s1 s2 r n))
 
 -- What key generation and derivation answer.
 
@@ -100,6 +101,23 @@ pub record AreSeeds (p : ParameterSet) (H : List ℕ → List ℕ) (xi rho rho' 
   pub matrix : rho ≡ take 32 (seeds p H xi)
   pub vectors : rho' ≡ take 64 (drop 32 (seeds p H xi))
   pub masks : key ≡ take 32 (drop 96 (seeds p H xi))
+
+-- n items of the first 128, from a place on
+part_of_front : (at n : ℕ) (front bytes part : List ℕ) → at + n ≤ 128 → bytes ≡ take 128 front → part ≡ take n (drop at bytes)
+    → part ≡ take n (drop at front)
+part_of_front at n front bytes part room first here =
+    let m : 128 ≡ at + (n + (128 - at - n)) = omega (arith, room) in
+    here ∙ ap (λ l. take n (drop at l)) (first ∙ ap (λ k. take k front) m) ∙ ap (take n) (drop-take at (n + (128 - at - n)) front)
+    ∙ take-take n (n + (128 - at - n)) (drop at front) (omega arith)
+
+-- the seeds are parts of 128 bytes
+pub are_seeds : (p : ParameterSet) (H : List ℕ → List ℕ) (xi bytes rho rho' key : List ℕ) → bytes ≡ take 128 (seeds p H xi)
+    → rho ≡ take 32 (drop 0 bytes) → rho' ≡ take 64 (drop 32 bytes) → key ≡ take 32 (drop 96 bytes) → AreSeeds p H xi rho rho' key
+are_seeds p H xi bytes rho rho' key e f g h = record {
+  matrix = part_of_front 0 32 (seeds p H xi) bytes rho (omega arith) e f;
+  vectors = part_of_front 32 64 (seeds p H xi) bytes rho' (omega arith) e g;
+  masks = part_of_front 96 32 (seeds p H xi) bytes key (omega arith) e h;
+}
 
 generated-is : (p : ParameterSet) (H G : List ℕ → List ℕ) (xi rho rho' key : List ℕ) (k l : ℕ) (a : Option (List (List T))) (s1 s2 : Option (List R))
     → AreSeeds p H xi rho rho' key → AreSampled p H G k l rho rho' a s1 s2 → generated p H G xi ≡ ok_or (key_pair_if_all p H rho key a s1 s2) SamplingLimit

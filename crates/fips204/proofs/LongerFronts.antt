@@ -1,5 +1,5 @@
 -- Answers stay where the fronts are prefixes of longer ones.
-use Rattle.std.proofs.Common.{◌≡◌, ◌||◌, ℕ, ◌+◌, ◌-◌, ◌*◌, ◌≤◌, ◌⊎◌, inl, inr, List, [], ◌∷◌, ◌++◌, length, take, drop, map, refl, ap, sym, ◌∙◌, arith, Some, None, ok_or, IsTrue, append_assoc}
+use Rattle.std.proofs.Common.{◌≡◌, ℕ, ◌+◌, ◌-◌, ◌*◌, ◌≤◌, ◌⊎◌, inl, inr, List, [], ◌∷◌, ◌++◌, length, take, drop, map, refl, ap, sym, ◌∙◌, arith, Some, None, ok_or, IsTrue, append_assoc}
 use Rattle.std.specs.Prelude.{option_map}
 use Rattle.std.specs.declared.option.Option.{Option}
 use Rattle.std.specs.declared.result.Result.{Result}
@@ -18,7 +18,7 @@ use Rattle.fips204_base.specs.MatrixEntry.{sampled_matrix}
 use Rattle.fips204_base.specs.Challenge.{challenge}
 use Rattle.fips204_base.specs.Mask.{mask}
 use Rattle.fips204_base.proofs.LongerFronts.{prefix-take, prefix-part, matrix_entry-longer, small_polynomial-longer, challenge-longer, sampled_matrix-longer, small_vector-longer, mask-longer}
-use Rattle.fips204.specs.ParameterSets.{ParameterSet, set_44, set_65, set_87, same_parameters, is_parameter_set, commitment_length}
+use Rattle.fips204.specs.ParameterSets.{ParameterSet, is_parameter_set, commitment_length}
 use Rattle.fips204.specs.Keys.{PublicParts, PrivateParts}
 use Rattle.fips204.specs.KeyGeneration.{high_part, key_hash, key_pair, key_pair_if_all, key_generation, public_key_of}
 use Rattle.fips204.specs.Framing.{framed, framed_digest, message_hash}
@@ -27,20 +27,11 @@ use Rattle.fips204.specs.Signing.{attempt_limit, first_answer, mask_seed, sign_w
 use Rattle.fips204.specs.Acceptance.{w1_prime, Verifies}
 use Rattle.fips204.specs.Refusals.{refused_or, message_fault, digest_fault}
 use Rattle.fips204.specs.LongerFronts.{SamplesStay, Stays, AnswersStay, IsSampled, AcceptanceStays, LongerFrontsKeep}
-use Rattle.fips204.proofs.ParameterSets.{or_out, agrees, set_numbers}
+use Rattle.fips204.proofs.ParameterSets.{set_numbers}
 
 -- a front has at least 4096 bytes
 abbrev pub AreLong : (List ℕ → List ℕ) → Type 0
 AreLong H = (input : List ℕ) → 4096 ≤ length (H input)
-
-mask_numbers : (p : ParameterSet) → IsTrue (is_parameter_set p) → (p.gamma1 ≡ 131072) ⊎ (p.gamma1 ≡ 524288)
-mask_numbers p t = elim (or_out (same_parameters p set_44 || same_parameters p set_65) (same_parameters p set_87) t) [
-  | inl y ↦ elim (or_out (same_parameters p set_44) (same_parameters p set_65) y) [
-    | inl x ↦ inl (agrees p set_44 x).gamma1
-    | inr x ↦ inr (agrees p set_65 x).gamma1
-  ]
-  | inr x ↦ inr (agrees p set_87 x).gamma1
-]
 
 -- ---- answers that may be none
 
@@ -134,7 +125,7 @@ module _ (H G H' G' : List ℕ → List ℕ) (first : ArePrefixes H H') (second 
       let y = mask p.gamma1 H rho p.l kappa in
       let w = matrix_product p.l a (vector_coefficients y) in
       let c_tilde = commitment p H mu (high_vector p w) in
-      let masks : mask p.gamma1 H' rho p.l kappa ≡ mask p.gamma1 H rho p.l kappa = mask-longer p.gamma1 H H' rho p.l kappa (mask_numbers p t) first enough in
+      let masks : mask p.gamma1 H' rho p.l kappa ≡ mask p.gamma1 H rho p.l kappa = mask-longer p.gamma1 H H' rho p.l kappa (set_numbers p t).gamma1 first enough in
       let committed : commitment p H' mu (high_vector p w) ≡ c_tilde = commitment-longer p mu (high_vector p w) t in
       rw (masks, committed)
       (checked_stays p sk y w c_tilde (challenge p.tau (H c_tilde)) (challenge p.tau (H' c_tilde)) (λ c there. challenge-longer p.tau (H c_tilde) (H' c_tilde) c (first c_tilde) (enough c_tilde) there))

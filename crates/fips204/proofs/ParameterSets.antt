@@ -1,5 +1,5 @@
 -- The three parameter sets: their numbers, what these have in common, and the lengths that follow.
-use Rattle.std.proofs.Common.{◌≡◌, ◌⊎◌, inl, inr, ℕ, ℤ, pos, negsuc, nat_abs, Bool, true, false, ◌&&◌, ◌||◌, IsTrue, refl, ap, sym, true≢false, eqb-true, ◌≤◌, ◌*◌, arith, ◌<◌, ◌+◌, ◌-◌, ◌/◌, ◌-ℤ◌, ◌≤ℤ◌, List, ◌∙◌, Some}
+use Rattle.std.proofs.Common.{rules, subst, ◌≡◌, ◌⊎◌, inl, inr, ℕ, ℤ, pos, negsuc, nat_abs, Bool, true, false, ◌&&◌, ◌||◌, IsTrue, refl, ap, sym, true≢false, eqb-true, ◌≤◌, ◌*◌, arith, ◌<◌, ◌+◌, ◌-◌, ◌/◌, ◌-ℤ◌, ◌≤ℤ◌, List, ◌∙◌, Some}
 use Rattle.std.specs.Prelude.{int_le, nat_eq}
 use Rattle.fips204.specs.declared.types.Params.{Params}
 use Rattle.fips204.specs.ParameterSets.{ParameterSet, set_44, set_65, set_87, same_parameters, is_parameter_set, parameter_set, are_parameters, commitment_length}
@@ -30,20 +30,15 @@ pub of_size : (x : ℤ) (n : ℕ) → IsTrue (int_le (pos 0) x) → nat_abs x �
 of_size (pos m) n t e = ap pos e
 of_size (negsuc m) n t e = absurd (true≢false (sym t))
 
--- a set that agrees with another in each column has its numbers
-pub record Agrees (p row : ParameterSet) : Type 0 where
-  pub tau : p.tau ≡ row.tau
-  pub lambda : p.lambda ≡ row.lambda
-  pub gamma1 : p.gamma1 ≡ row.gamma1
-  pub gamma2 : p.gamma2 ≡ row.gamma2
-  pub k : p.k ≡ row.k
-  pub l : p.l ≡ row.l
-  pub eta : p.eta ≡ row.eta
-  pub beta : p.beta ≡ row.beta
-  pub omega' : p.omega ≡ row.omega
+same_numbers : {tau lambda gamma1 gamma2 k l eta beta omega' tau' lambda' gamma1' gamma2' k' l' eta' beta' omega'' : ℕ}
+    → tau ≡ tau' → lambda ≡ lambda' → gamma1 ≡ gamma1' → gamma2 ≡ gamma2' → k ≡ k' → l ≡ l' → eta ≡ eta' → beta ≡ beta' → omega' ≡ omega''
+    → Path ParameterSet record { tau = tau; lambda = lambda; gamma1 = gamma1; gamma2 = gamma2; k = k; l = l; eta = eta; beta = beta; omega = omega' }
+    record { tau = tau'; lambda = lambda'; gamma1 = gamma1'; gamma2 = gamma2'; k = k'; l = l'; eta = eta'; beta = beta'; omega = omega'' }
+same_numbers a b c d e f g h i = cc
 
-pub agrees : (p row : ParameterSet) → IsTrue (same_parameters p row) → Agrees p row
-agrees p row t =
+-- a set that agrees with another in each column is that set
+same_set : (p row : ParameterSet) → IsTrue (same_parameters p row) → p ≡ row
+same_set p row t =
     let s8 = and_out (nat_eq p.tau row.tau && nat_eq p.lambda row.lambda && nat_eq p.gamma1 row.gamma1 && nat_eq p.gamma2 row.gamma2 && nat_eq p.k row.k && nat_eq p.l row.l && nat_eq p.eta row.eta && nat_eq p.beta row.beta) (nat_eq p.omega row.omega) t in
     let s7 = and_out (nat_eq p.tau row.tau && nat_eq p.lambda row.lambda && nat_eq p.gamma1 row.gamma1 && nat_eq p.gamma2 row.gamma2 && nat_eq p.k row.k && nat_eq p.l row.l && nat_eq p.eta row.eta) (nat_eq p.beta row.beta) s8.0 in
     let s6 = and_out (nat_eq p.tau row.tau && nat_eq p.lambda row.lambda && nat_eq p.gamma1 row.gamma1 && nat_eq p.gamma2 row.gamma2 && nat_eq p.k row.k && nat_eq p.l row.l) (nat_eq p.eta row.eta) s7.0 in
@@ -52,17 +47,26 @@ agrees p row t =
     let s3 = and_out (nat_eq p.tau row.tau && nat_eq p.lambda row.lambda && nat_eq p.gamma1 row.gamma1) (nat_eq p.gamma2 row.gamma2) s4.0 in
     let s2 = and_out (nat_eq p.tau row.tau && nat_eq p.lambda row.lambda) (nat_eq p.gamma1 row.gamma1) s3.0 in
     let s1 = and_out (nat_eq p.tau row.tau) (nat_eq p.lambda row.lambda) s2.0 in
-    record {
-      tau = eqb-true p.tau row.tau s1.0;
-      lambda = eqb-true p.lambda row.lambda s1.1;
-      gamma1 = eqb-true p.gamma1 row.gamma1 s2.1;
-      gamma2 = eqb-true p.gamma2 row.gamma2 s3.1;
-      k = eqb-true p.k row.k s4.1;
-      l = eqb-true p.l row.l s5.1;
-      eta = eqb-true p.eta row.eta s6.1;
-      beta = eqb-true p.beta row.beta s7.1;
-      omega' = eqb-true p.omega row.omega s8.1;
-    }
+    same_numbers (eqb-true p.tau row.tau s1.0) (eqb-true p.lambda row.lambda s1.1) (eqb-true p.gamma1 row.gamma1 s2.1) (eqb-true p.gamma2 row.gamma2 s3.1)
+    (eqb-true p.k row.k s4.1) (eqb-true p.l row.l s5.1) (eqb-true p.eta row.eta s6.1) (eqb-true p.beta row.beta s7.1) (eqb-true p.omega row.omega s8.1)
+
+-- it is one of the three
+one_of_sets : (p : ParameterSet) → IsTrue (is_parameter_set p) → (p ≡ set_44) ⊎ ((p ≡ set_65) ⊎ (p ≡ set_87))
+one_of_sets p t = elim (or_out (same_parameters p set_44 || same_parameters p set_65) (same_parameters p set_87) t) [
+  | inl y ↦ elim (or_out (same_parameters p set_44) (same_parameters p set_65) y) [
+    | inl x ↦ inl (same_set p set_44 x)
+    | inr x ↦ inr (inl (same_set p set_65 x))
+  ]
+  | inr x ↦ inr (inr (same_set p set_87 x))
+]
+
+-- what holds of each of the three holds of it
+pub of_each_set : (P : ParameterSet → Type 0) (p : ParameterSet) → IsTrue (is_parameter_set p) → P set_44 → P set_65 → P set_87 → P p
+of_each_set P p t x y z = elim (one_of_sets p t) [
+  | inl e ↦ subst P (sym e) x
+  | inr (inl e) ↦ subst P (sym e) y
+  | inr (inr e) ↦ subst P (sym e) z
+]
 
 -- the numbers of a set in signed words
 pub record Numbers (row : ParameterSet) (tau : ℤ) (lambda : ℕ) (gamma1 gamma2 : ℤ) (k l : ℕ) (eta beta omega' : ℤ) : Type 0 where
@@ -87,60 +91,49 @@ rows tau lambda gamma1 gamma2 k l eta beta omega' t =
     let s3 = and_out (is_parameter_set p && int_le (pos 0) tau && int_le (pos 0) gamma1) (int_le (pos 0) gamma2) s4.0 in
     let s2 = and_out (is_parameter_set p && int_le (pos 0) tau) (int_le (pos 0) gamma1) s3.0 in
     let s1 = and_out (is_parameter_set p) (int_le (pos 0) tau) s2.0 in
-    let numbers : (row : ParameterSet) → Agrees p row → Numbers row tau lambda gamma1 gamma2 k l eta beta omega' = λ row a. record {
-      tau_is = of_size tau row.tau s1.1 a.tau;
-      lambda_is = a.lambda;
-      gamma1_is = of_size gamma1 row.gamma1 s2.1 a.gamma1;
-      gamma2_is = of_size gamma2 row.gamma2 s3.1 a.gamma2;
-      k_is = a.k;
-      l_is = a.l;
-      eta_is = of_size eta row.eta s4.1 a.eta;
-      beta_is = of_size beta row.beta s5.1 a.beta;
-      omega_is = of_size omega' row.omega s6.1 a.omega';
+    let numbers : (row : ParameterSet) → p ≡ row → Numbers row tau lambda gamma1 gamma2 k l eta beta omega' = λ row e. record {
+      tau_is = of_size tau row.tau s1.1 (ap (λ (q : ParameterSet). q.tau) e);
+      lambda_is = ap (λ (q : ParameterSet). q.lambda) e;
+      gamma1_is = of_size gamma1 row.gamma1 s2.1 (ap (λ (q : ParameterSet). q.gamma1) e);
+      gamma2_is = of_size gamma2 row.gamma2 s3.1 (ap (λ (q : ParameterSet). q.gamma2) e);
+      k_is = ap (λ (q : ParameterSet). q.k) e;
+      l_is = ap (λ (q : ParameterSet). q.l) e;
+      eta_is = of_size eta row.eta s4.1 (ap (λ (q : ParameterSet). q.eta) e);
+      beta_is = of_size beta row.beta s5.1 (ap (λ (q : ParameterSet). q.beta) e);
+      omega_is = of_size omega' row.omega s6.1 (ap (λ (q : ParameterSet). q.omega) e);
     } in
-    elim (or_out (same_parameters p set_44 || same_parameters p set_65) (same_parameters p set_87) s1.0) [
-      | inl y ↦ elim (or_out (same_parameters p set_44) (same_parameters p set_65) y) [
-        | inl x ↦ inl (numbers set_44 (agrees p set_44 x))
-        | inr x ↦ inr (inl (numbers set_65 (agrees p set_65 x)))
-      ]
-      | inr x ↦ inr (inr (numbers set_87 (agrees p set_87 x)))
+    elim (one_of_sets p s1.0) [
+      | inl e ↦ inl (numbers set_44 e)
+      | inr (inl e) ↦ inr (inl (numbers set_65 e))
+      | inr (inr e) ↦ inr (inr (numbers set_87 e))
     ]
 
 -- What the numbers of a parameter set have to do with one another.
 
 pub record AreSetNumbers (p : ParameterSet) : Type 0 where
   pub beta : p.tau * p.eta ≡ p.beta
+  pub gamma1 : (p.gamma1 ≡ 131072) ⊎ (p.gamma1 ≡ 524288)
   pub gamma2 : IsGamma2 p.gamma2
   pub eta : p.eta ≡ eta_of_rows p.k
   pub small : (p.eta ≡ 2) ⊎ (p.eta ≡ 4)
   pub short : commitment_length p ≤ 64
-
-of_row : (p row : ParameterSet) → Agrees p row → AreSetNumbers row → AreSetNumbers p
-of_row p row a n = record {
-  beta = rw (a.tau, a.eta, a.beta) n.beta;
-  gamma2 = rw a.gamma2 n.gamma2;
-  eta = rw (a.eta, a.k) n.eta;
-  small = rw a.eta n.small;
-  short = rw a.lambda n.short;
-}
+  pub signs : (1 ≤ p.tau) × (p.tau ≤ 64)
+  pub rows : (1 ≤ p.k) × (p.k ≤ 8)
+  pub columns : (1 ≤ p.l) × (p.l ≤ 7)
+  pub ones : (1 ≤ p.omega) × (p.omega + p.k < 256)
+  pub small_beta : p.beta ≤ 196
 
 numbers_44 : AreSetNumbers set_44
-numbers_44 = record { beta = refl; gamma2 = inl refl; eta = refl; small = inl refl; short = omega arith }
+numbers_44 = search rules
 
 numbers_65 : AreSetNumbers set_65
-numbers_65 = record { beta = refl; gamma2 = inr refl; eta = refl; small = inr refl; short = omega arith }
+numbers_65 = search rules
 
 numbers_87 : AreSetNumbers set_87
-numbers_87 = record { beta = refl; gamma2 = inr refl; eta = refl; small = inl refl; short = omega arith }
+numbers_87 = search rules
 
 pub set_numbers : (p : ParameterSet) → IsTrue (is_parameter_set p) → AreSetNumbers p
-set_numbers p t = elim (or_out (same_parameters p set_44 || same_parameters p set_65) (same_parameters p set_87) t) [
-  | inl y ↦ elim (or_out (same_parameters p set_44) (same_parameters p set_65) y) [
-    | inl x ↦ of_row p set_44 (agrees p set_44 x) numbers_44
-    | inr x ↦ of_row p set_65 (agrees p set_65 x) numbers_65
-  ]
-  | inr x ↦ of_row p set_87 (agrees p set_87 x) numbers_87
-]
+set_numbers p t = of_each_set AreSetNumbers p t numbers_44 numbers_65 numbers_87
 
 -- What the three rows of the parameter sets have in common.
 
@@ -167,71 +160,36 @@ pub record Limits (p : Params) : Type 0 where
   pub small_low : nat_abs p.gamma2 ≤ 261888
   pub eta_by_rows : nat_abs p.eta ≡ eta_of_rows p.k
 
-of_44 : (p : Params) → Numbers set_44 p.tau p.lambda p.gamma1 p.gamma2 p.k p.l p.eta p.beta p.omega → Limits p
-of_44 p n = record {
-  mask = inl n.gamma1_is;
-  rounding = inl n.gamma2_is;
-  some_signs = rw n.tau_is (omega (arith, ints));
-  few_signs = rw n.tau_is (omega (arith, ints));
-  short = rw n.lambda_is (omega arith);
-  some_rows = rw n.k_is (omega arith);
-  few_rows = rw n.k_is (omega arith);
-  some_columns = rw n.l_is (omega arith);
-  few_columns = rw n.l_is (omega arith);
-  some_ones = rw n.omega_is (omega (arith, ints));
-  hint_size = rw (n.omega_is, n.k_is) (omega arith);
-  z_bound = rw (n.gamma1_is, n.beta_is) refl;
-  r0_bound = rw (n.gamma2_is, n.beta_is) refl;
-  eta = inl n.eta_is;
-  small_low = rw n.gamma2_is (omega arith);
-  eta_by_rows = rw (n.eta_is, n.k_is) refl;
-}
+signed : (x a b : ℕ) → (x ≡ a) ⊎ (x ≡ b) → (pos x ≡ pos a) ⊎ (pos x ≡ pos b)
+signed x a b (inl e) = inl (ap pos e)
+signed x a b (inr e) = inr (ap pos e)
 
-of_65 : (p : Params) → Numbers set_65 p.tau p.lambda p.gamma1 p.gamma2 p.k p.l p.eta p.beta p.omega → Limits p
-of_65 p n = record {
-  mask = inr n.gamma1_is;
-  rounding = inr n.gamma2_is;
-  some_signs = rw n.tau_is (omega (arith, ints));
-  few_signs = rw n.tau_is (omega (arith, ints));
-  short = rw n.lambda_is (omega arith);
-  some_rows = rw n.k_is (omega arith);
-  few_rows = rw n.k_is (omega arith);
-  some_columns = rw n.l_is (omega arith);
-  few_columns = rw n.l_is (omega arith);
-  some_ones = rw n.omega_is (omega (arith, ints));
-  hint_size = rw (n.omega_is, n.k_is) (omega arith);
-  z_bound = rw (n.gamma1_is, n.beta_is) refl;
-  r0_bound = rw (n.gamma2_is, n.beta_is) refl;
-  eta = inr n.eta_is;
-  small_low = rw n.gamma2_is (omega arith);
-  eta_by_rows = rw (n.eta_is, n.k_is) refl;
-}
-
-of_87 : (p : Params) → Numbers set_87 p.tau p.lambda p.gamma1 p.gamma2 p.k p.l p.eta p.beta p.omega → Limits p
-of_87 p n = record {
-  mask = inr n.gamma1_is;
-  rounding = inr n.gamma2_is;
-  some_signs = rw n.tau_is (omega (arith, ints));
-  few_signs = rw n.tau_is (omega (arith, ints));
-  short = rw n.lambda_is (omega arith);
-  some_rows = rw n.k_is (omega arith);
-  few_rows = rw n.k_is (omega arith);
-  some_columns = rw n.l_is (omega arith);
-  few_columns = rw n.l_is (omega arith);
-  some_ones = rw n.omega_is (omega (arith, ints));
-  hint_size = rw (n.omega_is, n.k_is) (omega arith);
-  z_bound = rw (n.gamma1_is, n.beta_is) refl;
-  r0_bound = rw (n.gamma2_is, n.beta_is) refl;
-  eta = inl n.eta_is;
-  small_low = rw n.gamma2_is (omega arith);
-  eta_by_rows = rw (n.eta_is, n.k_is) refl;
+limits_of : (p : Params) (row : ParameterSet) → Numbers row p.tau p.lambda p.gamma1 p.gamma2 p.k p.l p.eta p.beta p.omega
+    → AreSetNumbers row → Limits p
+limits_of p row n s = record {
+  mask = rw n.gamma1_is (signed row.gamma1 131072 524288 s.gamma1);
+  rounding = rw n.gamma2_is (signed row.gamma2 95232 261888 s.gamma2);
+  some_signs = rw n.tau_is (omega (arith, ints, s.signs));
+  few_signs = rw n.tau_is (omega (arith, ints, s.signs));
+  short = rw n.lambda_is s.short;
+  some_rows = rw n.k_is s.rows.0;
+  few_rows = rw n.k_is s.rows.1;
+  some_columns = rw n.l_is s.columns.0;
+  few_columns = rw n.l_is s.columns.1;
+  some_ones = rw n.omega_is (omega (arith, ints, s.ones));
+  hint_size = rw (n.omega_is, n.k_is) s.ones.1;
+  z_bound = rw (n.gamma1_is, n.beta_is) (omega (arith, ints, s.gamma1, s.small_beta));
+  r0_bound = rw (n.gamma2_is, n.beta_is) (omega (arith, ints, s.gamma2, s.small_beta));
+  eta = rw n.eta_is (signed row.eta 2 4 s.small);
+  small_low = rw n.gamma2_is (omega (arith, s.gamma2));
+  eta_by_rows = rw (n.eta_is, n.k_is) s.eta;
 }
 
 pub limits : (p : Params) → IsKnown p → Limits p
 limits p t = elim (rows p.tau p.lambda p.gamma1 p.gamma2 p.k p.l p.eta p.beta p.omega t) [
-  | inl n ↦ of_44 p n
-  | inr (inl n) ↦ of_65 p n
-  | inr (inr n) ↦ of_87 p n
+  | inl n ↦ limits_of p set_44 n numbers_44
+  | inr (inl n) ↦ limits_of p set_65 n numbers_65
+  | inr (inr n) ↦ limits_of p set_87 n numbers_87
 ]
 
 -- ---- the bytes of a high part

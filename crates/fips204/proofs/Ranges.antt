@@ -76,7 +76,8 @@ signed_sum-within (place ∷ ps) (bit ∷ sign_bits) n apart = elim (cases_Bool 
       rw other (omega (arith, ints, rest))
 ]
 
-challenge-sum : (tau : ℕ) (front : List ℕ) (c : R) → challenge tau front ≡ Some c → polynomial_of (signed_sum (challenge_places tau front) (bits 8 (take 8 front))) ≡ c
+-- a challenge is the sum of its signs at its places
+pub challenge-sum : (tau : ℕ) (front : List ℕ) (c : R) → challenge tau front ≡ Some c → polynomial_of (signed_sum (challenge_places tau front) (bits 8 (take 8 front))) ≡ c
 unfolding challenge
 challenge-sum tau front c e = elim (cases_lt (length (challenge_picks tau front)) tau) [
   | inl few ↦

@@ -1,5 +1,5 @@
 -- The vectors of an attempt, their norms and hints, and which attempts are kept, check by check.
-use Rattle.std.proofs.Common.{◌≡◌, ◌⊎◌, inl, inr, ℕ, ℤ, pos, ◌+◌, ◌-◌, ◌*◌, ◌%◌, ◌<◌, ◌≤◌, ◌+ℤ◌, ◌-ℤ◌, ◌≤ℤ◌, List, length, true, false, arith, refl, ap, sym, ◌∙◌, Bool, ◌&&◌, Ok, Some, None, true≢false}
+use Rattle.std.proofs.Common.{◌≡◌, ◌⊎◌, inl, inr, ℕ, ℤ, pos, negsuc, ◌+◌, ◌-◌, ◌*◌, ◌%◌, ◌<◌, ◌≤◌, ◌+ℤ◌, ◌-ℤ◌, ◌≤ℤ◌, List, length, true, false, arith, refl, ap, sym, ◌∙◌, Bool, ◌&&◌, Ok, Some, None, true≢false}
 use Rattle.std.specs.Prelude.{nat_abs, nat_lt, if◌then◌else◌}
 use Rattle.std.specs.List.{All}
 use Rattle.std.proofs.lemmas.Bool.{cases_lt, le-leb, lt-leb}
@@ -8,7 +8,7 @@ use Rattle.fips204_base.specs.declared.types.R.{R}
 use Rattle.fips204_base.specs.CentredValues.{centred, vector_norm}
 use Rattle.fips204_base.specs.Packing.{InRange, width}
 use Rattle.fips204_base.specs.Polynomials.{entry, IsReducedVector}
-use Rattle.fips204_base.specs.Products.{product, plus, minus}
+use Rattle.fips204_base.specs.Products.{product}
 use Rattle.fips204_base.specs.Residues.{residue}
 use Rattle.fips204_base.specs.Rounding.{low_bits, make_hint}
 use Rattle.fips204_base.specs.Vectors.{vector_of, IsVector, vector_coefficients}
@@ -19,7 +19,7 @@ use Rattle.fips204_base.proofs.Vectors.{vector_of-ext, vector_of-range, vector-w
 use Rattle.fips204_base.specs.Encodings.{signature_bytes}
 use Rattle.fips204_base.specs.HintSpelling.{all_ones}
 use Rattle.fips204.specs.declared.types.Params.{Params}
-use Rattle.fips204.specs.Attempts.{scaled, response, low_vector, ct0, hint_bit, hint_vector, passes_checks, checked_attempt}
+use Rattle.fips204.specs.Attempts.{scaled, response, low_vector, ct0, hint_bit, hint_vector, passes_checks, checked_attempt, w_minus_cs2, y_plus_cs1}
 use Rattle.fips204.specs.Keys.{PrivateParts, eta_of_rows}
 use Rattle.fips204.specs.ParameterSets.{ParameterSet, commitment_length, signature_length}
 use Rattle.fips204.specs.Sets.{set_of}
@@ -73,16 +73,6 @@ residue-difference x y =
 
 pub product-own : (a b : ℕ → ℕ) (n : ℕ) (x : ℤ) → x ≡ pos (product a b n) → residue x ≡ product a b n
 product-own a b n x e = let below = product_below a b n in rw e (omega (arith, below))
-
--- a coefficient of a product is from 0 to q - 1
-pub product-small : (a b : ℕ → ℕ) (n : ℕ) (x : ℤ) → x ≡ pos (product a b n) → nat_abs x ≤ 8380416
-product-small a b n x e = let below = product_below a b n in rw e (omega (arith, below))
-
-pub plus-same : (s m : ℕ) (x : ℤ) → x ≡ pos m → (s + residue x) % 8380417 ≡ (s + m) % 8380417
-plus-same s m x e = rw e (omega arith)
-
-pub minus-same : (s m : ℕ) (x : ℤ) → x ≡ pos m → (s + 8380416 * residue x) % 8380417 ≡ (s + 8380416 * m) % 8380417
-minus-same s m x e = rw e (omega arith)
 
 -- ---- low bits
 pub low_bits-small : (g : ℤ) (x : ℤ) → (g ≡ pos 95232) ⊎ (g ≡ pos 261888) → nat_abs (low_bits (nat_abs g) (residue x)) ≤ 8380416
@@ -164,21 +154,17 @@ kept p sk y w c_tilde c e f h few = signed p sk y w c_tilde c (and-fourth _ _ _ 
 
 -- ---- the vectors of an attempt
 
--- y + c s1
-abbrev pub masked : List R → R → List R → ℕ → ℕ → ℕ
-masked y c s1 r n = plus (vector_coefficients y r) (scaled c (vector_coefficients s1) r) n
-
 pub response-is : (p : ParameterSet) (sk : PrivateParts) (y : List R) (c : R) (s1 z : List R) (k : ℕ) → s1 ≡ sk.s1 → k ≡ p.l
-    → z ≡ vector_of k (λ r n. centred (pos (masked y c s1 r n))) → z ≡ response p sk y c
+    → z ≡ vector_of k (λ r n. centred (pos (y_plus_cs1 s1 y c r n))) → z ≡ response p sk y c
 unfolding response
 response-is p sk y c s1 z k own size e = e ∙ rw (own, size) refl
 
 pub low-is : (p : ParameterSet) (sk : PrivateParts) (w : ℕ → ℕ → ℕ) (c : R) (s2 v : List R) (k : ℕ) → s2 ≡ sk.s2 → k ≡ p.k
-    → ((r n : ℕ) → r < k → n < 256 → vector_coefficients v r n ≡ minus (w r) (scaled c (vector_coefficients s2) r) n)
+    → ((r n : ℕ) → r < k → n < 256 → vector_coefficients v r n ≡ w_minus_cs2 s2 w c r n)
     → vector_of k (λ r n. low_bits p.gamma2 (vector_coefficients v r n)) ≡ low_vector p sk w c
 unfolding low_vector
 low-is p sk w c s2 v k own size e =
-    vector_of-ext k (λ r n. low_bits p.gamma2 (vector_coefficients v r n)) (λ r n. low_bits p.gamma2 (minus (w r) (scaled c (vector_coefficients s2) r) n)) (λ r n h l. ap (low_bits p.gamma2) (e r n h l))
+    vector_of-ext k (λ r n. low_bits p.gamma2 (vector_coefficients v r n)) (λ r n. low_bits p.gamma2 (w_minus_cs2 s2 w c r n)) (λ r n h l. ap (low_bits p.gamma2) (e r n h l))
     ∙ rw (own, size) refl
 
 pub ct0-is : (p : ParameterSet) (sk : PrivateParts) (c : R) (t0 v : List R) (k : ℕ) → t0 ≡ sk.t0 → k ≡ p.k → v ≡ vector_of k (λ r n. pos (scaled c (vector_coefficients t0) r n)) → v ≡ ct0 p sk c
@@ -186,14 +172,14 @@ unfolding ct0
 ct0-is p sk c t0 v k own size e = e ∙ rw (own, size) refl
 
 pub hint-is : (p : ParameterSet) (sk : PrivateParts) (w : ℕ → ℕ → ℕ) (c : R) (s2 t0 v t h : List R) (k : ℕ) → s2 ≡ sk.s2 → t0 ≡ sk.t0 → k ≡ p.k
-    → ((r n : ℕ) → r < k → n < 256 → vector_coefficients v r n ≡ minus (w r) (scaled c (vector_coefficients s2) r) n)
+    → ((r n : ℕ) → r < k → n < 256 → vector_coefficients v r n ≡ w_minus_cs2 s2 w c r n)
     → ((r n : ℕ) → r < k → n < 256 → entry t r n ≡ pos (scaled c (vector_coefficients t0) r n))
     → h ≡ vector_of k (λ r n. hint_bit p.gamma2 (vector_coefficients v r n) (vector_coefficients t r n)) → h ≡ hint_vector p sk w c
 unfolding hint_vector
 hint-is p sk w c s2 t0 v t h k own low size e f is =
     is
     ∙ vector_of-ext k (λ r n. hint_bit p.gamma2 (vector_coefficients v r n) (vector_coefficients t r n))
-    (λ r n. hint_bit p.gamma2 (minus (w r) (scaled c (vector_coefficients s2) r) n) (scaled c (vector_coefficients t0) r n))
+    (λ r n. hint_bit p.gamma2 (w_minus_cs2 s2 w c r n) (scaled c (vector_coefficients t0) r n))
     (λ r n q l. rw (e r n q l, product-own _ _ n _ (f r n q l)) refl)
     ∙ rw (own, low, size) refl
 
@@ -207,26 +193,33 @@ short-within k m v is = vector-within m (eta_of_rows k) (eta_of_rows k) 8380416 
 pub low-within : (m : ℕ) (v : List R) → IsVector m 4095 4096 v → IsReducedVector m v
 low-within m v is = vector-within m 4095 4096 8380416 v (omega arith) (omega arith) is
 
+-- an integer from 1 - g to g
+within_range : (g : ℕ) (x : ℤ) → nat_abs x < g → ((pos 0 -ℤ pos (g - 1)) ≤ℤ x) × (x ≤ℤ pos g)
+within_range g (pos n) h = (omega (arith, ints, h), omega (arith, ints, h))
+within_range g (negsuc n) h = (omega (arith, ints, h), omega (arith, ints, h))
+
+-- coefficients of a centred vector whose norm is below a bound
+pub centred-range : (g b k : ℕ) (f : ℕ → ℕ → ℤ) → b ≤ g → vector_norm (vector_of k (λ r n. centred (f r n))) < b
+    → IsVector k (g - 1) g (vector_of k (λ r n. centred (f r n)))
+centred-range g b k f most small = vector_of-range k (g - 1) g (λ r n. centred (f r n)) (λ r n h l.
+    let place = norm_of_place k (λ r n. centred (f r n)) r n h l in
+    let same = ap nat_abs (centred-again (f r n)) in
+    within_range g (centred (f r n)) (omega (arith, place, same, small, most)))
+
 -- coefficients of a response
 pub response-range : (gamma1 : ℤ) (b k : ℕ) (f : ℕ → ℕ → ℤ) (z : List R) → (gamma1 ≡ pos 131072) ⊎ (gamma1 ≡ pos 524288) → b ≤ nat_abs gamma1
     → z ≡ vector_of k (λ r n. centred (f r n)) → vector_norm z < b → All (λ u. InRange (pos 0 -ℤ (gamma1 -ℤ pos 1)) gamma1 u.0) z
-response-range gamma1 b k f z set most e small =
-    let item : ℕ → ℕ → ℤ = λ r n. centred (f r n) in
-    let below : vector_norm (vector_of k item) < b = rw e at small in
-    let place : (r n : ℕ) → r < k → n < 256 → nat_abs (item r n) < nat_abs gamma1 = λ r n h l.
-    (let one = norm_of_place k item r n h l in let same = centred-again (f r n) in omega (arith, rw same at one, below, most)) in
-    rw e (elim set [
-      | inl is ↦ rw is (vector_of-range k 131071 131072 item (λ r n h l. let p = rw is at place r n h l in (omega (arith, ints, p), omega (arith, ints, p)))).range
-      | inr is ↦ rw is (vector_of-range k 524287 524288 item (λ r n h l. let p = rw is at place r n h l in (omega (arith, ints, p), omega (arith, ints, p)))).range
-    ])
+response-range gamma1 b k f z (inl is) most e small = rw (e, is) (centred-range 131072 b k f (rw is at most) (rw e at small)).range
+response-range gamma1 b k f z (inr is) most e small = rw (e, is) (centred-range 524288 b k f (rw is at most) (rw e at small)).range
 
 -- coefficients of a hint
-pub hint-range : (k g : ℕ) (v t : ℕ → ℕ → ℕ) (h : List R) → h ≡ vector_of k (λ r n. hint_bit g (v r n) (t r n)) → All (λ u. InRange (pos 0) (pos 1) u.0) h
-hint-range k g v t h e = rw e (vector_of-range k 0 1 (λ r n. hint_bit g (v r n) (t r n)) (λ r n q l. bit (make_hint g ((0 + 8380416 * t r n) % 8380417) ((v r n + t r n) % 8380417)))).range
-  where
-    bit : (b : Bool) → ((pos 0 -ℤ pos 0) ≤ℤ (if b then pos 1 else pos 0)) × ((if b then pos 1 else pos 0) ≤ℤ pos 1)
-    bit true = (omega (arith, ints), omega (arith, ints))
-    bit false = (omega (arith, ints), omega (arith, ints))
+bit_range : (b : Bool) → ((pos 0 -ℤ pos 0) ≤ℤ (if b then pos 1 else pos 0)) × ((if b then pos 1 else pos 0) ≤ℤ pos 1)
+bit_range true = (omega (arith, ints), omega (arith, ints))
+bit_range false = (omega (arith, ints), omega (arith, ints))
+
+pub hint-range : (k g : ℕ) (v t : ℕ → ℕ → ℕ) → IsVector k 0 1 (vector_of k (λ r n. hint_bit g (v r n) (t r n)))
+hint-range k g v t = vector_of-range k 0 1 (λ r n. hint_bit g (v r n) (t r n)) (λ r n h l.
+    bit_range (make_hint g ((0 + 8380416 * t r n) % 8380417) ((v r n + t r n) % 8380417)))
 
 -- how long a signature is
 pub signature_size : (p : Params) (k l n size : ℕ) → (p.gamma1 ≡ pos 131072) ⊎ (p.gamma1 ≡ pos 524288) → k ≡ p.k → l ≡ p.l → n ≡ commitment_length (set_of p) → size ≡ signature_length (set_of p)

@@ -1,6 +1,6 @@
 -- A generated pair of keys: the private key is whole, the public key is its own, and whole calls that sign are accepted.
-use Rattle.std.proofs.Common.{◌≡◌, ◌-◌, ℕ, List, length, take, drop, IsTrue, Some, None, Ok, refl, ap, sym, subst, ◌∙◌, arith, length-drop, ◌≤◌, nat_lt, inl, inr}
-use Rattle.std.specs.Prelude.{option_map, if◌then◌else◌}
+use Rattle.std.proofs.Common.{◌≡◌, ◌-◌, ℕ, List, length, take, drop, IsTrue, Some, None, Ok, refl, ap, sym, subst, ◌∙◌, arith, length-drop, ◌≤◌}
+use Rattle.std.specs.Prelude.{option_map}
 use Rattle.std.specs.declared.option.Option.{Option}
 use Rattle.std.proofs.lemmas.List.{length-take-le}
 use Rattle.std.proofs.lemmas.Option.{none-some}
@@ -18,15 +18,12 @@ use Rattle.fips204.specs.Signing.{sign}
 use Rattle.fips204.specs.Acceptance.{Verifies}
 use Rattle.fips204.proofs.Completeness.{completeness}
 use Rattle.fips204.proofs.KeyGeneration.{high_part-range, low_part-range}
-use Rattle.fips204.proofs.RefusedCalls.{same_some}
+use Rattle.fips204.proofs.RefusedCalls.{same_some, not_refused, short_context}
 use Rattle.fips204.proofs.ParameterSets.{AreSetNumbers, set_numbers}
-use Rattle.std.specs.declared.result.Result.{Result}
-use Rattle.fips204_base.specs.declared.fault.Fault.{Fault}
 use Rattle.fips204_base.specs.declared.fault.Fault.TheVariants.{SignCtx, HashCtx}
-use Rattle.std.proofs.lemmas.Bool.{cases_lt, le-ltb, lt-ltb}
 use Rattle.fips204.specs.Framing.{framed, framed_digest, message_hash}
 use Rattle.fips204.specs.PreHash.{pre_hash_fault}
-use Rattle.fips204.specs.Refusals.{refused_or, message_fault, digest_fault, generated, derived, sign_message, sign_digest, VerifiesMessage, VerifiesDigest}
+use Rattle.fips204.specs.Refusals.{message_fault, digest_fault, generated, derived, sign_message, sign_digest, VerifiesMessage, VerifiesDigest}
 
 -- A generated pair of keys: the private key is whole and in range, and the public key is its own.
 
@@ -160,22 +157,6 @@ derived_go_together p H G pk sk row law parts whole e =
   where
     one_hash : {own : PublicParts} → Some own ≡ Some pk → own.tr ≡ pk.tr
     one_hash {own} s = let same : own ≡ pk = cc in ap (λ (k : PublicParts). k.tr) same
-
--- ---- signing that isn't refused
-
-not_refused : {A : Type 0} (o : Option Fault) (answer : Result A Fault) (x : A) → refused_or o answer ≡ Ok x → (o ≡ None) × (answer ≡ Ok x)
-not_refused None answer x e = (refl, e)
-not_refused (Some fault) answer x e = absurd cc
-
--- a context that isn't refused is short, and what is asked after it isn't refused either
-short_context : (context : List ℕ) (fault : Fault) (rest : Option Fault) → (if nat_lt 255 (length context) then Some fault else rest) ≡ None → (length context ≤ 255) × (rest ≡ None)
-short_context context fault rest e = elim (cases_lt 255 (length context)) [
-  | inl long ↦ absurd (some_is_none fault (rw (lt-ltb 255 (length context) long) at e))
-  | inr short ↦ (short, rw (le-ltb 255 (length context) short) at e)
-]
-  where
-    some_is_none : (f : Fault) → Some f ≡ None → ⊥
-    some_is_none f s = cc
 
 -- ---- calls
 

@@ -32,17 +32,21 @@ high_vector p w = vector_of p.k (λ r n. pos (high_bits p.gamma2 (w r n)))
 abbrev pub scaled : R → (ℕ → ℕ → ℕ) → ℕ → ℕ → ℕ
 scaled c v r = product (coefficients c.0) (v r)
 
+-- y + c s1
+abbrev pub y_plus_cs1 : List R → List R → R → ℕ → ℕ → ℕ
+y_plus_cs1 s1 y c r = plus (vector_coefficients y r) (scaled c (vector_coefficients s1) r)
+
 -- z = y + c s1, centred
 unfoldable pub response : ParameterSet → PrivateParts → List R → R → List R
-response p sk y c = vector_of p.l (λ r n. centred (pos (plus (vector_coefficients y r) (scaled c (vector_coefficients sk.s1) r) n)))
+response p sk y c = vector_of p.l (λ r n. centred (pos (y_plus_cs1 sk.s1 y c r n)))
 
 -- w - c s2
-abbrev pub w_minus_cs2 : PrivateParts → (ℕ → ℕ → ℕ) → R → ℕ → ℕ → ℕ
-w_minus_cs2 sk w c r = minus (w r) (scaled c (vector_coefficients sk.s2) r)
+abbrev pub w_minus_cs2 : List R → (ℕ → ℕ → ℕ) → R → ℕ → ℕ → ℕ
+w_minus_cs2 s2 w c r = minus (w r) (scaled c (vector_coefficients s2) r)
 
 -- r0, the low bits of w - c s2
 unfoldable pub low_vector : ParameterSet → PrivateParts → (ℕ → ℕ → ℕ) → R → List R
-low_vector p sk w c = vector_of p.k (λ r n. low_bits p.gamma2 (w_minus_cs2 sk w c r n))
+low_vector p sk w c = vector_of p.k (λ r n. low_bits p.gamma2 (w_minus_cs2 sk.s2 w c r n))
 
 -- c t0
 unfoldable pub ct0 : ParameterSet → PrivateParts → R → List R
@@ -54,7 +58,7 @@ hint_bit gamma2 v t = if make_hint gamma2 ((0 + 8380416 * t) % 8380417) ((v + t)
 
 -- h = MakeHint(-c t0, w - c s2 + c t0)
 unfoldable pub hint_vector : ParameterSet → PrivateParts → (ℕ → ℕ → ℕ) → R → List R
-hint_vector p sk w c = vector_of p.k (λ r n. hint_bit p.gamma2 (w_minus_cs2 sk w c r n) (scaled c (vector_coefficients sk.t0) r n))
+hint_vector p sk w c = vector_of p.k (λ r n. hint_bit p.gamma2 (w_minus_cs2 sk.s2 w c r n) (scaled c (vector_coefficients sk.t0) r n))
 
 -- whether an attempt is kept: the norm of z is below gamma1 - beta, that of r0 below gamma2 - beta, that of c t0 below
 -- gamma2, and h has at most omega ones

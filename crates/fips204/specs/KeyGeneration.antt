@@ -11,17 +11,17 @@ use Rattle.fips204_base.specs.SmallPolynomial.{small_vector}
 use Rattle.fips204.specs.ParameterSets.{ParameterSet}
 use Rattle.fips204.specs.Keys.{PublicParts, PrivateParts}
 
--- coefficient n of polynomial r of t = A s1 + s2
-abbrev pub key_vector : ParameterSet → List (List T) → List R → List R → ℕ → ℕ → ℕ
-key_vector p a s1 s2 r = plus (matrix_product p.l a (vector_coefficients s1) r) (vector_coefficients s2 r)
+-- coefficient n of polynomial r of t = A s1 + s2, where A has l columns
+abbrev pub key_vector : ℕ → List (List T) → List R → List R → ℕ → ℕ → ℕ
+key_vector l a s1 s2 r = plus (matrix_product l a (vector_coefficients s1) r) (vector_coefficients s2 r)
 
 -- t1, the high part of A s1 + s2
 unfoldable pub high_part : ParameterSet → List (List T) → List R → List R → List R
-high_part p a s1 s2 = vector_of p.k (λ r n. pos (power2round (key_vector p a s1 s2 r n)).0)
+high_part p a s1 s2 = vector_of p.k (λ r n. pos (power2round (key_vector p.l a s1 s2 r n)).0)
 
 -- t0, the low part of A s1 + s2
 unfoldable pub low_part : ParameterSet → List (List T) → List R → List R → List R
-low_part p a s1 s2 = vector_of p.k (λ r n. (power2round (key_vector p a s1 s2 r n)).1)
+low_part p a s1 s2 = vector_of p.k (λ r n. (power2round (key_vector p.l a s1 s2 r n)).1)
 
 -- tr, the first 64 bytes of H over the public key's bytes
 abbrev pub key_hash : (List ℕ → List ℕ) → List ℕ → List R → List ℕ

@@ -1,25 +1,25 @@
 //! What the parameter sets share (FIPS 204, sections 5 and 6).
 #![tactic(auto)]
 
-ghost use Rattle.std.specs.Prelude.{◌≡◌, ◌+◌, ◌*◌, take};
+ghost use Rattle.std.specs.Prelude.{◌≡◌, ◌+◌, ◌*◌, nat_abs, take};
 ghost use Rattle.std.specs.List.{flat_map};
-ghost use Rattle.fips204.specs.Keys.{IsPublicKeyOf};
+ghost use Rattle.fips204.specs.Keys.{IsPublicKeyOf, DecodesPrivate};
+ghost use Rattle.fips204.specs.ParameterSets.{private_key_length};
+ghost use Rattle.fips204.specs.Sets.{set_of};
 
 mod attempt;
 mod calls;
 mod commitment;
 mod key_generation;
-mod private_key;
 mod rejection;
 mod signing;
 mod verification;
 
-use crate::types::PublicKey;
-pub(crate) use calls::{sign_digest, sign_message, verify_digest, verify_message};
-use fips204_base::encodings::pk_decode;
+use crate::types::{Params, PrivateKey, PublicKey};
+use fips204_base::Fault;
+use fips204_base::encodings::{pk_decode, sk_decode};
 use fips204_base::xof::{Xof, hash};
 pub use key_generation::{key_gen, key_gen_internal, private_to_public_key};
-pub use private_key::expand_private;
 pub use signing::{MAX_SIGN_ATTEMPTS, sign_internal};
 use std::marker::PhantomData;
 pub use verification::verify_internal;
@@ -39,6 +39,34 @@ pub fn expand_public<const K: usize, const L: usize, const PK_LEN: usize, H: Xof
         t1,
         streams: PhantomData,
     }
+}
+
+/// The private key that has these bytes (Algorithm 25). Refuses with `Fault::KeyRange` where a field of
+/// s1 or s2 is above `2 eta`.
+///
+/// `K` and `L` are those of the set, and `SK_LEN` is the length of its private keys.
+pub fn expand_private<const K: usize, const L: usize, const SK_LEN: usize, H, G>(
+    p: &Params,
+    sk: &[u8; SK_LEN],
+) -> Result<PrivateKey<K, L, H, G>, Fault>
+    requires rows { K ≡ p.now.k }
+    requires columns { L ≡ p.now.l }
+    requires size { SK_LEN ≡ private_key_length (set_of p.now) }
+    ensures { DecodesPrivate (nat_abs p.now.eta) K L sk.now result }
+{
+    let (rho, key, tr, s1, s2, t0) = match sk_decode(p.eta, sk) {
+        Err(fault) => return Err(fault),
+        Ok(parts) => parts,
+    };
+    Ok(PrivateKey {
+        rho: *rho,
+        key: *key,
+        tr: *tr,
+        s1,
+        s2,
+        t0,
+        streams: PhantomData,
+    })
 }
 
 /// The first 64 bytes of `H` over the concatenation of the parts (lines 6 of Algorithm 7 and 7 of

@@ -43,9 +43,7 @@ pub type PrivateKey<H, G> = types::PrivateKey<K, L, H, G>;
 pub type PublicKey<H, G> = types::PublicKey<K, L, H, G>;
 
 /// Key generation.
-pub struct KG<H, G> {
-    streams: PhantomData<(H, G)>,
-}
+pub struct KG<H, G>(PhantomData<(H, G)>);
 
 /// Both keys of 32 bytes that the generator is asked for once, as `KeyGen::try_keygen_with_rng`.
 pub fn try_keygen_with_rng<H: Xof, G: Xof, R: CryptoRngCore>(
@@ -116,9 +114,7 @@ impl<H: Xof, G: Xof> Signer for PrivateKey<H, G> {
         message: &[u8],
         ctx: &[u8],
     ) -> Result<[u8; SIG_LEN], Fault> {
-        ml_dsa::sign_message::<K, L, LAMBDA_DIV4, SIG_LEN, H, G>(
-            &ML_DSA_44, self, seed, message, ctx,
-        )
+        self.sign_message::<LAMBDA_DIV4, SIG_LEN>(&ML_DSA_44, seed, message, ctx)
     }
 
     fn try_hash_sign_with_seed(
@@ -128,9 +124,7 @@ impl<H: Xof, G: Xof> Signer for PrivateKey<H, G> {
         ctx: &[u8],
         hash_oid: &[u8],
     ) -> Result<[u8; SIG_LEN], Fault> {
-        ml_dsa::sign_digest::<K, L, LAMBDA_DIV4, SIG_LEN, H, G>(
-            &ML_DSA_44, self, seed, hash, ctx, hash_oid,
-        )
+        self.sign_digest::<LAMBDA_DIV4, SIG_LEN>(&ML_DSA_44, seed, hash, ctx, hash_oid)
     }
 
     fn get_public_key(&self) -> Result<PublicKey<H, G>, Fault> {
@@ -146,9 +140,7 @@ impl<H: Xof, G: Xof> Verifier for PublicKey<H, G> {
     ghost accepts_digest = { VerifiesDigest set_44 H.front G.front };
 
     fn verify(&self, message: &[u8], signature: &[u8; SIG_LEN], ctx: &[u8]) -> bool {
-        ml_dsa::verify_message::<K, L, LAMBDA_DIV4, SIG_LEN, H, G>(
-            &ML_DSA_44, self, message, signature, ctx,
-        )
+        self.verify_message::<LAMBDA_DIV4, SIG_LEN>(&ML_DSA_44, message, signature, ctx)
     }
 
     fn hash_verify(
@@ -158,9 +150,7 @@ impl<H: Xof, G: Xof> Verifier for PublicKey<H, G> {
         ctx: &[u8],
         hash_oid: &[u8],
     ) -> bool {
-        ml_dsa::verify_digest::<K, L, LAMBDA_DIV4, SIG_LEN, H, G>(
-            &ML_DSA_44, self, hash, signature, ctx, hash_oid,
-        )
+        self.verify_digest::<LAMBDA_DIV4, SIG_LEN>(&ML_DSA_44, hash, signature, ctx, hash_oid)
     }
 }
 
@@ -174,7 +164,8 @@ impl<H: Xof, G: Xof> PrivateKey<H, G> {
         m: &[u8],
         hedged: bool,
     ) -> Result<[u8; SIG_LEN], Fault>
-        ensures { DrawsIf hedged R.gives R.refuses rng.old rng.new Fault.InternalRng (sign set_44 H.front G.front self.now (message_hash H.front self.now.tr m.now)) result }
+        ensures { DrawsIf hedged R.gives R.refuses rng.old rng.new Fault.InternalRng
+            (sign set_44 H.front G.front self.now (message_hash H.front self.now.tr m.now)) result }
     {
         self.sign_mu(rng, &ml_dsa::mu::<H>(&[&self.tr, m]), hedged)
     }

@@ -23,7 +23,9 @@ pub trait CryptoRngCore {
 
     /// Fills `out` with random bytes, or refuses.
     fn try_fill_bytes(&mut self, out: &mut [u8]) -> Result<(), RngError>
-        ensures { MatchResult result (λ _. gives self.old (length out.old) out.new self.new) (λ _. refuses self.old (length out.old) self.new) };
+        ensures { MatchResult result
+            (λ _. gives self.old (length out.old) out.new self.new)
+            (λ _. refuses self.old (length out.old) self.new) };
 }
 
 /// The generator of one seed: it gives these 32 bytes to each call that asks for 32, and refuses every
@@ -40,7 +42,9 @@ impl CryptoRngCore for DummyRng {
     ghost refuses = { λ before asked after. (asked ≢ 32) × (after ≡ before) };
 
     fn try_fill_bytes(&mut self, out: &mut [u8]) -> Result<(), RngError>
-        ensures answer { MatchResult result (λ _. (length out.old ≡ 32) × (out.new ≡ self.old.bytes) × (self.new ≡ self.old)) (λ _. (length out.old ≢ 32) × (self.new ≡ self.old)) }
+        ensures answer { MatchResult result
+            (λ _. (length out.old ≡ 32) × (out.new ≡ self.old.bytes) × (self.new ≡ self.old))
+            (λ _. (length out.old ≢ 32) × (self.new ≡ self.old)) }
         ensures untouched { (length out.old ≢ 32) → out.new ≡ out.old }
     {
         if out.len() != 32 {
@@ -53,7 +57,7 @@ impl CryptoRngCore for DummyRng {
 
 /// 32 bytes that the generator is asked for once, or the refusal that stands for its own.
 pub(crate) fn draw<R: CryptoRngCore>(rng: &mut R, refusal: Fault) -> Result<[u8; 32], Fault>
-    ensures { MatchResult result (λ bytes. R.gives rng.old 32 bytes rng.new × (length bytes ≡ 32)) (λ fault. (fault ≡ refusal) × R.refuses rng.old 32 rng.new) }
+    ensures { Draws R.gives R.refuses rng.old rng.new refusal Ok result }
 {
     let mut bytes = [0u8; 32];
     match rng.try_fill_bytes(&mut bytes) {
@@ -114,7 +118,8 @@ pub trait Signer {
         message: &[u8],
         ctx: &[u8],
     ) -> Result<Self::Signature, Fault>
-        ensures { DrawsUnless (message_fault ctx.now) R.gives R.refuses rng.old rng.new SignRng (λ rnd. signs self.now rnd message.now ctx.now) result }
+        ensures { DrawsUnless (message_fault ctx.now) R.gives R.refuses rng.old rng.new SignRng
+            (λ rnd. signs self.now rnd message.now ctx.now) result }
     {
         if ctx.len() > 255 {
             return Err(Fault::SignCtx);
@@ -143,7 +148,8 @@ pub trait Signer {
         ctx: &[u8],
         hash_oid: &[u8],
     ) -> Result<Self::Signature, Fault>
-        ensures { DrawsUnless (digest_fault ctx.now hash_oid.now hash.now) R.gives R.refuses rng.old rng.new HashRng (λ rnd. signs_digest self.now rnd hash.now ctx.now hash_oid.now) result }
+        ensures { DrawsUnless (digest_fault ctx.now hash_oid.now hash.now) R.gives R.refuses rng.old rng.new HashRng
+            (λ rnd. signs_digest self.now rnd hash.now ctx.now hash_oid.now) result }
     {
         if ctx.len() > 255 {
             return Err(Fault::HashCtx);
@@ -234,7 +240,8 @@ pub trait Scheme {
     /// private key of a pair, whose public key this is, for the same message and context.
     fn verify(pk: &Self::Public, message: &[u8], signature: &Self::Signature, ctx: &[u8]) -> bool
         ensures answer { IsTrue result ↔ accepts pk.now message.now signature.now ctx.now }
-        ensures signed_is_accepted { (xi rnd : List ℕ) (sk : Self.Private) → generated xi ≡ Ok (pk.now, sk) → signs sk rnd message.now ctx.now ≡ Ok signature.now → IsTrue result };
+        ensures signed_is_accepted { (xi rnd : List ℕ) (sk : Self.Private)
+            → generated xi ≡ Ok (pk.now, sk) → signs sk rnd message.now ctx.now ≡ Ok signature.now → IsTrue result };
 }
 
 /// Makes a pair, signs with it and verifies: true, or the first refusal, and never false.
@@ -244,7 +251,9 @@ pub fn pairwise_check<S: Scheme>(
     message: &[u8],
     ctx: &[u8],
 ) -> Result<bool, Fault>
-    ensures { MatchResult (S.generated xi.now) (λ pair. MatchResult (S.signs pair.1 rnd.now message.now ctx.now) (λ _. result ≡ Ok true) (λ fault. result ≡ Err fault)) (λ fault. result ≡ Err fault) }
+    ensures { MatchResult (S.generated xi.now)
+        (λ pair. MatchResult (S.signs pair.1 rnd.now message.now ctx.now) (λ _. result ≡ Ok true) (λ fault. result ≡ Err fault))
+        (λ fault. result ≡ Err fault) }
 {
     let (pk, sk) = S::keygen(xi)?;
     let signature = S::sign(&sk, rnd, message, ctx)?;

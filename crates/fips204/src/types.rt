@@ -1,7 +1,7 @@
 //! Polynomials, and keys as values.
 #![tactic(auto)]
 
-ghost use Rattle.std.specs.Prelude.{◌≡◌, ◌⊎◌, ◌≤◌, ◌-◌, ◌*◌, ⊤, pos, nat_abs, IsTrue};
+ghost use Rattle.std.specs.Prelude.{◌≡◌, ◌≤◌, ◌-◌, ◌*◌, ⊤, pos, nat_abs, IsTrue};
 ghost use Rattle.fips204_base.specs.Packing.{width};
 ghost use Rattle.fips204_base.specs.Rounding.{high_values};
 ghost use Rattle.fips204.specs.ParameterSets.{are_parameters};
@@ -56,14 +56,8 @@ impl Params {
         ensures size { result ≡ 32 * width (pos 0) (pos (high_values (nat_abs self.now.gamma2) - 1)) * self.now.k }
         ensures few { result ≤ 1024 }
     {
-        self.w1_polynomial_length() * self.k
-    }
-
-    /// How many bytes `w1Encode` gives for one polynomial.
-    fn w1_polynomial_length(&self) -> usize
-        ensures { ((self.now.gamma2 ≡ pos 95232) × (result ≡ 192)) ⊎ ((self.now.gamma2 ≡ pos 261888) × (result ≡ 128)) }
-    {
-        if self.gamma2 == 95_232 { 192 } else { 128 }
+        let polynomial: usize = if self.gamma2 == 95_232 { 192 } else { 128 };
+        polynomial * self.k
     }
 }
 
@@ -135,12 +129,7 @@ impl<const K: usize, const L: usize, H, G> Clone for PublicKey<K, L, H, G> {
 
     /// The same key; this never refuses.
     fn clone(&self) -> Result<Self, AllocError> {
-        Ok(PublicKey {
-            rho: self.rho,
-            tr: self.tr,
-            t1: self.t1,
-            streams: PhantomData,
-        })
+        Ok(PublicKey { ..*self })
     }
 }
 
@@ -174,9 +163,9 @@ impl<const K: usize, const L: usize, H, G> Model for PrivateKey<K, L, H, G> {
 
     ghost Value = { PrivateParts };
 
-    ghost view = { λ key. record { rho = key.rho; key = key.key; tr = key.tr; s1 = key.s1; s2 = key.s2; t0 = key.t0 } };
+    ghost view = { λ sk. record { rho = sk.rho; key = sk.key; tr = sk.tr; s1 = sk.s1; s2 = sk.s2; t0 = sk.t0 } };
 
-    ghost invariant = { λ key. ArePrivateParts K L record { rho = key.rho; key = key.key; tr = key.tr; s1 = key.s1; s2 = key.s2; t0 = key.t0 } };
+    ghost invariant = { λ sk. ArePrivateParts K L record { rho = sk.rho; key = sk.key; tr = sk.tr; s1 = sk.s1; s2 = sk.s2; t0 = sk.t0 } };
 }
 
 impl<const K: usize, const L: usize, H, G> Clone for PrivateKey<K, L, H, G> {
@@ -186,14 +175,6 @@ impl<const K: usize, const L: usize, H, G> Clone for PrivateKey<K, L, H, G> {
 
     /// The same key; this never refuses.
     fn clone(&self) -> Result<Self, AllocError> {
-        Ok(PrivateKey {
-            rho: self.rho,
-            key: self.key,
-            tr: self.tr,
-            s1: self.s1,
-            s2: self.s2,
-            t0: self.t0,
-            streams: PhantomData,
-        })
+        Ok(PrivateKey { ..*self })
     }
 }

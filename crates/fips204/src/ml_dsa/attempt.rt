@@ -1,7 +1,7 @@
 //! One attempt of signing: the body of the loop of FIPS 204, Algorithm 7.
 #![tactic(auto)]
 
-ghost use Rattle.std.specs.Prelude.{◌≡◌, ◌≤◌, ◌<◌, ◌+◌, ◌⊎◌, ℕ, pos, nat_abs};
+ghost use Rattle.std.specs.Prelude.{◌≡◌, ◌≤◌, ◌<◌, ◌+◌, ◌⊎◌, pos, nat_abs};
 ghost use Rattle.fips204_base.specs.Polynomials.{IsReducedVector, IsReducedMatrix};
 ghost use Rattle.fips204_base.specs.Residues.{residue};
 ghost use Rattle.fips204_base.specs.Rounding.{high_bits};
@@ -11,7 +11,6 @@ ghost use Rattle.fips204.specs.Sets.{HasSizes, set_of};
 ghost use Rattle.fips204.specs.Signing.{attempt_answer};
 
 use super::commitment::commitment;
-use super::rejection::rejection_checks;
 use crate::types::{Params, PrivateKey, R, T};
 use fips204_base::Fault;
 use fips204_base::hashing::{expand_mask, sample_in_ball};
@@ -20,42 +19,37 @@ use fips204_base::maps::map_vector;
 use fips204_base::product::matrix_times_vector;
 use fips204_base::xof::Xof;
 
-/// The attempt at counter `kappa`, with the matrix and the seed `rho''` of the masks (lines 11 to 32):
-/// its signature, or `None` where it is rejected. Refuses with `Fault::SamplingLimit` where its
-/// challenge passes its limit.
-///
-/// `K` and `L` are those of the set, and `LAMBDA_DIV4` and `SIG_LEN` its lengths.
-pub(crate) fn attempt<
-    const K: usize,
-    const L: usize,
-    const LAMBDA_DIV4: usize,
-    const SIG_LEN: usize,
-    H: Xof,
-    G,
->(
-    p: &Params,
-    a_hat: &[[T; L]; K],
-    sk: &PrivateKey<K, L, H, G>,
-    mu: &[u8; 64],
-    seed: &[u8; 64],
-    kappa: u16,
-) -> Result<Option<[u8; SIG_LEN]>, Fault>
-    requires sizes { HasSizes p.now K L LAMBDA_DIV4 SIG_LEN }
-    requires matrix { IsReducedMatrix a_hat.now }
-    requires counter { kappa + L ≤ 65536 }
-    ensures { result ≡ attempt_answer (attempt (set_of p.now) H.front a_hat.now sk.now mu.now seed.now kappa) }
-{
-    // y = ExpandMask(rho'', kappa)
-    let y = expand_mask::<L, H>(p.gamma1, seed, kappa);
-    // w = A y
-    let w = matrix_times_vector(a_hat, &y);
-    // w1 = HighBits(w)
-    let w1 = high_vector(p.gamma2, &w);
-    // c_tilde = H(mu || w1Encode(w1))
-    let c_tilde = commitment::<K, LAMBDA_DIV4, H>(p, mu, &w1);
-    // c = SampleInBall(c_tilde)
-    let c = sample_in_ball::<H>(p.tau, &c_tilde)?;
-    Ok(rejection_checks(p, sk, &y, &w, &c_tilde, &c))
+impl<const K: usize, const L: usize, H: Xof, G> PrivateKey<K, L, H, G> {
+    /// The attempt at counter `kappa`, with the matrix and the seed `rho''` of the masks (lines 11 to 32):
+    /// its signature, or `None` where it is rejected. Refuses with `Fault::SamplingLimit` where its
+    /// challenge passes its limit.
+    ///
+    /// `K` and `L` are those of the set, and `LAMBDA_DIV4` and `SIG_LEN` its lengths.
+    pub(crate) fn attempt<const LAMBDA_DIV4: usize, const SIG_LEN: usize>(
+        &self,
+        p: &Params,
+        a_hat: &[[T; L]; K],
+        mu: &[u8; 64],
+        seed: &[u8; 64],
+        kappa: u16,
+    ) -> Result<Option<[u8; SIG_LEN]>, Fault>
+        requires sizes { HasSizes p.now K L LAMBDA_DIV4 SIG_LEN }
+        requires matrix { IsReducedMatrix a_hat.now }
+        requires counter { kappa + L ≤ 65536 }
+        ensures { result ≡ attempt_answer (attempt (set_of p.now) H.front a_hat.now self.now mu.now seed.now kappa) }
+    {
+        // y = ExpandMask(rho'', kappa)
+        let y = expand_mask::<L, H>(p.gamma1, seed, kappa);
+        // w = A y
+        let w = matrix_times_vector(a_hat, &y);
+        // w1 = HighBits(w)
+        let w1 = high_vector(p.gamma2, &w);
+        // c_tilde = H(mu || w1Encode(w1))
+        let c_tilde = commitment::<K, LAMBDA_DIV4, H>(p, mu, &w1);
+        // c = SampleInBall(c_tilde)
+        let c = sample_in_ball::<H>(p.tau, &c_tilde)?;
+        Ok(self.rejection_checks(p, &y, &w, &c_tilde, &c))
+    }
 }
 
 /// `HighBits` of each coefficient of a vector. `gamma2` is 95232 or 261888, and coefficients are below

@@ -1,14 +1,11 @@
 //! Making keys (FIPS 204, Algorithms 1 and 6).
 #![tactic(auto)]
 
-ghost use Rattle.std.specs.Prelude.{◌≡◌, ◌≤◌, ◌<◌, ◌+◌, ◌*◌, ◌%◌, ℕ, pos, nat_abs, take, drop};
-ghost use Rattle.std.specs.List.{All};
-ghost use Rattle.fips204_base.specs.Packing.{InRange};
+ghost use Rattle.std.specs.Prelude.{◌≡◌, ◌≤◌, ◌<◌, ◌+◌, ◌*◌, ◌%◌, pos, nat_abs, take, drop};
 ghost use Rattle.fips204_base.specs.Polynomials.{AreResidues, IsReducedVector, IsReducedMatrix};
-ghost use Rattle.fips204_base.specs.Products.{plus};
 ghost use Rattle.fips204_base.specs.Residues.{residue};
-ghost use Rattle.fips204_base.specs.Vectors.{vector_coefficients, vector_of, matrix_product};
-ghost use Rattle.fips204.specs.KeyGeneration.{seeds, key_hash};
+ghost use Rattle.fips204_base.specs.Vectors.{vector_of};
+ghost use Rattle.fips204.specs.KeyGeneration.{key_vector};
 ghost use Rattle.fips204.specs.ParameterSets.{public_key_length};
 ghost use Rattle.fips204.specs.Refusals.{generated, derived, Draws};
 ghost use Rattle.fips204.specs.Sets.{set_of};
@@ -39,7 +36,10 @@ pub fn key_gen_internal<const K: usize, const L: usize, const PK_LEN: usize, H: 
     ensures { result ≡ generated (set_of p.now) H.front G.front xi.now }
 {
     // (rho, rho', K) = H(xi || k || l)
-    let (rho, rho_prime, key) = key_seeds::<H>(p, xi);
+    let seeds = hash::<H, 128>(&[xi.as_slice(), &[p.k as u8], &[p.l as u8]]);
+    let rho: [u8; 32] = part(&seeds, 0);
+    let rho_prime: [u8; 64] = part(&seeds, 32);
+    let key: [u8; 32] = part(&seeds, 96);
     // A = ExpandA(rho)
     let a_hat = expand_a::<K, L, G>(&rho)?;
     // (s1, s2) = ExpandS(rho')
@@ -47,7 +47,8 @@ pub fn key_gen_internal<const K: usize, const L: usize, const PK_LEN: usize, H: 
     // t = A s1 + s2, (t1, t0) = Power2Round(t)
     let (t1, t0) = power2round(&key_vector(&a_hat, &s1, &s2));
     // tr = H(pkEncode(rho, t1))
-    let tr = key_hash::<K, PK_LEN, H>(&rho, &t1);
+    let pk: [u8; PK_LEN] = pk_encode(&rho, &t1);
+    let tr = hash::<H, 64>(&[pk.as_slice()]);
     let public = PublicKey {
         rho,
         tr,
@@ -64,17 +65,6 @@ pub fn key_gen_internal<const K: usize, const L: usize, const PK_LEN: usize, H: 
         streams: PhantomData,
     };
     Ok((public, private))
-}
-
-/// The seeds of both keys, rho, rho' and K: 128 bytes of `H` over `xi`, byte `k` and byte `l`
-/// (Algorithm 6, line 1).
-fn key_seeds<H: Xof>(p: &Params, xi: &[u8; 32]) -> ([u8; 32], [u8; 64], [u8; 32])
-    ensures matrix { result.0 ≡ take 32 (seeds (set_of p.now) H.front xi.now) }
-    ensures vectors { result.1 ≡ take 64 (drop 32 (seeds (set_of p.now) H.front xi.now)) }
-    ensures masks { result.2 ≡ take 32 (drop 96 (seeds (set_of p.now) H.front xi.now)) }
-{
-    let bytes = hash::<H, 128>(&[xi.as_slice(), &[p.k as u8], &[p.l as u8]]);
-    (part(&bytes, 0), part(&bytes, 32), part(&bytes, 96))
 }
 
 /// The `N` bytes from `at` on.
@@ -97,7 +87,7 @@ fn key_vector<const K: usize, const L: usize>(
     requires matrix { IsReducedMatrix a_hat.now }
     requires first { IsReducedVector L s1.now }
     requires second { IsReducedVector K s2.now }
-    ensures values { result ≡ vector_of K (λ r n. pos (plus (matrix_product L a_hat.now (vector_coefficients s1.now) r) (vector_coefficients s2.now r) n)) }
+    ensures values { result ≡ vector_of K (λ r n. pos (key_vector L a_hat.now s1.now s2.now r n)) }
     ensures range { AreResidues K result }
 {
     let mut t = matrix_times_vector(a_hat, s1);
@@ -110,16 +100,6 @@ fn key_vector<const K: usize, const L: usize>(
         { full_reduce32(x + y) },
     );
     t
-}
-
-/// `tr`: the first 64 bytes of `H` over a public key's bytes (Algorithm 6, line 9).
-fn key_hash<const K: usize, const PK_LEN: usize, H: Xof>(rho: &[u8; 32], t1: &[R; K]) -> [u8; 64]
-    requires size { PK_LEN ≡ 32 + 320 * K }
-    requires range { All (λ w. InRange (pos 0) (pos 1023) w.0) t1.now }
-    ensures { result ≡ key_hash H.front rho.now t1.now }
-{
-    let pk: [u8; PK_LEN] = pk_encode(rho, t1);
-    hash::<H, 64>(&[pk.as_slice()])
 }
 
 /// `ML-DSA.KeyGen` (Algorithm 1): both keys of 32 bytes that the generator is asked for once. Refuses

@@ -1,15 +1,14 @@
 //! The rejection checks of an attempt of signing (FIPS 204, Algorithm 7, lines 18 to 32).
 #![tactic(auto)]
 
-ghost use Rattle.std.specs.Prelude.{◌≡◌, ◌⊎◌, ◌<◌, ◌≤◌, ◌+◌, ◌*◌, ◌%◌, ℕ, pos, nat_abs, nat_lt, ◌≤ℤ◌, Ok, Some, length, if◌then◌else◌};
+ghost use Rattle.std.specs.Prelude.{◌≡◌, ◌⊎◌, ◌<◌, ◌≤◌, ◌+◌, ◌%◌, ℕ, pos, nat_abs, nat_lt, ◌≤ℤ◌, Ok, Some, length};
 ghost use Rattle.fips204_base.specs.CentredValues.{centred, vector_norm};
-ghost use Rattle.fips204_base.specs.HintSpelling.{all_ones, ones};
+ghost use Rattle.fips204_base.specs.HintSpelling.{all_ones};
 ghost use Rattle.fips204_base.specs.Polynomials.{IsReduced, IsReducedVector, VectorWithin};
-ghost use Rattle.fips204_base.specs.Products.{plus, minus};
 ghost use Rattle.fips204_base.specs.Residues.{residue};
 ghost use Rattle.fips204_base.specs.Rounding.{low_bits};
 ghost use Rattle.fips204_base.specs.Vectors.{vector_coefficients, vector_of};
-ghost use Rattle.fips204.specs.Attempts.{checked_attempt, hint_bit, scaled};
+ghost use Rattle.fips204.specs.Attempts.{checked_attempt, hint_bit, w_minus_cs2, y_plus_cs1};
 ghost use Rattle.fips204.specs.Sets.{HasSizes, set_of};
 ghost use Rattle.fips204.specs.Signing.{attempt_answer};
 
@@ -20,54 +19,50 @@ use fips204_base::high_low::{low_bits, make_hint};
 use fips204_base::maps::{map_vector, update_vector_with, zip_vectors};
 use fips204_base::product::challenge_times_vector;
 
-/// The signature of an attempt with mask `y`, `w = A y`, commitment and challenge, or `None` where one of
-/// the checks rejects it.
-///
-/// Coefficients of `y` are in `[1 - gamma1, gamma1]`, those of `w` and `c` below `q` in absolute value.
-/// `K` and `L` are those of the set, and `LAMBDA_DIV4` and `SIG_LEN` its lengths.
-pub(crate) fn rejection_checks<
-    const K: usize,
-    const L: usize,
-    const LAMBDA_DIV4: usize,
-    const SIG_LEN: usize,
-    H,
-    G,
->(
-    p: &Params,
-    sk: &PrivateKey<K, L, H, G>,
-    y: &[R; L],
-    w: &[R; K],
-    c_tilde: &[u8; LAMBDA_DIV4],
-    c: &R,
-) -> Option<[u8; SIG_LEN]>
-    requires sizes { HasSizes p.now K L LAMBDA_DIV4 SIG_LEN }
-    requires mask { VectorWithin L 524288 y.now }
-    requires product { IsReducedVector K w.now }
-    requires challenge { IsReduced c.now.0 }
-    ensures { Ok result ≡ attempt_answer (checked_attempt (set_of p.now) sk.now y.now (vector_coefficients w.now) c_tilde.now (Some c.now)) }
-{
-    // z = y + c s1, with a norm below gamma1 - beta
-    let z = response(&sk.s1, y, c);
-    if !has_norm_below(&z, p.z_bound()) {
-        return None;
+impl<const K: usize, const L: usize, H, G> PrivateKey<K, L, H, G> {
+    /// The signature of an attempt with mask `y`, `w = A y`, commitment and challenge, or `None` where one of
+    /// the checks rejects it.
+    ///
+    /// Coefficients of `y` are in `[1 - gamma1, gamma1]`, those of `w` and `c` below `q` in absolute value.
+    /// `K` and `L` are those of the set, and `LAMBDA_DIV4` and `SIG_LEN` its lengths.
+    pub(crate) fn rejection_checks<const LAMBDA_DIV4: usize, const SIG_LEN: usize>(
+        &self,
+        p: &Params,
+        y: &[R; L],
+        w: &[R; K],
+        c_tilde: &[u8; LAMBDA_DIV4],
+        c: &R,
+    ) -> Option<[u8; SIG_LEN]>
+        requires sizes { HasSizes p.now K L LAMBDA_DIV4 SIG_LEN }
+        requires mask { VectorWithin L 524288 y.now }
+        requires product { IsReducedVector K w.now }
+        requires challenge { IsReduced c.now.0 }
+        ensures { Ok result
+            ≡ attempt_answer (checked_attempt (set_of p.now) self.now y.now (vector_coefficients w.now) c_tilde.now (Some c.now)) }
+    {
+        // z = y + c s1, with a norm below gamma1 - beta
+        let z = response(&self.s1, y, c);
+        if !has_norm_below(&z, p.z_bound()) {
+            return None;
+        }
+        // r0 = LowBits(w - c s2), with a norm below gamma2 - beta
+        let w_minus_cs2 = w_minus_cs2(&self.s2, w, c);
+        if !has_norm_below(&low_vector(p.gamma2, &w_minus_cs2), p.r0_bound()) {
+            return None;
+        }
+        // c t0, with a norm below gamma2
+        let ct0 = challenge_times_vector(c, &self.t0);
+        if !has_norm_below(&ct0, p.gamma2) {
+            return None;
+        }
+        // h = MakeHint(-c t0, w - c s2 + c t0), with at most omega ones
+        let h = hint(p.gamma2, &w_minus_cs2, &ct0);
+        if number_of_ones(&h) > p.omega as usize {
+            return None;
+        }
+        // sigEncode(c_tilde, z, h)
+        Some(sig_encode(p.gamma1, p.omega, c_tilde, &z, &h))
     }
-    // r0 = LowBits(w - c s2), with a norm below gamma2 - beta
-    let w_minus_cs2 = w_minus_cs2(&sk.s2, w, c);
-    if !has_norm_below(&low_vector(p.gamma2, &w_minus_cs2), p.r0_bound()) {
-        return None;
-    }
-    // c t0, with a norm below gamma2
-    let ct0 = challenge_times_vector(c, &sk.t0);
-    if !has_norm_below(&ct0, p.gamma2) {
-        return None;
-    }
-    // h = MakeHint(-c t0, w - c s2 + c t0), with at most omega ones
-    let h = hint(p.gamma2, &w_minus_cs2, &ct0);
-    if number_of_ones(&h) > p.omega as usize {
-        return None;
-    }
-    // sigEncode(c_tilde, z, h)
-    Some(sig_encode(p.gamma1, p.omega, c_tilde, &z, &h))
 }
 
 /// Whether the norm of a vector of at least one polynomial is below an exclusive bound. Coefficients are
@@ -87,7 +82,7 @@ fn response<const L: usize>(s1: &[R; L], y: &[R; L], c: &R) -> [R; L]
     requires private { IsReducedVector L s1.now }
     requires mask { VectorWithin L 524288 y.now }
     requires challenge { IsReduced c.now.0 }
-    ensures value { result ≡ vector_of L (λ r n. centred (pos (plus (vector_coefficients y.now r) (scaled c.now (vector_coefficients s1.now) r) n))) }
+    ensures value { result ≡ vector_of L (λ r n. centred (pos (y_plus_cs1 s1.now y.now c.now r n))) }
     ensures range { IsReducedVector L result }
 {
     let mut z = challenge_times_vector(c, s1);
@@ -110,7 +105,8 @@ fn w_minus_cs2<const K: usize>(s2: &[R; K], w: &[R; K], c: &R) -> [R; K]
     requires private { IsReducedVector K s2.now }
     requires product { IsReducedVector K w.now }
     requires challenge { IsReduced c.now.0 }
-    ensures values { (r n : ℕ) → r < K → n < 256 → vector_coefficients result r n ≡ minus (vector_coefficients w.now r) (scaled c.now (vector_coefficients s2.now) r) n }
+    ensures values { (r n : ℕ) → r < K → n < 256
+        → vector_coefficients result r n ≡ w_minus_cs2 s2.now (vector_coefficients w.now) c.now r n }
     ensures range { IsReducedVector K result }
 {
     let product = challenge_times_vector(c, s2);
@@ -130,18 +126,8 @@ fn low_vector<const K: usize>(gamma2: i32, v: &[R; K]) -> [R; K]
             requires { ((gamma2 ≡ pos 95232) ⊎ (gamma2 ≡ pos 261888)) × (nat_abs x ≤ 8380416) }
             ensures value { result ≡ low_bits (nat_abs gamma2) (residue x) }
             ensures small { nat_abs result ≤ 8380416 }
-        { low_coefficient(gamma2, x) },
+        { low_bits(gamma2, x) },
     )
-}
-
-/// `LowBits` of a coefficient.
-fn low_coefficient(gamma2: i32, x: i32) -> i32
-    requires set { (gamma2 ≡ pos 95232) ⊎ (gamma2 ≡ pos 261888) }
-    requires range { nat_abs x ≤ 8380416 }
-    ensures value { result ≡ low_bits (nat_abs gamma2) (residue x) }
-    ensures small { nat_abs result ≤ 8380416 }
-{
-    low_bits(gamma2, x)
 }
 
 /// The hint of `v = w - c s2` and `t = c t0`: `MakeHint` of `-t` and `v + t` at each coefficient.
@@ -158,18 +144,8 @@ fn hint<const K: usize>(gamma2: i32, v: &[R; K], t: &[R; K]) -> [R; K]
         |x, t|
             requires { ((gamma2 ≡ pos 95232) ⊎ (gamma2 ≡ pos 261888)) × (nat_abs x ≤ 8380416) × (nat_abs t ≤ 8380416) }
             ensures { result ≡ hint_bit (nat_abs gamma2) (residue x) (residue t) }
-        { hint_bit(gamma2, x, t) },
+        { if make_hint(gamma2, -t, x + t) { 1 } else { 0 } },
     )
-}
-
-/// `hint` at one coefficient.
-fn hint_bit(gamma2: i32, x: i32, t: i32) -> i32
-    requires set { (gamma2 ≡ pos 95232) ⊎ (gamma2 ≡ pos 261888) }
-    requires x { nat_abs x ≤ 8380416 }
-    requires t { nat_abs t ≤ 8380416 }
-    ensures { result ≡ hint_bit (nat_abs gamma2) (residue x) (residue t) }
-{
-    if make_hint(gamma2, -t, x + t) { 1 } else { 0 }
 }
 
 /// How many ones a hint has. `K` is at most 8.
@@ -179,20 +155,10 @@ fn number_of_ones<const K: usize>(h: &[R; K]) -> usize
 {
     let mut total = 0usize;
     for row in h {
-        total += ones_of(row);
-    }
-    total
-}
-
-/// How many ones a polynomial of a hint has.
-fn ones_of(row: &R) -> usize
-    ensures value { result ≡ length (ones row.now) }
-    ensures few { result ≤ 256 }
-{
-    let mut total = 0usize;
-    for n in 0..256 {
-        if row.0[n] > 0 {
-            total += 1;
+        for n in 0..256 {
+            if row.0[n] > 0 {
+                total += 1;
+            }
         }
     }
     total

@@ -6,7 +6,6 @@ ghost use Rattle.fips204_base.specs.Polynomials.{IsReducedMatrix};
 ghost use Rattle.fips204.specs.Sets.{HasSizes, set_of};
 ghost use Rattle.fips204.specs.Signing.{sign, sign_with};
 
-use super::attempt::attempt;
 use crate::types::{Params, PrivateKey, T};
 use fips204_base::Fault;
 use fips204_base::hashing::expand_a;
@@ -39,42 +38,33 @@ pub fn sign_internal<
 {
     // A = ExpandA(rho)
     let a_hat = expand_a::<K, L, G>(&sk.rho)?;
-    sign_with::<K, L, LAMBDA_DIV4, SIG_LEN, H, G>(p, &a_hat, sk, mu, rnd)
+    sk.sign_with::<LAMBDA_DIV4, SIG_LEN>(p, &a_hat, mu, rnd)
 }
 
-/// `sign_internal` with the matrix, whose values are below `q` in absolute value (lines 7 to 33).
-fn sign_with<
-    const K: usize,
-    const L: usize,
-    const LAMBDA_DIV4: usize,
-    const SIG_LEN: usize,
-    H: Xof,
-    G,
->(
-    p: &Params,
-    a_hat: &[[T; L]; K],
-    sk: &PrivateKey<K, L, H, G>,
-    mu: &[u8; 64],
-    rnd: &[u8; 32],
-) -> Result<[u8; SIG_LEN], Fault>
-    requires sizes { HasSizes p.now K L LAMBDA_DIV4 SIG_LEN }
-    requires matrix { IsReducedMatrix a_hat.now }
-    ensures { result ≡ sign_with (set_of p.now) H.front a_hat.now sk.now mu.now rnd.now }
-{
-    // rho'' = H(K || rnd || mu)
-    let seed = hash::<H, 64>(&[sk.key.as_slice(), rnd, mu]);
-    for n in 0..MAX_SIGN_ATTEMPTS {
-        // kappa = n l
-        if let Some(signature) = attempt::<K, L, LAMBDA_DIV4, SIG_LEN, H, G>(
-            p,
-            a_hat,
-            sk,
-            mu,
-            &seed,
-            n * L as u16,
-        )? {
-            return Ok(signature);
+impl<const K: usize, const L: usize, H: Xof, G> PrivateKey<K, L, H, G> {
+    /// `sign_internal` with the matrix, whose values are below `q` in absolute value (lines 7 to 33).
+    fn sign_with<const LAMBDA_DIV4: usize, const SIG_LEN: usize>(
+        &self,
+        p: &Params,
+        a_hat: &[[T; L]; K],
+        mu: &[u8; 64],
+        rnd: &[u8; 32],
+    ) -> Result<[u8; SIG_LEN], Fault>
+        requires sizes { HasSizes p.now K L LAMBDA_DIV4 SIG_LEN }
+        requires matrix { IsReducedMatrix a_hat.now }
+        ensures { result ≡ sign_with (set_of p.now) H.front a_hat.now self.now mu.now rnd.now }
+    {
+        // rho'' = H(K || rnd || mu)
+        let seed = hash::<H, 64>(&[self.key.as_slice(), rnd, mu]);
+        for n in 0..MAX_SIGN_ATTEMPTS {
+            // kappa = n l
+            let kappa = n * L as u16;
+            if let Some(signature) = self.attempt::<LAMBDA_DIV4, SIG_LEN>(
+                p, a_hat, mu, &seed, kappa,
+            )? {
+                return Ok(signature);
+            }
         }
+        Err(Fault::TooManyAttempts)
     }
-    Err(Fault::TooManyAttempts)
 }

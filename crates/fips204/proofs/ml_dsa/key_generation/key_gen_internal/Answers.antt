@@ -1,4 +1,4 @@
-use Rattle.std.proofs.Common.{rules, ◌≡◌, ◌∙◌, ◌+◌, ◌*◌, inl, inr, w32, ap, sym, refl, Some, None, Err}
+use Rattle.std.proofs.Common.{rules, arith, ◌≡◌, ◌∙◌, ◌+◌, ◌*◌, inl, inr, w32, ap, sym, refl, Some, None, Err}
 use Rattle.std.proofs.lemmas.Int.{to_z-of_z}
 use Rattle.fips204_base.specs.declared.fault.Fault.TheVariants.{SamplingLimit}
 use Rattle.fips204_base.specs.MatrixEntry.{sampled_matrix}
@@ -6,17 +6,26 @@ use Rattle.fips204_base.specs.SmallPolynomial.{small_vector}
 use Rattle.fips204_base.specs.Vectors.{IsVector}
 use Rattle.fips204_base.proofs.Sampled.{some_of_ok, none_of_err}
 use Rattle.fips204_base.proofs.Vectors.{vector-within}
-use Rattle.fips204.specs.KeyGeneration.{high_part, low_part}
+use Rattle.fips204.specs.KeyGeneration.{high_part, low_part, key_hash}
 use Rattle.fips204.specs.Sets.{set_of}
 use Rattle.fips204.proofs.Ranges.{matrix-within}
 use Rattle.fips204.proofs.ParameterSets.{limits, small_vector-parts, matrix-shape, eta_of_rows-small}
-use Rattle.fips204.proofs.KeyGeneration.{AreSampled, AreSeeds, generated-none, generated-some, key_vector-is, high_part-is, high_part-range, low_part-is, low_part-range}
+use Rattle.fips204.proofs.KeyGeneration.{AreSampled, AreSeeds, are_seeds, generated-none, generated-some, key_vector-is, high_part-is, high_part-range, low_part-is, low_part-range}
 use Rattle.fips204.proofs.ml_dsa.key_generation.key_gen_internal.Given.{Over}
-use Rattle.fips204.proofs.ml_dsa.key_generation.key_gen_internal.Goals.{After-key_seeds, After-power2round-t1}
+use Rattle.fips204.proofs.ml_dsa.key_generation.key_gen_internal.Goals.{After-part-key, After-power2round-t1}
 use Rattle.fips204.proofs.ml_dsa.key_generation.key_gen_internal.Goals as goal
 
-seeds-here : (g : Over) (c : After-key_seeds g) → AreSeeds (set_of c.args.p.now) g.H.Xof.front c.args.xi.now c.key_seeds.result.0 c.key_seeds.result.1 c.key_seeds.result.2
-seeds-here g c = record { matrix = c.key_seeds.ensures.matrix; vectors = c.key_seeds.ensures.vectors; masks = c.key_seeds.ensures.masks }
+seeds-here : (g : Over) (c : After-part-key g)
+    → AreSeeds (set_of c.args.p.now) g.H.Xof.front c.args.xi.now c.part-rho.result c.part-rho_prime.result c.part-key.result
+seeds-here g c =
+    are_seeds (set_of c.args.p.now) g.H.Xof.front c.args.xi.now c.hash-seeds.result _ _ _ (search rules)
+    c.part-rho.ensures c.part-rho_prime.ensures c.part-key.ensures
+
+pub overflow_cast-p : goal.overflow_cast-p
+overflow_cast-p g c = omega (arith, (limits c.args.p.now (search rules)).few_rows)
+
+pub overflow_cast-p-2 : goal.overflow_cast-p-2
+overflow_cast-p-2 g c = omega (arith, (limits c.args.p.now (search rules)).few_columns)
 
 pub expand_a-requires : goal.expand_a-requires
 expand_a-requires g c =
@@ -28,12 +37,12 @@ pub returns-in_err-a_hat : goal.returns-in_err-a_hat
 returns-in_err-a_hat g c =
     let p = set_of c.args.p.now in
     let H = g.H.Xof.front in
-    let seed = c.key_seeds.result.1 in
-    let fault = none_of_err (sampled_matrix g.G.Xof.front c.key_seeds.result.0 g.row.K g.row.L) c.in_err-a_hat.field-0.0 c.in_err-a_hat.ensures in
+    let seed = c.part-rho_prime.result in
+    let fault = none_of_err (sampled_matrix g.G.Xof.front c.part-rho.result g.row.K g.row.L) c.in_err-a_hat.field-0.0 c.in_err-a_hat.ensures in
     let refused : c.from_residual.result ≡ Err SamplingLimit = search rules in
-    let given : AreSampled p H g.G.Xof.front g.row.K g.row.L c.key_seeds.result.0 seed None (small_vector p.eta H seed 0 g.row.L) (small_vector p.eta H seed g.row.L g.row.K) =
+    let given : AreSampled p H g.G.Xof.front g.row.K g.row.L c.part-rho.result seed None (small_vector p.eta H seed 0 g.row.L) (small_vector p.eta H seed g.row.L g.row.K) =
     record { rows = c.requires.rows; columns = c.requires.columns; matrix = fault.0; first = refl; second = refl } in
-    refused ∙ sym (generated-none p H g.G.Xof.front c.args.xi.now c.key_seeds.result.0 seed c.key_seeds.result.2 g.row.K g.row.L _ _ _ (seeds-here g (goal.at.returns-in_err-a_hat g c).After-key_seeds) given (inl refl))
+    refused ∙ sym (generated-none p H g.G.Xof.front c.args.xi.now c.part-rho.result seed c.part-key.result g.row.K g.row.L _ _ _ (seeds-here g (goal.at.returns-in_err-a_hat g c).After-part-key) given (inl refl))
 
 pub expand_s-requires : goal.expand_s-requires
 expand_s-requires g c =
@@ -48,14 +57,14 @@ returns-in_err-s1 g c =
     let p = set_of c.args.p.now in
     let H = g.H.Xof.front in
     let E = to_z-of_z w32 c.args.p.now.eta (search rules) in
-    let seed = c.key_seeds.result.1 in
+    let seed = c.part-rho_prime.result in
     let limit = c.in_err-s1.ensures.limit in
     let fault = rw E at limit in
     let refused : c.from_residual-in_err-s1.result ≡ Err SamplingLimit = search rules in
-    let there = some_of_ok (sampled_matrix g.G.Xof.front c.key_seeds.result.0 g.row.K g.row.L) c.in_ok-a_hat.a_hat c.in_ok-a_hat.ensures in
-    let given : AreSampled p H g.G.Xof.front g.row.K g.row.L c.key_seeds.result.0 seed (Some c.in_ok-a_hat.a_hat) (small_vector p.eta H seed 0 g.row.L) (small_vector p.eta H seed g.row.L g.row.K) =
+    let there = some_of_ok (sampled_matrix g.G.Xof.front c.part-rho.result g.row.K g.row.L) c.in_ok-a_hat.a_hat c.in_ok-a_hat.ensures in
+    let given : AreSampled p H g.G.Xof.front g.row.K g.row.L c.part-rho.result seed (Some c.in_ok-a_hat.a_hat) (small_vector p.eta H seed 0 g.row.L) (small_vector p.eta H seed g.row.L g.row.K) =
     record { rows = c.requires.rows; columns = c.requires.columns; matrix = there; first = refl; second = refl } in
-    refused ∙ sym (generated-none p H g.G.Xof.front c.args.xi.now c.key_seeds.result.0 seed c.key_seeds.result.2 g.row.K g.row.L _ _ _ (seeds-here g (goal.at.returns-in_err-s1 g c).After-key_seeds) given (inr fault.1))
+    refused ∙ sym (generated-none p H g.G.Xof.front c.args.xi.now c.part-rho.result seed c.part-key.result g.row.K g.row.L _ _ _ (seeds-here g (goal.at.returns-in_err-s1 g c).After-part-key) given (inr fault.1))
 
 pub key_vector-requires : goal.key_vector-requires
 key_vector-requires g c =
@@ -66,7 +75,7 @@ key_vector-requires g c =
     let first = small_vector-parts p _ _ g.row.K _ _ c.in_ok-s1.s1 (search rules) c.requires.rows (rw E at s1) in
     let second = small_vector-parts p _ _ g.row.K _ _ c.in_ok-s1.s2 (search rules) c.requires.rows (rw E at s2) in
     let shape = matrix-shape p g.row.K g.row.L (search rules) c.requires.rows c.requires.columns in
-    let there = some_of_ok (sampled_matrix g.G.Xof.front c.key_seeds.result.0 g.row.K g.row.L) c.in_ok-a_hat.a_hat c.in_ok-a_hat.ensures in
+    let there = some_of_ok (sampled_matrix g.G.Xof.front c.part-rho.result g.row.K g.row.L) c.in_ok-a_hat.a_hat c.in_ok-a_hat.ensures in
     let eta = eta_of_rows-small g.row.K in
     (shape.0, (search rules, (search rules, (search rules, (shape.1.1, (matrix-within _ _ _ _ _ there, (vector-within _ _ _ _ _ eta eta first, vector-within _ _ _ _ _ eta eta second)))))))
 
@@ -84,10 +93,10 @@ low_part-here g c =
 high_part-vector : (g : Over) (c : After-power2round-t1 g) → IsVector g.row.K 0 1023 c.power2round-t1.result.0
 high_part-vector g c = rw (high_part-here g c, c.requires.rows) (high_part-range (set_of c.args.p.now) c.in_ok-a_hat.a_hat c.in_ok-s1.s1 c.in_ok-s1.s2)
 
-pub key_hash-tr-requires : goal.key_hash-tr-requires
-key_hash-tr-requires g c =
+pub pk_encode-pk-requires : goal.pk_encode-pk-requires
+pk_encode-pk-requires g c =
     let size : g.row.PK_LEN ≡ 32 + 320 * g.row.K = c.requires.size ∙ ap (λ k. 32 + 320 * k) (sym c.requires.rows) in
-    (search rules, (size, (high_part-vector g (goal.at.key_hash-tr-requires g c).After-power2round-t1).range))
+    (search rules, (search rules, (size, (high_part-vector g (goal.at.pk_encode-pk-requires g c).After-power2round-t1).range)))
 
 pub invariant_of-public : goal.invariant_of-public
 invariant_of-public g c = high_part-vector g (goal.at.invariant_of-public g c).After-power2round-t1
@@ -112,14 +121,15 @@ returns g c =
     let p = set_of c.args.p.now in
     let H = g.H.Xof.front in
     let E = to_z-of_z w32 c.args.p.now.eta (search rules) in
-    let seed = c.key_seeds.result.1 in
+    let seed = c.part-rho_prime.result in
     let s1 = c.in_ok-s1.ensures.s1 in
     let s2 = c.in_ok-s1.ensures.s2 in
     let first = rw E at s1 in
     let second = rw E at s2 in
-    let there = some_of_ok (sampled_matrix g.G.Xof.front c.key_seeds.result.0 g.row.K g.row.L) c.in_ok-a_hat.a_hat c.in_ok-a_hat.ensures in
-    let given : AreSampled p H g.G.Xof.front g.row.K g.row.L c.key_seeds.result.0 seed (Some c.in_ok-a_hat.a_hat) (Some c.in_ok-s1.s1) (Some c.in_ok-s1.s2) =
+    let there = some_of_ok (sampled_matrix g.G.Xof.front c.part-rho.result g.row.K g.row.L) c.in_ok-a_hat.a_hat c.in_ok-a_hat.ensures in
+    let given : AreSampled p H g.G.Xof.front g.row.K g.row.L c.part-rho.result seed (Some c.in_ok-a_hat.a_hat) (Some c.in_ok-s1.s1) (Some c.in_ok-s1.s2) =
     record { rows = c.requires.rows; columns = c.requires.columns; matrix = there; first = first; second = second } in
     let k = (goal.at.returns g c).After-power2round-t1 in
-    sym (generated-some p H g.G.Xof.front c.args.xi.now c.key_seeds.result.0 seed c.key_seeds.result.2 c.key_hash-tr.result g.row.K g.row.L c.in_ok-a_hat.a_hat c.in_ok-s1.s1 c.in_ok-s1.s2
-    c.power2round-t1.result.0 c.power2round-t1.result.1 (seeds-here g (goal.at.returns g c).After-key_seeds) given (high_part-here g k) (low_part-here g k) c.key_hash-tr.ensures)
+    let hash : c.hash-tr.result ≡ key_hash H c.part-rho.result c.power2round-t1.result.0 = search rules in
+    sym (generated-some p H g.G.Xof.front c.args.xi.now c.part-rho.result seed c.part-key.result c.hash-tr.result g.row.K g.row.L c.in_ok-a_hat.a_hat c.in_ok-s1.s1 c.in_ok-s1.s2
+    c.power2round-t1.result.0 c.power2round-t1.result.1 (seeds-here g (goal.at.returns g c).After-part-key) given (high_part-here g k) (low_part-here g k) hash)

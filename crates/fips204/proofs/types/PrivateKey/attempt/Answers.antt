@@ -13,9 +13,9 @@ use Rattle.fips204.specs.Sets.{set_of}
 use Rattle.fips204.proofs.Attempts.{attempt-is, checked_attempt-limit, mask-within, high-range}
 use Rattle.fips204.proofs.ParameterSets.{limits}
 use Rattle.fips204.proofs.Ranges.{challenge-reduced}
-use Rattle.fips204.proofs.ml_dsa.attempt.attempt.Given.{Over}
-use Rattle.fips204.proofs.ml_dsa.attempt.attempt.Goals as goal
-use Rattle.fips204.proofs.ml_dsa.attempt.attempt.Goals.{After-expand_mask-y, After-commitment-c_tilde}
+use Rattle.fips204.proofs.types.PrivateKey.attempt.Given.{Over}
+use Rattle.fips204.proofs.types.PrivateKey.attempt.Goals as goal
+use Rattle.fips204.proofs.types.PrivateKey.attempt.Goals.{After-expand_mask-y, After-commitment-c_tilde}
 
 small : (g : Over) (c : After-expand_mask-y g) → VectorWithin g.row.L 524288 c.expand_mask-y.result
 small g c =
@@ -23,14 +23,14 @@ small g c =
     mask-within p.gamma1 g.H.Xof.front c.args.seed.now g.row.L c.args.kappa c.expand_mask-y.result (limits p (search rules)).mask (rw (to_z-of_z w32 p.gamma1 (search rules)) at c.expand_mask-y.ensures)
 
 -- the attempt by its parts
-whole : (g : Over) (c : After-commitment-c_tilde g) → attempt (set_of c.args.p.now) g.H.Xof.front c.args.a_hat.now c.args.sk.now c.args.mu.now c.args.seed.now c.args.kappa
-    ≡ checked_attempt (set_of c.args.p.now) c.args.sk.now c.expand_mask-y.result (vector_coefficients c.matrix_times_vector-w.result) c.commitment-c_tilde.result
+whole : (g : Over) (c : After-commitment-c_tilde g) → attempt (set_of c.args.p.now) g.H.Xof.front c.args.a_hat.now c.args.self.now c.args.mu.now c.args.seed.now c.args.kappa
+    ≡ checked_attempt (set_of c.args.p.now) c.args.self.now c.expand_mask-y.result (vector_coefficients c.matrix_times_vector-w.result) c.commitment-c_tilde.result
     (challenge (nat_abs c.args.p.now.tau) (g.H.Xof.front c.commitment-c_tilde.result))
 whole g c =
     let p = c.args.p.now in
     let y : c.expand_mask-y.result ≡ mask (nat_abs p.gamma1) g.H.Xof.front c.args.seed.now g.row.L c.args.kappa = rw (to_z-of_z w32 p.gamma1 (search rules)) at c.expand_mask-y.ensures in
     let w1 : c.high_vector-w1.result ≡ vector_of g.row.K (λ r n. pos (high_bits (nat_abs p.gamma2) (vector_coefficients c.matrix_times_vector-w.result r n))) = rw (to_z-of_z w32 p.gamma2 (search rules)) at c.high_vector-w1.ensures in
-    attempt-is (set_of p) g.H.Xof.front c.args.a_hat.now c.args.sk.now c.args.mu.now c.args.seed.now c.args.kappa g.row.K g.row.L c.expand_mask-y.result c.matrix_times_vector-w.result
+    attempt-is (set_of p) g.H.Xof.front c.args.a_hat.now c.args.self.now c.args.mu.now c.args.seed.now c.args.kappa g.row.K g.row.L c.expand_mask-y.result c.matrix_times_vector-w.result
     c.high_vector-w1.result c.commitment-c_tilde.result c.requires.sizes.0 c.requires.sizes.1 y c.matrix_times_vector-w.ensures.values w1 c.commitment-c_tilde.ensures
 
 pub expand_mask-y-requires : goal.expand_mask-y-requires
@@ -68,7 +68,7 @@ returns-in_err-c g c =
     let none = (none_of_err (challenge (nat_abs p.tau) front) c.in_err-c.field-0.0 sampled).0 in
     let refused : c.from_residual.result ≡ Err SamplingLimit = search rules in
     refused
-    ∙ sym (ap attempt_answer (whole g (goal.at.returns-in_err-c g c).After-commitment-c_tilde) ∙ checked_attempt-limit (set_of p) c.args.sk.now c.expand_mask-y.result (vector_coefficients c.matrix_times_vector-w.result) c.commitment-c_tilde.result _ none)
+    ∙ sym (ap attempt_answer (whole g (goal.at.returns-in_err-c g c).After-commitment-c_tilde) ∙ checked_attempt-limit (set_of p) c.args.self.now c.expand_mask-y.result (vector_coefficients c.matrix_times_vector-w.result) c.commitment-c_tilde.result _ none)
 
 pub rejection_checks-requires : goal.rejection_checks-requires
 rejection_checks-requires g c =
@@ -86,4 +86,4 @@ returns g c =
     let sampled : Ok c.in_ok-c.c ≡ ok_or (challenge (nat_abs p.tau) front) SamplingLimit = rw (to_z-of_z w32 p.tau (search rules)) at c.in_ok-c.ensures in
     let there = some_of_ok (challenge (nat_abs p.tau) front) c.in_ok-c.c sampled in
     c.rejection_checks.ensures
-    ∙ sym (ap attempt_answer (whole g (goal.at.returns g c).After-commitment-c_tilde ∙ ap (checked_attempt (set_of p) c.args.sk.now c.expand_mask-y.result (vector_coefficients c.matrix_times_vector-w.result) c.commitment-c_tilde.result) there))
+    ∙ sym (ap attempt_answer (whole g (goal.at.returns g c).After-commitment-c_tilde ∙ ap (checked_attempt (set_of p) c.args.self.now c.expand_mask-y.result (vector_coefficients c.matrix_times_vector-w.result) c.commitment-c_tilde.result) there))

@@ -2,7 +2,7 @@ use Rattle.std.proofs.Common.{rules, sym, ◌∙◌, w32, ap, nat_abs}
 use Rattle.std.proofs.lemmas.Int.{to_z-of_z}
 use Rattle.fips204.specs.Keys.{eta_of_rows}
 use Rattle.fips204.proofs.ParameterSets.{limits, private_key-size, parts_of_key}
-use Rattle.fips204.proofs.ml_dsa.private_key.expand_private.Goals as goal
+use Rattle.fips204.proofs.ml_dsa.expand_private.Goals as goal
 
 pub sk_decode-requires : goal.sk_decode-requires
 sk_decode-requires g c =

@@ -1,16 +1,20 @@
-use Rattle.std.proofs.Common.{rules, arith, ◌≡◌, pos, true, false, length, get_or, ◌∙◌, ap, sym, w32, SFits, add-one, length-append, [], ◌∷◌}
+use Rattle.std.proofs.Common.{rules, arith, ◌≡◌, pos, true, false, length, get_or, ◌∙◌, ap, w32, SFits, add-one, length-append, [], ◌∷◌}
 use Rattle.std.proofs.lemmas.Int.{to_z-of_z}
+use Rattle.fips204_base.specs.declared.types.R.{R}
 use Rattle.fips204_base.specs.HintSpelling.{ones_below, is_one}
 use Rattle.fips204_base.proofs.HintSpelling.{ones-none, is_one-test, ones-keep, ones-skip}
-use Rattle.fips204.proofs.ml_dsa.rejection.ones_of.Goals as goal
-use Rattle.fips204.proofs.ml_dsa.rejection.ones_of.Goals.{then-row-n-gt0, else-row-n-gt0}
+use Rattle.fips204.proofs.ml_dsa.rejection.number_of_ones.Goals as goal
+use Rattle.fips204.proofs.ml_dsa.rejection.number_of_ones.Goals.{then-row-n-gt0, else-row-n-gt0}
 
 pub loop-n-init : goal.loop-n-init
-loop-n-init c = let none = ap length (ones-none c.args.row.now) in record { value = sym none; few = omega arith }
+loop-n-init g c =
+    let row : R = get_or c.args.h.now c.loop-row.row-index record { 0 = [] } in
+    let none = ap length (ones-none row) in
+    record { value = omega (arith, none); few = omega arith }
 
 pub loop-n-preserved : goal.loop-n-preserved
-loop-n-preserved c =
-    let row = c.args.row.now in
+loop-n-preserved g c =
+    let row : R = get_or c.args.h.now c.loop-row.row-index record { 0 = [] } in
     let n = c.loop-n.n in
     let fits : SFits w32 (get_or row.0 n (pos 0)) = search rules in
     let next = ap (λ m. length (ones_below row m)) (add-one n) in
@@ -22,5 +26,5 @@ loop-n-preserved c =
       | else-row-n-gt0 w ↦
           let not : is_one row n ≡ false = is_one-test row n _ false (to_z-of_z w32 _ fits) w.if-row-n-gt0.false in
           let same = next ∙ ap length (ones-skip row n not) in
-          rw (w.total-is) (record { value = c.loop-n.invariant.value ∙ sym same; few = omega (arith, c.loop-n.invariant.few) })
+          rw (w.total-is) (record { value = omega (arith, same, c.loop-n.invariant.value); few = omega (arith, c.loop-n.invariant.few) })
     ]

@@ -5,55 +5,55 @@ use Rattle.std.proofs.lemmas.Bool.{ltb-true}
 use Rattle.fips204_base.specs.HintSpelling.{all_ones}
 use Rattle.fips204_base.specs.CentredValues.{vector_norm}
 use Rattle.fips204_base.specs.Vectors.{vector_coefficients}
-use Rattle.fips204.specs.Attempts.{response, low_vector, ct0, hint_vector}
+use Rattle.fips204.specs.Attempts.{response, low_vector, ct0, hint_vector, y_plus_cs1}
 use Rattle.fips204.specs.Keys.{PrivateParts}
 use Rattle.fips204.specs.Sets.{set_of}
-use Rattle.fips204.proofs.RejectionChecks.{rejected-first, rejected-second, rejected-third, rejected-fourth, kept, masked, response-is, low-is, ct0-is, hint-is, short-within, low-within, response-range, hint-range, signature_size}
+use Rattle.fips204.proofs.RejectionChecks.{rejected-first, rejected-second, rejected-third, rejected-fourth, kept, response-is, low-is, ct0-is, hint-is, short-within, low-within, response-range, hint-range, signature_size}
 use Rattle.fips204.proofs.ParameterSets.{limits, rounding-some, rows}
 use Rattle.fips204.proofs.Ranges.{whole_vector}
-use Rattle.fips204.proofs.ml_dsa.rejection.rejection_checks.Given.{Over}
-use Rattle.fips204.proofs.ml_dsa.rejection.rejection_checks.Goals as goal
-use Rattle.fips204.proofs.ml_dsa.rejection.rejection_checks.Goals.{After-has_norm_below, After-has_norm_below-2, After-has_norm_below-3, After-number_of_ones}
+use Rattle.fips204.proofs.types.PrivateKey.rejection_checks.Given.{Over}
+use Rattle.fips204.proofs.types.PrivateKey.rejection_checks.Goals as goal
+use Rattle.fips204.proofs.types.PrivateKey.rejection_checks.Goals.{After-has_norm_below, After-has_norm_below-2, After-has_norm_below-3, After-number_of_ones}
 
 -- the checks that the calls answer
-first : (g : Over) (c : After-has_norm_below g) → c.has_norm_below.result ≡ nat_lt (vector_norm (response (set_of c.args.p.now) c.args.sk.now c.args.y.now c.args.c.now)) (nat_abs c.args.p.now.gamma1 - nat_abs c.args.p.now.beta)
+first : (g : Over) (c : After-has_norm_below g) → c.has_norm_below.result ≡ nat_lt (vector_norm (response (set_of c.args.p.now) c.args.self.now c.args.y.now c.args.c.now)) (nat_abs c.args.p.now.gamma1 - nat_abs c.args.p.now.beta)
 first g c =
     let p = c.args.p.now in
     let bound = to_z-of_z w32 c.z_bound.result (search rules) ∙ c.z_bound.ensures in
-    let own = ap (λ (k : PrivateParts). k.s1) c.sk.view_is in
+    let own = ap (λ (k : PrivateParts). k.s1) c.self.view_is in
     (rw bound at c.has_norm_below.ensures)
-    ∙ ap (λ v. nat_lt (vector_norm v) (nat_abs p.gamma1 - nat_abs p.beta)) (response-is (set_of p) c.args.sk.now c.args.y.now c.args.c.now c.sk.inside.s1 c.response-z.result g.row.L own c.requires.sizes.1 c.response-z.ensures.value)
+    ∙ ap (λ v. nat_lt (vector_norm v) (nat_abs p.gamma1 - nat_abs p.beta)) (response-is (set_of p) c.args.self.now c.args.y.now c.args.c.now c.self.inside.s1 c.response-z.result g.row.L own c.requires.sizes.1 c.response-z.ensures.value)
 
-second : (g : Over) (c : After-has_norm_below-2 g) → c.has_norm_below-2.result ≡ nat_lt (vector_norm (low_vector (set_of c.args.p.now) c.args.sk.now (vector_coefficients c.args.w.now) c.args.c.now)) (nat_abs c.args.p.now.gamma2 - nat_abs c.args.p.now.beta)
+second : (g : Over) (c : After-has_norm_below-2 g) → c.has_norm_below-2.result ≡ nat_lt (vector_norm (low_vector (set_of c.args.p.now) c.args.self.now (vector_coefficients c.args.w.now) c.args.c.now)) (nat_abs c.args.p.now.gamma2 - nat_abs c.args.p.now.beta)
 second g c =
     let p = c.args.p.now in
     let bound = to_z-of_z w32 c.r0_bound.result (search rules) ∙ c.r0_bound.ensures in
     let gamma2 = to_z-of_z w32 p.gamma2 (search rules) in
-    let own = ap (λ (k : PrivateParts). k.s2) c.sk.view_is in
+    let own = ap (λ (k : PrivateParts). k.s2) c.self.view_is in
     (rw bound at c.has_norm_below-2.ensures)
-    ∙ ap (λ v. nat_lt (vector_norm v) (nat_abs p.gamma2 - nat_abs p.beta)) ((rw gamma2 at c.low_vector.ensures.value) ∙ low-is (set_of p) c.args.sk.now (vector_coefficients c.args.w.now) c.args.c.now _ _ _ own c.requires.sizes.0 c.w_minus_cs2-w_minus_cs2.ensures.values)
+    ∙ ap (λ v. nat_lt (vector_norm v) (nat_abs p.gamma2 - nat_abs p.beta)) ((rw gamma2 at c.low_vector.ensures.value) ∙ low-is (set_of p) c.args.self.now (vector_coefficients c.args.w.now) c.args.c.now _ _ _ own c.requires.sizes.0 c.w_minus_cs2-w_minus_cs2.ensures.values)
 
-third : (g : Over) (c : After-has_norm_below-3 g) → c.has_norm_below-3.result ≡ nat_lt (vector_norm (ct0 (set_of c.args.p.now) c.args.sk.now c.args.c.now)) (nat_abs c.args.p.now.gamma2)
+third : (g : Over) (c : After-has_norm_below-3 g) → c.has_norm_below-3.result ≡ nat_lt (vector_norm (ct0 (set_of c.args.p.now) c.args.self.now c.args.c.now)) (nat_abs c.args.p.now.gamma2)
 third g c =
     let p = c.args.p.now in
     let gamma2 = to_z-of_z w32 p.gamma2 (search rules) in
-    let own = ap (λ (k : PrivateParts). k.t0) c.sk.view_is in
+    let own = ap (λ (k : PrivateParts). k.t0) c.self.view_is in
     let t = c.challenge_times_vector-ct0 in
     (rw gamma2 at c.has_norm_below-3.ensures)
-    ∙ ap (λ v. nat_lt (vector_norm v) (nat_abs p.gamma2)) (ct0-is (set_of p) c.args.sk.now c.args.c.now _ _ _ own c.requires.sizes.0 (whole_vector g.row.K _ t.result (search rules) t.type_inv t.ensures.values))
+    ∙ ap (λ v. nat_lt (vector_norm v) (nat_abs p.gamma2)) (ct0-is (set_of p) c.args.self.now c.args.c.now _ _ _ own c.requires.sizes.0 (whole_vector g.row.K _ t.result (search rules) t.type_inv t.ensures.values))
 
-hint_of : (g : Over) (c : After-number_of_ones g) → c.hint-h.result ≡ hint_vector (set_of c.args.p.now) c.args.sk.now (vector_coefficients c.args.w.now) c.args.c.now
+hint_of : (g : Over) (c : After-number_of_ones g) → c.hint-h.result ≡ hint_vector (set_of c.args.p.now) c.args.self.now (vector_coefficients c.args.w.now) c.args.c.now
 hint_of g c =
     let p = c.args.p.now in
     let gamma2 = to_z-of_z w32 p.gamma2 (search rules) in
-    let second = ap (λ (k : PrivateParts). k.s2) c.sk.view_is in
-    let low = ap (λ (k : PrivateParts). k.t0) c.sk.view_is in
-    hint-is (set_of p) c.args.sk.now (vector_coefficients c.args.w.now) c.args.c.now _ _ _ _ _ _ second low c.requires.sizes.0 c.w_minus_cs2-w_minus_cs2.ensures.values c.challenge_times_vector-ct0.ensures.values
+    let second = ap (λ (k : PrivateParts). k.s2) c.self.view_is in
+    let low = ap (λ (k : PrivateParts). k.t0) c.self.view_is in
+    hint-is (set_of p) c.args.self.now (vector_coefficients c.args.w.now) c.args.c.now _ _ _ _ _ _ second low c.requires.sizes.0 c.w_minus_cs2-w_minus_cs2.ensures.values c.challenge_times_vector-ct0.ensures.values
     (rw gamma2 at c.hint-h.ensures)
 
 pub response-z-requires : goal.response-z-requires
 response-z-requires g c =
-    (search rules, (short-within g.row.K g.row.L c.sk.inside.s1 c.sk.invariant.first, (c.requires.mask, c.requires.challenge)))
+    (search rules, (short-within g.row.K g.row.L c.self.inside.s1 c.self.invariant.first, (c.requires.mask, c.requires.challenge)))
 
 pub has_norm_below-requires : goal.has_norm_below-requires
 has_norm_below-requires g c =
@@ -62,7 +62,7 @@ has_norm_below-requires g c =
 
 pub w_minus_cs2-w_minus_cs2-requires : goal.w_minus_cs2-w_minus_cs2-requires
 w_minus_cs2-w_minus_cs2-requires g c =
-    (search rules, (short-within g.row.K g.row.K c.sk.inside.s2 c.sk.invariant.second, (c.requires.product, c.requires.challenge)))
+    (search rules, (short-within g.row.K g.row.K c.self.inside.s2 c.self.invariant.second, (c.requires.product, c.requires.challenge)))
 
 pub low_vector-requires : goal.low_vector-requires
 low_vector-requires g c =
@@ -76,7 +76,7 @@ has_norm_below-requires-2 g c =
 
 pub challenge_times_vector-ct0-requires : goal.challenge_times_vector-ct0-requires
 challenge_times_vector-ct0-requires g c =
-    (search rules, (c.requires.challenge, low-within g.row.K c.sk.inside.t0 c.sk.invariant.low))
+    (search rules, (c.requires.challenge, low-within g.row.K c.self.inside.t0 c.self.invariant.low))
 
 pub has_norm_below-requires-3 : goal.has_norm_below-requires-3
 has_norm_below-requires-3 g c =
@@ -106,18 +106,18 @@ overflow_cast-p g c =
 pub returns-then-not-has_norm_below : goal.returns-then-not-has_norm_below
 returns-then-not-has_norm_below g c =
     let at = goal.at.returns-then-not-has_norm_below g c in
-    rejected-first (set_of c.args.p.now) c.args.sk.now c.args.y.now _ _ c.args.c.now (sym c.if-not-has_norm_below.true ∙ first g at.After-has_norm_below)
+    rejected-first (set_of c.args.p.now) c.args.self.now c.args.y.now _ _ c.args.c.now (sym c.if-not-has_norm_below.true ∙ first g at.After-has_norm_below)
 
 pub returns-then-not-has_norm_below-2 : goal.returns-then-not-has_norm_below-2
 returns-then-not-has_norm_below-2 g c =
     let at = goal.at.returns-then-not-has_norm_below-2 g c in
-    rejected-second (set_of c.args.p.now) c.args.sk.now c.args.y.now _ _ c.args.c.now (sym c.if-not-has_norm_below.false ∙ first g at.After-has_norm_below)
+    rejected-second (set_of c.args.p.now) c.args.self.now c.args.y.now _ _ c.args.c.now (sym c.if-not-has_norm_below.false ∙ first g at.After-has_norm_below)
     (sym c.if-not-has_norm_below-2.true ∙ second g at.After-has_norm_below-2)
 
 pub returns-then-not-has_norm_below-3 : goal.returns-then-not-has_norm_below-3
 returns-then-not-has_norm_below-3 g c =
     let at = goal.at.returns-then-not-has_norm_below-3 g c in
-    rejected-third (set_of c.args.p.now) c.args.sk.now c.args.y.now _ _ c.args.c.now (sym c.if-not-has_norm_below.false ∙ first g at.After-has_norm_below)
+    rejected-third (set_of c.args.p.now) c.args.self.now c.args.y.now _ _ c.args.c.now (sym c.if-not-has_norm_below.false ∙ first g at.After-has_norm_below)
     (sym c.if-not-has_norm_below-2.false ∙ second g at.After-has_norm_below-2) (sym c.if-not-has_norm_below-3.true ∙ third g at.After-has_norm_below-3)
 
 pub returns-then-number_of_ones-p : goal.returns-then-number_of_ones-p
@@ -125,7 +125,7 @@ returns-then-number_of_ones-p g c =
     let at = goal.at.returns-then-number_of_ones-p g c in
     let omega_is = to_z-of_z w32 c.args.p.now.omega (search rules) in
     let count = c.number_of_ones.ensures ∙ ap (λ h. length (all_ones h)) (hint_of g at.After-number_of_ones) in
-    rejected-fourth (set_of c.args.p.now) c.args.sk.now c.args.y.now _ _ c.args.c.now (sym c.if-not-has_norm_below.false ∙ first g at.After-has_norm_below)
+    rejected-fourth (set_of c.args.p.now) c.args.self.now c.args.y.now _ _ c.args.c.now (sym c.if-not-has_norm_below.false ∙ first g at.After-has_norm_below)
     (sym c.if-not-has_norm_below-2.false ∙ second g at.After-has_norm_below-2) (sym c.if-not-has_norm_below-3.false ∙ third g at.After-has_norm_below-3)
     (rw (omega_is, count) at c.if-number_of_ones-p.true)
 
@@ -137,8 +137,9 @@ sig_encode-requires g c =
     let gamma1 = to_z-of_z w32 p.gamma1 (search rules) in
     let gamma2 = to_z-of_z w32 p.gamma2 (search rules) in
     let omega_is = to_z-of_z w32 p.omega (search rules) in
-    let own = ap (λ (k : PrivateParts). k.s1) c.sk.view_is in
-    let z = response-is (set_of p) c.args.sk.now c.args.y.now c.args.c.now _ _ _ own c.requires.sizes.1 c.response-z.ensures.value in
+    let hint = rw gamma2 at c.hint-h.ensures in
+    let own = ap (λ (k : PrivateParts). k.s1) c.self.view_is in
+    let z = response-is (set_of p) c.args.self.now c.args.y.now c.args.c.now _ _ _ own c.requires.sizes.1 c.response-z.ensures.value in
     let test = sym c.if-not-has_norm_below.false ∙ first g at.After-has_norm_below ∙ ap (λ v. nat_lt (vector_norm v) (nat_abs p.gamma1 - nat_abs p.beta)) (sym z) in (
       search rules,
       (
@@ -156,8 +157,8 @@ sig_encode-requires g c =
                   (
                     rw (gamma1, omega_is) (signature_size p _ _ _ _ known.mask c.requires.sizes.0 c.requires.sizes.1 c.requires.sizes.2 c.requires.sizes.3),
                     (
-                      rw gamma1 (response-range p.gamma1 (nat_abs p.gamma1 - nat_abs p.beta) g.row.L (λ r n. pos (masked c.args.y.now c.args.c.now c.sk.inside.s1 r n)) c.response-z.result known.mask (omega arith) c.response-z.ensures.value (ltb-true _ _ (sym test))),
-                      (hint-range g.row.K (nat_abs p.gamma2) (vector_coefficients c.w_minus_cs2-w_minus_cs2.result) (vector_coefficients c.challenge_times_vector-ct0.result) c.hint-h.result (rw gamma2 at c.hint-h.ensures), rw c.number_of_ones.ensures at c.if-number_of_ones-p.false),
+                      rw gamma1 (response-range p.gamma1 (nat_abs p.gamma1 - nat_abs p.beta) g.row.L (λ r n. pos (y_plus_cs1 c.self.inside.s1 c.args.y.now c.args.c.now r n)) c.response-z.result known.mask (omega arith) c.response-z.ensures.value (ltb-true _ _ (sym test))),
+                      (rw hint (hint-range g.row.K (nat_abs p.gamma2) (vector_coefficients c.w_minus_cs2-w_minus_cs2.result) (vector_coefficients c.challenge_times_vector-ct0.result)).range, rw c.number_of_ones.ensures at c.if-number_of_ones-p.false),
                     ),
                   ),
                 ),
@@ -174,11 +175,11 @@ returns g c =
     let at = goal.at.returns g c in
     let gamma1 = to_z-of_z w32 p.gamma1 (search rules) in
     let omega_is = to_z-of_z w32 p.omega (search rules) in
-    let own = ap (λ (k : PrivateParts). k.s1) c.sk.view_is in
-    let z = response-is (set_of p) c.args.sk.now c.args.y.now c.args.c.now _ _ _ own c.requires.sizes.1 c.response-z.ensures.value in
+    let own = ap (λ (k : PrivateParts). k.s1) c.self.view_is in
+    let z = response-is (set_of p) c.args.self.now c.args.y.now c.args.c.now _ _ _ own c.requires.sizes.1 c.response-z.ensures.value in
     let h = hint_of g at.After-number_of_ones in
     let count = c.number_of_ones.ensures ∙ ap (λ h. length (all_ones h)) h in
     ap (λ s. Ok (Some s)) (rw (gamma1, omega_is, z, h) at c.sig_encode.ensures)
-    ∙ kept (set_of p) c.args.sk.now c.args.y.now (vector_coefficients c.args.w.now) c.args.c_tilde.now c.args.c.now (sym c.if-not-has_norm_below.false ∙ first g at.After-has_norm_below)
+    ∙ kept (set_of p) c.args.self.now c.args.y.now (vector_coefficients c.args.w.now) c.args.c_tilde.now c.args.c.now (sym c.if-not-has_norm_below.false ∙ first g at.After-has_norm_below)
     (sym c.if-not-has_norm_below-2.false ∙ second g at.After-has_norm_below-2) (sym c.if-not-has_norm_below-3.false ∙ third g at.After-has_norm_below-3)
     (rw (omega_is, count) at c.if-number_of_ones-p.false)

@@ -1,11 +1,11 @@
 use Rattle.std.proofs.Common.{rules, ◌∙◌, w32}
 use Rattle.std.proofs.lemmas.Int.{to_z-of_z}
 use Rattle.fips204.proofs.RejectionChecks.{low_bits-small}
-use Rattle.fips204.proofs.ml_dsa.rejection.low_coefficient.Goals as goal
+use Rattle.fips204.proofs.ml_dsa.rejection.fn.low_vector.map_vector.Goals as goal
 
-pub returns-clause-small : goal.returns-clause-small
-returns-clause-small c =
-    let gamma2 = to_z-of_z w32 c.args.gamma2 c.ranges.gamma2 in
+pub returns : goal.returns
+returns c =
+    let gamma2 = to_z-of_z w32 c.captures.gamma2 (search rules) in
     let x = to_z-of_z w32 c.args.x c.ranges.x in
     let value = to_z-of_z w32 c.low_bits.result (search rules) ∙ (rw (gamma2, x) at c.low_bits.ensures) in
-    rw value (low_bits-small c.args.gamma2 c.args.x c.requires.set)
+    record { value = value; small = rw value (low_bits-small c.captures.gamma2 c.args.x c.requires.0) }

@@ -1,6 +1,0 @@
-use Rattle.fips204.specs.Sets.{set_of}
-use Rattle.fips204.proofs.Signing.{AreRejected}
-use Rattle.fips204.proofs.ml_dsa.signing.sign_with.Given as goal
-
-abbrev pub invariant-loop-n : goal.invariant-loop-n
-invariant-loop-n g l = AreRejected (set_of l.p) g.H.Xof.front l.a_hat l.sk l.mu l.seed g.row.L l.n
