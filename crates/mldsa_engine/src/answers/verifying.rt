@@ -45,6 +45,9 @@ pub(super) fn verdict_of<H: Xof, G: Xof>(
 }
 
 /// Whether a public key of a set accepts each entry of a batch, as words and a truth value.
+///
+/// Not inlined, since the prepared keys would then stand in the stack of every command.
+#[inline(never)]
 #[tactic(auto, using(crate::proofs::Lengths::signatures))]
 pub(super) fn verdicts_of<H: Xof, G: Xof>(
     alloc: Global,
