@@ -69,6 +69,7 @@ pub(crate) fn verify_prepared<
 
 /// The parts `c_tilde`, `z` and `h` of a signature (lines 2 to 4), or `None` where its last bytes spell no
 /// hint, or the norm of `z` is not below gamma1 - beta.
+#[inline(always)]
 fn short_parts<const K: usize, const L: usize, const LAMBDA_DIV4: usize, const SIG_LEN: usize>(
     p: &Params,
     sig: &[u8; SIG_LEN],
