@@ -44,6 +44,7 @@ impl<const K: usize, const L: usize, H, G> PrivateKey<K, L, H, G> {
         ensures { Ok result
             ≡ attempt_answer (checked_attempt (set_of p.now) self.now y.now (vector_coefficients w.now) c_tilde.now (Some c.now)) }
     {
+        // c_hat = NTT(c)
         let c_hat = transform_of(c);
         // z = y + c s1, with a norm below gamma1 - beta
         let z = response(&transforms.s1_hat, y, &c_hat);
