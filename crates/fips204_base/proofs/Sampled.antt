@@ -18,6 +18,7 @@ use Rattle.fips204_base.specs.MatrixEntry.{triple, kept_triples, matrix_entry, s
 use Rattle.std.specs.Int.{w16, to_le_bytes}
 use Rattle.fips204_base.specs.declared.types.R.{R}
 use Rattle.fips204_base.specs.Packing.{InRange}
+use Rattle.fips204_base.specs.Polynomials.{Within, AreReduced}
 use Rattle.fips204_base.specs.Vectors.{IsVector}
 use Rattle.fips204_base.specs.SmallPolynomial.{half_bytes, kept_half_bytes, small_polynomial, small_vector}
 
@@ -104,6 +105,29 @@ all_present-at {A = A} f a zero xs e =
     (ap length (sym same), λ i d h. absurd (omega (arith, h)))
 all_present-at f a (suc n) xs e = first_and_later f a n xs (f a) (all_present (map f (range_with_len (a + 1) n))) refl (λ ys same. all_present-at f (a + 1) n ys same) e
 
+from_zero : (i : ℕ) → 0 + i ≡ i
+from_zero i = omega arith
+
+some_present : {A : Type 0} (f : ℕ → Option A) (n : ℕ) → ((i : ℕ) → i < n → (x : A) × (f i ≡ Some x)) → (xs : List A) × (all_present (map f (range_with_len 0 n)) ≡ Some xs)
+some_present f zero there = ([], present_nil)
+some_present f (suc n) there =
+    let before = some_present f n (λ i h. there i (omega (arith, h))) in
+    let last = there n (omega arith) in
+    let end : suc n ≡ n + 1 = omega arith in
+    (before.0 ++ last.0 ∷ [], ap all_present (ap (λ m. map f (range_with_len 0 m)) end ∙ map-range_with_len_more f 0 n n (from_zero n)) ∙ ap (λ x. all_present (map f (range_with_len 0 n) ++ x ∷ [])) last.1
+    ∙ present_push (map f (range_with_len 0 n)) before.0 last.0 before.1)
+
+-- what holds of each holds of the list's
+pub all_present-each : {A : Type 0} (Q : ℕ → A → Type 0) (f : ℕ → Option A) (n : ℕ) (d : A) → ((i : ℕ) → i < n → (x : A) × (f i ≡ Some x) × Q i x)
+    → (xs : List A) × (all_present (map f (range_with_len 0 n)) ≡ Some xs) × ((i : ℕ) → i < n → Q i (get_or xs i d))
+all_present-each Q f n d each =
+    let all = some_present f n (λ i h. ((each i h).0, (each i h).1)) in
+    let listed = all_present-at f 0 n all.0 all.1 in
+    (all.0, all.1, λ i h.
+        let there : Some (each i h).0 ≡ Some (get_or all.0 i d) = sym (each i h).1 ∙ (ap f (sym (from_zero i)) ∙ listed.1 i d h) in
+        let same : (each i h).0 ≡ get_or all.0 i d = cc in
+        subst (Q i) same (each i h).2)
+
 -- ---- what is kept
 
 kept_or_not : {Y : Type 0} (P : Y → Type 0) (o : Option Y) (kept : List Y) → IfSome o P → All P kept → All P (cons_option o kept)
@@ -153,9 +177,6 @@ matrix_entry-residues front t e =
 
 -- ---- the matrix, entry by entry
 
-from_zero : (i : ℕ) → 0 + i ≡ i
-from_zero i = omega arith
-
 -- the entries of a sampled matrix
 pub sampled_matrix-entries : (G : List ℕ → List ℕ) (rho : List ℕ) (k l : ℕ) (a : List (List T)) → sampled_matrix G rho k l ≡ Some a
     → (length a ≡ k) × ((r : ℕ) (d : List T) → r < k → length (get_or a r d) ≡ l) × ((r s : ℕ) (d : List T) (e : T) → r < k → s < l → sampled_entry G rho r s ≡ Some (get_or (get_or a r d) s e))
@@ -168,6 +189,17 @@ sampled_matrix-entries G rho k l a e =
       λ r d h. (row r d h).0,
       λ r s d f h m. ap (sampled_entry G rho r) (sym (from_zero s)) ∙ (row r d h).1 s f m,
     )
+
+residues-within : (xs : List ℤ) → All (λ x. (pos 0 ≤ℤ x) × (x ≤ℤ pos 8380416)) xs → Within 8380416 xs
+residues-within xs h i d l = let b = h i d l in omega (arith, ints, b)
+
+-- a row that is sampled is below q
+pub row-within : (G : List ℕ → List ℕ) (rho : List ℕ) (l r : ℕ) (row : List T) → sampled_row G rho l r ≡ Some row → AreReduced row
+row-within G rho l r row e s f m =
+    let values = all_present-at (sampled_entry G rho r) 0 l row e in
+    let column : s < l = omega (arith, m, values.0) in
+    let there : sampled_entry G rho r s ≡ Some (get_or row s f) = ap (sampled_entry G rho r) (sym (from_zero s)) ∙ values.1 s f column in
+    residues-within (get_or row s f).0 (matrix_entry-residues (G (rho ++ s ∷ r ∷ [])) (get_or row s f) there).1
 
 -- The range of small polynomials.
 

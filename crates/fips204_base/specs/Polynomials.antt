@@ -1,6 +1,6 @@
 -- Coefficients of polynomials and of vectors, and bounds on them: a polynomial's 256 coefficients are a list of integers
 -- (FIPS 204, section 2.3).
-use Rattle.std.specs.Prelude.{◌≤◌, ◌<◌, ◌≤ℤ◌, ℕ, List, [], ℤ, pos, nat_abs, slice_index_or, ◌*◌, ◌%◌}
+use Rattle.std.specs.Prelude.{◌≡◌, ◌≤◌, ◌<◌, ◌≤ℤ◌, ℕ, List, [], ℤ, pos, nat_abs, slice_index_or, ◌*◌, ◌%◌}
 use Rattle.std.specs.List.{All}
 use Rattle.fips204_base.specs.declared.types.R.{R}
 use Rattle.fips204_base.specs.declared.types.T.{T}
@@ -57,3 +57,7 @@ IsReducedMatrix a = All AreReduced a
 -- value j of the product of a matrix's row of transforms with a vector, of l transforms each
 abbrev pub row_value : ℕ → List T → List T → ℕ → ℕ
 row_value l row u j = sum_below l (λ k. vector_residues row k j * vector_residues u k j) % 8380417
+
+-- the first k of t are the products of the matrix's rows with a vector, of l transforms each
+abbrev pub AreRowProducts : ℕ → ℕ → List (List T) → List T → List T → Type 0
+AreRowProducts k l a u t = (i j : ℕ) → i < k → j < 256 → vector_residues t i j ≡ row_value l (slice_index_or a i []) u j

@@ -1,14 +1,16 @@
 //! The matrix, from the stream in the place of SHAKE128.
 #![tactic(auto)]
 
-ghost use Rattle.std.specs.Prelude.{◌≡◌, ◌≤◌, ◌/◌, length, ok_or};
+ghost use Rattle.std.specs.Prelude.{◌≡◌, ◌≤◌, ◌<◌, ◌/◌, Err, length, ok_or, MatchOption, MatchResult};
 ghost use Rattle.std.specs.List.{flat_map};
 ghost use Rattle.fips204_base.specs.Sampling.{AreKept};
-ghost use Rattle.fips204_base.specs.MatrixEntry.{kept_triples, matrix_entry, sampled_matrix};
+ghost use Rattle.fips204_base.specs.MatrixEntry.{kept_triples, matrix_entry, sampled_matrix, sampled_row};
+ghost use Rattle.fips204_base.specs.Polynomials.{AreReduced, AreRowProducts};
 
 use crate::conversion::coeff_from_three_bytes;
 use crate::fault::Fault;
 use crate::hashing::keep;
+use crate::helpers::vector::row_sum;
 use crate::types::{T, T0};
 use crate::xof::{Xof, XofReader};
 
@@ -66,11 +68,38 @@ pub fn expand_a<const K: usize, const L: usize, G: Xof>(
 {
     let mut matrix = [[T0; L]; K];
     for r in 0..K {
-        let mut row = [T0; L];
-        for s in 0..L {
-            row[s] = rej_ntt_poly::<G>(&[rho.as_slice(), &[s as u8], &[r as u8]])?;
-        }
-        matrix[r] = row;
+        matrix[r] = expand_row::<L, G>(rho, r)?;
     }
     Ok(matrix)
+}
+
+/// Row `r` of the matrix (Algorithm 32, lines 2 to 5).
+fn expand_row<const L: usize, G: Xof>(rho: &[u8; 32], r: usize) -> Result<[T; L], Fault>
+    requires shape { (r < 8) × (L ≤ 7) }
+    ensures { result ≡ ok_or (sampled_row G.front rho.now L r) Fault.SamplingLimit }
+{
+    let mut row = [T0; L];
+    for s in 0..L {
+        row[s] = rej_ntt_poly::<G>(&[rho.as_slice(), &[s as u8], &[r as u8]])?;
+    }
+    Ok(row)
+}
+
+/// The products of the matrix of `rho` with a vector of transforms, as `mat_vec_mul` of `expand_a` gives
+/// them, while one row at a time is there. `K` and `L` are those of a parameter set, and values of the
+/// vector are below `q` in absolute value. Refuses with `SamplingLimit` where an entry passes its limit.
+fn expanded_mat_vec_mul<const K: usize, const L: usize, G: Xof>(
+    rho: &[u8; 32],
+    u: &[T; L],
+) -> Result<[T; K], Fault>
+    requires shape { (K ≤ 8) × (L ≤ 7) }
+    requires vector { AreReduced u.now }
+    ensures { MatchOption (sampled_matrix G.front rho.now K L) (result ≡ Err Fault.SamplingLimit)
+        (λ a. MatchResult result (λ t. AreRowProducts K L a u.now t × AreReduced t) (λ _. ⊥)) }
+{
+    let mut out = [T0; K];
+    for r in 0..K {
+        out[r] = row_sum(&expand_row::<L, G>(rho, r)?, u);
+    }
+    Ok(out)
 }

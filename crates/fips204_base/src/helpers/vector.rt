@@ -3,7 +3,7 @@
 
 ghost use Rattle.std.specs.Prelude.{◌≡◌, ◌≤◌, ◌<◌, ◌*◌, ◌%◌, ℕ, [], ◌+ℤ◌, nat_abs, slice_index_or};
 ghost use Rattle.fips204_base.specs.Residues.{residue, coefficients};
-ghost use Rattle.fips204_base.specs.Polynomials.{entry, VectorWithin, Within, AllWithin, AreReduced, IsReducedMatrix, vector_residues, row_value};
+ghost use Rattle.fips204_base.specs.Polynomials.{entry, VectorWithin, Within, AllWithin, AreReduced, IsReducedMatrix, vector_residues, row_value, AreRowProducts};
 
 use crate::helpers::reduce::{partial_reduce64, wide_product};
 use crate::maps::{map, zip_vectors};
@@ -56,7 +56,7 @@ pub fn mat_vec_mul<const K: usize, const L: usize>(a: &[[T; L]; K], u: &[T; L]) 
     requires columns { L ≤ 7 }
     requires matrix { IsReducedMatrix a.now }
     requires vector { AreReduced u.now }
-    ensures values { (i j : ℕ) → i < K → j < 256 → vector_residues result i j ≡ row_value L (slice_index_or a.now i []) u.now j }
+    ensures values { AreRowProducts K L a.now u.now result }
     ensures small { AreReduced result }
 {
     let mut out = [T0; K];
@@ -67,7 +67,7 @@ pub fn mat_vec_mul<const K: usize, const L: usize>(a: &[[T; L]; K], u: &[T; L]) 
 }
 
 /// The sum of the products of a row of the matrix with the vector, value by value.
-fn row_sum<const L: usize>(row: &[T; L], u: &[T; L]) -> T
+pub(crate) fn row_sum<const L: usize>(row: &[T; L], u: &[T; L]) -> T
     requires columns { L ≤ 7 }
     requires row { AreReduced row.now }
     requires vector { AreReduced u.now }

@@ -1,6 +1,6 @@
 use Rattle.std.proofs.Common.{◌≡◌, length, map, take, Some}
 use Rattle.std.specs.List.{range_with_len}
-use Rattle.fips204_base.specs.MatrixEntry.{sampled_entry, sampled_row}
+use Rattle.fips204_base.specs.MatrixEntry.{sampled_row}
 use Rattle.fips204_base.specs.Sampling.{all_present}
 use Rattle.fips204_base.proofs.hashing.matrix.expand_a.Given as goal
 
@@ -8,8 +8,3 @@ abbrev pub invariant-loop-r : goal.invariant-loop-r
 invariant-loop-r g l =
     (length l.matrix ≡ g.row.K)
     × (all_present (map (sampled_row g.G.Xof.front l.rho g.row.L) (range_with_len 0 l.r)) ≡ Some (take l.r l.matrix))
-
-abbrev pub invariant-loop-s : goal.invariant-loop-s
-invariant-loop-s g l =
-    (length l.row ≡ g.row.L)
-    × (all_present (map (sampled_entry g.G.Xof.front l.rho l.r) (range_with_len 0 l.s)) ≡ Some (take l.s l.row))
