@@ -12,7 +12,7 @@ mod small;
 
 pub use challenge::sample_in_ball;
 pub use mask::expand_mask;
-pub use matrix::{expand_a, rej_ntt_poly};
+pub use matrix::{expand_a, expanded_times_vector, expanded_times_vector_less, rej_ntt_poly};
 pub use small::{expand_s, rej_bounded_poly};
 
 /// Puts a coefficient, if there is one, at place `kept` of `values`, if there is room, and answers how

@@ -1,12 +1,14 @@
 //! Products of plain polynomials, computed through transforms.
 #![tactic(auto)]
 
-ghost use Rattle.std.specs.Prelude.{◌≡◌, ◌≤◌, ◌<◌, ◌*◌, ◌%◌, ℕ, pos, nat_abs};
+ghost use Rattle.std.specs.Prelude.{◌≡◌, ◌≤◌, ◌<◌, ◌*◌, ◌%◌, ℕ, List, pos, nat_abs};
 ghost use Rattle.fips204_base.specs.Residues.{residue, coefficients};
 ghost use Rattle.fips204_base.specs.Products.{product};
 ghost use Rattle.fips204_base.specs.Transforms.{inverse_transform};
-ghost use Rattle.fips204_base.specs.Polynomials.{coefficient_at, entry, Within, IsReduced, IsReducedVector, AreReduced, IsReducedMatrix};
+ghost use Rattle.fips204_base.specs.Polynomials.{coefficient_at, entry, vector_residues, Within, IsReduced, IsReducedVector, AreReduced, AreRowProducts, IsReducedMatrix};
 ghost use Rattle.fips204_base.specs.Vectors.{vector_coefficients, matrix_product, product_difference, IsTransformOf, AreTransformsOf};
+ghost use Rattle.fips204_base.specs.declared.types.R.{R};
+ghost use Rattle.fips204_base.specs.declared.types.T.{T};
 
 use crate::helpers::reduce::{difference, wide_product};
 use crate::helpers::{Count, mat_vec_mul, partial_reduce64};
@@ -27,12 +29,7 @@ pub fn matrix_times_vector<const K: usize, const L: usize>(
     ensures values { (r n : ℕ) → r < K → n < 256 → entry result r n ≡ pos (matrix_product L a_hat.now (vector_coefficients v.now) r n) }
     ensures range { IsReducedVector K result }
 {
-    let products = mat_vec_mul(a_hat, &transforms(v));
-    let mut out = [R0; K];
-    for i in 0..K {
-        out[i] = inverse_of(&products[i]);
-    }
-    out
+    inverses(&mat_vec_mul(a_hat, &transforms(v)))
 }
 
 /// The product of a challenge with each polynomial of a vector: coefficients from 0 to `q - 1`. All
@@ -81,15 +78,40 @@ pub fn matrix_times_vector_less<const K: usize, const L: usize>(
     ensures values { (r n : ℕ) → r < K → n < 256 → entry result r n ≡ pos (product_difference L a_hat.now z.now c.now t.now r n) }
     ensures range { IsReducedVector K result }
 {
-    let products = mat_vec_mul(a_hat, &transforms(z));
+    less(&mat_vec_mul(a_hat, &transforms(z)), c, t)
+}
+
+/// The product of a matrix with a vector, given by its transforms, less the product of a challenge with a
+/// vector: coefficients from 0 to `q - 1`. Values and coefficients are below `q` in absolute value.
+pub(crate) fn less<const K: usize>(products: &[T; K], c: &R, t: &[R; K]) -> [R; K]
+    requires products { AreReduced products.now }
+    requires challenge { IsReduced c.now.0 }
+    requires less { IsReducedVector K t.now }
+    ensures values { (l : ℕ) (a : List (List T)) (z_hat : List T) (z : List R) → AreRowProducts K l a z_hat products.now
+        → AreTransformsOf l (vector_coefficients z) z_hat
+        → (r n : ℕ) → r < K → n < 256 → entry result r n ≡ pos (product_difference l a z c.now t.now r n) }
+    ensures range { IsReducedVector K result }
+{
     let c_hat = transform_of(c);
-    let mut out = [R0; K];
+    let mut rest = *products;
     for i in 0..K {
         let mut multiple = transform_of(&t[i]);
         update_with(&mut multiple.0, &c_hat.0, value_product);
-        let mut rest = products[i];
-        update_with(&mut rest.0, &multiple.0, difference);
-        out[i] = inverse_of(&rest);
+        update_with(&mut rest[i].0, &multiple.0, difference);
+    }
+    inverses(&rest)
+}
+
+/// The vector that has these transforms: coefficients from 0 to `q - 1`. The values are below `q` in absolute
+/// value.
+pub(crate) fn inverses<const K: usize>(t: &[T; K]) -> [R; K]
+    requires { AreReduced t.now }
+    ensures values { (r n : ℕ) → r < K → n < 256 → entry result r n ≡ pos (inverse_transform (vector_residues t.now r) n) }
+    ensures range { IsReducedVector K result }
+{
+    let mut out = [R0; K];
+    for i in 0..K {
+        out[i] = inverse_of(&t[i]);
     }
     out
 }

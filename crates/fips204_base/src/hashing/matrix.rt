@@ -1,17 +1,20 @@
 //! The matrix, from the stream in the place of SHAKE128.
 #![tactic(auto)]
 
-ghost use Rattle.std.specs.Prelude.{◌≡◌, ◌≤◌, ◌<◌, ◌/◌, Err, length, ok_or, MatchOption, MatchResult};
+ghost use Rattle.std.specs.Prelude.{◌≡◌, ◌≤◌, ◌<◌, ◌/◌, ℕ, List, None, Some, pos, length, ok_or, IfOk, IfErr};
 ghost use Rattle.std.specs.List.{flat_map};
 ghost use Rattle.fips204_base.specs.Sampling.{AreKept};
 ghost use Rattle.fips204_base.specs.MatrixEntry.{kept_triples, matrix_entry, sampled_matrix, sampled_row};
-ghost use Rattle.fips204_base.specs.Polynomials.{AreReduced, AreRowProducts};
+ghost use Rattle.fips204_base.specs.Polynomials.{entry, AreReduced, AreRowProducts, IsReduced, IsReducedVector};
+ghost use Rattle.fips204_base.specs.Vectors.{vector_coefficients, matrix_product, product_difference};
+ghost use Rattle.fips204_base.specs.declared.types.T.{T};
 
 use crate::conversion::coeff_from_three_bytes;
 use crate::fault::Fault;
 use crate::hashing::keep;
 use crate::helpers::vector::row_sum;
-use crate::types::{T, T0};
+use crate::product::{inverses, less, transforms};
+use crate::types::{R, T, T0};
 use crate::xof::{Xof, XofReader};
 
 /// Puts the coefficients that the triples of `piece` give into `values` from place `kept` on, as many as
@@ -85,21 +88,63 @@ fn expand_row<const L: usize, G: Xof>(rho: &[u8; 32], r: usize) -> Result<[T; L]
     Ok(row)
 }
 
-/// The products of the matrix of `rho` with a vector of transforms, as `mat_vec_mul` of `expand_a` gives
-/// them, while one row at a time is there. `K` and `L` are those of a parameter set, and values of the
-/// vector are below `q` in absolute value. Refuses with `SamplingLimit` where an entry passes its limit.
+/// The products of the matrix of `rho` with a vector of transforms, value by value, as `mat_vec_mul` of
+/// `expand_a` gives them, with one row of the matrix at a time. `K` and `L` are those of a parameter set, and
+/// values of the vector are below `q` in absolute value, as those of the answer. Refuses with `SamplingLimit`
+/// where an entry passes its limit.
 fn expanded_mat_vec_mul<const K: usize, const L: usize, G: Xof>(
     rho: &[u8; 32],
     u: &[T; L],
 ) -> Result<[T; K], Fault>
     requires shape { (K ≤ 8) × (L ≤ 7) }
     requires vector { AreReduced u.now }
-    ensures { MatchOption (sampled_matrix G.front rho.now K L) (result ≡ Err Fault.SamplingLimit)
-        (λ a. MatchResult result (λ t. AreRowProducts K L a u.now t × AreReduced t) (λ _. ⊥)) }
+    ensures refused { IfErr result (λ fault. (sampled_matrix G.front rho.now K L ≡ None) × (fault ≡ Fault.SamplingLimit)) }
+    ensures values { IfOk result (λ t. (a : List (List T)) × (sampled_matrix G.front rho.now K L ≡ Some a) × AreRowProducts K L a u.now t) }
+    ensures small { IfOk result AreReduced }
 {
     let mut out = [T0; K];
     for r in 0..K {
         out[r] = row_sum(&expand_row::<L, G>(rho, r)?, u);
     }
     Ok(out)
+}
+
+/// The product of the matrix of `rho` with a vector of plain polynomials, as `matrix_times_vector` of
+/// `expand_a` gives it, with one row of the matrix at a time. `K` and `L` are those of a parameter set, and
+/// coefficients are below `q` in absolute value. Refuses with `SamplingLimit` where an entry passes its limit.
+pub fn expanded_times_vector<const K: usize, const L: usize, G: Xof>(
+    rho: &[u8; 32],
+    v: &[R; L],
+) -> Result<[R; K], Fault>
+    requires shape { (K ≤ 8) × (L ≤ 7) }
+    requires vector { IsReducedVector L v.now }
+    ensures refused { IfErr result (λ fault. (sampled_matrix G.front rho.now K L ≡ None) × (fault ≡ Fault.SamplingLimit)) }
+    ensures values { IfOk result (λ w. (a : List (List T)) × (sampled_matrix G.front rho.now K L ≡ Some a)
+        × ((r n : ℕ) → r < K → n < 256 → entry w r n ≡ pos (matrix_product L a (vector_coefficients v.now) r n))) }
+    ensures range { IfOk result (IsReducedVector K) }
+{
+    Ok(inverses(&expanded_mat_vec_mul::<K, L, G>(rho, &transforms(v))?))
+}
+
+/// The product of the matrix of `rho` with a vector, less the product of a challenge with a vector, as
+/// `matrix_times_vector_less` of `expand_a` gives it, with one row of the matrix at a time. `K` and `L` are
+/// those of a parameter set, and coefficients are below `q` in absolute value. Refuses with `SamplingLimit`
+/// where an entry passes its limit.
+pub fn expanded_times_vector_less<const K: usize, const L: usize, G: Xof>(
+    rho: &[u8; 32],
+    z: &[R; L],
+    c: &R,
+    t: &[R; K],
+) -> Result<[R; K], Fault>
+    requires shape { (K ≤ 8) × (L ≤ 7) }
+    requires vector { IsReducedVector L z.now }
+    requires challenge { IsReduced c.now.0 }
+    requires less { IsReducedVector K t.now }
+    ensures refused { IfErr result (λ fault. (sampled_matrix G.front rho.now K L ≡ None) × (fault ≡ Fault.SamplingLimit)) }
+    ensures values { IfOk result (λ w. (a : List (List T)) × (sampled_matrix G.front rho.now K L ≡ Some a)
+        × ((r n : ℕ) → r < K → n < 256 → entry w r n ≡ pos (product_difference L a z.now c.now t.now r n))) }
+    ensures range { IfOk result (IsReducedVector K) }
+{
+    let products = expanded_mat_vec_mul::<K, L, G>(rho, &transforms(z))?;
+    Ok(less(&products, c, t))
 }

@@ -1,5 +1,4 @@
-use Rattle.std.proofs.Common.{◌≡◌, ℕ, ◌<◌, ◌∙◌, List, [], Err, Some, ap, sym, refl, arith, rules, length, length-set, get_or}
-use Rattle.std.proofs.lemmas.List.{length-replicate}
+use Rattle.std.proofs.Common.{◌≡◌, ℕ, ◌<◌, ◌∙◌, List, [], Err, Some, refl, arith, rules, length, length-set}
 use Rattle.fips204_base.specs.declared.fault.Fault.TheVariants.{SamplingLimit}
 use Rattle.fips204_base.specs.declared.types.T.{T}
 use Rattle.fips204_base.specs.MatrixEntry.{sampled_row, sampled_matrix}
@@ -9,14 +8,14 @@ use Rattle.fips204_base.proofs.Sampled.{all_present-none, all_present-each, row-
 use Rattle.fips204_base.proofs.Vectors.{row_written}
 use Rattle.fips204_base.proofs.hashing.matrix.expanded_mat_vec_mul.Goals as goal
 
-pub returns-in_err-expand_row : goal.returns-in_err-expand_row
+pub returns-in_err-expand_row-clause-refused : goal.returns-in_err-expand_row-clause-refused
 unfolding sampled_matrix
-returns-in_err-expand_row g c =
+returns-in_err-expand_row-clause-refused g c =
     let row = sampled_row g.G.Xof.front c.args.rho.now g.row.L in
     let fault = none_of_err _ c.in_err-expand_row.field-0.0 c.in_err-expand_row.ensures in
     let none = all_present-none row 0 g.row.K c.loop-r.r c.loop-r.r c.loop-r-test.true (omega arith) fault.0 in
     let refused : c.from_residual.result ≡ Err SamplingLimit = search rules in
-    rw none refused
+    rw refused (none, refl)
 
 pub row_sum-requires : goal.row_sum-requires
 row_sum-requires g c =
@@ -36,10 +35,10 @@ loop-r-preserved g c =
           inside (λ i h. c.loop-r.invariant.small i d h) c.row_sum.ensures.small i;
     }
 
-pub returns : goal.returns
+pub returns-clause-values : goal.returns-clause-values
 unfolding sampled_matrix
-returns g c =
+returns-clause-values g c =
     let end : c.loop-r.r ≡ g.row.K = omega (arith, c.loop-r-test.false, c.loop-r.auto.r-end) in
     let row = sampled_row g.G.Xof.front c.args.rho.now g.row.L in
     let rows = all_present-each (λ i x. (j : ℕ) → j < 256 → vector_residues c.loop-r.out i j ≡ row_value g.row.L x c.args.u.now j) row g.row.K [] (λ i h. c.loop-r.invariant.values i (omega (arith, h, end))) in
-    rw rows.1 (λ i j h p. rows.2 i h j p, λ i d h. c.loop-r.invariant.small i d (omega (arith, h, end, c.loop-r.invariant.size)))
+    (rows.0, rows.1, λ i j h p. rows.2 i h j p)
