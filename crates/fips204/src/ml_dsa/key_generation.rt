@@ -1,24 +1,25 @@
 //! Making keys (FIPS 204, Algorithms 1 and 6).
 #![tactic(auto)]
 
-ghost use Rattle.std.specs.Prelude.{◌≡◌, ◌≤◌, ◌<◌, ◌+◌, ◌*◌, ◌%◌, pos, nat_abs, take, drop};
-ghost use Rattle.fips204_base.specs.Polynomials.{AreResidues, IsReducedVector, IsReducedMatrix};
+ghost use Rattle.std.specs.Prelude.{◌≡◌, ◌≤◌, ◌<◌, ◌+◌, ◌*◌, ◌%◌, List, None, Some, pos, nat_abs, take, drop, IfOk, IfErr};
+ghost use Rattle.fips204_base.specs.MatrixEntry.{sampled_matrix};
+ghost use Rattle.fips204_base.specs.Polynomials.{AreResidues, IsReducedVector};
 ghost use Rattle.fips204_base.specs.Residues.{residue};
 ghost use Rattle.fips204_base.specs.Vectors.{vector_of};
+ghost use Rattle.fips204_base.specs.declared.types.T.{T};
 ghost use Rattle.fips204.specs.KeyGeneration.{key_vector};
 ghost use Rattle.fips204.specs.ParameterSets.{public_key_length};
 ghost use Rattle.fips204.specs.Refusals.{generated, derived, Draws};
 ghost use Rattle.fips204.specs.Sets.{set_of};
 
 use crate::traits::{CryptoRngCore, draw};
-use crate::types::{Params, PrivateKey, PublicKey, R, T};
+use crate::types::{Params, PrivateKey, PublicKey, R};
 use fips204_base::Fault;
 use fips204_base::encodings::pk_encode;
-use fips204_base::hashing::{expand_a, expand_s};
+use fips204_base::hashing::{expand_s, expanded_times_vector};
 use fips204_base::helpers::full_reduce32;
 use fips204_base::high_low::power2round;
 use fips204_base::maps::update_vector_with;
-use fips204_base::product::matrix_times_vector;
 use fips204_base::xof::{Xof, hash};
 use std::marker::PhantomData;
 
@@ -40,12 +41,12 @@ pub fn key_gen_internal<const K: usize, const L: usize, const PK_LEN: usize, H: 
     let rho: [u8; 32] = part(&seeds, 0);
     let rho_prime: [u8; 64] = part(&seeds, 32);
     let key: [u8; 32] = part(&seeds, 96);
-    // A = ExpandA(rho)
-    let a_hat = expand_a::<K, L, G>(&rho)?;
     // (s1, s2) = ExpandS(rho')
     let (s1, s2) = expand_s::<K, L, H>(p.eta, &rho_prime)?;
-    // t = A s1 + s2, (t1, t0) = Power2Round(t)
-    let (t1, t0) = power2round(&key_vector(&a_hat, &s1, &s2));
+    // A = ExpandA(rho), t = A s1 + s2
+    let t = key_vector::<K, L, G>(&rho, &s1, &s2)?;
+    // (t1, t0) = Power2Round(t)
+    let (t1, t0) = power2round(&t);
     // tr = H(pkEncode(rho, t1))
     let pk: [u8; PK_LEN] = pk_encode(&rho, &t1);
     let tr = hash::<H, 64>(&[pk.as_slice()]);
@@ -75,22 +76,23 @@ fn part<const N: usize>(bytes: &[u8; 128], at: usize) -> [u8; N]
     *bytes[at..].first_chunk::<N>().unwrap()
 }
 
-/// `t = A s1 + s2` (Algorithm 6, line 5), with coefficients from 0 to `q - 1`. The matrix is given by
-/// its transforms with values from 0 to `q - 1`, coefficients are below `q` in absolute value, and `L`
-/// is at most 7.
-fn key_vector<const K: usize, const L: usize>(
-    a_hat: &[[T; L]; K],
+/// `t = A s1 + s2` (Algorithm 6, lines 3 and 5) for the matrix of `rho`, with coefficients from 0 to `q - 1`.
+/// Those of `s1` and `s2` are below `q` in absolute value, and `K` and `L` are those of a set. Refuses with
+/// `Fault::SamplingLimit` where the matrix passes its limit.
+fn key_vector<const K: usize, const L: usize, G: Xof>(
+    rho: &[u8; 32],
     s1: &[R; L],
     s2: &[R; K],
-) -> [R; K]
-    requires columns { L ≤ 7 }
-    requires matrix { IsReducedMatrix a_hat.now }
+) -> Result<[R; K], Fault>
+    requires shape { (K ≤ 8) × (L ≤ 7) }
     requires first { IsReducedVector L s1.now }
     requires second { IsReducedVector K s2.now }
-    ensures values { result ≡ vector_of K (λ r n. pos (key_vector L a_hat.now s1.now s2.now r n)) }
-    ensures range { AreResidues K result }
+    ensures refused { IfErr result (λ fault. (sampled_matrix G.front rho.now K L ≡ None) × (fault ≡ Fault.SamplingLimit)) }
+    ensures values { IfOk result (λ t. (a : List (List T)) × (sampled_matrix G.front rho.now K L ≡ Some a)
+        × (t ≡ vector_of K (λ r n. pos (key_vector L a s1.now s2.now r n)))) }
+    ensures range { IfOk result (AreResidues K) }
 {
-    let mut t = matrix_times_vector(a_hat, s1);
+    let mut t = expanded_times_vector::<K, L, G>(rho, s1)?;
     update_vector_with(
         &mut t,
         s2,
@@ -99,7 +101,7 @@ fn key_vector<const K: usize, const L: usize>(
             ensures { result ≡ pos ((residue x + residue y) % 8380417) }
         { full_reduce32(x + y) },
     );
-    t
+    Ok(t)
 }
 
 /// `ML-DSA.KeyGen` (Algorithm 1): both keys of 32 bytes that the generator is asked for once. Refuses
@@ -130,10 +132,10 @@ pub fn private_to_public_key<const K: usize, const L: usize, H, G: Xof>(
     requires columns { L ≡ p.now.l }
     ensures { result ≡ derived (set_of p.now) G.front sk.now }
 {
-    // A = ExpandA(rho)
-    let a_hat = expand_a::<K, L, G>(&sk.rho)?;
-    // t = A s1 + s2, (t1, _) = Power2Round(t)
-    let (t1, _) = power2round(&key_vector(&a_hat, &sk.s1, &sk.s2));
+    // A = ExpandA(rho), t = A s1 + s2
+    let t = key_vector::<K, L, G>(&sk.rho, &sk.s1, &sk.s2)?;
+    // (t1, _) = Power2Round(t)
+    let (t1, _) = power2round(&t);
     Ok(PublicKey {
         rho: sk.rho,
         tr: sk.tr,

@@ -4,11 +4,9 @@ use Rattle.fips204_base.specs.declared.fault.Fault.TheVariants.{SamplingLimit}
 use Rattle.fips204_base.specs.MatrixEntry.{sampled_matrix}
 use Rattle.fips204_base.specs.SmallPolynomial.{small_vector}
 use Rattle.fips204_base.specs.Vectors.{IsVector}
-use Rattle.fips204_base.proofs.Sampled.{some_of_ok, none_of_err}
 use Rattle.fips204_base.proofs.Vectors.{vector-within}
 use Rattle.fips204.specs.KeyGeneration.{high_part, low_part, key_hash}
 use Rattle.fips204.specs.Sets.{set_of}
-use Rattle.fips204.proofs.Ranges.{matrix-within}
 use Rattle.fips204.proofs.ParameterSets.{limits, small_vector-parts, matrix-shape, eta_of_rows-small}
 use Rattle.fips204.proofs.KeyGeneration.{AreSampled, AreSeeds, are_seeds, generated-none, generated-some, key_vector-is, high_part-is, high_part-range, low_part-is, low_part-range}
 use Rattle.fips204.proofs.ml_dsa.key_generation.key_gen_internal.Given.{Over}
@@ -27,23 +25,6 @@ overflow_cast-p g c = omega (arith, (limits c.args.p.now (search rules)).few_row
 pub overflow_cast-p-2 : goal.overflow_cast-p-2
 overflow_cast-p-2 g c = omega (arith, (limits c.args.p.now (search rules)).few_columns)
 
-pub expand_a-requires : goal.expand_a-requires
-expand_a-requires g c =
-    let p = c.args.p.now in
-    let shape = matrix-shape p g.row.K g.row.L (search rules) c.requires.rows c.requires.columns in
-    (shape.0, (search rules, shape.1))
-
-pub returns-in_err-a_hat : goal.returns-in_err-a_hat
-returns-in_err-a_hat g c =
-    let p = set_of c.args.p.now in
-    let H = g.H.Xof.front in
-    let seed = c.part-rho_prime.result in
-    let fault = none_of_err (sampled_matrix g.G.Xof.front c.part-rho.result g.row.K g.row.L) c.in_err-a_hat.field-0.0 c.in_err-a_hat.ensures in
-    let refused : c.from_residual.result ≡ Err SamplingLimit = search rules in
-    let given : AreSampled p H g.G.Xof.front g.row.K g.row.L c.part-rho.result seed None (small_vector p.eta H seed 0 g.row.L) (small_vector p.eta H seed g.row.L g.row.K) =
-    record { rows = c.requires.rows; columns = c.requires.columns; matrix = fault.0; first = refl; second = refl } in
-    refused ∙ sym (generated-none p H g.G.Xof.front c.args.xi.now c.part-rho.result seed c.part-key.result g.row.K g.row.L _ _ _ (seeds-here g (goal.at.returns-in_err-a_hat g c).After-part-key) given (inl refl))
-
 pub expand_s-requires : goal.expand_s-requires
 expand_s-requires g c =
     let p = c.args.p.now in
@@ -60,10 +41,9 @@ returns-in_err-s1 g c =
     let seed = c.part-rho_prime.result in
     let limit = c.in_err-s1.ensures.limit in
     let fault = rw E at limit in
-    let refused : c.from_residual-in_err-s1.result ≡ Err SamplingLimit = search rules in
-    let there = some_of_ok (sampled_matrix g.G.Xof.front c.part-rho.result g.row.K g.row.L) c.in_ok-a_hat.a_hat c.in_ok-a_hat.ensures in
-    let given : AreSampled p H g.G.Xof.front g.row.K g.row.L c.part-rho.result seed (Some c.in_ok-a_hat.a_hat) (small_vector p.eta H seed 0 g.row.L) (small_vector p.eta H seed g.row.L g.row.K) =
-    record { rows = c.requires.rows; columns = c.requires.columns; matrix = there; first = refl; second = refl } in
+    let refused : c.from_residual.result ≡ Err SamplingLimit = search rules in
+    let given : AreSampled p H g.G.Xof.front g.row.K g.row.L c.part-rho.result seed (sampled_matrix g.G.Xof.front c.part-rho.result g.row.K g.row.L) (small_vector p.eta H seed 0 g.row.L) (small_vector p.eta H seed g.row.L g.row.K) =
+    record { rows = c.requires.rows; columns = c.requires.columns; matrix = refl; first = refl; second = refl } in
     refused ∙ sym (generated-none p H g.G.Xof.front c.args.xi.now c.part-rho.result seed c.part-key.result g.row.K g.row.L _ _ _ (seeds-here g (goal.at.returns-in_err-s1 g c).After-part-key) given (inr fault.1))
 
 pub key_vector-requires : goal.key_vector-requires
@@ -75,23 +55,33 @@ key_vector-requires g c =
     let first = small_vector-parts p _ _ g.row.K _ _ c.in_ok-s1.s1 (search rules) c.requires.rows (rw E at s1) in
     let second = small_vector-parts p _ _ g.row.K _ _ c.in_ok-s1.s2 (search rules) c.requires.rows (rw E at s2) in
     let shape = matrix-shape p g.row.K g.row.L (search rules) c.requires.rows c.requires.columns in
-    let there = some_of_ok (sampled_matrix g.G.Xof.front c.part-rho.result g.row.K g.row.L) c.in_ok-a_hat.a_hat c.in_ok-a_hat.ensures in
     let eta = eta_of_rows-small g.row.K in
-    (shape.0, (search rules, (search rules, (search rules, (shape.1.1, (matrix-within _ _ _ _ _ there, (vector-within _ _ _ _ _ eta eta first, vector-within _ _ _ _ _ eta eta second)))))))
+    (search rules, (search rules, (shape.1, (vector-within _ _ _ _ _ eta eta first, vector-within _ _ _ _ _ eta eta second))))
+
+pub returns-in_err-t : goal.returns-in_err-t
+returns-in_err-t g c =
+    let p = set_of c.args.p.now in
+    let H = g.H.Xof.front in
+    let seed = c.part-rho_prime.result in
+    let fault = c.in_err-t.ensures.refused in
+    let refused : c.from_residual-in_err-t.result ≡ Err SamplingLimit = search rules in
+    let given : AreSampled p H g.G.Xof.front g.row.K g.row.L c.part-rho.result seed None (small_vector p.eta H seed 0 g.row.L) (small_vector p.eta H seed g.row.L g.row.K) =
+    record { rows = c.requires.rows; columns = c.requires.columns; matrix = fault.0; first = refl; second = refl } in
+    refused ∙ sym (generated-none p H g.G.Xof.front c.args.xi.now c.part-rho.result seed c.part-key.result g.row.K g.row.L _ _ _ (seeds-here g (goal.at.returns-in_err-t g c).After-part-key) given (inl refl))
 
 -- the parts of the vector
-high_part-here : (g : Over) (c : After-power2round-t1 g) → c.power2round-t1.result.0 ≡ high_part (set_of c.args.p.now) c.in_ok-a_hat.a_hat c.in_ok-s1.s1 c.in_ok-s1.s2
+high_part-here : (g : Over) (c : After-power2round-t1 g) → c.power2round-t1.result.0 ≡ high_part (set_of c.args.p.now) c.in_ok-t.ensures.values.0 c.in_ok-s1.s1 c.in_ok-s1.s2
 high_part-here g c =
-    high_part-is (set_of c.args.p.now) c.in_ok-a_hat.a_hat c.in_ok-s1.s1 c.in_ok-s1.s2 c.key_vector.result c.power2round-t1.result.0 g.row.K c.requires.rows
-    (key_vector-is (set_of c.args.p.now) c.in_ok-a_hat.a_hat c.in_ok-s1.s1 c.in_ok-s1.s2 c.key_vector.result g.row.K g.row.L c.requires.rows c.requires.columns c.key_vector.ensures.values) c.power2round-t1.ensures.high
+    high_part-is (set_of c.args.p.now) c.in_ok-t.ensures.values.0 c.in_ok-s1.s1 c.in_ok-s1.s2 c.in_ok-t.t c.power2round-t1.result.0 g.row.K c.requires.rows
+    (key_vector-is (set_of c.args.p.now) c.in_ok-t.ensures.values.0 c.in_ok-s1.s1 c.in_ok-s1.s2 c.in_ok-t.t g.row.K g.row.L c.requires.rows c.requires.columns c.in_ok-t.ensures.values.2) c.power2round-t1.ensures.high
 
-low_part-here : (g : Over) (c : After-power2round-t1 g) → c.power2round-t1.result.1 ≡ low_part (set_of c.args.p.now) c.in_ok-a_hat.a_hat c.in_ok-s1.s1 c.in_ok-s1.s2
+low_part-here : (g : Over) (c : After-power2round-t1 g) → c.power2round-t1.result.1 ≡ low_part (set_of c.args.p.now) c.in_ok-t.ensures.values.0 c.in_ok-s1.s1 c.in_ok-s1.s2
 low_part-here g c =
-    low_part-is (set_of c.args.p.now) c.in_ok-a_hat.a_hat c.in_ok-s1.s1 c.in_ok-s1.s2 c.key_vector.result c.power2round-t1.result.1 g.row.K c.requires.rows
-    (key_vector-is (set_of c.args.p.now) c.in_ok-a_hat.a_hat c.in_ok-s1.s1 c.in_ok-s1.s2 c.key_vector.result g.row.K g.row.L c.requires.rows c.requires.columns c.key_vector.ensures.values) c.power2round-t1.ensures.low
+    low_part-is (set_of c.args.p.now) c.in_ok-t.ensures.values.0 c.in_ok-s1.s1 c.in_ok-s1.s2 c.in_ok-t.t c.power2round-t1.result.1 g.row.K c.requires.rows
+    (key_vector-is (set_of c.args.p.now) c.in_ok-t.ensures.values.0 c.in_ok-s1.s1 c.in_ok-s1.s2 c.in_ok-t.t g.row.K g.row.L c.requires.rows c.requires.columns c.in_ok-t.ensures.values.2) c.power2round-t1.ensures.low
 
 high_part-vector : (g : Over) (c : After-power2round-t1 g) → IsVector g.row.K 0 1023 c.power2round-t1.result.0
-high_part-vector g c = rw (high_part-here g c, c.requires.rows) (high_part-range (set_of c.args.p.now) c.in_ok-a_hat.a_hat c.in_ok-s1.s1 c.in_ok-s1.s2)
+high_part-vector g c = rw (high_part-here g c, c.requires.rows) (high_part-range (set_of c.args.p.now) c.in_ok-t.ensures.values.0 c.in_ok-s1.s1 c.in_ok-s1.s2)
 
 pub pk_encode-pk-requires : goal.pk_encode-pk-requires
 pk_encode-pk-requires g c =
@@ -113,7 +103,7 @@ invariant_of-private g c =
       hash = search rules;
       first = small_vector-parts p _ _ g.row.K _ _ c.in_ok-s1.s1 (search rules) c.requires.rows (rw E at s1);
       second = small_vector-parts p _ _ g.row.K _ _ c.in_ok-s1.s2 (search rules) c.requires.rows (rw E at s2);
-      low = rw (low_part-here g (goal.at.invariant_of-private g c).After-power2round-t1, c.requires.rows) (low_part-range (set_of p) c.in_ok-a_hat.a_hat c.in_ok-s1.s1 c.in_ok-s1.s2);
+      low = rw (low_part-here g (goal.at.invariant_of-private g c).After-power2round-t1, c.requires.rows) (low_part-range (set_of p) c.in_ok-t.ensures.values.0 c.in_ok-s1.s1 c.in_ok-s1.s2);
     }
 
 pub returns : goal.returns
@@ -126,10 +116,9 @@ returns g c =
     let s2 = c.in_ok-s1.ensures.s2 in
     let first = rw E at s1 in
     let second = rw E at s2 in
-    let there = some_of_ok (sampled_matrix g.G.Xof.front c.part-rho.result g.row.K g.row.L) c.in_ok-a_hat.a_hat c.in_ok-a_hat.ensures in
-    let given : AreSampled p H g.G.Xof.front g.row.K g.row.L c.part-rho.result seed (Some c.in_ok-a_hat.a_hat) (Some c.in_ok-s1.s1) (Some c.in_ok-s1.s2) =
-    record { rows = c.requires.rows; columns = c.requires.columns; matrix = there; first = first; second = second } in
+    let given : AreSampled p H g.G.Xof.front g.row.K g.row.L c.part-rho.result seed (Some c.in_ok-t.ensures.values.0) (Some c.in_ok-s1.s1) (Some c.in_ok-s1.s2) =
+    record { rows = c.requires.rows; columns = c.requires.columns; matrix = c.in_ok-t.ensures.values.1; first = first; second = second } in
     let k = (goal.at.returns g c).After-power2round-t1 in
     let hash : c.hash-tr.result ≡ key_hash H c.part-rho.result c.power2round-t1.result.0 = search rules in
-    sym (generated-some p H g.G.Xof.front c.args.xi.now c.part-rho.result seed c.part-key.result c.hash-tr.result g.row.K g.row.L c.in_ok-a_hat.a_hat c.in_ok-s1.s1 c.in_ok-s1.s2
+    sym (generated-some p H g.G.Xof.front c.args.xi.now c.part-rho.result seed c.part-key.result c.hash-tr.result g.row.K g.row.L c.in_ok-t.ensures.values.0 c.in_ok-s1.s1 c.in_ok-s1.s2
     c.power2round-t1.result.0 c.power2round-t1.result.1 (seeds-here g (goal.at.returns g c).After-part-key) given (high_part-here g k) (low_part-here g k) hash)
