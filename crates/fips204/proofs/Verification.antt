@@ -18,13 +18,13 @@ use Rattle.fips204_base.specs.Polynomials.{entry, VectorWithin}
 use Rattle.fips204_base.specs.Products.{product, minus}
 use Rattle.fips204_base.specs.Residues.{residue, coefficients}
 use Rattle.fips204_base.specs.Rounding.{use_hint, high_bits, low_bits, high_values}
-use Rattle.fips204_base.specs.Vectors.{IsVector, vector_coefficients, matrix_product, vector_of}
+use Rattle.fips204_base.specs.Vectors.{IsVector, vector_coefficients, matrix_product, product_difference, vector_of}
 use Rattle.fips204_base.proofs.Rounding.{high_bits_below}
 use Rattle.fips204_base.proofs.Products.{product_same}
-use Rattle.fips204_base.proofs.Residues.{congruent_of, congruent_refl}
+use Rattle.fips204_base.proofs.Residues.{congruent_of, congruent_refl, residue_below}
 use Rattle.fips204_base.proofs.Vectors.{vector_of-ext, vector_of-range, vector-within}
 use Rattle.fips204_base.proofs.EncodedParts.{same_signature}
-use Rattle.fips204.specs.Acceptance.{t1_shifted, w_approx, w1_prime, HasShortParts, Accepts, Verifies}
+use Rattle.fips204.specs.Acceptance.{t1_shifted, w_approx, hinted, w1_prime, HasShortParts, Accepts, Verifies}
 use Rattle.fips204.specs.Attempts.{commitment}
 use Rattle.fips204.specs.Keys.{PublicParts}
 use Rattle.fips204.specs.declared.types.Params.{Params}
@@ -73,21 +73,25 @@ hint-bit k h r n is l m =
     bit (entry h r n) (omega (arith, ints, range.0)) range.1
 
 -- UseHint of h and w' is w1'
-pub w1_prime-is : (p : ParameterSet) (a : List (List T)) (t1 z h : List R) (c : R) (w v : List R) (k : ℕ) → k ≡ p.k
-    → ((r n : ℕ) → r < k → n < 256 → vector_coefficients w r n ≡ w_approx p a t1 z c r n)
-    → v ≡ vector_of k (λ r n. pos (use_hint p.gamma2 (int_lt (pos 0) (entry h r n)) (vector_coefficients w r n))) → v ≡ w1_prime p a t1 z h c
-unfolding w1_prime is_one
-w1_prime-is p a t1 z h c w v k rows approx e =
-    e ∙ vector_of-ext k _ _ (λ r n l m. ap (λ x. pos (use_hint p.gamma2 (int_lt (pos 0) (entry h r n)) x)) (approx r n l m)) ∙ rw rows refl
-
-pub hinted-range : (p : ParameterSet) (a : List (List T)) (t1 z h : List R) (c : R) (v : List R) → (p.gamma2 ≡ 95232) ⊎ (p.gamma2 ≡ 261888) → v ≡ w1_prime p a t1 z h c
-    → All (λ x. InRange (pos 0) (pos (high_values p.gamma2 - 1)) x.0) v
+pub w1_prime-is : (p : ParameterSet) (a : List (List T)) (t1 z h w : List R) (c : R) (k : ℕ) → k ≡ p.k
+    → ((r n : ℕ) → r < k → n < 256 → vector_coefficients w r n ≡ w_approx p a t1 z c r n) → hinted p h (vector_coefficients w) ≡ w1_prime p a t1 z h c
 unfolding w1_prime
-hinted-range p a t1 z h c v set e =
+w1_prime-is p a t1 z h w c k rows approx =
+    vector_of-ext p.k _ _ (λ r n l m. ap (λ x. pos (use_hint p.gamma2 (is_one (get_or h r record { 0 = [] }) n) x)) (approx r n (rw rows l) m))
+
+-- what UseHint gives at each place, as a vector
+pub hinted-is : (p : ParameterSet) (h w v : List R) (k : ℕ) → k ≡ p.k
+    → v ≡ vector_of k (λ r n. pos (use_hint p.gamma2 (int_lt (pos 0) (entry h r n)) (vector_coefficients w r n))) → v ≡ hinted p h (vector_coefficients w)
+unfolding is_one
+hinted-is p h w v k rows e = e ∙ rw rows refl
+
+pub hinted-range : (p : ParameterSet) (h w v : List R) → (p.gamma2 ≡ 95232) ⊎ (p.gamma2 ≡ 261888) → v ≡ hinted p h (vector_coefficients w)
+    → All (λ x. InRange (pos 0) (pos (high_values p.gamma2 - 1)) x.0) v
+hinted-range p h w v set e =
     let empty : R = record { 0 = [] } in
-    let f = λ (r n : ℕ). pos (use_hint p.gamma2 (is_one (get_or h r empty) n) (w_approx p a t1 z c r n)) in
+    let f = λ (r n : ℕ). pos (use_hint p.gamma2 (is_one (get_or h r empty) n) (vector_coefficients w r n)) in
     let vector = vector_of-range p.k 0 (high_values p.gamma2 - 1) f (λ r n l m.
-    let below = use_hint-below p.gamma2 (w_approx p a t1 z c r n) (is_one (get_or h r empty) n) set (mod_below _ 8380417 (omega arith)) in
+    let below = use_hint-below p.gamma2 (vector_coefficients w r n) (is_one (get_or h r empty) n) set (residue_below (entry w r n)) in
     (omega (arith, ints), omega (arith, ints, below))) in
     subst (λ (x : List R). All (λ x. InRange (pos 0) (pos (high_values p.gamma2 - 1)) x.0) x) (sym e) vector.range
 
@@ -154,6 +158,17 @@ accepts-by_parts p H a t1 mu sig c_tilde z h answer known parts both =
       λ t. accepts-in (set_of p) H a t1 mu sig c_tilde z h parts (both.0 t),
       λ v. both.1 (accepts-out (set_of p) H a t1 mu sig c_tilde z h sizes.0 (omega (arith, sizes.1)) parts v),
     )
+
+-- with the challenge and A z - c t1 2^13 at hand, where the coefficients of u are those of t1 2^13, the commitment decides
+pub commitment-decides : (p : Params) (H : List ℕ → List ℕ) (a : List (List T)) (t1 : List R) (mu sig c_tilde : List ℕ) (z h : List R) (c : R) (u w : List R) (k l : ℕ) (answer : Bool) → IsKnown p → k ≡ p.k → l ≡ p.l
+    → HasShortParts (set_of p) sig c_tilde z h → challenge (nat_abs p.tau) (H c_tilde) ≡ Some c
+    → ((r n : ℕ) → r < k → n < 256 → vector_coefficients u r n ≡ t1_shifted t1 r n)
+    → ((r n : ℕ) → r < k → n < 256 → entry w r n ≡ pos (product_difference l a z c u r n))
+    → (IsTrue answer ↔ (c_tilde ≡ commitment (set_of p) H mu (hinted (set_of p) h (vector_coefficients w)))) → IsTrue answer ↔ Accepts (set_of p) H a t1 mu sig
+commitment-decides p H a t1 mu sig c_tilde z h c u w k l answer known rows columns parts ball shifted values verdict =
+    let w1 = w1_prime-is (set_of p) a t1 z h w c k rows (λ r n i m. w_approx-is (set_of p) a t1 z u w c l r n columns (λ j q. shifted r j i q) m (values r n i m)) in
+    accepts-by_parts p H a t1 mu sig c_tilde z h answer known parts
+    (decided (set_of p) H a t1 z h (hinted (set_of p) h (vector_coefficients w)) mu c_tilde (challenge (nat_abs p.tau) (H c_tilde)) c answer ball w1 verdict)
 
 -- ranges of the parts
 pub short-response : (p : Params) (L : ℕ) (sig c_tilde : List ℕ) (z h : List R) → IsKnown p → L ≡ p.l → HasShortParts (set_of p) sig c_tilde z h → VectorWithin L 524288 z

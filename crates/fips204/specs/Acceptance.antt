@@ -22,9 +22,13 @@ t1_shifted t1 r n = 8192 * vector_coefficients t1 r n % 8380417
 abbrev pub w_approx : ParameterSet → List (List T) → List R → List R → R → ℕ → ℕ → ℕ
 w_approx p a t1 z c r = minus (matrix_product p.l a (vector_coefficients z) r) (scaled c (t1_shifted t1) r)
 
+-- UseHint(h, w), coefficient by coefficient
+abbrev pub hinted : ParameterSet → List R → (ℕ → ℕ → ℕ) → List R
+hinted p h w = vector_of p.k (λ r n. pos (use_hint p.gamma2 (is_one (slice_index_or h r record { 0 = [] }) n) (w r n)))
+
 -- w1' = UseHint(h, w')
 unfoldable pub w1_prime : ParameterSet → List (List T) → List R → List R → List R → R → List R
-w1_prime p a t1 z h c = vector_of p.k (λ r n. pos (use_hint p.gamma2 (is_one (slice_index_or h r record { 0 = [] }) n) (w_approx p a t1 z c r n)))
+w1_prime p a t1 z h c = hinted p h (w_approx p a t1 z c)
 
 -- the signature has these parts, so that its last bytes spell the hint h, and the norm of z is small
 pub record HasShortParts (p : ParameterSet) (signature c_tilde : List ℕ) (z h : List R) : Type 0 where

@@ -2,14 +2,13 @@
 #![tactic(auto)]
 
 ghost use Rattle.std.specs.Prelude.{◌≡◌, ◌≤◌, ◌<◌, ◌⊎◌, ◌-◌, ◌*◌, ◌%◌, ◌≤ℤ◌, ◌↔◌, ℕ, List, pos, nat_abs, IsTrue, Some, int_lt, MatchOption};
-ghost use Rattle.std.specs.List.{All};
 ghost use Rattle.fips204_base.specs.Challenge.{challenge};
-ghost use Rattle.fips204_base.specs.Packing.{InRange};
-ghost use Rattle.fips204_base.specs.Polynomials.{VectorWithin, IsReduced, IsReducedVector, IsReducedMatrix};
+ghost use Rattle.fips204_base.specs.Polynomials.{IsReducedVector};
 ghost use Rattle.fips204_base.specs.Residues.{residue};
-ghost use Rattle.fips204_base.specs.Rounding.{use_hint, high_values};
+ghost use Rattle.fips204_base.specs.Rounding.{use_hint};
 ghost use Rattle.fips204_base.specs.Vectors.{IsVector, vector_coefficients};
-ghost use Rattle.fips204.specs.Acceptance.{t1_shifted, w1_prime, HasShortParts, Accepts, Verifies};
+ghost use Rattle.fips204_base.specs.declared.types.R.{R};
+ghost use Rattle.fips204.specs.Acceptance.{t1_shifted, hinted, HasShortParts, Accepts, Verifies};
 ghost use Rattle.fips204.specs.Attempts.{commitment};
 ghost use Rattle.fips204.specs.Keys.{IsHighPart};
 ghost use Rattle.fips204.specs.ParameterSets.{commitment_length};
@@ -17,10 +16,10 @@ ghost use Rattle.fips204.specs.Sets.{HasSizes, set_of};
 
 use super::commitment::commitment;
 use super::rejection::has_norm_below;
-use crate::types::{Params, PreparedPublicKey, PublicKey, R, T};
+use crate::types::{Params, PreparedPublicKey, PublicKey, R};
 use fips204_base::D;
 use fips204_base::encodings::sig_decode;
-use fips204_base::hashing::{expand_a, sample_in_ball};
+use fips204_base::hashing::{expanded_times_vector_less, sample_in_ball};
 use fips204_base::high_low::use_hint;
 use fips204_base::maps::{map_vector, update_vector_with};
 use fips204_base::product::matrix_times_vector_less;
@@ -40,13 +39,14 @@ pub fn verify_internal<
     requires sizes { HasSizes p.now K L LAMBDA_DIV4 SIG_LEN }
     ensures { IsTrue result ↔ Verifies (set_of p.now) H.front G.front pk.now mu.now sig.now }
 {
-    match short_parts::<K, L, LAMBDA_DIV4, SIG_LEN>(p, sig) {
-        None => false,
-        // A = ExpandA(rho)
-        Some(parts) => match expand_a::<K, L, G>(&pk.rho) {
-            Err(_) => false,
-            Ok(a_hat) => accepts::<K, L, LAMBDA_DIV4, H>(p, &a_hat, &pk.t1, mu, &parts),
-        },
+    let Some(parts) = opened::<K, L, LAMBDA_DIV4, SIG_LEN, H>(p, sig) else {
+        return false;
+    };
+    let (c_tilde, z, h, c) = &parts;
+    // A = ExpandA(rho), w'_approx = A z - c t1 2^d
+    match expanded_times_vector_less::<K, L, G>(&pk.rho, z, c, &t1_shifted(&pk.t1)) {
+        Err(_) => false,
+        Ok(w) => has_commitment::<K, LAMBDA_DIV4, H>(p, mu, w, h, c_tilde),
     }
 }
 
@@ -61,93 +61,60 @@ pub(crate) fn verify_prepared<
     requires sizes { HasSizes p.now K L LAMBDA_DIV4 SIG_LEN }
     ensures { IsTrue result ↔ Accepts (set_of p.now) H.front pk.now.matrix pk.now.key.t1 mu.now sig.now }
 {
-    match short_parts::<K, L, LAMBDA_DIV4, SIG_LEN>(p, sig) {
-        None => false,
-        Some(parts) => accepts::<K, L, LAMBDA_DIV4, H>(p, &pk.a_hat, &pk.key.t1, mu, &parts),
-    }
+    let Some(parts) = opened::<K, L, LAMBDA_DIV4, SIG_LEN, H>(p, sig) else {
+        return false;
+    };
+    let (c_tilde, z, h, c) = &parts;
+    // w'_approx = A z - c t1 2^d
+    let w = matrix_times_vector_less(&pk.a_hat, z, c, &t1_shifted(&pk.key.t1));
+    has_commitment::<K, LAMBDA_DIV4, H>(p, mu, w, h, c_tilde)
 }
 
-/// The parts `c_tilde`, `z` and `h` of a signature (lines 2 to 4), or `None` where its last bytes spell no
-/// hint, or the norm of `z` is not below gamma1 - beta.
+/// The parts `c_tilde`, `z` and `h` of a signature and its challenge (lines 2 to 8), or `None` where its last
+/// bytes spell no hint, the norm of `z` is not below gamma1 - beta, or the challenge passes its limit.
 #[inline(always)]
-fn short_parts<const K: usize, const L: usize, const LAMBDA_DIV4: usize, const SIG_LEN: usize>(
-    p: &Params,
-    sig: &[u8; SIG_LEN],
-) -> Option<([u8; LAMBDA_DIV4], [R; L], [R; K])>
+fn opened<
+    const K: usize,
+    const L: usize,
+    const LAMBDA_DIV4: usize,
+    const SIG_LEN: usize,
+    H: Xof,
+>(p: &Params, sig: &[u8; SIG_LEN]) -> Option<([u8; LAMBDA_DIV4], [R; L], [R; K], R)>
     requires sizes { HasSizes p.now K L LAMBDA_DIV4 SIG_LEN }
     ensures { MatchOption result
-        ((c_tilde : List ℕ) (z h : List R) → HasShortParts (set_of p.now) sig.now c_tilde z h → ⊥)
-        (λ parts. HasShortParts (set_of p.now) sig.now parts.0 parts.1 parts.2) }
+        ((c_tilde : List ℕ) (z h : List R) (c : R) → HasShortParts (set_of p.now) sig.now c_tilde z h → challenge (nat_abs p.now.tau) (H.front c_tilde) ≡ Some c → ⊥)
+        (λ parts. HasShortParts (set_of p.now) sig.now parts.0 parts.1 parts.2 × (challenge (nat_abs p.now.tau) (H.front parts.0) ≡ Some parts.3)) }
 {
     // (c_tilde, z, h) = sigDecode(sigma)
-    let parts = sig_decode::<K, L, LAMBDA_DIV4, SIG_LEN>(p.gamma1, p.omega, sig)?;
+    let (c_tilde, z, h) = sig_decode::<K, L, LAMBDA_DIV4, SIG_LEN>(p.gamma1, p.omega, sig)?;
     // the norm of z is below gamma1 - beta
-    if has_norm_below(&parts.1, p.z_bound()) {
-        Some(parts)
-    } else {
-        None
+    if !has_norm_below(&z, p.z_bound()) {
+        return None;
+    }
+    // c = SampleInBall(c_tilde)
+    match sample_in_ball::<H>(p.tau, &c_tilde) {
+        Err(_) => None,
+        Ok(c) => Some((c_tilde, z, h, c)),
     }
 }
 
-/// Whether `c_tilde` is the commitment that the parts of a signature give: there is a challenge of `c_tilde`,
-/// and the `w1'` that it and the matrix give has this commitment.
+/// Whether `c_tilde` is the commitment of `w1' = UseHint(h, w)` (lines 10 to 12).
 ///
-/// Values of the matrix are below `q` in absolute value, coefficients of `t1` from 0 to 1023, those of `z` at
-/// most 524288 in absolute value, those of `h` 0 or 1. `K` and `L` are those of the set, and `LAMBDA_DIV4` is
-/// the length of `c_tilde`.
-fn accepts<const K: usize, const L: usize, const LAMBDA_DIV4: usize, H: Xof>(
+/// Coefficients of `w` are below `q` in absolute value, those of `h` 0 or 1. `K` is that of the set, and
+/// `LAMBDA_DIV4` is the length of `c_tilde`.
+fn has_commitment<const K: usize, const LAMBDA_DIV4: usize, H: Xof>(
     p: &Params,
-    a_hat: &[[T; L]; K],
-    t1: &[R; K],
     mu: &[u8; 64],
-    parts: &([u8; LAMBDA_DIV4], [R; L], [R; K]),
+    mut w: [R; K],
+    h: &[R; K],
+    c_tilde: &[u8; LAMBDA_DIV4],
 ) -> bool
     requires rows { K ≡ p.now.k }
-    requires columns { L ≡ p.now.l }
     requires commitment_size { LAMBDA_DIV4 ≡ commitment_length (set_of p.now) }
-    requires matrix { IsReducedMatrix a_hat.now }
-    requires high { IsHighPart K t1.now }
-    requires response { VectorWithin L 524288 parts.now.1 }
-    requires hint { IsVector K 0 1 parts.now.2 }
-    ensures { IsTrue result ↔ ((c : R) × (challenge (nat_abs p.now.tau) (H.front parts.now.0) ≡ Some c)
-        × (parts.now.0 ≡ commitment (set_of p.now) H.front mu.now (w1_prime (set_of p.now) a_hat.now t1.now parts.now.1 parts.now.2 c))) }
-{
-    let (c_tilde, z, h) = parts;
-    // c = SampleInBall(c_tilde)
-    match sample_in_ball::<H>(p.tau, c_tilde) {
-        Err(_) => false,
-        // c_tilde = H(mu || w1Encode(w1'))
-        Ok(c) => {
-            let w1 = w1_prime(p, a_hat, t1, z, h, &c);
-            *c_tilde == commitment::<K, LAMBDA_DIV4, H>(p, mu, &w1)
-        }
-    }
-}
-
-/// `w1'`: `UseHint` of `h` and `A z - c t1 2^d`, with high bits as coefficients.
-///
-/// Values of the matrix are below `q` in absolute value, coefficients of `t1` from 0 to 1023, those of
-/// `z` at most 524288 in absolute value, those of `h` 0 or 1, and those of `c` below `q` in absolute value.
-fn w1_prime<const K: usize, const L: usize>(
-    p: &Params,
-    a_hat: &[[T; L]; K],
-    t1: &[R; K],
-    z: &[R; L],
-    h: &[R; K],
-    c: &R,
-) -> [R; K]
-    requires rows { K ≡ p.now.k }
-    requires columns { L ≡ p.now.l }
-    requires matrix { IsReducedMatrix a_hat.now }
-    requires high { IsHighPart K t1.now }
-    requires response { VectorWithin L 524288 z.now }
+    requires range { IsReducedVector K w }
     requires hint { IsVector K 0 1 h.now }
-    requires challenge { IsReduced c.now.0 }
-    ensures value { result ≡ w1_prime (set_of p.now) a_hat.now t1.now z.now h.now c.now }
-    ensures range { All (λ w. InRange (pos 0) (pos (high_values (nat_abs p.now.gamma2) - 1)) w.0) result }
+    ensures { IsTrue result ↔ (c_tilde.now ≡ commitment (set_of p.now) H.front mu.now (hinted (set_of p.now) h.now (vector_coefficients w.entry))) }
 {
-    // w'_approx = A z - c t1 2^d
-    let mut w = matrix_times_vector_less(a_hat, z, c, &t1_shifted(t1));
     // w1' = UseHint(h, w'_approx)
     let gamma2 = p.gamma2;
     update_vector_with(
@@ -158,7 +125,8 @@ fn w1_prime<const K: usize, const L: usize>(
             ensures { result ≡ pos (use_hint (nat_abs gamma2) (int_lt (pos 0) h) (residue w)) }
         { use_hint(gamma2, h, w) },
     );
-    w
+    // c_tilde = H(mu || w1Encode(w1'))
+    *c_tilde == commitment::<K, LAMBDA_DIV4, H>(p, mu, &w)
 }
 
 /// `t1 2^d`, with coefficients from 0 to `q - 1`.

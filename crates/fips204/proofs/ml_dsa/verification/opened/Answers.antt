@@ -1,0 +1,86 @@
+use Rattle.std.proofs.Common.{rules, arith, ◌≡◌, ◌≤◌, ◌<◌, ◌+◌, ◌-◌, ◌∙◌, ℕ, List, None, ap, sym, true≢false, nat_abs, to_z, of_z, w32}
+use Rattle.std.proofs.lemmas.Bool.{ltb-true, lt-ltb}
+use Rattle.std.proofs.lemmas.Int.{ints, to_z-of_z}
+use Rattle.std.proofs.lemmas.Option.{none-some}
+use Rattle.fips204_base.specs.Challenge.{challenge}
+use Rattle.fips204_base.specs.Encodings.{IsSignature}
+use Rattle.fips204_base.proofs.EncodedParts.{same_signature}
+use Rattle.fips204_base.proofs.Sampled.{some_of_ok, none_of_err}
+use Rattle.fips204.specs.ParameterSets.{commitment_length}
+use Rattle.fips204.specs.Sets.{set_of}
+use Rattle.fips204.proofs.ParameterSets.{limits, mask-size, signature-size}
+use Rattle.fips204.proofs.Verification.{response-within, same_norm}
+use Rattle.fips204.proofs.ml_dsa.verification.opened.Given.{Over}
+use Rattle.fips204.proofs.ml_dsa.verification.opened.Goals.{After-has_norm_below}
+use Rattle.fips204.proofs.ml_dsa.verification.opened.Goals as goal
+
+pub sig_decode-requires : goal.sig_decode-requires
+sig_decode-requires g c =
+    let p = c.args.p.now in
+    let M : to_z w32 (of_z w32 p.gamma1) ≡ p.gamma1 = search rules in
+    let O : to_z w32 (of_z w32 p.omega) ≡ p.omega = search rules in
+    let some = limits p (search rules) in
+    let ones : nat_abs p.omega + g.row.K < 256 = rw c.requires.sizes.0 some.hint_size in
+    let size = c.requires.sizes.3 ∙ signature-size p.gamma1 (commitment_length (set_of p)) p.k p.l (nat_abs p.omega) some.mask in
+    (search rules, (search rules, (search rules, (search rules, (rw M some.mask, (rw O some.some_ones, (rw O ones, rw (M, O, c.requires.sizes.0, c.requires.sizes.1, c.requires.sizes.2) size)))))))
+
+pub has_norm_below-requires : goal.has_norm_below-requires
+has_norm_below-requires g c =
+    let p = c.args.p.now in
+    let some = limits p (search rules) in
+    let columns : 1 ≤ g.row.L = rw c.requires.sizes.1 some.some_columns in
+    let bound = to_z-of_z w32 c.z_bound.result (search rules) ∙ c.z_bound.ensures in
+    let M : to_z w32 (of_z w32 p.gamma1) ≡ p.gamma1 = search rules in
+    let z = response-within (nat_abs (to_z w32 (of_z w32 p.gamma1))) g.row.L c.in_ok-c_tilde.z (rw M (mask-size p.gamma1 some.mask).1) c.in_ok-c_tilde.ensures.response in
+    (search rules, (columns, (λ r n h l. (let x = z r n h l in omega (arith, x)), rw bound (omega (arith, ints)))))
+
+pub sample_in_ball-requires : goal.sample_in_ball-requires
+sample_in_ball-requires g c =
+    let p = c.args.p.now in
+    let T : to_z w32 (of_z w32 p.tau) ≡ p.tau = search rules in
+    let some = limits p (search rules) in
+    record { tau = rw T (some.some_signs, some.few_signs) }
+
+-- the decoded parts, and what the test of the norm says
+decoded : (g : Over) (c : After-has_norm_below g)
+    → IsSignature (nat_abs c.args.p.now.gamma1) (nat_abs c.args.p.now.omega) c.args.p.now.k c.args.p.now.l (commitment_length (set_of c.args.p.now)) c.args.sig.now c.in_ok-c_tilde.c_tilde c.in_ok-c_tilde.z c.in_ok-c_tilde.h
+decoded g c =
+    let p = c.args.p.now in
+    let M : to_z w32 (of_z w32 p.gamma1) ≡ p.gamma1 = search rules in
+    let O : to_z w32 (of_z w32 p.omega) ≡ p.omega = search rules in
+    rw (M, O, c.requires.sizes.0, c.requires.sizes.1, c.requires.sizes.2) at c.in_ok-c_tilde.ensures
+
+bound-is : (g : Over) (c : After-has_norm_below g) → nat_abs (to_z w32 (of_z w32 c.z_bound.result)) ≡ (set_of c.args.p.now).gamma1 - (set_of c.args.p.now).beta
+bound-is g c = ap nat_abs (to_z-of_z w32 c.z_bound.result (search rules) ∙ c.z_bound.ensures)
+
+pub returns-then-not-has_norm_below : goal.returns-then-not-has_norm_below
+returns-then-not-has_norm_below g c =
+    let p = set_of c.args.p.now in
+    let k = (goal.at.returns-then-not-has_norm_below g c).After-has_norm_below in
+    let sizes = mask-size c.args.p.now.gamma1 (limits c.args.p.now (search rules)).mask in
+    let test = rw (bound-is g k) at c.has_norm_below.ensures in
+    λ c_tilde z h ball found there. absurd (true≢false (sym (test ∙ lt-ltb _ _ (same_norm p c.args.sig.now c.in_ok-c_tilde.c_tilde c_tilde c.in_ok-c_tilde.z z c.in_ok-c_tilde.h h
+    sizes.0 (omega (arith, sizes.1)) (decoded g k) found)) ∙ c.if-not-has_norm_below.true))
+
+pub returns-in-Err : goal.returns-in-Err
+returns-in-Err g c =
+    let p = c.args.p.now in
+    let k = (goal.at.returns-in-Err g c).After-has_norm_below in
+    let front = g.H.Xof.front in
+    let T : to_z w32 (of_z w32 p.tau) ≡ p.tau = search rules in
+    let sizes = mask-size p.gamma1 (limits p (search rules)).mask in
+    let fault = none_of_err (challenge (nat_abs (to_z w32 (of_z w32 p.tau))) (front c.in_ok-c_tilde.c_tilde)) c.in-Err.field-0 c.in-Err.ensures in
+    let here : challenge (nat_abs p.tau) (front c.in_ok-c_tilde.c_tilde) ≡ None = rw T at fault.0 in
+    λ c_tilde z h ball found there.
+        let same = same_signature (nat_abs p.gamma1) (nat_abs p.omega) p.k p.l (commitment_length (set_of p)) c.args.sig.now c.in_ok-c_tilde.c_tilde c_tilde c.in_ok-c_tilde.z z c.in_ok-c_tilde.h h
+        sizes.0 (omega (arith, sizes.1)) (decoded g k) found.hint in
+        absurd (none-some ball (sym here ∙ ap (λ (x : List ℕ). challenge (nat_abs p.tau) (front x)) same.0 ∙ there))
+
+pub returns-in-Ok : goal.returns-in-Ok
+returns-in-Ok g c =
+    let p = c.args.p.now in
+    let k = (goal.at.returns-in-Ok g c).After-has_norm_below in
+    let front = g.H.Xof.front in
+    let T : to_z w32 (of_z w32 p.tau) ≡ p.tau = search rules in
+    let ball = some_of_ok (challenge (nat_abs (to_z w32 (of_z w32 p.tau))) (front c.in_ok-c_tilde.c_tilde)) c.in-Ok.c c.in-Ok.ensures in
+    (record { hint = decoded g k; norm = ltb-true _ _ (sym (rw (bound-is g k) at c.has_norm_below.ensures) ∙ c.if-not-has_norm_below.false) }, rw T at ball)
