@@ -4,6 +4,7 @@
 ghost use Rattle.std.specs.Prelude.{◌≡◌, ◌≤◌, ◌-◌, ◌*◌, ⊤, pos, nat_abs, IsTrue};
 ghost use Rattle.fips204_base.specs.Packing.{width};
 ghost use Rattle.fips204_base.specs.Rounding.{high_values};
+ghost use Rattle.fips204.specs.Keys.{ArePrivateParts, IsHighPart};
 ghost use Rattle.fips204.specs.ParameterSets.{are_parameters};
 
 pub mod pre_hash;
@@ -143,6 +144,14 @@ impl<const K: usize, const L: usize, H, G> PublicKey<K, L, H, G> {
     {
         &self.tr
     }
+
+    /// A law that a call gives its caller, and computes nothing: `t1` has `K` polynomials with coefficients
+    /// from 0 to 1023.
+    pub fn parts_in_range(&self)
+        ensures { IsHighPart K self.now.t1 }
+    {
+        let _ = &self.t1;
+    }
 }
 
 /// A private key of a set with a matrix of `K` rows and `L` columns, over the streams `H` and `G`.
@@ -179,5 +188,15 @@ impl<const K: usize, const L: usize, H, G> Clone for PrivateKey<K, L, H, G> {
     /// The same key; this never refuses.
     fn clone(&self) -> Result<Self, AllocError> {
         Ok(PrivateKey { ..*self })
+    }
+}
+
+impl<const K: usize, const L: usize, H, G> PrivateKey<K, L, H, G> {
+    /// A law that a call gives its caller, and computes nothing: the parts have the lengths and ranges of a
+    /// private key whose matrix has `K` rows and `L` columns.
+    pub fn parts_in_range(&self)
+        ensures { ArePrivateParts K L self.now }
+    {
+        let _ = &self.s1;
     }
 }

@@ -2,6 +2,9 @@
 //! transforms of its vectors.
 #![tactic(auto)]
 
+ghost use Rattle.fips204_base.specs.Polynomials.{IsReducedMatrix};
+ghost use Rattle.fips204.specs.Keys.{ArePrivateParts, IsHighPart};
+
 use super::{PrivateKey, PublicKey, T};
 use std::marker::Model;
 
@@ -39,6 +42,18 @@ impl<const K: usize, const L: usize, H> Model for PreparedPrivateKey<K, L, H> {
     ghost invariant = { λ sk. IsReducedMatrix sk.a_hat × ArePrivateParts K L sk.key × AreKeyTransforms K L sk.key sk.transforms };
 }
 
+impl<const K: usize, const L: usize, H> PreparedPrivateKey<K, L, H> {
+    /// A law that a call gives its caller, and computes nothing: the matrix has values below `q` in absolute
+    /// value, and the parts have the lengths and ranges of a private key whose matrix has `K` rows and `L`
+    /// columns.
+    pub fn parts_in_range(&self)
+        ensures matrix { IsReducedMatrix self.now.matrix }
+        ensures parts { ArePrivateParts K L self.now.key }
+    {
+        let _ = &self.a_hat;
+    }
+}
+
 /// A public key of a set with a matrix of `K` rows and `L` columns, over the stream `H`, with its matrix.
 ///
 /// Contracts see it as the public key's parts and the matrix, whose entries are the transforms of the plain
@@ -58,4 +73,16 @@ impl<const K: usize, const L: usize, H> Model for PreparedPublicKey<K, L, H> {
     ghost view = { λ pk. record { key = pk.key; matrix = pk.a_hat } };
 
     ghost invariant = { λ pk. IsReducedMatrix pk.a_hat };
+}
+
+impl<const K: usize, const L: usize, H> PreparedPublicKey<K, L, H> {
+    /// A law that a call gives its caller, and computes nothing: the matrix has values below `q` in absolute
+    /// value, and `t1` has `K` polynomials with coefficients from 0 to 1023.
+    pub fn parts_in_range(&self)
+        ensures matrix { IsReducedMatrix self.now.matrix }
+        ensures high { IsHighPart K self.now.key.t1 }
+    {
+        let _ = &self.a_hat;
+        let _ = &self.key.t1;
+    }
 }
