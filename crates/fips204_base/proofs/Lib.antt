@@ -2,6 +2,9 @@ pub mod Residues
 pub mod Reductions
 pub mod Roots
 pub mod Network
+pub mod LaneRows
+pub mod LaneReductions
+pub mod LaneProducts
 pub mod Layers
 pub mod Transforms
 pub mod Products
