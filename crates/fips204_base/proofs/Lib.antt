@@ -23,6 +23,7 @@ pub mod VectorBytes
 pub mod EncodedParts
 pub mod CounterStreams
 pub mod Vectors
+pub mod Batches
 mod WorkedArithmetic
 mod WorkedBytes
 mod WorkedSamplers

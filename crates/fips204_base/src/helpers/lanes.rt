@@ -1,7 +1,7 @@
 //! Eight values for the butterflies in one row, which goes through each step at once.
 #![tactic(auto)]
 
-ghost use Rattle.std.specs.Prelude.{◌≡◌, ℕ, ◌<◌, ◌≤◌, ◌*◌, pos, ◌+ℤ◌, ◌*ℤ◌, length, nat_abs, slice_index_or, FitsSigned};
+ghost use Rattle.std.specs.Prelude.{◌≡◌, ℕ, ◌<◌, ◌≤◌, ◌+◌, ◌*◌, ◌%◌, pos, ◌+ℤ◌, ◌*ℤ◌, length, nat_abs, slice_index_or, FitsSigned};
 ghost use Rattle.std.specs.Int.{int_rem_euclid, w32};
 ghost use Rattle.fips204_base.specs.Residues.{residue, IsCongruent};
 ghost use Rattle.fips204_base.specs.Lanes.{lane, EachLane};
@@ -9,6 +9,7 @@ ghost use Rattle.fips204_base.specs.Lanes.{lane, EachLane};
 use crate::Q;
 use crate::helpers::count::Count;
 use crate::helpers::residue::Residue;
+use crate::helpers::vector::value_to_mont;
 use crate::helpers::zeta_table::zeta_mont;
 use std::simd::{i32x8, i64x8};
 
@@ -28,6 +29,25 @@ impl Lanes {
         Lanes {
             lanes: row_of(&entries),
         }
+    }
+
+    /// Each lane times a factor modulo `q`, below `q` in absolute value, as the factor is.
+    pub(crate) fn times(self, factor: i32) -> Lanes
+        requires { nat_abs factor ≤ 8380416 }
+        ensures value { EachLane (λ x y. residue y ≡ residue factor * residue x % 8380417) 8 self.lanes result.lanes }
+        ensures small { (j : ℕ) → j < 8 → nat_abs (lane result.lanes j) ≤ 8380416 }
+    {
+        mont_products(self, value_to_mont(factor))
+    }
+
+    /// Each lane less that of another row modulo `q`, below `q` in absolute value, as lanes of both are.
+    pub(crate) fn less(self, other: Lanes) -> Lanes
+        requires first { (j : ℕ) → j < 8 → nat_abs (lane self.lanes j) ≤ 8380416 }
+        requires second { (j : ℕ) → j < 8 → nat_abs (lane other.lanes j) ≤ 8380416 }
+        ensures value { (j : ℕ) → j < 8 → residue (lane result.lanes j) ≡ (residue (lane self.lanes j) + 8380416 * residue (lane other.lanes j)) % 8380417 }
+        ensures small { (j : ℕ) → j < 8 → nat_abs (lane result.lanes j) ≤ 8380416 }
+    {
+        self.sub(other, &mut Count::new()).reduce()
     }
 
     /// The array whose entry `i` is lane `i`.
