@@ -4,12 +4,13 @@ use Rattle.std.specs.Prelude.{nat_abs}
 use Rattle.std.specs.Int.{w32}
 use Rattle.std.proofs.lemmas.List.Elements.{All-from_get_or}
 use mir.Val.{SFits}
-use Rattle.fips204_base.specs.Residues.{residue, coefficients, IsCongruent}
-use Rattle.fips204_base.specs.Transforms.{transform}
+use Rattle.fips204_base.specs.Residues.{residue, coefficients, sum_below, IsCongruent}
+use Rattle.fips204_base.specs.Transforms.{transform, inverse_transform}
+use Rattle.fips204_base.specs.Products.{minus, pointwise, product, row_product}
 use Rattle.fips204_base.specs.Polynomials.{Within}
 use Rattle.fips204_base.specs.declared.helpers.lanes.Lanes.{Lanes}
 use Rattle.fips204_base.proofs.Residues.{congruent_of, congruent_trans, congruent_equal, residue_below}
-use Rattle.fips204_base.proofs.Products.{transform_same, transform_below}
+use Rattle.fips204_base.proofs.Products.{transform_same, transform_below, product_of_products, difference_of_products}
 
 -- a row of zeros
 pub zeros : Lanes
@@ -42,3 +43,15 @@ lane_within after out size to small =
 -- a difference of a residue and a product, where each part is known by another name
 pub difference_named : (x a b f y a' y' : ℕ) → x ≡ (a + 8380416 * b) % 8380417 → a ≡ a' → b ≡ f * y % 8380417 → y ≡ y' → x ≡ (a' + 8380416 * (f * y' % 8380417)) % 8380417
 difference_named x a b f y a' y' e g h k = rw (e, g, h, k) refl
+
+-- products of transforms, turned back, are a plain product
+pub lane_product : (x y a b : ℕ → ℕ) → ((j : ℕ) → j < 256 → x j ≡ transform a j) → ((j : ℕ) → j < 256 → y j ≡ transform b j) → (n : ℕ) → n < 256 →
+    inverse_transform (pointwise x y) n ≡ product a b n
+lane_product x y a b = product_of_products (pointwise x y) x y a b (λ j p. refl)
+
+-- a row's sums of products less products of transforms, turned back, are the difference of the plain products
+pub lane_difference : (l : ℕ) (p x a b : ℕ → ℕ) (v t s : ℕ → ℕ → ℕ) → ((j : ℕ) → j < 256 → p j ≡ sum_below l (λ k. v k j * t k j) % 8380417) →
+    ((k j : ℕ) → k < l → j < 256 → t k j ≡ transform (s k) j) → ((j : ℕ) → j < 256 → x j ≡ transform a j) → (n : ℕ) → n < 256 →
+    inverse_transform (minus p (pointwise x (transform b))) n ≡ minus (row_product l (λ k. inverse_transform (v k)) s) (product a b) n
+lane_difference l p x a b v t s h g f =
+    difference_of_products l (minus p (pointwise x (transform b))) p (pointwise x (transform b)) x (transform b) a b v t s (λ j r. refl) h g (λ j r. refl) f (λ j r. refl)

@@ -8,7 +8,9 @@ ghost use Rattle.fips204_base.specs.Transforms.{inverse_transform};
 ghost use Rattle.fips204_base.specs.Polynomials.{coefficient_at, entry, Within, IsReduced, IsReducedVector, AreReduced, IsReducedMatrix};
 ghost use Rattle.fips204_base.specs.Vectors.{vector_coefficients, matrix_product, product_difference, IsTransformOf, AreTransformsOf};
 
-use crate::batch::{inverses_in_lanes, transforms_in_lanes};
+use crate::batch::{
+    differences_in_lanes, inverses_in_lanes, products_in_lanes, transforms_in_lanes,
+};
 use crate::helpers::reduce::{difference, wide_product};
 use crate::helpers::{Count, mat_vec_mul, partial_reduce64};
 use crate::maps::update_with;
@@ -59,6 +61,9 @@ pub fn challenge_times_transforms<const K: usize>(c_hat: &T, v_hat: &[T; K]) -> 
         → (r n : ℕ) → r < K → n < 256 → entry result r n ≡ pos (product c (v r) n) }
     ensures range { IsReducedVector K result }
 {
+    if 6 < K && K <= 8 {
+        return products_in_lanes(c_hat, v_hat);
+    }
     let mut out = [R0; K];
     for i in 0..K {
         let mut multiple = v_hat[i];
@@ -87,6 +92,9 @@ pub fn matrix_times_vector_less<const K: usize, const L: usize>(
 {
     let products = mat_vec_mul(a_hat, &transforms(z));
     let c_hat = transform_of(c);
+    if 5 < K && K <= 8 {
+        return differences_in_lanes(&products, &c_hat, t);
+    }
     let mut out = [R0; K];
     for i in 0..K {
         let mut multiple = transform_of(&t[i]);

@@ -6,6 +6,7 @@ use Rattle.fips204_base.specs.Polynomials.{coefficient_at, vector_residues, matr
 use Rattle.fips204_base.specs.Vectors.{vector_coefficients, matrix_product}
 use Rattle.fips204_base.proofs.Products.{difference_of_products, pointwise_turned}
 use Rattle.fips204_base.proofs.Vectors.{row_written}
+use Rattle.fips204_base.proofs.Batches.{lane_difference}
 use Rattle.fips204_base.proofs.product.matrix_times_vector_less.Goals as goal
 
 pub loop-i-preserved : goal.loop-i-preserved
@@ -27,3 +28,8 @@ loop-i-preserved g c =
       small = λ r n h q. row_written (λ r w. (n : ℕ) → n < 256 → nat_abs (coefficient_at w.0 n) ≤ 8380416) c.loop-i.out i c.inverse_of.result record { 0 = [] }
           inside (λ r h n q. c.loop-i.invariant.small r n h q) c.inverse_of.ensures.small r h n q;
     }
+
+pub returns-then-this-le8-clause-values : goal.returns-then-this-le8-clause-values
+returns-then-this-le8-clause-values g c = λ r n h q. c.differences_in_lanes.ensures.values r n h q
+    ∙ ap pos (lane_difference g.row.L (vector_residues c.mat_vec_mul-products.result r) (coefficients c.transform_of-c_hat.result.0) (coefficients c.args.c.now.0) (vector_coefficients c.args.t.now r)
+    (matrix_residues c.args.a_hat.now r) (vector_residues c.transforms.result) (vector_coefficients c.args.z.now) (λ j p. c.mat_vec_mul-products.ensures.values r j h p) c.transforms.ensures.values c.transform_of-c_hat.ensures.values n q)
