@@ -1,10 +1,10 @@
 -- Polynomials in the lanes of rows.
-use Rattle.std.proofs.Common.{◌≡◌, ℕ, zero, suc, ◌<◌, ◌≤◌, ◌+◌, ◌*◌, ◌%◌, ◌∙◌, ℤ, pos, List, [], ◌∷◌, length, get_or, arith, ap, sym, subst, refl, lit<}
+use Rattle.std.proofs.Common.{◌≡◌, ℕ, zero, suc, ◌<◌, ◌≤◌, ◌+◌, ◌*◌, ◌%◌, ℤ, pos, List, [], ◌∷◌, length, get_or, arith, sym, subst, refl, lit<}
 use Rattle.std.specs.Prelude.{nat_abs}
 use Rattle.std.specs.Int.{w32}
 use Rattle.std.proofs.lemmas.List.Elements.{All-from_get_or}
 use mir.Val.{SFits}
-use Rattle.fips204_base.specs.Residues.{residue, coefficients, sum_below, IsCongruent}
+use Rattle.fips204_base.specs.Residues.{coefficients, sum_below, IsCongruent}
 use Rattle.fips204_base.specs.Transforms.{transform, inverse_transform}
 use Rattle.fips204_base.specs.Products.{minus, pointwise, product, row_product}
 use Rattle.fips204_base.specs.Polynomials.{Within}

@@ -83,7 +83,7 @@ pub(crate) fn differences_in_lanes<const K: usize>(t: &[T; K], c_hat: &T, v: &[R
     requires less { IsReducedVector K v.now }
     ensures values { (r n : ℕ) → r < K → n < 256
         → entry result r n ≡ pos (inverse_transform
-            (minus (vector_residues t.now r) (pointwise (coefficients c_hat.now.0) (transform (vector_coefficients v.now r)))) n) }
+        (minus (vector_residues t.now r) (pointwise (coefficients c_hat.now.0) (transform (vector_coefficients v.now r)))) n) }
     ensures small { IsReducedVector K result }
 {
     let mut rows = gathered(

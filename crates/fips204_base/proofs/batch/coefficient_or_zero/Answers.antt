@@ -1,4 +1,4 @@
-use Rattle.std.proofs.Common.{arith, ap, sym, [], pos}
+use Rattle.std.proofs.Common.{arith, ap, sym, []}
 use Rattle.fips204_base.specs.declared.types.R.{R}
 use Rattle.fips204_base.specs.Polynomials.{coefficient_at}
 use Rattle.std.proofs.lemmas.List.{get_or_past}

@@ -1,9 +1,9 @@
-use Rattle.std.proofs.Common.{◌≡◌, ℕ, ◌<◌, ◌≤◌, ◌∙◌, [], ap, sym, subst, pos, length, length-set, get_or, get_or-set_other, arith, to_z, of_z, w32, rules}
+use Rattle.std.proofs.Common.{◌≡◌, ℕ, ◌<◌, ◌≤◌, ◌∙◌, ap, pos, length, length-set, get_or, get_or-set_other, arith, to_z, of_z, w32, rules}
 use Rattle.std.specs.Prelude.{nat_abs}
 use Rattle.fips204_base.specs.Residues.{residue, coefficients}
 use Rattle.fips204_base.specs.Transforms.{transform}
 use Rattle.fips204_base.specs.Lanes.{lane, lane_at, residues}
-use Rattle.fips204_base.specs.Polynomials.{value_at, vector_residues}
+use Rattle.fips204_base.specs.Polynomials.{vector_residues}
 use Rattle.fips204_base.specs.Products.{minus, pointwise}
 use Rattle.fips204_base.specs.Vectors.{vector_coefficients}
 use Rattle.fips204_base.specs.declared.helpers.lanes.Lanes.{Lanes}

@@ -1,5 +1,4 @@
-use Rattle.std.proofs.Common.{ℕ, ◌≡◌, ◌<◌, ◌≤◌, pos, length}
-use Rattle.std.specs.Prelude.{nat_abs}
+use Rattle.std.proofs.Common.{ℕ, ◌≡◌, ◌<◌, length}
 use Rattle.fips204_base.specs.Polynomials.{entry}
 use Rattle.fips204_base.specs.Lanes.{lane_at}
 use Rattle.fips204_base.specs.declared.helpers.lanes.Lanes.{Lanes}

@@ -1,11 +1,9 @@
-use Rattle.std.proofs.Common.{◌≡◌, ℕ, ◌<◌, ◌≤◌, ◌∙◌, [], ap, pos, length, length-set, arith}
-use Rattle.std.specs.Prelude.{nat_abs}
+use Rattle.std.proofs.Common.{◌≡◌, ℕ, ◌<◌, ◌∙◌, [], ap, length, length-set, arith}
 use Rattle.fips204_base.specs.Residues.{residue, coefficients}
 use Rattle.fips204_base.specs.Transforms.{transform}
 use Rattle.fips204_base.specs.Lanes.{lane_at, residues}
-use Rattle.fips204_base.specs.Polynomials.{coefficient_at, Within}
+use Rattle.fips204_base.specs.Polynomials.{Within}
 use Rattle.fips204_base.specs.Vectors.{vector_coefficients}
-use Rattle.fips204_base.specs.declared.types.T.{T}
 use Rattle.fips204_base.specs.declared.helpers.lanes.Lanes.{Lanes}
 use Rattle.fips204_base.proofs.Vectors.{row_written}
 use Rattle.fips204_base.proofs.Batches.{zeros, lane_transform, lane_within}
