@@ -2,6 +2,9 @@ pub mod Residues
 pub mod Reductions
 pub mod Roots
 pub mod Network
+pub mod LaneRows
+pub mod LaneReductions
+pub mod LaneProducts
 pub mod Layers
 pub mod Transforms
 pub mod Products
@@ -20,6 +23,7 @@ pub mod VectorBytes
 pub mod EncodedParts
 pub mod CounterStreams
 pub mod Vectors
+pub mod Batches
 mod WorkedArithmetic
 mod WorkedBytes
 mod WorkedSamplers

@@ -113,20 +113,25 @@ some_present f zero there = ([], present_nil)
 some_present f (suc n) there =
     let before = some_present f n (λ i h. there i (omega (arith, h))) in
     let last = there n (omega arith) in
-    let end : suc n ≡ n + 1 = omega arith in
-    (before.0 ++ last.0 ∷ [], ap all_present (ap (λ m. map f (range_with_len 0 m)) end ∙ map-range_with_len_more f 0 n n (from_zero n)) ∙ ap (λ x. all_present (map f (range_with_len 0 n) ++ x ∷ [])) last.1
-    ∙ present_push (map f (range_with_len 0 n)) before.0 last.0 before.1)
+    let end : suc n ≡ n + 1 = omega arith in (
+      before.0 ++ last.0 ∷ [],
+      ap all_present (ap (λ m. map f (range_with_len 0 m)) end ∙ map-range_with_len_more f 0 n n (from_zero n)) ∙ ap (λ x. all_present (map f (range_with_len 0 n) ++ x ∷ [])) last.1
+          ∙ present_push (map f (range_with_len 0 n)) before.0 last.0 before.1,
+    )
 
 -- what holds of each holds of the list's
 pub all_present-each : {A : Type 0} (Q : ℕ → A → Type 0) (f : ℕ → Option A) (n : ℕ) (d : A) → ((i : ℕ) → i < n → (x : A) × (f i ≡ Some x) × Q i x)
     → (xs : List A) × (all_present (map f (range_with_len 0 n)) ≡ Some xs) × ((i : ℕ) → i < n → Q i (get_or xs i d))
 all_present-each Q f n d each =
     let all = some_present f n (λ i h. ((each i h).0, (each i h).1)) in
-    let listed = all_present-at f 0 n all.0 all.1 in
-    (all.0, all.1, λ i h.
-        let there : Some (each i h).0 ≡ Some (get_or all.0 i d) = sym (each i h).1 ∙ (ap f (sym (from_zero i)) ∙ listed.1 i d h) in
-        let same : (each i h).0 ≡ get_or all.0 i d = cc in
-        subst (Q i) same (each i h).2)
+    let listed = all_present-at f 0 n all.0 all.1 in (
+      all.0,
+      all.1,
+      λ i h.
+          let there : Some (each i h).0 ≡ Some (get_or all.0 i d) = sym (each i h).1 ∙ (ap f (sym (from_zero i)) ∙ listed.1 i d h) in
+          let same : (each i h).0 ≡ get_or all.0 i d = cc in
+          subst (Q i) same (each i h).2,
+    )
 
 -- ---- what is kept
 

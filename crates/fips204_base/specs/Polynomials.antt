@@ -14,6 +14,10 @@ coefficient_at w n = slice_index_or w n (pos 0)
 abbrev pub entry : List R → ℕ → ℕ → ℤ
 entry v r = coefficient_at (slice_index_or v r record { 0 = [] }).0
 
+-- value n of transform r of a vector
+abbrev pub value_at : List T → ℕ → ℕ → ℤ
+value_at v r = coefficient_at (slice_index_or v r record { 0 = [] }).0
+
 -- every coefficient has an absolute value of at most m
 abbrev pub Within : ℕ → List ℤ → Type 0
 Within m w = All (λ x. nat_abs x ≤ m) w

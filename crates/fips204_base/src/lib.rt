@@ -4,6 +4,7 @@
 //! The crate `fips204` names every item here again; depend on that one.
 #![tactic(auto)]
 
+mod batch;
 pub mod conversion;
 pub mod encodings;
 pub mod fault;

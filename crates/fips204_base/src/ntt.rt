@@ -6,7 +6,7 @@ ghost use Rattle.fips204_base.specs.Lanes.{lane, lane_at, EachPair, EachLaneOfRo
 ghost use Rattle.fips204_base.specs.Lanes.{IsTransform, AreTransforms, IsInverse, AreInverses};
 ghost use Rattle.fips204_base.specs.Network.{IsButterfly, IsInverseButterfly, IsBlock, AreBlocks};
 
-use crate::helpers::Residue;
+pub use crate::helpers::{Lanes, Residue};
 
 /// The transform (FIPS 204, Algorithm 41) of each row of 256 values, lane by lane. The lanes have an
 /// absolute value of at most `q - 1`, before and after. Each row raises the meter by 1024

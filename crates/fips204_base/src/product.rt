@@ -10,6 +10,9 @@ ghost use Rattle.fips204_base.specs.Vectors.{vector_coefficients, matrix_product
 ghost use Rattle.fips204_base.specs.declared.types.R.{R};
 ghost use Rattle.fips204_base.specs.declared.types.T.{T};
 
+use crate::batch::{
+    differences_in_lanes, inverses_in_lanes, products_in_lanes, transforms_in_lanes,
+};
 use crate::helpers::reduce::{difference, wide_product};
 use crate::helpers::{Count, mat_vec_mul, partial_reduce64};
 use crate::maps::update_with;
@@ -52,6 +55,9 @@ pub fn challenge_times_transforms<const K: usize>(c_hat: &T, v_hat: &[T; K]) -> 
         → (r n : ℕ) → r < K → n < 256 → entry result r n ≡ pos (product c (v r) n) }
     ensures range { IsReducedVector K result }
 {
+    if 6 < K && K <= 8 {
+        return products_in_lanes(c_hat, v_hat);
+    }
     let mut out = [R0; K];
     for i in 0..K {
         let mut multiple = v_hat[i];
@@ -78,12 +84,12 @@ pub fn matrix_times_vector_less<const K: usize, const L: usize>(
     ensures values { (r n : ℕ) → r < K → n < 256 → entry result r n ≡ pos (product_difference L a_hat.now z.now c.now t.now r n) }
     ensures range { IsReducedVector K result }
 {
-    less(&mat_vec_mul(a_hat, &transforms(z)), c, t)
+    less_challenge_product(&mat_vec_mul(a_hat, &transforms(z)), c, t)
 }
 
 /// The product of a matrix with a vector, given by its transforms, less the product of a challenge with a
 /// vector: coefficients from 0 to `q - 1`. Values and coefficients are below `q` in absolute value.
-pub(crate) fn less<const K: usize>(products: &[T; K], c: &R, t: &[R; K]) -> [R; K]
+pub(crate) fn less_challenge_product<const K: usize>(products: &[T; K], c: &R, t: &[R; K]) -> [R; K]
     requires products { AreReduced products.now }
     requires challenge { IsReduced c.now.0 }
     requires less { IsReducedVector K t.now }
@@ -93,13 +99,18 @@ pub(crate) fn less<const K: usize>(products: &[T; K], c: &R, t: &[R; K]) -> [R; 
     ensures range { IsReducedVector K result }
 {
     let c_hat = transform_of(c);
-    let mut rest = *products;
+    if 5 < K && K <= 8 {
+        return differences_in_lanes(products, &c_hat, t);
+    }
+    let mut out = [R0; K];
     for i in 0..K {
         let mut multiple = transform_of(&t[i]);
         update_with(&mut multiple.0, &c_hat.0, value_product);
-        update_with(&mut rest[i].0, &multiple.0, difference);
+        let mut rest = products[i];
+        update_with(&mut rest.0, &multiple.0, difference);
+        out[i] = inverse_of(&rest);
     }
-    inverses(&rest)
+    out
 }
 
 /// The vector that has these transforms: coefficients from 0 to `q - 1`. The values are below `q` in absolute
@@ -109,6 +120,9 @@ pub(crate) fn inverses<const K: usize>(t: &[T; K]) -> [R; K]
     ensures values { (r n : ℕ) → r < K → n < 256 → entry result r n ≡ pos (inverse_transform (vector_residues t.now r) n) }
     ensures range { IsReducedVector K result }
 {
+    if 6 < K && K <= 8 {
+        return inverses_in_lanes(t);
+    }
     let mut out = [R0; K];
     for i in 0..K {
         out[i] = inverse_of(&t[i]);
@@ -122,6 +136,9 @@ pub fn transforms<const L: usize>(v: &[R; L]) -> [T; L]
     ensures values { AreTransformsOf L (vector_coefficients v.now) result }
     ensures small { AreReduced result }
 {
+    if 5 < L && L <= 8 {
+        return transforms_in_lanes(v);
+    }
     let mut out = [T0; L];
     for k in 0..L {
         out[k] = transform_of(&v[k]);

@@ -13,7 +13,7 @@ use crate::conversion::coeff_from_three_bytes;
 use crate::fault::Fault;
 use crate::hashing::keep;
 use crate::helpers::vector::row_sum;
-use crate::product::{inverses, less, transforms};
+use crate::product::{inverses, less_challenge_product, transforms};
 use crate::types::{R, T, T0};
 use crate::xof::{Xof, XofReader};
 
@@ -146,5 +146,5 @@ pub fn expanded_times_vector_less<const K: usize, const L: usize, G: Xof>(
     ensures range { IfOk result (IsReducedVector K) }
 {
     let products = expanded_mat_vec_mul::<K, L, G>(rho, &transforms(z))?;
-    Ok(less(&products, c, t))
+    Ok(less_challenge_product(&products, c, t))
 }

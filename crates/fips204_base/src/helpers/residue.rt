@@ -1,7 +1,7 @@
 //! The values that the butterflies work on.
 #![tactic(auto)]
 
-ghost use Rattle.std.specs.Prelude.{◌≡◌, ℕ, ◌<◌, ◌≤◌, ◌+◌, ◌*◌, ◌%◌, ◌^◌, List, ℤ, pos, ◌+ℤ◌, ◌-ℤ◌, nat_abs};
+ghost use Rattle.std.specs.Prelude.{◌≡◌, ℕ, ◌<◌, ◌≤◌, ◌+◌, ◌*◌, ◌%◌, ◌^◌, List, ℤ, pos, ◌+ℤ◌, ◌-ℤ◌, ◌≤ℤ◌, length, nat_abs};
 ghost use Rattle.fips204_base.specs.Residues.{residue, IsCongruent};
 ghost use Rattle.fips204_base.specs.Transforms.{zeta_at};
 ghost use Rattle.fips204_base.specs.Lanes.{lane, EachLane};
@@ -11,9 +11,10 @@ use crate::helpers::count::Count;
 use crate::helpers::reduce::{mont_reduce, partial_reduce32, wide_product};
 use crate::helpers::zeta_table::zeta_mont;
 
-/// A value that the butterflies work on, seen as a row of lanes, as many as its type has. Each
-/// operation works on every lane. Products, sums and differences raise the meter, which has to have
-/// room for them and which nothing here can make, copy or read.
+/// A value that the butterflies work on, seen as a row of lanes, as many as its type has: `lanes` gives
+/// `width` entries. Each operation works on every lane. Products, sums and differences raise the meter,
+/// of which both numbers are below `2^64`, which has to have room for them, and which nothing here can
+/// make, copy or read.
 pub trait Residue: Copy {
     /// What counts the steps.
     type Meter;
@@ -26,18 +27,20 @@ pub trait Residue: Copy {
 
     ghost sums: { Self.Meter → ℕ };
 
-    /// The sum, which has to fit `i32`.
+    /// The sum, where it fits `i32` in each lane.
     fn add(self, other: Self, meter: &mut Self::Meter) -> Self
         requires room { sums meter.old + 1 < 2 ^ 64 }
-        requires fits { (j : ℕ) → j < width → nat_abs (lane (lanes self) j +ℤ lane (lanes other) j) ≤ 2147483647 }
+        requires low { (j : ℕ) → j < width → (pos 0 -ℤ pos 2147483648) ≤ℤ (lane (lanes self) j +ℤ lane (lanes other) j) }
+        requires high { (j : ℕ) → j < width → (lane (lanes self) j +ℤ lane (lanes other) j) ≤ℤ pos 2147483647 }
         ensures value { (j : ℕ) → j < width → lane (lanes result) j ≡ lane (lanes self) j +ℤ lane (lanes other) j }
         ensures products_same { products meter.new ≡ products meter.old }
         ensures sums_up { sums meter.new ≡ sums meter.old + 1 };
 
-    /// The difference, which has to fit `i32`.
+    /// The difference, where it fits `i32` in each lane.
     fn sub(self, other: Self, meter: &mut Self::Meter) -> Self
         requires room { sums meter.old + 1 < 2 ^ 64 }
-        requires fits { (j : ℕ) → j < width → nat_abs (lane (lanes self) j -ℤ lane (lanes other) j) ≤ 2147483647 }
+        requires low { (j : ℕ) → j < width → (pos 0 -ℤ pos 2147483648) ≤ℤ (lane (lanes self) j -ℤ lane (lanes other) j) }
+        requires high { (j : ℕ) → j < width → (lane (lanes self) j -ℤ lane (lanes other) j) ≤ℤ pos 2147483647 }
         ensures value { (j : ℕ) → j < width → lane (lanes result) j ≡ lane (lanes self) j -ℤ lane (lanes other) j }
         ensures products_same { products meter.new ≡ products meter.old }
         ensures sums_up { sums meter.new ≡ sums meter.old + 1 };

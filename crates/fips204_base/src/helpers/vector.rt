@@ -41,7 +41,7 @@ pub fn to_mont<const L: usize>(v: &[T; L]) -> [T; L]
 }
 
 /// The Montgomery form of a value.
-fn value_to_mont(x: i32) -> i32
+pub(crate) fn value_to_mont(x: i32) -> i32
     requires { nat_abs x ≤ 67000000 }
     ensures value { residue result ≡ 4294967296 * residue x % 8380417 }
     ensures small { nat_abs result ≤ 8380416 }

@@ -5,6 +5,7 @@ use Rattle.fips204_base.specs.Polynomials.{coefficient_at, vector_residues}
 use Rattle.fips204_base.specs.Products.{product}
 use Rattle.fips204_base.proofs.Products.{product_of_products, pointwise_turned}
 use Rattle.fips204_base.proofs.Vectors.{row_written}
+use Rattle.fips204_base.proofs.Batches.{lane_product}
 use Rattle.fips204_base.proofs.product.challenge_times_transforms.Goals as goal
 
 pub loop-i-preserved : goal.loop-i-preserved
@@ -22,3 +23,6 @@ loop-i-preserved g c =
       small = λ r n h q. row_written (λ r w. (n : ℕ) → n < 256 → nat_abs (coefficient_at w.0 n) ≤ 8380416) c.loop-i.out i c.inverse_of.result record { 0 = [] }
           inside (λ r h n q. c.loop-i.invariant.small r n h q) c.inverse_of.ensures.small r h n q;
     }
+
+pub returns-then-this-le8-clause-values : goal.returns-then-this-le8-clause-values
+returns-then-this-le8-clause-values g c = λ challenge v f k r n h q. c.products_in_lanes.ensures.values r n h q ∙ ap pos (lane_product (coefficients c.args.c_hat.now.0) (vector_residues c.args.v_hat.now r) challenge (v r) f (λ j p. k r j h p) n q)

@@ -1,0 +1,171 @@
+//! Eight values for the butterflies in one row, which goes through each step at once.
+#![tactic(auto)]
+
+ghost use Rattle.std.specs.Prelude.{◌≡◌, ℕ, ◌<◌, ◌≤◌, ◌+◌, ◌*◌, ◌%◌, pos, ◌+ℤ◌, ◌*ℤ◌, length, nat_abs, slice_index_or, FitsSigned};
+ghost use Rattle.std.specs.Int.{int_rem_euclid, w32};
+ghost use Rattle.fips204_base.specs.Residues.{residue, IsCongruent};
+ghost use Rattle.fips204_base.specs.Lanes.{lane, EachLane};
+
+use crate::Q;
+use crate::helpers::count::Count;
+use crate::helpers::residue::Residue;
+use crate::helpers::vector::value_to_mont;
+use crate::helpers::zeta_table::zeta_mont;
+use std::simd::{i32x8, i64x8};
+
+/// A row of eight `i32` lanes. Contracts see the row as the list of its lanes.
+#[derive(Clone, Copy)]
+pub struct Lanes {
+    lanes: i32x8,
+    ghost eight: { length lanes ≡ 8 },
+    ghost fits: { (j : ℕ) → j < 8 → FitsSigned w32 (slice_index_or lanes j (pos 0)) },
+}
+
+impl Lanes {
+    /// The row whose lane `i` is entry `i`.
+    pub fn from_array(entries: [i32; 8]) -> Lanes
+        ensures { result.lanes ≡ entries }
+    {
+        Lanes {
+            lanes: row_of(&entries),
+        }
+    }
+
+    /// Each lane times a factor modulo `q`, below `q` in absolute value, as the factor is.
+    pub(crate) fn times(self, factor: i32) -> Lanes
+        requires { nat_abs factor ≤ 8380416 }
+        ensures value { EachLane (λ x y. residue y ≡ residue factor * residue x % 8380417) 8 self.lanes result.lanes }
+        ensures small { (j : ℕ) → j < 8 → nat_abs (lane result.lanes j) ≤ 8380416 }
+    {
+        mont_products(self, value_to_mont(factor))
+    }
+
+    /// Each lane less that of another row modulo `q`, below `q` in absolute value, as lanes of both are.
+    pub(crate) fn less(self, other: Lanes) -> Lanes
+        requires first { (j : ℕ) → j < 8 → nat_abs (lane self.lanes j) ≤ 8380416 }
+        requires second { (j : ℕ) → j < 8 → nat_abs (lane other.lanes j) ≤ 8380416 }
+        ensures value { (j : ℕ) → j < 8 → residue (lane result.lanes j) ≡ (residue (lane self.lanes j) + 8380416 * residue (lane other.lanes j)) % 8380417 }
+        ensures small { (j : ℕ) → j < 8 → nat_abs (lane result.lanes j) ≤ 8380416 }
+    {
+        self.sub(other, &mut Count::new()).reduce()
+    }
+
+    /// The array whose entry `i` is lane `i`.
+    pub fn to_array(self) -> [i32; 8]
+        ensures { result ≡ self.lanes }
+    {
+        self.lanes.to_array()
+    }
+}
+
+/// One step of the meter is one step in all eight lanes.
+impl Residue for Lanes {
+    type Meter = Count;
+
+    ghost lanes = { λ x. x.lanes };
+
+    ghost width = { 8 };
+
+    ghost products = { λ count. count.products };
+
+    ghost sums = { λ count. count.sums };
+
+    fn add(self, other: Lanes, meter: &mut Count) -> Lanes {
+        meter.sums += 1;
+        Lanes {
+            lanes: self.lanes.strict_add(other.lanes),
+        }
+    }
+
+    fn sub(self, other: Lanes, meter: &mut Count) -> Lanes {
+        meter.sums += 1;
+        Lanes {
+            lanes: self.lanes.strict_sub(other.lanes),
+        }
+    }
+
+    fn mul_zeta(self, m: usize, meter: &mut Count) -> Lanes {
+        meter.products += 1;
+        mont_products(self, zeta_mont(m))
+    }
+
+    fn mul_neg_zeta(self, m: usize, meter: &mut Count) -> Lanes {
+        meter.products += 1;
+        mont_products(self, -zeta_mont(m))
+    }
+
+    fn reduce(self) -> Lanes {
+        let near = (self.lanes + i32x8::splat(1 << 22)) >> i32x8::splat(23);
+        Lanes {
+            lanes: self.lanes - near * i32x8::splat(Q),
+        }
+    }
+
+    fn finish(self) -> Lanes {
+        // 8347681 * 2^32 is 16382 modulo q
+        raised(mont_products(self, 16382))
+    }
+}
+
+/// Each lane times the factor and the inverse of `2^32` modulo `q`, below `q` in absolute value.
+///
+/// The factor and its product with the inverse of `q` come as one number of 64 bits in each lane, of which
+/// both halves are used: so the compiler still knows, where a loop keeps the row, that the factor has 32
+/// bits, and a lane's wide product is one instruction and not three.
+fn mont_products(x: Lanes, factor: i32) -> Lanes
+    requires { nat_abs factor ≤ 8380416 }
+    ensures congruent { EachLane (λ x y. IsCongruent (4294967296 * residue y) (residue x * residue factor)) 8 x.lanes result.lanes }
+    ensures small { (j : ℕ) → j < 8 → nat_abs (lane result.lanes j) ≤ 8380416 }
+{
+    let both = i64x8::splat(two_words(low_factor(factor), factor));
+    let word = i64x8::splat(32);
+    // t = the low word of x factor q^-1, and x factor - t q is a multiple of 2^32
+    let low = x.lanes * (both >> word).cast::<i32>();
+    let wide = x.lanes.cast::<i64>() * ((both << word) >> word);
+    let whole = wide - low.cast::<i64>() * i64x8::splat(8380417);
+    Lanes {
+        lanes: (whole >> word).cast::<i32>(),
+    }
+}
+
+/// The signed word whose product with `q` has the lowest 32 bits of `factor`; 58728449 is the inverse of
+/// `q` modulo `2^32`.
+fn low_factor(factor: i32) -> i32
+    ensures { int_rem_euclid (result *ℤ pos 8380417) (pos 4294967296) ≡ int_rem_euclid factor (pos 4294967296) }
+{
+    factor.cast_unsigned().wrapping_mul(58728449).cast_signed()
+}
+
+/// The number of 64 bits whose words are `high`, which gives the sign, and the bits of `low`.
+fn two_words(high: i32, low: i32) -> i64
+    ensures { result ≡ high *ℤ pos 4294967296 +ℤ int_rem_euclid low (pos 4294967296) }
+{
+    i64::from(high) * 4294967296 + i64::from(low.cast_unsigned())
+}
+
+/// Each lane modulo `q`, from 0 to `q - 1`, for lanes below `q` in absolute value.
+fn raised(x: Lanes) -> Lanes
+    requires { (j : ℕ) → j < 8 → nat_abs (lane x.lanes j) ≤ 8380416 }
+    ensures { EachLane (λ x y. y ≡ pos (residue x)) 8 x.lanes result.lanes }
+{
+    Lanes {
+        lanes: x.lanes - (x.lanes >> i32x8::splat(31)) * i32x8::splat(Q),
+    }
+}
+
+/// The vector of eight entries. A proof knows the range of each entry once it is read.
+fn row_of(entries: &[i32; 8]) -> i32x8
+    ensures value { result ≡ entries.now }
+    ensures eight { length result ≡ 8 }
+    ensures fits { (j : ℕ) → j < 8 → FitsSigned w32 (slice_index_or result j (pos 0)) }
+{
+    let a = entries[0];
+    let b = entries[1];
+    let c = entries[2];
+    let d = entries[3];
+    let e = entries[4];
+    let f = entries[5];
+    let g = entries[6];
+    let h = entries[7];
+    i32x8::from_array([a, b, c, d, e, f, g, h])
+}
