@@ -45,6 +45,7 @@ mod program_lines;
 mod program_runs;
 #[cfg(test)]
 mod public_keys;
+pub mod received_keys;
 #[cfg(test)]
 mod recorded;
 #[cfg(test)]

@@ -1,0 +1,29 @@
+//! A private key that a caller is given, of whatever origin: what it signs is accepted, by the law of
+//! completeness and the ranges of its parts.
+#![tactic(auto)]
+
+ghost use Rattle.std.specs.Prelude.{◌≡◌, IfOk, true};
+ghost use Rattle.fips204.specs.KeyGeneration.{IsWhole};
+ghost use Rattle.fips204.specs.ParameterSets.{set_44};
+
+use fips204::traits::{Signer, Verifier};
+use fips204::xof::Xof;
+use fips204::{Fault, laws, ml_dsa_44};
+
+/// Whether the public key that is derived of a whole private key accepts what this signs: yes, wherever
+/// nothing is refused.
+pub fn accepts_what_it_signs<H: Xof, G: Xof>(
+    sk: &ml_dsa_44::PrivateKey<H, G>,
+    rnd: &[u8; 32],
+    message: &[u8],
+    ctx: &[u8],
+) -> Result<bool, Fault>
+    requires { IsWhole set_44 G.front sk.now }
+    ensures { IfOk result (λ answer. answer ≡ true) }
+{
+    sk.parts_in_range();
+    laws::signed_is_accepted();
+    let pk = sk.get_public_key()?;
+    let signature = sk.try_sign_with_seed(rnd, message, ctx)?;
+    Ok(pk.verify(message, &signature, ctx))
+}
