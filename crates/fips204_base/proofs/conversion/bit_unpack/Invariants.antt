@@ -1,0 +1,11 @@
+use Rattle.std.proofs.Common.{◌≡◌, ◌*◌, take, length, map}
+use Rattle.std.specs.List.{All}
+use Rattle.fips204_base.specs.Packing.{Packs, coefficient, field}
+use Rattle.fips204_base.proofs.conversion.bit_unpack.Given as goal
+
+abbrev pub invariant-loop-i : goal.invariant-loop-i
+invariant-loop-i l = record {
+  long : length l.out ≡ 256;
+  so_far : Packs l.c (take (l.c * l.i) l.v) (map (field l.fn.a l.fn.b) (take (8 * l.i) l.out));
+  coefficients : All (λ x. coefficient l.fn.a l.fn.b (field l.fn.a l.fn.b x) ≡ x) (take (8 * l.i) l.out);
+}
