@@ -1,8 +1,8 @@
-use Rattle.std.proofs.Common.{rules, arith, ◌≡◌, ◌+◌, ◌*◌, ◌-◌, ◌≤◌, ◌++◌, ◌∙◌, refl, ap, sym, length, length-take, length-drop, take, drop, map, w32, to_z, of_z}
+use Rattle.std.proofs.Common.{arith, ◌≡◌, ◌+◌, ◌*◌, ◌-◌, ◌≤◌, ◌∙◌, refl, ap, sym, length, length-take, length-drop, take, drop, w32, to_z, of_z}
 use Rattle.std.proofs.lemmas.Int.{to_z-of_z}
 use Rattle.std.proofs.lemmas.List.{map-append, take_all}
 use Rattle.std.proofs.Math.Seq.{take-add}
-use Rattle.fips204_base.specs.Packing.{Packs, field, width}
+use Rattle.fips204_base.specs.Packing.{field, width}
 use Rattle.fips204_base.proofs.Packing.{packs_none, packs_joined}
 use Rattle.fips204_base.proofs.VectorBytes.{length-put_mid, put_piece, piece-within}
 use Rattle.fips204_base.proofs.conversion.bit_pack.Goals as goal

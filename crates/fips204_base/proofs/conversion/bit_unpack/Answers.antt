@@ -1,4 +1,4 @@
-use Rattle.std.proofs.Common.{rules, arith, ℤ, pos, ◌≡◌, ◌+◌, ◌*◌, ◌-◌, ◌≤◌, ◌++◌, ◌∙◌, refl, ap, sym, length, length-take, length-drop, take, drop, map, w32, to_z, of_z}
+use Rattle.std.proofs.Common.{rules, arith, ℤ, pos, ◌≡◌, ◌+◌, ◌*◌, ◌-◌, ◌≤◌, ◌∙◌, refl, ap, length, length-take, length-drop, take, drop, map, w32, to_z, of_z}
 use Rattle.std.proofs.lemmas.Bool.{iff_false}
 use Rattle.std.proofs.lemmas.Int.{to_z-of_z, ints}
 use Rattle.std.proofs.lemmas.List.{map-append, take_all}
@@ -7,7 +7,7 @@ use Rattle.std.proofs.Math.Seq.{take-add}
 use Rattle.fips204_base.specs.Packing.{Unpacks, coefficient, field, width}
 use Rattle.fips204_base.proofs.Fields.{refused}
 use Rattle.fips204_base.proofs.Packing.{packs_none, packs_joined}
-use Rattle.fips204_base.proofs.VectorBytes.{length-put_mid, put_piece, piece-within}
+use Rattle.fips204_base.proofs.VectorBytes.{length-put_mid, put_piece}
 use Rattle.fips204_base.proofs.conversion.bit_unpack.Goals as goal
 use Rattle.fips204_base.proofs.conversion.bit_unpack.Goals.{After-loop-i, else-a-eq0-via-then-a-eq0+else-not-is_in_range, else-a-eq0-via-else-a-eq0}
 
