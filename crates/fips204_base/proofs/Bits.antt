@@ -1,7 +1,6 @@
 -- Lists of binary digits, lowest first, and a running word that takes and gives them.
-use Rattle.std.proofs.Common.{◌≡◌, ℕ, zero, suc, ◌+◌, ◌*◌, ◌%◌, ◌/◌, ◌-◌, ◌^◌, ◌<◌, ◌≤◌, List, [], ◌∷◌, ◌++◌, length, take, drop, refl, ap, sym, ◌∙◌, arith, append_assoc, inl, inr}
+use Rattle.std.proofs.Common.{◌≡◌, ℕ, zero, suc, ◌+◌, ◌*◌, ◌%◌, ◌/◌, ◌-◌, ◌^◌, ◌<◌, ◌≤◌, List, [], ◌∷◌, ◌++◌, length, take, drop, refl, ap, sym, ◌∙◌, arith, append_assoc}
 use Rattle.std.specs.List.{All}
-use Rattle.std.proofs.lemmas.Bool.{cases_lt}
 use Rattle.std.proofs.lemmas.List.{flat_map_more, take_at, drop_at}
 use Rattle.std.proofs.lemmas.List.Elements.{All-head, All-tail}
 use Rattle.std.proofs.lemmas.Nat.{pow_pos, pow-add, shl_below, shr_below, mul-add-lt, mod_below, shr_split, mul-le}
@@ -84,19 +83,13 @@ low_small c n h =
     let m : 2 ^ c ≤ 2 ^ 21 = pow-le-pow_right (omega arith) {i = c} {j = 21} h in
     omega (arith, l, m)
 
--- a whole byte that is taken has a place
-pub place_within : (c i at have n : ℕ) → 8 * at + have ≡ c * (i + 1) → i < 256 → 8 ≤ have → n ≡ 32 * c → at < n
-place_within c i at have n e l h k = let m : c * (i + 1) ≤ c * 256 = mul-le c (i + 1) c 256 (omega arith) (omega arith) in omega (arith, m)
+-- of eight fields of c bits, a whole byte that is taken has a place
+pub place_within : (c i at have n : ℕ) → 8 * at + have ≡ c * (i + 1) → i < 8 → 8 ≤ have → n ≡ c → at < n
+place_within c i at have n e l h k = let m : c * (i + 1) ≤ c * 8 = mul-le c (i + 1) c 8 (omega arith) (omega arith) in omega (arith, m)
 
--- 256 numbers of c digits are taken from 256 c digits
-pub all_taken : (c at have : ℕ) → c * at + have ≡ c * 256 → have < c → at ≡ 256
-all_taken c at have e l = elim (cases_lt at 256) [
-  | inl less ↦ let m : c * at ≤ c * 255 = mul-le c at c 255 (omega arith) (omega arith) in absurd (omega (arith, m))
-  | inr most ↦ elim (cases_lt 256 at) [
-    | inl more ↦ let m : c * 257 ≤ c * at = mul-le c 257 c at (omega arith) (omega arith) in absurd (omega (arith, m))
-    | inr same ↦ omega arith
-  ]
-]
+-- and so has a byte that the next field needs
+pub byte_within : (c i at have n : ℕ) → c * i + have ≡ 8 * at → i < 8 → have < c → n ≡ c → at < n
+byte_within c i at have n e l h k = let m : c * (i + 1) ≤ c * 8 = mul-le c (i + 1) c 8 (omega arith) (omega arith) in omega (arith, m)
 
 -- the digits determine the numbers
 

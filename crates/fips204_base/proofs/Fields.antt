@@ -10,8 +10,8 @@ use Rattle.std.proofs.lemmas.List.Sums.{sum_by-cons}
 use Rattle.std.proofs.lemmas.List.Elements.{All-map, All-weaker, All-push, All-nil, All-cons, All-head, All-tail}
 use Rattle.std.proofs.lemmas.Nat.{leading_length}
 use Rattle.std.proofs.Math.Nat.{pow-succ', pow-le-pow_right}
-use Rattle.fips204_base.specs.Packing.{Bounds, InRange, PacksAbove, Unpacks, bit_length, bits, coefficient, field, integer_to_bits, width}
-use Rattle.fips204_base.proofs.Bits.{all_taken, digits-zero}
+use Rattle.fips204_base.specs.Packing.{Bounds, InRange, Packs, PacksAbove, Unpacks, bit_length, bits, coefficient, field, integer_to_bits, width}
+use Rattle.fips204_base.proofs.Bits.{digits-zero}
 
 -- the powers of two that are at most a number of c digits, counted from 2 ^ s on
 
@@ -117,26 +117,24 @@ fields_fit a b w bounds range =
     All-map (λ f. f < 2 ^ width a b) (field a b) w (All-weaker (λ (x : ℤ). ((pos 0 -ℤ a) ≤ℤ x) × (x ≤ℤ b)) (λ (x : ℤ). field a b x < 2 ^ width a b)
     (λ x r. width-below a b (field a b x) bounds (field-le a b x bounds r.0 r.1)) w range)
 
--- the bytes and fields of a finished word
-pub word_finished : (a b : ℤ) (c at have k word : ℕ) (out : List ℤ) (v : List ℕ) → c ≡ width a b → length out ≡ 256 → c * at + have ≡ 8 * k → k ≡ 32 * c → length v ≤ k → have < c → All (λ byte. byte < 256) v
-    → bits c (map (field a b) (take at out)) ++ integer_to_bits have word ≡ bits 8 (take k v) → All (HasField a b) (take at out) → Unpacks a b v out
-word_finished a b c at have k word out v w long done end whole few bytes same fields =
-    let all : at ≡ 256 = all_taken c at have (omega (arith, done, end)) few in
-    let n : c * at ≡ c * 256 = ap (λ i. c * i) all in
-    let none : have ≡ 0 = omega (arith, done, end, n) in
-    let kept : take at out ≡ out = take_all at out (omega arith) in
-    let read : take k v ≡ v = take_all k v whole in
+-- the bytes and fields of a finished group of eight
+pub group_finished : (a b : ℤ) (c i have at word : ℕ) (out : List ℤ) (v : List ℕ) → c ≡ width a b → i ≡ 8 → length out ≡ 8 → c * i + have ≡ 8 * at → have < 8 → length v ≡ c → All (λ byte. byte < 256) v
+    → bits c (map (field a b) (take i out)) ++ integer_to_bits have word ≡ bits 8 (take at v) → All (HasField a b) (take i out)
+    → Packs (width a b) v (map (field a b) out) × All (λ x. coefficient a b (field a b x) ≡ x) out
+group_finished a b c i have at word out v w eight long done few whole bytes same fields =
+    let n : c * i ≡ c * 8 = ap (λ k. c * k) eight in
+    let none : have ≡ 0 = omega (arith, done, n, few) in
+    let kept : take i out ≡ out = take_all i out (omega arith) in
+    let read : take at v ≡ v = take_all at v (omega (arith, done, n, whole)) in
     let bits_same = rw (none, digits-zero word, append-nil, kept, read, w) at same in
-    let have_fields : All (HasField a b) out = rw kept at fields in
-    record {
-      same_fields = record {
+    let have_fields : All (HasField a b) out = rw kept at fields in (
+      record {
         same_bits = sym bits_same;
         whole_bytes = bytes;
         small_fields = All-map (λ f. f < 2 ^ width a b) (field a b) out (All-weaker (HasField a b) (λ (x : ℤ). field a b x < 2 ^ width a b) (λ x h. h.0) out have_fields);
-      };
-      count = long;
-      coefficients = All-weaker (HasField a b) (λ (x : ℤ). coefficient a b (field a b x) ≡ x) (λ x h. h.1) out have_fields;
-    }
+      },
+      All-weaker (HasField a b) (λ (x : ℤ). coefficient a b (field a b x) ≡ x) (λ x h. h.1) out have_fields,
+    )
 
 Any-cons : (P : ℕ → Type 0) (y : ℕ) (xs : List ℕ) → Any P xs → Any P (y ∷ xs)
 Any-cons P y xs h = (suc h.0, h.1, omega (arith, h.2), h.3, h.4)

@@ -3,6 +3,7 @@ use Rattle.std.proofs.Common.{◌≡◌, ℕ, zero, suc, ◌+◌, ◌*◌, ◌%�
 use Rattle.std.specs.List.{All, range_with_len}
 use Rattle.std.proofs.lemmas.List.{take_at, drop-drop, take_all, length-map}
 use Rattle.std.proofs.lemmas.List.Elements.{All-head, All-tail, All-nil, All-cons, All-append, All-map, All-take, All-drop, All-weaker}
+use Rattle.std.proofs.lemmas.List.Concat.{flat_map-append}
 use Rattle.std.proofs.lemmas.List.FromFn.{fill_by_all, length-map-range_with_len}
 use Rattle.std.proofs.lemmas.Nat.{pow_pos}
 use Rattle.std.proofs.Math.Seq.{take-add, drop-append-add}
@@ -130,6 +131,20 @@ packs_packed c n fields e h =
           (λ k d l. byte_small (bits c fields) _ (bits_below c fields));
       small_fields = h;
     }
+
+-- nothing packs to nothing, and what follows packs to what follows
+
+pub packs_none : (c : ℕ) → Packs c [] []
+unfolding bits
+packs_none c = record { same_bits = refl; whole_bytes = All-nil (λ (byte : ℕ). byte < 256); small_fields = All-nil (λ (f : ℕ). f < 2 ^ c) }
+
+pub packs_joined : (c : ℕ) (bytes more fields others : List ℕ) → Packs c bytes fields → Packs c more others → Packs c (bytes ++ more) (fields ++ others)
+unfolding bits
+packs_joined c bytes more fields others p q = record {
+  same_bits = rw (flat_map-append (integer_to_bits 8) bytes more, flat_map-append (integer_to_bits c) fields others, p.same_bits, q.same_bits) refl;
+  whole_bytes = All-append (λ (byte : ℕ). byte < 256) bytes more p.whole_bytes q.whole_bytes;
+  small_fields = All-append (λ (f : ℕ). f < 2 ^ c) fields others p.small_fields q.small_fields;
+}
 
 pub same_fields : (c : ℕ) (bytes fields others : List ℕ) → length fields ≡ length others → Packs c bytes fields → Packs c bytes others → fields ≡ others
 same_fields c bytes fields others n p q = same_numbers c fields others n p.small_fields q.small_fields (sym p.same_bits ∙ q.same_bits)

@@ -16,11 +16,11 @@ use Rattle.fips204_base.specs.Packing.{Bounds, InRange, Unpacks, coefficient, fi
 
 -- A list of bytes that is written or read piece by piece.
 
-pub length-put_mid : (a k : ℕ) (xs ys : List ℕ) → length ys ≡ k → a + k ≤ length xs → length (put_mid a k xs ys) ≡ length xs
+pub length-put_mid : {X : Type 0} (a k : ℕ) (xs ys : List X) → length ys ≡ k → a + k ≤ length xs → length (put_mid a k xs ys) ≡ length xs
 length-put_mid a k xs ys e h = simp (length-append, length-take, length-drop) (omega (arith, e, h))
 
 -- the front of the result is the front before and the piece
-pub put_piece : (a k n : ℕ) (xs ys front : List ℕ) → length ys ≡ k → a + k ≤ length xs → n ≡ a + k → take a xs ≡ front → take n (put_mid a k xs ys) ≡ front ++ ys
+pub put_piece : {X : Type 0} (a k n : ℕ) (xs ys front : List X) → length ys ≡ k → a + k ≤ length xs → n ≡ a + k → take a xs ≡ front → take n (put_mid a k xs ys) ≡ front ++ ys
 put_piece a k n xs ys front e h same before =
     take-put_mid a k xs ys n (omega (arith, same, e)) (omega (arith, h)) ∙ ap (λ l. l ++ ys) before
 

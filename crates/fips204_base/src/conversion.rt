@@ -3,6 +3,7 @@
 #![tactic(auto)]
 
 ghost use Rattle.std.specs.Prelude.{◌≡◌, ◌<◌, ◌≤◌, ◌+◌, ◌*◌, ◌%◌, ◌^◌, ℤ, pos, ◌-ℤ◌, ◌≤ℤ◌, length, map, MatchOption};
+ghost use Rattle.std.specs.List.{All};
 ghost use Rattle.fips204_base.specs.Packing.{Bounds, InRange, Packs, PacksAbove, Unpacks, coefficient, field, width};
 
 mod coefficients;
@@ -78,6 +79,32 @@ pub fn simple_bit_pack(w: &R, b: i32, out: &mut [u8])
     bit_pack(w, 0, b, out);
 }
 
+/// Writes the fields of eight coefficients in `[-a, b]`, which fill as many bytes as a field has bits.
+#[inline(always)]
+fn pack_group(w: &[i32], a: i32, b: i32, out: &mut [u8])
+    requires bounds { Bounds a b }
+    requires range { InRange (pos 0 -ℤ a) b w.now }
+    requires eight { length w.now ≡ 8 }
+    requires room { length out.old ≡ width a b }
+    ensures { Packs (width a b) out.new (map (field a b) w.now) }
+{
+    let c = field_width(a, b);
+    let mut word = 0u32;
+    let mut have = 0u32;
+    let mut at = 0usize;
+    for x in w {
+        // z = z || IntegerToBits(b - w_i, bitlen(a + b)), given out in bytes as they fill
+        word = put(word, have, field_of(*x, a, b));
+        have += c;
+        while have >= 8 {
+            out[at] = (word & 0xff) as u8;
+            word >>= 8;
+            have -= 8;
+            at += 1;
+        }
+    }
+}
+
 /// `BitPack` (Algorithm 17): writes the fields of coefficients in `[-a, b]`, each of as many bits
 /// as `a + b` has. The field of a coefficient is its distance from `b`, and where `a` is 0 the
 /// coefficient itself.
@@ -91,20 +118,35 @@ pub fn bit_pack(w: &R, a: i32, b: i32, out: &mut [u8])
     requires room { length out.old ≡ 32 * width a b }
     ensures { Packs (width a b) out.new (map (field a b) w.now.0) }
 {
+    let c = field_width(a, b) as usize;
+    for i in 0..32 {
+        pack_group(&w.0[8 * i..8 * i + 8], a, b, &mut out[c * i..c * i + c]);
+    }
+}
+
+/// Reads the eight coefficients whose fields stand in `v`.
+#[inline(always)]
+fn unpack_group(v: &[u8], a: i32, b: i32, out: &mut [i32])
+    requires bounds { Bounds a b }
+    requires room { length v.now ≡ width a b }
+    requires eight { length out.old ≡ 8 }
+    ensures fields { Packs (width a b) v.now (map (field a b) out.new) }
+    ensures coefficients { All (λ x. coefficient a b (field a b x) ≡ x) out.new }
+{
     let c = field_width(a, b);
     let mut word = 0u32;
     let mut have = 0u32;
     let mut at = 0usize;
-    for x in &w.0 {
-        // z = z || IntegerToBits(b - w_i, bitlen(a + b)), given out in bytes as they fill
-        word = put(word, have, field_of(*x, a, b));
-        have += c;
-        while have >= 8 {
-            out[at] = (word & 0xff) as u8;
-            word >>= 8;
-            have -= 8;
+    for i in 0..8 {
+        while have < c {
+            word = put(word, have, v[at] as u32);
+            have += 8;
             at += 1;
         }
+        // w_i = b - BitsToInteger(z[i c .. (i + 1) c - 1], c)
+        out[i] = coefficient_of(low(word, c), a, b);
+        word >>= c;
+        have -= c;
     }
 }
 
@@ -125,6 +167,7 @@ pub fn simple_bit_unpack(v: &[u8], b: i32) -> Option<R>
 /// may come out below `-a`.
 ///
 /// `a` is from 0 and `b` from 1 to `2^20 - 1`, and `v` has exactly `32 * bit_length(a + b)` bytes.
+#[inline(always)]
 pub fn bit_unpack(v: &[u8], a: i32, b: i32) -> Option<R>
     requires bounds { Bounds a b }
     requires room { length v.now ≡ 32 * width a b }
@@ -132,21 +175,10 @@ pub fn bit_unpack(v: &[u8], a: i32, b: i32) -> Option<R>
         ((a ≡ pos 0) × PacksAbove b (width a b) v.now)
         (λ w. Unpacks a b v.now w.0 × (a ≡ pos 0 → InRange (pos 0) b w.0)) }
 {
-    let c = field_width(a, b);
+    let c = field_width(a, b) as usize;
     let mut out = [0i32; 256];
-    let mut word = 0u32;
-    let mut have = 0u32;
-    let mut at = 0usize;
-    for byte in v {
-        word = put(word, have, *byte as u32);
-        have += 8;
-        while have >= c {
-            // w_i = b - BitsToInteger(z[i c .. (i + 1) c - 1], c)
-            out[at] = coefficient_of(low(word, c), a, b);
-            word >>= c;
-            have -= c;
-            at += 1;
-        }
+    for i in 0..32 {
+        unpack_group(&v[c * i..c * i + c], a, b, &mut out[8 * i..8 * i + 8]);
     }
     let w = R(out);
     if a == 0 && !is_in_range(&w, 0, b) {

@@ -35,6 +35,7 @@ pub fn pack_vector<const N: usize>(v: &[R; N], a: i32, b: i32, out: &mut [u8])
 }
 
 /// The polynomial whose bytes these are, where every field is that of a coefficient in `[-a, b]`.
+#[inline(always)]
 pub fn unpack_polynomial(bytes: &[u8], a: i32, b: i32) -> R
     requires bounds { Bounds a b }
     requires whole { pos (2 ^ width a b) ≡ a +ℤ b +ℤ pos 1 }
@@ -47,6 +48,7 @@ pub fn unpack_polynomial(bytes: &[u8], a: i32, b: i32) -> R
 }
 
 /// The vector whose bytes these are, where every field is that of a coefficient in `[-a, b]`.
+#[inline(always)]
 pub fn unpack_vector<const N: usize>(bytes: &[u8], a: i32, b: i32) -> [R; N]
     requires bounds { Bounds a b }
     requires whole { pos (2 ^ width a b) ≡ a +ℤ b +ℤ pos 1 }

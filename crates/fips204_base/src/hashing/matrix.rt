@@ -45,8 +45,9 @@ pub fn rej_ntt_poly<G: Xof>(parts: &[&[u8]]) -> Result<T, Fault>
     let limit = G::FRONT / 4;
     let mut tried = 0;
     while tried < limit {
-        // s = the next 64 triples, or as many as are left; in place of G.Squeeze(ctx, 3)
-        let triples = (limit - tried).min(64);
+        // s = the next 64 triples, or as many as are wanted or left; in place of G.Squeeze(ctx, 3)
+        let wanted = (256 - count).min(64);
+        let triples = (limit - tried).min(wanted);
         let mut room = [0u8; 192];
         let piece = &mut room[..3 * triples];
         reader.read(piece);

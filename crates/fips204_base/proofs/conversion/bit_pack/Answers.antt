@@ -1,83 +1,48 @@
-use Rattle.std.proofs.Common.{rules, arith, ℕ, ◌≡◌, ◌<◌, ◌+◌, ◌*◌, ◌%◌, ◌^◌, pos, length, take, get_or, bit_and, ◌∙◌, refl, length-set, append-nil, w32}
+use Rattle.std.proofs.Common.{arith, ◌≡◌, ◌+◌, ◌*◌, ◌-◌, ◌≤◌, ◌∙◌, refl, ap, sym, length, length-take, length-drop, take, drop, w32, to_z, of_z}
 use Rattle.std.proofs.lemmas.Int.{to_z-of_z}
-use Rattle.std.proofs.Common.{SFits}
-use Rattle.std.proofs.lemmas.List.{map_more, take_more_set, take_all}
-use Rattle.std.proofs.lemmas.Nat.{and_mask}
-use Rattle.fips204_base.specs.Packing.{width, field, bits}
-use Rattle.fips204_base.proofs.Bits.{digits-zero, bits-nil, put_bits, put_below, put_fits, give_bits, give_below, place_within}
-use Rattle.fips204_base.proofs.Fields.{fields_fit}
-use Rattle.std.proofs.lemmas.List.Elements.{All-nil, All-push}
+use Rattle.std.proofs.lemmas.List.{map-append, take_all}
+use Rattle.std.proofs.Math.Seq.{take-add}
+use Rattle.fips204_base.specs.Packing.{field, width}
+use Rattle.fips204_base.proofs.Packing.{packs_none, packs_joined}
+use Rattle.fips204_base.proofs.VectorBytes.{length-put_mid, put_piece, piece-within}
 use Rattle.fips204_base.proofs.conversion.bit_pack.Goals as goal
 
-pub loop-x-init : goal.loop-x-init
-loop-x-init c = record {
-  long = search rules;
-  few = omega arith;
-  word = omega arith;
-  bits_done = omega arith;
-  so_far = rw (digits-zero 0, bits-nil 8, bits-nil c.field_width-c.result) refl;
-  whole = All-nil (λ (byte : ℕ). byte < 256);
-}
-
-pub put-word-requires-clause-room : goal.put-word-requires-clause-room
-put-word-requires-clause-room c =
+pub loop-i-init : goal.loop-i-init
+loop-i-init c =
     let A = to_z-of_z w32 c.args.a c.ranges.a in
     let B = to_z-of_z w32 c.args.b c.ranges.b in
-    let below : c.field_of.result < 2 ^ c.field_width-c.result = rw c.field_width-c.ensures.value c.field_of.ensures.below in
-    (omega arith, put_fits c.field_width-c.result c.loop-x.have c.field_of.result below (omega arith))
-
-pub overflow_add-have : goal.overflow_add-have
-overflow_add-have c = record { fits = omega arith }
-
-pub loop-have-init : goal.loop-have-init
-loop-have-init c =
-    let fits : SFits w32 (get_or c.args.w.now.0 c.loop-x.x-index (pos 0)) = search rules in
-    let X = to_z-of_z w32 (get_or c.args.w.now.0 c.loop-x.x-index (pos 0)) fits in
-    let below : c.field_of.result < 2 ^ c.field_width-c.result = rw c.field_width-c.ensures.value c.field_of.ensures.below in
-    let f = rw X at c.field_of.ensures.value in
-    let room : c.loop-x.x-index < length c.args.w.now.0 = omega arith in
+    let none : c.field_width-c.result * 0 ≡ 0 = omega arith in
     record {
-      long = c.loop-x.invariant.long;
-      few = omega arith;
-      word = rw c.put-word.ensures (put_below c.field_width-c.result c.loop-x.have c.loop-x.word c.field_of.result c.loop-x.invariant.word below);
-      bits_done = omega arith;
-      so_far =
-          rw (map_more (field _ _) c.args.w.now.0 c.loop-x.x-index (pos 0) room, ← f, c.put-word.ensures)
-          (put_bits (bits 8 (take c.loop-x.at c.loop-x.out)) c.field_width-c.result c.loop-x.have c.loop-x.word c.field_of.result _ c.loop-x.invariant.word c.loop-x.invariant.so_far);
-      whole = c.loop-x.invariant.whole;
+      long = c.requires.room ∙ ap (λ n. 32 * n) (sym (rw (A, B) at c.field_width-c.ensures.value));
+      so_far = rw none (packs_none c.field_width-c.result);
     }
 
-pub bounds-out-at : goal.bounds-out-at
-bounds-out-at c = place_within c.field_width-c.result c.loop-x.x-index c.loop-have.at c.loop-have.have (length c.loop-have.out) c.loop-have.invariant.bits_done (omega arith) (omega arith) c.loop-have.invariant.long
-
-pub loop-have-preserved : goal.loop-have-preserved
-loop-have-preserved c =
-    let low : bit_and c.loop-have.word 255 ≡ c.loop-have.word % 2 ^ 8 = and_mask c.loop-have.word 8 in
-    let room : c.loop-have.at < length c.loop-have.out = place_within c.field_width-c.result c.loop-x.x-index c.loop-have.at c.loop-have.have (length c.loop-have.out) c.loop-have.invariant.bits_done (omega arith) (omega arith) c.loop-have.invariant.long in
+pub loop-i-preserved : goal.loop-i-preserved
+loop-i-preserved c =
+    let size = c.field_width-c.result in
+    let at = c.field_width-c.result * c.loop-i.i in
+    let done = 8 * c.loop-i.i in
+    let within = piece-within size c.loop-i.i 32 (length c.loop-i.out) (omega (arith, c.loop-i.invariant.long)) c.loop-i-test.true in
+    let long : length c.pack_group.new.out ≡ at + size - at = c.pack_group.auto.out ∙ simp (length-take, length-drop) (omega (arith, within)) in
+    let ends : at + (at + size - at) ≤ length c.loop-i.out = omega (arith, within) in
+    let next : size * (c.loop-i.i + 1) ≡ at + (at + size - at) = omega arith in
+    let eight_more : 8 * (c.loop-i.i + 1) ≡ done + (done + 8 - done) = omega arith in
+    let bytes = put_piece at (at + size - at) (size * (c.loop-i.i + 1)) c.loop-i.out c.pack_group.new.out _ long ends next refl in
+    let coefficients = ap (λ n. take n c.args.w.now.0) eight_more ∙ take-add done (done + 8 - done) c.args.w.now.0 in
+    let here = rw (← c.field_width-c.ensures.value) at c.pack_group.ensures in
     record {
-      long = length-set c.loop-have.out c.loop-have.at (bit_and c.loop-have.word 255) ∙ c.loop-have.invariant.long;
-      few = omega arith;
-      word = give_below 8 c.loop-have.have c.loop-have.word (omega arith) c.loop-have.invariant.word;
-      bits_done = omega arith;
-      so_far = rw (take_more_set c.loop-have.out c.loop-have.at (bit_and c.loop-have.word 255) room, low)
-          (give_bits 8 c.loop-have.have c.loop-have.word (take c.loop-have.at c.loop-have.out) _ (omega arith) c.loop-have.invariant.so_far);
-      whole = rw (take_more_set c.loop-have.out c.loop-have.at (bit_and c.loop-have.word 255) room)
-          (All-push (λ (byte : ℕ). byte < 256) (take c.loop-have.at c.loop-have.out) (bit_and c.loop-have.word 255) c.loop-have.invariant.whole (omega (arith, low)));
+      long = length-put_mid at (at + size - at) c.loop-i.out c.pack_group.new.out long ends ∙ c.loop-i.invariant.long;
+      so_far = rw (bytes, coefficients, map-append (field (to_z w32 (of_z w32 c.args.a)) (to_z w32 (of_z w32 c.args.b))) (take done c.args.w.now.0) (take (done + 8 - done) (drop done c.args.w.now.0)))
+          (packs_joined _ _ _ _ _ c.loop-i.invariant.so_far here);
     }
 
 pub returns : goal.returns
 returns c =
     let A = to_z-of_z w32 c.args.a c.ranges.a in
     let B = to_z-of_z w32 c.args.b c.ranges.b in
-    let all : c.loop-x.x-index ≡ 256 = omega arith in
+    let all : c.loop-i.i ≡ 32 = omega (arith, c.loop-i-test.false, c.loop-i.auto.i-end) in
     let w : c.field_width-c.result ≡ width c.args.a c.args.b = rw (A, B) at c.field_width-c.ensures.value in
-    let done : 8 * c.loop-x.at + c.loop-x.have ≡ c.field_width-c.result * 256 = rw all at c.loop-x.invariant.bits_done in
-    let none : c.loop-x.have ≡ 0 = omega (arith, done) in
-    let bytes : take c.loop-x.at c.loop-x.out ≡ c.loop-x.out = take_all c.loop-x.at c.loop-x.out (omega (arith, done)) in
-    let coefficients : take c.loop-x.x-index c.args.w.now.0 ≡ c.args.w.now.0 = take_all c.loop-x.x-index c.args.w.now.0 (omega arith) in
-    let same = c.loop-x.invariant.so_far in
-    record {
-      same_bits = let h = rw (A, B, none, bytes, coefficients, digits-zero c.loop-x.word, append-nil, w) at same in h;
-      whole_bytes = rw bytes at c.loop-x.invariant.whole;
-      small_fields = fields_fit c.args.a c.args.b c.args.w.now.0 c.requires.bounds c.requires.range;
-    }
+    let last : c.field_width-c.result * c.loop-i.i ≡ c.field_width-c.result * 32 = ap (λ i. c.field_width-c.result * i) all in
+    let bytes : take (c.field_width-c.result * c.loop-i.i) c.loop-i.out ≡ c.loop-i.out = take_all _ c.loop-i.out (omega (arith, last, c.loop-i.invariant.long)) in
+    let coefficients : take (8 * c.loop-i.i) c.args.w.now.0 ≡ c.args.w.now.0 = take_all _ c.args.w.now.0 (omega arith) in
+    rw (A, B, bytes, coefficients, w) at c.loop-i.invariant.so_far
