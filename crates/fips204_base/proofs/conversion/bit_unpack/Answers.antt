@@ -1,4 +1,4 @@
-use Rattle.std.proofs.Common.{rules, arith, ℤ, pos, ◌≡◌, ◌+◌, ◌*◌, ◌-◌, ◌≤◌, ◌∙◌, refl, ap, length, length-take, length-drop, take, drop, map, w32, to_z, of_z}
+use Rattle.std.proofs.Common.{rules, arith, ℤ, pos, ◌≡◌, ◌+◌, ◌*◌, ◌-◌, ◌≤◌, ◌∙◌, refl, ap, length, length-take, length-drop, take, w32, to_z, of_z}
 use Rattle.std.proofs.lemmas.Bool.{iff_false}
 use Rattle.std.proofs.lemmas.Int.{to_z-of_z, ints}
 use Rattle.std.proofs.lemmas.List.{map-append, take_all}

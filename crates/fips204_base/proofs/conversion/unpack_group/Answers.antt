@@ -1,4 +1,4 @@
-use Rattle.std.proofs.Common.{rules, arith, ℕ, ◌≡◌, pos, ◌<◌, ◌^◌, ◌∙◌, map, length, take, get_or, refl, sym, length-set, w32, to_z, of_z, SFits}
+use Rattle.std.proofs.Common.{rules, arith, ℕ, ◌≡◌, ◌<◌, ◌^◌, ◌∙◌, map, length, take, get_or, refl, sym, length-set, w32, to_z, of_z, SFits}
 use Rattle.std.proofs.lemmas.Int.{to_z-of_z}
 use Rattle.std.proofs.lemmas.List.{take_more}
 use Rattle.std.proofs.lemmas.List.Elements.{All-from_get_or}

@@ -1,4 +1,4 @@
-use Rattle.std.proofs.Common.{◌≡◌, ◌∙◌, refl, arith, rules, take, length-set, map, Some, None, Err}
+use Rattle.std.proofs.Common.{◌≡◌, ◌∙◌, refl, arith, rules, take, length-set, map, Some, Err}
 use Rattle.std.proofs.lemmas.List.{length-replicate, take_all}
 use Rattle.fips204_base.specs.declared.fault.Fault.TheVariants.{SamplingLimit}
 use Rattle.std.specs.List.{range_with_len}
