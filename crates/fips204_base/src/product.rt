@@ -112,7 +112,7 @@ pub fn transforms<const L: usize>(v: &[R; L]) -> [T; L]
     ensures values { AreTransformsOf L (vector_coefficients v.now) result }
     ensures small { AreReduced result }
 {
-    if 5 < L && L <= 8 {
+    if L == 8 {
         return transforms_in_lanes(v);
     }
     let mut out = [T0; L];
