@@ -8,9 +8,7 @@ ghost use Rattle.fips204_base.specs.Transforms.{inverse_transform};
 ghost use Rattle.fips204_base.specs.Polynomials.{coefficient_at, entry, Within, IsReduced, IsReducedVector, AreReduced, IsReducedMatrix};
 ghost use Rattle.fips204_base.specs.Vectors.{vector_coefficients, matrix_product, product_difference, IsTransformOf, AreTransformsOf};
 
-use crate::batch::{
-    differences_in_lanes, inverses_in_lanes, products_in_lanes, transforms_in_lanes,
-};
+use crate::batch::{differences_in_lanes, products_in_lanes, transforms_in_lanes};
 use crate::helpers::reduce::{difference, wide_product};
 use crate::helpers::{Count, mat_vec_mul, partial_reduce64};
 use crate::maps::update_with;
@@ -31,9 +29,6 @@ pub fn matrix_times_vector<const K: usize, const L: usize>(
     ensures range { IsReducedVector K result }
 {
     let products = mat_vec_mul(a_hat, &transforms(v));
-    if 6 < K && K <= 8 {
-        return inverses_in_lanes(&products);
-    }
     let mut out = [R0; K];
     for i in 0..K {
         out[i] = inverse_of(&products[i]);

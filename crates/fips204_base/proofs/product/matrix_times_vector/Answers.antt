@@ -8,6 +8,3 @@ pub returns-clause-values : goal.returns-clause-values
 returns-clause-values g c = λ r n p q. c.loop-i.invariant.values r n (omega arith) q
     ∙ ap pos (row_of_products g.row.L (vector_residues c.mat_vec_mul-products.result r) (matrix_residues c.args.a_hat.now r) (vector_residues c.transforms.result) (vector_coefficients c.args.v.now)
     (λ j s. c.mat_vec_mul-products.ensures.values r j p s) c.transforms.ensures.values n q)
-
-pub returns-then-this-le8-clause-values : goal.returns-then-this-le8-clause-values
-returns-then-this-le8-clause-values g c = λ r n p q. c.inverses_in_lanes.ensures.values r n p q ∙ ap pos (row_of_products g.row.L (vector_residues c.mat_vec_mul-products.result r) (matrix_residues c.args.a_hat.now r) (vector_residues c.transforms.result) (vector_coefficients c.args.v.now) (λ j s. c.mat_vec_mul-products.ensures.values r j p s) c.transforms.ensures.values n q)
