@@ -35,23 +35,6 @@ pub(crate) fn transforms_in_lanes<const L: usize>(v: &[R; L]) -> [T; L]
     out
 }
 
-/// The polynomials that have at most eight transforms, all at once, with coefficients from 0 to `q - 1`. The
-/// values are below `q` in absolute value.
-pub(crate) fn inverses_in_lanes<const K: usize>(t: &[T; K]) -> [R; K]
-    requires few { K ≤ 8 }
-    requires range { AreReduced t.now }
-    ensures values { (r n : ℕ) → r < K → n < 256 → entry result r n ≡ pos (inverse_transform (vector_residues t.now r) n) }
-    ensures small { IsReducedVector K result }
-{
-    let mut rows = gathered(
-        |r, n|
-            requires { (r < 8) × (n < 256) }
-            ensures { result ≡ value_at t.entry.now r n }
-        { value_or_zero(t, r, n) },
-    );
-    polynomials_of(&mut rows)
-}
-
 /// The products of a challenge with at most eight polynomials, given by their transforms, all at once:
 /// coefficients from 0 to `q - 1`. The values are below `q` in absolute value.
 pub(crate) fn products_in_lanes<const K: usize>(c_hat: &T, t: &[T; K]) -> [R; K]

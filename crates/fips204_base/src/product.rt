@@ -10,9 +10,7 @@ ghost use Rattle.fips204_base.specs.Vectors.{vector_coefficients, matrix_product
 ghost use Rattle.fips204_base.specs.declared.types.R.{R};
 ghost use Rattle.fips204_base.specs.declared.types.T.{T};
 
-use crate::batch::{
-    differences_in_lanes, inverses_in_lanes, products_in_lanes, transforms_in_lanes,
-};
+use crate::batch::{differences_in_lanes, products_in_lanes, transforms_in_lanes};
 use crate::helpers::reduce::{difference, wide_product};
 use crate::helpers::{Count, mat_vec_mul, partial_reduce64};
 use crate::maps::update_with;
@@ -120,9 +118,6 @@ pub(crate) fn inverses<const K: usize>(t: &[T; K]) -> [R; K]
     ensures values { (r n : ℕ) → r < K → n < 256 → entry result r n ≡ pos (inverse_transform (vector_residues t.now r) n) }
     ensures range { IsReducedVector K result }
 {
-    if 6 < K && K <= 8 {
-        return inverses_in_lanes(t);
-    }
     let mut out = [R0; K];
     for i in 0..K {
         out[i] = inverse_of(&t[i]);
@@ -136,7 +131,7 @@ pub fn transforms<const L: usize>(v: &[R; L]) -> [T; L]
     ensures values { AreTransformsOf L (vector_coefficients v.now) result }
     ensures small { AreReduced result }
 {
-    if 5 < L && L <= 8 {
+    if L == 8 {
         return transforms_in_lanes(v);
     }
     let mut out = [T0; L];

@@ -24,6 +24,8 @@ mod input_streams;
 #[cfg(test)]
 mod keys;
 #[cfg(test)]
+mod lanes;
+#[cfg(test)]
 mod limits;
 #[cfg(test)]
 mod longer_fronts;
