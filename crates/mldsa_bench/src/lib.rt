@@ -14,6 +14,8 @@ mod drawing;
 #[cfg(test)]
 mod expected;
 #[cfg(test)]
+mod failing_devices;
+#[cfg(test)]
 mod fronts;
 #[cfg(test)]
 mod generator;

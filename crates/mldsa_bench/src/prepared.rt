@@ -1,6 +1,8 @@
 //! Keys that are prepared once.
 #![tactic(auto)]
 
+ghost use Rattle.std.specs.Prelude.{◌≤◌};
+
 use crate::expected::{
     private_44, private_65, private_87, public_44, public_65, public_87, signature_44,
     signature_65, signature_87,
@@ -20,36 +22,205 @@ const MESSAGES: [&[u8]; 5] = [b"", b"a", b"abc", b"another", &[7; 300]];
 /// Random bytes for each, no two alike.
 const SEEDS: [[u8; 32]; 5] = [[0; 32], [1; 32], [2; 32], [3; 32], [0xff; 32]];
 
+/// The signatures of the messages, one call for each.
+fn single_calls<S: Signer<Signature = [u8; SIG]>, const SIG: usize>(
+    key: &S,
+) -> Result<[[u8; SIG]; 5], Fault> {
+    let mut signatures = [[0u8; SIG]; 5];
+    for i in 0..5usize {
+        signatures[i] = key.try_sign_with_seed(&SEEDS[i], MESSAGES[i], b"context")?;
+    }
+    Ok(signatures)
+}
+
+/// Which of the signatures a key accepts of the messages, one call for each.
+fn single_verdicts<P: Verifier<Signature = [u8; SIG]>, const SIG: usize>(
+    key: &P,
+    signatures: &[[u8; SIG]; 5],
+) -> [bool; 5] {
+    let mut verdicts = [false; 5];
+    for i in 0..5usize {
+        verdicts[i] = key.verify(MESSAGES[i], &signatures[i], b"context");
+    }
+    verdicts
+}
+
+/// Whether the first answers, so many, are these signatures, and those that follow the refusal that was there.
+fn are_first<const SIG: usize>(
+    answers: &[Result<[u8; SIG], Fault>; 5],
+    count: usize,
+    signatures: &[[u8; SIG]; 5],
+) -> bool {
+    let mut same = true;
+    for i in 0..5usize {
+        let wanted = if i < count {
+            Ok(signatures[i])
+        } else {
+            Err(Fault::KeyRange)
+        };
+        same = same && answers[i] == wanted;
+    }
+    same
+}
+
+/// Whether the first answers, so many, are the refusal of a long context, and those that follow the refusal
+/// that was there.
+fn are_refused<const SIG: usize>(answers: &[Result<[u8; SIG], Fault>; 5], count: usize) -> bool {
+    let mut same = true;
+    for i in 0..5usize {
+        let wanted = if i < count {
+            Fault::SignCtx
+        } else {
+            Fault::KeyRange
+        };
+        same = same && answers[i] == Err(wanted);
+    }
+    same
+}
+
+/// Whether the first verdicts, so many, are yes, and none that follows is.
+fn are_accepted(verdicts: [bool; 5], count: usize) -> bool {
+    let mut same = true;
+    for i in 0..5usize {
+        same = same && verdicts[i] == (i < count);
+    }
+    same
+}
+
+/// The signatures with another bit in the third.
+fn with_third_spoiled<const SIG: usize>(mut signatures: [[u8; SIG]; 5]) -> [[u8; SIG]; 5] {
+    if let Some(byte) = signatures[2].get_mut(50) {
+        *byte ^= 1;
+    }
+    signatures
+}
+
+/// A prepared private key of set 44.
+type PreparedPrivate44<H> = ml_dsa_44::PreparedPrivateKey<H>;
+
+/// A prepared public key of set 44.
+type PreparedPublic44<H> = ml_dsa_44::PreparedPublicKey<H>;
+
+/// Whether each call of a prepared private key of set 44 answers this signature.
+fn signs_44(key: &PreparedPrivate44<Fill<0x55>>, signature: [u8; ml_dsa_44::SIG_LEN]) -> bool {
+    let mut rng = DummyRng { bytes: [7; 32] };
+    let identifier = oid(0x01);
+    let wanted = Ok(signature);
+    key.try_sign_with_seed(&[0; 32], b"abc", &[1; 255]) == wanted
+        && key.try_sign_with_rng(&mut rng, b"abc", &[]) == wanted
+        && key.try_hash_sign_with_seed(&[0; 32], &[5; 32], &[], &identifier) == wanted
+        && key.try_hash_sign_with_rng(&mut rng, &[5; 32], &[], &identifier) == wanted
+        && key.sign_internal(&mut rng, b"abc", true) == wanted
+        && key.sign_mu(&mut rng, &[9; 64], false) == wanted
+}
+
+/// The refusals of a prepared private key of set 44: of contexts of 256 bytes, and of a digest of 31.
+fn refusals_44(key: &PreparedPrivate44<Fill<0x55>>) -> [Option<Fault>; 4] {
+    let mut rng = DummyRng { bytes: [7; 32] };
+    let identifier = oid(0x01);
+    let long = [0u8; 256];
+    [
+        key.try_sign_with_seed(&[0; 32], b"abc", &long).err(),
+        key.try_sign_with_rng(&mut rng, b"abc", &long).err(),
+        key.try_hash_sign_with_seed(&[0; 32], &[5; 32], &long, &identifier)
+            .err(),
+        key.try_hash_sign_with_rng(&mut rng, &[5; 31], &[], &identifier)
+            .err(),
+    ]
+}
+
+/// Which of its calls say yes to this signature, of a prepared public key of set 44: four, and then those with
+/// a context of 256 bytes, plain and pre-hash, and with a digest of 31.
+fn verdicts_44(
+    key: &PreparedPublic44<Fill<0x55>>,
+    signature: &[u8; ml_dsa_44::SIG_LEN],
+) -> [bool; 7] {
+    let identifier = oid(0x01);
+    let long = [0u8; 256];
+    [
+        key.verify(b"another", signature, &[1; 255]),
+        key.hash_verify(&[5; 32], signature, &[], &identifier),
+        key.verify_internal(b"abc", signature),
+        key.verify_mu(&[9; 64], signature),
+        key.verify(b"abc", signature, &long),
+        key.hash_verify(&[5; 32], signature, &long, &identifier),
+        key.hash_verify(&[5; 31], signature, &[], &identifier),
+    ]
+}
+
 #[test]
 fn prepared_keys_of_set_44_over_constant_streams(rt: HostRuntime) -> Result<(), Fail> {
     let private = ml_dsa_44::PrivateKey::<Fill<0x55>, Fill<0>>::try_from_bytes(private_44())?;
     let public = ml_dsa_44::PublicKey::<Fill<0x55>, Fill<0>>::try_from_bytes(public_44())?;
     let private = private.prepare()?;
     let public = public.prepare()?;
-    let signature = signature_44();
-    let mut rng = DummyRng { bytes: [7; 32] };
-    assert!(rt; private.try_sign_with_seed(&[0; 32], b"abc", &[1; 255])? == signature);
-    assert!(rt; private.try_sign_with_rng(&mut rng, b"abc", &[])? == signature);
-    assert!(rt; private.try_hash_sign_with_seed(&[0; 32], &[5; 32], &[], &oid(0x01))? == signature);
-    assert!(rt; private.try_hash_sign_with_rng(&mut rng, &[5; 32], &[], &oid(0x01))? == signature);
-    assert!(rt; private.sign_internal(&mut rng, b"abc", true)? == signature);
-    assert!(rt; private.sign_mu(&mut rng, &[9; 64], false)? == signature);
-    assert!(rt; public.verify(b"another", &signature, &[1; 255]));
-    assert!(rt; public.hash_verify(&[5; 32], &signature, &[], &oid(0x01)));
-    assert!(rt; public.verify_internal(b"abc", &signature));
-    assert!(rt; public.verify_mu(&[9; 64], &signature));
-    let answer = private.try_sign_with_seed(&[0; 32], b"abc", &[0; 256]);
-    assert_eq!(rt; answer.err(), Some(Fault::SignCtx));
-    let answer = private.try_sign_with_rng(&mut rng, b"abc", &[0; 256]);
-    assert_eq!(rt; answer.err(), Some(Fault::SignCtx));
-    let answer = private.try_hash_sign_with_seed(&[0; 32], &[5; 32], &[0; 256], &oid(0x01));
-    assert_eq!(rt; answer.err(), Some(Fault::HashCtx));
-    let answer = private.try_hash_sign_with_rng(&mut rng, &[5; 31], &[], &oid(0x01));
-    assert_eq!(rt; answer.err(), Some(Fault::DigestLength));
-    assert!(rt; !public.verify(b"abc", &signature, &[0; 256]));
-    assert!(rt; !public.hash_verify(&[5; 32], &signature, &[0; 256], &oid(0x01)));
-    assert!(rt; !public.hash_verify(&[5; 31], &signature, &[], &oid(0x01)));
+    let refusals = [
+        Some(Fault::SignCtx),
+        Some(Fault::SignCtx),
+        Some(Fault::HashCtx),
+        Some(Fault::DigestLength),
+    ];
+    assert!(rt; signs_44(&private, signature_44()));
+    assert_eq!(rt; refusals_44(&private), refusals);
+    assert_eq!(rt;
+        verdicts_44(&public, &signature_44()),
+        [true, true, true, true, false, false, false]
+    );
     Ok(())
+}
+
+/// What `sign_each` answers at set 44 for the first of the messages, so many, under a context.
+fn signed_44(
+    key: &PreparedPrivate44<Sha256Ctr>,
+    count: usize,
+    ctx: &[u8],
+) -> [Result<[u8; ml_dsa_44::SIG_LEN], Fault>; 5]
+    requires { count ≤ 5 }
+{
+    let mut answers = [Err(Fault::KeyRange); 5];
+    key.sign_each(
+        &SEEDS[..count],
+        &MESSAGES[..count],
+        ctx,
+        &mut answers[..count],
+    );
+    answers
+}
+
+/// What `verify_each` answers at set 44 for the first of the messages, so many, under a context.
+fn verified_44(
+    key: &PreparedPublic44<Sha256Ctr>,
+    count: usize,
+    signatures: &[[u8; ml_dsa_44::SIG_LEN]; 5],
+    ctx: &[u8],
+) -> [bool; 5]
+    requires { count ≤ 5 }
+{
+    let mut verdicts = [false; 5];
+    key.verify_each(
+        &MESSAGES[..count],
+        &signatures[..count],
+        ctx,
+        &mut verdicts[..count],
+    );
+    verdicts
+}
+
+/// Whether the first of the messages, so many, are signed and accepted at set 44 as they are one by one, and
+/// refused under a context of 256 bytes.
+fn are_as_single_44(
+    signer: &PreparedPrivate44<Sha256Ctr>,
+    verifier: &PreparedPublic44<Sha256Ctr>,
+    signatures: &[[u8; ml_dsa_44::SIG_LEN]; 5],
+    count: usize,
+) -> bool
+    requires { count ≤ 5 }
+{
+    let long = [0u8; 256];
+    are_first(&signed_44(signer, count, b"context"), count, signatures)
+        && are_accepted(verified_44(verifier, count, signatures, b"context"), count)
+        && are_refused(&signed_44(signer, count, &long), count)
+        && are_accepted(verified_44(verifier, count, signatures, &long), 0)
 }
 
 #[test]
@@ -61,60 +232,16 @@ fn many_messages_of_set_44(rt: HostRuntime) -> Result<(), Fail> {
     assert!(rt; has_text(rt.alloc(), &recorded, recorded_44::SIGNATURE)?);
     assert!(rt; verifier.verify(&[0], &recorded, &[]));
     assert!(rt; !verifier.verify(&[1], &recorded, &[]));
-    for count in [0usize, 1, 5] {
-        let mut answers = [Err(Fault::KeyRange); 5];
-        signer.sign_each(
-            &SEEDS[..count],
-            &MESSAGES[..count],
-            b"context",
-            &mut answers[..count],
-        );
-        let mut signatures = [[0u8; ml_dsa_44::SIG_LEN]; 5];
-        for i in 0..count {
-            let single = private.try_sign_with_seed(&SEEDS[i], MESSAGES[i], b"context")?;
-            assert!(rt; answers[i] == Ok(single));
-            signatures[i] = single;
-        }
-        let mut verdicts = [false; 5];
-        verifier.verify_each(
-            &MESSAGES[..count],
-            &signatures[..count],
-            b"context",
-            &mut verdicts[..count],
-        );
-        for i in 0..count {
-            assert!(rt; verdicts[i]);
-            assert!(rt; public.verify(MESSAGES[i], &signatures[i], b"context"));
-        }
-        if count > 2 {
-            signatures[2][50] ^= 1;
-            verifier.verify_each(
-                &MESSAGES[..count],
-                &signatures[..count],
-                b"context",
-                &mut verdicts[..count],
-            );
-            for i in 0..count {
-                assert_eq!(rt; verdicts[i], i != 2);
-            }
-        }
-        verifier.verify_each(
-            &MESSAGES[..count],
-            &signatures[..count],
-            &[0; 256],
-            &mut verdicts[..count],
-        );
-        signer.sign_each(
-            &SEEDS[..count],
-            &MESSAGES[..count],
-            &[0; 256],
-            &mut answers[..count],
-        );
-        for i in 0..count {
-            assert!(rt; !verdicts[i]);
-            assert!(rt; answers[i] == Err(Fault::SignCtx));
-        }
-    }
+    let signatures = single_calls(&private)?;
+    assert_eq!(rt; single_verdicts(&public, &signatures), [true; 5]);
+    assert!(rt; are_as_single_44(&signer, &verifier, &signatures, 0));
+    assert!(rt; are_as_single_44(&signer, &verifier, &signatures, 1));
+    assert!(rt; are_as_single_44(&signer, &verifier, &signatures, 5));
+    let spoiled = with_third_spoiled(signatures);
+    assert_eq!(rt;
+        verified_44(&verifier, 5, &spoiled, b"context"),
+        [true, true, false, true, true]
+    );
     Ok(())
 }
 
@@ -128,6 +255,8 @@ fn keys_of_set_44_without_a_matrix(rt: HostRuntime) -> Result<(), Fail> {
         private_44(),
     )?;
     assert_eq!(rt; private.prepare().err(), Some(Fault::SamplingLimit));
+    let public = ml_dsa_44::PublicKey::<Fill<0x55>, PastLastTriple>::try_from_bytes(public_44())?;
+    assert_eq!(rt; public.prepare().err(), Some(Fault::SamplingLimit));
     let private = ml_dsa_44::PrivateKey::<Fill<0x55>, LastTriple>::try_from_bytes(private_44())?;
     let signature = private
         .prepare()?
@@ -138,36 +267,132 @@ fn keys_of_set_44_without_a_matrix(rt: HostRuntime) -> Result<(), Fail> {
     Ok(())
 }
 
+/// A prepared private key of set 65.
+type PreparedPrivate65<H> = ml_dsa_65::PreparedPrivateKey<H>;
+
+/// A prepared public key of set 65.
+type PreparedPublic65<H> = ml_dsa_65::PreparedPublicKey<H>;
+
+/// Whether each call of a prepared private key of set 65 answers this signature.
+fn signs_65(key: &PreparedPrivate65<Fill<0x55>>, signature: [u8; ml_dsa_65::SIG_LEN]) -> bool {
+    let mut rng = DummyRng { bytes: [7; 32] };
+    let identifier = oid(0x01);
+    let wanted = Ok(signature);
+    key.try_sign_with_seed(&[0; 32], b"abc", &[1; 255]) == wanted
+        && key.try_sign_with_rng(&mut rng, b"abc", &[]) == wanted
+        && key.try_hash_sign_with_seed(&[0; 32], &[5; 32], &[], &identifier) == wanted
+        && key.try_hash_sign_with_rng(&mut rng, &[5; 32], &[], &identifier) == wanted
+        && key.sign_internal(&mut rng, b"abc", true) == wanted
+        && key.sign_mu(&mut rng, &[9; 64], false) == wanted
+}
+
+/// The refusals of a prepared private key of set 65: of contexts of 256 bytes, and of a digest of 31.
+fn refusals_65(key: &PreparedPrivate65<Fill<0x55>>) -> [Option<Fault>; 4] {
+    let mut rng = DummyRng { bytes: [7; 32] };
+    let identifier = oid(0x01);
+    let long = [0u8; 256];
+    [
+        key.try_sign_with_seed(&[0; 32], b"abc", &long).err(),
+        key.try_sign_with_rng(&mut rng, b"abc", &long).err(),
+        key.try_hash_sign_with_seed(&[0; 32], &[5; 32], &long, &identifier)
+            .err(),
+        key.try_hash_sign_with_rng(&mut rng, &[5; 31], &[], &identifier)
+            .err(),
+    ]
+}
+
+/// Which of its calls say yes to this signature, of a prepared public key of set 65: four, and then those with
+/// a context of 256 bytes, plain and pre-hash, and with a digest of 31.
+fn verdicts_65(
+    key: &PreparedPublic65<Fill<0x55>>,
+    signature: &[u8; ml_dsa_65::SIG_LEN],
+) -> [bool; 7] {
+    let identifier = oid(0x01);
+    let long = [0u8; 256];
+    [
+        key.verify(b"another", signature, &[1; 255]),
+        key.hash_verify(&[5; 32], signature, &[], &identifier),
+        key.verify_internal(b"abc", signature),
+        key.verify_mu(&[9; 64], signature),
+        key.verify(b"abc", signature, &long),
+        key.hash_verify(&[5; 32], signature, &long, &identifier),
+        key.hash_verify(&[5; 31], signature, &[], &identifier),
+    ]
+}
+
 #[test]
 fn prepared_keys_of_set_65_over_constant_streams(rt: HostRuntime) -> Result<(), Fail> {
     let private = ml_dsa_65::PrivateKey::<Fill<0x55>, Fill<0>>::try_from_bytes(private_65())?;
     let public = ml_dsa_65::PublicKey::<Fill<0x55>, Fill<0>>::try_from_bytes(public_65())?;
     let private = private.prepare()?;
     let public = public.prepare()?;
-    let signature = signature_65();
-    let mut rng = DummyRng { bytes: [7; 32] };
-    assert!(rt; private.try_sign_with_seed(&[0; 32], b"abc", &[1; 255])? == signature);
-    assert!(rt; private.try_sign_with_rng(&mut rng, b"abc", &[])? == signature);
-    assert!(rt; private.try_hash_sign_with_seed(&[0; 32], &[5; 32], &[], &oid(0x01))? == signature);
-    assert!(rt; private.try_hash_sign_with_rng(&mut rng, &[5; 32], &[], &oid(0x01))? == signature);
-    assert!(rt; private.sign_internal(&mut rng, b"abc", true)? == signature);
-    assert!(rt; private.sign_mu(&mut rng, &[9; 64], false)? == signature);
-    assert!(rt; public.verify(b"another", &signature, &[1; 255]));
-    assert!(rt; public.hash_verify(&[5; 32], &signature, &[], &oid(0x01)));
-    assert!(rt; public.verify_internal(b"abc", &signature));
-    assert!(rt; public.verify_mu(&[9; 64], &signature));
-    let answer = private.try_sign_with_seed(&[0; 32], b"abc", &[0; 256]);
-    assert_eq!(rt; answer.err(), Some(Fault::SignCtx));
-    let answer = private.try_sign_with_rng(&mut rng, b"abc", &[0; 256]);
-    assert_eq!(rt; answer.err(), Some(Fault::SignCtx));
-    let answer = private.try_hash_sign_with_seed(&[0; 32], &[5; 32], &[0; 256], &oid(0x01));
-    assert_eq!(rt; answer.err(), Some(Fault::HashCtx));
-    let answer = private.try_hash_sign_with_rng(&mut rng, &[5; 31], &[], &oid(0x01));
-    assert_eq!(rt; answer.err(), Some(Fault::DigestLength));
-    assert!(rt; !public.verify(b"abc", &signature, &[0; 256]));
-    assert!(rt; !public.hash_verify(&[5; 32], &signature, &[0; 256], &oid(0x01)));
-    assert!(rt; !public.hash_verify(&[5; 31], &signature, &[], &oid(0x01)));
+    let refusals = [
+        Some(Fault::SignCtx),
+        Some(Fault::SignCtx),
+        Some(Fault::HashCtx),
+        Some(Fault::DigestLength),
+    ];
+    assert!(rt; signs_65(&private, signature_65()));
+    assert_eq!(rt; refusals_65(&private), refusals);
+    assert_eq!(rt;
+        verdicts_65(&public, &signature_65()),
+        [true, true, true, true, false, false, false]
+    );
     Ok(())
+}
+
+/// What `sign_each` answers at set 65 for the first of the messages, so many, under a context.
+fn signed_65(
+    key: &PreparedPrivate65<Sha256Ctr>,
+    count: usize,
+    ctx: &[u8],
+) -> [Result<[u8; ml_dsa_65::SIG_LEN], Fault>; 5]
+    requires { count ≤ 5 }
+{
+    let mut answers = [Err(Fault::KeyRange); 5];
+    key.sign_each(
+        &SEEDS[..count],
+        &MESSAGES[..count],
+        ctx,
+        &mut answers[..count],
+    );
+    answers
+}
+
+/// What `verify_each` answers at set 65 for the first of the messages, so many, under a context.
+fn verified_65(
+    key: &PreparedPublic65<Sha256Ctr>,
+    count: usize,
+    signatures: &[[u8; ml_dsa_65::SIG_LEN]; 5],
+    ctx: &[u8],
+) -> [bool; 5]
+    requires { count ≤ 5 }
+{
+    let mut verdicts = [false; 5];
+    key.verify_each(
+        &MESSAGES[..count],
+        &signatures[..count],
+        ctx,
+        &mut verdicts[..count],
+    );
+    verdicts
+}
+
+/// Whether the first of the messages, so many, are signed and accepted at set 65 as they are one by one, and
+/// refused under a context of 256 bytes.
+fn are_as_single_65(
+    signer: &PreparedPrivate65<Sha256Ctr>,
+    verifier: &PreparedPublic65<Sha256Ctr>,
+    signatures: &[[u8; ml_dsa_65::SIG_LEN]; 5],
+    count: usize,
+) -> bool
+    requires { count ≤ 5 }
+{
+    let long = [0u8; 256];
+    are_first(&signed_65(signer, count, b"context"), count, signatures)
+        && are_accepted(verified_65(verifier, count, signatures, b"context"), count)
+        && are_refused(&signed_65(signer, count, &long), count)
+        && are_accepted(verified_65(verifier, count, signatures, &long), 0)
 }
 
 #[test]
@@ -179,60 +404,16 @@ fn many_messages_of_set_65(rt: HostRuntime) -> Result<(), Fail> {
     assert!(rt; has_text(rt.alloc(), &recorded, recorded_65::SIGNATURE)?);
     assert!(rt; verifier.verify(&[0], &recorded, &[]));
     assert!(rt; !verifier.verify(&[1], &recorded, &[]));
-    for count in [0usize, 1, 5] {
-        let mut answers = [Err(Fault::KeyRange); 5];
-        signer.sign_each(
-            &SEEDS[..count],
-            &MESSAGES[..count],
-            b"context",
-            &mut answers[..count],
-        );
-        let mut signatures = [[0u8; ml_dsa_65::SIG_LEN]; 5];
-        for i in 0..count {
-            let single = private.try_sign_with_seed(&SEEDS[i], MESSAGES[i], b"context")?;
-            assert!(rt; answers[i] == Ok(single));
-            signatures[i] = single;
-        }
-        let mut verdicts = [false; 5];
-        verifier.verify_each(
-            &MESSAGES[..count],
-            &signatures[..count],
-            b"context",
-            &mut verdicts[..count],
-        );
-        for i in 0..count {
-            assert!(rt; verdicts[i]);
-            assert!(rt; public.verify(MESSAGES[i], &signatures[i], b"context"));
-        }
-        if count > 2 {
-            signatures[2][50] ^= 1;
-            verifier.verify_each(
-                &MESSAGES[..count],
-                &signatures[..count],
-                b"context",
-                &mut verdicts[..count],
-            );
-            for i in 0..count {
-                assert_eq!(rt; verdicts[i], i != 2);
-            }
-        }
-        verifier.verify_each(
-            &MESSAGES[..count],
-            &signatures[..count],
-            &[0; 256],
-            &mut verdicts[..count],
-        );
-        signer.sign_each(
-            &SEEDS[..count],
-            &MESSAGES[..count],
-            &[0; 256],
-            &mut answers[..count],
-        );
-        for i in 0..count {
-            assert!(rt; !verdicts[i]);
-            assert!(rt; answers[i] == Err(Fault::SignCtx));
-        }
-    }
+    let signatures = single_calls(&private)?;
+    assert_eq!(rt; single_verdicts(&public, &signatures), [true; 5]);
+    assert!(rt; are_as_single_65(&signer, &verifier, &signatures, 0));
+    assert!(rt; are_as_single_65(&signer, &verifier, &signatures, 1));
+    assert!(rt; are_as_single_65(&signer, &verifier, &signatures, 5));
+    let spoiled = with_third_spoiled(signatures);
+    assert_eq!(rt;
+        verified_65(&verifier, 5, &spoiled, b"context"),
+        [true, true, false, true, true]
+    );
     Ok(())
 }
 
@@ -246,6 +427,8 @@ fn keys_of_set_65_without_a_matrix(rt: HostRuntime) -> Result<(), Fail> {
         private_65(),
     )?;
     assert_eq!(rt; private.prepare().err(), Some(Fault::SamplingLimit));
+    let public = ml_dsa_65::PublicKey::<Fill<0x55>, PastLastTriple>::try_from_bytes(public_65())?;
+    assert_eq!(rt; public.prepare().err(), Some(Fault::SamplingLimit));
     let private = ml_dsa_65::PrivateKey::<Fill<0x55>, LastTriple>::try_from_bytes(private_65())?;
     let signature = private
         .prepare()?
@@ -256,36 +439,132 @@ fn keys_of_set_65_without_a_matrix(rt: HostRuntime) -> Result<(), Fail> {
     Ok(())
 }
 
+/// A prepared private key of set 87.
+type PreparedPrivate87<H> = ml_dsa_87::PreparedPrivateKey<H>;
+
+/// A prepared public key of set 87.
+type PreparedPublic87<H> = ml_dsa_87::PreparedPublicKey<H>;
+
+/// Whether each call of a prepared private key of set 87 answers this signature.
+fn signs_87(key: &PreparedPrivate87<Fill<0x55>>, signature: [u8; ml_dsa_87::SIG_LEN]) -> bool {
+    let mut rng = DummyRng { bytes: [7; 32] };
+    let identifier = oid(0x01);
+    let wanted = Ok(signature);
+    key.try_sign_with_seed(&[0; 32], b"abc", &[1; 255]) == wanted
+        && key.try_sign_with_rng(&mut rng, b"abc", &[]) == wanted
+        && key.try_hash_sign_with_seed(&[0; 32], &[5; 32], &[], &identifier) == wanted
+        && key.try_hash_sign_with_rng(&mut rng, &[5; 32], &[], &identifier) == wanted
+        && key.sign_internal(&mut rng, b"abc", true) == wanted
+        && key.sign_mu(&mut rng, &[9; 64], false) == wanted
+}
+
+/// The refusals of a prepared private key of set 87: of contexts of 256 bytes, and of a digest of 31.
+fn refusals_87(key: &PreparedPrivate87<Fill<0x55>>) -> [Option<Fault>; 4] {
+    let mut rng = DummyRng { bytes: [7; 32] };
+    let identifier = oid(0x01);
+    let long = [0u8; 256];
+    [
+        key.try_sign_with_seed(&[0; 32], b"abc", &long).err(),
+        key.try_sign_with_rng(&mut rng, b"abc", &long).err(),
+        key.try_hash_sign_with_seed(&[0; 32], &[5; 32], &long, &identifier)
+            .err(),
+        key.try_hash_sign_with_rng(&mut rng, &[5; 31], &[], &identifier)
+            .err(),
+    ]
+}
+
+/// Which of its calls say yes to this signature, of a prepared public key of set 87: four, and then those with
+/// a context of 256 bytes, plain and pre-hash, and with a digest of 31.
+fn verdicts_87(
+    key: &PreparedPublic87<Fill<0x55>>,
+    signature: &[u8; ml_dsa_87::SIG_LEN],
+) -> [bool; 7] {
+    let identifier = oid(0x01);
+    let long = [0u8; 256];
+    [
+        key.verify(b"another", signature, &[1; 255]),
+        key.hash_verify(&[5; 32], signature, &[], &identifier),
+        key.verify_internal(b"abc", signature),
+        key.verify_mu(&[9; 64], signature),
+        key.verify(b"abc", signature, &long),
+        key.hash_verify(&[5; 32], signature, &long, &identifier),
+        key.hash_verify(&[5; 31], signature, &[], &identifier),
+    ]
+}
+
 #[test]
 fn prepared_keys_of_set_87_over_constant_streams(rt: HostRuntime) -> Result<(), Fail> {
     let private = ml_dsa_87::PrivateKey::<Fill<0x55>, Fill<0>>::try_from_bytes(private_87())?;
     let public = ml_dsa_87::PublicKey::<Fill<0x55>, Fill<0>>::try_from_bytes(public_87())?;
     let private = private.prepare()?;
     let public = public.prepare()?;
-    let signature = signature_87();
-    let mut rng = DummyRng { bytes: [7; 32] };
-    assert!(rt; private.try_sign_with_seed(&[0; 32], b"abc", &[1; 255])? == signature);
-    assert!(rt; private.try_sign_with_rng(&mut rng, b"abc", &[])? == signature);
-    assert!(rt; private.try_hash_sign_with_seed(&[0; 32], &[5; 32], &[], &oid(0x01))? == signature);
-    assert!(rt; private.try_hash_sign_with_rng(&mut rng, &[5; 32], &[], &oid(0x01))? == signature);
-    assert!(rt; private.sign_internal(&mut rng, b"abc", true)? == signature);
-    assert!(rt; private.sign_mu(&mut rng, &[9; 64], false)? == signature);
-    assert!(rt; public.verify(b"another", &signature, &[1; 255]));
-    assert!(rt; public.hash_verify(&[5; 32], &signature, &[], &oid(0x01)));
-    assert!(rt; public.verify_internal(b"abc", &signature));
-    assert!(rt; public.verify_mu(&[9; 64], &signature));
-    let answer = private.try_sign_with_seed(&[0; 32], b"abc", &[0; 256]);
-    assert_eq!(rt; answer.err(), Some(Fault::SignCtx));
-    let answer = private.try_sign_with_rng(&mut rng, b"abc", &[0; 256]);
-    assert_eq!(rt; answer.err(), Some(Fault::SignCtx));
-    let answer = private.try_hash_sign_with_seed(&[0; 32], &[5; 32], &[0; 256], &oid(0x01));
-    assert_eq!(rt; answer.err(), Some(Fault::HashCtx));
-    let answer = private.try_hash_sign_with_rng(&mut rng, &[5; 31], &[], &oid(0x01));
-    assert_eq!(rt; answer.err(), Some(Fault::DigestLength));
-    assert!(rt; !public.verify(b"abc", &signature, &[0; 256]));
-    assert!(rt; !public.hash_verify(&[5; 32], &signature, &[0; 256], &oid(0x01)));
-    assert!(rt; !public.hash_verify(&[5; 31], &signature, &[], &oid(0x01)));
+    let refusals = [
+        Some(Fault::SignCtx),
+        Some(Fault::SignCtx),
+        Some(Fault::HashCtx),
+        Some(Fault::DigestLength),
+    ];
+    assert!(rt; signs_87(&private, signature_87()));
+    assert_eq!(rt; refusals_87(&private), refusals);
+    assert_eq!(rt;
+        verdicts_87(&public, &signature_87()),
+        [true, true, true, true, false, false, false]
+    );
     Ok(())
+}
+
+/// What `sign_each` answers at set 87 for the first of the messages, so many, under a context.
+fn signed_87(
+    key: &PreparedPrivate87<Sha256Ctr>,
+    count: usize,
+    ctx: &[u8],
+) -> [Result<[u8; ml_dsa_87::SIG_LEN], Fault>; 5]
+    requires { count ≤ 5 }
+{
+    let mut answers = [Err(Fault::KeyRange); 5];
+    key.sign_each(
+        &SEEDS[..count],
+        &MESSAGES[..count],
+        ctx,
+        &mut answers[..count],
+    );
+    answers
+}
+
+/// What `verify_each` answers at set 87 for the first of the messages, so many, under a context.
+fn verified_87(
+    key: &PreparedPublic87<Sha256Ctr>,
+    count: usize,
+    signatures: &[[u8; ml_dsa_87::SIG_LEN]; 5],
+    ctx: &[u8],
+) -> [bool; 5]
+    requires { count ≤ 5 }
+{
+    let mut verdicts = [false; 5];
+    key.verify_each(
+        &MESSAGES[..count],
+        &signatures[..count],
+        ctx,
+        &mut verdicts[..count],
+    );
+    verdicts
+}
+
+/// Whether the first of the messages, so many, are signed and accepted at set 87 as they are one by one, and
+/// refused under a context of 256 bytes.
+fn are_as_single_87(
+    signer: &PreparedPrivate87<Sha256Ctr>,
+    verifier: &PreparedPublic87<Sha256Ctr>,
+    signatures: &[[u8; ml_dsa_87::SIG_LEN]; 5],
+    count: usize,
+) -> bool
+    requires { count ≤ 5 }
+{
+    let long = [0u8; 256];
+    are_first(&signed_87(signer, count, b"context"), count, signatures)
+        && are_accepted(verified_87(verifier, count, signatures, b"context"), count)
+        && are_refused(&signed_87(signer, count, &long), count)
+        && are_accepted(verified_87(verifier, count, signatures, &long), 0)
 }
 
 #[test]
@@ -297,60 +576,16 @@ fn many_messages_of_set_87(rt: HostRuntime) -> Result<(), Fail> {
     assert!(rt; has_text(rt.alloc(), &recorded, recorded_87::SIGNATURE)?);
     assert!(rt; verifier.verify(&[0], &recorded, &[]));
     assert!(rt; !verifier.verify(&[1], &recorded, &[]));
-    for count in [0usize, 1, 5] {
-        let mut answers = [Err(Fault::KeyRange); 5];
-        signer.sign_each(
-            &SEEDS[..count],
-            &MESSAGES[..count],
-            b"context",
-            &mut answers[..count],
-        );
-        let mut signatures = [[0u8; ml_dsa_87::SIG_LEN]; 5];
-        for i in 0..count {
-            let single = private.try_sign_with_seed(&SEEDS[i], MESSAGES[i], b"context")?;
-            assert!(rt; answers[i] == Ok(single));
-            signatures[i] = single;
-        }
-        let mut verdicts = [false; 5];
-        verifier.verify_each(
-            &MESSAGES[..count],
-            &signatures[..count],
-            b"context",
-            &mut verdicts[..count],
-        );
-        for i in 0..count {
-            assert!(rt; verdicts[i]);
-            assert!(rt; public.verify(MESSAGES[i], &signatures[i], b"context"));
-        }
-        if count > 2 {
-            signatures[2][50] ^= 1;
-            verifier.verify_each(
-                &MESSAGES[..count],
-                &signatures[..count],
-                b"context",
-                &mut verdicts[..count],
-            );
-            for i in 0..count {
-                assert_eq!(rt; verdicts[i], i != 2);
-            }
-        }
-        verifier.verify_each(
-            &MESSAGES[..count],
-            &signatures[..count],
-            &[0; 256],
-            &mut verdicts[..count],
-        );
-        signer.sign_each(
-            &SEEDS[..count],
-            &MESSAGES[..count],
-            &[0; 256],
-            &mut answers[..count],
-        );
-        for i in 0..count {
-            assert!(rt; !verdicts[i]);
-            assert!(rt; answers[i] == Err(Fault::SignCtx));
-        }
-    }
+    let signatures = single_calls(&private)?;
+    assert_eq!(rt; single_verdicts(&public, &signatures), [true; 5]);
+    assert!(rt; are_as_single_87(&signer, &verifier, &signatures, 0));
+    assert!(rt; are_as_single_87(&signer, &verifier, &signatures, 1));
+    assert!(rt; are_as_single_87(&signer, &verifier, &signatures, 5));
+    let spoiled = with_third_spoiled(signatures);
+    assert_eq!(rt;
+        verified_87(&verifier, 5, &spoiled, b"context"),
+        [true, true, false, true, true]
+    );
     Ok(())
 }
 
@@ -364,6 +599,8 @@ fn keys_of_set_87_without_a_matrix(rt: HostRuntime) -> Result<(), Fail> {
         private_87(),
     )?;
     assert_eq!(rt; private.prepare().err(), Some(Fault::SamplingLimit));
+    let public = ml_dsa_87::PublicKey::<Fill<0x55>, PastLastTriple>::try_from_bytes(public_87())?;
+    assert_eq!(rt; public.prepare().err(), Some(Fault::SamplingLimit));
     let private = ml_dsa_87::PrivateKey::<Fill<0x55>, LastTriple>::try_from_bytes(private_87())?;
     let signature = private
         .prepare()?

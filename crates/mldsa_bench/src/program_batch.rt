@@ -11,7 +11,7 @@ use std::alloc::{AllocError, Global};
 use std::test::Fail;
 
 /// The signature of set 44 with a first coefficient of z that is out of range.
-fn refused_44() -> [u8; 2420] {
+pub fn refused_44() -> [u8; 2420] {
     let mut signature = signature_44();
     signature[32] = 0x4e;
     signature[33] = 0x00;

@@ -13,7 +13,7 @@ pub type Line = (usize, bool);
 
 /// The fault of an input of these lines that is cut after so many characters, or none where the last line
 /// is good.
-fn fault_of_cut(lines: &[Line], cut: usize) -> Option<RunFault> {
+pub fn fault_of_cut(lines: &[Line], cut: usize) -> Option<RunFault> {
     let mut left = cut;
     let mut line = 1usize;
     for (digits, any) in lines {

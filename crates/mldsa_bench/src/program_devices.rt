@@ -14,22 +14,22 @@ use std::test::Fail;
 
 /// What a run answered and did to its devices.
 #[derive(Drop)]
-struct Outcome {
-    answer: Result<bool, RunFault>,
-    written: Vec<u8>,
-    unread: usize,
-    reads: usize,
-    writes: usize,
-    read_failed: bool,
-    write_failed: bool,
+pub struct Outcome {
+    pub answer: Result<bool, RunFault>,
+    pub written: Vec<u8>,
+    pub unread: usize,
+    pub reads: usize,
+    pub writes: usize,
+    pub read_failed: bool,
+    pub write_failed: bool,
 }
 
 /// How many bytes each device moves a call at most, and the number of the call that fails.
 #[derive(Clone, Copy)]
-struct Manner {
-    most: usize,
-    read_fails: usize,
-    write_fails: usize,
+pub struct Manner {
+    pub most: usize,
+    pub read_fails: usize,
+    pub write_fails: usize,
 }
 
 /// Devices that move all that is asked for, and never fail.
@@ -40,10 +40,10 @@ const WHOLE: Manner = Manner {
 };
 
 /// Devices that move a byte a call, and never fail.
-const BY_BYTES: Manner = Manner { most: 1, ..WHOLE };
+pub const BY_BYTES: Manner = Manner { most: 1, ..WHOLE };
 
 /// A run of a command on these bytes.
-fn run_of(
+pub fn run_of(
     alloc: Global,
     manner: Manner,
     call: [&str; 3],
@@ -307,51 +307,6 @@ fn is_too_long(alloc: Global, line: usize, before: &[&str]) -> Result<bool, Allo
 fn lines_that_are_too_long(rt: HostRuntime) -> Result<(), Fail> {
     assert!(rt; is_too_long(rt.alloc(), 1, &[])?);
     assert!(rt; is_too_long(rt.alloc(), 4, &[ZEROS, ZEROS, "00"])?);
-    Ok(())
-}
-
-#[test]
-fn devices_that_fail_at_each_call(rt: HostRuntime) -> Result<(), Fail> {
-    let alloc = rt.alloc();
-    let call = ["fill55", "check", "44"];
-    let bytes = lines_of(alloc, &[ZEROS, ZEROS, "00", "00"])?;
-    for read_fails in 0..bytes.len() {
-        let manner = Manner {
-            read_fails,
-            ..BY_BYTES
-        };
-        let outcome = run_of(alloc, manner, call, bytes.as_slice())?;
-        assert_eq!(rt; outcome.answer, Err(RunFault::Read));
-        assert!(rt; outcome.read_failed && !outcome.write_failed);
-        assert_eq!(rt; outcome.reads, read_fails.wrapping_add(1));
-        assert_eq!(rt; outcome.writes, 0);
-    }
-    for write_fails in 0..4usize {
-        let manner = Manner {
-            write_fails,
-            ..BY_BYTES
-        };
-        let outcome = run_of(alloc, manner, call, bytes.as_slice())?;
-        assert_eq!(rt; outcome.answer, Err(RunFault::Write));
-        assert!(rt; !outcome.read_failed && outcome.write_failed);
-        assert_eq!(rt; outcome.writes, write_fails + 1);
-        assert_eq!(rt; outcome.written.len(), write_fails);
-    }
-    Ok(())
-}
-
-#[test]
-fn inputs_that_end_anywhere(rt: HostRuntime) -> Result<(), Fail> {
-    let alloc = rt.alloc();
-    let call = ["fill55", "check", "44"];
-    let bytes = lines_of(alloc, &[ZEROS, ZEROS, "00", "00"])?;
-    for end in 0..bytes.len() {
-        for manner in [WHOLE, BY_BYTES] {
-            let outcome = run_of(alloc, manner, call, &bytes.as_slice()[..end])?;
-            assert!(rt; outcome.answer != Err(RunFault::Read));
-            assert!(rt; !outcome.read_failed && !outcome.write_failed);
-        }
-    }
     Ok(())
 }
 

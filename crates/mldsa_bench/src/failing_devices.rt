@@ -1,0 +1,263 @@
+//! Each command at set 44 over devices that move a byte a call and fail at each call, and over inputs that
+//! end at each byte.
+#![tactic(auto)]
+
+use crate::devices::KeptError;
+use crate::expected::{private_44, public_44, signature_44};
+use crate::program_batch::refused_44;
+use crate::program_cuts::{Line, fault_of_cut};
+use crate::program_devices::{BY_BYTES, Manner, Outcome, run_of};
+use crate::program_runs::hex_lines;
+use mldsa_engine::RunFault;
+use mldsa_engine::process::end;
+use std::alloc::{AllocError, Global};
+use std::cell::RefCell;
+use std::process::ExitCode;
+use std::test::Fail;
+
+/// Whether the call of this number, counted from 0, is tried where a run makes `last` calls: the first and the
+/// last 300, and every 53rd between.
+fn is_tried(call: usize, last: usize) -> bool {
+    call < 300 || call % 53 == 0 || last.saturating_sub(call) <= 300
+}
+
+/// A command with the bytes of its lines of hex and the shape of these lines, and what it answers and writes
+/// over `fill55` at set 44.
+#[derive(Clone, Copy)]
+struct Run<'a> {
+    command: &'a str,
+    values: &'a [&'a [u8]],
+    lines: &'a [Line],
+    answer: bool,
+    written: &'a [u8],
+}
+
+/// What the run does with these bytes and devices.
+fn outcome_of(
+    alloc: Global,
+    run: &Run,
+    manner: Manner,
+    bytes: &[u8],
+) -> Result<Outcome, AllocError> {
+    run_of(alloc, manner, ["fill55", run.command, "44"], bytes)
+}
+
+/// Whether an outcome is as that of a run on good devices.
+fn passes(run: &Run, outcome: &Outcome) -> bool {
+    outcome.answer == Ok(run.answer)
+        && outcome.written.as_slice() == run.written
+        && outcome.unread == 0
+        && !outcome.read_failed
+        && !outcome.write_failed
+}
+
+/// Whether an outcome is a failure of these words, with status 2.
+fn fails_with(alloc: Global, outcome: &Outcome, fault: RunFault, text: &str) -> bool {
+    let error = KeptError {
+        text: RefCell::new(String::new(alloc)),
+    };
+    let status = end(&error, outcome.answer);
+    outcome.answer == Err(fault)
+        && status == ExitCode::from(2)
+        && error.text.into_inner().as_str() == text
+}
+
+/// The first call of the reader that can fail with another outcome than `read failed` and nothing written.
+fn first_wrong_read(alloc: Global, run: &Run) -> Result<Option<usize>, AllocError> {
+    let input = hex_lines(alloc, run.values)?;
+    let bytes = input.as_slice();
+    for call in 0..bytes.len() {
+        if !is_tried(call, bytes.len()) {
+            continue;
+        }
+        let manner = Manner {
+            read_fails: call,
+            ..BY_BYTES
+        };
+        let outcome = outcome_of(alloc, run, manner, bytes)?;
+        let failed = outcome.read_failed
+            && !outcome.write_failed
+            && outcome.written.is_empty()
+            && outcome.writes == 0
+            && outcome.reads == call.wrapping_add(1)
+            && fails_with(alloc, &outcome, RunFault::Read, "read failed\n");
+        if !failed {
+            return Ok(Some(call));
+        }
+    }
+    let manner = Manner {
+        read_fails: bytes.len(),
+        ..BY_BYTES
+    };
+    let outcome = outcome_of(alloc, run, manner, bytes)?;
+    Ok(if passes(run, &outcome) {
+        None
+    } else {
+        Some(bytes.len())
+    })
+}
+
+/// The first call of the writer that can fail with another outcome than `write failed` after the bytes of the
+/// calls before it.
+fn first_wrong_write(alloc: Global, run: &Run) -> Result<Option<usize>, AllocError> {
+    let input = hex_lines(alloc, run.values)?;
+    let bytes = input.as_slice();
+    let written = run.written;
+    for call in 0..written.len() {
+        if !is_tried(call, written.len()) {
+            continue;
+        }
+        let manner = Manner {
+            write_fails: call,
+            ..BY_BYTES
+        };
+        let outcome = outcome_of(alloc, run, manner, bytes)?;
+        let failed = !outcome.read_failed
+            && outcome.write_failed
+            && outcome.written.as_slice() == &written[..call]
+            && outcome.writes == call.wrapping_add(1)
+            && fails_with(alloc, &outcome, RunFault::Write, "write failed\n");
+        if !failed {
+            return Ok(Some(call));
+        }
+    }
+    let manner = Manner {
+        write_fails: written.len(),
+        ..BY_BYTES
+    };
+    let outcome = outcome_of(alloc, run, manner, bytes)?;
+    Ok(if passes(run, &outcome) {
+        None
+    } else {
+        Some(written.len())
+    })
+}
+
+/// The first number of bytes after which the input can end with another outcome than the fault of its lines,
+/// or that of the whole input where the last line is good.
+fn first_wrong_end(alloc: Global, run: &Run) -> Result<Option<usize>, AllocError> {
+    let input = hex_lines(alloc, run.values)?;
+    let bytes = input.as_slice();
+    for ended in 0..bytes.len() {
+        if !is_tried(ended, bytes.len()) {
+            continue;
+        }
+        let outcome = outcome_of(alloc, run, BY_BYTES, &bytes[..ended])?;
+        let as_wanted = match fault_of_cut(run.lines, ended) {
+            Some(fault) => {
+                outcome.answer == Err(fault)
+                    && outcome.writes == 0
+                    && !outcome.read_failed
+                    && !outcome.write_failed
+            }
+            None => passes(run, &outcome),
+        };
+        if !as_wanted {
+            return Ok(Some(ended));
+        }
+    }
+    Ok(None)
+}
+
+/// The first call of the reader, the first of the writer and the first end of the input that are answered
+/// wrongly.
+fn first_wrong(alloc: Global, run: Run) -> Result<[Option<usize>; 3], AllocError> {
+    Ok([
+        first_wrong_read(alloc, &run)?,
+        first_wrong_write(alloc, &run)?,
+        first_wrong_end(alloc, &run)?,
+    ])
+}
+
+#[test]
+fn failing_devices_of_id(rt: HostRuntime) -> Result<(), Fail> {
+    let key = public_44();
+    let written = hex_lines(rt.alloc(), &[&key, &[0x55; 64]])?;
+    let run = Run {
+        command: "id",
+        values: &[&key],
+        lines: &[(2624, false)],
+        answer: true,
+        written: written.as_slice(),
+    };
+    assert_eq!(rt; first_wrong(rt.alloc(), run)?, [None; 3]);
+    Ok(())
+}
+
+#[test]
+fn failing_devices_of_keygen(rt: HostRuntime) -> Result<(), Fail> {
+    let written = hex_lines(rt.alloc(), &[&public_44(), &private_44()])?;
+    let run = Run {
+        command: "keygen",
+        values: &[&[7; 32]],
+        lines: &[(64, false)],
+        answer: true,
+        written: written.as_slice(),
+    };
+    assert_eq!(rt; first_wrong(rt.alloc(), run)?, [None; 3]);
+    Ok(())
+}
+
+#[test]
+fn failing_devices_of_sign(rt: HostRuntime) -> Result<(), Fail> {
+    let key = private_44();
+    let written = hex_lines(rt.alloc(), &[&signature_44()])?;
+    let run = Run {
+        command: "sign",
+        values: &[&key, &[7; 32], b"context", b"message"],
+        lines: &[(5120, false), (64, false), (14, true), (14, true)],
+        answer: true,
+        written: written.as_slice(),
+    };
+    assert_eq!(rt; first_wrong(rt.alloc(), run)?, [None; 3]);
+    Ok(())
+}
+
+#[test]
+fn failing_devices_of_verify(rt: HostRuntime) -> Result<(), Fail> {
+    let (key, signature) = (public_44(), signature_44());
+    let run = Run {
+        command: "verify",
+        values: &[&key, &signature, b"context", b"message"],
+        lines: &[(2624, false), (4840, false), (14, true), (14, true)],
+        answer: true,
+        written: b"yes\n",
+    };
+    assert_eq!(rt; first_wrong(rt.alloc(), run)?, [None; 3]);
+    Ok(())
+}
+
+#[test]
+fn failing_devices_of_check(rt: HostRuntime) -> Result<(), Fail> {
+    let run = Run {
+        command: "check",
+        values: &[&[7; 32], &[9; 32], &[], b"message"],
+        lines: &[(64, false), (64, false), (0, true), (14, true)],
+        answer: true,
+        written: b"yes\n",
+    };
+    assert_eq!(rt; first_wrong(rt.alloc(), run)?, [None; 3]);
+    Ok(())
+}
+
+#[test]
+fn failing_devices_of_batch(rt: HostRuntime) -> Result<(), Fail> {
+    let (key, good, bad) = (public_44(), signature_44(), refused_44());
+    let run = Run {
+        command: "batch",
+        values: &[&key, b"context", &[0, 2], &good, b"message", &bad, &[]],
+        lines: &[
+            (2624, false),
+            (14, true),
+            (4, false),
+            (4840, false),
+            (14, true),
+            (4840, false),
+            (0, true),
+        ],
+        answer: false,
+        written: b"yes\nno\n",
+    };
+    assert_eq!(rt; first_wrong(rt.alloc(), run)?, [None; 3]);
+    Ok(())
+}
