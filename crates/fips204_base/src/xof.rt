@@ -8,9 +8,11 @@ ghost use Rattle.std.proofs.Common.{rules};
 use std::marker::Model;
 
 mod counter;
+mod front;
 mod sha2_ctr;
 
 pub use counter::{BlockHash, BlockReader};
+pub use front::FrontReader;
 pub use sha2_ctr::{
     Sha256Ctr, Sha256CtrLong, Sha256CtrReader, Sha512Ctr, Sha512CtrLong, Sha512CtrReader,
 };
