@@ -240,7 +240,8 @@ impl<H: Xof, G: Xof> SerDes for PrivateKey<H, G> {
         )
     }
 
-    /// Refuses with `Fault::KeyRange` where a field of s1 or s2 is above `2 eta`.
+    /// Refuses with `Fault::KeyRange` where a coefficient of s1 or s2 is out of its range, so that its field
+    /// is above `2 eta`.
     fn try_from_bytes(ba: [u8; SK_LEN]) -> Result<PrivateKey<H, G>, Fault> {
         ml_dsa::expand_private(&ML_DSA_44, &ba)
     }
@@ -259,7 +260,7 @@ impl<H: Xof, G: Xof> SerDes for PublicKey<H, G> {
         pk_encode(&self.rho, &self.t1)
     }
 
-    /// Accepts every array; `tr` becomes the first 64 bytes of `H` over it.
+    /// Never refuses. The hash `tr` of the key is computed of the array anew, by `H`.
     fn try_from_bytes(ba: [u8; PK_LEN]) -> Result<PublicKey<H, G>, Fault> {
         Ok(ml_dsa::expand_public(&ba))
     }

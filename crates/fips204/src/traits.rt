@@ -100,7 +100,8 @@ pub trait KeyGen {
         Self::keygen_from_seed(&draw(rng, Fault::KeyGenRng)?)
     }
 
-    /// Both keys of a seed. Refuses with `Fault::SamplingLimit` where a sampler passes its limit.
+    /// Both keys of a seed (Algorithm 6). Refuses with `Fault::SamplingLimit` where rejection sampling
+    /// reaches its limit.
     fn keygen_from_seed(xi: &[u8; 32]) -> Result<(Self::PublicKey, Self::PrivateKey), Fault>
         ensures { result ≡ generated xi.now };
 }
@@ -152,8 +153,8 @@ pub trait Signer {
     }
 
     /// Signs with these random bytes. Refuses with `Fault::SignCtx` a context of more than 255 bytes,
-    /// with `Fault::SamplingLimit` where a sampler passes its limit, and with `Fault::TooManyAttempts`
-    /// where all attempts are rejected.
+    /// with `Fault::SamplingLimit` where rejection sampling reaches its limit, and with
+    /// `Fault::TooManyAttempts` where all 814 attempts are rejected.
     fn try_sign_with_seed(
         &self,
         seed: &[u8; 32],
@@ -199,8 +200,8 @@ pub trait Signer {
         ensures accepted { AcceptedIfWhole (whole self.now) (derives self.now)
             (λ pk signature. accepts_digest pk hash.now signature ctx.now hash_oid.now) result };
 
-    /// The public key of the private key. Refuses with `Fault::SamplingLimit` where its matrix passes
-    /// its limit.
+    /// The public key of the private key. Refuses with `Fault::SamplingLimit` where rejection sampling of
+    /// its matrix reaches its limit.
     fn get_public_key(&self) -> Result<Self::PublicKey, Fault>
         ensures { result ≡ derives self.now };
 }
@@ -290,7 +291,7 @@ pub fn pairwise_check<S: Scheme>(
     Ok(S::verify(&pk, message, &signature, ctx))
 }
 
-/// Values that go through byte arrays of one length and back.
+/// Keys that are encoded in a byte array of one length, and decoded (FIPS 204, Algorithms 22 to 25).
 pub trait SerDes: Sized {
     /// The array that holds the bytes.
     type ByteArray;
@@ -301,11 +302,11 @@ pub trait SerDes: Sized {
     // Whether bytes are answered by a value, or by a refusal.
     ghost decodes: { Self.ByteArray → Result Self Fault → Type 0 };
 
-    /// The bytes of the value.
+    /// The bytes of the value (Algorithms 22 and 24).
     fn into_bytes(self) -> Self::ByteArray
         ensures { result ≡ bytes_of self };
 
-    /// The value that has these bytes, or the refusal of bytes that no value has.
+    /// The value that has these bytes (Algorithms 23 and 25), or the refusal of bytes that no value has.
     fn try_from_bytes(ba: Self::ByteArray) -> Result<Self, Fault>
         ensures { decodes ba result };
 

@@ -81,7 +81,7 @@ fn short_parts<const K: usize, const L: usize, const LAMBDA_DIV4: usize, const S
 {
     // (c_tilde, z, h) = sigDecode(sigma)
     let parts = sig_decode::<K, L, LAMBDA_DIV4, SIG_LEN>(p.gamma1, p.omega, sig)?;
-    // the norm of z is below gamma1 - beta
+    // ||z|| < gamma1 - beta
     if has_norm_below(&parts.1, p.z_bound()) {
         Some(parts)
     } else {

@@ -19,7 +19,7 @@ use fips204_base::xof::Xof;
 
 impl<H: Xof, G: Xof> PrivateKey<H, G> {
     /// The key with its matrix, which many signatures then share. Refuses with `Fault::SamplingLimit` where
-    /// the matrix passes its limit.
+    /// rejection sampling of the matrix reaches its limit.
     pub fn prepare(&self) -> Result<PreparedPrivateKey<H>, Fault>
         ensures { result ≡ prepared_private set_87 G.front self.now }
     {
@@ -29,7 +29,7 @@ impl<H: Xof, G: Xof> PrivateKey<H, G> {
 
 impl<H: Xof, G: Xof> PublicKey<H, G> {
     /// The key with its matrix, which many verifications then share. Refuses with `Fault::SamplingLimit`
-    /// where the matrix passes its limit.
+    /// where rejection sampling of the matrix reaches its limit.
     pub fn prepare(&self) -> Result<PreparedPublicKey<H>, Fault>
         ensures { result ≡ prepared_public set_87 G.front self.now }
     {
