@@ -1,9 +1,8 @@
 -- One signature for two files of one name.
-use Rattle.std.proofs.Common.{◌≡◌, ◌≢◌, ◌⊎◌, inl, inr, ◌≤◌, ℕ, List, length, nat_lt, Option, Some, None, if◌then◌else◌, refl, ap, rules, arith}
-use Rattle.fips204_base.specs.declared.fault.Fault.TheVariants.{SignCtx}
-use Rattle.fips204.specs.Framing.{framed, message_hash}
+use Rattle.std.proofs.Common.{◌≡◌, ◌≢◌, ◌⊎◌, inl, inr, ◌≤◌, ℕ, List, length, None, refl, ap, rules, arith}
+use Rattle.fips204.specs.Framing.{framed}
 use Rattle.fips204.specs.Keys.{PublicParts}
-use Rattle.fips204.specs.MessageLaws.{Input, plain, hashed, Collide, FramingIsOneToOne, SignatureBindsMessage, accepted_w1}
+use Rattle.fips204.specs.MessageLaws.{Input, plain, hashed, Collide, FramingIsOneToOne, SignatureBindsMessage}
 use Rattle.fips204.specs.ParameterSets.{set_44}
 use Rattle.fips204.specs.Refusals.{message_fault, VerifiesMessage}
 use Rattle.mldsa_bench.specs.Manifest.{HasCollision}
