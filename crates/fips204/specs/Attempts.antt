@@ -60,8 +60,8 @@ hint_bit gamma2 v t = if make_hint gamma2 ((0 + 8380416 * t) % 8380417) ((v + t)
 unfoldable pub hint_vector : ParameterSet → PrivateParts → (ℕ → ℕ → ℕ) → R → List R
 hint_vector p sk w c = vector_of p.k (λ r n. hint_bit p.gamma2 (w_minus_cs2 sk.s2 w c r n) (scaled c (vector_coefficients sk.t0) r n))
 
--- whether an attempt is kept: the norm of z is below gamma1 - beta, that of r0 below gamma2 - beta, that of c t0 below
--- gamma2, and h has at most omega ones
+-- whether an attempt is kept: ||z|| < gamma1 - beta, ||r0|| < gamma2 - beta, ||c t0|| < gamma2, and h has at most omega
+-- ones
 unfoldable pub passes_checks : ParameterSet → PrivateParts → List R → (ℕ → ℕ → ℕ) → R → Bool
 passes_checks p sk y w c =
     nat_lt (vector_norm (response p sk y c)) (p.gamma1 - p.beta)

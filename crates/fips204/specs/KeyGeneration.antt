@@ -23,7 +23,7 @@ high_part p a s1 s2 = vector_of p.k (λ r n. pos (power2round (key_vector p.l a 
 unfoldable pub low_part : ParameterSet → List (List T) → List R → List R → List R
 low_part p a s1 s2 = vector_of p.k (λ r n. (power2round (key_vector p.l a s1 s2 r n)).1)
 
--- tr, the first 64 bytes of H over the public key's bytes
+-- tr, the hash by H of the public key's bytes, 64 of its bytes
 abbrev pub key_hash : (List ℕ → List ℕ) → List ℕ → List R → List ℕ
 key_hash H rho t1 = take 64 (H (public_key_bytes rho t1))
 
@@ -51,7 +51,7 @@ key_generation p H G xi =
     let key = take 32 (drop 96 (seeds p H xi)) in
     key_pair_if_all p H rho key (sampled_matrix G rho p.k p.l) (small_vector p.eta H rho' 0 p.l) (small_vector p.eta H rho' p.l p.k)
 
--- a private key is whole where its matrix is there, and t0 is the low part of A s1 + s2
+-- a whole private key: rejection sampling gives its matrix, and its t0 comes of A s1 + s2 by power2round
 pub record IsWhole (p : ParameterSet) (G : List ℕ → List ℕ) (sk : PrivateParts) : Type 0 where
   pub matrix : List (List T)
   pub sampled : sampled_matrix G sk.rho p.k p.l ≡ Some matrix

@@ -66,7 +66,7 @@ VerifiesEach p H pk messages signatures context answers = (length answers ≡ le
     × ((i : ℕ) → i < length messages
     → IsTrue (slice_index_or answers i false) ↔ AcceptsMessage p H pk (slice_index_or messages i []) (slice_index_or signatures i []) context)
 
--- a prepared private key is whole where t0 is the low part of A s1 + s2; the public key that belongs to it has the high part
+-- a whole prepared private key: its t0 comes of A s1 + s2 by power2round; the public key that belongs to it has the high part
 abbrev pub IsWholePrepared : ParameterSet → PreparedPrivate → Type 0
 IsWholePrepared p sk = sk.key.t0 ≡ low_part p sk.matrix sk.key.s1 sk.key.s2
 

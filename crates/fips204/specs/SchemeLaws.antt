@@ -33,19 +33,19 @@ HighBitsStay =
     (g r s beta : ℕ) → IsGamma2 g → r < 8380417 → s < 8380417 → nat_abs (centred_modulo 8380417 s) ≤ beta → nat_abs (low_bits g r) + beta < g
     → high_bits g ((r + s) % 8380417) ≡ high_bits g r
 
--- the norm of c s is at most tau eta, where c is a challenge and the norm of s is at most eta
+-- no coefficient of c s is above tau eta in absolute value, centred, for a challenge c and an s with none above eta
 abbrev pub ChallengeProductIsSmall : Type 0
 ChallengeProductIsSmall =
     (tau eta : ℕ) (front : List ℕ) (c s : R) → challenge tau front ≡ Some c → norm s.0 ≤ eta
     → norm (polynomial_of (λ n. pos (product (coefficients c.0) (coefficients s.0) n))).0 ≤ tau * eta
 
--- two signatures with the same c_tilde, z and h are the same bytes
+-- c_tilde, z and h determine the bytes of a signature
 abbrev pub SignatureHasOneSpelling : Type 0
 SignatureHasOneSpelling =
     (gamma1 omega' k l n : ℕ) (first second c_tilde : List ℕ) (z h : List R)
     → IsSignature gamma1 omega' k l n first c_tilde z h → IsSignature gamma1 omega' k l n second c_tilde z h → first ≡ second
 
--- each hint with at most omega ones has a spelling and no other, and no bytes spell two hints
+-- a hint whose ones number no more than omega is spelled by one row of bytes alone, which spells no other hint
 abbrev pub HintHasOneSpelling : Type 0
 HintHasOneSpelling =
     (omega' k : ℕ) (h : List R)

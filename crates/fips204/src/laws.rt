@@ -53,7 +53,8 @@ pub fn high_bits_stay()
     ensures { HighBitsStay }
 {}
 
-/// The norm of `c s` is at most tau eta, for a challenge `c` and a polynomial `s` whose norm is at most eta.
+/// A challenge `c` times a polynomial `s` of norm at most eta has no coefficient above tau eta in absolute value,
+/// centred.
 pub fn challenge_product_bound()
     ensures { ChallengeProductIsSmall }
 {}
@@ -63,7 +64,8 @@ pub fn signature_spelling()
     ensures { SignatureHasOneSpelling }
 {}
 
-/// Each hint with at most omega ones has exactly one spelling, and no bytes spell two hints.
+/// A hint whose ones number no more than omega is spelled by one row of bytes alone, and a row of bytes spells one
+/// hint at most.
 pub fn hint_spelling()
     ensures { HintHasOneSpelling }
 {}

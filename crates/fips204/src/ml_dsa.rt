@@ -71,8 +71,8 @@ pub fn expand_private<const K: usize, const L: usize, const SK_LEN: usize, H, G>
     })
 }
 
-/// The first 64 bytes of `H` over the concatenation of the parts (lines 6 of Algorithm 7 and 7 of
-/// Algorithm 8).
+/// The hash mu of a framed message: 64 bytes of `H`, read over the joined parts (lines 6 of Algorithm 7 and 7
+/// of Algorithm 8).
 pub fn mu<H: Xof>(parts: &[&[u8]]) -> [u8; 64]
     ensures { result ≡ take 64 (H.front (flat_map (λ p. p.now) parts.now)) }
 {

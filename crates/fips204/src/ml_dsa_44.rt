@@ -55,7 +55,8 @@ pub type PreparedPublicKey<H> = types::PreparedPublicKey<K, L, H>;
 /// Key generation.
 pub struct KG<H, G>(PhantomData<(H, G)>);
 
-/// Both keys of 32 bytes that the generator is asked for once, as `KeyGen::try_keygen_with_rng`.
+/// Both keys (Algorithm 1) of 32 bytes that the generator is asked for once, as
+/// `KeyGen::try_keygen_with_rng`: refused with `Fault::KeyGenRng`, or with `Fault::SamplingLimit`.
 pub fn try_keygen_with_rng<H: Xof, G: Xof, R: CryptoRngCore>(
     rng: &mut R,
 ) -> Result<(PublicKey<H, G>, PrivateKey<H, G>), Fault>
@@ -173,7 +174,8 @@ impl<H: Xof, G: Xof> Verifier for PublicKey<H, G> {
 impl<H: Xof, G: Xof> PrivateKey<H, G> {
     /// Signs a framed message `m` (Algorithm 7). With `hedged` the generator is asked once for the 32
     /// random bytes, and `Fault::InternalRng` stands for its refusal; without, they are zeros and it is
-    /// not asked.
+    /// not asked. Refuses with `Fault::SamplingLimit` and `Fault::TooManyAttempts` as
+    /// `Signer::try_sign_with_seed`.
     pub fn sign_internal<R: CryptoRngCore>(
         &self,
         rng: &mut R,
@@ -187,7 +189,8 @@ impl<H: Xof, G: Xof> PrivateKey<H, G> {
         self.sign_mu(rng, &ml_dsa::mu::<H>(&[&self.tr, m]), hedged)
     }
 
-    /// Signs the hash `mu` of a framed message; the random bytes are those of `sign_internal`.
+    /// Signs the hash `mu` of a framed message (Algorithm 7 from line 7 on). Random bytes and refusals are those
+    /// of `sign_internal`.
     pub fn sign_mu<R: CryptoRngCore>(
         &self,
         rng: &mut R,
@@ -211,7 +214,7 @@ impl<H: Xof, G: Xof> PublicKey<H, G> {
         self.verify_mu(&ml_dsa::mu::<H>(&[&self.tr, m]), sig)
     }
 
-    /// Whether the signature of the hash `mu` of a framed message is accepted.
+    /// Whether the signature of the hash `mu` of a framed message is accepted (Algorithm 8, with mu given).
     pub fn verify_mu(&self, mu: &[u8; 64], sig: &[u8; SIG_LEN]) -> bool
         ensures { IsTrue result ↔ Verifies set_44 H.front G.front self.now mu.now sig.now }
     {
@@ -240,7 +243,8 @@ impl<H: Xof, G: Xof> SerDes for PrivateKey<H, G> {
         )
     }
 
-    /// Refuses with `Fault::KeyRange` where a field of s1 or s2 is above `2 eta`.
+    /// Refuses with `Fault::KeyRange` where a coefficient of s1 or s2 is out of its range, so that its field
+    /// is above `2 eta`.
     fn try_from_bytes(ba: [u8; SK_LEN]) -> Result<PrivateKey<H, G>, Fault> {
         ml_dsa::expand_private(&ML_DSA_44, &ba)
     }
@@ -259,7 +263,7 @@ impl<H: Xof, G: Xof> SerDes for PublicKey<H, G> {
         pk_encode(&self.rho, &self.t1)
     }
 
-    /// Accepts every array; `tr` becomes the first 64 bytes of `H` over it.
+    /// Never refuses. The hash `tr` of the key is computed of the array anew, by `H`.
     fn try_from_bytes(ba: [u8; PK_LEN]) -> Result<PublicKey<H, G>, Fault> {
         Ok(ml_dsa::expand_public(&ba))
     }

@@ -90,7 +90,7 @@ pub trait KeyGen {
     // Both keys of a seed, or the refusal.
     ghost generated: { List ℕ → Result (Self.PublicKey × Self.PrivateKey) Fault };
 
-    /// Both keys of 32 bytes that the generator is asked for once. Refuses with `Fault::KeyGenRng` where
+    /// Both keys (Algorithm 1) of 32 bytes that the generator is asked for once. Refuses with `Fault::KeyGenRng` where
     /// it refuses, and as `keygen_from_seed` does.
     fn try_keygen_with_rng<R: CryptoRngCore>(
         rng: &mut R,
@@ -100,7 +100,8 @@ pub trait KeyGen {
         Self::keygen_from_seed(&draw(rng, Fault::KeyGenRng)?)
     }
 
-    /// Both keys of a seed. Refuses with `Fault::SamplingLimit` where a sampler passes its limit.
+    /// Both keys of a seed (Algorithm 6). Refuses with `Fault::SamplingLimit` where rejection sampling
+    /// reaches its limit.
     fn keygen_from_seed(xi: &[u8; 32]) -> Result<(Self::PublicKey, Self::PrivateKey), Fault>
         ensures { result ≡ generated xi.now };
 }
@@ -131,8 +132,8 @@ pub trait Signer {
     // Whether a public key accepts a digest, a signature, a context and an object identifier.
     ghost accepts_digest: { Self.PublicKey → List ℕ → Self.Signature → List ℕ → List ℕ → Type 0 };
 
-    /// Signs with 32 bytes that the generator is asked for once. Refuses with `Fault::SignCtx` a context
-    /// of more than 255 bytes, and does not ask then; with `Fault::SignRng` where the generator refuses;
+    /// Signs (Algorithm 2) with 32 bytes that the generator is asked for once. Refuses with
+    /// `Fault::SignCtx` a context of more than 255 bytes, and does not ask then; with `Fault::SignRng` where the generator refuses;
     /// and as `try_sign_with_seed` does.
     fn try_sign_with_rng<R: CryptoRngCore>(
         &self,
@@ -151,9 +152,9 @@ pub trait Signer {
         self.try_sign_with_seed(&draw(rng, Fault::SignRng)?, message, ctx)
     }
 
-    /// Signs with these random bytes. Refuses with `Fault::SignCtx` a context of more than 255 bytes,
-    /// with `Fault::SamplingLimit` where a sampler passes its limit, and with `Fault::TooManyAttempts`
-    /// where all attempts are rejected.
+    /// Signs (Algorithm 2) with these random bytes. Refuses with `Fault::SignCtx` a context of more than 255 bytes,
+    /// with `Fault::SamplingLimit` where rejection sampling reaches its limit, and with
+    /// `Fault::TooManyAttempts` where all 814 attempts are rejected.
     fn try_sign_with_seed(
         &self,
         seed: &[u8; 32],
@@ -164,7 +165,7 @@ pub trait Signer {
         ensures accepted { AcceptedIfWhole (whole self.now) (derives self.now)
             (λ pk signature. accepts pk message.now signature ctx.now) result };
 
-    /// Signs a digest with 32 bytes that the generator is asked for once. Refuses with `Fault::HashCtx`
+    /// Signs a digest (Algorithm 4) with 32 bytes that the generator is asked for once. Refuses with `Fault::HashCtx`
     /// a context of more than 255 bytes, then what `check_pre_hash` refuses, and does not ask then; with
     /// `Fault::HashRng` where the generator refuses; and as `try_hash_sign_with_seed` does.
     fn try_hash_sign_with_rng<R: CryptoRngCore>(
@@ -186,7 +187,7 @@ pub trait Signer {
         self.try_hash_sign_with_seed(&draw(rng, Fault::HashRng)?, hash, ctx, hash_oid)
     }
 
-    /// Signs a digest with these random bytes. Refuses with `Fault::HashCtx` a context of more than 255
+    /// Signs a digest (Algorithm 4) with these random bytes. Refuses with `Fault::HashCtx` a context of more than 255
     /// bytes, then what `check_pre_hash` refuses, and then as `try_sign_with_seed` does.
     fn try_hash_sign_with_seed(
         &self,
@@ -199,8 +200,8 @@ pub trait Signer {
         ensures accepted { AcceptedIfWhole (whole self.now) (derives self.now)
             (λ pk signature. accepts_digest pk hash.now signature ctx.now hash_oid.now) result };
 
-    /// The public key of the private key. Refuses with `Fault::SamplingLimit` where its matrix passes
-    /// its limit.
+    /// The public key of the private key, with t1 computed as in Algorithm 6. Refuses with `Fault::SamplingLimit` where rejection sampling of
+    /// its matrix reaches its limit.
     fn get_public_key(&self) -> Result<Self::PublicKey, Fault>
         ensures { result ≡ derives self.now };
 }
@@ -216,12 +217,12 @@ pub trait Verifier {
     // Whether the key accepts a digest, a signature, a context and an object identifier.
     ghost accepts_digest: { Self → List ℕ → Self.Signature → List ℕ → List ℕ → Type 0 };
 
-    /// Whether the signature of a message and a context is accepted; false for a context of more than
+    /// Whether the signature of a message and a context is accepted (Algorithm 3); false for a context of more than
     /// 255 bytes.
     fn verify(&self, message: &[u8], signature: &Self::Signature, ctx: &[u8]) -> bool
         ensures { IsTrue result ↔ accepts self.now message.now signature.now ctx.now };
 
-    /// Whether the signature of a digest and a context is accepted; false for a context of more than 255
+    /// Whether the signature of a digest and a context is accepted (Algorithm 5); false for a context of more than 255
     /// bytes, and for what `check_pre_hash` refuses.
     fn hash_verify(
         &self,
@@ -253,11 +254,11 @@ pub trait Scheme {
     // Whether the key accepts a message, a signature and a context.
     ghost accepts: { Self.Public → List ℕ → Self.Signature → List ℕ → Type 0 };
 
-    /// Both keys of a seed, or the refusal.
+    /// Both keys of a seed, or the refusal, as `KeyGen::keygen_from_seed`.
     fn keygen(xi: &[u8; 32]) -> Result<(Self::Public, Self::Private), Fault>
         ensures { result ≡ generated xi.now };
 
-    /// Signs a message under a context with these random bytes, or refuses.
+    /// Signs a message under a context with these random bytes, or refuses, as `Signer::try_sign_with_seed`.
     fn sign(
         sk: &Self::Private,
         rnd: &[u8; 32],
@@ -290,7 +291,7 @@ pub fn pairwise_check<S: Scheme>(
     Ok(S::verify(&pk, message, &signature, ctx))
 }
 
-/// Values that go through byte arrays of one length and back.
+/// Keys that are encoded in a byte array of one length, and decoded (FIPS 204, Algorithms 22 to 25).
 pub trait SerDes: Sized {
     /// The array that holds the bytes.
     type ByteArray;
@@ -301,11 +302,11 @@ pub trait SerDes: Sized {
     // Whether bytes are answered by a value, or by a refusal.
     ghost decodes: { Self.ByteArray → Result Self Fault → Type 0 };
 
-    /// The bytes of the value.
+    /// The bytes of the value (Algorithms 22 and 24).
     fn into_bytes(self) -> Self::ByteArray
         ensures { result ≡ bytes_of self };
 
-    /// The value that has these bytes, or the refusal of bytes that no value has.
+    /// The value that has these bytes (Algorithms 23 and 25), or the refusal of bytes that no value has.
     fn try_from_bytes(ba: Self::ByteArray) -> Result<Self, Fault>
         ensures { decodes ba result };
 

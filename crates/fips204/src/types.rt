@@ -19,23 +19,23 @@ use std::marker::{Model, PhantomData};
 /// The numbers of a parameter set (FIPS 204, Tables 1 and 2): those of one of the three sets.
 #[derive(Clone, Copy, Debug, PartialEq, Eq)]
 pub struct Params {
-    /// How many coefficients of a challenge are 1 or -1.
+    /// `tau`: how many coefficients of a challenge are 1 or -1.
     pub tau: i32,
-    /// The strength of a collision of `c_tilde`, which has `lambda / 4` bytes.
+    /// `lambda`: the collision strength of `c_tilde` in bits, which has `lambda / 4` bytes.
     pub lambda: usize,
-    /// The range of a mask.
+    /// `gamma1`: the coefficients of a mask are in `[-gamma1 + 1, gamma1]`.
     pub gamma1: i32,
-    /// The range of low parts.
+    /// `gamma2`: the low parts of `Decompose` are in `[-gamma2, gamma2]`.
     pub gamma2: i32,
     /// How many rows the matrix has.
     pub k: usize,
     /// How many columns the matrix has.
     pub l: usize,
-    /// The range of a private key.
+    /// `eta`: the coefficients of s1 and s2 are in `[-eta, eta]`.
     pub eta: i32,
-    /// `tau eta`.
+    /// `beta`: the product of tau and eta.
     pub beta: i32,
-    /// The largest number of ones in a hint.
+    /// `omega`: the largest number of ones in a hint.
     pub omega: i32,
     ghost known: { IsTrue (are_parameters tau lambda gamma1 gamma2 k l eta beta omega) },
 }

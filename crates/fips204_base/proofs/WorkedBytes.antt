@@ -83,7 +83,7 @@ coefficient_below_range = refl
 
 -- Worked spellings of hints.
 
--- ones at place 5 of polynomial 0 and at places 0 and 255 of polynomial 2
+-- polynomial 0 has a one at place 5, and polynomial 2 at its first place and its last
 example : List R
 example = polynomial_of (λ n. if nat_eq n 5 then pos 1 else pos 0) ∷ polynomial_of (λ _. pos 0) ∷ polynomial_of (λ n. if nat_eq n 0 || nat_eq n 255 then pos 1 else pos 0) ∷ polynomial_of (λ _. pos 0) ∷ []
 

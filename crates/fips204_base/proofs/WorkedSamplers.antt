@@ -66,7 +66,7 @@ places_move : places 217 (217 ∷ 217 ∷ 100 ∷ []) ≡ 218 ∷ 217 ∷ 100 �
 unfolding places moved
 places_move = refl
 
--- over bytes 55 with tau 39 every pick is 85: -1 at place 85, and from 218 to 255 -1 and 1 in turn
+-- over bytes 55 with tau 39 every pick is 85, so -1 stands there, and from place 218 to the end -1 and 1 in turn
 challenge_over_55 : challenge 39 (replicate 4096 0x55)
     ≡ Some record { 0 = replicate 85 (pos 0) ++ negsuc 0 ∷ replicate 132 (pos 0) ++ flat_map (λ _. negsuc 0 ∷ pos 1 ∷ []) (range_with_len 0 19) }
 unfolding challenge challenge_picks picks places moved signed_sum polynomial_of bits integer_to_bits

@@ -4,12 +4,13 @@ use Rattle.fips204_base.specs.declared.types.R.{R}
 use Rattle.fips204_base.specs.Packing.{bits}
 use Rattle.fips204_base.specs.Vectors.{polynomial_of}
 
--- the picks for i and the numbers after it: each is the first byte of value at most its number after the pick before
+-- the picks for i and the numbers after it: a byte above the number is passed over, and the first other one is its pick
 unfoldable pub picks : ℕ → List ℕ → List ℕ
 picks i [] = []
 picks i (byte ∷ bytes) = (if nat_le byte i then byte ∷ [] else []) ++ picks (if nat_le byte i then i + 1 else i) bytes
 
--- the place that a coefficient comes to, from its place before i on: i' at each later i', in order, whose pick is its place
+-- the place that a coefficient comes to, from its place before i on: wherever a later number picks that place, the
+-- coefficient moves to the place of that number
 unfoldable pub moved : ℕ → ℕ → List ℕ → ℕ
 moved i place [] = place
 moved i place (pick ∷ later) = moved (i + 1) (if nat_eq pick place then i else place) later
@@ -23,7 +24,7 @@ places i (pick ∷ later) = moved (i + 1) pick later ∷ places (i + 1) later
 abbrev pub sign_of : ℕ → ℤ
 sign_of bit = if nat_eq bit 1 then neg_ℤ (pos 1) else pos 1
 
--- coefficient n of the sum over i of sign_i X^place(i)
+-- coefficient n of the polynomial with a term sign_i X^place(i) for each i
 unfoldable pub signed_sum : List ℕ → List ℕ → ℕ → ℤ
 signed_sum [] sign_bits n = pos 0
 signed_sum (place ∷ later) [] n = pos 0

@@ -17,7 +17,7 @@ kept_triples front n = filter_map (triple front) (range_with_len 0 n)
 unfoldable pub matrix_entry : List ℕ → Option T
 matrix_entry front = option_map (λ values. record { 0 = values }) (first_256 (kept_triples front (length front / 4)))
 
--- the entry at row r and column s, from G(rho, byte s, byte r)
+-- the entry at row r and column s, from G over rho, its column and its row, a byte each
 abbrev pub sampled_entry : (List ℕ → List ℕ) → List ℕ → ℕ → ℕ → Option T
 sampled_entry G rho r s = matrix_entry (G (rho ++ s ∷ r ∷ []))
 

@@ -20,21 +20,23 @@ pub enum Fault {
     HashCtx,
     /// The object identifier of pre-hash signing is empty.
     OidEmpty,
-    /// The object identifier of pre-hash signing has not the form of a DER encoding.
+    /// The object identifier of pre-hash signing is not a valid DER object identifier.
     OidNotDer,
     /// The digest of pre-hash signing has more than 1024 bytes.
     DigestTooLong,
-    /// The digest has not the length that a known object identifier asks for.
+    /// The digest does not match the output length of the hash function that a known object identifier
+    /// names.
     DigestLength,
     /// The generator refused in pre-hash signing.
     HashRng,
-    /// The generator refused in a hook of signing.
+    /// The generator refused in `sign_internal` or `sign_mu`, with hedging.
     InternalRng,
     /// All 814 attempts of signing were rejected.
     TooManyAttempts,
-    /// A field of s1 or s2 in the bytes of a private key is above `2 eta`.
+    /// The bytes are no private key: a coefficient of s1 or s2 is out of its range, so that its field is above
+    /// `2 eta`.
     KeyRange,
-    /// A sampler had too few good values within its limit.
+    /// Rejection sampling reached its limit: a quarter of the front of a stream gave too few values.
     SamplingLimit,
 }
 

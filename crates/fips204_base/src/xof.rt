@@ -8,9 +8,11 @@ ghost use Rattle.std.proofs.Common.{rules};
 use std::marker::Model;
 
 mod counter;
+mod front;
 mod sha2_ctr;
 
 pub use counter::{BlockHash, BlockReader};
+pub use front::FrontReader;
 pub use sha2_ctr::{
     Sha256Ctr, Sha256CtrLong, Sha256CtrReader, Sha512Ctr, Sha512CtrLong, Sha512CtrReader,
 };
@@ -31,9 +33,10 @@ pub trait XofReader: Drop {
         ensures dropped { rest self.new ≡ drop (length out.old) (rest self.old) };
 }
 
-/// A stream: a fixed function from its input to a front of `FRONT` bytes. A sampler tries a quarter of
-/// these, rounded down: so many triples for a matrix entry, bytes for a small polynomial, and bytes after
-/// the first eight for a challenge.
+/// A stream, in the place of SHAKE256 or SHAKE128 (FIPS 204, section 3.7): its input determines a front of
+/// `FRONT` bytes. Rejection sampling reaches its limit at a quarter of these, rounded down: that many triples
+/// tried for a matrix entry, that many bytes for a small polynomial, and that many for a challenge, not counting
+/// the eight of its signs.
 pub trait Xof {
     type Reader: XofReader;
 
@@ -55,7 +58,8 @@ pub trait Xof {
     ghost front_most: { FRONT ≤ 1048576 };
 }
 
-/// The first `N` bytes of a stream over the concatenation of the parts.
+/// The first `N` bytes of a stream over the concatenation of the parts, as `H(..)` of the standard; `N` is at
+/// most 4096.
 pub fn hash<H: Xof, const N: usize>(parts: &[&[u8]]) -> [u8; N]
     requires { N ≤ 4096 }
     ensures { result ≡ take N (H.front (flat_map (λ part. part.now) parts.now)) }

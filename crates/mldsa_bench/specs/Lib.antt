@@ -1,0 +1,3 @@
+pub mod ToyHash
+pub mod ToyStreams
+pub mod Manifest

@@ -32,6 +32,8 @@ mod limits;
 #[cfg(test)]
 mod longer_fronts;
 #[cfg(test)]
+mod manifest;
+#[cfg(test)]
 mod object_identifiers;
 #[cfg(test)]
 mod prepared;
@@ -76,3 +78,9 @@ mod slow_hints;
 mod stream_limits;
 #[cfg(test)]
 mod streams;
+#[cfg(test)]
+mod toy_hash;
+#[cfg(test)]
+mod toy_stream;
+#[cfg(test)]
+mod using;

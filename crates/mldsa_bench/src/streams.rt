@@ -1,13 +1,13 @@
 //! Streams whose fronts are written out.
 #![tactic(auto)]
 
-ghost use Rattle.std.specs.Prelude.{◌≡◌, ◌≤◌, ℕ, List, map, drop};
+ghost use Rattle.std.specs.Prelude.{◌≡◌, ℕ, List, map};
 ghost use Rattle.std.specs.List.{range_with_len};
 ghost use Rattle.std.proofs.lemmas.List.FromFn.{length-map-range_with_len};
 ghost use Rattle.std.proofs.Common.{rules};
 
-use fips204::xof::{Xof, XofReader};
-use std::marker::{Model, PhantomData};
+use fips204::xof::{FrontReader, Xof};
+use std::marker::PhantomData;
 
 /// A byte for each place of a front.
 pub trait Pattern {
@@ -25,39 +25,6 @@ pub struct PatternedBy<P, const N: usize> {
 
 /// The same with a front of 4096 bytes.
 pub type Patterned<P> = PatternedBy<P, 4096>;
-
-/// A reader of a front of `N` bytes, which it holds.
-#[derive(Drop)]
-pub struct FrontReader<const N: usize> {
-    front: [u8; N],
-    given: usize,
-}
-
-impl<const N: usize> Model for FrontReader<N> {
-    ghost use Rattle.std.specs.Prelude.{◌≤◌, ℕ, List, drop};
-
-    ghost Value = { List ℕ };
-
-    ghost view = { λ reader. drop reader.given reader.front };
-
-    ghost invariant = { λ reader. reader.given ≤ N };
-}
-
-impl<const N: usize> XofReader for FrontReader<N> {
-    ghost rest = { λ bytes. bytes };
-
-    fn left(&self) -> usize {
-        N - self.given
-    }
-
-    fn read(&mut self, out: &mut [u8]) {
-        let end = self.given + out.len();
-        // A part with a start is taken of a slice: the length of the array is a parameter.
-        let whole = &self.front[..];
-        out.copy_from_slice(&whole[self.given..end]);
-        self.given = end;
-    }
-}
 
 /// The first `N` bytes of a pattern.
 fn front_of<P: Pattern, const N: usize>() -> [u8; N]
@@ -90,10 +57,7 @@ impl<P: Pattern> Xof for PatternedBy<P, 4096> {
     ghost front_most = { Prim.search rules };
 
     fn open(_parts: &[&[u8]]) -> FrontReader<4096> {
-        FrontReader {
-            front: front_of::<P, 4096>(),
-            given: 0,
-        }
+        FrontReader::new(front_of::<P, 4096>())
     }
 }
 
@@ -117,10 +81,7 @@ impl<P: Pattern> Xof for PatternedBy<P, 4097> {
     ghost front_most = { Prim.search rules };
 
     fn open(_parts: &[&[u8]]) -> FrontReader<4097> {
-        FrontReader {
-            front: front_of::<P, 4097>(),
-            given: 0,
-        }
+        FrontReader::new(front_of::<P, 4097>())
     }
 }
 
@@ -144,10 +105,7 @@ impl<P: Pattern> Xof for PatternedBy<P, 5000> {
     ghost front_most = { Prim.search rules };
 
     fn open(_parts: &[&[u8]]) -> FrontReader<5000> {
-        FrontReader {
-            front: front_of::<P, 5000>(),
-            given: 0,
-        }
+        FrontReader::new(front_of::<P, 5000>())
     }
 }
 
@@ -171,10 +129,7 @@ impl<P: Pattern> Xof for PatternedBy<P, 8192> {
     ghost front_most = { Prim.search rules };
 
     fn open(_parts: &[&[u8]]) -> FrontReader<8192> {
-        FrontReader {
-            front: front_of::<P, 8192>(),
-            given: 0,
-        }
+        FrontReader::new(front_of::<P, 8192>())
     }
 }
 

@@ -7,7 +7,7 @@ use thiserror::Error;
 /// Why a run ended without an answer. `Display` gives the text that the program prints.
 #[derive(Debug, Clone, Copy, PartialEq, Eq, Error)]
 pub enum RunFault {
-    /// The words after the program's name are no call.
+    /// The words after the program's name are not a valid command line.
     #[error("usage: mldsa sha2|fill00|fill55|fillff id|keygen|sign|verify|check|batch 44|65|87")]
     Usage,
     /// The input ended before this line.
@@ -20,25 +20,25 @@ pub enum RunFault {
     TooLong {
         line: usize,
     },
-    /// The line has a character that is no hex digit, or an odd number of them.
+    /// Not every character of the line is a hex digit, or their number is odd.
     #[error("line {line}: not hex")]
     NotHex {
         line: usize,
     },
-    /// The line spells another number of bytes than the command wants.
+    /// The line is hex of `has` bytes, and the command wants `wants`.
     #[error("line {line}: wants {wants} bytes, has {has}")]
     Length {
         line: usize,
         wants: usize,
         has: usize,
     },
-    /// The reader failed.
+    /// Reading from the device failed.
     #[error("read failed")]
     Read,
-    /// The writer failed.
+    /// Writing to the device failed.
     #[error("write failed")]
     Write,
-    /// A growth was refused.
+    /// A memory allocation failed.
     #[error("out of memory")]
     Memory,
 }

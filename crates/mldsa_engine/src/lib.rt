@@ -28,10 +28,10 @@ use std::io::{Read, Write};
 /// Runs a command: reads the lines that it wants, and then writes its whole output. True is done or
 /// `yes`, false is `no` or a refusal.
 ///
-/// Each line is judged before the next is read. After a line's fault no more was taken of the input
-/// than the lines up to that one, and the characters that it would have if it were good. After another
-/// fault nothing is said of how far the input was read, and after `RunFault::Write` nothing of how much
-/// was written; after every other fault nothing was.
+/// A line is judged as soon as it is there, and only then is the next one asked for. After a line's fault no
+/// more was taken of the input than the lines up to that one, and the characters that it would have if it
+/// were good; another fault leaves open how far the input was read. Nothing was written after a fault,
+/// unless it is `RunFault::Write`, which leaves open how much was.
 pub fn run<H: Xof, G: Xof, I: Read, O: Write>(
     alloc: Global,
     task: Task,

@@ -131,8 +131,8 @@ fn read_bytes<I: Read>(
 }
 
 /// Adds the bytes of the wanted lines: as many bytes of each as are wanted of it, or any number of them.
-/// Each line is judged before the next is read, and no byte past the last one's LF is taken. The lines
-/// are numbered on.
+/// A line is judged as soon as it is there, and no byte past the last one's LF is taken. The lines are
+/// numbered on.
 pub(crate) fn read_lines<I: Read>(
     alloc: Global,
     wanted: &[Option<usize>],

@@ -87,7 +87,7 @@ fn opened<
 {
     // (c_tilde, z, h) = sigDecode(sigma)
     let (c_tilde, z, h) = sig_decode::<K, L, LAMBDA_DIV4, SIG_LEN>(p.gamma1, p.omega, sig)?;
-    // the norm of z is below gamma1 - beta
+    // ||z|| < gamma1 - beta
     if !has_norm_below(&z, p.z_bound()) {
         return None;
     }

@@ -19,7 +19,7 @@ use fips204_base::xof::Xof;
 
 impl<H: Xof, G: Xof> PrivateKey<H, G> {
     /// The key with its matrix, which many signatures then share. Refuses with `Fault::SamplingLimit` where
-    /// the matrix passes its limit.
+    /// rejection sampling of the matrix reaches its limit.
     pub fn prepare(&self) -> Result<PreparedPrivateKey<H>, Fault>
         ensures { result ≡ prepared_private set_65 G.front self.now }
     {
@@ -29,7 +29,7 @@ impl<H: Xof, G: Xof> PrivateKey<H, G> {
 
 impl<H: Xof, G: Xof> PublicKey<H, G> {
     /// The key with its matrix, which many verifications then share. Refuses with `Fault::SamplingLimit`
-    /// where the matrix passes its limit.
+    /// where rejection sampling of the matrix reaches its limit.
     pub fn prepare(&self) -> Result<PreparedPublicKey<H>, Fault>
         ensures { result ≡ prepared_public set_65 G.front self.now }
     {
@@ -38,7 +38,7 @@ impl<H: Xof, G: Xof> PublicKey<H, G> {
 }
 
 impl<H: Xof> PreparedPrivateKey<H> {
-    /// `Signer::try_sign_with_rng` with the kept matrix.
+    /// Signs (Algorithm 2) with the kept matrix, and answers as `Signer::try_sign_with_rng`.
     pub fn try_sign_with_rng<R: CryptoRngCore>(
         &self,
         rng: &mut R,
@@ -53,7 +53,7 @@ impl<H: Xof> PreparedPrivateKey<H> {
         self.sign_message_drawn::<LAMBDA_DIV4, SIG_LEN, R>(&ML_DSA_65, rng, message, ctx)
     }
 
-    /// `Signer::try_sign_with_seed` with the kept matrix.
+    /// Signs (Algorithm 2) with the kept matrix, and answers as `Signer::try_sign_with_seed`.
     pub fn try_sign_with_seed(
         &self,
         seed: &[u8; 32],
@@ -67,7 +67,7 @@ impl<H: Xof> PreparedPrivateKey<H> {
         self.sign_message::<LAMBDA_DIV4, SIG_LEN>(&ML_DSA_65, seed, message, ctx)
     }
 
-    /// `Signer::try_hash_sign_with_rng` with the kept matrix.
+    /// Signs a digest (Algorithm 4) with the kept matrix, and answers as `Signer::try_hash_sign_with_rng`.
     pub fn try_hash_sign_with_rng<R: CryptoRngCore>(
         &self,
         rng: &mut R,
@@ -83,7 +83,7 @@ impl<H: Xof> PreparedPrivateKey<H> {
         self.sign_digest_drawn::<LAMBDA_DIV4, SIG_LEN, R>(&ML_DSA_65, rng, hash, ctx, hash_oid)
     }
 
-    /// `Signer::try_hash_sign_with_seed` with the kept matrix.
+    /// Signs a digest (Algorithm 4) with the kept matrix, and answers as `Signer::try_hash_sign_with_seed`.
     pub fn try_hash_sign_with_seed(
         &self,
         seed: &[u8; 32],
@@ -98,7 +98,7 @@ impl<H: Xof> PreparedPrivateKey<H> {
         self.sign_digest::<LAMBDA_DIV4, SIG_LEN>(&ML_DSA_65, seed, hash, ctx, hash_oid)
     }
 
-    /// `PrivateKey::sign_internal` with the kept matrix.
+    /// Signs a framed message (Algorithm 7) with the kept matrix, and answers as `PrivateKey::sign_internal`.
     pub fn sign_internal<R: CryptoRngCore>(
         &self,
         rng: &mut R,
@@ -113,7 +113,7 @@ impl<H: Xof> PreparedPrivateKey<H> {
         self.sign_mu(rng, &ml_dsa::mu::<H>(&[&self.key.tr, m]), hedged)
     }
 
-    /// `PrivateKey::sign_mu` with the kept matrix.
+    /// Signs the hash `mu` of a framed message with the kept matrix, and answers as `PrivateKey::sign_mu`.
     pub fn sign_mu<R: CryptoRngCore>(
         &self,
         rng: &mut R,
@@ -146,14 +146,14 @@ impl<H: Xof> PreparedPrivateKey<H> {
 }
 
 impl<H: Xof> PreparedPublicKey<H> {
-    /// `Verifier::verify` with the kept matrix.
+    /// Verifies (Algorithm 3) with the kept matrix, and answers as `Verifier::verify`.
     pub fn verify(&self, message: &[u8], signature: &[u8; SIG_LEN], ctx: &[u8]) -> bool
         ensures { IsTrue result ↔ AcceptsMessage set_65 H.front self.now message.now signature.now ctx.now }
     {
         self.verify_message::<LAMBDA_DIV4, SIG_LEN>(&ML_DSA_65, message, signature, ctx)
     }
 
-    /// `Verifier::hash_verify` with the kept matrix.
+    /// Verifies a digest (Algorithm 5) with the kept matrix, and answers as `Verifier::hash_verify`.
     pub fn hash_verify(
         &self,
         hash: &[u8],
@@ -166,14 +166,15 @@ impl<H: Xof> PreparedPublicKey<H> {
         self.verify_digest::<LAMBDA_DIV4, SIG_LEN>(&ML_DSA_65, hash, signature, ctx, hash_oid)
     }
 
-    /// `PublicKey::verify_internal` with the kept matrix.
+    /// Verifies a framed message (Algorithm 8) with the kept matrix, and answers as
+    /// `PublicKey::verify_internal`.
     pub fn verify_internal(&self, m: &[u8], sig: &[u8; SIG_LEN]) -> bool
         ensures { IsTrue result ↔ AcceptsHash set_65 H.front self.now (message_hash H.front self.now.key.tr m.now) sig.now }
     {
         self.verify_mu(&ml_dsa::mu::<H>(&[&self.key.tr, m]), sig)
     }
 
-    /// `PublicKey::verify_mu` with the kept matrix.
+    /// Verifies the hash `mu` of a framed message with the kept matrix, and answers as `PublicKey::verify_mu`.
     pub fn verify_mu(&self, mu: &[u8; 64], sig: &[u8; SIG_LEN]) -> bool
         ensures { IsTrue result ↔ AcceptsHash set_65 H.front self.now mu.now sig.now }
     {

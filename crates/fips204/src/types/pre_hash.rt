@@ -101,8 +101,8 @@ pub fn digest_len(oid: &[u8]) -> Option<usize>
     None
 }
 
-/// Whether an object identifier has the form of a DER encoding: at least three bytes, the first 06, the
-/// second below 128 and the number of bytes after it.
+/// Whether these bytes are a valid DER object identifier: at least three, the first the tag 06, the second
+/// below 128 and the number of the bytes after it.
 fn has_der_form(oid: &[u8]) -> bool
     ensures { result ≡ is_der oid.now }
 {
@@ -110,9 +110,9 @@ fn has_der_form(oid: &[u8]) -> bool
 }
 
 /// Whether a digest and the object identifier of its hash may be signed. Refuses, in this order, with
-/// `Fault::OidEmpty`, `Fault::OidNotDer` where the identifier has not the form of a DER encoding,
+/// `Fault::OidEmpty`, `Fault::OidNotDer` where the identifier is not a valid DER object identifier,
 /// `Fault::DigestTooLong` above 1024 bytes, and `Fault::DigestLength` where the identifier is one of the
-/// twelve and the digest has another length.
+/// twelve and the digest does not match its hash function's output length.
 #[tactic(auto, unfolding(crate::specs::PreHash::pre_hash_fault))]
 pub fn check_pre_hash(hash: &[u8], oid: &[u8]) -> Result<(), Fault>
     ensures { MatchResult result (λ _. pre_hash_fault hash.now oid.now ≡ None) (λ fault. pre_hash_fault hash.now oid.now ≡ Some fault) }

@@ -1,0 +1,53 @@
+//! A reader of a front that stands in an array.
+#![tactic(auto)]
+
+ghost use Rattle.std.specs.Prelude.{◌≡◌};
+
+use crate::xof::XofReader;
+use std::marker::Model;
+
+/// A reader of a front of `N` bytes, which it holds.
+///
+/// For a stream with a short front write a function that fills the array, take this as the `Reader` of your
+/// `Xof`, and open it by `new`.
+#[derive(Drop)]
+pub struct FrontReader<const N: usize> {
+    front: [u8; N],
+    /// How many bytes are given.
+    given: usize,
+}
+
+impl<const N: usize> Model for FrontReader<N> {
+    ghost use Rattle.std.specs.Prelude.{◌≤◌, ℕ, List, drop};
+
+    ghost Value = { List ℕ };
+
+    ghost view = { λ reader. drop reader.given reader.front };
+
+    ghost invariant = { λ reader. reader.given ≤ N };
+}
+
+impl<const N: usize> FrontReader<N> {
+    /// A reader of these bytes.
+    pub fn new(front: [u8; N]) -> FrontReader<N>
+        ensures { result ≡ front.entry }
+    {
+        FrontReader { front, given: 0 }
+    }
+}
+
+impl<const N: usize> XofReader for FrontReader<N> {
+    ghost rest = { λ bytes. bytes };
+
+    fn left(&self) -> usize {
+        N - self.given
+    }
+
+    fn read(&mut self, out: &mut [u8]) {
+        let end = self.given + out.len();
+        // A part with a start is taken of a slice: the length of the array is a parameter.
+        let whole = &self.front[..];
+        out.copy_from_slice(&whole[self.given..end]);
+        self.given = end;
+    }
+}

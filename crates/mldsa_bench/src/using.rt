@@ -1,0 +1,149 @@
+//! The calls of the library one after the other, as docs/USING.md shows them.
+#![tactic(auto)]
+
+use fips204::ml_dsa_44::{self, PK_LEN, SIG_LEN, SK_LEN};
+use fips204::pre_hash::SHA2_256;
+use fips204::traits::{CryptoRngCore, DummyRng, KeyGen, SerDes, Signer, Verifier};
+use fips204::xof::{Sha256Ctr, Sha512Ctr};
+use fips204::{Fault, ml_dsa_65, ml_dsa_87};
+use sha2::{Digest, Sha256};
+use std::test::Fail;
+
+/// The pairs of ML-DSA-44 over two streams.
+type Keys = ml_dsa_44::KG<Sha256Ctr, Sha512Ctr>;
+
+/// The public key of such a pair.
+type Public = ml_dsa_44::PublicKey<Sha256Ctr, Sha512Ctr>;
+
+/// The private key of such a pair.
+type Private = ml_dsa_44::PrivateKey<Sha256Ctr, Sha512Ctr>;
+
+/// What the signatures here are for.
+const CONTEXT: &[u8] = b"a page of documentation";
+
+/// Both keys of a seed, as bytes to store.
+fn stored(seed: &[u8; 32]) -> Result<([u8; PK_LEN], [u8; SK_LEN]), Fault> {
+    let (public, private) = Keys::keygen_from_seed(seed)?;
+    Ok((public.into_bytes(), private.into_bytes()))
+}
+
+/// Signs with a stored key and these random bytes.
+fn signed(key: [u8; SK_LEN], random: &[u8; 32], message: &[u8]) -> Result<[u8; SIG_LEN], Fault> {
+    let private = Private::try_from_bytes(key)?;
+    private.try_sign_with_seed(random, message, CONTEXT)
+}
+
+/// Signs with a stored key and random bytes of a generator.
+fn signed_at_random<R: CryptoRngCore>(
+    key: [u8; SK_LEN],
+    rng: &mut R,
+    message: &[u8],
+) -> Result<[u8; SIG_LEN], Fault> {
+    let private = Private::try_from_bytes(key)?;
+    private.try_sign_with_rng(rng, message, CONTEXT)
+}
+
+/// Whether the signature of a message is accepted by a stored key.
+fn verified(key: [u8; PK_LEN], message: &[u8], signature: &[u8; SIG_LEN]) -> Result<bool, Fault> {
+    let public = Public::try_from_bytes(key)?;
+    Ok(public.verify(message, signature, CONTEXT))
+}
+
+/// Signs the SHA-256 digest of a file, in the place of the file.
+fn signed_file(key: &Private, random: &[u8; 32], file: &[u8]) -> Result<[u8; SIG_LEN], Fault> {
+    let digest = Sha256::digest(file);
+    key.try_hash_sign_with_seed(random, digest.as_slice(), CONTEXT, &SHA2_256)
+}
+
+/// Whether the signature of the digest of a file is accepted.
+fn verified_file(key: &Public, file: &[u8], signature: &[u8; SIG_LEN]) -> bool {
+    let digest = Sha256::digest(file);
+    key.hash_verify(digest.as_slice(), signature, CONTEXT, &SHA2_256)
+}
+
+/// Signs three messages and verifies them, each key prepared once.
+fn three(
+    public: &Public,
+    private: &Private,
+    seeds: &[[u8; 32]; 3],
+    messages: &[&[u8]; 3],
+) -> Result<[bool; 3], Fault> {
+    let signer = private.prepare()?;
+    let mut answers = [Err(Fault::SamplingLimit); 3];
+    signer.sign_each(seeds, messages, CONTEXT, &mut answers);
+    let signatures = [answers[0]?, answers[1]?, answers[2]?];
+    let verifier = public.prepare()?;
+    let mut verdicts = [false; 3];
+    verifier.verify_each(messages, &signatures, CONTEXT, &mut verdicts);
+    Ok(verdicts)
+}
+
+/// Signs a message with a stored key of any of the three sets, and verifies it with the public key that is
+/// derived of it.
+fn stands<P, K, const SK: usize, const SIG: usize>(
+    key: [u8; SK],
+    random: &[u8; 32],
+    message: &[u8],
+) -> Result<bool, Fault>
+where
+    P: Verifier<Signature = [u8; SIG]> + Drop,
+    K: SerDes<ByteArray = [u8; SK]> + Signer<Signature = [u8; SIG], PublicKey = P> + Drop,
+{
+    let private = K::try_from_bytes(key)?;
+    let signature = private.try_sign_with_seed(random, message, CONTEXT)?;
+    let public = private.get_public_key()?;
+    Ok(public.verify(message, &signature, CONTEXT))
+}
+
+/// The bytes of the private key of a seed, for any of the three sets.
+fn private_bytes<K, P, S, const SK: usize>(seed: &[u8; 32]) -> Result<[u8; SK], Fault>
+where
+    K: KeyGen<PublicKey = P, PrivateKey = S>,
+    P: Drop,
+    S: SerDes<ByteArray = [u8; SK]> + Drop,
+{
+    let (_, private) = K::keygen_from_seed(seed)?;
+    Ok(private.into_bytes())
+}
+
+#[test]
+fn a_stored_pair(rt: HostRuntime) -> Result<(), Fail> {
+    let (public, private) = stored(&[7; 32])?;
+    let signature = signed(private, &[0; 32], b"a message")?;
+    assert!(rt; verified(public, b"a message", &signature)?);
+    assert!(rt; !verified(public, b"another", &signature)?);
+    let mut rng = DummyRng { bytes: [0; 32] };
+    assert!(rt; signed_at_random(private, &mut rng, b"a message")? == signature);
+    Ok(())
+}
+
+#[test]
+fn a_signed_file(rt: HostRuntime) -> Result<(), Fail> {
+    let (public, private) = Keys::keygen_from_seed(&[7; 32])?;
+    let signature = signed_file(&private, &[0; 32], b"a file")?;
+    assert!(rt; verified_file(&public, b"a file", &signature));
+    assert!(rt; !verified_file(&public, b"another", &signature));
+    Ok(())
+}
+
+#[test]
+fn three_messages(rt: HostRuntime) -> Result<(), Fail> {
+    let (public, private) = Keys::keygen_from_seed(&[7; 32])?;
+    let seeds = [[1; 32], [2; 32], [3; 32]];
+    let verdicts = three(&public, &private, &seeds, &[b"one", b"two", b""])?;
+    assert!(rt; verdicts == [true; 3]);
+    Ok(())
+}
+
+#[test]
+fn one_function_at_three_sets(rt: HostRuntime) -> Result<(), Fail> {
+    let key = private_bytes::<Keys, _, _, 2560>(&[7; 32])?;
+    assert!(rt; stands::<_, Private, _, _>(key, &[0; 32], b"a message")?);
+    let key = private_bytes::<ml_dsa_65::KG<Sha256Ctr, Sha512Ctr>, _, _, 4032>(&[7; 32])?;
+    let stands_65 = stands::<_, ml_dsa_65::PrivateKey<Sha256Ctr, Sha512Ctr>, _, _>;
+    assert!(rt; stands_65(key, &[0; 32], b"a message")?);
+    let key = private_bytes::<ml_dsa_87::KG<Sha256Ctr, Sha512Ctr>, _, _, 4896>(&[7; 32])?;
+    let stands_87 = stands::<_, ml_dsa_87::PrivateKey<Sha256Ctr, Sha512Ctr>, _, _>;
+    assert!(rt; stands_87(key, &[0; 32], b"a message")?);
+    Ok(())
+}
