@@ -32,6 +32,9 @@ pub(super) fn check_of<H: Xof, G: Xof>(
 }
 
 /// Whether a scheme's pair of a seed verifies what it signs, as `yes` and true, or the first refusal.
+///
+/// Not inlined, so that the keys of one set alone stand in the stack.
+#[inline(never)]
 fn checked<S: Scheme>(
     alloc: Global,
     xi: &[u8; 32],

@@ -81,6 +81,9 @@ pub(super) fn keys_of<H: Xof, G: Xof>(
 }
 
 /// The keys that a seed gives, as lines of hex, or the refusal.
+///
+/// Not inlined, so that the keys of one set alone stand in the stack.
+#[inline(never)]
 fn generated<K, P, S, const PK_LEN: usize, const SK_LEN: usize>(
     alloc: Global,
     seed: &[u8; 32],

@@ -43,6 +43,9 @@ pub(super) fn signature_of<H: Xof, G: Xof>(
 }
 
 /// The signature by the private key that has these bytes, as a line of hex, or the refusal.
+///
+/// Not inlined, so that the keys of one set alone stand in the stack.
+#[inline(never)]
 fn signed<K, const SK_LEN: usize, const SIG_LEN: usize>(
     alloc: Global,
     key: &[u8],

@@ -156,6 +156,9 @@ where
 }
 
 /// Whether the public key that has these bytes accepts a signature, or the refusal.
+///
+/// Not inlined, so that the keys of one set alone stand in the stack.
+#[inline(never)]
 fn judged<K, const PK_LEN: usize, const SIG_LEN: usize>(
     alloc: Global,
     key: &[u8],
