@@ -73,13 +73,10 @@ pub(crate) fn verify_prepared<
 /// The parts `c_tilde`, `z` and `h` of a signature and its challenge (lines 2 to 8), or `None` where its last
 /// bytes spell no hint, the norm of `z` is not below gamma1 - beta, or the challenge passes its limit.
 #[inline(always)]
-fn opened<
-    const K: usize,
-    const L: usize,
-    const LAMBDA_DIV4: usize,
-    const SIG_LEN: usize,
-    H: Xof,
->(p: &Params, sig: &[u8; SIG_LEN]) -> Option<([u8; LAMBDA_DIV4], [R; L], [R; K], R)>
+fn opened<const K: usize, const L: usize, const LAMBDA_DIV4: usize, const SIG_LEN: usize, H: Xof>(
+    p: &Params,
+    sig: &[u8; SIG_LEN],
+) -> Option<([u8; LAMBDA_DIV4], [R; L], [R; K], R)>
     requires sizes { HasSizes p.now K L LAMBDA_DIV4 SIG_LEN }
     ensures { MatchOption result
         ((c_tilde : List ℕ) (z h : List R) (c : R) → HasShortParts (set_of p.now) sig.now c_tilde z h → challenge (nat_abs p.now.tau) (H.front c_tilde) ≡ Some c → ⊥)

@@ -72,9 +72,9 @@ returns-in-Err g c =
     let fault = none_of_err (challenge (nat_abs (to_z w32 (of_z w32 p.tau))) (front c.in_ok-c_tilde.c_tilde)) c.in-Err.field-0 c.in-Err.ensures in
     let here : challenge (nat_abs p.tau) (front c.in_ok-c_tilde.c_tilde) ≡ None = rw T at fault.0 in
     λ c_tilde z h ball found there.
-        let same = same_signature (nat_abs p.gamma1) (nat_abs p.omega) p.k p.l (commitment_length (set_of p)) c.args.sig.now c.in_ok-c_tilde.c_tilde c_tilde c.in_ok-c_tilde.z z c.in_ok-c_tilde.h h
-        sizes.0 (omega (arith, sizes.1)) (decoded g k) found.hint in
-        absurd (none-some ball (sym here ∙ ap (λ (x : List ℕ). challenge (nat_abs p.tau) (front x)) same.0 ∙ there))
+    let same = same_signature (nat_abs p.gamma1) (nat_abs p.omega) p.k p.l (commitment_length (set_of p)) c.args.sig.now c.in_ok-c_tilde.c_tilde c_tilde c.in_ok-c_tilde.z z c.in_ok-c_tilde.h h
+    sizes.0 (omega (arith, sizes.1)) (decoded g k) found.hint in
+    absurd (none-some ball (sym here ∙ ap (λ (x : List ℕ). challenge (nat_abs p.tau) (front x)) same.0 ∙ there))
 
 pub returns-in-Ok : goal.returns-in-Ok
 returns-in-Ok g c =
