@@ -124,6 +124,26 @@ pub fn bit_pack(w: &R, a: i32, b: i32, out: &mut [u8])
     }
 }
 
+/// `bit_pack`, compiled with constants for each range that FIPS 204 packs.
+pub(crate) fn bit_pack_by_range(w: &R, a: i32, b: i32, out: &mut [u8])
+    requires bounds { Bounds a b }
+    requires range { InRange (pos 0 -ℤ a) b w.now.0 }
+    requires room { length out.old ≡ 32 * width a b }
+    ensures { Packs (width a b) out.new (map (field a b) w.now.0) }
+{
+    match (a, b) {
+        (0, 15) => bit_pack(w, 0, 15, out),
+        (0, 43) => bit_pack(w, 0, 43, out),
+        (131071, 131072) => bit_pack(w, 131071, 131072, out),
+        (524287, 524288) => bit_pack(w, 524287, 524288, out),
+        (2, 2) => bit_pack(w, 2, 2, out),
+        (4, 4) => bit_pack(w, 4, 4, out),
+        (0, 1023) => bit_pack(w, 0, 1023, out),
+        (4095, 4096) => bit_pack(w, 4095, 4096, out),
+        _ => bit_pack(w, a, b, out),
+    }
+}
+
 /// Reads the eight coefficients whose fields stand in `v`.
 #[inline(always)]
 fn unpack_group(v: &[u8], a: i32, b: i32, out: &mut [i32])
@@ -185,4 +205,23 @@ pub fn bit_unpack(v: &[u8], a: i32, b: i32) -> Option<R>
         return None;
     }
     Some(w)
+}
+
+/// `bit_unpack`, compiled with constants for each range that FIPS 204 unpacks.
+pub(crate) fn bit_unpack_by_range(v: &[u8], a: i32, b: i32) -> Option<R>
+    requires bounds { Bounds a b }
+    requires room { length v.now ≡ 32 * width a b }
+    ensures { MatchOption result
+        ((a ≡ pos 0) × PacksAbove b (width a b) v.now)
+        (λ w. Unpacks a b v.now w.0 × (a ≡ pos 0 → InRange (pos 0) b w.0)) }
+{
+    match (a, b) {
+        (131071, 131072) => bit_unpack(v, 131071, 131072),
+        (524287, 524288) => bit_unpack(v, 524287, 524288),
+        (2, 2) => bit_unpack(v, 2, 2),
+        (4, 4) => bit_unpack(v, 4, 4),
+        (0, 1023) => bit_unpack(v, 0, 1023),
+        (4095, 4096) => bit_unpack(v, 4095, 4096),
+        _ => bit_unpack(v, a, b),
+    }
 }

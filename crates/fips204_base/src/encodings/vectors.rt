@@ -6,7 +6,7 @@ ghost use Rattle.fips204_base.specs.Encodings.{vector_bytes};
 ghost use Rattle.fips204_base.specs.Packing.{Bounds, InRange, polynomial_bytes, width};
 ghost use Rattle.fips204_base.specs.Vectors.{IsVector, VectorInRange};
 
-use crate::conversion::{bit_pack, bit_unpack, field_width};
+use crate::conversion::{bit_pack_by_range, bit_unpack_by_range, field_width};
 use crate::helpers::is_in_range;
 use crate::types::{R, R0};
 
@@ -30,7 +30,7 @@ pub fn pack_vector<const N: usize>(v: &[R; N], a: i32, b: i32, out: &mut [u8])
     let size = polynomial_size(a, b);
     for i in 0..N {
         let at = size * i;
-        bit_pack(&v[i], a, b, &mut out[at..at + size]);
+        bit_pack_by_range(&v[i], a, b, &mut out[at..at + size]);
     }
 }
 
@@ -44,7 +44,7 @@ pub fn unpack_polynomial(bytes: &[u8], a: i32, b: i32) -> R
     ensures range { InRange (pos 0 -ℤ a) b result.0 }
     ensures places { length result.0 ≡ 256 }
 {
-    bit_unpack(bytes, a, b).unwrap()
+    bit_unpack_by_range(bytes, a, b).unwrap()
 }
 
 /// The vector whose bytes these are, where every field is that of a coefficient in `[-a, b]`.
@@ -74,7 +74,7 @@ pub fn unpack_short_polynomial(bytes: &[u8], eta: i32) -> Option<R>
         ((w : List ℤ) → InRange (pos 0 -ℤ eta) eta w → length w ≡ 256 → polynomial_bytes eta eta w ≡ bytes.now → ⊥)
         (λ w. InRange (pos 0 -ℤ eta) eta w.0 × (length w.0 ≡ 256) × (polynomial_bytes eta eta w.0 ≡ bytes.now)) }
 {
-    let w = bit_unpack(bytes, eta, eta)?;
+    let w = bit_unpack_by_range(bytes, eta, eta)?;
     if is_in_range(&w, eta, eta) {
         Some(w)
     } else {

@@ -6,7 +6,7 @@ ghost use Rattle.std.specs.Int.{w16, to_le_bytes};
 ghost use Rattle.fips204_base.specs.Encodings.{IsGamma1};
 ghost use Rattle.fips204_base.specs.Mask.{mask, mask_polynomial};
 
-use crate::conversion::bit_unpack;
+use crate::conversion::bit_unpack_by_range;
 use crate::encodings::polynomial_size;
 use crate::types::{R, R0};
 use crate::xof::{Xof, XofReader};
@@ -22,7 +22,7 @@ fn polynomial<H: Xof>(gamma1: i32, rho: &[u8; 64], number: u16) -> R
     let bytes = &mut room[..polynomial_size(gamma1 - 1, gamma1)];
     reader.read(bytes);
     // y[r] = BitUnpack(v, gamma1 - 1, gamma1)
-    bit_unpack(bytes, gamma1 - 1, gamma1).unwrap()
+    bit_unpack_by_range(bytes, gamma1 - 1, gamma1).unwrap()
 }
 
 /// `ExpandMask` (Algorithm 34): `L` polynomials with coefficients in `[-gamma1 + 1, gamma1]`, the one

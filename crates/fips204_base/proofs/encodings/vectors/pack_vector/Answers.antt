@@ -8,8 +8,8 @@ use Rattle.fips204_base.proofs.Packing.{is_packed}
 use Rattle.fips204_base.proofs.VectorBytes.{length-put_mid, put_piece, piece-within, vector_more, bytes_at_integers}
 use Rattle.fips204_base.proofs.encodings.vectors.pack_vector.Goals as goal
 
-pub slice_bounds-bit_pack-end : goal.slice_bounds-bit_pack-end
-slice_bounds-bit_pack-end g c =
+pub slice_bounds-bit_pack_by_range-end : goal.slice_bounds-bit_pack_by_range-end
+slice_bounds-bit_pack_by_range-end g c =
     let e = c.polynomial_size-size.ensures.size in
     let size_is = rw (to_z-of_z w32 c.args.a c.ranges.a, to_z-of_z w32 c.args.b c.ranges.b) at e in
     let within = piece-within c.polynomial_size-size.result c.loop-i.i g.row.N (length c.loop-i.out) (c.loop-i.invariant.size ∙ c.requires.room ∙ ap (λ s. s * g.row.N) (sym size_is)) c.loop-i-test.true in
@@ -24,13 +24,13 @@ loop-i-preserved g c =
     let e = c.polynomial_size-size.ensures.size in
     let size_is = rw (to_z-of_z w32 c.args.a c.ranges.a, to_z-of_z w32 c.args.b c.ranges.b) at e in
     let within = piece-within size c.loop-i.i g.row.N (length c.loop-i.out) (c.loop-i.invariant.size ∙ c.requires.room ∙ ap (λ s. s * g.row.N) (sym size_is)) c.loop-i-test.true in
-    let long : length c.bit_pack.new.out ≡ at + size - at = c.bit_pack.auto.out ∙ simp (length-take, length-drop) (omega (arith, within)) in
+    let long : length c.bit_pack_by_range.new.out ≡ at + size - at = c.bit_pack_by_range.auto.out ∙ simp (length-take, length-drop) (omega (arith, within)) in
     let ends : at + (at + size - at) ≤ length c.loop-i.out = omega (arith, within) in
     let next : size * (c.loop-i.i + 1) ≡ at + (at + size - at) = omega (arith, width_is) in
     record {
-      size = length-put_mid at (at + size - at) c.loop-i.out c.bit_pack.new.out long ends ∙ c.loop-i.invariant.size;
-      written = put_piece at (at + size - at) (size * (c.loop-i.i + 1)) c.loop-i.out c.bit_pack.new.out _ long ends next c.loop-i.invariant.written
-          ∙ ap (λ l. flat_map f (take c.loop-i.i c.args.v.now) ++ l) (is_packed _ _ _ c.bit_pack.ensures)
+      size = length-put_mid at (at + size - at) c.loop-i.out c.bit_pack_by_range.new.out long ends ∙ c.loop-i.invariant.size;
+      written = put_piece at (at + size - at) (size * (c.loop-i.i + 1)) c.loop-i.out c.bit_pack_by_range.new.out _ long ends next c.loop-i.invariant.written
+          ∙ ap (λ l. flat_map f (take c.loop-i.i c.args.v.now) ++ l) (is_packed _ _ _ c.bit_pack_by_range.ensures)
           ∙ sym (vector_more f c.args.v.now c.loop-i.i record { 0 = [] } (omega (arith, c.loop-i-test.true, c.told-v)));
     }
 

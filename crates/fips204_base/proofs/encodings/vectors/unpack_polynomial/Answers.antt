@@ -6,7 +6,7 @@ use Rattle.fips204_base.proofs.VectorBytes.{unpacked_range}
 use Rattle.fips204_base.proofs.encodings.vectors.unpack_polynomial.Goals as goal
 
 unpacked : (c : goal.After-unwrap) → Unpacks c.args.a c.args.b c.args.bytes.now c.unwrap.result.0
-unpacked c = let u = (rw c.unwrap.ensures at c.bit_unpack.ensures).0 in rw (to_z-of_z w32 c.args.a c.ranges.a, to_z-of_z w32 c.args.b c.ranges.b) at u
+unpacked c = let u = (rw c.unwrap.ensures at c.bit_unpack_by_range.ensures).0 in rw (to_z-of_z w32 c.args.a c.ranges.a, to_z-of_z w32 c.args.b c.ranges.b) at u
 
 pub returns-clause-same_bytes : goal.returns-clause-same_bytes
 returns-clause-same_bytes c = sym (unpacks_bytes c.args.a c.args.b c.args.bytes.now c.unwrap.result.0 (unpacked c))

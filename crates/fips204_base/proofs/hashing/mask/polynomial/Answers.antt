@@ -21,6 +21,6 @@ returns g c =
     let size : c.polynomial_size.result ≡ 32 * mask_width (nat_abs c.args.gamma1) = (rw (gamma1, less) at c.polynomial_size.ensures.size) ∙ ap (λ n. 32 * n) (mask_width-is c.args.gamma1 c.requires.gamma1) in
     let read : c.read.new.out ≡ take (32 * mask_width (nat_abs c.args.gamma1)) front =
     as_long c.read.new.out _ _ (32 * mask_width (nat_abs c.args.gamma1)) c.read.ensures.given (long ∙ size) ∙ ap (take (32 * mask_width (nat_abs c.args.gamma1))) opened in
-    let some = rw c.unwrap.ensures at c.bit_unpack.ensures in
+    let some = rw c.unwrap.ensures at c.bit_unpack_by_range.ensures in
     let fields : Unpacks (c.args.gamma1 -ℤ pos 1) c.args.gamma1 c.read.new.out c.unwrap.result.0 = rw (gamma1, less) at some.0 in
     mask_is_unpacked c.args.gamma1 c.read.new.out c.unwrap.result c.requires.gamma1 fields ∙ ap (unpacked (nat_abs c.args.gamma1 - 1) (nat_abs c.args.gamma1)) read
