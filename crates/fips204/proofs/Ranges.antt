@@ -1,5 +1,5 @@
 -- The ranges of what is sampled or given by a type.
-use Rattle.std.proofs.Common.{◌≡◌, ℕ, List, [], ◌∷◌, length, ◌<◌, ◌≤◌, ◌≤ℤ◌, suc, ◌++◌, ℤ, pos, nat_abs, get_or, take, sym, subst, ◌∙◌, arith, Some, true, false, inl, inr}
+use Rattle.std.proofs.Common.{◌≡◌, ℕ, List, [], ◌∷◌, length, ◌<◌, ◌≤◌, suc, ◌++◌, ℤ, nat_abs, get_or, take, sym, subst, ◌∙◌, arith, Some, true, false, inl, inr}
 use Rattle.std.specs.List.{All}
 use Rattle.std.proofs.lemmas.List.Elements.{All-nil, All-cons}
 use mir.Val.{Val}
@@ -13,11 +13,11 @@ use Rattle.std.proofs.lemmas.Int.{ints}
 use Rattle.std.proofs.lemmas.Option.{none-some}
 use Rattle.fips204_base.specs.declared.types.T.{T}
 use Rattle.fips204_base.specs.Packing.{bits}
-use Rattle.fips204_base.specs.Polynomials.{coefficient_at, entry, IsReduced, Within, IsReducedMatrix}
+use Rattle.fips204_base.specs.Polynomials.{coefficient_at, entry, IsReduced, IsReducedMatrix}
 use Rattle.fips204_base.specs.MatrixEntry.{sampled_matrix}
 use Rattle.fips204_base.specs.Challenge.{sign_of, signed_sum, challenge_picks, challenge}
 use Rattle.fips204_base.specs.Vectors.{polynomial_of, vector_of}
-use Rattle.fips204_base.proofs.Sampled.{matrix_entry-residues, sampled_matrix-entries}
+use Rattle.fips204_base.proofs.Sampled.{matrix_entry-residues, residues-within, sampled_matrix-entries}
 use Rattle.fips204_base.proofs.Challenges.{challenge_places, challenge_places-apart, length-challenge_places, sum-elsewhere}
 use Rattle.fips204_base.proofs.Vectors.{polynomial_of-at, vector_of-same}
 
@@ -40,9 +40,6 @@ whole_vector k f v rows typed at = vector_of-same k f v rows (λ r h. whole_rows
 -- The ranges of what is sampled: a matrix has residues, and a challenge has ones, minus ones and zeros.
 
 -- ---- the matrix
-
-residues-within : (xs : List ℤ) → All (λ x. (pos 0 ≤ℤ x) × (x ≤ℤ pos 8380416)) xs → Within 8380416 xs
-residues-within xs h i d l = let b = h i d l in omega (arith, ints, b)
 
 pub matrix-within : (G : List ℕ → List ℕ) (rho : List ℕ) (k l : ℕ) (a : List (List T)) → sampled_matrix G rho k l ≡ Some a → IsReducedMatrix a
 matrix-within G rho k l a e r d h s f m =

@@ -195,7 +195,7 @@ sampled_matrix-entries G rho k l a e =
       λ r s d f h m. ap (sampled_entry G rho r) (sym (from_zero s)) ∙ (row r d h).1 s f m,
     )
 
-residues-within : (xs : List ℤ) → All (λ x. (pos 0 ≤ℤ x) × (x ≤ℤ pos 8380416)) xs → Within 8380416 xs
+pub residues-within : (xs : List ℤ) → All (λ x. (pos 0 ≤ℤ x) × (x ≤ℤ pos 8380416)) xs → Within 8380416 xs
 residues-within xs h i d l = let b = h i d l in omega (arith, ints, b)
 
 -- a row that is sampled is below q
