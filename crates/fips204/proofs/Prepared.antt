@@ -1,5 +1,5 @@
 -- Keys with their matrix: what is signed with one is accepted, and each answers as its plain key.
-use Rattle.std.proofs.Common.{◌≡◌, ◌≤◌, ◌<◌, ◌+◌, ℕ, List, [], IsTrue, Bool, refl, sym, ap, subst, ◌∙◌, length, get_or, set, inl, inr, Result, Ok, Err, Some, None, arith}
+use Rattle.std.proofs.Common.{◌≡◌, ◌≤◌, ◌<◌, ◌+◌, ℕ, List, refl, sym, ap, subst, ◌∙◌, length, get_or, set, inl, inr, Result, Ok, Some, None, arith}
 use Rattle.std.specs.Prelude.{◌↔◌, ok_or, option_map}
 use Rattle.std.proofs.lemmas.List.{get_or-set_same, get_or-set_other}
 use Rattle.std.proofs.lemmas.Bool.{cases_lt}
@@ -12,17 +12,16 @@ use Rattle.fips204.specs.declared.types.Params.{Params}
 use Rattle.fips204.specs.Acceptance.{Accepts, Verifies}
 use Rattle.fips204.specs.Framing.{framed, framed_digest, message_hash}
 use Rattle.fips204.specs.Keys.{PublicParts, PrivateParts, ArePrivateParts}
-use Rattle.fips204.specs.ParameterSets.{ParameterSet, is_parameter_set}
+use Rattle.fips204.specs.ParameterSets.{ParameterSet}
 use Rattle.fips204.specs.PreHash.{pre_hash_fault}
-use Rattle.fips204.specs.Prepared.{PreparedPrivate, PreparedPublic, prepared_private, prepared_public, sign_hash_prepared, sign_message_prepared, sign_digest_prepared}
-use Rattle.fips204.specs.Prepared.{AcceptsHash, AcceptsMessage, AcceptsDigest, IsWholePrepared, public_of_prepared, AcceptedIfWholePrepared, PreparedAnswersAsPlain}
-use Rattle.fips204.specs.Refusals.{refused_or, message_fault, digest_fault, sign_message, sign_digest, VerifiesMessage, VerifiesDigest}
+use Rattle.fips204.specs.Prepared.{PreparedPrivate, PreparedPublic, sign_hash_prepared, sign_message_prepared, sign_digest_prepared}
+use Rattle.fips204.specs.Prepared.{AcceptsHash, AcceptsMessage, AcceptsDigest, AcceptedIfWholePrepared, PreparedAnswersAsPlain}
+use Rattle.fips204.specs.Refusals.{refused_or, message_fault, digest_fault}
 use Rattle.fips204.specs.Sets.{set_of}
 use Rattle.fips204.specs.Signing.{sign, sign_with, sign_if_matrix}
 use Rattle.fips204.proofs.Completeness.{accepts_signed_with}
 use Rattle.fips204.proofs.ParameterSets.{IsKnown, known-set}
 use Rattle.fips204.proofs.RefusedCalls.{not_refused, short_context, same_some}
-use Rattle.fips204.proofs.Signing.{sign-by_matrix}
 
 -- ---- what is signed is accepted
 

@@ -47,6 +47,9 @@ pub fn expand_public<const K: usize, const L: usize, const PK_LEN: usize, H: Xof
 /// s1 or s2 is above `2 eta`.
 ///
 /// `K` and `L` are those of the set, and `SK_LEN` is the length of its private keys.
+///
+/// Not inlined, so that what decoding needs leaves the stack before the key is used.
+#[inline(never)]
 pub fn expand_private<const K: usize, const L: usize, const SK_LEN: usize, H, G>(
     p: &Params,
     sk: &[u8; SK_LEN],

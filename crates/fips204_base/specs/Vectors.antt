@@ -4,7 +4,7 @@ use Rattle.std.specs.List.{All, range_with_len}
 use Rattle.fips204_base.specs.declared.types.R.{R}
 use Rattle.fips204_base.specs.declared.types.T.{T}
 use Rattle.fips204_base.specs.Packing.{InRange}
-use Rattle.fips204_base.specs.Polynomials.{vector_residues, matrix_residues}
+use Rattle.fips204_base.specs.Polynomials.{vector_residues}
 use Rattle.fips204_base.specs.Residues.{coefficients}
 use Rattle.fips204_base.specs.Products.{minus, product, row_product}
 use Rattle.fips204_base.specs.Transforms.{transform, inverse_transform}
@@ -31,9 +31,13 @@ IsTransformOf w t = (i : ℕ) → i < 256 → coefficients t.0 i ≡ transform w
 abbrev pub AreTransformsOf : ℕ → (ℕ → ℕ → ℕ) → List T → Type 0
 AreTransformsOf l v t = (k i : ℕ) → k < l → i < 256 → vector_residues t k i ≡ transform (v k) i
 
--- the plain matrix of a matrix of transforms, by row, column and place: the inverse transform of each entry
+-- the plain row of a row of transforms, by column and place: the inverse transform of each entry
+abbrev pub plain_row : List T → ℕ → ℕ → ℕ
+plain_row row k = inverse_transform (vector_residues row k)
+
+-- the plain matrix of a matrix of transforms, by row, column and place
 abbrev pub plain_matrix : List (List T) → ℕ → ℕ → ℕ → ℕ
-plain_matrix a i k = inverse_transform (matrix_residues a i k)
+plain_matrix a i = plain_row (slice_index_or a i [])
 
 -- coefficient n of polynomial r of A v, where A is the plain matrix and v a vector of l polynomials
 abbrev pub matrix_product : ℕ → List (List T) → (ℕ → ℕ → ℕ) → ℕ → ℕ → ℕ

@@ -11,15 +11,18 @@ ghost use Rattle.fips204_base.specs.Vectors.{vector_coefficients, AreTransformsO
 
 use crate::helpers::{Count, Lanes};
 use crate::ntt::{inv_ntt_row, ntt_row};
-use crate::types::{R, R0, T, T0};
+use crate::types::{R, R0, T};
 
-/// The transforms of a vector of at most eight polynomials, all at once. Its coefficients are below `q` in
-/// absolute value, and so are the values.
-pub(crate) fn transforms_in_lanes<const L: usize>(v: &[R; L]) -> [T; L]
+/// Writes the transforms of a vector of at most eight polynomials, made all at once. Its coefficients are below
+/// `q` in absolute value, and so are the values.
+///
+/// Not inlined, so that its rows don't stay in the caller's frame and its calls can be counted.
+#[inline(never)]
+pub(crate) fn transforms_in_lanes<const L: usize>(v: &[R; L], out: &mut [T; L])
     requires few { L ≤ 8 }
     requires range { IsReducedVector L v.now }
-    ensures values { AreTransformsOf L (vector_coefficients v.now) result }
-    ensures small { AreReduced result }
+    ensures values { AreTransformsOf L (vector_coefficients v.now) out.new }
+    ensures small { AreReduced out.new }
 {
     let mut rows = gathered(
         |r, n|
@@ -28,11 +31,9 @@ pub(crate) fn transforms_in_lanes<const L: usize>(v: &[R; L]) -> [T; L]
         { coefficient_or_zero(v, r, n) },
     );
     ntt_row(&mut rows, &mut Count::new());
-    let mut out = [T0; L];
     for r in 0..L {
         take_lane(&rows, r, &mut out[r].0);
     }
-    out
 }
 
 /// The products of a challenge with at most eight polynomials, given by their transforms, all at once:
@@ -54,20 +55,30 @@ pub(crate) fn products_in_lanes<const K: usize>(c_hat: &T, t: &[T; K]) -> [R; K]
     for n in 0..256 {
         rows[n] = value_of(&rows, n).times(c_hat.0[n]);
     }
-    polynomials_of(&mut rows)
+    let mut out = [R0; K];
+    write_polynomials(&mut rows, &mut out);
+    out
 }
 
-/// At most eight transforms less the products of a challenge with as many polynomials, turned back all at
-/// once: coefficients from 0 to `q - 1`. Values and coefficients are below `q` in absolute value.
-pub(crate) fn differences_in_lanes<const K: usize>(t: &[T; K], c_hat: &T, v: &[R; K]) -> [R; K]
+/// Writes at most eight transforms less the products of a challenge with as many polynomials, turned back all
+/// at once: coefficients from 0 to `q - 1`. Values and coefficients are below `q` in absolute value.
+///
+/// Not inlined, for the same reasons as `transforms_in_lanes`.
+#[inline(never)]
+pub(crate) fn differences_in_lanes<const K: usize>(
+    t: &[T; K],
+    c_hat: &T,
+    v: &[R; K],
+    out: &mut [R; K],
+)
     requires few { K ≤ 8 }
     requires range { AreReduced t.now }
     requires challenge { Within 8380416 c_hat.now.0 }
     requires less { IsReducedVector K v.now }
     ensures values { (r n : ℕ) → r < K → n < 256
-        → entry result r n ≡ pos (inverse_transform
+        → entry out.new r n ≡ pos (inverse_transform
         (minus (vector_residues t.now r) (pointwise (coefficients c_hat.now.0) (transform (vector_coefficients v.now r)))) n) }
-    ensures small { IsReducedVector K result }
+    ensures small { IsReducedVector K out.new }
 {
     let mut rows = gathered(
         |r, n|
@@ -86,24 +97,22 @@ pub(crate) fn differences_in_lanes<const K: usize>(t: &[T; K], c_hat: &T, v: &[R
         );
         rows[n] = whole.less(value_of(&rows, n).times(c_hat.0[n]));
     }
-    polynomials_of(&mut rows)
+    write_polynomials(&mut rows, out);
 }
 
-/// The polynomials whose transforms are the first `K` lanes, with coefficients from 0 to `q - 1`. Lanes are
-/// below `q` in absolute value. The rows are used up.
-fn polynomials_of<const K: usize>(rows: &mut [Lanes; 256]) -> [R; K]
+/// Writes the polynomials whose transforms are the first `K` lanes, with coefficients from 0 to `q - 1`. Lanes
+/// are below `q` in absolute value. The rows are used up.
+fn write_polynomials<const K: usize>(rows: &mut [Lanes; 256], out: &mut [R; K])
     requires few { K ≤ 8 }
     requires range { LanesWithin (λ x. x.lanes) 8 8380416 rows.old }
     ensures values { (r n : ℕ) (d : Lanes) → r < K → n < 256
-        → entry result r n ≡ pos (inverse_transform (residues (λ x. x.lanes) r d rows.old) n) }
-    ensures small { IsReducedVector K result }
+        → entry out.new r n ≡ pos (inverse_transform (residues (λ x. x.lanes) r d rows.old) n) }
+    ensures small { IsReducedVector K out.new }
 {
     inv_ntt_row(rows, &mut Count::new());
-    let mut out = [R0; K];
     for r in 0..K {
         take_lane(rows, r, &mut out[r].0);
     }
-    out
 }
 
 /// The rows whose lane `r` at place `n` is what `f` gives for `r` and `n`.

@@ -12,8 +12,10 @@ mod small;
 
 pub use challenge::sample_in_ball;
 pub use mask::expand_mask;
-pub use matrix::{expand_a, expanded_times_vector, expanded_times_vector_less, rej_ntt_poly};
-pub use small::{expand_s, rej_bounded_poly};
+pub use matrix::{
+    expand_a, expand_a_into, expanded_times_vector, expanded_times_vector_less, rej_ntt_poly,
+};
+pub use small::{expand_s, expand_s_into, rej_bounded_poly};
 
 /// Puts a coefficient, if there is one, at place `kept` of `values`, if there is room, and answers how
 /// many there are then.

@@ -9,8 +9,8 @@ ghost use Rattle.fips204_base.specs.Rounding.{IsGamma2, power2round, high_bits, 
 
 use crate::D;
 use crate::helpers::full_reduce32;
-use crate::maps::map_vector;
-use crate::types::{R, Zq};
+use crate::maps::{update_vector, update_vector_with};
+use crate::types::{R, R0, Zq};
 
 /// `Power2Round` (FIPS 204, Algorithm 35) of each coefficient, from 0 to `q - 1`: the high parts,
 /// from 0 to 1023, and the low parts, from -4095 to 4096.
@@ -19,21 +19,34 @@ pub fn power2round<const K: usize>(r: &[R; K]) -> ([R; K], [R; K])
     ensures high { result.0 ≡ vector_of K (λ i n. pos (power2round (vector_coefficients r.now i n)).0) }
     ensures low { result.1 ≡ vector_of K (λ i n. (power2round (vector_coefficients r.now i n)).1) }
 {
-    let high = map_vector(
+    let mut high = [R0; K];
+    let mut low = *r;
+    power2round_in_place(&mut low, &mut high);
+    (high, low)
+}
+
+/// `power2round` of each coefficient of `r`, in place: the high parts are written into `high`, and the low parts
+/// over `r`.
+pub fn power2round_in_place<const K: usize>(r: &mut [R; K], high: &mut [R; K])
+    requires { AreResidues K r.old }
+    ensures high { high.new ≡ vector_of K (λ i n. pos (power2round (vector_coefficients r.old i n)).0) }
+    ensures low { r.new ≡ vector_of K (λ i n. (power2round (vector_coefficients r.old i n)).1) }
+{
+    update_vector_with(
+        high,
         r,
-        |x|
+        |_, x|
             requires { (pos 0 ≤ℤ x) × (x ≤ℤ pos 8380416) }
             ensures { result ≡ pos (power2round (residue x)).0 }
         { power2round_coefficient(x).0 },
     );
-    let low = map_vector(
+    update_vector(
         r,
         |x|
             requires { (pos 0 ≤ℤ x) × (x ≤ℤ pos 8380416) }
             ensures { result ≡ (power2round (residue x)).1 }
         { power2round_coefficient(x).1 },
     );
-    (high, low)
 }
 
 /// `power2round` of one coefficient.

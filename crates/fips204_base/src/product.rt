@@ -3,15 +3,16 @@
 
 ghost use Rattle.std.specs.Prelude.{◌≡◌, ◌≤◌, ◌<◌, ◌*◌, ◌%◌, ℕ, List, pos, nat_abs};
 ghost use Rattle.fips204_base.specs.Residues.{residue, coefficients};
-ghost use Rattle.fips204_base.specs.Products.{product};
+ghost use Rattle.fips204_base.specs.Products.{product, row_product};
 ghost use Rattle.fips204_base.specs.Transforms.{inverse_transform};
 ghost use Rattle.fips204_base.specs.Polynomials.{coefficient_at, entry, vector_residues, Within, IsReduced, IsReducedVector, AreReduced, AreRowProducts, IsReducedMatrix};
-ghost use Rattle.fips204_base.specs.Vectors.{vector_coefficients, matrix_product, product_difference, IsTransformOf, AreTransformsOf};
+ghost use Rattle.fips204_base.specs.Vectors.{vector_coefficients, plain_row, matrix_product, product_difference, IsTransformOf, AreTransformsOf};
 ghost use Rattle.fips204_base.specs.declared.types.R.{R};
 ghost use Rattle.fips204_base.specs.declared.types.T.{T};
 
 use crate::batch::{differences_in_lanes, products_in_lanes, transforms_in_lanes};
 use crate::helpers::reduce::{difference, wide_product};
+use crate::helpers::vector::row_sum;
 use crate::helpers::{Count, mat_vec_mul, partial_reduce64};
 use crate::maps::update_with;
 use crate::ntt::{inv_ntt_row, ntt_row};
@@ -30,7 +31,26 @@ pub fn matrix_times_vector<const K: usize, const L: usize>(
     ensures values { (r n : ℕ) → r < K → n < 256 → entry result r n ≡ pos (matrix_product L a_hat.now (vector_coefficients v.now) r n) }
     ensures range { IsReducedVector K result }
 {
-    inverses(&mat_vec_mul(a_hat, &transforms(v)))
+    let mut v_hat = [T0; L];
+    write_transforms(v, &mut v_hat);
+    let mut out = [R0; K];
+    for r in 0..K {
+        out[r] = row_times_vector(&a_hat[r], &v_hat);
+    }
+    out
+}
+
+/// The product of a row of the matrix with a vector, both given by their transforms: coefficients from 0 to
+/// `q - 1`. Values are below `q` in absolute value, and `L` is at most 7.
+pub(crate) fn row_times_vector<const L: usize>(row: &[T; L], v_hat: &[T; L]) -> R
+    requires columns { L ≤ 7 }
+    requires row { AreReduced row.now }
+    requires vector { AreReduced v_hat.now }
+    ensures values { (v : ℕ → ℕ → ℕ) → AreTransformsOf L v v_hat.now
+        → (n : ℕ) → n < 256 → coefficient_at result.0 n ≡ pos (row_product L (plain_row row.now) v n) }
+    ensures small { IsReduced result.0 }
+{
+    inverse_of(&row_sum(row, v_hat))
 }
 
 /// The product of a challenge with each polynomial of a vector: coefficients from 0 to `q - 1`. All
@@ -82,25 +102,32 @@ pub fn matrix_times_vector_less<const K: usize, const L: usize>(
     ensures values { (r n : ℕ) → r < K → n < 256 → entry result r n ≡ pos (product_difference L a_hat.now z.now c.now t.now r n) }
     ensures range { IsReducedVector K result }
 {
-    less_challenge_product(&mat_vec_mul(a_hat, &transforms(z)), c, t)
+    let mut out = [R0; K];
+    less_challenge_product(&mat_vec_mul(a_hat, &transforms(z)), c, t, &mut out);
+    out
 }
 
-/// The product of a matrix with a vector, given by its transforms, less the product of a challenge with a
-/// vector: coefficients from 0 to `q - 1`. Values and coefficients are below `q` in absolute value.
-pub(crate) fn less_challenge_product<const K: usize>(products: &[T; K], c: &R, t: &[R; K]) -> [R; K]
+/// Writes the product of a matrix with a vector, given by its transforms, less the product of a challenge with
+/// a vector: coefficients from 0 to `q - 1`. Values and coefficients are below `q` in absolute value.
+pub(crate) fn less_challenge_product<const K: usize>(
+    products: &[T; K],
+    c: &R,
+    t: &[R; K],
+    out: &mut [R; K],
+)
     requires products { AreReduced products.now }
     requires challenge { IsReduced c.now.0 }
     requires less { IsReducedVector K t.now }
     ensures values { (l : ℕ) (a : List (List T)) (z_hat : List T) (z : List R) → AreRowProducts K l a z_hat products.now
         → AreTransformsOf l (vector_coefficients z) z_hat
-        → (r n : ℕ) → r < K → n < 256 → entry result r n ≡ pos (product_difference l a z c.now t.now r n) }
-    ensures range { IsReducedVector K result }
+        → (r n : ℕ) → r < K → n < 256 → entry out.new r n ≡ pos (product_difference l a z c.now t.now r n) }
+    ensures range { IsReducedVector K out.new }
 {
     let c_hat = transform_of(c);
     if 5 < K && K <= 8 {
-        return differences_in_lanes(products, &c_hat, t);
+        differences_in_lanes(products, &c_hat, t, out);
+        return;
     }
-    let mut out = [R0; K];
     for i in 0..K {
         let mut multiple = transform_of(&t[i]);
         update_with(&mut multiple.0, &c_hat.0, value_product);
@@ -108,21 +135,6 @@ pub(crate) fn less_challenge_product<const K: usize>(products: &[T; K], c: &R, t
         update_with(&mut rest.0, &multiple.0, difference);
         out[i] = inverse_of(&rest);
     }
-    out
-}
-
-/// The vector that has these transforms: coefficients from 0 to `q - 1`. The values are below `q` in absolute
-/// value.
-pub(crate) fn inverses<const K: usize>(t: &[T; K]) -> [R; K]
-    requires { AreReduced t.now }
-    ensures values { (r n : ℕ) → r < K → n < 256 → entry result r n ≡ pos (inverse_transform (vector_residues t.now r) n) }
-    ensures range { IsReducedVector K result }
-{
-    let mut out = [R0; K];
-    for i in 0..K {
-        out[i] = inverse_of(&t[i]);
-    }
-    out
 }
 
 /// The transforms of a vector. Its coefficients are below `q` in absolute value, and so are the values.
@@ -131,14 +143,24 @@ pub fn transforms<const L: usize>(v: &[R; L]) -> [T; L]
     ensures values { AreTransformsOf L (vector_coefficients v.now) result }
     ensures small { AreReduced result }
 {
-    if L == 8 {
-        return transforms_in_lanes(v);
-    }
     let mut out = [T0; L];
-    for k in 0..L {
-        out[k] = transform_of(&v[k]);
-    }
+    write_transforms(v, &mut out);
     out
+}
+
+/// Writes the transforms of a vector. Its coefficients are below `q` in absolute value, and so are the values.
+pub(crate) fn write_transforms<const L: usize>(v: &[R; L], out: &mut [T; L])
+    requires { IsReducedVector L v.now }
+    ensures values { AreTransformsOf L (vector_coefficients v.now) out.new }
+    ensures small { AreReduced out.new }
+{
+    if 6 < L && L <= 8 {
+        transforms_in_lanes(v, out);
+    } else {
+        for k in 0..L {
+            out[k] = transform_of(&v[k]);
+        }
+    }
 }
 
 /// The transform of a polynomial. Its coefficients are below `q` in absolute value, and so are the values.

@@ -13,12 +13,12 @@ ghost use Rattle.fips204.specs.Refusals.{generated, derived, Draws};
 ghost use Rattle.fips204.specs.Sets.{set_of};
 
 use crate::traits::{CryptoRngCore, draw};
-use crate::types::{Params, PrivateKey, PublicKey, R};
+use crate::types::{Params, PrivateKey, PublicKey, R, R0};
 use fips204_base::Fault;
 use fips204_base::encodings::pk_encode;
-use fips204_base::hashing::{expand_s, expanded_times_vector};
+use fips204_base::hashing::{expand_s_into, expanded_times_vector};
 use fips204_base::helpers::full_reduce32;
-use fips204_base::high_low::power2round;
+use fips204_base::high_low::power2round_in_place;
 use fips204_base::maps::update_vector_with;
 use fips204_base::xof::{Xof, hash};
 use std::marker::PhantomData;
@@ -42,11 +42,15 @@ pub fn key_gen_internal<const K: usize, const L: usize, const PK_LEN: usize, H: 
     let rho_prime: [u8; 64] = part(&seeds, 32);
     let key: [u8; 32] = part(&seeds, 96);
     // (s1, s2) = ExpandS(rho')
-    let (s1, s2) = expand_s::<K, L, H>(p.eta, &rho_prime)?;
+    let mut s1 = [R0; L];
+    let mut s2 = [R0; K];
+    expand_s_into::<K, L, H>(p.eta, &rho_prime, &mut s1, &mut s2)?;
     // A = ExpandA(rho), t = A s1 + s2
-    let t = key_vector::<K, L, G>(&rho, &s1, &s2)?;
+    let mut t = [R0; K];
+    key_vector::<K, L, G>(&rho, &s1, &s2, &mut t)?;
     // (t1, t0) = Power2Round(t)
-    let (t1, t0) = power2round(&t);
+    let mut t1 = [R0; K];
+    power2round_in_place(&mut t, &mut t1);
     // tr = H(pkEncode(rho, t1))
     let pk: [u8; PK_LEN] = pk_encode(&rho, &t1);
     let tr = hash::<H, 64>(&[pk.as_slice()]);
@@ -62,7 +66,7 @@ pub fn key_gen_internal<const K: usize, const L: usize, const PK_LEN: usize, H: 
         tr,
         s1,
         s2,
-        t0,
+        t0: t,
         streams: PhantomData,
     };
     Ok((public, private))
@@ -76,32 +80,33 @@ fn part<const N: usize>(bytes: &[u8; 128], at: usize) -> [u8; N]
     *bytes[at..].first_chunk::<N>().unwrap()
 }
 
-/// `t = A s1 + s2` (Algorithm 6, lines 3 and 5) for the matrix of `rho`, with coefficients from 0 to `q - 1`.
-/// Those of `s1` and `s2` are below `q` in absolute value, and `K` and `L` are those of a set. Refuses with
-/// `Fault::SamplingLimit` where the matrix passes its limit.
+/// Writes `t = A s1 + s2` (Algorithm 6, lines 3 and 5) for the matrix of `rho`, with coefficients from 0 to
+/// `q - 1`. Those of `s1` and `s2` are below `q` in absolute value, and `K` and `L` are those of a set. Refuses
+/// with `Fault::SamplingLimit` where the matrix passes its limit.
 fn key_vector<const K: usize, const L: usize, G: Xof>(
     rho: &[u8; 32],
     s1: &[R; L],
     s2: &[R; K],
-) -> Result<[R; K], Fault>
+    t: &mut [R; K],
+) -> Result<(), Fault>
     requires shape { (K ≤ 8) × (L ≤ 7) }
     requires first { IsReducedVector L s1.now }
     requires second { IsReducedVector K s2.now }
     ensures refused { IfErr result (λ fault. (sampled_matrix G.front rho.now K L ≡ None) × (fault ≡ Fault.SamplingLimit)) }
-    ensures values { IfOk result (λ t. (a : List (List T)) × (sampled_matrix G.front rho.now K L ≡ Some a)
-        × (t ≡ vector_of K (λ r n. pos (key_vector L a s1.now s2.now r n)))) }
-    ensures range { IfOk result (AreResidues K) }
+    ensures values { IfOk result (λ _. (a : List (List T)) × (sampled_matrix G.front rho.now K L ≡ Some a)
+        × (t.new ≡ vector_of K (λ r n. pos (key_vector L a s1.now s2.now r n)))) }
+    ensures range { IfOk result (λ _. AreResidues K t.new) }
 {
-    let mut t = expanded_times_vector::<K, L, G>(rho, s1)?;
+    expanded_times_vector::<K, L, G>(rho, s1, t)?;
     update_vector_with(
-        &mut t,
+        t,
         s2,
         |x, y|
             requires { (nat_abs x ≤ 8380416) × (nat_abs y ≤ 8380416) }
             ensures { result ≡ pos ((residue x + residue y) % 8380417) }
         { full_reduce32(x + y) },
     );
-    Ok(t)
+    Ok(())
 }
 
 /// `ML-DSA.KeyGen` (Algorithm 1): both keys of 32 bytes that the generator is asked for once. Refuses
@@ -133,9 +138,11 @@ pub fn private_to_public_key<const K: usize, const L: usize, H, G: Xof>(
     ensures { result ≡ derived (set_of p.now) G.front sk.now }
 {
     // A = ExpandA(rho), t = A s1 + s2
-    let t = key_vector::<K, L, G>(&sk.rho, &sk.s1, &sk.s2)?;
+    let mut t = [R0; K];
+    key_vector::<K, L, G>(&sk.rho, &sk.s1, &sk.s2, &mut t)?;
     // (t1, _) = Power2Round(t)
-    let (t1, _) = power2round(&t);
+    let mut t1 = [R0; K];
+    power2round_in_place(&mut t, &mut t1);
     Ok(PublicKey {
         rho: sk.rho,
         tr: sk.tr,

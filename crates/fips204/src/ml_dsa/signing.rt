@@ -8,9 +8,9 @@ ghost use Rattle.fips204.specs.KeyTransforms.{AreKeyTransforms};
 ghost use Rattle.fips204.specs.Sets.{HasSizes, set_of};
 ghost use Rattle.fips204.specs.Signing.{sign, sign_with};
 
-use crate::types::{KeyTransforms, Params, PrivateKey, T};
+use crate::types::{KeyTransforms, Params, PrivateKey, T, T0};
 use fips204_base::Fault;
-use fips204_base::hashing::expand_a;
+use fips204_base::hashing::expand_a_into;
 use fips204_base::product::transforms;
 use fips204_base::xof::{Xof, hash};
 
@@ -41,7 +41,8 @@ pub fn sign_internal<
     ensures accepted { HashAccepted (set_of p.now) H.front G.front sk.now mu.now result }
 {
     // A = ExpandA(rho)
-    let a_hat = expand_a::<K, L, G>(&sk.rho)?;
+    let mut a_hat = [[T0; L]; K];
+    expand_a_into::<K, L, G>(&sk.rho, &mut a_hat)?;
     sk.sign_with::<LAMBDA_DIV4, SIG_LEN>(p, &a_hat, &sk.transforms(), mu, rnd)
 }
 

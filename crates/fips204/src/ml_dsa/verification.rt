@@ -16,7 +16,7 @@ ghost use Rattle.fips204.specs.Sets.{HasSizes, set_of};
 
 use super::commitment::commitment;
 use super::rejection::has_norm_below;
-use crate::types::{Params, PreparedPublicKey, PublicKey, R};
+use crate::types::{Params, PreparedPublicKey, PublicKey, R, R0};
 use fips204_base::D;
 use fips204_base::encodings::sig_decode;
 use fips204_base::hashing::{expanded_times_vector_less, sample_in_ball};
@@ -44,9 +44,10 @@ pub fn verify_internal<
     };
     let (c_tilde, z, h, c) = &parts;
     // A = ExpandA(rho), w'_approx = A z - c t1 2^d
-    match expanded_times_vector_less::<K, L, G>(&pk.rho, z, c, &t1_shifted(&pk.t1)) {
+    let mut w = [R0; K];
+    match expanded_times_vector_less::<K, L, G>(&pk.rho, z, c, &t1_shifted(&pk.t1), &mut w) {
         Err(_) => false,
-        Ok(w) => has_commitment::<K, LAMBDA_DIV4, H>(p, mu, w, h, c_tilde),
+        Ok(()) => has_commitment::<K, LAMBDA_DIV4, H>(p, mu, &mut w, h, c_tilde),
     }
 }
 
@@ -66,8 +67,8 @@ pub(crate) fn verify_prepared<
     };
     let (c_tilde, z, h, c) = &parts;
     // w'_approx = A z - c t1 2^d
-    let w = matrix_times_vector_less(&pk.a_hat, z, c, &t1_shifted(&pk.key.t1));
-    has_commitment::<K, LAMBDA_DIV4, H>(p, mu, w, h, c_tilde)
+    let mut w = matrix_times_vector_less(&pk.a_hat, z, c, &t1_shifted(&pk.key.t1));
+    has_commitment::<K, LAMBDA_DIV4, H>(p, mu, &mut w, h, c_tilde)
 }
 
 /// The parts `c_tilde`, `z` and `h` of a signature and its challenge (lines 2 to 8), or `None` where its last
@@ -95,27 +96,27 @@ fn opened<const K: usize, const L: usize, const LAMBDA_DIV4: usize, const SIG_LE
     }
 }
 
-/// Whether `c_tilde` is the commitment of `w1' = UseHint(h, w)` (lines 10 to 12).
+/// Whether `c_tilde` is the commitment of `w1' = UseHint(h, w)` (lines 10 to 12), which is written over `w`.
 ///
 /// Coefficients of `w` are below `q` in absolute value, those of `h` 0 or 1. `K` is that of the set, and
 /// `LAMBDA_DIV4` is the length of `c_tilde`.
 fn has_commitment<const K: usize, const LAMBDA_DIV4: usize, H: Xof>(
     p: &Params,
     mu: &[u8; 64],
-    mut w: [R; K],
+    w: &mut [R; K],
     h: &[R; K],
     c_tilde: &[u8; LAMBDA_DIV4],
 ) -> bool
     requires rows { K ≡ p.now.k }
     requires commitment_size { LAMBDA_DIV4 ≡ commitment_length (set_of p.now) }
-    requires range { IsReducedVector K w }
+    requires range { IsReducedVector K w.old }
     requires hint { IsVector K 0 1 h.now }
-    ensures { IsTrue result ↔ (c_tilde.now ≡ commitment (set_of p.now) H.front mu.now (hinted (set_of p.now) h.now (vector_coefficients w.entry))) }
+    ensures { IsTrue result ↔ (c_tilde.now ≡ commitment (set_of p.now) H.front mu.now (hinted (set_of p.now) h.now (vector_coefficients w.old))) }
 {
     // w1' = UseHint(h, w'_approx)
     let gamma2 = p.gamma2;
     update_vector_with(
-        &mut w,
+        w,
         h,
         |w, h|
             requires { ((gamma2 ≡ pos 95232) ⊎ (gamma2 ≡ pos 261888)) × (nat_abs w ≤ 8380416) × ((h ≡ pos 0) ⊎ (h ≡ pos 1)) }
@@ -123,7 +124,7 @@ fn has_commitment<const K: usize, const LAMBDA_DIV4: usize, H: Xof>(
         { use_hint(gamma2, h, w) },
     );
     // c_tilde = H(mu || w1Encode(w1'))
-    *c_tilde == commitment::<K, LAMBDA_DIV4, H>(p, mu, &w)
+    *c_tilde == commitment::<K, LAMBDA_DIV4, H>(p, mu, w)
 }
 
 /// `t1 2^d`, with coefficients from 0 to `q - 1`.

@@ -13,7 +13,7 @@ use crate::conversion::coeff_from_three_bytes;
 use crate::fault::Fault;
 use crate::hashing::keep;
 use crate::helpers::vector::row_sum;
-use crate::product::{inverses, less_challenge_product, transforms};
+use crate::product::{less_challenge_product, row_times_vector, write_transforms};
 use crate::types::{R, T, T0};
 use crate::xof::{Xof, XofReader};
 
@@ -71,63 +71,90 @@ pub fn expand_a<const K: usize, const L: usize, G: Xof>(
     ensures { result ≡ ok_or (sampled_matrix G.front rho.now K L) Fault.SamplingLimit }
 {
     let mut matrix = [[T0; L]; K];
-    for r in 0..K {
-        matrix[r] = expand_row::<L, G>(rho, r)?;
-    }
+    expand_a_into::<K, L, G>(rho, &mut matrix)?;
     Ok(matrix)
 }
 
-/// Row `r` of the matrix (Algorithm 32, lines 2 to 5).
-fn expand_row<const L: usize, G: Xof>(rho: &[u8; 32], r: usize) -> Result<[T; L], Fault>
-    requires shape { (r < 8) × (L ≤ 7) }
-    ensures { result ≡ ok_or (sampled_row G.front rho.now L r) Fault.SamplingLimit }
+/// `expand_a`, which writes the matrix into the caller's place. Where it refuses, some of it may be written.
+pub fn expand_a_into<const K: usize, const L: usize, G: Xof>(
+    rho: &[u8; 32],
+    matrix: &mut [[T; L]; K],
+) -> Result<(), Fault>
+    requires shape { (K ≤ 8) × (L ≤ 7) }
+    ensures refused { IfErr result (λ fault. (sampled_matrix G.front rho.now K L ≡ None) × (fault ≡ Fault.SamplingLimit)) }
+    ensures values { IfOk result (λ _. sampled_matrix G.front rho.now K L ≡ Some matrix.new) }
 {
-    let mut row = [T0; L];
+    for r in 0..K {
+        expand_row::<L, G>(rho, r, &mut matrix[r])?;
+    }
+    Ok(())
+}
+
+/// Writes row `r` of the matrix (Algorithm 32, lines 2 to 5).
+fn expand_row<const L: usize, G: Xof>(
+    rho: &[u8; 32],
+    r: usize,
+    row: &mut [T; L],
+) -> Result<(), Fault>
+    requires shape { (r < 8) × (L ≤ 7) }
+    ensures refused { IfErr result (λ fault. (sampled_row G.front rho.now L r ≡ None) × (fault ≡ Fault.SamplingLimit)) }
+    ensures values { IfOk result (λ _. sampled_row G.front rho.now L r ≡ Some row.new) }
+{
     for s in 0..L {
         row[s] = rej_ntt_poly::<G>(&[rho.as_slice(), &[s as u8], &[r as u8]])?;
     }
-    Ok(row)
+    Ok(())
 }
 
-/// The products of the matrix of `rho` with a vector of transforms, value by value, as `mat_vec_mul` of
+/// Writes the products of the matrix of `rho` with a vector of transforms, value by value, as `mat_vec_mul` of
 /// `expand_a` gives them, with one row of the matrix at a time. `K` and `L` are those of a parameter set, and
-/// values of the vector are below `q` in absolute value, as those of the answer. Refuses with `SamplingLimit`
-/// where an entry passes its limit.
+/// values of the vector are below `q` in absolute value, as those written. Refuses with `SamplingLimit` where
+/// an entry passes its limit.
 fn expanded_mat_vec_mul<const K: usize, const L: usize, G: Xof>(
     rho: &[u8; 32],
     u: &[T; L],
-) -> Result<[T; K], Fault>
+    out: &mut [T; K],
+) -> Result<(), Fault>
     requires shape { (K ≤ 8) × (L ≤ 7) }
     requires vector { AreReduced u.now }
     ensures refused { IfErr result (λ fault. (sampled_matrix G.front rho.now K L ≡ None) × (fault ≡ Fault.SamplingLimit)) }
-    ensures values { IfOk result (λ t. (a : List (List T)) × (sampled_matrix G.front rho.now K L ≡ Some a) × AreRowProducts K L a u.now t) }
-    ensures small { IfOk result AreReduced }
+    ensures values { IfOk result (λ _. (a : List (List T)) × (sampled_matrix G.front rho.now K L ≡ Some a) × AreRowProducts K L a u.now out.new) }
+    ensures small { IfOk result (λ _. AreReduced out.new) }
 {
-    let mut out = [T0; K];
+    let mut row = [T0; L];
     for r in 0..K {
-        out[r] = row_sum(&expand_row::<L, G>(rho, r)?, u);
+        expand_row::<L, G>(rho, r, &mut row)?;
+        out[r] = row_sum(&row, u);
     }
-    Ok(out)
+    Ok(())
 }
 
-/// The product of the matrix of `rho` with a vector of plain polynomials, as `matrix_times_vector` of
+/// Writes the product of the matrix of `rho` with a vector of plain polynomials, as `matrix_times_vector` of
 /// `expand_a` gives it, with one row of the matrix at a time. `K` and `L` are those of a parameter set, and
 /// coefficients are below `q` in absolute value. Refuses with `SamplingLimit` where an entry passes its limit.
 pub fn expanded_times_vector<const K: usize, const L: usize, G: Xof>(
     rho: &[u8; 32],
     v: &[R; L],
-) -> Result<[R; K], Fault>
+    out: &mut [R; K],
+) -> Result<(), Fault>
     requires shape { (K ≤ 8) × (L ≤ 7) }
     requires vector { IsReducedVector L v.now }
     ensures refused { IfErr result (λ fault. (sampled_matrix G.front rho.now K L ≡ None) × (fault ≡ Fault.SamplingLimit)) }
-    ensures values { IfOk result (λ w. (a : List (List T)) × (sampled_matrix G.front rho.now K L ≡ Some a)
-        × ((r n : ℕ) → r < K → n < 256 → entry w r n ≡ pos (matrix_product L a (vector_coefficients v.now) r n))) }
-    ensures range { IfOk result (IsReducedVector K) }
+    ensures values { IfOk result (λ _. (a : List (List T)) × (sampled_matrix G.front rho.now K L ≡ Some a)
+        × ((r n : ℕ) → r < K → n < 256 → entry out.new r n ≡ pos (matrix_product L a (vector_coefficients v.now) r n))) }
+    ensures range { IfOk result (λ _. IsReducedVector K out.new) }
 {
-    Ok(inverses(&expanded_mat_vec_mul::<K, L, G>(rho, &transforms(v))?))
+    let mut v_hat = [T0; L];
+    write_transforms(v, &mut v_hat);
+    let mut row = [T0; L];
+    for r in 0..K {
+        expand_row::<L, G>(rho, r, &mut row)?;
+        out[r] = row_times_vector(&row, &v_hat);
+    }
+    Ok(())
 }
 
-/// The product of the matrix of `rho` with a vector, less the product of a challenge with a vector, as
+/// Writes the product of the matrix of `rho` with a vector, less the product of a challenge with a vector, as
 /// `matrix_times_vector_less` of `expand_a` gives it, with one row of the matrix at a time. `K` and `L` are
 /// those of a parameter set, and coefficients are below `q` in absolute value. Refuses with `SamplingLimit`
 /// where an entry passes its limit.
@@ -136,16 +163,21 @@ pub fn expanded_times_vector_less<const K: usize, const L: usize, G: Xof>(
     z: &[R; L],
     c: &R,
     t: &[R; K],
-) -> Result<[R; K], Fault>
+    out: &mut [R; K],
+) -> Result<(), Fault>
     requires shape { (K ≤ 8) × (L ≤ 7) }
     requires vector { IsReducedVector L z.now }
     requires challenge { IsReduced c.now.0 }
     requires less { IsReducedVector K t.now }
     ensures refused { IfErr result (λ fault. (sampled_matrix G.front rho.now K L ≡ None) × (fault ≡ Fault.SamplingLimit)) }
-    ensures values { IfOk result (λ w. (a : List (List T)) × (sampled_matrix G.front rho.now K L ≡ Some a)
-        × ((r n : ℕ) → r < K → n < 256 → entry w r n ≡ pos (product_difference L a z.now c.now t.now r n))) }
-    ensures range { IfOk result (IsReducedVector K) }
+    ensures values { IfOk result (λ _. (a : List (List T)) × (sampled_matrix G.front rho.now K L ≡ Some a)
+        × ((r n : ℕ) → r < K → n < 256 → entry out.new r n ≡ pos (product_difference L a z.now c.now t.now r n))) }
+    ensures range { IfOk result (λ _. IsReducedVector K out.new) }
 {
-    let products = expanded_mat_vec_mul::<K, L, G>(rho, &transforms(z))?;
-    Ok(less_challenge_product(&products, c, t))
+    let mut z_hat = [T0; L];
+    write_transforms(z, &mut z_hat);
+    let mut products = [T0; K];
+    expanded_mat_vec_mul::<K, L, G>(rho, &z_hat, &mut products)?;
+    less_challenge_product(&products, c, t, out);
+    Ok(())
 }

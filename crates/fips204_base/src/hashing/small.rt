@@ -58,17 +58,18 @@ pub fn rej_bounded_poly<H: Xof>(eta: i32, parts: &[&[u8]]) -> Result<R, Fault>
     Err(Fault::SamplingLimit)
 }
 
-/// `N` small polynomials, the one at `r` from `rho` and the number `first + r` in two bytes.
+/// Writes `N` small polynomials, the one at `r` from `rho` and the number `first + r` in two bytes.
 fn small_polynomials<const N: usize, H: Xof>(
     eta: i32,
     rho: &[u8; 64],
     first: usize,
-) -> Result<[R; N], Fault>
+    polynomials: &mut [R; N],
+) -> Result<(), Fault>
     requires eta { IsEta eta }
     requires numbers { first + N ≤ 65536 }
-    ensures { result ≡ ok_or (small_vector (nat_abs eta) H.front rho.now first N) Fault.SamplingLimit }
+    ensures refused { IfErr result (λ fault. (small_vector (nat_abs eta) H.front rho.now first N ≡ None) × (fault ≡ Fault.SamplingLimit)) }
+    ensures values { IfOk result (λ _. small_vector (nat_abs eta) H.front rho.now first N ≡ Some polynomials.new) }
 {
-    let mut polynomials = [R0; N];
     for r in 0..N {
         let number = (first + r) as u16;
         polynomials[r] = rej_bounded_poly::<H>(
@@ -76,7 +77,7 @@ fn small_polynomials<const N: usize, H: Xof>(
             &[rho.as_slice(), number.to_le_bytes().as_slice()],
         )?;
     }
-    Ok(polynomials)
+    Ok(())
 }
 
 /// `ExpandS` (Algorithm 33): the secret vectors s1 of `L` and s2 of `K` polynomials, with coefficients
@@ -92,7 +93,26 @@ pub fn expand_s<const K: usize, const L: usize, H: Xof>(
     ensures s2 { IfOk result (λ vectors. small_vector (nat_abs eta) H.front rho.now L K ≡ Some vectors.1) }
     ensures limit { IfErr result (λ fault. (fault ≡ Fault.SamplingLimit) × LacksSmallVector (nat_abs eta) H.front rho.now K L) }
 {
-    let s1 = small_polynomials::<L, H>(eta, rho, 0)?;
-    let s2 = small_polynomials::<K, H>(eta, rho, L)?;
+    let mut s1 = [R0; L];
+    let mut s2 = [R0; K];
+    expand_s_into::<K, L, H>(eta, rho, &mut s1, &mut s2)?;
     Ok((s1, s2))
+}
+
+/// `expand_s`, which writes the vectors into the caller's places. Where it refuses, some of them may be written.
+pub fn expand_s_into<const K: usize, const L: usize, H: Xof>(
+    eta: i32,
+    rho: &[u8; 64],
+    s1: &mut [R; L],
+    s2: &mut [R; K],
+) -> Result<(), Fault>
+    requires eta { IsEta eta }
+    requires shape { (K ≤ 8) × (L ≤ 7) }
+    ensures s1 { IfOk result (λ _. small_vector (nat_abs eta) H.front rho.now 0 L ≡ Some s1.new) }
+    ensures s2 { IfOk result (λ _. small_vector (nat_abs eta) H.front rho.now L K ≡ Some s2.new) }
+    ensures limit { IfErr result (λ fault. (fault ≡ Fault.SamplingLimit) × LacksSmallVector (nat_abs eta) H.front rho.now K L) }
+{
+    small_polynomials::<L, H>(eta, rho, 0, s1)?;
+    small_polynomials::<K, H>(eta, rho, L, s2)?;
+    Ok(())
 }

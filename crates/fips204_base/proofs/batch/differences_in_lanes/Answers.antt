@@ -44,6 +44,6 @@ loop-n-preserved g c =
     }
 
 pub returns-clause-values : goal.returns-clause-values
-returns-clause-values g c = λ r n h q. c.polynomials_of.ensures.values r n zeros h q
+returns-clause-values g c = λ r n h q. c.write_polynomials.ensures.values r n zeros h q
     ∙ ap pos (inverse_same (residues (λ (x : Lanes). x.lanes) r zeros c.loop-n.rows) (minus (vector_residues c.args.t.now r) (pointwise (coefficients c.args.c_hat.now.0) (transform (vector_coefficients c.args.v.now r))))
     (λ i p. congruent_of (c.loop-n.invariant.values i r zeros (omega arith) (omega (arith, h, c.requires.few)))) n)

@@ -1,7 +1,6 @@
 use Rattle.std.proofs.Common.{rules, ◌≡◌, ◌∙◌, sym, arith, Err, Some, None}
 use Rattle.fips204_base.specs.MatrixEntry.{sampled_matrix}
 use Rattle.fips204_base.specs.declared.fault.Fault.TheVariants.{SamplingLimit}
-use Rattle.fips204_base.proofs.Sampled.{some_of_ok, none_of_err}
 use Rattle.fips204.specs.Sets.{set_of}
 use Rattle.fips204.proofs.ParameterSets.{limits}
 use Rattle.fips204.proofs.Ranges.{matrix-within}
@@ -9,36 +8,34 @@ use Rattle.fips204.proofs.SeedKeys.{hash_accepted}
 use Rattle.fips204.proofs.Signing.{sign-by_matrix, sign-no_matrix}
 use Rattle.fips204.proofs.ml_dsa.signing.sign_internal.Goals as goal
 
-pub expand_a-requires : goal.expand_a-requires
-expand_a-requires g c =
+pub expand_a_into-requires : goal.expand_a_into-requires
+expand_a_into-requires g c =
     let p = c.args.p.now in
     let known = limits p (search rules) in
     (search rules, (search rules, (omega (arith, c.requires.sizes.0, known.few_rows), omega (arith, c.requires.sizes.1, known.few_columns))))
 
-pub returns-in_err-a_hat-clause-answer : goal.returns-in_err-a_hat-clause-answer
-returns-in_err-a_hat-clause-answer g c =
+pub returns-in_err-expand_a_into-clause-answer : goal.returns-in_err-expand_a_into-clause-answer
+returns-in_err-expand_a_into-clause-answer g c =
     let p = set_of c.args.p.now in
     let refused : c.from_residual.result ≡ Err SamplingLimit = search rules in
     let same : c.sk.inside.rho ≡ c.args.sk.now.rho = search rules in
-    let none = none_of_err (sampled_matrix g.G.Xof.front c.sk.inside.rho g.row.K g.row.L) c.in_err-a_hat.field-0.0 c.in_err-a_hat.ensures in
-    let there : sampled_matrix g.G.Xof.front c.args.sk.now.rho p.k p.l ≡ None = rw (same, c.requires.sizes.0, c.requires.sizes.1) at none.0 in
+    let there : sampled_matrix g.G.Xof.front c.args.sk.now.rho p.k p.l ≡ None = rw (same, c.requires.sizes.0, c.requires.sizes.1) at c.in_err-expand_a_into.ensures.refused.0 in
     refused ∙ sym (sign-no_matrix p g.H.Xof.front g.G.Xof.front c.args.sk.now c.args.mu.now c.args.rnd.now there)
 
 pub sign_with-requires : goal.sign_with-requires
 sign_with-requires g c =
     let p = c.args.p.now in
     let known = limits p (search rules) in
-    let a = c.in_ok-a_hat.a_hat in
-    let some = some_of_ok (sampled_matrix g.G.Xof.front c.sk.inside.rho g.row.K g.row.L) a c.in_ok-a_hat.ensures in
+    let a = c.expand_a_into.new.matrix in
+    let some = c.in_ok-expand_a_into.ensures.values in
     (search rules, (search rules, (search rules, (search rules, (search rules, (c.requires.sizes, (matrix-within g.G.Xof.front c.sk.inside.rho g.row.K g.row.L a some, c.transforms.ensures)))))))
 
 pub returns-clause-answer : goal.returns-clause-answer
 returns-clause-answer g c =
     let p = set_of c.args.p.now in
-    let a = c.in_ok-a_hat.a_hat in
+    let a = c.expand_a_into.new.matrix in
     let same : c.sk.inside.rho ≡ c.args.sk.now.rho = search rules in
-    let some = some_of_ok (sampled_matrix g.G.Xof.front c.sk.inside.rho g.row.K g.row.L) a c.in_ok-a_hat.ensures in
-    let there : sampled_matrix g.G.Xof.front c.args.sk.now.rho p.k p.l ≡ Some a = rw (same, c.requires.sizes.0, c.requires.sizes.1) at some in
+    let there : sampled_matrix g.G.Xof.front c.args.sk.now.rho p.k p.l ≡ Some a = rw (same, c.requires.sizes.0, c.requires.sizes.1) at c.in_ok-expand_a_into.ensures.values in
     sign-by_matrix p g.H.Xof.front g.G.Xof.front c.args.sk.now c.args.mu.now c.args.rnd.now a c.sign_with.result there c.sign_with.ensures
 
 pub returns-clause-accepted : goal.returns-clause-accepted

@@ -20,17 +20,17 @@ update_vector_with-requires g c =
     (search rules, λ r n h l. (rw G known.rounding, c.requires.range r n h l, hint-bit g.row.K c.args.h.now r n c.requires.hint h l))
 
 -- w1'
-hinted-here : (g : Over) (c : After-update_vector_with g) → c.update_vector_with.new.v ≡ hinted (set_of c.args.p.now) c.args.h.now (vector_coefficients c.args.w)
+hinted-here : (g : Over) (c : After-update_vector_with g) → c.update_vector_with.new.v ≡ hinted (set_of c.args.p.now) c.args.h.now (vector_coefficients c.args.w.now)
 hinted-here g c =
     let p = c.args.p.now in
     let G : to_z w32 (of_z w32 p.gamma2) ≡ p.gamma2 = search rules in
-    hinted-is (set_of p) c.args.h.now c.args.w c.update_vector_with.new.v g.row.K c.requires.rows
-    (c.update_vector_with.ensures.whole (λ r n. pos (use_hint (nat_abs p.gamma2) (int_lt (pos 0) (entry c.args.h.now r n)) (vector_coefficients c.args.w r n))) (λ r n y l m post. rw G at post))
+    hinted-is (set_of p) c.args.h.now c.args.w.now c.update_vector_with.new.v g.row.K c.requires.rows
+    (c.update_vector_with.ensures.whole (λ r n. pos (use_hint (nat_abs p.gamma2) (int_lt (pos 0) (entry c.args.h.now r n)) (vector_coefficients c.args.w.now r n))) (λ r n y l m post. rw G at post))
 
 pub commitment-requires : goal.commitment-requires
 commitment-requires g c =
     let p = c.args.p.now in
-    let range = hinted-range (set_of p) c.args.h.now c.args.w c.update_vector_with.new.v (rounding-size p.gamma2 (limits p (search rules)).rounding)
+    let range = hinted-range (set_of p) c.args.h.now c.args.w.now c.update_vector_with.new.v (rounding-size p.gamma2 (limits p (search rules)).rounding)
     (hinted-here g (goal.at.commitment-requires g c).After-update_vector_with) in
     (search rules, (search rules, (c.requires.rows, (c.requires.commitment_size, range))))
 

@@ -1,5 +1,5 @@
-use Rattle.std.proofs.Common.{◌≡◌, ◌∙◌, refl, arith, rules, take, length-set, map, Some, None, Err}
-use Rattle.std.proofs.lemmas.List.{length-replicate, take_all}
+use Rattle.std.proofs.Common.{◌≡◌, ◌∙◌, ap, refl, arith, rules, take, length-set, map, Some, None, Err}
+use Rattle.std.proofs.lemmas.List.{take_all}
 use Rattle.fips204_base.specs.declared.fault.Fault.TheVariants.{SamplingLimit}
 use Rattle.std.specs.List.{range_with_len}
 use Rattle.fips204_base.specs.MatrixEntry.{sampled_entry}
@@ -8,17 +8,17 @@ use Rattle.fips204_base.proofs.Sampled.{all_present-none, present_nil, present_n
 use Rattle.fips204_base.proofs.hashing.matrix.expand_row.Goals as goal
 
 pub loop-s-init : goal.loop-s-init
-loop-s-init g c = (length-replicate _ _, present_nil)
+loop-s-init g c = (c.told-row, present_nil)
 
-pub returns-in_err-row : goal.returns-in_err-row
-returns-in_err-row g c =
+pub returns-in_err-row-clause-refused : goal.returns-in_err-row-clause-refused
+returns-in_err-row-clause-refused g c =
     let entry = sampled_entry g.G.Xof.front c.args.rho.now c.args.r in
     let same : c.as_slice.result.now ≡ c.args.rho.now = search rules in
     let fault = none_of_err _ c.in_err-row.field-0.0 c.in_err-row.ensures in
     let here : entry c.loop-s.s ≡ None = rw same at fault.0 in
     let none = all_present-none entry 0 g.row.L c.loop-s.s c.loop-s.s c.loop-s-test.true (omega arith) here in
     let refused : c.from_residual.result ≡ Err SamplingLimit = search rules in
-    rw none refused
+    rw refused (none, refl)
 
 pub loop-s-preserved : goal.loop-s-preserved
 loop-s-preserved g c =
@@ -30,10 +30,10 @@ loop-s-preserved g c =
       present_next entry 0 c.loop-s.s c.loop-s.s c.loop-s.row c.in_ok-row.field-0 (omega arith) (omega (arith, c.loop-s.invariant.0, c.loop-s-test.true)) c.loop-s.invariant.1 here,
     )
 
-pub returns : goal.returns
-returns g c =
+pub returns-clause-values : goal.returns-clause-values
+returns-clause-values g c =
     let end : c.loop-s.s ≡ g.row.L = omega (arith, c.loop-s-test.false, c.loop-s.auto.s-end) in
     let entry = sampled_entry g.G.Xof.front c.args.rho.now c.args.r in
     let all : all_present (map entry (range_with_len 0 g.row.L)) ≡ Some (take g.row.L c.loop-s.row) = rw end at c.loop-s.invariant.1 in
     let whole : take g.row.L c.loop-s.row ≡ c.loop-s.row = take_all g.row.L c.loop-s.row (omega (arith, c.loop-s.invariant.0)) in
-    rw (all, whole) refl
+    all ∙ ap Some whole

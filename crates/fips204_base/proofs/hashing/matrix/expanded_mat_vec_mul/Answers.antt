@@ -4,7 +4,7 @@ use Rattle.fips204_base.specs.declared.types.T.{T}
 use Rattle.fips204_base.specs.MatrixEntry.{sampled_row, sampled_matrix}
 use Rattle.fips204_base.specs.Polynomials.{Within, row_value, vector_residues}
 use Rattle.fips204_base.specs.Residues.{coefficients}
-use Rattle.fips204_base.proofs.Sampled.{all_present-none, all_present-each, row-within, some_of_ok, none_of_err}
+use Rattle.fips204_base.proofs.Sampled.{all_present-none, all_present-each, row-within}
 use Rattle.fips204_base.proofs.Vectors.{row_written}
 use Rattle.fips204_base.proofs.hashing.matrix.expanded_mat_vec_mul.Goals as goal
 
@@ -12,25 +12,22 @@ pub returns-in_err-expand_row-clause-refused : goal.returns-in_err-expand_row-cl
 unfolding sampled_matrix
 returns-in_err-expand_row-clause-refused g c =
     let row = sampled_row g.G.Xof.front c.args.rho.now g.row.L in
-    let fault = none_of_err _ c.in_err-expand_row.field-0.0 c.in_err-expand_row.ensures in
-    let none = all_present-none row 0 g.row.K c.loop-r.r c.loop-r.r c.loop-r-test.true (omega arith) fault.0 in
+    let none = all_present-none row 0 g.row.K c.loop-r.r c.loop-r.r c.loop-r-test.true (omega arith) c.in_err-expand_row.ensures.refused.0 in
     let refused : c.from_residual.result ≡ Err SamplingLimit = search rules in
     rw refused (none, refl)
 
 pub row_sum-requires : goal.row_sum-requires
 row_sum-requires g c =
-    let there = some_of_ok _ c.in_ok-expand_row.field-0 c.in_ok-expand_row.ensures in
-    (omega (arith, c.requires.shape.1), (c.requires.shape.1, (row-within g.G.Xof.front c.args.rho.now g.row.L c.loop-r.r c.in_ok-expand_row.field-0 there, c.requires.vector)))
+    (omega (arith, c.requires.shape.1), (c.requires.shape.1, (row-within g.G.Xof.front c.args.rho.now g.row.L c.loop-r.r c.expand_row.new.row c.in_ok-expand_row.ensures.values, c.requires.vector)))
 
 pub loop-r-preserved : goal.loop-r-preserved
 loop-r-preserved g c =
     let row = sampled_row g.G.Xof.front c.args.rho.now g.row.L in
     let inside : c.loop-r.r < length c.loop-r.out = omega (arith, c.loop-r-test.true, c.loop-r.invariant.size) in
-    let there = some_of_ok _ c.in_ok-expand_row.field-0 c.in_ok-expand_row.ensures in
     record {
       size = length-set _ _ _ ∙ c.loop-r.invariant.size;
       values = row_written (λ i t. (x : List T) × (row i ≡ Some x) × ((j : ℕ) → j < 256 → coefficients t.0 j ≡ row_value g.row.L x c.args.u.now j)) c.loop-r.out c.loop-r.r c.row_sum.result record { 0 = [] }
-          inside c.loop-r.invariant.values (c.in_ok-expand_row.field-0, there, c.row_sum.ensures.values);
+          inside c.loop-r.invariant.values (c.expand_row.new.row, c.in_ok-expand_row.ensures.values, c.row_sum.ensures.values);
       small = λ i d. row_written (λ i t. Within 8380416 t.0) c.loop-r.out c.loop-r.r c.row_sum.result d
           inside (λ i h. c.loop-r.invariant.small i d h) c.row_sum.ensures.small i;
     }

@@ -1,7 +1,7 @@
-use Rattle.std.proofs.Common.{ℕ, ◌≡◌, ◌∙◌, ◌+◌, ◌++◌, [], refl, arith, rules, take, length-set, append-nil, map, nat_abs, to_z, of_z, Some, None, Err}
+use Rattle.std.proofs.Common.{ℕ, ◌≡◌, ◌∙◌, ap, ◌+◌, ◌++◌, [], refl, arith, rules, take, length-set, append-nil, map, nat_abs, to_z, of_z, Some, None, Err}
 use Rattle.std.specs.Int.{w16, w32, to_le_bytes}
 use Rattle.std.specs.List.{range_with_len}
-use Rattle.std.proofs.lemmas.List.{length-replicate, take_all}
+use Rattle.std.proofs.lemmas.List.{take_all}
 use Rattle.fips204_base.specs.declared.fault.Fault.TheVariants.{SamplingLimit}
 use Rattle.fips204_base.specs.SmallPolynomial.{small_polynomial, small_vector}
 use Rattle.fips204_base.specs.Sampling.{all_present}
@@ -9,11 +9,11 @@ use Rattle.fips204_base.proofs.Sampled.{all_present-none, present_nil, present_n
 use Rattle.fips204_base.proofs.hashing.small.small_polynomials.Goals as goal
 
 pub loop-r-init : goal.loop-r-init
-loop-r-init g c = (length-replicate _ _, present_nil)
+loop-r-init g c = (c.told-polynomials, present_nil)
 
-pub returns-in_err-polynomials : goal.returns-in_err-polynomials
+pub returns-in_err-polynomials-clause-refused : goal.returns-in_err-polynomials-clause-refused
 unfolding small_vector
-returns-in_err-polynomials g c =
+returns-in_err-polynomials-clause-refused g c =
     let polynomial = λ (r : ℕ). small_polynomial (nat_abs c.args.eta) (g.H.Xof.front (c.args.rho.now ++ to_le_bytes w16 r)) in
     let eta : to_z w32 (of_z w32 c.args.eta) ≡ c.args.eta = search rules in
     let seed : c.as_slice.result.now ≡ c.args.rho.now = search rules in
@@ -23,7 +23,7 @@ returns-in_err-polynomials g c =
     let refused : c.from_residual.result ≡ Err SamplingLimit = search rules in
     let here : polynomial (c.args.first + c.loop-r.r) ≡ None = rw (eta, seed, number, append-nil (to_le_bytes w16 (c.args.first + c.loop-r.r))) at fault.0 in
     let none : all_present (map polynomial (range_with_len c.args.first g.row.N)) ≡ None = all_present-none polynomial c.args.first g.row.N c.loop-r.r _ c.loop-r-test.true refl here in
-    rw none refused
+    rw refused (none, refl)
 
 pub loop-r-preserved : goal.loop-r-preserved
 loop-r-preserved g c =
@@ -38,12 +38,12 @@ loop-r-preserved g c =
       present_next polynomial c.args.first c.loop-r.r (c.args.first + c.loop-r.r) c.loop-r.polynomials c.in_ok-polynomials.field-0 refl (omega (arith, c.loop-r.invariant.0, c.loop-r-test.true)) c.loop-r.invariant.1 here,
     )
 
-pub returns : goal.returns
+pub returns-clause-values : goal.returns-clause-values
 unfolding small_vector
-returns g c =
+returns-clause-values g c =
     let polynomial = λ (r : ℕ). small_polynomial (nat_abs c.args.eta) (g.H.Xof.front (c.args.rho.now ++ to_le_bytes w16 r)) in
     let eta : to_z w32 (of_z w32 c.args.eta) ≡ c.args.eta = search rules in
     let end : c.loop-r.r ≡ g.row.N = omega (arith, c.loop-r-test.false, c.loop-r.auto.r-end) in
     let all : all_present (map polynomial (range_with_len c.args.first g.row.N)) ≡ Some (take g.row.N c.loop-r.polynomials) = rw (eta, end) at c.loop-r.invariant.1 in
     let whole : take g.row.N c.loop-r.polynomials ≡ c.loop-r.polynomials = take_all g.row.N c.loop-r.polynomials (omega (arith, c.loop-r.invariant.0)) in
-    rw (all, whole) refl
+    all ∙ ap Some whole

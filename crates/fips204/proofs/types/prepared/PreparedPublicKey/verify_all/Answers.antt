@@ -1,4 +1,4 @@
-use Rattle.std.proofs.Common.{rules, arith, ◌≡◌, ◌<◌, ◌∙◌, ℕ, List, [], sym, subst, length, map, get_or, Bool, false, IsTrue, Bor}
+use Rattle.std.proofs.Common.{rules, arith, ◌≡◌, ◌∙◌, ℕ, List, [], sym, subst, map, get_or, Bool, false, IsTrue, Bor}
 use Rattle.std.specs.Prelude.{◌↔◌}
 use Rattle.std.proofs.lemmas.List.{get_or-map, get_or_default, length-map}
 use Rattle.fips204.specs.Prepared.{AcceptsMessage}

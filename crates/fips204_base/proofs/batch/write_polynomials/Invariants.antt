@@ -2,7 +2,7 @@ use Rattle.std.proofs.Common.{ℕ, ◌≡◌, ◌<◌, length}
 use Rattle.fips204_base.specs.Polynomials.{entry}
 use Rattle.fips204_base.specs.Lanes.{lane_at}
 use Rattle.fips204_base.specs.declared.helpers.lanes.Lanes.{Lanes}
-use Rattle.fips204_base.proofs.batch.polynomials_of.Given as goal
+use Rattle.fips204_base.proofs.batch.write_polynomials.Given as goal
 
 abbrev pub invariant-loop-r : goal.invariant-loop-r
 invariant-loop-r g l = record {

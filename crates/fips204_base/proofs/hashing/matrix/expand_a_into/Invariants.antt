@@ -2,7 +2,7 @@ use Rattle.std.proofs.Common.{◌≡◌, length, map, take, Some}
 use Rattle.std.specs.List.{range_with_len}
 use Rattle.fips204_base.specs.MatrixEntry.{sampled_row}
 use Rattle.fips204_base.specs.Sampling.{all_present}
-use Rattle.fips204_base.proofs.hashing.matrix.expand_a.Given as goal
+use Rattle.fips204_base.proofs.hashing.matrix.expand_a_into.Given as goal
 
 abbrev pub invariant-loop-r : goal.invariant-loop-r
 invariant-loop-r g l =

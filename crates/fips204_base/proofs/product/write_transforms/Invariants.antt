@@ -2,7 +2,7 @@ use Rattle.std.proofs.Common.{ℕ, ◌≡◌, ◌<◌, get_or, length}
 use Rattle.fips204_base.specs.declared.types.T.{T}
 use Rattle.fips204_base.specs.Polynomials.{Within}
 use Rattle.fips204_base.specs.Vectors.{vector_coefficients, AreTransformsOf}
-use Rattle.fips204_base.proofs.product.transforms.Given as goal
+use Rattle.fips204_base.proofs.product.write_transforms.Given as goal
 
 abbrev pub invariant-loop-k : goal.invariant-loop-k
 invariant-loop-k g l = record {

@@ -5,7 +5,7 @@ use Rattle.fips204_base.specs.declared.helpers.lanes.Lanes.{Lanes}
 use Rattle.fips204_base.proofs.Vectors.{row_written}
 use Rattle.fips204_base.proofs.Products.{inverse_below}
 use Rattle.fips204_base.proofs.Batches.{zeros}
-use Rattle.fips204_base.proofs.batch.polynomials_of.Goals as goal
+use Rattle.fips204_base.proofs.batch.write_polynomials.Goals as goal
 
 pub loop-r-preserved : goal.loop-r-preserved
 loop-r-preserved g c =
