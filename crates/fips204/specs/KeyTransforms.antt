@@ -1,6 +1,10 @@
 -- The transforms of a private key's vectors (FIPS 204, Algorithm 7, lines 2 to 4), which signing takes for the vectors.
-use Rattle.std.specs.Prelude.{ℕ}
-use Rattle.fips204_base.specs.Polynomials.{AreReduced}
+use Rattle.std.specs.Prelude.{◌+◌, ◌≤◌, ℕ, List}
+use Rattle.fips204_base.specs.Polynomials.{AreReduced, IsReduced, IsReducedMatrix, IsReducedVector, VectorWithin}
+use Rattle.fips204_base.specs.declared.types.R.{R}
+use Rattle.fips204_base.specs.declared.types.T.{T}
+use Rattle.fips204.specs.declared.types.Params.{Params}
+use Rattle.fips204.specs.Sets.{HasSizes}
 use Rattle.fips204_base.specs.Vectors.{vector_coefficients, AreTransformsOf}
 use Rattle.fips204.specs.declared.types.prepared.KeyTransforms.{KeyTransforms}
 use Rattle.fips204.specs.Keys.{PrivateParts}
@@ -13,3 +17,24 @@ pub record AreKeyTransforms (k l : ℕ) (sk : PrivateParts) (t : KeyTransforms k
   pub reduced_first : AreReduced t.s1_hat
   pub reduced_second : AreReduced t.s2_hat
   pub reduced_low : AreReduced t.t0_hat
+
+-- what signing takes beside the key and the bytes that it signs: a set whose sizes the call has, the matrix, and the transforms
+-- of the key's vectors
+pub record AreSigningInputs (p : Params) (k l n s : ℕ) (sk : PrivateParts) (a : List (List T)) (t : KeyTransforms k l) : Type 0 where
+  pub sizes : HasSizes p k l n s
+  pub matrix : IsReducedMatrix a
+  pub transforms : AreKeyTransforms k l sk t
+
+-- what an attempt takes: the same, and a counter of its masks that leaves room for one of each row
+pub record AreAttemptInputs (p : Params) (k l n s : ℕ) (sk : PrivateParts) (a : List (List T)) (t : KeyTransforms k l) (kappa : ℕ) : Type 0 where
+  pub signing : AreSigningInputs p k l n s sk a t
+  pub counter : kappa + l ≤ 65536
+
+-- what the checks of an attempt take beside the key: the sizes and the transforms, a mask y with coefficients of at most 2^19 in
+-- absolute value, and w = A y and a challenge c with coefficients below q in absolute value
+pub record AreCheckInputs (p : Params) (k l n s : ℕ) (sk : PrivateParts) (t : KeyTransforms k l) (y w : List R) (c : R) : Type 0 where
+  pub sizes : HasSizes p k l n s
+  pub transforms : AreKeyTransforms k l sk t
+  pub mask : VectorWithin l 524288 y
+  pub product : IsReducedVector k w
+  pub challenge : IsReduced c.0

@@ -2,13 +2,13 @@
 #![tactic(auto)]
 
 ghost use Rattle.std.specs.Prelude.{◌≡◌, ◌≤◌, ◌<◌, ◌+◌, ◌⊎◌, pos, nat_abs};
-ghost use Rattle.fips204_base.specs.Polynomials.{IsReducedVector, IsReducedMatrix};
+ghost use Rattle.fips204_base.specs.Polynomials.{IsReducedVector};
 ghost use Rattle.fips204_base.specs.Residues.{residue};
 ghost use Rattle.fips204_base.specs.Rounding.{high_bits};
 ghost use Rattle.fips204_base.specs.Vectors.{vector_coefficients, vector_of};
 ghost use Rattle.fips204.specs.Attempts.{attempt};
-ghost use Rattle.fips204.specs.KeyTransforms.{AreKeyTransforms};
-ghost use Rattle.fips204.specs.Sets.{HasSizes, set_of};
+ghost use Rattle.fips204.specs.KeyTransforms.{AreAttemptInputs};
+ghost use Rattle.fips204.specs.Sets.{set_of};
 ghost use Rattle.fips204.specs.Signing.{attempt_answer};
 
 use super::commitment::commitment;
@@ -35,9 +35,7 @@ impl<const K: usize, const L: usize, H: Xof, G> PrivateKey<K, L, H, G> {
         seed: &[u8; 64],
         kappa: u16,
     ) -> Result<Option<[u8; SIG_LEN]>, Fault>
-        requires sizes { HasSizes p.now K L LAMBDA_DIV4 SIG_LEN }
-        requires transforms { IsReducedMatrix a_hat.now × AreKeyTransforms K L self.now transforms.now }
-        requires counter { kappa + L ≤ 65536 }
+        requires inputs { AreAttemptInputs p.now K L LAMBDA_DIV4 SIG_LEN self.now a_hat.now transforms.now kappa }
         ensures { result ≡ attempt_answer (attempt (set_of p.now) H.front a_hat.now self.now mu.now seed.now kappa) }
     {
         // y = ExpandMask(rho'', kappa)

@@ -4,14 +4,14 @@
 ghost use Rattle.std.specs.Prelude.{◌≡◌, ◌⊎◌, ◌<◌, ◌≤◌, ◌+◌, ◌%◌, ℕ, List, pos, nat_abs, nat_lt, ◌≤ℤ◌, Ok, Some, length};
 ghost use Rattle.fips204_base.specs.CentredValues.{centred, vector_norm};
 ghost use Rattle.fips204_base.specs.HintSpelling.{all_ones};
-ghost use Rattle.fips204_base.specs.Polynomials.{AreReduced, IsReduced, IsReducedVector, VectorWithin, Within};
+ghost use Rattle.fips204_base.specs.Polynomials.{AreReduced, IsReducedVector, VectorWithin, Within};
 ghost use Rattle.fips204_base.specs.Residues.{coefficients, residue};
 ghost use Rattle.fips204_base.specs.Rounding.{low_bits};
 ghost use Rattle.fips204_base.specs.Vectors.{vector_coefficients, vector_of, AreTransformsOf, IsTransformOf};
 ghost use Rattle.fips204_base.specs.declared.types.R.{R};
 ghost use Rattle.fips204.specs.Attempts.{checked_attempt, hint_bit, w_minus_cs2, y_plus_cs1};
-ghost use Rattle.fips204.specs.KeyTransforms.{AreKeyTransforms};
-ghost use Rattle.fips204.specs.Sets.{HasSizes, set_of};
+ghost use Rattle.fips204.specs.KeyTransforms.{AreCheckInputs};
+ghost use Rattle.fips204.specs.Sets.{set_of};
 ghost use Rattle.fips204.specs.Signing.{attempt_answer};
 
 use crate::types::{KeyTransforms, Params, PrivateKey, R, T};
@@ -36,11 +36,7 @@ impl<const K: usize, const L: usize, H, G> PrivateKey<K, L, H, G> {
         c_tilde: &[u8; LAMBDA_DIV4],
         c: &R,
     ) -> Option<[u8; SIG_LEN]>
-        requires sizes { HasSizes p.now K L LAMBDA_DIV4 SIG_LEN }
-        requires transforms { AreKeyTransforms K L self.now transforms.now }
-        requires mask { VectorWithin L 524288 y.now }
-        requires product { IsReducedVector K w.now }
-        requires challenge { IsReduced c.now.0 }
+        requires inputs { AreCheckInputs p.now K L LAMBDA_DIV4 SIG_LEN self.now transforms.now y.now w.now c.now }
         ensures { Ok result
             ≡ attempt_answer (checked_attempt (set_of p.now) self.now y.now (vector_coefficients w.now) c_tilde.now (Some c.now)) }
     {

@@ -2,9 +2,8 @@
 #![tactic(auto)]
 
 ghost use Rattle.std.specs.Prelude.{◌≡◌};
-ghost use Rattle.fips204_base.specs.Polynomials.{IsReducedMatrix};
 ghost use Rattle.fips204.specs.Completeness.{HashAccepted};
-ghost use Rattle.fips204.specs.KeyTransforms.{AreKeyTransforms};
+ghost use Rattle.fips204.specs.KeyTransforms.{AreKeyTransforms, AreSigningInputs};
 ghost use Rattle.fips204.specs.Sets.{HasSizes, set_of};
 ghost use Rattle.fips204.specs.Signing.{sign, sign_with};
 
@@ -70,9 +69,7 @@ impl<const K: usize, const L: usize, H: Xof, G> PrivateKey<K, L, H, G> {
         mu: &[u8; 64],
         rnd: &[u8; 32],
     ) -> Result<[u8; SIG_LEN], Fault>
-        requires sizes { HasSizes p.now K L LAMBDA_DIV4 SIG_LEN }
-        requires matrix { IsReducedMatrix a_hat.now }
-        requires transforms { AreKeyTransforms K L self.now transforms.now }
+        requires inputs { AreSigningInputs p.now K L LAMBDA_DIV4 SIG_LEN self.now a_hat.now transforms.now }
         ensures { result ≡ sign_with (set_of p.now) H.front a_hat.now self.now mu.now rnd.now }
     {
         // rho'' = H(K || rnd || mu)

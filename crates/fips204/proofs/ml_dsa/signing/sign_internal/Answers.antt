@@ -28,7 +28,7 @@ sign_with-requires g c =
     let known = limits p (search rules) in
     let a = c.expand_a_into.new.matrix in
     let some = c.in_ok-expand_a_into.ensures.values in
-    (search rules, (search rules, (search rules, (search rules, (search rules, (c.requires.sizes, (matrix-within g.G.Xof.front c.sk.inside.rho g.row.K g.row.L a some, c.transforms.ensures)))))))
+    (search rules, (search rules, (search rules, (search rules, (search rules, record { sizes = c.requires.sizes; matrix = matrix-within g.G.Xof.front c.sk.inside.rho g.row.K g.row.L a some; transforms = c.transforms.ensures })))))
 
 pub returns-clause-answer : goal.returns-clause-answer
 returns-clause-answer g c =

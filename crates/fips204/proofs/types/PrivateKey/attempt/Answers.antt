@@ -31,18 +31,18 @@ whole g c =
     let y : c.expand_mask-y.result ≡ mask (nat_abs p.gamma1) g.H.Xof.front c.args.seed.now g.row.L c.args.kappa = rw (to_z-of_z w32 p.gamma1 (search rules)) at c.expand_mask-y.ensures in
     let w1 : c.high_vector-w1.result ≡ vector_of g.row.K (λ r n. pos (high_bits (nat_abs p.gamma2) (vector_coefficients c.matrix_times_vector-w.result r n))) = rw (to_z-of_z w32 p.gamma2 (search rules)) at c.high_vector-w1.ensures in
     attempt-is (set_of p) g.H.Xof.front c.args.a_hat.now c.args.self.now c.args.mu.now c.args.seed.now c.args.kappa g.row.K g.row.L c.expand_mask-y.result c.matrix_times_vector-w.result
-    c.high_vector-w1.result c.commitment-c_tilde.result c.requires.sizes.0 c.requires.sizes.1 y c.matrix_times_vector-w.ensures.values w1 c.commitment-c_tilde.ensures
+    c.high_vector-w1.result c.commitment-c_tilde.result c.requires.inputs.signing.sizes.0 c.requires.inputs.signing.sizes.1 y c.matrix_times_vector-w.ensures.values w1 c.commitment-c_tilde.ensures
 
 pub expand_mask-y-requires : goal.expand_mask-y-requires
 expand_mask-y-requires g c =
     let p = c.args.p.now in
-    rw (to_z-of_z w32 p.gamma1 (search rules)) (search rules, ((limits p (search rules)).mask, c.requires.counter))
+    rw (to_z-of_z w32 p.gamma1 (search rules)) (search rules, ((limits p (search rules)).mask, c.requires.inputs.counter))
 
 pub matrix_times_vector-w-requires : goal.matrix_times_vector-w-requires
 matrix_times_vector-w-requires g c =
     let known = limits c.args.p.now (search rules) in
     let mask = small g (goal.at.matrix_times_vector-w-requires g c).After-expand_mask-y in
-    (search rules, (search rules, (search rules, (search rules, (omega (arith, c.requires.sizes.1, known.few_columns), (c.requires.transforms.0, λ r n h l. (let x = mask r n h l in omega (arith, x))))))))
+    (search rules, (search rules, (search rules, (search rules, (omega (arith, c.requires.inputs.signing.sizes.1, known.few_columns), (c.requires.inputs.signing.matrix, λ r n h l. (let x = mask r n h l in omega (arith, x))))))))
 
 pub high_vector-w1-requires : goal.high_vector-w1-requires
 high_vector-w1-requires g c =
@@ -53,7 +53,7 @@ pub commitment-c_tilde-requires : goal.commitment-c_tilde-requires
 commitment-c_tilde-requires g c =
     let p = c.args.p.now in
     let w1 : c.high_vector-w1.result ≡ vector_of g.row.K (λ r n. pos (high_bits (nat_abs p.gamma2) (vector_coefficients c.matrix_times_vector-w.result r n))) = rw (to_z-of_z w32 p.gamma2 (search rules)) at c.high_vector-w1.ensures in
-    (search rules, (search rules, (c.requires.sizes.0, (c.requires.sizes.2, high-range p.gamma2 g.row.K c.matrix_times_vector-w.result c.high_vector-w1.result (limits p (search rules)).rounding w1))))
+    (search rules, (search rules, (c.requires.inputs.signing.sizes.0, (c.requires.inputs.signing.sizes.2, high-range p.gamma2 g.row.K c.matrix_times_vector-w.result c.high_vector-w1.result (limits p (search rules)).rounding w1))))
 
 pub sample_in_ball-requires : goal.sample_in_ball-requires
 sample_in_ball-requires g c =
@@ -77,7 +77,7 @@ rejection_checks-requires g c =
     let sampled : Ok c.in_ok-c.c ≡ ok_or (challenge (nat_abs p.tau) front) SamplingLimit = rw (to_z-of_z w32 p.tau (search rules)) at c.in_ok-c.ensures in
     let reduced = challenge-reduced (nat_abs p.tau) front c.in_ok-c.c (some_of_ok (challenge (nat_abs p.tau) front) c.in_ok-c.c sampled) in
     let mask = small g (goal.at.rejection_checks-requires g c).After-expand_mask-y in
-    (search rules, (search rules, (search rules, (search rules, (search rules, (search rules, (c.requires.sizes, (c.requires.transforms.1, (mask, (c.matrix_times_vector-w.ensures.range, reduced))))))))))
+    (search rules, (search rules, (search rules, (search rules, (search rules, (search rules, record { sizes = c.requires.inputs.signing.sizes; transforms = c.requires.inputs.signing.transforms; mask = mask; product = c.matrix_times_vector-w.ensures.range; challenge = reduced }))))))
 
 pub returns : goal.returns
 returns g c =
