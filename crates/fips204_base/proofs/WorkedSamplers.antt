@@ -20,21 +20,21 @@ half_byte_examples : (coefficient_from_half_byte 2 3 ∷ coefficient_from_half_b
 half_byte_examples = refl
 
 -- over bytes 55 every half byte is 5, so every coefficient is 2
-small_over_55 : small_polynomial 2 (replicate 4096 0x55) ≡ Some record { 0 = replicate 256 (pos 2) }
+small_over_55 : small_polynomial 2 (replicate 512 0x55) ≡ Some record { 0 = replicate 256 (pos 2) }
 unfolding small_polynomial kept_half_bytes first_256
 small_over_55 = refl
 
 -- bytes 10: the low half, 0, stands before the high half, 1
-small_over_10 : small_polynomial 4 (replicate 4096 0x10) ≡ Some record { 0 = flat_map (λ _. pos 4 ∷ pos 3 ∷ []) (range_with_len 0 128) }
+small_over_10 : small_polynomial 4 (replicate 512 0x10) ≡ Some record { 0 = flat_map (λ _. pos 4 ∷ pos 3 ∷ []) (range_with_len 0 128) }
 unfolding small_polynomial kept_half_bytes first_256
 small_over_10 = refl
 
--- 896 bytes FF give nothing, and then 128 bytes 00 just enough; with one byte more there are too few within the limit
-small_at_its_limit : small_polynomial 2 (replicate 896 0xFF ++ replicate 3200 0x00) ≡ Some record { 0 = replicate 256 (pos 2) }
+-- 2 bytes FF give nothing, and then 128 bytes 00 just enough for the limit of a front of 520 bytes; with one byte more there are too few
+small_at_its_limit : small_polynomial 2 (replicate 2 0xFF ++ replicate 518 0x00) ≡ Some record { 0 = replicate 256 (pos 2) }
 unfolding small_polynomial kept_half_bytes first_256
 small_at_its_limit = refl
 
-small_past_its_limit : small_polynomial 2 (replicate 897 0xFF ++ replicate 3199 0x00) ≡ None
+small_past_its_limit : small_polynomial 2 (replicate 3 0xFF ++ replicate 517 0x00) ≡ None
 unfolding small_polynomial kept_half_bytes first_256
 small_past_its_limit = refl
 
@@ -47,7 +47,7 @@ seeds_of_entries = refl
 
 -- the seed of a small polynomial ends in its number, the low byte first: with a front that repeats the first of the two
 -- bytes, those of numbers 3 and 4 have 4 less the number at even places
-seeds_of_small : option_map (λ v. map (λ w. get_or w.0 254 (pos 0)) v) (small_vector 4 (λ seed. replicate 4096 (get_or seed 0 0)) [] 3 2) ≡ Some (pos 1 ∷ pos 0 ∷ [])
+seeds_of_small : option_map (λ v. map (λ w. get_or w.0 254 (pos 0)) v) (small_vector 4 (λ seed. replicate 512 (get_or seed 0 0)) [] 3 2) ≡ Some (pos 1 ∷ pos 0 ∷ [])
 unfolding small_vector all_present small_polynomial kept_half_bytes first_256
 seeds_of_small = refl
 
