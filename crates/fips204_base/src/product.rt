@@ -10,7 +10,9 @@ ghost use Rattle.fips204_base.specs.Vectors.{vector_coefficients, plain_row, mat
 ghost use Rattle.fips204_base.specs.declared.types.R.{R};
 ghost use Rattle.fips204_base.specs.declared.types.T.{T};
 
-use crate::batch::{differences_in_lanes, products_in_lanes, transforms_in_lanes};
+use crate::batch::{
+    write_differences_in_lanes, write_products_in_lanes, write_transforms_in_lanes,
+};
 use crate::helpers::reduce::{difference, wide_product};
 use crate::helpers::vector::row_sum;
 use crate::helpers::{Count, mat_vec_mul, partial_reduce64};
@@ -73,10 +75,11 @@ pub fn challenge_times_transforms<const K: usize>(c_hat: &T, v_hat: &[T; K]) -> 
         → (r n : ℕ) → r < K → n < 256 → entry result r n ≡ pos (product c (v r) n) }
     ensures range { IsReducedVector K result }
 {
-    if 6 < K && K <= 8 {
-        return products_in_lanes(c_hat, v_hat);
-    }
     let mut out = [R0; K];
+    if 6 < K && K <= 8 {
+        write_products_in_lanes(c_hat, v_hat, &mut out);
+        return out;
+    }
     for i in 0..K {
         let mut multiple = v_hat[i];
         update_with(&mut multiple.0, &c_hat.0, value_product);
@@ -125,7 +128,7 @@ pub(crate) fn less_challenge_product<const K: usize>(
 {
     let c_hat = transform_of(c);
     if 5 < K && K <= 8 {
-        differences_in_lanes(products, &c_hat, t, out);
+        write_differences_in_lanes(products, &c_hat, t, out);
         return;
     }
     for i in 0..K {
@@ -155,7 +158,7 @@ pub(crate) fn write_transforms<const L: usize>(v: &[R; L], out: &mut [T; L])
     ensures small { AreReduced out.new }
 {
     if 6 < L && L <= 8 {
-        transforms_in_lanes(v, out);
+        write_transforms_in_lanes(v, &[], out, &mut []);
     } else {
         for k in 0..L {
             out[k] = transform_of(&v[k]);

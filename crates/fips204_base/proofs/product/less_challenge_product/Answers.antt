@@ -28,7 +28,7 @@ loop-i-preserved g c =
     }
 
 pub returns-then-this-le8-clause-values : goal.returns-then-this-le8-clause-values
-returns-then-this-le8-clause-values g c = λ l a z_hat z products transformed r n h q. c.differences_in_lanes.ensures.values r n h q
+returns-then-this-le8-clause-values g c = λ l a z_hat z products transformed r n h q. c.write_differences_in_lanes.ensures.values r n h q
     ∙ ap pos (lane_difference l (vector_residues c.args.products.now r) (coefficients c.transform_of-c_hat.result.0) (coefficients c.args.c.now.0) (vector_coefficients c.args.t.now r)
     (matrix_residues a r) (vector_residues z_hat) (vector_coefficients z) (λ j p. products r j h p) transformed c.transform_of-c_hat.ensures.values n q)
 
