@@ -279,6 +279,11 @@ pub difference_same : (d p c x y b : ℕ → ℕ) → ((j : ℕ) → j < 256 →
 difference_same d p c x y b e i k n =
     inverse_same d (minus p (pointwise x (transform b))) (λ j r. congruent_of (e j r ∙ ap (λ v. (p j + 8380416 * v) % 8380417) (i j r ∙ ap (λ v. x j * v % 8380417) (k j r)))) n
 
+-- the same where the transform is known by its values
+pub difference_of_values : (d p c x y : ℕ → ℕ) → ((j : ℕ) → j < 256 → d j ≡ minus p c j) → ((j : ℕ) → j < 256 → c j ≡ pointwise x y j) →
+    (n : ℕ) → inverse_transform d n ≡ inverse_transform (minus p (pointwise x y)) n
+difference_of_values d p c x y e i = inverse_same d (minus p (pointwise x y)) (λ j r. congruent_of (e j r ∙ ap (λ v. (p j + 8380416 * v) % 8380417) (i j r)))
+
 -- ---- the same for whole lists
 pub product_of_transforms_listed : ProductOfTransforms
 product_of_transforms_listed a b = listed_same (inverse_transform (pointwise (transform a) (transform b))) (product a b) (product_of_transforms a b)

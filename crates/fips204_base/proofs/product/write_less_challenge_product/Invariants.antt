@@ -5,7 +5,7 @@ use Rattle.fips204_base.specs.Residues.{coefficients}
 use Rattle.fips204_base.specs.Products.{minus, pointwise}
 use Rattle.fips204_base.specs.Transforms.{transform, inverse_transform}
 use Rattle.fips204_base.specs.Vectors.{vector_coefficients}
-use Rattle.fips204_base.proofs.product.less_challenge_product.Given as goal
+use Rattle.fips204_base.proofs.product.write_less_challenge_product.Given as goal
 
 abbrev pub invariant-loop-i : goal.invariant-loop-i
 invariant-loop-i g l = record {

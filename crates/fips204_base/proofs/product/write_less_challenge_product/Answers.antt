@@ -8,7 +8,7 @@ use Rattle.fips204_base.specs.Vectors.{vector_coefficients}
 use Rattle.fips204_base.proofs.Products.{difference_same, pointwise_turned}
 use Rattle.fips204_base.proofs.Batches.{lane_difference}
 use Rattle.fips204_base.proofs.Vectors.{row_written}
-use Rattle.fips204_base.proofs.product.less_challenge_product.Goals as goal
+use Rattle.fips204_base.proofs.product.write_less_challenge_product.Goals as goal
 
 pub loop-i-preserved : goal.loop-i-preserved
 loop-i-preserved g c =
