@@ -76,7 +76,7 @@ pub fn challenge_times_transforms<const K: usize>(c_hat: &T, v_hat: &[T; K]) -> 
     ensures range { IsReducedVector K result }
 {
     let mut out = [R0; K];
-    if 6 < K && K <= 8 {
+    if 5 < K && K <= 8 {
         write_products_in_lanes(c_hat, v_hat, &mut out);
         return out;
     }
@@ -133,17 +133,10 @@ pub(crate) fn write_less_challenge_product<const K: usize>(
         → (r n : ℕ) → r < K → n < 256 → entry out.new r n ≡ pos (product_difference l a z c.now t.now r n) }
     ensures range { IsReducedVector K out.new }
 {
-    let c_hat = transform_of(c);
     if 5 < K && K <= 8 {
-        write_differences_in_lanes(products, &c_hat, t, out);
-        return;
-    }
-    for i in 0..K {
-        let mut multiple = transform_of(&t[i]);
-        update_with(&mut multiple.0, &c_hat.0, value_product);
-        let mut rest = products[i];
-        update_with(&mut rest.0, &multiple.0, difference);
-        out[i] = inverse_of(&rest);
+        write_differences_in_lanes(products, &transform_of(c), t, out);
+    } else {
+        write_less_challenge_transforms(products, c, &transforms(t), out);
     }
 }
 
@@ -165,11 +158,11 @@ pub(crate) fn write_less_challenge_transforms<const K: usize>(
 {
     let c_hat = transform_of(c);
     for i in 0..K {
-        let mut times_c = t_hat[i];
-        update_with(&mut times_c.0, &c_hat.0, value_product);
-        let mut less = products[i];
-        update_with(&mut less.0, &times_c.0, difference);
-        out[i] = inverse_of(&less);
+        let mut multiple = t_hat[i];
+        update_with(&mut multiple.0, &c_hat.0, value_product);
+        let mut rest = products[i];
+        update_with(&mut rest.0, &multiple.0, difference);
+        out[i] = inverse_of(&rest);
     }
 }
 

@@ -5,7 +5,7 @@ use Rattle.fips204_base.specs.Products.{minus, pointwise}
 use Rattle.fips204_base.specs.Transforms.{inverse_transform}
 use Rattle.fips204_base.specs.Polynomials.{coefficient_at, vector_residues, matrix_residues}
 use Rattle.fips204_base.specs.Vectors.{vector_coefficients}
-use Rattle.fips204_base.proofs.Products.{difference_of_products, difference_of_values, pointwise_turned}
+use Rattle.fips204_base.proofs.Products.{difference_of_products, difference_same, pointwise_turned}
 use Rattle.fips204_base.proofs.Vectors.{row_written}
 use Rattle.fips204_base.proofs.product.write_less_challenge_transforms.Goals as goal
 
@@ -20,7 +20,7 @@ loop-i-preserved g c =
       size = length-set _ _ _ ∙ c.loop-i.invariant.size;
       values = λ r n h q. row_written (λ r w. (n : ℕ) → n < 256 → coefficient_at w.0 n ≡ pos (inverse_transform (minus (p r) (pointwise c_hat (t r))) n)) c.loop-i.out i c.inverse_of.result record { 0 = [] }
           inside (λ r h n q. c.loop-i.invariant.values r n h q)
-          (λ n q. c.inverse_of.ensures.values n q ∙ ap pos (difference_of_values (coefficients c.update_with-in-loop-i.new.v) (p i) (coefficients c.update_with.new.v) c_hat (t i)
+          (λ n q. c.inverse_of.ensures.values n q ∙ ap pos (difference_same (coefficients c.update_with-in-loop-i.new.v) (p i) (coefficients c.update_with.new.v) c_hat (t i)
           (λ j h. (c.update_with-in-loop-i.ensures.values j h).0) (λ j h. (c.update_with.ensures.values j h).0 ∙ pointwise_turned (t i) c_hat j) n)) r h n q;
       small = λ r n h q. row_written (λ r w. (n : ℕ) → n < 256 → nat_abs (coefficient_at w.0 n) ≤ 8380416) c.loop-i.out i c.inverse_of.result record { 0 = [] }
           inside (λ r h n q. c.loop-i.invariant.small r n h q) c.inverse_of.ensures.small r h n q;
