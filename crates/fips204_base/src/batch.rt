@@ -46,6 +46,9 @@ pub(crate) fn write_transforms_in_lanes<const L: usize, const K: usize>(
 
 /// Writes the products of a challenge with at most eight polynomials, given by their transforms, all at once:
 /// coefficients from 0 to `q - 1`. The values are below `q` in absolute value.
+///
+/// Not inlined, so that its rows don't stay in the caller's frame.
+#[inline(never)]
 pub(crate) fn write_products_in_lanes<const K: usize>(c_hat: &T, t: &[T; K], out: &mut [R; K])
     requires few { K ≤ 8 }
     requires challenge { Within 8380416 c_hat.now.0 }
