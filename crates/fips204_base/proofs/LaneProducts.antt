@@ -3,7 +3,7 @@ use Rattle.std.proofs.Common.{◌≡◌, ℕ, zero, suc, ◌<◌, ◌≤◌, ◌
 use Rattle.std.specs.Prelude.{nat_abs, unsigned_abs, replicate}
 use Rattle.std.specs.Int.{int_rem_euclid, int_div_euclid, int_wrap, w32, w64}
 use Rattle.std.proofs.lemmas.Int.{ints, to_z-of_z, to_z_pos, wrapping_mul_is, wrapping_sub-bits, int_wrap_fits, SFits-int_wrap, fits_signed_from_abs}
-use lib.Signed.{shr_z}
+use lib.Signed.{shr_z, mag}
 use borrow.Author.Differences.{up, down, product_is}
 use lib.Lanes.{zip2, Each1}
 use mir.Syntax.{wrap_sub, wrap_mul, shr, cast, signed}
@@ -134,6 +134,16 @@ upper_half p f h fp fh e =
 divided : (z : ℤ) → z ≡ int_rem_euclid z (pos 4294967296) +ℤ int_div_euclid z (pos 4294967296) *ℤ pos 4294967296
 divided (pos n) = omega (arith, ints)
 divided (negsuc n) = omega (arith, ints)
+
+-- a number of 64 bits is made of its high half, which has 32 bits, and of what its low half has
+pub high_half_fits : (p : ℤ) → mag p < 9223372036854775808 → SFits w32 (int_div_euclid p (pos 4294967296))
+high_half_fits (pos n) h = record { sfits = omega (arith, ints, h) }
+high_half_fits (negsuc n) h = record { sfits = omega (arith, ints, h) }
+
+pub joined_halves : (p f : ℤ) → int_rem_euclid p (pos 4294967296) ≡ int_rem_euclid f (pos 4294967296) → p ≡ int_div_euclid p (pos 4294967296) *ℤ pos 4294967296 +ℤ int_rem_euclid f (pos 4294967296)
+joined_halves p f e =
+    let d = divided p in
+    omega (arith, ints, d, e)
 
 -- two numbers with the same lowest 32 bits
 pub same_word : (x y : ℤ) → int_rem_euclid x (pos 4294967296) ≡ int_rem_euclid y (pos 4294967296) → (k : ℤ) × (x ≡ y +ℤ k *ℤ pos 4294967296)

@@ -273,11 +273,10 @@ difference_of_products l d p c x y a b v t s e h g i f k n q =
     (congruent_sym (transform_of_minus (row_product l matrix s) (product a b) j))))) n
     ∙ (inverse_reduced (transform (minus (row_product l matrix s) (product a b))) n ∙ (congruent_equal_mod (inverse_of_transform (minus (row_product l matrix s) (product a b)) n q) ∙ omega arith))
 
--- the inverse transform of a difference, by the transforms that its second part is made of
-pub difference_same : (d p c x y b : ℕ → ℕ) → ((j : ℕ) → j < 256 → d j ≡ minus p c j) → ((j : ℕ) → j < 256 → c j ≡ pointwise x y j) → ((j : ℕ) → j < 256 → y j ≡ transform b j) →
-    (n : ℕ) → inverse_transform d n ≡ inverse_transform (minus p (pointwise x (transform b))) n
-difference_same d p c x y b e i k n =
-    inverse_same d (minus p (pointwise x (transform b))) (λ j r. congruent_of (e j r ∙ ap (λ v. (p j + 8380416 * v) % 8380417) (i j r ∙ ap (λ v. x j * v % 8380417) (k j r)))) n
+-- the inverse transform of a difference, by the values that its second part is made of
+pub difference_same : (d p c x y : ℕ → ℕ) → ((j : ℕ) → j < 256 → d j ≡ minus p c j) → ((j : ℕ) → j < 256 → c j ≡ pointwise x y j) →
+    (n : ℕ) → inverse_transform d n ≡ inverse_transform (minus p (pointwise x y)) n
+difference_same d p c x y e i = inverse_same d (minus p (pointwise x y)) (λ j r. congruent_of (e j r ∙ ap (λ v. (p j + 8380416 * v) % 8380417) (i j r)))
 
 -- ---- the same for whole lists
 pub product_of_transforms_listed : ProductOfTransforms

@@ -1,7 +1,7 @@
 //! Up to eight polynomials side by side, one in each lane of a row.
 #![tactic(auto)]
 
-ghost use Rattle.std.specs.Prelude.{◌≡◌, ◌<◌, ◌≤◌, ℕ, pos, length, slice_index_or};
+ghost use Rattle.std.specs.Prelude.{◌≡◌, ◌<◌, ◌≤◌, ◌+◌, ◌-◌, ℕ, pos, length, slice_index_or};
 ghost use Rattle.fips204_base.specs.Lanes.{lane, lane_at, residues, LanesWithin};
 ghost use Rattle.fips204_base.specs.Polynomials.{coefficient_at, entry, value_at, AreReduced, IsReducedVector, Within, vector_residues};
 ghost use Rattle.fips204_base.specs.Products.{minus, pointwise};
@@ -11,42 +11,55 @@ ghost use Rattle.fips204_base.specs.Vectors.{vector_coefficients, AreTransformsO
 
 use crate::helpers::{Count, Lanes};
 use crate::ntt::{inv_ntt_row, ntt_row};
-use crate::types::{R, R0, T};
+use crate::types::{R, T};
 
-/// Writes the transforms of a vector of at most eight polynomials, made all at once. Its coefficients are below
-/// `q` in absolute value, and so are the values.
+/// Writes the transforms of two vectors of together at most eight polynomials, made all at once. Coefficients
+/// are below `q` in absolute value, and so are the values.
 ///
 /// Not inlined, so that its rows don't stay in the caller's frame and its calls can be counted.
 #[inline(never)]
-pub(crate) fn transforms_in_lanes<const L: usize>(v: &[R; L], out: &mut [T; L])
-    requires few { L ≤ 8 }
-    requires range { IsReducedVector L v.now }
-    ensures values { AreTransformsOf L (vector_coefficients v.now) out.new }
-    ensures small { AreReduced out.new }
+pub(crate) fn write_transforms_in_lanes<const L: usize, const K: usize>(
+    v: &[R; L],
+    w: &[R; K],
+    v_hat: &mut [T; L],
+    w_hat: &mut [T; K],
+)
+    requires few { L + K ≤ 8 }
+    requires first { IsReducedVector L v.now }
+    requires second { IsReducedVector K w.now }
+    ensures first { AreTransformsOf L (vector_coefficients v.now) v_hat.new × AreReduced v_hat.new }
+    ensures second { AreTransformsOf K (vector_coefficients w.now) w_hat.new × AreReduced w_hat.new }
 {
-    let mut rows = gathered(
+    let mut rows = [Lanes::from_array([0; 8]); 256];
+    gather(
+        &mut rows,
         |r, n|
             requires { (r < 8) × (n < 256) }
-            ensures { result ≡ entry v.entry.now r n }
-        { coefficient_or_zero(v, r, n) },
+            ensures first { r < L → result ≡ entry v.entry.now r n }
+            ensures second { L ≤ r → result ≡ entry w.entry.now (r - L) n }
+        { coefficient_of_both(v, w, r, n) },
     );
     ntt_row(&mut rows, &mut Count::new());
-    for r in 0..L {
-        take_lane(&rows, r, &mut out[r].0);
-    }
+    write_values(&rows, 0, v_hat);
+    write_values(&rows, L, w_hat);
 }
 
-/// The products of a challenge with at most eight polynomials, given by their transforms, all at once:
+/// Writes the products of a challenge with at most eight polynomials, given by their transforms, all at once:
 /// coefficients from 0 to `q - 1`. The values are below `q` in absolute value.
-pub(crate) fn products_in_lanes<const K: usize>(c_hat: &T, t: &[T; K]) -> [R; K]
+///
+/// Not inlined, so that its rows don't stay in the caller's frame.
+#[inline(never)]
+pub(crate) fn write_products_in_lanes<const K: usize>(c_hat: &T, t: &[T; K], out: &mut [R; K])
     requires few { K ≤ 8 }
     requires challenge { Within 8380416 c_hat.now.0 }
     requires range { AreReduced t.now }
     ensures values { (r n : ℕ) → r < K → n < 256
-        → entry result r n ≡ pos (inverse_transform (pointwise (coefficients c_hat.now.0) (vector_residues t.now r)) n) }
-    ensures small { IsReducedVector K result }
+        → entry out.new r n ≡ pos (inverse_transform (pointwise (coefficients c_hat.now.0) (vector_residues t.now r)) n) }
+    ensures small { IsReducedVector K out.new }
 {
-    let mut rows = gathered(
+    let mut rows = [Lanes::from_array([0; 8]); 256];
+    gather(
+        &mut rows,
         |r, n|
             requires { (r < 8) × (n < 256) }
             ensures { result ≡ value_at t.entry.now r n }
@@ -55,17 +68,15 @@ pub(crate) fn products_in_lanes<const K: usize>(c_hat: &T, t: &[T; K]) -> [R; K]
     for n in 0..256 {
         rows[n] = value_of(&rows, n).times(c_hat.0[n]);
     }
-    let mut out = [R0; K];
-    write_polynomials(&mut rows, &mut out);
-    out
+    write_polynomials(&mut rows, out);
 }
 
 /// Writes at most eight transforms less the products of a challenge with as many polynomials, turned back all
 /// at once: coefficients from 0 to `q - 1`. Values and coefficients are below `q` in absolute value.
 ///
-/// Not inlined, for the same reasons as `transforms_in_lanes`.
+/// Not inlined, for the same reasons as `write_transforms_in_lanes`.
 #[inline(never)]
-pub(crate) fn differences_in_lanes<const K: usize>(
+pub(crate) fn write_differences_in_lanes<const K: usize>(
     t: &[T; K],
     c_hat: &T,
     v: &[R; K],
@@ -80,7 +91,9 @@ pub(crate) fn differences_in_lanes<const K: usize>(
         (minus (vector_residues t.now r) (pointwise (coefficients c_hat.now.0) (transform (vector_coefficients v.now r)))) n) }
     ensures small { IsReducedVector K out.new }
 {
-    let mut rows = gathered(
+    let mut rows = [Lanes::from_array([0; 8]); 256];
+    gather(
+        &mut rows,
         |r, n|
             requires { (r < 8) × (n < 256) }
             ensures { result ≡ entry v.entry.now r n }
@@ -110,22 +123,21 @@ fn write_polynomials<const K: usize>(rows: &mut [Lanes; 256], out: &mut [R; K])
     ensures small { IsReducedVector K out.new }
 {
     inv_ntt_row(rows, &mut Count::new());
-    for r in 0..K {
-        take_lane(rows, r, &mut out[r].0);
+    for n in 0..256 {
+        write_place(value_of(rows, n), n, out);
     }
 }
 
-/// The rows whose lane `r` at place `n` is what `f` gives for `r` and `n`.
+/// Writes the rows whose lane `r` at place `n` is what `f` gives for `r` and `n`.
 #[inline(always)]
-fn gathered<F: Fn(usize, usize) -> i32>(f: F) -> [Lanes; 256]
+fn gather<F: Fn(usize, usize) -> i32>(rows: &mut [Lanes; 256], f: F)
     requires { (r n : ℕ) → r < 8 → n < 256 → F.pre f r n }
-    ensures { (r n : ℕ) (d : Lanes) → r < 8 → n < 256 → F.post f r n (lane_at (λ x. x.lanes) r d result n) }
+    ensures values { (r n : ℕ) (d : Lanes) → r < 8 → n < 256 → F.post f r n (lane_at (λ x. x.lanes) r d rows.new n) }
+    ensures places { length rows.new ≡ 256 }
 {
-    let mut out = [row_at(&f, 0); 256];
-    for n in 1..256usize {
-        out[n] = row_at(&f, n);
+    for n in 0..256usize {
+        rows[n] = row_at(&f, n);
     }
-    out
 }
 
 /// The row whose lane `r` is what `f` gives for `r` and `n`.
@@ -150,6 +162,25 @@ fn coefficient_or_zero<const L: usize>(v: &[R; L], r: usize, n: usize) -> i32
     if r < L { v[r].0[n] } else { 0 }
 }
 
+/// Coefficient `n` of polynomial `r` of two vectors, the second behind the first, and 0 where they have none.
+#[inline(always)]
+fn coefficient_of_both<const L: usize, const K: usize>(
+    v: &[R; L],
+    w: &[R; K],
+    r: usize,
+    n: usize,
+) -> i32
+    requires { n < 256 }
+    ensures first { r < L → result ≡ entry v.now r n }
+    ensures second { L ≤ r → result ≡ entry w.now (r - L) n }
+{
+    if r < L {
+        v[r].0[n]
+    } else {
+        coefficient_or_zero(w, r - L, n)
+    }
+}
+
 /// Value `n` of transform `r`, and 0 where the vector has none.
 #[inline(always)]
 fn value_or_zero<const K: usize>(t: &[T; K], r: usize, n: usize) -> i32
@@ -159,16 +190,58 @@ fn value_or_zero<const K: usize>(t: &[T; K], r: usize, n: usize) -> i32
     if r < K { t[r].0[n] } else { 0 }
 }
 
-/// Writes lane `r` of each row to its place.
+/// Writes the transforms whose values are the `L` lanes from `first` on.
 #[inline(always)]
-fn take_lane(rows: &[Lanes; 256], r: usize, out: &mut [i32; 256])
-    requires { r < 8 }
-    ensures values { (n : ℕ) (d : Lanes) → n < 256 → coefficient_at out.new n ≡ lane_at (λ x. x.lanes) r d rows.now n }
-    ensures places { length out.new ≡ 256 }
+fn write_values<const L: usize>(rows: &[Lanes; 256], first: usize, out: &mut [T; L])
+    requires few { first + L ≤ 8 }
+    requires range { LanesWithin (λ x. x.lanes) 8 8380416 rows.now }
+    ensures values { (r n : ℕ) (d : Lanes) → r < L → n < 256 → value_at out.new r n ≡ lane_at (λ x. x.lanes) (first + r) d rows.now n }
+    ensures small { AreReduced out.new }
 {
     for n in 0..256 {
-        out[n] = value_of(rows, n).to_array()[r];
+        write_value(value_of(rows, n), first, n, out);
     }
+}
+
+/// Writes value `n` of each transform, from lane `first` of a row on.
+#[inline(always)]
+fn write_value<const L: usize>(row: Lanes, first: usize, n: usize, out: &mut [T; L])
+    requires few { first + L ≤ 8 }
+    requires place { n < 256 }
+    ensures values { (r : ℕ) → r < L → value_at out.new r n ≡ lane row.lanes (first + r) }
+    ensures before { (r m : ℕ) → r < L → m < n → value_at out.new r m ≡ value_at out.old r m }
+    ensures size { length out.new ≡ L }
+    ensures places { (r : ℕ) (d : T) → r < L → length (slice_index_or out.new r d).0 ≡ 256 }
+{
+    let entries = row.to_array();
+    for r in 0..L {
+        put(&mut out[r].0, n, entries[first + r]);
+    }
+}
+
+/// Writes coefficient `n` of each polynomial, from the first lanes of a row.
+#[inline(always)]
+fn write_place<const K: usize>(row: Lanes, n: usize, out: &mut [R; K])
+    requires few { K ≤ 8 }
+    requires place { n < 256 }
+    ensures values { (r : ℕ) → r < K → entry out.new r n ≡ lane row.lanes r }
+    ensures before { (r m : ℕ) → r < K → m < n → entry out.new r m ≡ entry out.old r m }
+{
+    let entries = row.to_array();
+    for r in 0..K {
+        put(&mut out[r].0, n, entries[r]);
+    }
+}
+
+/// Writes one of 256 numbers.
+#[inline(always)]
+fn put(w: &mut [i32; 256], n: usize, x: i32)
+    requires { n < 256 }
+    ensures value { coefficient_at w.new n ≡ x }
+    ensures before { (m : ℕ) → m < n → coefficient_at w.new m ≡ coefficient_at w.old m }
+    ensures places { length w.new ≡ 256 }
+{
+    w[n] = x;
 }
 
 /// The value at place `n`.

@@ -1,7 +1,7 @@
 //! Products of plain polynomials, computed through transforms.
 #![tactic(auto)]
 
-ghost use Rattle.std.specs.Prelude.{◌≡◌, ◌≤◌, ◌<◌, ◌*◌, ◌%◌, ℕ, List, pos, nat_abs};
+ghost use Rattle.std.specs.Prelude.{◌≡◌, ◌≤◌, ◌<◌, ◌+◌, ◌*◌, ◌%◌, ℕ, List, IsTrue, pos, nat_abs};
 ghost use Rattle.fips204_base.specs.Residues.{residue, coefficients};
 ghost use Rattle.fips204_base.specs.Products.{product, row_product};
 ghost use Rattle.fips204_base.specs.Transforms.{inverse_transform};
@@ -10,7 +10,9 @@ ghost use Rattle.fips204_base.specs.Vectors.{vector_coefficients, plain_row, mat
 ghost use Rattle.fips204_base.specs.declared.types.R.{R};
 ghost use Rattle.fips204_base.specs.declared.types.T.{T};
 
-use crate::batch::{differences_in_lanes, products_in_lanes, transforms_in_lanes};
+use crate::batch::{
+    write_differences_in_lanes, write_products_in_lanes, write_transforms_in_lanes,
+};
 use crate::helpers::reduce::{difference, wide_product};
 use crate::helpers::vector::row_sum;
 use crate::helpers::{Count, mat_vec_mul, partial_reduce64};
@@ -73,10 +75,11 @@ pub fn challenge_times_transforms<const K: usize>(c_hat: &T, v_hat: &[T; K]) -> 
         → (r n : ℕ) → r < K → n < 256 → entry result r n ≡ pos (product c (v r) n) }
     ensures range { IsReducedVector K result }
 {
-    if 6 < K && K <= 8 {
-        return products_in_lanes(c_hat, v_hat);
-    }
     let mut out = [R0; K];
+    if 5 < K && K <= 8 {
+        write_products_in_lanes(c_hat, v_hat, &mut out);
+        return out;
+    }
     for i in 0..K {
         let mut multiple = v_hat[i];
         update_with(&mut multiple.0, &c_hat.0, value_product);
@@ -103,13 +106,20 @@ pub fn matrix_times_vector_less<const K: usize, const L: usize>(
     ensures range { IsReducedVector K result }
 {
     let mut out = [R0; K];
-    less_challenge_product(&mat_vec_mul(a_hat, &transforms(z)), c, t, &mut out);
+    if share_rows::<L, K>() {
+        let mut z_hat = [T0; L];
+        let mut t_hat = [T0; K];
+        write_transforms_of_both(z, t, &mut z_hat, &mut t_hat);
+        write_less_challenge_transforms(&mat_vec_mul(a_hat, &z_hat), c, &t_hat, &mut out);
+    } else {
+        write_less_challenge_product(&mat_vec_mul(a_hat, &transforms(z)), c, t, &mut out);
+    }
     out
 }
 
 /// Writes the product of a matrix with a vector, given by its transforms, less the product of a challenge with
 /// a vector: coefficients from 0 to `q - 1`. Values and coefficients are below `q` in absolute value.
-pub(crate) fn less_challenge_product<const K: usize>(
+pub(crate) fn write_less_challenge_product<const K: usize>(
     products: &[T; K],
     c: &R,
     t: &[R; K],
@@ -123,13 +133,32 @@ pub(crate) fn less_challenge_product<const K: usize>(
         → (r n : ℕ) → r < K → n < 256 → entry out.new r n ≡ pos (product_difference l a z c.now t.now r n) }
     ensures range { IsReducedVector K out.new }
 {
-    let c_hat = transform_of(c);
     if 5 < K && K <= 8 {
-        differences_in_lanes(products, &c_hat, t, out);
-        return;
+        write_differences_in_lanes(products, &transform_of(c), t, out);
+    } else {
+        write_less_challenge_transforms(products, c, &transforms(t), out);
     }
+}
+
+/// `write_less_challenge_product` of a vector that is given by its transforms, with values below `q` in absolute
+/// value.
+pub(crate) fn write_less_challenge_transforms<const K: usize>(
+    products: &[T; K],
+    c: &R,
+    t_hat: &[T; K],
+    out: &mut [R; K],
+)
+    requires products { AreReduced products.now }
+    requires challenge { IsReduced c.now.0 }
+    requires less { AreReduced t_hat.now }
+    ensures values { (l : ℕ) (a : List (List T)) (z_hat : List T) (z t : List R) → AreRowProducts K l a z_hat products.now
+        → AreTransformsOf l (vector_coefficients z) z_hat → AreTransformsOf K (vector_coefficients t) t_hat.now
+        → (r n : ℕ) → r < K → n < 256 → entry out.new r n ≡ pos (product_difference l a z c.now t r n) }
+    ensures range { IsReducedVector K out.new }
+{
+    let c_hat = transform_of(c);
     for i in 0..K {
-        let mut multiple = transform_of(&t[i]);
+        let mut multiple = t_hat[i];
         update_with(&mut multiple.0, &c_hat.0, value_product);
         let mut rest = products[i];
         update_with(&mut rest.0, &multiple.0, difference);
@@ -155,12 +184,41 @@ pub(crate) fn write_transforms<const L: usize>(v: &[R; L], out: &mut [T; L])
     ensures small { AreReduced out.new }
 {
     if 6 < L && L <= 8 {
-        transforms_in_lanes(v, out);
+        write_transforms_in_lanes(v, &[], out, &mut []);
     } else {
         for k in 0..L {
             out[k] = transform_of(&v[k]);
         }
     }
+}
+
+/// Writes the transforms of two vectors, in the lanes of the same rows where these hold both. Coefficients are
+/// below `q` in absolute value, and so are the values.
+pub fn write_transforms_of_both<const L: usize, const K: usize>(
+    v: &[R; L],
+    w: &[R; K],
+    v_hat: &mut [T; L],
+    w_hat: &mut [T; K],
+)
+    requires first { IsReducedVector L v.now }
+    requires second { IsReducedVector K w.now }
+    ensures first { AreTransformsOf L (vector_coefficients v.now) v_hat.new × AreReduced v_hat.new }
+    ensures second { AreTransformsOf K (vector_coefficients w.now) w_hat.new × AreReduced w_hat.new }
+{
+    if share_rows::<L, K>() {
+        write_transforms_in_lanes(v, w, v_hat, w_hat);
+    } else {
+        write_transforms(v, v_hat);
+        write_transforms(w, w_hat);
+    }
+}
+
+/// Whether vectors of `L` and of `K` polynomials are transformed in the lanes of the same rows: where each of them
+/// leaves lanes, and both take seven or eight.
+pub(crate) fn share_rows<const L: usize, const K: usize>() -> bool
+    ensures { IsTrue result → L + K ≤ 8 }
+{
+    L < 7 && K < 7 && 6 < L + K && L + K <= 8
 }
 
 /// The transform of a polynomial. Its coefficients are below `q` in absolute value, and so are the values.

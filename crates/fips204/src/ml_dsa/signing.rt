@@ -10,7 +10,7 @@ ghost use Rattle.fips204.specs.Signing.{sign, sign_with};
 use crate::types::{KeyTransforms, Params, PrivateKey, T, T0};
 use fips204_base::Fault;
 use fips204_base::hashing::expand_a_into;
-use fips204_base::product::transforms;
+use fips204_base::product::{transforms, write_transforms_of_both};
 use fips204_base::xof::{Xof, hash};
 
 /// How many attempts signing makes (FIPS 204, Appendix C).
@@ -50,9 +50,12 @@ impl<const K: usize, const L: usize, H, G> PrivateKey<K, L, H, G> {
     pub(crate) fn transforms(&self) -> KeyTransforms<K, L>
         ensures { AreKeyTransforms K L self.now result }
     {
+        let mut s1_hat = [T0; L];
+        let mut s2_hat = [T0; K];
+        write_transforms_of_both(&self.s1, &self.s2, &mut s1_hat, &mut s2_hat);
         KeyTransforms {
-            s1_hat: transforms(&self.s1),
-            s2_hat: transforms(&self.s2),
+            s1_hat,
+            s2_hat,
             t0_hat: transforms(&self.t0),
         }
     }

@@ -13,7 +13,10 @@ use crate::conversion::coeff_from_three_bytes;
 use crate::fault::Fault;
 use crate::hashing::keep;
 use crate::helpers::vector::row_sum;
-use crate::product::{less_challenge_product, row_times_vector, write_transforms};
+use crate::product::{
+    row_times_vector, share_rows, write_less_challenge_product, write_less_challenge_transforms,
+    write_transforms, write_transforms_of_both,
+};
 use crate::types::{R, T, T0};
 use crate::xof::{Xof, XofReader};
 
@@ -175,9 +178,16 @@ pub fn expanded_times_vector_less<const K: usize, const L: usize, G: Xof>(
     ensures range { IfOk result (λ _. IsReducedVector K out.new) }
 {
     let mut z_hat = [T0; L];
-    write_transforms(z, &mut z_hat);
     let mut products = [T0; K];
+    if share_rows::<L, K>() {
+        let mut t_hat = [T0; K];
+        write_transforms_of_both(z, t, &mut z_hat, &mut t_hat);
+        expanded_mat_vec_mul::<K, L, G>(rho, &z_hat, &mut products)?;
+        write_less_challenge_transforms(&products, c, &t_hat, out);
+        return Ok(());
+    }
+    write_transforms(z, &mut z_hat);
     expanded_mat_vec_mul::<K, L, G>(rho, &z_hat, &mut products)?;
-    less_challenge_product(&products, c, t, out);
+    write_less_challenge_product(&products, c, t, out);
     Ok(())
 }

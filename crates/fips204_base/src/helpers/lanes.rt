@@ -1,8 +1,8 @@
 //! Eight values for the butterflies in one row, which goes through each step at once.
 #![tactic(auto)]
 
-ghost use Rattle.std.specs.Prelude.{◌≡◌, ℕ, ◌<◌, ◌≤◌, ◌+◌, ◌*◌, ◌%◌, pos, ◌+ℤ◌, ◌*ℤ◌, length, nat_abs, slice_index_or, FitsSigned};
-ghost use Rattle.std.specs.Int.{int_rem_euclid, w32};
+ghost use Rattle.std.specs.Prelude.{◌≡◌, ℕ, ◌<◌, ◌≤◌, ◌+◌, ◌*◌, ◌%◌, pos, ◌*ℤ◌, length, nat_abs, slice_index_or, FitsSigned};
+ghost use Rattle.std.specs.Int.{int_rem_euclid, int_div_euclid, w32};
 ghost use Rattle.fips204_base.specs.Residues.{residue, IsCongruent};
 ghost use Rattle.fips204_base.specs.Lanes.{lane, EachLane};
 
@@ -117,7 +117,7 @@ fn mont_products(x: Lanes, factor: i32) -> Lanes
     ensures congruent { EachLane (λ x y. IsCongruent (4294967296 * residue y) (residue x * residue factor)) 8 x.lanes result.lanes }
     ensures small { (j : ℕ) → j < 8 → nat_abs (lane result.lanes j) ≤ 8380416 }
 {
-    let both = i64x8::splat(two_words(low_factor(factor), factor));
+    let both = i64x8::splat(factor_words(factor));
     let word = i64x8::splat(32);
     // t = the low word of x factor q^-1, and x factor - t q is a multiple of 2^32
     let low = x.lanes * (both >> word).cast::<i32>();
@@ -128,19 +128,15 @@ fn mont_products(x: Lanes, factor: i32) -> Lanes
     }
 }
 
-/// The signed word whose product with `q` has the lowest 32 bits of `factor`; 58728449 is the inverse of
-/// `q` modulo `2^32`.
-fn low_factor(factor: i32) -> i32
-    ensures { int_rem_euclid (result *ℤ pos 8380417) (pos 4294967296) ≡ int_rem_euclid factor (pos 4294967296) }
+/// The number of 64 bits whose low word has the bits of `factor`, and whose high word gives the lowest 32 bits of
+/// `factor` where it is multiplied by `q`; 58728449 is the inverse of `q` modulo `2^32`.
+fn factor_words(factor: i32) -> i64
+    ensures low { int_rem_euclid result (pos 4294967296) ≡ int_rem_euclid factor (pos 4294967296) }
+    ensures high { int_rem_euclid (int_div_euclid result (pos 4294967296) *ℤ pos 8380417) (pos 4294967296) ≡ int_rem_euclid factor (pos 4294967296) }
 {
-    factor.cast_unsigned().wrapping_mul(58728449).cast_signed()
-}
-
-/// The number of 64 bits whose words are `high`, which gives the sign, and the bits of `low`.
-fn two_words(high: i32, low: i32) -> i64
-    ensures { result ≡ high *ℤ pos 4294967296 +ℤ int_rem_euclid low (pos 4294967296) }
-{
-    i64::from(high) * 4294967296 + i64::from(low.cast_unsigned())
+    u64::from(factor.cast_unsigned())
+        .wrapping_mul((58728449 << 32) + 1)
+        .cast_signed()
 }
 
 /// Each lane modulo `q`, from 0 to `q - 1`, for lanes below `q` in absolute value.

@@ -25,4 +25,4 @@ loop-i-preserved g c =
     }
 
 pub returns-then-this-le8-clause-values : goal.returns-then-this-le8-clause-values
-returns-then-this-le8-clause-values g c = λ challenge v f k r n h q. c.products_in_lanes.ensures.values r n h q ∙ ap pos (lane_product (coefficients c.args.c_hat.now.0) (vector_residues c.args.v_hat.now r) challenge (v r) f (λ j p. k r j h p) n q)
+returns-then-this-le8-clause-values g c = λ challenge v f k r n h q. c.write_products_in_lanes.ensures.values r n h q ∙ ap pos (lane_product (coefficients c.args.c_hat.now.0) (vector_residues c.args.v_hat.now r) challenge (v r) f (λ j p. k r j h p) n q)

@@ -1,6 +1,6 @@
 use Rattle.std.proofs.Common.{ℕ, ℤ, ◌≡◌, ◌<◌, ◌≤◌, ◌*◌, ◌%◌, ◌+ℤ◌, ◌*ℤ◌, ◌∙◌, pos, get_or, length, arith, sym, ap, subst, to_z, of_z, List, map}
 use Rattle.std.specs.Prelude.{nat_abs}
-use Rattle.std.specs.Int.{w32, w64, int_rem_euclid}
+use Rattle.std.specs.Int.{w32, w64, int_rem_euclid, int_div_euclid}
 use Rattle.std.proofs.lemmas.Int.{to_z-of_z, fits_signed_from_abs}
 use lib.Signed.{shr_z, mag}
 use lib.Lanes.{Each1}
@@ -13,13 +13,13 @@ use Rattle.fips204_base.specs.Lanes.{lane}
 use Rattle.fips204_base.specs.declared.helpers.lanes.Lanes.{Lanes}
 use Rattle.fips204_base.proofs.Residues.{congruent_trans}
 use Rattle.fips204_base.proofs.Residues.{residue_mul, montgomery_congruent}
-use Rattle.fips204_base.proofs.LaneProducts.{Taken, taken, taken_is, lower_half, upper_half, same_word, row, row_is, read_at, read_length, narrowed, taken_wide, taken_read}
+use Rattle.fips204_base.proofs.LaneProducts.{Taken, taken, taken_is, lower_half, upper_half, high_half_fits, joined_halves, same_word, row, row_is, read_at, read_length, narrowed, taken_wide, taken_read}
 use Rattle.fips204_base.proofs.helpers.lanes.mont_products.Goals as goal
 
--- the arguments, and what the two calls return and promise
-module _ (x : Lanes) (factor low p : ℤ) (factor_fits : SFits w32 factor) (bound : nat_abs factor ≤ 8380416) (low_mag : mag low < 2147483648) (p_mag : mag p < 9223372036854775808)
-    (low_is : int_rem_euclid (low *ℤ pos 8380417) (pos 4294967296) ≡ int_rem_euclid (to_z w32 (of_z w32 factor)) (pos 4294967296))
-    (p_is : p ≡ to_z w32 (of_z w32 low) *ℤ pos 4294967296 +ℤ int_rem_euclid (to_z w32 (of_z w32 factor)) (pos 4294967296)) where
+-- the arguments, and what the call returns and promises
+module _ (x : Lanes) (factor p : ℤ) (factor_fits : SFits w32 factor) (bound : nat_abs factor ≤ 8380416) (p_mag : mag p < 9223372036854775808)
+    (low_is : int_rem_euclid p (pos 4294967296) ≡ int_rem_euclid (to_z w32 (of_z w32 factor)) (pos 4294967296))
+    (high_is : int_rem_euclid (int_div_euclid p (pos 4294967296) *ℤ pos 8380417) (pos 4294967296) ≡ int_rem_euclid (to_z w32 (of_z w32 factor)) (pos 4294967296)) where
   -- the factor and its companion, as the vectors hold them
   abbrev F : ℕ
   F = of_z w64 (shr_z (to_z w64 (of_z w64 p * 4294967296 % 18446744073709551616)) 4294967296)
@@ -27,15 +27,20 @@ module _ (x : Lanes) (factor low p : ℤ) (factor_fits : SFits w32 factor) (boun
   abbrev G : ℕ
   G = of_z w32 (to_z w64 (of_z w64 (shr_z (to_z w64 (of_z w64 p)) 4294967296)))
 
-  low_fits : SFits w32 low
-  low_fits = record { sfits = low_mag }
+  abbrev high : ℤ
+  high = int_div_euclid p (pos 4294967296)
+
+  high_fits : SFits w32 high
+  high_fits = high_half_fits p p_mag
+
+  halves : p ≡ high *ℤ pos 4294967296 +ℤ int_rem_euclid factor (pos 4294967296)
+  halves = joined_halves p factor (rw (to_z-of_z w32 factor factor_fits) at low_is)
 
   one : (j : ℕ) → j < 8 → Taken (lane x.lanes j) factor (taken F G (lane x.lanes j))
   one j h =
-      let halves = rw (to_z-of_z w32 low low_fits, to_z-of_z w32 factor factor_fits) at p_is in
-      let e = same_word (low *ℤ pos 8380417) factor (rw (to_z-of_z w32 factor factor_fits) at low_is) in
-      taken_is (lane x.lanes j) factor low e.0 F G (x.fits j h) factor_fits low_fits bound e.1
-      (lower_half p factor low factor_fits low_fits halves) (upper_half p factor low (record { sfits = p_mag }) low_fits halves)
+      let e = same_word (high *ℤ pos 8380417) factor (rw (to_z-of_z w32 factor factor_fits) at high_is) in
+      taken_is (lane x.lanes j) factor high e.0 F G (x.fits j h) factor_fits high_fits bound e.1
+      (lower_half p factor high factor_fits high_fits halves) (upper_half p factor high (record { sfits = p_mag }) high_fits halves)
 
   whole : row 8 F G x.lanes ≡ map (taken F G) x.lanes
   whole = row_is 8 F G x.lanes x.eight
@@ -68,16 +73,16 @@ module _ (x : Lanes) (factor low p : ℤ) (factor_fits : SFits w32 factor) (boun
   small j h = subst (λ z. nat_abs z ≤ 8380416) (sym (at j h)) (one j h).small
 
 pub overflow_cast-result : goal.overflow_cast-result
-overflow_cast-result c = asked c.args.x c.args.factor c.low_factor.result c.two_words-both.result c.ranges.factor c.requires c.low_factor.type_inv c.two_words-both.type_inv c.low_factor.ensures c.two_words-both.ensures
+overflow_cast-result c = asked c.args.x c.args.factor c.factor_words-both.result c.ranges.factor c.requires c.factor_words-both.type_inv c.factor_words-both.ensures.low c.factor_words-both.ensures.high
 
 pub invariant_of-result : goal.invariant_of-result
 invariant_of-result c = record {
-  eight = eight c.args.x c.args.factor c.low_factor.result c.two_words-both.result c.ranges.factor c.requires c.low_factor.type_inv c.two_words-both.type_inv c.low_factor.ensures c.two_words-both.ensures;
-  fits = fit c.args.x c.args.factor c.low_factor.result c.two_words-both.result c.ranges.factor c.requires c.low_factor.type_inv c.two_words-both.type_inv c.low_factor.ensures c.two_words-both.ensures;
+  eight = eight c.args.x c.args.factor c.factor_words-both.result c.ranges.factor c.requires c.factor_words-both.type_inv c.factor_words-both.ensures.low c.factor_words-both.ensures.high;
+  fits = fit c.args.x c.args.factor c.factor_words-both.result c.ranges.factor c.requires c.factor_words-both.type_inv c.factor_words-both.ensures.low c.factor_words-both.ensures.high;
 }
 
 pub returns-clause-congruent : goal.returns-clause-congruent
-returns-clause-congruent c = congruent c.args.x c.args.factor c.low_factor.result c.two_words-both.result c.ranges.factor c.requires c.low_factor.type_inv c.two_words-both.type_inv c.low_factor.ensures c.two_words-both.ensures
+returns-clause-congruent c = congruent c.args.x c.args.factor c.factor_words-both.result c.ranges.factor c.requires c.factor_words-both.type_inv c.factor_words-both.ensures.low c.factor_words-both.ensures.high
 
 pub returns-clause-small : goal.returns-clause-small
-returns-clause-small c = small c.args.x c.args.factor c.low_factor.result c.two_words-both.result c.ranges.factor c.requires c.low_factor.type_inv c.two_words-both.type_inv c.low_factor.ensures c.two_words-both.ensures
+returns-clause-small c = small c.args.x c.args.factor c.factor_words-both.result c.ranges.factor c.requires c.factor_words-both.type_inv c.factor_words-both.ensures.low c.factor_words-both.ensures.high

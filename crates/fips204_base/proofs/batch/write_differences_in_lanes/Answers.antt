@@ -11,7 +11,7 @@ use Rattle.fips204_base.proofs.Residues.{congruent_of, congruent_trans, congruen
 use Rattle.fips204_base.proofs.Products.{inverse_same, transform_same, transform_below}
 use Rattle.fips204_base.proofs.Vectors.{row_written}
 use Rattle.fips204_base.proofs.Batches.{zeros, difference_named}
-use Rattle.fips204_base.proofs.batch.differences_in_lanes.Goals as goal
+use Rattle.fips204_base.proofs.batch.write_differences_in_lanes.Goals as goal
 
 pub loop-n-init : goal.loop-n-init
 loop-n-init g c = record {
@@ -20,7 +20,7 @@ loop-n-init g c = record {
   small = λ p j d h q. absurd (omega (arith, h));
   ahead = λ p j d l h q. congruent_equal
       (congruent_trans (c.ntt_row.ensures.values p j d h q)
-      (congruent_of (transform_same (residues (λ (x : Lanes). x.lanes) j d c.gathered-rows.result) (vector_coefficients c.args.v.now j) (λ n k. congruent_of (ap residue (c.gathered-rows.ensures j n d q k))) p)))
+      (congruent_of (transform_same (residues (λ (x : Lanes). x.lanes) j d c.gather.new.rows) (vector_coefficients c.args.v.now j) (λ n k. congruent_of (ap residue (c.gather.ensures.values j n d q k))) p)))
       (residue_below (lane_at (λ (x : Lanes). x.lanes) j d c.ntt_row.new.w p)) (transform_below (vector_coefficients c.args.v.now j) p);
 }
 

@@ -5,7 +5,7 @@ use Rattle.fips204_base.specs.Polynomials.{value_at, vector_residues}
 use Rattle.fips204_base.specs.Products.{pointwise}
 use Rattle.fips204_base.specs.Residues.{coefficients}
 use Rattle.fips204_base.specs.declared.helpers.lanes.Lanes.{Lanes}
-use Rattle.fips204_base.proofs.batch.products_in_lanes.Given as goal
+use Rattle.fips204_base.proofs.batch.write_products_in_lanes.Given as goal
 
 abbrev pub invariant-loop-n : goal.invariant-loop-n
 invariant-loop-n g l = record {

@@ -7,7 +7,7 @@ use Rattle.fips204_base.specs.Residues.{coefficients}
 use Rattle.fips204_base.specs.Transforms.{transform}
 use Rattle.fips204_base.specs.Vectors.{vector_coefficients}
 use Rattle.fips204_base.specs.declared.helpers.lanes.Lanes.{Lanes}
-use Rattle.fips204_base.proofs.batch.differences_in_lanes.Given as goal
+use Rattle.fips204_base.proofs.batch.write_differences_in_lanes.Given as goal
 
 abbrev pub invariant-loop-n : goal.invariant-loop-n
 invariant-loop-n g l = record {

@@ -7,7 +7,7 @@ use Rattle.fips204_base.specs.declared.helpers.lanes.Lanes.{Lanes}
 use Rattle.fips204_base.proofs.Residues.{congruent_of}
 use Rattle.fips204_base.proofs.Products.{inverse_same}
 use Rattle.fips204_base.proofs.Batches.{zeros}
-use Rattle.fips204_base.proofs.batch.products_in_lanes.Goals as goal
+use Rattle.fips204_base.proofs.batch.write_products_in_lanes.Goals as goal
 
 pub returns-clause-values : goal.returns-clause-values
 returns-clause-values g c = λ r n h q. c.write_polynomials.ensures.values r n zeros h q
