@@ -124,7 +124,7 @@ fn write_polynomials<const K: usize>(rows: &mut [Lanes; 256], out: &mut [R; K])
 {
     inv_ntt_row(rows, &mut Count::new());
     for n in 0..256 {
-        write_place(value_of(rows, n), n, out);
+        write_coefficient(value_of(rows, n), n, out);
     }
 }
 
@@ -221,7 +221,7 @@ fn write_value<const L: usize>(row: Lanes, first: usize, n: usize, out: &mut [T;
 
 /// Writes coefficient `n` of each polynomial, from the first lanes of a row.
 #[inline(always)]
-fn write_place<const K: usize>(row: Lanes, n: usize, out: &mut [R; K])
+fn write_coefficient<const K: usize>(row: Lanes, n: usize, out: &mut [R; K])
     requires few { K ≤ 8 }
     requires place { n < 256 }
     ensures values { (r : ℕ) → r < K → entry out.new r n ≡ lane row.lanes r }
