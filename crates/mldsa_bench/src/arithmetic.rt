@@ -1,7 +1,7 @@
 //! Reductions, norms and the inverse transform on values worked out from the standard's arithmetic.
 #![tactic(auto)]
 
-ghost use Rattle.std.specs.Prelude.{◌≤◌, ◌<◌, nat_abs};
+ghost use Rattle.std.specs.Prelude.{◌≤◌, ◌<◌, ◌≤ℤ◌, ◌-ℤ◌, pos, nat_abs};
 ghost use Rattle.std.specs.List.{All};
 
 use fips204::hashing::sample_in_ball;
@@ -12,13 +12,21 @@ use fips204::types::{R, T};
 use fips204::xof::Fill;
 use std::test::Fail;
 
+/// Whether a number is reduced to this one.
+fn is_reduced_to(wide: i64, reduced: i32) -> bool
+    requires low { (pos 0 -ℤ pos 17996808470921216) ≤ℤ wide }
+    requires high { wide ≤ℤ pos 17996808462540799 }
+{
+    mont_reduce(wide) == reduced
+}
+
 #[test]
 fn montgomery_reductions(rt: HostRuntime) -> Result<(), Fail> {
-    assert_eq!(rt; mont_reduce(0), 0);
-    assert_eq!(rt; mont_reduce(1), -114592);
-    assert_eq!(rt; mont_reduce(4294967296), 1);
-    assert_eq!(rt; mont_reduce(-17996808470921216), 0);
-    assert_eq!(rt; mont_reduce(17996808462540799), 0);
+    assert!(rt; is_reduced_to(0, 0));
+    assert!(rt; is_reduced_to(1, -114592));
+    assert!(rt; is_reduced_to(4294967296, 1));
+    assert!(rt; is_reduced_to(-17996808470921216, 0));
+    assert!(rt; is_reduced_to(17996808462540799, 0));
     Ok(())
 }
 
@@ -28,12 +36,19 @@ fn first_powers_of_zeta(rt: HostRuntime) -> Result<(), Fail> {
     Ok(())
 }
 
+/// Whether a number is centred to this one.
+fn is_centred_to(x: i32, centred: i32) -> bool
+    requires { nat_abs x ≤ 2143289343 }
+{
+    center_mod(x) == centred
+}
+
 #[test]
 fn centred_values(rt: HostRuntime) -> Result<(), Fail> {
-    assert_eq!(rt; center_mod(0), 0);
-    assert_eq!(rt; center_mod(4190208), 4190208);
-    assert_eq!(rt; center_mod(4190209), -4190208);
-    assert_eq!(rt; center_mod(8380416), -1);
+    assert!(rt; is_centred_to(0, 0));
+    assert!(rt; is_centred_to(4190208, 4190208));
+    assert!(rt; is_centred_to(4190209, -4190208));
+    assert!(rt; is_centred_to(8380416, -1));
     Ok(())
 }
 

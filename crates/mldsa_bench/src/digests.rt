@@ -73,19 +73,27 @@ fn longest_identifiers(rt: HostRuntime) -> Result<(), Fail> {
     Ok(())
 }
 
+/// Whether the recorded private key signs a digest with the recorded signature.
+fn is_signed(digest: &[u8], ctx: &[u8], identifier: &[u8]) -> Result<bool, Fault> {
+    let private = ml_dsa_44::PrivateKey::<Fill<0x55>, Fill<0>>::try_from_bytes(private_44())?;
+    let signature = private.try_hash_sign_with_seed(&[0; 32], digest, ctx, identifier)?;
+    Ok(signature == signature_44())
+}
+
+/// Whether the recorded public key accepts the recorded signature of a digest.
+fn is_verified(digest: &[u8], ctx: &[u8], identifier: &[u8]) -> Result<bool, Fault> {
+    let public = ml_dsa_44::PublicKey::<Fill<0x55>, Fill<0>>::try_from_bytes(public_44())?;
+    Ok(public.hash_verify(digest, &signature_44(), ctx, identifier))
+}
+
 #[test]
 fn digests_that_are_signed(rt: HostRuntime) -> Result<(), Fail> {
-    let private = ml_dsa_44::PrivateKey::<Fill<0x55>, Fill<0>>::try_from_bytes(private_44())?;
-    let public = ml_dsa_44::PublicKey::<Fill<0x55>, Fill<0>>::try_from_bytes(public_44())?;
-    let sha256 = oid(0x01);
-    let signature = private.try_hash_sign_with_seed(&[0; 32], &[9; 32], &[], &sha256)?;
-    assert!(rt; signature == signature_44());
-    let signature = private.try_hash_sign_with_seed(&[0; 32], &[9; 32], &[1; 255], &sha256)?;
-    assert!(rt; signature == signature_44());
-    assert!(rt; public.hash_verify(&[9; 32], &signature, &[], &sha256));
-    assert!(rt; public.hash_verify(&[9; 64], &signature, &[], &oid(0x03)));
-    assert!(rt; !public.hash_verify(&[9; 63], &signature, &[], &oid(0x03)));
-    assert!(rt; !public.hash_verify(&[9; 32], &signature, &[1; 256], &sha256));
+    assert!(rt; is_signed(&[9; 32], &[], &oid(0x01))?);
+    assert!(rt; is_signed(&[9; 32], &[1; 255], &oid(0x01))?);
+    assert!(rt; is_verified(&[9; 32], &[], &oid(0x01))?);
+    assert!(rt; is_verified(&[9; 64], &[], &oid(0x03))?);
+    assert!(rt; !is_verified(&[9; 63], &[], &oid(0x03))?);
+    assert!(rt; !is_verified(&[9; 32], &[1; 256], &oid(0x01))?);
     Ok(())
 }
 
