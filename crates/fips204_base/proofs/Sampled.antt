@@ -4,7 +4,7 @@ use Rattle.std.specs.Prelude.{option_map, option_and_then, filter_map, IfSome, I
 use Rattle.std.specs.declared.result.Result.{Result}
 use Rattle.std.specs.declared.option.Option.{Option}
 use Rattle.std.specs.List.{range_with_len, All, cons_option}
-use Rattle.std.proofs.lemmas.List.{take_more_set, length-take-le}
+use Rattle.std.proofs.lemmas.List.{take_all, take_more_set, length-take-le}
 use Rattle.std.proofs.lemmas.List.FromFn.{map-range_with_len_more}
 use Rattle.fips204_base.specs.declared.fault.Fault.{Fault}
 use Rattle.fips204_base.specs.declared.fault.Fault.TheVariants.{SamplingLimit}
@@ -56,6 +56,10 @@ some_of_ok (Some y) x e = let s : x ≡ y = cc in ap Some (sym s)
 pub none_of_err : {A : Type 0} (o : Option A) (fault : Fault) → Err fault ≡ ok_or o SamplingLimit → (o ≡ None) × (fault ≡ SamplingLimit)
 none_of_err None fault e = (refl, cc)
 none_of_err (Some y) fault e = absurd cc
+
+pub present_whole : {A : Type 0} (f : ℕ → Option A) (a n m : ℕ) (xs : List A) → m ≡ n → length xs ≡ n
+    → all_present (map f (range_with_len a m)) ≡ Some (take m xs) → all_present (map f (range_with_len a n)) ≡ Some xs
+present_whole f a n m xs end size all = (rw end at all) ∙ ap Some (take_all n xs (omega (arith, size)))
 
 pub present_nil : {A : Type 0} → all_present {A = A} [] ≡ Some []
 unfolding all_present

@@ -1,9 +1,6 @@
-use Rattle.std.proofs.Common.{◌≡◌, ◌∙◌, ap, refl, arith, rules, take, length-set, map, Some, Err}
-use Rattle.std.proofs.lemmas.List.{take_all}
-use Rattle.std.specs.List.{range_with_len}
+use Rattle.std.proofs.Common.{◌∙◌, arith, rules, length-set}
 use Rattle.fips204_base.specs.MatrixEntry.{sampled_row, sampled_matrix}
-use Rattle.fips204_base.specs.Sampling.{all_present}
-use Rattle.fips204_base.proofs.Sampled.{matrix-refused, present_nil, present_next}
+use Rattle.fips204_base.proofs.Sampled.{matrix-refused, present_nil, present_next, present_whole}
 use Rattle.fips204_base.proofs.hashing.matrix.expand_a_into.Goals as goal
 
 pub loop-r-init : goal.loop-r-init
@@ -23,8 +20,5 @@ loop-r-preserved g c =
 pub returns-clause-values : goal.returns-clause-values
 unfolding sampled_matrix
 returns-clause-values g c =
-    let end : c.loop-r.r ≡ g.row.K = omega (arith, c.loop-r-test.false, c.loop-r.auto.r-end) in
-    let row = sampled_row g.G.Xof.front c.args.rho.now g.row.L in
-    let all : all_present (map row (range_with_len 0 g.row.K)) ≡ Some (take g.row.K c.loop-r.matrix) = rw end at c.loop-r.invariant.1 in
-    let whole : take g.row.K c.loop-r.matrix ≡ c.loop-r.matrix = take_all g.row.K c.loop-r.matrix (omega (arith, c.loop-r.invariant.0)) in
-    all ∙ ap Some whole
+    present_whole (sampled_row g.G.Xof.front c.args.rho.now g.row.L) 0 g.row.K c.loop-r.r c.loop-r.matrix
+    (omega (arith, c.loop-r-test.false, c.loop-r.auto.r-end)) c.loop-r.invariant.0 c.loop-r.invariant.1

@@ -1,4 +1,4 @@
-use Rattle.std.proofs.Common.{◌≡◌, ℕ, ◌<◌, ◌∙◌, List, [], Err, Some, refl, arith, rules, length, length-set}
+use Rattle.std.proofs.Common.{◌≡◌, ℕ, ◌<◌, ◌∙◌, List, [], Some, arith, rules, length, length-set}
 use Rattle.fips204_base.specs.declared.types.T.{T}
 use Rattle.fips204_base.specs.MatrixEntry.{sampled_row, sampled_matrix}
 use Rattle.fips204_base.specs.Polynomials.{Within, row_value, vector_residues}
