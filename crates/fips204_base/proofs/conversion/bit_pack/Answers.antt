@@ -2,10 +2,10 @@ use Rattle.std.proofs.Common.{arith, ◌≡◌, ◌+◌, ◌*◌, ◌-◌, ◌�
 use Rattle.std.proofs.lemmas.Int.{to_z-of_z}
 use Rattle.std.proofs.lemmas.List.{map-append, take_all}
 use Rattle.std.proofs.Math.Seq.{take-add}
+use Rattle.std.proofs.lemmas.Grind.{common_steps}
 use Rattle.fips204_base.specs.Packing.{field, width}
 use Rattle.fips204_base.proofs.Packing.{packs_none, packs_joined}
 use Rattle.fips204_base.proofs.VectorBytes.{length-put_mid, put_piece, piece-within}
-use Rattle.std.proofs.lemmas.Grind.{common_steps}
 use Rattle.fips204_base.proofs.conversion.bit_pack.Goals as goal
 
 pub loop-i-init : goal.loop-i-init
