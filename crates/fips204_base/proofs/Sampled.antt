@@ -204,8 +204,8 @@ pub residues-within : (xs : List ℤ) → All (λ x. (pos 0 ≤ℤ x) × (x ≤�
 residues-within xs h i d l = let b = h i d l in omega (arith, ints, b)
 
 -- where a row is none, the matrix is, and a caller answers by its fault
-pub matrix-refused : {A : Type 0} (G : List ℕ → List ℕ) (rho : List ℕ) (k l r : ℕ) {result : Result A Fault} → r < k → sampled_row G rho l r ≡ None → result ≡ Err SamplingLimit
-    → IfErr result (λ fault. (sampled_matrix G rho k l ≡ None) × (fault ≡ SamplingLimit))
+pub matrix-refused : {A : Type 0} (G : List ℕ → List ℕ) (rho : List ℕ) (k l r : ℕ) {result : Result A Fault} → r < k → sampled_row G rho l r ≡ None
+    → result ≡ Err SamplingLimit → IfErr result (λ fault. (sampled_matrix G rho k l ≡ None) × (fault ≡ SamplingLimit))
 unfolding sampled_matrix
 matrix-refused G rho k l r h none refused = rw refused (all_present-none (sampled_row G rho l) 0 k r r h (omega arith) none, refl)
 
