@@ -1,9 +1,10 @@
 -- What is sampled: vectors and matrices of values that are all there, and the ranges of small polynomials.
 use Rattle.std.proofs.Common.{◌≡◌, ℕ, ◌+◌, ◌<◌, List, [], ◌∷◌, ◌++◌, map, take, set, length, refl, ap, sym, ◌∙◌, Some, None, Ok, Err, ok_or, ◌≤ℤ◌, ◌*◌, ◌/◌, zero, suc, ℤ, pos, get_or, subst, arith, true, false, inl, inr, nat_lt, add-zero, ◌⊎◌, ◌-ℤ◌}
-use Rattle.std.specs.Prelude.{option_map, option_and_then, filter_map, IfSome, if◌then◌else◌}
+use Rattle.std.specs.Prelude.{option_map, option_and_then, filter_map, IfSome, IfErr, if◌then◌else◌}
+use Rattle.std.specs.declared.result.Result.{Result}
 use Rattle.std.specs.declared.option.Option.{Option}
 use Rattle.std.specs.List.{range_with_len, All, cons_option}
-use Rattle.std.proofs.lemmas.List.{take_more_set, length-take-le}
+use Rattle.std.proofs.lemmas.List.{take_all, take_more_set, length-take-le}
 use Rattle.std.proofs.lemmas.List.FromFn.{map-range_with_len_more}
 use Rattle.fips204_base.specs.declared.fault.Fault.{Fault}
 use Rattle.fips204_base.specs.declared.fault.Fault.TheVariants.{SamplingLimit}
@@ -55,6 +56,10 @@ some_of_ok (Some y) x e = let s : x ≡ y = cc in ap Some (sym s)
 pub none_of_err : {A : Type 0} (o : Option A) (fault : Fault) → Err fault ≡ ok_or o SamplingLimit → (o ≡ None) × (fault ≡ SamplingLimit)
 none_of_err None fault e = (refl, cc)
 none_of_err (Some y) fault e = absurd cc
+
+pub present_whole : {A : Type 0} (f : ℕ → Option A) (a n m : ℕ) (xs : List A) → m ≡ n → length xs ≡ n
+    → all_present (map f (range_with_len a m)) ≡ Some (take m xs) → all_present (map f (range_with_len a n)) ≡ Some xs
+present_whole f a n m xs end size all = (rw end at all) ∙ ap Some (take_all n xs (omega (arith, size)))
 
 pub present_nil : {A : Type 0} → all_present {A = A} [] ≡ Some []
 unfolding all_present
@@ -197,6 +202,12 @@ sampled_matrix-entries G rho k l a e =
 
 pub residues-within : (xs : List ℤ) → All (λ x. (pos 0 ≤ℤ x) × (x ≤ℤ pos 8380416)) xs → Within 8380416 xs
 residues-within xs h i d l = let b = h i d l in omega (arith, ints, b)
+
+-- where a row is none, the matrix is, and a caller answers by its fault
+pub matrix-refused : {A : Type 0} (G : List ℕ → List ℕ) (rho : List ℕ) (k l r : ℕ) {result : Result A Fault} → r < k → sampled_row G rho l r ≡ None
+    → result ≡ Err SamplingLimit → IfErr result (λ fault. (sampled_matrix G rho k l ≡ None) × (fault ≡ SamplingLimit))
+unfolding sampled_matrix
+matrix-refused G rho k l r h none refused = rw refused (all_present-none (sampled_row G rho l) 0 k r r h (omega arith) none, refl)
 
 -- a row that is sampled is below q
 pub row-within : (G : List ℕ → List ℕ) (rho : List ℕ) (l r : ℕ) (row : List T) → sampled_row G rho l r ≡ Some row → AreReduced row

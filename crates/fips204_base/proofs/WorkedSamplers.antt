@@ -40,7 +40,7 @@ small_past_its_limit = refl
 
 -- the seed of an entry ends in the byte of its column and then that of its row: with a front of the two
 -- bytes and then zeros, coefficient 0 of the entry at row r and column s is s + 256 r
-seeds_of_entries : option_map (λ a. map (λ row. map (λ t. get_or t.0 0 (pos 0)) row) a) (sampled_matrix (λ seed. seed ++ replicate 4094 0) [] 2 2)
+seeds_of_entries : option_map (λ a. map (λ row. map (λ t. get_or t.0 0 (pos 0)) row) a) (sampled_matrix (λ seed. seed ++ replicate 1022 0) [] 2 2)
     ≡ Some ((pos 0 ∷ pos 1 ∷ []) ∷ (pos 256 ∷ pos 257 ∷ []) ∷ [])
 unfolding sampled_matrix all_present matrix_entry kept_triples triple first_256
 seeds_of_entries = refl
@@ -78,12 +78,12 @@ unfolding challenge challenge_picks picks places moved signed_sum polynomial_of 
 challenge_past_its_limit = refl
 
 -- over bytes 55 every field of 18 bits is 87381, and every coefficient 131072 less it
-mask_over_55 : mask_polynomial 131072 (replicate 4096 0x55) ≡ record { 0 = replicate 256 (pos 43691) }
+mask_over_55 : mask_polynomial 131072 (replicate 576 0x55) ≡ record { 0 = replicate 256 (pos 43691) }
 unfolding polynomial_of unpacked field_at bits integer_to_bits bits_to_integer coefficient bit_length
 mask_over_55 = refl
 
 -- over zeros every coefficient is gamma1, also with 20 bits
-mask_over_zeros : mask_polynomial 524288 (replicate 4096 0) ≡ record { 0 = replicate 256 (pos 524288) }
+mask_over_zeros : mask_polynomial 524288 (replicate 640 0) ≡ record { 0 = replicate 256 (pos 524288) }
 unfolding polynomial_of unpacked field_at bits integer_to_bits bits_to_integer coefficient bit_length
 mask_over_zeros = refl
 

@@ -2,6 +2,7 @@ use Rattle.std.proofs.Common.{arith, ◌≡◌, ◌+◌, ◌*◌, ◌-◌, ◌�
 use Rattle.std.proofs.lemmas.Int.{to_z-of_z}
 use Rattle.std.proofs.lemmas.List.{map-append, take_all}
 use Rattle.std.proofs.Math.Seq.{take-add}
+use Rattle.std.proofs.lemmas.Grind.{common_steps}
 use Rattle.fips204_base.specs.Packing.{field, width}
 use Rattle.fips204_base.proofs.Packing.{packs_none, packs_joined}
 use Rattle.fips204_base.proofs.VectorBytes.{length-put_mid, put_piece, piece-within}
@@ -16,6 +17,9 @@ loop-i-init c =
       long = c.requires.room ∙ ap (λ n. 32 * n) (sym (rw (A, B) at c.field_width-c.ensures.value));
       so_far = rw none (packs_none c.field_width-c.result);
     }
+
+pub pack_group-requires-clause-range : goal.pack_group-requires-clause-range
+pack_group-requires-clause-range c = grind (arith, common_steps)
 
 pub loop-i-preserved : goal.loop-i-preserved
 loop-i-preserved c =

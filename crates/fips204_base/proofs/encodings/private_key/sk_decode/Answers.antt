@@ -7,6 +7,9 @@ use Rattle.fips204_base.proofs.EncodedParts.{width_4095_4096, eta_width, three_s
 use Rattle.fips204_base.proofs.VectorBytes.{same_bounds}
 use Rattle.fips204_base.proofs.encodings.private_key.sk_decode.Goals as goal
 
+pub unpack_short_vector-requires-2 : goal.unpack_short_vector-requires-2
+unpack_short_vector-requires-2 g c = search rules
+
 pub unpack_vector-requires : goal.unpack_vector-requires
 unpack_vector-requires g c =
     let E = to_z-of_z w32 c.args.eta c.ranges.eta in

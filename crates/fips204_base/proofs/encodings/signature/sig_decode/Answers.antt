@@ -6,6 +6,9 @@ use Rattle.fips204_base.proofs.EncodedParts.{whole_response, response_bounds, re
 use Rattle.fips204_base.proofs.VectorBytes.{same_bounds}
 use Rattle.fips204_base.proofs.encodings.signature.sig_decode.Goals as goal
 
+pub hint_bit_unpack-requires : goal.hint_bit_unpack-requires
+hint_bit_unpack-requires g c = search rules
+
 pub unpack_vector-requires : goal.unpack_vector-requires
 unpack_vector-requires g c =
     let G = to_z-of_z w32 c.args.gamma1 c.ranges.gamma1 in

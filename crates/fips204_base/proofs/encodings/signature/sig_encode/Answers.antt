@@ -28,6 +28,9 @@ pack_vector-requires g c =
       ),
     )
 
+pub slice_bounds-hint_bit_pack-start : goal.slice_bounds-hint_bit_pack-start
+slice_bounds-hint_bit_pack-start g c = search rules
+
 pub hint_bit_pack-requires : goal.hint_bit_pack-requires
 hint_bit_pack-requires g c =
     let G = to_z-of_z w32 c.args.gamma1 c.ranges.gamma1 in

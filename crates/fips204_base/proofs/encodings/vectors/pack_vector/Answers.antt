@@ -1,4 +1,4 @@
-use Rattle.std.proofs.Common.{◌≡◌, ◌+◌, ◌*◌, ◌-◌, ◌≤◌, ◌++◌, ◌∙◌, [], ap, sym, arith, length, length-take, length-drop, take, w32, to_z, of_z}
+use Rattle.std.proofs.Common.{◌≡◌, ◌+◌, ◌*◌, ◌-◌, ◌≤◌, ◌++◌, ◌∙◌, [], ap, sym, arith, length, length-take, length-drop, take, w32, to_z, of_z, rules}
 use Rattle.std.specs.List.{flat_map}
 use Rattle.std.proofs.lemmas.Int.{to_z-of_z}
 use Rattle.std.proofs.lemmas.List.{take_all}
@@ -7,6 +7,9 @@ use Rattle.fips204_base.specs.Packing.{polynomial_bytes, width}
 use Rattle.fips204_base.proofs.Packing.{is_packed}
 use Rattle.fips204_base.proofs.VectorBytes.{length-put_mid, put_piece, piece-within, vector_more, bytes_at_integers}
 use Rattle.fips204_base.proofs.encodings.vectors.pack_vector.Goals as goal
+
+pub overflow_add-at : goal.overflow_add-at
+overflow_add-at g c = search rules
 
 pub slice_bounds-bit_pack_by_range-end : goal.slice_bounds-bit_pack_by_range-end
 slice_bounds-bit_pack_by_range-end g c =

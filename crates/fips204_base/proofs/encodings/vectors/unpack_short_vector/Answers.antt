@@ -4,11 +4,15 @@ use Rattle.std.proofs.lemmas.Int.{to_z-of_z}
 use Rattle.std.proofs.lemmas.List.{take_all, take_more_set}
 use Rattle.std.proofs.lemmas.List.Elements.{All-push}
 use Rattle.std.proofs.Math.Seq.{take-add}
+use Rattle.std.proofs.lemmas.Grind.{common_steps}
 use Rattle.fips204_base.specs.declared.types.R.{R}
 use Rattle.fips204_base.specs.declared.types.TheConstants.{R0}
 use Rattle.fips204_base.specs.Packing.{InRange, polynomial_bytes, width}
 use Rattle.fips204_base.proofs.VectorBytes.{vector_stored, vector_piece, bytes_at_integers, vector_at_integers, range_at_integers}
 use Rattle.fips204_base.proofs.encodings.vectors.unpack_short_vector.Goals as goal
+
+pub loop-i-init : goal.loop-i-init
+loop-i-init g c = grind (arith, common_steps)
 
 pub returns-in_err-v : goal.returns-in_err-v
 returns-in_err-v g c =

@@ -1,4 +1,4 @@
-use Rattle.std.proofs.Common.{◌≡◌, ◌+◌, ◌*◌, ◌-◌, ◌<◌, ◌++◌, ◌∙◌, ◌-ℤ◌, pos, ap, sym, subst, arith, length, length-set, take, w32, to_z, of_z}
+use Rattle.std.proofs.Common.{◌≡◌, ◌+◌, ◌*◌, ◌-◌, ◌<◌, ◌++◌, ◌∙◌, ◌-ℤ◌, pos, ap, sym, subst, arith, length, length-set, take, w32, to_z, of_z, rules}
 use Rattle.std.specs.List.{All, flat_map}
 use Rattle.std.proofs.lemmas.Int.{to_z-of_z}
 use Rattle.std.proofs.lemmas.List.{take_all, take_more_set}
@@ -8,6 +8,9 @@ use Rattle.fips204_base.specs.declared.types.R.{R}
 use Rattle.fips204_base.specs.Packing.{InRange, polynomial_bytes, width}
 use Rattle.fips204_base.proofs.VectorBytes.{piece-within, vector_stored, bytes_at_integers, vector_at_integers}
 use Rattle.fips204_base.proofs.encodings.vectors.unpack_vector.Goals as goal
+
+pub overflow_add-at : goal.overflow_add-at
+overflow_add-at g c = search rules
 
 pub slice_bounds-unpack_polynomial-end : goal.slice_bounds-unpack_polynomial-end
 slice_bounds-unpack_polynomial-end g c =

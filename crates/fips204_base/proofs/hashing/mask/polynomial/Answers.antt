@@ -9,6 +9,9 @@ less_read : (gamma1 : ℤ) → (gamma1 ≡ pos 131072) ⊎ (gamma1 ≡ pos 52428
 less_read gamma1 (inl e) = rw e refl
 less_read gamma1 (inr e) = rw e refl
 
+pub read-requires : goal.read-requires
+read-requires g c = search rules
+
 pub returns : goal.returns
 returns g c =
     let front = g.H.Xof.front (c.args.rho.now ++ to_le_bytes w16 c.args.number) in

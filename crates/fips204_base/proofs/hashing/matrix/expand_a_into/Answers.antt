@@ -1,22 +1,14 @@
-use Rattle.std.proofs.Common.{◌≡◌, ◌∙◌, ap, refl, arith, rules, take, length-set, map, Some, Err}
-use Rattle.std.proofs.lemmas.List.{take_all}
-use Rattle.fips204_base.specs.declared.fault.Fault.TheVariants.{SamplingLimit}
-use Rattle.std.specs.List.{range_with_len}
+use Rattle.std.proofs.Common.{◌∙◌, arith, rules, length-set}
 use Rattle.fips204_base.specs.MatrixEntry.{sampled_row, sampled_matrix}
-use Rattle.fips204_base.specs.Sampling.{all_present}
-use Rattle.fips204_base.proofs.Sampled.{all_present-none, present_nil, present_next}
+use Rattle.fips204_base.proofs.Sampled.{matrix-refused, present_nil, present_next, present_whole}
 use Rattle.fips204_base.proofs.hashing.matrix.expand_a_into.Goals as goal
 
 pub loop-r-init : goal.loop-r-init
 loop-r-init g c = (c.told-matrix, present_nil)
 
 pub returns-in_err-expand_row-clause-refused : goal.returns-in_err-expand_row-clause-refused
-unfolding sampled_matrix
 returns-in_err-expand_row-clause-refused g c =
-    let row = sampled_row g.G.Xof.front c.args.rho.now g.row.L in
-    let none = all_present-none row 0 g.row.K c.loop-r.r c.loop-r.r c.loop-r-test.true (omega arith) c.in_err-expand_row.ensures.refused.0 in
-    let refused : c.from_residual.result ≡ Err SamplingLimit = search rules in
-    rw refused (none, refl)
+    matrix-refused g.G.Xof.front c.args.rho.now g.row.K g.row.L c.loop-r.r c.loop-r-test.true c.in_err-expand_row.ensures.refused.0 (search rules)
 
 pub loop-r-preserved : goal.loop-r-preserved
 loop-r-preserved g c =
@@ -28,8 +20,5 @@ loop-r-preserved g c =
 pub returns-clause-values : goal.returns-clause-values
 unfolding sampled_matrix
 returns-clause-values g c =
-    let end : c.loop-r.r ≡ g.row.K = omega (arith, c.loop-r-test.false, c.loop-r.auto.r-end) in
-    let row = sampled_row g.G.Xof.front c.args.rho.now g.row.L in
-    let all : all_present (map row (range_with_len 0 g.row.K)) ≡ Some (take g.row.K c.loop-r.matrix) = rw end at c.loop-r.invariant.1 in
-    let whole : take g.row.K c.loop-r.matrix ≡ c.loop-r.matrix = take_all g.row.K c.loop-r.matrix (omega (arith, c.loop-r.invariant.0)) in
-    all ∙ ap Some whole
+    present_whole (sampled_row g.G.Xof.front c.args.rho.now g.row.L) 0 g.row.K c.loop-r.r c.loop-r.matrix
+    (omega (arith, c.loop-r-test.false, c.loop-r.auto.r-end)) c.loop-r.invariant.0 c.loop-r.invariant.1

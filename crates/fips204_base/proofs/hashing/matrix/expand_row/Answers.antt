@@ -1,10 +1,7 @@
-use Rattle.std.proofs.Common.{◌≡◌, ◌∙◌, ap, refl, arith, rules, take, length-set, map, Some, None, Err}
-use Rattle.std.proofs.lemmas.List.{take_all}
+use Rattle.std.proofs.Common.{◌≡◌, ◌∙◌, refl, arith, rules, length-set, Some, None, Err}
 use Rattle.fips204_base.specs.declared.fault.Fault.TheVariants.{SamplingLimit}
-use Rattle.std.specs.List.{range_with_len}
 use Rattle.fips204_base.specs.MatrixEntry.{sampled_entry}
-use Rattle.fips204_base.specs.Sampling.{all_present}
-use Rattle.fips204_base.proofs.Sampled.{all_present-none, present_nil, present_next, some_of_ok, none_of_err}
+use Rattle.fips204_base.proofs.Sampled.{all_present-none, present_nil, present_next, present_whole, some_of_ok, none_of_err}
 use Rattle.fips204_base.proofs.hashing.matrix.expand_row.Goals as goal
 
 pub loop-s-init : goal.loop-s-init
@@ -32,8 +29,5 @@ loop-s-preserved g c =
 
 pub returns-clause-values : goal.returns-clause-values
 returns-clause-values g c =
-    let end : c.loop-s.s ≡ g.row.L = omega (arith, c.loop-s-test.false, c.loop-s.auto.s-end) in
-    let entry = sampled_entry g.G.Xof.front c.args.rho.now c.args.r in
-    let all : all_present (map entry (range_with_len 0 g.row.L)) ≡ Some (take g.row.L c.loop-s.row) = rw end at c.loop-s.invariant.1 in
-    let whole : take g.row.L c.loop-s.row ≡ c.loop-s.row = take_all g.row.L c.loop-s.row (omega (arith, c.loop-s.invariant.0)) in
-    all ∙ ap Some whole
+    present_whole (sampled_entry g.G.Xof.front c.args.rho.now c.args.r) 0 g.row.L c.loop-s.s c.loop-s.row
+    (omega (arith, c.loop-s-test.false, c.loop-s.auto.s-end)) c.loop-s.invariant.0 c.loop-s.invariant.1

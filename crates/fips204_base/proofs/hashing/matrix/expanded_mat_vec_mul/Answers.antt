@@ -1,20 +1,15 @@
-use Rattle.std.proofs.Common.{◌≡◌, ℕ, ◌<◌, ◌∙◌, List, [], Err, Some, refl, arith, rules, length, length-set}
-use Rattle.fips204_base.specs.declared.fault.Fault.TheVariants.{SamplingLimit}
+use Rattle.std.proofs.Common.{◌≡◌, ℕ, ◌<◌, ◌∙◌, List, [], Some, arith, rules, length, length-set}
 use Rattle.fips204_base.specs.declared.types.T.{T}
 use Rattle.fips204_base.specs.MatrixEntry.{sampled_row, sampled_matrix}
 use Rattle.fips204_base.specs.Polynomials.{Within, row_value, vector_residues}
 use Rattle.fips204_base.specs.Residues.{coefficients}
-use Rattle.fips204_base.proofs.Sampled.{all_present-none, all_present-each, row-within}
+use Rattle.fips204_base.proofs.Sampled.{matrix-refused, all_present-each, row-within}
 use Rattle.fips204_base.proofs.Vectors.{row_written}
 use Rattle.fips204_base.proofs.hashing.matrix.expanded_mat_vec_mul.Goals as goal
 
 pub returns-in_err-expand_row-clause-refused : goal.returns-in_err-expand_row-clause-refused
-unfolding sampled_matrix
 returns-in_err-expand_row-clause-refused g c =
-    let row = sampled_row g.G.Xof.front c.args.rho.now g.row.L in
-    let none = all_present-none row 0 g.row.K c.loop-r.r c.loop-r.r c.loop-r-test.true (omega arith) c.in_err-expand_row.ensures.refused.0 in
-    let refused : c.from_residual.result ≡ Err SamplingLimit = search rules in
-    rw refused (none, refl)
+    matrix-refused g.G.Xof.front c.args.rho.now g.row.K g.row.L c.loop-r.r c.loop-r-test.true c.in_err-expand_row.ensures.refused.0 (search rules)
 
 pub row_sum-requires : goal.row_sum-requires
 row_sum-requires g c =

@@ -1,22 +1,17 @@
-use Rattle.std.proofs.Common.{◌≡◌, ℕ, ◌≤◌, ◌<◌, ◌∙◌, List, [], Err, Some, pos, refl, arith, rules, length, length-set}
+use Rattle.std.proofs.Common.{◌≡◌, ℕ, ◌≤◌, ◌<◌, ◌∙◌, List, [], Some, pos, arith, rules, length, length-set}
 use Rattle.std.specs.Prelude.{nat_abs}
-use Rattle.fips204_base.specs.declared.fault.Fault.TheVariants.{SamplingLimit}
 use Rattle.fips204_base.specs.declared.types.T.{T}
 use Rattle.fips204_base.specs.MatrixEntry.{sampled_row, sampled_matrix}
 use Rattle.fips204_base.specs.Polynomials.{coefficient_at, entry}
 use Rattle.fips204_base.specs.Products.{row_product}
 use Rattle.fips204_base.specs.Vectors.{plain_row, vector_coefficients}
-use Rattle.fips204_base.proofs.Sampled.{all_present-none, all_present-each, row-within}
+use Rattle.fips204_base.proofs.Sampled.{matrix-refused, all_present-each, row-within}
 use Rattle.fips204_base.proofs.Vectors.{row_written}
 use Rattle.fips204_base.proofs.hashing.matrix.expanded_times_vector.Goals as goal
 
 pub returns-in_err-expand_row-clause-refused : goal.returns-in_err-expand_row-clause-refused
-unfolding sampled_matrix
 returns-in_err-expand_row-clause-refused g c =
-    let row = sampled_row g.G.Xof.front c.args.rho.now g.row.L in
-    let none = all_present-none row 0 g.row.K c.loop-r.r c.loop-r.r c.loop-r-test.true (omega arith) c.in_err-expand_row.ensures.refused.0 in
-    let refused : c.from_residual.result ≡ Err SamplingLimit = search rules in
-    rw refused (none, refl)
+    matrix-refused g.G.Xof.front c.args.rho.now g.row.K g.row.L c.loop-r.r c.loop-r-test.true c.in_err-expand_row.ensures.refused.0 (search rules)
 
 pub row_times_vector-requires : goal.row_times_vector-requires
 row_times_vector-requires g c =

@@ -1,11 +1,10 @@
-use Rattle.std.proofs.Common.{ℕ, ◌≡◌, ◌∙◌, ap, ◌+◌, ◌++◌, [], refl, arith, rules, take, length-set, append-nil, map, nat_abs, to_z, of_z, Some, None, Err}
+use Rattle.std.proofs.Common.{ℕ, ◌≡◌, ◌∙◌, ◌+◌, ◌++◌, [], refl, arith, rules, length-set, append-nil, map, nat_abs, to_z, of_z, Some, None, Err}
 use Rattle.std.specs.Int.{w16, w32, to_le_bytes}
 use Rattle.std.specs.List.{range_with_len}
-use Rattle.std.proofs.lemmas.List.{take_all}
 use Rattle.fips204_base.specs.declared.fault.Fault.TheVariants.{SamplingLimit}
 use Rattle.fips204_base.specs.SmallPolynomial.{small_polynomial, small_vector}
 use Rattle.fips204_base.specs.Sampling.{all_present}
-use Rattle.fips204_base.proofs.Sampled.{all_present-none, present_nil, present_next, some_of_ok, none_of_err}
+use Rattle.fips204_base.proofs.Sampled.{all_present-none, present_nil, present_next, present_whole, some_of_ok, none_of_err}
 use Rattle.fips204_base.proofs.hashing.small.small_polynomials.Goals as goal
 
 pub loop-r-init : goal.loop-r-init
@@ -43,7 +42,5 @@ unfolding small_vector
 returns-clause-values g c =
     let polynomial = λ (r : ℕ). small_polynomial (nat_abs c.args.eta) (g.H.Xof.front (c.args.rho.now ++ to_le_bytes w16 r)) in
     let eta : to_z w32 (of_z w32 c.args.eta) ≡ c.args.eta = search rules in
-    let end : c.loop-r.r ≡ g.row.N = omega (arith, c.loop-r-test.false, c.loop-r.auto.r-end) in
-    let all : all_present (map polynomial (range_with_len c.args.first g.row.N)) ≡ Some (take g.row.N c.loop-r.polynomials) = rw (eta, end) at c.loop-r.invariant.1 in
-    let whole : take g.row.N c.loop-r.polynomials ≡ c.loop-r.polynomials = take_all g.row.N c.loop-r.polynomials (omega (arith, c.loop-r.invariant.0)) in
-    all ∙ ap Some whole
+    present_whole polynomial c.args.first g.row.N c.loop-r.r c.loop-r.polynomials
+    (omega (arith, c.loop-r-test.false, c.loop-r.auto.r-end)) c.loop-r.invariant.0 (rw eta at c.loop-r.invariant.1)

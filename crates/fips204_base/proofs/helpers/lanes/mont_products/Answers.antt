@@ -1,9 +1,10 @@
-use Rattle.std.proofs.Common.{ℕ, ℤ, ◌≡◌, ◌<◌, ◌≤◌, ◌*◌, ◌%◌, ◌+ℤ◌, ◌*ℤ◌, ◌∙◌, pos, get_or, length, arith, sym, ap, subst, to_z, of_z, List, map}
+use Rattle.std.proofs.Common.{ℕ, ℤ, ◌≡◌, ◌<◌, ◌≤◌, ◌*◌, ◌%◌, ◌+ℤ◌, ◌*ℤ◌, ◌∙◌, pos, get_or, length, arith, rules, sym, ap, subst, to_z, of_z, List, map}
 use Rattle.std.specs.Prelude.{nat_abs}
 use Rattle.std.specs.Int.{w32, w64, int_rem_euclid, int_div_euclid}
 use Rattle.std.proofs.lemmas.Int.{to_z-of_z, fits_signed_from_abs}
 use lib.Signed.{shr_z, mag}
 use lib.Lanes.{Each1}
+use lib.LanesLaws.{Each1-all}
 use mir.Val.{SFits}
 use mir.Syntax.{cast, signed}
 use borrow.Table.Row.{s_int}
@@ -11,8 +12,7 @@ use borrow.Rule.Simd.Lanes.{Asks1, act1}
 use Rattle.fips204_base.specs.Residues.{residue, IsCongruent}
 use Rattle.fips204_base.specs.Lanes.{lane}
 use Rattle.fips204_base.specs.declared.helpers.lanes.Lanes.{Lanes}
-use Rattle.fips204_base.proofs.Residues.{congruent_trans}
-use Rattle.fips204_base.proofs.Residues.{residue_mul, montgomery_congruent}
+use Rattle.fips204_base.proofs.Residues.{congruent_trans, residue_mul, montgomery_congruent}
 use Rattle.fips204_base.proofs.LaneProducts.{Taken, taken, taken_is, lower_half, upper_half, high_half_fits, joined_halves, same_word, row, row_is, read_at, read_length, narrowed, taken_wide, taken_read}
 use Rattle.fips204_base.proofs.helpers.lanes.mont_products.Goals as goal
 
@@ -71,6 +71,12 @@ module _ (x : Lanes) (factor p : ℤ) (factor_fits : SFits w32 factor) (bound : 
 
   small : (j : ℕ) → j < 8 → nat_abs (lane (returned (row 8 F G x.lanes)) j) ≤ 8380416
   small j h = subst (λ z. nat_abs z ≤ 8380416) (sym (at j h)) (one j h).small
+
+pub overflow_cast-wide : goal.overflow_cast-wide
+overflow_cast-wide c = Each1-all _ (λ (a : ℕ). search rules) _
+
+pub overflow_cast-whole : goal.overflow_cast-whole
+overflow_cast-whole c = Each1-all _ (λ (a : ℕ). search rules) _
 
 pub overflow_cast-result : goal.overflow_cast-result
 overflow_cast-result c = asked c.args.x c.args.factor c.factor_words-both.result c.ranges.factor c.requires c.factor_words-both.type_inv c.factor_words-both.ensures.low c.factor_words-both.ensures.high

@@ -1,0 +1,6 @@
+use Rattle.std.proofs.Common.{arith}
+use Rattle.std.proofs.lemmas.Int.{ints}
+use Rattle.fips204_base.proofs.helpers.reduce.partial_reduce32.Goals as goal
+
+pub returns-clause-congruent : goal.returns-clause-congruent
+returns-clause-congruent c = grind (arith, ints)
