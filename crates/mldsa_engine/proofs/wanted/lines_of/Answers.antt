@@ -13,7 +13,7 @@ returns-in_err-read_lines-clause-line_fault g c =
     let given = g.I.Read.remaining c.args.input.now.device in
     let wanted = lines_of_input c.args.task c.args.set given in
     let bad : IsLineFault c.in_err-read_lines.field-0.0 → FaultOfLines 1 wanted given c.in_err-read_lines.field-0.0 =
-    λ of_line. first_fault _ _ _ _ (search rules) in
+    λ of_line. first_fault _ _ _ _ (rw (c.wanted_of.ensures, c.new-lines.ensures.items) at c.in_err-read_lines.ensures.line_fault of_line) in
     search (rules, bad)
 
 pub returns-in_err-read_lines-clause-in_turn : goal.returns-in_err-read_lines-clause-in_turn
@@ -21,7 +21,7 @@ returns-in_err-read_lines-clause-in_turn g c =
     let given = g.I.Read.remaining c.args.input.now.device in
     let wanted = lines_of_input c.args.task c.args.set given in
     let bad : IsLineFault c.in_err-read_lines.field-0.0 → InTurn 1 wanted given (g.I.Read.remaining c.read_lines.new.input.device) =
-    λ of_line. first_in_turn _ _ _ _ (search rules) in
+    λ of_line. first_in_turn _ _ _ _ (rw (c.wanted_of.ensures, c.new-lines.ensures.items) at c.in_err-read_lines.ensures.in_turn of_line) in
     search (rules, bad)
 
 pub loop-entry-init : goal.loop-entry-init
