@@ -39,19 +39,14 @@ fn answers(
 #[test]
 fn answers_in_the_order_of_the_entries(rt: HostRuntime) -> Result<(), Fail> {
     let (good, bad) = (signature_44(), refused_44());
-    let none = [].as_slice();
-    for (lines, answer, written) in [
-        (
-            [none, &[0, 2], &good, &[0], &bad, &[0]].as_slice(),
-            false,
-            b"yes\nno\n".as_slice(),
-        ),
-        (&[none, &[0, 2], &bad, &[0], &good, &[0]], false, b"no\nyes\n"),
-        (&[none, &[0, 2], &good, &[0], &good, b"another"], true, b"yes\nyes\n"),
-        (&[none, &[0, 1], &bad, &[]], false, b"no\n"),
-    ] {
-        assert!(rt; answers(rt.alloc(), "fill55", lines, answer, written)?);
-    }
+    let lines = [[].as_slice(), &[0, 2], &good, &[0], &bad, &[0]];
+    assert!(rt; answers(rt.alloc(), "fill55", &lines, false, b"yes\nno\n")?);
+    let lines = [[].as_slice(), &[0, 2], &bad, &[0], &good, &[0]];
+    assert!(rt; answers(rt.alloc(), "fill55", &lines, false, b"no\nyes\n")?);
+    let lines = [[].as_slice(), &[0, 2], &good, &[0], &good, b"another"];
+    assert!(rt; answers(rt.alloc(), "fill55", &lines, true, b"yes\nyes\n")?);
+    let lines = [[].as_slice(), &[0, 1], &bad, &[]];
+    assert!(rt; answers(rt.alloc(), "fill55", &lines, false, b"no\n")?);
     Ok(())
 }
 
@@ -137,28 +132,24 @@ fn long_context_of_a_batch(rt: HostRuntime) -> Result<(), Fail> {
     Ok(())
 }
 
+/// Whether a batch of two entries and one of three run as they have to on the recorded bytes of a set.
+fn batches_run<'a>(alloc: Global, set: &'a str, public: &'a str, signature: &'a str) -> bool {
+    let before = pieces(public).wrapping_add(2);
+    let entry = pieces(signature).wrapping_add(3);
+    let two = before.wrapping_add(entry).wrapping_add(entry);
+    let three = two.wrapping_add(entry);
+    let lines = [public, "", "0002", signature, "00", signature, "00"];
+    let longer = [
+        public, "", "0003", signature, "00", signature, "01", signature, "00",
+    ];
+    runs_as(alloc, ["batch", set], &lines, two, true, &["yes", "yes"])
+        && runs_as(alloc, ["batch", set], &longer, three, false, &["yes", "no", "yes"])
+}
+
 #[test]
 fn batches_of_each_set(rt: HostRuntime) {
     for [set, public, _, signature] in RECORDED {
-        let entry = pieces(signature).wrapping_add(3);
-        let before = pieces(public).wrapping_add(2);
-        for (lines, entries, answer, written) in [
-            (
-                [public, "", "0002", signature, "00", signature, "00"].as_slice(),
-                2usize,
-                true,
-                ["yes", "yes"].as_slice(),
-            ),
-            (
-                &[public, "", "0003", signature, "00", signature, "01", signature, "00"],
-                3,
-                false,
-                &["yes", "no", "yes"],
-            ),
-        ] {
-            let reads = before.wrapping_add(entries.wrapping_mul(entry));
-            assert!(rt; runs_as(rt.alloc(), ["batch", set], lines, reads, answer, written));
-        }
+        assert!(rt; batches_run(rt.alloc(), set, public, signature), "set {set}");
     }
 }
 

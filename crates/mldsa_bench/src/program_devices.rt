@@ -1,6 +1,8 @@
 //! The program over devices that count their calls, and what it takes from its process and leaves to it.
 #![tactic(auto)]
 
+ghost use Rattle.std.specs.Prelude.{◌<◌};
+
 use crate::devices::{Arguments, CountedReader, CountedWriter, KeptError};
 use crate::program::{answer_of, line_of, words};
 use crate::{recorded_44, recorded_65, recorded_87};
@@ -9,7 +11,7 @@ use mldsa_engine::process::{self, end};
 use mldsa_engine::{Bytewise, Marked, RunFault};
 use std::alloc::{AllocError, Global};
 use std::cell::RefCell;
-use std::io::{BufReader, Read};
+use std::io::{self, BufReader, Read};
 use std::process::ExitCode;
 use std::test::Fail;
 
@@ -175,36 +177,40 @@ pub fn pieces(line: &str) -> usize {
     (line.len() / 4096).wrapping_add(1)
 }
 
+/// Whether `id`, `keygen` and `sign` run as they have to on the recorded bytes of a set.
+fn makers_run<'a>(
+    alloc: Global,
+    set: &'a str,
+    public: &'a str,
+    private: &'a str,
+    signature: &'a str,
+) -> bool {
+    // A private key has the hash of its public key after two seeds.
+    let hash = private.get(128..256).unwrap_or("");
+    let lines = [private, ZEROS, "", "00"];
+    let reads = pieces(private).wrapping_add(5);
+    runs_as(alloc, ["id", set], &[public], pieces(public), true, &[public, hash])
+        && runs_as(alloc, ["keygen", set], &[ZEROS], 1, true, &[public, private])
+        && runs_as(alloc, ["sign", set], &lines, reads, true, &[signature])
+}
+
+/// Whether `verify` and `check` run as they have to on the recorded bytes of a set.
+fn judges_run<'a>(alloc: Global, set: &'a str, public: &'a str, signature: &'a str) -> bool {
+    let reads = pieces(public)
+        .wrapping_add(pieces(signature))
+        .wrapping_add(4);
+    let good = [public, signature, "", "00"];
+    let bad = [public, signature, "", "01"];
+    runs_as(alloc, ["verify", set], &good, reads, true, &["yes"])
+        && runs_as(alloc, ["verify", set], &bad, reads, false, &["no"])
+        && runs_as(alloc, ["check", set], &[ZEROS, ZEROS, "", "00"], 6, true, &["yes"])
+}
+
 #[test]
 fn each_command_at_each_set(rt: HostRuntime) {
     for [set, public, private, signature] in RECORDED {
-        // A private key has the hash of its public key after two seeds.
-        let hash = &private[128..256];
-        let (of_public, of_private, of_signature) =
-            (pieces(public), pieces(private), pieces(signature));
-        let of_both = of_public.wrapping_add(of_signature).wrapping_add(4);
-        for (command, lines, reads, answer, written) in [
-            (
-                "id",
-                [public].as_slice(),
-                of_public,
-                true,
-                [public, hash].as_slice(),
-            ),
-            ("keygen", &[ZEROS], 1, true, &[public, private]),
-            (
-                "sign",
-                &[private, ZEROS, "", "00"],
-                of_private.wrapping_add(5),
-                true,
-                &[signature],
-            ),
-            ("verify", &[public, signature, "", "00"], of_both, true, &["yes"]),
-            ("verify", &[public, signature, "", "01"], of_both, false, &["no"]),
-            ("check", &[ZEROS, ZEROS, "", "00"], 6, true, &["yes"]),
-        ] {
-            assert!(rt; runs_as(rt.alloc(), [command, set], lines, reads, answer, written));
-        }
+        assert!(rt; makers_run(rt.alloc(), set, public, private, signature), "set {set}");
+        assert!(rt; judges_run(rt.alloc(), set, public, signature), "set {set}");
     }
 }
 
@@ -309,23 +315,43 @@ fn faults_in_turn(
     Ok(alike)
 }
 
+/// Whether the lines of `id`, `keygen` and `sign` are judged in turn on the recorded bytes of a set.
+fn makers_judge<'a>(
+    alloc: Global,
+    set: &'a str,
+    public: &'a str,
+    private: &'a str,
+) -> Result<bool, AllocError> {
+    let lines = [private, ZEROS, "00", "00"];
+    Ok(
+        faults_in_turn(alloc, ["fill55", "id", set], &[public], &[0])?
+            && faults_in_turn(alloc, ["fill55", "keygen", set], &[ZEROS], &[0])?
+            && faults_in_turn(alloc, ["fill55", "sign", set], &lines, &[0, 1])?,
+    )
+}
+
+/// Whether the lines of `verify`, `check` and `batch` are judged in turn on the recorded bytes of a set.
+fn judges_judge<'a>(
+    alloc: Global,
+    set: &'a str,
+    public: &'a str,
+    signature: &'a str,
+) -> Result<bool, AllocError> {
+    let lines = [public, signature, "00", "00"];
+    let seeds = [ZEROS, ZEROS, "00", "00"];
+    let batch = [public, "00", "0002", signature, "00", signature, "00"];
+    Ok(
+        faults_in_turn(alloc, ["fill55", "verify", set], &lines, &[0, 1])?
+            && faults_in_turn(alloc, ["fill55", "check", set], &seeds, &[0, 1])?
+            && faults_in_turn(alloc, ["fill55", "batch", set], &batch, &[0, 2, 3, 5])?,
+    )
+}
+
 #[test]
 fn each_line_is_judged_before_the_next_is_read(rt: HostRuntime) -> Result<(), Fail> {
     for [set, public, private, signature] in RECORDED {
-        for (command, lines, known) in [
-            ("id", [public].as_slice(), [0usize].as_slice()),
-            ("keygen", &[ZEROS], &[0]),
-            ("sign", &[private, ZEROS, "00", "00"], &[0, 1]),
-            ("verify", &[public, signature, "00", "00"], &[0, 1]),
-            ("check", &[ZEROS, ZEROS, "00", "00"], &[0, 1]),
-            (
-                "batch",
-                &[public, "00", "0002", signature, "00", signature, "00"],
-                &[0, 2, 3, 5],
-            ),
-        ] {
-            assert!(rt; faults_in_turn(rt.alloc(), ["fill55", command, set], lines, known)?);
-        }
+        assert!(rt; makers_judge(rt.alloc(), set, public, private)?, "set {set}");
+        assert!(rt; judges_judge(rt.alloc(), set, public, signature)?, "set {set}");
     }
     Ok(())
 }
@@ -439,6 +465,22 @@ fn words_after_the_name_of_the_program(rt: HostRuntime) -> Result<(), Fail> {
     Ok(())
 }
 
+/// Whether reads for one byte give these, after so many calls of the reader below.
+fn gives_singly(
+    bytewise: &mut Bytewise<BufReader<CountedReader>>,
+    bytes: &[u8],
+    calls: usize,
+) -> io::Result<bool> {
+    let mut one = [0];
+    for byte in bytes {
+        let count = bytewise.read(&mut one)?;
+        if count != 1 || one[0] != *byte || bytewise.reader.get_ref().calls != calls {
+            return Ok(false);
+        }
+    }
+    Ok(true)
+}
+
 #[test]
 fn single_bytes_come_from_a_buffer(rt: HostRuntime) -> Result<(), Fail> {
     let reader = CountedReader {
@@ -449,20 +491,11 @@ fn single_bytes_come_from_a_buffer(rt: HostRuntime) -> Result<(), Fail> {
     };
     let reader = BufReader::with_capacity(rt.alloc(), 8, reader)?;
     let mut bytewise = Bytewise { reader };
-    let mut one = [0];
-    for byte in b"twenty b" {
-        assert_eq!(rt; bytewise.read(&mut one)?, 1);
-        assert_eq!(rt; one[0], *byte);
-        assert_eq!(rt; bytewise.reader.get_ref().calls, 1);
-    }
+    assert!(rt; gives_singly(&mut bytewise, b"twenty b", 1)?);
     let mut eight = [0; 8];
-    assert_eq!(rt; bytewise.read(&mut eight)?, 8);
+    assert!(rt; bytewise.read(&mut eight)? == 8);
     assert!(rt; eight == *b"ytes to ");
-    for byte in b"read" {
-        assert_eq!(rt; bytewise.read(&mut one)?, 1);
-        assert_eq!(rt; one[0], *byte);
-        assert_eq!(rt; bytewise.reader.get_ref().calls, 3);
-    }
-    assert_eq!(rt; bytewise.read(&mut one)?, 0);
+    assert!(rt; gives_singly(&mut bytewise, b"read", 3)?);
+    assert!(rt; bytewise.read(&mut [0])? == 0);
     Ok(())
 }

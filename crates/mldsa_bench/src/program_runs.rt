@@ -44,101 +44,86 @@ fn gives_lines(
     gives(alloc, call, lines, true, written.as_slice())
 }
 
-/// A pair of keys and a signature, made of seeds of 32 bytes 00 over these streams, with an empty context and the
-/// message `00`.
-#[derive(Clone, Copy)]
-struct Made<'a> {
+/// Whether `keygen`, `id` and `sign` give what belongs to this pair and this signature, both made of seeds of 32
+/// bytes 00, with an empty context and the message `00`.
+fn are_made<'a>(
+    alloc: Global,
     streams: &'a str,
     set: &'a str,
     public: &'a [u8],
     private: &'a [u8],
     signature: &'a [u8],
-}
-
-/// Which commands give what belongs to these: `keygen`, `id`, `sign`, and `check`.
-fn makes(alloc: Global, made: &Made) -> Result<[bool; 4], AllocError> {
+) -> Result<bool, AllocError> {
     let zeros = [0u8; 32].as_slice();
-    let Made {
-        streams,
-        set,
-        public,
-        private,
-        signature,
-    } = *made;
     let tr = private.get(64..128).unwrap_or(zeros);
-    Ok([
-        gives_lines(alloc, [streams, "keygen", set], &[zeros], &[public, private])?,
-        gives_lines(alloc, [streams, "id", set], &[public], &[public, tr])?,
-        gives_lines(alloc, [streams, "sign", set], &[private, zeros, &[], &[0]], &[signature])?,
-        gives(alloc, [streams, "check", set], &[zeros, zeros, &[], &[0]], true, b"yes\n")?,
-    ])
+    let lines = [private, zeros, &[], &[0]];
+    Ok(
+        gives_lines(alloc, [streams, "keygen", set], &[zeros], &[public, private])?
+            && gives_lines(alloc, [streams, "id", set], &[public], &[public, tr])?
+            && gives_lines(alloc, [streams, "sign", set], &lines, &[signature])?,
+    )
 }
 
-/// Whether `verify` answers so for the public key and the signature, a context and a message.
-fn verifies(
+/// Whether `verify` answers so for this public key and this signature, a context and a message.
+fn verifies<'a>(
     alloc: Global,
-    made: &Made,
-    ctx: &[u8],
-    message: &[u8],
+    call: [&'a str; 3],
+    public: &'a [u8],
+    signature: &'a [u8],
+    ctx: &'a [u8],
+    message: &'a [u8],
     answer: bool,
 ) -> Result<bool, AllocError> {
-    let call = [made.streams, "verify", made.set];
-    let lines = [made.public, made.signature, ctx, message];
     let text = if answer { b"yes\n".as_slice() } else { b"no\n" };
-    gives(alloc, call, &lines, answer, text)
+    gives(alloc, call, &[public, signature, ctx, message], answer, text)
 }
 
-/// Whether each command gives what belongs to these, and `verify` says no to a context of 256 bytes.
-fn are_given(alloc: Global, made: Made) -> Result<bool, AllocError> {
+/// Whether each command gives what belongs to this pair and this signature, and `verify` says no to a context of 256
+/// bytes.
+fn are_given<'a>(
+    alloc: Global,
+    streams: &'a str,
+    set: &'a str,
+    public: &'a [u8],
+    private: &'a [u8],
+    signature: &'a [u8],
+) -> Result<bool, AllocError> {
+    let verify = [streams, "verify", set];
+    let check = [streams, "check", set];
     Ok(
-        makes(alloc, &made)? == [true; 4]
-            && verifies(alloc, &made, &[], &[0], true)?
-            && verifies(alloc, &made, &[0; 256], &[0], false)?,
+        are_made(alloc, streams, set, public, private, signature)?
+            && verifies(alloc, verify, public, signature, &[], &[0], true)?
+            && verifies(alloc, verify, public, signature, &[0; 256], &[0], false)?
+            && gives(alloc, check, &[&[0; 32], &[0; 32], &[], &[0]], true, b"yes\n")?,
     )
 }
 
 #[test]
 fn runs_over_constant_streams(rt: HostRuntime) -> Result<(), Fail> {
-    for (set, public, private, signature) in [
-        (
-            "44",
-            public_44().as_slice(),
-            private_44().as_slice(),
-            signature_44().as_slice(),
-        ),
-        ("65", &public_65(), &private_65(), &signature_65()),
-        ("87", &public_87(), &private_87(), &signature_87()),
-    ] {
-        let made = Made {
-            streams: "fill55",
-            set,
-            public,
-            private,
-            signature,
-        };
-        assert!(rt; are_given(rt.alloc(), made)?, "set {set}");
-    }
+    let alloc = rt.alloc();
+    let (public, private, signature) = (public_44(), private_44(), signature_44());
+    assert!(rt; are_given(alloc, "fill55", "44", &public, &private, &signature)?);
+    let (public, private, signature) = (public_65(), private_65(), signature_65());
+    assert!(rt; are_given(alloc, "fill55", "65", &public, &private, &signature)?);
+    let (public, private, signature) = (public_87(), private_87(), signature_87());
+    assert!(rt; are_given(alloc, "fill55", "87", &public, &private, &signature)?);
     Ok(())
 }
 
 /// Whether each command gives what belongs to the recorded bytes of a set, in hex, and `verify` says no to another
 /// message and another context.
 fn are_given_over_counters(alloc: Global, recorded: [&str; 4]) -> Result<bool, Fail> {
-    let [set, public, private, signature] = recorded;
-    let public = hex::decode(alloc, public)?;
-    let private = hex::decode(alloc, private)?;
-    let signature = hex::decode(alloc, signature)?;
-    let made = Made {
-        streams: "sha2",
-        set,
-        public: public.as_slice(),
-        private: private.as_slice(),
-        signature: signature.as_slice(),
-    };
+    let set = recorded[0];
+    let public = hex::decode(alloc, recorded[1])?;
+    let private = hex::decode(alloc, recorded[2])?;
+    let signature = hex::decode(alloc, recorded[3])?;
+    let (public, private, signature) =
+        (public.as_slice(), private.as_slice(), signature.as_slice());
+    let verify = ["sha2", "verify", set];
     Ok(
-        are_given(alloc, made)?
-            && verifies(alloc, &made, &[], &[1], false)?
-            && verifies(alloc, &made, &[0], &[0], false)?,
+        are_given(alloc, "sha2", set, public, private, signature)?
+            && verifies(alloc, verify, public, signature, &[], &[1], false)?
+            && verifies(alloc, verify, public, signature, &[0], &[0], false)?,
     )
 }
 
