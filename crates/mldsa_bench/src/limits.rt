@@ -76,22 +76,13 @@ fn accepts<
 #[test]
 fn verifying_past_limits(rt: HostRuntime) -> Result<(), Fail> {
     assert!(rt;
-        !accepts::<ml_dsa_44::PublicKey<Fill<0x55>, Fill<0xff>>, _, _>(
-            public_44(),
-            signature_44()
-        )?
+        !accepts::<ml_dsa_44::PublicKey<Fill<0x55>, Fill<0xff>>, _, _>(public_44(), signature_44())?
     );
     assert!(rt;
-        !accepts::<ml_dsa_65::PublicKey<Fill<0x55>, Fill<0xff>>, _, _>(
-            public_65(),
-            signature_65()
-        )?
+        !accepts::<ml_dsa_65::PublicKey<Fill<0x55>, Fill<0xff>>, _, _>(public_65(), signature_65())?
     );
     assert!(rt;
-        !accepts::<ml_dsa_87::PublicKey<Fill<0x55>, Fill<0xff>>, _, _>(
-            public_87(),
-            signature_87()
-        )?
+        !accepts::<ml_dsa_87::PublicKey<Fill<0x55>, Fill<0xff>>, _, _>(public_87(), signature_87())?
     );
     assert!(rt;
         !accepts::<ml_dsa_44::PublicKey<Fill<0xff>, Fill<0>>, _, _>(
@@ -151,7 +142,7 @@ fn put_low_part(key: &mut [u8; 2560], place: usize, field: u32)
 fn low_parts_that_never_sign(rt: HostRuntime) -> Result<(), Fail> {
     let key = ml_dsa_44::PrivateKey::<Fill<0x55>, Fill<0>>::try_from_bytes(with_low_parts())?;
     let answer = key.try_sign_with_seed(&[0; 32], b"abc", &[]);
-    assert_eq!(rt; answer.err(), Some(Fault::TooManyAttempts));
+    assert!(rt; answer.err() == Some(Fault::TooManyAttempts));
     assert!(rt; key.get_public_key()?.into_bytes() == public_44());
     Ok(())
 }

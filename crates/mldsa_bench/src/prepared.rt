@@ -106,13 +106,15 @@ type PreparedPublic44<H> = ml_dsa_44::PreparedPublicKey<H>;
 fn signs_44(key: &PreparedPrivate44<Fill<0x55>>, signature: [u8; ml_dsa_44::SIG_LEN]) -> bool {
     let mut rng = DummyRng { bytes: [7; 32] };
     let identifier = oid(0x01);
-    let wanted = Ok(signature);
-    key.try_sign_with_seed(&[0; 32], b"abc", &[1; 255]) == wanted
-        && key.try_sign_with_rng(&mut rng, b"abc", &[]) == wanted
-        && key.try_hash_sign_with_seed(&[0; 32], &[5; 32], &[], &identifier) == wanted
-        && key.try_hash_sign_with_rng(&mut rng, &[5; 32], &[], &identifier) == wanted
-        && key.sign_internal(&mut rng, b"abc", true) == wanted
-        && key.sign_mu(&mut rng, &[9; 64], false) == wanted
+    let answers = [
+        key.try_sign_with_seed(&[0; 32], b"abc", &[1; 255]),
+        key.try_sign_with_rng(&mut rng, b"abc", &[]),
+        key.try_hash_sign_with_seed(&[0; 32], &[5; 32], &[], &identifier),
+        key.try_hash_sign_with_rng(&mut rng, &[5; 32], &[], &identifier),
+        key.sign_internal(&mut rng, b"abc", true),
+        key.sign_mu(&mut rng, &[9; 64], false),
+    ];
+    answers == [Ok(signature); 6]
 }
 
 /// The refusals of a prepared private key of set 44: of contexts of 256 bytes, and of a digest of 31.
@@ -231,11 +233,12 @@ fn signs_recorded_44(
     verifier: &PreparedPublic44<Sha256Ctr>,
 ) -> Result<bool, Fail> {
     let recorded = signer.try_sign_with_seed(&[0; 32], &[0], &[])?;
-    Ok(
-        has_text(alloc, &recorded, recorded_44::SIGNATURE)?
-            && verifier.verify(&[0], &recorded, &[])
-            && !verifier.verify(&[1], &recorded, &[]),
-    )
+    let same = has_text(alloc, &recorded, recorded_44::SIGNATURE)?;
+    let verdicts = [
+        verifier.verify(&[0], &recorded, &[]),
+        verifier.verify(&[1], &recorded, &[]),
+    ];
+    Ok(same && verdicts == [true, false])
 }
 
 #[test]
@@ -290,13 +293,15 @@ type PreparedPublic65<H> = ml_dsa_65::PreparedPublicKey<H>;
 fn signs_65(key: &PreparedPrivate65<Fill<0x55>>, signature: [u8; ml_dsa_65::SIG_LEN]) -> bool {
     let mut rng = DummyRng { bytes: [7; 32] };
     let identifier = oid(0x01);
-    let wanted = Ok(signature);
-    key.try_sign_with_seed(&[0; 32], b"abc", &[1; 255]) == wanted
-        && key.try_sign_with_rng(&mut rng, b"abc", &[]) == wanted
-        && key.try_hash_sign_with_seed(&[0; 32], &[5; 32], &[], &identifier) == wanted
-        && key.try_hash_sign_with_rng(&mut rng, &[5; 32], &[], &identifier) == wanted
-        && key.sign_internal(&mut rng, b"abc", true) == wanted
-        && key.sign_mu(&mut rng, &[9; 64], false) == wanted
+    let answers = [
+        key.try_sign_with_seed(&[0; 32], b"abc", &[1; 255]),
+        key.try_sign_with_rng(&mut rng, b"abc", &[]),
+        key.try_hash_sign_with_seed(&[0; 32], &[5; 32], &[], &identifier),
+        key.try_hash_sign_with_rng(&mut rng, &[5; 32], &[], &identifier),
+        key.sign_internal(&mut rng, b"abc", true),
+        key.sign_mu(&mut rng, &[9; 64], false),
+    ];
+    answers == [Ok(signature); 6]
 }
 
 /// The refusals of a prepared private key of set 65: of contexts of 256 bytes, and of a digest of 31.
@@ -415,11 +420,12 @@ fn signs_recorded_65(
     verifier: &PreparedPublic65<Sha256Ctr>,
 ) -> Result<bool, Fail> {
     let recorded = signer.try_sign_with_seed(&[0; 32], &[0], &[])?;
-    Ok(
-        has_text(alloc, &recorded, recorded_65::SIGNATURE)?
-            && verifier.verify(&[0], &recorded, &[])
-            && !verifier.verify(&[1], &recorded, &[]),
-    )
+    let same = has_text(alloc, &recorded, recorded_65::SIGNATURE)?;
+    let verdicts = [
+        verifier.verify(&[0], &recorded, &[]),
+        verifier.verify(&[1], &recorded, &[]),
+    ];
+    Ok(same && verdicts == [true, false])
 }
 
 #[test]
@@ -474,13 +480,15 @@ type PreparedPublic87<H> = ml_dsa_87::PreparedPublicKey<H>;
 fn signs_87(key: &PreparedPrivate87<Fill<0x55>>, signature: [u8; ml_dsa_87::SIG_LEN]) -> bool {
     let mut rng = DummyRng { bytes: [7; 32] };
     let identifier = oid(0x01);
-    let wanted = Ok(signature);
-    key.try_sign_with_seed(&[0; 32], b"abc", &[1; 255]) == wanted
-        && key.try_sign_with_rng(&mut rng, b"abc", &[]) == wanted
-        && key.try_hash_sign_with_seed(&[0; 32], &[5; 32], &[], &identifier) == wanted
-        && key.try_hash_sign_with_rng(&mut rng, &[5; 32], &[], &identifier) == wanted
-        && key.sign_internal(&mut rng, b"abc", true) == wanted
-        && key.sign_mu(&mut rng, &[9; 64], false) == wanted
+    let answers = [
+        key.try_sign_with_seed(&[0; 32], b"abc", &[1; 255]),
+        key.try_sign_with_rng(&mut rng, b"abc", &[]),
+        key.try_hash_sign_with_seed(&[0; 32], &[5; 32], &[], &identifier),
+        key.try_hash_sign_with_rng(&mut rng, &[5; 32], &[], &identifier),
+        key.sign_internal(&mut rng, b"abc", true),
+        key.sign_mu(&mut rng, &[9; 64], false),
+    ];
+    answers == [Ok(signature); 6]
 }
 
 /// The refusals of a prepared private key of set 87: of contexts of 256 bytes, and of a digest of 31.
@@ -599,11 +607,12 @@ fn signs_recorded_87(
     verifier: &PreparedPublic87<Sha256Ctr>,
 ) -> Result<bool, Fail> {
     let recorded = signer.try_sign_with_seed(&[0; 32], &[0], &[])?;
-    Ok(
-        has_text(alloc, &recorded, recorded_87::SIGNATURE)?
-            && verifier.verify(&[0], &recorded, &[])
-            && !verifier.verify(&[1], &recorded, &[]),
-    )
+    let same = has_text(alloc, &recorded, recorded_87::SIGNATURE)?;
+    let verdicts = [
+        verifier.verify(&[0], &recorded, &[]),
+        verifier.verify(&[1], &recorded, &[]),
+    ];
+    Ok(same && verdicts == [true, false])
 }
 
 #[test]

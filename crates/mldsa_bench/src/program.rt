@@ -127,7 +127,13 @@ fn unread_of_id(
 ) -> Option<usize> {
     match lines_of(alloc, &written) {
         Ok(written) => {
-            unread_of_lines(alloc, [streams, "id", "44"], &[line], Ok(true), written.as_slice())
+            unread_of_lines(
+                alloc,
+                [streams, "id", "44"],
+                &[line],
+                Ok(true),
+                written.as_slice(),
+            )
         }
         Err(_) => None,
     }
@@ -135,7 +141,12 @@ fn unread_of_id(
 
 #[test]
 fn key_of_zeros(rt: HostRuntime) {
-    let unread = unread_of_id(rt.alloc(), "fill55", (b'0', 2624), [(b'0', 2624), (b'5', 128)]);
+    let unread = unread_of_id(
+        rt.alloc(),
+        "fill55",
+        (b'0', 2624),
+        [(b'0', 2624), (b'5', 128)],
+    );
     assert!(rt; unread == Some(0));
 }
 
@@ -174,7 +185,12 @@ fn characters_that_are_no_digits(rt: HostRuntime) {
 
 #[test]
 fn upper_case_comes_out_lower(rt: HostRuntime) {
-    let unread = unread_of_id(rt.alloc(), "fillff", (b'A', 2624), [(b'a', 2624), (b'f', 128)]);
+    let unread = unread_of_id(
+        rt.alloc(),
+        "fillff",
+        (b'A', 2624),
+        [(b'a', 2624), (b'f', 128)],
+    );
     assert!(rt; unread == Some(0));
 }
 
@@ -210,7 +226,15 @@ fn seeds_that_are_none(rt: HostRuntime) {
     };
     assert!(rt; is_line_at_fault(rt.alloc(), call, 63, RunFault::NotHex { line: 1 }));
     assert!(rt; is_line_at_fault(rt.alloc(), call, 62, length));
-    assert!(rt; ends(rt.alloc(), call, b"", Err(RunFault::Missing { line: 1 }), b""));
+    assert!(rt;
+        ends(
+            rt.alloc(),
+            call,
+            b"",
+            Err(RunFault::Missing { line: 1 }),
+            b""
+        )
+    );
 }
 
 /// Whether a run on lines of digits answers no, and writes this text.

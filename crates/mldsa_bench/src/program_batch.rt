@@ -32,7 +32,13 @@ fn answers(
 ) -> Result<bool, AllocError> {
     let mut input = hex_lines(alloc, &[&public_44()])?;
     input.extend_from_slice(hex_lines(alloc, lines)?.as_slice())?;
-    let unread = unread_after(alloc, [streams, "batch", "44"], input.as_slice(), Ok(answer), written);
+    let unread = unread_after(
+        alloc,
+        [streams, "batch", "44"],
+        input.as_slice(),
+        Ok(answer),
+        written,
+    );
     Ok(unread == Some(0))
 }
 
@@ -107,7 +113,13 @@ fn high_byte_of_a_count_stands_first(rt: HostRuntime) -> Result<(), Fail> {
     let mut input = long_batch(alloc, 256)?;
     input.extend_from_slice(b"rest")?;
     let written = copies(alloc, b"yes\n", 256)?;
-    let unread = unread_after(alloc, BATCH_44, input.as_slice(), Ok(true), written.as_slice());
+    let unread = unread_after(
+        alloc,
+        BATCH_44,
+        input.as_slice(),
+        Ok(true),
+        written.as_slice(),
+    );
     assert!(rt; unread == Some(4));
     Ok(())
 }
@@ -143,20 +155,36 @@ fn batches_run<'a>(alloc: Global, set: &'a str, public: &'a str, signature: &'a 
         public, "", "0003", signature, "00", signature, "01", signature, "00",
     ];
     runs_as(alloc, ["batch", set], &lines, two, true, &["yes", "yes"])
-        && runs_as(alloc, ["batch", set], &longer, three, false, &["yes", "no", "yes"])
+        && runs_as(
+            alloc,
+            ["batch", set],
+            &longer,
+            three,
+            false,
+            &["yes", "no", "yes"],
+        )
 }
 
 #[test]
 fn batches_of_each_set(rt: HostRuntime) {
     for [set, public, _, signature] in RECORDED {
-        assert!(rt; batches_run(rt.alloc(), set, public, signature), "set {set}");
+        assert!(rt;
+            batches_run(rt.alloc(), set, public, signature),
+            "set {set}"
+        );
     }
 }
 
 #[test]
 fn faults_before_answers(rt: HostRuntime) -> Result<(), Fail> {
     let alloc = rt.alloc();
-    let lines = [&public_44(), [0; 256].as_slice(), &[0, 2], &signature_44(), &[]];
+    let lines = [
+        &public_44(),
+        [0; 256].as_slice(),
+        &[0, 2],
+        &signature_44(),
+        &[],
+    ];
     let mut input = hex_lines(alloc, &lines)?;
     input.extend_from_slice(line_of(alloc, b'0', 4838)?.as_slice())?;
     let fault = RunFault::Length {

@@ -116,12 +116,7 @@ pub const RECORDED: [[&str; 4]; 3] = [
 ];
 
 /// Whether an outcome has this answer, wrote these bytes in so many calls, and has no device that failed.
-fn is_as(
-    outcome: &Outcome,
-    answer: Result<bool, RunFault>,
-    written: &[u8],
-    writes: usize,
-) -> bool {
+fn is_as(outcome: &Outcome, answer: Result<bool, RunFault>, written: &[u8], writes: usize) -> bool {
     outcome.answer == answer
         && outcome.written.as_slice() == written
         && outcome.writes == writes
@@ -189,9 +184,21 @@ fn makers_run<'a>(
     let hash = private.get(128..256).unwrap_or("");
     let lines = [private, ZEROS, "", "00"];
     let reads = pieces(private).wrapping_add(5);
-    runs_as(alloc, ["id", set], &[public], pieces(public), true, &[public, hash])
-        && runs_as(alloc, ["keygen", set], &[ZEROS], 1, true, &[public, private])
-        && runs_as(alloc, ["sign", set], &lines, reads, true, &[signature])
+    runs_as(
+        alloc,
+        ["id", set],
+        &[public],
+        pieces(public),
+        true,
+        &[public, hash],
+    ) && runs_as(
+        alloc,
+        ["keygen", set],
+        &[ZEROS],
+        1,
+        true,
+        &[public, private],
+    ) && runs_as(alloc, ["sign", set], &lines, reads, true, &[signature])
 }
 
 /// Whether `verify` and `check` run as they have to on the recorded bytes of a set.
@@ -203,13 +210,23 @@ fn judges_run<'a>(alloc: Global, set: &'a str, public: &'a str, signature: &'a s
     let bad = [public, signature, "", "01"];
     runs_as(alloc, ["verify", set], &good, reads, true, &["yes"])
         && runs_as(alloc, ["verify", set], &bad, reads, false, &["no"])
-        && runs_as(alloc, ["check", set], &[ZEROS, ZEROS, "", "00"], 6, true, &["yes"])
+        && runs_as(
+            alloc,
+            ["check", set],
+            &[ZEROS, ZEROS, "", "00"],
+            6,
+            true,
+            &["yes"],
+        )
 }
 
 #[test]
 fn each_command_at_each_set(rt: HostRuntime) {
     for [set, public, private, signature] in RECORDED {
-        assert!(rt; makers_run(rt.alloc(), set, public, private, signature), "set {set}");
+        assert!(rt;
+            makers_run(rt.alloc(), set, public, private, signature),
+            "set {set}"
+        );
         assert!(rt; judges_run(rt.alloc(), set, public, signature), "set {set}");
     }
 }
@@ -266,7 +283,14 @@ fn is_wrong_length(
 {
     let digits = line_of(alloc, b'0', 2 * has)?;
     let fault = RunFault::Length { line, wants, has };
-    is_judged(alloc, call, before, digits.as_slice(), b"00\n00\n00\n", fault)
+    is_judged(
+        alloc,
+        call,
+        before,
+        digits.as_slice(),
+        b"00\n00\n00\n",
+        fault,
+    )
 }
 
 /// Whether each fault of one line is answered, after these lines: that it is missing, that it is no hex, and where
@@ -350,8 +374,14 @@ fn judges_judge<'a>(
 #[test]
 fn each_line_is_judged_before_the_next_is_read(rt: HostRuntime) -> Result<(), Fail> {
     for [set, public, private, signature] in RECORDED {
-        assert!(rt; makers_judge(rt.alloc(), set, public, private)?, "set {set}");
-        assert!(rt; judges_judge(rt.alloc(), set, public, signature)?, "set {set}");
+        assert!(rt;
+            makers_judge(rt.alloc(), set, public, private)?,
+            "set {set}"
+        );
+        assert!(rt;
+            judges_judge(rt.alloc(), set, public, signature)?,
+            "set {set}"
+        );
     }
     Ok(())
 }
@@ -362,7 +392,14 @@ fn is_too_long(alloc: Global, line: usize, before: &[&str]) -> Result<bool, Allo
     let before = lines_of(alloc, before)?;
     let call = ["fill55", "check", "44"];
     let fault = RunFault::TooLong { line };
-    is_judged(alloc, call, before.as_slice(), digits.as_slice(), b"00\n00\n", fault)
+    is_judged(
+        alloc,
+        call,
+        before.as_slice(),
+        digits.as_slice(),
+        b"00\n00\n",
+        fault,
+    )
 }
 
 #[test]

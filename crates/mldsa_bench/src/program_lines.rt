@@ -21,7 +21,13 @@ fn signs_as(
     key[128] = field;
     let mut lines = hex_lines(alloc, &[&key])?;
     lines.extend_from_slice(hex_lines(alloc, others)?.as_slice())?;
-    Ok(ends(alloc, ["fill55", "sign", "44"], lines.as_slice(), answer, written))
+    Ok(ends(
+        alloc,
+        ["fill55", "sign", "44"],
+        lines.as_slice(),
+        answer,
+        written,
+    ))
 }
 
 #[test]

@@ -58,8 +58,12 @@ fn are_made<'a>(
     let tr = private.get(64..128).unwrap_or(zeros);
     let lines = [private, zeros, &[], &[0]];
     Ok(
-        gives_lines(alloc, [streams, "keygen", set], &[zeros], &[public, private])?
-            && gives_lines(alloc, [streams, "id", set], &[public], &[public, tr])?
+        gives_lines(
+            alloc,
+            [streams, "keygen", set],
+            &[zeros],
+            &[public, private],
+        )? && gives_lines(alloc, [streams, "id", set], &[public], &[public, tr])?
             && gives_lines(alloc, [streams, "sign", set], &lines, &[signature])?,
     )
 }
@@ -67,7 +71,7 @@ fn are_made<'a>(
 /// Whether `verify` answers so for this public key and this signature, a context and a message.
 fn verifies<'a>(
     alloc: Global,
-    call: [&'a str; 3],
+    call: [&str; 3],
     public: &'a [u8],
     signature: &'a [u8],
     ctx: &'a [u8],
@@ -75,7 +79,13 @@ fn verifies<'a>(
     answer: bool,
 ) -> Result<bool, AllocError> {
     let text = if answer { b"yes\n".as_slice() } else { b"no\n" };
-    gives(alloc, call, &[public, signature, ctx, message], answer, text)
+    gives(
+        alloc,
+        call,
+        &[public, signature, ctx, message],
+        answer,
+        text,
+    )
 }
 
 /// Whether each command gives what belongs to this pair and this signature, and `verify` says no to a context of 256
@@ -94,7 +104,13 @@ fn are_given<'a>(
         are_made(alloc, streams, set, public, private, signature)?
             && verifies(alloc, verify, public, signature, &[], &[0], true)?
             && verifies(alloc, verify, public, signature, &[0; 256], &[0], false)?
-            && gives(alloc, check, &[&[0; 32], &[0; 32], &[], &[0]], true, b"yes\n")?,
+            && gives(
+                alloc,
+                check,
+                &[&[0; 32], &[0; 32], &[], &[0]],
+                true,
+                b"yes\n",
+            )?,
     )
 }
 
@@ -117,8 +133,11 @@ fn are_given_over_counters(alloc: Global, recorded: [&str; 4]) -> Result<bool, F
     let public = hex::decode(alloc, recorded[1])?;
     let private = hex::decode(alloc, recorded[2])?;
     let signature = hex::decode(alloc, recorded[3])?;
-    let (public, private, signature) =
-        (public.as_slice(), private.as_slice(), signature.as_slice());
+    let (public, private, signature) = (
+        public.as_slice(),
+        private.as_slice(),
+        signature.as_slice(),
+    );
     let verify = ["sha2", "verify", set];
     Ok(
         are_given(alloc, "sha2", set, public, private, signature)?

@@ -1,6 +1,8 @@
 //! Key pairs and signatures over the counter streams.
 #![tactic(auto)]
 
+ghost use Rattle.std.specs.Prelude.{◌<◌, ◌^◌};
+
 use crate::object_identifiers::oid;
 use crate::program_devices::RECORDED;
 use fips204::traits::{KeyGen, SerDes, Signer, Verifier};
@@ -31,10 +33,13 @@ fn accepts_one<P: Verifier<Signature = [u8; SIG]>, const SIG: usize>(
     if let Some(byte) = other.get_mut(100) {
         *byte ^= 1;
     }
-    key.verify(&[0], signature, &[])
-        && !key.verify(&[1], signature, &[])
-        && !key.verify(&[0], signature, &[0])
-        && !key.verify(&[0], &other, &[])
+    let verdicts = [
+        key.verify(&[0], signature, &[]),
+        key.verify(&[1], signature, &[]),
+        key.verify(&[0], signature, &[0]),
+        key.verify(&[0], &other, &[]),
+    ];
+    verdicts == [true, false, false, false]
 }
 
 /// Whether the pair of 32 bytes 00 and its signature of the message `00` by 32 bytes 00 are these, in hex, and the key
@@ -46,15 +51,18 @@ fn is_recorded<
     const PK: usize,
     const SK: usize,
     const SIG: usize,
->(alloc: Global, recorded: [&str; 4]) -> Result<bool, Fail> {
+>(alloc: Global, recorded: [&str; 4]) -> Result<bool, Fail>
+    requires { (PK < 2 ^ 63) × (SK < 2 ^ 63) × (SIG < 2 ^ 63) }
+{
     let (public, private) = K::keygen_from_seed(&[0; 32])?;
     let signature = private.try_sign_with_seed(&[0; 32], &[0], &[])?;
-    Ok(
-        accepts_one(&public, &signature)
-            && has_text(alloc, &signature, recorded[3])?
-            && has_text(alloc, &public.into_bytes(), recorded[1])?
-            && has_text(alloc, &private.into_bytes(), recorded[2])?,
-    )
+    let same = [
+        accepts_one(&public, &signature),
+        has_text(alloc, &signature, recorded[3])?,
+        has_text(alloc, &public.into_bytes(), recorded[1])?,
+        has_text(alloc, &private.into_bytes(), recorded[2])?,
+    ];
+    Ok(same == [true; 4])
 }
 
 /// Whether the bytes of set 44 over these streams are those that are recorded.
@@ -118,14 +126,14 @@ fn signs_digest<
     P: Verifier<Signature = [u8; SIG]> + Drop,
     S: Signer<Signature = [u8; SIG], PublicKey = P> + Drop,
     const SIG: usize,
->(alloc: Global, digest: &str) -> Result<bool, Fail> {
+>(alloc: Global, digest: &str) -> Result<bool, Fail>
+    requires { SIG < 2 ^ 63 }
+{
     let sha256 = oid(0x01);
     let (public, private) = K::keygen_from_seed(&[0; 32])?;
     let signature = private.try_hash_sign_with_seed(&[0; 32], &[0; 32], &[], &sha256)?;
-    Ok(
-        has_digest(alloc, &signature, digest)?
-            && public.hash_verify(&[0; 32], &signature, &[], &sha256),
-    )
+    let accepted = public.hash_verify(&[0; 32], &signature, &[], &sha256);
+    Ok(accepted && has_digest(alloc, &signature, digest)?)
 }
 
 #[test]

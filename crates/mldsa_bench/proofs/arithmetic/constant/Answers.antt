@@ -1,4 +1,4 @@
-use Rattle.std.proofs.Common.{ℤ, ◌≤◌, nat_abs, replicate, rules, arith, ints}
+use Rattle.std.proofs.Common.{ℤ, ◌≤◌, nat_abs, rules}
 use Rattle.std.proofs.lemmas.List.Elements.{All-replicate}
 use Rattle.mldsa_bench.proofs.arithmetic.constant.Goals as goal
 
