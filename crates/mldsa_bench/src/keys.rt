@@ -66,7 +66,7 @@ fn first_fields_of_private_keys(rt: HostRuntime) -> Result<(), Fail> {
     for field in [0x05, 0x07] {
         bytes[128] = field;
         let answer = Private44::try_from_bytes(bytes);
-        assert!(rt; answer.err() == Some(Fault::KeyRange));
+        assert_eq!(rt; answer.err(), Some(Fault::KeyRange));
     }
     Ok(())
 }

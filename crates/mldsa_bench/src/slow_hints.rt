@@ -191,8 +191,8 @@ fn accepted_about(key: &Public44, part: &mut [u8; 84]) -> Option<usize> {
 fn signatures_changed_in_one_byte_of_their_hint(rt: HostRuntime) -> Result<(), Fail> {
     let key = Public44::try_from_bytes(public_44())?;
     let [mut rising, mut ends, mut last] = swept_parts::<84>(80);
-    assert!(rt; accepted_about(&key, &mut rising) == Some(257));
-    assert!(rt; accepted_about(&key, &mut ends) == Some(513));
-    assert!(rt; accepted_about(&key, &mut last) == Some(258));
+    assert_eq!(rt; accepted_about(&key, &mut rising), Some(257));
+    assert_eq!(rt; accepted_about(&key, &mut ends), Some(513));
+    assert_eq!(rt; accepted_about(&key, &mut last), Some(258));
     Ok(())
 }
