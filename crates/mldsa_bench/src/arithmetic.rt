@@ -52,22 +52,29 @@ fn centred_values(rt: HostRuntime) -> Result<(), Fail> {
     Ok(())
 }
 
-/// The norm of a polynomial.
-fn norm_of(w: [i32; 256]) -> i32
-    requires { All (λ x. nat_abs x ≤ 2143289343) w }
+/// The polynomial whose coefficients are all this one.
+fn constant(x: i32) -> [i32; 256]
+    requires { nat_abs x ≤ 8380416 }
+    ensures { All (λ y. nat_abs y ≤ 8380416) result }
 {
-    infinity_norm(&[R(w)])
+    [x; 256]
+}
+
+/// Whether the polynomial whose coefficients are all the first number has the second as its norm.
+fn has_norm(x: i32, norm: i32) -> bool
+    requires { nat_abs x ≤ 8380416 }
+{
+    infinity_norm(&[R(constant(x))]) == norm
 }
 
 #[test]
-fn norms(rt: HostRuntime) -> Result<(), Fail> {
-    assert_eq!(rt; norm_of([0; 256]), 0);
-    assert_eq!(rt; norm_of([4190208; 256]), 4190208);
-    assert_eq!(rt; norm_of([4190209; 256]), 4190208);
-    assert_eq!(rt; norm_of([8380416; 256]), 1);
-    assert_eq!(rt; norm_of([-4190208; 256]), 4190208);
-    assert_eq!(rt; norm_of([-8380416; 256]), 1);
-    Ok(())
+fn norms(rt: HostRuntime) {
+    assert!(rt; has_norm(0, 0));
+    assert!(rt; has_norm(4190208, 4190208));
+    assert!(rt; has_norm(4190209, 4190208));
+    assert!(rt; has_norm(8380416, 1));
+    assert!(rt; has_norm(-4190208, 4190208));
+    assert!(rt; has_norm(-8380416, 1));
 }
 
 /// The polynomial that has a transform, and whether it took 1024 products and 2048 sums.
@@ -139,15 +146,27 @@ fn fast_product(a: [i32; 256], b: [i32; 256]) -> [i32; 256]
     challenge_times_vector(&R(a), &[R(b)])[0].0
 }
 
-/// What `mont_reduce` gives, or 0 outside of its range.
-fn reduced(wide: i64) -> i32
+/// What `mont_reduce` gives of a product, or 0 outside of its range.
+fn reduced(a: i32, b: i32) -> i32
     ensures { nat_abs result ≤ 8380416 }
 {
+    let wide = i64::from(a).wrapping_mul(i64::from(b));
     if -17996808470921216 <= wide && wide <= 17996808462540799 {
         mont_reduce(wide)
     } else {
         0
     }
+}
+
+/// The products of the values at each place, in Montgomery form.
+fn pointwise(a: &[i32; 256], b: &[i32; 256]) -> [i32; 256]
+    ensures { All (λ y. nat_abs y ≤ 8380416) result }
+{
+    let mut out = [0; 256];
+    for i in 0..256usize {
+        out[i] = reduced(a[i], b[i]);
+    }
+    out
 }
 
 /// The product, by transforms in Montgomery form.
@@ -156,50 +175,57 @@ fn product_of_transforms(a: [i32; 256], b: [i32; 256]) -> [i32; 256]
     requires second { All (λ x. nat_abs x ≤ 8380416) b }
 {
     let [T(first)] = to_mont(&[T(counted_ntt(a).0)]);
-    let (second, _) = counted_ntt(b);
-    let mut product = [0; 256];
-    for i in 0..256usize {
-        product[i] = reduced(i64::from(first[i]) * i64::from(second[i]));
-    }
-    counted_inv_ntt(product).0
+    counted_inv_ntt(pointwise(&first, &counted_ntt(b).0)).0
+}
+
+/// Whether a value is congruent to this one modulo `q`.
+fn is_congruent(value: i32, x: i32) -> bool {
+    value.rem_euclid(8380417) == x.rem_euclid(8380417)
 }
 
 /// Whether every value is congruent to this one modulo `q`.
-fn all_congruent(values: &[i32], x: i32) -> bool {
-    values
-        .iter()
-        .all(|value| value.rem_euclid(8380417) == x.rem_euclid(8380417))
+fn all_congruent(values: &[i32; 256], x: i32) -> bool {
+    for value in values {
+        if !is_congruent(*value, x) {
+            return false;
+        }
+    }
+    true
 }
 
 #[test]
-fn transforms_of_one_and_x(rt: HostRuntime) -> Result<(), Fail> {
+fn transforms_of_one_and_x(rt: HostRuntime) {
     let (values, counted) = counted_ntt(monomial(0, 1));
-    assert!(rt; all_congruent(values.as_slice(), 1));
-    assert!(rt; counted);
+    assert!(rt; counted && all_congruent(&values, 1));
     let (values, counted) = counted_ntt(monomial(1, 1));
-    assert!(rt; all_congruent(&[values[0]], 1753));
-    assert!(rt; all_congruent(&[values[1]], 8378664));
-    assert!(rt; counted);
-    Ok(())
+    assert!(rt; counted && is_congruent(values[0], 1753) && is_congruent(values[1], 8378664));
+}
+
+/// Whether both ways to multiply X^255 by X give `q - 1` at place 0.
+fn turns_round() -> bool {
+    let wanted = monomial(0, 8380416);
+    fast_product(monomial(255, 1), monomial(1, 1)) == wanted
+        && product_of_transforms(monomial(255, 1), monomial(1, 1)) == wanted
+}
+
+/// Whether the library multiplies two polynomials as the double sums do.
+fn is_multiplied(a: [i32; 256], b: [i32; 256]) -> bool
+    requires first { All (λ x. nat_abs x ≤ 8380416) a }
+    requires second { All (λ x. nat_abs x ≤ 8380416) b }
+{
+    fast_product(a, b) == slow_product(&a, &b)
 }
 
 #[test]
-fn products_of_polynomials(rt: HostRuntime) -> Result<(), Fail> {
-    let product = fast_product(monomial(255, 1), monomial(1, 1));
-    assert!(rt; product == monomial(0, 8380416));
-    let product = product_of_transforms(monomial(255, 1), monomial(1, 1));
-    assert!(rt; product == monomial(0, 8380416));
+fn products_of_polynomials(rt: HostRuntime) {
+    assert!(rt; turns_round());
     for number in [1u32, 77, 40000, 1234567890] {
-        let a = scattered(number);
-        let b = scattered(number.wrapping_add(1));
         assert!(rt;
-            fast_product(a, b) == slow_product(&a, &b),
+            is_multiplied(scattered(number), scattered(number.wrapping_add(1))),
             "polynomials {number}"
         );
     }
-    let most = [8380416; 256];
-    assert!(rt; fast_product(most, most) == slow_product(&most, &most));
-    Ok(())
+    assert!(rt; is_multiplied(constant(8380416), constant(8380416)));
 }
 
 #[test]
@@ -214,18 +240,22 @@ fn challenge_times_a_constant(rt: HostRuntime) -> Result<(), Fail> {
         } else {
             -2
         };
-        assert!(rt; all_congruent(&[product[i]], wanted), "place {i}");
+        assert!(rt; is_congruent(product[i], wanted), "place {i}");
     }
     Ok(())
 }
 
+/// Whether the polynomial whose transform has all values this one is a constant, in 1024 products and 2048 sums.
+fn has_constant_inverse(value: i32, wanted: i32) -> bool
+    requires value { nat_abs value ≤ 8380416 }
+    requires wanted { nat_abs wanted ≤ 8380416 }
+{
+    let (inverse, counted) = counted_inv_ntt(constant(value));
+    counted && inverse == monomial(0, wanted)
+}
+
 #[test]
-fn inverse_transforms_of_constants(rt: HostRuntime) -> Result<(), Fail> {
-    let (values, counted) = counted_inv_ntt([8380416; 256]);
-    assert!(rt; values == monomial(0, 8380416));
-    assert!(rt; counted);
-    let (values, counted) = counted_inv_ntt([-8380416; 256]);
-    assert!(rt; values == monomial(0, 1));
-    assert!(rt; counted);
-    Ok(())
+fn inverse_transforms_of_constants(rt: HostRuntime) {
+    assert!(rt; has_constant_inverse(8380416, 8380416));
+    assert!(rt; has_constant_inverse(-8380416, 1));
 }

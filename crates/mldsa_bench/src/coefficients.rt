@@ -13,16 +13,16 @@ fn coefficients_of_three_bytes(rt: HostRuntime) -> Result<(), Fail> {
         ([0x01, 0xe0, 0x7f], None),
         ([0x00, 0xe0, 0x7f], Some(8380416)),
     ] {
-        assert_eq!(rt; coeff_from_three_bytes(bytes), coefficient);
+        assert!(rt; coeff_from_three_bytes(bytes) == coefficient);
     }
     Ok(())
 }
 
 #[test]
 fn coefficients_of_half_bytes(rt: HostRuntime) -> Result<(), Fail> {
-    assert_eq!(rt; coeff_from_half_byte(2, 3), Some(-1));
-    assert_eq!(rt; coeff_from_half_byte(2, 15), None);
-    assert_eq!(rt; coeff_from_half_byte(4, 8), Some(-4));
-    assert_eq!(rt; coeff_from_half_byte(4, 9), None);
+    assert!(rt; coeff_from_half_byte(2, 3) == Some(-1));
+    assert!(rt; coeff_from_half_byte(2, 15) == None);
+    assert!(rt; coeff_from_half_byte(4, 8) == Some(-4));
+    assert!(rt; coeff_from_half_byte(4, 9) == None);
     Ok(())
 }

@@ -26,12 +26,12 @@ fn identifiers_and_lengths(rt: HostRuntime) -> Result<(), Fail> {
         (pre_hash::SHAKE_256, 0x0c, 64),
     ] {
         assert!(rt; identifier == oid(last), "last byte {last}");
-        assert_eq!(rt; digest_len(&identifier), Some(length), "last byte {last}");
+        assert!(rt; digest_len(&identifier) == Some(length), "last byte {last}");
     }
-    assert_eq!(rt; digest_len(&oid(0x00)), None);
-    assert_eq!(rt; digest_len(&oid(0x0d)), None);
-    assert_eq!(rt; digest_len(&oid(0x01)[..10]), None);
-    assert_eq!(rt; digest_len(&[]), None);
+    assert!(rt; digest_len(&oid(0x00)) == None);
+    assert!(rt; digest_len(&oid(0x0d)) == None);
+    assert!(rt; digest_len(&oid(0x01)[..10]) == None);
+    assert!(rt; digest_len(&[]) == None);
     Ok(())
 }
 
@@ -55,21 +55,18 @@ fn digests_that_are_refused(rt: HostRuntime) -> Result<(), Fail> {
             Fault::DigestTooLong,
         ),
     ] {
-        assert_eq!(rt; check_pre_hash(digest, identifier), Err(fault));
+        assert!(rt; check_pre_hash(digest, identifier) == Err(fault));
     }
-    assert_eq!(rt;
-        check_pre_hash(&[0; 1024], &[0x06, 0x03, 0x2a, 0x03, 0x04]),
-        Ok(())
-    );
-    assert_eq!(rt; check_pre_hash(&[0; 32], &sha256), Ok(()));
-    assert_eq!(rt; check_pre_hash(&[], &[0x06, 0x01, 0x00]), Ok(()));
+    assert!(rt; check_pre_hash(&[0; 1024], &[0x06, 0x03, 0x2a, 0x03, 0x04]) == Ok(()));
+    assert!(rt; check_pre_hash(&[0; 32], &sha256) == Ok(()));
+    assert!(rt; check_pre_hash(&[], &[0x06, 0x01, 0x00]) == Ok(()));
     Ok(())
 }
 
 #[test]
 fn longest_identifiers(rt: HostRuntime) -> Result<(), Fail> {
-    assert_eq!(rt; check_pre_hash(&[], &longest_oid()), Ok(()));
-    assert_eq!(rt; check_pre_hash(&[], &longer_oid()), Err(Fault::OidNotDer));
+    assert!(rt; check_pre_hash(&[], &longest_oid()) == Ok(()));
+    assert!(rt; check_pre_hash(&[], &longer_oid()) == Err(Fault::OidNotDer));
     Ok(())
 }
 
@@ -121,7 +118,7 @@ fn digests_that_are_not_signed(rt: HostRuntime) -> Result<(), Fail> {
         (&[0; 33], &[], &sha256, Fault::DigestLength),
     ] {
         let answer = private.try_hash_sign_with_seed(&[0; 32], digest, ctx, identifier);
-        assert_eq!(rt; answer.err(), Some(fault));
+        assert!(rt; answer.err() == Some(fault));
         assert!(rt; !public.hash_verify(digest, &signature_44(), ctx, identifier));
     }
     Ok(())

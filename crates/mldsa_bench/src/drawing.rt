@@ -18,75 +18,89 @@ type Keys44 = ml_dsa_44::KG<Fill<0x55>, Fill<0>>;
 /// A refusal, then 32 bytes.
 const REFUSAL_FIRST: [Option<[u8; 32]>; 2] = [None, Some([7; 32])];
 
+/// Whether a pair that is drawn is the recorded one, or its refusal.
+fn drawn_pair(rng: &mut Listed) -> Result<bool, Fault> {
+    let (public, private) = Keys44::try_keygen_with_rng(rng)?;
+    Ok(public.into_bytes() == public_44() && private.into_bytes() == private_44())
+}
+
+/// Whether the signature of a message is the recorded one, or its refusal.
+fn drawn_signature(rng: &mut Listed, ctx: &[u8]) -> Result<bool, Fault> {
+    let key = Private44::try_from_bytes(private_44())?;
+    Ok(key.try_sign_with_rng(rng, b"abc", ctx)? == signature_44())
+}
+
+/// Whether the signature of a digest is the recorded one, or its refusal.
+fn drawn_digest(rng: &mut Listed, ctx: &[u8], oid: &[u8]) -> Result<bool, Fault> {
+    let key = Private44::try_from_bytes(private_44())?;
+    Ok(key.try_hash_sign_with_rng(rng, &[0; 32], ctx, oid)? == signature_44())
+}
+
+/// Whether the signature of a framed message is the recorded one, or its refusal.
+fn drawn_framed(rng: &mut Listed, hedged: bool) -> Result<bool, Fault> {
+    let key = Private44::try_from_bytes(private_44())?;
+    Ok(key.sign_internal(rng, b"abc", hedged)? == signature_44())
+}
+
+/// Whether the signature of a hash is the recorded one, or its refusal.
+fn drawn_hash(rng: &mut Listed, hedged: bool) -> Result<bool, Fault> {
+    let key = Private44::try_from_bytes(private_44())?;
+    Ok(key.sign_mu(rng, &[0; 64], hedged)? == signature_44())
+}
+
 #[test]
-fn generators_that_refuse_a_pair(rt: HostRuntime) -> Result<(), Fail> {
+fn generators_that_refuse_a_pair(rt: HostRuntime) {
     let mut rng = Listed {
         answers: &REFUSAL_FIRST,
     };
-    let answer = Keys44::try_keygen_with_rng(&mut rng);
-    assert_eq!(rt; answer.err(), Some(Fault::KeyGenRng));
-    assert_eq!(rt; rng.answers.len(), 1);
-    let (public, private) = Keys44::try_keygen_with_rng(&mut rng)?;
-    assert_eq!(rt; rng.answers.len(), 0);
-    assert!(rt; public.into_bytes() == public_44());
-    assert!(rt; private.into_bytes() == private_44());
+    assert!(rt; drawn_pair(&mut rng) == Err(Fault::KeyGenRng));
+    assert!(rt; rng.answers.len() == 1);
+    assert!(rt; drawn_pair(&mut rng) == Ok(true));
+    assert!(rt; rng.answers.len() == 0);
     let answer = ml_dsa_44::try_keygen_with_rng::<Fill<0x55>, Fill<0>, Listed>(&mut rng);
-    assert_eq!(rt; answer.err(), Some(Fault::KeyGenRng));
-    Ok(())
+    assert!(rt; answer.err() == Some(Fault::KeyGenRng));
 }
 
 #[test]
-fn generators_that_refuse_a_signature(rt: HostRuntime) -> Result<(), Fail> {
-    let key = Private44::try_from_bytes(private_44())?;
+fn generators_that_refuse_a_signature(rt: HostRuntime) {
     let mut rng = Listed {
         answers: &REFUSAL_FIRST,
     };
-    let answer = key.try_sign_with_rng(&mut rng, b"abc", &[]);
-    assert_eq!(rt; answer.err(), Some(Fault::SignRng));
-    assert_eq!(rt; rng.answers.len(), 1);
-    assert!(rt; key.try_sign_with_rng(&mut rng, b"abc", &[])? == signature_44());
-    assert_eq!(rt; rng.answers.len(), 0);
-    Ok(())
+    assert!(rt; drawn_signature(&mut rng, &[]) == Err(Fault::SignRng));
+    assert!(rt; rng.answers.len() == 1);
+    assert!(rt; drawn_signature(&mut rng, &[]) == Ok(true));
+    assert!(rt; rng.answers.len() == 0);
 }
 
 #[test]
-fn generators_that_refuse_a_signed_digest(rt: HostRuntime) -> Result<(), Fail> {
-    let key = Private44::try_from_bytes(private_44())?;
+fn generators_that_refuse_a_signed_digest(rt: HostRuntime) {
     let mut rng = Listed {
         answers: &REFUSAL_FIRST,
     };
-    let answer = key.try_hash_sign_with_rng(&mut rng, &[0; 32], &[], &oid(0x01));
-    assert_eq!(rt; answer.err(), Some(Fault::HashRng));
-    assert_eq!(rt; rng.answers.len(), 1);
-    let signature = key.try_hash_sign_with_rng(&mut rng, &[0; 32], &[], &oid(0x01))?;
-    assert!(rt; signature == signature_44());
-    assert_eq!(rt; rng.answers.len(), 0);
-    Ok(())
+    assert!(rt; drawn_digest(&mut rng, &[], &oid(0x01)) == Err(Fault::HashRng));
+    assert!(rt; rng.answers.len() == 1);
+    assert!(rt; drawn_digest(&mut rng, &[], &oid(0x01)) == Ok(true));
+    assert!(rt; rng.answers.len() == 0);
 }
 
 #[test]
-fn generators_that_refuse_a_hook(rt: HostRuntime) -> Result<(), Fail> {
-    let key = Private44::try_from_bytes(private_44())?;
+fn generators_that_refuse_a_hook(rt: HostRuntime) {
     let mut rng = Listed {
         answers: &[None, None, Some([7; 32])],
     };
-    let answer = key.sign_internal(&mut rng, b"abc", true);
-    assert_eq!(rt; answer.err(), Some(Fault::InternalRng));
-    let answer = key.sign_mu(&mut rng, &[0; 64], true);
-    assert_eq!(rt; answer.err(), Some(Fault::InternalRng));
-    assert_eq!(rt; rng.answers.len(), 1);
-    assert!(rt; key.sign_mu(&mut rng, &[0; 64], true)? == signature_44());
-    assert_eq!(rt; rng.answers.len(), 0);
-    Ok(())
+    assert!(rt; drawn_framed(&mut rng, true) == Err(Fault::InternalRng));
+    assert!(rt; drawn_hash(&mut rng, true) == Err(Fault::InternalRng));
+    assert!(rt; rng.answers.len() == 1);
+    assert!(rt; drawn_hash(&mut rng, true) == Ok(true));
+    assert!(rt; rng.answers.len() == 0);
 }
 
 #[test]
 fn hooks_that_draw_nothing(rt: HostRuntime) -> Result<(), Fail> {
-    let key = Private44::try_from_bytes(private_44())?;
     let mut rng = Listed { answers: &[None] };
-    assert!(rt; key.sign_mu(&mut rng, &[0; 64], false)? == signature_44());
-    assert!(rt; key.sign_internal(&mut rng, b"abc", false)? == signature_44());
-    assert_eq!(rt; rng.answers.len(), 1);
+    assert!(rt; drawn_hash(&mut rng, false) == Ok(true));
+    assert!(rt; drawn_framed(&mut rng, false) == Ok(true));
+    assert!(rt; rng.answers.len() == 1);
     let key = ml_dsa_44::PublicKey::<Fill<0x55>, Fill<0>>::try_from_bytes(public_44())?;
     assert!(rt; key.verify_mu(&[0; 64], &signature_44()));
     assert!(rt; key.verify_internal(b"abc", &signature_44()));
@@ -94,17 +108,13 @@ fn hooks_that_draw_nothing(rt: HostRuntime) -> Result<(), Fail> {
 }
 
 #[test]
-fn refusals_before_the_generator(rt: HostRuntime) -> Result<(), Fail> {
-    let key = Private44::try_from_bytes(private_44())?;
+fn refusals_before_the_generator(rt: HostRuntime) {
     let mut rng = Listed { answers: &[None] };
-    let answer = key.try_sign_with_rng(&mut rng, b"abc", &[0; 256]);
-    assert_eq!(rt; answer.err(), Some(Fault::SignCtx));
-    let answer = key.try_hash_sign_with_rng(&mut rng, &[0; 32], &[0; 256], &oid(0x01));
-    assert_eq!(rt; answer.err(), Some(Fault::HashCtx));
-    let answer = key.try_hash_sign_with_rng(&mut rng, &[0; 32], &[], &[]);
-    assert_eq!(rt; answer.err(), Some(Fault::OidEmpty));
-    assert_eq!(rt; rng.answers.len(), 1);
-    Ok(())
+    let long = [0u8; 256];
+    assert!(rt; drawn_signature(&mut rng, &long) == Err(Fault::SignCtx));
+    assert!(rt; drawn_digest(&mut rng, &long, &oid(0x01)) == Err(Fault::HashCtx));
+    assert!(rt; drawn_digest(&mut rng, &[], &[]) == Err(Fault::OidEmpty));
+    assert!(rt; rng.answers.len() == 1);
 }
 
 /// Whether `DummyRng` refuses so many bytes and leaves them as they were.
@@ -131,22 +141,36 @@ fn generator_of_one_seed(rt: HostRuntime) -> Result<(), Fail> {
     Ok(())
 }
 
+/// A private key of set 44 over the counter streams.
+type PrivateCtr44 = ml_dsa_44::PrivateKey<Sha256Ctr, Sha512Ctr>;
+
+/// A public key of set 44 over the counter streams.
+type PublicCtr44 = ml_dsa_44::PublicKey<Sha256Ctr, Sha512Ctr>;
+
+/// Whether the hooks sign a framed message, over 32 bytes 07 that are drawn, with this signature and accept it.
+fn hooks_take(
+    private: &PrivateCtr44,
+    public: &PublicCtr44,
+    framed: &[u8],
+    signature: &[u8; 2420],
+) -> bool {
+    let mut rng = Listed {
+        answers: &[Some([7; 32])],
+    };
+    private.sign_internal(&mut rng, framed, true) == Ok(*signature)
+        && public.verify_internal(framed, signature)
+}
+
 #[test]
 fn hooks_take_framed_messages(rt: HostRuntime) -> Result<(), Fail> {
     let (public, private) = ml_dsa_44::KG::<Sha256Ctr, Sha512Ctr>::keygen_from_seed(&[0; 32])?;
-    let mut rng = Listed {
-        answers: &[Some([7; 32]), Some([7; 32])],
-    };
     let plain = private.try_sign_with_seed(&[7; 32], b"c", b"ab")?;
-    let framed = [0x00, 0x02, 0x61, 0x62, 0x63];
-    assert!(rt; private.sign_internal(&mut rng, &framed, true)? == plain);
-    assert!(rt; public.verify_internal(&framed, &plain));
+    assert!(rt; hooks_take(&private, &public, &[0x00, 0x02, 0x61, 0x62, 0x63], &plain));
     let signature = private.try_hash_sign_with_seed(&[7; 32], &[9; 32], b"ab", &oid(0x01))?;
     let mut framed = [9u8; 47];
     framed[..4].copy_from_slice(&[0x01, 0x02, 0x61, 0x62]);
     framed[4..15].copy_from_slice(&oid(0x01));
-    assert!(rt; private.sign_internal(&mut rng, &framed, true)? == signature);
-    assert!(rt; public.verify_internal(&framed, &signature));
+    assert!(rt; hooks_take(&private, &public, &framed, &signature));
     assert!(rt; public.hash_verify(&[9; 32], &signature, b"ab", &oid(0x01)));
     assert!(rt; !public.verify(b"c", &signature, b"ab"));
     Ok(())

@@ -2,17 +2,15 @@
 //! end at each byte.
 #![tactic(auto)]
 
-use crate::devices::KeptError;
+ghost use Rattle.std.specs.Prelude.{◌≤◌, length};
+
 use crate::expected::{private_44, public_44, signature_44};
 use crate::program_batch::refused_44;
 use crate::program_cuts::{Line, fault_of_cut};
-use crate::program_devices::{BY_BYTES, Manner, Outcome, run_of};
+use crate::program_devices::{BY_BYTES, Manner, Outcome, is_told, run_of};
 use crate::program_runs::hex_lines;
 use mldsa_engine::RunFault;
-use mldsa_engine::process::end;
 use std::alloc::{AllocError, Global};
-use std::cell::RefCell;
-use std::process::ExitCode;
 use std::test::Fail;
 
 /// Whether the call of this number, counted from 0, is tried where a run makes `last` calls: the first and the
@@ -42,117 +40,101 @@ fn outcome_of(
     run_of(alloc, manner, ["fill55", run.command, "44"], bytes)
 }
 
-/// Whether an outcome is as that of a run on good devices.
-fn passes(run: &Run, outcome: &Outcome) -> bool {
-    outcome.answer == Ok(run.answer)
-        && outcome.written.as_slice() == run.written
-        && outcome.unread == 0
-        && !outcome.read_failed
-        && !outcome.write_failed
+/// Whether a run ends as on good devices.
+fn passes(alloc: Global, run: &Run, manner: Manner, bytes: &[u8]) -> Result<bool, AllocError> {
+    let outcome = outcome_of(alloc, run, manner, bytes)?;
+    Ok(
+        outcome.answer == Ok(run.answer)
+            && outcome.written.as_slice() == run.written
+            && outcome.unread == 0
+            && !outcome.read_failed
+            && !outcome.write_failed,
+    )
 }
 
-/// Whether an outcome is a failure of these words, with status 2.
-fn fails_with(alloc: Global, outcome: &Outcome, fault: RunFault, text: &str) -> bool {
-    let error = KeptError {
-        text: RefCell::new(String::new(alloc)),
+/// Whether a run whose reader fails at this call ends in `read failed`, with nothing written.
+fn fails_to_read(alloc: Global, run: &Run, bytes: &[u8], call: usize) -> Result<bool, AllocError> {
+    let manner = Manner {
+        read_fails: call,
+        ..BY_BYTES
     };
-    let status = end(&error, outcome.answer);
-    outcome.answer == Err(fault)
-        && status == ExitCode::from(2)
-        && error.text.into_inner().as_str() == text
-}
-
-/// The first call of the reader that can fail with another outcome than `read failed` and nothing written.
-fn first_wrong_read(alloc: Global, run: &Run) -> Result<Option<usize>, AllocError> {
-    let input = hex_lines(alloc, run.values)?;
-    let bytes = input.as_slice();
-    for call in 0..bytes.len() {
-        if !is_tried(call, bytes.len()) {
-            continue;
-        }
-        let manner = Manner {
-            read_fails: call,
-            ..BY_BYTES
-        };
-        let outcome = outcome_of(alloc, run, manner, bytes)?;
-        let failed = outcome.read_failed
+    if call == bytes.len() {
+        return passes(alloc, run, manner, bytes);
+    }
+    let outcome = outcome_of(alloc, run, manner, bytes)?;
+    Ok(
+        outcome.read_failed
             && !outcome.write_failed
             && outcome.written.is_empty()
             && outcome.writes == 0
             && outcome.reads == call.wrapping_add(1)
-            && fails_with(alloc, &outcome, RunFault::Read, "read failed\n");
-        if !failed {
-            return Ok(Some(call));
-        }
-    }
-    let manner = Manner {
-        read_fails: bytes.len(),
-        ..BY_BYTES
-    };
-    let outcome = outcome_of(alloc, run, manner, bytes)?;
-    Ok(if passes(run, &outcome) {
-        None
-    } else {
-        Some(bytes.len())
-    })
+            && outcome.answer == Err(RunFault::Read)
+            && is_told(alloc, outcome.answer, 2, "read failed\n"),
+    )
 }
 
-/// The first call of the writer that can fail with another outcome than `write failed` after the bytes of the
-/// calls before it.
-fn first_wrong_write(alloc: Global, run: &Run) -> Result<Option<usize>, AllocError> {
-    let input = hex_lines(alloc, run.values)?;
-    let bytes = input.as_slice();
-    let written = run.written;
-    for call in 0..written.len() {
-        if !is_tried(call, written.len()) {
-            continue;
-        }
-        let manner = Manner {
-            write_fails: call,
-            ..BY_BYTES
-        };
-        let outcome = outcome_of(alloc, run, manner, bytes)?;
-        let failed = !outcome.read_failed
+/// Whether a run whose writer fails at this call ends in `write failed`, after the bytes of the calls before it.
+fn fails_to_write(alloc: Global, run: &Run, bytes: &[u8], call: usize) -> Result<bool, AllocError> {
+    let manner = Manner {
+        write_fails: call,
+        ..BY_BYTES
+    };
+    if call >= run.written.len() {
+        return passes(alloc, run, manner, bytes);
+    }
+    let outcome = outcome_of(alloc, run, manner, bytes)?;
+    Ok(
+        !outcome.read_failed
             && outcome.write_failed
-            && outcome.written.as_slice() == &written[..call]
+            && outcome.written.as_slice() == &run.written[..call]
             && outcome.writes == call.wrapping_add(1)
-            && fails_with(alloc, &outcome, RunFault::Write, "write failed\n");
-        if !failed {
+            && outcome.answer == Err(RunFault::Write)
+            && is_told(alloc, outcome.answer, 2, "write failed\n"),
+    )
+}
+
+/// Whether a run whose input ends after so many bytes ends in the fault of its lines, or as on the whole input where
+/// the last line is good.
+fn ends_early(alloc: Global, run: &Run, bytes: &[u8], ended: usize) -> Result<bool, AllocError>
+    requires { ended ≤ length bytes.now }
+{
+    let bytes = &bytes[..ended];
+    let Some(fault) = fault_of_cut(run.lines, ended) else {
+        return passes(alloc, run, BY_BYTES, bytes);
+    };
+    let outcome = outcome_of(alloc, run, BY_BYTES, bytes)?;
+    Ok(
+        outcome.answer == Err(fault)
+            && outcome.writes == 0
+            && !outcome.read_failed
+            && !outcome.write_failed,
+    )
+}
+
+/// The first call of the reader that is answered wrongly, of those that are tried.
+fn first_wrong_read(alloc: Global, run: &Run, bytes: &[u8]) -> Result<Option<usize>, AllocError> {
+    for call in 0..=bytes.len() {
+        if is_tried(call, bytes.len()) && !fails_to_read(alloc, run, bytes, call)? {
             return Ok(Some(call));
         }
     }
-    let manner = Manner {
-        write_fails: written.len(),
-        ..BY_BYTES
-    };
-    let outcome = outcome_of(alloc, run, manner, bytes)?;
-    Ok(if passes(run, &outcome) {
-        None
-    } else {
-        Some(written.len())
-    })
+    Ok(None)
 }
 
-/// The first number of bytes after which the input can end with another outcome than the fault of its lines,
-/// or that of the whole input where the last line is good.
-fn first_wrong_end(alloc: Global, run: &Run) -> Result<Option<usize>, AllocError> {
-    let input = hex_lines(alloc, run.values)?;
-    let bytes = input.as_slice();
-    for ended in 0..bytes.len() {
-        if !is_tried(ended, bytes.len()) {
-            continue;
+/// The first call of the writer that is answered wrongly, of those that are tried.
+fn first_wrong_write(alloc: Global, run: &Run, bytes: &[u8]) -> Result<Option<usize>, AllocError> {
+    for call in 0..=run.written.len() {
+        if is_tried(call, run.written.len()) && !fails_to_write(alloc, run, bytes, call)? {
+            return Ok(Some(call));
         }
-        let outcome = outcome_of(alloc, run, BY_BYTES, &bytes[..ended])?;
-        let as_wanted = match fault_of_cut(run.lines, ended) {
-            Some(fault) => {
-                outcome.answer == Err(fault)
-                    && outcome.writes == 0
-                    && !outcome.read_failed
-                    && !outcome.write_failed
-            }
-            None => passes(run, &outcome),
-        };
-        if !as_wanted {
+    }
+    Ok(None)
+}
+
+/// The first end of the input that is answered wrongly, of those that are tried.
+fn first_wrong_end(alloc: Global, run: &Run, bytes: &[u8]) -> Result<Option<usize>, AllocError> {
+    for ended in 0..bytes.len() {
+        if is_tried(ended, bytes.len()) && !ends_early(alloc, run, bytes, ended)? {
             return Ok(Some(ended));
         }
     }
@@ -162,10 +144,11 @@ fn first_wrong_end(alloc: Global, run: &Run) -> Result<Option<usize>, AllocError
 /// The first call of the reader, the first of the writer and the first end of the input that are answered
 /// wrongly.
 fn first_wrong(alloc: Global, run: Run) -> Result<[Option<usize>; 3], AllocError> {
+    let input = hex_lines(alloc, run.values)?;
     Ok([
-        first_wrong_read(alloc, &run)?,
-        first_wrong_write(alloc, &run)?,
-        first_wrong_end(alloc, &run)?,
+        first_wrong_read(alloc, &run, input.as_slice())?,
+        first_wrong_write(alloc, &run, input.as_slice())?,
+        first_wrong_end(alloc, &run, input.as_slice())?,
     ])
 }
 
@@ -180,7 +163,7 @@ fn failing_devices_of_id(rt: HostRuntime) -> Result<(), Fail> {
         answer: true,
         written: written.as_slice(),
     };
-    assert_eq!(rt; first_wrong(rt.alloc(), run)?, [None; 3]);
+    assert!(rt; first_wrong(rt.alloc(), run)? == [None; 3]);
     Ok(())
 }
 
@@ -194,7 +177,7 @@ fn failing_devices_of_keygen(rt: HostRuntime) -> Result<(), Fail> {
         answer: true,
         written: written.as_slice(),
     };
-    assert_eq!(rt; first_wrong(rt.alloc(), run)?, [None; 3]);
+    assert!(rt; first_wrong(rt.alloc(), run)? == [None; 3]);
     Ok(())
 }
 
@@ -209,7 +192,7 @@ fn failing_devices_of_sign(rt: HostRuntime) -> Result<(), Fail> {
         answer: true,
         written: written.as_slice(),
     };
-    assert_eq!(rt; first_wrong(rt.alloc(), run)?, [None; 3]);
+    assert!(rt; first_wrong(rt.alloc(), run)? == [None; 3]);
     Ok(())
 }
 
@@ -223,7 +206,7 @@ fn failing_devices_of_verify(rt: HostRuntime) -> Result<(), Fail> {
         answer: true,
         written: b"yes\n",
     };
-    assert_eq!(rt; first_wrong(rt.alloc(), run)?, [None; 3]);
+    assert!(rt; first_wrong(rt.alloc(), run)? == [None; 3]);
     Ok(())
 }
 
@@ -236,7 +219,7 @@ fn failing_devices_of_check(rt: HostRuntime) -> Result<(), Fail> {
         answer: true,
         written: b"yes\n",
     };
-    assert_eq!(rt; first_wrong(rt.alloc(), run)?, [None; 3]);
+    assert!(rt; first_wrong(rt.alloc(), run)? == [None; 3]);
     Ok(())
 }
 
@@ -258,6 +241,6 @@ fn failing_devices_of_batch(rt: HostRuntime) -> Result<(), Fail> {
         answer: false,
         written: b"yes\nno\n",
     };
-    assert_eq!(rt; first_wrong(rt.alloc(), run)?, [None; 3]);
+    assert!(rt; first_wrong(rt.alloc(), run)? == [None; 3]);
     Ok(())
 }

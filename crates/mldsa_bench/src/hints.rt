@@ -21,12 +21,13 @@ pub fn part_of(places: &[u8], counts: [u8; 4]) -> [u8; 84] {
     part
 }
 
-/// The hint that a part spells, and whether it is packed again as it was.
-fn hint_and_back(part: &[u8; 84]) -> Option<([R; 4], bool)> {
-    let hint = hint_bit_unpack::<4>(80, part)?;
+/// The hint that a part spells with these places and counts; none also where it is not packed again as it was.
+fn hint_and_back(places: &[u8], counts: [u8; 4]) -> Option<[R; 4]> {
+    let part = part_of(places, counts);
+    let hint = hint_bit_unpack::<4>(80, &part)?;
     let mut again = [0xffu8; 84];
     hint_bit_pack(80, &hint, &mut again);
-    Some((hint, again == *part))
+    if again == part { Some(hint) } else { None }
 }
 
 /// The polynomial that has ones at these places.
@@ -47,56 +48,58 @@ pub fn rising() -> [u8; 80] {
     places
 }
 
+/// Whether the ones of a hint stand at these places of its polynomials.
+fn has_ones(hint: &[R; 4], places: [&[u8]; 4]) -> bool {
+    for r in 0..4usize {
+        if hint[r].0 != with_ones(places[r]) {
+            return false;
+        }
+    }
+    true
+}
+
 /// How many ones each polynomial of a hint has.
 fn ones_of(hint: &[R; 4]) -> [usize; 4] {
     hint.map(|w| w.0.iter().filter(|x| **x == 1).count())
 }
 
+/// Whether a part with these places and counts spells a hint with so many ones, and is packed again as it was.
+fn spells(places: &[u8], counts: [u8; 4], ones: [usize; 4]) -> bool {
+    match hint_and_back(places, counts) {
+        Some(hint) => ones_of(&hint) == ones,
+        None => false,
+    }
+}
+
+/// Whether a part with these places and counts spells no hint.
+fn spells_none(places: &[u8], counts: [u8; 4]) -> bool {
+    hint_bit_unpack::<4>(80, &part_of(places, counts)).is_none()
+}
+
 #[test]
 fn ones_and_their_places(rt: HostRuntime) -> Result<(), Fail> {
-    let part = part_of(&[0x05, 0x00, 0xff], [1, 1, 3, 3]);
-    let (hint, same) = hint_and_back(&part).ok_or("no hint")?;
-    let [first, second, third, fourth] = hint;
-    assert!(rt; same);
-    assert!(rt; first.0 == with_ones(&[5]));
-    assert!(rt; second.0 == [0; 256]);
-    assert!(rt; third.0 == with_ones(&[0, 255]));
-    assert!(rt; fourth.0 == [0; 256]);
+    let hint = hint_and_back(&[0x05, 0x00, 0xff], [1, 1, 3, 3]).ok_or("no hint")?;
+    assert!(rt; has_ones(&hint, [&[5], &[], &[0, 255], &[]]));
     Ok(())
 }
 
 #[test]
-fn parts_that_spell_hints(rt: HostRuntime) -> Result<(), Fail> {
-    for (part, ones) in [
-        (part_of(&[], [0, 0, 0, 0]), [0usize, 0, 0, 0]),
-        (part_of(&[], [0, 0, 0, 1]), [0, 0, 0, 1]),
-        (part_of(&rising(), [80, 80, 80, 80]), [80, 0, 0, 0]),
-        (part_of(&[0xff, 0x00], [1, 2, 2, 2]), [1, 1, 0, 0]),
-        (
-            part_of(&MANY_PLACES, [0x12, 0x1e, 0x2d, 0x43]),
-            [18, 12, 15, 22],
-        ),
-    ] {
-        let (hint, same) = hint_and_back(&part).ok_or("no hint")?;
-        assert!(rt; same);
-        assert_eq!(rt; ones_of(&hint), ones);
-    }
-    Ok(())
+fn parts_that_spell_hints(rt: HostRuntime) {
+    assert!(rt; spells(&[], [0, 0, 0, 0], [0, 0, 0, 0]));
+    assert!(rt; spells(&[], [0, 0, 0, 1], [0, 0, 0, 1]));
+    assert!(rt; spells(&rising(), [80, 80, 80, 80], [80, 0, 0, 0]));
+    assert!(rt; spells(&[0xff, 0x00], [1, 2, 2, 2], [1, 1, 0, 0]));
+    assert!(rt; spells(&MANY_PLACES, [0x12, 0x1e, 0x2d, 0x43], [18, 12, 15, 22]));
 }
 
 #[test]
-fn parts_that_spell_none(rt: HostRuntime) -> Result<(), Fail> {
+fn parts_that_spell_none(rt: HostRuntime) {
     let mut late = [0u8; 80];
     late[79] = 1;
-    for part in [
-        part_of(&[0x05, 0xff, 0x00], [1, 1, 3, 3]),
-        part_of(&[0x01], [0, 0, 0, 0]),
-        part_of(&late, [0, 0, 0, 0]),
-        part_of(&rising(), [81, 81, 81, 81]),
-        part_of(&[0x05, 0x05], [2, 2, 2, 2]),
-        part_of(&[0x01, 0x02], [2, 1, 2, 2]),
-    ] {
-        assert!(rt; hint_bit_unpack::<4>(80, &part).is_none());
-    }
-    Ok(())
+    assert!(rt; spells_none(&[0x05, 0xff, 0x00], [1, 1, 3, 3]));
+    assert!(rt; spells_none(&[0x01], [0, 0, 0, 0]));
+    assert!(rt; spells_none(&late, [0, 0, 0, 0]));
+    assert!(rt; spells_none(&rising(), [81, 81, 81, 81]));
+    assert!(rt; spells_none(&[0x05, 0x05], [2, 2, 2, 2]));
+    assert!(rt; spells_none(&[0x01, 0x02], [2, 1, 2, 2]));
 }

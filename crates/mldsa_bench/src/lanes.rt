@@ -97,43 +97,73 @@ fn rows_and_arrays(rt: HostRuntime) -> Result<(), Fail> {
     Ok(())
 }
 
-#[test]
-fn one_x_and_zeros_side_by_side(rt: HostRuntime) -> Result<(), Fail> {
-    let mut count = Count::new();
-    let out = value_at(&ntt(&[one_and_x()], &mut count), 0);
-    assert_eq!(rt; count.products(), 1024);
-    assert_eq!(rt; count.sums(), 2048);
+/// The numbers in a lane of rows.
+fn lane_of(rows: &[Lanes; 256], r: usize) -> [i32; 256]
+    requires { r < 8 }
+{
+    let mut out = [0; 256];
     for n in 0..256usize {
-        let values = value_at(&out, n).to_array();
-        assert_eq!(rt; values[0].rem_euclid(Q), 1);
-        for r in 2..8usize {
-            assert_eq!(rt; values[r].rem_euclid(Q), 0);
-        }
+        out[n] = rows[n].to_array()[r];
     }
-    assert_eq!(rt; value_at(&out, 0).to_array()[1].rem_euclid(Q), 1753);
-    assert_eq!(rt; value_at(&out, 1).to_array()[1].rem_euclid(Q), 8378664);
-    Ok(())
+    out
+}
+
+/// The residues of numbers modulo `q`.
+fn residues(w: &[i32; 256]) -> [i32; 256] {
+    let mut out = [0; 256];
+    for n in 0..256usize {
+        out[n] = w[n].rem_euclid(Q);
+    }
+    out
+}
+
+/// The transforms of these rows, and whether they took 1024 products and 2048 sums.
+fn counted_ntt(rows: [Lanes; 256]) -> ([Lanes; 256], bool)
+    requires { LanesWithin (λ x. x.lanes) 8 8380416 rows }
+{
+    let mut count = Count::new();
+    let out = value_at(&ntt(&[rows], &mut count), 0);
+    (out, count.products() == 1024 && count.sums() == 2048)
 }
 
 #[test]
-fn eight_forth_and_back(rt: HostRuntime) -> Result<(), Fail> {
+fn one_x_and_zeros_side_by_side(rt: HostRuntime) {
+    let (out, counted) = counted_ntt(one_and_x());
+    assert!(rt; counted);
+    assert!(rt; residues(&lane_of(&out, 0)) == [1; 256]);
+    let second = residues(&lane_of(&out, 1));
+    assert!(rt; second[0] == 1753 && second[1] == 8378664);
+    for r in 2..8usize {
+        assert!(rt; residues(&lane_of(&out, r)) == [0; 256]);
+    }
+}
+
+/// The transforms of the eight polynomials, the polynomials again, and whether both ways took 2048 products.
+fn eight_both_ways() -> ([Lanes; 256], [Lanes; 256], bool) {
     let mut count = Count::new();
     let hats = ntt(&[spread_rows()], &mut count);
     let back = value_at(&inv_ntt(&hats, &mut count), 0);
-    assert_eq!(rt; count.products(), 2048);
-    let hats = value_at(&hats, 0);
+    (value_at(&hats, 0), back, count.products() == 2048)
+}
+
+/// The transform of a polynomial, and the polynomial again.
+fn both_ways(w: [i32; 256]) -> ([i32; 256], [i32; 256])
+    requires { All (λ x. nat_abs x ≤ 8380416) w }
+{
+    let hat = ntt(&[w], &mut Count::new());
+    let plain = inv_ntt(&hat, &mut Count::new());
+    (hat[0], plain[0])
+}
+
+#[test]
+fn eight_forth_and_back(rt: HostRuntime) {
+    let (hats, back, counted) = eight_both_ways();
+    assert!(rt; counted);
     for r in 0..8usize {
         let w = spread(r as u32);
-        let hat = ntt(&[w], &mut Count::new());
-        let plain = inv_ntt(&hat, &mut Count::new());
-        for n in 0..256usize {
-            assert_eq!(rt;
-                value_at(&hats, n).to_array()[r].rem_euclid(Q),
-                hat[0][n].rem_euclid(Q)
-            );
-            assert_eq!(rt; value_at(&back, n).to_array()[r], plain[0][n]);
-            assert_eq!(rt; plain[0][n], w[n].rem_euclid(Q));
-        }
+        let (hat, plain) = both_ways(w);
+        assert!(rt; residues(&lane_of(&hats, r)) == residues(&hat));
+        assert!(rt; lane_of(&back, r) == plain);
+        assert!(rt; plain == residues(&w));
     }
-    Ok(())
 }

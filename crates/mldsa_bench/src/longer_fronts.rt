@@ -41,98 +41,35 @@ const LIMIT: Fault = Fault::SamplingLimit;
 #[test]
 fn entries_of_longer_fronts(rt: HostRuntime) {
     // 255 of the first 1024 triples are kept, and triple 1024 is the last.
-    assert_eq!(rt;
-        entry::<PatternedBy<FourthTriplesTo<3072>, 4096>>(),
-        Err(LIMIT)
-    );
-    assert_eq!(rt;
-        entry::<PatternedBy<FourthTriplesTo<3072>, 4097>>(),
-        Err(LIMIT)
-    );
-    assert_eq!(rt;
-        entry::<PatternedBy<FourthTriplesTo<3072>, 8192>>(),
-        Ok([0; 256])
-    );
+    assert!(rt; entry::<PatternedBy<FourthTriplesTo<3072>, 4096>>() == Err(LIMIT));
+    assert!(rt; entry::<PatternedBy<FourthTriplesTo<3072>, 4097>>() == Err(LIMIT));
+    assert!(rt; entry::<PatternedBy<FourthTriplesTo<3072>, 8192>>() == Ok([0; 256]));
     // 256 triples of zeros, the last at the limit or one past it.
-    assert_eq!(rt;
-        entry::<PatternedBy<Turn<2304, 0xff, 0>, 4096>>(),
-        Ok([0; 256])
-    );
-    assert_eq!(rt;
-        entry::<PatternedBy<Turn<2307, 0xff, 0>, 4096>>(),
-        Err(LIMIT)
-    );
-    assert_eq!(rt;
-        entry::<PatternedBy<Turn<2304, 0xff, 0>, 4097>>(),
-        Ok([0; 256])
-    );
-    assert_eq!(rt;
-        entry::<PatternedBy<Turn<2307, 0xff, 0>, 4097>>(),
-        Err(LIMIT)
-    );
-    assert_eq!(rt;
-        entry::<PatternedBy<Turn<2982, 0xff, 0>, 5000>>(),
-        Ok([0; 256])
-    );
-    assert_eq!(rt;
-        entry::<PatternedBy<Turn<2985, 0xff, 0>, 5000>>(),
-        Err(LIMIT)
-    );
+    assert!(rt; entry::<PatternedBy<Turn<2304, 0xff, 0>, 4096>>() == Ok([0; 256]));
+    assert!(rt; entry::<PatternedBy<Turn<2307, 0xff, 0>, 4096>>() == Err(LIMIT));
+    assert!(rt; entry::<PatternedBy<Turn<2304, 0xff, 0>, 4097>>() == Ok([0; 256]));
+    assert!(rt; entry::<PatternedBy<Turn<2307, 0xff, 0>, 4097>>() == Err(LIMIT));
+    assert!(rt; entry::<PatternedBy<Turn<2982, 0xff, 0>, 5000>>() == Ok([0; 256]));
+    assert!(rt; entry::<PatternedBy<Turn<2985, 0xff, 0>, 5000>>() == Err(LIMIT));
 }
 
 #[test]
 fn small_polynomials_of_longer_fronts(rt: HostRuntime) {
-    assert_eq!(rt;
-        small::<PatternedBy<Turn<897, 0xff, 0>, 4096>>(),
-        Err(LIMIT)
-    );
-    assert_eq!(rt;
-        small::<PatternedBy<Turn<897, 0xff, 0>, 8192>>(),
-        Ok([2; 256])
-    );
-    assert_eq!(rt;
-        small::<PatternedBy<Turn<896, 0xff, 0>, 4097>>(),
-        Ok([2; 256])
-    );
-    assert_eq!(rt;
-        small::<PatternedBy<Turn<897, 0xff, 0>, 4097>>(),
-        Err(LIMIT)
-    );
-    assert_eq!(rt;
-        small::<PatternedBy<Turn<1122, 0xff, 0>, 5000>>(),
-        Ok([2; 256])
-    );
-    assert_eq!(rt;
-        small::<PatternedBy<Turn<1123, 0xff, 0>, 5000>>(),
-        Err(LIMIT)
-    );
+    assert!(rt; small::<PatternedBy<Turn<897, 0xff, 0>, 4096>>() == Err(LIMIT));
+    assert!(rt; small::<PatternedBy<Turn<897, 0xff, 0>, 8192>>() == Ok([2; 256]));
+    assert!(rt; small::<PatternedBy<Turn<896, 0xff, 0>, 4097>>() == Ok([2; 256]));
+    assert!(rt; small::<PatternedBy<Turn<897, 0xff, 0>, 4097>>() == Err(LIMIT));
+    assert!(rt; small::<PatternedBy<Turn<1122, 0xff, 0>, 5000>>() == Ok([2; 256]));
+    assert!(rt; small::<PatternedBy<Turn<1123, 0xff, 0>, 5000>>() == Err(LIMIT));
 }
 
 #[test]
 fn challenges_of_longer_fronts(rt: HostRuntime) {
     let wanted = challenge_at_zero();
-    assert_eq!(rt;
-        challenge::<PatternedBy<SignsThenTurn<986>, 4096>>(),
-        Err(LIMIT)
-    );
-    assert_eq!(rt;
-        challenge::<PatternedBy<SignsThenTurn<986>, 8192>>(),
-        Ok(wanted)
-    );
-    assert_eq!(rt;
-        challenge::<PatternedBy<SignsThenTurn<985>, 4097>>(),
-        Ok(wanted)
-    );
-    assert_eq!(rt;
-        challenge::<PatternedBy<SignsThenTurn<986>, 4097>>(),
-        Err(LIMIT)
-    );
-    assert_eq!(rt;
-        challenge::<PatternedBy<SignsThenTurn<1211>, 5000>>(),
-        Ok(wanted)
-    );
-    assert_eq!(rt;
-        challenge::<PatternedBy<SignsThenTurn<1212>, 5000>>(),
-        Err(LIMIT)
-    );
+    assert!(rt; challenge::<PatternedBy<SignsThenTurn<986>, 4096>>() == Err(LIMIT));
+    assert!(rt; challenge::<PatternedBy<SignsThenTurn<986>, 8192>>() == Ok(wanted));
+    assert!(rt; challenge::<PatternedBy<SignsThenTurn<985>, 4097>>() == Ok(wanted));
+    assert!(rt; challenge::<PatternedBy<SignsThenTurn<986>, 4097>>() == Err(LIMIT));
+    assert!(rt; challenge::<PatternedBy<SignsThenTurn<1211>, 5000>>() == Ok(wanted));
+    assert!(rt; challenge::<PatternedBy<SignsThenTurn<1212>, 5000>>() == Err(LIMIT));
 }

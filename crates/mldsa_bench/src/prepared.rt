@@ -12,8 +12,9 @@ use crate::recorded::has_text;
 use crate::stream_limits::{LastTriple, PastLastTriple};
 use crate::{recorded_44, recorded_65, recorded_87};
 use fips204::traits::{DummyRng, KeyGen, SerDes, Signer, Verifier};
-use fips204::xof::{Fill, Sha256Ctr, Sha512Ctr};
+use fips204::xof::{Fill, Sha256Ctr, Sha512Ctr, Xof};
 use fips204::{Fault, ml_dsa_44, ml_dsa_65, ml_dsa_87};
+use std::alloc::Global;
 use std::test::Fail;
 
 /// Messages of several lengths.
@@ -105,13 +106,15 @@ type PreparedPublic44<H> = ml_dsa_44::PreparedPublicKey<H>;
 fn signs_44(key: &PreparedPrivate44<Fill<0x55>>, signature: [u8; ml_dsa_44::SIG_LEN]) -> bool {
     let mut rng = DummyRng { bytes: [7; 32] };
     let identifier = oid(0x01);
-    let wanted = Ok(signature);
-    key.try_sign_with_seed(&[0; 32], b"abc", &[1; 255]) == wanted
-        && key.try_sign_with_rng(&mut rng, b"abc", &[]) == wanted
-        && key.try_hash_sign_with_seed(&[0; 32], &[5; 32], &[], &identifier) == wanted
-        && key.try_hash_sign_with_rng(&mut rng, &[5; 32], &[], &identifier) == wanted
-        && key.sign_internal(&mut rng, b"abc", true) == wanted
-        && key.sign_mu(&mut rng, &[9; 64], false) == wanted
+    let answers = [
+        key.try_sign_with_seed(&[0; 32], b"abc", &[1; 255]),
+        key.try_sign_with_rng(&mut rng, b"abc", &[]),
+        key.try_hash_sign_with_seed(&[0; 32], &[5; 32], &[], &identifier),
+        key.try_hash_sign_with_rng(&mut rng, &[5; 32], &[], &identifier),
+        key.sign_internal(&mut rng, b"abc", true),
+        key.sign_mu(&mut rng, &[9; 64], false),
+    ];
+    answers == [Ok(signature); 6]
 }
 
 /// The refusals of a prepared private key of set 44: of contexts of 256 bytes, and of a digest of 31.
@@ -223,15 +226,27 @@ fn are_as_single_44(
         && are_accepted(verified_44(verifier, count, signatures, &long), 0)
 }
 
+/// Whether prepared keys of set 44 sign the message `00` with the recorded signature, and accept it of no other.
+fn signs_recorded_44(
+    alloc: Global,
+    signer: &PreparedPrivate44<Sha256Ctr>,
+    verifier: &PreparedPublic44<Sha256Ctr>,
+) -> Result<bool, Fail> {
+    let recorded = signer.try_sign_with_seed(&[0; 32], &[0], &[])?;
+    let same = has_text(alloc, &recorded, recorded_44::SIGNATURE)?;
+    let verdicts = [
+        verifier.verify(&[0], &recorded, &[]),
+        verifier.verify(&[1], &recorded, &[]),
+    ];
+    Ok(same && verdicts == [true, false])
+}
+
 #[test]
 fn many_messages_of_set_44(rt: HostRuntime) -> Result<(), Fail> {
     let (public, private) = ml_dsa_44::KG::<Sha256Ctr, Sha512Ctr>::keygen_from_seed(&[0; 32])?;
     let signer = private.prepare()?;
     let verifier = public.prepare()?;
-    let recorded = signer.try_sign_with_seed(&[0; 32], &[0], &[])?;
-    assert!(rt; has_text(rt.alloc(), &recorded, recorded_44::SIGNATURE)?);
-    assert!(rt; verifier.verify(&[0], &recorded, &[]));
-    assert!(rt; !verifier.verify(&[1], &recorded, &[]));
+    assert!(rt; signs_recorded_44(rt.alloc(), &signer, &verifier)?);
     let signatures = single_calls(&private)?;
     assert_eq!(rt; single_verdicts(&public, &signatures), [true; 5]);
     assert!(rt; are_as_single_44(&signer, &verifier, &signatures, 0));
@@ -245,26 +260,27 @@ fn many_messages_of_set_44(rt: HostRuntime) -> Result<(), Fail> {
     Ok(())
 }
 
+/// Whether a prepared private key of set 44 signs over this stream of its matrix, or its refusal.
+fn signs_over_44<G: Xof>() -> Result<bool, Fault> {
+    let key = ml_dsa_44::PrivateKey::<Fill<0x55>, G>::try_from_bytes(private_44())?.prepare()?;
+    Ok(key.try_sign_with_seed(&[0; 32], b"abc", &[])? == signature_44())
+}
+
+/// Whether a prepared public key of set 44 accepts over this stream of its matrix, or its refusal.
+fn accepts_over_44<G: Xof>() -> Result<bool, Fault> {
+    let key = ml_dsa_44::PublicKey::<Fill<0x55>, G>::try_from_bytes(public_44())?.prepare()?;
+    Ok(key.verify(b"abc", &signature_44(), &[]))
+}
+
 #[test]
-fn keys_of_set_44_without_a_matrix(rt: HostRuntime) -> Result<(), Fail> {
-    let private = ml_dsa_44::PrivateKey::<Fill<0x55>, Fill<0xff>>::try_from_bytes(private_44())?;
-    let public = ml_dsa_44::PublicKey::<Fill<0x55>, Fill<0xff>>::try_from_bytes(public_44())?;
-    assert_eq!(rt; private.prepare().err(), Some(Fault::SamplingLimit));
-    assert_eq!(rt; public.prepare().err(), Some(Fault::SamplingLimit));
-    let private = ml_dsa_44::PrivateKey::<Fill<0x55>, PastLastTriple>::try_from_bytes(
-        private_44(),
-    )?;
-    assert_eq!(rt; private.prepare().err(), Some(Fault::SamplingLimit));
-    let public = ml_dsa_44::PublicKey::<Fill<0x55>, PastLastTriple>::try_from_bytes(public_44())?;
-    assert_eq!(rt; public.prepare().err(), Some(Fault::SamplingLimit));
-    let private = ml_dsa_44::PrivateKey::<Fill<0x55>, LastTriple>::try_from_bytes(private_44())?;
-    let signature = private
-        .prepare()?
-        .try_sign_with_seed(&[0; 32], b"abc", &[])?;
-    assert!(rt; signature == signature_44());
-    let public = ml_dsa_44::PublicKey::<Fill<0x55>, LastTriple>::try_from_bytes(public_44())?;
-    assert!(rt; public.prepare()?.verify(b"abc", &signature, &[]));
-    Ok(())
+fn keys_of_set_44_without_a_matrix(rt: HostRuntime) {
+    let limit = Err(Fault::SamplingLimit);
+    assert!(rt; signs_over_44::<Fill<0xff>>() == limit);
+    assert!(rt; accepts_over_44::<Fill<0xff>>() == limit);
+    assert!(rt; signs_over_44::<PastLastTriple>() == limit);
+    assert!(rt; accepts_over_44::<PastLastTriple>() == limit);
+    assert!(rt; signs_over_44::<LastTriple>() == Ok(true));
+    assert!(rt; accepts_over_44::<LastTriple>() == Ok(true));
 }
 
 /// A prepared private key of set 65.
@@ -277,13 +293,15 @@ type PreparedPublic65<H> = ml_dsa_65::PreparedPublicKey<H>;
 fn signs_65(key: &PreparedPrivate65<Fill<0x55>>, signature: [u8; ml_dsa_65::SIG_LEN]) -> bool {
     let mut rng = DummyRng { bytes: [7; 32] };
     let identifier = oid(0x01);
-    let wanted = Ok(signature);
-    key.try_sign_with_seed(&[0; 32], b"abc", &[1; 255]) == wanted
-        && key.try_sign_with_rng(&mut rng, b"abc", &[]) == wanted
-        && key.try_hash_sign_with_seed(&[0; 32], &[5; 32], &[], &identifier) == wanted
-        && key.try_hash_sign_with_rng(&mut rng, &[5; 32], &[], &identifier) == wanted
-        && key.sign_internal(&mut rng, b"abc", true) == wanted
-        && key.sign_mu(&mut rng, &[9; 64], false) == wanted
+    let answers = [
+        key.try_sign_with_seed(&[0; 32], b"abc", &[1; 255]),
+        key.try_sign_with_rng(&mut rng, b"abc", &[]),
+        key.try_hash_sign_with_seed(&[0; 32], &[5; 32], &[], &identifier),
+        key.try_hash_sign_with_rng(&mut rng, &[5; 32], &[], &identifier),
+        key.sign_internal(&mut rng, b"abc", true),
+        key.sign_mu(&mut rng, &[9; 64], false),
+    ];
+    answers == [Ok(signature); 6]
 }
 
 /// The refusals of a prepared private key of set 65: of contexts of 256 bytes, and of a digest of 31.
@@ -395,15 +413,27 @@ fn are_as_single_65(
         && are_accepted(verified_65(verifier, count, signatures, &long), 0)
 }
 
+/// Whether prepared keys of set 65 sign the message `00` with the recorded signature, and accept it of no other.
+fn signs_recorded_65(
+    alloc: Global,
+    signer: &PreparedPrivate65<Sha256Ctr>,
+    verifier: &PreparedPublic65<Sha256Ctr>,
+) -> Result<bool, Fail> {
+    let recorded = signer.try_sign_with_seed(&[0; 32], &[0], &[])?;
+    let same = has_text(alloc, &recorded, recorded_65::SIGNATURE)?;
+    let verdicts = [
+        verifier.verify(&[0], &recorded, &[]),
+        verifier.verify(&[1], &recorded, &[]),
+    ];
+    Ok(same && verdicts == [true, false])
+}
+
 #[test]
 fn many_messages_of_set_65(rt: HostRuntime) -> Result<(), Fail> {
     let (public, private) = ml_dsa_65::KG::<Sha256Ctr, Sha512Ctr>::keygen_from_seed(&[0; 32])?;
     let signer = private.prepare()?;
     let verifier = public.prepare()?;
-    let recorded = signer.try_sign_with_seed(&[0; 32], &[0], &[])?;
-    assert!(rt; has_text(rt.alloc(), &recorded, recorded_65::SIGNATURE)?);
-    assert!(rt; verifier.verify(&[0], &recorded, &[]));
-    assert!(rt; !verifier.verify(&[1], &recorded, &[]));
+    assert!(rt; signs_recorded_65(rt.alloc(), &signer, &verifier)?);
     let signatures = single_calls(&private)?;
     assert_eq!(rt; single_verdicts(&public, &signatures), [true; 5]);
     assert!(rt; are_as_single_65(&signer, &verifier, &signatures, 0));
@@ -417,26 +447,27 @@ fn many_messages_of_set_65(rt: HostRuntime) -> Result<(), Fail> {
     Ok(())
 }
 
+/// Whether a prepared private key of set 65 signs over this stream of its matrix, or its refusal.
+fn signs_over_65<G: Xof>() -> Result<bool, Fault> {
+    let key = ml_dsa_65::PrivateKey::<Fill<0x55>, G>::try_from_bytes(private_65())?.prepare()?;
+    Ok(key.try_sign_with_seed(&[0; 32], b"abc", &[])? == signature_65())
+}
+
+/// Whether a prepared public key of set 65 accepts over this stream of its matrix, or its refusal.
+fn accepts_over_65<G: Xof>() -> Result<bool, Fault> {
+    let key = ml_dsa_65::PublicKey::<Fill<0x55>, G>::try_from_bytes(public_65())?.prepare()?;
+    Ok(key.verify(b"abc", &signature_65(), &[]))
+}
+
 #[test]
-fn keys_of_set_65_without_a_matrix(rt: HostRuntime) -> Result<(), Fail> {
-    let private = ml_dsa_65::PrivateKey::<Fill<0x55>, Fill<0xff>>::try_from_bytes(private_65())?;
-    let public = ml_dsa_65::PublicKey::<Fill<0x55>, Fill<0xff>>::try_from_bytes(public_65())?;
-    assert_eq!(rt; private.prepare().err(), Some(Fault::SamplingLimit));
-    assert_eq!(rt; public.prepare().err(), Some(Fault::SamplingLimit));
-    let private = ml_dsa_65::PrivateKey::<Fill<0x55>, PastLastTriple>::try_from_bytes(
-        private_65(),
-    )?;
-    assert_eq!(rt; private.prepare().err(), Some(Fault::SamplingLimit));
-    let public = ml_dsa_65::PublicKey::<Fill<0x55>, PastLastTriple>::try_from_bytes(public_65())?;
-    assert_eq!(rt; public.prepare().err(), Some(Fault::SamplingLimit));
-    let private = ml_dsa_65::PrivateKey::<Fill<0x55>, LastTriple>::try_from_bytes(private_65())?;
-    let signature = private
-        .prepare()?
-        .try_sign_with_seed(&[0; 32], b"abc", &[])?;
-    assert!(rt; signature == signature_65());
-    let public = ml_dsa_65::PublicKey::<Fill<0x55>, LastTriple>::try_from_bytes(public_65())?;
-    assert!(rt; public.prepare()?.verify(b"abc", &signature, &[]));
-    Ok(())
+fn keys_of_set_65_without_a_matrix(rt: HostRuntime) {
+    let limit = Err(Fault::SamplingLimit);
+    assert!(rt; signs_over_65::<Fill<0xff>>() == limit);
+    assert!(rt; accepts_over_65::<Fill<0xff>>() == limit);
+    assert!(rt; signs_over_65::<PastLastTriple>() == limit);
+    assert!(rt; accepts_over_65::<PastLastTriple>() == limit);
+    assert!(rt; signs_over_65::<LastTriple>() == Ok(true));
+    assert!(rt; accepts_over_65::<LastTriple>() == Ok(true));
 }
 
 /// A prepared private key of set 87.
@@ -449,13 +480,15 @@ type PreparedPublic87<H> = ml_dsa_87::PreparedPublicKey<H>;
 fn signs_87(key: &PreparedPrivate87<Fill<0x55>>, signature: [u8; ml_dsa_87::SIG_LEN]) -> bool {
     let mut rng = DummyRng { bytes: [7; 32] };
     let identifier = oid(0x01);
-    let wanted = Ok(signature);
-    key.try_sign_with_seed(&[0; 32], b"abc", &[1; 255]) == wanted
-        && key.try_sign_with_rng(&mut rng, b"abc", &[]) == wanted
-        && key.try_hash_sign_with_seed(&[0; 32], &[5; 32], &[], &identifier) == wanted
-        && key.try_hash_sign_with_rng(&mut rng, &[5; 32], &[], &identifier) == wanted
-        && key.sign_internal(&mut rng, b"abc", true) == wanted
-        && key.sign_mu(&mut rng, &[9; 64], false) == wanted
+    let answers = [
+        key.try_sign_with_seed(&[0; 32], b"abc", &[1; 255]),
+        key.try_sign_with_rng(&mut rng, b"abc", &[]),
+        key.try_hash_sign_with_seed(&[0; 32], &[5; 32], &[], &identifier),
+        key.try_hash_sign_with_rng(&mut rng, &[5; 32], &[], &identifier),
+        key.sign_internal(&mut rng, b"abc", true),
+        key.sign_mu(&mut rng, &[9; 64], false),
+    ];
+    answers == [Ok(signature); 6]
 }
 
 /// The refusals of a prepared private key of set 87: of contexts of 256 bytes, and of a digest of 31.
@@ -567,15 +600,27 @@ fn are_as_single_87(
         && are_accepted(verified_87(verifier, count, signatures, &long), 0)
 }
 
+/// Whether prepared keys of set 87 sign the message `00` with the recorded signature, and accept it of no other.
+fn signs_recorded_87(
+    alloc: Global,
+    signer: &PreparedPrivate87<Sha256Ctr>,
+    verifier: &PreparedPublic87<Sha256Ctr>,
+) -> Result<bool, Fail> {
+    let recorded = signer.try_sign_with_seed(&[0; 32], &[0], &[])?;
+    let same = has_text(alloc, &recorded, recorded_87::SIGNATURE)?;
+    let verdicts = [
+        verifier.verify(&[0], &recorded, &[]),
+        verifier.verify(&[1], &recorded, &[]),
+    ];
+    Ok(same && verdicts == [true, false])
+}
+
 #[test]
 fn many_messages_of_set_87(rt: HostRuntime) -> Result<(), Fail> {
     let (public, private) = ml_dsa_87::KG::<Sha256Ctr, Sha512Ctr>::keygen_from_seed(&[0; 32])?;
     let signer = private.prepare()?;
     let verifier = public.prepare()?;
-    let recorded = signer.try_sign_with_seed(&[0; 32], &[0], &[])?;
-    assert!(rt; has_text(rt.alloc(), &recorded, recorded_87::SIGNATURE)?);
-    assert!(rt; verifier.verify(&[0], &recorded, &[]));
-    assert!(rt; !verifier.verify(&[1], &recorded, &[]));
+    assert!(rt; signs_recorded_87(rt.alloc(), &signer, &verifier)?);
     let signatures = single_calls(&private)?;
     assert_eq!(rt; single_verdicts(&public, &signatures), [true; 5]);
     assert!(rt; are_as_single_87(&signer, &verifier, &signatures, 0));
@@ -589,24 +634,25 @@ fn many_messages_of_set_87(rt: HostRuntime) -> Result<(), Fail> {
     Ok(())
 }
 
+/// Whether a prepared private key of set 87 signs over this stream of its matrix, or its refusal.
+fn signs_over_87<G: Xof>() -> Result<bool, Fault> {
+    let key = ml_dsa_87::PrivateKey::<Fill<0x55>, G>::try_from_bytes(private_87())?.prepare()?;
+    Ok(key.try_sign_with_seed(&[0; 32], b"abc", &[])? == signature_87())
+}
+
+/// Whether a prepared public key of set 87 accepts over this stream of its matrix, or its refusal.
+fn accepts_over_87<G: Xof>() -> Result<bool, Fault> {
+    let key = ml_dsa_87::PublicKey::<Fill<0x55>, G>::try_from_bytes(public_87())?.prepare()?;
+    Ok(key.verify(b"abc", &signature_87(), &[]))
+}
+
 #[test]
-fn keys_of_set_87_without_a_matrix(rt: HostRuntime) -> Result<(), Fail> {
-    let private = ml_dsa_87::PrivateKey::<Fill<0x55>, Fill<0xff>>::try_from_bytes(private_87())?;
-    let public = ml_dsa_87::PublicKey::<Fill<0x55>, Fill<0xff>>::try_from_bytes(public_87())?;
-    assert_eq!(rt; private.prepare().err(), Some(Fault::SamplingLimit));
-    assert_eq!(rt; public.prepare().err(), Some(Fault::SamplingLimit));
-    let private = ml_dsa_87::PrivateKey::<Fill<0x55>, PastLastTriple>::try_from_bytes(
-        private_87(),
-    )?;
-    assert_eq!(rt; private.prepare().err(), Some(Fault::SamplingLimit));
-    let public = ml_dsa_87::PublicKey::<Fill<0x55>, PastLastTriple>::try_from_bytes(public_87())?;
-    assert_eq!(rt; public.prepare().err(), Some(Fault::SamplingLimit));
-    let private = ml_dsa_87::PrivateKey::<Fill<0x55>, LastTriple>::try_from_bytes(private_87())?;
-    let signature = private
-        .prepare()?
-        .try_sign_with_seed(&[0; 32], b"abc", &[])?;
-    assert!(rt; signature == signature_87());
-    let public = ml_dsa_87::PublicKey::<Fill<0x55>, LastTriple>::try_from_bytes(public_87())?;
-    assert!(rt; public.prepare()?.verify(b"abc", &signature, &[]));
-    Ok(())
+fn keys_of_set_87_without_a_matrix(rt: HostRuntime) {
+    let limit = Err(Fault::SamplingLimit);
+    assert!(rt; signs_over_87::<Fill<0xff>>() == limit);
+    assert!(rt; accepts_over_87::<Fill<0xff>>() == limit);
+    assert!(rt; signs_over_87::<PastLastTriple>() == limit);
+    assert!(rt; accepts_over_87::<PastLastTriple>() == limit);
+    assert!(rt; signs_over_87::<LastTriple>() == Ok(true));
+    assert!(rt; accepts_over_87::<LastTriple>() == Ok(true));
 }

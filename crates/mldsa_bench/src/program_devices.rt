@@ -1,14 +1,17 @@
 //! The program over devices that count their calls, and what it takes from its process and leaves to it.
 #![tactic(auto)]
 
+ghost use Rattle.std.specs.Prelude.{◌<◌};
+
 use crate::devices::{Arguments, CountedReader, CountedWriter, KeptError};
+use crate::program::{answer_of, line_of, words};
 use crate::{recorded_44, recorded_65, recorded_87};
 use mldsa_engine::output::put;
-use mldsa_engine::process::{end, words};
-use mldsa_engine::{Bytewise, Marked, RunFault, from_words};
+use mldsa_engine::process::{self, end};
+use mldsa_engine::{Bytewise, Marked, RunFault};
 use std::alloc::{AllocError, Global};
 use std::cell::RefCell;
-use std::io::{BufReader, Read};
+use std::io::{self, BufReader, Read};
 use std::process::ExitCode;
 use std::test::Fail;
 
@@ -49,10 +52,7 @@ pub fn run_of(
     call: [&str; 3],
     bytes: &[u8],
 ) -> Result<Outcome, AllocError> {
-    let mut words = Vec::new(alloc);
-    for word in call {
-        words.push(String::from_str(alloc, word)?)?;
-    }
+    let words = words(alloc, call)?;
     let mut input = Marked::new(CountedReader {
         bytes,
         most: manner.most,
@@ -65,7 +65,7 @@ pub fn run_of(
         calls: 0,
         fails_at: manner.write_fails,
     });
-    let answer = from_words(alloc, words.as_slice(), &mut input, &mut output);
+    let answer = answer_of(alloc, words.as_slice(), &mut input, &mut output);
     let (read_failed, write_failed) = (input.failed(), output.failed());
     let reader = input.into_device();
     let writer = output.into_device();
@@ -115,6 +115,34 @@ pub const RECORDED: [[&str; 4]; 3] = [
     ],
 ];
 
+/// Whether an outcome has this answer, wrote these bytes in so many calls, and has no device that failed.
+fn is_as(outcome: &Outcome, answer: Result<bool, RunFault>, written: &[u8], writes: usize) -> bool {
+    outcome.answer == answer
+        && outcome.written.as_slice() == written
+        && outcome.writes == writes
+        && !outcome.read_failed
+        && !outcome.write_failed
+}
+
+/// Whether a run on these bytes and good devices answers so, writes these bytes, makes so many reads and writes, and
+/// leaves four bytes unread.
+fn succeeds(
+    alloc: Global,
+    manner: Manner,
+    call: [&str; 3],
+    bytes: &[u8],
+    answer: bool,
+    written: &[u8],
+    calls: [usize; 2],
+) -> bool {
+    let Ok(outcome) = run_of(alloc, manner, call, bytes) else {
+        return false;
+    };
+    is_as(&outcome, Ok(answer), written, calls[1])
+        && outcome.reads == calls[0]
+        && outcome.unread == 4
+}
+
 /// Whether a run over the counter streams answers and writes this, with this number of reads where the
 /// reader gives all that it is asked for, and leaves what follows unread; and the same where each device
 /// moves a byte a call.
@@ -125,27 +153,18 @@ pub fn runs_as(
     reads: usize,
     answer: bool,
     written: &[&str],
-) -> Result<bool, AllocError> {
-    let mut bytes = lines_of(alloc, lines)?;
-    let length = bytes.len();
-    bytes.extend_from_slice(b"rest")?;
-    let wanted = lines_of(alloc, written)?;
-    let call = ["sha2", command[0], command[1]];
-    let whole = run_of(alloc, WHOLE, call, bytes.as_slice())?;
-    let by_bytes = run_of(alloc, BY_BYTES, call, bytes.as_slice())?;
-    let mut alike = whole.reads == reads
-        && whole.writes == 1
-        && by_bytes.reads == length
-        && by_bytes.writes == wanted.len();
-    for outcome in [&whole, &by_bytes] {
-        alike = alike
-            && outcome.answer == Ok(answer)
-            && outcome.written.as_slice() == wanted.as_slice()
-            && outcome.unread == 4
-            && !outcome.read_failed
-            && !outcome.write_failed;
+) -> bool {
+    let (Ok(mut bytes), Ok(written)) = (lines_of(alloc, lines), lines_of(alloc, written)) else {
+        return false;
+    };
+    let by_bytes = [bytes.len(), written.len()];
+    if bytes.extend_from_slice(b"rest").is_err() {
+        return false;
     }
-    Ok(alike)
+    let call = ["sha2", command[0], command[1]];
+    let (bytes, written) = (bytes.as_slice(), written.as_slice());
+    succeeds(alloc, WHOLE, call, bytes, answer, written, [reads, 1])
+        && succeeds(alloc, BY_BYTES, call, bytes, answer, written, by_bytes)
 }
 
 /// The reads of a line of known length with its LF, in pieces of 4096 bytes.
@@ -153,38 +172,63 @@ pub fn pieces(line: &str) -> usize {
     (line.len() / 4096).wrapping_add(1)
 }
 
+/// Whether `id`, `keygen` and `sign` run as they have to on the recorded bytes of a set.
+fn makers_run<'a>(
+    alloc: Global,
+    set: &'a str,
+    public: &'a str,
+    private: &'a str,
+    signature: &'a str,
+) -> bool {
+    // A private key has the hash of its public key after two seeds.
+    let hash = private.get(128..256).unwrap_or("");
+    let lines = [private, ZEROS, "", "00"];
+    let reads = pieces(private).wrapping_add(5);
+    runs_as(
+        alloc,
+        ["id", set],
+        &[public],
+        pieces(public),
+        true,
+        &[public, hash],
+    ) && runs_as(
+        alloc,
+        ["keygen", set],
+        &[ZEROS],
+        1,
+        true,
+        &[public, private],
+    ) && runs_as(alloc, ["sign", set], &lines, reads, true, &[signature])
+}
+
+/// Whether `verify` and `check` run as they have to on the recorded bytes of a set.
+fn judges_run<'a>(alloc: Global, set: &'a str, public: &'a str, signature: &'a str) -> bool {
+    let reads = pieces(public)
+        .wrapping_add(pieces(signature))
+        .wrapping_add(4);
+    let good = [public, signature, "", "00"];
+    let bad = [public, signature, "", "01"];
+    runs_as(alloc, ["verify", set], &good, reads, true, &["yes"])
+        && runs_as(alloc, ["verify", set], &bad, reads, false, &["no"])
+        && runs_as(
+            alloc,
+            ["check", set],
+            &[ZEROS, ZEROS, "", "00"],
+            6,
+            true,
+            &["yes"],
+        )
+}
+
 #[test]
-fn each_command_at_each_set(rt: HostRuntime) -> Result<(), Fail> {
-    let alloc = rt.alloc();
+fn each_command_at_each_set(rt: HostRuntime) {
     for [set, public, private, signature] in RECORDED {
-        // A private key has the hash of its public key after two seeds.
-        let hash = &private[128..256];
-        let reads = pieces(public);
-        assert!(rt; runs_as(alloc, ["id", set], &[public], reads, true, &[public, hash])?);
         assert!(rt;
-            runs_as(
-                alloc,
-                ["keygen", set],
-                &[ZEROS],
-                1,
-                true,
-                &[public, private]
-            )?
+            makers_run(rt.alloc(), set, public, private, signature),
+            "set {set}"
         );
-        let lines = [private, ZEROS, "", "00"];
-        let reads = pieces(private).wrapping_add(5);
-        assert!(rt; runs_as(alloc, ["sign", set], &lines, reads, true, &[signature])?);
-        let lines = [public, signature, "", "00"];
-        let reads = pieces(public)
-            .wrapping_add(pieces(signature))
-            .wrapping_add(4);
-        assert!(rt; runs_as(alloc, ["verify", set], &lines, reads, true, &["yes"])?);
-        let lines = [public, signature, "", "01"];
-        assert!(rt; runs_as(alloc, ["verify", set], &lines, reads, false, &["no"])?);
-        let lines = [ZEROS, ZEROS, "", "00"];
-        assert!(rt; runs_as(alloc, ["check", set], &lines, 6, true, &["yes"])?);
+        assert!(rt; judges_run(rt.alloc(), set, public, signature), "set {set}");
     }
-    Ok(())
 }
 
 /// Whether a run answers this fault where the reader gives these bytes one a call and fails at the call
@@ -202,14 +246,74 @@ fn ends_with(
     };
     let by_bytes = run_of(alloc, stopping, call, bytes)?;
     let whole = run_of(alloc, WHOLE, call, bytes)?;
-    let mut alike = by_bytes.reads == reads;
-    for outcome in [&by_bytes, &whole] {
-        alike = alike
-            && outcome.answer == Err(fault)
-            && outcome.written.is_empty()
-            && outcome.writes == 0
-            && !outcome.read_failed
-            && !outcome.write_failed;
+    Ok(
+        by_bytes.reads == reads
+            && is_as(&by_bytes, Err(fault), b"", 0)
+            && is_as(&whole, Err(fault), b"", 0),
+    )
+}
+
+/// Whether a line that follows others is answered by this fault before anything that follows is read.
+fn is_judged(
+    alloc: Global,
+    call: [&str; 3],
+    before: &[u8],
+    line: &[u8],
+    rest: &[u8],
+    fault: RunFault,
+) -> Result<bool, AllocError> {
+    let mut bytes = Vec::new(alloc);
+    bytes.extend_from_slice(before)?;
+    bytes.extend_from_slice(line)?;
+    let judged = bytes.len();
+    bytes.extend_from_slice(rest)?;
+    ends_with(alloc, call, bytes.as_slice(), judged, fault)
+}
+
+/// Whether a line of so many bytes 00 is answered by what the lines before it call for: so many bytes.
+fn is_wrong_length(
+    alloc: Global,
+    call: [&str; 3],
+    before: &[u8],
+    line: usize,
+    wants: usize,
+    has: usize,
+) -> Result<bool, AllocError>
+    requires { has < 5000 }
+{
+    let digits = line_of(alloc, b'0', 2 * has)?;
+    let fault = RunFault::Length { line, wants, has };
+    is_judged(
+        alloc,
+        call,
+        before,
+        digits.as_slice(),
+        b"00\n00\n00\n",
+        fault,
+    )
+}
+
+/// Whether each fault of one line is answered, after these lines: that it is missing, that it is no hex, and where
+/// so many bytes are wanted, that it has another number.
+fn is_at_fault(
+    alloc: Global,
+    call: [&str; 3],
+    before: &[u8],
+    line: usize,
+    wants: Option<usize>,
+) -> Result<bool, AllocError> {
+    let missing = before.len().wrapping_add(1);
+    let mut alike = ends_with(alloc, call, before, missing, RunFault::Missing { line })?;
+    for bad in [b"0\n".as_slice(), b"0g\n", b"00 \n", b"0x\n"] {
+        let fault = RunFault::NotHex { line };
+        alike = alike && is_judged(alloc, call, before, bad, b"00\n00\n00\n", fault)?;
+    }
+    if let Some(wants) = wants {
+        for has in [0, 1, wants.wrapping_sub(1), wants.wrapping_add(1)] {
+            if has < 5000 {
+                alike = alike && is_wrong_length(alloc, call, before, line, wants, has)?;
+            }
+        }
     }
     Ok(alike)
 }
@@ -224,64 +328,60 @@ fn faults_in_turn(
 ) -> Result<bool, AllocError> {
     let mut alike = true;
     for (index, good) in lines.iter().enumerate() {
-        let line = index.wrapping_add(1);
         let before = lines_of(alloc, &lines[..index])?;
-        let missing = before.len().wrapping_add(1);
-        alike = alike
-            && ends_with(
-                alloc,
-                call,
-                before.as_slice(),
-                missing,
-                RunFault::Missing { line },
-            )?;
-        for bad in ["0", "0g", "00 ", "0x"] {
-            let mut bytes = before.clone()?;
-            bytes.extend_from_slice(bad.as_bytes())?;
-            bytes.push(b'\n')?;
-            let judged = bytes.len();
-            bytes.extend_from_slice(b"00\n00\n00\n")?;
-            alike = alike
-                && ends_with(
-                    alloc,
-                    call,
-                    bytes.as_slice(),
-                    judged,
-                    RunFault::NotHex { line },
-                )?;
-        }
-        let wants = good.len() / 2;
-        for has in [0, 1, wants.wrapping_sub(1), wants.wrapping_add(1)] {
-            if known.contains(&index) && has < 5000 {
-                let digits = vec![in alloc; b'0'; 2 * has]?;
-                let mut bytes = before.clone()?;
-                bytes.extend_from_slice(digits.as_slice())?;
-                bytes.push(b'\n')?;
-                let judged = bytes.len();
-                bytes.extend_from_slice(b"00\n00\n00\n")?;
-                let fault = RunFault::Length { line, wants, has };
-                alike = alike && ends_with(alloc, call, bytes.as_slice(), judged, fault)?;
-            }
-        }
+        let wants = if known.contains(&index) {
+            Some(good.len() / 2)
+        } else {
+            None
+        };
+        alike = alike && is_at_fault(alloc, call, before.as_slice(), index.wrapping_add(1), wants)?;
     }
     Ok(alike)
 }
 
+/// Whether the lines of `id`, `keygen` and `sign` are judged in turn on the recorded bytes of a set.
+fn makers_judge<'a>(
+    alloc: Global,
+    set: &'a str,
+    public: &'a str,
+    private: &'a str,
+) -> Result<bool, AllocError> {
+    let lines = [private, ZEROS, "00", "00"];
+    Ok(
+        faults_in_turn(alloc, ["fill55", "id", set], &[public], &[0])?
+            && faults_in_turn(alloc, ["fill55", "keygen", set], &[ZEROS], &[0])?
+            && faults_in_turn(alloc, ["fill55", "sign", set], &lines, &[0, 1])?,
+    )
+}
+
+/// Whether the lines of `verify`, `check` and `batch` are judged in turn on the recorded bytes of a set.
+fn judges_judge<'a>(
+    alloc: Global,
+    set: &'a str,
+    public: &'a str,
+    signature: &'a str,
+) -> Result<bool, AllocError> {
+    let lines = [public, signature, "00", "00"];
+    let seeds = [ZEROS, ZEROS, "00", "00"];
+    let batch = [public, "00", "0002", signature, "00", signature, "00"];
+    Ok(
+        faults_in_turn(alloc, ["fill55", "verify", set], &lines, &[0, 1])?
+            && faults_in_turn(alloc, ["fill55", "check", set], &seeds, &[0, 1])?
+            && faults_in_turn(alloc, ["fill55", "batch", set], &batch, &[0, 2, 3, 5])?,
+    )
+}
+
 #[test]
 fn each_line_is_judged_before_the_next_is_read(rt: HostRuntime) -> Result<(), Fail> {
-    let alloc = rt.alloc();
     for [set, public, private, signature] in RECORDED {
-        assert!(rt; faults_in_turn(alloc, ["fill55", "id", set], &[public], &[0])?);
-        assert!(rt; faults_in_turn(alloc, ["fill55", "keygen", set], &[ZEROS], &[0])?);
-        let lines = [private, ZEROS, "00", "00"];
-        assert!(rt; faults_in_turn(alloc, ["fill55", "sign", set], &lines, &[0, 1])?);
-        let lines = [public, signature, "00", "00"];
-        assert!(rt; faults_in_turn(alloc, ["fill55", "verify", set], &lines, &[0, 1])?);
-        let lines = [ZEROS, ZEROS, "00", "00"];
-        assert!(rt; faults_in_turn(alloc, ["fill55", "check", set], &lines, &[0, 1])?);
-        let lines = [public, "00", "0002", signature, "00", signature, "00"];
-        let known = [0, 2, 3, 5];
-        assert!(rt; faults_in_turn(alloc, ["fill55", "batch", set], &lines, &known)?);
+        assert!(rt;
+            makers_judge(rt.alloc(), set, public, private)?,
+            "set {set}"
+        );
+        assert!(rt;
+            judges_judge(rt.alloc(), set, public, signature)?,
+            "set {set}"
+        );
     }
     Ok(())
 }
@@ -289,16 +389,15 @@ fn each_line_is_judged_before_the_next_is_read(rt: HostRuntime) -> Result<(), Fa
 /// Whether a line of this number is too long where it has a digit too many, whatever follows.
 fn is_too_long(alloc: Global, line: usize, before: &[&str]) -> Result<bool, AllocError> {
     let digits = vec![in alloc; b'0'; 2097153]?;
-    let mut bytes = lines_of(alloc, before)?;
-    bytes.extend_from_slice(digits.as_slice())?;
-    let judged = bytes.len();
-    bytes.extend_from_slice(b"00\n00\n")?;
+    let before = lines_of(alloc, before)?;
+    let call = ["fill55", "check", "44"];
     let fault = RunFault::TooLong { line };
-    ends_with(
+    is_judged(
         alloc,
-        ["fill55", "check", "44"],
-        bytes.as_slice(),
-        judged,
+        call,
+        before.as_slice(),
+        digits.as_slice(),
+        b"00\n00\n",
         fault,
     )
 }
@@ -310,31 +409,43 @@ fn lines_that_are_too_long(rt: HostRuntime) -> Result<(), Fail> {
     Ok(())
 }
 
-#[test]
-fn writes_of_every_size(rt: HostRuntime) -> Result<(), Fail> {
-    let bytes = [0x5a; 20000];
-    for size in 0..20001usize {
-        for fails_at in [0, usize::MAX] {
-            let mut output = Marked::new(CountedWriter {
-                taken: Vec::new(rt.alloc()),
-                most: usize::MAX,
-                calls: 0,
-                fails_at,
-            });
-            let put = put(&mut output, &bytes[..size]);
-            let fails = fails_at == 0 && size > 0;
-            assert_eq!(rt; put.is_err(), fails);
-            assert_eq!(rt; output.failed(), fails);
-            let writer = output.into_device();
-            assert_eq!(rt; writer.calls, usize::from(size > 0));
-            assert!(rt; fails || writer.taken.as_slice() == &bytes[..size]);
-        }
-    }
-    Ok(())
+/// Whether bytes are put in one call of a device, which takes them or fails, and none of them in none.
+fn is_put(alloc: Global, bytes: &[u8], fails_at: usize) -> bool {
+    let mut output = Marked::new(CountedWriter {
+        taken: Vec::new(alloc),
+        most: usize::MAX,
+        calls: 0,
+        fails_at,
+    });
+    let fails = fails_at == 0 && !bytes.is_empty();
+    let failed = put(&mut output, bytes).is_err();
+    let marked = output.failed();
+    let writer = output.into_device();
+    failed == fails
+        && marked == fails
+        && writer.calls == usize::from(!bytes.is_empty())
+        && (fails || writer.taken.as_slice() == bytes)
 }
 
 #[test]
-fn statuses_and_lines_of_faults(rt: HostRuntime) -> Result<(), Fail> {
+fn writes_of_every_size(rt: HostRuntime) {
+    let bytes = [0x5a; 20000];
+    for size in 0..20001usize {
+        assert!(rt; is_put(rt.alloc(), &bytes[..size], 0));
+        assert!(rt; is_put(rt.alloc(), &bytes[..size], usize::MAX));
+    }
+}
+
+/// Whether an answer ends a run with this status, after this text on standard error.
+pub fn is_told(alloc: Global, answer: Result<bool, RunFault>, status: u8, text: &str) -> bool {
+    let error = KeptError {
+        text: RefCell::new(String::new(alloc)),
+    };
+    end(&error, answer) == ExitCode::from(status) && error.text.into_inner().as_str() == text
+}
+
+#[test]
+fn statuses_and_lines_of_faults(rt: HostRuntime) {
     let usage =
         "usage: mldsa sha2|fill00|fill55|fillff id|keygen|sign|verify|check|batch 44|65|87\n";
     let length = |line, wants, has| Err(RunFault::Length { line, wants, has });
@@ -354,13 +465,8 @@ fn statuses_and_lines_of_faults(rt: HostRuntime) -> Result<(), Fail> {
         (Err(RunFault::Write), 2, "write failed\n"),
         (Err(RunFault::Memory), 2, "out of memory\n"),
     ] {
-        let error = KeptError {
-            text: RefCell::new(String::new(rt.alloc())),
-        };
-        assert!(rt; end(&error, answer) == ExitCode::from(status));
-        assert_eq!(rt; error.text.into_inner().as_str(), text);
+        assert!(rt; is_told(rt.alloc(), answer, status, text));
     }
-    Ok(())
 }
 
 /// Whether the words of a process with these arguments are these.
@@ -369,7 +475,7 @@ fn gives_words(
     arguments: &'static [&'static [u8]],
     texts: &[&str],
 ) -> Result<bool, RunFault> {
-    let words = words(&(Arguments { arguments }, alloc))?;
+    let words = process::words(&(Arguments { arguments }, alloc))?;
     let mut alike = words.len() == texts.len();
     for (word, text) in words.iter().zip(texts) {
         alike = alike && word.as_str() == *text;
@@ -396,6 +502,22 @@ fn words_after_the_name_of_the_program(rt: HostRuntime) -> Result<(), Fail> {
     Ok(())
 }
 
+/// Whether reads for one byte give these, after so many calls of the reader below.
+fn gives_singly(
+    bytewise: &mut Bytewise<BufReader<CountedReader>>,
+    bytes: &[u8],
+    calls: usize,
+) -> io::Result<bool> {
+    let mut one = [0];
+    for byte in bytes {
+        let count = bytewise.read(&mut one)?;
+        if count != 1 || one[0] != *byte || bytewise.reader.get_ref().calls != calls {
+            return Ok(false);
+        }
+    }
+    Ok(true)
+}
+
 #[test]
 fn single_bytes_come_from_a_buffer(rt: HostRuntime) -> Result<(), Fail> {
     let reader = CountedReader {
@@ -406,20 +528,11 @@ fn single_bytes_come_from_a_buffer(rt: HostRuntime) -> Result<(), Fail> {
     };
     let reader = BufReader::with_capacity(rt.alloc(), 8, reader)?;
     let mut bytewise = Bytewise { reader };
-    let mut one = [0];
-    for byte in b"twenty b" {
-        assert_eq!(rt; bytewise.read(&mut one)?, 1);
-        assert_eq!(rt; one[0], *byte);
-        assert_eq!(rt; bytewise.reader.get_ref().calls, 1);
-    }
+    assert!(rt; gives_singly(&mut bytewise, b"twenty b", 1)?);
     let mut eight = [0; 8];
-    assert_eq!(rt; bytewise.read(&mut eight)?, 8);
+    assert!(rt; bytewise.read(&mut eight)? == 8);
     assert!(rt; eight == *b"ytes to ");
-    for byte in b"read" {
-        assert_eq!(rt; bytewise.read(&mut one)?, 1);
-        assert_eq!(rt; one[0], *byte);
-        assert_eq!(rt; bytewise.reader.get_ref().calls, 3);
-    }
-    assert_eq!(rt; bytewise.read(&mut one)?, 0);
+    assert!(rt; gives_singly(&mut bytewise, b"read", 3)?);
+    assert!(rt; bytewise.read(&mut [0])? == 0);
     Ok(())
 }

@@ -2,39 +2,50 @@
 #![tactic(auto)]
 
 use crate::expected::{private_44, signature_44_of_least_coefficient};
-use crate::program::{id_44, line_of, run_of};
+use crate::program::{ends, is_fault_of_id, line_of};
 use crate::program_runs::hex_lines;
 use mldsa_engine::RunFault;
+use std::alloc::{AllocError, Global};
 use std::test::Fail;
+
+/// Whether a run of `sign` over bytes 55 at set 44 on these lines answers so and writes these bytes, where the first
+/// field of s1 is this one.
+fn signs_as(
+    alloc: Global,
+    field: u8,
+    others: &[&[u8]],
+    answer: Result<bool, RunFault>,
+    written: &[u8],
+) -> Result<bool, AllocError> {
+    let mut key = private_44();
+    key[128] = field;
+    let mut lines = hex_lines(alloc, &[&key])?;
+    lines.extend_from_slice(hex_lines(alloc, others)?.as_slice())?;
+    Ok(ends(
+        alloc,
+        ["fill55", "sign", "44"],
+        lines.as_slice(),
+        answer,
+        written,
+    ))
+}
 
 #[test]
 fn key_out_of_range_before_a_long_context(rt: HostRuntime) -> Result<(), Fail> {
-    let mut key = private_44();
-    key[128] = 0x05;
-    let lines = hex_lines(rt.alloc(), &[&key, &[0; 32], &[0; 256], &[0]])?;
-    let outcome = run_of(rt.alloc(), "fill55", "sign", "44", lines.as_slice())?;
-    assert_eq!(rt; outcome.answer, Ok(false));
-    assert!(rt; outcome.written.as_slice() == b"Alg 25: s1 or s2 out of range\n".as_slice());
-    let lines = hex_lines(rt.alloc(), &[&key, &[0; 32], &[0; 256]])?;
-    let outcome = run_of(rt.alloc(), "fill55", "sign", "44", lines.as_slice())?;
-    assert_eq!(rt; outcome.answer, Err(RunFault::Missing { line: 4 }));
-    assert!(rt; outcome.written.is_empty());
+    let text = b"Alg 25: s1 or s2 out of range\n";
+    assert!(rt; signs_as(rt.alloc(), 5, &[&[0; 32], &[0; 256], &[0]], Ok(false), text)?);
+    let missing = Err(RunFault::Missing { line: 4 });
+    assert!(rt; signs_as(rt.alloc(), 5, &[&[0; 32], &[0; 256]], missing, b"")?);
     Ok(())
 }
 
 #[test]
 fn key_at_the_end_of_its_range(rt: HostRuntime) -> Result<(), Fail> {
-    let mut key = private_44();
-    key[128] = 0x04;
-    let lines = hex_lines(rt.alloc(), &[&key, &[0; 32], &[0; 256], &[0]])?;
-    let outcome = run_of(rt.alloc(), "fill55", "sign", "44", lines.as_slice())?;
-    assert_eq!(rt; outcome.answer, Ok(false));
-    assert!(rt; outcome.written.as_slice() == b"ML-DSA.Sign: ctx too long\n".as_slice());
-    let lines = hex_lines(rt.alloc(), &[&key, &[0; 32], &[], &[0]])?;
+    let text = b"ML-DSA.Sign: ctx too long\n";
+    assert!(rt; signs_as(rt.alloc(), 4, &[&[0; 32], &[0; 256], &[0]], Ok(false), text)?);
     let wanted = hex_lines(rt.alloc(), &[&signature_44_of_least_coefficient()])?;
-    let outcome = run_of(rt.alloc(), "fill55", "sign", "44", lines.as_slice())?;
-    assert_eq!(rt; outcome.answer, Ok(true));
-    assert!(rt; outcome.written.as_slice() == wanted.as_slice());
+    let lines = [[0u8; 32].as_slice(), &[], &[0]];
+    assert!(rt; signs_as(rt.alloc(), 4, &lines, Ok(true), wanted.as_slice())?);
     Ok(())
 }
 
@@ -52,9 +63,7 @@ fn lines_at_the_longest(rt: HostRuntime) -> Result<(), Fail> {
         (b'0', 2097152, length),
     ] {
         let line = line_of(rt.alloc(), character, count)?;
-        let outcome = id_44(rt.alloc(), "fill55", line.as_slice())?;
-        assert_eq!(rt; outcome.answer, Err(fault));
-        assert!(rt; outcome.written.is_empty());
+        assert!(rt; is_fault_of_id(rt.alloc(), line.as_slice(), fault));
     }
     Ok(())
 }
@@ -63,8 +72,7 @@ fn lines_at_the_longest(rt: HostRuntime) -> Result<(), Fail> {
 fn carriage_return_after_a_key(rt: HostRuntime) -> Result<(), Fail> {
     let mut line = vec![in rt.alloc(); b'0'; 2624]?;
     line.extend_from_slice(b"\r\n")?;
-    let outcome = id_44(rt.alloc(), "fill55", line.as_slice())?;
-    assert_eq!(rt; outcome.answer, Err(RunFault::NotHex { line: 1 }));
-    assert!(rt; outcome.written.is_empty());
+    let fault = RunFault::NotHex { line: 1 };
+    assert!(rt; is_fault_of_id(rt.alloc(), line.as_slice(), fault));
     Ok(())
 }

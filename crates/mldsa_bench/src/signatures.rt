@@ -50,9 +50,9 @@ fn signature_of_set_87(rt: HostRuntime) -> Result<(), Fail> {
 fn long_contexts(rt: HostRuntime) -> Result<(), Fail> {
     let key = Private44::try_from_bytes(private_44())?;
     let answer = key.try_sign_with_seed(&[0; 32], b"abc", &[0; 256]);
-    assert_eq!(rt; answer.err(), Some(Fault::SignCtx));
+    assert!(rt; answer.err() == Some(Fault::SignCtx));
     let answer = key.try_sign_with_seed(&[0; 32], b"abc", &[0; 257]);
-    assert_eq!(rt; answer.err(), Some(Fault::SignCtx));
+    assert!(rt; answer.err() == Some(Fault::SignCtx));
     let key = Public44::try_from_bytes(public_44())?;
     assert!(rt; !key.verify(b"abc", &signature_44(), &[0; 256]));
     Ok(())
@@ -73,7 +73,7 @@ fn range_of_z(rt: HostRuntime) -> Result<(), Fail> {
     let key = Public44::try_from_bytes(public_44())?;
     for (field, yes) in [(78, false), (79, true), (262065, true), (262066, false)] {
         let signature = with_first_field(field);
-        assert_eq!(rt; key.verify(b"abc", &signature, &[]), yes, "field {field}");
+        assert!(rt; key.verify(b"abc", &signature, &[]) == yes, "field {field}");
     }
     Ok(())
 }
@@ -101,7 +101,7 @@ fn hints_of_signatures(rt: HostRuntime) -> Result<(), Fail> {
         (with_hint(&[1, 2], [2, 1, 2, 2]), false),
         (with_hint(&late, [0, 0, 0, 0]), false),
     ] {
-        assert_eq!(rt; key.verify(b"abc", &signature, &[]), yes);
+        assert!(rt; key.verify(b"abc", &signature, &[]) == yes);
     }
     Ok(())
 }

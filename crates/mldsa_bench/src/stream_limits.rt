@@ -93,9 +93,9 @@ fn answers_87<H: Xof, G: Xof>() -> Result<[Result<bool, Fault>; 4], Fault> {
 #[test]
 fn calls_whose_matrix_ends_at_its_last_triple(rt: HostRuntime) -> Result<(), Fail> {
     let all = [Ok(true); 4];
-    assert_eq!(rt; answers_44::<Fill<0x55>, LastTriple>()?, all);
-    assert_eq!(rt; answers_65::<Fill<0x55>, LastTriple>()?, all);
-    assert_eq!(rt; answers_87::<Fill<0x55>, LastTriple>()?, all);
+    assert!(rt; answers_44::<Fill<0x55>, LastTriple>()? == all);
+    assert!(rt; answers_65::<Fill<0x55>, LastTriple>()? == all);
+    assert!(rt; answers_87::<Fill<0x55>, LastTriple>()? == all);
     Ok(())
 }
 
@@ -103,18 +103,17 @@ fn calls_whose_matrix_ends_at_its_last_triple(rt: HostRuntime) -> Result<(), Fai
 fn calls_whose_matrix_passes_its_limit(rt: HostRuntime) -> Result<(), Fail> {
     let limit = Err(Fault::SamplingLimit);
     let refused = [limit, limit, limit, Ok(false)];
-    assert_eq!(rt; answers_44::<Fill<0x55>, PastLastTriple>()?, refused);
-    assert_eq!(rt; answers_65::<Fill<0x55>, PastLastTriple>()?, refused);
-    assert_eq!(rt; answers_87::<Fill<0x55>, PastLastTriple>()?, refused);
+    assert!(rt; answers_44::<Fill<0x55>, PastLastTriple>()? == refused);
+    assert!(rt; answers_65::<Fill<0x55>, PastLastTriple>()? == refused);
+    assert!(rt; answers_87::<Fill<0x55>, PastLastTriple>()? == refused);
     Ok(())
 }
 
 #[test]
 fn challenges_that_pass_their_limit(rt: HostRuntime) -> Result<(), Fail> {
     let limit = Err(Fault::SamplingLimit);
-    assert_eq!(rt;
-        answers_44::<Chosen<FfOver32Bytes>, Fill<0>>()?,
-        [Ok(true), Ok(true), limit, Ok(false)]
+    assert!(rt;
+        answers_44::<Chosen<FfOver32Bytes>, Fill<0>>()? == [Ok(true), Ok(true), limit, Ok(false)]
     );
     Ok(())
 }
@@ -153,15 +152,9 @@ fn smallest_response<H: Xof>(gamma1: i64, tau: i32, eta: i32) -> Result<i64, Fau
 #[test]
 fn first_attempts_that_are_rejected(rt: HostRuntime) -> Result<(), Fail> {
     assert!(rt; masks_are::<4, Chosen<ZerosOverFirstMasks>>(131072, 0, 131072));
-    assert_eq!(rt;
-        smallest_response::<Chosen<ZerosOverFirstMasks>>(131072, 39, 2)?,
-        131066
-    );
+    assert!(rt; smallest_response::<Chosen<ZerosOverFirstMasks>>(131072, 39, 2)? == 131066);
     assert!(rt; masks_are::<4, Chosen<ZerosOverFirstMasks>>(131072, 4, 43691));
-    assert_eq!(rt;
-        answers_44::<Chosen<ZerosOverFirstMasks>, Fill<0>>()?,
-        [Ok(true); 4]
-    );
+    assert!(rt; answers_44::<Chosen<ZerosOverFirstMasks>, Fill<0>>()? == [Ok(true); 4]);
     Ok(())
 }
 
@@ -173,9 +166,9 @@ fn responses_over_zeros(rt: HostRuntime) -> Result<(), Fail> {
     assert!(rt; masks_are::<5, Fill<0>>(524288, 4065, 524288));
     assert!(rt; masks_are::<7, Fill<0>>(524288, 0, 524288));
     assert!(rt; masks_are::<7, Fill<0>>(524288, 5691, 524288));
-    assert_eq!(rt; smallest_response::<Fill<0>>(131072, 39, 2)?, 130998);
-    assert_eq!(rt; smallest_response::<Fill<0>>(524288, 49, 4)?, 524100);
-    assert_eq!(rt; smallest_response::<Fill<0>>(524288, 60, 2)?, 524172);
+    assert!(rt; smallest_response::<Fill<0>>(131072, 39, 2)? == 130998);
+    assert!(rt; smallest_response::<Fill<0>>(524288, 49, 4)? == 524100);
+    assert!(rt; smallest_response::<Fill<0>>(524288, 60, 2)? == 524172);
     Ok(())
 }
 
@@ -187,6 +180,6 @@ fn challenge_times_large_low_parts(rt: HostRuntime) -> Result<(), Fail> {
         low[place] = if place % 2 == 0 { 4096 } else { -4095 };
     }
     low[170] = -4095;
-    assert_eq!(rt; slow_product(&c, &low)[255], 159724);
+    assert!(rt; slow_product(&c, &low)[255] == 159724);
     Ok(())
 }
