@@ -1,4 +1,4 @@
-use Rattle.std.proofs.Common.{rules, arith, pos, ◌≡◌, ◌∙◌, ◌-◌, inl, inr, length, Ok, Some, sym, ap, nat_abs, w32}
+use Rattle.std.proofs.Common.{rules, arith, pos, ◌≡◌, ◌∙◌, ◌-◌, length, Ok, Some, sym, ap, nat_abs, w32}
 use Rattle.std.specs.Prelude.{nat_lt}
 use Rattle.std.proofs.lemmas.Int.{to_z-of_z, ints}
 use Rattle.std.proofs.lemmas.Bool.{ltb-true}
@@ -9,7 +9,7 @@ use Rattle.fips204_base.specs.Vectors.{vector_coefficients}
 use Rattle.fips204.specs.Attempts.{response, low_vector, ct0, hint_vector, y_plus_cs1}
 use Rattle.fips204.specs.Sets.{set_of}
 use Rattle.fips204.proofs.RejectionChecks.{rejected-first, rejected-second, rejected-third, rejected-fourth, kept, response-is, low-is, ct0-is, hint-is, response-range, hint-range, signature_size}
-use Rattle.fips204.proofs.ParameterSets.{limits, rounding-some, rows}
+use Rattle.fips204.proofs.ParameterSets.{limits, rounding-some}
 use Rattle.fips204.proofs.Ranges.{whole_vector}
 use Rattle.fips204.proofs.types.PrivateKey.rejection_checks.Given.{Over}
 use Rattle.fips204.proofs.types.PrivateKey.rejection_checks.Goals as goal
@@ -50,18 +50,10 @@ hint_of g c =
     let product = c.challenge_times_transforms-ct0.ensures.values (coefficients c.args.c.now.0) (vector_coefficients c.args.self.now.t0) c.transform_of-c_hat.ensures.values c.requires.inputs.transforms.low in
     hint-is (set_of p) c.args.self.now (vector_coefficients c.args.w.now) c.args.c.now _ _ _ _ c.requires.inputs.sizes.0 difference product (rw gamma2 at c.hint-h.ensures)
 
-pub response-z-requires : goal.response-z-requires
-response-z-requires g c =
-    (search rules, (search rules, (c.requires.inputs.transforms.reduced_first, (c.requires.inputs.mask, c.transform_of-c_hat.ensures.small))))
-
 pub has_norm_below-requires : goal.has_norm_below-requires
 has_norm_below-requires g c =
     let bound = to_z-of_z w32 c.z_bound.result (search rules) ∙ c.z_bound.ensures in
     (search rules, (rw c.requires.inputs.sizes.1 (limits c.args.p.now (search rules)).some_columns, (c.response-z.ensures.range, rw bound (omega (arith, ints)))))
-
-pub w_minus_cs2-w_minus_cs2-requires : goal.w_minus_cs2-w_minus_cs2-requires
-w_minus_cs2-w_minus_cs2-requires g c =
-    (search rules, (search rules, (c.requires.inputs.transforms.reduced_second, (c.requires.inputs.product, c.transform_of-c_hat.ensures.small))))
 
 pub low_vector-requires : goal.low_vector-requires
 low_vector-requires g c =
@@ -94,13 +86,7 @@ number_of_ones-requires g c =
     (search rules, rw (sym c.requires.inputs.sizes.0) at few)
 
 pub overflow_cast-p : goal.overflow_cast-p
-overflow_cast-p g c =
-    let p = c.args.p.now in
-    elim (rows p.tau p.lambda p.gamma1 p.gamma2 p.k p.l p.eta p.beta p.omega (search rules)) [
-      | inl n ↦ rw n.omega_is (search rules)
-      | inr (inl n) ↦ rw n.omega_is (search rules)
-      | inr (inr n) ↦ rw n.omega_is (search rules)
-    ]
+overflow_cast-p g c = omega (arith, ints, (limits c.args.p.now (search rules)).some_ones)
 
 pub returns-then-not-has_norm_below : goal.returns-then-not-has_norm_below
 returns-then-not-has_norm_below g c =

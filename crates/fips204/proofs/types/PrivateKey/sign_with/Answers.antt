@@ -4,8 +4,7 @@ use Rattle.fips204.specs.Attempts.{attempt}
 use Rattle.fips204.specs.Keys.{PrivateParts}
 use Rattle.fips204.specs.Sets.{set_of}
 use Rattle.fips204.specs.Signing.{mask_seed}
-use Rattle.fips204.proofs.ParameterSets.{limits}
-use Rattle.fips204.proofs.Signing.{counter_fits, answered-fault, one_more, sign_with-signed, sign_with-limit, sign_with-none}
+use Rattle.fips204.proofs.Signing.{answered-fault, one_more, sign_with-signed, sign_with-limit, sign_with-none}
 use Rattle.fips204.proofs.types.PrivateKey.sign_with.Given.{Over}
 use Rattle.fips204.proofs.types.PrivateKey.sign_with.Goals as goal
 use Rattle.fips204.proofs.types.PrivateKey.sign_with.Goals.{After-hash-seed}
@@ -19,23 +18,6 @@ seed-is g c =
 
 pub loop-n-init : goal.loop-n-init
 loop-n-init g c = λ m h. absurd (omega (arith, h))
-
-pub attempt-requires : goal.attempt-requires
-attempt-requires g c =
-    let few : g.row.L ≤ 7 = omega (arith, c.requires.inputs.sizes.1, (limits c.args.p.now (search rules)).few_columns) in
-    let fits = counter_fits c.loop-n.n g.row.L c.loop-n-test.true few in
-    (search rules, (search rules, (search rules, (search rules, (search rules, record { signing = c.requires.inputs; counter = omega (arith, fits, few) })))))
-
-pub overflow_cast-kappa : goal.overflow_cast-kappa
-overflow_cast-kappa g c =
-    let few : g.row.L ≤ 7 = omega (arith, c.requires.inputs.sizes.1, (limits c.args.p.now (search rules)).few_columns) in
-    omega (arith, few)
-
-pub overflow_mul-kappa : goal.overflow_mul-kappa
-overflow_mul-kappa g c =
-    let few : g.row.L ≤ 7 = omega (arith, c.requires.inputs.sizes.1, (limits c.args.p.now (search rules)).few_columns) in
-    let fits = counter_fits c.loop-n.n g.row.L c.loop-n-test.true few in
-    omega (arith, fits, few)
 
 pub returns-in_err-signature : goal.returns-in_err-signature
 returns-in_err-signature g c =
