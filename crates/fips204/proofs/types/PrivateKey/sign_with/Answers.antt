@@ -25,12 +25,12 @@ returns-in_err-signature g c =
     let fault = answered-fault (attempt p g.H.Xof.front c.args.a_hat.now c.args.self.now c.args.mu.now c.hash-seed.result (c.loop-n.n * g.row.L)) c.in_err-signature.field-0.0 c.in_err-signature.ensures in
     let refused : c.from_residual.result ≡ Err SamplingLimit = search rules in
     refused ∙ sym (sign_with-limit p g.H.Xof.front c.args.a_hat.now c.args.self.now c.args.mu.now c.args.rnd.now c.hash-seed.result g.row.L c.loop-n.n c.in_err-signature.field-0.0
-    (seed-is g (goal.at.returns-in_err-signature g c).After-hash-seed) c.requires.inputs.sizes.1 c.loop-n-test.true c.loop-n.invariant c.in_err-signature.ensures)
+    (seed-is g (goal.at.returns-in_err-signature g c).After-hash-seed) c.requires.inputs.sizes.columns c.loop-n-test.true c.loop-n.invariant c.in_err-signature.ensures)
 
 pub returns-in-Some : goal.returns-in-Some
 returns-in-Some g c =
     sym (sign_with-signed (set_of c.args.p.now) g.H.Xof.front c.args.a_hat.now c.args.self.now c.args.mu.now c.args.rnd.now c.hash-seed.result g.row.L c.loop-n.n c.in_ok-signature.field-0 c.in-Some.signature
-    (seed-is g (goal.at.returns-in-Some g c).After-hash-seed) c.requires.inputs.sizes.1 c.loop-n-test.true c.loop-n.invariant c.in-Some.is c.in_ok-signature.ensures)
+    (seed-is g (goal.at.returns-in-Some g c).After-hash-seed) c.requires.inputs.sizes.columns c.loop-n-test.true c.loop-n.invariant c.in-Some.is c.in_ok-signature.ensures)
 
 pub loop-n-preserved : goal.loop-n-preserved
 loop-n-preserved g c =
@@ -42,4 +42,4 @@ returns g c =
     let p = set_of c.args.p.now in
     let end : c.loop-n.n ≡ 814 = omega (arith, c.loop-n-test.false, c.loop-n.auto.n-end) in
     let all = rw end at c.loop-n.invariant in
-    sym (sign_with-none p g.H.Xof.front c.args.a_hat.now c.args.self.now c.args.mu.now c.args.rnd.now c.hash-seed.result g.row.L (seed-is g (goal.at.returns g c).After-hash-seed) c.requires.inputs.sizes.1 all)
+    sym (sign_with-none p g.H.Xof.front c.args.a_hat.now c.args.self.now c.args.mu.now c.args.rnd.now c.hash-seed.result g.row.L (seed-is g (goal.at.returns g c).After-hash-seed) c.requires.inputs.sizes.columns all)
