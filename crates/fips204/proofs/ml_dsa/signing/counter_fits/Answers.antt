@@ -1,4 +1,4 @@
-use Rattle.std.proofs.Common.{rules, arith, ◌≤◌}
+use Rattle.std.proofs.Common.{rules, ◌≤◌}
 use Rattle.fips204.proofs.ParameterSets.{limits}
 use Rattle.fips204.proofs.Signing.{counter_fits}
 use Rattle.fips204.proofs.ml_dsa.signing.counter_fits.Goals as goal
