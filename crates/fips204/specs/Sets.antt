@@ -8,5 +8,8 @@ abbrev pub set_of : Params → ParameterSet
 set_of p = parameter_set p.tau p.lambda p.gamma1 p.gamma2 p.k p.l p.eta p.beta p.omega
 
 -- k rows and l columns, n bytes of c_tilde and s bytes of a signature are those of the set
-abbrev pub HasSizes : Params → ℕ → ℕ → ℕ → ℕ → Type 0
-HasSizes p k l n s = (k ≡ p.k) × (l ≡ p.l) × (n ≡ commitment_length (set_of p)) × (s ≡ signature_length (set_of p))
+pub record HasSizes (p : Params) (k l n s : ℕ) : Type 0 where
+  pub rows : k ≡ p.k
+  pub columns : l ≡ p.l
+  pub commitment : n ≡ commitment_length (set_of p)
+  pub signature : s ≡ signature_length (set_of p)

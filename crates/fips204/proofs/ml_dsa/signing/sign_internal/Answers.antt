@@ -12,14 +12,14 @@ pub expand_a_into-requires : goal.expand_a_into-requires
 expand_a_into-requires g c =
     let p = c.args.p.now in
     let known = limits p (search rules) in
-    (search rules, (search rules, (omega (arith, c.requires.sizes.0, known.few_rows), omega (arith, c.requires.sizes.1, known.few_columns))))
+    (search rules, (search rules, (omega (arith, c.requires.sizes.rows, known.few_rows), omega (arith, c.requires.sizes.columns, known.few_columns))))
 
 pub returns-in_err-expand_a_into-clause-answer : goal.returns-in_err-expand_a_into-clause-answer
 returns-in_err-expand_a_into-clause-answer g c =
     let p = set_of c.args.p.now in
     let refused : c.from_residual.result ≡ Err SamplingLimit = search rules in
     let same : c.sk.inside.rho ≡ c.args.sk.now.rho = search rules in
-    let there : sampled_matrix g.G.Xof.front c.args.sk.now.rho p.k p.l ≡ None = rw (same, c.requires.sizes.0, c.requires.sizes.1) at c.in_err-expand_a_into.ensures.refused.0 in
+    let there : sampled_matrix g.G.Xof.front c.args.sk.now.rho p.k p.l ≡ None = rw (same, c.requires.sizes.rows, c.requires.sizes.columns) at c.in_err-expand_a_into.ensures.refused.0 in
     refused ∙ sym (sign-no_matrix p g.H.Xof.front g.G.Xof.front c.args.sk.now c.args.mu.now c.args.rnd.now there)
 
 pub sign_with-requires : goal.sign_with-requires
@@ -35,10 +35,10 @@ returns-clause-answer g c =
     let p = set_of c.args.p.now in
     let a = c.expand_a_into.new.matrix in
     let same : c.sk.inside.rho ≡ c.args.sk.now.rho = search rules in
-    let there : sampled_matrix g.G.Xof.front c.args.sk.now.rho p.k p.l ≡ Some a = rw (same, c.requires.sizes.0, c.requires.sizes.1) at c.in_ok-expand_a_into.ensures.values in
+    let there : sampled_matrix g.G.Xof.front c.args.sk.now.rho p.k p.l ≡ Some a = rw (same, c.requires.sizes.rows, c.requires.sizes.columns) at c.in_ok-expand_a_into.ensures.values in
     sign-by_matrix p g.H.Xof.front g.G.Xof.front c.args.sk.now c.args.mu.now c.args.rnd.now a c.sign_with.result there c.sign_with.ensures
 
 pub returns-clause-accepted : goal.returns-clause-accepted
 returns-clause-accepted g c =
     hash_accepted c.args.p.now g.H.Xof.front g.G.Xof.front g.row.K g.row.L c.args.sk.now c.args.mu.now c.args.rnd.now c.sign_with.result (search rules)
-    (λ input. omega (arith, g.met.H.Xof.front_size input, g.met.H.Xof.front_least)) c.requires.sizes.0 c.requires.sizes.1 (search rules) (returns-clause-answer g c)
+    (λ input. omega (arith, g.met.H.Xof.front_size input, g.met.H.Xof.front_least)) c.requires.sizes.rows c.requires.sizes.columns (search rules) (returns-clause-answer g c)

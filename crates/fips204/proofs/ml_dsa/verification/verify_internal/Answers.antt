@@ -12,9 +12,9 @@ expanded_times_vector_less-requires g c =
     let p = c.args.p.now in
     let known : IsKnown p = search rules in
     let some = limits p known in
-    let rows : g.row.K ≤ 8 = rw c.requires.sizes.0 some.few_rows in
-    let columns : g.row.L ≤ 7 = rw c.requires.sizes.1 some.few_columns in
-    let z = short-response p g.row.L c.args.sig.now c.in-Some.parts.0 c.in-Some.parts.1 c.in-Some.parts.2 known c.requires.sizes.1 c.in-Some.ensures.0 in
+    let rows : g.row.K ≤ 8 = rw c.requires.sizes.rows some.few_rows in
+    let columns : g.row.L ≤ 7 = rw c.requires.sizes.columns some.few_columns in
+    let z = short-response p g.row.L c.args.sig.now c.in-Some.parts.0 c.in-Some.parts.1 c.in-Some.parts.2 known c.requires.sizes.columns c.in-Some.ensures.0 in
     (omega (arith, columns), (omega (arith, rows), ((rows, columns), ((λ r n i m. (let x = z r n i m in omega (arith, x))), (challenge-reduced _ _ c.in-Some.parts.3 c.in-Some.ensures.1, c.t1_shifted.ensures.range)))))
 
 pub returns-in-Ok : goal.returns-in-Ok
@@ -24,7 +24,7 @@ returns-in-Ok g c =
     let rho : c.pk.inside.rho ≡ c.args.pk.now.rho = ap (λ (k : PublicParts). k.rho) c.pk.view_is in
     let t1 : c.pk.inside.t1 ≡ c.args.pk.now.t1 = ap (λ (k : PublicParts). k.t1) c.pk.view_is in
     let there = sampled.1 in
-    let matrix : sampled_matrix g.G.Xof.front c.args.pk.now.rho p.k p.l ≡ Some sampled.0 = rw (rho, c.requires.sizes.0, c.requires.sizes.1) at there in
+    let matrix : sampled_matrix g.G.Xof.front c.args.pk.now.rho p.k p.l ≡ Some sampled.0 = rw (rho, c.requires.sizes.rows, c.requires.sizes.columns) at there in
     let decided = commitment-decides p g.H.Xof.front sampled.0 c.pk.inside.t1 c.args.mu.now c.args.sig.now c.in-Some.parts.0 c.in-Some.parts.1 c.in-Some.parts.2 c.in-Some.parts.3 c.t1_shifted.result c.expanded_times_vector_less.new.out g.row.K g.row.L c.has_commitment.result
-    (search rules) c.requires.sizes.0 c.requires.sizes.1 c.in-Some.ensures.0 c.in-Some.ensures.1 c.t1_shifted.ensures.values sampled.2 c.has_commitment.ensures in
+    (search rules) c.requires.sizes.rows c.requires.sizes.columns c.in-Some.ensures.0 c.in-Some.ensures.1 c.t1_shifted.ensures.values sampled.2 c.has_commitment.ensures in
     verifies-with (set_of p) g.H.Xof.front g.G.Xof.front c.args.pk.now c.args.mu.now c.args.sig.now sampled.0 c.has_commitment.result matrix (rw t1 at decided)

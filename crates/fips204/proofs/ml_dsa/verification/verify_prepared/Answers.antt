@@ -9,13 +9,13 @@ matrix_times_vector_less-w-requires g c =
     let p = c.args.p.now in
     let known : IsKnown p = search rules in
     let some = limits p known in
-    let rows : g.row.K ≤ 8 = rw c.requires.sizes.0 some.few_rows in
-    let columns : g.row.L ≤ 7 = rw c.requires.sizes.1 some.few_columns in
-    let z = short-response p g.row.L c.args.sig.now c.in-Some.parts.0 c.in-Some.parts.1 c.in-Some.parts.2 known c.requires.sizes.1 c.in-Some.ensures.0 in
+    let rows : g.row.K ≤ 8 = rw c.requires.sizes.rows some.few_rows in
+    let columns : g.row.L ≤ 7 = rw c.requires.sizes.columns some.few_columns in
+    let z = short-response p g.row.L c.args.sig.now c.in-Some.parts.0 c.in-Some.parts.1 c.in-Some.parts.2 known c.requires.sizes.columns c.in-Some.ensures.0 in
     (matrix_room g.row.K g.row.L rows columns, (omega (arith, columns), (omega (arith, columns), (omega (arith, rows), (columns, (search rules, ((λ r n i m. (let x = z r n i m in omega (arith, x))), (challenge-reduced _ _ c.in-Some.parts.3 c.in-Some.ensures.1, c.t1_shifted.ensures.range))))))))
 
 pub returns : goal.returns
 returns g c =
     let p = c.args.p.now in
     commitment-decides p g.H.Xof.front c.args.pk.now.matrix c.args.pk.now.key.t1 c.args.mu.now c.args.sig.now c.in-Some.parts.0 c.in-Some.parts.1 c.in-Some.parts.2 c.in-Some.parts.3 c.t1_shifted.result c.matrix_times_vector_less-w.result g.row.K g.row.L c.has_commitment.result
-    (search rules) c.requires.sizes.0 c.requires.sizes.1 c.in-Some.ensures.0 c.in-Some.ensures.1 (search rules) (search rules) (search rules)
+    (search rules) c.requires.sizes.rows c.requires.sizes.columns c.in-Some.ensures.0 c.in-Some.ensures.1 (search rules) (search rules) (search rules)

@@ -31,7 +31,7 @@ whole g c =
     let y : c.expand_mask-y.result ≡ mask (nat_abs p.gamma1) g.H.Xof.front c.args.seed.now g.row.L c.args.kappa = rw (to_z-of_z w32 p.gamma1 (search rules)) at c.expand_mask-y.ensures in
     let w1 : c.high_vector-w1.result ≡ vector_of g.row.K (λ r n. pos (high_bits (nat_abs p.gamma2) (vector_coefficients c.matrix_times_vector-w.result r n))) = rw (to_z-of_z w32 p.gamma2 (search rules)) at c.high_vector-w1.ensures in
     attempt-is (set_of p) g.H.Xof.front c.args.a_hat.now c.args.self.now c.args.mu.now c.args.seed.now c.args.kappa g.row.K g.row.L c.expand_mask-y.result c.matrix_times_vector-w.result
-    c.high_vector-w1.result c.commitment-c_tilde.result c.requires.inputs.signing.sizes.0 c.requires.inputs.signing.sizes.1 y c.matrix_times_vector-w.ensures.values w1 c.commitment-c_tilde.ensures
+    c.high_vector-w1.result c.commitment-c_tilde.result c.requires.inputs.signing.sizes.rows c.requires.inputs.signing.sizes.columns y c.matrix_times_vector-w.ensures.values w1 c.commitment-c_tilde.ensures
 
 pub expand_mask-y-requires : goal.expand_mask-y-requires
 expand_mask-y-requires g c =
@@ -42,7 +42,7 @@ pub matrix_times_vector-w-requires : goal.matrix_times_vector-w-requires
 matrix_times_vector-w-requires g c =
     let known = limits c.args.p.now (search rules) in
     let mask = small g (goal.at.matrix_times_vector-w-requires g c).After-expand_mask-y in
-    (search rules, (search rules, (search rules, (search rules, (omega (arith, c.requires.inputs.signing.sizes.1, known.few_columns), (c.requires.inputs.signing.matrix, λ r n h l. (let x = mask r n h l in omega (arith, x))))))))
+    (search rules, (search rules, (search rules, (search rules, (omega (arith, c.requires.inputs.signing.sizes.columns, known.few_columns), (c.requires.inputs.signing.matrix, λ r n h l. (let x = mask r n h l in omega (arith, x))))))))
 
 pub high_vector-w1-requires : goal.high_vector-w1-requires
 high_vector-w1-requires g c =
@@ -53,7 +53,7 @@ pub commitment-c_tilde-requires : goal.commitment-c_tilde-requires
 commitment-c_tilde-requires g c =
     let p = c.args.p.now in
     let w1 : c.high_vector-w1.result ≡ vector_of g.row.K (λ r n. pos (high_bits (nat_abs p.gamma2) (vector_coefficients c.matrix_times_vector-w.result r n))) = rw (to_z-of_z w32 p.gamma2 (search rules)) at c.high_vector-w1.ensures in
-    (search rules, (search rules, (c.requires.inputs.signing.sizes.0, (c.requires.inputs.signing.sizes.2, high-range p.gamma2 g.row.K c.matrix_times_vector-w.result c.high_vector-w1.result (limits p (search rules)).rounding w1))))
+    (search rules, (search rules, (c.requires.inputs.signing.sizes.rows, (c.requires.inputs.signing.sizes.commitment, high-range p.gamma2 g.row.K c.matrix_times_vector-w.result c.high_vector-w1.result (limits p (search rules)).rounding w1))))
 
 pub sample_in_ball-requires : goal.sample_in_ball-requires
 sample_in_ball-requires g c =

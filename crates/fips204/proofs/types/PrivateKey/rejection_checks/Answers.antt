@@ -1,4 +1,4 @@
-use Rattle.std.proofs.Common.{rules, arith, pos, ◌≡◌, ◌∙◌, ◌-◌, inl, inr, length, Ok, Some, sym, ap, nat_abs, w32}
+use Rattle.std.proofs.Common.{rules, arith, pos, ◌≡◌, ◌∙◌, ◌-◌, length, Ok, Some, sym, ap, nat_abs, w32}
 use Rattle.std.specs.Prelude.{nat_lt}
 use Rattle.std.proofs.lemmas.Int.{to_z-of_z, ints}
 use Rattle.std.proofs.lemmas.Bool.{ltb-true}
@@ -9,7 +9,7 @@ use Rattle.fips204_base.specs.Vectors.{vector_coefficients}
 use Rattle.fips204.specs.Attempts.{response, low_vector, ct0, hint_vector, y_plus_cs1}
 use Rattle.fips204.specs.Sets.{set_of}
 use Rattle.fips204.proofs.RejectionChecks.{rejected-first, rejected-second, rejected-third, rejected-fourth, kept, response-is, low-is, ct0-is, hint-is, response-range, hint-range, signature_size}
-use Rattle.fips204.proofs.ParameterSets.{limits, rounding-some, rows}
+use Rattle.fips204.proofs.ParameterSets.{limits, rounding-some}
 use Rattle.fips204.proofs.Ranges.{whole_vector}
 use Rattle.fips204.proofs.types.PrivateKey.rejection_checks.Given.{Over}
 use Rattle.fips204.proofs.types.PrivateKey.rejection_checks.Goals as goal
@@ -22,7 +22,7 @@ first g c =
     let bound = to_z-of_z w32 c.z_bound.result (search rules) ∙ c.z_bound.ensures in
     let z = c.response-z.ensures.value c.args.self.now.s1 c.args.c.now c.requires.inputs.transforms.first c.transform_of-c_hat.ensures.values in
     (rw bound at c.has_norm_below.ensures)
-    ∙ ap (λ v. nat_lt (vector_norm v) (nat_abs p.gamma1 - nat_abs p.beta)) (response-is (set_of p) c.args.self.now c.args.y.now c.args.c.now c.response-z.result g.row.L c.requires.inputs.sizes.1 z)
+    ∙ ap (λ v. nat_lt (vector_norm v) (nat_abs p.gamma1 - nat_abs p.beta)) (response-is (set_of p) c.args.self.now c.args.y.now c.args.c.now c.response-z.result g.row.L c.requires.inputs.sizes.columns z)
 
 second : (g : Over) (c : After-has_norm_below-2 g) → c.has_norm_below-2.result ≡ nat_lt (vector_norm (low_vector (set_of c.args.p.now) c.args.self.now (vector_coefficients c.args.w.now) c.args.c.now)) (nat_abs c.args.p.now.gamma2 - nat_abs c.args.p.now.beta)
 second g c =
@@ -31,7 +31,7 @@ second g c =
     let gamma2 = to_z-of_z w32 p.gamma2 (search rules) in
     let difference = c.w_minus_cs2-w_minus_cs2.ensures.values c.args.self.now.s2 c.args.c.now c.requires.inputs.transforms.second c.transform_of-c_hat.ensures.values in
     (rw bound at c.has_norm_below-2.ensures)
-    ∙ ap (λ v. nat_lt (vector_norm v) (nat_abs p.gamma2 - nat_abs p.beta)) ((rw gamma2 at c.low_vector.ensures.value) ∙ low-is (set_of p) c.args.self.now (vector_coefficients c.args.w.now) c.args.c.now _ _ c.requires.inputs.sizes.0 difference)
+    ∙ ap (λ v. nat_lt (vector_norm v) (nat_abs p.gamma2 - nat_abs p.beta)) ((rw gamma2 at c.low_vector.ensures.value) ∙ low-is (set_of p) c.args.self.now (vector_coefficients c.args.w.now) c.args.c.now _ _ c.requires.inputs.sizes.rows difference)
 
 third : (g : Over) (c : After-has_norm_below-3 g) → c.has_norm_below-3.result ≡ nat_lt (vector_norm (ct0 (set_of c.args.p.now) c.args.self.now c.args.c.now)) (nat_abs c.args.p.now.gamma2)
 third g c =
@@ -40,7 +40,7 @@ third g c =
     let t = c.challenge_times_transforms-ct0 in
     let product = t.ensures.values (coefficients c.args.c.now.0) (vector_coefficients c.args.self.now.t0) c.transform_of-c_hat.ensures.values c.requires.inputs.transforms.low in
     (rw gamma2 at c.has_norm_below-3.ensures)
-    ∙ ap (λ v. nat_lt (vector_norm v) (nat_abs p.gamma2)) (ct0-is (set_of p) c.args.self.now c.args.c.now _ _ c.requires.inputs.sizes.0 (whole_vector g.row.K _ t.result (search rules) t.type_inv product))
+    ∙ ap (λ v. nat_lt (vector_norm v) (nat_abs p.gamma2)) (ct0-is (set_of p) c.args.self.now c.args.c.now _ _ c.requires.inputs.sizes.rows (whole_vector g.row.K _ t.result (search rules) t.type_inv product))
 
 hint_of : (g : Over) (c : After-number_of_ones g) → c.hint-h.result ≡ hint_vector (set_of c.args.p.now) c.args.self.now (vector_coefficients c.args.w.now) c.args.c.now
 hint_of g c =
@@ -48,20 +48,12 @@ hint_of g c =
     let gamma2 = to_z-of_z w32 p.gamma2 (search rules) in
     let difference = c.w_minus_cs2-w_minus_cs2.ensures.values c.args.self.now.s2 c.args.c.now c.requires.inputs.transforms.second c.transform_of-c_hat.ensures.values in
     let product = c.challenge_times_transforms-ct0.ensures.values (coefficients c.args.c.now.0) (vector_coefficients c.args.self.now.t0) c.transform_of-c_hat.ensures.values c.requires.inputs.transforms.low in
-    hint-is (set_of p) c.args.self.now (vector_coefficients c.args.w.now) c.args.c.now _ _ _ _ c.requires.inputs.sizes.0 difference product (rw gamma2 at c.hint-h.ensures)
-
-pub response-z-requires : goal.response-z-requires
-response-z-requires g c =
-    (search rules, (search rules, (c.requires.inputs.transforms.reduced_first, (c.requires.inputs.mask, c.transform_of-c_hat.ensures.small))))
+    hint-is (set_of p) c.args.self.now (vector_coefficients c.args.w.now) c.args.c.now _ _ _ _ c.requires.inputs.sizes.rows difference product (rw gamma2 at c.hint-h.ensures)
 
 pub has_norm_below-requires : goal.has_norm_below-requires
 has_norm_below-requires g c =
     let bound = to_z-of_z w32 c.z_bound.result (search rules) ∙ c.z_bound.ensures in
-    (search rules, (rw c.requires.inputs.sizes.1 (limits c.args.p.now (search rules)).some_columns, (c.response-z.ensures.range, rw bound (omega (arith, ints)))))
-
-pub w_minus_cs2-w_minus_cs2-requires : goal.w_minus_cs2-w_minus_cs2-requires
-w_minus_cs2-w_minus_cs2-requires g c =
-    (search rules, (search rules, (c.requires.inputs.transforms.reduced_second, (c.requires.inputs.product, c.transform_of-c_hat.ensures.small))))
+    (search rules, (rw c.requires.inputs.sizes.columns (limits c.args.p.now (search rules)).some_columns, (c.response-z.ensures.range, rw bound (omega (arith, ints)))))
 
 pub low_vector-requires : goal.low_vector-requires
 low_vector-requires g c =
@@ -71,7 +63,7 @@ low_vector-requires g c =
 pub has_norm_below-requires-2 : goal.has_norm_below-requires-2
 has_norm_below-requires-2 g c =
     let bound = to_z-of_z w32 c.r0_bound.result (search rules) ∙ c.r0_bound.ensures in
-    (search rules, (rw c.requires.inputs.sizes.0 (limits c.args.p.now (search rules)).some_rows, (c.low_vector.ensures.range, rw bound (omega (arith, ints)))))
+    (search rules, (rw c.requires.inputs.sizes.rows (limits c.args.p.now (search rules)).some_rows, (c.low_vector.ensures.range, rw bound (omega (arith, ints)))))
 
 pub challenge_times_transforms-ct0-requires : goal.challenge_times_transforms-ct0-requires
 challenge_times_transforms-ct0-requires g c =
@@ -81,7 +73,7 @@ pub has_norm_below-requires-3 : goal.has_norm_below-requires-3
 has_norm_below-requires-3 g c =
     let gamma2 = to_z-of_z w32 c.args.p.now.gamma2 (search rules) in
     let known = limits c.args.p.now (search rules) in
-    (search rules, (rw c.requires.inputs.sizes.0 known.some_rows, (c.challenge_times_transforms-ct0.ensures.range, rw gamma2 (rounding-some c.args.p.now.gamma2 known.rounding))))
+    (search rules, (rw c.requires.inputs.sizes.rows known.some_rows, (c.challenge_times_transforms-ct0.ensures.range, rw gamma2 (rounding-some c.args.p.now.gamma2 known.rounding))))
 
 pub hint-h-requires : goal.hint-h-requires
 hint-h-requires g c =
@@ -91,16 +83,10 @@ hint-h-requires g c =
 pub number_of_ones-requires : goal.number_of_ones-requires
 number_of_ones-requires g c =
     let few = (limits c.args.p.now (search rules)).few_rows in
-    (search rules, rw (sym c.requires.inputs.sizes.0) at few)
+    (search rules, rw (sym c.requires.inputs.sizes.rows) at few)
 
 pub overflow_cast-p : goal.overflow_cast-p
-overflow_cast-p g c =
-    let p = c.args.p.now in
-    elim (rows p.tau p.lambda p.gamma1 p.gamma2 p.k p.l p.eta p.beta p.omega (search rules)) [
-      | inl n ↦ rw n.omega_is (search rules)
-      | inr (inl n) ↦ rw n.omega_is (search rules)
-      | inr (inr n) ↦ rw n.omega_is (search rules)
-    ]
+overflow_cast-p g c = omega (arith, ints, (limits c.args.p.now (search rules)).some_ones)
 
 pub returns-then-not-has_norm_below : goal.returns-then-not-has_norm_below
 returns-then-not-has_norm_below g c =
@@ -138,7 +124,7 @@ sig_encode-requires g c =
     let omega_is = to_z-of_z w32 p.omega (search rules) in
     let hint = rw gamma2 at c.hint-h.ensures in
     let sum = c.response-z.ensures.value c.args.self.now.s1 c.args.c.now c.requires.inputs.transforms.first c.transform_of-c_hat.ensures.values in
-    let z = response-is (set_of p) c.args.self.now c.args.y.now c.args.c.now _ _ c.requires.inputs.sizes.1 sum in
+    let z = response-is (set_of p) c.args.self.now c.args.y.now c.args.c.now _ _ c.requires.inputs.sizes.columns sum in
     let test = sym c.if-not-has_norm_below.false ∙ first g at.After-has_norm_below ∙ ap (λ v. nat_lt (vector_norm v) (nat_abs p.gamma1 - nat_abs p.beta)) (sym z) in (
       search rules,
       (
@@ -152,9 +138,9 @@ sig_encode-requires g c =
               (
                 rw omega_is known.some_ones,
                 (
-                  rw (omega_is, c.requires.inputs.sizes.0) known.hint_size,
+                  rw (omega_is, c.requires.inputs.sizes.rows) known.hint_size,
                   (
-                    rw (gamma1, omega_is) (signature_size p _ _ _ _ known.mask c.requires.inputs.sizes.0 c.requires.inputs.sizes.1 c.requires.inputs.sizes.2 c.requires.inputs.sizes.3),
+                    rw (gamma1, omega_is) (signature_size p _ _ _ _ known.mask c.requires.inputs.sizes.rows c.requires.inputs.sizes.columns c.requires.inputs.sizes.commitment c.requires.inputs.sizes.signature),
                     (
                       rw gamma1 (response-range p.gamma1 (nat_abs p.gamma1 - nat_abs p.beta) g.row.L (λ r n. pos (y_plus_cs1 c.args.self.now.s1 c.args.y.now c.args.c.now r n)) c.response-z.result known.mask (omega arith) sum (ltb-true _ _ (sym test))),
                       (rw hint (hint-range g.row.K (nat_abs p.gamma2) (vector_coefficients c.w_minus_cs2-w_minus_cs2.result) (vector_coefficients c.challenge_times_transforms-ct0.result)).range, rw c.number_of_ones.ensures at c.if-number_of_ones-p.false),
@@ -175,7 +161,7 @@ returns g c =
     let gamma1 = to_z-of_z w32 p.gamma1 (search rules) in
     let omega_is = to_z-of_z w32 p.omega (search rules) in
     let sum = c.response-z.ensures.value c.args.self.now.s1 c.args.c.now c.requires.inputs.transforms.first c.transform_of-c_hat.ensures.values in
-    let z = response-is (set_of p) c.args.self.now c.args.y.now c.args.c.now _ _ c.requires.inputs.sizes.1 sum in
+    let z = response-is (set_of p) c.args.self.now c.args.y.now c.args.c.now _ _ c.requires.inputs.sizes.columns sum in
     let h = hint_of g at.After-number_of_ones in
     let count = c.number_of_ones.ensures ∙ ap (λ h. length (all_ones h)) h in
     ap (λ s. Ok (Some s)) (rw (gamma1, omega_is, z, h) at c.sig_encode.ensures)

@@ -1,7 +1,7 @@
 use Rattle.std.proofs.Common.{rules, arith, ◌≡◌, ◌∙◌, ℕ, List, [], ap, sym, map, get_or, Result, Err, Bor}
 use Rattle.fips204_base.specs.declared.fault.Fault.{Fault}
 use Rattle.fips204_base.specs.declared.fault.Fault.TheVariants.{SamplingLimit}
-use Rattle.std.proofs.lemmas.List.{get_or-map}
+use Rattle.std.proofs.lemmas.List.{get_or-map, length-map}
 use Rattle.fips204.specs.Prepared.{sign_message_prepared}
 use Rattle.fips204.specs.Sets.{set_of}
 use Rattle.fips204.proofs.Prepared.{each_more}
@@ -17,3 +17,8 @@ loop-i-preserved g c =
       signed = each_more (λ (k : ℕ) (answer : Result (List ℕ) Fault). answer ≡ signed k (get_or texts k [])) c.loop-i.out c.loop-i.i c.sign_message.result (Err SamplingLimit)
           (omega (arith, c.loop-i-test.true, c.loop-i.invariant.size)) c.loop-i.invariant.signed (c.sign_message.ensures.answer ∙ ap (signed c.loop-i.i) (sym text));
     }
+
+pub returns : goal.returns
+returns g c =
+    let size = length-map c.args.messages.now (λ (m : Bor (List ℕ)). m.now) in
+    (c.loop-i.invariant.size ∙ sym size, λ k h. c.loop-i.invariant.signed k (omega (arith, h, size, c.loop-i-test.false)))

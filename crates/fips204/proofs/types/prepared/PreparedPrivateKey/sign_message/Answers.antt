@@ -7,4 +7,4 @@ use Rattle.fips204.proofs.types.prepared.PreparedPrivateKey.sign_message.Goals a
 pub returns-clause-accepted : goal.returns-clause-accepted
 returns-clause-accepted g c =
     message_accepted c.args.p.now g.H.Xof.front g.row.K g.row.L c.args.self.now c.args.rnd.now c.args.message.now c.args.ctx.now c.sign_hash.result (search rules)
-    (λ input. omega (arith, g.met.H.Xof.front_size input, g.met.H.Xof.front_least)) c.requires.sizes.0 c.requires.sizes.1 (subst (λ (k : PrivateParts). ArePrivateParts g.row.K g.row.L k) (ap (λ (k : PreparedPrivate). k.key) c.self.view_is) c.self.invariant.1) (search rules)
+    (λ input. omega (arith, g.met.H.Xof.front_size input, g.met.H.Xof.front_least)) c.requires.sizes.rows c.requires.sizes.columns (subst (λ (k : PrivateParts). ArePrivateParts g.row.K g.row.L k) (ap (λ (k : PreparedPrivate). k.key) c.self.view_is) c.self.invariant.1) (search rules)
