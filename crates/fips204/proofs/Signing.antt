@@ -99,9 +99,9 @@ answered-fault limit fault e = cc
 answered-fault rejected fault e = absurd cc
 answered-fault (signed signature) fault e = absurd cc
 
--- the counters of the attempts fit 16 bits
-pub counter_fits : (n l : ℕ) → n < 814 → l ≤ 7 → n * l + l ≤ 65535
-counter_fits n l h few = let most : n * l ≤ 813 * 7 = (let last : n ≤ 813 = omega (arith, h) in mul-le-mul last few) in omega (arith, most, few)
+-- the counters of the attempts are small
+pub counter_fits : (n l : ℕ) → n ≤ 814 → l ≤ 7 → n * l ≤ 5698
+counter_fits n l last few = mul-le-mul last few
 
 -- ---- signing with the matrix
 

@@ -1,7 +1,7 @@
 //! Signing (FIPS 204, Algorithm 7, with the limit of attempts of Appendix C).
 #![tactic(auto)]
 
-ghost use Rattle.std.specs.Prelude.{◌≡◌, ◌≤◌, ◌<◌, ◌+◌, ◌*◌};
+ghost use Rattle.std.specs.Prelude.{◌≡◌};
 ghost use Rattle.fips204.specs.Completeness.{HashAccepted};
 ghost use Rattle.fips204.specs.KeyTransforms.{AreKeyTransforms, AreSigningInputs};
 ghost use Rattle.fips204.specs.Sets.{HasSizes, set_of};
@@ -45,17 +45,6 @@ pub fn sign_internal<
     sk.sign_with::<LAMBDA_DIV4, SIG_LEN>(p, &a_hat, &sk.transforms(), mu, rnd)
 }
 
-/// A law that computes nothing: attempt `n` has a counter that leaves room for each row of its mask.
-fn counter_fits<const L: usize>(p: &Params, n: u16)
-    requires columns { L ≡ p.now.l }
-    requires attempts { n < 814 }
-    ensures few { L ≤ 7 }
-    ensures room { n * L + L ≤ 65535 }
-{
-    let _ = p;
-    let _ = n;
-}
-
 impl<const K: usize, const L: usize, H, G> PrivateKey<K, L, H, G> {
     /// The transforms of s1, s2 and t0 (lines 2 to 4).
     pub(crate) fn transforms(&self) -> KeyTransforms<K, L>
@@ -89,7 +78,6 @@ impl<const K: usize, const L: usize, H: Xof, G> PrivateKey<K, L, H, G> {
         // rho'' = H(K || rnd || mu)
         let seed = hash::<H, 64>(&[self.key.as_slice(), rnd, mu]);
         for n in 0..MAX_SIGN_ATTEMPTS {
-            counter_fits::<L>(p, n);
             // kappa = n l
             let kappa = n * L as u16;
             if let Some(signature) = self.attempt::<LAMBDA_DIV4, SIG_LEN>(

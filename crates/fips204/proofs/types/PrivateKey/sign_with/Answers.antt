@@ -1,10 +1,11 @@
-use Rattle.std.proofs.Common.{rules, ◌≡◌, ◌*◌, ◌∙◌, ◌++◌, ℕ, List, [], take, append-nil, append_assoc, ap, sym, arith, Err}
+use Rattle.std.proofs.Common.{rules, ◌≡◌, ◌≤◌, ◌+◌, ◌*◌, ◌∙◌, ◌++◌, ℕ, List, [], take, append-nil, append_assoc, ap, sym, arith, Err}
 use Rattle.fips204_base.specs.declared.fault.Fault.TheVariants.{SamplingLimit}
 use Rattle.fips204.specs.Attempts.{attempt}
 use Rattle.fips204.specs.Keys.{PrivateParts}
 use Rattle.fips204.specs.Sets.{set_of}
 use Rattle.fips204.specs.Signing.{mask_seed}
-use Rattle.fips204.proofs.Signing.{answered-fault, one_more, sign_with-signed, sign_with-limit, sign_with-none}
+use Rattle.fips204.proofs.ParameterSets.{limits}
+use Rattle.fips204.proofs.Signing.{counter_fits, answered-fault, one_more, sign_with-signed, sign_with-limit, sign_with-none}
 use Rattle.fips204.proofs.types.PrivateKey.sign_with.Given.{Over}
 use Rattle.fips204.proofs.types.PrivateKey.sign_with.Goals as goal
 use Rattle.fips204.proofs.types.PrivateKey.sign_with.Goals.{After-hash-seed}
@@ -17,7 +18,9 @@ seed-is g c =
     joined a b c = simp (append-nil, append_assoc)
 
 pub loop-n-init : goal.loop-n-init
-loop-n-init g c = λ m h. absurd (omega (arith, h))
+loop-n-init g c =
+    let few : g.row.L ≤ 7 = rw c.requires.inputs.sizes.columns (limits c.args.p.now (search rules)).few_columns in
+    (few, (omega arith, λ m h. absurd (omega (arith, h))))
 
 pub returns-in_err-signature : goal.returns-in_err-signature
 returns-in_err-signature g c =
@@ -25,21 +28,27 @@ returns-in_err-signature g c =
     let fault = answered-fault (attempt p g.H.Xof.front c.args.a_hat.now c.args.self.now c.args.mu.now c.hash-seed.result (c.loop-n.n * g.row.L)) c.in_err-signature.field-0.0 c.in_err-signature.ensures in
     let refused : c.from_residual.result ≡ Err SamplingLimit = search rules in
     refused ∙ sym (sign_with-limit p g.H.Xof.front c.args.a_hat.now c.args.self.now c.args.mu.now c.args.rnd.now c.hash-seed.result g.row.L c.loop-n.n c.in_err-signature.field-0.0
-    (seed-is g (goal.at.returns-in_err-signature g c).After-hash-seed) c.requires.inputs.sizes.columns c.loop-n-test.true c.loop-n.invariant c.in_err-signature.ensures)
+    (seed-is g (goal.at.returns-in_err-signature g c).After-hash-seed) c.requires.inputs.sizes.columns c.loop-n-test.true c.loop-n.invariant.1.1 c.in_err-signature.ensures)
 
 pub returns-in-Some : goal.returns-in-Some
 returns-in-Some g c =
     sym (sign_with-signed (set_of c.args.p.now) g.H.Xof.front c.args.a_hat.now c.args.self.now c.args.mu.now c.args.rnd.now c.hash-seed.result g.row.L c.loop-n.n c.in_ok-signature.field-0 c.in-Some.signature
-    (seed-is g (goal.at.returns-in-Some g c).After-hash-seed) c.requires.inputs.sizes.columns c.loop-n-test.true c.loop-n.invariant c.in-Some.is c.in_ok-signature.ensures)
+    (seed-is g (goal.at.returns-in-Some g c).After-hash-seed) c.requires.inputs.sizes.columns c.loop-n-test.true c.loop-n.invariant.1.1 c.in-Some.is c.in_ok-signature.ensures)
 
 pub loop-n-preserved : goal.loop-n-preserved
 loop-n-preserved g c =
-    one_more (set_of c.args.p.now) g.H.Xof.front c.args.a_hat.now c.args.self.now c.args.mu.now c.hash-seed.result g.row.L c.loop-n.n c.in_ok-signature.field-0
-    c.loop-n.invariant c.in_default.is c.in_ok-signature.ensures
+    let few = c.loop-n.invariant.0 in (
+      few,
+      (
+        counter_fits (c.loop-n.n + 1) g.row.L (omega (arith, c.loop-n-test.true)) few,
+        one_more (set_of c.args.p.now) g.H.Xof.front c.args.a_hat.now c.args.self.now c.args.mu.now c.hash-seed.result g.row.L c.loop-n.n c.in_ok-signature.field-0
+            c.loop-n.invariant.1.1 c.in_default.is c.in_ok-signature.ensures,
+      ),
+    )
 
 pub returns : goal.returns
 returns g c =
     let p = set_of c.args.p.now in
     let end : c.loop-n.n ≡ 814 = omega (arith, c.loop-n-test.false, c.loop-n.auto.n-end) in
-    let all = rw end at c.loop-n.invariant in
+    let all = rw end at c.loop-n.invariant.1.1 in
     sym (sign_with-none p g.H.Xof.front c.args.a_hat.now c.args.self.now c.args.mu.now c.args.rnd.now c.hash-seed.result g.row.L (seed-is g (goal.at.returns g c).After-hash-seed) c.requires.inputs.sizes.columns all)
