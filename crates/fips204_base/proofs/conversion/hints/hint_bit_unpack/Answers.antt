@@ -47,6 +47,9 @@ loop-i-preserved g c =
       bits = rw more (All-push (λ (w : R). InRange (pos 0) (pos 1) w.0) (take c.loop-i.i c.loop-i.h) c.in_ok-h.field-0 c.loop-i.invariant.bits c.in_ok-h.ensures.2);
     }
 
+pub loop-k-init : goal.loop-k-init
+loop-k-init g c = search rules
+
 pub returns-then-y-k-ne0 : goal.returns-then-y-k-ne0
 returns-then-y-k-ne0 g c = λ h s.
     let O = to_z-of_z w32 c.args.omega c.ranges.omega in

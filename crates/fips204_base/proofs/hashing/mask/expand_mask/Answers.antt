@@ -5,6 +5,9 @@ use Rattle.fips204_base.specs.declared.types.R.{R}
 use Rattle.fips204_base.specs.Mask.{mask, mask_polynomial}
 use Rattle.fips204_base.proofs.hashing.mask.expand_mask.Goals as goal
 
+pub loop-r-preserved : goal.loop-r-preserved
+loop-r-preserved g c = search rules
+
 pub returns : goal.returns
 unfolding mask
 returns g c =

@@ -15,7 +15,7 @@ read-requires g c =
     let front = g.G.Xof.front (flat_map (λ part. part.now) c.args.parts.now) in
     let size = g.met.G.Xof.front_size (flat_map (λ part. part.now) c.args.parts.now) in
     let rest = ap length c.loop-tried.invariant.1 ∙ length-drop (3 * c.loop-tried.tried) front in
-    simp length-take (omega (arith, size, rest, c.min-triples.ensures, c.loop-tried-test.true))
+    simp length-take (omega (arith, size, g.met.G.Xof.front_least, rest, c.min-triples.ensures, c.loop-tried-test.true))
 
 -- what is kept after another piece
 next_piece : (front piece : List ℕ) (values new : List ℤ) (count n tried triples : ℕ) → Keeps values count (kept_triples front tried)
@@ -39,7 +39,7 @@ returns-then-count-eq256 g c =
     let next = next_piece front c.read.new.out c.loop-tried.values new c.loop-tried.count c.keep_triples-count.result tried triples c.loop-tried.invariant.3
     read long (search rules) c.keep_triples-count.ensures.count c.keep_triples-count.ensures.kept in
     let full : Keeps new 256 (kept_triples front (tried + triples)) = rw c.if-count-eq256.true at next in
-    rw (entry-full front (tried + triples) new (omega (arith, size, c.min-triples.ensures, c.loop-tried-test.true)) full) refl
+    rw (entry-full front (tried + triples) new (omega (arith, size, g.met.G.Xof.front_least, c.min-triples.ensures, c.loop-tried-test.true)) full) refl
 
 pub loop-tried-preserved : goal.loop-tried-preserved
 loop-tried-preserved g c =

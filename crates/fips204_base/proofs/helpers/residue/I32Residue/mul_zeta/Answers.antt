@@ -1,4 +1,4 @@
-use Rattle.std.proofs.Common.{◌≡◌, ◌*◌, to_z, of_z}
+use Rattle.std.proofs.Common.{◌≡◌, ◌*◌, to_z, of_z, rules}
 use Rattle.std.specs.Int.{w32}
 use Rattle.std.proofs.lemmas.Int.{to_z-of_z}
 use Rattle.fips204_base.specs.Residues.{residue, IsCongruent}
@@ -17,3 +17,6 @@ returns-clause-value c =
     let s = rw (read_x, read_factor) at c.mont_product.ensures.congruent in
     only_lane (λ a b. IsCongruent (residue b) (z * residue a)) x r (to_z w32 (of_z w32 r)) (to_z-of_z w32 r record { sfits = c.mont_product.type_inv })
     (factor_taken x r factor z (factor_is factor z c.zeta_mont.ensures) s)
+
+pub returns-clause-products_up : goal.returns-clause-products_up
+returns-clause-products_up c = search rules
