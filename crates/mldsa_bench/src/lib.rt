@@ -3,6 +3,7 @@
 
 #[cfg(test)]
 mod arithmetic;
+pub mod callers;
 #[cfg(test)]
 mod coefficients;
 #[cfg(test)]
