@@ -15,7 +15,7 @@ pub mod MessageLaws
 pub mod SchemeLaws
 pub mod Completeness
 pub mod LongerFronts
-pub use Rattle.fips204_base.specs.Blocks
+pub use Rattle.fips204_base.specs.FrontLengths
 pub use Rattle.fips204_base.specs.CentredValues
 pub use Rattle.fips204_base.specs.Challenge
 pub use Rattle.fips204_base.specs.Coefficients

@@ -5,7 +5,7 @@ use Rattle.std.proofs.lemmas.List.{drop_all, drop_at, drop-drop, drop-append-le,
 use Rattle.std.proofs.Math.Seq.{take-add}
 use borrow.Rule.Slice.PartMut.{put_mid, post_of}
 use Rattle.fips204_base.specs.Streams.{counter_block, counter_blocks}
-use Rattle.fips204_base.specs.Blocks.{length-counter_block, length-counter_blocks}
+use Rattle.fips204_base.specs.FrontLengths.{length-counter_block, length-counter_blocks}
 
 -- a hash whose digests have `size` bytes
 module _ (hash : List ℕ → List ℕ) (size : ℕ) (sized : (message : List ℕ) → length (hash message) ≡ size) (seed : List ℕ) where

@@ -23,7 +23,7 @@ pub mod VectorBytes
 pub mod EncodedParts
 pub mod CounterStreams
 pub mod Vectors
-pub mod Batches
+pub mod LaneBatches
 mod WorkedArithmetic
 mod WorkedBytes
 mod WorkedSamplers

@@ -1,6 +1,6 @@
 pub mod Faults
 pub mod Streams
-pub mod Blocks
+pub mod FrontLengths
 pub mod Residues
 pub mod CentredValues
 pub mod Products

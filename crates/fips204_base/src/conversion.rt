@@ -25,7 +25,7 @@ pub(crate) fn field_width(a: i32, b: i32) -> u32
 }
 
 /// Puts `field` above the `have` bits of `word`.
-fn put(word: u32, have: u32, field: u32) -> u32
+fn with_field(word: u32, have: u32, field: u32) -> u32
     requires room { (have < 32) × (field * 2 ^ have < 2 ^ 32) }
     requires word { word < 2 ^ have }
     ensures { result ≡ word + field * 2 ^ have }
@@ -81,7 +81,7 @@ pub fn simple_bit_pack(w: &R, b: i32, out: &mut [u8])
 
 /// Writes the fields of eight coefficients in `[-a, b]`, which fill as many bytes as a field has bits.
 #[inline(always)]
-fn pack_group(w: &[i32], a: i32, b: i32, out: &mut [u8])
+fn write_packed_group(w: &[i32], a: i32, b: i32, out: &mut [u8])
     requires bounds { Bounds a b }
     requires range { InRange (pos 0 -ℤ a) b w.now }
     requires eight { length w.now ≡ 8 }
@@ -94,7 +94,7 @@ fn pack_group(w: &[i32], a: i32, b: i32, out: &mut [u8])
     let mut at = 0usize;
     for x in w {
         // z = z || IntegerToBits(b - w_i, bitlen(a + b)), given out in bytes as they fill
-        word = put(word, have, field_of(*x, a, b));
+        word = with_field(word, have, field_of(*x, a, b));
         have += c;
         while have >= 8 {
             out[at] = (word & 0xff) as u8;
@@ -120,12 +120,12 @@ pub fn bit_pack(w: &R, a: i32, b: i32, out: &mut [u8])
 {
     let c = field_width(a, b) as usize;
     for i in 0..32 {
-        pack_group(&w.0[8 * i..8 * i + 8], a, b, &mut out[c * i..c * i + c]);
+        write_packed_group(&w.0[8 * i..8 * i + 8], a, b, &mut out[c * i..c * i + c]);
     }
 }
 
 /// `bit_pack`, compiled with constants for each range that FIPS 204 packs.
-pub(crate) fn bit_pack_by_range(w: &R, a: i32, b: i32, out: &mut [u8])
+pub(crate) fn write_packed_by_range(w: &R, a: i32, b: i32, out: &mut [u8])
     requires bounds { Bounds a b }
     requires range { InRange (pos 0 -ℤ a) b w.now.0 }
     requires room { length out.old ≡ 32 * width a b }
@@ -146,7 +146,7 @@ pub(crate) fn bit_pack_by_range(w: &R, a: i32, b: i32, out: &mut [u8])
 
 /// Reads the eight coefficients whose fields stand in `v`.
 #[inline(always)]
-fn unpack_group(v: &[u8], a: i32, b: i32, out: &mut [i32])
+fn write_unpacked_group(v: &[u8], a: i32, b: i32, out: &mut [i32])
     requires bounds { Bounds a b }
     requires room { length v.now ≡ width a b }
     requires eight { length out.old ≡ 8 }
@@ -159,7 +159,7 @@ fn unpack_group(v: &[u8], a: i32, b: i32, out: &mut [i32])
     let mut at = 0usize;
     for i in 0..8 {
         while have < c {
-            word = put(word, have, v[at] as u32);
+            word = with_field(word, have, v[at] as u32);
             have += 8;
             at += 1;
         }
@@ -198,7 +198,7 @@ pub fn bit_unpack(v: &[u8], a: i32, b: i32) -> Option<R>
     let c = field_width(a, b) as usize;
     let mut out = [0i32; 256];
     for i in 0..32 {
-        unpack_group(&v[c * i..c * i + c], a, b, &mut out[8 * i..8 * i + 8]);
+        write_unpacked_group(&v[c * i..c * i + c], a, b, &mut out[8 * i..8 * i + 8]);
     }
     let w = R(out);
     if a == 0 && !is_in_range(&w, 0, b) {

@@ -14,7 +14,7 @@ use crate::types::R;
 pub use private_key::{sk_decode, sk_encode};
 pub use signature::{sig_decode, sig_encode, w1_encode};
 pub(crate) use vectors::polynomial_size;
-use vectors::{pack_vector, unpack_vector};
+use vectors::{unpack_vector, write_packed_vector};
 
 /// `pkEncode` (Algorithm 22): a public key as bytes, `rho` and then the polynomials of `t1`, whose
 /// coefficients are in `[0, 1023]`. `PK_LEN` is `32 + 320 * K`.
@@ -29,7 +29,7 @@ pub fn pk_encode<const K: usize, const PK_LEN: usize>(rho: &[u8; 32], t1: &[R; K
     // line 1: pk = rho
     bytes[..32].copy_from_slice(rho);
     // lines 2 to 4: pk = pk || SimpleBitPack(t1[i], 2^(bitlen(q - 1) - d) - 1)
-    pack_vector(t1, 0, 1023, &mut bytes[32..]);
+    write_packed_vector(t1, 0, 1023, &mut bytes[32..]);
     pk
 }
 

@@ -13,13 +13,14 @@ mod small;
 pub use challenge::sample_in_ball;
 pub use mask::expand_mask;
 pub use matrix::{
-    expand_a, expand_a_into, expanded_times_vector, expanded_times_vector_less, rej_ntt_poly,
+    expand_a, rej_ntt_poly, write_expanded_a, write_expanded_times_vector,
+    write_expanded_times_vector_less,
 };
-pub use small::{expand_s, expand_s_into, rej_bounded_poly};
+pub use small::{expand_s, rej_bounded_poly, write_expanded_s};
 
 /// Puts a coefficient, if there is one, at place `kept` of `values`, if there is room, and answers how
 /// many there are then.
-fn keep(coefficient: Option<i32>, values: &mut [i32; 256], kept: usize) -> usize
+fn write_kept(coefficient: Option<i32>, values: &mut [i32; 256], kept: usize) -> usize
     requires room { kept ≤ 256 }
     ensures count { result ≤ 256 }
     ensures kept { AreKept values.old kept (option_to_list coefficient) values.new result }

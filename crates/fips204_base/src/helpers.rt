@@ -5,16 +5,16 @@ ghost use Rattle.std.specs.Prelude.{◌≡◌, ◌↔◌, ℤ, pos, ◌-ℤ◌, 
 ghost use Rattle.fips204_base.specs.Packing.{InRange, bit_length};
 
 pub mod count;
-pub mod lanes;
 pub mod norm;
 pub mod reduce;
 pub mod residue;
 pub mod vector;
 pub mod zeta_table;
 
+pub use crate::lanes;
+pub use crate::lanes::Lanes;
 use crate::types::R;
 pub use count::Count;
-pub use lanes::Lanes;
 pub use norm::infinity_norm;
 pub use reduce::{
     center_mod, difference, full_reduce32, mont_reduce, partial_reduce32, partial_reduce64,

@@ -9,7 +9,7 @@ ghost use Rattle.fips204_base.specs.Rounding.{IsGamma2, power2round, high_bits, 
 
 use crate::D;
 use crate::helpers::full_reduce32;
-use crate::maps::{update_vector, update_vector_with};
+use crate::maps::{write_map_vector, write_zip_vectors};
 use crate::types::{R, R0, Zq};
 
 /// `Power2Round` (FIPS 204, Algorithm 35) of each coefficient, from 0 to `q - 1`: the high parts,
@@ -21,18 +21,18 @@ pub fn power2round<const K: usize>(r: &[R; K]) -> ([R; K], [R; K])
 {
     let mut high = [R0; K];
     let mut low = *r;
-    power2round_in_place(&mut low, &mut high);
+    write_power2round(&mut low, &mut high);
     (high, low)
 }
 
 /// `power2round` of each coefficient of `r`, in place: the high parts are written into `high`, and the low parts
 /// over `r`.
-pub fn power2round_in_place<const K: usize>(r: &mut [R; K], high: &mut [R; K])
+pub fn write_power2round<const K: usize>(r: &mut [R; K], high: &mut [R; K])
     requires { AreResidues K r.old }
     ensures high { high.new ≡ vector_of K (λ i n. pos (power2round (vector_coefficients r.old i n)).0) }
     ensures low { r.new ≡ vector_of K (λ i n. (power2round (vector_coefficients r.old i n)).1) }
 {
-    update_vector_with(
+    write_zip_vectors(
         high,
         r,
         |_, x|
@@ -40,7 +40,7 @@ pub fn power2round_in_place<const K: usize>(r: &mut [R; K], high: &mut [R; K])
             ensures { result ≡ pos (power2round (residue x)).0 }
         { power2round_coefficient(x).0 },
     );
-    update_vector(
+    write_map_vector(
         r,
         |x|
             requires { (pos 0 ≤ℤ x) × (x ≤ℤ pos 8380416) }

@@ -4,13 +4,13 @@
 //! The crate `fips204` names every item here again; depend on that one.
 #![tactic(auto)]
 
-mod batch;
 pub mod conversion;
 pub mod encodings;
 pub mod fault;
 pub mod hashing;
 pub mod helpers;
 pub mod high_low;
+pub mod lanes;
 pub mod maps;
 pub mod ntt;
 pub mod product;

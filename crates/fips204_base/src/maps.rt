@@ -18,13 +18,13 @@ pub fn map<F: Fn(i32) -> i32>(w: &[i32; 256], f: F) -> [i32; 256]
     ensures { (n : ℕ) → n < 256 → F.post f (coefficient_at w.now n) (coefficient_at result n) }
 {
     let mut out = *w;
-    update(&mut out, f);
+    write_map(&mut out, f);
     out
 }
 
 /// Changes each of the 256 numbers to `f` of it.
 #[inline(always)]
-pub fn update<F: Fn(i32) -> i32>(w: &mut [i32; 256], f: F)
+pub fn write_map<F: Fn(i32) -> i32>(w: &mut [i32; 256], f: F)
     requires { (n : ℕ) → n < 256 → F.pre f (coefficient_at w.old n) }
     ensures values { (n : ℕ) → n < 256 → F.post f (coefficient_at w.old n) (coefficient_at w.new n) }
     ensures places { length w.new ≡ 256 }
@@ -36,7 +36,7 @@ pub fn update<F: Fn(i32) -> i32>(w: &mut [i32; 256], f: F)
 
 /// Changes each of the 256 numbers of `v` to `f` of it and that of `w` at the same place.
 #[inline(always)]
-pub fn update_with<F: Fn(i32, i32) -> i32>(v: &mut [i32; 256], w: &[i32; 256], f: F)
+pub fn write_zip<F: Fn(i32, i32) -> i32>(v: &mut [i32; 256], w: &[i32; 256], f: F)
     requires { (n : ℕ) → n < 256 → F.pre f (coefficient_at v.old n) (coefficient_at w.now n) }
     ensures values { (n : ℕ) → n < 256 → F.post f (coefficient_at v.old n) (coefficient_at w.now n) (coefficient_at v.new n) }
     ensures places { length v.new ≡ 256 }
@@ -56,7 +56,7 @@ pub fn map_vector<const K: usize, F: Fn(i32) -> i32>(v: &[R; K], f: F) -> [R; K]
         → result ≡ vector_of K g }
 {
     let mut out = *v;
-    update_vector(&mut out, f);
+    write_map_vector(&mut out, f);
     out
 }
 
@@ -70,13 +70,13 @@ pub fn zip_vectors<const K: usize, F: Fn(i32, i32) -> i32>(v: &[R; K], w: &[R; K
         → result ≡ vector_of K g }
 {
     let mut out = *v;
-    update_vector_with(&mut out, w, f);
+    write_zip_vectors(&mut out, w, f);
     out
 }
 
 /// Changes each coefficient of `v` to `f` of it.
 #[inline(always)]
-pub fn update_vector<const K: usize, F: Fn(i32) -> i32>(v: &mut [R; K], f: F)
+pub fn write_map_vector<const K: usize, F: Fn(i32) -> i32>(v: &mut [R; K], f: F)
     requires { (r n : ℕ) → r < K → n < 256 → F.pre f (entry v.old r n) }
     ensures values { (r n : ℕ) → r < K → n < 256 → F.post f (entry v.old r n) (entry v.new r n) }
     ensures whole { (g : ℕ → ℕ → ℤ)
@@ -84,13 +84,13 @@ pub fn update_vector<const K: usize, F: Fn(i32) -> i32>(v: &mut [R; K], f: F)
         → v.new ≡ vector_of K g }
 {
     for r in 0..K {
-        update(&mut v[r].0, &f);
+        write_map(&mut v[r].0, &f);
     }
 }
 
 /// Changes each coefficient of `v` to `f` of it and that of `w` at the same place.
 #[inline(always)]
-pub fn update_vector_with<const K: usize, F: Fn(i32, i32) -> i32>(v: &mut [R; K], w: &[R; K], f: F)
+pub fn write_zip_vectors<const K: usize, F: Fn(i32, i32) -> i32>(v: &mut [R; K], w: &[R; K], f: F)
     requires { (r n : ℕ) → r < K → n < 256 → F.pre f (entry v.old r n) (entry w.now r n) }
     ensures values { (r n : ℕ) → r < K → n < 256 → F.post f (entry v.old r n) (entry w.now r n) (entry v.new r n) }
     ensures whole { (g : ℕ → ℕ → ℤ)
@@ -98,6 +98,6 @@ pub fn update_vector_with<const K: usize, F: Fn(i32, i32) -> i32>(v: &mut [R; K]
         → v.new ≡ vector_of K g }
 {
     for r in 0..K {
-        update_with(&mut v[r].0, &w[r].0, &f);
+        write_zip(&mut v[r].0, &w[r].0, &f);
     }
 }

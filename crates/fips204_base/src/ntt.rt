@@ -21,7 +21,7 @@ pub fn ntt<V: Residue, const KL: usize>(w: &[[V; 256]; KL], meter: &mut V::Meter
 {
     let mut out = *w;
     for row in 0..KL {
-        ntt_row(&mut out[row], meter);
+        write_ntt(&mut out[row], meter);
     }
     out
 }
@@ -41,13 +41,13 @@ pub fn inv_ntt<V: Residue, const KL: usize>(
 {
     let mut out = *w_hat;
     for row in 0..KL {
-        inv_ntt_row(&mut out[row], meter);
+        write_inv_ntt(&mut out[row], meter);
     }
     out
 }
 
 /// The transform of one row, in place: eight layers, and a last reduction.
-pub(crate) fn ntt_row<V: Residue>(w: &mut [V; 256], meter: &mut V::Meter)
+pub(crate) fn write_ntt<V: Residue>(w: &mut [V; 256], meter: &mut V::Meter)
     requires room { (V.products meter.old + 1024 < 2 ^ 64) × (V.sums meter.old + 2048 < 2 ^ 64) }
     requires range { LanesWithin V.lanes V.width 8380416 w.old }
     ensures values { IsTransform V.lanes V.width w.old w.new }
@@ -59,7 +59,7 @@ pub(crate) fn ntt_row<V: Residue>(w: &mut [V; 256], meter: &mut V::Meter)
     let mut count = 1;
     let mut len = 128;
     for s in 0..8usize {
-        layer(w, count, len, meter);
+        write_layer(w, count, len, meter);
         count *= 2;
         len /= 2;
     }
@@ -69,7 +69,7 @@ pub(crate) fn ntt_row<V: Residue>(w: &mut [V; 256], meter: &mut V::Meter)
 }
 
 /// One layer: `count` blocks of `2 * len` values.
-fn layer<V: Residue>(w: &mut [V; 256], count: usize, len: usize, meter: &mut V::Meter)
+fn write_layer<V: Residue>(w: &mut [V; 256], count: usize, len: usize, meter: &mut V::Meter)
     requires whole { count * len ≡ 128 }
     requires room { (V.products meter.old + 128 < 2 ^ 64) × (V.sums meter.old + 256 < 2 ^ 64) }
     requires fits { LanesWithin V.lanes V.width 2139103231 w.old }
@@ -80,13 +80,19 @@ fn layer<V: Residue>(w: &mut [V; 256], count: usize, len: usize, meter: &mut V::
 {
     let mut start = 0;
     for b in 0..count {
-        block(w, start, len, count + b, meter);
+        write_block(w, start, len, count + b, meter);
         start += 2 * len;
     }
 }
 
 /// The butterflies of one block, in place.
-fn block<V: Residue>(w: &mut [V; 256], start: usize, len: usize, m: usize, meter: &mut V::Meter)
+fn write_block<V: Residue>(
+    w: &mut [V; 256],
+    start: usize,
+    len: usize,
+    m: usize,
+    meter: &mut V::Meter,
+)
     requires place { m < 256 }
     requires inside { start + 2 * len ≤ 256 }
     requires room { (V.products meter.old + len < 2 ^ 64) × (V.sums meter.old + 2 * len < 2 ^ 64) }
@@ -121,7 +127,7 @@ fn butterfly<V: Residue>(a: V, b: V, m: usize, meter: &mut V::Meter) -> (V, V)
 
 /// The inverse transform of one row, in place: eight layers backwards, and the last factor. The sums
 /// of the layers reach `256 (q - 1)`, which fits `i32`.
-pub(crate) fn inv_ntt_row<V: Residue>(w: &mut [V; 256], meter: &mut V::Meter)
+pub(crate) fn write_inv_ntt<V: Residue>(w: &mut [V; 256], meter: &mut V::Meter)
     requires room { (V.products meter.old + 1024 < 2 ^ 64) × (V.sums meter.old + 2048 < 2 ^ 64) }
     requires range { LanesWithin V.lanes V.width 8380416 w.old }
     ensures values { IsInverse V.lanes V.width w.old w.new }
@@ -132,7 +138,7 @@ pub(crate) fn inv_ntt_row<V: Residue>(w: &mut [V; 256], meter: &mut V::Meter)
     let mut count = 128;
     let mut len = 1;
     for s in 0..8usize {
-        inv_layer(w, count, len, meter);
+        write_inv_layer(w, count, len, meter);
         count /= 2;
         len *= 2;
     }
@@ -143,7 +149,7 @@ pub(crate) fn inv_ntt_row<V: Residue>(w: &mut [V; 256], meter: &mut V::Meter)
 }
 
 /// One layer backwards: `count` blocks of `2 * len` values.
-fn inv_layer<V: Residue>(w: &mut [V; 256], count: usize, len: usize, meter: &mut V::Meter)
+fn write_inv_layer<V: Residue>(w: &mut [V; 256], count: usize, len: usize, meter: &mut V::Meter)
     requires whole { count * len ≡ 128 }
     requires room { (V.products meter.old + 128 < 2 ^ 64) × (V.sums meter.old + 256 < 2 ^ 64) }
     requires fits { LanesWithin V.lanes V.width 1073741823 w.old }
@@ -154,13 +160,19 @@ fn inv_layer<V: Residue>(w: &mut [V; 256], count: usize, len: usize, meter: &mut
 {
     let mut start = 0;
     for b in 0..count {
-        inv_block(w, start, len, 2 * count - 1 - b, meter);
+        write_inv_block(w, start, len, 2 * count - 1 - b, meter);
         start += 2 * len;
     }
 }
 
 /// The butterflies of one block backwards, in place.
-fn inv_block<V: Residue>(w: &mut [V; 256], start: usize, len: usize, m: usize, meter: &mut V::Meter)
+fn write_inv_block<V: Residue>(
+    w: &mut [V; 256],
+    start: usize,
+    len: usize,
+    m: usize,
+    meter: &mut V::Meter,
+)
     requires place { m < 256 }
     requires inside { start + 2 * len ≤ 256 }
     requires room { (V.products meter.old + len < 2 ^ 64) × (V.sums meter.old + 2 * len < 2 ^ 64) }

@@ -10,14 +10,14 @@ ghost use Rattle.fips204_base.specs.Vectors.{vector_coefficients, plain_row, mat
 ghost use Rattle.fips204_base.specs.declared.types.R.{R};
 ghost use Rattle.fips204_base.specs.declared.types.T.{T};
 
-use crate::batch::{
-    write_differences_in_lanes, write_products_in_lanes, write_transforms_in_lanes,
-};
 use crate::helpers::reduce::{difference, wide_product};
 use crate::helpers::vector::row_sum;
 use crate::helpers::{Count, mat_vec_mul, partial_reduce64};
-use crate::maps::update_with;
-use crate::ntt::{inv_ntt_row, ntt_row};
+use crate::lanes::batch::{
+    write_differences_in_lanes, write_products_in_lanes, write_transforms_in_lanes,
+};
+use crate::maps::write_zip;
+use crate::ntt::{write_inv_ntt, write_ntt};
 use crate::types::{R, R0, T, T0};
 
 /// The product of a matrix, which is given by its transforms with values from 0 to `q - 1`, with a
@@ -82,7 +82,7 @@ pub fn challenge_times_transforms<const K: usize>(c_hat: &T, v_hat: &[T; K]) -> 
     }
     for i in 0..K {
         let mut multiple = v_hat[i];
-        update_with(&mut multiple.0, &c_hat.0, value_product);
+        write_zip(&mut multiple.0, &c_hat.0, value_product);
         out[i] = inverse_of(&multiple);
     }
     out
@@ -159,9 +159,9 @@ pub(crate) fn write_less_challenge_transforms<const K: usize>(
     let c_hat = transform_of(c);
     for i in 0..K {
         let mut multiple = t_hat[i];
-        update_with(&mut multiple.0, &c_hat.0, value_product);
+        write_zip(&mut multiple.0, &c_hat.0, value_product);
         let mut rest = products[i];
-        update_with(&mut rest.0, &multiple.0, difference);
+        write_zip(&mut rest.0, &multiple.0, difference);
         out[i] = inverse_of(&rest);
     }
 }
@@ -228,7 +228,7 @@ pub fn transform_of(w: &R) -> T
     ensures small { Within 8380416 result.0 }
 {
     let mut out = w.0;
-    ntt_row(&mut out, &mut Count::new());
+    write_ntt(&mut out, &mut Count::new());
     T(out)
 }
 
@@ -239,7 +239,7 @@ fn inverse_of(t: &T) -> R
     ensures small { IsReduced result.0 }
 {
     let mut out = t.0;
-    inv_ntt_row(&mut out, &mut Count::new());
+    write_inv_ntt(&mut out, &mut Count::new());
     R(out)
 }
 

@@ -3,7 +3,7 @@ use Rattle.std.specs.Prelude.{◌≡◌, ℕ, ◌+◌, ◌*◌, ◌/◌, ◌%◌
 use Rattle.std.specs.List.{range_with_len}
 use Rattle.std.proofs.lemmas.List.FromFn.{length-map-range_with_len}
 use Rattle.fips204_base.specs.Streams.{counter_blocks}
-use Rattle.fips204_base.specs.Blocks.{length-counter_blocks}
+use Rattle.fips204_base.specs.FrontLengths.{length-counter_blocks}
 use Rattle.mldsa_bench.specs.ToyHash.{toy_state, toy_hash, length-toy_hash}
 
 -- the front in counter mode: 1024 blocks of four bytes over the digest of the input

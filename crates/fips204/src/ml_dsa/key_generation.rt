@@ -16,10 +16,10 @@ use crate::traits::{CryptoRngCore, draw};
 use crate::types::{Params, PrivateKey, PublicKey, R, R0};
 use fips204_base::Fault;
 use fips204_base::encodings::pk_encode;
-use fips204_base::hashing::{expand_s_into, expanded_times_vector};
+use fips204_base::hashing::{write_expanded_s, write_expanded_times_vector};
 use fips204_base::helpers::full_reduce32;
-use fips204_base::high_low::power2round_in_place;
-use fips204_base::maps::update_vector_with;
+use fips204_base::high_low::write_power2round;
+use fips204_base::maps::write_zip_vectors;
 use fips204_base::xof::{Xof, hash};
 use std::marker::PhantomData;
 
@@ -44,13 +44,13 @@ pub fn key_gen_internal<const K: usize, const L: usize, const PK_LEN: usize, H: 
     // (s1, s2) = ExpandS(rho')
     let mut s1 = [R0; L];
     let mut s2 = [R0; K];
-    expand_s_into::<K, L, H>(p.eta, &rho_prime, &mut s1, &mut s2)?;
+    write_expanded_s::<K, L, H>(p.eta, &rho_prime, &mut s1, &mut s2)?;
     // A = ExpandA(rho), t = A s1 + s2
     let mut t = [R0; K];
-    key_vector::<K, L, G>(&rho, &s1, &s2, &mut t)?;
+    write_key_vector::<K, L, G>(&rho, &s1, &s2, &mut t)?;
     // (t1, t0) = Power2Round(t)
     let mut t1 = [R0; K];
-    power2round_in_place(&mut t, &mut t1);
+    write_power2round(&mut t, &mut t1);
     // tr = H(pkEncode(rho, t1))
     let pk: [u8; PK_LEN] = pk_encode(&rho, &t1);
     let tr = hash::<H, 64>(&[pk.as_slice()]);
@@ -83,7 +83,7 @@ fn part<const N: usize>(bytes: &[u8; 128], at: usize) -> [u8; N]
 /// Writes `t = A s1 + s2` (Algorithm 6, lines 3 and 5) for the matrix of `rho`, with coefficients from 0 to
 /// `q - 1`. Those of `s1` and `s2` are below `q` in absolute value, and `K` and `L` are those of a set. Refuses
 /// with `Fault::SamplingLimit` where the matrix passes its limit.
-fn key_vector<const K: usize, const L: usize, G: Xof>(
+fn write_key_vector<const K: usize, const L: usize, G: Xof>(
     rho: &[u8; 32],
     s1: &[R; L],
     s2: &[R; K],
@@ -97,8 +97,8 @@ fn key_vector<const K: usize, const L: usize, G: Xof>(
         × (t.new ≡ vector_of K (λ r n. pos (key_vector L a s1.now s2.now r n)))) }
     ensures range { IfOk result (λ _. AreResidues K t.new) }
 {
-    expanded_times_vector::<K, L, G>(rho, s1, t)?;
-    update_vector_with(
+    write_expanded_times_vector::<K, L, G>(rho, s1, t)?;
+    write_zip_vectors(
         t,
         s2,
         |x, y|
@@ -139,10 +139,10 @@ pub fn private_to_public_key<const K: usize, const L: usize, H, G: Xof>(
 {
     // A = ExpandA(rho), t = A s1 + s2
     let mut t = [R0; K];
-    key_vector::<K, L, G>(&sk.rho, &sk.s1, &sk.s2, &mut t)?;
+    write_key_vector::<K, L, G>(&sk.rho, &sk.s1, &sk.s2, &mut t)?;
     // (t1, _) = Power2Round(t)
     let mut t1 = [R0; K];
-    power2round_in_place(&mut t, &mut t1);
+    write_power2round(&mut t, &mut t1);
     Ok(PublicKey {
         rho: sk.rho,
         tr: sk.tr,

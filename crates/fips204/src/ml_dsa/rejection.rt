@@ -18,7 +18,7 @@ use crate::types::{KeyTransforms, Params, PrivateKey, R, T};
 use fips204_base::encodings::sig_encode;
 use fips204_base::helpers::{center_mod, difference, infinity_norm};
 use fips204_base::high_low::{low_bits, make_hint};
-use fips204_base::maps::{map_vector, update_vector_with, zip_vectors};
+use fips204_base::maps::{map_vector, write_zip_vectors, zip_vectors};
 use fips204_base::product::{challenge_times_transforms, transform_of};
 
 impl<const K: usize, const L: usize, H, G> PrivateKey<K, L, H, G> {
@@ -89,7 +89,7 @@ fn response<const L: usize>(s1_hat: &[T; L], y: &[R; L], c_hat: &T) -> [R; L]
     ensures range { IsReducedVector L result }
 {
     let mut z = challenge_times_transforms(c_hat, s1_hat);
-    update_vector_with(&mut z, y, centred_sum);
+    write_zip_vectors(&mut z, y, centred_sum);
     z
 }
 

@@ -9,7 +9,7 @@ ghost use Rattle.fips204.specs.Signing.{sign, sign_with};
 
 use crate::types::{KeyTransforms, Params, PrivateKey, T, T0};
 use fips204_base::Fault;
-use fips204_base::hashing::expand_a_into;
+use fips204_base::hashing::write_expanded_a;
 use fips204_base::product::{transforms, write_transforms_of_both};
 use fips204_base::xof::{Xof, hash};
 
@@ -41,7 +41,7 @@ pub fn sign_internal<
 {
     // A = ExpandA(rho)
     let mut a_hat = [[T0; L]; K];
-    expand_a_into::<K, L, G>(&sk.rho, &mut a_hat)?;
+    write_expanded_a::<K, L, G>(&sk.rho, &mut a_hat)?;
     sk.sign_with::<LAMBDA_DIV4, SIG_LEN>(p, &a_hat, &sk.transforms(), mu, rnd)
 }
 

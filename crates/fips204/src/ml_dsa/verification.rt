@@ -19,9 +19,9 @@ use super::rejection::has_norm_below;
 use crate::types::{Params, PreparedPublicKey, PublicKey, R, R0};
 use fips204_base::D;
 use fips204_base::encodings::sig_decode;
-use fips204_base::hashing::{expanded_times_vector_less, sample_in_ball};
+use fips204_base::hashing::{sample_in_ball, write_expanded_times_vector_less};
 use fips204_base::high_low::use_hint;
-use fips204_base::maps::{map_vector, update_vector_with};
+use fips204_base::maps::{map_vector, zip_vectors};
 use fips204_base::product::matrix_times_vector_less;
 use fips204_base::xof::Xof;
 
@@ -45,9 +45,9 @@ pub fn verify_internal<
     let (c_tilde, z, h, c) = &parts;
     // A = ExpandA(rho), w'_approx = A z - c t1 2^d
     let mut w = [R0; K];
-    match expanded_times_vector_less::<K, L, G>(&pk.rho, z, c, &t1_shifted(&pk.t1), &mut w) {
+    match write_expanded_times_vector_less::<K, L, G>(&pk.rho, z, c, &t1_shifted(&pk.t1), &mut w) {
         Err(_) => false,
-        Ok(()) => has_commitment::<K, LAMBDA_DIV4, H>(p, mu, &mut w, h, c_tilde),
+        Ok(()) => has_commitment::<K, LAMBDA_DIV4, H>(p, mu, &w, h, c_tilde),
     }
 }
 
@@ -67,8 +67,8 @@ pub(crate) fn verify_prepared<
     };
     let (c_tilde, z, h, c) = &parts;
     // w'_approx = A z - c t1 2^d
-    let mut w = matrix_times_vector_less(&pk.a_hat, z, c, &t1_shifted(&pk.key.t1));
-    has_commitment::<K, LAMBDA_DIV4, H>(p, mu, &mut w, h, c_tilde)
+    let w = matrix_times_vector_less(&pk.a_hat, z, c, &t1_shifted(&pk.key.t1));
+    has_commitment::<K, LAMBDA_DIV4, H>(p, mu, &w, h, c_tilde)
 }
 
 /// The parts `c_tilde`, `z` and `h` of a signature and its challenge (lines 2 to 8), or `None` where its last
@@ -96,26 +96,26 @@ fn opened<const K: usize, const L: usize, const LAMBDA_DIV4: usize, const SIG_LE
     }
 }
 
-/// Whether `c_tilde` is the commitment of `w1' = UseHint(h, w)` (lines 10 to 12), which is written over `w`.
+/// Whether `c_tilde` is the commitment of `w1' = UseHint(h, w)` (lines 10 to 12).
 ///
 /// Coefficients of `w` are below `q` in absolute value, those of `h` 0 or 1. `K` is that of the set, and
 /// `LAMBDA_DIV4` is the length of `c_tilde`.
 fn has_commitment<const K: usize, const LAMBDA_DIV4: usize, H: Xof>(
     p: &Params,
     mu: &[u8; 64],
-    w: &mut [R; K],
+    w: &[R; K],
     h: &[R; K],
     c_tilde: &[u8; LAMBDA_DIV4],
 ) -> bool
     requires rows { K ≡ p.now.k }
     requires commitment_size { LAMBDA_DIV4 ≡ commitment_length (set_of p.now) }
-    requires range { IsReducedVector K w.old }
+    requires range { IsReducedVector K w.now }
     requires hint { IsVector K 0 1 h.now }
-    ensures { IsTrue result ↔ (c_tilde.now ≡ commitment (set_of p.now) H.front mu.now (hinted (set_of p.now) h.now (vector_coefficients w.old))) }
+    ensures { IsTrue result ↔ (c_tilde.now ≡ commitment (set_of p.now) H.front mu.now (hinted (set_of p.now) h.now (vector_coefficients w.now))) }
 {
     // w1' = UseHint(h, w'_approx)
     let gamma2 = p.gamma2;
-    update_vector_with(
+    let w1 = zip_vectors(
         w,
         h,
         |w, h|
@@ -124,7 +124,7 @@ fn has_commitment<const K: usize, const LAMBDA_DIV4: usize, H: Xof>(
         { use_hint(gamma2, h, w) },
     );
     // c_tilde = H(mu || w1Encode(w1'))
-    *c_tilde == commitment::<K, LAMBDA_DIV4, H>(p, mu, w)
+    *c_tilde == commitment::<K, LAMBDA_DIV4, H>(p, mu, &w1)
 }
 
 /// `t1 2^d`, with coefficients from 0 to `q - 1`.

@@ -59,7 +59,7 @@ pub fn hint_bit_unpack<const K: usize>(omega: i32, y: &[u8]) -> Option<[R; K]>
 }
 
 /// Writes the places of the ones from `from` on, and answers where they end.
-fn put_places(w: &R, y: &mut [u8], from: usize) -> usize
+fn write_places(w: &R, y: &mut [u8], from: usize) -> usize
     requires { from + length (ones w.now) ≤ length y.old }
     ensures end { result ≡ from + length (ones w.now) }
     ensures places { take result y.new ≡ take from y.old ++ ones w.now }
@@ -92,7 +92,7 @@ pub fn hint_bit_pack<const K: usize>(omega: i32, h: &[R; K], y: &mut [u8])
     let limit = omega as usize;
     let mut index = 0usize;
     for i in 0..K {
-        index = put_places(&h[i], y, index);
+        index = write_places(&h[i], y, index);
         // y[omega + i] = Index
         y[limit + i] = index as u8;
     }

@@ -7,7 +7,7 @@ ghost use Rattle.fips204_base.specs.Encodings.{IsPrivateKey, private_key_bytes};
 ghost use Rattle.fips204_base.specs.Packing.{width};
 ghost use Rattle.fips204_base.specs.Vectors.{VectorInRange};
 
-use super::vectors::{pack_vector, polynomial_size, unpack_short_vector, unpack_vector};
+use super::vectors::{polynomial_size, unpack_short_vector, unpack_vector, write_packed_vector};
 use crate::fault::Fault;
 use crate::types::R;
 
@@ -77,11 +77,11 @@ pub fn sk_encode<const K: usize, const L: usize, const SK_LEN: usize>(
     bytes[32..64].copy_from_slice(k);
     bytes[64..128].copy_from_slice(tr);
     // lines 2 to 4: sk = sk || BitPack(s1[i], eta, eta)
-    pack_vector(s1, eta, eta, &mut bytes[128..second]);
+    write_packed_vector(s1, eta, eta, &mut bytes[128..second]);
     // lines 5 to 7: sk = sk || BitPack(s2[i], eta, eta)
-    pack_vector(s2, eta, eta, &mut bytes[second..low]);
+    write_packed_vector(s2, eta, eta, &mut bytes[second..low]);
     // lines 8 to 10: sk = sk || BitPack(t0[i], 2^(d - 1) - 1, 2^(d - 1))
-    pack_vector(t0, 4095, 4096, &mut bytes[low..]);
+    write_packed_vector(t0, 4095, 4096, &mut bytes[low..]);
     sk
 }
 

@@ -8,7 +8,7 @@ ghost use Rattle.fips204_base.specs.Packing.{width};
 ghost use Rattle.fips204_base.specs.Rounding.{IsGamma2, high_values};
 ghost use Rattle.fips204_base.specs.Vectors.{VectorInRange};
 
-use super::vectors::{pack_vector, polynomial_size, unpack_vector};
+use super::vectors::{polynomial_size, unpack_vector, write_packed_vector};
 use crate::conversion::{hint_bit_pack, hint_bit_unpack};
 use crate::high_low::high_values;
 use crate::types::R;
@@ -69,7 +69,7 @@ pub fn sig_encode<const K: usize, const L: usize, const LAMBDA_DIV4: usize, cons
     // line 1: sigma = c_tilde
     bytes[..LAMBDA_DIV4].copy_from_slice(c_tilde);
     // lines 2 to 4: sigma = sigma || BitPack(z[i], gamma1 - 1, gamma1)
-    pack_vector(z, gamma1 - 1, gamma1, &mut bytes[LAMBDA_DIV4..hint]);
+    write_packed_vector(z, gamma1 - 1, gamma1, &mut bytes[LAMBDA_DIV4..hint]);
     // line 5: sigma = sigma || HintBitPack(h)
     hint_bit_pack(omega, h, &mut bytes[hint..]);
     sigma
@@ -86,5 +86,5 @@ pub fn w1_encode<const K: usize>(gamma2: i32, w1: &[R; K], out: &mut [u8])
     ensures { out.new ≡ w1_bytes (nat_abs gamma2) w1.now }
 {
     // w1_tilde = w1_tilde || SimpleBitPack(w1[i], (q - 1) / (2 gamma2) - 1)
-    pack_vector(w1, 0, high_values(gamma2 as u32) - 1, out);
+    write_packed_vector(w1, 0, high_values(gamma2 as u32) - 1, out);
 }

@@ -6,7 +6,7 @@ ghost use Rattle.fips204_base.specs.Encodings.{vector_bytes};
 ghost use Rattle.fips204_base.specs.Packing.{Bounds, InRange, polynomial_bytes, width};
 ghost use Rattle.fips204_base.specs.Vectors.{IsVector, VectorInRange};
 
-use crate::conversion::{bit_pack_by_range, bit_unpack_by_range, field_width};
+use crate::conversion::{bit_unpack_by_range, field_width, write_packed_by_range};
 use crate::helpers::is_in_range;
 use crate::types::{R, R0};
 
@@ -21,7 +21,7 @@ pub fn polynomial_size(a: i32, b: i32) -> usize
 
 /// Writes the polynomials of `v`, whose coefficients are in `[-a, b]`.
 #[inline(always)]
-pub fn pack_vector<const N: usize>(v: &[R; N], a: i32, b: i32, out: &mut [u8])
+pub fn write_packed_vector<const N: usize>(v: &[R; N], a: i32, b: i32, out: &mut [u8])
     requires bounds { Bounds a b }
     requires range { VectorInRange (pos 0 -ℤ a) b v.now }
     requires room { length out.old ≡ 32 * width a b * N }
@@ -30,7 +30,7 @@ pub fn pack_vector<const N: usize>(v: &[R; N], a: i32, b: i32, out: &mut [u8])
     let size = polynomial_size(a, b);
     for i in 0..N {
         let at = size * i;
-        bit_pack_by_range(&v[i], a, b, &mut out[at..at + size]);
+        write_packed_by_range(&v[i], a, b, &mut out[at..at + size]);
     }
 }
 

@@ -11,7 +11,7 @@ ghost use Rattle.fips204_base.specs.declared.types.T.{T};
 
 use crate::conversion::coeff_from_three_bytes;
 use crate::fault::Fault;
-use crate::hashing::keep;
+use crate::hashing::write_kept;
 use crate::helpers::vector::row_sum;
 use crate::product::{
     row_times_vector, share_rows, write_less_challenge_product, write_less_challenge_transforms,
@@ -22,7 +22,7 @@ use crate::xof::{Xof, XofReader};
 
 /// Puts the coefficients that the triples of `piece` give into `values` from place `kept` on, as many as
 /// have room, and answers how many there are then.
-fn keep_triples(piece: &[u8], values: &mut [i32; 256], kept: usize) -> usize
+fn write_kept_triples(piece: &[u8], values: &mut [i32; 256], kept: usize) -> usize
     requires room { kept ≤ 256 }
     ensures count { result ≤ 256 }
     ensures kept { AreKept values.old kept (kept_triples piece.now (length piece.now / 3)) values.new result }
@@ -30,7 +30,7 @@ fn keep_triples(piece: &[u8], values: &mut [i32; 256], kept: usize) -> usize
     let mut count = kept;
     for p in 0..piece.len() / 3 {
         let triple = [piece[3 * p], piece[3 * p + 1], piece[3 * p + 2]];
-        count = keep(coeff_from_three_bytes(triple), values, count);
+        count = write_kept(coeff_from_three_bytes(triple), values, count);
     }
     count
 }
@@ -55,7 +55,7 @@ pub fn rej_ntt_poly<G: Xof>(parts: &[&[u8]]) -> Result<T, Fault>
         let piece = &mut room[..3 * triples];
         reader.read(piece);
         // a[j] = CoeffFromThreeBytes(s[0], s[1], s[2]), kept unless it is none
-        count = keep_triples(piece, &mut values, count);
+        count = write_kept_triples(piece, &mut values, count);
         if count == 256 {
             return Ok(T(values));
         }
@@ -74,12 +74,12 @@ pub fn expand_a<const K: usize, const L: usize, G: Xof>(
     ensures { result ≡ ok_or (sampled_matrix G.front rho.now K L) Fault.SamplingLimit }
 {
     let mut matrix = [[T0; L]; K];
-    expand_a_into::<K, L, G>(rho, &mut matrix)?;
+    write_expanded_a::<K, L, G>(rho, &mut matrix)?;
     Ok(matrix)
 }
 
 /// `expand_a`, which writes the matrix into the caller's place. Where it refuses, some of it may be written.
-pub fn expand_a_into<const K: usize, const L: usize, G: Xof>(
+pub fn write_expanded_a<const K: usize, const L: usize, G: Xof>(
     rho: &[u8; 32],
     matrix: &mut [[T; L]; K],
 ) -> Result<(), Fault>
@@ -88,13 +88,13 @@ pub fn expand_a_into<const K: usize, const L: usize, G: Xof>(
     ensures values { IfOk result (λ _. sampled_matrix G.front rho.now K L ≡ Some matrix.new) }
 {
     for r in 0..K {
-        expand_row::<L, G>(rho, r, &mut matrix[r])?;
+        write_expanded_row::<L, G>(rho, r, &mut matrix[r])?;
     }
     Ok(())
 }
 
 /// Writes row `r` of the matrix (Algorithm 32, lines 2 to 5).
-fn expand_row<const L: usize, G: Xof>(
+fn write_expanded_row<const L: usize, G: Xof>(
     rho: &[u8; 32],
     r: usize,
     row: &mut [T; L],
@@ -113,7 +113,7 @@ fn expand_row<const L: usize, G: Xof>(
 /// `expand_a` gives them, with one row of the matrix at a time. `K` and `L` are those of a parameter set, and
 /// values of the vector are below `q` in absolute value, as those written. Refuses with `SamplingLimit` where
 /// an entry passes its limit.
-fn expanded_mat_vec_mul<const K: usize, const L: usize, G: Xof>(
+fn write_expanded_mat_vec_mul<const K: usize, const L: usize, G: Xof>(
     rho: &[u8; 32],
     u: &[T; L],
     out: &mut [T; K],
@@ -126,7 +126,7 @@ fn expanded_mat_vec_mul<const K: usize, const L: usize, G: Xof>(
 {
     let mut row = [T0; L];
     for r in 0..K {
-        expand_row::<L, G>(rho, r, &mut row)?;
+        write_expanded_row::<L, G>(rho, r, &mut row)?;
         out[r] = row_sum(&row, u);
     }
     Ok(())
@@ -135,7 +135,7 @@ fn expanded_mat_vec_mul<const K: usize, const L: usize, G: Xof>(
 /// Writes the product of the matrix of `rho` with a vector of plain polynomials, as `matrix_times_vector` of
 /// `expand_a` gives it, with one row of the matrix at a time. `K` and `L` are those of a parameter set, and
 /// coefficients are below `q` in absolute value. Refuses with `SamplingLimit` where an entry passes its limit.
-pub fn expanded_times_vector<const K: usize, const L: usize, G: Xof>(
+pub fn write_expanded_times_vector<const K: usize, const L: usize, G: Xof>(
     rho: &[u8; 32],
     v: &[R; L],
     out: &mut [R; K],
@@ -151,7 +151,7 @@ pub fn expanded_times_vector<const K: usize, const L: usize, G: Xof>(
     write_transforms(v, &mut v_hat);
     let mut row = [T0; L];
     for r in 0..K {
-        expand_row::<L, G>(rho, r, &mut row)?;
+        write_expanded_row::<L, G>(rho, r, &mut row)?;
         out[r] = row_times_vector(&row, &v_hat);
     }
     Ok(())
@@ -161,7 +161,7 @@ pub fn expanded_times_vector<const K: usize, const L: usize, G: Xof>(
 /// `matrix_times_vector_less` of `expand_a` gives it, with one row of the matrix at a time. `K` and `L` are
 /// those of a parameter set, and coefficients are below `q` in absolute value. Refuses with `SamplingLimit`
 /// where an entry passes its limit.
-pub fn expanded_times_vector_less<const K: usize, const L: usize, G: Xof>(
+pub fn write_expanded_times_vector_less<const K: usize, const L: usize, G: Xof>(
     rho: &[u8; 32],
     z: &[R; L],
     c: &R,
@@ -182,12 +182,12 @@ pub fn expanded_times_vector_less<const K: usize, const L: usize, G: Xof>(
     if share_rows::<L, K>() {
         let mut t_hat = [T0; K];
         write_transforms_of_both(z, t, &mut z_hat, &mut t_hat);
-        expanded_mat_vec_mul::<K, L, G>(rho, &z_hat, &mut products)?;
+        write_expanded_mat_vec_mul::<K, L, G>(rho, &z_hat, &mut products)?;
         write_less_challenge_transforms(&products, c, &t_hat, out);
         return Ok(());
     }
     write_transforms(z, &mut z_hat);
-    expanded_mat_vec_mul::<K, L, G>(rho, &z_hat, &mut products)?;
+    write_expanded_mat_vec_mul::<K, L, G>(rho, &z_hat, &mut products)?;
     write_less_challenge_product(&products, c, t, out);
     Ok(())
 }

@@ -9,13 +9,13 @@ ghost use Rattle.fips204_base.specs.SmallPolynomial.{LacksSmallVector, kept_half
 
 use crate::conversion::coeff_from_half_byte;
 use crate::fault::Fault;
-use crate::hashing::keep;
+use crate::hashing::write_kept;
 use crate::types::{R, R0};
 use crate::xof::{Xof, XofReader};
 
 /// Puts the coefficients that the half bytes of `piece` give into `values` from place `kept` on, as
 /// many as have room, and answers how many there are then.
-fn keep_half_bytes(eta: i32, piece: &[u8], values: &mut [i32; 256], kept: usize) -> usize
+fn write_kept_half_bytes(eta: i32, piece: &[u8], values: &mut [i32; 256], kept: usize) -> usize
     requires eta { IsEta eta }
     requires room { kept ≤ 256 }
     ensures count { result ≤ 256 }
@@ -23,8 +23,8 @@ fn keep_half_bytes(eta: i32, piece: &[u8], values: &mut [i32; 256], kept: usize)
 {
     let mut count = kept;
     for byte in piece {
-        count = keep(coeff_from_half_byte(eta, *byte % 16), values, count);
-        count = keep(coeff_from_half_byte(eta, *byte / 16), values, count);
+        count = write_kept(coeff_from_half_byte(eta, *byte % 16), values, count);
+        count = write_kept(coeff_from_half_byte(eta, *byte / 16), values, count);
     }
     count
 }
@@ -49,7 +49,7 @@ pub fn rej_bounded_poly<H: Xof>(eta: i32, parts: &[&[u8]]) -> Result<R, Fault>
         let piece = &mut room[..bytes];
         reader.read(piece);
         // a[j] = CoeffFromHalfByte(z mod 16, eta), then that of z / 16, each kept unless it is none
-        count = keep_half_bytes(eta, piece, &mut values, count);
+        count = write_kept_half_bytes(eta, piece, &mut values, count);
         if count == 256 {
             return Ok(R(values));
         }
@@ -59,7 +59,7 @@ pub fn rej_bounded_poly<H: Xof>(eta: i32, parts: &[&[u8]]) -> Result<R, Fault>
 }
 
 /// Writes `N` small polynomials, the one at `r` from `rho` and the number `first + r` in two bytes.
-fn small_polynomials<const N: usize, H: Xof>(
+fn write_small_polynomials<const N: usize, H: Xof>(
     eta: i32,
     rho: &[u8; 64],
     first: usize,
@@ -95,12 +95,12 @@ pub fn expand_s<const K: usize, const L: usize, H: Xof>(
 {
     let mut s1 = [R0; L];
     let mut s2 = [R0; K];
-    expand_s_into::<K, L, H>(eta, rho, &mut s1, &mut s2)?;
+    write_expanded_s::<K, L, H>(eta, rho, &mut s1, &mut s2)?;
     Ok((s1, s2))
 }
 
 /// `expand_s`, which writes the vectors into the caller's places. Where it refuses, some of them may be written.
-pub fn expand_s_into<const K: usize, const L: usize, H: Xof>(
+pub fn write_expanded_s<const K: usize, const L: usize, H: Xof>(
     eta: i32,
     rho: &[u8; 64],
     s1: &mut [R; L],
@@ -112,7 +112,7 @@ pub fn expand_s_into<const K: usize, const L: usize, H: Xof>(
     ensures s2 { IfOk result (λ _. small_vector (nat_abs eta) H.front rho.now L K ≡ Some s2.new) }
     ensures limit { IfErr result (λ fault. (fault ≡ Fault.SamplingLimit) × LacksSmallVector (nat_abs eta) H.front rho.now K L) }
 {
-    small_polynomials::<L, H>(eta, rho, 0, s1)?;
-    small_polynomials::<K, H>(eta, rho, L, s2)?;
+    write_small_polynomials::<L, H>(eta, rho, 0, s1)?;
+    write_small_polynomials::<K, H>(eta, rho, L, s2)?;
     Ok(())
 }

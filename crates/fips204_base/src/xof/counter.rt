@@ -69,7 +69,7 @@ fn block<H: BlockHash<N>, const N: usize>(seed: &[u8; N], number: u32) -> [u8; N
 }
 
 /// Copies from `source` as many bytes as `out` takes, and answers how many.
-fn copy_run(source: &[u8], out: &mut [u8]) -> usize
+fn write_run(source: &[u8], out: &mut [u8]) -> usize
     ensures count { result ≡ min (length source.now) (length out.old) }
     ensures copied { out.new ≡ take result source.now ++ drop result out.old }
 {
@@ -111,7 +111,7 @@ impl<H: BlockHash<N>, const N: usize> BlockReader<H, N> {
         }
         // A part with a start is taken of a slice: the length of the array is a parameter.
         let whole = &self.block[..];
-        let count = copy_run(&whole[self.given..], out);
+        let count = write_run(&whole[self.given..], out);
         self.given += count;
         count
     }

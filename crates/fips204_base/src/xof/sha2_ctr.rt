@@ -6,7 +6,7 @@ ghost use Rattle.sha2.specs.Sha512.{sha512};
 ghost use Rattle.sha2.proofs.Facts256.{length-sha256};
 ghost use Rattle.sha2.proofs.Facts512.{length-sha512};
 ghost use Rattle.std.proofs.Common.{rules};
-ghost use Rattle.fips204_base.specs.Blocks.{length-sha256_front, length-sha256_long_front, length-sha512_front, length-sha512_long_front};
+ghost use Rattle.fips204_base.specs.FrontLengths.{length-sha256_front, length-sha256_long_front, length-sha512_front, length-sha512_long_front};
 ghost use Rattle.fips204_base.specs.Streams.{sha256_front, sha256_long_front, sha512_front, sha512_long_front};
 
 use crate::xof::Xof;

@@ -30,15 +30,15 @@ loop-i-preserved c =
     let next : size * (c.loop-i.i + 1) ≡ at + (at + size - at) = omega arith in
     let eight_more : 8 * (c.loop-i.i + 1) ≡ done + (done + 8 - done) = omega arith in
     let ends : done + (done + 8 - done) ≤ length c.loop-i.out = omega (arith, c.loop-i.invariant.long, c.loop-i-test.true) in
-    let long : length c.unpack_group.new.out ≡ done + 8 - done = c.unpack_group.auto.out ∙ simp (length-take, length-drop) (omega (arith, ends)) in
+    let long : length c.write_unpacked_group.new.out ≡ done + 8 - done = c.write_unpacked_group.auto.out ∙ simp (length-take, length-drop) (omega (arith, ends)) in
     let bytes = ap (λ n. take n c.args.v.now) next ∙ take-add at (at + size - at) c.args.v.now in
-    let coefficients = put_piece done (done + 8 - done) (8 * (c.loop-i.i + 1)) c.loop-i.out c.unpack_group.new.out _ long ends eight_more refl in
-    let here = rw (← c.field_width-c.ensures.value) at c.unpack_group.ensures.fields in
+    let coefficients = put_piece done (done + 8 - done) (8 * (c.loop-i.i + 1)) c.loop-i.out c.write_unpacked_group.new.out _ long ends eight_more refl in
+    let here = rw (← c.field_width-c.ensures.value) at c.write_unpacked_group.ensures.fields in
     record {
-      long = length-put_mid done (done + 8 - done) c.loop-i.out c.unpack_group.new.out long ends ∙ c.loop-i.invariant.long;
-      so_far = rw (bytes, coefficients, map-append (field A B) (take done c.loop-i.out) c.unpack_group.new.out) (packs_joined _ _ _ _ _ c.loop-i.invariant.so_far here);
+      long = length-put_mid done (done + 8 - done) c.loop-i.out c.write_unpacked_group.new.out long ends ∙ c.loop-i.invariant.long;
+      so_far = rw (bytes, coefficients, map-append (field A B) (take done c.loop-i.out) c.write_unpacked_group.new.out) (packs_joined _ _ _ _ _ c.loop-i.invariant.so_far here);
       coefficients = rw coefficients
-          (All-append (λ (x : ℤ). coefficient A B (field A B x) ≡ x) (take done c.loop-i.out) c.unpack_group.new.out c.loop-i.invariant.coefficients c.unpack_group.ensures.coefficients);
+          (All-append (λ (x : ℤ). coefficient A B (field A B x) ≡ x) (take done c.loop-i.out) c.write_unpacked_group.new.out c.loop-i.invariant.coefficients c.write_unpacked_group.ensures.coefficients);
     }
 
 -- all fields are read once all groups are

@@ -13,4 +13,4 @@ pub returns : goal.returns
 returns g c =
     let first = ap length c.copy_from_slice.ensures.after ∙ c.told-rho in
     let one = written_first 32 g.row.PK_LEN (replicate g.row.PK_LEN 0) c.copy_from_slice.new.self (length-replicate _ _) (omega (arith, c.requires.size)) first in
-    written_last 32 g.row.PK_LEN _ _ c.pack_vector.new.out one c.pack_vector.auto.out ∙ rw (c.copy_from_slice.ensures.after, c.pack_vector.ensures) refl
+    written_last 32 g.row.PK_LEN _ _ c.write_packed_vector.new.out one c.write_packed_vector.auto.out ∙ rw (c.copy_from_slice.ensures.after, c.write_packed_vector.ensures) refl

@@ -7,8 +7,8 @@ use Rattle.fips204_base.specs.Lanes.{lane_at, residues}
 use Rattle.fips204_base.proofs.Vectors.{row_written, rows_ahead}
 use Rattle.fips204_base.proofs.ntt.ntt.Goals as goal
 
-pub ntt_row-requires : goal.ntt_row-requires
-ntt_row-requires g c =
+pub write_ntt-requires : goal.write_ntt-requires
+write_ntt-requires g c =
     let before = c.loop-row.invariant.rest c.loop-row.row [] (omega arith) in (
       search rules,
       (
@@ -20,13 +20,13 @@ ntt_row-requires g c =
 pub loop-row-preserved : goal.loop-row-preserved
 loop-row-preserved g c = record {
   size = length-set _ _ _ ∙ c.loop-row.invariant.size;
-  products = omega (arith, c.ntt_row.ensures.products, c.loop-row.invariant.products);
-  sums = omega (arith, c.ntt_row.ensures.sums, c.loop-row.invariant.sums);
+  products = omega (arith, c.write_ntt.ensures.products, c.loop-row.invariant.products);
+  sums = omega (arith, c.write_ntt.ensures.sums, c.loop-row.invariant.sums);
   rest = rows_ahead c.args.w.now c.loop-row.out c.loop-row.row _ c.loop-row.invariant.rest;
   values = λ r i j d e h p q. row_written (λ r a. (i j : ℕ) (e : _) → i < 256 → j < g.V.Residue.width → IsCongruent (residues g.V.Residue.lanes j e a i) (transform (residues g.V.Residue.lanes j e (get_or c.args.w.now r d)) i))
       c.loop-row.out c.loop-row.row _ d (omega (arith, c.loop-row-test.true, c.loop-row.invariant.size)) (λ r h i j e p q. c.loop-row.invariant.values r i j d e h p q)
-      (λ i j e p q. rw (c.loop-row.invariant.rest c.loop-row.row [] (omega arith), get_or_default c.args.w.now c.loop-row.row [] d (omega (arith, c.loop-row-test.true, c.told-w))) at (c.ntt_row.ensures.values i j e p q)) r h i j e p q;
+      (λ i j e p q. rw (c.loop-row.invariant.rest c.loop-row.row [] (omega arith), get_or_default c.args.w.now c.loop-row.row [] d (omega (arith, c.loop-row-test.true, c.told-w))) at (c.write_ntt.ensures.values i j e p q)) r h i j e p q;
   small = λ r i j d e h p q. row_written (λ r a. (i j : ℕ) (e : _) → i < 256 → j < g.V.Residue.width → nat_abs (lane_at g.V.Residue.lanes j e a i) ≤ 8380416)
       c.loop-row.out c.loop-row.row _ d (omega (arith, c.loop-row-test.true, c.loop-row.invariant.size)) (λ r h i j e p q. c.loop-row.invariant.small r i j d e h p q)
-      (λ i j e p q. c.ntt_row.ensures.small i j e p q) r h i j e p q;
+      (λ i j e p q. c.write_ntt.ensures.small i j e p q) r h i j e p q;
 }

@@ -5,7 +5,7 @@ use Rattle.fips204_base.specs.Polynomials.{coefficient_at, vector_residues}
 use Rattle.fips204_base.specs.Products.{product}
 use Rattle.fips204_base.proofs.Products.{product_of_products, pointwise_turned}
 use Rattle.fips204_base.proofs.Vectors.{row_written}
-use Rattle.fips204_base.proofs.Batches.{lane_product}
+use Rattle.fips204_base.proofs.LaneBatches.{lane_product}
 use Rattle.fips204_base.proofs.product.challenge_times_transforms.Goals as goal
 
 pub loop-i-preserved : goal.loop-i-preserved
@@ -18,8 +18,8 @@ loop-i-preserved g c =
       size = length-set _ _ _ ∙ c.loop-i.invariant.size;
       values = λ challenge v f k r n h q. row_written (λ r w. (n : ℕ) → n < 256 → coefficient_at w.0 n ≡ pos (product challenge (v r) n)) c.loop-i.out i c.inverse_of.result record { 0 = [] }
           inside (λ r h n q. c.loop-i.invariant.values challenge v f k r n h q)
-          (λ n q. c.inverse_of.ensures.values n q ∙ ap pos (product_of_products (coefficients c.update_with.new.v) c_hat v_hat challenge (v i)
-          (λ j p. (c.update_with.ensures.values j p).0 ∙ pointwise_turned v_hat c_hat j) f (λ j p. k i j c.loop-i-test.true p) n q)) r h n q;
+          (λ n q. c.inverse_of.ensures.values n q ∙ ap pos (product_of_products (coefficients c.write_zip.new.v) c_hat v_hat challenge (v i)
+          (λ j p. (c.write_zip.ensures.values j p).0 ∙ pointwise_turned v_hat c_hat j) f (λ j p. k i j c.loop-i-test.true p) n q)) r h n q;
       small = λ r n h q. row_written (λ r w. (n : ℕ) → n < 256 → nat_abs (coefficient_at w.0 n) ≤ 8380416) c.loop-i.out i c.inverse_of.result record { 0 = [] }
           inside (λ r h n q. c.loop-i.invariant.small r n h q) c.inverse_of.ensures.small r h n q;
     }

@@ -20,8 +20,8 @@ loop-i-preserved g c =
       size = length-set _ _ _ ∙ c.loop-i.invariant.size;
       values = λ r n h q. row_written (λ r w. (n : ℕ) → n < 256 → coefficient_at w.0 n ≡ pos (inverse_transform (minus (p r) (pointwise c_hat (t r))) n)) c.loop-i.out i c.inverse_of.result record { 0 = [] }
           inside (λ r h n q. c.loop-i.invariant.values r n h q)
-          (λ n q. c.inverse_of.ensures.values n q ∙ ap pos (difference_same (coefficients c.update_with-in-loop-i.new.v) (p i) (coefficients c.update_with.new.v) c_hat (t i)
-          (λ j h. (c.update_with-in-loop-i.ensures.values j h).0) (λ j h. (c.update_with.ensures.values j h).0 ∙ pointwise_turned (t i) c_hat j) n)) r h n q;
+          (λ n q. c.inverse_of.ensures.values n q ∙ ap pos (difference_same (coefficients c.write_zip-in-loop-i.new.v) (p i) (coefficients c.write_zip.new.v) c_hat (t i)
+          (λ j h. (c.write_zip-in-loop-i.ensures.values j h).0) (λ j h. (c.write_zip.ensures.values j h).0 ∙ pointwise_turned (t i) c_hat j) n)) r h n q;
       small = λ r n h q. row_written (λ r w. (n : ℕ) → n < 256 → nat_abs (coefficient_at w.0 n) ≤ 8380416) c.loop-i.out i c.inverse_of.result record { 0 = [] }
           inside (λ r h n q. c.loop-i.invariant.small r n h q) c.inverse_of.ensures.small r h n q;
     }

@@ -1,6 +1,6 @@
 use Rattle.std.proofs.Common.{ℕ, ◌≡◌, ◌<◌, ◌≤◌, nat_abs, length}
 use Rattle.fips204_base.specs.Lanes.{lane_at}
-use Rattle.fips204_base.specs.declared.helpers.lanes.Lanes.{Lanes}
+use Rattle.fips204_base.specs.declared.lanes.row.Lanes.{Lanes}
 use Rattle.mldsa_bench.proofs.lanes.spread_rows.Given as goal
 
 abbrev pub invariant-loop-n : goal.invariant-loop-n

@@ -8,34 +8,34 @@ use Rattle.fips204.proofs.SeedKeys.{hash_accepted}
 use Rattle.fips204.proofs.Signing.{sign-by_matrix, sign-no_matrix}
 use Rattle.fips204.proofs.ml_dsa.signing.sign_internal.Goals as goal
 
-pub expand_a_into-requires : goal.expand_a_into-requires
-expand_a_into-requires g c =
+pub write_expanded_a-requires : goal.write_expanded_a-requires
+write_expanded_a-requires g c =
     let p = c.args.p.now in
     let known = limits p (search rules) in
     (search rules, (search rules, (omega (arith, c.requires.sizes.rows, known.few_rows), omega (arith, c.requires.sizes.columns, known.few_columns))))
 
-pub returns-in_err-expand_a_into-clause-answer : goal.returns-in_err-expand_a_into-clause-answer
-returns-in_err-expand_a_into-clause-answer g c =
+pub returns-in_err-write_expanded_a-clause-answer : goal.returns-in_err-write_expanded_a-clause-answer
+returns-in_err-write_expanded_a-clause-answer g c =
     let p = set_of c.args.p.now in
     let refused : c.from_residual.result ≡ Err SamplingLimit = search rules in
     let same : c.sk.inside.rho ≡ c.args.sk.now.rho = search rules in
-    let there : sampled_matrix g.G.Xof.front c.args.sk.now.rho p.k p.l ≡ None = rw (same, c.requires.sizes.rows, c.requires.sizes.columns) at c.in_err-expand_a_into.ensures.refused.0 in
+    let there : sampled_matrix g.G.Xof.front c.args.sk.now.rho p.k p.l ≡ None = rw (same, c.requires.sizes.rows, c.requires.sizes.columns) at c.in_err-write_expanded_a.ensures.refused.0 in
     refused ∙ sym (sign-no_matrix p g.H.Xof.front g.G.Xof.front c.args.sk.now c.args.mu.now c.args.rnd.now there)
 
 pub sign_with-requires : goal.sign_with-requires
 sign_with-requires g c =
     let p = c.args.p.now in
     let known = limits p (search rules) in
-    let a = c.expand_a_into.new.matrix in
-    let some = c.in_ok-expand_a_into.ensures.values in
+    let a = c.write_expanded_a.new.matrix in
+    let some = c.in_ok-write_expanded_a.ensures.values in
     (search rules, (search rules, (search rules, (search rules, (search rules, record { sizes = c.requires.sizes; matrix = matrix-within g.G.Xof.front c.sk.inside.rho g.row.K g.row.L a some; transforms = c.transforms.ensures })))))
 
 pub returns-clause-answer : goal.returns-clause-answer
 returns-clause-answer g c =
     let p = set_of c.args.p.now in
-    let a = c.expand_a_into.new.matrix in
+    let a = c.write_expanded_a.new.matrix in
     let same : c.sk.inside.rho ≡ c.args.sk.now.rho = search rules in
-    let there : sampled_matrix g.G.Xof.front c.args.sk.now.rho p.k p.l ≡ Some a = rw (same, c.requires.sizes.rows, c.requires.sizes.columns) at c.in_ok-expand_a_into.ensures.values in
+    let there : sampled_matrix g.G.Xof.front c.args.sk.now.rho p.k p.l ≡ Some a = rw (same, c.requires.sizes.rows, c.requires.sizes.columns) at c.in_ok-write_expanded_a.ensures.values in
     sign-by_matrix p g.H.Xof.front g.G.Xof.front c.args.sk.now c.args.mu.now c.args.rnd.now a c.sign_with.result there c.sign_with.ensures
 
 pub returns-clause-accepted : goal.returns-clause-accepted

@@ -7,8 +7,8 @@ use Rattle.fips204.proofs.Ranges.{challenge-reduced}
 use Rattle.fips204.proofs.Verification.{short-response, commitment-decides, verifies-with}
 use Rattle.fips204.proofs.ml_dsa.verification.verify_internal.Goals as goal
 
-pub expanded_times_vector_less-requires : goal.expanded_times_vector_less-requires
-expanded_times_vector_less-requires g c =
+pub write_expanded_times_vector_less-requires : goal.write_expanded_times_vector_less-requires
+write_expanded_times_vector_less-requires g c =
     let p = c.args.p.now in
     let known : IsKnown p = search rules in
     let some = limits p known in
@@ -25,6 +25,6 @@ returns-in-Ok g c =
     let t1 : c.pk.inside.t1 ≡ c.args.pk.now.t1 = ap (λ (k : PublicParts). k.t1) c.pk.view_is in
     let there = sampled.1 in
     let matrix : sampled_matrix g.G.Xof.front c.args.pk.now.rho p.k p.l ≡ Some sampled.0 = rw (rho, c.requires.sizes.rows, c.requires.sizes.columns) at there in
-    let decided = commitment-decides p g.H.Xof.front sampled.0 c.pk.inside.t1 c.args.mu.now c.args.sig.now c.in-Some.parts.0 c.in-Some.parts.1 c.in-Some.parts.2 c.in-Some.parts.3 c.t1_shifted.result c.expanded_times_vector_less.new.out g.row.K g.row.L c.has_commitment.result
+    let decided = commitment-decides p g.H.Xof.front sampled.0 c.pk.inside.t1 c.args.mu.now c.args.sig.now c.in-Some.parts.0 c.in-Some.parts.1 c.in-Some.parts.2 c.in-Some.parts.3 c.t1_shifted.result c.write_expanded_times_vector_less.new.out g.row.K g.row.L c.has_commitment.result
     (search rules) c.requires.sizes.rows c.requires.sizes.columns c.in-Some.ensures.0 c.in-Some.ensures.1 c.t1_shifted.ensures.values sampled.2 c.has_commitment.ensures in
     verifies-with (set_of p) g.H.Xof.front g.G.Xof.front c.args.pk.now c.args.mu.now c.args.sig.now sampled.0 c.has_commitment.result matrix (rw t1 at decided)

@@ -22,8 +22,8 @@ slice_bounds-copy_from_slice-end-2 g c = simp (length-take, length-replicate) (o
 pub copy_from_slice-requires : goal.copy_from_slice-requires
 copy_from_slice-requires g c = simp (length-take, length-replicate) (omega (arith, c.requires.size, c.told-rho))
 
-pub pack_vector-requires : goal.pack_vector-requires
-pack_vector-requires g c =
+pub write_packed_vector-requires : goal.write_packed_vector-requires
+write_packed_vector-requires g c =
     let E = to_z-of_z w32 c.args.eta c.ranges.eta in
     let size = c.polynomial_size-size.ensures.size in
     let a = c.polynomial_size-size.result * g.row.L in
@@ -41,8 +41,8 @@ pack_vector-requires g c =
       ),
     )
 
-pub pack_vector-requires-2 : goal.pack_vector-requires-2
-pack_vector-requires-2 g c =
+pub write_packed_vector-requires-2 : goal.write_packed_vector-requires-2
+write_packed_vector-requires-2 g c =
     let E = to_z-of_z w32 c.args.eta c.ranges.eta in
     let size = c.polynomial_size-size.ensures.size in
     let a = c.polynomial_size-size.result * g.row.L in
@@ -51,7 +51,7 @@ pack_vector-requires-2 g c =
     let b_is = ap (λ s. s * g.row.K) (rw E at size) in
     let three = seeds g.row.SK_LEN c.copy_from_slice.new.self c.copy_from_slice-2.new.self c.copy_from_slice-3.new.self (omega (arith, c.requires.size))
     (ap length c.copy_from_slice.ensures.after ∙ c.told-rho) c.copy_from_slice-2.auto.self c.copy_from_slice-3.auto.self in
-    let four = written_more 128 (128 + a - 128) (128 + a) g.row.SK_LEN _ _ c.pack_vector.new.out three (omega arith) (omega (arith, a_is, c.requires.size)) c.pack_vector.auto.out in
+    let four = written_more 128 (128 + a - 128) (128 + a) g.row.SK_LEN _ _ c.write_packed_vector.new.out three (omega arith) (omega (arith, a_is, c.requires.size)) c.write_packed_vector.auto.out in
     let room : 128 + a + b - (128 + a) ≡ b = omega arith in (
       search rules,
       (
@@ -63,8 +63,8 @@ pack_vector-requires-2 g c =
       ),
     )
 
-pub pack_vector-requires-3 : goal.pack_vector-requires-3
-pack_vector-requires-3 g c =
+pub write_packed_vector-requires-3 : goal.write_packed_vector-requires-3
+write_packed_vector-requires-3 g c =
     let E = to_z-of_z w32 c.args.eta c.ranges.eta in
     let size = c.polynomial_size-size.ensures.size in
     let a = c.polynomial_size-size.result * g.row.L in
@@ -73,8 +73,8 @@ pack_vector-requires-3 g c =
     let b_is = ap (λ s. s * g.row.K) (rw E at size) in
     let three = seeds g.row.SK_LEN c.copy_from_slice.new.self c.copy_from_slice-2.new.self c.copy_from_slice-3.new.self (omega (arith, c.requires.size))
     (ap length c.copy_from_slice.ensures.after ∙ c.told-rho) c.copy_from_slice-2.auto.self c.copy_from_slice-3.auto.self in
-    let four = written_more 128 (128 + a - 128) (128 + a) g.row.SK_LEN _ _ c.pack_vector.new.out three (omega arith) (omega (arith, a_is, c.requires.size)) c.pack_vector.auto.out in
-    let five = written_more (128 + a) (128 + a + b - (128 + a)) (128 + a + b) g.row.SK_LEN _ _ c.pack_vector-2.new.out four (omega arith) (omega (arith, a_is, b_is, c.requires.size)) c.pack_vector-2.auto.out in
+    let four = written_more 128 (128 + a - 128) (128 + a) g.row.SK_LEN _ _ c.write_packed_vector.new.out three (omega arith) (omega (arith, a_is, c.requires.size)) c.write_packed_vector.auto.out in
+    let five = written_more (128 + a) (128 + a + b - (128 + a)) (128 + a + b) g.row.SK_LEN _ _ c.write_packed_vector-2.new.out four (omega arith) (omega (arith, a_is, b_is, c.requires.size)) c.write_packed_vector-2.auto.out in
     let left : g.row.SK_LEN - (128 + a + b) ≡ 32 * 13 * g.row.K = omega (arith, a_is, b_is, c.requires.size) in (
       search rules,
       (
@@ -96,9 +96,9 @@ returns g c =
     let b_is = ap (λ s. s * g.row.K) (rw E at size) in
     let three = seeds g.row.SK_LEN c.copy_from_slice.new.self c.copy_from_slice-2.new.self c.copy_from_slice-3.new.self (omega (arith, c.requires.size))
     (ap length c.copy_from_slice.ensures.after ∙ c.told-rho) c.copy_from_slice-2.auto.self c.copy_from_slice-3.auto.self in
-    let four = written_more 128 (128 + a - 128) (128 + a) g.row.SK_LEN _ _ c.pack_vector.new.out three (omega arith) (omega (arith, a_is, c.requires.size)) c.pack_vector.auto.out in
-    let five = written_more (128 + a) (128 + a + b - (128 + a)) (128 + a + b) g.row.SK_LEN _ _ c.pack_vector-2.new.out four (omega arith) (omega (arith, a_is, b_is, c.requires.size)) c.pack_vector-2.auto.out in
-    let p = c.pack_vector.ensures ∙ ap (λ e. vector_bytes (nat_abs e) (nat_abs e) c.args.s1.now) E in
-    let q = c.pack_vector-2.ensures ∙ ap (λ e. vector_bytes (nat_abs e) (nat_abs e) c.args.s2.now) E in
-    written_last (128 + a + b) g.row.SK_LEN _ _ c.pack_vector-3.new.out five c.pack_vector-3.auto.out
-    ∙ rw (c.copy_from_slice.ensures.after, c.copy_from_slice-2.ensures.after, c.copy_from_slice-3.ensures.after, p, q, c.pack_vector-3.ensures) refl
+    let four = written_more 128 (128 + a - 128) (128 + a) g.row.SK_LEN _ _ c.write_packed_vector.new.out three (omega arith) (omega (arith, a_is, c.requires.size)) c.write_packed_vector.auto.out in
+    let five = written_more (128 + a) (128 + a + b - (128 + a)) (128 + a + b) g.row.SK_LEN _ _ c.write_packed_vector-2.new.out four (omega arith) (omega (arith, a_is, b_is, c.requires.size)) c.write_packed_vector-2.auto.out in
+    let p = c.write_packed_vector.ensures ∙ ap (λ e. vector_bytes (nat_abs e) (nat_abs e) c.args.s1.now) E in
+    let q = c.write_packed_vector-2.ensures ∙ ap (λ e. vector_bytes (nat_abs e) (nat_abs e) c.args.s2.now) E in
+    written_last (128 + a + b) g.row.SK_LEN _ _ c.write_packed_vector-3.new.out five c.write_packed_vector-3.auto.out
+    ∙ rw (c.copy_from_slice.ensures.after, c.copy_from_slice-2.ensures.after, c.copy_from_slice-3.ensures.after, p, q, c.write_packed_vector-3.ensures) refl

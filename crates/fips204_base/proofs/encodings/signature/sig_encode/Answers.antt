@@ -8,8 +8,8 @@ use Rattle.fips204_base.proofs.VectorBytes.{room_within, room_left, written_firs
 use Rattle.fips204_base.proofs.EncodedParts.{response_bounds, response_least}
 use Rattle.fips204_base.proofs.encodings.signature.sig_encode.Goals as goal
 
-pub pack_vector-requires : goal.pack_vector-requires
-pack_vector-requires g c =
+pub write_packed_vector-requires : goal.write_packed_vector-requires
+write_packed_vector-requires g c =
     let G = to_z-of_z w32 c.args.gamma1 c.ranges.gamma1 in
     let L : to_z w32 (of_z w32 (to_z w32 (of_z w32 c.args.gamma1) -ℤ pos 1)) ≡ c.args.gamma1 -ℤ pos 1 = omega (arith, ints, c.requires.set) in
     let size = c.polynomial_size.ensures.size in
@@ -41,7 +41,7 @@ hint_bit_pack-requires g c =
     let k = c.polynomial_size.result * g.row.L in
     let same : k ≡ 32 * width (c.args.gamma1 -ℤ pos 1) c.args.gamma1 * g.row.L = ap (λ s. s * g.row.L) (rw (L, G) at size) in
     let one = written_first n g.row.SIG_LEN (replicate g.row.SIG_LEN 0) c.copy_from_slice.new.self (length-replicate _ _) (omega (arith, c.requires.size)) (ap length c.copy_from_slice.ensures.after ∙ c.told-c_tilde) in
-    let two = written_more n (n + k - n) (n + k) g.row.SIG_LEN _ _ c.pack_vector.new.out one (omega arith) (omega (arith, same, c.requires.size)) c.pack_vector.auto.out in
+    let two = written_more n (n + k - n) (n + k) g.row.SIG_LEN _ _ c.write_packed_vector.new.out one (omega arith) (omega (arith, same, c.requires.size)) c.write_packed_vector.auto.out in
     let left : g.row.SIG_LEN - (n + k) ≡ nat_abs c.args.omega + g.row.K = omega (arith, same, c.requires.size) in
     (search rules, (rw O c.requires.some, (rw O c.requires.hint_size, (rw O (room_left (n + k) g.row.SIG_LEN _ _ two ∙ left), (c.requires.bits, rw O c.requires.few)))))
 
@@ -55,9 +55,9 @@ returns g c =
     let k = c.polynomial_size.result * g.row.L in
     let same : k ≡ 32 * width (c.args.gamma1 -ℤ pos 1) c.args.gamma1 * g.row.L = ap (λ s. s * g.row.L) (rw (L, G) at size) in
     let one = written_first n g.row.SIG_LEN (replicate g.row.SIG_LEN 0) c.copy_from_slice.new.self (length-replicate _ _) (omega (arith, c.requires.size)) (ap length c.copy_from_slice.ensures.after ∙ c.told-c_tilde) in
-    let two = written_more n (n + k - n) (n + k) g.row.SIG_LEN _ _ c.pack_vector.new.out one (omega arith) (omega (arith, same, c.requires.size)) c.pack_vector.auto.out in
-    let packed : c.pack_vector.new.out ≡ vector_bytes (nat_abs c.args.gamma1 - 1) (nat_abs c.args.gamma1) c.args.z.now =
-    c.pack_vector.ensures ∙ ap (λ a. vector_bytes a (nat_abs (to_z w32 (of_z w32 c.args.gamma1))) c.args.z.now) (ap nat_abs L ∙ response_least c.args.gamma1 c.requires.set)
+    let two = written_more n (n + k - n) (n + k) g.row.SIG_LEN _ _ c.write_packed_vector.new.out one (omega arith) (omega (arith, same, c.requires.size)) c.write_packed_vector.auto.out in
+    let packed : c.write_packed_vector.new.out ≡ vector_bytes (nat_abs c.args.gamma1 - 1) (nat_abs c.args.gamma1) c.args.z.now =
+    c.write_packed_vector.ensures ∙ ap (λ a. vector_bytes a (nat_abs (to_z w32 (of_z w32 c.args.gamma1))) c.args.z.now) (ap nat_abs L ∙ response_least c.args.gamma1 c.requires.set)
     ∙ ap (λ b. vector_bytes (nat_abs c.args.gamma1 - 1) (nat_abs b) c.args.z.now) G in
     let spelled = c.hint_bit_pack.ensures ∙ ap (λ o. hint_bytes (nat_abs o) c.args.h.now) O in
     written_last (n + k) g.row.SIG_LEN _ _ c.hint_bit_pack.new.y two c.hint_bit_pack.auto.y ∙ rw (c.copy_from_slice.ensures.after, packed, spelled) refl

@@ -1,5 +1,5 @@
 use Rattle.std.proofs.Common.{rules}
 use Rattle.fips204_base.proofs.encodings.signature.w1_encode.Goals as goal
 
-pub pack_vector-requires : goal.pack_vector-requires
-pack_vector-requires g c = search rules
+pub write_packed_vector-requires : goal.write_packed_vector-requires
+write_packed_vector-requires g c = search rules

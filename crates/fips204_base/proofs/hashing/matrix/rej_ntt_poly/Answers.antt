@@ -33,11 +33,11 @@ returns-then-count-eq256 g c =
     let size = g.met.G.Xof.front_size (flat_map (λ part. part.now) c.args.parts.now) in
     let tried = c.loop-tried.tried in
     let triples = c.min-triples.result in
-    let new = c.keep_triples-count.new.values in
+    let new = c.write_kept_triples-count.new.values in
     let long : length c.read.new.out ≡ 3 * triples = search rules in
     let read : c.read.new.out ≡ take (3 * triples) (drop (3 * tried) front) = c.read.ensures.given ∙ ap (λ m. take m (g.G.Reader.XofReader.rest c.loop-tried.reader)) (sym c.read.auto.out ∙ long) ∙ ap (take (3 * triples)) c.loop-tried.invariant.1 in
-    let next = next_piece front c.read.new.out c.loop-tried.values new c.loop-tried.count c.keep_triples-count.result tried triples c.loop-tried.invariant.3
-    read long (search rules) c.keep_triples-count.ensures.count c.keep_triples-count.ensures.kept in
+    let next = next_piece front c.read.new.out c.loop-tried.values new c.loop-tried.count c.write_kept_triples-count.result tried triples c.loop-tried.invariant.3
+    read long (search rules) c.write_kept_triples-count.ensures.count c.write_kept_triples-count.ensures.kept in
     let full : Keeps new 256 (kept_triples front (tried + triples)) = rw c.if-count-eq256.true at next in
     rw (entry-full front (tried + triples) new (omega (arith, size, g.met.G.Xof.front_least, c.min-triples.ensures, c.loop-tried-test.true)) full) refl
 
@@ -48,12 +48,12 @@ loop-tried-preserved g c =
     let triples = c.min-triples.result in
     let long : length c.read.new.out ≡ 3 * triples = search rules in
     let read : c.read.new.out ≡ take (3 * triples) (drop (3 * tried) front) = c.read.ensures.given ∙ ap (λ m. take m (g.G.Reader.XofReader.rest c.loop-tried.reader)) (sym c.read.auto.out ∙ long) ∙ ap (take (3 * triples)) c.loop-tried.invariant.1 in
-    let next = next_piece front c.read.new.out c.loop-tried.values c.keep_triples-count.new.values c.loop-tried.count c.keep_triples-count.result tried triples c.loop-tried.invariant.3
-    read long (search rules) c.keep_triples-count.ensures.count c.keep_triples-count.ensures.kept in
+    let next = next_piece front c.read.new.out c.loop-tried.values c.write_kept_triples-count.new.values c.loop-tried.count c.write_kept_triples-count.result tried triples c.loop-tried.invariant.3
+    read long (search rules) c.write_kept_triples-count.ensures.count c.write_kept_triples-count.ensures.kept in
     let e : 3 * tried + 3 * triples ≡ 3 * (tried + triples) = omega arith in (
       omega (arith, c.min-triples.ensures, c.loop-tried-test.true),
       c.read.ensures.dropped ∙ ap (λ m. drop m (g.G.Reader.XofReader.rest c.loop-tried.reader)) (sym c.read.auto.out ∙ long) ∙ ap (drop (3 * triples)) c.loop-tried.invariant.1 ∙ drop-drop (3 * triples) (3 * tried) front ∙ ap (λ n. drop n front) e,
-      omega (arith, c.keep_triples-count.ensures.count, c.if-count-eq256.false),
+      omega (arith, c.write_kept_triples-count.ensures.count, c.if-count-eq256.false),
       next,
     )
 

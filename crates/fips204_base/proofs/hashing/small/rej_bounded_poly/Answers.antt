@@ -34,11 +34,11 @@ returns-then-count-eq256 g c =
     let eta : to_z w32 (of_z w32 c.args.eta) ≡ c.args.eta = search rules in
     let tried = c.loop-tried.tried in
     let bytes = c.min-bytes.result in
-    let new = c.keep_half_bytes-count.new.values in
+    let new = c.write_kept_half_bytes-count.new.values in
     let long : length c.read.new.out ≡ bytes = search rules in
     let read : c.read.new.out ≡ take bytes (drop tried front) = c.read.ensures.given ∙ ap (λ m. take m (g.H.Reader.XofReader.rest c.loop-tried.reader)) (sym c.read.auto.out ∙ long) ∙ ap (take bytes) c.loop-tried.invariant.1 in
-    let next = next_piece (nat_abs (to_z w32 (of_z w32 c.args.eta))) front c.read.new.out c.loop-tried.values new c.loop-tried.count c.keep_half_bytes-count.result tried bytes c.loop-tried.invariant.3
-    read long (search rules) c.keep_half_bytes-count.ensures.count c.keep_half_bytes-count.ensures.kept in
+    let next = next_piece (nat_abs (to_z w32 (of_z w32 c.args.eta))) front c.read.new.out c.loop-tried.values new c.loop-tried.count c.write_kept_half_bytes-count.result tried bytes c.loop-tried.invariant.3
+    read long (search rules) c.write_kept_half_bytes-count.ensures.count c.write_kept_half_bytes-count.ensures.kept in
     let full : Keeps new 256 (kept_half_bytes (nat_abs c.args.eta) front (tried + bytes)) = rw (eta, c.if-count-eq256.true) at next in
     rw (polynomial-full (nat_abs c.args.eta) front (tried + bytes) new (omega (arith, size, c.min-bytes.ensures, c.loop-tried-test.true)) full) refl
 
@@ -49,11 +49,11 @@ loop-tried-preserved g c =
     let bytes = c.min-bytes.result in
     let long : length c.read.new.out ≡ bytes = search rules in
     let read : c.read.new.out ≡ take bytes (drop tried front) = c.read.ensures.given ∙ ap (λ m. take m (g.H.Reader.XofReader.rest c.loop-tried.reader)) (sym c.read.auto.out ∙ long) ∙ ap (take bytes) c.loop-tried.invariant.1 in
-    let next = next_piece (nat_abs (to_z w32 (of_z w32 c.args.eta))) front c.read.new.out c.loop-tried.values c.keep_half_bytes-count.new.values c.loop-tried.count c.keep_half_bytes-count.result tried bytes c.loop-tried.invariant.3
-    read long (search rules) c.keep_half_bytes-count.ensures.count c.keep_half_bytes-count.ensures.kept in (
+    let next = next_piece (nat_abs (to_z w32 (of_z w32 c.args.eta))) front c.read.new.out c.loop-tried.values c.write_kept_half_bytes-count.new.values c.loop-tried.count c.write_kept_half_bytes-count.result tried bytes c.loop-tried.invariant.3
+    read long (search rules) c.write_kept_half_bytes-count.ensures.count c.write_kept_half_bytes-count.ensures.kept in (
       omega (arith, c.min-bytes.ensures, c.loop-tried-test.true),
       c.read.ensures.dropped ∙ ap (λ m. drop m (g.H.Reader.XofReader.rest c.loop-tried.reader)) (sym c.read.auto.out ∙ long) ∙ ap (drop bytes) c.loop-tried.invariant.1 ∙ drop-drop bytes tried front,
-      omega (arith, c.keep_half_bytes-count.ensures.count, c.if-count-eq256.false),
+      omega (arith, c.write_kept_half_bytes-count.ensures.count, c.if-count-eq256.false),
       next,
     )
 

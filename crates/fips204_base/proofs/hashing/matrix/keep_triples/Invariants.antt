@@ -1,7 +1,0 @@
-use Rattle.std.proofs.Common.{◌++◌, take}
-use Rattle.fips204_base.specs.MatrixEntry.{kept_triples}
-use Rattle.fips204_base.proofs.Sampling.{Keeps}
-use Rattle.fips204_base.proofs.hashing.matrix.keep_triples.Given as goal
-
-abbrev pub invariant-loop-p : goal.invariant-loop-p
-invariant-loop-p l = Keeps l.values l.count (take l.kept l.fn.values ++ kept_triples l.piece l.p)

@@ -1,0 +1,16 @@
+use Rattle.std.proofs.Common.{ℕ, ◌≡◌, ◌≤◌, ◌<◌, List, Some, pos, length}
+use Rattle.std.specs.Prelude.{nat_abs}
+use Rattle.fips204_base.specs.declared.types.T.{T}
+use Rattle.fips204_base.specs.MatrixEntry.{sampled_row}
+use Rattle.fips204_base.specs.Polynomials.{entry}
+use Rattle.fips204_base.specs.Products.{row_product}
+use Rattle.fips204_base.specs.Vectors.{plain_row, vector_coefficients}
+use Rattle.fips204_base.proofs.hashing.matrix.write_expanded_times_vector.Given as goal
+
+abbrev pub invariant-loop-r : goal.invariant-loop-r
+invariant-loop-r g l = record {
+  size : length l.out ≡ g.row.K;
+  values : (i : ℕ) → i < l.r → (row : List T) × (sampled_row g.G.Xof.front l.rho g.row.L i ≡ Some row)
+      × ((n : ℕ) → n < 256 → entry l.out i n ≡ pos (row_product g.row.L (plain_row row) (vector_coefficients l.v) n));
+  small : (i n : ℕ) → i < l.r → n < 256 → nat_abs (entry l.out i n) ≤ 8380416;
+}

@@ -1,7 +1,0 @@
-use Rattle.std.proofs.Common.{◌++◌, take, nat_abs}
-use Rattle.fips204_base.specs.SmallPolynomial.{kept_half_bytes}
-use Rattle.fips204_base.proofs.Sampling.{Keeps}
-use Rattle.fips204_base.proofs.hashing.small.keep_half_bytes.Given as goal
-
-abbrev pub invariant-loop-byte : goal.invariant-loop-byte
-invariant-loop-byte l = Keeps l.values l.count (take l.kept l.fn.values ++ kept_half_bytes (nat_abs l.eta) l.piece l.byte-index)

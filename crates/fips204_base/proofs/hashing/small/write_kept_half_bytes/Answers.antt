@@ -1,0 +1,30 @@
+use Rattle.std.proofs.Common.{◌≡◌, ◌∙◌, ◌+◌, ◌/◌, ◌%◌, ◌++◌, ap, sym, refl, arith, take, get_or, append_assoc, append-nil, nat_abs, to_z, of_z}
+use Rattle.std.specs.Prelude.{option_to_list}
+use Rattle.std.specs.Int.{w32}
+use Rattle.fips204_base.specs.Coefficients.{coefficient_from_half_byte}
+use Rattle.fips204_base.specs.SmallPolynomial.{kept_half_bytes}
+use Rattle.fips204_base.proofs.Sampling.{keeps_there, keeps_joined, kept_half_bytes-zero, kept_half_bytes-more}
+use Rattle.fips204_base.proofs.hashing.small.write_kept_half_bytes.Goals as goal
+
+pub loop-byte-init : goal.loop-byte-init
+loop-byte-init c =
+    let none = kept_half_bytes-zero (nat_abs (to_z w32 (of_z w32 c.args.eta))) c.args.piece.now in
+    rw (none, append-nil (take c.args.kept c.args.values.now)) (keeps_there c.args.values.now c.args.kept c.told-values c.requires.room)
+
+pub loop-byte-preserved : goal.loop-byte-preserved
+loop-byte-preserved c =
+    let eta = nat_abs (to_z w32 (of_z w32 c.args.eta)) in
+    let piece = c.args.piece.now in
+    let n = c.loop-byte.byte-index in
+    let byte = get_or piece n 0 in
+    let before = take c.args.kept c.args.values.now in
+    let low = option_to_list (coefficient_from_half_byte eta (byte % 16)) in
+    let high = option_to_list (coefficient_from_half_byte eta (byte / 16)) in
+    let given1 = c.write_kept-count.ensures.kept ∙ ap (λ o. take 256 (take c.loop-byte.count c.loop-byte.values ++ option_to_list o)) c.coeff_from_half_byte.ensures in
+    let kept1 = keeps_joined low c.loop-byte.invariant c.write_kept-count.array_long c.write_kept-count.ensures.count given1 in
+    let given2 = c.write_kept-count-in-loop-byte.ensures.kept ∙ ap (λ o. take 256 (take c.write_kept-count.result c.write_kept-count.new.values ++ option_to_list o)) c.coeff_from_half_byte-in-loop-byte.ensures in
+    let kept2 = keeps_joined high kept1 c.write_kept-count-in-loop-byte.array_long c.write_kept-count-in-loop-byte.ensures.count given2 in
+    let more : before ++ kept_half_bytes eta piece (n + 1) ≡ ((before ++ kept_half_bytes eta piece n) ++ low) ++ high =
+    ap (λ l. before ++ l) (kept_half_bytes-more eta piece n byte (omega (arith, c.loop-byte-test.true)) refl ∙ append_assoc (kept_half_bytes eta piece n) low high)
+    ∙ sym (append_assoc before (kept_half_bytes eta piece n) (low ++ high)) ∙ sym (append_assoc (before ++ kept_half_bytes eta piece n) low high) in
+    rw more kept2
