@@ -24,16 +24,11 @@ use fips204_base::hashing::expand_a;
 use fips204_base::xof::Xof;
 use std::marker::PhantomData;
 
-impl<
-    S,
-    const K: usize,
-    const L: usize,
-    const PK_LEN: usize,
-    const SK_LEN: usize,
+impl<S, const K: usize, const L: usize, const PK_LEN: usize, const SK_LEN: usize, H, G> KeyGen
+    for KG<K, L, H, G>
+where
     H: Xof,
     G: Xof,
-> KeyGen for KG<K, L, H, G>
-where
     Matrix<K, L>: HasSet<Set = S>,
     S: Set<PublicKey = [u8; PK_LEN], PrivateKey = [u8; SK_LEN]> + KeySizes<K, L, PK_LEN, SK_LEN>,
 {
@@ -169,16 +164,11 @@ where
     }
 }
 
-impl<
-    S,
-    const K: usize,
-    const L: usize,
-    const N: usize,
-    const SIG_LEN: usize,
+impl<S, const K: usize, const L: usize, const N: usize, const SIG_LEN: usize, H, G> Verifier
+    for PublicKey<K, L, H, G>
+where
     H: Xof,
     G: Xof,
-> Verifier for PublicKey<K, L, H, G>
-where
     Matrix<K, L>: HasSet<Set = S>,
     S: Set<Commitment = [u8; N], Signature = [u8; SIG_LEN]> + SignatureSizes<K, L, N, SIG_LEN>,
 {
@@ -329,16 +319,11 @@ where
     }
 }
 
-impl<
-    S,
-    const K: usize,
-    const L: usize,
-    const PK_LEN: usize,
-    const SK_LEN: usize,
+impl<S, const K: usize, const L: usize, const PK_LEN: usize, const SK_LEN: usize, H, G> SerDes
+    for PrivateKey<K, L, H, G>
+where
     H: Xof,
     G: Xof,
-> SerDes for PrivateKey<K, L, H, G>
-where
     Matrix<K, L>: HasSet<Set = S>,
     S: Set<PublicKey = [u8; PK_LEN], PrivateKey = [u8; SK_LEN]> + KeySizes<K, L, PK_LEN, SK_LEN>,
 {
@@ -369,16 +354,11 @@ where
     }
 }
 
-impl<
-    S,
-    const K: usize,
-    const L: usize,
-    const PK_LEN: usize,
-    const SK_LEN: usize,
+impl<S, const K: usize, const L: usize, const PK_LEN: usize, const SK_LEN: usize, H, G> SerDes
+    for PublicKey<K, L, H, G>
+where
     H: Xof,
     G: Xof,
-> SerDes for PublicKey<K, L, H, G>
-where
     Matrix<K, L>: HasSet<Set = S>,
     S: Set<PublicKey = [u8; PK_LEN], PrivateKey = [u8; SK_LEN]> + KeySizes<K, L, PK_LEN, SK_LEN>,
 {

@@ -1,7 +1,7 @@
 //! The rejection checks of an attempt of signing (FIPS 204, Algorithm 7, lines 18 to 32).
 #![tactic(auto)]
 
-ghost use Rattle.std.specs.Prelude.{◌≡◌, ◌⊎◌, ◌<◌, ◌≤◌, ◌+◌, ◌%◌, ℕ, List, pos, nat_abs, nat_lt, ◌≤ℤ◌, Ok, Some, length};
+ghost use Rattle.std.specs.Prelude.{◌≡◌, ◌⊎◌, ◌<◌, ◌≤◌, ◌+◌, ◌*◌, ◌%◌, ℕ, List, pos, nat_abs, nat_lt, ◌≤ℤ◌, Ok, Some, length};
 ghost use Rattle.fips204_base.specs.CentredValues.{centred, vector_norm};
 ghost use Rattle.fips204_base.specs.HintSpelling.{all_ones};
 ghost use Rattle.fips204_base.specs.Polynomials.{AreReduced, IsReducedVector, VectorWithin, Within};
@@ -89,18 +89,16 @@ fn response<const L: usize>(s1_hat: &[T; L], y: &[R; L], c_hat: &T) -> [R; L]
     ensures range { IsReducedVector L result }
 {
     let mut z = challenge_times_transforms(c_hat, s1_hat);
-    write_zip_vectors(&mut z, y, centred_sum);
+    write_zip_vectors(
+        &mut z,
+        y,
+        |product, mask|
+            requires { (nat_abs product ≤ 8380416) × (nat_abs mask ≤ 524288) }
+            ensures value { result ≡ centred (pos ((residue mask + residue product) % 8380417)) }
+            ensures small { nat_abs result ≤ 8380416 }
+        { center_mod(mask + product) },
+    );
     z
-}
-
-/// The sum of a coefficient of `c s1` and one of the mask, centred.
-fn centred_sum(product: i32, mask: i32) -> i32
-    requires product { nat_abs product ≤ 8380416 }
-    requires mask { nat_abs mask ≤ 524288 }
-    ensures value { result ≡ centred (pos ((residue mask + residue product) % 8380417)) }
-    ensures small { nat_abs result ≤ 8380416 }
-{
-    center_mod(mask + product)
 }
 
 /// `w - c s2` from the transforms of `s2` and `c`, below `q` in absolute value, as their values and the
@@ -114,7 +112,15 @@ fn w_minus_cs2<const K: usize>(s2_hat: &[T; K], w: &[R; K], c_hat: &T) -> [R; K]
     ensures range { IsReducedVector K result }
 {
     let product = challenge_times_transforms(c_hat, s2_hat);
-    zip_vectors(w, &product, difference)
+    zip_vectors(
+        w,
+        &product,
+        |x, y|
+            requires { (nat_abs x ≤ 8380416) × (nat_abs y ≤ 8380416) }
+            ensures value { residue result ≡ (residue x + 8380416 * residue y) % 8380417 }
+            ensures small { nat_abs result ≤ 8380416 }
+        { difference(x, y) },
+    )
 }
 
 /// `LowBits` of each coefficient of a vector whose coefficients are below `q` in absolute value.

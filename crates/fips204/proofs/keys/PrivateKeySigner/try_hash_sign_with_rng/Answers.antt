@@ -14,3 +14,9 @@ returns-clause-accepted g c =
     let sk = c.args.self.now in
     accepted_input g.H.Xof.front sk.tr c.in_ok-mu.mu (hashed c.args.ctx.now c.args.hash_oid.now c.args.hash.now) (IsWhole p g.G.Xof.front sk) (derived p g.G.Xof.front sk) (λ (pk : PublicParts). pk.tr)
     (λ (pk : PublicParts) (mu signature : List ℕ). Verifies p g.H.Xof.front g.G.Xof.front pk mu signature) c.sign_hash.result (λ pk d. derived_hash p g.G.Xof.front sk pk d) (search rules) c.sign_hash.ensures.accepted
+
+pub returns-clause-answer : goal.returns-clause-answer
+returns-clause-answer g c = search rules
+
+pub returns-in_err-mu-clause-answer : goal.returns-in_err-mu-clause-answer
+returns-in_err-mu-clause-answer g c = search rules
