@@ -16,9 +16,7 @@ mod prepared;
 
 use crate::ml_dsa;
 use crate::sets::{HasSet, KeySizes, Matrix, Set, SignatureSizes};
-use crate::traits::{
-    CryptoRngCore, KeyGen, Scheme, SerDes, Signer, Verifier, draw, draw_if,
-};
+use crate::traits::{CryptoRngCore, KeyGen, Scheme, SerDes, Signer, Verifier, draw, draw_if};
 use crate::types::{KG, PreparedPrivateKey, PreparedPublicKey, PrivateKey, PublicKey};
 use fips204_base::Fault;
 use fips204_base::encodings::{pk_encode, sk_encode};
@@ -26,8 +24,15 @@ use fips204_base::hashing::expand_a;
 use fips204_base::xof::Xof;
 use std::marker::PhantomData;
 
-impl<S, const K: usize, const L: usize, const PK_LEN: usize, const SK_LEN: usize, H: Xof, G: Xof>
-    KeyGen for KG<K, L, H, G>
+impl<
+    S,
+    const K: usize,
+    const L: usize,
+    const PK_LEN: usize,
+    const SK_LEN: usize,
+    H: Xof,
+    G: Xof,
+> KeyGen for KG<K, L, H, G>
 where
     Matrix<K, L>: HasSet<Set = S>,
     S: Set<PublicKey = [u8; PK_LEN], PrivateKey = [u8; SK_LEN]> + KeySizes<K, L, PK_LEN, SK_LEN>,
@@ -38,9 +43,7 @@ where
 
     ghost generated = { generated S.set H.front G.front };
 
-    fn keygen_from_seed(
-        xi: &[u8; 32],
-    ) -> Result<(PublicKey<K, L, H, G>, PrivateKey<K, L, H, G>), Fault> {
+    fn keygen_from_seed(xi: &[u8; 32]) -> Result<(Self::PublicKey, Self::PrivateKey), Fault> {
         ml_dsa::key_gen_internal::<K, L, PK_LEN, H, G>(&S::params(), xi)
     }
 }
@@ -78,12 +81,12 @@ where
 
     ghost accepts = { VerifiesMessage S.set H.front G.front };
 
-    fn keygen(xi: &[u8; 32]) -> Result<(PublicKey<K, L, H, G>, PrivateKey<K, L, H, G>), Fault> {
+    fn keygen(xi: &[u8; 32]) -> Result<(Self::Public, Self::Private), Fault> {
         KG::<K, L, H, G>::keygen_from_seed(xi)
     }
 
     fn sign(
-        sk: &PrivateKey<K, L, H, G>,
+        sk: &Self::Private,
         rnd: &[u8; 32],
         message: &[u8],
         ctx: &[u8],
@@ -91,18 +94,13 @@ where
         sk.try_sign_with_seed(rnd, message, ctx)
     }
 
-    fn verify(
-        pk: &PublicKey<K, L, H, G>,
-        message: &[u8],
-        signature: &[u8; SIG_LEN],
-        ctx: &[u8],
-    ) -> bool {
+    fn verify(pk: &Self::Public, message: &[u8], signature: &[u8; SIG_LEN], ctx: &[u8]) -> bool {
         pk.verify(message, signature, ctx)
     }
 }
 
-impl<S, const K: usize, const L: usize, const N: usize, const SIG_LEN: usize, H: Xof, G: Xof>
-    Signer for PrivateKey<K, L, H, G>
+impl<S, const K: usize, const L: usize, const N: usize, const SIG_LEN: usize, H: Xof, G: Xof> Signer
+    for PrivateKey<K, L, H, G>
 where
     Matrix<K, L>: HasSet<Set = S>,
     S: Set<Commitment = [u8; N], Signature = [u8; SIG_LEN]> + SignatureSizes<K, L, N, SIG_LEN>,
@@ -139,8 +137,7 @@ where
         message: &[u8],
         ctx: &[u8],
     ) -> Result<[u8; SIG_LEN], Fault> {
-        let mu = ml_dsa::message_mu::<H>(&self.tr, message, ctx)?;
-        self.sign_hash(&mu, seed)
+        self.sign_hash(&ml_dsa::message_mu::<H>(&self.tr, message, ctx)?, seed)
     }
 
     fn try_hash_sign_with_rng<R: CryptoRngCore>(
@@ -161,8 +158,10 @@ where
         ctx: &[u8],
         hash_oid: &[u8],
     ) -> Result<[u8; SIG_LEN], Fault> {
-        let mu = ml_dsa::digest_mu::<H>(&self.tr, hash, ctx, hash_oid)?;
-        self.sign_hash(&mu, seed)
+        self.sign_hash(
+            &ml_dsa::digest_mu::<H>(&self.tr, hash, ctx, hash_oid)?,
+            seed,
+        )
     }
 
     fn get_public_key(&self) -> Result<PublicKey<K, L, H, G>, Fault> {
@@ -170,8 +169,15 @@ where
     }
 }
 
-impl<S, const K: usize, const L: usize, const N: usize, const SIG_LEN: usize, H: Xof, G: Xof>
-    Verifier for PublicKey<K, L, H, G>
+impl<
+    S,
+    const K: usize,
+    const L: usize,
+    const N: usize,
+    const SIG_LEN: usize,
+    H: Xof,
+    G: Xof,
+> Verifier for PublicKey<K, L, H, G>
 where
     Matrix<K, L>: HasSet<Set = S>,
     S: Set<Commitment = [u8; N], Signature = [u8; SIG_LEN]> + SignatureSizes<K, L, N, SIG_LEN>,
@@ -203,8 +209,15 @@ where
     }
 }
 
-impl<S, const K: usize, const L: usize, const N: usize, const SIG_LEN: usize, H: Xof, G: Xof>
-    PrivateKey<K, L, H, G>
+impl<
+    S,
+    const K: usize,
+    const L: usize,
+    const N: usize,
+    const SIG_LEN: usize,
+    H: Xof,
+    G: Xof,
+> PrivateKey<K, L, H, G>
 where
     Matrix<K, L>: HasSet<Set = S>,
     S: Set<Commitment = [u8; N], Signature = [u8; SIG_LEN]> + SignatureSizes<K, L, N, SIG_LEN>,
@@ -273,8 +286,15 @@ where
     }
 }
 
-impl<S, const K: usize, const L: usize, const N: usize, const SIG_LEN: usize, H: Xof, G: Xof>
-    PublicKey<K, L, H, G>
+impl<
+    S,
+    const K: usize,
+    const L: usize,
+    const N: usize,
+    const SIG_LEN: usize,
+    H: Xof,
+    G: Xof,
+> PublicKey<K, L, H, G>
 where
     Matrix<K, L>: HasSet<Set = S>,
     S: Set<Commitment = [u8; N], Signature = [u8; SIG_LEN]> + SignatureSizes<K, L, N, SIG_LEN>,
@@ -309,8 +329,15 @@ where
     }
 }
 
-impl<S, const K: usize, const L: usize, const PK_LEN: usize, const SK_LEN: usize, H: Xof, G: Xof>
-    SerDes for PrivateKey<K, L, H, G>
+impl<
+    S,
+    const K: usize,
+    const L: usize,
+    const PK_LEN: usize,
+    const SK_LEN: usize,
+    H: Xof,
+    G: Xof,
+> SerDes for PrivateKey<K, L, H, G>
 where
     Matrix<K, L>: HasSet<Set = S>,
     S: Set<PublicKey = [u8; PK_LEN], PrivateKey = [u8; SK_LEN]> + KeySizes<K, L, PK_LEN, SK_LEN>,
@@ -342,8 +369,15 @@ where
     }
 }
 
-impl<S, const K: usize, const L: usize, const PK_LEN: usize, const SK_LEN: usize, H: Xof, G: Xof>
-    SerDes for PublicKey<K, L, H, G>
+impl<
+    S,
+    const K: usize,
+    const L: usize,
+    const PK_LEN: usize,
+    const SK_LEN: usize,
+    H: Xof,
+    G: Xof,
+> SerDes for PublicKey<K, L, H, G>
 where
     Matrix<K, L>: HasSet<Set = S>,
     S: Set<PublicKey = [u8; PK_LEN], PrivateKey = [u8; SK_LEN]> + KeySizes<K, L, PK_LEN, SK_LEN>,

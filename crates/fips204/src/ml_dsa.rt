@@ -1,25 +1,26 @@
 //! What the parameter sets share (FIPS 204, sections 5 and 6).
 #![tactic(auto)]
 
-ghost use Rattle.std.specs.Prelude.{◌≡◌, ◌+◌, ◌*◌, nat_abs, take};
+ghost use Rattle.std.specs.Prelude.{◌≡◌, ◌<◌, ◌+◌, ◌*◌, nat_abs, length, take, IfSome, IfNone};
 ghost use Rattle.std.specs.List.{flat_map};
+ghost use Rattle.fips204.specs.Framing.{plain, hashed};
 ghost use Rattle.fips204.specs.Keys.{IsPublicKeyOf, DecodesPrivate};
 ghost use Rattle.fips204.specs.ParameterSets.{private_key_length};
+ghost use Rattle.fips204.specs.Refusals.{input_hash};
 ghost use Rattle.fips204.specs.Sets.{set_of};
 
 mod attempt;
-mod calls;
 mod commitment;
 mod key_generation;
 mod rejection;
 mod signing;
 mod verification;
 
+use crate::types::pre_hash::check_pre_hash;
 use crate::types::{Params, PrivateKey, PublicKey};
 use fips204_base::Fault;
 use fips204_base::encodings::{pk_decode, sk_decode};
 use fips204_base::xof::{Xof, hash};
-pub(crate) use calls::{digest_mu, message_mu};
 pub use key_generation::{key_gen, key_gen_internal, private_to_public_key};
 pub use signing::{MAX_SIGN_ATTEMPTS, sign_internal};
 use std::marker::PhantomData;
@@ -80,4 +81,39 @@ pub fn mu<H: Xof>(parts: &[&[u8]]) -> [u8; 64]
     ensures { result ≡ take 64 (H.front (flat_map (λ p. p.now) parts.now)) }
 {
     hash::<H, 64>(parts)
+}
+
+/// `mu` of a message and a context. Refuses with `Fault::SignCtx` a context of more than 255 bytes.
+pub(crate) fn message_mu<'a, H: Xof>(
+    tr: &'a [u8; 64],
+    message: &'a [u8],
+    ctx: &'a [u8],
+) -> Result<[u8; 64], Fault>
+    ensures { result ≡ input_hash H.front tr.now (plain ctx.now message.now) }
+{
+    let length = context_length(ctx).ok_or(Fault::SignCtx)?;
+    Ok(mu::<H>(&[tr.as_slice(), &[0, length], ctx, message]))
+}
+
+/// `mu` of a digest, a context and the object identifier of the hash. Refuses with `Fault::HashCtx` a
+/// context of more than 255 bytes, and then what `check_pre_hash` refuses.
+pub(crate) fn digest_mu<'a, H: Xof>(
+    tr: &'a [u8; 64],
+    hash: &'a [u8],
+    ctx: &'a [u8],
+    hash_oid: &'a [u8],
+) -> Result<[u8; 64], Fault>
+    ensures { result ≡ input_hash H.front tr.now (hashed ctx.now hash_oid.now hash.now) }
+{
+    let length = context_length(ctx).ok_or(Fault::HashCtx)?;
+    check_pre_hash(hash, hash_oid)?;
+    Ok(mu::<H>(&[tr.as_slice(), &[1, length], ctx, hash_oid, hash]))
+}
+
+/// The byte of a context's length, which a context of at most 255 bytes has.
+fn context_length(ctx: &[u8]) -> Option<u8>
+    ensures short { IfSome result (λ size. size ≡ length ctx.now) }
+    ensures long { IfNone result (255 < length ctx.now) }
+{
+    u8::try_from(ctx.len()).ok()
 }

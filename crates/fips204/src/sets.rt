@@ -34,7 +34,12 @@ pub trait Set {
 
 /// The sizes of a set's signatures: a matrix of `K` rows and `L` columns, `N` bytes of `c_tilde`, and `SIG_LEN`
 /// bytes in all.
-pub trait SignatureSizes<const K: usize, const L: usize, const N: usize, const SIG_LEN: usize>: Set {
+pub trait SignatureSizes<
+    const K: usize,
+    const L: usize,
+    const N: usize,
+    const SIG_LEN: usize,
+>: Set {
     // They are those of the set's row.
     ghost sizes: { HasSizes Self.set K L N SIG_LEN };
 }

@@ -150,7 +150,7 @@ impl<const K: usize, const L: usize, H, G> PublicKey<K, L, H, G> {
 
     /// A law that a call gives its caller, and computes nothing: `t1` has `K` polynomials with coefficients
     /// from 0 to 1023.
-    pub fn parts_in_range(&self)
+    pub fn parts_in_range_law(&self)
         ensures { IsHighPart K self.now.t1 }
     {
         let _ = &self.t1;
@@ -197,7 +197,7 @@ impl<const K: usize, const L: usize, H, G> Clone for PrivateKey<K, L, H, G> {
 impl<const K: usize, const L: usize, H, G> PrivateKey<K, L, H, G> {
     /// A law that a call gives its caller, and computes nothing: the parts have the lengths and ranges of a
     /// private key whose matrix has `K` rows and `L` columns.
-    pub fn parts_in_range(&self)
+    pub fn parts_in_range_law(&self)
         ensures { ArePrivateParts K L self.now }
     {
         let _ = &self.s1;

@@ -1,15 +1,11 @@
 -- One signature for two files of one name.
-use Rattle.std.proofs.Common.{◌≡◌, ◌≢◌, ◌⊎◌, inl, inr, ◌≤◌, ℕ, List, length, None, refl, ap, rules, arith}
-use Rattle.fips204.specs.Framing.{framed}
+use Rattle.std.proofs.Common.{◌≡◌, ◌≢◌, ◌⊎◌, inl, inr, ℕ, List, refl, ap}
+use Rattle.fips204.specs.Framing.{Input, plain, hashed, framed}
 use Rattle.fips204.specs.Keys.{PublicParts}
-use Rattle.fips204.specs.MessageLaws.{Input, plain, hashed, Collide, FramingIsOneToOne, SignatureBindsMessage}
+use Rattle.fips204.specs.MessageLaws.{Collide, FramingIsOneToOne, SignatureBindsMessage}
 use Rattle.fips204.specs.ParameterSets.{set_44}
-use Rattle.fips204.specs.Refusals.{message_fault, VerifiesMessage}
+use Rattle.fips204.specs.Refusals.{VerifiesMessage}
 use Rattle.mldsa_bench.specs.Manifest.{HasCollision}
-
--- a context that is accepted breaks no condition
-accepted_context : (context : List ℕ) → length context ≤ 255 → message_fault context ≡ None
-accepted_context context short = search (rules, arith)
 
 -- what an input signs
 abbrev signed : Input → List ℕ
@@ -24,7 +20,6 @@ pub two_files :
     (H G : List ℕ → List ℕ) (pk : PublicParts) (name first second signature : List ℕ) → FramingIsOneToOne → SignatureBindsMessage
     → VerifiesMessage set_44 H G pk first signature name → VerifiesMessage set_44 H G pk second signature name → first ≢ second → HasCollision H
 two_files H G pk name first second signature framing binding one two differ =
-    let fault = accepted_context name one.short in
-    let frames_differ = λ (same : framed name first ≡ framed name second). differ (ap signed (framing (plain name first) (plain name second) fault fault same)) in
-    let bound = binding set_44 H G pk (framed name first) (framed name second) signature refl frames_differ one.verified two.verified in
+    let frames_differ = λ (same : framed name first ≡ framed name second). differ (ap signed (framing (plain name first) (plain name second) one.allowed two.allowed same)) in
+    let bound = binding set_44 H G pk (framed name first) (framed name second) signature refl frames_differ one.accepted two.accepted in
     either H _ _ _ _ bound.1

@@ -21,7 +21,7 @@ pub fn accepts_what_it_signs<H: Xof, G: Xof>(
     requires { IsWhole set_44 G.front sk.now }
     ensures { IfOk result (λ answer. answer ≡ true) }
 {
-    sk.parts_in_range();
+    sk.parts_in_range_law();
     laws::signed_is_accepted();
     let pk = sk.get_public_key()?;
     let signature = sk.try_sign_with_seed(rnd, message, ctx)?;

@@ -15,7 +15,14 @@ use crate::types::{PreparedPrivateKey, PreparedPublicKey};
 use fips204_base::Fault;
 use fips204_base::xof::Xof;
 
-impl<S, const K: usize, const L: usize, const N: usize, const SIG_LEN: usize, H: Xof> PreparedPrivateKey<K, L, H>
+impl<
+    S,
+    const K: usize,
+    const L: usize,
+    const N: usize,
+    const SIG_LEN: usize,
+    H: Xof,
+> PreparedPrivateKey<K, L, H>
 where
     Matrix<K, L>: HasSet<Set = S>,
     S: Set<Commitment = [u8; N], Signature = [u8; SIG_LEN]> + SignatureSizes<K, L, N, SIG_LEN>,
@@ -56,8 +63,7 @@ where
         ensures accepted { AcceptedIfWholePrepared S.set self.now
             (λ pk signature. VerifiesMessagePrepared S.set H.front pk message.now signature ctx.now) result }
     {
-        let mu = ml_dsa::message_mu::<H>(&self.key.tr, message, ctx)?;
-        self.sign_hash(&mu, seed)
+        self.sign_hash(&ml_dsa::message_mu::<H>(&self.key.tr, message, ctx)?, seed)
     }
 
     /// Signs a digest (Algorithm 4), as `Signer::try_hash_sign_with_rng`.
@@ -89,8 +95,10 @@ where
         ensures accepted { AcceptedIfWholePrepared S.set self.now
             (λ pk signature. VerifiesDigestPrepared S.set H.front pk hash.now signature ctx.now hash_oid.now) result }
     {
-        let mu = ml_dsa::digest_mu::<H>(&self.key.tr, hash, ctx, hash_oid)?;
-        self.sign_hash(&mu, seed)
+        self.sign_hash(
+            &ml_dsa::digest_mu::<H>(&self.key.tr, hash, ctx, hash_oid)?,
+            seed,
+        )
     }
 
     /// Signs a framed message (Algorithm 7), as `PrivateKey::sign_internal`.
@@ -142,7 +150,14 @@ where
     }
 }
 
-impl<S, const K: usize, const L: usize, const N: usize, const SIG_LEN: usize, H: Xof> PreparedPublicKey<K, L, H>
+impl<
+    S,
+    const K: usize,
+    const L: usize,
+    const N: usize,
+    const SIG_LEN: usize,
+    H: Xof,
+> PreparedPublicKey<K, L, H>
 where
     Matrix<K, L>: HasSet<Set = S>,
     S: Set<Commitment = [u8; N], Signature = [u8; SIG_LEN]> + SignatureSizes<K, L, N, SIG_LEN>,

@@ -12,5 +12,5 @@ pub returns-clause-accepted : goal.returns-clause-accepted
 returns-clause-accepted g c =
     let p = g.S.Set.set in
     let sk = c.args.self.now in
-    accepted_input g.H.Xof.front sk.tr c.in_ok-mu.mu (plain c.args.ctx.now c.args.message.now) (IsWhole p g.G.Xof.front sk) (derived p g.G.Xof.front sk) (λ (pk : PublicParts). pk.tr)
+    accepted_input g.H.Xof.front sk.tr c.in_ok-message_mu.field-0 (plain c.args.ctx.now c.args.message.now) (IsWhole p g.G.Xof.front sk) (derived p g.G.Xof.front sk) (λ (pk : PublicParts). pk.tr)
     (λ (pk : PublicParts) (mu signature : List ℕ). Verifies p g.H.Xof.front g.G.Xof.front pk mu signature) c.sign_hash.result (λ pk d. derived_hash p g.G.Xof.front sk pk d) (search rules) c.sign_hash.ensures.accepted
