@@ -4,7 +4,7 @@ use Rattle.fips204_base.specs.declared.fault.Fault.{Fault}
 use Rattle.fips204_base.specs.declared.fault.Fault.TheVariants.{OidEmpty, OidNotDer, DigestTooLong, DigestLength, HashCtx}
 use Rattle.std.proofs.Math.Seq.{take-append_seam, drop-append_seam}
 use Rattle.fips204.specs.PreHash.{is_der, differs, digest_length, pre_hash_fault}
-use Rattle.fips204.specs.MessageLaws.{FramingIsOneToOne, SignatureBindsMessage}
+use Rattle.fips204.specs.MessageLaws.{FramingIsOneToOne, SignatureBindsMessage, SignatureBindsInput}
 use Rattle.fips204.specs.Refusals.{input_fault}
 use Rattle.fips204.proofs.ParameterSets.{and_out, set_numbers}
 use Rattle.fips204.proofs.RefusedCalls.{passed, short_context}
@@ -73,7 +73,7 @@ same_context c d us vs mode e =
     let rest : c ++ us ≡ d ++ vs = cc in
     cut c d us vs lengths rest
 
-same_input : (x y : Input) → input_fault x ≡ None → input_fault y ≡ None → framed_input x ≡ framed_input y → x ≡ y
+pub same_input : FramingIsOneToOne
 same_input (plain c m) (plain d n) s t e =
     let both = same_context c d m n 0 e in
     cc
@@ -87,8 +87,6 @@ same_input (hashed c o h) (hashed d p i) s t e =
     let inner = same_oid o p h i first second outer.1 in
     cc
 
-pub framing_is_one_to_one : FramingIsOneToOne
-framing_is_one_to_one = same_input
 
 -- One signature for two framed messages gives a collision.
 
@@ -109,7 +107,7 @@ pub one_commitment : (p : ParameterSet) (H : List ℕ → List ℕ) (a b : List 
     → (x.c_tilde ≡ y.c_tilde) × (w1_prime p a t1 x.z x.h x.c ≡ w1_prime p b t1 y.z y.h y.c)
 one_commitment p H a b t1 mu nu signature row same x y =
     let gamma1 = (set_numbers p row).gamma1 in
-    let parts = same_signature p.gamma1 p.omega p.k p.l (commitment_length p) signature x.c_tilde y.c_tilde x.z y.z x.h y.h (omega (arith, gamma1)) (omega (arith, gamma1)) x.hint y.hint in
+    let parts = same_signature p.gamma1 p.omega p.k p.l (commitment_length p) signature x.c_tilde y.c_tilde x.z y.z x.h y.h (omega (arith, gamma1)) (omega (arith, gamma1)) x.short.parts y.short.parts in
     let challenges : Some x.c ≡ Some y.c = sym x.challenge ∙ ap (λ bytes. challenge p.tau (H bytes)) parts.0 ∙ y.challenge in
     let one : x.c ≡ y.c = cc in
     let z = parts.1 in
@@ -142,3 +140,7 @@ signature_binds_message p H G pk m n signature row differ first second =
         }
       ],
     )
+
+pub signature_binds_input : SignatureBindsInput
+signature_binds_input p H G pk x y signature row differ first second =
+    signature_binds_message p H G pk (framed_input x) (framed_input y) signature row (λ same. differ (same_input x y first.allowed second.allowed same)) first.accepted second.accepted

@@ -1,5 +1,5 @@
 -- Answers stay where the fronts are prefixes of longer ones.
-use Rattle.std.proofs.Common.{◌≡◌, ℕ, ◌+◌, ◌-◌, ◌*◌, ◌≤◌, ◌⊎◌, inl, inr, List, [], ◌∷◌, ◌++◌, length, take, drop, map, refl, ap, sym, ◌∙◌, arith, Some, None, ok_or, IsTrue, append_assoc}
+use Rattle.std.proofs.Common.{◌≡◌, ◌≢◌, ℕ, ◌+◌, ◌-◌, ◌*◌, ◌≤◌, ◌⊎◌, inl, inr, List, [], ◌∷◌, ◌++◌, length, take, drop, map, refl, ap, sym, ◌∙◌, arith, Some, None, ok_or, IsTrue, append_assoc}
 use Rattle.std.specs.Prelude.{option_map}
 use Rattle.std.specs.declared.option.Option.{Option}
 use Rattle.std.specs.declared.result.Result.{Result}
@@ -10,6 +10,7 @@ use Rattle.fips204_base.specs.declared.fault.Fault.{Fault}
 use Rattle.fips204_base.specs.declared.fault.Fault.TheVariants.{SamplingLimit}
 use Rattle.fips204_base.specs.declared.types.R.{R}
 use Rattle.fips204_base.specs.declared.types.T.{T}
+use Rattle.fips204_base.specs.Blocks.{counter_blocks-prefix}
 use Rattle.fips204_base.specs.Streams.{ArePrefixes}
 use Rattle.fips204_base.specs.Vectors.{vector_coefficients, matrix_product}
 use Rattle.fips204_base.specs.Encodings.{w1_bytes, public_key_bytes, vector_bytes, IsSignature}
@@ -21,12 +22,12 @@ use Rattle.fips204_base.proofs.LongerFronts.{prefix-take, prefix-part, matrix_en
 use Rattle.fips204.specs.ParameterSets.{ParameterSet, is_parameter_set, commitment_length}
 use Rattle.fips204.specs.Keys.{PublicParts, PrivateParts}
 use Rattle.fips204.specs.KeyGeneration.{high_part, key_hash, key_pair, key_pair_if_all, key_generation, public_key_of}
-use Rattle.fips204.specs.Framing.{Input, plain, hashed, framed_input, framed, framed_digest, message_hash}
+use Rattle.fips204.specs.Framing.{Input, framed_input, message_hash}
 use Rattle.fips204.specs.Attempts.{Attempt, limit, rejected, signed, commitment, high_vector, checked_attempt, attempt}
 use Rattle.fips204.specs.Signing.{attempt_limit, first_answer, mask_seed, sign_with, sign_if_matrix, sign}
 use Rattle.fips204.specs.Acceptance.{w1_prime, Verifies}
-use Rattle.fips204.specs.Refusals.{refused_or, message_fault, digest_fault, AcceptsInput}
-use Rattle.fips204.specs.LongerFronts.{SamplesStay, Stays, AnswersStay, IsSampled, YesAndNoStay, AcceptanceStays, LongerFrontsKeep}
+use Rattle.fips204.specs.Refusals.{refused_or, input_fault, AcceptsInput}
+use Rattle.fips204.specs.LongerFronts.{CounterFrontsArePrefixes, SamplesStay, Stays, AnswersStay, IsDecided, sampled, malformed, YesAndNoStay, AcceptanceStays, LongerFrontsKeep}
 use Rattle.fips204.proofs.ParameterSets.{set_numbers}
 
 -- a front has at least 4096 bytes
@@ -67,6 +68,7 @@ module _ (H G H' G' : List ℕ → List ℕ) (first : ArePrefixes H H') (second 
   samples_stay = record {
     entries = λ input t e. matrix_entry-longer (G input) (G' input) t (second input) e;
     small_polynomials = λ eta input w e. small_polynomial-longer eta (H input) (H' input) w (first input) e;
+    matrices = λ rho k l a e. sampled_matrix-longer G G' rho k l a second e;
     challenges = λ tau input c e. challenge-longer tau (H input) (H' input) c (first input) (enough input) e;
   }
 
@@ -163,6 +165,12 @@ module _ (H G H' G' : List ℕ → List ℕ) (first : ArePrefixes H H') (second 
   sign-longer p sk mu rnd t =
       matrix_stays p (sampled_matrix G sk.rho p.k p.l) (sampled_matrix G' sk.rho p.k p.l) sk mu rnd t (λ a there. sampled_matrix-longer G G' sk.rho p.k p.l a second there)
 
+  prepared-longer : {A : Type 0} (p : ParameterSet) (rho : List ℕ) (f : List (List T) → A)
+      → Stays (ok_or (option_map f (sampled_matrix G rho p.k p.l)) SamplingLimit) (ok_or (option_map f (sampled_matrix G' rho p.k p.l)) SamplingLimit)
+  prepared-longer p rho f =
+      ok_stays (option_map f (sampled_matrix G rho p.k p.l)) (option_map f (sampled_matrix G' rho p.k p.l))
+      (λ y. mapped_stays f (sampled_matrix G rho p.k p.l) (sampled_matrix G' rho p.k p.l) y (λ a there. sampled_matrix-longer G G' rho p.k p.l a second there))
+
   framed-longer : (p : ParameterSet) (sk : PrivateParts) (m rnd : List ℕ) → IsTrue (is_parameter_set p)
       → Stays (sign p H G sk (message_hash H sk.tr m) rnd) (sign p H' G' sk (message_hash H' sk.tr m) rnd)
   framed-longer p sk m rnd t =
@@ -173,10 +181,11 @@ module _ (H G H' G' : List ℕ → List ℕ) (first : ArePrefixes H H') (second 
   answers_stay p t = record {
     key_pairs = λ xi. ok_stays (key_generation p H G xi) (key_generation p H' G' xi) (key_generation-longer p xi);
     public_keys = λ sk. ok_stays (public_key_of p G sk) (public_key_of p G' sk) (public_key_of-longer p sk);
+    prepared_private_keys = λ sk. prepared-longer p sk.rho (λ a. record { parts = sk; matrix = a });
+    prepared_public_keys = λ pk. prepared-longer p pk.rho (λ a. record { parts = pk; matrix = a });
     hashes = λ sk mu rnd. sign-longer p sk mu rnd t;
     framed = λ sk m rnd. framed-longer p sk m rnd t;
-    messages = λ sk rnd message context. refused_stays (message_fault context) _ _ (framed-longer p sk (framed context message) rnd t);
-    digests = λ sk rnd digest context oid. refused_stays (digest_fault context oid digest) _ _ (framed-longer p sk (framed_digest context oid digest) rnd t);
+    inputs = λ sk rnd input. refused_stays (input_fault input) _ _ (framed-longer p sk (framed_input input) rnd t);
   }
 
   -- ---- verifying
@@ -191,61 +200,80 @@ module _ (H G H' G' : List ℕ → List ℕ) (first : ArePrefixes H H') (second 
           c_tilde = accepted.c_tilde;
           z = accepted.z;
           h = accepted.h;
-          hint = accepted.hint;
+          short = accepted.short;
           c = accepted.c;
           challenge = challenge-longer p.tau (H accepted.c_tilde) (H' accepted.c_tilde) accepted.c (first accepted.c_tilde) (enough accepted.c_tilde) accepted.challenge;
-          norm = accepted.norm;
           commitment = accepted.commitment ∙ sym (commitment-longer p mu (w1_prime p v.a pk.t1 accepted.z accepted.h accepted.c) t);
         };
       }
 
-  verifies-shorter : (p : ParameterSet) (pk : PublicParts) (mu signature : List ℕ) → IsTrue (is_parameter_set p) → IsSampled p H G pk signature
+  verifies-shorter : (p : ParameterSet) (pk : PublicParts) (mu signature : List ℕ) → IsTrue (is_parameter_set p) → IsDecided p H G pk signature
       → Verifies p H' G' pk mu signature → Verifies p H G pk mu signature
-  verifies-shorter p pk mu signature t s v =
+  verifies-shorter p pk mu signature t (malformed none) v = absurd (none v.accepted.c_tilde v.accepted.z v.accepted.h v.accepted.short)
+  verifies-shorter p pk mu signature t (sampled a matrix c there) v =
       let accepted = v.accepted in
-      let matrices : Some s.a ≡ Some v.a = sym (sampled_matrix-longer G G' pk.rho p.k p.l s.a second s.matrix) ∙ v.matrix in
-      let same_matrix : s.a ≡ v.a = cc in
-      let c_tilde : take (commitment_length p) signature ≡ accepted.c_tilde = signature-first p.gamma1 p.omega p.k p.l (commitment_length p) signature accepted.c_tilde accepted.z accepted.h accepted.hint in
-      let here : challenge p.tau (H accepted.c_tilde) ≡ Some s.c = ap (λ l. challenge p.tau (H l)) (sym c_tilde) ∙ s.challenge in
-      let there = challenge-longer p.tau (H accepted.c_tilde) (H' accepted.c_tilde) s.c (first accepted.c_tilde) (enough accepted.c_tilde) here in
-      let challenges : Some s.c ≡ Some accepted.c = sym there ∙ accepted.challenge in
+      let matrices : Some a ≡ Some v.a = sym (sampled_matrix-longer G G' pk.rho p.k p.l a second matrix) ∙ v.matrix in
+      let c_tilde : take (commitment_length p) signature ≡ accepted.c_tilde = signature-first p.gamma1 p.omega p.k p.l (commitment_length p) signature accepted.c_tilde accepted.z accepted.h accepted.short.parts in
+      let here : challenge p.tau (H accepted.c_tilde) ≡ Some c = ap (λ l. challenge p.tau (H l)) (sym c_tilde) ∙ there in
+      let longer = challenge-longer p.tau (H accepted.c_tilde) (H' accepted.c_tilde) c (first accepted.c_tilde) (enough accepted.c_tilde) here in
+      let challenges : Some c ≡ Some accepted.c = sym longer ∙ accepted.challenge in
       record {
         a = v.a;
-        matrix = s.matrix ∙ matrices;
+        matrix = matrix ∙ matrices;
         accepted = record {
           c_tilde = accepted.c_tilde;
           z = accepted.z;
           h = accepted.h;
-          hint = accepted.hint;
+          short = accepted.short;
           c = accepted.c;
           challenge = here ∙ challenges;
-          norm = accepted.norm;
           commitment = accepted.commitment ∙ commitment-longer p mu (w1_prime p v.a pk.t1 accepted.z accepted.h accepted.c) t;
         };
       }
 
-  input_stays : (p : ParameterSet) (pk : PublicParts) (signature : List ℕ) (input : Input) → IsTrue (is_parameter_set p)
-      → YesAndNoStay (IsSampled p H G pk signature) (AcceptsInput H pk.tr (λ mu. Verifies p H G pk mu signature) input) (AcceptsInput H' pk.tr (λ mu. Verifies p H' G' pk mu signature) input)
-  input_stays p pk signature input t =
-      let m = framed_input input in
+  verdict_stays : (p : ParameterSet) (pk : PublicParts) (mu signature : List ℕ) → IsTrue (is_parameter_set p)
+      → YesAndNoStay (IsDecided p H G pk signature) (Verifies p H G pk mu signature) (Verifies p H' G' pk mu signature)
+  verdict_stays p pk mu signature t = record {
+    yes_stays = verifies-longer p pk mu signature t;
+    no_stays = λ decided. (verifies-longer p pk mu signature t, verifies-shorter p pk mu signature t decided);
+  }
+
+  framed_stays : (p : ParameterSet) (pk : PublicParts) (m signature : List ℕ) → IsTrue (is_parameter_set p)
+      → YesAndNoStay (IsDecided p H G pk signature) (Verifies p H G pk (message_hash H pk.tr m) signature) (Verifies p H' G' pk (message_hash H' pk.tr m) signature)
+  framed_stays p pk m signature t =
       let mu : message_hash H' pk.tr m ≡ message_hash H pk.tr m = hash-longer 64 (pk.tr ++ m) (omega arith) in
+      rw mu (verdict_stays p pk (message_hash H pk.tr m) signature t)
+
+  input_stays : (p : ParameterSet) (pk : PublicParts) (signature : List ℕ) (input : Input) → IsTrue (is_parameter_set p)
+      → YesAndNoStay (IsDecided p H G pk signature ⊎ (input_fault input ≢ None))
+      (AcceptsInput H pk.tr (λ mu. Verifies p H G pk mu signature) input) (AcceptsInput H' pk.tr (λ mu. Verifies p H' G' pk mu signature) input)
+  input_stays p pk signature input t =
+      let stays = framed_stays p pk (framed_input input) signature t in
+      let yes = λ (v : AcceptsInput H pk.tr (λ mu. Verifies p H G pk mu signature) input).
+      let longer : AcceptsInput H' pk.tr (λ mu. Verifies p H' G' pk mu signature) input = record { allowed = v.allowed; accepted = stays.yes_stays v.accepted } in longer in
       record {
-        yes_stays = λ v. record { allowed = v.allowed; accepted = rw mu (verifies-longer p pk (message_hash H pk.tr m) signature t v.accepted) };
-        no_stays = λ s v. record { allowed = v.allowed; accepted = verifies-shorter p pk (message_hash H pk.tr m) signature t s (rw mu at v.accepted) };
+        yes_stays = yes;
+        no_stays = λ decided. (yes, λ v. elim decided [
+          | inl d ↦ record { allowed = v.allowed; accepted = (stays.no_stays d).1 v.accepted }
+          | inr broken ↦ absurd (broken v.allowed)
+        ]);
       }
 
   acceptance_stays : (p : ParameterSet) → IsTrue (is_parameter_set p) → AcceptanceStays p H G H' G'
-  acceptance_stays p t =
-      let mu : (tr m : List ℕ) → message_hash H' tr m ≡ message_hash H tr m = λ tr m. hash-longer 64 (tr ++ m) (omega arith) in
-      record {
-        hashes = λ pk mu signature. record { yes_stays = verifies-longer p pk mu signature t; no_stays = verifies-shorter p pk mu signature t };
-        framed = λ pk m signature. rw (mu pk.tr m)
-            record { yes_stays = verifies-longer p pk (message_hash H pk.tr m) signature t; no_stays = verifies-shorter p pk (message_hash H pk.tr m) signature t };
-        messages = λ pk message signature context. input_stays p pk signature (plain context message) t;
-        digests = λ pk digest signature context oid. input_stays p pk signature (hashed context oid digest) t;
-        decoded = λ bytes pk d. record { seed = d.seed; high = d.high; same_bytes = d.same_bytes; hash = d.hash ∙ sym (hash-longer 64 bytes (omega arith)) };
-      }
+  acceptance_stays p t = record {
+    hashes = λ pk mu signature. verdict_stays p pk mu signature t;
+    framed = λ pk m signature. framed_stays p pk m signature t;
+    inputs = λ pk signature input. input_stays p pk signature input t;
+    decoded = λ bytes pk d. record { seed = d.seed; high = d.high; same_bytes = d.same_bytes; hash = d.hash ∙ sym (hash-longer 64 bytes (omega arith)) };
+  }
 
 pub longer_fronts_keep : (H G H' G' : List ℕ → List ℕ) → AreLong H → LongerFrontsKeep H G H' G'
 longer_fronts_keep H G H' G' enough first second =
     (samples_stay H G H' G' first second enough, λ p t. (answers_stay H G H' G' first second enough p t, acceptance_stays H G H' G' first second enough p t))
+
+pub counter_fronts_are_prefixes : CounterFrontsArePrefixes
+counter_fronts_are_prefixes = record {
+  blocks = counter_blocks-prefix;
+  sha256 = λ input. counter_blocks-prefix _ _ 128 512 (omega arith);
+  sha512 = λ input. counter_blocks-prefix _ _ 64 256 (omega arith);
+}

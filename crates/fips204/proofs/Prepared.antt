@@ -1,5 +1,5 @@
 -- Keys with their matrix: what is signed with one is accepted, and each answers as its plain key.
-use Rattle.std.proofs.Common.{IsTrue, ◌≡◌, ◌≤◌, ◌<◌, ◌+◌, ℕ, List, refl, sym, ap, subst, ◌∙◌, length, get_or, set, inl, inr, Result, Ok, Some, None, arith}
+use Rattle.std.proofs.Common.{IsTrue, ◌≡◌, ◌≤◌, ◌<◌, ◌+◌, ℕ, List, [], Bool, refl, sym, ap, subst, ◌∙◌, length, get_or, set, inl, inr, Result, Ok, Some, None, arith}
 use Rattle.std.specs.Prelude.{◌↔◌, ok_or, option_map}
 use Rattle.std.proofs.lemmas.List.{get_or-set_same, get_or-set_other}
 use Rattle.std.proofs.lemmas.Bool.{cases_lt}
@@ -12,9 +12,10 @@ use Rattle.fips204.specs.Acceptance.{Accepts, Verifies}
 use Rattle.fips204.specs.Framing.{Input, plain, hashed, framed_input, message_hash}
 use Rattle.fips204.specs.Keys.{PublicParts, PrivateParts, ArePrivateParts}
 use Rattle.fips204.specs.ParameterSets.{ParameterSet, is_parameter_set}
-use Rattle.fips204.specs.Prepared.{PreparedPrivate, PreparedPublic, prepared_private, prepared_public, public_of_prepared, sign_prepared}
-use Rattle.fips204.specs.Prepared.{VerifiesPrepared, AcceptedIfWholePrepared, PreparedAnswersAsPlain}
-use Rattle.fips204.specs.Refusals.{refused_or, input_fault, input_hash, sign_input, AcceptsInput}
+use Rattle.fips204.specs.Prepared.{PreparedPrivate, PreparedPublic, prepared_private, prepared_public, public_of_prepared, sign_prepared, sign_message_prepared, IsWholePrepared}
+use Rattle.fips204.specs.Prepared.{VerifiesPrepared, VerifiesMessagePrepared, IsEachSigned, IsEachJudged, AcceptedIfWholePrepared, PreparedAnswersAsPlain}
+use Rattle.fips204.specs.Refusals.{refused_or, input_fault, input_hash, sign_input, AcceptsInput, derived, sign_message, VerifiesMessage}
+use Rattle.fips204.specs.KeyGeneration.{IsWhole, high_part, low_part, public_key_of}
 use Rattle.fips204.specs.Signing.{sign, sign_with, sign_if_matrix}
 use Rattle.fips204.proofs.Completeness.{accepts_signed_with}
 use Rattle.fips204.proofs.RefusedCalls.{given_input, same_some}
@@ -87,15 +88,59 @@ verdict_as_plain p H G pk prepared signature input e =
       λ v. record { allowed = v.allowed; accepted = subst (λ m. VerifiesPrepared p H prepared m signature) mu (both.1 v.accepted) },
     )
 
+-- of lists: an answer that is as that of the plain key for each entry
+each_signed : (signs alike : List ℕ → List ℕ → Result (List ℕ) Fault) (seeds messages : List (List ℕ)) (answers : List (Result (List ℕ) Fault)) → ((rnd m : List ℕ) → signs rnd m ≡ alike rnd m)
+    → IsEachSigned signs seeds messages answers → IsEachSigned alike seeds messages answers
+each_signed signs alike seeds messages answers same each = (each.0, λ i h. each.1 i h ∙ same (get_or seeds i []) (get_or messages i []))
+
+each_judged : (accepts alike : List ℕ → List ℕ → Type 0) (messages signatures : List (List ℕ)) (answers : List Bool) → ((m s : List ℕ) → accepts m s ↔ alike m s)
+    → IsEachJudged accepts messages signatures answers → IsEachJudged alike messages signatures answers
+each_judged accepts alike messages signatures answers same each = (
+  each.0,
+  λ i h. let both = same (get_or messages i []) (get_or signatures i []) in (λ t. both.0 ((each.1 i h).0 t), λ v. (each.1 i h).1 (both.1 v)),
+)
+
+whole_as_plain : (p : ParameterSet) (G : List ℕ → List ℕ) (sk : PrivateParts) (prepared : PreparedPrivate) → sk ≡ prepared.parts → sampled_matrix G sk.rho p.k p.l ≡ Some prepared.matrix
+    → IsWholePrepared p prepared ↔ IsWhole p G sk
+whole_as_plain p G sk prepared same there = (
+  λ low. record { matrix = prepared.matrix; sampled = there; low = subst (λ (k : PrivateParts). k.t0 ≡ low_part p prepared.matrix k.s1 k.s2) (sym same) low },
+  λ whole.
+      let matrix = same_some whole.matrix prepared.matrix (sym whole.sampled ∙ there) in
+      subst (λ (k : PrivateParts). k.t0 ≡ low_part p prepared.matrix k.s1 k.s2) same (subst (λ (a : List (List T)). sk.t0 ≡ low_part p a sk.s1 sk.s2) matrix whole.low),
+)
+
+-- the derived key, prepared
+public_as_plain : (p : ParameterSet) (G : List ℕ → List ℕ) (sk : PrivateParts) (prepared : PreparedPrivate) (pk : PublicParts) → sk ≡ prepared.parts
+    → sampled_matrix G sk.rho p.k p.l ≡ Some prepared.matrix → derived p G sk ≡ Ok pk → prepared_public p G pk ≡ Ok (public_of_prepared p prepared)
+unfolding public_key_of
+public_as_plain p G sk prepared pk same there e =
+    let own = λ (k : PrivateParts). let key : PublicParts = record { rho = k.rho; tr = k.tr; t1 = high_part p prepared.matrix k.s1 k.s2 } in key in
+    let made : own sk ≡ pk = same_ok (own sk) pk (ap (λ a. ok_or (option_map (λ m. let key : PublicParts = record { rho = sk.rho; tr = sk.tr; t1 = high_part p m sk.s1 sk.s2 } in key) a) SamplingLimit) (sym there) ∙ e) in
+    let with = λ (k : PublicParts) (a : List (List T)). let key : PreparedPublic = record { parts = k; matrix = a } in key in
+    subst (λ (k : PublicParts). prepared_public p G k ≡ Ok (public_of_prepared p prepared)) made
+    (ap (λ a. ok_or (option_map (with (own sk)) a) SamplingLimit) there ∙ ap (λ (k : PrivateParts). Ok (with (own k) prepared.matrix)) same)
+  where
+    same_ok : (x y : PublicParts) → Path (Result PublicParts Fault) (Ok x) (Ok y) → x ≡ y
+    same_ok x y e = cc
+
 pub prepared_answers_as_plain : (p : ParameterSet) (H G : List ℕ → List ℕ) → PreparedAnswersAsPlain p H G
-prepared_answers_as_plain p H G = record {
-  sign_hash = λ sk prepared mu rnd e. let is = private_parts (sampled_matrix G sk.rho p.k p.l) sk prepared e in hash_as_plain p H G sk prepared mu rnd is.0 is.1;
-  sign_message = λ sk prepared rnd message context e. input_as_plain p H G sk prepared rnd (plain context message) e;
-  sign_digest = λ sk prepared rnd digest context oid e. input_as_plain p H G sk prepared rnd (hashed context oid digest) e;
-  verify_hash = λ pk prepared mu signature e. let is = public_parts (sampled_matrix G pk.rho p.k p.l) pk prepared e in accepts_as_plain p H G pk prepared mu signature is.0 is.1;
-  verify_message = λ pk prepared message signature context e. verdict_as_plain p H G pk prepared signature (plain context message) e;
-  verify_digest = λ pk prepared digest signature context oid e. verdict_as_plain p H G pk prepared signature (hashed context oid digest) e;
-}
+prepared_answers_as_plain p H G =
+    let private = λ (sk : PrivateParts) (prepared : PreparedPrivate) (e : prepared_private p G sk ≡ Ok prepared). private_parts (sampled_matrix G sk.rho p.k p.l) sk prepared e in
+    let public = λ (pk : PublicParts) (prepared : PreparedPublic) (e : prepared_public p G pk ≡ Ok prepared). public_parts (sampled_matrix G pk.rho p.k p.l) pk prepared e in
+    record {
+      sign_hash = λ sk prepared mu rnd e. let is = private sk prepared e in hash_as_plain p H G sk prepared mu rnd is.0 is.1;
+      sign_inputs = λ sk prepared rnd input e. input_as_plain p H G sk prepared rnd input e;
+      sign_lists = λ sk prepared seeds messages context answers e each.
+          each_signed (λ rnd m. sign_message_prepared p H prepared rnd m context) (λ rnd m. sign_message p H G sk rnd m context) seeds messages answers
+          (λ rnd m. input_as_plain p H G sk prepared rnd (plain context m) e) each;
+      verify_hash = λ pk prepared mu signature e. let is = public pk prepared e in accepts_as_plain p H G pk prepared mu signature is.0 is.1;
+      verify_inputs = λ pk prepared signature input e. verdict_as_plain p H G pk prepared signature input e;
+      verify_lists = λ pk prepared messages signatures context answers e each.
+          each_judged (λ m s. VerifiesMessagePrepared p H prepared m s context) (λ m s. VerifiesMessage p H G pk m s context) messages signatures answers
+          (λ m s. verdict_as_plain p H G pk prepared s (plain context m) e) each;
+      whole = λ sk prepared e. let is = private sk prepared e in whole_as_plain p G sk prepared is.0 is.1;
+      public_key = λ sk prepared pk e. let is = private sk prepared e in public_as_plain p G sk prepared pk is.0 is.1;
+    }
 
 -- ---- one answer a message
 

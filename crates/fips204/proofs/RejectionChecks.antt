@@ -185,14 +185,6 @@ hint-is p sk w c v t h k size e f is =
 
 -- ---- ranges
 
--- s1 and s2 of a private key
-pub short-within : (k m : ℕ) (v : List R) → IsVector m (eta_of_rows k) (eta_of_rows k) v → IsReducedVector m v
-short-within k m v is = vector-within m (eta_of_rows k) (eta_of_rows k) 8380416 v (eta_of_rows-small k) (eta_of_rows-small k) is
-
--- t0 of a private key
-pub low-within : (m : ℕ) (v : List R) → IsVector m 4095 4096 v → IsReducedVector m v
-low-within m v is = vector-within m 4095 4096 8380416 v (omega arith) (omega arith) is
-
 -- an integer from 1 - g to g
 within_range : (g : ℕ) (x : ℤ) → nat_abs x < g → ((pos 0 -ℤ pos (g - 1)) ≤ℤ x) × (x ≤ℤ pos g)
 within_range g (pos n) h = (omega (arith, ints, h), omega (arith, ints, h))

@@ -118,20 +118,15 @@ decided p H a t1 z h w1 mu c_tilde ball c answer b w both = (
 abbrev pub Gives : ParameterSet → (List ℕ → List ℕ) → List (List T) → List R → List ℕ → List ℕ → List R → List R → Type 0
 Gives p H a t1 mu c_tilde z h = (c : R) × (challenge p.tau (H c_tilde) ≡ Some c) × (c_tilde ≡ commitment p H mu (w1_prime p a t1 z h c))
 
-pub accepts-none : (p : ParameterSet) (H : List ℕ → List ℕ) (a : List (List T)) (t1 : List R) (mu sig : List ℕ)
-    → ((c_tilde : List ℕ) (z h : List R) → HasShortParts p sig c_tilde z h → ⊥) → Accepts p H a t1 mu sig → ⊥
-accepts-none p H a t1 mu sig none v = none v.c_tilde v.z v.h record { hint = v.hint; norm = v.norm }
-
 pub accepts-in : (p : ParameterSet) (H : List ℕ → List ℕ) (a : List (List T)) (t1 : List R) (mu sig c_tilde : List ℕ) (z h : List R)
     → HasShortParts p sig c_tilde z h → Gives p H a t1 mu c_tilde z h → Accepts p H a t1 mu sig
 accepts-in p H a t1 mu sig c_tilde z h parts x = record {
   c_tilde = c_tilde;
   z = z;
   h = h;
-  hint = parts.hint;
+  short = parts;
   c = x.0;
   challenge = x.1;
-  norm = parts.norm;
   commitment = x.2;
 }
 
@@ -139,13 +134,13 @@ accepts-in p H a t1 mu sig c_tilde z h parts x = record {
 pub same_norm : (p : ParameterSet) (sig c_tilde c_tilde' : List ℕ) (z z' h h' : List R) → 1 ≤ p.gamma1 → p.gamma1 ≤ 1048575
     → IsSignature p.gamma1 p.omega p.k p.l (commitment_length p) sig c_tilde z h → HasShortParts p sig c_tilde' z' h' → vector_norm z < p.gamma1 - p.beta
 same_norm p sig c_tilde c_tilde' z z' h h' low high parts v =
-    let same = same_signature p.gamma1 p.omega p.k p.l (commitment_length p) sig c_tilde' c_tilde z' z h' h low high v.hint parts in
+    let same = same_signature p.gamma1 p.omega p.k p.l (commitment_length p) sig c_tilde' c_tilde z' z h' h low high v.parts parts in
     subst (λ (z : List R). vector_norm z < p.gamma1 - p.beta) same.1 v.norm
 
 pub accepts-out : (p : ParameterSet) (H : List ℕ → List ℕ) (a : List (List T)) (t1 : List R) (mu sig c_tilde : List ℕ) (z h : List R) → 1 ≤ p.gamma1 → p.gamma1 ≤ 1048575
     → HasShortParts p sig c_tilde z h → Accepts p H a t1 mu sig → Gives p H a t1 mu c_tilde z h
 accepts-out p H a t1 mu sig c_tilde z h low high parts v =
-    let same = same_signature p.gamma1 p.omega p.k p.l (commitment_length p) sig v.c_tilde c_tilde v.z z v.h h low high v.hint parts.hint in
+    let same = same_signature p.gamma1 p.omega p.k p.l (commitment_length p) sig v.c_tilde c_tilde v.z z v.h h low high v.short.parts parts.parts in
     let ball = subst (λ (x : List ℕ). challenge p.tau (H x) ≡ Some v.c) same.0 v.challenge in
     let value = sym same.0 ∙ v.commitment ∙ ap (λ (z : List R). commitment p H mu (w1_prime p a t1 z v.h v.c)) same.1 ∙ ap (λ (h : List R). commitment p H mu (w1_prime p a t1 z h v.c)) same.2 in
     (v.c, ball, value)
@@ -172,10 +167,7 @@ commitment-decides p H a t1 mu sig c_tilde z h c u w k l answer known rows colum
 
 -- ranges of the parts
 pub short-response : (p : Params) (L : ℕ) (sig c_tilde : List ℕ) (z h : List R) → IsKnown p → L ≡ p.l → HasShortParts (set_of p) sig c_tilde z h → VectorWithin L 524288 z
-short-response p L sig c_tilde z h known columns parts = response-within (nat_abs p.gamma1) L z (mask-size p.gamma1 (limits p known).mask).1 (rw columns parts.hint.response)
-
-pub short-hint : (p : Params) (K : ℕ) (sig c_tilde : List ℕ) (z h : List R) → K ≡ p.k → HasShortParts (set_of p) sig c_tilde z h → IsVector K 0 1 h
-short-hint p K sig c_tilde z h rows parts = rw rows parts.hint.hint
+short-response p L sig c_tilde z h known columns parts = response-within (nat_abs p.gamma1) L z (mask-size p.gamma1 (limits p known).mask).1 (rw columns parts.parts.response)
 
 -- with the matrix at hand acceptance is that of the plain key
 pub verifies-with : (p : ParameterSet) (H G : List ℕ → List ℕ) (pk : PublicParts) (mu sig : List ℕ) (a : List (List T)) (answer : Bool)

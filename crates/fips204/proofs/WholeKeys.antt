@@ -1,71 +1,117 @@
--- A generated pair of keys: the private key is whole, the public key is its own, and whole calls that sign are accepted.
+-- Keys by their bytes, generated pairs, and what a whole private key signs.
 use Rattle.std.proofs.Common.{◌≡◌, ◌-◌, ℕ, List, length, take, drop, IsTrue, Some, None, Ok, refl, ap, sym, subst, ◌∙◌, arith, length-drop, ◌≤◌}
-use Rattle.std.specs.Prelude.{option_map}
+use Rattle.std.specs.Prelude.{option_map, ok_or}
+use Rattle.std.specs.List.{All}
 use Rattle.std.specs.declared.option.Option.{Option}
 use Rattle.std.proofs.lemmas.List.{length-take-le}
 use Rattle.std.proofs.lemmas.Option.{none-some}
 use Rattle.fips204_base.specs.declared.types.R.{R}
 use Rattle.fips204_base.specs.declared.types.T.{T}
-use Rattle.fips204_base.specs.Encodings.{public_key_bytes}
+use Rattle.fips204_base.specs.Encodings.{public_key_bytes, private_key_bytes}
 use Rattle.fips204_base.specs.MatrixEntry.{sampled_matrix}
 use Rattle.fips204_base.specs.SmallPolynomial.{small_vector}
 use Rattle.fips204_base.specs.Vectors.{IsVector}
 use Rattle.fips204_base.proofs.Sampled.{small_vector-range, some_of_ok}
 use Rattle.fips204.specs.ParameterSets.{ParameterSet, is_parameter_set}
-use Rattle.fips204.specs.Keys.{PublicParts, PrivateParts, ArePrivateParts, IsPublicKeyOf, eta_of_rows}
-use Rattle.fips204.specs.KeyGeneration.{IsWhole, high_part, key_pair, key_pair_if_all, seeds, key_generation, public_key_of}
+use Rattle.fips204.specs.Keys.{PublicParts, PrivateParts, ArePrivateParts, IsHighPart, IsPublicKeyOf, IsPrivateKeyOf, eta_of_rows}
+use Rattle.fips204.specs.KeyGeneration.{IsWhole, high_part, low_part, key_hash, key_pair, key_pair_if_all, seeds, key_generation, public_key_of}
 use Rattle.fips204.specs.Signing.{sign}
 use Rattle.fips204.specs.Acceptance.{Verifies}
 use Rattle.fips204.proofs.Completeness.{completeness}
 use Rattle.fips204.proofs.KeyGeneration.{high_part-range, low_part-range}
 use Rattle.fips204.proofs.RefusedCalls.{same_some, signed_input}
 use Rattle.fips204.proofs.ParameterSets.{AreSetNumbers, set_numbers}
-use Rattle.fips204.specs.Framing.{Input}
-use Rattle.fips204.specs.Refusals.{generated, derived, sign_input, AcceptsInput}
+use Rattle.fips204.specs.Refusals.{derived}
+use Rattle.fips204.specs.Completeness.{AcceptsSigned, IsPair, BytesTellKeys}
+use Rattle.fips204_base.specs.declared.fault.Fault.TheVariants.{SamplingLimit}
+use Rattle.fips204_base.proofs.EncodedParts.{same_private_key, IsT1, same_parts}
 
--- A generated pair of keys: the private key is whole and in range, and the public key is its own.
+-- ---- keys by their bytes
+
+-- keys of the same parts are the same
+same_public : (rho rho' tr tr' : List ℕ) (t1 t1' : List R) → rho ≡ rho' → tr ≡ tr' → t1 ≡ t1'
+    → Path PublicParts record { rho = rho; tr = tr; t1 = t1 } record { rho = rho'; tr = tr'; t1 = t1' }
+same_public rho rho' tr tr' t1 t1' e f g = cc
+
+same_private : (rho rho' key key' tr tr' : List ℕ) (s1 s1' s2 s2' t0 t0' : List R) → rho ≡ rho' → key ≡ key' → tr ≡ tr' → s1 ≡ s1' → s2 ≡ s2' → t0 ≡ t0'
+    → Path PrivateParts record { rho = rho; key = key; tr = tr; s1 = s1; s2 = s2; t0 = t0 } record { rho = rho'; key = key'; tr = tr'; s1 = s1'; s2 = s2'; t0 = t0' }
+same_private rho rho' key key' tr tr' s1 s1' s2 s2' t0 t0' e f g h i j = cc
+
+-- bytes that two public keys have
+one_public_key : (k : ℕ) (pk other : PublicParts) → length pk.rho ≡ 32 → length other.rho ≡ 32 → IsHighPart k pk.t1 → IsHighPart k other.t1 → pk.tr ≡ other.tr
+    → public_key_bytes pk.rho pk.t1 ≡ public_key_bytes other.rho other.t1 → pk ≡ other
+one_public_key k pk other seed other_seed high other_high hash same =
+    let parts = same_parts pk.rho other.rho pk.t1 other.t1 seed other_seed (high.rows ∙ sym other_high.rows) (all_high k pk.t1 high) (all_high k other.t1 other_high) same in
+    same_public pk.rho other.rho pk.tr other.tr pk.t1 other.t1 parts.0 hash parts.1
+  where
+    all_high : (n : ℕ) (v : List R) → IsHighPart n v → All IsT1 v
+    all_high n v h = λ i d l. record { range = h.range i d l; count = h.places i d l }
+
+-- and that two private keys have
+one_private_key : (p : ParameterSet) (bytes : List ℕ) (sk other : PrivateParts) → IsTrue (is_parameter_set p) → IsPrivateKeyOf p.eta p.k p.l bytes sk
+    → IsPrivateKeyOf p.eta p.k p.l bytes other → sk ≡ other
+one_private_key p bytes sk other row one two =
+    let eta = (set_numbers p row).small in
+    let parts = same_private_key p.eta p.k p.l bytes sk.rho sk.key sk.tr other.rho other.key other.tr sk.s1 sk.s2 sk.t0 other.s1 other.s2 other.t0 (omega (arith, eta)) (omega (arith, eta)) one two in
+    same_private sk.rho other.rho sk.key other.key sk.tr other.tr sk.s1 other.s1 sk.s2 other.s2 sk.t0 other.t0 parts.0 parts.1 parts.2 parts.3 parts.4 parts.5
+
+-- a private key in range has its bytes
+has_its_bytes : (p : ParameterSet) (sk : PrivateParts) (bytes : List ℕ) → IsTrue (is_parameter_set p) → ArePrivateParts p.k p.l sk
+    → private_key_bytes p.eta sk.rho sk.key sk.tr sk.s1 sk.s2 sk.t0 ≡ bytes → IsPrivateKeyOf p.eta p.k p.l bytes sk
+has_its_bytes p sk bytes row parts same =
+    let eta = sym (set_numbers p row).eta in
+    record {
+      seed = parts.seed;
+      private_seed = parts.private_seed;
+      hash = parts.hash;
+      first = subst (λ m. IsVector p.l m m sk.s1) eta parts.first;
+      second = subst (λ m. IsVector p.k m m sk.s2) eta parts.second;
+      low = parts.low;
+      encoding = same;
+    }
+
+pub bytes_tell_keys : (p : ParameterSet) → IsTrue (is_parameter_set p) → BytesTellKeys p
+bytes_tell_keys p row = record {
+  private_keys = λ first second one two same. one_private_key p _ first second row (has_its_bytes p first _ row one same) (has_its_bytes p second _ row two refl);
+  public_keys = λ first second one two hash same. one_public_key p.k first second one.seed two.seed one.high two.high hash same;
+}
 
 -- ---- a private key and its public key
-
--- the private key is whole and in range, and the public key is its own
-pub record ArePair (p : ParameterSet) (H G : List ℕ → List ℕ) (pk : PublicParts) (sk : PrivateParts) : Type 0 where
-  pub whole : IsWhole p G sk
-  pub parts : ArePrivateParts p.k p.l sk
-  pub same : pk ≡ record { rho = sk.rho; tr = sk.tr; t1 = high_part p whole.matrix sk.s1 sk.s2 }
-  pub encoded : IsPublicKeyOf H p.k (public_key_bytes pk.rho pk.t1) pk
 
 pub public_key_of_whole : (p : ParameterSet) (G : List ℕ → List ℕ) (sk : PrivateParts) → (whole : IsWhole p G sk) → public_key_of p G sk ≡ Some record { rho = sk.rho; tr = sk.tr; t1 = high_part p whole.matrix sk.s1 sk.s2 }
 unfolding public_key_of
 public_key_of_whole p G sk whole = ap (option_map (λ a. let pk : PublicParts = record { rho = sk.rho; tr = sk.tr; t1 = high_part p a sk.s1 sk.s2 } in pk)) whole.sampled
-
--- a pair's public key is what its private key gives
-pub public_key_of_pair : (p : ParameterSet) (H G : List ℕ → List ℕ) (pk : PublicParts) (sk : PrivateParts) → ArePair p H G pk sk → public_key_of p G sk ≡ Some pk
-public_key_of_pair p H G pk sk pair = public_key_of_whole p G sk pair.whole ∙ ap Some (sym pair.same)
 
 -- ---- key generation
 
 small : (p : ParameterSet) (H : List ℕ → List ℕ) (rho : List ℕ) (first count : ℕ) (v : List R) → AreSetNumbers p → small_vector p.eta H rho first count ≡ Some v → IsVector count (eta_of_rows p.k) (eta_of_rows p.k) v
 small p H rho first count v numbers e = subst (λ m. IsVector count m m v) numbers.eta (small_vector-range p.eta H rho first count v numbers.small e)
 
-pair_of_parts : (p : ParameterSet) (H G : List ℕ → List ℕ) (rho key : List ℕ) (a : List (List T)) (s1 s2 : List R) → ((x : List ℕ) → 4096 ≤ length (H x)) → length rho ≡ 32 → length key ≡ 32
-    → sampled_matrix G rho p.k p.l ≡ Some a → IsVector p.l (eta_of_rows p.k) (eta_of_rows p.k) s1 → IsVector p.k (eta_of_rows p.k) (eta_of_rows p.k) s2
-    → ArePair p H G (key_pair p H rho key a s1 s2).0 (key_pair p H rho key a s1 s2).1
+pair_of_parts : (p : ParameterSet) (H G : List ℕ → List ℕ) (rho key : List ℕ) (a : List (List T)) (s1 s2 : List R) → IsTrue (is_parameter_set p) → ((x : List ℕ) → 4096 ≤ length (H x))
+    → length rho ≡ 32 → length key ≡ 32 → sampled_matrix G rho p.k p.l ≡ Some a → IsVector p.l (eta_of_rows p.k) (eta_of_rows p.k) s1 → IsVector p.k (eta_of_rows p.k) (eta_of_rows p.k) s2
+    → IsPair p H G (key_pair p H rho key a s1 s2).0 (key_pair p H rho key a s1 s2).1
 unfolding key_pair
-pair_of_parts p H G rho key a s1 s2 law m n there first second =
+pair_of_parts p H G rho key a s1 s2 row law m n there first second =
     let t1 = high_part p a s1 s2 in
-    let long = law (public_key_bytes rho t1) in
+    let tr = key_hash H rho t1 in
+    let sk : PrivateParts = record { rho = rho; key = key; tr = tr; s1 = s1; s2 = s2; t0 = low_part p a s1 s2 } in
+    let bytes = private_key_bytes p.eta rho key tr s1 s2 (low_part p a s1 s2) in
+    let hash = length-take-le 64 (H (public_key_bytes rho t1)) (omega (arith, law (public_key_bytes rho t1))) in
+    let parts : ArePrivateParts p.k p.l sk = record { seed = m; private_seed = n; hash = hash; first = first; second = second; low = low_part-range p a s1 s2 } in
+    let whole : IsWhole p G sk = record { matrix = a; sampled = there; low = refl } in
+    let high = high_part-range p a s1 s2 in
+    let pk : PublicParts = record { rho = rho; tr = tr; t1 = t1 } in
+    let encoded : IsPublicKeyOf H p.k (public_key_bytes rho t1) pk = record { seed = m; high = high; same_bytes = refl; hash = refl } in
+    let own = has_its_bytes p sk bytes row parts refl in
     record {
-      whole = record { matrix = a; sampled = there; low = refl };
-      parts = record {
-        seed = m;
-        private_seed = n;
-        hash = length-take-le 64 (H (public_key_bytes rho t1)) (omega (arith, long));
-        first = first;
-        second = second;
-        low = low_part-range p a s1 s2;
-      };
-      same = refl;
-      encoded = record { seed = m; high = high_part-range p a s1 s2; same_bytes = refl; hash = refl };
+      parts = parts;
+      whole = whole;
+      derives = ap (λ (o : Option PublicParts). ok_or o SamplingLimit) (public_key_of_whole p G sk whole);
+      public_decoded = λ other. (
+        λ d. one_public_key p.k other pk d.seed m d.high high d.hash d.same_bytes,
+        λ e. subst (λ (k : PublicParts). IsPublicKeyOf H p.k (public_key_bytes rho t1) k) (sym e) encoded,
+      );
+      private_decoded = λ other. (λ d. one_private_key p bytes other sk row d own, λ e. subst (λ (k : PrivateParts). IsPrivateKeyOf p.eta p.k p.l bytes k) (sym e) own);
     }
 
 -- what a pair that is there was made of
@@ -96,7 +142,7 @@ made_of p H rho key (Some a) (Some s1) (Some s2) pk sk e = record {
 
 -- the keys of a seed are a pair
 pub generated_pair : (p : ParameterSet) (H G : List ℕ → List ℕ) (xi : List ℕ) (pk : PublicParts) (sk : PrivateParts) → IsTrue (is_parameter_set p) → ((x : List ℕ) → 4096 ≤ length (H x))
-    → key_generation p H G xi ≡ Some (pk, sk) → ArePair p H G pk sk
+    → key_generation p H G xi ≡ Some (pk, sk) → IsPair p H G pk sk
 unfolding key_generation
 generated_pair p H G xi pk sk row law e =
     let numbers = set_numbers p row in
@@ -107,42 +153,11 @@ generated_pair p H G xi pk sk row law e =
     let was = made_of p H rho key (sampled_matrix G rho p.k p.l) (small_vector p.eta H rho' 0 p.l) (small_vector p.eta H rho' p.l p.k) pk sk e in
     let long : 4096 ≤ length all = law _ in
     let rest : length (drop 96 all) ≡ length all - 96 = length-drop 96 all in
-    subst (λ (pair : PublicParts × PrivateParts). ArePair p H G pair.0 pair.1) was.made
-    (pair_of_parts p H G rho key was.matrix was.first was.second law (length-take-le 32 all (omega (arith, long))) (length-take-le 32 (drop 96 all) (omega (arith, long, rest)))
+    subst (λ (pair : PublicParts × PrivateParts). IsPair p H G pair.0 pair.1) was.made
+    (pair_of_parts p H G rho key was.matrix was.first was.second row law (length-take-le 32 all (omega (arith, long))) (length-take-le 32 (drop 96 all) (omega (arith, long, rest)))
     was.has_matrix (small p H rho' 0 p.l was.first numbers was.has_first) (small p H rho' p.l p.k was.second numbers was.has_second))
 
--- ---- what signing gives is accepted by the pair's public key
-
-pub pair_accepts : (p : ParameterSet) (H G : List ℕ → List ℕ) (pk : PublicParts) (sk : PrivateParts) (mu rnd signature : List ℕ) → IsTrue (is_parameter_set p) → ((x : List ℕ) → 4096 ≤ length (H x))
-    → ArePair p H G pk sk → sign p H G sk mu rnd ≡ Ok signature → Verifies p H G pk mu signature
-pair_accepts p H G pk sk mu rnd signature row law pair made =
-    subst (λ (k : PublicParts). Verifies p H G k mu signature) (sym pair.same) (completeness p H G sk mu rnd signature row pair.parts pair.whole law made)
-
--- and by the key that a whole private key gives
-pub derived_accepts : (p : ParameterSet) (H G : List ℕ → List ℕ) (pk : PublicParts) (sk : PrivateParts) (mu rnd signature : List ℕ) → IsTrue (is_parameter_set p) → ((x : List ℕ) → 4096 ≤ length (H x))
-    → ArePrivateParts p.k p.l sk → IsWhole p G sk → public_key_of p G sk ≡ Some pk → sign p H G sk mu rnd ≡ Ok signature → Verifies p H G pk mu signature
-derived_accepts p H G pk sk mu rnd signature row law parts whole derived made =
-    let own : PublicParts = record { rho = sk.rho; tr = sk.tr; t1 = high_part p whole.matrix sk.s1 sk.s2 } in
-    let same : own ≡ pk = same_some own pk (sym (public_key_of_whole p G sk whole) ∙ derived) in
-    subst (λ (k : PublicParts). Verifies p H G k mu signature) same (completeness p H G sk mu rnd signature row parts whole law made)
-
--- Whole calls: a message or a digest that is signed is accepted under the same context.
-
--- ---- keys that go together
-
--- both keys have one tr, and what the private key signs the public key accepts
-pub record GoTogether (p : ParameterSet) (H G : List ℕ → List ℕ) (pk : PublicParts) (sk : PrivateParts) : Type 0 where
-  pub hash : sk.tr ≡ pk.tr
-  pub accepts : (mu rnd signature : List ℕ) → sign p H G sk mu rnd ≡ Ok signature → Verifies p H G pk mu signature
-
-pub generated_go_together : (p : ParameterSet) (H G : List ℕ → List ℕ) (xi : List ℕ) (pk : PublicParts) (sk : PrivateParts) → IsTrue (is_parameter_set p) → ((x : List ℕ) → 4096 ≤ length (H x))
-    → generated p H G xi ≡ Ok (pk, sk) → GoTogether p H G pk sk
-generated_go_together p H G xi pk sk row law e =
-    let pair = generated_pair p H G xi pk sk row law (some_of_ok (key_generation p H G xi) (pk, sk) (sym e)) in
-    record {
-      hash = sym (ap (λ (k : PublicParts). k.tr) pair.same);
-      accepts = λ mu rnd signature made. pair_accepts p H G pk sk mu rnd signature row law pair made;
-    }
+-- ---- what a whole private key signs is accepted
 
 -- the public key of a private key has its tr
 pub derived_hash : (p : ParameterSet) (G : List ℕ → List ℕ) (sk : PrivateParts) (pk : PublicParts) → derived p G sk ≡ Ok pk → sk.tr ≡ pk.tr
@@ -153,18 +168,15 @@ derived_hash p G sk pk e = of_matrix (sampled_matrix G sk.rho p.k p.l) (some_of_
     of_matrix None none = absurd (none-some pk none)
     of_matrix (Some a) s = ap (λ (k : PublicParts). k.tr) (same_some _ pk s)
 
-pub derived_go_together : (p : ParameterSet) (H G : List ℕ → List ℕ) (pk : PublicParts) (sk : PrivateParts) → IsTrue (is_parameter_set p) → ((x : List ℕ) → 4096 ≤ length (H x))
-    → ArePrivateParts p.k p.l sk → IsWhole p G sk → derived p G sk ≡ Ok pk → GoTogether p H G pk sk
-derived_go_together p H G pk sk row law parts whole e =
-    let there = some_of_ok (public_key_of p G sk) pk (sym e) in
+pub accepts_signed : (p : ParameterSet) (H G : List ℕ → List ℕ) (pk : PublicParts) (sk : PrivateParts) → IsTrue (is_parameter_set p) → ((x : List ℕ) → 4096 ≤ length (H x))
+    → ArePrivateParts p.k p.l sk → IsWhole p G sk → derived p G sk ≡ Ok pk → AcceptsSigned p H G pk sk
+accepts_signed p H G pk sk row law parts whole derives =
+    let own : PublicParts = record { rho = sk.rho; tr = sk.tr; t1 = high_part p whole.matrix sk.s1 sk.s2 } in
+    let same : own ≡ pk = same_some own pk (sym (public_key_of_whole p G sk whole) ∙ some_of_ok (public_key_of p G sk) pk (sym derives)) in
+    let accepts = λ (mu rnd signature : List ℕ) (made : sign p H G sk mu rnd ≡ Ok signature).
+    subst (λ (k : PublicParts). Verifies p H G k mu signature) same (completeness p H G sk mu rnd signature row parts whole law made) in
     record {
-      hash = derived_hash p G sk pk e;
-      accepts = λ mu rnd signature made. derived_accepts p H G pk sk mu rnd signature row law parts whole there made;
+      hashes = accepts;
+      inputs = λ rnd signature input made.
+          signed_input H sk.tr pk.tr input (λ mu. sign p H G sk mu rnd) (λ mu. Verifies p H G pk mu signature) signature (derived_hash p G sk pk derives) (λ mu. accepts mu rnd signature) made;
     }
-
--- ---- calls
-
-pub input_accepted : (p : ParameterSet) (H G : List ℕ → List ℕ) (pk : PublicParts) (sk : PrivateParts) (rnd signature : List ℕ) (input : Input) → GoTogether p H G pk sk
-    → sign_input H sk.tr (λ mu. sign p H G sk mu rnd) input ≡ Ok signature → AcceptsInput H pk.tr (λ mu. Verifies p H G pk mu signature) input
-input_accepted p H G pk sk rnd signature input keys made =
-    signed_input H sk.tr pk.tr input (λ mu. sign p H G sk mu rnd) (λ mu. Verifies p H G pk mu signature) signature keys.hash (λ mu. keys.accepts mu rnd signature) made

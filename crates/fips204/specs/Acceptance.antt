@@ -32,19 +32,18 @@ w1_prime p a t1 z h c = hinted p h (w_approx p a t1 z c)
 
 -- the signature has these parts, so that its last bytes spell the hint h, and the norm of z is small
 pub record HasShortParts (p : ParameterSet) (signature c_tilde : List ℕ) (z h : List R) : Type 0 where
-  pub hint : IsSignature p.gamma1 p.omega p.k p.l (commitment_length p) signature c_tilde z h
+  pub parts : IsSignature p.gamma1 p.omega p.k p.l (commitment_length p) signature c_tilde z h
   pub norm : vector_norm z < p.gamma1 - p.beta
 
--- ML-DSA.Verify_internal (Algorithm 8) from mu, with the matrix a: the signature has parts, so that its last bytes spell the
--- hint h; there is a challenge; the norm of z is small; and c_tilde is the one that w1' gives
+-- ML-DSA.Verify_internal (Algorithm 8) from mu, with the matrix a: the signature has such parts, there is a challenge, and
+-- c_tilde is the one that w1' gives
 pub record Accepts (p : ParameterSet) (H : List ℕ → List ℕ) (a : List (List T)) (t1 : List R) (mu signature : List ℕ) : Type 0 where
   pub c_tilde : List ℕ
   pub z : List R
   pub h : List R
-  pub hint : IsSignature p.gamma1 p.omega p.k p.l (commitment_length p) signature c_tilde z h
+  pub short : HasShortParts p signature c_tilde z h
   pub c : R
   pub challenge : challenge p.tau (H c_tilde) ≡ Some c
-  pub norm : vector_norm z < p.gamma1 - p.beta
   pub commitment : c_tilde ≡ commitment p H mu (w1_prime p a t1 z h c)
 
 -- the same with a plain key, whose matrix has to be there

@@ -1,22 +1,20 @@
--- What is signed is accepted (FIPS 204, Algorithms 1 to 8).
-use Rattle.std.specs.Prelude.{◌≡◌, ◌≤◌, ℕ, List, length, IsTrue, Result, Ok}
+-- What is signed is accepted, and what makes two keys a pair (FIPS 204, Algorithms 1 to 8).
+use Rattle.std.specs.Prelude.{◌≡◌, ◌≤◌, ◌↔◌, ℕ, List, length, IsTrue, Result, Ok}
 use Rattle.fips204_base.specs.declared.fault.Fault.{Fault}
 use Rattle.fips204_base.specs.Encodings.{public_key_bytes, private_key_bytes}
 use Rattle.fips204.specs.ParameterSets.{ParameterSet, is_parameter_set}
-use Rattle.fips204.specs.Keys.{PublicParts, PrivateParts, ArePrivateParts, IsPublicKeyOf, IsPrivateKeyOf}
+use Rattle.fips204.specs.Keys.{PublicParts, PrivateParts, ArePublicParts, ArePrivateParts, IsPublicKeyOf, IsPrivateKeyOf}
+use Rattle.fips204.specs.Framing.{Input}
 use Rattle.fips204.specs.KeyGeneration.{IsWhole}
 use Rattle.fips204.specs.Signing.{sign}
 use Rattle.fips204.specs.Acceptance.{Verifies}
-use Rattle.fips204.specs.Refusals.{generated, derived, sign_message, sign_digest, VerifiesMessage, VerifiesDigest}
+use Rattle.fips204.specs.Refusals.{generated, derived, sign_input, AcceptsInput}
 
--- the public key accepts what the private key signs, whatever the random bytes: a hash mu, a message under its context, and
--- a digest under its context and OID
+-- the public key accepts what the private key signs, whatever the random bytes: a hash mu, and an input
 pub record AcceptsSigned (p : ParameterSet) (H G : List ℕ → List ℕ) (pk : PublicParts) (sk : PrivateParts) : Type 0 where
   pub hashes : (mu rnd signature : List ℕ) → sign p H G sk mu rnd ≡ Ok signature → Verifies p H G pk mu signature
-  pub messages : (rnd message context signature : List ℕ) → sign_message p H G sk rnd message context ≡ Ok signature
-      → VerifiesMessage p H G pk message signature context
-  pub digests : (rnd digest context oid signature : List ℕ) → sign_digest p H G sk rnd digest context oid ≡ Ok signature
-      → VerifiesDigest p H G pk digest signature context oid
+  pub inputs : (rnd signature : List ℕ) (input : Input) → sign_input H sk.tr (λ mu. sign p H G sk mu rnd) input ≡ Ok signature
+      → AcceptsInput H pk.tr (λ mu. Verifies p H G pk mu signature) input
 
 -- what a signing call answers is accepted: where the private key is whole, by the public key that is derived of it
 abbrev pub AcceptedIfWhole : {P S : Type 0} → Type 0 → Result P Fault → (P → S → Type 0) → Result S Fault → Type 0
@@ -26,23 +24,28 @@ AcceptedIfWhole {P} {S} whole derives accepts answer = (pk : P) (signature : S) 
 abbrev pub HashAccepted : ParameterSet → (List ℕ → List ℕ) → (List ℕ → List ℕ) → PrivateParts → List ℕ → Result (List ℕ) Fault → Type 0
 HashAccepted p H G sk mu answer = AcceptedIfWhole (IsWhole p G sk) (derived p G sk) (λ pk signature. Verifies p H G pk mu signature) answer
 
--- keys that come of a seed: both keys that it generates; and of keys that come of it also the public key that their bytes
--- decode to, the private key that its bytes decode to, and the public key that is derived of the private one
-pub data ComeOfSeed (p : ParameterSet) (H G : List ℕ → List ℕ) (xi : List ℕ) : PublicParts → PrivateParts → Type 0 where
-  both_generated : (pk : PublicParts) (sk : PrivateParts) → generated p H G xi ≡ Ok (pk, sk) → ComeOfSeed p H G xi pk sk
-  public_decoded : (pk other : PublicParts) (sk : PrivateParts) → ComeOfSeed p H G xi pk sk
-      → IsPublicKeyOf H p.k (public_key_bytes pk.rho pk.t1) other → ComeOfSeed p H G xi other sk
-  private_decoded : (pk : PublicParts) (sk other : PrivateParts) → ComeOfSeed p H G xi pk sk
-      → IsPrivateKeyOf p.eta p.k p.l (private_key_bytes p.eta sk.rho sk.key sk.tr sk.s1 sk.s2 sk.t0) other → ComeOfSeed p H G xi pk other
-  public_derived : (pk other : PublicParts) (sk : PrivateParts) → ComeOfSeed p H G xi pk sk
-      → derived p G sk ≡ Ok other → ComeOfSeed p H G xi other sk
+-- two keys are a pair: the private one is in range and whole, the public one is derived of it, and each is the one key that
+-- its bytes decode to
+pub record IsPair (p : ParameterSet) (H G : List ℕ → List ℕ) (pk : PublicParts) (sk : PrivateParts) : Type 0 where
+  pub parts : ArePrivateParts p.k p.l sk
+  pub whole : IsWhole p G sk
+  pub derives : derived p G sk ≡ Ok pk
+  pub public_decoded : (other : PublicParts) → IsPublicKeyOf H p.k (public_key_bytes pk.rho pk.t1) other ↔ (other ≡ pk)
+  pub private_decoded : (other : PrivateParts) → IsPrivateKeyOf p.eta p.k p.l (private_key_bytes p.eta sk.rho sk.key sk.tr sk.s1 sk.s2 sk.t0) other ↔ (other ≡ sk)
 
 -- at each of the three sets and over any two streams: what a whole private key signs is accepted by the public key that is
--- derived of it; and keys that come of a seed are the keys that it generates, and the public one accepts what the private
--- one signs
+-- derived of it; and keys that a seed generates are a pair, whose public key accepts what the private one signs
 abbrev pub SignedIsAccepted : Type 0
 SignedIsAccepted =
     (p : ParameterSet) (H G : List ℕ → List ℕ) (pk : PublicParts) (sk : PrivateParts) → IsTrue (is_parameter_set p)
     → ((x : List ℕ) → 4096 ≤ length (H x))
     → (ArePrivateParts p.k p.l sk → IsWhole p G sk → derived p G sk ≡ Ok pk → AcceptsSigned p H G pk sk)
-    × ((xi : List ℕ) → ComeOfSeed p H G xi pk sk → (generated p H G xi ≡ Ok (pk, sk)) × AcceptsSigned p H G pk sk)
+    × ((xi : List ℕ) → generated p H G xi ≡ Ok (pk, sk) → IsPair p H G pk sk × AcceptsSigned p H G pk sk)
+
+-- keys in range are the same where their bytes are: two private keys, and two public keys with the same tr
+pub record BytesTellKeys (p : ParameterSet) : Type 0 where
+  pub private_keys : (first second : PrivateParts) → ArePrivateParts p.k p.l first → ArePrivateParts p.k p.l second
+      → private_key_bytes p.eta first.rho first.key first.tr first.s1 first.s2 first.t0 ≡ private_key_bytes p.eta second.rho second.key second.tr second.s1 second.s2 second.t0
+      → first ≡ second
+  pub public_keys : (first second : PublicParts) → ArePublicParts p.k first → ArePublicParts p.k second → first.tr ≡ second.tr
+      → public_key_bytes first.rho first.t1 ≡ public_key_bytes second.rho second.t1 → first ≡ second

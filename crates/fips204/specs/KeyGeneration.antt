@@ -1,5 +1,7 @@
 -- Key generation (FIPS 204, Algorithm 6), over streams H and G.
-use Rattle.std.specs.Prelude.{◌≡◌, ℕ, List, [], ◌∷◌, ◌++◌, pos, take, drop, Option, Some, None, option_map}
+use Rattle.std.specs.Prelude.{◌≡◌, ◌≢◌, ◌↔◌, ℕ, List, [], ◌∷◌, ◌++◌, pos, take, drop, Bool, IsTrue, Option, Some, None, option_map, Result, MatchResult}
+use Rattle.fips204_base.specs.declared.fault.Fault.{Fault}
+use Rattle.fips204_base.specs.declared.fault.Fault.TheVariants.{SamplingLimit}
 use Rattle.fips204_base.specs.declared.types.R.{R}
 use Rattle.fips204_base.specs.declared.types.T.{T}
 use Rattle.fips204_base.specs.Products.{plus}
@@ -56,6 +58,11 @@ pub record IsWhole (p : ParameterSet) (G : List ℕ → List ℕ) (sk : PrivateP
   pub matrix : List (List T)
   pub sampled : sampled_matrix G sk.rho p.k p.l ≡ Some matrix
   pub low : sk.t0 ≡ low_part p matrix sk.s1 sk.s2
+
+-- an answer to whether a private key is whole; it is a refusal where there is no matrix, and only there
+abbrev pub TellsWhole : ParameterSet → (List ℕ → List ℕ) → PrivateParts → Result Bool Fault → Type 0
+TellsWhole p G sk answer = MatchResult answer (λ whole. (sampled_matrix G sk.rho p.k p.l ≢ None) × (IsTrue whole ↔ IsWhole p G sk))
+    (λ fault. (sampled_matrix G sk.rho p.k p.l ≡ None) × (fault ≡ SamplingLimit))
 
 -- the public key of a private key: its rho and tr, and the high part of A s1 + s2; none where the matrix is none
 unfoldable pub public_key_of : ParameterSet → (List ℕ → List ℕ) → PrivateParts → Option PublicParts

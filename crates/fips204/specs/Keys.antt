@@ -16,6 +16,12 @@ pub record PublicParts : Type 0 where
 abbrev pub IsHighPart : ℕ → List R → Type 0
 IsHighPart k t1 = IsVector k 0 1023 t1
 
+-- the parts have the lengths and ranges of a public key of k polynomials
+pub record ArePublicParts (k : ℕ) (pk : PublicParts) : Type 0 where
+  pub seed : length pk.rho ≡ 32
+  pub hash : length pk.tr ≡ 64
+  pub high : IsHighPart k pk.t1
+
 -- the public key, with k polynomials, that has these bytes, over the stream H
 pub record IsPublicKeyOf (H : List ℕ → List ℕ) (k : ℕ) (bytes : List ℕ) (key : PublicParts) : Type 0 where
   pub seed : length key.rho ≡ 32

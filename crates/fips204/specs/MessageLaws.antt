@@ -5,7 +5,7 @@ use Rattle.fips204.specs.ParameterSets.{ParameterSet, is_parameter_set, commitme
 use Rattle.fips204.specs.Keys.{PublicParts}
 use Rattle.fips204.specs.Acceptance.{Verifies, w1_prime}
 use Rattle.fips204.specs.Framing.{Input, framed_input, message_hash}
-use Rattle.fips204.specs.Refusals.{input_fault}
+use Rattle.fips204.specs.Refusals.{input_fault, AcceptsInput}
 
 -- inputs that break no condition have the same M' only if they are the same, mode and part by part
 abbrev pub FramingIsOneToOne : Type 0
@@ -17,17 +17,26 @@ pub record Collide (H : List ℕ → List ℕ) (n : ℕ) (x y : List ℕ) : Type
   pub same : take n (H x) ≡ take n (H y)
 
 -- the encoded w1' of a signature that is accepted
-abbrev pub accepted_w1 : (p : ParameterSet) (H G : List ℕ → List ℕ) (pk : PublicParts) (mu signature : List ℕ) → Verifies p H G pk mu signature → List ℕ
-accepted_w1 p H G pk mu signature v = w1_bytes p.gamma2 (w1_prime p v.a pk.t1 v.accepted.z v.accepted.h v.accepted.c)
+abbrev pub accepted_w1 : {p : ParameterSet} {H G : List ℕ → List ℕ} {pk : PublicParts} {mu signature : List ℕ} → Verifies p H G pk mu signature → List ℕ
+accepted_w1 {p} {H} {G} {pk} v = w1_bytes p.gamma2 (w1_prime p v.a pk.t1 v.accepted.z v.accepted.h v.accepted.c)
 
 -- one signature that a key accepts for two different M' has one encoded w1', and gives a collision: of the two M' in mu,
 -- or of the two mu in c_tilde
 abbrev pub SignatureBindsMessage : Type 0
 SignatureBindsMessage =
     (p : ParameterSet) (H G : List ℕ → List ℕ) (pk : PublicParts) (m n signature : List ℕ) → IsTrue (is_parameter_set p) → m ≢ n
-    → (first : Verifies p H G pk (message_hash H pk.tr m) signature) → (second : Verifies p H G pk (message_hash H pk.tr n) signature)
-    → (accepted_w1 p H G pk (message_hash H pk.tr m) signature first ≡ accepted_w1 p H G pk (message_hash H pk.tr n) signature second)
-    × (Collide H 64 (pk.tr ++ m) (pk.tr ++ n)
-    ⊎ Collide H (commitment_length p)
-    (message_hash H pk.tr m ++ accepted_w1 p H G pk (message_hash H pk.tr m) signature first)
-    (message_hash H pk.tr n ++ accepted_w1 p H G pk (message_hash H pk.tr m) signature first))
+    → let mu = message_hash H pk.tr m in
+    let nu = message_hash H pk.tr n in
+    (first : Verifies p H G pk mu signature) → (second : Verifies p H G pk nu signature) → (accepted_w1 first ≡ accepted_w1 second)
+    × (Collide H 64 (pk.tr ++ m) (pk.tr ++ n) ⊎ Collide H (commitment_length p) (mu ++ accepted_w1 first) (nu ++ accepted_w1 first))
+
+-- so does one signature that a key accepts for two different inputs: messages or digests under their contexts
+abbrev pub SignatureBindsInput : Type 0
+SignatureBindsInput =
+    (p : ParameterSet) (H G : List ℕ → List ℕ) (pk : PublicParts) (x y : Input) (signature : List ℕ) → IsTrue (is_parameter_set p) → x ≢ y
+    → let mu = message_hash H pk.tr (framed_input x) in
+    let nu = message_hash H pk.tr (framed_input y) in
+    (first : AcceptsInput H pk.tr (λ m. Verifies p H G pk m signature) x) → (second : AcceptsInput H pk.tr (λ m. Verifies p H G pk m signature) y)
+    → let w1 = accepted_w1 first.accepted in
+    (w1 ≡ accepted_w1 second.accepted)
+    × (Collide H 64 (pk.tr ++ framed_input x) (pk.tr ++ framed_input y) ⊎ Collide H (commitment_length p) (mu ++ w1) (nu ++ w1))

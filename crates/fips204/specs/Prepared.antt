@@ -6,11 +6,11 @@ use Rattle.fips204_base.specs.declared.types.T.{T}
 use Rattle.fips204_base.specs.MatrixEntry.{sampled_matrix}
 use Rattle.fips204.specs.ParameterSets.{ParameterSet}
 use Rattle.fips204.specs.Keys.{PublicParts, PrivateParts}
-use Rattle.fips204.specs.KeyGeneration.{high_part, low_part}
-use Rattle.fips204.specs.Framing.{plain, hashed}
+use Rattle.fips204.specs.KeyGeneration.{high_part, low_part, IsWhole}
+use Rattle.fips204.specs.Framing.{Input, plain, hashed}
 use Rattle.fips204.specs.Signing.{sign, sign_with}
 use Rattle.fips204.specs.Acceptance.{Accepts, Verifies}
-use Rattle.fips204.specs.Refusals.{sign_input, AcceptsInput, sign_message, sign_digest, VerifiesMessage, VerifiesDigest}
+use Rattle.fips204.specs.Refusals.{derived, sign_input, AcceptsInput, sign_message, VerifiesMessage}
 
 -- a key's parts and a matrix
 pub record PreparedPrivate : Type 0 where
@@ -47,17 +47,23 @@ VerifiesMessagePrepared p H pk message signature context = AcceptsInput H pk.par
 abbrev pub VerifiesDigestPrepared : ParameterSet → (List ℕ → List ℕ) → PreparedPublic → List ℕ → List ℕ → List ℕ → List ℕ → Type 0
 VerifiesDigestPrepared p H pk digest signature context oid = AcceptsInput H pk.parts.tr (λ mu. VerifiesPrepared p H pk mu signature) (hashed context oid digest)
 
+-- an answer for each message: what signs gives for its own random bytes and the message
+abbrev pub IsEachSigned : (List ℕ → List ℕ → Result (List ℕ) Fault) → List (List ℕ) → List (List ℕ) → List (Result (List ℕ) Fault) → Type 0
+IsEachSigned signs seeds messages answers = (length answers ≡ length messages)
+    × ((i : ℕ) → i < length messages → slice_index_or answers i (Err SamplingLimit) ≡ signs (slice_index_or seeds i []) (slice_index_or messages i []))
+
+-- an answer for each message: true if and only if it is accepted with its signature
+abbrev pub IsEachJudged : (List ℕ → List ℕ → Type 0) → List (List ℕ) → List (List ℕ) → List Bool → Type 0
+IsEachJudged accepts messages signatures answers = (length answers ≡ length messages)
+    × ((i : ℕ) → i < length messages → IsTrue (slice_index_or answers i false) ↔ accepts (slice_index_or messages i []) (slice_index_or signatures i []))
+
 -- each message is signed under the context, with its own random bytes
 abbrev pub SignsEach : ParameterSet → (List ℕ → List ℕ) → PreparedPrivate → List (List ℕ) → List (List ℕ) → List ℕ → List (Result (List ℕ) Fault) → Type 0
-SignsEach p H sk seeds messages context answers = (length answers ≡ length messages)
-    × ((i : ℕ) → i < length messages
-    → slice_index_or answers i (Err SamplingLimit) ≡ sign_message_prepared p H sk (slice_index_or seeds i []) (slice_index_or messages i []) context)
+SignsEach p H sk seeds messages context answers = IsEachSigned (λ rnd message. sign_message_prepared p H sk rnd message context) seeds messages answers
 
 -- each answer is whether the signature of its message is accepted under the context
 abbrev pub VerifiesEach : ParameterSet → (List ℕ → List ℕ) → PreparedPublic → List (List ℕ) → List (List ℕ) → List ℕ → List Bool → Type 0
-VerifiesEach p H pk messages signatures context answers = (length answers ≡ length messages)
-    × ((i : ℕ) → i < length messages
-    → IsTrue (slice_index_or answers i false) ↔ VerifiesMessagePrepared p H pk (slice_index_or messages i []) (slice_index_or signatures i []) context)
+VerifiesEach p H pk messages signatures context answers = IsEachJudged (λ message signature. VerifiesMessagePrepared p H pk message signature context) messages signatures answers
 
 -- a whole prepared private key: its t0 comes of A s1 + s2 by power2round; the public key that belongs to it has the high part
 abbrev pub IsWholePrepared : ParameterSet → PreparedPrivate → Type 0
@@ -70,17 +76,23 @@ public_of_prepared p sk = record { parts = record { rho = sk.parts.rho; tr = sk.
 abbrev pub AcceptedIfWholePrepared : ParameterSet → PreparedPrivate → (PreparedPublic → List ℕ → Type 0) → Result (List ℕ) Fault → Type 0
 AcceptedIfWholePrepared p sk accepts answer = (signature : List ℕ) → IsWholePrepared p sk → answer ≡ Ok signature → accepts (public_of_prepared p sk) signature
 
--- a prepared key answers as its plain key
+-- a prepared key answers as its plain key: over a hash mu, an input, and lists of messages; it is whole if and only if the plain
+-- key is; and preparing a derived public key gives the public key that belongs to it
 pub record PreparedAnswersAsPlain (p : ParameterSet) (H G : List ℕ → List ℕ) : Type 0 where
   pub sign_hash : (sk : PrivateParts) (prepared : PreparedPrivate) (mu rnd : List ℕ) → prepared_private p G sk ≡ Ok prepared
       → sign_prepared p H prepared mu rnd ≡ sign p H G sk mu rnd
-  pub sign_message : (sk : PrivateParts) (prepared : PreparedPrivate) (rnd message context : List ℕ) → prepared_private p G sk ≡ Ok prepared
-      → sign_message_prepared p H prepared rnd message context ≡ sign_message p H G sk rnd message context
-  pub sign_digest : (sk : PrivateParts) (prepared : PreparedPrivate) (rnd digest context oid : List ℕ) → prepared_private p G sk ≡ Ok prepared
-      → sign_digest_prepared p H prepared rnd digest context oid ≡ sign_digest p H G sk rnd digest context oid
+  pub sign_inputs : (sk : PrivateParts) (prepared : PreparedPrivate) (rnd : List ℕ) (input : Input) → prepared_private p G sk ≡ Ok prepared
+      → sign_input H prepared.parts.tr (λ mu. sign_prepared p H prepared mu rnd) input ≡ sign_input H sk.tr (λ mu. sign p H G sk mu rnd) input
+  pub sign_lists : (sk : PrivateParts) (prepared : PreparedPrivate) (seeds messages : List (List ℕ)) (context : List ℕ) (answers : List (Result (List ℕ) Fault))
+      → prepared_private p G sk ≡ Ok prepared → SignsEach p H prepared seeds messages context answers
+      → IsEachSigned (λ rnd message. sign_message p H G sk rnd message context) seeds messages answers
   pub verify_hash : (pk : PublicParts) (prepared : PreparedPublic) (mu signature : List ℕ) → prepared_public p G pk ≡ Ok prepared
       → VerifiesPrepared p H prepared mu signature ↔ Verifies p H G pk mu signature
-  pub verify_message : (pk : PublicParts) (prepared : PreparedPublic) (message signature context : List ℕ) → prepared_public p G pk ≡ Ok prepared
-      → VerifiesMessagePrepared p H prepared message signature context ↔ VerifiesMessage p H G pk message signature context
-  pub verify_digest : (pk : PublicParts) (prepared : PreparedPublic) (digest signature context oid : List ℕ) → prepared_public p G pk ≡ Ok prepared
-      → VerifiesDigestPrepared p H prepared digest signature context oid ↔ VerifiesDigest p H G pk digest signature context oid
+  pub verify_inputs : (pk : PublicParts) (prepared : PreparedPublic) (signature : List ℕ) (input : Input) → prepared_public p G pk ≡ Ok prepared
+      → AcceptsInput H prepared.parts.tr (λ mu. VerifiesPrepared p H prepared mu signature) input ↔ AcceptsInput H pk.tr (λ mu. Verifies p H G pk mu signature) input
+  pub verify_lists : (pk : PublicParts) (prepared : PreparedPublic) (messages signatures : List (List ℕ)) (context : List ℕ) (answers : List Bool)
+      → prepared_public p G pk ≡ Ok prepared → VerifiesEach p H prepared messages signatures context answers
+      → IsEachJudged (λ message signature. VerifiesMessage p H G pk message signature context) messages signatures answers
+  pub whole : (sk : PrivateParts) (prepared : PreparedPrivate) → prepared_private p G sk ≡ Ok prepared → IsWholePrepared p prepared ↔ IsWhole p G sk
+  pub public_key : (sk : PrivateParts) (prepared : PreparedPrivate) (pk : PublicParts) → prepared_private p G sk ≡ Ok prepared → derived p G sk ≡ Ok pk
+      → prepared_public p G pk ≡ Ok (public_of_prepared p prepared)

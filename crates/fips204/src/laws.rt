@@ -6,13 +6,13 @@
 #![tactic(auto)]
 
 ghost use Rattle.fips204_base.specs.Laws.{ProductOfTransforms, InverseOfTransform};
-ghost use Rattle.fips204.specs.Completeness.{SignedIsAccepted};
+ghost use Rattle.fips204.specs.Completeness.{SignedIsAccepted, BytesTellKeys};
 ghost use Rattle.fips204.specs.Constants.{ConstantsStand, LengthsStand};
-ghost use Rattle.fips204.specs.LongerFronts.{LongerFrontsKeep};
-ghost use Rattle.fips204.specs.MessageLaws.{FramingIsOneToOne, SignatureBindsMessage};
+ghost use Rattle.fips204.specs.LongerFronts.{CounterFrontsArePrefixes, LongerFrontsKeep};
+ghost use Rattle.fips204.specs.MessageLaws.{FramingIsOneToOne, SignatureBindsMessage, SignatureBindsInput};
 ghost use Rattle.fips204.specs.Prepared.{PreparedAnswersAsPlain};
-ghost use Rattle.fips204.specs.ParameterSets.{ParameterSet};
-ghost use Rattle.std.specs.Prelude.{ℕ, List};
+ghost use Rattle.fips204.specs.ParameterSets.{ParameterSet, is_parameter_set};
+ghost use Rattle.std.specs.Prelude.{ℕ, List, IsTrue};
 ghost use Rattle.fips204.specs.SchemeLaws.{HintGivesHighBits, HintStaysNear, HighBitsStay, ChallengeProductIsSmall, SignatureHasOneSpelling, HintHasOneSpelling};
 
 use crate::xof::Xof;
@@ -78,32 +78,47 @@ pub fn framing()
 {}
 
 /// A signature binds its message as firmly as the stream `H` has no collisions: where one public key
-/// accepts one signature for two framed messages that differ, either these collide in the 64 bytes of mu,
-/// or the two values of mu collide, before the one encoded `w1`, in the bytes of `c_tilde`.
+/// accepts one signature for two framed messages that differ, or for two inputs that differ, either the framed
+/// messages collide in the 64 bytes of mu, or the two values of mu collide, before the one encoded `w1`, in the
+/// bytes of `c_tilde`.
 pub fn binding()
-    ensures { SignatureBindsMessage }
+    ensures framed { SignatureBindsMessage }
+    ensures inputs { SignatureBindsInput }
 {}
 
-/// What a whole private key signs is accepted by the public key that is derived of it. And both keys of a
-/// seed stay the same where they go through their bytes, or where the public key is derived of the private
-/// one; so what the private key signs is accepted by the public key, whichever way the two came. Both hold
-/// of messages, digests and the hooks' hashes, and whatever the random bytes.
+/// What a whole private key signs is accepted by the public key that is derived of it. The keys of a seed are such
+/// a pair: the private one is whole, the public one is derived of it, and each is the one key that its bytes decode
+/// to; so what the private key signs is accepted by the public key, whichever way the two came. Both hold of
+/// messages, digests and the hooks' hashes, and whatever the random bytes.
 pub fn signed_is_accepted()
     ensures { SignedIsAccepted }
 {}
 
+/// Keys in range that have the same bytes are the same: two private keys, and two public keys with the same `tr`.
+pub fn key_bytes()
+    ensures { (p : ParameterSet) → IsTrue (is_parameter_set p) → BytesTellKeys p }
+{}
+
 /// A prepared key answers as the key that it was prepared of: what it signs and accepts of messages, digests
 /// and the hooks' hashes is what the plain key signs and accepts; and so is each entry of `sign_each` and
-/// `verify_each`, which are stated in terms of the single calls.
+/// `verify_each`. It is whole if and only if the plain key is; and where a public key is derived of the plain key,
+/// preparing it gives the public key that belongs to the prepared one.
 pub fn prepared_keys()
     ensures { (p : ParameterSet) (H G : List ℕ → List ℕ) → PreparedAnswersAsPlain p H G }
 {}
 
+/// Fewer blocks of a stream in counter mode are a prefix of more: so the fronts of `Sha256Ctr` are prefixes of those
+/// of `Sha256CtrLong`, those of `Sha512Ctr` of those of `Sha512CtrLong`, and likewise for streams of a user's own.
+pub fn counter_fronts()
+    ensures { CounterFrontsArePrefixes }
+{}
+
 /// Longer fronts keep answers. Where each front of `H` is a prefix of the matching front of `LongerH`, and
-/// each front of `G` one of that of `LongerG`: a matrix entry, a small polynomial or a challenge that the
-/// first pair gives is the second's. So these stay: a key pair, a derived public key, a signature, the
+/// each front of `G` one of that of `LongerG`: a matrix or an entry of it, a small polynomial or a challenge that the
+/// first pair gives is the second's. So these stay: a key pair, a derived public key, a prepared key, a signature, the
 /// refusal of too many attempts, a yes of a verifying call, and a no of one where the matrix of the key and
-/// the challenge of the signature are there. All this holds of messages, digests and the hooks' hashes.
+/// the challenge of the signature are there, or where the hint is misspelled, `z` too large, or a condition on context,
+/// object identifier and digest broken. All this holds of messages, digests and the hooks' hashes.
 /// What may change is the refusal `SamplingLimit`, and the no of a verifying call for a passed limit.
 pub fn longer_front<H: Xof, G: Xof, LongerH: Xof, LongerG: Xof>()
     ensures { LongerFrontsKeep H.front G.front LongerH.front LongerG.front }

@@ -1,11 +1,12 @@
--- How long the fronts of the streams in counter mode are.
-use Rattle.std.proofs.Common.{◌≡◌, ℕ, zero, suc, ◌*◌, List, ◌++◌, length, length-append, arith}
+-- How long the fronts of the streams in counter mode are, and that fewer blocks are a prefix of more.
+use Rattle.std.proofs.Common.{◌≡◌, ◌≤◌, ◌+◌, ◌-◌, ℕ, zero, suc, ◌*◌, List, ◌++◌, length, take, length-append, length-take, ap, subst, ◌∙◌, arith}
+use Rattle.std.proofs.lemmas.List.{take_all, take-append-le}
 use Rattle.std.specs.Int.{w32, to_le_bytes}
 use Rattle.sha2.specs.Sha256.{sha256}
 use Rattle.sha2.specs.Sha512.{sha512}
 use Rattle.sha2.proofs.Facts256.{length-sha256}
 use Rattle.sha2.proofs.Facts512.{length-sha512}
-use Rattle.fips204_base.specs.Streams.{counter_block, counter_blocks, sha256_front, sha512_front, sha256_long_front, sha512_long_front}
+use Rattle.fips204_base.specs.Streams.{counter_block, counter_blocks, sha256_front, sha512_front, sha256_long_front, sha512_long_front, IsPrefix}
 
 -- a hash whose digests have `size` bytes
 module _ (hash : List ℕ → List ℕ) (size : ℕ) (sized : (message : List ℕ) → length (hash message) ≡ size) (seed : List ℕ) where
@@ -35,3 +36,19 @@ length-sha512_front input = length-counter_blocks sha512 64 length-sha512 (sha51
 
 pub length-sha512_long_front : (input : List ℕ) → length (sha512_long_front input) ≡ 16384
 length-sha512_long_front input = length-counter_blocks sha512 64 length-sha512 (sha512 input) 256
+
+-- the first blocks are a prefix of themselves with more
+counter_blocks-more : (hash : List ℕ → List ℕ) (seed : List ℕ) (n extra : ℕ) → IsPrefix (counter_blocks hash seed n) (counter_blocks hash seed (n + extra))
+unfolding counter_blocks
+counter_blocks-more hash seed n zero = let same : n + 0 ≡ n = omega arith in rw same (take_all (length (counter_blocks hash seed n)) (counter_blocks hash seed n) (omega arith))
+counter_blocks-more hash seed n (suc extra) =
+    let next : n + suc extra ≡ suc (n + extra) = omega arith in
+    let before = counter_blocks-more hash seed n extra in
+    let enough : length (counter_blocks hash seed n) ≤ length (counter_blocks hash seed (n + extra)) = omega (arith, ap length before, length-take (length (counter_blocks hash seed n)) (counter_blocks hash seed (n + extra))) in
+    rw next (take-append-le (length (counter_blocks hash seed n)) (counter_blocks hash seed (n + extra)) (counter_block hash seed (n + extra)) enough ∙ before)
+
+-- so fewer blocks are a prefix of more
+pub counter_blocks-prefix : (hash : List ℕ → List ℕ) (seed : List ℕ) (n m : ℕ) → n ≤ m → IsPrefix (counter_blocks hash seed n) (counter_blocks hash seed m)
+counter_blocks-prefix hash seed n m l =
+    let whole : n + (m - n) ≡ m = omega (arith, l) in
+    subst (λ k. IsPrefix (counter_blocks hash seed n) (counter_blocks hash seed k)) whole (counter_blocks-more hash seed n (m - n))

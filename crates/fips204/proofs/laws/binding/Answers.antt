@@ -1,5 +1,8 @@
-use Rattle.fips204.proofs.Framing.{signature_binds_message}
+use Rattle.fips204.proofs.Framing.{signature_binds_message, signature_binds_input}
 use Rattle.fips204.proofs.laws.binding.Goals as goal
 
-pub returns : goal.returns
-returns _ = signature_binds_message
+pub returns-clause-framed : goal.returns-clause-framed
+returns-clause-framed _ = signature_binds_message
+
+pub returns-clause-inputs : goal.returns-clause-inputs
+returns-clause-inputs _ = signature_binds_input

@@ -73,7 +73,7 @@ returns-in-Err g c =
     let here : challenge (nat_abs p.tau) (front c.in_ok-c_tilde.c_tilde) ≡ None = rw T at fault.0 in
     λ c_tilde z h ball found there.
     let same = same_signature (nat_abs p.gamma1) (nat_abs p.omega) p.k p.l (commitment_length (set_of p)) c.args.sig.now c.in_ok-c_tilde.c_tilde c_tilde c.in_ok-c_tilde.z z c.in_ok-c_tilde.h h
-    sizes.0 (omega (arith, sizes.1)) (decoded g k) found.hint in
+    sizes.0 (omega (arith, sizes.1)) (decoded g k) found.parts in
     absurd (none-some ball (sym here ∙ ap (λ (x : List ℕ). challenge (nat_abs p.tau) (front x)) same.0 ∙ there))
 
 pub returns-in-Ok : goal.returns-in-Ok
@@ -83,4 +83,4 @@ returns-in-Ok g c =
     let front = g.H.Xof.front in
     let T : to_z w32 (of_z w32 p.tau) ≡ p.tau = search rules in
     let ball = some_of_ok (challenge (nat_abs (to_z w32 (of_z w32 p.tau))) (front c.in_ok-c_tilde.c_tilde)) c.in-Ok.c c.in-Ok.ensures in
-    (record { hint = decoded g k; norm = ltb-true _ _ (sym (rw (bound-is g k) at c.has_norm_below.ensures) ∙ c.if-not-has_norm_below.false) }, rw T at ball)
+    (record { parts = decoded g k; norm = ltb-true _ _ (sym (rw (bound-is g k) at c.has_norm_below.ensures) ∙ c.if-not-has_norm_below.false) }, rw T at ball)
