@@ -26,4 +26,5 @@ pub mod Vectors
 pub mod LaneBatches
 mod WorkedArithmetic
 mod WorkedBytes
+mod WorkedEncodings
 mod WorkedSamplers

@@ -1,11 +1,11 @@
 -- Worked values of residues, products, transforms, norms and rounding.
-use Rattle.std.proofs.Common.{◌≡◌, pos, negsuc, [], ◌∷◌, refl, cond, rules, ◌++◌, if◌then◌else◌, map, true, false}
+use Rattle.std.proofs.Common.{◌≡◌, pos, negsuc, [], ◌∷◌, refl, cond, rules, ◌++◌, if◌then◌else◌, map, true, false, ◌*◌, ◌+◌, ◌-◌, ◌%◌}
 use Rattle.std.proofs.Math.Dec.{eqb}
 use Rattle.fips204_base.specs.Residues.{residue, sum_below}
 use Rattle.fips204_base.specs.CentredValues.{centred, norm, centred_modulo}
 use Rattle.fips204_base.specs.Reductions.{IsMontgomery}
-use Rattle.fips204_base.specs.Transforms.{bit_reversed, zeta_at, root, transform}
-use Rattle.fips204_base.specs.Products.{product, shifted}
+use Rattle.fips204_base.specs.Transforms.{bit_reversed, zeta_at, root, inverse_root, transform, inverse_transform}
+use Rattle.fips204_base.specs.Products.{product, row_product, shifted}
 use Rattle.std.specs.Prelude.{replicate, nat_eq}
 use Rattle.std.specs.List.{range_with_len, flat_map}
 use Rattle.fips204_base.specs.Packing.{polynomial_bytes, packed, bits_to_bytes, bits, integer_to_bits, bits_to_integer, field, bit_length}
@@ -48,6 +48,25 @@ transform_of_x = (refl, refl)
 transform_of_one : (transform (λ j. cond (eqb j 0) 1 0) 0 ≡ 1) × (transform (λ j. cond (eqb j 0) 1 0) 200 ≡ 1)
 unfolding transform root bit_reversed sum_below
 transform_of_one = (refl, refl)
+
+-- 1753^511 is the inverse of 1753, and the inverses of the last points are the first points
+inverse_roots : (inverse_root 0 ≡ 731434) × (inverse_root 1 ≡ 7648983) × (inverse_root 255 ≡ 1753) × (1753 * inverse_root 0 % 8380417 ≡ 1)
+unfolding inverse_root bit_reversed sum_below
+inverse_roots = (refl, refl, refl, refl)
+
+-- what has 1 everywhere for its transform is 1, and what has the roots is X
+inverse_transform_of_ones : (inverse_transform (λ _. 1) 0 ≡ 1) × (inverse_transform (λ _. 1) 5 ≡ 0)
+unfolding inverse_transform inverse_root bit_reversed sum_below
+inverse_transform_of_ones = (refl, refl)
+
+inverse_transform_of_roots : (inverse_transform root 0 ≡ 0) × (inverse_transform root 1 ≡ 1) × (inverse_transform root 2 ≡ 0)
+unfolding inverse_transform inverse_root root bit_reversed sum_below
+inverse_transform_of_roots = (refl, refl, refl)
+
+-- X^255 X + 1 * 3 is 2
+row_of_two : (row_product 2 (λ k i. if nat_eq i (255 * (1 - k)) then 1 else 0) (λ k i. if nat_eq i (1 - k) then 1 + 2 * k else 0) 0 ≡ 2) × (row_product 2 (λ k i. if nat_eq i (255 * (1 - k)) then 1 else 0) (λ k i. if nat_eq i (1 - k) then 1 + 2 * k else 0) 1 ≡ 0)
+unfolding row_product product shifted sum_below
+row_of_two = (refl, refl)
 
 -- X^255 X is minus one
 product_of_powers : (product (λ j. cond (eqb j 255) 1 0) (λ j. cond (eqb j 1) 1 0) 0 ≡ 8380416) × (product (λ j. cond (eqb j 255) 1 0) (λ j. cond (eqb j 1) 1 0) 1 ≡ 0)
