@@ -1,0 +1,2 @@
+def write(driver):
+    raise NotImplementedError
