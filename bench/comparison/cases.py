@@ -161,13 +161,13 @@ def verify(rng, pool, parameters):
         ctx = flipped(ctx, rng) if ctx else b"\0"
     elif 0.84 < kind < 0.87:
         ctx, msg = ctx[:-1], ctx[-1:] + msg
-    elif 0.87 < kind < 0.93:
+    elif 0.87 < kind < 0.91:
         key = flipped(key, rng)
-    elif 0.93 < kind < 0.96:
+    elif 0.91 < kind < 0.93:
         key = rng.choice(pool.pairs)[1]
-    elif 0.96 < kind < 0.98:
+    elif 0.93 < kind < 0.96:
         ctx = rng.randbytes(rng.choice([256, 257, 300]))
-    elif 0.98 < kind:
+    elif 0.96 < kind:
         name = streams(rng)
     return name, [key, signature, ctx, msg], None
 
@@ -188,7 +188,7 @@ def batch(rng, pool, parameters):
         elif kind < 0.2:
             signature = rng.choice(pool.signed)[2]
         fields += [signature, msg]
-    return name, fields, None
+    return streams(rng) if rng.random() < 0.04 else name, fields, None
 
 
 def check(rng, _pool, _set):
