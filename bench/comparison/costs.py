@@ -22,7 +22,7 @@ def said(*command):
         return ""
 
 
-def machine(room):
+def machine():
     """Gives lines that name the day, the versions and the kind of machine."""
     with open("/proc/cpuinfo", encoding="ascii") as it:
         cpu = it.read()
@@ -137,18 +137,18 @@ def row(programs, words, data, short, runs, room):
     ]
 
 
-def table(programs, sets, runs, room, write):
-    """Prints the table of costs, and puts its ratios into bench/table.md where that is asked for."""
+def table(programs, sets, runs, room, lines):
+    """Prints the table of costs, and puts its ratios into bench/table.md below these lines, if there are any."""
     ratios = []
     print(f"| {' | '.join(COLUMNS)} |\n|---{'|---' * (len(COLUMNS) - 1)}|", flush=True)
     for name, words, data, short in cases(sets):
         pairs = row(programs, words, data, short, runs, room)
         print(f"| {name} | {' | '.join(f'{ours:.4g} / {rust:.4g} = {ours / rust:.2f}' for ours, rust in pairs)} |", flush=True)
         ratios.append(f"| {name} | {' | '.join(f'{ours / rust:.2f}' for ours, rust in pairs)} |\n")
-    if write:
+    if lines:
         with open(TABLE, encoding="utf-8") as it:
             before = it.read().split(HEADING)[0].rstrip("\n")
         columns = [it.split(",")[0] for it in COLUMNS]
         head = f"| {' | '.join(columns)} |\n|---{'|---' * (len(columns) - 1)}|\n"
         with open(TABLE, "w", encoding="utf-8") as it:
-            it.write(f"{before}\n\n{HEADING}\n\nRatios of ours to the Rust, as `bench/against-rust` prints them. {' '.join(machine(room))}\n\n{head}{''.join(ratios)}")
+            it.write(f"{before}\n\n{HEADING}\n\nRatios of ours to the Rust, as `bench/against-rust` prints them. {' '.join(lines)}\n\n{head}{''.join(ratios)}")

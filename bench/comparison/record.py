@@ -30,7 +30,7 @@ def case(driver, parameters, number, signature):
     """Gives the answers of a case, command by command, and the last signature that was made."""
     seed, random = drawn(number, 0), drawn(number, 1)
     context, message = bytes([number]) * (number * 27 // 2), drawn(number, 2)[:number]
-    streams = {6: "fill55", 10: "fill00", 13: "fill55"}.get(number, "sha2")
+    streams = "fill55" if number in (6, 10, 13) else "sha2"
     answers = []
 
     def answer(command, *fields):

@@ -51,8 +51,7 @@ fn spelt(alloc: Global, text: &[u8], start: usize, end: usize) -> Result<Vec<u8>
 /// The streams of a case.
 fn streams_of(number: u8) -> &'static str {
     match number {
-        6 | 13 => "fill55",
-        10 => "fill00",
+        6 | 10 | 13 => "fill55",
         _ => "sha2",
     }
 }
