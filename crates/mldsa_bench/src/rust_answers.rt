@@ -72,7 +72,12 @@ fn add_made(
     let context = vec![in alloc; number; at * 27 / 2]?;
     let pair = run_and_add(alloc, [streams, "keygen", set], &[&seed], digests)?;
     let public = spelt(alloc, pair.as_slice(), 0, digits[0])?;
-    let private = spelt(alloc, pair.as_slice(), digits[0].wrapping_add(1), pair.len().wrapping_sub(1))?;
+    let private = spelt(
+        alloc,
+        pair.as_slice(),
+        digits[0].wrapping_add(1),
+        pair.len().wrapping_sub(1),
+    )?;
     run_and_add(alloc, [streams, "id", set], &[public.as_slice()], digests)?;
     let damage = if number % 5 == 3 { 128 + at } else { NOWHERE };
     let private = changed(alloc, private.as_slice(), damage, 0xff)?;
@@ -120,9 +125,19 @@ fn add_judged(
     } else {
         changed(alloc, message.as_slice(), NOWHERE, 0)?
     };
-    let lines = [public.as_slice(), other.as_slice(), context.as_slice(), spoken.as_slice()];
+    let lines = [
+        public.as_slice(),
+        other.as_slice(),
+        context.as_slice(),
+        spoken.as_slice(),
+    ];
     run_and_add(alloc, [streams, "verify", set], &lines, digests)?;
-    let lines = [seed.as_slice(), random.as_slice(), context.as_slice(), message.as_slice()];
+    let lines = [
+        seed.as_slice(),
+        random.as_slice(),
+        context.as_slice(),
+        message.as_slice(),
+    ];
     run_and_add(alloc, [streams, "check", set], &lines, digests)?;
     // Their number says how many of the two entries are read.
     let count = [0, number % 3];
@@ -150,14 +165,25 @@ fn first_other(
     let mut digests = Vec::new(alloc);
     for number in 0..20u8 {
         let public = add_made(alloc, set, digits, number, &mut signature, &mut digests)?;
-        add_judged(alloc, set, number, public.as_slice(), signature.as_slice(), &mut digests)?;
+        add_judged(
+            alloc,
+            set,
+            number,
+            public.as_slice(),
+            signature.as_slice(),
+            &mut digests,
+        )?;
     }
     let recorded = hex::decode(alloc, recorded)?;
     if digests.len() != recorded.len() {
         return Ok(Some(digests.len() / 32));
     }
     let mut pairs = digests.iter().zip(recorded.iter());
-    Ok(pairs.position(|(found, wanted)| *found != *wanted).map(|at| at / 32))
+    Ok(
+        pairs
+            .position(|(found, wanted)| *found != *wanted)
+            .map(|at| at / 32),
+    )
 }
 
 #[test]
