@@ -94,6 +94,15 @@ fn add_made(
     Ok(public)
 }
 
+/// Where a byte of a signature of this length is replaced, and by what.
+fn damage_of(number: u8, length: usize) -> (usize, u8) {
+    match number % 6 {
+        1 | 4 => (37 * usize::from(number), number),
+        5 => (length.wrapping_sub(1), 0xff),
+        _ => (NOWHERE, 0),
+    }
+}
+
 /// Runs `verify`, `check` and `batch` of a case with this key and this signature, some of them damaged or for another
 /// message.
 fn add_judged(
@@ -108,11 +117,7 @@ fn add_judged(
     let at = usize::from(number);
     let (seed, random, text) = (drawn(number, 0), drawn(number, 1), drawn(number, 2));
     let context = vec![in alloc; number; at * 27 / 2]?;
-    let (damage, value) = match number % 6 {
-        1 | 4 => (37 * at, number),
-        5 => (signature.len().wrapping_sub(1), 0xff),
-        _ => (NOWHERE, 0),
-    };
+    let (damage, value) = damage_of(number, signature.len());
     // What stands in a list of lines is owned here.
     let (public, made) = (
         changed(alloc, public, NOWHERE, 0)?,
