@@ -64,11 +64,15 @@ mod recorded_87;
 #[cfg(test)]
 mod recorded_long;
 #[cfg(test)]
+mod recorded_rust;
+#[cfg(test)]
 mod refusals;
 #[cfg(test)]
 mod refusing_generators;
 #[cfg(test)]
 mod rounding;
+#[cfg(test)]
+mod rust_answers;
 #[cfg(test)]
 mod samplers;
 #[cfg(test)]

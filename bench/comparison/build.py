@@ -1,0 +1,99 @@
+"""Lays the Rust crate out, builds both programs, and runs them."""
+import hashlib
+import os
+import shutil
+import subprocess
+import sys
+import tempfile
+
+TOP = os.path.dirname(os.path.dirname(os.path.dirname(os.path.abspath(__file__))))
+OURS = f"{TOP}/crates/mldsa/out/mldsa"
+REGISTRY = "/usr/share/cargo/registry"
+
+# The sources of fips204 0.5.0 by their SHA-256.
+SOURCES = {
+    "conversion.rs": "28e58d5b212155a0d7ac50b7926fb3f53c4eadd40bfc10c423bfae12fdbe5de9",
+    "encodings.rs": "8cefbdaa486c1236e6fe6811d182f727b2b832854f35b8953b4eeaefb92adbe9",
+    "hashing.rs": "3bd7376906ccf01525b3dcddf949d44ceac2e67d0cebe2463d325bbd9497c80a",
+    "helpers.rs": "eecf283fa72021799190f00fba2e8d91c6f6fbecd4f414502622082dccbd98d3",
+    "high_low.rs": "410f4424c872caaae2556427ccf649db1bb65fd0ff8f86429f3b6a64494102fc",
+    "lib.rs": "53a2839065955fd84ab6fc63b2dc7e986cfd2ed4038a12dd3de58debaa1cb2cc",
+    "ml_dsa.rs": "c898f9be72b5cce6ebb6dfd1df785fc73659c90dace67f9f573af8fc4f2e00c2",
+    "ntt.rs": "934fdaf7e1bf3ffbab7316de87ede6ad630215bd1c9b386d96bc6e51ea71d76b",
+    "traits.rs": "aadaf92fe666805a685b17f786e8ffd928df053e42e8dd2f21631b50c226ccbc",
+    "types.rs": "cb11d75fdb9f1f463abfc106103b1db44ed64440a0f68d9d36ed3ee7e168da49",
+}
+
+
+def missing():
+    """Gives the names of what has to be installed first."""
+    crates = os.listdir(REGISTRY) if os.path.isdir(REGISTRY) else []
+    names = [tool for tool in ("cargo", "rustc", "valgrind") if not shutil.which(tool)]
+    names += ["time (GNU time as /usr/bin/time)"] if not os.access("/usr/bin/time", os.X_OK) else []
+    for crate in ("sha2", "rand_core", "zeroize", "zeroize_derive"):
+        if not any(it.startswith(f"{crate}-") for it in crates):
+            names.append(f"librust-{crate.replace('_', '-')}-dev")
+    return names
+
+
+def lay_out(folder, room):
+    """Copies the workspace, with the crate's files, into a room, and checks that the files are what they were."""
+    shutil.copytree(f"{TOP}/bench/rust", f"{room}/rust", dirs_exist_ok=True)
+    os.makedirs(f"{room}/rust/fips204/src", exist_ok=True)
+    # The crate's documentation is a page of its own, which no code needs.
+    with open(f"{room}/rust/fips204/README.md", "w", encoding="ascii"):
+        pass
+    for name, wanted in SOURCES.items():
+        for path in (f"{folder}/src/{name}", f"{folder}/src--src--{name}.txt"):
+            if os.path.isfile(path):
+                break
+        else:
+            sys.exit(f"there is no src/{name} in {folder}")
+        with open(path, "rb") as it:
+            text = it.read()
+        if hashlib.sha256(text).hexdigest() != wanted:
+            sys.exit(f"{path} is not that of fips204 0.5.0")
+        target = f"{room}/rust/fips204/src/{name}"
+        # A file that is there already keeps its time, so that nothing is built anew for it.
+        if not os.path.isfile(target) or open(target, "rb").read() != text:
+            with open(target, "wb") as it:
+                it.write(text)
+
+
+def built(folder, room, program):
+    """Builds both programs, and gives their paths. Ours is `program`, if that is given."""
+    names = missing()
+    if names:
+        sys.exit(f"missing: {', '.join(names)}")
+    lay_out(folder, room)
+    done = subprocess.run(["cargo", "build", "--release", "--offline"], cwd=f"{room}/rust", capture_output=True, text=True, check=False)
+    if done.returncode:
+        sys.exit(f"cargo build failed:\n{done.stderr}")
+    if program is None:
+        with open(f"{TOP}/examples/check-44", encoding="ascii") as it:
+            done = subprocess.run(["rt", "run", "--", "sha2", "check", "44"], cwd=f"{TOP}/crates/mldsa", stdin=it, capture_output=True, text=True, check=False)
+        if done.returncode:
+            sys.exit(f"rt run failed in crates/mldsa:\n{done.stdout}{done.stderr}")
+    return program or OURS, f"{room}/rust/target/release/driver"
+
+
+def run(command, data, piped, seconds):
+    """Runs a command on these bytes, from a pipe or a file: its status and what it writes to both its outputs, or None
+    where it has no answer in time."""
+    try:
+        if piped:
+            done = subprocess.run(command, input=data, capture_output=True, timeout=seconds, check=False)
+        else:
+            with tempfile.TemporaryFile() as it:
+                it.write(data)
+                it.flush()
+                it.seek(0)
+                done = subprocess.run(command, stdin=it, capture_output=True, timeout=seconds, check=False)
+    except subprocess.TimeoutExpired:
+        return None
+    return done.returncode, done.stdout, done.stderr
+
+
+def lines_of(fields):
+    """The lines of hex of these byte strings."""
+    return b"".join(field.hex().encode() + b"\n" for field in fields)

@@ -1,0 +1,78 @@
+"""Records what the Rust answers to a fixed list of cases, for the test `rust_answers` of crates/mldsa_bench.
+
+A case is a number from 0 to 19 at a set. Its bytes follow of the number, as `case` says; the test says the same in its own
+words. Of each answer the SHA-256 of its output and its status is kept.
+"""
+import hashlib
+import sys
+
+from comparison.build import TOP, lines_of, run
+from comparison.cases import SIZES
+
+FILE = f"{TOP}/crates/mldsa_bench/src/recorded_rust.rt"
+HEAD = """//! What the Rust crate fips204 0.5.0 answers to the cases of `rust_answers`, as `bench/against-rust --record` writes it: for
+//! each case the SHA-256 of what is written and of the status, a byte, by `keygen`, `id`, `sign`, `verify`, `check` and
+//! `batch`.
+#![tactic(auto)]
+"""
+
+
+def drawn(number, purpose):
+    return hashlib.sha256(bytes([number, purpose])).digest()
+
+
+def changed(data, at, value):
+    """The bytes with one of them replaced, if there are so many."""
+    return data[:at] + bytes([value]) + data[at + 1 :] if at < len(data) else data
+
+
+def case(driver, parameters, number, signature):
+    """Gives the answers of a case, command by command, and the last signature that was made."""
+    seed, random = drawn(number, 0), drawn(number, 1)
+    context, message = bytes([number]) * (number * 27 // 2), drawn(number, 2)[:number]
+    streams = "fill55" if number in (6, 10, 13) else "sha2"
+    answers = []
+
+    def answer(command, *fields):
+        given = run([driver, streams, command, parameters], lines_of(fields), False, 60)
+        if given is None or given[0] == 2:
+            sys.exit(f"no answer to {streams} {command} {parameters}, case {number}")
+        answers.append(given[1] + bytes([given[0]]))
+        return given
+
+    public, private = map(bytes.fromhex, answer("keygen", seed)[1].decode().split())
+    answer("id", public)
+    key = changed(private, 128 + number if number % 5 == 3 else sys.maxsize, 0xFF)
+    status, text, _ = answer("sign", key, random, context, message)
+    if status == 0:
+        signature = bytes.fromhex(text.decode().strip())
+    other, spoken = signature, message
+    if number % 3 == 1:
+        other = changed(signature, 37 * number, number)
+    elif number % 6 == 5:
+        other = changed(signature, SIZES[parameters][2] - 1, 0xFF)
+    elif number % 6 == 2:
+        spoken = random
+    answer("verify", public, other, context, spoken)
+    answer("check", seed, random, context, message)
+    # The number of entries says how many of the two are read.
+    answer("batch", public, context, bytes([0, number % 3]), signature, message, other, spoken)
+    return answers, signature
+
+
+def write(driver):
+    """Writes the Rust's answers as a file of crates/mldsa_bench."""
+    text = HEAD
+    for parameters in SIZES:
+        digests, signature, kinds = "", b"", {}
+        for number in range(20):
+            answers, signature = case(driver, parameters, number, signature)
+            for it in answers:
+                digests += hashlib.sha256(it).hexdigest()
+                kind = it[:-1].decode().strip() if len(it) < 200 else "hex"
+                kinds[kind] = kinds.get(kind, 0) + 1
+        print(f"{parameters}: {kinds}")
+        lines = [digests[at : at + 128] for at in range(0, len(digests), 128)]
+        text += f"\n/// Set {parameters}, in hex.\npub const ANSWERS_{parameters}: &str = \"\\\n" + "\\\n".join(lines) + "\";\n"
+    with open(FILE, "w", encoding="utf-8") as it:
+        it.write(text)
