@@ -1,6 +1,6 @@
 use Rattle.std.proofs.Common.{◌≡◌, ◌<◌, ◌≤◌, ◌+◌, ◌-◌, ◌∙◌, ℕ, min, rules, arith, take, drop, length, length-append, length-take, length-take-le}
 use Rattle.std.proofs.lemmas.List.{take-append-le}
-use Rattle.mldsa_engine.specs.Lines.{longest_line, line_digits}
+use Rattle.mldsa_engine.specs.Lines.{longest_line}
 use Rattle.mldsa_engine.proofs.Endings.{goes_on, ends_with_line, ends_with_input, long_line, long_line-in_turn}
 use Rattle.mldsa_engine.proofs.lines.read_line.Goals as goal
 
