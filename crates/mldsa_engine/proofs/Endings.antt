@@ -1,20 +1,19 @@
 -- Lines that were read piece by piece.
-use Rattle.std.proofs.Common.{◌≡◌, ℕ, ◌+◌, ◌-◌, ◌<◌, ◌≤◌, not, max, List, [], ◌∷◌, ◌++◌, length, take, drop, Option, Some, None, Err, MatchResult, refl, sym, ap, ◌∙◌, arith, append-nil, length-append, length-take-le, subst}
+use Rattle.std.proofs.Common.{◌≡◌, ℕ, ◌+◌, ◌-◌, ◌<◌, ◌≤◌, not, List, [], ◌∷◌, ◌++◌, length, take, drop, get_or, Option, Some, None, Err, MatchResult, refl, sym, ap, ◌∙◌, arith, append_assoc, append-nil, length-append, length-take-le, length-drop, take-append-drop, subst}
 use Rattle.std.specs.List.{position, position_or_len}
 use Rattle.std.proofs.lemmas.Bool.Decides.{nat_tests}
 use Rattle.std.proofs.lemmas.List.{take-append-le}
 use Rattle.std.proofs.lemmas.List.Folds.{prefix_len-append, length-prefix_len}
-use Rattle.std.proofs.lemmas.List.Sums.{prefix_len-le-length}
-use Rattle.std.proofs.Math.Seq.{take-append-add, drop-append-add, drop-append_seam, take-length}
+use Rattle.std.proofs.lemmas.List.Sums.{prefix_len-le-length, prefix_len_stops, split_at_first}
+use Rattle.std.proofs.Math.Seq.{take-append_seam, drop-append_seam, take-length}
 use Rattle.std.proofs.Math.ListN.{drop_of_length-le}
+use Rattle.std.proofs.KnownBytes.{Consumes-trans}
 use Rattle.std.specs.Io.KnownBytes.{Consumes, IsAtEnd}
+use Rattle.mldsa_engine.specs.declared.lines.Ending.{Ending}
+use Rattle.mldsa_engine.specs.declared.lines.Ending.TheVariants.{Open, Line, Input}
 use Rattle.mldsa_engine.specs.declared.fault.RunFault.TheVariants.{Missing, TooLong}
-use Rattle.mldsa_engine.specs.Lines.{ends_line, first_line, after_line, longest_line, line_digits, line_reach, before_lines, line_bytes, lines_bytes, TakesLine, FaultOfLines, StopsInTurn, InTurn, LeavesAllBut}
+use Rattle.mldsa_engine.specs.Lines.{ends_line, first_line, after_line, longest_line, line_digits, line_reach, before_lines, line_bytes, lines_bytes, HasNoEnd, TakesPiece, TakesLine, FaultOfLines, StopsInTurn, InTurn, LeavesAllBut}
 use Rattle.mldsa_engine.proofs.Judging.{judged_long}
-
--- no byte of the line is LF
-abbrev pub HasNoEnd : List ℕ → Type 0
-HasNoEnd line = position_or_len ends_line line ≡ length line
 
 pub end_after : (line rest : List ℕ) → HasNoEnd line → position_or_len ends_line (line ++ rest) ≡ length line + position_or_len ends_line rest
 end_after line rest h = let e = prefix_len-append (λ x. not (ends_line x)) line rest in grind (arith, nat_tests, e)
@@ -22,43 +21,55 @@ end_after line rest h = let e = prefix_len-append (λ x. not (ends_line x)) line
 pub no_end : (given : List ℕ) → position ends_line given ≡ None → HasNoEnd given
 no_end given none = let bound = prefix_len-le-length (λ x. not (ends_line x)) given in grind (arith, nat_tests, bound)
 
-pub first_end : (given : List ℕ) (end : ℕ) → position ends_line given ≡ Some end → (end < length given) × (position_or_len ends_line given ≡ end)
-first_end given end some = let bound = prefix_len-le-length (λ x. not (ends_line x)) given in (grind (arith, nat_tests, bound), grind (arith, nat_tests, bound))
+pub has_no_end-append : (line given : List ℕ) → HasNoEnd line → HasNoEnd given → HasNoEnd (line ++ given)
+has_no_end-append line given h h' = omega (arith, end_after line given h, h', length-append line given)
 
-pub has_no_end-more : (line given : List ℕ) → HasNoEnd line → position ends_line given ≡ None → HasNoEnd (line ++ given)
-has_no_end-more line given h none = omega (arith, end_after line given h, no_end given none, length-append line given)
+pub has_no_end-one : (byte : ℕ) → ¬ (byte ≡ 10) → HasNoEnd (byte ∷ [])
+has_no_end-one byte other = grind (arith, nat_tests)
 
--- the line ended in the piece that was asked for last
-pub takes_ended : (wanted : Option ℕ) (old mid new : Option (List ℕ)) (line given : List ℕ) (end : ℕ)
-    → HasNoEnd line → Consumes old mid line → Consumes mid new given → position ends_line given ≡ Some end
-    → length given ≤ max (line_digits wanted + 1 - length line) 1 → TakesLine wanted old new (line ++ take end given)
-takes_ended wanted None mid new line given end h first second some asked = tt
-takes_ended wanted (Some input) None new line given end h first second some asked = absurd first
-takes_ended wanted (Some input) (Some middle) None line given end h first second some asked = absurd second
-takes_ended wanted (Some input) (Some middle) (Some left) line given end h first second some asked =
-    let within = first_end given end some in
-    let whole : input ≡ line ++ (given ++ left) = first ∙ ap (λ l. line ++ l) second in
-    let joined = prefix_len-append (λ x. not (ends_line x)) given left in
-    let inner : position_or_len ends_line (given ++ left) ≡ end = grind (arith, nat_tests, joined, within.0, within.1) in
-    let place : position_or_len ends_line input ≡ length line + end = rw whole (omega (arith, end_after line (given ++ left) h, inner)) in
-    let size : length (line ++ take end given) ≡ length line + end = omega (arith, length-append line (take end given), length-take-le end given (omega (arith, within.0))) in
-    let long : length input ≡ length line + (length given + length left) = rw whole (omega (arith, length-append line (given ++ left), length-append given left)) in
-    let rest : left ≡ drop (length line + length given) input =
-    rw whole (sym (drop-append-add line (given ++ left) (length given) ∙ drop-append_seam given left)) in (
-      omega (arith, long, within.0),
-      rw (place, whole) (sym (take-append-add line (given ++ left) end ∙ ap (λ l. line ++ l) (take-append-le end given left (omega (arith, within.0))))),
-      (length line + length given, omega (arith, size, within.0), rest),
-      λ digits. rest ∙ ap (λ n. drop n input) (omega (arith, size, within.0, place)),
+-- what stands before the first LF of a piece, and what stands after it
+pub first_end : (given : List ℕ) (end : ℕ) → position ends_line given ≡ Some end
+    → (given ≡ take end given ++ 10 ∷ drop (end + 1) given) × HasNoEnd (take end given) × (end < length given)
+first_end given end some =
+    let bound = prefix_len-le-length (λ x. not (ends_line x)) given in
+    let within : end < length given = grind (arith, nat_tests, bound) in
+    let here : position_or_len ends_line given ≡ end = grind (arith, nat_tests, bound) in
+    let inside : position_or_len ends_line given < length given = omega (arith, here, within) in
+    let stops = prefix_len_stops (λ x. not (ends_line x)) given 0 inside in
+    let byte : get_or given (position_or_len ends_line given) 0 ≡ 10 = grind (arith, nat_tests, stops) in
+    let split = rw (byte, here) at (split_at_first ends_line given 0 inside) in
+    let least = prefix_len-le-length (λ x. not (ends_line x)) (take end given) in
+    let size = length-take-le end given (omega (arith, within)) in
+    let joined = rw (← split, here) at (prefix_len-append (λ x. not (ends_line x)) (take end given) (10 ∷ drop (end + 1) given)) in (
+      split,
+      grind (arith, nat_tests, joined, size, least),
+      within,
+    )
+
+-- the line was read, with LF and what came with it
+pub takes_ended : (wanted : Option ℕ) (old new : Option (List ℕ)) (line more : List ℕ)
+    → HasNoEnd line → Consumes old new (line ++ 10 ∷ more) → length more ≤ line_digits wanted - length line → TakesLine wanted old new line
+takes_ended wanted None new line more h all few = tt
+takes_ended wanted (Some input) None line more h all few = absurd all
+takes_ended wanted (Some input) (Some left) line more h all few =
+    let whole : input ≡ line ++ (10 ∷ more ++ left) = all ∙ append_assoc line (10 ∷ more) left in
+    let place : position_or_len ends_line input ≡ length line = rw whole (omega (arith, end_after line (10 ∷ more ++ left) h)) in
+    let size = length-append line (10 ∷ more) in
+    let rest : left ≡ drop (length line + 1 + length more) input =
+    rw all (sym (drop-append_seam (line ++ 10 ∷ more) left) ∙ ap (λ n. drop n (line ++ 10 ∷ more ++ left)) (omega (arith, size))) in (
+      rw whole (omega (arith, length-append line (10 ∷ more ++ left))),
+      rw (place, whole) (sym (take-append_seam line (10 ∷ more ++ left))),
+      (length line + 1 + length more, omega (arith, few), rest),
+      λ digits. rest ∙ ap (λ n. drop n input) (omega (arith, few, digits, place)),
     )
 
 -- the input ended after the line
-pub takes_last : (wanted : Option ℕ) (old mid new : Option (List ℕ)) (line given : List ℕ)
-    → HasNoEnd line → Consumes old mid line → Consumes mid new given → length given ≡ 0 → IsAtEnd new → 0 < length line → TakesLine wanted old new line
-takes_last wanted None mid new line given h first second none end some = tt
-takes_last wanted (Some input) None new line given h first second none end some = absurd first
-takes_last wanted (Some input) (Some middle) None line given h first second none end some = absurd second
-takes_last wanted (Some input) (Some middle) (Some left) line [] h first second none end some =
-    let whole : input ≡ line = first ∙ ap (λ l. line ++ l) (second ∙ end) ∙ append-nil line in
+pub takes_last : (wanted : Option ℕ) (old new : Option (List ℕ)) (line : List ℕ)
+    → HasNoEnd line → Consumes old new line → IsAtEnd new → 0 < length line → TakesLine wanted old new line
+takes_last wanted None new line h all end some = tt
+takes_last wanted (Some input) None line h all end some = absurd all
+takes_last wanted (Some input) (Some left) line h all end some =
+    let whole : input ≡ line = all ∙ ap (λ l. line ++ l) end ∙ append-nil line in
     let place : position_or_len ends_line input ≡ length line = rw whole h in
     let over : (n : ℕ) → length line ≤ n → left ≡ drop n input = λ n more. rw whole (end ∙ sym (drop_of_length-le line more)) in (
       rw whole some,
@@ -66,7 +77,28 @@ takes_last wanted (Some input) (Some middle) (Some left) line [] h first second 
       (length line, omega arith, over (length line) (omega arith)),
       λ _. over (position_or_len ends_line input + 1) (omega (arith, place)),
     )
-takes_last wanted (Some input) (Some middle) (Some left) line (byte ∷ given) h first second none end some = absurd (omega (arith, none))
+
+-- a line and a piece of it that was read next: it goes on, or ended with LF, or with the input
+pub goes_on : (asked : ℕ) (old mid new : Option (List ℕ)) (line piece : List ℕ) (ending : Ending) → HasNoEnd line → Consumes old mid line
+    → TakesPiece asked mid new piece ending → ending ≡ Open → HasNoEnd (line ++ piece) × Consumes old new (line ++ piece) × (0 < length piece)
+goes_on asked old mid new line piece ending h all taken is =
+    let piece-taken = rw is at taken in
+    (has_no_end-append line piece h piece-taken.1, Consumes-trans old mid new line piece all piece-taken.0, piece-taken.2)
+
+pub ends_with_line : (wanted : Option ℕ) (asked : ℕ) (old mid new : Option (List ℕ)) (line piece : List ℕ) (ending : Ending) → HasNoEnd line → Consumes old mid line
+    → TakesPiece asked mid new piece ending → ending ≡ Line → asked ≤ line_digits wanted + 1 - length line → TakesLine wanted old new (line ++ piece)
+ends_with_line wanted asked old mid new line piece ending h all taken ended few =
+    let (more, rest, none, short) = rw ended at taken in
+    takes_ended wanted old new (line ++ piece) more (has_no_end-append line piece h none)
+    (subst (λ l. Consumes old new l) (sym (append_assoc line piece (10 ∷ more))) (Consumes-trans old mid new line (piece ++ 10 ∷ more) all rest))
+    (omega (arith, short, few, length-append line piece))
+
+pub ends_with_input : (wanted : Option ℕ) (asked : ℕ) (old mid new : Option (List ℕ)) (line piece : List ℕ) (ending : Ending) → HasNoEnd line → Consumes old mid line
+    → TakesPiece asked mid new piece ending → ending ≡ Input → 0 < length (line ++ piece) → TakesLine wanted old new (line ++ piece)
+ends_with_input wanted asked old mid new line piece ending h all taken ended some =
+    let piece-taken = rw ended at taken in
+    takes_last wanted old new (line ++ piece) (has_no_end-append line piece h piece-taken.1)
+    (Consumes-trans old mid new line piece all piece-taken.0) piece-taken.2 some
 
 -- a line of which more was read than a line may have is too long, whatever follows
 pub long_line : (old new : Option (List ℕ)) (line : List ℕ) → HasNoEnd line → Consumes old new line → longest_line < length line
@@ -98,24 +130,44 @@ long_line-in_turn (Some (byte ∷ later)) (Some left) line h taken long number w
     (sym bad) (length line, omega (arith, size, place), sym (ap (drop (length line)) taken ∙ drop-append_seam line left))
 
 -- an input without a byte has no line
-pub no_line : (old mid new : Option (List ℕ)) (line given : List ℕ) → Consumes old mid line → length line ≡ 0 → Consumes mid new given → length given ≡ 0 → IsAtEnd new
+pub no_line : (old new : Option (List ℕ)) (line : List ℕ) → Consumes old new line → length line ≡ 0 → IsAtEnd new
     → (number : ℕ) (wanted : Option ℕ) → FaultOfLines number (wanted ∷ []) old (Missing number)
-no_line None mid new line given first none second none' end number wanted = tt
-no_line (Some input) None new line given first none second none' end number wanted = absurd first
-no_line (Some input) (Some middle) None line given first none second none' end number wanted = absurd second
-no_line (Some input) (Some middle) (Some left) [] [] first none second none' end number wanted =
-    let empty : input ≡ [] = first ∙ second ∙ end in
+no_line None new line all none end number wanted = tt
+no_line (Some input) None line all none end number wanted = absurd all
+no_line (Some input) (Some left) [] all none end number wanted =
+    let empty : input ≡ [] = all ∙ end in
     rw empty refl
-no_line (Some input) (Some middle) (Some left) [] (byte ∷ given) first none second none' end number wanted = absurd (omega (arith, none'))
-no_line (Some input) (Some middle) (Some left) (byte ∷ line) given first none second none' end number wanted = absurd (omega (arith, none))
+no_line (Some input) (Some left) (byte ∷ line) all none end number wanted = absurd (omega (arith, none))
 
-pub no_line-in_turn : (old mid new : Option (List ℕ)) (line given : List ℕ) → Consumes old mid line → length line ≡ 0 → Consumes mid new given → length given ≡ 0 → IsAtEnd new
+pub no_line-in_turn : (old new : Option (List ℕ)) (line : List ℕ) → Consumes old new line → length line ≡ 0 → IsAtEnd new
     → (number : ℕ) (wanted : Option ℕ) → InTurn number (wanted ∷ []) old new
-no_line-in_turn None mid new line given first none second none' end number wanted = tt
-no_line-in_turn (Some input) None new line given first none second none' end number wanted = absurd first
-no_line-in_turn (Some input) (Some middle) None line given first none second none' end number wanted = absurd second
-no_line-in_turn (Some input) (Some middle) (Some left) [] [] first none second none' end number wanted =
-    let empty : input ≡ [] = first ∙ second ∙ end in
+no_line-in_turn None new line all none end number wanted = tt
+no_line-in_turn (Some input) None line all none end number wanted = absurd all
+no_line-in_turn (Some input) (Some left) [] all none end number wanted =
+    let empty : input ≡ [] = all ∙ end in
     rw empty (0, omega arith, end)
-no_line-in_turn (Some input) (Some middle) (Some left) [] (byte ∷ given) first none second none' end number wanted = absurd (omega (arith, none'))
-no_line-in_turn (Some input) (Some middle) (Some left) (byte ∷ line) given first none second none' end number wanted = absurd (omega (arith, none))
+no_line-in_turn (Some input) (Some left) (byte ∷ line) all none end number wanted = absurd (omega (arith, none))
+
+-- LF stands in a piece that one call gave
+pub ended_at_once : (old new : Option (List ℕ)) (asked count : ℕ) (room : List ℕ) (end : ℕ) → count ≤ length room → count ≤ asked
+    → Consumes old new (take count room) → position ends_line (take count room) ≡ Some end
+    → (more : List ℕ) × Consumes old new (take end room ++ 10 ∷ more) × HasNoEnd (take end room) × (length more ≤ asked - length (take end room) - 1)
+ended_at_once old new asked count room end within size given some =
+    let first = first_end (take count room) end some in
+    let long = length-take-le count room within in
+    let same : take end (take count room) ≡ take end room =
+    sym (take-append-le end (take count room) (drop count room) (omega (arith, first.2))) ∙ ap (take end) (take-append-drop count room) in
+    let few = length-drop (end + 1) (take count room) in
+    let short = length-take-le end room (omega (arith, first.2, long, within)) in (
+      drop (end + 1) (take count room),
+      rw (← same) (subst (λ l. Consumes old new l) first.0 given),
+      rw same at first.1,
+      omega (arith, few, long, size, short, within),
+    )
+
+-- what is read singly stands for what is read in pieces of any size
+pub at_any_size : (asked : ℕ) (old new : Option (List ℕ)) (piece : List ℕ) (ending : Ending)
+    → TakesPiece 0 old new piece ending → TakesPiece asked old new piece ending
+at_any_size asked old new piece Open taken = taken
+at_any_size asked old new piece Line (more, all, h, few) = (more, all, h, omega (arith, few))
+at_any_size asked old new piece Input taken = taken

@@ -1,8 +1,11 @@
 -- The lines of an input, and the bytes that they spell in hex.
-use Rattle.std.specs.Prelude.{◌≡◌, ◌<◌, ◌≤◌, ℕ, zero, suc, ◌+◌, ◌*◌, max, drop, MatchResult, ◌==◌, Bool, if◌then◌else◌, nat_lt, List, [], ◌∷◌, ◌++◌, length, Option, Some, None, Result, Ok, Err, ⊤}
-use Rattle.std.specs.List.{before_first, after_first}
+use Rattle.std.specs.Prelude.{◌≡◌, ◌<◌, ◌≤◌, ℕ, zero, suc, ◌+◌, ◌-◌, ◌*◌, max, drop, MatchResult, ◌==◌, Bool, if◌then◌else◌, nat_lt, List, [], ◌∷◌, ◌++◌, length, Option, Some, None, Result, Ok, Err, ⊤}
+use Rattle.std.specs.List.{position_or_len, before_first, after_first}
+use Rattle.std.specs.Io.KnownBytes.{Consumes, IsAtEnd}
 use Rattle.hex.specs.Hex.{decode_of}
 use Rattle.hex.specs.declared.error.FromHexError.{FromHexError}
+use Rattle.mldsa_engine.specs.declared.lines.Ending.{Ending}
+use Rattle.mldsa_engine.specs.declared.lines.Ending.TheVariants.{Open, Line, Input}
 use Rattle.mldsa_engine.specs.declared.fault.RunFault.{RunFault}
 use Rattle.mldsa_engine.specs.declared.fault.RunFault.TheVariants.{Usage, Missing, TooLong, NotHex, Length, Read, Write, Memory}
 
@@ -92,6 +95,18 @@ line_reach wanted line = max (length line) (line_digits wanted) + 1
 -- at most so many characters were taken of an input, and this is left
 abbrev pub LeavesAllBut : ℕ → List ℕ → List ℕ → Type 0
 LeavesAllBut most input left = (taken : ℕ) × (taken ≤ most) × (left ≡ drop taken input)
+
+-- no byte of the line is LF
+abbrev pub HasNoEnd : List ℕ → Type 0
+HasNoEnd line = position_or_len ends_line line ≡ length line
+
+-- a reader gave a piece of a line, and what ended it, by calls that asked for so many bytes at least: where LF was read, bytes
+-- past it came with it only as far as one call asked for them
+abbrev pub TakesPiece : ℕ → Option (List ℕ) → Option (List ℕ) → List ℕ → Ending → Type 0
+TakesPiece asked old new piece Open = Consumes old new piece × HasNoEnd piece × (0 < length piece)
+TakesPiece asked old new piece Line = (more : List ℕ) × Consumes old new (piece ++ 10 ∷ more) × HasNoEnd piece
+    × (length more ≤ asked - length piece - 1)
+TakesPiece asked old new piece Input = Consumes old new piece × HasNoEnd piece × IsAtEnd new
 
 -- a reader gave the line that its bytes begin with, where it tells its bytes, and has left what follows the line's reach; a line
 -- with the wanted digits was taken alone

@@ -1,8 +1,8 @@
 //! The lines of an input.
 #![tactic(auto)]
 
-ghost use Rattle.std.specs.Prelude.{◌≡◌, ◌≢◌, ◌≤◌, ◌+◌, ◌↔◌, ◌⊎◌, ℕ, List, Option, length, map, Ok, Err, IsTrue, IfOk, IfErr, OnOk, IfSome, MatchResult, false, ◌∷◌, [], position};
-ghost use Rattle.mldsa_engine.specs.Lines.{longest_line, line_digits, ends_line, judged, Fits, AddsLines, IsInputFault, IsLineFault, TakesLine, TakesLines, FaultOfLines, InTurn};
+ghost use Rattle.std.specs.Prelude.{◌≡◌, ◌≢◌, ◌<◌, ◌≤◌, ◌+◌, ◌↔◌, ◌⊎◌, ℕ, List, Option, length, take, map, Ok, Err, IsTrue, IfOk, IfErr, OnOk, IfSome, MatchResult, false, true, ◌∷◌, [], position};
+ghost use Rattle.mldsa_engine.specs.Lines.{longest_line, line_digits, ends_line, judged, Fits, AddsLines, IsInputFault, IsLineFault, TakesPiece, TakesLine, TakesLines, FaultOfLines, InTurn};
 
 use crate::fault::RunFault;
 use crate::marked::Marked;
@@ -35,6 +35,82 @@ fn end_of(given: &[u8]) -> Option<usize>
     given.iter().position(|byte| *byte == b'\n')
 }
 
+/// What ended a piece of a line.
+#[derive(Clone, Copy)]
+enum Ending {
+    /// Nothing: the line may go on.
+    Open,
+    /// LF, which was read too.
+    Line,
+    /// The end of the input.
+    Input,
+}
+
+/// A piece of a line: how many characters of the room it fills, and what ended it.
+#[derive(Clone, Copy)]
+struct Piece {
+    length: usize,
+    ending: Ending,
+}
+
+/// Reads characters into the room, each by a call of the device, and nothing past LF.
+fn read_singly<I: Read>(input: &mut Marked<I>, room: &mut [u8]) -> Result<Piece, RunFault>
+    requires unmarked { input.old.failed ≡ false }
+    requires some { 0 < length room.old }
+    ensures mark { MatchResult result (λ _. input.new.failed ≡ false) (λ fault. (input.new.failed ≡ true) × (fault ≡ RunFault.Read)) }
+    ensures bound { IfOk result (λ piece. piece.length ≤ length room.new) }
+    ensures ended { IfOk result (λ piece. ¬ (piece.ending ≡ Ending.Open) → piece.length < length room.new) }
+    ensures taken { IfOk result (λ piece. TakesPiece 0 (I.remaining input.old.device) (I.remaining input.new.device) (take piece.length room.new) piece.ending) }
+{
+    for length in 0..room.len() {
+        let mut character = [0];
+        if input.read(&mut character)? == 0 {
+            return Ok(Piece {
+                length,
+                ending: Ending::Input,
+            });
+        }
+        if character[0] == b'\n' {
+            return Ok(Piece {
+                length,
+                ending: Ending::Line,
+            });
+        }
+        room[length] = character[0];
+    }
+    Ok(Piece {
+        length: room.len(),
+        ending: Ending::Open,
+    })
+}
+
+/// Reads a piece of a line into the room: as many characters as are asked for by one call of the device, where
+/// these are several, and otherwise one at a time.
+fn read_piece<I: Read>(
+    input: &mut Marked<I>,
+    asked: usize,
+    room: &mut [u8],
+) -> Result<Piece, RunFault>
+    requires unmarked { input.old.failed ≡ false }
+    requires some { 0 < length room.old }
+    ensures mark { MatchResult result (λ _. input.new.failed ≡ false) (λ fault. (input.new.failed ≡ true) × (fault ≡ RunFault.Read)) }
+    ensures bound { IfOk result (λ piece. piece.length ≤ length room.new) }
+    ensures ended { IfOk result (λ piece. ¬ (piece.ending ≡ Ending.Open) → piece.length < length room.new) }
+    ensures taken { IfOk result (λ piece. TakesPiece asked (I.remaining input.old.device) (I.remaining input.new.device) (take piece.length room.new) piece.ending) }
+{
+    if asked < 2 {
+        return read_singly(input, room);
+    }
+    let most = asked.min(room.len());
+    let count = input.read(&mut room[..most])?;
+    let (length, ending) = match end_of(&room[..count]) {
+        Some(end) => (end, Ending::Line),
+        None if count == 0 => (0, Ending::Input),
+        None => (count, Ending::Open),
+    };
+    Ok(Piece { length, ending })
+}
+
 /// The characters of the next line, without its LF. They are asked for one at a time, but for those
 /// that a line needs to have the wanted bytes, which are asked for in pieces. At most one character more
 /// than a line may have is read.
@@ -56,17 +132,15 @@ fn read_line<I: Read>(
     let mut room = [0; PIECE];
     let mut line = Vec::new(alloc);
     while line.len() <= LONGEST_LINE {
-        let asked = characters.saturating_sub(line.len()).clamp(1, PIECE);
-        let count = input.read(&mut room[..asked])?;
-        let given = &room[..count];
-        match end_of(given) {
-            Some(end) => {
-                line.extend_from_slice(&given[..end])?;
-                return Ok(line);
-            }
-            None if count > 0 => line.extend_from_slice(given)?,
-            None if line.is_empty() => return Err(RunFault::Missing { line: number }),
-            None => return Ok(line),
+        let asked = characters.saturating_sub(line.len());
+        let most = PIECE.min(LONGEST_LINE + 1 - line.len());
+        let piece = read_piece(input, asked, &mut room[..most])?;
+        line.extend_from_slice(&room[..piece.length])?;
+        match piece.ending {
+            Ending::Open => {}
+            Ending::Line => return Ok(line),
+            Ending::Input if line.is_empty() => return Err(RunFault::Missing { line: number }),
+            Ending::Input => return Ok(line),
         }
     }
     Err(RunFault::TooLong { line: number })

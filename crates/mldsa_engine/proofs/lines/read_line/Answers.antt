@@ -1,47 +1,71 @@
-use Rattle.std.proofs.Common.{◌≡◌, ◌≤◌, ◌+◌, ◌-◌, ℕ, min, max, rules, arith, take, drop, length, ◌∙◌, sym, length-take, length-take-le, length-append}
+use Rattle.std.proofs.Common.{◌≡◌, ◌<◌, ◌≤◌, ◌+◌, ◌-◌, ◌∙◌, ℕ, min, rules, arith, take, drop, length, length-append, length-take, length-take-le}
 use Rattle.std.proofs.lemmas.List.{take-append-le}
-use Rattle.std.proofs.KnownBytes.{Consumes-trans}
 use Rattle.mldsa_engine.specs.Lines.{longest_line}
-use Rattle.mldsa_engine.proofs.Endings.{takes_ended, long_line, long_line-in_turn, has_no_end-more}
+use Rattle.mldsa_engine.proofs.Endings.{goes_on, ends_with_line, ends_with_input, long_line, long_line-in_turn}
 use Rattle.mldsa_engine.proofs.lines.read_line.Goals as goal
 
--- a piece is one character, or no longer than the wanted digits and LF leave
-asked_at_most : (count room whole asked left characters digits length : ℕ) → count ≤ room → room ≡ min asked whole → asked ≡ max 1 (min left 4096)
-    → left ≡ characters - length → characters ≤ digits + 1 → count ≤ max (digits + 1 - length) 1
-asked_at_most count room whole asked left characters digits length a b c d e = omega (arith, a, b, c, d, e)
-
 -- a piece leaves the line at most one character too long
-short_enough : (count room whole asked left characters length : ℕ) → count ≤ room → room ≡ min asked whole → asked ≡ max 1 (min left 4096)
-    → left ≡ characters - length → characters ≤ longest_line + 1 → length ≤ longest_line → length + count ≤ longest_line + 1
-short_enough count room whole asked left characters length a b c d e f = omega (arith, a, b, c, d, e, f)
-
-pub returns-in-Some-clause-taken : goal.returns-in-Some-clause-taken
-returns-in-Some-clause-taken g c =
-    let count = c.in_ok-count.count in
-    let bound = c.in_ok-count.ensures.bound in
-    let piece = take-append-le count c.read.new.room (drop c.clamp-asked.result c.loop-room.room) bound in
-    let found = rw piece at (sym c.end_of.ensures ∙ c.in-Some.is) in
-    let size = length-take-le count c.read.new.room bound in
-    let fits = asked_at_most count (length c.read.new.room) (length c.loop-room.room) c.clamp-asked.result c.saturating_sub.result c.characters_of-characters.result _ (length c.loop-room.line.items)
-    bound (c.read.auto.room ∙ length-take c.clamp-asked.result c.loop-room.room) c.clamp-asked.ensures (search rules) c.characters_of-characters.ensures.value in
-    rw (c.in_ok-extend_from_slice-in-Some.ensures.items, piece) (takes_ended c.args.wanted _ _ _ c.loop-room.line.items (take count c.read.new.room) c.in-Some.end
-    c.loop-room.invariant.2 c.loop-room.invariant.3 c.in_ok-count.ensures.bytes.0 found (rw size fits))
+short_enough : (room whole most length : ℕ) → room ≡ min most whole → most ≤ longest_line + 1 - length → length ≤ longest_line → length + room ≤ longest_line + 1
+short_enough room whole most length a b c = omega (arith, a, b, c)
 
 pub loop-room-preserved : goal.loop-room-preserved
 loop-room-preserved g c =
-    let count = c.in_ok-count.count in
-    let bound = c.in_ok-count.ensures.bound in
-    let piece = take-append-le count c.read.new.room (drop c.clamp-asked.result c.loop-room.room) bound in
-    let found = rw piece at (sym c.end_of.ensures ∙ c.in-None.is) in
-    let size = length-take-le count c.read.new.room bound in
-    let short = short_enough count (length c.read.new.room) (length c.loop-room.room) c.clamp-asked.result c.saturating_sub.result c.characters_of-characters.result (length c.loop-room.line.items)
-    bound (c.read.auto.room ∙ length-take c.clamp-asked.result c.loop-room.room) c.clamp-asked.ensures (search rules) c.characters_of-characters.ensures.most (search rules) in
-    rw (c.in_ok-extend_from_slice-in-None.ensures.items, piece) (
-      search rules,
-      omega (arith, length-append c.loop-room.line.items (take count c.read.new.room), size, short),
-      has_no_end-more _ _ c.loop-room.invariant.2 found,
-      Consumes-trans _ _ _ _ _ c.loop-room.invariant.3 c.in_ok-count.ensures.bytes.0,
-    )
+    let count = c.in_ok-piece.piece.length in
+    let bound = c.in_ok-piece.ensures.bound in
+    let piece = take-append-le count c.read_piece.new.room (drop c.min-most.result c.loop-room.room) bound in
+    let size = length-take c.min-most.result c.loop-room.room in
+    let most : c.min-most.result ≤ longest_line + 1 - length c.loop-room.line.items = search rules in
+    let short = short_enough (length c.read_piece.new.room) _ _ (length c.loop-room.line.items) (c.read_piece.auto.room ∙ size) most (search rules) in
+    let more = goes_on _ _ _ _ c.loop-room.line.items (take count c.read_piece.new.room) _
+    c.loop-room.invariant.2 c.loop-room.invariant.3 c.in_ok-piece.ensures.taken c.in-Open.is in
+    let long = length-take-le count c.read_piece.new.room bound in
+    rw (c.in_ok-extend_from_slice.ensures.items, piece)
+    (search rules, omega (arith, length-append c.loop-room.line.items (take count c.read_piece.new.room), long, bound, short), more.0, more.1)
+
+pub returns-in-Line-clause-short : goal.returns-in-Line-clause-short
+returns-in-Line-clause-short g c =
+    let count = c.in_ok-piece.piece.length in
+    let bound = c.in_ok-piece.ensures.bound in
+    let piece = take-append-le count c.read_piece.new.room (drop c.min-most.result c.loop-room.room) bound in
+    let size = length-take c.min-most.result c.loop-room.room in
+    let most : c.min-most.result ≤ longest_line + 1 - length c.loop-room.line.items = search rules in
+    let short = short_enough (length c.read_piece.new.room) _ _ (length c.loop-room.line.items) (c.read_piece.auto.room ∙ size) most (search rules) in
+    let less : count < length c.read_piece.new.room = search rules in
+    let long = length-take-le count c.read_piece.new.room bound in
+    rw (c.in_ok-extend_from_slice.ensures.items, piece)
+    (omega (arith, length-append c.loop-room.line.items (take count c.read_piece.new.room), long, less, short))
+
+pub returns-in-Line-clause-taken : goal.returns-in-Line-clause-taken
+returns-in-Line-clause-taken g c =
+    let count = c.in_ok-piece.piece.length in
+    let bound = c.in_ok-piece.ensures.bound in
+    let piece = take-append-le count c.read_piece.new.room (drop c.min-most.result c.loop-room.room) bound in
+    let asked : c.saturating_sub-asked.result ≡ c.characters_of-characters.result - length c.loop-room.line.items = search rules in
+    let digits = c.characters_of-characters.ensures.value in
+    rw (c.in_ok-extend_from_slice.ensures.items, piece) (ends_with_line c.args.wanted _ _ _ _ c.loop-room.line.items (take count c.read_piece.new.room) _
+    c.loop-room.invariant.2 c.loop-room.invariant.3 c.in_ok-piece.ensures.taken c.in-Line.is (omega (arith, asked, digits)))
+
+pub returns-in-Input-2-clause-short : goal.returns-in-Input-2-clause-short
+returns-in-Input-2-clause-short g c =
+    let count = c.in_ok-piece.piece.length in
+    let bound = c.in_ok-piece.ensures.bound in
+    let piece = take-append-le count c.read_piece.new.room (drop c.min-most.result c.loop-room.room) bound in
+    let size = length-take c.min-most.result c.loop-room.room in
+    let most : c.min-most.result ≤ longest_line + 1 - length c.loop-room.line.items = search rules in
+    let short = short_enough (length c.read_piece.new.room) _ _ (length c.loop-room.line.items) (c.read_piece.auto.room ∙ size) most (search rules) in
+    let less : count < length c.read_piece.new.room = search rules in
+    let long = length-take-le count c.read_piece.new.room bound in
+    rw (c.in_ok-extend_from_slice.ensures.items, piece)
+    (omega (arith, length-append c.loop-room.line.items (take count c.read_piece.new.room), long, less, short))
+
+pub returns-in-Input-2-clause-taken : goal.returns-in-Input-2-clause-taken
+returns-in-Input-2-clause-taken g c =
+    let count = c.in_ok-piece.piece.length in
+    let bound = c.in_ok-piece.ensures.bound in
+    let piece = take-append-le count c.read_piece.new.room (drop c.min-most.result c.loop-room.room) bound in
+    let some : 0 < length c.extend_from_slice.new.self.items = search rules in
+    rw (c.in_ok-extend_from_slice.ensures.items, piece) (ends_with_input c.args.wanted _ _ _ _ c.loop-room.line.items (take count c.read_piece.new.room) _
+    c.loop-room.invariant.2 c.loop-room.invariant.3 c.in_ok-piece.ensures.taken c.in-Input.is (rw (c.in_ok-extend_from_slice.ensures.items, piece) at some))
 
 pub returns-clause-line_fault : goal.returns-clause-line_fault
 returns-clause-line_fault g c =
