@@ -10,7 +10,7 @@ use Rattle.fips204_base.specs.declared.fault.Fault.{Fault}
 use Rattle.fips204_base.specs.declared.fault.Fault.TheVariants.{SamplingLimit}
 use Rattle.fips204_base.specs.declared.types.R.{R}
 use Rattle.fips204_base.specs.declared.types.T.{T}
-use Rattle.fips204_base.specs.Blocks.{counter_blocks-prefix}
+use Rattle.fips204_base.specs.FrontLengths.{counter_blocks-prefix}
 use Rattle.fips204_base.specs.Streams.{ArePrefixes}
 use Rattle.fips204_base.specs.Vectors.{vector_coefficients, matrix_product}
 use Rattle.fips204_base.specs.Encodings.{w1_bytes, public_key_bytes, vector_bytes, IsSignature}
