@@ -19,7 +19,11 @@ use fips204_base::xof::Xof;
 
 /// `A s1 + s2`, with coefficients from 0 to `q - 1`. Those of `s1` and `s2` are below `q` in absolute value, and so are the
 /// transforms of the matrix; `L` is at most 7.
-fn sum_of_product<const K: usize, const L: usize>(a_hat: &[[T; L]; K], s1: &[R; L], s2: &[R; K]) -> [R; K]
+fn sum_of_product<const K: usize, const L: usize>(
+    a_hat: &[[T; L]; K],
+    s1: &[R; L],
+    s2: &[R; K],
+) -> [R; K]
     requires columns { L ≤ 7 }
     requires matrix { IsReducedMatrix a_hat.now }
     requires first { IsReducedVector L s1.now }

@@ -1,4 +1,4 @@
-use Rattle.std.proofs.Common.{rules, arith, ◌≡◌, ◌∙◌, ℕ, List, length, get_or, [], ap, sym, inl, inr, true≢false, refl, subst}
+use Rattle.std.proofs.Common.{rules, arith, ◌≡◌, ◌∙◌, List, length, get_or, [], ap, sym, inl, inr, true≢false, refl, subst}
 use Rattle.std.proofs.lemmas.Bool.{cases_lt}
 use Rattle.std.proofs.lemmas.List.{ext_get_or}
 use Rattle.fips204_base.specs.declared.types.R.{R}

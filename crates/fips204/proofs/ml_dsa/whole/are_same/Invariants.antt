@@ -1,4 +1,4 @@
-use Rattle.std.proofs.Common.{◌≡◌, ◌<◌, ℕ, [], get_or}
+use Rattle.std.proofs.Common.{◌<◌, ℕ, [], get_or}
 use Rattle.fips204_base.specs.declared.types.R.{R}
 use Rattle.fips204.proofs.ml_dsa.whole.are_same.Given as goal
 

@@ -1,4 +1,4 @@
-use Rattle.std.proofs.Common.{rules, ◌≡◌, subst, Bool, IsTrue, None, List, ℕ, ◌≢◌, ◌↔◌}
+use Rattle.std.proofs.Common.{rules, subst, IsTrue, None, ◌≢◌, ◌↔◌}
 use Rattle.fips204_base.specs.MatrixEntry.{sampled_matrix}
 use Rattle.fips204_base.proofs.Sampled.{some_of_ok}
 use Rattle.fips204_base.proofs.Vectors.{vector-within}
