@@ -5,7 +5,6 @@ use Rattle.fips204_base.specs.declared.fault.Fault.TheVariants.{OidEmpty, OidNot
 use Rattle.std.proofs.Math.Seq.{take-append_seam, drop-append_seam}
 use Rattle.fips204.specs.PreHash.{is_der, differs, digest_length, pre_hash_fault}
 use Rattle.fips204.specs.MessageLaws.{FramingIsOneToOne, SignatureBindsMessage, SignatureBindsInput}
-use Rattle.fips204.specs.Refusals.{input_fault}
 use Rattle.fips204.proofs.ParameterSets.{and_out, set_numbers}
 use Rattle.fips204.proofs.RefusedCalls.{passed, short_context}
 use Rattle.std.specs.Prelude.{bytes_eq}
@@ -19,7 +18,7 @@ use Rattle.fips204_base.proofs.EncodedParts.{same_signature}
 use Rattle.fips204.specs.ParameterSets.{ParameterSet, is_parameter_set, commitment_length}
 use Rattle.fips204.specs.Attempts.{commitment}
 use Rattle.fips204.specs.Acceptance.{Accepts, w1_prime}
-use Rattle.fips204.specs.Framing.{Input, plain, hashed, framed_input, message_hash}
+use Rattle.fips204.specs.Framing.{plain, hashed, framed_input, message_hash}
 
 -- A framed message determines what was framed.
 
@@ -86,7 +85,6 @@ same_input (hashed c o h) (hashed d p i) s t e =
     let second = der_of_none i p (short_context d HashCtx (pre_hash_fault i p) t).1 in
     let inner = same_oid o p h i first second outer.1 in
     cc
-
 
 -- One signature for two framed messages gives a collision.
 

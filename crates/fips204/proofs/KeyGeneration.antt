@@ -1,5 +1,7 @@
 -- The vector t = A s1 + s2 of a pair of keys, and what key generation and derivation answer.
-use Rattle.std.proofs.Common.{◌≡◌, ◌<◌, ◌≤◌, ◌+◌, ◌-◌, ◌%◌, ℕ, List, pos, ap, ◌∙◌, arith, ◌⊎◌, inl, inr, refl, sym, Some, None, Ok, Err, take, drop}
+use Rattle.std.proofs.Common.{◌≡◌, ◌<◌, ◌≤◌, ◌+◌, ◌-◌, ◌%◌, ℕ, List, pos, ap, ◌∙◌, arith, ◌⊎◌, inl, inr, refl, sym, Some, None, Ok, Err, take, drop, Bool, IsTrue, ◌≢◌, ◌↔◌}
+use Rattle.std.proofs.lemmas.Option.{none-some}
+use Rattle.fips204.proofs.RefusedCalls.{same_some}
 use Rattle.std.proofs.lemmas.Int.{ints}
 use Rattle.fips204_base.specs.declared.types.R.{R}
 use Rattle.fips204_base.specs.declared.types.T.{T}
@@ -9,7 +11,7 @@ use Rattle.fips204_base.specs.Rounding.{power2round}
 use Rattle.fips204_base.specs.Vectors.{IsVector, vector_coefficients, vector_of, matrix_product}
 use Rattle.fips204_base.proofs.Rounding.{power2round_high, power2round_low}
 use Rattle.fips204_base.proofs.Vectors.{vector_of-ext, vector_of-entry, vector_of-range}
-use Rattle.fips204.specs.KeyGeneration.{key_vector, high_part, low_part, seeds, key_hash, key_pair, key_pair_if_all, key_generation, public_key_of}
+use Rattle.fips204.specs.KeyGeneration.{IsWhole, key_vector, high_part, low_part, seeds, key_hash, key_pair, key_pair_if_all, key_generation, public_key_of}
 use Rattle.fips204.specs.ParameterSets.{ParameterSet}
 use Rattle.std.specs.Prelude.{ok_or}
 use Rattle.std.proofs.lemmas.List.{drop-take, take-take}
@@ -85,6 +87,18 @@ unfolding public_key_of
 derived-some p G sk k l a t1 rows columns e high =
     let there = matrix_of G sk.rho k l p.k p.l (Some a) rows columns e in
     rw (there, high) refl
+
+-- whether t0 is the low part tells whether the key is whole
+pub tells_whole : (p : ParameterSet) (G : List ℕ → List ℕ) (sk : PrivateParts) (k l : ℕ) (a : List (List T)) (low : List R) (answer : Bool) → k ≡ p.k → l ≡ p.l → sampled_matrix G sk.rho k l ≡ Some a
+    → low ≡ low_part p a sk.s1 sk.s2 → IsTrue answer ↔ (sk.t0 ≡ low) → (sampled_matrix G sk.rho p.k p.l ≢ None) × (IsTrue answer ↔ IsWhole p G sk)
+tells_whole p G sk k l a low answer rows columns e is both =
+    let there = matrix_of G sk.rho k l p.k p.l (Some a) rows columns e in (
+      λ none. none-some a (sym none ∙ there),
+      (
+        λ t. record { matrix = a; sampled = there; low = both.0 t ∙ is },
+        λ whole. both.1 (whole.low ∙ ap (λ m. low_part p m sk.s1 sk.s2) (same_some whole.matrix a (sym whole.sampled ∙ there)) ∙ sym is),
+      ),
+    )
 
 -- ---- key generation
 

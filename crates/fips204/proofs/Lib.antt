@@ -16,3 +16,5 @@ mod RefusedCalls
 mod Framing
 mod LongerFronts
 mod Worked
+-- what users may cite
+pub mod Callers

@@ -253,10 +253,13 @@ module _ (H G H' G' : List ℕ → List ℕ) (first : ArePrefixes H H') (second 
       let longer : AcceptsInput H' pk.tr (λ mu. Verifies p H' G' pk mu signature) input = record { allowed = v.allowed; accepted = stays.yes_stays v.accepted } in longer in
       record {
         yes_stays = yes;
-        no_stays = λ decided. (yes, λ v. elim decided [
-          | inl d ↦ record { allowed = v.allowed; accepted = (stays.no_stays d).1 v.accepted }
-          | inr broken ↦ absurd (broken v.allowed)
-        ]);
+        no_stays = λ decided. (
+          yes,
+          λ v. elim decided [
+            | inl d ↦ record { allowed = v.allowed; accepted = (stays.no_stays d).1 v.accepted }
+            | inr broken ↦ absurd (broken v.allowed)
+          ],
+        );
       }
 
   acceptance_stays : (p : ParameterSet) → IsTrue (is_parameter_set p) → AcceptanceStays p H G H' G'

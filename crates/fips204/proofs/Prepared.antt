@@ -9,7 +9,7 @@ use Rattle.fips204_base.specs.declared.fault.Fault.TheVariants.{SamplingLimit}
 use Rattle.fips204_base.specs.declared.types.T.{T}
 use Rattle.fips204_base.specs.MatrixEntry.{sampled_matrix}
 use Rattle.fips204.specs.Acceptance.{Accepts, Verifies}
-use Rattle.fips204.specs.Framing.{Input, plain, hashed, framed_input, message_hash}
+use Rattle.fips204.specs.Framing.{Input, plain, framed_input, message_hash}
 use Rattle.fips204.specs.Keys.{PublicParts, PrivateParts, ArePrivateParts}
 use Rattle.fips204.specs.ParameterSets.{ParameterSet, is_parameter_set}
 use Rattle.fips204.specs.Prepared.{PreparedPrivate, PreparedPublic, prepared_private, prepared_public, public_of_prepared, sign_prepared, sign_message_prepared, IsWholePrepared}

@@ -1,5 +1,9 @@
 -- The ranges of what is sampled or given by a type.
-use Rattle.std.proofs.Common.{◌≡◌, ℕ, List, [], ◌∷◌, length, ◌<◌, ◌≤◌, suc, ◌++◌, ℤ, nat_abs, get_or, take, sym, subst, ◌∙◌, arith, Some, true, false, inl, inr}
+use Rattle.std.proofs.Common.{◌≡◌, ℕ, List, [], ◌∷◌, length, ◌<◌, ◌≤◌, suc, ◌++◌, ℤ, nat_abs, get_or, take, sym, subst, ◌∙◌, arith, Some, Bool, true, false, not, inl, inr, refl, ap, ◌≢◌, Decides, true≢false}
+use lib.Pointwise.{pointwise}
+use Rattle.std.specs.Ordering.{int_eq}
+use Rattle.std.proofs.lemmas.Bool.Decides.{Decides-int_eq}
+use Rattle.std.proofs.lemmas.Slice.Eq.{slice_eq-Decides}
 use Rattle.std.specs.List.{All}
 use Rattle.std.proofs.lemmas.List.Elements.{All-nil, All-cons}
 use mir.Val.{Val}
@@ -92,3 +96,12 @@ challenge-reduced tau front c e n h =
     let count = length-challenge_places tau front c e in
     let one = signed_sum-within (challenge_places tau front) (bits 8 (take 8 front)) n (λ i j l m. challenge_places-apart tau front c i j e l (omega (arith, m, count))) in
     subst (λ (w : R). nat_abs (coefficient_at w.0 n) ≤ 8380416) (challenge-sum tau front c e) (rw (polynomial_of-at f n h) (omega (arith, one)))
+
+-- What `!=` says of the coefficients of two polynomials.
+
+told : (v w : R) (equal differ : Bool) → differ ≡ not equal → Decides equal (v.0 ≡ w.0) → (differ ≡ false → v ≡ w) × (differ ≡ true → v ≢ w)
+told v w true differ e d = (λ f. ap (λ (l : List ℤ). let r : R = record { 0 = l } in r) (d.0 refl), λ t. absurd (true≢false (sym t ∙ e)))
+told v w false differ e d = (λ f. absurd (true≢false (sym e ∙ f)), λ t same. true≢false (sym (d.1 (ap (λ (r : R). r.0) same))))
+
+pub told_rows : (v w : R) (differ : Bool) → differ ≡ not (pointwise int_eq v.0 w.0) → (differ ≡ false → v ≡ w) × (differ ≡ true → v ≢ w)
+told_rows v w differ e = told v w (pointwise int_eq v.0 w.0) differ e (slice_eq-Decides Decides-int_eq v.0 w.0 (pointwise int_eq v.0 w.0) refl)

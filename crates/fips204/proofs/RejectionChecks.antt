@@ -7,7 +7,7 @@ use Rattle.std.proofs.lemmas.Int.{ints}
 use Rattle.fips204_base.specs.declared.types.R.{R}
 use Rattle.fips204_base.specs.CentredValues.{centred, vector_norm}
 use Rattle.fips204_base.specs.Packing.{InRange, width}
-use Rattle.fips204_base.specs.Polynomials.{entry, IsReducedVector}
+use Rattle.fips204_base.specs.Polynomials.{entry}
 use Rattle.fips204_base.specs.Products.{product}
 use Rattle.fips204_base.specs.Residues.{residue}
 use Rattle.fips204_base.specs.Rounding.{low_bits, make_hint}
@@ -15,17 +15,16 @@ use Rattle.fips204_base.specs.Vectors.{vector_of, IsVector, vector_coefficients}
 use Rattle.fips204_base.proofs.Residues.{residue_add, residue_sub, residue_is, residue_below}
 use Rattle.fips204_base.proofs.Rounding.{low_bits_near}
 use Rattle.fips204_base.proofs.Products.{product_below}
-use Rattle.fips204_base.proofs.Vectors.{vector_of-ext, vector_of-range, vector-within}
+use Rattle.fips204_base.proofs.Vectors.{vector_of-ext, vector_of-range}
 use Rattle.fips204_base.specs.Encodings.{signature_bytes}
 use Rattle.fips204_base.specs.HintSpelling.{all_ones}
 use Rattle.fips204.specs.declared.types.Params.{Params}
 use Rattle.fips204.specs.Attempts.{scaled, response, low_vector, ct0, hint_bit, hint_vector, passes_checks, checked_attempt, w_minus_cs2, y_plus_cs1}
-use Rattle.fips204.specs.Keys.{PrivateParts, eta_of_rows}
+use Rattle.fips204.specs.Keys.{PrivateParts}
 use Rattle.fips204.specs.ParameterSets.{ParameterSet, commitment_length, signature_length}
 use Rattle.fips204.specs.Sets.{set_of}
 use Rattle.fips204.specs.Signing.{attempt_answer}
 use Rattle.fips204.proofs.ChallengeProducts.{norm_of_place}
-use Rattle.fips204.proofs.ParameterSets.{eta_of_rows-small}
 
 -- Sums, norms and hints of an attempt's vectors.
 

@@ -5,7 +5,7 @@ ghost use Rattle.std.specs.Prelude.{◌≡◌, ◌↔◌, IsTrue, MatchResult};
 ghost use Rattle.fips204.specs.Acceptance.{Verifies};
 ghost use Rattle.fips204.specs.Completeness.{HashAccepted};
 ghost use Rattle.fips204.specs.Framing.{message_hash};
-ghost use Rattle.fips204.specs.KeyGeneration.{IsWhole};
+ghost use Rattle.fips204.specs.KeyGeneration.{IsWhole, TellsWhole};
 ghost use Rattle.fips204.specs.Keys.{DecodesPrivate, IsPublicKeyOf};
 ghost use Rattle.fips204.specs.Prepared.{prepared_private, prepared_public};
 ghost use Rattle.fips204.specs.Refusals.{generated, derived, sign_message, sign_digest, VerifiesMessage, VerifiesDigest, DrawsIf, DrawsUnless};
@@ -250,6 +250,15 @@ where
         ensures accepted { HashAccepted S.set H.front G.front self.now mu.now result }
     {
         self.sign_hash(mu, &draw_if(hedged, rng)?)
+    }
+
+    /// Whether the key is whole: whether its t0 is the low part of `A s1 + s2` (Algorithm 6, lines 5 and 6). What a whole
+    /// key signs is accepted by the public key that `get_public_key` gives. Refuses with `Fault::SamplingLimit` where
+    /// rejection sampling of the matrix reaches its limit.
+    pub fn is_whole(&self) -> Result<bool, Fault>
+        ensures { TellsWhole S.set G.front self.now result }
+    {
+        ml_dsa::is_whole::<K, L, H, G>(&S::params(), self)
     }
 
     /// The key with its matrix, which many signatures then share. Refuses with `Fault::SamplingLimit` where

@@ -15,6 +15,7 @@ mod key_generation;
 mod rejection;
 mod signing;
 mod verification;
+mod whole;
 
 use crate::types::pre_hash::check_pre_hash;
 use crate::types::{Params, PrivateKey, PublicKey};
@@ -26,6 +27,7 @@ pub use signing::{MAX_SIGN_ATTEMPTS, sign_internal};
 use std::marker::PhantomData;
 pub use verification::verify_internal;
 pub(crate) use verification::verify_prepared;
+pub(crate) use whole::is_whole;
 
 /// The public key that has these bytes, with the first 64 bytes of `H` over them as `tr`
 /// (FIPS 204, Algorithm 23, and line 6 of Algorithm 8). Every array of `32 + 320 K` bytes is one.
