@@ -1,5 +1,5 @@
-//! A private key that a caller is given, of whatever origin: what it signs is accepted, by the law of
-//! completeness and the ranges of its parts.
+//! A private key that a caller is given, of whatever origin: what it signs is accepted, by the clause `accepted`
+//! of the call alone.
 #![tactic(auto)]
 
 ghost use Rattle.std.specs.Prelude.{◌≡◌, IfOk, true};
@@ -8,7 +8,7 @@ ghost use Rattle.fips204.specs.ParameterSets.{set_44};
 
 use fips204::traits::{Signer, Verifier};
 use fips204::xof::Xof;
-use fips204::{Fault, laws, ml_dsa_44};
+use fips204::{Fault, ml_dsa_44};
 
 /// Whether the public key that is derived of a whole private key accepts what this signs: yes, wherever
 /// nothing is refused.
@@ -21,8 +21,6 @@ pub fn accepts_what_it_signs<H: Xof, G: Xof>(
     requires { IsWhole set_44 G.front sk.now }
     ensures { IfOk result (λ answer. answer ≡ true) }
 {
-    sk.parts_in_range_law();
-    laws::signed_is_accepted();
     let pk = sk.get_public_key()?;
     let signature = sk.try_sign_with_seed(rnd, message, ctx)?;
     Ok(pk.verify(message, &signature, ctx))
