@@ -3,3 +3,4 @@
 
 pub mod pairs;
 pub mod public_key_bytes;
+pub mod sets;

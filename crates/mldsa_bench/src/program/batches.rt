@@ -1,10 +1,11 @@
 //! Runs of the program's `batch`.
 #![tactic(auto)]
 
-use crate::program::counted_calls::{RECORDED, pieces, runs_as};
+use crate::program::counted_calls::{pieces, runs_as};
 use crate::program::cut_inputs::first_wrong_cut;
 use crate::program::results::hex_lines;
 use crate::program::runs::{ends, line_of, unread_after};
+use crate::values::RECORDED;
 use crate::values::constant_streams::{public_44, signature_44};
 use mldsa_engine::RunFault;
 use std::alloc::{AllocError, Global};

@@ -5,7 +5,7 @@ ghost use Rattle.std.specs.Prelude.{◌<◌};
 
 use crate::program::devices::{Arguments, CountedReader, CountedWriter, KeptError};
 use crate::program::runs::{answer_of, line_of, words};
-use crate::values::{counter_44, counter_65, counter_87};
+use crate::values::RECORDED;
 use mldsa_engine::output::put;
 use mldsa_engine::process::{self, end};
 use mldsa_engine::{Bytewise, Marked, RunFault};
@@ -92,28 +92,6 @@ fn lines_of(alloc: Global, lines: &[&str]) -> Result<Vec<u8>, AllocError> {
 
 /// 32 bytes 00, in hex.
 const ZEROS: &str = "0000000000000000000000000000000000000000000000000000000000000000";
-
-/// The sets with their keys and signatures over the counter streams.
-pub const RECORDED: [[&str; 4]; 3] = [
-    [
-        "44",
-        counter_44::PUBLIC_KEY,
-        counter_44::PRIVATE_KEY,
-        counter_44::SIGNATURE,
-    ],
-    [
-        "65",
-        counter_65::PUBLIC_KEY,
-        counter_65::PRIVATE_KEY,
-        counter_65::SIGNATURE,
-    ],
-    [
-        "87",
-        counter_87::PUBLIC_KEY,
-        counter_87::PRIVATE_KEY,
-        counter_87::SIGNATURE,
-    ],
-];
 
 /// Whether an outcome has this answer, wrote these bytes in so many calls, and has no device that failed.
 fn is_as(outcome: &Outcome, answer: Result<bool, RunFault>, written: &[u8], writes: usize) -> bool {

@@ -1,8 +1,8 @@
 //! Runs of the program that succeed, for every command at every set.
 #![tactic(auto)]
 
-use crate::program::counted_calls::RECORDED;
 use crate::program::runs::unread_after;
+use crate::values::RECORDED;
 use crate::values::constant_streams::{
     private_44, private_65, private_87, public_44, public_65, public_87, signature_44,
     signature_65, signature_87,

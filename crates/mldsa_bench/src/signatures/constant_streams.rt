@@ -1,107 +1,129 @@
-//! Signatures over constant streams.
+//! Every call that signs or verifies over constant streams, at each set, with plain and with prepared keys.
 #![tactic(auto)]
 
-use crate::arithmetic::hint_parts::{part_of, rising};
-use crate::values::constant_streams::{
-    private_44, private_65, private_87, public_44, public_65, public_87, signature_44,
-    signature_65, signature_87,
+use crate::keys::sets::{
+    Constant44, Constant65, Constant87, Judges, Signs, TestSet, Text, is_same,
 };
-use fips204::traits::{SerDes, Signer, Verifier};
-use fips204::xof::Fill;
-use fips204::{Fault, ml_dsa_44, ml_dsa_65, ml_dsa_87};
+use crate::signatures::generators::RefusesAt;
+use fips204::Fault;
+use fips204::pre_hash::{SHA2_256, SHA2_512};
 use std::test::Fail;
 
-/// A private key of set 44.
-type Private44 = ml_dsa_44::PrivateKey<Fill<0x55>, Fill<0>>;
+/// What has the signature over constant streams, whatever is signed.
+const SIGNED: [Text; 9] = [
+    Text::Message(b"", &[]),
+    Text::Message(b"abc", &[]),
+    Text::Message(b"another", &[1; 255]),
+    Text::Digest(&[5; 32], &[], &SHA2_256),
+    Text::Digest(&[9; 32], &[1; 255], &SHA2_256),
+    Text::Digest(&[9; 64], &[], &SHA2_512),
+    Text::Framed(b"abc"),
+    Text::Hash(&[0; 64]),
+    Text::Hash(&[9; 64]),
+];
 
-/// A public key of set 44.
-type Public44 = ml_dsa_44::PublicKey<Fill<0x55>, Fill<0>>;
+/// What is neither signed nor accepted, and why.
+const REFUSED: [(Text, Fault); 16] = [
+    (Text::Message(b"abc", &[0; 256]), Fault::SignCtx),
+    (Text::Message(b"abc", &[0; 257]), Fault::SignCtx),
+    (Text::Digest(&[0; 32], &[0; 256], &SHA2_256), Fault::HashCtx),
+    (Text::Digest(&[0; 32], &[0; 256], &[]), Fault::HashCtx),
+    (Text::Digest(&[0; 32], &[], &[]), Fault::OidEmpty),
+    (Text::Digest(&[0; 32], &[], &[0xff]), Fault::OidNotDer),
+    (Text::Digest(&[0; 32], &[], &[0x06]), Fault::OidNotDer),
+    (Text::Digest(&[0; 32], &[], &[0x06, 0x00]), Fault::OidNotDer),
+    (
+        Text::Digest(&[0; 32], &[], &[0x04, 0x01, 0x00]),
+        Fault::OidNotDer,
+    ),
+    (
+        Text::Digest(
+            &[0; 32],
+            &[],
+            &[0x06, 0x09, 0x60, 0x86, 0x48, 0x01, 0x65, 0x03, 0x04, 0x02],
+        ),
+        Fault::OidNotDer,
+    ),
+    (
+        Text::Digest(&[0; 1025], &[], &SHA2_256),
+        Fault::DigestTooLong,
+    ),
+    (
+        Text::Digest(&[0; 1025], &[], &[0x06, 0x03, 0x2a, 0x03, 0x04]),
+        Fault::DigestTooLong,
+    ),
+    (Text::Digest(&[], &[], &SHA2_256), Fault::DigestLength),
+    (Text::Digest(&[0; 31], &[], &SHA2_256), Fault::DigestLength),
+    (Text::Digest(&[0; 33], &[], &SHA2_256), Fault::DigestLength),
+    (Text::Digest(&[9; 63], &[], &SHA2_512), Fault::DigestLength),
+];
 
-#[test]
-fn signature_of_set_44(rt: HostRuntime) -> Result<(), Fail> {
-    let key = Private44::try_from_bytes(private_44())?;
-    assert!(rt; key.try_sign_with_seed(&[0; 32], b"", &[])? == signature_44());
-    assert!(rt; key.try_sign_with_seed(&[7; 32], b"abc", &[1; 255])? == signature_44());
-    let key = Public44::try_from_bytes(public_44())?;
-    assert!(rt; key.verify(b"abc", &signature_44(), &[]));
-    assert!(rt; key.verify(b"another", &signature_44(), &[1; 255]));
-    Ok(())
+/// Whether each call that signs a text gives this signature: with random bytes that are given, and with drawn
+/// ones. A hook that is not hedged draws none.
+fn is_signed<S: PartialEq + Drop, K: Signs<S>>(key: &K, text: &Text, signature: &S) -> bool {
+    let mut rng = RefusesAt::new(255, false);
+    let answers = [
+        is_same(key.seeded(&[0; 32], text), signature),
+        is_same(key.drawn(&mut rng, true, text), signature),
+        is_same(key.drawn(&mut rng, false, text), signature),
+    ];
+    answers == [Ok(true); 3] && rng.asked == if text.is_of_hook() { 1 } else { 2 }
+}
+
+/// Whether each call that signs a text refuses so, and asks no generator.
+fn is_refused<S: PartialEq + Drop, K: Signs<S>>(
+    key: &K,
+    text: &Text,
+    fault: Fault,
+    signature: &S,
+) -> bool {
+    let mut rng = RefusesAt::new(0, true);
+    let answers = [
+        is_same(key.seeded(&[0; 32], text), signature),
+        is_same(key.drawn(&mut rng, true, text), signature),
+    ];
+    answers == [Err(fault); 2] && rng.asked == 0
+}
+
+/// The first text to be signed that is not signed and accepted, and the first to be refused that is not refused.
+fn first_wrong<S: PartialEq + Drop, K: Signs<S>, P: Judges<S>>(
+    private: &K,
+    public: &P,
+    signature: &S,
+) -> [Option<usize>; 2] {
+    [
+        SIGNED.iter().position(|text| {
+            !is_signed(private, text, signature) || !public.accepts(text, signature)
+        }),
+        REFUSED.iter().position(|(text, fault)| {
+            !is_refused(private, text, *fault, signature) || public.accepts(text, signature)
+        }),
+    ]
+}
+
+/// The same of plain and of prepared keys of a set.
+fn first_wrong_of<S: TestSet>() -> Result<[[Option<usize>; 2]; 2], Fault> {
+    let (public, private) = (S::public()?, S::private()?);
+    let verifier = S::prepared_public(&public)?;
+    let signer = S::prepared_private(&private)?;
+    let signature = S::signature();
+    Ok([
+        first_wrong(&private, &public, &signature),
+        first_wrong(&signer, &verifier, &signature),
+    ])
 }
 
 #[test]
-fn signature_of_set_65(rt: HostRuntime) -> Result<(), Fail> {
-    let key = ml_dsa_65::PrivateKey::<Fill<0x55>, Fill<0>>::try_from_bytes(private_65())?;
-    assert!(rt; key.try_sign_with_seed(&[0; 32], b"abc", &[])? == signature_65());
-    let key = ml_dsa_65::PublicKey::<Fill<0x55>, Fill<0>>::try_from_bytes(public_65())?;
-    assert!(rt; key.verify(b"another", &signature_65(), &[]));
-    Ok(())
+fn signatures_of_set_44(rt: HostRuntime) {
+    assert_eq!(rt; first_wrong_of::<Constant44>(), Ok([[None; 2]; 2]));
 }
 
 #[test]
-fn signature_of_set_87(rt: HostRuntime) -> Result<(), Fail> {
-    let key = ml_dsa_87::PrivateKey::<Fill<0x55>, Fill<0>>::try_from_bytes(private_87())?;
-    assert!(rt; key.try_sign_with_seed(&[0; 32], b"abc", &[])? == signature_87());
-    let key = ml_dsa_87::PublicKey::<Fill<0x55>, Fill<0>>::try_from_bytes(public_87())?;
-    assert!(rt; key.verify(b"another", &signature_87(), &[]));
-    Ok(())
+fn signatures_of_set_65(rt: HostRuntime) {
+    assert_eq!(rt; first_wrong_of::<Constant65>(), Ok([[None; 2]; 2]));
 }
 
 #[test]
-fn long_contexts(rt: HostRuntime) -> Result<(), Fail> {
-    let key = Private44::try_from_bytes(private_44())?;
-    let answer = key.try_sign_with_seed(&[0; 32], b"abc", &[0; 256]);
-    assert!(rt; answer.err() == Some(Fault::SignCtx));
-    let answer = key.try_sign_with_seed(&[0; 32], b"abc", &[0; 257]);
-    assert!(rt; answer.err() == Some(Fault::SignCtx));
-    let key = Public44::try_from_bytes(public_44())?;
-    assert!(rt; !key.verify(b"abc", &signature_44(), &[0; 256]));
-    Ok(())
-}
-
-/// The signature of set 44 with another first field of z.
-fn with_first_field(field: u32) -> [u8; 2420] {
-    let mut signature = signature_44();
-    let [low, middle, high, _] = field.to_le_bytes();
-    signature[32] = low;
-    signature[33] = middle;
-    signature[34] = signature[34] / 4 * 4 + high % 4;
-    signature
-}
-
-#[test]
-fn range_of_z(rt: HostRuntime) -> Result<(), Fail> {
-    let key = Public44::try_from_bytes(public_44())?;
-    for (field, yes) in [(78, false), (79, true), (262065, true), (262066, false)] {
-        let signature = with_first_field(field);
-        assert!(rt; key.verify(b"abc", &signature, &[]) == yes, "field {field}");
-    }
-    Ok(())
-}
-
-/// The signature of set 44 with another hint part: these places, zeros up to byte 80, and four counts.
-fn with_hint(places: &[u8], counts: [u8; 4]) -> [u8; 2420] {
-    let mut signature = signature_44();
-    signature[2336..2420].copy_from_slice(&part_of(places, counts));
-    signature
-}
-
-#[test]
-fn hints_of_signatures(rt: HostRuntime) -> Result<(), Fail> {
-    let key = Public44::try_from_bytes(public_44())?;
-    let rising = rising();
-    let mut late = [0u8; 80];
-    late[79] = 1;
-    for (signature, yes) in [
-        (with_hint(&[], [0, 0, 0, 1]), true),
-        (with_hint(&[1], [0, 0, 0, 0]), false),
-        (with_hint(&rising, [80, 80, 80, 80]), true),
-        (with_hint(&rising, [81, 81, 81, 81]), false),
-        (with_hint(&[0xff, 0x00], [1, 2, 2, 2]), true),
-        (with_hint(&[5, 5], [2, 2, 2, 2]), false),
-        (with_hint(&[1, 2], [2, 1, 2, 2]), false),
-        (with_hint(&late, [0, 0, 0, 0]), false),
-    ] {
-        assert!(rt; key.verify(b"abc", &signature, &[]) == yes);
-    }
-    Ok(())
+fn signatures_of_set_87(rt: HostRuntime) {
+    assert_eq!(rt; first_wrong_of::<Constant87>(), Ok([[None; 2]; 2]));
 }

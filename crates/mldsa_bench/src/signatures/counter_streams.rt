@@ -1,172 +1,235 @@
-//! Key pairs and signatures over the counter streams.
+//! Key pairs and signatures over the counter streams, at each set, with plain and with prepared keys.
 #![tactic(auto)]
 
-ghost use Rattle.std.specs.Prelude.{◌<◌, ◌^◌};
+ghost use Rattle.std.specs.Prelude.{◌≤◌};
 
-use crate::program::counted_calls::RECORDED;
-use crate::values::identifiers::oid;
-use fips204::traits::{KeyGen, SerDes, Signer, Verifier};
-use fips204::xof::{Sha256Ctr, Sha512Ctr, Xof};
-use fips204::{ml_dsa_44, ml_dsa_65, ml_dsa_87};
-use hex::FromHexError;
+use crate::keys::sets::{
+    Judges, MESSAGES, PairCall, SEEDS, Set44, Set65, Set87, Signs, TestSet, Text,
+};
+use crate::values::{RECORDED, has_text};
+use fips204::Fault;
+use fips204::pre_hash::SHA2_256;
+use fips204::traits::DummyRng;
+use fips204::xof::{Sha256Ctr, Sha256CtrLong, Sha512Ctr, Sha512CtrLong};
 use sha2::{Digest, Sha256};
 use std::alloc::Global;
 use std::test::Fail;
 
-/// Whether bytes have this text in hex.
-pub fn has_text(alloc: Global, bytes: &[u8], text: &str) -> Result<bool, FromHexError> {
-    Ok(hex::decode(alloc, text)?.as_slice() == bytes)
+/// The message `00` with an empty context.
+const MESSAGE: Text = Text::Message(&[0], &[]);
+
+/// Which of these a key accepts: a signature of the message `00` with an empty context, of another message and of
+/// another context, and another signature.
+fn verdicts<S, P: Judges<S>>(key: &P, signature: &S, other: &S) -> [bool; 4] {
+    [
+        key.accepts(&MESSAGE, signature),
+        key.accepts(&Text::Message(&[1], &[]), signature),
+        key.accepts(&Text::Message(&[0], &[0]), signature),
+        key.accepts(&MESSAGE, other),
+    ]
 }
 
-/// Whether bytes have this SHA-256, in hex.
-fn has_digest(alloc: Global, bytes: &[u8], digest: &str) -> Result<bool, FromHexError> {
-    has_text(alloc, Sha256::digest(bytes).as_slice(), digest)
+/// Whether the signature of the message `00` by 32 bytes 00 is this one, in hex, drawn or not, of a private key and of
+/// the prepared one, and the public keys accept it and no other.
+fn is_signed<S: TestSet>(
+    alloc: Global,
+    public: &S::Public,
+    private: &S::Private,
+    recorded: &str,
+) -> Result<[bool; 6], Fail> {
+    let verifier = S::prepared_public(public)?;
+    let signer = S::prepared_private(private)?;
+    let mut zeros = DummyRng { bytes: [0; 32] };
+    let signature = private.seeded(&[0; 32], &MESSAGE)?;
+    let other = S::spoiled(&signature);
+    let one = [true, false, false, false];
+    Ok([
+        has_text(alloc, S::bytes(&signature), recorded)?,
+        private.drawn(&mut zeros, true, &MESSAGE)? == signature,
+        signer.seeded(&[0; 32], &MESSAGE)? == signature,
+        signer.drawn(&mut zeros, true, &MESSAGE)? == signature,
+        verdicts(public, &signature, &other) == one,
+        verdicts(&verifier, &signature, &other) == one,
+    ])
 }
 
-/// Whether a key accepts a signature of the message `00` with an empty context, and neither that of another message
-/// nor another context nor another signature.
-fn accepts_one<P: Verifier<Signature = [u8; SIG]>, const SIG: usize>(
-    key: &P,
-    signature: &[u8; SIG],
-) -> bool {
-    let mut other = *signature;
-    if let Some(byte) = other.get_mut(100) {
-        *byte ^= 1;
-    }
-    let verdicts = [
-        key.verify(&[0], signature, &[]),
-        key.verify(&[1], signature, &[]),
-        key.verify(&[0], signature, &[0]),
-        key.verify(&[0], &other, &[]),
-    ];
-    verdicts == [true, false, false, false]
+/// Whether both keys are these, in hex.
+fn are_keys<S: TestSet>(
+    alloc: Global,
+    pair: (S::Public, S::Private),
+    recorded: &[&str; 4],
+) -> Result<[bool; 2], Fail> {
+    let [public, private] = S::key_bytes(alloc, pair.0, pair.1)?;
+    Ok([
+        has_text(alloc, public.as_slice(), recorded[1])?,
+        has_text(alloc, private.as_slice(), recorded[2])?,
+    ])
 }
 
-/// Whether the pair of 32 bytes 00 and its signature of the message `00` by 32 bytes 00 are these, in hex, and the key
-/// accepts that signature and no other.
-fn is_recorded<
-    K: KeyGen<PublicKey = P, PrivateKey = S>,
-    P: SerDes<ByteArray = [u8; PK]> + Verifier<Signature = [u8; SIG]> + Drop,
-    S: SerDes<ByteArray = [u8; SK]> + Signer<Signature = [u8; SIG], PublicKey = P> + Drop,
-    const PK: usize,
-    const SK: usize,
-    const SIG: usize,
->(alloc: Global, recorded: [&str; 4]) -> Result<bool, Fail>
-    requires { (PK < 2 ^ 63) × (SK < 2 ^ 63) × (SIG < 2 ^ 63) }
-{
-    let (public, private) = K::keygen_from_seed(&[0; 32])?;
-    let signature = private.try_sign_with_seed(&[0; 32], &[0], &[])?;
-    let same = [
-        accepts_one(&public, &signature),
-        has_text(alloc, &signature, recorded[3])?,
-        has_text(alloc, &public.into_bytes(), recorded[1])?,
-        has_text(alloc, &private.into_bytes(), recorded[2])?,
-    ];
-    Ok(same == [true; 4])
-}
-
-/// Whether the bytes of set 44 over these streams are those that are recorded.
-pub fn is_recorded_44<H: Xof, G: Xof>(alloc: Global) -> Result<bool, Fail> {
-    is_recorded::<
-        ml_dsa_44::KG<H, G>,
-        ml_dsa_44::PublicKey<H, G>,
-        ml_dsa_44::PrivateKey<H, G>,
-        1312,
-        2560,
-        2420,
-    >(alloc, RECORDED[0])
-}
-
-/// Whether the bytes of set 65 over these streams are those that are recorded.
-pub fn is_recorded_65<H: Xof, G: Xof>(alloc: Global) -> Result<bool, Fail> {
-    is_recorded::<
-        ml_dsa_65::KG<H, G>,
-        ml_dsa_65::PublicKey<H, G>,
-        ml_dsa_65::PrivateKey<H, G>,
-        1952,
-        4032,
-        3309,
-    >(alloc, RECORDED[1])
-}
-
-/// Whether the bytes of set 87 over these streams are those that are recorded.
-pub fn is_recorded_87<H: Xof, G: Xof>(alloc: Global) -> Result<bool, Fail> {
-    is_recorded::<
-        ml_dsa_87::KG<H, G>,
-        ml_dsa_87::PublicKey<H, G>,
-        ml_dsa_87::PrivateKey<H, G>,
-        2592,
-        4896,
-        4627,
-    >(alloc, RECORDED[2])
+/// Whether the pair of 32 bytes 00, given or drawn, and its signature are those that are recorded.
+fn are_recorded<S: TestSet>(alloc: Global, recorded: &[&str; 4]) -> Result<[bool; 10], Fail> {
+    let mut zeros = DummyRng { bytes: [0; 32] };
+    let (public, private) = S::pair(&[0; 32])?;
+    let [a, b, c, d, e, f] = is_signed::<S>(alloc, &public, &private, recorded[3])?;
+    let [g, h] = are_keys::<S>(alloc, (public, private), recorded)?;
+    let drawn = S::drawn_pair(&mut zeros, PairCall::OfTrait)?;
+    let [i, j] = are_keys::<S>(alloc, drawn, recorded)?;
+    Ok([a, b, c, d, e, f, g, h, i, j])
 }
 
 #[test]
-fn bytes_of_set_44(rt: HostRuntime) -> Result<(), Fail> {
-    assert!(rt; is_recorded_44::<Sha256Ctr, Sha512Ctr>(rt.alloc())?);
+fn bytes_of_each_set(rt: HostRuntime) -> Result<(), Fail> {
+    let alloc = rt.alloc();
+    let [first, second, third] = RECORDED;
+    assert_eq!(rt;
+        are_recorded::<Set44<Sha256Ctr, Sha512Ctr>>(alloc, &first)?,
+        [true; 10]
+    );
+    assert_eq!(rt;
+        are_recorded::<Set65<Sha256Ctr, Sha512Ctr>>(alloc, &second)?,
+        [true; 10]
+    );
+    assert_eq!(rt;
+        are_recorded::<Set87<Sha256Ctr, Sha512Ctr>>(alloc, &third)?,
+        [true; 10]
+    );
     Ok(())
 }
 
 #[test]
-fn bytes_of_set_65(rt: HostRuntime) -> Result<(), Fail> {
-    assert!(rt; is_recorded_65::<Sha256Ctr, Sha512Ctr>(rt.alloc())?);
-    Ok(())
-}
-
-#[test]
-fn bytes_of_set_87(rt: HostRuntime) -> Result<(), Fail> {
-    assert!(rt; is_recorded_87::<Sha256Ctr, Sha512Ctr>(rt.alloc())?);
+fn bytes_of_each_set_over_long_fronts(rt: HostRuntime) -> Result<(), Fail> {
+    let alloc = rt.alloc();
+    let [first, second, third] = RECORDED;
+    assert_eq!(rt;
+        are_recorded::<Set44<Sha256CtrLong, Sha512CtrLong>>(alloc, &first)?,
+        [true; 10]
+    );
+    assert_eq!(rt;
+        are_recorded::<Set65<Sha256CtrLong, Sha512CtrLong>>(alloc, &second)?,
+        [true; 10]
+    );
+    assert_eq!(rt;
+        are_recorded::<Set87<Sha256CtrLong, Sha512CtrLong>>(alloc, &third)?,
+        [true; 10]
+    );
     Ok(())
 }
 
 /// Whether the private key of 32 bytes 00 signs the digest of 32 bytes 00 by 32 bytes 00 with a signature of this
-/// SHA-256, in hex, and the public key accepts it.
-fn signs_digest<
-    K: KeyGen<PublicKey = P, PrivateKey = S>,
-    P: Verifier<Signature = [u8; SIG]> + Drop,
-    S: Signer<Signature = [u8; SIG], PublicKey = P> + Drop,
-    const SIG: usize,
->(alloc: Global, digest: &str) -> Result<bool, Fail>
-    requires { SIG < 2 ^ 63 }
-{
-    let sha256 = oid(0x01);
-    let (public, private) = K::keygen_from_seed(&[0; 32])?;
-    let signature = private.try_hash_sign_with_seed(&[0; 32], &[0; 32], &[], &sha256)?;
-    let accepted = public.hash_verify(&[0; 32], &signature, &[], &sha256);
-    Ok(accepted && has_digest(alloc, &signature, digest)?)
+/// SHA-256, in hex, and the public key accepts it; and so when they are prepared.
+fn signs_digest<S: TestSet>(alloc: Global, digest: &str) -> Result<[bool; 4], Fail> {
+    let text = Text::Digest(&[0; 32], &[], &SHA2_256);
+    let (public, private) = S::pair(&[0; 32])?;
+    let signature = private.seeded(&[0; 32], &text)?;
+    let found = Sha256::digest(S::bytes(&signature));
+    Ok([
+        has_text(alloc, found.as_slice(), digest)?,
+        S::prepared_private(&private)?.seeded(&[0; 32], &text)? == signature,
+        public.accepts(&text, &signature),
+        S::prepared_public(&public)?.accepts(&text, &signature),
+    ])
 }
 
 #[test]
 fn signed_digests(rt: HostRuntime) -> Result<(), Fail> {
-    let same = signs_digest::<
-        ml_dsa_44::KG<Sha256Ctr, Sha512Ctr>,
-        ml_dsa_44::PublicKey<Sha256Ctr, Sha512Ctr>,
-        ml_dsa_44::PrivateKey<Sha256Ctr, Sha512Ctr>,
-        2420,
-    >(
-        rt.alloc(),
-        "4309fb4dd5abe94f0f311fc405d50c307e428f4ca843ab68bacc8d87e084f95b",
-    )?;
-    assert!(rt; same);
-    let same = signs_digest::<
-        ml_dsa_65::KG<Sha256Ctr, Sha512Ctr>,
-        ml_dsa_65::PublicKey<Sha256Ctr, Sha512Ctr>,
-        ml_dsa_65::PrivateKey<Sha256Ctr, Sha512Ctr>,
-        3309,
-    >(
-        rt.alloc(),
-        "542f532c1bf976d659e5c6dd8eeb5c4da20bb5c06cb1f6eaf31cd434c2441e6f",
-    )?;
-    assert!(rt; same);
-    let same = signs_digest::<
-        ml_dsa_87::KG<Sha256Ctr, Sha512Ctr>,
-        ml_dsa_87::PublicKey<Sha256Ctr, Sha512Ctr>,
-        ml_dsa_87::PrivateKey<Sha256Ctr, Sha512Ctr>,
-        4627,
-    >(
-        rt.alloc(),
-        "91bf84c83703a7204ddbf8f96f6f16c93201c72afb6296ed2f4575970081d8e5",
-    )?;
-    assert!(rt; same);
+    let digest = "4309fb4dd5abe94f0f311fc405d50c307e428f4ca843ab68bacc8d87e084f95b";
+    assert_eq!(rt;
+        signs_digest::<Set44<Sha256Ctr, Sha512Ctr>>(rt.alloc(), digest)?,
+        [true; 4]
+    );
+    let digest = "542f532c1bf976d659e5c6dd8eeb5c4da20bb5c06cb1f6eaf31cd434c2441e6f";
+    assert_eq!(rt;
+        signs_digest::<Set65<Sha256Ctr, Sha512Ctr>>(rt.alloc(), digest)?,
+        [true; 4]
+    );
+    let digest = "91bf84c83703a7204ddbf8f96f6f16c93201c72afb6296ed2f4575970081d8e5";
+    assert_eq!(rt;
+        signs_digest::<Set87<Sha256Ctr, Sha512Ctr>>(rt.alloc(), digest)?,
+        [true; 4]
+    );
     Ok(())
+}
+
+/// The signatures of the messages, one call for each, and which of them the public key accepts.
+fn single_calls<S: TestSet>(
+    public: &S::Public,
+    private: &S::Private,
+) -> Result<([S::Signature; 5], [bool; 5]), Fault> {
+    let mut signatures = [S::signature(); 5];
+    let mut verdicts = [false; 5];
+    for i in 0..5usize {
+        let text = Text::Message(MESSAGES[i], b"context");
+        signatures[i] = private.seeded(&SEEDS[i], &text)?;
+        verdicts[i] = public.accepts(&text, &signatures[i]);
+    }
+    Ok((signatures, verdicts))
+}
+
+/// Whether the first of the messages, so many, are signed with one call as they are one by one, and refused under a
+/// context of 256 bytes.
+fn are_signed<S: TestSet>(
+    key: &S::PreparedPrivate,
+    count: usize,
+    signatures: &[S::Signature; 5],
+) -> bool
+    requires { count ≤ 5 }
+{
+    let signed = S::sign_each(key, count, b"context");
+    let refused = S::sign_each(key, count, &[0; 256]);
+    for i in 0..5usize {
+        let (good, bad) = if i < count {
+            (Ok(signatures[i]), Err(Fault::SignCtx))
+        } else {
+            (Err(Fault::KeyRange), Err(Fault::KeyRange))
+        };
+        if signed[i] != good || refused[i] != bad {
+            return false;
+        }
+    }
+    true
+}
+
+/// Whether lists of 0, 1 and 5 messages are signed as they are one by one; which of 0, 1 and 5 signatures are accepted,
+/// and of five where another bit stands in the third; and which under a context of 256 bytes.
+fn lists<S: TestSet>() -> Result<([bool; 4], [[bool; 5]; 5]), Fault> {
+    let (public, private) = S::pair(&[0; 32])?;
+    let (mut signatures, verdicts) = single_calls::<S>(&public, &private)?;
+    let signer = S::prepared_private(&private)?;
+    let verifier = S::prepared_public(&public)?;
+    let signed = [
+        verdicts == [true; 5],
+        are_signed::<S>(&signer, 0, &signatures),
+        are_signed::<S>(&signer, 1, &signatures),
+        are_signed::<S>(&signer, 5, &signatures),
+    ];
+    let none = S::verify_each(&verifier, 0, &signatures, b"context");
+    let one = S::verify_each(&verifier, 1, &signatures, b"context");
+    let five = S::verify_each(&verifier, 5, &signatures, b"context");
+    let long = S::verify_each(&verifier, 5, &signatures, &[0; 256]);
+    signatures[2] = S::spoiled(&signatures[2]);
+    let spoiled = S::verify_each(&verifier, 5, &signatures, b"context");
+    Ok((signed, [none, one, five, spoiled, long]))
+}
+
+#[test]
+fn many_messages_of_each_set(rt: HostRuntime) {
+    let verdicts = [
+        [false; 5],
+        [true, false, false, false, false],
+        [true; 5],
+        [true, true, false, true, true],
+        [false; 5],
+    ];
+    assert_eq!(rt;
+        lists::<Set44<Sha256Ctr, Sha512Ctr>>(),
+        Ok(([true; 4], verdicts))
+    );
+    assert_eq!(rt;
+        lists::<Set65<Sha256Ctr, Sha512Ctr>>(),
+        Ok(([true; 4], verdicts))
+    );
+    assert_eq!(rt;
+        lists::<Set87<Sha256Ctr, Sha512Ctr>>(),
+        Ok(([true; 4], verdicts))
+    );
 }

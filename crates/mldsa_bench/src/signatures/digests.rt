@@ -1,12 +1,9 @@
-//! Signing of digests over constant streams, and its refusals.
+//! Identifiers of hashes, and the conditions on digests.
 #![tactic(auto)]
 
-use crate::values::constant_streams::{private_44, public_44, signature_44};
 use crate::values::identifiers::{longer_oid, longest_oid, oid};
 use fips204::pre_hash::{self, digest_len};
-use fips204::traits::{SerDes, Signer, Verifier};
-use fips204::xof::Fill;
-use fips204::{Fault, check_pre_hash, ml_dsa_44};
+use fips204::{Fault, check_pre_hash};
 use std::test::Fail;
 
 #[test]
@@ -67,59 +64,5 @@ fn digests_that_are_refused(rt: HostRuntime) -> Result<(), Fail> {
 fn longest_identifiers(rt: HostRuntime) -> Result<(), Fail> {
     assert!(rt; check_pre_hash(&[], &longest_oid()) == Ok(()));
     assert!(rt; check_pre_hash(&[], &longer_oid()) == Err(Fault::OidNotDer));
-    Ok(())
-}
-
-/// Whether the recorded private key signs a digest with the recorded signature.
-fn is_signed(digest: &[u8], ctx: &[u8], identifier: &[u8]) -> Result<bool, Fault> {
-    let private = ml_dsa_44::PrivateKey::<Fill<0x55>, Fill<0>>::try_from_bytes(private_44())?;
-    let signature = private.try_hash_sign_with_seed(&[0; 32], digest, ctx, identifier)?;
-    Ok(signature == signature_44())
-}
-
-/// Whether the recorded public key accepts the recorded signature of a digest.
-fn is_verified(digest: &[u8], ctx: &[u8], identifier: &[u8]) -> Result<bool, Fault> {
-    let public = ml_dsa_44::PublicKey::<Fill<0x55>, Fill<0>>::try_from_bytes(public_44())?;
-    Ok(public.hash_verify(digest, &signature_44(), ctx, identifier))
-}
-
-#[test]
-fn digests_that_are_signed(rt: HostRuntime) -> Result<(), Fail> {
-    assert!(rt; is_signed(&[9; 32], &[], &oid(0x01))?);
-    assert!(rt; is_signed(&[9; 32], &[1; 255], &oid(0x01))?);
-    assert!(rt; is_verified(&[9; 32], &[], &oid(0x01))?);
-    assert!(rt; is_verified(&[9; 64], &[], &oid(0x03))?);
-    assert!(rt; !is_verified(&[9; 63], &[], &oid(0x03))?);
-    assert!(rt; !is_verified(&[9; 32], &[1; 256], &oid(0x01))?);
-    Ok(())
-}
-
-#[test]
-fn digests_that_are_not_signed(rt: HostRuntime) -> Result<(), Fail> {
-    let private = ml_dsa_44::PrivateKey::<Fill<0x55>, Fill<0>>::try_from_bytes(private_44())?;
-    let public = ml_dsa_44::PublicKey::<Fill<0x55>, Fill<0>>::try_from_bytes(public_44())?;
-    let sha256 = oid(0x01);
-    for (digest, ctx, identifier, fault) in [
-        (
-            [0u8; 32].as_slice(),
-            [0u8; 256].as_slice(),
-            [].as_slice(),
-            Fault::HashCtx,
-        ),
-        (&[0; 32], &[], &[], Fault::OidEmpty),
-        (&[0; 32], &[], &[0xff], Fault::OidNotDer),
-        (&[0; 32], &[], &[0x06], Fault::OidNotDer),
-        (&[0; 32], &[], &[0x06, 0x00], Fault::OidNotDer),
-        (&[0; 32], &[], &[0x04, 0x01, 0x00], Fault::OidNotDer),
-        (&[0; 32], &[], &sha256[..10], Fault::OidNotDer),
-        (&[0; 1025], &[], &sha256, Fault::DigestTooLong),
-        (&[], &[], &sha256, Fault::DigestLength),
-        (&[0; 31], &[], &sha256, Fault::DigestLength),
-        (&[0; 33], &[], &sha256, Fault::DigestLength),
-    ] {
-        let answer = private.try_hash_sign_with_seed(&[0; 32], digest, ctx, identifier);
-        assert!(rt; answer.err() == Some(fault));
-        assert!(rt; !public.hash_verify(digest, &signature_44(), ctx, identifier));
-    }
     Ok(())
 }

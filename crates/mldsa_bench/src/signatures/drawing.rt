@@ -1,120 +1,97 @@
-//! Calls that draw their random bytes.
+//! Calls that draw: a generator that refuses at the first, the second or the third of four.
 #![tactic(auto)]
 
-use crate::signatures::generators::Listed;
-use crate::values::constant_streams::{private_44, public_44, signature_44};
-use crate::values::identifiers::oid;
-use fips204::traits::{CryptoRngCore, DummyRng, KeyGen, SerDes, Signer, Verifier};
-use fips204::xof::{Fill, Sha256Ctr, Sha512Ctr};
-use fips204::{Fault, ml_dsa_44};
+use crate::keys::sets::{
+    Constant44, Constant65, Constant87, PairCall, Signs, TestSet, Text, is_same,
+};
+use crate::signatures::generators::RefusesAt;
+use fips204::Fault;
+use fips204::pre_hash::SHA2_256;
+use fips204::traits::{CryptoRngCore, DummyRng};
 use std::test::Fail;
 
-/// A private key of set 44 over constant streams.
-type Private44 = ml_dsa_44::PrivateKey<Fill<0x55>, Fill<0>>;
+/// What is signed with drawn bytes, and the refusal that stands for the generator's.
+const DRAWN: [(Text, Fault); 4] = [
+    (Text::Message(b"abc", &[1; 255]), Fault::SignRng),
+    (Text::Digest(&[0; 32], &[1; 255], &SHA2_256), Fault::HashRng),
+    (Text::Framed(b"abc"), Fault::InternalRng),
+    (Text::Hash(&[0; 64]), Fault::InternalRng),
+];
 
-/// Key generation of set 44 over constant streams.
-type Keys44 = ml_dsa_44::KG<Fill<0x55>, Fill<0>>;
-
-/// A refusal, then 32 bytes.
-const REFUSAL_FIRST: [Option<[u8; 32]>; 2] = [None, Some([7; 32])];
-
-/// Whether a pair that is drawn is the recorded one, or its refusal.
-fn drawn_pair(rng: &mut Listed) -> Result<bool, Fault> {
-    let (public, private) = Keys44::try_keygen_with_rng(rng)?;
-    Ok(public.into_bytes() == public_44() && private.into_bytes() == private_44())
+/// What a call that draws answers.
+fn wanted(refused: bool, fault: Fault) -> Result<bool, Fault> {
+    if refused { Err(fault) } else { Ok(true) }
 }
 
-/// Whether the signature of a message is the recorded one, or its refusal.
-fn drawn_signature(rng: &mut Listed, ctx: &[u8]) -> Result<bool, Fault> {
-    let key = Private44::try_from_bytes(private_44())?;
-    Ok(key.try_sign_with_rng(rng, b"abc", ctx)? == signature_44())
+/// Whether four signatures are made, but for the one whose generator refuses, each of one call of the generator,
+/// which is handed zeros.
+fn draws<S: PartialEq + Drop, K: Signs<S>>(
+    key: &K,
+    text: &Text,
+    fault: Fault,
+    signature: &S,
+    call: u8,
+    writes: bool,
+) -> bool {
+    let mut rng = RefusesAt::new(call, writes);
+    for number in 0..4u8 {
+        let answer = is_same(key.drawn(&mut rng, true, text), signature);
+        if answer != wanted(number == call, fault) {
+            return false;
+        }
+    }
+    rng.asked == 4 && !rng.saw_a_value
 }
 
-/// Whether the signature of a digest is the recorded one, or its refusal.
-fn drawn_digest(rng: &mut Listed, ctx: &[u8], oid: &[u8]) -> Result<bool, Fault> {
-    let key = Private44::try_from_bytes(private_44())?;
-    Ok(key.try_hash_sign_with_rng(rng, &[0; 32], ctx, oid)? == signature_44())
+/// Whether texts of each kind are drawn so.
+fn draws_each<S: PartialEq + Drop, K: Signs<S>>(
+    key: &K,
+    signature: &S,
+    call: u8,
+    writes: bool,
+) -> bool {
+    DRAWN.iter().all(|(text, fault)| draws(key, text, *fault, signature, call, writes))
 }
 
-/// Whether the signature of a framed message is the recorded one, or its refusal.
-fn drawn_framed(rng: &mut Listed, hedged: bool) -> Result<bool, Fault> {
-    let key = Private44::try_from_bytes(private_44())?;
-    Ok(key.sign_internal(rng, b"abc", hedged)? == signature_44())
+/// Whether four pairs of keys are made so.
+fn draws_pairs<S: TestSet>(pair_call: PairCall, call: u8, writes: bool) -> bool {
+    let mut rng = RefusesAt::new(call, writes);
+    for number in 0..4u8 {
+        let answer = match S::drawn_pair(&mut rng, pair_call) {
+            Ok((public, private)) => Ok(S::is_pair(public, private)),
+            Err(fault) => Err(fault),
+        };
+        if answer != wanted(number == call, Fault::KeyGenRng) {
+            return false;
+        }
+    }
+    rng.asked == 4 && !rng.saw_a_value
 }
 
-/// Whether the signature of a hash is the recorded one, or its refusal.
-fn drawn_hash(rng: &mut Listed, hedged: bool) -> Result<bool, Fault> {
-    let key = Private44::try_from_bytes(private_44())?;
-    Ok(key.sign_mu(rng, &[0; 64], hedged)? == signature_44())
-}
-
-#[test]
-fn generators_that_refuse_a_pair(rt: HostRuntime) {
-    let mut rng = Listed {
-        answers: &REFUSAL_FIRST,
-    };
-    assert!(rt; drawn_pair(&mut rng) == Err(Fault::KeyGenRng));
-    assert!(rt; rng.answers.len() == 1);
-    assert!(rt; drawn_pair(&mut rng) == Ok(true));
-    assert!(rt; rng.answers.len() == 0);
-    let answer = ml_dsa_44::try_keygen_with_rng::<Fill<0x55>, Fill<0>, Listed>(&mut rng);
-    assert!(rt; answer.err() == Some(Fault::KeyGenRng));
-}
-
-#[test]
-fn generators_that_refuse_a_signature(rt: HostRuntime) {
-    let mut rng = Listed {
-        answers: &REFUSAL_FIRST,
-    };
-    assert!(rt; drawn_signature(&mut rng, &[]) == Err(Fault::SignRng));
-    assert!(rt; rng.answers.len() == 1);
-    assert!(rt; drawn_signature(&mut rng, &[]) == Ok(true));
-    assert!(rt; rng.answers.len() == 0);
-}
-
-#[test]
-fn generators_that_refuse_a_signed_digest(rt: HostRuntime) {
-    let mut rng = Listed {
-        answers: &REFUSAL_FIRST,
-    };
-    assert!(rt; drawn_digest(&mut rng, &[], &oid(0x01)) == Err(Fault::HashRng));
-    assert!(rt; rng.answers.len() == 1);
-    assert!(rt; drawn_digest(&mut rng, &[], &oid(0x01)) == Ok(true));
-    assert!(rt; rng.answers.len() == 0);
-}
-
-#[test]
-fn generators_that_refuse_a_hook(rt: HostRuntime) {
-    let mut rng = Listed {
-        answers: &[None, None, Some([7; 32])],
-    };
-    assert!(rt; drawn_framed(&mut rng, true) == Err(Fault::InternalRng));
-    assert!(rt; drawn_hash(&mut rng, true) == Err(Fault::InternalRng));
-    assert!(rt; rng.answers.len() == 1);
-    assert!(rt; drawn_hash(&mut rng, true) == Ok(true));
-    assert!(rt; rng.answers.len() == 0);
+/// Whether every call of a set that draws answers so: three for pairs, those of a private key, and those of a
+/// prepared one.
+fn every_call_draws<S: TestSet>(call: u8, writes: bool) -> Result<[bool; 5], Fault> {
+    let private = S::private()?;
+    let signer = S::prepared_private(&private)?;
+    let signature = S::signature();
+    Ok([
+        draws_pairs::<S>(PairCall::OfTrait, call, writes),
+        draws_pairs::<S>(PairCall::OfSet, call, writes),
+        draws_pairs::<S>(PairCall::Shared, call, writes),
+        draws_each(&private, &signature, call, writes),
+        draws_each(&signer, &signature, call, writes),
+    ])
 }
 
 #[test]
-fn hooks_that_draw_nothing(rt: HostRuntime) -> Result<(), Fail> {
-    let mut rng = Listed { answers: &[None] };
-    assert!(rt; drawn_hash(&mut rng, false) == Ok(true));
-    assert!(rt; drawn_framed(&mut rng, false) == Ok(true));
-    assert!(rt; rng.answers.len() == 1);
-    let key = ml_dsa_44::PublicKey::<Fill<0x55>, Fill<0>>::try_from_bytes(public_44())?;
-    assert!(rt; key.verify_mu(&[0; 64], &signature_44()));
-    assert!(rt; key.verify_internal(b"abc", &signature_44()));
-    Ok(())
-}
-
-#[test]
-fn refusals_before_the_generator(rt: HostRuntime) {
-    let mut rng = Listed { answers: &[None] };
-    let long = [0u8; 256];
-    assert!(rt; drawn_signature(&mut rng, &long) == Err(Fault::SignCtx));
-    assert!(rt; drawn_digest(&mut rng, &long, &oid(0x01)) == Err(Fault::HashCtx));
-    assert!(rt; drawn_digest(&mut rng, &[], &[]) == Err(Fault::OidEmpty));
-    assert!(rt; rng.answers.len() == 1);
+fn refusing_generators(rt: HostRuntime) {
+    for call in 0..3u8 {
+        for writes in [false, true] {
+            assert_eq!(rt; every_call_draws::<Constant44>(call, writes), Ok([true; 5]));
+            assert_eq!(rt; every_call_draws::<Constant65>(call, writes), Ok([true; 5]));
+            assert_eq!(rt; every_call_draws::<Constant87>(call, writes), Ok([true; 5]));
+        }
+    }
 }
 
 /// Whether `DummyRng` refuses so many bytes and leaves them as they were.
@@ -127,51 +104,13 @@ fn refused_and_left(out: &mut [u8]) -> bool {
 }
 
 #[test]
-fn generator_of_one_seed(rt: HostRuntime) -> Result<(), Fail> {
+fn generator_of_one_seed(rt: HostRuntime) {
     assert!(rt; refused_and_left(&mut [0; 0]));
     assert!(rt; refused_and_left(&mut [0; 31]));
     assert!(rt; refused_and_left(&mut [0; 33]));
     let mut rng = DummyRng { bytes: [7; 32] };
     let mut out = [0u8; 32];
-    let answer = rng.try_fill_bytes(&mut out);
-    let DummyRng { bytes } = rng;
-    assert_eq!(rt; answer, Ok(()));
-    assert!(rt; out == [7; 32]);
-    assert!(rt; bytes == [7; 32]);
-    Ok(())
-}
-
-/// A private key of set 44 over the counter streams.
-type PrivateCtr44 = ml_dsa_44::PrivateKey<Sha256Ctr, Sha512Ctr>;
-
-/// A public key of set 44 over the counter streams.
-type PublicCtr44 = ml_dsa_44::PublicKey<Sha256Ctr, Sha512Ctr>;
-
-/// Whether the hooks sign a framed message, over 32 bytes 07 that are drawn, with this signature and accept it.
-fn hooks_take(
-    private: &PrivateCtr44,
-    public: &PublicCtr44,
-    framed: &[u8],
-    signature: &[u8; 2420],
-) -> bool {
-    let mut rng = Listed {
-        answers: &[Some([7; 32])],
-    };
-    private.sign_internal(&mut rng, framed, true) == Ok(*signature)
-        && public.verify_internal(framed, signature)
-}
-
-#[test]
-fn hooks_take_framed_messages(rt: HostRuntime) -> Result<(), Fail> {
-    let (public, private) = ml_dsa_44::KG::<Sha256Ctr, Sha512Ctr>::keygen_from_seed(&[0; 32])?;
-    let plain = private.try_sign_with_seed(&[7; 32], b"c", b"ab")?;
-    assert!(rt; hooks_take(&private, &public, &[0x00, 0x02, 0x61, 0x62, 0x63], &plain));
-    let signature = private.try_hash_sign_with_seed(&[7; 32], &[9; 32], b"ab", &oid(0x01))?;
-    let mut framed = [9u8; 47];
-    framed[..4].copy_from_slice(&[0x01, 0x02, 0x61, 0x62]);
-    framed[4..15].copy_from_slice(&oid(0x01));
-    assert!(rt; hooks_take(&private, &public, &framed, &signature));
-    assert!(rt; public.hash_verify(&[9; 32], &signature, b"ab", &oid(0x01)));
-    assert!(rt; !public.verify(b"c", &signature, b"ab"));
-    Ok(())
+    assert_eq!(rt; rng.try_fill_bytes(&mut out), Ok(()));
+    assert_eq!(rt; out, [7; 32]);
+    assert_eq!(rt; rng.bytes, [7; 32]);
 }

@@ -1,4 +1,4 @@
-//! A generator whose answers are written out.
+//! A generator that refuses once, counts its calls, and looks at what it is handed.
 #![tactic(auto)]
 
 ghost use Rattle.std.specs.Prelude.{◌≡◌};
@@ -6,48 +6,27 @@ ghost use Rattle.std.specs.Prelude.{◌≡◌};
 use fips204::RngError;
 use fips204::traits::CryptoRngCore;
 
-/// A generator that gives a list of answers, one a call: 32 bytes, or a refusal where there are none. It
-/// refuses every call that asks for another number of bytes, and every call after the list. Where it
-/// refuses it has written over `out` before.
-#[derive(Drop)]
-pub struct Listed<'a> {
-    pub answers: &'a [Option<[u8; 32]>],
-}
-
-impl CryptoRngCore for Listed<'_> {
-    ghost use Rattle.std.specs.Prelude.{◌≡◌, ◌≢◌, ◌⊎◌, ◌∷◌, Some, None, drop, slice_index_or};
-
-    ghost gives = { λ before asked bytes after. (asked ≡ 32) × (before.answers.now ≡ Some bytes ∷ after.answers.now) };
-
-    ghost refuses = { λ before asked after. ((asked ≢ 32) ⊎ (slice_index_or before.answers.now 0 None ≡ None)) × (after.answers.now ≡ drop 1 before.answers.now) };
-
-    fn try_fill_bytes(&mut self, out: &mut [u8]) -> Result<(), RngError> {
-        let Some((answer, rest)) = self.answers.split_first() else {
-            out.fill(0xaa);
-            return Err(RngError);
-        };
-        self.answers = rest;
-        match answer {
-            Some(bytes) if out.len() == 32 => {
-                out.copy_from_slice(bytes);
-                Ok(())
-            }
-            _ => {
-                out.fill(0xaa);
-                Err(RngError)
-            }
-        }
-    }
-}
-
 /// A generator that refuses at one call, counted from 0, and every call that asks for another number of
 /// bytes than 32; it gives 32 bytes 07 to every other. Where it `writes`, it has written over `out` before
-/// it refuses.
+/// it refuses. It notes whether `out` ever held anything but zeros.
 #[derive(Drop)]
 pub struct RefusesAt {
     pub call: u8,
-    pub asked: u8,
     pub writes: bool,
+    pub asked: u8,
+    pub saw_a_value: bool,
+}
+
+impl RefusesAt {
+    /// A generator that has not been asked yet.
+    pub fn new(call: u8, writes: bool) -> RefusesAt {
+        RefusesAt {
+            call,
+            writes,
+            asked: 0,
+            saw_a_value: false,
+        }
+    }
 }
 
 impl CryptoRngCore for RefusesAt {
@@ -60,6 +39,9 @@ impl CryptoRngCore for RefusesAt {
     fn try_fill_bytes(&mut self, out: &mut [u8]) -> Result<(), RngError> {
         let call = self.asked;
         self.asked = call.wrapping_add(1);
+        if !is_zero(out) {
+            self.saw_a_value = true;
+        }
         if out.len() == 32 && call != self.call {
             out.fill(7);
             return Ok(());
@@ -69,4 +51,9 @@ impl CryptoRngCore for RefusesAt {
         }
         Err(RngError)
     }
+}
+
+/// Whether every byte is 0.
+fn is_zero(bytes: &[u8]) -> bool {
+    bytes.iter().all(|byte| *byte == 0)
 }
