@@ -7,3 +7,4 @@ pub mod hint_parts;
 pub mod lanes;
 pub mod polynomials;
 pub mod rounding;
+pub mod vectors_and_packing;

@@ -3,9 +3,8 @@
 
 pub mod batches;
 pub mod counted_calls;
-pub mod cut_inputs;
 pub mod devices;
 pub mod failing_devices;
-pub mod lines;
+pub mod faults;
 pub mod results;
 pub mod runs;

@@ -59,7 +59,7 @@ fn has_ones(hint: &[R; 4], places: [&[u8]; 4]) -> bool {
 }
 
 /// How many ones each polynomial of a hint has.
-fn ones_of(hint: &[R; 4]) -> [usize; 4] {
+pub fn ones_of(hint: &[R; 4]) -> [usize; 4] {
     hint.map(|w| w.0.iter().filter(|x| **x == 1).count())
 }
 

@@ -4,6 +4,7 @@
 ghost use Rattle.std.specs.Prelude.{◌≤◌, ◌<◌, ◌≤ℤ◌, ◌-ℤ◌, pos, nat_abs};
 ghost use Rattle.std.specs.List.{All};
 
+use fips204::Fault;
 use fips204::hashing::sample_in_ball;
 use fips204::helpers::{Count, ZETA_TABLE_MONT, center_mod, infinity_norm, mont_reduce, to_mont};
 use fips204::ntt::{inv_ntt, ntt};
@@ -243,6 +244,43 @@ fn challenge_times_a_constant(rt: HostRuntime) -> Result<(), Fail> {
         assert!(rt; is_congruent(product[i], wanted), "place {i}");
     }
     Ok(())
+}
+
+/// Coefficient 255 of the challenge over bytes 55 times the polynomial, of coefficients up to 2, that has the signs of
+/// the challenge turned round, and of its negative.
+fn largest_products() -> Result<[i32; 2], Fault> {
+    let R(c) = sample_in_ball::<Fill<0x55>>(39, b"abc")?;
+    let mut same = [2i32; 256];
+    let mut opposite = [-2i32; 256];
+    for i in 0..256usize {
+        if c[255 - i] == -1 {
+            same[i] = -2;
+            opposite[i] = 2;
+        }
+    }
+    Ok([
+        slow_product(&c, &same)[255],
+        slow_product(&c, &opposite)[255],
+    ])
+}
+
+#[test]
+fn bound_of_a_product_with_a_challenge(rt: HostRuntime) {
+    assert_eq!(rt; largest_products(), Ok([78, 8380417 - 78]));
+}
+
+/// The sum of 256 times `q - 1`, in eight layers that each add what is alike, without a reduction.
+fn largest_sum() -> i32 {
+    let mut sum = 8380416i32;
+    for _ in 0..8 {
+        sum = sum.wrapping_add(sum);
+    }
+    sum
+}
+
+#[test]
+fn largest_sum_of_the_inverse_transform(rt: HostRuntime) {
+    assert_eq!(rt; largest_sum(), 2145386496);
 }
 
 /// Whether the polynomial whose transform has all values this one is a constant, in 1024 products and 2048 sums.

@@ -1,8 +1,6 @@
 //! The three sets by one trait: every call of their keys, plain and prepared, for suites that are written once.
 #![tactic(auto)]
 
-ghost use Rattle.std.specs.Prelude.{◌≤◌};
-
 use crate::values::constant_streams as constant;
 use fips204::traits::{CryptoRngCore, DummyRng, KeyGen, SerDes, Signer, Verifier};
 use fips204::types::{ML_DSA_44, ML_DSA_65, ML_DSA_87};
@@ -130,14 +128,13 @@ pub trait TestSet {
     /// A private key with its matrix.
     fn prepared_private(key: &Self::Private) -> Result<Self::PreparedPrivate, Fault>;
 
-    /// What a prepared key answers for the first of the messages, so many, signed under a context with one call;
-    /// `Fault::KeyRange` stands after these.
+    /// What a prepared key answers for the first of the five messages, so many, signed under a context with one
+    /// call; `Fault::KeyRange` stands after these.
     fn sign_each(
         key: &Self::PreparedPrivate,
         count: usize,
         ctx: &[u8],
-    ) -> [Result<Self::Signature, Fault>; 5]
-        requires { count ≤ 5 };
+    ) -> [Result<Self::Signature, Fault>; 5];
 
     /// Which of the first signatures, so many, a prepared key accepts of the messages with one call; no after these.
     fn verify_each(
@@ -145,8 +142,7 @@ pub trait TestSet {
         count: usize,
         signatures: &[Self::Signature; 5],
         ctx: &[u8],
-    ) -> [bool; 5]
-        requires { count ≤ 5 };
+    ) -> [bool; 5];
 
     /// The bytes of both keys.
     fn key_bytes(
@@ -310,6 +306,7 @@ impl<H: Xof, G: Xof> TestSet for Set44<H, G> {
         count: usize,
         ctx: &[u8],
     ) -> [Result<[u8; 2420], Fault>; 5] {
+        let count = count.min(5);
         let mut answers = [Err(Fault::KeyRange); 5];
         key.sign_each(
             &SEEDS[..count],
@@ -326,6 +323,7 @@ impl<H: Xof, G: Xof> TestSet for Set44<H, G> {
         signatures: &[[u8; 2420]; 5],
         ctx: &[u8],
     ) -> [bool; 5] {
+        let count = count.min(5);
         let mut verdicts = [false; 5];
         key.verify_each(
             &MESSAGES[..count],
@@ -500,6 +498,7 @@ impl<H: Xof, G: Xof> TestSet for Set65<H, G> {
         count: usize,
         ctx: &[u8],
     ) -> [Result<[u8; 3309], Fault>; 5] {
+        let count = count.min(5);
         let mut answers = [Err(Fault::KeyRange); 5];
         key.sign_each(
             &SEEDS[..count],
@@ -516,6 +515,7 @@ impl<H: Xof, G: Xof> TestSet for Set65<H, G> {
         signatures: &[[u8; 3309]; 5],
         ctx: &[u8],
     ) -> [bool; 5] {
+        let count = count.min(5);
         let mut verdicts = [false; 5];
         key.verify_each(
             &MESSAGES[..count],
@@ -690,6 +690,7 @@ impl<H: Xof, G: Xof> TestSet for Set87<H, G> {
         count: usize,
         ctx: &[u8],
     ) -> [Result<[u8; 4627], Fault>; 5] {
+        let count = count.min(5);
         let mut answers = [Err(Fault::KeyRange); 5];
         key.sign_each(
             &SEEDS[..count],
@@ -706,6 +707,7 @@ impl<H: Xof, G: Xof> TestSet for Set87<H, G> {
         signatures: &[[u8; 4627]; 5],
         ctx: &[u8],
     ) -> [bool; 5] {
+        let count = count.min(5);
         let mut verdicts = [false; 5];
         key.verify_each(
             &MESSAGES[..count],

@@ -2,9 +2,7 @@
 #![tactic(auto)]
 
 use crate::program::counted_calls::{pieces, runs_as};
-use crate::program::cut_inputs::first_wrong_cut;
-use crate::program::results::hex_lines;
-use crate::program::runs::{ends, line_of, unread_after};
+use crate::program::runs::{ends, hex_lines, line_of, unread_after};
 use crate::values::RECORDED;
 use crate::values::constant_streams::{public_44, signature_44};
 use mldsa_engine::RunFault;
@@ -130,8 +128,10 @@ fn batch_over_a_key_without_matrix(rt: HostRuntime) -> Result<(), Fail> {
     let good = signature_44();
     let lines = [[].as_slice(), &[0, 2], &good, &[0], &good, &[0]];
     assert!(rt; answers(rt.alloc(), "fillff", &lines, false, b"no\nno\n")?);
-    let lines = [[0; 256].as_slice(), &[0, 1], &good, &[0]];
-    assert!(rt; answers(rt.alloc(), "fillff", &lines, false, b"no\n")?);
+    for context in [[].as_slice(), &[0; 256]] {
+        let lines = [context, &[0, 1], &good, &[0]];
+        assert!(rt; answers(rt.alloc(), "fillff", &lines, false, b"no\n")?);
+    }
     Ok(())
 }
 
@@ -194,30 +194,5 @@ fn faults_before_answers(rt: HostRuntime) -> Result<(), Fail> {
         has: 2419,
     };
     assert!(rt; ends(alloc, BATCH_44, input.as_slice(), Err(fault), b""));
-    Ok(())
-}
-
-#[test]
-fn inputs_of_batches_that_are_cut(rt: HostRuntime) -> Result<(), Fail> {
-    let wrong = first_wrong_cut(
-        rt.alloc(),
-        "batch",
-        &[
-            &public_44(),
-            b"context",
-            &[0, 1],
-            &signature_44(),
-            b"message",
-        ],
-        &[
-            (2624, false),
-            (14, true),
-            (4, false),
-            (4840, false),
-            (14, true),
-        ],
-        b"yes\n",
-    )?;
-    assert!(rt; wrong.is_none());
     Ok(())
 }

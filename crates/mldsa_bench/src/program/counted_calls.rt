@@ -3,8 +3,8 @@
 
 ghost use Rattle.std.specs.Prelude.{◌<◌};
 
-use crate::program::devices::{Arguments, CountedReader, CountedWriter, KeptError};
-use crate::program::runs::{answer_of, line_of, words};
+use crate::program::devices::{Arguments, Drip, KeptError, Trickle};
+use crate::program::runs::{BY_BYTES, Manner, WHOLE, is_as, line_of, run_of, text_lines};
 use crate::values::RECORDED;
 use mldsa_engine::output::put;
 use mldsa_engine::process::{self, end};
@@ -15,92 +15,8 @@ use std::io::{self, BufReader, Read};
 use std::process::ExitCode;
 use std::test::Fail;
 
-/// What a run answered and did to its devices.
-#[derive(Drop)]
-pub struct Outcome {
-    pub answer: Result<bool, RunFault>,
-    pub written: Vec<u8>,
-    pub unread: usize,
-    pub reads: usize,
-    pub writes: usize,
-    pub read_failed: bool,
-    pub write_failed: bool,
-}
-
-/// How many bytes each device moves a call at most, and the number of the call that fails.
-#[derive(Clone, Copy)]
-pub struct Manner {
-    pub most: usize,
-    pub read_fails: usize,
-    pub write_fails: usize,
-}
-
-/// Devices that move all that is asked for, and never fail.
-const WHOLE: Manner = Manner {
-    most: usize::MAX,
-    read_fails: usize::MAX,
-    write_fails: usize::MAX,
-};
-
-/// Devices that move a byte a call, and never fail.
-pub const BY_BYTES: Manner = Manner { most: 1, ..WHOLE };
-
-/// A run of a command on these bytes.
-pub fn run_of(
-    alloc: Global,
-    manner: Manner,
-    call: [&str; 3],
-    bytes: &[u8],
-) -> Result<Outcome, AllocError> {
-    let words = words(alloc, call)?;
-    let mut input = Marked::new(CountedReader {
-        bytes,
-        most: manner.most,
-        calls: 0,
-        fails_at: manner.read_fails,
-    });
-    let mut output = Marked::new(CountedWriter {
-        taken: Vec::new(alloc),
-        most: manner.most,
-        calls: 0,
-        fails_at: manner.write_fails,
-    });
-    let answer = answer_of(alloc, words.as_slice(), &mut input, &mut output);
-    let (read_failed, write_failed) = (input.failed(), output.failed());
-    let reader = input.into_device();
-    let writer = output.into_device();
-    Ok(Outcome {
-        answer,
-        written: writer.taken,
-        unread: reader.bytes.len(),
-        reads: reader.calls,
-        writes: writer.calls,
-        read_failed,
-        write_failed,
-    })
-}
-
-/// These lines, each ended by LF.
-fn lines_of(alloc: Global, lines: &[&str]) -> Result<Vec<u8>, AllocError> {
-    let mut bytes = Vec::new(alloc);
-    for line in lines {
-        bytes.extend_from_slice(line.as_bytes())?;
-        bytes.push(b'\n')?;
-    }
-    Ok(bytes)
-}
-
 /// 32 bytes 00, in hex.
 const ZEROS: &str = "0000000000000000000000000000000000000000000000000000000000000000";
-
-/// Whether an outcome has this answer, wrote these bytes in so many calls, and has no device that failed.
-fn is_as(outcome: &Outcome, answer: Result<bool, RunFault>, written: &[u8], writes: usize) -> bool {
-    outcome.answer == answer
-        && outcome.written.as_slice() == written
-        && outcome.writes == writes
-        && !outcome.read_failed
-        && !outcome.write_failed
-}
 
 /// Whether a run on these bytes and good devices answers so, writes these bytes, makes so many reads and writes, and
 /// leaves four bytes unread.
@@ -132,7 +48,7 @@ pub fn runs_as(
     answer: bool,
     written: &[&str],
 ) -> bool {
-    let (Ok(mut bytes), Ok(written)) = (lines_of(alloc, lines), lines_of(alloc, written)) else {
+    let (Ok(mut bytes), Ok(written)) = (text_lines(alloc, lines), text_lines(alloc, written)) else {
         return false;
     };
     let by_bytes = [bytes.len(), written.len()];
@@ -306,7 +222,7 @@ fn faults_in_turn(
 ) -> Result<bool, AllocError> {
     let mut alike = true;
     for (index, good) in lines.iter().enumerate() {
-        let before = lines_of(alloc, &lines[..index])?;
+        let before = text_lines(alloc, &lines[..index])?;
         let wants = if known.contains(&index) {
             Some(good.len() / 2)
         } else {
@@ -367,7 +283,7 @@ fn each_line_is_judged_before_the_next_is_read(rt: HostRuntime) -> Result<(), Fa
 /// Whether a line of this number is too long where it has a digit too many, whatever follows.
 fn is_too_long(alloc: Global, line: usize, before: &[&str]) -> Result<bool, AllocError> {
     let digits = vec![in alloc; b'0'; 2097153]?;
-    let before = lines_of(alloc, before)?;
+    let before = text_lines(alloc, before)?;
     let call = ["fill55", "check", "44"];
     let fault = RunFault::TooLong { line };
     is_judged(
@@ -389,7 +305,7 @@ fn lines_that_are_too_long(rt: HostRuntime) -> Result<(), Fail> {
 
 /// Whether bytes are put in one call of a device, which takes them or fails, and none of them in none.
 fn is_put(alloc: Global, bytes: &[u8], fails_at: usize) -> bool {
-    let mut output = Marked::new(CountedWriter {
+    let mut output = Marked::new(Drip {
         taken: Vec::new(alloc),
         most: usize::MAX,
         calls: 0,
@@ -482,7 +398,7 @@ fn words_after_the_name_of_the_program(rt: HostRuntime) -> Result<(), Fail> {
 
 /// Whether reads for one byte give these, after so many calls of the reader below.
 fn gives_singly(
-    bytewise: &mut Bytewise<BufReader<CountedReader>>,
+    bytewise: &mut Bytewise<BufReader<Trickle>>,
     bytes: &[u8],
     calls: usize,
 ) -> io::Result<bool> {
@@ -498,7 +414,7 @@ fn gives_singly(
 
 #[test]
 fn single_bytes_come_from_a_buffer(rt: HostRuntime) -> Result<(), Fail> {
-    let reader = CountedReader {
+    let reader = Trickle {
         bytes: b"twenty bytes to read",
         most: usize::MAX,
         calls: 0,

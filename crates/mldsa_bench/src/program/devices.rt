@@ -8,71 +8,17 @@ use std::fmt::Display;
 use std::io::{self, Read, Write};
 use std::rt::Env;
 
-/// A reader that gives one byte a call, and fails at call number `fails_at`, counted from 0.
-#[derive(Drop)]
-pub struct Trickle<'a> {
-    pub bytes: &'a [u8],
-    pub fails_at: usize,
-}
-
-impl Read for Trickle<'_> {
-    fn read(&mut self, buf: &mut [u8]) -> io::Result<usize> {
-        if self.fails_at == 0 {
-            return Err(io::Error::from(io::ErrorKind::BrokenPipe));
-        }
-        self.fails_at -= 1;
-        if buf.is_empty() {
-            return Ok(0);
-        }
-        match self.bytes.split_first() {
-            None => Ok(0),
-            Some((byte, rest)) => {
-                buf[0] = *byte;
-                self.bytes = rest;
-                Ok(1)
-            }
-        }
-    }
-}
-
-/// A writer that takes one byte a call, and fails at call number `fails_at`, counted from 0.
-#[derive(Drop)]
-pub struct Drip {
-    pub taken: Vec<u8>,
-    pub fails_at: usize,
-}
-
-impl Write for Drip {
-    fn write(&mut self, buf: &[u8]) -> io::Result<usize> {
-        if self.fails_at == 0 {
-            return Err(io::Error::from(io::ErrorKind::BrokenPipe));
-        }
-        self.fails_at -= 1;
-        match buf.first() {
-            None => Ok(0),
-            Some(byte) => {
-                self.taken.push(*byte)?;
-                Ok(1)
-            }
-        }
-    }
-
-    fn flush(&mut self) -> io::Result<()> {
-        Ok(())
-    }
-}
-
 /// A reader that gives at most so many bytes a call, counts its calls, and fails at call number
 /// `fails_at`, counted from 0.
 #[derive(Drop)]
-pub struct CountedReader<'a> {
+pub struct Trickle<'a> {
     pub bytes: &'a [u8],
     pub most: usize,
     pub calls: usize,
     pub fails_at: usize,
 }
 
-impl Read for CountedReader<'_> {
+impl Read for Trickle<'_> {
     fn read(&mut self, buf: &mut [u8]) -> io::Result<usize> {
         let call = self.calls;
         self.calls = call.saturating_add(1);
@@ -89,14 +35,14 @@ impl Read for CountedReader<'_> {
 /// A writer that takes at most so many bytes a call, counts its calls, and fails at call number
 /// `fails_at`, counted from 0.
 #[derive(Drop)]
-pub struct CountedWriter {
+pub struct Drip {
     pub taken: Vec<u8>,
     pub most: usize,
     pub calls: usize,
     pub fails_at: usize,
 }
 
-impl Write for CountedWriter {
+impl Write for Drip {
     fn write(&mut self, buf: &[u8]) -> io::Result<usize> {
         let call = self.calls;
         self.calls = call.saturating_add(1);

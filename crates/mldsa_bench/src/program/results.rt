@@ -1,7 +1,7 @@
 //! Runs of the program that succeed, for every command at every set.
 #![tactic(auto)]
 
-use crate::program::runs::unread_after;
+use crate::program::runs::{hex_lines, unread_after};
 use crate::values::RECORDED;
 use crate::values::constant_streams::{
     private_44, private_65, private_87, public_44, public_65, public_87, signature_44,
@@ -9,17 +9,6 @@ use crate::values::constant_streams::{
 };
 use std::alloc::{AllocError, Global};
 use std::test::Fail;
-
-/// Lines of hex, one for each of these values.
-pub fn hex_lines(alloc: Global, values: &[&[u8]]) -> Result<Vec<u8>, AllocError> {
-    let mut lines = Vec::new(alloc);
-    for value in values {
-        let text = hex::encode(alloc, *value)?;
-        lines.extend_from_slice(text.as_bytes())?;
-        lines.push(b'\n')?;
-    }
-    Ok(lines)
-}
 
 /// Whether a run on these lines answers so, reads them all, and writes these bytes.
 pub fn gives(

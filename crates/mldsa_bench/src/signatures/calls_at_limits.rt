@@ -5,7 +5,7 @@ ghost use Rattle.std.specs.Prelude.{◌≡◌, ◌<◌, ◌≤◌, ◌+◌, ◌�
 
 use crate::arithmetic::polynomials::slow_product;
 use crate::keys::sets::{Constant44, Judges, Set44, Set65, Set87, Signs, TestSet, Text, is_same};
-use crate::streams::input_chosen::{Chosen, FfOver32Bytes, ZerosOverFirstMasks};
+use crate::streams::input_chosen::{ByLength, Second};
 use crate::streams::written_fronts::{FourthTriples, Patterned};
 use crate::values::constant_streams::{private_44, signature_44};
 use fips204::hashing::{expand_mask, sample_in_ball};
@@ -96,7 +96,7 @@ fn calls_whose_matrix_passes_its_limit(rt: HostRuntime) {
 fn challenges_that_pass_their_limit(rt: HostRuntime) {
     let limit = Err(Fault::SamplingLimit);
     assert_eq!(rt;
-        answers::<Set44<Chosen<FfOver32Bytes>, Fill<0>>>(),
+        answers::<Set44<ByLength, Fill<0>>>(),
         Ok([Ok(true), Ok(true), limit, Ok(false), limit, Ok(false)])
     );
 }
@@ -119,7 +119,9 @@ fn key_generation_past_limits(rt: HostRuntime) {
 /// the plain public key and by the prepared one.
 fn accepts_commitment_of_ff() -> Result<[bool; 2], Fault> {
     let mut signature = signature_44();
-    signature[..32].fill(0xff);
+    for i in 0..32usize {
+        signature[i] = 0xff;
+    }
     let public = Set44::<Fill<0xff>, Fill<0>>::public()?;
     let prepared = Set44::<Fill<0xff>, Fill<0>>::prepared_public(&public)?;
     Ok([
@@ -223,10 +225,10 @@ fn smallest_response<H: Xof>(gamma1: i64, tau: i32, eta: i32) -> Result<i64, Fau
 
 #[test]
 fn first_attempts_that_are_rejected(rt: HostRuntime) -> Result<(), Fail> {
-    assert!(rt; masks_are::<4, Chosen<ZerosOverFirstMasks>>(131072, 0, 131072));
-    assert!(rt; smallest_response::<Chosen<ZerosOverFirstMasks>>(131072, 39, 2)? == 131066);
-    assert!(rt; masks_are::<4, Chosen<ZerosOverFirstMasks>>(131072, 4, 43691));
-    assert!(rt; answers::<Set44<Chosen<ZerosOverFirstMasks>, Fill<0>>>()? == [Ok(true); 6]);
+    assert!(rt; masks_are::<4, Second>(131072, 0, 131072));
+    assert!(rt; smallest_response::<Second>(131072, 39, 2)? == 131066);
+    assert!(rt; masks_are::<4, Second>(131072, 4, 43691));
+    assert!(rt; answers::<Set44<Second, Fill<0>>>()? == [Ok(true); 6]);
     Ok(())
 }
 

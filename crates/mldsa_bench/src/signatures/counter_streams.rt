@@ -1,8 +1,6 @@
 //! Key pairs and signatures over the counter streams, at each set, with plain and with prepared keys.
 #![tactic(auto)]
 
-ghost use Rattle.std.specs.Prelude.{◌≤◌};
-
 use crate::keys::sets::{
     Judges, MESSAGES, PairCall, SEEDS, Set44, Set65, Set87, Signs, TestSet, Text,
 };
@@ -171,9 +169,7 @@ fn are_signed<S: TestSet>(
     key: &S::PreparedPrivate,
     count: usize,
     signatures: &[S::Signature; 5],
-) -> bool
-    requires { count ≤ 5 }
-{
+) -> bool {
     let signed = S::sign_each(key, count, b"context");
     let refused = S::sign_each(key, count, &[0; 256]);
     for i in 0..5usize {

@@ -5,7 +5,7 @@ ghost use Rattle.std.specs.Prelude.{◌≤◌, ◌<◌};
 
 use fips204::xof::{Fill, Sha256Ctr, Sha256CtrLong, Sha512Ctr, Sha512CtrLong, Xof, XofReader};
 use hex::FromHexError;
-use sha2::{Digest, Sha256};
+use sha2::{Digest, Sha256, Sha512};
 use std::alloc::Global;
 use std::test::Fail;
 
@@ -62,6 +62,21 @@ fn comes_in_pieces<H: Xof, const N: usize>(size: usize) -> bool
         }
     }
     reader.left() == 0
+}
+
+#[test]
+fn digests_of_the_input(rt: HostRuntime) -> Result<(), Fail> {
+    let digest = hex::decode(
+        rt.alloc(),
+        "ba7816bf8f01cfea414140de5dae2223b00361a396177a9cb410ff61f20015ad",
+    )?;
+    assert!(rt; Sha256::digest(b"abc").as_slice() == digest.as_slice());
+    let digest = hex::decode(
+        rt.alloc(),
+        "ddaf35a193617abacc417349ae20413112e6fa4e89a97ea20a9eeee64b55d39a2192992a274fc1a836ba3c23a3feebbd454d4423643ce80e2a9ac94fa54ca49f",
+    )?;
+    assert!(rt; Sha512::digest(b"abc").as_slice() == digest.as_slice());
+    Ok(())
 }
 
 #[test]

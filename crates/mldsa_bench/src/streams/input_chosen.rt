@@ -21,6 +21,12 @@ pub struct Chosen<C> {
     choice: PhantomData<C>,
 }
 
+/// Bytes FF where the input has 32 bytes, as that of a challenge of set 44, and else 55.
+pub type ByLength = Chosen<FfOver32Bytes>;
+
+/// Bytes 00 over the masks of the first attempt at set 44, and else 55.
+pub type Second = Chosen<ZerosOverFirstMasks>;
+
 /// A reader of one byte again and again.
 #[derive(Drop)]
 pub struct ByteReader {
