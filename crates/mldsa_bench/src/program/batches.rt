@@ -128,10 +128,10 @@ fn batch_over_a_key_without_matrix(rt: HostRuntime) -> Result<(), Fail> {
     let good = signature_44();
     let lines = [[].as_slice(), &[0, 2], &good, &[0], &good, &[0]];
     assert!(rt; answers(rt.alloc(), "fillff", &lines, false, b"no\nno\n")?);
-    for context in [[].as_slice(), &[0; 256]] {
-        let lines = [context, &[0, 1], &good, &[0]];
-        assert!(rt; answers(rt.alloc(), "fillff", &lines, false, b"no\n")?);
-    }
+    let lines = [[].as_slice(), &[0, 1], &good, &[0]];
+    assert!(rt; answers(rt.alloc(), "fillff", &lines, false, b"no\n")?);
+    let lines = [[0; 256].as_slice(), &[0, 1], &good, &[0]];
+    assert!(rt; answers(rt.alloc(), "fillff", &lines, false, b"no\n")?);
     Ok(())
 }
 

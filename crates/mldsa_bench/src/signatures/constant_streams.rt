@@ -10,9 +10,10 @@ use fips204::pre_hash::{SHA2_256, SHA2_512};
 use std::test::Fail;
 
 /// What has the signature over constant streams, whatever is signed.
-const SIGNED: [Text; 9] = [
+const SIGNED: [Text; 10] = [
     Text::Message(b"", &[]),
     Text::Message(b"abc", &[]),
+    Text::Message(b"abc", &[1; 255]),
     Text::Message(b"another", &[1; 255]),
     Text::Digest(&[5; 32], &[], &SHA2_256),
     Text::Digest(&[9; 32], &[1; 255], &SHA2_256),
