@@ -1,7 +1,8 @@
 //! Sums of vectors, packing of fields from 0 on, the small vectors of a key, and the parts of a signature.
 #![tactic(auto, unfolding(fips204_base::specs::Packing::bit_length))]
 
-use crate::arithmetic::hint_parts::ones_of;
+use crate::arithmetic::hint_parts::{MANY_PLACES, ones_of, part_of};
+use crate::values::constant_streams::signature_44;
 use crate::values::counter_44;
 use fips204::Fault;
 use fips204::conversion::{simple_bit_pack, simple_bit_unpack};
@@ -49,9 +50,13 @@ fn ones_in(signature: &[u8; 2420]) -> Option<[usize; 4]> {
 }
 
 #[test]
-fn hint_of_the_recorded_signature(rt: HostRuntime) -> Result<(), Fail> {
+fn hints_in_signatures(rt: HostRuntime) -> Result<(), Fail> {
+    // The last four bytes of the recorded signature, its running totals, are 16 22 36 48.
     let mut signature = [0u8; 2420];
     hex::decode_to_slice(counter_44::SIGNATURE, &mut signature)?;
+    assert_eq!(rt; ones_in(&signature), Some([22, 12, 20, 18]));
+    let mut signature = signature_44();
+    signature[2336..2420].copy_from_slice(&part_of(&MANY_PLACES, [0x12, 0x1e, 0x2d, 0x43]));
     assert_eq!(rt; ones_in(&signature), Some([18, 12, 15, 22]));
     Ok(())
 }
