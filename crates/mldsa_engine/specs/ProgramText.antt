@@ -9,7 +9,7 @@ use Rattle.fips204.specs.Faults.{words}
 use Rattle.fips204.specs.Keys.{PublicParts, IsPublicKeyOf, DecodesPrivate}
 use Rattle.fips204.specs.ParameterSets.{ParameterSet, set_44, set_65, set_87, public_key_length, private_key_length, signature_length}
 use Rattle.fips204.specs.Refusals.{generated, sign_message, VerifiesMessage}
-use Rattle.mldsa_engine.specs.Lines.{after_lines, line_bytes, TakesLines}
+use Rattle.mldsa_engine.specs.Lines.{after_lines, line_bytes, AllFit, TakesLines}
 use Rattle.mldsa_engine.specs.declared.fault.RunFault.{RunFault}
 use Rattle.mldsa_engine.specs.declared.call.Task.{Task}
 use Rattle.mldsa_engine.specs.declared.call.Task.TheVariants.{Id, Keygen, Sign, Verify, Check, Batch}
@@ -153,13 +153,30 @@ Answers H G Batch set lines output answer = (key context count : List ℕ) × ((
     × (length entries ≡ 2 * two_bytes count)
     × JudgesEach (named_set set) H G key context entries output answer)
 
--- a run over the streams H and G ended with this answer: its reader gave the wanted lines and has left what follows them, and its
--- writer got what the command writes for them, and nothing else
-abbrev pub Runs : (List ℕ → List ℕ) → (List ℕ → List ℕ) → Task → SetName → Option (List ℕ) → Option (List ℕ) → Option (List ℕ) → Option (List ℕ) → Bool → Type 0
-Runs H G task set given left before after answer = (lines : List (List ℕ)) × ((output : List ℕ)
-    × TakesLines 1 (lines_of_input task set given) given left lines
+-- so many entries of a batch were judged by what accepts their signatures: a reader gave their lines, from the fourth on, and has
+-- left what follows them, and this is told of them
+abbrev pub JudgesEntries : (List ℕ → List ℕ → Type 0) → ℕ → ℕ → Option (List ℕ) → Option (List ℕ) → List ℕ → Bool → Type 0
+JudgesEntries accepts size count given left output answer = (entries : List (List ℕ))
+    × AllFit (entry_lines size count) entries
+    × TakesLines 4 (entry_lines size count) given left entries
+    × ((answers : List Bool) × AnswersEach accepts entries answers × TellsAll answers output answer)
+
+-- so they were judged by the public key that has these bytes
+abbrev pub JudgesByKey : ParameterSet → (List ℕ → List ℕ) → (List ℕ → List ℕ) → List ℕ → List ℕ → ℕ → Option (List ℕ) → Option (List ℕ) → List ℕ → Bool → Type 0
+JudgesByKey p H G key context count given left output answer = (pk : PublicParts) × IsPublicKeyOf H p.k key pk
+    × JudgesEntries (λ signature message. VerifiesMessage p H G pk message signature context) (signature_length p) count given left output answer
+
+-- a command was carried out over the streams H and G: its reader gave the wanted lines and has left what follows them, and this is
+-- what the command writes and answers for them
+abbrev pub Executes : (List ℕ → List ℕ) → (List ℕ → List ℕ) → Task → SetName → Option (List ℕ) → Option (List ℕ) → List ℕ → Bool → Type 0
+Executes H G task set given left output answer = (lines : List (List ℕ)) × TakesLines 1 (lines_of_input task set given) given left lines
     × Answers H G task set lines output answer
-    × Appends before after output)
+
+-- a run over the streams H and G ended with this answer: the command was carried out, and the writer got what it writes, and
+-- nothing else
+abbrev pub Runs : (List ℕ → List ℕ) → (List ℕ → List ℕ) → Task → SetName → Option (List ℕ) → Option (List ℕ) → Option (List ℕ) → Option (List ℕ) → Bool → Type 0
+Runs H G task set given left before after answer = (output : List ℕ) × Executes H G task set given left output answer
+    × Appends before after output
 
 -- the exit status of an answer, true being done or `yes`, and false `no` or a refusal; a fault has one status, whichever it is
 abbrev pub status_of : Result Bool RunFault → ℕ
