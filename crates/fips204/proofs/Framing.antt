@@ -4,7 +4,8 @@ use Rattle.fips204_base.specs.declared.fault.Fault.{Fault}
 use Rattle.fips204_base.specs.declared.fault.Fault.TheVariants.{OidEmpty, OidNotDer, DigestTooLong, DigestLength, HashCtx}
 use Rattle.std.proofs.Math.Seq.{take-append_seam, drop-append_seam}
 use Rattle.fips204.specs.PreHash.{is_der, differs, digest_length, pre_hash_fault}
-use Rattle.fips204.specs.MessageLaws.{Input, plain, hashed, framed_input, input_fault, FramingIsOneToOne, SignatureBindsMessage}
+use Rattle.fips204.specs.MessageLaws.{FramingIsOneToOne, SignatureBindsMessage}
+use Rattle.fips204.specs.Refusals.{input_fault}
 use Rattle.fips204.proofs.ParameterSets.{and_out, set_numbers}
 use Rattle.fips204.proofs.RefusedCalls.{passed, short_context}
 use Rattle.std.specs.Prelude.{bytes_eq}
@@ -18,7 +19,7 @@ use Rattle.fips204_base.proofs.EncodedParts.{same_signature}
 use Rattle.fips204.specs.ParameterSets.{ParameterSet, is_parameter_set, commitment_length}
 use Rattle.fips204.specs.Attempts.{commitment}
 use Rattle.fips204.specs.Acceptance.{Accepts, w1_prime}
-use Rattle.fips204.specs.Framing.{message_hash}
+use Rattle.fips204.specs.Framing.{Input, plain, hashed, framed_input, message_hash}
 
 -- A framed message determines what was framed.
 

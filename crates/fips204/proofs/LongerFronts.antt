@@ -21,12 +21,12 @@ use Rattle.fips204_base.proofs.LongerFronts.{prefix-take, prefix-part, matrix_en
 use Rattle.fips204.specs.ParameterSets.{ParameterSet, is_parameter_set, commitment_length}
 use Rattle.fips204.specs.Keys.{PublicParts, PrivateParts}
 use Rattle.fips204.specs.KeyGeneration.{high_part, key_hash, key_pair, key_pair_if_all, key_generation, public_key_of}
-use Rattle.fips204.specs.Framing.{framed, framed_digest, message_hash}
+use Rattle.fips204.specs.Framing.{Input, plain, hashed, framed_input, framed, framed_digest, message_hash}
 use Rattle.fips204.specs.Attempts.{Attempt, limit, rejected, signed, commitment, high_vector, checked_attempt, attempt}
 use Rattle.fips204.specs.Signing.{attempt_limit, first_answer, mask_seed, sign_with, sign_if_matrix, sign}
 use Rattle.fips204.specs.Acceptance.{w1_prime, Verifies}
-use Rattle.fips204.specs.Refusals.{refused_or, message_fault, digest_fault}
-use Rattle.fips204.specs.LongerFronts.{SamplesStay, Stays, AnswersStay, IsSampled, AcceptanceStays, LongerFrontsKeep}
+use Rattle.fips204.specs.Refusals.{refused_or, message_fault, digest_fault, AcceptsInput}
+use Rattle.fips204.specs.LongerFronts.{SamplesStay, Stays, AnswersStay, IsSampled, YesAndNoStay, AcceptanceStays, LongerFrontsKeep}
 use Rattle.fips204.proofs.ParameterSets.{set_numbers}
 
 -- a front has at least 4096 bytes
@@ -224,6 +224,16 @@ module _ (H G H' G' : List ℕ → List ℕ) (first : ArePrefixes H H') (second 
         };
       }
 
+  input_stays : (p : ParameterSet) (pk : PublicParts) (signature : List ℕ) (input : Input) → IsTrue (is_parameter_set p)
+      → YesAndNoStay (IsSampled p H G pk signature) (AcceptsInput H pk.tr (λ mu. Verifies p H G pk mu signature) input) (AcceptsInput H' pk.tr (λ mu. Verifies p H' G' pk mu signature) input)
+  input_stays p pk signature input t =
+      let m = framed_input input in
+      let mu : message_hash H' pk.tr m ≡ message_hash H pk.tr m = hash-longer 64 (pk.tr ++ m) (omega arith) in
+      record {
+        yes_stays = λ v. record { allowed = v.allowed; accepted = rw mu (verifies-longer p pk (message_hash H pk.tr m) signature t v.accepted) };
+        no_stays = λ s v. record { allowed = v.allowed; accepted = verifies-shorter p pk (message_hash H pk.tr m) signature t s (rw mu at v.accepted) };
+      }
+
   acceptance_stays : (p : ParameterSet) → IsTrue (is_parameter_set p) → AcceptanceStays p H G H' G'
   acceptance_stays p t =
       let mu : (tr m : List ℕ) → message_hash H' tr m ≡ message_hash H tr m = λ tr m. hash-longer 64 (tr ++ m) (omega arith) in
@@ -231,14 +241,8 @@ module _ (H G H' G' : List ℕ → List ℕ) (first : ArePrefixes H H') (second 
         hashes = λ pk mu signature. record { yes_stays = verifies-longer p pk mu signature t; no_stays = verifies-shorter p pk mu signature t };
         framed = λ pk m signature. rw (mu pk.tr m)
             record { yes_stays = verifies-longer p pk (message_hash H pk.tr m) signature t; no_stays = verifies-shorter p pk (message_hash H pk.tr m) signature t };
-        messages = λ pk message signature context. record {
-          yes_stays = λ v. record { short = v.short; verified = rw (mu pk.tr (framed context message)) (verifies-longer p pk (message_hash H pk.tr (framed context message)) signature t v.verified) };
-          no_stays = λ s v. record { short = v.short; verified = verifies-shorter p pk (message_hash H pk.tr (framed context message)) signature t s (rw (mu pk.tr (framed context message)) at v.verified) };
-        };
-        digests = λ pk digest signature context oid. record {
-          yes_stays = λ v. record { short = v.short; whole = v.whole; verified = rw (mu pk.tr (framed_digest context oid digest)) (verifies-longer p pk (message_hash H pk.tr (framed_digest context oid digest)) signature t v.verified) };
-          no_stays = λ s v. record { short = v.short; whole = v.whole; verified = verifies-shorter p pk (message_hash H pk.tr (framed_digest context oid digest)) signature t s (rw (mu pk.tr (framed_digest context oid digest)) at v.verified) };
-        };
+        messages = λ pk message signature context. input_stays p pk signature (plain context message) t;
+        digests = λ pk digest signature context oid. input_stays p pk signature (hashed context oid digest) t;
         decoded = λ bytes pk d. record { seed = d.seed; high = d.high; same_bytes = d.same_bytes; hash = d.hash ∙ sym (hash-longer 64 bytes (omega arith)) };
       }
 

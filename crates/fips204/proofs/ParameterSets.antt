@@ -290,6 +290,16 @@ parts_of_key eta k l bytes sk e key =
       low = key.low;
     }
 
+-- eta of a set whose matrix has these rows
+pub eta-by_rows : (p : Params) (K : ℕ) → IsKnown p → K ≡ p.k → p.eta ≡ pos (eta_of_rows K)
+eta-by_rows p K t rows_are =
+    let known = limits p t in
+    let same : nat_abs p.eta ≡ eta_of_rows K = known.eta_by_rows ∙ ap eta_of_rows (sym rows_are) in
+    elim known.eta [
+      | inl e ↦ e ∙ ap pos (sym (ap nat_abs e) ∙ same)
+      | inr e ↦ e ∙ ap pos (sym (ap nat_abs e) ∙ same)
+    ]
+
 -- a matrix of these rows and columns
 pub matrix-shape : (p : Params) (K L : ℕ) → IsKnown p → K ≡ p.k → L ≡ p.l → (K * (L * 1024) < 9223372036854775808) × ((K ≤ 8) × (L ≤ 7))
 matrix-shape p K L t rows_are columns_are =
@@ -297,6 +307,14 @@ matrix-shape p K L t rows_are columns_are =
     let few_rows : K ≤ 8 = omega (arith, rows_are, all.few_rows) in
     let few_columns : L ≤ 7 = omega (arith, columns_are, all.few_columns) in
     (matrix_room K L few_rows few_columns, (few_rows, few_columns))
+
+-- and so of a set
+pub set-shape : (p : ParameterSet) (K L : ℕ) → IsTrue (is_parameter_set p) → K ≡ p.k → L ≡ p.l → (K * (L * 1024) < 9223372036854775808) × (L * 1024 < 9223372036854775808) × (K ≤ 8) × (L ≤ 7)
+set-shape p K L t rows_are columns_are =
+    let all = set_numbers p t in
+    let few_rows : K ≤ 8 = omega (arith, rows_are, all.rows) in
+    let few_columns : L ≤ 7 = omega (arith, columns_are, all.columns) in
+    (matrix_room K L few_rows few_columns, omega (arith, few_columns), few_rows, few_columns)
 
 -- coefficients of s1 and s2 are small
 pub eta_of_rows-small : (k : ℕ) → eta_of_rows k ≤ 8380416

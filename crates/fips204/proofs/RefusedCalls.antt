@@ -3,14 +3,9 @@ use Rattle.std.proofs.Common.{Result, ◌≡◌, ◌≤◌, ◌↔◌, ℕ, List
 use Rattle.std.specs.Prelude.{nat_lt, if◌then◌else◌}
 use Rattle.std.proofs.lemmas.Bool.{ltb-false}
 use Rattle.fips204_base.specs.declared.fault.Fault.{Fault}
-use Rattle.fips204_base.specs.declared.fault.Fault.TheVariants.{HashCtx}
-use Rattle.fips204.specs.ParameterSets.{ParameterSet}
-use Rattle.fips204.specs.Keys.{PublicParts}
-use Rattle.fips204.specs.Framing.{framed_digest, message_hash}
-use Rattle.fips204.specs.PreHash.{pre_hash_fault}
-use Rattle.fips204.specs.Acceptance.{Verifies}
-use Rattle.fips204.specs.Prepared.{PreparedPublic, AcceptsHash, AcceptsDigest}
-use Rattle.fips204.specs.Refusals.{refused_or, digest_fault, VerifiesDigest}
+use Rattle.fips204.specs.Completeness.{AcceptedIfWhole}
+use Rattle.fips204.specs.Framing.{Input, framed_input, message_hash}
+use Rattle.fips204.specs.Refusals.{refused_or, input_fault, input_hash, sign_input, AcceptsInput}
 
 -- two values are the same where the options that hold them are
 pub same_some : {A : Type 0} (x y : A) → Some x ≡ Some y → x ≡ y
@@ -34,31 +29,37 @@ short_context context fault later e =
     let both = passed (nat_lt 255 (length context)) fault later e in
     (ltb-false 255 (length context) both.0, both.1)
 
--- what the hash that a digest was given says of the call
-pub given_digest : (H : List ℕ → List ℕ) (digest context oid tr own mu : List ℕ) → tr ≡ own → Ok mu ≡ refused_or (digest_fault context oid digest) (Ok (message_hash H tr (framed_digest context oid digest)))
-    → (length context ≤ 255) × (pre_hash_fault digest oid ≡ None) × (mu ≡ message_hash H own (framed_digest context oid digest))
-given_digest H digest context oid tr own mu same e =
-    let hash = message_hash H tr (framed_digest context oid digest) in
-    let made = not_refused (digest_fault context oid digest) (Ok hash) mu (sym e) in
-    let none = short_context context HashCtx (pre_hash_fault digest oid) made.0 in
+-- mu of an input that isn't refused
+pub given_input : (H : List ℕ → List ℕ) (tr own mu : List ℕ) (input : Input) → tr ≡ own → Ok mu ≡ input_hash H tr input
+    → (input_fault input ≡ None) × (mu ≡ message_hash H own (framed_input input))
+given_input H tr own mu input same e =
+    let hash = message_hash H tr (framed_input input) in
+    let made = not_refused (input_fault input) (Ok hash) mu (sym e) in
     let is : hash ≡ mu = let answer = made.1 in cc in
-    (none.0, none.1, sym is ∙ ap (λ t. message_hash H t (framed_digest context oid digest)) same)
+    (made.0, sym is ∙ ap (λ t. message_hash H t (framed_input input)) same)
 
--- a verdict over the hash that a digest was given is the verdict of the whole call, of a plain key and of a prepared one
-pub verified_digest : (p : ParameterSet) (H G : List ℕ → List ℕ) (pk : PublicParts) (digest signature context oid tr mu : List ℕ) (r : Bool) → tr ≡ pk.tr
-    → Ok mu ≡ refused_or (digest_fault context oid digest) (Ok (message_hash H tr (framed_digest context oid digest)))
-    → IsTrue r ↔ Verifies p H G pk mu signature → IsTrue r ↔ VerifiesDigest p H G pk digest signature context oid
-verified_digest p H G pk digest signature context oid tr mu r same e verdict =
-    let given = given_digest H digest context oid tr pk.tr mu same e in (
-      λ t. record { short = given.0; whole = given.1; verified = subst (λ m. Verifies p H G pk m signature) given.2 (verdict.0 t) },
-      λ v. verdict.1 (subst (λ m. Verifies p H G pk m signature) (sym given.2) v.verified),
+-- a verdict over mu of an input is the verdict over the input
+pub verified_input : (H : List ℕ → List ℕ) (tr own mu : List ℕ) (input : Input) (accepts : List ℕ → Type 0) (r : Bool) → tr ≡ own → Ok mu ≡ input_hash H tr input
+    → IsTrue r ↔ accepts mu → IsTrue r ↔ AcceptsInput H own accepts input
+verified_input H tr own mu input accepts r same e verdict =
+    let given = given_input H tr own mu input same e in (
+      λ t. record { allowed = given.0; accepted = subst accepts given.1 (verdict.0 t) },
+      λ v. verdict.1 (subst accepts (sym given.1) v.accepted),
     )
 
-pub accepted_digest : (p : ParameterSet) (H : List ℕ → List ℕ) (pk : PreparedPublic) (digest signature context oid tr mu : List ℕ) (r : Bool) → tr ≡ pk.key.tr
-    → Ok mu ≡ refused_or (digest_fault context oid digest) (Ok (message_hash H tr (framed_digest context oid digest)))
-    → IsTrue r ↔ AcceptsHash p H pk mu signature → IsTrue r ↔ AcceptsDigest p H pk digest signature context oid
-accepted_digest p H pk digest signature context oid tr mu r same e verdict =
-    let given = given_digest H digest context oid tr pk.key.tr mu same e in (
-      λ t. record { short = given.0; whole = given.1; accepted = subst (λ m. AcceptsHash p H pk m signature) given.2 (verdict.0 t) },
-      λ v. verdict.1 (subst (λ m. AcceptsHash p H pk m signature) (sym given.2) v.accepted),
-    )
+-- what is signed of an input is accepted, where what is signed of a hash is
+pub signed_input : (H : List ℕ → List ℕ) (tr own : List ℕ) (input : Input) (signs : List ℕ → Result (List ℕ) Fault) (accepts : List ℕ → Type 0) (signature : List ℕ) → tr ≡ own
+    → ((mu : List ℕ) → signs mu ≡ Ok signature → accepts mu) → sign_input H tr signs input ≡ Ok signature → AcceptsInput H own accepts input
+signed_input H tr own input signs accepts signature same law made =
+    let mu = message_hash H tr (framed_input input) in
+    let both = not_refused (input_fault input) (signs mu) signature made in
+    record { allowed = both.0; accepted = subst (λ t. accepts (message_hash H t (framed_input input))) same (law mu both.1) }
+
+-- the same of an answer over mu of an input, and of every key that may verify it
+pub accepted_input : {P : Type 0} (H : List ℕ → List ℕ) (tr mu : List ℕ) (input : Input) (whole : Type 0) (derives : Result P Fault) (own : P → List ℕ) (accepts : P → List ℕ → List ℕ → Type 0)
+    (answer : Result (List ℕ) Fault) → ((pk : P) → derives ≡ Ok pk → tr ≡ own pk) → Ok mu ≡ input_hash H tr input → AcceptedIfWhole whole derives (λ pk signature. accepts pk mu signature) answer
+    → AcceptedIfWhole whole derives (λ pk signature. AcceptsInput H (own pk) (λ m. accepts pk m signature) input) answer
+accepted_input H tr mu input whole derives own accepts answer hashes e accepted =
+    λ pk signature w d made.
+    let given = given_input H tr (own pk) mu input (hashes pk d) e in
+    record { allowed = given.0; accepted = subst (λ m. accepts pk m signature) given.1 (accepted pk signature w d made) }

@@ -14,9 +14,10 @@ use Rattle.fips204.specs.Signing.{sign}
 use Rattle.fips204.proofs.ParameterSets.{set_numbers, IsKnown, known-set}
 use Rattle.fips204_base.proofs.Sampled.{some_of_ok}
 use Rattle.fips204.specs.KeyGeneration.{IsWhole, key_generation, public_key_of}
-use Rattle.fips204.specs.Refusals.{generated, derived, sign_message, sign_digest, VerifiesMessage}
-use Rattle.fips204.specs.Completeness.{HashAccepted, MessageAccepted, DigestAccepted, AcceptsSigned, ComeOfSeed, both_generated, public_decoded, private_decoded, public_derived, SignedIsAccepted}
-use Rattle.fips204.proofs.WholeKeys.{GoTogether, generated_go_together, derived_go_together, message_accepted, digest_accepted, ArePair, generated_pair, public_key_of_pair}
+use Rattle.fips204.specs.Framing.{plain, hashed}
+use Rattle.fips204.specs.Refusals.{generated, derived, sign_message, VerifiesMessage}
+use Rattle.fips204.specs.Completeness.{HashAccepted, AcceptsSigned, ComeOfSeed, both_generated, public_decoded, private_decoded, public_derived, SignedIsAccepted}
+use Rattle.fips204.proofs.WholeKeys.{GoTogether, generated_go_together, derived_go_together, input_accepted, ArePair, generated_pair, public_key_of_pair}
 use Rattle.fips204.proofs.RefusedCalls.{same_some}
 
 -- Keys that went through their bytes are the same keys.
@@ -88,8 +89,8 @@ come_of_seed p H G xi row law (public_derived pk other sk came derives) =
 accepts_signed : (p : ParameterSet) (H G : List ℕ → List ℕ) (pk : PublicParts) (sk : PrivateParts) → GoTogether p H G pk sk → AcceptsSigned p H G pk sk
 accepts_signed p H G pk sk keys = record {
   hashes = keys.accepts;
-  messages = λ rnd message context signature made. message_accepted p H G pk sk rnd message context signature keys made;
-  digests = λ rnd digest context oid signature made. digest_accepted p H G pk sk rnd digest context oid signature keys made;
+  messages = λ rnd message context signature made. input_accepted p H G pk sk rnd signature (plain context message) keys made;
+  digests = λ rnd digest context oid signature made. input_accepted p H G pk sk rnd signature (hashed context oid digest) keys made;
 }
 
 pub signed_is_accepted : SignedIsAccepted
@@ -103,7 +104,7 @@ signed_is_accepted p H G pk sk row law = (
 -- what signing a message gives for both keys of a seed is accepted
 pub seed_accepts : (p : ParameterSet) (H G : List ℕ → List ℕ) (xi rnd message context signature : List ℕ) (pk : PublicParts) (sk : PrivateParts) → IsTrue (is_parameter_set p) → ((x : List ℕ) → 4096 ≤ length (H x))
     → generated p H G xi ≡ Ok (pk, sk) → sign_message p H G sk rnd message context ≡ Ok signature → VerifiesMessage p H G pk message signature context
-seed_accepts p H G xi rnd message context signature pk sk row law from made = message_accepted p H G pk sk rnd message context signature (generated_go_together p H G xi pk sk row law from) made
+seed_accepts p H G xi rnd message context signature pk sk row law from made = input_accepted p H G pk sk rnd signature (plain context message) (generated_go_together p H G xi pk sk row law from) made
 
 -- What the signing calls answer with a private key of a row of numbers is accepted where the key is whole.
 
@@ -116,15 +117,3 @@ pub hash_accepted : (p : Params) (H G : List ℕ → List ℕ) (K L : ℕ) (sk :
     → ((x : List ℕ) → 4096 ≤ length (H x)) → K ≡ p.k → L ≡ p.l → ArePrivateParts K L sk → answer ≡ sign (set_of p) H G sk mu rnd → HashAccepted (set_of p) H G sk mu answer
 hash_accepted p H G K L sk mu rnd answer known law rows columns parts same =
     λ pk signature whole derives e. (key_accepts p H G K L sk pk known law rows columns parts whole derives).hashes mu rnd signature (sym same ∙ e)
-
-pub message_accepted_if : (p : Params) (H G : List ℕ → List ℕ) (K L : ℕ) (sk : PrivateParts) (rnd message context : List ℕ) (answer : Result (List ℕ) Fault) → IsKnown p
-    → ((x : List ℕ) → 4096 ≤ length (H x)) → K ≡ p.k → L ≡ p.l → ArePrivateParts K L sk → answer ≡ sign_message (set_of p) H G sk rnd message context
-    → MessageAccepted (set_of p) H G sk message context answer
-message_accepted_if p H G K L sk rnd message context answer known law rows columns parts same =
-    λ pk signature whole derives e. (key_accepts p H G K L sk pk known law rows columns parts whole derives).messages rnd message context signature (sym same ∙ e)
-
-pub digest_accepted_if : (p : Params) (H G : List ℕ → List ℕ) (K L : ℕ) (sk : PrivateParts) (rnd digest context oid : List ℕ) (answer : Result (List ℕ) Fault) → IsKnown p
-    → ((x : List ℕ) → 4096 ≤ length (H x)) → K ≡ p.k → L ≡ p.l → ArePrivateParts K L sk → answer ≡ sign_digest (set_of p) H G sk rnd digest context oid
-    → DigestAccepted (set_of p) H G sk digest context oid answer
-digest_accepted_if p H G K L sk rnd digest context oid answer known law rows columns parts same =
-    λ pk signature whole derives e. (key_accepts p H G K L sk pk known law rows columns parts whole derives).digests rnd digest context oid signature (sym same ∙ e)

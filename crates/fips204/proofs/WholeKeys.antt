@@ -18,12 +18,10 @@ use Rattle.fips204.specs.Signing.{sign}
 use Rattle.fips204.specs.Acceptance.{Verifies}
 use Rattle.fips204.proofs.Completeness.{completeness}
 use Rattle.fips204.proofs.KeyGeneration.{high_part-range, low_part-range}
-use Rattle.fips204.proofs.RefusedCalls.{same_some, not_refused, short_context}
+use Rattle.fips204.proofs.RefusedCalls.{same_some, signed_input}
 use Rattle.fips204.proofs.ParameterSets.{AreSetNumbers, set_numbers}
-use Rattle.fips204_base.specs.declared.fault.Fault.TheVariants.{SignCtx, HashCtx}
-use Rattle.fips204.specs.Framing.{framed, framed_digest, message_hash}
-use Rattle.fips204.specs.PreHash.{pre_hash_fault}
-use Rattle.fips204.specs.Refusals.{message_fault, digest_fault, generated, derived, sign_message, sign_digest, VerifiesMessage, VerifiesDigest}
+use Rattle.fips204.specs.Framing.{Input}
+use Rattle.fips204.specs.Refusals.{generated, derived, sign_input, AcceptsInput}
 
 -- A generated pair of keys: the private key is whole and in range, and the public key is its own.
 
@@ -146,37 +144,27 @@ generated_go_together p H G xi pk sk row law e =
       accepts = λ mu rnd signature made. pair_accepts p H G pk sk mu rnd signature row law pair made;
     }
 
+-- the public key of a private key has its tr
+pub derived_hash : (p : ParameterSet) (G : List ℕ → List ℕ) (sk : PrivateParts) (pk : PublicParts) → derived p G sk ≡ Ok pk → sk.tr ≡ pk.tr
+unfolding public_key_of
+derived_hash p G sk pk e = of_matrix (sampled_matrix G sk.rho p.k p.l) (some_of_ok (public_key_of p G sk) pk (sym e))
+  where
+    of_matrix : (a : Option (List (List T))) → option_map (λ m. let key : PublicParts = record { rho = sk.rho; tr = sk.tr; t1 = high_part p m sk.s1 sk.s2 } in key) a ≡ Some pk → sk.tr ≡ pk.tr
+    of_matrix None none = absurd (none-some pk none)
+    of_matrix (Some a) s = ap (λ (k : PublicParts). k.tr) (same_some _ pk s)
+
 pub derived_go_together : (p : ParameterSet) (H G : List ℕ → List ℕ) (pk : PublicParts) (sk : PrivateParts) → IsTrue (is_parameter_set p) → ((x : List ℕ) → 4096 ≤ length (H x))
     → ArePrivateParts p.k p.l sk → IsWhole p G sk → derived p G sk ≡ Ok pk → GoTogether p H G pk sk
 derived_go_together p H G pk sk row law parts whole e =
     let there = some_of_ok (public_key_of p G sk) pk (sym e) in
     record {
-      hash = one_hash (sym (public_key_of_whole p G sk whole) ∙ there);
+      hash = derived_hash p G sk pk e;
       accepts = λ mu rnd signature made. derived_accepts p H G pk sk mu rnd signature row law parts whole there made;
     }
-  where
-    one_hash : {own : PublicParts} → Some own ≡ Some pk → own.tr ≡ pk.tr
-    one_hash {own} s = let same : own ≡ pk = cc in ap (λ (k : PublicParts). k.tr) same
 
 -- ---- calls
 
-pub message_accepted : (p : ParameterSet) (H G : List ℕ → List ℕ) (pk : PublicParts) (sk : PrivateParts) (rnd message context signature : List ℕ) → GoTogether p H G pk sk
-    → sign_message p H G sk rnd message context ≡ Ok signature → VerifiesMessage p H G pk message signature context
-message_accepted p H G pk sk rnd message context signature keys made =
-    let both = not_refused (message_fault context) (sign p H G sk (message_hash H sk.tr (framed context message)) rnd) signature made in
-    record {
-      short = (short_context context SignCtx None both.0).0;
-      verified = subst (λ tr. Verifies p H G pk (message_hash H tr (framed context message)) signature) keys.hash (keys.accepts (message_hash H sk.tr (framed context message)) rnd signature both.1);
-    }
-
-pub digest_accepted : (p : ParameterSet) (H G : List ℕ → List ℕ) (pk : PublicParts) (sk : PrivateParts) (rnd digest context oid signature : List ℕ) → GoTogether p H G pk sk
-    → sign_digest p H G sk rnd digest context oid ≡ Ok signature → VerifiesDigest p H G pk digest signature context oid
-digest_accepted p H G pk sk rnd digest context oid signature keys made =
-    let both = not_refused (digest_fault context oid digest) (sign p H G sk (message_hash H sk.tr (framed_digest context oid digest)) rnd) signature made in
-    let conditions = short_context context HashCtx (pre_hash_fault digest oid) both.0 in
-    record {
-      short = conditions.0;
-      whole = conditions.1;
-      verified = subst (λ tr. Verifies p H G pk (message_hash H tr (framed_digest context oid digest)) signature) keys.hash
-          (keys.accepts (message_hash H sk.tr (framed_digest context oid digest)) rnd signature both.1);
-    }
+pub input_accepted : (p : ParameterSet) (H G : List ℕ → List ℕ) (pk : PublicParts) (sk : PrivateParts) (rnd signature : List ℕ) (input : Input) → GoTogether p H G pk sk
+    → sign_input H sk.tr (λ mu. sign p H G sk mu rnd) input ≡ Ok signature → AcceptsInput H pk.tr (λ mu. Verifies p H G pk mu signature) input
+input_accepted p H G pk sk rnd signature input keys made =
+    signed_input H sk.tr pk.tr input (λ mu. sign p H G sk mu rnd) (λ mu. Verifies p H G pk mu signature) signature keys.hash (λ mu. keys.accepts mu rnd signature) made

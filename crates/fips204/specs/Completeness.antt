@@ -22,17 +22,9 @@ pub record AcceptsSigned (p : ParameterSet) (H G : List ℕ → List ℕ) (pk : 
 abbrev pub AcceptedIfWhole : {P S : Type 0} → Type 0 → Result P Fault → (P → S → Type 0) → Result S Fault → Type 0
 AcceptedIfWhole {P} {S} whole derives accepts answer = (pk : P) (signature : S) → whole → derives ≡ Ok pk → answer ≡ Ok signature → accepts pk signature
 
--- the same of a private key's signature of a hash mu, of a message under its context, and of a digest under its context and OID
+-- the same of a private key's signature of a hash mu
 abbrev pub HashAccepted : ParameterSet → (List ℕ → List ℕ) → (List ℕ → List ℕ) → PrivateParts → List ℕ → Result (List ℕ) Fault → Type 0
 HashAccepted p H G sk mu answer = AcceptedIfWhole (IsWhole p G sk) (derived p G sk) (λ pk signature. Verifies p H G pk mu signature) answer
-
-abbrev pub MessageAccepted : ParameterSet → (List ℕ → List ℕ) → (List ℕ → List ℕ) → PrivateParts → List ℕ → List ℕ → Result (List ℕ) Fault → Type 0
-MessageAccepted p H G sk message context answer =
-    AcceptedIfWhole (IsWhole p G sk) (derived p G sk) (λ pk signature. VerifiesMessage p H G pk message signature context) answer
-
-abbrev pub DigestAccepted : ParameterSet → (List ℕ → List ℕ) → (List ℕ → List ℕ) → PrivateParts → List ℕ → List ℕ → List ℕ → Result (List ℕ) Fault → Type 0
-DigestAccepted p H G sk digest context oid answer =
-    AcceptedIfWhole (IsWhole p G sk) (derived p G sk) (λ pk signature. VerifiesDigest p H G pk digest signature context oid) answer
 
 -- keys that come of a seed: both keys that it generates; and of keys that come of it also the public key that their bytes
 -- decode to, the private key that its bytes decode to, and the public key that is derived of the private one

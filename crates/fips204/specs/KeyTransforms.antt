@@ -4,7 +4,7 @@ use Rattle.fips204_base.specs.Polynomials.{AreReduced, IsReduced, IsReducedMatri
 use Rattle.fips204_base.specs.declared.types.R.{R}
 use Rattle.fips204_base.specs.declared.types.T.{T}
 use Rattle.fips204.specs.declared.types.Params.{Params}
-use Rattle.fips204.specs.Sets.{HasSizes}
+use Rattle.fips204.specs.Sets.{HasSizes, set_of}
 use Rattle.fips204_base.specs.Vectors.{vector_coefficients, AreTransformsOf}
 use Rattle.fips204.specs.declared.types.prepared.KeyTransforms.{KeyTransforms}
 use Rattle.fips204.specs.Keys.{PrivateParts}
@@ -21,7 +21,7 @@ pub record AreKeyTransforms (k l : ℕ) (sk : PrivateParts) (t : KeyTransforms k
 -- what signing takes beside the key and the bytes that it signs: a set whose sizes the call has, the matrix, and the transforms
 -- of the key's vectors
 pub record AreSigningInputs (p : Params) (k l n s : ℕ) (sk : PrivateParts) (a : List (List T)) (t : KeyTransforms k l) : Type 0 where
-  pub sizes : HasSizes p k l n s
+  pub sizes : HasSizes (set_of p) k l n s
   pub matrix : IsReducedMatrix a
   pub transforms : AreKeyTransforms k l sk t
 
@@ -33,7 +33,7 @@ pub record AreAttemptInputs (p : Params) (k l n s : ℕ) (sk : PrivateParts) (a 
 -- what the checks of an attempt take beside the key: the sizes and the transforms, a mask y with coefficients of at most 2^19 in
 -- absolute value, and w = A y and a challenge c with coefficients below q in absolute value
 pub record AreCheckInputs (p : Params) (k l n s : ℕ) (sk : PrivateParts) (t : KeyTransforms k l) (y w : List R) (c : R) : Type 0 where
-  pub sizes : HasSizes p k l n s
+  pub sizes : HasSizes (set_of p) k l n s
   pub transforms : AreKeyTransforms k l sk t
   pub mask : VectorWithin l 524288 y
   pub product : IsReducedVector k w

@@ -1,27 +1,11 @@
 -- What a framed message and a signature determine (FIPS 204, Algorithms 2 to 5 and 8).
-use Rattle.std.specs.Prelude.{◌≡◌, ◌≢◌, ◌⊎◌, ℕ, List, ◌++◌, take, Option, None, IsTrue}
-use Rattle.fips204_base.specs.declared.fault.Fault.{Fault}
+use Rattle.std.specs.Prelude.{◌≡◌, ◌≢◌, ◌⊎◌, ℕ, List, ◌++◌, take, None, IsTrue}
 use Rattle.fips204_base.specs.Encodings.{w1_bytes}
 use Rattle.fips204.specs.ParameterSets.{ParameterSet, is_parameter_set, commitment_length}
 use Rattle.fips204.specs.Keys.{PublicParts}
 use Rattle.fips204.specs.Acceptance.{Verifies, w1_prime}
-use Rattle.fips204.specs.Framing.{framed, framed_digest, message_hash}
-use Rattle.fips204.specs.Refusals.{message_fault, digest_fault}
-
--- what is signed under a context: a message, or the OID of a hash with a digest
-pub data Input : Type 0 where
-  plain : (context message : List ℕ) → Input
-  hashed : (context oid digest : List ℕ) → Input
-
--- M' of an input
-abbrev pub framed_input : Input → List ℕ
-framed_input (plain context message) = framed context message
-framed_input (hashed context oid digest) = framed_digest context oid digest
-
--- the first condition on context, OID and digest that an input breaks, or none
-abbrev pub input_fault : Input → Option Fault
-input_fault (plain context message) = message_fault context
-input_fault (hashed context oid digest) = digest_fault context oid digest
+use Rattle.fips204.specs.Framing.{Input, framed_input, message_hash}
+use Rattle.fips204.specs.Refusals.{input_fault}
 
 -- inputs that break no condition have the same M' only if they are the same, mode and part by part
 abbrev pub FramingIsOneToOne : Type 0

@@ -1,11 +1,11 @@
 -- Whole calls, with their refusals in order (FIPS 204, Algorithms 1 to 5).
-use Rattle.std.specs.Prelude.{◌≡◌, ◌≤◌, ◌⊎◌, ℕ, List, length, nat_lt, Option, Some, None, Result, Err, ok_or, Bool, true, false, replicate, if◌then◌else◌}
+use Rattle.std.specs.Prelude.{◌≡◌, ◌⊎◌, ℕ, List, length, nat_lt, Option, Some, None, Result, Ok, Err, ok_or, Bool, true, false, replicate, if◌then◌else◌}
 use Rattle.fips204_base.specs.declared.fault.Fault.{Fault}
 use Rattle.fips204_base.specs.declared.fault.Fault.TheVariants.{SignCtx, HashCtx, SamplingLimit}
 use Rattle.fips204.specs.ParameterSets.{ParameterSet}
 use Rattle.fips204.specs.Keys.{PublicParts, PrivateParts}
 use Rattle.fips204.specs.KeyGeneration.{key_generation, public_key_of}
-use Rattle.fips204.specs.Framing.{framed, framed_digest, message_hash}
+use Rattle.fips204.specs.Framing.{Input, plain, hashed, framed_input, message_hash}
 use Rattle.fips204.specs.PreHash.{pre_hash_fault}
 use Rattle.fips204.specs.Signing.{sign}
 use Rattle.fips204.specs.Acceptance.{Verifies}
@@ -23,6 +23,24 @@ message_fault context = if nat_lt 255 (length context) then Some SignCtx else No
 abbrev pub digest_fault : List ℕ → List ℕ → List ℕ → Option Fault
 digest_fault context oid digest = if nat_lt 255 (length context) then Some HashCtx else pre_hash_fault digest oid
 
+-- the first condition on context, OID and digest that an input breaks, or none
+abbrev pub input_fault : Input → Option Fault
+input_fault (plain context message) = message_fault context
+input_fault (hashed context oid digest) = digest_fault context oid digest
+
+-- mu of an input under a key's hash tr, or the refusal
+abbrev pub input_hash : (List ℕ → List ℕ) → List ℕ → Input → Result (List ℕ) Fault
+input_hash H tr input = refused_or (input_fault input) (Ok (message_hash H tr (framed_input input)))
+
+-- signing an input, where signs is what signs mu
+abbrev pub sign_input : (List ℕ → List ℕ) → List ℕ → (List ℕ → Result (List ℕ) Fault) → Input → Result (List ℕ) Fault
+sign_input H tr signs input = refused_or (input_fault input) (signs (message_hash H tr (framed_input input)))
+
+-- verifying an input, where accepts is what accepts mu
+pub record AcceptsInput (H : List ℕ → List ℕ) (tr : List ℕ) (accepts : List ℕ → Type 0) (input : Input) : Type 0 where
+  pub allowed : input_fault input ≡ None
+  pub accepted : accepts (message_hash H tr (framed_input input))
+
 -- ML-DSA.KeyGen (Algorithm 1) from the seed xi
 abbrev pub generated : ParameterSet → (List ℕ → List ℕ) → (List ℕ → List ℕ) → List ℕ → Result (PublicParts × PrivateParts) Fault
 generated p H G xi = ok_or (key_generation p H G xi) SamplingLimit
@@ -33,22 +51,19 @@ derived p G sk = ok_or (public_key_of p G sk) SamplingLimit
 
 -- ML-DSA.Sign (Algorithm 2) from rnd
 abbrev pub sign_message : ParameterSet → (List ℕ → List ℕ) → (List ℕ → List ℕ) → PrivateParts → List ℕ → List ℕ → List ℕ → Result (List ℕ) Fault
-sign_message p H G sk rnd message context = refused_or (message_fault context) (sign p H G sk (message_hash H sk.tr (framed context message)) rnd)
+sign_message p H G sk rnd message context = sign_input H sk.tr (λ mu. sign p H G sk mu rnd) (plain context message)
 
 -- HashML-DSA.Sign (Algorithm 4) from rnd and the digest
 abbrev pub sign_digest : ParameterSet → (List ℕ → List ℕ) → (List ℕ → List ℕ) → PrivateParts → List ℕ → List ℕ → List ℕ → List ℕ → Result (List ℕ) Fault
-sign_digest p H G sk rnd digest context oid = refused_or (digest_fault context oid digest) (sign p H G sk (message_hash H sk.tr (framed_digest context oid digest)) rnd)
+sign_digest p H G sk rnd digest context oid = sign_input H sk.tr (λ mu. sign p H G sk mu rnd) (hashed context oid digest)
 
 -- ML-DSA.Verify (Algorithm 3)
-pub record VerifiesMessage (p : ParameterSet) (H G : List ℕ → List ℕ) (pk : PublicParts) (message signature context : List ℕ) : Type 0 where
-  pub short : length context ≤ 255
-  pub verified : Verifies p H G pk (message_hash H pk.tr (framed context message)) signature
+abbrev pub VerifiesMessage : ParameterSet → (List ℕ → List ℕ) → (List ℕ → List ℕ) → PublicParts → List ℕ → List ℕ → List ℕ → Type 0
+VerifiesMessage p H G pk message signature context = AcceptsInput H pk.tr (λ mu. Verifies p H G pk mu signature) (plain context message)
 
 -- HashML-DSA.Verify (Algorithm 5), from the digest
-pub record VerifiesDigest (p : ParameterSet) (H G : List ℕ → List ℕ) (pk : PublicParts) (digest signature context oid : List ℕ) : Type 0 where
-  pub short : length context ≤ 255
-  pub whole : pre_hash_fault digest oid ≡ None
-  pub verified : Verifies p H G pk (message_hash H pk.tr (framed_digest context oid digest)) signature
+abbrev pub VerifiesDigest : ParameterSet → (List ℕ → List ℕ) → (List ℕ → List ℕ) → PublicParts → List ℕ → List ℕ → List ℕ → List ℕ → Type 0
+VerifiesDigest p H G pk digest signature context oid = AcceptsInput H pk.tr (λ mu. Verifies p H G pk mu signature) (hashed context oid digest)
 
 -- what a call answers that asks a generator once, for 32 bytes: the answer over bytes that it gave, or the refusal where it
 -- refused; gives and refuses are what the generator states of such a call, from before to after

@@ -7,7 +7,6 @@ ghost use Rattle.fips204_base.specs.declared.fault.Fault.TheVariants.{KeyGenRng,
 ghost use Rattle.fips204.specs.Completeness.{AcceptedIfWhole};
 ghost use Rattle.fips204.specs.Refusals.{Draws, DrawsUnless, DrawsIf, message_fault, digest_fault};
 
-use crate::types::pre_hash::check_pre_hash;
 use fips204_base::Fault;
 
 /// The refusal of a generator.
@@ -144,13 +143,7 @@ pub trait Signer {
         ensures answer { DrawsUnless (message_fault ctx.now) R.gives R.refuses rng.old rng.new SignRng
             (λ rnd. signs self.now rnd message.now ctx.now) result }
         ensures accepted { AcceptedIfWhole (whole self.now) (derives self.now)
-            (λ pk signature. accepts pk message.now signature ctx.now) result }
-    {
-        if ctx.len() > 255 {
-            return Err(Fault::SignCtx);
-        }
-        self.try_sign_with_seed(&draw(rng, Fault::SignRng)?, message, ctx)
-    }
+            (λ pk signature. accepts pk message.now signature ctx.now) result };
 
     /// Signs (Algorithm 2) with these random bytes. Refuses with `Fault::SignCtx` a context of more than 255 bytes,
     /// with `Fault::SamplingLimit` where rejection sampling reaches its limit, and with
@@ -178,14 +171,7 @@ pub trait Signer {
         ensures answer { DrawsUnless (digest_fault ctx.now hash_oid.now hash.now) R.gives R.refuses rng.old rng.new HashRng
             (λ rnd. signs_digest self.now rnd hash.now ctx.now hash_oid.now) result }
         ensures accepted { AcceptedIfWhole (whole self.now) (derives self.now)
-            (λ pk signature. accepts_digest pk hash.now signature ctx.now hash_oid.now) result }
-    {
-        if ctx.len() > 255 {
-            return Err(Fault::HashCtx);
-        }
-        check_pre_hash(hash, hash_oid)?;
-        self.try_hash_sign_with_seed(&draw(rng, Fault::HashRng)?, hash, ctx, hash_oid)
-    }
+            (λ pk signature. accepts_digest pk hash.now signature ctx.now hash_oid.now) result };
 
     /// Signs a digest (Algorithm 4) with these random bytes. Refuses with `Fault::HashCtx` a context of more than 255
     /// bytes, then what `check_pre_hash` refuses, and then as `try_sign_with_seed` does.

@@ -104,6 +104,9 @@ pub const ML_DSA_87: Params = Params {
     omega: 75,
 };
 
+/// Key generation of the set with a matrix of `K` rows and `L` columns, over the streams `H` and `G`.
+pub struct KG<const K: usize, const L: usize, H, G>(PhantomData<(H, G)>);
+
 /// A public key of a set with a matrix of `K` rows and `L` columns, over the streams `H` and `G`.
 ///
 /// Contracts see it as its parts: the matrix's seed `rho`, the hash `tr` of its bytes, and `t1`, `K`

@@ -11,7 +11,7 @@ use Rattle.fips204.specs.fault.Fault.TheVariants.{SamplingLimit}
 use Rattle.fips204.specs.Keys.{PublicParts, IsPublicKeyOf}
 use Rattle.fips204.specs.MatrixEntry.{sampled_matrix}
 use Rattle.fips204.specs.ParameterSets.{ParameterSet, signature_length}
-use Rattle.fips204.specs.Prepared.{PreparedPublic, prepared_public, AcceptsMessage, PreparedAnswersAsPlain}
+use Rattle.fips204.specs.Prepared.{PreparedPublic, prepared_public, VerifiesMessagePrepared, PreparedAnswersAsPlain}
 use Rattle.fips204.specs.Refusals.{VerifiesMessage}
 use Rattle.fips204.specs.declared.types.T.{T}
 use Rattle.mldsa_engine.specs.Lines.{AllFit, TakesLines}
@@ -83,7 +83,7 @@ judges_next items accepts size entry number old mid new (a ∷ b ∷ c ∷ more)
 -- what preparing a key answered accepts a message: nothing where it refused
 abbrev pub AcceptsIfPrepared : ParameterSet → (List ℕ → List ℕ) → Result PreparedPublic Fault → List ℕ → List ℕ → List ℕ → Type 0
 AcceptsIfPrepared p H prepared message signature context =
-    MatchResult prepared (λ key. AcceptsMessage p H key message signature context) (λ _. ⊥)
+    MatchResult prepared (λ key. VerifiesMessagePrepared p H key message signature context) (λ _. ⊥)
 
 -- it accepts what the key does
 accepts_as_key : (p : ParameterSet) (H G : List ℕ → List ℕ) (matrix : Option (List (List T))) (pk : PublicParts)
@@ -91,7 +91,7 @@ accepts_as_key : (p : ParameterSet) (H G : List ℕ → List ℕ) (matrix : Opti
     → AcceptsIfPrepared p H (ok_or (option_map (λ a. record { key = pk; matrix = a }) matrix) SamplingLimit) message signature context
     ↔ VerifiesMessage p H G pk message signature context
 accepts_as_key p H G None pk message signature context law none =
-    (λ x. absurd x, λ v. let there = sym none ∙ v.verified.matrix in absurd cc)
+    (λ x. absurd x, λ v. let there = sym none ∙ v.accepted.matrix in absurd cc)
 accepts_as_key p H G (Some a) pk message signature context law there =
     law.verify_message pk record { key = pk; matrix = a } message signature context
     (ap (λ matrix. ok_or (option_map (λ a. record { key = pk; matrix = a }) matrix) SamplingLimit) there)

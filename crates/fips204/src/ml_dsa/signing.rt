@@ -35,7 +35,7 @@ pub fn sign_internal<
     mu: &[u8; 64],
     rnd: &[u8; 32],
 ) -> Result<[u8; SIG_LEN], Fault>
-    requires sizes { HasSizes p.now K L LAMBDA_DIV4 SIG_LEN }
+    requires sizes { HasSizes (set_of p.now) K L LAMBDA_DIV4 SIG_LEN }
     ensures answer { result ≡ sign (set_of p.now) H.front G.front sk.now mu.now rnd.now }
     ensures accepted { HashAccepted (set_of p.now) H.front G.front sk.now mu.now result }
 {

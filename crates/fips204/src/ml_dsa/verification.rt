@@ -36,7 +36,7 @@ pub fn verify_internal<
     H: Xof,
     G: Xof,
 >(p: &Params, pk: &PublicKey<K, L, H, G>, mu: &[u8; 64], sig: &[u8; SIG_LEN]) -> bool
-    requires sizes { HasSizes p.now K L LAMBDA_DIV4 SIG_LEN }
+    requires sizes { HasSizes (set_of p.now) K L LAMBDA_DIV4 SIG_LEN }
     ensures { IsTrue result ↔ Verifies (set_of p.now) H.front G.front pk.now mu.now sig.now }
 {
     let Some(parts) = opened::<K, L, LAMBDA_DIV4, SIG_LEN, H>(p, sig) else {
@@ -59,8 +59,8 @@ pub(crate) fn verify_prepared<
     const SIG_LEN: usize,
     H: Xof,
 >(p: &Params, pk: &PreparedPublicKey<K, L, H>, mu: &[u8; 64], sig: &[u8; SIG_LEN]) -> bool
-    requires sizes { HasSizes p.now K L LAMBDA_DIV4 SIG_LEN }
-    ensures { IsTrue result ↔ Accepts (set_of p.now) H.front pk.now.matrix pk.now.key.t1 mu.now sig.now }
+    requires sizes { HasSizes (set_of p.now) K L LAMBDA_DIV4 SIG_LEN }
+    ensures { IsTrue result ↔ Accepts (set_of p.now) H.front pk.now.matrix pk.now.parts.t1 mu.now sig.now }
 {
     let Some(parts) = opened::<K, L, LAMBDA_DIV4, SIG_LEN, H>(p, sig) else {
         return false;
@@ -78,7 +78,7 @@ fn opened<const K: usize, const L: usize, const LAMBDA_DIV4: usize, const SIG_LE
     p: &Params,
     sig: &[u8; SIG_LEN],
 ) -> Option<([u8; LAMBDA_DIV4], [R; L], [R; K], R)>
-    requires sizes { HasSizes p.now K L LAMBDA_DIV4 SIG_LEN }
+    requires sizes { HasSizes (set_of p.now) K L LAMBDA_DIV4 SIG_LEN }
     ensures { MatchOption result
         ((c_tilde : List ℕ) (z h : List R) (c : R) → HasShortParts (set_of p.now) sig.now c_tilde z h → challenge (nat_abs p.now.tau) (H.front c_tilde) ≡ Some c → ⊥)
         (λ parts. HasShortParts (set_of p.now) sig.now parts.0 parts.1 parts.2 × (challenge (nat_abs p.now.tau) (H.front parts.0) ≡ Some parts.3)) }

@@ -37,7 +37,7 @@ impl<const K: usize, const L: usize, H> Model for PreparedPrivateKey<K, L, H> {
 
     ghost Value = { PreparedPrivate };
 
-    ghost view = { λ sk. record { key = sk.key; matrix = sk.a_hat } };
+    ghost view = { λ sk. record { parts = sk.key; matrix = sk.a_hat } };
 
     ghost invariant = { λ sk. IsReducedMatrix sk.a_hat × ArePrivateParts K L sk.key × AreKeyTransforms K L sk.key sk.transforms };
 }
@@ -48,7 +48,7 @@ impl<const K: usize, const L: usize, H> PreparedPrivateKey<K, L, H> {
     /// columns.
     pub fn parts_in_range(&self)
         ensures matrix { IsReducedMatrix self.now.matrix }
-        ensures parts { ArePrivateParts K L self.now.key }
+        ensures parts { ArePrivateParts K L self.now.parts }
     {
         let _ = &self.a_hat;
     }
@@ -70,7 +70,7 @@ impl<const K: usize, const L: usize, H> Model for PreparedPublicKey<K, L, H> {
 
     ghost Value = { PreparedPublic };
 
-    ghost view = { λ pk. record { key = pk.key; matrix = pk.a_hat } };
+    ghost view = { λ pk. record { parts = pk.key; matrix = pk.a_hat } };
 
     ghost invariant = { λ pk. IsReducedMatrix pk.a_hat };
 }
@@ -80,7 +80,7 @@ impl<const K: usize, const L: usize, H> PreparedPublicKey<K, L, H> {
     /// value, and `t1` has `K` polynomials with coefficients from 0 to 1023.
     pub fn parts_in_range(&self)
         ensures matrix { IsReducedMatrix self.now.matrix }
-        ensures high { IsHighPart K self.now.key.t1 }
+        ensures high { IsHighPart K self.now.parts.t1 }
     {
         let _ = &self.a_hat;
         let _ = &self.key.t1;

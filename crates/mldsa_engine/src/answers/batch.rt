@@ -4,7 +4,7 @@
 ghost use Rattle.std.specs.Prelude.{◌≡◌, ◌≤◌, ◌↔◌, ℕ, List, length, false, Err, IsTrue, IfOk, IfErr, MatchResult};
 ghost use Rattle.fips204.specs.Keys.{IsPublicKeyOf};
 ghost use Rattle.fips204.specs.ParameterSets.{set_44, set_65, set_87, public_key_length, signature_length};
-ghost use Rattle.fips204.specs.Prepared.{AcceptsMessage};
+ghost use Rattle.fips204.specs.Prepared.{VerifiesMessagePrepared};
 ghost use Rattle.fips204.specs.Refusals.{VerifiesMessage};
 ghost use Rattle.mldsa_engine.specs.Lines.{IsInputFault, IsLineFault, FaultOfLines, InTurn};
 ghost use Rattle.mldsa_engine.specs.ProgramText.{named_set, entry_lines, JudgesEntries, JudgesByKey};
@@ -78,7 +78,7 @@ trait Prepared {
 impl<H: Xof> Prepared for Result<ml_dsa_44::PreparedPublicKey<H>, Fault> {
     type Signature = [u8; ml_dsa_44::SIG_LEN];
 
-    ghost accepts = { λ prepared message signature ctx. MatchResult prepared (λ key. AcceptsMessage set_44 H.front key message signature ctx) (λ _. ⊥) };
+    ghost accepts = { λ prepared message signature ctx. MatchResult prepared (λ key. VerifiesMessagePrepared set_44 H.front key message signature ctx) (λ _. ⊥) };
 
     fn verify(&self, message: &[u8], signature: &[u8; ml_dsa_44::SIG_LEN], ctx: &[u8]) -> bool {
         match self {
@@ -91,7 +91,7 @@ impl<H: Xof> Prepared for Result<ml_dsa_44::PreparedPublicKey<H>, Fault> {
 impl<H: Xof> Prepared for Result<ml_dsa_65::PreparedPublicKey<H>, Fault> {
     type Signature = [u8; ml_dsa_65::SIG_LEN];
 
-    ghost accepts = { λ prepared message signature ctx. MatchResult prepared (λ key. AcceptsMessage set_65 H.front key message signature ctx) (λ _. ⊥) };
+    ghost accepts = { λ prepared message signature ctx. MatchResult prepared (λ key. VerifiesMessagePrepared set_65 H.front key message signature ctx) (λ _. ⊥) };
 
     fn verify(&self, message: &[u8], signature: &[u8; ml_dsa_65::SIG_LEN], ctx: &[u8]) -> bool {
         match self {
@@ -104,7 +104,7 @@ impl<H: Xof> Prepared for Result<ml_dsa_65::PreparedPublicKey<H>, Fault> {
 impl<H: Xof> Prepared for Result<ml_dsa_87::PreparedPublicKey<H>, Fault> {
     type Signature = [u8; ml_dsa_87::SIG_LEN];
 
-    ghost accepts = { λ prepared message signature ctx. MatchResult prepared (λ key. AcceptsMessage set_87 H.front key message signature ctx) (λ _. ⊥) };
+    ghost accepts = { λ prepared message signature ctx. MatchResult prepared (λ key. VerifiesMessagePrepared set_87 H.front key message signature ctx) (λ _. ⊥) };
 
     fn verify(&self, message: &[u8], signature: &[u8; ml_dsa_87::SIG_LEN], ctx: &[u8]) -> bool {
         match self {

@@ -17,5 +17,5 @@ matrix_times_vector_less-w-requires g c =
 pub returns : goal.returns
 returns g c =
     let p = c.args.p.now in
-    commitment-decides p g.H.Xof.front c.args.pk.now.matrix c.args.pk.now.key.t1 c.args.mu.now c.args.sig.now c.in-Some.parts.0 c.in-Some.parts.1 c.in-Some.parts.2 c.in-Some.parts.3 c.t1_shifted.result c.matrix_times_vector_less-w.result g.row.K g.row.L c.has_commitment.result
+    commitment-decides p g.H.Xof.front c.args.pk.now.matrix c.args.pk.now.parts.t1 c.args.mu.now c.args.sig.now c.in-Some.parts.0 c.in-Some.parts.1 c.in-Some.parts.2 c.in-Some.parts.3 c.t1_shifted.result c.matrix_times_vector_less-w.result g.row.K g.row.L c.has_commitment.result
     (search rules) c.requires.sizes.rows c.requires.sizes.columns c.in-Some.ensures.0 c.in-Some.ensures.1 (search rules) (search rules) (search rules)

@@ -1,10 +1,18 @@
-use Rattle.std.proofs.Common.{rules, arith, ap, subst}
+use Rattle.std.proofs.Common.{rules, arith, ap, subst, refl}
 use Rattle.fips204.specs.Keys.{PrivateParts, ArePrivateParts}
 use Rattle.fips204.specs.Prepared.{PreparedPrivate}
+use Rattle.fips204.specs.Sets.{HasSizes, set_of}
 use Rattle.fips204.proofs.Prepared.{hash_accepted}
 use Rattle.fips204.proofs.types.prepared.PreparedPrivateKey.sign_hash.Goals as goal
 
+pub sign_with-requires : goal.sign_with-requires
+sign_with-requires g c =
+    let sizes : HasSizes (set_of c.params.result) g.row.K g.row.L g.row.N g.row.SIG_LEN = rw c.params.ensures g.met.S.SignatureSizes.sizes in
+    search rules
+
 pub returns-clause-accepted : goal.returns-clause-accepted
 returns-clause-accepted g c =
-    hash_accepted c.args.p.now g.H.Xof.front g.row.K g.row.L c.args.self.now c.args.mu.now c.args.rnd.now c.sign_with.result (search rules)
-    (λ input. omega (arith, g.met.H.Xof.front_size input, g.met.H.Xof.front_least)) c.requires.sizes.rows c.requires.sizes.columns (subst (λ (k : PrivateParts). ArePrivateParts g.row.K g.row.L k) (ap (λ (k : PreparedPrivate). k.key) c.self.view_is) c.self.invariant.1) (search rules)
+    let sizes = g.met.S.SignatureSizes.sizes in
+    hash_accepted g.S.Set.set g.H.Xof.front g.row.K g.row.L c.args.self.now c.args.mu.now c.args.rnd.now c.sign_with.result g.S.Set.known
+    (λ input. omega (arith, g.met.H.Xof.front_size input, g.met.H.Xof.front_least)) sizes.rows sizes.columns
+    (subst (λ (k : PrivateParts). ArePrivateParts g.row.K g.row.L k) (ap (λ (k : PreparedPrivate). k.parts) c.self.view_is) c.self.invariant.1) (search rules)

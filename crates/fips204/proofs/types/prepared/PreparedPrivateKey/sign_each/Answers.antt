@@ -1,0 +1,23 @@
+use Rattle.std.proofs.Common.{rules, arith, ◌≡◌, ◌∙◌, ℕ, List, [], ap, sym, map, get_or, Result, Err, Bor}
+use Rattle.fips204_base.specs.declared.fault.Fault.{Fault}
+use Rattle.fips204_base.specs.declared.fault.Fault.TheVariants.{SamplingLimit}
+use Rattle.std.proofs.lemmas.List.{get_or-map, length-map}
+use Rattle.fips204.specs.Prepared.{sign_message_prepared}
+use Rattle.fips204.proofs.Prepared.{each_more}
+use Rattle.fips204.proofs.types.prepared.PreparedPrivateKey.sign_each.Goals as goal
+
+pub loop-i-preserved : goal.loop-i-preserved
+loop-i-preserved g c =
+    let texts = map (λ (m : Bor (List ℕ)). m.now) c.args.messages.now in
+    let signed = λ (k : ℕ) (message : List ℕ). sign_message_prepared g.S.Set.set g.H.Xof.front c.args.self.now (get_or c.args.seeds.now k []) message c.args.ctx.now in
+    let text = get_or-map (λ (m : Bor (List ℕ)). m.now) c.args.messages.now c.loop-i.i record { ref_ptr = (0, 0); now = [] } [] c.loop-i-test.true in
+    record {
+      size = search rules;
+      signed = each_more (λ (k : ℕ) (answer : Result (List ℕ) Fault). answer ≡ signed k (get_or texts k [])) c.loop-i.out c.loop-i.i c.try_sign_with_seed.result (Err SamplingLimit)
+          (omega (arith, c.loop-i-test.true, c.loop-i.invariant.size)) c.loop-i.invariant.signed (c.try_sign_with_seed.ensures.answer ∙ ap (signed c.loop-i.i) (sym text));
+    }
+
+pub returns : goal.returns
+returns g c =
+    let size = length-map c.args.messages.now (λ (m : Bor (List ℕ)). m.now) in
+    (c.loop-i.invariant.size ∙ sym size, λ k h. c.loop-i.invariant.signed k (omega (arith, h, size, c.loop-i-test.false)))

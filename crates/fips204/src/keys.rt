@@ -1,0 +1,367 @@
+//! What the keys of every set offer.
+#![tactic(auto)]
+
+ghost use Rattle.std.specs.Prelude.{◌≡◌, ◌↔◌, IsTrue, MatchResult};
+ghost use Rattle.fips204.specs.Acceptance.{Verifies};
+ghost use Rattle.fips204.specs.Completeness.{HashAccepted};
+ghost use Rattle.fips204.specs.Framing.{message_hash};
+ghost use Rattle.fips204.specs.KeyGeneration.{IsWhole};
+ghost use Rattle.fips204.specs.Keys.{DecodesPrivate, IsPublicKeyOf};
+ghost use Rattle.fips204.specs.Prepared.{prepared_private, prepared_public};
+ghost use Rattle.fips204.specs.Refusals.{generated, derived, sign_message, sign_digest, VerifiesMessage, VerifiesDigest, DrawsIf, DrawsUnless};
+ghost use Rattle.fips204.specs.Signing.{sign};
+ghost use Rattle.fips204_base.specs.Encodings.{public_key_bytes, private_key_bytes};
+
+mod prepared;
+
+use crate::ml_dsa;
+use crate::sets::{HasSet, KeySizes, Matrix, Set, SignatureSizes};
+use crate::traits::{
+    CryptoRngCore, KeyGen, Scheme, SerDes, Signer, Verifier, draw, draw_if,
+};
+use crate::types::{KG, PreparedPrivateKey, PreparedPublicKey, PrivateKey, PublicKey};
+use fips204_base::Fault;
+use fips204_base::encodings::{pk_encode, sk_encode};
+use fips204_base::hashing::expand_a;
+use fips204_base::xof::Xof;
+use std::marker::PhantomData;
+
+impl<S, const K: usize, const L: usize, const PK_LEN: usize, const SK_LEN: usize, H: Xof, G: Xof>
+    KeyGen for KG<K, L, H, G>
+where
+    Matrix<K, L>: HasSet<Set = S>,
+    S: Set<PublicKey = [u8; PK_LEN], PrivateKey = [u8; SK_LEN]> + KeySizes<K, L, PK_LEN, SK_LEN>,
+{
+    type PublicKey = PublicKey<K, L, H, G>;
+
+    type PrivateKey = PrivateKey<K, L, H, G>;
+
+    ghost generated = { generated S.set H.front G.front };
+
+    fn keygen_from_seed(
+        xi: &[u8; 32],
+    ) -> Result<(PublicKey<K, L, H, G>, PrivateKey<K, L, H, G>), Fault> {
+        ml_dsa::key_gen_internal::<K, L, PK_LEN, H, G>(&S::params(), xi)
+    }
+}
+
+impl<
+    S,
+    const K: usize,
+    const L: usize,
+    const N: usize,
+    const SIG_LEN: usize,
+    const PK_LEN: usize,
+    const SK_LEN: usize,
+    H: Xof,
+    G: Xof,
+> Scheme for KG<K, L, H, G>
+where
+    Matrix<K, L>: HasSet<Set = S>,
+    S: Set<
+        Commitment = [u8; N],
+        Signature = [u8; SIG_LEN],
+        PublicKey = [u8; PK_LEN],
+        PrivateKey = [u8; SK_LEN],
+    >,
+    S: SignatureSizes<K, L, N, SIG_LEN> + KeySizes<K, L, PK_LEN, SK_LEN>,
+{
+    type Public = PublicKey<K, L, H, G>;
+
+    type Private = PrivateKey<K, L, H, G>;
+
+    type Signature = [u8; SIG_LEN];
+
+    ghost generated = { generated S.set H.front G.front };
+
+    ghost signs = { sign_message S.set H.front G.front };
+
+    ghost accepts = { VerifiesMessage S.set H.front G.front };
+
+    fn keygen(xi: &[u8; 32]) -> Result<(PublicKey<K, L, H, G>, PrivateKey<K, L, H, G>), Fault> {
+        KG::<K, L, H, G>::keygen_from_seed(xi)
+    }
+
+    fn sign(
+        sk: &PrivateKey<K, L, H, G>,
+        rnd: &[u8; 32],
+        message: &[u8],
+        ctx: &[u8],
+    ) -> Result<[u8; SIG_LEN], Fault> {
+        sk.try_sign_with_seed(rnd, message, ctx)
+    }
+
+    fn verify(
+        pk: &PublicKey<K, L, H, G>,
+        message: &[u8],
+        signature: &[u8; SIG_LEN],
+        ctx: &[u8],
+    ) -> bool {
+        pk.verify(message, signature, ctx)
+    }
+}
+
+impl<S, const K: usize, const L: usize, const N: usize, const SIG_LEN: usize, H: Xof, G: Xof>
+    Signer for PrivateKey<K, L, H, G>
+where
+    Matrix<K, L>: HasSet<Set = S>,
+    S: Set<Commitment = [u8; N], Signature = [u8; SIG_LEN]> + SignatureSizes<K, L, N, SIG_LEN>,
+{
+    type Signature = [u8; SIG_LEN];
+
+    type PublicKey = PublicKey<K, L, H, G>;
+
+    ghost signs = { sign_message S.set H.front G.front };
+
+    ghost signs_digest = { sign_digest S.set H.front G.front };
+
+    ghost derives = { derived S.set G.front };
+
+    ghost whole = { IsWhole S.set G.front };
+
+    ghost accepts = { VerifiesMessage S.set H.front G.front };
+
+    ghost accepts_digest = { VerifiesDigest S.set H.front G.front };
+
+    fn try_sign_with_rng<R: CryptoRngCore>(
+        &self,
+        rng: &mut R,
+        message: &[u8],
+        ctx: &[u8],
+    ) -> Result<[u8; SIG_LEN], Fault> {
+        let mu = ml_dsa::message_mu::<H>(&self.tr, message, ctx)?;
+        self.sign_hash(&mu, &draw(rng, Fault::SignRng)?)
+    }
+
+    fn try_sign_with_seed(
+        &self,
+        seed: &[u8; 32],
+        message: &[u8],
+        ctx: &[u8],
+    ) -> Result<[u8; SIG_LEN], Fault> {
+        let mu = ml_dsa::message_mu::<H>(&self.tr, message, ctx)?;
+        self.sign_hash(&mu, seed)
+    }
+
+    fn try_hash_sign_with_rng<R: CryptoRngCore>(
+        &self,
+        rng: &mut R,
+        hash: &[u8],
+        ctx: &[u8],
+        hash_oid: &[u8],
+    ) -> Result<[u8; SIG_LEN], Fault> {
+        let mu = ml_dsa::digest_mu::<H>(&self.tr, hash, ctx, hash_oid)?;
+        self.sign_hash(&mu, &draw(rng, Fault::HashRng)?)
+    }
+
+    fn try_hash_sign_with_seed(
+        &self,
+        seed: &[u8; 32],
+        hash: &[u8],
+        ctx: &[u8],
+        hash_oid: &[u8],
+    ) -> Result<[u8; SIG_LEN], Fault> {
+        let mu = ml_dsa::digest_mu::<H>(&self.tr, hash, ctx, hash_oid)?;
+        self.sign_hash(&mu, seed)
+    }
+
+    fn get_public_key(&self) -> Result<PublicKey<K, L, H, G>, Fault> {
+        ml_dsa::private_to_public_key::<K, L, H, G>(&S::params(), self)
+    }
+}
+
+impl<S, const K: usize, const L: usize, const N: usize, const SIG_LEN: usize, H: Xof, G: Xof>
+    Verifier for PublicKey<K, L, H, G>
+where
+    Matrix<K, L>: HasSet<Set = S>,
+    S: Set<Commitment = [u8; N], Signature = [u8; SIG_LEN]> + SignatureSizes<K, L, N, SIG_LEN>,
+{
+    type Signature = [u8; SIG_LEN];
+
+    ghost accepts = { VerifiesMessage S.set H.front G.front };
+
+    ghost accepts_digest = { VerifiesDigest S.set H.front G.front };
+
+    fn verify(&self, message: &[u8], signature: &[u8; SIG_LEN], ctx: &[u8]) -> bool {
+        match ml_dsa::message_mu::<H>(&self.tr, message, ctx) {
+            Ok(mu) => self.verify_mu(&mu, signature),
+            Err(_) => false,
+        }
+    }
+
+    fn hash_verify(
+        &self,
+        hash: &[u8],
+        signature: &[u8; SIG_LEN],
+        ctx: &[u8],
+        hash_oid: &[u8],
+    ) -> bool {
+        match ml_dsa::digest_mu::<H>(&self.tr, hash, ctx, hash_oid) {
+            Ok(mu) => self.verify_mu(&mu, signature),
+            Err(_) => false,
+        }
+    }
+}
+
+impl<S, const K: usize, const L: usize, const N: usize, const SIG_LEN: usize, H: Xof, G: Xof>
+    PrivateKey<K, L, H, G>
+where
+    Matrix<K, L>: HasSet<Set = S>,
+    S: Set<Commitment = [u8; N], Signature = [u8; SIG_LEN]> + SignatureSizes<K, L, N, SIG_LEN>,
+{
+    /// Signs the hash `mu` of a framed message with these random bytes (Algorithm 7 from line 7 on).
+    fn sign_hash(&self, mu: &[u8; 64], rnd: &[u8; 32]) -> Result<[u8; SIG_LEN], Fault>
+        ensures answer { result ≡ sign S.set H.front G.front self.now mu.now rnd.now }
+        ensures accepted { HashAccepted S.set H.front G.front self.now mu.now result }
+    {
+        ml_dsa::sign_internal::<K, L, N, SIG_LEN, H, G>(&S::params(), self, mu, rnd)
+    }
+
+    /// Signs a framed message `m` (Algorithm 7). With `hedged` the generator is asked once for the 32
+    /// random bytes, and `Fault::InternalRng` stands for its refusal; without, they are zeros and it is
+    /// not asked. Refuses with `Fault::SamplingLimit` and `Fault::TooManyAttempts` as
+    /// `Signer::try_sign_with_seed`.
+    pub fn sign_internal<R: CryptoRngCore>(
+        &self,
+        rng: &mut R,
+        m: &[u8],
+        hedged: bool,
+    ) -> Result<[u8; SIG_LEN], Fault>
+        ensures answer { DrawsIf hedged R.gives R.refuses rng.old rng.new Fault.InternalRng
+            (sign S.set H.front G.front self.now (message_hash H.front self.now.tr m.now)) result }
+        ensures accepted { HashAccepted S.set H.front G.front self.now (message_hash H.front self.now.tr m.now) result }
+    {
+        self.sign_mu(rng, &ml_dsa::mu::<H>(&[&self.tr, m]), hedged)
+    }
+
+    /// Signs the hash `mu` of a framed message (Algorithm 7 from line 7 on). Random bytes and refusals are those
+    /// of `sign_internal`.
+    pub fn sign_mu<R: CryptoRngCore>(
+        &self,
+        rng: &mut R,
+        mu: &[u8; 64],
+        hedged: bool,
+    ) -> Result<[u8; SIG_LEN], Fault>
+        ensures answer { DrawsIf hedged R.gives R.refuses rng.old rng.new Fault.InternalRng
+            (sign S.set H.front G.front self.now mu.now) result }
+        ensures accepted { HashAccepted S.set H.front G.front self.now mu.now result }
+    {
+        self.sign_hash(mu, &draw_if(hedged, rng)?)
+    }
+
+    /// The key with its matrix, which many signatures then share. Refuses with `Fault::SamplingLimit` where
+    /// rejection sampling of the matrix reaches its limit.
+    pub fn prepare(&self) -> Result<PreparedPrivateKey<K, L, H>, Fault>
+        ensures { result ≡ prepared_private S.set G.front self.now }
+    {
+        let a_hat = expand_a::<K, L, G>(&self.rho)?;
+        let key = PrivateKey {
+            rho: self.rho,
+            key: self.key,
+            tr: self.tr,
+            s1: self.s1,
+            s2: self.s2,
+            t0: self.t0,
+            streams: PhantomData,
+        };
+        let transforms = self.transforms();
+        Ok(PreparedPrivateKey {
+            key,
+            a_hat,
+            transforms,
+        })
+    }
+}
+
+impl<S, const K: usize, const L: usize, const N: usize, const SIG_LEN: usize, H: Xof, G: Xof>
+    PublicKey<K, L, H, G>
+where
+    Matrix<K, L>: HasSet<Set = S>,
+    S: Set<Commitment = [u8; N], Signature = [u8; SIG_LEN]> + SignatureSizes<K, L, N, SIG_LEN>,
+{
+    /// Whether the signature of a framed message `m` is accepted (Algorithm 8).
+    pub fn verify_internal(&self, m: &[u8], sig: &[u8; SIG_LEN]) -> bool
+        ensures { IsTrue result ↔ Verifies S.set H.front G.front self.now (message_hash H.front self.now.tr m.now) sig.now }
+    {
+        self.verify_mu(&ml_dsa::mu::<H>(&[&self.tr, m]), sig)
+    }
+
+    /// Whether the signature of the hash `mu` of a framed message is accepted (Algorithm 8, with mu given).
+    pub fn verify_mu(&self, mu: &[u8; 64], sig: &[u8; SIG_LEN]) -> bool
+        ensures { IsTrue result ↔ Verifies S.set H.front G.front self.now mu.now sig.now }
+    {
+        ml_dsa::verify_internal::<K, L, N, SIG_LEN, H, G>(&S::params(), self, mu, sig)
+    }
+
+    /// The key with its matrix, which many verifications then share. Refuses with `Fault::SamplingLimit`
+    /// where rejection sampling of the matrix reaches its limit.
+    pub fn prepare(&self) -> Result<PreparedPublicKey<K, L, H>, Fault>
+        ensures { result ≡ prepared_public S.set G.front self.now }
+    {
+        let a_hat = expand_a::<K, L, G>(&self.rho)?;
+        let key = PublicKey {
+            rho: self.rho,
+            tr: self.tr,
+            t1: self.t1,
+            streams: PhantomData,
+        };
+        Ok(PreparedPublicKey { key, a_hat })
+    }
+}
+
+impl<S, const K: usize, const L: usize, const PK_LEN: usize, const SK_LEN: usize, H: Xof, G: Xof>
+    SerDes for PrivateKey<K, L, H, G>
+where
+    Matrix<K, L>: HasSet<Set = S>,
+    S: Set<PublicKey = [u8; PK_LEN], PrivateKey = [u8; SK_LEN]> + KeySizes<K, L, PK_LEN, SK_LEN>,
+{
+    type ByteArray = [u8; SK_LEN];
+
+    ghost bytes_of = { λ key. private_key_bytes S.set.eta key.rho key.key key.tr key.s1 key.s2 key.t0 };
+
+    ghost decodes = { DecodesPrivate S.set.eta K L };
+
+    ghost restored = { λ bytes key decoded. decoded.encoding };
+
+    fn into_bytes(self) -> [u8; SK_LEN] {
+        sk_encode(
+            S::params().eta,
+            &self.rho,
+            &self.key,
+            &self.tr,
+            &self.s1,
+            &self.s2,
+            &self.t0,
+        )
+    }
+
+    /// Refuses with `Fault::KeyRange` where a coefficient of s1 or s2 is out of its range, so that its field
+    /// is above `2 eta`.
+    fn try_from_bytes(ba: [u8; SK_LEN]) -> Result<PrivateKey<K, L, H, G>, Fault> {
+        ml_dsa::expand_private(&S::params(), &ba)
+    }
+}
+
+impl<S, const K: usize, const L: usize, const PK_LEN: usize, const SK_LEN: usize, H: Xof, G: Xof>
+    SerDes for PublicKey<K, L, H, G>
+where
+    Matrix<K, L>: HasSet<Set = S>,
+    S: Set<PublicKey = [u8; PK_LEN], PrivateKey = [u8; SK_LEN]> + KeySizes<K, L, PK_LEN, SK_LEN>,
+{
+    type ByteArray = [u8; PK_LEN];
+
+    ghost bytes_of = { λ key. public_key_bytes key.rho key.t1 };
+
+    ghost decodes = { λ bytes answer. MatchResult answer (λ key. IsPublicKeyOf H.front K bytes key) (λ _. ⊥) };
+
+    ghost restored = { λ bytes key decoded. decoded.same_bytes };
+
+    fn into_bytes(self) -> [u8; PK_LEN] {
+        pk_encode(&self.rho, &self.t1)
+    }
+
+    /// Never refuses. The hash `tr` of the key is computed of the array anew, by `H`.
+    fn try_from_bytes(ba: [u8; PK_LEN]) -> Result<PublicKey<K, L, H, G>, Fault> {
+        Ok(ml_dsa::expand_public(&ba))
+    }
+}

@@ -1,0 +1,207 @@
+//! What the prepared keys of every set offer. They sign and verify with the kept matrix, and answer as the plain
+//! key's call of the same name.
+#![tactic(auto)]
+
+ghost use Rattle.std.specs.Prelude.{◌≡◌, ◌↔◌, length, map, IsTrue};
+ghost use Rattle.fips204.specs.Framing.{message_hash};
+ghost use Rattle.fips204.specs.Prepared.{sign_prepared, sign_message_prepared, sign_digest_prepared, AcceptedIfWholePrepared, SignsEach, VerifiesEach};
+ghost use Rattle.fips204.specs.Prepared.{VerifiesPrepared, VerifiesMessagePrepared, VerifiesDigestPrepared};
+ghost use Rattle.fips204.specs.Refusals.{message_fault, digest_fault, DrawsIf, DrawsUnless};
+
+use crate::ml_dsa;
+use crate::sets::{HasSet, Matrix, Set, SignatureSizes};
+use crate::traits::{CryptoRngCore, draw, draw_if};
+use crate::types::{PreparedPrivateKey, PreparedPublicKey};
+use fips204_base::Fault;
+use fips204_base::xof::Xof;
+
+impl<S, const K: usize, const L: usize, const N: usize, const SIG_LEN: usize, H: Xof> PreparedPrivateKey<K, L, H>
+where
+    Matrix<K, L>: HasSet<Set = S>,
+    S: Set<Commitment = [u8; N], Signature = [u8; SIG_LEN]> + SignatureSizes<K, L, N, SIG_LEN>,
+{
+    /// Signs the hash `mu` of a framed message with these random bytes.
+    fn sign_hash(&self, mu: &[u8; 64], rnd: &[u8; 32]) -> Result<[u8; SIG_LEN], Fault>
+        ensures answer { result ≡ sign_prepared S.set H.front self.now mu.now rnd.now }
+        ensures accepted { AcceptedIfWholePrepared S.set self.now (λ pk signature. VerifiesPrepared S.set H.front pk mu.now signature) result }
+    {
+        self.key
+            .sign_with::<N, SIG_LEN>(&S::params(), &self.a_hat, &self.transforms, mu, rnd)
+    }
+
+    /// Signs (Algorithm 2), as `Signer::try_sign_with_rng`.
+    pub fn try_sign_with_rng<R: CryptoRngCore>(
+        &self,
+        rng: &mut R,
+        message: &[u8],
+        ctx: &[u8],
+    ) -> Result<[u8; SIG_LEN], Fault>
+        ensures answer { DrawsUnless (message_fault ctx.now) R.gives R.refuses rng.old rng.new Fault.SignRng
+            (λ rnd. sign_message_prepared S.set H.front self.now rnd message.now ctx.now) result }
+        ensures accepted { AcceptedIfWholePrepared S.set self.now
+            (λ pk signature. VerifiesMessagePrepared S.set H.front pk message.now signature ctx.now) result }
+    {
+        let mu = ml_dsa::message_mu::<H>(&self.key.tr, message, ctx)?;
+        self.sign_hash(&mu, &draw(rng, Fault::SignRng)?)
+    }
+
+    /// Signs (Algorithm 2), as `Signer::try_sign_with_seed`.
+    pub fn try_sign_with_seed(
+        &self,
+        seed: &[u8; 32],
+        message: &[u8],
+        ctx: &[u8],
+    ) -> Result<[u8; SIG_LEN], Fault>
+        ensures answer { result ≡ sign_message_prepared S.set H.front self.now seed.now message.now ctx.now }
+        ensures accepted { AcceptedIfWholePrepared S.set self.now
+            (λ pk signature. VerifiesMessagePrepared S.set H.front pk message.now signature ctx.now) result }
+    {
+        let mu = ml_dsa::message_mu::<H>(&self.key.tr, message, ctx)?;
+        self.sign_hash(&mu, seed)
+    }
+
+    /// Signs a digest (Algorithm 4), as `Signer::try_hash_sign_with_rng`.
+    pub fn try_hash_sign_with_rng<R: CryptoRngCore>(
+        &self,
+        rng: &mut R,
+        hash: &[u8],
+        ctx: &[u8],
+        hash_oid: &[u8],
+    ) -> Result<[u8; SIG_LEN], Fault>
+        ensures answer { DrawsUnless (digest_fault ctx.now hash_oid.now hash.now) R.gives R.refuses rng.old rng.new Fault.HashRng
+            (λ rnd. sign_digest_prepared S.set H.front self.now rnd hash.now ctx.now hash_oid.now) result }
+        ensures accepted { AcceptedIfWholePrepared S.set self.now
+            (λ pk signature. VerifiesDigestPrepared S.set H.front pk hash.now signature ctx.now hash_oid.now) result }
+    {
+        let mu = ml_dsa::digest_mu::<H>(&self.key.tr, hash, ctx, hash_oid)?;
+        self.sign_hash(&mu, &draw(rng, Fault::HashRng)?)
+    }
+
+    /// Signs a digest (Algorithm 4), as `Signer::try_hash_sign_with_seed`.
+    pub fn try_hash_sign_with_seed(
+        &self,
+        seed: &[u8; 32],
+        hash: &[u8],
+        ctx: &[u8],
+        hash_oid: &[u8],
+    ) -> Result<[u8; SIG_LEN], Fault>
+        ensures answer { result ≡ sign_digest_prepared S.set H.front self.now seed.now hash.now ctx.now hash_oid.now }
+        ensures accepted { AcceptedIfWholePrepared S.set self.now
+            (λ pk signature. VerifiesDigestPrepared S.set H.front pk hash.now signature ctx.now hash_oid.now) result }
+    {
+        let mu = ml_dsa::digest_mu::<H>(&self.key.tr, hash, ctx, hash_oid)?;
+        self.sign_hash(&mu, seed)
+    }
+
+    /// Signs a framed message (Algorithm 7), as `PrivateKey::sign_internal`.
+    pub fn sign_internal<R: CryptoRngCore>(
+        &self,
+        rng: &mut R,
+        m: &[u8],
+        hedged: bool,
+    ) -> Result<[u8; SIG_LEN], Fault>
+        ensures answer { DrawsIf hedged R.gives R.refuses rng.old rng.new Fault.InternalRng
+            (sign_prepared S.set H.front self.now (message_hash H.front self.now.parts.tr m.now)) result }
+        ensures accepted { AcceptedIfWholePrepared S.set self.now
+            (λ pk signature. VerifiesPrepared S.set H.front pk (message_hash H.front self.now.parts.tr m.now) signature) result }
+    {
+        self.sign_mu(rng, &ml_dsa::mu::<H>(&[&self.key.tr, m]), hedged)
+    }
+
+    /// Signs the hash `mu` of a framed message, as `PrivateKey::sign_mu`.
+    pub fn sign_mu<R: CryptoRngCore>(
+        &self,
+        rng: &mut R,
+        mu: &[u8; 64],
+        hedged: bool,
+    ) -> Result<[u8; SIG_LEN], Fault>
+        ensures answer { DrawsIf hedged R.gives R.refuses rng.old rng.new Fault.InternalRng
+            (sign_prepared S.set H.front self.now mu.now) result }
+        ensures accepted { AcceptedIfWholePrepared S.set self.now (λ pk signature. VerifiesPrepared S.set H.front pk mu.now signature) result }
+    {
+        self.sign_hash(mu, &draw_if(hedged, rng)?)
+    }
+
+    /// Signs each message with its own 32 random bytes, under one context: `out[i]` becomes what
+    /// `try_sign_with_seed` answers for seed and message `i`. There are as many seeds and places of `out` as
+    /// messages.
+    pub fn sign_each(
+        &self,
+        seeds: &[[u8; 32]],
+        messages: &[&[u8]],
+        ctx: &[u8],
+        out: &mut [Result<[u8; SIG_LEN], Fault>],
+    )
+        requires seeds { length seeds.now ≡ length messages.now }
+        requires room { length out.old ≡ length messages.now }
+        ensures { SignsEach S.set H.front self.now seeds.now (map (λ m. m.now) messages.now) ctx.now out.new }
+    {
+        for i in 0..messages.len() {
+            out[i] = self.try_sign_with_seed(&seeds[i], messages[i], ctx);
+        }
+    }
+}
+
+impl<S, const K: usize, const L: usize, const N: usize, const SIG_LEN: usize, H: Xof> PreparedPublicKey<K, L, H>
+where
+    Matrix<K, L>: HasSet<Set = S>,
+    S: Set<Commitment = [u8; N], Signature = [u8; SIG_LEN]> + SignatureSizes<K, L, N, SIG_LEN>,
+{
+    /// Verifies (Algorithm 3), as `Verifier::verify`.
+    pub fn verify(&self, message: &[u8], signature: &[u8; SIG_LEN], ctx: &[u8]) -> bool
+        ensures { IsTrue result ↔ VerifiesMessagePrepared S.set H.front self.now message.now signature.now ctx.now }
+    {
+        match ml_dsa::message_mu::<H>(&self.key.tr, message, ctx) {
+            Ok(mu) => self.verify_mu(&mu, signature),
+            Err(_) => false,
+        }
+    }
+
+    /// Verifies a digest (Algorithm 5), as `Verifier::hash_verify`.
+    pub fn hash_verify(
+        &self,
+        hash: &[u8],
+        signature: &[u8; SIG_LEN],
+        ctx: &[u8],
+        hash_oid: &[u8],
+    ) -> bool
+        ensures { IsTrue result ↔ VerifiesDigestPrepared S.set H.front self.now hash.now signature.now ctx.now hash_oid.now }
+    {
+        match ml_dsa::digest_mu::<H>(&self.key.tr, hash, ctx, hash_oid) {
+            Ok(mu) => self.verify_mu(&mu, signature),
+            Err(_) => false,
+        }
+    }
+
+    /// Verifies a framed message (Algorithm 8), as `PublicKey::verify_internal`.
+    pub fn verify_internal(&self, m: &[u8], sig: &[u8; SIG_LEN]) -> bool
+        ensures { IsTrue result ↔ VerifiesPrepared S.set H.front self.now (message_hash H.front self.now.parts.tr m.now) sig.now }
+    {
+        self.verify_mu(&ml_dsa::mu::<H>(&[&self.key.tr, m]), sig)
+    }
+
+    /// Verifies the hash `mu` of a framed message, as `PublicKey::verify_mu`.
+    pub fn verify_mu(&self, mu: &[u8; 64], sig: &[u8; SIG_LEN]) -> bool
+        ensures { IsTrue result ↔ VerifiesPrepared S.set H.front self.now mu.now sig.now }
+    {
+        ml_dsa::verify_prepared::<K, L, N, SIG_LEN, H>(&S::params(), self, mu, sig)
+    }
+
+    /// Verifies each signature of its message, under one context: `out[i]` becomes what `verify` answers for
+    /// message and signature `i`. There are as many signatures and places of `out` as messages.
+    pub fn verify_each(
+        &self,
+        messages: &[&[u8]],
+        signatures: &[[u8; SIG_LEN]],
+        ctx: &[u8],
+        out: &mut [bool],
+    )
+        requires signatures { length signatures.now ≡ length messages.now }
+        requires room { length out.old ≡ length messages.now }
+        ensures { VerifiesEach S.set H.front self.now (map (λ m. m.now) messages.now) signatures.now ctx.now out.new }
+    {
+        for i in 0..messages.len() {
+            out[i] = self.verify(messages[i], &signatures[i], ctx);
+        }
+    }
+}

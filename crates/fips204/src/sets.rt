@@ -1,0 +1,56 @@
+//! The parameter sets (FIPS 204, Tables 1 and 2): each is a type that implements `Set`.
+#![tactic(auto)]
+
+ghost use Rattle.std.specs.Prelude.{◌≡◌, IsTrue};
+ghost use Rattle.fips204.specs.ParameterSets.{ParameterSet, is_parameter_set};
+ghost use Rattle.fips204.specs.Sets.{HasKeySizes, HasSizes, set_of};
+
+use crate::types::Params;
+
+/// A parameter set: its numbers, and the arrays that its bytes stand in.
+pub trait Set {
+    /// The array of `c_tilde`.
+    type Commitment;
+
+    /// The array of a signature.
+    type Signature;
+
+    /// The array of a public key.
+    type PublicKey;
+
+    /// The array of a private key.
+    type PrivateKey;
+
+    // The set's row of the standard's tables.
+    ghost set: { ParameterSet };
+
+    // It is one of the three.
+    ghost known: { IsTrue (is_parameter_set set) };
+
+    /// The numbers of the row.
+    fn params() -> Params
+        ensures { set_of result ≡ set };
+}
+
+/// The sizes of a set's signatures: a matrix of `K` rows and `L` columns, `N` bytes of `c_tilde`, and `SIG_LEN`
+/// bytes in all.
+pub trait SignatureSizes<const K: usize, const L: usize, const N: usize, const SIG_LEN: usize>: Set {
+    // They are those of the set's row.
+    ghost sizes: { HasSizes Self.set K L N SIG_LEN };
+}
+
+/// The sizes of a set's keys: a matrix of `K` rows and `L` columns, `PK_LEN` bytes of a public key, and `SK_LEN`
+/// bytes of a private one.
+pub trait KeySizes<const K: usize, const L: usize, const PK_LEN: usize, const SK_LEN: usize>: Set {
+    // They are those of the set's row.
+    ghost key_sizes: { HasKeySizes Self.set K L PK_LEN SK_LEN };
+}
+
+/// A matrix of `K` rows and `L` columns, by which a key's type tells its set.
+pub struct Matrix<const K: usize, const L: usize>;
+
+/// The set that has this matrix.
+pub trait HasSet {
+    /// The set.
+    type Set;
+}
