@@ -1,24 +1,23 @@
 -- The lines of a batch, entry by entry.
 use Rattle.std.proofs.Common.{◌≡◌, ℕ, zero, suc, ◌+◌, ◌-◌, ◌*◌, ◌<◌, List, [], ◌∷◌, ◌++◌, length, get_or, Option, Some, None, Ok, refl, sym, ap, ◌∙◌, arith, subst}
-use Rattle.fips204.specs.ParameterSets.{signature_length}
+use Rattle.fips204.specs.ParameterSets.{ParameterSet, signature_length}
 use Rattle.mldsa_engine.specs.declared.fault.RunFault.{RunFault}
 use Rattle.mldsa_engine.specs.declared.call.Task.{Task}
 use Rattle.mldsa_engine.specs.declared.call.Task.TheVariants.{Batch}
-use Rattle.mldsa_engine.specs.declared.call.SetName.{SetName}
 use Rattle.mldsa_engine.specs.Lines.{after_line, after_lines, line_bytes, lines_bytes, AllFit, TakesLines, FaultOfLines, InTurn}
-use Rattle.mldsa_engine.specs.ProgramText.{named_set, wanted_lines, entry_lines, later_lines, two_bytes, entries_of, entries_of_line, lines_of_input}
+use Rattle.mldsa_engine.specs.ProgramText.{wanted_lines, entry_lines, later_lines, two_bytes, entries_of, entries_of_line, input_lines}
 use Rattle.mldsa_engine.proofs.LinesInSequence.{AllFit-append, before_good, takes_more, later_fault, later_in_turn, earlier_fault, earlier_in_turn}
 
 -- the fault of one of the first lines is that of them all
-pub first_fault : (task : Task) (set : SetName) (given : Option (List ℕ)) (fault : RunFault)
-    → FaultOfLines 1 (wanted_lines task set) given fault → FaultOfLines 1 (lines_of_input task set given) given fault
-first_fault task set given fault bad =
-    earlier_fault 1 (wanted_lines task set) (later_lines task set (entries_of given)) given fault bad
+pub first_fault : (task : Task) (p : ParameterSet) (given : Option (List ℕ)) (fault : RunFault)
+    → FaultOfLines 1 (wanted_lines task p) given fault → FaultOfLines 1 (input_lines task p given) given fault
+first_fault task p given fault bad =
+    earlier_fault 1 (wanted_lines task p) (later_lines task p (entries_of given)) given fault bad
 
-pub first_in_turn : (task : Task) (set : SetName) (given left : Option (List ℕ))
-    → InTurn 1 (wanted_lines task set) given left → InTurn 1 (lines_of_input task set given) given left
-first_in_turn task set given left bad =
-    earlier_in_turn 1 (wanted_lines task set) (later_lines task set (entries_of given)) given left bad
+pub first_in_turn : (task : Task) (p : ParameterSet) (given left : Option (List ℕ))
+    → InTurn 1 (wanted_lines task p) given left → InTurn 1 (input_lines task p given) given left
+first_in_turn task p given left bad =
+    earlier_in_turn 1 (wanted_lines task p) (later_lines task p (entries_of given)) given left bad
 
 -- the third of the lines that were taken
 third_line : (first second third : Option ℕ) (input : List ℕ) (lines : List (List ℕ))
@@ -30,41 +29,41 @@ third_line first second third input lines good =
     three.1 ∙ ap (λ l. Ok (get_or l 2 [])) (sym (one.2.2 ∙ ap (λ l. one.0 ∷ l) (two.2.2 ∙ ap (λ l. two.0 ∷ l) three.2.2)))
 
 -- a batch has as many entries as the third of its lines says
-entries_said : (set : SetName) (input : List ℕ) (mid : Option (List ℕ)) (lines : List (List ℕ)) (count : ℕ)
-    → TakesLines 1 (wanted_lines Batch set) (Some input) mid lines → count ≡ two_bytes (get_or lines 2 []) → count ≡ entries_of (Some input)
-entries_said set input None lines count p said = absurd p
-entries_said set input (Some left) lines count p said = said ∙ sym (ap entries_of_line (third_line _ _ _ input lines p.0))
+entries_said : (p : ParameterSet) (input : List ℕ) (mid : Option (List ℕ)) (lines : List (List ℕ)) (count : ℕ)
+    → TakesLines 1 (wanted_lines Batch p) (Some input) mid lines → count ≡ two_bytes (get_or lines 2 []) → count ≡ entries_of (Some input)
+entries_said p input None lines count taken said = absurd taken
+entries_said p input (Some left) lines count taken said = said ∙ sym (ap entries_of_line (third_line _ _ _ input lines taken.0))
 
 -- all the lines of a batch are taken once those of its entries are
-pub batch_taken : (set : SetName) (given mid left : Option (List ℕ)) (lines entries : List (List ℕ)) (count : ℕ)
-    → TakesLines 1 (wanted_lines Batch set) given mid lines → count ≡ two_bytes (get_or lines 2 [])
-    → TakesLines 4 (entry_lines (signature_length (named_set set)) count) mid left entries
-    → TakesLines 1 (lines_of_input Batch set given) given left (lines ++ entries)
-batch_taken set None mid left lines entries count first said later = tt
-batch_taken set (Some input) mid left lines entries count first said later =
-    let size = signature_length (named_set set) in
-    takes_more 1 4 (wanted_lines Batch set) (entry_lines size (entries_of (Some input))) (Some input) mid left lines entries refl first
-    (subst (λ n. TakesLines 4 (entry_lines size n) mid left entries) (entries_said set input mid lines count first said) later)
+pub batch_taken : (p : ParameterSet) (given mid left : Option (List ℕ)) (lines entries : List (List ℕ)) (count : ℕ)
+    → TakesLines 1 (wanted_lines Batch p) given mid lines → count ≡ two_bytes (get_or lines 2 [])
+    → TakesLines 4 (entry_lines (signature_length p) count) mid left entries
+    → TakesLines 1 (input_lines Batch p given) given left (lines ++ entries)
+batch_taken p None mid left lines entries count first said later = tt
+batch_taken p (Some input) mid left lines entries count first said later =
+    let size = signature_length p in
+    takes_more 1 4 (wanted_lines Batch p) (entry_lines size (entries_of (Some input))) (Some input) mid left lines entries refl first
+    (subst (λ n. TakesLines 4 (entry_lines size n) mid left entries) (entries_said p input mid lines count first said) later)
 
 -- the fault of an entry is that of the batch
-pub batch_fault : (set : SetName) (given mid : Option (List ℕ)) (lines : List (List ℕ)) (count : ℕ) (fault : RunFault)
-    → TakesLines 1 (wanted_lines Batch set) given mid lines → count ≡ two_bytes (get_or lines 2 [])
-    → FaultOfLines 4 (entry_lines (signature_length (named_set set)) count) mid fault
-    → FaultOfLines 1 (lines_of_input Batch set given) given fault
-batch_fault set None mid lines count fault first said bad = tt
-batch_fault set (Some input) mid lines count fault first said bad =
-    let size = signature_length (named_set set) in
-    later_fault 1 4 (wanted_lines Batch set) (entry_lines size (entries_of (Some input))) (Some input) mid lines fault refl first
-    (subst (λ n. FaultOfLines 4 (entry_lines size n) mid fault) (entries_said set input mid lines count first said) bad)
+pub batch_fault : (p : ParameterSet) (given mid : Option (List ℕ)) (lines : List (List ℕ)) (count : ℕ) (fault : RunFault)
+    → TakesLines 1 (wanted_lines Batch p) given mid lines → count ≡ two_bytes (get_or lines 2 [])
+    → FaultOfLines 4 (entry_lines (signature_length p) count) mid fault
+    → FaultOfLines 1 (input_lines Batch p given) given fault
+batch_fault p None mid lines count fault first said bad = tt
+batch_fault p (Some input) mid lines count fault first said bad =
+    let size = signature_length p in
+    later_fault 1 4 (wanted_lines Batch p) (entry_lines size (entries_of (Some input))) (Some input) mid lines fault refl first
+    (subst (λ n. FaultOfLines 4 (entry_lines size n) mid fault) (entries_said p input mid lines count first said) bad)
 
-pub batch_in_turn : (set : SetName) (given mid left : Option (List ℕ)) (lines : List (List ℕ)) (count : ℕ)
-    → TakesLines 1 (wanted_lines Batch set) given mid lines → count ≡ two_bytes (get_or lines 2 [])
-    → InTurn 4 (entry_lines (signature_length (named_set set)) count) mid left → InTurn 1 (lines_of_input Batch set given) given left
-batch_in_turn set None mid left lines count first said bad = tt
-batch_in_turn set (Some input) mid left lines count first said bad =
-    let size = signature_length (named_set set) in
-    later_in_turn 1 4 (wanted_lines Batch set) (entry_lines size (entries_of (Some input))) (Some input) mid left lines refl first
-    (subst (λ n. InTurn 4 (entry_lines size n) mid left) (entries_said set input mid lines count first said) bad)
+pub batch_in_turn : (p : ParameterSet) (given mid left : Option (List ℕ)) (lines : List (List ℕ)) (count : ℕ)
+    → TakesLines 1 (wanted_lines Batch p) given mid lines → count ≡ two_bytes (get_or lines 2 [])
+    → InTurn 4 (entry_lines (signature_length p) count) mid left → InTurn 1 (input_lines Batch p given) given left
+batch_in_turn p None mid left lines count first said bad = tt
+batch_in_turn p (Some input) mid left lines count first said bad =
+    let size = signature_length p in
+    later_in_turn 1 4 (wanted_lines Batch p) (entry_lines size (entries_of (Some input))) (Some input) mid left lines refl first
+    (subst (λ n. InTurn 4 (entry_lines size n) mid left) (entries_said p input mid lines count first said) bad)
 
 -- the lines of entries are those of the first and then those of the others
 entries_more : (size entries more : ℕ) → entry_lines size (entries + more) ≡ entry_lines size entries ++ entry_lines size more

@@ -1,6 +1,6 @@
 -- The answers of a batch, one after another, and by a prepared key.
 use Rattle.std.proofs.Common.{◌≡◌, ℕ, ◌+◌, ◌*◌, ◌<◌, Bool, true, false, IsTrue, ◌↔◌, List, [], ◌∷◌, ◌++◌, length, map, get_or, inl, inr}
-use Rattle.std.proofs.Common.{refl, sym, ap, ◌∙◌, arith, subst, length-append, Result, Ok, Err, MatchResult, Some, None}
+use Rattle.std.proofs.Common.{refl, sym, ap, ◌∙◌, arith, subst, length-append, Result, Ok, Err, Some, None}
 use Rattle.std.proofs.lemmas.List.{get_or_append_left, get_or-append-add, map-append, flat_map_more}
 use Rattle.std.proofs.lemmas.List.Elements.{All-nil, All-push, All-pop}
 use Rattle.std.proofs.lemmas.Bool.{cases_eq}
@@ -11,11 +11,11 @@ use Rattle.fips204.specs.fault.Fault.TheVariants.{SamplingLimit}
 use Rattle.fips204.specs.Keys.{PublicParts, IsPublicKeyOf}
 use Rattle.fips204.specs.MatrixEntry.{sampled_matrix}
 use Rattle.fips204.specs.ParameterSets.{ParameterSet, signature_length}
-use Rattle.fips204.specs.Prepared.{PreparedPublic, prepared_public, VerifiesMessagePrepared, PreparedAnswersAsPlain}
+use Rattle.fips204.specs.Prepared.{PreparedPublic, prepared_public, PreparedAnswersAsPlain}
 use Rattle.fips204.specs.Refusals.{VerifiesMessage}
 use Rattle.fips204.specs.declared.types.T.{T}
 use Rattle.mldsa_engine.specs.Lines.{AllFit, TakesLines}
-use Rattle.mldsa_engine.specs.ProgramText.{text, answer_word, entry_lines, AnswersEach, TellsAll, JudgesEntries, JudgesByKey}
+use Rattle.mldsa_engine.specs.ProgramText.{text, answer_word, entry_lines, AnswersEach, TellsAll, AcceptsIfPrepared, JudgesEntries, JudgesByKey}
 use Rattle.mldsa_engine.proofs.LinesInSequence.{no_lines}
 use Rattle.mldsa_engine.proofs.Entries.{next_entry}
 
@@ -80,12 +80,7 @@ judges_next items accepts size entry number old mid new (a ∷ b ∷ []) first s
     )
 judges_next items accepts size entry number old mid new (a ∷ b ∷ c ∷ more) first second before after all next answer s m numbered fit takes is is' e e' now grown both told = absurd fit.1.1
 
--- what preparing a key answered accepts a message: nothing where it refused
-abbrev pub AcceptsIfPrepared : ParameterSet → (List ℕ → List ℕ) → Result PreparedPublic Fault → List ℕ → List ℕ → List ℕ → Type 0
-AcceptsIfPrepared p H prepared message signature context =
-    MatchResult prepared (λ key. VerifiesMessagePrepared p H key message signature context) (λ _. ⊥)
-
--- it accepts what the key does
+-- what preparing a key answered accepts what the key does
 accepts_as_key : (p : ParameterSet) (H G : List ℕ → List ℕ) (matrix : Option (List (List T))) (pk : PublicParts)
     (message signature context : List ℕ) → PreparedAnswersAsPlain p H G → sampled_matrix G pk.rho p.k p.l ≡ matrix
     → AcceptsIfPrepared p H (ok_or (option_map (λ a. record { key = pk; matrix = a }) matrix) SamplingLimit) message signature context
@@ -118,4 +113,5 @@ judged_by_prepared output success p H G pk prepared key context size count given
     let (entries, fit, taken, (answers, judged, tells)) = each in
     let alike = answers_alike _ (λ signature message. VerifiesMessage p H G pk message signature context) entries answers
     (λ signature message. accepts_as_key p H G (sampled_matrix G pk.rho p.k p.l) pk message signature context law refl) (rw same at judged) in
-    (pk, is, rw (← sized) (entries, fit, taken, (answers, alike, tells)))
+    let accepts : List ℕ → List ℕ → Type 0 = λ signature message. VerifiesMessage p H G pk message signature context in
+    (pk, is, subst (λ n. JudgesEntries accepts n count given left (output it) (success it)) sized (entries, fit, taken, (answers, alike, tells)))

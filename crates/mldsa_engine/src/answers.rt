@@ -3,7 +3,7 @@
 
 ghost use Rattle.std.specs.Prelude.{◌≡◌, ◌≤◌, ◌↔◌, length, false, Err, IsTrue, IfOk, IfErr};
 ghost use Rattle.mldsa_engine.specs.Lines.{IsInputFault, IsLineFault, FaultOfLines, InTurn};
-ghost use Rattle.mldsa_engine.specs.ProgramText.{two_bytes, lines_of_input, Executes};
+ghost use Rattle.mldsa_engine.specs.ProgramText.{named_set, two_bytes, lines_of_input, Executes};
 
 mod batch;
 mod checking;
@@ -16,7 +16,7 @@ use crate::call::{SetName, Task};
 use crate::fault::RunFault;
 use crate::lines::read_lines;
 use crate::marked::Marked;
-use crate::wanted::wanted_of;
+use crate::wanted::{lengths_of, wanted_of};
 use fips204::xof::Xof;
 use std::alloc::Global;
 use std::io::Read;
@@ -31,12 +31,13 @@ pub(crate) fn execute<H: Xof, G: Xof, I: Read>(
 ) -> Result<Output, RunFault>
     requires unmarked { input.old.failed ≡ false }
     ensures read_failed { IsTrue input.new.failed ↔ (result ≡ Err RunFault.Read) }
-    ensures executed { IfOk result (λ output. Executes H.front G.front task set (I.remaining input.old.device) (I.remaining input.new.device) output.text.items output.success) }
+    ensures executed { IfOk result (λ output. Executes H.front G.front task (named_set set) (I.remaining input.old.device) (I.remaining input.new.device) output.text.items output.success) }
     ensures line_fault { IfErr result (λ fault. IsLineFault fault → FaultOfLines 1 (lines_of_input task set (I.remaining input.old.device)) (I.remaining input.old.device) fault) }
     ensures in_turn { IfErr result (λ fault. IsLineFault fault → InTurn 1 (lines_of_input task set (I.remaining input.old.device)) (I.remaining input.old.device) (I.remaining input.new.device)) }
     ensures faults { IfErr result (λ fault. IsInputFault fault) }
 {
-    let lines = read_lines(alloc, 1, wanted_of(task, set), input)?;
+    let (wanted, count) = wanted_of(task, lengths_of(set));
+    let lines = read_lines(alloc, 1, &wanted[..count], input)?;
     match task {
         Task::Id => keys::identify::<H, G>(alloc, set, lines[0].as_slice()),
         Task::Keygen => keys::make_keys::<H, G>(alloc, set, &array_of(lines[0].as_slice())),

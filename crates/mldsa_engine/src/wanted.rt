@@ -1,52 +1,54 @@
 //! The lines that each command wants.
 #![tactic(auto)]
 
-ghost use Rattle.std.specs.Prelude.{◌≡◌};
-ghost use Rattle.mldsa_engine.specs.ProgramText.{wanted_lines};
+ghost use Rattle.std.specs.Prelude.{◌≡◌, ◌≤◌, take};
+ghost use Rattle.fips204.specs.ParameterSets.{ParameterSet, public_key_length, private_key_length, signature_length};
+ghost use Rattle.mldsa_engine.specs.ProgramText.{named_set, wanted_lines};
 
 use crate::call::{SetName, Task};
 use fips204::{ml_dsa_44, ml_dsa_65, ml_dsa_87};
 
-/// The lines that a command wants of every input: a number of bytes each, or any number of them.
+/// How many bytes the keys and signatures of a set have.
+#[derive(Clone, Copy)]
+pub(crate) struct Lengths {
+    public_key: usize,
+    private_key: usize,
+    signature: usize,
+}
+
+/// The lengths of a set.
 #[tactic(auto, using(crate::proofs::Lengths::lengths))]
-pub(crate) fn wanted_of(task: Task, set: SetName) -> &'static [Option<usize>]
-    ensures { result.now ≡ wanted_lines task set }
+pub(crate) fn lengths_of(set: SetName) -> Lengths
+    ensures public_key { result.public_key ≡ public_key_length (named_set set) }
+    ensures private_key { result.private_key ≡ private_key_length (named_set set) }
+    ensures signature { result.signature ≡ signature_length (named_set set) }
 {
-    match (task, set) {
-        (Task::Id, SetName::MlDsa44) => &[Some(ml_dsa_44::PK_LEN)],
-        (Task::Id, SetName::MlDsa65) => &[Some(ml_dsa_65::PK_LEN)],
-        (Task::Id, SetName::MlDsa87) => &[Some(ml_dsa_87::PK_LEN)],
-        (Task::Keygen, _) => &[Some(32)],
-        (Task::Sign, SetName::MlDsa44) => &[Some(ml_dsa_44::SK_LEN), Some(32), None, None],
-        (Task::Sign, SetName::MlDsa65) => &[Some(ml_dsa_65::SK_LEN), Some(32), None, None],
-        (Task::Sign, SetName::MlDsa87) => &[Some(ml_dsa_87::SK_LEN), Some(32), None, None],
-        (Task::Verify, SetName::MlDsa44) => {
-            &[
-                Some(ml_dsa_44::PK_LEN),
-                Some(ml_dsa_44::SIG_LEN),
-                None,
-                None,
-            ]
-        }
-        (Task::Verify, SetName::MlDsa65) => {
-            &[
-                Some(ml_dsa_65::PK_LEN),
-                Some(ml_dsa_65::SIG_LEN),
-                None,
-                None,
-            ]
-        }
-        (Task::Verify, SetName::MlDsa87) => {
-            &[
-                Some(ml_dsa_87::PK_LEN),
-                Some(ml_dsa_87::SIG_LEN),
-                None,
-                None,
-            ]
-        }
-        (Task::Check, _) => &[Some(32), Some(32), None, None],
-        (Task::Batch, SetName::MlDsa44) => &[Some(ml_dsa_44::PK_LEN), None, Some(2)],
-        (Task::Batch, SetName::MlDsa65) => &[Some(ml_dsa_65::PK_LEN), None, Some(2)],
-        (Task::Batch, SetName::MlDsa87) => &[Some(ml_dsa_87::PK_LEN), None, Some(2)],
+    let (public_key, private_key, signature) = match set {
+        SetName::MlDsa44 => (ml_dsa_44::PK_LEN, ml_dsa_44::SK_LEN, ml_dsa_44::SIG_LEN),
+        SetName::MlDsa65 => (ml_dsa_65::PK_LEN, ml_dsa_65::SK_LEN, ml_dsa_65::SIG_LEN),
+        SetName::MlDsa87 => (ml_dsa_87::PK_LEN, ml_dsa_87::SK_LEN, ml_dsa_87::SIG_LEN),
+    };
+    Lengths {
+        public_key,
+        private_key,
+        signature,
+    }
+}
+
+/// The lines that a command wants of every input, with keys and signatures of these lengths: a number of bytes each, or any
+/// number of them. They are the first of the array, as many as the number beside it says.
+pub(crate) fn wanted_of(task: Task, lengths: Lengths) -> ([Option<usize>; 4], usize)
+    ensures lines { (p : ParameterSet) → lengths.public_key ≡ public_key_length p → lengths.private_key ≡ private_key_length p → lengths.signature ≡ signature_length p
+        → take result.1 result.0 ≡ wanted_lines task p }
+    ensures most { result.1 ≤ 4 }
+{
+    let (public_key, signature) = (Some(lengths.public_key), Some(lengths.signature));
+    match task {
+        Task::Id => ([public_key, None, None, None], 1),
+        Task::Keygen => ([Some(32), None, None, None], 1),
+        Task::Sign => ([Some(lengths.private_key), Some(32), None, None], 4),
+        Task::Verify => ([public_key, signature, None, None], 4),
+        Task::Check => ([Some(32), Some(32), None, None], 4),
+        Task::Batch => ([public_key, None, Some(2), None], 3),
     }
 }

@@ -1,7 +1,7 @@
 //! What `id` and `keygen` write.
 #![tactic(auto)]
 
-ghost use Rattle.std.specs.Prelude.{◌≡◌, ◌<◌, ◌^◌, ◌∷◌, [], true, length, take, IfOk, IfErr};
+ghost use Rattle.std.specs.Prelude.{◌≡◌, ◌≤◌, ◌<◌, ◌^◌, ◌∷◌, [], true, length, take, IfOk, IfErr};
 ghost use Rattle.fips204.specs.ParameterSets.{public_key_length};
 ghost use Rattle.mldsa_engine.specs.ProgramText.{named_set, hex_text, Tells, Generates};
 
@@ -9,7 +9,9 @@ use super::array_of;
 use super::writing::{Output, refuse, two_lines};
 use crate::call::SetName;
 use crate::fault::RunFault;
+use fips204::sets::{HasSet, KeySizes, Matrix, Set};
 use fips204::traits::{KeyGen, SerDes};
+use fips204::types::PublicKey;
 use fips204::xof::Xof;
 use fips204::{ml_dsa_44, ml_dsa_65, ml_dsa_87};
 use std::alloc::Global;
@@ -25,41 +27,29 @@ pub(super) fn identify<H: Xof, G: Xof>(
     ensures memory { IfErr result (λ fault. fault ≡ RunFault.Memory) }
 {
     match set {
-        SetName::MlDsa44 => identify_44::<H, G>(alloc, key),
-        SetName::MlDsa65 => identify_65::<H, G>(alloc, key),
-        SetName::MlDsa87 => identify_87::<H, G>(alloc, key),
+        SetName::MlDsa44 => identify_key::<_, 4, 4, _, _, H, G>(alloc, key),
+        SetName::MlDsa65 => identify_key::<_, 6, 5, _, _, H, G>(alloc, key),
+        SetName::MlDsa87 => identify_key::<_, 8, 7, _, _, H, G>(alloc, key),
     }
 }
 
-/// A public key of ML-DSA-44 and its hash, as lines of hex.
-fn identify_44<H: Xof, G: Xof>(alloc: Global, key: &[u8]) -> Result<Output, RunFault>
-    requires { length key.now ≡ 1312 }
+/// The public key that has these bytes and its hash, as lines of hex.
+///
+/// Not inlined, so that the key of one set alone stands in the stack.
+#[inline(never)]
+fn identify_key<S, const K: usize, const L: usize, const PK_LEN: usize, const SK_LEN: usize, H: Xof, G: Xof>(
+    alloc: Global,
+    key: &[u8],
+) -> Result<Output, RunFault>
+where
+    Matrix<K, L>: HasSet<Set = S>,
+    S: Set<PublicKey = [u8; PK_LEN], PrivateKey = [u8; SK_LEN]> + KeySizes<K, L, PK_LEN, SK_LEN>,
+    requires key { length key.now ≡ PK_LEN }
+    requires small { (K ≤ 8) × (PK_LEN ≤ 2592) }
     ensures given { IfOk result (λ output. (output.text.items ≡ hex_text (key.now ∷ take 64 (H.front key.now) ∷ [])) × (output.success ≡ true)) }
     ensures memory { IfErr result (λ fault. fault ≡ RunFault.Memory) }
 {
-    let key = ml_dsa_44::PublicKey::<H, G>::try_from_bytes(array_of(key)).unwrap();
-    let tr = *key.tr();
-    two_lines(alloc, &key.into_bytes(), &tr)
-}
-
-/// A public key of ML-DSA-65 and its hash, as lines of hex.
-fn identify_65<H: Xof, G: Xof>(alloc: Global, key: &[u8]) -> Result<Output, RunFault>
-    requires { length key.now ≡ 1952 }
-    ensures given { IfOk result (λ output. (output.text.items ≡ hex_text (key.now ∷ take 64 (H.front key.now) ∷ [])) × (output.success ≡ true)) }
-    ensures memory { IfErr result (λ fault. fault ≡ RunFault.Memory) }
-{
-    let key = ml_dsa_65::PublicKey::<H, G>::try_from_bytes(array_of(key)).unwrap();
-    let tr = *key.tr();
-    two_lines(alloc, &key.into_bytes(), &tr)
-}
-
-/// A public key of ML-DSA-87 and its hash, as lines of hex.
-fn identify_87<H: Xof, G: Xof>(alloc: Global, key: &[u8]) -> Result<Output, RunFault>
-    requires { length key.now ≡ 2592 }
-    ensures given { IfOk result (λ output. (output.text.items ≡ hex_text (key.now ∷ take 64 (H.front key.now) ∷ [])) × (output.success ≡ true)) }
-    ensures memory { IfErr result (λ fault. fault ≡ RunFault.Memory) }
-{
-    let key = ml_dsa_87::PublicKey::<H, G>::try_from_bytes(array_of(key)).unwrap();
+    let key = PublicKey::<K, L, H, G>::try_from_bytes(array_of(key)).unwrap();
     let tr = *key.tr();
     two_lines(alloc, &key.into_bytes(), &tr)
 }
