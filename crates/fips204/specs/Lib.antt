@@ -1,7 +1,7 @@
 pub mod ParameterSets
 pub mod Sets
 pub mod Keys
-pub mod KeyTransforms
+pub mod SigningInputs
 pub mod KeyGeneration
 pub mod Attempts
 pub mod Signing

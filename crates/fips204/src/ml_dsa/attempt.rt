@@ -7,7 +7,7 @@ ghost use Rattle.fips204_base.specs.Residues.{residue};
 ghost use Rattle.fips204_base.specs.Rounding.{high_bits};
 ghost use Rattle.fips204_base.specs.Vectors.{vector_coefficients, vector_of};
 ghost use Rattle.fips204.specs.Attempts.{attempt};
-ghost use Rattle.fips204.specs.KeyTransforms.{AreAttemptInputs};
+ghost use Rattle.fips204.specs.SigningInputs.{AreAttemptInputs};
 ghost use Rattle.fips204.specs.Sets.{set_of};
 ghost use Rattle.fips204.specs.Signing.{attempt_answer};
 

@@ -10,7 +10,7 @@ ghost use Rattle.fips204_base.specs.Rounding.{low_bits};
 ghost use Rattle.fips204_base.specs.Vectors.{vector_coefficients, vector_of, AreTransformsOf, IsTransformOf};
 ghost use Rattle.fips204_base.specs.declared.types.R.{R};
 ghost use Rattle.fips204.specs.Attempts.{checked_attempt, hint_bit, w_minus_cs2, y_plus_cs1};
-ghost use Rattle.fips204.specs.KeyTransforms.{AreCheckInputs};
+ghost use Rattle.fips204.specs.SigningInputs.{AreCheckInputs};
 ghost use Rattle.fips204.specs.Sets.{set_of};
 ghost use Rattle.fips204.specs.Signing.{attempt_answer};
 

@@ -3,7 +3,7 @@
 
 ghost use Rattle.std.specs.Prelude.{◌≡◌};
 ghost use Rattle.fips204.specs.Completeness.{HashAccepted};
-ghost use Rattle.fips204.specs.KeyTransforms.{AreKeyTransforms, AreSigningInputs};
+ghost use Rattle.fips204.specs.SigningInputs.{AreKeyTransforms, AreSigningInputs};
 ghost use Rattle.fips204.specs.Sets.{HasSizes, set_of};
 ghost use Rattle.fips204.specs.Signing.{sign, sign_with};
 

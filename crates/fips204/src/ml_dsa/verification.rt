@@ -2,16 +2,16 @@
 #![tactic(auto)]
 
 ghost use Rattle.std.specs.Prelude.{◌≡◌, ◌≤◌, ◌<◌, ◌⊎◌, ◌-◌, ◌*◌, ◌%◌, ◌≤ℤ◌, ◌↔◌, ℕ, List, pos, nat_abs, IsTrue, Some, int_lt, MatchOption};
+ghost use Rattle.std.specs.List.{All};
 ghost use Rattle.fips204_base.specs.Challenge.{challenge};
+ghost use Rattle.fips204_base.specs.Packing.{InRange};
 ghost use Rattle.fips204_base.specs.Polynomials.{IsReducedVector};
 ghost use Rattle.fips204_base.specs.Residues.{residue};
-ghost use Rattle.fips204_base.specs.Rounding.{use_hint};
+ghost use Rattle.fips204_base.specs.Rounding.{high_values, use_hint};
 ghost use Rattle.fips204_base.specs.Vectors.{IsVector, vector_coefficients};
 ghost use Rattle.fips204_base.specs.declared.types.R.{R};
 ghost use Rattle.fips204.specs.Acceptance.{t1_shifted, hinted, HasShortParts, Accepts, Verifies};
-ghost use Rattle.fips204.specs.Attempts.{commitment};
 ghost use Rattle.fips204.specs.Keys.{IsHighPart};
-ghost use Rattle.fips204.specs.ParameterSets.{commitment_length};
 ghost use Rattle.fips204.specs.Sets.{HasSizes, set_of};
 
 use super::commitment::commitment;
@@ -21,7 +21,7 @@ use fips204_base::D;
 use fips204_base::encodings::sig_decode;
 use fips204_base::hashing::{sample_in_ball, write_expanded_times_vector_less};
 use fips204_base::high_low::use_hint;
-use fips204_base::maps::{map_vector, zip_vectors};
+use fips204_base::maps::{map_vector, write_zip_vectors};
 use fips204_base::product::matrix_times_vector_less;
 use fips204_base::xof::Xof;
 
@@ -47,7 +47,12 @@ pub fn verify_internal<
     let mut w = [R0; K];
     match write_expanded_times_vector_less::<K, L, G>(&pk.rho, z, c, &t1_shifted(&pk.t1), &mut w) {
         Err(_) => false,
-        Ok(()) => has_commitment::<K, LAMBDA_DIV4, H>(p, mu, &w, h, c_tilde),
+        Ok(()) => {
+            // w1' = UseHint(h, w'_approx)
+            write_hinted(p, h, &mut w);
+            // c_tilde = H(mu || w1Encode(w1'))
+            *c_tilde == commitment::<K, LAMBDA_DIV4, H>(p, mu, &w)
+        }
     }
 }
 
@@ -67,8 +72,11 @@ pub(crate) fn verify_prepared<
     };
     let (c_tilde, z, h, c) = &parts;
     // w'_approx = A z - c t1 2^d
-    let w = matrix_times_vector_less(&pk.a_hat, z, c, &t1_shifted(&pk.key.t1));
-    has_commitment::<K, LAMBDA_DIV4, H>(p, mu, &w, h, c_tilde)
+    let mut w = matrix_times_vector_less(&pk.a_hat, z, c, &t1_shifted(&pk.key.t1));
+    // w1' = UseHint(h, w'_approx)
+    write_hinted(p, h, &mut w);
+    // c_tilde = H(mu || w1Encode(w1'))
+    *c_tilde == commitment::<K, LAMBDA_DIV4, H>(p, mu, &w)
 }
 
 /// The parts `c_tilde`, `z` and `h` of a signature and its challenge (lines 2 to 8), or `None` where its last
@@ -96,26 +104,18 @@ fn opened<const K: usize, const L: usize, const LAMBDA_DIV4: usize, const SIG_LE
     }
 }
 
-/// Whether `c_tilde` is the commitment of `w1' = UseHint(h, w)` (lines 10 to 12).
+/// Writes `w1' = UseHint(h, w)` (line 10) over `w`.
 ///
-/// Coefficients of `w` are below `q` in absolute value, those of `h` 0 or 1. `K` is that of the set, and
-/// `LAMBDA_DIV4` is the length of `c_tilde`.
-fn has_commitment<const K: usize, const LAMBDA_DIV4: usize, H: Xof>(
-    p: &Params,
-    mu: &[u8; 64],
-    w: &[R; K],
-    h: &[R; K],
-    c_tilde: &[u8; LAMBDA_DIV4],
-) -> bool
+/// Coefficients of `w` are below `q` in absolute value, those of `h` 0 or 1. `K` is that of the set.
+fn write_hinted<const K: usize>(p: &Params, h: &[R; K], w: &mut [R; K])
     requires rows { K ≡ p.now.k }
-    requires commitment_size { LAMBDA_DIV4 ≡ commitment_length (set_of p.now) }
-    requires range { IsReducedVector K w.now }
+    requires range { IsReducedVector K w.old }
     requires hint { IsVector K 0 1 h.now }
-    ensures { IsTrue result ↔ (c_tilde.now ≡ commitment (set_of p.now) H.front mu.now (hinted (set_of p.now) h.now (vector_coefficients w.now))) }
+    ensures values { w.new ≡ hinted (set_of p.now) h.now (vector_coefficients w.old) }
+    ensures range { All (λ w. InRange (pos 0) (pos (high_values (nat_abs p.now.gamma2) - 1)) w.0) w.new }
 {
-    // w1' = UseHint(h, w'_approx)
     let gamma2 = p.gamma2;
-    let w1 = zip_vectors(
+    write_zip_vectors(
         w,
         h,
         |w, h|
@@ -123,8 +123,6 @@ fn has_commitment<const K: usize, const LAMBDA_DIV4: usize, H: Xof>(
             ensures { result ≡ pos (use_hint (nat_abs gamma2) (int_lt (pos 0) h) (residue w)) }
         { use_hint(gamma2, h, w) },
     );
-    // c_tilde = H(mu || w1Encode(w1'))
-    *c_tilde == commitment::<K, LAMBDA_DIV4, H>(p, mu, &w1)
 }
 
 /// `t1 2^d`, with coefficients from 0 to `q - 1`.

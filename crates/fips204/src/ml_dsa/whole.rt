@@ -1,45 +1,15 @@
 //! Whether a private key is whole (FIPS 204, Algorithm 6, lines 3 to 6).
 #![tactic(auto)]
 
-ghost use Rattle.std.specs.Prelude.{◌≡◌, ◌≤◌, ◌↔◌, ◌%◌, ◌+◌, IsTrue, pos, nat_abs};
-ghost use Rattle.fips204_base.specs.Polynomials.{AreResidues, IsReducedVector, IsReducedMatrix};
-ghost use Rattle.fips204_base.specs.Residues.{residue};
-ghost use Rattle.fips204_base.specs.Vectors.{vector_of};
-ghost use Rattle.fips204.specs.KeyGeneration.{key_vector, TellsWhole};
+ghost use Rattle.std.specs.Prelude.{◌≡◌, ◌↔◌, IsTrue};
+ghost use Rattle.fips204.specs.KeyGeneration.{TellsWhole};
 ghost use Rattle.fips204.specs.Sets.{set_of};
 
-use crate::types::{Params, PrivateKey, R, T};
+use super::key_generation::write_key_vector;
+use crate::types::{Params, PrivateKey, R, R0};
 use fips204_base::Fault;
-use fips204_base::hashing::expand_a;
-use fips204_base::helpers::full_reduce32;
-use fips204_base::high_low::power2round;
-use fips204_base::maps::zip_vectors;
-use fips204_base::product::matrix_times_vector;
+use fips204_base::high_low::write_power2round;
 use fips204_base::xof::Xof;
-
-/// `A s1 + s2`, with coefficients from 0 to `q - 1`. Those of `s1` and `s2` are below `q` in absolute value, and so are the
-/// transforms of the matrix; `L` is at most 7.
-fn sum_of_product<const K: usize, const L: usize>(
-    a_hat: &[[T; L]; K],
-    s1: &[R; L],
-    s2: &[R; K],
-) -> [R; K]
-    requires columns { L ≤ 7 }
-    requires matrix { IsReducedMatrix a_hat.now }
-    requires first { IsReducedVector L s1.now }
-    requires second { IsReducedVector K s2.now }
-    ensures value { result ≡ vector_of K (λ r n. pos (key_vector L a_hat.now s1.now s2.now r n)) }
-    ensures range { AreResidues K result }
-{
-    zip_vectors(
-        &matrix_times_vector(a_hat, s1),
-        s2,
-        |x, y|
-            requires { (nat_abs x ≤ 8380416) × (nat_abs y ≤ 8380416) }
-            ensures { result ≡ pos ((residue x + residue y) % 8380417) }
-        { full_reduce32(x + y) },
-    )
-}
 
 /// Whether two vectors are the same.
 fn are_same<const K: usize>(v: &[R; K], w: &[R; K]) -> bool
@@ -63,7 +33,10 @@ pub(crate) fn is_whole<const K: usize, const L: usize, H, G: Xof>(
     requires columns { L ≡ p.now.l }
     ensures { TellsWhole (set_of p.now) G.front sk.now result }
 {
-    let a_hat = expand_a::<K, L, G>(&sk.rho)?;
-    let (_, low) = power2round(&sum_of_product(&a_hat, &sk.s1, &sk.s2));
-    Ok(are_same(&sk.t0, &low))
+    // A = ExpandA(rho), t = A s1 + s2
+    let mut t = [R0; K];
+    write_key_vector::<K, L, G>(&sk.rho, &sk.s1, &sk.s2, &mut t)?;
+    // (_, t0) = Power2Round(t)
+    write_power2round(&mut t, &mut [R0; K]);
+    Ok(are_same(&sk.t0, &t))
 }

@@ -31,7 +31,7 @@ pub struct PreparedPrivateKey<const K: usize, const L: usize, H> {
 
 impl<const K: usize, const L: usize, H> Model for PreparedPrivateKey<K, L, H> {
     ghost use Rattle.fips204_base.specs.Polynomials.{IsReducedMatrix};
-    ghost use Rattle.fips204.specs.KeyTransforms.{AreKeyTransforms};
+    ghost use Rattle.fips204.specs.SigningInputs.{AreKeyTransforms};
     ghost use Rattle.fips204.specs.Keys.{ArePrivateParts};
     ghost use Rattle.fips204.specs.Prepared.{PreparedPrivate};
 

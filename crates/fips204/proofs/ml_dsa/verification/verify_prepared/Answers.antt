@@ -1,4 +1,7 @@
-use Rattle.std.proofs.Common.{rules, arith, ◌≤◌}
+use Rattle.std.proofs.Common.{rules, arith, ◌≡◌, ◌≤◌, IsTrue}
+use Rattle.std.specs.Prelude.{◌↔◌}
+use Rattle.fips204.specs.Attempts.{commitment}
+use Rattle.fips204.specs.Sets.{set_of}
 use Rattle.fips204.proofs.ParameterSets.{IsKnown, limits, matrix_room}
 use Rattle.fips204.proofs.Ranges.{challenge-reduced}
 use Rattle.fips204.proofs.Verification.{short-response, commitment-decides}
@@ -14,8 +17,13 @@ matrix_times_vector_less-w-requires g c =
     let z = short-response p g.row.L c.args.sig.now c.in-Some.parts.0 c.in-Some.parts.1 c.in-Some.parts.2 known c.requires.sizes.columns c.in-Some.ensures.0 in
     (matrix_room g.row.K g.row.L rows columns, (omega (arith, columns), (omega (arith, columns), (omega (arith, rows), (columns, (search rules, ((λ r n i m. (let x = z r n i m in omega (arith, x))), (challenge-reduced _ _ c.in-Some.parts.3 c.in-Some.ensures.1, c.t1_shifted.ensures.range))))))))
 
+pub commitment-requires : goal.commitment-requires
+commitment-requires g c =
+    (search rules, (search rules, (c.requires.sizes.rows, (c.requires.sizes.commitment, c.write_hinted.ensures.range))))
+
 pub returns : goal.returns
 returns g c =
     let p = c.args.p.now in
-    commitment-decides p g.H.Xof.front c.args.pk.now.matrix c.args.pk.now.parts.t1 c.args.mu.now c.args.sig.now c.in-Some.parts.0 c.in-Some.parts.1 c.in-Some.parts.2 c.in-Some.parts.3 c.t1_shifted.result c.matrix_times_vector_less-w.result g.row.K g.row.L c.has_commitment.result
-    (search rules) c.requires.sizes.rows c.requires.sizes.columns c.in-Some.ensures.0 c.in-Some.ensures.1 (search rules) (search rules) (search rules)
+    let verdict : IsTrue c.eq.result ↔ (c.in-Some.parts.0 ≡ commitment (set_of p) g.H.Xof.front c.args.mu.now c.write_hinted.new.w) = search rules in
+    commitment-decides p g.H.Xof.front c.args.pk.now.matrix c.args.pk.now.parts.t1 c.args.mu.now c.args.sig.now c.in-Some.parts.0 c.in-Some.parts.1 c.in-Some.parts.2 c.in-Some.parts.3 c.t1_shifted.result c.matrix_times_vector_less-w.result g.row.K g.row.L c.eq.result
+    (search rules) c.requires.sizes.rows c.requires.sizes.columns c.in-Some.ensures.0 c.in-Some.ensures.1 (search rules) (search rules) (rw c.write_hinted.ensures.values at verdict)
