@@ -1,4 +1,4 @@
-//! What the keys of every set offer.
+//! The calls of the keys of every parameter set.
 #![tactic(auto)]
 
 ghost use Rattle.std.specs.Prelude.{◌≡◌, ◌↔◌, IsTrue, MatchResult};
@@ -212,7 +212,7 @@ where
     Matrix<K, L>: HasSet<Set = S>,
     S: Set<Commitment = [u8; N], Signature = [u8; SIG_LEN]> + SignatureSizes<K, L, N, SIG_LEN>,
 {
-    /// Signs the hash `mu` of a framed message with these random bytes (Algorithm 7 from line 7 on).
+    /// Signs the hash `mu` of a framed message with the random bytes `rnd` (Algorithm 7 from line 7 on).
     fn sign_hash(&self, mu: &[u8; 64], rnd: &[u8; 32]) -> Result<[u8; SIG_LEN], Fault>
         ensures answer { result ≡ sign S.set H.front G.front self.now mu.now rnd.now }
         ensures accepted { HashAccepted S.set H.front G.front self.now mu.now result }
@@ -220,10 +220,11 @@ where
         ml_dsa::sign_internal::<K, L, N, SIG_LEN, H, G>(&S::params(), self, mu, rnd)
     }
 
-    /// Signs a framed message `m` (Algorithm 7). With `hedged` the generator is asked once for the 32
-    /// random bytes, and `Fault::InternalRng` stands for its refusal; without, they are zeros and it is
-    /// not asked. Refuses with `Fault::SamplingLimit` and `Fault::TooManyAttempts` as
-    /// `Signer::try_sign_with_seed`.
+    /// Signs a framed message `m` (Algorithm 7). The 32 random bytes are zeros without `hedged`; with it they
+    /// are drawn from the generator, which is asked once.
+    ///
+    /// Errors: `Fault::InternalRng` if the generator fails; then `Fault::SamplingLimit` and
+    /// `Fault::TooManyAttempts` as for `Signer::try_sign_with_seed`.
     pub fn sign_internal<R: CryptoRngCore>(
         &self,
         rng: &mut R,
@@ -237,8 +238,8 @@ where
         self.sign_mu(rng, &ml_dsa::mu::<H>(&[&self.tr, m]), hedged)
     }
 
-    /// Signs the hash `mu` of a framed message (Algorithm 7 from line 7 on). Random bytes and refusals are those
-    /// of `sign_internal`.
+    /// Signs the hash `mu` of a framed message (Algorithm 7 from line 7 on). Random bytes and errors are
+    /// those of `sign_internal`.
     pub fn sign_mu<R: CryptoRngCore>(
         &self,
         rng: &mut R,
@@ -252,17 +253,19 @@ where
         self.sign_hash(mu, &draw_if(hedged, rng)?)
     }
 
-    /// Whether the key is whole: whether its t0 is the low part of `A s1 + s2` (Algorithm 6, lines 5 and 6). What a whole
-    /// key signs is accepted by the public key that `get_public_key` gives. Refuses with `Fault::SamplingLimit` where
-    /// rejection sampling of the matrix reaches its limit.
+    /// Tells whether the key is whole: whether its t0 is the low part of `A s1 + s2` (Algorithm 6, lines 5
+    /// and 6). Signatures of a whole key verify under the public key that `get_public_key` returns.
+    ///
+    /// Errors: `Fault::SamplingLimit` if rejection sampling of the matrix reaches its limit.
     pub fn is_whole(&self) -> Result<bool, Fault>
         ensures { TellsWhole S.set G.front self.now result }
     {
         ml_dsa::is_whole::<K, L, H, G>(&S::params(), self)
     }
 
-    /// The key with its matrix, which many signatures then share. Refuses with `Fault::SamplingLimit` where
-    /// rejection sampling of the matrix reaches its limit.
+    /// Samples the matrix once, for many signatures.
+    ///
+    /// Errors: `Fault::SamplingLimit` if rejection sampling of the matrix reaches its limit.
     pub fn prepare(&self) -> Result<PreparedPrivateKey<K, L, H>, Fault>
         ensures { result ≡ prepared_private S.set G.front self.now }
     {
@@ -298,22 +301,23 @@ where
     Matrix<K, L>: HasSet<Set = S>,
     S: Set<Commitment = [u8; N], Signature = [u8; SIG_LEN]> + SignatureSizes<K, L, N, SIG_LEN>,
 {
-    /// Whether the signature of a framed message `m` is accepted (Algorithm 8).
+    /// Verifies the signature of a framed message `m` (Algorithm 8).
     pub fn verify_internal(&self, m: &[u8], sig: &[u8; SIG_LEN]) -> bool
         ensures { IsTrue result ↔ Verifies S.set H.front G.front self.now (message_hash H.front self.now.tr m.now) sig.now }
     {
         self.verify_mu(&ml_dsa::mu::<H>(&[&self.tr, m]), sig)
     }
 
-    /// Whether the signature of the hash `mu` of a framed message is accepted (Algorithm 8, with mu given).
+    /// Verifies the signature of the hash `mu` of a framed message (Algorithm 8, with mu given).
     pub fn verify_mu(&self, mu: &[u8; 64], sig: &[u8; SIG_LEN]) -> bool
         ensures { IsTrue result ↔ Verifies S.set H.front G.front self.now mu.now sig.now }
     {
         ml_dsa::verify_internal::<K, L, N, SIG_LEN, H, G>(&S::params(), self, mu, sig)
     }
 
-    /// The key with its matrix, which many verifications then share. Refuses with `Fault::SamplingLimit`
-    /// where rejection sampling of the matrix reaches its limit.
+    /// Samples the matrix once, for many verifications.
+    ///
+    /// Errors: `Fault::SamplingLimit` if rejection sampling of the matrix reaches its limit.
     pub fn prepare(&self) -> Result<PreparedPublicKey<K, L, H>, Fault>
         ensures { result ≡ prepared_public S.set G.front self.now }
     {
@@ -356,8 +360,10 @@ where
         )
     }
 
-    /// Refuses with `Fault::KeyRange` where a coefficient of s1 or s2 is out of its range, so that its field
-    /// is above `2 eta`.
+    /// Decodes a private key. Its t0 and `tr` are not checked: `is_whole` checks t0.
+    ///
+    /// Errors: `Fault::KeyRange` if a coefficient of s1 or s2 is out of range, so that its field is above `2
+    /// eta`.
     fn try_from_bytes(ba: [u8; SK_LEN]) -> Result<PrivateKey<K, L, H, G>, Fault> {
         ml_dsa::expand_private(&S::params(), &ba)
     }
@@ -383,7 +389,7 @@ where
         pk_encode(&self.rho, &self.t1)
     }
 
-    /// Never refuses. The hash `tr` of the key is computed of the array anew, by `H`.
+    /// Decodes a public key, and computes its hash `tr` by `H`. Never returns an error.
     fn try_from_bytes(ba: [u8; PK_LEN]) -> Result<PublicKey<K, L, H, G>, Fault> {
         Ok(ml_dsa::expand_public(&ba))
     }

@@ -1,7 +1,7 @@
-//! Facts of the definitions that users rest on. A call of one of these functions computes nothing and
-//! gives its caller the law.
+//! Laws about the definitions, for proofs in a crate of your own. A call of one of these functions computes
+//! nothing: it states the law.
 //!
-//! In the laws of transforms (FIPS 204, section 2.5) polynomials are functions from a place to a residue
+//! In the laws of transforms (FIPS 204, section 2.5) polynomials are functions from an index to a residue
 //! modulo `q`.
 #![tactic(auto)]
 
@@ -64,62 +64,65 @@ pub fn signature_spelling()
     ensures { SignatureHasOneSpelling }
 {}
 
-/// A hint whose ones number no more than omega is spelled by one row of bytes alone, and a row of bytes spells one
-/// hint at most.
+/// A hint with at most omega ones has exactly one spelling, and bytes spell at most one hint.
 pub fn hint_spelling()
     ensures { HintHasOneSpelling }
 {}
 
-/// What is signed determines its framed message, and the framed message what is signed: two inputs that
-/// break no condition on context, object identifier and digest have equal framed messages only if their
-/// modes, their contexts and their messages are equal, or their modes, contexts, identifiers and digests.
+/// Framing is one to one: two inputs that break no condition on context, object identifier and digest have
+/// equal framed messages only if they have the same mode, the same context and the same message, or the same
+/// mode, context, identifier and digest.
 pub fn framing()
     ensures { FramingIsOneToOne }
 {}
 
-/// A signature binds its message as firmly as the stream `H` has no collisions: where one public key
-/// accepts one signature for two framed messages that differ, or for two inputs that differ, either the framed
-/// messages collide in the 64 bytes of mu, or the two values of mu collide, before the one encoded `w1`, in the
-/// bytes of `c_tilde`.
+/// One signature for two inputs gives a collision of `H`: if a public key accepts one signature for two
+/// framed messages, or two inputs, that differ, either the framed messages collide in the 64 bytes of mu, or
+/// the two values of mu, each followed by the same encoded `w1`, collide in the bytes of `c_tilde`.
 pub fn binding()
     ensures framed { SignatureBindsMessage }
     ensures inputs { SignatureBindsInput }
 {}
 
-/// What a whole private key signs is accepted by the public key that is derived of it. The keys of a seed are such
-/// a pair: the private one is whole, the public one is derived of it, and each is the one key that its bytes decode
-/// to; so what the private key signs is accepted by the public key, whichever way the two came. Both hold of
-/// messages, digests and the hooks' hashes, and whatever the random bytes.
+/// A signature made with a whole private key verifies under the public key derived from it. The key pair of a
+/// seed is such a pair: the private key is whole, the public key is the derived one, and each is the only key
+/// that its bytes decode to. This holds for messages, digests and the hashes of the hooks, and for any random
+/// bytes.
 pub fn signed_is_accepted()
     ensures { SignedIsAccepted }
 {}
 
-/// Keys in range that have the same bytes are the same: two private keys, and two public keys with the same `tr`.
+/// Keys in range with the same bytes are the same key: two private keys, and two public keys with the same
+/// `tr`.
 pub fn key_bytes()
     ensures { (p : ParameterSet) → IsTrue (is_parameter_set p) → BytesTellKeys p }
 {}
 
-/// A prepared key answers as the key that it was prepared of: what it signs and accepts of messages, digests
-/// and the hooks' hashes is what the plain key signs and accepts; and so is each entry of `sign_each` and
-/// `verify_each`. It is whole if and only if the plain key is; and where a public key is derived of the plain key,
-/// preparing it gives the public key that belongs to the prepared one.
+/// A prepared key signs and verifies as the key that it was prepared from does: messages, digests, the hashes
+/// of the hooks, and each entry of `sign_each` and `verify_each`. It is whole if and only if the plain key
+/// is. If a public key is derived from the plain key, preparing it gives the public key that belongs to the
+/// prepared one.
 pub fn prepared_keys()
     ensures { (p : ParameterSet) (H G : List ℕ → List ℕ) → PreparedAnswersAsPlain p H G }
 {}
 
-/// Fewer blocks of a stream in counter mode are a prefix of more: so the fronts of `Sha256Ctr` are prefixes of those
-/// of `Sha256CtrLong`, those of `Sha512Ctr` of those of `Sha512CtrLong`, and likewise for streams of a user's own.
+/// Fewer blocks of a stream in counter mode are a prefix of more. So the fronts of `Sha256Ctr` are prefixes
+/// of those of `Sha256CtrLong`, those of `Sha512Ctr` prefixes of those of `Sha512CtrLong`, and likewise for
+/// streams of your own.
 pub fn counter_fronts()
     ensures { CounterFrontsArePrefixes }
 {}
 
-/// Longer fronts keep answers. Where each front of `H` is a prefix of the matching front of `LongerH`, and
-/// each front of `G` one of that of `LongerG`: a matrix or an entry of it, a small polynomial or a challenge that the
-/// first pair gives is the second's. So these stay: a key pair, a derived public key, a prepared key, a signature, the
-/// refusal of too many attempts, a yes of a verifying call, and a no of one where the matrix of the key and
-/// the challenge of the signature are there, or where the hint is misspelled, `z` too large, or a condition on context,
-/// object identifier and digest broken. All this holds of messages, digests and the hooks' hashes.
-/// What may change is the refusal `SamplingLimit`, and the no of a verifying call for a passed limit.
+/// Longer fronts keep results. If each front of `H` is a prefix of the matching front of `LongerH`, and each
+/// front of `G` of that of `LongerG`, then a matrix or an entry of it, a small polynomial or a challenge that
+/// the first pair samples is also sampled by the second. So these stay: a key pair, a derived public key, a
+/// prepared key, a signature, the error `TooManyAttempts`, a true of a verifying call, and its false where
+/// the matrix of the key and the challenge of the signature exist, where the bytes spell no hint, where `z`
+/// is too large, or where a condition on context, object identifier and digest is broken. This holds for
+/// messages, digests and the hashes of the hooks.
+///
+/// Only the error `SamplingLimit`, and the false of a verifying call that comes from a reached limit, may
+/// change.
 pub fn longer_front<H: Xof, G: Xof, LongerH: Xof, LongerG: Xof>()
     ensures { LongerFrontsKeep H.front G.front LongerH.front LongerG.front }
 {}

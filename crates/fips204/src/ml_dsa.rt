@@ -29,8 +29,8 @@ pub use verification::verify_internal;
 pub(crate) use verification::verify_prepared;
 pub(crate) use whole::is_whole;
 
-/// The public key that has these bytes, with the first 64 bytes of `H` over them as `tr`
-/// (FIPS 204, Algorithm 23, and line 6 of Algorithm 8). Every array of `32 + 320 K` bytes is one.
+/// Decodes a public key and computes `tr`, the first 64 bytes of `H` over its bytes (FIPS 204, Algorithm 23,
+/// and line 6 of Algorithm 8). Every array of `32 + 320 K` bytes is a public key.
 pub fn expand_public<const K: usize, const L: usize, const PK_LEN: usize, H: Xof, G>(
     pk: &[u8; PK_LEN],
 ) -> PublicKey<K, L, H, G>
@@ -46,10 +46,10 @@ pub fn expand_public<const K: usize, const L: usize, const PK_LEN: usize, H: Xof
     }
 }
 
-/// The private key that has these bytes (Algorithm 25). Refuses with `Fault::KeyRange` where a field of
-/// s1 or s2 is above `2 eta`.
+/// Decodes a private key (Algorithm 25). `K` and `L` are those of the set, and `SK_LEN` is the length of its
+/// private keys.
 ///
-/// `K` and `L` are those of the set, and `SK_LEN` is the length of its private keys.
+/// Errors: `Fault::KeyRange` if a field of s1 or s2 is above `2 eta`.
 ///
 /// Not inlined, so that what decoding needs leaves the stack before the key is used.
 #[inline(never)]
@@ -85,7 +85,9 @@ pub fn mu<H: Xof>(parts: &[&[u8]]) -> [u8; 64]
     hash::<H, 64>(parts)
 }
 
-/// `mu` of a message and a context. Refuses with `Fault::SignCtx` a context of more than 255 bytes.
+/// The hash `mu` of a message and a context.
+///
+/// Errors: `Fault::SignCtx` if the context has more than 255 bytes.
 pub(crate) fn message_mu<'a, H: Xof>(
     tr: &'a [u8; 64],
     message: &'a [u8],
@@ -97,8 +99,9 @@ pub(crate) fn message_mu<'a, H: Xof>(
     Ok(mu::<H>(&[tr.as_slice(), &[0, length], ctx, message]))
 }
 
-/// `mu` of a digest, a context and the object identifier of the hash. Refuses with `Fault::HashCtx` a
-/// context of more than 255 bytes, and then what `check_pre_hash` refuses.
+/// The hash `mu` of a digest, a context and the object identifier of the hash function.
+///
+/// Errors, in this order: `Fault::HashCtx` if the context has more than 255 bytes; those of `check_pre_hash`.
 pub(crate) fn digest_mu<'a, H: Xof>(
     tr: &'a [u8; 64],
     hash: &'a [u8],

@@ -12,22 +12,22 @@ use crate::types::{self, ML_DSA_44, Params};
 use fips204_base::Fault;
 use fips204_base::xof::Xof;
 
-/// How many bytes a private key has (FIPS 204, Table 2).
+/// The number of bytes of a private key (FIPS 204, Table 2).
 pub const SK_LEN: usize = 2560;
 
-/// How many bytes a public key has (FIPS 204, Table 2).
+/// The number of bytes of a public key (FIPS 204, Table 2).
 pub const PK_LEN: usize = 1312;
 
-/// How many bytes a signature has (FIPS 204, Table 2).
+/// The number of bytes of a signature (FIPS 204, Table 2).
 pub const SIG_LEN: usize = 2420;
 
-/// How many rows the matrix has (FIPS 204, Table 1).
+/// The number of rows of the matrix (FIPS 204, Table 1).
 const K: usize = 4;
 
-/// How many columns the matrix has (FIPS 204, Table 1).
+/// The number of columns of the matrix (FIPS 204, Table 1).
 const L: usize = 4;
 
-/// How many bytes `c_tilde` has: `lambda / 4`.
+/// The number of bytes of `c_tilde`: `lambda / 4`.
 const LAMBDA_DIV4: usize = 32;
 
 /// A private key.
@@ -45,8 +45,8 @@ pub type PreparedPublicKey<H> = types::PreparedPublicKey<K, L, H>;
 /// Key generation.
 pub type KG<H, G> = types::KG<K, L, H, G>;
 
-/// Both keys (Algorithm 1) of 32 bytes that the generator is asked for once, as
-/// `KeyGen::try_keygen_with_rng`: refused with `Fault::KeyGenRng`, or with `Fault::SamplingLimit`.
+/// Makes a key pair (Algorithm 1) from 32 bytes of the generator, which is asked once. Errors as for
+/// `KeyGen::try_keygen_with_rng`.
 pub fn try_keygen_with_rng<H: Xof, G: Xof, R: CryptoRngCore>(
     rng: &mut R,
 ) -> Result<(PublicKey<H, G>, PrivateKey<H, G>), Fault>

@@ -7,7 +7,7 @@ ghost use Rattle.fips204.specs.Sets.{HasKeySizes, HasSizes, set_of};
 
 use crate::types::Params;
 
-/// A parameter set: its numbers, and the arrays that its bytes stand in.
+/// A parameter set: its numbers, and the byte arrays of its keys and signatures.
 pub trait Set {
     /// The array of `c_tilde`.
     type Commitment;
@@ -51,7 +51,7 @@ pub trait KeySizes<const K: usize, const L: usize, const PK_LEN: usize, const SK
     ghost key_sizes: { HasKeySizes Self.set K L PK_LEN SK_LEN };
 }
 
-/// A matrix of `K` rows and `L` columns, by which a key's type tells its set.
+/// A matrix of `K` rows and `L` columns, which determines the set of a key type.
 pub struct Matrix<const K: usize, const L: usize>;
 
 /// The set that has this matrix.

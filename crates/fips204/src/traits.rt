@@ -1,4 +1,4 @@
-//! What every parameter set offers.
+//! The calls that every parameter set offers.
 #![tactic(auto)]
 
 ghost use Rattle.std.specs.Prelude.{◌≡◌, ◌≢◌, ◌↔◌, ℕ, List, length, Result, Ok, Err, true, IsTrue, MatchResult};
@@ -9,11 +9,12 @@ ghost use Rattle.fips204.specs.Refusals.{Draws, DrawsUnless, DrawsIf, message_fa
 
 use fips204_base::Fault;
 
-/// The refusal of a generator.
+/// The error of a generator that returned no bytes.
 #[derive(Debug, Clone, Copy, PartialEq, Eq)]
 pub struct RngError;
 
-/// A generator of random bytes.
+/// A generator of random bytes. An implementation states which bytes a call may return, when it may fail, and
+/// what state the generator is then in.
 pub trait CryptoRngCore {
     // A call, asked for so many bytes, may give these bytes and leave the generator so.
     ghost gives: { Self → ℕ → List ℕ → Self → Type 0 };
@@ -21,15 +22,15 @@ pub trait CryptoRngCore {
     // A call, asked for so many bytes, may refuse and leave the generator so.
     ghost refuses: { Self → ℕ → Self → Type 0 };
 
-    /// Fills `out` with random bytes, or refuses.
+    /// Fills `out` with random bytes, or fails.
     fn try_fill_bytes(&mut self, out: &mut [u8]) -> Result<(), RngError>
         ensures { MatchResult result
             (λ _. gives self.old (length out.old) out.new self.new)
             (λ _. refuses self.old (length out.old) self.new) };
 }
 
-/// The generator of one seed: it gives these 32 bytes to each call that asks for 32, and refuses every
-/// other, leaving `out` as it was.
+/// A generator for tests: it returns the same 32 bytes to every request for 32, and fails on any other
+/// length, leaving `out` unchanged.
 #[derive(Drop)]
 pub struct DummyRng {
     /// The bytes.
@@ -55,7 +56,7 @@ impl CryptoRngCore for DummyRng {
     }
 }
 
-/// 32 bytes that the generator is asked for once, or the refusal that stands for its own.
+/// Draws 32 bytes from the generator, which is asked once. Returns `refusal` if it fails.
 pub(crate) fn draw<R: CryptoRngCore>(rng: &mut R, refusal: Fault) -> Result<[u8; 32], Fault>
     ensures { Draws R.gives R.refuses rng.old rng.new refusal Ok result }
 {
@@ -66,8 +67,8 @@ pub(crate) fn draw<R: CryptoRngCore>(rng: &mut R, refusal: Fault) -> Result<[u8;
     }
 }
 
-/// The random bytes of a hook of signing: with `hedged` the generator is asked once, and
-/// `Fault::InternalRng` stands for its refusal; without, they are zeros.
+/// The random bytes of a signing hook: 32 zeros without `hedged`; with it, 32 bytes drawn from the generator,
+/// or `Fault::InternalRng` if that fails.
 pub(crate) fn draw_if<R: CryptoRngCore>(hedged: bool, rng: &mut R) -> Result<[u8; 32], Fault>
     ensures { DrawsIf hedged R.gives R.refuses rng.old rng.new InternalRng Ok result }
 {
@@ -78,7 +79,7 @@ pub(crate) fn draw_if<R: CryptoRngCore>(hedged: bool, rng: &mut R) -> Result<[u8
     }
 }
 
-/// Making keys (FIPS 204, Algorithm 1).
+/// Key generation (FIPS 204, Algorithm 1).
 pub trait KeyGen {
     /// The public key of a pair.
     type PublicKey;
@@ -89,8 +90,9 @@ pub trait KeyGen {
     // Both keys of a seed, or the refusal.
     ghost generated: { List ℕ → Result (Self.PublicKey × Self.PrivateKey) Fault };
 
-    /// Both keys (Algorithm 1) of 32 bytes that the generator is asked for once. Refuses with `Fault::KeyGenRng` where
-    /// it refuses, and as `keygen_from_seed` does.
+    /// Makes a key pair (Algorithm 1) from 32 bytes of the generator, which is asked once.
+    ///
+    /// Errors: `Fault::KeyGenRng` if the generator fails; then those of `keygen_from_seed`.
     fn try_keygen_with_rng<R: CryptoRngCore>(
         rng: &mut R,
     ) -> Result<(Self::PublicKey, Self::PrivateKey), Fault>
@@ -99,15 +101,16 @@ pub trait KeyGen {
         Self::keygen_from_seed(&draw(rng, Fault::KeyGenRng)?)
     }
 
-    /// Both keys of a seed (Algorithm 6). Refuses with `Fault::SamplingLimit` where rejection sampling
-    /// reaches its limit.
+    /// Makes the key pair of a seed (Algorithm 6).
+    ///
+    /// Errors: `Fault::SamplingLimit` if rejection sampling reaches its limit.
     fn keygen_from_seed(xi: &[u8; 32]) -> Result<(Self::PublicKey, Self::PrivateKey), Fault>
         ensures { result ≡ generated xi.now };
 }
 
 /// Signing (FIPS 204, Algorithms 2 and 4).
 pub trait Signer {
-    /// The array of a signature.
+    /// The byte array of a signature.
     type Signature;
 
     /// The public key of a pair.
@@ -131,9 +134,11 @@ pub trait Signer {
     // Whether a public key accepts a digest, a signature, a context and an object identifier.
     ghost accepts_digest: { Self.PublicKey → List ℕ → Self.Signature → List ℕ → List ℕ → Type 0 };
 
-    /// Signs (Algorithm 2) with 32 bytes that the generator is asked for once. Refuses with
-    /// `Fault::SignCtx` a context of more than 255 bytes, and does not ask then; with `Fault::SignRng` where the generator refuses;
-    /// and as `try_sign_with_seed` does.
+    /// Signs a message (Algorithm 2) with 32 random bytes of the generator, which is asked once.
+    ///
+    /// Errors, in this order: `Fault::SignCtx` if `ctx` has more than 255 bytes (the generator is then not
+    /// asked); `Fault::SignRng` if the generator fails; then `Fault::SamplingLimit` and
+    /// `Fault::TooManyAttempts` as for `try_sign_with_seed`.
     fn try_sign_with_rng<R: CryptoRngCore>(
         &self,
         rng: &mut R,
@@ -145,9 +150,10 @@ pub trait Signer {
         ensures accepted { AcceptedIfWhole (whole self.now) (derives self.now)
             (λ pk signature. accepts pk message.now signature ctx.now) result };
 
-    /// Signs (Algorithm 2) with these random bytes. Refuses with `Fault::SignCtx` a context of more than 255 bytes,
-    /// with `Fault::SamplingLimit` where rejection sampling reaches its limit, and with
-    /// `Fault::TooManyAttempts` where all 814 attempts are rejected.
+    /// Signs a message (Algorithm 2) with the random bytes `seed`; 32 zeros give the deterministic variant.
+    ///
+    /// Errors: `Fault::SignCtx` if `ctx` has more than 255 bytes; `Fault::SamplingLimit` if rejection
+    /// sampling reaches its limit; `Fault::TooManyAttempts` if all 814 attempts are rejected.
     fn try_sign_with_seed(
         &self,
         seed: &[u8; 32],
@@ -158,9 +164,12 @@ pub trait Signer {
         ensures accepted { AcceptedIfWhole (whole self.now) (derives self.now)
             (λ pk signature. accepts pk message.now signature ctx.now) result };
 
-    /// Signs a digest (Algorithm 4) with 32 bytes that the generator is asked for once. Refuses with `Fault::HashCtx`
-    /// a context of more than 255 bytes, then what `check_pre_hash` refuses, and does not ask then; with
-    /// `Fault::HashRng` where the generator refuses; and as `try_hash_sign_with_seed` does.
+    /// Signs a digest (Algorithm 4) with 32 random bytes of the generator, which is asked once. `hash_oid` is
+    /// the DER object identifier of the hash function.
+    ///
+    /// Errors, in this order: `Fault::HashCtx` if `ctx` has more than 255 bytes; those of `check_pre_hash`
+    /// (in both cases the generator is not asked); `Fault::HashRng` if the generator fails; then
+    /// `Fault::SamplingLimit` and `Fault::TooManyAttempts` as for `try_sign_with_seed`.
     fn try_hash_sign_with_rng<R: CryptoRngCore>(
         &self,
         rng: &mut R,
@@ -173,8 +182,10 @@ pub trait Signer {
         ensures accepted { AcceptedIfWhole (whole self.now) (derives self.now)
             (λ pk signature. accepts_digest pk hash.now signature ctx.now hash_oid.now) result };
 
-    /// Signs a digest (Algorithm 4) with these random bytes. Refuses with `Fault::HashCtx` a context of more than 255
-    /// bytes, then what `check_pre_hash` refuses, and then as `try_sign_with_seed` does.
+    /// Signs a digest (Algorithm 4) with the random bytes `seed`.
+    ///
+    /// Errors, in this order: `Fault::HashCtx` if `ctx` has more than 255 bytes; those of `check_pre_hash`;
+    /// then `Fault::SamplingLimit` and `Fault::TooManyAttempts` as for `try_sign_with_seed`.
     fn try_hash_sign_with_seed(
         &self,
         seed: &[u8; 32],
@@ -186,15 +197,16 @@ pub trait Signer {
         ensures accepted { AcceptedIfWhole (whole self.now) (derives self.now)
             (λ pk signature. accepts_digest pk hash.now signature ctx.now hash_oid.now) result };
 
-    /// The public key of the private key, with t1 computed as in Algorithm 6. Refuses with `Fault::SamplingLimit` where rejection sampling of
-    /// its matrix reaches its limit.
+    /// Computes the public key of the private key: its `rho` and `tr`, with t1 as in Algorithm 6.
+    ///
+    /// Errors: `Fault::SamplingLimit` if rejection sampling of the matrix reaches its limit.
     fn get_public_key(&self) -> Result<Self::PublicKey, Fault>
         ensures { result ≡ derives self.now };
 }
 
 /// Verifying (FIPS 204, Algorithms 3 and 5).
 pub trait Verifier {
-    /// The array of a signature.
+    /// The byte array of a signature.
     type Signature;
 
     // Whether the key accepts a message, a signature and a context.
@@ -203,13 +215,12 @@ pub trait Verifier {
     // Whether the key accepts a digest, a signature, a context and an object identifier.
     ghost accepts_digest: { Self → List ℕ → Self.Signature → List ℕ → List ℕ → Type 0 };
 
-    /// Whether the signature of a message and a context is accepted (Algorithm 3); false for a context of more than
-    /// 255 bytes.
+    /// Verifies the signature of a message (Algorithm 3). Returns false if `ctx` has more than 255 bytes.
     fn verify(&self, message: &[u8], signature: &Self::Signature, ctx: &[u8]) -> bool
         ensures { IsTrue result ↔ accepts self.now message.now signature.now ctx.now };
 
-    /// Whether the signature of a digest and a context is accepted (Algorithm 5); false for a context of more than 255
-    /// bytes, and for what `check_pre_hash` refuses.
+    /// Verifies the signature of a digest (Algorithm 5). Returns false if `ctx` has more than 255 bytes, or
+    /// if `check_pre_hash` returns an error.
     fn hash_verify(
         &self,
         hash: &[u8],
@@ -220,7 +231,7 @@ pub trait Verifier {
         ensures { IsTrue result ↔ accepts_digest self.now hash.now signature.now ctx.now hash_oid.now };
 }
 
-/// A signature scheme: what it signs with the private key of a pair, it accepts with the public one.
+/// A signature scheme: every signature that a pair makes verifies under the public key of that pair.
 pub trait Scheme {
     /// The public key of a pair.
     type Public: Drop;
@@ -240,11 +251,12 @@ pub trait Scheme {
     // Whether the key accepts a message, a signature and a context.
     ghost accepts: { Self.Public → List ℕ → Self.Signature → List ℕ → Type 0 };
 
-    /// Both keys of a seed, or the refusal, as `KeyGen::keygen_from_seed`.
+    /// Makes the key pair of a seed. Errors as for `KeyGen::keygen_from_seed`.
     fn keygen(xi: &[u8; 32]) -> Result<(Self::Public, Self::Private), Fault>
         ensures { result ≡ generated xi.now };
 
-    /// Signs a message under a context with these random bytes, or refuses, as `Signer::try_sign_with_seed`.
+    /// Signs a message under a context with the random bytes `rnd`. Errors as for
+    /// `Signer::try_sign_with_seed`.
     fn sign(
         sk: &Self::Private,
         rnd: &[u8; 32],
@@ -253,15 +265,16 @@ pub trait Scheme {
     ) -> Result<Self::Signature, Fault>
         ensures { result ≡ signs sk.now rnd.now message.now ctx.now };
 
-    /// Whether the signature of a message and a context is accepted. True for what `sign` answers with the
-    /// private key of a pair, whose public key this is, for the same message and context.
+    /// Verifies the signature of a message under a context. Returns true for every signature that `sign`
+    /// returned for the same message and context with the private key of the pair.
     fn verify(pk: &Self::Public, message: &[u8], signature: &Self::Signature, ctx: &[u8]) -> bool
         ensures answer { IsTrue result ↔ accepts pk.now message.now signature.now ctx.now }
         ensures signed_is_accepted { (xi rnd : List ℕ) (sk : Self.Private)
             → generated xi ≡ Ok (pk.now, sk) → signs sk rnd message.now ctx.now ≡ Ok signature.now → IsTrue result };
 }
 
-/// Makes a pair, signs with it and verifies: true, or the first refusal, and never false.
+/// Makes a key pair, signs with it and verifies the signature. Returns true or the first error, and never
+/// false.
 pub fn pairwise_check<S: Scheme>(
     xi: &[u8; 32],
     rnd: &[u8; 32],
@@ -277,9 +290,10 @@ pub fn pairwise_check<S: Scheme>(
     Ok(S::verify(&pk, message, &signature, ctx))
 }
 
-/// Keys that are encoded in a byte array of one length, and decoded (FIPS 204, Algorithms 22 to 25).
+/// Keys that are encoded as byte arrays of a fixed length and decoded from them (FIPS 204, Algorithms 22 to
+/// 25).
 pub trait SerDes: Sized {
-    /// The array that holds the bytes.
+    /// The byte array.
     type ByteArray;
 
     // The bytes of a value.
@@ -288,11 +302,13 @@ pub trait SerDes: Sized {
     // Whether bytes are answered by a value, or by a refusal.
     ghost decodes: { Self.ByteArray → Result Self Fault → Type 0 };
 
-    /// The bytes of the value (Algorithms 22 and 24).
+    /// Encodes the key (Algorithms 22 and 24).
     fn into_bytes(self) -> Self::ByteArray
         ensures { result ≡ bytes_of self };
 
-    /// The value that has these bytes (Algorithms 23 and 25), or the refusal of bytes that no value has.
+    /// Decodes a key (Algorithms 23 and 25). Encoding the result returns the same bytes.
+    ///
+    /// Errors: `Fault::KeyRange` if the bytes encode no private key. A public key has no error.
     fn try_from_bytes(ba: Self::ByteArray) -> Result<Self, Fault>
         ensures { decodes ba result };
 

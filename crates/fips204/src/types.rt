@@ -55,7 +55,7 @@ impl Params {
         self.gamma2 - self.beta
     }
 
-    /// How many bytes `w1Encode` gives (FIPS 204, Algorithm 28).
+    /// The number of bytes that `w1Encode` returns (FIPS 204, Algorithm 28).
     pub(crate) fn w1_length(&self) -> usize
         ensures size { result ≡ 32 * width (pos 0) (pos (high_values (nat_abs self.now.gamma2) - 1)) * self.now.k }
         ensures few { result ≤ 1024 }
@@ -134,22 +134,21 @@ impl<const K: usize, const L: usize, H, G> Clone for PublicKey<K, L, H, G> {
 
     ghost is_infallible = { λ _. ⊤ };
 
-    /// The same key; this never refuses.
+    /// A copy of the key. Never returns an error.
     fn clone(&self) -> Result<Self, AllocError> {
         Ok(PublicKey { ..*self })
     }
 }
 
 impl<const K: usize, const L: usize, H, G> PublicKey<K, L, H, G> {
-    /// The hash of the key's bytes, which signing and verifying put before the message.
+    /// The hash of the key's bytes (64 bytes of `H`), which signing and verifying hash before the message.
     pub fn tr(&self) -> &[u8; 64]
         ensures { result.now ≡ self.now.tr }
     {
         &self.tr
     }
 
-    /// A law that a call gives its caller, and computes nothing: `t1` has `K` polynomials with coefficients
-    /// from 0 to 1023.
+    /// A law, which computes nothing: `t1` has `K` polynomials with coefficients from 0 to 1023.
     pub fn parts_in_range_law(&self)
         ensures { IsHighPart K self.now.t1 }
     {
@@ -188,15 +187,15 @@ impl<const K: usize, const L: usize, H, G> Clone for PrivateKey<K, L, H, G> {
 
     ghost is_infallible = { λ _. ⊤ };
 
-    /// The same key; this never refuses.
+    /// A copy of the key. Never returns an error.
     fn clone(&self) -> Result<Self, AllocError> {
         Ok(PrivateKey { ..*self })
     }
 }
 
 impl<const K: usize, const L: usize, H, G> PrivateKey<K, L, H, G> {
-    /// A law that a call gives its caller, and computes nothing: the parts have the lengths and ranges of a
-    /// private key whose matrix has `K` rows and `L` columns.
+    /// A law, which computes nothing: the parts have the lengths and ranges of a private key whose matrix has
+    /// `K` rows and `L` columns.
     pub fn parts_in_range_law(&self)
         ensures { ArePrivateParts K L self.now }
     {

@@ -16,7 +16,7 @@ pub use signature::{sig_decode, sig_encode, w1_encode};
 pub(crate) use vectors::polynomial_size;
 use vectors::{unpack_vector, write_packed_vector};
 
-/// `pkEncode` (Algorithm 22): a public key as bytes, `rho` and then the polynomials of `t1`, whose
+/// `pkEncode` (Algorithm 22): encodes a public key, `rho` followed by the polynomials of `t1`, whose
 /// coefficients are in `[0, 1023]`. `PK_LEN` is `32 + 320 * K`.
 #[tactic(auto, unfolding(crate::specs::Packing::bit_length))]
 pub fn pk_encode<const K: usize, const PK_LEN: usize>(rho: &[u8; 32], t1: &[R; K]) -> [u8; PK_LEN]
@@ -33,9 +33,8 @@ pub fn pk_encode<const K: usize, const PK_LEN: usize>(rho: &[u8; 32], t1: &[R; K
     pk
 }
 
-/// `pkDecode` (Algorithm 23): the parts of a public key, `rho` and `t1`. `PK_LEN` is
-/// `32 + 320 * K`. Any bytes are a public key: this never refuses, and `pk_encode` of the parts
-/// gives `pk` again.
+/// `pkDecode` (Algorithm 23): the parts of a public key, `rho` and `t1`. `PK_LEN` is `32 + 320 * K`. Any
+/// bytes encode a public key, and `pk_encode` of the parts returns `pk` again.
 #[tactic(auto, unfolding(crate::specs::Packing::bit_length))]
 pub fn pk_decode<const K: usize, const PK_LEN: usize>(pk: &[u8; PK_LEN]) -> (&[u8; 32], [R; K])
     requires { PK_LEN ≡ 32 + 320 * K }

@@ -1,4 +1,4 @@
-//! The refusals of the library.
+//! The errors of the library.
 #![tactic(auto)]
 
 ghost use Rattle.std.specs.Prelude.{◌≡◌};
@@ -7,14 +7,14 @@ ghost use Rattle.fips204_base.specs.Faults.{words};
 use std::error::Error;
 use std::fmt;
 
-/// Why a call refused. `as_str` and `Display` give the words of each.
+/// Why a call returned no result. `as_str` and `Display` return the text of each variant.
 #[derive(Debug, Clone, Copy, PartialEq, Eq)]
 pub enum Fault {
-    /// The generator refused in key generation.
+    /// The generator failed in key generation.
     KeyGenRng,
     /// The context of plain signing has more than 255 bytes.
     SignCtx,
-    /// The generator refused in plain signing.
+    /// The generator failed in plain signing.
     SignRng,
     /// The context of pre-hash signing has more than 255 bytes.
     HashCtx,
@@ -27,21 +27,21 @@ pub enum Fault {
     /// The digest does not match the output length of the hash function that a known object identifier
     /// names.
     DigestLength,
-    /// The generator refused in pre-hash signing.
+    /// The generator failed in pre-hash signing.
     HashRng,
-    /// The generator refused in `sign_internal` or `sign_mu`, with hedging.
+    /// The generator failed in `sign_internal` or `sign_mu`, with `hedged`.
     InternalRng,
     /// All 814 attempts of signing were rejected.
     TooManyAttempts,
-    /// The bytes are no private key: a coefficient of s1 or s2 is out of its range, so that its field is above
+    /// The bytes encode no private key: a coefficient of s1 or s2 is out of range, so that its field is above
     /// `2 eta`.
     KeyRange,
-    /// Rejection sampling reached its limit: a quarter of the front of a stream gave too few values.
+    /// Rejection sampling reached its limit: a quarter of the front of a stream had too few usable values.
     SamplingLimit,
 }
 
 impl Fault {
-    /// The words of the refusal.
+    /// The text of the error.
     pub fn as_str(&self) -> &'static str
         ensures { result.now ≡ words self.now }
     {

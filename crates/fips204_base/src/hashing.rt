@@ -18,8 +18,8 @@ pub use matrix::{
 };
 pub use small::{expand_s, rej_bounded_poly, write_expanded_s};
 
-/// Puts a coefficient, if there is one, at place `kept` of `values`, if there is room, and answers how
-/// many there are then.
+/// Puts a coefficient, if there is one, at place `kept` of `values`, if there is room, and returns how many
+/// there are then.
 fn write_kept(coefficient: Option<i32>, values: &mut [i32; 256], kept: usize) -> usize
     requires room { kept ≤ 256 }
     ensures count { result ≤ 256 }

@@ -23,7 +23,7 @@ pub use residue::Residue;
 pub use vector::{add_vector_ntt, mat_vec_mul, to_mont};
 pub use zeta_table::ZETA_TABLE_MONT;
 
-/// How many binary digits `x` has, for `x` from 1 on.
+/// The number of binary digits of `x`, for `x` of at least 1.
 pub fn bit_length(x: i32) -> usize
     requires { pos 1 ≤ℤ x }
     ensures { result ≡ bit_length (nat_abs x) }

@@ -174,7 +174,7 @@ fn use_hint_residue(gamma2: u32, hint: bool, r: u32) -> Zq
     }
 }
 
-/// How many values high bits have: `(q - 1) / (2 gamma2)`.
+/// The number of values of high bits: `(q - 1) / (2 gamma2)`.
 pub(crate) fn high_values(gamma2: u32) -> Zq
     requires { (gamma2 ≡ 95232) ⊎ (gamma2 ≡ 261888) }
     ensures { result ≡ pos (high_values gamma2) }

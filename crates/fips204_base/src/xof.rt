@@ -1,4 +1,4 @@
-//! Byte streams in the places of SHAKE256 and SHAKE128.
+//! Byte streams, in place of SHAKE256 and SHAKE128.
 #![tactic(auto)]
 
 ghost use Rattle.std.specs.Prelude.{◌≡◌, ◌≤◌, ℕ, List, length, take, drop, replicate};
@@ -17,37 +17,36 @@ pub use sha2_ctr::{
     Sha256Ctr, Sha256CtrLong, Sha256CtrReader, Sha512Ctr, Sha512CtrLong, Sha512CtrReader,
 };
 
-/// A reader of a stream. Contracts see it as `rest`, the list of the bytes still to come.
+/// A reader of a stream. Contracts see it as `rest`, the list of the bytes not yet read.
 pub trait XofReader: Drop {
     ghost rest: { Self → List ℕ };
 
-    /// How many bytes are still to come.
+    /// The number of bytes not yet read.
     fn left(&self) -> usize
         ensures { result ≡ length (rest self.now) };
 
-    /// Fills `out` with the next bytes, and drops them from what is still to come. `out` may be no
-    /// longer than `left()`.
+    /// Fills `out` with the next bytes. `out` has at most `left()` bytes.
     fn read(&mut self, out: &mut [u8])
         requires { length out.old ≤ length (rest self.old) }
         ensures given { out.new ≡ take (length out.old) (rest self.old) }
         ensures dropped { rest self.new ≡ drop (length out.old) (rest self.old) };
 }
 
-/// A stream, in the place of SHAKE256 or SHAKE128 (FIPS 204, section 3.7): its input determines a front of
-/// `FRONT` bytes. Rejection sampling reaches its limit at a quarter of these, rounded down: that many triples
-/// tried for a matrix entry, that many bytes for a small polynomial, and that many for a challenge, not counting
-/// the eight of its signs.
+/// A stream, in place of SHAKE256 or SHAKE128 (FIPS 204, section 3.7): the input determines a front of
+/// `FRONT` bytes. Rejection sampling reaches its limit at a quarter of `FRONT`, rounded down: that many
+/// triples for a matrix entry, that many bytes for a small polynomial, and that many for a challenge, not
+/// counting the eight bytes of its signs.
 pub trait Xof {
     type Reader: XofReader;
 
-    /// How many bytes the front has, from 4096 to 1048576.
+    /// The number of bytes of a front, from 4096 to 1048576.
     const FRONT: usize;
 
     ghost FRONT: { ℕ };
 
     ghost front: { List ℕ → List ℕ };
 
-    /// A reader of the front of the joined parts, however they are cut.
+    /// Opens a reader of the front of the concatenated parts; how the input is cut makes no difference.
     fn open(parts: &[&[u8]]) -> Self::Reader
         ensures { Self.Reader.rest result ≡ front (flat_map (λ part. part.now) parts.now) };
 
@@ -58,8 +57,8 @@ pub trait Xof {
     ghost front_most: { FRONT ≤ 1048576 };
 }
 
-/// The first `N` bytes of a stream over the concatenation of the parts, as `H(..)` of the standard; `N` is at
-/// most 4096.
+/// The first `N` bytes of the stream over the concatenated parts, as `H(..)` of the standard; `N` is at most
+/// 4096.
 pub fn hash<H: Xof, const N: usize>(parts: &[&[u8]]) -> [u8; N]
     requires { N ≤ 4096 }
     ensures { result ≡ take N (H.front (flat_map (λ part. part.now) parts.now)) }
@@ -70,7 +69,7 @@ pub fn hash<H: Xof, const N: usize>(parts: &[&[u8]]) -> [u8; N]
     out
 }
 
-/// The stream that gives 4096 times the byte `B`, whatever its input.
+/// The stream whose front is 4096 times the byte `B`, for every input.
 pub struct Fill<const B: u8>;
 
 /// A reader of `Fill`.

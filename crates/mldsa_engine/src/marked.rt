@@ -8,8 +8,8 @@ use crate::fault::RunFault;
 use std::io::{Read, Write};
 use std::marker::Model;
 
-/// A reader or writer with a mark, which is unset at first. It becomes set by a call of the device that failed,
-/// and no other: by an error, or by a write that was given bytes and took none.
+/// A reader or writer with a mark, which is unset at first. A call of the device that fails sets it, and
+/// nothing else does: a failure is an error, or a write that was given bytes and took none.
 #[derive(Drop)]
 pub struct Marked<D> {
     device: D,

@@ -11,7 +11,7 @@ use std::io::ErrorKind;
 use std::process::ExitCode;
 use std::rt::Env;
 
-/// The words after the program's name. Words that aren't text are no call.
+/// Returns the words after the program's name. Words that are not text make no valid call.
 pub fn words<R: Env + AllocGlobal>(rt: &R) -> Result<Vec<String>, RunFault>
     ensures faults { IfErr result (λ fault. (fault ≡ RunFault.Usage) ⊎ (fault ≡ RunFault.Memory)) }
 {
@@ -38,8 +38,8 @@ pub fn status(answer: Result<bool, RunFault>) -> u8
     }
 }
 
-/// Ends a run: prints its fault, if it has one, as a line on the standard error, and gives its exit
-/// status, also where this printing fails.
+/// Ends a run: prints its fault, if there is one, as a line on standard error, and returns its exit status,
+/// even if this printing fails.
 pub fn end<R: Eprint>(rt: &R, answer: Result<bool, RunFault>) -> ExitCode
     ensures { exit_status result ≡ status_of answer }
 {

@@ -1,5 +1,5 @@
-//! What the prepared keys of every set offer. They sign and verify with the kept matrix, and answer as the plain
-//! key's call of the same name.
+//! The calls of the prepared keys of every parameter set. Each uses the stored matrix and returns what the
+//! plain key's call of the same name returns.
 #![tactic(auto)]
 
 ghost use Rattle.std.specs.Prelude.{◌≡◌, ◌↔◌, length, map, IsTrue};
@@ -27,7 +27,7 @@ where
     Matrix<K, L>: HasSet<Set = S>,
     S: Set<Commitment = [u8; N], Signature = [u8; SIG_LEN]> + SignatureSizes<K, L, N, SIG_LEN>,
 {
-    /// Signs the hash `mu` of a framed message with these random bytes.
+    /// Signs the hash `mu` of a framed message with the random bytes `rnd`.
     fn sign_hash(&self, mu: &[u8; 64], rnd: &[u8; 32]) -> Result<[u8; SIG_LEN], Fault>
         ensures answer { result ≡ sign_prepared S.set H.front self.now mu.now rnd.now }
         ensures accepted { AcceptedIfWholePrepared S.set self.now (λ pk signature. VerifiesPrepared S.set H.front pk mu.now signature) result }
@@ -130,9 +130,8 @@ where
         self.sign_hash(mu, &draw_if(hedged, rng)?)
     }
 
-    /// Signs each message with its own 32 random bytes, under one context: `out[i]` becomes what
-    /// `try_sign_with_seed` answers for seed and message `i`. There are as many seeds and places of `out` as
-    /// messages.
+    /// Signs each message with its own 32 random bytes, under one context: `out[i]` becomes the result of
+    /// `try_sign_with_seed` for seed and message `i`. `seeds`, `messages` and `out` have the same length.
     pub fn sign_each(
         &self,
         seeds: &[[u8; 32]],
@@ -202,8 +201,8 @@ where
         ml_dsa::verify_prepared::<K, L, N, SIG_LEN, H>(&S::params(), self, mu, sig)
     }
 
-    /// Verifies each signature of its message, under one context: `out[i]` becomes what `verify` answers for
-    /// message and signature `i`. There are as many signatures and places of `out` as messages.
+    /// Verifies each signature with its message, under one context: `out[i]` becomes the result of `verify`
+    /// for message and signature `i`. The three lists have the same length.
     pub fn verify_each(
         &self,
         messages: &[&[u8]],

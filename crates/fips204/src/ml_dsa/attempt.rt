@@ -22,10 +22,10 @@ use fips204_base::xof::Xof;
 
 impl<const K: usize, const L: usize, H: Xof, G> PrivateKey<K, L, H, G> {
     /// The attempt at counter `kappa`, with the matrix, the transforms of the key's vectors, and the seed
-    /// `rho''` of the masks (lines 11 to 32): its signature, or `None` where it is rejected. Refuses with
-    /// `Fault::SamplingLimit` where its challenge passes its limit.
+    /// `rho''` of the masks (lines 11 to 32): returns its signature, or `None` if it is rejected. `K` and `L`
+    /// are those of the set, and `LAMBDA_DIV4` and `SIG_LEN` its lengths.
     ///
-    /// `K` and `L` are those of the set, and `LAMBDA_DIV4` and `SIG_LEN` its lengths.
+    /// Errors: `Fault::SamplingLimit` if its challenge reaches its limit.
     pub(crate) fn attempt<const LAMBDA_DIV4: usize, const SIG_LEN: usize>(
         &self,
         p: &Params,

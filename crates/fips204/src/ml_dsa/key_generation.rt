@@ -23,8 +23,9 @@ use fips204_base::maps::write_zip_vectors;
 use fips204_base::xof::{Xof, hash};
 use std::marker::PhantomData;
 
-/// `ML-DSA.KeyGen_internal` (Algorithm 6): both keys of the seed `xi`. Refuses with
-/// `Fault::SamplingLimit` where a sampler of the seed passes its limit.
+/// `ML-DSA.KeyGen_internal` (Algorithm 6): the key pair of the seed `xi`.
+///
+/// Errors: `Fault::SamplingLimit` if a sampler reaches its limit.
 ///
 /// `K` and `L` are those of the set, and `PK_LEN` is the length of its public keys.
 pub fn key_gen_internal<const K: usize, const L: usize, const PK_LEN: usize, H: Xof, G: Xof>(
@@ -109,8 +110,9 @@ pub(super) fn write_key_vector<const K: usize, const L: usize, G: Xof>(
     Ok(())
 }
 
-/// `ML-DSA.KeyGen` (Algorithm 1): both keys of 32 bytes that the generator is asked for once. Refuses
-/// with `Fault::KeyGenRng` where it refuses, and as `key_gen_internal` does.
+/// `ML-DSA.KeyGen` (Algorithm 1): a key pair from 32 bytes of the generator, which is asked once.
+///
+/// Errors: `Fault::KeyGenRng` if the generator fails; then those of `key_gen_internal`.
 pub fn key_gen<
     const K: usize,
     const L: usize,
@@ -127,8 +129,9 @@ pub fn key_gen<
     key_gen_internal::<K, L, PK_LEN, H, G>(p, &draw(rng, Fault::KeyGenRng)?)
 }
 
-/// The public key of a private key: its `rho` and `tr`, and the high part of `A s1 + s2`. Refuses with
-/// `Fault::SamplingLimit` where the matrix of `rho` passes its limit.
+/// The public key of a private key: its `rho` and `tr`, and the high part of `A s1 + s2`.
+///
+/// Errors: `Fault::SamplingLimit` if the matrix of `rho` reaches its limit.
 pub fn private_to_public_key<const K: usize, const L: usize, H, G: Xof>(
     p: &Params,
     sk: &PrivateKey<K, L, H, G>,

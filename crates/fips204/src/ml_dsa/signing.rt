@@ -16,10 +16,11 @@ use fips204_base::xof::{Xof, hash};
 /// How many attempts signing makes (FIPS 204, Appendix C).
 pub const MAX_SIGN_ATTEMPTS: u16 = 814;
 
-/// `ML-DSA.Sign_internal` (Algorithm 7) from `mu` and `rnd`: the signature of the first of 814 attempts
-/// that is not rejected. Refuses with `Fault::SamplingLimit` where the matrix passes its limit, or the
-/// challenge of an attempt before any that signs, and with `Fault::TooManyAttempts` where all attempts
-/// are rejected. With a whole key, what is answered is accepted.
+/// `ML-DSA.Sign_internal` (Algorithm 7) from `mu` and `rnd`: returns the signature of the first of 814
+/// attempts that is not rejected. If the key is whole, that signature verifies.
+///
+/// Errors: `Fault::SamplingLimit` if the matrix, or the challenge of an attempt before any that signs,
+/// reaches its limit; `Fault::TooManyAttempts` if all attempts are rejected.
 ///
 /// `K` and `L` are those of the set, and `LAMBDA_DIV4` and `SIG_LEN` its lengths.
 pub fn sign_internal<

@@ -25,7 +25,7 @@ use fips204_base::maps::{map_vector, write_zip_vectors};
 use fips204_base::product::matrix_times_vector_less;
 use fips204_base::xof::Xof;
 
-/// `ML-DSA.Verify_internal` (Algorithm 8) from `mu`: whether a signature is accepted.
+/// `ML-DSA.Verify_internal` (Algorithm 8) from `mu`: returns true if and only if the signature is accepted.
 ///
 /// `K` and `L` are those of the set, and `LAMBDA_DIV4` and `SIG_LEN` its lengths.
 pub fn verify_internal<

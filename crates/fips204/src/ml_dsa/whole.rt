@@ -23,8 +23,9 @@ fn are_same<const K: usize>(v: &[R; K], w: &[R; K]) -> bool
     true
 }
 
-/// Whether t0 of a private key is the low part of `A s1 + s2`. Refuses with `Fault::SamplingLimit` where the matrix of
-/// `rho` passes its limit.
+/// Tells whether t0 of a private key is the low part of `A s1 + s2`.
+///
+/// Errors: `Fault::SamplingLimit` if the matrix of `rho` reaches its limit.
 pub(crate) fn is_whole<const K: usize, const L: usize, H, G: Xof>(
     p: &Params,
     sk: &PrivateKey<K, L, H, G>,

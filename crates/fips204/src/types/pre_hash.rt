@@ -1,7 +1,7 @@
-//! Hashes whose digests are signed (FIPS 204, section 5.4).
+//! Hash functions whose digests can be signed (FIPS 204, section 5.4).
 //!
-//! Each hash is named by its object identifier in DER: tag 06, a byte that counts the bytes which
-//! follow, and these. All twelve here stand below 2.16.840.1.101.3.4.2.
+//! Each is named by its object identifier in DER: tag 06, the number of the bytes that follow, and these
+//! bytes. All twelve identifiers are below 2.16.840.1.101.3.4.2.
 #![tactic(auto)]
 
 ghost use Rattle.std.specs.Prelude.{◌≡◌, MatchResult, Some, None};
@@ -9,7 +9,7 @@ ghost use Rattle.fips204.specs.PreHash.{digest_length, is_der, pre_hash_fault};
 
 use fips204_base::Fault;
 
-/// The most bytes of a digest that pre-hash signing takes.
+/// The largest number of bytes of a digest that can be signed.
 pub const MAX_PREHASH_LEN: usize = 1024;
 
 /// SHA-224, with a digest of 28 bytes.
@@ -72,7 +72,7 @@ pub const SHAKE_256: [u8; 11] = [
     0x06, 0x09, 0x60, 0x86, 0x48, 0x01, 0x65, 0x03, 0x04, 0x02, 0x0C,
 ];
 
-/// The twelve hashes with the bytes of their digests, by the last byte of the identifier.
+/// The twelve hash functions by the last byte of the identifier, with the lengths of their digests in bytes.
 const DIGEST_LENS: [([u8; 11], usize); 12] = [
     (SHA2_256, 32),
     (SHA2_384, 48),
@@ -88,8 +88,8 @@ const DIGEST_LENS: [([u8; 11], usize); 12] = [
     (SHAKE_256, 64),
 ];
 
-/// How many bytes the digest has of the hash that this object identifier names, where it is one of the
-/// twelve.
+/// The number of bytes of a digest of the hash function that this object identifier names, or `None` if it is
+/// none of the twelve.
 pub fn digest_len(oid: &[u8]) -> Option<usize>
     ensures { result ≡ digest_length oid.now }
 {
@@ -109,10 +109,12 @@ fn has_der_form(oid: &[u8]) -> bool
     oid.len() >= 3 && oid[0] == 0x06 && oid[1] < 0x80 && oid[1] as usize + 2 == oid.len()
 }
 
-/// Whether a digest and the object identifier of its hash may be signed. Refuses, in this order, with
-/// `Fault::OidEmpty`, `Fault::OidNotDer` where the identifier is not a valid DER object identifier,
-/// `Fault::DigestTooLong` above 1024 bytes, and `Fault::DigestLength` where the identifier is one of the
-/// twelve and the digest does not match its hash function's output length.
+/// Checks a digest and the object identifier of its hash function before they are signed or verified.
+///
+/// Errors, in this order: `Fault::OidEmpty` if the identifier is empty; `Fault::OidNotDer` if it is not a
+/// valid DER object identifier; `Fault::DigestTooLong` if the digest has more than 1024 bytes;
+/// `Fault::DigestLength` if the identifier is one of the twelve and the digest does not have the output
+/// length of its hash function.
 #[tactic(auto, unfolding(crate::specs::PreHash::pre_hash_fault))]
 pub fn check_pre_hash(hash: &[u8], oid: &[u8]) -> Result<(), Fault>
     ensures { MatchResult result (λ _. pre_hash_fault hash.now oid.now ≡ None) (λ fault. pre_hash_fault hash.now oid.now ≡ Some fault) }

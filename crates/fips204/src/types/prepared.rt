@@ -1,5 +1,5 @@
-//! Keys that are prepared once for many calls: a key with the matrix of its seed, and a private one with the
-//! transforms of its vectors.
+//! Keys that are prepared once for many calls: a key with the matrix of its seed, and for a private key also
+//! the transforms of its vectors.
 #![tactic(auto)]
 
 ghost use Rattle.fips204_base.specs.Polynomials.{IsReducedMatrix};
@@ -43,9 +43,8 @@ impl<const K: usize, const L: usize, H> Model for PreparedPrivateKey<K, L, H> {
 }
 
 impl<const K: usize, const L: usize, H> PreparedPrivateKey<K, L, H> {
-    /// A law that a call gives its caller, and computes nothing: the matrix has values below `q` in absolute
-    /// value, and the parts have the lengths and ranges of a private key whose matrix has `K` rows and `L`
-    /// columns.
+    /// A law, which computes nothing: the matrix has values below `q` in absolute value, and the parts have
+    /// the lengths and ranges of a private key whose matrix has `K` rows and `L` columns.
     pub fn parts_in_range_law(&self)
         ensures matrix { IsReducedMatrix self.now.matrix }
         ensures parts { ArePrivateParts K L self.now.parts }
@@ -76,8 +75,8 @@ impl<const K: usize, const L: usize, H> Model for PreparedPublicKey<K, L, H> {
 }
 
 impl<const K: usize, const L: usize, H> PreparedPublicKey<K, L, H> {
-    /// A law that a call gives its caller, and computes nothing: the matrix has values below `q` in absolute
-    /// value, and `t1` has `K` polynomials with coefficients from 0 to 1023.
+    /// A law, which computes nothing: the matrix has values below `q` in absolute value, and `t1` has `K`
+    /// polynomials with coefficients from 0 to 1023.
     pub fn parts_in_range_law(&self)
         ensures matrix { IsReducedMatrix self.now.matrix }
         ensures high { IsHighPart K self.now.parts.t1 }

@@ -11,11 +11,12 @@ use super::vectors::{polynomial_size, unpack_short_vector, unpack_vector, write_
 use crate::fault::Fault;
 use crate::types::R;
 
-/// `skDecode` (Algorithm 25): the parts of a private key: rho, K, tr, s1, s2 and t0. Refuses with
-/// `Fault::KeyRange` where a field of s1 or s2 is above `2 eta`.
+/// `skDecode` (Algorithm 25): the parts of a private key: rho, K, tr, s1, s2 and t0.
 ///
-/// `eta` is 2 or 4, and `SK_LEN` is 128, then 96 (128 at `eta` 4) for each of the `L + K` polynomials of
-/// s1 and s2, and 416 for each of the `K` polynomials of t0.
+/// `eta` is 2 or 4, and `SK_LEN` is 128, plus 96 (128 at `eta` 4) for each of the `L + K` polynomials of s1
+/// and s2, plus 416 for each of the `K` polynomials of t0.
+///
+/// Errors: `Fault::KeyRange` if a field of s1 or s2 is above `2 eta`.
 pub fn sk_decode<const K: usize, const L: usize, const SK_LEN: usize>(
     eta: i32,
     sk: &[u8; SK_LEN],
@@ -47,8 +48,8 @@ pub fn sk_decode<const K: usize, const L: usize, const SK_LEN: usize>(
     ))
 }
 
-/// `skEncode` (Algorithm 24): a private key of its parts: rho, K, tr, then s1 and s2 with coefficients
-/// in `[-eta, eta]`, then t0 with coefficients in `[-4095, 4096]`.
+/// `skEncode` (Algorithm 24): encodes a private key from its parts: rho, K, tr, then s1 and s2 with
+/// coefficients in `[-eta, eta]`, then t0 with coefficients in `[-4095, 4096]`.
 ///
 /// `eta` is 2 or 4, and `SK_LEN` is as for `sk_decode`.
 pub fn sk_encode<const K: usize, const L: usize, const SK_LEN: usize>(

@@ -41,12 +41,12 @@ pub fn sig_decode<const K: usize, const L: usize, const LAMBDA_DIV4: usize, cons
     Some((*c_tilde, unpack_vector(response, gamma1 - 1, gamma1), h))
 }
 
-/// `sigEncode` (Algorithm 26): a signature of its parts: `c_tilde`, then `z` with coefficients in
-/// `[1 - gamma1, gamma1]`, then the hint `h`, whose coefficients are 0 or 1, with at most `omega` ones
-/// in all.
+/// `sigEncode` (Algorithm 26): encodes a signature from its parts: `c_tilde`, then `z` with coefficients in
+/// `[1 - gamma1, gamma1]`, then the hint `h`, whose coefficients are 0 or 1, with at most `omega` ones in
+/// all.
 ///
-/// `gamma1` is 131072 or 524288, `omega` is at least 1, `omega + K` is below 256, and `SIG_LEN` is as
-/// for `sig_decode`.
+/// `gamma1` is 131072 or 524288, `omega` is at least 1, `omega + K` is below 256, and `SIG_LEN` is as for
+/// `sig_decode`.
 pub fn sig_encode<const K: usize, const L: usize, const LAMBDA_DIV4: usize, const SIG_LEN: usize>(
     gamma1: i32,
     omega: i32,

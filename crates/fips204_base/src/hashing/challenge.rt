@@ -21,9 +21,11 @@ fn sign_at(bytes: &[u8; 8], k: usize) -> i32
     }
 }
 
-/// `SampleInBall` (Algorithm 29): a polynomial of which `tau` coefficients are 1 or -1 and the others
-/// zero. `tau` is from 1 to 64. Refuses with `SamplingLimit` where rejection sampling reaches its limit:
-/// where the bytes after the first eight, a quarter as many as the front has, give fewer than `tau` places.
+/// `SampleInBall` (Algorithm 29): a polynomial in which `tau` coefficients are 1 or -1 and the others zero.
+/// `tau` is from 1 to 64.
+///
+/// Errors: `SamplingLimit` if rejection sampling reaches its limit: if the bytes after the first eight, a
+/// quarter as many as the front has, give fewer than `tau` places.
 pub fn sample_in_ball<H: Xof>(tau: i32, rho: &[u8]) -> Result<R, Fault>
     requires tau { (pos 1 ≤ℤ tau) × (tau ≤ℤ pos 64) }
     ensures { result ≡ ok_or (challenge (nat_abs tau) (H.front rho.now)) Fault.SamplingLimit }

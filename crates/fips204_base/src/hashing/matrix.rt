@@ -20,8 +20,8 @@ use crate::product::{
 use crate::types::{R, T, T0};
 use crate::xof::{Xof, XofReader};
 
-/// Puts the coefficients that the triples of `piece` give into `values` from place `kept` on, as many as
-/// have room, and answers how many there are then.
+/// Puts the coefficients that the triples of `piece` give into `values` from place `kept` on, as many as have
+/// room, and returns how many there are then.
 fn write_kept_triples(piece: &[u8], values: &mut [i32; 256], kept: usize) -> usize
     requires room { kept ≤ 256 }
     ensures count { result ≤ 256 }
@@ -35,9 +35,10 @@ fn write_kept_triples(piece: &[u8], values: &mut [i32; 256], kept: usize) -> usi
     count
 }
 
-/// `RejNTTPoly` (Algorithm 30): a matrix entry from the joined `parts`. Refuses with `SamplingLimit` where
-/// rejection sampling reaches its limit: where as many triples as a quarter of the front has bytes give
-/// fewer than 256 coefficients.
+/// `RejNTTPoly` (Algorithm 30): a matrix entry from the concatenated `parts`.
+///
+/// Errors: `SamplingLimit` if rejection sampling reaches its limit: if as many triples as a quarter of the
+/// front has bytes give fewer than 256 coefficients.
 pub fn rej_ntt_poly<G: Xof>(parts: &[&[u8]]) -> Result<T, Fault>
     ensures { result ≡ ok_or (matrix_entry (G.front (flat_map (λ part. part.now) parts.now))) Fault.SamplingLimit }
 {
@@ -64,9 +65,10 @@ pub fn rej_ntt_poly<G: Xof>(parts: &[&[u8]]) -> Result<T, Fault>
     Err(Fault::SamplingLimit)
 }
 
-/// `ExpandA` (Algorithm 32): the matrix of transforms, with the entry at row `r` and column `s` from
-/// `rho`, byte `s` and byte `r`. `K` and `L` are those of a parameter set. Refuses with
-/// `SamplingLimit` where an entry passes its limit.
+/// `ExpandA` (Algorithm 32): the matrix of transforms, with the entry at row `r` and column `s` from `rho`,
+/// byte `s` and byte `r`. `K` and `L` are those of a parameter set.
+///
+/// Errors: `SamplingLimit` if an entry reaches its limit.
 pub fn expand_a<const K: usize, const L: usize, G: Xof>(
     rho: &[u8; 32],
 ) -> Result<[[T; L]; K], Fault>
@@ -78,7 +80,7 @@ pub fn expand_a<const K: usize, const L: usize, G: Xof>(
     Ok(matrix)
 }
 
-/// `expand_a`, which writes the matrix into the caller's place. Where it refuses, some of it may be written.
+/// `expand_a`, written into the caller's place. After an error part of it may be written.
 pub fn write_expanded_a<const K: usize, const L: usize, G: Xof>(
     rho: &[u8; 32],
     matrix: &mut [[T; L]; K],
@@ -109,10 +111,11 @@ fn write_expanded_row<const L: usize, G: Xof>(
     Ok(())
 }
 
-/// Writes the products of the matrix of `rho` with a vector of transforms, value by value, as `mat_vec_mul` of
-/// `expand_a` gives them, with one row of the matrix at a time. `K` and `L` are those of a parameter set, and
-/// values of the vector are below `q` in absolute value, as those written. Refuses with `SamplingLimit` where
-/// an entry passes its limit.
+/// Writes the products of the matrix of `rho` with a vector of transforms, value by value, as `mat_vec_mul`
+/// of `expand_a` returns them, with one row of the matrix at a time. `K` and `L` are those of a parameter
+/// set, and values of the vector are below `q` in absolute value, as are those written.
+///
+/// Errors: `SamplingLimit` if an entry reaches its limit.
 fn write_expanded_mat_vec_mul<const K: usize, const L: usize, G: Xof>(
     rho: &[u8; 32],
     u: &[T; L],
@@ -133,8 +136,10 @@ fn write_expanded_mat_vec_mul<const K: usize, const L: usize, G: Xof>(
 }
 
 /// Writes the product of the matrix of `rho` with a vector of plain polynomials, as `matrix_times_vector` of
-/// `expand_a` gives it, with one row of the matrix at a time. `K` and `L` are those of a parameter set, and
-/// coefficients are below `q` in absolute value. Refuses with `SamplingLimit` where an entry passes its limit.
+/// `expand_a` returns it, with one row of the matrix at a time. `K` and `L` are those of a parameter set, and
+/// coefficients are below `q` in absolute value.
+///
+/// Errors: `SamplingLimit` if an entry reaches its limit.
 pub fn write_expanded_times_vector<const K: usize, const L: usize, G: Xof>(
     rho: &[u8; 32],
     v: &[R; L],
@@ -158,9 +163,10 @@ pub fn write_expanded_times_vector<const K: usize, const L: usize, G: Xof>(
 }
 
 /// Writes the product of the matrix of `rho` with a vector, less the product of a challenge with a vector, as
-/// `matrix_times_vector_less` of `expand_a` gives it, with one row of the matrix at a time. `K` and `L` are
-/// those of a parameter set, and coefficients are below `q` in absolute value. Refuses with `SamplingLimit`
-/// where an entry passes its limit.
+/// `matrix_times_vector_less` of `expand_a` returns it, with one row of the matrix at a time. `K` and `L` are
+/// those of a parameter set, and coefficients are below `q` in absolute value.
+///
+/// Errors: `SamplingLimit` if an entry reaches its limit.
 pub fn write_expanded_times_vector_less<const K: usize, const L: usize, G: Xof>(
     rho: &[u8; 32],
     z: &[R; L],

@@ -13,8 +13,8 @@ use crate::hashing::write_kept;
 use crate::types::{R, R0};
 use crate::xof::{Xof, XofReader};
 
-/// Puts the coefficients that the half bytes of `piece` give into `values` from place `kept` on, as
-/// many as have room, and answers how many there are then.
+/// Puts the coefficients that the half bytes of `piece` give into `values` from place `kept` on, as many as
+/// have room, and returns how many there are then.
 fn write_kept_half_bytes(eta: i32, piece: &[u8], values: &mut [i32; 256], kept: usize) -> usize
     requires eta { IsEta eta }
     requires room { kept ≤ 256 }
@@ -29,9 +29,11 @@ fn write_kept_half_bytes(eta: i32, piece: &[u8], values: &mut [i32; 256], kept: 
     count
 }
 
-/// `RejBoundedPoly` (Algorithm 31): a polynomial with coefficients in `[-eta, eta]` from the joined
-/// `parts`. `eta` is 2 or 4. Refuses with `SamplingLimit` where rejection sampling reaches its limit:
-/// where the half bytes of the first quarter of the front give fewer than 256 coefficients.
+/// `RejBoundedPoly` (Algorithm 31): a polynomial with coefficients in `[-eta, eta]` from the concatenated
+/// `parts`. `eta` is 2 or 4.
+///
+/// Errors: `SamplingLimit` if rejection sampling reaches its limit: if the half bytes of the first quarter of
+/// the front give fewer than 256 coefficients.
 pub fn rej_bounded_poly<H: Xof>(eta: i32, parts: &[&[u8]]) -> Result<R, Fault>
     requires eta { IsEta eta }
     ensures { result ≡ ok_or (small_polynomial (nat_abs eta) (H.front (flat_map (λ part. part.now) parts.now))) Fault.SamplingLimit }
@@ -80,9 +82,10 @@ fn write_small_polynomials<const N: usize, H: Xof>(
     Ok(())
 }
 
-/// `ExpandS` (Algorithm 33): the secret vectors s1 of `L` and s2 of `K` polynomials, with coefficients
-/// in `[-eta, eta]`. `eta` is 2 or 4, and `K` and `L` are those of a parameter set. Refuses with
-/// `SamplingLimit` where a polynomial passes its limit.
+/// `ExpandS` (Algorithm 33): the secret vectors s1 of `L` and s2 of `K` polynomials, with coefficients in
+/// `[-eta, eta]`. `eta` is 2 or 4, and `K` and `L` are those of a parameter set.
+///
+/// Errors: `SamplingLimit` if a polynomial reaches its limit.
 pub fn expand_s<const K: usize, const L: usize, H: Xof>(
     eta: i32,
     rho: &[u8; 64],
@@ -99,7 +102,7 @@ pub fn expand_s<const K: usize, const L: usize, H: Xof>(
     Ok((s1, s2))
 }
 
-/// `expand_s`, which writes the vectors into the caller's places. Where it refuses, some of them may be written.
+/// `expand_s`, written into the caller's places. After an error part of them may be written.
 pub fn write_expanded_s<const K: usize, const L: usize, H: Xof>(
     eta: i32,
     rho: &[u8; 64],

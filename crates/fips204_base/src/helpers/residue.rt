@@ -11,12 +11,11 @@ use crate::helpers::count::Count;
 use crate::helpers::reduce::{mont_reduce, partial_reduce32, wide_product};
 use crate::helpers::zeta_table::zeta_mont;
 
-/// A value that the butterflies work on, seen as a row of lanes, as many as its type has: `lanes` gives
-/// `width` entries. Each operation works on every lane. Products, sums and differences raise the meter,
-/// of which both numbers are below `2^64`, which has to have room for them, and which nothing here can
-/// make, copy or read.
+/// A value that the butterflies work on, seen as a row of lanes: `lanes` has `width` entries. Each operation
+/// works on every lane. Products, sums and differences raise the meter, whose two counts stay below `2^64`:
+/// the caller shows that there is room. Nothing here can make, copy or read a meter.
 pub trait Residue: Copy {
-    /// What counts the steps.
+    /// The meter, which counts the steps.
     type Meter;
 
     ghost lanes: { Self → List ℤ };

@@ -9,12 +9,11 @@ use crate::xof::XofReader;
 use sha2::Digest;
 use std::marker::{Model, PhantomData};
 
-/// A hash with digests of `N` bytes, for a stream in counter mode. Its digest is a fixed function of the
-/// joined parts.
+/// A hash function with digests of `N` bytes, for a stream in counter mode.
 pub trait BlockHash<const N: usize> {
     ghost hash: { List ℕ → List ℕ };
 
-    /// The digest of the joined parts, however they are cut.
+    /// The digest of the concatenated parts; how the input is cut makes no difference.
     fn digest(parts: &[&[u8]]) -> [u8; N]
         ensures { result ≡ hash (flat_map (λ part. part.now) parts.now) };
 
@@ -22,11 +21,11 @@ pub trait BlockHash<const N: usize> {
 }
 
 /// A reader of blocks: block `i` is the digest of a seed followed by `i` as four bytes, the lowest first. It
-/// holds one block, and makes the next one when a byte of it is asked for.
+/// holds one block, and computes the next one when a byte of it is read.
 ///
-/// For a stream of your own take this as the `Reader` of your `Xof`, and open it by `new` with `FRONT / N`
-/// blocks. `Sha256` and `Sha512` of the crate `sha2` are a `BlockHash`; implement it for another digest. The
-/// front is `counter_blocks`, and `length-counter_blocks` is its length.
+/// For a stream of your own use this as the `Reader` of your `Xof`, and open it by `new` with `FRONT / N`
+/// blocks. `Sha256` and `Sha512` of the crate `sha2` implement `BlockHash`; implement it for another hash
+/// function. The front is `counter_blocks`, and `length-counter_blocks` is its length.
 #[derive(Drop)]
 pub struct BlockReader<H: BlockHash<N>, const N: usize> {
     hash: PhantomData<H>,
@@ -79,8 +78,8 @@ fn write_run(source: &[u8], out: &mut [u8]) -> usize
 }
 
 impl<H: BlockHash<N>, const N: usize> BlockReader<H, N> {
-    /// A reader of the first `blocks` blocks, at most 1048576 bytes. The seed is the digest of the joined
-    /// parts.
+    /// A reader of the first `blocks` blocks, at most 1048576 bytes in all. The seed is the digest of the
+    /// concatenated parts.
     pub fn new(parts: &[&[u8]], blocks: u32) -> BlockReader<H, N>
         requires { blocks * N ≤ 1048576 }
         ensures { result ≡ counter_blocks H.hash (H.hash (flat_map (λ part. part.now) parts.now)) blocks }

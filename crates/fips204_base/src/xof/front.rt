@@ -1,4 +1,4 @@
-//! A reader of a front that stands in an array.
+//! A reader of a front held in an array.
 #![tactic(auto)]
 
 ghost use Rattle.std.specs.Prelude.{◌≡◌};
@@ -8,7 +8,7 @@ use std::marker::Model;
 
 /// A reader of a front of `N` bytes, which it holds.
 ///
-/// For a stream with a short front write a function that fills the array, take this as the `Reader` of your
+/// For a stream with a short front write a function that fills the array, use this as the `Reader` of your
 /// `Xof`, and open it by `new`.
 #[derive(Drop)]
 pub struct FrontReader<const N: usize> {

@@ -39,7 +39,7 @@ pub type Sha256CtrReader = BlockReader<Sha256, 32>;
 /// A reader of `Sha512Ctr` or `Sha512CtrLong`.
 pub type Sha512CtrReader = BlockReader<Sha512, 64>;
 
-/// The stream that hashes its input by SHA-256, and gives 128 blocks: block `i` is SHA-256 of the
+/// SHA-256 in counter mode: 128 blocks over the digest of the input, where block `i` is SHA-256 of that
 /// digest followed by `i` as four bytes, the lowest first.
 pub struct Sha256Ctr;
 
@@ -86,8 +86,8 @@ impl Xof for Sha256CtrLong {
     }
 }
 
-/// The stream that hashes its input by SHA-512, and gives 64 blocks: block `i` is SHA-512 of the
-/// digest followed by `i` as four bytes, the lowest first.
+/// SHA-512 in counter mode: 64 blocks over the digest of the input, where block `i` is SHA-512 of that digest
+/// followed by `i` as four bytes, the lowest first.
 pub struct Sha512Ctr;
 
 impl Xof for Sha512Ctr {
