@@ -73,7 +73,7 @@ entries_more size (suc entries) more =
     ap (entry_lines size) next ∙ ap (λ l. Some size ∷ None ∷ l) (entries_more size entries more)
 
 -- an entry has two lines
-two_each : (size entries : ℕ) → length (entry_lines size entries) ≡ 2 * entries
+pub two_each : (size entries : ℕ) → length (entry_lines size entries) ≡ 2 * entries
 two_each size zero = refl
 two_each size (suc entries) = omega (arith, two_each size entries)
 

@@ -1,6 +1,6 @@
 -- Lines that are as many as a command wants, and what it then writes for them.
-use Rattle.std.proofs.Common.{◌≡◌, ℕ, Bool, true, List, [], ◌∷◌, ◌++◌, ◌*◌, length, map, take, get_or, Option, Result, Ok, Err, IfOk, IfErr, Some, None, refl, ap, ◌∙◌, subst}
-use Rattle.fips204.specs.ParameterSets.{ParameterSet, signature_length}
+use Rattle.std.proofs.Common.{◌≡◌, ℕ, Bool, List, [], ◌∷◌, ◌*◌, map, get_or, Option, Result, Ok, Err, IfOk, IfErr, Some, None, refl, ap, ◌∙◌, subst}
+use Rattle.fips204.specs.ParameterSets.{ParameterSet, public_key_length, signature_length}
 use Rattle.mldsa_engine.specs.declared.fault.RunFault.{RunFault}
 use Rattle.mldsa_engine.specs.declared.call.Task.{Task}
 use Rattle.mldsa_engine.specs.declared.call.Task.TheVariants.{Id, Keygen, Sign, Verify, Check, Batch}
@@ -90,7 +90,7 @@ pub executes_batch : {V W E : Type 0} (items : V → List ℕ) (text : W → Lis
 executes_batch items text success H G p given mid left lines first second third k c t count (Err fault) fit taken p0 p1 p2 e0 e1 e2 said judged = judged
 executes_batch items text success H G p given mid left lines first second third k c t count (Ok it) fit taken p0 p1 p2 e0 e1 e2 said judged =
     let (pk, is, (entries, fits, later, each)) = judged in
-    let three = three_counted items _ _ _ lines first second third fit p0 p1 p2 in
+    let three = three_counted items (Some (public_key_length p)) None (Some 2) lines first second third fit p0 p1 p2 in
     let front = rw (three, ← e0, ← e1, ← e2) at taken in
     let long = AllFit-length (entry_lines (signature_length p) count) entries fits ∙ two_each (signature_length p) count in
     (k ∷ c ∷ t ∷ entries, batch_taken p given mid left (k ∷ c ∷ t ∷ []) entries count front said later,
@@ -106,7 +106,7 @@ pub batch_line_fault : {V W : Type 0} (items : V → List ℕ) (p : ParameterSet
     → IfErr result (λ fault. IsLineFault fault → FaultOfLines 1 (input_lines Batch p given) given fault)
 batch_line_fault items p given mid lines first second third t count (Ok it) fit taken p0 p1 p2 e2 said bad = bad
 batch_line_fault items p given mid lines first second third t count (Err fault) fit taken p0 p1 p2 e2 said bad =
-    let three = three_counted items _ _ _ lines first second third fit p0 p1 p2 in
+    let three = three_counted items (Some (public_key_length p)) None (Some 2) lines first second third fit p0 p1 p2 in
     let front = rw (three, ← e2) at taken in
     λ of_line. batch_fault p given mid _ count fault front said (bad of_line)
 
@@ -119,6 +119,6 @@ pub batch_line_in_turn : {V W : Type 0} (items : V → List ℕ) (p : ParameterS
     → IfErr result (λ fault. IsLineFault fault → InTurn 1 (input_lines Batch p given) given left)
 batch_line_in_turn items p given mid left lines first second third t count (Ok it) fit taken p0 p1 p2 e2 said bad = bad
 batch_line_in_turn items p given mid left lines first second third t count (Err fault) fit taken p0 p1 p2 e2 said bad =
-    let three = three_counted items _ _ _ lines first second third fit p0 p1 p2 in
+    let three = three_counted items (Some (public_key_length p)) None (Some 2) lines first second third fit p0 p1 p2 in
     let front = rw (three, ← e2) at taken in
     λ of_line. batch_in_turn p given mid left _ count front said (bad of_line)

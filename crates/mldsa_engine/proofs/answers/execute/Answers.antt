@@ -1,9 +1,8 @@
-use Rattle.std.proofs.Common.{◌≡◌, take, map, rules}
-use Rattle.mldsa_engine.specs.Lines.{AllFit, TakesLines, IsLineFault, FaultOfLines, InTurn}
-use Rattle.mldsa_engine.specs.declared.call.Task.TheVariants.{Batch}
-use Rattle.mldsa_engine.specs.ProgramText.{named_set, wanted_lines, lines_of_input}
+use Rattle.std.proofs.Common.{rules}
+use Rattle.mldsa_engine.specs.Lines.{IsLineFault, FaultOfLines, InTurn}
+use Rattle.mldsa_engine.specs.ProgramText.{named_set, lines_of_input}
 use Rattle.mldsa_engine.proofs.Entries.{first_fault, first_in_turn}
-use Rattle.mldsa_engine.proofs.LineCounts.{executes_whole, executes_batch, batch_line_fault, batch_line_in_turn}
+use Rattle.mldsa_engine.proofs.LineCounts.{executes_batch, batch_line_fault, batch_line_in_turn}
 use Rattle.mldsa_engine.proofs.answers.execute.Goals as goal
 
 pub returns-in_err-lines-clause-line_fault : goal.returns-in_err-lines-clause-line_fault

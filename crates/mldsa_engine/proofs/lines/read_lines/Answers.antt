@@ -1,6 +1,6 @@
-use Rattle.std.proofs.Common.{◌≡◌, ◌+◌, ℕ, rules}
+use Rattle.std.proofs.Common.{rules}
 use Rattle.mldsa_engine.specs.Lines.{IsLineFault, FaultOfLines, InTurn}
-use Rattle.mldsa_engine.proofs.LinesInSequence.{no_lines, next_line, fault_at, in_turn_at}
+use Rattle.mldsa_engine.proofs.LinesInSequence.{next_line, fault_at, in_turn_at}
 use Rattle.mldsa_engine.proofs.lines.read_lines.Goals as goal
 
 pub loop-length-init : goal.loop-length-init
