@@ -1,3 +1,4 @@
 pub mod ToyHash
 pub mod ToyStreams
-pub mod Manifest
+pub mod Licence
+pub mod SameSignature

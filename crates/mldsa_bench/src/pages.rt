@@ -1,0 +1,4 @@
+//! Programs that users build over the library, to be copied.
+#![tactic(auto)]
+
+pub mod licence;
