@@ -1,4 +1,5 @@
 pub mod ToyHash
 pub mod ToyStreams
 pub mod Licence
+pub mod Pieces
 pub mod SameSignature

@@ -1,4 +1,6 @@
 //! Programs that users build over the library, to be copied.
 #![tactic(auto)]
 
+pub mod generators;
 pub mod licence;
+pub mod pieces;
