@@ -2,5 +2,6 @@
 #![tactic(auto)]
 
 pub mod generators;
+pub mod key_store;
 pub mod licence;
 pub mod pieces;
