@@ -20,7 +20,7 @@ abbrev pub LoadsAs : List ℕ → Result PrivateParts LoadFault → Type 0
 LoadsAs file answer = MatchResult answer
     (λ key. (file_fault file ≡ None) × IsPrivateKeyOf 2 4 4 (drop 2 file) key)
     (λ fault. (file_fault file ≡ Some fault)
-        ⊎ ((file_fault file ≡ None) × (fault ≡ WrongRange) × ((key : PrivateParts) → IsPrivateKeyOf 2 4 4 (drop 2 file) key → ⊥)))
+    ⊎ ((file_fault file ≡ None) × (fault ≡ WrongRange) × ((key : PrivateParts) → IsPrivateKeyOf 2 4 4 (drop 2 file) key → ⊥)))
 
 -- what is loaded from the file of a key in range is that key
 abbrev pub LoadsStored : Type 0

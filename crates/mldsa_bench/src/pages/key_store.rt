@@ -1,4 +1,6 @@
 //! A key store: a file has a byte of the version, a byte of the set, and the bytes of a private key.
+//!
+//! A body that the contracts refuse: a header that is not looked at.
 #![tactic(auto)]
 
 ghost use Rattle.std.specs.Prelude.{◌≡◌};
