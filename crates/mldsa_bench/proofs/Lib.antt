@@ -1,1 +1,4 @@
-mod SignedFiles
+mod Joined
+mod KeyFiles
+mod Licences
+mod SameSignature

@@ -36,6 +36,7 @@ mod longer_fronts;
 mod manifest;
 #[cfg(test)]
 mod object_identifiers;
+pub mod pages;
 #[cfg(test)]
 mod prepared;
 #[cfg(test)]
