@@ -33,8 +33,6 @@ mod limits;
 #[cfg(test)]
 mod longer_fronts;
 #[cfg(test)]
-mod manifest;
-#[cfg(test)]
 mod object_identifiers;
 pub mod pages;
 #[cfg(test)]
@@ -84,9 +82,3 @@ mod slow_hints;
 mod stream_limits;
 #[cfg(test)]
 mod streams;
-#[cfg(test)]
-mod toy_hash;
-#[cfg(test)]
-mod toy_stream;
-#[cfg(test)]
-mod using;

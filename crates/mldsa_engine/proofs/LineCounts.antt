@@ -92,9 +92,11 @@ executes_batch items text success H G p given mid left lines first second third 
     let (pk, is, (entries, fits, later, each)) = judged in
     let three = three_counted items (Some (public_key_length p)) None (Some 2) lines first second third fit p0 p1 p2 in
     let front = rw (three, ← e0, ← e1, ← e2) at taken in
-    let long = AllFit-length (entry_lines (signature_length p) count) entries fits ∙ two_each (signature_length p) count in
-    (k ∷ c ∷ t ∷ entries, batch_taken p given mid left (k ∷ c ∷ t ∷ []) entries count front said later,
-    (k, c, t, (entries, refl, long ∙ ap (λ n. 2 * n) said, (pk, is, each))))
+    let long = AllFit-length (entry_lines (signature_length p) count) entries fits ∙ two_each (signature_length p) count in (
+      k ∷ c ∷ t ∷ entries,
+      batch_taken p given mid left (k ∷ c ∷ t ∷ []) entries count front said later,
+      (k, c, t, (entries, refl, long ∙ ap (λ n. 2 * n) said, (pk, is, each))),
+    )
 
 -- the fault of a line of a batch's entries is that of the batch
 pub batch_line_fault : {V W : Type 0} (items : V → List ℕ) (p : ParameterSet) (given mid : Option (List ℕ)) (lines : List V) (first second third : V)

@@ -175,7 +175,7 @@ next_line items first number wanted index old mid new lines all line within numb
     rw (front, many) (
       AllFit-append (take index wanted) this (map items lines) (items line ∷ []) fit (fits, tt),
       takes_more first number (take index wanted) this old mid new (map items lines) (items line ∷ [])
-      (numbered_on first number wanted index within numbered) taken takes,
+          (numbered_on first number wanted index within numbered) taken takes,
     )
 
 -- the wanted lines, of which one is the next

@@ -34,15 +34,19 @@ answers_next accepts entries answers signature message answer now (size, each) =
             let zeroth : entry ≡ length answers + 0 = omega (arith, same) in
             let first : 2 * entry ≡ length entries + 0 = omega (arith, same, size) in
             let second : 2 * entry + 1 ≡ length entries + 1 = omega (arith, same, size) in
-            rw (ap (λ n. get_or (answers ++ answer ∷ []) n false) zeroth ∙ get_or-append-add answers (answer ∷ []) 0 false,
-            ap (λ n. get_or (entries ++ more) n []) first ∙ get_or-append-add entries more 0 [],
-            ap (λ n. get_or (entries ++ more) n []) second ∙ get_or-append-add entries more 1 [])
+            rw (
+              ap (λ n. get_or (answers ++ answer ∷ []) n false) zeroth ∙ get_or-append-add answers (answer ∷ []) 0 false,
+              ap (λ n. get_or (entries ++ more) n []) first ∙ get_or-append-add entries more 0 [],
+              ap (λ n. get_or (entries ++ more) n []) second ∙ get_or-append-add entries more 1 [],
+            )
             now
         | inr other ↦
             let earlier : entry < last = omega (arith, within, other, counted) in
-            rw (get_or_append_left answers (answer ∷ []) false entry earlier,
-            get_or_append_left entries more [] (2 * entry) (omega (arith, size, earlier)),
-            get_or_append_left entries more [] (2 * entry + 1) (omega (arith, size, earlier)))
+            rw (
+              get_or_append_left answers (answer ∷ []) false entry earlier,
+              get_or_append_left entries more [] (2 * entry) (omega (arith, size, earlier)),
+              get_or_append_left entries more [] (2 * entry + 1) (omega (arith, size, earlier)),
+            )
             (each entry earlier)
       ],
     )
@@ -52,8 +56,8 @@ told_next : (answers : List Bool) (answer : Bool) (old new : List ℕ) (all next
     → (IsTrue next ↔ IsTrue all × IsTrue answer) → TellsAll answers old all → TellsAll (answers ++ answer ∷ []) new next
 told_next answers answer old new all next grown both tells = (
   grown ∙ ap (λ l. l ++ (answer_word answer ++ 10 ∷ [])) tells.0
-  ∙ flat_map_more (λ line. line ++ 10 ∷ []) [] (map answer_word answers) (answer_word answer)
-  ∙ ap text (sym (map-append answer_word answers (answer ∷ []))),
+      ∙ flat_map_more (λ line. line ++ 10 ∷ []) [] (map answer_word answers) (answer_word answer)
+      ∙ ap text (sym (map-append answer_word answers (answer ∷ []))),
   (
     λ t. All-push IsTrue answers answer (tells.1.0 (both.0 t).0) (both.0 t).1,
     λ h. let split = All-pop IsTrue (answers ++ answer ∷ []) answers (Some answer) refl h in both.1 (tells.1.1 split.0, split.1),
@@ -76,7 +80,9 @@ judges_next items accepts size entry number old mid new (a ∷ []) first second 
 judges_next items accepts size entry number old mid new (a ∷ b ∷ []) first second before after all next answer s m numbered fit takes is is' e e' now grown both (entries, fits, taken, (answers, each, tells)) =
     let further = next_entry size entry number old mid new entries (items a ∷ items b ∷ []) numbered fits taken fit takes in
     let now' : IsTrue answer ↔ accepts (items a) (items b) = rw (← is, ← is', ← e, ← e') now in (
-      entries ++ items a ∷ items b ∷ [], further.0, further.1,
+      entries ++ items a ∷ items b ∷ [],
+      further.0,
+      further.1,
       (answers ++ answer ∷ [], answers_next accepts entries answers (items a) (items b) answer now' each, told_next answers answer before after all next grown both tells),
     )
 judges_next items accepts size entry number old mid new (a ∷ b ∷ c ∷ more) first second before after all next answer s m numbered fit takes is is' e e' now grown both told = absurd fit.1.1

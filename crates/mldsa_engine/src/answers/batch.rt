@@ -119,7 +119,15 @@ where
 
 /// Judges the entries of a batch, as many as are counted, by a prepared key: reads the two lines of an entry, and keeps of
 /// it the verdict alone.
-fn judge_entries<S, const K: usize, const L: usize, const N: usize, const SIG_LEN: usize, H: Xof, I: Read>(
+fn judge_entries<
+    S,
+    const K: usize,
+    const L: usize,
+    const N: usize,
+    const SIG_LEN: usize,
+    H: Xof,
+    I: Read,
+>(
     alloc: Global,
     key: &Result<PreparedPublicKey<K, L, H>, Fault>,
     context: &[u8],

@@ -37,10 +37,15 @@ pub(super) fn identify<H: Xof, G: Xof>(
 ///
 /// Not inlined, so that the key of one set alone stands in the stack.
 #[inline(never)]
-fn identify_key<S, const K: usize, const L: usize, const PK_LEN: usize, const SK_LEN: usize, H: Xof, G: Xof>(
-    alloc: Global,
-    key: &[u8],
-) -> Result<Output, RunFault>
+fn identify_key<
+    S,
+    const K: usize,
+    const L: usize,
+    const PK_LEN: usize,
+    const SK_LEN: usize,
+    H: Xof,
+    G: Xof,
+>(alloc: Global, key: &[u8]) -> Result<Output, RunFault>
 where
     Matrix<K, L>: HasSet<Set = S>,
     S: Set<PublicKey = [u8; PK_LEN], PrivateKey = [u8; SK_LEN]> + KeySizes<K, L, PK_LEN, SK_LEN>,

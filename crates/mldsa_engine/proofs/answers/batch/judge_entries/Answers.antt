@@ -30,8 +30,10 @@ returns-in_err-lines-clause-in_turn g c =
 pub loop-entry-preserved : goal.loop-entry-preserved
 loop-entry-preserved g c =
     let accepts : List ℕ → List ℕ → Type 0 = λ signature message. AcceptsIfPrepared g.S.Set.set g.H.Xof.front c.args.key.now message signature c.args.context.now in
-    let signature = c.array_of-signature.ensures ∙ c.as_slice.ensures.value in
-    (search rules, judges_next (λ line. line.items) accepts _ c.loop-entry.entry _ _ _ _ c.in_ok-lines.lines.items _ _ _ _ _ _ c.is_accepted-accepted.result _ _
-    (search rules) c.in_ok-lines.ensures.fit c.in_ok-lines.ensures.taken c.index.ensures c.index-in-loop-entry.ensures
-    signature c.as_slice-message.ensures.value c.is_accepted-accepted.ensures
-    c.in_ok-add_answer.ensures.text c.in_ok-add_answer.ensures.success c.loop-entry.invariant.1)
+    let signature = c.array_of-signature.ensures ∙ c.as_slice.ensures.value in (
+      search rules,
+      judges_next (λ line. line.items) accepts _ c.loop-entry.entry _ _ _ _ c.in_ok-lines.lines.items _ _ _ _ _ _ c.is_accepted-accepted.result _ _
+          (search rules) c.in_ok-lines.ensures.fit c.in_ok-lines.ensures.taken c.index.ensures c.index-in-loop-entry.ensures
+          signature c.as_slice-message.ensures.value c.is_accepted-accepted.ensures
+          c.in_ok-add_answer.ensures.text c.in_ok-add_answer.ensures.success c.loop-entry.invariant.1,
+    )

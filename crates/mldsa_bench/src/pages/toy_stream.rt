@@ -8,7 +8,7 @@ ghost use Rattle.std.proofs.Common.{rules};
 ghost use Rattle.mldsa_bench.specs.ToyHash.{toy_hash, length-toy_hash};
 ghost use Rattle.mldsa_bench.specs.ToyStreams.{counter_front, length-counter_front, spread_front, length-spread_front};
 
-use crate::toy_hash::{digest, state_of};
+use super::toy_hash::{digest, state_of};
 use fips204::ml_dsa_44::KG;
 use fips204::traits::pairwise_check;
 use fips204::xof::{BlockHash, BlockReader, FrontReader, Xof, XofReader};

@@ -1,5 +1,5 @@
 use Rattle.mldsa_bench.proofs.SameSignature.{two_messages}
-use Rattle.mldsa_bench.proofs.manifest.accepted_for_both.Goals as goal
+use Rattle.mldsa_bench.proofs.pages.manifest.accepted_for_both.Goals as goal
 
 pub returns-then-verify : goal.returns-then-verify
 returns-then-verify g c both differ =

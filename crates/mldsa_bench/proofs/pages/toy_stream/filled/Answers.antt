@@ -3,7 +3,7 @@ use Rattle.std.specs.List.{flat_map}
 use Rattle.std.proofs.lemmas.List.FromFn.{fill_by_all}
 use Rattle.mldsa_bench.specs.ToyHash.{toy_state}
 use Rattle.mldsa_bench.specs.ToyStreams.{spread_byte, spread_front}
-use Rattle.mldsa_bench.proofs.toy_stream.filled.Goals as goal
+use Rattle.mldsa_bench.proofs.pages.toy_stream.filled.Goals as goal
 
 pub returns : goal.returns
 unfolding spread_front

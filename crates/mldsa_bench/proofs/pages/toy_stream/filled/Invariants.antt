@@ -2,7 +2,7 @@ use Rattle.std.proofs.Common.{ℕ, ◌≡◌, ◌<◌, get_or, length}
 use Rattle.std.specs.List.{flat_map}
 use Rattle.mldsa_bench.specs.ToyHash.{toy_state}
 use Rattle.mldsa_bench.specs.ToyStreams.{spread_byte}
-use Rattle.mldsa_bench.proofs.toy_stream.filled.Given as goal
+use Rattle.mldsa_bench.proofs.pages.toy_stream.filled.Given as goal
 
 abbrev pub invariant-loop-place : goal.invariant-loop-place
 invariant-loop-place l = record {
