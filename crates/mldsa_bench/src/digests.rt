@@ -9,6 +9,7 @@ use fips204::xof::Fill;
 use fips204::{Fault, check_pre_hash, ml_dsa_44};
 use std::test::Fail;
 
+/// The twelve object identifiers, byte for byte, and the lengths of their digests.
 #[test]
 fn identifiers_and_lengths(rt: HostRuntime) -> Result<(), Fail> {
     for (identifier, last, length) in [
@@ -35,6 +36,7 @@ fn identifiers_and_lengths(rt: HostRuntime) -> Result<(), Fail> {
     Ok(())
 }
 
+/// Each error of `check_pre_hash` by itself and in its order; digests of 0, 31, 33, 1024 and 1025 bytes.
 #[test]
 fn digests_that_are_refused(rt: HostRuntime) -> Result<(), Fail> {
     let sha256 = oid(0x01);
@@ -63,6 +65,7 @@ fn digests_that_are_refused(rt: HostRuntime) -> Result<(), Fail> {
     Ok(())
 }
 
+/// Object identifiers of 3, 129 and 130 bytes.
 #[test]
 fn longest_identifiers(rt: HostRuntime) -> Result<(), Fail> {
     assert!(rt; check_pre_hash(&[], &longest_oid()) == Ok(()));
@@ -83,6 +86,7 @@ fn is_verified(digest: &[u8], ctx: &[u8], identifier: &[u8]) -> Result<bool, Fau
     Ok(public.hash_verify(digest, &signature_44(), ctx, identifier))
 }
 
+/// A signed digest of set 44 over constant streams, and what accepts it.
 #[test]
 fn digests_that_are_signed(rt: HostRuntime) -> Result<(), Fail> {
     assert!(rt; is_signed(&[9; 32], &[], &oid(0x01))?);
@@ -94,6 +98,7 @@ fn digests_that_are_signed(rt: HostRuntime) -> Result<(), Fail> {
     Ok(())
 }
 
+/// Digests that break a condition are refused by signing, and rejected by verifying.
 #[test]
 fn digests_that_are_not_signed(rt: HostRuntime) -> Result<(), Fail> {
     let private = ml_dsa_44::PrivateKey::<Fill<0x55>, Fill<0>>::try_from_bytes(private_44())?;

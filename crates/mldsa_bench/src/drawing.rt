@@ -48,6 +48,7 @@ fn drawn_hash(rng: &mut Listed, hedged: bool) -> Result<bool, Fault> {
     Ok(key.sign_mu(rng, &[0; 64], hedged)? == signature_44())
 }
 
+/// A generator that fails for a pair: the error of that call, and the next call succeeds.
 #[test]
 fn generators_that_refuse_a_pair(rt: HostRuntime) {
     let mut rng = Listed {
@@ -61,6 +62,7 @@ fn generators_that_refuse_a_pair(rt: HostRuntime) {
     assert!(rt; answer.err() == Some(Fault::KeyGenRng));
 }
 
+/// A generator that fails for a signature: the error of that call, and the next call succeeds.
 #[test]
 fn generators_that_refuse_a_signature(rt: HostRuntime) {
     let mut rng = Listed {
@@ -72,6 +74,7 @@ fn generators_that_refuse_a_signature(rt: HostRuntime) {
     assert!(rt; rng.answers.len() == 0);
 }
 
+/// A generator that fails for a signed digest: the error of that call, and the next call succeeds.
 #[test]
 fn generators_that_refuse_a_signed_digest(rt: HostRuntime) {
     let mut rng = Listed {
@@ -83,6 +86,7 @@ fn generators_that_refuse_a_signed_digest(rt: HostRuntime) {
     assert!(rt; rng.answers.len() == 0);
 }
 
+/// A generator that fails for a hook: the error of that call, and the next call succeeds.
 #[test]
 fn generators_that_refuse_a_hook(rt: HostRuntime) {
     let mut rng = Listed {
@@ -95,6 +99,7 @@ fn generators_that_refuse_a_hook(rt: HostRuntime) {
     assert!(rt; rng.answers.len() == 0);
 }
 
+/// Hooks without `hedged` do not ask the generator.
 #[test]
 fn hooks_that_draw_nothing(rt: HostRuntime) -> Result<(), Fail> {
     let mut rng = Listed { answers: &[None] };
@@ -107,6 +112,7 @@ fn hooks_that_draw_nothing(rt: HostRuntime) -> Result<(), Fail> {
     Ok(())
 }
 
+/// For a context of 256 bytes or an empty identifier the generator is not asked.
 #[test]
 fn refusals_before_the_generator(rt: HostRuntime) {
     let mut rng = Listed { answers: &[None] };
@@ -126,6 +132,7 @@ fn refused_and_left(out: &mut [u8]) -> bool {
     answer.is_err() && out.iter().all(|byte| *byte == 0x11) && bytes == [7; 32]
 }
 
+/// `DummyRng` asked for 0, 31, 32 and 33 bytes.
 #[test]
 fn generator_of_one_seed(rt: HostRuntime) -> Result<(), Fail> {
     assert!(rt; refused_and_left(&mut [0; 0]));
@@ -161,6 +168,8 @@ fn hooks_take(
         && public.verify_internal(framed, signature)
 }
 
+/// The framed message `00 02 61 62 63`, and the 47 bytes of a framed digest, by the hooks over the counter
+/// streams.
 #[test]
 fn hooks_take_framed_messages(rt: HostRuntime) -> Result<(), Fail> {
     let (public, private) = ml_dsa_44::KG::<Sha256Ctr, Sha512Ctr>::keygen_from_seed(&[0; 32])?;

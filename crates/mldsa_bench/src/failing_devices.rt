@@ -152,6 +152,9 @@ fn first_wrong(alloc: Global, run: Run) -> Result<[Option<usize>; 3], AllocError
     ])
 }
 
+/// `id` at set 44 with devices of one byte a call, which fail at each call in turn (of long inputs and
+/// outputs at a choice of calls), and with the input ended there: the fault, with nothing written, or the
+/// bytes of the calls before a failed write.
 #[test]
 fn failing_devices_of_id(rt: HostRuntime) -> Result<(), Fail> {
     let key = public_44();
@@ -167,6 +170,9 @@ fn failing_devices_of_id(rt: HostRuntime) -> Result<(), Fail> {
     Ok(())
 }
 
+/// `keygen` at set 44 with devices of one byte a call, which fail at each call in turn (of long inputs and
+/// outputs at a choice of calls), and with the input ended there: the fault, with nothing written, or the
+/// bytes of the calls before a failed write.
 #[test]
 fn failing_devices_of_keygen(rt: HostRuntime) -> Result<(), Fail> {
     let written = hex_lines(rt.alloc(), &[&public_44(), &private_44()])?;
@@ -181,6 +187,9 @@ fn failing_devices_of_keygen(rt: HostRuntime) -> Result<(), Fail> {
     Ok(())
 }
 
+/// `sign` at set 44 with devices of one byte a call, which fail at each call in turn (of long inputs and
+/// outputs at a choice of calls), and with the input ended there: the fault, with nothing written, or the
+/// bytes of the calls before a failed write.
 #[test]
 fn failing_devices_of_sign(rt: HostRuntime) -> Result<(), Fail> {
     let key = private_44();
@@ -196,6 +205,9 @@ fn failing_devices_of_sign(rt: HostRuntime) -> Result<(), Fail> {
     Ok(())
 }
 
+/// `verify` at set 44 with devices of one byte a call, which fail at each call in turn (of long inputs and
+/// outputs at a choice of calls), and with the input ended there: the fault, with nothing written, or the
+/// bytes of the calls before a failed write.
 #[test]
 fn failing_devices_of_verify(rt: HostRuntime) -> Result<(), Fail> {
     let (key, signature) = (public_44(), signature_44());
@@ -210,6 +222,9 @@ fn failing_devices_of_verify(rt: HostRuntime) -> Result<(), Fail> {
     Ok(())
 }
 
+/// `check` at set 44 with devices of one byte a call, which fail at each call in turn (of long inputs and
+/// outputs at a choice of calls), and with the input ended there: the fault, with nothing written, or the
+/// bytes of the calls before a failed write.
 #[test]
 fn failing_devices_of_check(rt: HostRuntime) -> Result<(), Fail> {
     let run = Run {
@@ -223,6 +238,9 @@ fn failing_devices_of_check(rt: HostRuntime) -> Result<(), Fail> {
     Ok(())
 }
 
+/// `batch` at set 44 with devices of one byte a call, which fail at each call in turn (of long inputs and
+/// outputs at a choice of calls), and with the input ended there: the fault, with nothing written, or the
+/// bytes of the calls before a failed write.
 #[test]
 fn failing_devices_of_batch(rt: HostRuntime) -> Result<(), Fail> {
     let (key, good, bad) = (public_44(), signature_44(), refused_44());

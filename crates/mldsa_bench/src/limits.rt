@@ -26,6 +26,7 @@ fn pair_fault<K: KeyGen<PublicKey = P, PrivateKey = S>, P: Drop, S: Drop>() -> O
     K::keygen_from_seed(&[0; 32]).err()
 }
 
+/// Key generation with `G`, or `H`, of bytes FF returns `SamplingLimit`.
 #[test]
 fn key_generation_past_limits(rt: HostRuntime) {
     let limit = Some(Fault::SamplingLimit);
@@ -44,6 +45,7 @@ fn derived_fault<
     Ok(S::try_from_bytes(private)?.get_public_key().err())
 }
 
+/// Past that limit each call returns `SamplingLimit`, also `prepare`, and verifying returns false.
 #[test]
 fn keys_whose_matrix_passes_its_limit(rt: HostRuntime) -> Result<(), Fail> {
     let limit = Some(Fault::SamplingLimit);
@@ -73,6 +75,7 @@ fn accepts<
     Ok(P::try_from_bytes(public)?.verify(b"abc", &signature, &[]))
 }
 
+/// Verifying returns false where matrix or challenge reach their limit.
 #[test]
 fn verifying_past_limits(rt: HostRuntime) -> Result<(), Fail> {
     assert!(rt;
@@ -104,6 +107,7 @@ fn signing_fault<
     Ok(key.try_sign_with_seed(&[0; 32], b"abc", &[]).err())
 }
 
+/// Both streams of bytes 00, each set: `TooManyAttempts`, with plain and prepared keys.
 #[test]
 fn keys_that_never_sign(rt: HostRuntime) -> Result<(), Fail> {
     let many = Some(Fault::TooManyAttempts);
@@ -138,6 +142,7 @@ fn put_low_part(key: &mut [u8; 2560], place: usize, field: u32)
     }
 }
 
+/// A key of set 44 with another t0, whose product with the challenge is too large: `TooManyAttempts`.
 #[test]
 fn low_parts_that_never_sign(rt: HostRuntime) -> Result<(), Fail> {
     let key = ml_dsa_44::PrivateKey::<Fill<0x55>, Fill<0>>::try_from_bytes(with_low_parts())?;

@@ -151,6 +151,8 @@ fn verdicts_44(
     ]
 }
 
+/// Every call of prepared keys of set 44 over constant streams; contexts of 255 and 256 bytes; digests of 31
+/// bytes.
 #[test]
 fn prepared_keys_of_set_44_over_constant_streams(rt: HostRuntime) -> Result<(), Fail> {
     let private = ml_dsa_44::PrivateKey::<Fill<0x55>, Fill<0>>::try_from_bytes(private_44())?;
@@ -241,6 +243,8 @@ fn signs_recorded_44(
     Ok(same && verdicts == [true, false])
 }
 
+/// Lists of 0, 1 and 5 messages under prepared keys of set 44, entry by entry as single calls; one changed
+/// signature; a context of 256 bytes.
 #[test]
 fn many_messages_of_set_44(rt: HostRuntime) -> Result<(), Fail> {
     let (public, private) = ml_dsa_44::KG::<Sha256Ctr, Sha512Ctr>::keygen_from_seed(&[0; 32])?;
@@ -272,6 +276,7 @@ fn accepts_over_44<G: Xof>() -> Result<bool, Fault> {
     Ok(key.verify(b"abc", &signature_44(), &[]))
 }
 
+/// `prepare` at set 44 fails without a matrix, and succeeds if the matrix uses its last triple.
 #[test]
 fn keys_of_set_44_without_a_matrix(rt: HostRuntime) {
     let limit = Err(Fault::SamplingLimit);
@@ -338,6 +343,8 @@ fn verdicts_65(
     ]
 }
 
+/// Every call of prepared keys of set 65 over constant streams; contexts of 255 and 256 bytes; digests of 31
+/// bytes.
 #[test]
 fn prepared_keys_of_set_65_over_constant_streams(rt: HostRuntime) -> Result<(), Fail> {
     let private = ml_dsa_65::PrivateKey::<Fill<0x55>, Fill<0>>::try_from_bytes(private_65())?;
@@ -428,6 +435,8 @@ fn signs_recorded_65(
     Ok(same && verdicts == [true, false])
 }
 
+/// Lists of 0, 1 and 5 messages under prepared keys of set 65, entry by entry as single calls; one changed
+/// signature; a context of 256 bytes.
 #[test]
 fn many_messages_of_set_65(rt: HostRuntime) -> Result<(), Fail> {
     let (public, private) = ml_dsa_65::KG::<Sha256Ctr, Sha512Ctr>::keygen_from_seed(&[0; 32])?;
@@ -459,6 +468,7 @@ fn accepts_over_65<G: Xof>() -> Result<bool, Fault> {
     Ok(key.verify(b"abc", &signature_65(), &[]))
 }
 
+/// `prepare` at set 65 fails without a matrix, and succeeds if the matrix uses its last triple.
 #[test]
 fn keys_of_set_65_without_a_matrix(rt: HostRuntime) {
     let limit = Err(Fault::SamplingLimit);
@@ -525,6 +535,8 @@ fn verdicts_87(
     ]
 }
 
+/// Every call of prepared keys of set 87 over constant streams; contexts of 255 and 256 bytes; digests of 31
+/// bytes.
 #[test]
 fn prepared_keys_of_set_87_over_constant_streams(rt: HostRuntime) -> Result<(), Fail> {
     let private = ml_dsa_87::PrivateKey::<Fill<0x55>, Fill<0>>::try_from_bytes(private_87())?;
@@ -615,6 +627,8 @@ fn signs_recorded_87(
     Ok(same && verdicts == [true, false])
 }
 
+/// Lists of 0, 1 and 5 messages under prepared keys of set 87, entry by entry as single calls; one changed
+/// signature; a context of 256 bytes.
 #[test]
 fn many_messages_of_set_87(rt: HostRuntime) -> Result<(), Fail> {
     let (public, private) = ml_dsa_87::KG::<Sha256Ctr, Sha512Ctr>::keygen_from_seed(&[0; 32])?;
@@ -646,6 +660,7 @@ fn accepts_over_87<G: Xof>() -> Result<bool, Fault> {
     Ok(key.verify(b"abc", &signature_87(), &[]))
 }
 
+/// `prepare` at set 87 fails without a matrix, and succeeds if the matrix uses its last triple.
 #[test]
 fn keys_of_set_87_without_a_matrix(rt: HostRuntime) {
     let limit = Err(Fault::SamplingLimit);

@@ -78,6 +78,8 @@ pub fn first_wrong_cut(
     Ok(None)
 }
 
+/// An input of set 44 cut after each of its bytes: the first fault of its lines, with nothing written, or
+/// the output of the whole input.
 #[test]
 fn keys_that_are_cut(rt: HostRuntime) -> Result<(), Fail> {
     let key = public_44();
@@ -93,6 +95,8 @@ fn keys_that_are_cut(rt: HostRuntime) -> Result<(), Fail> {
     Ok(())
 }
 
+/// An input of set 44 cut after each of its bytes: the first fault of its lines, with nothing written, or
+/// the output of the whole input.
 #[test]
 fn inputs_of_signing_that_are_cut(rt: HostRuntime) -> Result<(), Fail> {
     let written = hex_lines(rt.alloc(), &[&signature_44()])?;
@@ -107,6 +111,8 @@ fn inputs_of_signing_that_are_cut(rt: HostRuntime) -> Result<(), Fail> {
     Ok(())
 }
 
+/// An input of set 44 cut after each of its bytes: the first fault of its lines, with nothing written, or
+/// the output of the whole input.
 #[test]
 fn inputs_of_verifying_that_are_cut(rt: HostRuntime) -> Result<(), Fail> {
     let wrong = first_wrong_cut(
@@ -120,6 +126,8 @@ fn inputs_of_verifying_that_are_cut(rt: HostRuntime) -> Result<(), Fail> {
     Ok(())
 }
 
+/// An input of set 44 cut after each of its bytes: the first fault of its lines, with nothing written, or
+/// the output of the whole input.
 #[test]
 fn inputs_of_checking_that_are_cut(rt: HostRuntime) -> Result<(), Fail> {
     let wrong = first_wrong_cut(

@@ -30,6 +30,8 @@ fn signs_as(
     ))
 }
 
+/// Byte 128 of a private key is 05, with a context of 256 bytes: the error of the key; without the last
+/// line, `line 4: missing`.
 #[test]
 fn key_out_of_range_before_a_long_context(rt: HostRuntime) -> Result<(), Fail> {
     let text = b"Alg 25: s1 or s2 out of range\n";
@@ -39,6 +41,7 @@ fn key_out_of_range_before_a_long_context(rt: HostRuntime) -> Result<(), Fail> {
     Ok(())
 }
 
+/// Byte 128 is 04: the error of the context, and with an empty context the signature, byte for byte.
 #[test]
 fn key_at_the_end_of_its_range(rt: HostRuntime) -> Result<(), Fail> {
     let text = b"ML-DSA.Sign: ctx too long\n";
@@ -49,6 +52,8 @@ fn key_at_the_end_of_its_range(rt: HostRuntime) -> Result<(), Fail> {
     Ok(())
 }
 
+/// 2097153 characters are `too long`, digits or not; 2097152 are `not hex`, or `wants 1312 bytes, has
+/// 1048576`.
 #[test]
 fn lines_at_the_longest(rt: HostRuntime) -> Result<(), Fail> {
     let length = RunFault::Length {
@@ -68,6 +73,7 @@ fn lines_at_the_longest(rt: HostRuntime) -> Result<(), Fail> {
     Ok(())
 }
 
+/// A carriage return after a key is `not hex`.
 #[test]
 fn carriage_return_after_a_key(rt: HostRuntime) -> Result<(), Fail> {
     let mut line = vec![in rt.alloc(); b'0'; 2624]?;

@@ -101,18 +101,24 @@ pub fn is_recorded_87<H: Xof, G: Xof>(alloc: Global) -> Result<bool, Fail> {
     >(alloc, RECORDED[2])
 }
 
+/// Key pair and signature of set 44 over the counter streams, byte for byte; another message, context or bit
+/// is rejected.
 #[test]
 fn bytes_of_set_44(rt: HostRuntime) -> Result<(), Fail> {
     assert!(rt; is_recorded_44::<Sha256Ctr, Sha512Ctr>(rt.alloc())?);
     Ok(())
 }
 
+/// Key pair and signature of set 65 over the counter streams, byte for byte; another message, context or bit
+/// is rejected.
 #[test]
 fn bytes_of_set_65(rt: HostRuntime) -> Result<(), Fail> {
     assert!(rt; is_recorded_65::<Sha256Ctr, Sha512Ctr>(rt.alloc())?);
     Ok(())
 }
 
+/// Key pair and signature of set 87 over the counter streams, byte for byte; another message, context or bit
+/// is rejected.
 #[test]
 fn bytes_of_set_87(rt: HostRuntime) -> Result<(), Fail> {
     assert!(rt; is_recorded_87::<Sha256Ctr, Sha512Ctr>(rt.alloc())?);
@@ -136,6 +142,7 @@ fn signs_digest<
     Ok(accepted && has_digest(alloc, &signature, digest)?)
 }
 
+/// Signed digests at each set over the counter streams, by SHA-256 of the signature.
 #[test]
 fn signed_digests(rt: HostRuntime) -> Result<(), Fail> {
     let same = signs_digest::<

@@ -122,6 +122,8 @@ fn hooks_are_refused_44(call: u8, writes: bool, key: &Private44) -> bool {
     true
 }
 
+/// Generators of set 44 that fail at their first, second or third of four calls; the other calls sign as
+/// over constant streams.
 #[test]
 fn refusing_generators_of_set_44(rt: HostRuntime) -> Result<(), Fail> {
     let key = Private44::try_from_bytes(private_44())?;
@@ -176,6 +178,8 @@ fn hooks_are_refused_65(call: u8, writes: bool, key: &Private65) -> bool {
     true
 }
 
+/// Generators of set 65 that fail at their first, second or third of four calls; the other calls sign as
+/// over constant streams.
 #[test]
 fn refusing_generators_of_set_65(rt: HostRuntime) -> Result<(), Fail> {
     let key = Private65::try_from_bytes(private_65())?;
@@ -230,6 +234,8 @@ fn hooks_are_refused_87(call: u8, writes: bool, key: &Private87) -> bool {
     true
 }
 
+/// Generators of set 87 that fail at their first, second or third of four calls; the other calls sign as
+/// over constant streams.
 #[test]
 fn refusing_generators_of_set_87(rt: HostRuntime) -> Result<(), Fail> {
     let key = Private87::try_from_bytes(private_87())?;

@@ -17,6 +17,8 @@ type Private44 = ml_dsa_44::PrivateKey<Fill<0x55>, Fill<0>>;
 /// A public key of set 44.
 type Public44 = ml_dsa_44::PublicKey<Fill<0x55>, Fill<0>>;
 
+/// The signature of set 44 over constant streams, byte for byte, by every call of plain and prepared keys,
+/// with given and drawn bytes; contexts of 255 to 257 bytes; each condition on a digest.
 #[test]
 fn signature_of_set_44(rt: HostRuntime) -> Result<(), Fail> {
     let key = Private44::try_from_bytes(private_44())?;
@@ -28,6 +30,8 @@ fn signature_of_set_44(rt: HostRuntime) -> Result<(), Fail> {
     Ok(())
 }
 
+/// The signature of set 65 over constant streams, byte for byte, by every call of plain and prepared keys,
+/// with given and drawn bytes; contexts of 255 to 257 bytes; each condition on a digest.
 #[test]
 fn signature_of_set_65(rt: HostRuntime) -> Result<(), Fail> {
     let key = ml_dsa_65::PrivateKey::<Fill<0x55>, Fill<0>>::try_from_bytes(private_65())?;
@@ -37,6 +41,8 @@ fn signature_of_set_65(rt: HostRuntime) -> Result<(), Fail> {
     Ok(())
 }
 
+/// The signature of set 87 over constant streams, byte for byte, by every call of plain and prepared keys,
+/// with given and drawn bytes; contexts of 255 to 257 bytes; each condition on a digest.
 #[test]
 fn signature_of_set_87(rt: HostRuntime) -> Result<(), Fail> {
     let key = ml_dsa_87::PrivateKey::<Fill<0x55>, Fill<0>>::try_from_bytes(private_87())?;
@@ -46,6 +52,7 @@ fn signature_of_set_87(rt: HostRuntime) -> Result<(), Fail> {
     Ok(())
 }
 
+/// Contexts of 255 bytes are signed and verified, of 256 and 257 bytes refused.
 #[test]
 fn long_contexts(rt: HostRuntime) -> Result<(), Fail> {
     let key = Private44::try_from_bytes(private_44())?;
@@ -68,6 +75,8 @@ fn with_first_field(field: u32) -> [u8; 2420] {
     signature
 }
 
+/// The first field of z: 78 is rejected, 79 and 262065 accepted, 262066 rejected, by plain and prepared
+/// public keys.
 #[test]
 fn range_of_z(rt: HostRuntime) -> Result<(), Fail> {
     let key = Public44::try_from_bytes(public_44())?;
@@ -85,6 +94,8 @@ fn with_hint(places: &[u8], counts: [u8; 4]) -> [u8; 2420] {
     signature
 }
 
+/// Eight hint parts in one signature whose hash does not depend on them: accepted if and only if they spell
+/// a hint, by plain and prepared public keys.
 #[test]
 fn hints_of_signatures(rt: HostRuntime) -> Result<(), Fail> {
     let key = Public44::try_from_bytes(public_44())?;

@@ -90,6 +90,8 @@ fn answers_87<H: Xof, G: Xof>() -> Result<[Result<bool, Fault>; 4], Fault> {
     >(public_87(), private_87(), signature_87())
 }
 
+/// Every fourth triple 0 and the rest FF at each set: key generation, deriving, preparing, signing and
+/// verifying return what they return over constant streams.
 #[test]
 fn calls_whose_matrix_ends_at_its_last_triple(rt: HostRuntime) -> Result<(), Fail> {
     let all = [Ok(true); 4];
@@ -99,6 +101,7 @@ fn calls_whose_matrix_ends_at_its_last_triple(rt: HostRuntime) -> Result<(), Fai
     Ok(())
 }
 
+/// Past that limit each call returns `SamplingLimit`, also `prepare`, and verifying returns false.
 #[test]
 fn calls_whose_matrix_passes_its_limit(rt: HostRuntime) -> Result<(), Fail> {
     let limit = Err(Fault::SamplingLimit);
@@ -109,6 +112,8 @@ fn calls_whose_matrix_passes_its_limit(rt: HostRuntime) -> Result<(), Fail> {
     Ok(())
 }
 
+/// `H` of bytes FF over inputs of 32 bytes and else 55, set 44: the same keys, `SamplingLimit` in signing,
+/// and false, with plain and prepared keys.
 #[test]
 fn challenges_that_pass_their_limit(rt: HostRuntime) -> Result<(), Fail> {
     let limit = Err(Fault::SamplingLimit);
@@ -149,6 +154,8 @@ fn smallest_response<H: Xof>(gamma1: i64, tau: i32, eta: i32) -> Result<i64, Fau
     Ok(smallest)
 }
 
+/// `H` of bytes 00 over the masks of attempt 0 and else 55, set 44: that attempt is rejected, and attempt 1
+/// signs as over constant streams.
 #[test]
 fn first_attempts_that_are_rejected(rt: HostRuntime) -> Result<(), Fail> {
     assert!(rt; masks_are::<4, Chosen<ZerosOverFirstMasks>>(131072, 0, 131072));
@@ -158,6 +165,8 @@ fn first_attempts_that_are_rejected(rt: HostRuntime) -> Result<(), Fail> {
     Ok(())
 }
 
+/// Over bytes 00 every coefficient of the mask is gamma1, and the smallest response is 130998, 524100 and
+/// 524172 at the three sets.
 #[test]
 fn responses_over_zeros(rt: HostRuntime) -> Result<(), Fail> {
     assert!(rt; masks_are::<4, Fill<0>>(131072, 0, 131072));
@@ -172,6 +181,7 @@ fn responses_over_zeros(rt: HostRuntime) -> Result<(), Fail> {
     Ok(())
 }
 
+/// A product of challenge and t0 that is too large: 159724 at index 255, by double sums.
 #[test]
 fn challenge_times_large_low_parts(rt: HostRuntime) -> Result<(), Fail> {
     let R(c) = sample_in_ball::<Fill<0x55>>(39, &[0x55; 32])?;
