@@ -76,7 +76,7 @@ impl Residue for Noted {
 }
 
 /// 256 times this number.
-fn noted(number: i32) -> [Noted; 256]
+fn row_of(number: i32) -> [Noted; 256]
     requires { nat_abs number ≤ 8380416 }
     ensures { LanesWithin (λ x. x.number ∷ []) 1 8380416 result }
 {
@@ -97,6 +97,6 @@ fn largest_sum(row: [Noted; 256]) -> u32
 
 #[test]
 fn largest_sum_of_the_inverse_transform(rt: HostRuntime) {
-    assert_eq!(rt; largest_sum(noted(8380416)), 2145386496);
-    assert_eq!(rt; largest_sum(noted(-8380416)), 2145386496);
+    assert_eq!(rt; largest_sum(row_of(8380416)), 2145386496);
+    assert_eq!(rt; largest_sum(row_of(-8380416)), 2145386496);
 }

@@ -2,7 +2,7 @@ use Rattle.std.proofs.Common.{ℤ, ◌≤◌, ◌∷◌, [], nat_abs}
 use Rattle.std.proofs.lemmas.List.{get_or-replicate}
 use Rattle.std.proofs.lemmas.List.Elements.{All-replicate}
 use Rattle.fips204_base.proofs.Residues.{size_at}
-use Rattle.mldsa_bench.proofs.arithmetic.noted_sums.noted.Goals as goal
+use Rattle.mldsa_bench.proofs.arithmetic.noted_sums.row_of.Goals as goal
 
 pub returns : goal.returns
 returns c = λ i j d in_row in_width.
