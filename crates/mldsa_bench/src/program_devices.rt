@@ -6,7 +6,7 @@ ghost use Rattle.std.specs.Prelude.{◌<◌};
 use crate::devices::{Arguments, CountedReader, CountedWriter, KeptError};
 use crate::program::{answer_of, line_of, words};
 use crate::{recorded_44, recorded_65, recorded_87};
-use mldsa_engine::output::put;
+use mldsa_engine::output::write_all;
 use mldsa_engine::process::{self, end};
 use mldsa_engine::{Bytewise, Marked, RunFault};
 use std::alloc::{AllocError, Global};
@@ -418,7 +418,7 @@ fn is_put(alloc: Global, bytes: &[u8], fails_at: usize) -> bool {
         fails_at,
     });
     let fails = fails_at == 0 && !bytes.is_empty();
-    let failed = put(&mut output, bytes).is_err();
+    let failed = write_all(&mut output, bytes).is_err();
     let marked = output.failed();
     let writer = output.into_device();
     failed == fails

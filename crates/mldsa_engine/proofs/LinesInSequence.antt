@@ -1,8 +1,8 @@
 -- Wanted lines one after another.
-use Rattle.std.proofs.Common.{◌≡◌, ℕ, suc, ◌+◌, List, [], ◌∷◌, ◌++◌, length, Option, Some, None, Result, Ok, Err, IfOk, MatchResult, refl, sym, ap, ◌∙◌, arith, add-zero, append-nil, length-append, append_assoc, take, drop, map, get_or, ◌<◌, ◌≤◌, subst, take-append-drop}
-use Rattle.std.proofs.lemmas.List.{take_more, drop_more, length-map, map-append}
+use Rattle.std.proofs.Common.{◌≡◌, ℕ, suc, ◌+◌, List, [], ◌∷◌, ◌++◌, length, Option, Some, None, Result, Ok, Err, IfOk, MatchResult, refl, sym, ap, ◌∙◌, arith, add-zero, length-take-le, take, drop, map, get_or, ◌<◌, ◌≤◌, subst, take-append-drop}
+use Rattle.std.proofs.lemmas.List.{take_more, drop_more, map-append}
 use Rattle.mldsa_engine.specs.declared.fault.RunFault.{RunFault}
-use Rattle.mldsa_engine.specs.Lines.{longest_line, line_reach, first_line, after_line, after_lines, line_bytes, before_lines, lines_bytes, Fits, AllFit, AddsLines, LeavesAllBut, TakesLine, TakesLines, FaultOfLines, StopsInTurn, InTurn, judged}
+use Rattle.mldsa_engine.specs.Lines.{longest_line, line_reach, first_line, after_line, after_lines, line_bytes, before_lines, lines_bytes, Fits, AllFit, LeavesAllBut, TakesLine, TakesLines, FaultOfLines, StopsInTurn, InTurn, judged}
 use Rattle.mldsa_engine.proofs.Judging.{judged_digits}
 
 -- the lines of one part of an input, and then those of the next, or the first fault among them
@@ -152,54 +152,31 @@ AllFit-length [] (line ∷ lines) fit = absurd fit
 AllFit-length (want ∷ wanted) [] fit = absurd fit
 AllFit-length (want ∷ wanted) (line ∷ lines) fit = ap suc (AllFit-length wanted lines fit.1)
 
--- no line was added
-pub adds_none : (given : Option (List ℕ)) (lines : List (List ℕ)) → AddsLines [] given given lines lines
-adds_none None lines = ([], sym (append-nil lines), tt, tt)
-adds_none (Some input) lines = ([], sym (append-nil lines), tt, (refl, refl))
+-- no line was taken
+pub no_lines : (first : ℕ) (given : Option (List ℕ)) → TakesLines first [] given given []
+no_lines first None = tt
+no_lines first (Some input) = (refl, refl)
 
--- lines that were added to all that were read are all of them
-pub adds_all : (wanted : List (Option ℕ)) (old new : Option (List ℕ)) (lines : List (List ℕ)) → AddsLines wanted old new [] lines
-    → AllFit wanted lines × TakesLines 1 wanted old new lines
-adds_all wanted old new lines p = (subst (λ l. AllFit wanted l) (sym p.1) p.2, subst (λ l. TakesLines 1 wanted old new l) (sym p.1) p.3)
-
--- how the lines that are added next are numbered
-numbered_on : (wanted : List (Option ℕ)) (old new : Option (List ℕ)) (before after : List (List ℕ)) → AddsLines wanted old new before after
-    → length after + 1 ≡ length before + 1 + length wanted
-numbered_on wanted old new before after p = omega (arith, ap length p.1, length-append before p.0, AllFit-length wanted p.0 p.2)
-
-pub adds_more : (wanted more : List (Option ℕ)) (old mid new : Option (List ℕ)) (before between after : List (List ℕ))
-    → AddsLines wanted old mid before between → AddsLines more mid new between after → AddsLines (wanted ++ more) old new before after
-adds_more wanted more old mid new before between after p q = (
-  p.0 ++ q.0,
-  q.1 ∙ ap (λ l. l ++ q.0) p.1 ∙ append_assoc before p.0 q.0,
-  AllFit-append wanted more p.0 q.0 p.2 q.2,
-  takes_more (length before + 1) (length between + 1) wanted more old mid new p.0 q.0 (numbered_on wanted old mid before between p) p.3 q.3,
-)
-
--- the fault of a line that is wanted after those that were added is that of them all
-pub fault_after : (wanted more : List (Option ℕ)) (old mid : Option (List ℕ)) (before after : List (List ℕ)) (fault : RunFault)
-    → AddsLines wanted old mid before after → FaultOfLines (length after + 1) more mid fault
-    → FaultOfLines (length before + 1) (wanted ++ more) old fault
-fault_after wanted more old mid before after fault p bad =
-    later_fault (length before + 1) (length after + 1) wanted more old mid p.0 fault (numbered_on wanted old mid before after p) p.3 bad
-
-pub in_turn_after : (wanted more : List (Option ℕ)) (old mid new : Option (List ℕ)) (before after : List (List ℕ))
-    → AddsLines wanted old mid before after → InTurn (length after + 1) more mid new → InTurn (length before + 1) (wanted ++ more) old new
-in_turn_after wanted more old mid new before after p bad =
-    later_in_turn (length before + 1) (length after + 1) wanted more old mid new p.0 (numbered_on wanted old mid before after p) p.3 bad
+-- how the next line is numbered
+numbered_on : (first number : ℕ) (wanted : List (Option ℕ)) (index : ℕ) → index < length wanted → number ≡ first + index
+    → number ≡ first + length (take index wanted)
+numbered_on first number wanted index within numbered = omega (arith, numbered, length-take-le index wanted (omega (arith, within)))
 
 -- one line more of those that are wanted
-pub next_line : {V : Type 0} (items : V → List ℕ) (wanted : List (Option ℕ)) (index count : ℕ) (old mid new : Option (List ℕ))
-    (before lines all : List V) (line : V) → index < length wanted → count ≡ length lines → all ≡ lines ++ line ∷ []
-    → AddsLines (take index wanted) old mid (map items before) (map items lines)
-    → Fits (get_or wanted index None) (items line) → TakesLines (count + 1) (get_or wanted index None ∷ []) mid new (items line ∷ [])
-    → AddsLines (take (index + 1) wanted) old new (map items before) (map items all)
-next_line items wanted index count old mid new before lines all line within counted grown added fits takes =
+pub next_line : {V : Type 0} (items : V → List ℕ) (first number : ℕ) (wanted : List (Option ℕ)) (index : ℕ) (old mid new : Option (List ℕ))
+    (lines all : List V) (line : V) → index < length wanted → number ≡ first + index → all ≡ lines ++ line ∷ []
+    → AllFit (take index wanted) (map items lines) → TakesLines first (take index wanted) old mid (map items lines)
+    → Fits (get_or wanted index None) (items line) → TakesLines number (get_or wanted index None ∷ []) mid new (items line ∷ [])
+    → AllFit (take (index + 1) wanted) (map items all) × TakesLines first (take (index + 1) wanted) old new (map items all)
+next_line items first number wanted index old mid new lines all line within numbered grown fit taken fits takes =
     let front = take_more wanted index None within in
     let many : map items all ≡ map items lines ++ items line ∷ [] = ap (map items) grown ∙ map-append items lines (line ∷ []) in
-    let next = counted ∙ sym (length-map lines items) in
-    let taken = subst (λ n. TakesLines (n + 1) (get_or wanted index None ∷ []) mid new (items line ∷ [])) next takes in
-    rw (front, many) (adds_more (take index wanted) _ old mid new _ _ _ added (items line ∷ [], refl, (fits, tt), taken))
+    let this = get_or wanted index None ∷ [] in
+    rw (front, many) (
+      AllFit-append (take index wanted) this (map items lines) (items line ∷ []) fit (fits, tt),
+      takes_more first number (take index wanted) this old mid new (map items lines) (items line ∷ [])
+      (numbered_on first number wanted index within numbered) taken takes,
+    )
 
 -- the wanted lines, of which one is the next
 whole_at : (wanted : List (Option ℕ)) (index : ℕ) → index < length wanted
@@ -207,24 +184,24 @@ whole_at : (wanted : List (Option ℕ)) (index : ℕ) → index < length wanted
 whole_at wanted index within = ap (λ l. take index wanted ++ l) (sym (drop_more wanted index None within)) ∙ take-append-drop index wanted
 
 -- the fault of a line is that of them all, where those before it were good
-pub fault_at : {V : Type 0} (items : V → List ℕ) (wanted : List (Option ℕ)) (index count : ℕ) (old mid : Option (List ℕ))
-    (before lines : List V) (fault : RunFault) → index < length wanted → count ≡ length lines → AddsLines (take index wanted) old mid (map items before) (map items lines)
-    → FaultOfLines (count + 1) (get_or wanted index None ∷ []) mid fault → FaultOfLines (length before + 1) wanted old fault
-fault_at items wanted index count old mid before lines fault within counted added bad =
+pub fault_at : (first number : ℕ) (wanted : List (Option ℕ)) (index : ℕ) (old mid : Option (List ℕ))
+    (lines : List (List ℕ)) (fault : RunFault) → index < length wanted → number ≡ first + index → TakesLines first (take index wanted) old mid lines
+    → FaultOfLines number (get_or wanted index None ∷ []) mid fault → FaultOfLines first wanted old fault
+fault_at first number wanted index old mid lines fault within numbered taken bad =
     let this = get_or wanted index None ∷ [] in
     let later = drop (index + 1) wanted in
-    let next : count + 1 ≡ length (map items lines) + 1 = omega (arith, counted, length-map lines items) in
-    let one = earlier_fault (length (map items lines) + 1) this later mid fault (subst (λ n. FaultOfLines n this mid fault) next bad) in
-    let all = fault_after (take index wanted) (this ++ later) old mid (map items before) (map items lines) fault added one in
-    rw (length-map before items, whole_at wanted index within) at all
+    let one = earlier_fault number this later mid fault bad in
+    let all = later_fault first number (take index wanted) (this ++ later) old mid lines fault
+    (numbered_on first number wanted index within numbered) taken one in
+    rw (whole_at wanted index within) at all
 
-pub in_turn_at : {V : Type 0} (items : V → List ℕ) (wanted : List (Option ℕ)) (index count : ℕ) (old mid new : Option (List ℕ))
-    (before lines : List V) → index < length wanted → count ≡ length lines → AddsLines (take index wanted) old mid (map items before) (map items lines)
-    → InTurn (count + 1) (get_or wanted index None ∷ []) mid new → InTurn (length before + 1) wanted old new
-in_turn_at items wanted index count old mid new before lines within counted added bad =
+pub in_turn_at : (first number : ℕ) (wanted : List (Option ℕ)) (index : ℕ) (old mid new : Option (List ℕ))
+    (lines : List (List ℕ)) → index < length wanted → number ≡ first + index → TakesLines first (take index wanted) old mid lines
+    → InTurn number (get_or wanted index None ∷ []) mid new → InTurn first wanted old new
+in_turn_at first number wanted index old mid new lines within numbered taken bad =
     let this = get_or wanted index None ∷ [] in
     let later = drop (index + 1) wanted in
-    let next : count + 1 ≡ length (map items lines) + 1 = omega (arith, counted, length-map lines items) in
-    let one = earlier_in_turn (length (map items lines) + 1) this later mid new (subst (λ n. InTurn n this mid new) next bad) in
-    let all = in_turn_after (take index wanted) (this ++ later) old mid new (map items before) (map items lines) added one in
-    rw (length-map before items, whole_at wanted index within) at all
+    let one = earlier_in_turn number this later mid new bad in
+    let all = later_in_turn first number (take index wanted) (this ++ later) old mid new lines
+    (numbered_on first number wanted index within numbered) taken one in
+    rw (whole_at wanted index within) at all
