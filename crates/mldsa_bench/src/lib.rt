@@ -6,8 +6,7 @@ mod arithmetic;
 pub mod callers;
 #[cfg(test)]
 mod keys;
-#[cfg(test)]
-mod pages;
+pub mod pages;
 #[cfg(test)]
 mod program;
 pub mod received_keys;

@@ -4,7 +4,7 @@
 ghost use Rattle.std.specs.Prelude.{◌≡◌, ◌≢◌, IsTrue, MatchOption};
 ghost use Rattle.fips204.specs.ParameterSets.{set_44};
 ghost use Rattle.fips204.specs.Refusals.{VerifiesMessage};
-ghost use Rattle.mldsa_bench.specs.Manifest.{HasCollision};
+ghost use Rattle.mldsa_bench.specs.SameSignature.{MessagesCollide};
 
 use fips204::laws;
 use fips204::ml_dsa_44::{KG, PublicKey, SIG_LEN};
@@ -31,7 +31,7 @@ pub fn accepted<'a, H: Xof, G: Xof>(
 }
 
 /// Whether one signature is accepted for two files of one name. Where the files differ, that is a collision
-/// of the stream `H`.
+/// of the stream `H`, and the clause names the pair.
 pub fn accepted_for_both<H: Xof, G: Xof>(
     key: &PublicKey<H, G>,
     name: &[u8],
@@ -39,9 +39,8 @@ pub fn accepted_for_both<H: Xof, G: Xof>(
     second: &[u8],
     signature: &[u8; SIG_LEN],
 ) -> bool
-    ensures { IsTrue result → first.now ≢ second.now → HasCollision H.front }
+    ensures { IsTrue result → first.now ≢ second.now → MessagesCollide H.front key.now.tr name.now first.now second.now }
 {
-    laws::framing();
     laws::binding();
     key.verify(first, signature, name) && key.verify(second, signature, name)
 }
