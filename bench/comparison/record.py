@@ -9,7 +9,7 @@ import sys
 from comparison.build import TOP, lines_of, run
 from comparison.cases import SIZES
 
-FILE = f"{TOP}/crates/mldsa_bench/src/recorded_rust.rt"
+FILE = f"{TOP}/crates/mldsa_bench/src/values/rust_crate.rt"
 HEAD = """//! What the Rust crate fips204 0.5.0 answers to the cases of `rust_answers`, as `bench/against-rust --record` writes it: for
 //! each case the SHA-256 of what is written and of the status, a byte, by `keygen`, `id`, `sign`, `verify`, `check` and
 //! `batch`.

@@ -1,1 +1,3 @@
-mod SignedFiles
+mod Joined
+mod Licences
+mod SameSignature

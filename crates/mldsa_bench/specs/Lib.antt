@@ -1,3 +1,6 @@
 pub mod ToyHash
 pub mod ToyStreams
-pub mod Manifest
+pub mod KeyStore
+pub mod Licence
+pub mod Pieces
+pub mod SameSignature

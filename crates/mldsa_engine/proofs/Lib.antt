@@ -1,7 +1,7 @@
-pub mod Counted
+pub mod LineCounts
 pub mod Endings
 pub mod Entries
 pub mod Judging
-pub mod Joining
+pub mod LinesInSequence
 pub mod Lengths
 pub mod Verdicts

@@ -1,11 +1,9 @@
 -- The answers of a batch, one after another, and by a prepared key.
-use Rattle.std.proofs.Common.{◌≡◌, ℕ, ◌+◌, ◌*◌, ◌<◌, Bool, false, IsTrue, ◌↔◌, All, List, [], ◌∷◌, ◌++◌, take, length, map, get_or, inl, inr}
-use Rattle.std.proofs.Common.{refl, sym, ap, ◌∙◌, arith, subst, append-nil, length-append, Result, Ok, Err, MatchResult, Some, None}
-use Rattle.std.proofs.lemmas.List.{get_or_append_left, length-take-le, take_more, get_or-take, map-append}
-use Rattle.std.proofs.lemmas.List.Elements.{All-more, All-get_or, All-from_get_or}
+use Rattle.std.proofs.Common.{◌≡◌, ℕ, ◌+◌, ◌*◌, ◌<◌, Bool, true, false, IsTrue, ◌↔◌, List, [], ◌∷◌, ◌++◌, length, map, get_or, inl, inr}
+use Rattle.std.proofs.Common.{refl, sym, ap, ◌∙◌, arith, subst, length-append, Result, Ok, Err, Some, None}
+use Rattle.std.proofs.lemmas.List.{get_or_append_left, get_or-append-add, map-append, flat_map_more}
+use Rattle.std.proofs.lemmas.List.Elements.{All-nil, All-push, All-pop}
 use Rattle.std.proofs.lemmas.Bool.{cases_eq}
-use Rattle.std.proofs.lemmas.Grind.{flat_map-append}
-use Rattle.std.proofs.Math.Seq.{get_or-append_seam}
 use Rattle.std.specs.Prelude.{IfOk, ok_or, option_map}
 use Rattle.std.specs.declared.option.Option.{Option}
 use Rattle.fips204.specs.fault.Fault.{Fault}
@@ -13,72 +11,77 @@ use Rattle.fips204.specs.fault.Fault.TheVariants.{SamplingLimit}
 use Rattle.fips204.specs.Framing.{plain}
 use Rattle.fips204.specs.Keys.{PublicParts, IsPublicKeyOf}
 use Rattle.fips204.specs.MatrixEntry.{sampled_matrix}
-use Rattle.fips204.specs.ParameterSets.{ParameterSet}
-use Rattle.fips204.specs.Prepared.{PreparedPublic, prepared_public, VerifiesMessagePrepared, PreparedAnswersAsPlain}
+use Rattle.fips204.specs.ParameterSets.{ParameterSet, signature_length}
+use Rattle.fips204.specs.Prepared.{PreparedPublic, prepared_public, PreparedAnswersAsPlain}
 use Rattle.fips204.specs.Refusals.{VerifiesMessage}
 use Rattle.fips204.specs.declared.types.T.{T}
-use Rattle.mldsa_engine.specs.ProgramText.{text, answer_word, TellsAll, AnswersEach, JudgesEach}
+use Rattle.mldsa_engine.specs.Lines.{AllFit, TakesLines}
+use Rattle.mldsa_engine.specs.ProgramText.{text, answer_word, entry_lines, AnswersEach, TellsAll, AcceptsIfPrepared, JudgesEntries, JudgesByKey}
+use Rattle.mldsa_engine.proofs.LinesInSequence.{no_lines}
+use Rattle.mldsa_engine.proofs.Entries.{next_entry}
 
--- one answer more
-pub next_answer : (P : ℕ → Bool → Type 0) (answers all : List Bool) (count : ℕ) (answer : Bool) → length answers ≡ count
-    → all ≡ answers ++ answer ∷ [] → ((entry : ℕ) → entry < count → P entry (get_or answers entry false)) → P count answer
-    → (length all ≡ count + 1) × ((entry : ℕ) → entry < count + 1 → P entry (get_or all entry false))
-next_answer P answers all count answer size grown before now =
-    let here : get_or all count false ≡ answer = ap (λ l. get_or l count false) grown
-    ∙ subst (λ n. get_or (answers ++ answer ∷ []) n false ≡ answer) size (get_or-append_seam answers answer [] false) in (
-      omega (arith, ap length grown, length-append answers (answer ∷ []), size),
-      λ entry within. elim (cases_eq entry count) [
-        | inl same ↦ subst (λ n. P n (get_or all n false)) (sym same) (subst (λ a. P count a) (sym here) now)
+-- the answer to one entry more
+answers_next : (accepts : List ℕ → List ℕ → Type 0) (entries : List (List ℕ)) (answers : List Bool) (signature message : List ℕ) (answer : Bool)
+    → (IsTrue answer ↔ accepts signature message) → AnswersEach accepts entries answers
+    → AnswersEach accepts (entries ++ signature ∷ message ∷ []) (answers ++ answer ∷ [])
+answers_next accepts entries answers signature message answer now (size, each) =
+    let last = length answers in
+    let more = signature ∷ message ∷ [] in
+    let counted = length-append answers (answer ∷ []) in (
+      omega (arith, size, counted, length-append entries more),
+      λ entry within. elim (cases_eq entry last) [
+        | inl same ↦
+            let zeroth : entry ≡ length answers + 0 = omega (arith, same) in
+            let first : 2 * entry ≡ length entries + 0 = omega (arith, same, size) in
+            let second : 2 * entry + 1 ≡ length entries + 1 = omega (arith, same, size) in
+            rw (ap (λ n. get_or (answers ++ answer ∷ []) n false) zeroth ∙ get_or-append-add answers (answer ∷ []) 0 false,
+            ap (λ n. get_or (entries ++ more) n []) first ∙ get_or-append-add entries more 0 [],
+            ap (λ n. get_or (entries ++ more) n []) second ∙ get_or-append-add entries more 1 [])
+            now
         | inr other ↦
-            let earlier : entry < count = omega (arith, within, other) in
-            let kept = get_or_append_left answers (answer ∷ []) false entry (omega (arith, earlier, size)) in
-            let there = ap (λ l. get_or l entry false) grown ∙ kept in
-            subst (λ a. P entry a) (sym there) (before entry earlier)
+            let earlier : entry < last = omega (arith, within, other, counted) in
+            rw (get_or_append_left answers (answer ∷ []) false entry earlier,
+            get_or_append_left entries more [] (2 * entry) (omega (arith, size, earlier)),
+            get_or_append_left entries more [] (2 * entry + 1) (omega (arith, size, earlier)))
+            (each entry earlier)
       ],
     )
 
--- answers that are all true are so one by one
-true_at : (answers : List Bool) (index i : ℕ) → i < index + 1 → index < length answers → All IsTrue (take (index + 1) answers)
-    → IsTrue (get_or answers i false)
-true_at answers index i before within h =
-    let size = length-take-le (index + 1) answers (omega (arith, within)) in
-    let here = All-get_or IsTrue (take (index + 1) answers) i false (omega (arith, size, before)) h in
-    subst IsTrue (get_or-take (index + 1) answers i false before) here
+-- it is told after the others
+told_next : (answers : List Bool) (answer : Bool) (old new : List ℕ) (all next : Bool) → new ≡ old ++ (answer_word answer ++ 10 ∷ [])
+    → (IsTrue next ↔ IsTrue all × IsTrue answer) → TellsAll answers old all → TellsAll (answers ++ answer ∷ []) new next
+told_next answers answer old new all next grown both tells = (
+  grown ∙ ap (λ l. l ++ (answer_word answer ++ 10 ∷ [])) tells.0
+  ∙ flat_map_more (λ line. line ++ 10 ∷ []) [] (map answer_word answers) (answer_word answer)
+  ∙ ap text (sym (map-append answer_word answers (answer ∷ []))),
+  (
+    λ t. All-push IsTrue answers answer (tells.1.0 (both.0 t).0) (both.0 t).1,
+    λ h. let split = All-pop IsTrue (answers ++ answer ∷ []) answers (Some answer) refl h in both.1 (tells.1.1 split.0, split.1),
+  ),
+)
 
-true_before : (answers : List Bool) (index : ℕ) → index < length answers → All IsTrue (take (index + 1) answers)
-    → All IsTrue (take index answers)
-true_before answers index within h =
-    let size = length-take-le index answers (omega (arith, within)) in
-    All-from_get_or IsTrue (take index answers) false (λ i w.
-    let before : i < index = omega (arith, w, size) in
-    subst IsTrue (sym (get_or-take index answers i false before)) (true_at answers index i (omega (arith, before)) within h))
+-- no entry was judged, and one more
+pub judges_none : (accepts : List ℕ → List ℕ → Type 0) (size : ℕ) (given : Option (List ℕ)) → JudgesEntries accepts size 0 given given [] true
+judges_none accepts size given =
+    ([], tt, no_lines 4 given, ([], (refl, λ entry within. absurd (omega (arith, within))), (refl, (λ _. All-nil IsTrue, λ _. refl))))
 
--- answers that are told one after another
-pub tells_more : (answers : List Bool) (index : ℕ) (old new word : List ℕ) (all next : Bool) → index < length answers
-    → word ≡ answer_word (get_or answers index false) → new ≡ old ++ (word ++ 10 ∷ [])
-    → (IsTrue next ↔ IsTrue all × IsTrue (get_or answers index false))
-    → TellsAll (take index answers) old all → TellsAll (take (index + 1) answers) new next
-tells_more answers index old new word all next within named grown both tells =
-    let answer = get_or answers index false in
-    let front = take_more answers index false within in
-    let told = map answer_word (take index answers) in
-    let words = ap (map answer_word) front ∙ map-append answer_word (take index answers) (answer ∷ []) in
-    let lines = ap text words ∙ flat_map-append (λ line. line ++ 10 ∷ []) told (answer_word answer ∷ []) in
-    let last : word ++ 10 ∷ [] ≡ text (answer_word answer ∷ []) =
-    ap (λ w. w ++ 10 ∷ []) named ∙ sym (append-nil (answer_word answer ++ 10 ∷ [])) in (
-      grown ∙ ap (λ l. l ++ (word ++ 10 ∷ [])) tells.0 ∙ ap (λ l. text told ++ l) last ∙ sym lines,
-      (
-        λ t. All-more IsTrue answers index false within (tells.1.0 (both.0 t).0) (both.0 t).1,
-        λ h. both.1 (tells.1.1 (true_before answers index within h), true_at answers index index (omega arith) within h),
-      ),
+pub judges_next : {V : Type 0} (items : V → List ℕ) (accepts : List ℕ → List ℕ → Type 0) (size entry number : ℕ) (old mid new : Option (List ℕ))
+    (lines : List V) (first second : V) (before after : List ℕ) (all next answer : Bool) (s m : List ℕ) → number ≡ 4 + 2 * entry
+    → AllFit (entry_lines size 1) (map items lines) → TakesLines number (entry_lines size 1) mid new (map items lines)
+    → first ≡ get_or lines 0 first → second ≡ get_or lines 1 second → s ≡ items first → m ≡ items second
+    → (IsTrue answer ↔ accepts s m) → after ≡ before ++ (answer_word answer ++ 10 ∷ []) → (IsTrue next ↔ IsTrue all × IsTrue answer)
+    → JudgesEntries accepts size entry old mid before all → JudgesEntries accepts size (entry + 1) old new after next
+judges_next items accepts size entry number old mid new [] first second before after all next answer s m numbered fit takes is is' e e' now grown both told = absurd fit
+judges_next items accepts size entry number old mid new (a ∷ []) first second before after all next answer s m numbered fit takes is is' e e' now grown both told = absurd fit.1
+judges_next items accepts size entry number old mid new (a ∷ b ∷ []) first second before after all next answer s m numbered fit takes is is' e e' now grown both (entries, fits, taken, (answers, each, tells)) =
+    let further = next_entry size entry number old mid new entries (items a ∷ items b ∷ []) numbered fits taken fit takes in
+    let now' : IsTrue answer ↔ accepts (items a) (items b) = rw (← is, ← is', ← e, ← e') now in (
+      entries ++ items a ∷ items b ∷ [], further.0, further.1,
+      (answers ++ answer ∷ [], answers_next accepts entries answers (items a) (items b) answer now' each, told_next answers answer before after all next grown both tells),
     )
+judges_next items accepts size entry number old mid new (a ∷ b ∷ c ∷ more) first second before after all next answer s m numbered fit takes is is' e e' now grown both told = absurd fit.1.1
 
--- what preparing a key answered accepts a message: nothing where it refused
-abbrev pub AcceptsIfPrepared : ParameterSet → (List ℕ → List ℕ) → Result PreparedPublic Fault → List ℕ → List ℕ → List ℕ → Type 0
-AcceptsIfPrepared p H prepared message signature context =
-    MatchResult prepared (λ key. VerifiesMessagePrepared p H key message signature context) (λ _. ⊥)
-
--- it accepts what the key does
+-- what preparing a key answered accepts what the key does
 accepts_as_key : (p : ParameterSet) (H G : List ℕ → List ℕ) (matrix : Option (List (List T))) (pk : PublicParts)
     (message signature context : List ℕ) → PreparedAnswersAsPlain p H G → sampled_matrix G pk.rho p.k p.l ≡ matrix
     → AcceptsIfPrepared p H (ok_or (option_map (λ a. record { parts = pk; matrix = a }) matrix) SamplingLimit) message signature context
@@ -101,14 +104,15 @@ answers_alike accepts alike entries answers same (size, each) = (
 )
 
 -- so what it answers for each entry is whether the key accepts it
-pub judged_by_prepared : {W E : Type 0} (bytes : W → List ℕ) (p : ParameterSet) (H G : List ℕ → List ℕ) (pk : PublicParts)
-    (prepared : Result PreparedPublic Fault) (key context : List ℕ) (entries : List (List ℕ)) (answers : List Bool)
-    (result : Result (W × Bool) E) → PreparedAnswersAsPlain p H G → IsPublicKeyOf H p.k key pk → prepared ≡ prepared_public p G pk
-    → AnswersEach (λ signature message. AcceptsIfPrepared p H prepared message signature context) entries answers
-    → IfOk result (λ given. TellsAll answers (bytes given.0) given.1)
-    → IfOk result (λ given. JudgesEach p H G key context entries (bytes given.0) given.1)
-judged_by_prepared bytes p H G pk prepared key context entries answers (Err fault) law is same each tells = tells
-judged_by_prepared bytes p H G pk prepared key context entries answers (Ok given) law is same each tells =
-    let judged = answers_alike _ (λ signature message. VerifiesMessage p H G pk message signature context) entries answers
-    (λ signature message. accepts_as_key p H G (sampled_matrix G pk.rho p.k p.l) pk message signature context law refl) (rw same at each) in
-    (pk, is, (answers, judged, tells))
+pub judged_by_prepared : {W E : Type 0} (output : W → List ℕ) (success : W → Bool) (p : ParameterSet) (H G : List ℕ → List ℕ) (pk : PublicParts)
+    (prepared : Result PreparedPublic Fault) (key context : List ℕ) (size count : ℕ) (given left : Option (List ℕ))
+    (result : Result W E) → PreparedAnswersAsPlain p H G → IsPublicKeyOf H p.k key pk → prepared ≡ prepared_public p G pk → size ≡ signature_length p
+    → IfOk result (λ it. JudgesEntries (λ signature message. AcceptsIfPrepared p H prepared message signature context) size count given left (output it) (success it))
+    → IfOk result (λ it. JudgesByKey p H G key context count given left (output it) (success it))
+judged_by_prepared output success p H G pk prepared key context size count given left (Err fault) law is same sized each = each
+judged_by_prepared output success p H G pk prepared key context size count given left (Ok it) law is same sized each =
+    let (entries, fit, taken, (answers, judged, tells)) = each in
+    let alike = answers_alike _ (λ signature message. VerifiesMessage p H G pk message signature context) entries answers
+    (λ signature message. accepts_as_key p H G (sampled_matrix G pk.rho p.k p.l) pk message signature context law refl) (rw same at judged) in
+    let accepts : List ℕ → List ℕ → Type 0 = λ signature message. VerifiesMessage p H G pk message signature context in
+    (pk, is, subst (λ n. JudgesEntries accepts n count given left (output it) (success it)) sized (entries, fit, taken, (answers, alike, tells)))

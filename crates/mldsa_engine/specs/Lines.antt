@@ -156,8 +156,3 @@ AllFit [] [] = ⊤
 AllFit [] (line ∷ lines) = ⊥
 AllFit (wanted ∷ later) [] = ⊥
 AllFit (wanted ∷ later) (line ∷ lines) = Fits wanted line × AllFit later lines
-
--- the wanted lines came after those that were read before, and are numbered on
-abbrev pub AddsLines : List (Option ℕ) → Option (List ℕ) → Option (List ℕ) → List (List ℕ) → List (List ℕ) → Type 0
-AddsLines wanted given left before after = (added : List (List ℕ)) × (after ≡ before ++ added)
-    × AllFit wanted added × TakesLines (length before + 1) wanted given left added

@@ -8,8 +8,9 @@ use Rattle.fips204.specs.Encodings.{public_key_bytes, private_key_bytes}
 use Rattle.fips204.specs.Faults.{words}
 use Rattle.fips204.specs.Keys.{PublicParts, IsPublicKeyOf, DecodesPrivate}
 use Rattle.fips204.specs.ParameterSets.{ParameterSet, set_44, set_65, set_87, public_key_length, private_key_length, signature_length}
+use Rattle.fips204.specs.Prepared.{PreparedPublic, VerifiesMessagePrepared}
 use Rattle.fips204.specs.Refusals.{generated, sign_message, VerifiesMessage}
-use Rattle.mldsa_engine.specs.Lines.{after_lines, line_bytes, TakesLines}
+use Rattle.mldsa_engine.specs.Lines.{after_lines, line_bytes, AllFit, TakesLines}
 use Rattle.mldsa_engine.specs.declared.fault.RunFault.{RunFault}
 use Rattle.mldsa_engine.specs.declared.call.Task.{Task}
 use Rattle.mldsa_engine.specs.declared.call.Task.TheVariants.{Id, Keygen, Sign, Verify, Check, Batch}
@@ -23,13 +24,13 @@ named_set MlDsa65 = set_65
 named_set MlDsa87 = set_87
 
 -- the lines that a command wants of every input: a number of bytes each, or any number of them
-abbrev pub wanted_lines : Task → SetName → List (Option ℕ)
-wanted_lines Id set = Some (public_key_length (named_set set)) ∷ []
-wanted_lines Keygen set = Some 32 ∷ []
-wanted_lines Sign set = Some (private_key_length (named_set set)) ∷ Some 32 ∷ None ∷ None ∷ []
-wanted_lines Verify set = Some (public_key_length (named_set set)) ∷ Some (signature_length (named_set set)) ∷ None ∷ None ∷ []
-wanted_lines Check set = Some 32 ∷ Some 32 ∷ None ∷ None ∷ []
-wanted_lines Batch set = Some (public_key_length (named_set set)) ∷ None ∷ Some 2 ∷ []
+abbrev pub wanted_lines : Task → ParameterSet → List (Option ℕ)
+wanted_lines Id p = Some (public_key_length p) ∷ []
+wanted_lines Keygen p = Some 32 ∷ []
+wanted_lines Sign p = Some (private_key_length p) ∷ Some 32 ∷ None ∷ None ∷ []
+wanted_lines Verify p = Some (public_key_length p) ∷ Some (signature_length p) ∷ None ∷ None ∷ []
+wanted_lines Check p = Some 32 ∷ Some 32 ∷ None ∷ None ∷ []
+wanted_lines Batch p = Some (public_key_length p) ∷ None ∷ Some 2 ∷ []
 
 -- the lines of so many entries of a batch: a signature of this size and a message each
 abbrev pub entry_lines : ℕ → ℕ → List (Option ℕ)
@@ -37,17 +38,13 @@ entry_lines size zero = []
 entry_lines size (suc entries) = Some size ∷ None ∷ entry_lines size entries
 
 -- the lines that a command wants after those: of a batch with so many entries theirs, and of every other none
-abbrev pub later_lines : Task → SetName → ℕ → List (Option ℕ)
-later_lines Id set entries = []
-later_lines Keygen set entries = []
-later_lines Sign set entries = []
-later_lines Verify set entries = []
-later_lines Check set entries = []
-later_lines Batch set entries = entry_lines (signature_length (named_set set)) entries
-
--- all the lines that a command wants, of a batch with so many entries
-abbrev pub lines_of_entries : Task → SetName → ℕ → List (Option ℕ)
-lines_of_entries task set entries = wanted_lines task set ++ later_lines task set entries
+abbrev pub later_lines : Task → ParameterSet → ℕ → List (Option ℕ)
+later_lines Id p entries = []
+later_lines Keygen p entries = []
+later_lines Sign p entries = []
+later_lines Verify p entries = []
+later_lines Check p entries = []
+later_lines Batch p entries = entry_lines (signature_length p) entries
 
 -- the number that two bytes spell, the high byte first
 abbrev pub two_bytes : List ℕ → ℕ
@@ -63,9 +60,12 @@ abbrev pub entries_of : Option (List ℕ) → ℕ
 entries_of None = 0
 entries_of (Some input) = entries_of_line (line_bytes 3 (Some 2) (after_lines 2 input))
 
--- all the lines that a command wants of an input
+-- all the lines that a command wants of an input, with the numbers of a set, and by the set's name
+abbrev pub input_lines : Task → ParameterSet → Option (List ℕ) → List (Option ℕ)
+input_lines task p given = wanted_lines task p ++ later_lines task p (entries_of given)
+
 abbrev pub lines_of_input : Task → SetName → Option (List ℕ) → List (Option ℕ)
-lines_of_input task set given = lines_of_entries task set (entries_of given)
+lines_of_input task set given = input_lines task (named_set set) given
 
 -- lines as they are written, each ended by LF
 abbrev pub text : List (List ℕ) → List ℕ
@@ -138,28 +138,50 @@ JudgesEach p H G key context entries output answer = (pk : PublicParts) × IsPub
 
 -- what a command writes and answers, given the bytes of its lines, over the streams H and G; `id` writes the public key and
 -- its hash
-abbrev pub Answers : (List ℕ → List ℕ) → (List ℕ → List ℕ) → Task → SetName → List (List ℕ) → List ℕ → Bool → Type 0
-Answers H G Id set lines output answer = (key : List ℕ) × (lines ≡ key ∷ [])
+abbrev pub Answers : (List ℕ → List ℕ) → (List ℕ → List ℕ) → Task → ParameterSet → List (List ℕ) → List ℕ → Bool → Type 0
+Answers H G Id p lines output answer = (key : List ℕ) × (lines ≡ key ∷ [])
     × (output ≡ hex_text (key ∷ take 64 (H key) ∷ [])) × (answer ≡ true)
-Answers H G Keygen set lines output answer = (seed : List ℕ) × (lines ≡ seed ∷ [])
-    × Generates (named_set set) H G seed output answer
-Answers H G Sign set lines output answer = (key seed context message : List ℕ) × (lines ≡ key ∷ seed ∷ context ∷ message ∷ [])
-    × Signs (named_set set) H G key seed context message output answer
-Answers H G Verify set lines output answer = (key signature context message : List ℕ) × (lines ≡ key ∷ signature ∷ context ∷ message ∷ [])
-    × Judges (named_set set) H G key signature context message output answer
-Answers H G Check set lines output answer = (xi rnd context message : List ℕ) × (lines ≡ xi ∷ rnd ∷ context ∷ message ∷ [])
-    × Checks (named_set set) H G xi rnd context message output answer
-Answers H G Batch set lines output answer = (key context count : List ℕ) × ((entries : List (List ℕ)) × (lines ≡ key ∷ context ∷ count ∷ entries)
+Answers H G Keygen p lines output answer = (seed : List ℕ) × (lines ≡ seed ∷ [])
+    × Generates p H G seed output answer
+Answers H G Sign p lines output answer = (key seed context message : List ℕ) × (lines ≡ key ∷ seed ∷ context ∷ message ∷ [])
+    × Signs p H G key seed context message output answer
+Answers H G Verify p lines output answer = (key signature context message : List ℕ) × (lines ≡ key ∷ signature ∷ context ∷ message ∷ [])
+    × Judges p H G key signature context message output answer
+Answers H G Check p lines output answer = (xi rnd context message : List ℕ) × (lines ≡ xi ∷ rnd ∷ context ∷ message ∷ [])
+    × Checks p H G xi rnd context message output answer
+Answers H G Batch p lines output answer = (key context count : List ℕ) × ((entries : List (List ℕ)) × (lines ≡ key ∷ context ∷ count ∷ entries)
     × (length entries ≡ 2 * two_bytes count)
-    × JudgesEach (named_set set) H G key context entries output answer)
+    × JudgesEach p H G key context entries output answer)
 
--- a run over the streams H and G ended with this answer: its reader gave the wanted lines and has left what follows them, and its
--- writer got what the command writes for them, and nothing else
+-- what preparing a key answered accepts a message: nothing where it refused
+abbrev pub AcceptsIfPrepared : ParameterSet → (List ℕ → List ℕ) → Result PreparedPublic Fault → List ℕ → List ℕ → List ℕ → Type 0
+AcceptsIfPrepared p H prepared message signature context =
+    MatchResult prepared (λ key. VerifiesMessagePrepared p H key message signature context) (λ _. ⊥)
+
+-- so many entries of a batch were judged by what accepts their signatures: a reader gave their lines, from the fourth on, and has
+-- left what follows them, and this is told of them
+abbrev pub JudgesEntries : (List ℕ → List ℕ → Type 0) → ℕ → ℕ → Option (List ℕ) → Option (List ℕ) → List ℕ → Bool → Type 0
+JudgesEntries accepts size count given left output answer = (entries : List (List ℕ))
+    × AllFit (entry_lines size count) entries
+    × TakesLines 4 (entry_lines size count) given left entries
+    × ((answers : List Bool) × AnswersEach accepts entries answers × TellsAll answers output answer)
+
+-- so they were judged by the public key that has these bytes
+abbrev pub JudgesByKey : ParameterSet → (List ℕ → List ℕ) → (List ℕ → List ℕ) → List ℕ → List ℕ → ℕ → Option (List ℕ) → Option (List ℕ) → List ℕ → Bool → Type 0
+JudgesByKey p H G key context count given left output answer = (pk : PublicParts) × IsPublicKeyOf H p.k key pk
+    × JudgesEntries (λ signature message. VerifiesMessage p H G pk message signature context) (signature_length p) count given left output answer
+
+-- a command was carried out over the streams H and G: its reader gave the wanted lines and has left what follows them, and this is
+-- what the command writes and answers for them
+abbrev pub Executes : (List ℕ → List ℕ) → (List ℕ → List ℕ) → Task → ParameterSet → Option (List ℕ) → Option (List ℕ) → List ℕ → Bool → Type 0
+Executes H G task p given left output answer = (lines : List (List ℕ)) × TakesLines 1 (input_lines task p given) given left lines
+    × Answers H G task p lines output answer
+
+-- a run over the streams H and G ended with this answer: the command was carried out, and the writer got what it writes, and
+-- nothing else
 abbrev pub Runs : (List ℕ → List ℕ) → (List ℕ → List ℕ) → Task → SetName → Option (List ℕ) → Option (List ℕ) → Option (List ℕ) → Option (List ℕ) → Bool → Type 0
-Runs H G task set given left before after answer = (lines : List (List ℕ)) × ((output : List ℕ)
-    × TakesLines 1 (lines_of_input task set given) given left lines
-    × Answers H G task set lines output answer
-    × Appends before after output)
+Runs H G task set given left before after answer = (output : List ℕ) × Executes H G task (named_set set) given left output answer
+    × Appends before after output
 
 -- the exit status of an answer, true being done or `yes`, and false `no` or a refusal; a fault has one status, whichever it is
 abbrev pub status_of : Result Bool RunFault → ℕ

@@ -1,10 +1,11 @@
-//! What each command writes and answers.
+//! What each command reads, writes and answers.
 #![tactic(auto)]
 
-ghost use Rattle.std.specs.Prelude.{◌≡◌, length, map, get_or, [], Ok, Err, IfOk, IfErr};
-ghost use Rattle.mldsa_engine.specs.Lines.{AllFit};
-ghost use Rattle.mldsa_engine.specs.ProgramText.{two_bytes, lines_of_entries, Answers};
+ghost use Rattle.std.specs.Prelude.{◌≡◌, ◌≤◌, ◌↔◌, length, map, false, Err, IsTrue, IfOk, IfErr};
+ghost use Rattle.mldsa_engine.specs.Lines.{AllFit, IsInputFault, IsLineFault, FaultOfLines, InTurn};
+ghost use Rattle.mldsa_engine.specs.ProgramText.{named_set, two_bytes, wanted_lines, lines_of_input, Answers, Executes};
 
+mod batch;
 mod checking;
 mod keys;
 mod signing;
@@ -13,27 +14,56 @@ mod writing;
 
 use crate::call::{SetName, Task};
 use crate::fault::RunFault;
+use crate::lines::read_lines;
+use crate::marked::Marked;
+use crate::wanted::{lengths_of, wanted_of};
 use fips204::xof::Xof;
 use std::alloc::Global;
+use std::io::Read;
+pub(crate) use writing::Output;
 
-/// What a command writes, and its answer, given the bytes of its lines.
-pub(crate) fn answer_of<H: Xof, G: Xof>(
+/// Reads the lines that a command wants, and carries it out.
+pub(crate) fn execute<H: Xof, G: Xof, I: Read>(
+    alloc: Global,
+    task: Task,
+    set: SetName,
+    input: &mut Marked<I>,
+) -> Result<Output, RunFault>
+    requires unmarked { input.old.failed ≡ false }
+    ensures read_failed { IsTrue input.new.failed ↔ (result ≡ Err RunFault.Read) }
+    ensures executed { IfOk result (λ output. Executes H.front G.front task (named_set set) (I.remaining input.old.device) (I.remaining input.new.device) output.text.items output.success) }
+    ensures line_fault { IfErr result (λ fault. IsLineFault fault → FaultOfLines 1 (lines_of_input task set (I.remaining input.old.device)) (I.remaining input.old.device) fault) }
+    ensures in_turn { IfErr result (λ fault. IsLineFault fault → InTurn 1 (lines_of_input task set (I.remaining input.old.device)) (I.remaining input.old.device) (I.remaining input.new.device)) }
+    ensures faults { IfErr result (λ fault. IsInputFault fault) }
+{
+    let (wanted, count) = wanted_of(task, lengths_of(set));
+    let lines = read_lines(alloc, 1, &wanted[..count], input)?;
+    match task {
+        Task::Batch => {
+            let count = number_of(lines[2].as_slice());
+            let (key, context) = (lines[0].as_slice(), lines[1].as_slice());
+            batch::judge_batch::<H, G, I>(alloc, set, key, context, count, input)
+        }
+        _ => answer::<H, G>(alloc, task, set, lines.as_slice()),
+    }
+}
+
+/// Carries out a command that reads no more than these lines.
+fn answer<H: Xof, G: Xof>(
     alloc: Global,
     task: Task,
     set: SetName,
     lines: &[Vec<u8>],
-) -> Result<(Vec<u8>, bool), RunFault>
-    requires fit { AllFit (lines_of_entries task set (two_bytes (get_or (map (λ line. line.items) lines.now) 2 []))) (map (λ line. line.items) lines.now) }
-    ensures given { IfOk result (λ given. Answers H.front G.front task set (map (λ line. line.items) lines.now) given.0.items given.1) }
+) -> Result<Output, RunFault>
+    requires whole { ¬ (task ≡ Task.Batch) }
+    requires fit { AllFit (wanted_lines task (named_set set)) (map (λ line. line.items) lines.now) }
+    ensures given { IfOk result (λ output. Answers H.front G.front task (named_set set) (map (λ line. line.items) lines.now) output.text.items output.success) }
     ensures memory { IfErr result (λ fault. fault ≡ RunFault.Memory) }
 {
     match task {
-        Task::Id => {
-            let written = keys::identity::<H, G>(alloc, set, lines[0].as_slice())?;
-            Ok((written, true))
-        }
-        Task::Keygen => keys::keys_of::<H, G>(alloc, set, &array_of(lines[0].as_slice())),
-        Task::Sign => signing::signature_of::<H, G>(
+        Task::Id => keys::identify::<H, G>(alloc, set, lines[0].as_slice()),
+        Task::Keygen => keys::make_keys::<H, G>(alloc, set, &array_of(lines[0].as_slice())),
+        Task::Sign => signing::sign::<H, G>(
             alloc,
             set,
             lines[0].as_slice(),
@@ -41,7 +71,7 @@ pub(crate) fn answer_of<H: Xof, G: Xof>(
             lines[2].as_slice(),
             lines[3].as_slice(),
         ),
-        Task::Verify => verifying::verdict_of::<H, G>(
+        Task::Verify => verifying::verify::<H, G>(
             alloc,
             set,
             lines[0].as_slice(),
@@ -49,7 +79,7 @@ pub(crate) fn answer_of<H: Xof, G: Xof>(
             lines[2].as_slice(),
             lines[3].as_slice(),
         ),
-        Task::Check => checking::check_of::<H, G>(
+        Task::Check => checking::check::<H, G>(
             alloc,
             set,
             &array_of(lines[0].as_slice()),
@@ -57,14 +87,17 @@ pub(crate) fn answer_of<H: Xof, G: Xof>(
             lines[2].as_slice(),
             lines[3].as_slice(),
         ),
-        Task::Batch => verifying::verdicts_of::<H, G>(
-            alloc,
-            set,
-            lines[0].as_slice(),
-            lines[1].as_slice(),
-            &lines[3..],
-        ),
+        Task::Batch => unreachable!(),
     }
+}
+
+/// The number that two bytes spell, the high byte first.
+fn number_of(bytes: &[u8]) -> usize
+    requires { length bytes.now ≡ 2 }
+    ensures value { result ≡ two_bytes bytes.now }
+    ensures most { result ≤ 65535 }
+{
+    usize::from(bytes[0]) * 256 + usize::from(bytes[1])
 }
 
 /// Bytes of a known number as an array.

@@ -17,6 +17,7 @@ pub mod output;
 pub mod process;
 mod wanted;
 
+use answers::{Output, execute};
 pub use bytewise::Bytewise;
 pub use call::{SetName, Streams, Task};
 pub use fault::RunFault;
@@ -48,10 +49,9 @@ pub fn run<H: Xof, G: Xof, I: Read, O: Write>(
     ensures nothing_written { IfErr result (λ fault. ¬ (fault ≡ RunFault.Write) → Keeps (O.contents output.old.device) (O.contents output.new.device)) }
     ensures no_usage { ¬ (result ≡ Err RunFault.Usage) }
 {
-    let lines = wanted::lines_of(alloc, task, set, input)?;
-    let (written, answer) = answers::answer_of::<H, G>(alloc, task, set, lines.as_slice())?;
-    output::put(output, written.as_slice())?;
-    Ok(answer)
+    let Output { text, success } = execute::<H, G, I>(alloc, task, set, input)?;
+    output::write_all(output, text.as_slice())?;
+    Ok(success)
 }
 
 /// Runs the command that the words after the program's name call for, compared byte for byte.

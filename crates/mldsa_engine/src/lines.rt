@@ -1,8 +1,8 @@
 //! The lines of an input.
 #![tactic(auto)]
 
-ghost use Rattle.std.specs.Prelude.{◌≡◌, ◌≢◌, ◌<◌, ◌≤◌, ◌+◌, ◌↔◌, ◌⊎◌, ℕ, List, Option, length, take, map, Ok, Err, IsTrue, IfOk, IfErr, OnOk, IfSome, MatchResult, false, true, ◌∷◌, [], position};
-ghost use Rattle.mldsa_engine.specs.Lines.{longest_line, line_digits, ends_line, judged, Fits, AddsLines, IsInputFault, IsLineFault, TakesPiece, TakesLine, TakesLines, FaultOfLines, InTurn};
+ghost use Rattle.std.specs.Prelude.{◌≡◌, ◌≢◌, ◌<◌, ◌≤◌, ◌+◌, ◌^◌, ◌↔◌, ◌⊎◌, ℕ, List, Option, length, take, map, Ok, Err, IsTrue, IfOk, IfErr, IfSome, MatchResult, false, true, ◌∷◌, [], position};
+ghost use Rattle.mldsa_engine.specs.Lines.{longest_line, line_digits, ends_line, judged, Fits, AllFit, IsInputFault, IsLineFault, TakesPiece, TakesLine, TakesLines, FaultOfLines, InTurn};
 
 use crate::fault::RunFault;
 use crate::marked::Marked;
@@ -204,25 +204,27 @@ fn read_bytes<I: Read>(
     bytes_of(alloc, number, wanted, line.as_slice())
 }
 
-/// Adds the bytes of the wanted lines: as many bytes of each as are wanted of it, or any number of them.
-/// A line is judged as soon as it is there, and no byte past the last one's LF is taken. The lines are
-/// numbered on.
+/// Reads the bytes of the wanted lines, of which the first has this number: as many bytes of each as are wanted of it, or any
+/// number of them. A line is judged as soon as it is there, and no byte past the last one's LF is taken.
 pub(crate) fn read_lines<I: Read>(
     alloc: Global,
+    first: usize,
     wanted: &[Option<usize>],
     input: &mut Marked<I>,
-    lines: &mut Vec<Vec<u8>>,
-) -> Result<(), RunFault>
+) -> Result<Vec<Vec<u8>>, RunFault>
     requires unmarked { input.old.failed ≡ false }
+    requires numbers { first + length wanted.now < 2 ^ 64 }
     ensures read_failed { IsTrue input.new.failed ↔ (result ≡ Err RunFault.Read) }
-    ensures added { OnOk result (AddsLines wanted.now (I.remaining input.old.device) (I.remaining input.new.device) (map (λ line. line.items) lines.old.items) (map (λ line. line.items) lines.new.items)) }
-    ensures line_fault { IfErr result (λ fault. IsLineFault fault → FaultOfLines (length lines.old.items + 1) wanted.now (I.remaining input.old.device) fault) }
-    ensures in_turn { IfErr result (λ fault. IsLineFault fault → InTurn (length lines.old.items + 1) wanted.now (I.remaining input.old.device) (I.remaining input.new.device)) }
+    ensures fit { IfOk result (λ lines. AllFit wanted.now (map (λ line. line.items) lines.items)) }
+    ensures taken { IfOk result (λ lines. TakesLines first wanted.now (I.remaining input.old.device) (I.remaining input.new.device) (map (λ line. line.items) lines.items)) }
+    ensures line_fault { IfErr result (λ fault. IsLineFault fault → FaultOfLines first wanted.now (I.remaining input.old.device) fault) }
+    ensures in_turn { IfErr result (λ fault. IsLineFault fault → InTurn first wanted.now (I.remaining input.old.device) (I.remaining input.new.device)) }
     ensures faults { IfErr result (λ fault. IsInputFault fault) }
 {
+    let mut lines = Vec::new(alloc);
     for length in wanted {
-        let bytes = read_bytes(alloc, lines.len() + 1, *length, input)?;
+        let bytes = read_bytes(alloc, first + lines.len(), *length, input)?;
         lines.push(bytes)?;
     }
-    Ok(())
+    Ok(lines)
 }

@@ -1,41 +1,54 @@
 //! Lines of output.
 #![tactic(auto)]
 
-ghost use Rattle.std.specs.Prelude.{◌≡◌, ◌++◌, ◌∷◌, [], IfOk, IfErr, OnOk};
-ghost use Rattle.mldsa_engine.specs.ProgramText.{text, hex_text, answer_word, Refuses, TellsAll};
+ghost use Rattle.std.specs.Prelude.{◌≡◌, ◌↔◌, ◌++◌, ◌∷◌, [], true, IsTrue, IfOk, IfErr, OnOk};
+ghost use Rattle.mldsa_engine.specs.ProgramText.{text, hex_text, answer_word, Refuses};
 
 use crate::fault::RunFault;
 use fips204::Fault;
 use std::alloc::Global;
 
-/// A refusal: its words on a line, and false.
-pub(super) fn refusal(alloc: Global, fault: Fault) -> Result<(Vec<u8>, bool), RunFault>
-    ensures given { IfOk result (λ given. Refuses fault given.0.items given.1) }
-    ensures memory { IfErr result (λ fault. fault ≡ RunFault.Memory) }
-{
-    Ok((word_line(alloc, fault.as_str())?, false))
+/// What a command gives back.
+#[derive(Drop)]
+pub(crate) struct Output {
+    /// What is written.
+    pub(crate) text: Vec<u8>,
+    /// Whether the command is done or its answer is `yes`.
+    pub(crate) success: bool,
 }
 
-/// The word for an answer, on a line, and the answer.
-pub(super) fn verdict(alloc: Global, answer: bool) -> Result<(Vec<u8>, bool), RunFault>
-    ensures given { IfOk result (λ given. (given.0.items ≡ text (answer_word answer ∷ [])) × (given.1 ≡ answer)) }
-    ensures memory { IfErr result (λ fault. fault ≡ RunFault.Memory) }
-{
-    Ok((word_line(alloc, word_of(answer))?, answer))
-}
-
-/// The word for each answer, on a line, and whether none is `no`.
-pub(super) fn verdicts(alloc: Global, answers: &[bool]) -> Result<(Vec<u8>, bool), RunFault>
-    ensures given { IfOk result (λ given. TellsAll answers.now given.0.items given.1) }
-    ensures memory { IfErr result (λ fault. fault ≡ RunFault.Memory) }
-{
-    let mut written = Vec::new(alloc);
-    let mut all = true;
-    for answer in answers {
-        push_line(&mut written, word_of(*answer))?;
-        all = all && *answer;
+impl Output {
+    /// Adds the word for an answer on a line. The output is a success as long as no answer is `no`.
+    pub(super) fn add_answer(&mut self, answer: bool) -> Result<(), RunFault>
+        ensures text { OnOk result (self.new.text.items ≡ self.old.text.items ++ (answer_word answer ++ 10 ∷ [])) }
+        ensures success { IsTrue self.new.success ↔ IsTrue self.old.success × IsTrue answer }
+        ensures memory { IfErr result (λ fault. fault ≡ RunFault.Memory) }
+    {
+        self.success = self.success && answer;
+        push_line(&mut self.text, word_of(answer))
     }
-    Ok((written, all))
+}
+
+/// The words of a refusal on a line, and no success.
+pub(super) fn refuse(alloc: Global, fault: Fault) -> Result<Output, RunFault>
+    ensures given { IfOk result (λ output. Refuses fault output.text.items output.success) }
+    ensures memory { IfErr result (λ fault. fault ≡ RunFault.Memory) }
+{
+    Ok(Output {
+        text: word_line(alloc, fault.as_str())?,
+        success: false,
+    })
+}
+
+/// The word for an answer on a line, which is a success if it is `yes`.
+pub(super) fn tell(alloc: Global, answer: bool) -> Result<Output, RunFault>
+    ensures given { IfOk result (λ output. (output.text.items ≡ text (answer_word answer ∷ [])) × (output.success ≡ answer)) }
+    ensures memory { IfErr result (λ fault. fault ≡ RunFault.Memory) }
+{
+    Ok(Output {
+        text: word_line(alloc, word_of(answer))?,
+        success: answer,
+    })
 }
 
 /// The word for an answer.
@@ -46,7 +59,7 @@ fn word_of(answer: bool) -> &'static str
 }
 
 /// A line of these characters.
-pub(super) fn word_line(alloc: Global, word: &str) -> Result<Vec<u8>, RunFault>
+fn word_line(alloc: Global, word: &str) -> Result<Vec<u8>, RunFault>
     ensures given { IfOk result (λ written. written.items ≡ text (word.now ∷ [])) }
     ensures memory { IfErr result (λ fault. fault ≡ RunFault.Memory) }
 {
@@ -56,23 +69,26 @@ pub(super) fn word_line(alloc: Global, word: &str) -> Result<Vec<u8>, RunFault>
 }
 
 /// A line that spells these bytes in lower case hex.
-pub(super) fn one_line(alloc: Global, bytes: &[u8]) -> Result<Vec<u8>, RunFault>
-    ensures given { IfOk result (λ written. written.items ≡ hex_text (bytes.now ∷ [])) }
+pub(super) fn one_line(alloc: Global, bytes: &[u8]) -> Result<Output, RunFault>
+    ensures given { IfOk result (λ output. (output.text.items ≡ hex_text (bytes.now ∷ [])) × (output.success ≡ true)) }
     ensures memory { IfErr result (λ fault. fault ≡ RunFault.Memory) }
 {
     let line = hex::encode(alloc, bytes)?;
-    word_line(alloc, line.as_str())
+    Ok(Output {
+        text: word_line(alloc, line.as_str())?,
+        success: true,
+    })
 }
 
 /// Two lines that spell these bytes in lower case hex.
-pub(super) fn two_lines(alloc: Global, first: &[u8], second: &[u8]) -> Result<Vec<u8>, RunFault>
-    ensures given { IfOk result (λ written. written.items ≡ hex_text (first.now ∷ second.now ∷ [])) }
+pub(super) fn two_lines(alloc: Global, first: &[u8], second: &[u8]) -> Result<Output, RunFault>
+    ensures given { IfOk result (λ output. (output.text.items ≡ hex_text (first.now ∷ second.now ∷ [])) × (output.success ≡ true)) }
     ensures memory { IfErr result (λ fault. fault ≡ RunFault.Memory) }
 {
-    let mut written = one_line(alloc, first)?;
+    let mut output = one_line(alloc, first)?;
     let line = hex::encode(alloc, second)?;
-    push_line(&mut written, line.as_str())?;
-    Ok(written)
+    push_line(&mut output.text, line.as_str())?;
+    Ok(output)
 }
 
 /// Adds a line of these characters.

@@ -1,4 +1,4 @@
-use Rattle.mldsa_engine.proofs.Joining.{takes_judged}
+use Rattle.mldsa_engine.proofs.LinesInSequence.{takes_judged}
 use Rattle.mldsa_engine.proofs.lines.read_bytes.Goals as goal
 
 pub returns-clause-taken : goal.returns-clause-taken

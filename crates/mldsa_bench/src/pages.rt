@@ -1,0 +1,15 @@
+//! The code of the pages for users, and programs that users build over the library, to be copied.
+#![tactic(auto)]
+
+pub mod generators;
+pub mod key_store;
+pub mod licence;
+#[cfg(test)]
+mod manifest;
+pub mod pieces;
+#[cfg(test)]
+mod toy_hash;
+#[cfg(test)]
+mod toy_stream;
+#[cfg(test)]
+mod using;

@@ -1,0 +1,74 @@
+//! The system's random bytes, as the library asks for them.
+#![tactic(auto)]
+
+ghost use Rattle.std.specs.Prelude.{◌≡◌, ℕ, length};
+
+use fips204::RngError;
+use fips204::ml_dsa_44::KG;
+use fips204::traits::{CryptoRngCore, KeyGen, Signer, Verifier};
+use fips204::xof::{Sha256Ctr, Sha512Ctr};
+use std::io;
+use std::random::RandomSource;
+use std::test::Fail;
+
+/// A source of the kit, such as the runtime of `main`, as a generator. It gives any bytes, as many as it is asked
+/// for, and refuses where the source reports an error; nothing is known of when that is.
+#[derive(Drop)]
+pub struct FromSource<R> {
+    /// The source.
+    pub source: R,
+}
+
+impl<R: RandomSource> CryptoRngCore for FromSource<R> {
+    ghost gives = { λ before asked bytes after. (length bytes ≡ asked) × (after ≡ before) };
+
+    ghost refuses = { λ before asked after. after ≡ before };
+
+    fn try_fill_bytes(&mut self, out: &mut [u8]) -> Result<(), RngError> {
+        match self.source.fill_bytes(out) {
+            Ok(()) => Ok(()),
+            Err(_) => Err(RngError),
+        }
+    }
+}
+
+/// A source of the tests: it writes one byte everywhere, or reports an error.
+#[derive(Drop)]
+struct Constant {
+    byte: Option<u8>,
+}
+
+impl RandomSource for Constant {
+    fn fill_bytes(&self, buf: &mut [u8]) -> io::Result<()> {
+        match self.byte {
+            Some(byte) => {
+                buf.fill(byte);
+                Ok(())
+            }
+            None => Err(io::Error::from(io::ErrorKind::Other)),
+        }
+    }
+}
+
+#[test]
+fn a_source_that_gives(rt: HostRuntime) -> Result<(), Fail> {
+    let (public, private) = KG::<Sha256Ctr, Sha512Ctr>::keygen_from_seed(&[7; 32])?;
+    let mut rng = FromSource {
+        source: Constant { byte: Some(3) },
+    };
+    let signature = private.try_sign_with_rng(&mut rng, b"a message", b"test")?;
+    assert!(rt; public.verify(b"a message", &signature, b"test"));
+    assert!(rt; signature == private.try_sign_with_seed(&[3; 32], b"a message", b"test")?);
+    Ok(())
+}
+
+#[test]
+fn a_source_that_refuses(rt: HostRuntime) -> Result<(), Fail> {
+    let (_, private) = KG::<Sha256Ctr, Sha512Ctr>::keygen_from_seed(&[7; 32])?;
+    let mut rng = FromSource {
+        source: Constant { byte: None },
+    };
+    let answer = private.try_sign_with_rng(&mut rng, b"a message", b"test");
+    assert!(rt; answer == Err(fips204::Fault::SignRng));
+    Ok(())
+}

@@ -1,0 +1,106 @@
+//! A licence checker: a token names a product, a last day and a customer, and is signed by the owner of a key.
+//!
+//! Bodies that the contracts refuse: `today < token.last_day`; a spelling without the customer.
+#![tactic(auto)]
+
+ghost use Rattle.std.specs.Prelude.{◌≡◌, ◌≢◌, ◌↔◌, IsTrue};
+ghost use Rattle.mldsa_bench.specs.Licence.{spelling, IsToken, IsValid, SpellingIsOneToOne};
+ghost use Rattle.mldsa_bench.specs.SameSignature.{MessagesCollide};
+
+use fips204::laws;
+use fips204::ml_dsa_44::{KG, PublicKey, SIG_LEN};
+use fips204::traits::{KeyGen, Signer, Verifier};
+use fips204::xof::{Sha256Ctr, Sha512Ctr, Xof};
+use std::test::Fail;
+
+/// What the owner's signatures are for.
+pub const CONTEXT: &[u8] = b"licence";
+
+/// What a customer is given, together with its signature.
+#[derive(Debug, Clone, Copy, PartialEq, Eq)]
+pub struct Token {
+    /// The product's number.
+    pub product: u32,
+    /// The last day on which it may be used, as a number of days.
+    pub last_day: u32,
+    /// The customer's name, ended by zeros.
+    pub customer: [u8; 32],
+}
+
+/// The bytes that are signed for a token.
+pub fn spelled(token: &Token) -> [u8; 40]
+    ensures bytes { result ≡ spelling token.now }
+    ensures range { IsToken token.now }
+{
+    let product: u32 = token.product;
+    let last_day: u32 = token.last_day;
+    let mut bytes = [0u8; 40];
+    bytes[..4].copy_from_slice(&product.to_be_bytes());
+    bytes[4..8].copy_from_slice(&last_day.to_be_bytes());
+    bytes[8..].copy_from_slice(&token.customer);
+    bytes
+}
+
+/// Two tokens with the same bytes are the same token.
+pub fn one_spelling()
+    ensures { SpellingIsOneToOne }
+{}
+
+/// Whether the token is signed by the owner of the key, and its last day has not passed.
+pub fn licence_valid<H: Xof, G: Xof>(
+    key: &PublicKey<H, G>,
+    token: &Token,
+    signature: &[u8; SIG_LEN],
+    today: u32,
+) -> bool
+    ensures { IsTrue result ↔ IsValid H.front G.front key.now CONTEXT.now token.now signature.now today }
+{
+    today <= token.last_day && key.verify(&spelled(token), signature, CONTEXT)
+}
+
+/// Whether one signature is accepted for two tokens. Where the tokens differ, that is a collision of the
+/// stream `H`, and the clause names the pair.
+pub fn accepted_for_both<H: Xof, G: Xof>(
+    key: &PublicKey<H, G>,
+    first: &Token,
+    second: &Token,
+    signature: &[u8; SIG_LEN],
+) -> bool
+    ensures { IsTrue result → first.now ≢ second.now → MessagesCollide H.front key.now.tr CONTEXT.now (spelling first.now) (spelling second.now) }
+{
+    laws::binding();
+    one_spelling();
+    key.verify(&spelled(first), signature, CONTEXT)
+        && key.verify(&spelled(second), signature, CONTEXT)
+}
+
+#[test]
+fn a_licence(rt: HostRuntime) -> Result<(), Fail> {
+    let (key, owner) = KG::<Sha256Ctr, Sha512Ctr>::keygen_from_seed(&[7; 32])?;
+    let token = Token {
+        product: 17,
+        last_day: 20_000,
+        customer: [b'a'; 32],
+    };
+    let signature = owner.try_sign_with_seed(&[0; 32], &spelled(&token), CONTEXT)?;
+    assert!(rt; licence_valid(&key, &token, &signature, 19_999));
+    assert!(rt; licence_valid(&key, &token, &signature, 20_000));
+    assert!(rt; !licence_valid(&key, &token, &signature, 20_001));
+    let mut other = token;
+    other.product = 18;
+    assert!(rt; !licence_valid(&key, &other, &signature, 19_999));
+    assert!(rt; accepted_for_both(&key, &token, &token, &signature));
+    assert!(rt; !accepted_for_both(&key, &token, &other, &signature));
+    other = token;
+    other.last_day = 20_001;
+    assert!(rt; !licence_valid(&key, &other, &signature, 19_999));
+    other = token;
+    other.customer[31] = b'b';
+    assert!(rt; !licence_valid(&key, &other, &signature, 19_999));
+    let elsewhere = owner.try_sign_with_seed(&[0; 32], &spelled(&token), b"manifest")?;
+    assert!(rt; !licence_valid(&key, &token, &elsewhere, 19_999));
+    let mut changed = signature;
+    changed[0] ^= 1;
+    assert!(rt; !licence_valid(&key, &token, &changed, 19_999));
+    Ok(())
+}

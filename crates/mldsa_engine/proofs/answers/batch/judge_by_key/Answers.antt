@@ -1,0 +1,11 @@
+use Rattle.std.proofs.Common.{rules}
+use Rattle.mldsa_engine.proofs.Verdicts.{judged_by_prepared}
+use Rattle.mldsa_engine.proofs.answers.batch.judge_by_key.Goals as goal
+
+pub returns-clause-judged : goal.returns-clause-judged
+returns-clause-judged g c =
+    let p = g.S.Set.set in
+    let sizes = g.met.S.SignatureSizes.sizes in
+    let law = c.prepared_keys.ensures p g.H.Xof.front g.G.Xof.front in
+    judged_by_prepared (λ output. output.text.items) (λ output. output.success) p _ _ c.unwrap-key.result c.prepare.result _ _ _ _ _ _ _
+    law (search rules) c.prepare.ensures sizes.signature c.judge_entries.ensures.judged
