@@ -1,3 +1,4 @@
 mod Joined
+mod KeyFiles
 mod Licences
 mod SameSignature

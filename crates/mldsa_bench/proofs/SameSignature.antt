@@ -18,4 +18,4 @@ unfolding message_of
 two_messages H G pk context first second signature binding one two differ =
     let inputs_differ = λ (same : plain context first ≡ plain context second). differ (ap message_of same) in
     let bound = binding set_44 H G pk (plain context first) (plain context second) signature refl inputs_differ one two in
-    elim bound.1 [ | inl messages ↦ inl messages | inr hashes ↦ inr (_, hashes) ]
+    elim bound.1 [ inl messages ↦ inl messages | inr hashes ↦ inr (_, hashes) ]

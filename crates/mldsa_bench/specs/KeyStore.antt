@@ -1,7 +1,7 @@
 -- The file of a private key, for an example: a byte of the version, one of the set, and the key's bytes.
-use Rattle.std.specs.Prelude.{◌≡◌, ◌⊎◌, ℕ, List, ◌∷◌, length, drop, slice_index, nat_eq, Option, Some, None, Result, MatchResult, if◌then◌else◌}
+use Rattle.std.specs.Prelude.{◌≡◌, ◌⊎◌, ℕ, List, ◌∷◌, length, drop, slice_index, nat_eq, Option, Some, None, Result, Ok, MatchResult, if◌then◌else◌}
 use Rattle.fips204_base.specs.Encodings.{private_key_bytes}
-use Rattle.fips204.specs.Keys.{PrivateParts, IsPrivateKeyOf}
+use Rattle.fips204.specs.Keys.{PrivateParts, ArePrivateParts, IsPrivateKeyOf}
 use Rattle.mldsa_bench.specs.declared.pages.key_store.LoadFault.{LoadFault}
 use Rattle.mldsa_bench.specs.declared.pages.key_store.LoadFault.TheVariants.{WrongLength, WrongHeader, WrongSet, WrongRange}
 
@@ -20,4 +20,10 @@ abbrev pub LoadsAs : List ℕ → Result PrivateParts LoadFault → Type 0
 LoadsAs file answer = MatchResult answer
     (λ key. (file_fault file ≡ None) × IsPrivateKeyOf 2 4 4 (drop 2 file) key)
     (λ fault. (file_fault file ≡ Some fault)
-        ⊎ ((file_fault file ≡ None) × (fault ≡ WrongRange) × ((key : PrivateParts) → IsPrivateKeyOf 2 4 4 (drop 2 file) key → ⊥)))
+    ⊎ ((file_fault file ≡ None) × (fault ≡ WrongRange) × ((key : PrivateParts) → IsPrivateKeyOf 2 4 4 (drop 2 file) key → ⊥)))
+
+-- what is loaded from the file of a key in range is that key
+abbrev pub LoadsStored : Type 0
+LoadsStored =
+    (sk : PrivateParts) (file : List ℕ) (answer : Result PrivateParts LoadFault) → ArePrivateParts 4 4 sk
+    → length file ≡ 2562 → file ≡ file_of sk → LoadsAs file answer → answer ≡ Ok sk

@@ -1,9 +1,12 @@
 //! A key store: a file has a byte of the version, a byte of the set, and the bytes of a private key.
+//!
+//! A body that the contracts refuse: a header that is not looked at.
 #![tactic(auto)]
 
 ghost use Rattle.std.specs.Prelude.{◌≡◌};
-ghost use Rattle.mldsa_bench.specs.KeyStore.{LoadsAs, file_of};
+ghost use Rattle.mldsa_bench.specs.KeyStore.{LoadsAs, LoadsStored, file_of};
 
+use fips204::laws;
 use fips204::ml_dsa_44::{KG, PrivateKey, SK_LEN};
 use fips204::traits::{KeyGen, SerDes, Signer};
 use fips204::xof::{Sha256Ctr, Sha512Ctr, Xof};
@@ -55,6 +58,13 @@ pub fn loaded<H: Xof, G: Xof>(file: &[u8]) -> Result<PrivateKey<H, G>, LoadFault
         Ok(key) => Ok(key),
         Err(_) => Err(LoadFault::WrongRange),
     }
+}
+
+/// What is loaded from the file of a key in range is that key.
+pub fn stored_is_loaded()
+    ensures { LoadsStored }
+{
+    laws::key_bytes();
 }
 
 /// What `loaded` says of a file, as `Ok` or the refusal.

@@ -5,6 +5,6 @@ use Rattle.mldsa_bench.proofs.pages.licence.accepted_for_both.Goals as goal
 pub returns-then-verify : goal.returns-then-verify
 returns-then-verify g c both differ =
     two_messages g.H.Xof.front g.G.Xof.front c.args.key.now _ _ _ c.args.signature.now c.binding.ensures.inputs
-        ((same_message c.verify.ensures c.spelled.ensures.bytes).0 c.if-verify.true)
-        ((same_message c.verify-then-verify.ensures c.spelled-then-verify.ensures.bytes).0 both)
-        (λ same. differ (c.one_spelling.ensures c.args.first.now c.args.second.now c.spelled.ensures.range c.spelled-then-verify.ensures.range same))
+    ((same_message c.verify.ensures c.spelled.ensures.bytes).0 c.if-verify.true)
+    ((same_message c.verify-then-verify.ensures c.spelled-then-verify.ensures.bytes).0 both)
+    (λ same. differ (c.one_spelling.ensures c.args.first.now c.args.second.now c.spelled.ensures.range c.spelled-then-verify.ensures.range same))
