@@ -1,4 +1,4 @@
-//! What each command reads, writes and answers.
+//! What each command reads, writes and returns.
 #![tactic(auto)]
 
 ghost use Rattle.std.specs.Prelude.{◌≡◌, ◌≤◌, ◌↔◌, length, map, false, Err, IsTrue, IfOk, IfErr};

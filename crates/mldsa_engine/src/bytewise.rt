@@ -3,10 +3,10 @@
 
 use std::io::{self, BufRead, Read};
 
-/// A buffered reader from which a single byte is taken out of the buffer, and more are read as the
-/// reader itself reads them. So standard input that can seek is read a byte at a time without a call of
-/// the system for each, and from a pipe, where only single bytes are buffered, a longer piece still
-/// comes in as few calls as the pipe gives. It tells none of its bytes.
+/// A buffered reader that takes single bytes out of the buffer and reads longer pieces as the reader itself
+/// does. So a file is read a byte at a time without a system call for each, and from a pipe, where only
+/// single bytes are buffered, a longer piece comes in as few calls as the pipe allows. It tells none of its
+/// bytes.
 #[derive(Drop)]
 pub struct Bytewise<B> {
     pub reader: B,

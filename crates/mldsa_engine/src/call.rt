@@ -28,9 +28,9 @@ pub enum Task {
     Sign,
     /// Prints whether a signature is accepted.
     Verify,
-    /// Makes the keys of a seed, signs with them and prints whether that is accepted.
+    /// Makes the key pair of a seed, signs with it and prints whether the signature is accepted.
     Check,
-    /// Prints of each of many signatures whether it is accepted.
+    /// Prints for each of many signatures whether it is accepted.
     Batch,
 }
 
@@ -88,7 +88,7 @@ fn set_name(word: &str) -> Option<SetName>
     }
 }
 
-/// The call that these words are, if they are one.
+/// The call that these words make, or `None`.
 pub(crate) fn call_of(words: &[String]) -> Option<(Streams, Task, SetName)>
     ensures named { IfSome result (λ call. map string_bytes words.now ≡ call_words call.0 call.1 call.2) }
     ensures unnamed { IfNone result ((streams : Streams) (task : Task) (set : SetName) → ¬ (map string_bytes words.now ≡ call_words streams task set)) }

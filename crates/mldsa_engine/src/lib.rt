@@ -26,13 +26,13 @@ pub use marked::Marked;
 use std::alloc::Global;
 use std::io::{Read, Write};
 
-/// Runs a command: reads the lines that it wants, and then writes its whole output. True is done or
-/// `yes`, false is `no` or a refusal.
+/// Runs a command: reads the lines that it expects, then writes its whole output. Returns true for success or
+/// `yes`, and false for `no` or an error of the library.
 ///
-/// A line is judged as soon as it is there, and only then is the next one asked for. After a line's fault no
-/// more was taken of the input than the lines up to that one, and the characters that it would have if it
-/// were good; another fault leaves open how far the input was read. Nothing was written after a fault,
-/// unless it is `RunFault::Write`, which leaves open how much was.
+/// A line is judged as soon as it is read, and only then is the next one read. After a fault of a line, no
+/// more was read than the lines before it and as many of its characters as it would have if it were good;
+/// after another fault the input may have been read further. After a fault nothing was written, except for
+/// `RunFault::Write`, after which any part of the output may be.
 pub fn run<H: Xof, G: Xof, I: Read, O: Write>(
     alloc: Global,
     task: Task,
@@ -54,8 +54,8 @@ pub fn run<H: Xof, G: Xof, I: Read, O: Write>(
     Ok(success)
 }
 
-/// Runs the command that the words after the program's name call for, compared byte for byte.
-/// Where they are no call, nothing is read or written.
+/// Runs the command named by the words after the program's name, compared byte for byte. If they are no call,
+/// returns `RunFault::Usage`, and nothing is read or written.
 pub fn from_words<I: Read, O: Write>(
     alloc: Global,
     words: &[String],

@@ -10,7 +10,7 @@ use hex::FromHexError;
 use std::alloc::Global;
 use std::io::Read;
 
-/// The most characters that a line may have.
+/// The largest number of characters of a line.
 pub const LONGEST_LINE: usize = 2097152;
 
 /// The most bytes that are asked for at once.

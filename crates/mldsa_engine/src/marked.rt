@@ -55,8 +55,8 @@ impl<D> Marked<D> {
 }
 
 impl<D: Read> Marked<D> {
-    /// Asks the device once for bytes, and hands on how many it gave: none where it is at its end, or
-    /// where no room is.
+    /// Reads from the device once, and returns how many bytes it gave: none at the end of the input, or if
+    /// there is no room.
     pub(crate) fn read(&mut self, room: &mut [u8]) -> Result<usize, RunFault>
         requires unmarked { self.old.failed ≡ false }
         ensures mark { MatchResult result (λ _. self.new.failed ≡ false) (λ fault. (self.new.failed ≡ true) × (fault ≡ RunFault.Read)) }
@@ -74,7 +74,7 @@ impl<D: Read> Marked<D> {
 }
 
 impl<D: Write> Marked<D> {
-    /// Hands the device bytes once, and hands on how many it took: some, unless there are none.
+    /// Writes to the device once, and returns how many bytes it took: some, unless there are none.
     pub(crate) fn write(&mut self, bytes: &[u8]) -> Result<usize, RunFault>
         requires unmarked { self.old.failed ≡ false }
         ensures mark { MatchResult result (λ _. self.new.failed ≡ false) (λ fault. (self.new.failed ≡ true) × (fault ≡ RunFault.Write)) }

@@ -8,8 +8,7 @@ use crate::fault::RunFault;
 use crate::marked::Marked;
 use std::io::Write;
 
-/// Writes all of these bytes, in one call of the device where it takes them all, and in none where
-/// there are none.
+/// Writes all of these bytes: in one call of the device if it takes them all, and in none if there are none.
 pub fn write_all<O: Write>(output: &mut Marked<O>, bytes: &[u8]) -> Result<(), RunFault>
     requires unmarked { output.old.failed ≡ false }
     ensures { MatchResult result (λ _. (output.new.failed ≡ false) × Appends (O.contents output.old.device) (O.contents output.new.device) bytes.now) (λ fault. (output.new.failed ≡ true) × (fault ≡ RunFault.Write)) }

@@ -27,7 +27,7 @@ pub fn words<R: Env + AllocGlobal>(rt: &R) -> Result<Vec<String>, RunFault>
     Ok(words)
 }
 
-/// The exit status of an answer: 0 for done or `yes`, 1 for `no` or a refusal, 2 for a fault.
+/// The exit status of a run: 0 for success or `yes`, 1 for `no` or an error of the library, 2 for a fault.
 pub fn status(answer: Result<bool, RunFault>) -> u8
     ensures { result ≡ status_of answer }
 {

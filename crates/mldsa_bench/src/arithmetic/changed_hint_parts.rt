@@ -148,16 +148,22 @@ fn sweep<const K: usize, const N: usize>(omega: i32) -> [Option<usize>; 3]
     ]
 }
 
+/// Three hint parts of set 44, and every part that differs from one of them in one byte, are read as a slow
+/// decoder reads them; 257, 513 and 258 spell a hint.
 #[test]
 fn parts_changed_in_one_byte_at_set_44(rt: HostRuntime) {
     assert!(rt; sweep::<4, 84>(80) == [Some(257), Some(513), Some(258)]);
 }
 
+/// Three hint parts of set 65, and every part that differs from one of them in one byte, are read as a slow
+/// decoder reads them; 257, 513 and 258 spell a hint.
 #[test]
 fn parts_changed_in_one_byte_at_set_65(rt: HostRuntime) {
     assert!(rt; sweep::<6, 61>(55) == [Some(257), Some(513), Some(258)]);
 }
 
+/// Three hint parts of set 87, and every part that differs from one of them in one byte, are read as a slow
+/// decoder reads them; 257, 513 and 258 spell a hint.
 #[test]
 fn parts_changed_in_one_byte_at_set_87(rt: HostRuntime) {
     assert!(rt; sweep::<8, 83>(75) == [Some(257), Some(513), Some(258)]);
@@ -187,6 +193,8 @@ fn accepted_about(key: &Public44, part: &mut [u8; 84]) -> Option<usize> {
     Some(count)
 }
 
+/// Signatures of set 44 whose hint differs in one byte are accepted if and only if the slow decoder reads a
+/// hint: 257, 513 and 258 of them.
 #[test]
 fn signatures_changed_in_one_byte_of_their_hint(rt: HostRuntime) -> Result<(), Fail> {
     let key = Public44::try_from_bytes(public_44())?;

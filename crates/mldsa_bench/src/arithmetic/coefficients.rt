@@ -4,6 +4,7 @@
 use fips204::conversion::{coeff_from_half_byte, coeff_from_three_bytes};
 use std::test::Fail;
 
+/// `12 34 56`, `12 34 80`, `01 E0 80` and `00 E0 7F` make coefficients, `01 E0 7F` makes none.
 #[test]
 fn coefficients_of_three_bytes(rt: HostRuntime) -> Result<(), Fail> {
     for (bytes, coefficient) in [
@@ -18,6 +19,7 @@ fn coefficients_of_three_bytes(rt: HostRuntime) -> Result<(), Fail> {
     Ok(())
 }
 
+/// Half bytes 3 and 15 at eta 2, and 8 and 9 at eta 4.
 #[test]
 fn coefficients_of_half_bytes(rt: HostRuntime) -> Result<(), Fail> {
     assert!(rt; coeff_from_half_byte(2, 3) == Some(-1));

@@ -76,6 +76,7 @@ fn spells_none(places: &[u8], counts: [u8; 4]) -> bool {
     hint_bit_unpack::<4>(80, &part_of(places, counts)).is_none()
 }
 
+/// The hint with a one at index 5 of polynomial 0 and at both ends of polynomial 2 is packed and read back.
 #[test]
 fn ones_and_their_places(rt: HostRuntime) -> Result<(), Fail> {
     let hint = hint_and_back(&[0x05, 0x00, 0xff], [1, 1, 3, 3]).ok_or("no hint")?;
@@ -83,6 +84,7 @@ fn ones_and_their_places(rt: HostRuntime) -> Result<(), Fail> {
     Ok(())
 }
 
+/// No ones, 80 ones in one polynomial, and 67 ones with totals `12 1E 2D 43` are read and packed again.
 #[test]
 fn parts_that_spell_hints(rt: HostRuntime) {
     assert!(rt; spells(&[], [0, 0, 0, 0], [0, 0, 0, 0]));
@@ -92,6 +94,8 @@ fn parts_that_spell_hints(rt: HostRuntime) {
     assert!(rt; spells(&MANY_PLACES, [0x12, 0x1e, 0x2d, 0x43], [18, 12, 15, 22]));
 }
 
+/// Indices that fall or repeat, indices that no total covers, a total above 80 and totals that fall spell no
+/// hint.
 #[test]
 fn parts_that_spell_none(rt: HostRuntime) {
     let mut late = [0u8; 80];

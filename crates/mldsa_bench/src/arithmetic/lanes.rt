@@ -90,6 +90,7 @@ fn spread_rows() -> [Lanes; 256]
     out
 }
 
+/// Both ends of `i32`, q - 1, 1 - q and small numbers, as an array, a row of lanes and an array again.
 #[test]
 fn rows_and_arrays(rt: HostRuntime) -> Result<(), Fail> {
     let entries = [-2147483648, 2147483647, 0, -1, 1, -8380416, 8380416, 7];
@@ -126,6 +127,8 @@ fn counted_ntt(rows: [Lanes; 256]) -> ([Lanes; 256], bool)
     (out, count.products() == 1024 && count.sums() == 2048)
 }
 
+/// 1, X and six zeros, transformed side by side: the three transforms, with 1024 products and 2048 sums for
+/// all eight.
 #[test]
 fn one_x_and_zeros_side_by_side(rt: HostRuntime) {
     let (out, counted) = counted_ntt(one_and_x());
@@ -155,6 +158,8 @@ fn both_ways(w: [i32; 256]) -> ([i32; 256], [i32; 256])
     (hat[0], plain[0])
 }
 
+/// Eight polynomials with coefficients from 1 - q to q - 1: each lane is the transform over `i32` modulo q,
+/// and the way back returns the polynomial.
 #[test]
 fn eight_forth_and_back(rt: HostRuntime) {
     let (hats, back, counted) = eight_both_ways();

@@ -21,6 +21,7 @@ fn is_reduced_to(wide: i64, reduced: i32) -> bool
     mont_reduce(wide) == reduced
 }
 
+/// `mont_reduce` at 0, 1, 2^32 and both ends of its range.
 #[test]
 fn montgomery_reductions(rt: HostRuntime) -> Result<(), Fail> {
     assert!(rt; is_reduced_to(0, 0));
@@ -31,6 +32,7 @@ fn montgomery_reductions(rt: HostRuntime) -> Result<(), Fail> {
     Ok(())
 }
 
+/// The table of powers begins with 4193792, 25847, 5771523.
 #[test]
 fn first_powers_of_zeta(rt: HostRuntime) -> Result<(), Fail> {
     assert!(rt; ZETA_TABLE_MONT.starts_with(&[4193792, 25847, 5771523]));
@@ -44,6 +46,7 @@ fn is_centred_to(x: i32, centred: i32) -> bool
     center_mod(x) == centred
 }
 
+/// Centring at both ends of its range.
 #[test]
 fn centred_values(rt: HostRuntime) -> Result<(), Fail> {
     assert!(rt; is_centred_to(0, 0));
@@ -68,6 +71,7 @@ fn has_norm(x: i32, norm: i32) -> bool
     infinity_norm(&[R(constant(x))]) == norm
 }
 
+/// Norms of the coefficients 0, 4190208, 4190209, 8380416 and their negatives.
 #[test]
 fn norms(rt: HostRuntime) {
     assert!(rt; has_norm(0, 0));
@@ -194,6 +198,8 @@ fn all_congruent(values: &[i32; 256], x: i32) -> bool {
     true
 }
 
+/// The transform of 1 is 1 everywhere, that of X begins with 1753 and 8378664, and each takes 1024 products
+/// and 2048 sums.
 #[test]
 fn transforms_of_one_and_x(rt: HostRuntime) {
     let (values, counted) = counted_ntt(monomial(0, 1));
@@ -217,6 +223,8 @@ fn is_multiplied(a: [i32; 256], b: [i32; 256]) -> bool
     fast_product(a, b) == slow_product(&a, &b)
 }
 
+/// X^255 times X is q - 1 at index 0, also in Montgomery form; fixed polynomials, and all coefficients q -
+/// 1, agree with a product by double sums.
 #[test]
 fn products_of_polynomials(rt: HostRuntime) {
     assert!(rt; turns_round());
@@ -229,6 +237,8 @@ fn products_of_polynomials(rt: HostRuntime) {
     assert!(rt; is_multiplied(constant(8380416), constant(8380416)));
 }
 
+/// The challenge over bytes 55 times the polynomial of coefficients 2, by double sums: 2, -2, and then -6
+/// and -2 in turn.
 #[test]
 fn challenge_times_a_constant(rt: HostRuntime) -> Result<(), Fail> {
     let R(c) = sample_in_ball::<Fill<0x55>>(39, b"abc")?;
@@ -264,6 +274,7 @@ fn largest_products() -> Result<[i32; 2], Fault> {
     ])
 }
 
+/// At tau 39 and eta 2 the largest coefficient of a product with a challenge is 78.
 #[test]
 fn bound_of_a_product_with_a_challenge(rt: HostRuntime) {
     assert_eq!(rt; largest_products(), Ok([78, 8380417 - 78]));
@@ -278,6 +289,8 @@ fn largest_sum() -> i32 {
     sum
 }
 
+/// The largest sum or difference inside the inverse transform of 256 times q - 1, and of 256 times 1 - q, is
+/// 2145386496.
 #[test]
 fn largest_sum_of_the_inverse_transform(rt: HostRuntime) {
     assert_eq!(rt; largest_sum(), 2145386496);
@@ -292,6 +305,7 @@ fn has_constant_inverse(value: i32, wanted: i32) -> bool
     counted && inverse == monomial(0, wanted)
 }
 
+/// Inverse transforms of 256 times q - 1 and 256 times 1 - q, with their counts.
 #[test]
 fn inverse_transforms_of_constants(rt: HostRuntime) {
     assert!(rt; has_constant_inverse(8380416, 8380416));

@@ -9,6 +9,7 @@ use fips204::high_low::{decompose, high_bits, make_hint, power2round, use_hint};
 use fips204::types::R;
 use std::test::Fail;
 
+/// `decompose` on both sides of q - 1 less gamma2.
 #[test]
 fn edges_of_decompose(rt: HostRuntime) -> Result<(), Fail> {
     assert!(rt; decompose(95232, 8285184) == (43, 95232));
@@ -17,6 +18,7 @@ fn edges_of_decompose(rt: HostRuntime) -> Result<(), Fail> {
     Ok(())
 }
 
+/// Hints at 0 wrap to 43 and 15; the distances 190465 and 523777 are the largest that a hint leaves.
 #[test]
 fn hints_round_the_end(rt: HostRuntime) -> Result<(), Fail> {
     assert!(rt; use_hint(95232, 1, 0) == 43);
@@ -26,6 +28,7 @@ fn hints_round_the_end(rt: HostRuntime) -> Result<(), Fail> {
     Ok(())
 }
 
+/// `make_hint` of 95232, the largest change for which a hint is promised, and of 95233.
 #[test]
 fn hints_at_the_range_of_a_change(rt: HostRuntime) -> Result<(), Fail> {
     assert!(rt; !make_hint(95232, 95232, 0));
@@ -43,6 +46,7 @@ fn parts_of(coefficients: [i32; 256]) -> ([i32; 256], [i32; 256])
     (high[0].0, low[0].0)
 }
 
+/// `power2round` of 4096, 4097 and q - 1.
 #[test]
 fn parts_of_coefficients(rt: HostRuntime) -> Result<(), Fail> {
     assert!(rt; parts_of([4096; 256]) == ([0; 256], [4096; 256]));

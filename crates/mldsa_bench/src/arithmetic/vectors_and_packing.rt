@@ -13,6 +13,7 @@ use fips204::types::R;
 use fips204::xof::Fill;
 use std::test::Fail;
 
+/// `add_vector_ntt` of 1 and 2, and of -7 and 4.
 #[test]
 fn sums_of_vectors(rt: HostRuntime) {
     let [first, second] = add_vector_ntt(&[R([1; 256]), R([-7; 256])], &[R([2; 256]), R([4; 256])]);
@@ -20,6 +21,7 @@ fn sums_of_vectors(rt: HostRuntime) {
     assert!(rt; second.0 == [-3; 256]);
 }
 
+/// 256 times 1023 packs to 320 bytes FF, and back.
 #[test]
 fn fields_of_ten_bits(rt: HostRuntime) {
     let mut bytes = [0u8; 320];
@@ -38,6 +40,7 @@ fn beginnings() -> Result<[bool; 2], Fault> {
     Ok([first.0.starts_with(&start), second.0.starts_with(&start)])
 }
 
+/// `ExpandS` over bytes 10: both vectors begin with 2, 1, 2, 1.
 #[test]
 fn small_vectors_of_a_key(rt: HostRuntime) {
     assert_eq!(rt; beginnings(), Ok([true; 2]));
@@ -49,6 +52,7 @@ fn ones_in(signature: &[u8; 2420]) -> Option<[usize; 4]> {
     Some(ones_of(&hint))
 }
 
+/// The hints of two recorded signatures of set 44, by `sig_decode`: totals `16 22 36 48` and `12 1E 2D 43`.
 #[test]
 fn hints_in_signatures(rt: HostRuntime) -> Result<(), Fail> {
     // The last four bytes of the recorded signature, its running totals, are 16 22 36 48.

@@ -21,6 +21,7 @@ type Private87 = ml_dsa_87::PrivateKey<Fill<0x55>, Fill<0>>;
 /// A public key of set 44.
 type Public44 = ml_dsa_44::PublicKey<Fill<0x55>, Fill<0>>;
 
+/// The key pair of set 44 with `H` of bytes 55 and `G` of bytes 00, byte for byte, for any seed.
 #[test]
 fn pair_of_set_44(rt: HostRuntime) -> Result<(), Fail> {
     let (public, private) = ml_dsa_44::KG::<Fill<0x55>, Fill<0>>::keygen_from_seed(&[7; 32])?;
@@ -30,6 +31,7 @@ fn pair_of_set_44(rt: HostRuntime) -> Result<(), Fail> {
     Ok(())
 }
 
+/// The key pair of set 65 with `H` of bytes 55 and `G` of bytes 00, byte for byte, for any seed.
 #[test]
 fn pair_of_set_65(rt: HostRuntime) -> Result<(), Fail> {
     let (public, private) = ml_dsa_65::KG::<Fill<0x55>, Fill<0>>::keygen_from_seed(&[0; 32])?;
@@ -38,6 +40,7 @@ fn pair_of_set_65(rt: HostRuntime) -> Result<(), Fail> {
     Ok(())
 }
 
+/// The key pair of set 87 with `H` of bytes 55 and `G` of bytes 00, byte for byte, for any seed.
 #[test]
 fn pair_of_set_87(rt: HostRuntime) -> Result<(), Fail> {
     let (public, private) = ml_dsa_87::KG::<Fill<0x55>, Fill<0>>::keygen_from_seed(&[0; 32])?;
@@ -46,6 +49,7 @@ fn pair_of_set_87(rt: HostRuntime) -> Result<(), Fail> {
     Ok(())
 }
 
+/// The three private keys over constant streams come back from their bytes.
 #[test]
 fn private_keys_come_back(rt: HostRuntime) -> Result<(), Fail> {
     let key = Private44::try_from_bytes(private_44())?;
@@ -57,6 +61,7 @@ fn private_keys_come_back(rt: HostRuntime) -> Result<(), Fail> {
     Ok(())
 }
 
+/// The first field of s1 set to 4 is accepted, and to 5 and 7 `KeyRange`.
 #[test]
 fn first_fields_of_private_keys(rt: HostRuntime) -> Result<(), Fail> {
     let mut bytes = private_44();
@@ -85,6 +90,8 @@ fn in_range<const N: usize>(field: u8, most: u8, bytes: [u8; N]) -> Result<[u8; 
     }
 }
 
+/// The first field of s1 and the last of s2 at set 44, with every value of their bits: the same bytes come
+/// back up to 2 eta, and above it `KeyRange`.
 #[test]
 fn field_ranges_of_set_44(rt: HostRuntime) {
     for field in 0..8u8 {
@@ -103,6 +110,8 @@ fn field_ranges_of_set_44(rt: HostRuntime) {
     }
 }
 
+/// The first field of s1 and the last of s2 at set 65, with every value of their bits: the same bytes come
+/// back up to 2 eta, and above it `KeyRange`.
 #[test]
 fn field_ranges_of_set_65(rt: HostRuntime) {
     for field in 0..16u8 {
@@ -121,6 +130,8 @@ fn field_ranges_of_set_65(rt: HostRuntime) {
     }
 }
 
+/// The first field of s1 and the last of s2 at set 87, with every value of their bits: the same bytes come
+/// back up to 2 eta, and above it `KeyRange`.
 #[test]
 fn field_ranges_of_set_87(rt: HostRuntime) {
     for field in 0..8u8 {
@@ -139,6 +150,7 @@ fn field_ranges_of_set_87(rt: HostRuntime) {
     }
 }
 
+/// `get_public_key` of the private key of set 44 is the public key of its pair.
 #[test]
 fn public_key_of_a_private_key(rt: HostRuntime) -> Result<(), Fail> {
     let key = Private44::try_from_bytes(private_44())?.get_public_key()?;
@@ -147,6 +159,7 @@ fn public_key_of_a_private_key(rt: HostRuntime) -> Result<(), Fail> {
     Ok(())
 }
 
+/// With `tr` of bytes 00 the public key keeps it until it is decoded anew.
 #[test]
 fn public_key_of_a_key_with_another_hash(rt: HostRuntime) -> Result<(), Fail> {
     let mut bytes = private_44();
@@ -159,6 +172,7 @@ fn public_key_of_a_key_with_another_hash(rt: HostRuntime) -> Result<(), Fail> {
     Ok(())
 }
 
+/// `get_public_key` does not look at t0.
 #[test]
 fn public_key_of_a_key_with_other_low_parts(rt: HostRuntime) -> Result<(), Fail> {
     let mut bytes = private_44();

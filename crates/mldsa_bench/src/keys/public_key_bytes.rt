@@ -15,6 +15,7 @@ fn counting<const N: usize>() -> [u8; N] {
     bytes
 }
 
+/// Public keys whose bytes count up modulo 256 come back, at each set.
 #[test]
 fn counting_bytes_come_back(rt: HostRuntime) -> Result<(), Fail> {
     let bytes = counting::<{ ml_dsa_44::PK_LEN }>();
@@ -35,6 +36,7 @@ fn through_bytes<S: SerDes>(bytes: S::ByteArray) -> Result<S::ByteArray, Fail> {
     Ok(S::try_from_bytes(bytes)?.into_bytes())
 }
 
+/// Public keys of one byte value come back, for every value.
 #[test]
 fn every_byte_value_comes_back(rt: HostRuntime) -> Result<(), Fail> {
     for byte in [0u8, 1, 0x7f, 0x80, 0xff] {

@@ -50,6 +50,7 @@ impl RandomSource for Constant {
     }
 }
 
+/// A generator over a source of the kit signs as the call with the bytes that the source returned.
 #[test]
 fn a_source_that_gives(rt: HostRuntime) -> Result<(), Fail> {
     let (public, private) = KG::<Sha256Ctr, Sha512Ctr>::keygen_from_seed(&[7; 32])?;
@@ -62,6 +63,7 @@ fn a_source_that_gives(rt: HostRuntime) -> Result<(), Fail> {
     Ok(())
 }
 
+/// A source that reports an error: `SignRng`.
 #[test]
 fn a_source_that_refuses(rt: HostRuntime) -> Result<(), Fail> {
     let (_, private) = KG::<Sha256Ctr, Sha512Ctr>::keygen_from_seed(&[7; 32])?;

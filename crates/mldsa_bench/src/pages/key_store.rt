@@ -73,6 +73,7 @@ fn outcome(file: &[u8]) -> Result<(), LoadFault> {
     Ok(())
 }
 
+/// A key loaded from its file signs the same; each error of a file by itself and in its order.
 #[test]
 fn a_stored_key(rt: HostRuntime) -> Result<(), Fail> {
     let (_, private) = KG::<Sha256Ctr, Sha512Ctr>::keygen_from_seed(&[7; 32])?;

@@ -74,6 +74,7 @@ pub fn accepted_for_both<H: Xof, G: Xof>(
         && key.verify(&spelled(second), signature, CONTEXT)
 }
 
+/// A token is valid up to its last day, and not with another product, day, customer, context or signature.
 #[test]
 fn a_licence(rt: HostRuntime) -> Result<(), Fail> {
     let (key, owner) = KG::<Sha256Ctr, Sha512Ctr>::keygen_from_seed(&[7; 32])?;

@@ -45,6 +45,8 @@ pub fn accepted_for_both<H: Xof, G: Xof>(
     key.verify(first, signature, name) && key.verify(second, signature, name)
 }
 
+/// A file is returned under its name, and under no other name or text; one signature for two texts is not
+/// accepted for both.
 #[test]
 fn a_file_under_its_name(rt: HostRuntime) -> Result<(), Fail> {
     let (public, private) = KG::<Sha256Ctr, Sha512Ctr>::keygen_from_seed(&[7; 32])?;

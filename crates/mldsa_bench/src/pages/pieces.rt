@@ -41,6 +41,8 @@ pub fn accepts_joined<H: Xof, G: Xof>(
     Ok(key.verify_mu(&mu, signature))
 }
 
+/// A message verifies however it is cut in two, and not with other pieces; a signature of another length is
+/// none.
 #[test]
 fn a_message_in_pieces(rt: HostRuntime) -> Result<(), Fail> {
     let (key, owner) = KG::<Sha256Ctr, Sha512Ctr>::keygen_from_seed(&[7; 32])?;

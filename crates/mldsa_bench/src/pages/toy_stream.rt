@@ -97,6 +97,8 @@ fn has_ends<H: Xof>(first: [u8; 16], last: [u8; 8]) -> bool {
     front.starts_with(&first) && front.ends_with(&last) && front == cut
 }
 
+/// The first 16 bytes and the last 8 of both toy fronts over `abc`, whole and in three parts, computed with
+/// Python from the two definitions.
 #[test]
 fn toy_fronts(rt: HostRuntime) {
     let first = *b"\x9d\xf3\xe0\x96\x13\xe5\x64\xed\x8e\xd6\xe8\x43\x04\xc8\x6c\x9a";
@@ -107,6 +109,7 @@ fn toy_fronts(rt: HostRuntime) {
     assert!(rt; has_ends::<ToySpread>(first, last));
 }
 
+/// A pair over the toy streams signs, and the signature is accepted.
 #[test]
 fn toy_signatures(rt: HostRuntime) {
     let answer = pairwise_check::<KG<ToyCtr, ToyCtr>>(&[1; 32], &[2; 32], b"a message", b"");

@@ -106,6 +106,8 @@ where
     Ok(private.into_bytes())
 }
 
+/// A signature under a key read back from its bytes is accepted, and rejected for another message; a
+/// generator of zeros signs the same.
 #[test]
 fn a_stored_pair(rt: HostRuntime) -> Result<(), Fail> {
     let (public, private) = stored(&[7; 32])?;
@@ -117,6 +119,7 @@ fn a_stored_pair(rt: HostRuntime) -> Result<(), Fail> {
     Ok(())
 }
 
+/// The signature of a file's digest is accepted, and rejected for another file.
 #[test]
 fn a_signed_file(rt: HostRuntime) -> Result<(), Fail> {
     let (public, private) = Keys::keygen_from_seed(&[7; 32])?;
@@ -126,6 +129,7 @@ fn a_signed_file(rt: HostRuntime) -> Result<(), Fail> {
     Ok(())
 }
 
+/// Three messages under prepared keys, one of them empty, are accepted.
 #[test]
 fn three_messages(rt: HostRuntime) -> Result<(), Fail> {
     let (public, private) = Keys::keygen_from_seed(&[7; 32])?;
@@ -135,6 +139,7 @@ fn three_messages(rt: HostRuntime) -> Result<(), Fail> {
     Ok(())
 }
 
+/// One generic function signs and verifies at each set with a key read back from its bytes.
 #[test]
 fn one_function_at_three_sets(rt: HostRuntime) -> Result<(), Fail> {
     let key = private_bytes::<Keys, _, _, 2560>(&[7; 32])?;

@@ -41,6 +41,8 @@ fn answers(
     Ok(unread == Some(0))
 }
 
+/// `fill55 batch 44` with a good and a changed signature, in both orders: `yes` and `no` in order, status 1;
+/// two good ones, status 0.
 #[test]
 fn answers_in_the_order_of_the_entries(rt: HostRuntime) -> Result<(), Fail> {
     let (good, bad) = (signature_44(), refused_44());
@@ -55,6 +57,7 @@ fn answers_in_the_order_of_the_entries(rt: HostRuntime) -> Result<(), Fail> {
     Ok(())
 }
 
+/// Count `0000`: no output, status 0, and what follows stays unread.
 #[test]
 fn batch_without_an_entry(rt: HostRuntime) -> Result<(), Fail> {
     let alloc = rt.alloc();
@@ -78,6 +81,7 @@ fn is_no_count(alloc: Global, count: &[u8]) -> Result<bool, AllocError> {
     Ok(ends(alloc, BATCH_44, input.as_slice(), Err(fault), b""))
 }
 
+/// Counts of no byte, one and three: `line 3: wants 2 bytes, has 0`, and so on.
 #[test]
 fn counts_of_another_length(rt: HostRuntime) -> Result<(), Fail> {
     assert!(rt; is_no_count(rt.alloc(), &[])?);
@@ -103,6 +107,7 @@ fn long_batch(alloc: Global, count: usize) -> Result<Vec<u8>, AllocError> {
     Ok(input)
 }
 
+/// Count `0100` is 256 entries; with one entry fewer `line 514: missing`.
 #[test]
 fn high_byte_of_a_count_stands_first(rt: HostRuntime) -> Result<(), Fail> {
     let alloc = rt.alloc();
@@ -123,6 +128,7 @@ fn high_byte_of_a_count_stands_first(rt: HostRuntime) -> Result<(), Fail> {
     Ok(())
 }
 
+/// Over `fillff` every entry of a batch is `no`.
 #[test]
 fn batch_over_a_key_without_matrix(rt: HostRuntime) -> Result<(), Fail> {
     let good = signature_44();
@@ -135,6 +141,7 @@ fn batch_over_a_key_without_matrix(rt: HostRuntime) -> Result<(), Fail> {
     Ok(())
 }
 
+/// With a context of 256 bytes every entry is `no`, with 255 bytes `yes`.
 #[test]
 fn long_context_of_a_batch(rt: HostRuntime) -> Result<(), Fail> {
     let good = signature_44();
@@ -166,6 +173,8 @@ fn batches_run<'a>(alloc: Global, set: &'a str, public: &'a str, signature: &'a 
         )
 }
 
+/// `sha2` batches at each set, `yes` twice, and `yes`, `no`, `yes`, with reads and writes counted and what
+/// follows unread.
 #[test]
 fn batches_of_each_set(rt: HostRuntime) {
     for [set, public, _, signature] in RECORDED {
@@ -176,6 +185,8 @@ fn batches_of_each_set(rt: HostRuntime) {
     }
 }
 
+/// A signature of 2419 bytes in the last entry: `line 6: wants 2420 bytes, has 2419`, and nothing is written
+/// for the first.
 #[test]
 fn faults_before_answers(rt: HostRuntime) -> Result<(), Fail> {
     let alloc = rt.alloc();

@@ -114,6 +114,7 @@ fn judges_run<'a>(alloc: Global, set: &'a str, public: &'a str, signature: &'a s
         )
 }
 
+/// Each command at each set, byte for byte, with its reads and writes counted.
 #[test]
 fn each_command_at_each_set(rt: HostRuntime) {
     for [set, public, private, signature] in RECORDED {
@@ -265,6 +266,8 @@ fn judges_judge<'a>(
     )
 }
 
+/// Readers that count their calls, at each fault and each line: no line is read before the one before it is
+/// judged.
 #[test]
 fn each_line_is_judged_before_the_next_is_read(rt: HostRuntime) -> Result<(), Fail> {
     for [set, public, private, signature] in RECORDED {
@@ -296,6 +299,7 @@ fn is_too_long(alloc: Global, line: usize, before: &[&str]) -> Result<bool, Allo
     )
 }
 
+/// Lines longer than expected are judged with the characters that they have.
 #[test]
 fn lines_that_are_too_long(rt: HostRuntime) -> Result<(), Fail> {
     assert!(rt; is_too_long(rt.alloc(), 1, &[])?);
@@ -321,6 +325,7 @@ fn is_put(alloc: Global, bytes: &[u8], fails_at: usize) -> bool {
         && (fails || writer.taken.as_slice() == bytes)
 }
 
+/// Of 0 to 20000 bytes the device is handed each.
 #[test]
 fn writes_of_every_size(rt: HostRuntime) {
     let bytes = [0x5a; 20000];
@@ -338,6 +343,7 @@ pub fn is_told(alloc: Global, answer: Result<bool, RunFault>, status: u8, text: 
     end(&error, answer) == ExitCode::from(status) && error.text.into_inner().as_str() == text
 }
 
+/// Status 0, 1 and 2, and each text on standard error.
 #[test]
 fn statuses_and_lines_of_faults(rt: HostRuntime) {
     let usage =
@@ -383,6 +389,7 @@ const CALL: [&[u8]; 4] = [b"mldsa", b"fill55", b"id", b"44"];
 /// Arguments of which one is no text.
 const NO_TEXT: [&[u8]; 2] = [b"mldsa", b"\xff"];
 
+/// The name of the program is left out of its words, and nothing else.
 #[test]
 fn words_after_the_name_of_the_program(rt: HostRuntime) -> Result<(), Fail> {
     let alloc = rt.alloc();
@@ -412,6 +419,7 @@ fn gives_singly(
     Ok(true)
 }
 
+/// Single bytes come out of the buffer, a longer piece from the device.
 #[test]
 fn single_bytes_come_from_a_buffer(rt: HostRuntime) -> Result<(), Fail> {
     let reader = Trickle {

@@ -205,6 +205,9 @@ fn run_of_id(
     first_wrong(alloc, run)
 }
 
+/// `id` at set 44 with devices of one byte a call, which fail at each call in turn (of long inputs and
+/// outputs at a choice of calls), and with the input ended there: the fault, with nothing written, or the
+/// bytes of the calls before a failed write.
 #[test]
 fn failing_devices_of_id(rt: HostRuntime) -> Result<(), Fail> {
     assert_eq!(rt; run_of_id(rt.alloc(), &[0; 1312], true)?, [None; 3]);
@@ -212,6 +215,9 @@ fn failing_devices_of_id(rt: HostRuntime) -> Result<(), Fail> {
     Ok(())
 }
 
+/// `keygen` at set 44 with devices of one byte a call, which fail at each call in turn (of long inputs and
+/// outputs at a choice of calls), and with the input ended there: the fault, with nothing written, or the
+/// bytes of the calls before a failed write.
 #[test]
 fn failing_devices_of_keygen(rt: HostRuntime) -> Result<(), Fail> {
     let written = hex_lines(rt.alloc(), &[&public_44(), &private_44()])?;
@@ -227,6 +233,9 @@ fn failing_devices_of_keygen(rt: HostRuntime) -> Result<(), Fail> {
     Ok(())
 }
 
+/// `sign` at set 44 with devices of one byte a call, which fail at each call in turn (of long inputs and
+/// outputs at a choice of calls), and with the input ended there: the fault, with nothing written, or the
+/// bytes of the calls before a failed write.
 #[test]
 fn failing_devices_of_sign(rt: HostRuntime) -> Result<(), Fail> {
     let key = private_44();
@@ -243,6 +252,9 @@ fn failing_devices_of_sign(rt: HostRuntime) -> Result<(), Fail> {
     Ok(())
 }
 
+/// `verify` at set 44 with devices of one byte a call, which fail at each call in turn (of long inputs and
+/// outputs at a choice of calls), and with the input ended there: the fault, with nothing written, or the
+/// bytes of the calls before a failed write.
 #[test]
 fn failing_devices_of_verify(rt: HostRuntime) -> Result<(), Fail> {
     let (key, signature) = (public_44(), signature_44());
@@ -276,6 +288,9 @@ fn run_of_check(
     first_wrong(alloc, run)
 }
 
+/// `check` at set 44 with devices of one byte a call, which fail at each call in turn (of long inputs and
+/// outputs at a choice of calls), and with the input ended there: the fault, with nothing written, or the
+/// bytes of the calls before a failed write.
 #[test]
 fn failing_devices_of_check(rt: HostRuntime) -> Result<(), Fail> {
     assert_eq!(rt; run_of_check(rt.alloc(), [[0; 32]; 2], &[0], 2)?, [None; 3]);
@@ -286,6 +301,9 @@ fn failing_devices_of_check(rt: HostRuntime) -> Result<(), Fail> {
     Ok(())
 }
 
+/// `batch` at set 44 with devices of one byte a call, which fail at each call in turn (of long inputs and
+/// outputs at a choice of calls), and with the input ended there: the fault, with nothing written, or the
+/// bytes of the calls before a failed write.
 #[test]
 fn failing_devices_of_batch(rt: HostRuntime) -> Result<(), Fail> {
     let (key, good, bad) = (public_44(), signature_44(), refused_44());

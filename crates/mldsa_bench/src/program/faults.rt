@@ -51,6 +51,7 @@ fn unread_of_id(
     }
 }
 
+/// `fill55 id 44` and 2624 digits 0: that line, then 128 digits 5.
 #[test]
 fn key_of_zeros(rt: HostRuntime) {
     let unread = unread_of_id(
@@ -62,6 +63,8 @@ fn key_of_zeros(rt: HostRuntime) {
     assert!(rt; unread == Some(0));
 }
 
+/// 2622 digits: `wants 1312 bytes, has 1311`; 63: `not hex`; 62: `wants 1312 bytes, has 31`; an empty line;
+/// no input: `missing`.
 #[test]
 fn keys_of_other_lengths(rt: HostRuntime) {
     let length = |has| RunFault::Length {
@@ -81,6 +84,8 @@ fn keys_of_other_lengths(rt: HostRuntime) {
     assert!(rt; is_fault_of_id(rt.alloc(), b"", missing));
 }
 
+/// A letter past f, a carriage return, a space, `0x`, an odd number of digits and bytes above 127 are `not
+/// hex`.
 #[test]
 fn characters_that_are_no_digits(rt: HostRuntime) {
     for line in [
@@ -95,6 +100,7 @@ fn characters_that_are_no_digits(rt: HostRuntime) {
     }
 }
 
+/// Upper-case hex is read, and printed in lower case.
 #[test]
 fn upper_case_comes_out_lower(rt: HostRuntime) {
     let unread = unread_of_id(
@@ -106,6 +112,7 @@ fn upper_case_comes_out_lower(rt: HostRuntime) {
     assert!(rt; unread == Some(0));
 }
 
+/// What follows the last expected line stays unread.
 #[test]
 fn what_follows_stays_unread(rt: HostRuntime) -> Result<(), Fail> {
     let mut bytes = line_of(rt.alloc(), b'0', 2624)?;
@@ -116,6 +123,7 @@ fn what_follows_stays_unread(rt: HostRuntime) -> Result<(), Fail> {
     Ok(())
 }
 
+/// A last line without LF is read.
 #[test]
 fn last_line_without_its_end(rt: HostRuntime) -> Result<(), Fail> {
     let outcome = run_of(rt.alloc(), WHOLE, ["fill00", "id", "44"], &[b'0'; 2624])?;
@@ -128,6 +136,7 @@ fn is_line_at_fault(alloc: Global, call: [&str; 3], digits: usize, fault: RunFau
     unread_of_lines(alloc, call, &[(b'0', digits)], Err(fault), b"").is_some()
 }
 
+/// 63 digits: `not hex`; 62: `wants 32 bytes, has 31`; no input: `missing`.
 #[test]
 fn seeds_that_are_none(rt: HostRuntime) {
     let call = ["fillff", "keygen", "65"];
@@ -154,6 +163,7 @@ fn is_refused(alloc: Global, call: [&str; 3], lines: &[(u8, usize)], text: &[u8]
     unread_of_lines(alloc, call, lines, Ok(false), text).is_some()
 }
 
+/// `fillff keygen` at each set prints `sampling limit reached`.
 #[test]
 fn keys_past_the_sampling_limit(rt: HostRuntime) {
     for set in ["44", "65", "87"] {
@@ -162,6 +172,7 @@ fn keys_past_the_sampling_limit(rt: HostRuntime) {
     }
 }
 
+/// A key out of range comes before a context of 256 bytes, which is refused by itself too.
 #[test]
 fn refusals_of_signing_in_order(rt: HostRuntime) {
     for (digit, text) in [
@@ -173,6 +184,7 @@ fn refusals_of_signing_in_order(rt: HostRuntime) {
     }
 }
 
+/// A missing line comes before both errors of signing.
 #[test]
 fn faults_of_lines_before_refusals_of_signing(rt: HostRuntime) {
     let call = ["fill55", "sign", "44"];
@@ -181,6 +193,7 @@ fn faults_of_lines_before_refusals_of_signing(rt: HostRuntime) {
     assert!(rt; unread_of_lines(rt.alloc(), call, &lines, Err(fault), b"").is_some());
 }
 
+/// A signature of 2419 bytes: `line 2: wants 2420 bytes, has 2419`.
 #[test]
 fn signatures_of_another_length(rt: HostRuntime) {
     let call = ["fill55", "verify", "44"];
@@ -193,6 +206,7 @@ fn signatures_of_another_length(rt: HostRuntime) {
     assert!(rt; unread_of_lines(rt.alloc(), call, &lines, Err(fault), b"").is_some());
 }
 
+/// `fillff verify 44` prints `no`; a fifth line stays unread.
 #[test]
 fn signature_over_a_key_without_matrix(rt: HostRuntime) {
     let call = ["fillff", "verify", "44"];
@@ -200,6 +214,8 @@ fn signature_over_a_key_without_matrix(rt: HostRuntime) {
     assert!(rt; unread_of_lines(rt.alloc(), call, &lines, Ok(false), b"no\n") == Some(3));
 }
 
+/// `check` at set 44: `yes` over `fill55`, too many attempts over `fill00`, a long context, and before that
+/// the error of key generation over `fillff`.
 #[test]
 fn pairs_checked_by_what_they_sign(rt: HostRuntime) {
     for (streams, digits, answer, text) in [
@@ -224,6 +240,7 @@ fn pairs_checked_by_what_they_sign(rt: HostRuntime) {
     }
 }
 
+/// Words that are no call: the usage fault, with nothing read.
 #[test]
 fn words_that_are_no_call(rt: HostRuntime) {
     for call in [
@@ -241,6 +258,7 @@ fn words_that_are_no_call(rt: HostRuntime) {
     }
 }
 
+/// The text of each fault.
 #[test]
 fn texts_of_faults(rt: HostRuntime) -> Result<(), Fail> {
     for (fault, text) in [
@@ -269,6 +287,7 @@ fn texts_of_faults(rt: HostRuntime) -> Result<(), Fail> {
     Ok(())
 }
 
+/// A writer that fails at byte 0, 1 or 22 of an error of the library: `write failed` after so many bytes.
 #[test]
 fn writer_that_fails_at_a_refusal(rt: HostRuntime) -> Result<(), Fail> {
     let line = line_of(rt.alloc(), b'0', 64)?;
@@ -307,6 +326,8 @@ fn signs_as(
     ))
 }
 
+/// Byte 128 of a private key is 05, with a context of 256 bytes: the error of the key; without the last
+/// line, `line 4: missing`.
 #[test]
 fn key_out_of_range_before_a_long_context(rt: HostRuntime) -> Result<(), Fail> {
     let text = b"Alg 25: s1 or s2 out of range\n";
@@ -316,6 +337,7 @@ fn key_out_of_range_before_a_long_context(rt: HostRuntime) -> Result<(), Fail> {
     Ok(())
 }
 
+/// Byte 128 is 04: the error of the context, and with an empty context the signature, byte for byte.
 #[test]
 fn key_at_the_end_of_its_range(rt: HostRuntime) -> Result<(), Fail> {
     let text = b"ML-DSA.Sign: ctx too long\n";
@@ -326,6 +348,8 @@ fn key_at_the_end_of_its_range(rt: HostRuntime) -> Result<(), Fail> {
     Ok(())
 }
 
+/// 2097153 characters are `too long`, digits or not; 2097152 are `not hex`, or `wants 1312 bytes, has
+/// 1048576`.
 #[test]
 fn lines_at_the_longest(rt: HostRuntime) -> Result<(), Fail> {
     let length = RunFault::Length {
@@ -345,6 +369,7 @@ fn lines_at_the_longest(rt: HostRuntime) -> Result<(), Fail> {
     Ok(())
 }
 
+/// A carriage return after a key is `not hex`.
 #[test]
 fn carriage_return_after_a_key(rt: HostRuntime) -> Result<(), Fail> {
     let mut line = vec![in rt.alloc(); b'0'; 2624]?;

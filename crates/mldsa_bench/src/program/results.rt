@@ -103,6 +103,7 @@ fn are_given<'a>(
     )
 }
 
+/// Every command at every set with `fill55`, byte for byte; `no` with a context of 256 bytes.
 #[test]
 fn runs_over_constant_streams(rt: HostRuntime) -> Result<(), Fail> {
     let alloc = rt.alloc();
@@ -135,6 +136,7 @@ fn are_given_over_counters(alloc: Global, recorded: [&str; 4]) -> Result<bool, F
     )
 }
 
+/// Every command at every set with `sha2`, byte for byte; `no` with another message or context.
 #[test]
 fn runs_over_counter_streams(rt: HostRuntime) -> Result<(), Fail> {
     for recorded in RECORDED {

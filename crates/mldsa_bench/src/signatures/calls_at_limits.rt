@@ -72,6 +72,8 @@ fn answers<S: TestSet>() -> Result<[Result<bool, Fault>; 6], Fault> {
     ])
 }
 
+/// Every fourth triple 0 and the rest FF at each set: key generation, deriving, preparing, signing and
+/// verifying return what they return over constant streams.
 #[test]
 fn calls_whose_matrix_ends_at_its_last_triple(rt: HostRuntime) {
     let all = Ok([Ok(true); 6]);
@@ -80,6 +82,7 @@ fn calls_whose_matrix_ends_at_its_last_triple(rt: HostRuntime) {
     assert_eq!(rt; answers::<Set87<Fill<0x55>, LastTriple>>(), all);
 }
 
+/// Past that limit each call returns `SamplingLimit`, also `prepare`, and verifying returns false.
 #[test]
 fn calls_whose_matrix_passes_its_limit(rt: HostRuntime) {
     let limit = Err(Fault::SamplingLimit);
@@ -92,6 +95,8 @@ fn calls_whose_matrix_passes_its_limit(rt: HostRuntime) {
     assert_eq!(rt; answers::<Set87<Fill<0x55>, Fill<0xff>>>(), refused);
 }
 
+/// `H` of bytes FF over inputs of 32 bytes and else 55, set 44: the same keys, `SamplingLimit` in signing,
+/// and false, with plain and prepared keys.
 #[test]
 fn challenges_that_pass_their_limit(rt: HostRuntime) {
     let limit = Err(Fault::SamplingLimit);
@@ -106,6 +111,7 @@ fn pair_fault<S: TestSet>() -> Option<Fault> {
     S::pair(&[0; 32]).err()
 }
 
+/// Key generation with `G`, or `H`, of bytes FF returns `SamplingLimit`.
 #[test]
 fn key_generation_past_limits(rt: HostRuntime) {
     let limit = Some(Fault::SamplingLimit);
@@ -130,6 +136,7 @@ fn accepts_commitment_of_ff() -> Result<[bool; 2], Fault> {
     ])
 }
 
+/// Verifying returns false where matrix or challenge reach their limit.
 #[test]
 fn verifying_past_limits(rt: HostRuntime) {
     assert_eq!(rt; accepts_commitment_of_ff(), Ok([false; 2]));
@@ -150,6 +157,7 @@ fn seeded_faults<S: TestSet>() -> Result<[Option<Fault>; 2], Fault> {
     signing_faults::<S>(&key)
 }
 
+/// Both streams of bytes 00, each set: `TooManyAttempts`, with plain and prepared keys.
 #[test]
 fn keys_that_never_sign(rt: HostRuntime) {
     let many = Ok([Some(Fault::TooManyAttempts); 2]);
@@ -183,6 +191,7 @@ fn put_low_part(key: &mut [u8; 2560], place: usize, field: u32)
     }
 }
 
+/// A key of set 44 with another t0, whose product with the challenge is too large: `TooManyAttempts`.
 #[test]
 fn low_parts_that_never_sign(rt: HostRuntime) -> Result<(), Fail> {
     let key = ml_dsa_44::PrivateKey::<Fill<0x55>, Fill<0>>::try_from_bytes(with_low_parts())?;
@@ -223,6 +232,8 @@ fn smallest_response<H: Xof>(gamma1: i64, tau: i32, eta: i32) -> Result<i64, Fau
     Ok(smallest)
 }
 
+/// `H` of bytes 00 over the masks of attempt 0 and else 55, set 44: that attempt is rejected, and attempt 1
+/// signs as over constant streams.
 #[test]
 fn first_attempts_that_are_rejected(rt: HostRuntime) -> Result<(), Fail> {
     assert!(rt; masks_are::<4, Second>(131072, 0, 131072));
@@ -232,6 +243,8 @@ fn first_attempts_that_are_rejected(rt: HostRuntime) -> Result<(), Fail> {
     Ok(())
 }
 
+/// Over bytes 00 every coefficient of the mask is gamma1, and the smallest response is 130998, 524100 and
+/// 524172 at the three sets.
 #[test]
 fn responses_over_zeros(rt: HostRuntime) -> Result<(), Fail> {
     assert!(rt; masks_are::<4, Fill<0>>(131072, 0, 131072));
@@ -246,6 +259,7 @@ fn responses_over_zeros(rt: HostRuntime) -> Result<(), Fail> {
     Ok(())
 }
 
+/// A product of challenge and t0 that is too large: 159724 at index 255, by double sums.
 #[test]
 fn challenge_times_large_low_parts(rt: HostRuntime) -> Result<(), Fail> {
     let R(c) = sample_in_ball::<Fill<0x55>>(39, &[0x55; 32])?;

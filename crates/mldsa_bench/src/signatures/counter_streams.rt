@@ -75,6 +75,8 @@ fn are_recorded<S: TestSet>(alloc: Global, recorded: &[&str; 4]) -> Result<[bool
     Ok([a, b, c, d, e, f, g, h, i, j])
 }
 
+/// Key pairs and signatures over the counter streams, byte for byte, with seeds of 32 bytes 00 given or
+/// drawn, by plain and prepared keys; another message, context or bit is rejected.
 #[test]
 fn bytes_of_each_set(rt: HostRuntime) -> Result<(), Fail> {
     let alloc = rt.alloc();
@@ -94,6 +96,7 @@ fn bytes_of_each_set(rt: HostRuntime) -> Result<(), Fail> {
     Ok(())
 }
 
+/// The recorded bytes of each set again over the longer counter streams.
 #[test]
 fn bytes_of_each_set_over_long_fronts(rt: HostRuntime) -> Result<(), Fail> {
     let alloc = rt.alloc();
@@ -128,6 +131,7 @@ fn signs_digest<S: TestSet>(alloc: Global, digest: &str) -> Result<[bool; 4], Fa
     ])
 }
 
+/// Signed digests at each set over the counter streams, by SHA-256 of the signature.
 #[test]
 fn signed_digests(rt: HostRuntime) -> Result<(), Fail> {
     let digest = "4309fb4dd5abe94f0f311fc405d50c307e428f4ca843ab68bacc8d87e084f95b";
@@ -213,6 +217,8 @@ fn lists<S: TestSet>() -> Result<([bool; 4], [[bool; 5]; 4], [[bool; 5]; 3]), Fa
     Ok((signed, [none, one, five, spoiled], long))
 }
 
+/// Lists of 0, 1 and 5 messages under prepared keys, entry by entry as single calls; one changed signature;
+/// a context of 256 bytes.
 #[test]
 fn many_messages_of_each_set(rt: HostRuntime) {
     let verdicts = [

@@ -6,6 +6,7 @@ use fips204::pre_hash::{self, digest_len};
 use fips204::{Fault, check_pre_hash};
 use std::test::Fail;
 
+/// The twelve object identifiers, byte for byte, and the lengths of their digests.
 #[test]
 fn identifiers_and_lengths(rt: HostRuntime) -> Result<(), Fail> {
     for (identifier, last, length) in [
@@ -32,6 +33,7 @@ fn identifiers_and_lengths(rt: HostRuntime) -> Result<(), Fail> {
     Ok(())
 }
 
+/// Each error of `check_pre_hash` by itself and in its order; digests of 0, 31, 33, 1024 and 1025 bytes.
 #[test]
 fn digests_that_are_refused(rt: HostRuntime) -> Result<(), Fail> {
     let sha256 = oid(0x01);
@@ -60,6 +62,7 @@ fn digests_that_are_refused(rt: HostRuntime) -> Result<(), Fail> {
     Ok(())
 }
 
+/// Object identifiers of 3, 129 and 130 bytes.
 #[test]
 fn longest_identifiers(rt: HostRuntime) -> Result<(), Fail> {
     assert!(rt; check_pre_hash(&[], &longest_oid()) == Ok(()));

@@ -83,6 +83,9 @@ fn every_call_draws<S: TestSet>(call: u8, writes: bool) -> Result<[bool; 5], Fau
     ])
 }
 
+/// At each set every drawing call, plain and prepared, with a generator that fails at its first, second or
+/// third of four calls: the error of that call; the others sign as over constant streams. The generator is
+/// asked four times, with zeros to fill.
 #[test]
 fn refusing_generators(rt: HostRuntime) {
     for call in 0..3u8 {
@@ -103,6 +106,7 @@ fn refused_and_left(out: &mut [u8]) -> bool {
     answer.is_err() && out.iter().all(|byte| *byte == 0x11) && bytes == [7; 32]
 }
 
+/// `DummyRng` asked for 0, 31, 32 and 33 bytes.
 #[test]
 fn generator_of_one_seed(rt: HostRuntime) {
     assert!(rt; refused_and_left(&mut [0; 0]));

@@ -38,6 +38,8 @@ fn accepted(signature: [u8; 2420]) -> Result<[bool; 2], Fault> {
     ])
 }
 
+/// The first field of z: 78 is rejected, 79 and 262065 accepted, 262066 rejected, by plain and prepared
+/// public keys.
 #[test]
 fn range_of_z(rt: HostRuntime) {
     for (field, yes) in [(78, false), (79, true), (262065, true), (262066, false)] {
@@ -49,6 +51,8 @@ fn range_of_z(rt: HostRuntime) {
     }
 }
 
+/// Eight hint parts in one signature whose hash does not depend on them: accepted if and only if they spell
+/// a hint, by plain and prepared public keys.
 #[test]
 fn hints_of_signatures(rt: HostRuntime) {
     let mut late = [0u8; 80];
@@ -81,6 +85,7 @@ fn first_bytes<const N: usize>(z: &[u8]) -> [u8; N] {
     bytes
 }
 
+/// z begins with `53 55 4D` at set 44 and with `56 55 65 55 55` at set 65 over constant streams.
 #[test]
 fn first_bytes_of_z(rt: HostRuntime) {
     assert_eq!(rt; first_bytes(&signature_44()[32..]), [0x53, 0x55, 0x4d]);

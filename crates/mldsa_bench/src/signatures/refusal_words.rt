@@ -4,6 +4,7 @@
 use fips204::Fault;
 use std::test::Fail;
 
+/// The thirteen texts of `Fault`, by `as_str` and by `Display`.
 #[test]
 fn words_of_refusals(rt: HostRuntime) -> Result<(), Fail> {
     let table = [

@@ -64,6 +64,7 @@ fn comes_in_pieces<H: Xof, const N: usize>(size: usize) -> bool
     reader.left() == 0
 }
 
+/// SHA-256 and SHA-512 of `abc`, which the counter streams start from, as Python's `hashlib` has them.
 #[test]
 fn digests_of_the_input(rt: HostRuntime) -> Result<(), Fail> {
     let digest = hex::decode(
@@ -79,6 +80,8 @@ fn digests_of_the_input(rt: HostRuntime) -> Result<(), Fail> {
     Ok(())
 }
 
+/// The front of the SHA-256 counter stream over `abc`, whole and cut in three: first and last block, and the
+/// SHA-256 of all 4096 bytes, from Python.
 #[test]
 fn sha256_counter_front(rt: HostRuntime) -> Result<(), Fail> {
     for parts in [[b"abc".as_slice(), b"", b""], [b"a".as_slice(), b"", b"bc"]] {
@@ -94,6 +97,8 @@ fn sha256_counter_front(rt: HostRuntime) -> Result<(), Fail> {
     Ok(())
 }
 
+/// The front of the SHA-512 counter stream over `abc`, whole and cut in three: first and last block, and the
+/// SHA-256 of all 4096 bytes, from Python.
 #[test]
 fn sha512_counter_front(rt: HostRuntime) -> Result<(), Fail> {
     for parts in [[b"abc".as_slice(), b"", b""], [b"a".as_slice(), b"", b"bc"]] {
@@ -109,6 +114,8 @@ fn sha512_counter_front(rt: HostRuntime) -> Result<(), Fail> {
     Ok(())
 }
 
+/// The front of the longer SHA-256 counter stream over `abc`, whole and cut in three: first and last block,
+/// and the SHA-256 of all 16384 bytes, from Python.
 #[test]
 fn long_sha256_counter_front(rt: HostRuntime) -> Result<(), Fail> {
     for parts in [[b"abc".as_slice(), b"", b""], [b"a".as_slice(), b"", b"bc"]] {
@@ -124,6 +131,8 @@ fn long_sha256_counter_front(rt: HostRuntime) -> Result<(), Fail> {
     Ok(())
 }
 
+/// The front of the longer SHA-512 counter stream over `abc`, whole and cut in three: first and last block,
+/// and the SHA-256 of all 16384 bytes, from Python.
 #[test]
 fn long_sha512_counter_front(rt: HostRuntime) -> Result<(), Fail> {
     for parts in [[b"abc".as_slice(), b"", b""], [b"a".as_slice(), b"", b"bc"]] {
@@ -139,6 +148,8 @@ fn long_sha512_counter_front(rt: HostRuntime) -> Result<(), Fail> {
     Ok(())
 }
 
+/// Read at once or in pieces of 1 to 4096 bytes, around each block length, a front has the same bytes, and
+/// none are left.
 #[test]
 fn fronts_in_pieces(rt: HostRuntime) {
     for size in [1usize, 7, 31, 32, 33, 63, 64, 65, 100, 200, 4095, 4096] {
@@ -157,6 +168,7 @@ fn fronts_in_pieces(rt: HostRuntime) {
     }
 }
 
+/// The longer fronts have the same bytes in pieces of several sizes.
 #[test]
 fn long_fronts_in_pieces(rt: HostRuntime) {
     for size in [33usize, 100, 4096, 16384] {
@@ -171,6 +183,7 @@ fn long_fronts_in_pieces(rt: HostRuntime) {
     }
 }
 
+/// A constant stream is 4096 times its byte.
 #[test]
 fn constant_front(rt: HostRuntime) {
     assert!(rt; front::<Fill<0x55>, 4096>(&[b"abc"]) == [0x55; 4096]);

@@ -38,6 +38,8 @@ fn challenge_at_zero() -> [i32; 256] {
 
 const LIMIT: Fault = Fault::SamplingLimit;
 
+/// Fronts of 4096, 4097, 5000 and 8192 bytes: an entry whose 256th value comes from triple 1024 is there
+/// where a quarter of the front allows it.
 #[test]
 fn entries_of_longer_fronts(rt: HostRuntime) {
     // 255 of the first 1024 triples are kept, and triple 1024 is the last.
@@ -53,6 +55,7 @@ fn entries_of_longer_fronts(rt: HostRuntime) {
     assert!(rt; entry::<PatternedBy<Turn<2985, 0xff, 0>, 5000>>() == Err(LIMIT));
 }
 
+/// Fronts of 4096 to 8192 bytes: small polynomials at their limit and one byte past it.
 #[test]
 fn small_polynomials_of_longer_fronts(rt: HostRuntime) {
     assert!(rt; small::<PatternedBy<Turn<897, 0xff, 0>, 4096>>() == Err(LIMIT));
@@ -63,6 +66,7 @@ fn small_polynomials_of_longer_fronts(rt: HostRuntime) {
     assert!(rt; small::<PatternedBy<Turn<1123, 0xff, 0>, 5000>>() == Err(LIMIT));
 }
 
+/// Fronts of 4096 to 8192 bytes: challenges at their limit and one byte past it.
 #[test]
 fn challenges_of_longer_fronts(rt: HostRuntime) {
     let wanted = challenge_at_zero();

@@ -10,6 +10,8 @@ use fips204::types::{R, T};
 use fips204::xof::{Fill, Sha256Ctr, Sha512Ctr, Xof, XofReader};
 use std::test::Fail;
 
+/// Every fourth triple 0 and the rest FF: an entry of zeros, whose last value comes from triple 1023; with
+/// one value fewer, `SamplingLimit`.
 #[test]
 fn matrix_entries_at_their_last_triple(rt: HostRuntime) -> Result<(), Fail> {
     let T(values) = rej_ntt_poly::<Patterned<FourthTriples<0>>>(&[b"abc"])?;
@@ -19,6 +21,7 @@ fn matrix_entries_at_their_last_triple(rt: HostRuntime) -> Result<(), Fail> {
     Ok(())
 }
 
+/// 896 bytes FF and then 00: all coefficients 2. With 897, `SamplingLimit`.
 #[test]
 fn small_polynomials_at_their_last_byte(rt: HostRuntime) -> Result<(), Fail> {
     let R(values) = rej_bounded_poly::<Patterned<Turn<896, 0xff, 0>>>(2, &[b"abc"])?;
@@ -28,6 +31,7 @@ fn small_polynomials_at_their_last_byte(rt: HostRuntime) -> Result<(), Fail> {
     Ok(())
 }
 
+/// Bytes 10: at eta 2 the coefficients 2, 1 in turn, at eta 4 the coefficients 4, 3.
 #[test]
 fn low_halves_come_first(rt: HostRuntime) -> Result<(), Fail> {
     let R(values) = rej_bounded_poly::<Fill<0x10>>(2, &[])?;
@@ -37,6 +41,7 @@ fn low_halves_come_first(rt: HostRuntime) -> Result<(), Fail> {
     Ok(())
 }
 
+/// A challenge over bytes 55: -1 at index 85, and from 218 on -1 and 1 in turn.
 #[test]
 fn challenge_over_one_byte(rt: HostRuntime) -> Result<(), Fail> {
     let R(c) = sample_in_ball::<Fill<0x55>>(39, &[0x55; 32])?;
@@ -49,6 +54,7 @@ fn challenge_over_one_byte(rt: HostRuntime) -> Result<(), Fail> {
     Ok(())
 }
 
+/// Eight sign bytes FF, 985 bytes FF and then 00: -1 at index 0 and from 218 on. With 986, `SamplingLimit`.
 #[test]
 fn challenges_at_their_last_byte(rt: HostRuntime) -> Result<(), Fail> {
     let R(c) = sample_in_ball::<Patterned<Turn<993, 0xff, 0>>>(39, b"abc")?;
@@ -71,6 +77,7 @@ fn all_zero<G: Xof>() -> Result<bool, Fault> {
     )
 }
 
+/// A matrix over that stream, whose entries use their last triple; with one value fewer, `SamplingLimit`.
 #[test]
 fn matrices_at_their_last_triple(rt: HostRuntime) -> Result<(), Fail> {
     assert!(rt; all_zero::<Patterned<FourthTriples<0>>>() == Ok(true));
@@ -84,6 +91,8 @@ fn begins<G: Xof>(first: &[i32], second: &[i32]) -> Result<bool, Fault> {
     Ok(right.0.starts_with(first) && below.0.starts_with(second))
 }
 
+/// How the entries at row 0, column 1 and at row 1, column 0 of a matrix of set 44 begin, over `Sha512Ctr`
+/// and 32 bytes 00.
 #[test]
 fn entries_of_a_matrix(rt: HostRuntime) -> Result<(), Fail> {
     let same = begins::<Sha512Ctr>(&[7001555, 1207596, 2204206], &[7900514, 3235171, 2899941])?;
@@ -108,6 +117,7 @@ fn last_mask<H: Xof>(rho: &[u8; 64]) -> bool {
     }
 }
 
+/// The largest counter of a mask, 5697, is the bytes `41 16` after the seed.
 #[test]
 fn counter_of_the_last_mask(rt: HostRuntime) -> Result<(), Fail> {
     assert!(rt; last_mask::<Sha256Ctr>(&[7; 64]));

@@ -99,7 +99,7 @@ where
     judge_entries(alloc, &key.prepare(), context, count, input)
 }
 
-/// Whether a prepared key accepts a signature; false where there is no key, since it has no matrix.
+/// Whether a prepared key accepts a signature; false if the key has no matrix.
 fn is_accepted<S, const K: usize, const L: usize, const N: usize, const SIG_LEN: usize, H: Xof>(
     key: &Result<PreparedPublicKey<K, L, H>, Fault>,
     message: &[u8],

@@ -8,12 +8,12 @@ use crate::fault::RunFault;
 use fips204::Fault;
 use std::alloc::Global;
 
-/// What a command gives back.
+/// The result of a command.
 #[derive(Drop)]
 pub(crate) struct Output {
     /// What is written.
     pub(crate) text: Vec<u8>,
-    /// Whether the command is done or its answer is `yes`.
+    /// Whether the command succeeded or its answer is `yes`.
     pub(crate) success: bool,
 }
 
