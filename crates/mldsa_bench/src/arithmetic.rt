@@ -5,6 +5,7 @@ pub mod changed_hint_parts;
 pub mod coefficients;
 pub mod hint_parts;
 pub mod lanes;
+pub mod noted_sums;
 pub mod polynomials;
 pub mod rounding;
 pub mod vectors_and_packing;

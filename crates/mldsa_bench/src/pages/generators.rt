@@ -11,8 +11,8 @@ use std::io;
 use std::random::RandomSource;
 use std::test::Fail;
 
-/// A source of the kit, such as the runtime of `main`, as a generator. It gives any bytes, as many as it is asked
-/// for, and refuses where the source reports an error; nothing is known of when that is.
+/// A source of the kit, such as the runtime of `main`, as a generator. It returns any bytes, as many as it is asked
+/// for, and fails if the source reports an error; nothing is known about when that is.
 #[derive(Drop)]
 pub struct FromSource<R> {
     /// The source.

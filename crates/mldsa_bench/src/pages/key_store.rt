@@ -12,19 +12,19 @@ use fips204::traits::{KeyGen, SerDes, Signer};
 use fips204::xof::{Sha256Ctr, Sha512Ctr, Xof};
 use std::test::Fail;
 
-/// How many bytes a file has.
+/// The number of bytes of a file.
 pub const FILE_LEN: usize = 2562;
 
-/// Why a file is refused. Each stands before those after it.
+/// Why a file is refused, in order of precedence.
 #[derive(Debug, Clone, Copy, PartialEq, Eq)]
 pub enum LoadFault {
-    /// It has not `FILE_LEN` bytes.
+    /// It does not have `FILE_LEN` bytes.
     WrongLength,
     /// Its first byte is not 1.
     WrongHeader,
     /// Its second byte is not 44.
     WrongSet,
-    /// What follows is no private key: a coefficient is out of its range.
+    /// The rest is no private key: a coefficient is out of range.
     WrongRange,
 }
 
@@ -39,7 +39,7 @@ pub fn stored<H: Xof, G: Xof>(key: PrivateKey<H, G>) -> [u8; FILE_LEN]
     file
 }
 
-/// The private key of a file, or the first refusal.
+/// The private key of a file, or the first error.
 pub fn loaded<H: Xof, G: Xof>(file: &[u8]) -> Result<PrivateKey<H, G>, LoadFault>
     ensures { LoadsAs file.now result }
 {
@@ -60,14 +60,14 @@ pub fn loaded<H: Xof, G: Xof>(file: &[u8]) -> Result<PrivateKey<H, G>, LoadFault
     }
 }
 
-/// What is loaded from the file of a key in range is that key.
+/// The file of a key in range loads as that key.
 pub fn stored_is_loaded()
     ensures { LoadsStored }
 {
     laws::key_bytes();
 }
 
-/// What `loaded` says of a file, as `Ok` or the refusal.
+/// Loads a file and drops the key.
 fn outcome(file: &[u8]) -> Result<(), LoadFault> {
     let _ = loaded::<Sha256Ctr, Sha512Ctr>(file)?;
     Ok(())

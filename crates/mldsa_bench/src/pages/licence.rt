@@ -16,7 +16,7 @@ use std::test::Fail;
 /// What the owner's signatures are for.
 pub const CONTEXT: &[u8] = b"licence";
 
-/// What a customer is given, together with its signature.
+/// What a customer receives, together with its signature.
 #[derive(Debug, Clone, Copy, PartialEq, Eq)]
 pub struct Token {
     /// The product's number.
@@ -58,8 +58,8 @@ pub fn licence_valid<H: Xof, G: Xof>(
     today <= token.last_day && key.verify(&spelled(token), signature, CONTEXT)
 }
 
-/// Whether one signature is accepted for two tokens. Where the tokens differ, that is a collision of the
-/// stream `H`, and the clause names the pair.
+/// Whether one signature is accepted for two tokens. If the tokens differ, that is a collision of the stream
+/// `H`, and the clause names the pair.
 pub fn accepted_for_both<H: Xof, G: Xof>(
     key: &PublicKey<H, G>,
     first: &Token,

@@ -12,7 +12,7 @@ use fips204::traits::{KeyGen, Signer, Verifier};
 use fips204::xof::{Sha256Ctr, Sha512Ctr, Xof};
 use std::test::Fail;
 
-/// The file, if it is signed under this name by the owner of the key, and else none.
+/// The file if it is signed under this name by the owner of the key, or none.
 pub fn accepted<'a, H: Xof, G: Xof>(
     key: &PublicKey<H, G>,
     name: &[u8],
@@ -30,8 +30,8 @@ pub fn accepted<'a, H: Xof, G: Xof>(
     }
 }
 
-/// Whether one signature is accepted for two files of one name. Where the files differ, that is a collision
-/// of the stream `H`, and the clause names the pair.
+/// Whether one signature is accepted for two files of one name. If the files differ, that is a collision of the
+/// stream `H`, and the clause names the pair.
 pub fn accepted_for_both<H: Xof, G: Xof>(
     key: &PublicKey<H, G>,
     name: &[u8],

@@ -13,7 +13,7 @@ use std::test::Fail;
 /// What the signatures are for.
 pub const CONTEXT: &[u8] = b"pieces";
 
-/// The signature that a file's bytes are, or none where they are more or fewer than a signature has.
+/// The signature in a file's bytes, or none if they do not have the length of a signature.
 pub fn signature_of(file: &[u8]) -> Option<[u8; SIG_LEN]>
     ensures { MatchOption result (length file.now ≢ SIG_LEN) (λ signature. signature ≡ file.now) }
 {
@@ -25,8 +25,8 @@ pub fn signature_of(file: &[u8]) -> Option<[u8; SIG_LEN]>
     Some(signature)
 }
 
-/// Whether the signature of a message in two pieces is accepted by the key that has these bytes: as `verify` would
-/// say of the joined message.
+/// Verifies the signature of a message in two pieces under the key with these bytes. The result is that of
+/// `verify` for the joined message.
 pub fn accepts_joined<H: Xof, G: Xof>(
     bytes: [u8; PK_LEN],
     first: &[u8],

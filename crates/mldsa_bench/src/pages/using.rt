@@ -49,7 +49,7 @@ fn verified(key: [u8; PK_LEN], message: &[u8], signature: &[u8; SIG_LEN]) -> Res
     Ok(public.verify(message, signature, CONTEXT))
 }
 
-/// Signs the SHA-256 digest of a file, in the place of the file.
+/// Signs the SHA-256 digest of a file in place of the file.
 fn signed_file(key: &Private, random: &[u8; 32], file: &[u8]) -> Result<[u8; SIG_LEN], Fault> {
     let digest = Sha256::digest(file);
     key.try_hash_sign_with_seed(random, digest.as_slice(), CONTEXT, &SHA2_256)
@@ -78,8 +78,8 @@ fn three(
     Ok(verdicts)
 }
 
-/// Signs a message with a stored key of any of the three sets, and verifies it with the public key that is
-/// derived of it.
+/// Signs a message with a stored key of any of the three sets, and verifies the signature under the public key
+/// derived from it.
 fn stands<P, K, const SK: usize, const SIG: usize>(
     key: [u8; SK],
     random: &[u8; 32],
