@@ -95,6 +95,8 @@ fn largest_sum(row: [Noted; 256]) -> u32
     notes.largest
 }
 
+/// The largest sum or difference inside the inverse transform of 256 times q - 1, and of 256 times 1 - q, is
+/// 2145386496.
 #[test]
 fn largest_sum_of_the_inverse_transform(rt: HostRuntime) {
     assert_eq!(rt; largest_sum(row_of(8380416)), 2145386496);

@@ -280,25 +280,6 @@ fn bound_of_a_product_with_a_challenge(rt: HostRuntime) {
     assert_eq!(rt; largest_products(), Ok([78, 8380417 - 78]));
 }
 
-<<<<<<< HEAD
-/// The sum of 256 times `q - 1`, in eight layers that each add what is alike, without a reduction.
-fn largest_sum() -> i32 {
-    let mut sum = 8380416i32;
-    for _ in 0..8 {
-        sum = sum.wrapping_add(sum);
-    }
-    sum
-}
-
-/// The largest sum or difference inside the inverse transform of 256 times q - 1, and of 256 times 1 - q, is
-/// 2145386496.
-#[test]
-fn largest_sum_of_the_inverse_transform(rt: HostRuntime) {
-    assert_eq!(rt; largest_sum(), 2145386496);
-}
-
-=======
->>>>>>> pages-text
 /// Whether the polynomial whose transform has all values this one is a constant, in 1024 products and 2048 sums.
 fn has_constant_inverse(value: i32, wanted: i32) -> bool
     requires value { nat_abs value ≤ 8380416 }
