@@ -14,6 +14,7 @@ pub mod Prepared
 pub mod MessageLaws
 pub mod SchemeLaws
 pub mod Completeness
+pub mod RefusalLaws
 pub mod LongerFronts
 pub use Rattle.fips204_base.specs.FrontLengths
 pub use Rattle.fips204_base.specs.CentredValues
