@@ -1,5 +1,5 @@
 -- Worked values of the parameter sets, of the order of attempts, of framing, and of the hashes, seeds and hints of whole calls.
-use Rattle.std.proofs.Common.{◌≡◌, ◌*◌, ℕ, List, [], ◌∷◌, ◌++◌, Ok, Err, refl, true, false, map, length, take, Some, None, pos, negsuc, if◌then◌else◌}
+use Rattle.std.proofs.Common.{◌≡◌, ◌*◌, ℕ, ℤ, List, [], ◌∷◌, ◌++◌, Ok, Err, refl, true, false, map, length, take, Some, None, pos, negsuc, if◌then◌else◌}
 use Rattle.fips204_base.specs.declared.fault.Fault.TheVariants.{TooManyAttempts, SamplingLimit, SignCtx, HashCtx, OidEmpty, OidNotDer, DigestTooLong, DigestLength}
 use Rattle.fips204_base.specs.HintSpelling.{is_one}
 use Rattle.fips204_base.specs.MatrixEntry.{triple, kept_triples, matrix_entry, sampled_matrix}
@@ -129,14 +129,14 @@ numbered : List ℕ → List ℕ
 numbered input = if nat_eq (length input) 34 then range_with_len 0 128 else flat_map (λ _. get_or input 0 0 ∷ get_or input 64 0 ∷ []) (range_with_len 0 256)
 
 -- rho is bytes 0 to 31 of the seeds, and K bytes 96 to 127
-seeds_of_keys : option_map (λ pair. (pair.0.rho, pair.1.rho, pair.1.key)) (key_generation set_44 numbered (λ _. replicate 1024 0) (replicate 32 9))
+seeds_of_keys : option_map {U = List ℕ × List ℕ × List ℕ} (λ pair. (pair.0.rho, pair.1.rho, pair.1.key)) (key_generation set_44 numbered (λ _. replicate 1024 0) (replicate 32 9))
     ≡ Some (range_with_len 0 32, range_with_len 0 32, range_with_len 96 32)
 unfolding numbered key_generation key_pair_if_all key_pair sampled_matrix all_present matrix_entry kept_triples triple first_256 small_vector small_polynomial kept_half_bytes
 seeds_of_keys = refl
 
 -- rho' is bytes 32 to 95, so its first byte 32 has the half bytes 0 and 2, which are the coefficients 2 and 0; then stand the numbers 0 to 3 of s1,
 -- which are the coefficients 2 to -1, and 4 to 7 of s2, which are -2 and 2 to 0
-seeds_of_vectors : option_map (λ pair. (map (λ w. take 3 w.0) pair.1.s1, map (λ w. take 3 w.0) pair.1.s2)) (key_generation set_44 numbered (λ _. replicate 1024 0) (replicate 32 9))
+seeds_of_vectors : option_map {U = List (List ℤ) × List (List ℤ)} (λ pair. (map (λ w. take 3 w.0) pair.1.s1, map (λ w. take 3 w.0) pair.1.s2)) (key_generation set_44 numbered (λ _. replicate 1024 0) (replicate 32 9))
     ≡ Some (map (λ x. pos 2 ∷ pos 0 ∷ x ∷ []) (pos 2 ∷ pos 1 ∷ pos 0 ∷ negsuc 0 ∷ []), map (λ x. pos 2 ∷ pos 0 ∷ x ∷ []) (negsuc 1 ∷ pos 2 ∷ pos 1 ∷ pos 0 ∷ []))
 unfolding numbered key_generation key_pair_if_all key_pair sampled_matrix all_present matrix_entry kept_triples triple first_256 small_vector small_polynomial kept_half_bytes
 seeds_of_vectors = refl
@@ -160,12 +160,12 @@ commitments = (refl, refl, refl)
 
 -- a hint tells whether v and v + t have other high bits: from gamma2 to one more, and back by -1; not from one less, from one more, or
 -- where t is 0; at the last multiple of 2 gamma2 the bits go back to 0, which q - 1 has too
-hint_bits_44 : map (λ x. hint_bit 95232 x.0 x.1) ((95232, 1) ∷ (95233, 8380416) ∷ (8285184, 1) ∷ (95231, 1) ∷ (95233, 1) ∷ (95232, 0) ∷ (8380416, 1) ∷ (0, 8380416) ∷ [])
+hint_bits_44 : map (λ (x : ℕ × ℕ). hint_bit 95232 x.0 x.1) ((95232, 1) ∷ (95233, 8380416) ∷ (8285184, 1) ∷ (95231, 1) ∷ (95233, 1) ∷ (95232, 0) ∷ (8380416, 1) ∷ (0, 8380416) ∷ [])
     ≡ pos 1 ∷ pos 1 ∷ pos 1 ∷ pos 0 ∷ pos 0 ∷ pos 0 ∷ pos 0 ∷ pos 0 ∷ []
 unfolding decompose
 hint_bits_44 = refl
 
-hint_bits_65_87 : map (λ x. hint_bit 261888 x.0 x.1) ((261888, 1) ∷ (261889, 8380416) ∷ (8118528, 1) ∷ (261887, 1) ∷ (261889, 1) ∷ (261888, 0) ∷ (8380416, 1) ∷ (0, 8380416) ∷ [])
+hint_bits_65_87 : map (λ (x : ℕ × ℕ). hint_bit 261888 x.0 x.1) ((261888, 1) ∷ (261889, 8380416) ∷ (8118528, 1) ∷ (261887, 1) ∷ (261889, 1) ∷ (261888, 0) ∷ (8380416, 1) ∷ (0, 8380416) ∷ [])
     ≡ pos 1 ∷ pos 1 ∷ pos 1 ∷ pos 0 ∷ pos 0 ∷ pos 0 ∷ pos 0 ∷ pos 0 ∷ []
 unfolding decompose
 hint_bits_65_87 = refl

@@ -120,13 +120,13 @@ pub struct PublicKey<const K: usize, const L: usize, H, G> {
 }
 
 impl<const K: usize, const L: usize, H, G> Model for PublicKey<K, L, H, G> {
-    ghost use Rattle.fips204.specs.Keys.{PublicParts, IsHighPart};
+    ghost use Rattle.fips204.specs.Keys.{PublicParts, ArePublicParts};
 
     ghost Value = { PublicParts };
 
     ghost view = { λ key. record { rho = key.rho; tr = key.tr; t1 = key.t1 } };
 
-    ghost invariant = { λ key. IsHighPart K key.t1 };
+    ghost invariant = { λ key. ArePublicParts K record { rho = key.rho; tr = key.tr; t1 = key.t1 } };
 }
 
 impl<const K: usize, const L: usize, H, G> Clone for PublicKey<K, L, H, G> {
