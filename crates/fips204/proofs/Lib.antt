@@ -13,6 +13,7 @@ mod Attempts
 mod Verification
 mod PreHash
 mod RefusedCalls
+mod RefusalLaws
 mod Framing
 mod LongerFronts
 mod Worked

@@ -11,9 +11,12 @@ ghost use Rattle.fips204.specs.Constants.{ConstantsStand, LengthsStand};
 ghost use Rattle.fips204.specs.LongerFronts.{CounterFrontsArePrefixes, LongerFrontsKeep};
 ghost use Rattle.fips204.specs.SchemeLaws.{FramingIsOneToOne, SignatureBindsMessage, SignatureBindsInput};
 ghost use Rattle.fips204.specs.Prepared.{PreparedAnswersAsPlain};
+ghost use Rattle.fips204.specs.RefusalLaws.{RefusesOnly};
 ghost use Rattle.fips204.specs.ParameterSets.{ParameterSet, is_parameter_set};
 ghost use Rattle.std.specs.Prelude.{ℕ, List, IsTrue};
 ghost use Rattle.fips204.specs.SchemeLaws.{HintGivesHighBits, HintStaysNear, HighBitsStay, ChallengeProductIsSmall, SignatureHasOneSpelling, HintHasOneSpelling};
+
+mod joined;
 
 use crate::xof::Xof;
 
@@ -104,6 +107,13 @@ pub fn key_bytes()
 /// prepared one.
 pub fn prepared_keys()
     ensures { (p : ParameterSet) (H G : List ℕ → List ℕ) → PreparedAnswersAsPlain p H G }
+{}
+
+/// Which errors the calls have. Making a key pair, deriving a public key and preparing a key return no error but
+/// `SamplingLimit`. Signing a hash also returns `TooManyAttempts`, and signing a message or a digest also the first
+/// error of context, object identifier and digest.
+pub fn refusals()
+    ensures { (p : ParameterSet) (H G : List ℕ → List ℕ) → RefusesOnly p H G }
 {}
 
 /// Fewer blocks of a stream in counter mode are a prefix of more. So the fronts of `Sha256Ctr` are prefixes
