@@ -105,7 +105,7 @@ pub one_commitment : (p : ParameterSet) (H : List ℕ → List ℕ) (a b : List 
     → (x.c_tilde ≡ y.c_tilde) × (w1_prime p a t1 x.z x.h x.c ≡ w1_prime p b t1 y.z y.h y.c)
 one_commitment p H a b t1 mu nu signature row same x y =
     let gamma1 = (set_numbers p row).gamma1 in
-    let parts = same_signature p.gamma1 p.omega p.k p.l (commitment_length p) signature x.c_tilde y.c_tilde x.z y.z x.h y.h (omega (arith, gamma1)) (omega (arith, gamma1)) x.short.parts y.short.parts in
+    let parts = same_signature p.gamma1 p.omega p.k p.l (commitment_length p) signature x.c_tilde y.c_tilde x.z y.z x.h y.h (omega (arith, gamma1)) (omega (arith, gamma1)) x.parts y.parts in
     let challenges : Some x.c ≡ Some y.c = sym x.challenge ∙ ap (λ bytes. challenge p.tau (H bytes)) parts.0 ∙ y.challenge in
     let one : x.c ≡ y.c = cc in
     let z = parts.1 in

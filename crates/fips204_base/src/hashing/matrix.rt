@@ -180,7 +180,7 @@ pub fn write_expanded_times_vector_less<const K: usize, const L: usize, G: Xof>(
     requires less { VectorWithin K 8380416 t.now }
     ensures refused { IfErr result (λ fault. (sampled_matrix G.front rho.now K L ≡ None) × (fault ≡ Fault.SamplingLimit)) }
     ensures values { IfOk result (λ _. (a : List (List T)) × (sampled_matrix G.front rho.now K L ≡ Some a)
-        × ((r n : ℕ) → r < K → n < 256 → entry out.new r n ≡ pos (product_difference L a z.now c.now t.now r n))) }
+        × ((r n : ℕ) → r < K → n < 256 → entry out.new r n ≡ pos (product_difference L a z.now c.now (vector_coefficients t.now) r n))) }
     ensures range { IfOk result (λ _. VectorWithin K 8380416 out.new) }
 {
     let mut z_hat = [T0; L];
