@@ -1,4 +1,4 @@
-//! Products of plain polynomials, computed through transforms.
+//! Products of plain polynomials, computed through transforms. Internal: serves the crate `fips204` alone.
 #![tactic(auto)]
 
 ghost use Rattle.std.specs.Prelude.{◌≡◌, ◌≤◌, ◌<◌, ◌+◌, ◌*◌, ◌%◌, ℕ, List, IsTrue, pos, nat_abs};

@@ -82,7 +82,7 @@ pub fn partial_reduce32(a: i32) -> i32
 }
 
 /// The difference modulo `q` of two numbers below `q` in absolute value, and again below `q` in absolute
-/// value.
+/// value. Internal: serves the crate `fips204` alone.
 pub fn difference(x: i32, y: i32) -> i32
     requires x { nat_abs x ≤ 8380416 }
     requires y { nat_abs y ≤ 8380416 }
