@@ -1,6 +1,6 @@
 use Rattle.std.proofs.Common.{◌≡◌, Ok, rules}
 use Rattle.fips204.specs.ParameterSets.{set_44}
-use Rattle.fips204.specs.Prepared.{prepared_private, prepared_public, public_of_prepared}
+use Rattle.fips204.specs.Prepared.{prepared_private, prepared_public}
 use Rattle.fips204.specs.Refusals.{derived}
 use Rattle.fips204.proofs.laws.joined.prepared_accepts.Goals as goal
 
