@@ -1,5 +1,5 @@
 -- Whole calls, with their refusals in order (FIPS 204, Algorithms 1 to 5).
-use Rattle.std.specs.Prelude.{◌≡◌, ◌⊎◌, ℕ, List, length, nat_lt, Option, Some, None, Result, Ok, Err, IfErr, ok_or, Bool, true, false, replicate, if◌then◌else◌}
+use Rattle.std.specs.Prelude.{◌≡◌, ◌⊎◌, ℕ, List, length, nat_lt, Option, Some, None, Result, Err, IfErr, ok_or, Bool, true, false, replicate, if◌then◌else◌}
 use Rattle.fips204_base.specs.declared.fault.Fault.{Fault}
 use Rattle.fips204_base.specs.declared.fault.Fault.TheVariants.{SignCtx, HashCtx, SamplingLimit, TooManyAttempts}
 use Rattle.fips204.specs.ParameterSets.{ParameterSet}

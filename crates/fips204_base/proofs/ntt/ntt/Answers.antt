@@ -1,4 +1,4 @@
-use Rattle.std.proofs.Common.{ℕ, ◌<◌, ◌≤◌, [], get_or, length-set, ◌∙◌, arith, rules}
+use Rattle.std.proofs.Common.{[], get_or, length-set, ◌∙◌, arith, rules}
 use Rattle.std.proofs.lemmas.List.{get_or_default}
 use Rattle.fips204_base.specs.Lanes.{IsTransform, LanesWithin}
 use Rattle.fips204_base.proofs.Vectors.{row_written, rows_ahead}
