@@ -90,7 +90,7 @@ fn stands<K, const SK: usize, const SIG: usize>(
 where
     K: SerDes<ByteArray = [u8; SK]> + Signer<Signature = [u8; SIG]> + Drop,
     K::PublicKey: Drop,
-    ensures { ((private : K) → K.decodes key (Ok private) → K.whole private) → IfOk result (λ answer. answer ≡ true) }
+    ensures { ((private : K) → K.decodes key.entry (Ok private) → K.whole private) → IfOk result (λ answer. answer ≡ true) }
 {
     let private = K::try_from_bytes(key)?;
     let signature = private.try_sign_with_seed(random, message, CONTEXT)?;
