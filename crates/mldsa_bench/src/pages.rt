@@ -3,6 +3,7 @@
 
 pub mod generators;
 pub mod key_store;
+pub mod ledger;
 pub mod licence;
 #[cfg(test)]
 mod manifest;
