@@ -1,4 +1,5 @@
 mod Joined
 mod KeyFiles
 mod Licences
+mod Manifests
 mod SameSignature

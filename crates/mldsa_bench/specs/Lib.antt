@@ -3,5 +3,6 @@ pub mod ToyStreams
 pub mod KeyStore
 pub mod Ledger
 pub mod Licence
+pub mod Manifest
 pub mod Pieces
 pub mod SameSignature

@@ -5,8 +5,7 @@ pub mod generators;
 pub mod key_store;
 pub mod ledger;
 pub mod licence;
-#[cfg(test)]
-mod manifest;
+pub mod manifest;
 pub mod pieces;
 #[cfg(test)]
 mod toy_hash;

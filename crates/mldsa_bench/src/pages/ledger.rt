@@ -132,3 +132,37 @@ pub fn check_all<H: Xof, G: Xof>(key: &PublicKey<H, G>, ledger: &[Entry]) -> Res
     let prepared = key.prepare()?;
     Ok(each_fits(&prepared, ledger))
 }
+
+/// Entries that were appended stand; a broken link, a swapped pair, a changed payload, a cut signature and a missing
+/// first entry are noticed, and a dropped tail is not. On an error the ledger stays.
+#[test]
+fn a_ledger(rt: HostRuntime) -> Result<(), Fail> {
+    let (key, owner) = KG::<Sha256Ctr, Sha512Ctr>::keygen_from_seed(&[7; 32])?;
+    let mut ledger = Vec::new(rt.alloc());
+    for payload in 0..3u8 {
+        assert!(rt; append(&mut ledger, &owner, &[0; 32], &[payload; 32]) == Ok(()));
+    }
+    assert!(rt; ledger[0].previous == [0; 32] && ledger[2].payload == [2; 32]);
+    assert!(rt; check_all(&key, &ledger)? && check_all(&key, &[])?);
+    assert!(rt; check_all(&key, &ledger[..2])?);
+    assert!(rt; !check_all(&key, &ledger[1..])?);
+    let (first, second) = (ledger[0], ledger[1]);
+    (ledger[0], ledger[1]) = (second, first);
+    assert!(rt; !check_all(&key, &ledger)?);
+    (ledger[0], ledger[1]) = (first, second);
+    ledger[1].previous[0] ^= 1;
+    assert!(rt; !check_all(&key, &ledger)?);
+    ledger[1] = second;
+    ledger[2].payload[31] ^= 1;
+    assert!(rt; !check_all(&key, &ledger)?);
+    ledger[2].payload[31] ^= 1;
+    ledger[2].signature[SIG_LEN - 1] ^= 1;
+    assert!(rt; !check_all(&key, &ledger)?);
+    let limit = Err(AppendFault::Signing(Fault::SamplingLimit));
+    let silent = PrivateKey::<Sha256Ctr, Fill<0xff>>::try_from_bytes(owner.into_bytes())?;
+    assert!(rt; append(&mut ledger, &silent, &[0; 32], &[3; 32]) == limit);
+    assert!(rt; ledger.len() == 3 && ledger[0] == first && ledger[1] == second);
+    let other = PublicKey::<Sha256Ctr, Fill<0xff>>::try_from_bytes(key.into_bytes())?;
+    assert!(rt; check_all(&other, &ledger) == Err(Fault::SamplingLimit));
+    Ok(())
+}
