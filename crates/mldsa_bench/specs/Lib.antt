@@ -4,5 +4,4 @@ pub mod KeyStore
 pub mod Ledger
 pub mod Licence
 pub mod Manifest
-pub mod Pieces
 pub mod SameSignature

@@ -1,12 +1,13 @@
-//! The system's random bytes, as the library asks for them.
+//! Random bytes of the kit's sources and generators, as the library asks for them.
 #![tactic(auto)]
 
-ghost use Rattle.std.specs.Prelude.{◌≡◌, ℕ, length};
+ghost use Rattle.std.specs.Prelude.{◌≡◌, ⊤, ℕ, length};
 
 use fips204::RngError;
 use fips204::ml_dsa_44::KG;
 use fips204::traits::{CryptoRngCore, KeyGen, Signer, Verifier};
 use fips204::xof::{Sha256Ctr, Sha512Ctr};
+use rand_core::{Infallible, TryCryptoRng, TryRng};
 use std::io;
 use std::random::RandomSource;
 use std::test::Fail;
@@ -26,6 +27,27 @@ impl<R: RandomSource> CryptoRngCore for FromSource<R> {
 
     fn try_fill_bytes(&mut self, out: &mut [u8]) -> Result<(), RngError> {
         match self.source.fill_bytes(out) {
+            Ok(()) => Ok(()),
+            Err(_) => Err(RngError),
+        }
+    }
+}
+
+/// A generator of the kit that may fail, as a generator of the library. It returns the bytes that the generator may
+/// give, as many as it is asked for, and fails if the generator reports an error; nothing is known about when that is.
+#[derive(Drop)]
+pub struct FromGenerator<R> {
+    /// The generator.
+    pub generator: R,
+}
+
+impl<R: TryCryptoRng> CryptoRngCore for FromGenerator<R> {
+    ghost gives = { λ before asked bytes after. (length bytes ≡ asked) × R.may_fill before.generator bytes after.generator };
+
+    ghost refuses = { λ before asked after. ⊤ };
+
+    fn try_fill_bytes(&mut self, out: &mut [u8]) -> Result<(), RngError> {
+        match self.generator.try_fill_bytes(out) {
             Ok(()) => Ok(()),
             Err(_) => Err(RngError),
         }
