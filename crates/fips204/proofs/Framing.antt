@@ -142,3 +142,14 @@ signature_binds_message p H G pk m n signature row differ first second =
 pub signature_binds_input : SignatureBindsInput
 signature_binds_input p H G pk x y signature row differ first second =
     signature_binds_message p H G pk (framed_input x) (framed_input y) signature row (λ same. differ (same_input x y first.allowed second.allowed same)) first.accepted second.accepted
+
+message_of : Input → List ℕ
+message_of (plain context message) = message
+message_of (hashed context oid digest) = digest
+
+pub signature_binds_text : SignatureBindsText
+unfolding message_of
+signature_binds_text p H G pk context first second signature row differ one two =
+    let inputs_differ = λ (same : plain context first ≡ plain context second). differ (ap message_of same) in
+    let bound = signature_binds_input p H G pk (plain context first) (plain context second) signature row inputs_differ one two in
+    elim bound.1 [ inl messages ↦ inl messages | inr hashes ↦ inr (_, hashes) ]

@@ -18,3 +18,4 @@ mod LongerFronts
 mod Worked
 -- what users may cite
 pub mod Callers
+pub mod Spellings

@@ -4,8 +4,8 @@ use Rattle.fips204_base.specs.Encodings.{w1_bytes}
 use Rattle.fips204.specs.ParameterSets.{ParameterSet, is_parameter_set, commitment_length}
 use Rattle.fips204.specs.Keys.{PublicParts}
 use Rattle.fips204.specs.Acceptance.{Verifies, w1_prime}
-use Rattle.fips204.specs.Framing.{Input, framed_input, message_hash}
-use Rattle.fips204.specs.Refusals.{input_fault, AcceptsInput}
+use Rattle.fips204.specs.Framing.{Input, plain, framed_input, message_hash}
+use Rattle.fips204.specs.Refusals.{input_fault, AcceptsInput, VerifiesMessage}
 
 -- inputs that break no condition have the same M' only if they are the same, mode and part by part
 abbrev pub FramingIsOneToOne : Type 0
@@ -40,3 +40,23 @@ SignatureBindsInput =
     → let w1 = accepted_w1 first.accepted in
     (w1 ≡ accepted_w1 second.accepted)
     × (Collide H 64 (pk.tr ++ framed_input x) (pk.tr ++ framed_input y) ⊎ Collide H (commitment_length p) (mu ++ w1) (nu ++ w1))
+
+-- two inputs collide under a key with this tr: framed, in the 64 bytes of their hash; or their hashes do, before one encoded w1,
+-- in the bytes of c_tilde
+abbrev pub InputsCollide : ParameterSet → (List ℕ → List ℕ) → List ℕ → Input → Input → Type 0
+InputsCollide p H tr x y =
+    let one = framed_input x in
+    let other = framed_input y in
+    Collide H 64 (tr ++ one) (tr ++ other)
+    ⊎ ((w1 : List ℕ) × Collide H (commitment_length p) (message_hash H tr one ++ w1) (message_hash H tr other ++ w1))
+
+-- the same of two messages of one context
+abbrev pub MessagesCollide : ParameterSet → (List ℕ → List ℕ) → List ℕ → List ℕ → List ℕ → List ℕ → Type 0
+MessagesCollide p H tr context first second = InputsCollide p H tr (plain context first) (plain context second)
+
+-- two different messages with one signature that a key accepts for both, under one context, collide
+abbrev pub SignatureBindsText : Type 0
+SignatureBindsText =
+    (p : ParameterSet) (H G : List ℕ → List ℕ) (pk : PublicParts) (context first second signature : List ℕ) → IsTrue (is_parameter_set p)
+    → first ≢ second → VerifiesMessage p H G pk first signature context → VerifiesMessage p H G pk second signature context
+    → MessagesCollide p H pk.tr context first second
