@@ -1,5 +1,3 @@
-mod Joined
 mod KeyFiles
 mod Licences
 mod Manifests
-mod SameSignature

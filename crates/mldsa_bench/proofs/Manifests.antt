@@ -1,11 +1,10 @@
 -- Two manifests with one spelling are one manifest.
 use Rattle.std.proofs.Common.{◌≡◌, ◌<◌, ◌+◌, ◌^◌, ◌++◌, ℕ, List, [], ◌∷◌, length, arith, length-append, refl, sym, ap, ◌∙◌}
-use Rattle.std.specs.Int.{w64, to_be_bytes, from_be_bytes}
+use Rattle.std.specs.Int.{w64, to_be_bytes}
 use Rattle.std.specs.List.{All, flat_map}
-use Rattle.std.proofs.lemmas.Nat.{from_be_bytes-to_be_bytes_8}
 use Rattle.mldsa_bench.specs.Manifest.{entry_bytes, spelling, IsEntry, SpellingIsOneToOne}
 use Rattle.mldsa_bench.specs.declared.pages.manifest.Entry.{Entry}
-use Rattle.mldsa_bench.proofs.Joined.{same_parts}
+use Rattle.fips204.proofs.Spellings.{same_parts, same_u64}
 
 entry : List ℕ → ℕ → List ℕ → Entry
 entry name size digest = record { name = name; size = size; digest = digest }
@@ -18,7 +17,7 @@ unfolding entry
 one_entry a b one other same =
     let cut = same_parts (a.name ++ to_be_bytes w64 a.size) (b.name ++ to_be_bytes w64 b.size) a.digest b.digest (simp length-append (omega (arith, one.name, other.name))) same in
     let parts = same_parts a.name b.name (to_be_bytes w64 a.size) (to_be_bytes w64 b.size) (one.name ∙ sym other.name) cut.0 in
-    let sizes = sym (from_be_bytes-to_be_bytes_8 a.size one.size) ∙ ap (from_be_bytes w64) parts.1 ∙ from_be_bytes-to_be_bytes_8 b.size other.size in
+    let sizes = same_u64 a.size b.size one.size other.size parts.1 in
     same_entry a.name b.name a.size b.size a.digest b.digest parts.0 sizes cut.1
 
 length-entry : (a : Entry) → IsEntry a → length (entry_bytes a) ≡ 72

@@ -4,4 +4,3 @@ pub mod KeyStore
 pub mod Ledger
 pub mod Licence
 pub mod Manifest
-pub mod SameSignature
