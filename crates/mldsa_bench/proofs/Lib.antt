@@ -1,3 +1,4 @@
 mod KeyFiles
+mod Ledgers
 mod Licences
 mod Manifests

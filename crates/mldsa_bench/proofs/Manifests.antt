@@ -28,10 +28,10 @@ no_entry a rest is none = omega (arith, length-entry a is, simp length-append at
 
 pub one_manifest : SpellingIsOneToOne
 one_manifest [] [] all every same = refl
-one_manifest [] (b ∷ bs) all every same = absurd (no_entry b (spelling bs) every.0 same)
-one_manifest (a ∷ as) [] all every same = absurd (no_entry a (spelling as) all.0 (sym same))
-one_manifest (a ∷ as) (b ∷ bs) all every same =
-    let cut = same_parts (entry_bytes a) (entry_bytes b) (spelling as) (spelling bs) (length-entry a all.0 ∙ sym (length-entry b every.0)) same in
+one_manifest [] (b ∷ others) all every same = absurd (no_entry b (spelling others) every.0 same)
+one_manifest (a ∷ rest) [] all every same = absurd (no_entry a (spelling rest) all.0 (sym same))
+one_manifest (a ∷ rest) (b ∷ others) all every same =
+    let cut = same_parts (entry_bytes a) (entry_bytes b) (spelling rest) (spelling others) (length-entry a all.0 ∙ sym (length-entry b every.0)) same in
     let head = one_entry a b all.0 every.0 cut.0 in
-    let tail = one_manifest as bs all.1 every.1 cut.1 in
+    let tail = one_manifest rest others all.1 every.1 cut.1 in
     cc

@@ -1,18 +1,18 @@
 //! A signed manifest: a list of files, each with its name, size and digest, signed as a whole, at any set.
 #![tactic(auto)]
 
-ghost use Rattle.std.specs.Prelude.{◌≡◌, ◌≢◌, ◌↔◌, IsTrue, MatchOption};
+ghost use Rattle.std.specs.Prelude.{◌≡◌, ◌↔◌, ◌++◌, ℕ, List, IsTrue, MatchOption};
 ghost use Rattle.std.specs.List.{All, Contains};
+ghost use Rattle.sha2.specs.Hashers.{Holds256};
 ghost use Rattle.sha2.specs.Sha256.{sha256};
-ghost use Rattle.fips204.specs.Refusals.{sign_digest};
 ghost use Rattle.mldsa_bench.specs.Manifest.{entry_bytes, file_entry, spelling, IsEntry, IsHandedOut, SpellingIsOneToOne};
 
+use fips204::ml_dsa_65;
 use fips204::pre_hash::SHA2_256;
 use fips204::sets::{HasSet, Matrix, Set, SignatureSizes};
 use fips204::traits::{KeyGen, Signer, Verifier};
-use fips204::types::{PrivateKey, PublicKey};
+use fips204::types::PublicKey;
 use fips204::xof::{Sha256Ctr, Sha512Ctr, Xof};
-use fips204::{Fault, ml_dsa_65};
 use sha2::{Digest, Sha256};
 use std::test::Fail;
 
@@ -41,17 +41,15 @@ pub fn entry_of(name: &[u8; 32], file: &[u8]) -> Entry
     }
 }
 
-/// The bytes of an entry.
-pub fn spelled(entry: &Entry) -> [u8; 72]
-    ensures bytes { result ≡ entry_bytes entry.now }
+/// Adds the bytes of an entry to what is hashed.
+fn add_entry(hasher: &mut Sha256, entry: &Entry)
+    ensures bytes { (before : List ℕ) → Holds256 hasher.old before → Holds256 hasher.new (before ++ entry_bytes entry.now) }
     ensures range { IsEntry entry.now }
 {
     let size: u64 = entry.size;
-    let mut bytes = [0u8; 72];
-    bytes[..32].copy_from_slice(&entry.name);
-    bytes[32..40].copy_from_slice(&size.to_be_bytes());
-    bytes[40..].copy_from_slice(&entry.digest);
-    bytes
+    hasher.update(&entry.name);
+    hasher.update(&size.to_be_bytes());
+    hasher.update(&entry.digest);
 }
 
 /// The SHA-256 digest of a manifest's bytes, which is signed.
@@ -61,7 +59,7 @@ pub fn digest_of(entries: &[Entry]) -> [u8; 32]
 {
     let mut hasher = Sha256::new();
     for entry in entries {
-        hasher.update(&spelled(entry));
+        add_entry(&mut hasher, entry);
     }
     hasher.finalize()
 }

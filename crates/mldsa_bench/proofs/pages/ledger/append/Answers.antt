@@ -1,0 +1,12 @@
+use Rattle.std.proofs.Common.{refl, rules}
+use Rattle.fips204.specs.ParameterSets.{set_44}
+use Rattle.fips204.specs.Refusals.{VerifiesMessage}
+use Rattle.mldsa_bench.specs.declared.pages.ledger.TheConstants.{CONTEXT}
+use Rattle.mldsa_bench.proofs.Ledgers.{still_stands}
+use Rattle.mldsa_bench.proofs.pages.ledger.append.Goals as goal
+
+pub returns-in-Ok-push-clause-stands : goal.returns-in-Ok-push-clause-stands
+returns-in-Ok-push-clause-stands g c key whole derives stood =
+    still_stands (λ message signature. VerifiesMessage set_44 g.H.Xof.front g.G.Xof.front key message signature CONTEXT.now)
+    c.args.ledger.now.items c.push.new.self.items _ c.in-Ok-push.ensures.items ?
+    ? stood
