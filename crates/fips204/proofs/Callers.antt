@@ -1,11 +1,9 @@
--- What callers cite: a verdict over bytes is one over the same bytes by another name, and one over a hash mu is one over its input.
-use Rattle.std.proofs.Common.{◌≡◌, ◌↔◌, ℕ, List, Bool, IsTrue, None, subst, sym}
-use Rattle.fips204.specs.Acceptance.{Verifies}
-use Rattle.fips204.specs.Framing.{Input, framed_input, message_hash}
+-- What callers cite: a verdict over bytes is one over the same bytes by another name.
+use Rattle.std.proofs.Common.{◌≡◌, ◌↔◌, ℕ, List, Bool, IsTrue, subst}
 use Rattle.fips204.specs.Keys.{PublicParts}
 use Rattle.fips204.specs.ParameterSets.{ParameterSet}
 use Rattle.fips204.specs.Prepared.{PreparedPublic, VerifiesMessagePrepared, VerifiesDigestPrepared}
-use Rattle.fips204.specs.Refusals.{input_fault, AcceptsInput, VerifiesMessage, VerifiesDigest}
+use Rattle.fips204.specs.Refusals.{VerifiesMessage, VerifiesDigest}
 
 -- what `verify`, `hash_verify` and the calls of prepared keys of the same names ensure, with other for the message or digest
 module _ {p : ParameterSet} {H : List ℕ → List ℕ} {verdict : Bool} {signature context first other : List ℕ} where
@@ -24,12 +22,3 @@ module _ {p : ParameterSet} {H : List ℕ → List ℕ} {verdict : Bool} {signat
   pub same_digest_prepared : (pk : PreparedPublic) {oid : List ℕ} → IsTrue verdict ↔ VerifiesDigestPrepared p H pk first signature context oid → first ≡ other
       → IsTrue verdict ↔ VerifiesDigestPrepared p H pk other signature context oid
   same_digest_prepared pk {oid} says e = subst (λ m. IsTrue verdict ↔ VerifiesDigestPrepared p H pk m signature context oid) e says
-
--- what `verify_mu` ensures, where mu is the hash of an input that breaks no condition
-pub same_input : (p : ParameterSet) (H G : List ℕ → List ℕ) (pk : PublicParts) (verdict : Bool) (mu signature : List ℕ) (input : Input)
-    → IsTrue verdict ↔ Verifies p H G pk mu signature → input_fault input ≡ None → mu ≡ message_hash H pk.tr (framed_input input)
-    → IsTrue verdict ↔ AcceptsInput H pk.tr (λ m. Verifies p H G pk m signature) input
-same_input p H G pk verdict mu signature input says allowed e = (
-  λ yes. record { allowed = allowed; accepted = subst (λ m. Verifies p H G pk m signature) e (says.0 yes) },
-  λ accepts. says.1 (subst (λ m. Verifies p H G pk m signature) (sym e) accepts.accepted),
-)

@@ -1,7 +1,9 @@
 -- What users cite of bytes that spell a value: lists of known lengths that were joined, and numbers, are known by their bytes.
-use Rattle.std.proofs.Common.{◌≡◌, ◌<◌, ◌^◌, ℕ, List, ◌++◌, length, take, drop, sym, ap, ◌∙◌}
+use Rattle.std.proofs.Common.{◌≡◌, ◌<◌, ◌+◌, ◌^◌, ℕ, List, ◌++◌, length, take, drop, arith, length-append, sym, ap, ◌∙◌}
 use Rattle.std.proofs.Math.Seq.{take-append_seam, drop-append_seam}
 use Rattle.std.proofs.lemmas.Nat.{from_be_bytes-to_be_bytes_4, from_be_bytes-to_be_bytes_8}
+use Rattle.fips204_base.proofs.VectorBytes.{put_last}
+use borrow.Rule.Slice.PartMut.{put_mid}
 use Rattle.std.specs.Int.{w32, w64, to_be_bytes, from_be_bytes}
 
 -- two joined lists whose first parts are as long have the same parts
@@ -18,3 +20,8 @@ same_u32 n m small little e = sym (from_be_bytes-to_be_bytes_4 n small) ∙ ap (
 -- two numbers of 64 bits with the same eight bytes are the same
 pub same_u64 : (n m : ℕ) → n < 2 ^ 64 → m < 2 ^ 64 → to_be_bytes w64 n ≡ to_be_bytes w64 m → n ≡ m
 same_u64 n m small little e = sym (from_be_bytes-to_be_bytes_8 n small) ∙ ap (from_be_bytes w64) e ∙ from_be_bytes-to_be_bytes_8 m little
+
+-- an array of a first part and zeros, say, once the last part has been written over these
+pub written_after : (a k : ℕ) (xs zs ys : List ℕ) → length xs ≡ a → length zs ≡ k → length ys ≡ k → put_mid a k (xs ++ zs) ys ≡ xs ++ ys
+written_after a k xs zs ys first rest last =
+    put_last a k (xs ++ zs) ys xs last (omega (arith, first, rest, length-append xs zs)) (ap (λ n. take n (xs ++ zs)) (sym first) ∙ take-append_seam xs zs)

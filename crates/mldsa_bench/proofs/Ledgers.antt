@@ -1,5 +1,5 @@
 -- A ledger stands after one more entry that fits.
-use Rattle.std.proofs.Common.{◌≡◌, ◌<◌, ◌≤◌, ◌+◌, ◌-◌, ◌⊎◌, inl, inr, zero, suc, ℕ, List, [], ◌∷◌, ◌++◌, length, get_or, arith, length-append, refl, sym, ap, subst, ◌∙◌}
+use Rattle.std.proofs.Common.{◌≡◌, ◌<◌, ◌≤◌, ◌+◌, ◌-◌, ◌⊎◌, inl, inr, zero, suc, ℕ, List, [], ◌∷◌, ◌++◌, length, get_or, replicate, nat_eq, if◌then◌else◌, arith, length-append, refl, sym, ap, subst, ◌∙◌}
 use Rattle.std.proofs.lemmas.Bool.{cases_lt}
 use Rattle.std.proofs.lemmas.List.{get_or_append_left}
 use Rattle.std.proofs.Math.Seq.{get_or-append_seam}
@@ -17,7 +17,8 @@ hash_stays : (old : List Entry) (entry : Entry) (place : ℕ) → place ≤ leng
 hash_stays old entry zero within = refl
 hash_stays old entry (suc k) within =
     let before : suc k - 1 ≡ k = omega arith in
-    rw before (ap entry_hash (entry_stays old entry k (omega arith)))
+    let same : entry_hash (entry_at (old ++ entry ∷ []) k) ≡ entry_hash (entry_at old k) = ap entry_hash (entry_stays old entry k (omega arith)) in
+    rw before (ap (λ hash. if nat_eq (suc k) 0 then replicate 32 0 else hash) same)
 
 old_fits : (accepts : List ℕ → List ℕ → Type 0) (old : List Entry) (entry : Entry) (place : ℕ) → place < length old → Fits accepts old place → Fits accepts (old ++ entry ∷ []) place
 old_fits accepts old entry place below fits =

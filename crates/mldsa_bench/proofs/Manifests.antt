@@ -1,5 +1,5 @@
 -- Two manifests with one spelling are one manifest.
-use Rattle.std.proofs.Common.{◌≡◌, ◌<◌, ◌+◌, ◌^◌, ◌++◌, ℕ, List, [], ◌∷◌, length, arith, length-append, refl, sym, ap, ◌∙◌}
+use Rattle.std.proofs.Common.{◌≡◌, ◌<◌, ◌+◌, ◌^◌, ◌++◌, suc, ℕ, List, [], ◌∷◌, length, arith, length-append, refl, sym, ap, ◌∙◌}
 use Rattle.std.specs.Int.{w64, to_be_bytes}
 use Rattle.std.specs.List.{All, flat_map}
 use Rattle.mldsa_bench.specs.Manifest.{entry_bytes, spelling, IsEntry, SpellingIsOneToOne}
@@ -26,12 +26,20 @@ length-entry a is = simp length-append (omega (arith, is.name, is.digest))
 no_entry : (a : Entry) (rest : List ℕ) → IsEntry a → [] ≡ entry_bytes a ++ rest → ⊥
 no_entry a rest is none = omega (arith, length-entry a is, simp length-append at (ap length none))
 
+first : (a : Entry) (rest : List Entry) → All IsEntry (a ∷ rest) → IsEntry a
+first a rest all = all 0 a (omega arith)
+
+others : (a : Entry) (rest : List Entry) → All IsEntry (a ∷ rest) → All IsEntry rest
+others a rest all k d below = all (suc k) d (omega (arith, below))
+
 pub one_manifest : SpellingIsOneToOne
 one_manifest [] [] all every same = refl
-one_manifest [] (b ∷ others) all every same = absurd (no_entry b (spelling others) every.0 same)
-one_manifest (a ∷ rest) [] all every same = absurd (no_entry a (spelling rest) all.0 (sym same))
-one_manifest (a ∷ rest) (b ∷ others) all every same =
-    let cut = same_parts (entry_bytes a) (entry_bytes b) (spelling rest) (spelling others) (length-entry a all.0 ∙ sym (length-entry b every.0)) same in
-    let head = one_entry a b all.0 every.0 cut.0 in
-    let tail = one_manifest rest others all.1 every.1 cut.1 in
+one_manifest [] (b ∷ more) all every same = absurd (no_entry b (spelling more) (first b more every) same)
+one_manifest (a ∷ rest) [] all every same = absurd (no_entry a (spelling rest) (first a rest all) (sym same))
+one_manifest (a ∷ rest) (b ∷ more) all every same =
+    let one = first a rest all in
+    let other = first b more every in
+    let cut = same_parts (entry_bytes a) (entry_bytes b) (spelling rest) (spelling more) (length-entry a one ∙ sym (length-entry b other)) same in
+    let head = one_entry a b one other cut.0 in
+    let tail = one_manifest rest more (others a rest all) (others b more every) cut.1 in
     cc

@@ -1,7 +1,7 @@
 -- The files of a private and of a public key, for an example: a byte of the version, one of the set, and the key's bytes.
-use Rattle.std.specs.Prelude.{◌≡◌, ◌⊎◌, ℕ, List, ◌∷◌, length, drop, slice_index, nat_eq, Option, Some, None, Result, Ok, Err, MatchResult, if◌then◌else◌}
+use Rattle.std.specs.Prelude.{◌≡◌, ◌⊎◌, ℕ, List, ◌∷◌, length, take, drop, slice_index, nat_eq, Option, Some, None, Result, Ok, Err, MatchResult, if◌then◌else◌}
 use Rattle.fips204_base.specs.Encodings.{public_key_bytes, private_key_bytes}
-use Rattle.fips204_base.specs.declared.fault.Fault.{Fault}
+use Rattle.fips204_base.specs.declared.fault.Fault.TheVariants.{SamplingLimit}
 use Rattle.fips204.specs.KeyGeneration.{key_hash}
 use Rattle.fips204.specs.Keys.{PublicParts, PrivateParts, ArePublicParts, ArePrivateParts, IsPublicKeyOf, IsPrivateKeyOf}
 use Rattle.fips204.specs.ParameterSets.{set_44}
@@ -35,13 +35,19 @@ LoadsPublicAs H file answer = MatchResult answer
     (λ key. (file_fault 1314 file ≡ None) × IsPublicKeyOf H 4 (drop 2 file) key)
     (λ fault. file_fault 1314 file ≡ Some fault)
 
--- what the check of a public key's file answers beside the private key: the public key of both, or the first refusal
+-- a file is that of a public key, whose tr is the hash of its bytes
+pub record IsFileOf (H : List ℕ → List ℕ) (key : PublicParts) (file : List ℕ) : Type 0 where
+  pub spelled : file ≡ public_file_of key
+  pub hashed : key.tr ≡ take 64 (H (drop 2 file))
+
+-- what the check of a public key's file answers beside the private key: the public key that is derived of it, whose file it is,
+-- or the first refusal
 abbrev pub ChecksAs : (List ℕ → List ℕ) → (List ℕ → List ℕ) → PrivateParts → List ℕ → Result PublicParts LoadFault → Type 0
 ChecksAs H G sk file answer = MatchResult answer
-    (λ key. (file_fault 1314 file ≡ None) × IsPublicKeyOf H 4 (drop 2 file) key × (derived set_44 G sk ≡ Ok key))
+    (λ key. (file_fault 1314 file ≡ None) × (derived set_44 G sk ≡ Ok key) × IsFileOf H key file)
     (λ fault. (file_fault 1314 file ≡ Some fault)
-    ⊎ ((file_fault 1314 file ≡ None) × (fault ≡ NoMatrix) × ((key : PublicParts) → derived set_44 G sk ≡ Ok key → ⊥))
-    ⊎ ((file_fault 1314 file ≡ None) × (fault ≡ OtherKey) × ((key : PublicParts) → IsPublicKeyOf H 4 (drop 2 file) key → derived set_44 G sk ≡ Ok key → ⊥)))
+    ⊎ ((file_fault 1314 file ≡ None) × (fault ≡ NoMatrix) × (derived set_44 G sk ≡ Err SamplingLimit))
+    ⊎ ((file_fault 1314 file ≡ None) × (fault ≡ OtherKey) × (key : PublicParts) × (derived set_44 G sk ≡ Ok key) × (IsFileOf H key file → ⊥)))
 
 -- what is loaded from the file of a private key in range is that key
 abbrev pub LoadsStored : Type 0

@@ -3,13 +3,13 @@
 //! A body that the contracts refuse: a header that is not looked at.
 #![tactic(auto)]
 
-ghost use Rattle.std.specs.Prelude.{◌≡◌, ◌≤◌, length, Some, None, MatchResult, OnOk};
-ghost use Rattle.mldsa_bench.specs.KeyStore.{file_fault, file_of, public_file_of, ChecksAs, LoadsAs, LoadsPublicAs, LoadsStored, LoadsStoredPublic};
+ghost use Rattle.std.specs.Prelude.{◌≡◌, ◌≤◌, ◌↔◌, length, Some, None, IsTrue, MatchResult, OnOk};
+ghost use Rattle.mldsa_bench.specs.KeyStore.{file_fault, file_of, public_file_of, IsFileOf, ChecksAs, LoadsAs, LoadsPublicAs, LoadsStored, LoadsStoredPublic};
 
 use fips204::laws;
 use fips204::ml_dsa_44::{KG, PK_LEN, PrivateKey, PublicKey, SK_LEN};
 use fips204::traits::{KeyGen, SerDes, Signer};
-use fips204::xof::{Fill, Sha256Ctr, Sha512Ctr, Xof};
+use fips204::xof::{Fill, Sha256Ctr, Sha512Ctr, Xof, hash};
 use std::test::Fail;
 
 /// The number of bytes of a private key's file.
@@ -98,26 +98,27 @@ pub fn loaded_public<H: Xof, G: Xof>(file: &[u8]) -> Result<PublicKey<H, G>, Loa
     Ok(PublicKey::<H, G>::try_from_bytes(bytes).unwrap())
 }
 
-/// The public key of a file that belongs to a private key, or the first error.
+/// Whether a file is that of a public key, and the key's `tr` the hash of its bytes.
+fn is_file_of<H: Xof, G: Xof>(key: &PublicKey<H, G>, file: &[u8]) -> bool
+    requires { 2 ≤ length file.now }
+    ensures { IsTrue result ↔ IsFileOf H.front key.now file.now }
+{
+    key.tr() == &hash::<H, 64>(&[&file[2..]])
+        && stored_public(key.clone().unwrap()).as_slice() == file
+}
+
+/// The public key of a private key if the file is its file, or the first error.
 pub fn checked_public<H: Xof, G: Xof>(
     owner: &PrivateKey<H, G>,
     file: &[u8],
 ) -> Result<PublicKey<H, G>, LoadFault>
     ensures { ChecksAs H.front G.front owner.now file.now result }
 {
-    laws::key_bytes();
-    owner.parts_in_range_law();
-    let key = loaded_public::<H, G>(file)?;
-    let own = match owner.get_public_key() {
-        Ok(own) => own,
-        Err(_) => return Err(LoadFault::NoMatrix),
-    };
-    own.parts_in_range_law();
-    let same_hash = own.tr() == key.tr();
-    if same_hash && stored_public(own).as_slice() == file {
-        Ok(key)
-    } else {
-        Err(LoadFault::OtherKey)
+    check_header(file, PUBLIC_FILE_LEN)?;
+    match owner.get_public_key() {
+        Ok(key) if is_file_of(&key, file) => Ok(key),
+        Ok(_) => Err(LoadFault::OtherKey),
+        Err(_) => Err(LoadFault::NoMatrix),
     }
 }
 
