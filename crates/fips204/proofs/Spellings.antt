@@ -1,6 +1,7 @@
--- What users cite of bytes that spell a value: lists of known lengths that were joined, and numbers, are known by their bytes.
-use Rattle.std.proofs.Common.{◌≡◌, ◌<◌, ◌+◌, ◌^◌, ℕ, List, ◌++◌, length, take, drop, arith, length-append, sym, ap, ◌∙◌}
+-- What users cite of bytes that spell a value: joined lists of known lengths, numbers, and a fact of each place of a list.
+use Rattle.std.proofs.Common.{◌≡◌, ◌<◌, ◌+◌, ◌^◌, inl, inr, ℕ, List, ◌++◌, length, take, drop, arith, length-append, sym, ap, subst, ◌∙◌}
 use Rattle.std.proofs.Math.Seq.{take-append_seam, drop-append_seam}
+use Rattle.std.proofs.lemmas.Bool.{cases_lt}
 use Rattle.std.proofs.lemmas.Nat.{from_be_bytes-to_be_bytes_4, from_be_bytes-to_be_bytes_8}
 use Rattle.fips204_base.proofs.VectorBytes.{put_last}
 use borrow.Rule.Slice.PartMut.{put_mid}
@@ -25,3 +26,10 @@ same_u64 n m small little e = sym (from_be_bytes-to_be_bytes_8 n small) ∙ ap (
 pub written_after : (a k : ℕ) (xs zs ys : List ℕ) → length xs ≡ a → length zs ≡ k → length ys ≡ k → put_mid a k (xs ++ zs) ys ≡ xs ++ ys
 written_after a k xs zs ys first rest last =
     put_last a k (xs ++ zs) ys xs last (omega (arith, first, rest, length-append xs zs)) (ap (λ n. take n (xs ++ zs)) (sym first) ∙ take-append_seam xs zs)
+
+-- what holds at each place below a bound, and at the bound, holds at each place below the next one
+pub one_more : (P : ℕ → Type 0) (n : ℕ) → ((k : ℕ) → k < n → P k) → P n → (k : ℕ) → k < n + 1 → P k
+one_more P n before here k below = elim (cases_lt k n) [
+  inl less ↦ before k less
+  | inr past ↦ let at : n ≡ k = omega arith in subst P at here
+]

@@ -1,5 +1,5 @@
 -- A ledger stands after one more entry that fits.
-use Rattle.std.proofs.Common.{◌≡◌, ◌<◌, ◌≤◌, ◌+◌, ◌-◌, ◌⊎◌, inl, inr, zero, suc, ℕ, List, [], ◌∷◌, ◌++◌, length, get_or, replicate, nat_eq, if◌then◌else◌, arith, length-append, refl, sym, ap, subst, ◌∙◌}
+use Rattle.std.proofs.Common.{◌≡◌, ◌<◌, ◌≤◌, ◌+◌, ◌-◌, ◌⊎◌, ◌↔◌, inl, inr, zero, suc, ℕ, List, [], ◌∷◌, ◌++◌, length, get_or, replicate, nat_eq, if◌then◌else◌, arith, length-append, refl, sym, ap, subst, ◌∙◌}
 use Rattle.std.proofs.lemmas.Bool.{cases_lt}
 use Rattle.std.proofs.lemmas.List.{get_or_append_left}
 use Rattle.std.proofs.Math.Seq.{get_or-append_seam}
@@ -48,3 +48,11 @@ still_stands accepts old new entry added linked signed stood place below =
       | inr past ↦ let at : length old ≡ place = omega (arith, size, here, past) in subst (Fits accepts (old ++ entry ∷ [])) at (new_fits accepts old entry linked signed)
     ] in
     subst (λ l. Fits accepts l place) (sym added) fits
+
+-- ledgers that fit by one rule fit by another that accepts the same
+pub each_alike : (P Q : List ℕ → List ℕ → Type 0) (ledger : List Entry) → ((message signature : List ℕ) → P message signature ↔ Q message signature)
+    → EachFits P ledger ↔ EachFits Q ledger
+each_alike P Q ledger same = (
+  λ all place below. let fits = all place below in record { linked = fits.linked; signed = (same _ _).0 fits.signed },
+  λ all place below. let fits = all place below in record { linked = fits.linked; signed = (same _ _).1 fits.signed },
+)

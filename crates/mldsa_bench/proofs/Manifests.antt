@@ -1,7 +1,8 @@
 -- Two manifests with one spelling are one manifest.
-use Rattle.std.proofs.Common.{◌≡◌, ◌<◌, ◌+◌, ◌^◌, ◌++◌, suc, ℕ, List, [], ◌∷◌, length, arith, length-append, refl, sym, ap, ◌∙◌}
+use Rattle.std.proofs.Common.{◌≡◌, ◌<◌, ◌+◌, ◌^◌, ◌++◌, suc, ℕ, List, [], ◌∷◌, length, take, get_or, arith, length-append, refl, sym, ap, ◌∙◌}
 use Rattle.std.specs.Int.{w64, to_be_bytes}
 use Rattle.std.specs.List.{All, flat_map}
+use Rattle.std.proofs.lemmas.List.{take_more, flat_map_more}
 use Rattle.mldsa_bench.specs.Manifest.{entry_bytes, spelling, IsEntry, SpellingIsOneToOne}
 use Rattle.mldsa_bench.specs.declared.pages.manifest.Entry.{Entry}
 use Rattle.fips204.proofs.Spellings.{same_parts, same_u64}
@@ -43,3 +44,6 @@ one_manifest (a ∷ rest) (b ∷ more) all every same =
     let head = one_entry a b one other cut.0 in
     let tail = one_manifest rest more (others a rest all) (others b more every) cut.1 in
     cc
+
+pub spelling_more : (entries : List Entry) (n : ℕ) (d : Entry) → n < length entries → spelling (take (n + 1) entries) ≡ spelling (take n entries) ++ entry_bytes (get_or entries n d)
+spelling_more entries n d inside = ap spelling (take_more entries n d inside) ∙ sym (flat_map_more entry_bytes [] (take n entries) (get_or entries n d))

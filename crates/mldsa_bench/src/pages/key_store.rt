@@ -98,13 +98,24 @@ pub fn loaded_public<H: Xof, G: Xof>(file: &[u8]) -> Result<PublicKey<H, G>, Loa
     Ok(PublicKey::<H, G>::try_from_bytes(bytes).unwrap())
 }
 
+/// Whether two slices have the same bytes.
+fn same_bytes(first: &[u8], second: &[u8]) -> bool
+    ensures { IsTrue result ↔ (first.now ≡ second.now) }
+{
+    first == second
+}
+
 /// Whether a file is that of a public key, and the key's `tr` the hash of its bytes.
 fn is_file_of<H: Xof, G: Xof>(key: &PublicKey<H, G>, file: &[u8]) -> bool
     requires { 2 ≤ length file.now }
     ensures { IsTrue result ↔ IsFileOf H.front key.now file.now }
 {
-    key.tr() == &hash::<H, 64>(&[&file[2..]])
-        && stored_public(key.clone().unwrap()).as_slice() == file
+    let hashed = hash::<H, 64>(&[&file[2..]]);
+    let spelled = stored_public(key.clone().unwrap());
+    if !same_bytes(key.tr(), &hashed) {
+        return false;
+    }
+    same_bytes(file, &spelled)
 }
 
 /// The public key of a private key if the file is its file, or the first error.

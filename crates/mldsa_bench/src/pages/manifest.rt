@@ -112,10 +112,10 @@ where
         (IsHandedOut S.set H.front G.front key.now CONTEXT.now SHA2_256 entries.now signature.now name.now file.now → ⊥)
         (λ given. (given.now ≡ file.now) × IsHandedOut S.set H.front G.front key.now CONTEXT.now SHA2_256 entries.now signature.now name.now file.now) }
 {
-    let digest = digest_of(entries);
-    if lists(entries, &entry_of(name, file))
-        && key.hash_verify(&digest, signature, CONTEXT, &SHA2_256)
-    {
+    if !key.hash_verify(&digest_of(entries), signature, CONTEXT, &SHA2_256) {
+        return None;
+    }
+    if lists(entries, &entry_of(name, file)) {
         Some(file)
     } else {
         None
