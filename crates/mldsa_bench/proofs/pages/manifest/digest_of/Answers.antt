@@ -1,4 +1,4 @@
-use Rattle.std.proofs.Common.{ℕ, [], get_or, subst, sym}
+use Rattle.std.proofs.Common.{ℕ, [], get_or, arith, subst, sym}
 use Rattle.std.proofs.lemmas.List.{get_or_default}
 use Rattle.sha2.specs.Hashers.{Holds256}
 use Rattle.fips204.proofs.Spellings.{one_more}
@@ -19,4 +19,4 @@ loop-entry-preserved c =
     }
 
 pub returns-clause-range : goal.returns-clause-range
-returns-clause-range c = λ k d below. c.loop-entry.invariant.range k ? d
+returns-clause-range c = λ k d below. c.loop-entry.invariant.range k (omega (arith, below)) d
