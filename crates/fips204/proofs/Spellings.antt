@@ -30,6 +30,6 @@ written_after a k xs zs ys first rest last =
 -- what holds at each place below a bound, and at the bound, holds at each place below the next one
 pub one_more : (P : ℕ → Type 0) (n : ℕ) → ((k : ℕ) → k < n → P k) → P n → (k : ℕ) → k < n + 1 → P k
 one_more P n before here k below = elim (cases_lt k n) [
-  inl less ↦ before k less
+  | inl less ↦ before k less
   | inr past ↦ let at : n ≡ k = omega arith in subst P at here
 ]

@@ -44,7 +44,7 @@ still_stands accepts old new entry added linked signed stood place below =
     let size : length (old ++ entry ∷ []) ≡ length old + 1 = length-append old (entry ∷ []) in
     let here : place < length (old ++ entry ∷ []) = subst (λ l. place < length l) added below in
     let fits : Fits accepts (old ++ entry ∷ []) place = elim (cases_lt place (length old)) [
-      inl inside ↦ old_fits accepts old entry place inside (stood place inside)
+      | inl inside ↦ old_fits accepts old entry place inside (stood place inside)
       | inr past ↦ let at : length old ≡ place = omega (arith, size, here, past) in subst (Fits accepts (old ++ entry ∷ [])) at (new_fits accepts old entry linked signed)
     ] in
     subst (λ l. Fits accepts l place) (sym added) fits

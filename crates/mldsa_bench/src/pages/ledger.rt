@@ -9,11 +9,10 @@ ghost use Rattle.fips204.specs.Prepared.{prepared_public, VerifiesMessagePrepare
 ghost use Rattle.fips204.specs.Refusals.{derived};
 ghost use Rattle.mldsa_bench.specs.Ledger.{entry_hash, hash_before, Fits, EachFits, Stands, AppendsAs};
 
-use fips204::laws;
 use fips204::ml_dsa_44::{KG, PreparedPublicKey, PrivateKey, PublicKey, SIG_LEN};
 use fips204::traits::{KeyGen, SerDes, Signer};
 use fips204::xof::{Fill, Sha256Ctr, Sha512Ctr, Xof};
-use fips204::Fault;
+use fips204::{Fault, laws};
 use sha2::{Digest, Sha256};
 use std::test::Fail;
 

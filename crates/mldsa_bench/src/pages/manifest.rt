@@ -128,12 +128,20 @@ where
 fn a_manifest(rt: HostRuntime) -> Result<(), Fail> {
     let (key, owner) = ml_dsa_65::KG::<Sha256Ctr, Sha512Ctr>::keygen_from_seed(&[7; 32])?;
     let (one, two) = ([b'1'; 32], [b'2'; 32]);
-    let entries = [entry_of(&one, b"first file"), entry_of(&two, b"second file")];
+    let entries = [
+        entry_of(&one, b"first file"),
+        entry_of(&two, b"second file"),
+    ];
     let digest = digest_of(&entries);
     let sign = owner.try_hash_sign_with_seed(&[0; 32], &digest, CONTEXT, &SHA2_256)?;
     assert!(rt; handed_out(&key, &entries, &sign, &one, b"first file") == Some(b"first file"));
     assert!(rt; handed_out(&key, &entries, &sign, &two, b"second file") == Some(b"second file"));
-    for file in [b"first file!".as_slice(), b"first fil", b"fjrst file", b"second file"] {
+    for file in [
+        b"first file!".as_slice(),
+        b"first fil",
+        b"fjrst file",
+        b"second file",
+    ] {
         assert!(rt; handed_out(&key, &entries, &sign, &one, file) == None);
     }
     assert!(rt; handed_out(&key, &entries[..1], &sign, &one, b"first file") == None);
