@@ -49,10 +49,10 @@ still_stands accepts old new entry added linked signed stood place below =
     ] in
     subst (λ l. Fits accepts l place) (sym added) fits
 
--- ledgers that fit by one rule fit by another that accepts the same
-pub each_alike : (P Q : List ℕ → List ℕ → Type 0) (ledger : List Entry) → ((message signature : List ℕ) → P message signature ↔ Q message signature)
-    → EachFits P ledger ↔ EachFits Q ledger
-each_alike P Q ledger same = (
-  λ all place below. let fits = all place below in record { linked = fits.linked; signed = (same _ _).0 fits.signed },
-  λ all place below. let fits = all place below in record { linked = fits.linked; signed = (same _ _).1 fits.signed },
+-- an entry that fits by one rule fits by another that accepts the same
+pub fits_alike : (P Q : List ℕ → List ℕ → Type 0) (ledger : List Entry) (place : ℕ) → ((message signature : List ℕ) → P message signature ↔ Q message signature)
+    → Fits P ledger place ↔ Fits Q ledger place
+fits_alike P Q ledger place same = (
+  λ fits. record { linked = fits.linked; signed = (same _ _).0 fits.signed },
+  λ fits. record { linked = fits.linked; signed = (same _ _).1 fits.signed },
 )

@@ -7,7 +7,7 @@ ghost use Rattle.fips204.specs.Keys.{PublicParts};
 ghost use Rattle.fips204.specs.ParameterSets.{set_44};
 ghost use Rattle.fips204.specs.Prepared.{prepared_public, VerifiesMessagePrepared};
 ghost use Rattle.fips204.specs.Refusals.{derived};
-ghost use Rattle.mldsa_bench.specs.Ledger.{entry_hash, hash_before, Fits, EachFits, Stands, AppendsAs};
+ghost use Rattle.mldsa_bench.specs.Ledger.{hash_before, Fits, Stands, AppendsAs};
 
 use fips204::ml_dsa_44::{KG, PreparedPublicKey, PrivateKey, PublicKey, SIG_LEN};
 use fips204::traits::{KeyGen, SerDes, Signer};
@@ -107,18 +107,6 @@ fn fits<H: Xof>(key: &PreparedPublicKey<H>, ledger: &[Entry], place: usize) -> b
         )
 }
 
-/// Whether each entry fits, by a key that is prepared.
-fn each_fits<H: Xof>(key: &PreparedPublicKey<H>, ledger: &[Entry]) -> bool
-    ensures { IsTrue result ↔ EachFits (λ message signature. VerifiesMessagePrepared set_44 H.front key.now message signature CONTEXT.now) ledger.now }
-{
-    for place in 0..ledger.len() {
-        if !fits(key, ledger, place) {
-            return false;
-        }
-    }
-    true
-}
-
 /// Whether the ledger stands under the key: each entry has the hash of the one before it, and each signature is
 /// accepted. The key is prepared once. Entries that were dropped at the end are not missed.
 ///
@@ -129,7 +117,12 @@ pub fn check_all<H: Xof, G: Xof>(key: &PublicKey<H, G>, ledger: &[Entry]) -> Res
 {
     laws::prepared_keys();
     let prepared = key.prepare()?;
-    Ok(each_fits(&prepared, ledger))
+    for place in 0..ledger.len() {
+        if !fits(&prepared, ledger, place) {
+            return Ok(false);
+        }
+    }
+    Ok(true)
 }
 
 /// Entries that were appended stand; a broken link, a swapped pair, a changed payload, a cut signature and a missing
