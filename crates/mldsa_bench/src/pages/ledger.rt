@@ -134,6 +134,7 @@ fn a_ledger(rt: HostRuntime) -> Result<(), Fail> {
     for payload in 0..3u8 {
         assert!(rt; append(&mut ledger, &owner, &[0; 32], &[payload; 32]) == Ok(()));
     }
+    assert!(rt; ledger.len() == 3);
     assert!(rt; ledger[0].previous == [0; 32] && ledger[2].payload == [2; 32]);
     assert!(rt; check_all(&key, &ledger)? && check_all(&key, &[])?);
     assert!(rt; check_all(&key, &ledger[..2])?);
