@@ -1,4 +1,6 @@
 //! Random bytes of the kit's sources and generators, as the library asks for them.
+//!
+//! A body that the contracts refuse: a generator that is not asked.
 #![tactic(auto)]
 
 ghost use Rattle.std.specs.Prelude.{◌≡◌, ⊤, ℕ, length};

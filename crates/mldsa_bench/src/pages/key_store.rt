@@ -1,6 +1,7 @@
 //! A key store: a file has a byte of the version, a byte of the set, and the bytes of a private or a public key.
 //!
-//! A body that the contracts refuse: a header that is not looked at.
+//! Bodies that the contracts refuse: a header that is not looked at; errors in another order; a public key whose `tr` is
+//! not compared, or that is not compared at all.
 #![tactic(auto)]
 
 ghost use Rattle.std.specs.Prelude.{◌≡◌, ◌≤◌, ◌↔◌, length, Some, None, IsTrue, MatchResult, OnOk};

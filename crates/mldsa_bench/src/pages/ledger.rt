@@ -1,7 +1,11 @@
 //! An append-only ledger: each entry signs the hash of the entry before it, and what is recorded.
+//!
+//! Bodies that the contracts refuse: the last entry is not checked, or no link; a link that leaves the signature out; an
+//! entry that is appended with another link, or signed without its payload; a ledger that is cleared on an error.
 #![tactic(auto)]
 
 ghost use Rattle.std.specs.Prelude.{◌≡◌, ◌≤◌, ◌<◌, ◌↔◌, ◌++◌, length, Ok, Err, IsTrue, IfOk, IfErr, OnOk};
+ghost use Rattle.std.specs.Vec.{vec_capacity, vec_len};
 ghost use Rattle.fips204.specs.KeyGeneration.{IsWhole};
 ghost use Rattle.fips204.specs.Keys.{PublicParts};
 ghost use Rattle.fips204.specs.ParameterSets.{set_44};
@@ -73,6 +77,7 @@ pub fn append<H: Xof, G: Xof>(
     payload: &[u8; 32],
 ) -> Result<(), AppendFault>
     ensures appended { AppendsAs H.front G.front owner.now CONTEXT.now random.now payload.now ledger.old.items ledger.new.items result }
+    ensures room { result ≡ Err AppendFault.OutOfMemory → vec_capacity ledger.old ≤ vec_len ledger.old }
     ensures stands { (key : PublicParts) → IsWhole set_44 G.front owner.now → derived set_44 G.front owner.now ≡ Ok key
         → Stands H.front G.front key CONTEXT.now ledger.old.items → Stands H.front G.front key CONTEXT.now ledger.new.items }
 {
