@@ -199,7 +199,8 @@ impl<const K: usize, const L: usize, H, G> PrivateKey<K, L, H, G> {
     pub fn tr(&self) -> &[u8; 64]
         ensures { result.now ≡ self.now.tr }
     {
-        &self.tr
+        let Self { tr, .. } = self;
+        tr
     }
 
     /// A law, which computes nothing: the parts have the lengths and ranges of a private key whose matrix has
