@@ -19,3 +19,4 @@ mod LongerFronts
 mod Worked
 -- what users may cite
 pub mod Callers
+pub mod Spellings

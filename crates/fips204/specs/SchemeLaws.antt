@@ -9,10 +9,10 @@ use Rattle.fips204_base.specs.Transforms.{product}
 use Rattle.fips204_base.specs.Vectors.{IsVector, polynomial_of}
 use Rattle.fips204_base.specs.declared.types.R.{R}
 use Rattle.fips204.specs.Acceptance.{Verifies, w1_prime}
-use Rattle.fips204.specs.Framing.{Input, framed_input, message_hash}
+use Rattle.fips204.specs.Framing.{Input, framed, framed_input, message_hash}
 use Rattle.fips204.specs.Keys.{PublicParts}
 use Rattle.fips204.specs.ParameterSets.{ParameterSet, is_parameter_set, commitment_length}
-use Rattle.fips204.specs.Refusals.{input_fault, AcceptsInput}
+use Rattle.fips204.specs.Refusals.{input_fault, AcceptsInput, VerifiesMessage}
 
 -- with the hint of z the high bits of r become those of r + z, where z is at most gamma2 in absolute value
 abbrev pub HintGivesHighBits : Type 0
@@ -84,3 +84,14 @@ SignatureBindsInput =
     (p : ParameterSet) (H G : List ℕ → List ℕ) (pk : PublicParts) (x y : Input) (signature : List ℕ) → IsTrue (is_parameter_set p) → x ≢ y
     → (first : AcceptsInput H pk.tr (λ mu. Verifies p H G pk mu signature) x) → (second : AcceptsInput H pk.tr (λ mu. Verifies p H G pk mu signature) y)
     → (accepted_w1 first.accepted ≡ accepted_w1 second.accepted) × NamesCollision p H pk.tr (framed_input x) (framed_input y) (accepted_w1 first.accepted)
+
+-- two messages under one context name a collision, with one encoded w1'
+abbrev pub MessagesCollide : ParameterSet → (List ℕ → List ℕ) → List ℕ → List ℕ → List ℕ → List ℕ → Type 0
+MessagesCollide p H tr context first second = (w1 : List ℕ) × NamesCollision p H tr (framed first context) (framed second context) w1
+
+-- so do two different messages with one signature that a key accepts for both
+abbrev pub SignatureBindsText : Type 0
+SignatureBindsText =
+    (p : ParameterSet) (H G : List ℕ → List ℕ) (pk : PublicParts) (context first second signature : List ℕ) → IsTrue (is_parameter_set p)
+    → first ≢ second → VerifiesMessage p H G pk first signature context → VerifiesMessage p H G pk second signature context
+    → MessagesCollide p H pk.tr context first second

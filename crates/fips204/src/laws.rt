@@ -9,7 +9,7 @@ ghost use Rattle.fips204_base.specs.Transforms.{ProductOfTransforms, InverseOfTr
 ghost use Rattle.fips204.specs.Completeness.{SignedIsAccepted, BytesTellKeys};
 ghost use Rattle.fips204.specs.Constants.{ConstantsStand, LengthsStand};
 ghost use Rattle.fips204.specs.LongerFronts.{CounterFrontsArePrefixes, LongerFrontsKeep};
-ghost use Rattle.fips204.specs.SchemeLaws.{FramingIsOneToOne, SignatureBindsMessage, SignatureBindsInput};
+ghost use Rattle.fips204.specs.SchemeLaws.{FramingIsOneToOne, SignatureBindsMessage, SignatureBindsInput, SignatureBindsText};
 ghost use Rattle.fips204.specs.Prepared.{PreparedAnswersAsPlain};
 ghost use Rattle.fips204.specs.RefusalLaws.{RefusesOnly};
 ghost use Rattle.fips204.specs.ParameterSets.{ParameterSet, is_parameter_set};
@@ -81,10 +81,12 @@ pub fn framing()
 
 /// One signature for two inputs gives a collision of `H`: if a public key accepts one signature for two
 /// framed messages, or two inputs, that differ, either the framed messages collide in the 64 bytes of mu, or
-/// the two values of mu, each followed by the same encoded `w1`, collide in the bytes of `c_tilde`.
+/// the two values of mu, each followed by the same encoded `w1`, collide in the bytes of `c_tilde`. So do two
+/// different messages under one context.
 pub fn binding()
     ensures framed { SignatureBindsMessage }
     ensures inputs { SignatureBindsInput }
+    ensures messages { SignatureBindsText }
 {}
 
 /// A signature made with a whole private key verifies under the public key derived from it. The key pair of a

@@ -194,6 +194,15 @@ impl<const K: usize, const L: usize, H, G> Clone for PrivateKey<K, L, H, G> {
 }
 
 impl<const K: usize, const L: usize, H, G> PrivateKey<K, L, H, G> {
+    /// The hash that the key keeps, which signing hashes before the message: the hash of the public key's bytes if
+    /// the key comes from key generation, and the bytes that stood there if it comes from bytes.
+    pub fn tr(&self) -> &[u8; 64]
+        ensures { result.now ≡ self.now.tr }
+    {
+        let Self { tr, .. } = self;
+        tr
+    }
+
     /// A law, which computes nothing: the parts have the lengths and ranges of a private key whose matrix has
     /// `K` rows and `L` columns.
     pub fn parts_in_range_law(&self)
