@@ -5,10 +5,10 @@ use Rattle.std.specs.List.{range_with_len}
 use Rattle.fips204_base.specs.declared.fault.Fault.{Fault}
 use Rattle.fips204_base.specs.declared.fault.Fault.TheVariants.{SamplingLimit, SignCtx}
 use Rattle.fips204_base.specs.declared.types.T.{T}
-use Rattle.fips204_base.specs.MatrixEntry.{sampled_matrix}
+use Rattle.fips204_base.specs.Sampling.{sampled_matrix}
 use Rattle.fips204.specs.ParameterSets.{ParameterSet}
 use Rattle.fips204.specs.Keys.{PrivateParts}
-use Rattle.fips204.specs.Attempts.{Attempt, limit, rejected, signed, attempt}
+use Rattle.fips204.specs.Signing.{Attempt, limit, rejected, signed, attempt}
 use Rattle.fips204.specs.Framing.{Input, plain, framed_input, message_hash}
 use Rattle.fips204.specs.Signing.{first_answer, mask_seed, sign_with, sign_if_matrix, sign}
 use Rattle.fips204.specs.RefusalLaws.{RefusesOnly}
@@ -63,8 +63,8 @@ refuses_only p H G = record {
   public_keys = λ pk. limited _;
   hashes = λ sk mu rnd. signing_refuses p H G sk mu rnd;
   messages = λ sk rnd message context.
-      same_refusal (sign_input H sk.tr (λ mu. sign p H G sk mu rnd) (plain context message)) (λ fault. (message_fault context ≡ Some fault) ⊎ IsSigningLimit fault) (λ fault. (fault ≡ SignCtx) ⊎ IsSigningLimit fault)
+      same_refusal (sign_input H sk.tr (λ mu. sign p H G sk mu rnd) (plain message context)) (λ fault. (message_fault context ≡ Some fault) ⊎ IsSigningLimit fault) (λ fault. (fault ≡ SignCtx) ⊎ IsSigningLimit fault)
       (λ fault is. elim is [ inl long ↦ inl (context_alone (nat_lt 255 (length context)) fault long) | inr later ↦ inr later ])
-      (input_refuses p H G sk rnd (plain context message));
+      (input_refuses p H G sk rnd (plain message context));
   inputs = λ sk rnd input. input_refuses p H G sk rnd input;
 }

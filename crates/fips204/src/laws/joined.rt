@@ -2,7 +2,7 @@
 #![tactic(auto)]
 
 ghost use Rattle.std.specs.Prelude.{◌≡◌, true, Ok, Err, IfOk, MatchResult};
-ghost use Rattle.fips204.specs.KeyGeneration.{IsWhole};
+ghost use Rattle.fips204.specs.Keys.{IsWhole};
 ghost use Rattle.fips204.specs.ParameterSets.{set_44};
 ghost use Rattle.fips204.specs.Refusals.{generated};
 

@@ -3,7 +3,7 @@ use Rattle.std.specs.Prelude.{◌↔◌}
 use Rattle.fips204_base.specs.declared.types.R.{R}
 use Rattle.fips204_base.specs.Vectors.{vector_coefficients}
 use Rattle.fips204.specs.Acceptance.{t1_shifted}
-use Rattle.fips204.specs.Attempts.{commitment}
+use Rattle.fips204.specs.Signing.{commitment}
 use Rattle.fips204.specs.Prepared.{PreparedPublic}
 use Rattle.fips204.specs.Sets.{set_of}
 use Rattle.fips204.proofs.ParameterSets.{IsKnown, limits, matrix_room}
