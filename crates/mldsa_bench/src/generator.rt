@@ -77,7 +77,7 @@ impl CryptoRngCore for RefusesAt {
 pub struct WantsZeros;
 
 impl CryptoRngCore for WantsZeros {
-    ghost use Rattle.std.specs.Prelude.{◌≡◌, replicate};
+    ghost use Rattle.std.specs.Prelude.{◌≡◌, ⊤, replicate};
 
     ghost gives = { λ _ asked bytes _. (asked ≡ 32) × (bytes ≡ replicate 32 7) };
 
