@@ -15,7 +15,6 @@ pub mod lines;
 pub mod marked;
 pub mod output;
 pub mod process;
-mod wanted;
 
 use answers::{Output, execute};
 pub use bytewise::Bytewise;

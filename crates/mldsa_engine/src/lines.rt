@@ -1,8 +1,8 @@
 //! The lines of an input.
 #![tactic(auto)]
 
-ghost use Rattle.std.specs.Prelude.{◌≡◌, ◌≢◌, ◌<◌, ◌≤◌, ◌+◌, ◌^◌, ◌↔◌, ◌⊎◌, ℕ, List, Option, length, take, map, Ok, Err, IsTrue, IfOk, IfErr, IfSome, MatchResult, false, true, ◌∷◌, [], position};
-ghost use Rattle.mldsa_engine.specs.Lines.{longest_line, line_digits, ends_line, judged, Fits, AllFit, IsInputFault, IsLineFault, TakesPiece, TakesLine, TakesLines, FaultOfLines, InTurn};
+ghost use Rattle.std.specs.Prelude.{◌≡◌, ◌<◌, ◌≤◌, ◌+◌, ◌^◌, ◌↔◌, length, take, map, Ok, Err, IsTrue, IfOk, IfErr, MatchResult, false, true, ◌∷◌, [], position};
+ghost use Rattle.mldsa_engine.specs.Lines.{longest_line, line_digits, ends_line, sized, refused, Fits, AllFit, IsInputFault, TakesPiece, TakesLine, TakesLines, StopsAt};
 
 use crate::fault::RunFault;
 use crate::marked::Marked;
@@ -111,6 +111,16 @@ fn read_piece<I: Read>(
     Ok(Piece { length, ending })
 }
 
+/// The line before the end of the input, or its fault if there are no characters.
+fn last_line(number: usize, line: Vec<u8>) -> Result<Vec<u8>, RunFault>
+    ensures { MatchResult result (λ same. (same ≡ line) × (0 < length line.items)) (λ fault. (fault ≡ RunFault.Missing number) × (length line.items ≡ 0)) }
+{
+    if line.is_empty() {
+        return Err(RunFault::Missing { line: number });
+    }
+    Ok(line)
+}
+
 /// The characters of the next line, without its LF. They are asked for one at a time, but for those
 /// that a line needs to have the wanted bytes, which are asked for in pieces. At most one character more
 /// than a line may have is read.
@@ -124,8 +134,7 @@ fn read_line<I: Read>(
     ensures read_failed { IsTrue input.new.failed ↔ (result ≡ Err RunFault.Read) }
     ensures short { IfOk result (λ line. length line.items ≤ longest_line) }
     ensures taken { IfOk result (λ line. TakesLine wanted (I.remaining input.old.device) (I.remaining input.new.device) line.items) }
-    ensures line_fault { IfErr result (λ fault. IsLineFault fault → FaultOfLines number (wanted ∷ []) (I.remaining input.old.device) fault) }
-    ensures in_turn { IfErr result (λ fault. IsLineFault fault → InTurn number (wanted ∷ []) (I.remaining input.old.device) (I.remaining input.new.device)) }
+    ensures stops { IfErr result (StopsAt I.remaining input.old input.new number (wanted ∷ [])) }
     ensures faults { IfErr result (λ fault. IsInputFault fault) }
 {
     let characters = characters_of(wanted);
@@ -139,49 +148,34 @@ fn read_line<I: Read>(
         match piece.ending {
             Ending::Open => {}
             Ending::Line => return Ok(line),
-            Ending::Input if line.is_empty() => return Err(RunFault::Missing { line: number }),
-            Ending::Input => return Ok(line),
+            Ending::Input => return last_line(number, line),
         }
     }
     Err(RunFault::TooLong { line: number })
 }
 
-/// The fault of a line that was refused by `hex`.
-fn fault_of(number: usize, refusal: FromHexError) -> RunFault
-    ensures memory { refusal ≡ FromHexError.OutOfMemory → result ≡ RunFault.Memory }
-    ensures either { (result ≡ RunFault.Memory) ⊎ (result ≡ RunFault.NotHex number) }
-{
-    match refusal {
-        FromHexError::OutOfMemory => RunFault::Memory,
-        _ => RunFault::NotHex { line: number },
-    }
-}
-
-/// The bytes that the characters of a line spell.
-fn bytes_of(
-    alloc: Global,
+/// The bytes of a line, by what decoding its characters gave, or its fault, which is `Memory` only if memory for
+/// the bytes was refused.
+fn judge(
     number: usize,
     wanted: Option<usize>,
-    line: &[u8],
+    decoded: Result<Vec<u8>, FromHexError>,
 ) -> Result<Vec<u8>, RunFault>
-    requires short { length line.now ≤ longest_line }
-    ensures spelt { IfOk result (λ bytes. judged number wanted line.now ≡ Ok bytes.items) }
-    ensures fits { IfOk result (λ bytes. Fits wanted bytes.items) }
-    ensures line_fault { IfErr result (λ fault. IsLineFault fault → judged number wanted line.now ≡ Err fault) }
-    ensures faults { IfErr result (λ fault. IsInputFault fault) }
-    ensures no_read { result ≢ Err RunFault.Read }
+    ensures { MatchResult decoded
+        (λ bytes. MatchResult result
+            (λ same. (sized number wanted bytes.items ≡ Ok same.items) × Fits wanted same.items)
+            (λ fault. sized number wanted bytes.items ≡ Err fault))
+        (λ refusal. result ≡ Err (refused number refusal)) }
 {
-    let bytes = match hex::decode(alloc, line) {
-        Ok(bytes) => bytes,
-        Err(refusal) => return Err(fault_of(number, refusal)),
-    };
-    match wanted {
-        Some(wants) if bytes.len() != wants => Err(RunFault::Length {
+    match (decoded, wanted) {
+        (Ok(bytes), Some(wants)) if bytes.len() != wants => Err(RunFault::Length {
             line: number,
             wants,
             has: bytes.len(),
         }),
-        _ => Ok(bytes),
+        (Ok(bytes), _) => Ok(bytes),
+        (Err(FromHexError::OutOfMemory), _) => Err(RunFault::Memory),
+        (Err(_), _) => Err(RunFault::NotHex { line: number }),
     }
 }
 
@@ -196,12 +190,11 @@ fn read_bytes<I: Read>(
     ensures read_failed { IsTrue input.new.failed ↔ (result ≡ Err RunFault.Read) }
     ensures fits { IfOk result (λ bytes. Fits wanted bytes.items) }
     ensures taken { IfOk result (λ bytes. TakesLines number (wanted ∷ []) (I.remaining input.old.device) (I.remaining input.new.device) (bytes.items ∷ [])) }
-    ensures line_fault { IfErr result (λ fault. IsLineFault fault → FaultOfLines number (wanted ∷ []) (I.remaining input.old.device) fault) }
-    ensures in_turn { IfErr result (λ fault. IsLineFault fault → InTurn number (wanted ∷ []) (I.remaining input.old.device) (I.remaining input.new.device)) }
+    ensures stops { IfErr result (StopsAt I.remaining input.old input.new number (wanted ∷ [])) }
     ensures faults { IfErr result (λ fault. IsInputFault fault) }
 {
     let line = read_line(alloc, number, wanted, input)?;
-    bytes_of(alloc, number, wanted, line.as_slice())
+    judge(number, wanted, hex::decode(alloc, line.as_slice()))
 }
 
 /// Reads the bytes of the wanted lines, of which the first has this number: as many bytes of each as are wanted of it, or any
@@ -217,8 +210,7 @@ pub(crate) fn read_lines<I: Read>(
     ensures read_failed { IsTrue input.new.failed ↔ (result ≡ Err RunFault.Read) }
     ensures fit { IfOk result (λ lines. AllFit wanted.now (map (λ line. line.items) lines.items)) }
     ensures taken { IfOk result (λ lines. TakesLines first wanted.now (I.remaining input.old.device) (I.remaining input.new.device) (map (λ line. line.items) lines.items)) }
-    ensures line_fault { IfErr result (λ fault. IsLineFault fault → FaultOfLines first wanted.now (I.remaining input.old.device) fault) }
-    ensures in_turn { IfErr result (λ fault. IsLineFault fault → InTurn first wanted.now (I.remaining input.old.device) (I.remaining input.new.device)) }
+    ensures stops { IfErr result (StopsAt I.remaining input.old input.new first wanted.now) }
     ensures faults { IfErr result (λ fault. IsInputFault fault) }
 {
     let mut lines = Vec::new(alloc);
