@@ -4,8 +4,8 @@ use Rattle.fips204.specs.ParameterSets.{ParameterSet, public_key_length, signatu
 use Rattle.mldsa_engine.specs.declared.fault.RunFault.{RunFault}
 use Rattle.mldsa_engine.specs.declared.call.Task.{Task}
 use Rattle.mldsa_engine.specs.declared.call.Task.TheVariants.{Id, Keygen, Sign, Verify, Check, Batch}
-use Rattle.mldsa_engine.specs.Lines.{AllFit, TakesLines, IsLineFault, FaultOfLines, InTurn}
-use Rattle.mldsa_engine.proofs.Entries.{two_each, batch_taken, batch_fault, batch_in_turn}
+use Rattle.mldsa_engine.specs.Lines.{AllFit, TakesLines, Stops}
+use Rattle.mldsa_engine.proofs.Entries.{two_each, batch_taken, stops_batch}
 use Rattle.mldsa_engine.proofs.LinesInSequence.{AllFit-length}
 use Rattle.mldsa_engine.specs.ProgramText.{wanted_lines, input_lines, entry_lines, two_bytes, JudgesByKey, Answers, Executes}
 
@@ -99,28 +99,15 @@ executes_batch items text success H G p given mid left lines first second third 
     )
 
 -- the fault of a line of a batch's entries is that of the batch
-pub batch_line_fault : {V W : Type 0} (items : V → List ℕ) (p : ParameterSet) (given mid : Option (List ℕ)) (lines : List V) (first second third : V)
+pub batch_stops : {V W : Type 0} (items : V → List ℕ) (p : ParameterSet) (given mid left : Option (List ℕ)) (lines : List V) (first second third : V)
     (t : List ℕ) (count : ℕ) (result : Result W RunFault)
     → AllFit (wanted_lines Batch p) (map items lines) → TakesLines 1 (wanted_lines Batch p) given mid (map items lines)
     → first ≡ get_or lines 0 first → second ≡ get_or lines 1 second → third ≡ get_or lines 2 third
     → t ≡ items third → count ≡ two_bytes t
-    → IfErr result (λ fault. IsLineFault fault → FaultOfLines 4 (entry_lines (signature_length p) count) mid fault)
-    → IfErr result (λ fault. IsLineFault fault → FaultOfLines 1 (input_lines Batch p given) given fault)
-batch_line_fault items p given mid lines first second third t count (Ok it) fit taken p0 p1 p2 e2 said bad = bad
-batch_line_fault items p given mid lines first second third t count (Err fault) fit taken p0 p1 p2 e2 said bad =
+    → IfErr result (Stops 4 (entry_lines (signature_length p) count) mid left)
+    → IfErr result (Stops 1 (input_lines Batch p given) given left)
+batch_stops items p given mid left lines first second third t count (Ok it) fit taken p0 p1 p2 e2 said bad = bad
+batch_stops items p given mid left lines first second third t count (Err fault) fit taken p0 p1 p2 e2 said bad =
     let three = three_counted items (Some (public_key_length p)) None (Some 2) lines first second third fit p0 p1 p2 in
     let front = rw (three, ← e2) at taken in
-    λ of_line. batch_fault p given mid _ count fault front said (bad of_line)
-
-pub batch_line_in_turn : {V W : Type 0} (items : V → List ℕ) (p : ParameterSet) (given mid left : Option (List ℕ)) (lines : List V) (first second third : V)
-    (t : List ℕ) (count : ℕ) (result : Result W RunFault)
-    → AllFit (wanted_lines Batch p) (map items lines) → TakesLines 1 (wanted_lines Batch p) given mid (map items lines)
-    → first ≡ get_or lines 0 first → second ≡ get_or lines 1 second → third ≡ get_or lines 2 third
-    → t ≡ items third → count ≡ two_bytes t
-    → IfErr result (λ fault. IsLineFault fault → InTurn 4 (entry_lines (signature_length p) count) mid left)
-    → IfErr result (λ fault. IsLineFault fault → InTurn 1 (input_lines Batch p given) given left)
-batch_line_in_turn items p given mid left lines first second third t count (Ok it) fit taken p0 p1 p2 e2 said bad = bad
-batch_line_in_turn items p given mid left lines first second third t count (Err fault) fit taken p0 p1 p2 e2 said bad =
-    let three = three_counted items (Some (public_key_length p)) None (Some 2) lines first second third fit p0 p1 p2 in
-    let front = rw (three, ← e2) at taken in
-    λ of_line. batch_in_turn p given mid left _ count front said (bad of_line)
+    stops_batch p given mid left _ count fault front said bad

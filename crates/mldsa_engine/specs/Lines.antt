@@ -148,12 +148,14 @@ InTurn number wanted None left = ⊤
 InTurn number wanted (Some input) None = ⊥
 InTurn number wanted (Some input) (Some left) = StopsInTurn number wanted input left
 
--- a marked reader was stopped by a fault: one of a line is the first among the wanted lines, the first of which has this number, and
--- each line was judged before the next was read
+-- a reader was stopped by a fault: one of a line is the first among the wanted lines, the first of which has this number, and each
+-- line was judged before the next was read
+abbrev pub Stops : ℕ → List (Option ℕ) → Option (List ℕ) → Option (List ℕ) → RunFault → Type 0
+Stops number wanted given left fault = IsLineFault fault → FaultOfLines number wanted given fault × InTurn number wanted given left
+
+-- the same of a marked reader
 abbrev pub StopsAt : {D : Type 0} → (D → Option (List ℕ)) → MarkedDevice D → MarkedDevice D → ℕ → List (Option ℕ) → RunFault → Type 0
-StopsAt remaining before after number wanted fault = IsLineFault fault
-    → FaultOfLines number wanted (remaining before.device) fault
-    × InTurn number wanted (remaining before.device) (remaining after.device)
+StopsAt remaining before after number wanted fault = Stops number wanted (remaining before.device) (remaining after.device) fault
 
 -- the fault of a line that could not be decoded
 abbrev pub refused : ℕ → FromHexError → RunFault

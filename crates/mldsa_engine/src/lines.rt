@@ -111,14 +111,14 @@ fn read_piece<I: Read>(
     Ok(Piece { length, ending })
 }
 
-/// The line before the end of the input, or its fault if there are no characters.
-fn last_line(number: usize, line: Vec<u8>) -> Result<Vec<u8>, RunFault>
-    ensures { MatchResult result (λ same. (same ≡ line) × (0 < length line.items)) (λ fault. (fault ≡ RunFault.Missing number) × (length line.items ≡ 0)) }
+/// The fault of a line that the input ends with, which is missing if it has no characters.
+fn require_line(number: usize, line: &[u8]) -> Result<(), RunFault>
+    ensures { MatchResult result (λ _. 0 < length line.now) (λ fault. (fault ≡ RunFault.Missing number) × (length line.now ≡ 0)) }
 {
     if line.is_empty() {
         return Err(RunFault::Missing { line: number });
     }
-    Ok(line)
+    Ok(())
 }
 
 /// The characters of the next line, without its LF. They are asked for one at a time, but for those
@@ -148,7 +148,10 @@ fn read_line<I: Read>(
         match piece.ending {
             Ending::Open => {}
             Ending::Line => return Ok(line),
-            Ending::Input => return last_line(number, line),
+            Ending::Input => {
+                require_line(number, line.as_slice())?;
+                return Ok(line);
+            }
         }
     }
     Err(RunFault::TooLong { line: number })

@@ -1,7 +1,7 @@
 use Rattle.std.proofs.Common.{◌≡◌, ◌<◌, ◌≤◌, ◌+◌, ◌-◌, ◌∙◌, ℕ, min, rules, arith, take, drop, length, length-append, length-take, length-take-le}
 use Rattle.std.proofs.lemmas.List.{take-append-le}
 use Rattle.mldsa_engine.specs.Lines.{longest_line}
-use Rattle.mldsa_engine.proofs.Endings.{goes_on, ends_with_line, ends_with_input, long_line, long_line-in_turn}
+use Rattle.mldsa_engine.proofs.Endings.{goes_on, ends_with_line, ends_with_input, long_line}
 use Rattle.mldsa_engine.proofs.lines.read_line.Goals as goal
 
 -- a piece leaves the line at most one character too long
@@ -45,8 +45,8 @@ returns-in-Line-clause-taken g c =
     rw (c.in_ok-extend_from_slice.ensures.items, piece) (ends_with_line c.args.wanted _ _ _ _ c.loop-room.line.items (take count c.read_piece.new.room) _
     c.loop-room.invariant.2 c.loop-room.invariant.3 c.in_ok-piece.ensures.taken c.in-Line.is (omega (arith, asked, digits)))
 
-pub returns-in-Input-2-clause-short : goal.returns-in-Input-2-clause-short
-returns-in-Input-2-clause-short g c =
+pub returns-in-Input-clause-short : goal.returns-in-Input-clause-short
+returns-in-Input-clause-short g c =
     let count = c.in_ok-piece.piece.length in
     let bound = c.in_ok-piece.ensures.bound in
     let piece = take-append-le count c.read_piece.new.room (drop c.min-most.result c.loop-room.room) bound in
@@ -58,8 +58,8 @@ returns-in-Input-2-clause-short g c =
     rw (c.in_ok-extend_from_slice.ensures.items, piece)
     (omega (arith, length-append c.loop-room.line.items (take count c.read_piece.new.room), long, less, short))
 
-pub returns-in-Input-2-clause-taken : goal.returns-in-Input-2-clause-taken
-returns-in-Input-2-clause-taken g c =
+pub returns-in-Input-clause-taken : goal.returns-in-Input-clause-taken
+returns-in-Input-clause-taken g c =
     let count = c.in_ok-piece.piece.length in
     let bound = c.in_ok-piece.ensures.bound in
     let piece = take-append-le count c.read_piece.new.room (drop c.min-most.result c.loop-room.room) bound in
@@ -67,10 +67,7 @@ returns-in-Input-2-clause-taken g c =
     rw (c.in_ok-extend_from_slice.ensures.items, piece) (ends_with_input c.args.wanted _ _ _ _ c.loop-room.line.items (take count c.read_piece.new.room) _
     c.loop-room.invariant.2 c.loop-room.invariant.3 c.in_ok-piece.ensures.taken c.in-Input.is (rw (c.in_ok-extend_from_slice.ensures.items, piece) at some))
 
-pub returns-clause-line_fault : goal.returns-clause-line_fault
-returns-clause-line_fault g c =
-    λ _. long_line _ _ _ c.loop-room.invariant.2 c.loop-room.invariant.3 (search rules) _ _
-
-pub returns-clause-in_turn : goal.returns-clause-in_turn
-returns-clause-in_turn g c =
-    λ _. long_line-in_turn _ _ _ c.loop-room.invariant.2 c.loop-room.invariant.3 (search rules) _ _
+pub returns-clause-stops : goal.returns-clause-stops
+returns-clause-stops g c =
+    let long = search rules in
+    long_line _ _ _ c.loop-room.invariant.2 c.loop-room.invariant.3 (omega (arith, c.loop-room.invariant.1, long)) _ _

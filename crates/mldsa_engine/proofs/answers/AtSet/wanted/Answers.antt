@@ -1,0 +1,3 @@
+use Rattle.std.proofs.Common.{rules}
+use Rattle.mldsa_engine.proofs.answers.AtSet.wanted.Goals as goal
+
