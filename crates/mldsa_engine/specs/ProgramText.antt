@@ -10,7 +10,9 @@ use Rattle.fips204.specs.Keys.{PublicParts, IsPublicKeyOf, DecodesPrivate}
 use Rattle.fips204.specs.ParameterSets.{ParameterSet, set_44, set_65, set_87, public_key_length, private_key_length, signature_length}
 use Rattle.fips204.specs.Prepared.{PreparedPublic, VerifiesMessagePrepared}
 use Rattle.fips204.specs.Refusals.{generated, sign_message, VerifiesMessage}
-use Rattle.mldsa_engine.specs.Lines.{after_lines, line_bytes, AllFit, TakesLines}
+use Rattle.mldsa_engine.specs.Calls.{first_stream, second_stream, AreCall}
+use Rattle.mldsa_engine.specs.Devices.{MarkedDevice}
+use Rattle.mldsa_engine.specs.Lines.{after_lines, line_bytes, AllFit, TakesLines, FaultOfLines, InTurn}
 use Rattle.mldsa_engine.specs.declared.fault.RunFault.{RunFault}
 use Rattle.mldsa_engine.specs.declared.call.Task.{Task}
 use Rattle.mldsa_engine.specs.declared.call.Task.TheVariants.{Id, Keygen, Sign, Verify, Check, Batch}
@@ -187,6 +189,32 @@ Executes H G task p given left output answer = (lines : List (List ℕ)) × Take
 abbrev pub Runs : (List ℕ → List ℕ) → (List ℕ → List ℕ) → Task → SetName → Option (List ℕ) → Option (List ℕ) → Option (List ℕ) → Option (List ℕ) → Bool → Type 0
 Runs H G task set given left before after answer = (output : List ℕ) × Executes H G task (named_set set) given left output answer
     × Appends before after output
+
+-- the same over a marked reader and a marked writer, and of the call that the words are
+abbrev pub RunsOver : {I O : Type 0} → (List ℕ → List ℕ) → (List ℕ → List ℕ) → Task → SetName → (I → Option (List ℕ)) → MarkedDevice I → MarkedDevice I
+    → (O → Option (List ℕ)) → MarkedDevice O → MarkedDevice O → Bool → Type 0
+RunsOver H G task set remaining given left contents before after answer =
+    Runs H G task set (remaining given.device) (remaining left.device) (contents before.device) (contents after.device) answer
+
+abbrev pub RunsCall : {I O : Type 0} → List (List ℕ) → (I → Option (List ℕ)) → MarkedDevice I → MarkedDevice I
+    → (O → Option (List ℕ)) → MarkedDevice O → MarkedDevice O → Bool → Type 0
+RunsCall words remaining given left contents before after answer = AreCall words (λ streams task set.
+    RunsOver (first_stream streams) (second_stream streams) task set remaining given left contents before after answer)
+
+-- the fault is the first of the lines that a command wants of a marked reader, and of those of the call that the words are
+abbrev pub FaultOfRun : {I : Type 0} → Task → SetName → (I → Option (List ℕ)) → MarkedDevice I → RunFault → Type 0
+FaultOfRun task set remaining given fault = FaultOfLines 1 (lines_of_input task set (remaining given.device)) (remaining given.device) fault
+
+abbrev pub FaultOfCall : {I : Type 0} → List (List ℕ) → (I → Option (List ℕ)) → MarkedDevice I → RunFault → Type 0
+FaultOfCall words remaining given fault = AreCall words (λ streams task set. FaultOfRun task set remaining given fault)
+
+-- each of these lines was judged before the next was read
+abbrev pub RunInTurn : {I : Type 0} → Task → SetName → (I → Option (List ℕ)) → MarkedDevice I → MarkedDevice I → Type 0
+RunInTurn task set remaining given left =
+    InTurn 1 (lines_of_input task set (remaining given.device)) (remaining given.device) (remaining left.device)
+
+abbrev pub CallInTurn : {I : Type 0} → List (List ℕ) → (I → Option (List ℕ)) → MarkedDevice I → MarkedDevice I → Type 0
+CallInTurn words remaining given left = AreCall words (λ streams task set. RunInTurn task set remaining given left)
 
 -- the exit status of an answer, true being done or `yes`, and false `no` or a refusal; a fault has one status, whichever it is
 abbrev pub status_of : Result Bool RunFault → ℕ
