@@ -38,9 +38,9 @@ refused_line : (number : ℕ) (wanted : Option ℕ) (line : List ℕ) (e : FromH
 refused_line number wanted line (InvalidHexCharacter c i) fault short (inr bad) is of_line = judged_not_hex number wanted line _ short bad ∙ ap Err (sym is)
 refused_line number wanted line InvalidStringLength fault short (inr bad) is of_line = judged_not_hex number wanted line _ short bad ∙ ap Err (sym is)
 refused_line number wanted line OddLength fault short (inr bad) is of_line = judged_not_hex number wanted line _ short bad ∙ ap Err (sym is)
-refused_line number wanted line (InvalidHexCharacter c i) fault short (inl no) is of_line = absurd cc
-refused_line number wanted line InvalidStringLength fault short (inl no) is of_line = absurd cc
-refused_line number wanted line OddLength fault short (inl no) is of_line = absurd cc
+refused_line number wanted line (InvalidHexCharacter c i) fault short (inl memory) is of_line = absurd cc
+refused_line number wanted line InvalidStringLength fault short (inl memory) is of_line = absurd cc
+refused_line number wanted line OddLength fault short (inl memory) is of_line = absurd cc
 refused_line number wanted line OutOfMemory fault short either is of_line = absurd (subst IsLineFault is of_line)
 
 -- a good line has the wanted digits

@@ -3,6 +3,7 @@ use Rattle.fips204.specs.ParameterSets.{public_key_length, private_key_length, s
 use Rattle.mldsa_engine.specs.declared.call.Task.TheVariants.{Id, Keygen, Sign, Verify, Check}
 use Rattle.mldsa_engine.specs.ProgramText.{hex_text, Generates, Signs, Judges, Checks}
 use Rattle.mldsa_engine.proofs.LineCounts.{answers_one, answers_four}
+use Rattle.mldsa_engine.proofs.Verdicts.{judges_told}
 use Rattle.mldsa_engine.proofs.answers.AtSet.answer.Goals as goal
 
 pub returns-in-Id-clause-given : goal.returns-in-Id-clause-given
@@ -32,12 +33,13 @@ returns-in-Sign-clause-given g c =
 pub returns-in-Verify-clause-given : goal.returns-in-Verify-clause-given
 returns-in-Verify-clause-given g c =
     let fit = rw c.in-Verify.is at c.requires.fit in
-    rw c.in-Verify.is (answers_four (λ line. line.items) (λ output. output.text.items) (λ output. output.success) g.H.Xof.front g.G.Xof.front Verify g.S.Set.set
-    (Some (public_key_length g.S.Set.set)) (Some (signature_length g.S.Set.set)) None None
-    (Judges g.S.Set.set g.H.Xof.front g.G.Xof.front) c.args.lines.now _ _ _ _ _ _ _ _ _ (λ x y z w output answer told. (x, y, z, w, refl, told)) fit
+    let p = g.S.Set.set in
+    rw c.in-Verify.is (answers_four (λ line. line.items) (λ output. output.text.items) (λ output. output.success) g.H.Xof.front g.G.Xof.front
+    Verify p (Some (public_key_length p)) (Some (signature_length p)) None None
+    (Judges p g.H.Xof.front g.G.Xof.front) c.args.lines.now _ _ _ _ _ _ _ _ _ (λ x y z w output answer told. (x, y, z, w, refl, told)) fit
     c.index-lines-0-in-Verify.is c.index-lines-1-in-Verify.is c.index-lines-2-in-Verify.is c.index-lines-3-in-Verify.is
-    c.as_slice-in-Verify.ensures.value c.as_slice-in-Verify-2.ensures.value c.as_slice-in-Verify-3.ensures.value c.as_slice-in-Verify-4.ensures.value
-    c.verify.ensures.given)
+    c.as_slice-key.ensures.value c.as_slice-signature.ensures.value c.as_slice-context.ensures.value c.as_slice-message.ensures.value
+    (judges_told (λ output. output.text.items) (λ output. output.success) p _ _ _ _ _ _ c.accepts.result _ c.accepts.ensures c.tell.ensures.given))
 
 pub returns-in-Check-clause-given : goal.returns-in-Check-clause-given
 returns-in-Check-clause-given g c =

@@ -1,6 +1,6 @@
 use Rattle.std.proofs.Common.{rules, ℕ, List, ◌∙◌}
 use Rattle.mldsa_engine.specs.Lines.{Stops}
-use Rattle.mldsa_engine.specs.ProgramText.{entry_lines, AcceptsIfPrepared}
+use Rattle.mldsa_engine.specs.ProgramText.{entry_lines, AcceptsIfPrepared, JudgesEntries}
 use Rattle.mldsa_engine.proofs.Entries.{stops_entry}
 use Rattle.mldsa_engine.proofs.Verdicts.{judges_none, judges_next, judged_by_prepared}
 use Rattle.mldsa_engine.proofs.answers.AtSet.judge_batch.Goals as goal
@@ -9,7 +9,7 @@ pub loop-entry-init : goal.loop-entry-init
 loop-entry-init g c =
     let accepts : List ℕ → List ℕ → Type 0 = λ signature message.
     AcceptsIfPrepared g.S.Set.set g.H.Xof.front c.prepare-prepared.result message signature c.args.context.now in
-    (search rules, rw c.new.ensures.items (judges_none accepts g.row.SIG_LEN _))
+    (search rules, rw c.new.ensures.items (judges_none accepts g.row.SIG_LEN (g.I.Read.remaining c.args.input.now.device)))
 
 pub returns-in_err-lines-clause-stops : goal.returns-in_err-lines-clause-stops
 returns-in_err-lines-clause-stops g c =
@@ -35,8 +35,11 @@ loop-entry-preserved g c =
 pub returns-clause-judged : goal.returns-clause-judged
 returns-clause-judged g c =
     let p = g.S.Set.set in
-    let sizes = g.met.S.SignatureSizes.sizes in
+    let given = g.I.Read.remaining c.args.input.now.device in
+    let left = g.I.Read.remaining c.loop-entry.input.device in
+    let accepts : List ℕ → List ℕ → Type 0 = λ signature message.
+    AcceptsIfPrepared p g.H.Xof.front c.prepare-prepared.result message signature c.args.context.now in
+    let all : JudgesEntries accepts g.row.SIG_LEN c.args.count given left c.loop-entry.output.text.items c.loop-entry.output.success = search rules in
     let law = c.prepared_keys.ensures p g.H.Xof.front g.G.Xof.front in
     let (pk, is, same) = c.prepare-prepared.ensures in
-    judged_by_prepared (λ output. output.text.items) (λ output. output.success) p _ _ pk c.prepare-prepared.result _ _ _ _ _ _ _
-    law is same sizes.signature (search rules)
+    judged_by_prepared p _ _ pk c.prepare-prepared.result _ _ _ _ _ _ _ _ law is same g.met.S.SignatureSizes.sizes.signature all

@@ -1,3 +1,0 @@
-use Rattle.std.proofs.Common.{rules}
-use Rattle.mldsa_engine.proofs.answers.AtSet.wanted.Goals as goal
-
