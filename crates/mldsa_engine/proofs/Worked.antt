@@ -1,7 +1,7 @@
 -- Worked values of what a run reads and writes.
 use Rattle.std.proofs.Common.{◌≡◌, List, [], ◌∷◌, ◌++◌, Some, None, map, refl}
 use Rattle.std.specs.Prelude.{codes}
-use Rattle.fips204_base.specs.Packing.{bit_length}
+use Rattle.fips204.specs.Packing.{bit_length}
 use Rattle.fips204.specs.ParameterSets.{set_44, set_87}
 use Rattle.hex.specs.Hex.{decode_pairs, encode_with}
 use Rattle.mldsa_engine.specs.Lines.{judged}
