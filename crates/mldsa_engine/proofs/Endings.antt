@@ -1,5 +1,7 @@
 -- Lines that were read piece by piece.
-use Rattle.std.proofs.Common.{◌≡◌, ℕ, ◌+◌, ◌-◌, ◌<◌, ◌≤◌, not, List, [], ◌∷◌, ◌++◌, length, take, drop, get_or, Option, Some, None, Ok, Err, MatchResult, refl, sym, ap, ◌∙◌, arith, append_assoc, append-nil, length-append, length-take-le, length-drop, take-append-drop, subst}
+use Rattle.std.proofs.Common.{◌≡◌, ℕ, ◌+◌, ◌-◌, ◌<◌, ◌≤◌, not, List, [], ◌∷◌, ◌++◌, length, take, drop, get_or, Option, Some, None, Ok, Err}
+use Rattle.std.proofs.Common.{MatchResult, refl, sym, ap, ◌∙◌, arith, append_assoc, append-nil, length-append, length-take-le, length-drop}
+use Rattle.std.proofs.Common.{take-append-drop, subst}
 use Rattle.std.specs.List.{position, position_or_len}
 use Rattle.std.proofs.lemmas.Bool.Decides.{nat_tests}
 use Rattle.std.proofs.lemmas.List.{take-append-le}
@@ -12,10 +14,12 @@ use Rattle.std.specs.Io.KnownBytes.{Consumes, IsAtEnd}
 use Rattle.mldsa_engine.specs.declared.lines.Ending.{Ending}
 use Rattle.mldsa_engine.specs.declared.lines.Ending.TheVariants.{Open, Line, Input}
 use Rattle.mldsa_engine.specs.declared.fault.RunFault.TheVariants.{Missing, TooLong}
-use Rattle.mldsa_engine.specs.Lines.{ends_line, first_line, longest_line, line_digits, line_reach, before_lines, line_bytes, HasNoEnd, TakesPiece, TakesLine, Stops, LeavesAllBut}
+use Rattle.mldsa_engine.specs.Lines.{ends_line, first_line, longest_line, line_digits, line_reach, before_lines, line_bytes, HasNoEnd}
+use Rattle.mldsa_engine.specs.Lines.{TakesPiece, TakesLine, Stops, LeavesAllBut}
 use Rattle.mldsa_engine.proofs.Judging.{judged_long}
 
-pub end_after : (line rest : List ℕ) → HasNoEnd line → position_or_len ends_line (line ++ rest) ≡ length line + position_or_len ends_line rest
+pub end_after : (line rest : List ℕ) → HasNoEnd line
+    → position_or_len ends_line (line ++ rest) ≡ length line + position_or_len ends_line rest
 end_after line rest h = let e = prefix_len-append (λ x. not (ends_line x)) line rest in grind (arith, nat_tests, e)
 
 pub no_end : (given : List ℕ) → position ends_line given ≡ None → HasNoEnd given
@@ -48,7 +52,8 @@ first_end given end some =
 
 -- the line was read, with LF and what came with it
 pub takes_ended : (wanted : Option ℕ) (old new : Option (List ℕ)) (line more : List ℕ)
-    → HasNoEnd line → Consumes old new (line ++ 10 ∷ more) → length more ≤ line_digits wanted - length line → length line + length more ≤ longest_line
+    → HasNoEnd line → Consumes old new (line ++ 10 ∷ more) → length more ≤ line_digits wanted - length line
+    → length line + length more ≤ longest_line
     → TakesLine wanted old new line
 takes_ended wanted None new line more h all few within = tt
 takes_ended wanted (Some input) None line more h all few within = absurd all
@@ -81,21 +86,26 @@ takes_last wanted (Some input) (Some left) line h all end some short =
 
 -- a line and a piece of it that was read next: it goes on, or ended with LF, or with the input
 pub goes_on : (asked : ℕ) (old mid new : Option (List ℕ)) (line piece : List ℕ) (ending : Ending) → HasNoEnd line → Consumes old mid line
-    → TakesPiece asked mid new piece ending → ending ≡ Open → HasNoEnd (line ++ piece) × Consumes old new (line ++ piece) × (0 < length piece)
+    → TakesPiece asked mid new piece ending → ending ≡ Open
+    → HasNoEnd (line ++ piece) × Consumes old new (line ++ piece) × (0 < length piece)
 goes_on asked old mid new line piece ending h all taken is =
     let piece-taken = rw is at taken in
     (has_no_end-append line piece h piece-taken.1, Consumes-trans old mid new line piece all piece-taken.0, piece-taken.2)
 
-pub ends_with_line : (wanted : Option ℕ) (asked : ℕ) (old mid new : Option (List ℕ)) (line piece : List ℕ) (ending : Ending) → HasNoEnd line → Consumes old mid line
-    → TakesPiece asked mid new piece ending → ending ≡ Line → asked ≤ line_digits wanted + 1 - length line → asked ≤ longest_line + 1 - length line
+pub ends_with_line : (wanted : Option ℕ) (asked : ℕ) (old mid new : Option (List ℕ)) (line piece : List ℕ) (ending : Ending) → HasNoEnd line
+    → Consumes old mid line
+    → TakesPiece asked mid new piece ending → ending ≡ Line → asked ≤ line_digits wanted + 1 - length line
+    → asked ≤ longest_line + 1 - length line
     → length (line ++ piece) ≤ longest_line → TakesLine wanted old new (line ++ piece)
 ends_with_line wanted asked old mid new line piece ending h all taken ended few few' within =
     let (more, rest, none, short) = rw ended at taken in
     takes_ended wanted old new (line ++ piece) more (has_no_end-append line piece h none)
-    (subst (λ l. Consumes old new l) (sym (append_assoc line piece (10 ∷ more))) (Consumes-trans old mid new line (piece ++ 10 ∷ more) all rest))
+    (subst (λ l. Consumes old new l) (sym (append_assoc line piece (10 ∷ more)))
+    (Consumes-trans old mid new line (piece ++ 10 ∷ more) all rest))
     (omega (arith, short, few, length-append line piece)) (omega (arith, short, few', within, length-append line piece))
 
-pub ends_with_input : (wanted : Option ℕ) (asked : ℕ) (old mid new : Option (List ℕ)) (line piece : List ℕ) (ending : Ending) → HasNoEnd line → Consumes old mid line
+pub ends_with_input : (wanted : Option ℕ) (asked : ℕ) (old mid new : Option (List ℕ)) (line piece : List ℕ) (ending : Ending)
+    → HasNoEnd line → Consumes old mid line
     → TakesPiece asked mid new piece ending → ending ≡ Input → 0 < length (line ++ piece) → length (line ++ piece) ≤ longest_line
     → TakesLine wanted old new (line ++ piece)
 ends_with_input wanted asked old mid new line piece ending h all taken ended some short =
@@ -115,7 +125,8 @@ long_line (Some (byte ∷ later)) (Some left) line h taken long number wanted = 
     let place : position_or_len ends_line input ≡ length line + position_or_len ends_line left =
     subst (λ x. position_or_len ends_line x ≡ length line + position_or_len ends_line left) (sym taken) (end_after line left h) in
     let size : length (first_line input) ≡ position_or_len ends_line input = length-prefix_len (λ x. not (ends_line x)) input in
-    let bad : line_bytes number wanted input ≡ Err (TooLong number) = judged_long number wanted (first_line input) (omega (arith, size, place, long)) in (
+    let bad : line_bytes number wanted input ≡ Err (TooLong number) = judged_long number wanted (first_line input)
+    (omega (arith, size, place, long)) in (
       ap (λ r. before_lines r (Ok [])) bad,
       subst (λ r. MatchResult r (λ _. ⊥) (λ _. LeavesAllBut (line_reach wanted (first_line input)) input left)) (sym bad)
           (length line, omega (arith, size, place, long), sym (ap (drop (length line)) taken ∙ drop-append_seam line left)),
@@ -134,7 +145,8 @@ no_line (Some input) (Some left) (byte ∷ line) all none end number wanted = ab
 -- LF stands in a piece that one call gave
 pub ended_at_once : (old new : Option (List ℕ)) (asked count : ℕ) (room : List ℕ) (end : ℕ) → count ≤ length room → count ≤ asked
     → Consumes old new (take count room) → position ends_line (take count room) ≡ Some end
-    → (more : List ℕ) × Consumes old new (take end room ++ 10 ∷ more) × HasNoEnd (take end room) × (length more ≤ asked - length (take end room) - 1)
+    → (more : List ℕ) × Consumes old new (take end room ++ 10 ∷ more) × HasNoEnd (take end room)
+    × (length more ≤ asked - length (take end room) - 1)
 ended_at_once old new asked count room end within size given some =
     let first = first_end (take count room) end some in
     let long = length-take-le count room within in

@@ -1,5 +1,6 @@
 -- The lines of a batch, entry by entry.
-use Rattle.std.proofs.Common.{◌≡◌, ℕ, zero, suc, ◌+◌, ◌-◌, ◌*◌, ◌<◌, List, [], ◌∷◌, ◌++◌, length, get_or, Option, Some, None, Ok, refl, sym, ap, ◌∙◌, arith, subst}
+use Rattle.std.proofs.Common.{◌≡◌, ℕ, zero, suc, ◌+◌, ◌-◌, ◌*◌, ◌<◌, List, [], ◌∷◌, ◌++◌, length, get_or, Option, Some, None, Ok, refl, sym}
+use Rattle.std.proofs.Common.{ap, ◌∙◌, arith, subst}
 use Rattle.fips204.specs.ParameterSets.{ParameterSet, signature_length}
 use Rattle.mldsa_engine.specs.declared.fault.RunFault.{RunFault}
 use Rattle.mldsa_engine.specs.declared.call.Task.{Task}
@@ -72,7 +73,8 @@ pub next_entry : (size entry number : ℕ) (old mid new : Option (List ℕ)) (en
     → AllFit (entry_lines size (entry + 1)) (entries ++ lines) × TakesLines 4 (entry_lines size (entry + 1)) old new (entries ++ lines)
 next_entry size entry number old mid new entries lines numbered fit taken fits takes = rw (entries_more size entry 1) (
   AllFit-append (entry_lines size entry) (entry_lines size 1) entries lines fit fits,
-  takes_more 4 number (entry_lines size entry) (entry_lines size 1) old mid new entries lines (numbered_on size entry number numbered) taken takes,
+  takes_more 4 number (entry_lines size entry) (entry_lines size 1) old mid new entries lines
+      (numbered_on size entry number numbered) taken takes,
 )
 
 -- the lines of entries, of which one is the next
@@ -81,7 +83,8 @@ whole_batch : (size entry count : ℕ) → entry < count
 whole_batch size entry count within =
     let rest = count - entry - 1 in
     let sum : entry + (1 + rest) ≡ count = omega (arith, within) in
-    ap (λ l. entry_lines size entry ++ l) (sym (entries_more size 1 rest)) ∙ sym (entries_more size entry (1 + rest)) ∙ ap (entry_lines size) sum
+    ap (λ l. entry_lines size entry ++ l) (sym (entries_more size 1 rest)) ∙ sym (entries_more size entry (1 + rest))
+    ∙ ap (entry_lines size) sum
 
 -- the fault of a line of an entry is that of them all, where the entries before it were good
 pub stops_entry : (size entry count number : ℕ) (old mid new : Option (List ℕ)) (entries : List (List ℕ)) (fault : RunFault)

@@ -1,5 +1,6 @@
 -- What the characters of a line are judged to be.
-use Rattle.std.proofs.Common.{◌≡◌, ◌≤◌, ◌<◌, ℕ, List, length, Option, Some, None, Result, Ok, Err, ap, sym, ◌∙◌, arith, refl, inl, inr, IfOk, IfErr, MatchResult, ◌⊎◌, subst}
+use Rattle.std.proofs.Common.{◌≡◌, ◌≤◌, ◌<◌, ℕ, List, length, Option, Some, None, Result, Ok, Err, ap, sym, ◌∙◌, arith, refl, inl, inr}
+use Rattle.std.proofs.Common.{IfOk, IfErr, MatchResult, ◌⊎◌, subst}
 use Rattle.std.proofs.lemmas.Bool.{cases_eq}
 use Rattle.std.proofs.lemmas.Bool.Decides.{nat_tests}
 use Rattle.hex.specs.Hex.{decode_of}
@@ -10,15 +11,18 @@ use Rattle.mldsa_engine.specs.declared.fault.RunFault.{RunFault}
 use Rattle.mldsa_engine.specs.declared.fault.RunFault.TheVariants.{TooLong, NotHex, Length}
 use Rattle.mldsa_engine.specs.Lines.{longest_line, line_digits, judged, decoded, sized, refused, Fits, IsLineFault}
 
-pub judged_short : (number : ℕ) (wanted : Option ℕ) (line : List ℕ) → length line ≤ longest_line → judged number wanted line ≡ decoded number wanted (decode_of line)
+pub judged_short : (number : ℕ) (wanted : Option ℕ) (line : List ℕ) → length line ≤ longest_line
+    → judged number wanted line ≡ decoded number wanted (decode_of line)
 unfolding judged
 judged_short number wanted line short = grind (arith, nat_tests)
 
-pub judged_long : (number : ℕ) (wanted : Option ℕ) (line : List ℕ) → longest_line < length line → judged number wanted line ≡ Err (TooLong number)
+pub judged_long : (number : ℕ) (wanted : Option ℕ) (line : List ℕ) → longest_line < length line
+    → judged number wanted line ≡ Err (TooLong number)
 unfolding judged
 judged_long number wanted line long = grind (arith, nat_tests)
 
-pub judged_not_hex : (number : ℕ) (wanted : Option ℕ) (line : List ℕ) (e : FromHexError) → length line ≤ longest_line → decode_of line ≡ Err e
+pub judged_not_hex : (number : ℕ) (wanted : Option ℕ) (line : List ℕ) (e : FromHexError) → length line ≤ longest_line
+    → decode_of line ≡ Err e
     → judged number wanted line ≡ Err (NotHex number)
 judged_not_hex number wanted line e short bad = judged_short number wanted line short ∙ ap (decoded number wanted) bad
 
@@ -26,7 +30,8 @@ pub judged_hex : (number : ℕ) (wanted : Option ℕ) (line bytes : List ℕ) �
     → judged number wanted line ≡ sized number wanted bytes
 judged_hex number wanted line bytes short good = judged_short number wanted line short ∙ ap (decoded number wanted) good
 
-pub sized_other : (number wants : ℕ) (bytes : List ℕ) → ¬ (length bytes ≡ wants) → sized number (Some wants) bytes ≡ Err (Length number wants (length bytes))
+pub sized_other : (number wants : ℕ) (bytes : List ℕ) → ¬ (length bytes ≡ wants)
+    → sized number (Some wants) bytes ≡ Err (Length number wants (length bytes))
 sized_other number wants bytes other = grind (arith, nat_tests)
 
 pub sized_same : (number wants : ℕ) (bytes : List ℕ) → length bytes ≡ wants → sized number (Some wants) bytes ≡ Ok bytes
@@ -35,8 +40,10 @@ sized_same number wants bytes same = grind (arith, nat_tests)
 -- the fault of a line that could not be decoded is what it is judged to be
 refused_line : (number : ℕ) (wanted : Option ℕ) (line : List ℕ) (e : FromHexError) (fault : RunFault) → length line ≤ longest_line
     → (e ≡ OutOfMemory) ⊎ (decode_of line ≡ Err e) → fault ≡ refused number e → IsLineFault fault → judged number wanted line ≡ Err fault
-refused_line number wanted line (InvalidHexCharacter c i) fault short (inr bad) is of_line = judged_not_hex number wanted line _ short bad ∙ ap Err (sym is)
-refused_line number wanted line InvalidStringLength fault short (inr bad) is of_line = judged_not_hex number wanted line _ short bad ∙ ap Err (sym is)
+refused_line number wanted line (InvalidHexCharacter c i) fault short (inr bad) is of_line = judged_not_hex number wanted line _ short bad
+    ∙ ap Err (sym is)
+refused_line number wanted line InvalidStringLength fault short (inr bad) is of_line = judged_not_hex number wanted line _ short bad
+    ∙ ap Err (sym is)
 refused_line number wanted line OddLength fault short (inr bad) is of_line = judged_not_hex number wanted line _ short bad ∙ ap Err (sym is)
 refused_line number wanted line (InvalidHexCharacter c i) fault short (inl memory) is of_line = absurd cc
 refused_line number wanted line InvalidStringLength fault short (inl memory) is of_line = absurd cc
@@ -55,7 +62,8 @@ decoded_digits number (Some wants) line (Ok given) bytes e good =
       | inr other ↦ cc (sym (sized_other number wants given other) ∙ good)
     ]
 
-pub judged_digits : (number : ℕ) (wanted : Option ℕ) (line bytes : List ℕ) → length line ≤ longest_line → judged number wanted line ≡ Ok bytes → line_digits wanted ≤ length line
+pub judged_digits : (number : ℕ) (wanted : Option ℕ) (line bytes : List ℕ) → length line ≤ longest_line
+    → judged number wanted line ≡ Ok bytes → line_digits wanted ≤ length line
 judged_digits number wanted line bytes short good =
     decoded_digits number wanted line (decode_of line) bytes refl (sym (judged_short number wanted line short) ∙ good)
 

@@ -16,12 +16,14 @@ use Rattle.fips204.specs.Prepared.{PreparedPublic, prepared_public, PreparedAnsw
 use Rattle.fips204.specs.Refusals.{VerifiesMessage}
 use Rattle.fips204.specs.declared.types.T.{T}
 use Rattle.mldsa_engine.specs.Lines.{AllFit, TakesLines}
-use Rattle.mldsa_engine.specs.ProgramText.{text, answer_word, entry_lines, AnswersEach, TellsAll, AcceptsIfPrepared, Judges, JudgesEntries, JudgesByKey}
+use Rattle.mldsa_engine.specs.ProgramText.{text, answer_word, entry_lines, AnswersEach, TellsAll, AcceptsIfPrepared, Judges, JudgesEntries}
+use Rattle.mldsa_engine.specs.ProgramText.{JudgesByKey}
 use Rattle.mldsa_engine.proofs.LinesInSequence.{no_lines}
 use Rattle.mldsa_engine.proofs.Entries.{next_entry}
 
 -- the answer to one entry more
-answers_next : (accepts : List ℕ → List ℕ → Type 0) (entries : List (List ℕ)) (answers : List Bool) (signature message : List ℕ) (answer : Bool)
+answers_next : (accepts : List ℕ → List ℕ → Type 0) (entries : List (List ℕ)) (answers : List Bool) (signature message : List ℕ)
+    (answer : Bool)
     → (IsTrue answer ↔ accepts signature message) → AnswersEach accepts entries answers
     → AnswersEach accepts (entries ++ signature ∷ message ∷ []) (answers ++ answer ∷ [])
 answers_next accepts entries answers signature message answer now (size, each) =
@@ -65,27 +67,39 @@ told_next answers answer old new all next grown both tells = (
 )
 
 -- no entry was judged, and one more
-pub judges_none : (accepts : List ℕ → List ℕ → Type 0) (size : ℕ) (given : Option (List ℕ)) → JudgesEntries accepts size 0 given given [] true
+pub judges_none : (accepts : List ℕ → List ℕ → Type 0) (size : ℕ) (given : Option (List ℕ))
+    → JudgesEntries accepts size 0 given given [] true
 judges_none accepts size given =
     ([], tt, no_lines 4 given, ([], (refl, λ entry within. absurd (omega (arith, within))), (refl, (λ _. All-nil IsTrue, λ _. refl))))
 
-pub judges_next : {V : Type 0} (items : V → List ℕ) (accepts : List ℕ → List ℕ → Type 0) (size entry number : ℕ) (old mid new : Option (List ℕ))
+pub judges_next : {V : Type 0} (items : V → List ℕ) (accepts : List ℕ → List ℕ → Type 0) (size entry number : ℕ)
+    (old mid new : Option (List ℕ))
     (lines : List V) (first second : V) (before after : List ℕ) (all next answer : Bool) (s m : List ℕ) → number ≡ 4 + 2 * entry
     → AllFit (entry_lines size 1) (map items lines) → TakesLines number (entry_lines size 1) mid new (map items lines)
     → first ≡ get_or lines 0 first → second ≡ get_or lines 1 second → s ≡ items first → m ≡ items second
     → (IsTrue answer ↔ accepts s m) → after ≡ before ++ (answer_word answer ++ 10 ∷ []) → (IsTrue next ↔ IsTrue all × IsTrue answer)
     → JudgesEntries accepts size entry old mid before all → JudgesEntries accepts size (entry + 1) old new after next
-judges_next items accepts size entry number old mid new [] first second before after all next answer s m numbered fit takes is is' e e' now grown both told = absurd fit
-judges_next items accepts size entry number old mid new (a ∷ []) first second before after all next answer s m numbered fit takes is is' e e' now grown both told = absurd fit.1
-judges_next items accepts size entry number old mid new (a ∷ b ∷ []) first second before after all next answer s m numbered fit takes is is' e e' now grown both (entries, fits, taken, (answers, each, tells)) =
+judges_next items accepts size entry number old mid new [] first second before after all next answer s m numbered fit takes is is' e e' now
+    grown both told = absurd fit
+judges_next items accepts size entry number old mid new
+    (a ∷ []) first second before after all next answer s m numbered fit takes is is' e e' now grown both told = absurd fit.1
+judges_next items accepts size entry number old mid new
+    (a ∷ b ∷ []) first second before after all next answer s m numbered fit takes is is' e e' now grown both
+    (entries, fits, taken, (answers, each, tells)) =
     let further = next_entry size entry number old mid new entries (items a ∷ items b ∷ []) numbered fits taken fit takes in
     let now' : IsTrue answer ↔ accepts (items a) (items b) = rw (← is, ← is', ← e, ← e') now in (
       entries ++ items a ∷ items b ∷ [],
       further.0,
       further.1,
-      (answers ++ answer ∷ [], answers_next accepts entries answers (items a) (items b) answer now' each, told_next answers answer before after all next grown both tells),
+      (
+        answers ++ answer ∷ [],
+        answers_next accepts entries answers (items a)
+            (items b) answer now' each,
+        told_next answers answer before after all next grown both tells,
+      ),
     )
-judges_next items accepts size entry number old mid new (a ∷ b ∷ c ∷ more) first second before after all next answer s m numbered fit takes is is' e e' now grown both told = absurd fit.1.1
+judges_next items accepts size entry number old mid new
+    (a ∷ b ∷ c ∷ more) first second before after all next answer s m numbered fit takes is is' e e' now grown both told = absurd fit.1.1
 
 -- what preparing a key answered accepts what the key does
 accepts_as_key : (p : ParameterSet) (H G : List ℕ → List ℕ) (matrix : Option (List (List T))) (pk : PublicParts)
@@ -115,10 +129,12 @@ pub judged_by_prepared : (p : ParameterSet) (H G : List ℕ → List ℕ) (pk : 
     → PreparedAnswersAsPlain p H G → IsPublicKeyOf H p.k key pk → prepared ≡ prepared_public p G pk → size ≡ signature_length p
     → JudgesEntries (λ signature message. AcceptsIfPrepared p H prepared message signature context) size count given left output success
     → JudgesByKey p H G key context count given left output success
-judged_by_prepared p H G pk prepared key context size count given left output success law is same sized (entries, fit, taken, (answers, judged, tells)) =
+judged_by_prepared p H G pk prepared key context size count given left output success law is same sized
+    (entries, fit, taken, (answers, judged, tells)) =
     let accepts : List ℕ → List ℕ → Type 0 = λ signature message. VerifiesMessage p H G pk message signature context in
     let alike = answers_alike _ accepts entries answers
-    (λ signature message. accepts_as_key p H G (sampled_matrix G pk.rho p.k p.l) pk message signature context law refl) (rw same at judged) in
+    (λ signature message. accepts_as_key p H G (sampled_matrix G pk.rho p.k p.l) pk message signature context law refl)
+    (rw same at judged) in
     (pk, is, subst (λ n. JudgesEntries accepts n count given left output success) sized (entries, fit, taken, (answers, alike, tells)))
 
 -- what is told of a verdict is what `verify` writes

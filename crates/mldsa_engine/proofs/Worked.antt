@@ -34,7 +34,8 @@ later_none : later_lines Verify set_87 2 ≡ []
 later_none = refl
 
 -- each line ends with LF
-written : map text ([] ∷ ([] ∷ []) ∷ (codes "yes" ∷ codes "no" ∷ []) ∷ []) ≡ [] ∷ (10 ∷ []) ∷ (codes "yes" ++ 10 ∷ codes "no" ++ 10 ∷ []) ∷ []
+written : map text ([] ∷ ([] ∷ []) ∷ (codes "yes" ∷ codes "no" ∷ []) ∷ []) ≡ [] ∷ (10 ∷ []) ∷
+    (codes "yes" ++ 10 ∷ codes "no" ++ 10 ∷ []) ∷ []
 written = refl
 
 spelt : hex_text ((1 ∷ 171 ∷ []) ∷ [] ∷ []) ≡ codes "01ab" ++ 10 ∷ 10 ∷ []

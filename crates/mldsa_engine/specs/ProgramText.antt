@@ -1,5 +1,6 @@
 -- The program's text: what a run answers and writes, by what its input spells.
-use Rattle.std.specs.Prelude.{◌≡◌, ◌<◌, ◌≤◌, ◌↔◌, ℕ, zero, suc, ◌+◌, ◌*◌, Bool, true, false, IsTrue, List, [], ◌∷◌, ◌++◌, length, get_or, map, take, All, codes, Option, Some, None, Result, Ok, Err, MatchResult}
+use Rattle.std.specs.Prelude.{◌≡◌, ◌<◌, ◌≤◌, ◌↔◌, ℕ, zero, suc, ◌+◌, ◌*◌, Bool, true, false, IsTrue, List, [], ◌∷◌, ◌++◌, length, get_or}
+use Rattle.std.specs.Prelude.{map, take, All, codes, Option, Some, None, Result, Ok, Err, MatchResult}
 use Rattle.std.specs.List.{flat_map}
 use Rattle.std.specs.Io.KnownBytes.{Appends}
 use Rattle.hex.specs.Hex.{encode_lower}
@@ -99,13 +100,15 @@ TellsOfKey {K} decodes tells output answer = (decoded : Result K Fault) × decod
 -- `keygen`: the public key and the private key of a seed
 abbrev pub Generates : ParameterSet → (List ℕ → List ℕ) → (List ℕ → List ℕ) → List ℕ → List ℕ → Bool → Type 0
 Generates p H G seed output answer =
-    Tells (λ keys. public_key_bytes keys.0.rho keys.0.t1 ∷ private_key_bytes p.eta keys.1.rho keys.1.key keys.1.tr keys.1.s1 keys.1.s2 keys.1.t0 ∷ [])
+    Tells (λ keys. public_key_bytes keys.0.rho keys.0.t1 ∷ private_key_bytes p.eta keys.1.rho keys.1.key keys.1.tr keys.1.s1 keys.1.s2
+    keys.1.t0 ∷ [])
     (generated p H G seed) output answer
 
 -- `sign`: the signature by the private key that has these bytes, or the refusal; that of the bytes stands first
 abbrev pub Signs : ParameterSet → (List ℕ → List ℕ) → (List ℕ → List ℕ) → List ℕ → List ℕ → List ℕ → List ℕ → List ℕ → Bool → Type 0
 Signs p H G key seed context message output answer =
-    TellsOfKey (DecodesPrivate p.eta p.k p.l key) (λ sk. Tells (λ signature. signature ∷ []) (sign_message p H G sk seed message context)) output answer
+    TellsOfKey (DecodesPrivate p.eta p.k p.l key) (λ sk. Tells (λ signature. signature ∷ []) (sign_message p H G sk seed message context))
+    output answer
 
 -- the word for an answer
 abbrev pub answer_word : Bool → List ℕ
@@ -131,7 +134,8 @@ Checks p H G xi rnd context message output answer =
 -- the answer to each entry, a signature and a message, is whether it is accepted
 abbrev pub AnswersEach : (List ℕ → List ℕ → Type 0) → List (List ℕ) → List Bool → Type 0
 AnswersEach accepts entries answers = (length entries ≡ 2 * length answers)
-    × ((entry : ℕ) → entry < length answers → IsTrue (get_or answers entry false) ↔ accepts (get_or entries (2 * entry) []) (get_or entries (2 * entry + 1) []))
+    × ((entry : ℕ) → entry < length answers → IsTrue (get_or answers entry false)
+    ↔ accepts (get_or entries (2 * entry) []) (get_or entries (2 * entry + 1) []))
 
 -- answers are written as a word each, and are true together where none is `no`
 abbrev pub TellsAll : List Bool → List ℕ → Bool → Type 0
@@ -156,7 +160,8 @@ Answers H G Verify p lines output answer = (key signature context message : List
     × Judges p H G key signature context message output answer
 Answers H G Check p lines output answer = (xi rnd context message : List ℕ) × (lines ≡ xi ∷ rnd ∷ context ∷ message ∷ [])
     × Checks p H G xi rnd context message output answer
-Answers H G Batch p lines output answer = (key context count : List ℕ) × ((entries : List (List ℕ)) × (lines ≡ key ∷ context ∷ count ∷ entries)
+Answers H G Batch p lines output answer = (key context count : List ℕ)
+    × ((entries : List (List ℕ)) × (lines ≡ key ∷ context ∷ count ∷ entries)
     × (length entries ≡ 2 * two_bytes count)
     × JudgesEach p H G key context entries output answer)
 
@@ -174,24 +179,29 @@ JudgesEntries accepts size count given left output answer = (entries : List (Lis
     × ((answers : List Bool) × AnswersEach accepts entries answers × TellsAll answers output answer)
 
 -- so they were judged by the public key that has these bytes
-abbrev pub JudgesByKey : ParameterSet → (List ℕ → List ℕ) → (List ℕ → List ℕ) → List ℕ → List ℕ → ℕ → Option (List ℕ) → Option (List ℕ) → List ℕ → Bool → Type 0
+abbrev pub JudgesByKey : ParameterSet → (List ℕ → List ℕ) → (List ℕ → List ℕ) → List ℕ → List ℕ → ℕ → Option (List ℕ) → Option (List ℕ)
+    → List ℕ → Bool → Type 0
 JudgesByKey p H G key context count given left output answer = (pk : PublicParts) × IsPublicKeyOf H p.k key pk
-    × JudgesEntries (λ signature message. VerifiesMessage p H G pk message signature context) (signature_length p) count given left output answer
+    × JudgesEntries (λ signature message. VerifiesMessage p H G pk message signature context)
+    (signature_length p) count given left output answer
 
 -- a command was carried out over the streams H and G: its reader gave the wanted lines and has left what follows them, and this is
 -- what the command writes and answers for them
-abbrev pub Executes : (List ℕ → List ℕ) → (List ℕ → List ℕ) → Task → ParameterSet → Option (List ℕ) → Option (List ℕ) → List ℕ → Bool → Type 0
+abbrev pub Executes : (List ℕ → List ℕ) → (List ℕ → List ℕ) → Task → ParameterSet → Option (List ℕ) → Option (List ℕ) → List ℕ → Bool
+    → Type 0
 Executes H G task p given left output answer = (lines : List (List ℕ)) × TakesLines 1 (input_lines task p given) given left lines
     × Answers H G task p lines output answer
 
 -- a run over the streams H and G ended with this answer: the command was carried out, and the writer got what it writes, and
 -- nothing else
-abbrev pub Runs : (List ℕ → List ℕ) → (List ℕ → List ℕ) → Task → SetName → Option (List ℕ) → Option (List ℕ) → Option (List ℕ) → Option (List ℕ) → Bool → Type 0
+abbrev pub Runs : (List ℕ → List ℕ) → (List ℕ → List ℕ) → Task → SetName → Option (List ℕ) → Option (List ℕ) → Option (List ℕ)
+    → Option (List ℕ) → Bool → Type 0
 Runs H G task set given left before after answer = (output : List ℕ) × Executes H G task (named_set set) given left output answer
     × Appends before after output
 
 -- the same over a marked reader and a marked writer, and of the call that the words are
-abbrev pub RunsOver : {I O : Type 0} → (List ℕ → List ℕ) → (List ℕ → List ℕ) → Task → SetName → (I → Option (List ℕ)) → MarkedDevice I → MarkedDevice I
+abbrev pub RunsOver : {I O : Type 0} → (List ℕ → List ℕ) → (List ℕ → List ℕ) → Task → SetName → (I → Option (List ℕ)) → MarkedDevice I
+    → MarkedDevice I
     → (O → Option (List ℕ)) → MarkedDevice O → MarkedDevice O → Bool → Type 0
 RunsOver H G task set remaining given left contents before after answer =
     Runs H G task set (remaining given.device) (remaining left.device) (contents before.device) (contents after.device) answer

@@ -6,7 +6,7 @@ ghost use Rattle.fips204.specs.Keys.{PublicParts, IsPublicKeyOf};
 ghost use Rattle.fips204.specs.Prepared.{prepared_public};
 ghost use Rattle.fips204.specs.Refusals.{VerifiesMessage};
 ghost use Rattle.mldsa_engine.specs.Lines.{AllFit, IsInputFault, StopsAt};
-ghost use Rattle.mldsa_engine.specs.ProgramText.{named_set, two_bytes, wanted_lines, entry_lines, input_lines, hex_text};
+ghost use Rattle.mldsa_engine.specs.ProgramText.{named_set, two_bytes, wanted_lines, entry_lines, input_lines, lines_of_input, hex_text};
 ghost use Rattle.mldsa_engine.specs.ProgramText.{AreSmall, AcceptsIfPrepared, JudgesByKey, Generates, Signs, Checks, Answers, Executes};
 
 mod writing;
@@ -37,7 +37,7 @@ pub(crate) fn execute<H: Xof, G: Xof, I: Read>(
     ensures read_failed { IsTrue input.new.failed ↔ (result ≡ Err RunFault.Read) }
     ensures executed { IfOk result (λ output. Executes H.front G.front task (named_set set)
         (I.remaining input.old.device) (I.remaining input.new.device) output.text.items output.success) }
-    ensures stops { IfErr result (StopsAt I.remaining input.old input.new 1 (input_lines task (named_set set) (I.remaining input.old.device))) }
+    ensures stops { IfErr result (StopsAt I.remaining input.old input.new 1 (lines_of_input task set (I.remaining input.old.device))) }
     ensures faults { IfErr result (λ fault. IsInputFault fault) }
 {
     match set {

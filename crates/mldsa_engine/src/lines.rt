@@ -1,8 +1,10 @@
 //! The lines of an input.
 #![tactic(auto)]
 
-ghost use Rattle.std.specs.Prelude.{◌≡◌, ◌<◌, ◌≤◌, ◌+◌, ◌^◌, ◌↔◌, length, take, map, Ok, Err, IsTrue, IfOk, IfErr, MatchResult, false, true, ◌∷◌, [], position};
-ghost use Rattle.mldsa_engine.specs.Lines.{longest_line, line_digits, ends_line, sized, refused, Fits, AllFit, IsInputFault, TakesPiece, TakesLine, TakesLines, StopsAt};
+ghost use Rattle.std.specs.Prelude.{◌≡◌, ◌<◌, ◌≤◌, ◌+◌, ◌^◌, ◌↔◌, length, take, map, Ok, Err, IsTrue, IfOk, IfErr};
+ghost use Rattle.std.specs.Prelude.{MatchResult, false, true, ◌∷◌, [], position};
+ghost use Rattle.mldsa_engine.specs.Lines.{longest_line, line_digits, ends_line, sized, refused, Fits, AllFit, IsInputFault};
+ghost use Rattle.mldsa_engine.specs.Lines.{TakesPiece, TakesLine, TakesLines, StopsAt};
 
 use crate::fault::RunFault;
 use crate::marked::Marked;
@@ -60,7 +62,8 @@ fn read_singly<I: Read>(input: &mut Marked<I>, room: &mut [u8]) -> Result<Piece,
     ensures mark { MatchResult result (λ _. input.new.failed ≡ false) (λ fault. (input.new.failed ≡ true) × (fault ≡ RunFault.Read)) }
     ensures bound { IfOk result (λ piece. piece.length ≤ length room.new) }
     ensures ended { IfOk result (λ piece. ¬ (piece.ending ≡ Ending.Open) → piece.length < length room.new) }
-    ensures taken { IfOk result (λ piece. TakesPiece 0 (I.remaining input.old.device) (I.remaining input.new.device) (take piece.length room.new) piece.ending) }
+    ensures taken { IfOk result (λ piece. TakesPiece 0 (I.remaining input.old.device) (I.remaining input.new.device)
+        (take piece.length room.new) piece.ending) }
 {
     for length in 0..room.len() {
         let mut character = [0];
@@ -96,7 +99,8 @@ fn read_piece<I: Read>(
     ensures mark { MatchResult result (λ _. input.new.failed ≡ false) (λ fault. (input.new.failed ≡ true) × (fault ≡ RunFault.Read)) }
     ensures bound { IfOk result (λ piece. piece.length ≤ length room.new) }
     ensures ended { IfOk result (λ piece. ¬ (piece.ending ≡ Ending.Open) → piece.length < length room.new) }
-    ensures taken { IfOk result (λ piece. TakesPiece asked (I.remaining input.old.device) (I.remaining input.new.device) (take piece.length room.new) piece.ending) }
+    ensures taken { IfOk result (λ piece. TakesPiece asked (I.remaining input.old.device) (I.remaining input.new.device)
+        (take piece.length room.new) piece.ending) }
 {
     if asked < 2 {
         return read_singly(input, room);
@@ -132,8 +136,8 @@ fn read_line<I: Read>(
 ) -> Result<Vec<u8>, RunFault>
     requires unmarked { input.old.failed ≡ false }
     ensures read_failed { IsTrue input.new.failed ↔ (result ≡ Err RunFault.Read) }
-    ensures short { IfOk result (λ line. length line.items ≤ longest_line) }
-    ensures taken { IfOk result (λ line. TakesLine wanted (I.remaining input.old.device) (I.remaining input.new.device) line.items) }
+    ensures taken { IfOk result (λ line. (length line.items ≤ longest_line)
+        × TakesLine wanted (I.remaining input.old.device) (I.remaining input.new.device) line.items) }
     ensures stops { IfErr result (StopsAt I.remaining input.old input.new number (wanted ∷ [])) }
     ensures faults { IfErr result (λ fault. IsInputFault fault) }
 {
@@ -166,8 +170,8 @@ fn judge(
 ) -> Result<Vec<u8>, RunFault>
     ensures { MatchResult decoded
         (λ bytes. MatchResult result
-            (λ same. (sized number wanted bytes.items ≡ Ok same.items) × Fits wanted same.items)
-            (λ fault. sized number wanted bytes.items ≡ Err fault))
+        (λ same. (sized number wanted bytes.items ≡ Ok same.items) × Fits wanted same.items)
+        (λ fault. sized number wanted bytes.items ≡ Err fault))
         (λ refusal. result ≡ Err (refused number refusal)) }
 {
     match (decoded, wanted) {
@@ -192,7 +196,8 @@ fn read_bytes<I: Read>(
     requires unmarked { input.old.failed ≡ false }
     ensures read_failed { IsTrue input.new.failed ↔ (result ≡ Err RunFault.Read) }
     ensures fits { IfOk result (λ bytes. Fits wanted bytes.items) }
-    ensures taken { IfOk result (λ bytes. TakesLines number (wanted ∷ []) (I.remaining input.old.device) (I.remaining input.new.device) (bytes.items ∷ [])) }
+    ensures taken { IfOk result (λ bytes. TakesLines number (wanted ∷ [])
+        (I.remaining input.old.device) (I.remaining input.new.device) (bytes.items ∷ [])) }
     ensures stops { IfErr result (StopsAt I.remaining input.old input.new number (wanted ∷ [])) }
     ensures faults { IfErr result (λ fault. IsInputFault fault) }
 {
@@ -212,7 +217,8 @@ pub(crate) fn read_lines<I: Read>(
     requires numbers { first + length wanted.now < 2 ^ 64 }
     ensures read_failed { IsTrue input.new.failed ↔ (result ≡ Err RunFault.Read) }
     ensures fit { IfOk result (λ lines. AllFit wanted.now (map (λ line. line.items) lines.items)) }
-    ensures taken { IfOk result (λ lines. TakesLines first wanted.now (I.remaining input.old.device) (I.remaining input.new.device) (map (λ line. line.items) lines.items)) }
+    ensures taken { IfOk result (λ lines. TakesLines first wanted.now
+        (I.remaining input.old.device) (I.remaining input.new.device) (map (λ line. line.items) lines.items)) }
     ensures stops { IfErr result (StopsAt I.remaining input.old input.new first wanted.now) }
     ensures faults { IfErr result (λ fault. IsInputFault fault) }
 {

@@ -8,7 +8,8 @@ use Rattle.mldsa_engine.proofs.answers.AtSet.execute.Goals as goal
 pub returns-in_err-lines-clause-stops : goal.returns-in_err-lines-clause-stops
 returns-in_err-lines-clause-stops g c =
     let given = g.I.Read.remaining c.args.input.now.device in
-    let bad : Stops 1 (input_lines c.args.task g.S.Set.set given) given (g.I.Read.remaining c.read_lines.new.input.device) c.in_err-lines.field-0.0 =
+    let bad : Stops 1 (input_lines c.args.task g.S.Set.set given) given
+    (g.I.Read.remaining c.read_lines.new.input.device) c.in_err-lines.field-0.0 =
     stops_first _ _ _ _ _ (rw c.wanted-count.ensures.lines at c.in_err-lines.ensures.stops) in
     search (rules, bad)
 

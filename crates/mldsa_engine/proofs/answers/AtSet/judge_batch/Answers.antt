@@ -26,7 +26,8 @@ loop-entry-preserved g c =
     AcceptsIfPrepared g.S.Set.set g.H.Xof.front c.prepare-prepared.result message signature c.args.context.now in
     let signature = c.array_of-signature.ensures ∙ c.as_slice.ensures.value in (
       search rules,
-      judges_next (λ line. line.items) accepts _ c.loop-entry.entry _ _ _ _ c.in_ok-lines.lines.items _ _ _ _ _ _ c.is_accepted-accepted.result _ _
+      judges_next (λ line. line.items) accepts _ c.loop-entry.entry _ _ _ _ c.in_ok-lines.lines.items _ _ _ _ _ _
+          c.is_accepted-accepted.result _ _
           (search rules) c.in_ok-lines.ensures.fit c.in_ok-lines.ensures.taken c.index.ensures c.index-in-loop-entry.ensures
           signature c.as_slice-message.ensures.value c.is_accepted-accepted.ensures
           c.in_ok-add_answer.ensures.text c.in_ok-add_answer.ensures.success c.loop-entry.invariant.1,
@@ -39,7 +40,8 @@ returns-clause-judged g c =
     let left = g.I.Read.remaining c.loop-entry.input.device in
     let accepts : List ℕ → List ℕ → Type 0 = λ signature message.
     AcceptsIfPrepared p g.H.Xof.front c.prepare-prepared.result message signature c.args.context.now in
-    let all : JudgesEntries accepts g.row.SIG_LEN c.args.count given left c.loop-entry.output.text.items c.loop-entry.output.success = search rules in
+    let all : JudgesEntries accepts g.row.SIG_LEN c.args.count given left c.loop-entry.output.text.items c.loop-entry.output.success =
+    search rules in
     let law = c.prepared_keys.ensures p g.H.Xof.front g.G.Xof.front in
     let (pk, is, same) = c.prepare-prepared.ensures in
     judged_by_prepared p _ _ pk c.prepare-prepared.result _ _ _ _ _ _ _ _ law is same g.met.S.SignatureSizes.sizes.signature all
