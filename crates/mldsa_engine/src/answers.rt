@@ -160,7 +160,7 @@ where
             × (output.success ≡ true)) }
         ensures memory { IfErr result (λ fault. fault ≡ RunFault.Memory) }
     {
-        let key = PublicKey::<K, L, H, G>::try_from_bytes(array_of(key)).unwrap();
+        let key = Self::decode(key);
         let tr = *key.tr();
         two_lines(alloc, &key.into_bytes(), &tr)
     }
@@ -212,8 +212,7 @@ where
         ensures { (pk : PublicParts) × IsPublicKeyOf H.front S.set.k key.now pk
             × (IsTrue result ↔ VerifiesMessage S.set H.front G.front pk message.now signature.now context.now) }
     {
-        let key = PublicKey::<K, L, H, G>::try_from_bytes(array_of(key)).unwrap();
-        key.verify(message, &array_of(signature), context)
+        Self::decode(key).verify(message, &array_of(signature), context)
     }
 
     /// Whether the pair of a seed verifies what it signs, as a word and a truth value, or the first refusal.
@@ -257,7 +256,7 @@ where
         ensures faults { IfErr result (λ fault. IsInputFault fault) }
     {
         laws::prepared_keys();
-        let prepared = Self::prepare(key);
+        let prepared = &Self::prepare(&Self::decode(key));
         let mut output = Output {
             text: Vec::new(alloc),
             success: true,
@@ -266,26 +265,37 @@ where
             let lines = read_lines(alloc, 4 + 2 * entry, &[Some(SIG_LEN), None], input)?;
             let signature = array_of(lines[0].as_slice());
             let message = lines[1].as_slice();
-            let accepted = Self::is_accepted(&prepared, message, &signature, context);
+            let accepted = Self::is_accepted(prepared, message, &signature, context);
             output.add_answer(accepted)?;
         }
         Ok(output)
     }
 
-    /// The public key that has these bytes, prepared.
-    ///
-    /// Not inlined, so that the plain key does not stand in the stack beside the entries.
+    /// The public key that has these bytes.
     #[inline(never)]
-    fn prepare(key: &[u8]) -> Result<PreparedPublicKey<K, L, H>, Fault>
+    fn decode(key: &[u8]) -> PublicKey<K, L, H, G>
         requires key { length key.now ≡ PK_LEN }
         requires small { AreSmall K L PK_LEN SK_LEN SIG_LEN }
-        ensures { (pk : PublicParts) × IsPublicKeyOf H.front S.set.k key.now pk × (result ≡ prepared_public S.set G.front pk) }
+        ensures { IsPublicKeyOf H.front S.set.k key.now result }
     {
-        let key = PublicKey::<K, L, H, G>::try_from_bytes(array_of(key)).unwrap();
+        PublicKey::<K, L, H, G>::try_from_bytes(array_of(key)).unwrap()
+    }
+
+    /// The key with its matrix.
+    ///
+    /// Not inlined, so that what sampling takes does not stand in the stack beside the entries.
+    #[inline(never)]
+    fn prepare(key: &PublicKey<K, L, H, G>) -> Result<PreparedPublicKey<K, L, H>, Fault>
+        requires small { AreSmall K L PK_LEN SK_LEN SIG_LEN }
+        ensures { result ≡ prepared_public S.set G.front key.now }
+    {
         key.prepare()
     }
 
     /// Whether a prepared key accepts a signature; false if the key has no matrix.
+    ///
+    /// Not inlined, so that what verifying takes does not stand in the stack while the key is prepared.
+    #[inline(never)]
     fn is_accepted(
         key: &Result<PreparedPublicKey<K, L, H>, Fault>,
         message: &[u8],
