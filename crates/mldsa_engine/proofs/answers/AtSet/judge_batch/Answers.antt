@@ -8,7 +8,7 @@ use Rattle.mldsa_engine.proofs.answers.AtSet.judge_batch.Goals as goal
 pub loop-entry-init : goal.loop-entry-init
 loop-entry-init g c =
     let accepts : List ℕ → List ℕ → Type 0 = λ signature message.
-    AcceptsIfPrepared g.S.Set.set g.H.Xof.front c.prepare-prepared.result message signature c.args.context.now in
+    AcceptsIfPrepared g.S.Set.set g.H.Xof.front c.prepare.result message signature c.args.context.now in
     (search rules, rw c.new.ensures.items (judges_none accepts g.row.SIG_LEN (g.I.Read.remaining c.args.input.now.device)))
 
 pub returns-in_err-lines-clause-stops : goal.returns-in_err-lines-clause-stops
@@ -23,7 +23,7 @@ returns-in_err-lines-clause-stops g c =
 pub loop-entry-preserved : goal.loop-entry-preserved
 loop-entry-preserved g c =
     let accepts : List ℕ → List ℕ → Type 0 = λ signature message.
-    AcceptsIfPrepared g.S.Set.set g.H.Xof.front c.prepare-prepared.result message signature c.args.context.now in
+    AcceptsIfPrepared g.S.Set.set g.H.Xof.front c.prepare.result message signature c.args.context.now in
     let signature = c.array_of-signature.ensures ∙ c.as_slice.ensures.value in (
       search rules,
       judges_next (λ line. line.items) accepts _ c.loop-entry.entry _ _ _ _ c.in_ok-lines.lines.items _ _ _ _ _ _
@@ -39,9 +39,9 @@ returns-clause-judged g c =
     let given = g.I.Read.remaining c.args.input.now.device in
     let left = g.I.Read.remaining c.loop-entry.input.device in
     let accepts : List ℕ → List ℕ → Type 0 = λ signature message.
-    AcceptsIfPrepared p g.H.Xof.front c.prepare-prepared.result message signature c.args.context.now in
+    AcceptsIfPrepared p g.H.Xof.front c.prepare.result message signature c.args.context.now in
     let all : JudgesEntries accepts g.row.SIG_LEN c.args.count given left c.loop-entry.output.text.items c.loop-entry.output.success =
     search rules in
     let law = c.prepared_keys.ensures p g.H.Xof.front g.G.Xof.front in
-    let (pk, is, same) = c.prepare-prepared.ensures in
-    judged_by_prepared p _ _ pk c.prepare-prepared.result _ _ _ _ _ _ _ _ law is same g.met.S.SignatureSizes.sizes.signature all
+    judged_by_prepared p _ _ c.decode.result c.prepare.result _ _ _ _ _ _ _ _ law c.decode.ensures c.prepare.ensures
+    g.met.S.SignatureSizes.sizes.signature all
