@@ -124,18 +124,22 @@ answers_alike accepts alike entries answers same (size, each) = (
 )
 
 -- so what it answers for each entry is whether the key accepts it
-pub judged_by_prepared : (p : ParameterSet) (H G : List ℕ → List ℕ) (pk : PublicParts) (prepared : Result PreparedPublic Fault)
-    (key context : List ℕ) (size count : ℕ) (given left : Option (List ℕ)) (output : List ℕ) (success : Bool)
-    → PreparedAnswersAsPlain p H G → IsPublicKeyOf H p.k key pk → prepared ≡ prepared_public p G pk → size ≡ signature_length p
-    → JudgesEntries (λ signature message. AcceptsIfPrepared p H prepared message signature context) size count given left output success
-    → JudgesByKey p H G key context count given left output success
-judged_by_prepared p H G pk prepared key context size count given left output success law is same sized
-    (entries, fit, taken, (answers, judged, tells)) =
+pub judged_by_prepared : {W E : Type 0} (output : W → List ℕ) (success : W → Bool) (p : ParameterSet) (H G : List ℕ → List ℕ)
+    (pk : PublicParts) (prepared : Result PreparedPublic Fault) (key context : List ℕ) (size count : ℕ) (given left : Option (List ℕ))
+    (result : Result W E) → PreparedAnswersAsPlain p H G → IsPublicKeyOf H p.k key pk → prepared ≡ prepared_public p G pk
+    → size ≡ signature_length p
+    → IfOk result (λ it. JudgesEntries (λ signature message. AcceptsIfPrepared p H prepared message signature context)
+    size count given left (output it) (success it))
+    → IfOk result (λ it. JudgesByKey p H G key context count given left (output it) (success it))
+judged_by_prepared output success p H G pk prepared key context size count given left (Err fault) law is same sized each = each
+judged_by_prepared output success p H G pk prepared key context size count given left (Ok it) law is same sized each =
+    let (entries, fit, taken, (answers, judged, tells)) = each in
     let accepts : List ℕ → List ℕ → Type 0 = λ signature message. VerifiesMessage p H G pk message signature context in
     let alike = answers_alike _ accepts entries answers
     (λ signature message. accepts_as_key p H G (sampled_matrix G pk.rho p.k p.l) pk message signature context law refl)
     (rw same at judged) in
-    (pk, is, subst (λ n. JudgesEntries accepts n count given left output success) sized (entries, fit, taken, (answers, alike, tells)))
+    let all : JudgesEntries accepts size count given left (output it) (success it) = (entries, fit, taken, (answers, alike, tells)) in
+    (pk, is, subst (λ n. JudgesEntries accepts n count given left (output it) (success it)) sized all)
 
 -- what is told of a verdict is what `verify` writes
 pub judges_told : {W E : Type 0} (output : W → List ℕ) (success : W → Bool) (p : ParameterSet) (H G : List ℕ → List ℕ)

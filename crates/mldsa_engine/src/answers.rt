@@ -7,7 +7,7 @@ ghost use Rattle.fips204.specs.Prepared.{prepared_public};
 ghost use Rattle.fips204.specs.Refusals.{VerifiesMessage};
 ghost use Rattle.mldsa_engine.specs.Lines.{AllFit, IsInputFault, StopsAt};
 ghost use Rattle.mldsa_engine.specs.ProgramText.{named_set, two_bytes, wanted_lines, entry_lines, input_lines, lines_of_input, hex_text};
-ghost use Rattle.mldsa_engine.specs.ProgramText.{AreSmall, AcceptsIfPrepared, JudgesByKey, Generates, Signs, Checks, Answers, Executes};
+ghost use Rattle.mldsa_engine.specs.ProgramText.{AreSmall, AcceptsIfPrepared, JudgesEntries, JudgesByKey, Generates, Signs, Checks, Answers, Executes};
 
 mod writing;
 
@@ -236,7 +236,7 @@ where
     }
 
     /// Judges the entries of a batch, as many as are counted, by the public key that has these bytes, which is
-    /// prepared once: reads the two lines of an entry, and keeps of it the verdict alone.
+    /// prepared once.
     #[inline(never)]
     fn judge_batch<I: Read>(
         alloc: Global,
@@ -256,7 +256,28 @@ where
         ensures faults { IfErr result (λ fault. IsInputFault fault) }
     {
         laws::prepared_keys();
-        let prepared = &Self::prepare(&Self::decode(key));
+        let key = &Self::prepare(&Self::decode(key));
+        Self::judge_entries(alloc, key, context, count, input)
+    }
+
+    /// Judges the entries by a prepared key: reads the two lines of an entry, and keeps of it the verdict alone.
+    #[inline(never)]
+    fn judge_entries<I: Read>(
+        alloc: Global,
+        key: &Result<PreparedPublicKey<K, L, H>, Fault>,
+        context: &[u8],
+        count: usize,
+        input: &mut Marked<I>,
+    ) -> Result<Output, RunFault>
+        requires unmarked { input.old.failed ≡ false }
+        requires few { count ≤ 65535 }
+        ensures read_failed { IsTrue input.new.failed ↔ (result ≡ Err RunFault.Read) }
+        ensures judged { IfOk result (λ output. JudgesEntries
+            (λ signature message. AcceptsIfPrepared S.set H.front key.now message signature context.now) SIG_LEN count
+            (I.remaining input.old.device) (I.remaining input.new.device) output.text.items output.success) }
+        ensures stops { IfErr result (StopsAt I.remaining input.old input.new 4 (entry_lines SIG_LEN count)) }
+        ensures faults { IfErr result (λ fault. IsInputFault fault) }
+    {
         let mut output = Output {
             text: Vec::new(alloc),
             success: true,
@@ -265,7 +286,7 @@ where
             let lines = read_lines(alloc, 4 + 2 * entry, &[Some(SIG_LEN), None], input)?;
             let signature = array_of(lines[0].as_slice());
             let message = lines[1].as_slice();
-            let accepted = Self::is_accepted(prepared, message, &signature, context);
+            let accepted = Self::is_accepted(key, message, &signature, context);
             output.add_answer(accepted)?;
         }
         Ok(output)
@@ -293,9 +314,6 @@ where
     }
 
     /// Whether a prepared key accepts a signature; false if the key has no matrix.
-    ///
-    /// Not inlined, so that what verifying takes does not stand in the stack while the key is prepared.
-    #[inline(never)]
     fn is_accepted(
         key: &Result<PreparedPublicKey<K, L, H>, Fault>,
         message: &[u8],
