@@ -256,8 +256,8 @@ where
         ensures faults { IfErr result (λ fault. IsInputFault fault) }
     {
         laws::prepared_keys();
-        let key = &Self::prepare(&Self::decode(key));
-        Self::judge_entries(alloc, key, context, count, input)
+        let key = Self::decode(key);
+        Self::judge_entries(alloc, &Self::prepare(&key), context, count, input)
     }
 
     /// Judges the entries by a prepared key: reads the two lines of an entry, and keeps of it the verdict alone.
