@@ -14,8 +14,10 @@ use Rattle.std.specs.Io.KnownBytes.{Consumes, IsAtEnd}
 use Rattle.mldsa_engine.specs.declared.lines.Ending.{Ending}
 use Rattle.mldsa_engine.specs.declared.lines.Ending.TheVariants.{Open, Line, Input}
 use Rattle.mldsa_engine.specs.declared.fault.RunFault.TheVariants.{Missing, TooLong}
-use Rattle.mldsa_engine.specs.Lines.{ends_line, first_line, longest_line, line_digits, line_reach, before_lines, line_bytes, HasNoEnd}
-use Rattle.mldsa_engine.specs.Lines.{TakesPiece, TakesLine, Stops, LeavesAllBut}
+use Rattle.mldsa_engine.specs.Lines.{ends_line, first_line, longest_line, line_digits, line_reach, before_lines, line_bytes}
+use Rattle.mldsa_engine.specs.InnerSteps.{HasNoEnd}
+use Rattle.mldsa_engine.specs.InnerSteps.{TakesPiece, TakesLine}
+use Rattle.mldsa_engine.specs.Lines.{Stops, LeavesAllBut}
 use Rattle.mldsa_engine.proofs.Judging.{judged_long}
 
 pub end_after : (line rest : List ℕ) → HasNoEnd line

@@ -5,9 +5,11 @@ ghost use Rattle.std.specs.Prelude.{◌≡◌, ◌≤◌, ◌↔◌, ◌∷◌, 
 ghost use Rattle.fips204.specs.Keys.{PublicParts, IsPublicKeyOf};
 ghost use Rattle.fips204.specs.Prepared.{prepared_public};
 ghost use Rattle.fips204.specs.Refusals.{VerifiesMessage};
-ghost use Rattle.mldsa_engine.specs.Lines.{AllFit, IsInputFault, StopsAt};
+ghost use Rattle.mldsa_engine.specs.InnerSteps.{AllFit, IsInputFault};
+ghost use Rattle.mldsa_engine.specs.Lines.{StopsAt};
 ghost use Rattle.mldsa_engine.specs.ProgramText.{named_set, two_bytes, wanted_lines, entry_lines, input_lines, lines_of_input, hex_text};
-ghost use Rattle.mldsa_engine.specs.ProgramText.{AreSmall, AcceptsIfPrepared, JudgesEntries, JudgesByKey, Generates, Signs, Checks, Answers, Executes};
+ghost use Rattle.mldsa_engine.specs.ProgramText.{AreSmall, Generates, Signs, Checks, Answers, Executes};
+ghost use Rattle.mldsa_engine.specs.InnerSteps.{AcceptsIfPrepared, JudgesEntries, JudgesByKey};
 
 mod writing;
 

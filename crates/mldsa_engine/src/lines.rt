@@ -3,8 +3,10 @@
 
 ghost use Rattle.std.specs.Prelude.{◌≡◌, ◌<◌, ◌≤◌, ◌+◌, ◌^◌, ◌↔◌, length, take, map, Ok, Err, IsTrue, IfOk, IfErr};
 ghost use Rattle.std.specs.Prelude.{MatchResult, false, true, ◌∷◌, [], position};
-ghost use Rattle.mldsa_engine.specs.Lines.{longest_line, line_digits, ends_line, sized, refused, Fits, AllFit, IsInputFault};
-ghost use Rattle.mldsa_engine.specs.Lines.{TakesPiece, TakesLine, TakesLines, StopsAt};
+ghost use Rattle.mldsa_engine.specs.Lines.{longest_line, line_digits, ends_line, sized, refused};
+ghost use Rattle.mldsa_engine.specs.InnerSteps.{Fits, AllFit, IsInputFault};
+ghost use Rattle.mldsa_engine.specs.InnerSteps.{TakesPiece, TakesLine};
+ghost use Rattle.mldsa_engine.specs.Lines.{TakesLines, StopsAt};
 
 use crate::fault::RunFault;
 use crate::marked::Marked;

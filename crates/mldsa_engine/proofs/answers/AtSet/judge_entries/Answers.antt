@@ -1,6 +1,7 @@
 use Rattle.std.proofs.Common.{rules, ℕ, List, ◌∙◌}
 use Rattle.mldsa_engine.specs.Lines.{Stops}
-use Rattle.mldsa_engine.specs.ProgramText.{entry_lines, AcceptsIfPrepared}
+use Rattle.mldsa_engine.specs.ProgramText.{entry_lines}
+use Rattle.mldsa_engine.specs.InnerSteps.{AcceptsIfPrepared}
 use Rattle.mldsa_engine.proofs.Entries.{stops_entry}
 use Rattle.mldsa_engine.proofs.Verdicts.{judges_none, judges_next}
 use Rattle.mldsa_engine.proofs.answers.AtSet.judge_entries.Goals as goal
