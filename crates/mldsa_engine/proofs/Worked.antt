@@ -1,5 +1,5 @@
 -- Worked values of what a run reads and writes.
-use Rattle.std.proofs.Common.{◌≡◌, List, [], ◌∷◌, ◌++◌, Some, None, map, refl}
+use Rattle.std.proofs.Common.{◌≡◌, [], ◌∷◌, ◌++◌, Some, None, map, refl}
 use Rattle.std.specs.Prelude.{codes}
 use Rattle.fips204.specs.Packing.{bit_length}
 use Rattle.fips204.specs.ParameterSets.{set_44, set_87}

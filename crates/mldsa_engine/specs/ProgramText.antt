@@ -9,7 +9,6 @@ use Rattle.fips204.specs.Encodings.{public_key_bytes, private_key_bytes}
 use Rattle.fips204.specs.Faults.{words}
 use Rattle.fips204.specs.Keys.{PublicParts, IsPublicKeyOf, DecodesPrivate}
 use Rattle.fips204.specs.ParameterSets.{ParameterSet, set_44, set_65, set_87, public_key_length, private_key_length, signature_length}
-use Rattle.fips204.specs.Prepared.{PreparedPublic, VerifiesMessagePrepared}
 use Rattle.fips204.specs.Refusals.{generated, sign_message, VerifiesMessage}
 use Rattle.mldsa_engine.specs.Calls.{first_stream, second_stream, AreCall}
 use Rattle.mldsa_engine.specs.Devices.{MarkedDevice}

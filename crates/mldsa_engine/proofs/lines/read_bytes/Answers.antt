@@ -1,4 +1,3 @@
-use Rattle.std.proofs.Common.{rules}
 use Rattle.mldsa_engine.proofs.Judging.{judged_by_decoding}
 use Rattle.mldsa_engine.proofs.LinesInSequence.{takes_judged, stops_judged}
 use Rattle.mldsa_engine.proofs.lines.read_bytes.Goals as goal
