@@ -4,7 +4,7 @@
 #![tactic(auto)]
 
 ghost use Rattle.std.specs.Prelude.{◌≡◌, ◌≢◌, ◌↔◌, IsTrue};
-ghost use Rattle.fips204.specs.MessageLaws.{MessagesCollide};
+ghost use Rattle.fips204.specs.SchemeLaws.{MessagesCollide};
 ghost use Rattle.fips204.specs.ParameterSets.{set_44};
 ghost use Rattle.mldsa_bench.specs.Licence.{spelling, IsToken, IsValid, SpellingIsOneToOne};
 

@@ -32,7 +32,7 @@ pub fn signature_of(file: &[u8]) -> Option<[u8; SIG_LEN]>
 /// The hash mu of a message in two pieces, under a key with this `tr`: a byte 0, the length of the context, the
 /// context, and the message (FIPS 204, Algorithm 2).
 pub fn joined_hash<H: Xof>(tr: &[u8; 64], first: &[u8], second: &[u8]) -> [u8; 64]
-    ensures { result ≡ message_hash H.front tr.now (framed CONTEXT.now (first.now ++ second.now)) }
+    ensures { result ≡ message_hash H.front tr.now (framed (first.now ++ second.now) CONTEXT.now) }
 {
     hash::<H, 64>(&[tr, &[0, 6], CONTEXT, first, second])
 }

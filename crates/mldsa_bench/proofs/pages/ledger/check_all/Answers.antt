@@ -16,7 +16,7 @@ loop-place-preserved g c =
     let law = c.prepared_keys.ensures set_44 g.H.Xof.front g.G.Xof.front in
     let alike = fits_alike (λ message signature. VerifiesMessagePrepared set_44 g.H.Xof.front prepared message signature CONTEXT.now) accepts
     c.args.ledger.now c.loop-place.place
-    (λ message signature. law.verify_inputs c.args.key.now prepared signature (plain CONTEXT.now message) (sym c.in_ok-prepared.ensures)) in
+    (λ message signature. law.verify_inputs c.args.key.now prepared signature (plain message CONTEXT.now) (sym c.in_ok-prepared.ensures)) in
     one_more (Fits accepts c.args.ledger.now) c.loop-place.place c.loop-place.invariant (alike.0 (c.fits.ensures.0 (search rules)))
 
 pub returns-then-not-fits-clause-answer : goal.returns-then-not-fits-clause-answer
@@ -26,5 +26,5 @@ returns-then-not-fits-clause-answer g c =
     let alike = fits_alike (λ message signature. VerifiesMessagePrepared set_44 g.H.Xof.front prepared message signature CONTEXT.now)
     (λ message signature. VerifiesMessage set_44 g.H.Xof.front g.G.Xof.front c.args.key.now message signature CONTEXT.now)
     c.args.ledger.now c.loop-place.place
-    (λ message signature. law.verify_inputs c.args.key.now prepared signature (plain CONTEXT.now message) (sym c.in_ok-prepared.ensures)) in
+    (λ message signature. law.verify_inputs c.args.key.now prepared signature (plain message CONTEXT.now) (sym c.in_ok-prepared.ensures)) in
     (λ no. absurd (cc no), λ stands. let yes = c.fits.ensures.1 (alike.1 (stands c.loop-place.place c.loop-place-test.true)) in absurd (cc (c.if-not-fits.true, yes)))
