@@ -1,7 +1,6 @@
 //! A key store: a file has a byte of the version, a byte of the set, and the bytes of a private or a public key.
 //!
-//! Bodies that the contracts refuse: a header that is not looked at; errors in another order; a public key whose `tr` is
-//! not compared, or that is not compared at all.
+//! Bodies that the contracts refuse: a header that is not looked at; a public key whose `tr` is not compared.
 #![tactic(auto)]
 
 ghost use Rattle.std.specs.Prelude.{◌≡◌, ◌≤◌, ◌↔◌, length, Some, None, IsTrue, MatchResult, OnOk};

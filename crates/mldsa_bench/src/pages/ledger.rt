@@ -1,7 +1,7 @@
 //! An append-only ledger: each entry signs the hash of the entry before it, and what is recorded.
 //!
-//! Bodies that the contracts refuse: the last entry is not checked, or no link; a link that leaves the signature out; an
-//! entry that is appended with another link, or signed without its payload; a ledger that is cleared on an error.
+//! Bodies that the contracts refuse: the last entry is not checked; no link is checked; a link that leaves the signature
+//! out.
 #![tactic(auto)]
 
 ghost use Rattle.std.specs.Prelude.{◌≡◌, ◌≤◌, ◌<◌, ◌↔◌, ◌++◌, length, Ok, Err, IsTrue, IfOk, IfErr, OnOk};

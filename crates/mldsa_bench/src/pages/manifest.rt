@@ -1,7 +1,6 @@
 //! A signed manifest: a list of files, each with its name, size and digest, signed as a whole, at any set.
 //!
-//! Bodies that the contracts refuse: a spelling without the size; entries compared without the digest; a manifest that is
-//! not verified, or in which no entry is found.
+//! Bodies that the contracts refuse: a spelling without the size; entries compared without the digest.
 #![tactic(auto)]
 
 ghost use Rattle.std.specs.Prelude.{◌≡◌, ◌↔◌, ◌++◌, ℕ, List, IsTrue, MatchOption};

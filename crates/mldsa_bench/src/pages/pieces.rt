@@ -1,6 +1,6 @@
 //! A signature that is read from a file, and a message in two pieces, with no memory for the whole.
 //!
-//! Bodies that the contracts refuse: the pieces exchanged; another length of the context; random bytes that are not drawn.
+//! A body that the contracts refuse: the pieces exchanged.
 #![tactic(auto)]
 
 ghost use Rattle.std.specs.Prelude.{◌≡◌, ◌≢◌, ◌↔◌, ◌++◌, length, IsTrue, MatchOption};
