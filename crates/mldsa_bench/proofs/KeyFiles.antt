@@ -21,9 +21,9 @@ loads_stored tell sk file (Err fault) parts long same (inr (none, range, nobody)
     absurd (nobody sk (record { seed = parts.seed; private_seed = parts.private_seed; hash = parts.hash; first = parts.first; second = parts.second; low = parts.low; encoding = sym (ap (drop 2) same) }))
 
 pub loads_stored_public : BytesTellKeys set_44 → LoadsStoredPublic
-loads_stored_public tell H pk file (Ok key) parts hashed (none, is) long same =
+loads_stored_public tell H pk file (Ok key) parts hashed long same (none, is) =
     let bytes = is.same_bytes ∙ ap (drop 2) same in
     let hashes = is.hash ∙ ap (λ b. take 64 (H b)) (ap (drop 2) same) ∙ sym hashed in
     let whole : ArePublicParts 4 key = record { seed = is.seed; hash = ap length hashes ∙ parts.hash; high = is.high } in
     ap Ok (tell.public_keys key pk whole parts hashes bytes)
-loads_stored_public tell H pk file (Err fault) parts hashed refused long same = absurd (some_is_none (file_fault 1314 file) fault (header_stands 1314 file _ refl long same) refused)
+loads_stored_public tell H pk file (Err fault) parts hashed long same refused = absurd (some_is_none (file_fault 1314 file) fault (header_stands 1314 file _ refl long same) refused)
