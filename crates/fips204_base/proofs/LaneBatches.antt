@@ -6,8 +6,8 @@ use Rattle.std.proofs.lemmas.List.Elements.{All-from_get_or}
 use mir.Val.{SFits}
 use Rattle.fips204_base.specs.Residues.{coefficients, sum_below, IsCongruent}
 use Rattle.fips204_base.specs.Transforms.{transform, inverse_transform}
-use Rattle.fips204_base.specs.Products.{minus, pointwise, product, row_product}
-use Rattle.fips204_base.specs.Polynomials.{Within}
+use Rattle.fips204_base.specs.Transforms.{minus, pointwise, product, row_product}
+use Rattle.fips204_base.specs.Vectors.{ValuesWithin}
 use Rattle.fips204_base.specs.declared.lanes.row.Lanes.{Lanes}
 use Rattle.fips204_base.proofs.Residues.{congruent_of, congruent_trans, congruent_equal, residue_below}
 use Rattle.fips204_base.proofs.Products.{transform_same, transform_below, product_of_products, difference_of_products}
@@ -36,7 +36,7 @@ lane_transform before after out w from to values i p =
 
 -- a polynomial whose coefficients are those of a lane that is below q in absolute value
 pub lane_within : (after : ℕ → ℤ) (out : List ℤ) → length out ≡ 256 → ((n : ℕ) → n < 256 → get_or out n (pos 0) ≡ after n)
-    → ((n : ℕ) → n < 256 → nat_abs (after n) ≤ 8380416) → Within 8380416 out
+    → ((n : ℕ) → n < 256 → nat_abs (after n) ≤ 8380416) → ValuesWithin 8380416 out
 lane_within after out size to small =
     All-from_get_or (λ x. nat_abs x ≤ 8380416) out (pos 0) (λ n h. let p : n < 256 = omega (arith, h, size) in subst (λ x. nat_abs x ≤ 8380416) (sym (to n p)) (small n p))
 
@@ -51,7 +51,7 @@ lane_product x y a b = product_of_products (pointwise x y) x y a b (λ j p. refl
 
 -- a row's sums of products less products of transforms, turned back, are the difference of the plain products
 pub lane_difference : (l : ℕ) (p x a b : ℕ → ℕ) (v t s : ℕ → ℕ → ℕ) → ((j : ℕ) → j < 256 → p j ≡ sum_below l (λ k. v k j * t k j) % 8380417) →
-    ((k j : ℕ) → k < l → j < 256 → t k j ≡ transform (s k) j) → ((j : ℕ) → j < 256 → x j ≡ transform a j) → (n : ℕ) → n < 256 →
+    ((k : ℕ) → k < l → (j : ℕ) → j < 256 → t k j ≡ transform (s k) j) → ((j : ℕ) → j < 256 → x j ≡ transform a j) → (n : ℕ) → n < 256 →
     inverse_transform (minus p (pointwise x (transform b))) n ≡ minus (row_product l (λ k. inverse_transform (v k)) s) (product a b) n
 lane_difference l p x a b v t s h g f =
     difference_of_products l (minus p (pointwise x (transform b))) p (pointwise x (transform b)) x (transform b) a b v t s (λ j r. refl) h g (λ j r. refl) f (λ j r. refl)

@@ -1,12 +1,12 @@
 //! Steps over the coefficients of polynomials and of vectors, each by one closure, as new values or in
-//! place.
+//! place. Internal: serves the crate `fips204` alone.
 //!
 //! The form for vectors also states the whole result: where the closure's answer at each place is that of
 //! a function of the place, the vector is the one of this function.
 #![tactic(auto)]
 
 ghost use Rattle.std.specs.Prelude.{◌≡◌, ◌<◌, ℕ, ℤ, length};
-ghost use Rattle.fips204_base.specs.Polynomials.{coefficient_at, entry};
+ghost use Rattle.fips204_base.specs.Vectors.{coefficient_at, entry};
 ghost use Rattle.fips204_base.specs.Vectors.{vector_of};
 
 use crate::types::R;

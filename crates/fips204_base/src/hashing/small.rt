@@ -3,9 +3,9 @@
 
 ghost use Rattle.std.specs.Prelude.{◌≡◌, ◌≤◌, ◌+◌, length, nat_abs, ok_or, IfOk, IfErr, Some};
 ghost use Rattle.std.specs.List.{flat_map};
-ghost use Rattle.fips204_base.specs.Coefficients.{IsEta};
-ghost use Rattle.fips204_base.specs.Sampling.{AreKept};
-ghost use Rattle.fips204_base.specs.SmallPolynomial.{LacksSmallVector, kept_half_bytes, small_polynomial, small_vector};
+ghost use Rattle.fips204_base.specs.Sampling.{IsEta};
+ghost use Rattle.fips204_base.specs.Network.{AreKept};
+ghost use Rattle.fips204_base.specs.Sampling.{LacksSmallVector, kept_half_bytes, small_polynomial, small_vector};
 
 use crate::conversion::coeff_from_half_byte;
 use crate::fault::Fault;
@@ -102,7 +102,8 @@ pub fn expand_s<const K: usize, const L: usize, H: Xof>(
     Ok((s1, s2))
 }
 
-/// `expand_s`, written into the caller's places. After an error part of them may be written.
+/// `expand_s`, written into the caller's places. After an error part of them may be written. Internal: serves the
+/// crate `fips204` alone.
 pub fn write_expanded_s<const K: usize, const L: usize, H: Xof>(
     eta: i32,
     rho: &[u8; 64],

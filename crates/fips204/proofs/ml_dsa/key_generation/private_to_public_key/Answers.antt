@@ -1,7 +1,7 @@
 use Rattle.std.proofs.Common.{rules, ◌≡◌, ◌∙◌, sym, subst, Ok, Err}
 use Rattle.fips204_base.specs.declared.fault.Fault.TheVariants.{SamplingLimit}
 use Rattle.fips204_base.proofs.Vectors.{vector-within}
-use Rattle.fips204.specs.KeyGeneration.{high_part}
+use Rattle.fips204.specs.Keys.{high_part}
 use Rattle.fips204.specs.Keys.{PublicParts, PrivateParts}
 use Rattle.fips204.specs.Refusals.{derived}
 use Rattle.fips204.specs.Sets.{set_of}
@@ -31,7 +31,11 @@ high_part-here g c =
     (key_vector-is (set_of c.args.p.now) c.in_ok-write_key_vector.ensures.values.0 c.sk.inside.s1 c.sk.inside.s2 c.write_key_vector.new.t g.row.K g.row.L c.requires.rows c.requires.columns c.in_ok-write_key_vector.ensures.values.2) c.write_power2round.ensures.high
 
 pub invariant_of-result : goal.invariant_of-result
-invariant_of-result g c = rw (high_part-here g (goal.at.invariant_of-result g c).After-write_power2round, c.requires.rows) (high_part-range (set_of c.args.p.now) c.in_ok-write_key_vector.ensures.values.0 c.sk.inside.s1 c.sk.inside.s2)
+invariant_of-result g c = record {
+  seed = search rules;
+  hash = search rules;
+  high = rw (high_part-here g (goal.at.invariant_of-result g c).After-write_power2round, c.requires.rows) (high_part-range (set_of c.args.p.now) c.in_ok-write_key_vector.ensures.values.0 c.sk.inside.s1 c.sk.inside.s2);
+}
 
 pub returns : goal.returns
 returns g c =
