@@ -1,13 +1,16 @@
-//! The three sets by one trait: every call of their keys, plain and prepared, for suites that are written once.
+//! Every call of the keys of a set, plain and prepared, behind traits: a suite is written once, over these.
 #![tactic(auto)]
 
 use crate::values::constant_streams as constant;
+use fips204::ml_dsa_44::{self, MlDsa44};
+use fips204::ml_dsa_65::{self, MlDsa65};
+use fips204::ml_dsa_87::{self, MlDsa87};
+use fips204::sets::{HasSet, KeySizes, Matrix, Set, SignatureSizes};
 use fips204::traits::{CryptoRngCore, DummyRng, KeyGen, SerDes, Signer, Verifier};
-use fips204::types::{ML_DSA_44, ML_DSA_65, ML_DSA_87};
+use fips204::types::{KG, PreparedPrivateKey, PreparedPublicKey, PrivateKey, PublicKey};
 use fips204::xof::{Fill, Xof};
-use fips204::{Fault, ml_dsa, ml_dsa_44, ml_dsa_65, ml_dsa_87};
+use fips204::{Fault, ml_dsa};
 use std::alloc::{AllocError, Global};
-use std::marker::PhantomData;
 
 /// What is signed, and what a signature is judged of.
 #[derive(Clone, Copy)]
@@ -31,7 +34,7 @@ impl Text<'_> {
 
 /// A private key, plain or prepared.
 pub trait Signs<S> {
-    /// Signs with these random bytes; a hook draws them of a generator that gives them.
+    /// Signs with these random bytes; a hook draws them from a generator that returns them.
     fn seeded(&self, seed: &[u8; 32], text: &Text) -> Result<S, Fault>;
 
     /// Signs with random bytes of a generator; a hook that is not hedged draws none.
@@ -44,7 +47,109 @@ pub trait Judges<S> {
     fn accepts(&self, text: &Text, signature: &S) -> bool;
 }
 
-/// The calls that make a pair of what a generator gives.
+impl<S, const K: usize, const L: usize, const N: usize, const SIG_LEN: usize, H: Xof, G: Xof> Signs<
+    [u8; SIG_LEN],
+> for PrivateKey<K, L, H, G>
+where
+    Matrix<K, L>: HasSet<Set = S>,
+    S: Set<Commitment = [u8; N], Signature = [u8; SIG_LEN]> + SignatureSizes<K, L, N, SIG_LEN>,
+{
+    fn seeded(&self, seed: &[u8; 32], text: &Text) -> Result<[u8; SIG_LEN], Fault> {
+        match *text {
+            Text::Message(message, ctx) => self.try_sign_with_seed(seed, message, ctx),
+            Text::Digest(digest, ctx, oid) => self.try_hash_sign_with_seed(seed, digest, ctx, oid),
+            Text::Framed(m) => self.sign_internal(&mut DummyRng { bytes: *seed }, m, true),
+            Text::Hash(mu) => self.sign_mu(&mut DummyRng { bytes: *seed }, mu, true),
+        }
+    }
+
+    fn drawn<R: CryptoRngCore>(
+        &self,
+        rng: &mut R,
+        hedged: bool,
+        text: &Text,
+    ) -> Result<[u8; SIG_LEN], Fault> {
+        match *text {
+            Text::Message(message, ctx) => self.try_sign_with_rng(rng, message, ctx),
+            Text::Digest(digest, ctx, oid) => self.try_hash_sign_with_rng(rng, digest, ctx, oid),
+            Text::Framed(m) => self.sign_internal(rng, m, hedged),
+            Text::Hash(mu) => self.sign_mu(rng, mu, hedged),
+        }
+    }
+}
+
+impl<S, const K: usize, const L: usize, const N: usize, const SIG_LEN: usize, H: Xof> Signs<
+    [u8; SIG_LEN],
+> for PreparedPrivateKey<K, L, H>
+where
+    Matrix<K, L>: HasSet<Set = S>,
+    S: Set<Commitment = [u8; N], Signature = [u8; SIG_LEN]> + SignatureSizes<K, L, N, SIG_LEN>,
+{
+    fn seeded(&self, seed: &[u8; 32], text: &Text) -> Result<[u8; SIG_LEN], Fault> {
+        match *text {
+            Text::Message(message, ctx) => self.try_sign_with_seed(seed, message, ctx),
+            Text::Digest(digest, ctx, oid) => self.try_hash_sign_with_seed(seed, digest, ctx, oid),
+            Text::Framed(m) => self.sign_internal(&mut DummyRng { bytes: *seed }, m, true),
+            Text::Hash(mu) => self.sign_mu(&mut DummyRng { bytes: *seed }, mu, true),
+        }
+    }
+
+    fn drawn<R: CryptoRngCore>(
+        &self,
+        rng: &mut R,
+        hedged: bool,
+        text: &Text,
+    ) -> Result<[u8; SIG_LEN], Fault> {
+        match *text {
+            Text::Message(message, ctx) => self.try_sign_with_rng(rng, message, ctx),
+            Text::Digest(digest, ctx, oid) => self.try_hash_sign_with_rng(rng, digest, ctx, oid),
+            Text::Framed(m) => self.sign_internal(rng, m, hedged),
+            Text::Hash(mu) => self.sign_mu(rng, mu, hedged),
+        }
+    }
+}
+
+impl<
+    S,
+    const K: usize,
+    const L: usize,
+    const N: usize,
+    const SIG_LEN: usize,
+    H: Xof,
+    G: Xof,
+> Judges<[u8; SIG_LEN]> for PublicKey<K, L, H, G>
+where
+    Matrix<K, L>: HasSet<Set = S>,
+    S: Set<Commitment = [u8; N], Signature = [u8; SIG_LEN]> + SignatureSizes<K, L, N, SIG_LEN>,
+{
+    fn accepts(&self, text: &Text, signature: &[u8; SIG_LEN]) -> bool {
+        match *text {
+            Text::Message(message, ctx) => self.verify(message, signature, ctx),
+            Text::Digest(digest, ctx, oid) => self.hash_verify(digest, signature, ctx, oid),
+            Text::Framed(m) => self.verify_internal(m, signature),
+            Text::Hash(mu) => self.verify_mu(mu, signature),
+        }
+    }
+}
+
+impl<S, const K: usize, const L: usize, const N: usize, const SIG_LEN: usize, H: Xof> Judges<
+    [u8; SIG_LEN],
+> for PreparedPublicKey<K, L, H>
+where
+    Matrix<K, L>: HasSet<Set = S>,
+    S: Set<Commitment = [u8; N], Signature = [u8; SIG_LEN]> + SignatureSizes<K, L, N, SIG_LEN>,
+{
+    fn accepts(&self, text: &Text, signature: &[u8; SIG_LEN]) -> bool {
+        match *text {
+            Text::Message(message, ctx) => self.verify(message, signature, ctx),
+            Text::Digest(digest, ctx, oid) => self.hash_verify(digest, signature, ctx, oid),
+            Text::Framed(m) => self.verify_internal(m, signature),
+            Text::Hash(mu) => self.verify_mu(mu, signature),
+        }
+    }
+}
+
+/// The calls that make a pair from what a generator returns.
 #[derive(Clone, Copy)]
 pub enum PairCall {
     /// The call of the trait `KeyGen`.
@@ -69,6 +174,101 @@ pub fn is_same<T: PartialEq + Drop>(answer: Result<T, Fault>, wanted: &T) -> Res
     }
 }
 
+/// A set's keys and signature over constant streams, and the call that only it has.
+pub trait Row<const K: usize, const L: usize>: Set {
+    /// The public key where every byte of `H` is 55 and every byte of `G` is 00.
+    fn public() -> Self::PublicKey;
+
+    /// The private key.
+    fn private() -> Self::PrivateKey;
+
+    /// The signature.
+    fn signature() -> Self::Signature;
+
+    /// Both keys of what a generator returns, by the function of the set.
+    fn drawn_pair<H: Xof, G: Xof, R: CryptoRngCore>(
+        rng: &mut R,
+    ) -> Result<(PublicKey<K, L, H, G>, PrivateKey<K, L, H, G>), Fault>;
+}
+
+impl Row<4, 4> for MlDsa44 {
+    fn public() -> [u8; 1312] {
+        constant::public_44()
+    }
+
+    fn private() -> [u8; 2560] {
+        constant::private_44()
+    }
+
+    fn signature() -> [u8; 2420] {
+        constant::signature_44()
+    }
+
+    fn drawn_pair<H: Xof, G: Xof, R: CryptoRngCore>(
+        rng: &mut R,
+    ) -> Result<(PublicKey<4, 4, H, G>, PrivateKey<4, 4, H, G>), Fault> {
+        ml_dsa_44::try_keygen_with_rng::<H, G, R>(rng)
+    }
+}
+
+impl Row<6, 5> for MlDsa65 {
+    fn public() -> [u8; 1952] {
+        constant::public_65()
+    }
+
+    fn private() -> [u8; 4032] {
+        constant::private_65()
+    }
+
+    fn signature() -> [u8; 3309] {
+        constant::signature_65()
+    }
+
+    fn drawn_pair<H: Xof, G: Xof, R: CryptoRngCore>(
+        rng: &mut R,
+    ) -> Result<(PublicKey<6, 5, H, G>, PrivateKey<6, 5, H, G>), Fault> {
+        ml_dsa_65::try_keygen_with_rng::<H, G, R>(rng)
+    }
+}
+
+impl Row<8, 7> for MlDsa87 {
+    fn public() -> [u8; 2592] {
+        constant::public_87()
+    }
+
+    fn private() -> [u8; 4896] {
+        constant::private_87()
+    }
+
+    fn signature() -> [u8; 4627] {
+        constant::signature_87()
+    }
+
+    fn drawn_pair<H: Xof, G: Xof, R: CryptoRngCore>(
+        rng: &mut R,
+    ) -> Result<(PublicKey<8, 7, H, G>, PrivateKey<8, 7, H, G>), Fault> {
+        ml_dsa_87::try_keygen_with_rng::<H, G, R>(rng)
+    }
+}
+
+/// Set 44 over two streams.
+pub type Set44<H, G> = ml_dsa_44::KG<H, G>;
+
+/// Set 65 over two streams.
+pub type Set65<H, G> = ml_dsa_65::KG<H, G>;
+
+/// Set 87 over two streams.
+pub type Set87<H, G> = ml_dsa_87::KG<H, G>;
+
+/// Set 44 over constant streams.
+pub type Constant44 = Set44<Fill<0x55>, Fill<0>>;
+
+/// Set 65 over constant streams.
+pub type Constant65 = Set65<Fill<0x55>, Fill<0>>;
+
+/// Set 87 over constant streams.
+pub type Constant87 = Set87<Fill<0x55>, Fill<0>>;
+
 /// A set over two streams.
 pub trait TestSet {
     /// The bytes of a signature.
@@ -85,9 +285,6 @@ pub trait TestSet {
 
     /// A private key that is prepared.
     type PreparedPrivate: Signs<Self::Signature> + Drop;
-
-    /// The word of the set.
-    const WORD: &'static str;
 
     /// The signature over constant streams.
     fn signature() -> Self::Signature;
@@ -113,7 +310,7 @@ pub trait TestSet {
     /// Both keys of a seed.
     fn pair(seed: &[u8; 32]) -> Result<(Self::Public, Self::Private), Fault>;
 
-    /// Both keys of what a generator gives, by one of the calls that draw.
+    /// Both keys of what a generator returns, by one of the calls that draw.
     fn drawn_pair<R: CryptoRngCore>(
         rng: &mut R,
         call: PairCall,
@@ -128,19 +325,19 @@ pub trait TestSet {
     /// A private key with its matrix.
     fn prepared_private(key: &Self::Private) -> Result<Self::PreparedPrivate, Fault>;
 
-    /// What a prepared key answers for the first of the five messages, so many, signed under a context with one
-    /// call; `Fault::KeyRange` stands after these.
+    /// Signs the first messages with a prepared key under a context, with one call: as many as `answers` has room for,
+    /// at most five.
     fn sign_each(
         key: &Self::PreparedPrivate,
-        count: usize,
         ctx: &[u8],
-    ) -> [Result<Self::Signature, Fault>; 5];
+        answers: &mut [Result<Self::Signature, Fault>],
+    );
 
-    /// Which of the first signatures, so many, a prepared key accepts of the messages with one call; no after these.
+    /// Which of the signatures of the first messages, at most five, a prepared key accepts, with one call; false after
+    /// these.
     fn verify_each(
         key: &Self::PreparedPublic,
-        count: usize,
-        signatures: &[Self::Signature; 5],
+        signatures: &[Self::Signature],
         ctx: &[u8],
     ) -> [bool; 5];
 
@@ -152,130 +349,71 @@ pub trait TestSet {
     ) -> Result<[Vec<u8>; 2], AllocError>;
 }
 
-impl<H: Xof, G: Xof> Signs<[u8; 2420]> for ml_dsa_44::PrivateKey<H, G> {
-    fn seeded(&self, seed: &[u8; 32], text: &Text) -> Result<[u8; 2420], Fault> {
-        match *text {
-            Text::Message(message, ctx) => self.try_sign_with_seed(seed, message, ctx),
-            Text::Digest(digest, ctx, oid) => self.try_hash_sign_with_seed(seed, digest, ctx, oid),
-            Text::Framed(m) => self.sign_internal(&mut DummyRng { bytes: *seed }, m, true),
-            Text::Hash(mu) => self.sign_mu(&mut DummyRng { bytes: *seed }, mu, true),
-        }
+impl<
+    S,
+    const K: usize,
+    const L: usize,
+    const N: usize,
+    const SIG_LEN: usize,
+    const PK_LEN: usize,
+    const SK_LEN: usize,
+    H: Xof,
+    G: Xof,
+> TestSet for KG<K, L, H, G>
+where
+    Matrix<K, L>: HasSet<Set = S>,
+    S: Set<
+        Commitment = [u8; N],
+        Signature = [u8; SIG_LEN],
+        PublicKey = [u8; PK_LEN],
+        PrivateKey = [u8; SK_LEN],
+    >,
+    S: SignatureSizes<K, L, N, SIG_LEN> + KeySizes<K, L, PK_LEN, SK_LEN> + Row<K, L>,
+{
+    type Signature = [u8; SIG_LEN];
+
+    type Public = PublicKey<K, L, H, G>;
+
+    type Private = PrivateKey<K, L, H, G>;
+
+    type PreparedPublic = PreparedPublicKey<K, L, H>;
+
+    type PreparedPrivate = PreparedPrivateKey<K, L, H>;
+
+    fn signature() -> [u8; SIG_LEN] {
+        S::signature()
     }
 
-    fn drawn<R: CryptoRngCore>(
-        &self,
-        rng: &mut R,
-        hedged: bool,
-        text: &Text,
-    ) -> Result<[u8; 2420], Fault> {
-        match *text {
-            Text::Message(message, ctx) => self.try_sign_with_rng(rng, message, ctx),
-            Text::Digest(digest, ctx, oid) => self.try_hash_sign_with_rng(rng, digest, ctx, oid),
-            Text::Framed(m) => self.sign_internal(rng, m, hedged),
-            Text::Hash(mu) => self.sign_mu(rng, mu, hedged),
-        }
-    }
-}
-
-impl<H: Xof> Signs<[u8; 2420]> for ml_dsa_44::PreparedPrivateKey<H> {
-    fn seeded(&self, seed: &[u8; 32], text: &Text) -> Result<[u8; 2420], Fault> {
-        match *text {
-            Text::Message(message, ctx) => self.try_sign_with_seed(seed, message, ctx),
-            Text::Digest(digest, ctx, oid) => self.try_hash_sign_with_seed(seed, digest, ctx, oid),
-            Text::Framed(m) => self.sign_internal(&mut DummyRng { bytes: *seed }, m, true),
-            Text::Hash(mu) => self.sign_mu(&mut DummyRng { bytes: *seed }, mu, true),
-        }
-    }
-
-    fn drawn<R: CryptoRngCore>(
-        &self,
-        rng: &mut R,
-        hedged: bool,
-        text: &Text,
-    ) -> Result<[u8; 2420], Fault> {
-        match *text {
-            Text::Message(message, ctx) => self.try_sign_with_rng(rng, message, ctx),
-            Text::Digest(digest, ctx, oid) => self.try_hash_sign_with_rng(rng, digest, ctx, oid),
-            Text::Framed(m) => self.sign_internal(rng, m, hedged),
-            Text::Hash(mu) => self.sign_mu(rng, mu, hedged),
-        }
-    }
-}
-
-impl<H: Xof, G: Xof> Judges<[u8; 2420]> for ml_dsa_44::PublicKey<H, G> {
-    fn accepts(&self, text: &Text, signature: &[u8; 2420]) -> bool {
-        match *text {
-            Text::Message(message, ctx) => self.verify(message, signature, ctx),
-            Text::Digest(digest, ctx, oid) => self.hash_verify(digest, signature, ctx, oid),
-            Text::Framed(m) => self.verify_internal(m, signature),
-            Text::Hash(mu) => self.verify_mu(mu, signature),
-        }
-    }
-}
-
-impl<H: Xof> Judges<[u8; 2420]> for ml_dsa_44::PreparedPublicKey<H> {
-    fn accepts(&self, text: &Text, signature: &[u8; 2420]) -> bool {
-        match *text {
-            Text::Message(message, ctx) => self.verify(message, signature, ctx),
-            Text::Digest(digest, ctx, oid) => self.hash_verify(digest, signature, ctx, oid),
-            Text::Framed(m) => self.verify_internal(m, signature),
-            Text::Hash(mu) => self.verify_mu(mu, signature),
-        }
-    }
-}
-
-/// Set 44 over constant streams.
-pub type Constant44 = Set44<Fill<0x55>, Fill<0>>;
-
-/// Set 44 over two streams.
-pub struct Set44<H, G>(PhantomData<(H, G)>);
-
-impl<H: Xof, G: Xof> TestSet for Set44<H, G> {
-    type Signature = [u8; 2420];
-
-    type Public = ml_dsa_44::PublicKey<H, G>;
-
-    type Private = ml_dsa_44::PrivateKey<H, G>;
-
-    type PreparedPublic = ml_dsa_44::PreparedPublicKey<H>;
-
-    type PreparedPrivate = ml_dsa_44::PreparedPrivateKey<H>;
-
-    const WORD: &'static str = "44";
-
-    fn signature() -> [u8; 2420] {
-        constant::signature_44()
-    }
-
-    fn bytes(signature: &[u8; 2420]) -> &[u8] {
+    fn bytes(signature: &[u8; SIG_LEN]) -> &[u8] {
         signature
     }
 
-    fn spoiled(signature: &[u8; 2420]) -> [u8; 2420] {
+    fn spoiled(signature: &[u8; SIG_LEN]) -> [u8; SIG_LEN] {
         let mut other = *signature;
-        other[100] ^= 1;
+        if let Some(byte) = other.get_mut(100) {
+            *byte ^= 1;
+        }
         other
     }
 
     fn public() -> Result<Self::Public, Fault> {
-        Self::Public::try_from_bytes(constant::public_44())
+        PublicKey::<K, L, H, G>::try_from_bytes(S::public())
     }
 
     fn private() -> Result<Self::Private, Fault> {
-        Self::Private::try_from_bytes(constant::private_44())
+        PrivateKey::<K, L, H, G>::try_from_bytes(S::private())
     }
 
     fn is_pair(public: Self::Public, private: Self::Private) -> bool {
-        public.into_bytes() == constant::public_44()
-            && private.into_bytes() == constant::private_44()
+        public.into_bytes() == S::public() && private.into_bytes() == S::private()
     }
 
     fn is_public(public: Self::Public) -> bool {
-        public.into_bytes() == constant::public_44()
+        public.into_bytes() == S::public()
     }
 
     fn pair(seed: &[u8; 32]) -> Result<(Self::Public, Self::Private), Fault> {
-        ml_dsa_44::KG::<H, G>::keygen_from_seed(seed)
+        KG::<K, L, H, G>::keygen_from_seed(seed)
     }
 
     fn drawn_pair<R: CryptoRngCore>(
@@ -283,9 +421,9 @@ impl<H: Xof, G: Xof> TestSet for Set44<H, G> {
         call: PairCall,
     ) -> Result<(Self::Public, Self::Private), Fault> {
         match call {
-            PairCall::OfTrait => ml_dsa_44::KG::<H, G>::try_keygen_with_rng(rng),
-            PairCall::OfSet => ml_dsa_44::try_keygen_with_rng::<H, G, R>(rng),
-            PairCall::Shared => ml_dsa::key_gen::<4, 4, 1312, H, G, R>(&ML_DSA_44, rng),
+            PairCall::OfTrait => KG::<K, L, H, G>::try_keygen_with_rng(rng),
+            PairCall::OfSet => S::drawn_pair::<H, G, R>(rng),
+            PairCall::Shared => ml_dsa::key_gen::<K, L, PK_LEN, H, G, R>(&S::params(), rng),
         }
     }
 
@@ -303,411 +441,24 @@ impl<H: Xof, G: Xof> TestSet for Set44<H, G> {
 
     fn sign_each(
         key: &Self::PreparedPrivate,
-        count: usize,
         ctx: &[u8],
-    ) -> [Result<[u8; 2420], Fault>; 5] {
-        let count = count.min(5);
-        let mut answers = [Err(Fault::KeyRange); 5];
+        answers: &mut [Result<[u8; SIG_LEN], Fault>],
+    ) {
+        let count = answers.len().min(5);
         key.sign_each(
             &SEEDS[..count],
             &MESSAGES[..count],
             ctx,
             &mut answers[..count],
         );
-        answers
     }
 
     fn verify_each(
         key: &Self::PreparedPublic,
-        count: usize,
-        signatures: &[[u8; 2420]; 5],
+        signatures: &[[u8; SIG_LEN]],
         ctx: &[u8],
     ) -> [bool; 5] {
-        let count = count.min(5);
-        let mut verdicts = [false; 5];
-        key.verify_each(
-            &MESSAGES[..count],
-            &signatures[..count],
-            ctx,
-            &mut verdicts[..count],
-        );
-        verdicts
-    }
-
-    fn key_bytes(
-        alloc: Global,
-        public: Self::Public,
-        private: Self::Private,
-    ) -> Result<[Vec<u8>; 2], AllocError> {
-        let (pk, sk) = (public.into_bytes(), private.into_bytes());
-        Ok([Vec::from_slice(alloc, &pk)?, Vec::from_slice(alloc, &sk)?])
-    }
-}
-
-impl<H: Xof, G: Xof> Signs<[u8; 3309]> for ml_dsa_65::PrivateKey<H, G> {
-    fn seeded(&self, seed: &[u8; 32], text: &Text) -> Result<[u8; 3309], Fault> {
-        match *text {
-            Text::Message(message, ctx) => self.try_sign_with_seed(seed, message, ctx),
-            Text::Digest(digest, ctx, oid) => self.try_hash_sign_with_seed(seed, digest, ctx, oid),
-            Text::Framed(m) => self.sign_internal(&mut DummyRng { bytes: *seed }, m, true),
-            Text::Hash(mu) => self.sign_mu(&mut DummyRng { bytes: *seed }, mu, true),
-        }
-    }
-
-    fn drawn<R: CryptoRngCore>(
-        &self,
-        rng: &mut R,
-        hedged: bool,
-        text: &Text,
-    ) -> Result<[u8; 3309], Fault> {
-        match *text {
-            Text::Message(message, ctx) => self.try_sign_with_rng(rng, message, ctx),
-            Text::Digest(digest, ctx, oid) => self.try_hash_sign_with_rng(rng, digest, ctx, oid),
-            Text::Framed(m) => self.sign_internal(rng, m, hedged),
-            Text::Hash(mu) => self.sign_mu(rng, mu, hedged),
-        }
-    }
-}
-
-impl<H: Xof> Signs<[u8; 3309]> for ml_dsa_65::PreparedPrivateKey<H> {
-    fn seeded(&self, seed: &[u8; 32], text: &Text) -> Result<[u8; 3309], Fault> {
-        match *text {
-            Text::Message(message, ctx) => self.try_sign_with_seed(seed, message, ctx),
-            Text::Digest(digest, ctx, oid) => self.try_hash_sign_with_seed(seed, digest, ctx, oid),
-            Text::Framed(m) => self.sign_internal(&mut DummyRng { bytes: *seed }, m, true),
-            Text::Hash(mu) => self.sign_mu(&mut DummyRng { bytes: *seed }, mu, true),
-        }
-    }
-
-    fn drawn<R: CryptoRngCore>(
-        &self,
-        rng: &mut R,
-        hedged: bool,
-        text: &Text,
-    ) -> Result<[u8; 3309], Fault> {
-        match *text {
-            Text::Message(message, ctx) => self.try_sign_with_rng(rng, message, ctx),
-            Text::Digest(digest, ctx, oid) => self.try_hash_sign_with_rng(rng, digest, ctx, oid),
-            Text::Framed(m) => self.sign_internal(rng, m, hedged),
-            Text::Hash(mu) => self.sign_mu(rng, mu, hedged),
-        }
-    }
-}
-
-impl<H: Xof, G: Xof> Judges<[u8; 3309]> for ml_dsa_65::PublicKey<H, G> {
-    fn accepts(&self, text: &Text, signature: &[u8; 3309]) -> bool {
-        match *text {
-            Text::Message(message, ctx) => self.verify(message, signature, ctx),
-            Text::Digest(digest, ctx, oid) => self.hash_verify(digest, signature, ctx, oid),
-            Text::Framed(m) => self.verify_internal(m, signature),
-            Text::Hash(mu) => self.verify_mu(mu, signature),
-        }
-    }
-}
-
-impl<H: Xof> Judges<[u8; 3309]> for ml_dsa_65::PreparedPublicKey<H> {
-    fn accepts(&self, text: &Text, signature: &[u8; 3309]) -> bool {
-        match *text {
-            Text::Message(message, ctx) => self.verify(message, signature, ctx),
-            Text::Digest(digest, ctx, oid) => self.hash_verify(digest, signature, ctx, oid),
-            Text::Framed(m) => self.verify_internal(m, signature),
-            Text::Hash(mu) => self.verify_mu(mu, signature),
-        }
-    }
-}
-
-/// Set 65 over constant streams.
-pub type Constant65 = Set65<Fill<0x55>, Fill<0>>;
-
-/// Set 65 over two streams.
-pub struct Set65<H, G>(PhantomData<(H, G)>);
-
-impl<H: Xof, G: Xof> TestSet for Set65<H, G> {
-    type Signature = [u8; 3309];
-
-    type Public = ml_dsa_65::PublicKey<H, G>;
-
-    type Private = ml_dsa_65::PrivateKey<H, G>;
-
-    type PreparedPublic = ml_dsa_65::PreparedPublicKey<H>;
-
-    type PreparedPrivate = ml_dsa_65::PreparedPrivateKey<H>;
-
-    const WORD: &'static str = "65";
-
-    fn signature() -> [u8; 3309] {
-        constant::signature_65()
-    }
-
-    fn bytes(signature: &[u8; 3309]) -> &[u8] {
-        signature
-    }
-
-    fn spoiled(signature: &[u8; 3309]) -> [u8; 3309] {
-        let mut other = *signature;
-        other[100] ^= 1;
-        other
-    }
-
-    fn public() -> Result<Self::Public, Fault> {
-        Self::Public::try_from_bytes(constant::public_65())
-    }
-
-    fn private() -> Result<Self::Private, Fault> {
-        Self::Private::try_from_bytes(constant::private_65())
-    }
-
-    fn is_pair(public: Self::Public, private: Self::Private) -> bool {
-        public.into_bytes() == constant::public_65()
-            && private.into_bytes() == constant::private_65()
-    }
-
-    fn is_public(public: Self::Public) -> bool {
-        public.into_bytes() == constant::public_65()
-    }
-
-    fn pair(seed: &[u8; 32]) -> Result<(Self::Public, Self::Private), Fault> {
-        ml_dsa_65::KG::<H, G>::keygen_from_seed(seed)
-    }
-
-    fn drawn_pair<R: CryptoRngCore>(
-        rng: &mut R,
-        call: PairCall,
-    ) -> Result<(Self::Public, Self::Private), Fault> {
-        match call {
-            PairCall::OfTrait => ml_dsa_65::KG::<H, G>::try_keygen_with_rng(rng),
-            PairCall::OfSet => ml_dsa_65::try_keygen_with_rng::<H, G, R>(rng),
-            PairCall::Shared => ml_dsa::key_gen::<6, 5, 1952, H, G, R>(&ML_DSA_65, rng),
-        }
-    }
-
-    fn derived(key: &Self::Private) -> Result<Self::Public, Fault> {
-        key.get_public_key()
-    }
-
-    fn prepared_public(key: &Self::Public) -> Result<Self::PreparedPublic, Fault> {
-        key.prepare()
-    }
-
-    fn prepared_private(key: &Self::Private) -> Result<Self::PreparedPrivate, Fault> {
-        key.prepare()
-    }
-
-    fn sign_each(
-        key: &Self::PreparedPrivate,
-        count: usize,
-        ctx: &[u8],
-    ) -> [Result<[u8; 3309], Fault>; 5] {
-        let count = count.min(5);
-        let mut answers = [Err(Fault::KeyRange); 5];
-        key.sign_each(
-            &SEEDS[..count],
-            &MESSAGES[..count],
-            ctx,
-            &mut answers[..count],
-        );
-        answers
-    }
-
-    fn verify_each(
-        key: &Self::PreparedPublic,
-        count: usize,
-        signatures: &[[u8; 3309]; 5],
-        ctx: &[u8],
-    ) -> [bool; 5] {
-        let count = count.min(5);
-        let mut verdicts = [false; 5];
-        key.verify_each(
-            &MESSAGES[..count],
-            &signatures[..count],
-            ctx,
-            &mut verdicts[..count],
-        );
-        verdicts
-    }
-
-    fn key_bytes(
-        alloc: Global,
-        public: Self::Public,
-        private: Self::Private,
-    ) -> Result<[Vec<u8>; 2], AllocError> {
-        let (pk, sk) = (public.into_bytes(), private.into_bytes());
-        Ok([Vec::from_slice(alloc, &pk)?, Vec::from_slice(alloc, &sk)?])
-    }
-}
-
-impl<H: Xof, G: Xof> Signs<[u8; 4627]> for ml_dsa_87::PrivateKey<H, G> {
-    fn seeded(&self, seed: &[u8; 32], text: &Text) -> Result<[u8; 4627], Fault> {
-        match *text {
-            Text::Message(message, ctx) => self.try_sign_with_seed(seed, message, ctx),
-            Text::Digest(digest, ctx, oid) => self.try_hash_sign_with_seed(seed, digest, ctx, oid),
-            Text::Framed(m) => self.sign_internal(&mut DummyRng { bytes: *seed }, m, true),
-            Text::Hash(mu) => self.sign_mu(&mut DummyRng { bytes: *seed }, mu, true),
-        }
-    }
-
-    fn drawn<R: CryptoRngCore>(
-        &self,
-        rng: &mut R,
-        hedged: bool,
-        text: &Text,
-    ) -> Result<[u8; 4627], Fault> {
-        match *text {
-            Text::Message(message, ctx) => self.try_sign_with_rng(rng, message, ctx),
-            Text::Digest(digest, ctx, oid) => self.try_hash_sign_with_rng(rng, digest, ctx, oid),
-            Text::Framed(m) => self.sign_internal(rng, m, hedged),
-            Text::Hash(mu) => self.sign_mu(rng, mu, hedged),
-        }
-    }
-}
-
-impl<H: Xof> Signs<[u8; 4627]> for ml_dsa_87::PreparedPrivateKey<H> {
-    fn seeded(&self, seed: &[u8; 32], text: &Text) -> Result<[u8; 4627], Fault> {
-        match *text {
-            Text::Message(message, ctx) => self.try_sign_with_seed(seed, message, ctx),
-            Text::Digest(digest, ctx, oid) => self.try_hash_sign_with_seed(seed, digest, ctx, oid),
-            Text::Framed(m) => self.sign_internal(&mut DummyRng { bytes: *seed }, m, true),
-            Text::Hash(mu) => self.sign_mu(&mut DummyRng { bytes: *seed }, mu, true),
-        }
-    }
-
-    fn drawn<R: CryptoRngCore>(
-        &self,
-        rng: &mut R,
-        hedged: bool,
-        text: &Text,
-    ) -> Result<[u8; 4627], Fault> {
-        match *text {
-            Text::Message(message, ctx) => self.try_sign_with_rng(rng, message, ctx),
-            Text::Digest(digest, ctx, oid) => self.try_hash_sign_with_rng(rng, digest, ctx, oid),
-            Text::Framed(m) => self.sign_internal(rng, m, hedged),
-            Text::Hash(mu) => self.sign_mu(rng, mu, hedged),
-        }
-    }
-}
-
-impl<H: Xof, G: Xof> Judges<[u8; 4627]> for ml_dsa_87::PublicKey<H, G> {
-    fn accepts(&self, text: &Text, signature: &[u8; 4627]) -> bool {
-        match *text {
-            Text::Message(message, ctx) => self.verify(message, signature, ctx),
-            Text::Digest(digest, ctx, oid) => self.hash_verify(digest, signature, ctx, oid),
-            Text::Framed(m) => self.verify_internal(m, signature),
-            Text::Hash(mu) => self.verify_mu(mu, signature),
-        }
-    }
-}
-
-impl<H: Xof> Judges<[u8; 4627]> for ml_dsa_87::PreparedPublicKey<H> {
-    fn accepts(&self, text: &Text, signature: &[u8; 4627]) -> bool {
-        match *text {
-            Text::Message(message, ctx) => self.verify(message, signature, ctx),
-            Text::Digest(digest, ctx, oid) => self.hash_verify(digest, signature, ctx, oid),
-            Text::Framed(m) => self.verify_internal(m, signature),
-            Text::Hash(mu) => self.verify_mu(mu, signature),
-        }
-    }
-}
-
-/// Set 87 over constant streams.
-pub type Constant87 = Set87<Fill<0x55>, Fill<0>>;
-
-/// Set 87 over two streams.
-pub struct Set87<H, G>(PhantomData<(H, G)>);
-
-impl<H: Xof, G: Xof> TestSet for Set87<H, G> {
-    type Signature = [u8; 4627];
-
-    type Public = ml_dsa_87::PublicKey<H, G>;
-
-    type Private = ml_dsa_87::PrivateKey<H, G>;
-
-    type PreparedPublic = ml_dsa_87::PreparedPublicKey<H>;
-
-    type PreparedPrivate = ml_dsa_87::PreparedPrivateKey<H>;
-
-    const WORD: &'static str = "87";
-
-    fn signature() -> [u8; 4627] {
-        constant::signature_87()
-    }
-
-    fn bytes(signature: &[u8; 4627]) -> &[u8] {
-        signature
-    }
-
-    fn spoiled(signature: &[u8; 4627]) -> [u8; 4627] {
-        let mut other = *signature;
-        other[100] ^= 1;
-        other
-    }
-
-    fn public() -> Result<Self::Public, Fault> {
-        Self::Public::try_from_bytes(constant::public_87())
-    }
-
-    fn private() -> Result<Self::Private, Fault> {
-        Self::Private::try_from_bytes(constant::private_87())
-    }
-
-    fn is_pair(public: Self::Public, private: Self::Private) -> bool {
-        public.into_bytes() == constant::public_87()
-            && private.into_bytes() == constant::private_87()
-    }
-
-    fn is_public(public: Self::Public) -> bool {
-        public.into_bytes() == constant::public_87()
-    }
-
-    fn pair(seed: &[u8; 32]) -> Result<(Self::Public, Self::Private), Fault> {
-        ml_dsa_87::KG::<H, G>::keygen_from_seed(seed)
-    }
-
-    fn drawn_pair<R: CryptoRngCore>(
-        rng: &mut R,
-        call: PairCall,
-    ) -> Result<(Self::Public, Self::Private), Fault> {
-        match call {
-            PairCall::OfTrait => ml_dsa_87::KG::<H, G>::try_keygen_with_rng(rng),
-            PairCall::OfSet => ml_dsa_87::try_keygen_with_rng::<H, G, R>(rng),
-            PairCall::Shared => ml_dsa::key_gen::<8, 7, 2592, H, G, R>(&ML_DSA_87, rng),
-        }
-    }
-
-    fn derived(key: &Self::Private) -> Result<Self::Public, Fault> {
-        key.get_public_key()
-    }
-
-    fn prepared_public(key: &Self::Public) -> Result<Self::PreparedPublic, Fault> {
-        key.prepare()
-    }
-
-    fn prepared_private(key: &Self::Private) -> Result<Self::PreparedPrivate, Fault> {
-        key.prepare()
-    }
-
-    fn sign_each(
-        key: &Self::PreparedPrivate,
-        count: usize,
-        ctx: &[u8],
-    ) -> [Result<[u8; 4627], Fault>; 5] {
-        let count = count.min(5);
-        let mut answers = [Err(Fault::KeyRange); 5];
-        key.sign_each(
-            &SEEDS[..count],
-            &MESSAGES[..count],
-            ctx,
-            &mut answers[..count],
-        );
-        answers
-    }
-
-    fn verify_each(
-        key: &Self::PreparedPublic,
-        count: usize,
-        signatures: &[[u8; 4627]; 5],
-        ctx: &[u8],
-    ) -> [bool; 5] {
-        let count = count.min(5);
+        let count = signatures.len().min(5);
         let mut verdicts = [false; 5];
         key.verify_each(
             &MESSAGES[..count],

@@ -154,81 +154,96 @@ fn signed_digests(rt: HostRuntime) -> Result<(), Fail> {
 
 /// The signatures of the messages, one call for each, and which of them the public key accepts.
 fn single_calls<S: TestSet>(
+    alloc: Global,
     public: &S::Public,
     private: &S::Private,
-) -> Result<([S::Signature; 5], [bool; 5]), Fault> {
-    let mut signatures = [S::signature(); 5];
+) -> Result<(Vec<S::Signature>, [bool; 5]), Fail> {
+    let mut signatures = Vec::new(alloc);
     let mut verdicts = [false; 5];
     for i in 0..5usize {
         let text = Text::Message(MESSAGES[i], b"context");
         let signature = private.seeded(&SEEDS[i], &text)?;
         verdicts[i] = public.accepts(&text, &signature);
-        signatures[i] = signature;
+        signatures.push(signature)?;
     }
     Ok((signatures, verdicts))
 }
 
-/// Whether the first of the messages, so many, are signed with one call as they are one by one, and refused under a
-/// context of 256 bytes.
+/// Whether so many messages are signed with one call as these signatures, and refused under a context of 256 bytes.
 fn are_signed<S: TestSet>(
+    alloc: Global,
     key: &S::PreparedPrivate,
-    count: usize,
-    signatures: &[S::Signature; 5],
-) -> bool {
-    let signed = S::sign_each(key, count, b"context");
-    let refused = S::sign_each(key, count, &[0; 256]);
-    for i in 0..5usize {
-        let (good, bad) = if i < count {
-            (Ok(signatures[i]), Err(Fault::SignCtx))
-        } else {
-            (Err(Fault::KeyRange), Err(Fault::KeyRange))
-        };
-        if signed[i] != good || refused[i] != bad {
-            return false;
-        }
-    }
-    true
+    signatures: &[S::Signature],
+) -> Result<bool, Fail> {
+    let mut answers = vec![in alloc; Err(Fault::KeyRange); signatures.len()]?;
+    S::sign_each(key, b"context", answers.as_mut_slice());
+    let mut pairs = answers.iter().zip(signatures);
+    let signed = pairs.all(|(answer, signature)| *answer == Ok(*signature));
+    S::sign_each(key, &[0; 256], answers.as_mut_slice());
+    Ok(signed && answers.iter().all(|answer| *answer == Err(Fault::SignCtx)))
 }
 
-/// Whether lists of 0, 1 and 5 messages are signed as they are one by one; which of 0, 1 and 5 signatures are accepted,
-/// and of five where another bit stands in the third; and which of 0, 1 and 5 under a context of 256 bytes.
-fn lists<S: TestSet>() -> Result<([bool; 4], [[bool; 5]; 4], [[bool; 5]; 3]), Fault> {
+/// Whether the single calls are accepted, and 0, 1 and 5 messages signed as by them.
+fn lists_are_signed<S: TestSet>(
+    alloc: Global,
+    key: &S::PreparedPrivate,
+    signatures: &[S::Signature],
+) -> Result<[bool; 3], Fail> {
+    let mut same = [false; 3];
+    for (i, count) in [0usize, 1, 5].iter().enumerate() {
+        let first = signatures.get(..*count).unwrap_or(&[]);
+        same[i] = are_signed::<S>(alloc, key, first)?;
+    }
+    Ok(same)
+}
+
+/// Which of the first 0, 1 and 5 signatures are accepted under a context.
+fn verdicts_of_lists<S: TestSet>(
+    key: &S::PreparedPublic,
+    signatures: &[S::Signature],
+    ctx: &[u8],
+) -> [[bool; 5]; 3] {
+    let mut verdicts = [[false; 5]; 3];
+    for (i, count) in [0usize, 1, 5].iter().enumerate() {
+        let first = signatures.get(..*count).unwrap_or(&[]);
+        verdicts[i] = S::verify_each(key, first, ctx);
+    }
+    verdicts
+}
+
+/// Which signatures of the messages the public key accepts; whether lists of 0, 1 and 5 are signed so; which of such
+/// lists are accepted, and under a context of 256 bytes; and which of five where another bit stands in the third.
+fn lists<S: TestSet>(
+    alloc: Global,
+) -> Result<([bool; 5], [bool; 3], [[[bool; 5]; 3]; 2], [bool; 5]), Fail> {
     let (public, private) = S::pair(&[0; 32])?;
-    let (mut signatures, verdicts) = single_calls::<S>(&public, &private)?;
+    let (mut signatures, verdicts) = single_calls::<S>(alloc, &public, &private)?;
     let signer = S::prepared_private(&private)?;
     let verifier = S::prepared_public(&public)?;
-    let signed = [
-        verdicts == [true; 5],
-        are_signed::<S>(&signer, 0, &signatures),
-        are_signed::<S>(&signer, 1, &signatures),
-        are_signed::<S>(&signer, 5, &signatures),
-    ];
-    let third = signatures[2];
-    let none = S::verify_each(&verifier, 0, &signatures, b"context");
-    let one = S::verify_each(&verifier, 1, &signatures, b"context");
-    let five = S::verify_each(&verifier, 5, &signatures, b"context");
-    let long = [
-        S::verify_each(&verifier, 0, &signatures, &[0; 256]),
-        S::verify_each(&verifier, 1, &signatures, &[0; 256]),
-        S::verify_each(&verifier, 5, &signatures, &[0; 256]),
-    ];
-    signatures[2] = S::spoiled(&third);
-    let spoiled = S::verify_each(&verifier, 5, &signatures, b"context");
-    Ok((signed, [none, one, five, spoiled], long))
+    let signed = lists_are_signed::<S>(alloc, &signer, signatures.as_slice())?;
+    let accepted = verdicts_of_lists::<S>(&verifier, signatures.as_slice(), b"context");
+    let long = verdicts_of_lists::<S>(&verifier, signatures.as_slice(), &[0; 256]);
+    if let Some(third) = signatures.as_mut_slice().get_mut(2) {
+        *third = S::spoiled(third);
+    }
+    let spoiled = S::verify_each(&verifier, signatures.as_slice(), b"context");
+    Ok((verdicts, signed, [accepted, long], spoiled))
 }
 
 /// Lists of 0, 1 and 5 messages under prepared keys, entry by entry as single calls; one changed signature;
 /// a context of 256 bytes.
 #[test]
-fn many_messages_of_each_set(rt: HostRuntime) {
-    let verdicts = [
-        [false; 5],
-        [true, false, false, false, false],
+fn many_messages_of_each_set(rt: HostRuntime) -> Result<(), Fail> {
+    let accepted = [[false; 5], [true, false, false, false, false], [true; 5]];
+    let verdicts = [accepted, [[false; 5]; 3]];
+    let answer = (
         [true; 5],
+        [true; 3],
+        verdicts,
         [true, true, false, true, true],
-    ];
-    let answer = Ok(([true; 4], verdicts, [[false; 5]; 3]));
-    assert_eq!(rt; lists::<Set44<Sha256Ctr, Sha512Ctr>>(), answer);
-    assert_eq!(rt; lists::<Set65<Sha256Ctr, Sha512Ctr>>(), answer);
-    assert_eq!(rt; lists::<Set87<Sha256Ctr, Sha512Ctr>>(), answer);
+    );
+    assert_eq!(rt; lists::<Set44<Sha256Ctr, Sha512Ctr>>(rt.alloc())?, answer);
+    assert_eq!(rt; lists::<Set65<Sha256Ctr, Sha512Ctr>>(rt.alloc())?, answer);
+    assert_eq!(rt; lists::<Set87<Sha256Ctr, Sha512Ctr>>(rt.alloc())?, answer);
+    Ok(())
 }
