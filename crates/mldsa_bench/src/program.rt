@@ -2,10 +2,11 @@
 #![tactic(auto)]
 
 pub mod batches;
-pub mod counted_calls;
+pub mod commands;
 pub mod devices;
 pub mod failing_devices;
 pub mod faults;
-pub mod results;
+pub mod judged_lines;
+pub mod process;
 pub mod runs;
 pub mod rust_answers;

@@ -1,8 +1,8 @@
 //! Runs of the program's `batch`.
 #![tactic(auto)]
 
-use crate::program::counted_calls::{pieces, runs_as};
-use crate::program::runs::{ends, hex_lines, line_of, unread_after};
+use crate::program::commands::{pieces, runs_as};
+use crate::program::runs::{digit_lines, hex_lines, told};
 use crate::values::RECORDED;
 use crate::values::constant_streams::{public_44, signature_44};
 use mldsa_engine::RunFault;
@@ -21,39 +21,34 @@ pub fn refused_44() -> [u8; 2420] {
     signature
 }
 
-/// Whether a batch at set 44 over the constant public key answers so, reads all its lines, and writes these bytes.
-fn answers(
+/// What a batch at set 44 with the constant public key returns for these lines, whether it writes this text, and how
+/// many bytes it leaves unread.
+fn said(
     alloc: Global,
     streams: &str,
     lines: &[&[u8]],
-    answer: bool,
-    written: &[u8],
-) -> Result<bool, AllocError> {
+    text: &[u8],
+) -> Result<(Result<bool, RunFault>, bool, usize), AllocError> {
     let mut input = hex_lines(alloc, &[&public_44()])?;
     input.extend_from_slice(hex_lines(alloc, lines)?.as_slice())?;
-    let unread = unread_after(
-        alloc,
-        [streams, "batch", "44"],
-        input.as_slice(),
-        Ok(answer),
-        written,
-    );
-    Ok(unread == Some(0))
+    told(alloc, [streams, "batch", "44"], input.as_slice(), text)
 }
 
 /// `fill55 batch 44` with a good and a changed signature, in both orders: `yes` and `no` in order, status 1;
 /// two good ones, status 0.
 #[test]
 fn answers_in_the_order_of_the_entries(rt: HostRuntime) -> Result<(), Fail> {
+    let alloc = rt.alloc();
     let (good, bad) = (signature_44(), refused_44());
+    let (yes, no) = ((Ok(true), true, 0), (Ok(false), true, 0));
     let lines = [[].as_slice(), &[0, 2], &good, &[0], &bad, &[0]];
-    assert!(rt; answers(rt.alloc(), "fill55", &lines, false, b"yes\nno\n")?);
+    assert_eq!(rt; said(alloc, "fill55", &lines, b"yes\nno\n")?, no);
     let lines = [[].as_slice(), &[0, 2], &bad, &[0], &good, &[0]];
-    assert!(rt; answers(rt.alloc(), "fill55", &lines, false, b"no\nyes\n")?);
+    assert_eq!(rt; said(alloc, "fill55", &lines, b"no\nyes\n")?, no);
     let lines = [[].as_slice(), &[0, 2], &good, &[0], &good, b"another"];
-    assert!(rt; answers(rt.alloc(), "fill55", &lines, true, b"yes\nyes\n")?);
+    assert_eq!(rt; said(alloc, "fill55", &lines, b"yes\nyes\n")?, yes);
     let lines = [[].as_slice(), &[0, 1], &bad, &[]];
-    assert!(rt; answers(rt.alloc(), "fill55", &lines, false, b"no\n")?);
+    assert_eq!(rt; said(alloc, "fill55", &lines, b"no\n")?, no);
     Ok(())
 }
 
@@ -62,31 +57,30 @@ fn answers_in_the_order_of_the_entries(rt: HostRuntime) -> Result<(), Fail> {
 fn batch_without_an_entry(rt: HostRuntime) -> Result<(), Fail> {
     let alloc = rt.alloc();
     for streams in ["sha2", "fill55", "fillff"] {
-        assert!(rt; answers(alloc, streams, &[&[], &[0, 0]], true, b"")?);
+        assert_eq!(rt;
+            said(alloc, streams, &[&[], &[0, 0]], b"")?,
+            (Ok(true), true, 0)
+        );
     }
-    let lines = [&public_44(), [].as_slice(), &[0, 0], &signature_44(), &[0]];
-    let input = hex_lines(alloc, &lines)?;
-    assert!(rt; unread_after(alloc, BATCH_44, input.as_slice(), Ok(true), b"") == Some(4844));
+    let lines = [[].as_slice(), &[0, 0], &signature_44(), &[0]];
+    assert_eq!(rt; said(alloc, "fill55", &lines, b"")?, (Ok(true), true, 4844));
     Ok(())
-}
-
-/// Whether a count line of these bytes is at fault for having so many.
-fn is_no_count(alloc: Global, count: &[u8]) -> Result<bool, AllocError> {
-    let input = hex_lines(alloc, &[&public_44(), &[], count])?;
-    let fault = RunFault::Length {
-        line: 3,
-        wants: 2,
-        has: count.len(),
-    };
-    Ok(ends(alloc, BATCH_44, input.as_slice(), Err(fault), b""))
 }
 
 /// Counts of no byte, one and three: `line 3: wants 2 bytes, has 0`, and so on.
 #[test]
 fn counts_of_another_length(rt: HostRuntime) -> Result<(), Fail> {
-    assert!(rt; is_no_count(rt.alloc(), &[])?);
-    assert!(rt; is_no_count(rt.alloc(), &[1])?);
-    assert!(rt; is_no_count(rt.alloc(), &[0, 0, 1])?);
+    for count in [[].as_slice(), &[1], &[0, 0, 1]] {
+        let fault = RunFault::Length {
+            line: 3,
+            wants: 2,
+            has: count.len(),
+        };
+        assert_eq!(rt;
+            said(rt.alloc(), "fill55", &[&[], count], b"")?,
+            (Err(fault), true, 0)
+        );
+    }
     Ok(())
 }
 
@@ -112,32 +106,32 @@ fn long_batch(alloc: Global, count: usize) -> Result<Vec<u8>, AllocError> {
 fn high_byte_of_a_count_stands_first(rt: HostRuntime) -> Result<(), Fail> {
     let alloc = rt.alloc();
     let input = long_batch(alloc, 255)?;
-    let missing = RunFault::Missing { line: 514 };
-    assert!(rt; ends(alloc, BATCH_44, input.as_slice(), Err(missing), b""));
+    let missing = Err(RunFault::Missing { line: 514 });
+    assert_eq!(rt;
+        told(alloc, BATCH_44, input.as_slice(), b"")?,
+        (missing, true, 0)
+    );
     let mut input = long_batch(alloc, 256)?;
     input.extend_from_slice(b"rest")?;
     let written = copies(alloc, b"yes\n", 256)?;
-    let unread = unread_after(
-        alloc,
-        BATCH_44,
-        input.as_slice(),
-        Ok(true),
-        written.as_slice(),
+    assert_eq!(rt;
+        told(alloc, BATCH_44, input.as_slice(), written.as_slice())?,
+        (Ok(true), true, 4)
     );
-    assert!(rt; unread == Some(4));
     Ok(())
 }
 
 /// Over `fillff` every entry of a batch is `no`.
 #[test]
 fn batch_over_a_key_without_matrix(rt: HostRuntime) -> Result<(), Fail> {
-    let good = signature_44();
+    let alloc = rt.alloc();
+    let (good, no) = (signature_44(), (Ok(false), true, 0));
     let lines = [[].as_slice(), &[0, 2], &good, &[0], &good, &[0]];
-    assert!(rt; answers(rt.alloc(), "fillff", &lines, false, b"no\nno\n")?);
+    assert_eq!(rt; said(alloc, "fillff", &lines, b"no\nno\n")?, no);
     let lines = [[].as_slice(), &[0, 1], &good, &[0]];
-    assert!(rt; answers(rt.alloc(), "fillff", &lines, false, b"no\n")?);
+    assert_eq!(rt; said(alloc, "fillff", &lines, b"no\n")?, no);
     let lines = [[0; 256].as_slice(), &[0, 1], &good, &[0]];
-    assert!(rt; answers(rt.alloc(), "fillff", &lines, false, b"no\n")?);
+    assert_eq!(rt; said(alloc, "fillff", &lines, b"no\n")?, no);
     Ok(())
 }
 
@@ -146,43 +140,45 @@ fn batch_over_a_key_without_matrix(rt: HostRuntime) -> Result<(), Fail> {
 fn long_context_of_a_batch(rt: HostRuntime) -> Result<(), Fail> {
     let good = signature_44();
     let lines = [[0; 255].as_slice(), &[0, 2], &good, &[0], &good, &[0]];
-    assert!(rt; answers(rt.alloc(), "fill55", &lines, true, b"yes\nyes\n")?);
+    assert_eq!(rt;
+        said(rt.alloc(), "fill55", &lines, b"yes\nyes\n")?,
+        (Ok(true), true, 0)
+    );
     let lines = [[0; 256].as_slice(), &[0, 2], &good, &[0], &good, &[0]];
-    assert!(rt; answers(rt.alloc(), "fill55", &lines, false, b"no\nno\n")?);
+    assert_eq!(rt;
+        said(rt.alloc(), "fill55", &lines, b"no\nno\n")?,
+        (Ok(false), true, 0)
+    );
     Ok(())
 }
 
-/// Whether a batch of two entries and one of three run as they have to on the recorded bytes of a set.
-fn batches_run<'a>(alloc: Global, set: &'a str, public: &'a str, signature: &'a str) -> bool {
-    let before = pieces(public).wrapping_add(2);
+/// Whether a batch of two entries and one of three run so on the recorded bytes of a set.
+fn batches_run(alloc: Global, recorded: [&str; 4]) -> Result<bool, AllocError> {
+    let [set, public, _, signature] = recorded;
+    let call = ["sha2", "batch", set];
     let entry = pieces(signature).wrapping_add(3);
-    let two = before.wrapping_add(entry).wrapping_add(entry);
-    let three = two.wrapping_add(entry);
+    let two = pieces(public)
+        .wrapping_add(entry)
+        .wrapping_add(entry)
+        .wrapping_add(2);
     let lines = [public, "", "0002", signature, "00", signature, "00"];
-    let longer = [
+    let same = runs_as(alloc, call, &lines, two, true, &["yes", "yes"])?;
+    let lines = [
         public, "", "0003", signature, "00", signature, "01", signature, "00",
     ];
-    runs_as(alloc, ["batch", set], &lines, two, true, &["yes", "yes"])
-        && runs_as(
-            alloc,
-            ["batch", set],
-            &longer,
-            three,
-            false,
-            &["yes", "no", "yes"],
-        )
+    let three = two.wrapping_add(entry);
+    Ok(same && runs_as(alloc, call, &lines, three, false, &["yes", "no", "yes"])?)
 }
 
 /// `sha2` batches at each set, `yes` twice, and `yes`, `no`, `yes`, with reads and writes counted and what
 /// follows unread.
 #[test]
-fn batches_of_each_set(rt: HostRuntime) {
-    for [set, public, _, signature] in RECORDED {
-        assert!(rt;
-            batches_run(rt.alloc(), set, public, signature),
-            "set {set}"
-        );
+fn batches_of_each_set(rt: HostRuntime) -> Result<(), Fail> {
+    for recorded in RECORDED {
+        let set = recorded[0];
+        assert!(rt; batches_run(rt.alloc(), recorded)?, "set {set}");
     }
+    Ok(())
 }
 
 /// A signature of 2419 bytes in the last entry: `line 6: wants 2420 bytes, has 2419`, and nothing is written
@@ -190,20 +186,17 @@ fn batches_of_each_set(rt: HostRuntime) {
 #[test]
 fn faults_before_answers(rt: HostRuntime) -> Result<(), Fail> {
     let alloc = rt.alloc();
-    let lines = [
-        &public_44(),
-        [0; 256].as_slice(),
-        &[0, 2],
-        &signature_44(),
-        &[],
-    ];
-    let mut input = hex_lines(alloc, &lines)?;
-    input.extend_from_slice(line_of(alloc, b'0', 4838)?.as_slice())?;
+    let mut input = hex_lines(
+        alloc,
+        &[&public_44(), &[0; 256], &[0, 2], &signature_44(), &[]],
+    )?;
+    input.extend_from_slice(digit_lines(alloc, &[(b'0', 4838)])?.as_slice())?;
     let fault = RunFault::Length {
         line: 6,
         wants: 2420,
         has: 2419,
     };
-    assert!(rt; ends(alloc, BATCH_44, input.as_slice(), Err(fault), b""));
+    let (answer, nothing, _) = told(alloc, BATCH_44, input.as_slice(), b"")?;
+    assert_eq!(rt; (answer, nothing), (Err(fault), true));
     Ok(())
 }

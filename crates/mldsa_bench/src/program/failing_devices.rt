@@ -5,36 +5,46 @@
 ghost use Rattle.std.specs.Prelude.{◌≤◌, length};
 
 use crate::program::batches::refused_44;
-use crate::program::counted_calls::is_told;
+use crate::program::process::is_told;
 use crate::program::runs::{BY_BYTES, Manner, Outcome, WHOLE, hex_lines, is_as, run_of};
 use crate::values::constant_streams::{private_44, public_44, signature_44};
 use mldsa_engine::RunFault;
 use std::alloc::{AllocError, Global};
 use std::test::Fail;
 
-/// A line of an input: how many digits it has, and whether the command takes any other number of bytes.
-type Line = (usize, bool);
+/// A line of an input: its bytes, and whether the command takes any other number of them.
+type Line<'a> = (&'a [u8], bool);
+
+/// A command with its lines, and what it returns and writes over `fill55` at set 44; and whether every call and every
+/// end is tried.
+#[derive(Clone, Copy)]
+struct Run<'a> {
+    command: &'a str,
+    lines: &'a [Line<'a>],
+    answer: bool,
+    written: &'a [u8],
+    every: bool,
+}
 
 /// The fault of an input of these lines that is cut after so many characters, or none where the last line
 /// is good.
 fn fault_of_cut(lines: &[Line], cut: usize) -> Option<RunFault> {
     let mut left = cut;
     let mut line = 1usize;
-    for (digits, any) in lines {
+    for (bytes, any) in lines {
+        let wants = bytes.len();
+        let digits = wants.wrapping_mul(2);
         if left == 0 {
             return Some(RunFault::Missing { line });
         }
-        if left > *digits {
-            left -= *digits;
+        if left > digits {
+            left -= digits;
             left -= 1;
         } else if left % 2 == 1 {
             return Some(RunFault::NotHex { line });
-        } else if left < *digits && !*any {
-            return Some(RunFault::Length {
-                line,
-                wants: *digits / 2,
-                has: left / 2,
-            });
+        } else if left < digits && !*any {
+            let has = left / 2;
+            return Some(RunFault::Length { line, wants, has });
         } else {
             left = 0;
         }
@@ -47,18 +57,6 @@ fn fault_of_cut(lines: &[Line], cut: usize) -> Option<RunFault> {
 /// and the last 300, and every 53rd between.
 fn is_tried(run: &Run, call: usize, last: usize) -> bool {
     run.every || call < 300 || call % 53 == 0 || last.saturating_sub(call) <= 300
-}
-
-/// A command with the bytes of its lines of hex and the shape of these lines, and what it answers and writes
-/// over `fill55` at set 44.
-#[derive(Clone, Copy)]
-struct Run<'a> {
-    command: &'a str,
-    values: &'a [&'a [u8]],
-    lines: &'a [Line],
-    answer: bool,
-    written: &'a [u8],
-    every: bool,
 }
 
 /// What the run does with these bytes and devices.
@@ -74,13 +72,8 @@ fn outcome_of(
 /// Whether a run ends as on good devices.
 fn passes(alloc: Global, run: &Run, manner: Manner, bytes: &[u8]) -> Result<bool, AllocError> {
     let outcome = outcome_of(alloc, run, manner, bytes)?;
-    Ok(
-        outcome.answer == Ok(run.answer)
-            && outcome.written.as_slice() == run.written
-            && outcome.unread == 0
-            && !outcome.read_failed
-            && !outcome.write_failed,
-    )
+    let same = is_as(&outcome, Ok(run.answer), run.written, outcome.writes);
+    Ok(same && outcome.unread == 0)
 }
 
 /// Whether a run whose reader fails at this call ends in `read failed`, with nothing written.
@@ -93,15 +86,10 @@ fn fails_to_read(alloc: Global, run: &Run, bytes: &[u8], call: usize) -> Result<
         return passes(alloc, run, manner, bytes);
     }
     let outcome = outcome_of(alloc, run, manner, bytes)?;
-    Ok(
-        outcome.read_failed
-            && !outcome.write_failed
-            && outcome.written.is_empty()
-            && outcome.writes == 0
-            && outcome.reads == call.wrapping_add(1)
-            && outcome.answer == Err(RunFault::Read)
-            && is_told(alloc, outcome.answer, 2, "read failed\n"),
-    )
+    let marked = outcome.read_failed && !outcome.write_failed;
+    let nothing = outcome.written.is_empty() && outcome.writes == 0;
+    let told = is_told(alloc, outcome.answer, 2, "read failed\n");
+    Ok(marked && nothing && told && outcome.reads == call.wrapping_add(1))
 }
 
 /// Whether a run whose writer fails at this call ends in `write failed`, after the bytes of the calls before it.
@@ -114,14 +102,10 @@ fn fails_to_write(alloc: Global, run: &Run, bytes: &[u8], call: usize) -> Result
         return passes(alloc, run, manner, bytes);
     }
     let outcome = outcome_of(alloc, run, manner, bytes)?;
-    Ok(
-        !outcome.read_failed
-            && outcome.write_failed
-            && outcome.written.as_slice() == &run.written[..call]
-            && outcome.writes == call.wrapping_add(1)
-            && outcome.answer == Err(RunFault::Write)
-            && is_told(alloc, outcome.answer, 2, "write failed\n"),
-    )
+    let marked = outcome.write_failed && !outcome.read_failed;
+    let before = outcome.written.as_slice() == &run.written[..call];
+    let told = is_told(alloc, outcome.answer, 2, "write failed\n");
+    Ok(marked && before && told && outcome.writes == call.wrapping_add(1))
 }
 
 /// Whether a run whose input ends after so many bytes ends in the fault of its lines, or as on the whole input where
@@ -142,49 +126,33 @@ fn ends_early(
     }
 }
 
-/// The first call of the reader that is answered wrongly, of those that are tried.
-fn first_wrong_read(alloc: Global, run: &Run, bytes: &[u8]) -> Result<Option<usize>, AllocError> {
-    for call in 0..=bytes.len() {
-        if is_tried(run, call, bytes.len()) && !fails_to_read(alloc, run, bytes, call)? {
-            return Ok(Some(call));
-        }
-    }
-    Ok(None)
-}
-
-/// The first call of the writer that is answered wrongly, of those that are tried.
-fn first_wrong_write(alloc: Global, run: &Run, bytes: &[u8]) -> Result<Option<usize>, AllocError> {
-    for call in 0..=run.written.len() {
-        if is_tried(run, call, run.written.len()) && !fails_to_write(alloc, run, bytes, call)? {
-            return Ok(Some(call));
-        }
-    }
-    Ok(None)
-}
-
-/// The first end of the input that is answered wrongly, by devices that move all that is asked for, or of those that are
-/// tried by devices that move a byte a call.
-fn first_wrong_end(alloc: Global, run: &Run, bytes: &[u8]) -> Result<Option<usize>, AllocError> {
-    for ended in 0..=bytes.len() {
-        if !ends_early(alloc, run, WHOLE, bytes, ended)?
-            || is_tried(run, ended, bytes.len())
-                && !ends_early(alloc, run, BY_BYTES, bytes, ended)?
-        {
-            return Ok(Some(ended));
-        }
-    }
-    Ok(None)
-}
-
-/// The first call of the reader, the first of the writer and the first end of the input that are answered
-/// wrongly.
+/// The first call of the reader, the first of the writer, and the first end of the input whose outcome is wrong, of
+/// those that are tried; each end of the input is tried also by devices that move all that is asked for.
 fn first_wrong(alloc: Global, run: Run) -> Result<[Option<usize>; 3], AllocError> {
-    let input = hex_lines(alloc, run.values)?;
-    Ok([
-        first_wrong_read(alloc, &run, input.as_slice())?,
-        first_wrong_write(alloc, &run, input.as_slice())?,
-        first_wrong_end(alloc, &run, input.as_slice())?,
-    ])
+    let mut input = Vec::new(alloc);
+    for (bytes, _) in run.lines {
+        input.extend_from_slice(hex_lines(alloc, &[*bytes])?.as_slice())?;
+    }
+    let input = input.as_slice();
+    let mut wrong = [None; 3];
+    for call in 0..=input.len() {
+        let tried = is_tried(&run, call, input.len());
+        if tried && !fails_to_read(alloc, &run, input, call)? {
+            wrong[0] = Some(call);
+        }
+        if !ends_early(alloc, &run, WHOLE, input, call)?
+            || tried && !ends_early(alloc, &run, BY_BYTES, input, call)?
+        {
+            wrong[2] = Some(call);
+        }
+    }
+    for call in 0..=run.written.len() {
+        let tried = is_tried(&run, call, run.written.len());
+        if tried && !fails_to_write(alloc, &run, input, call)? {
+            wrong[1] = Some(call);
+        }
+    }
+    Ok(wrong)
 }
 
 /// A run of `id` on a public key.
@@ -196,8 +164,7 @@ fn run_of_id(
     let written = hex_lines(alloc, &[key, &[0x55; 64]])?;
     let run = Run {
         command: "id",
-        values: &[key],
-        lines: &[(2624, false)],
+        lines: &[(key, false)],
         answer: true,
         written: written.as_slice(),
         every,
@@ -215,16 +182,13 @@ fn failing_devices_of_id(rt: HostRuntime) -> Result<(), Fail> {
     Ok(())
 }
 
-/// `keygen` at set 44 with devices of one byte a call, which fail at each call in turn (of long inputs and
-/// outputs at a choice of calls), and with the input ended there: the fault, with nothing written, or the
-/// bytes of the calls before a failed write.
+/// `keygen` in the same way.
 #[test]
 fn failing_devices_of_keygen(rt: HostRuntime) -> Result<(), Fail> {
     let written = hex_lines(rt.alloc(), &[&public_44(), &private_44()])?;
     let run = Run {
         command: "keygen",
-        values: &[&[7; 32]],
-        lines: &[(64, false)],
+        lines: &[(&[7; 32], false)],
         answer: true,
         written: written.as_slice(),
         every: false,
@@ -233,17 +197,19 @@ fn failing_devices_of_keygen(rt: HostRuntime) -> Result<(), Fail> {
     Ok(())
 }
 
-/// `sign` at set 44 with devices of one byte a call, which fail at each call in turn (of long inputs and
-/// outputs at a choice of calls), and with the input ended there: the fault, with nothing written, or the
-/// bytes of the calls before a failed write.
+/// `sign` in the same way.
 #[test]
 fn failing_devices_of_sign(rt: HostRuntime) -> Result<(), Fail> {
     let key = private_44();
     let written = hex_lines(rt.alloc(), &[&signature_44()])?;
     let run = Run {
         command: "sign",
-        values: &[&key, &[7; 32], b"context", b"message"],
-        lines: &[(5120, false), (64, false), (14, true), (14, true)],
+        lines: &[
+            (&key, false),
+            (&[7; 32], false),
+            (b"context", true),
+            (b"message", true),
+        ],
         answer: true,
         written: written.as_slice(),
         every: false,
@@ -252,16 +218,18 @@ fn failing_devices_of_sign(rt: HostRuntime) -> Result<(), Fail> {
     Ok(())
 }
 
-/// `verify` at set 44 with devices of one byte a call, which fail at each call in turn (of long inputs and
-/// outputs at a choice of calls), and with the input ended there: the fault, with nothing written, or the
-/// bytes of the calls before a failed write.
+/// `verify` in the same way.
 #[test]
 fn failing_devices_of_verify(rt: HostRuntime) -> Result<(), Fail> {
     let (key, signature) = (public_44(), signature_44());
     let run = Run {
         command: "verify",
-        values: &[&key, &signature, b"context", b"message"],
-        lines: &[(2624, false), (4840, false), (14, true), (14, true)],
+        lines: &[
+            (&key, false),
+            (&signature, false),
+            (b"context", true),
+            (b"message", true),
+        ],
         answer: true,
         written: b"yes\n",
         every: false,
@@ -275,12 +243,11 @@ fn run_of_check(
     alloc: Global,
     seeds: [[u8; 32]; 2],
     message: &[u8],
-    digits: usize,
 ) -> Result<[Option<usize>; 3], AllocError> {
+    let [xi, rnd] = seeds;
     let run = Run {
         command: "check",
-        values: &[&seeds[0], &seeds[1], &[], message],
-        lines: &[(64, false), (64, false), (0, true), (digits, true)],
+        lines: &[(&xi, false), (&rnd, false), (&[], true), (message, true)],
         answer: true,
         written: b"yes\n",
         every: true,
@@ -288,56 +255,50 @@ fn run_of_check(
     first_wrong(alloc, run)
 }
 
-/// `check` at set 44 with devices of one byte a call, which fail at each call in turn (of long inputs and
-/// outputs at a choice of calls), and with the input ended there: the fault, with nothing written, or the
-/// bytes of the calls before a failed write.
+/// `check` in the same way, at every call.
 #[test]
 fn failing_devices_of_check(rt: HostRuntime) -> Result<(), Fail> {
-    assert_eq!(rt; run_of_check(rt.alloc(), [[0; 32]; 2], &[0], 2)?, [None; 3]);
+    assert_eq!(rt; run_of_check(rt.alloc(), [[0; 32]; 2], &[0])?, [None; 3]);
     assert_eq!(rt;
-        run_of_check(rt.alloc(), [[7; 32], [9; 32]], b"message", 14)?,
+        run_of_check(rt.alloc(), [[7; 32], [9; 32]], b"message")?,
         [None; 3]
     );
     Ok(())
 }
 
-/// `batch` at set 44 with devices of one byte a call, which fail at each call in turn (of long inputs and
-/// outputs at a choice of calls), and with the input ended there: the fault, with nothing written, or the
-/// bytes of the calls before a failed write.
+/// A run of `batch` on two entries, or one.
+fn run_of_batch(alloc: Global, two: bool) -> Result<[Option<usize>; 3], AllocError> {
+    let (key, good, bad) = (public_44(), signature_44(), refused_44());
+    let count = [0, if two { 2 } else { 1 }];
+    let lines = [
+        (key.as_slice(), false),
+        (b"context", true),
+        (&count, false),
+        (&good, false),
+        (b"message", true),
+        (&bad, false),
+        (&[], true),
+    ];
+    let run = Run {
+        command: "batch",
+        lines: if two { &lines } else { &lines[..5] },
+        answer: !two,
+        written: if two { b"yes\nno\n" } else { b"yes\n" },
+        every: false,
+    };
+    first_wrong(alloc, run)
+}
+
+/// `batch` of one entry in the same way.
 #[test]
 fn failing_devices_of_batch(rt: HostRuntime) -> Result<(), Fail> {
-    let (key, good, bad) = (public_44(), signature_44(), refused_44());
-    let run = Run {
-        command: "batch",
-        values: &[&key, b"context", &[0, 2], &good, b"message", &bad, &[]],
-        lines: &[
-            (2624, false),
-            (14, true),
-            (4, false),
-            (4840, false),
-            (14, true),
-            (4840, false),
-            (0, true),
-        ],
-        answer: false,
-        written: b"yes\nno\n",
-        every: false,
-    };
-    assert_eq!(rt; first_wrong(rt.alloc(), run)?, [None; 3]);
-    let run = Run {
-        command: "batch",
-        values: &[&key, b"context", &[0, 1], &good, b"message"],
-        lines: &[
-            (2624, false),
-            (14, true),
-            (4, false),
-            (4840, false),
-            (14, true),
-        ],
-        answer: true,
-        written: b"yes\n",
-        every: false,
-    };
-    assert_eq!(rt; first_wrong(rt.alloc(), run)?, [None; 3]);
+    assert_eq!(rt; run_of_batch(rt.alloc(), false)?, [None; 3]);
+    Ok(())
+}
+
+/// `batch` of two entries in the same way.
+#[test]
+fn failing_devices_of_two_entries(rt: HostRuntime) -> Result<(), Fail> {
+    assert_eq!(rt; run_of_batch(rt.alloc(), true)?, [None; 3]);
     Ok(())
 }

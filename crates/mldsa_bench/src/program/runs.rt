@@ -8,28 +8,23 @@ use mldsa_engine::{Marked, RunFault, from_words};
 use std::alloc::{AllocError, Global};
 use std::io::{Read, Write};
 
-/// The words of a call, as the program gets them: its streams, its command and its set.
-pub fn words(alloc: Global, call: [&str; 3]) -> Result<Vec<String>, AllocError> {
-    let mut words = Vec::new(alloc);
-    for word in call {
-        words.push(String::from_str(alloc, word)?)?;
-    }
-    Ok(words)
-}
-
-/// What the program answers to these words.
-pub fn answer_of<I: Read, O: Write>(
+/// What the program returns for a call: its streams, its command and its set.
+fn answer_of<I: Read, O: Write>(
     alloc: Global,
-    words: &[String],
+    call: [&str; 3],
     input: &mut Marked<I>,
     output: &mut Marked<O>,
 ) -> Result<bool, RunFault>
     requires { (input.old.failed ≡ false) × (output.old.failed ≡ false) }
 {
-    from_words(alloc, words, input, output)
+    let mut words = Vec::new(alloc);
+    for word in call {
+        words.push(String::from_str(alloc, word)?)?;
+    }
+    from_words(alloc, words.as_slice(), input, output)
 }
 
-/// What a run answered and did to its devices.
+/// What a run returned and did to its devices.
 #[derive(Drop)]
 pub struct Outcome {
     pub answer: Result<bool, RunFault>,
@@ -59,14 +54,13 @@ pub const WHOLE: Manner = Manner {
 /// Devices that move a byte a call, and never fail.
 pub const BY_BYTES: Manner = Manner { most: 1, ..WHOLE };
 
-/// A run of a command on these bytes.
+/// A run of a call on these bytes.
 pub fn run_of(
     alloc: Global,
     manner: Manner,
     call: [&str; 3],
     bytes: &[u8],
 ) -> Result<Outcome, AllocError> {
-    let words = words(alloc, call)?;
     let mut input = Marked::new(Trickle {
         bytes,
         most: manner.most,
@@ -79,7 +73,7 @@ pub fn run_of(
         calls: 0,
         fails_at: manner.write_fails,
     });
-    let answer = answer_of(alloc, words.as_slice(), &mut input, &mut output);
+    let answer = answer_of(alloc, call, &mut input, &mut output);
     let (read_failed, write_failed) = (input.failed(), output.failed());
     let reader = input.into_device();
     let writer = output.into_device();
@@ -92,16 +86,6 @@ pub fn run_of(
         read_failed,
         write_failed,
     })
-}
-
-/// These lines, each ended by LF.
-pub fn text_lines(alloc: Global, lines: &[&str]) -> Result<Vec<u8>, AllocError> {
-    let mut bytes = Vec::new(alloc);
-    for line in lines {
-        bytes.extend_from_slice(line.as_bytes())?;
-        bytes.push(b'\n')?;
-    }
-    Ok(bytes)
 }
 
 /// Whether an outcome has this answer, wrote these bytes in so many calls, and has no device that failed.
@@ -118,48 +102,38 @@ pub fn is_as(
         && !outcome.write_failed
 }
 
-/// How many bytes a run leaves unread that answers so and writes these bytes; none for any other run.
-pub fn unread_after(
+/// What a run returns, whether it writes these bytes, and how many bytes it leaves unread.
+pub fn told(
     alloc: Global,
     call: [&str; 3],
     bytes: &[u8],
-    answer: Result<bool, RunFault>,
     written: &[u8],
-) -> Option<usize> {
-    let Ok(outcome) = run_of(alloc, WHOLE, call, bytes) else {
-        return None;
-    };
-    if outcome.answer == answer && outcome.written.as_slice() == written {
-        Some(outcome.unread)
-    } else {
-        None
+) -> Result<(Result<bool, RunFault>, bool, usize), AllocError> {
+    let outcome = run_of(alloc, WHOLE, call, bytes)?;
+    Ok((
+        outcome.answer,
+        outcome.written.as_slice() == written,
+        outcome.unread,
+    ))
+}
+
+/// These lines, each ended by LF.
+pub fn text_lines(alloc: Global, lines: &[&str]) -> Result<Vec<u8>, AllocError> {
+    let mut bytes = Vec::new(alloc);
+    for line in lines {
+        bytes.extend_from_slice(line.as_bytes())?;
+        bytes.push(b'\n')?;
     }
-}
-
-/// Whether a run answers so and writes these bytes.
-pub fn ends(
-    alloc: Global,
-    call: [&str; 3],
-    bytes: &[u8],
-    answer: Result<bool, RunFault>,
-    written: &[u8],
-) -> bool {
-    unread_after(alloc, call, bytes, answer, written).is_some()
-}
-
-/// So many copies of a digit, then LF.
-pub fn line_of(alloc: Global, digit: u8, digits: usize) -> Result<Vec<u8>, AllocError> {
-    let mut line = vec![in alloc; digit; digits]?;
-    line.push(b'\n')?;
-    Ok(line)
+    Ok(bytes)
 }
 
 /// Lines, each of so many copies of a digit.
 pub fn digit_lines(alloc: Global, lines: &[(u8, usize)]) -> Result<Vec<u8>, AllocError> {
     let mut bytes = Vec::new(alloc);
     for (digit, digits) in lines {
-        let line = line_of(alloc, *digit, *digits)?;
+        let line = vec![in alloc; *digit; *digits]?;
         bytes.extend_from_slice(line.as_slice())?;
+        bytes.push(b'\n')?;
     }
     Ok(bytes)
 }
