@@ -1,8 +1,8 @@
 //! The inverse transform over numbers whose sums are noted: how large they grow before they are reduced.
 #![tactic(auto)]
 
-ghost use Rattle.std.specs.Prelude.{◌≡◌, ◌≤◌, ◌∷◌, [], nat_abs};
-ghost use Rattle.fips204_base.specs.Lanes.{LanesWithin};
+ghost use Rattle.std.specs.Prelude.{◌≡◌, ◌<◌, ◌≤◌, ◌∷◌, [], ℕ, nat_abs};
+ghost use Rattle.fips204_base.specs.Lanes.{lane, LanesWithin};
 
 use fips204::helpers::Count;
 use fips204::ntt::{Residue, inv_ntt};
@@ -75,12 +75,24 @@ impl Residue for Noted {
     }
 }
 
+/// A number below `q` in absolute value.
+fn noted(number: i32) -> Noted
+    requires { nat_abs number ≤ 8380416 }
+    ensures { (j : ℕ) → j < 1 → nat_abs (lane (result.number ∷ []) j) ≤ 8380416 }
+{
+    Noted { number }
+}
+
 /// 256 times this number.
 fn row_of(number: i32) -> [Noted; 256]
     requires { nat_abs number ≤ 8380416 }
     ensures { LanesWithin (λ x. x.number ∷ []) 1 8380416 result }
 {
-    [Noted { number }; 256]
+    let mut out = [Noted { number: 0 }; 256];
+    for n in 0..256usize {
+        out[n] = noted(number);
+    }
+    out
 }
 
 /// The largest sum or difference in the inverse transform of such a row.

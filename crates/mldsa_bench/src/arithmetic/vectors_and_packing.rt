@@ -1,6 +1,9 @@
 //! Sums of vectors, packing of fields from 0 on, the small vectors of a key, and the parts of a signature.
 #![tactic(auto, unfolding(fips204_base::specs::Packing::bit_length))]
 
+ghost use Rattle.std.specs.Prelude.{◌≤◌, nat_abs};
+ghost use Rattle.std.specs.List.{All};
+
 use crate::arithmetic::hint_parts::{MANY_PLACES, ones_of, part_of};
 use crate::values::constant_streams::signature_44;
 use crate::values::counter_44;
@@ -13,12 +16,27 @@ use fips204::types::R;
 use fips204::xof::Fill;
 use std::test::Fail;
 
+/// The polynomial whose coefficients are all this one.
+fn small(x: i32) -> [i32; 256]
+    requires { nat_abs x ≤ 1073741823 }
+    ensures { All (λ y. nat_abs y ≤ 1073741823) result }
+{
+    [x; 256]
+}
+
+/// The sum of two vectors of one polynomial.
+fn sum_of(a: [i32; 256], b: [i32; 256]) -> [i32; 256]
+    requires first { All (λ x. nat_abs x ≤ 1073741823) a }
+    requires second { All (λ x. nat_abs x ≤ 1073741823) b }
+{
+    add_vector_ntt(&[R(a)], &[R(b)])[0].0
+}
+
 /// `add_vector_ntt` of 1 and 2, and of -7 and 4.
 #[test]
 fn sums_of_vectors(rt: HostRuntime) {
-    let [first, second] = add_vector_ntt(&[R([1; 256]), R([-7; 256])], &[R([2; 256]), R([4; 256])]);
-    assert!(rt; first.0 == [3; 256]);
-    assert!(rt; second.0 == [-3; 256]);
+    assert!(rt; sum_of(small(1), small(2)) == [3; 256]);
+    assert!(rt; sum_of(small(-7), small(4)) == [-3; 256]);
 }
 
 /// 256 times 1023 packs to 320 bytes FF, and back.

@@ -70,8 +70,7 @@ fn fault_of(
     Ok(if nothing { answer.err() } else { None })
 }
 
-/// 2622 digits: `wants 1312 bytes, has 1311`; 63: `not hex`; 62: `wants 1312 bytes, has 31`; an empty line. 2097153
-/// characters are `too long`, digits or not; 2097152 are `not hex`, or `wants 1312 bytes, has 1048576`.
+/// 2622 digits: `wants 1312 bytes, has 1311`; 63: `not hex`; 62: `wants 1312 bytes, has 31`; an empty line.
 #[test]
 fn keys_of_other_lengths(rt: HostRuntime) -> Result<(), Fail> {
     let length = |has| RunFault::Length {
@@ -79,15 +78,30 @@ fn keys_of_other_lengths(rt: HostRuntime) -> Result<(), Fail> {
         wants: 1312,
         has,
     };
+    for (count, fault) in [
+        (2622usize, length(1311)),
+        (63, RunFault::NotHex { line: 1 }),
+        (62, length(31)),
+        (0, length(0)),
+    ] {
+        assert_eq!(rt; fault_of(rt.alloc(), ID, (b'0', count))?, Some(fault));
+    }
+    Ok(())
+}
+
+/// 2097153 characters are `too long`, digits or not; 2097152 are `not hex`, or `wants 1312 bytes, has 1048576`.
+#[test]
+fn lines_at_the_longest(rt: HostRuntime) -> Result<(), Fail> {
+    let length = RunFault::Length {
+        line: 1,
+        wants: 1312,
+        has: 1048576,
+    };
     for (character, count, fault) in [
-        (b'0', 2622usize, length(1311)),
-        (b'0', 63, RunFault::NotHex { line: 1 }),
-        (b'0', 62, length(31)),
-        (b'0', 0, length(0)),
-        (b'g', 2097153, RunFault::TooLong { line: 1 }),
+        (b'g', 2097153usize, RunFault::TooLong { line: 1 }),
         (b'0', 2097153, RunFault::TooLong { line: 1 }),
         (b'g', 2097152, RunFault::NotHex { line: 1 }),
-        (b'0', 2097152, length(1048576)),
+        (b'0', 2097152, length),
     ] {
         assert_eq!(rt; fault_of(rt.alloc(), ID, (character, count))?, Some(fault));
     }

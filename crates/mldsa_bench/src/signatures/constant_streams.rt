@@ -114,23 +114,11 @@ fn first_wrong_of<S: TestSet>() -> Result<[[Option<usize>; 2]; 2], Fault> {
     ])
 }
 
-/// The signature of set 44 over constant streams, byte for byte, by every call of plain and prepared keys,
+/// The signature of each set over constant streams, byte for byte, by every call of plain and prepared keys,
 /// with given and drawn bytes; contexts of 255 to 257 bytes; each condition on a digest.
 #[test]
-fn signatures_of_set_44(rt: HostRuntime) {
+fn signatures_of_each_set(rt: HostRuntime) {
     assert_eq!(rt; first_wrong_of::<Constant44>(), Ok([[None; 2]; 2]));
-}
-
-/// The signature of set 65 over constant streams, byte for byte, by every call of plain and prepared keys,
-/// with given and drawn bytes; contexts of 255 to 257 bytes; each condition on a digest.
-#[test]
-fn signatures_of_set_65(rt: HostRuntime) {
     assert_eq!(rt; first_wrong_of::<Constant65>(), Ok([[None; 2]; 2]));
-}
-
-/// The signature of set 87 over constant streams, byte for byte, by every call of plain and prepared keys,
-/// with given and drawn bytes; contexts of 255 to 257 bytes; each condition on a digest.
-#[test]
-fn signatures_of_set_87(rt: HostRuntime) {
     assert_eq!(rt; first_wrong_of::<Constant87>(), Ok([[None; 2]; 2]));
 }
