@@ -76,7 +76,7 @@ impl Residue for Noted {
 }
 
 /// A number below `q` in absolute value.
-fn noted(number: i32) -> Noted
+fn bounded(number: i32) -> Noted
     requires { nat_abs number ≤ 8380416 }
     ensures { (j : ℕ) → j < 1 → nat_abs (lane (result.number ∷ []) j) ≤ 8380416 }
 {
@@ -90,7 +90,7 @@ fn row_of(number: i32) -> [Noted; 256]
 {
     let mut out = [Noted { number: 0 }; 256];
     for n in 0..256usize {
-        out[n] = noted(number);
+        out[n] = bounded(number);
     }
     out
 }

@@ -175,7 +175,13 @@ pub fn is_same<T: PartialEq + Drop>(answer: Result<T, Fault>, wanted: &T) -> Res
 }
 
 /// A set's keys and signature over constant streams, and the call that only it has.
-pub trait Row<const K: usize, const L: usize>: Set {
+pub trait Row<H, G>: Set {
+    /// A public key.
+    type Public;
+
+    /// A private key.
+    type Private;
+
     /// The public key where every byte of `H` is 55 and every byte of `G` is 00.
     fn public() -> Self::PublicKey;
 
@@ -186,12 +192,14 @@ pub trait Row<const K: usize, const L: usize>: Set {
     fn signature() -> Self::Signature;
 
     /// Both keys of what a generator returns, by the function of the set.
-    fn drawn_pair<H: Xof, G: Xof, R: CryptoRngCore>(
-        rng: &mut R,
-    ) -> Result<(PublicKey<K, L, H, G>, PrivateKey<K, L, H, G>), Fault>;
+    fn drawn_pair<R: CryptoRngCore>(rng: &mut R) -> Result<(Self::Public, Self::Private), Fault>;
 }
 
-impl Row<4, 4> for MlDsa44 {
+impl<H: Xof, G: Xof> Row<H, G> for MlDsa44 {
+    type Public = ml_dsa_44::PublicKey<H, G>;
+
+    type Private = ml_dsa_44::PrivateKey<H, G>;
+
     fn public() -> [u8; 1312] {
         constant::public_44()
     }
@@ -204,14 +212,18 @@ impl Row<4, 4> for MlDsa44 {
         constant::signature_44()
     }
 
-    fn drawn_pair<H: Xof, G: Xof, R: CryptoRngCore>(
+    fn drawn_pair<R: CryptoRngCore>(
         rng: &mut R,
-    ) -> Result<(PublicKey<4, 4, H, G>, PrivateKey<4, 4, H, G>), Fault> {
+    ) -> Result<(ml_dsa_44::PublicKey<H, G>, ml_dsa_44::PrivateKey<H, G>), Fault> {
         ml_dsa_44::try_keygen_with_rng::<H, G, R>(rng)
     }
 }
 
-impl Row<6, 5> for MlDsa65 {
+impl<H: Xof, G: Xof> Row<H, G> for MlDsa65 {
+    type Public = ml_dsa_65::PublicKey<H, G>;
+
+    type Private = ml_dsa_65::PrivateKey<H, G>;
+
     fn public() -> [u8; 1952] {
         constant::public_65()
     }
@@ -224,14 +236,18 @@ impl Row<6, 5> for MlDsa65 {
         constant::signature_65()
     }
 
-    fn drawn_pair<H: Xof, G: Xof, R: CryptoRngCore>(
+    fn drawn_pair<R: CryptoRngCore>(
         rng: &mut R,
-    ) -> Result<(PublicKey<6, 5, H, G>, PrivateKey<6, 5, H, G>), Fault> {
+    ) -> Result<(ml_dsa_65::PublicKey<H, G>, ml_dsa_65::PrivateKey<H, G>), Fault> {
         ml_dsa_65::try_keygen_with_rng::<H, G, R>(rng)
     }
 }
 
-impl Row<8, 7> for MlDsa87 {
+impl<H: Xof, G: Xof> Row<H, G> for MlDsa87 {
+    type Public = ml_dsa_87::PublicKey<H, G>;
+
+    type Private = ml_dsa_87::PrivateKey<H, G>;
+
     fn public() -> [u8; 2592] {
         constant::public_87()
     }
@@ -244,9 +260,9 @@ impl Row<8, 7> for MlDsa87 {
         constant::signature_87()
     }
 
-    fn drawn_pair<H: Xof, G: Xof, R: CryptoRngCore>(
+    fn drawn_pair<R: CryptoRngCore>(
         rng: &mut R,
-    ) -> Result<(PublicKey<8, 7, H, G>, PrivateKey<8, 7, H, G>), Fault> {
+    ) -> Result<(ml_dsa_87::PublicKey<H, G>, ml_dsa_87::PrivateKey<H, G>), Fault> {
         ml_dsa_87::try_keygen_with_rng::<H, G, R>(rng)
     }
 }
@@ -368,7 +384,8 @@ where
         PublicKey = [u8; PK_LEN],
         PrivateKey = [u8; SK_LEN],
     >,
-    S: SignatureSizes<K, L, N, SIG_LEN> + KeySizes<K, L, PK_LEN, SK_LEN> + Row<K, L>,
+    S: SignatureSizes<K, L, N, SIG_LEN> + KeySizes<K, L, PK_LEN, SK_LEN>,
+    S: Row<H, G, Public = PublicKey<K, L, H, G>, Private = PrivateKey<K, L, H, G>>,
 {
     type Signature = [u8; SIG_LEN];
 
@@ -422,7 +439,7 @@ where
     ) -> Result<(Self::Public, Self::Private), Fault> {
         match call {
             PairCall::OfTrait => KG::<K, L, H, G>::try_keygen_with_rng(rng),
-            PairCall::OfSet => S::drawn_pair::<H, G, R>(rng),
+            PairCall::OfSet => S::drawn_pair::<R>(rng),
             PairCall::Shared => ml_dsa::key_gen::<K, L, PK_LEN, H, G, R>(&S::params(), rng),
         }
     }

@@ -12,15 +12,13 @@ use mldsa_engine::RunFault;
 use std::alloc::{AllocError, Global};
 use std::test::Fail;
 
-/// A line of an input: its bytes, and whether the command takes any other number of them.
-type Line<'a> = (&'a [u8], bool);
-
-/// A command with its lines, and what it returns and writes over `fill55` at set 44; and whether every call and every
-/// end is tried.
+/// A command with the bytes of its lines, and for each line whether it may have any number of bytes; what it returns and
+/// writes over `fill55` at set 44; and whether every call and every end is tried.
 #[derive(Clone, Copy)]
 struct Run<'a> {
     command: &'a str,
-    lines: &'a [Line<'a>],
+    values: &'a [&'a [u8]],
+    any: &'a [bool],
     answer: bool,
     written: &'a [u8],
     every: bool,
@@ -28,11 +26,11 @@ struct Run<'a> {
 
 /// The fault of an input of these lines that is cut after so many characters, or none where the last line
 /// is good.
-fn fault_of_cut(lines: &[Line], cut: usize) -> Option<RunFault> {
+fn fault_of_cut(values: &[&[u8]], any: &[bool], cut: usize) -> Option<RunFault> {
     let mut left = cut;
     let mut line = 1usize;
-    for (bytes, any) in lines {
-        let wants = bytes.len();
+    for (value, any) in values.iter().zip(any) {
+        let wants = value.len();
         let digits = wants.wrapping_mul(2);
         if left == 0 {
             return Some(RunFault::Missing { line });
@@ -120,7 +118,7 @@ fn ends_early(
     requires { ended ≤ length bytes.now }
 {
     let bytes = &bytes[..ended];
-    match fault_of_cut(run.lines, ended) {
+    match fault_of_cut(run.values, run.any, ended) {
         Some(fault) => Ok(is_as(&outcome_of(alloc, run, manner, bytes)?, Err(fault), b"", 0)),
         None => passes(alloc, run, manner, bytes),
     }
@@ -129,10 +127,7 @@ fn ends_early(
 /// The first call of the reader, the first of the writer, and the first end of the input whose outcome is wrong, of
 /// those that are tried; each end of the input is tried also by devices that move all that is asked for.
 fn first_wrong(alloc: Global, run: Run) -> Result<[Option<usize>; 3], AllocError> {
-    let mut input = Vec::new(alloc);
-    for (bytes, _) in run.lines {
-        input.extend_from_slice(hex_lines(alloc, &[*bytes])?.as_slice())?;
-    }
+    let input = hex_lines(alloc, run.values)?;
     let input = input.as_slice();
     let mut wrong = [None; 3];
     for call in 0..=input.len() {
@@ -164,7 +159,8 @@ fn run_of_id(
     let written = hex_lines(alloc, &[key, &[0x55; 64]])?;
     let run = Run {
         command: "id",
-        lines: &[(key, false)],
+        values: &[key],
+        any: &[false],
         answer: true,
         written: written.as_slice(),
         every,
@@ -188,7 +184,8 @@ fn failing_devices_of_keygen(rt: HostRuntime) -> Result<(), Fail> {
     let written = hex_lines(rt.alloc(), &[&public_44(), &private_44()])?;
     let run = Run {
         command: "keygen",
-        lines: &[(&[7; 32], false)],
+        values: &[&[7; 32]],
+        any: &[false],
         answer: true,
         written: written.as_slice(),
         every: false,
@@ -204,12 +201,8 @@ fn failing_devices_of_sign(rt: HostRuntime) -> Result<(), Fail> {
     let written = hex_lines(rt.alloc(), &[&signature_44()])?;
     let run = Run {
         command: "sign",
-        lines: &[
-            (&key, false),
-            (&[7; 32], false),
-            (b"context", true),
-            (b"message", true),
-        ],
+        values: &[&key, &[7; 32], b"context", b"message"],
+        any: &[false, false, true, true],
         answer: true,
         written: written.as_slice(),
         every: false,
@@ -224,12 +217,8 @@ fn failing_devices_of_verify(rt: HostRuntime) -> Result<(), Fail> {
     let (key, signature) = (public_44(), signature_44());
     let run = Run {
         command: "verify",
-        lines: &[
-            (&key, false),
-            (&signature, false),
-            (b"context", true),
-            (b"message", true),
-        ],
+        values: &[&key, &signature, b"context", b"message"],
+        any: &[false, false, true, true],
         answer: true,
         written: b"yes\n",
         every: false,
@@ -244,10 +233,10 @@ fn run_of_check(
     seeds: [[u8; 32]; 2],
     message: &[u8],
 ) -> Result<[Option<usize>; 3], AllocError> {
-    let [xi, rnd] = seeds;
     let run = Run {
         command: "check",
-        lines: &[(&xi, false), (&rnd, false), (&[], true), (message, true)],
+        values: &[&seeds[0], &seeds[1], &[], message],
+        any: &[false, false, true, true],
         answer: true,
         written: b"yes\n",
         every: true,
@@ -266,39 +255,34 @@ fn failing_devices_of_check(rt: HostRuntime) -> Result<(), Fail> {
     Ok(())
 }
 
-/// A run of `batch` on two entries, or one.
-fn run_of_batch(alloc: Global, two: bool) -> Result<[Option<usize>; 3], AllocError> {
-    let (key, good, bad) = (public_44(), signature_44(), refused_44());
-    let count = [0, if two { 2 } else { 1 }];
-    let lines = [
-        (key.as_slice(), false),
-        (b"context", true),
-        (&count, false),
-        (&good, false),
-        (b"message", true),
-        (&bad, false),
-        (&[], true),
-    ];
-    let run = Run {
-        command: "batch",
-        lines: if two { &lines } else { &lines[..5] },
-        answer: !two,
-        written: if two { b"yes\nno\n" } else { b"yes\n" },
-        every: false,
-    };
-    first_wrong(alloc, run)
-}
-
 /// `batch` of one entry in the same way.
 #[test]
 fn failing_devices_of_batch(rt: HostRuntime) -> Result<(), Fail> {
-    assert_eq!(rt; run_of_batch(rt.alloc(), false)?, [None; 3]);
+    let (key, good) = (public_44(), signature_44());
+    let run = Run {
+        command: "batch",
+        values: &[&key, b"context", &[0, 1], &good, b"message"],
+        any: &[false, true, false, false, true],
+        answer: true,
+        written: b"yes\n",
+        every: false,
+    };
+    assert_eq!(rt; first_wrong(rt.alloc(), run)?, [None; 3]);
     Ok(())
 }
 
 /// `batch` of two entries in the same way.
 #[test]
 fn failing_devices_of_two_entries(rt: HostRuntime) -> Result<(), Fail> {
-    assert_eq!(rt; run_of_batch(rt.alloc(), true)?, [None; 3]);
+    let (key, good, bad) = (public_44(), signature_44(), refused_44());
+    let run = Run {
+        command: "batch",
+        values: &[&key, b"context", &[0, 2], &good, b"message", &bad, &[]],
+        any: &[false, true, false, false, true, false, true],
+        answer: false,
+        written: b"yes\nno\n",
+        every: false,
+    };
+    assert_eq!(rt; first_wrong(rt.alloc(), run)?, [None; 3]);
     Ok(())
 }

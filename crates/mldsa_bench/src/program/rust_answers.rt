@@ -39,7 +39,7 @@ fn changed(alloc: Global, bytes: &[u8], at: usize, value: u8) -> Result<Vec<u8>,
 fn run_and_add(
     alloc: Global,
     case: Case,
-    command: &str,
+    command: &'static str,
     values: &[&[u8]],
     digests: &mut Sha256,
 ) -> Result<Vec<u8>, AllocError> {
@@ -103,12 +103,12 @@ fn damage_of(number: u8, length: usize) -> (usize, u8) {
 
 /// Runs `verify`, `check` and `batch` of a case with this key and this signature, some of them damaged or for another
 /// message.
-fn add_judged(
+fn add_judged<'a>(
     alloc: Global,
     case: Case,
-    context: &[u8],
-    public: &[u8],
-    signature: &[u8],
+    context: &'a [u8],
+    public: &'a [u8],
+    signature: &'a [u8],
     digests: &mut Sha256,
 ) -> Result<(), Fail> {
     let (seed, random) = (drawn(case.number, 0), drawn(case.number, 1));

@@ -197,27 +197,54 @@ fn lists_are_signed<S: TestSet>(
     Ok(same)
 }
 
+/// Which signatures of the first messages are accepted under a context, with one call: signature `i` at bit `i`.
+fn verdicts_of_list<S: TestSet>(
+    key: &S::PreparedPublic,
+    signatures: &[S::Signature],
+    ctx: &[u8],
+) -> u8 {
+    let mut bits = 0;
+    for (i, accepted) in S::verify_each(key, signatures, ctx).iter().enumerate() {
+        if *accepted && i < 8 {
+            bits |= 1u8 << i;
+        }
+    }
+    bits
+}
+
 /// Which of the first 0, 1 and 5 signatures are accepted under a context.
 fn verdicts_of_lists<S: TestSet>(
     key: &S::PreparedPublic,
     signatures: &[S::Signature],
     ctx: &[u8],
-) -> [[bool; 5]; 3] {
-    let mut verdicts = [[false; 5]; 3];
+) -> [u8; 3] {
+    let mut verdicts = [0; 3];
     for (i, count) in [0usize, 1, 5].iter().enumerate() {
         let first = signatures.get(..*count).unwrap_or(&[]);
-        verdicts[i] = S::verify_each(key, first, ctx);
+        verdicts[i] = verdicts_of_list::<S>(key, first, ctx);
     }
     verdicts
 }
 
-/// Which signatures of the messages the public key accepts; whether lists of 0, 1 and 5 are signed so; which of such
-/// lists are accepted, and under a context of 256 bytes; and which of five where another bit stands in the third.
-fn lists<S: TestSet>(
-    alloc: Global,
-) -> Result<([bool; 5], [bool; 3], [[[bool; 5]; 3]; 2], [bool; 5]), Fail> {
+/// What lists of messages return at a set.
+#[derive(Clone, Copy, Debug, PartialEq, Eq)]
+struct Lists {
+    /// Whether the public key accepts each signature that a single call makes.
+    single: [bool; 5],
+    /// Whether 0, 1 and 5 messages are signed as by single calls, and refused under a context of 256 bytes.
+    signed: [bool; 3],
+    /// Which of 0, 1 and 5 signatures are accepted.
+    accepted: [u8; 3],
+    /// Which of them under a context of 256 bytes.
+    long: [u8; 3],
+    /// Which of five where another bit stands in the third.
+    spoiled: u8,
+}
+
+/// What lists of messages return at a set.
+fn answers_of<S: TestSet>(alloc: Global) -> Result<Lists, Fail> {
     let (public, private) = S::pair(&[0; 32])?;
-    let (mut signatures, verdicts) = single_calls::<S>(alloc, &public, &private)?;
+    let (mut signatures, single) = single_calls::<S>(alloc, &public, &private)?;
     let signer = S::prepared_private(&private)?;
     let verifier = S::prepared_public(&public)?;
     let signed = lists_are_signed::<S>(alloc, &signer, signatures.as_slice())?;
@@ -226,24 +253,38 @@ fn lists<S: TestSet>(
     if let Some(third) = signatures.as_mut_slice().get_mut(2) {
         *third = S::spoiled(third);
     }
-    let spoiled = S::verify_each(&verifier, signatures.as_slice(), b"context");
-    Ok((verdicts, signed, [accepted, long], spoiled))
+    let spoiled = verdicts_of_list::<S>(&verifier, signatures.as_slice(), b"context");
+    Ok(Lists {
+        single,
+        signed,
+        accepted,
+        long,
+        spoiled,
+    })
 }
 
 /// Lists of 0, 1 and 5 messages under prepared keys, entry by entry as single calls; one changed signature;
 /// a context of 256 bytes.
 #[test]
 fn many_messages_of_each_set(rt: HostRuntime) -> Result<(), Fail> {
-    let accepted = [[false; 5], [true, false, false, false, false], [true; 5]];
-    let verdicts = [accepted, [[false; 5]; 3]];
-    let answer = (
-        [true; 5],
-        [true; 3],
-        verdicts,
-        [true, true, false, true, true],
+    let wanted = Lists {
+        single: [true; 5],
+        signed: [true; 3],
+        accepted: [0, 1, 0b11111],
+        long: [0; 3],
+        spoiled: 0b11011,
+    };
+    assert_eq!(rt;
+        answers_of::<Set44<Sha256Ctr, Sha512Ctr>>(rt.alloc())?,
+        wanted
     );
-    assert_eq!(rt; lists::<Set44<Sha256Ctr, Sha512Ctr>>(rt.alloc())?, answer);
-    assert_eq!(rt; lists::<Set65<Sha256Ctr, Sha512Ctr>>(rt.alloc())?, answer);
-    assert_eq!(rt; lists::<Set87<Sha256Ctr, Sha512Ctr>>(rt.alloc())?, answer);
+    assert_eq!(rt;
+        answers_of::<Set65<Sha256Ctr, Sha512Ctr>>(rt.alloc())?,
+        wanted
+    );
+    assert_eq!(rt;
+        answers_of::<Set87<Sha256Ctr, Sha512Ctr>>(rt.alloc())?,
+        wanted
+    );
     Ok(())
 }

@@ -1,7 +1,7 @@
 use Rattle.std.proofs.Common.{ℤ, ◌≤◌, ◌∷◌, [], nat_abs}
 use Rattle.std.proofs.lemmas.List.Elements.{All-replicate}
 use Rattle.fips204_base.proofs.Residues.{size_at}
-use Rattle.mldsa_bench.proofs.arithmetic.noted_sums.noted.Goals as goal
+use Rattle.mldsa_bench.proofs.arithmetic.noted_sums.bounded.Goals as goal
 
 pub returns : goal.returns
 returns c = λ j h. size_at 8380416 (c.args.number ∷ []) j (All-replicate (λ (y : ℤ). nat_abs y ≤ 8380416) 1 c.args.number c.requires)
