@@ -103,41 +103,55 @@ fn damage_of(number: u8, length: usize) -> (usize, u8) {
 
 /// Runs `verify`, `check` and `batch` of a case with this key and this signature, some of them damaged or for another
 /// message.
-fn add_judged<'a>(
+fn add_judged(
     alloc: Global,
     case: Case,
-    context: &'a [u8],
-    public: &'a [u8],
-    signature: &'a [u8],
+    context: &[u8],
+    public: &[u8],
+    signature: &[u8],
     digests: &mut Sha256,
 ) -> Result<(), Fail> {
     let (seed, random) = (drawn(case.number, 0), drawn(case.number, 1));
     let text = drawn(case.number, 2);
     let (damage, value) = damage_of(case.number, signature.len());
+    // What stands in a list of lines is owned here.
+    let (public, context) = (
+        Vec::from_slice(alloc, public)?,
+        Vec::from_slice(alloc, context)?,
+    );
+    let made = Vec::from_slice(alloc, signature)?;
     let other = changed(alloc, signature, damage, value)?;
-    let (other, message) = (other.as_slice(), &text[..usize::from(case.number).min(32)]);
+    let message = Vec::from_slice(alloc, &text[..usize::from(case.number).min(32)])?;
     let spoken = if case.number % 6 == 2 {
-        &random
+        Vec::from_slice(alloc, &random)?
     } else {
-        message
+        Vec::from_slice(alloc, message.as_slice())?
     };
-    run_and_add(
-        alloc,
-        case,
-        "verify",
-        &[public, other, context, spoken],
-        digests,
-    )?;
-    run_and_add(
-        alloc,
-        case,
-        "check",
-        &[&seed, &random, context, message],
-        digests,
-    )?;
+    let lines = [
+        public.as_slice(),
+        other.as_slice(),
+        context.as_slice(),
+        spoken.as_slice(),
+    ];
+    run_and_add(alloc, case, "verify", &lines, digests)?;
+    let lines = [
+        seed.as_slice(),
+        random.as_slice(),
+        context.as_slice(),
+        message.as_slice(),
+    ];
+    run_and_add(alloc, case, "check", &lines, digests)?;
     // Their number says how many of the two entries are read.
     let count = [0, case.number % 3];
-    let lines = [public, context, &count, signature, message, other, spoken];
+    let lines = [
+        public.as_slice(),
+        context.as_slice(),
+        count.as_slice(),
+        made.as_slice(),
+        message.as_slice(),
+        other.as_slice(),
+        spoken.as_slice(),
+    ];
     run_and_add(alloc, case, "batch", &lines, digests)?;
     Ok(())
 }
