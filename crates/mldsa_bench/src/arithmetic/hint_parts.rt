@@ -60,7 +60,13 @@ fn has_ones(hint: &[R; 4], places: [&[u8]; 4]) -> bool {
 
 /// How many ones each polynomial of a hint has.
 pub fn ones_of(hint: &[R; 4]) -> [usize; 4] {
-    hint.map(|w| w.0.iter().filter(|x| **x == 1).count())
+    let mut ones = [0; 4];
+    for r in 0..4usize {
+        for x in &hint[r].0 {
+            ones[r] = usize::from(*x == 1).wrapping_add(ones[r]);
+        }
+    }
+    ones
 }
 
 /// Whether a part with these places and counts spells a hint with so many ones, and is packed again as it was.

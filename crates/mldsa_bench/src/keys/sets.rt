@@ -174,7 +174,7 @@ pub fn is_same<T: PartialEq + Drop>(answer: Result<T, Fault>, wanted: &T) -> Res
     }
 }
 
-/// A set's keys and signature over constant streams, and the call that only it has.
+/// A set's keys and signature where every byte of `H` is 55 and every byte of `G` is 00, and the call that only it has.
 pub trait Row<H, G>: Set {
     /// A public key.
     type Public;
@@ -182,14 +182,27 @@ pub trait Row<H, G>: Set {
     /// A private key.
     type Private;
 
-    /// The public key where every byte of `H` is 55 and every byte of `G` is 00.
-    fn public() -> Self::PublicKey;
-
-    /// The private key.
-    fn private() -> Self::PrivateKey;
-
     /// The signature.
     fn signature() -> Self::Signature;
+
+    /// The public key, of its bytes.
+    fn public() -> Result<Self::Public, Fault>;
+
+    /// The private key, of its bytes.
+    fn private() -> Result<Self::Private, Fault>;
+
+    /// Whether a public key has these bytes.
+    fn is_public(key: Self::Public) -> bool;
+
+    /// Whether a private key has these bytes.
+    fn is_private(key: Self::Private) -> bool;
+
+    /// The bytes of both keys.
+    fn key_bytes(
+        alloc: Global,
+        public: Self::Public,
+        private: Self::Private,
+    ) -> Result<[Vec<u8>; 2], AllocError>;
 
     /// Both keys of what a generator returns, by the function of the set.
     fn drawn_pair<R: CryptoRngCore>(rng: &mut R) -> Result<(Self::Public, Self::Private), Fault>;
@@ -200,16 +213,33 @@ impl<H: Xof, G: Xof> Row<H, G> for MlDsa44 {
 
     type Private = ml_dsa_44::PrivateKey<H, G>;
 
-    fn public() -> [u8; 1312] {
-        constant::public_44()
-    }
-
-    fn private() -> [u8; 2560] {
-        constant::private_44()
-    }
-
     fn signature() -> [u8; 2420] {
         constant::signature_44()
+    }
+
+    fn public() -> Result<ml_dsa_44::PublicKey<H, G>, Fault> {
+        ml_dsa_44::PublicKey::<H, G>::try_from_bytes(constant::public_44())
+    }
+
+    fn private() -> Result<ml_dsa_44::PrivateKey<H, G>, Fault> {
+        ml_dsa_44::PrivateKey::<H, G>::try_from_bytes(constant::private_44())
+    }
+
+    fn is_public(key: ml_dsa_44::PublicKey<H, G>) -> bool {
+        key.into_bytes() == constant::public_44()
+    }
+
+    fn is_private(key: ml_dsa_44::PrivateKey<H, G>) -> bool {
+        key.into_bytes() == constant::private_44()
+    }
+
+    fn key_bytes(
+        alloc: Global,
+        public: ml_dsa_44::PublicKey<H, G>,
+        private: ml_dsa_44::PrivateKey<H, G>,
+    ) -> Result<[Vec<u8>; 2], AllocError> {
+        let (pk, sk) = (public.into_bytes(), private.into_bytes());
+        Ok([Vec::from_slice(alloc, &pk)?, Vec::from_slice(alloc, &sk)?])
     }
 
     fn drawn_pair<R: CryptoRngCore>(
@@ -224,16 +254,33 @@ impl<H: Xof, G: Xof> Row<H, G> for MlDsa65 {
 
     type Private = ml_dsa_65::PrivateKey<H, G>;
 
-    fn public() -> [u8; 1952] {
-        constant::public_65()
-    }
-
-    fn private() -> [u8; 4032] {
-        constant::private_65()
-    }
-
     fn signature() -> [u8; 3309] {
         constant::signature_65()
+    }
+
+    fn public() -> Result<ml_dsa_65::PublicKey<H, G>, Fault> {
+        ml_dsa_65::PublicKey::<H, G>::try_from_bytes(constant::public_65())
+    }
+
+    fn private() -> Result<ml_dsa_65::PrivateKey<H, G>, Fault> {
+        ml_dsa_65::PrivateKey::<H, G>::try_from_bytes(constant::private_65())
+    }
+
+    fn is_public(key: ml_dsa_65::PublicKey<H, G>) -> bool {
+        key.into_bytes() == constant::public_65()
+    }
+
+    fn is_private(key: ml_dsa_65::PrivateKey<H, G>) -> bool {
+        key.into_bytes() == constant::private_65()
+    }
+
+    fn key_bytes(
+        alloc: Global,
+        public: ml_dsa_65::PublicKey<H, G>,
+        private: ml_dsa_65::PrivateKey<H, G>,
+    ) -> Result<[Vec<u8>; 2], AllocError> {
+        let (pk, sk) = (public.into_bytes(), private.into_bytes());
+        Ok([Vec::from_slice(alloc, &pk)?, Vec::from_slice(alloc, &sk)?])
     }
 
     fn drawn_pair<R: CryptoRngCore>(
@@ -248,16 +295,33 @@ impl<H: Xof, G: Xof> Row<H, G> for MlDsa87 {
 
     type Private = ml_dsa_87::PrivateKey<H, G>;
 
-    fn public() -> [u8; 2592] {
-        constant::public_87()
-    }
-
-    fn private() -> [u8; 4896] {
-        constant::private_87()
-    }
-
     fn signature() -> [u8; 4627] {
         constant::signature_87()
+    }
+
+    fn public() -> Result<ml_dsa_87::PublicKey<H, G>, Fault> {
+        ml_dsa_87::PublicKey::<H, G>::try_from_bytes(constant::public_87())
+    }
+
+    fn private() -> Result<ml_dsa_87::PrivateKey<H, G>, Fault> {
+        ml_dsa_87::PrivateKey::<H, G>::try_from_bytes(constant::private_87())
+    }
+
+    fn is_public(key: ml_dsa_87::PublicKey<H, G>) -> bool {
+        key.into_bytes() == constant::public_87()
+    }
+
+    fn is_private(key: ml_dsa_87::PrivateKey<H, G>) -> bool {
+        key.into_bytes() == constant::private_87()
+    }
+
+    fn key_bytes(
+        alloc: Global,
+        public: ml_dsa_87::PublicKey<H, G>,
+        private: ml_dsa_87::PrivateKey<H, G>,
+    ) -> Result<[Vec<u8>; 2], AllocError> {
+        let (pk, sk) = (public.into_bytes(), private.into_bytes());
+        Ok([Vec::from_slice(alloc, &pk)?, Vec::from_slice(alloc, &sk)?])
     }
 
     fn drawn_pair<R: CryptoRngCore>(
@@ -414,19 +478,19 @@ where
     }
 
     fn public() -> Result<Self::Public, Fault> {
-        PublicKey::<K, L, H, G>::try_from_bytes(S::public())
+        S::public()
     }
 
     fn private() -> Result<Self::Private, Fault> {
-        PrivateKey::<K, L, H, G>::try_from_bytes(S::private())
+        S::private()
     }
 
     fn is_pair(public: Self::Public, private: Self::Private) -> bool {
-        public.into_bytes() == S::public() && private.into_bytes() == S::private()
+        S::is_public(public) && S::is_private(private)
     }
 
     fn is_public(public: Self::Public) -> bool {
-        public.into_bytes() == S::public()
+        S::is_public(public)
     }
 
     fn pair(seed: &[u8; 32]) -> Result<(Self::Public, Self::Private), Fault> {
@@ -491,7 +555,6 @@ where
         public: Self::Public,
         private: Self::Private,
     ) -> Result<[Vec<u8>; 2], AllocError> {
-        let (pk, sk) = (public.into_bytes(), private.into_bytes());
-        Ok([Vec::from_slice(alloc, &pk)?, Vec::from_slice(alloc, &sk)?])
+        S::key_bytes(alloc, public, private)
     }
 }
