@@ -58,26 +58,15 @@ fn has_ones(hint: &[R; 4], places: [&[u8]; 4]) -> bool {
     true
 }
 
-/// How many coefficients of a polynomial are 1.
-fn ones_in(w: &[i32; 256]) -> usize {
-    let mut ones = 0usize;
-    for x in w {
-        if *x == 1 {
-            ones = ones.wrapping_add(1);
+/// How many ones each polynomial of a hint has.
+pub fn ones_of(hint: &[R; 4]) -> [usize; 4] {
+    let mut ones = [0; 4];
+    for r in 0..4usize {
+        for x in &hint[r].0 {
+            ones[r] = usize::from(*x == 1).wrapping_add(ones[r]);
         }
     }
     ones
-}
-
-/// How many ones each polynomial of a hint has.
-pub fn ones_of(hint: &[R; 4]) -> [usize; 4] {
-    let [first, second, third, fourth] = hint;
-    [
-        ones_in(&first.0),
-        ones_in(&second.0),
-        ones_in(&third.0),
-        ones_in(&fourth.0),
-    ]
 }
 
 /// Whether a part with these places and counts spells a hint with so many ones, and is packed again as it was.

@@ -124,8 +124,8 @@ fn ends_early(
     }
 }
 
-/// The first call of the reader, the first of the writer, and the first end of the input whose outcome is wrong, of
-/// those that are tried; each end of the input is tried also by devices that move all that is asked for.
+/// A call of the reader, a call of the writer and an end of the input whose outcome is wrong, of those that are tried: the
+/// last one where there are several. Each end of the input is tried also by devices that move all that is asked for.
 fn first_wrong(alloc: Global, run: Run) -> Result<[Option<usize>; 3], AllocError> {
     let input = hex_lines(alloc, run.values)?;
     let input = input.as_slice();
@@ -133,18 +133,18 @@ fn first_wrong(alloc: Global, run: Run) -> Result<[Option<usize>; 3], AllocError
     for call in 0..=input.len() {
         let tried = is_tried(&run, call, input.len());
         if tried && !fails_to_read(alloc, &run, input, call)? {
-            wrong[0] = wrong[0].or(Some(call));
+            wrong[0] = Some(call);
         }
         if !ends_early(alloc, &run, WHOLE, input, call)?
             || tried && !ends_early(alloc, &run, BY_BYTES, input, call)?
         {
-            wrong[2] = wrong[2].or(Some(call));
+            wrong[2] = Some(call);
         }
     }
     for call in 0..=run.written.len() {
         let tried = is_tried(&run, call, run.written.len());
         if tried && !fails_to_write(alloc, &run, input, call)? {
-            wrong[1] = wrong[1].or(Some(call));
+            wrong[1] = Some(call);
         }
     }
     Ok(wrong)
