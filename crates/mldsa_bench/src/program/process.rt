@@ -85,7 +85,7 @@ fn statuses_and_lines_of_faults(rt: HostRuntime) -> Result<(), Fail> {
         (RunFault::Write, "write failed"),
         (RunFault::Memory, "out of memory"),
     ] {
-        assert!(rt; has_text(rt.alloc(), fault, text)?, "{text}");
+        assert!(rt; has_text(rt.alloc(), fault, text)?);
     }
     Ok(())
 }
