@@ -3,9 +3,9 @@
 
 ghost use Rattle.std.specs.Prelude.{◌≡◌, ◌≤◌, ◌<◌, ◌+◌, ◌*◌, ◌%◌, ℕ, List, IsTrue, pos, nat_abs};
 ghost use Rattle.fips204_base.specs.Residues.{residue, coefficients};
-ghost use Rattle.fips204_base.specs.Products.{product, row_product};
+ghost use Rattle.fips204_base.specs.Transforms.{product, row_product};
 ghost use Rattle.fips204_base.specs.Transforms.{inverse_transform};
-ghost use Rattle.fips204_base.specs.Polynomials.{coefficient_at, entry, vector_residues, Within, IsReduced, IsReducedVector, AreReduced, AreRowProducts, IsReducedMatrix};
+ghost use Rattle.fips204_base.specs.Vectors.{coefficient_at, entry, vector_residues, ValuesWithin, PolynomialWithin, VectorWithin, TransformsWithin, AreRowProducts, MatrixWithin};
 ghost use Rattle.fips204_base.specs.Vectors.{vector_coefficients, plain_row, matrix_product, product_difference, IsTransformOf, AreTransformsOf};
 ghost use Rattle.fips204_base.specs.declared.types.R.{R};
 ghost use Rattle.fips204_base.specs.declared.types.T.{T};
@@ -28,10 +28,10 @@ pub fn matrix_times_vector<const K: usize, const L: usize>(
     v: &[R; L],
 ) -> [R; K]
     requires columns { L ≤ 7 }
-    requires matrix { IsReducedMatrix a_hat.now }
-    requires vector { IsReducedVector L v.now }
+    requires matrix { MatrixWithin 8380416 a_hat.now }
+    requires vector { VectorWithin L 8380416 v.now }
     ensures values { (r n : ℕ) → r < K → n < 256 → entry result r n ≡ pos (matrix_product L a_hat.now (vector_coefficients v.now) r n) }
-    ensures range { IsReducedVector K result }
+    ensures range { VectorWithin K 8380416 result }
 {
     let mut v_hat = [T0; L];
     write_transforms(v, &mut v_hat);
@@ -46,11 +46,11 @@ pub fn matrix_times_vector<const K: usize, const L: usize>(
 /// `q - 1`. Values are below `q` in absolute value, and `L` is at most 7.
 pub(crate) fn row_times_vector<const L: usize>(row: &[T; L], v_hat: &[T; L]) -> R
     requires columns { L ≤ 7 }
-    requires row { AreReduced row.now }
-    requires vector { AreReduced v_hat.now }
+    requires row { TransformsWithin 8380416 row.now }
+    requires vector { TransformsWithin 8380416 v_hat.now }
     ensures values { (v : ℕ → ℕ → ℕ) → AreTransformsOf L v v_hat.now
         → (n : ℕ) → n < 256 → coefficient_at result.0 n ≡ pos (row_product L (plain_row row.now) v n) }
-    ensures small { IsReduced result.0 }
+    ensures small { PolynomialWithin 8380416 result.0 }
 {
     inverse_of(&row_sum(row, v_hat))
 }
@@ -58,10 +58,10 @@ pub(crate) fn row_times_vector<const L: usize>(row: &[T; L], v_hat: &[T; L]) -> 
 /// The product of a challenge with each polynomial of a vector: coefficients from 0 to `q - 1`. All
 /// coefficients have an absolute value of at most `q - 1`.
 pub fn challenge_times_vector<const K: usize>(c: &R, v: &[R; K]) -> [R; K]
-    requires challenge { IsReduced c.now.0 }
-    requires vector { IsReducedVector K v.now }
+    requires challenge { PolynomialWithin 8380416 c.now.0 }
+    requires vector { VectorWithin K 8380416 v.now }
     ensures values { (r n : ℕ) → r < K → n < 256 → entry result r n ≡ pos (product (coefficients c.now.0) (vector_coefficients v.now r) n) }
-    ensures range { IsReducedVector K result }
+    ensures range { VectorWithin K 8380416 result }
 {
     challenge_times_transforms(&transform_of(c), &transforms(v))
 }
@@ -69,11 +69,11 @@ pub fn challenge_times_vector<const K: usize>(c: &R, v: &[R; K]) -> [R; K]
 /// The product of a challenge with each polynomial of a vector, given by their transforms with values below
 /// `q` in absolute value: coefficients from 0 to `q - 1`.
 pub fn challenge_times_transforms<const K: usize>(c_hat: &T, v_hat: &[T; K]) -> [R; K]
-    requires challenge { Within 8380416 c_hat.now.0 }
-    requires vector { AreReduced v_hat.now }
+    requires challenge { ValuesWithin 8380416 c_hat.now.0 }
+    requires vector { TransformsWithin 8380416 v_hat.now }
     ensures values { (c : ℕ → ℕ) (v : ℕ → ℕ → ℕ) → IsTransformOf c c_hat.now → AreTransformsOf K v v_hat.now
         → (r n : ℕ) → r < K → n < 256 → entry result r n ≡ pos (product c (v r) n) }
-    ensures range { IsReducedVector K result }
+    ensures range { VectorWithin K 8380416 result }
 {
     let mut out = [R0; K];
     if 5 < K && K <= 8 {
@@ -98,12 +98,12 @@ pub fn matrix_times_vector_less<const K: usize, const L: usize>(
     t: &[R; K],
 ) -> [R; K]
     requires columns { L ≤ 7 }
-    requires matrix { IsReducedMatrix a_hat.now }
-    requires vector { IsReducedVector L z.now }
-    requires challenge { IsReduced c.now.0 }
-    requires less { IsReducedVector K t.now }
+    requires matrix { MatrixWithin 8380416 a_hat.now }
+    requires vector { VectorWithin L 8380416 z.now }
+    requires challenge { PolynomialWithin 8380416 c.now.0 }
+    requires less { VectorWithin K 8380416 t.now }
     ensures values { (r n : ℕ) → r < K → n < 256 → entry result r n ≡ pos (product_difference L a_hat.now z.now c.now t.now r n) }
-    ensures range { IsReducedVector K result }
+    ensures range { VectorWithin K 8380416 result }
 {
     let mut out = [R0; K];
     if share_rows::<L, K>() {
@@ -125,13 +125,13 @@ pub(crate) fn write_less_challenge_product<const K: usize>(
     t: &[R; K],
     out: &mut [R; K],
 )
-    requires products { AreReduced products.now }
-    requires challenge { IsReduced c.now.0 }
-    requires less { IsReducedVector K t.now }
+    requires products { TransformsWithin 8380416 products.now }
+    requires challenge { PolynomialWithin 8380416 c.now.0 }
+    requires less { VectorWithin K 8380416 t.now }
     ensures values { (l : ℕ) (a : List (List T)) (z_hat : List T) (z : List R) → AreRowProducts K l a z_hat products.now
         → AreTransformsOf l (vector_coefficients z) z_hat
         → (r n : ℕ) → r < K → n < 256 → entry out.new r n ≡ pos (product_difference l a z c.now t.now r n) }
-    ensures range { IsReducedVector K out.new }
+    ensures range { VectorWithin K 8380416 out.new }
 {
     if 5 < K && K <= 8 {
         write_differences_in_lanes(products, &transform_of(c), t, out);
@@ -148,13 +148,13 @@ pub(crate) fn write_less_challenge_transforms<const K: usize>(
     t_hat: &[T; K],
     out: &mut [R; K],
 )
-    requires products { AreReduced products.now }
-    requires challenge { IsReduced c.now.0 }
-    requires less { AreReduced t_hat.now }
+    requires products { TransformsWithin 8380416 products.now }
+    requires challenge { PolynomialWithin 8380416 c.now.0 }
+    requires less { TransformsWithin 8380416 t_hat.now }
     ensures values { (l : ℕ) (a : List (List T)) (z_hat : List T) (z t : List R) → AreRowProducts K l a z_hat products.now
         → AreTransformsOf l (vector_coefficients z) z_hat → AreTransformsOf K (vector_coefficients t) t_hat.now
         → (r n : ℕ) → r < K → n < 256 → entry out.new r n ≡ pos (product_difference l a z c.now t r n) }
-    ensures range { IsReducedVector K out.new }
+    ensures range { VectorWithin K 8380416 out.new }
 {
     let c_hat = transform_of(c);
     for i in 0..K {
@@ -168,9 +168,9 @@ pub(crate) fn write_less_challenge_transforms<const K: usize>(
 
 /// The transforms of a vector. Its coefficients are below `q` in absolute value, and so are the values.
 pub fn transforms<const L: usize>(v: &[R; L]) -> [T; L]
-    requires { IsReducedVector L v.now }
+    requires { VectorWithin L 8380416 v.now }
     ensures values { AreTransformsOf L (vector_coefficients v.now) result }
-    ensures small { AreReduced result }
+    ensures small { TransformsWithin 8380416 result }
 {
     let mut out = [T0; L];
     write_transforms(v, &mut out);
@@ -179,9 +179,9 @@ pub fn transforms<const L: usize>(v: &[R; L]) -> [T; L]
 
 /// Writes the transforms of a vector. Its coefficients are below `q` in absolute value, and so are the values.
 pub(crate) fn write_transforms<const L: usize>(v: &[R; L], out: &mut [T; L])
-    requires { IsReducedVector L v.now }
+    requires { VectorWithin L 8380416 v.now }
     ensures values { AreTransformsOf L (vector_coefficients v.now) out.new }
-    ensures small { AreReduced out.new }
+    ensures small { TransformsWithin 8380416 out.new }
 {
     if 6 < L && L <= 8 {
         write_transforms_in_lanes(v, &[], out, &mut []);
@@ -200,10 +200,10 @@ pub fn write_transforms_of_both<const L: usize, const K: usize>(
     v_hat: &mut [T; L],
     w_hat: &mut [T; K],
 )
-    requires first { IsReducedVector L v.now }
-    requires second { IsReducedVector K w.now }
-    ensures first { AreTransformsOf L (vector_coefficients v.now) v_hat.new × AreReduced v_hat.new }
-    ensures second { AreTransformsOf K (vector_coefficients w.now) w_hat.new × AreReduced w_hat.new }
+    requires first { VectorWithin L 8380416 v.now }
+    requires second { VectorWithin K 8380416 w.now }
+    ensures first { AreTransformsOf L (vector_coefficients v.now) v_hat.new × TransformsWithin 8380416 v_hat.new }
+    ensures second { AreTransformsOf K (vector_coefficients w.now) w_hat.new × TransformsWithin 8380416 w_hat.new }
 {
     if share_rows::<L, K>() {
         write_transforms_in_lanes(v, w, v_hat, w_hat);
@@ -223,9 +223,9 @@ pub(crate) fn share_rows<const L: usize, const K: usize>() -> bool
 
 /// The transform of a polynomial. Its coefficients are below `q` in absolute value, and so are the values.
 pub fn transform_of(w: &R) -> T
-    requires { IsReduced w.now.0 }
+    requires { PolynomialWithin 8380416 w.now.0 }
     ensures values { IsTransformOf (coefficients w.now.0) result }
-    ensures small { Within 8380416 result.0 }
+    ensures small { ValuesWithin 8380416 result.0 }
 {
     let mut out = w.0;
     write_ntt(&mut out, &mut Count::new());
@@ -234,9 +234,9 @@ pub fn transform_of(w: &R) -> T
 
 /// The polynomial that has a transform, with coefficients from 0 to `q - 1`.
 fn inverse_of(t: &T) -> R
-    requires { IsReduced t.now.0 }
+    requires { PolynomialWithin 8380416 t.now.0 }
     ensures values { (n : ℕ) → n < 256 → coefficient_at result.0 n ≡ pos (inverse_transform (coefficients t.now.0) n) }
-    ensures small { IsReduced result.0 }
+    ensures small { PolynomialWithin 8380416 result.0 }
 {
     let mut out = t.0;
     write_inv_ntt(&mut out, &mut Count::new());

@@ -2,17 +2,17 @@
 #![tactic(auto)]
 
 ghost use Rattle.std.specs.Prelude.{◌≡◌, ◌⊎◌, ◌<◌, ◌≤◌, ◌+◌, ◌*◌, ◌%◌, ℕ, List, pos, nat_abs, nat_lt, ◌≤ℤ◌, Ok, Some, length};
-ghost use Rattle.fips204_base.specs.CentredValues.{centred, vector_norm};
-ghost use Rattle.fips204_base.specs.HintSpelling.{all_ones};
-ghost use Rattle.fips204_base.specs.Polynomials.{AreReduced, IsReducedVector, VectorWithin, Within};
+ghost use Rattle.fips204_base.specs.Residues.{centred, vector_norm};
+ghost use Rattle.fips204_base.specs.Encodings.{all_ones};
+ghost use Rattle.fips204_base.specs.Vectors.{TransformsWithin, VectorWithin, ValuesWithin};
 ghost use Rattle.fips204_base.specs.Residues.{coefficients, residue};
 ghost use Rattle.fips204_base.specs.Rounding.{low_bits};
 ghost use Rattle.fips204_base.specs.Vectors.{vector_coefficients, vector_of, AreTransformsOf, IsTransformOf};
 ghost use Rattle.fips204_base.specs.declared.types.R.{R};
-ghost use Rattle.fips204.specs.Attempts.{checked_attempt, hint_bit, w_minus_cs2, y_plus_cs1};
+ghost use Rattle.fips204.specs.Signing.{checked_attempt, hint_bit, w_minus_cs2, y_plus_cs1};
 ghost use Rattle.fips204.specs.SigningInputs.{AreCheckInputs};
 ghost use Rattle.fips204.specs.Sets.{set_of};
-ghost use Rattle.fips204.specs.Signing.{attempt_answer};
+ghost use Rattle.fips204.specs.SigningInputs.{attempt_answer};
 
 use crate::types::{KeyTransforms, Params, PrivateKey, R, T};
 use fips204_base::encodings::sig_encode;
@@ -71,7 +71,7 @@ impl<const K: usize, const L: usize, H, G> PrivateKey<K, L, H, G> {
 /// below `q` in absolute value.
 pub(crate) fn has_norm_below<const N: usize>(v: &[R; N], bound: i32) -> bool
     requires rows { 1 ≤ N }
-    requires range { IsReducedVector N v.now }
+    requires range { VectorWithin N 8380416 v.now }
     requires bound { pos 0 ≤ℤ bound }
     ensures { result ≡ nat_lt (vector_norm v.now) (nat_abs bound) }
 {
@@ -81,12 +81,12 @@ pub(crate) fn has_norm_below<const N: usize>(v: &[R; N], bound: i32) -> bool
 /// `z = y + c s1`, centred, from the transforms of `s1` and `c`. Their values are below `q` in absolute value,
 /// and coefficients of `y` at most 524288.
 fn response<const L: usize>(s1_hat: &[T; L], y: &[R; L], c_hat: &T) -> [R; L]
-    requires private { AreReduced s1_hat.now }
+    requires private { TransformsWithin 8380416 s1_hat.now }
     requires mask { VectorWithin L 524288 y.now }
-    requires challenge { Within 8380416 c_hat.now.0 }
+    requires challenge { ValuesWithin 8380416 c_hat.now.0 }
     ensures value { (s1 : List R) (c : R) → AreTransformsOf L (vector_coefficients s1) s1_hat.now → IsTransformOf (coefficients c.0) c_hat.now
         → result ≡ vector_of L (λ r n. centred (pos (y_plus_cs1 s1 y.now c r n))) }
-    ensures range { IsReducedVector L result }
+    ensures range { VectorWithin L 8380416 result }
 {
     let mut z = challenge_times_transforms(c_hat, s1_hat);
     write_zip_vectors(
@@ -104,12 +104,12 @@ fn response<const L: usize>(s1_hat: &[T; L], y: &[R; L], c_hat: &T) -> [R; L]
 /// `w - c s2` from the transforms of `s2` and `c`, below `q` in absolute value, as their values and the
 /// coefficients of `w` are.
 fn w_minus_cs2<const K: usize>(s2_hat: &[T; K], w: &[R; K], c_hat: &T) -> [R; K]
-    requires private { AreReduced s2_hat.now }
-    requires product { IsReducedVector K w.now }
-    requires challenge { Within 8380416 c_hat.now.0 }
+    requires private { TransformsWithin 8380416 s2_hat.now }
+    requires product { VectorWithin K 8380416 w.now }
+    requires challenge { ValuesWithin 8380416 c_hat.now.0 }
     ensures values { (s2 : List R) (c : R) → AreTransformsOf K (vector_coefficients s2) s2_hat.now → IsTransformOf (coefficients c.0) c_hat.now
         → (r n : ℕ) → r < K → n < 256 → vector_coefficients result r n ≡ w_minus_cs2 s2 (vector_coefficients w.now) c r n }
-    ensures range { IsReducedVector K result }
+    ensures range { VectorWithin K 8380416 result }
 {
     let product = challenge_times_transforms(c_hat, s2_hat);
     zip_vectors(
@@ -126,9 +126,9 @@ fn w_minus_cs2<const K: usize>(s2_hat: &[T; K], w: &[R; K], c_hat: &T) -> [R; K]
 /// `LowBits` of each coefficient of a vector whose coefficients are below `q` in absolute value.
 fn low_vector<const K: usize>(gamma2: i32, v: &[R; K]) -> [R; K]
     requires set { (gamma2 ≡ pos 95232) ⊎ (gamma2 ≡ pos 261888) }
-    requires range { IsReducedVector K v.now }
+    requires range { VectorWithin K 8380416 v.now }
     ensures value { result ≡ vector_of K (λ r n. low_bits (nat_abs gamma2) (vector_coefficients v.now r n)) }
-    ensures range { IsReducedVector K result }
+    ensures range { VectorWithin K 8380416 result }
 {
     map_vector(
         v,
@@ -144,8 +144,8 @@ fn low_vector<const K: usize>(gamma2: i32, v: &[R; K]) -> [R; K]
 /// `gamma2` is 95232 or 261888, and coefficients are below `q` in absolute value.
 fn hint<const K: usize>(gamma2: i32, v: &[R; K], t: &[R; K]) -> [R; K]
     requires set { (gamma2 ≡ pos 95232) ⊎ (gamma2 ≡ pos 261888) }
-    requires v { IsReducedVector K v.now }
-    requires t { IsReducedVector K t.now }
+    requires v { VectorWithin K 8380416 v.now }
+    requires t { VectorWithin K 8380416 t.now }
     ensures { result ≡ vector_of K (λ r n. hint_bit (nat_abs gamma2) (vector_coefficients v.now r n) (vector_coefficients t.now r n)) }
 {
     zip_vectors(

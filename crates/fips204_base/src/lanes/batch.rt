@@ -3,8 +3,9 @@
 
 ghost use Rattle.std.specs.Prelude.{◌≡◌, ◌<◌, ◌≤◌, ◌+◌, ◌-◌, ℕ, pos, length, slice_index_or};
 ghost use Rattle.fips204_base.specs.Lanes.{lane, lane_at, residues, LanesWithin};
-ghost use Rattle.fips204_base.specs.Polynomials.{coefficient_at, entry, value_at, AreReduced, IsReducedVector, Within, vector_residues};
-ghost use Rattle.fips204_base.specs.Products.{minus, pointwise};
+ghost use Rattle.fips204_base.specs.Vectors.{coefficient_at, entry, TransformsWithin, VectorWithin, ValuesWithin, vector_residues};
+ghost use Rattle.fips204_base.specs.Network.{value_at};
+ghost use Rattle.fips204_base.specs.Transforms.{minus, pointwise};
 ghost use Rattle.fips204_base.specs.Residues.{coefficients};
 ghost use Rattle.fips204_base.specs.Transforms.{transform, inverse_transform};
 ghost use Rattle.fips204_base.specs.Vectors.{vector_coefficients, AreTransformsOf};
@@ -25,10 +26,10 @@ pub(crate) fn write_transforms_in_lanes<const L: usize, const K: usize>(
     w_hat: &mut [T; K],
 )
     requires few { L + K ≤ 8 }
-    requires first { IsReducedVector L v.now }
-    requires second { IsReducedVector K w.now }
-    ensures first { AreTransformsOf L (vector_coefficients v.now) v_hat.new × AreReduced v_hat.new }
-    ensures second { AreTransformsOf K (vector_coefficients w.now) w_hat.new × AreReduced w_hat.new }
+    requires first { VectorWithin L 8380416 v.now }
+    requires second { VectorWithin K 8380416 w.now }
+    ensures first { AreTransformsOf L (vector_coefficients v.now) v_hat.new × TransformsWithin 8380416 v_hat.new }
+    ensures second { AreTransformsOf K (vector_coefficients w.now) w_hat.new × TransformsWithin 8380416 w_hat.new }
 {
     let mut rows = [Lanes::from_array([0; 8]); 256];
     write_rows(
@@ -51,11 +52,11 @@ pub(crate) fn write_transforms_in_lanes<const L: usize, const K: usize>(
 #[inline(never)]
 pub(crate) fn write_products_in_lanes<const K: usize>(c_hat: &T, t: &[T; K], out: &mut [R; K])
     requires few { K ≤ 8 }
-    requires challenge { Within 8380416 c_hat.now.0 }
-    requires range { AreReduced t.now }
+    requires challenge { ValuesWithin 8380416 c_hat.now.0 }
+    requires range { TransformsWithin 8380416 t.now }
     ensures values { (r n : ℕ) → r < K → n < 256
         → entry out.new r n ≡ pos (inverse_transform (pointwise (coefficients c_hat.now.0) (vector_residues t.now r)) n) }
-    ensures small { IsReducedVector K out.new }
+    ensures small { VectorWithin K 8380416 out.new }
 {
     let mut rows = [Lanes::from_array([0; 8]); 256];
     write_rows(
@@ -83,13 +84,13 @@ pub(crate) fn write_differences_in_lanes<const K: usize>(
     out: &mut [R; K],
 )
     requires few { K ≤ 8 }
-    requires range { AreReduced t.now }
-    requires challenge { Within 8380416 c_hat.now.0 }
-    requires less { IsReducedVector K v.now }
+    requires range { TransformsWithin 8380416 t.now }
+    requires challenge { ValuesWithin 8380416 c_hat.now.0 }
+    requires less { VectorWithin K 8380416 v.now }
     ensures values { (r n : ℕ) → r < K → n < 256
         → entry out.new r n ≡ pos (inverse_transform
         (minus (vector_residues t.now r) (pointwise (coefficients c_hat.now.0) (transform (vector_coefficients v.now r)))) n) }
-    ensures small { IsReducedVector K out.new }
+    ensures small { VectorWithin K 8380416 out.new }
 {
     let mut rows = [Lanes::from_array([0; 8]); 256];
     write_rows(
@@ -120,7 +121,7 @@ fn write_polynomials<const K: usize>(rows: &mut [Lanes; 256], out: &mut [R; K])
     requires range { LanesWithin (λ x. x.lanes) 8 8380416 rows.old }
     ensures values { (r n : ℕ) (d : Lanes) → r < K → n < 256
         → entry out.new r n ≡ pos (inverse_transform (residues (λ x. x.lanes) r d rows.old) n) }
-    ensures small { IsReducedVector K out.new }
+    ensures small { VectorWithin K 8380416 out.new }
 {
     write_inv_ntt(rows, &mut Count::new());
     for n in 0..256 {
@@ -196,7 +197,7 @@ fn write_values<const L: usize>(rows: &[Lanes; 256], first: usize, out: &mut [T;
     requires few { first + L ≤ 8 }
     requires range { LanesWithin (λ x. x.lanes) 8 8380416 rows.now }
     ensures values { (r n : ℕ) (d : Lanes) → r < L → n < 256 → value_at out.new r n ≡ lane_at (λ x. x.lanes) (first + r) d rows.now n }
-    ensures small { AreReduced out.new }
+    ensures small { TransformsWithin 8380416 out.new }
 {
     for n in 0..256 {
         write_value(value_of(rows, n), first, n, out);

@@ -1,8 +1,8 @@
 use Rattle.std.proofs.Common.{ℕ, ◌≡◌, ◌<◌, ◌≤◌, ◌∙◌, [], ap, pos, length, length-set, arith}
 use Rattle.std.specs.Prelude.{nat_abs}
 use Rattle.fips204_base.specs.Residues.{coefficients}
-use Rattle.fips204_base.specs.Polynomials.{coefficient_at, vector_residues}
-use Rattle.fips204_base.specs.Products.{product}
+use Rattle.fips204_base.specs.Vectors.{coefficient_at, vector_residues}
+use Rattle.fips204_base.specs.Transforms.{product}
 use Rattle.fips204_base.proofs.Products.{product_of_products, pointwise_turned}
 use Rattle.fips204_base.proofs.Vectors.{row_written}
 use Rattle.fips204_base.proofs.LaneBatches.{lane_product}

@@ -1,7 +1,7 @@
 use Rattle.std.proofs.Common.{ℕ, ◌≡◌, ◌<◌, ◌≤◌, pos, length}
 use Rattle.std.specs.Prelude.{nat_abs}
-use Rattle.fips204_base.specs.Polynomials.{entry}
-use Rattle.fips204_base.specs.Products.{product}
+use Rattle.fips204_base.specs.Vectors.{entry}
+use Rattle.fips204_base.specs.Transforms.{product}
 use Rattle.fips204_base.specs.Vectors.{IsTransformOf, AreTransformsOf}
 use Rattle.fips204_base.proofs.product.challenge_times_transforms.Given as goal
 

@@ -1,6 +1,6 @@
 use Rattle.std.proofs.Common.{ℕ, ◌≡◌, ◌≤◌, ◌<◌, ◌∙◌, [], pos, length, length-set, arith}
 use Rattle.std.specs.Prelude.{nat_abs}
-use Rattle.fips204_base.specs.Polynomials.{coefficient_at}
+use Rattle.fips204_base.specs.Vectors.{coefficient_at}
 use Rattle.fips204_base.specs.Vectors.{vector_coefficients, matrix_product}
 use Rattle.fips204_base.proofs.Vectors.{row_written}
 use Rattle.fips204_base.proofs.product.matrix_times_vector.Goals as goal

@@ -1,6 +1,6 @@
 use Rattle.std.proofs.Common.{ℕ, ◌≡◌, ◌≤◌, ◌<◌, pos, length}
 use Rattle.std.specs.Prelude.{nat_abs}
-use Rattle.fips204_base.specs.Polynomials.{entry}
+use Rattle.fips204_base.specs.Vectors.{entry}
 use Rattle.fips204_base.specs.Vectors.{vector_coefficients, matrix_product}
 use Rattle.fips204_base.proofs.product.matrix_times_vector.Given as goal
 

@@ -1,5 +1,5 @@
 use Rattle.std.proofs.Common.{ap, pos, ◌∙◌}
-use Rattle.fips204_base.specs.Polynomials.{vector_residues}
+use Rattle.fips204_base.specs.Vectors.{vector_residues}
 use Rattle.fips204_base.specs.Residues.{coefficients}
 use Rattle.fips204_base.proofs.Products.{row_of_products}
 use Rattle.fips204_base.proofs.product.row_times_vector.Goals as goal

@@ -1,6 +1,7 @@
 use Rattle.std.proofs.Common.{ap, pos, ◌∙◌}
 use Rattle.fips204_base.specs.Residues.{coefficients}
-use Rattle.fips204_base.specs.Polynomials.{vector_residues, matrix_residues}
+use Rattle.fips204_base.specs.Vectors.{vector_residues}
+use Rattle.fips204_base.specs.Network.{matrix_residues}
 use Rattle.fips204_base.specs.Vectors.{vector_coefficients}
 use Rattle.fips204_base.proofs.LaneBatches.{lane_difference}
 use Rattle.fips204_base.proofs.product.write_less_challenge_product.Goals as goal

@@ -1,9 +1,10 @@
 use Rattle.std.proofs.Common.{ℕ, ◌≡◌, ◌<◌, ◌≤◌, ◌∙◌, [], ap, refl, pos, length, length-set, arith}
 use Rattle.std.specs.Prelude.{nat_abs}
 use Rattle.fips204_base.specs.Residues.{coefficients}
-use Rattle.fips204_base.specs.Products.{minus, pointwise}
+use Rattle.fips204_base.specs.Transforms.{minus, pointwise}
 use Rattle.fips204_base.specs.Transforms.{inverse_transform}
-use Rattle.fips204_base.specs.Polynomials.{coefficient_at, vector_residues, matrix_residues}
+use Rattle.fips204_base.specs.Vectors.{coefficient_at, vector_residues}
+use Rattle.fips204_base.specs.Network.{matrix_residues}
 use Rattle.fips204_base.specs.Vectors.{vector_coefficients}
 use Rattle.fips204_base.proofs.Products.{difference_of_products, difference_same, pointwise_turned}
 use Rattle.fips204_base.proofs.Vectors.{row_written}

@@ -1,8 +1,8 @@
 use Rattle.std.proofs.Common.{ℕ, ◌≡◌, ◌<◌, ◌≤◌, pos, length}
 use Rattle.std.specs.Prelude.{nat_abs}
-use Rattle.fips204_base.specs.Polynomials.{entry, vector_residues}
+use Rattle.fips204_base.specs.Vectors.{entry, vector_residues}
 use Rattle.fips204_base.specs.Residues.{coefficients}
-use Rattle.fips204_base.specs.Products.{minus, pointwise}
+use Rattle.fips204_base.specs.Transforms.{minus, pointwise}
 use Rattle.fips204_base.specs.Transforms.{inverse_transform}
 use Rattle.fips204_base.proofs.product.write_less_challenge_transforms.Given as goal
 

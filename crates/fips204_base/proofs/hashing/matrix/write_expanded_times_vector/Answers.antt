@@ -1,9 +1,9 @@
 use Rattle.std.proofs.Common.{◌≡◌, ℕ, ◌≤◌, ◌<◌, ◌∙◌, List, [], Some, pos, arith, rules, length, length-set}
 use Rattle.std.specs.Prelude.{nat_abs}
 use Rattle.fips204_base.specs.declared.types.T.{T}
-use Rattle.fips204_base.specs.MatrixEntry.{sampled_row, sampled_matrix}
-use Rattle.fips204_base.specs.Polynomials.{coefficient_at, entry}
-use Rattle.fips204_base.specs.Products.{row_product}
+use Rattle.fips204_base.specs.Sampling.{sampled_row, sampled_matrix}
+use Rattle.fips204_base.specs.Vectors.{coefficient_at, entry}
+use Rattle.fips204_base.specs.Transforms.{row_product}
 use Rattle.fips204_base.specs.Vectors.{plain_row, vector_coefficients}
 use Rattle.fips204_base.proofs.Sampled.{matrix-refused, all_present-each, row-within}
 use Rattle.fips204_base.proofs.Vectors.{row_written}

@@ -1,9 +1,9 @@
 use Rattle.std.proofs.Common.{ℕ, ◌≡◌, ◌≤◌, ◌<◌, List, Some, pos, length}
 use Rattle.std.specs.Prelude.{nat_abs}
 use Rattle.fips204_base.specs.declared.types.T.{T}
-use Rattle.fips204_base.specs.MatrixEntry.{sampled_row}
-use Rattle.fips204_base.specs.Polynomials.{entry}
-use Rattle.fips204_base.specs.Products.{row_product}
+use Rattle.fips204_base.specs.Sampling.{sampled_row}
+use Rattle.fips204_base.specs.Vectors.{entry}
+use Rattle.fips204_base.specs.Transforms.{row_product}
 use Rattle.fips204_base.specs.Vectors.{plain_row, vector_coefficients}
 use Rattle.fips204_base.proofs.hashing.matrix.write_expanded_times_vector.Given as goal
 

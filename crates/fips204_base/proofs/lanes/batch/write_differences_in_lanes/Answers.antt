@@ -3,8 +3,8 @@ use Rattle.std.specs.Prelude.{nat_abs}
 use Rattle.fips204_base.specs.Residues.{residue, coefficients}
 use Rattle.fips204_base.specs.Transforms.{transform}
 use Rattle.fips204_base.specs.Lanes.{lane, lane_at, residues}
-use Rattle.fips204_base.specs.Polynomials.{vector_residues}
-use Rattle.fips204_base.specs.Products.{minus, pointwise}
+use Rattle.fips204_base.specs.Vectors.{vector_residues}
+use Rattle.fips204_base.specs.Transforms.{minus, pointwise}
 use Rattle.fips204_base.specs.Vectors.{vector_coefficients}
 use Rattle.fips204_base.specs.declared.lanes.row.Lanes.{Lanes}
 use Rattle.fips204_base.proofs.Residues.{congruent_of, congruent_trans, congruent_equal, residue_below}

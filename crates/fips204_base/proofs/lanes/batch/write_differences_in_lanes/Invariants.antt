@@ -1,8 +1,8 @@
 use Rattle.std.proofs.Common.{ℕ, ◌≡◌, ◌<◌, ◌≤◌, length}
 use Rattle.std.specs.Prelude.{nat_abs}
 use Rattle.fips204_base.specs.Lanes.{lane_at, residues}
-use Rattle.fips204_base.specs.Polynomials.{vector_residues}
-use Rattle.fips204_base.specs.Products.{minus, pointwise}
+use Rattle.fips204_base.specs.Vectors.{vector_residues}
+use Rattle.fips204_base.specs.Transforms.{minus, pointwise}
 use Rattle.fips204_base.specs.Residues.{coefficients}
 use Rattle.fips204_base.specs.Transforms.{transform}
 use Rattle.fips204_base.specs.Vectors.{vector_coefficients}

@@ -1,6 +1,6 @@
 use Rattle.std.proofs.Common.{ℕ, ◌≡◌, ◌<◌}
 use Rattle.fips204_base.specs.Lanes.{lane_at}
-use Rattle.fips204_base.specs.Polynomials.{entry}
+use Rattle.fips204_base.specs.Vectors.{entry}
 use Rattle.fips204_base.specs.declared.lanes.row.Lanes.{Lanes}
 use Rattle.fips204_base.proofs.lanes.batch.write_polynomials.Given as goal
 

@@ -1,8 +1,8 @@
 use Rattle.std.proofs.Common.{◌∙◌, ap, pos, arith}
 use Rattle.fips204_base.specs.Residues.{coefficients}
 use Rattle.fips204_base.specs.Lanes.{residues}
-use Rattle.fips204_base.specs.Polynomials.{vector_residues}
-use Rattle.fips204_base.specs.Products.{pointwise}
+use Rattle.fips204_base.specs.Vectors.{vector_residues}
+use Rattle.fips204_base.specs.Transforms.{pointwise}
 use Rattle.fips204_base.specs.declared.lanes.row.Lanes.{Lanes}
 use Rattle.fips204_base.proofs.Residues.{congruent_of}
 use Rattle.fips204_base.proofs.Products.{inverse_same}

@@ -1,8 +1,9 @@
 use Rattle.std.proofs.Common.{ℕ, ◌≡◌, ◌<◌, ◌≤◌, length}
 use Rattle.std.specs.Prelude.{nat_abs}
 use Rattle.fips204_base.specs.Lanes.{lane_at, residues}
-use Rattle.fips204_base.specs.Polynomials.{value_at, vector_residues}
-use Rattle.fips204_base.specs.Products.{pointwise}
+use Rattle.fips204_base.specs.Network.{value_at}
+use Rattle.fips204_base.specs.Vectors.{vector_residues}
+use Rattle.fips204_base.specs.Transforms.{pointwise}
 use Rattle.fips204_base.specs.Residues.{coefficients}
 use Rattle.fips204_base.specs.declared.lanes.row.Lanes.{Lanes}
 use Rattle.fips204_base.proofs.lanes.batch.write_products_in_lanes.Given as goal
