@@ -51,7 +51,7 @@ lane_product x y a b = product_of_products (pointwise x y) x y a b (λ j p. refl
 
 -- a row's sums of products less products of transforms, turned back, are the difference of the plain products
 pub lane_difference : (l : ℕ) (p x a b : ℕ → ℕ) (v t s : ℕ → ℕ → ℕ) → ((j : ℕ) → j < 256 → p j ≡ sum_below l (λ k. v k j * t k j) % 8380417) →
-    ((k j : ℕ) → k < l → j < 256 → t k j ≡ transform (s k) j) → ((j : ℕ) → j < 256 → x j ≡ transform a j) → (n : ℕ) → n < 256 →
+    ((k : ℕ) → k < l → (j : ℕ) → j < 256 → t k j ≡ transform (s k) j) → ((j : ℕ) → j < 256 → x j ≡ transform a j) → (n : ℕ) → n < 256 →
     inverse_transform (minus p (pointwise x (transform b))) n ≡ minus (row_product l (λ k. inverse_transform (v k)) s) (product a b) n
 lane_difference l p x a b v t s h g f =
     difference_of_products l (minus p (pointwise x (transform b))) p (pointwise x (transform b)) x (transform b) a b v t s (λ j r. refl) h g (λ j r. refl) f (λ j r. refl)

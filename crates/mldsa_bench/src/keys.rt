@@ -4,3 +4,4 @@
 pub mod pairs;
 pub mod public_key_bytes;
 pub mod sets;
+mod whole_keys;

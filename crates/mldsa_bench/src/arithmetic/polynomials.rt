@@ -8,7 +8,7 @@ use fips204::Fault;
 use fips204::hashing::sample_in_ball;
 use fips204::helpers::{Count, ZETA_TABLE_MONT, center_mod, infinity_norm, mont_reduce, to_mont};
 use fips204::ntt::{inv_ntt, ntt};
-use fips204::product::challenge_times_vector;
+use fips204_base::product::challenge_times_vector;
 use fips204::types::{R, T};
 use fips204::xof::Fill;
 use std::test::Fail;

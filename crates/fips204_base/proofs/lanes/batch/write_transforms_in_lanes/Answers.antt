@@ -9,7 +9,7 @@ use Rattle.fips204_base.proofs.lanes.batch.write_transforms_in_lanes.Goals as go
 
 pub returns-clause-first : goal.returns-clause-first
 returns-clause-first g c = (
-  λ k i h q.
+  λ k h i q.
       let r = 0 + k in
       let lane : r < 8 = omega (arith, h, c.requires.few) in
       let place : r ≡ k = omega arith in
@@ -20,7 +20,7 @@ returns-clause-first g c = (
 
 pub returns-clause-second : goal.returns-clause-second
 returns-clause-second g c = (
-  λ k i h q.
+  λ k h i q.
       let r = g.row.L + k in
       let lane : r < 8 = omega (arith, h, c.requires.few) in
       let place : r - g.row.L ≡ k = omega arith in
