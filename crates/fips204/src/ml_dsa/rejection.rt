@@ -16,7 +16,7 @@ ghost use Rattle.fips204.specs.Signing.{attempt_answer};
 
 use crate::types::{KeyTransforms, Params, PrivateKey, R, T};
 use fips204_base::encodings::sig_encode;
-use fips204_base::helpers::{center_mod, difference, infinity_norm};
+use fips204_base::helpers::{Count, center_mod, difference, infinity_norm};
 use fips204_base::high_low::{low_bits, make_hint};
 use fips204_base::maps::{map_vector, write_zip_vectors, zip_vectors};
 use fips204_base::product::{challenge_times_transforms, transform_of};
@@ -41,7 +41,7 @@ impl<const K: usize, const L: usize, H, G> PrivateKey<K, L, H, G> {
             ≡ attempt_answer (checked_attempt (set_of p.now) self.now y.now (vector_coefficients w.now) c_tilde.now (Some c.now)) }
     {
         // c_hat = NTT(c)
-        let c_hat = transform_of(c);
+        let c_hat = transform_of(c, &mut Count::new());
         // z = y + c s1, with a norm below gamma1 - beta
         let z = response(&transforms.s1_hat, y, &c_hat);
         if !has_norm_below(&z, p.z_bound()) {

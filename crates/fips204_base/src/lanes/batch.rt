@@ -1,19 +1,21 @@
-//! Up to eight polynomials side by side, one in each lane of a row.
+//! Polynomials side by side in rows of eight lanes: vectors as lists of polynomials, which go through the rows by
+//! eights. The lanes behind the last polynomial are zero.
 #![tactic(auto)]
 
-ghost use Rattle.std.specs.Prelude.{◌≡◌, ◌<◌, ◌≤◌, ◌+◌, ◌-◌, ℕ, pos, length, slice_index_or};
-ghost use Rattle.fips204_base.specs.Lanes.{lane, lane_at, residues, LanesWithin};
+ghost use Rattle.std.specs.Prelude.{◌≡◌, ◌<◌, ◌≤◌, ◌+◌, ◌-◌, ◌*◌, ◌/◌, ◌%◌, ◌^◌, ℕ, pos, nat_abs, length, slice_index_or};
+ghost use Rattle.fips204_base.specs.Lanes.{lane, lane_at, residues, InRow, LanesWithin};
 ghost use Rattle.fips204_base.specs.Polynomials.{coefficient_at, entry, value_at, AreReduced, IsReducedVector, Within, vector_residues};
 ghost use Rattle.fips204_base.specs.Products.{minus, pointwise};
-ghost use Rattle.fips204_base.specs.Residues.{coefficients};
+ghost use Rattle.fips204_base.specs.Residues.{coefficients, residue};
 ghost use Rattle.fips204_base.specs.Transforms.{transform, inverse_transform};
 ghost use Rattle.fips204_base.specs.Vectors.{vector_coefficients, AreTransformsOf};
 
 use crate::helpers::{Count, Lanes};
 use crate::ntt::{write_inv_ntt, write_ntt};
 use crate::types::{R, T};
+use std::array;
 
-/// Writes the transforms of two vectors of together at most eight polynomials, made all at once. Coefficients
+/// Writes the transforms of two vectors, which are one list: so they share a row where it holds both. Coefficients
 /// are below `q` in absolute value, and so are the values.
 ///
 /// Not inlined, so that its rows don't stay in the caller's frame and its calls can be counted.
@@ -24,142 +26,235 @@ pub(crate) fn write_transforms_in_lanes<const L: usize, const K: usize>(
     v_hat: &mut [T; L],
     w_hat: &mut [T; K],
 )
-    requires few { L + K ≤ 8 }
     requires first { IsReducedVector L v.now }
     requires second { IsReducedVector K w.now }
     ensures first { AreTransformsOf L (vector_coefficients v.now) v_hat.new × AreReduced v_hat.new }
     ensures second { AreTransformsOf K (vector_coefficients w.now) w_hat.new × AreReduced w_hat.new }
 {
-    let mut rows = [Lanes::from_array([0; 8]); 256];
-    write_rows(
-        &mut rows,
-        |r, n|
-            requires { (r < 8) × (n < 256) }
-            ensures first { r < L → result ≡ entry v.entry.now r n }
-            ensures second { L ≤ r → result ≡ entry w.entry.now (r - L) n }
-        { coefficient_of_both(v, w, r, n) },
-    );
-    write_ntt(&mut rows, &mut Count::new());
-    write_values(&rows, 0, v_hat);
-    write_values(&rows, L, w_hat);
+    for part in 0..(L + K + 7) / 8 {
+        write_eight_transforms(v, w, 8 * part, v_hat, w_hat, &mut Count::new());
+    }
 }
 
-/// Writes the products of a challenge with at most eight polynomials, given by their transforms, all at once:
-/// coefficients from 0 to `q - 1`. The values are below `q` in absolute value.
+/// Writes the transforms of the eight polynomials from `first` on of two vectors, or as many as there are, and leaves
+/// those before. A row of eight is one transform for the count.
+#[inline(always)]
+fn write_eight_transforms<const L: usize, const K: usize>(
+    v: &[R; L],
+    w: &[R; K],
+    first: usize,
+    v_hat: &mut [T; L],
+    w_hat: &mut [T; K],
+    count: &mut Count,
+)
+    requires places { first < L + K }
+    requires room { (count.old.products + 1024 < 2 ^ 64) × (count.old.sums + 2048 < 2 ^ 64) }
+    requires first { IsReducedVector L v.now }
+    requires second { IsReducedVector K w.now }
+    ensures first { (i j : ℕ) → i < L → InRow first i → j < 256 → vector_residues v_hat.new i j ≡ transform (vector_coefficients v.now i) j }
+    ensures first_small { (i : ℕ) (d : T) → i < L → InRow first i → Within 8380416 (slice_index_or v_hat.new i d).0 }
+    ensures first_size { length v_hat.new ≡ L }
+    ensures first_kept { (i : ℕ) (d : T) → i < L → i < first → slice_index_or v_hat.new i d ≡ slice_index_or v_hat.old i d }
+    ensures second { (i j : ℕ) → i < K → InRow first (L + i) → j < 256 → vector_residues w_hat.new i j ≡ transform (vector_coefficients w.now i) j }
+    ensures second_small { (i : ℕ) (d : T) → i < K → InRow first (L + i) → Within 8380416 (slice_index_or w_hat.new i d).0 }
+    ensures second_size { length w_hat.new ≡ K }
+    ensures second_kept { (i : ℕ) (d : T) → i < K → L + i < first → slice_index_or w_hat.new i d ≡ slice_index_or w_hat.old i d }
+    ensures products { count.new.products ≡ count.old.products + 1024 }
+    ensures sums { count.new.sums ≡ count.old.sums + 2048 }
+{
+    let mut rows: [Lanes; 256] = array::from_fn(
+        |n|
+            requires { (n < 256) × (first < L + K) × IsReducedVector L v.now × IsReducedVector K w.now }
+            ensures first { (j : ℕ) → j < 8 → first + j < L → lane result.lanes j ≡ entry v.entry.now (first + j) n }
+            ensures second { (j : ℕ) → j < 8 → L ≤ first + j → lane result.lanes j ≡ entry w.entry.now (first + j - L) n }
+            ensures small { (j : ℕ) → j < 8 → nat_abs (lane result.lanes j) ≤ 8380416 }
+        { row_of_coefficients(v, w, first, n) },
+    );
+    write_ntt(&mut rows, count);
+    write_values(&rows, first, 0, v_hat);
+    write_values(&rows, first, L, w_hat);
+}
+
+/// Writes the products of a challenge with the polynomials of a vector, given by their transforms: coefficients from
+/// 0 to `q - 1`. The values are below `q` in absolute value.
 ///
 /// Not inlined, so that its rows don't stay in the caller's frame.
 #[inline(never)]
 pub(crate) fn write_products_in_lanes<const K: usize>(c_hat: &T, t: &[T; K], out: &mut [R; K])
-    requires few { K ≤ 8 }
     requires challenge { Within 8380416 c_hat.now.0 }
     requires range { AreReduced t.now }
     ensures values { (r n : ℕ) → r < K → n < 256
         → entry out.new r n ≡ pos (inverse_transform (pointwise (coefficients c_hat.now.0) (vector_residues t.now r)) n) }
     ensures small { IsReducedVector K out.new }
 {
-    let mut rows = [Lanes::from_array([0; 8]); 256];
-    write_rows(
-        &mut rows,
-        |r, n|
-            requires { (r < 8) × (n < 256) }
-            ensures { result ≡ value_at t.entry.now r n }
-        { value_or_zero(t, r, n) },
-    );
-    for n in 0..256 {
-        rows[n] = value_of(&rows, n).times(c_hat.0[n]);
+    for part in 0..(K + 7) / 8 {
+        let first = 8 * part;
+        let mut rows: [Lanes; 256] = array::from_fn(
+            |n|
+                requires { (n < 256) × (first < K) × Within 8380416 c_hat.now.0 × AreReduced t.now }
+                ensures value { (j : ℕ) → j < 8 → residue (lane result.lanes j) ≡ pointwise (coefficients c_hat.entry.now.0) (vector_residues t.entry.now (first + j)) n }
+                ensures small { (j : ℕ) → j < 8 → nat_abs (lane result.lanes j) ≤ 8380416 }
+            { row_of_products(c_hat, t, first, n) },
+        );
+        write_polynomials(&mut rows, first, out, &mut Count::new());
     }
-    write_polynomials(&mut rows, out);
 }
 
-/// Writes at most eight transforms less the products of a challenge with as many polynomials, turned back all
-/// at once: coefficients from 0 to `q - 1`. Values and coefficients are below `q` in absolute value.
+/// Writes the polynomials that have these transforms: coefficients from 0 to `q - 1`. The values are below `q` in
+/// absolute value.
 ///
-/// Not inlined, for the same reasons as `write_transforms_in_lanes`.
+/// Not inlined, so that its rows don't stay in the caller's frame.
+#[inline(never)]
+pub(crate) fn write_inverses_in_lanes<const K: usize>(t: &[T; K], out: &mut [R; K])
+    requires range { AreReduced t.now }
+    ensures values { (r n : ℕ) → r < K → n < 256 → entry out.new r n ≡ pos (inverse_transform (vector_residues t.now r) n) }
+    ensures small { IsReducedVector K out.new }
+{
+    for part in 0..(K + 7) / 8 {
+        let first = 8 * part;
+        let mut rows: [Lanes; 256] = array::from_fn(
+            |n|
+                requires { (n < 256) × (first < K) × AreReduced t.now }
+                ensures value { (j : ℕ) → j < 8 → residue (lane result.lanes j) ≡ vector_residues t.entry.now (first + j) n }
+                ensures small { (j : ℕ) → j < 8 → nat_abs (lane result.lanes j) ≤ 8380416 }
+            { row_of_values(t, first, n) },
+        );
+        write_polynomials(&mut rows, first, out, &mut Count::new());
+    }
+}
+
+/// Writes the polynomials that have the transforms `t` less the products of a challenge with `u`: coefficients from 0
+/// to `q - 1`. The values are below `q` in absolute value.
+///
+/// Not inlined, so that its rows don't stay in the caller's frame.
 #[inline(never)]
 pub(crate) fn write_differences_in_lanes<const K: usize>(
     t: &[T; K],
     c_hat: &T,
-    v: &[R; K],
+    u: &[T; K],
     out: &mut [R; K],
 )
-    requires few { K ≤ 8 }
     requires range { AreReduced t.now }
     requires challenge { Within 8380416 c_hat.now.0 }
-    requires less { IsReducedVector K v.now }
+    requires less { AreReduced u.now }
     ensures values { (r n : ℕ) → r < K → n < 256
-        → entry out.new r n ≡ pos (inverse_transform
-        (minus (vector_residues t.now r) (pointwise (coefficients c_hat.now.0) (transform (vector_coefficients v.now r)))) n) }
+        → entry out.new r n ≡ pos (inverse_transform (minus (vector_residues t.now r) (pointwise (coefficients c_hat.now.0) (vector_residues u.now r))) n) }
     ensures small { IsReducedVector K out.new }
 {
-    let mut rows = [Lanes::from_array([0; 8]); 256];
-    write_rows(
-        &mut rows,
-        |r, n|
-            requires { (r < 8) × (n < 256) }
-            ensures { result ≡ entry v.entry.now r n }
-        { coefficient_or_zero(v, r, n) },
-    );
-    write_ntt(&mut rows, &mut Count::new());
-    for n in 0..256 {
-        let whole = row_at(
-            &|r, n|
-                requires { (r < 8) × (n < 256) }
-                ensures { result ≡ value_at t.entry.now r n }
-            { value_or_zero(t, r, n) },
-            n,
+    for part in 0..(K + 7) / 8 {
+        let first = 8 * part;
+        let mut rows: [Lanes; 256] = array::from_fn(
+            |n|
+                requires { (n < 256) × (first < K) × AreReduced t.now × Within 8380416 c_hat.now.0 × AreReduced u.now }
+                ensures value { (j : ℕ) → j < 8 → residue (lane result.lanes j)
+                    ≡ minus (vector_residues t.entry.now (first + j)) (pointwise (coefficients c_hat.entry.now.0) (vector_residues u.entry.now (first + j))) n }
+                ensures small { (j : ℕ) → j < 8 → nat_abs (lane result.lanes j) ≤ 8380416 }
+            { row_of_differences(t, c_hat, u, first, n) },
         );
-        rows[n] = whole.less(value_of(&rows, n).times(c_hat.0[n]));
+        write_polynomials(&mut rows, first, out, &mut Count::new());
     }
-    write_polynomials(&mut rows, out);
 }
 
-/// Writes the polynomials whose transforms are the first `K` lanes, with coefficients from 0 to `q - 1`. Lanes
-/// are below `q` in absolute value. The rows are used up.
-fn write_polynomials<const K: usize>(rows: &mut [Lanes; 256], out: &mut [R; K])
-    requires few { K ≤ 8 }
+/// Writes the polynomials from `first` on whose transforms are the lanes, with coefficients from 0 to `q - 1`, and
+/// leaves those before. Lanes are below `q` in absolute value. The rows are used up, and are one transform for the
+/// count.
+#[inline(always)]
+fn write_polynomials<const K: usize>(
+    rows: &mut [Lanes; 256],
+    first: usize,
+    out: &mut [R; K],
+    count: &mut Count,
+)
+    requires places { first < K }
+    requires room { (count.old.products + 1024 < 2 ^ 64) × (count.old.sums + 2048 < 2 ^ 64) }
     requires range { LanesWithin (λ x. x.lanes) 8 8380416 rows.old }
-    ensures values { (r n : ℕ) (d : Lanes) → r < K → n < 256
-        → entry out.new r n ≡ pos (inverse_transform (residues (λ x. x.lanes) r d rows.old) n) }
-    ensures small { IsReducedVector K out.new }
+    ensures values { (r n : ℕ) (d : Lanes) → r < K → InRow first r → n < 256
+        → entry out.new r n ≡ pos (inverse_transform (residues (λ x. x.lanes) (r - first) d rows.old) n) }
+    ensures kept { (r : ℕ) (d : R) → r < K → r < first → slice_index_or out.new r d ≡ slice_index_or out.old r d }
+    ensures products { count.new.products ≡ count.old.products + 1024 }
+    ensures sums { count.new.sums ≡ count.old.sums + 2048 }
 {
-    write_inv_ntt(rows, &mut Count::new());
+    write_inv_ntt(rows, count);
     for n in 0..256 {
-        write_coefficient(value_of(rows, n), n, out);
+        write_coefficient(value_of(rows, n), first, n, out);
     }
 }
 
-/// Writes the rows whose lane `r` at place `n` is what `f` gives for `r` and `n`.
+/// The row of coefficient `n` of the eight polynomials from `first` on of two vectors, the second behind the first,
+/// with 0 where they have none. Coefficients are below `q` in absolute value.
 #[inline(always)]
-fn write_rows<F: Fn(usize, usize) -> i32>(rows: &mut [Lanes; 256], f: F)
-    requires { (r n : ℕ) → r < 8 → n < 256 → F.pre f r n }
-    ensures values { (r n : ℕ) (d : Lanes) → r < 8 → n < 256 → F.post f r n (lane_at (λ x. x.lanes) r d rows.new n) }
-    ensures places { length rows.new ≡ 256 }
-{
-    for n in 0..256usize {
-        rows[n] = row_at(&f, n);
-    }
-}
-
-/// The row whose lane `r` is what `f` gives for `r` and `n`.
-#[inline(always)]
-fn row_at<F: Fn(usize, usize) -> i32>(f: &F, n: usize) -> Lanes
-    requires { (r : ℕ) → r < 8 → F.pre f.now r n }
-    ensures { (r : ℕ) → r < 8 → F.post f.now r n (lane result.lanes r) }
+fn row_of_coefficients<const L: usize, const K: usize>(
+    v: &[R; L],
+    w: &[R; K],
+    first: usize,
+    n: usize,
+) -> Lanes
+    requires places { first < L + K }
+    requires place { n < 256 }
+    requires first { IsReducedVector L v.now }
+    requires second { IsReducedVector K w.now }
+    ensures first { (j : ℕ) → j < 8 → first + j < L → lane result.lanes j ≡ entry v.now (first + j) n }
+    ensures second { (j : ℕ) → j < 8 → L ≤ first + j → lane result.lanes j ≡ entry w.now (first + j - L) n }
+    ensures small { (j : ℕ) → j < 8 → nat_abs (lane result.lanes j) ≤ 8380416 }
 {
     let mut entries = [0; 8];
-    for r in 0..8usize {
-        entries[r] = f(r, n);
+    for j in 0..8usize {
+        entries[j] = coefficient_of_both(v, w, first + j, n);
     }
     Lanes::from_array(entries)
 }
 
-/// Coefficient `n` of polynomial `r`, and 0 where the vector has none.
+/// The row of value `n` of the eight transforms from `first` on, with 0 where there is none. Values are below `q` in
+/// absolute value.
 #[inline(always)]
-fn coefficient_or_zero<const L: usize>(v: &[R; L], r: usize, n: usize) -> i32
-    requires { n < 256 }
-    ensures { result ≡ entry v.now r n }
+fn row_of_values<const K: usize>(t: &[T; K], first: usize, n: usize) -> Lanes
+    requires places { first < K }
+    requires place { n < 256 }
+    requires range { AreReduced t.now }
+    ensures values { (j : ℕ) → j < 8 → lane result.lanes j ≡ value_at t.now (first + j) n }
+    ensures small { (j : ℕ) → j < 8 → nat_abs (lane result.lanes j) ≤ 8380416 }
 {
-    if r < L { v[r].0[n] } else { 0 }
+    let mut entries = [0; 8];
+    for j in 0..8usize {
+        entries[j] = value_or_zero(t, first + j, n);
+    }
+    Lanes::from_array(entries)
+}
+
+/// The row of value `n` of the products of a challenge with the eight transforms from `first` on. Values are below `q`
+/// in absolute value.
+#[inline(always)]
+fn row_of_products<const K: usize>(c_hat: &T, t: &[T; K], first: usize, n: usize) -> Lanes
+    requires places { first < K }
+    requires place { n < 256 }
+    requires challenge { Within 8380416 c_hat.now.0 }
+    requires range { AreReduced t.now }
+    ensures value { (j : ℕ) → j < 8 → residue (lane result.lanes j) ≡ pointwise (coefficients c_hat.now.0) (vector_residues t.now (first + j)) n }
+    ensures small { (j : ℕ) → j < 8 → nat_abs (lane result.lanes j) ≤ 8380416 }
+{
+    row_of_values(t, first, n).times(c_hat.0[n])
+}
+
+/// The row of value `n` of the eight transforms of `t` from `first` on less the products of a challenge with those of
+/// `u`. Values are below `q` in absolute value.
+#[inline(always)]
+fn row_of_differences<const K: usize>(
+    t: &[T; K],
+    c_hat: &T,
+    u: &[T; K],
+    first: usize,
+    n: usize,
+) -> Lanes
+    requires places { first < K }
+    requires place { n < 256 }
+    requires range { AreReduced t.now }
+    requires challenge { Within 8380416 c_hat.now.0 }
+    requires less { AreReduced u.now }
+    ensures value { (j : ℕ) → j < 8 → residue (lane result.lanes j)
+        ≡ minus (vector_residues t.now (first + j)) (pointwise (coefficients c_hat.now.0) (vector_residues u.now (first + j))) n }
+    ensures small { (j : ℕ) → j < 8 → nat_abs (lane result.lanes j) ≤ 8380416 }
+{
+    row_of_values(t, first, n).less(row_of_products(c_hat, u, first, n))
 }
 
 /// Coefficient `n` of polynomial `r` of two vectors, the second behind the first, and 0 where they have none.
@@ -170,9 +265,12 @@ fn coefficient_of_both<const L: usize, const K: usize>(
     r: usize,
     n: usize,
 ) -> i32
-    requires { n < 256 }
+    requires place { n < 256 }
+    requires first { IsReducedVector L v.now }
+    requires second { IsReducedVector K w.now }
     ensures first { r < L → result ≡ entry v.now r n }
     ensures second { L ≤ r → result ≡ entry w.now (r - L) n }
+    ensures small { nat_abs result ≤ 8380416 }
 {
     if r < L {
         v[r].0[n]
@@ -181,67 +279,91 @@ fn coefficient_of_both<const L: usize, const K: usize>(
     }
 }
 
+/// Coefficient `n` of polynomial `r`, and 0 where the vector has none.
+#[inline(always)]
+fn coefficient_or_zero<const L: usize>(v: &[R; L], r: usize, n: usize) -> i32
+    requires place { n < 256 }
+    requires range { IsReducedVector L v.now }
+    ensures value { result ≡ entry v.now r n }
+    ensures small { nat_abs result ≤ 8380416 }
+{
+    if r < L { v[r].0[n] } else { 0 }
+}
+
 /// Value `n` of transform `r`, and 0 where the vector has none.
 #[inline(always)]
 fn value_or_zero<const K: usize>(t: &[T; K], r: usize, n: usize) -> i32
-    requires { n < 256 }
-    ensures { result ≡ value_at t.now r n }
+    requires place { n < 256 }
+    requires range { AreReduced t.now }
+    ensures value { result ≡ value_at t.now r n }
+    ensures small { nat_abs result ≤ 8380416 }
 {
     if r < K { t[r].0[n] } else { 0 }
 }
 
-/// Writes the transforms whose values are the `L` lanes from `first` on.
+/// Writes those of the transforms `at`, `at + 1` and so on of a list whose values are lanes of the rows, which hold
+/// the eight from `first` on, and leaves those before.
 #[inline(always)]
-fn write_values<const L: usize>(rows: &[Lanes; 256], first: usize, out: &mut [T; L])
-    requires few { first + L ≤ 8 }
+fn write_values<const N: usize>(rows: &[Lanes; 256], first: usize, at: usize, out: &mut [T; N])
+    requires places { (at + N < 2 ^ 63) × (first < 2 ^ 63) }
     requires range { LanesWithin (λ x. x.lanes) 8 8380416 rows.now }
-    ensures values { (r n : ℕ) (d : Lanes) → r < L → n < 256 → value_at out.new r n ≡ lane_at (λ x. x.lanes) (first + r) d rows.now n }
-    ensures small { AreReduced out.new }
+    ensures values { (r n : ℕ) (d : Lanes) → r < N → InRow first (at + r) → n < 256 → value_at out.new r n ≡ lane_at (λ x. x.lanes) (at + r - first) d rows.now n }
+    ensures size { length out.new ≡ N }
+    ensures small { (r : ℕ) (d : T) → r < N → InRow first (at + r) → Within 8380416 (slice_index_or out.new r d).0 }
+    ensures kept { (r : ℕ) (d : T) → r < N → at + r < first → slice_index_or out.new r d ≡ slice_index_or out.old r d }
 {
     for n in 0..256 {
-        write_value(value_of(rows, n), first, n, out);
+        write_value(value_of(rows, n), first, at, n, out);
     }
 }
 
-/// Writes value `n` of each transform, from lane `first` of a row on.
+/// Writes value `n` of each of the transforms that `write_values` writes.
 #[inline(always)]
-fn write_value<const L: usize>(row: Lanes, first: usize, n: usize, out: &mut [T; L])
-    requires few { first + L ≤ 8 }
+fn write_value<const N: usize>(row: Lanes, first: usize, at: usize, n: usize, out: &mut [T; N])
+    requires places { (at + N < 2 ^ 63) × (first < 2 ^ 63) }
     requires place { n < 256 }
-    ensures values { (r : ℕ) → r < L → value_at out.new r n ≡ lane row.lanes (first + r) }
-    ensures before { (r m : ℕ) → r < L → m < n → value_at out.new r m ≡ value_at out.old r m }
-    ensures size { length out.new ≡ L }
-    ensures places { (r : ℕ) (d : T) → r < L → length (slice_index_or out.new r d).0 ≡ 256 }
+    ensures values { (r : ℕ) → r < N → InRow first (at + r) → value_at out.new r n ≡ lane row.lanes (at + r - first) }
+    ensures before { (r m : ℕ) → r < N → m < n → value_at out.new r m ≡ value_at out.old r m }
+    ensures kept { (r : ℕ) (d : T) → r < N → at + r < first → slice_index_or out.new r d ≡ slice_index_or out.old r d }
+    ensures size { length out.new ≡ N }
+    ensures rows { (r : ℕ) (d : T) → r < N → InRow first (at + r) → length (slice_index_or out.new r d).0 ≡ 256 }
 {
     let entries = row.to_array();
-    for r in 0..L {
-        write_number(&mut out[r].0, n, entries[first + r]);
+    for r in 0..N {
+        write_lane(&mut out[r].0, n, &entries, first, at + r);
     }
 }
 
-/// Writes coefficient `n` of each polynomial, from the first lanes of a row.
+/// Writes coefficient `n` of each of the polynomials that the row holds, which has the eight from `first` on, and
+/// leaves those before.
 #[inline(always)]
-fn write_coefficient<const K: usize>(row: Lanes, n: usize, out: &mut [R; K])
-    requires few { K ≤ 8 }
+fn write_coefficient<const K: usize>(row: Lanes, first: usize, n: usize, out: &mut [R; K])
+    requires places { first < 2 ^ 63 }
     requires place { n < 256 }
-    ensures values { (r : ℕ) → r < K → entry out.new r n ≡ lane row.lanes r }
+    ensures values { (r : ℕ) → r < K → InRow first r → entry out.new r n ≡ lane row.lanes (r - first) }
     ensures before { (r m : ℕ) → r < K → m < n → entry out.new r m ≡ entry out.old r m }
+    ensures kept { (r : ℕ) (d : R) → r < K → r < first → slice_index_or out.new r d ≡ slice_index_or out.old r d }
+    ensures size { length out.new ≡ K }
 {
     let entries = row.to_array();
     for r in 0..K {
-        write_number(&mut out[r].0, n, entries[r]);
+        write_lane(&mut out[r].0, n, &entries, first, r);
     }
 }
 
-/// Writes one of 256 numbers.
+/// Writes number `n` of the polynomial at `place` of a list, where it is one of the eight from `first` on.
 #[inline(always)]
-fn write_number(w: &mut [i32; 256], n: usize, x: i32)
-    requires { n < 256 }
-    ensures value { coefficient_at w.new n ≡ x }
+fn write_lane(w: &mut [i32; 256], n: usize, entries: &[i32; 8], first: usize, place: usize)
+    requires room { first < 2 ^ 63 }
+    requires inside { n < 256 }
+    ensures value { InRow first place → coefficient_at w.new n ≡ lane entries.now (place - first) }
     ensures before { (m : ℕ) → m < n → coefficient_at w.new m ≡ coefficient_at w.old m }
+    ensures kept { place < first → w.new ≡ w.old }
     ensures places { length w.new ≡ 256 }
 {
-    w[n] = x;
+    if first <= place && place < first + 8 {
+        w[n] = entries[place - first];
+    }
 }
 
 /// The value at place `n`.
