@@ -74,18 +74,16 @@ row_of_eight P k at first before after d kept now old i h l = elim (dec_lt (at +
   | no b ↦ now i h (omega (arith, b), l)
 ]
 
--- polynomials of which eight more are written, whose transforms are the lanes of the rows
-pub eight_inverses : (k first : ℕ) (t : ℕ → ℕ → ℕ) (rows : List Lanes) (before after : List R) →
-    ((r n : ℕ) (d : Lanes) → r < k → InRow first r → n < 256 → entry after r n ≡ pos (inverse_transform (residues (λ (x : Lanes). x.lanes) (r - first) d rows) n)) →
-    ((r : ℕ) (d : R) → r < k → r < first → get_or after r d ≡ get_or before r d) →
-    ((i j : ℕ) → i < 256 → j < 8 → residues (λ (x : Lanes). x.lanes) j zeros rows i ≡ t (first + j) i) →
-    ((r n : ℕ) → r < k → r < first → n < 256 → entry before r n ≡ pos (inverse_transform (t r) n)) →
-    (r n : ℕ) → r < k → r < first + 8 → n < 256 → entry after r n ≡ pos (inverse_transform (t r) n)
-eight_inverses k first t rows before after now kept lanes old r n h l p = elim (dec_lt r first) [
+-- polynomials at their places of a list of which eight more are written, whose transforms are the lanes of the rows
+pub eight_inverses : (k first : ℕ) (place : ℕ → ℕ) (t : ℕ → ℕ → ℕ) (rows : List Lanes) (before after : List R) →
+    ((r n : ℕ) (d : Lanes) → r < k → InRow first (place r) → n < 256 → entry after r n ≡ pos (inverse_transform (residues (λ (x : Lanes). x.lanes) (place r - first) d rows) n)) →
+    ((r : ℕ) (d : R) → r < k → place r < first → get_or after r d ≡ get_or before r d) →
+    ((r i : ℕ) → r < k → InRow first (place r) → i < 256 → residues (λ (x : Lanes). x.lanes) (place r - first) zeros rows i ≡ t r i) →
+    ((r n : ℕ) → r < k → place r < first → n < 256 → entry before r n ≡ pos (inverse_transform (t r) n)) →
+    (r n : ℕ) → r < k → place r < first + 8 → n < 256 → entry after r n ≡ pos (inverse_transform (t r) n)
+eight_inverses k first place t rows before after now kept lanes old r n h l p = elim (dec_lt (place r) first) [
   | yes b ↦ ap (λ (w : R). get_or w.0 n (pos 0)) (kept r record { 0 = [] } h b) ∙ old r n h b p
   | no b ↦ (
-      let place : first + (r - first) ≡ r = omega (arith, b) in
-      let lane : r - first < 8 = omega (arith, b, l) in
-      now r n zeros h (omega (arith, b), l) p ∙ ap pos (inverse_same (residues (λ (x : Lanes). x.lanes) (r - first) zeros rows) (t r)
-      (λ i q. congruent_of (lanes i (r - first) q lane ∙ ap (λ s. t s i) place)) n))
+      let inside : InRow first (place r) = (omega (arith, b), l) in
+      now r n zeros h inside p ∙ ap pos (inverse_same (residues (λ (x : Lanes). x.lanes) (place r - first) zeros rows) (t r) (λ i q. congruent_of (lanes r i h inside q)) n))
 ]

@@ -68,8 +68,31 @@ pub fn challenge_times_transforms<const K: usize>(c_hat: &T, v_hat: &[T; K]) -> 
     ensures range { IsReducedVector K result }
 {
     let mut out = [R0; K];
-    write_products_in_lanes(c_hat, v_hat, &mut out);
+    write_products_in_lanes(c_hat, v_hat, &[], &mut out, &mut []);
     out
+}
+
+/// Writes the products of a challenge with the polynomials of two vectors, which share the lanes of a row where it
+/// holds both: coefficients from 0 to `q - 1`. All are given by their transforms, with values below `q` in absolute
+/// value.
+pub fn write_challenge_times_both<const L: usize, const K: usize>(
+    c_hat: &T,
+    s_hat: &[T; L],
+    t_hat: &[T; K],
+    s: &mut [R; L],
+    t: &mut [R; K],
+)
+    requires challenge { Within 8380416 c_hat.now.0 }
+    requires first { AreReduced s_hat.now }
+    requires second { AreReduced t_hat.now }
+    ensures first { (c : ℕ → ℕ) (v : ℕ → ℕ → ℕ) → IsTransformOf c c_hat.now → AreTransformsOf L v s_hat.now
+        → (r n : ℕ) → r < L → n < 256 → entry s.new r n ≡ pos (product c (v r) n) }
+    ensures first_range { IsReducedVector L s.new }
+    ensures second { (c : ℕ → ℕ) (v : ℕ → ℕ → ℕ) → IsTransformOf c c_hat.now → AreTransformsOf K v t_hat.now
+        → (r n : ℕ) → r < K → n < 256 → entry t.new r n ≡ pos (product c (v r) n) }
+    ensures second_range { IsReducedVector K t.new }
+{
+    write_products_in_lanes(c_hat, s_hat, t_hat, s, t);
 }
 
 /// The product of a matrix with a vector, less the product of a challenge with a vector: coefficients

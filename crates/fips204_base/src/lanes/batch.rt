@@ -75,28 +75,39 @@ fn write_eight_transforms<const L: usize, const K: usize>(
     write_values(&rows, first, L, w_hat);
 }
 
-/// Writes the products of a challenge with the polynomials of a vector, given by their transforms: coefficients from
-/// 0 to `q - 1`. The values are below `q` in absolute value.
+/// Writes the products of a challenge with the polynomials of two vectors, given by their transforms, which are one
+/// list: coefficients from 0 to `q - 1`. The values are below `q` in absolute value.
 ///
 /// Not inlined, so that its rows don't stay in the caller's frame.
 #[inline(never)]
-pub(crate) fn write_products_in_lanes<const K: usize>(c_hat: &T, t: &[T; K], out: &mut [R; K])
+pub(crate) fn write_products_in_lanes<const L: usize, const K: usize>(
+    c_hat: &T,
+    t: &[T; L],
+    u: &[T; K],
+    v: &mut [R; L],
+    w: &mut [R; K],
+)
     requires challenge { Within 8380416 c_hat.now.0 }
-    requires range { AreReduced t.now }
-    ensures values { (r n : ℕ) → r < K → n < 256
-        → entry out.new r n ≡ pos (inverse_transform (pointwise (coefficients c_hat.now.0) (vector_residues t.now r)) n) }
-    ensures small { IsReducedVector K out.new }
+    requires first { AreReduced t.now }
+    requires second { AreReduced u.now }
+    ensures first { (r n : ℕ) → r < L → n < 256
+        → entry v.new r n ≡ pos (inverse_transform (pointwise (coefficients c_hat.now.0) (vector_residues t.now r)) n) }
+    ensures first_small { IsReducedVector L v.new }
+    ensures second { (r n : ℕ) → r < K → n < 256
+        → entry w.new r n ≡ pos (inverse_transform (pointwise (coefficients c_hat.now.0) (vector_residues u.now r)) n) }
+    ensures second_small { IsReducedVector K w.new }
 {
-    for part in 0..(K + 7) / 8 {
+    for part in 0..(L + K + 7) / 8 {
         let first = 8 * part;
         let mut rows: [Lanes; 256] = array::from_fn(
             |n|
-                requires { (n < 256) × (first < K) × Within 8380416 c_hat.now.0 × AreReduced t.now }
-                ensures value { (j : ℕ) → j < 8 → residue (lane result.lanes j) ≡ pointwise (coefficients c_hat.entry.now.0) (vector_residues t.entry.now (first + j)) n }
+                requires { (n < 256) × (first < L + K) × Within 8380416 c_hat.now.0 × AreReduced t.now × AreReduced u.now }
+                ensures first { (j : ℕ) → j < 8 → first + j < L → residue (lane result.lanes j) ≡ pointwise (coefficients c_hat.entry.now.0) (vector_residues t.entry.now (first + j)) n }
+                ensures second { (j : ℕ) → j < 8 → L ≤ first + j → residue (lane result.lanes j) ≡ pointwise (coefficients c_hat.entry.now.0) (vector_residues u.entry.now (first + j - L)) n }
                 ensures small { (j : ℕ) → j < 8 → nat_abs (lane result.lanes j) ≤ 8380416 }
-            { row_of_products(c_hat, t, first, n) },
+            { row_of_products(c_hat, t, u, first, n) },
         );
-        write_polynomials(&mut rows, first, out, &mut Count::new());
+        write_polynomials(&mut rows, first, v, w, &mut Count::new());
     }
 }
 
@@ -115,11 +126,11 @@ pub(crate) fn write_inverses_in_lanes<const K: usize>(t: &[T; K], out: &mut [R; 
         let mut rows: [Lanes; 256] = array::from_fn(
             |n|
                 requires { (n < 256) × (first < K) × AreReduced t.now }
-                ensures value { (j : ℕ) → j < 8 → residue (lane result.lanes j) ≡ vector_residues t.entry.now (first + j) n }
+                ensures value { (j : ℕ) → j < 8 → first + j < K → residue (lane result.lanes j) ≡ vector_residues t.entry.now (first + j) n }
                 ensures small { (j : ℕ) → j < 8 → nat_abs (lane result.lanes j) ≤ 8380416 }
-            { row_of_values(t, first, n) },
+            { row_of_values(t, &[], first, n) },
         );
-        write_polynomials(&mut rows, first, out, &mut Count::new());
+        write_polynomials(&mut rows, first, out, &mut [], &mut Count::new());
     }
 }
 
@@ -146,38 +157,41 @@ pub(crate) fn write_differences_in_lanes<const K: usize>(
         let mut rows: [Lanes; 256] = array::from_fn(
             |n|
                 requires { (n < 256) × (first < K) × AreReduced t.now × Within 8380416 c_hat.now.0 × AreReduced u.now }
-                ensures value { (j : ℕ) → j < 8 → residue (lane result.lanes j)
+                ensures value { (j : ℕ) → j < 8 → first + j < K → residue (lane result.lanes j)
                     ≡ minus (vector_residues t.entry.now (first + j)) (pointwise (coefficients c_hat.entry.now.0) (vector_residues u.entry.now (first + j))) n }
                 ensures small { (j : ℕ) → j < 8 → nat_abs (lane result.lanes j) ≤ 8380416 }
             { row_of_differences(t, c_hat, u, first, n) },
         );
-        write_polynomials(&mut rows, first, out, &mut Count::new());
+        write_polynomials(&mut rows, first, out, &mut [], &mut Count::new());
     }
 }
 
-/// Writes the polynomials from `first` on whose transforms are the lanes, with coefficients from 0 to `q - 1`, and
-/// leaves those before. Lanes are below `q` in absolute value. The rows are used up, and are one transform for the
-/// count.
+/// Writes the polynomials of two vectors, from `first` on of their list, whose transforms are the lanes, with
+/// coefficients from 0 to `q - 1`, and leaves those before. Lanes are below `q` in absolute value. The rows are used
+/// up, and are one transform for the count.
 #[inline(always)]
-fn write_polynomials<const K: usize>(
+fn write_polynomials<const L: usize, const K: usize>(
     rows: &mut [Lanes; 256],
     first: usize,
-    out: &mut [R; K],
+    v: &mut [R; L],
+    w: &mut [R; K],
     count: &mut Count,
 )
-    requires places { first < K }
+    requires places { first < L + K }
     requires room { (count.old.products + 1024 < 2 ^ 64) × (count.old.sums + 2048 < 2 ^ 64) }
     requires range { LanesWithin (λ x. x.lanes) 8 8380416 rows.old }
-    ensures values { (r n : ℕ) (d : Lanes) → r < K → InRow first r → n < 256
-        → entry out.new r n ≡ pos (inverse_transform (residues (λ x. x.lanes) (r - first) d rows.old) n) }
-    ensures kept { (r : ℕ) (d : R) → r < K → r < first → slice_index_or out.new r d ≡ slice_index_or out.old r d }
+    ensures first { (r n : ℕ) (d : Lanes) → r < L → InRow first r → n < 256
+        → entry v.new r n ≡ pos (inverse_transform (residues (λ x. x.lanes) (r - first) d rows.old) n) }
+    ensures first_kept { (r : ℕ) (d : R) → r < L → r < first → slice_index_or v.new r d ≡ slice_index_or v.old r d }
+    ensures second { (r n : ℕ) (d : Lanes) → r < K → InRow first (L + r) → n < 256
+        → entry w.new r n ≡ pos (inverse_transform (residues (λ x. x.lanes) (L + r - first) d rows.old) n) }
+    ensures second_kept { (r : ℕ) (d : R) → r < K → L + r < first → slice_index_or w.new r d ≡ slice_index_or w.old r d }
     ensures products { count.new.products ≡ count.old.products + 1024 }
     ensures sums { count.new.sums ≡ count.old.sums + 2048 }
 {
     write_inv_ntt(rows, count);
-    for n in 0..256 {
-        write_coefficient(value_of(rows, n), first, n, out);
-    }
+    write_coefficients(rows, first, 0, v);
+    write_coefficients(rows, first, L, w);
 }
 
 /// The row of coefficient `n` of the eight polynomials from `first` on of two vectors, the second behind the first,
@@ -204,35 +218,50 @@ fn row_of_coefficients<const L: usize, const K: usize>(
     Lanes::from_array(entries)
 }
 
-/// The row of value `n` of the eight transforms from `first` on, with 0 where there is none. Values are below `q` in
-/// absolute value.
+/// The row of value `n` of the eight transforms from `first` on of two vectors, the second behind the first, with 0
+/// where they have none. Values are below `q` in absolute value.
 #[inline(always)]
-fn row_of_values<const K: usize>(t: &[T; K], first: usize, n: usize) -> Lanes
-    requires places { first < K }
+fn row_of_values<const L: usize, const K: usize>(
+    t: &[T; L],
+    u: &[T; K],
+    first: usize,
+    n: usize,
+) -> Lanes
+    requires places { first < L + K }
     requires place { n < 256 }
-    requires range { AreReduced t.now }
-    ensures values { (j : ℕ) → j < 8 → lane result.lanes j ≡ value_at t.now (first + j) n }
+    requires first { AreReduced t.now }
+    requires second { AreReduced u.now }
+    ensures first { (j : ℕ) → j < 8 → first + j < L → lane result.lanes j ≡ value_at t.now (first + j) n }
+    ensures second { (j : ℕ) → j < 8 → L ≤ first + j → lane result.lanes j ≡ value_at u.now (first + j - L) n }
     ensures small { (j : ℕ) → j < 8 → nat_abs (lane result.lanes j) ≤ 8380416 }
 {
     let mut entries = [0; 8];
     for j in 0..8usize {
-        entries[j] = value_or_zero(t, first + j, n);
+        entries[j] = value_of_both(t, u, first + j, n);
     }
     Lanes::from_array(entries)
 }
 
-/// The row of value `n` of the products of a challenge with the eight transforms from `first` on. Values are below `q`
-/// in absolute value.
+/// The row of value `n` of the products of a challenge with the eight transforms from `first` on of two vectors.
+/// Values are below `q` in absolute value.
 #[inline(always)]
-fn row_of_products<const K: usize>(c_hat: &T, t: &[T; K], first: usize, n: usize) -> Lanes
-    requires places { first < K }
+fn row_of_products<const L: usize, const K: usize>(
+    c_hat: &T,
+    t: &[T; L],
+    u: &[T; K],
+    first: usize,
+    n: usize,
+) -> Lanes
+    requires places { first < L + K }
     requires place { n < 256 }
     requires challenge { Within 8380416 c_hat.now.0 }
-    requires range { AreReduced t.now }
-    ensures value { (j : ℕ) → j < 8 → residue (lane result.lanes j) ≡ pointwise (coefficients c_hat.now.0) (vector_residues t.now (first + j)) n }
+    requires first { AreReduced t.now }
+    requires second { AreReduced u.now }
+    ensures first { (j : ℕ) → j < 8 → first + j < L → residue (lane result.lanes j) ≡ pointwise (coefficients c_hat.now.0) (vector_residues t.now (first + j)) n }
+    ensures second { (j : ℕ) → j < 8 → L ≤ first + j → residue (lane result.lanes j) ≡ pointwise (coefficients c_hat.now.0) (vector_residues u.now (first + j - L)) n }
     ensures small { (j : ℕ) → j < 8 → nat_abs (lane result.lanes j) ≤ 8380416 }
 {
-    row_of_values(t, first, n).times(c_hat.0[n])
+    row_of_values(t, u, first, n).times(c_hat.0[n])
 }
 
 /// The row of value `n` of the eight transforms of `t` from `first` on less the products of a challenge with those of
@@ -250,11 +279,11 @@ fn row_of_differences<const K: usize>(
     requires range { AreReduced t.now }
     requires challenge { Within 8380416 c_hat.now.0 }
     requires less { AreReduced u.now }
-    ensures value { (j : ℕ) → j < 8 → residue (lane result.lanes j)
+    ensures value { (j : ℕ) → j < 8 → first + j < K → residue (lane result.lanes j)
         ≡ minus (vector_residues t.now (first + j)) (pointwise (coefficients c_hat.now.0) (vector_residues u.now (first + j))) n }
     ensures small { (j : ℕ) → j < 8 → nat_abs (lane result.lanes j) ≤ 8380416 }
 {
-    row_of_values(t, first, n).less(row_of_products(c_hat, u, first, n))
+    row_of_values(t, &[], first, n).less(row_of_products(c_hat, u, &[], first, n))
 }
 
 /// Coefficient `n` of polynomial `r` of two vectors, the second behind the first, and 0 where they have none.
@@ -288,6 +317,28 @@ fn coefficient_or_zero<const L: usize>(v: &[R; L], r: usize, n: usize) -> i32
     ensures small { nat_abs result ≤ 8380416 }
 {
     if r < L { v[r].0[n] } else { 0 }
+}
+
+/// Value `n` of transform `r` of two vectors, the second behind the first, and 0 where they have none.
+#[inline(always)]
+fn value_of_both<const L: usize, const K: usize>(
+    t: &[T; L],
+    u: &[T; K],
+    r: usize,
+    n: usize,
+) -> i32
+    requires place { n < 256 }
+    requires first { AreReduced t.now }
+    requires second { AreReduced u.now }
+    ensures first { r < L → result ≡ value_at t.now r n }
+    ensures second { L ≤ r → result ≡ value_at u.now (r - L) n }
+    ensures small { nat_abs result ≤ 8380416 }
+{
+    if r < L {
+        t[r].0[n]
+    } else {
+        value_or_zero(u, r - L, n)
+    }
 }
 
 /// Value `n` of transform `r`, and 0 where the vector has none.
@@ -334,20 +385,43 @@ fn write_value<const N: usize>(row: Lanes, first: usize, at: usize, n: usize, ou
     }
 }
 
-/// Writes coefficient `n` of each of the polynomials that the row holds, which has the eight from `first` on, and
-/// leaves those before.
+/// Writes those of the polynomials `at`, `at + 1` and so on of a list whose coefficients are lanes of the rows, which
+/// hold the eight from `first` on, and leaves those before.
 #[inline(always)]
-fn write_coefficient<const K: usize>(row: Lanes, first: usize, n: usize, out: &mut [R; K])
-    requires places { first < 2 ^ 63 }
+fn write_coefficients<const N: usize>(
+    rows: &[Lanes; 256],
+    first: usize,
+    at: usize,
+    out: &mut [R; N],
+)
+    requires places { (at + N < 2 ^ 63) × (first < 2 ^ 63) }
+    ensures values { (r n : ℕ) (d : Lanes) → r < N → InRow first (at + r) → n < 256 → entry out.new r n ≡ lane_at (λ x. x.lanes) (at + r - first) d rows.now n }
+    ensures kept { (r : ℕ) (d : R) → r < N → at + r < first → slice_index_or out.new r d ≡ slice_index_or out.old r d }
+{
+    for n in 0..256 {
+        write_coefficient(value_of(rows, n), first, at, n, out);
+    }
+}
+
+/// Writes coefficient `n` of each of the polynomials that `write_coefficients` writes.
+#[inline(always)]
+fn write_coefficient<const N: usize>(
+    row: Lanes,
+    first: usize,
+    at: usize,
+    n: usize,
+    out: &mut [R; N],
+)
+    requires places { (at + N < 2 ^ 63) × (first < 2 ^ 63) }
     requires place { n < 256 }
-    ensures values { (r : ℕ) → r < K → InRow first r → entry out.new r n ≡ lane row.lanes (r - first) }
-    ensures before { (r m : ℕ) → r < K → m < n → entry out.new r m ≡ entry out.old r m }
-    ensures kept { (r : ℕ) (d : R) → r < K → r < first → slice_index_or out.new r d ≡ slice_index_or out.old r d }
-    ensures size { length out.new ≡ K }
+    ensures values { (r : ℕ) → r < N → InRow first (at + r) → entry out.new r n ≡ lane row.lanes (at + r - first) }
+    ensures before { (r m : ℕ) → r < N → m < n → entry out.new r m ≡ entry out.old r m }
+    ensures kept { (r : ℕ) (d : R) → r < N → at + r < first → slice_index_or out.new r d ≡ slice_index_or out.old r d }
+    ensures size { length out.new ≡ N }
 {
     let entries = row.to_array();
-    for r in 0..K {
-        write_lane(&mut out[r].0, n, &entries, first, r);
+    for r in 0..N {
+        write_lane(&mut out[r].0, n, &entries, first, at + r);
     }
 }
 
