@@ -321,12 +321,7 @@ fn coefficient_or_zero<const L: usize>(v: &[R; L], r: usize, n: usize) -> i32
 
 /// Value `n` of transform `r` of two vectors, the second behind the first, and 0 where they have none.
 #[inline(always)]
-fn value_of_both<const L: usize, const K: usize>(
-    t: &[T; L],
-    u: &[T; K],
-    r: usize,
-    n: usize,
-) -> i32
+fn value_of_both<const L: usize, const K: usize>(t: &[T; L], u: &[T; K], r: usize, n: usize) -> i32
     requires place { n < 256 }
     requires first { AreReduced t.now }
     requires second { AreReduced u.now }
