@@ -5,12 +5,12 @@ use Rattle.std.proofs.lemmas.Int.{ints}
 use Rattle.fips204_base.specs.declared.fault.Fault.TheVariants.{SamplingLimit}
 use Rattle.fips204_base.specs.declared.types.R.{R}
 use Rattle.fips204_base.specs.declared.types.T.{T}
-use Rattle.fips204_base.specs.Challenge.{challenge}
+use Rattle.fips204_base.specs.Sampling.{challenge}
 use Rattle.fips204_base.specs.Encodings.{w1_bytes}
-use Rattle.fips204_base.specs.Mask.{mask}
-use Rattle.fips204_base.specs.Packing.{InRange}
-use Rattle.fips204_base.specs.Polynomials.{entry, VectorWithin}
-use Rattle.fips204_base.specs.Products.{minus}
+use Rattle.fips204_base.specs.Sampling.{mask}
+use Rattle.fips204_base.specs.Packing.{PolynomialInRange}
+use Rattle.fips204_base.specs.Vectors.{entry, VectorWithin}
+use Rattle.fips204_base.specs.Transforms.{minus}
 use Rattle.fips204_base.specs.Residues.{residue}
 use Rattle.fips204_base.specs.Rounding.{high_bits, high_values, low_bits}
 use Rattle.fips204_base.specs.Vectors.{vector_coefficients, matrix_product, plain_matrix, vector_of}
@@ -19,10 +19,10 @@ use Rattle.fips204_base.proofs.Products.{row_below}
 use Rattle.fips204_base.proofs.Rounding.{high_bits_below}
 use Rattle.fips204_base.proofs.Masks.{mask-range}
 use Rattle.fips204_base.proofs.Vectors.{vector_of-ext, vector_of-range, vector-within}
-use Rattle.fips204.specs.Attempts.{attempt, commitment, high_vector, hint_bit, hint_vector, passes_checks, checked_attempt, low_vector, scaled}
+use Rattle.fips204.specs.Signing.{attempt, commitment, high_vector, hint_bit, hint_vector, passes_checks, checked_attempt, low_vector, scaled}
 use Rattle.fips204.specs.Keys.{PrivateParts}
 use Rattle.fips204.specs.ParameterSets.{ParameterSet, commitment_length}
-use Rattle.fips204.specs.Signing.{attempt_answer}
+use Rattle.fips204.specs.SigningInputs.{attempt_answer}
 use Rattle.fips204.proofs.ParameterSets.{rounding-size}
 
 -- ---- vectors of the same coefficients
@@ -94,14 +94,14 @@ product-coefficients k l a y w e r n h m =
 
 -- the range of a high part
 high_values-range : (gamma2 k : ℕ) (f : ℕ → ℕ → ℕ) → (gamma2 ≡ 95232) ⊎ (gamma2 ≡ 261888) → ((r n : ℕ) → f r n < 8380417)
-    → All (λ u. InRange (pos 0) (pos (high_values gamma2 - 1)) u.0) (vector_of k (λ r n. pos (high_bits gamma2 (f r n))))
+    → All (λ u. PolynomialInRange (pos 0) (pos (high_values gamma2 - 1)) u.0) (vector_of k (λ r n. pos (high_bits gamma2 (f r n))))
 high_values-range gamma2 k f set residues =
     (vector_of-range k 0 (high_values gamma2 - 1) (λ r n. pos (high_bits gamma2 (f r n))) (λ r n h m.
     let below = high_bits_below gamma2 (f r n) set (residues r n) in
     (omega (arith, ints), omega (arith, ints, below)))).range
 
 pub high-range : (gamma2 : ℤ) (k : ℕ) (w w1 : List R) → (gamma2 ≡ pos 95232) ⊎ (gamma2 ≡ pos 261888) → w1 ≡ vector_of k (λ r n. pos (high_bits (nat_abs gamma2) (vector_coefficients w r n)))
-    → All (λ u. InRange (pos 0) (pos (high_values (nat_abs gamma2) - 1)) u.0) w1
+    → All (λ u. PolynomialInRange (pos 0) (pos (high_values (nat_abs gamma2) - 1)) u.0) w1
 high-range gamma2 k w w1 set e = rw e (high_values-range (nat_abs gamma2) k (vector_coefficients w) (rounding-size gamma2 set) (λ r n. residue_below (entry w r n)))
 
 -- ---- an attempt by its parts

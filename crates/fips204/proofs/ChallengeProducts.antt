@@ -3,9 +3,9 @@ use Rattle.std.proofs.Common.{◌≡◌, ◌≢◌, ◌⊎◌, inl, inr, ◌<◌
 use Rattle.std.specs.Prelude.{nat_eq, max, fold}
 use Rattle.std.proofs.lemmas.Bool.{cases_Bool, cases_lt, ne_eqb, eq-eqb, lt-ltb, le-ltb, le-leb, lt-leb}
 use Rattle.fips204_base.specs.declared.types.R.{R}
-use Rattle.fips204_base.specs.Challenge.{sign_of, signed_sum, challenge}
+use Rattle.fips204_base.specs.Sampling.{sign_of, signed_sum, challenge}
 use Rattle.fips204_base.specs.Packing.{bits}
-use Rattle.fips204_base.specs.Products.{shifted, product}
+use Rattle.fips204_base.specs.Transforms.{shifted, product}
 use Rattle.fips204_base.specs.Residues.{IsCongruent, residue, coefficients, sum_below}
 use Rattle.fips204_base.specs.Vectors.{polynomial_of, vector_of}
 use Rattle.fips204_base.proofs.Challenges.{challenge_places, length-challenge_places}
@@ -13,7 +13,7 @@ use Rattle.fips204_base.proofs.Residues.{residue_add, residue_below, congruent_r
 use Rattle.fips204_base.proofs.Vectors.{polynomial_of-at, length-polynomial_of, length-vector_of, vector_of-row, vector_of-at}
 use Rattle.std.proofs.Math.Nat.{le-max_left, le-max_right, max-le}
 use Rattle.std.proofs.lemmas.Int.{ints}
-use Rattle.fips204_base.specs.CentredValues.{centred, norm, vector_norm}
+use Rattle.fips204_base.specs.Residues.{centred, norm, vector_norm}
 use Rattle.std.proofs.lemmas.List.{get_or_past}
 use Rattle.fips204.specs.SchemeLaws.{ChallengeProductIsSmall}
 use Rattle.fips204.proofs.Ranges.{challenge-sum}

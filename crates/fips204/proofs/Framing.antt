@@ -3,8 +3,8 @@ use Rattle.std.proofs.Common.{◌≡◌, ◌+◌, ℕ, List, [], ◌∷◌, ◌+
 use Rattle.fips204_base.specs.declared.fault.Fault.{Fault}
 use Rattle.fips204_base.specs.declared.fault.Fault.TheVariants.{OidEmpty, OidNotDer, DigestTooLong, DigestLength, HashCtx}
 use Rattle.std.proofs.Math.Seq.{take-append_seam, drop-append_seam}
-use Rattle.fips204.specs.PreHash.{is_der, differs, digest_length, pre_hash_fault}
-use Rattle.fips204.specs.MessageLaws.{FramingIsOneToOne, SignatureBindsMessage, SignatureBindsInput}
+use Rattle.fips204.specs.Framing.{is_der, differs, digest_length, pre_hash_fault}
+use Rattle.fips204.specs.SchemeLaws.{FramingIsOneToOne, SignatureBindsMessage, SignatureBindsInput}
 use Rattle.fips204.proofs.ParameterSets.{and_out, set_numbers}
 use Rattle.fips204.proofs.RefusedCalls.{passed, short_context}
 use Rattle.std.specs.Prelude.{bytes_eq}
@@ -13,10 +13,10 @@ use Rattle.std.proofs.lemmas.Slice.Eq.{bytes_eq-Decides}
 use Rattle.fips204_base.specs.declared.types.R.{R}
 use Rattle.fips204_base.specs.declared.types.T.{T}
 use Rattle.fips204_base.specs.Encodings.{w1_bytes}
-use Rattle.fips204_base.specs.Challenge.{challenge}
+use Rattle.fips204_base.specs.Sampling.{challenge}
 use Rattle.fips204_base.proofs.EncodedParts.{same_signature}
 use Rattle.fips204.specs.ParameterSets.{ParameterSet, is_parameter_set, commitment_length}
-use Rattle.fips204.specs.Attempts.{commitment}
+use Rattle.fips204.specs.Signing.{commitment}
 use Rattle.fips204.specs.Acceptance.{Accepts, w1_prime}
 use Rattle.fips204.specs.Framing.{plain, hashed, framed_input, message_hash}
 
@@ -73,12 +73,12 @@ same_context c d us vs mode e =
     cut c d us vs lengths rest
 
 pub same_input : FramingIsOneToOne
-same_input (plain c m) (plain d n) s t e =
+same_input (plain m c) (plain n d) s t e =
     let both = same_context c d m n 0 e in
     cc
-same_input (plain c m) (hashed d o h) s t e = absurd (omega (arith, modes _ _ _ _ e))
-same_input (hashed c o h) (plain d n) s t e = absurd (omega (arith, modes _ _ _ _ e))
-same_input (hashed c o h) (hashed d p i) s t e =
+same_input (plain m c) (hashed h d o) s t e = absurd (omega (arith, modes _ _ _ _ e))
+same_input (hashed h c o) (plain n d) s t e = absurd (omega (arith, modes _ _ _ _ e))
+same_input (hashed h c o) (hashed i d p) s t e =
     let left : 1 ∷ length c ∷ c ++ (o ++ h) ≡ 1 ∷ length d ∷ d ++ (p ++ i) = ap (λ l. 1 ∷ length c ∷ l) (sym (append_assoc c o h)) ∙ e ∙ ap (λ l. 1 ∷ length d ∷ l) (append_assoc d p i) in
     let outer = same_context c d (o ++ h) (p ++ i) 1 left in
     let first = der_of_none h o (short_context c HashCtx (pre_hash_fault h o) s).1 in

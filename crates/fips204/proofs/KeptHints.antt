@@ -4,9 +4,9 @@ use Rattle.std.proofs.lemmas.Int.{ints}
 use Rattle.std.proofs.lemmas.Bool.{cases_lt, le-leb, lt-leb}
 use Rattle.fips204_base.specs.declared.types.R.{R}
 use Rattle.fips204_base.specs.declared.types.T.{T}
-use Rattle.fips204_base.specs.Polynomials.{entry}
-use Rattle.fips204_base.specs.CentredValues.{centred, centred_modulo, vector_norm}
-use Rattle.fips204_base.specs.Products.{product, plus, minus, row_product}
+use Rattle.fips204_base.specs.Vectors.{entry}
+use Rattle.fips204_base.specs.Residues.{centred, centred_modulo, vector_norm}
+use Rattle.fips204_base.specs.Transforms.{product, plus, minus, row_product}
 use Rattle.fips204_base.specs.Residues.{IsCongruent, residue, coefficients}
 use Rattle.fips204_base.specs.Rounding.{power2round, high_bits, low_bits, make_hint, use_hint}
 use Rattle.fips204_base.specs.Vectors.{vector_coefficients, matrix_product, plain_matrix, vector_of, IsVector}
@@ -16,12 +16,12 @@ use Rattle.fips204_base.proofs.Rounding.{power2round_back, low_bits_near}
 use Rattle.fips204_base.proofs.Vectors.{vector_of-ext, vector_of-entry, vector_of-at, vector-within}
 use Rattle.fips204.specs.ParameterSets.{ParameterSet}
 use Rattle.fips204.specs.Keys.{PrivateParts, eta_of_rows}
-use Rattle.fips204.specs.KeyGeneration.{key_vector, high_part, low_part}
-use Rattle.fips204.specs.Attempts.{scaled, response, w_minus_cs2, low_vector, ct0, hint_vector, high_vector}
+use Rattle.fips204.specs.Keys.{key_vector, high_part, low_part}
+use Rattle.fips204.specs.Signing.{scaled, response, w_minus_cs2, low_vector, ct0, hint_vector, high_vector}
 use Rattle.fips204.specs.Acceptance.{t1_shifted, w_approx, w1_prime}
 use Rattle.std.specs.Prelude.{int_lt}
-use Rattle.fips204_base.specs.Challenge.{challenge}
-use Rattle.fips204_base.specs.HintSpelling.{is_one, all_ones}
+use Rattle.fips204_base.specs.Sampling.{challenge}
+use Rattle.fips204_base.specs.Encodings.{is_one, all_ones}
 use Rattle.fips204_base.proofs.Reductions.{centred-modulo}
 use Rattle.fips204_base.proofs.RoundingLaws.{use_hint_of_make_hint, high_bits_stay}
 use Rattle.fips204.specs.SchemeLaws.{IsGamma2}

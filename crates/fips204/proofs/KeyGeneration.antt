@@ -5,20 +5,20 @@ use Rattle.fips204.proofs.RefusedCalls.{same_some}
 use Rattle.std.proofs.lemmas.Int.{ints}
 use Rattle.fips204_base.specs.declared.types.R.{R}
 use Rattle.fips204_base.specs.declared.types.T.{T}
-use Rattle.fips204_base.specs.Products.{plus}
+use Rattle.fips204_base.specs.Transforms.{plus}
 use Rattle.fips204_base.specs.Residues.{residue}
 use Rattle.fips204_base.specs.Rounding.{power2round}
 use Rattle.fips204_base.specs.Vectors.{IsVector, vector_coefficients, vector_of, matrix_product}
 use Rattle.fips204_base.proofs.Rounding.{power2round_high, power2round_low}
 use Rattle.fips204_base.proofs.Vectors.{vector_of-ext, vector_of-entry, vector_of-range}
-use Rattle.fips204.specs.KeyGeneration.{IsWhole, key_vector, high_part, low_part, seeds, key_hash, key_pair, key_pair_if_all, key_generation, public_key_of}
+use Rattle.fips204.specs.Keys.{IsWhole, key_vector, high_part, low_part, seeds, key_hash, key_pair, key_pair_if_all, key_generation, public_key_of}
 use Rattle.fips204.specs.ParameterSets.{ParameterSet}
 use Rattle.std.specs.Prelude.{ok_or}
 use Rattle.std.proofs.lemmas.List.{drop-take, take-take}
 use Rattle.std.specs.declared.option.Option.{Option}
 use Rattle.fips204_base.specs.declared.fault.Fault.TheVariants.{SamplingLimit}
-use Rattle.fips204_base.specs.MatrixEntry.{sampled_matrix}
-use Rattle.fips204_base.specs.SmallPolynomial.{small_vector}
+use Rattle.fips204_base.specs.Sampling.{sampled_matrix}
+use Rattle.fips204_base.specs.Sampling.{small_vector}
 use Rattle.fips204.specs.Keys.{PublicParts, PrivateParts}
 use Rattle.fips204.specs.Refusals.{generated, derived}
 

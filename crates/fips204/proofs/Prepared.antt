@@ -7,15 +7,16 @@ use Rattle.std.specs.declared.option.Option.{Option}
 use Rattle.fips204_base.specs.declared.fault.Fault.{Fault}
 use Rattle.fips204_base.specs.declared.fault.Fault.TheVariants.{SamplingLimit}
 use Rattle.fips204_base.specs.declared.types.T.{T}
-use Rattle.fips204_base.specs.MatrixEntry.{sampled_matrix}
+use Rattle.fips204_base.specs.Sampling.{sampled_matrix}
 use Rattle.fips204.specs.Acceptance.{Accepts, Verifies}
 use Rattle.fips204.specs.Framing.{Input, plain, framed_input, message_hash}
 use Rattle.fips204.specs.Keys.{PublicParts, PrivateParts, ArePrivateParts}
 use Rattle.fips204.specs.ParameterSets.{ParameterSet, is_parameter_set}
 use Rattle.fips204.specs.Prepared.{PreparedPrivate, PreparedPublic, prepared_private, prepared_public, public_of_prepared, sign_prepared, sign_message_prepared, IsWholePrepared}
 use Rattle.fips204.specs.Prepared.{VerifiesPrepared, VerifiesMessagePrepared, IsEachSigned, IsEachJudged, AcceptedIfWholePrepared, PreparedAnswersAsPlain}
-use Rattle.fips204.specs.Refusals.{refused_or, input_fault, input_hash, sign_input, AcceptsInput, derived, sign_message, VerifiesMessage}
-use Rattle.fips204.specs.KeyGeneration.{IsWhole, high_part, low_part, public_key_of}
+use Rattle.fips204.specs.Refusals.{refused_or, input_fault, sign_input, AcceptsInput, derived, sign_message, VerifiesMessage}
+use Rattle.fips204.specs.SigningInputs.{input_hash}
+use Rattle.fips204.specs.Keys.{IsWhole, high_part, low_part, public_key_of}
 use Rattle.fips204.specs.Signing.{sign, sign_with, sign_if_matrix}
 use Rattle.fips204.proofs.Completeness.{accepts_signed_with}
 use Rattle.fips204.proofs.RefusedCalls.{given_input, same_some}
@@ -132,12 +133,12 @@ prepared_answers_as_plain p H G =
       sign_inputs = λ sk prepared rnd input e. input_as_plain p H G sk prepared rnd input e;
       sign_lists = λ sk prepared seeds messages context answers e each.
           each_signed (λ rnd m. sign_message_prepared p H prepared rnd m context) (λ rnd m. sign_message p H G sk rnd m context) seeds messages answers
-          (λ rnd m. input_as_plain p H G sk prepared rnd (plain context m) e) each;
+          (λ rnd m. input_as_plain p H G sk prepared rnd (plain m context) e) each;
       verify_hash = λ pk prepared mu signature e. let is = public pk prepared e in accepts_as_plain p H G pk prepared mu signature is.0 is.1;
       verify_inputs = λ pk prepared signature input e. verdict_as_plain p H G pk prepared signature input e;
       verify_lists = λ pk prepared messages signatures context answers e each.
           each_judged (λ m s. VerifiesMessagePrepared p H prepared m s context) (λ m s. VerifiesMessage p H G pk m s context) messages signatures answers
-          (λ m s. verdict_as_plain p H G pk prepared s (plain context m) e) each;
+          (λ m s. verdict_as_plain p H G pk prepared s (plain m context) e) each;
       whole = λ sk prepared e. let is = private sk prepared e in whole_as_plain p G sk prepared is.0 is.1;
       public_key = λ sk prepared pk e. let is = private sk prepared e in public_as_plain p G sk prepared pk is.0 is.1;
     }

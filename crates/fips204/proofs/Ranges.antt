@@ -17,9 +17,9 @@ use Rattle.std.proofs.lemmas.Int.{ints}
 use Rattle.std.proofs.lemmas.Option.{none-some}
 use Rattle.fips204_base.specs.declared.types.T.{T}
 use Rattle.fips204_base.specs.Packing.{bits}
-use Rattle.fips204_base.specs.Polynomials.{coefficient_at, entry, IsReduced, IsReducedMatrix}
-use Rattle.fips204_base.specs.MatrixEntry.{sampled_matrix}
-use Rattle.fips204_base.specs.Challenge.{sign_of, signed_sum, challenge_picks, challenge}
+use Rattle.fips204_base.specs.Vectors.{coefficient_at, entry, PolynomialWithin, MatrixWithin}
+use Rattle.fips204_base.specs.Sampling.{sampled_matrix}
+use Rattle.fips204_base.specs.Sampling.{sign_of, signed_sum, challenge_picks, challenge}
 use Rattle.fips204_base.specs.Vectors.{polynomial_of, vector_of}
 use Rattle.fips204_base.proofs.Sampled.{matrix_entry-residues, residues-within, sampled_matrix-entries}
 use Rattle.fips204_base.proofs.Challenges.{challenge_places, challenge_places-apart, length-challenge_places, sum-elsewhere}
@@ -45,7 +45,7 @@ whole_vector k f v rows typed at = vector_of-same k f v rows (λ r h. whole_rows
 
 -- ---- the matrix
 
-pub matrix-within : (G : List ℕ → List ℕ) (rho : List ℕ) (k l : ℕ) (a : List (List T)) → sampled_matrix G rho k l ≡ Some a → IsReducedMatrix a
+pub matrix-within : (G : List ℕ → List ℕ) (rho : List ℕ) (k l : ℕ) (a : List (List T)) → sampled_matrix G rho k l ≡ Some a → MatrixWithin 8380416 a
 matrix-within G rho k l a e r d h s f m =
     let entries = sampled_matrix-entries G rho k l a e in
     let row : r < k = omega (arith, h, entries.0) in
@@ -90,7 +90,7 @@ challenge-sum tau front c e = elim (cases_lt (length (challenge_picks tau front)
       cc
 ]
 
-pub challenge-reduced : (tau : ℕ) (front : List ℕ) (c : R) → challenge tau front ≡ Some c → IsReduced c.0
+pub challenge-reduced : (tau : ℕ) (front : List ℕ) (c : R) → challenge tau front ≡ Some c → PolynomialWithin 8380416 c.0
 challenge-reduced tau front c e n h =
     let f = signed_sum (challenge_places tau front) (bits 8 (take 8 front)) in
     let count = length-challenge_places tau front c e in

@@ -5,7 +5,8 @@ use Rattle.std.proofs.lemmas.Bool.{ltb-false}
 use Rattle.fips204_base.specs.declared.fault.Fault.{Fault}
 use Rattle.fips204.specs.Completeness.{AcceptedIfWhole}
 use Rattle.fips204.specs.Framing.{Input, framed_input, message_hash}
-use Rattle.fips204.specs.Refusals.{refused_or, input_fault, input_hash, sign_input, AcceptsInput}
+use Rattle.fips204.specs.Refusals.{refused_or, input_fault, sign_input, AcceptsInput}
+use Rattle.fips204.specs.SigningInputs.{input_hash}
 
 -- two values are the same where the options that hold them are
 pub same_some : {A : Type 0} (x y : A) → Some x ≡ Some y → x ≡ y

@@ -5,10 +5,10 @@ use Rattle.std.specs.List.{All}
 use Rattle.std.proofs.lemmas.Bool.{cases_lt, le-leb, lt-leb}
 use Rattle.std.proofs.lemmas.Int.{ints}
 use Rattle.fips204_base.specs.declared.types.R.{R}
-use Rattle.fips204_base.specs.CentredValues.{centred, vector_norm}
-use Rattle.fips204_base.specs.Packing.{InRange, width}
-use Rattle.fips204_base.specs.Polynomials.{entry}
-use Rattle.fips204_base.specs.Products.{product}
+use Rattle.fips204_base.specs.Residues.{centred, vector_norm}
+use Rattle.fips204_base.specs.Packing.{PolynomialInRange, width}
+use Rattle.fips204_base.specs.Vectors.{entry}
+use Rattle.fips204_base.specs.Transforms.{product}
 use Rattle.fips204_base.specs.Residues.{residue}
 use Rattle.fips204_base.specs.Rounding.{low_bits, make_hint}
 use Rattle.fips204_base.specs.Vectors.{vector_of, IsVector, vector_coefficients}
@@ -17,13 +17,13 @@ use Rattle.fips204_base.proofs.Rounding.{low_bits_near}
 use Rattle.fips204_base.proofs.Products.{product_below}
 use Rattle.fips204_base.proofs.Vectors.{vector_of-ext, vector_of-range}
 use Rattle.fips204_base.specs.Encodings.{signature_bytes}
-use Rattle.fips204_base.specs.HintSpelling.{all_ones}
+use Rattle.fips204_base.specs.Encodings.{all_ones}
 use Rattle.fips204.specs.declared.types.Params.{Params}
-use Rattle.fips204.specs.Attempts.{scaled, response, low_vector, ct0, hint_bit, hint_vector, passes_checks, checked_attempt, w_minus_cs2, y_plus_cs1}
+use Rattle.fips204.specs.Signing.{scaled, response, low_vector, ct0, hint_bit, hint_vector, passes_checks, checked_attempt, w_minus_cs2, y_plus_cs1}
 use Rattle.fips204.specs.Keys.{PrivateParts}
 use Rattle.fips204.specs.ParameterSets.{ParameterSet, commitment_length, signature_length}
 use Rattle.fips204.specs.Sets.{set_of}
-use Rattle.fips204.specs.Signing.{attempt_answer}
+use Rattle.fips204.specs.SigningInputs.{attempt_answer}
 use Rattle.fips204.proofs.ChallengeProducts.{norm_of_place}
 
 -- Sums, norms and hints of an attempt's vectors.
@@ -199,7 +199,7 @@ centred-range g b k f most small = vector_of-range k (g - 1) g (λ r n. centred 
 
 -- coefficients of a response
 pub response-range : (gamma1 : ℤ) (b k : ℕ) (f : ℕ → ℕ → ℤ) (z : List R) → (gamma1 ≡ pos 131072) ⊎ (gamma1 ≡ pos 524288) → b ≤ nat_abs gamma1
-    → z ≡ vector_of k (λ r n. centred (f r n)) → vector_norm z < b → All (λ u. InRange (pos 0 -ℤ (gamma1 -ℤ pos 1)) gamma1 u.0) z
+    → z ≡ vector_of k (λ r n. centred (f r n)) → vector_norm z < b → All (λ u. PolynomialInRange (pos 0 -ℤ (gamma1 -ℤ pos 1)) gamma1 u.0) z
 response-range gamma1 b k f z (inl is) most e small = rw (e, is) (centred-range 131072 b k f (rw is at most) (rw e at small)).range
 response-range gamma1 b k f z (inr is) most e small = rw (e, is) (centred-range 524288 b k f (rw is at most) (rw e at small)).range
 

@@ -2,13 +2,14 @@
 use Rattle.std.proofs.Common.{◌≡◌, ◌<◌, ◌+◌, ◌-◌, ℕ, zero, suc, List, [], ◌∷◌, Ok, Err, map, refl, ap, sym, ◌∙◌, arith, add-zero, ◌≤◌, ◌*◌, Option, Some, None, Result}
 use Rattle.std.specs.List.{range_with_len}
 use Rattle.fips204_base.specs.declared.fault.Fault.TheVariants.{TooManyAttempts, SamplingLimit}
-use Rattle.fips204.specs.Attempts.{Attempt, limit, rejected, signed, attempt}
-use Rattle.fips204.specs.Signing.{first_answer, attempt_answer, mask_seed, sign, sign_if_matrix, sign_with}
+use Rattle.fips204.specs.Signing.{Attempt, limit, rejected, signed, attempt}
+use Rattle.fips204.specs.Signing.{first_answer, mask_seed, sign, sign_if_matrix, sign_with}
+use Rattle.fips204.specs.SigningInputs.{attempt_answer}
 use native.Mathlib.Decide.{dec_lt}
 use Rattle.std.proofs.Math.Nat.{mul-le-mul}
 use Rattle.fips204_base.specs.declared.fault.Fault.{Fault}
 use Rattle.fips204_base.specs.declared.types.T.{T}
-use Rattle.fips204_base.specs.MatrixEntry.{sampled_matrix}
+use Rattle.fips204_base.specs.Sampling.{sampled_matrix}
 use Rattle.fips204.specs.Keys.{PrivateParts}
 use Rattle.fips204.specs.ParameterSets.{ParameterSet}
 

@@ -8,14 +8,14 @@ use Rattle.std.proofs.lemmas.Int.{ints}
 use Rattle.std.proofs.lemmas.Nat.{mod_below}
 use Rattle.fips204_base.specs.declared.types.R.{R}
 use Rattle.fips204_base.specs.declared.types.T.{T}
-use Rattle.fips204_base.specs.CentredValues.{vector_norm}
-use Rattle.fips204_base.specs.Challenge.{challenge}
+use Rattle.fips204_base.specs.Residues.{vector_norm}
+use Rattle.fips204_base.specs.Sampling.{challenge}
 use Rattle.fips204_base.specs.Encodings.{IsSignature}
-use Rattle.fips204_base.specs.MatrixEntry.{sampled_matrix}
-use Rattle.fips204_base.specs.HintSpelling.{is_one}
-use Rattle.fips204_base.specs.Packing.{InRange}
-use Rattle.fips204_base.specs.Polynomials.{entry, VectorWithin}
-use Rattle.fips204_base.specs.Products.{product, minus}
+use Rattle.fips204_base.specs.Sampling.{sampled_matrix}
+use Rattle.fips204_base.specs.Encodings.{is_one}
+use Rattle.fips204_base.specs.Packing.{PolynomialInRange}
+use Rattle.fips204_base.specs.Vectors.{entry, VectorWithin}
+use Rattle.fips204_base.specs.Transforms.{product, minus}
 use Rattle.fips204_base.specs.Residues.{residue, coefficients}
 use Rattle.fips204_base.specs.Rounding.{use_hint, high_bits, low_bits, high_values}
 use Rattle.fips204_base.specs.Vectors.{IsVector, vector_coefficients, matrix_product, product_difference, vector_of}
@@ -25,7 +25,7 @@ use Rattle.fips204_base.proofs.Residues.{congruent_of, congruent_refl, residue_b
 use Rattle.fips204_base.proofs.Vectors.{vector_of-ext, vector_of-range, vector-within}
 use Rattle.fips204_base.proofs.EncodedParts.{same_signature}
 use Rattle.fips204.specs.Acceptance.{t1_shifted, w_approx, hinted, w1_prime, HasShortParts, Accepts, Verifies}
-use Rattle.fips204.specs.Attempts.{commitment}
+use Rattle.fips204.specs.Signing.{commitment}
 use Rattle.fips204.specs.Keys.{PublicParts}
 use Rattle.fips204.specs.declared.types.Params.{Params}
 use Rattle.fips204.specs.ParameterSets.{ParameterSet, commitment_length}
@@ -86,14 +86,14 @@ unfolding is_one
 hinted-is p h w v k rows e = e ∙ rw rows refl
 
 pub hinted-range : (p : ParameterSet) (h w v : List R) → (p.gamma2 ≡ 95232) ⊎ (p.gamma2 ≡ 261888) → v ≡ hinted p h (vector_coefficients w)
-    → All (λ x. InRange (pos 0) (pos (high_values p.gamma2 - 1)) x.0) v
+    → All (λ x. PolynomialInRange (pos 0) (pos (high_values p.gamma2 - 1)) x.0) v
 hinted-range p h w v set e =
     let empty : R = record { 0 = [] } in
     let f = λ (r n : ℕ). pos (use_hint p.gamma2 (is_one (get_or h r empty) n) (vector_coefficients w r n)) in
     let vector = vector_of-range p.k 0 (high_values p.gamma2 - 1) f (λ r n l m.
     let below = use_hint-below p.gamma2 (vector_coefficients w r n) (is_one (get_or h r empty) n) set (residue_below (entry w r n)) in
     (omega (arith, ints), omega (arith, ints, below))) in
-    subst (λ (x : List R). All (λ x. InRange (pos 0) (pos (high_values p.gamma2 - 1)) x.0) x) (sym e) vector.range
+    subst (λ (x : List R). All (λ x. PolynomialInRange (pos 0) (pos (high_values p.gamma2 - 1)) x.0) x) (sym e) vector.range
 
 -- ---- ranges
 

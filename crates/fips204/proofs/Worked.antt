@@ -4,12 +4,12 @@ use Rattle.fips204_base.specs.declared.fault.Fault.TheVariants.{TooManyAttempts,
 use Rattle.fips204_base.specs.Packing.{bit_length}
 use Rattle.fips204.specs.ParameterSets.{ParameterSet, set_44, set_65, set_87, is_parameter_set, public_key_length, private_key_length, signature_length}
 use Rattle.fips204.specs.Signing.{first_answer}
-use Rattle.fips204.specs.Attempts.{limit, rejected, signed}
+use Rattle.fips204.specs.Signing.{limit, rejected, signed}
 use Rattle.std.specs.Prelude.{replicate}
 use Rattle.std.specs.List.{range_with_len}
 use Rattle.fips204.specs.declared.types.pre_hash.TheConstants.{SHA2_224, SHA2_256, SHA2_384, SHA2_512, SHA2_512_224, SHA2_512_256, SHA3_224, SHA3_256, SHA3_384, SHA3_512, SHAKE_128, SHAKE_256}
 use Rattle.fips204.specs.Framing.{framed, framed_digest}
-use Rattle.fips204.specs.PreHash.{hash_oid, hashes, digest_length, pre_hash_fault}
+use Rattle.fips204.specs.Framing.{hash_oid, hashes, digest_length, pre_hash_fault}
 use Rattle.fips204.specs.Refusals.{message_fault, digest_fault}
 
 -- Worked values of the parameter sets, and of the order of attempts.
@@ -54,15 +54,15 @@ none_left = refl
 -- Worked values of framing, and of the conditions on a digest.
 
 -- context `ab`, message `c`
-framed_message : framed (0x61 ∷ 0x62 ∷ []) (0x63 ∷ []) ≡ 0x00 ∷ 0x02 ∷ 0x61 ∷ 0x62 ∷ 0x63 ∷ []
+framed_message : framed (0x63 ∷ []) (0x61 ∷ 0x62 ∷ []) ≡ 0x00 ∷ 0x02 ∷ 0x61 ∷ 0x62 ∷ 0x63 ∷ []
 framed_message = refl
 
 -- context `ab`, a digest of 32 bytes 07 under SHA2-256: 47 bytes
-framed_sha2_256 : framed_digest (0x61 ∷ 0x62 ∷ []) (hash_oid 1) (replicate 32 7)
+framed_sha2_256 : framed_digest (replicate 32 7) (0x61 ∷ 0x62 ∷ []) (hash_oid 1)
     ≡ 0x01 ∷ 0x02 ∷ 0x61 ∷ 0x62 ∷ 0x06 ∷ 0x09 ∷ 0x60 ∷ 0x86 ∷ 0x48 ∷ 0x01 ∷ 0x65 ∷ 0x03 ∷ 0x04 ∷ 0x02 ∷ 0x01 ∷ replicate 32 7
 framed_sha2_256 = refl
 
-framed_length : length (framed_digest (0x61 ∷ 0x62 ∷ []) (hash_oid 1) (replicate 32 7)) ≡ 47
+framed_length : length (framed_digest (replicate 32 7) (0x61 ∷ 0x62 ∷ []) (hash_oid 1)) ≡ 47
 framed_length = refl
 
 -- the twelve hashes by last byte, and no other
@@ -104,6 +104,6 @@ unfolding pre_hash_fault digest_length hashes
 digests_of_others = refl
 
 -- the context stands before all of these
-long_contexts : (message_fault (replicate 255 0) ∷ message_fault (replicate 256 0) ∷ digest_fault (replicate 255 0) [] [] ∷ digest_fault (replicate 256 0) [] [] ∷ []) ≡ None ∷ Some SignCtx ∷ Some OidEmpty ∷ Some HashCtx ∷ []
+long_contexts : (message_fault (replicate 255 0) ∷ message_fault (replicate 256 0) ∷ digest_fault [] (replicate 255 0) [] ∷ digest_fault [] (replicate 256 0) [] ∷ []) ≡ None ∷ Some SignCtx ∷ Some OidEmpty ∷ Some HashCtx ∷ []
 unfolding pre_hash_fault
 long_contexts = refl

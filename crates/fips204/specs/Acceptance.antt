@@ -2,17 +2,17 @@
 use Rattle.std.specs.Prelude.{◌≡◌, ◌<◌, ℕ, ◌-◌, ◌*◌, ◌%◌, List, pos, Some, slice_index_or, []}
 use Rattle.fips204_base.specs.declared.types.R.{R}
 use Rattle.fips204_base.specs.declared.types.T.{T}
-use Rattle.fips204_base.specs.CentredValues.{vector_norm}
-use Rattle.fips204_base.specs.Products.{minus}
+use Rattle.fips204_base.specs.Residues.{vector_norm}
+use Rattle.fips204_base.specs.Transforms.{minus}
 use Rattle.fips204_base.specs.Vectors.{vector_coefficients, matrix_product, vector_of}
 use Rattle.fips204_base.specs.Rounding.{use_hint}
-use Rattle.fips204_base.specs.HintSpelling.{is_one}
+use Rattle.fips204_base.specs.Encodings.{is_one}
 use Rattle.fips204_base.specs.Encodings.{IsSignature}
-use Rattle.fips204_base.specs.MatrixEntry.{sampled_matrix}
-use Rattle.fips204_base.specs.Challenge.{challenge}
+use Rattle.fips204_base.specs.Sampling.{sampled_matrix}
+use Rattle.fips204_base.specs.Sampling.{challenge}
 use Rattle.fips204.specs.ParameterSets.{ParameterSet, commitment_length}
 use Rattle.fips204.specs.Keys.{PublicParts}
-use Rattle.fips204.specs.Attempts.{commitment, scaled}
+use Rattle.fips204.specs.Signing.{commitment, scaled}
 
 -- t1 2^13
 abbrev pub t1_shifted : List R → ℕ → ℕ → ℕ

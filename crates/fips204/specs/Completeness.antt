@@ -5,7 +5,7 @@ use Rattle.fips204_base.specs.Encodings.{public_key_bytes, private_key_bytes}
 use Rattle.fips204.specs.ParameterSets.{ParameterSet, is_parameter_set}
 use Rattle.fips204.specs.Keys.{PublicParts, PrivateParts, ArePublicParts, ArePrivateParts, IsPublicKeyOf, IsPrivateKeyOf}
 use Rattle.fips204.specs.Framing.{Input}
-use Rattle.fips204.specs.KeyGeneration.{IsWhole}
+use Rattle.fips204.specs.Keys.{IsWhole}
 use Rattle.fips204.specs.Signing.{sign}
 use Rattle.fips204.specs.Acceptance.{Verifies}
 use Rattle.fips204.specs.Refusals.{generated, derived, sign_input, AcceptsInput}
@@ -21,8 +21,8 @@ abbrev pub AcceptedIfWhole : {P S : Type 0} → Type 0 → Result P Fault → (P
 AcceptedIfWhole {P} {S} whole derives accepts answer = (pk : P) (signature : S) → whole → derives ≡ Ok pk → answer ≡ Ok signature → accepts pk signature
 
 -- the same of a private key's signature of a hash mu
-abbrev pub HashAccepted : ParameterSet → (List ℕ → List ℕ) → (List ℕ → List ℕ) → PrivateParts → List ℕ → Result (List ℕ) Fault → Type 0
-HashAccepted p H G sk mu answer = AcceptedIfWhole (IsWhole p G sk) (derived p G sk) (λ pk signature. Verifies p H G pk mu signature) answer
+abbrev pub HashComplete : ParameterSet → (List ℕ → List ℕ) → (List ℕ → List ℕ) → PrivateParts → List ℕ → Result (List ℕ) Fault → Type 0
+HashComplete p H G sk mu answer = AcceptedIfWhole (IsWhole p G sk) (derived p G sk) (λ pk signature. Verifies p H G pk mu signature) answer
 
 -- two keys are a pair: the private one is in range and whole, the public one is derived of it, and each is the one key that
 -- its bytes decode to

@@ -11,7 +11,7 @@ use Rattle.fips204.specs.declared.ml_dsa_65.TheConstants as lengths_65
 use Rattle.fips204.specs.declared.ml_dsa_87.TheConstants as lengths_87
 use Rattle.fips204.specs.declared.types.pre_hash.TheConstants as hash
 use Rattle.fips204.specs.ParameterSets.{set_44, set_65, set_87, public_key_length, private_key_length, signature_length}
-use Rattle.fips204.specs.PreHash.{hash_oid}
+use Rattle.fips204.specs.Framing.{hash_oid}
 
 -- the modulus, the root of unity and its powers, the zeros, the limits, and the identifiers of the hashes
 pub record ConstantsStand : Type 0 where

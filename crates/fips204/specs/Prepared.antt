@@ -3,10 +3,10 @@ use Rattle.std.specs.Prelude.{◌≡◌, ◌<◌, ◌↔◌, ℕ, List, [], leng
 use Rattle.fips204_base.specs.declared.fault.Fault.{Fault}
 use Rattle.fips204_base.specs.declared.fault.Fault.TheVariants.{SamplingLimit}
 use Rattle.fips204_base.specs.declared.types.T.{T}
-use Rattle.fips204_base.specs.MatrixEntry.{sampled_matrix}
+use Rattle.fips204_base.specs.Sampling.{sampled_matrix}
 use Rattle.fips204.specs.ParameterSets.{ParameterSet}
 use Rattle.fips204.specs.Keys.{PublicParts, PrivateParts}
-use Rattle.fips204.specs.KeyGeneration.{high_part, low_part, IsWhole}
+use Rattle.fips204.specs.Keys.{high_part, low_part, IsWhole}
 use Rattle.fips204.specs.Framing.{Input, plain, hashed}
 use Rattle.fips204.specs.Signing.{sign, sign_with}
 use Rattle.fips204.specs.Acceptance.{Accepts, Verifies}
@@ -33,19 +33,19 @@ abbrev pub sign_prepared : ParameterSet → (List ℕ → List ℕ) → Prepared
 sign_prepared p H sk mu rnd = sign_with p H sk.matrix sk.parts mu rnd
 
 abbrev pub sign_message_prepared : ParameterSet → (List ℕ → List ℕ) → PreparedPrivate → List ℕ → List ℕ → List ℕ → Result (List ℕ) Fault
-sign_message_prepared p H sk rnd message context = sign_input H sk.parts.tr (λ mu. sign_prepared p H sk mu rnd) (plain context message)
+sign_message_prepared p H sk rnd message context = sign_input H sk.parts.tr (λ mu. sign_prepared p H sk mu rnd) (plain message context)
 
 abbrev pub sign_digest_prepared : ParameterSet → (List ℕ → List ℕ) → PreparedPrivate → List ℕ → List ℕ → List ℕ → List ℕ → Result (List ℕ) Fault
-sign_digest_prepared p H sk rnd digest context oid = sign_input H sk.parts.tr (λ mu. sign_prepared p H sk mu rnd) (hashed context oid digest)
+sign_digest_prepared p H sk rnd digest context oid = sign_input H sk.parts.tr (λ mu. sign_prepared p H sk mu rnd) (hashed digest context oid)
 
 abbrev pub VerifiesPrepared : ParameterSet → (List ℕ → List ℕ) → PreparedPublic → List ℕ → List ℕ → Type 0
 VerifiesPrepared p H pk mu signature = Accepts p H pk.matrix pk.parts.t1 mu signature
 
 abbrev pub VerifiesMessagePrepared : ParameterSet → (List ℕ → List ℕ) → PreparedPublic → List ℕ → List ℕ → List ℕ → Type 0
-VerifiesMessagePrepared p H pk message signature context = AcceptsInput H pk.parts.tr (λ mu. VerifiesPrepared p H pk mu signature) (plain context message)
+VerifiesMessagePrepared p H pk message signature context = AcceptsInput H pk.parts.tr (λ mu. VerifiesPrepared p H pk mu signature) (plain message context)
 
 abbrev pub VerifiesDigestPrepared : ParameterSet → (List ℕ → List ℕ) → PreparedPublic → List ℕ → List ℕ → List ℕ → List ℕ → Type 0
-VerifiesDigestPrepared p H pk digest signature context oid = AcceptsInput H pk.parts.tr (λ mu. VerifiesPrepared p H pk mu signature) (hashed context oid digest)
+VerifiesDigestPrepared p H pk digest signature context oid = AcceptsInput H pk.parts.tr (λ mu. VerifiesPrepared p H pk mu signature) (hashed digest context oid)
 
 -- an answer for each message: what signs gives for its own random bytes and the message
 abbrev pub IsEachSigned : (List ℕ → List ℕ → Result (List ℕ) Fault) → List (List ℕ) → List (List ℕ) → List (Result (List ℕ) Fault) → Type 0

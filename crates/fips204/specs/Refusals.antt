@@ -4,9 +4,9 @@ use Rattle.fips204_base.specs.declared.fault.Fault.{Fault}
 use Rattle.fips204_base.specs.declared.fault.Fault.TheVariants.{SignCtx, HashCtx, SamplingLimit}
 use Rattle.fips204.specs.ParameterSets.{ParameterSet}
 use Rattle.fips204.specs.Keys.{PublicParts, PrivateParts}
-use Rattle.fips204.specs.KeyGeneration.{key_generation, public_key_of}
+use Rattle.fips204.specs.Keys.{key_generation, public_key_of}
 use Rattle.fips204.specs.Framing.{Input, plain, hashed, framed_input, message_hash}
-use Rattle.fips204.specs.PreHash.{pre_hash_fault}
+use Rattle.fips204.specs.Framing.{pre_hash_fault}
 use Rattle.fips204.specs.Signing.{sign}
 use Rattle.fips204.specs.Acceptance.{Verifies}
 
@@ -21,16 +21,12 @@ message_fault context = if nat_lt 255 (length context) then Some SignCtx else No
 
 -- what refuses pre-hash signing before its random bytes are drawn: such a context, and then the conditions on the digest
 abbrev pub digest_fault : List ℕ → List ℕ → List ℕ → Option Fault
-digest_fault context oid digest = if nat_lt 255 (length context) then Some HashCtx else pre_hash_fault digest oid
+digest_fault digest context oid = if nat_lt 255 (length context) then Some HashCtx else pre_hash_fault digest oid
 
 -- the first condition on context, OID and digest that an input breaks, or none
 abbrev pub input_fault : Input → Option Fault
-input_fault (plain context message) = message_fault context
-input_fault (hashed context oid digest) = digest_fault context oid digest
-
--- mu of an input under a key's hash tr, or the refusal
-abbrev pub input_hash : (List ℕ → List ℕ) → List ℕ → Input → Result (List ℕ) Fault
-input_hash H tr input = refused_or (input_fault input) (Ok (message_hash H tr (framed_input input)))
+input_fault (plain message context) = message_fault context
+input_fault (hashed digest context oid) = digest_fault digest context oid
 
 -- signing an input, where signs is what signs mu
 abbrev pub sign_input : (List ℕ → List ℕ) → List ℕ → (List ℕ → Result (List ℕ) Fault) → Input → Result (List ℕ) Fault
@@ -51,19 +47,19 @@ derived p G sk = ok_or (public_key_of p G sk) SamplingLimit
 
 -- ML-DSA.Sign (Algorithm 2) from rnd
 abbrev pub sign_message : ParameterSet → (List ℕ → List ℕ) → (List ℕ → List ℕ) → PrivateParts → List ℕ → List ℕ → List ℕ → Result (List ℕ) Fault
-sign_message p H G sk rnd message context = sign_input H sk.tr (λ mu. sign p H G sk mu rnd) (plain context message)
+sign_message p H G sk rnd message context = sign_input H sk.tr (λ mu. sign p H G sk mu rnd) (plain message context)
 
 -- HashML-DSA.Sign (Algorithm 4) from rnd and the digest
 abbrev pub sign_digest : ParameterSet → (List ℕ → List ℕ) → (List ℕ → List ℕ) → PrivateParts → List ℕ → List ℕ → List ℕ → List ℕ → Result (List ℕ) Fault
-sign_digest p H G sk rnd digest context oid = sign_input H sk.tr (λ mu. sign p H G sk mu rnd) (hashed context oid digest)
+sign_digest p H G sk rnd digest context oid = sign_input H sk.tr (λ mu. sign p H G sk mu rnd) (hashed digest context oid)
 
 -- ML-DSA.Verify (Algorithm 3)
 abbrev pub VerifiesMessage : ParameterSet → (List ℕ → List ℕ) → (List ℕ → List ℕ) → PublicParts → List ℕ → List ℕ → List ℕ → Type 0
-VerifiesMessage p H G pk message signature context = AcceptsInput H pk.tr (λ mu. Verifies p H G pk mu signature) (plain context message)
+VerifiesMessage p H G pk message signature context = AcceptsInput H pk.tr (λ mu. Verifies p H G pk mu signature) (plain message context)
 
 -- HashML-DSA.Verify (Algorithm 5), from the digest
 abbrev pub VerifiesDigest : ParameterSet → (List ℕ → List ℕ) → (List ℕ → List ℕ) → PublicParts → List ℕ → List ℕ → List ℕ → List ℕ → Type 0
-VerifiesDigest p H G pk digest signature context oid = AcceptsInput H pk.tr (λ mu. Verifies p H G pk mu signature) (hashed context oid digest)
+VerifiesDigest p H G pk digest signature context oid = AcceptsInput H pk.tr (λ mu. Verifies p H G pk mu signature) (hashed digest context oid)
 
 -- what a call answers that asks a generator once, for 32 bytes: the answer over bytes that it gave, or the refusal where it
 -- refused; gives and refuses are what the generator states of such a call, from before to after

@@ -1,14 +1,19 @@
--- What rounding, hints, challenges and spellings promise to signing and verifying (FIPS 204, sections 2.3 and 7.4).
-use Rattle.std.specs.Prelude.{◌≡◌, ◌⊎◌, ◌<◌, ◌≤◌, ℕ, ◌+◌, ◌*◌, ◌%◌, List, pos, ◌-ℤ◌, nat_abs, true, false, length, Some}
-use Rattle.fips204_base.specs.declared.types.R.{R}
-use Rattle.fips204_base.specs.CentredValues.{centred_modulo, norm}
-use Rattle.fips204_base.specs.Challenge.{challenge}
-use Rattle.fips204_base.specs.Encodings.{IsSignature}
-use Rattle.fips204_base.specs.HintSpelling.{Spells, all_ones, hint_bytes}
-use Rattle.fips204_base.specs.Products.{product}
-use Rattle.fips204_base.specs.Residues.{residue, coefficients}
+-- What signatures determine, and what rounding, hints, challenges and spellings promise (FIPS 204, sections 2.3 and 7.4).
+use Rattle.std.specs.Prelude.{◌≡◌, ◌⊎◌, ◌<◌, ◌≤◌, ℕ, ◌+◌, ◌*◌, ◌%◌, List, pos, ◌-ℤ◌, nat_abs, true, false, length, Some, ◌≢◌, ◌++◌, take, None, IsTrue}
+use Rattle.fips204_base.specs.Encodings.{IsSignature, Spells, all_ones, hint_bytes, w1_bytes}
+use Rattle.fips204_base.specs.Residues.{centred_modulo, norm, residue, coefficients}
 use Rattle.fips204_base.specs.Rounding.{high_bits, low_bits, make_hint, use_hint}
+use Rattle.fips204_base.specs.Sampling.{challenge}
+use Rattle.fips204_base.specs.Transforms.{product}
 use Rattle.fips204_base.specs.Vectors.{IsVector, polynomial_of}
+use Rattle.fips204_base.specs.declared.types.R.{R}
+use Rattle.fips204.specs.Acceptance.{Verifies, w1_prime}
+use Rattle.fips204.specs.Framing.{Input, framed_input, message_hash}
+use Rattle.fips204.specs.Keys.{PublicParts}
+use Rattle.fips204.specs.ParameterSets.{ParameterSet, is_parameter_set, commitment_length}
+use Rattle.fips204.specs.Refusals.{input_fault, AcceptsInput}
+
+-- ---- What rounding, hints, challenges and spellings promise to signing and verifying (sections 2.3 and 7.4)
 
 -- the values of gamma2
 abbrev pub IsGamma2 : ℕ → Type 0
@@ -52,3 +57,39 @@ HintHasOneSpelling =
     → (IsVector k 0 1 h → length (all_ones h) ≤ omega' → Spells omega' k h (hint_bytes omega' h))
     × ((first second : List ℕ) → Spells omega' k h first → Spells omega' k h second → first ≡ second)
     × ((other : List R) (bytes : List ℕ) → Spells omega' k h bytes → Spells omega' k other bytes → h ≡ other)
+
+-- ---- What a framed message and a signature determine (Algorithms 2 to 5 and 8)
+
+-- inputs that break no condition have the same M' only if they are the same, mode and part by part
+abbrev pub FramingIsOneToOne : Type 0
+FramingIsOneToOne = (x y : Input) → input_fault x ≡ None → input_fault y ≡ None → framed_input x ≡ framed_input y → x ≡ y
+
+-- two inputs of a stream that differ and have the same first n bytes
+pub record Collide (H : List ℕ → List ℕ) (n : ℕ) (x y : List ℕ) : Type 0 where
+  pub differ : x ≢ y
+  pub same : take n (H x) ≡ take n (H y)
+
+-- the encoded w1' of a signature that is accepted
+abbrev pub accepted_w1 : {p : ParameterSet} {H G : List ℕ → List ℕ} {pk : PublicParts} {mu signature : List ℕ} → Verifies p H G pk mu signature → List ℕ
+accepted_w1 {p} {H} {G} {pk} v = w1_bytes p.gamma2 (w1_prime p v.a pk.t1 v.accepted.z v.accepted.h v.accepted.c)
+
+-- one signature that a key accepts for two different M' has one encoded w1', and gives a collision: of the two M' in mu,
+-- or of the two mu in c_tilde
+abbrev pub SignatureBindsMessage : Type 0
+SignatureBindsMessage =
+    (p : ParameterSet) (H G : List ℕ → List ℕ) (pk : PublicParts) (m n signature : List ℕ) → IsTrue (is_parameter_set p) → m ≢ n
+    → let mu = message_hash H pk.tr m in
+    let nu = message_hash H pk.tr n in
+    (first : Verifies p H G pk mu signature) → (second : Verifies p H G pk nu signature) → (accepted_w1 first ≡ accepted_w1 second)
+    × (Collide H 64 (pk.tr ++ m) (pk.tr ++ n) ⊎ Collide H (commitment_length p) (mu ++ accepted_w1 first) (nu ++ accepted_w1 first))
+
+-- so does one signature that a key accepts for two different inputs: messages or digests under their contexts
+abbrev pub SignatureBindsInput : Type 0
+SignatureBindsInput =
+    (p : ParameterSet) (H G : List ℕ → List ℕ) (pk : PublicParts) (x y : Input) (signature : List ℕ) → IsTrue (is_parameter_set p) → x ≢ y
+    → let mu = message_hash H pk.tr (framed_input x) in
+    let nu = message_hash H pk.tr (framed_input y) in
+    (first : AcceptsInput H pk.tr (λ m. Verifies p H G pk m signature) x) → (second : AcceptsInput H pk.tr (λ m. Verifies p H G pk m signature) y)
+    → let w1 = accepted_w1 first.accepted in
+    (w1 ≡ accepted_w1 second.accepted)
+    × (Collide H 64 (pk.tr ++ framed_input x) (pk.tr ++ framed_input y) ⊎ Collide H (commitment_length p) (mu ++ w1) (nu ++ w1))

@@ -1,13 +1,89 @@
 -- Signing (FIPS 204, Algorithm 7, with the limit of attempts of Appendix C).
-use Rattle.std.specs.Prelude.{ℕ, ◌*◌, List, [], ◌∷◌, ◌++◌, map, take, Option, Some, None, Result, Ok, Err}
+use Rattle.std.specs.Prelude.{ℕ, ℤ, ◌+◌, ◌-◌, ◌*◌, ◌%◌, List, ◌++◌, pos, Bool, ◌&&◌, nat_lt, nat_le, length, take, Option, Some, None, if◌then◌else◌, [], ◌∷◌, map, Result, Ok, Err}
 use Rattle.std.specs.List.{range_with_len}
+use Rattle.fips204_base.specs.Encodings.{all_ones, signature_bytes, w1_bytes}
+use Rattle.fips204_base.specs.Residues.{centred, vector_norm, coefficients}
+use Rattle.fips204_base.specs.Rounding.{high_bits, low_bits, make_hint}
+use Rattle.fips204_base.specs.Sampling.{challenge, mask, sampled_matrix}
+use Rattle.fips204_base.specs.Transforms.{product, plus, minus}
+use Rattle.fips204_base.specs.Vectors.{vector_coefficients, matrix_product, vector_of}
 use Rattle.fips204_base.specs.declared.fault.Fault.{Fault}
 use Rattle.fips204_base.specs.declared.fault.Fault.TheVariants.{TooManyAttempts, SamplingLimit}
+use Rattle.fips204_base.specs.declared.types.R.{R}
 use Rattle.fips204_base.specs.declared.types.T.{T}
-use Rattle.fips204_base.specs.MatrixEntry.{sampled_matrix}
-use Rattle.fips204.specs.ParameterSets.{ParameterSet}
 use Rattle.fips204.specs.Keys.{PrivateParts}
-use Rattle.fips204.specs.Attempts.{Attempt, limit, rejected, signed, attempt}
+use Rattle.fips204.specs.ParameterSets.{ParameterSet, commitment_length}
+
+-- ---- One attempt: the body of the loop (Algorithm 7, lines 11 to 32)
+
+-- what an attempt comes to: the challenge is past its limit, the attempt is rejected, or it gives a signature
+pub data Attempt : Type 0 where
+  limit : Attempt
+  rejected : Attempt
+  signed : List ℕ → Attempt
+
+-- c_tilde of a vector w1: the first lambda / 4 bytes of H over mu and the bytes of w1
+unfoldable pub commitment : ParameterSet → (List ℕ → List ℕ) → List ℕ → List R → List ℕ
+commitment p H mu w1 = take (commitment_length p) (H (mu ++ w1_bytes p.gamma2 w1))
+
+-- w1, the high bits of w
+unfoldable pub high_vector : ParameterSet → (ℕ → ℕ → ℕ) → List R
+high_vector p w = vector_of p.k (λ r n. pos (high_bits p.gamma2 (w r n)))
+
+-- c v: each polynomial of a vector times c
+abbrev pub scaled : R → (ℕ → ℕ → ℕ) → ℕ → ℕ → ℕ
+scaled c v r = product (coefficients c.0) (v r)
+
+-- y + c s1
+abbrev pub y_plus_cs1 : List R → List R → R → ℕ → ℕ → ℕ
+y_plus_cs1 s1 y c r = plus (vector_coefficients y r) (scaled c (vector_coefficients s1) r)
+
+-- z = y + c s1, centred
+unfoldable pub response : ParameterSet → PrivateParts → List R → R → List R
+response p sk y c = vector_of p.l (λ r n. centred (pos (y_plus_cs1 sk.s1 y c r n)))
+
+-- w - c s2
+abbrev pub w_minus_cs2 : List R → (ℕ → ℕ → ℕ) → R → ℕ → ℕ → ℕ
+w_minus_cs2 s2 w c r = minus (w r) (scaled c (vector_coefficients s2) r)
+
+-- r0, the low bits of w - c s2
+unfoldable pub low_vector : ParameterSet → PrivateParts → (ℕ → ℕ → ℕ) → R → List R
+low_vector p sk w c = vector_of p.k (λ r n. low_bits p.gamma2 (w_minus_cs2 sk.s2 w c r n))
+
+-- c t0
+unfoldable pub ct0 : ParameterSet → PrivateParts → R → List R
+ct0 p sk c = vector_of p.k (λ r n. pos (scaled c (vector_coefficients sk.t0) r n))
+
+-- MakeHint(0 - t, v + t) at one place, as a coefficient
+abbrev pub hint_bit : ℕ → ℕ → ℕ → ℤ
+hint_bit gamma2 v t = if make_hint gamma2 ((0 + 8380416 * t) % 8380417) ((v + t) % 8380417) then pos 1 else pos 0
+
+-- h = MakeHint(-c t0, w - c s2 + c t0)
+unfoldable pub hint_vector : ParameterSet → PrivateParts → (ℕ → ℕ → ℕ) → R → List R
+hint_vector p sk w c = vector_of p.k (λ r n. hint_bit p.gamma2 (w_minus_cs2 sk.s2 w c r n) (scaled c (vector_coefficients sk.t0) r n))
+
+-- whether an attempt is kept: ||z|| < gamma1 - beta, ||r0|| < gamma2 - beta, ||c t0|| < gamma2, and h has at most omega
+-- ones
+unfoldable pub passes_checks : ParameterSet → PrivateParts → List R → (ℕ → ℕ → ℕ) → R → Bool
+passes_checks p sk y w c =
+    nat_lt (vector_norm (response p sk y c)) (p.gamma1 - p.beta)
+    && nat_lt (vector_norm (low_vector p sk w c)) (p.gamma2 - p.beta)
+    && nat_lt (vector_norm (ct0 p sk c)) p.gamma2
+    && nat_le (length (all_ones (hint_vector p sk w c))) p.omega
+
+-- what a challenge makes of an attempt with mask y, whose A y is w
+unfoldable pub checked_attempt : ParameterSet → PrivateParts → List R → (ℕ → ℕ → ℕ) → List ℕ → Option R → Attempt
+checked_attempt p sk y w c_tilde None = limit
+checked_attempt p sk y w c_tilde (Some c) =
+    if passes_checks p sk y w c then signed (signature_bytes p.gamma1 p.omega c_tilde (response p sk y c) (hint_vector p sk w c)) else rejected
+
+-- the attempt at counter kappa, with the matrix a and the seed rho'' of masks
+unfoldable pub attempt : ParameterSet → (List ℕ → List ℕ) → List (List T) → PrivateParts → List ℕ → List ℕ → ℕ → Attempt
+attempt p H a sk mu rho'' kappa =
+    let y = mask p.gamma1 H rho'' p.l kappa in
+    let w = matrix_product p.l a (vector_coefficients y) in
+    let c_tilde = commitment p H mu (high_vector p w) in
+    checked_attempt p sk y w c_tilde (challenge p.tau (H c_tilde))
 
 -- how many attempts there are
 abbrev pub attempt_limit : ℕ
@@ -19,12 +95,6 @@ first_answer [] = Err TooManyAttempts
 first_answer (limit ∷ later) = Err SamplingLimit
 first_answer (rejected ∷ later) = first_answer later
 first_answer (signed signature ∷ later) = Ok signature
-
--- an attempt as an answer: a refusal, none where it is rejected, or its signature
-unfoldable pub attempt_answer : Attempt → Result (Option (List ℕ)) Fault
-attempt_answer limit = Err SamplingLimit
-attempt_answer rejected = Ok None
-attempt_answer (signed signature) = Ok (Some signature)
 
 -- rho'', the seed of the masks
 abbrev pub mask_seed : (List ℕ → List ℕ) → PrivateParts → List ℕ → List ℕ → List ℕ

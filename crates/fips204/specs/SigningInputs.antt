@@ -1,28 +1,32 @@
--- The transforms of a private key's vectors (FIPS 204, Algorithm 7, lines 2 to 4), which signing takes for the vectors.
-use Rattle.std.specs.Prelude.{◌+◌, ◌≤◌, ℕ, List}
-use Rattle.fips204_base.specs.Polynomials.{AreReduced, IsReduced, IsReducedMatrix, IsReducedVector, VectorWithin}
+-- What private functions of signing take and answer: cited by no public clause; nobody has to believe it.
+use Rattle.std.specs.Prelude.{◌+◌, ◌≤◌, ℕ, List, Option, Some, None, Result, Ok, Err}
+use Rattle.fips204_base.specs.Vectors.{TransformsWithin, PolynomialWithin, MatrixWithin, VectorWithin, vector_coefficients, AreTransformsOf}
+use Rattle.fips204_base.specs.declared.fault.Fault.{Fault}
+use Rattle.fips204_base.specs.declared.fault.Fault.TheVariants.{SamplingLimit}
 use Rattle.fips204_base.specs.declared.types.R.{R}
 use Rattle.fips204_base.specs.declared.types.T.{T}
-use Rattle.fips204.specs.declared.types.Params.{Params}
-use Rattle.fips204.specs.Sets.{HasSizes, set_of}
-use Rattle.fips204_base.specs.Vectors.{vector_coefficients, AreTransformsOf}
-use Rattle.fips204.specs.declared.types.prepared.KeyTransforms.{KeyTransforms}
+use Rattle.fips204.specs.Framing.{Input, framed_input, message_hash}
 use Rattle.fips204.specs.Keys.{PrivateParts}
+use Rattle.fips204.specs.Refusals.{refused_or, input_fault}
+use Rattle.fips204.specs.Sets.{HasSizes, set_of}
+use Rattle.fips204.specs.Signing.{Attempt, limit, rejected, signed}
+use Rattle.fips204.specs.declared.types.Params.{Params}
+use Rattle.fips204.specs.declared.types.prepared.KeyTransforms.{KeyTransforms}
 
 -- the transforms of s1, of l polynomials, and of s2 and t0, of k each, with values below q in absolute value
 pub record AreKeyTransforms (k l : ℕ) (sk : PrivateParts) (t : KeyTransforms k l) : Type 0 where
   pub first : AreTransformsOf l (vector_coefficients sk.s1) t.s1_hat
   pub second : AreTransformsOf k (vector_coefficients sk.s2) t.s2_hat
   pub low : AreTransformsOf k (vector_coefficients sk.t0) t.t0_hat
-  pub reduced_first : AreReduced t.s1_hat
-  pub reduced_second : AreReduced t.s2_hat
-  pub reduced_low : AreReduced t.t0_hat
+  pub reduced_first : TransformsWithin 8380416 t.s1_hat
+  pub reduced_second : TransformsWithin 8380416 t.s2_hat
+  pub reduced_low : TransformsWithin 8380416 t.t0_hat
 
 -- what signing takes beside the key and the bytes that it signs: a set whose sizes the call has, the matrix, and the transforms
 -- of the key's vectors
 pub record AreSigningInputs (p : Params) (k l n s : ℕ) (sk : PrivateParts) (a : List (List T)) (t : KeyTransforms k l) : Type 0 where
   pub sizes : HasSizes (set_of p) k l n s
-  pub matrix : IsReducedMatrix a
+  pub matrix : MatrixWithin 8380416 a
   pub transforms : AreKeyTransforms k l sk t
 
 -- what an attempt takes: the same, and a counter of its masks that leaves room for one of each row
@@ -36,5 +40,15 @@ pub record AreCheckInputs (p : Params) (k l n s : ℕ) (sk : PrivateParts) (t : 
   pub sizes : HasSizes (set_of p) k l n s
   pub transforms : AreKeyTransforms k l sk t
   pub mask : VectorWithin l 524288 y
-  pub product : IsReducedVector k w
-  pub challenge : IsReduced c.0
+  pub product : VectorWithin k 8380416 w
+  pub challenge : PolynomialWithin 8380416 c.0
+
+-- an attempt as an answer: a refusal, none where it is rejected, or its signature
+unfoldable pub attempt_answer : Attempt → Result (Option (List ℕ)) Fault
+attempt_answer limit = Err SamplingLimit
+attempt_answer rejected = Ok None
+attempt_answer (signed signature) = Ok (Some signature)
+
+-- mu of an input under a key's hash tr, or the refusal
+abbrev pub input_hash : (List ℕ → List ℕ) → List ℕ → Input → Result (List ℕ) Fault
+input_hash H tr input = refused_or (input_fault input) (Ok (message_hash H tr (framed_input input)))

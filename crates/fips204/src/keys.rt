@@ -3,9 +3,9 @@
 
 ghost use Rattle.std.specs.Prelude.{◌≡◌, ◌↔◌, IsTrue, MatchResult};
 ghost use Rattle.fips204.specs.Acceptance.{Verifies};
-ghost use Rattle.fips204.specs.Completeness.{HashAccepted};
+ghost use Rattle.fips204.specs.Completeness.{HashComplete};
 ghost use Rattle.fips204.specs.Framing.{message_hash};
-ghost use Rattle.fips204.specs.KeyGeneration.{IsWhole, TellsWhole};
+ghost use Rattle.fips204.specs.Keys.{IsWhole, TellsWhole};
 ghost use Rattle.fips204.specs.Keys.{DecodesPrivate, IsPublicKeyOf};
 ghost use Rattle.fips204.specs.Prepared.{prepared_private, prepared_public};
 ghost use Rattle.fips204.specs.Refusals.{generated, derived, sign_message, sign_digest, VerifiesMessage, VerifiesDigest, DrawsIf, DrawsUnless};
@@ -215,7 +215,7 @@ where
     /// Signs the hash `mu` of a framed message with the random bytes `rnd` (Algorithm 7 from line 7 on).
     fn sign_hash(&self, mu: &[u8; 64], rnd: &[u8; 32]) -> Result<[u8; SIG_LEN], Fault>
         ensures answer { result ≡ sign S.set H.front G.front self.now mu.now rnd.now }
-        ensures accepted { HashAccepted S.set H.front G.front self.now mu.now result }
+        ensures accepted { HashComplete S.set H.front G.front self.now mu.now result }
     {
         ml_dsa::sign_internal::<K, L, N, SIG_LEN, H, G>(&S::params(), self, mu, rnd)
     }
@@ -233,7 +233,7 @@ where
     ) -> Result<[u8; SIG_LEN], Fault>
         ensures answer { DrawsIf hedged R.gives R.refuses rng.old rng.new Fault.InternalRng
             (sign S.set H.front G.front self.now (message_hash H.front self.now.tr m.now)) result }
-        ensures accepted { HashAccepted S.set H.front G.front self.now (message_hash H.front self.now.tr m.now) result }
+        ensures accepted { HashComplete S.set H.front G.front self.now (message_hash H.front self.now.tr m.now) result }
     {
         self.sign_mu(rng, &ml_dsa::mu::<H>(&[&self.tr, m]), hedged)
     }
@@ -248,7 +248,7 @@ where
     ) -> Result<[u8; SIG_LEN], Fault>
         ensures answer { DrawsIf hedged R.gives R.refuses rng.old rng.new Fault.InternalRng
             (sign S.set H.front G.front self.now mu.now) result }
-        ensures accepted { HashAccepted S.set H.front G.front self.now mu.now result }
+        ensures accepted { HashComplete S.set H.front G.front self.now mu.now result }
     {
         self.sign_hash(mu, &draw_if(hedged, rng)?)
     }

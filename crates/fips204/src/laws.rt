@@ -5,11 +5,11 @@
 //! modulo `q`.
 #![tactic(auto)]
 
-ghost use Rattle.fips204_base.specs.Laws.{ProductOfTransforms, InverseOfTransform};
+ghost use Rattle.fips204_base.specs.Transforms.{ProductOfTransforms, InverseOfTransform};
 ghost use Rattle.fips204.specs.Completeness.{SignedIsAccepted, BytesTellKeys};
 ghost use Rattle.fips204.specs.Constants.{ConstantsStand, LengthsStand};
 ghost use Rattle.fips204.specs.LongerFronts.{CounterFrontsArePrefixes, LongerFrontsKeep};
-ghost use Rattle.fips204.specs.MessageLaws.{FramingIsOneToOne, SignatureBindsMessage, SignatureBindsInput};
+ghost use Rattle.fips204.specs.SchemeLaws.{FramingIsOneToOne, SignatureBindsMessage, SignatureBindsInput};
 ghost use Rattle.fips204.specs.Prepared.{PreparedAnswersAsPlain};
 ghost use Rattle.fips204.specs.ParameterSets.{ParameterSet, is_parameter_set};
 ghost use Rattle.std.specs.Prelude.{ℕ, List, IsTrue};

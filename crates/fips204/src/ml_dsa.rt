@@ -6,7 +6,7 @@ ghost use Rattle.std.specs.List.{flat_map};
 ghost use Rattle.fips204.specs.Framing.{plain, hashed};
 ghost use Rattle.fips204.specs.Keys.{IsPublicKeyOf, DecodesPrivate};
 ghost use Rattle.fips204.specs.ParameterSets.{private_key_length};
-ghost use Rattle.fips204.specs.Refusals.{input_hash};
+ghost use Rattle.fips204.specs.SigningInputs.{input_hash};
 ghost use Rattle.fips204.specs.Sets.{set_of};
 
 mod attempt;
@@ -93,7 +93,7 @@ pub(crate) fn message_mu<'a, H: Xof>(
     message: &'a [u8],
     ctx: &'a [u8],
 ) -> Result<[u8; 64], Fault>
-    ensures { result ≡ input_hash H.front tr.now (plain ctx.now message.now) }
+    ensures { result ≡ input_hash H.front tr.now (plain message.now ctx.now) }
 {
     let length = context_length(ctx).ok_or(Fault::SignCtx)?;
     Ok(mu::<H>(&[tr.as_slice(), &[0, length], ctx, message]))
@@ -108,7 +108,7 @@ pub(crate) fn digest_mu<'a, H: Xof>(
     ctx: &'a [u8],
     hash_oid: &'a [u8],
 ) -> Result<[u8; 64], Fault>
-    ensures { result ≡ input_hash H.front tr.now (hashed ctx.now hash_oid.now hash.now) }
+    ensures { result ≡ input_hash H.front tr.now (hashed hash.now ctx.now hash_oid.now) }
 {
     let length = context_length(ctx).ok_or(Fault::HashCtx)?;
     check_pre_hash(hash, hash_oid)?;

@@ -177,7 +177,7 @@ pub trait Signer {
         ctx: &[u8],
         hash_oid: &[u8],
     ) -> Result<Self::Signature, Fault>
-        ensures answer { DrawsUnless (digest_fault ctx.now hash_oid.now hash.now) R.gives R.refuses rng.old rng.new HashRng
+        ensures answer { DrawsUnless (digest_fault hash.now ctx.now hash_oid.now) R.gives R.refuses rng.old rng.new HashRng
             (λ rnd. signs_digest self.now rnd hash.now ctx.now hash_oid.now) result }
         ensures accepted { AcceptedIfWhole (whole self.now) (derives self.now)
             (λ pk signature. accepts_digest pk hash.now signature ctx.now hash_oid.now) result };

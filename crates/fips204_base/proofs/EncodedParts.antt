@@ -4,16 +4,16 @@ use Rattle.std.specs.List.{All}
 use Rattle.std.proofs.lemmas.Int.{ints}
 use Rattle.std.proofs.lemmas.List.Elements.{All-head, All-tail}
 use Rattle.fips204_base.specs.declared.types.R.{R}
-use Rattle.fips204_base.specs.Coefficients.{IsEta}
+use Rattle.fips204_base.specs.Sampling.{IsEta}
 use Rattle.fips204_base.specs.Encodings.{IsGamma1, public_key_bytes, IsPrivateKey, vector_bytes, IsSignature, private_key_bytes, signature_bytes}
-use Rattle.fips204_base.specs.Packing.{InRange, polynomial_bytes, Bounds, bit_length, width}
+use Rattle.fips204_base.specs.Packing.{PolynomialInRange, polynomial_bytes, Bounds, bit_length, width}
 use Rattle.fips204_base.proofs.Bits.{cut}
 use Rattle.fips204_base.proofs.Packing.{length-polynomial_bytes, same_polynomial}
 use Rattle.std.proofs.lemmas.List.{take_all, take_at, drop_at}
 use Rattle.std.proofs.Math.Seq.{take-add}
 use Rattle.fips204_base.specs.Vectors.{IsVector}
 use Rattle.fips204_base.proofs.VectorBytes.{vector-length}
-use Rattle.fips204_base.specs.HintSpelling.{Spells, hint_bytes}
+use Rattle.fips204_base.specs.Encodings.{Spells, hint_bytes}
 use Rattle.fips204_base.proofs.HintSpelling.{one_hint}
 
 -- A public key determines rho and t1. So `pk_decode` of what `pk_encode` gives are the parts again; the other way round is
@@ -21,7 +21,7 @@ use Rattle.fips204_base.proofs.HintSpelling.{one_hint}
 
 -- the polynomials that a public key has
 pub record IsT1 (w : R) : Type 0 where
-  pub range : InRange (pos 0) (pos 1023) w.0
+  pub range : PolynomialInRange (pos 0) (pos 1023) w.0
   pub count : length w.0 ≡ 256
 
 -- The parts of a private key.
@@ -141,7 +141,7 @@ signature-hint gamma1 omega' k l n m sigma c_tilde z h s e =
 abbrev pub AreBounds : ℕ → ℕ → Type 0
 AreBounds a b = (a ≤ 1048575) × (1 ≤ b) × (b ≤ 1048575)
 
-same_row : (a b : ℕ) (v w : R) → AreBounds a b → length v.0 ≡ 256 → length w.0 ≡ 256 → InRange (pos 0 -ℤ pos a) (pos b) v.0 → InRange (pos 0 -ℤ pos a) (pos b) w.0
+same_row : (a b : ℕ) (v w : R) → AreBounds a b → length v.0 ≡ 256 → length w.0 ≡ 256 → PolynomialInRange (pos 0 -ℤ pos a) (pos b) v.0 → PolynomialInRange (pos 0 -ℤ pos a) (pos b) w.0
     → polynomial_bytes (pos a) (pos b) v.0 ≡ polynomial_bytes (pos a) (pos b) w.0 → v ≡ w
 same_row a b v w bounds m n p q e =
     let lists = same_polynomial (pos a) (pos b) v.0 w.0 (omega (arith, ints), omega (arith, ints, bounds), omega (arith, ints, bounds), omega (arith, ints, bounds)) p q m n e in
@@ -151,7 +151,7 @@ rest_of_vector : (n a b : ℕ) (w : R) (v : List R) → IsVector n a b (w ∷ v)
 rest_of_vector n a b w v h = record {
   rows = refl;
   places = All-tail (λ (w : R). length w.0 ≡ 256) w v h.places;
-  range = All-tail (λ (w : R). InRange (pos 0 -ℤ pos a) (pos b) w.0) w v h.range;
+  range = All-tail (λ (w : R). PolynomialInRange (pos 0 -ℤ pos a) (pos b) w.0) w v h.range;
 }
 
 pub same_vector : (n m a b : ℕ) (v w : List R) → AreBounds a b → length v ≡ length w → IsVector n a b v → IsVector m a b w → vector_bytes a b v ≡ vector_bytes a b w → v ≡ w
@@ -161,7 +161,7 @@ same_vector n m a b (x ∷ v) [] bounds l p q e = absurd (omega (arith, l))
 same_vector n m a b (x ∷ v) (y ∷ w) bounds l p q e =
     let f = λ (r : R). polynomial_bytes (pos a) (pos b) r.0 in
     let Places = λ (r : R). length r.0 ≡ 256 in
-    let Range = λ (r : R). InRange (pos 0 -ℤ pos a) (pos b) r.0 in
+    let Range = λ (r : R). PolynomialInRange (pos 0 -ℤ pos a) (pos b) r.0 in
     let i = All-head Places x v p.places in
     let j = All-head Places y w q.places in
     let both = cut (f x) (f y) (vector_bytes a b v) (vector_bytes a b w) (32 * width (pos a) (pos b)) (length-polynomial_bytes (pos a) (pos b) x.0 i) (length-polynomial_bytes (pos a) (pos b) y.0 j) e in

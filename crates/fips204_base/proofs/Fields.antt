@@ -10,7 +10,7 @@ use Rattle.std.proofs.lemmas.List.Sums.{sum_by-cons}
 use Rattle.std.proofs.lemmas.List.Elements.{All-map, All-weaker, All-push, All-nil, All-cons, All-head, All-tail}
 use Rattle.std.proofs.lemmas.Nat.{leading_length}
 use Rattle.std.proofs.Math.Nat.{pow-succ', pow-le-pow_right}
-use Rattle.fips204_base.specs.Packing.{Bounds, InRange, Packs, PacksAbove, Unpacks, bit_length, bits, coefficient, field, integer_to_bits, width}
+use Rattle.fips204_base.specs.Packing.{Bounds, PolynomialInRange, Packs, PacksAbove, Unpacks, bit_length, bits, coefficient, field, integer_to_bits, width}
 use Rattle.fips204_base.proofs.Bits.{digits-zero}
 
 -- the powers of two that are at most a number of c digits, counted from 2 ^ s on
@@ -112,7 +112,7 @@ stored a b f at out z room e small before =
       rw more (All-push (HasField a b) (take at out) z before here),
     )
 
-pub fields_fit : (a b : ℤ) (w : List ℤ) → Bounds a b → InRange (pos 0 -ℤ a) b w → All (λ f. f < 2 ^ width a b) (map (field a b) w)
+pub fields_fit : (a b : ℤ) (w : List ℤ) → Bounds a b → PolynomialInRange (pos 0 -ℤ a) b w → All (λ f. f < 2 ^ width a b) (map (field a b) w)
 fields_fit a b w bounds range =
     All-map (λ f. f < 2 ^ width a b) (field a b) w (All-weaker (λ (x : ℤ). ((pos 0 -ℤ a) ≤ℤ x) × (x ≤ℤ b)) (λ (x : ℤ). field a b x < 2 ^ width a b)
     (λ x r. width-below a b (field a b x) bounds (field-le a b x bounds r.0 r.1)) w range)
@@ -130,7 +130,7 @@ group_finished a b c i have at word out v w eight long done few whole bytes same
     let have_fields : All (HasField a b) out = rw kept at fields in (
       record {
         same_bits = sym bits_same;
-        whole_bytes = bytes;
+        small_bytes = bytes;
         small_fields = All-map (λ f. f < 2 ^ width a b) (field a b) out (All-weaker (HasField a b) (λ (x : ℤ). field a b x < 2 ^ width a b) (λ x h. h.0) out have_fields);
       },
       All-weaker (HasField a b) (λ (x : ℤ). coefficient a b (field a b x) ≡ x) (λ x h. h.1) out have_fields,
@@ -150,7 +150,7 @@ one_above b (f ∷ fields) = by_lt_z b (pos f)
     ])
 
 -- where a is 0 the coefficients are in range exactly if their fields are at most b
-within_range : (b : ℤ) (w : List ℤ) → All (λ x. coefficient (pos 0) b (field (pos 0) b x) ≡ x) w → All (λ f. pos f ≤ℤ b) (map (field (pos 0) b) w) → InRange (pos 0) b w
+within_range : (b : ℤ) (w : List ℤ) → All (λ x. coefficient (pos 0) b (field (pos 0) b x) ≡ x) w → All (λ f. pos f ≤ℤ b) (map (field (pos 0) b) w) → PolynomialInRange (pos 0) b w
 unfolding field coefficient
 within_range b [] h k = All-nil (λ (x : ℤ). (pos 0 ≤ℤ x) × (x ≤ℤ b))
 within_range b (x ∷ w) h k =
@@ -161,7 +161,7 @@ within_range b (x ∷ w) h k =
     All-cons (λ (x : ℤ). (pos 0 ≤ℤ x) × (x ≤ℤ b)) x w (omega (arith, ints, same), omega (arith, ints, same, here)) rest
 
 -- where a is 0 and the coefficients are not in range, a field is above b
-pub refused : (a b : ℤ) (v : List ℕ) (w : List ℤ) → a ≡ pos 0 → Unpacks a b v w → (InRange (pos 0) b w → ⊥) → PacksAbove b (width a b) v
+pub refused : (a b : ℤ) (v : List ℕ) (w : List ℤ) → a ≡ pos 0 → Unpacks a b v w → (PolynomialInRange (pos 0) b w → ⊥) → PacksAbove b (width a b) v
 refused a b v w none_below u outside =
     let z : Unpacks (pos 0) b v w = subst (λ a. Unpacks a b v w) none_below u in
     elim (one_above b (map (field a b) w)) [

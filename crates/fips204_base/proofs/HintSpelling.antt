@@ -7,8 +7,8 @@ use Rattle.std.proofs.lemmas.List.FromFn.{filter_of_map_range_with_len_more, get
 use Rattle.std.proofs.lemmas.List.Elements.{All-set, All-replicate, All-nil, All-push, All-weaker, All-get_or, All-same}
 use Rattle.std.proofs.lemmas.Bool.{cases_lt, cases_Bool}
 use Rattle.fips204_base.specs.declared.types.R.{R}
-use Rattle.fips204_base.specs.HintSpelling.{is_one, ones_below, ones, all_ones, running_totals, hint_bytes, Spells}
-use Rattle.fips204_base.specs.Packing.{InRange}
+use Rattle.fips204_base.specs.Encodings.{is_one, ones_below, ones, all_ones, running_totals, hint_bytes, Spells}
+use Rattle.fips204_base.specs.Packing.{PolynomialInRange}
 use Rattle.std.proofs.lemmas.List.Concat.{flat_map-append}
 use Rattle.std.proofs.lemmas.Grind.{same_number_lists}
 use Rattle.fips204_base.specs.declared.types.TheConstants.{R0}
@@ -127,10 +127,10 @@ ones-set row p size within zeros =
     let flat : ones_below v 256 ≡ ones_below v p = ap (ones_below v) (sym m) ∙ ones-rest v p (256 - p) (λ j k. not_one v j (zeros j k)) in
     high ∙ middle ∙ ap (λ l. l ++ p ∷ []) (sym flat)
 
-pub zero_bits : InRange (pos 0) (pos 1) (replicate 256 (pos 0))
+pub zero_bits : PolynomialInRange (pos 0) (pos 1) (replicate 256 (pos 0))
 zero_bits = All-replicate (λ (x : ℤ). (pos 0 ≤ℤ x) × (x ≤ℤ pos 1)) 256 (pos 0) (omega arith, omega arith)
 
-pub bits-set : (row : List ℤ) (p : ℕ) → InRange (pos 0) (pos 1) row → InRange (pos 0) (pos 1) (set row p (pos 1))
+pub bits-set : (row : List ℤ) (p : ℕ) → PolynomialInRange (pos 0) (pos 1) row → PolynomialInRange (pos 0) (pos 1) (set row p (pos 1))
 bits-set row p h = All-set (λ (x : ℤ). (pos 0 ≤ℤ x) × (x ≤ℤ pos 1)) row p (pos 1) (omega arith, omega arith) h
 
 -- ---- places written one after another
@@ -388,7 +388,7 @@ tests_of : (v w : R) (j : ℕ) → is_one v j ≡ is_one w j → int_lt (pos 0) 
 unfolding is_one
 tests_of v w j e = e
 
-pub ones-polynomial : (v w : R) → length v.0 ≡ 256 → length w.0 ≡ 256 → InRange (pos 0) (pos 1) v.0 → InRange (pos 0) (pos 1) w.0 → ones v ≡ ones w → v ≡ w
+pub ones-polynomial : (v w : R) → length v.0 ≡ 256 → length w.0 ≡ 256 → PolynomialInRange (pos 0) (pos 1) v.0 → PolynomialInRange (pos 0) (pos 1) w.0 → ones v ≡ ones w → v ≡ w
 ones-polynomial v w m n a b e =
     let lists : v.0 ≡ w.0 = ext_get_or (pos 0) v.0 w.0 (m ∙ sym n) (λ j l.
     same_bit (get_or v.0 j (pos 0)) (get_or w.0 j (pos 0)) (a j (pos 0) l) (b j (pos 0) (omega (arith, m, n, l))) (tests_of v w j (same_tests v w 256 e j (omega (arith, m, l))))) in

@@ -9,9 +9,9 @@ use denote.Param.Members.{Mut, Called}
 use Rattle.std.specs.Array.{IsFromFnResult, IsFromFnResultFrom}
 use Rattle.fips204_base.specs.Residues.{coefficients, IsCongruent}
 use Rattle.fips204_base.specs.Transforms.{transform, inverse_transform}
-use Rattle.fips204_base.specs.Products.{pointwise, product}
+use Rattle.fips204_base.specs.Transforms.{pointwise, product}
 use Rattle.fips204_base.specs.Lanes.{InRow, residues}
-use Rattle.fips204_base.specs.Polynomials.{Within, entry}
+use Rattle.fips204_base.specs.Vectors.{ValuesWithin, entry}
 use Rattle.fips204_base.specs.declared.types.R.{R}
 use Rattle.fips204_base.specs.declared.lanes.row.Lanes.{Lanes}
 use Rattle.fips204_base.proofs.Residues.{congruent_of, congruent_trans, congruent_equal, residue_below}
@@ -41,7 +41,7 @@ lane_transform before after out w from to values i p =
 
 -- a polynomial whose coefficients are those of a lane that is below q in absolute value
 pub lane_within : (after : ℕ → ℤ) (out : List ℤ) → length out ≡ 256 → ((n : ℕ) → n < 256 → get_or out n (pos 0) ≡ after n)
-    → ((n : ℕ) → n < 256 → nat_abs (after n) ≤ 8380416) → Within 8380416 out
+    → ((n : ℕ) → n < 256 → nat_abs (after n) ≤ 8380416) → ValuesWithin 8380416 out
 lane_within after out size to small =
     All-from_get_or (λ x. nat_abs x ≤ 8380416) out (pos 0) (λ n h. let p : n < 256 = omega (arith, h, size) in subst (λ x. nat_abs x ≤ 8380416) (sym (to n p)) (small n p))
 

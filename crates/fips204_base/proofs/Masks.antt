@@ -5,9 +5,9 @@ use Rattle.std.proofs.lemmas.List.{ext_get_or, get_or-map, length-map, take_all,
 use Rattle.std.proofs.lemmas.List.Elements.{All-get_or, All-drop, All-map, All-take}
 use Rattle.std.proofs.lemmas.List.FromFn.{get_or-map-range_with_len, length-map-range_with_len}
 use Rattle.fips204_base.specs.declared.types.R.{R}
-use Rattle.fips204_base.specs.Packing.{bits, bits_to_integer, coefficient, field, width, Packs, Unpacks, InRange, bit_length}
+use Rattle.fips204_base.specs.Packing.{bits, bits_to_integer, coefficient, field, width, Packs, Unpacks, PolynomialInRange, bit_length}
 use Rattle.fips204_base.specs.Vectors.{polynomial_of, IsVector}
-use Rattle.fips204_base.specs.Mask.{field_at, unpacked, mask, mask_polynomial, mask_width}
+use Rattle.fips204_base.specs.Sampling.{field_at, unpacked, mask, mask_polynomial, mask_width}
 use Rattle.fips204_base.proofs.Packing.{integer_of_digits, digits_at, bits_below, integer_small}
 use Rattle.std.specs.Int.{w16, to_le_bytes}
 use Rattle.std.proofs.lemmas.Int.{ints}
@@ -71,12 +71,12 @@ coefficient-high : (f : ℕ) → f < 1048576 → ((pos 0 -ℤ pos 524287) ≤ℤ
 unfolding coefficient
 coefficient-high f l = (omega (arith, ints, l), omega (arith, ints))
 
-all_of : (f : ℕ → ℤ) (a b : ℤ) → ((n : ℕ) → (a ≤ℤ f n) × (f n ≤ℤ b)) → (length (polynomial_of f).0 ≡ 256) × InRange a b (polynomial_of f).0
+all_of : (f : ℕ → ℤ) (a b : ℤ) → ((n : ℕ) → (a ≤ℤ f n) × (f n ≤ℤ b)) → (length (polynomial_of f).0 ≡ 256) × PolynomialInRange a b (polynomial_of f).0
 unfolding polynomial_of
 all_of f a b each = (length-map-range_with_len f 0 256, All-map (λ x. (a ≤ℤ x) × (x ≤ℤ b)) f (range_with_len 0 256) (λ k d l. each (get_or (range_with_len 0 256) k d)))
 
 pub mask_polynomial-range : (gamma1 : ℕ) (front : List ℕ) → (gamma1 ≡ 131072) ⊎ (gamma1 ≡ 524288)
-    → (length (mask_polynomial gamma1 front).0 ≡ 256) × InRange (pos 0 -ℤ pos (gamma1 - 1)) (pos gamma1) (mask_polynomial gamma1 front).0
+    → (length (mask_polynomial gamma1 front).0 ≡ 256) × PolynomialInRange (pos 0 -ℤ pos (gamma1 - 1)) (pos gamma1) (mask_polynomial gamma1 front).0
 unfolding unpacked bit_length
 mask_polynomial-range gamma1 front (inl e) = rw e (all_of (λ n. coefficient (pos 131071) (pos 131072) (field_at 18 (bits 8 (take 576 front)) n)) (pos 0 -ℤ pos 131071) (pos 131072) (λ n. coefficient-low (field_at 18 (bits 8 (take 576 front)) n) (field_small 18 n (take 576 front))))
 mask_polynomial-range gamma1 front (inr e) = rw e (all_of (λ n. coefficient (pos 524287) (pos 524288) (field_at 20 (bits 8 (take 640 front)) n)) (pos 0 -ℤ pos 524287) (pos 524288) (λ n. coefficient-high (field_at 20 (bits 8 (take 640 front)) n) (field_small 20 n (take 640 front))))
@@ -88,5 +88,5 @@ mask-range gamma1 H rho l kappa set =
     record {
       rows = length-map-range_with_len polynomial 0 l;
       places = All-map (λ w. length w.0 ≡ 256) polynomial (range_with_len 0 l) (λ k d h. (mask_polynomial-range gamma1 _ set).0);
-      range = All-map (λ w. InRange (pos 0 -ℤ pos (gamma1 - 1)) (pos gamma1) w.0) polynomial (range_with_len 0 l) (λ k d h. (mask_polynomial-range gamma1 _ set).1);
+      range = All-map (λ w. PolynomialInRange (pos 0 -ℤ pos (gamma1 - 1)) (pos gamma1) w.0) polynomial (range_with_len 0 l) (λ k d h. (mask_polynomial-range gamma1 _ set).1);
     }

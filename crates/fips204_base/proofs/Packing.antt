@@ -8,7 +8,7 @@ use Rattle.std.proofs.lemmas.List.FromFn.{fill_by_all, length-map-range_with_len
 use Rattle.std.proofs.lemmas.Nat.{pow_pos}
 use Rattle.std.proofs.Math.Seq.{take-add, drop-append-add}
 use Rattle.std.proofs.Math.Nat.{pow-succ'}
-use Rattle.fips204_base.specs.Packing.{Packs, bits, bits_to_bytes, bits_to_integer, integer_to_bits, packed, Bounds, InRange, Unpacks, coefficient, field, polynomial_bytes, width}
+use Rattle.fips204_base.specs.Packing.{Packs, bits, bits_to_bytes, bits_to_integer, integer_to_bits, packed, Bounds, PolynomialInRange, Unpacks, coefficient, field, polynomial_bytes, width}
 use Rattle.fips204_base.proofs.Bits.{digits-zero, digits-suc, length-digits, same_numbers}
 use Rattle.fips204_base.proofs.Fields.{coefficient-field, fields_fit}
 
@@ -94,7 +94,7 @@ bits_of_bytes all s (suc n) h d =
 
 pub is_packed : (c : ℕ) (bytes fields : List ℕ) → Packs c bytes fields → bytes ≡ packed c fields
 unfolding packed
-is_packed c bytes fields p = sym (bytes_of_bits bytes p.whole_bytes) ∙ ap bits_to_bytes p.same_bits
+is_packed c bytes fields p = sym (bytes_of_bits bytes p.small_bytes) ∙ ap bits_to_bytes p.same_bits
 
 byte_count : (all : List ℕ) → length (bits_to_bytes all) ≡ length all / 8
 unfolding bits_to_bytes
@@ -127,7 +127,7 @@ packs_packed c n fields e h =
     let all = bits_of_bytes (bits c fields) 0 n (omega (arith, long)) (bits_below c fields) in
     record {
       same_bits = rw eighths (all ∙ take_all (8 * n) (bits c fields) (omega (arith, long)));
-      whole_bytes = All-map (λ (b : ℕ). b < 256) (λ i. bits_to_integer (take 8 (drop (8 * i) (bits c fields)))) (range_with_len 0 (length (bits c fields) / 8))
+      small_bytes = All-map (λ (b : ℕ). b < 256) (λ i. bits_to_integer (take 8 (drop (8 * i) (bits c fields)))) (range_with_len 0 (length (bits c fields) / 8))
           (λ k d l. byte_small (bits c fields) _ (bits_below c fields));
       small_fields = h;
     }
@@ -136,13 +136,13 @@ packs_packed c n fields e h =
 
 pub packs_none : (c : ℕ) → Packs c [] []
 unfolding bits
-packs_none c = record { same_bits = refl; whole_bytes = All-nil (λ (byte : ℕ). byte < 256); small_fields = All-nil (λ (f : ℕ). f < 2 ^ c) }
+packs_none c = record { same_bits = refl; small_bytes = All-nil (λ (byte : ℕ). byte < 256); small_fields = All-nil (λ (f : ℕ). f < 2 ^ c) }
 
 pub packs_joined : (c : ℕ) (bytes more fields others : List ℕ) → Packs c bytes fields → Packs c more others → Packs c (bytes ++ more) (fields ++ others)
 unfolding bits
 packs_joined c bytes more fields others p q = record {
   same_bits = rw (flat_map-append (integer_to_bits 8) bytes more, flat_map-append (integer_to_bits c) fields others, p.same_bits, q.same_bits) refl;
-  whole_bytes = All-append (λ (byte : ℕ). byte < 256) bytes more p.whole_bytes q.whole_bytes;
+  small_bytes = All-append (λ (byte : ℕ). byte < 256) bytes more p.small_bytes q.small_bytes;
   small_fields = All-append (λ (f : ℕ). f < 2 ^ c) fields others p.small_fields q.small_fields;
 }
 
@@ -164,7 +164,7 @@ coefficients_again a b (x ∷ w) h =
     let tail = coefficients_again a b w (All-tail (λ (y : ℤ). coefficient a b (field a b y) ≡ y) x w h) in
     cc
 
-in_range_again : (a b : ℤ) (w : List ℤ) → Bounds a b → InRange (pos 0 -ℤ a) b w → All (λ x. coefficient a b (field a b x) ≡ x) w
+in_range_again : (a b : ℤ) (w : List ℤ) → Bounds a b → PolynomialInRange (pos 0 -ℤ a) b w → All (λ x. coefficient a b (field a b x) ≡ x) w
 in_range_again a b w bounds range =
     All-weaker (λ (x : ℤ). ((pos 0 -ℤ a) ≤ℤ x) × (x ≤ℤ b)) (λ (x : ℤ). coefficient a b (field a b x) ≡ x) (λ x r. coefficient-field a b x bounds r.0 r.1) w range
 
@@ -177,7 +177,7 @@ length-polynomial_bytes a b w n =
 pub unpacks_bytes : (a b : ℤ) (bytes : List ℕ) (w : List ℤ) → Unpacks a b bytes w → bytes ≡ polynomial_bytes a b w
 unpacks_bytes a b bytes w u = is_packed (width a b) bytes (map (field a b) w) u.same_fields
 
-pub bytes_unpack : (a b : ℤ) (w : List ℤ) → Bounds a b → InRange (pos 0 -ℤ a) b w → length w ≡ 256 → Unpacks a b (polynomial_bytes a b w) w
+pub bytes_unpack : (a b : ℤ) (w : List ℤ) → Bounds a b → PolynomialInRange (pos 0 -ℤ a) b w → length w ≡ 256 → Unpacks a b (polynomial_bytes a b w) w
 bytes_unpack a b w bounds range n =
     let all : length (map (field a b) w) ≡ 256 = length-map w (field a b) ∙ n in
     record {
@@ -192,7 +192,7 @@ unpacks_once a b bytes v w p q =
     let fields = same_fields (width a b) bytes (map (field a b) v) (map (field a b) w) counts p.same_fields q.same_fields in
     sym (coefficients_again a b v p.coefficients) ∙ ap (map (coefficient a b)) fields ∙ coefficients_again a b w q.coefficients
 
-pub same_polynomial : (a b : ℤ) (v w : List ℤ) → Bounds a b → InRange (pos 0 -ℤ a) b v → InRange (pos 0 -ℤ a) b w → length v ≡ 256 → length w ≡ 256
+pub same_polynomial : (a b : ℤ) (v w : List ℤ) → Bounds a b → PolynomialInRange (pos 0 -ℤ a) b v → PolynomialInRange (pos 0 -ℤ a) b w → length v ≡ 256 → length w ≡ 256
     → polynomial_bytes a b v ≡ polynomial_bytes a b w → v ≡ w
 same_polynomial a b v w bounds p q n m e =
     unpacks_once a b (polynomial_bytes a b w) v w (rw e at (bytes_unpack a b v bounds p n)) (bytes_unpack a b w bounds q m)

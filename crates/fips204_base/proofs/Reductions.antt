@@ -4,7 +4,7 @@ use Rattle.std.proofs.lemmas.Int.{ints}
 use Rattle.fips204_base.specs.Residues.{residue, IsCongruent}
 use Rattle.fips204_base.specs.Lanes.{lane}
 use Rattle.fips204_base.proofs.Residues.{congruent_refl, congruent_of, congruent_trans, congruent_mod, congruent_mul, residue_is, congruent_without_word}
-use Rattle.fips204_base.specs.CentredValues.{centred_modulo, centred}
+use Rattle.fips204_base.specs.Residues.{centred_modulo, centred}
 
 -- Products in Montgomery form.
 

@@ -5,7 +5,7 @@ use Rattle.std.proofs.lemmas.Int.{ints, by_lt_z}
 use Rattle.std.proofs.lemmas.Nat.{mod_below}
 use Rattle.std.proofs.lemmas.Bool.{cases_eq, cases_lt, eq-eqb, ne_eqb, le-leb, lt-leb}
 use Rattle.fips204_base.specs.Residues.{residue}
-use Rattle.fips204_base.specs.CentredValues.{centred_modulo}
+use Rattle.fips204_base.specs.Residues.{centred_modulo}
 use Rattle.fips204_base.specs.Rounding.{high_bits, low_bits, high_values, use_hint, make_hint}
 use Rattle.fips204_base.proofs.Residues.{residue_below}
 use Rattle.fips204_base.proofs.Rounding.{decompose_sides, high_bits_below, above, not_above}

@@ -14,14 +14,14 @@ use Rattle.std.proofs.lemmas.Int.{ints}
 use Rattle.std.proofs.lemmas.Option.{none-some}
 use Rattle.std.proofs.lemmas.List.Elements.{All-nil, All-cons, All-take}
 use Rattle.fips204_base.specs.declared.types.T.{T}
-use Rattle.fips204_base.specs.Coefficients.{three_bytes, coefficient_from_half_byte}
-use Rattle.fips204_base.specs.MatrixEntry.{triple, kept_triples, matrix_entry, sampled_entry, sampled_row, sampled_matrix}
+use Rattle.fips204_base.specs.Sampling.{three_bytes, coefficient_from_half_byte}
+use Rattle.fips204_base.specs.Sampling.{triple, kept_triples, matrix_entry, sampled_entry, sampled_row, sampled_matrix}
 use Rattle.std.specs.Int.{w16, to_le_bytes}
 use Rattle.fips204_base.specs.declared.types.R.{R}
-use Rattle.fips204_base.specs.Packing.{InRange}
-use Rattle.fips204_base.specs.Polynomials.{Within, AreReduced}
+use Rattle.fips204_base.specs.Packing.{PolynomialInRange}
+use Rattle.fips204_base.specs.Vectors.{ValuesWithin, TransformsWithin}
 use Rattle.fips204_base.specs.Vectors.{IsVector}
-use Rattle.fips204_base.specs.SmallPolynomial.{half_bytes, kept_half_bytes, small_polynomial, small_vector}
+use Rattle.fips204_base.specs.Sampling.{half_bytes, kept_half_bytes, small_polynomial, small_vector}
 
 -- Lists of values that may be none, each made in turn.
 
@@ -200,7 +200,7 @@ sampled_matrix-entries G rho k l a e =
       λ r s d f h m. ap (sampled_entry G rho r) (sym (from_zero s)) ∙ (row r d h).1 s f m,
     )
 
-pub residues-within : (xs : List ℤ) → All (λ x. (pos 0 ≤ℤ x) × (x ≤ℤ pos 8380416)) xs → Within 8380416 xs
+pub residues-within : (xs : List ℤ) → All (λ x. (pos 0 ≤ℤ x) × (x ≤ℤ pos 8380416)) xs → ValuesWithin 8380416 xs
 residues-within xs h i d l = let b = h i d l in omega (arith, ints, b)
 
 -- where a row is none, the matrix is, and a caller answers by its fault
@@ -210,7 +210,7 @@ unfolding sampled_matrix
 matrix-refused G rho k l r h none refused = rw refused (all_present-none (sampled_row G rho l) 0 k r r h (omega arith) none, refl)
 
 -- a row that is sampled is below q
-pub row-within : (G : List ℕ → List ℕ) (rho : List ℕ) (l r : ℕ) (row : List T) → sampled_row G rho l r ≡ Some row → AreReduced row
+pub row-within : (G : List ℕ → List ℕ) (rho : List ℕ) (l r : ℕ) (row : List T) → sampled_row G rho l r ≡ Some row → TransformsWithin 8380416 row
 row-within G rho l r row e s f m =
     let values = all_present-at (sampled_entry G rho r) 0 l row e in
     let column : s < l = omega (arith, m, values.0) in
@@ -236,7 +236,7 @@ whole_polynomial kept (Some values) w e m = let made : R = record { 0 = values }
 
 -- 256 coefficients from -eta to eta
 pub small_polynomial-range : (eta : ℕ) (front : List ℕ) (w : R) → (eta ≡ 2) ⊎ (eta ≡ 4) → small_polynomial eta front ≡ Some w
-    → (length w.0 ≡ 256) × InRange (pos 0 -ℤ pos eta) (pos eta) w.0
+    → (length w.0 ≡ 256) × PolynomialInRange (pos 0 -ℤ pos eta) (pos eta) w.0
 unfolding small_polynomial kept_half_bytes
 small_polynomial-range eta front w set e =
     let P = λ (x : ℤ). ((pos 0 -ℤ pos eta) ≤ℤ x) × (x ≤ℤ pos eta) in
@@ -248,6 +248,6 @@ pub small_vector-range : (eta : ℕ) (H : List ℕ → List ℕ) (rho : List ℕ
 unfolding small_vector
 small_vector-range eta H rho first count v set e =
     let values = all_present-at (λ r. small_polynomial eta (H (rho ++ to_le_bytes w16 r))) first count v e in
-    let each : (k : ℕ) (d : R) → k < length v → (length (get_or v k d).0 ≡ 256) × InRange (pos 0 -ℤ pos eta) (pos eta) (get_or v k d).0 =
+    let each : (k : ℕ) (d : R) → k < length v → (length (get_or v k d).0 ≡ 256) × PolynomialInRange (pos 0 -ℤ pos eta) (pos eta) (get_or v k d).0 =
     λ k d l. small_polynomial-range eta (H (rho ++ to_le_bytes w16 (first + k))) (get_or v k d) set (values.1 k d (omega (arith, l, values.0))) in
     record { rows = values.0; places = λ k d l. (each k d l).0; range = λ k d l. (each k d l).1 }

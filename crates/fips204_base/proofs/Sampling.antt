@@ -10,9 +10,9 @@ use Rattle.fips204_base.specs.Sampling.{first_256}
 use Rattle.std.specs.Prelude.{option_to_list, slice_index}
 use Rattle.std.proofs.lemmas.Grind.{flat_map-append}
 use Rattle.std.proofs.Math.Seq.{take-add}
-use Rattle.fips204_base.specs.Coefficients.{coefficient_from_half_byte, coefficient_from_three_bytes}
-use Rattle.fips204_base.specs.SmallPolynomial.{half_bytes, kept_half_bytes, small_polynomial}
-use Rattle.fips204_base.specs.MatrixEntry.{triple, kept_triples, matrix_entry}
+use Rattle.fips204_base.specs.Sampling.{coefficient_from_half_byte, coefficient_from_three_bytes}
+use Rattle.fips204_base.specs.Sampling.{half_bytes, kept_half_bytes, small_polynomial}
+use Rattle.fips204_base.specs.Sampling.{triple, kept_triples, matrix_entry}
 
 -- What a sampler keeps: the places written so far, and the first 256 coefficients of all that were given.
 

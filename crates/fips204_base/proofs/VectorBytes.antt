@@ -12,7 +12,7 @@ use Rattle.fips204_base.specs.declared.types.R.{R}
 use Rattle.fips204_base.specs.Encodings.{vector_bytes}
 use Rattle.fips204_base.specs.Vectors.{IsVector}
 use Rattle.fips204_base.proofs.Packing.{length-polynomial_bytes}
-use Rattle.fips204_base.specs.Packing.{Bounds, InRange, Unpacks, coefficient, field, polynomial_bytes, width}
+use Rattle.fips204_base.specs.Packing.{Bounds, PolynomialInRange, Unpacks, coefficient, field, polynomial_bytes, width}
 
 -- A list of bytes that is written or read piece by piece.
 
@@ -71,7 +71,7 @@ unfolding field coefficient
 whole_coefficient a b x p bounds whole small same = grind (arith, ints, bounds, whole, small, same)
 
 whole_range : (a b : ℤ) (w : List ℤ) → Bounds a b → pos (2 ^ width a b) ≡ a +ℤ b +ℤ pos 1 → All (λ f. f < 2 ^ width a b) (map (field a b) w)
-    → All (λ x. coefficient a b (field a b x) ≡ x) w → InRange (pos 0 -ℤ a) b w
+    → All (λ x. coefficient a b (field a b x) ≡ x) w → PolynomialInRange (pos 0 -ℤ a) b w
 whole_range a b [] bounds whole small same = All-nil (λ (x : ℤ). ((pos 0 -ℤ a) ≤ℤ x) × (x ≤ℤ b))
 whole_range a b (x ∷ w) bounds whole small same =
     let P = λ (f : ℕ). f < 2 ^ width a b in
@@ -80,7 +80,7 @@ whole_range a b (x ∷ w) bounds whole small same =
     let rest = whole_range a b w bounds whole (All-tail P (field a b x) (map (field a b) w) small) (All-tail E x w same) in
     All-cons (λ (y : ℤ). ((pos 0 -ℤ a) ≤ℤ y) × (y ≤ℤ b)) x w here rest
 
-pub unpacked_range : (a b : ℤ) (bytes : List ℕ) (w : List ℤ) → Bounds a b → pos (2 ^ width a b) ≡ a +ℤ b +ℤ pos 1 → Unpacks a b bytes w → InRange (pos 0 -ℤ a) b w
+pub unpacked_range : (a b : ℤ) (bytes : List ℕ) (w : List ℤ) → Bounds a b → pos (2 ^ width a b) ≡ a +ℤ b +ℤ pos 1 → Unpacks a b bytes w → PolynomialInRange (pos 0 -ℤ a) b w
 unpacked_range a b bytes w bounds whole u = whole_range a b w bounds whole u.same_fields.small_fields u.coefficients
 
 -- piece i of n pieces of one size ends within them
@@ -103,7 +103,7 @@ bytes_at_integers a b v bounds =
     let q : pos (nat_abs b) ≡ b = omega (arith, ints, bounds) in
     ap (λ m. flat_map (λ (w : R). polynomial_bytes m (pos (nat_abs b)) w.0) v) p ∙ ap (λ m. flat_map (λ (w : R). polynomial_bytes a m w.0) v) q
 
-pub vector_at_integers : (n : ℕ) (a b : ℤ) (v : List R) → Bounds a b → length v ≡ n → All (λ w. length w.0 ≡ 256) v → All (λ w. InRange (pos 0 -ℤ a) b w.0) v
+pub vector_at_integers : (n : ℕ) (a b : ℤ) (v : List R) → Bounds a b → length v ≡ n → All (λ w. length w.0 ≡ 256) v → All (λ w. PolynomialInRange (pos 0 -ℤ a) b w.0) v
     → IsVector n (nat_abs a) (nat_abs b) v
 vector_at_integers n a b v bounds count places range =
     let p : a ≡ pos (nat_abs a) = omega (arith, ints, bounds) in
@@ -111,18 +111,18 @@ vector_at_integers n a b v bounds count places range =
     record {
       rows = count;
       places = places;
-      range = subst (λ m. All (λ (w : R). InRange (pos 0 -ℤ m) (pos (nat_abs b)) w.0) v) p (subst (λ m. All (λ (w : R). InRange (pos 0 -ℤ a) m w.0) v) q range);
+      range = subst (λ m. All (λ (w : R). PolynomialInRange (pos 0 -ℤ m) (pos (nat_abs b)) w.0) v) p (subst (λ m. All (λ (w : R). PolynomialInRange (pos 0 -ℤ a) m w.0) v) q range);
     }
 
 pub same_bounds : (n a b c d : ℕ) (v : List R) (bytes : List ℕ) → a ≡ c → b ≡ d → IsVector n a b v → vector_bytes a b v ≡ bytes → IsVector n c d v × (vector_bytes c d v ≡ bytes)
 same_bounds n a b c d v bytes p q vector packed =
     subst (λ m. IsVector n c m v × (vector_bytes c m v ≡ bytes)) q (subst (λ m. IsVector n m b v × (vector_bytes m b v ≡ bytes)) p (vector, packed))
 
-pub range_at_integers : (a b : ℤ) (v : List R) → Bounds a b → All (λ w. InRange (pos 0 -ℤ pos (nat_abs a)) (pos (nat_abs b)) w.0) v → All (λ w. InRange (pos 0 -ℤ a) b w.0) v
+pub range_at_integers : (a b : ℤ) (v : List R) → Bounds a b → All (λ w. PolynomialInRange (pos 0 -ℤ pos (nat_abs a)) (pos (nat_abs b)) w.0) v → All (λ w. PolynomialInRange (pos 0 -ℤ a) b w.0) v
 range_at_integers a b v bounds range =
     let p : pos (nat_abs a) ≡ a = omega (arith, ints, bounds) in
     let q : pos (nat_abs b) ≡ b = omega (arith, ints, bounds) in
-    subst (λ m. All (λ (w : R). InRange (pos 0 -ℤ m) b w.0) v) p (subst (λ m. All (λ (w : R). InRange (pos 0 -ℤ pos (nat_abs a)) m w.0) v) q range)
+    subst (λ m. All (λ (w : R). PolynomialInRange (pos 0 -ℤ m) b w.0) v) p (subst (λ m. All (λ (w : R). PolynomialInRange (pos 0 -ℤ pos (nat_abs a)) m w.0) v) q range)
 
 length-vector : (a b : ℤ) (v : List R) → All (λ w. length w.0 ≡ 256) v → length (flat_map (λ w. polynomial_bytes a b w.0) v) ≡ 32 * width a b * length v
 length-vector a b [] h = omega arith

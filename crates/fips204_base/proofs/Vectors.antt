@@ -6,8 +6,8 @@ use Rattle.std.proofs.lemmas.List.{ext_get_or}
 use Rattle.std.proofs.lemmas.List.Elements.{All-from_get_or}
 use Rattle.std.proofs.lemmas.List.FromFn.{get_or-map-range_with_len, length-map-range_with_len}
 use Rattle.fips204_base.specs.declared.types.R.{R}
-use Rattle.fips204_base.specs.Packing.{InRange}
-use Rattle.fips204_base.specs.Polynomials.{entry, VectorWithin}
+use Rattle.fips204_base.specs.Packing.{PolynomialInRange}
+use Rattle.fips204_base.specs.Vectors.{entry, VectorWithin}
 use Rattle.fips204_base.specs.Vectors.{IsVector, polynomial_of, vector_of}
 
 -- Lists that a loop writes row by row.
@@ -63,9 +63,9 @@ vector_of-range k a b f range =
       rows = rows;
       places = All-from_get_or (λ (w : R). length w.0 ≡ 256) (vector_of k f) empty (λ r h.
           ap (λ (w : R). length w.0) (vector_of-row k f r empty (omega (arith, h, rows))) ∙ length-polynomial_of (f r));
-      range = All-from_get_or (λ (w : R). InRange (pos 0 -ℤ pos a) (pos b) w.0) (vector_of k f) empty (λ r h.
+      range = All-from_get_or (λ (w : R). PolynomialInRange (pos 0 -ℤ pos a) (pos b) w.0) (vector_of k f) empty (λ r h.
           let inside : r < k = omega (arith, h, rows) in
-          subst (λ (w : R). InRange (pos 0 -ℤ pos a) (pos b) w.0) (sym (vector_of-row k f r empty inside))
+          subst (λ (w : R). PolynomialInRange (pos 0 -ℤ pos a) (pos b) w.0) (sym (vector_of-row k f r empty inside))
           (All-from_get_or (λ x. ((pos 0 -ℤ pos a) ≤ℤ x) × (x ≤ℤ pos b)) (polynomial_of (f r)).0 (pos 0) (λ n l.
           let l' : n < 256 = omega (arith, l, length-polynomial_of (f r)) in
           subst (λ x. ((pos 0 -ℤ pos a) ≤ℤ x) × (x ≤ℤ pos b)) (sym (polynomial_of-at (f r) n l')) (range r n inside l'))));

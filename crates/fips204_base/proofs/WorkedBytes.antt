@@ -5,7 +5,7 @@ use Rattle.std.specs.Prelude.{replicate, nat_eq}
 use Rattle.std.specs.List.{range_with_len}
 use Rattle.fips204_base.specs.declared.types.R.{R}
 use Rattle.fips204_base.specs.Vectors.{polynomial_of}
-use Rattle.fips204_base.specs.HintSpelling.{is_one, ones_below, hint_bytes, Spells}
+use Rattle.fips204_base.specs.Encodings.{is_one, ones_below, hint_bytes, Spells}
 use Rattle.fips204_base.proofs.HintSpelling.{pieces, totals_rise, piece_rises, zero_rest}
 
 -- Worked values of the definitions in specs/Packing.antt.

@@ -1,4 +1,4 @@
--- How long the fronts of the streams in counter mode are, and that fewer blocks are a prefix of more.
+-- Lemmas on the fronts of streams in counter mode: cited by no public clause; nobody has to believe it.
 use Rattle.std.proofs.Common.{◌≡◌, ◌≤◌, ◌+◌, ◌-◌, ℕ, zero, suc, ◌*◌, List, ◌++◌, length, take, length-append, length-take, ap, subst, ◌∙◌, arith}
 use Rattle.std.proofs.lemmas.List.{take_all, take-append-le}
 use Rattle.std.specs.Int.{w32, to_le_bytes}

@@ -1,7 +1,10 @@
--- The butterflies, and the layers that they make up, by place (FIPS 204, Algorithms 41 and 42).
-use Rattle.std.specs.Prelude.{◌≡◌, ℕ, ◌+◌, ◌*◌, ◌-◌, ◌<◌, ◌≤◌, ℤ, nat_abs}
+-- Butterflies, layers and lanes by place, and what a sampler's loop keeps: cited by no public clause; nobody has to believe it.
+use Rattle.std.specs.Prelude.{◌≡◌, ℕ, ◌+◌, ◌*◌, ◌-◌, ◌<◌, ◌≤◌, ℤ, nat_abs, List, [], slice_index_or, ◌++◌, take}
+use Rattle.fips204_base.specs.Lanes.{lane, lane_at}
 use Rattle.fips204_base.specs.Residues.{residue, IsCongruent}
 use Rattle.fips204_base.specs.Transforms.{zeta_at}
+use Rattle.fips204_base.specs.Vectors.{vector_residues, coefficient_at}
+use Rattle.fips204_base.specs.declared.types.T.{T}
 
 -- one butterfly at m makes a + zeta b and a - zeta b of a and b
 pub record IsButterfly (m : ℕ) (a b x y : ℤ) : Type 0 where
@@ -39,3 +42,23 @@ abbrev pub IsInverseLayer : ℕ → ℕ → (ℕ → ℕ) → (ℕ → ℕ) → 
 IsInverseLayer count len before after = (b j : ℕ) → b < count → j < len →
     IsCongruent (after (2 * len * b + j)) (before (2 * len * b + j) + before (2 * len * b + j + len))
     × IsCongruent (after (2 * len * b + j + len)) (8380416 * (zeta_at (2 * count - 1 - b) * (before (2 * len * b + j) + 8380416 * before (2 * len * b + j + len))))
+
+-- lane by lane, x and y are a pair that is made of a and b
+abbrev pub EachPair : (ℤ → ℤ → ℤ → ℤ → Type 0) → ℕ → List ℤ → List ℤ → List ℤ → List ℤ → Type 0
+EachPair Pair width a b x y = (j : ℕ) → j < width → Pair (lane a j) (lane b j) (lane x j) (lane y j)
+
+-- lane by lane, a row is changed by place
+abbrev pub EachLaneOfRow : {V : Type 0} → ((ℕ → ℤ) → (ℕ → ℤ) → Type 0) → (V → List ℤ) → ℕ → List V → List V → Type 0
+EachLaneOfRow {V} Changed lanes width before after = (j : ℕ) (d : V) → j < width → Changed (lane_at lanes j d before) (lane_at lanes j d after)
+
+-- the residues of a matrix of transforms, by row, column and place
+abbrev pub matrix_residues : List (List T) → ℕ → ℕ → ℕ → ℕ
+matrix_residues a i = vector_residues (slice_index_or a i [])
+
+-- value n of transform r of a vector
+abbrev pub value_at : List T → ℕ → ℕ → ℤ
+value_at v r = coefficient_at (slice_index_or v r record { 0 = [] }).0
+
+-- the first count of the new values are the first `kept` of the old ones and then those given, as many as have room among 256
+abbrev pub AreKept : List ℤ → ℕ → List ℤ → List ℤ → ℕ → Type 0
+AreKept old kept given new count = take count new ≡ take 256 (take kept old ++ given)

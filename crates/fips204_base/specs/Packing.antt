@@ -27,7 +27,7 @@ bit_length n = count_by (λ k. nat_le (2 ^ k) n) (range_with_len 0 32)
 -- all bits of the bytes, lowest first, are all bits of fields of c bits each, lowest first
 pub record Packs (c : ℕ) (bytes fields : List ℕ) : Type 0 where
   pub same_bits : bits 8 bytes ≡ bits c fields
-  pub whole_bytes : All (λ byte. byte < 256) bytes
+  pub small_bytes : All (λ byte. byte < 256) bytes
   pub small_fields : All (λ field. field < 2 ^ c) fields
 
 -- the bytes that fields of c bits each pack to
@@ -47,8 +47,8 @@ unfoldable pub coefficient : ℤ → ℤ → ℕ → ℤ
 coefficient a b f = if int_lt (pos 0) a then b -ℤ pos f else pos f
 
 -- every coefficient is from lo to hi
-abbrev pub InRange : ℤ → ℤ → List ℤ → Type 0
-InRange lo hi w = All (λ x. (lo ≤ℤ x) × (x ≤ℤ hi)) w
+abbrev pub PolynomialInRange : ℤ → ℤ → List ℤ → Type 0
+PolynomialInRange lo hi w = All (λ x. (lo ≤ℤ x) × (x ≤ℤ hi)) w
 
 -- the a and b that packing takes
 abbrev pub Bounds : ℤ → ℤ → Type 0

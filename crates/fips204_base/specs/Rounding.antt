@@ -1,6 +1,6 @@
 -- Rounding and hints (FIPS 204, Algorithms 35 to 40). Each r and z is a residue, from 0 to q - 1.
 use Rattle.std.specs.Prelude.{◌≡◌, ◌⊎◌, ℕ, ◌+◌, ◌-◌, ◌*◌, ◌/◌, ◌%◌, ℤ, pos, ◌-ℤ◌, nat_abs, Bool, not, if◌then◌else◌, nat_eq, int_lt}
-use Rattle.fips204_base.specs.CentredValues.{centred_modulo}
+use Rattle.fips204_base.specs.Residues.{centred_modulo}
 
 -- gamma2 at the parameter sets (FIPS 204, Table 1)
 abbrev pub IsGamma2 : ℤ → Type 0

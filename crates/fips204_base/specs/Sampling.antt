@@ -1,15 +1,153 @@
--- What the samplers share: the first 256 of what was kept, and whole vectors and matrices of what was sampled.
-use Rattle.std.specs.Prelude.{◌≡◌, ℕ, List, [], ◌∷◌, ◌++◌, ℤ, length, take, Option, Some, None, option_map, option_and_then, if◌then◌else◌, nat_lt}
+-- Samplers: the matrix, small vectors, the challenge and the mask (FIPS 204, Algorithms 14, 15 and 29 to 34).
+use Rattle.std.specs.Prelude.{ℕ, ◌+◌, ◌*◌, ◌%◌, ℤ, pos, ◌-ℤ◌, Option, Some, None, ◌&&◌, ◌≡◌, ◌⊎◌, if◌then◌else◌, nat_eq, nat_lt, List, [], ◌∷◌, ◌++◌, length, take, option_map, option_and_then, ◌/◌, map, filter_map, slice_index, flat_map, ◌-◌, ◌+ℤ◌, neg_ℤ, drop, nat_le}
+use Rattle.std.specs.Int.{w16, to_le_bytes}
+use Rattle.std.specs.List.{range_with_len}
+use Rattle.fips204_base.specs.Packing.{bits, bits_to_integer, coefficient, width}
+use Rattle.fips204_base.specs.Vectors.{polynomial_of}
+use Rattle.fips204_base.specs.declared.types.R.{R}
+use Rattle.fips204_base.specs.declared.types.T.{T}
+
+-- ---- Coefficients from bytes (Algorithms 14 and 15)
+
+-- eta at the parameter sets (FIPS 204, Table 1)
+abbrev pub IsEta : ℤ → Type 0
+IsEta eta = (eta ≡ pos 2) ⊎ (eta ≡ pos 4)
+
+-- the number of three bytes, the lowest first, without the top bit of the last
+abbrev pub three_bytes : ℕ → ℕ → ℕ → ℕ
+three_bytes b0 b1 b2 = b0 + 256 * b1 + 65536 * (b2 % 128)
+
+-- CoeffFromThreeBytes (Algorithm 14): that number, or none from q on
+abbrev pub coefficient_from_three_bytes : ℕ → ℕ → ℕ → Option ℤ
+coefficient_from_three_bytes b0 b1 b2 = if nat_lt (three_bytes b0 b1 b2) 8380417 then Some (pos (three_bytes b0 b1 b2)) else None
+
+-- CoeffFromHalfByte (Algorithm 15): with eta 2, 2 - (b mod 5) where b < 15; with eta 4, 4 - b where b < 9; else none
+abbrev pub coefficient_from_half_byte : ℕ → ℕ → Option ℤ
+coefficient_from_half_byte eta b =
+    if nat_eq eta 2 && nat_lt b 15 then Some (pos 2 -ℤ pos (b % 5))
+    else if nat_eq eta 4 && nat_lt b 9 then Some (pos 4 -ℤ pos b)
+    else None
+
+-- ---- The first 256 of what was kept, and whole lists of what was sampled
 
 -- the first 256 of the coefficients kept, or none where fewer were kept
 unfoldable pub first_256 : List ℤ → Option (List ℤ)
 first_256 kept = if nat_lt (length kept) 256 then None else Some (take 256 kept)
 
--- the first count of the new values are the first `kept` of the old ones and then those given, as many as have room among 256
-abbrev pub AreKept : List ℤ → ℕ → List ℤ → List ℤ → ℕ → Type 0
-AreKept old kept given new count = take count new ≡ take 256 (take kept old ++ given)
-
 -- the list of the values, or none where one of them is none
 unfoldable pub all_present : {A : Type 0} → List (Option A) → Option (List A)
 all_present [] = Some []
 all_present (x ∷ xs) = option_and_then (λ value. option_map (λ values. value ∷ values) (all_present xs)) x
+
+-- ---- The matrix (Algorithms 30 and 32)
+
+-- the coefficient that triple p of a front gives, if any
+unfoldable pub triple : List ℕ → ℕ → Option ℤ
+triple front p = coefficient_from_three_bytes (slice_index front (3 * p)) (slice_index front (3 * p + 1)) (slice_index front (3 * p + 2))
+
+-- the coefficients that the first n triples give
+unfoldable pub kept_triples : List ℕ → ℕ → List ℤ
+kept_triples front n = filter_map (triple front) (range_with_len 0 n)
+
+-- RejNTTPoly (Algorithm 30): the first 256 coefficients of as many triples as a quarter of the front has bytes, or none
+unfoldable pub matrix_entry : List ℕ → Option T
+matrix_entry front = option_map (λ values. record { 0 = values }) (first_256 (kept_triples front (length front / 4)))
+
+-- the entry at row r and column s, from G over rho, its column and its row, a byte each
+abbrev pub sampled_entry : (List ℕ → List ℕ) → List ℕ → ℕ → ℕ → Option T
+sampled_entry G rho r s = matrix_entry (G (rho ++ s ∷ r ∷ []))
+
+-- row r, of l entries, or none where an entry is none
+abbrev pub sampled_row : (List ℕ → List ℕ) → List ℕ → ℕ → ℕ → Option (List T)
+sampled_row G rho l r = all_present (map (sampled_entry G rho r) (range_with_len 0 l))
+
+-- ExpandA (Algorithm 32): k rows of l entries, or none where an entry is none
+unfoldable pub sampled_matrix : (List ℕ → List ℕ) → List ℕ → ℕ → ℕ → Option (List (List T))
+sampled_matrix G rho k l = all_present (map (sampled_row G rho l) (range_with_len 0 k))
+
+-- ---- Small polynomials (Algorithms 31 and 33)
+
+-- the half bytes of bytes, the low half first
+abbrev pub half_bytes : List ℕ → List ℕ
+half_bytes bytes = flat_map (λ byte. byte % 16 ∷ byte / 16 ∷ []) bytes
+
+-- the coefficients that the half bytes of the first n bytes give
+unfoldable pub kept_half_bytes : ℕ → List ℕ → ℕ → List ℤ
+kept_half_bytes eta front n = filter_map (coefficient_from_half_byte eta) (half_bytes (take n front))
+
+-- RejBoundedPoly (Algorithm 31): the first 256 coefficients of the first bytes, a quarter of the front, or none
+unfoldable pub small_polynomial : ℕ → List ℕ → Option R
+small_polynomial eta front = option_map (λ values. record { 0 = values }) (first_256 (kept_half_bytes eta front (length front / 4)))
+
+-- ExpandS (Algorithm 33), a part of it: count polynomials from H(rho', number in two bytes), the numbers from first on;
+-- none where one of them is none
+unfoldable pub small_vector : ℕ → (List ℕ → List ℕ) → List ℕ → ℕ → ℕ → Option (List R)
+small_vector eta H rho first count = all_present (map (λ r. small_polynomial eta (H (rho ++ to_le_bytes w16 r))) (range_with_len first count))
+
+-- ExpandS (Algorithm 33) gives none: of s1, with the numbers from 0 on, and s2, with those from l on, one is none
+abbrev pub LacksSmallVector : ℕ → (List ℕ → List ℕ) → List ℕ → ℕ → ℕ → Type 0
+LacksSmallVector eta H rho k l = (small_vector eta H rho 0 l ≡ None) ⊎ (small_vector eta H rho l k ≡ None)
+
+-- ---- The challenge (Algorithm 29)
+
+-- the picks for i and the numbers after it: a byte above the number is passed over, and the first other one is its pick
+unfoldable pub picks : ℕ → List ℕ → List ℕ
+picks i [] = []
+picks i (byte ∷ bytes) = (if nat_le byte i then byte ∷ [] else []) ++ picks (if nat_le byte i then i + 1 else i) bytes
+
+-- the place that a coefficient comes to, from its place before i on: wherever a later number picks that place, the
+-- coefficient moves to the place of that number
+unfoldable pub moved : ℕ → ℕ → List ℕ → ℕ
+moved i place [] = place
+moved i place (pick ∷ later) = moved (i + 1) (if nat_eq pick place then i else place) later
+
+-- the places of all coefficients: that of i starts at the pick of i
+unfoldable pub places : ℕ → List ℕ → List ℕ
+places i [] = []
+places i (pick ∷ later) = moved (i + 1) pick later ∷ places (i + 1) later
+
+-- the sign of a set bit is -1, of another 1
+abbrev pub sign_of : ℕ → ℤ
+sign_of bit = if nat_eq bit 1 then neg_ℤ (pos 1) else pos 1
+
+-- coefficient n of the polynomial with a term sign_i X^place(i) for each i
+unfoldable pub signed_sum : List ℕ → List ℕ → ℕ → ℤ
+signed_sum [] sign_bits n = pos 0
+signed_sum (place ∷ later) [] n = pos 0
+signed_sum (place ∷ later) (bit ∷ sign_bits) n = (if nat_eq place n then sign_of bit else pos 0) +ℤ signed_sum later sign_bits n
+
+-- the picks of 256 - tau to 255 from the bytes after the first eight, a quarter as many as the front has
+unfoldable pub challenge_picks : ℕ → List ℕ → List ℕ
+challenge_picks tau front = take tau (picks (256 - tau) (take (length front / 4) (drop 8 front)))
+
+-- SampleInBall (Algorithm 29): the sum over i from 256 - tau to 255 of sign_i X^place(i), or none where a pick is missing;
+-- sign_i is that of bit i + tau - 256 of the first eight bytes
+unfoldable pub challenge : ℕ → List ℕ → Option R
+challenge tau front =
+    if nat_lt (length (challenge_picks tau front)) tau then None
+    else Some (polynomial_of (signed_sum (places (256 - tau) (challenge_picks tau front)) (bits 8 (take 8 front))))
+
+-- ---- The mask (Algorithm 34), by unpacking (Algorithms 18 and 19)
+
+-- field n of bits that are those of fields of c bits each
+unfoldable pub field_at : ℕ → List ℕ → ℕ → ℕ
+field_at c all n = bits_to_integer (take c (drop (c * n) all))
+
+-- BitUnpack (Algorithm 19): the polynomial that bytes hold, of coefficients from -a to b
+unfoldable pub unpacked : ℕ → ℕ → List ℕ → R
+unpacked a b bytes =
+    let c = width (pos a) (pos b) in
+    let all = bits 8 bytes in
+    polynomial_of (λ n. coefficient (pos a) (pos b) (field_at c all n))
+
+-- how many bits a coefficient of z has: 18 or 20
+abbrev pub mask_width : ℕ → ℕ
+mask_width gamma1 = width (pos (gamma1 - 1)) (pos gamma1)
+
+-- a polynomial of the mask: the first 32 c bytes of a front, c bits a coefficient
+abbrev pub mask_polynomial : ℕ → List ℕ → R
+mask_polynomial gamma1 front = unpacked (gamma1 - 1) gamma1 (take (32 * mask_width gamma1) front)
+
+-- ExpandMask (Algorithm 34): l polynomials, the one at r from H(rho'', kappa + r in two bytes)
+unfoldable pub mask : ℕ → (List ℕ → List ℕ) → List ℕ → ℕ → ℕ → List R
+mask gamma1 H rho l kappa = map (λ r. mask_polynomial gamma1 (H (rho ++ to_le_bytes w16 (kappa + r)))) (range_with_len 0 l)

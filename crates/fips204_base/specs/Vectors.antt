@@ -1,17 +1,63 @@
--- Vectors and matrices of polynomials (FIPS 204, sections 2.3 to 2.5).
-use Rattle.std.specs.Prelude.{◌≡◌, ◌<◌, ℕ, List, [], ℤ, pos, ◌-ℤ◌, length, map, slice_index_or}
+-- Coefficients of polynomials, vectors and matrices, and bounds on them (FIPS 204, sections 2.3 to 2.5).
+use Rattle.std.specs.Prelude.{◌≡◌, ◌≤◌, ◌<◌, ◌≤ℤ◌, ℕ, List, [], ℤ, pos, nat_abs, slice_index_or, ◌*◌, ◌%◌, ◌-ℤ◌, length, map}
 use Rattle.std.specs.List.{All, range_with_len}
+use Rattle.fips204_base.specs.Packing.{PolynomialInRange}
+use Rattle.fips204_base.specs.Residues.{coefficients, sum_below}
+use Rattle.fips204_base.specs.Transforms.{minus, product, row_product, transform, inverse_transform}
 use Rattle.fips204_base.specs.declared.types.R.{R}
 use Rattle.fips204_base.specs.declared.types.T.{T}
-use Rattle.fips204_base.specs.Packing.{InRange}
-use Rattle.fips204_base.specs.Polynomials.{vector_residues}
-use Rattle.fips204_base.specs.Residues.{coefficients}
-use Rattle.fips204_base.specs.Products.{minus, product, row_product}
-use Rattle.fips204_base.specs.Transforms.{transform, inverse_transform}
+
+-- ---- Coefficients and bounds on them: a polynomial's 256 coefficients are a list of integers (section 2.3)
+
+-- coefficient n of a polynomial
+abbrev pub coefficient_at : List ℤ → ℕ → ℤ
+coefficient_at w n = slice_index_or w n (pos 0)
+
+-- coefficient n of polynomial r of a vector
+abbrev pub entry : List R → ℕ → ℕ → ℤ
+entry v r = coefficient_at (slice_index_or v r record { 0 = [] }).0
+
+-- every number has an absolute value of at most m
+abbrev pub ValuesWithin : ℕ → List ℤ → Type 0
+ValuesWithin m w = All (λ x. nat_abs x ≤ m) w
+
+-- each of the 256 coefficients of a polynomial has an absolute value of at most m
+abbrev pub PolynomialWithin : ℕ → List ℤ → Type 0
+PolynomialWithin m w = (n : ℕ) → n < 256 → nat_abs (coefficient_at w n) ≤ m
+
+-- every coefficient of the k polynomials of a vector has an absolute value of at most m
+abbrev pub VectorWithin : ℕ → ℕ → List R → Type 0
+VectorWithin k m v = (r n : ℕ) → r < k → n < 256 → nat_abs (entry v r n) ≤ m
+
+-- every coefficient of the k polynomials of a vector is from 0 to q - 1
+abbrev pub IsResidueVector : ℕ → List R → Type 0
+IsResidueVector k v = (r n : ℕ) → r < k → n < 256 → (pos 0 ≤ℤ entry v r n) × (entry v r n ≤ℤ pos 8380416)
+
+-- the residues of a vector of transforms, by row and place
+abbrev pub vector_residues : List T → ℕ → ℕ → ℕ
+vector_residues v i = coefficients (slice_index_or v i record { 0 = [] }).0
+
+-- every value of a vector of transforms has an absolute value of at most m
+abbrev pub TransformsWithin : ℕ → List T → Type 0
+TransformsWithin m v = All (λ t. ValuesWithin m t.0) v
+
+-- every value of a matrix of transforms has an absolute value of at most m
+abbrev pub MatrixWithin : ℕ → List (List T) → Type 0
+MatrixWithin m a = All (TransformsWithin m) a
+
+-- value j of the product of a matrix's row of transforms with a vector, of l transforms each
+abbrev pub row_value : ℕ → List T → List T → ℕ → ℕ
+row_value l row u j = sum_below l (λ k. vector_residues row k j * vector_residues u k j) % 8380417
+
+-- the first k of t are the products of the matrix's rows with a vector, of l transforms each
+abbrev pub AreRowProducts : ℕ → ℕ → List (List T) → List T → List T → Type 0
+AreRowProducts k l a u t = (i j : ℕ) → i < k → j < 256 → vector_residues t i j ≡ row_value l (slice_index_or a i []) u j
+
+-- ---- Vectors and matrices of polynomials (sections 2.3 to 2.5)
 
 -- every coefficient of a vector's polynomials is from lo to hi
 abbrev pub VectorInRange : ℤ → ℤ → List R → Type 0
-VectorInRange lo hi v = All (λ w. InRange lo hi w.0) v
+VectorInRange lo hi v = All (λ w. PolynomialInRange lo hi w.0) v
 
 -- a vector of so many polynomials, with coefficients from -a to b
 pub record IsVector (count a b : ℕ) (v : List R) : Type 0 where

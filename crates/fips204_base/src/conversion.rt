@@ -4,7 +4,7 @@
 
 ghost use Rattle.std.specs.Prelude.{◌≡◌, ◌<◌, ◌≤◌, ◌+◌, ◌*◌, ◌%◌, ◌^◌, ℤ, pos, ◌-ℤ◌, ◌≤ℤ◌, length, map, MatchOption};
 ghost use Rattle.std.specs.List.{All};
-ghost use Rattle.fips204_base.specs.Packing.{Bounds, InRange, Packs, PacksAbove, Unpacks, coefficient, field, width};
+ghost use Rattle.fips204_base.specs.Packing.{Bounds, PolynomialInRange, Packs, PacksAbove, Unpacks, coefficient, field, width};
 
 mod coefficients;
 mod hints;
@@ -72,7 +72,7 @@ fn coefficient_of(field: u32, a: i32, b: i32) -> i32
 /// `32 * bit_length(b)` bytes.
 pub fn simple_bit_pack(w: &R, b: i32, out: &mut [u8])
     requires bounds { Bounds (pos 0) b }
-    requires range { InRange (pos 0) b w.now.0 }
+    requires range { PolynomialInRange (pos 0) b w.now.0 }
     requires room { length out.old ≡ 32 * width (pos 0) b }
     ensures { Packs (width (pos 0) b) out.new (map (field (pos 0) b) w.now.0) }
 {
@@ -83,7 +83,7 @@ pub fn simple_bit_pack(w: &R, b: i32, out: &mut [u8])
 #[inline(always)]
 fn write_packed_group(w: &[i32], a: i32, b: i32, out: &mut [u8])
     requires bounds { Bounds a b }
-    requires range { InRange (pos 0 -ℤ a) b w.now }
+    requires range { PolynomialInRange (pos 0 -ℤ a) b w.now }
     requires eight { length w.now ≡ 8 }
     requires room { length out.old ≡ width a b }
     ensures { Packs (width a b) out.new (map (field a b) w.now) }
@@ -114,7 +114,7 @@ fn write_packed_group(w: &[i32], a: i32, b: i32, out: &mut [u8])
 #[inline(always)]
 pub fn bit_pack(w: &R, a: i32, b: i32, out: &mut [u8])
     requires bounds { Bounds a b }
-    requires range { InRange (pos 0 -ℤ a) b w.now.0 }
+    requires range { PolynomialInRange (pos 0 -ℤ a) b w.now.0 }
     requires room { length out.old ≡ 32 * width a b }
     ensures { Packs (width a b) out.new (map (field a b) w.now.0) }
 {
@@ -127,7 +127,7 @@ pub fn bit_pack(w: &R, a: i32, b: i32, out: &mut [u8])
 /// `bit_pack`, compiled with constants for each range that FIPS 204 packs.
 pub(crate) fn write_packed_by_range(w: &R, a: i32, b: i32, out: &mut [u8])
     requires bounds { Bounds a b }
-    requires range { InRange (pos 0 -ℤ a) b w.now.0 }
+    requires range { PolynomialInRange (pos 0 -ℤ a) b w.now.0 }
     requires room { length out.old ≡ 32 * width a b }
     ensures { Packs (width a b) out.new (map (field a b) w.now.0) }
 {
@@ -177,7 +177,7 @@ fn write_unpacked_group(v: &[u8], a: i32, b: i32, out: &mut [i32])
 pub fn simple_bit_unpack(v: &[u8], b: i32) -> Option<R>
     requires bounds { Bounds (pos 0) b }
     requires room { length v.now ≡ 32 * width (pos 0) b }
-    ensures { MatchOption result (PacksAbove b (width (pos 0) b) v.now) (λ w. Unpacks (pos 0) b v.now w.0 × InRange (pos 0) b w.0) }
+    ensures { MatchOption result (PacksAbove b (width (pos 0) b) v.now) (λ w. Unpacks (pos 0) b v.now w.0 × PolynomialInRange (pos 0) b w.0) }
 {
     bit_unpack(v, 0, b)
 }
@@ -193,7 +193,7 @@ pub fn bit_unpack(v: &[u8], a: i32, b: i32) -> Option<R>
     requires room { length v.now ≡ 32 * width a b }
     ensures { MatchOption result
         ((a ≡ pos 0) × PacksAbove b (width a b) v.now)
-        (λ w. Unpacks a b v.now w.0 × (a ≡ pos 0 → InRange (pos 0) b w.0)) }
+        (λ w. Unpacks a b v.now w.0 × (a ≡ pos 0 → PolynomialInRange (pos 0) b w.0)) }
 {
     let c = field_width(a, b) as usize;
     let mut out = [0i32; 256];
@@ -213,7 +213,7 @@ pub(crate) fn bit_unpack_by_range(v: &[u8], a: i32, b: i32) -> Option<R>
     requires room { length v.now ≡ 32 * width a b }
     ensures { MatchOption result
         ((a ≡ pos 0) × PacksAbove b (width a b) v.now)
-        (λ w. Unpacks a b v.now w.0 × (a ≡ pos 0 → InRange (pos 0) b w.0)) }
+        (λ w. Unpacks a b v.now w.0 × (a ≡ pos 0 → PolynomialInRange (pos 0) b w.0)) }
 {
     match (a, b) {
         (131071, 131072) => bit_unpack(v, 131071, 131072),

@@ -3,7 +3,7 @@
 #![tactic(auto)]
 
 ghost use Rattle.std.specs.Prelude.{◌≤◌, option_to_list};
-ghost use Rattle.fips204_base.specs.Sampling.{AreKept};
+ghost use Rattle.fips204_base.specs.Network.{AreKept};
 
 mod challenge;
 mod mask;

@@ -2,7 +2,7 @@
 #![tactic(auto)]
 
 ghost use Rattle.std.specs.Prelude.{◌≡◌, ◌↔◌, ℤ, pos, ◌-ℤ◌, ◌≤ℤ◌, nat_abs, IsTrue};
-ghost use Rattle.fips204_base.specs.Packing.{InRange, bit_length};
+ghost use Rattle.fips204_base.specs.Packing.{PolynomialInRange, bit_length};
 
 pub mod count;
 pub mod norm;
@@ -35,7 +35,7 @@ pub fn bit_length(x: i32) -> usize
 pub fn is_in_range(w: &R, lo: i32, hi: i32) -> bool
     requires low { pos 0 ≤ℤ lo }
     requires high { pos 0 ≤ℤ hi }
-    ensures { IsTrue result ↔ InRange (pos 0 -ℤ lo) hi w.now.0 }
+    ensures { IsTrue result ↔ PolynomialInRange (pos 0 -ℤ lo) hi w.now.0 }
 {
     for x in &w.0 {
         if *x < -lo || *x > hi {

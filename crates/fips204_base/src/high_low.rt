@@ -3,7 +3,7 @@
 
 ghost use Rattle.std.specs.Prelude.{◌≡◌, ◌⊎◌, ◌<◌, ◌≤◌, ◌+◌, ◌-◌, ◌*◌, ◌/◌, ℤ, pos, ◌≤ℤ◌, nat_abs, int_lt};
 ghost use Rattle.fips204_base.specs.Residues.{residue};
-ghost use Rattle.fips204_base.specs.Polynomials.{AreResidues};
+ghost use Rattle.fips204_base.specs.Vectors.{IsResidueVector};
 ghost use Rattle.fips204_base.specs.Vectors.{vector_coefficients, vector_of};
 ghost use Rattle.fips204_base.specs.Rounding.{IsGamma2, power2round, high_bits, low_bits, make_hint, high_values, use_hint};
 
@@ -15,7 +15,7 @@ use crate::types::{R, R0, Zq};
 /// `Power2Round` (FIPS 204, Algorithm 35) of each coefficient, from 0 to `q - 1`: the high parts,
 /// from 0 to 1023, and the low parts, from -4095 to 4096.
 pub fn power2round<const K: usize>(r: &[R; K]) -> ([R; K], [R; K])
-    requires { AreResidues K r.now }
+    requires { IsResidueVector K r.now }
     ensures high { result.0 ≡ vector_of K (λ i n. pos (power2round (vector_coefficients r.now i n)).0) }
     ensures low { result.1 ≡ vector_of K (λ i n. (power2round (vector_coefficients r.now i n)).1) }
 {
@@ -28,7 +28,7 @@ pub fn power2round<const K: usize>(r: &[R; K]) -> ([R; K], [R; K])
 /// `power2round` of each coefficient of `r`, in place: the high parts are written into `high`, and the low parts
 /// over `r`.
 pub fn write_power2round<const K: usize>(r: &mut [R; K], high: &mut [R; K])
-    requires { AreResidues K r.old }
+    requires { IsResidueVector K r.old }
     ensures high { high.new ≡ vector_of K (λ i n. pos (power2round (vector_coefficients r.old i n)).0) }
     ensures low { r.new ≡ vector_of K (λ i n. (power2round (vector_coefficients r.old i n)).1) }
 {

@@ -3,9 +3,9 @@
 
 ghost use Rattle.std.specs.Prelude.{◌≡◌, ◌≤◌, ◌<◌, ◌+◌, ◌^◌, ℕ, List, pos};
 ghost use Rattle.fips204_base.specs.Residues.{residue, coefficients};
-ghost use Rattle.fips204_base.specs.Products.{product, row_product};
+ghost use Rattle.fips204_base.specs.Transforms.{product, row_product};
 ghost use Rattle.fips204_base.specs.Transforms.{inverse_transform};
-ghost use Rattle.fips204_base.specs.Polynomials.{coefficient_at, entry, vector_residues, Within, IsReduced, IsReducedVector, AreReduced, AreRowProducts, IsReducedMatrix};
+ghost use Rattle.fips204_base.specs.Vectors.{coefficient_at, entry, vector_residues, ValuesWithin, PolynomialWithin, VectorWithin, TransformsWithin, AreRowProducts, MatrixWithin};
 ghost use Rattle.fips204_base.specs.Vectors.{vector_coefficients, plain_row, matrix_product, product_difference, IsTransformOf, AreTransformsOf};
 ghost use Rattle.fips204_base.specs.declared.types.R.{R};
 ghost use Rattle.fips204_base.specs.declared.types.T.{T};
@@ -26,10 +26,10 @@ pub fn matrix_times_vector<const K: usize, const L: usize>(
     v: &[R; L],
 ) -> [R; K]
     requires columns { L ≤ 7 }
-    requires matrix { IsReducedMatrix a_hat.now }
-    requires vector { IsReducedVector L v.now }
+    requires matrix { MatrixWithin 8380416 a_hat.now }
+    requires vector { VectorWithin L 8380416 v.now }
     ensures values { (r n : ℕ) → r < K → n < 256 → entry result r n ≡ pos (matrix_product L a_hat.now (vector_coefficients v.now) r n) }
-    ensures range { IsReducedVector K result }
+    ensures range { VectorWithin K 8380416 result }
 {
     let mut out = [R0; K];
     write_plain_products(&mat_vec_mul(a_hat, &transforms(v)), &mut out);
@@ -39,10 +39,10 @@ pub fn matrix_times_vector<const K: usize, const L: usize>(
 /// Writes the polynomials of a matrix's product with a vector, given by their transforms: coefficients from 0 to
 /// `q - 1`. Values are below `q` in absolute value.
 pub(crate) fn write_plain_products<const K: usize>(products: &[T; K], out: &mut [R; K])
-    requires products { AreReduced products.now }
+    requires products { TransformsWithin 8380416 products.now }
     ensures values { (l : ℕ) (a : List (List T)) (v_hat : List T) (v : ℕ → ℕ → ℕ) → AreRowProducts K l a v_hat products.now → AreTransformsOf l v v_hat
         → (r n : ℕ) → r < K → n < 256 → entry out.new r n ≡ pos (matrix_product l a v r n) }
-    ensures range { IsReducedVector K out.new }
+    ensures range { VectorWithin K 8380416 out.new }
 {
     write_inverses_in_lanes(products, out);
 }
@@ -50,10 +50,10 @@ pub(crate) fn write_plain_products<const K: usize>(products: &[T; K], out: &mut 
 /// The product of a challenge with each polynomial of a vector: coefficients from 0 to `q - 1`. All
 /// coefficients have an absolute value of at most `q - 1`.
 pub fn challenge_times_vector<const K: usize>(c: &R, v: &[R; K]) -> [R; K]
-    requires challenge { IsReduced c.now.0 }
-    requires vector { IsReducedVector K v.now }
+    requires challenge { PolynomialWithin 8380416 c.now.0 }
+    requires vector { VectorWithin K 8380416 v.now }
     ensures values { (r n : ℕ) → r < K → n < 256 → entry result r n ≡ pos (product (coefficients c.now.0) (vector_coefficients v.now r) n) }
-    ensures range { IsReducedVector K result }
+    ensures range { VectorWithin K 8380416 result }
 {
     challenge_times_transforms(&transform_of(c, &mut Count::new()), &transforms(v))
 }
@@ -61,11 +61,11 @@ pub fn challenge_times_vector<const K: usize>(c: &R, v: &[R; K]) -> [R; K]
 /// The product of a challenge with each polynomial of a vector, given by their transforms with values below
 /// `q` in absolute value: coefficients from 0 to `q - 1`.
 pub fn challenge_times_transforms<const K: usize>(c_hat: &T, v_hat: &[T; K]) -> [R; K]
-    requires challenge { Within 8380416 c_hat.now.0 }
-    requires vector { AreReduced v_hat.now }
+    requires challenge { ValuesWithin 8380416 c_hat.now.0 }
+    requires vector { TransformsWithin 8380416 v_hat.now }
     ensures values { (c : ℕ → ℕ) (v : ℕ → ℕ → ℕ) → IsTransformOf c c_hat.now → AreTransformsOf K v v_hat.now
         → (r n : ℕ) → r < K → n < 256 → entry result r n ≡ pos (product c (v r) n) }
-    ensures range { IsReducedVector K result }
+    ensures range { VectorWithin K 8380416 result }
 {
     let mut out = [R0; K];
     write_products_in_lanes(c_hat, v_hat, &[], &mut out, &mut []);
@@ -82,15 +82,15 @@ pub fn write_challenge_times_both<const L: usize, const K: usize>(
     s: &mut [R; L],
     t: &mut [R; K],
 )
-    requires challenge { Within 8380416 c_hat.now.0 }
-    requires first { AreReduced s_hat.now }
-    requires second { AreReduced t_hat.now }
+    requires challenge { ValuesWithin 8380416 c_hat.now.0 }
+    requires first { TransformsWithin 8380416 s_hat.now }
+    requires second { TransformsWithin 8380416 t_hat.now }
     ensures first { (c : ℕ → ℕ) (v : ℕ → ℕ → ℕ) → IsTransformOf c c_hat.now → AreTransformsOf L v s_hat.now
         → (r n : ℕ) → r < L → n < 256 → entry s.new r n ≡ pos (product c (v r) n) }
-    ensures first_range { IsReducedVector L s.new }
+    ensures first_range { VectorWithin L 8380416 s.new }
     ensures second { (c : ℕ → ℕ) (v : ℕ → ℕ → ℕ) → IsTransformOf c c_hat.now → AreTransformsOf K v t_hat.now
         → (r n : ℕ) → r < K → n < 256 → entry t.new r n ≡ pos (product c (v r) n) }
-    ensures second_range { IsReducedVector K t.new }
+    ensures second_range { VectorWithin K 8380416 t.new }
 {
     write_products_in_lanes(c_hat, s_hat, t_hat, s, t);
 }
@@ -105,12 +105,12 @@ pub fn matrix_times_vector_less<const K: usize, const L: usize>(
     t: &[R; K],
 ) -> [R; K]
     requires columns { L ≤ 7 }
-    requires matrix { IsReducedMatrix a_hat.now }
-    requires vector { IsReducedVector L z.now }
-    requires challenge { IsReduced c.now.0 }
-    requires less { IsReducedVector K t.now }
+    requires matrix { MatrixWithin 8380416 a_hat.now }
+    requires vector { VectorWithin L 8380416 z.now }
+    requires challenge { PolynomialWithin 8380416 c.now.0 }
+    requires less { VectorWithin K 8380416 t.now }
     ensures values { (r n : ℕ) → r < K → n < 256 → entry result r n ≡ pos (product_difference L a_hat.now z.now c.now t.now r n) }
-    ensures range { IsReducedVector K result }
+    ensures range { VectorWithin K 8380416 result }
 {
     let mut z_hat = [T0; L];
     let mut t_hat = [T0; K];
@@ -129,22 +129,22 @@ pub(crate) fn write_product_difference<const K: usize>(
     t_hat: &[T; K],
     out: &mut [R; K],
 )
-    requires products { AreReduced products.now }
-    requires challenge { IsReduced c.now.0 }
-    requires less { AreReduced t_hat.now }
+    requires products { TransformsWithin 8380416 products.now }
+    requires challenge { PolynomialWithin 8380416 c.now.0 }
+    requires less { TransformsWithin 8380416 t_hat.now }
     ensures values { (l : ℕ) (a : List (List T)) (z_hat : List T) (z t : List R) → AreRowProducts K l a z_hat products.now
         → AreTransformsOf l (vector_coefficients z) z_hat → AreTransformsOf K (vector_coefficients t) t_hat.now
         → (r n : ℕ) → r < K → n < 256 → entry out.new r n ≡ pos (product_difference l a z c.now t r n) }
-    ensures range { IsReducedVector K out.new }
+    ensures range { VectorWithin K 8380416 out.new }
 {
     write_differences_in_lanes(products, &transform_of(c, &mut Count::new()), t_hat, out);
 }
 
 /// The transforms of a vector. Its coefficients are below `q` in absolute value, and so are the values.
 pub fn transforms<const L: usize>(v: &[R; L]) -> [T; L]
-    requires { IsReducedVector L v.now }
+    requires { VectorWithin L 8380416 v.now }
     ensures values { AreTransformsOf L (vector_coefficients v.now) result }
-    ensures small { AreReduced result }
+    ensures small { TransformsWithin 8380416 result }
 {
     let mut out = [T0; L];
     write_transforms(v, &mut out);
@@ -153,9 +153,9 @@ pub fn transforms<const L: usize>(v: &[R; L]) -> [T; L]
 
 /// Writes the transforms of a vector. Its coefficients are below `q` in absolute value, and so are the values.
 pub(crate) fn write_transforms<const L: usize>(v: &[R; L], out: &mut [T; L])
-    requires { IsReducedVector L v.now }
+    requires { VectorWithin L 8380416 v.now }
     ensures values { AreTransformsOf L (vector_coefficients v.now) out.new }
-    ensures small { AreReduced out.new }
+    ensures small { TransformsWithin 8380416 out.new }
 {
     write_transforms_in_lanes(v, &[], out, &mut []);
 }
@@ -168,10 +168,10 @@ pub fn write_transforms_of_both<const L: usize, const K: usize>(
     v_hat: &mut [T; L],
     w_hat: &mut [T; K],
 )
-    requires first { IsReducedVector L v.now }
-    requires second { IsReducedVector K w.now }
-    ensures first { AreTransformsOf L (vector_coefficients v.now) v_hat.new × AreReduced v_hat.new }
-    ensures second { AreTransformsOf K (vector_coefficients w.now) w_hat.new × AreReduced w_hat.new }
+    requires first { VectorWithin L 8380416 v.now }
+    requires second { VectorWithin K 8380416 w.now }
+    ensures first { AreTransformsOf L (vector_coefficients v.now) v_hat.new × TransformsWithin 8380416 v_hat.new }
+    ensures second { AreTransformsOf K (vector_coefficients w.now) w_hat.new × TransformsWithin 8380416 w_hat.new }
 {
     write_transforms_in_lanes(v, w, v_hat, w_hat);
 }
@@ -180,9 +180,9 @@ pub fn write_transforms_of_both<const L: usize, const K: usize>(
 /// coefficients are below `q` in absolute value, and so are the values.
 pub fn transform_of(w: &R, count: &mut Count) -> T
     requires room { (count.old.products + 1024 < 2 ^ 64) × (count.old.sums + 2048 < 2 ^ 64) }
-    requires range { IsReduced w.now.0 }
+    requires range { PolynomialWithin 8380416 w.now.0 }
     ensures values { IsTransformOf (coefficients w.now.0) result }
-    ensures small { Within 8380416 result.0 }
+    ensures small { ValuesWithin 8380416 result.0 }
     ensures products { count.new.products ≡ count.old.products + 1024 }
     ensures sums { count.new.sums ≡ count.old.sums + 2048 }
 {

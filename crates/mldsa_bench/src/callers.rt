@@ -4,8 +4,8 @@
 
 ghost use Rattle.std.specs.Prelude.{◌≡◌, ◌↔◌, [], true, Ok, IsTrue, IfOk};
 ghost use Rattle.fips204.specs.Acceptance.{Verifies};
-ghost use Rattle.fips204.specs.Completeness.{AcceptedIfWhole, HashAccepted};
-ghost use Rattle.fips204.specs.KeyGeneration.{IsWhole};
+ghost use Rattle.fips204.specs.Completeness.{AcceptedIfWhole, HashComplete};
+ghost use Rattle.fips204.specs.Keys.{IsWhole};
 ghost use Rattle.fips204.specs.Keys.{DecodesPrivate};
 ghost use Rattle.fips204.specs.ParameterSets.{set_44, set_65, set_87};
 ghost use Rattle.fips204.specs.Prepared.{prepared_private, sign_message_prepared, VerifiesDigestPrepared};
@@ -118,7 +118,7 @@ pub fn hash_signed_at_87<H: Xof, G: Xof, R: CryptoRngCore>(
     mu: &[u8; 64],
 ) -> Result<[u8; ml_dsa_87::SIG_LEN], Fault>
     ensures answer { DrawsIf true R.gives R.refuses rng.old rng.new Fault.InternalRng (sign set_87 H.front G.front key.now mu.now) result }
-    ensures accepted { HashAccepted set_87 H.front G.front key.now mu.now result }
+    ensures accepted { HashComplete set_87 H.front G.front key.now mu.now result }
 {
     key.sign_mu(rng, mu, true)
 }

@@ -3,7 +3,7 @@
 #![tactic(auto)]
 
 ghost use Rattle.std.specs.Prelude.{◌≡◌, IfOk, true};
-ghost use Rattle.fips204.specs.KeyGeneration.{IsWhole};
+ghost use Rattle.fips204.specs.Keys.{IsWhole};
 ghost use Rattle.fips204.specs.ParameterSets.{set_44};
 
 use fips204::traits::{Signer, Verifier};

@@ -12,7 +12,8 @@ use Rattle.std.specs.Io.KnownBytes.{Consumes, IsAtEnd}
 use Rattle.mldsa_engine.specs.declared.lines.Ending.{Ending}
 use Rattle.mldsa_engine.specs.declared.lines.Ending.TheVariants.{Open, Line, Input}
 use Rattle.mldsa_engine.specs.declared.fault.RunFault.TheVariants.{Missing, TooLong}
-use Rattle.mldsa_engine.specs.Lines.{ends_line, first_line, after_line, longest_line, line_digits, line_reach, before_lines, line_bytes, lines_bytes, HasNoEnd, TakesPiece, TakesLine, FaultOfLines, StopsInTurn, InTurn, LeavesAllBut}
+use Rattle.mldsa_engine.specs.Lines.{ends_line, first_line, after_line, longest_line, line_digits, line_reach, before_lines, line_bytes, lines_bytes, FaultOfLines, StopsInTurn, InTurn, LeavesAllBut}
+use Rattle.mldsa_engine.specs.InnerSteps.{HasNoEnd, TakesPiece, TakesLine}
 use Rattle.mldsa_engine.proofs.Judging.{judged_long}
 
 pub end_after : (line rest : List ℕ) → HasNoEnd line → position_or_len ends_line (line ++ rest) ≡ length line + position_or_len ends_line rest

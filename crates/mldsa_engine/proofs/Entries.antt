@@ -4,7 +4,8 @@ use Rattle.fips204.specs.ParameterSets.{ParameterSet, signature_length}
 use Rattle.mldsa_engine.specs.declared.fault.RunFault.{RunFault}
 use Rattle.mldsa_engine.specs.declared.call.Task.{Task}
 use Rattle.mldsa_engine.specs.declared.call.Task.TheVariants.{Batch}
-use Rattle.mldsa_engine.specs.Lines.{after_line, after_lines, line_bytes, lines_bytes, AllFit, TakesLines, FaultOfLines, InTurn}
+use Rattle.mldsa_engine.specs.Lines.{after_line, after_lines, line_bytes, lines_bytes, TakesLines, FaultOfLines, InTurn}
+use Rattle.mldsa_engine.specs.InnerSteps.{AllFit}
 use Rattle.mldsa_engine.specs.ProgramText.{wanted_lines, entry_lines, later_lines, two_bytes, entries_of, entries_of_line, input_lines}
 use Rattle.mldsa_engine.proofs.LinesInSequence.{AllFit-append, before_good, takes_more, later_fault, later_in_turn, earlier_fault, earlier_in_turn}
 

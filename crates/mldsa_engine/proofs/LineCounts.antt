@@ -4,10 +4,12 @@ use Rattle.fips204.specs.ParameterSets.{ParameterSet, public_key_length, signatu
 use Rattle.mldsa_engine.specs.declared.fault.RunFault.{RunFault}
 use Rattle.mldsa_engine.specs.declared.call.Task.{Task}
 use Rattle.mldsa_engine.specs.declared.call.Task.TheVariants.{Id, Keygen, Sign, Verify, Check, Batch}
-use Rattle.mldsa_engine.specs.Lines.{AllFit, TakesLines, IsLineFault, FaultOfLines, InTurn}
+use Rattle.mldsa_engine.specs.InnerSteps.{AllFit}
+use Rattle.mldsa_engine.specs.Lines.{TakesLines, IsLineFault, FaultOfLines, InTurn}
 use Rattle.mldsa_engine.proofs.Entries.{two_each, batch_taken, batch_fault, batch_in_turn}
 use Rattle.mldsa_engine.proofs.LinesInSequence.{AllFit-length}
-use Rattle.mldsa_engine.specs.ProgramText.{wanted_lines, input_lines, entry_lines, two_bytes, JudgesByKey, Answers, Executes}
+use Rattle.mldsa_engine.specs.ProgramText.{wanted_lines, input_lines, entry_lines, two_bytes, Answers, Executes}
+use Rattle.mldsa_engine.specs.InnerSteps.{JudgesByKey}
 
 -- every command but a batch wants the same lines of every input
 whole_lines : (task : Task) (p : ParameterSet) (given : Option (List ℕ)) → ¬ (task ≡ Batch) → wanted_lines task p ≡ input_lines task p given

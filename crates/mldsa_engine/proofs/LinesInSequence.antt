@@ -2,7 +2,8 @@
 use Rattle.std.proofs.Common.{◌≡◌, ℕ, suc, ◌+◌, List, [], ◌∷◌, ◌++◌, length, Option, Some, None, Result, Ok, Err, IfOk, MatchResult, refl, sym, ap, ◌∙◌, arith, add-zero, length-take-le, take, drop, map, get_or, ◌<◌, ◌≤◌, subst, take-append-drop}
 use Rattle.std.proofs.lemmas.List.{take_more, drop_more, map-append}
 use Rattle.mldsa_engine.specs.declared.fault.RunFault.{RunFault}
-use Rattle.mldsa_engine.specs.Lines.{longest_line, line_reach, first_line, after_line, after_lines, line_bytes, before_lines, lines_bytes, Fits, AllFit, LeavesAllBut, TakesLine, TakesLines, FaultOfLines, StopsInTurn, InTurn, judged}
+use Rattle.mldsa_engine.specs.Lines.{longest_line, line_reach, first_line, after_line, after_lines, line_bytes, before_lines, lines_bytes, LeavesAllBut, TakesLines, FaultOfLines, StopsInTurn, InTurn, judged}
+use Rattle.mldsa_engine.specs.InnerSteps.{Fits, AllFit, TakesLine}
 use Rattle.mldsa_engine.proofs.Judging.{judged_digits}
 
 -- the lines of one part of an input, and then those of the next, or the first fault among them

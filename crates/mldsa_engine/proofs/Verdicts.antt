@@ -10,13 +10,15 @@ use Rattle.fips204.specs.fault.Fault.{Fault}
 use Rattle.fips204.specs.fault.Fault.TheVariants.{SamplingLimit}
 use Rattle.fips204.specs.Framing.{plain}
 use Rattle.fips204.specs.Keys.{PublicParts, IsPublicKeyOf}
-use Rattle.fips204.specs.MatrixEntry.{sampled_matrix}
+use Rattle.fips204.specs.Sampling.{sampled_matrix}
 use Rattle.fips204.specs.ParameterSets.{ParameterSet, signature_length}
 use Rattle.fips204.specs.Prepared.{PreparedPublic, prepared_public, PreparedAnswersAsPlain}
 use Rattle.fips204.specs.Refusals.{VerifiesMessage}
 use Rattle.fips204.specs.declared.types.T.{T}
-use Rattle.mldsa_engine.specs.Lines.{AllFit, TakesLines}
-use Rattle.mldsa_engine.specs.ProgramText.{text, answer_word, entry_lines, AnswersEach, TellsAll, AcceptsIfPrepared, JudgesEntries, JudgesByKey}
+use Rattle.mldsa_engine.specs.InnerSteps.{AllFit}
+use Rattle.mldsa_engine.specs.Lines.{TakesLines}
+use Rattle.mldsa_engine.specs.ProgramText.{text, answer_word, entry_lines, AnswersEach, TellsAll}
+use Rattle.mldsa_engine.specs.InnerSteps.{AcceptsIfPrepared, JudgesEntries, JudgesByKey}
 use Rattle.mldsa_engine.proofs.LinesInSequence.{no_lines}
 use Rattle.mldsa_engine.proofs.Entries.{next_entry}
 
@@ -95,7 +97,7 @@ accepts_as_key : (p : ParameterSet) (H G : List ℕ → List ℕ) (matrix : Opti
 accepts_as_key p H G None pk message signature context law none =
     (λ x. absurd x, λ v. let there = sym none ∙ v.accepted.matrix in absurd cc)
 accepts_as_key p H G (Some a) pk message signature context law there =
-    law.verify_inputs pk record { parts = pk; matrix = a } signature (plain context message)
+    law.verify_inputs pk record { parts = pk; matrix = a } signature (plain message context)
     (ap (λ matrix. ok_or (option_map (λ a. record { parts = pk; matrix = a }) matrix) SamplingLimit) there)
 
 -- the answers are those of what accepts the same

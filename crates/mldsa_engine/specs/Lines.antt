@@ -72,17 +72,6 @@ IsLineFault Read = ⊥
 IsLineFault Write = ⊥
 IsLineFault Memory = ⊥
 
--- the fault is one that reading an input may end with
-abbrev pub IsInputFault : RunFault → Type 0
-IsInputFault Usage = ⊥
-IsInputFault (Missing _) = ⊤
-IsInputFault (TooLong _) = ⊤
-IsInputFault (NotHex _) = ⊤
-IsInputFault (Length _ _ _) = ⊤
-IsInputFault Read = ⊤
-IsInputFault Write = ⊥
-IsInputFault Memory = ⊤
-
 -- the digits that a line of the wanted bytes has
 abbrev pub line_digits : Option ℕ → ℕ
 line_digits None = 0
@@ -95,27 +84,6 @@ line_reach wanted line = max (length line) (line_digits wanted) + 1
 -- at most so many characters were taken of an input, and this is left
 abbrev pub LeavesAllBut : ℕ → List ℕ → List ℕ → Type 0
 LeavesAllBut most input left = (taken : ℕ) × (taken ≤ most) × (left ≡ drop taken input)
-
--- no byte of the line is LF
-abbrev pub HasNoEnd : List ℕ → Type 0
-HasNoEnd line = position_or_len ends_line line ≡ length line
-
--- a reader gave a piece of a line, and what ended it, by calls that asked for so many bytes at least: where LF was read, bytes
--- past it came with it only as far as one call asked for them
-abbrev pub TakesPiece : ℕ → Option (List ℕ) → Option (List ℕ) → List ℕ → Ending → Type 0
-TakesPiece asked old new piece Open = Consumes old new piece × HasNoEnd piece × (0 < length piece)
-TakesPiece asked old new piece Line = (more : List ℕ) × Consumes old new (piece ++ 10 ∷ more) × HasNoEnd piece
-    × (length more ≤ asked - length piece - 1)
-TakesPiece asked old new piece Input = Consumes old new piece × HasNoEnd piece × IsAtEnd new
-
--- a reader gave the line that its bytes begin with, where it tells its bytes, and has left what follows the line's reach; a line
--- with the wanted digits was taken alone
-abbrev pub TakesLine : Option ℕ → Option (List ℕ) → Option (List ℕ) → List ℕ → Type 0
-TakesLine wanted None left line = ⊤
-TakesLine wanted (Some input) None line = ⊥
-TakesLine wanted (Some input) (Some left) line = (0 < length input) × (line ≡ first_line input)
-    × LeavesAllBut (line_reach wanted line) input left
-    × (line_digits wanted ≤ length line → left ≡ after_line input)
 
 -- a reader gave the wanted lines, the first of which has this number, which spell these bytes, and has left what follows them,
 -- where it tells its bytes
@@ -144,15 +112,3 @@ abbrev pub InTurn : ℕ → List (Option ℕ) → Option (List ℕ) → Option (
 InTurn number wanted None left = ⊤
 InTurn number wanted (Some input) None = ⊥
 InTurn number wanted (Some input) (Some left) = StopsInTurn number wanted input left
-
--- the bytes are as many as are wanted
-abbrev pub Fits : Option ℕ → List ℕ → Type 0
-Fits None bytes = ⊤
-Fits (Some wants) bytes = length bytes ≡ wants
-
--- each line has as many bytes as are wanted of it
-abbrev pub AllFit : List (Option ℕ) → List (List ℕ) → Type 0
-AllFit [] [] = ⊤
-AllFit [] (line ∷ lines) = ⊥
-AllFit (wanted ∷ later) [] = ⊥
-AllFit (wanted ∷ later) (line ∷ lines) = Fits wanted line × AllFit later lines

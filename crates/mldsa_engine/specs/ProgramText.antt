@@ -10,7 +10,7 @@ use Rattle.fips204.specs.Keys.{PublicParts, IsPublicKeyOf, DecodesPrivate}
 use Rattle.fips204.specs.ParameterSets.{ParameterSet, set_44, set_65, set_87, public_key_length, private_key_length, signature_length}
 use Rattle.fips204.specs.Prepared.{PreparedPublic, VerifiesMessagePrepared}
 use Rattle.fips204.specs.Refusals.{generated, sign_message, VerifiesMessage}
-use Rattle.mldsa_engine.specs.Lines.{after_lines, line_bytes, AllFit, TakesLines}
+use Rattle.mldsa_engine.specs.Lines.{after_lines, line_bytes, TakesLines}
 use Rattle.mldsa_engine.specs.declared.fault.RunFault.{RunFault}
 use Rattle.mldsa_engine.specs.declared.call.Task.{Task}
 use Rattle.mldsa_engine.specs.declared.call.Task.TheVariants.{Id, Keygen, Sign, Verify, Check, Batch}
@@ -152,24 +152,6 @@ Answers H G Check p lines output answer = (xi rnd context message : List ℕ) ×
 Answers H G Batch p lines output answer = (key context count : List ℕ) × ((entries : List (List ℕ)) × (lines ≡ key ∷ context ∷ count ∷ entries)
     × (length entries ≡ 2 * two_bytes count)
     × JudgesEach p H G key context entries output answer)
-
--- what preparing a key answered accepts a message: nothing where it refused
-abbrev pub AcceptsIfPrepared : ParameterSet → (List ℕ → List ℕ) → Result PreparedPublic Fault → List ℕ → List ℕ → List ℕ → Type 0
-AcceptsIfPrepared p H prepared message signature context =
-    MatchResult prepared (λ key. VerifiesMessagePrepared p H key message signature context) (λ _. ⊥)
-
--- so many entries of a batch were judged by what accepts their signatures: a reader gave their lines, from the fourth on, and has
--- left what follows them, and this is told of them
-abbrev pub JudgesEntries : (List ℕ → List ℕ → Type 0) → ℕ → ℕ → Option (List ℕ) → Option (List ℕ) → List ℕ → Bool → Type 0
-JudgesEntries accepts size count given left output answer = (entries : List (List ℕ))
-    × AllFit (entry_lines size count) entries
-    × TakesLines 4 (entry_lines size count) given left entries
-    × ((answers : List Bool) × AnswersEach accepts entries answers × TellsAll answers output answer)
-
--- so they were judged by the public key that has these bytes
-abbrev pub JudgesByKey : ParameterSet → (List ℕ → List ℕ) → (List ℕ → List ℕ) → List ℕ → List ℕ → ℕ → Option (List ℕ) → Option (List ℕ) → List ℕ → Bool → Type 0
-JudgesByKey p H G key context count given left output answer = (pk : PublicParts) × IsPublicKeyOf H p.k key pk
-    × JudgesEntries (λ signature message. VerifiesMessage p H G pk message signature context) (signature_length p) count given left output answer
 
 -- a command was carried out over the streams H and G: its reader gave the wanted lines and has left what follows them, and this is
 -- what the command writes and answers for them

@@ -2,7 +2,8 @@
 #![tactic(auto)]
 
 ghost use Rattle.std.specs.Prelude.{◌≡◌, ◌≤◌, ◌↔◌, length, map, false, Err, IsTrue, IfOk, IfErr};
-ghost use Rattle.mldsa_engine.specs.Lines.{AllFit, IsInputFault, IsLineFault, FaultOfLines, InTurn};
+ghost use Rattle.mldsa_engine.specs.InnerSteps.{AllFit, IsInputFault};
+ghost use Rattle.mldsa_engine.specs.Lines.{IsLineFault, FaultOfLines, InTurn};
 ghost use Rattle.mldsa_engine.specs.ProgramText.{named_set, two_bytes, wanted_lines, lines_of_input, Answers, Executes};
 
 mod batch;

@@ -2,7 +2,8 @@
 #![tactic(auto)]
 
 ghost use Rattle.std.specs.Prelude.{◌≡◌, ◌≢◌, ◌<◌, ◌≤◌, ◌+◌, ◌^◌, ◌↔◌, ◌⊎◌, ℕ, List, Option, length, take, map, Ok, Err, IsTrue, IfOk, IfErr, IfSome, MatchResult, false, true, ◌∷◌, [], position};
-ghost use Rattle.mldsa_engine.specs.Lines.{longest_line, line_digits, ends_line, judged, Fits, AllFit, IsInputFault, IsLineFault, TakesPiece, TakesLine, TakesLines, FaultOfLines, InTurn};
+ghost use Rattle.mldsa_engine.specs.Lines.{longest_line, line_digits, ends_line, judged, IsLineFault, TakesLines, FaultOfLines, InTurn};
+ghost use Rattle.mldsa_engine.specs.InnerSteps.{Fits, AllFit, IsInputFault, TakesPiece, TakesLine};
 
 use crate::fault::RunFault;
 use crate::marked::Marked;

@@ -74,7 +74,7 @@ where
         ctx: &[u8],
         hash_oid: &[u8],
     ) -> Result<[u8; SIG_LEN], Fault>
-        ensures answer { DrawsUnless (digest_fault ctx.now hash_oid.now hash.now) R.gives R.refuses rng.old rng.new Fault.HashRng
+        ensures answer { DrawsUnless (digest_fault hash.now ctx.now hash_oid.now) R.gives R.refuses rng.old rng.new Fault.HashRng
             (λ rnd. sign_digest_prepared S.set H.front self.now rnd hash.now ctx.now hash_oid.now) result }
         ensures accepted { AcceptedIfWholePrepared S.set self.now
             (λ pk signature. VerifiesDigestPrepared S.set H.front pk hash.now signature ctx.now hash_oid.now) result }

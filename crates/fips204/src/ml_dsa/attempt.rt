@@ -2,14 +2,14 @@
 #![tactic(auto)]
 
 ghost use Rattle.std.specs.Prelude.{◌≡◌, ◌≤◌, ◌<◌, ◌+◌, ◌⊎◌, pos, nat_abs};
-ghost use Rattle.fips204_base.specs.Polynomials.{IsReducedVector};
+ghost use Rattle.fips204_base.specs.Vectors.{VectorWithin};
 ghost use Rattle.fips204_base.specs.Residues.{residue};
 ghost use Rattle.fips204_base.specs.Rounding.{high_bits};
 ghost use Rattle.fips204_base.specs.Vectors.{vector_coefficients, vector_of};
-ghost use Rattle.fips204.specs.Attempts.{attempt};
+ghost use Rattle.fips204.specs.Signing.{attempt};
 ghost use Rattle.fips204.specs.SigningInputs.{AreAttemptInputs};
 ghost use Rattle.fips204.specs.Sets.{set_of};
-ghost use Rattle.fips204.specs.Signing.{attempt_answer};
+ghost use Rattle.fips204.specs.SigningInputs.{attempt_answer};
 
 use super::commitment::commitment;
 use crate::types::{KeyTransforms, Params, PrivateKey, R, T};
@@ -56,7 +56,7 @@ impl<const K: usize, const L: usize, H: Xof, G> PrivateKey<K, L, H, G> {
 /// `q` in absolute value.
 fn high_vector<const K: usize>(gamma2: i32, w: &[R; K]) -> [R; K]
     requires set { (gamma2 ≡ pos 95232) ⊎ (gamma2 ≡ pos 261888) }
-    requires range { IsReducedVector K w.now }
+    requires range { VectorWithin K 8380416 w.now }
     ensures { result ≡ vector_of K (λ r n. pos (high_bits (nat_abs gamma2) (vector_coefficients w.now r n))) }
 {
     map_vector(

@@ -3,9 +3,9 @@
 
 ghost use Rattle.std.specs.Prelude.{◌≡◌, ◌-◌, pos, nat_abs};
 ghost use Rattle.std.specs.List.{All};
-ghost use Rattle.fips204_base.specs.Packing.{InRange};
+ghost use Rattle.fips204_base.specs.Packing.{PolynomialInRange};
 ghost use Rattle.fips204_base.specs.Rounding.{high_values};
-ghost use Rattle.fips204.specs.Attempts.{commitment};
+ghost use Rattle.fips204.specs.Signing.{commitment};
 ghost use Rattle.fips204.specs.ParameterSets.{commitment_length};
 ghost use Rattle.fips204.specs.Sets.{set_of};
 
@@ -22,7 +22,7 @@ pub(crate) fn commitment<const K: usize, const N: usize, H: Xof>(
 ) -> [u8; N]
     requires rows { K ≡ p.now.k }
     requires size { N ≡ commitment_length (set_of p.now) }
-    requires range { All (λ w. InRange (pos 0) (pos (high_values (nat_abs p.now.gamma2) - 1)) w.0) w1.now }
+    requires range { All (λ w. PolynomialInRange (pos 0) (pos (high_values (nat_abs p.now.gamma2) - 1)) w.0) w1.now }
     ensures { result ≡ commitment (set_of p.now) H.front mu.now w1.now }
 {
     let mut room = [0u8; 1024];

@@ -2,12 +2,12 @@
 #![tactic(auto)]
 
 ghost use Rattle.std.specs.Prelude.{◌≡◌, ◌≤◌, ◌<◌, ◌+◌, ◌*◌, ◌%◌, List, None, Some, pos, nat_abs, take, drop, IfOk, IfErr};
-ghost use Rattle.fips204_base.specs.MatrixEntry.{sampled_matrix};
-ghost use Rattle.fips204_base.specs.Polynomials.{AreResidues, IsReducedVector};
+ghost use Rattle.fips204_base.specs.Sampling.{sampled_matrix};
+ghost use Rattle.fips204_base.specs.Vectors.{IsResidueVector, VectorWithin};
 ghost use Rattle.fips204_base.specs.Residues.{residue};
 ghost use Rattle.fips204_base.specs.Vectors.{vector_of};
 ghost use Rattle.fips204_base.specs.declared.types.T.{T};
-ghost use Rattle.fips204.specs.KeyGeneration.{key_vector};
+ghost use Rattle.fips204.specs.Keys.{key_vector};
 ghost use Rattle.fips204.specs.ParameterSets.{public_key_length};
 ghost use Rattle.fips204.specs.Refusals.{generated, derived, Draws};
 ghost use Rattle.fips204.specs.Sets.{set_of};
@@ -91,12 +91,12 @@ pub(super) fn write_key_vector<const K: usize, const L: usize, G: Xof>(
     t: &mut [R; K],
 ) -> Result<(), Fault>
     requires shape { (K ≤ 8) × (L ≤ 7) }
-    requires first { IsReducedVector L s1.now }
-    requires second { IsReducedVector K s2.now }
+    requires first { VectorWithin L 8380416 s1.now }
+    requires second { VectorWithin K 8380416 s2.now }
     ensures refused { IfErr result (λ fault. (sampled_matrix G.front rho.now K L ≡ None) × (fault ≡ Fault.SamplingLimit)) }
     ensures values { IfOk result (λ _. (a : List (List T)) × (sampled_matrix G.front rho.now K L ≡ Some a)
         × (t.new ≡ vector_of K (λ r n. pos (key_vector L a s1.now s2.now r n)))) }
-    ensures range { IfOk result (λ _. AreResidues K t.new) }
+    ensures range { IfOk result (λ _. IsResidueVector K t.new) }
 {
     write_expanded_times_vector::<K, L, G>(rho, s1, t)?;
     write_zip_vectors(

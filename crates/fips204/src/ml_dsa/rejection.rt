@@ -2,18 +2,18 @@
 #![tactic(auto)]
 
 ghost use Rattle.std.specs.Prelude.{◌≡◌, ◌⊎◌, ◌<◌, ◌≤◌, ◌+◌, ◌*◌, ◌%◌, ℕ, List, pos, nat_abs, nat_lt, ◌≤ℤ◌, Ok, Some, length};
-ghost use Rattle.fips204_base.specs.CentredValues.{centred, vector_norm};
-ghost use Rattle.fips204_base.specs.HintSpelling.{all_ones};
-ghost use Rattle.fips204_base.specs.Polynomials.{entry, IsReducedVector, VectorWithin};
-ghost use Rattle.fips204_base.specs.Products.{product};
+ghost use Rattle.fips204_base.specs.Residues.{centred, vector_norm};
+ghost use Rattle.fips204_base.specs.Encodings.{all_ones};
+ghost use Rattle.fips204_base.specs.Vectors.{entry, VectorWithin};
+ghost use Rattle.fips204_base.specs.Transforms.{product};
 ghost use Rattle.fips204_base.specs.Residues.{coefficients, residue};
 ghost use Rattle.fips204_base.specs.Rounding.{low_bits};
 ghost use Rattle.fips204_base.specs.Vectors.{vector_coefficients, vector_of};
 ghost use Rattle.fips204_base.specs.declared.types.R.{R};
-ghost use Rattle.fips204.specs.Attempts.{checked_attempt, hint_bit, w_minus_cs2, y_plus_cs1};
+ghost use Rattle.fips204.specs.Signing.{checked_attempt, hint_bit, w_minus_cs2, y_plus_cs1};
 ghost use Rattle.fips204.specs.SigningInputs.{AreCheckInputs};
 ghost use Rattle.fips204.specs.Sets.{set_of};
-ghost use Rattle.fips204.specs.Signing.{attempt_answer};
+ghost use Rattle.fips204.specs.SigningInputs.{attempt_answer};
 
 use crate::types::{KeyTransforms, Params, PrivateKey, R, R0};
 use fips204_base::encodings::sig_encode;
@@ -82,7 +82,7 @@ impl<const K: usize, const L: usize, H, G> PrivateKey<K, L, H, G> {
 /// below `q` in absolute value.
 pub(crate) fn has_norm_below<const N: usize>(v: &[R; N], bound: i32) -> bool
     requires rows { 1 ≤ N }
-    requires range { IsReducedVector N v.now }
+    requires range { VectorWithin N 8380416 v.now }
     requires bound { pos 0 ≤ℤ bound }
     ensures { result ≡ nat_lt (vector_norm v.now) (nat_abs bound) }
 {
@@ -92,10 +92,10 @@ pub(crate) fn has_norm_below<const N: usize>(v: &[R; N], bound: i32) -> bool
 /// `z = y + c s1`, centred. Coefficients of `y` are at most 524288, and those of `c s1` below `q`, in absolute value.
 fn response<const L: usize>(y: &[R; L], cs1: &[R; L]) -> [R; L]
     requires mask { VectorWithin L 524288 y.now }
-    requires product { IsReducedVector L cs1.now }
+    requires product { VectorWithin L 8380416 cs1.now }
     ensures value { (s1 : List R) (c : R) → ((r n : ℕ) → r < L → n < 256 → entry cs1.now r n ≡ pos (product (coefficients c.0) (vector_coefficients s1 r) n))
         → result ≡ vector_of L (λ r n. centred (pos (y_plus_cs1 s1 y.now c r n))) }
-    ensures range { IsReducedVector L result }
+    ensures range { VectorWithin L 8380416 result }
 {
     zip_vectors(
         cs1,
@@ -110,11 +110,11 @@ fn response<const L: usize>(y: &[R; L], cs1: &[R; L]) -> [R; L]
 
 /// `w - c s2`, below `q` in absolute value, as coefficients of both are.
 fn w_minus_cs2<const K: usize>(w: &[R; K], cs2: &[R; K]) -> [R; K]
-    requires w { IsReducedVector K w.now }
-    requires product { IsReducedVector K cs2.now }
+    requires w { VectorWithin K 8380416 w.now }
+    requires product { VectorWithin K 8380416 cs2.now }
     ensures values { (s2 : List R) (c : R) → ((r n : ℕ) → r < K → n < 256 → entry cs2.now r n ≡ pos (product (coefficients c.0) (vector_coefficients s2 r) n))
         → (r n : ℕ) → r < K → n < 256 → vector_coefficients result r n ≡ w_minus_cs2 s2 (vector_coefficients w.now) c r n }
-    ensures range { IsReducedVector K result }
+    ensures range { VectorWithin K 8380416 result }
 {
     zip_vectors(
         w,
@@ -130,9 +130,9 @@ fn w_minus_cs2<const K: usize>(w: &[R; K], cs2: &[R; K]) -> [R; K]
 /// `LowBits` of each coefficient of a vector whose coefficients are below `q` in absolute value.
 fn low_vector<const K: usize>(gamma2: i32, v: &[R; K]) -> [R; K]
     requires set { (gamma2 ≡ pos 95232) ⊎ (gamma2 ≡ pos 261888) }
-    requires range { IsReducedVector K v.now }
+    requires range { VectorWithin K 8380416 v.now }
     ensures value { result ≡ vector_of K (λ r n. low_bits (nat_abs gamma2) (vector_coefficients v.now r n)) }
-    ensures range { IsReducedVector K result }
+    ensures range { VectorWithin K 8380416 result }
 {
     map_vector(
         v,
@@ -148,8 +148,8 @@ fn low_vector<const K: usize>(gamma2: i32, v: &[R; K]) -> [R; K]
 /// `gamma2` is 95232 or 261888, and coefficients are below `q` in absolute value.
 fn hint<const K: usize>(gamma2: i32, v: &[R; K], t: &[R; K]) -> [R; K]
     requires set { (gamma2 ≡ pos 95232) ⊎ (gamma2 ≡ pos 261888) }
-    requires v { IsReducedVector K v.now }
-    requires t { IsReducedVector K t.now }
+    requires v { VectorWithin K 8380416 v.now }
+    requires t { VectorWithin K 8380416 t.now }
     ensures { result ≡ vector_of K (λ r n. hint_bit (nat_abs gamma2) (vector_coefficients v.now r n) (vector_coefficients t.now r n)) }
 {
     zip_vectors(

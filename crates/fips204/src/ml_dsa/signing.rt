@@ -2,7 +2,7 @@
 #![tactic(auto)]
 
 ghost use Rattle.std.specs.Prelude.{◌≡◌};
-ghost use Rattle.fips204.specs.Completeness.{HashAccepted};
+ghost use Rattle.fips204.specs.Completeness.{HashComplete};
 ghost use Rattle.fips204.specs.SigningInputs.{AreKeyTransforms, AreSigningInputs};
 ghost use Rattle.fips204.specs.Sets.{HasSizes, set_of};
 ghost use Rattle.fips204.specs.Signing.{sign, sign_with};
@@ -38,7 +38,7 @@ pub fn sign_internal<
 ) -> Result<[u8; SIG_LEN], Fault>
     requires sizes { HasSizes (set_of p.now) K L LAMBDA_DIV4 SIG_LEN }
     ensures answer { result ≡ sign (set_of p.now) H.front G.front sk.now mu.now rnd.now }
-    ensures accepted { HashAccepted (set_of p.now) H.front G.front sk.now mu.now result }
+    ensures accepted { HashComplete (set_of p.now) H.front G.front sk.now mu.now result }
 {
     // A = ExpandA(rho)
     let mut a_hat = [[T0; L]; K];

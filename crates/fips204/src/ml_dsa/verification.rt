@@ -3,9 +3,9 @@
 
 ghost use Rattle.std.specs.Prelude.{◌≡◌, ◌≤◌, ◌<◌, ◌⊎◌, ◌-◌, ◌*◌, ◌%◌, ◌≤ℤ◌, ◌↔◌, ℕ, List, pos, nat_abs, IsTrue, Some, int_lt, MatchOption};
 ghost use Rattle.std.specs.List.{All};
-ghost use Rattle.fips204_base.specs.Challenge.{challenge};
-ghost use Rattle.fips204_base.specs.Packing.{InRange};
-ghost use Rattle.fips204_base.specs.Polynomials.{IsReducedVector};
+ghost use Rattle.fips204_base.specs.Sampling.{challenge};
+ghost use Rattle.fips204_base.specs.Packing.{PolynomialInRange};
+ghost use Rattle.fips204_base.specs.Vectors.{VectorWithin};
 ghost use Rattle.fips204_base.specs.Residues.{residue};
 ghost use Rattle.fips204_base.specs.Rounding.{high_values, use_hint};
 ghost use Rattle.fips204_base.specs.Vectors.{IsVector, vector_coefficients};
@@ -109,10 +109,10 @@ fn opened<const K: usize, const L: usize, const LAMBDA_DIV4: usize, const SIG_LE
 /// Coefficients of `w` are below `q` in absolute value, those of `h` 0 or 1. `K` is that of the set.
 fn write_hinted<const K: usize>(p: &Params, h: &[R; K], w: &mut [R; K])
     requires rows { K ≡ p.now.k }
-    requires range { IsReducedVector K w.old }
+    requires range { VectorWithin K 8380416 w.old }
     requires hint { IsVector K 0 1 h.now }
     ensures values { w.new ≡ hinted (set_of p.now) h.now (vector_coefficients w.old) }
-    ensures range { All (λ w. InRange (pos 0) (pos (high_values (nat_abs p.now.gamma2) - 1)) w.0) w.new }
+    ensures range { All (λ w. PolynomialInRange (pos 0) (pos (high_values (nat_abs p.now.gamma2) - 1)) w.0) w.new }
 {
     let gamma2 = p.gamma2;
     write_zip_vectors(
@@ -129,7 +129,7 @@ fn write_hinted<const K: usize>(p: &Params, h: &[R; K], w: &mut [R; K])
 fn t1_shifted<const K: usize>(t1: &[R; K]) -> [R; K]
     requires { IsHighPart K t1.now }
     ensures values { (r n : ℕ) → r < K → n < 256 → vector_coefficients result r n ≡ t1_shifted t1.now r n }
-    ensures range { IsReducedVector K result }
+    ensures range { VectorWithin K 8380416 result }
 {
     map_vector(
         t1,

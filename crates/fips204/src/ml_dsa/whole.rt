@@ -2,7 +2,7 @@
 #![tactic(auto)]
 
 ghost use Rattle.std.specs.Prelude.{◌≡◌, ◌↔◌, IsTrue};
-ghost use Rattle.fips204.specs.KeyGeneration.{TellsWhole};
+ghost use Rattle.fips204.specs.Keys.{TellsWhole};
 ghost use Rattle.fips204.specs.Sets.{set_of};
 
 use super::key_generation::write_key_vector;

@@ -5,7 +5,7 @@
 #![tactic(auto)]
 
 ghost use Rattle.std.specs.Prelude.{◌≡◌, MatchResult, Some, None};
-ghost use Rattle.fips204.specs.PreHash.{digest_length, is_der, pre_hash_fault};
+ghost use Rattle.fips204.specs.Framing.{digest_length, is_der, pre_hash_fault};
 
 use fips204_base::Fault;
 
@@ -115,7 +115,7 @@ fn has_der_form(oid: &[u8]) -> bool
 /// valid DER object identifier; `Fault::DigestTooLong` if the digest has more than 1024 bytes;
 /// `Fault::DigestLength` if the identifier is one of the twelve and the digest does not have the output
 /// length of its hash function.
-#[tactic(auto, unfolding(crate::specs::PreHash::pre_hash_fault))]
+#[tactic(auto, unfolding(crate::specs::Framing::pre_hash_fault))]
 pub fn check_pre_hash(hash: &[u8], oid: &[u8]) -> Result<(), Fault>
     ensures { MatchResult result (λ _. pre_hash_fault hash.now oid.now ≡ None) (λ fault. pre_hash_fault hash.now oid.now ≡ Some fault) }
 {

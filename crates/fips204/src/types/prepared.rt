@@ -2,7 +2,7 @@
 //! the transforms of its vectors.
 #![tactic(auto)]
 
-ghost use Rattle.fips204_base.specs.Polynomials.{IsReducedMatrix};
+ghost use Rattle.fips204_base.specs.Vectors.{MatrixWithin};
 ghost use Rattle.fips204.specs.Keys.{ArePrivateParts, IsHighPart};
 
 use super::{PrivateKey, PublicKey, T};
@@ -30,7 +30,7 @@ pub struct PreparedPrivateKey<const K: usize, const L: usize, H> {
 }
 
 impl<const K: usize, const L: usize, H> Model for PreparedPrivateKey<K, L, H> {
-    ghost use Rattle.fips204_base.specs.Polynomials.{IsReducedMatrix};
+    ghost use Rattle.fips204_base.specs.Vectors.{MatrixWithin};
     ghost use Rattle.fips204.specs.SigningInputs.{AreKeyTransforms};
     ghost use Rattle.fips204.specs.Keys.{ArePrivateParts};
     ghost use Rattle.fips204.specs.Prepared.{PreparedPrivate};
@@ -39,14 +39,14 @@ impl<const K: usize, const L: usize, H> Model for PreparedPrivateKey<K, L, H> {
 
     ghost view = { λ sk. record { parts = sk.key; matrix = sk.a_hat } };
 
-    ghost invariant = { λ sk. IsReducedMatrix sk.a_hat × ArePrivateParts K L sk.key × AreKeyTransforms K L sk.key sk.transforms };
+    ghost invariant = { λ sk. MatrixWithin 8380416 sk.a_hat × ArePrivateParts K L sk.key × AreKeyTransforms K L sk.key sk.transforms };
 }
 
 impl<const K: usize, const L: usize, H> PreparedPrivateKey<K, L, H> {
     /// A law, which computes nothing: the matrix has values below `q` in absolute value, and the parts have
     /// the lengths and ranges of a private key whose matrix has `K` rows and `L` columns.
     pub fn parts_in_range_law(&self)
-        ensures matrix { IsReducedMatrix self.now.matrix }
+        ensures matrix { MatrixWithin 8380416 self.now.matrix }
         ensures parts { ArePrivateParts K L self.now.parts }
     {
         let _ = &self.a_hat;
@@ -64,21 +64,21 @@ pub struct PreparedPublicKey<const K: usize, const L: usize, H> {
 }
 
 impl<const K: usize, const L: usize, H> Model for PreparedPublicKey<K, L, H> {
-    ghost use Rattle.fips204_base.specs.Polynomials.{IsReducedMatrix};
+    ghost use Rattle.fips204_base.specs.Vectors.{MatrixWithin};
     ghost use Rattle.fips204.specs.Prepared.{PreparedPublic};
 
     ghost Value = { PreparedPublic };
 
     ghost view = { λ pk. record { parts = pk.key; matrix = pk.a_hat } };
 
-    ghost invariant = { λ pk. IsReducedMatrix pk.a_hat };
+    ghost invariant = { λ pk. MatrixWithin 8380416 pk.a_hat };
 }
 
 impl<const K: usize, const L: usize, H> PreparedPublicKey<K, L, H> {
     /// A law, which computes nothing: the matrix has values below `q` in absolute value, and `t1` has `K`
     /// polynomials with coefficients from 0 to 1023.
     pub fn parts_in_range_law(&self)
-        ensures matrix { IsReducedMatrix self.now.matrix }
+        ensures matrix { MatrixWithin 8380416 self.now.matrix }
         ensures high { IsHighPart K self.now.parts.t1 }
     {
         let _ = &self.a_hat;

@@ -2,8 +2,8 @@
 #![tactic(auto)]
 
 ghost use Rattle.std.specs.Prelude.{◌≡◌, ◌<◌, ◌≤◌, ◌+◌, ◌≤ℤ◌, List, pos, nat_abs, length, take, drop, ◌++◌, MatchOption};
-ghost use Rattle.fips204_base.specs.HintSpelling.{Spells, all_ones, hint_bytes, ones};
-ghost use Rattle.fips204_base.specs.Packing.{InRange};
+ghost use Rattle.fips204_base.specs.Encodings.{Spells, all_ones, hint_bytes, ones};
+ghost use Rattle.fips204_base.specs.Packing.{PolynomialInRange};
 ghost use Rattle.fips204_base.specs.Vectors.{VectorInRange};
 
 use crate::types::{R, R0};
@@ -13,7 +13,7 @@ use crate::types::{R, R0};
 fn polynomial_of(places: &[u8]) -> Option<R>
     ensures { MatchOption result
         ((w : R) → places.now ≡ ones w → ⊥)
-        (λ w. (places.now ≡ ones w) × (length w.0 ≡ 256) × InRange (pos 0) (pos 1) w.0) }
+        (λ w. (places.now ≡ ones w) × (length w.0 ≡ 256) × PolynomialInRange (pos 0) (pos 1) w.0) }
 {
     let mut w = [0i32; 256];
     for k in 0..places.len() {

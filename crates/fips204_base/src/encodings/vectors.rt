@@ -3,7 +3,7 @@
 
 ghost use Rattle.std.specs.Prelude.{◌≡◌, ◌≤◌, ◌+◌, ◌*◌, ◌^◌, ℤ, List, pos, nat_abs, ◌+ℤ◌, ◌-ℤ◌, length, MatchOption};
 ghost use Rattle.fips204_base.specs.Encodings.{vector_bytes};
-ghost use Rattle.fips204_base.specs.Packing.{Bounds, InRange, polynomial_bytes, width};
+ghost use Rattle.fips204_base.specs.Packing.{Bounds, PolynomialInRange, polynomial_bytes, width};
 ghost use Rattle.fips204_base.specs.Vectors.{IsVector, VectorInRange};
 
 use crate::conversion::{bit_unpack_by_range, field_width, write_packed_by_range};
@@ -41,7 +41,7 @@ pub fn unpack_polynomial(bytes: &[u8], a: i32, b: i32) -> R
     requires whole { pos (2 ^ width a b) ≡ a +ℤ b +ℤ pos 1 }
     requires room { length bytes.now ≡ 32 * width a b }
     ensures same_bytes { polynomial_bytes a b result.0 ≡ bytes.now }
-    ensures range { InRange (pos 0 -ℤ a) b result.0 }
+    ensures range { PolynomialInRange (pos 0 -ℤ a) b result.0 }
     ensures places { length result.0 ≡ 256 }
 {
     bit_unpack_by_range(bytes, a, b).unwrap()
@@ -71,8 +71,8 @@ pub fn unpack_short_polynomial(bytes: &[u8], eta: i32) -> Option<R>
     requires bounds { Bounds eta eta }
     requires room { length bytes.now ≡ 32 * width eta eta }
     ensures { MatchOption result
-        ((w : List ℤ) → InRange (pos 0 -ℤ eta) eta w → length w ≡ 256 → polynomial_bytes eta eta w ≡ bytes.now → ⊥)
-        (λ w. InRange (pos 0 -ℤ eta) eta w.0 × (length w.0 ≡ 256) × (polynomial_bytes eta eta w.0 ≡ bytes.now)) }
+        ((w : List ℤ) → PolynomialInRange (pos 0 -ℤ eta) eta w → length w ≡ 256 → polynomial_bytes eta eta w ≡ bytes.now → ⊥)
+        (λ w. PolynomialInRange (pos 0 -ℤ eta) eta w.0 × (length w.0 ≡ 256) × (polynomial_bytes eta eta w.0 ≡ bytes.now)) }
 {
     let w = bit_unpack_by_range(bytes, eta, eta)?;
     if is_in_range(&w, eta, eta) {

@@ -3,9 +3,9 @@
 
 ghost use Rattle.std.specs.Prelude.{◌≡◌, ◌≤◌, ◌<◌, ◌/◌, ℕ, List, None, Some, pos, length, ok_or, IfOk, IfErr};
 ghost use Rattle.std.specs.List.{flat_map};
-ghost use Rattle.fips204_base.specs.Sampling.{AreKept};
-ghost use Rattle.fips204_base.specs.MatrixEntry.{kept_triples, matrix_entry, sampled_matrix, sampled_row};
-ghost use Rattle.fips204_base.specs.Polynomials.{entry, AreReduced, AreRowProducts, IsReduced, IsReducedVector};
+ghost use Rattle.fips204_base.specs.Network.{AreKept};
+ghost use Rattle.fips204_base.specs.Sampling.{kept_triples, matrix_entry, sampled_matrix, sampled_row};
+ghost use Rattle.fips204_base.specs.Vectors.{entry, TransformsWithin, AreRowProducts, PolynomialWithin, VectorWithin};
 ghost use Rattle.fips204_base.specs.Vectors.{vector_coefficients, matrix_product, product_difference};
 ghost use Rattle.fips204_base.specs.declared.types.T.{T};
 
@@ -121,10 +121,10 @@ fn write_expanded_mat_vec_mul<const K: usize, const L: usize, G: Xof>(
     out: &mut [T; K],
 ) -> Result<(), Fault>
     requires shape { (K ≤ 8) × (L ≤ 7) }
-    requires vector { AreReduced u.now }
+    requires vector { TransformsWithin 8380416 u.now }
     ensures refused { IfErr result (λ fault. (sampled_matrix G.front rho.now K L ≡ None) × (fault ≡ Fault.SamplingLimit)) }
     ensures values { IfOk result (λ _. (a : List (List T)) × (sampled_matrix G.front rho.now K L ≡ Some a) × AreRowProducts K L a u.now out.new) }
-    ensures small { IfOk result (λ _. AreReduced out.new) }
+    ensures small { IfOk result (λ _. TransformsWithin 8380416 out.new) }
 {
     let mut row = [T0; L];
     for r in 0..K {
@@ -145,11 +145,11 @@ pub fn write_expanded_times_vector<const K: usize, const L: usize, G: Xof>(
     out: &mut [R; K],
 ) -> Result<(), Fault>
     requires shape { (K ≤ 8) × (L ≤ 7) }
-    requires vector { IsReducedVector L v.now }
+    requires vector { VectorWithin L 8380416 v.now }
     ensures refused { IfErr result (λ fault. (sampled_matrix G.front rho.now K L ≡ None) × (fault ≡ Fault.SamplingLimit)) }
     ensures values { IfOk result (λ _. (a : List (List T)) × (sampled_matrix G.front rho.now K L ≡ Some a)
         × ((r n : ℕ) → r < K → n < 256 → entry out.new r n ≡ pos (matrix_product L a (vector_coefficients v.now) r n))) }
-    ensures range { IfOk result (λ _. IsReducedVector K out.new) }
+    ensures range { IfOk result (λ _. VectorWithin K 8380416 out.new) }
 {
     let mut products = [T0; K];
     write_expanded_mat_vec_mul::<K, L, G>(rho, &transforms(v), &mut products)?;
@@ -170,13 +170,13 @@ pub fn write_expanded_times_vector_less<const K: usize, const L: usize, G: Xof>(
     out: &mut [R; K],
 ) -> Result<(), Fault>
     requires shape { (K ≤ 8) × (L ≤ 7) }
-    requires vector { IsReducedVector L z.now }
-    requires challenge { IsReduced c.now.0 }
-    requires less { IsReducedVector K t.now }
+    requires vector { VectorWithin L 8380416 z.now }
+    requires challenge { PolynomialWithin 8380416 c.now.0 }
+    requires less { VectorWithin K 8380416 t.now }
     ensures refused { IfErr result (λ fault. (sampled_matrix G.front rho.now K L ≡ None) × (fault ≡ Fault.SamplingLimit)) }
     ensures values { IfOk result (λ _. (a : List (List T)) × (sampled_matrix G.front rho.now K L ≡ Some a)
         × ((r n : ℕ) → r < K → n < 256 → entry out.new r n ≡ pos (product_difference L a z.now c.now t.now r n))) }
-    ensures range { IfOk result (λ _. IsReducedVector K out.new) }
+    ensures range { IfOk result (λ _. VectorWithin K 8380416 out.new) }
 {
     let mut z_hat = [T0; L];
     let mut t_hat = [T0; K];

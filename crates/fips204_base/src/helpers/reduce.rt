@@ -4,8 +4,8 @@
 ghost use Rattle.std.specs.Prelude.{◌≡◌, ◌<◌, ◌≤◌, ◌+◌, ◌*◌, ◌/◌, ◌%◌, ℤ, pos, ◌-ℤ◌, ◌*ℤ◌, ◌≤ℤ◌, nat_abs};
 ghost use Rattle.std.specs.Int.{int_rem_euclid};
 ghost use Rattle.fips204_base.specs.Residues.{residue, IsCongruent};
-ghost use Rattle.fips204_base.specs.CentredValues.{centred};
-ghost use Rattle.fips204_base.specs.Reductions.{IsMontgomery};
+ghost use Rattle.fips204_base.specs.Residues.{centred};
+ghost use Rattle.fips204_base.specs.Residues.{IsMontgomery};
 
 use crate::Q;
 
@@ -103,7 +103,7 @@ pub fn full_reduce32(a: i32) -> i32
 
 /// `m` modulo `q`, from `-(q - 1) / 2` to `(q - 1) / 2`, for `m` below `2^31 - 2^22` in absolute
 /// value.
-#[tactic(auto, unfolding(crate::specs::CentredValues::centred))]
+#[tactic(auto, unfolding(crate::specs::Residues::centred))]
 pub fn center_mod(m: i32) -> i32
     requires { nat_abs m < 2143289344 }
     ensures value { result ≡ centred m }

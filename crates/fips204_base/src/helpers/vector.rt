@@ -3,7 +3,7 @@
 
 ghost use Rattle.std.specs.Prelude.{◌≡◌, ◌≤◌, ◌<◌, ◌*◌, ◌%◌, ℕ, [], ◌+ℤ◌, nat_abs, slice_index_or};
 ghost use Rattle.fips204_base.specs.Residues.{residue, coefficients};
-ghost use Rattle.fips204_base.specs.Polynomials.{entry, VectorWithin, Within, AllWithin, AreReduced, IsReducedMatrix, vector_residues, row_value, AreRowProducts};
+ghost use Rattle.fips204_base.specs.Vectors.{entry, VectorWithin, ValuesWithin, TransformsWithin, MatrixWithin, vector_residues, row_value, AreRowProducts};
 
 use crate::helpers::reduce::{partial_reduce64, wide_product};
 use crate::maps::{map, zip_vectors};
@@ -29,9 +29,9 @@ pub fn add_vector_ntt<const K: usize>(v: &[R; K], w: &[R; K]) -> [R; K]
 /// The Montgomery form of a vector of transforms: each value times `2^32` modulo `q`, below `q` in
 /// absolute value, for values of an absolute value of at most 67000000.
 pub fn to_mont<const L: usize>(v: &[T; L]) -> [T; L]
-    requires { AllWithin 67000000 v.now }
+    requires { TransformsWithin 67000000 v.now }
     ensures values { (i j : ℕ) → i < L → j < 256 → vector_residues result i j ≡ 4294967296 * vector_residues v.now i j % 8380417 }
-    ensures small { AreReduced result }
+    ensures small { TransformsWithin 8380416 result }
 {
     let mut out = [T0; L];
     for i in 0..L {
@@ -54,10 +54,10 @@ pub(crate) fn value_to_mont(x: i32) -> i32
 /// `q - 1`, the vector values of an absolute value of at most `q - 1`, and `L` is at most 7.
 pub fn mat_vec_mul<const K: usize, const L: usize>(a: &[[T; L]; K], u: &[T; L]) -> [T; K]
     requires columns { L ≤ 7 }
-    requires matrix { IsReducedMatrix a.now }
-    requires vector { AreReduced u.now }
+    requires matrix { MatrixWithin 8380416 a.now }
+    requires vector { TransformsWithin 8380416 u.now }
     ensures values { AreRowProducts K L a.now u.now result }
-    ensures small { AreReduced result }
+    ensures small { TransformsWithin 8380416 result }
 {
     let mut out = [T0; K];
     for i in 0..K {
@@ -69,10 +69,10 @@ pub fn mat_vec_mul<const K: usize, const L: usize>(a: &[[T; L]; K], u: &[T; L]) 
 /// The sum of the products of a row of the matrix with the vector, value by value.
 pub(crate) fn row_sum<const L: usize>(row: &[T; L], u: &[T; L]) -> T
     requires columns { L ≤ 7 }
-    requires row { AreReduced row.now }
-    requires vector { AreReduced u.now }
+    requires row { TransformsWithin 8380416 row.now }
+    requires vector { TransformsWithin 8380416 u.now }
     ensures values { (j : ℕ) → j < 256 → coefficients result.0 j ≡ row_value L row.now u.now j }
-    ensures small { Within 8380416 result.0 }
+    ensures small { ValuesWithin 8380416 result.0 }
 {
     let mut out = [0; 256];
     for j in 0..256 {
@@ -84,8 +84,8 @@ pub(crate) fn row_sum<const L: usize>(row: &[T; L], u: &[T; L]) -> T
 /// The sum of the products at one place.
 fn place_sum<const L: usize>(row: &[T; L], u: &[T; L], j: usize) -> i64
     requires columns { L ≤ 7 }
-    requires row { AreReduced row.now }
-    requires vector { AreReduced u.now }
+    requires row { TransformsWithin 8380416 row.now }
+    requires vector { TransformsWithin 8380416 u.now }
     requires place { j < 256 }
     ensures value { residue result ≡ row_value L row.now u.now j }
     ensures small { nat_abs result ≤ 70231372333056 * L }

@@ -4,8 +4,9 @@
 
 ghost use Rattle.std.specs.Prelude.{◌≡◌, ◌<◌, ◌≤◌, ◌+◌, ◌-◌, ◌*◌, ◌/◌, ◌%◌, ◌^◌, ℕ, pos, nat_abs, length, slice_index_or};
 ghost use Rattle.fips204_base.specs.Lanes.{lane, lane_at, residues, InRow, LanesWithin};
-ghost use Rattle.fips204_base.specs.Polynomials.{coefficient_at, entry, value_at, AreReduced, IsReducedVector, Within, vector_residues};
-ghost use Rattle.fips204_base.specs.Products.{minus, pointwise};
+ghost use Rattle.fips204_base.specs.Vectors.{coefficient_at, entry, TransformsWithin, VectorWithin, ValuesWithin, vector_residues};
+ghost use Rattle.fips204_base.specs.Network.{value_at};
+ghost use Rattle.fips204_base.specs.Transforms.{minus, pointwise};
 ghost use Rattle.fips204_base.specs.Residues.{coefficients, residue};
 ghost use Rattle.fips204_base.specs.Transforms.{transform, inverse_transform};
 ghost use Rattle.fips204_base.specs.Vectors.{vector_coefficients, AreTransformsOf};
@@ -26,10 +27,10 @@ pub(crate) fn write_transforms_in_lanes<const L: usize, const K: usize>(
     v_hat: &mut [T; L],
     w_hat: &mut [T; K],
 )
-    requires first { IsReducedVector L v.now }
-    requires second { IsReducedVector K w.now }
-    ensures first { AreTransformsOf L (vector_coefficients v.now) v_hat.new × AreReduced v_hat.new }
-    ensures second { AreTransformsOf K (vector_coefficients w.now) w_hat.new × AreReduced w_hat.new }
+    requires first { VectorWithin L 8380416 v.now }
+    requires second { VectorWithin K 8380416 w.now }
+    ensures first { AreTransformsOf L (vector_coefficients v.now) v_hat.new × TransformsWithin 8380416 v_hat.new }
+    ensures second { AreTransformsOf K (vector_coefficients w.now) w_hat.new × TransformsWithin 8380416 w_hat.new }
 {
     for part in 0..(L + K + 7) / 8 {
         write_eight_transforms(v, w, 8 * part, v_hat, w_hat, &mut Count::new());
@@ -49,14 +50,14 @@ fn write_eight_transforms<const L: usize, const K: usize>(
 )
     requires places { first < L + K }
     requires room { (count.old.products + 1024 < 2 ^ 64) × (count.old.sums + 2048 < 2 ^ 64) }
-    requires first { IsReducedVector L v.now }
-    requires second { IsReducedVector K w.now }
+    requires first { VectorWithin L 8380416 v.now }
+    requires second { VectorWithin K 8380416 w.now }
     ensures first { (i j : ℕ) → i < L → InRow first i → j < 256 → vector_residues v_hat.new i j ≡ transform (vector_coefficients v.now i) j }
-    ensures first_small { (i : ℕ) (d : T) → i < L → InRow first i → Within 8380416 (slice_index_or v_hat.new i d).0 }
+    ensures first_small { (i : ℕ) (d : T) → i < L → InRow first i → ValuesWithin 8380416 (slice_index_or v_hat.new i d).0 }
     ensures first_size { length v_hat.new ≡ L }
     ensures first_kept { (i : ℕ) (d : T) → i < L → i < first → slice_index_or v_hat.new i d ≡ slice_index_or v_hat.old i d }
     ensures second { (i j : ℕ) → i < K → InRow first (L + i) → j < 256 → vector_residues w_hat.new i j ≡ transform (vector_coefficients w.now i) j }
-    ensures second_small { (i : ℕ) (d : T) → i < K → InRow first (L + i) → Within 8380416 (slice_index_or w_hat.new i d).0 }
+    ensures second_small { (i : ℕ) (d : T) → i < K → InRow first (L + i) → ValuesWithin 8380416 (slice_index_or w_hat.new i d).0 }
     ensures second_size { length w_hat.new ≡ K }
     ensures second_kept { (i : ℕ) (d : T) → i < K → L + i < first → slice_index_or w_hat.new i d ≡ slice_index_or w_hat.old i d }
     ensures products { count.new.products ≡ count.old.products + 1024 }
@@ -64,7 +65,7 @@ fn write_eight_transforms<const L: usize, const K: usize>(
 {
     let mut rows: [Lanes; 256] = array::from_fn(
         |n|
-            requires { (n < 256) × (first < L + K) × IsReducedVector L v.now × IsReducedVector K w.now }
+            requires { (n < 256) × (first < L + K) × VectorWithin L 8380416 v.now × VectorWithin K 8380416 w.now }
             ensures first { (j : ℕ) → j < 8 → first + j < L → lane result.lanes j ≡ entry v.entry.now (first + j) n }
             ensures second { (j : ℕ) → j < 8 → L ≤ first + j → lane result.lanes j ≡ entry w.entry.now (first + j - L) n }
             ensures small { (j : ℕ) → j < 8 → nat_abs (lane result.lanes j) ≤ 8380416 }
@@ -87,21 +88,21 @@ pub(crate) fn write_products_in_lanes<const L: usize, const K: usize>(
     v: &mut [R; L],
     w: &mut [R; K],
 )
-    requires challenge { Within 8380416 c_hat.now.0 }
-    requires first { AreReduced t.now }
-    requires second { AreReduced u.now }
+    requires challenge { ValuesWithin 8380416 c_hat.now.0 }
+    requires first { TransformsWithin 8380416 t.now }
+    requires second { TransformsWithin 8380416 u.now }
     ensures first { (r n : ℕ) → r < L → n < 256
         → entry v.new r n ≡ pos (inverse_transform (pointwise (coefficients c_hat.now.0) (vector_residues t.now r)) n) }
-    ensures first_small { IsReducedVector L v.new }
+    ensures first_small { VectorWithin L 8380416 v.new }
     ensures second { (r n : ℕ) → r < K → n < 256
         → entry w.new r n ≡ pos (inverse_transform (pointwise (coefficients c_hat.now.0) (vector_residues u.now r)) n) }
-    ensures second_small { IsReducedVector K w.new }
+    ensures second_small { VectorWithin K 8380416 w.new }
 {
     for part in 0..(L + K + 7) / 8 {
         let first = 8 * part;
         let mut rows: [Lanes; 256] = array::from_fn(
             |n|
-                requires { (n < 256) × (first < L + K) × Within 8380416 c_hat.now.0 × AreReduced t.now × AreReduced u.now }
+                requires { (n < 256) × (first < L + K) × ValuesWithin 8380416 c_hat.now.0 × TransformsWithin 8380416 t.now × TransformsWithin 8380416 u.now }
                 ensures first { (j : ℕ) → j < 8 → first + j < L → residue (lane result.lanes j) ≡ pointwise (coefficients c_hat.entry.now.0) (vector_residues t.entry.now (first + j)) n }
                 ensures second { (j : ℕ) → j < 8 → L ≤ first + j → residue (lane result.lanes j) ≡ pointwise (coefficients c_hat.entry.now.0) (vector_residues u.entry.now (first + j - L)) n }
                 ensures small { (j : ℕ) → j < 8 → nat_abs (lane result.lanes j) ≤ 8380416 }
@@ -117,15 +118,15 @@ pub(crate) fn write_products_in_lanes<const L: usize, const K: usize>(
 /// Not inlined, so that its rows don't stay in the caller's frame.
 #[inline(never)]
 pub(crate) fn write_inverses_in_lanes<const K: usize>(t: &[T; K], out: &mut [R; K])
-    requires range { AreReduced t.now }
+    requires range { TransformsWithin 8380416 t.now }
     ensures values { (r n : ℕ) → r < K → n < 256 → entry out.new r n ≡ pos (inverse_transform (vector_residues t.now r) n) }
-    ensures small { IsReducedVector K out.new }
+    ensures small { VectorWithin K 8380416 out.new }
 {
     for part in 0..(K + 7) / 8 {
         let first = 8 * part;
         let mut rows: [Lanes; 256] = array::from_fn(
             |n|
-                requires { (n < 256) × (first < K) × AreReduced t.now }
+                requires { (n < 256) × (first < K) × TransformsWithin 8380416 t.now }
                 ensures value { (j : ℕ) → j < 8 → first + j < K → residue (lane result.lanes j) ≡ vector_residues t.entry.now (first + j) n }
                 ensures small { (j : ℕ) → j < 8 → nat_abs (lane result.lanes j) ≤ 8380416 }
             { row_of_values(t, &[], first, n) },
@@ -145,18 +146,18 @@ pub(crate) fn write_differences_in_lanes<const K: usize>(
     u: &[T; K],
     out: &mut [R; K],
 )
-    requires range { AreReduced t.now }
-    requires challenge { Within 8380416 c_hat.now.0 }
-    requires less { AreReduced u.now }
+    requires range { TransformsWithin 8380416 t.now }
+    requires challenge { ValuesWithin 8380416 c_hat.now.0 }
+    requires less { TransformsWithin 8380416 u.now }
     ensures values { (r n : ℕ) → r < K → n < 256
         → entry out.new r n ≡ pos (inverse_transform (minus (vector_residues t.now r) (pointwise (coefficients c_hat.now.0) (vector_residues u.now r))) n) }
-    ensures small { IsReducedVector K out.new }
+    ensures small { VectorWithin K 8380416 out.new }
 {
     for part in 0..(K + 7) / 8 {
         let first = 8 * part;
         let mut rows: [Lanes; 256] = array::from_fn(
             |n|
-                requires { (n < 256) × (first < K) × AreReduced t.now × Within 8380416 c_hat.now.0 × AreReduced u.now }
+                requires { (n < 256) × (first < K) × TransformsWithin 8380416 t.now × ValuesWithin 8380416 c_hat.now.0 × TransformsWithin 8380416 u.now }
                 ensures value { (j : ℕ) → j < 8 → first + j < K → residue (lane result.lanes j)
                     ≡ minus (vector_residues t.entry.now (first + j)) (pointwise (coefficients c_hat.entry.now.0) (vector_residues u.entry.now (first + j))) n }
                 ensures small { (j : ℕ) → j < 8 → nat_abs (lane result.lanes j) ≤ 8380416 }
@@ -205,8 +206,8 @@ fn row_of_coefficients<const L: usize, const K: usize>(
 ) -> Lanes
     requires places { first < L + K }
     requires place { n < 256 }
-    requires first { IsReducedVector L v.now }
-    requires second { IsReducedVector K w.now }
+    requires first { VectorWithin L 8380416 v.now }
+    requires second { VectorWithin K 8380416 w.now }
     ensures first { (j : ℕ) → j < 8 → first + j < L → lane result.lanes j ≡ entry v.now (first + j) n }
     ensures second { (j : ℕ) → j < 8 → L ≤ first + j → lane result.lanes j ≡ entry w.now (first + j - L) n }
     ensures small { (j : ℕ) → j < 8 → nat_abs (lane result.lanes j) ≤ 8380416 }
@@ -229,8 +230,8 @@ fn row_of_values<const L: usize, const K: usize>(
 ) -> Lanes
     requires places { first < L + K }
     requires place { n < 256 }
-    requires first { AreReduced t.now }
-    requires second { AreReduced u.now }
+    requires first { TransformsWithin 8380416 t.now }
+    requires second { TransformsWithin 8380416 u.now }
     ensures first { (j : ℕ) → j < 8 → first + j < L → lane result.lanes j ≡ value_at t.now (first + j) n }
     ensures second { (j : ℕ) → j < 8 → L ≤ first + j → lane result.lanes j ≡ value_at u.now (first + j - L) n }
     ensures small { (j : ℕ) → j < 8 → nat_abs (lane result.lanes j) ≤ 8380416 }
@@ -254,9 +255,9 @@ fn row_of_products<const L: usize, const K: usize>(
 ) -> Lanes
     requires places { first < L + K }
     requires place { n < 256 }
-    requires challenge { Within 8380416 c_hat.now.0 }
-    requires first { AreReduced t.now }
-    requires second { AreReduced u.now }
+    requires challenge { ValuesWithin 8380416 c_hat.now.0 }
+    requires first { TransformsWithin 8380416 t.now }
+    requires second { TransformsWithin 8380416 u.now }
     ensures first { (j : ℕ) → j < 8 → first + j < L → residue (lane result.lanes j) ≡ pointwise (coefficients c_hat.now.0) (vector_residues t.now (first + j)) n }
     ensures second { (j : ℕ) → j < 8 → L ≤ first + j → residue (lane result.lanes j) ≡ pointwise (coefficients c_hat.now.0) (vector_residues u.now (first + j - L)) n }
     ensures small { (j : ℕ) → j < 8 → nat_abs (lane result.lanes j) ≤ 8380416 }
@@ -276,9 +277,9 @@ fn row_of_differences<const K: usize>(
 ) -> Lanes
     requires places { first < K }
     requires place { n < 256 }
-    requires range { AreReduced t.now }
-    requires challenge { Within 8380416 c_hat.now.0 }
-    requires less { AreReduced u.now }
+    requires range { TransformsWithin 8380416 t.now }
+    requires challenge { ValuesWithin 8380416 c_hat.now.0 }
+    requires less { TransformsWithin 8380416 u.now }
     ensures value { (j : ℕ) → j < 8 → first + j < K → residue (lane result.lanes j)
         ≡ minus (vector_residues t.now (first + j)) (pointwise (coefficients c_hat.now.0) (vector_residues u.now (first + j))) n }
     ensures small { (j : ℕ) → j < 8 → nat_abs (lane result.lanes j) ≤ 8380416 }
@@ -295,8 +296,8 @@ fn coefficient_of_both<const L: usize, const K: usize>(
     n: usize,
 ) -> i32
     requires place { n < 256 }
-    requires first { IsReducedVector L v.now }
-    requires second { IsReducedVector K w.now }
+    requires first { VectorWithin L 8380416 v.now }
+    requires second { VectorWithin K 8380416 w.now }
     ensures first { r < L → result ≡ entry v.now r n }
     ensures second { L ≤ r → result ≡ entry w.now (r - L) n }
     ensures small { nat_abs result ≤ 8380416 }
@@ -312,7 +313,7 @@ fn coefficient_of_both<const L: usize, const K: usize>(
 #[inline(always)]
 fn coefficient_or_zero<const L: usize>(v: &[R; L], r: usize, n: usize) -> i32
     requires place { n < 256 }
-    requires range { IsReducedVector L v.now }
+    requires range { VectorWithin L 8380416 v.now }
     ensures value { result ≡ entry v.now r n }
     ensures small { nat_abs result ≤ 8380416 }
 {
@@ -323,8 +324,8 @@ fn coefficient_or_zero<const L: usize>(v: &[R; L], r: usize, n: usize) -> i32
 #[inline(always)]
 fn value_of_both<const L: usize, const K: usize>(t: &[T; L], u: &[T; K], r: usize, n: usize) -> i32
     requires place { n < 256 }
-    requires first { AreReduced t.now }
-    requires second { AreReduced u.now }
+    requires first { TransformsWithin 8380416 t.now }
+    requires second { TransformsWithin 8380416 u.now }
     ensures first { r < L → result ≡ value_at t.now r n }
     ensures second { L ≤ r → result ≡ value_at u.now (r - L) n }
     ensures small { nat_abs result ≤ 8380416 }
@@ -340,7 +341,7 @@ fn value_of_both<const L: usize, const K: usize>(t: &[T; L], u: &[T; K], r: usiz
 #[inline(always)]
 fn value_or_zero<const K: usize>(t: &[T; K], r: usize, n: usize) -> i32
     requires place { n < 256 }
-    requires range { AreReduced t.now }
+    requires range { TransformsWithin 8380416 t.now }
     ensures value { result ≡ value_at t.now r n }
     ensures small { nat_abs result ≤ 8380416 }
 {
@@ -355,7 +356,7 @@ fn write_values<const N: usize>(rows: &[Lanes; 256], first: usize, at: usize, ou
     requires range { LanesWithin (λ x. x.lanes) 8 8380416 rows.now }
     ensures values { (r n : ℕ) (d : Lanes) → r < N → InRow first (at + r) → n < 256 → value_at out.new r n ≡ lane_at (λ x. x.lanes) (at + r - first) d rows.now n }
     ensures size { length out.new ≡ N }
-    ensures small { (r : ℕ) (d : T) → r < N → InRow first (at + r) → Within 8380416 (slice_index_or out.new r d).0 }
+    ensures small { (r : ℕ) (d : T) → r < N → InRow first (at + r) → ValuesWithin 8380416 (slice_index_or out.new r d).0 }
     ensures kept { (r : ℕ) (d : T) → r < N → at + r < first → slice_index_or out.new r d ≡ slice_index_or out.old r d }
 {
     for n in 0..256 {

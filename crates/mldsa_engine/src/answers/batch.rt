@@ -3,8 +3,10 @@
 
 ghost use Rattle.std.specs.Prelude.{◌≡◌, ◌≤◌, ◌*◌, ◌↔◌, length, false, Err, IsTrue, IfOk, IfErr};
 ghost use Rattle.fips204.specs.ParameterSets.{public_key_length, signature_length};
-ghost use Rattle.mldsa_engine.specs.Lines.{IsInputFault, IsLineFault, FaultOfLines, InTurn};
-ghost use Rattle.mldsa_engine.specs.ProgramText.{named_set, entry_lines, AcceptsIfPrepared, JudgesEntries, JudgesByKey};
+ghost use Rattle.mldsa_engine.specs.InnerSteps.{IsInputFault};
+ghost use Rattle.mldsa_engine.specs.Lines.{IsLineFault, FaultOfLines, InTurn};
+ghost use Rattle.mldsa_engine.specs.ProgramText.{named_set, entry_lines};
+ghost use Rattle.mldsa_engine.specs.InnerSteps.{AcceptsIfPrepared, JudgesEntries, JudgesByKey};
 
 use super::array_of;
 use super::writing::Output;

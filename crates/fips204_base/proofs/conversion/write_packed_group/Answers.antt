@@ -78,6 +78,6 @@ returns c =
     let same = c.loop-x.invariant.so_far in
     record {
       same_bits = let h = rw (A, B, none, bytes, coefficients, digits-zero c.loop-x.word, append-nil, w) at same in h;
-      whole_bytes = rw bytes at c.loop-x.invariant.whole;
+      small_bytes = rw bytes at c.loop-x.invariant.whole;
       small_fields = fields_fit c.args.a c.args.b c.args.w.now c.requires.bounds c.requires.range;
     }

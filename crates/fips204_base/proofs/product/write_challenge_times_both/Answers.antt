@@ -1,6 +1,6 @@
 use Rattle.std.proofs.Common.{ap, pos, ◌∙◌}
 use Rattle.fips204_base.specs.Residues.{coefficients}
-use Rattle.fips204_base.specs.Polynomials.{vector_residues}
+use Rattle.fips204_base.specs.Vectors.{vector_residues}
 use Rattle.fips204_base.proofs.LaneBatches.{lane_product}
 use Rattle.fips204_base.proofs.product.write_challenge_times_both.Goals as goal
 

@@ -1,5 +1,6 @@
 use Rattle.std.proofs.Common.{ap, pos, ◌∙◌}
-use Rattle.fips204_base.specs.Polynomials.{vector_residues, matrix_residues}
+use Rattle.fips204_base.specs.Vectors.{vector_residues}
+use Rattle.fips204_base.specs.Network.{matrix_residues}
 use Rattle.fips204_base.proofs.Products.{row_of_products}
 use Rattle.fips204_base.proofs.product.write_plain_products.Goals as goal
 

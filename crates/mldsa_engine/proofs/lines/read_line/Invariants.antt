@@ -1,6 +1,7 @@
 use Rattle.std.proofs.Common.{◌≡◌, ◌+◌, ◌-◌, ◌≤◌, length, false, vec_len}
 use Rattle.std.specs.Io.KnownBytes.{Consumes}
-use Rattle.mldsa_engine.specs.Lines.{longest_line, HasNoEnd}
+use Rattle.mldsa_engine.specs.Lines.{longest_line}
+use Rattle.mldsa_engine.specs.InnerSteps.{HasNoEnd}
 use Rattle.mldsa_engine.proofs.lines.read_line.Given as goal
 
 abbrev pub invariant-loop-room : goal.invariant-loop-room

@@ -1,5 +1,6 @@
 use Rattle.std.proofs.Common.{◌≡◌, false, length, take, map}
-use Rattle.mldsa_engine.specs.Lines.{AllFit, TakesLines}
+use Rattle.mldsa_engine.specs.InnerSteps.{AllFit}
+use Rattle.mldsa_engine.specs.Lines.{TakesLines}
 use Rattle.mldsa_engine.proofs.lines.read_lines.Given as goal
 
 abbrev pub invariant-loop-length : goal.invariant-loop-length

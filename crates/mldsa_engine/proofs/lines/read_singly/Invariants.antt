@@ -1,6 +1,6 @@
 use Rattle.std.proofs.Common.{◌≡◌, length, take, false}
 use Rattle.std.specs.Io.KnownBytes.{Consumes}
-use Rattle.mldsa_engine.specs.Lines.{HasNoEnd}
+use Rattle.mldsa_engine.specs.InnerSteps.{HasNoEnd}
 use Rattle.mldsa_engine.proofs.lines.read_singly.Given as goal
 
 abbrev pub invariant-loop-length : goal.invariant-loop-length

@@ -1,7 +1,7 @@
 use Rattle.std.proofs.Common.{rules, ap, List, ℕ}
 use Rattle.fips204.specs.Acceptance.{Verifies}
 use Rattle.fips204.specs.Framing.{hashed}
-use Rattle.fips204.specs.KeyGeneration.{IsWhole}
+use Rattle.fips204.specs.Keys.{IsWhole}
 use Rattle.fips204.specs.Keys.{PublicParts}
 use Rattle.fips204.specs.Refusals.{derived}
 use Rattle.fips204.proofs.RefusedCalls.{accepted_input}
@@ -12,5 +12,5 @@ pub returns-clause-accepted : goal.returns-clause-accepted
 returns-clause-accepted g c =
     let p = g.S.Set.set in
     let sk = c.args.self.now in
-    accepted_input g.H.Xof.front sk.tr c.in_ok-digest_mu.field-0 (hashed c.args.ctx.now c.args.hash_oid.now c.args.hash.now) (IsWhole p g.G.Xof.front sk) (derived p g.G.Xof.front sk) (λ (pk : PublicParts). pk.tr)
+    accepted_input g.H.Xof.front sk.tr c.in_ok-digest_mu.field-0 (hashed c.args.hash.now c.args.ctx.now c.args.hash_oid.now) (IsWhole p g.G.Xof.front sk) (derived p g.G.Xof.front sk) (λ (pk : PublicParts). pk.tr)
     (λ (pk : PublicParts) (mu signature : List ℕ). Verifies p g.H.Xof.front g.G.Xof.front pk mu signature) c.sign_hash.result (λ pk d. derived_hash p g.G.Xof.front sk pk d) (search rules) c.sign_hash.ensures.accepted

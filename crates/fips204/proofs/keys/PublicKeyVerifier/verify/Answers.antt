@@ -6,4 +6,4 @@ use Rattle.fips204.proofs.keys.PublicKeyVerifier.verify.Goals as goal
 
 pub returns-in-Ok : goal.returns-in-Ok
 returns-in-Ok g c =
-    verified_input g.H.Xof.front c.args.self.now.tr c.args.self.now.tr c.in-Ok.mu (plain c.args.ctx.now c.args.message.now) (λ (mu : List ℕ). Verifies g.S.Set.set g.H.Xof.front g.G.Xof.front c.args.self.now mu c.args.signature.now) c.verify_mu.result refl (search rules) c.verify_mu.ensures
+    verified_input g.H.Xof.front c.args.self.now.tr c.args.self.now.tr c.in-Ok.mu (plain c.args.message.now c.args.ctx.now) (λ (mu : List ℕ). Verifies g.S.Set.set g.H.Xof.front g.G.Xof.front c.args.self.now mu c.args.signature.now) c.verify_mu.result refl (search rules) c.verify_mu.ensures

@@ -1,7 +1,7 @@
 use Rattle.std.proofs.Common.{◌∙◌, ap, pos, arith}
-use Rattle.fips204_base.specs.CentredValues.{centred}
+use Rattle.fips204_base.specs.Residues.{centred}
 use Rattle.fips204_base.specs.Residues.{residue}
-use Rattle.fips204.specs.Attempts.{y_plus_cs1}
+use Rattle.fips204.specs.Signing.{y_plus_cs1}
 use Rattle.fips204.proofs.ml_dsa.rejection.response.Goals as goal
 
 pub returns-clause-value : goal.returns-clause-value

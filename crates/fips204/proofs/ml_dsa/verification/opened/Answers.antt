@@ -2,7 +2,7 @@ use Rattle.std.proofs.Common.{rules, arith, ◌≡◌, ◌≤◌, ◌<◌, ◌+�
 use Rattle.std.proofs.lemmas.Bool.{ltb-true, lt-ltb}
 use Rattle.std.proofs.lemmas.Int.{ints, to_z-of_z}
 use Rattle.std.proofs.lemmas.Option.{none-some}
-use Rattle.fips204_base.specs.Challenge.{challenge}
+use Rattle.fips204_base.specs.Sampling.{challenge}
 use Rattle.fips204_base.specs.Encodings.{IsSignature}
 use Rattle.fips204_base.proofs.EncodedParts.{same_signature}
 use Rattle.fips204_base.proofs.Sampled.{some_of_ok, none_of_err}

@@ -1,7 +1,7 @@
 use Rattle.std.proofs.Common.{rules, arith, ◌≡◌, ◌≤◌, IsTrue, Some, ap}
 use Rattle.std.specs.Prelude.{◌↔◌}
-use Rattle.fips204_base.specs.MatrixEntry.{sampled_matrix}
-use Rattle.fips204.specs.Attempts.{commitment}
+use Rattle.fips204_base.specs.Sampling.{sampled_matrix}
+use Rattle.fips204.specs.Signing.{commitment}
 use Rattle.fips204.specs.Keys.{PublicParts}
 use Rattle.fips204.specs.Sets.{set_of}
 use Rattle.fips204.proofs.ParameterSets.{IsKnown, limits}

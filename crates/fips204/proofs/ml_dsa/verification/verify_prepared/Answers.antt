@@ -1,6 +1,6 @@
 use Rattle.std.proofs.Common.{rules, arith, ◌≡◌, ◌≤◌, IsTrue}
 use Rattle.std.specs.Prelude.{◌↔◌}
-use Rattle.fips204.specs.Attempts.{commitment}
+use Rattle.fips204.specs.Signing.{commitment}
 use Rattle.fips204.specs.Sets.{set_of}
 use Rattle.fips204.proofs.ParameterSets.{IsKnown, limits, matrix_room}
 use Rattle.fips204.proofs.Ranges.{challenge-reduced}

@@ -1,6 +1,6 @@
 use Rattle.std.proofs.Common.{rules, ◌≡◌, pos, nat_abs, to_z, of_z, w32}
 use Rattle.std.specs.Prelude.{int_lt}
-use Rattle.fips204_base.specs.Polynomials.{entry}
+use Rattle.fips204_base.specs.Vectors.{entry}
 use Rattle.fips204_base.specs.Rounding.{use_hint}
 use Rattle.fips204_base.specs.Vectors.{vector_coefficients}
 use Rattle.fips204.specs.Sets.{set_of}

@@ -1,5 +1,5 @@
 use Rattle.std.proofs.Common.{rules}
-use Rattle.fips204_base.specs.MatrixEntry.{sampled_matrix}
+use Rattle.fips204_base.specs.Sampling.{sampled_matrix}
 use Rattle.fips204_base.proofs.Sampled.{some_of_ok}
 use Rattle.fips204.proofs.ParameterSets.{set-shape}
 use Rattle.fips204.proofs.Ranges.{matrix-within}

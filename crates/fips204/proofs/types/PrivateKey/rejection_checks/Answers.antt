@@ -2,11 +2,11 @@ use Rattle.std.proofs.Common.{rules, arith, pos, ◌≡◌, ◌∙◌, ◌-◌, 
 use Rattle.std.specs.Prelude.{nat_lt}
 use Rattle.std.proofs.lemmas.Int.{to_z-of_z, ints}
 use Rattle.std.proofs.lemmas.Bool.{ltb-true}
-use Rattle.fips204_base.specs.HintSpelling.{all_ones}
-use Rattle.fips204_base.specs.CentredValues.{vector_norm}
+use Rattle.fips204_base.specs.Encodings.{all_ones}
+use Rattle.fips204_base.specs.Residues.{vector_norm}
 use Rattle.fips204_base.specs.Residues.{coefficients}
 use Rattle.fips204_base.specs.Vectors.{vector_coefficients}
-use Rattle.fips204.specs.Attempts.{response, low_vector, ct0, hint_vector, y_plus_cs1}
+use Rattle.fips204.specs.Signing.{response, low_vector, ct0, hint_vector, y_plus_cs1}
 use Rattle.fips204.specs.Sets.{set_of}
 use Rattle.fips204.proofs.RejectionChecks.{rejected-first, rejected-second, rejected-third, rejected-fourth, kept, response-is, low-is, ct0-is, hint-is, response-range, hint-range, signature_size}
 use Rattle.fips204.proofs.ParameterSets.{limits, rounding-some}

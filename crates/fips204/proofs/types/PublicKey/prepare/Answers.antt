@@ -1,7 +1,7 @@
 use Rattle.std.proofs.Common.{refl, ◌≡◌, ap, sym, subst, Ok, Some}
 use Rattle.fips204.specs.Keys.{PublicParts}
 use Rattle.fips204.specs.Prepared.{PreparedPublic, prepared_public}
-use Rattle.fips204_base.specs.MatrixEntry.{sampled_matrix}
+use Rattle.fips204_base.specs.Sampling.{sampled_matrix}
 use Rattle.fips204_base.proofs.Sampled.{some_of_ok}
 use Rattle.fips204.proofs.ParameterSets.{set-shape}
 use Rattle.fips204.proofs.Ranges.{matrix-within}

@@ -2,7 +2,7 @@ use Rattle.std.proofs.Common.{rules, arith, ◌≡◌, ◌+◌, nat_abs, take, [
 use Rattle.std.specs.List.{flat_map}
 use Rattle.std.proofs.lemmas.Int.{to_z-of_z}
 use Rattle.std.proofs.lemmas.List.{take_all}
-use Rattle.fips204_base.specs.HintSpelling.{ones}
+use Rattle.fips204_base.specs.Encodings.{ones}
 use Rattle.fips204_base.proofs.HintSpelling.{total_more, total_le, written, gathered, spelling}
 use Rattle.fips204_base.proofs.conversion.hints.hint_bit_pack.Goals as goal
 

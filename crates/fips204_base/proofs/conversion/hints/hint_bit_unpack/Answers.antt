@@ -5,8 +5,8 @@ use Rattle.std.proofs.lemmas.List.{take_more_set, take_all}
 use Rattle.std.proofs.lemmas.List.Elements.{All-push}
 use Rattle.fips204_base.specs.declared.types.R.{R}
 use Rattle.fips204_base.specs.declared.types.TheConstants.{R0}
-use Rattle.fips204_base.specs.Packing.{InRange}
-use Rattle.fips204_base.specs.HintSpelling.{ones, Spells}
+use Rattle.fips204_base.specs.Packing.{PolynomialInRange}
+use Rattle.fips204_base.specs.Encodings.{ones, Spells}
 use Rattle.fips204_base.proofs.HintSpelling.{before, pieces, totals_rise, piece, zero_rest, one_more, totals_more, gathered, spelling}
 use Rattle.fips204_base.proofs.conversion.hints.hint_bit_unpack.Goals as goal
 use Rattle.fips204_base.proofs.conversion.hints.hint_bit_unpack.Goals.{then-end-index-via-then-end-index, then-end-index-via-else-end-index+then-end-limit}
@@ -44,7 +44,7 @@ loop-i-preserved g c =
       places = places;
       totals = totals_more c.loop-i.h c.args.y.now _ c.loop-i.i end c.in_ok-h.field-0 inside (search rules) refl (search rules) places c.loop-i.invariant.totals;
       sizes = rw more (All-push (λ (w : R). length w.0 ≡ 256) (take c.loop-i.i c.loop-i.h) c.in_ok-h.field-0 c.loop-i.invariant.sizes c.in_ok-h.ensures.1);
-      bits = rw more (All-push (λ (w : R). InRange (pos 0) (pos 1) w.0) (take c.loop-i.i c.loop-i.h) c.in_ok-h.field-0 c.loop-i.invariant.bits c.in_ok-h.ensures.2);
+      bits = rw more (All-push (λ (w : R). PolynomialInRange (pos 0) (pos 1) w.0) (take c.loop-i.i c.loop-i.h) c.in_ok-h.field-0 c.loop-i.invariant.bits c.in_ok-h.ensures.2);
     }
 
 pub loop-k-init : goal.loop-k-init

@@ -1,7 +1,7 @@
 use Rattle.std.proofs.Common.{ℕ, ◌≡◌, ◌<◌, ◌+◌, ◌≤◌, get_or, take, length, pos}
 use Rattle.std.specs.List.{All}
-use Rattle.fips204_base.specs.HintSpelling.{all_ones}
-use Rattle.fips204_base.specs.Packing.{InRange}
+use Rattle.fips204_base.specs.Encodings.{all_ones}
+use Rattle.fips204_base.specs.Packing.{PolynomialInRange}
 use Rattle.fips204_base.proofs.HintSpelling.{before}
 use Rattle.fips204_base.proofs.conversion.hints.hint_bit_unpack.Given as goal
 
@@ -13,7 +13,7 @@ invariant-loop-i g l = record {
   places : take l.index l.y ≡ all_ones (take l.i l.h);
   totals : (k : ℕ) → k < l.i → get_or l.y (l.limit + k) 0 ≡ length (all_ones (take (k + 1) l.h));
   sizes : All (λ w. length w.0 ≡ 256) (take l.i l.h);
-  bits : All (λ w. InRange (pos 0) (pos 1) w.0) (take l.i l.h);
+  bits : All (λ w. PolynomialInRange (pos 0) (pos 1) w.0) (take l.i l.h);
 }
 
 abbrev pub invariant-loop-k : goal.invariant-loop-k

@@ -1,7 +1,7 @@
 use Rattle.std.proofs.Common.{ℕ, ◌≡◌, ◌<◌, ◌-◌, get_or, take, length, pos}
 use Rattle.fips204_base.specs.declared.types.R.{R}
-use Rattle.fips204_base.specs.HintSpelling.{ones}
-use Rattle.fips204_base.specs.Packing.{InRange}
+use Rattle.fips204_base.specs.Encodings.{ones}
+use Rattle.fips204_base.specs.Packing.{PolynomialInRange}
 use Rattle.fips204_base.proofs.conversion.hints.polynomial_of.Given as goal
 
 abbrev pub invariant-loop-k : goal.invariant-loop-k
@@ -9,7 +9,7 @@ invariant-loop-k l =
     let w : R = record { 0 = l.w } in
     record {
       size : length l.w ≡ 256;
-      bits : InRange (pos 0) (pos 1) l.w;
+      bits : PolynomialInRange (pos 0) (pos 1) l.w;
       so_far : take l.k l.places ≡ ones w;
       zeros : (j : ℕ) → (0 < l.k → get_or l.places (l.k - 1) 0 < j) → get_or l.w j (pos 0) ≡ pos 0;
     }

@@ -1,7 +1,7 @@
 use Rattle.std.proofs.Common.{◌≡◌, ◌+◌, ◌*◌, ◌-◌, ◌≤◌, ◌++◌, ◌∙◌, ◌-ℤ◌, pos, ap, sym, subst, arith, rules, nat_abs, length, take, drop, w32, to_z, of_z, length-drop, None}
 use Rattle.std.proofs.lemmas.Int.{ints, to_z-of_z}
 use Rattle.std.proofs.lemmas.List.{drop-drop, take-append-drop, take_all, length-take-le}
-use Rattle.fips204_base.specs.HintSpelling.{Spells}
+use Rattle.fips204_base.specs.Encodings.{Spells}
 use Rattle.fips204_base.proofs.EncodedParts.{whole_response, response_bounds, response_least, response_width, signature-of_parts, signature-hint}
 use Rattle.fips204_base.proofs.VectorBytes.{same_bounds}
 use Rattle.fips204_base.proofs.encodings.signature.sig_decode.Goals as goal

@@ -1,6 +1,6 @@
 use Rattle.std.proofs.Common.{◌≡◌, rules, true, false, refl, sym, subst, pos, ◌-ℤ◌, w32}
 use Rattle.std.proofs.lemmas.Int.{to_z-of_z}
-use Rattle.fips204_base.specs.Packing.{InRange, Unpacks}
+use Rattle.fips204_base.specs.Packing.{PolynomialInRange, Unpacks}
 use Rattle.fips204_base.proofs.Packing.{unpacks_bytes, bytes_unpack, unpacks_once}
 use Rattle.fips204_base.proofs.encodings.vectors.unpack_short_polynomial.Goals as goal
 
@@ -18,5 +18,5 @@ returns-else-is_in_range c = λ w range count same.
     let other : Unpacks c.args.eta c.args.eta c.args.bytes.now w = subst (λ b. Unpacks c.args.eta c.args.eta b w) same (bytes_unpack c.args.eta c.args.eta w c.requires.bounds range count) in
     let once = unpacks_once c.args.eta c.args.eta c.args.bytes.now w c.in_ok-w.w.0 other u in
     let t = c.if-is_in_range.ensures in
-    let both : false ≡ true = (rw E at t).1 (subst (λ l. InRange (pos 0 -ℤ c.args.eta) c.args.eta l) once range) in
+    let both : false ≡ true = (rw E at t).1 (subst (λ l. PolynomialInRange (pos 0 -ℤ c.args.eta) c.args.eta l) once range) in
     search (rules, both)

@@ -7,7 +7,7 @@ use Rattle.std.proofs.Math.Seq.{take-add}
 use Rattle.std.proofs.lemmas.Grind.{common_steps}
 use Rattle.fips204_base.specs.declared.types.R.{R}
 use Rattle.fips204_base.specs.declared.types.TheConstants.{R0}
-use Rattle.fips204_base.specs.Packing.{InRange, polynomial_bytes, width}
+use Rattle.fips204_base.specs.Packing.{PolynomialInRange, polynomial_bytes, width}
 use Rattle.fips204_base.proofs.VectorBytes.{vector_stored, vector_piece, bytes_at_integers, vector_at_integers, range_at_integers}
 use Rattle.fips204_base.proofs.encodings.vectors.unpack_short_vector.Goals as goal
 
@@ -48,7 +48,7 @@ loop-i-preserved g c =
           ∙ ap (λ l. take at c.args.bytes.now ++ l) c.in_ok-v.ensures.2
           ∙ sym (take-add at (at + size - at) c.args.bytes.now)
           ∙ ap (λ n. take n c.args.bytes.now) (sym next);
-      range = rw more (All-push (λ (w : R). InRange (pos 0 -ℤ E) E w.0) (take c.loop-i.i c.loop-i.v) w c.loop-i.invariant.range c.in_ok-v.ensures.0);
+      range = rw more (All-push (λ (w : R). PolynomialInRange (pos 0 -ℤ E) E w.0) (take c.loop-i.i c.loop-i.v) w c.loop-i.invariant.range c.in_ok-v.ensures.0);
       places = rw more (All-push (λ (w : R). length w.0 ≡ 256) (take c.loop-i.i c.loop-i.v) w c.loop-i.invariant.places c.in_ok-v.ensures.1);
     }
 
@@ -63,7 +63,7 @@ returns g c =
     let all : take c.loop-i.i c.loop-i.v ≡ c.loop-i.v = take_all _ _ (omega (arith, done, c.loop-i.invariant.count)) in
     let range = rw all at c.loop-i.invariant.range in (
       vector_at_integers g.row.N c.args.eta c.args.eta c.loop-i.v c.requires.bounds c.loop-i.invariant.count (rw all at c.loop-i.invariant.places)
-          (subst (λ a. All (λ (w : R). InRange (pos 0 -ℤ a) a w.0) c.loop-i.v) E range),
+          (subst (λ a. All (λ (w : R). PolynomialInRange (pos 0 -ℤ a) a w.0) c.loop-i.v) E range),
       bytes_at_integers c.args.eta c.args.eta c.loop-i.v c.requires.bounds
           ∙ ap (λ a. flat_map (λ (w : R). polynomial_bytes a a w.0) c.loop-i.v) (sym E)
           ∙ ap (flat_map (λ (w : R). polynomial_bytes (to_z w32 (of_z w32 c.args.eta)) (to_z w32 (of_z w32 c.args.eta)) w.0)) (sym all) ∙ c.loop-i.invariant.read ∙ whole,

@@ -5,7 +5,7 @@ use Rattle.std.proofs.lemmas.List.{take_all, take_more_set}
 use Rattle.std.proofs.lemmas.List.Elements.{All-push}
 use Rattle.std.proofs.Math.Seq.{take-add}
 use Rattle.fips204_base.specs.declared.types.R.{R}
-use Rattle.fips204_base.specs.Packing.{InRange, polynomial_bytes, width}
+use Rattle.fips204_base.specs.Packing.{PolynomialInRange, polynomial_bytes, width}
 use Rattle.fips204_base.proofs.VectorBytes.{piece-within, vector_stored, bytes_at_integers, vector_at_integers}
 use Rattle.fips204_base.proofs.encodings.vectors.unpack_vector.Goals as goal
 
@@ -37,7 +37,7 @@ loop-i-preserved g c =
           ∙ ap (λ l. take at c.args.bytes.now ++ l) c.unpack_polynomial.ensures.same_bytes
           ∙ sym (take-add at (at + size - at) c.args.bytes.now)
           ∙ ap (λ n. take n c.args.bytes.now) (sym next);
-      range = rw more (All-push (λ (w : R). InRange (pos 0 -ℤ A) B w.0) (take c.loop-i.i c.loop-i.v) w c.loop-i.invariant.range c.unpack_polynomial.ensures.range);
+      range = rw more (All-push (λ (w : R). PolynomialInRange (pos 0 -ℤ A) B w.0) (take c.loop-i.i c.loop-i.v) w c.loop-i.invariant.range c.unpack_polynomial.ensures.range);
       places = rw more (All-push (λ (w : R). length w.0 ≡ 256) (take c.loop-i.i c.loop-i.v) w c.loop-i.invariant.places c.unpack_polynomial.ensures.places);
     }
 
@@ -47,8 +47,8 @@ returns-clause-vector g c =
     let all : take c.loop-i.i c.loop-i.v ≡ c.loop-i.v = take_all _ _ (omega (arith, done, c.loop-i.invariant.count)) in
     let range = rw all at c.loop-i.invariant.range in
     vector_at_integers g.row.N c.args.a c.args.b c.loop-i.v c.requires.bounds c.loop-i.invariant.count (rw all at c.loop-i.invariant.places)
-    (subst (λ b. All (λ (w : R). InRange (pos 0 -ℤ c.args.a) b w.0) c.loop-i.v) (to_z-of_z w32 c.args.b c.ranges.b)
-    (subst (λ a. All (λ (w : R). InRange (pos 0 -ℤ a) (to_z w32 (of_z w32 c.args.b)) w.0) c.loop-i.v) (to_z-of_z w32 c.args.a c.ranges.a) range))
+    (subst (λ b. All (λ (w : R). PolynomialInRange (pos 0 -ℤ c.args.a) b w.0) c.loop-i.v) (to_z-of_z w32 c.args.b c.ranges.b)
+    (subst (λ a. All (λ (w : R). PolynomialInRange (pos 0 -ℤ a) (to_z w32 (of_z w32 c.args.b)) w.0) c.loop-i.v) (to_z-of_z w32 c.args.a c.ranges.a) range))
 
 pub returns-clause-same_bytes : goal.returns-clause-same_bytes
 returns-clause-same_bytes g c =

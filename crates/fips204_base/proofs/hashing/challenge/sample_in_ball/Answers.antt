@@ -1,7 +1,7 @@
 use Rattle.std.proofs.Common.{◌≡◌, ◌∙◌, ◌+◌, ◌-◌, ◌/◌, ◌≤◌, pos, nat_abs, ap, refl, arith, rules, take, drop, get_or, length, drop-drop, append-nil, to_z, of_z}
 use Rattle.std.specs.Int.{w32}
 use Rattle.std.proofs.lemmas.Int.{ints}
-use Rattle.fips204_base.specs.Challenge.{picks}
+use Rattle.fips204_base.specs.Sampling.{picks}
 use Rattle.fips204_base.specs.Packing.{bits}
 use Rattle.fips204_base.proofs.Challenges.{Placed, placed_none, picks-nil, byte_after, challenge-more, challenge-same, challenge-full, challenge-few, sign-read}
 use Rattle.fips204_base.proofs.hashing.challenge.sample_in_ball.Goals as goal

@@ -2,7 +2,7 @@ use Rattle.std.proofs.Common.{ℕ, ◌≡◌, ◌+◌, ◌<◌, ◌++◌, [], ge
 use Rattle.std.specs.Int.{w16, w32, to_le_bytes}
 use Rattle.std.proofs.lemmas.List.FromFn.{fill_by_all}
 use Rattle.fips204_base.specs.declared.types.R.{R}
-use Rattle.fips204_base.specs.Mask.{mask, mask_polynomial}
+use Rattle.fips204_base.specs.Sampling.{mask, mask_polynomial}
 use Rattle.fips204_base.proofs.hashing.mask.expand_mask.Goals as goal
 
 pub loop-r-preserved : goal.loop-r-preserved

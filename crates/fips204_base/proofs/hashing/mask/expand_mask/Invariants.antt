@@ -1,7 +1,7 @@
 use Rattle.std.proofs.Common.{◌≡◌, ℕ, ◌+◌, ◌<◌, ◌++◌, length, get_or, nat_abs}
 use Rattle.std.specs.Int.{w16, to_le_bytes}
 use Rattle.fips204_base.specs.declared.types.R.{R}
-use Rattle.fips204_base.specs.Mask.{mask_polynomial}
+use Rattle.fips204_base.specs.Sampling.{mask_polynomial}
 use Rattle.fips204_base.proofs.hashing.mask.expand_mask.Given as goal
 
 abbrev pub invariant-loop-r : goal.invariant-loop-r

@@ -1,6 +1,6 @@
 use Rattle.std.proofs.Common.{ℤ, ◌≡◌, ◌∙◌, ◌*◌, ◌++◌, length, take, pos, nat_abs, ◌-ℤ◌, append-nil, to_z, of_z, inl, inr, ◌⊎◌, ◌-◌, refl, ap, rules}
 use Rattle.std.specs.Int.{w16, w32, to_le_bytes}
-use Rattle.fips204_base.specs.Mask.{mask_width, unpacked}
+use Rattle.fips204_base.specs.Sampling.{mask_width, unpacked}
 use Rattle.fips204_base.specs.Packing.{Unpacks}
 use Rattle.fips204_base.proofs.Masks.{as_long, mask_width-is, mask_is_unpacked}
 use Rattle.fips204_base.proofs.hashing.mask.polynomial.Goals as goal

@@ -1,5 +1,5 @@
 use Rattle.std.proofs.Common.{◌∙◌, arith, rules, length-set}
-use Rattle.fips204_base.specs.MatrixEntry.{sampled_row, sampled_matrix}
+use Rattle.fips204_base.specs.Sampling.{sampled_row, sampled_matrix}
 use Rattle.fips204_base.proofs.Sampled.{matrix-refused, present_nil, present_next, present_whole}
 use Rattle.fips204_base.proofs.hashing.matrix.write_expanded_a.Goals as goal
 

@@ -1,7 +1,7 @@
 use Rattle.std.proofs.Common.{◌≡◌, ℕ, ◌<◌, ◌∙◌, List, [], Some, arith, rules, length, length-set}
 use Rattle.fips204_base.specs.declared.types.T.{T}
-use Rattle.fips204_base.specs.MatrixEntry.{sampled_row, sampled_matrix}
-use Rattle.fips204_base.specs.Polynomials.{Within, row_value, vector_residues}
+use Rattle.fips204_base.specs.Sampling.{sampled_row, sampled_matrix}
+use Rattle.fips204_base.specs.Vectors.{ValuesWithin, row_value, vector_residues}
 use Rattle.fips204_base.specs.Residues.{coefficients}
 use Rattle.fips204_base.proofs.Sampled.{matrix-refused, all_present-each, row-within}
 use Rattle.fips204_base.proofs.Vectors.{row_written}
@@ -23,7 +23,7 @@ loop-r-preserved g c =
       size = length-set _ _ _ ∙ c.loop-r.invariant.size;
       values = row_written (λ i t. (x : List T) × (row i ≡ Some x) × ((j : ℕ) → j < 256 → coefficients t.0 j ≡ row_value g.row.L x c.args.u.now j)) c.loop-r.out c.loop-r.r c.row_sum.result record { 0 = [] }
           inside c.loop-r.invariant.values (c.write_expanded_row.new.row, c.in_ok-write_expanded_row.ensures.values, c.row_sum.ensures.values);
-      small = λ i d. row_written (λ i t. Within 8380416 t.0) c.loop-r.out c.loop-r.r c.row_sum.result d
+      small = λ i d. row_written (λ i t. ValuesWithin 8380416 t.0) c.loop-r.out c.loop-r.r c.row_sum.result d
           inside (λ i h. c.loop-r.invariant.small i d h) c.row_sum.ensures.small i;
     }
 

@@ -1,7 +1,7 @@
 use Rattle.std.proofs.Common.{◌≡◌, ◌≤◌, ◌*◌, ◌%◌}
 use Rattle.std.specs.Prelude.{nat_abs}
 use Rattle.fips204_base.specs.Residues.{residue, sum_below}
-use Rattle.fips204_base.specs.Polynomials.{vector_residues}
+use Rattle.fips204_base.specs.Vectors.{vector_residues}
 use Rattle.fips204_base.proofs.helpers.vector.place_sum.Given as goal
 
 abbrev pub invariant-loop-k : goal.invariant-loop-k

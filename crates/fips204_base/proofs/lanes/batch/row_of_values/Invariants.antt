@@ -1,6 +1,6 @@
 use Rattle.std.proofs.Common.{ℕ, ◌≡◌, ◌<◌, ◌≤◌, ◌+◌, ◌-◌, pos, length, get_or}
 use Rattle.std.specs.Prelude.{nat_abs}
-use Rattle.fips204_base.specs.Polynomials.{value_at}
+use Rattle.fips204_base.specs.Network.{value_at}
 use Rattle.fips204_base.proofs.lanes.batch.row_of_values.Given as goal
 
 abbrev pub invariant-loop-j : goal.invariant-loop-j

@@ -1,6 +1,6 @@
 use Rattle.std.proofs.Common.{arith, ap, sym, []}
 use Rattle.fips204_base.specs.declared.types.T.{T}
-use Rattle.fips204_base.specs.Polynomials.{coefficient_at}
+use Rattle.fips204_base.specs.Vectors.{coefficient_at}
 use Rattle.std.proofs.lemmas.List.{get_or_past}
 use Rattle.fips204_base.proofs.lanes.batch.value_or_zero.Goals as goal
 

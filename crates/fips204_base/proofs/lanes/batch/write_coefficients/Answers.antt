@@ -1,6 +1,6 @@
 use Rattle.std.proofs.Common.{ℕ, ◌≡◌, ◌+◌, ◌-◌, ◌∙◌, ap, below_more}
 use Rattle.fips204_base.specs.Lanes.{lane, lane_at}
-use Rattle.fips204_base.specs.Polynomials.{entry}
+use Rattle.fips204_base.specs.Vectors.{entry}
 use Rattle.fips204_base.specs.declared.lanes.row.Lanes.{Lanes}
 use Rattle.fips204_base.proofs.lanes.batch.write_coefficients.Goals as goal
 

@@ -2,7 +2,7 @@ use Rattle.std.proofs.Common.{ℕ, ◌≡◌, ◌<◌, ◌+◌, ◌-◌, get_or}
 use Rattle.fips204_base.specs.declared.types.R.{R}
 use Rattle.fips204_base.specs.declared.lanes.row.Lanes.{Lanes}
 use Rattle.fips204_base.specs.Lanes.{InRow, lane_at}
-use Rattle.fips204_base.specs.Polynomials.{entry}
+use Rattle.fips204_base.specs.Vectors.{entry}
 use Rattle.fips204_base.proofs.lanes.batch.write_coefficients.Given as goal
 
 abbrev pub invariant-loop-n : goal.invariant-loop-n

@@ -1,6 +1,6 @@
 use Rattle.std.proofs.Common.{ℕ, ◌≡◌, ◌<◌, ◌*◌, pos}
-use Rattle.fips204_base.specs.Polynomials.{entry, vector_residues}
-use Rattle.fips204_base.specs.Products.{minus, pointwise}
+use Rattle.fips204_base.specs.Vectors.{entry, vector_residues}
+use Rattle.fips204_base.specs.Transforms.{minus, pointwise}
 use Rattle.fips204_base.specs.Residues.{coefficients}
 use Rattle.fips204_base.specs.Transforms.{inverse_transform}
 use Rattle.fips204_base.proofs.lanes.batch.write_differences_in_lanes.Given as goal

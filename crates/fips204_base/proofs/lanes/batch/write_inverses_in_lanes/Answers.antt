@@ -1,5 +1,5 @@
 use Rattle.std.proofs.Common.{ℕ, ◌≡◌, ◌+◌, ◌-◌, ◌*◌, ◌∙◌, ap, arith, rules}
-use Rattle.fips204_base.specs.Polynomials.{vector_residues}
+use Rattle.fips204_base.specs.Vectors.{vector_residues}
 use Rattle.fips204_base.proofs.Products.{inverse_below}
 use Rattle.fips204_base.proofs.LaneBatches.{zeros, made_at, eight_inverses}
 use Rattle.fips204_base.proofs.lanes.batch.write_inverses_in_lanes.Goals as goal

@@ -1,5 +1,5 @@
 use Rattle.std.proofs.Common.{ℕ, ◌≡◌, ◌<◌, ◌*◌, pos}
-use Rattle.fips204_base.specs.Polynomials.{entry, vector_residues}
+use Rattle.fips204_base.specs.Vectors.{entry, vector_residues}
 use Rattle.fips204_base.specs.Transforms.{inverse_transform}
 use Rattle.fips204_base.proofs.lanes.batch.write_inverses_in_lanes.Given as goal
 

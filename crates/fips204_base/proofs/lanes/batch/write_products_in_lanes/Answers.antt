@@ -1,6 +1,6 @@
 use Rattle.std.proofs.Common.{ℕ, ◌≡◌, ◌+◌, ◌-◌, ◌*◌, ◌∙◌, ap, arith, rules}
-use Rattle.fips204_base.specs.Polynomials.{vector_residues}
-use Rattle.fips204_base.specs.Products.{pointwise}
+use Rattle.fips204_base.specs.Vectors.{vector_residues}
+use Rattle.fips204_base.specs.Transforms.{pointwise}
 use Rattle.fips204_base.specs.Residues.{coefficients}
 use Rattle.fips204_base.proofs.Products.{inverse_below}
 use Rattle.fips204_base.proofs.LaneBatches.{zeros, made_at, eight_inverses}

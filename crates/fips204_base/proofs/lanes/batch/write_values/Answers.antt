@@ -1,7 +1,7 @@
 use Rattle.std.proofs.Common.{ℕ, ◌≡◌, ◌+◌, ◌-◌, ◌∙◌, [], pos, ap, arith, get_or, below_more}
 use Rattle.std.proofs.lemmas.List.{get_or_default}
 use Rattle.fips204_base.specs.Lanes.{lane, lane_at}
-use Rattle.fips204_base.specs.Polynomials.{value_at}
+use Rattle.fips204_base.specs.Network.{value_at}
 use Rattle.fips204_base.specs.declared.types.T.{T}
 use Rattle.fips204_base.specs.declared.lanes.row.Lanes.{Lanes}
 use Rattle.fips204_base.proofs.LaneBatches.{zeros, lane_within}

@@ -1,6 +1,7 @@
 use Rattle.std.proofs.Common.{rules, ℕ, List, ◌∙◌}
 use Rattle.mldsa_engine.specs.Lines.{IsLineFault, FaultOfLines, InTurn}
-use Rattle.mldsa_engine.specs.ProgramText.{entry_lines, AcceptsIfPrepared}
+use Rattle.mldsa_engine.specs.ProgramText.{entry_lines}
+use Rattle.mldsa_engine.specs.InnerSteps.{AcceptsIfPrepared}
 use Rattle.mldsa_engine.proofs.Entries.{fault_of_entry, in_turn_of_entry}
 use Rattle.mldsa_engine.proofs.Verdicts.{judges_none, judges_next}
 use Rattle.mldsa_engine.proofs.answers.batch.judge_entries.Goals as goal

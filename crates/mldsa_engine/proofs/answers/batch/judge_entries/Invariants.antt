@@ -1,5 +1,5 @@
 use Rattle.std.proofs.Common.{◌≡◌, false}
-use Rattle.mldsa_engine.specs.ProgramText.{AcceptsIfPrepared, JudgesEntries}
+use Rattle.mldsa_engine.specs.InnerSteps.{AcceptsIfPrepared, JudgesEntries}
 use Rattle.mldsa_engine.proofs.answers.batch.judge_entries.Given as goal
 
 abbrev pub invariant-loop-entry : goal.invariant-loop-entry

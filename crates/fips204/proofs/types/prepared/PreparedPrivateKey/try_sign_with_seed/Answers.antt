@@ -5,4 +5,4 @@ use Rattle.fips204.proofs.types.prepared.PreparedPrivateKey.try_sign_with_seed.G
 
 pub returns-clause-accepted : goal.returns-clause-accepted
 returns-clause-accepted g c =
-    input_accepted_prepared g.S.Set.set g.H.Xof.front c.args.self.now (plain c.args.ctx.now c.args.message.now) c.in_ok-message_mu.field-0 c.sign_hash.result (search rules) c.sign_hash.ensures.accepted
+    input_accepted_prepared g.S.Set.set g.H.Xof.front c.args.self.now (plain c.args.message.now c.args.ctx.now) c.in_ok-message_mu.field-0 c.sign_hash.result (search rules) c.sign_hash.ensures.accepted
