@@ -9,6 +9,7 @@ use Rattle.fips204_base.specs.Transforms.{shifted, product}
 use Rattle.fips204_base.specs.Residues.{IsCongruent, residue, coefficients, sum_below}
 use Rattle.fips204_base.specs.Vectors.{polynomial_of, vector_of}
 use Rattle.fips204_base.proofs.Challenges.{challenge_places, length-challenge_places}
+use Rattle.fips204_base.proofs.Reductions.{centred_is}
 use Rattle.fips204_base.proofs.Residues.{residue_add, residue_below, congruent_refl, congruent_of, congruent_sym, congruent_trans, congruent_mod, congruent_mul, sum_same, sum_equal, sum_zero, sum_one, sum_add}
 use Rattle.fips204_base.proofs.Vectors.{polynomial_of-at, length-polynomial_of, length-vector_of, vector_of-row, vector_of-at}
 use Rattle.std.proofs.Math.Nat.{le-max_left, le-max_right, max-le}
@@ -123,21 +124,19 @@ residue-again : (x : ℤ) → residue x % 8380417 ≡ residue x
 residue-again x = omega (arith, residue_below x)
 
 pub near_of_centred : (n : ℕ) (x : ℤ) → nat_abs (centred x) ≤ n → Near n (residue x)
-unfolding centred
 near_of_centred n x h = elim (cases_lt 4190208 (residue x)) [
   | inl far ↦
-      let e = rw (lt-leb (residue x) 4190208 far) at h in
+      let e = rw (centred_is x, lt-leb (residue x) 4190208 far) at h in
       inr (omega (arith, ints, e, residue-again x, residue_below x))
   | inr least ↦
-      let e = rw (le-leb (residue x) 4190208 least) at h in
+      let e = rw (centred_is x, le-leb (residue x) 4190208 least) at h in
       inl (omega (arith, ints, e, residue-again x))
 ]
 
 pub centred_of_near : (n : ℕ) (x : ℤ) → Near n (residue x) → nat_abs (centred x) ≤ n
-unfolding centred
 centred_of_near n x near = elim (cases_lt 4190208 (residue x)) [
-  | inl far ↦ rw (lt-leb (residue x) 4190208 far) (omega (arith, ints, near, far, residue-again x, residue_below x))
-  | inr least ↦ rw (le-leb (residue x) 4190208 least) (omega (arith, ints, near, least, residue-again x))
+  | inl far ↦ rw (centred_is x, lt-leb (residue x) 4190208 far) (omega (arith, ints, near, far, residue-again x, residue_below x))
+  | inr least ↦ rw (centred_is x, le-leb (residue x) 4190208 least) (omega (arith, ints, near, least, residue-again x))
 ]
 
 -- ---- the largest of a list

@@ -153,16 +153,14 @@ accepts p H a sk mu signature numbers parts low whole was =
       c_tilde = c_tilde;
       z = response p sk was.y g.c;
       h = hint_vector p sk w g.c;
-      short = record {
-        parts = record {
-          commitment = length-commitment p H mu (high_vector p w) whole numbers.short;
-          response = response_range p sk was.y g.c g.tests.response_norm;
-          hint = hint_range p sk w g.c;
-          few = g.tests.few;
-          encoding = g.bytes;
-        };
-        norm = g.tests.response_norm;
+      parts = record {
+        commitment = length-commitment p H mu (high_vector p w) whole numbers.short;
+        response = response_range p sk was.y g.c g.tests.response_norm;
+        hint = hint_range p sk w g.c;
+        few = g.tests.few;
+        encoding = g.bytes;
       };
+      norm = g.tests.response_norm;
       c = g.c;
       challenge = g.there;
       commitment = ap (commitment p H mu) (sym (hinted_is_high p a sk was.y (H c_tilde) g.c numbers parts.second low g.there g.tests));

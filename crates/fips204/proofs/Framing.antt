@@ -1,10 +1,10 @@
 -- A framed message determines what was framed; one signature for two framed messages gives a collision.
-use Rattle.std.proofs.Common.{◌≡◌, ◌+◌, ℕ, List, [], ◌∷◌, ◌++◌, length, take, drop, get_or, Bool, true, false, not, ◌&&◌, nat_eq, nat_lt, nat_le, IsTrue, if◌then◌else◌, Option, Some, None, refl, sym, ap, ◌∙◌, arith, append_assoc, true≢false, eqb-true, ◌≢◌, ◌⊎◌, inl, inr, Decides}
+use Rattle.std.proofs.Common.{◌≡◌, ◌+◌, ℕ, List, [], ◌∷◌, ◌++◌, length, take, get_or, Bool, true, false, not, ◌&&◌, nat_eq, nat_lt, nat_le, IsTrue, if◌then◌else◌, Option, Some, None, refl, sym, ap, ◌∙◌, arith, append_assoc, true≢false, eqb-true, ◌≢◌, ◌⊎◌, inl, inr, Decides}
 use Rattle.fips204_base.specs.declared.fault.Fault.{Fault}
 use Rattle.fips204_base.specs.declared.fault.Fault.TheVariants.{OidEmpty, OidNotDer, DigestTooLong, DigestLength, HashCtx}
-use Rattle.std.proofs.Math.Seq.{take-append_seam, drop-append_seam}
+use Rattle.fips204.proofs.Spellings.{same_parts}
 use Rattle.fips204.specs.Framing.{is_der, differs, digest_length, pre_hash_fault}
-use Rattle.fips204.specs.SchemeLaws.{FramingIsOneToOne, SignatureBindsMessage, SignatureBindsInput}
+use Rattle.fips204.specs.SchemeLaws.{FramingIsOneToOne, SignatureBindsMessage, SignatureBindsInput, SignatureBindsText}
 use Rattle.fips204.proofs.ParameterSets.{and_out, set_numbers}
 use Rattle.fips204.proofs.RefusedCalls.{passed, short_context}
 use Rattle.std.specs.Prelude.{bytes_eq}
@@ -18,16 +18,9 @@ use Rattle.fips204_base.proofs.EncodedParts.{same_signature}
 use Rattle.fips204.specs.ParameterSets.{ParameterSet, is_parameter_set, commitment_length}
 use Rattle.fips204.specs.Signing.{commitment}
 use Rattle.fips204.specs.Acceptance.{Accepts, w1_prime}
-use Rattle.fips204.specs.Framing.{plain, hashed, framed_input, message_hash}
+use Rattle.fips204.specs.Framing.{Input, plain, hashed, framed_input, message_hash}
 
 -- A framed message determines what was framed.
-
--- two joined lists, cut at one place
-cut : (xs ys us vs : List ℕ) → length xs ≡ length ys → xs ++ us ≡ ys ++ vs → (xs ≡ ys) × (us ≡ vs)
-cut xs ys us vs l e = (
-  sym (take-append_seam xs us) ∙ ap (take (length xs)) e ∙ ap (λ n. take n (ys ++ vs)) l ∙ take-append_seam ys vs,
-  sym (drop-append_seam xs us) ∙ ap (drop (length xs)) e ∙ ap (λ n. drop n (ys ++ vs)) l ∙ drop-append_seam ys vs,
-)
 
 test_true : (b : Bool) (fault : Fault) (rest : Option Fault) → (if not b then Some fault else rest) ≡ None → IsTrue b
 test_true true fault rest e = refl
@@ -58,7 +51,7 @@ same_oid (w ∷ x ∷ o) (y ∷ z ∷ p) d e s t same =
     let one = second_byte w x o s in
     let two = second_byte y z p t in
     let bytes : x ≡ z = ap (λ l. get_or l 1 0) same in
-    cut (w ∷ x ∷ o) (y ∷ z ∷ p) d e (omega (arith, one, two, bytes)) same
+    same_parts (w ∷ x ∷ o) (y ∷ z ∷ p) d e (omega (arith, one, two, bytes)) same
 
 -- ---- framed messages
 
@@ -70,7 +63,7 @@ same_context : (c d us vs : List ℕ) (mode : ℕ) → mode ∷ length c ∷ c +
 same_context c d us vs mode e =
     let lengths : length c ≡ length d = ap (λ l. get_or l 1 0) e in
     let rest : c ++ us ≡ d ++ vs = cc in
-    cut c d us vs lengths rest
+    same_parts c d us vs lengths rest
 
 pub same_input : FramingIsOneToOne
 same_input (plain m c) (plain n d) s t e =
@@ -105,7 +98,7 @@ pub one_commitment : (p : ParameterSet) (H : List ℕ → List ℕ) (a b : List 
     → (x.c_tilde ≡ y.c_tilde) × (w1_prime p a t1 x.z x.h x.c ≡ w1_prime p b t1 y.z y.h y.c)
 one_commitment p H a b t1 mu nu signature row same x y =
     let gamma1 = (set_numbers p row).gamma1 in
-    let parts = same_signature p.gamma1 p.omega p.k p.l (commitment_length p) signature x.c_tilde y.c_tilde x.z y.z x.h y.h (omega (arith, gamma1)) (omega (arith, gamma1)) x.short.parts y.short.parts in
+    let parts = same_signature p.gamma1 p.omega p.k p.l (commitment_length p) signature x.c_tilde y.c_tilde x.z y.z x.h y.h (omega (arith, gamma1)) (omega (arith, gamma1)) x.parts y.parts in
     let challenges : Some x.c ≡ Some y.c = sym x.challenge ∙ ap (λ bytes. challenge p.tau (H bytes)) parts.0 ∙ y.challenge in
     let one : x.c ≡ y.c = cc in
     let z = parts.1 in
@@ -142,3 +135,14 @@ signature_binds_message p H G pk m n signature row differ first second =
 pub signature_binds_input : SignatureBindsInput
 signature_binds_input p H G pk x y signature row differ first second =
     signature_binds_message p H G pk (framed_input x) (framed_input y) signature row (λ same. differ (same_input x y first.allowed second.allowed same)) first.accepted second.accepted
+
+message_of : Input → List ℕ
+message_of (plain message context) = message
+message_of (hashed digest context oid) = digest
+
+pub signature_binds_text : SignatureBindsText
+unfolding message_of
+signature_binds_text p H G pk context first second signature row differ one two =
+    let inputs_differ = λ (same : plain first context ≡ plain second context). differ (ap message_of same) in
+    let bound = signature_binds_input p H G pk (plain first context) (plain second context) signature row inputs_differ one two in
+    (_, bound.1)

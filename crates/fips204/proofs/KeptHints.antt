@@ -4,8 +4,8 @@ use Rattle.std.proofs.lemmas.Int.{ints}
 use Rattle.std.proofs.lemmas.Bool.{cases_lt, le-leb, lt-leb}
 use Rattle.fips204_base.specs.declared.types.R.{R}
 use Rattle.fips204_base.specs.declared.types.T.{T}
-use Rattle.fips204_base.specs.Vectors.{entry}
-use Rattle.fips204_base.specs.Residues.{centred, centred_modulo, vector_norm}
+use Rattle.fips204_base.specs.Vectors.{product_difference, entry}
+use Rattle.fips204_base.specs.Residues.{centred, vector_norm}
 use Rattle.fips204_base.specs.Transforms.{product, plus, minus, row_product}
 use Rattle.fips204_base.specs.Residues.{IsCongruent, residue, coefficients}
 use Rattle.fips204_base.specs.Rounding.{power2round, high_bits, low_bits, make_hint, use_hint}
@@ -18,13 +18,12 @@ use Rattle.fips204.specs.ParameterSets.{ParameterSet}
 use Rattle.fips204.specs.Keys.{PrivateParts, eta_of_rows}
 use Rattle.fips204.specs.Keys.{key_vector, high_part, low_part}
 use Rattle.fips204.specs.Signing.{scaled, response, w_minus_cs2, low_vector, ct0, hint_vector, high_vector}
-use Rattle.fips204.specs.Acceptance.{t1_shifted, w_approx, w1_prime}
+use Rattle.fips204.specs.Acceptance.{t1_shifted, w1_prime}
 use Rattle.std.specs.Prelude.{int_lt}
 use Rattle.fips204_base.specs.Sampling.{challenge}
 use Rattle.fips204_base.specs.Encodings.{is_one, all_ones}
-use Rattle.fips204_base.proofs.Reductions.{centred-modulo}
-use Rattle.fips204_base.proofs.RoundingLaws.{use_hint_of_make_hint, high_bits_stay}
-use Rattle.fips204.specs.SchemeLaws.{IsGamma2}
+use Rattle.fips204_base.proofs.Reductions.{centred_is}
+use Rattle.fips204_base.proofs.RoundingLaws.{IsGamma, use_hint_of_make_hint, high_bits_stay}
 use Rattle.fips204.proofs.ChallengeProducts.{Near, near_same, near_turned, near_challenge_product, norm_of_place, near_of_centred, centred_of_near}
 use Rattle.fips204.proofs.RejectionChecks.{centred-own}
 use Rattle.fips204.proofs.ParameterSets.{AreSetNumbers}
@@ -55,12 +54,11 @@ row_same l a v u n h below = ap (λ x. x % 8380417) (sum_equal l (λ k. product 
 
 -- centring keeps the residue
 pub centred_residue : (x : ℤ) → residue (centred x) ≡ residue x
-unfolding centred
 centred_residue x = elim (cases_lt 4190208 (residue x)) [
   | inl far ↦
       let e : pos (residue x) -ℤ pos 8380417 ≡ negsuc (8380416 - residue x) = omega (arith, ints, residue_below x) in
-      rw (lt-leb (residue x) 4190208 far, e) (omega (arith, residue_below x))
-  | inr least ↦ rw (le-leb (residue x) 4190208 least) (omega (arith, residue_below x))
+      rw (centred_is x, lt-leb (residue x) 4190208 far, e) (omega (arith, residue_below x))
+  | inr least ↦ rw (centred_is x, le-leb (residue x) 4190208 least) (omega (arith, residue_below x))
 ]
 
 -- the coefficients of z are those of y + c s1
@@ -106,7 +104,7 @@ parts_of_vector p a s1 s2 r j h below =
 -- ---- w'
 
 pub w_approx_is : (p : ParameterSet) (a : List (List T)) (sk : PrivateParts) (y : List R) (c : R) (r n : ℕ) → sk.t0 ≡ low_part p a sk.s1 sk.s2 → r < p.k → n < 256
-    → w_approx p a (high_part p a sk.s1 sk.s2) (response p sk y c) c r n
+    → product_difference p.l a (response p sk y c) c (t1_shifted (high_part p a sk.s1 sk.s2)) r n
     ≡ plus (w_minus_cs2 sk.s2 (matrix_product p.l a (vector_coefficients y)) c r) (scaled c (vector_coefficients sk.t0) r) n
 w_approx_is p a sk y c r n low h below =
     let C = coefficients c.0 in
@@ -123,11 +121,8 @@ w_approx_is p a sk y c r n low h below =
 
 -- ---- sizes
 
-size_of_near : (n x : ℕ) → x < 8380417 → Near n x → nat_abs (centred_modulo 8380417 x) ≤ n
-size_of_near n x below p =
-    let own : x % 8380417 ≡ x = omega arith in
-    let e : centred_modulo 8380417 x ≡ centred (pos x) = ap (centred_modulo 8380417) (sym own) ∙ centred-modulo (pos x) in
-    subst (λ v. nat_abs v ≤ n) (sym e) (centred_of_near n (pos x) (near_same n (congruent_sym (congruent_mod x)) p))
+size_of_near : (n x : ℕ) → Near n x → nat_abs (centred (pos x)) ≤ n
+size_of_near n x p = centred_of_near n (pos x) (near_same n (congruent_sym (congruent_mod x)) p)
 
 near_small : (m : ℕ) (x : ℤ) → nat_abs x ≤ m → Near m (residue x)
 near_small m (pos n) small = inl (omega (arith, small))
@@ -140,19 +135,18 @@ near_of_vector count m v r j is h below = near_small m (entry v r j) (vector-wit
 -- ---- one coefficient
 
 -- with w, c s2 and c t0 at one place
-pub hinted_place : (g beta w s t : ℕ) → IsGamma2 g → w < 8380417 → s < 8380417 → Near beta s → nat_abs (low_bits g ((w + 8380416 * s) % 8380417)) + beta < g → Near g t
-    → use_hint g (make_hint g ((0 + 8380416 * t) % 8380417) (((w + 8380416 * s) % 8380417 + t) % 8380417)) (((w + 8380416 * s) % 8380417 + t) % 8380417) ≡ high_bits g w
+pub hinted_place : (g beta w s t : ℕ) → IsGamma g → w < 8380417 → s < 8380417 → Near beta s → nat_abs (low_bits g ((w + 8380416 * s) % 8380417)) + beta < g → Near g t
+    → use_hint g (make_hint g (8380416 * t % 8380417) (((w + 8380416 * s) % 8380417 + t) % 8380417)) (((w + 8380416 * s) % 8380417 + t) % 8380417) ≡ high_bits g w
 hinted_place g beta w s t set wq sq small room near =
     let low = (w + 8380416 * s) % 8380417 in
     let x = (low + t) % 8380417 in
-    let z = (0 + 8380416 * t) % 8380417 in
-    let same : 8380416 * t ≡ 0 + 8380416 * t = omega arith in
-    let minus_t : Near g z = near_same g (congruent_sym (congruent_mod (0 + 8380416 * t))) (near_same g (congruent_of same) (near_turned g t near)) in
+    let z = 8380416 * t % 8380417 in
+    let minus_t : Near g z = near_same g (congruent_sym (congruent_mod (8380416 * t))) (near_turned g t near) in
     let sum : (x + z) % 8380417 ≡ low = omega arith in
     let back : (low + s) % 8380417 ≡ w = omega arith in
-    use_hint_of_make_hint g z x set (omega arith) (omega arith) (size_of_near g z (omega arith) minus_t)
+    use_hint_of_make_hint g z x set (omega arith) (omega arith) (size_of_near g z minus_t)
     ∙ ap (high_bits g) sum
-    ∙ sym (high_bits_stay g low s beta set (omega arith) sq (size_of_near beta s sq small) room)
+    ∙ sym (high_bits_stay g low s beta set (omega arith) sq (size_of_near beta s small) room)
     ∙ ap (high_bits g) back
 
 -- ---- the hint
@@ -163,10 +157,10 @@ hint_bit false = refl
 
 hint_at : (p : ParameterSet) (sk : PrivateParts) (w : ℕ → ℕ → ℕ) (c : R) (r n : ℕ) (d : R) → r < p.k → n < 256
     → is_one (get_or (hint_vector p sk w c) r d) n
-    ≡ make_hint p.gamma2 (minus (λ _. 0) (scaled c (vector_coefficients sk.t0) r) n) (plus (w_minus_cs2 sk.s2 w c r) (scaled c (vector_coefficients sk.t0) r) n)
+    ≡ make_hint p.gamma2 (8380416 * scaled c (vector_coefficients sk.t0) r n % 8380417) (plus (w_minus_cs2 sk.s2 w c r) (scaled c (vector_coefficients sk.t0) r) n)
 unfolding is_one hint_vector
 hint_at p sk w c r n d h below =
-    let b = λ (r n : ℕ). make_hint p.gamma2 (minus (λ _. 0) (scaled c (vector_coefficients sk.t0) r) n) (plus (w_minus_cs2 sk.s2 w c r) (scaled c (vector_coefficients sk.t0) r) n) in
+    let b = λ (r n : ℕ). make_hint p.gamma2 (8380416 * scaled c (vector_coefficients sk.t0) r n % 8380417) (plus (w_minus_cs2 sk.s2 w c r) (scaled c (vector_coefficients sk.t0) r) n) in
     ap (int_lt (pos 0)) (vector_of-at p.k (λ r n. if b r n then pos 1 else pos 0) r n d h below) ∙ hint_bit (b r n)
 
 -- ---- the high bits of w' with the hint
@@ -178,10 +172,10 @@ pub record IsKept (p : ParameterSet) (sk : PrivateParts) (y : List R) (w : ℕ �
   pub scaled_norm : vector_norm (ct0 p sk c) < p.gamma2
   pub few : length (all_ones (hint_vector p sk w c)) ≤ p.omega
 
-gamma2_fits : (g : ℕ) → IsGamma2 g → (0 < g) × (g ≤ 4190208)
+gamma2_fits : (g : ℕ) → IsGamma g → (0 < g) × (g ≤ 4190208)
 gamma2_fits g set = (omega (arith, set), omega (arith, set))
 
-low_place : (p : ParameterSet) (sk : PrivateParts) (w : ℕ → ℕ → ℕ) (c : R) (r n : ℕ) → IsGamma2 p.gamma2 → vector_norm (low_vector p sk w c) < p.gamma2 - p.beta → r < p.k → n < 256
+low_place : (p : ParameterSet) (sk : PrivateParts) (w : ℕ → ℕ → ℕ) (c : R) (r n : ℕ) → IsGamma p.gamma2 → vector_norm (low_vector p sk w c) < p.gamma2 - p.beta → r < p.k → n < 256
     → nat_abs (low_bits p.gamma2 (w_minus_cs2 sk.s2 w c r n)) + p.beta < p.gamma2
 unfolding low_vector
 low_place p sk w c r n set norm h below =
@@ -210,7 +204,7 @@ hinted_is_high p a sk y front c numbers second low made kept =
     let w = matrix_product p.l a (vector_coefficients y) in
     let empty : R = record { 0 = [] } in
     let h = hint_vector p sk w c in
-    let v = w_approx p a (high_part p a sk.s1 sk.s2) (response p sk y c) c in
+    let v = product_difference p.l a (response p sk y c) c (t1_shifted (high_part p a sk.s1 sk.s2)) in
     vector_of-ext p.k (λ r n. pos (use_hint p.gamma2 (is_one (get_or h r empty) n) (v r n))) (λ r n. pos (high_bits p.gamma2 (w r n))) (λ r n inside below.
     let s = scaled c (vector_coefficients sk.s2) r n in
     let t = scaled c (vector_coefficients sk.t0) r n in
@@ -218,6 +212,6 @@ hinted_is_high p a sk y front c numbers second low made kept =
     subst (λ m. Near m (vector_coefficients sk.s2 r j)) (sym numbers.eta) (near_of_vector p.k (eta_of_rows p.k) sk.s2 r j second inside q)) below) in
     ap pos (
     ap (λ b. use_hint p.gamma2 b (v r n)) (hint_at p sk w c r n empty inside below)
-    ∙ ap (use_hint p.gamma2 (make_hint p.gamma2 (minus (λ _. 0) (scaled c (vector_coefficients sk.t0) r) n) (plus (w_minus_cs2 sk.s2 w c r) (scaled c (vector_coefficients sk.t0) r) n))) (w_approx_is p a sk y c r n low inside below)
+    ∙ ap (use_hint p.gamma2 (make_hint p.gamma2 (8380416 * scaled c (vector_coefficients sk.t0) r n % 8380417) (plus (w_minus_cs2 sk.s2 w c r) (scaled c (vector_coefficients sk.t0) r) n))) (w_approx_is p a sk y c r n low inside below)
     ∙ hinted_place p.gamma2 p.beta (w r n) s t numbers.gamma2 (row_below p.l (plain_matrix a r) (vector_coefficients y) n) (product_below (coefficients c.0) (vector_coefficients sk.s2 r) n) small
     (low_place p sk w c r n numbers.gamma2 kept.low_norm inside below) (scaled_place p sk c r n kept.scaled_norm inside below)))

@@ -13,8 +13,10 @@ mod Attempts
 mod Verification
 mod PreHash
 mod RefusedCalls
+mod RefusalLaws
 mod Framing
 mod LongerFronts
 mod Worked
 -- what users may cite
 pub mod Callers
+pub mod Spellings

@@ -200,7 +200,8 @@ module _ (H G H' G' : List ℕ → List ℕ) (first : ArePrefixes H H') (second 
           c_tilde = accepted.c_tilde;
           z = accepted.z;
           h = accepted.h;
-          short = accepted.short;
+          parts = accepted.parts;
+          norm = accepted.norm;
           c = accepted.c;
           challenge = challenge-longer p.tau (H accepted.c_tilde) (H' accepted.c_tilde) accepted.c (first accepted.c_tilde) (enough accepted.c_tilde) accepted.challenge;
           commitment = accepted.commitment ∙ sym (commitment-longer p mu (w1_prime p v.a pk.t1 accepted.z accepted.h accepted.c) t);
@@ -209,11 +210,11 @@ module _ (H G H' G' : List ℕ → List ℕ) (first : ArePrefixes H H') (second 
 
   verifies-shorter : (p : ParameterSet) (pk : PublicParts) (mu signature : List ℕ) → IsTrue (is_parameter_set p) → IsDecided p H G pk signature
       → Verifies p H' G' pk mu signature → Verifies p H G pk mu signature
-  verifies-shorter p pk mu signature t (malformed none) v = absurd (none v.accepted.c_tilde v.accepted.z v.accepted.h v.accepted.short)
+  verifies-shorter p pk mu signature t (malformed none) v = absurd (none v.accepted.c_tilde v.accepted.z v.accepted.h v.accepted.parts v.accepted.norm)
   verifies-shorter p pk mu signature t (sampled a matrix c there) v =
       let accepted = v.accepted in
       let matrices : Some a ≡ Some v.a = sym (sampled_matrix-longer G G' pk.rho p.k p.l a second matrix) ∙ v.matrix in
-      let c_tilde : take (commitment_length p) signature ≡ accepted.c_tilde = signature-first p.gamma1 p.omega p.k p.l (commitment_length p) signature accepted.c_tilde accepted.z accepted.h accepted.short.parts in
+      let c_tilde : take (commitment_length p) signature ≡ accepted.c_tilde = signature-first p.gamma1 p.omega p.k p.l (commitment_length p) signature accepted.c_tilde accepted.z accepted.h accepted.parts in
       let here : challenge p.tau (H accepted.c_tilde) ≡ Some c = ap (λ l. challenge p.tau (H l)) (sym c_tilde) ∙ there in
       let longer = challenge-longer p.tau (H accepted.c_tilde) (H' accepted.c_tilde) c (first accepted.c_tilde) (enough accepted.c_tilde) here in
       let challenges : Some c ≡ Some accepted.c = sym longer ∙ accepted.challenge in
@@ -224,7 +225,8 @@ module _ (H G H' G' : List ℕ → List ℕ) (first : ArePrefixes H H') (second 
           c_tilde = accepted.c_tilde;
           z = accepted.z;
           h = accepted.h;
-          short = accepted.short;
+          parts = accepted.parts;
+          norm = accepted.norm;
           c = accepted.c;
           challenge = here ∙ challenges;
           commitment = accepted.commitment ∙ commitment-longer p mu (w1_prime p v.a pk.t1 accepted.z accepted.h accepted.c) t;

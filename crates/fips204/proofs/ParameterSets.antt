@@ -4,7 +4,7 @@ use Rattle.std.specs.Prelude.{int_le, nat_eq}
 use Rattle.fips204.specs.declared.types.Params.{Params}
 use Rattle.fips204.specs.ParameterSets.{ParameterSet, set_44, set_65, set_87, same_parameters, is_parameter_set, parameter_set, are_parameters, commitment_length}
 use Rattle.fips204.specs.Keys.{eta_of_rows, PrivateParts, IsPrivateKeyOf, ArePrivateParts}
-use Rattle.fips204.specs.SchemeLaws.{IsGamma2}
+use Rattle.fips204_base.proofs.RoundingLaws.{IsGamma}
 use Rattle.fips204.specs.Sets.{set_of}
 use Rattle.std.proofs.lemmas.Int.{ints}
 use Rattle.std.proofs.lemmas.Nat.{mul-le}
@@ -119,7 +119,7 @@ row-set row tau lambda gamma1 gamma2 k l eta beta omega' n = rw (n.tau_is, n.lam
 pub record AreSetNumbers (p : ParameterSet) : Type 0 where
   pub beta : p.tau * p.eta ≡ p.beta
   pub gamma1 : (p.gamma1 ≡ 131072) ⊎ (p.gamma1 ≡ 524288)
-  pub gamma2 : IsGamma2 p.gamma2
+  pub gamma2 : IsGamma p.gamma2
   pub eta : p.eta ≡ eta_of_rows p.k
   pub small : (p.eta ≡ 2) ⊎ (p.eta ≡ 4)
   pub short : commitment_length p ≤ 64

@@ -12,6 +12,7 @@ use Rattle.fips204_base.specs.Transforms.{product}
 use Rattle.fips204_base.specs.Residues.{residue}
 use Rattle.fips204_base.specs.Rounding.{low_bits, make_hint}
 use Rattle.fips204_base.specs.Vectors.{vector_of, IsVector, vector_coefficients}
+use Rattle.fips204_base.proofs.Reductions.{centred_is}
 use Rattle.fips204_base.proofs.Residues.{residue_add, residue_sub, residue_is, residue_below}
 use Rattle.fips204_base.proofs.Rounding.{low_bits_near}
 use Rattle.fips204_base.proofs.Products.{product_below}
@@ -33,23 +34,21 @@ unfolding centred
 centred-same x y e = rw e refl
 
 pub centred-small : (x : ℤ) → nat_abs (centred x) ≤ 4190208
-unfolding centred
 centred-small x =
     let below = residue_below x in
     elim (cases_lt 4190208 (residue x)) [
-      | inl above ↦ rw (lt-leb (residue x) 4190208 above) (omega (arith, ints))
-      | inr least ↦ rw (le-leb (residue x) 4190208 least) (omega arith)
+      | inl above ↦ rw (centred_is x, lt-leb (residue x) 4190208 above) (omega (arith, ints))
+      | inr least ↦ rw (centred_is x, le-leb (residue x) 4190208 least) (omega arith)
     ]
 
 -- a small integer is its own centred value
 pub centred-own : (x : ℤ) → nat_abs x ≤ 4190208 → centred x ≡ x
-unfolding centred
 centred-own x h =
     let below = residue_below x in
     let same = (residue_is x).same in
     elim (cases_lt 4190208 (residue x)) [
-      | inl above ↦ rw (lt-leb (residue x) 4190208 above) (omega (arith, ints, same))
-      | inr least ↦ rw (le-leb (residue x) 4190208 least) (omega (arith, ints, same))
+      | inl above ↦ rw (centred_is x, lt-leb (residue x) 4190208 above) (omega (arith, ints, same))
+      | inr least ↦ rw (centred_is x, le-leb (residue x) 4190208 least) (omega (arith, ints, same))
     ]
 
 pub centred-again : (x : ℤ) → centred (centred x) ≡ centred x
@@ -83,7 +82,12 @@ low_bits-small g x (inr e) = let near = low_bits_near 261888 (residue x) (omega 
 -- MakeHint of -t and x + t, in integers and in residues
 pub hint_bit-is : (g : ℕ) (x t : ℤ) (b : Bool) → b ≡ make_hint g (residue (pos 0 -ℤ t)) (residue (x +ℤ t))
     → (if b then pos 1 else pos 0) ≡ hint_bit g (residue x) (residue t)
-hint_bit-is g x t b e = ap (λ c. if c then pos 1 else pos 0) (e ∙ rw (residue-difference (pos 0) t, residue-sum x t) refl)
+hint_bit-is g x t b e =
+    let turned : residue (pos 0 -ℤ t) ≡ 8380416 * residue t % 8380417 = residue-difference (pos 0) t ∙ nothing (8380416 * residue t) in
+    ap (λ c. if c then pos 1 else pos 0) (e ∙ rw (turned, residue-sum x t) refl)
+  where
+    nothing : (n : ℕ) → (0 + n) % 8380417 ≡ n % 8380417
+    nothing n = omega arith
 
 -- Which attempts are kept, test by test.
 
@@ -210,7 +214,7 @@ bit_range false = (omega (arith, ints), omega (arith, ints))
 
 pub hint-range : (k g : ℕ) (v t : ℕ → ℕ → ℕ) → IsVector k 0 1 (vector_of k (λ r n. hint_bit g (v r n) (t r n)))
 hint-range k g v t = vector_of-range k 0 1 (λ r n. hint_bit g (v r n) (t r n)) (λ r n h l.
-    bit_range (make_hint g ((0 + 8380416 * t r n) % 8380417) ((v r n + t r n) % 8380417)))
+    bit_range (make_hint g (8380416 * t r n % 8380417) ((v r n + t r n) % 8380417)))
 
 -- how long a signature is
 pub signature_size : (p : Params) (k l n size : ℕ) → (p.gamma1 ≡ pos 131072) ⊎ (p.gamma1 ≡ pos 524288) → k ≡ p.k → l ≡ p.l → n ≡ commitment_length (set_of p) → size ≡ signature_length (set_of p)

@@ -17,9 +17,7 @@ use Rattle.fips204.proofs.WholeKeys.{generated_pair, accepts_signed}
 pub signed_is_accepted : SignedIsAccepted
 signed_is_accepted p H G pk sk row law = (
   accepts_signed p H G pk sk row law,
-  λ xi made.
-      let pair = generated_pair p H G xi pk sk row law (some_of_ok (key_generation p H G xi) (pk, sk) (sym made)) in
-      (pair, accepts_signed p H G pk sk row law pair.parts pair.whole pair.derives),
+  λ xi made. generated_pair p H G xi pk sk row law (some_of_ok (key_generation p H G xi) (pk, sk) (sym made)),
 )
 
 -- what signing a message gives for both keys of a seed is accepted

@@ -24,7 +24,8 @@ use Rattle.fips204_base.proofs.Products.{product_same}
 use Rattle.fips204_base.proofs.Residues.{congruent_of, congruent_refl, residue_below}
 use Rattle.fips204_base.proofs.Vectors.{vector_of-ext, vector_of-range, vector-within}
 use Rattle.fips204_base.proofs.EncodedParts.{same_signature}
-use Rattle.fips204.specs.Acceptance.{t1_shifted, w_approx, hinted, w1_prime, HasShortParts, Accepts, Verifies}
+use Rattle.fips204.specs.Acceptance.{t1_shifted, hinted, w1_prime, Accepts, Verifies}
+use Rattle.fips204.specs.SigningInputs.{HasShortParts}
 use Rattle.fips204.specs.Signing.{commitment}
 use Rattle.fips204.specs.Keys.{PublicParts}
 use Rattle.fips204.specs.declared.types.Params.{Params}
@@ -49,7 +50,7 @@ use_hint-below g r true set below = elim (cases_Bool (int_lt (pos 0) (low_bits g
 
 -- w' is A z less c t1 2^13, where the coefficients of u are those of t1 2^13
 pub w_approx-is : (p : ParameterSet) (a : List (List T)) (t1 z u w : List R) (c : R) (l r n : ℕ) → l ≡ p.l → ((j : ℕ) → j < 256 → vector_coefficients u r j ≡ t1_shifted t1 r j) → n < 256
-    → entry w r n ≡ pos (minus (matrix_product l a (vector_coefficients z) r) (product (coefficients c.0) (vector_coefficients u r)) n) → vector_coefficients w r n ≡ w_approx p a t1 z c r n
+    → entry w r n ≡ pos (minus (matrix_product l a (vector_coefficients z) r) (product (coefficients c.0) (vector_coefficients u r)) n) → vector_coefficients w r n ≡ product_difference p.l a z c (t1_shifted t1) r n
 w_approx-is p a t1 z u w c l r n columns shifted below e =
     let challenge = coefficients c.0 in
     let same = product_same challenge (vector_coefficients u r) challenge (t1_shifted t1 r) (λ j q. congruent_refl (challenge j)) (λ j q. congruent_of (shifted j q)) n below in
@@ -74,7 +75,7 @@ hint-bit k h r n is l m =
 
 -- UseHint of h and w' is w1'
 pub w1_prime-is : (p : ParameterSet) (a : List (List T)) (t1 z h w : List R) (c : R) (k : ℕ) → k ≡ p.k
-    → ((r n : ℕ) → r < k → n < 256 → vector_coefficients w r n ≡ w_approx p a t1 z c r n) → hinted p h (vector_coefficients w) ≡ w1_prime p a t1 z h c
+    → ((r n : ℕ) → r < k → n < 256 → vector_coefficients w r n ≡ product_difference p.l a z c (t1_shifted t1) r n) → hinted p h (vector_coefficients w) ≡ w1_prime p a t1 z h c
 unfolding w1_prime
 w1_prime-is p a t1 z h w c k rows approx =
     vector_of-ext p.k _ _ (λ r n l m. ap (λ x. pos (use_hint p.gamma2 (is_one (get_or h r record { 0 = [] }) n) x)) (approx r n (rw rows l) m))
@@ -124,7 +125,8 @@ accepts-in p H a t1 mu sig c_tilde z h parts x = record {
   c_tilde = c_tilde;
   z = z;
   h = h;
-  short = parts;
+  parts = parts.parts;
+  norm = parts.norm;
   c = x.0;
   challenge = x.1;
   commitment = x.2;
@@ -140,7 +142,7 @@ same_norm p sig c_tilde c_tilde' z z' h h' low high parts v =
 pub accepts-out : (p : ParameterSet) (H : List ℕ → List ℕ) (a : List (List T)) (t1 : List R) (mu sig c_tilde : List ℕ) (z h : List R) → 1 ≤ p.gamma1 → p.gamma1 ≤ 1048575
     → HasShortParts p sig c_tilde z h → Accepts p H a t1 mu sig → Gives p H a t1 mu c_tilde z h
 accepts-out p H a t1 mu sig c_tilde z h low high parts v =
-    let same = same_signature p.gamma1 p.omega p.k p.l (commitment_length p) sig v.c_tilde c_tilde v.z z v.h h low high v.short.parts parts.parts in
+    let same = same_signature p.gamma1 p.omega p.k p.l (commitment_length p) sig v.c_tilde c_tilde v.z z v.h h low high v.parts parts.parts in
     let ball = subst (λ (x : List ℕ). challenge p.tau (H x) ≡ Some v.c) same.0 v.challenge in
     let value = sym same.0 ∙ v.commitment ∙ ap (λ (z : List R). commitment p H mu (w1_prime p a t1 z v.h v.c)) same.1 ∙ ap (λ (h : List R). commitment p H mu (w1_prime p a t1 z h v.c)) same.2 in
     (v.c, ball, value)
@@ -158,7 +160,7 @@ accepts-by_parts p H a t1 mu sig c_tilde z h answer known parts both =
 pub commitment-decides : (p : Params) (H : List ℕ → List ℕ) (a : List (List T)) (t1 : List R) (mu sig c_tilde : List ℕ) (z h : List R) (c : R) (u w : List R) (k l : ℕ) (answer : Bool) → IsKnown p → k ≡ p.k → l ≡ p.l
     → HasShortParts (set_of p) sig c_tilde z h → challenge (nat_abs p.tau) (H c_tilde) ≡ Some c
     → ((r n : ℕ) → r < k → n < 256 → vector_coefficients u r n ≡ t1_shifted t1 r n)
-    → ((r n : ℕ) → r < k → n < 256 → entry w r n ≡ pos (product_difference l a z c u r n))
+    → ((r n : ℕ) → r < k → n < 256 → entry w r n ≡ pos (product_difference l a z c (vector_coefficients u) r n))
     → (IsTrue answer ↔ (c_tilde ≡ commitment (set_of p) H mu (hinted (set_of p) h (vector_coefficients w)))) → IsTrue answer ↔ Accepts (set_of p) H a t1 mu sig
 commitment-decides p H a t1 mu sig c_tilde z h c u w k l answer known rows columns parts ball shifted values verdict =
     let w1 = w1_prime-is (set_of p) a t1 z h w c k rows (λ r n i m. w_approx-is (set_of p) a t1 z u w c l r n columns (λ j q. shifted r j i q) m (values r n i m)) in

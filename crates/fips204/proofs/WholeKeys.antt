@@ -82,6 +82,30 @@ pub public_key_of_whole : (p : ParameterSet) (G : List ℕ → List ℕ) (sk : P
 unfolding public_key_of
 public_key_of_whole p G sk whole = ap (option_map (λ a. let pk : PublicParts = record { rho = sk.rho; tr = sk.tr; t1 = high_part p a sk.s1 sk.s2 } in pk)) whole.sampled
 
+-- ---- what a whole private key signs is accepted
+
+-- the public key of a private key has its tr
+pub derived_hash : (p : ParameterSet) (G : List ℕ → List ℕ) (sk : PrivateParts) (pk : PublicParts) → derived p G sk ≡ Ok pk → sk.tr ≡ pk.tr
+unfolding public_key_of
+derived_hash p G sk pk e = of_matrix (sampled_matrix G sk.rho p.k p.l) (some_of_ok (public_key_of p G sk) pk (sym e))
+  where
+    of_matrix : (a : Option (List (List T))) → option_map (λ m. let key : PublicParts = record { rho = sk.rho; tr = sk.tr; t1 = high_part p m sk.s1 sk.s2 } in key) a ≡ Some pk → sk.tr ≡ pk.tr
+    of_matrix None none = absurd (none-some pk none)
+    of_matrix (Some a) s = ap (λ (k : PublicParts). k.tr) (same_some _ pk s)
+
+pub accepts_signed : (p : ParameterSet) (H G : List ℕ → List ℕ) (pk : PublicParts) (sk : PrivateParts) → IsTrue (is_parameter_set p) → ((x : List ℕ) → 4096 ≤ length (H x))
+    → ArePrivateParts p.k p.l sk → IsWhole p G sk → derived p G sk ≡ Ok pk → AcceptsSigned p H G pk sk
+accepts_signed p H G pk sk row law parts whole derives =
+    let own : PublicParts = record { rho = sk.rho; tr = sk.tr; t1 = high_part p whole.matrix sk.s1 sk.s2 } in
+    let same : own ≡ pk = same_some own pk (sym (public_key_of_whole p G sk whole) ∙ some_of_ok (public_key_of p G sk) pk (sym derives)) in
+    let accepts = λ (mu rnd signature : List ℕ) (made : sign p H G sk mu rnd ≡ Ok signature).
+    subst (λ (k : PublicParts). Verifies p H G k mu signature) same (completeness p H G sk mu rnd signature row parts whole law made) in
+    record {
+      hashes = accepts;
+      inputs = λ rnd signature input made.
+          signed_input H sk.tr pk.tr input (λ mu. sign p H G sk mu rnd) (λ mu. Verifies p H G pk mu signature) signature (derived_hash p G sk pk derives) (λ mu. accepts mu rnd signature) made;
+    }
+
 -- ---- key generation
 
 small : (p : ParameterSet) (H : List ℕ → List ℕ) (rho : List ℕ) (first count : ℕ) (v : List R) → AreSetNumbers p → small_vector p.eta H rho first count ≡ Some v → IsVector count (eta_of_rows p.k) (eta_of_rows p.k) v
@@ -89,7 +113,7 @@ small p H rho first count v numbers e = subst (λ m. IsVector count m m v) numbe
 
 pair_of_parts : (p : ParameterSet) (H G : List ℕ → List ℕ) (rho key : List ℕ) (a : List (List T)) (s1 s2 : List R) → IsTrue (is_parameter_set p) → ((x : List ℕ) → 4096 ≤ length (H x))
     → length rho ≡ 32 → length key ≡ 32 → sampled_matrix G rho p.k p.l ≡ Some a → IsVector p.l (eta_of_rows p.k) (eta_of_rows p.k) s1 → IsVector p.k (eta_of_rows p.k) (eta_of_rows p.k) s2
-    → IsPair p H G (key_pair p H rho key a s1 s2).0 (key_pair p H rho key a s1 s2).1
+    → IsPair p H G (key_pair p H rho key a s1 s2).0 (key_pair p H rho key a s1 s2).1 × AcceptsSigned p H G (key_pair p H rho key a s1 s2).0 (key_pair p H rho key a s1 s2).1
 unfolding key_pair
 pair_of_parts p H G rho key a s1 s2 row law m n there first second =
     let t1 = high_part p a s1 s2 in
@@ -103,16 +127,18 @@ pair_of_parts p H G rho key a s1 s2 row law m n there first second =
     let pk : PublicParts = record { rho = rho; tr = tr; t1 = t1 } in
     let encoded : IsPublicKeyOf H p.k (public_key_bytes rho t1) pk = record { seed = m; high = high; same_bytes = refl; hash = refl } in
     let own = has_its_bytes p sk bytes row parts refl in
-    record {
+    let derives : derived p G sk ≡ Ok pk = ap (λ (o : Option PublicParts). ok_or o SamplingLimit) (public_key_of_whole p G sk whole) in
+    let pair : IsPair p H G pk sk = record {
       parts = parts;
       whole = whole;
-      derives = ap (λ (o : Option PublicParts). ok_or o SamplingLimit) (public_key_of_whole p G sk whole);
+      derives = derives;
       public_decoded = λ other. (
         λ d. one_public_key p.k other pk d.seed m d.high high d.hash d.same_bytes,
         λ e. subst (λ (k : PublicParts). IsPublicKeyOf H p.k (public_key_bytes rho t1) k) (sym e) encoded,
       );
       private_decoded = λ other. (λ d. one_private_key p bytes other sk row d own, λ e. subst (λ (k : PrivateParts). IsPrivateKeyOf p.eta p.k p.l bytes k) (sym e) own);
-    }
+    } in
+    (pair, accepts_signed p H G pk sk row law parts whole derives)
 
 -- what a pair that is there was made of
 record WasMade (p : ParameterSet) (H : List ℕ → List ℕ) (rho key : List ℕ) (a : Option (List (List T))) (s1 s2 : Option (List R)) (pk : PublicParts) (sk : PrivateParts) : Type 0 where
@@ -140,9 +166,9 @@ made_of p H rho key (Some a) (Some s1) (Some s2) pk sk e = record {
   made = same_some (key_pair p H rho key a s1 s2) (pk, sk) e;
 }
 
--- the keys of a seed are a pair
+-- the keys of a seed are a pair, and the public one accepts what the private one signs
 pub generated_pair : (p : ParameterSet) (H G : List ℕ → List ℕ) (xi : List ℕ) (pk : PublicParts) (sk : PrivateParts) → IsTrue (is_parameter_set p) → ((x : List ℕ) → 4096 ≤ length (H x))
-    → key_generation p H G xi ≡ Some (pk, sk) → IsPair p H G pk sk
+    → key_generation p H G xi ≡ Some (pk, sk) → IsPair p H G pk sk × AcceptsSigned p H G pk sk
 unfolding key_generation
 generated_pair p H G xi pk sk row law e =
     let numbers = set_numbers p row in
@@ -153,30 +179,6 @@ generated_pair p H G xi pk sk row law e =
     let was = made_of p H rho key (sampled_matrix G rho p.k p.l) (small_vector p.eta H rho' 0 p.l) (small_vector p.eta H rho' p.l p.k) pk sk e in
     let long : 4096 ≤ length all = law _ in
     let rest : length (drop 96 all) ≡ length all - 96 = length-drop 96 all in
-    subst (λ (pair : PublicParts × PrivateParts). IsPair p H G pair.0 pair.1) was.made
+    subst (λ (pair : PublicParts × PrivateParts). IsPair p H G pair.0 pair.1 × AcceptsSigned p H G pair.0 pair.1) was.made
     (pair_of_parts p H G rho key was.matrix was.first was.second row law (length-take-le 32 all (omega (arith, long))) (length-take-le 32 (drop 96 all) (omega (arith, long, rest)))
     was.has_matrix (small p H rho' 0 p.l was.first numbers was.has_first) (small p H rho' p.l p.k was.second numbers was.has_second))
-
--- ---- what a whole private key signs is accepted
-
--- the public key of a private key has its tr
-pub derived_hash : (p : ParameterSet) (G : List ℕ → List ℕ) (sk : PrivateParts) (pk : PublicParts) → derived p G sk ≡ Ok pk → sk.tr ≡ pk.tr
-unfolding public_key_of
-derived_hash p G sk pk e = of_matrix (sampled_matrix G sk.rho p.k p.l) (some_of_ok (public_key_of p G sk) pk (sym e))
-  where
-    of_matrix : (a : Option (List (List T))) → option_map (λ m. let key : PublicParts = record { rho = sk.rho; tr = sk.tr; t1 = high_part p m sk.s1 sk.s2 } in key) a ≡ Some pk → sk.tr ≡ pk.tr
-    of_matrix None none = absurd (none-some pk none)
-    of_matrix (Some a) s = ap (λ (k : PublicParts). k.tr) (same_some _ pk s)
-
-pub accepts_signed : (p : ParameterSet) (H G : List ℕ → List ℕ) (pk : PublicParts) (sk : PrivateParts) → IsTrue (is_parameter_set p) → ((x : List ℕ) → 4096 ≤ length (H x))
-    → ArePrivateParts p.k p.l sk → IsWhole p G sk → derived p G sk ≡ Ok pk → AcceptsSigned p H G pk sk
-accepts_signed p H G pk sk row law parts whole derives =
-    let own : PublicParts = record { rho = sk.rho; tr = sk.tr; t1 = high_part p whole.matrix sk.s1 sk.s2 } in
-    let same : own ≡ pk = same_some own pk (sym (public_key_of_whole p G sk whole) ∙ some_of_ok (public_key_of p G sk) pk (sym derives)) in
-    let accepts = λ (mu rnd signature : List ℕ) (made : sign p H G sk mu rnd ≡ Ok signature).
-    subst (λ (k : PublicParts). Verifies p H G k mu signature) same (completeness p H G sk mu rnd signature row parts whole law made) in
-    record {
-      hashes = accepts;
-      inputs = λ rnd signature input made.
-          signed_input H sk.tr pk.tr input (λ mu. sign p H G sk mu rnd) (λ mu. Verifies p H G pk mu signature) signature (derived_hash p G sk pk derives) (λ mu. accepts mu rnd signature) made;
-    }

@@ -1,14 +1,23 @@
--- Worked values of the parameter sets, of the order of attempts, and of framing.
-use Rattle.std.proofs.Common.{◌≡◌, ◌*◌, List, [], ◌∷◌, Ok, Err, refl, true, false, map, length, Some, None}
+-- Worked values of the parameter sets, of the order of attempts, of framing, and of the hashes, seeds and hints of whole calls.
+use Rattle.std.proofs.Common.{◌≡◌, ◌*◌, ℕ, ℤ, List, [], ◌∷◌, ◌++◌, Ok, Err, refl, true, false, map, length, take, Some, None, pos, negsuc, if◌then◌else◌}
 use Rattle.fips204_base.specs.declared.fault.Fault.TheVariants.{TooManyAttempts, SamplingLimit, SignCtx, HashCtx, OidEmpty, OidNotDer, DigestTooLong, DigestLength}
-use Rattle.fips204_base.specs.Packing.{bit_length}
+use Rattle.fips204_base.specs.Encodings.{is_one}
+use Rattle.fips204_base.specs.Sampling.{triple, kept_triples, matrix_entry, sampled_matrix}
+use Rattle.fips204_base.specs.Packing.{bit_length, packed, bits_to_bytes, bits, integer_to_bits, bits_to_integer, field}
+use Rattle.fips204_base.specs.Rounding.{decompose, use_hint}
+use Rattle.fips204_base.specs.Sampling.{first_256, all_present}
+use Rattle.fips204_base.specs.Sampling.{kept_half_bytes, small_polynomial, small_vector}
+use Rattle.fips204_base.specs.Vectors.{polynomial_of, vector_of}
+use Rattle.fips204.specs.Keys.{PrivateParts}
+use Rattle.fips204.specs.Keys.{seeds, key_pair, key_pair_if_all, key_generation}
+use Rattle.fips204.specs.Acceptance.{t1_shifted, hinted}
 use Rattle.fips204.specs.ParameterSets.{ParameterSet, set_44, set_65, set_87, is_parameter_set, public_key_length, private_key_length, signature_length}
-use Rattle.fips204.specs.Signing.{first_answer}
-use Rattle.fips204.specs.Signing.{limit, rejected, signed}
-use Rattle.std.specs.Prelude.{replicate}
-use Rattle.std.specs.List.{range_with_len}
+use Rattle.fips204.specs.Signing.{first_answer, mask_seed}
+use Rattle.fips204.specs.Signing.{limit, rejected, signed, commitment, hint_bit}
+use Rattle.std.specs.Prelude.{replicate, nat_eq, get_or, option_map}
+use Rattle.std.specs.List.{range_with_len, flat_map}
 use Rattle.fips204.specs.declared.types.pre_hash.TheConstants.{SHA2_224, SHA2_256, SHA2_384, SHA2_512, SHA2_512_224, SHA2_512_256, SHA3_224, SHA3_256, SHA3_384, SHA3_512, SHAKE_128, SHAKE_256}
-use Rattle.fips204.specs.Framing.{framed, framed_digest}
+use Rattle.fips204.specs.Framing.{framed, framed_digest, message_hash}
 use Rattle.fips204.specs.Framing.{hash_oid, hashes, digest_length, pre_hash_fault}
 use Rattle.fips204.specs.Refusals.{message_fault, digest_fault}
 
@@ -107,3 +116,72 @@ digests_of_others = refl
 long_contexts : (message_fault (replicate 255 0) ∷ message_fault (replicate 256 0) ∷ digest_fault [] (replicate 255 0) [] ∷ digest_fault [] (replicate 256 0) [] ∷ []) ≡ None ∷ Some SignCtx ∷ Some OidEmpty ∷ Some HashCtx ∷ []
 unfolding pre_hash_fault
 long_contexts = refl
+
+-- Worked values of key generation, of signing's hashes and hints, and of acceptance.
+
+-- the seed is followed by a byte of the rows and one of the columns
+seeds_of_sets : (seeds set_44 (λ x. x) (9 ∷ []) ≡ 9 ∷ 4 ∷ 4 ∷ []) × (seeds set_65 (λ x. x) (9 ∷ []) ≡ 9 ∷ 6 ∷ 5 ∷ []) × (seeds set_87 (λ x. x) (9 ∷ []) ≡ 9 ∷ 8 ∷ 7 ∷ [])
+seeds_of_sets = (refl, refl, refl)
+
+-- a stream whose front over the 34 bytes of the seeds is 0, 1, .. to 127, and over any other input its bytes 0 and 64 in turn: over rho'
+-- and a number those are the first byte of rho' and the low byte of the number
+numbered : List ℕ → List ℕ
+numbered input = if nat_eq (length input) 34 then range_with_len 0 128 else flat_map (λ _. get_or input 0 0 ∷ get_or input 64 0 ∷ []) (range_with_len 0 256)
+
+-- rho is bytes 0 to 31 of the seeds, and K bytes 96 to 127
+seeds_of_keys : option_map {U = List ℕ × List ℕ × List ℕ} (λ pair. (pair.0.rho, pair.1.rho, pair.1.key)) (key_generation set_44 numbered (λ _. replicate 1024 0) (replicate 32 9))
+    ≡ Some (range_with_len 0 32, range_with_len 0 32, range_with_len 96 32)
+unfolding numbered key_generation key_pair_if_all key_pair sampled_matrix all_present matrix_entry kept_triples triple first_256 small_vector small_polynomial kept_half_bytes
+seeds_of_keys = refl
+
+-- rho' is bytes 32 to 95, so its first byte 32 has the half bytes 0 and 2, which are the coefficients 2 and 0; then stand the numbers 0 to 3 of s1,
+-- which are the coefficients 2 to -1, and 4 to 7 of s2, which are -2 and 2 to 0
+seeds_of_vectors : option_map {U = List (List ℤ) × List (List ℤ)} (λ pair. (map (λ w. take 3 w.0) pair.1.s1, map (λ w. take 3 w.0) pair.1.s2)) (key_generation set_44 numbered (λ _. replicate 1024 0) (replicate 32 9))
+    ≡ Some (map (λ x. pos 2 ∷ pos 0 ∷ x ∷ []) (pos 2 ∷ pos 1 ∷ pos 0 ∷ negsuc 0 ∷ []), map (λ x. pos 2 ∷ pos 0 ∷ x ∷ []) (negsuc 1 ∷ pos 2 ∷ pos 1 ∷ pos 0 ∷ []))
+unfolding numbered key_generation key_pair_if_all key_pair sampled_matrix all_present matrix_entry kept_triples triple first_256 small_vector small_polynomial kept_half_bytes
+seeds_of_vectors = refl
+
+-- mu hashes tr before the framed message, and keeps 64 bytes
+hash_of_message : (message_hash (λ x. x) (1 ∷ 2 ∷ []) (3 ∷ []) ≡ 1 ∷ 2 ∷ 3 ∷ []) × (message_hash (λ x. x) (range_with_len 0 60) (range_with_len 60 9) ≡ range_with_len 0 64)
+hash_of_message = (refl, refl)
+
+-- the seed of the masks hashes K, then the random bytes, then mu, and keeps 64 bytes
+seed_of_masks : (sk : PrivateParts) → (mask_seed (λ x. x) record sk { key = 1 ∷ [] } (2 ∷ []) (3 ∷ []) ≡ 1 ∷ 2 ∷ 3 ∷ [])
+    × (mask_seed (λ x. x) record sk { key = range_with_len 0 32 } (range_with_len 32 32) (replicate 64 9) ≡ range_with_len 0 64)
+seed_of_masks sk = (refl, refl)
+
+-- c_tilde hashes mu before the bytes of w1, and keeps 32, 48 or 64 bytes: four fields of six bits that are 43 are three bytes, and two
+-- of four bits that are 10 are one
+commitments : (commitment set_44 (λ x. x) (7 ∷ []) (record { 0 = replicate 256 (pos 43) } ∷ []) ≡ 7 ∷ flat_map (λ _. 0xEB ∷ 0xBA ∷ 0xAE ∷ []) (range_with_len 0 10) ++ 0xEB ∷ [])
+    × (commitment set_65 (λ x. x) (7 ∷ []) (record { 0 = replicate 256 (pos 10) } ∷ []) ≡ 7 ∷ replicate 47 0xAA)
+    × (commitment set_87 (λ x. x) (7 ∷ []) (record { 0 = replicate 256 (pos 10) } ∷ []) ≡ 7 ∷ replicate 63 0xAA)
+unfolding commitment packed bits_to_bytes bits integer_to_bits bits_to_integer field bit_length
+commitments = (refl, refl, refl)
+
+-- a hint tells whether v and v + t have other high bits: from gamma2 to one more, and back by -1; not from one less, from one more, or
+-- where t is 0; at the last multiple of 2 gamma2 the bits go back to 0, which q - 1 has too
+hint_bits_44 : map (λ (x : ℕ × ℕ). hint_bit 95232 x.0 x.1) ((95232, 1) ∷ (95233, 8380416) ∷ (8285184, 1) ∷ (95231, 1) ∷ (95233, 1) ∷ (95232, 0) ∷ (8380416, 1) ∷ (0, 8380416) ∷ [])
+    ≡ pos 1 ∷ pos 1 ∷ pos 1 ∷ pos 0 ∷ pos 0 ∷ pos 0 ∷ pos 0 ∷ pos 0 ∷ []
+unfolding decompose
+hint_bits_44 = refl
+
+hint_bits_65_87 : map (λ (x : ℕ × ℕ). hint_bit 261888 x.0 x.1) ((261888, 1) ∷ (261889, 8380416) ∷ (8118528, 1) ∷ (261887, 1) ∷ (261889, 1) ∷ (261888, 0) ∷ (8380416, 1) ∷ (0, 8380416) ∷ [])
+    ≡ pos 1 ∷ pos 1 ∷ pos 1 ∷ pos 0 ∷ pos 0 ∷ pos 0 ∷ pos 0 ∷ pos 0 ∷ []
+unfolding decompose
+hint_bits_65_87 = refl
+
+-- 1023 2^13 is q - 1
+shifted_high_part : (t1_shifted (record { 0 = pos 3 ∷ [] } ∷ record { 0 = pos 1 ∷ pos 1023 ∷ [] } ∷ []) 1 0 ≡ 8192)
+    × (t1_shifted (record { 0 = pos 3 ∷ [] } ∷ record { 0 = pos 1 ∷ pos 1023 ∷ [] } ∷ []) 1 1 ≡ 8380416)
+shifted_high_part = (refl, refl)
+
+-- a one at place 2 of polynomial 1: there a w of 0 goes down past 0 to 43, and one of 1 up to 1; elsewhere high bits are 0
+hint_at_one_place : map (λ w. take 4 w.0) (hinted set_44 (polynomial_of (λ _. pos 0) ∷ polynomial_of (λ n. if nat_eq n 2 then pos 1 else pos 0) ∷ []) (λ r n. 0))
+    ≡ replicate 4 (pos 0) ∷ (pos 0 ∷ pos 0 ∷ pos 43 ∷ pos 0 ∷ []) ∷ replicate 4 (pos 0) ∷ replicate 4 (pos 0) ∷ []
+unfolding vector_of polynomial_of is_one use_hint decompose
+hint_at_one_place = refl
+
+hint_above_zero : map (λ w. take 4 w.0) (hinted set_44 (polynomial_of (λ _. pos 0) ∷ polynomial_of (λ n. if nat_eq n 2 then pos 1 else pos 0) ∷ []) (λ r n. 1))
+    ≡ replicate 4 (pos 0) ∷ (pos 0 ∷ pos 0 ∷ pos 1 ∷ pos 0 ∷ []) ∷ replicate 4 (pos 0) ∷ replicate 4 (pos 0) ∷ []
+unfolding vector_of polynomial_of is_one use_hint decompose
+hint_above_zero = refl

@@ -3,8 +3,7 @@ use Rattle.std.specs.Prelude.{◌≡◌, ◌<◌, ℕ, ◌-◌, ◌*◌, ◌%◌
 use Rattle.fips204_base.specs.declared.types.R.{R}
 use Rattle.fips204_base.specs.declared.types.T.{T}
 use Rattle.fips204_base.specs.Residues.{vector_norm}
-use Rattle.fips204_base.specs.Transforms.{minus}
-use Rattle.fips204_base.specs.Vectors.{vector_coefficients, matrix_product, vector_of}
+use Rattle.fips204_base.specs.Vectors.{vector_coefficients, product_difference, vector_of}
 use Rattle.fips204_base.specs.Rounding.{use_hint}
 use Rattle.fips204_base.specs.Encodings.{is_one}
 use Rattle.fips204_base.specs.Encodings.{IsSignature}
@@ -12,36 +11,28 @@ use Rattle.fips204_base.specs.Sampling.{sampled_matrix}
 use Rattle.fips204_base.specs.Sampling.{challenge}
 use Rattle.fips204.specs.ParameterSets.{ParameterSet, commitment_length}
 use Rattle.fips204.specs.Keys.{PublicParts}
-use Rattle.fips204.specs.Signing.{commitment, scaled}
+use Rattle.fips204.specs.Signing.{commitment}
 
 -- t1 2^13
 abbrev pub t1_shifted : List R → ℕ → ℕ → ℕ
 t1_shifted t1 r n = 8192 * vector_coefficients t1 r n % 8380417
 
--- w' = A z - c t1 2^13
-abbrev pub w_approx : ParameterSet → List (List T) → List R → List R → R → ℕ → ℕ → ℕ
-w_approx p a t1 z c r = minus (matrix_product p.l a (vector_coefficients z) r) (scaled c (t1_shifted t1) r)
-
 -- UseHint(h, w), coefficient by coefficient
 abbrev pub hinted : ParameterSet → List R → (ℕ → ℕ → ℕ) → List R
 hinted p h w = vector_of p.k (λ r n. pos (use_hint p.gamma2 (is_one (slice_index_or h r record { 0 = [] }) n) (w r n)))
 
--- w1' = UseHint(h, w')
+-- w1' = UseHint(h, w'), where w' = A z - c t1 2^13
 unfoldable pub w1_prime : ParameterSet → List (List T) → List R → List R → List R → R → List R
-w1_prime p a t1 z h c = hinted p h (w_approx p a t1 z c)
+w1_prime p a t1 z h c = hinted p h (product_difference p.l a z c (t1_shifted t1))
 
--- the signature has these parts, so that its last bytes spell the hint h, and the norm of z is small
-pub record HasShortParts (p : ParameterSet) (signature c_tilde : List ℕ) (z h : List R) : Type 0 where
-  pub parts : IsSignature p.gamma1 p.omega p.k p.l (commitment_length p) signature c_tilde z h
-  pub norm : vector_norm z < p.gamma1 - p.beta
-
--- ML-DSA.Verify_internal (Algorithm 8) from mu, with the matrix a: the signature has such parts, there is a challenge, and
--- c_tilde is the one that w1' gives
+-- ML-DSA.Verify_internal (Algorithm 8) from mu, with the matrix a: the signature has parts, the norm of z is small, there is a
+-- challenge, and c_tilde is the one that w1' gives
 pub record Accepts (p : ParameterSet) (H : List ℕ → List ℕ) (a : List (List T)) (t1 : List R) (mu signature : List ℕ) : Type 0 where
   pub c_tilde : List ℕ
   pub z : List R
   pub h : List R
-  pub short : HasShortParts p signature c_tilde z h
+  pub parts : IsSignature p.gamma1 p.omega p.k p.l (commitment_length p) signature c_tilde z h
+  pub norm : vector_norm z < p.gamma1 - p.beta
   pub c : R
   pub challenge : challenge p.tau (H c_tilde) ≡ Some c
   pub commitment : c_tilde ≡ commitment p H mu (w1_prime p a t1 z h c)

@@ -3,8 +3,6 @@ use Rattle.std.specs.Prelude.{ℕ, List, ◌∷◌, ◌++◌, length, take, ◌+
 use Rattle.fips204_base.specs.declared.fault.Fault.{Fault}
 use Rattle.fips204_base.specs.declared.fault.Fault.TheVariants.{OidEmpty, OidNotDer, DigestTooLong, DigestLength}
 
--- ---- Framing, and the hash of a framed message (Algorithms 2 to 5, 7 and 8)
-
 -- what is signed under a context: a message, or the OID of a hash with a digest
 pub data Input : Type 0 where
   plain : (message context : List ℕ) → Input
@@ -18,7 +16,6 @@ framed message context = 0 ∷ length context ∷ context ++ message
 abbrev pub framed_digest : List ℕ → List ℕ → List ℕ → List ℕ
 framed_digest digest context oid = 1 ∷ length context ∷ context ++ oid ++ digest
 
--- M' of an input
 abbrev pub framed_input : Input → List ℕ
 framed_input (plain message context) = framed message context
 framed_input (hashed digest context oid) = framed_digest digest context oid
@@ -26,8 +23,6 @@ framed_input (hashed digest context oid) = framed_digest digest context oid
 -- mu, the first 64 bytes of H over tr and M'
 abbrev pub message_hash : (List ℕ → List ℕ) → List ℕ → List ℕ → List ℕ
 message_hash H tr m = take 64 (H (tr ++ m))
-
--- ---- Conditions on the OID of a hash and on its digest (section 5.4)
 
 -- the OID 2.16.840.1.101.3.4.2.n in DER
 abbrev pub hash_oid : ℕ → List ℕ

@@ -11,15 +11,12 @@ use Rattle.fips204_base.specs.declared.types.R.{R}
 use Rattle.fips204_base.specs.declared.types.T.{T}
 use Rattle.fips204.specs.ParameterSets.{ParameterSet}
 
--- ---- Keys as parts, with lengths, ranges and bytes (sections 3.3 and 7.2)
-
 -- a public key: the seed of its matrix, the hash of its bytes, and the high part of its vector t
 pub record PublicParts : Type 0 where
   pub rho : List ℕ
   pub tr : List ℕ
   pub t1 : List R
 
--- k polynomials with coefficients from 0 to 1023
 abbrev pub IsHighPart : ℕ → List R → Type 0
 IsHighPart k t1 = IsVector k 0 1023 t1
 

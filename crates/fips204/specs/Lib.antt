@@ -10,6 +10,7 @@ pub mod Refusals
 pub mod Prepared
 pub mod SchemeLaws
 pub mod Completeness
+pub mod RefusalLaws
 pub mod LongerFronts
 pub use Rattle.fips204_base.specs.FrontLengths
 pub use Rattle.fips204_base.specs.Residues

@@ -1,9 +1,11 @@
 -- What stays where the fronts of two streams are prefixes of longer ones.
-use Rattle.std.specs.Prelude.{◌≡◌, ◌≢◌, ◌≤◌, ◌⊎◌, ◌↔◌, ℕ, List, take, Some, None, IsTrue, Result, Err}
+use Rattle.std.specs.Prelude.{◌≡◌, ◌≢◌, ◌<◌, ◌≤◌, ◌-◌, ◌⊎◌, ◌↔◌, ℕ, List, take, Some, None, IsTrue, Result, Err}
 use Rattle.fips204_base.specs.declared.fault.Fault.{Fault}
 use Rattle.fips204_base.specs.declared.fault.Fault.TheVariants.{SamplingLimit}
 use Rattle.fips204_base.specs.declared.types.R.{R}
 use Rattle.fips204_base.specs.declared.types.T.{T}
+use Rattle.fips204_base.specs.Encodings.{IsSignature}
+use Rattle.fips204_base.specs.Residues.{vector_norm}
 use Rattle.fips204_base.specs.Streams.{counter_blocks, sha256_front, sha256_long_front, sha512_front, sha512_long_front, IsPrefix, ArePrefixes}
 use Rattle.fips204_base.specs.Sampling.{matrix_entry, sampled_matrix}
 use Rattle.fips204_base.specs.Sampling.{small_polynomial}
@@ -12,7 +14,7 @@ use Rattle.fips204.specs.ParameterSets.{ParameterSet, is_parameter_set, commitme
 use Rattle.fips204.specs.Keys.{PublicParts, PrivateParts, IsPublicKeyOf}
 use Rattle.fips204.specs.Framing.{Input, message_hash}
 use Rattle.fips204.specs.Signing.{sign}
-use Rattle.fips204.specs.Acceptance.{HasShortParts, Verifies}
+use Rattle.fips204.specs.Acceptance.{Verifies}
 use Rattle.fips204.specs.Refusals.{generated, derived, input_fault, sign_input, AcceptsInput}
 use Rattle.fips204.specs.Prepared.{prepared_private, prepared_public}
 
@@ -52,7 +54,8 @@ pub record AnswersStay (p : ParameterSet) (H G H' G' : List ℕ → List ℕ) : 
 pub data IsDecided (p : ParameterSet) (H G : List ℕ → List ℕ) (pk : PublicParts) (signature : List ℕ) : Type 0 where
   sampled : (a : List (List T)) → sampled_matrix G pk.rho p.k p.l ≡ Some a
       → (c : R) → challenge p.tau (H (take (commitment_length p) signature)) ≡ Some c → IsDecided p H G pk signature
-  malformed : ((c_tilde : List ℕ) (z h : List R) → HasShortParts p signature c_tilde z h → ⊥) → IsDecided p H G pk signature
+  malformed : ((c_tilde : List ℕ) (z h : List R) → IsSignature p.gamma1 p.omega p.k p.l (commitment_length p) signature c_tilde z h
+      → vector_norm z < p.gamma1 - p.beta → ⊥) → IsDecided p H G pk signature
 
 -- a yes stays, and where it is decided, so does a no
 pub record YesAndNoStay (decided yes longer_yes : Type 0) : Type 0 where

@@ -14,15 +14,12 @@ pub record ParameterSet : Type 0 where
   pub beta : ℕ
   pub omega : ℕ
 
--- ML-DSA-44
 abbrev pub set_44 : ParameterSet
 set_44 = record { tau = 39; lambda = 128; gamma1 = 131072; gamma2 = 95232; k = 4; l = 4; eta = 2; beta = 78; omega = 80 }
 
--- ML-DSA-65
 abbrev pub set_65 : ParameterSet
 set_65 = record { tau = 49; lambda = 192; gamma1 = 524288; gamma2 = 261888; k = 6; l = 5; eta = 4; beta = 196; omega = 55 }
 
--- ML-DSA-87
 abbrev pub set_87 : ParameterSet
 set_87 = record { tau = 60; lambda = 256; gamma1 = 524288; gamma2 = 261888; k = 8; l = 7; eta = 2; beta = 120; omega = 75 }
 
@@ -58,18 +55,14 @@ are_parameters tau lambda gamma1 gamma2 k l eta beta omega =
     && int_le (pos 0) tau && int_le (pos 0) gamma1 && int_le (pos 0) gamma2
     && int_le (pos 0) eta && int_le (pos 0) beta && int_le (pos 0) omega
 
--- how many bytes a public key has
 abbrev pub public_key_length : ParameterSet → ℕ
 public_key_length p = 32 + 320 * p.k
 
--- how many bytes a private key has
 abbrev pub private_key_length : ParameterSet → ℕ
 private_key_length p = 128 + 32 * ((p.l + p.k) * width (pos p.eta) (pos p.eta) + p.k * 13)
 
--- how many bytes c_tilde has
 abbrev pub commitment_length : ParameterSet → ℕ
 commitment_length p = p.lambda / 4
 
--- how many bytes a signature has
 abbrev pub signature_length : ParameterSet → ℕ
 signature_length p = commitment_length p + 32 * (p.l * width (pos (p.gamma1 - 1)) (pos p.gamma1)) + p.omega + p.k

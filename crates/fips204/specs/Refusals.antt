@@ -1,7 +1,7 @@
 -- Whole calls, with their refusals in order (FIPS 204, Algorithms 1 to 5).
-use Rattle.std.specs.Prelude.{◌≡◌, ◌⊎◌, ℕ, List, length, nat_lt, Option, Some, None, Result, Ok, Err, ok_or, Bool, true, false, replicate, if◌then◌else◌}
+use Rattle.std.specs.Prelude.{◌≡◌, ◌⊎◌, ℕ, List, length, nat_lt, Option, Some, None, Result, Err, IfErr, ok_or, Bool, true, false, replicate, if◌then◌else◌}
 use Rattle.fips204_base.specs.declared.fault.Fault.{Fault}
-use Rattle.fips204_base.specs.declared.fault.Fault.TheVariants.{SignCtx, HashCtx, SamplingLimit}
+use Rattle.fips204_base.specs.declared.fault.Fault.TheVariants.{SignCtx, HashCtx, SamplingLimit, TooManyAttempts}
 use Rattle.fips204.specs.ParameterSets.{ParameterSet}
 use Rattle.fips204.specs.Keys.{PublicParts, PrivateParts}
 use Rattle.fips204.specs.Keys.{key_generation, public_key_of}
@@ -60,6 +60,14 @@ VerifiesMessage p H G pk message signature context = AcceptsInput H pk.tr (λ mu
 -- HashML-DSA.Verify (Algorithm 5), from the digest
 abbrev pub VerifiesDigest : ParameterSet → (List ℕ → List ℕ) → (List ℕ → List ℕ) → PublicParts → List ℕ → List ℕ → List ℕ → List ℕ → Type 0
 VerifiesDigest p H G pk digest signature context oid = AcceptsInput H pk.tr (λ mu. Verifies p H G pk mu signature) (hashed digest context oid)
+
+-- an answer's one refusal is that a sampler reached its limit
+abbrev pub OnlySamplingLimit : {A : Type 0} → Result A Fault → Type 0
+OnlySamplingLimit answer = IfErr answer (λ fault. fault ≡ SamplingLimit)
+
+-- the refusals of signing beside those of its input: a sampler reached its limit, or every attempt was rejected
+abbrev pub IsSigningLimit : Fault → Type 0
+IsSigningLimit fault = (fault ≡ SamplingLimit) ⊎ (fault ≡ TooManyAttempts)
 
 -- what a call answers that asks a generator once, for 32 bytes: the answer over bytes that it gave, or the refusal where it
 -- refused; gives and refuses are what the generator states of such a call, from before to after

@@ -1,4 +1,4 @@
--- Signing (FIPS 204, Algorithm 7, with the limit of attempts of Appendix C).
+-- Signing (FIPS 204, Algorithm 7): the body of its loop (lines 11 to 32), and the first of 814 attempts that is not rejected.
 use Rattle.std.specs.Prelude.{ℕ, ℤ, ◌+◌, ◌-◌, ◌*◌, ◌%◌, List, ◌++◌, pos, Bool, ◌&&◌, nat_lt, nat_le, length, take, Option, Some, None, if◌then◌else◌, [], ◌∷◌, map, Result, Ok, Err}
 use Rattle.std.specs.List.{range_with_len}
 use Rattle.fips204_base.specs.Encodings.{all_ones, signature_bytes, w1_bytes}
@@ -14,8 +14,6 @@ use Rattle.fips204_base.specs.declared.types.T.{T}
 use Rattle.fips204.specs.Keys.{PrivateParts}
 use Rattle.fips204.specs.ParameterSets.{ParameterSet, commitment_length}
 
--- ---- One attempt: the body of the loop (Algorithm 7, lines 11 to 32)
-
 -- what an attempt comes to: the challenge is past its limit, the attempt is rejected, or it gives a signature
 pub data Attempt : Type 0 where
   limit : Attempt
@@ -30,7 +28,7 @@ commitment p H mu w1 = take (commitment_length p) (H (mu ++ w1_bytes p.gamma2 w1
 unfoldable pub high_vector : ParameterSet → (ℕ → ℕ → ℕ) → List R
 high_vector p w = vector_of p.k (λ r n. pos (high_bits p.gamma2 (w r n)))
 
--- c v: each polynomial of a vector times c
+-- c v
 abbrev pub scaled : R → (ℕ → ℕ → ℕ) → ℕ → ℕ → ℕ
 scaled c v r = product (coefficients c.0) (v r)
 
@@ -56,14 +54,13 @@ ct0 p sk c = vector_of p.k (λ r n. pos (scaled c (vector_coefficients sk.t0) r 
 
 -- MakeHint(0 - t, v + t) at one place, as a coefficient
 abbrev pub hint_bit : ℕ → ℕ → ℕ → ℤ
-hint_bit gamma2 v t = if make_hint gamma2 ((0 + 8380416 * t) % 8380417) ((v + t) % 8380417) then pos 1 else pos 0
+hint_bit gamma2 v t = if make_hint gamma2 (8380416 * t % 8380417) ((v + t) % 8380417) then pos 1 else pos 0
 
 -- h = MakeHint(-c t0, w - c s2 + c t0)
 unfoldable pub hint_vector : ParameterSet → PrivateParts → (ℕ → ℕ → ℕ) → R → List R
 hint_vector p sk w c = vector_of p.k (λ r n. hint_bit p.gamma2 (w_minus_cs2 sk.s2 w c r n) (scaled c (vector_coefficients sk.t0) r n))
 
--- whether an attempt is kept: ||z|| < gamma1 - beta, ||r0|| < gamma2 - beta, ||c t0|| < gamma2, and h has at most omega
--- ones
+-- whether an attempt is kept: the tests of lines 23 and 28
 unfoldable pub passes_checks : ParameterSet → PrivateParts → List R → (ℕ → ℕ → ℕ) → R → Bool
 passes_checks p sk y w c =
     nat_lt (vector_norm (response p sk y c)) (p.gamma1 - p.beta)
@@ -85,7 +82,7 @@ attempt p H a sk mu rho'' kappa =
     let c_tilde = commitment p H mu (high_vector p w) in
     checked_attempt p sk y w c_tilde (challenge p.tau (H c_tilde))
 
--- how many attempts there are
+-- how many attempts there are (Appendix C)
 abbrev pub attempt_limit : ℕ
 attempt_limit = 814
 

@@ -1,5 +1,7 @@
 -- What private functions of signing take and answer: cited by no public clause; nobody has to believe it.
-use Rattle.std.specs.Prelude.{◌+◌, ◌≤◌, ℕ, List, Option, Some, None, Result, Ok, Err}
+use Rattle.std.specs.Prelude.{◌+◌, ◌-◌, ◌<◌, ◌≤◌, ℕ, List, Option, Some, None, Result, Ok, Err}
+use Rattle.fips204_base.specs.Encodings.{IsSignature}
+use Rattle.fips204_base.specs.Residues.{vector_norm}
 use Rattle.fips204_base.specs.Vectors.{TransformsWithin, PolynomialWithin, MatrixWithin, VectorWithin, vector_coefficients, AreTransformsOf}
 use Rattle.fips204_base.specs.declared.fault.Fault.{Fault}
 use Rattle.fips204_base.specs.declared.fault.Fault.TheVariants.{SamplingLimit}
@@ -7,6 +9,7 @@ use Rattle.fips204_base.specs.declared.types.R.{R}
 use Rattle.fips204_base.specs.declared.types.T.{T}
 use Rattle.fips204.specs.Framing.{Input, framed_input, message_hash}
 use Rattle.fips204.specs.Keys.{PrivateParts}
+use Rattle.fips204.specs.ParameterSets.{ParameterSet, commitment_length}
 use Rattle.fips204.specs.Refusals.{refused_or, input_fault}
 use Rattle.fips204.specs.Sets.{HasSizes, set_of}
 use Rattle.fips204.specs.Signing.{Attempt, limit, rejected, signed}
@@ -52,3 +55,8 @@ attempt_answer (signed signature) = Ok (Some signature)
 -- mu of an input under a key's hash tr, or the refusal
 abbrev pub input_hash : (List ℕ → List ℕ) → List ℕ → Input → Result (List ℕ) Fault
 input_hash H tr input = refused_or (input_fault input) (Ok (message_hash H tr (framed_input input)))
+
+-- the signature has these parts, and the norm of z is small
+pub record HasShortParts (p : ParameterSet) (signature c_tilde : List ℕ) (z h : List R) : Type 0 where
+  pub parts : IsSignature p.gamma1 p.omega p.k p.l (commitment_length p) signature c_tilde z h
+  pub norm : vector_norm z < p.gamma1 - p.beta

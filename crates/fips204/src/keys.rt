@@ -112,10 +112,6 @@ where
 
     ghost whole = { IsWhole S.set G.front };
 
-    ghost accepts = { VerifiesMessage S.set H.front G.front };
-
-    ghost accepts_digest = { VerifiesDigest S.set H.front G.front };
-
     fn try_sign_with_rng<R: CryptoRngCore>(
         &self,
         rng: &mut R,

@@ -9,11 +9,14 @@ ghost use Rattle.fips204_base.specs.Transforms.{ProductOfTransforms, InverseOfTr
 ghost use Rattle.fips204.specs.Completeness.{SignedIsAccepted, BytesTellKeys};
 ghost use Rattle.fips204.specs.Constants.{ConstantsStand, LengthsStand};
 ghost use Rattle.fips204.specs.LongerFronts.{CounterFrontsArePrefixes, LongerFrontsKeep};
-ghost use Rattle.fips204.specs.SchemeLaws.{FramingIsOneToOne, SignatureBindsMessage, SignatureBindsInput};
+ghost use Rattle.fips204.specs.SchemeLaws.{FramingIsOneToOne, SignatureBindsMessage, SignatureBindsInput, SignatureBindsText};
 ghost use Rattle.fips204.specs.Prepared.{PreparedAnswersAsPlain};
+ghost use Rattle.fips204.specs.RefusalLaws.{RefusesOnly};
 ghost use Rattle.fips204.specs.ParameterSets.{ParameterSet, is_parameter_set};
 ghost use Rattle.std.specs.Prelude.{ℕ, List, IsTrue};
 ghost use Rattle.fips204.specs.SchemeLaws.{HintGivesHighBits, HintStaysNear, HighBitsStay, ChallengeProductIsSmall, SignatureHasOneSpelling, HintHasOneSpelling};
+
+mod joined;
 
 use crate::xof::Xof;
 
@@ -78,10 +81,12 @@ pub fn framing()
 
 /// One signature for two inputs gives a collision of `H`: if a public key accepts one signature for two
 /// framed messages, or two inputs, that differ, either the framed messages collide in the 64 bytes of mu, or
-/// the two values of mu, each followed by the same encoded `w1`, collide in the bytes of `c_tilde`.
+/// the two values of mu, each followed by the same encoded `w1`, collide in the bytes of `c_tilde`. So do two
+/// different messages under one context.
 pub fn binding()
     ensures framed { SignatureBindsMessage }
     ensures inputs { SignatureBindsInput }
+    ensures messages { SignatureBindsText }
 {}
 
 /// A signature made with a whole private key verifies under the public key derived from it. The key pair of a
@@ -104,6 +109,13 @@ pub fn key_bytes()
 /// prepared one.
 pub fn prepared_keys()
     ensures { (p : ParameterSet) (H G : List ℕ → List ℕ) → PreparedAnswersAsPlain p H G }
+{}
+
+/// Which errors the calls have. Making a key pair, deriving a public key and preparing a key return no error but
+/// `SamplingLimit`. Signing a hash also returns `TooManyAttempts`, and signing a message or a digest also the first
+/// error of context, object identifier and digest.
+pub fn refusals()
+    ensures { (p : ParameterSet) (H G : List ℕ → List ℕ) → RefusesOnly p H G }
 {}
 
 /// Fewer blocks of a stream in counter mode are a prefix of more. So the fronts of `Sha256Ctr` are prefixes

@@ -113,8 +113,9 @@ pub trait Signer {
     /// The byte array of a signature.
     type Signature;
 
-    /// The public key of a pair.
-    type PublicKey;
+    /// The public key of a pair, which verifies signatures of this type. A generic function over a `Signer` alone
+    /// verifies with `K::PublicKey`: it needs no second bound.
+    type PublicKey: Verifier<Signature = Self::Signature>;
 
     // What signing answers for random bytes, a message and a context.
     ghost signs: { Self → List ℕ → List ℕ → List ℕ → Result Self.Signature Fault };
@@ -127,12 +128,6 @@ pub trait Signer {
 
     // Whether the key is whole.
     ghost whole: { Self → Type 0 };
-
-    // Whether a public key accepts a message, a signature and a context.
-    ghost accepts: { Self.PublicKey → List ℕ → Self.Signature → List ℕ → Type 0 };
-
-    // Whether a public key accepts a digest, a signature, a context and an object identifier.
-    ghost accepts_digest: { Self.PublicKey → List ℕ → Self.Signature → List ℕ → List ℕ → Type 0 };
 
     /// Signs a message (Algorithm 2) with 32 random bytes of the generator, which is asked once.
     ///
@@ -148,7 +143,7 @@ pub trait Signer {
         ensures answer { DrawsUnless (message_fault ctx.now) R.gives R.refuses rng.old rng.new SignRng
             (λ rnd. signs self.now rnd message.now ctx.now) result }
         ensures accepted { AcceptedIfWhole (whole self.now) (derives self.now)
-            (λ pk signature. accepts pk message.now signature ctx.now) result };
+            (λ pk signature. Self.PublicKey.accepts pk message.now signature ctx.now) result };
 
     /// Signs a message (Algorithm 2) with the random bytes `seed`; 32 zeros give the deterministic variant.
     ///
@@ -162,7 +157,7 @@ pub trait Signer {
     ) -> Result<Self::Signature, Fault>
         ensures answer { result ≡ signs self.now seed.now message.now ctx.now }
         ensures accepted { AcceptedIfWhole (whole self.now) (derives self.now)
-            (λ pk signature. accepts pk message.now signature ctx.now) result };
+            (λ pk signature. Self.PublicKey.accepts pk message.now signature ctx.now) result };
 
     /// Signs a digest (Algorithm 4) with 32 random bytes of the generator, which is asked once. `hash_oid` is
     /// the DER object identifier of the hash function.
@@ -180,7 +175,7 @@ pub trait Signer {
         ensures answer { DrawsUnless (digest_fault hash.now ctx.now hash_oid.now) R.gives R.refuses rng.old rng.new HashRng
             (λ rnd. signs_digest self.now rnd hash.now ctx.now hash_oid.now) result }
         ensures accepted { AcceptedIfWhole (whole self.now) (derives self.now)
-            (λ pk signature. accepts_digest pk hash.now signature ctx.now hash_oid.now) result };
+            (λ pk signature. Self.PublicKey.accepts_digest pk hash.now signature ctx.now hash_oid.now) result };
 
     /// Signs a digest (Algorithm 4) with the random bytes `seed`.
     ///
@@ -195,7 +190,7 @@ pub trait Signer {
     ) -> Result<Self::Signature, Fault>
         ensures answer { result ≡ signs_digest self.now seed.now hash.now ctx.now hash_oid.now }
         ensures accepted { AcceptedIfWhole (whole self.now) (derives self.now)
-            (λ pk signature. accepts_digest pk hash.now signature ctx.now hash_oid.now) result };
+            (λ pk signature. Self.PublicKey.accepts_digest pk hash.now signature ctx.now hash_oid.now) result };
 
     /// Computes the public key of the private key: its `rho` and `tr`, with t1 as in Algorithm 6.
     ///

@@ -4,7 +4,7 @@
 ghost use Rattle.std.specs.Prelude.{◌≡◌, ◌≤◌, ◌-◌, ◌*◌, ⊤, pos, nat_abs, IsTrue};
 ghost use Rattle.fips204_base.specs.Packing.{width};
 ghost use Rattle.fips204_base.specs.Rounding.{high_values};
-ghost use Rattle.fips204.specs.Keys.{ArePrivateParts, IsHighPart};
+ghost use Rattle.fips204.specs.Keys.{ArePrivateParts, ArePublicParts};
 ghost use Rattle.fips204.specs.ParameterSets.{are_parameters};
 
 pub mod pre_hash;
@@ -120,13 +120,13 @@ pub struct PublicKey<const K: usize, const L: usize, H, G> {
 }
 
 impl<const K: usize, const L: usize, H, G> Model for PublicKey<K, L, H, G> {
-    ghost use Rattle.fips204.specs.Keys.{PublicParts, IsHighPart};
+    ghost use Rattle.fips204.specs.Keys.{PublicParts, ArePublicParts};
 
     ghost Value = { PublicParts };
 
     ghost view = { λ key. record { rho = key.rho; tr = key.tr; t1 = key.t1 } };
 
-    ghost invariant = { λ key. IsHighPart K key.t1 };
+    ghost invariant = { λ key. ArePublicParts K record { rho = key.rho; tr = key.tr; t1 = key.t1 } };
 }
 
 impl<const K: usize, const L: usize, H, G> Clone for PublicKey<K, L, H, G> {
@@ -148,9 +148,9 @@ impl<const K: usize, const L: usize, H, G> PublicKey<K, L, H, G> {
         &self.tr
     }
 
-    /// A law, which computes nothing: `t1` has `K` polynomials with coefficients from 0 to 1023.
+    /// A law, which computes nothing: the parts have the lengths and ranges of a public key with `K` polynomials.
     pub fn parts_in_range_law(&self)
-        ensures { IsHighPart K self.now.t1 }
+        ensures { ArePublicParts K self.now }
     {
         let _ = &self.t1;
     }
@@ -194,6 +194,15 @@ impl<const K: usize, const L: usize, H, G> Clone for PrivateKey<K, L, H, G> {
 }
 
 impl<const K: usize, const L: usize, H, G> PrivateKey<K, L, H, G> {
+    /// The hash that the key keeps, which signing hashes before the message: the hash of the public key's bytes if
+    /// the key comes from key generation, and the bytes that stood there if it comes from bytes.
+    pub fn tr(&self) -> &[u8; 64]
+        ensures { result.now ≡ self.now.tr }
+    {
+        let Self { tr, .. } = self;
+        tr
+    }
+
     /// A law, which computes nothing: the parts have the lengths and ranges of a private key whose matrix has
     /// `K` rows and `L` columns.
     pub fn parts_in_range_law(&self)

@@ -222,10 +222,10 @@ row_of_sum l a s t n p =
     spread x y z = omega arith
 
 row_same : (l : ℕ) (p : ℕ → ℕ) (v t s : ℕ → ℕ → ℕ) → ((j : ℕ) → j < 256 → p j ≡ sum_below l (λ k. v k j * t k j) % 8380417) →
-    ((k j : ℕ) → k < l → j < 256 → t k j ≡ transform (s k) j) → (j : ℕ) → j < 256 → IsCongruent (p j) (sum_below l (λ k. v k j * transform (s k) j))
+    ((k : ℕ) → k < l → (j : ℕ) → j < 256 → t k j ≡ transform (s k) j) → (j : ℕ) → j < 256 → IsCongruent (p j) (sum_below l (λ k. v k j * transform (s k) j))
 row_same l p v t s h g j q =
     congruent_trans (congruent_of (h j q)) (congruent_trans (congruent_mod (sum_below l (λ k. v k j * t k j)))
-    (congruent_of (sum_equal l (λ k. v k j * t k j) (λ k. v k j * transform (s k) j) (λ k r. ap (λ x. v k j * x) (g k j r q)))))
+    (congruent_of (sum_equal l (λ k. v k j * t k j) (λ k. v k j * transform (s k) j) (λ k r. ap (λ x. v k j * x) (g k r j q)))))
 
 products_same : (p x y a b : ℕ → ℕ) → ((j : ℕ) → j < 256 → p j ≡ pointwise x y j) → ((j : ℕ) → j < 256 → x j ≡ transform a j) → ((j : ℕ) → j < 256 → y j ≡ transform b j) →
     (j : ℕ) → j < 256 → IsCongruent (p j) (pointwise (transform a) (transform b) j)
@@ -248,7 +248,7 @@ row_by_transforms l v s n p =
 -- ---- what is computed from transforms
 -- sums of products of transforms make a row of the plain product
 pub row_of_products : (l : ℕ) (p : ℕ → ℕ) (v t s : ℕ → ℕ → ℕ) → ((j : ℕ) → j < 256 → p j ≡ sum_below l (λ k. v k j * t k j) % 8380417) →
-    ((k j : ℕ) → k < l → j < 256 → t k j ≡ transform (s k) j) → (n : ℕ) → n < 256 → inverse_transform p n ≡ row_product l (λ k. inverse_transform (v k)) s n
+    ((k : ℕ) → k < l → (j : ℕ) → j < 256 → t k j ≡ transform (s k) j) → (n : ℕ) → n < 256 → inverse_transform p n ≡ row_product l (λ k. inverse_transform (v k)) s n
 row_of_products l p v t s h g n q =
     inverse_same p (λ j. sum_below l (λ k. v k j * transform (s k) j)) (row_same l p v t s h g) n ∙ row_by_transforms l v s n q
 
@@ -260,7 +260,7 @@ product_of_products p x y a b h f g n q =
 
 -- differences of both make the difference of the plain products
 pub difference_of_products : (l : ℕ) (d p c x y a b : ℕ → ℕ) (v t s : ℕ → ℕ → ℕ) → ((j : ℕ) → j < 256 → d j ≡ minus p c j) →
-    ((j : ℕ) → j < 256 → p j ≡ sum_below l (λ k. v k j * t k j) % 8380417) → ((k j : ℕ) → k < l → j < 256 → t k j ≡ transform (s k) j) →
+    ((j : ℕ) → j < 256 → p j ≡ sum_below l (λ k. v k j * t k j) % 8380417) → ((k : ℕ) → k < l → (j : ℕ) → j < 256 → t k j ≡ transform (s k) j) →
     ((j : ℕ) → j < 256 → c j ≡ pointwise x y j) → ((j : ℕ) → j < 256 → x j ≡ transform a j) → ((j : ℕ) → j < 256 → y j ≡ transform b j) →
     (n : ℕ) → n < 256 → inverse_transform d n ≡ minus (row_product l (λ k. inverse_transform (v k)) s) (product a b) n
 difference_of_products l d p c x y a b v t s e h g i f k n q =

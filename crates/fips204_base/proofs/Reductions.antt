@@ -1,5 +1,5 @@
 -- Products in Montgomery form, and centring modulo q.
-use Rattle.std.proofs.Common.{◌≡◌, ℕ, zero, suc, ◌<◌, ◌*◌, ◌%◌, ℤ, pos, [], ◌∷◌, neg_ℤ, arith, ap, refl, negsuc}
+use Rattle.std.proofs.Common.{◌≡◌, ℕ, zero, suc, ◌<◌, ◌*◌, ◌%◌, ℤ, pos, ◌-ℤ◌, nat_le, if◌then◌else◌, [], ◌∷◌, neg_ℤ, arith, ap, refl, negsuc}
 use Rattle.std.proofs.lemmas.Int.{ints}
 use Rattle.fips204_base.specs.Residues.{residue, IsCongruent}
 use Rattle.fips204_base.specs.Lanes.{lane}
@@ -35,4 +35,8 @@ residue-again (negsuc n) = omega arith
 
 pub centred-modulo : (x : ℤ) → centred_modulo 8380417 (residue x) ≡ centred x
 unfolding centred
-centred-modulo x = rw (residue-again x) refl
+centred-modulo x = refl
+
+pub centred_is : (x : ℤ) → centred x ≡ (if nat_le (residue x) 4190208 then pos (residue x) else pos (residue x) -ℤ pos 8380417)
+unfolding centred
+centred_is x = rw (residue-again x) refl

@@ -1,18 +1,23 @@
 -- Laws of high bits and hints: UseHint at what MakeHint gives, how far UseHint leaves a residue, and sums that keep high bits.
-use Rattle.std.proofs.Common.{◌≡◌, ◌≢◌, ℕ, ◌<◌, ◌≤◌, ◌+◌, ◌-◌, ◌*◌, ◌%◌, pos, negsuc, ◌-ℤ◌, nat_abs, true, false, arith, refl, inl, inr}
+use Rattle.std.proofs.Common.{◌≡◌, ◌≢◌, ℕ, ◌<◌, ◌≤◌, ◌+◌, ◌-◌, ◌*◌, ◌%◌, pos, negsuc, ◌-ℤ◌, nat_abs, true, false, arith, refl, inl, inr, ap, subst}
 use Rattle.std.specs.Prelude.{Bool, ◌⊎◌, ◌<ℤ◌, ◌≤ℤ◌}
 use Rattle.std.proofs.lemmas.Int.{ints, by_lt_z}
 use Rattle.std.proofs.lemmas.Nat.{mod_below}
 use Rattle.std.proofs.lemmas.Bool.{cases_eq, cases_lt, eq-eqb, ne_eqb, le-leb, lt-leb}
 use Rattle.fips204_base.specs.Residues.{residue}
-use Rattle.fips204_base.specs.Residues.{centred_modulo}
-use Rattle.fips204_base.specs.Rounding.{high_bits, low_bits, high_values, use_hint, make_hint}
+use Rattle.fips204_base.specs.Residues.{centred_modulo, centred}
+use Rattle.fips204_base.specs.Rounding.{IsGamma2, high_bits, low_bits, high_values, use_hint, make_hint}
+use Rattle.fips204_base.proofs.Reductions.{centred-modulo, centred_is}
 use Rattle.fips204_base.proofs.Residues.{residue_below}
 use Rattle.fips204_base.proofs.Rounding.{decompose_sides, high_bits_below, above, not_above}
 
--- gamma2 at the parameter sets
-abbrev IsGamma : ℕ → Type 0
+-- gamma2 at the parameter sets, as a natural number
+abbrev pub IsGamma : ℕ → Type 0
 IsGamma g = (g ≡ 95232) ⊎ (g ≡ 261888)
+
+pub natural_gamma : (g : ℕ) → IsGamma2 (pos g) → IsGamma g
+natural_gamma g (inl e) = inl (ap nat_abs e)
+natural_gamma g (inr e) = inr (ap nat_abs e)
 
 -- a residue at most n from 0, from above or from below
 abbrev IsNearZero : ℕ → ℕ → Type 0
@@ -47,13 +52,13 @@ high_bits-down g (inr is) = rw is (λ r z below small near low differs.
     omega (arith, ints, decompose_sides 261888 r (omega arith), decompose_sides 261888 s (omega arith)))
 
 -- a residue whose centred value is at most g in absolute value
-near_zero : (g z : ℕ) → z < 8380417 → nat_abs (centred_modulo 8380417 z) ≤ g → IsNearZero g z
+near_zero : (g z : ℕ) → z < 8380417 → nat_abs (centred (pos z)) ≤ g → IsNearZero g z
 near_zero g z small near = elim (cases_lt 4190208 (z % 8380417)) [
   | inl far ↦
-      let e = rw (lt-leb (z % 8380417) 4190208 far) at near in
+      let e = rw (centred_is (pos z), lt-leb (z % 8380417) 4190208 far) at near in
       inr (omega (arith, ints, e))
   | inr least ↦
-      let e = rw (le-leb (z % 8380417) 4190208 least) at near in
+      let e = rw (centred_is (pos z), le-leb (z % 8380417) 4190208 least) at near in
       inl (omega (arith, ints, e))
 ]
 
@@ -68,7 +73,7 @@ hint_moves g z r set below small near = elim (cases_eq (high_bits g r) (high_bit
       (λ down. rw (not_above (low_bits g r) down) (high_bits-down g set r z below small near down differs)))
 ]
 
-pub use_hint_of_make_hint : (g z r : ℕ) → IsGamma g → r < 8380417 → z < 8380417 → nat_abs (centred_modulo 8380417 z) ≤ g
+pub use_hint_of_make_hint : (g z r : ℕ) → IsGamma g → r < 8380417 → z < 8380417 → nat_abs (centred (pos z)) ≤ g
     → use_hint g (make_hint g z r) r ≡ high_bits g ((r + z) % 8380417)
 use_hint_of_make_hint g z r set below small near = hint_moves g z r set below small (near_zero g z small near)
 
@@ -148,25 +153,27 @@ moved_below g r hint set below =
 
 -- r less its high bits, moved by no hint, times 2 gamma2 is at most gamma2 in size, and moved by a hint at most 2 gamma2 + 1
 pub use_hint_distance_none : (g r : ℕ) → IsGamma g → r < 8380417
-    → nat_abs (centred_modulo 8380417 (residue (pos r -ℤ pos (use_hint g false r * (2 * g))))) ≤ g
+    → nat_abs (centred (pos r -ℤ pos (use_hint g false r * (2 * g)))) ≤ g
 use_hint_distance_none g r set below =
     let u = use_hint g false r in
     let x = residue (pos r -ℤ pos (use_hint g false r * (2 * g))) in
     let small = residue_below (pos r -ℤ pos (use_hint g false r * (2 * g))) in
     let where_x = difference r (use_hint g false r * (2 * g)) below (moved_below g r false set below) in
-    size_near x g small (omega (arith, set)) (far_none g set r u x below (use_hint-unmoved g r) where_x small)
+    subst (λ y. nat_abs y ≤ g) (centred-modulo (pos r -ℤ pos (use_hint g false r * (2 * g))))
+    (size_near x g small (omega (arith, set)) (far_none g set r u x below (use_hint-unmoved g r) where_x small))
 
 pub use_hint_distance_hint : (g r : ℕ) → IsGamma g → r < 8380417
-    → nat_abs (centred_modulo 8380417 (residue (pos r -ℤ pos (use_hint g true r * (2 * g))))) ≤ 2 * g + 1
+    → nat_abs (centred (pos r -ℤ pos (use_hint g true r * (2 * g)))) ≤ 2 * g + 1
 use_hint_distance_hint g r set below =
     let u = use_hint g true r in
     let x = residue (pos r -ℤ pos (use_hint g true r * (2 * g))) in
     let small = residue_below (pos r -ℤ pos (use_hint g true r * (2 * g))) in
     let where_x = difference r (use_hint g true r * (2 * g)) below (moved_below g r true set below) in
-    size_near x (2 * g + 1) small (omega (arith, set))
+    subst (λ y. nat_abs y ≤ 2 * g + 1) (centred-modulo (pos r -ℤ pos (use_hint g true r * (2 * g))))
+    (size_near x (2 * g + 1) small (omega (arith, set))
     (by_lt_z (pos 0) (low_bits g r)
     (λ up. far_up g set r u x below up (use_hint-moved_up g r up) where_x small)
-    (λ down. far_down g set r u x below down (use_hint-moved_down g r down) where_x small))
+    (λ down. far_down g set r u x below down (use_hint-moved_down g r down) where_x small)))
 
 high_bits-stay : (g : ℕ) → IsGamma g → (r s beta : ℕ) → r < 8380417 → s < 8380417 → IsNearZero beta s → nat_abs (low_bits g r) + beta < g
     → high_bits g ((r + s) % 8380417) ≡ high_bits g r
@@ -182,6 +189,6 @@ high_bits-stay g (inr is) = rw is (λ r s beta below small near room.
     omega (arith, ints, decompose_sides 261888 r (omega arith), decompose_sides 261888 sum (omega arith)))
 
 -- a sum with a small number keeps the high bits, where the low bits leave it room
-pub high_bits_stay : (g r s beta : ℕ) → IsGamma g → r < 8380417 → s < 8380417 → nat_abs (centred_modulo 8380417 s) ≤ beta
+pub high_bits_stay : (g r s beta : ℕ) → IsGamma g → r < 8380417 → s < 8380417 → nat_abs (centred (pos s)) ≤ beta
     → nat_abs (low_bits g r) + beta < g → high_bits g ((r + s) % 8380417) ≡ high_bits g r
 high_bits_stay g r s beta set below small near room = high_bits-stay g set r s beta below small (near_zero beta s small near) room

@@ -6,8 +6,6 @@ use Rattle.fips204_base.specs.Rounding.{high_values}
 use Rattle.fips204_base.specs.Vectors.{IsVector}
 use Rattle.fips204_base.specs.declared.types.R.{R}
 
--- ---- The spelling of a hint (Algorithms 20 and 21)
-
 -- whether a polynomial of a hint has a one at a place
 unfoldable pub is_one : R → ℕ → Bool
 is_one w n = int_lt (pos 0) (slice_index_or w.0 n (pos 0))

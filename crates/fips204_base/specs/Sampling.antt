@@ -7,8 +7,6 @@ use Rattle.fips204_base.specs.Vectors.{polynomial_of}
 use Rattle.fips204_base.specs.declared.types.R.{R}
 use Rattle.fips204_base.specs.declared.types.T.{T}
 
--- ---- Coefficients from bytes (Algorithms 14 and 15)
-
 -- eta at the parameter sets (FIPS 204, Table 1)
 abbrev pub IsEta : ℤ → Type 0
 IsEta eta = (eta ≡ pos 2) ⊎ (eta ≡ pos 4)
@@ -27,8 +25,6 @@ coefficient_from_half_byte eta b =
     if nat_eq eta 2 && nat_lt b 15 then Some (pos 2 -ℤ pos (b % 5))
     else if nat_eq eta 4 && nat_lt b 9 then Some (pos 4 -ℤ pos b)
     else None
-
--- ---- The first 256 of what was kept, and whole lists of what was sampled
 
 -- the first 256 of the coefficients kept, or none where fewer were kept
 unfoldable pub first_256 : List ℤ → Option (List ℤ)
@@ -79,8 +75,7 @@ kept_half_bytes eta front n = filter_map (coefficient_from_half_byte eta) (half_
 unfoldable pub small_polynomial : ℕ → List ℕ → Option R
 small_polynomial eta front = option_map (λ values. record { 0 = values }) (first_256 (kept_half_bytes eta front (length front / 4)))
 
--- ExpandS (Algorithm 33), a part of it: count polynomials from H(rho', number in two bytes), the numbers from first on;
--- none where one of them is none
+-- ExpandS (Algorithm 33), a part of it: count polynomials from H(rho', number in two bytes), the numbers from first on
 unfoldable pub small_vector : ℕ → (List ℕ → List ℕ) → List ℕ → ℕ → ℕ → Option (List R)
 small_vector eta H rho first count = all_present (map (λ r. small_polynomial eta (H (rho ++ to_le_bytes w16 r))) (range_with_len first count))
 

@@ -1,4 +1,4 @@
--- Coefficients of polynomials, vectors and matrices, and bounds on them (FIPS 204, sections 2.3 to 2.5).
+-- Vectors and matrices of polynomials, and bounds on their coefficients (FIPS 204, sections 2.3 to 2.5).
 use Rattle.std.specs.Prelude.{◌≡◌, ◌≤◌, ◌<◌, ◌≤ℤ◌, ℕ, List, [], ℤ, pos, nat_abs, slice_index_or, ◌*◌, ◌%◌, ◌-ℤ◌, length, map}
 use Rattle.std.specs.List.{All, range_with_len}
 use Rattle.fips204_base.specs.Packing.{PolynomialInRange}
@@ -6,8 +6,6 @@ use Rattle.fips204_base.specs.Residues.{coefficients, sum_below}
 use Rattle.fips204_base.specs.Transforms.{minus, product, row_product, transform, inverse_transform}
 use Rattle.fips204_base.specs.declared.types.R.{R}
 use Rattle.fips204_base.specs.declared.types.T.{T}
-
--- ---- Coefficients and bounds on them: a polynomial's 256 coefficients are a list of integers (section 2.3)
 
 -- coefficient n of a polynomial
 abbrev pub coefficient_at : List ℤ → ℕ → ℤ
@@ -53,8 +51,6 @@ row_value l row u j = sum_below l (λ k. vector_residues row k j * vector_residu
 abbrev pub AreRowProducts : ℕ → ℕ → List (List T) → List T → List T → Type 0
 AreRowProducts k l a u t = (i j : ℕ) → i < k → j < 256 → vector_residues t i j ≡ row_value l (slice_index_or a i []) u j
 
--- ---- Vectors and matrices of polynomials (sections 2.3 to 2.5)
-
 -- every coefficient of a vector's polynomials is from lo to hi
 abbrev pub VectorInRange : ℤ → ℤ → List R → Type 0
 VectorInRange lo hi v = All (λ w. PolynomialInRange lo hi w.0) v
@@ -75,7 +71,7 @@ IsTransformOf w t = (i : ℕ) → i < 256 → coefficients t.0 i ≡ transform w
 
 -- the first l of t are the transforms of the polynomials of v
 abbrev pub AreTransformsOf : ℕ → (ℕ → ℕ → ℕ) → List T → Type 0
-AreTransformsOf l v t = (k i : ℕ) → k < l → i < 256 → vector_residues t k i ≡ transform (v k) i
+AreTransformsOf l v t = (k : ℕ) → k < l → IsTransformOf (v k) (slice_index_or t k record { 0 = [] })
 
 -- the plain row of a row of transforms, by column and place: the inverse transform of each entry
 abbrev pub plain_row : List T → ℕ → ℕ → ℕ
@@ -90,8 +86,8 @@ abbrev pub matrix_product : ℕ → List (List T) → (ℕ → ℕ → ℕ) → 
 matrix_product l a v r = row_product l (plain_matrix a r) v
 
 -- coefficient n of polynomial r of A z - c t, where A is the plain matrix and z a vector of l polynomials
-abbrev pub product_difference : ℕ → List (List T) → List R → R → List R → ℕ → ℕ → ℕ
-product_difference l a z c t r = minus (matrix_product l a (vector_coefficients z) r) (product (coefficients c.0) (vector_coefficients t r))
+abbrev pub product_difference : ℕ → List (List T) → List R → R → (ℕ → ℕ → ℕ) → ℕ → ℕ → ℕ
+product_difference l a z c t r = minus (matrix_product l a (vector_coefficients z) r) (product (coefficients c.0) (t r))
 
 -- the polynomial whose coefficient n is f n
 unfoldable pub polynomial_of : (ℕ → ℤ) → R

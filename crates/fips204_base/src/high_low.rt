@@ -26,7 +26,7 @@ pub fn power2round<const K: usize>(r: &[R; K]) -> ([R; K], [R; K])
 }
 
 /// `power2round` of each coefficient of `r`, in place: the high parts are written into `high`, and the low parts
-/// over `r`.
+/// over `r`. Internal: serves the crate `fips204` alone.
 pub fn write_power2round<const K: usize>(r: &mut [R; K], high: &mut [R; K])
     requires { IsResidueVector K r.old }
     ensures high { high.new ≡ vector_of K (λ i n. pos (power2round (vector_coefficients r.old i n)).0) }

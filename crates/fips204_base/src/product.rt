@@ -1,4 +1,4 @@
-//! Products of plain polynomials, computed through transforms.
+//! Products of plain polynomials, computed through transforms. Internal: serves the crate `fips204` alone.
 #![tactic(auto)]
 
 ghost use Rattle.std.specs.Prelude.{◌≡◌, ◌≤◌, ◌<◌, ◌+◌, ◌^◌, ℕ, List, pos};
@@ -109,7 +109,7 @@ pub fn matrix_times_vector_less<const K: usize, const L: usize>(
     requires vector { VectorWithin L 8380416 z.now }
     requires challenge { PolynomialWithin 8380416 c.now.0 }
     requires less { VectorWithin K 8380416 t.now }
-    ensures values { (r n : ℕ) → r < K → n < 256 → entry result r n ≡ pos (product_difference L a_hat.now z.now c.now t.now r n) }
+    ensures values { (r n : ℕ) → r < K → n < 256 → entry result r n ≡ pos (product_difference L a_hat.now z.now c.now (vector_coefficients t.now) r n) }
     ensures range { VectorWithin K 8380416 result }
 {
     let mut z_hat = [T0; L];
@@ -134,7 +134,7 @@ pub(crate) fn write_product_difference<const K: usize>(
     requires less { TransformsWithin 8380416 t_hat.now }
     ensures values { (l : ℕ) (a : List (List T)) (z_hat : List T) (z t : List R) → AreRowProducts K l a z_hat products.now
         → AreTransformsOf l (vector_coefficients z) z_hat → AreTransformsOf K (vector_coefficients t) t_hat.now
-        → (r n : ℕ) → r < K → n < 256 → entry out.new r n ≡ pos (product_difference l a z c.now t r n) }
+        → (r n : ℕ) → r < K → n < 256 → entry out.new r n ≡ pos (product_difference l a z c.now (vector_coefficients t) r n) }
     ensures range { VectorWithin K 8380416 out.new }
 {
     write_differences_in_lanes(products, &transform_of(c, &mut Count::new()), t_hat, out);

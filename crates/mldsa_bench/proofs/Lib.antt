@@ -1,4 +1,4 @@
-mod Joined
 mod KeyFiles
+mod Ledgers
 mod Licences
-mod SameSignature
+mod Manifests

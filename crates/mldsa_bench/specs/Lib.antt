@@ -1,6 +1,6 @@
 pub mod ToyHash
 pub mod ToyStreams
 pub mod KeyStore
+pub mod Ledger
 pub mod Licence
-pub mod Pieces
-pub mod SameSignature
+pub mod Manifest

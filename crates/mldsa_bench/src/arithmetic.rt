@@ -7,9 +7,9 @@ ghost use Rattle.std.specs.List.{All};
 use fips204::hashing::sample_in_ball;
 use fips204::helpers::{Count, ZETA_TABLE_MONT, center_mod, infinity_norm, mont_reduce, to_mont};
 use fips204::ntt::{inv_ntt, ntt};
-use fips204::product::challenge_times_vector;
 use fips204::types::{R, T};
 use fips204::xof::Fill;
+use fips204_base::product::challenge_times_vector;
 use std::test::Fail;
 
 /// Whether a number is reduced to this one.

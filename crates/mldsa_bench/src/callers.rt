@@ -9,13 +9,13 @@ ghost use Rattle.fips204.specs.Keys.{IsWhole};
 ghost use Rattle.fips204.specs.Keys.{DecodesPrivate};
 ghost use Rattle.fips204.specs.ParameterSets.{set_44, set_65, set_87};
 ghost use Rattle.fips204.specs.Prepared.{prepared_private, sign_message_prepared, VerifiesDigestPrepared};
-ghost use Rattle.fips204.specs.Refusals.{generated, derived, sign_message, sign_digest, VerifiesMessage, VerifiesDigest, DrawsIf};
+ghost use Rattle.fips204.specs.Refusals.{generated, derived, sign_message, sign_digest, OnlySamplingLimit, VerifiesMessage, VerifiesDigest, DrawsIf};
 ghost use Rattle.fips204.specs.Signing.{sign};
 ghost use Rattle.fips204_base.specs.Encodings.{public_key_bytes};
 
 use fips204::traits::{CryptoRngCore, KeyGen, SerDes, Signer, Verifier, pairwise_check};
 use fips204::xof::Xof;
-use fips204::{Fault, ml_dsa_44, ml_dsa_65, ml_dsa_87};
+use fips204::{Fault, laws, ml_dsa_44, ml_dsa_65, ml_dsa_87};
 
 /// Signs with a key of set 44.
 pub fn signed_at_44<H: Xof, G: Xof>(
@@ -65,6 +65,16 @@ pub fn decoded_at_44<H: Xof, G: Xof>(
     ensures { DecodesPrivate 2 4 4 bytes result }
 {
     ml_dsa_44::PrivateKey::<H, G>::try_from_bytes(bytes)
+}
+
+/// Makes both keys of a seed at set 44. It returns no error but `SamplingLimit`.
+pub fn made_at_44<H: Xof, G: Xof>(
+    xi: &[u8; 32],
+) -> Result<(ml_dsa_44::PublicKey<H, G>, ml_dsa_44::PrivateKey<H, G>), Fault>
+    ensures { OnlySamplingLimit result }
+{
+    laws::refusals();
+    ml_dsa_44::KG::<H, G>::keygen_from_seed(xi)
 }
 
 /// Makes both keys of a seed at set 65.

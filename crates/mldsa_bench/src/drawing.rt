@@ -2,7 +2,7 @@
 #![tactic(auto)]
 
 use crate::expected::{private_44, public_44, signature_44};
-use crate::generator::Listed;
+use crate::generator::{Listed, WantsZeros};
 use crate::object_identifiers::oid;
 use fips204::traits::{CryptoRngCore, DummyRng, KeyGen, SerDes, Signer, Verifier};
 use fips204::xof::{Fill, Sha256Ctr, Sha512Ctr};
@@ -19,31 +19,31 @@ type Keys44 = ml_dsa_44::KG<Fill<0x55>, Fill<0>>;
 const REFUSAL_FIRST: [Option<[u8; 32]>; 2] = [None, Some([7; 32])];
 
 /// Whether a pair that is drawn is the recorded one, or its refusal.
-fn drawn_pair(rng: &mut Listed) -> Result<bool, Fault> {
+fn drawn_pair<R: CryptoRngCore>(rng: &mut R) -> Result<bool, Fault> {
     let (public, private) = Keys44::try_keygen_with_rng(rng)?;
     Ok(public.into_bytes() == public_44() && private.into_bytes() == private_44())
 }
 
 /// Whether the signature of a message is the recorded one, or its refusal.
-fn drawn_signature(rng: &mut Listed, ctx: &[u8]) -> Result<bool, Fault> {
+fn drawn_signature<R: CryptoRngCore>(rng: &mut R, ctx: &[u8]) -> Result<bool, Fault> {
     let key = Private44::try_from_bytes(private_44())?;
     Ok(key.try_sign_with_rng(rng, b"abc", ctx)? == signature_44())
 }
 
 /// Whether the signature of a digest is the recorded one, or its refusal.
-fn drawn_digest(rng: &mut Listed, ctx: &[u8], oid: &[u8]) -> Result<bool, Fault> {
+fn drawn_digest<R: CryptoRngCore>(rng: &mut R, ctx: &[u8], oid: &[u8]) -> Result<bool, Fault> {
     let key = Private44::try_from_bytes(private_44())?;
     Ok(key.try_hash_sign_with_rng(rng, &[0; 32], ctx, oid)? == signature_44())
 }
 
 /// Whether the signature of a framed message is the recorded one, or its refusal.
-fn drawn_framed(rng: &mut Listed, hedged: bool) -> Result<bool, Fault> {
+fn drawn_framed<R: CryptoRngCore>(rng: &mut R, hedged: bool) -> Result<bool, Fault> {
     let key = Private44::try_from_bytes(private_44())?;
     Ok(key.sign_internal(rng, b"abc", hedged)? == signature_44())
 }
 
 /// Whether the signature of a hash is the recorded one, or its refusal.
-fn drawn_hash(rng: &mut Listed, hedged: bool) -> Result<bool, Fault> {
+fn drawn_hash<R: CryptoRngCore>(rng: &mut R, hedged: bool) -> Result<bool, Fault> {
     let key = Private44::try_from_bytes(private_44())?;
     Ok(key.sign_mu(rng, &[0; 64], hedged)? == signature_44())
 }
@@ -182,5 +182,35 @@ fn hooks_take_framed_messages(rt: HostRuntime) -> Result<(), Fail> {
     assert!(rt; hooks_take(&private, &public, &framed, &signature));
     assert!(rt; public.hash_verify(&[9; 32], &signature, b"ab", &oid(0x01)));
     assert!(rt; !public.verify(b"c", &signature, b"ab"));
+    Ok(())
+}
+
+/// The errors of the four drawing calls of a prepared key.
+fn prepared_faults<R: CryptoRngCore>(rng: &mut R) -> Result<[Option<Fault>; 4], Fault> {
+    let key = Private44::try_from_bytes(private_44())?.prepare()?;
+    Ok([
+        key.try_sign_with_rng(rng, b"abc", &[]).err(),
+        key.try_hash_sign_with_rng(rng, &[0; 32], &[], &oid(0x01))
+            .err(),
+        key.sign_internal(rng, b"abc", true).err(),
+        key.sign_mu(rng, &[0; 64], true).err(),
+    ])
+}
+
+/// Each call that draws hands its generator 32 zeros, with plain and prepared keys: key generation, signing a
+/// message or a digest, and the hooks.
+#[test]
+fn generators_are_handed_zeros(rt: HostRuntime) -> Result<(), Fail> {
+    let mut rng = WantsZeros;
+    assert!(rt; rng.try_fill_bytes(&mut [0, 1]).is_err());
+    assert!(rt; rng.try_fill_bytes(&mut [1; 32]).is_err());
+    assert!(rt; drawn_pair(&mut rng) == Ok(true));
+    assert!(rt; drawn_signature(&mut rng, &[]) == Ok(true));
+    assert!(rt; drawn_digest(&mut rng, &[], &oid(0x01)) == Ok(true));
+    assert!(rt; drawn_framed(&mut rng, true) == Ok(true));
+    assert!(rt; drawn_hash(&mut rng, true) == Ok(true));
+    assert!(rt; prepared_faults(&mut rng)? == [None; 4]);
+    let pair = ml_dsa_44::try_keygen_with_rng::<Fill<0x55>, Fill<0>, WantsZeros>(&mut rng);
+    assert!(rt; pair.err() == None);
     Ok(())
 }

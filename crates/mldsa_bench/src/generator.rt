@@ -70,3 +70,24 @@ impl CryptoRngCore for RefusesAt {
         Err(RngError)
     }
 }
+
+/// A generator that looks at the place it is handed: it gives 32 bytes 07 to 32 zeros, and refuses any other
+/// place.
+#[derive(Drop)]
+pub struct WantsZeros;
+
+impl CryptoRngCore for WantsZeros {
+    ghost use Rattle.std.specs.Prelude.{◌≡◌, ⊤, replicate};
+
+    ghost gives = { λ _ asked bytes _. (asked ≡ 32) × (bytes ≡ replicate 32 7) };
+
+    ghost refuses = { λ _ _ _. ⊤ };
+
+    fn try_fill_bytes(&mut self, out: &mut [u8]) -> Result<(), RngError> {
+        if out.len() != 32 || out.iter().any(|byte| *byte != 0) {
+            return Err(RngError);
+        }
+        out.fill(7);
+        Ok(())
+    }
+}

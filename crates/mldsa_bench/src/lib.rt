@@ -82,3 +82,5 @@ mod slow_hints;
 mod stream_limits;
 #[cfg(test)]
 mod streams;
+#[cfg(test)]
+mod whole_keys;

@@ -3,9 +3,9 @@
 
 pub mod generators;
 pub mod key_store;
+pub mod ledger;
 pub mod licence;
-#[cfg(test)]
-mod manifest;
+pub mod manifest;
 pub mod pieces;
 #[cfg(test)]
 mod toy_hash;

@@ -47,7 +47,7 @@ fn accepts_one<P: Verifier<Signature = [u8; SIG]>, const SIG: usize>(
 fn is_recorded<
     K: KeyGen<PublicKey = P, PrivateKey = S>,
     P: SerDes<ByteArray = [u8; PK]> + Verifier<Signature = [u8; SIG]> + Drop,
-    S: SerDes<ByteArray = [u8; SK]> + Signer<Signature = [u8; SIG], PublicKey = P> + Drop,
+    S: SerDes<ByteArray = [u8; SK]> + Signer<Signature = [u8; SIG]> + Drop,
     const PK: usize,
     const SK: usize,
     const SIG: usize,
@@ -130,7 +130,7 @@ fn bytes_of_set_87(rt: HostRuntime) -> Result<(), Fail> {
 fn signs_digest<
     K: KeyGen<PublicKey = P, PrivateKey = S>,
     P: Verifier<Signature = [u8; SIG]> + Drop,
-    S: Signer<Signature = [u8; SIG], PublicKey = P> + Drop,
+    S: Signer<Signature = [u8; SIG]> + Drop,
     const SIG: usize,
 >(alloc: Global, digest: &str) -> Result<bool, Fail>
     requires { SIG < 2 ^ 63 }

@@ -28,7 +28,7 @@ pub type PastLastTriple = Patterned<FourthTriples<12>>;
 fn answers<
     K: KeyGen<PublicKey = P, PrivateKey = S>,
     P: SerDes<ByteArray = [u8; PK]> + Verifier<Signature = [u8; SIG]> + Drop,
-    S: SerDes<ByteArray = [u8; SK]> + Signer<Signature = [u8; SIG], PublicKey = P> + Drop,
+    S: SerDes<ByteArray = [u8; SK]> + Signer<Signature = [u8; SIG]> + Drop,
     const PK: usize,
     const SK: usize,
     const SIG: usize,
@@ -36,7 +36,10 @@ fn answers<
     public: [u8; PK],
     private: [u8; SK],
     signature: [u8; SIG],
-) -> Result<[Result<bool, Fault>; 4], Fault> {
+) -> Result<[Result<bool, Fault>; 4], Fault>
+where
+    S::PublicKey: SerDes<ByteArray = [u8; PK]> + Drop,
+{
     let key = S::try_from_bytes(private)?;
     let pair = match K::keygen_from_seed(&[7; 32]) {
         Ok((pk, sk)) => Ok(pk.into_bytes() == public && sk.into_bytes() == private),

@@ -1,5 +1,7 @@
 -- Lines that were read piece by piece.
-use Rattle.std.proofs.Common.{◌≡◌, ℕ, ◌+◌, ◌-◌, ◌<◌, ◌≤◌, not, List, [], ◌∷◌, ◌++◌, length, take, drop, get_or, Option, Some, None, Err, MatchResult, refl, sym, ap, ◌∙◌, arith, append_assoc, append-nil, length-append, length-take-le, length-drop, take-append-drop, subst}
+use Rattle.std.proofs.Common.{◌≡◌, ℕ, ◌+◌, ◌-◌, ◌<◌, ◌≤◌, not, List, [], ◌∷◌, ◌++◌, length, take, drop, get_or, Option, Some, None, Ok, Err}
+use Rattle.std.proofs.Common.{MatchResult, refl, sym, ap, ◌∙◌, arith, append_assoc, append-nil, length-append, length-take-le, length-drop}
+use Rattle.std.proofs.Common.{take-append-drop, subst}
 use Rattle.std.specs.List.{position, position_or_len}
 use Rattle.std.proofs.lemmas.Bool.Decides.{nat_tests}
 use Rattle.std.proofs.lemmas.List.{take-append-le}
@@ -12,11 +14,14 @@ use Rattle.std.specs.Io.KnownBytes.{Consumes, IsAtEnd}
 use Rattle.mldsa_engine.specs.declared.lines.Ending.{Ending}
 use Rattle.mldsa_engine.specs.declared.lines.Ending.TheVariants.{Open, Line, Input}
 use Rattle.mldsa_engine.specs.declared.fault.RunFault.TheVariants.{Missing, TooLong}
-use Rattle.mldsa_engine.specs.Lines.{ends_line, first_line, after_line, longest_line, line_digits, line_reach, before_lines, line_bytes, lines_bytes, FaultOfLines, StopsInTurn, InTurn, LeavesAllBut}
-use Rattle.mldsa_engine.specs.InnerSteps.{HasNoEnd, TakesPiece, TakesLine}
+use Rattle.mldsa_engine.specs.Lines.{ends_line, first_line, longest_line, line_digits, line_reach, before_lines, line_bytes}
+use Rattle.mldsa_engine.specs.InnerSteps.{HasNoEnd}
+use Rattle.mldsa_engine.specs.InnerSteps.{TakesPiece, TakesLine}
+use Rattle.mldsa_engine.specs.Lines.{Stops, LeavesAllBut}
 use Rattle.mldsa_engine.proofs.Judging.{judged_long}
 
-pub end_after : (line rest : List ℕ) → HasNoEnd line → position_or_len ends_line (line ++ rest) ≡ length line + position_or_len ends_line rest
+pub end_after : (line rest : List ℕ) → HasNoEnd line
+    → position_or_len ends_line (line ++ rest) ≡ length line + position_or_len ends_line rest
 end_after line rest h = let e = prefix_len-append (λ x. not (ends_line x)) line rest in grind (arith, nat_tests, e)
 
 pub no_end : (given : List ℕ) → position ends_line given ≡ None → HasNoEnd given
@@ -49,10 +54,12 @@ first_end given end some =
 
 -- the line was read, with LF and what came with it
 pub takes_ended : (wanted : Option ℕ) (old new : Option (List ℕ)) (line more : List ℕ)
-    → HasNoEnd line → Consumes old new (line ++ 10 ∷ more) → length more ≤ line_digits wanted - length line → TakesLine wanted old new line
-takes_ended wanted None new line more h all few = tt
-takes_ended wanted (Some input) None line more h all few = absurd all
-takes_ended wanted (Some input) (Some left) line more h all few =
+    → HasNoEnd line → Consumes old new (line ++ 10 ∷ more) → length more ≤ line_digits wanted - length line
+    → length line + length more ≤ longest_line
+    → TakesLine wanted old new line
+takes_ended wanted None new line more h all few within = tt
+takes_ended wanted (Some input) None line more h all few within = absurd all
+takes_ended wanted (Some input) (Some left) line more h all few within =
     let whole : input ≡ line ++ (10 ∷ more ++ left) = all ∙ append_assoc line (10 ∷ more) left in
     let place : position_or_len ends_line input ≡ length line = rw whole (omega (arith, end_after line (10 ∷ more ++ left) h)) in
     let size = length-append line (10 ∷ more) in
@@ -60,99 +67,88 @@ takes_ended wanted (Some input) (Some left) line more h all few =
     rw all (sym (drop-append_seam (line ++ 10 ∷ more) left) ∙ ap (λ n. drop n (line ++ 10 ∷ more ++ left)) (omega (arith, size))) in (
       rw whole (omega (arith, length-append line (10 ∷ more ++ left))),
       rw (place, whole) (sym (take-append_seam line (10 ∷ more ++ left))),
-      (length line + 1 + length more, omega (arith, few), rest),
+      (length line + 1 + length more, omega (arith, few, within), rest),
       λ digits. rest ∙ ap (λ n. drop n input) (omega (arith, few, digits, place)),
     )
 
 -- the input ended after the line
 pub takes_last : (wanted : Option ℕ) (old new : Option (List ℕ)) (line : List ℕ)
-    → HasNoEnd line → Consumes old new line → IsAtEnd new → 0 < length line → TakesLine wanted old new line
-takes_last wanted None new line h all end some = tt
-takes_last wanted (Some input) None line h all end some = absurd all
-takes_last wanted (Some input) (Some left) line h all end some =
+    → HasNoEnd line → Consumes old new line → IsAtEnd new → 0 < length line → length line ≤ longest_line → TakesLine wanted old new line
+takes_last wanted None new line h all end some short = tt
+takes_last wanted (Some input) None line h all end some short = absurd all
+takes_last wanted (Some input) (Some left) line h all end some short =
     let whole : input ≡ line = all ∙ ap (λ l. line ++ l) end ∙ append-nil line in
     let place : position_or_len ends_line input ≡ length line = rw whole h in
     let over : (n : ℕ) → length line ≤ n → left ≡ drop n input = λ n more. rw whole (end ∙ sym (drop_of_length-le line more)) in (
       rw whole some,
       rw (place, whole) (sym (take-length line)),
-      (length line, omega arith, over (length line) (omega arith)),
+      (length line, omega (arith, short), over (length line) (omega arith)),
       λ _. over (position_or_len ends_line input + 1) (omega (arith, place)),
     )
 
 -- a line and a piece of it that was read next: it goes on, or ended with LF, or with the input
 pub goes_on : (asked : ℕ) (old mid new : Option (List ℕ)) (line piece : List ℕ) (ending : Ending) → HasNoEnd line → Consumes old mid line
-    → TakesPiece asked mid new piece ending → ending ≡ Open → HasNoEnd (line ++ piece) × Consumes old new (line ++ piece) × (0 < length piece)
+    → TakesPiece asked mid new piece ending → ending ≡ Open
+    → HasNoEnd (line ++ piece) × Consumes old new (line ++ piece) × (0 < length piece)
 goes_on asked old mid new line piece ending h all taken is =
     let piece-taken = rw is at taken in
     (has_no_end-append line piece h piece-taken.1, Consumes-trans old mid new line piece all piece-taken.0, piece-taken.2)
 
-pub ends_with_line : (wanted : Option ℕ) (asked : ℕ) (old mid new : Option (List ℕ)) (line piece : List ℕ) (ending : Ending) → HasNoEnd line → Consumes old mid line
-    → TakesPiece asked mid new piece ending → ending ≡ Line → asked ≤ line_digits wanted + 1 - length line → TakesLine wanted old new (line ++ piece)
-ends_with_line wanted asked old mid new line piece ending h all taken ended few =
+pub ends_with_line : (wanted : Option ℕ) (asked : ℕ) (old mid new : Option (List ℕ)) (line piece : List ℕ) (ending : Ending) → HasNoEnd line
+    → Consumes old mid line
+    → TakesPiece asked mid new piece ending → ending ≡ Line → asked ≤ line_digits wanted + 1 - length line
+    → asked ≤ longest_line + 1 - length line
+    → length (line ++ piece) ≤ longest_line → TakesLine wanted old new (line ++ piece)
+ends_with_line wanted asked old mid new line piece ending h all taken ended few few' within =
     let (more, rest, none, short) = rw ended at taken in
     takes_ended wanted old new (line ++ piece) more (has_no_end-append line piece h none)
-    (subst (λ l. Consumes old new l) (sym (append_assoc line piece (10 ∷ more))) (Consumes-trans old mid new line (piece ++ 10 ∷ more) all rest))
-    (omega (arith, short, few, length-append line piece))
+    (subst (λ l. Consumes old new l) (sym (append_assoc line piece (10 ∷ more)))
+    (Consumes-trans old mid new line (piece ++ 10 ∷ more) all rest))
+    (omega (arith, short, few, length-append line piece)) (omega (arith, short, few', within, length-append line piece))
 
-pub ends_with_input : (wanted : Option ℕ) (asked : ℕ) (old mid new : Option (List ℕ)) (line piece : List ℕ) (ending : Ending) → HasNoEnd line → Consumes old mid line
-    → TakesPiece asked mid new piece ending → ending ≡ Input → 0 < length (line ++ piece) → TakesLine wanted old new (line ++ piece)
-ends_with_input wanted asked old mid new line piece ending h all taken ended some =
+pub ends_with_input : (wanted : Option ℕ) (asked : ℕ) (old mid new : Option (List ℕ)) (line piece : List ℕ) (ending : Ending)
+    → HasNoEnd line → Consumes old mid line
+    → TakesPiece asked mid new piece ending → ending ≡ Input → 0 < length (line ++ piece) → length (line ++ piece) ≤ longest_line
+    → TakesLine wanted old new (line ++ piece)
+ends_with_input wanted asked old mid new line piece ending h all taken ended some short =
     let piece-taken = rw ended at taken in
     takes_last wanted old new (line ++ piece) (has_no_end-append line piece h piece-taken.1)
-    (Consumes-trans old mid new line piece all piece-taken.0) piece-taken.2 some
+    (Consumes-trans old mid new line piece all piece-taken.0) piece-taken.2 some short
 
--- a line of which more was read than a line may have is too long, whatever follows
-pub long_line : (old new : Option (List ℕ)) (line : List ℕ) → HasNoEnd line → Consumes old new line → longest_line < length line
-    → (number : ℕ) (wanted : Option ℕ) → FaultOfLines number (wanted ∷ []) old (TooLong number)
-long_line None new line h taken long number wanted = tt
+-- a line of which more was read than a line may have is too long, whatever follows, and was judged before anything after it was read
+pub long_line : (old new : Option (List ℕ)) (line : List ℕ) → HasNoEnd line → Consumes old new line → length line ≡ longest_line + 1
+    → (number : ℕ) (wanted : Option ℕ) → Stops number (wanted ∷ []) old new (TooLong number)
+long_line None new line h taken long number wanted = λ _. (tt, tt)
 long_line (Some input) None line h taken long number wanted = absurd taken
 long_line (Some []) (Some left) line h taken long number wanted =
-    absurd (omega (arith, ap length taken, length-append line left))
-long_line (Some (byte ∷ later)) (Some left) line h taken long number wanted =
-    let place : position_or_len ends_line (byte ∷ later) ≡ length line + position_or_len ends_line left =
-    subst (λ x. position_or_len ends_line x ≡ length line + position_or_len ends_line left) (sym taken) (end_after line left h) in
-    let size = length-prefix_len (λ x. not (ends_line x)) (byte ∷ later) in
-    ap (λ r. before_lines r (lines_bytes (number + 1) [] (after_line (byte ∷ later)))) (judged_long number wanted (first_line (byte ∷ later)) (omega (arith, size, place)))
-
--- such a line was judged before anything after it was read
-pub long_line-in_turn : (old new : Option (List ℕ)) (line : List ℕ) → HasNoEnd line → Consumes old new line → longest_line < length line
-    → (number : ℕ) (wanted : Option ℕ) → InTurn number (wanted ∷ []) old new
-long_line-in_turn None new line h taken long number wanted = tt
-long_line-in_turn (Some input) None line h taken long number wanted = absurd taken
-long_line-in_turn (Some []) (Some left) line h taken long number wanted =
-    absurd (omega (arith, ap length taken, length-append line left))
-long_line-in_turn (Some (byte ∷ later)) (Some left) line h taken long number wanted =
+    absurd (omega (arith, ap length taken, length-append line left, long))
+long_line (Some (byte ∷ later)) (Some left) line h taken long number wanted = λ _.
     let input = byte ∷ later in
     let place : position_or_len ends_line input ≡ length line + position_or_len ends_line left =
     subst (λ x. position_or_len ends_line x ≡ length line + position_or_len ends_line left) (sym taken) (end_after line left h) in
     let size : length (first_line input) ≡ position_or_len ends_line input = length-prefix_len (λ x. not (ends_line x)) input in
-    let bad : line_bytes number wanted input ≡ Err (TooLong number) = judged_long number wanted (first_line input) (omega (arith, size, place)) in
-    subst (λ r. MatchResult r (λ _. StopsInTurn (number + 1) [] (after_line input) left) (λ _. LeavesAllBut (line_reach wanted (first_line input)) input left))
-    (sym bad) (length line, omega (arith, size, place), sym (ap (drop (length line)) taken ∙ drop-append_seam line left))
+    let bad : line_bytes number wanted input ≡ Err (TooLong number) = judged_long number wanted (first_line input)
+    (omega (arith, size, place, long)) in (
+      ap (λ r. before_lines r (Ok [])) bad,
+      subst (λ r. MatchResult r (λ _. ⊥) (λ _. LeavesAllBut (line_reach wanted (first_line input)) input left)) (sym bad)
+          (length line, omega (arith, size, place, long), sym (ap (drop (length line)) taken ∙ drop-append_seam line left)),
+    )
 
 -- an input without a byte has no line
 pub no_line : (old new : Option (List ℕ)) (line : List ℕ) → Consumes old new line → length line ≡ 0 → IsAtEnd new
-    → (number : ℕ) (wanted : Option ℕ) → FaultOfLines number (wanted ∷ []) old (Missing number)
-no_line None new line all none end number wanted = tt
+    → (number : ℕ) (wanted : Option ℕ) → Stops number (wanted ∷ []) old new (Missing number)
+no_line None new line all none end number wanted = λ _. (tt, tt)
 no_line (Some input) None line all none end number wanted = absurd all
 no_line (Some input) (Some left) [] all none end number wanted =
     let empty : input ≡ [] = all ∙ end in
-    rw empty refl
+    λ _. rw empty (refl, (0, omega arith, end))
 no_line (Some input) (Some left) (byte ∷ line) all none end number wanted = absurd (omega (arith, none))
-
-pub no_line-in_turn : (old new : Option (List ℕ)) (line : List ℕ) → Consumes old new line → length line ≡ 0 → IsAtEnd new
-    → (number : ℕ) (wanted : Option ℕ) → InTurn number (wanted ∷ []) old new
-no_line-in_turn None new line all none end number wanted = tt
-no_line-in_turn (Some input) None line all none end number wanted = absurd all
-no_line-in_turn (Some input) (Some left) [] all none end number wanted =
-    let empty : input ≡ [] = all ∙ end in
-    rw empty (0, omega arith, end)
-no_line-in_turn (Some input) (Some left) (byte ∷ line) all none end number wanted = absurd (omega (arith, none))
 
 -- LF stands in a piece that one call gave
 pub ended_at_once : (old new : Option (List ℕ)) (asked count : ℕ) (room : List ℕ) (end : ℕ) → count ≤ length room → count ≤ asked
     → Consumes old new (take count room) → position ends_line (take count room) ≡ Some end
-    → (more : List ℕ) × Consumes old new (take end room ++ 10 ∷ more) × HasNoEnd (take end room) × (length more ≤ asked - length (take end room) - 1)
+    → (more : List ℕ) × Consumes old new (take end room ++ 10 ∷ more) × HasNoEnd (take end room)
+    × (length more ≤ asked - length (take end room) - 1)
 ended_at_once old new asked count room end within size given some =
     let first = first_end (take count room) end some in
     let long = length-take-le count room within in

@@ -1,24 +1,20 @@
 -- The lines of a batch, entry by entry.
-use Rattle.std.proofs.Common.{◌≡◌, ℕ, zero, suc, ◌+◌, ◌-◌, ◌*◌, ◌<◌, List, [], ◌∷◌, ◌++◌, length, get_or, Option, Some, None, Ok, refl, sym, ap, ◌∙◌, arith, subst}
+use Rattle.std.proofs.Common.{◌≡◌, ℕ, zero, suc, ◌+◌, ◌-◌, ◌*◌, ◌<◌, List, [], ◌∷◌, ◌++◌, length, get_or, Option, Some, None, Ok, refl, sym}
+use Rattle.std.proofs.Common.{ap, ◌∙◌, arith, subst}
 use Rattle.fips204.specs.ParameterSets.{ParameterSet, signature_length}
 use Rattle.mldsa_engine.specs.declared.fault.RunFault.{RunFault}
 use Rattle.mldsa_engine.specs.declared.call.Task.{Task}
 use Rattle.mldsa_engine.specs.declared.call.Task.TheVariants.{Batch}
-use Rattle.mldsa_engine.specs.Lines.{after_line, after_lines, line_bytes, lines_bytes, TakesLines, FaultOfLines, InTurn}
+use Rattle.mldsa_engine.specs.Lines.{after_line, after_lines, line_bytes, lines_bytes, TakesLines, Stops}
 use Rattle.mldsa_engine.specs.InnerSteps.{AllFit}
 use Rattle.mldsa_engine.specs.ProgramText.{wanted_lines, entry_lines, later_lines, two_bytes, entries_of, entries_of_line, input_lines}
-use Rattle.mldsa_engine.proofs.LinesInSequence.{AllFit-append, before_good, takes_more, later_fault, later_in_turn, earlier_fault, earlier_in_turn}
+use Rattle.mldsa_engine.proofs.LinesInSequence.{AllFit-append, before_good, takes_more, stops_after, stops_before}
 
 -- the fault of one of the first lines is that of them all
-pub first_fault : (task : Task) (p : ParameterSet) (given : Option (List ℕ)) (fault : RunFault)
-    → FaultOfLines 1 (wanted_lines task p) given fault → FaultOfLines 1 (input_lines task p given) given fault
-first_fault task p given fault bad =
-    earlier_fault 1 (wanted_lines task p) (later_lines task p (entries_of given)) given fault bad
-
-pub first_in_turn : (task : Task) (p : ParameterSet) (given left : Option (List ℕ))
-    → InTurn 1 (wanted_lines task p) given left → InTurn 1 (input_lines task p given) given left
-first_in_turn task p given left bad =
-    earlier_in_turn 1 (wanted_lines task p) (later_lines task p (entries_of given)) given left bad
+pub stops_first : (task : Task) (p : ParameterSet) (given left : Option (List ℕ)) (fault : RunFault)
+    → Stops 1 (wanted_lines task p) given left fault → Stops 1 (input_lines task p given) given left fault
+stops_first task p given left fault bad =
+    stops_before 1 (wanted_lines task p) (later_lines task p (entries_of given)) given left fault bad
 
 -- the third of the lines that were taken
 third_line : (first second third : Option ℕ) (input : List ℕ) (lines : List (List ℕ))
@@ -47,24 +43,14 @@ batch_taken p (Some input) mid left lines entries count first said later =
     (subst (λ n. TakesLines 4 (entry_lines size n) mid left entries) (entries_said p input mid lines count first said) later)
 
 -- the fault of an entry is that of the batch
-pub batch_fault : (p : ParameterSet) (given mid : Option (List ℕ)) (lines : List (List ℕ)) (count : ℕ) (fault : RunFault)
+pub stops_batch : (p : ParameterSet) (given mid left : Option (List ℕ)) (lines : List (List ℕ)) (count : ℕ) (fault : RunFault)
     → TakesLines 1 (wanted_lines Batch p) given mid lines → count ≡ two_bytes (get_or lines 2 [])
-    → FaultOfLines 4 (entry_lines (signature_length p) count) mid fault
-    → FaultOfLines 1 (input_lines Batch p given) given fault
-batch_fault p None mid lines count fault first said bad = tt
-batch_fault p (Some input) mid lines count fault first said bad =
+    → Stops 4 (entry_lines (signature_length p) count) mid left fault → Stops 1 (input_lines Batch p given) given left fault
+stops_batch p None mid left lines count fault first said bad = λ _. (tt, tt)
+stops_batch p (Some input) mid left lines count fault first said bad =
     let size = signature_length p in
-    later_fault 1 4 (wanted_lines Batch p) (entry_lines size (entries_of (Some input))) (Some input) mid lines fault refl first
-    (subst (λ n. FaultOfLines 4 (entry_lines size n) mid fault) (entries_said p input mid lines count first said) bad)
-
-pub batch_in_turn : (p : ParameterSet) (given mid left : Option (List ℕ)) (lines : List (List ℕ)) (count : ℕ)
-    → TakesLines 1 (wanted_lines Batch p) given mid lines → count ≡ two_bytes (get_or lines 2 [])
-    → InTurn 4 (entry_lines (signature_length p) count) mid left → InTurn 1 (input_lines Batch p given) given left
-batch_in_turn p None mid left lines count first said bad = tt
-batch_in_turn p (Some input) mid left lines count first said bad =
-    let size = signature_length p in
-    later_in_turn 1 4 (wanted_lines Batch p) (entry_lines size (entries_of (Some input))) (Some input) mid left lines refl first
-    (subst (λ n. InTurn 4 (entry_lines size n) mid left) (entries_said p input mid lines count first said) bad)
+    stops_after 1 4 (wanted_lines Batch p) (entry_lines size (entries_of (Some input))) (Some input) mid left lines fault refl first
+    (subst (λ n. Stops 4 (entry_lines size n) mid left fault) (entries_said p input mid lines count first said) bad)
 
 -- the lines of entries are those of the first and then those of the others
 entries_more : (size entries more : ℕ) → entry_lines size (entries + more) ≡ entry_lines size entries ++ entry_lines size more
@@ -88,7 +74,8 @@ pub next_entry : (size entry number : ℕ) (old mid new : Option (List ℕ)) (en
     → AllFit (entry_lines size (entry + 1)) (entries ++ lines) × TakesLines 4 (entry_lines size (entry + 1)) old new (entries ++ lines)
 next_entry size entry number old mid new entries lines numbered fit taken fits takes = rw (entries_more size entry 1) (
   AllFit-append (entry_lines size entry) (entry_lines size 1) entries lines fit fits,
-  takes_more 4 number (entry_lines size entry) (entry_lines size 1) old mid new entries lines (numbered_on size entry number numbered) taken takes,
+  takes_more 4 number (entry_lines size entry) (entry_lines size 1) old mid new entries lines
+      (numbered_on size entry number numbered) taken takes,
 )
 
 -- the lines of entries, of which one is the next
@@ -97,23 +84,16 @@ whole_batch : (size entry count : ℕ) → entry < count
 whole_batch size entry count within =
     let rest = count - entry - 1 in
     let sum : entry + (1 + rest) ≡ count = omega (arith, within) in
-    ap (λ l. entry_lines size entry ++ l) (sym (entries_more size 1 rest)) ∙ sym (entries_more size entry (1 + rest)) ∙ ap (entry_lines size) sum
+    ap (λ l. entry_lines size entry ++ l) (sym (entries_more size 1 rest)) ∙ sym (entries_more size entry (1 + rest))
+    ∙ ap (entry_lines size) sum
 
 -- the fault of a line of an entry is that of them all, where the entries before it were good
-pub fault_of_entry : (size entry count number : ℕ) (old mid : Option (List ℕ)) (entries : List (List ℕ)) (fault : RunFault)
+pub stops_entry : (size entry count number : ℕ) (old mid new : Option (List ℕ)) (entries : List (List ℕ)) (fault : RunFault)
     → entry < count → number ≡ 4 + 2 * entry → TakesLines 4 (entry_lines size entry) old mid entries
-    → FaultOfLines number (entry_lines size 1) mid fault → FaultOfLines 4 (entry_lines size count) old fault
-fault_of_entry size entry count number old mid entries fault within numbered taken bad =
+    → Stops number (entry_lines size 1) mid new fault → Stops 4 (entry_lines size count) old new fault
+stops_entry size entry count number old mid new entries fault within numbered taken bad =
     let later = entry_lines size (count - entry - 1) in
-    let one = earlier_fault number (entry_lines size 1) later mid fault bad in
-    let all = later_fault 4 number (entry_lines size entry) (entry_lines size 1 ++ later) old mid entries fault (numbered_on size entry number numbered) taken one in
-    rw (whole_batch size entry count within) at all
-
-pub in_turn_of_entry : (size entry count number : ℕ) (old mid new : Option (List ℕ)) (entries : List (List ℕ))
-    → entry < count → number ≡ 4 + 2 * entry → TakesLines 4 (entry_lines size entry) old mid entries
-    → InTurn number (entry_lines size 1) mid new → InTurn 4 (entry_lines size count) old new
-in_turn_of_entry size entry count number old mid new entries within numbered taken bad =
-    let later = entry_lines size (count - entry - 1) in
-    let one = earlier_in_turn number (entry_lines size 1) later mid new bad in
-    let all = later_in_turn 4 number (entry_lines size entry) (entry_lines size 1 ++ later) old mid new entries (numbered_on size entry number numbered) taken one in
+    let one = stops_before number (entry_lines size 1) later mid new fault bad in
+    let all = stops_after 4 number (entry_lines size entry) (entry_lines size 1 ++ later) old mid new entries fault
+    (numbered_on size entry number numbered) taken one in
     rw (whole_batch size entry count within) at all

@@ -3,5 +3,5 @@ pub mod Endings
 pub mod Entries
 pub mod Judging
 pub mod LinesInSequence
-pub mod Lengths
 pub mod Verdicts
+mod Worked

@@ -1,12 +1,13 @@
 -- Lines that are as many as a command wants, and what it then writes for them.
-use Rattle.std.proofs.Common.{◌≡◌, ℕ, Bool, List, [], ◌∷◌, ◌*◌, map, get_or, Option, Result, Ok, Err, IfOk, IfErr, Some, None, refl, ap, ◌∙◌, subst}
+use Rattle.std.proofs.Common.{◌≡◌, ℕ, Bool, List, [], ◌∷◌, ◌*◌, map, get_or, Option, Result, Ok, Err, IfOk, IfErr, Some, None, refl, ap}
+use Rattle.std.proofs.Common.{◌∙◌, subst}
 use Rattle.fips204.specs.ParameterSets.{ParameterSet, public_key_length, signature_length}
 use Rattle.mldsa_engine.specs.declared.fault.RunFault.{RunFault}
 use Rattle.mldsa_engine.specs.declared.call.Task.{Task}
 use Rattle.mldsa_engine.specs.declared.call.Task.TheVariants.{Id, Keygen, Sign, Verify, Check, Batch}
 use Rattle.mldsa_engine.specs.InnerSteps.{AllFit}
-use Rattle.mldsa_engine.specs.Lines.{TakesLines, IsLineFault, FaultOfLines, InTurn}
-use Rattle.mldsa_engine.proofs.Entries.{two_each, batch_taken, batch_fault, batch_in_turn}
+use Rattle.mldsa_engine.specs.Lines.{TakesLines, Stops}
+use Rattle.mldsa_engine.proofs.Entries.{two_each, batch_taken, stops_batch}
 use Rattle.mldsa_engine.proofs.LinesInSequence.{AllFit-length}
 use Rattle.mldsa_engine.specs.ProgramText.{wanted_lines, input_lines, entry_lines, two_bytes, Answers, Executes}
 use Rattle.mldsa_engine.specs.InnerSteps.{JudgesByKey}
@@ -51,7 +52,8 @@ four_counted items w x y z (a ∷ b ∷ c ∷ d ∷ []) first second third fourt
 four_counted items w x y z (a ∷ b ∷ c ∷ d ∷ e ∷ more) first second third fourth fit p0 p1 p2 p3 = absurd fit.1.1.1.1
 
 -- a command of one line answers, by what it writes for that line's bytes
-pub answers_one : {V W E : Type 0} (items : V → List ℕ) (text : W → List ℕ) (success : W → Bool) (H G : List ℕ → List ℕ) (task : Task) (p : ParameterSet)
+pub answers_one : {V W E : Type 0} (items : V → List ℕ) (text : W → List ℕ) (success : W → Bool) (H G : List ℕ → List ℕ) (task : Task)
+    (p : ParameterSet)
     (w : Option ℕ) (R : List ℕ → List ℕ → Bool → Type 0) (lines : List V) (first : V) (a : List ℕ) (result : Result W E)
     → ((a output : List ℕ) (answer : Bool) → R a output answer → Answers H G task p (a ∷ []) output answer)
     → AllFit (w ∷ []) (map items lines) → first ≡ get_or lines 0 first → a ≡ items first
@@ -61,7 +63,8 @@ answers_one items text success H G task p w R lines first a (Ok it) means fit p0
     rw (one_counted items w lines first fit p0, ← e0) (means a (text it) (success it) told)
 
 -- a command of four lines answers, by what it writes for their bytes
-pub answers_four : {V W E : Type 0} (items : V → List ℕ) (text : W → List ℕ) (success : W → Bool) (H G : List ℕ → List ℕ) (task : Task) (p : ParameterSet)
+pub answers_four : {V W E : Type 0} (items : V → List ℕ) (text : W → List ℕ) (success : W → Bool) (H G : List ℕ → List ℕ) (task : Task)
+    (p : ParameterSet)
     (w x y z : Option ℕ) (R : List ℕ → List ℕ → List ℕ → List ℕ → List ℕ → Bool → Type 0)
     (lines : List V) (first second third fourth : V) (a b c d : List ℕ) (result : Result W E)
     → ((a b c d output : List ℕ) (answer : Bool) → R a b c d output answer → Answers H G task p (a ∷ b ∷ c ∷ d ∷ []) output answer)
@@ -69,28 +72,36 @@ pub answers_four : {V W E : Type 0} (items : V → List ℕ) (text : W → List 
     → first ≡ get_or lines 0 first → second ≡ get_or lines 1 second → third ≡ get_or lines 2 third → fourth ≡ get_or lines 3 fourth
     → a ≡ items first → b ≡ items second → c ≡ items third → d ≡ items fourth
     → IfOk result (λ it. R a b c d (text it) (success it)) → IfOk result (λ it. Answers H G task p (map items lines) (text it) (success it))
-answers_four items text success H G task p w x y z R lines first second third fourth a b c d (Err fault) means fit p0 p1 p2 p3 e0 e1 e2 e3 told = told
-answers_four items text success H G task p w x y z R lines first second third fourth a b c d (Ok it) means fit p0 p1 p2 p3 e0 e1 e2 e3 told =
-    rw (four_counted items w x y z lines first second third fourth fit p0 p1 p2 p3, ← e0, ← e1, ← e2, ← e3) (means a b c d (text it) (success it) told)
+answers_four items text success H G task p w x y z R lines first second third fourth a b c d
+    (Err fault) means fit p0 p1 p2 p3 e0 e1 e2 e3 told = told
+answers_four items text success H G task p w x y z R lines first second third fourth a b c d
+    (Ok it) means fit p0 p1 p2 p3 e0 e1 e2 e3 told =
+    rw (four_counted items w x y z lines first second third fourth fit p0 p1 p2 p3, ← e0, ← e1, ← e2, ← e3)
+    (means a b c d (text it) (success it) told)
 
 -- a command that wants no lines but its first was carried out, by its answer to them
 pub executes_whole : {W E : Type 0} (text : W → List ℕ) (success : W → Bool) (H G : List ℕ → List ℕ) (task : Task) (p : ParameterSet)
     (given left : Option (List ℕ)) (lines : List (List ℕ)) (result : Result W E) → ¬ (task ≡ Batch)
     → TakesLines 1 (wanted_lines task p) given left lines
-    → IfOk result (λ it. Answers H G task p lines (text it) (success it)) → IfOk result (λ it. Executes H G task p given left (text it) (success it))
+    → IfOk result (λ it. Answers H G task p lines (text it) (success it))
+    → IfOk result (λ it. Executes H G task p given left (text it) (success it))
 executes_whole text success H G task p given left lines (Err fault) other taken told = told
-executes_whole text success H G task p given left lines (Ok it) other taken told = (lines, subst (λ l. TakesLines 1 l given left lines) (whole_lines task p given other) taken, told)
+executes_whole text success H G task p given left lines (Ok it) other taken told =
+    (lines, subst (λ l. TakesLines 1 l given left lines) (whole_lines task p given other) taken, told)
 
 -- a batch was carried out, by what was told of its entries
-pub executes_batch : {V W E : Type 0} (items : V → List ℕ) (text : W → List ℕ) (success : W → Bool) (H G : List ℕ → List ℕ) (p : ParameterSet)
+pub executes_batch : {V W E : Type 0} (items : V → List ℕ) (text : W → List ℕ) (success : W → Bool) (H G : List ℕ → List ℕ)
+    (p : ParameterSet)
     (given mid left : Option (List ℕ)) (lines : List V) (first second third : V) (k c t : List ℕ) (count : ℕ) (result : Result W E)
     → AllFit (wanted_lines Batch p) (map items lines) → TakesLines 1 (wanted_lines Batch p) given mid (map items lines)
     → first ≡ get_or lines 0 first → second ≡ get_or lines 1 second → third ≡ get_or lines 2 third
     → k ≡ items first → c ≡ items second → t ≡ items third → count ≡ two_bytes t
     → IfOk result (λ it. JudgesByKey p H G k c count mid left (text it) (success it))
     → IfOk result (λ it. Executes H G Batch p given left (text it) (success it))
-executes_batch items text success H G p given mid left lines first second third k c t count (Err fault) fit taken p0 p1 p2 e0 e1 e2 said judged = judged
-executes_batch items text success H G p given mid left lines first second third k c t count (Ok it) fit taken p0 p1 p2 e0 e1 e2 said judged =
+executes_batch items text success H G p given mid left lines first second third k c t count
+    (Err fault) fit taken p0 p1 p2 e0 e1 e2 said judged = judged
+executes_batch items text success H G p given mid left lines first second third k c t count
+    (Ok it) fit taken p0 p1 p2 e0 e1 e2 said judged =
     let (pk, is, (entries, fits, later, each)) = judged in
     let three = three_counted items (Some (public_key_length p)) None (Some 2) lines first second third fit p0 p1 p2 in
     let front = rw (three, ← e0, ← e1, ← e2) at taken in
@@ -101,28 +112,16 @@ executes_batch items text success H G p given mid left lines first second third 
     )
 
 -- the fault of a line of a batch's entries is that of the batch
-pub batch_line_fault : {V W : Type 0} (items : V → List ℕ) (p : ParameterSet) (given mid : Option (List ℕ)) (lines : List V) (first second third : V)
+pub batch_stops : {V W : Type 0} (items : V → List ℕ) (p : ParameterSet) (given mid left : Option (List ℕ)) (lines : List V)
+    (first second third : V)
     (t : List ℕ) (count : ℕ) (result : Result W RunFault)
     → AllFit (wanted_lines Batch p) (map items lines) → TakesLines 1 (wanted_lines Batch p) given mid (map items lines)
     → first ≡ get_or lines 0 first → second ≡ get_or lines 1 second → third ≡ get_or lines 2 third
     → t ≡ items third → count ≡ two_bytes t
-    → IfErr result (λ fault. IsLineFault fault → FaultOfLines 4 (entry_lines (signature_length p) count) mid fault)
-    → IfErr result (λ fault. IsLineFault fault → FaultOfLines 1 (input_lines Batch p given) given fault)
-batch_line_fault items p given mid lines first second third t count (Ok it) fit taken p0 p1 p2 e2 said bad = bad
-batch_line_fault items p given mid lines first second third t count (Err fault) fit taken p0 p1 p2 e2 said bad =
+    → IfErr result (Stops 4 (entry_lines (signature_length p) count) mid left)
+    → IfErr result (Stops 1 (input_lines Batch p given) given left)
+batch_stops items p given mid left lines first second third t count (Ok it) fit taken p0 p1 p2 e2 said bad = bad
+batch_stops items p given mid left lines first second third t count (Err fault) fit taken p0 p1 p2 e2 said bad =
     let three = three_counted items (Some (public_key_length p)) None (Some 2) lines first second third fit p0 p1 p2 in
     let front = rw (three, ← e2) at taken in
-    λ of_line. batch_fault p given mid _ count fault front said (bad of_line)
-
-pub batch_line_in_turn : {V W : Type 0} (items : V → List ℕ) (p : ParameterSet) (given mid left : Option (List ℕ)) (lines : List V) (first second third : V)
-    (t : List ℕ) (count : ℕ) (result : Result W RunFault)
-    → AllFit (wanted_lines Batch p) (map items lines) → TakesLines 1 (wanted_lines Batch p) given mid (map items lines)
-    → first ≡ get_or lines 0 first → second ≡ get_or lines 1 second → third ≡ get_or lines 2 third
-    → t ≡ items third → count ≡ two_bytes t
-    → IfErr result (λ fault. IsLineFault fault → InTurn 4 (entry_lines (signature_length p) count) mid left)
-    → IfErr result (λ fault. IsLineFault fault → InTurn 1 (input_lines Batch p given) given left)
-batch_line_in_turn items p given mid left lines first second third t count (Ok it) fit taken p0 p1 p2 e2 said bad = bad
-batch_line_in_turn items p given mid left lines first second third t count (Err fault) fit taken p0 p1 p2 e2 said bad =
-    let three = three_counted items (Some (public_key_length p)) None (Some 2) lines first second third fit p0 p1 p2 in
-    let front = rw (three, ← e2) at taken in
-    λ of_line. batch_in_turn p given mid left _ count front said (bad of_line)
+    stops_batch p given mid left _ count fault front said bad

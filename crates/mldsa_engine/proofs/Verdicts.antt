@@ -17,13 +17,15 @@ use Rattle.fips204.specs.Refusals.{VerifiesMessage}
 use Rattle.fips204.specs.declared.types.T.{T}
 use Rattle.mldsa_engine.specs.InnerSteps.{AllFit}
 use Rattle.mldsa_engine.specs.Lines.{TakesLines}
-use Rattle.mldsa_engine.specs.ProgramText.{text, answer_word, entry_lines, AnswersEach, TellsAll}
-use Rattle.mldsa_engine.specs.InnerSteps.{AcceptsIfPrepared, JudgesEntries, JudgesByKey}
+use Rattle.mldsa_engine.specs.ProgramText.{text, answer_word, entry_lines, AnswersEach, TellsAll, Judges}
+use Rattle.mldsa_engine.specs.InnerSteps.{AcceptsIfPrepared, JudgesEntries}
+use Rattle.mldsa_engine.specs.InnerSteps.{JudgesByKey}
 use Rattle.mldsa_engine.proofs.LinesInSequence.{no_lines}
 use Rattle.mldsa_engine.proofs.Entries.{next_entry}
 
 -- the answer to one entry more
-answers_next : (accepts : List ℕ → List ℕ → Type 0) (entries : List (List ℕ)) (answers : List Bool) (signature message : List ℕ) (answer : Bool)
+answers_next : (accepts : List ℕ → List ℕ → Type 0) (entries : List (List ℕ)) (answers : List Bool) (signature message : List ℕ)
+    (answer : Bool)
     → (IsTrue answer ↔ accepts signature message) → AnswersEach accepts entries answers
     → AnswersEach accepts (entries ++ signature ∷ message ∷ []) (answers ++ answer ∷ [])
 answers_next accepts entries answers signature message answer now (size, each) =
@@ -67,27 +69,39 @@ told_next answers answer old new all next grown both tells = (
 )
 
 -- no entry was judged, and one more
-pub judges_none : (accepts : List ℕ → List ℕ → Type 0) (size : ℕ) (given : Option (List ℕ)) → JudgesEntries accepts size 0 given given [] true
+pub judges_none : (accepts : List ℕ → List ℕ → Type 0) (size : ℕ) (given : Option (List ℕ))
+    → JudgesEntries accepts size 0 given given [] true
 judges_none accepts size given =
     ([], tt, no_lines 4 given, ([], (refl, λ entry within. absurd (omega (arith, within))), (refl, (λ _. All-nil IsTrue, λ _. refl))))
 
-pub judges_next : {V : Type 0} (items : V → List ℕ) (accepts : List ℕ → List ℕ → Type 0) (size entry number : ℕ) (old mid new : Option (List ℕ))
+pub judges_next : {V : Type 0} (items : V → List ℕ) (accepts : List ℕ → List ℕ → Type 0) (size entry number : ℕ)
+    (old mid new : Option (List ℕ))
     (lines : List V) (first second : V) (before after : List ℕ) (all next answer : Bool) (s m : List ℕ) → number ≡ 4 + 2 * entry
     → AllFit (entry_lines size 1) (map items lines) → TakesLines number (entry_lines size 1) mid new (map items lines)
     → first ≡ get_or lines 0 first → second ≡ get_or lines 1 second → s ≡ items first → m ≡ items second
     → (IsTrue answer ↔ accepts s m) → after ≡ before ++ (answer_word answer ++ 10 ∷ []) → (IsTrue next ↔ IsTrue all × IsTrue answer)
     → JudgesEntries accepts size entry old mid before all → JudgesEntries accepts size (entry + 1) old new after next
-judges_next items accepts size entry number old mid new [] first second before after all next answer s m numbered fit takes is is' e e' now grown both told = absurd fit
-judges_next items accepts size entry number old mid new (a ∷ []) first second before after all next answer s m numbered fit takes is is' e e' now grown both told = absurd fit.1
-judges_next items accepts size entry number old mid new (a ∷ b ∷ []) first second before after all next answer s m numbered fit takes is is' e e' now grown both (entries, fits, taken, (answers, each, tells)) =
+judges_next items accepts size entry number old mid new [] first second before after all next answer s m numbered fit takes is is' e e' now
+    grown both told = absurd fit
+judges_next items accepts size entry number old mid new
+    (a ∷ []) first second before after all next answer s m numbered fit takes is is' e e' now grown both told = absurd fit.1
+judges_next items accepts size entry number old mid new
+    (a ∷ b ∷ []) first second before after all next answer s m numbered fit takes is is' e e' now grown both
+    (entries, fits, taken, (answers, each, tells)) =
     let further = next_entry size entry number old mid new entries (items a ∷ items b ∷ []) numbered fits taken fit takes in
     let now' : IsTrue answer ↔ accepts (items a) (items b) = rw (← is, ← is', ← e, ← e') now in (
       entries ++ items a ∷ items b ∷ [],
       further.0,
       further.1,
-      (answers ++ answer ∷ [], answers_next accepts entries answers (items a) (items b) answer now' each, told_next answers answer before after all next grown both tells),
+      (
+        answers ++ answer ∷ [],
+        answers_next accepts entries answers (items a)
+            (items b) answer now' each,
+        told_next answers answer before after all next grown both tells,
+      ),
     )
-judges_next items accepts size entry number old mid new (a ∷ b ∷ c ∷ more) first second before after all next answer s m numbered fit takes is is' e e' now grown both told = absurd fit.1.1
+judges_next items accepts size entry number old mid new
+    (a ∷ b ∷ c ∷ more) first second before after all next answer s m numbered fit takes is is' e e' now grown both told = absurd fit.1.1
 
 -- what preparing a key answered accepts what the key does
 accepts_as_key : (p : ParameterSet) (H G : List ℕ → List ℕ) (matrix : Option (List (List T))) (pk : PublicParts)
@@ -112,15 +126,28 @@ answers_alike accepts alike entries answers same (size, each) = (
 )
 
 -- so what it answers for each entry is whether the key accepts it
-pub judged_by_prepared : {W E : Type 0} (output : W → List ℕ) (success : W → Bool) (p : ParameterSet) (H G : List ℕ → List ℕ) (pk : PublicParts)
-    (prepared : Result PreparedPublic Fault) (key context : List ℕ) (size count : ℕ) (given left : Option (List ℕ))
-    (result : Result W E) → PreparedAnswersAsPlain p H G → IsPublicKeyOf H p.k key pk → prepared ≡ prepared_public p G pk → size ≡ signature_length p
-    → IfOk result (λ it. JudgesEntries (λ signature message. AcceptsIfPrepared p H prepared message signature context) size count given left (output it) (success it))
+pub judged_by_prepared : {W E : Type 0} (output : W → List ℕ) (success : W → Bool) (p : ParameterSet) (H G : List ℕ → List ℕ)
+    (pk : PublicParts) (prepared : Result PreparedPublic Fault) (key context : List ℕ) (size count : ℕ) (given left : Option (List ℕ))
+    (result : Result W E) → PreparedAnswersAsPlain p H G → IsPublicKeyOf H p.k key pk → prepared ≡ prepared_public p G pk
+    → size ≡ signature_length p
+    → IfOk result (λ it. JudgesEntries (λ signature message. AcceptsIfPrepared p H prepared message signature context)
+    size count given left (output it) (success it))
     → IfOk result (λ it. JudgesByKey p H G key context count given left (output it) (success it))
 judged_by_prepared output success p H G pk prepared key context size count given left (Err fault) law is same sized each = each
 judged_by_prepared output success p H G pk prepared key context size count given left (Ok it) law is same sized each =
     let (entries, fit, taken, (answers, judged, tells)) = each in
-    let alike = answers_alike _ (λ signature message. VerifiesMessage p H G pk message signature context) entries answers
-    (λ signature message. accepts_as_key p H G (sampled_matrix G pk.rho p.k p.l) pk message signature context law refl) (rw same at judged) in
     let accepts : List ℕ → List ℕ → Type 0 = λ signature message. VerifiesMessage p H G pk message signature context in
-    (pk, is, subst (λ n. JudgesEntries accepts n count given left (output it) (success it)) sized (entries, fit, taken, (answers, alike, tells)))
+    let alike = answers_alike _ accepts entries answers
+    (λ signature message. accepts_as_key p H G (sampled_matrix G pk.rho p.k p.l) pk message signature context law refl)
+    (rw same at judged) in
+    let all : JudgesEntries accepts size count given left (output it) (success it) = (entries, fit, taken, (answers, alike, tells)) in
+    (pk, is, subst (λ n. JudgesEntries accepts n count given left (output it) (success it)) sized all)
+
+-- what is told of a verdict is what `verify` writes
+pub judges_told : {W E : Type 0} (output : W → List ℕ) (success : W → Bool) (p : ParameterSet) (H G : List ℕ → List ℕ)
+    (key signature context message : List ℕ) (answer : Bool) (result : Result W E)
+    → ((pk : PublicParts) × IsPublicKeyOf H p.k key pk × (IsTrue answer ↔ VerifiesMessage p H G pk message signature context))
+    → IfOk result (λ it. (output it ≡ text (answer_word answer ∷ [])) × (success it ≡ answer))
+    → IfOk result (λ it. Judges p H G key signature context message (output it) (success it))
+judges_told output success p H G key signature context message answer (Err fault) now told = told
+judges_told output success p H G key signature context message answer (Ok it) (pk, is, now) told = rw told.1 (pk, is, now, told.0)

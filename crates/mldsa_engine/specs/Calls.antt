@@ -1,5 +1,5 @@
 -- The words of a call.
-use Rattle.std.specs.Prelude.{ℕ, List, [], ◌∷◌, codes, replicate}
+use Rattle.std.specs.Prelude.{◌≡◌, ℕ, List, [], ◌∷◌, codes, replicate}
 use Rattle.fips204.specs.Streams.{sha256_front, sha512_front}
 use Rattle.mldsa_engine.specs.declared.call.Streams.{Streams}
 use Rattle.mldsa_engine.specs.declared.call.Streams.TheVariants.{Sha2, Fill00, Fill55, FillFf}
@@ -33,6 +33,15 @@ set_word MlDsa87 = codes "87"
 -- the words of a call, after the program's name
 abbrev pub call_words : Streams → Task → SetName → List (List ℕ)
 call_words streams task set = streams_word streams ∷ task_word task ∷ set_word set ∷ []
+
+-- the words are those of no call
+abbrev pub AreNoCall : List (List ℕ) → Type 0
+AreNoCall words = (streams : Streams) (task : Task) (set : SetName) → ¬ (words ≡ call_words streams task set)
+
+-- the words are those of a call, of which this holds
+abbrev pub AreCall : List (List ℕ) → (Streams → Task → SetName → Type 0) → Type 0
+AreCall words holds = (streams : Streams) × ((task : Task) × ((set : SetName) × (words ≡ call_words streams task set)
+    × holds streams task set))
 
 -- the stream that stands for H
 abbrev pub first_stream : Streams → List ℕ → List ℕ

@@ -72,6 +72,8 @@ JudgesEntries accepts size count given left output answer = (entries : List (Lis
     × ((answers : List Bool) × AnswersEach accepts entries answers × TellsAll answers output answer)
 
 -- so they were judged by the public key that has these bytes
-abbrev pub JudgesByKey : ParameterSet → (List ℕ → List ℕ) → (List ℕ → List ℕ) → List ℕ → List ℕ → ℕ → Option (List ℕ) → Option (List ℕ) → List ℕ → Bool → Type 0
+abbrev pub JudgesByKey : ParameterSet → (List ℕ → List ℕ) → (List ℕ → List ℕ) → List ℕ → List ℕ → ℕ → Option (List ℕ) → Option (List ℕ)
+    → List ℕ → Bool → Type 0
 JudgesByKey p H G key context count given left output answer = (pk : PublicParts) × IsPublicKeyOf H p.k key pk
-    × JudgesEntries (λ signature message. VerifiesMessage p H G pk message signature context) (signature_length p) count given left output answer
+    × JudgesEntries (λ signature message. VerifiesMessage p H G pk message signature context)
+    (signature_length p) count given left output answer

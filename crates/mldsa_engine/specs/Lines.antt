@@ -1,11 +1,11 @@
 -- The lines of an input, and the bytes that they spell in hex.
-use Rattle.std.specs.Prelude.{◌≡◌, ◌<◌, ◌≤◌, ℕ, zero, suc, ◌+◌, ◌-◌, ◌*◌, max, drop, MatchResult, ◌==◌, Bool, if◌then◌else◌, nat_lt, List, [], ◌∷◌, ◌++◌, length, Option, Some, None, Result, Ok, Err, ⊤}
-use Rattle.std.specs.List.{position_or_len, before_first, after_first}
-use Rattle.std.specs.Io.KnownBytes.{Consumes, IsAtEnd}
+use Rattle.std.specs.Prelude.{◌≡◌, ◌≤◌, ℕ, zero, suc, ◌+◌, ◌*◌, min, max, drop, MatchResult, ◌==◌, Bool, if◌then◌else◌, nat_lt}
+use Rattle.std.specs.Prelude.{List, [], ◌∷◌, length, Option, Some, None, Result, Ok, Err, ⊤}
+use Rattle.std.specs.List.{before_first, after_first}
 use Rattle.hex.specs.Hex.{decode_of}
 use Rattle.hex.specs.declared.error.FromHexError.{FromHexError}
-use Rattle.mldsa_engine.specs.declared.lines.Ending.{Ending}
-use Rattle.mldsa_engine.specs.declared.lines.Ending.TheVariants.{Open, Line, Input}
+use Rattle.hex.specs.declared.error.FromHexError.TheVariants.{InvalidHexCharacter, InvalidStringLength, OddLength, OutOfMemory}
+use Rattle.mldsa_engine.specs.Devices.{MarkedDevice}
 use Rattle.mldsa_engine.specs.declared.fault.RunFault.{RunFault}
 use Rattle.mldsa_engine.specs.declared.fault.RunFault.TheVariants.{Usage, Missing, TooLong, NotHex, Length, Read, Write, Memory}
 
@@ -77,9 +77,10 @@ abbrev pub line_digits : Option ℕ → ℕ
 line_digits None = 0
 line_digits (Some wants) = 2 * wants
 
--- the most characters that are taken before a line is judged: its own or the wanted digits, whichever are more, and LF
+-- the most characters that are taken before a line is judged: its own or the wanted digits, whichever are more, but no more than a
+-- line may have, and one beyond them
 abbrev pub line_reach : Option ℕ → List ℕ → ℕ
-line_reach wanted line = max (length line) (line_digits wanted) + 1
+line_reach wanted line = min (max (length line) (line_digits wanted)) longest_line + 1
 
 -- at most so many characters were taken of an input, and this is left
 abbrev pub LeavesAllBut : ℕ → List ℕ → List ℕ → Type 0
@@ -112,3 +113,19 @@ abbrev pub InTurn : ℕ → List (Option ℕ) → Option (List ℕ) → Option (
 InTurn number wanted None left = ⊤
 InTurn number wanted (Some input) None = ⊥
 InTurn number wanted (Some input) (Some left) = StopsInTurn number wanted input left
+
+-- a reader was stopped by a fault: one of a line is the first among the wanted lines, the first of which has this number, and each
+-- line was judged before the next was read
+abbrev pub Stops : ℕ → List (Option ℕ) → Option (List ℕ) → Option (List ℕ) → RunFault → Type 0
+Stops number wanted given left fault = IsLineFault fault → FaultOfLines number wanted given fault × InTurn number wanted given left
+
+-- the same of a marked reader
+abbrev pub StopsAt : {D : Type 0} → (D → Option (List ℕ)) → MarkedDevice D → MarkedDevice D → ℕ → List (Option ℕ) → RunFault → Type 0
+StopsAt remaining before after number wanted fault = Stops number wanted (remaining before.device) (remaining after.device) fault
+
+-- the fault of a line that could not be decoded
+abbrev pub refused : ℕ → FromHexError → RunFault
+refused number (InvalidHexCharacter _ _) = NotHex number
+refused number InvalidStringLength = NotHex number
+refused number OddLength = NotHex number
+refused number OutOfMemory = Memory

@@ -1,5 +1,6 @@
 -- The program's text: what a run answers and writes, by what its input spells.
-use Rattle.std.specs.Prelude.{◌≡◌, ◌<◌, ◌↔◌, ℕ, zero, suc, ◌+◌, ◌*◌, Bool, true, false, IsTrue, List, [], ◌∷◌, ◌++◌, length, get_or, map, take, All, codes, Option, Some, None, Result, Ok, Err, MatchResult}
+use Rattle.std.specs.Prelude.{◌≡◌, ◌<◌, ◌≤◌, ◌↔◌, ℕ, zero, suc, ◌+◌, ◌*◌, Bool, true, false, IsTrue, List, [], ◌∷◌, ◌++◌, length, get_or}
+use Rattle.std.specs.Prelude.{map, take, All, codes, Option, Some, None, Result, Ok, Err, MatchResult}
 use Rattle.std.specs.List.{flat_map}
 use Rattle.std.specs.Io.KnownBytes.{Appends}
 use Rattle.hex.specs.Hex.{encode_lower}
@@ -8,9 +9,10 @@ use Rattle.fips204.specs.Encodings.{public_key_bytes, private_key_bytes}
 use Rattle.fips204.specs.Faults.{words}
 use Rattle.fips204.specs.Keys.{PublicParts, IsPublicKeyOf, DecodesPrivate}
 use Rattle.fips204.specs.ParameterSets.{ParameterSet, set_44, set_65, set_87, public_key_length, private_key_length, signature_length}
-use Rattle.fips204.specs.Prepared.{PreparedPublic, VerifiesMessagePrepared}
 use Rattle.fips204.specs.Refusals.{generated, sign_message, VerifiesMessage}
-use Rattle.mldsa_engine.specs.Lines.{after_lines, line_bytes, TakesLines}
+use Rattle.mldsa_engine.specs.Calls.{first_stream, second_stream, AreCall}
+use Rattle.mldsa_engine.specs.Devices.{MarkedDevice}
+use Rattle.mldsa_engine.specs.Lines.{after_lines, line_bytes, TakesLines, FaultOfLines, InTurn}
 use Rattle.mldsa_engine.specs.declared.fault.RunFault.{RunFault}
 use Rattle.mldsa_engine.specs.declared.call.Task.{Task}
 use Rattle.mldsa_engine.specs.declared.call.Task.TheVariants.{Id, Keygen, Sign, Verify, Check, Batch}
@@ -22,6 +24,11 @@ abbrev pub named_set : SetName → ParameterSet
 named_set MlDsa44 = set_44
 named_set MlDsa65 = set_65
 named_set MlDsa87 = set_87
+
+-- a matrix, keys and signatures are no larger than those of the largest set
+abbrev pub AreSmall : ℕ → ℕ → ℕ → ℕ → ℕ → Type 0
+AreSmall rows columns public private signature = (rows ≤ 8) × (columns ≤ 7) × (rows * (columns * 1024) ≤ 57344)
+    × (public ≤ 2592) × (private ≤ 4896) × (signature ≤ 4627)
 
 -- the lines that a command wants of every input: a number of bytes each, or any number of them
 abbrev pub wanted_lines : Task → ParameterSet → List (Option ℕ)
@@ -92,13 +99,15 @@ TellsOfKey {K} decodes tells output answer = (decoded : Result K Fault) × decod
 -- `keygen`: the public key and the private key of a seed
 abbrev pub Generates : ParameterSet → (List ℕ → List ℕ) → (List ℕ → List ℕ) → List ℕ → List ℕ → Bool → Type 0
 Generates p H G seed output answer =
-    Tells (λ keys. public_key_bytes keys.0.rho keys.0.t1 ∷ private_key_bytes p.eta keys.1.rho keys.1.key keys.1.tr keys.1.s1 keys.1.s2 keys.1.t0 ∷ [])
+    Tells (λ keys. public_key_bytes keys.0.rho keys.0.t1 ∷ private_key_bytes p.eta keys.1.rho keys.1.key keys.1.tr keys.1.s1 keys.1.s2
+    keys.1.t0 ∷ [])
     (generated p H G seed) output answer
 
 -- `sign`: the signature by the private key that has these bytes, or the refusal; that of the bytes stands first
 abbrev pub Signs : ParameterSet → (List ℕ → List ℕ) → (List ℕ → List ℕ) → List ℕ → List ℕ → List ℕ → List ℕ → List ℕ → Bool → Type 0
 Signs p H G key seed context message output answer =
-    TellsOfKey (DecodesPrivate p.eta p.k p.l key) (λ sk. Tells (λ signature. signature ∷ []) (sign_message p H G sk seed message context)) output answer
+    TellsOfKey (DecodesPrivate p.eta p.k p.l key) (λ sk. Tells (λ signature. signature ∷ []) (sign_message p H G sk seed message context))
+    output answer
 
 -- the word for an answer
 abbrev pub answer_word : Bool → List ℕ
@@ -124,7 +133,8 @@ Checks p H G xi rnd context message output answer =
 -- the answer to each entry, a signature and a message, is whether it is accepted
 abbrev pub AnswersEach : (List ℕ → List ℕ → Type 0) → List (List ℕ) → List Bool → Type 0
 AnswersEach accepts entries answers = (length entries ≡ 2 * length answers)
-    × ((entry : ℕ) → entry < length answers → IsTrue (get_or answers entry false) ↔ accepts (get_or entries (2 * entry) []) (get_or entries (2 * entry + 1) []))
+    × ((entry : ℕ) → entry < length answers → IsTrue (get_or answers entry false)
+    ↔ accepts (get_or entries (2 * entry) []) (get_or entries (2 * entry + 1) []))
 
 -- answers are written as a word each, and are true together where none is `no`
 abbrev pub TellsAll : List Bool → List ℕ → Bool → Type 0
@@ -149,21 +159,51 @@ Answers H G Verify p lines output answer = (key signature context message : List
     × Judges p H G key signature context message output answer
 Answers H G Check p lines output answer = (xi rnd context message : List ℕ) × (lines ≡ xi ∷ rnd ∷ context ∷ message ∷ [])
     × Checks p H G xi rnd context message output answer
-Answers H G Batch p lines output answer = (key context count : List ℕ) × ((entries : List (List ℕ)) × (lines ≡ key ∷ context ∷ count ∷ entries)
+Answers H G Batch p lines output answer = (key context count : List ℕ)
+    × ((entries : List (List ℕ)) × (lines ≡ key ∷ context ∷ count ∷ entries)
     × (length entries ≡ 2 * two_bytes count)
     × JudgesEach p H G key context entries output answer)
 
 -- a command was carried out over the streams H and G: its reader gave the wanted lines and has left what follows them, and this is
 -- what the command writes and answers for them
-abbrev pub Executes : (List ℕ → List ℕ) → (List ℕ → List ℕ) → Task → ParameterSet → Option (List ℕ) → Option (List ℕ) → List ℕ → Bool → Type 0
+abbrev pub Executes : (List ℕ → List ℕ) → (List ℕ → List ℕ) → Task → ParameterSet → Option (List ℕ) → Option (List ℕ) → List ℕ → Bool
+    → Type 0
 Executes H G task p given left output answer = (lines : List (List ℕ)) × TakesLines 1 (input_lines task p given) given left lines
     × Answers H G task p lines output answer
 
 -- a run over the streams H and G ended with this answer: the command was carried out, and the writer got what it writes, and
 -- nothing else
-abbrev pub Runs : (List ℕ → List ℕ) → (List ℕ → List ℕ) → Task → SetName → Option (List ℕ) → Option (List ℕ) → Option (List ℕ) → Option (List ℕ) → Bool → Type 0
+abbrev pub Runs : (List ℕ → List ℕ) → (List ℕ → List ℕ) → Task → SetName → Option (List ℕ) → Option (List ℕ) → Option (List ℕ)
+    → Option (List ℕ) → Bool → Type 0
 Runs H G task set given left before after answer = (output : List ℕ) × Executes H G task (named_set set) given left output answer
     × Appends before after output
+
+-- the same over a marked reader and a marked writer, and of the call that the words are
+abbrev pub RunsOver : {I O : Type 0} → (List ℕ → List ℕ) → (List ℕ → List ℕ) → Task → SetName → (I → Option (List ℕ)) → MarkedDevice I
+    → MarkedDevice I
+    → (O → Option (List ℕ)) → MarkedDevice O → MarkedDevice O → Bool → Type 0
+RunsOver H G task set remaining given left contents before after answer =
+    Runs H G task set (remaining given.device) (remaining left.device) (contents before.device) (contents after.device) answer
+
+abbrev pub RunsCall : {I O : Type 0} → List (List ℕ) → (I → Option (List ℕ)) → MarkedDevice I → MarkedDevice I
+    → (O → Option (List ℕ)) → MarkedDevice O → MarkedDevice O → Bool → Type 0
+RunsCall words remaining given left contents before after answer = AreCall words (λ streams task set.
+    RunsOver (first_stream streams) (second_stream streams) task set remaining given left contents before after answer)
+
+-- the fault is the first of the lines that a command wants of a marked reader, and of those of the call that the words are
+abbrev pub FaultOfRun : {I : Type 0} → Task → SetName → (I → Option (List ℕ)) → MarkedDevice I → RunFault → Type 0
+FaultOfRun task set remaining given fault = FaultOfLines 1 (lines_of_input task set (remaining given.device)) (remaining given.device) fault
+
+abbrev pub FaultOfCall : {I : Type 0} → List (List ℕ) → (I → Option (List ℕ)) → MarkedDevice I → RunFault → Type 0
+FaultOfCall words remaining given fault = AreCall words (λ streams task set. FaultOfRun task set remaining given fault)
+
+-- each of these lines was judged before the next was read
+abbrev pub RunInTurn : {I : Type 0} → Task → SetName → (I → Option (List ℕ)) → MarkedDevice I → MarkedDevice I → Type 0
+RunInTurn task set remaining given left =
+    InTurn 1 (lines_of_input task set (remaining given.device)) (remaining given.device) (remaining left.device)
+
+abbrev pub CallInTurn : {I : Type 0} → List (List ℕ) → (I → Option (List ℕ)) → MarkedDevice I → MarkedDevice I → Type 0
+CallInTurn words remaining given left = AreCall words (λ streams task set. RunInTurn task set remaining given left)
 
 -- the exit status of an answer, true being done or `yes`, and false `no` or a refusal; a fault has one status, whichever it is
 abbrev pub status_of : Result Bool RunFault → ℕ

@@ -1,27 +1,32 @@
 //! What each command reads, writes and returns.
 #![tactic(auto)]
 
-ghost use Rattle.std.specs.Prelude.{◌≡◌, ◌≤◌, ◌↔◌, length, map, false, Err, IsTrue, IfOk, IfErr};
+ghost use Rattle.std.specs.Prelude.{◌≡◌, ◌≤◌, ◌↔◌, ◌∷◌, [], length, map, take, false, true, Err, IsTrue, IfOk, IfErr};
+ghost use Rattle.fips204.specs.Keys.{PublicParts, IsPublicKeyOf};
+ghost use Rattle.fips204.specs.Prepared.{prepared_public};
+ghost use Rattle.fips204.specs.Refusals.{VerifiesMessage};
 ghost use Rattle.mldsa_engine.specs.InnerSteps.{AllFit, IsInputFault};
-ghost use Rattle.mldsa_engine.specs.Lines.{IsLineFault, FaultOfLines, InTurn};
-ghost use Rattle.mldsa_engine.specs.ProgramText.{named_set, two_bytes, wanted_lines, lines_of_input, Answers, Executes};
+ghost use Rattle.mldsa_engine.specs.Lines.{StopsAt};
+ghost use Rattle.mldsa_engine.specs.ProgramText.{named_set, two_bytes, wanted_lines, entry_lines, input_lines, lines_of_input, hex_text};
+ghost use Rattle.mldsa_engine.specs.ProgramText.{AreSmall, Generates, Signs, Checks, Answers, Executes};
+ghost use Rattle.mldsa_engine.specs.InnerSteps.{AcceptsIfPrepared, JudgesEntries, JudgesByKey};
 
-mod batch;
-mod checking;
-mod keys;
-mod signing;
-mod verifying;
 mod writing;
 
 use crate::call::{SetName, Task};
 use crate::fault::RunFault;
 use crate::lines::read_lines;
 use crate::marked::Marked;
-use crate::wanted::{lengths_of, wanted_of};
+use fips204::sets::{HasSet, KeySizes, Matrix, Set, SignatureSizes};
+use fips204::traits::{KeyGen, SerDes, Signer, Verifier, pairwise_check};
+use fips204::types::{KG, PreparedPublicKey, PrivateKey, PublicKey};
 use fips204::xof::Xof;
+use fips204::{Fault, laws};
 use std::alloc::Global;
 use std::io::Read;
+use std::marker::PhantomData;
 pub(crate) use writing::Output;
+use writing::{one_line, refuse, tell, two_lines};
 
 /// Reads the lines that a command wants, and carries it out.
 pub(crate) fn execute<H: Xof, G: Xof, I: Read>(
@@ -32,63 +37,297 @@ pub(crate) fn execute<H: Xof, G: Xof, I: Read>(
 ) -> Result<Output, RunFault>
     requires unmarked { input.old.failed ≡ false }
     ensures read_failed { IsTrue input.new.failed ↔ (result ≡ Err RunFault.Read) }
-    ensures executed { IfOk result (λ output. Executes H.front G.front task (named_set set) (I.remaining input.old.device) (I.remaining input.new.device) output.text.items output.success) }
-    ensures line_fault { IfErr result (λ fault. IsLineFault fault → FaultOfLines 1 (lines_of_input task set (I.remaining input.old.device)) (I.remaining input.old.device) fault) }
-    ensures in_turn { IfErr result (λ fault. IsLineFault fault → InTurn 1 (lines_of_input task set (I.remaining input.old.device)) (I.remaining input.old.device) (I.remaining input.new.device)) }
+    ensures executed { IfOk result (λ output. Executes H.front G.front task (named_set set)
+        (I.remaining input.old.device) (I.remaining input.new.device) output.text.items output.success) }
+    ensures stops { IfErr result (StopsAt I.remaining input.old input.new 1 (lines_of_input task set (I.remaining input.old.device))) }
     ensures faults { IfErr result (λ fault. IsInputFault fault) }
 {
-    let (wanted, count) = wanted_of(task, lengths_of(set));
-    let lines = read_lines(alloc, 1, &wanted[..count], input)?;
-    match task {
-        Task::Batch => {
-            let count = number_of(lines[2].as_slice());
-            let (key, context) = (lines[0].as_slice(), lines[1].as_slice());
-            batch::judge_batch::<H, G, I>(alloc, set, key, context, count, input)
-        }
-        _ => answer::<H, G>(alloc, task, set, lines.as_slice()),
+    match set {
+        SetName::MlDsa44 => AtSet::<4, 4, H, G>::execute(alloc, task, input),
+        SetName::MlDsa65 => AtSet::<6, 5, H, G>::execute(alloc, task, input),
+        SetName::MlDsa87 => AtSet::<8, 7, H, G>::execute(alloc, task, input),
     }
 }
 
-/// Carries out a command that reads no more than these lines.
-fn answer<H: Xof, G: Xof>(
-    alloc: Global,
-    task: Task,
-    set: SetName,
-    lines: &[Vec<u8>],
-) -> Result<Output, RunFault>
-    requires whole { ¬ (task ≡ Task.Batch) }
-    requires fit { AllFit (wanted_lines task (named_set set)) (map (λ line. line.items) lines.now) }
-    ensures given { IfOk result (λ output. Answers H.front G.front task (named_set set) (map (λ line. line.items) lines.now) output.text.items output.success) }
-    ensures memory { IfErr result (λ fault. fault ≡ RunFault.Memory) }
+/// The commands at the set whose matrix has `K` rows and `L` columns, over the streams `H` and `G`.
+///
+/// A command is not inlined, so that its keys stand in the stack alone.
+struct AtSet<const K: usize, const L: usize, H, G>(PhantomData<(H, G)>);
+
+impl<
+    S,
+    const K: usize,
+    const L: usize,
+    const N: usize,
+    const SIG_LEN: usize,
+    const PK_LEN: usize,
+    const SK_LEN: usize,
+    H: Xof,
+    G: Xof,
+> AtSet<K, L, H, G>
+where
+    Matrix<K, L>: HasSet<Set = S>,
+    S: Set<
+        Commitment = [u8; N],
+        Signature = [u8; SIG_LEN],
+        PublicKey = [u8; PK_LEN],
+        PrivateKey = [u8; SK_LEN],
+    >,
+    S: SignatureSizes<K, L, N, SIG_LEN> + KeySizes<K, L, PK_LEN, SK_LEN>,
 {
-    match task {
-        Task::Id => keys::identify::<H, G>(alloc, set, lines[0].as_slice()),
-        Task::Keygen => keys::make_keys::<H, G>(alloc, set, &array_of(lines[0].as_slice())),
-        Task::Sign => signing::sign::<H, G>(
-            alloc,
-            set,
-            lines[0].as_slice(),
-            &array_of(lines[1].as_slice()),
-            lines[2].as_slice(),
-            lines[3].as_slice(),
-        ),
-        Task::Verify => verifying::verify::<H, G>(
-            alloc,
-            set,
-            lines[0].as_slice(),
-            lines[1].as_slice(),
-            lines[2].as_slice(),
-            lines[3].as_slice(),
-        ),
-        Task::Check => checking::check::<H, G>(
-            alloc,
-            set,
-            &array_of(lines[0].as_slice()),
-            &array_of(lines[1].as_slice()),
-            lines[2].as_slice(),
-            lines[3].as_slice(),
-        ),
-        Task::Batch => unreachable!(),
+    /// Reads the lines that a command wants, and carries it out.
+    fn execute<I: Read>(
+        alloc: Global,
+        task: Task,
+        input: &mut Marked<I>,
+    ) -> Result<Output, RunFault>
+        requires unmarked { input.old.failed ≡ false }
+        requires small { AreSmall K L PK_LEN SK_LEN SIG_LEN }
+        ensures read_failed { IsTrue input.new.failed ↔ (result ≡ Err RunFault.Read) }
+        ensures executed { IfOk result (λ output. Executes H.front G.front task S.set
+            (I.remaining input.old.device) (I.remaining input.new.device) output.text.items output.success) }
+        ensures stops { IfErr result (StopsAt I.remaining input.old input.new 1 (input_lines task S.set (I.remaining input.old.device))) }
+        ensures faults { IfErr result (λ fault. IsInputFault fault) }
+    {
+        let (wanted, count) = Self::wanted(task);
+        let lines = read_lines(alloc, 1, &wanted[..count], input)?;
+        match task {
+            Task::Batch => {
+                let count = number_of(lines[2].as_slice());
+                let (key, context) = (lines[0].as_slice(), lines[1].as_slice());
+                Self::judge_batch(alloc, key, context, count, input)
+            }
+            _ => Self::answer(alloc, task, lines.as_slice()),
+        }
+    }
+
+    /// The lines that a command wants of every input: a number of bytes each, or any number of them. They are the
+    /// first of the array, as many as the number beside it says.
+    fn wanted(task: Task) -> ([Option<usize>; 4], usize)
+        ensures lines { take result.1 result.0 ≡ wanted_lines task S.set }
+        ensures most { result.1 ≤ 4 }
+    {
+        let (public_key, signature) = (Some(PK_LEN), Some(SIG_LEN));
+        match task {
+            Task::Id => ([public_key, None, None, None], 1),
+            Task::Keygen => ([Some(32), None, None, None], 1),
+            Task::Sign => ([Some(SK_LEN), Some(32), None, None], 4),
+            Task::Verify => ([public_key, signature, None, None], 4),
+            Task::Check => ([Some(32), Some(32), None, None], 4),
+            Task::Batch => ([public_key, None, Some(2), None], 3),
+        }
+    }
+
+    /// Carries out a command that reads no more than these lines.
+    fn answer(alloc: Global, task: Task, lines: &[Vec<u8>]) -> Result<Output, RunFault>
+        requires whole { ¬ (task ≡ Task.Batch) }
+        requires fit { AllFit (wanted_lines task S.set) (map (λ line. line.items) lines.now) }
+        requires small { AreSmall K L PK_LEN SK_LEN SIG_LEN }
+        ensures given { IfOk result (λ output. Answers H.front G.front task S.set
+            (map (λ line. line.items) lines.now) output.text.items output.success) }
+        ensures memory { IfErr result (λ fault. fault ≡ RunFault.Memory) }
+    {
+        match task {
+            Task::Id => Self::identify(alloc, lines[0].as_slice()),
+            Task::Keygen => Self::make_keys(alloc, &array_of(lines[0].as_slice())),
+            Task::Sign => Self::sign(
+                alloc,
+                lines[0].as_slice(),
+                &array_of(lines[1].as_slice()),
+                lines[2].as_slice(),
+                lines[3].as_slice(),
+            ),
+            Task::Verify => {
+                let (key, signature) = (lines[0].as_slice(), lines[1].as_slice());
+                let (context, message) = (lines[2].as_slice(), lines[3].as_slice());
+                tell(alloc, Self::accepts(key, signature, context, message))
+            }
+            Task::Check => Self::check(
+                alloc,
+                &array_of(lines[0].as_slice()),
+                &array_of(lines[1].as_slice()),
+                lines[2].as_slice(),
+                lines[3].as_slice(),
+            ),
+            Task::Batch => unreachable!(),
+        }
+    }
+
+    /// A public key and its hash, as lines of hex.
+    #[inline(never)]
+    fn identify(alloc: Global, key: &[u8]) -> Result<Output, RunFault>
+        requires key { length key.now ≡ PK_LEN }
+        requires small { AreSmall K L PK_LEN SK_LEN SIG_LEN }
+        ensures given { IfOk result (λ output. (output.text.items ≡ hex_text (key.now ∷ take 64 (H.front key.now) ∷ []))
+            × (output.success ≡ true)) }
+        ensures memory { IfErr result (λ fault. fault ≡ RunFault.Memory) }
+    {
+        let key = PublicKey::<K, L, H, G>::try_from_bytes(array_of(key)).unwrap();
+        let tr = *key.tr();
+        two_lines(alloc, &key.into_bytes(), &tr)
+    }
+
+    /// The keys of a seed, as lines of hex, or the refusal.
+    #[inline(never)]
+    fn make_keys(alloc: Global, seed: &[u8; 32]) -> Result<Output, RunFault>
+        requires small { AreSmall K L PK_LEN SK_LEN SIG_LEN }
+        ensures given { IfOk result (λ output. Generates S.set H.front G.front seed.now output.text.items output.success) }
+        ensures memory { IfErr result (λ fault. fault ≡ RunFault.Memory) }
+    {
+        match KG::<K, L, H, G>::keygen_from_seed(seed) {
+            Ok((public, private)) => two_lines(alloc, &public.into_bytes(), &private.into_bytes()),
+            Err(fault) => refuse(alloc, fault),
+        }
+    }
+
+    /// The signature by the private key that has these bytes, as a line of hex, or the refusal; that of the key's
+    /// bytes stands first.
+    #[inline(never)]
+    fn sign(
+        alloc: Global,
+        key: &[u8],
+        seed: &[u8; 32],
+        context: &[u8],
+        message: &[u8],
+    ) -> Result<Output, RunFault>
+        requires key { length key.now ≡ SK_LEN }
+        requires small { AreSmall K L PK_LEN SK_LEN SIG_LEN }
+        ensures given { IfOk result (λ output. Signs S.set H.front G.front
+            key.now seed.now context.now message.now output.text.items output.success) }
+        ensures memory { IfErr result (λ fault. fault ≡ RunFault.Memory) }
+    {
+        match PrivateKey::<K, L, H, G>::try_from_bytes(array_of(key)) {
+            Ok(key) => match key.try_sign_with_seed(seed, message, context) {
+                Ok(signature) => one_line(alloc, &signature),
+                Err(fault) => refuse(alloc, fault),
+            },
+            Err(fault) => refuse(alloc, fault),
+        }
+    }
+
+    /// Whether the public key that has these bytes accepts a signature.
+    #[inline(never)]
+    fn accepts(key: &[u8], signature: &[u8], context: &[u8], message: &[u8]) -> bool
+        requires key { length key.now ≡ PK_LEN }
+        requires signature { length signature.now ≡ SIG_LEN }
+        requires small { AreSmall K L PK_LEN SK_LEN SIG_LEN }
+        ensures { (pk : PublicParts) × IsPublicKeyOf H.front S.set.k key.now pk
+            × (IsTrue result ↔ VerifiesMessage S.set H.front G.front pk message.now signature.now context.now) }
+    {
+        Self::decode(key).verify(message, &array_of(signature), context)
+    }
+
+    /// Whether the pair of a seed verifies what it signs, as a word and a truth value, or the first refusal.
+    #[inline(never)]
+    fn check(
+        alloc: Global,
+        xi: &[u8; 32],
+        rnd: &[u8; 32],
+        context: &[u8],
+        message: &[u8],
+    ) -> Result<Output, RunFault>
+        requires small { AreSmall K L PK_LEN SK_LEN SIG_LEN }
+        ensures given { IfOk result (λ output. Checks S.set H.front G.front
+            xi.now rnd.now context.now message.now output.text.items output.success) }
+        ensures memory { IfErr result (λ fault. fault ≡ RunFault.Memory) }
+    {
+        match pairwise_check::<KG<K, L, H, G>>(xi, rnd, message, context) {
+            Ok(answer) => tell(alloc, answer),
+            Err(fault) => refuse(alloc, fault),
+        }
+    }
+
+    /// Judges the entries of a batch, as many as are counted, by the public key that has these bytes, which is
+    /// prepared once.
+    #[inline(never)]
+    fn judge_batch<I: Read>(
+        alloc: Global,
+        key: &[u8],
+        context: &[u8],
+        count: usize,
+        input: &mut Marked<I>,
+    ) -> Result<Output, RunFault>
+        requires unmarked { input.old.failed ≡ false }
+        requires key { length key.now ≡ PK_LEN }
+        requires few { count ≤ 65535 }
+        requires small { AreSmall K L PK_LEN SK_LEN SIG_LEN }
+        ensures read_failed { IsTrue input.new.failed ↔ (result ≡ Err RunFault.Read) }
+        ensures judged { IfOk result (λ output. JudgesByKey S.set H.front G.front key.now context.now count
+            (I.remaining input.old.device) (I.remaining input.new.device) output.text.items output.success) }
+        ensures stops { IfErr result (StopsAt I.remaining input.old input.new 4 (entry_lines SIG_LEN count)) }
+        ensures faults { IfErr result (λ fault. IsInputFault fault) }
+    {
+        laws::prepared_keys();
+        let key = Self::decode(key);
+        Self::judge_entries(alloc, &Self::prepare(&key), context, count, input)
+    }
+
+    /// Judges the entries by a prepared key: reads the two lines of an entry, and keeps of it the verdict alone.
+    #[inline(never)]
+    fn judge_entries<I: Read>(
+        alloc: Global,
+        key: &Result<PreparedPublicKey<K, L, H>, Fault>,
+        context: &[u8],
+        count: usize,
+        input: &mut Marked<I>,
+    ) -> Result<Output, RunFault>
+        requires unmarked { input.old.failed ≡ false }
+        requires few { count ≤ 65535 }
+        ensures read_failed { IsTrue input.new.failed ↔ (result ≡ Err RunFault.Read) }
+        ensures judged { IfOk result (λ output. JudgesEntries
+            (λ signature message. AcceptsIfPrepared S.set H.front key.now message signature context.now) SIG_LEN count
+            (I.remaining input.old.device) (I.remaining input.new.device) output.text.items output.success) }
+        ensures stops { IfErr result (StopsAt I.remaining input.old input.new 4 (entry_lines SIG_LEN count)) }
+        ensures faults { IfErr result (λ fault. IsInputFault fault) }
+    {
+        let mut output = Output {
+            text: Vec::new(alloc),
+            success: true,
+        };
+        for entry in 0..count {
+            let lines = read_lines(alloc, 4 + 2 * entry, &[Some(SIG_LEN), None], input)?;
+            let signature = array_of(lines[0].as_slice());
+            let message = lines[1].as_slice();
+            let accepted = Self::is_accepted(key, message, &signature, context);
+            output.add_answer(accepted)?;
+        }
+        Ok(output)
+    }
+
+    /// The public key that has these bytes.
+    #[inline(never)]
+    fn decode(key: &[u8]) -> PublicKey<K, L, H, G>
+        requires key { length key.now ≡ PK_LEN }
+        requires small { AreSmall K L PK_LEN SK_LEN SIG_LEN }
+        ensures { IsPublicKeyOf H.front S.set.k key.now result }
+    {
+        PublicKey::<K, L, H, G>::try_from_bytes(array_of(key)).unwrap()
+    }
+
+    /// The key with its matrix.
+    ///
+    /// Not inlined, so that what sampling takes does not stand in the stack beside the entries.
+    #[inline(never)]
+    fn prepare(key: &PublicKey<K, L, H, G>) -> Result<PreparedPublicKey<K, L, H>, Fault>
+        requires small { AreSmall K L PK_LEN SK_LEN SIG_LEN }
+        ensures { result ≡ prepared_public S.set G.front key.now }
+    {
+        key.prepare()
+    }
+
+    /// Whether a prepared key accepts a signature; false if the key has no matrix.
+    fn is_accepted(
+        key: &Result<PreparedPublicKey<K, L, H>, Fault>,
+        message: &[u8],
+        signature: &[u8; SIG_LEN],
+        context: &[u8],
+    ) -> bool
+        ensures { IsTrue result ↔ AcceptsIfPrepared S.set H.front key.now message.now signature.now context.now }
+    {
+        match key {
+            Ok(key) => key.verify(message, signature, context),
+            Err(_) => false,
+        }
     }
 }
 

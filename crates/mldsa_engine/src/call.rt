@@ -2,7 +2,7 @@
 #![tactic(auto)]
 
 ghost use Rattle.std.specs.Prelude.{◌≡◌, ℕ, List, [], ◌∷◌, Some, None, map, string_bytes, IfSome, IfNone};
-ghost use Rattle.mldsa_engine.specs.Calls.{streams_word, task_word, set_word, call_words};
+ghost use Rattle.mldsa_engine.specs.Calls.{streams_word, task_word, set_word, call_words, AreNoCall};
 
 /// The streams of a run: what stands for `H` and for `G`.
 #[derive(Debug, Clone, Copy, PartialEq, Eq)]
@@ -91,7 +91,7 @@ fn set_name(word: &str) -> Option<SetName>
 /// The call that these words make, or `None`.
 pub(crate) fn call_of(words: &[String]) -> Option<(Streams, Task, SetName)>
     ensures named { IfSome result (λ call. map string_bytes words.now ≡ call_words call.0 call.1 call.2) }
-    ensures unnamed { IfNone result ((streams : Streams) (task : Task) (set : SetName) → ¬ (map string_bytes words.now ≡ call_words streams task set)) }
+    ensures unnamed { IfNone result (AreNoCall (map string_bytes words.now)) }
 {
     match words {
         [streams, task, set] => Some((

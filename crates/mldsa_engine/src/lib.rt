@@ -1,11 +1,11 @@
 //! The program `mldsa` as a library, generic over the streams, the reader and the writer.
 #![tactic(auto)]
 
-ghost use Rattle.std.specs.Prelude.{◌≡◌, ◌↔◌, ℕ, List, false, Ok, Err, IsTrue, IfOk, IfErr, map, string_bytes};
-ghost use Rattle.std.specs.Io.KnownBytes.{Keeps};
-ghost use Rattle.mldsa_engine.specs.Calls.{call_words, first_stream, second_stream};
-ghost use Rattle.mldsa_engine.specs.Lines.{IsLineFault, FaultOfLines, InTurn};
-ghost use Rattle.mldsa_engine.specs.ProgramText.{lines_of_input, Runs};
+ghost use Rattle.std.specs.Prelude.{◌≡◌, ◌↔◌, false, Err, IsTrue, IfOk, IfErr, map, string_bytes};
+ghost use Rattle.mldsa_engine.specs.Calls.{AreNoCall};
+ghost use Rattle.mldsa_engine.specs.Devices.{KeepsWritten};
+ghost use Rattle.mldsa_engine.specs.Lines.{IsLineFault};
+ghost use Rattle.mldsa_engine.specs.ProgramText.{RunsOver, RunsCall, FaultOfRun, FaultOfCall, RunInTurn, CallInTurn};
 
 mod answers;
 pub mod bytewise;
@@ -15,7 +15,6 @@ pub mod lines;
 pub mod marked;
 pub mod output;
 pub mod process;
-mod wanted;
 
 use answers::{Output, execute};
 pub use bytewise::Bytewise;
@@ -43,10 +42,10 @@ pub fn run<H: Xof, G: Xof, I: Read, O: Write>(
     requires unmarked { (input.old.failed ≡ false) × (output.old.failed ≡ false) }
     ensures read_failed { IsTrue input.new.failed ↔ (result ≡ Err RunFault.Read) }
     ensures write_failed { IsTrue output.new.failed ↔ (result ≡ Err RunFault.Write) }
-    ensures answer { IfOk result (λ answer. Runs H.front G.front task set (I.remaining input.old.device) (I.remaining input.new.device) (O.contents output.old.device) (O.contents output.new.device) answer) }
-    ensures line_fault { IfErr result (λ fault. IsLineFault fault → FaultOfLines 1 (lines_of_input task set (I.remaining input.old.device)) (I.remaining input.old.device) fault) }
-    ensures in_turn { IfErr result (λ fault. IsLineFault fault → InTurn 1 (lines_of_input task set (I.remaining input.old.device)) (I.remaining input.old.device) (I.remaining input.new.device)) }
-    ensures nothing_written { IfErr result (λ fault. ¬ (fault ≡ RunFault.Write) → Keeps (O.contents output.old.device) (O.contents output.new.device)) }
+    ensures answer { IfOk result (RunsOver H.front G.front task set I.remaining input.old input.new O.contents output.old output.new) }
+    ensures line_fault { IfErr result (λ fault. IsLineFault fault → FaultOfRun task set I.remaining input.old fault) }
+    ensures in_turn { IfErr result (λ fault. IsLineFault fault → RunInTurn task set I.remaining input.old input.new) }
+    ensures nothing_written { IfErr result (λ fault. ¬ (fault ≡ RunFault.Write) → KeepsWritten O.contents output.old output.new) }
     ensures no_usage { ¬ (result ≡ Err RunFault.Usage) }
 {
     let Output { text, success } = execute::<H, G, I>(alloc, task, set, input)?;
@@ -63,14 +62,14 @@ pub fn from_words<I: Read, O: Write>(
     output: &mut Marked<O>,
 ) -> Result<bool, RunFault>
     requires unmarked { (input.old.failed ≡ false) × (output.old.failed ≡ false) }
-    ensures usage { (result ≡ Err RunFault.Usage) ↔ ((streams : Streams) (task : Task) (set : SetName) → ¬ (map string_bytes words.now ≡ call_words streams task set)) }
+    ensures usage { (result ≡ Err RunFault.Usage) ↔ AreNoCall (map string_bytes words.now) }
     ensures untouched { result ≡ Err RunFault.Usage → (input.new ≡ input.old) × (output.new ≡ output.old) }
     ensures read_failed { IsTrue input.new.failed ↔ (result ≡ Err RunFault.Read) }
     ensures write_failed { IsTrue output.new.failed ↔ (result ≡ Err RunFault.Write) }
-    ensures answer { IfOk result (λ answer. (streams : Streams) × ((task : Task) × ((set : SetName) × (map string_bytes words.now ≡ call_words streams task set) × Runs (first_stream streams) (second_stream streams) task set (I.remaining input.old.device) (I.remaining input.new.device) (O.contents output.old.device) (O.contents output.new.device) answer))) }
-    ensures line_fault { IfErr result (λ fault. IsLineFault fault → (streams : Streams) × ((task : Task) × ((set : SetName) × (map string_bytes words.now ≡ call_words streams task set) × FaultOfLines 1 (lines_of_input task set (I.remaining input.old.device)) (I.remaining input.old.device) fault))) }
-    ensures in_turn { IfErr result (λ fault. IsLineFault fault → (streams : Streams) × ((task : Task) × ((set : SetName) × (map string_bytes words.now ≡ call_words streams task set) × InTurn 1 (lines_of_input task set (I.remaining input.old.device)) (I.remaining input.old.device) (I.remaining input.new.device)))) }
-    ensures nothing_written { IfErr result (λ fault. ¬ (fault ≡ RunFault.Write) → Keeps (O.contents output.old.device) (O.contents output.new.device)) }
+    ensures answer { IfOk result (RunsCall (map string_bytes words.now) I.remaining input.old input.new O.contents output.old output.new) }
+    ensures line_fault { IfErr result (λ fault. IsLineFault fault → FaultOfCall (map string_bytes words.now) I.remaining input.old fault) }
+    ensures in_turn { IfErr result (λ fault. IsLineFault fault → CallInTurn (map string_bytes words.now) I.remaining input.old input.new) }
+    ensures nothing_written { IfErr result (λ fault. ¬ (fault ≡ RunFault.Write) → KeepsWritten O.contents output.old output.new) }
 {
     let Some((streams, task, set)) = call::call_of(words) else {
         return Err(RunFault::Usage);

@@ -1,9 +1,12 @@
 //! The lines of an input.
 #![tactic(auto)]
 
-ghost use Rattle.std.specs.Prelude.{◌≡◌, ◌≢◌, ◌<◌, ◌≤◌, ◌+◌, ◌^◌, ◌↔◌, ◌⊎◌, ℕ, List, Option, length, take, map, Ok, Err, IsTrue, IfOk, IfErr, IfSome, MatchResult, false, true, ◌∷◌, [], position};
-ghost use Rattle.mldsa_engine.specs.Lines.{longest_line, line_digits, ends_line, judged, IsLineFault, TakesLines, FaultOfLines, InTurn};
-ghost use Rattle.mldsa_engine.specs.InnerSteps.{Fits, AllFit, IsInputFault, TakesPiece, TakesLine};
+ghost use Rattle.std.specs.Prelude.{◌≡◌, ◌<◌, ◌≤◌, ◌+◌, ◌^◌, ◌↔◌, length, take, map, Ok, Err, IsTrue, IfOk, IfErr};
+ghost use Rattle.std.specs.Prelude.{MatchResult, false, true, ◌∷◌, [], position};
+ghost use Rattle.mldsa_engine.specs.Lines.{longest_line, line_digits, ends_line, sized, refused};
+ghost use Rattle.mldsa_engine.specs.InnerSteps.{Fits, AllFit, IsInputFault};
+ghost use Rattle.mldsa_engine.specs.InnerSteps.{TakesPiece, TakesLine};
+ghost use Rattle.mldsa_engine.specs.Lines.{TakesLines, StopsAt};
 
 use crate::fault::RunFault;
 use crate::marked::Marked;
@@ -61,7 +64,8 @@ fn read_singly<I: Read>(input: &mut Marked<I>, room: &mut [u8]) -> Result<Piece,
     ensures mark { MatchResult result (λ _. input.new.failed ≡ false) (λ fault. (input.new.failed ≡ true) × (fault ≡ RunFault.Read)) }
     ensures bound { IfOk result (λ piece. piece.length ≤ length room.new) }
     ensures ended { IfOk result (λ piece. ¬ (piece.ending ≡ Ending.Open) → piece.length < length room.new) }
-    ensures taken { IfOk result (λ piece. TakesPiece 0 (I.remaining input.old.device) (I.remaining input.new.device) (take piece.length room.new) piece.ending) }
+    ensures taken { IfOk result (λ piece. TakesPiece 0 (I.remaining input.old.device) (I.remaining input.new.device)
+        (take piece.length room.new) piece.ending) }
 {
     for length in 0..room.len() {
         let mut character = [0];
@@ -97,7 +101,8 @@ fn read_piece<I: Read>(
     ensures mark { MatchResult result (λ _. input.new.failed ≡ false) (λ fault. (input.new.failed ≡ true) × (fault ≡ RunFault.Read)) }
     ensures bound { IfOk result (λ piece. piece.length ≤ length room.new) }
     ensures ended { IfOk result (λ piece. ¬ (piece.ending ≡ Ending.Open) → piece.length < length room.new) }
-    ensures taken { IfOk result (λ piece. TakesPiece asked (I.remaining input.old.device) (I.remaining input.new.device) (take piece.length room.new) piece.ending) }
+    ensures taken { IfOk result (λ piece. TakesPiece asked (I.remaining input.old.device) (I.remaining input.new.device)
+        (take piece.length room.new) piece.ending) }
 {
     if asked < 2 {
         return read_singly(input, room);
@@ -112,6 +117,16 @@ fn read_piece<I: Read>(
     Ok(Piece { length, ending })
 }
 
+/// The fault of a line that the input ends with, which is missing if it has no characters.
+fn require_line(number: usize, line: &[u8]) -> Result<(), RunFault>
+    ensures { MatchResult result (λ _. 0 < length line.now) (λ fault. (fault ≡ RunFault.Missing number) × (length line.now ≡ 0)) }
+{
+    if line.is_empty() {
+        return Err(RunFault::Missing { line: number });
+    }
+    Ok(())
+}
+
 /// The characters of the next line, without its LF. They are asked for one at a time, but for those
 /// that a line needs to have the wanted bytes, which are asked for in pieces. At most one character more
 /// than a line may have is read.
@@ -123,10 +138,9 @@ fn read_line<I: Read>(
 ) -> Result<Vec<u8>, RunFault>
     requires unmarked { input.old.failed ≡ false }
     ensures read_failed { IsTrue input.new.failed ↔ (result ≡ Err RunFault.Read) }
-    ensures short { IfOk result (λ line. length line.items ≤ longest_line) }
-    ensures taken { IfOk result (λ line. TakesLine wanted (I.remaining input.old.device) (I.remaining input.new.device) line.items) }
-    ensures line_fault { IfErr result (λ fault. IsLineFault fault → FaultOfLines number (wanted ∷ []) (I.remaining input.old.device) fault) }
-    ensures in_turn { IfErr result (λ fault. IsLineFault fault → InTurn number (wanted ∷ []) (I.remaining input.old.device) (I.remaining input.new.device)) }
+    ensures taken { IfOk result (λ line. (length line.items ≤ longest_line)
+        × TakesLine wanted (I.remaining input.old.device) (I.remaining input.new.device) line.items) }
+    ensures stops { IfErr result (StopsAt I.remaining input.old input.new number (wanted ∷ [])) }
     ensures faults { IfErr result (λ fault. IsInputFault fault) }
 {
     let characters = characters_of(wanted);
@@ -140,49 +154,37 @@ fn read_line<I: Read>(
         match piece.ending {
             Ending::Open => {}
             Ending::Line => return Ok(line),
-            Ending::Input if line.is_empty() => return Err(RunFault::Missing { line: number }),
-            Ending::Input => return Ok(line),
+            Ending::Input => {
+                require_line(number, line.as_slice())?;
+                return Ok(line);
+            }
         }
     }
     Err(RunFault::TooLong { line: number })
 }
 
-/// The fault of a line that was refused by `hex`.
-fn fault_of(number: usize, refusal: FromHexError) -> RunFault
-    ensures memory { refusal ≡ FromHexError.OutOfMemory → result ≡ RunFault.Memory }
-    ensures either { (result ≡ RunFault.Memory) ⊎ (result ≡ RunFault.NotHex number) }
-{
-    match refusal {
-        FromHexError::OutOfMemory => RunFault::Memory,
-        _ => RunFault::NotHex { line: number },
-    }
-}
-
-/// The bytes that the characters of a line spell.
-fn bytes_of(
-    alloc: Global,
+/// The bytes of a line, by what decoding its characters gave, or its fault, which is `Memory` only if memory for
+/// the bytes was refused.
+fn judge(
     number: usize,
     wanted: Option<usize>,
-    line: &[u8],
+    decoded: Result<Vec<u8>, FromHexError>,
 ) -> Result<Vec<u8>, RunFault>
-    requires short { length line.now ≤ longest_line }
-    ensures spelt { IfOk result (λ bytes. judged number wanted line.now ≡ Ok bytes.items) }
-    ensures fits { IfOk result (λ bytes. Fits wanted bytes.items) }
-    ensures line_fault { IfErr result (λ fault. IsLineFault fault → judged number wanted line.now ≡ Err fault) }
-    ensures faults { IfErr result (λ fault. IsInputFault fault) }
-    ensures no_read { result ≢ Err RunFault.Read }
+    ensures { MatchResult decoded
+        (λ bytes. MatchResult result
+        (λ same. (sized number wanted bytes.items ≡ Ok same.items) × Fits wanted same.items)
+        (λ fault. sized number wanted bytes.items ≡ Err fault))
+        (λ refusal. result ≡ Err (refused number refusal)) }
 {
-    let bytes = match hex::decode(alloc, line) {
-        Ok(bytes) => bytes,
-        Err(refusal) => return Err(fault_of(number, refusal)),
-    };
-    match wanted {
-        Some(wants) if bytes.len() != wants => Err(RunFault::Length {
+    match (decoded, wanted) {
+        (Ok(bytes), Some(wants)) if bytes.len() != wants => Err(RunFault::Length {
             line: number,
             wants,
             has: bytes.len(),
         }),
-        _ => Ok(bytes),
+        (Ok(bytes), _) => Ok(bytes),
+        (Err(FromHexError::OutOfMemory), _) => Err(RunFault::Memory),
+        (Err(_), _) => Err(RunFault::NotHex { line: number }),
     }
 }
 
@@ -196,13 +198,13 @@ fn read_bytes<I: Read>(
     requires unmarked { input.old.failed ≡ false }
     ensures read_failed { IsTrue input.new.failed ↔ (result ≡ Err RunFault.Read) }
     ensures fits { IfOk result (λ bytes. Fits wanted bytes.items) }
-    ensures taken { IfOk result (λ bytes. TakesLines number (wanted ∷ []) (I.remaining input.old.device) (I.remaining input.new.device) (bytes.items ∷ [])) }
-    ensures line_fault { IfErr result (λ fault. IsLineFault fault → FaultOfLines number (wanted ∷ []) (I.remaining input.old.device) fault) }
-    ensures in_turn { IfErr result (λ fault. IsLineFault fault → InTurn number (wanted ∷ []) (I.remaining input.old.device) (I.remaining input.new.device)) }
+    ensures taken { IfOk result (λ bytes. TakesLines number (wanted ∷ [])
+        (I.remaining input.old.device) (I.remaining input.new.device) (bytes.items ∷ [])) }
+    ensures stops { IfErr result (StopsAt I.remaining input.old input.new number (wanted ∷ [])) }
     ensures faults { IfErr result (λ fault. IsInputFault fault) }
 {
     let line = read_line(alloc, number, wanted, input)?;
-    bytes_of(alloc, number, wanted, line.as_slice())
+    judge(number, wanted, hex::decode(alloc, line.as_slice()))
 }
 
 /// Reads the bytes of the wanted lines, of which the first has this number: as many bytes of each as are wanted of it, or any
@@ -217,9 +219,9 @@ pub(crate) fn read_lines<I: Read>(
     requires numbers { first + length wanted.now < 2 ^ 64 }
     ensures read_failed { IsTrue input.new.failed ↔ (result ≡ Err RunFault.Read) }
     ensures fit { IfOk result (λ lines. AllFit wanted.now (map (λ line. line.items) lines.items)) }
-    ensures taken { IfOk result (λ lines. TakesLines first wanted.now (I.remaining input.old.device) (I.remaining input.new.device) (map (λ line. line.items) lines.items)) }
-    ensures line_fault { IfErr result (λ fault. IsLineFault fault → FaultOfLines first wanted.now (I.remaining input.old.device) fault) }
-    ensures in_turn { IfErr result (λ fault. IsLineFault fault → InTurn first wanted.now (I.remaining input.old.device) (I.remaining input.new.device)) }
+    ensures taken { IfOk result (λ lines. TakesLines first wanted.now
+        (I.remaining input.old.device) (I.remaining input.new.device) (map (λ line. line.items) lines.items)) }
+    ensures stops { IfErr result (StopsAt I.remaining input.old input.new first wanted.now) }
     ensures faults { IfErr result (λ fault. IsInputFault fault) }
 {
     let mut lines = Vec::new(alloc);

@@ -10,7 +10,8 @@ ghost use Rattle.fips204_base.specs.Residues.{residue};
 ghost use Rattle.fips204_base.specs.Rounding.{high_values, use_hint};
 ghost use Rattle.fips204_base.specs.Vectors.{IsVector, vector_coefficients};
 ghost use Rattle.fips204_base.specs.declared.types.R.{R};
-ghost use Rattle.fips204.specs.Acceptance.{t1_shifted, hinted, HasShortParts, Accepts, Verifies};
+ghost use Rattle.fips204.specs.Acceptance.{t1_shifted, hinted, Accepts, Verifies};
+ghost use Rattle.fips204.specs.SigningInputs.{HasShortParts};
 ghost use Rattle.fips204.specs.Keys.{IsHighPart};
 ghost use Rattle.fips204.specs.Sets.{HasSizes, set_of};
 

@@ -3,7 +3,7 @@
 #![tactic(auto)]
 
 ghost use Rattle.fips204_base.specs.Vectors.{MatrixWithin};
-ghost use Rattle.fips204.specs.Keys.{ArePrivateParts, IsHighPart};
+ghost use Rattle.fips204.specs.Keys.{ArePrivateParts, ArePublicParts};
 
 use super::{PrivateKey, PublicKey, T};
 use std::marker::Model;
@@ -75,11 +75,11 @@ impl<const K: usize, const L: usize, H> Model for PreparedPublicKey<K, L, H> {
 }
 
 impl<const K: usize, const L: usize, H> PreparedPublicKey<K, L, H> {
-    /// A law, which computes nothing: the matrix has values below `q` in absolute value, and `t1` has `K`
-    /// polynomials with coefficients from 0 to 1023.
+    /// A law, which computes nothing: the matrix has values below `q` in absolute value, and the parts have
+    /// the lengths and ranges of a public key with `K` polynomials.
     pub fn parts_in_range_law(&self)
         ensures matrix { MatrixWithin 8380416 self.now.matrix }
-        ensures high { IsHighPart K self.now.parts.t1 }
+        ensures parts { ArePublicParts K self.now.parts }
     {
         let _ = &self.a_hat;
         let _ = &self.key.t1;

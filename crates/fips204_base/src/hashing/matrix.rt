@@ -79,7 +79,8 @@ pub fn expand_a<const K: usize, const L: usize, G: Xof>(
     Ok(matrix)
 }
 
-/// `expand_a`, written into the caller's place. After an error part of it may be written.
+/// `expand_a`, written into the caller's place. After an error part of it may be written. Internal: serves the crate
+/// `fips204` alone.
 pub fn write_expanded_a<const K: usize, const L: usize, G: Xof>(
     rho: &[u8; 32],
     matrix: &mut [[T; L]; K],
@@ -136,7 +137,7 @@ fn write_expanded_mat_vec_mul<const K: usize, const L: usize, G: Xof>(
 
 /// Writes the product of the matrix of `rho` with a vector of plain polynomials, as `matrix_times_vector` of
 /// `expand_a` returns it, with one row of the matrix at a time. `K` and `L` are those of a parameter set, and
-/// coefficients are below `q` in absolute value.
+/// coefficients are below `q` in absolute value. Internal: serves the crate `fips204` alone.
 ///
 /// Errors: `SamplingLimit` if an entry reaches its limit.
 pub fn write_expanded_times_vector<const K: usize, const L: usize, G: Xof>(
@@ -159,7 +160,8 @@ pub fn write_expanded_times_vector<const K: usize, const L: usize, G: Xof>(
 
 /// Writes the product of the matrix of `rho` with a vector, less the product of a challenge with a vector, as
 /// `matrix_times_vector_less` of `expand_a` returns it, with one row of the matrix at a time. `K` and `L` are
-/// those of a parameter set, and coefficients are below `q` in absolute value.
+/// those of a parameter set, and coefficients are below `q` in absolute value. Internal: serves the crate `fips204`
+/// alone.
 ///
 /// Errors: `SamplingLimit` if an entry reaches its limit.
 pub fn write_expanded_times_vector_less<const K: usize, const L: usize, G: Xof>(
@@ -175,7 +177,7 @@ pub fn write_expanded_times_vector_less<const K: usize, const L: usize, G: Xof>(
     requires less { VectorWithin K 8380416 t.now }
     ensures refused { IfErr result (λ fault. (sampled_matrix G.front rho.now K L ≡ None) × (fault ≡ Fault.SamplingLimit)) }
     ensures values { IfOk result (λ _. (a : List (List T)) × (sampled_matrix G.front rho.now K L ≡ Some a)
-        × ((r n : ℕ) → r < K → n < 256 → entry out.new r n ≡ pos (product_difference L a z.now c.now t.now r n))) }
+        × ((r n : ℕ) → r < K → n < 256 → entry out.new r n ≡ pos (product_difference L a z.now c.now (vector_coefficients t.now) r n))) }
     ensures range { IfOk result (λ _. VectorWithin K 8380416 out.new) }
 {
     let mut z_hat = [T0; L];

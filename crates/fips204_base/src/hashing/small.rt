@@ -102,7 +102,8 @@ pub fn expand_s<const K: usize, const L: usize, H: Xof>(
     Ok((s1, s2))
 }
 
-/// `expand_s`, written into the caller's places. After an error part of them may be written.
+/// `expand_s`, written into the caller's places. After an error part of them may be written. Internal: serves the
+/// crate `fips204` alone.
 pub fn write_expanded_s<const K: usize, const L: usize, H: Xof>(
     eta: i32,
     rho: &[u8; 64],

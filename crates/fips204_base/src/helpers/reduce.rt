@@ -82,7 +82,7 @@ pub fn partial_reduce32(a: i32) -> i32
 }
 
 /// The difference modulo `q` of two numbers below `q` in absolute value, and again below `q` in absolute
-/// value.
+/// value. Internal: serves the crate `fips204` alone.
 pub fn difference(x: i32, y: i32) -> i32
     requires x { nat_abs x ≤ 8380416 }
     requires y { nat_abs y ≤ 8380416 }
@@ -103,7 +103,7 @@ pub fn full_reduce32(a: i32) -> i32
 
 /// `m` modulo `q`, from `-(q - 1) / 2` to `(q - 1) / 2`, for `m` below `2^31 - 2^22` in absolute
 /// value.
-#[tactic(auto, unfolding(crate::specs::Residues::centred))]
+#[tactic(auto, using(crate::proofs::Reductions::centred_is))]
 pub fn center_mod(m: i32) -> i32
     requires { nat_abs m < 2143289344 }
     ensures value { result ≡ centred m }

@@ -1,12 +1,15 @@
-//! The system's random bytes, as the library asks for them.
+//! Random bytes of the kit's sources and generators, as the library asks for them.
+//!
+//! A body that the contracts refuse: a generator that is not asked.
 #![tactic(auto)]
 
-ghost use Rattle.std.specs.Prelude.{◌≡◌, ℕ, length};
+ghost use Rattle.std.specs.Prelude.{◌≡◌, ⊤, ℕ, length};
 
 use fips204::RngError;
 use fips204::ml_dsa_44::KG;
 use fips204::traits::{CryptoRngCore, KeyGen, Signer, Verifier};
 use fips204::xof::{Sha256Ctr, Sha512Ctr};
+use rand_core::{TryCryptoRng, TryRng};
 use std::io;
 use std::random::RandomSource;
 use std::test::Fail;
@@ -32,6 +35,27 @@ impl<R: RandomSource> CryptoRngCore for FromSource<R> {
     }
 }
 
+/// A generator of the kit that may fail, as a generator of the library. It returns the bytes that the generator may
+/// give, as many as it is asked for, and fails if the generator reports an error; nothing is known about when that is.
+#[derive(Drop)]
+pub struct FromGenerator<R> {
+    /// The generator.
+    pub generator: R,
+}
+
+impl<R: TryCryptoRng> CryptoRngCore for FromGenerator<R> {
+    ghost gives = { λ before asked bytes after. (length bytes ≡ asked) × R.may_fill before.generator bytes after.generator };
+
+    ghost refuses = { λ before asked after. ⊤ };
+
+    fn try_fill_bytes(&mut self, out: &mut [u8]) -> Result<(), RngError> {
+        match self.generator.try_fill_bytes(out) {
+            Ok(()) => Ok(()),
+            Err(_) => Err(RngError),
+        }
+    }
+}
+
 /// A source of the tests: it writes one byte everywhere, or reports an error.
 #[derive(Drop)]
 struct Constant {
@@ -49,6 +73,28 @@ impl RandomSource for Constant {
         }
     }
 }
+
+impl TryRng for Constant {
+    type Error = io::Error;
+
+    fn try_next_u32(&mut self) -> Result<u32, io::Error> {
+        let mut bytes = [0; 4];
+        self.fill_bytes(&mut bytes)?;
+        Ok(u32::from_be_bytes(bytes))
+    }
+
+    fn try_next_u64(&mut self) -> Result<u64, io::Error> {
+        let mut bytes = [0; 8];
+        self.fill_bytes(&mut bytes)?;
+        Ok(u64::from_be_bytes(bytes))
+    }
+
+    fn try_fill_bytes(&mut self, dst: &mut [u8]) -> Result<(), io::Error> {
+        self.fill_bytes(dst)
+    }
+}
+
+impl TryCryptoRng for Constant {}
 
 /// A generator over a source of the kit signs as the call with the bytes that the source returned.
 #[test]
@@ -70,6 +116,21 @@ fn a_source_that_refuses(rt: HostRuntime) -> Result<(), Fail> {
     let mut rng = FromSource {
         source: Constant { byte: None },
     };
+    let answer = private.try_sign_with_rng(&mut rng, b"a message", b"test");
+    assert!(rt; answer == Err(fips204::Fault::SignRng));
+    Ok(())
+}
+
+/// A generator of the kit signs as the call with the bytes that it gave, and where it reports an error: `SignRng`.
+#[test]
+fn a_generator_of_the_kit(rt: HostRuntime) -> Result<(), Fail> {
+    let (_, private) = KG::<Sha256Ctr, Sha512Ctr>::keygen_from_seed(&[7; 32])?;
+    let mut rng = FromGenerator {
+        generator: Constant { byte: Some(3) },
+    };
+    let signature = private.try_sign_with_rng(&mut rng, b"a message", b"test")?;
+    assert!(rt; signature == private.try_sign_with_seed(&[3; 32], b"a message", b"test")?);
+    rng.generator.byte = None;
     let answer = private.try_sign_with_rng(&mut rng, b"a message", b"test");
     assert!(rt; answer == Err(fips204::Fault::SignRng));
     Ok(())

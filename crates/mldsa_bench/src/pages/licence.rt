@@ -4,8 +4,9 @@
 #![tactic(auto)]
 
 ghost use Rattle.std.specs.Prelude.{◌≡◌, ◌≢◌, ◌↔◌, IsTrue};
+ghost use Rattle.fips204.specs.SchemeLaws.{MessagesCollide};
+ghost use Rattle.fips204.specs.ParameterSets.{set_44};
 ghost use Rattle.mldsa_bench.specs.Licence.{spelling, IsToken, IsValid, SpellingIsOneToOne};
-ghost use Rattle.mldsa_bench.specs.SameSignature.{MessagesCollide};
 
 use fips204::laws;
 use fips204::ml_dsa_44::{KG, PublicKey, SIG_LEN};
@@ -66,7 +67,7 @@ pub fn accepted_for_both<H: Xof, G: Xof>(
     second: &Token,
     signature: &[u8; SIG_LEN],
 ) -> bool
-    ensures { IsTrue result → first.now ≢ second.now → MessagesCollide H.front key.now.tr CONTEXT.now (spelling first.now) (spelling second.now) }
+    ensures { IsTrue result → first.now ≢ second.now → MessagesCollide set_44 H.front key.now.tr CONTEXT.now (spelling first.now) (spelling second.now) }
 {
     laws::binding();
     one_spelling();

@@ -1,75 +1,157 @@
-//! Signed files, as docs/USING.md shows them: what a proof above the library gets.
+//! A signed manifest: a list of files, each with its name, size and digest, signed as a whole, at any set.
+//!
+//! Bodies that the contracts refuse: a spelling without the size; entries compared without the digest.
 #![tactic(auto)]
 
-ghost use Rattle.std.specs.Prelude.{◌≡◌, ◌≢◌, IsTrue, MatchOption};
-ghost use Rattle.fips204.specs.ParameterSets.{set_44};
-ghost use Rattle.fips204.specs.Refusals.{VerifiesMessage};
-ghost use Rattle.mldsa_bench.specs.SameSignature.{MessagesCollide};
+ghost use Rattle.std.specs.Prelude.{◌≡◌, ◌↔◌, ◌++◌, ℕ, List, IsTrue, MatchOption};
+ghost use Rattle.std.specs.List.{All, Contains};
+ghost use Rattle.sha2.specs.Hashers.{Holds256};
+ghost use Rattle.sha2.specs.Sha256.{sha256};
+ghost use Rattle.mldsa_bench.specs.Manifest.{entry_bytes, file_entry, spelling, IsEntry, IsHandedOut, SpellingIsOneToOne};
 
-use fips204::laws;
-use fips204::ml_dsa_44::{KG, PublicKey, SIG_LEN};
+use fips204::ml_dsa_65;
+use fips204::pre_hash::SHA2_256;
+use fips204::sets::{HasSet, Matrix, Set, SignatureSizes};
 use fips204::traits::{KeyGen, Signer, Verifier};
+use fips204::types::PublicKey;
 use fips204::xof::{Sha256Ctr, Sha512Ctr, Xof};
+use sha2::{Digest, Sha256};
 use std::test::Fail;
 
-/// The file if it is signed under this name by the owner of the key, or none.
-pub fn accepted<'a, H: Xof, G: Xof>(
-    key: &PublicKey<H, G>,
-    name: &[u8],
-    file: &'a [u8],
-    signature: &[u8; SIG_LEN],
-) -> Option<&'a [u8]>
-    ensures { MatchOption result
-        (VerifiesMessage set_44 H.front G.front key.now file.now signature.now name.now → ⊥)
-        (λ given. (given.now ≡ file.now) × VerifiesMessage set_44 H.front G.front key.now file.now signature.now name.now) }
+/// What the owner's signatures are for.
+pub const CONTEXT: &[u8] = b"manifest";
+
+/// What a manifest says of a file.
+#[derive(Debug, Clone, Copy, PartialEq, Eq)]
+pub struct Entry {
+    /// The file's name, ended by zeros.
+    pub name: [u8; 32],
+    /// Its number of bytes.
+    pub size: u64,
+    /// Its SHA-256 digest.
+    pub digest: [u8; 32],
+}
+
+/// The entry of a file under a name.
+pub fn entry_of(name: &[u8; 32], file: &[u8]) -> Entry
+    ensures { result ≡ file_entry name.now file.now }
 {
-    if key.verify(file, signature, name) {
+    Entry {
+        name: *name,
+        size: file.len() as u64,
+        digest: Sha256::digest(file),
+    }
+}
+
+/// Adds the bytes of an entry to what is hashed.
+fn add_entry(hasher: &mut Sha256, entry: &Entry)
+    ensures bytes { (before : List ℕ) → Holds256 hasher.old before → Holds256 hasher.new (before ++ entry_bytes entry.now) }
+    ensures range { IsEntry entry.now }
+{
+    let size: u64 = entry.size;
+    hasher.update(&entry.name);
+    hasher.update(&size.to_be_bytes());
+    hasher.update(&entry.digest);
+}
+
+/// The SHA-256 digest of a manifest's bytes, which is signed.
+pub fn digest_of(entries: &[Entry]) -> [u8; 32]
+    ensures digest { result ≡ sha256 (spelling entries.now) }
+    ensures range { All IsEntry entries.now }
+{
+    let mut hasher = Sha256::new();
+    for entry in entries {
+        add_entry(&mut hasher, entry);
+    }
+    hasher.finalize()
+}
+
+/// Two manifests with the same bytes are the same manifest.
+pub fn one_spelling()
+    ensures { SpellingIsOneToOne }
+{}
+
+/// Whether two entries are the same.
+fn same(first: &Entry, second: &Entry) -> bool
+    ensures { IsTrue result ↔ (first.now ≡ second.now) }
+{
+    first.name == second.name && first.size == second.size && first.digest == second.digest
+}
+
+/// Whether an entry stands in a manifest.
+fn lists(entries: &[Entry], wanted: &Entry) -> bool
+    ensures { IsTrue result ↔ Contains entries.now wanted.now }
+{
+    for entry in entries {
+        if same(entry, wanted) {
+            return true;
+        }
+    }
+    false
+}
+
+/// The file if the manifest is signed and lists it under this name, with its size and digest; else none.
+pub fn handed_out<
+    'a,
+    S,
+    const K: usize,
+    const L: usize,
+    const N: usize,
+    const SIG_LEN: usize,
+    H: Xof,
+    G: Xof,
+>(
+    key: &PublicKey<K, L, H, G>,
+    entries: &[Entry],
+    signature: &[u8; SIG_LEN],
+    name: &[u8; 32],
+    file: &'a [u8],
+) -> Option<&'a [u8]>
+where
+    Matrix<K, L>: HasSet<Set = S>,
+    S: Set<Commitment = [u8; N], Signature = [u8; SIG_LEN]> + SignatureSizes<K, L, N, SIG_LEN>,
+    ensures { MatchOption result
+        (IsHandedOut S.set H.front G.front key.now CONTEXT.now SHA2_256 entries.now signature.now name.now file.now → ⊥)
+        (λ given. (given.now ≡ file.now) × IsHandedOut S.set H.front G.front key.now CONTEXT.now SHA2_256 entries.now signature.now name.now file.now) }
+{
+    if !key.hash_verify(&digest_of(entries), signature, CONTEXT, &SHA2_256) {
+        return None;
+    }
+    if lists(entries, &entry_of(name, file)) {
         Some(file)
     } else {
         None
     }
 }
 
-/// Whether one signature is accepted for two files of one name. If the files differ, that is a collision of the
-/// stream `H`, and the clause names the pair.
-pub fn accepted_for_both<H: Xof, G: Xof>(
-    key: &PublicKey<H, G>,
-    name: &[u8],
-    first: &[u8],
-    second: &[u8],
-    signature: &[u8; SIG_LEN],
-) -> bool
-    ensures { IsTrue result → first.now ≢ second.now → MessagesCollide H.front key.now.tr name.now first.now second.now }
-{
-    laws::binding();
-    key.verify(first, signature, name) && key.verify(second, signature, name)
-}
-
-/// A file is returned under its name, and under no other name or text; one signature for two texts is not
-/// accepted for both.
+/// A file is handed out under its name; a longer, shorter or changed file, a file under another name, and a file of
+/// a manifest with an entry less, an entry changed or another signature are not.
 #[test]
-fn a_file_under_its_name(rt: HostRuntime) -> Result<(), Fail> {
-    let (public, private) = KG::<Sha256Ctr, Sha512Ctr>::keygen_from_seed(&[7; 32])?;
-    let signature = private.try_sign_with_seed(&[0; 32], b"text of the file", b"a.txt")?;
-    let file = accepted(&public, b"a.txt", b"text of the file", &signature);
-    assert!(rt; file == Some(b"text of the file"));
-    assert!(rt; accepted(&public, b"b.txt", b"text of the file", &signature) == None);
-    assert!(rt; accepted(&public, b"a.txt", b"another text", &signature) == None);
-    let both = accepted_for_both(
-        &public,
-        b"a.txt",
-        b"text of the file",
-        b"another text",
-        &signature,
-    );
-    assert!(rt; !both);
-    let both = accepted_for_both(
-        &public,
-        b"a.txt",
-        b"text of the file",
-        b"text of the file",
-        &signature,
-    );
-    assert!(rt; both);
+fn a_manifest(rt: HostRuntime) -> Result<(), Fail> {
+    let (key, owner) = ml_dsa_65::KG::<Sha256Ctr, Sha512Ctr>::keygen_from_seed(&[7; 32])?;
+    let (one, two) = ([b'1'; 32], [b'2'; 32]);
+    let entries = [
+        entry_of(&one, b"first file"),
+        entry_of(&two, b"second file"),
+    ];
+    let digest = digest_of(&entries);
+    let sign = owner.try_hash_sign_with_seed(&[0; 32], &digest, CONTEXT, &SHA2_256)?;
+    assert!(rt; handed_out(&key, &entries, &sign, &one, b"first file") == Some(b"first file"));
+    assert!(rt; handed_out(&key, &entries, &sign, &two, b"second file") == Some(b"second file"));
+    for file in [
+        b"first file!".as_slice(),
+        b"first fil",
+        b"fjrst file",
+        b"second file",
+    ] {
+        assert!(rt; handed_out(&key, &entries, &sign, &one, file) == None);
+    }
+    assert!(rt; handed_out(&key, &entries[..1], &sign, &one, b"first file") == None);
+    let mut changed = entries;
+    changed[1] = entry_of(&two, b"another file");
+    assert!(rt; handed_out(&key, &changed, &sign, &two, b"another file") == None);
+    let mut other = sign;
+    other[0] ^= 1;
+    assert!(rt; handed_out(&key, &entries, &other, &one, b"first file") == None);
     Ok(())
 }

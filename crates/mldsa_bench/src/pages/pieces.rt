@@ -1,12 +1,16 @@
 //! A signature that is read from a file, and a message in two pieces, with no memory for the whole.
+//!
+//! A body that the contracts refuse: the pieces exchanged.
 #![tactic(auto)]
 
-ghost use Rattle.std.specs.Prelude.{◌≡◌, ◌≢◌, length, IfOk, MatchOption};
-ghost use Rattle.mldsa_bench.specs.Pieces.{JudgesJoined};
+ghost use Rattle.std.specs.Prelude.{◌≡◌, ◌≢◌, ◌↔◌, ◌++◌, length, IsTrue, MatchOption};
+ghost use Rattle.fips204.specs.Framing.{framed, message_hash};
+ghost use Rattle.fips204.specs.ParameterSets.{set_44};
+ghost use Rattle.fips204.specs.Refusals.{sign_message, Draws, VerifiesMessage};
 
 use fips204::Fault;
-use fips204::ml_dsa_44::{KG, PK_LEN, PublicKey, SIG_LEN};
-use fips204::traits::{KeyGen, SerDes, Signer};
+use fips204::ml_dsa_44::{KG, PrivateKey, PublicKey, SIG_LEN};
+use fips204::traits::{CryptoRngCore, DummyRng, KeyGen, Signer};
 use fips204::xof::{Sha256Ctr, Sha512Ctr, Xof, hash};
 use std::test::Fail;
 
@@ -25,34 +29,53 @@ pub fn signature_of(file: &[u8]) -> Option<[u8; SIG_LEN]>
     Some(signature)
 }
 
-/// Verifies the signature of a message in two pieces under the key with these bytes. The result is that of
-/// `verify` for the joined message.
+/// The hash mu of a message in two pieces, under a key with this `tr`: a byte 0, the length of the context, the
+/// context, and the message (FIPS 204, Algorithm 2).
+pub fn joined_hash<H: Xof>(tr: &[u8; 64], first: &[u8], second: &[u8]) -> [u8; 64]
+    ensures { result ≡ message_hash H.front tr.now (framed (first.now ++ second.now) CONTEXT.now) }
+{
+    hash::<H, 64>(&[tr, &[0, 6], CONTEXT, first, second])
+}
+
+/// Signs a message in two pieces with 32 bytes of the generator. The result is that of `try_sign_with_rng` for the
+/// joined message, but for the error of the generator, `Fault::InternalRng`.
+pub fn signed_joined<H: Xof, G: Xof, R: CryptoRngCore>(
+    key: &PrivateKey<H, G>,
+    rng: &mut R,
+    first: &[u8],
+    second: &[u8],
+) -> Result<[u8; SIG_LEN], Fault>
+    ensures { Draws R.gives R.refuses rng.old rng.new Fault.InternalRng
+        (λ rnd. sign_message set_44 H.front G.front key.now rnd (first.now ++ second.now) CONTEXT.now) result }
+{
+    key.sign_mu(rng, &joined_hash::<H>(key.tr(), first, second), true)
+}
+
+/// Verifies the signature of a message in two pieces. The result is that of `verify` for the joined message.
 pub fn accepts_joined<H: Xof, G: Xof>(
-    bytes: [u8; PK_LEN],
+    key: &PublicKey<H, G>,
     first: &[u8],
     second: &[u8],
     signature: &[u8; SIG_LEN],
-) -> Result<bool, Fault>
-    ensures { IfOk result (JudgesJoined H.front G.front bytes CONTEXT.now first.now second.now signature.now) }
+) -> bool
+    ensures { IsTrue result ↔ VerifiesMessage set_44 H.front G.front key.now (first.now ++ second.now) signature.now CONTEXT.now }
 {
-    let tr = hash::<H, 64>(&[&bytes]);
-    let key = PublicKey::<H, G>::try_from_bytes(bytes)?;
-    let mu = hash::<H, 64>(&[&tr, &[0, 6], CONTEXT, first, second]);
-    Ok(key.verify_mu(&mu, signature))
+    key.verify_mu(&joined_hash::<H>(key.tr(), first, second), signature)
 }
 
-/// A message verifies however it is cut in two, and not with other pieces; a signature of another length is
-/// none.
+/// A message in pieces is signed as the whole, and verifies however it is cut in two, and not with other pieces; a
+/// signature of another length is none.
 #[test]
 fn a_message_in_pieces(rt: HostRuntime) -> Result<(), Fail> {
     let (key, owner) = KG::<Sha256Ctr, Sha512Ctr>::keygen_from_seed(&[7; 32])?;
-    let signature = owner.try_sign_with_seed(&[0; 32], b"a long message", CONTEXT)?;
-    let bytes = key.into_bytes();
-    let accepts = accepts_joined::<Sha256Ctr, Sha512Ctr>;
-    assert!(rt; accepts(bytes, b"a long ", b"message", &signature)?);
-    assert!(rt; accepts(bytes, b"", b"a long message", &signature)?);
-    assert!(rt; !accepts(bytes, b"a long ", b"massage", &signature)?);
-    assert!(rt; !accepts(bytes, b"message", b"a long ", &signature)?);
+    let signature = owner.try_sign_with_seed(&[3; 32], b"a long message", CONTEXT)?;
+    let mut rng = DummyRng { bytes: [3; 32] };
+    assert!(rt; signed_joined(&owner, &mut rng, b"a long ", b"message")? == signature);
+    assert!(rt; signed_joined(&owner, &mut rng, b"a long ", b"massage")? != signature);
+    assert!(rt; accepts_joined(&key, b"a long ", b"message", &signature));
+    assert!(rt; accepts_joined(&key, b"", b"a long message", &signature));
+    assert!(rt; !accepts_joined(&key, b"a long ", b"massage", &signature));
+    assert!(rt; !accepts_joined(&key, b"message", b"a long ", &signature));
     assert!(rt; signature_of(&signature) == Some(signature));
     assert!(rt; signature_of(&signature[1..]) == None);
     assert!(rt; signature_of(&[0; SIG_LEN + 1]) == None);

@@ -1,6 +1,8 @@
 //! The calls of the library one after the other, as docs/USING.md shows them.
 #![tactic(auto)]
 
+ghost use Rattle.std.specs.Prelude.{◌≡◌, true, Ok, IfOk};
+
 use fips204::ml_dsa_44::{self, PK_LEN, SIG_LEN, SK_LEN};
 use fips204::pre_hash::SHA2_256;
 use fips204::traits::{CryptoRngCore, DummyRng, KeyGen, SerDes, Signer, Verifier};
@@ -79,15 +81,16 @@ fn three(
 }
 
 /// Signs a message with a stored key of any of the three sets, and verifies the signature under the public key
-/// derived from it.
-fn stands<P, K, const SK: usize, const SIG: usize>(
+/// derived from it. The signature of a whole key is accepted.
+fn stands<K, const SK: usize, const SIG: usize>(
     key: [u8; SK],
     random: &[u8; 32],
     message: &[u8],
 ) -> Result<bool, Fault>
 where
-    P: Verifier<Signature = [u8; SIG]> + Drop,
-    K: SerDes<ByteArray = [u8; SK]> + Signer<Signature = [u8; SIG], PublicKey = P> + Drop,
+    K: SerDes<ByteArray = [u8; SK]> + Signer<Signature = [u8; SIG]> + Drop,
+    K::PublicKey: Drop,
+    ensures { ((private : K) → K.decodes key.entry (Ok private) → K.whole private) → IfOk result (λ answer. answer ≡ true) }
 {
     let private = K::try_from_bytes(key)?;
     let signature = private.try_sign_with_seed(random, message, CONTEXT)?;
@@ -143,12 +146,12 @@ fn three_messages(rt: HostRuntime) -> Result<(), Fail> {
 #[test]
 fn one_function_at_three_sets(rt: HostRuntime) -> Result<(), Fail> {
     let key = private_bytes::<Keys, _, _, 2560>(&[7; 32])?;
-    assert!(rt; stands::<_, Private, _, _>(key, &[0; 32], b"a message")?);
+    assert!(rt; stands::<Private, _, _>(key, &[0; 32], b"a message")?);
     let key = private_bytes::<ml_dsa_65::KG<Sha256Ctr, Sha512Ctr>, _, _, 4032>(&[7; 32])?;
-    let stands_65 = stands::<_, ml_dsa_65::PrivateKey<Sha256Ctr, Sha512Ctr>, _, _>;
+    let stands_65 = stands::<ml_dsa_65::PrivateKey<Sha256Ctr, Sha512Ctr>, _, _>;
     assert!(rt; stands_65(key, &[0; 32], b"a message")?);
     let key = private_bytes::<ml_dsa_87::KG<Sha256Ctr, Sha512Ctr>, _, _, 4896>(&[7; 32])?;
-    let stands_87 = stands::<_, ml_dsa_87::PrivateKey<Sha256Ctr, Sha512Ctr>, _, _>;
+    let stands_87 = stands::<ml_dsa_87::PrivateKey<Sha256Ctr, Sha512Ctr>, _, _>;
     assert!(rt; stands_87(key, &[0; 32], b"a message")?);
     Ok(())
 }

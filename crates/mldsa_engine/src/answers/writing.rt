@@ -34,10 +34,7 @@ pub(super) fn refuse(alloc: Global, fault: Fault) -> Result<Output, RunFault>
     ensures given { IfOk result (λ output. Refuses fault output.text.items output.success) }
     ensures memory { IfErr result (λ fault. fault ≡ RunFault.Memory) }
 {
-    Ok(Output {
-        text: word_line(alloc, fault.as_str())?,
-        success: false,
-    })
+    word_line(alloc, fault.as_str(), false)
 }
 
 /// The word for an answer on a line, which is a success if it is `yes`.
@@ -45,10 +42,7 @@ pub(super) fn tell(alloc: Global, answer: bool) -> Result<Output, RunFault>
     ensures given { IfOk result (λ output. (output.text.items ≡ text (answer_word answer ∷ [])) × (output.success ≡ answer)) }
     ensures memory { IfErr result (λ fault. fault ≡ RunFault.Memory) }
 {
-    Ok(Output {
-        text: word_line(alloc, word_of(answer))?,
-        success: answer,
-    })
+    word_line(alloc, word_of(answer), answer)
 }
 
 /// The word for an answer.
@@ -58,14 +52,14 @@ fn word_of(answer: bool) -> &'static str
     if answer { "yes" } else { "no" }
 }
 
-/// A line of these characters.
-fn word_line(alloc: Global, word: &str) -> Result<Vec<u8>, RunFault>
-    ensures given { IfOk result (λ written. written.items ≡ text (word.now ∷ [])) }
+/// A line of these characters, and whether it is a success.
+fn word_line(alloc: Global, word: &str, success: bool) -> Result<Output, RunFault>
+    ensures given { IfOk result (λ output. (output.text.items ≡ text (word.now ∷ [])) × (output.success ≡ success)) }
     ensures memory { IfErr result (λ fault. fault ≡ RunFault.Memory) }
 {
-    let mut written = Vec::new(alloc);
-    push_line(&mut written, word)?;
-    Ok(written)
+    let mut text = Vec::new(alloc);
+    push_line(&mut text, word)?;
+    Ok(Output { text, success })
 }
 
 /// A line that spells these bytes in lower case hex.
@@ -74,10 +68,7 @@ pub(super) fn one_line(alloc: Global, bytes: &[u8]) -> Result<Output, RunFault>
     ensures memory { IfErr result (λ fault. fault ≡ RunFault.Memory) }
 {
     let line = hex::encode(alloc, bytes)?;
-    Ok(Output {
-        text: word_line(alloc, line.as_str())?,
-        success: true,
-    })
+    word_line(alloc, line.as_str(), true)
 }
 
 /// Two lines that spell these bytes in lower case hex.

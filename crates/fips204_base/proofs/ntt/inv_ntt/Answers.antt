@@ -1,7 +1,6 @@
-use Rattle.std.proofs.Common.{◌≡◌, ℕ, ◌<◌, [], pos, get_or, length-set, ◌∙◌, arith, rules}
+use Rattle.std.proofs.Common.{[], get_or, length-set, ◌∙◌, arith, rules}
 use Rattle.std.proofs.lemmas.List.{get_or_default}
-use Rattle.fips204_base.specs.Transforms.{inverse_transform}
-use Rattle.fips204_base.specs.Lanes.{lane_at, residues}
+use Rattle.fips204_base.specs.Lanes.{IsInverse}
 use Rattle.fips204_base.proofs.Vectors.{row_written, rows_ahead}
 use Rattle.fips204_base.proofs.ntt.inv_ntt.Goals as goal
 
@@ -11,7 +10,7 @@ write_inv_ntt-requires g c =
       search rules,
       (
         (omega (arith, c.loop-row-test.true, c.loop-row.invariant.products, c.requires.room), omega (arith, c.loop-row-test.true, c.loop-row.invariant.sums, c.requires.room)),
-        λ i j d p q. rw before (c.requires.range c.loop-row.row i j [] d c.loop-row-test.true p q),
+        λ i j d p q. rw before (c.requires.range c.loop-row.row [] c.loop-row-test.true i j d p q),
       ),
     )
 
@@ -21,7 +20,7 @@ loop-row-preserved g c = record {
   products = omega (arith, c.write_inv_ntt.ensures.products, c.loop-row.invariant.products);
   sums = omega (arith, c.write_inv_ntt.ensures.sums, c.loop-row.invariant.sums);
   rest = rows_ahead c.args.w_hat.now c.loop-row.out c.loop-row.row _ c.loop-row.invariant.rest;
-  values = λ r i j d e h p q. row_written (λ r a. (i j : ℕ) (e : _) → i < 256 → j < g.V.Residue.width → lane_at g.V.Residue.lanes j e a i ≡ pos (inverse_transform (residues g.V.Residue.lanes j e (get_or c.args.w_hat.now r d)) i))
-      c.loop-row.out c.loop-row.row _ d (omega (arith, c.loop-row-test.true, c.loop-row.invariant.size)) (λ r h i j e p q. c.loop-row.invariant.values r i j d e h p q)
-      (λ i j e p q. rw (c.loop-row.invariant.rest c.loop-row.row [] (omega arith), get_or_default c.args.w_hat.now c.loop-row.row [] d (omega (arith, c.loop-row-test.true, c.told-w_hat))) at (c.write_inv_ntt.ensures.values i j e p q)) r h i j e p q;
+  values = λ r d h. row_written (λ r a. IsInverse g.V.Residue.lanes g.V.Residue.width (get_or c.args.w_hat.now r d) a)
+      c.loop-row.out c.loop-row.row _ d (omega (arith, c.loop-row-test.true, c.loop-row.invariant.size)) (λ r h. c.loop-row.invariant.values r d h)
+      (λ i j e p q. rw (c.loop-row.invariant.rest c.loop-row.row [] (omega arith), get_or_default c.args.w_hat.now c.loop-row.row [] d (omega (arith, c.loop-row-test.true, c.told-w_hat))) at (c.write_inv_ntt.ensures.values i j e p q)) r h;
 }

@@ -1,6 +1,5 @@
-use Rattle.std.proofs.Common.{◌≡◌, ℕ, ◌<◌, ◌≤◌, ◌+◌, ◌*◌, pos, get_or, length}
-use Rattle.fips204_base.specs.Transforms.{inverse_transform}
-use Rattle.fips204_base.specs.Lanes.{lane_at, residues}
+use Rattle.std.proofs.Common.{◌≡◌, ℕ, ◌<◌, ◌≤◌, ◌+◌, ◌*◌, get_or, length}
+use Rattle.fips204_base.specs.Lanes.{IsInverse}
 use Rattle.fips204_base.proofs.ntt.inv_ntt.Given as goal
 
 abbrev pub invariant-loop-row : goal.invariant-loop-row
@@ -9,5 +8,5 @@ invariant-loop-row g l = record {
   products : g.V.Residue.products l.meter ≡ g.V.Residue.products l.fn.meter + 1024 * l.row;
   sums : g.V.Residue.sums l.meter ≡ g.V.Residue.sums l.fn.meter + 2048 * l.row;
   rest : (r : ℕ) (d : _) → l.row ≤ r → get_or l.out r d ≡ get_or l.fn.w_hat r d;
-  values : (r i j : ℕ) (d : _) (e : _) → r < l.row → i < 256 → j < g.V.Residue.width → lane_at g.V.Residue.lanes j e (get_or l.out r d) i ≡ pos (inverse_transform (residues g.V.Residue.lanes j e (get_or l.fn.w_hat r d)) i);
+  values : (r : ℕ) (d : _) → r < l.row → IsInverse g.V.Residue.lanes g.V.Residue.width (get_or l.fn.w_hat r d) (get_or l.out r d);
 }

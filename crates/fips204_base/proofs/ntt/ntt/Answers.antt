@@ -1,9 +1,6 @@
-use Rattle.std.proofs.Common.{ℕ, ◌<◌, ◌≤◌, [], get_or, length-set, ◌∙◌, arith, rules}
-use Rattle.std.specs.Prelude.{nat_abs}
+use Rattle.std.proofs.Common.{[], get_or, length-set, ◌∙◌, arith, rules}
 use Rattle.std.proofs.lemmas.List.{get_or_default}
-use Rattle.fips204_base.specs.Residues.{IsCongruent}
-use Rattle.fips204_base.specs.Transforms.{transform}
-use Rattle.fips204_base.specs.Lanes.{lane_at, residues}
+use Rattle.fips204_base.specs.Lanes.{IsTransform, LanesWithin}
 use Rattle.fips204_base.proofs.Vectors.{row_written, rows_ahead}
 use Rattle.fips204_base.proofs.ntt.ntt.Goals as goal
 
@@ -13,7 +10,7 @@ write_ntt-requires g c =
       search rules,
       (
         (omega (arith, c.loop-row-test.true, c.loop-row.invariant.products, c.requires.room), omega (arith, c.loop-row-test.true, c.loop-row.invariant.sums, c.requires.room)),
-        λ i j d p q. rw before (c.requires.range c.loop-row.row i j [] d c.loop-row-test.true p q),
+        λ i j d p q. rw before (c.requires.range c.loop-row.row [] c.loop-row-test.true i j d p q),
       ),
     )
 
@@ -23,10 +20,10 @@ loop-row-preserved g c = record {
   products = omega (arith, c.write_ntt.ensures.products, c.loop-row.invariant.products);
   sums = omega (arith, c.write_ntt.ensures.sums, c.loop-row.invariant.sums);
   rest = rows_ahead c.args.w.now c.loop-row.out c.loop-row.row _ c.loop-row.invariant.rest;
-  values = λ r i j d e h p q. row_written (λ r a. (i j : ℕ) (e : _) → i < 256 → j < g.V.Residue.width → IsCongruent (residues g.V.Residue.lanes j e a i) (transform (residues g.V.Residue.lanes j e (get_or c.args.w.now r d)) i))
-      c.loop-row.out c.loop-row.row _ d (omega (arith, c.loop-row-test.true, c.loop-row.invariant.size)) (λ r h i j e p q. c.loop-row.invariant.values r i j d e h p q)
-      (λ i j e p q. rw (c.loop-row.invariant.rest c.loop-row.row [] (omega arith), get_or_default c.args.w.now c.loop-row.row [] d (omega (arith, c.loop-row-test.true, c.told-w))) at (c.write_ntt.ensures.values i j e p q)) r h i j e p q;
-  small = λ r i j d e h p q. row_written (λ r a. (i j : ℕ) (e : _) → i < 256 → j < g.V.Residue.width → nat_abs (lane_at g.V.Residue.lanes j e a i) ≤ 8380416)
-      c.loop-row.out c.loop-row.row _ d (omega (arith, c.loop-row-test.true, c.loop-row.invariant.size)) (λ r h i j e p q. c.loop-row.invariant.small r i j d e h p q)
-      (λ i j e p q. c.write_ntt.ensures.small i j e p q) r h i j e p q;
+  values = λ r d h. row_written (λ r a. IsTransform g.V.Residue.lanes g.V.Residue.width (get_or c.args.w.now r d) a)
+      c.loop-row.out c.loop-row.row _ d (omega (arith, c.loop-row-test.true, c.loop-row.invariant.size)) (λ r h. c.loop-row.invariant.values r d h)
+      (λ i j e p q. rw (c.loop-row.invariant.rest c.loop-row.row [] (omega arith), get_or_default c.args.w.now c.loop-row.row [] d (omega (arith, c.loop-row-test.true, c.told-w))) at (c.write_ntt.ensures.values i j e p q)) r h;
+  small = λ r d h. row_written (λ r a. LanesWithin g.V.Residue.lanes g.V.Residue.width 8380416 a)
+      c.loop-row.out c.loop-row.row _ d (omega (arith, c.loop-row-test.true, c.loop-row.invariant.size)) (λ r h. c.loop-row.invariant.small r d h)
+      (λ i j e p q. c.write_ntt.ensures.small i j e p q) r h;
 }

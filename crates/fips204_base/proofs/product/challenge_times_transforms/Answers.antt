@@ -5,4 +5,4 @@ use Rattle.fips204_base.proofs.LaneBatches.{lane_product}
 use Rattle.fips204_base.proofs.product.challenge_times_transforms.Goals as goal
 
 pub returns-clause-values : goal.returns-clause-values
-returns-clause-values g c = λ challenge v f k r n h q. c.write_products_in_lanes.ensures.first r n h q ∙ ap pos (lane_product (coefficients c.args.c_hat.now.0) (vector_residues c.args.v_hat.now r) challenge (v r) f (λ j p. k r j h p) n q)
+returns-clause-values g c = λ challenge v f k r n h q. c.write_products_in_lanes.ensures.first r n h q ∙ ap pos (lane_product (coefficients c.args.c_hat.now.0) (vector_residues c.args.v_hat.now r) challenge (v r) f (k r h) n q)

@@ -14,4 +14,4 @@ returns-clause-values g c = λ l a z_hat z t products transformed t_transformed 
     let y = vector_residues c.args.t_hat.now r in
     c.write_differences_in_lanes.ensures.values r n h q
     ∙ ap pos (difference_of_products l (minus p (pointwise x y)) p (pointwise x y) x y (coefficients c.args.c.now.0) (vector_coefficients t r) (matrix_residues a r) (vector_residues z_hat) (vector_coefficients z)
-    (λ j s. refl) (λ j s. products r j h s) transformed (λ j s. refl) c.transform_of.ensures.values (λ j s. t_transformed r j h s) n q)
+    (λ j s. refl) (λ j s. products r j h s) transformed (λ j s. refl) c.transform_of.ensures.values (λ j s. t_transformed r h j s) n q)

@@ -1,26 +1,18 @@
 use Rattle.std.proofs.Common.{rules}
-use Rattle.mldsa_engine.specs.Lines.{IsLineFault, FaultOfLines, InTurn}
-use Rattle.mldsa_engine.proofs.LinesInSequence.{next_line, fault_at, in_turn_at}
+use Rattle.mldsa_engine.specs.Lines.{Stops}
+use Rattle.mldsa_engine.proofs.LinesInSequence.{next_line, stops_at}
 use Rattle.mldsa_engine.proofs.lines.read_lines.Goals as goal
 
 pub loop-length-init : goal.loop-length-init
 loop-length-init g c = (search rules, search rules, search rules, search rules)
 
-pub returns-in_err-bytes-clause-line_fault : goal.returns-in_err-bytes-clause-line_fault
-returns-in_err-bytes-clause-line_fault g c =
-    let given = g.I.Read.remaining c.args.input.now.device in
-    let bad : IsLineFault c.in_err-bytes.field-0.0 → FaultOfLines c.args.first c.args.wanted.now given c.in_err-bytes.field-0.0 = λ of_line.
-    fault_at _ _ c.args.wanted.now c.loop-length.length-index _ _ _ _ (search rules) (search rules)
-    c.loop-length.invariant.3 (c.in_err-bytes.ensures.line_fault of_line) in
-    search (rules, bad)
-
-pub returns-in_err-bytes-clause-in_turn : goal.returns-in_err-bytes-clause-in_turn
-returns-in_err-bytes-clause-in_turn g c =
+pub returns-in_err-bytes-clause-stops : goal.returns-in_err-bytes-clause-stops
+returns-in_err-bytes-clause-stops g c =
     let given = g.I.Read.remaining c.args.input.now.device in
     let left = g.I.Read.remaining c.read_bytes.new.input.device in
-    let bad : IsLineFault c.in_err-bytes.field-0.0 → InTurn c.args.first c.args.wanted.now given left = λ of_line.
-    in_turn_at _ _ c.args.wanted.now c.loop-length.length-index _ _ _ _ (search rules) (search rules)
-    c.loop-length.invariant.3 (c.in_err-bytes.ensures.in_turn of_line) in
+    let bad : Stops c.args.first c.args.wanted.now given left c.in_err-bytes.field-0.0 =
+    stops_at _ _ c.args.wanted.now c.loop-length.length-index _ _ _ _ _ (search rules) (search rules)
+    c.loop-length.invariant.3 c.in_err-bytes.ensures.stops in
     search (rules, bad)
 
 pub loop-length-preserved : goal.loop-length-preserved

@@ -1,7 +1,6 @@
-use Rattle.std.proofs.Common.{rules, sym, subst, ap, ◌≡◌, ◌∙◌, nat_abs, w32, pos, ◌-ℤ◌, ℤ}
+use Rattle.std.proofs.Common.{rules, sym, subst, w32, pos, ◌-ℤ◌, ℤ}
 use Rattle.std.proofs.lemmas.Int.{to_z-of_z}
 use Rattle.fips204_base.specs.Vectors.{VectorInRange}
-use Rattle.fips204.specs.ParameterSets.{ParameterSet, private_key_length}
 use Rattle.fips204.specs.Sets.{HasKeySizes, set_of}
 use Rattle.fips204.proofs.ParameterSets.{limits, private_key-size, eta-by_rows}
 use Rattle.fips204.proofs.keys.PrivateKeySerDes.into_bytes.Goals as goal

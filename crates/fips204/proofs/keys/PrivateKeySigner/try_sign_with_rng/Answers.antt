@@ -1,4 +1,4 @@
-use Rattle.std.proofs.Common.{rules, ap, List, ℕ}
+use Rattle.std.proofs.Common.{rules, List, ℕ}
 use Rattle.fips204.specs.Acceptance.{Verifies}
 use Rattle.fips204.specs.Framing.{plain}
 use Rattle.fips204.specs.Keys.{IsWhole}

@@ -89,7 +89,7 @@ pk_encode-pk-requires g c =
     (search rules, (search rules, (size, (high_part-vector g (goal.at.pk_encode-pk-requires g c).After-write_power2round).range)))
 
 pub invariant_of-public : goal.invariant_of-public
-invariant_of-public g c = high_part-vector g (goal.at.invariant_of-public g c).After-write_power2round
+invariant_of-public g c = record { seed = search rules; hash = search rules; high = high_part-vector g (goal.at.invariant_of-public g c).After-write_power2round }
 
 pub invariant_of-private : goal.invariant_of-private
 invariant_of-private g c =

@@ -31,7 +31,11 @@ high_part-here g c =
     (key_vector-is (set_of c.args.p.now) c.in_ok-write_key_vector.ensures.values.0 c.sk.inside.s1 c.sk.inside.s2 c.write_key_vector.new.t g.row.K g.row.L c.requires.rows c.requires.columns c.in_ok-write_key_vector.ensures.values.2) c.write_power2round.ensures.high
 
 pub invariant_of-result : goal.invariant_of-result
-invariant_of-result g c = rw (high_part-here g (goal.at.invariant_of-result g c).After-write_power2round, c.requires.rows) (high_part-range (set_of c.args.p.now) c.in_ok-write_key_vector.ensures.values.0 c.sk.inside.s1 c.sk.inside.s2)
+invariant_of-result g c = record {
+  seed = search rules;
+  hash = search rules;
+  high = rw (high_part-here g (goal.at.invariant_of-result g c).After-write_power2round, c.requires.rows) (high_part-range (set_of c.args.p.now) c.in_ok-write_key_vector.ensures.values.0 c.sk.inside.s1 c.sk.inside.s2);
+}
 
 pub returns : goal.returns
 returns g c =

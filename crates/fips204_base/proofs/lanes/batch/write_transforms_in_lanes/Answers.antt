@@ -9,7 +9,7 @@ use Rattle.fips204_base.proofs.lanes.batch.write_transforms_in_lanes.Goals as go
 
 pub returns-clause-first : goal.returns-clause-first
 returns-clause-first g c = (
-  λ i j h q. c.loop-part.invariant.first i j h (omega (arith, h, c.loop-part-test.false)) q,
+  λ i h j q. c.loop-part.invariant.first i j h (omega (arith, h, c.loop-part-test.false)) q,
   λ i d h.
       let inside : i < g.row.L = omega (arith, h, c.loop-part.invariant.first_size) in
       c.loop-part.invariant.first_small i d inside (omega (arith, inside, c.loop-part-test.false)),
@@ -17,7 +17,7 @@ returns-clause-first g c = (
 
 pub returns-clause-second : goal.returns-clause-second
 returns-clause-second g c = (
-  λ i j h q. c.loop-part.invariant.second i j h (omega (arith, h, c.loop-part-test.false)) q,
+  λ i h j q. c.loop-part.invariant.second i j h (omega (arith, h, c.loop-part-test.false)) q,
   λ i d h.
       let inside : i < g.row.K = omega (arith, h, c.loop-part.invariant.second_size) in
       c.loop-part.invariant.second_small i d inside (omega (arith, inside, c.loop-part-test.false)),

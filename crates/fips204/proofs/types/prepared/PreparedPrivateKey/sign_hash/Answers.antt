@@ -1,4 +1,4 @@
-use Rattle.std.proofs.Common.{rules, arith, ap, subst, refl}
+use Rattle.std.proofs.Common.{rules, arith, ap, subst}
 use Rattle.fips204.specs.Keys.{PrivateParts, ArePrivateParts}
 use Rattle.fips204.specs.Prepared.{PreparedPrivate}
 use Rattle.fips204.specs.Sets.{HasSizes, set_of}

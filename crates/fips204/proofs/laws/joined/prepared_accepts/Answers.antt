@@ -1,0 +1,13 @@
+use Rattle.std.proofs.Common.{◌≡◌, Ok, rules}
+use Rattle.fips204.specs.ParameterSets.{set_44}
+use Rattle.fips204.specs.Prepared.{prepared_private, prepared_public}
+use Rattle.fips204.specs.Refusals.{derived}
+use Rattle.fips204.proofs.laws.joined.prepared_accepts.Goals as goal
+
+pub returns : goal.returns
+returns g c =
+    let law = c.prepared_keys.ensures set_44 g.H.Xof.front g.G.Xof.front in
+    let made : prepared_private set_44 g.G.Xof.front c.args.private.now ≡ Ok c.in_ok-prepare.field-0 = search rules in
+    let derives : derived set_44 g.G.Xof.front c.args.private.now ≡ Ok c.in_ok-get_public_key.field-0 = search rules in
+    let public : prepared_public set_44 g.G.Xof.front c.in_ok-get_public_key.field-0 ≡ Ok c.in_ok-public.public = search rules in
+    search rules
