@@ -4,15 +4,16 @@
 
 ghost use Rattle.std.specs.Prelude.{◌≡◌, ◌<◌, ◌≤◌, ◌+◌, ◌-◌, ◌*◌, ◌/◌, ◌%◌, ◌^◌, ℕ, pos, nat_abs, length, slice_index_or};
 ghost use Rattle.fips204_base.specs.Lanes.{lane, lane_at, residues, InRow, LanesWithin};
-ghost use Rattle.fips204_base.specs.Polynomials.{coefficient_at, entry, value_at, AreReduced, IsReducedVector, Within, vector_residues};
+ghost use Rattle.fips204_base.specs.Polynomials.{coefficient_at, entry, value_at, AreReduced, IsReduced, IsReducedVector, Within, vector_residues};
 ghost use Rattle.fips204_base.specs.Products.{minus, pointwise};
 ghost use Rattle.fips204_base.specs.Residues.{coefficients, residue};
 ghost use Rattle.fips204_base.specs.Transforms.{transform, inverse_transform};
 ghost use Rattle.fips204_base.specs.Vectors.{vector_coefficients, AreTransformsOf};
 
-use crate::helpers::{Count, Lanes};
+use crate::helpers::{Count, Lanes, difference, full_reduce32, partial_reduce64};
+use crate::helpers::reduce::wide_product;
 use crate::ntt::{write_inv_ntt, write_ntt};
-use crate::types::{R, T};
+use crate::types::{R, R0, T};
 use std::array;
 
 /// Writes the transforms of two vectors, which are one list: so they share a row where it holds both. Coefficients
@@ -109,6 +110,52 @@ pub(crate) fn write_products_in_lanes<const L: usize, const K: usize>(
         );
         write_polynomials(&mut rows, first, v, w, &mut Count::new());
     }
+    let mut c = [R0; 1];
+    write_inverses_in_lanes(&[*c_hat], &mut c);
+    let mut b = [R0; L];
+    write_inverses_in_lanes(t, &mut b);
+    for i in 0..L {
+        let mut x = [0; 256];
+        for n in 0..256usize {
+            let mut sum = 0;
+            for j in 0..256usize {
+                sum = plus_product(sum, c[0].0[j], shifted_at(&b, i, j, n));
+            }
+            x[n] = full_reduce32(sum);
+        }
+        v[i] = R(x);
+    }
+}
+
+#[tactic(auto, using(crate::proofs::Residues::reduced_product))]
+fn value_product(x: i32, y: i32) -> i32
+    requires x { nat_abs x ≤ 8380416 }
+    requires y { nat_abs y ≤ 8380416 }
+    ensures value { residue result ≡ residue x * residue y % 8380417 }
+    ensures small { nat_abs result ≤ 8380416 }
+{
+    partial_reduce64(wide_product(x, y))
+}
+
+fn shifted_at<const L: usize>(b: &[R; L], i: usize, j: usize, n: usize) -> i32
+    requires b { IsReducedVector L b.now }
+    requires i { i < L }
+    requires j { j < 256 }
+    requires n { n < 256 }
+    ensures value { residue result ≡ vector_coefficients b.now i ((256 + n - j) % 256) }
+    ensures small { nat_abs result ≤ 8380416 }
+{
+    b[i].0[(256 + n - j) % 256]
+}
+
+fn plus_product(sum: i32, x: i32, y: i32) -> i32
+    requires sum { nat_abs sum ≤ 8380416 }
+    requires x { nat_abs x ≤ 8380416 }
+    requires y { nat_abs y ≤ 8380416 }
+    ensures value { residue result ≡ (residue sum + residue x * residue y) % 8380417 }
+    ensures small { nat_abs result ≤ 8380416 }
+{
+    difference(sum, difference(0, value_product(x, y)))
 }
 
 /// Writes the polynomials that have these transforms: coefficients from 0 to `q - 1`. The values are below `q` in
