@@ -17,10 +17,10 @@ mod prepared;
 use crate::ml_dsa;
 use crate::sets::{HasSet, KeySizes, Matrix, Set, SignatureSizes};
 use crate::traits::{CryptoRngCore, KeyGen, Scheme, SerDes, Signer, Verifier, draw, draw_if};
-use crate::types::{KG, PreparedPrivateKey, PreparedPublicKey, PrivateKey, PublicKey};
+use crate::types::{KG, PreparedPrivateKey, PreparedPublicKey, PrivateKey, PublicKey, T0};
 use fips204_base::Fault;
 use fips204_base::encodings::{pk_encode, sk_encode};
-use fips204_base::hashing::expand_a;
+use fips204_base::hashing::write_expanded_a;
 use fips204_base::xof::Xof;
 use std::marker::PhantomData;
 
@@ -265,7 +265,8 @@ where
     pub fn prepare(&self) -> Result<PreparedPrivateKey<K, L, H>, Fault>
         ensures { result ≡ prepared_private S.set G.front self.now }
     {
-        let a_hat = expand_a::<K, L, G>(&self.rho)?;
+        let mut a_hat = [[T0; L]; K];
+        write_expanded_a::<K, L, G>(&self.rho, &mut a_hat)?;
         let key = PrivateKey {
             rho: self.rho,
             key: self.key,
@@ -317,7 +318,8 @@ where
     pub fn prepare(&self) -> Result<PreparedPublicKey<K, L, H>, Fault>
         ensures { result ≡ prepared_public S.set G.front self.now }
     {
-        let a_hat = expand_a::<K, L, G>(&self.rho)?;
+        let mut a_hat = [[T0; L]; K];
+        write_expanded_a::<K, L, G>(&self.rho, &mut a_hat)?;
         let key = PublicKey {
             rho: self.rho,
             tr: self.tr,
