@@ -15,9 +15,8 @@ use Rattle.mldsa_engine.specs.declared.lines.Ending.{Ending}
 use Rattle.mldsa_engine.specs.declared.lines.Ending.TheVariants.{Open, Line, Input}
 use Rattle.mldsa_engine.specs.declared.fault.RunFault.TheVariants.{Missing, TooLong}
 use Rattle.mldsa_engine.specs.Lines.{ends_line, first_line, longest_line, line_digits, line_reach, before_lines, line_bytes}
-use Rattle.mldsa_engine.specs.InnerSteps.{HasNoEnd}
-use Rattle.mldsa_engine.specs.InnerSteps.{TakesPiece, TakesLine}
 use Rattle.mldsa_engine.specs.Lines.{Stops, LeavesAllBut}
+use Rattle.mldsa_engine.specs.InnerSteps.{HasNoEnd, TakesPiece, TakesLine}
 use Rattle.mldsa_engine.proofs.Judging.{judged_long}
 
 pub end_after : (line rest : List ℕ) → HasNoEnd line
@@ -46,17 +45,13 @@ first_end given end some =
     let split = rw (byte, here) at (split_at_first ends_line given 0 inside) in
     let least = prefix_len-le-length (λ x. not (ends_line x)) (take end given) in
     let size = length-take-le end given (omega (arith, within)) in
-    let joined = rw (← split, here) at (prefix_len-append (λ x. not (ends_line x)) (take end given) (10 ∷ drop (end + 1) given)) in (
-      split,
-      grind (arith, nat_tests, joined, size, least),
-      within,
-    )
+    let joined = rw (← split, here) at (prefix_len-append (λ x. not (ends_line x)) (take end given) (10 ∷ drop (end + 1) given)) in
+    (split, grind (arith, nat_tests, joined, size, least), within)
 
 -- the line was read, with LF and what came with it
 pub takes_ended : (wanted : Option ℕ) (old new : Option (List ℕ)) (line more : List ℕ)
     → HasNoEnd line → Consumes old new (line ++ 10 ∷ more) → length more ≤ line_digits wanted - length line
-    → length line + length more ≤ longest_line
-    → TakesLine wanted old new line
+    → length line + length more ≤ longest_line → TakesLine wanted old new line
 takes_ended wanted None new line more h all few within = tt
 takes_ended wanted (Some input) None line more h all few within = absurd all
 takes_ended wanted (Some input) (Some left) line more h all few within =
@@ -95,10 +90,8 @@ goes_on asked old mid new line piece ending h all taken is =
     (has_no_end-append line piece h piece-taken.1, Consumes-trans old mid new line piece all piece-taken.0, piece-taken.2)
 
 pub ends_with_line : (wanted : Option ℕ) (asked : ℕ) (old mid new : Option (List ℕ)) (line piece : List ℕ) (ending : Ending) → HasNoEnd line
-    → Consumes old mid line
-    → TakesPiece asked mid new piece ending → ending ≡ Line → asked ≤ line_digits wanted + 1 - length line
-    → asked ≤ longest_line + 1 - length line
-    → length (line ++ piece) ≤ longest_line → TakesLine wanted old new (line ++ piece)
+    → Consumes old mid line → TakesPiece asked mid new piece ending → ending ≡ Line → asked ≤ line_digits wanted + 1 - length line
+    → asked ≤ longest_line + 1 - length line → length (line ++ piece) ≤ longest_line → TakesLine wanted old new (line ++ piece)
 ends_with_line wanted asked old mid new line piece ending h all taken ended few few' within =
     let (more, rest, none, short) = rw ended at taken in
     takes_ended wanted old new (line ++ piece) more (has_no_end-append line piece h none)
@@ -120,8 +113,7 @@ pub long_line : (old new : Option (List ℕ)) (line : List ℕ) → HasNoEnd lin
     → (number : ℕ) (wanted : Option ℕ) → Stops number (wanted ∷ []) old new (TooLong number)
 long_line None new line h taken long number wanted = λ _. (tt, tt)
 long_line (Some input) None line h taken long number wanted = absurd taken
-long_line (Some []) (Some left) line h taken long number wanted =
-    absurd (omega (arith, ap length taken, length-append line left, long))
+long_line (Some []) (Some left) line h taken long number wanted = absurd (omega (arith, ap length taken, length-append line left, long))
 long_line (Some (byte ∷ later)) (Some left) line h taken long number wanted = λ _.
     let input = byte ∷ later in
     let place : position_or_len ends_line input ≡ length line + position_or_len ends_line left =

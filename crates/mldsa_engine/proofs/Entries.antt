@@ -13,8 +13,7 @@ use Rattle.mldsa_engine.proofs.LinesInSequence.{AllFit-append, before_good, take
 -- the fault of one of the first lines is that of them all
 pub stops_first : (task : Task) (p : ParameterSet) (given left : Option (List ℕ)) (fault : RunFault)
     → Stops 1 (wanted_lines task p) given left fault → Stops 1 (input_lines task p given) given left fault
-stops_first task p given left fault bad =
-    stops_before 1 (wanted_lines task p) (later_lines task p (entries_of given)) given left fault bad
+stops_first task p given left fault bad = stops_before 1 (wanted_lines task p) (later_lines task p (entries_of given)) given left fault bad
 
 -- the third of the lines that were taken
 third_line : (first second third : Option ℕ) (input : List ℕ) (lines : List (List ℕ))

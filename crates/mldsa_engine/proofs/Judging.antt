@@ -23,8 +23,7 @@ unfolding judged
 judged_long number wanted line long = grind (arith, nat_tests)
 
 pub judged_not_hex : (number : ℕ) (wanted : Option ℕ) (line : List ℕ) (e : FromHexError) → length line ≤ longest_line
-    → decode_of line ≡ Err e
-    → judged number wanted line ≡ Err (NotHex number)
+    → decode_of line ≡ Err e → judged number wanted line ≡ Err (NotHex number)
 judged_not_hex number wanted line e short bad = judged_short number wanted line short ∙ ap (decoded number wanted) bad
 
 pub judged_hex : (number : ℕ) (wanted : Option ℕ) (line bytes : List ℕ) → length line ≤ longest_line → decode_of line ≡ Ok bytes

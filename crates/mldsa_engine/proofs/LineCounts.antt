@@ -5,12 +5,11 @@ use Rattle.fips204.specs.ParameterSets.{ParameterSet, public_key_length, signatu
 use Rattle.mldsa_engine.specs.declared.fault.RunFault.{RunFault}
 use Rattle.mldsa_engine.specs.declared.call.Task.{Task}
 use Rattle.mldsa_engine.specs.declared.call.Task.TheVariants.{Id, Keygen, Sign, Verify, Check, Batch}
-use Rattle.mldsa_engine.specs.InnerSteps.{AllFit}
 use Rattle.mldsa_engine.specs.Lines.{TakesLines, Stops}
 use Rattle.mldsa_engine.proofs.Entries.{two_each, batch_taken, stops_batch}
 use Rattle.mldsa_engine.proofs.LinesInSequence.{AllFit-length}
 use Rattle.mldsa_engine.specs.ProgramText.{wanted_lines, input_lines, entry_lines, two_bytes, Answers, Executes}
-use Rattle.mldsa_engine.specs.InnerSteps.{JudgesByKey}
+use Rattle.mldsa_engine.specs.InnerSteps.{AllFit, JudgesByKey}
 
 -- every command but a batch wants the same lines of every input
 whole_lines : (task : Task) (p : ParameterSet) (given : Option (List ℕ)) → ¬ (task ≡ Batch) → wanted_lines task p ≡ input_lines task p given
@@ -53,8 +52,7 @@ four_counted items w x y z (a ∷ b ∷ c ∷ d ∷ e ∷ more) first second thi
 
 -- a command of one line answers, by what it writes for that line's bytes
 pub answers_one : {V W E : Type 0} (items : V → List ℕ) (text : W → List ℕ) (success : W → Bool) (H G : List ℕ → List ℕ) (task : Task)
-    (p : ParameterSet)
-    (w : Option ℕ) (R : List ℕ → List ℕ → Bool → Type 0) (lines : List V) (first : V) (a : List ℕ) (result : Result W E)
+    (p : ParameterSet) (w : Option ℕ) (R : List ℕ → List ℕ → Bool → Type 0) (lines : List V) (first : V) (a : List ℕ) (result : Result W E)
     → ((a output : List ℕ) (answer : Bool) → R a output answer → Answers H G task p (a ∷ []) output answer)
     → AllFit (w ∷ []) (map items lines) → first ≡ get_or lines 0 first → a ≡ items first
     → IfOk result (λ it. R a (text it) (success it)) → IfOk result (λ it. Answers H G task p (map items lines) (text it) (success it))
@@ -64,8 +62,7 @@ answers_one items text success H G task p w R lines first a (Ok it) means fit p0
 
 -- a command of four lines answers, by what it writes for their bytes
 pub answers_four : {V W E : Type 0} (items : V → List ℕ) (text : W → List ℕ) (success : W → Bool) (H G : List ℕ → List ℕ) (task : Task)
-    (p : ParameterSet)
-    (w x y z : Option ℕ) (R : List ℕ → List ℕ → List ℕ → List ℕ → List ℕ → Bool → Type 0)
+    (p : ParameterSet) (w x y z : Option ℕ) (R : List ℕ → List ℕ → List ℕ → List ℕ → List ℕ → Bool → Type 0)
     (lines : List V) (first second third fourth : V) (a b c d : List ℕ) (result : Result W E)
     → ((a b c d output : List ℕ) (answer : Bool) → R a b c d output answer → Answers H G task p (a ∷ b ∷ c ∷ d ∷ []) output answer)
     → AllFit (w ∷ x ∷ y ∷ z ∷ []) (map items lines)
@@ -82,8 +79,7 @@ answers_four items text success H G task p w x y z R lines first second third fo
 -- a command that wants no lines but its first was carried out, by its answer to them
 pub executes_whole : {W E : Type 0} (text : W → List ℕ) (success : W → Bool) (H G : List ℕ → List ℕ) (task : Task) (p : ParameterSet)
     (given left : Option (List ℕ)) (lines : List (List ℕ)) (result : Result W E) → ¬ (task ≡ Batch)
-    → TakesLines 1 (wanted_lines task p) given left lines
-    → IfOk result (λ it. Answers H G task p lines (text it) (success it))
+    → TakesLines 1 (wanted_lines task p) given left lines → IfOk result (λ it. Answers H G task p lines (text it) (success it))
     → IfOk result (λ it. Executes H G task p given left (text it) (success it))
 executes_whole text success H G task p given left lines (Err fault) other taken told = told
 executes_whole text success H G task p given left lines (Ok it) other taken told =
@@ -113,11 +109,9 @@ executes_batch items text success H G p given mid left lines first second third 
 
 -- the fault of a line of a batch's entries is that of the batch
 pub batch_stops : {V W : Type 0} (items : V → List ℕ) (p : ParameterSet) (given mid left : Option (List ℕ)) (lines : List V)
-    (first second third : V)
-    (t : List ℕ) (count : ℕ) (result : Result W RunFault)
+    (first second third : V) (t : List ℕ) (count : ℕ) (result : Result W RunFault)
     → AllFit (wanted_lines Batch p) (map items lines) → TakesLines 1 (wanted_lines Batch p) given mid (map items lines)
-    → first ≡ get_or lines 0 first → second ≡ get_or lines 1 second → third ≡ get_or lines 2 third
-    → t ≡ items third → count ≡ two_bytes t
+    → first ≡ get_or lines 0 first → second ≡ get_or lines 1 second → third ≡ get_or lines 2 third → t ≡ items third → count ≡ two_bytes t
     → IfErr result (Stops 4 (entry_lines (signature_length p) count) mid left)
     → IfErr result (Stops 1 (input_lines Batch p given) given left)
 batch_stops items p given mid left lines first second third t count (Ok it) fit taken p0 p1 p2 e2 said bad = bad

@@ -110,8 +110,7 @@ before_good (Ok bytes) (Ok others) lines good = (bytes, refl, (others, refl, cc 
 stops_later : (number next : ℕ) (wanted more : List (Option ℕ)) (input left : List ℕ) (lines : List (List ℕ))
     → next ≡ number + length wanted → lines_bytes number wanted input ≡ Ok lines
     → StopsInTurn next more (after_lines (length wanted) input) left → StopsInTurn number (wanted ++ more) input left
-stops_later number next [] more input left lines e good stops =
-    subst (λ n. StopsInTurn n more input left) (e ∙ add-zero number) stops
+stops_later number next [] more input left lines e good stops = subst (λ n. StopsInTurn n more input left) (e ∙ add-zero number) stops
 stops_later number next (want ∷ wanted) more input left lines e good stops =
     let parts = before_good (line_bytes number want input) (lines_bytes (number + 1) wanted (after_line input)) lines good in
     subst (λ r. MatchResult r (λ _. StopsInTurn (number + 1) (wanted ++ more) (after_line input) left)
@@ -120,8 +119,7 @@ stops_later number next (want ∷ wanted) more input left lines e good stops =
 
 -- a fault of later lines is that of them all
 pub stops_after : (number next : ℕ) (wanted more : List (Option ℕ)) (old mid new : Option (List ℕ)) (lines : List (List ℕ))
-    (fault : RunFault)
-    → next ≡ number + length wanted → TakesLines number wanted old mid lines → Stops next more mid new fault
+    (fault : RunFault) → next ≡ number + length wanted → TakesLines number wanted old mid lines → Stops next more mid new fault
     → Stops number (wanted ++ more) old new fault
 stops_after number next wanted more None mid new lines fault e p q = λ _. (tt, tt)
 stops_after number next wanted more (Some input) None new lines fault e p q = absurd p

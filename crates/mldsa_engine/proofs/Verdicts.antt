@@ -15,18 +15,15 @@ use Rattle.fips204.specs.ParameterSets.{ParameterSet, signature_length}
 use Rattle.fips204.specs.Prepared.{PreparedPublic, prepared_public, PreparedAnswersAsPlain}
 use Rattle.fips204.specs.Refusals.{VerifiesMessage}
 use Rattle.fips204.specs.declared.types.T.{T}
-use Rattle.mldsa_engine.specs.InnerSteps.{AllFit}
 use Rattle.mldsa_engine.specs.Lines.{TakesLines}
 use Rattle.mldsa_engine.specs.ProgramText.{text, answer_word, entry_lines, AnswersEach, TellsAll, Judges}
-use Rattle.mldsa_engine.specs.InnerSteps.{AcceptsIfPrepared, JudgesEntries}
-use Rattle.mldsa_engine.specs.InnerSteps.{JudgesByKey}
+use Rattle.mldsa_engine.specs.InnerSteps.{AllFit, AcceptsIfPrepared, JudgesEntries, JudgesByKey}
 use Rattle.mldsa_engine.proofs.LinesInSequence.{no_lines}
 use Rattle.mldsa_engine.proofs.Entries.{next_entry}
 
 -- the answer to one entry more
 answers_next : (accepts : List ℕ → List ℕ → Type 0) (entries : List (List ℕ)) (answers : List Bool) (signature message : List ℕ)
-    (answer : Bool)
-    → (IsTrue answer ↔ accepts signature message) → AnswersEach accepts entries answers
+    (answer : Bool) → (IsTrue answer ↔ accepts signature message) → AnswersEach accepts entries answers
     → AnswersEach accepts (entries ++ signature ∷ message ∷ []) (answers ++ answer ∷ [])
 answers_next accepts entries answers signature message answer now (size, each) =
     let last = length answers in
@@ -89,17 +86,10 @@ judges_next items accepts size entry number old mid new
     (a ∷ b ∷ []) first second before after all next answer s m numbered fit takes is is' e e' now grown both
     (entries, fits, taken, (answers, each, tells)) =
     let further = next_entry size entry number old mid new entries (items a ∷ items b ∷ []) numbered fits taken fit takes in
-    let now' : IsTrue answer ↔ accepts (items a) (items b) = rw (← is, ← is', ← e, ← e') now in (
-      entries ++ items a ∷ items b ∷ [],
-      further.0,
-      further.1,
-      (
-        answers ++ answer ∷ [],
-        answers_next accepts entries answers (items a)
-            (items b) answer now' each,
-        told_next answers answer before after all next grown both tells,
-      ),
-    )
+    let now' : IsTrue answer ↔ accepts (items a) (items b) = rw (← is, ← is', ← e, ← e') now in
+    let judged = answers_next accepts entries answers (items a) (items b) answer now' each in
+    let told = told_next answers answer before after all next grown both tells in
+    (entries ++ items a ∷ items b ∷ [], further.0, further.1, (answers ++ answer ∷ [], judged, told))
 judges_next items accepts size entry number old mid new
     (a ∷ b ∷ c ∷ more) first second before after all next answer s m numbered fit takes is is' e e' now grown both told = absurd fit.1.1
 

@@ -1,7 +1,8 @@
 //! What each command reads, writes and returns.
 #![tactic(auto)]
 
-ghost use Rattle.std.specs.Prelude.{◌≡◌, ◌≤◌, ◌↔◌, ◌∷◌, [], length, map, take, false, true, Err, IsTrue, IfOk, IfErr};
+ghost use Rattle.std.specs.Prelude.{◌≡◌, ◌≤◌, ◌↔◌, ◌∷◌, [], length, map, take, false, true};
+ghost use Rattle.std.specs.Prelude.{Err, IsTrue, IfOk, IfErr};
 ghost use Rattle.fips204.specs.Keys.{PublicParts, IsPublicKeyOf};
 ghost use Rattle.fips204.specs.Prepared.{prepared_public};
 ghost use Rattle.fips204.specs.Refusals.{VerifiesMessage};

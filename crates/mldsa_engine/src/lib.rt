@@ -67,8 +67,10 @@ pub fn from_words<I: Read, O: Write>(
     ensures read_failed { IsTrue input.new.failed ↔ (result ≡ Err RunFault.Read) }
     ensures write_failed { IsTrue output.new.failed ↔ (result ≡ Err RunFault.Write) }
     ensures answer { IfOk result (RunsCall (map string_bytes words.now) I.remaining input.old input.new O.contents output.old output.new) }
-    ensures line_fault { IfErr result (λ fault. IsLineFault fault → FaultOfCall (map string_bytes words.now) I.remaining input.old fault) }
-    ensures in_turn { IfErr result (λ fault. IsLineFault fault → CallInTurn (map string_bytes words.now) I.remaining input.old input.new) }
+    ensures line_fault { IfErr result (λ fault. IsLineFault fault
+        → FaultOfCall (map string_bytes words.now) I.remaining input.old fault) }
+    ensures in_turn { IfErr result (λ fault. IsLineFault fault
+        → CallInTurn (map string_bytes words.now) I.remaining input.old input.new) }
     ensures nothing_written { IfErr result (λ fault. ¬ (fault ≡ RunFault.Write) → KeepsWritten O.contents output.old output.new) }
 {
     let Some((streams, task, set)) = call::call_of(words) else {

@@ -1,8 +1,8 @@
 //! The lines of an input.
 #![tactic(auto)]
 
-ghost use Rattle.std.specs.Prelude.{◌≡◌, ◌<◌, ◌≤◌, ◌+◌, ◌^◌, ◌↔◌, length, take, map, Ok, Err, IsTrue, IfOk, IfErr};
-ghost use Rattle.std.specs.Prelude.{MatchResult, false, true, ◌∷◌, [], position};
+ghost use Rattle.std.specs.Prelude.{◌≡◌, ◌<◌, ◌≤◌, ◌+◌, ◌^◌, ◌↔◌, ◌∷◌, [], length, take, map, position};
+ghost use Rattle.std.specs.Prelude.{false, true, Ok, Err, IsTrue, IfOk, IfErr, MatchResult};
 ghost use Rattle.mldsa_engine.specs.Lines.{longest_line, line_digits, ends_line, sized, refused};
 ghost use Rattle.mldsa_engine.specs.InnerSteps.{Fits, AllFit, IsInputFault};
 ghost use Rattle.mldsa_engine.specs.InnerSteps.{TakesPiece, TakesLine};
@@ -61,7 +61,8 @@ struct Piece {
 fn read_singly<I: Read>(input: &mut Marked<I>, room: &mut [u8]) -> Result<Piece, RunFault>
     requires unmarked { input.old.failed ≡ false }
     requires some { 0 < length room.old }
-    ensures mark { MatchResult result (λ _. input.new.failed ≡ false) (λ fault. (input.new.failed ≡ true) × (fault ≡ RunFault.Read)) }
+    ensures mark { MatchResult result (λ _. input.new.failed ≡ false)
+        (λ fault. (input.new.failed ≡ true) × (fault ≡ RunFault.Read)) }
     ensures bound { IfOk result (λ piece. piece.length ≤ length room.new) }
     ensures ended { IfOk result (λ piece. ¬ (piece.ending ≡ Ending.Open) → piece.length < length room.new) }
     ensures taken { IfOk result (λ piece. TakesPiece 0 (I.remaining input.old.device) (I.remaining input.new.device)
@@ -98,7 +99,8 @@ fn read_piece<I: Read>(
 ) -> Result<Piece, RunFault>
     requires unmarked { input.old.failed ≡ false }
     requires some { 0 < length room.old }
-    ensures mark { MatchResult result (λ _. input.new.failed ≡ false) (λ fault. (input.new.failed ≡ true) × (fault ≡ RunFault.Read)) }
+    ensures mark { MatchResult result (λ _. input.new.failed ≡ false)
+        (λ fault. (input.new.failed ≡ true) × (fault ≡ RunFault.Read)) }
     ensures bound { IfOk result (λ piece. piece.length ≤ length room.new) }
     ensures ended { IfOk result (λ piece. ¬ (piece.ending ≡ Ending.Open) → piece.length < length room.new) }
     ensures taken { IfOk result (λ piece. TakesPiece asked (I.remaining input.old.device) (I.remaining input.new.device)

@@ -59,7 +59,8 @@ impl<D: Read> Marked<D> {
     /// there is no room.
     pub(crate) fn read(&mut self, room: &mut [u8]) -> Result<usize, RunFault>
         requires unmarked { self.old.failed ≡ false }
-        ensures mark { MatchResult result (λ _. self.new.failed ≡ false) (λ fault. (self.new.failed ≡ true) × (fault ≡ RunFault.Read)) }
+        ensures mark { MatchResult result (λ _. self.new.failed ≡ false)
+            (λ fault. (self.new.failed ≡ true) × (fault ≡ RunFault.Read)) }
         ensures bound { IfOk result (λ count. count ≤ length room.new) }
         ensures bytes { ReadConsumes (D.remaining self.old.device) (D.remaining self.new.device) result room.new }
     {
@@ -77,7 +78,8 @@ impl<D: Write> Marked<D> {
     /// Writes to the device once, and returns how many bytes it took: some, unless there are none.
     pub(crate) fn write(&mut self, bytes: &[u8]) -> Result<usize, RunFault>
         requires unmarked { self.old.failed ≡ false }
-        ensures mark { MatchResult result (λ _. self.new.failed ≡ false) (λ fault. (self.new.failed ≡ true) × (fault ≡ RunFault.Write)) }
+        ensures mark { MatchResult result (λ _. self.new.failed ≡ false)
+            (λ fault. (self.new.failed ≡ true) × (fault ≡ RunFault.Write)) }
         ensures bound { IfOk result (λ count. count ≤ length bytes.now) }
         ensures some { IfOk result (λ count. 0 < length bytes.now → 0 < count) }
         ensures bytes { WriteAppends (D.contents self.old.device) (D.contents self.new.device) result bytes.now }

@@ -73,7 +73,8 @@ pub(super) fn one_line(alloc: Global, bytes: &[u8]) -> Result<Output, RunFault>
 
 /// Two lines that spell these bytes in lower case hex.
 pub(super) fn two_lines(alloc: Global, first: &[u8], second: &[u8]) -> Result<Output, RunFault>
-    ensures given { IfOk result (λ output. (output.text.items ≡ hex_text (first.now ∷ second.now ∷ [])) × (output.success ≡ true)) }
+    ensures given { IfOk result (λ output. (output.text.items ≡ hex_text (first.now ∷ second.now ∷ []))
+        × (output.success ≡ true)) }
     ensures memory { IfErr result (λ fault. fault ≡ RunFault.Memory) }
 {
     let mut output = one_line(alloc, first)?;
