@@ -20,7 +20,7 @@ first : (g : Over) (c : After-has_norm_below g) → c.has_norm_below.result ≡ 
 first g c =
     let p = c.args.p.now in
     let bound = to_z-of_z w32 c.z_bound.result (search rules) ∙ c.z_bound.ensures in
-    let z = c.response-z.ensures.value c.args.self.now.s1 c.args.c.now c.requires.inputs.transforms.first c.transform_of-c_hat.ensures.values in
+    let z = c.response-z.ensures.value c.args.self.now.s1 c.args.c.now (c.write_challenge_times_both.ensures.first (coefficients c.args.c.now.0) (vector_coefficients c.args.self.now.s1) c.transform_of-c_hat.ensures.values c.requires.inputs.transforms.first) in
     (rw bound at c.has_norm_below.ensures)
     ∙ ap (λ v. nat_lt (vector_norm v) (nat_abs p.gamma1 - nat_abs p.beta)) (response-is (set_of p) c.args.self.now c.args.y.now c.args.c.now c.response-z.result g.row.L c.requires.inputs.sizes.columns z)
 
@@ -29,7 +29,7 @@ second g c =
     let p = c.args.p.now in
     let bound = to_z-of_z w32 c.r0_bound.result (search rules) ∙ c.r0_bound.ensures in
     let gamma2 = to_z-of_z w32 p.gamma2 (search rules) in
-    let difference = c.w_minus_cs2-w_minus_cs2.ensures.values c.args.self.now.s2 c.args.c.now c.requires.inputs.transforms.second c.transform_of-c_hat.ensures.values in
+    let difference = c.w_minus_cs2-w_minus_cs2.ensures.values c.args.self.now.s2 c.args.c.now (c.write_challenge_times_both.ensures.second (coefficients c.args.c.now.0) (vector_coefficients c.args.self.now.s2) c.transform_of-c_hat.ensures.values c.requires.inputs.transforms.second) in
     (rw bound at c.has_norm_below-2.ensures)
     ∙ ap (λ v. nat_lt (vector_norm v) (nat_abs p.gamma2 - nat_abs p.beta)) ((rw gamma2 at c.low_vector.ensures.value) ∙ low-is (set_of p) c.args.self.now (vector_coefficients c.args.w.now) c.args.c.now _ _ c.requires.inputs.sizes.rows difference)
 
@@ -46,7 +46,7 @@ hint_of : (g : Over) (c : After-number_of_ones g) → c.hint-h.result ≡ hint_v
 hint_of g c =
     let p = c.args.p.now in
     let gamma2 = to_z-of_z w32 p.gamma2 (search rules) in
-    let difference = c.w_minus_cs2-w_minus_cs2.ensures.values c.args.self.now.s2 c.args.c.now c.requires.inputs.transforms.second c.transform_of-c_hat.ensures.values in
+    let difference = c.w_minus_cs2-w_minus_cs2.ensures.values c.args.self.now.s2 c.args.c.now (c.write_challenge_times_both.ensures.second (coefficients c.args.c.now.0) (vector_coefficients c.args.self.now.s2) c.transform_of-c_hat.ensures.values c.requires.inputs.transforms.second) in
     let product = c.challenge_times_transforms-ct0.ensures.values (coefficients c.args.c.now.0) (vector_coefficients c.args.self.now.t0) c.transform_of-c_hat.ensures.values c.requires.inputs.transforms.low in
     hint-is (set_of p) c.args.self.now (vector_coefficients c.args.w.now) c.args.c.now _ _ _ _ c.requires.inputs.sizes.rows difference product (rw gamma2 at c.hint-h.ensures)
 
@@ -123,7 +123,7 @@ sig_encode-requires g c =
     let gamma2 = to_z-of_z w32 p.gamma2 (search rules) in
     let omega_is = to_z-of_z w32 p.omega (search rules) in
     let hint = rw gamma2 at c.hint-h.ensures in
-    let sum = c.response-z.ensures.value c.args.self.now.s1 c.args.c.now c.requires.inputs.transforms.first c.transform_of-c_hat.ensures.values in
+    let sum = c.response-z.ensures.value c.args.self.now.s1 c.args.c.now (c.write_challenge_times_both.ensures.first (coefficients c.args.c.now.0) (vector_coefficients c.args.self.now.s1) c.transform_of-c_hat.ensures.values c.requires.inputs.transforms.first) in
     let z = response-is (set_of p) c.args.self.now c.args.y.now c.args.c.now _ _ c.requires.inputs.sizes.columns sum in
     let test = sym c.if-not-has_norm_below.false ∙ first g at.After-has_norm_below ∙ ap (λ v. nat_lt (vector_norm v) (nat_abs p.gamma1 - nat_abs p.beta)) (sym z) in (
       search rules,
@@ -160,7 +160,7 @@ returns g c =
     let at = goal.at.returns g c in
     let gamma1 = to_z-of_z w32 p.gamma1 (search rules) in
     let omega_is = to_z-of_z w32 p.omega (search rules) in
-    let sum = c.response-z.ensures.value c.args.self.now.s1 c.args.c.now c.requires.inputs.transforms.first c.transform_of-c_hat.ensures.values in
+    let sum = c.response-z.ensures.value c.args.self.now.s1 c.args.c.now (c.write_challenge_times_both.ensures.first (coefficients c.args.c.now.0) (vector_coefficients c.args.self.now.s1) c.transform_of-c_hat.ensures.values c.requires.inputs.transforms.first) in
     let z = response-is (set_of p) c.args.self.now c.args.y.now c.args.c.now _ _ c.requires.inputs.sizes.columns sum in
     let h = hint_of g at.After-number_of_ones in
     let count = c.number_of_ones.ensures ∙ ap (λ h. length (all_ones h)) h in
