@@ -5,8 +5,6 @@ use Rattle.std.specs.Int.{w32}
 use Rattle.std.proofs.lemmas.List.Elements.{All-from_get_or}
 use mir.Val.{SFits}
 use native.Mathlib.Decide.{dec_lt}
-use denote.Param.Members.{Mut, Called}
-use Rattle.std.specs.Array.{IsFromFnResult, IsFromFnResultFrom}
 use Rattle.fips204_base.specs.Residues.{coefficients, IsCongruent}
 use Rattle.fips204_base.specs.Transforms.{transform, inverse_transform}
 use Rattle.fips204_base.specs.Transforms.{pointwise, product}
@@ -49,21 +47,6 @@ lane_within after out size to small =
 pub lane_product : (x y a b : ℕ → ℕ) → ((j : ℕ) → j < 256 → x j ≡ transform a j) → ((j : ℕ) → j < 256 → y j ≡ transform b j) → (n : ℕ) → n < 256 →
     inverse_transform (pointwise x y) n ≡ product a b n
 lane_product x y a b = product_of_products (pointwise x y) x y a b (λ j p. refl)
-
--- an array that a closure made which calls leave as it was: each element is what a call of that closure gave
-module _ {F B : Type 0} (g : Mut F (ℕ × Unit {0}) B) (still : (i : ℕ) (p q : F) (y : B) → Called g p (i, tt) y q → q ≡ p) where
-  made_from : (n i k : ℕ) (f : F) (ys : List B) (e : B) → IsFromFnResultFrom g f ys i n → k < n → (q : F) × Called g f (i + k, tt) (get_or ys (i + k) e) q
-  made_from zero i k f ys e made h = absurd (omega (arith, h))
-  made_from (suc n) i zero f ys e made h =
-      let at : i + 0 ≡ i = omega arith in
-      (made.0, subst (λ j. Called g f (j, tt) (get_or ys j e) made.0) (sym at) (subst (λ y. Called g f (i, tt) y made.0) (sym (made.2.1 e)) made.3))
-  made_from (suc n) i (suc k) f ys e made h =
-      let at : i + 1 + k ≡ i + suc k = omega arith in
-      let rest = subst (λ p. IsFromFnResultFrom g p ys (i + 1) n) (still i f made.0 made.1 made.3) made.4 in
-      subst (λ j. (q : F) × Called g f (j, tt) (get_or ys j e) q) at (made_from n (i + 1) k f ys e rest (omega (arith, h)))
-
-  pub made_at : (f : F) (ys : List B) (n : ℕ) → IsFromFnResult g f ys n → (i : ℕ) (e : B) → i < n → (q : F) × Called g f (i, tt) (get_or ys i e) q
-  made_at f ys n made i e h = subst (λ j. (q : F) × Called g f (j, tt) (get_or ys j e) q) (let at : 0 + i ≡ i = omega arith in at) (made_from n 0 i f ys e made.each h)
 
 -- a vector of which a row of eight more is written: P holds of each element before and in the row
 pub row_of_eight : {A : Type 0} (P : ℕ → A → Type 0) (k at first : ℕ) (before after : List A) (d : A) →

@@ -10,7 +10,8 @@ ghost use Rattle.fips204_base.specs.Vectors.{vector_coefficients, plain_row, mat
 ghost use Rattle.fips204_base.specs.declared.types.R.{R};
 ghost use Rattle.fips204_base.specs.declared.types.T.{T};
 
-use crate::helpers::{Count, mat_vec_mul};
+use crate::helpers::vector::write_mat_vec_mul;
+use crate::helpers::{Count, Lanes};
 use crate::lanes::batch::{
     write_differences_in_lanes, write_inverses_in_lanes, write_products_in_lanes,
     write_transforms_in_lanes,
@@ -31,20 +32,29 @@ pub fn matrix_times_vector<const K: usize, const L: usize>(
     ensures values { (r n : ℕ) → r < K → n < 256 → entry result r n ≡ pos (matrix_product L a_hat.now (vector_coefficients v.now) r n) }
     ensures range { VectorWithin K 8380416 result }
 {
+    let mut rows = [Lanes::from_array([0; 8]); 256];
+    let mut v_hat = [T0; L];
+    write_transforms(v, &mut rows, &mut v_hat);
+    let mut products = [T0; K];
+    write_mat_vec_mul(a_hat, &v_hat, &mut products);
     let mut out = [R0; K];
-    write_plain_products(&mat_vec_mul(a_hat, &transforms(v)), &mut out);
+    write_plain_products(&products, &mut rows, &mut out);
     out
 }
 
 /// Writes the polynomials of a matrix's product with a vector, given by their transforms: coefficients from 0 to
 /// `q - 1`. Values are below `q` in absolute value.
-pub(crate) fn write_plain_products<const K: usize>(products: &[T; K], out: &mut [R; K])
+pub(crate) fn write_plain_products<const K: usize>(
+    products: &[T; K],
+    rows: &mut [Lanes; 256],
+    out: &mut [R; K],
+)
     requires products { TransformsWithin 8380416 products.now }
     ensures values { (l : ℕ) (a : List (List T)) (v_hat : List T) (v : ℕ → ℕ → ℕ) → AreRowProducts K l a v_hat products.now → AreTransformsOf l v v_hat
         → (r n : ℕ) → r < K → n < 256 → entry out.new r n ≡ pos (matrix_product l a v r n) }
     ensures range { VectorWithin K 8380416 out.new }
 {
-    write_inverses_in_lanes(products, out);
+    write_inverses_in_lanes(products, rows, out);
 }
 
 /// The product of a challenge with each polynomial of a vector: coefficients from 0 to `q - 1`. All
@@ -68,17 +78,39 @@ pub fn challenge_times_transforms<const K: usize>(c_hat: &T, v_hat: &[T; K]) -> 
     ensures range { VectorWithin K 8380416 result }
 {
     let mut out = [R0; K];
-    write_products_in_lanes(c_hat, v_hat, &[], &mut out, &mut []);
+    write_challenge_times_transforms(
+        c_hat,
+        v_hat,
+        &mut [Lanes::from_array([0; 8]); 256],
+        &mut out,
+    );
     out
 }
 
-/// Writes the products of a challenge with the polynomials of two vectors, which share the lanes of a row where it
-/// holds both: coefficients from 0 to `q - 1`. All are given by their transforms, with values below `q` in absolute
-/// value.
-pub fn write_challenge_times_both<const L: usize, const K: usize>(
+/// Writes what `challenge_times_transforms` returns. What `rows` hold before is of no account, here and below.
+pub fn write_challenge_times_transforms<const K: usize>(
+    c_hat: &T,
+    v_hat: &[T; K],
+    rows: &mut [Lanes; 256],
+    out: &mut [R; K],
+)
+    requires challenge { ValuesWithin 8380416 c_hat.now.0 }
+    requires vector { TransformsWithin 8380416 v_hat.now }
+    ensures values { (c : ℕ → ℕ) (v : ℕ → ℕ → ℕ) → IsTransformOf c c_hat.now → AreTransformsOf K v v_hat.now
+        → (r n : ℕ) → r < K → n < 256 → entry out.new r n ≡ pos (product c (v r) n) }
+    ensures range { VectorWithin K 8380416 out.new }
+{
+    write_products_in_lanes(c_hat, v_hat, &[], rows, out, &mut []);
+}
+
+/// Writes the products of a challenge with the polynomials of the first of two vectors, and of the second beside it
+/// where a row holds both: coefficients from 0 to `q - 1`. All are given by their transforms, with values below `q` in
+/// absolute value.
+pub fn write_challenge_times_first<const L: usize, const K: usize>(
     c_hat: &T,
     s_hat: &[T; L],
     t_hat: &[T; K],
+    rows: &mut [Lanes; 256],
     s: &mut [R; L],
     t: &mut [R; K],
 )
@@ -88,11 +120,38 @@ pub fn write_challenge_times_both<const L: usize, const K: usize>(
     ensures first { (c : ℕ → ℕ) (v : ℕ → ℕ → ℕ) → IsTransformOf c c_hat.now → AreTransformsOf L v s_hat.now
         → (r n : ℕ) → r < L → n < 256 → entry s.new r n ≡ pos (product c (v r) n) }
     ensures first_range { VectorWithin L 8380416 s.new }
-    ensures second { (c : ℕ → ℕ) (v : ℕ → ℕ → ℕ) → IsTransformOf c c_hat.now → AreTransformsOf K v t_hat.now
+    ensures second { (c : ℕ → ℕ) (v : ℕ → ℕ → ℕ) → L + K ≤ 8 → IsTransformOf c c_hat.now → AreTransformsOf K v t_hat.now
         → (r n : ℕ) → r < K → n < 256 → entry t.new r n ≡ pos (product c (v r) n) }
-    ensures second_range { VectorWithin K 8380416 t.new }
+    ensures second_range { L + K ≤ 8 → VectorWithin K 8380416 t.new }
 {
-    write_products_in_lanes(c_hat, s_hat, t_hat, s, t);
+    if L + K <= 8 {
+        write_products_in_lanes(c_hat, s_hat, t_hat, rows, s, t);
+    } else {
+        write_products_in_lanes(c_hat, s_hat, &[], rows, s, &mut []);
+    }
+}
+
+/// Writes the products of a challenge with the polynomials of the second of two vectors, of which the first has `L`,
+/// where `write_challenge_times_first` has not: coefficients from 0 to `q - 1`. All are given by their transforms, with
+/// values below `q` in absolute value.
+pub fn write_challenge_times_second<const L: usize, const K: usize>(
+    c_hat: &T,
+    t_hat: &[T; K],
+    rows: &mut [Lanes; 256],
+    t: &mut [R; K],
+)
+    requires challenge { ValuesWithin 8380416 c_hat.now.0 }
+    requires second { TransformsWithin 8380416 t_hat.now }
+    requires beside { (c : ℕ → ℕ) (v : ℕ → ℕ → ℕ) → L + K ≤ 8 → IsTransformOf c c_hat.now → AreTransformsOf K v t_hat.now
+        → (r n : ℕ) → r < K → n < 256 → entry t.old r n ≡ pos (product c (v r) n) }
+    requires beside_range { L + K ≤ 8 → VectorWithin K 8380416 t.old }
+    ensures values { (c : ℕ → ℕ) (v : ℕ → ℕ → ℕ) → IsTransformOf c c_hat.now → AreTransformsOf K v t_hat.now
+        → (r n : ℕ) → r < K → n < 256 → entry t.new r n ≡ pos (product c (v r) n) }
+    ensures range { VectorWithin K 8380416 t.new }
+{
+    if 8 < L || 8 - L < K {
+        write_challenge_times_transforms(c_hat, t_hat, rows, t);
+    }
 }
 
 /// The product of a matrix with a vector, less the product of a challenge with a vector: coefficients
@@ -112,11 +171,14 @@ pub fn matrix_times_vector_less<const K: usize, const L: usize>(
     ensures values { (r n : ℕ) → r < K → n < 256 → entry result r n ≡ pos (product_difference L a_hat.now z.now c.now (vector_coefficients t.now) r n) }
     ensures range { VectorWithin K 8380416 result }
 {
+    let mut rows = [Lanes::from_array([0; 8]); 256];
     let mut z_hat = [T0; L];
     let mut t_hat = [T0; K];
-    write_transforms_of_both(z, t, &mut z_hat, &mut t_hat);
+    write_transforms_in_lanes(z, t, &mut rows, &mut z_hat, &mut t_hat);
+    let mut products = [T0; K];
+    write_mat_vec_mul(a_hat, &z_hat, &mut products);
     let mut out = [R0; K];
-    write_product_difference(&mat_vec_mul(a_hat, &z_hat), c, &t_hat, &mut out);
+    write_product_difference(&products, c, &t_hat, &mut rows, &mut out);
     out
 }
 
@@ -127,6 +189,7 @@ pub(crate) fn write_product_difference<const K: usize>(
     products: &[T; K],
     c: &R,
     t_hat: &[T; K],
+    rows: &mut [Lanes; 256],
     out: &mut [R; K],
 )
     requires products { TransformsWithin 8380416 products.now }
@@ -137,7 +200,13 @@ pub(crate) fn write_product_difference<const K: usize>(
         → (r n : ℕ) → r < K → n < 256 → entry out.new r n ≡ pos (product_difference l a z c.now (vector_coefficients t) r n) }
     ensures range { VectorWithin K 8380416 out.new }
 {
-    write_differences_in_lanes(products, &transform_of(c, &mut Count::new()), t_hat, out);
+    write_differences_in_lanes(
+        products,
+        &transform_of(c, &mut Count::new()),
+        t_hat,
+        rows,
+        out,
+    );
 }
 
 /// The transforms of a vector. Its coefficients are below `q` in absolute value, and so are the values.
@@ -147,17 +216,21 @@ pub fn transforms<const L: usize>(v: &[R; L]) -> [T; L]
     ensures small { TransformsWithin 8380416 result }
 {
     let mut out = [T0; L];
-    write_transforms(v, &mut out);
+    write_transforms(v, &mut [Lanes::from_array([0; 8]); 256], &mut out);
     out
 }
 
 /// Writes the transforms of a vector. Its coefficients are below `q` in absolute value, and so are the values.
-pub(crate) fn write_transforms<const L: usize>(v: &[R; L], out: &mut [T; L])
+pub(crate) fn write_transforms<const L: usize>(
+    v: &[R; L],
+    rows: &mut [Lanes; 256],
+    out: &mut [T; L],
+)
     requires { VectorWithin L 8380416 v.now }
     ensures values { AreTransformsOf L (vector_coefficients v.now) out.new }
     ensures small { TransformsWithin 8380416 out.new }
 {
-    write_transforms_in_lanes(v, &[], out, &mut []);
+    write_transforms_in_lanes(v, &[], rows, out, &mut []);
 }
 
 /// Writes the transforms of two vectors, which share the lanes of a row where it holds both. Coefficients are below
@@ -173,7 +246,13 @@ pub fn write_transforms_of_both<const L: usize, const K: usize>(
     ensures first { AreTransformsOf L (vector_coefficients v.now) v_hat.new × TransformsWithin 8380416 v_hat.new }
     ensures second { AreTransformsOf K (vector_coefficients w.now) w_hat.new × TransformsWithin 8380416 w_hat.new }
 {
-    write_transforms_in_lanes(v, w, v_hat, w_hat);
+    write_transforms_in_lanes(
+        v,
+        w,
+        &mut [Lanes::from_array([0; 8]); 256],
+        v_hat,
+        w_hat,
+    );
 }
 
 /// The transform of a polynomial, which raises the count by 1024 butterflies, for which it needs room. Its

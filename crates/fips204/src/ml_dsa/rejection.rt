@@ -17,10 +17,13 @@ ghost use Rattle.fips204.specs.SigningInputs.{attempt_answer};
 
 use crate::types::{KeyTransforms, Params, PrivateKey, R, R0};
 use fips204_base::encodings::sig_encode;
-use fips204_base::helpers::{Count, center_mod, difference, infinity_norm};
+use fips204_base::helpers::{Count, Lanes, center_mod, difference, infinity_norm};
 use fips204_base::high_low::{low_bits, make_hint};
-use fips204_base::maps::{map_vector, zip_vectors};
-use fips204_base::product::{challenge_times_transforms, transform_of, write_challenge_times_both};
+use fips204_base::maps::{map_vector, write_zip_vectors, zip_vectors};
+use fips204_base::product::{
+    challenge_times_transforms, transform_of, write_challenge_times_first,
+    write_challenge_times_second,
+};
 
 impl<const K: usize, const L: usize, H, G> PrivateKey<K, L, H, G> {
     /// The signature of an attempt with the transforms of the key's vectors, mask `y`, `w = A y`, commitment
@@ -43,24 +46,26 @@ impl<const K: usize, const L: usize, H, G> PrivateKey<K, L, H, G> {
     {
         // c_hat = NTT(c)
         let c_hat = transform_of(c, &mut Count::new());
-        // c s1 and c s2
-        let mut cs1 = [R0; L];
-        let mut cs2 = [R0; K];
-        write_challenge_times_both(
+        let mut rows = [Lanes::from_array([0; 8]); 256];
+        // z = y + c s1, with a norm below gamma1 - beta
+        let mut z = [R0; L];
+        let mut rest = [R0; K];
+        write_challenge_times_first(
             &c_hat,
             &transforms.s1_hat,
             &transforms.s2_hat,
-            &mut cs1,
-            &mut cs2,
+            &mut rows,
+            &mut z,
+            &mut rest,
         );
-        // z = y + c s1, with a norm below gamma1 - beta
-        let z = response(y, &cs1);
+        write_response(y, &mut z);
         if !has_norm_below(&z, p.z_bound()) {
             return None;
         }
         // r0 = LowBits(w - c s2), with a norm below gamma2 - beta
-        let w_minus_cs2 = w_minus_cs2(w, &cs2);
-        if !has_norm_below(&low_vector(p.gamma2, &w_minus_cs2), p.r0_bound()) {
+        write_challenge_times_second::<L, K>(&c_hat, &transforms.s2_hat, &mut rows, &mut rest);
+        write_w_minus_cs2(w, &mut rest);
+        if !has_norm_below(&low_vector(p.gamma2, &rest), p.r0_bound()) {
             return None;
         }
         // c t0, with a norm below gamma2
@@ -69,7 +74,7 @@ impl<const K: usize, const L: usize, H, G> PrivateKey<K, L, H, G> {
             return None;
         }
         // h = MakeHint(-c t0, w - c s2 + c t0), with at most omega ones
-        let h = hint(p.gamma2, &w_minus_cs2, &ct0);
+        let h = hint(p.gamma2, &rest, &ct0);
         if number_of_ones(&h) > p.omega as usize {
             return None;
         }
@@ -89,42 +94,44 @@ pub(crate) fn has_norm_below<const N: usize>(v: &[R; N], bound: i32) -> bool
     infinity_norm(v) < bound
 }
 
-/// `z = y + c s1`, centred. Coefficients of `y` are at most 524288, and those of `c s1` below `q`, in absolute value.
-fn response<const L: usize>(y: &[R; L], cs1: &[R; L]) -> [R; L]
+/// Adds `y` to `c s1`, which is in `z`: `z = y + c s1`, centred. Coefficients of `y` are at most 524288, and those of
+/// `c s1` below `q`, in absolute value.
+fn write_response<const L: usize>(y: &[R; L], z: &mut [R; L])
     requires mask { VectorWithin L 524288 y.now }
-    requires product { VectorWithin L 8380416 cs1.now }
-    ensures value { (s1 : List R) (c : R) → ((r n : ℕ) → r < L → n < 256 → entry cs1.now r n ≡ pos (product (coefficients c.0) (vector_coefficients s1 r) n))
-        → result ≡ vector_of L (λ r n. centred (pos (y_plus_cs1 s1 y.now c r n))) }
-    ensures range { VectorWithin L 8380416 result }
+    requires product { VectorWithin L 8380416 z.old }
+    ensures value { (s1 : List R) (c : R) → ((r n : ℕ) → r < L → n < 256 → entry z.old r n ≡ pos (product (coefficients c.0) (vector_coefficients s1 r) n))
+        → z.new ≡ vector_of L (λ r n. centred (pos (y_plus_cs1 s1 y.now c r n))) }
+    ensures range { VectorWithin L 8380416 z.new }
 {
-    zip_vectors(
-        cs1,
+    write_zip_vectors(
+        z,
         y,
         |product, mask|
             requires { (nat_abs product ≤ 8380416) × (nat_abs mask ≤ 524288) }
             ensures value { result ≡ centred (pos ((residue mask + residue product) % 8380417)) }
             ensures small { nat_abs result ≤ 8380416 }
         { center_mod(mask + product) },
-    )
+    );
 }
 
-/// `w - c s2`, below `q` in absolute value, as coefficients of both are.
-fn w_minus_cs2<const K: usize>(w: &[R; K], cs2: &[R; K]) -> [R; K]
+/// Subtracts `c s2`, which is in `rest`, from `w`: `w - c s2`, below `q` in absolute value, as coefficients of both
+/// are.
+fn write_w_minus_cs2<const K: usize>(w: &[R; K], rest: &mut [R; K])
     requires w { VectorWithin K 8380416 w.now }
-    requires product { VectorWithin K 8380416 cs2.now }
-    ensures values { (s2 : List R) (c : R) → ((r n : ℕ) → r < K → n < 256 → entry cs2.now r n ≡ pos (product (coefficients c.0) (vector_coefficients s2 r) n))
-        → (r n : ℕ) → r < K → n < 256 → vector_coefficients result r n ≡ w_minus_cs2 s2 (vector_coefficients w.now) c r n }
-    ensures range { VectorWithin K 8380416 result }
+    requires product { VectorWithin K 8380416 rest.old }
+    ensures values { (s2 : List R) (c : R) → ((r n : ℕ) → r < K → n < 256 → entry rest.old r n ≡ pos (product (coefficients c.0) (vector_coefficients s2 r) n))
+        → (r n : ℕ) → r < K → n < 256 → vector_coefficients rest.new r n ≡ w_minus_cs2 s2 (vector_coefficients w.now) c r n }
+    ensures range { VectorWithin K 8380416 rest.new }
 {
-    zip_vectors(
+    write_zip_vectors(
+        rest,
         w,
-        cs2,
-        |x, y|
-            requires { (nat_abs x ≤ 8380416) × (nat_abs y ≤ 8380416) }
-            ensures value { residue result ≡ (residue x + 8380416 * residue y) % 8380417 }
+        |product, x|
+            requires { (nat_abs product ≤ 8380416) × (nat_abs x ≤ 8380416) }
+            ensures value { residue result ≡ (residue x + 8380416 * residue product) % 8380417 }
             ensures small { nat_abs result ≤ 8380416 }
-        { difference(x, y) },
-    )
+        { difference(x, product) },
+    );
 }
 
 /// `LowBits` of each coefficient of a vector whose coefficients are below `q` in absolute value.

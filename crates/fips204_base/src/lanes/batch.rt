@@ -14,16 +14,39 @@ ghost use Rattle.fips204_base.specs.Vectors.{vector_coefficients, AreTransformsO
 use crate::helpers::{Count, Lanes};
 use crate::ntt::{write_inv_ntt, write_ntt};
 use crate::types::{R, T};
-use std::array;
 
-/// Writes the transforms of two vectors, which are one list: so they share a row where it holds both. Coefficients
-/// are below `q` in absolute value, and so are the values.
+/// Writes the transforms of two vectors, which share rows of eight lanes where these hold both. Coefficients are below
+/// `q` in absolute value, and so are the values. What `rows` hold before is of no account.
 ///
-/// Not inlined, so that its rows don't stay in the caller's frame and its calls can be counted.
+/// Not inlined, so that its calls can be counted.
 #[inline(never)]
 pub(crate) fn write_transforms_in_lanes<const L: usize, const K: usize>(
     v: &[R; L],
     w: &[R; K],
+    rows: &mut [Lanes; 256],
+    v_hat: &mut [T; L],
+    w_hat: &mut [T; K],
+)
+    requires first { VectorWithin L 8380416 v.now }
+    requires second { VectorWithin K 8380416 w.now }
+    ensures first { AreTransformsOf L (vector_coefficients v.now) v_hat.new × TransformsWithin 8380416 v_hat.new }
+    ensures second { AreTransformsOf K (vector_coefficients w.now) w_hat.new × TransformsWithin 8380416 w_hat.new }
+{
+    if L + K <= 8 {
+        write_transforms_of_list(v, w, rows, v_hat, w_hat);
+    } else {
+        write_transforms_of_list(v, &[], rows, v_hat, &mut []);
+        write_transforms_of_list(w, &[], rows, w_hat, &mut []);
+    }
+}
+
+/// Writes the transforms of two vectors as of one list, the second behind the first, by eights. Coefficients are below
+/// `q` in absolute value, and so are the values.
+#[inline(always)]
+fn write_transforms_of_list<const L: usize, const K: usize>(
+    v: &[R; L],
+    w: &[R; K],
+    rows: &mut [Lanes; 256],
     v_hat: &mut [T; L],
     w_hat: &mut [T; K],
 )
@@ -33,7 +56,7 @@ pub(crate) fn write_transforms_in_lanes<const L: usize, const K: usize>(
     ensures second { AreTransformsOf K (vector_coefficients w.now) w_hat.new × TransformsWithin 8380416 w_hat.new }
 {
     for part in 0..(L + K + 7) / 8 {
-        write_eight_transforms(v, w, 8 * part, v_hat, w_hat, &mut Count::new());
+        write_eight_transforms(v, w, 8 * part, rows, v_hat, w_hat, &mut Count::new());
     }
 }
 
@@ -44,6 +67,7 @@ fn write_eight_transforms<const L: usize, const K: usize>(
     v: &[R; L],
     w: &[R; K],
     first: usize,
+    rows: &mut [Lanes; 256],
     v_hat: &mut [T; L],
     w_hat: &mut [T; K],
     count: &mut Count,
@@ -63,7 +87,8 @@ fn write_eight_transforms<const L: usize, const K: usize>(
     ensures products { count.new.products ≡ count.old.products + 1024 }
     ensures sums { count.new.sums ≡ count.old.sums + 2048 }
 {
-    let mut rows: [Lanes; 256] = array::from_fn(
+    write_rows(
+        rows,
         |n|
             requires { (n < 256) × (first < L + K) × VectorWithin L 8380416 v.now × VectorWithin K 8380416 w.now }
             ensures first { (j : ℕ) → j < 8 → first + j < L → lane result.lanes j ≡ entry v.entry.now (first + j) n }
@@ -71,20 +96,18 @@ fn write_eight_transforms<const L: usize, const K: usize>(
             ensures small { (j : ℕ) → j < 8 → nat_abs (lane result.lanes j) ≤ 8380416 }
         { row_of_coefficients(v, w, first, n) },
     );
-    write_ntt(&mut rows, count);
-    write_values(&rows, first, 0, v_hat);
-    write_values(&rows, first, L, w_hat);
+    write_ntt(rows, count);
+    write_values(rows, first, 0, v_hat);
+    write_values(rows, first, L, w_hat);
 }
 
 /// Writes the products of a challenge with the polynomials of two vectors, given by their transforms, which are one
 /// list: coefficients from 0 to `q - 1`. The values are below `q` in absolute value.
-///
-/// Not inlined, so that its rows don't stay in the caller's frame.
-#[inline(never)]
 pub(crate) fn write_products_in_lanes<const L: usize, const K: usize>(
     c_hat: &T,
     t: &[T; L],
     u: &[T; K],
+    rows: &mut [Lanes; 256],
     v: &mut [R; L],
     w: &mut [R; K],
 )
@@ -100,7 +123,8 @@ pub(crate) fn write_products_in_lanes<const L: usize, const K: usize>(
 {
     for part in 0..(L + K + 7) / 8 {
         let first = 8 * part;
-        let mut rows: [Lanes; 256] = array::from_fn(
+        write_rows(
+            rows,
             |n|
                 requires { (n < 256) × (first < L + K) × ValuesWithin 8380416 c_hat.now.0 × TransformsWithin 8380416 t.now × TransformsWithin 8380416 u.now }
                 ensures first { (j : ℕ) → j < 8 → first + j < L → residue (lane result.lanes j) ≡ pointwise (coefficients c_hat.entry.now.0) (vector_residues t.entry.now (first + j)) n }
@@ -108,42 +132,42 @@ pub(crate) fn write_products_in_lanes<const L: usize, const K: usize>(
                 ensures small { (j : ℕ) → j < 8 → nat_abs (lane result.lanes j) ≤ 8380416 }
             { row_of_products(c_hat, t, u, first, n) },
         );
-        write_polynomials(&mut rows, first, v, w, &mut Count::new());
+        write_polynomials(rows, first, v, w, &mut Count::new());
     }
 }
 
 /// Writes the polynomials that have these transforms: coefficients from 0 to `q - 1`. The values are below `q` in
 /// absolute value.
-///
-/// Not inlined, so that its rows don't stay in the caller's frame.
-#[inline(never)]
-pub(crate) fn write_inverses_in_lanes<const K: usize>(t: &[T; K], out: &mut [R; K])
+pub(crate) fn write_inverses_in_lanes<const K: usize>(
+    t: &[T; K],
+    rows: &mut [Lanes; 256],
+    out: &mut [R; K],
+)
     requires range { TransformsWithin 8380416 t.now }
     ensures values { (r n : ℕ) → r < K → n < 256 → entry out.new r n ≡ pos (inverse_transform (vector_residues t.now r) n) }
     ensures small { VectorWithin K 8380416 out.new }
 {
     for part in 0..(K + 7) / 8 {
         let first = 8 * part;
-        let mut rows: [Lanes; 256] = array::from_fn(
+        write_rows(
+            rows,
             |n|
                 requires { (n < 256) × (first < K) × TransformsWithin 8380416 t.now }
                 ensures value { (j : ℕ) → j < 8 → first + j < K → residue (lane result.lanes j) ≡ vector_residues t.entry.now (first + j) n }
                 ensures small { (j : ℕ) → j < 8 → nat_abs (lane result.lanes j) ≤ 8380416 }
             { row_of_values(t, &[], first, n) },
         );
-        write_polynomials(&mut rows, first, out, &mut [], &mut Count::new());
+        write_polynomials(rows, first, out, &mut [], &mut Count::new());
     }
 }
 
 /// Writes the polynomials that have the transforms `t` less the products of a challenge with `u`: coefficients from 0
 /// to `q - 1`. The values are below `q` in absolute value.
-///
-/// Not inlined, so that its rows don't stay in the caller's frame.
-#[inline(never)]
 pub(crate) fn write_differences_in_lanes<const K: usize>(
     t: &[T; K],
     c_hat: &T,
     u: &[T; K],
+    rows: &mut [Lanes; 256],
     out: &mut [R; K],
 )
     requires range { TransformsWithin 8380416 t.now }
@@ -155,7 +179,8 @@ pub(crate) fn write_differences_in_lanes<const K: usize>(
 {
     for part in 0..(K + 7) / 8 {
         let first = 8 * part;
-        let mut rows: [Lanes; 256] = array::from_fn(
+        write_rows(
+            rows,
             |n|
                 requires { (n < 256) × (first < K) × TransformsWithin 8380416 t.now × ValuesWithin 8380416 c_hat.now.0 × TransformsWithin 8380416 u.now }
                 ensures value { (j : ℕ) → j < 8 → first + j < K → residue (lane result.lanes j)
@@ -163,7 +188,7 @@ pub(crate) fn write_differences_in_lanes<const K: usize>(
                 ensures small { (j : ℕ) → j < 8 → nat_abs (lane result.lanes j) ≤ 8380416 }
             { row_of_differences(t, c_hat, u, first, n) },
         );
-        write_polynomials(&mut rows, first, out, &mut [], &mut Count::new());
+        write_polynomials(rows, first, out, &mut [], &mut Count::new());
     }
 }
 
@@ -193,6 +218,18 @@ fn write_polynomials<const L: usize, const K: usize>(
     write_inv_ntt(rows, count);
     write_coefficients(rows, first, 0, v);
     write_coefficients(rows, first, L, w);
+}
+
+/// Writes the rows that `f` gives for their places.
+#[inline(always)]
+fn write_rows<F: Fn(usize) -> Lanes>(rows: &mut [Lanes; 256], f: F)
+    requires { (n : ℕ) → n < 256 → F.pre f n }
+    ensures values { (n : ℕ) (d : Lanes) → n < 256 → F.post f n (slice_index_or rows.new n d) }
+    ensures places { length rows.new ≡ 256 }
+{
+    for n in 0..256usize {
+        rows[n] = f(n);
+    }
 }
 
 /// The row of coefficient `n` of the eight polynomials from `first` on of two vectors, the second behind the first,

@@ -5,7 +5,7 @@ use Rattle.fips204_base.specs.Vectors.{ValuesWithin}
 use Rattle.fips204_base.specs.Vectors.{vector_coefficients}
 use Rattle.fips204_base.specs.declared.types.T.{T}
 use Rattle.fips204_base.proofs.LaneBatches.{row_of_eight}
-use Rattle.fips204_base.proofs.lanes.batch.write_transforms_in_lanes.Goals as goal
+use Rattle.fips204_base.proofs.lanes.batch.write_transforms_of_list.Goals as goal
 
 pub returns-clause-first : goal.returns-clause-first
 returns-clause-first g c = (

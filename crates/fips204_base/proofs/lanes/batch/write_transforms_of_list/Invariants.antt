@@ -3,7 +3,7 @@ use Rattle.fips204_base.specs.declared.types.T.{T}
 use Rattle.fips204_base.specs.Vectors.{ValuesWithin, vector_residues}
 use Rattle.fips204_base.specs.Transforms.{transform}
 use Rattle.fips204_base.specs.Vectors.{vector_coefficients}
-use Rattle.fips204_base.proofs.lanes.batch.write_transforms_in_lanes.Given as goal
+use Rattle.fips204_base.proofs.lanes.batch.write_transforms_of_list.Given as goal
 
 abbrev pub invariant-loop-part : goal.invariant-loop-part
 invariant-loop-part g l = record {
