@@ -22,6 +22,9 @@ use crate::types::{R, R0, T, T0};
 /// The product of a matrix, which is given by its transforms with values from 0 to `q - 1`, with a
 /// vector of plain polynomials: coefficients from 0 to `q - 1`. The vector's coefficients have an
 /// absolute value of at most `q - 1`, and `L` is at most 7.
+///
+/// Not inlined, as others here that make rows, so that these don't stay in the caller's frame.
+#[inline(never)]
 pub fn matrix_times_vector<const K: usize, const L: usize>(
     a_hat: &[[T; L]; K],
     v: &[R; L],
@@ -34,17 +37,28 @@ pub fn matrix_times_vector<const K: usize, const L: usize>(
 {
     let mut rows = [Lanes::from_array([0; 8]); 256];
     let mut v_hat = [T0; L];
-    write_transforms(v, &mut rows, &mut v_hat);
+    write_transforms_in_lanes(v, &[], &mut rows, &mut v_hat, &mut []);
     let mut products = [T0; K];
     write_mat_vec_mul(a_hat, &v_hat, &mut products);
     let mut out = [R0; K];
-    write_plain_products(&products, &mut rows, &mut out);
+    write_plain_products_in(&products, &mut rows, &mut out);
     out
 }
 
 /// Writes the polynomials of a matrix's product with a vector, given by their transforms: coefficients from 0 to
 /// `q - 1`. Values are below `q` in absolute value.
-pub(crate) fn write_plain_products<const K: usize>(
+#[inline(never)]
+pub(crate) fn write_plain_products<const K: usize>(products: &[T; K], out: &mut [R; K])
+    requires products { TransformsWithin 8380416 products.now }
+    ensures values { (l : ℕ) (a : List (List T)) (v_hat : List T) (v : ℕ → ℕ → ℕ) → AreRowProducts K l a v_hat products.now → AreTransformsOf l v v_hat
+        → (r n : ℕ) → r < K → n < 256 → entry out.new r n ≡ pos (matrix_product l a v r n) }
+    ensures range { VectorWithin K 8380416 out.new }
+{
+    write_plain_products_in(products, &mut [Lanes::from_array([0; 8]); 256], out);
+}
+
+/// `write_plain_products` in the rows of the caller. What they hold before is of no account.
+fn write_plain_products_in<const K: usize>(
     products: &[T; K],
     rows: &mut [Lanes; 256],
     out: &mut [R; K],
@@ -78,39 +92,31 @@ pub fn challenge_times_transforms<const K: usize>(c_hat: &T, v_hat: &[T; K]) -> 
     ensures range { VectorWithin K 8380416 result }
 {
     let mut out = [R0; K];
-    write_challenge_times_transforms(
-        c_hat,
-        v_hat,
-        &mut [Lanes::from_array([0; 8]); 256],
-        &mut out,
-    );
+    write_challenge_times_transforms(c_hat, v_hat, &mut out);
     out
 }
 
-/// Writes what `challenge_times_transforms` returns. What `rows` hold before is of no account, here and below.
-pub fn write_challenge_times_transforms<const K: usize>(
-    c_hat: &T,
-    v_hat: &[T; K],
-    rows: &mut [Lanes; 256],
-    out: &mut [R; K],
-)
+/// Writes what `challenge_times_transforms` returns.
+#[inline(never)]
+fn write_challenge_times_transforms<const K: usize>(c_hat: &T, v_hat: &[T; K], out: &mut [R; K])
     requires challenge { ValuesWithin 8380416 c_hat.now.0 }
     requires vector { TransformsWithin 8380416 v_hat.now }
     ensures values { (c : ℕ → ℕ) (v : ℕ → ℕ → ℕ) → IsTransformOf c c_hat.now → AreTransformsOf K v v_hat.now
         → (r n : ℕ) → r < K → n < 256 → entry out.new r n ≡ pos (product c (v r) n) }
     ensures range { VectorWithin K 8380416 out.new }
 {
-    write_products_in_lanes(c_hat, v_hat, &[], rows, out, &mut []);
+    let mut rows = [Lanes::from_array([0; 8]); 256];
+    write_products_in_lanes(c_hat, v_hat, &[], &mut rows, out, &mut []);
 }
 
 /// Writes the products of a challenge with the polynomials of the first of two vectors, and of the second beside it
 /// where a row holds both: coefficients from 0 to `q - 1`. All are given by their transforms, with values below `q` in
 /// absolute value.
+#[inline(never)]
 pub fn write_challenge_times_first<const L: usize, const K: usize>(
     c_hat: &T,
     s_hat: &[T; L],
     t_hat: &[T; K],
-    rows: &mut [Lanes; 256],
     s: &mut [R; L],
     t: &mut [R; K],
 )
@@ -124,10 +130,11 @@ pub fn write_challenge_times_first<const L: usize, const K: usize>(
         → (r n : ℕ) → r < K → n < 256 → entry t.new r n ≡ pos (product c (v r) n) }
     ensures second_range { L + K ≤ 8 → VectorWithin K 8380416 t.new }
 {
+    let mut rows = [Lanes::from_array([0; 8]); 256];
     if L + K <= 8 {
-        write_products_in_lanes(c_hat, s_hat, t_hat, rows, s, t);
+        write_products_in_lanes(c_hat, s_hat, t_hat, &mut rows, s, t);
     } else {
-        write_products_in_lanes(c_hat, s_hat, &[], rows, s, &mut []);
+        write_products_in_lanes(c_hat, s_hat, &[], &mut rows, s, &mut []);
     }
 }
 
@@ -137,7 +144,6 @@ pub fn write_challenge_times_first<const L: usize, const K: usize>(
 pub fn write_challenge_times_second<const L: usize, const K: usize>(
     c_hat: &T,
     t_hat: &[T; K],
-    rows: &mut [Lanes; 256],
     t: &mut [R; K],
 )
     requires challenge { ValuesWithin 8380416 c_hat.now.0 }
@@ -150,13 +156,14 @@ pub fn write_challenge_times_second<const L: usize, const K: usize>(
     ensures range { VectorWithin K 8380416 t.new }
 {
     if 8 < L || 8 - L < K {
-        write_challenge_times_transforms(c_hat, t_hat, rows, t);
+        write_challenge_times_transforms(c_hat, t_hat, t);
     }
 }
 
 /// The product of a matrix with a vector, less the product of a challenge with a vector: coefficients
 /// from 0 to `q - 1`. The matrix is given by its transforms with values from 0 to `q - 1`; all
 /// coefficients have an absolute value of at most `q - 1`, and `L` is at most 7.
+#[inline(never)]
 pub fn matrix_times_vector_less<const K: usize, const L: usize>(
     a_hat: &[[T; L]; K],
     z: &[R; L],
@@ -178,14 +185,34 @@ pub fn matrix_times_vector_less<const K: usize, const L: usize>(
     let mut products = [T0; K];
     write_mat_vec_mul(a_hat, &z_hat, &mut products);
     let mut out = [R0; K];
-    write_product_difference(&products, c, &t_hat, &mut rows, &mut out);
+    write_product_difference_in(&products, c, &t_hat, &mut rows, &mut out);
     out
 }
 
 /// Writes the product of a matrix with a vector, given by its transforms, less the product of a challenge with a
 /// vector that is given by its transforms: coefficients from 0 to `q - 1`. Values and coefficients are below `q` in
 /// absolute value.
+#[inline(never)]
 pub(crate) fn write_product_difference<const K: usize>(
+    products: &[T; K],
+    c: &R,
+    t_hat: &[T; K],
+    out: &mut [R; K],
+)
+    requires products { TransformsWithin 8380416 products.now }
+    requires challenge { PolynomialWithin 8380416 c.now.0 }
+    requires less { TransformsWithin 8380416 t_hat.now }
+    ensures values { (l : ℕ) (a : List (List T)) (z_hat : List T) (z t : List R) → AreRowProducts K l a z_hat products.now
+        → AreTransformsOf l (vector_coefficients z) z_hat → AreTransformsOf K (vector_coefficients t) t_hat.now
+        → (r n : ℕ) → r < K → n < 256 → entry out.new r n ≡ pos (product_difference l a z c.now (vector_coefficients t) r n) }
+    ensures range { VectorWithin K 8380416 out.new }
+{
+    let mut rows = [Lanes::from_array([0; 8]); 256];
+    write_product_difference_in(products, c, t_hat, &mut rows, out);
+}
+
+/// `write_product_difference` in the rows of the caller. What they hold before is of no account.
+fn write_product_difference_in<const K: usize>(
     products: &[T; K],
     c: &R,
     t_hat: &[T; K],
@@ -216,25 +243,13 @@ pub fn transforms<const L: usize>(v: &[R; L]) -> [T; L]
     ensures small { TransformsWithin 8380416 result }
 {
     let mut out = [T0; L];
-    write_transforms(v, &mut [Lanes::from_array([0; 8]); 256], &mut out);
+    write_transforms_of_both(v, &[], &mut out, &mut []);
     out
-}
-
-/// Writes the transforms of a vector. Its coefficients are below `q` in absolute value, and so are the values.
-pub(crate) fn write_transforms<const L: usize>(
-    v: &[R; L],
-    rows: &mut [Lanes; 256],
-    out: &mut [T; L],
-)
-    requires { VectorWithin L 8380416 v.now }
-    ensures values { AreTransformsOf L (vector_coefficients v.now) out.new }
-    ensures small { TransformsWithin 8380416 out.new }
-{
-    write_transforms_in_lanes(v, &[], rows, out, &mut []);
 }
 
 /// Writes the transforms of two vectors, which share the lanes of a row where it holds both. Coefficients are below
 /// `q` in absolute value, and so are the values.
+#[inline(never)]
 pub fn write_transforms_of_both<const L: usize, const K: usize>(
     v: &[R; L],
     w: &[R; K],
@@ -246,13 +261,8 @@ pub fn write_transforms_of_both<const L: usize, const K: usize>(
     ensures first { AreTransformsOf L (vector_coefficients v.now) v_hat.new × TransformsWithin 8380416 v_hat.new }
     ensures second { AreTransformsOf K (vector_coefficients w.now) w_hat.new × TransformsWithin 8380416 w_hat.new }
 {
-    write_transforms_in_lanes(
-        v,
-        w,
-        &mut [Lanes::from_array([0; 8]); 256],
-        v_hat,
-        w_hat,
-    );
+    let mut rows = [Lanes::from_array([0; 8]); 256];
+    write_transforms_in_lanes(v, w, &mut rows, v_hat, w_hat);
 }
 
 /// The transform of a polynomial, which raises the count by 1024 butterflies, for which it needs room. Its

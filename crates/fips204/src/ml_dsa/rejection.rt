@@ -17,7 +17,7 @@ ghost use Rattle.fips204.specs.SigningInputs.{attempt_answer};
 
 use crate::types::{KeyTransforms, Params, PrivateKey, R, R0};
 use fips204_base::encodings::sig_encode;
-use fips204_base::helpers::{Count, Lanes, center_mod, difference, infinity_norm};
+use fips204_base::helpers::{Count, center_mod, difference, infinity_norm};
 use fips204_base::high_low::{low_bits, make_hint};
 use fips204_base::maps::{map_vector, write_zip_vectors, zip_vectors};
 use fips204_base::product::{
@@ -46,7 +46,6 @@ impl<const K: usize, const L: usize, H, G> PrivateKey<K, L, H, G> {
     {
         // c_hat = NTT(c)
         let c_hat = transform_of(c, &mut Count::new());
-        let mut rows = [Lanes::from_array([0; 8]); 256];
         // z = y + c s1, with a norm below gamma1 - beta
         let mut z = [R0; L];
         let mut rest = [R0; K];
@@ -54,7 +53,6 @@ impl<const K: usize, const L: usize, H, G> PrivateKey<K, L, H, G> {
             &c_hat,
             &transforms.s1_hat,
             &transforms.s2_hat,
-            &mut rows,
             &mut z,
             &mut rest,
         );
@@ -63,7 +61,7 @@ impl<const K: usize, const L: usize, H, G> PrivateKey<K, L, H, G> {
             return None;
         }
         // r0 = LowBits(w - c s2), with a norm below gamma2 - beta
-        write_challenge_times_second::<L, K>(&c_hat, &transforms.s2_hat, &mut rows, &mut rest);
+        write_challenge_times_second::<L, K>(&c_hat, &transforms.s2_hat, &mut rest);
         write_w_minus_cs2(w, &mut rest);
         if !has_norm_below(&low_vector(p.gamma2, &rest), p.r0_bound()) {
             return None;

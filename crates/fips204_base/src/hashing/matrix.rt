@@ -12,10 +12,10 @@ ghost use Rattle.fips204_base.specs.declared.types.T.{T};
 use crate::conversion::coeff_from_three_bytes;
 use crate::fault::Fault;
 use crate::hashing::write_kept;
-use crate::helpers::Lanes;
 use crate::helpers::vector::row_sum;
-use crate::lanes::batch::write_transforms_in_lanes;
-use crate::product::{write_plain_products, write_product_difference, write_transforms};
+use crate::product::{
+    transforms, write_plain_products, write_product_difference, write_transforms_of_both,
+};
 use crate::types::{R, T, T0};
 use crate::xof::{Xof, XofReader};
 
@@ -152,12 +152,9 @@ pub fn write_expanded_times_vector<const K: usize, const L: usize, G: Xof>(
         × ((r n : ℕ) → r < K → n < 256 → entry out.new r n ≡ pos (matrix_product L a (vector_coefficients v.now) r n))) }
     ensures range { IfOk result (λ _. VectorWithin K 8380416 out.new) }
 {
-    let mut rows = [Lanes::from_array([0; 8]); 256];
-    let mut v_hat = [T0; L];
-    write_transforms(v, &mut rows, &mut v_hat);
     let mut products = [T0; K];
-    write_expanded_mat_vec_mul::<K, L, G>(rho, &v_hat, &mut products)?;
-    write_plain_products(&products, &mut rows, out);
+    write_expanded_mat_vec_mul::<K, L, G>(rho, &transforms(v), &mut products)?;
+    write_plain_products(&products, out);
     Ok(())
 }
 
@@ -183,12 +180,11 @@ pub fn write_expanded_times_vector_less<const K: usize, const L: usize, G: Xof>(
         × ((r n : ℕ) → r < K → n < 256 → entry out.new r n ≡ pos (product_difference L a z.now c.now (vector_coefficients t.now) r n))) }
     ensures range { IfOk result (λ _. VectorWithin K 8380416 out.new) }
 {
-    let mut rows = [Lanes::from_array([0; 8]); 256];
     let mut z_hat = [T0; L];
     let mut t_hat = [T0; K];
-    write_transforms_in_lanes(z, t, &mut rows, &mut z_hat, &mut t_hat);
+    write_transforms_of_both(z, t, &mut z_hat, &mut t_hat);
     let mut products = [T0; K];
     write_expanded_mat_vec_mul::<K, L, G>(rho, &z_hat, &mut products)?;
-    write_product_difference(&products, c, &t_hat, &mut rows, out);
+    write_product_difference(&products, c, &t_hat, out);
     Ok(())
 }

@@ -7,6 +7,10 @@ use Rattle.fips204_base.proofs.lanes.batch.write_products_in_lanes.Given as goal
 
 abbrev pub invariant-loop-part : goal.invariant-loop-part
 invariant-loop-part g l = record {
-  first : (r n : ℕ) → r < g.row.L → r < 8 * l.part → n < 256 → entry l.v r n ≡ pos (inverse_transform (pointwise (coefficients l.c_hat.0) (vector_residues l.t r)) n);
-  second : (r n : ℕ) → r < g.row.K → g.row.L + r < 8 * l.part → n < 256 → entry l.w r n ≡ pos (inverse_transform (pointwise (coefficients l.c_hat.0) (vector_residues l.u r)) n);
+  first : (r n : ℕ) → r < g.row.L → r < 8 * l.part → n < 256
+      → entry l.v r n
+      ≡ pos (inverse_transform (pointwise (coefficients l.c_hat.0) (vector_residues l.t r)) n);
+  second : (r n : ℕ) → r < g.row.K → g.row.L + r < 8 * l.part → n < 256
+      → entry l.w r n
+      ≡ pos (inverse_transform (pointwise (coefficients l.c_hat.0) (vector_residues l.u r)) n);
 }

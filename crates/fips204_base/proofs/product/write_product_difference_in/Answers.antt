@@ -5,7 +5,7 @@ use Rattle.fips204_base.specs.Network.{matrix_residues}
 use Rattle.fips204_base.specs.Transforms.{minus, pointwise}
 use Rattle.fips204_base.specs.Vectors.{vector_coefficients}
 use Rattle.fips204_base.proofs.Products.{difference_of_products}
-use Rattle.fips204_base.proofs.product.write_product_difference.Goals as goal
+use Rattle.fips204_base.proofs.product.write_product_difference_in.Goals as goal
 
 pub returns-clause-values : goal.returns-clause-values
 returns-clause-values g c = λ l a z_hat z t products transformed t_transformed r n h q.
