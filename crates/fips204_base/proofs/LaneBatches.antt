@@ -1,16 +1,19 @@
 -- Polynomials in the lanes of rows.
-use Rattle.std.proofs.Common.{◌≡◌, ℕ, zero, suc, ◌<◌, ◌≤◌, ◌+◌, ◌*◌, ◌%◌, ℤ, pos, List, [], ◌∷◌, length, get_or, arith, sym, subst, refl, lit<}
+use Rattle.std.proofs.Common.{◌≡◌, ℕ, zero, suc, ◌<◌, ◌≤◌, ◌+◌, ◌-◌, ◌∙◌, ℤ, pos, List, [], ◌∷◌, length, get_or, arith, ap, sym, subst, refl, lit<}
 use Rattle.std.specs.Prelude.{nat_abs}
 use Rattle.std.specs.Int.{w32}
 use Rattle.std.proofs.lemmas.List.Elements.{All-from_get_or}
 use mir.Val.{SFits}
-use Rattle.fips204_base.specs.Residues.{coefficients, sum_below, IsCongruent}
+use native.Mathlib.Decide.{dec_lt}
+use Rattle.fips204_base.specs.Residues.{coefficients, IsCongruent}
 use Rattle.fips204_base.specs.Transforms.{transform, inverse_transform}
-use Rattle.fips204_base.specs.Transforms.{minus, pointwise, product, row_product}
-use Rattle.fips204_base.specs.Vectors.{ValuesWithin}
+use Rattle.fips204_base.specs.Transforms.{pointwise, product}
+use Rattle.fips204_base.specs.Lanes.{InRow, residues}
+use Rattle.fips204_base.specs.Vectors.{ValuesWithin, entry}
+use Rattle.fips204_base.specs.declared.types.R.{R}
 use Rattle.fips204_base.specs.declared.lanes.row.Lanes.{Lanes}
 use Rattle.fips204_base.proofs.Residues.{congruent_of, congruent_trans, congruent_equal, residue_below}
-use Rattle.fips204_base.proofs.Products.{transform_same, transform_below, product_of_products, difference_of_products}
+use Rattle.fips204_base.proofs.Products.{transform_same, transform_below, inverse_same, product_of_products}
 
 -- a row of zeros
 pub zeros : Lanes
@@ -40,18 +43,30 @@ pub lane_within : (after : ℕ → ℤ) (out : List ℤ) → length out ≡ 256 
 lane_within after out size to small =
     All-from_get_or (λ x. nat_abs x ≤ 8380416) out (pos 0) (λ n h. let p : n < 256 = omega (arith, h, size) in subst (λ x. nat_abs x ≤ 8380416) (sym (to n p)) (small n p))
 
--- a difference of a residue and a product, where each part is known by another name
-pub difference_named : (x a b f y a' y' : ℕ) → x ≡ (a + 8380416 * b) % 8380417 → a ≡ a' → b ≡ f * y % 8380417 → y ≡ y' → x ≡ (a' + 8380416 * (f * y' % 8380417)) % 8380417
-difference_named x a b f y a' y' e g h k = rw (e, g, h, k) refl
-
 -- products of transforms, turned back, are a plain product
 pub lane_product : (x y a b : ℕ → ℕ) → ((j : ℕ) → j < 256 → x j ≡ transform a j) → ((j : ℕ) → j < 256 → y j ≡ transform b j) → (n : ℕ) → n < 256 →
     inverse_transform (pointwise x y) n ≡ product a b n
 lane_product x y a b = product_of_products (pointwise x y) x y a b (λ j p. refl)
 
--- a row's sums of products less products of transforms, turned back, are the difference of the plain products
-pub lane_difference : (l : ℕ) (p x a b : ℕ → ℕ) (v t s : ℕ → ℕ → ℕ) → ((j : ℕ) → j < 256 → p j ≡ sum_below l (λ k. v k j * t k j) % 8380417) →
-    ((k : ℕ) → k < l → (j : ℕ) → j < 256 → t k j ≡ transform (s k) j) → ((j : ℕ) → j < 256 → x j ≡ transform a j) → (n : ℕ) → n < 256 →
-    inverse_transform (minus p (pointwise x (transform b))) n ≡ minus (row_product l (λ k. inverse_transform (v k)) s) (product a b) n
-lane_difference l p x a b v t s h g f =
-    difference_of_products l (minus p (pointwise x (transform b))) p (pointwise x (transform b)) x (transform b) a b v t s (λ j r. refl) h g (λ j r. refl) f (λ j r. refl)
+-- a vector of which a row of eight more is written: P holds of each element before and in the row
+pub row_of_eight : {A : Type 0} (P : ℕ → A → Type 0) (k at first : ℕ) (before after : List A) (d : A) →
+    ((i : ℕ) (d : A) → i < k → at + i < first → get_or after i d ≡ get_or before i d) → ((i : ℕ) → i < k → InRow first (at + i) → P i (get_or after i d)) →
+    ((i : ℕ) → i < k → at + i < first → P i (get_or before i d)) → (i : ℕ) → i < k → at + i < first + 8 → P i (get_or after i d)
+row_of_eight P k at first before after d kept now old i h l = elim (dec_lt (at + i) first) [
+  | yes b ↦ subst (P i) (sym (kept i d h b)) (old i h b)
+  | no b ↦ now i h (omega (arith, b), l)
+]
+
+-- polynomials at their places of a list of which eight more are written, whose transforms are the lanes of the rows
+pub eight_inverses : (k first : ℕ) (place : ℕ → ℕ) (t : ℕ → ℕ → ℕ) (rows : List Lanes) (before after : List R) →
+    ((r n : ℕ) (d : Lanes) → r < k → InRow first (place r) → n < 256 → entry after r n ≡ pos (inverse_transform (residues (λ (x : Lanes). x.lanes) (place r - first) d rows) n)) →
+    ((r : ℕ) (d : R) → r < k → place r < first → get_or after r d ≡ get_or before r d) →
+    ((r i : ℕ) → r < k → InRow first (place r) → i < 256 → residues (λ (x : Lanes). x.lanes) (place r - first) zeros rows i ≡ t r i) →
+    ((r n : ℕ) → r < k → place r < first → n < 256 → entry before r n ≡ pos (inverse_transform (t r) n)) →
+    (r n : ℕ) → r < k → place r < first + 8 → n < 256 → entry after r n ≡ pos (inverse_transform (t r) n)
+eight_inverses k first place t rows before after now kept lanes old r n h l p = elim (dec_lt (place r) first) [
+  | yes b ↦ ap (λ (w : R). get_or w.0 n (pos 0)) (kept r record { 0 = [] } h b) ∙ old r n h b p
+  | no b ↦ (
+      let inside : InRow first (place r) = (omega (arith, b), l) in
+      now r n zeros h inside p ∙ ap pos (inverse_same (residues (λ (x : Lanes). x.lanes) (place r - first) zeros rows) (t r) (λ i q. congruent_of (lanes r i h inside q)) n))
+]

@@ -1,7 +1,7 @@
 //! Products of plain polynomials, computed through transforms. Internal: serves the crate `fips204` alone.
 #![tactic(auto)]
 
-ghost use Rattle.std.specs.Prelude.{◌≡◌, ◌≤◌, ◌<◌, ◌+◌, ◌*◌, ◌%◌, ℕ, List, IsTrue, pos, nat_abs};
+ghost use Rattle.std.specs.Prelude.{◌≡◌, ◌≤◌, ◌<◌, ◌+◌, ◌^◌, ℕ, List, pos};
 ghost use Rattle.fips204_base.specs.Residues.{residue, coefficients};
 ghost use Rattle.fips204_base.specs.Transforms.{product, row_product};
 ghost use Rattle.fips204_base.specs.Transforms.{inverse_transform};
@@ -10,19 +10,21 @@ ghost use Rattle.fips204_base.specs.Vectors.{vector_coefficients, plain_row, mat
 ghost use Rattle.fips204_base.specs.declared.types.R.{R};
 ghost use Rattle.fips204_base.specs.declared.types.T.{T};
 
-use crate::helpers::reduce::{difference, wide_product};
-use crate::helpers::vector::row_sum;
-use crate::helpers::{Count, mat_vec_mul, partial_reduce64};
+use crate::helpers::vector::write_mat_vec_mul;
+use crate::helpers::{Count, Lanes};
 use crate::lanes::batch::{
-    write_differences_in_lanes, write_products_in_lanes, write_transforms_in_lanes,
+    write_differences_in_lanes, write_inverses_in_lanes, write_products_in_lanes,
+    write_transforms_in_lanes,
 };
-use crate::maps::write_zip;
-use crate::ntt::{write_inv_ntt, write_ntt};
+use crate::ntt::write_ntt;
 use crate::types::{R, R0, T, T0};
 
 /// The product of a matrix, which is given by its transforms with values from 0 to `q - 1`, with a
 /// vector of plain polynomials: coefficients from 0 to `q - 1`. The vector's coefficients have an
 /// absolute value of at most `q - 1`, and `L` is at most 7.
+///
+/// Not inlined, as others here that make rows, so that these don't stay in the caller's frame.
+#[inline(never)]
 pub fn matrix_times_vector<const K: usize, const L: usize>(
     a_hat: &[[T; L]; K],
     v: &[R; L],
@@ -33,26 +35,40 @@ pub fn matrix_times_vector<const K: usize, const L: usize>(
     ensures values { (r n : ℕ) → r < K → n < 256 → entry result r n ≡ pos (matrix_product L a_hat.now (vector_coefficients v.now) r n) }
     ensures range { VectorWithin K 8380416 result }
 {
+    let mut rows = [Lanes::from_array([0; 8]); 256];
     let mut v_hat = [T0; L];
-    write_transforms(v, &mut v_hat);
+    write_transforms_in_lanes(v, &[], &mut rows, &mut v_hat, &mut []);
+    let mut products = [T0; K];
+    write_mat_vec_mul(a_hat, &v_hat, &mut products);
     let mut out = [R0; K];
-    for r in 0..K {
-        out[r] = row_times_vector(&a_hat[r], &v_hat);
-    }
+    write_plain_products_in(&products, &mut rows, &mut out);
     out
 }
 
-/// The product of a row of the matrix with a vector, both given by their transforms: coefficients from 0 to
-/// `q - 1`. Values are below `q` in absolute value, and `L` is at most 7.
-pub(crate) fn row_times_vector<const L: usize>(row: &[T; L], v_hat: &[T; L]) -> R
-    requires columns { L ≤ 7 }
-    requires row { TransformsWithin 8380416 row.now }
-    requires vector { TransformsWithin 8380416 v_hat.now }
-    ensures values { (v : ℕ → ℕ → ℕ) → AreTransformsOf L v v_hat.now
-        → (n : ℕ) → n < 256 → coefficient_at result.0 n ≡ pos (row_product L (plain_row row.now) v n) }
-    ensures small { PolynomialWithin 8380416 result.0 }
+/// Writes the polynomials of a matrix's product with a vector, given by their transforms: coefficients from 0 to
+/// `q - 1`. Values are below `q` in absolute value.
+#[inline(never)]
+pub(crate) fn write_plain_products<const K: usize>(products: &[T; K], out: &mut [R; K])
+    requires products { TransformsWithin 8380416 products.now }
+    ensures values { (l : ℕ) (a : List (List T)) (v_hat : List T) (v : ℕ → ℕ → ℕ) → AreRowProducts K l a v_hat products.now → AreTransformsOf l v v_hat
+        → (r n : ℕ) → r < K → n < 256 → entry out.new r n ≡ pos (matrix_product l a v r n) }
+    ensures range { VectorWithin K 8380416 out.new }
 {
-    inverse_of(&row_sum(row, v_hat))
+    write_plain_products_in(products, &mut [Lanes::from_array([0; 8]); 256], out);
+}
+
+/// `write_plain_products` in the rows of the caller. What they hold before is of no account.
+fn write_plain_products_in<const K: usize>(
+    products: &[T; K],
+    rows: &mut [Lanes; 256],
+    out: &mut [R; K],
+)
+    requires products { TransformsWithin 8380416 products.now }
+    ensures values { (l : ℕ) (a : List (List T)) (v_hat : List T) (v : ℕ → ℕ → ℕ) → AreRowProducts K l a v_hat products.now → AreTransformsOf l v v_hat
+        → (r n : ℕ) → r < K → n < 256 → entry out.new r n ≡ pos (matrix_product l a v r n) }
+    ensures range { VectorWithin K 8380416 out.new }
+{
+    write_inverses_in_lanes(products, rows, out);
 }
 
 /// The product of a challenge with each polynomial of a vector: coefficients from 0 to `q - 1`. All
@@ -63,7 +79,7 @@ pub fn challenge_times_vector<const K: usize>(c: &R, v: &[R; K]) -> [R; K]
     ensures values { (r n : ℕ) → r < K → n < 256 → entry result r n ≡ pos (product (coefficients c.now.0) (vector_coefficients v.now r) n) }
     ensures range { VectorWithin K 8380416 result }
 {
-    challenge_times_transforms(&transform_of(c), &transforms(v))
+    challenge_times_transforms(&transform_of(c, &mut Count::new()), &transforms(v))
 }
 
 /// The product of a challenge with each polynomial of a vector, given by their transforms with values below
@@ -76,21 +92,78 @@ pub fn challenge_times_transforms<const K: usize>(c_hat: &T, v_hat: &[T; K]) -> 
     ensures range { VectorWithin K 8380416 result }
 {
     let mut out = [R0; K];
-    if 5 < K && K <= 8 {
-        write_products_in_lanes(c_hat, v_hat, &mut out);
-        return out;
-    }
-    for i in 0..K {
-        let mut multiple = v_hat[i];
-        write_zip(&mut multiple.0, &c_hat.0, value_product);
-        out[i] = inverse_of(&multiple);
-    }
+    write_challenge_times_transforms(c_hat, v_hat, &mut out);
     out
+}
+
+/// Writes what `challenge_times_transforms` returns.
+#[inline(never)]
+fn write_challenge_times_transforms<const K: usize>(c_hat: &T, v_hat: &[T; K], out: &mut [R; K])
+    requires challenge { ValuesWithin 8380416 c_hat.now.0 }
+    requires vector { TransformsWithin 8380416 v_hat.now }
+    ensures values { (c : ℕ → ℕ) (v : ℕ → ℕ → ℕ) → IsTransformOf c c_hat.now → AreTransformsOf K v v_hat.now
+        → (r n : ℕ) → r < K → n < 256 → entry out.new r n ≡ pos (product c (v r) n) }
+    ensures range { VectorWithin K 8380416 out.new }
+{
+    let mut rows = [Lanes::from_array([0; 8]); 256];
+    write_products_in_lanes(c_hat, v_hat, &[], &mut rows, out, &mut []);
+}
+
+/// Writes the products of a challenge with the polynomials of the first of two vectors, and of the second beside it
+/// where a row holds both: coefficients from 0 to `q - 1`. All are given by their transforms, with values below `q` in
+/// absolute value.
+#[inline(never)]
+pub fn write_challenge_times_first<const L: usize, const K: usize>(
+    c_hat: &T,
+    s_hat: &[T; L],
+    t_hat: &[T; K],
+    s: &mut [R; L],
+    t: &mut [R; K],
+)
+    requires challenge { ValuesWithin 8380416 c_hat.now.0 }
+    requires first { TransformsWithin 8380416 s_hat.now }
+    requires second { TransformsWithin 8380416 t_hat.now }
+    ensures first { (c : ℕ → ℕ) (v : ℕ → ℕ → ℕ) → IsTransformOf c c_hat.now → AreTransformsOf L v s_hat.now
+        → (r n : ℕ) → r < L → n < 256 → entry s.new r n ≡ pos (product c (v r) n) }
+    ensures first_range { VectorWithin L 8380416 s.new }
+    ensures second { (c : ℕ → ℕ) (v : ℕ → ℕ → ℕ) → L + K ≤ 8 → IsTransformOf c c_hat.now → AreTransformsOf K v t_hat.now
+        → (r n : ℕ) → r < K → n < 256 → entry t.new r n ≡ pos (product c (v r) n) }
+    ensures second_range { L + K ≤ 8 → VectorWithin K 8380416 t.new }
+{
+    let mut rows = [Lanes::from_array([0; 8]); 256];
+    if L + K <= 8 {
+        write_products_in_lanes(c_hat, s_hat, t_hat, &mut rows, s, t);
+    } else {
+        write_products_in_lanes(c_hat, s_hat, &[], &mut rows, s, &mut []);
+    }
+}
+
+/// Writes the products of a challenge with the polynomials of the second of two vectors, of which the first has `L`,
+/// where `write_challenge_times_first` has not: coefficients from 0 to `q - 1`. All are given by their transforms, with
+/// values below `q` in absolute value.
+pub fn write_challenge_times_second<const L: usize, const K: usize>(
+    c_hat: &T,
+    t_hat: &[T; K],
+    t: &mut [R; K],
+)
+    requires challenge { ValuesWithin 8380416 c_hat.now.0 }
+    requires second { TransformsWithin 8380416 t_hat.now }
+    requires beside { (c : ℕ → ℕ) (v : ℕ → ℕ → ℕ) → L + K ≤ 8 → IsTransformOf c c_hat.now → AreTransformsOf K v t_hat.now
+        → (r n : ℕ) → r < K → n < 256 → entry t.old r n ≡ pos (product c (v r) n) }
+    requires beside_range { L + K ≤ 8 → VectorWithin K 8380416 t.old }
+    ensures values { (c : ℕ → ℕ) (v : ℕ → ℕ → ℕ) → IsTransformOf c c_hat.now → AreTransformsOf K v t_hat.now
+        → (r n : ℕ) → r < K → n < 256 → entry t.new r n ≡ pos (product c (v r) n) }
+    ensures range { VectorWithin K 8380416 t.new }
+{
+    if 8 < L || 8 - L < K {
+        write_challenge_times_transforms(c_hat, t_hat, t);
+    }
 }
 
 /// The product of a matrix with a vector, less the product of a challenge with a vector: coefficients
 /// from 0 to `q - 1`. The matrix is given by its transforms with values from 0 to `q - 1`; all
 /// coefficients have an absolute value of at most `q - 1`, and `L` is at most 7.
+#[inline(never)]
 pub fn matrix_times_vector_less<const K: usize, const L: usize>(
     a_hat: &[[T; L]; K],
     z: &[R; L],
@@ -105,44 +178,22 @@ pub fn matrix_times_vector_less<const K: usize, const L: usize>(
     ensures values { (r n : ℕ) → r < K → n < 256 → entry result r n ≡ pos (product_difference L a_hat.now z.now c.now (vector_coefficients t.now) r n) }
     ensures range { VectorWithin K 8380416 result }
 {
+    let mut rows = [Lanes::from_array([0; 8]); 256];
+    let mut z_hat = [T0; L];
+    let mut t_hat = [T0; K];
+    write_transforms_in_lanes(z, t, &mut rows, &mut z_hat, &mut t_hat);
+    let mut products = [T0; K];
+    write_mat_vec_mul(a_hat, &z_hat, &mut products);
     let mut out = [R0; K];
-    if share_rows::<L, K>() {
-        let mut z_hat = [T0; L];
-        let mut t_hat = [T0; K];
-        write_transforms_of_both(z, t, &mut z_hat, &mut t_hat);
-        write_less_challenge_transforms(&mat_vec_mul(a_hat, &z_hat), c, &t_hat, &mut out);
-    } else {
-        write_less_challenge_product(&mat_vec_mul(a_hat, &transforms(z)), c, t, &mut out);
-    }
+    write_product_difference_in(&products, c, &t_hat, &mut rows, &mut out);
     out
 }
 
-/// Writes the product of a matrix with a vector, given by its transforms, less the product of a challenge with
-/// a vector: coefficients from 0 to `q - 1`. Values and coefficients are below `q` in absolute value.
-pub(crate) fn write_less_challenge_product<const K: usize>(
-    products: &[T; K],
-    c: &R,
-    t: &[R; K],
-    out: &mut [R; K],
-)
-    requires products { TransformsWithin 8380416 products.now }
-    requires challenge { PolynomialWithin 8380416 c.now.0 }
-    requires less { VectorWithin K 8380416 t.now }
-    ensures values { (l : ℕ) (a : List (List T)) (z_hat : List T) (z : List R) → AreRowProducts K l a z_hat products.now
-        → AreTransformsOf l (vector_coefficients z) z_hat
-        → (r n : ℕ) → r < K → n < 256 → entry out.new r n ≡ pos (product_difference l a z c.now (vector_coefficients t.now) r n) }
-    ensures range { VectorWithin K 8380416 out.new }
-{
-    if 5 < K && K <= 8 {
-        write_differences_in_lanes(products, &transform_of(c), t, out);
-    } else {
-        write_less_challenge_transforms(products, c, &transforms(t), out);
-    }
-}
-
-/// `write_less_challenge_product` of a vector that is given by its transforms, with values below `q` in absolute
-/// value.
-pub(crate) fn write_less_challenge_transforms<const K: usize>(
+/// Writes the product of a matrix with a vector, given by its transforms, less the product of a challenge with a
+/// vector that is given by its transforms: coefficients from 0 to `q - 1`. Values and coefficients are below `q` in
+/// absolute value.
+#[inline(never)]
+pub(crate) fn write_product_difference<const K: usize>(
     products: &[T; K],
     c: &R,
     t_hat: &[T; K],
@@ -156,14 +207,33 @@ pub(crate) fn write_less_challenge_transforms<const K: usize>(
         → (r n : ℕ) → r < K → n < 256 → entry out.new r n ≡ pos (product_difference l a z c.now (vector_coefficients t) r n) }
     ensures range { VectorWithin K 8380416 out.new }
 {
-    let c_hat = transform_of(c);
-    for i in 0..K {
-        let mut multiple = t_hat[i];
-        write_zip(&mut multiple.0, &c_hat.0, value_product);
-        let mut rest = products[i];
-        write_zip(&mut rest.0, &multiple.0, difference);
-        out[i] = inverse_of(&rest);
-    }
+    let mut rows = [Lanes::from_array([0; 8]); 256];
+    write_product_difference_in(products, c, t_hat, &mut rows, out);
+}
+
+/// `write_product_difference` in the rows of the caller. What they hold before is of no account.
+fn write_product_difference_in<const K: usize>(
+    products: &[T; K],
+    c: &R,
+    t_hat: &[T; K],
+    rows: &mut [Lanes; 256],
+    out: &mut [R; K],
+)
+    requires products { TransformsWithin 8380416 products.now }
+    requires challenge { PolynomialWithin 8380416 c.now.0 }
+    requires less { TransformsWithin 8380416 t_hat.now }
+    ensures values { (l : ℕ) (a : List (List T)) (z_hat : List T) (z t : List R) → AreRowProducts K l a z_hat products.now
+        → AreTransformsOf l (vector_coefficients z) z_hat → AreTransformsOf K (vector_coefficients t) t_hat.now
+        → (r n : ℕ) → r < K → n < 256 → entry out.new r n ≡ pos (product_difference l a z c.now (vector_coefficients t) r n) }
+    ensures range { VectorWithin K 8380416 out.new }
+{
+    write_differences_in_lanes(
+        products,
+        &transform_of(c, &mut Count::new()),
+        t_hat,
+        rows,
+        out,
+    );
 }
 
 /// The transforms of a vector. Its coefficients are below `q` in absolute value, and so are the values.
@@ -173,27 +243,13 @@ pub fn transforms<const L: usize>(v: &[R; L]) -> [T; L]
     ensures small { TransformsWithin 8380416 result }
 {
     let mut out = [T0; L];
-    write_transforms(v, &mut out);
+    write_transforms_of_both(v, &[], &mut out, &mut []);
     out
 }
 
-/// Writes the transforms of a vector. Its coefficients are below `q` in absolute value, and so are the values.
-pub(crate) fn write_transforms<const L: usize>(v: &[R; L], out: &mut [T; L])
-    requires { VectorWithin L 8380416 v.now }
-    ensures values { AreTransformsOf L (vector_coefficients v.now) out.new }
-    ensures small { TransformsWithin 8380416 out.new }
-{
-    if 6 < L && L <= 8 {
-        write_transforms_in_lanes(v, &[], out, &mut []);
-    } else {
-        for k in 0..L {
-            out[k] = transform_of(&v[k]);
-        }
-    }
-}
-
-/// Writes the transforms of two vectors, in the lanes of the same rows where these hold both. Coefficients are
-/// below `q` in absolute value, and so are the values.
+/// Writes the transforms of two vectors, which share the lanes of a row where it holds both. Coefficients are below
+/// `q` in absolute value, and so are the values.
+#[inline(never)]
 pub fn write_transforms_of_both<const L: usize, const K: usize>(
     v: &[R; L],
     w: &[R; K],
@@ -205,50 +261,21 @@ pub fn write_transforms_of_both<const L: usize, const K: usize>(
     ensures first { AreTransformsOf L (vector_coefficients v.now) v_hat.new × TransformsWithin 8380416 v_hat.new }
     ensures second { AreTransformsOf K (vector_coefficients w.now) w_hat.new × TransformsWithin 8380416 w_hat.new }
 {
-    if share_rows::<L, K>() {
-        write_transforms_in_lanes(v, w, v_hat, w_hat);
-    } else {
-        write_transforms(v, v_hat);
-        write_transforms(w, w_hat);
-    }
+    let mut rows = [Lanes::from_array([0; 8]); 256];
+    write_transforms_in_lanes(v, w, &mut rows, v_hat, w_hat);
 }
 
-/// Whether vectors of `L` and of `K` polynomials are transformed in the lanes of the same rows: where each of them
-/// leaves lanes, and both take seven or eight.
-pub(crate) fn share_rows<const L: usize, const K: usize>() -> bool
-    ensures { IsTrue result → L + K ≤ 8 }
-{
-    L < 7 && K < 7 && 6 < L + K && L + K <= 8
-}
-
-/// The transform of a polynomial. Its coefficients are below `q` in absolute value, and so are the values.
-pub fn transform_of(w: &R) -> T
-    requires { PolynomialWithin 8380416 w.now.0 }
+/// The transform of a polynomial, which raises the count by 1024 butterflies, for which it needs room. Its
+/// coefficients are below `q` in absolute value, and so are the values.
+pub fn transform_of(w: &R, count: &mut Count) -> T
+    requires room { (count.old.products + 1024 < 2 ^ 64) × (count.old.sums + 2048 < 2 ^ 64) }
+    requires range { PolynomialWithin 8380416 w.now.0 }
     ensures values { IsTransformOf (coefficients w.now.0) result }
     ensures small { ValuesWithin 8380416 result.0 }
+    ensures products { count.new.products ≡ count.old.products + 1024 }
+    ensures sums { count.new.sums ≡ count.old.sums + 2048 }
 {
     let mut out = w.0;
-    write_ntt(&mut out, &mut Count::new());
+    write_ntt(&mut out, count);
     T(out)
-}
-
-/// The polynomial that has a transform, with coefficients from 0 to `q - 1`.
-fn inverse_of(t: &T) -> R
-    requires { PolynomialWithin 8380416 t.now.0 }
-    ensures values { (n : ℕ) → n < 256 → coefficient_at result.0 n ≡ pos (inverse_transform (coefficients t.now.0) n) }
-    ensures small { PolynomialWithin 8380416 result.0 }
-{
-    let mut out = t.0;
-    write_inv_ntt(&mut out, &mut Count::new());
-    R(out)
-}
-
-/// The product of two values, below `q` in absolute value.
-fn value_product(x: i32, y: i32) -> i32
-    requires x { nat_abs x ≤ 8380416 }
-    requires y { nat_abs y ≤ 8380416 }
-    ensures value { residue result ≡ residue x * residue y % 8380417 }
-    ensures small { nat_abs result ≤ 8380416 }
-{
-    partial_reduce64(wide_product(x, y))
 }

@@ -4,22 +4,26 @@
 ghost use Rattle.std.specs.Prelude.{◌≡◌, ◌⊎◌, ◌<◌, ◌≤◌, ◌+◌, ◌*◌, ◌%◌, ℕ, List, pos, nat_abs, nat_lt, ◌≤ℤ◌, Ok, Some, length};
 ghost use Rattle.fips204_base.specs.Residues.{centred, vector_norm};
 ghost use Rattle.fips204_base.specs.Encodings.{all_ones};
-ghost use Rattle.fips204_base.specs.Vectors.{TransformsWithin, VectorWithin, ValuesWithin};
+ghost use Rattle.fips204_base.specs.Vectors.{entry, VectorWithin};
+ghost use Rattle.fips204_base.specs.Transforms.{product};
 ghost use Rattle.fips204_base.specs.Residues.{coefficients, residue};
 ghost use Rattle.fips204_base.specs.Rounding.{low_bits};
-ghost use Rattle.fips204_base.specs.Vectors.{vector_coefficients, vector_of, AreTransformsOf, IsTransformOf};
+ghost use Rattle.fips204_base.specs.Vectors.{vector_coefficients, vector_of};
 ghost use Rattle.fips204_base.specs.declared.types.R.{R};
 ghost use Rattle.fips204.specs.Signing.{checked_attempt, hint_bit, w_minus_cs2, y_plus_cs1};
 ghost use Rattle.fips204.specs.SigningInputs.{AreCheckInputs};
 ghost use Rattle.fips204.specs.Sets.{set_of};
 ghost use Rattle.fips204.specs.SigningInputs.{attempt_answer};
 
-use crate::types::{KeyTransforms, Params, PrivateKey, R, T};
+use crate::types::{KeyTransforms, Params, PrivateKey, R, R0};
 use fips204_base::encodings::sig_encode;
-use fips204_base::helpers::{center_mod, difference, infinity_norm};
+use fips204_base::helpers::{Count, center_mod, difference, infinity_norm};
 use fips204_base::high_low::{low_bits, make_hint};
 use fips204_base::maps::{map_vector, write_zip_vectors, zip_vectors};
-use fips204_base::product::{challenge_times_transforms, transform_of};
+use fips204_base::product::{
+    challenge_times_transforms, transform_of, write_challenge_times_first,
+    write_challenge_times_second,
+};
 
 impl<const K: usize, const L: usize, H, G> PrivateKey<K, L, H, G> {
     /// The signature of an attempt with the transforms of the key's vectors, mask `y`, `w = A y`, commitment
@@ -41,15 +45,25 @@ impl<const K: usize, const L: usize, H, G> PrivateKey<K, L, H, G> {
             ≡ attempt_answer (checked_attempt (set_of p.now) self.now y.now (vector_coefficients w.now) c_tilde.now (Some c.now)) }
     {
         // c_hat = NTT(c)
-        let c_hat = transform_of(c);
+        let c_hat = transform_of(c, &mut Count::new());
         // z = y + c s1, with a norm below gamma1 - beta
-        let z = response(&transforms.s1_hat, y, &c_hat);
+        let mut z = [R0; L];
+        let mut rest = [R0; K];
+        write_challenge_times_first(
+            &c_hat,
+            &transforms.s1_hat,
+            &transforms.s2_hat,
+            &mut z,
+            &mut rest,
+        );
+        write_response(y, &mut z);
         if !has_norm_below(&z, p.z_bound()) {
             return None;
         }
         // r0 = LowBits(w - c s2), with a norm below gamma2 - beta
-        let w_minus_cs2 = w_minus_cs2(&transforms.s2_hat, w, &c_hat);
-        if !has_norm_below(&low_vector(p.gamma2, &w_minus_cs2), p.r0_bound()) {
+        write_challenge_times_second::<L, K>(&c_hat, &transforms.s2_hat, &mut rest);
+        write_w_minus_cs2(w, &mut rest);
+        if !has_norm_below(&low_vector(p.gamma2, &rest), p.r0_bound()) {
             return None;
         }
         // c t0, with a norm below gamma2
@@ -58,7 +72,7 @@ impl<const K: usize, const L: usize, H, G> PrivateKey<K, L, H, G> {
             return None;
         }
         // h = MakeHint(-c t0, w - c s2 + c t0), with at most omega ones
-        let h = hint(p.gamma2, &w_minus_cs2, &ct0);
+        let h = hint(p.gamma2, &rest, &ct0);
         if number_of_ones(&h) > p.omega as usize {
             return None;
         }
@@ -78,19 +92,17 @@ pub(crate) fn has_norm_below<const N: usize>(v: &[R; N], bound: i32) -> bool
     infinity_norm(v) < bound
 }
 
-/// `z = y + c s1`, centred, from the transforms of `s1` and `c`. Their values are below `q` in absolute value,
-/// and coefficients of `y` at most 524288.
-fn response<const L: usize>(s1_hat: &[T; L], y: &[R; L], c_hat: &T) -> [R; L]
-    requires private { TransformsWithin 8380416 s1_hat.now }
+/// Adds `y` to `c s1`, which is in `z`: `z = y + c s1`, centred. Coefficients of `y` are at most 524288, and those of
+/// `c s1` below `q`, in absolute value.
+fn write_response<const L: usize>(y: &[R; L], z: &mut [R; L])
     requires mask { VectorWithin L 524288 y.now }
-    requires challenge { ValuesWithin 8380416 c_hat.now.0 }
-    ensures value { (s1 : List R) (c : R) → AreTransformsOf L (vector_coefficients s1) s1_hat.now → IsTransformOf (coefficients c.0) c_hat.now
-        → result ≡ vector_of L (λ r n. centred (pos (y_plus_cs1 s1 y.now c r n))) }
-    ensures range { VectorWithin L 8380416 result }
+    requires product { VectorWithin L 8380416 z.old }
+    ensures value { (s1 : List R) (c : R) → ((r n : ℕ) → r < L → n < 256 → entry z.old r n ≡ pos (product (coefficients c.0) (vector_coefficients s1 r) n))
+        → z.new ≡ vector_of L (λ r n. centred (pos (y_plus_cs1 s1 y.now c r n))) }
+    ensures range { VectorWithin L 8380416 z.new }
 {
-    let mut z = challenge_times_transforms(c_hat, s1_hat);
     write_zip_vectors(
-        &mut z,
+        z,
         y,
         |product, mask|
             requires { (nat_abs product ≤ 8380416) × (nat_abs mask ≤ 524288) }
@@ -98,29 +110,26 @@ fn response<const L: usize>(s1_hat: &[T; L], y: &[R; L], c_hat: &T) -> [R; L]
             ensures small { nat_abs result ≤ 8380416 }
         { center_mod(mask + product) },
     );
-    z
 }
 
-/// `w - c s2` from the transforms of `s2` and `c`, below `q` in absolute value, as their values and the
-/// coefficients of `w` are.
-fn w_minus_cs2<const K: usize>(s2_hat: &[T; K], w: &[R; K], c_hat: &T) -> [R; K]
-    requires private { TransformsWithin 8380416 s2_hat.now }
-    requires product { VectorWithin K 8380416 w.now }
-    requires challenge { ValuesWithin 8380416 c_hat.now.0 }
-    ensures values { (s2 : List R) (c : R) → AreTransformsOf K (vector_coefficients s2) s2_hat.now → IsTransformOf (coefficients c.0) c_hat.now
-        → (r n : ℕ) → r < K → n < 256 → vector_coefficients result r n ≡ w_minus_cs2 s2 (vector_coefficients w.now) c r n }
-    ensures range { VectorWithin K 8380416 result }
+/// Subtracts `c s2`, which is in `rest`, from `w`: `w - c s2`, below `q` in absolute value, as coefficients of both
+/// are.
+fn write_w_minus_cs2<const K: usize>(w: &[R; K], rest: &mut [R; K])
+    requires w { VectorWithin K 8380416 w.now }
+    requires product { VectorWithin K 8380416 rest.old }
+    ensures values { (s2 : List R) (c : R) → ((r n : ℕ) → r < K → n < 256 → entry rest.old r n ≡ pos (product (coefficients c.0) (vector_coefficients s2 r) n))
+        → (r n : ℕ) → r < K → n < 256 → vector_coefficients rest.new r n ≡ w_minus_cs2 s2 (vector_coefficients w.now) c r n }
+    ensures range { VectorWithin K 8380416 rest.new }
 {
-    let product = challenge_times_transforms(c_hat, s2_hat);
-    zip_vectors(
+    write_zip_vectors(
+        rest,
         w,
-        &product,
-        |x, y|
-            requires { (nat_abs x ≤ 8380416) × (nat_abs y ≤ 8380416) }
-            ensures value { residue result ≡ (residue x + 8380416 * residue y) % 8380417 }
+        |product, x|
+            requires { (nat_abs product ≤ 8380416) × (nat_abs x ≤ 8380416) }
+            ensures value { residue result ≡ (residue x + 8380416 * residue product) % 8380417 }
             ensures small { nat_abs result ≤ 8380416 }
-        { difference(x, y) },
-    )
+        { difference(x, product) },
+    );
 }
 
 /// `LowBits` of each coefficient of a vector whose coefficients are below `q` in absolute value.

@@ -14,8 +14,7 @@ use crate::fault::Fault;
 use crate::hashing::write_kept;
 use crate::helpers::vector::row_sum;
 use crate::product::{
-    row_times_vector, share_rows, write_less_challenge_product, write_less_challenge_transforms,
-    write_transforms, write_transforms_of_both,
+    transforms, write_plain_products, write_product_difference, write_transforms_of_both,
 };
 use crate::types::{R, T, T0};
 use crate::xof::{Xof, XofReader};
@@ -153,13 +152,9 @@ pub fn write_expanded_times_vector<const K: usize, const L: usize, G: Xof>(
         × ((r n : ℕ) → r < K → n < 256 → entry out.new r n ≡ pos (matrix_product L a (vector_coefficients v.now) r n))) }
     ensures range { IfOk result (λ _. VectorWithin K 8380416 out.new) }
 {
-    let mut v_hat = [T0; L];
-    write_transforms(v, &mut v_hat);
-    let mut row = [T0; L];
-    for r in 0..K {
-        write_expanded_row::<L, G>(rho, r, &mut row)?;
-        out[r] = row_times_vector(&row, &v_hat);
-    }
+    let mut products = [T0; K];
+    write_expanded_mat_vec_mul::<K, L, G>(rho, &transforms(v), &mut products)?;
+    write_plain_products(&products, out);
     Ok(())
 }
 
@@ -186,16 +181,10 @@ pub fn write_expanded_times_vector_less<const K: usize, const L: usize, G: Xof>(
     ensures range { IfOk result (λ _. VectorWithin K 8380416 out.new) }
 {
     let mut z_hat = [T0; L];
+    let mut t_hat = [T0; K];
+    write_transforms_of_both(z, t, &mut z_hat, &mut t_hat);
     let mut products = [T0; K];
-    if share_rows::<L, K>() {
-        let mut t_hat = [T0; K];
-        write_transforms_of_both(z, t, &mut z_hat, &mut t_hat);
-        write_expanded_mat_vec_mul::<K, L, G>(rho, &z_hat, &mut products)?;
-        write_less_challenge_transforms(&products, c, &t_hat, out);
-        return Ok(());
-    }
-    write_transforms(z, &mut z_hat);
     write_expanded_mat_vec_mul::<K, L, G>(rho, &z_hat, &mut products)?;
-    write_less_challenge_product(&products, c, t, out);
+    write_product_difference(&products, c, &t_hat, out);
     Ok(())
 }

@@ -60,10 +60,25 @@ pub fn mat_vec_mul<const K: usize, const L: usize>(a: &[[T; L]; K], u: &[T; L]) 
     ensures small { TransformsWithin 8380416 result }
 {
     let mut out = [T0; K];
+    write_mat_vec_mul(a, u, &mut out);
+    out
+}
+
+/// Writes what `mat_vec_mul` returns.
+pub(crate) fn write_mat_vec_mul<const K: usize, const L: usize>(
+    a: &[[T; L]; K],
+    u: &[T; L],
+    out: &mut [T; K],
+)
+    requires columns { L ≤ 7 }
+    requires matrix { MatrixWithin 8380416 a.now }
+    requires vector { TransformsWithin 8380416 u.now }
+    ensures values { AreRowProducts K L a.now u.now out.new }
+    ensures small { TransformsWithin 8380416 out.new }
+{
     for i in 0..K {
         out[i] = row_sum(&a[i], u);
     }
-    out
 }
 
 /// The sum of the products of a row of the matrix with the vector, value by value.

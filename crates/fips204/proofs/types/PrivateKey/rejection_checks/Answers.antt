@@ -20,16 +20,16 @@ first : (g : Over) (c : After-has_norm_below g) → c.has_norm_below.result ≡ 
 first g c =
     let p = c.args.p.now in
     let bound = to_z-of_z w32 c.z_bound.result (search rules) ∙ c.z_bound.ensures in
-    let z = c.response-z.ensures.value c.args.self.now.s1 c.args.c.now c.requires.inputs.transforms.first c.transform_of-c_hat.ensures.values in
+    let z = c.write_response.ensures.value c.args.self.now.s1 c.args.c.now (c.write_challenge_times_first.ensures.first (coefficients c.args.c.now.0) (vector_coefficients c.args.self.now.s1) c.transform_of-c_hat.ensures.values c.requires.inputs.transforms.first) in
     (rw bound at c.has_norm_below.ensures)
-    ∙ ap (λ v. nat_lt (vector_norm v) (nat_abs p.gamma1 - nat_abs p.beta)) (response-is (set_of p) c.args.self.now c.args.y.now c.args.c.now c.response-z.result g.row.L c.requires.inputs.sizes.columns z)
+    ∙ ap (λ v. nat_lt (vector_norm v) (nat_abs p.gamma1 - nat_abs p.beta)) (response-is (set_of p) c.args.self.now c.args.y.now c.args.c.now c.write_response.new.z g.row.L c.requires.inputs.sizes.columns z)
 
 second : (g : Over) (c : After-has_norm_below-2 g) → c.has_norm_below-2.result ≡ nat_lt (vector_norm (low_vector (set_of c.args.p.now) c.args.self.now (vector_coefficients c.args.w.now) c.args.c.now)) (nat_abs c.args.p.now.gamma2 - nat_abs c.args.p.now.beta)
 second g c =
     let p = c.args.p.now in
     let bound = to_z-of_z w32 c.r0_bound.result (search rules) ∙ c.r0_bound.ensures in
     let gamma2 = to_z-of_z w32 p.gamma2 (search rules) in
-    let difference = c.w_minus_cs2-w_minus_cs2.ensures.values c.args.self.now.s2 c.args.c.now c.requires.inputs.transforms.second c.transform_of-c_hat.ensures.values in
+    let difference = c.write_w_minus_cs2.ensures.values c.args.self.now.s2 c.args.c.now (c.write_challenge_times_second.ensures.values (coefficients c.args.c.now.0) (vector_coefficients c.args.self.now.s2) c.transform_of-c_hat.ensures.values c.requires.inputs.transforms.second) in
     (rw bound at c.has_norm_below-2.ensures)
     ∙ ap (λ v. nat_lt (vector_norm v) (nat_abs p.gamma2 - nat_abs p.beta)) ((rw gamma2 at c.low_vector.ensures.value) ∙ low-is (set_of p) c.args.self.now (vector_coefficients c.args.w.now) c.args.c.now _ _ c.requires.inputs.sizes.rows difference)
 
@@ -46,19 +46,19 @@ hint_of : (g : Over) (c : After-number_of_ones g) → c.hint-h.result ≡ hint_v
 hint_of g c =
     let p = c.args.p.now in
     let gamma2 = to_z-of_z w32 p.gamma2 (search rules) in
-    let difference = c.w_minus_cs2-w_minus_cs2.ensures.values c.args.self.now.s2 c.args.c.now c.requires.inputs.transforms.second c.transform_of-c_hat.ensures.values in
+    let difference = c.write_w_minus_cs2.ensures.values c.args.self.now.s2 c.args.c.now (c.write_challenge_times_second.ensures.values (coefficients c.args.c.now.0) (vector_coefficients c.args.self.now.s2) c.transform_of-c_hat.ensures.values c.requires.inputs.transforms.second) in
     let product = c.challenge_times_transforms-ct0.ensures.values (coefficients c.args.c.now.0) (vector_coefficients c.args.self.now.t0) c.transform_of-c_hat.ensures.values c.requires.inputs.transforms.low in
     hint-is (set_of p) c.args.self.now (vector_coefficients c.args.w.now) c.args.c.now _ _ _ _ c.requires.inputs.sizes.rows difference product (rw gamma2 at c.hint-h.ensures)
 
 pub has_norm_below-requires : goal.has_norm_below-requires
 has_norm_below-requires g c =
     let bound = to_z-of_z w32 c.z_bound.result (search rules) ∙ c.z_bound.ensures in
-    (search rules, (rw c.requires.inputs.sizes.columns (limits c.args.p.now (search rules)).some_columns, (c.response-z.ensures.range, rw bound (omega (arith, ints)))))
+    (search rules, (rw c.requires.inputs.sizes.columns (limits c.args.p.now (search rules)).some_columns, (c.write_response.ensures.range, rw bound (omega (arith, ints)))))
 
 pub low_vector-requires : goal.low_vector-requires
 low_vector-requires g c =
     let gamma2 = to_z-of_z w32 c.args.p.now.gamma2 (search rules) in
-    (search rules, (rw gamma2 (limits c.args.p.now (search rules)).rounding, c.w_minus_cs2-w_minus_cs2.ensures.range))
+    (search rules, (rw gamma2 (limits c.args.p.now (search rules)).rounding, c.write_w_minus_cs2.ensures.range))
 
 pub has_norm_below-requires-2 : goal.has_norm_below-requires-2
 has_norm_below-requires-2 g c =
@@ -78,7 +78,7 @@ has_norm_below-requires-3 g c =
 pub hint-h-requires : goal.hint-h-requires
 hint-h-requires g c =
     let gamma2 = to_z-of_z w32 c.args.p.now.gamma2 (search rules) in
-    (search rules, (rw gamma2 (limits c.args.p.now (search rules)).rounding, (c.w_minus_cs2-w_minus_cs2.ensures.range, c.challenge_times_transforms-ct0.ensures.range)))
+    (search rules, (rw gamma2 (limits c.args.p.now (search rules)).rounding, (c.write_w_minus_cs2.ensures.range, c.challenge_times_transforms-ct0.ensures.range)))
 
 pub number_of_ones-requires : goal.number_of_ones-requires
 number_of_ones-requires g c =
@@ -123,7 +123,7 @@ sig_encode-requires g c =
     let gamma2 = to_z-of_z w32 p.gamma2 (search rules) in
     let omega_is = to_z-of_z w32 p.omega (search rules) in
     let hint = rw gamma2 at c.hint-h.ensures in
-    let sum = c.response-z.ensures.value c.args.self.now.s1 c.args.c.now c.requires.inputs.transforms.first c.transform_of-c_hat.ensures.values in
+    let sum = c.write_response.ensures.value c.args.self.now.s1 c.args.c.now (c.write_challenge_times_first.ensures.first (coefficients c.args.c.now.0) (vector_coefficients c.args.self.now.s1) c.transform_of-c_hat.ensures.values c.requires.inputs.transforms.first) in
     let z = response-is (set_of p) c.args.self.now c.args.y.now c.args.c.now _ _ c.requires.inputs.sizes.columns sum in
     let test = sym c.if-not-has_norm_below.false ∙ first g at.After-has_norm_below ∙ ap (λ v. nat_lt (vector_norm v) (nat_abs p.gamma1 - nat_abs p.beta)) (sym z) in (
       search rules,
@@ -142,8 +142,8 @@ sig_encode-requires g c =
                   (
                     rw (gamma1, omega_is) (signature_size p _ _ _ _ known.mask c.requires.inputs.sizes.rows c.requires.inputs.sizes.columns c.requires.inputs.sizes.commitment c.requires.inputs.sizes.signature),
                     (
-                      rw gamma1 (response-range p.gamma1 (nat_abs p.gamma1 - nat_abs p.beta) g.row.L (λ r n. pos (y_plus_cs1 c.args.self.now.s1 c.args.y.now c.args.c.now r n)) c.response-z.result known.mask (omega arith) sum (ltb-true _ _ (sym test))),
-                      (rw hint (hint-range g.row.K (nat_abs p.gamma2) (vector_coefficients c.w_minus_cs2-w_minus_cs2.result) (vector_coefficients c.challenge_times_transforms-ct0.result)).range, rw c.number_of_ones.ensures at c.if-number_of_ones-p.false),
+                      rw gamma1 (response-range p.gamma1 (nat_abs p.gamma1 - nat_abs p.beta) g.row.L (λ r n. pos (y_plus_cs1 c.args.self.now.s1 c.args.y.now c.args.c.now r n)) c.write_response.new.z known.mask (omega arith) sum (ltb-true _ _ (sym test))),
+                      (rw hint (hint-range g.row.K (nat_abs p.gamma2) (vector_coefficients c.write_w_minus_cs2.new.rest) (vector_coefficients c.challenge_times_transforms-ct0.result)).range, rw c.number_of_ones.ensures at c.if-number_of_ones-p.false),
                     ),
                   ),
                 ),
@@ -160,7 +160,7 @@ returns g c =
     let at = goal.at.returns g c in
     let gamma1 = to_z-of_z w32 p.gamma1 (search rules) in
     let omega_is = to_z-of_z w32 p.omega (search rules) in
-    let sum = c.response-z.ensures.value c.args.self.now.s1 c.args.c.now c.requires.inputs.transforms.first c.transform_of-c_hat.ensures.values in
+    let sum = c.write_response.ensures.value c.args.self.now.s1 c.args.c.now (c.write_challenge_times_first.ensures.first (coefficients c.args.c.now.0) (vector_coefficients c.args.self.now.s1) c.transform_of-c_hat.ensures.values c.requires.inputs.transforms.first) in
     let z = response-is (set_of p) c.args.self.now c.args.y.now c.args.c.now _ _ c.requires.inputs.sizes.columns sum in
     let h = hint_of g at.After-number_of_ones in
     let count = c.number_of_ones.ensures ∙ ap (λ h. length (all_ones h)) h in

@@ -1,12 +1,13 @@
-use Rattle.std.proofs.Common.{ℕ, ◌≡◌, ◌<◌, pos, length, get_or}
+use Rattle.std.proofs.Common.{ℕ, ◌≡◌, ◌<◌, ◌+◌, ◌-◌, pos, length, get_or}
 use Rattle.fips204_base.specs.declared.types.R.{R}
+use Rattle.fips204_base.specs.Lanes.{InRow}
 use Rattle.fips204_base.specs.Vectors.{entry}
 use Rattle.fips204_base.proofs.lanes.batch.write_coefficient.Given as goal
 
 abbrev pub invariant-loop-r : goal.invariant-loop-r
 invariant-loop-r g l = record {
-  size : length l.out ≡ g.row.K;
-  places : (k : ℕ) (d : R) → k < l.r → length (get_or l.out k d).0 ≡ 256;
-  values : (k : ℕ) → k < l.r → entry l.out k l.n ≡ get_or l.entries k (pos 0);
-  before : (k m : ℕ) → k < g.row.K → m < l.n → entry l.out k m ≡ entry l.initial.out k m;
+  size : length l.out ≡ g.row.N;
+  values : (k : ℕ) → k < l.r → InRow l.first (l.at + k) → entry l.out k l.n ≡ get_or l.entries (l.at + k - l.first) (pos 0);
+  before : (k m : ℕ) → k < g.row.N → m < l.n → entry l.out k m ≡ entry l.initial.out k m;
+  kept : (k : ℕ) (d : R) → k < g.row.N → l.at + k < l.first → get_or l.out k d ≡ get_or l.initial.out k d;
 }
