@@ -19,30 +19,29 @@ use crate::lanes::batch::{
 use crate::ntt::write_ntt;
 use crate::types::{R, R0, T, T0};
 
-/// The product of a matrix, which is given by its transforms with values from 0 to `q - 1`, with a
+/// Writes the product of a matrix, which is given by its transforms with values from 0 to `q - 1`, with a
 /// vector of plain polynomials: coefficients from 0 to `q - 1`. The vector's coefficients have an
 /// absolute value of at most `q - 1`, and `L` is at most 7.
 ///
 /// Not inlined, as others here that make rows, so that these don't stay in the caller's frame.
 #[inline(never)]
-pub fn matrix_times_vector<const K: usize, const L: usize>(
+pub fn write_matrix_times_vector<const K: usize, const L: usize>(
     a_hat: &[[T; L]; K],
     v: &[R; L],
-) -> [R; K]
+    out: &mut [R; K],
+)
     requires columns { L ≤ 7 }
     requires matrix { MatrixWithin 8380416 a_hat.now }
     requires vector { VectorWithin L 8380416 v.now }
-    ensures values { (r n : ℕ) → r < K → n < 256 → entry result r n ≡ pos (matrix_product L a_hat.now (vector_coefficients v.now) r n) }
-    ensures range { VectorWithin K 8380416 result }
+    ensures values { (r n : ℕ) → r < K → n < 256 → entry out.new r n ≡ pos (matrix_product L a_hat.now (vector_coefficients v.now) r n) }
+    ensures range { VectorWithin K 8380416 out.new }
 {
     let mut rows = [Lanes::from_array([0; 8]); 256];
     let mut v_hat = [T0; L];
     write_transforms_in_lanes(v, &[], &mut rows, &mut v_hat, &mut []);
     let mut products = [T0; K];
     write_mat_vec_mul(a_hat, &v_hat, &mut products);
-    let mut out = [R0; K];
-    write_plain_products_in(&products, &mut rows, &mut out);
-    out
+    write_plain_products_in(&products, &mut rows, out);
 }
 
 /// Writes the polynomials of a matrix's product with a vector, given by their transforms: coefficients from 0 to
@@ -163,7 +162,6 @@ pub fn write_challenge_times_second<const L: usize, const K: usize>(
 /// The product of a matrix with a vector, less the product of a challenge with a vector: coefficients
 /// from 0 to `q - 1`. The matrix is given by its transforms with values from 0 to `q - 1`; all
 /// coefficients have an absolute value of at most `q - 1`, and `L` is at most 7.
-#[inline(never)]
 pub fn matrix_times_vector_less<const K: usize, const L: usize>(
     a_hat: &[[T; L]; K],
     z: &[R; L],

@@ -12,12 +12,12 @@ ghost use Rattle.fips204.specs.Sets.{set_of};
 ghost use Rattle.fips204.specs.SigningInputs.{attempt_answer};
 
 use super::commitment::commitment;
-use crate::types::{KeyTransforms, Params, PrivateKey, R, T};
+use crate::types::{KeyTransforms, Params, PrivateKey, R, R0, T};
 use fips204_base::Fault;
 use fips204_base::hashing::{expand_mask, sample_in_ball};
 use fips204_base::high_low::high_bits;
 use fips204_base::maps::map_vector;
-use fips204_base::product::matrix_times_vector;
+use fips204_base::product::write_matrix_times_vector;
 use fips204_base::xof::Xof;
 
 impl<const K: usize, const L: usize, H: Xof, G> PrivateKey<K, L, H, G> {
@@ -41,7 +41,8 @@ impl<const K: usize, const L: usize, H: Xof, G> PrivateKey<K, L, H, G> {
         // y = ExpandMask(rho'', kappa)
         let y = expand_mask::<L, H>(p.gamma1, seed, kappa);
         // w = A y
-        let w = matrix_times_vector(a_hat, &y);
+        let mut w = [R0; K];
+        write_matrix_times_vector(a_hat, &y, &mut w);
         // w1 = HighBits(w)
         let w1 = high_vector(p.gamma2, &w);
         // c_tilde = H(mu || w1Encode(w1))

@@ -135,8 +135,8 @@ fn write_expanded_mat_vec_mul<const K: usize, const L: usize, G: Xof>(
     Ok(())
 }
 
-/// Writes the product of the matrix of `rho` with a vector of plain polynomials, as `matrix_times_vector` of
-/// `expand_a` returns it, with one row of the matrix at a time. `K` and `L` are those of a parameter set, and
+/// Writes the product of the matrix of `rho` with a vector of plain polynomials, as `write_matrix_times_vector` of
+/// `expand_a` does, with one row of the matrix at a time. `K` and `L` are those of a parameter set, and
 /// coefficients are below `q` in absolute value. Internal: serves the crate `fips204` alone.
 ///
 /// Errors: `SamplingLimit` if an entry reaches its limit.
