@@ -8,7 +8,8 @@ use native.Mathlib.Decide.{dec_lt}
 use Rattle.fips204_base.specs.Residues.{coefficients, IsCongruent}
 use Rattle.fips204_base.specs.Transforms.{transform, inverse_transform}
 use Rattle.fips204_base.specs.Transforms.{pointwise, product}
-use Rattle.fips204_base.specs.Lanes.{InRow, residues}
+use Rattle.fips204_base.specs.Lanes.{residues}
+use Rattle.fips204_base.specs.Network.{InRow}
 use Rattle.fips204_base.specs.Vectors.{ValuesWithin, entry}
 use Rattle.fips204_base.specs.declared.types.R.{R}
 use Rattle.fips204_base.specs.declared.lanes.row.Lanes.{Lanes}

@@ -62,3 +62,7 @@ value_at v r = coefficient_at (slice_index_or v r record { 0 = [] }).0
 -- the first count of the new values are the first `kept` of the old ones and then those given, as many as have room among 256
 abbrev pub AreKept : List ℤ → ℕ → List ℤ → List ℤ → ℕ → Type 0
 AreKept old kept given new count = take count new ≡ take 256 (take kept old ++ given)
+
+-- place p of a list of polynomials is in the row that holds the eight from `first` on
+abbrev pub InRow : ℕ → ℕ → Type 0
+InRow first p = (first ≤ p) × (p < first + 8)

@@ -1,6 +1,6 @@
 use Rattle.std.proofs.Common.{ℕ, ◌≡◌, ◌<◌, ◌+◌, ◌-◌, pos, length, get_or}
 use Rattle.fips204_base.specs.declared.types.R.{R}
-use Rattle.fips204_base.specs.Lanes.{InRow}
+use Rattle.fips204_base.specs.Network.{InRow}
 use Rattle.fips204_base.specs.Vectors.{entry}
 use Rattle.fips204_base.proofs.lanes.batch.write_coefficient.Given as goal
 

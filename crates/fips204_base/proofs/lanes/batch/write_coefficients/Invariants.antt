@@ -1,7 +1,8 @@
 use Rattle.std.proofs.Common.{ℕ, ◌≡◌, ◌<◌, ◌+◌, ◌-◌, get_or}
 use Rattle.fips204_base.specs.declared.types.R.{R}
 use Rattle.fips204_base.specs.declared.lanes.row.Lanes.{Lanes}
-use Rattle.fips204_base.specs.Lanes.{InRow, lane_at}
+use Rattle.fips204_base.specs.Lanes.{lane_at}
+use Rattle.fips204_base.specs.Network.{InRow}
 use Rattle.fips204_base.specs.Vectors.{entry}
 use Rattle.fips204_base.proofs.lanes.batch.write_coefficients.Given as goal
 

@@ -1,6 +1,7 @@
 use Rattle.std.proofs.Common.{◌≡◌, ◌<◌, ◌+◌, ◌-◌, ◌∙◌, [], ap, get_or, arith, rules}
 use Rattle.fips204_base.specs.Residues.{residue}
-use Rattle.fips204_base.specs.Lanes.{InRow, residues}
+use Rattle.fips204_base.specs.Lanes.{residues}
+use Rattle.fips204_base.specs.Network.{InRow}
 use Rattle.fips204_base.specs.Vectors.{entry}
 use Rattle.fips204_base.specs.Vectors.{vector_coefficients}
 use Rattle.fips204_base.specs.declared.lanes.row.Lanes.{Lanes}

@@ -1,6 +1,6 @@
 use Rattle.std.proofs.Common.{ℕ, ◌≡◌, ◌<◌, ◌+◌, ◌-◌, pos, length, get_or}
 use Rattle.fips204_base.specs.declared.types.T.{T}
-use Rattle.fips204_base.specs.Lanes.{InRow}
+use Rattle.fips204_base.specs.Network.{InRow}
 use Rattle.fips204_base.specs.Network.{value_at}
 use Rattle.fips204_base.proofs.lanes.batch.write_value.Given as goal
 

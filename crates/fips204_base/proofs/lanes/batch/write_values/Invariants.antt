@@ -1,8 +1,8 @@
 use Rattle.std.proofs.Common.{ℕ, ◌≡◌, ◌<◌, ◌+◌, ◌-◌, length, get_or}
 use Rattle.fips204_base.specs.declared.types.T.{T}
 use Rattle.fips204_base.specs.declared.lanes.row.Lanes.{Lanes}
-use Rattle.fips204_base.specs.Lanes.{InRow, lane_at}
-use Rattle.fips204_base.specs.Network.{value_at}
+use Rattle.fips204_base.specs.Lanes.{lane_at}
+use Rattle.fips204_base.specs.Network.{InRow, value_at}
 use Rattle.fips204_base.proofs.lanes.batch.write_values.Given as goal
 
 abbrev pub invariant-loop-n : goal.invariant-loop-n
