@@ -260,7 +260,9 @@ where
     {
         laws::prepared_keys();
         let key = Self::decode(key);
-        Self::judge_entries(alloc, &Self::prepare(&key), context, count, input)
+        let mut prepared = Err(Fault::SamplingLimit);
+        Self::write_prepared(&key, &mut prepared);
+        Self::judge_entries(alloc, &prepared, context, count, input)
     }
 
     /// Judges the entries by a prepared key: reads the two lines of an entry, and keeps of it the verdict alone.
@@ -305,15 +307,18 @@ where
         PublicKey::<K, L, H, G>::try_from_bytes(array_of(key)).unwrap()
     }
 
-    /// The key with its matrix.
+    /// The key with its matrix, or the refusal, written into the caller's place.
     ///
     /// Not inlined, so that what sampling takes does not stand in the stack beside the entries.
     #[inline(never)]
-    fn prepare(key: &PublicKey<K, L, H, G>) -> Result<PreparedPublicKey<K, L, H>, Fault>
+    fn write_prepared(
+        key: &PublicKey<K, L, H, G>,
+        prepared: &mut Result<PreparedPublicKey<K, L, H>, Fault>,
+    )
         requires small { AreSmall K L PK_LEN SK_LEN SIG_LEN }
-        ensures { result ≡ prepared_public S.set G.front key.now }
+        ensures { prepared.new ≡ prepared_public S.set G.front key.now }
     {
-        key.prepare()
+        *prepared = key.prepare();
     }
 
     /// Whether a prepared key accepts a signature; false if the key has no matrix.
