@@ -8,7 +8,7 @@ ghost use Rattle.fips204.specs.Framing.{message_hash};
 ghost use Rattle.fips204.specs.Keys.{IsWhole, TellsWhole};
 ghost use Rattle.fips204.specs.Keys.{DecodesPrivate, IsPublicKeyOf};
 ghost use Rattle.fips204.specs.Prepared.{prepared_private, prepared_public};
-ghost use Rattle.fips204.specs.Refusals.{generated, derived, sign_message, sign_digest, VerifiesMessage, VerifiesDigest, DrawsIf, DrawsUnless};
+ghost use Rattle.fips204.specs.Refusals.{generated, derived, sign_message, sign_digest, VerifiesMessage, VerifiesDigest, DrawsIf};
 ghost use Rattle.fips204.specs.Signing.{sign};
 ghost use Rattle.fips204_base.specs.Encodings.{public_key_bytes, private_key_bytes};
 

@@ -1,7 +1,7 @@
 //! The values that the butterflies work on.
 #![tactic(auto)]
 
-ghost use Rattle.std.specs.Prelude.{◌≡◌, ℕ, ◌<◌, ◌≤◌, ◌+◌, ◌*◌, ◌%◌, ◌^◌, List, ℤ, pos, ◌+ℤ◌, ◌-ℤ◌, ◌≤ℤ◌, length, nat_abs};
+ghost use Rattle.std.specs.Prelude.{◌≡◌, ℕ, ◌<◌, ◌≤◌, ◌+◌, ◌*◌, ◌%◌, ◌^◌, List, ℤ, pos, ◌+ℤ◌, ◌-ℤ◌, ◌≤ℤ◌, nat_abs};
 ghost use Rattle.fips204_base.specs.Residues.{residue, IsCongruent};
 ghost use Rattle.fips204_base.specs.Transforms.{zeta_at};
 ghost use Rattle.fips204_base.specs.Lanes.{lane, EachLane};

@@ -1,7 +1,7 @@
 //! Vectors of polynomials and of transforms.
 #![tactic(auto)]
 
-ghost use Rattle.std.specs.Prelude.{◌≡◌, ◌≤◌, ◌<◌, ◌*◌, ◌%◌, ℕ, [], ◌+ℤ◌, nat_abs, slice_index_or};
+ghost use Rattle.std.specs.Prelude.{◌≡◌, ◌≤◌, ◌<◌, ◌*◌, ◌%◌, ℕ, ◌+ℤ◌, nat_abs};
 ghost use Rattle.fips204_base.specs.Residues.{residue, coefficients};
 ghost use Rattle.fips204_base.specs.Vectors.{entry, VectorWithin, ValuesWithin, TransformsWithin, MatrixWithin, vector_residues, row_value, AreRowProducts};
 

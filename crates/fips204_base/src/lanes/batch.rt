@@ -2,7 +2,7 @@
 //! eights. The lanes behind the last polynomial are zero.
 #![tactic(auto)]
 
-ghost use Rattle.std.specs.Prelude.{◌≡◌, ◌<◌, ◌≤◌, ◌+◌, ◌-◌, ◌*◌, ◌/◌, ◌%◌, ◌^◌, ℕ, pos, nat_abs, length, slice_index_or};
+ghost use Rattle.std.specs.Prelude.{◌≡◌, ◌<◌, ◌≤◌, ◌+◌, ◌-◌, ◌*◌, ◌/◌, ◌^◌, ℕ, pos, nat_abs, length, slice_index_or};
 ghost use Rattle.fips204_base.specs.Lanes.{lane, lane_at, residues, LanesWithin};
 ghost use Rattle.fips204_base.specs.Vectors.{coefficient_at, entry, TransformsWithin, VectorWithin, ValuesWithin, vector_residues};
 ghost use Rattle.fips204_base.specs.Network.{InRow, value_at};
