@@ -1,10 +1,12 @@
 //! A key store: a file has a byte of the version, a byte of the set, and the bytes of a private or a public key.
 //!
-//! Bodies that the contracts refuse: a header that is not looked at; a public key whose `tr` is not compared.
+//! Bodies that the contracts refuse: a header that is not looked at; a public key whose `tr` is not compared; any public
+//! key accepted; the set looked at before the version.
 #![tactic(auto)]
 
 ghost use Rattle.std.specs.Prelude.{◌≡◌, ◌≤◌, ◌↔◌, length, Some, None, IsTrue, MatchResult, OnOk};
-ghost use Rattle.mldsa_bench.specs.KeyStore.{file_fault, file_of, public_file_of, IsFileOf, ChecksAs, LoadsAs, LoadsPublicAs, LoadsStored, LoadsStoredPublic};
+ghost use Rattle.mldsa_bench.specs.KeyStore.{file_fault, file_of, public_file_of, IsFileOf, ChecksAs};
+ghost use Rattle.mldsa_bench.specs.KeyStore.{LoadsAs, LoadsPublicAs, LoadsStored, LoadsStoredPublic};
 
 use fips204::laws;
 use fips204::ml_dsa_44::{KG, PK_LEN, PrivateKey, PublicKey, SK_LEN};

@@ -1,13 +1,12 @@
 //! An append-only ledger: each entry signs the hash of the entry before it, and what is recorded.
 //!
 //! Bodies that the contracts refuse: the last entry is not checked; no link is checked; a link that leaves the signature
-//! out.
+//! out; a payload that is not signed; an appended entry without the hash of the last one.
 #![tactic(auto)]
 
 ghost use Rattle.std.specs.Prelude.{◌≡◌, ◌≤◌, ◌<◌, ◌↔◌, ◌++◌, length, Ok, Err, IsTrue, IfOk, IfErr, OnOk};
 ghost use Rattle.std.specs.Vec.{vec_capacity, vec_len};
-ghost use Rattle.fips204.specs.Keys.{IsWhole};
-ghost use Rattle.fips204.specs.Keys.{PublicParts};
+ghost use Rattle.fips204.specs.Keys.{IsWhole, PublicParts};
 ghost use Rattle.fips204.specs.ParameterSets.{set_44};
 ghost use Rattle.fips204.specs.Prepared.{prepared_public, VerifiesMessagePrepared};
 ghost use Rattle.fips204.specs.Refusals.{derived};
@@ -101,15 +100,12 @@ pub fn append<H: Xof, G: Xof>(
 /// Whether the entry at a place fits.
 fn fits<H: Xof>(key: &PreparedPublicKey<H>, ledger: &[Entry], place: usize) -> bool
     requires { place < length ledger.now }
-    ensures { IsTrue result ↔ Fits (λ message signature. VerifiesMessagePrepared set_44 H.front key.now message signature CONTEXT.now) ledger.now place }
+    ensures { IsTrue result ↔ Fits (λ message signature.
+        VerifiesMessagePrepared set_44 H.front key.now message signature CONTEXT.now) ledger.now place }
 {
     let entry = &ledger[place];
-    entry.previous == previous_hash(ledger, place)
-        && key.verify(
-            &signed_bytes(&entry.previous, &entry.payload),
-            &entry.signature,
-            CONTEXT,
-        )
+    let bytes = signed_bytes(&entry.previous, &entry.payload);
+    entry.previous == previous_hash(ledger, place) && key.verify(&bytes, &entry.signature, CONTEXT)
 }
 
 /// Whether the ledger stands under the key: each entry has the hash of the one before it, and each signature is

@@ -67,7 +67,8 @@ pub fn accepted_for_both<H: Xof, G: Xof>(
     second: &Token,
     signature: &[u8; SIG_LEN],
 ) -> bool
-    ensures { IsTrue result → first.now ≢ second.now → MessagesCollide set_44 H.front key.now.tr CONTEXT.now (spelling first.now) (spelling second.now) }
+    ensures { IsTrue result → first.now ≢ second.now
+        → MessagesCollide set_44 H.front key.now.tr CONTEXT.now (spelling first.now) (spelling second.now) }
 {
     laws::binding();
     one_spelling();

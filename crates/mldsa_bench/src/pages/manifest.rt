@@ -1,6 +1,7 @@
 //! A signed manifest: a list of files, each with its name, size and digest, signed as a whole, at any set.
 //!
-//! Bodies that the contracts refuse: a spelling without the size; entries compared without the digest.
+//! Bodies that the contracts refuse: a spelling without the size; entries compared without the digest; a file handed out
+//! though the signature is not accepted; an entry that is not found in a list of one.
 #![tactic(auto)]
 
 ghost use Rattle.std.specs.Prelude.{◌≡◌, ◌↔◌, ◌++◌, ℕ, List, IsTrue, MatchOption};
@@ -112,7 +113,8 @@ where
     S: Set<Commitment = [u8; N], Signature = [u8; SIG_LEN]> + SignatureSizes<K, L, N, SIG_LEN>,
     ensures { MatchOption result
         (IsHandedOut S.set H.front G.front key.now CONTEXT.now SHA2_256 entries.now signature.now name.now file.now → ⊥)
-        (λ given. (given.now ≡ file.now) × IsHandedOut S.set H.front G.front key.now CONTEXT.now SHA2_256 entries.now signature.now name.now file.now) }
+        (λ given. (given.now ≡ file.now)
+        × IsHandedOut S.set H.front G.front key.now CONTEXT.now SHA2_256 entries.now signature.now name.now file.now) }
 {
     if !key.hash_verify(&digest_of(entries), signature, CONTEXT, &SHA2_256) {
         return None;

@@ -1,6 +1,6 @@
 //! A signature that is read from a file, and a message in two pieces, with no memory for the whole.
 //!
-//! A body that the contracts refuse: the pieces exchanged.
+//! Bodies that the contracts refuse: the pieces exchanged; another context length; random bytes that are not drawn.
 #![tactic(auto)]
 
 ghost use Rattle.std.specs.Prelude.{◌≡◌, ◌≢◌, ◌↔◌, ◌++◌, length, IsTrue, MatchOption};
