@@ -1,7 +1,7 @@
 """Records what the Rust answers to a fixed list of cases, for the test `rust_answers` of crates/mldsa_bench.
 
-A case is a number from 0 to 19 at a set. Its bytes follow of the number, as `case` says; the test says the same in its own
-words. Of each answer the SHA-256 of its output and its status is kept.
+A case is a number from 0 to 19 at a set. Its bytes follow from the number, as `case` says; the test says the same in its own
+words. Of each case a SHA-256 is kept, of the SHA-256 of each answer's output and status.
 """
 import hashlib
 import sys
@@ -9,10 +9,10 @@ import sys
 from comparison.build import TOP, lines_of, run
 from comparison.cases import SIZES
 
-FILE = f"{TOP}/crates/mldsa_bench/src/recorded_rust.rt"
-HEAD = """//! What the Rust crate fips204 0.5.0 answers to the cases of `rust_answers`, as `bench/against-rust --record` writes it: for
-//! each case the SHA-256 of what is written and of the status, a byte, by `keygen`, `id`, `sign`, `verify`, `check` and
-//! `batch`.
+FILE = f"{TOP}/crates/mldsa_bench/src/values/rust_crate.rt"
+HEAD = """//! What the Rust crate fips204 0.5.0 returns in the cases of `program::rust_answers`, as `bench/against-rust --record` writes
+//! it: for each of 20 cases a SHA-256, of the SHA-256 of what is written and of the status, a byte, by `keygen`, `id`,
+//! `sign`, `verify`, `check` and `batch` in turn.
 #![tactic(auto)]
 """
 
@@ -67,8 +67,8 @@ def write(driver):
         digests, signature, kinds = "", b"", {}
         for number in range(20):
             answers, signature = case(driver, parameters, number, signature)
+            digests += hashlib.sha256(b"".join(hashlib.sha256(it).digest() for it in answers)).hexdigest()
             for it in answers:
-                digests += hashlib.sha256(it).hexdigest()
                 kind = it[:-1].decode().strip() if len(it) < 200 else "hex"
                 kinds[kind] = kinds.get(kind, 0) + 1
         print(f"{parameters}: {kinds}")

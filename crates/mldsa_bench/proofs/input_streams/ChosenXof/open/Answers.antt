@@ -1,5 +1,0 @@
-use Rattle.std.proofs.Common.{ap, replicate}
-use Rattle.mldsa_bench.proofs.input_streams.ChosenXof.open.Goals as goal
-
-pub returns : goal.returns
-returns g c = ap (replicate 4096) c.byte_of.ensures

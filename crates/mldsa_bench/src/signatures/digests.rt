@@ -1,0 +1,71 @@
+//! Identifiers of hashes, and the conditions on digests.
+#![tactic(auto)]
+
+use crate::values::identifiers::{longer_oid, longest_oid, oid};
+use fips204::pre_hash::{self, digest_len};
+use fips204::{Fault, check_pre_hash};
+use std::test::Fail;
+
+/// The twelve object identifiers, byte for byte, and the lengths of their digests.
+#[test]
+fn identifiers_and_lengths(rt: HostRuntime) -> Result<(), Fail> {
+    for (identifier, last, length) in [
+        (pre_hash::SHA2_256, 0x01, 32),
+        (pre_hash::SHA2_384, 0x02, 48),
+        (pre_hash::SHA2_512, 0x03, 64),
+        (pre_hash::SHA2_224, 0x04, 28),
+        (pre_hash::SHA2_512_224, 0x05, 28),
+        (pre_hash::SHA2_512_256, 0x06, 32),
+        (pre_hash::SHA3_224, 0x07, 28),
+        (pre_hash::SHA3_256, 0x08, 32),
+        (pre_hash::SHA3_384, 0x09, 48),
+        (pre_hash::SHA3_512, 0x0a, 64),
+        (pre_hash::SHAKE_128, 0x0b, 32),
+        (pre_hash::SHAKE_256, 0x0c, 64),
+    ] {
+        assert!(rt; identifier == oid(last), "last byte {last}");
+        assert!(rt; digest_len(&identifier) == Some(length), "last byte {last}");
+    }
+    assert!(rt; digest_len(&oid(0x00)) == None);
+    assert!(rt; digest_len(&oid(0x0d)) == None);
+    assert!(rt; digest_len(&oid(0x01)[..10]) == None);
+    assert!(rt; digest_len(&[]) == None);
+    Ok(())
+}
+
+/// Each error of `check_pre_hash` by itself and in its order; digests of 0, 31, 33, 1024 and 1025 bytes.
+#[test]
+fn digests_that_are_refused(rt: HostRuntime) -> Result<(), Fail> {
+    let sha256 = oid(0x01);
+    for (digest, identifier, fault) in [
+        ([0u8; 32].as_slice(), [].as_slice(), Fault::OidEmpty),
+        (&[0; 32], &[0xff], Fault::OidNotDer),
+        (&[0; 32], &[0x06], Fault::OidNotDer),
+        (&[0; 32], &[0x06, 0x00], Fault::OidNotDer),
+        (&[0; 32], &[0x04, 0x01, 0x00], Fault::OidNotDer),
+        (&[0; 32], &sha256[..10], Fault::OidNotDer),
+        (&[0; 1025], &sha256, Fault::DigestTooLong),
+        (&[], &sha256, Fault::DigestLength),
+        (&[0; 31], &sha256, Fault::DigestLength),
+        (&[0; 33], &sha256, Fault::DigestLength),
+        (
+            &[0; 1025],
+            &[0x06, 0x03, 0x2a, 0x03, 0x04],
+            Fault::DigestTooLong,
+        ),
+    ] {
+        assert!(rt; check_pre_hash(digest, identifier) == Err(fault));
+    }
+    assert!(rt; check_pre_hash(&[0; 1024], &[0x06, 0x03, 0x2a, 0x03, 0x04]) == Ok(()));
+    assert!(rt; check_pre_hash(&[0; 32], &sha256) == Ok(()));
+    assert!(rt; check_pre_hash(&[], &[0x06, 0x01, 0x00]) == Ok(()));
+    Ok(())
+}
+
+/// Object identifiers of 3, 129 and 130 bytes.
+#[test]
+fn longest_identifiers(rt: HostRuntime) -> Result<(), Fail> {
+    assert!(rt; check_pre_hash(&[], &longest_oid()) == Ok(()));
+    assert!(rt; check_pre_hash(&[], &longer_oid()) == Err(Fault::OidNotDer));
+    Ok(())
+}

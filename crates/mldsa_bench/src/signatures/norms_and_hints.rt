@@ -1,0 +1,96 @@
+//! Signatures of set 44 over constant streams with another field of z, or another hint part, under a plain public key
+//! and under a prepared one.
+#![tactic(auto)]
+
+use crate::arithmetic::hint_parts::{part_of, rising};
+use crate::keys::sets::{Constant44, Judges, TestSet, Text};
+use crate::values::constant_streams::{signature_44, signature_65};
+use fips204::Fault;
+use fips204::encodings::sig_decode;
+use fips204::types::R;
+use std::test::Fail;
+
+/// The signature of set 44 with another first field of z.
+fn with_first_field(field: u32) -> [u8; 2420] {
+    let mut signature = signature_44();
+    let [low, middle, high, _] = field.to_le_bytes();
+    signature[32] = low;
+    signature[33] = middle;
+    signature[34] = signature[34] / 4 * 4 + high % 4;
+    signature
+}
+
+/// The signature of set 44 with another hint part: these places, zeros up to byte 80, and four counts.
+fn with_hint(places: &[u8], counts: [u8; 4]) -> [u8; 2420] {
+    let mut signature = signature_44();
+    signature[2336..2420].copy_from_slice(&part_of(places, counts));
+    signature
+}
+
+/// Whether a signature is accepted by the plain public key, and whether by the prepared one.
+fn accepted(signature: [u8; 2420]) -> Result<[bool; 2], Fault> {
+    let text = Text::Message(b"abc", &[]);
+    let key = Constant44::public()?;
+    let prepared = Constant44::prepared_public(&key)?;
+    Ok([
+        key.accepts(&text, &signature),
+        prepared.accepts(&text, &signature),
+    ])
+}
+
+/// The first field of z: 78 is rejected, 79 and 262065 accepted, 262066 rejected, by plain and prepared
+/// public keys.
+#[test]
+fn range_of_z(rt: HostRuntime) {
+    for (field, yes) in [(78, false), (79, true), (262065, true), (262066, false)] {
+        assert_eq!(rt;
+            accepted(with_first_field(field)),
+            Ok([yes; 2]),
+            "field {field}"
+        );
+    }
+}
+
+/// Eight hint parts in one signature whose hash does not depend on them: accepted if and only if they spell
+/// a hint, by plain and prepared public keys.
+#[test]
+fn hints_of_signatures(rt: HostRuntime) {
+    let mut late = [0u8; 80];
+    late[79] = 1;
+    assert_eq!(rt; accepted(with_hint(&[], [0, 0, 0, 1])), Ok([true; 2]));
+    assert_eq!(rt; accepted(with_hint(&[1], [0, 0, 0, 0])), Ok([false; 2]));
+    assert_eq!(rt;
+        accepted(with_hint(&rising(), [80, 80, 80, 80])),
+        Ok([true; 2])
+    );
+    assert_eq!(rt;
+        accepted(with_hint(&rising(), [81, 81, 81, 81])),
+        Ok([false; 2])
+    );
+    assert_eq!(rt;
+        accepted(with_hint(&[0xff, 0x00], [1, 2, 2, 2])),
+        Ok([true; 2])
+    );
+    assert_eq!(rt; accepted(with_hint(&[5, 5], [2, 2, 2, 2])), Ok([false; 2]));
+    assert_eq!(rt; accepted(with_hint(&[1, 2], [2, 1, 2, 2])), Ok([false; 2]));
+    assert_eq!(rt; accepted(with_hint(&late, [0, 0, 0, 0])), Ok([false; 2]));
+}
+
+/// The first bytes of z in a signature.
+fn first_bytes<const N: usize>(z: &[u8]) -> [u8; N] {
+    let mut bytes = [0u8; N];
+    for i in 0..N {
+        bytes[i] = *z.get(i).unwrap_or(&0);
+    }
+    bytes
+}
+
+/// z begins with `53 55 4D` at set 44 and with `56 55 65 55 55` at set 65 over constant streams.
+#[test]
+fn first_bytes_of_z(rt: HostRuntime) {
+    assert_eq!(rt; first_bytes(&signature_44()[32..]), [0x53, 0x55, 0x4d]);
+    assert_eq!(rt;
+        first_bytes(&signature_65()[48..]),
+        [0x56, 0x55, 0x65, 0x55, 0x55]
+    );
+}
