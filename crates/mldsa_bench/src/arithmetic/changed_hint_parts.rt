@@ -148,25 +148,14 @@ fn sweep<const K: usize, const N: usize>(omega: i32) -> [Option<usize>; 3]
     ]
 }
 
-/// Three hint parts of set 44, and every part that differs from one of them in one byte, are read as a slow
+/// Three hint parts of each set, and every part that differs from one of them in one byte, are read as a slow
 /// decoder reads them; 257, 513 and 258 spell a hint.
 #[test]
-fn parts_changed_in_one_byte_at_set_44(rt: HostRuntime) {
-    assert!(rt; sweep::<4, 84>(80) == [Some(257), Some(513), Some(258)]);
-}
-
-/// Three hint parts of set 65, and every part that differs from one of them in one byte, are read as a slow
-/// decoder reads them; 257, 513 and 258 spell a hint.
-#[test]
-fn parts_changed_in_one_byte_at_set_65(rt: HostRuntime) {
-    assert!(rt; sweep::<6, 61>(55) == [Some(257), Some(513), Some(258)]);
-}
-
-/// Three hint parts of set 87, and every part that differs from one of them in one byte, are read as a slow
-/// decoder reads them; 257, 513 and 258 spell a hint.
-#[test]
-fn parts_changed_in_one_byte_at_set_87(rt: HostRuntime) {
-    assert!(rt; sweep::<8, 83>(75) == [Some(257), Some(513), Some(258)]);
+fn parts_changed_in_one_byte(rt: HostRuntime) {
+    let spelled = [Some(257), Some(513), Some(258)];
+    assert_eq!(rt; sweep::<4, 84>(80), spelled);
+    assert_eq!(rt; sweep::<6, 61>(55), spelled);
+    assert_eq!(rt; sweep::<8, 83>(75), spelled);
 }
 
 /// How many signatures of set 44 over constant streams are accepted: with this hint part, and with each that

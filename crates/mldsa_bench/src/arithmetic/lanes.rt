@@ -110,7 +110,7 @@ fn lane_of(rows: &[Lanes; 256], r: usize) -> [i32; 256]
 }
 
 /// The residues of numbers modulo `q`.
-fn residues(w: &[i32; 256]) -> [i32; 256] {
+pub fn residues(w: &[i32; 256]) -> [i32; 256] {
     let mut out = [0; 256];
     for n in 0..256usize {
         out[n] = w[n].rem_euclid(Q);

@@ -4,13 +4,14 @@
 ghost use Rattle.std.specs.Prelude.{◌≤◌, ◌<◌, ◌≤ℤ◌, ◌-ℤ◌, pos, nat_abs};
 ghost use Rattle.std.specs.List.{All};
 
-use fips204::Fault;
+use crate::arithmetic::lanes::residues;
 use fips204::hashing::sample_in_ball;
 use fips204::helpers::{Count, ZETA_TABLE_MONT, center_mod, infinity_norm, mont_reduce, to_mont};
 use fips204::ntt::{inv_ntt, ntt};
-use fips204_base::product::challenge_times_vector;
 use fips204::types::{R, T};
 use fips204::xof::Fill;
+use fips204::{Fault, Q};
+use fips204_base::product::challenge_times_vector;
 use std::test::Fail;
 
 /// Whether a number is reduced to this one.
@@ -183,29 +184,14 @@ fn product_of_transforms(a: [i32; 256], b: [i32; 256]) -> [i32; 256]
     counted_inv_ntt(pointwise(&first, &counted_ntt(b).0)).0
 }
 
-/// Whether a value is congruent to this one modulo `q`.
-fn is_congruent(value: i32, x: i32) -> bool {
-    value.rem_euclid(8380417) == x.rem_euclid(8380417)
-}
-
-/// Whether every value is congruent to this one modulo `q`.
-fn all_congruent(values: &[i32; 256], x: i32) -> bool {
-    for value in values {
-        if !is_congruent(*value, x) {
-            return false;
-        }
-    }
-    true
-}
-
 /// The transform of 1 is 1 everywhere, that of X begins with 1753 and 8378664, and each takes 1024 products
 /// and 2048 sums.
 #[test]
 fn transforms_of_one_and_x(rt: HostRuntime) {
     let (values, counted) = counted_ntt(monomial(0, 1));
-    assert!(rt; counted && all_congruent(&values, 1));
+    assert!(rt; counted && residues(&values) == [1; 256]);
     let (values, counted) = counted_ntt(monomial(1, 1));
-    assert!(rt; counted && is_congruent(values[0], 1753) && is_congruent(values[1], 8378664));
+    assert!(rt; counted && residues(&values).starts_with(&[1753, 8378664]));
 }
 
 /// Whether both ways to multiply X^255 by X give `q - 1` at place 0.
@@ -247,11 +233,11 @@ fn challenge_times_a_constant(rt: HostRuntime) -> Result<(), Fail> {
         let wanted = if i < 85 {
             2
         } else if i >= 218 && i % 2 == 0 {
-            -6
+            Q - 6
         } else {
-            -2
+            Q - 2
         };
-        assert!(rt; is_congruent(product[i], wanted), "place {i}");
+        assert_eq!(rt; product[i].rem_euclid(Q), wanted, "place {i}");
     }
     Ok(())
 }

@@ -3,6 +3,7 @@
 
 ghost use Rattle.std.specs.Prelude.{◌<◌};
 
+use crate::keys::public_key_bytes::counting;
 use crate::keys::sets::{Constant44, Constant65, Constant87, TestSet};
 use crate::values::constant_streams::{
     LOW_0, private_44, private_65, private_87, public_44, repeat,
@@ -40,16 +41,17 @@ fn pairs_of_each_set(rt: HostRuntime) {
     }
 }
 
-/// The public key of a pair of set 44 has bytes 55 as its hash.
+/// The public keys of a pair of set 44 and of bytes that count up have bytes 55 as their hash.
 #[test]
 fn hash_of_a_public_key(rt: HostRuntime) -> Result<(), Fail> {
     let (public, _) = Constant44::pair(&[7; 32])?;
     assert!(rt; *public.tr() == [0x55; 64]);
+    assert!(rt; *Public44::try_from_bytes(counting())?.tr() == [0x55; 64]);
     Ok(())
 }
 
-/// Whether a private key of these bytes has them again, or its error.
-fn comes_back<S: SerDes<ByteArray = [u8; N]> + Drop, const N: usize>(
+/// Whether a key of these bytes has them again, or its error.
+pub fn comes_back<S: SerDes<ByteArray = [u8; N]> + Drop, const N: usize>(
     bytes: &[u8; N],
 ) -> Result<bool, Fault> {
     Ok(S::try_from_bytes(*bytes)?.into_bytes() == *bytes)
@@ -91,33 +93,39 @@ fn wrong_field<S: SerDes<ByteArray = [u8; N]> + Drop, const N: usize>(
     None
 }
 
+/// The first such value of the first field of s1, in the low bits of byte 128, and of the last of s2, in the high bits of
+/// a byte, from `shift` on.
+fn wrong_fields<S: SerDes<ByteArray = [u8; N]> + Drop, const N: usize>(
+    key: &[u8; N],
+    last: usize,
+    shift: u8,
+    most: u8,
+) -> [Option<u8>; 2]
+    requires { shift < 8 }
+{
+    let mask = 0xff >> shift;
+    [
+        wrong_field::<S, N>(key, 128, mask, 0, most),
+        wrong_field::<S, N>(key, last, mask, shift, most),
+    ]
+}
+
 /// The first field of s1 and the last of s2 at each set, with every value of their bits: the same bytes come
 /// back up to 2 eta, and above it `KeyRange`.
 #[test]
 fn field_ranges_of_each_set(rt: HostRuntime) {
+    let none = [None; 2];
     assert_eq!(rt;
-        wrong_field::<Private44, 2560>(&private_44(), 128, 0x07, 0, 4),
-        None
+        wrong_fields::<Private44, 2560>(&private_44(), 895, 5, 4),
+        none
     );
     assert_eq!(rt;
-        wrong_field::<Private44, 2560>(&private_44(), 895, 0x07, 5, 4),
-        None
+        wrong_fields::<Private65, 4032>(&private_65(), 1535, 4, 8),
+        none
     );
     assert_eq!(rt;
-        wrong_field::<Private65, 4032>(&private_65(), 128, 0x0f, 0, 8),
-        None
-    );
-    assert_eq!(rt;
-        wrong_field::<Private65, 4032>(&private_65(), 1535, 0x0f, 4, 8),
-        None
-    );
-    assert_eq!(rt;
-        wrong_field::<Private87, 4896>(&private_87(), 128, 0x07, 0, 4),
-        None
-    );
-    assert_eq!(rt;
-        wrong_field::<Private87, 4896>(&private_87(), 1567, 0x07, 5, 4),
-        None
+        wrong_fields::<Private87, 4896>(&private_87(), 1567, 5, 4),
+        none
     );
 }
 
@@ -143,26 +151,15 @@ fn public_key_of_a_key_with_another_hash(rt: HostRuntime) -> Result<(), Fail> {
     Ok(())
 }
 
-/// `get_public_key` does not look at t0.
+/// `get_public_key` does not look at t0, with which the key is no longer whole.
 #[test]
 fn public_key_of_a_key_with_other_low_parts(rt: HostRuntime) -> Result<(), Fail> {
     let mut bytes = private_44();
     for part in [[0u8; 13], LOW_0] {
         repeat(&mut bytes[896..], &part);
-        let key = Private44::try_from_bytes(bytes)?.get_public_key()?;
-        assert!(rt; key.into_bytes() == public_44());
+        let private = Private44::try_from_bytes(bytes)?;
+        assert_eq!(rt; private.is_whole(), Ok(false));
+        assert!(rt; private.get_public_key()?.into_bytes() == public_44());
     }
-    Ok(())
-}
-
-/// A key of a pair is whole, one with another t0 is not, and where the matrix passes its limit it is `SamplingLimit`.
-#[test]
-fn keys_that_are_whole(rt: HostRuntime) -> Result<(), Fail> {
-    let mut bytes = private_44();
-    assert_eq!(rt; Private44::try_from_bytes(bytes)?.is_whole(), Ok(true));
-    let key = ml_dsa_44::PrivateKey::<Fill<0x55>, Fill<0xff>>::try_from_bytes(bytes)?;
-    assert_eq!(rt; key.is_whole(), Err(Fault::SamplingLimit));
-    repeat(&mut bytes[896..], &LOW_0);
-    assert_eq!(rt; Private44::try_from_bytes(bytes)?.is_whole(), Ok(false));
     Ok(())
 }

@@ -58,8 +58,7 @@ where
         match *text {
             Text::Message(message, ctx) => self.try_sign_with_seed(seed, message, ctx),
             Text::Digest(digest, ctx, oid) => self.try_hash_sign_with_seed(seed, digest, ctx, oid),
-            Text::Framed(m) => self.sign_internal(&mut DummyRng { bytes: *seed }, m, true),
-            Text::Hash(mu) => self.sign_mu(&mut DummyRng { bytes: *seed }, mu, true),
+            _ => self.drawn(&mut DummyRng { bytes: *seed }, true, text),
         }
     }
 
@@ -89,8 +88,7 @@ where
         match *text {
             Text::Message(message, ctx) => self.try_sign_with_seed(seed, message, ctx),
             Text::Digest(digest, ctx, oid) => self.try_hash_sign_with_seed(seed, digest, ctx, oid),
-            Text::Framed(m) => self.sign_internal(&mut DummyRng { bytes: *seed }, m, true),
-            Text::Hash(mu) => self.sign_mu(&mut DummyRng { bytes: *seed }, mu, true),
+            _ => self.drawn(&mut DummyRng { bytes: *seed }, true, text),
         }
     }
 
@@ -174,7 +172,8 @@ pub fn is_same<T: PartialEq + Drop>(answer: Result<T, Fault>, wanted: &T) -> Res
     }
 }
 
-/// A set's keys and signature where every byte of `H` is 55 and every byte of `G` is 00, and the call that only it has.
+/// What is a set's own: its keys and signature where every byte of `H` is 55 and every byte of `G` is 00, and its
+/// function that draws a pair.
 pub trait Row<H, G>: Set {
     /// A public key.
     type Public;
@@ -185,14 +184,11 @@ pub trait Row<H, G>: Set {
     /// The signature.
     fn signature() -> Self::Signature;
 
-    /// The public key, of its bytes.
-    fn public() -> Result<Self::Public, Fault>;
+    /// The bytes of the public key.
+    fn public() -> Self::PublicKey;
 
     /// The private key, of its bytes.
     fn private() -> Result<Self::Private, Fault>;
-
-    /// Whether a public key has these bytes.
-    fn is_public(key: Self::Public) -> bool;
 
     /// Whether a private key has these bytes.
     fn is_private(key: Self::Private) -> bool;
@@ -204,7 +200,7 @@ pub trait Row<H, G>: Set {
         private: Self::Private,
     ) -> Result<[Vec<u8>; 2], AllocError>;
 
-    /// Both keys of what a generator returns, by the function of the set.
+    /// Both keys of what a generator returns.
     fn drawn_pair<R: CryptoRngCore>(rng: &mut R) -> Result<(Self::Public, Self::Private), Fault>;
 }
 
@@ -217,16 +213,12 @@ impl<H: Xof, G: Xof> Row<H, G> for MlDsa44 {
         constant::signature_44()
     }
 
-    fn public() -> Result<ml_dsa_44::PublicKey<H, G>, Fault> {
-        ml_dsa_44::PublicKey::<H, G>::try_from_bytes(constant::public_44())
+    fn public() -> [u8; 1312] {
+        constant::public_44()
     }
 
     fn private() -> Result<ml_dsa_44::PrivateKey<H, G>, Fault> {
         ml_dsa_44::PrivateKey::<H, G>::try_from_bytes(constant::private_44())
-    }
-
-    fn is_public(key: ml_dsa_44::PublicKey<H, G>) -> bool {
-        key.into_bytes() == constant::public_44()
     }
 
     fn is_private(key: ml_dsa_44::PrivateKey<H, G>) -> bool {
@@ -258,16 +250,12 @@ impl<H: Xof, G: Xof> Row<H, G> for MlDsa65 {
         constant::signature_65()
     }
 
-    fn public() -> Result<ml_dsa_65::PublicKey<H, G>, Fault> {
-        ml_dsa_65::PublicKey::<H, G>::try_from_bytes(constant::public_65())
+    fn public() -> [u8; 1952] {
+        constant::public_65()
     }
 
     fn private() -> Result<ml_dsa_65::PrivateKey<H, G>, Fault> {
         ml_dsa_65::PrivateKey::<H, G>::try_from_bytes(constant::private_65())
-    }
-
-    fn is_public(key: ml_dsa_65::PublicKey<H, G>) -> bool {
-        key.into_bytes() == constant::public_65()
     }
 
     fn is_private(key: ml_dsa_65::PrivateKey<H, G>) -> bool {
@@ -299,16 +287,12 @@ impl<H: Xof, G: Xof> Row<H, G> for MlDsa87 {
         constant::signature_87()
     }
 
-    fn public() -> Result<ml_dsa_87::PublicKey<H, G>, Fault> {
-        ml_dsa_87::PublicKey::<H, G>::try_from_bytes(constant::public_87())
+    fn public() -> [u8; 2592] {
+        constant::public_87()
     }
 
     fn private() -> Result<ml_dsa_87::PrivateKey<H, G>, Fault> {
         ml_dsa_87::PrivateKey::<H, G>::try_from_bytes(constant::private_87())
-    }
-
-    fn is_public(key: ml_dsa_87::PublicKey<H, G>) -> bool {
-        key.into_bytes() == constant::public_87()
     }
 
     fn is_private(key: ml_dsa_87::PrivateKey<H, G>) -> bool {
@@ -478,7 +462,7 @@ where
     }
 
     fn public() -> Result<Self::Public, Fault> {
-        S::public()
+        PublicKey::<K, L, H, G>::try_from_bytes(S::public())
     }
 
     fn private() -> Result<Self::Private, Fault> {
@@ -486,11 +470,11 @@ where
     }
 
     fn is_pair(public: Self::Public, private: Self::Private) -> bool {
-        S::is_public(public) && S::is_private(private)
+        public.into_bytes() == S::public() && S::is_private(private)
     }
 
     fn is_public(public: Self::Public) -> bool {
-        S::is_public(public)
+        public.into_bytes() == S::public()
     }
 
     fn pair(seed: &[u8; 32]) -> Result<(Self::Public, Self::Private), Fault> {

@@ -1,35 +1,15 @@
 //! Samplers over fronts that are written out, and over the counter streams.
 #![tactic(auto)]
 
-use crate::streams::written_fronts::{FourthTriples, Patterned, Turn};
+use crate::streams::sampler_limits::challenge_with;
+use crate::streams::written_fronts::{FourthTriples, Patterned};
 use fips204::Fault;
 use fips204::conversion::bit_unpack;
-use fips204::hashing::{expand_a, expand_mask, rej_bounded_poly, rej_ntt_poly, sample_in_ball};
+use fips204::hashing::{expand_a, expand_mask, rej_bounded_poly, sample_in_ball};
 use fips204::helpers::bit_length;
-use fips204::types::{R, T};
+use fips204::types::R;
 use fips204::xof::{Fill, Sha256Ctr, Sha512Ctr, Xof, XofReader};
 use std::test::Fail;
-
-/// Every fourth triple 0 and the rest FF: an entry of zeros, whose last value comes from triple 1023; with
-/// one value fewer, `SamplingLimit`.
-#[test]
-fn matrix_entries_at_their_last_triple(rt: HostRuntime) -> Result<(), Fail> {
-    let T(values) = rej_ntt_poly::<Patterned<FourthTriples<0>>>(&[b"abc"])?;
-    assert!(rt; values == [0; 256]);
-    let late = rej_ntt_poly::<Patterned<FourthTriples<12>>>(&[b"abc"]);
-    assert!(rt; matches!(late, Err(Fault::SamplingLimit)));
-    Ok(())
-}
-
-/// 896 bytes FF and then 00: all coefficients 2. With 897, `SamplingLimit`.
-#[test]
-fn small_polynomials_at_their_last_byte(rt: HostRuntime) -> Result<(), Fail> {
-    let R(values) = rej_bounded_poly::<Patterned<Turn<896, 0xff, 0>>>(2, &[b"abc"])?;
-    assert!(rt; values == [2; 256]);
-    let late = rej_bounded_poly::<Patterned<Turn<897, 0xff, 0>>>(2, &[b"abc"]);
-    assert!(rt; matches!(late, Err(Fault::SamplingLimit)));
-    Ok(())
-}
 
 /// Bytes 10: at eta 2 the coefficients 2, 1 in turn, at eta 4 the coefficients 4, 3.
 #[test]
@@ -45,25 +25,7 @@ fn low_halves_come_first(rt: HostRuntime) -> Result<(), Fail> {
 #[test]
 fn challenge_over_one_byte(rt: HostRuntime) -> Result<(), Fail> {
     let R(c) = sample_in_ball::<Fill<0x55>>(39, &[0x55; 32])?;
-    let mut wanted = [0i32; 256];
-    wanted[85] = -1;
-    for i in 218..256usize {
-        wanted[i] = if i % 2 == 0 { -1 } else { 1 };
-    }
-    assert!(rt; c == wanted);
-    Ok(())
-}
-
-/// Eight sign bytes FF, 985 bytes FF and then 00: -1 at index 0 and from 218 on. With 986, `SamplingLimit`.
-#[test]
-fn challenges_at_their_last_byte(rt: HostRuntime) -> Result<(), Fail> {
-    let R(c) = sample_in_ball::<Patterned<Turn<993, 0xff, 0>>>(39, b"abc")?;
-    let mut wanted = [0i32; 256];
-    wanted[0] = -1;
-    wanted[218..].fill(-1);
-    assert!(rt; c == wanted);
-    let late = sample_in_ball::<Patterned<Turn<994, 0xff, 0>>>(39, b"abc");
-    assert!(rt; matches!(late, Err(Fault::SamplingLimit)));
+    assert!(rt; c == challenge_with(85, 1));
     Ok(())
 }
 
@@ -77,7 +39,7 @@ fn all_zero<G: Xof>() -> Result<bool, Fault> {
     )
 }
 
-/// A matrix over that stream, whose entries use their last triple; with one value fewer, `SamplingLimit`.
+/// A matrix whose entries use their last triple, every fourth 0 and the rest FF; with one value fewer, `SamplingLimit`.
 #[test]
 fn matrices_at_their_last_triple(rt: HostRuntime) -> Result<(), Fail> {
     assert!(rt; all_zero::<Patterned<FourthTriples<0>>>() == Ok(true));

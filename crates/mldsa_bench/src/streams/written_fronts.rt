@@ -38,10 +38,6 @@ fn front_of<P: Pattern, const N: usize>() -> [u8; N]
 }
 
 impl<P: Pattern> Xof for PatternedBy<P, 4096> {
-    ghost use Rattle.std.specs.Prelude.{map};
-    ghost use Rattle.std.specs.List.{range_with_len};
-    ghost use Rattle.std.proofs.lemmas.List.FromFn.{length-map-range_with_len};
-
     type Reader = FrontReader<4096>;
 
     const FRONT: usize = 4096;
@@ -62,10 +58,6 @@ impl<P: Pattern> Xof for PatternedBy<P, 4096> {
 }
 
 impl<P: Pattern> Xof for PatternedBy<P, 4097> {
-    ghost use Rattle.std.specs.Prelude.{map};
-    ghost use Rattle.std.specs.List.{range_with_len};
-    ghost use Rattle.std.proofs.lemmas.List.FromFn.{length-map-range_with_len};
-
     type Reader = FrontReader<4097>;
 
     const FRONT: usize = 4097;
@@ -86,10 +78,6 @@ impl<P: Pattern> Xof for PatternedBy<P, 4097> {
 }
 
 impl<P: Pattern> Xof for PatternedBy<P, 5000> {
-    ghost use Rattle.std.specs.Prelude.{map};
-    ghost use Rattle.std.specs.List.{range_with_len};
-    ghost use Rattle.std.proofs.lemmas.List.FromFn.{length-map-range_with_len};
-
     type Reader = FrontReader<5000>;
 
     const FRONT: usize = 5000;
@@ -110,10 +98,6 @@ impl<P: Pattern> Xof for PatternedBy<P, 5000> {
 }
 
 impl<P: Pattern> Xof for PatternedBy<P, 8192> {
-    ghost use Rattle.std.specs.Prelude.{map};
-    ghost use Rattle.std.specs.List.{range_with_len};
-    ghost use Rattle.std.proofs.lemmas.List.FromFn.{length-map-range_with_len};
-
     type Reader = FrontReader<8192>;
 
     const FRONT: usize = 8192;
@@ -146,34 +130,20 @@ impl<const COUNT: usize, const FIRST: u8, const THEN: u8> Pattern for Turn<COUNT
     }
 }
 
-/// The last triple of each four, from place `START` on, is of bytes 0, and every other byte is 255.
-pub struct FourthTriples<const START: usize>;
-
-impl<const START: usize> Pattern for FourthTriples<START> {
-    ghost use Rattle.std.specs.Prelude.{◌/◌, ◌%◌, ◌&&◌, nat_le, if◌then◌else◌};
-
-    ghost byte = { λ place. if nat_le START place && nat_le 9 (place % 12) then 0 else 255 };
-
-    fn byte_at(place: usize) -> u8 {
-        if START <= place && 9 <= place % 12 {
-            0
-        } else {
-            255
-        }
-    }
-}
-
-/// The last triple of each four, up to place `END`, is of bytes 0, and every other byte up to there is 255;
+/// The last triple of each four, from place `START` on, is of bytes 0, and every other byte up to place `END` is 255;
 /// zeros follow.
-pub struct FourthTriplesTo<const END: usize>;
+pub struct FourthTriplesTo<const START: usize, const END: usize>;
 
-impl<const END: usize> Pattern for FourthTriplesTo<END> {
-    ghost use Rattle.std.specs.Prelude.{◌/◌, ◌%◌, ◌||◌, ◌&&◌, nat_lt, nat_le, if◌then◌else◌};
+/// The same up to the end of 4096 bytes.
+pub type FourthTriples<const START: usize> = FourthTriplesTo<START, 4096>;
 
-    ghost byte = { λ place. if nat_lt 11 place && nat_le 9 (place % 12) || nat_le END place then 0 else 255 };
+impl<const START: usize, const END: usize> Pattern for FourthTriplesTo<START, END> {
+    ghost use Rattle.std.specs.Prelude.{◌%◌, ◌||◌, ◌&&◌, nat_le, if◌then◌else◌};
+
+    ghost byte = { λ place. if nat_le START place && nat_le 9 (place % 12) || nat_le END place then 0 else 255 };
 
     fn byte_at(place: usize) -> u8 {
-        if 11 < place && 9 <= place % 12 || END <= place {
+        if START <= place && 9 <= place % 12 || END <= place {
             0
         } else {
             255
