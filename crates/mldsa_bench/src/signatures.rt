@@ -6,6 +6,7 @@ pub mod constant_streams;
 pub mod counter_streams;
 pub mod digests;
 pub mod drawing;
+pub mod each_set;
 pub mod framing;
 pub mod generators;
 pub mod norms_and_hints;

@@ -1,8 +1,8 @@
 //! Runs of the program's `batch`.
 #![tactic(auto)]
 
-use crate::program::commands::{pieces, runs_as};
-use crate::program::runs::{digit_lines, hex_lines, told};
+use crate::program::commands::runs_as;
+use crate::program::runs::{NO, Told, YES, digit_lines, hex_lines, told};
 use crate::values::RECORDED;
 use crate::values::constant_streams::{public_44, signature_44};
 use mldsa_engine::RunFault;
@@ -23,12 +23,7 @@ pub fn refused_44() -> [u8; 2420] {
 
 /// What a batch at set 44 with the constant public key returns for these lines, whether it writes this text, and how
 /// many bytes it leaves unread.
-fn said(
-    alloc: Global,
-    streams: &str,
-    lines: &[&[u8]],
-    text: &[u8],
-) -> Result<(Result<bool, RunFault>, bool, usize), AllocError> {
+fn said(alloc: Global, streams: &str, lines: &[&[u8]], text: &[u8]) -> Result<Told, AllocError> {
     let mut input = hex_lines(alloc, &[&public_44()])?;
     input.extend_from_slice(hex_lines(alloc, lines)?.as_slice())?;
     told(alloc, [streams, "batch", "44"], input.as_slice(), text)
@@ -40,15 +35,14 @@ fn said(
 fn answers_in_the_order_of_the_entries(rt: HostRuntime) -> Result<(), Fail> {
     let alloc = rt.alloc();
     let (good, bad) = (signature_44(), refused_44());
-    let (yes, no) = ((Ok(true), true, 0), (Ok(false), true, 0));
     let lines = [[].as_slice(), &[0, 2], &good, &[0], &bad, &[0]];
-    assert_eq!(rt; said(alloc, "fill55", &lines, b"yes\nno\n")?, no);
+    assert_eq!(rt; said(alloc, "fill55", &lines, b"yes\nno\n")?, NO);
     let lines = [[].as_slice(), &[0, 2], &bad, &[0], &good, &[0]];
-    assert_eq!(rt; said(alloc, "fill55", &lines, b"no\nyes\n")?, no);
+    assert_eq!(rt; said(alloc, "fill55", &lines, b"no\nyes\n")?, NO);
     let lines = [[].as_slice(), &[0, 2], &good, &[0], &good, b"another"];
-    assert_eq!(rt; said(alloc, "fill55", &lines, b"yes\nyes\n")?, yes);
+    assert_eq!(rt; said(alloc, "fill55", &lines, b"yes\nyes\n")?, YES);
     let lines = [[].as_slice(), &[0, 1], &bad, &[]];
-    assert_eq!(rt; said(alloc, "fill55", &lines, b"no\n")?, no);
+    assert_eq!(rt; said(alloc, "fill55", &lines, b"no\n")?, NO);
     Ok(())
 }
 
@@ -57,10 +51,7 @@ fn answers_in_the_order_of_the_entries(rt: HostRuntime) -> Result<(), Fail> {
 fn batch_without_an_entry(rt: HostRuntime) -> Result<(), Fail> {
     let alloc = rt.alloc();
     for streams in ["sha2", "fill55", "fillff"] {
-        assert_eq!(rt;
-            said(alloc, streams, &[&[], &[0, 0]], b"")?,
-            (Ok(true), true, 0)
-        );
+        assert_eq!(rt; said(alloc, streams, &[&[], &[0, 0]], b"")?, YES);
     }
     let lines = [[].as_slice(), &[0, 0], &signature_44(), &[0]];
     assert_eq!(rt; said(alloc, "fill55", &lines, b"")?, (Ok(true), true, 4844));
@@ -71,15 +62,10 @@ fn batch_without_an_entry(rt: HostRuntime) -> Result<(), Fail> {
 #[test]
 fn counts_of_another_length(rt: HostRuntime) -> Result<(), Fail> {
     for count in [[].as_slice(), &[1], &[0, 0, 1]] {
-        let fault = RunFault::Length {
-            line: 3,
-            wants: 2,
-            has: count.len(),
-        };
-        assert_eq!(rt;
-            said(rt.alloc(), "fill55", &[&[], count], b"")?,
-            (Err(fault), true, 0)
-        );
+        let (line, wants, has) = (3, 2, count.len());
+        let fault = Err(RunFault::Length { line, wants, has });
+        let answer = said(rt.alloc(), "fill55", &[&[], count], b"")?;
+        assert_eq!(rt; answer, (fault, true, 0));
     }
     Ok(())
 }
@@ -106,18 +92,13 @@ fn long_batch(alloc: Global, count: usize) -> Result<Vec<u8>, AllocError> {
 fn high_byte_of_a_count_stands_first(rt: HostRuntime) -> Result<(), Fail> {
     let alloc = rt.alloc();
     let input = long_batch(alloc, 255)?;
-    let missing = Err(RunFault::Missing { line: 514 });
-    assert_eq!(rt;
-        told(alloc, BATCH_44, input.as_slice(), b"")?,
-        (missing, true, 0)
-    );
+    let missing = (Err(RunFault::Missing { line: 514 }), true, 0);
+    assert_eq!(rt; told(alloc, BATCH_44, input.as_slice(), b"")?, missing);
     let mut input = long_batch(alloc, 256)?;
     input.extend_from_slice(b"rest")?;
     let written = copies(alloc, b"yes\n", 256)?;
-    assert_eq!(rt;
-        told(alloc, BATCH_44, input.as_slice(), written.as_slice())?,
-        (Ok(true), true, 4)
-    );
+    let answer = told(alloc, BATCH_44, input.as_slice(), written.as_slice())?;
+    assert_eq!(rt; answer, (Ok(true), true, 4));
     Ok(())
 }
 
@@ -125,13 +106,13 @@ fn high_byte_of_a_count_stands_first(rt: HostRuntime) -> Result<(), Fail> {
 #[test]
 fn batch_over_a_key_without_matrix(rt: HostRuntime) -> Result<(), Fail> {
     let alloc = rt.alloc();
-    let (good, no) = (signature_44(), (Ok(false), true, 0));
+    let good = signature_44();
     let lines = [[].as_slice(), &[0, 2], &good, &[0], &good, &[0]];
-    assert_eq!(rt; said(alloc, "fillff", &lines, b"no\nno\n")?, no);
+    assert_eq!(rt; said(alloc, "fillff", &lines, b"no\nno\n")?, NO);
     let lines = [[].as_slice(), &[0, 1], &good, &[0]];
-    assert_eq!(rt; said(alloc, "fillff", &lines, b"no\n")?, no);
+    assert_eq!(rt; said(alloc, "fillff", &lines, b"no\n")?, NO);
     let lines = [[0; 256].as_slice(), &[0, 1], &good, &[0]];
-    assert_eq!(rt; said(alloc, "fillff", &lines, b"no\n")?, no);
+    assert_eq!(rt; said(alloc, "fillff", &lines, b"no\n")?, NO);
     Ok(())
 }
 
@@ -140,15 +121,9 @@ fn batch_over_a_key_without_matrix(rt: HostRuntime) -> Result<(), Fail> {
 fn long_context_of_a_batch(rt: HostRuntime) -> Result<(), Fail> {
     let good = signature_44();
     let lines = [[0; 255].as_slice(), &[0, 2], &good, &[0], &good, &[0]];
-    assert_eq!(rt;
-        said(rt.alloc(), "fill55", &lines, b"yes\nyes\n")?,
-        (Ok(true), true, 0)
-    );
+    assert_eq!(rt; said(rt.alloc(), "fill55", &lines, b"yes\nyes\n")?, YES);
     let lines = [[0; 256].as_slice(), &[0, 2], &good, &[0], &good, &[0]];
-    assert_eq!(rt;
-        said(rt.alloc(), "fill55", &lines, b"no\nno\n")?,
-        (Ok(false), true, 0)
-    );
+    assert_eq!(rt; said(rt.alloc(), "fill55", &lines, b"no\nno\n")?, NO);
     Ok(())
 }
 
@@ -156,18 +131,12 @@ fn long_context_of_a_batch(rt: HostRuntime) -> Result<(), Fail> {
 fn batches_run(alloc: Global, recorded: [&str; 4]) -> Result<bool, AllocError> {
     let [set, public, _, signature] = recorded;
     let call = ["sha2", "batch", set];
-    let entry = pieces(signature).wrapping_add(3);
-    let two = pieces(public)
-        .wrapping_add(entry)
-        .wrapping_add(entry)
-        .wrapping_add(2);
-    let lines = [public, "", "0002", signature, "00", signature, "00"];
-    let same = runs_as(alloc, call, &lines, two, true, &["yes", "yes"])?;
-    let lines = [
+    let two = [public, "", "0002", signature, "00", signature, "00"];
+    let three = [
         public, "", "0003", signature, "00", signature, "01", signature, "00",
     ];
-    let three = two.wrapping_add(entry);
-    Ok(same && runs_as(alloc, call, &lines, three, false, &["yes", "no", "yes"])?)
+    let same = runs_as(alloc, call, &two, true, &["yes", "yes"])?;
+    Ok(same && runs_as(alloc, call, &three, false, &["yes", "no", "yes"])?)
 }
 
 /// `sha2` batches at each set, `yes` twice, and `yes`, `no`, `yes`, with reads and writes counted and what
@@ -186,17 +155,12 @@ fn batches_of_each_set(rt: HostRuntime) -> Result<(), Fail> {
 #[test]
 fn faults_before_answers(rt: HostRuntime) -> Result<(), Fail> {
     let alloc = rt.alloc();
-    let mut input = hex_lines(
-        alloc,
-        &[&public_44(), &[0; 256], &[0, 2], &signature_44(), &[]],
-    )?;
+    let (key, good) = (public_44(), signature_44());
+    let mut input = hex_lines(alloc, &[&key, &[0; 256], &[0, 2], &good, &[]])?;
     input.extend_from_slice(digit_lines(alloc, &[(b'0', 4838)])?.as_slice())?;
-    let fault = RunFault::Length {
-        line: 6,
-        wants: 2420,
-        has: 2419,
-    };
-    let (answer, nothing, _) = told(alloc, BATCH_44, input.as_slice(), b"")?;
-    assert_eq!(rt; (answer, nothing), (Err(fault), true));
+    let (line, wants, has) = (6, 2420, 2419);
+    let fault = Err(RunFault::Length { line, wants, has });
+    let answer = told(alloc, BATCH_44, input.as_slice(), b"")?;
+    assert_eq!(rt; answer, (fault, true, 0));
     Ok(())
 }

@@ -1,7 +1,7 @@
 //! Runs of every command at every set that succeed, with their reads and writes counted.
 #![tactic(auto)]
 
-use crate::program::runs::{BY_BYTES, Manner, WHOLE, is_as, run_of, text_lines};
+use crate::program::runs::{BY_BYTES, WHOLE, is_as, may_vary, run_of, text_lines};
 use crate::values::RECORDED;
 use crate::values::constant_streams::{
     private_44, private_65, private_87, public_44, public_65, public_87, signature_44,
@@ -13,29 +13,23 @@ use std::test::Fail;
 /// 32 bytes 00, in hex.
 pub const ZEROS: &str = "0000000000000000000000000000000000000000000000000000000000000000";
 
-/// Whether a run on these bytes and good devices returns and writes this, makes so many reads and writes, and leaves
-/// four bytes unread.
-fn succeeds(
-    alloc: Global,
-    manner: Manner,
-    call: [&str; 3],
-    bytes: &[u8],
-    answer: bool,
-    written: &[u8],
-    calls: [usize; 2],
-) -> Result<bool, AllocError> {
-    let outcome = run_of(alloc, manner, call, bytes)?;
-    let same = is_as(&outcome, Ok(answer), written, calls[1]);
-    Ok(same && outcome.reads == calls[0] && outcome.unread == 4)
+/// The reads of the lines of a command where the reader returns all that it is asked for: pieces of 4096 bytes of a
+/// line of known length, and single bytes of any other, each with its LF.
+fn reads_of(command: &str, lines: &[&str]) -> usize {
+    let mut reads = lines.len();
+    for (index, line) in lines.iter().enumerate() {
+        let piece = if may_vary(command, index) { 1 } else { 4096 };
+        reads = reads.wrapping_add(line.len() / piece);
+    }
+    reads
 }
 
-/// Whether a run returns and writes this, with this number of reads where the reader returns all that it is asked for,
-/// and leaves what follows unread; and the same where each device moves a byte a call.
+/// Whether a run returns and writes this, reads no more often than its lines need, and leaves what follows unread;
+/// and the same where each device moves a byte a call.
 pub fn runs_as(
     alloc: Global,
     call: [&str; 3],
     lines: &[&str],
-    reads: usize,
     answer: bool,
     written: &[&str],
 ) -> Result<bool, AllocError> {
@@ -43,14 +37,13 @@ pub fn runs_as(
     let written = text_lines(alloc, written)?;
     let by_bytes = [bytes.len(), written.len()];
     bytes.extend_from_slice(b"rest")?;
-    let (bytes, written) = (bytes.as_slice(), written.as_slice());
-    let whole = succeeds(alloc, WHOLE, call, bytes, answer, written, [reads, 1])?;
-    Ok(whole && succeeds(alloc, BY_BYTES, call, bytes, answer, written, by_bytes)?)
-}
-
-/// The reads of a line of known length with its LF, in pieces of 4096 bytes.
-pub fn pieces(line: &str) -> usize {
-    (line.len() / 4096).wrapping_add(1)
+    let mut same = true;
+    for (manner, calls) in [(WHOLE, [reads_of(call[1], lines), 1]), (BY_BYTES, by_bytes)] {
+        let outcome = run_of(alloc, manner, call, bytes.as_slice())?;
+        same &= is_as(&outcome, Ok(answer), written.as_slice(), calls[1]);
+        same &= outcome.reads == calls[0] && outcome.unread == 4;
+    }
+    Ok(same)
 }
 
 /// Whether `keygen`, `id`, `sign` and `check` run as a pair and a signature have it that belong to 32 bytes 00 and the
@@ -58,30 +51,14 @@ pub fn pieces(line: &str) -> usize {
 fn makers_run(alloc: Global, streams: &str, recorded: [&str; 4]) -> Result<bool, AllocError> {
     let [set, public, private, signature] = recorded;
     // A private key has the hash of its public key after two seeds.
-    let hash = private.get(128..256).unwrap_or("");
+    let id = [public, private.get(128..256).unwrap_or("")];
+    let sign = [private, ZEROS, "", "00"];
+    let check = [ZEROS, ZEROS, "", "00"];
     let pair = [public, private];
-    let id = [public, hash];
-    let lines = [private, ZEROS, "", "00"];
-    let seeds = [ZEROS, ZEROS, "", "00"];
-    let reads = pieces(private).wrapping_add(5);
-    let mut same = runs_as(alloc, [streams, "keygen", set], &[ZEROS], 1, true, &pair)?;
-    same &= runs_as(
-        alloc,
-        [streams, "id", set],
-        &[public],
-        pieces(public),
-        true,
-        &id,
-    )?;
-    same &= runs_as(
-        alloc,
-        [streams, "sign", set],
-        &lines,
-        reads,
-        true,
-        &[signature],
-    )?;
-    same &= runs_as(alloc, [streams, "check", set], &seeds, 6, true, &["yes"])?;
+    let mut same = runs_as(alloc, [streams, "keygen", set], &[ZEROS], true, &pair)?;
+    same &= runs_as(alloc, [streams, "id", set], &[public], true, &id)?;
+    same &= runs_as(alloc, [streams, "sign", set], &sign, true, &[signature])?;
+    same &= runs_as(alloc, [streams, "check", set], &check, true, &["yes"])?;
     Ok(same)
 }
 
@@ -94,20 +71,14 @@ fn verifies(
     answer: bool,
 ) -> Result<bool, AllocError> {
     let [set, public, _, signature] = recorded;
+    let call = [streams, "verify", set];
     let lines = [public, signature, text[0], text[1]];
-    let reads = pieces(public)
-        .wrapping_add(pieces(signature))
-        .wrapping_add(text[0].len())
-        .wrapping_add(text[1].len())
-        .wrapping_add(2);
-    let written = if answer { "yes" } else { "no" };
     runs_as(
         alloc,
-        [streams, "verify", set],
+        call,
         &lines,
-        reads,
         answer,
-        &[written],
+        &[if answer { "yes" } else { "no" }],
     )
 }
 
@@ -134,10 +105,8 @@ fn commands_run(
 fn each_command_at_each_set(rt: HostRuntime) -> Result<(), Fail> {
     for recorded in RECORDED {
         let set = recorded[0];
-        assert!(rt;
-            commands_run(rt.alloc(), "sha2", recorded, false)?,
-            "set {set}"
-        );
+        let same = commands_run(rt.alloc(), "sha2", recorded, false)?;
+        assert!(rt; same, "set {set}");
     }
     Ok(())
 }

@@ -1,10 +1,10 @@
 //! Each line of an input is judged before anything that follows it is read.
 #![tactic(auto)]
 
-ghost use Rattle.std.specs.Prelude.{◌<◌};
-
 use crate::program::commands::ZEROS;
-use crate::program::runs::{BY_BYTES, Manner, WHOLE, digit_lines, is_as, run_of, text_lines};
+use crate::program::runs::{
+    BY_BYTES, Manner, WHOLE, digit_lines, is_as, may_vary, run_of, text_lines,
+};
 use crate::values::RECORDED;
 use mldsa_engine::RunFault;
 use std::alloc::{AllocError, Global};
@@ -44,22 +44,6 @@ fn is_judged(
     ends_with(alloc, call, bytes.as_slice(), judged, fault)
 }
 
-/// Whether a line of so many bytes 00 ends a run in what the lines before it call for: so many bytes.
-fn is_wrong_length(
-    alloc: Global,
-    call: [&str; 3],
-    before: &[u8],
-    line: usize,
-    wants: usize,
-    has: usize,
-) -> Result<bool, AllocError>
-    requires { has < 5000 }
-{
-    let digits = digit_lines(alloc, &[(b'0', 2 * has)])?;
-    let fault = RunFault::Length { line, wants, has };
-    is_judged(alloc, call, before, digits.as_slice(), fault)
-}
-
 /// Whether each fault of one line ends a run, after these lines: that it is missing, that it is no hex, and where so
 /// many bytes are wanted, that it has another number.
 fn is_at_fault(
@@ -72,35 +56,29 @@ fn is_at_fault(
     let missing = before.len().wrapping_add(1);
     let mut alike = ends_with(alloc, call, before, missing, RunFault::Missing { line })?;
     for bad in [b"0\n".as_slice(), b"0g\n", b"00 \n", b"0x\n"] {
-        alike = alike && is_judged(alloc, call, before, bad, RunFault::NotHex { line })?;
+        alike &= is_judged(alloc, call, before, bad, RunFault::NotHex { line })?;
     }
     if let Some(wants) = wants {
         for has in [0, 1, wants.wrapping_sub(1), wants.wrapping_add(1)] {
-            if has < 5000 {
-                alike = alike && is_wrong_length(alloc, call, before, line, wants, has)?;
-            }
+            let digits = digit_lines(alloc, &[(b'0', has.wrapping_mul(2))])?;
+            let fault = RunFault::Length { line, wants, has };
+            alike &= is_judged(alloc, call, before, digits.as_slice(), fault)?;
         }
     }
     Ok(alike)
 }
 
-/// Whether each fault of each line of a call ends a run before anything that follows is read. The lines are good, and
-/// of those at these places so many bytes are wanted as they spell.
-fn faults_in_turn(
-    alloc: Global,
-    call: [&str; 3],
-    lines: &[&str],
-    known: &[usize],
-) -> Result<bool, AllocError> {
+/// Whether each fault of each of these lines, which are good, ends a run before anything that follows is read.
+fn faults_in_turn(alloc: Global, call: [&str; 3], lines: &[&str]) -> Result<bool, AllocError> {
     let mut alike = true;
     for (index, good) in lines.iter().enumerate() {
         let before = text_lines(alloc, &lines[..index])?;
-        let wants = if known.contains(&index) {
-            Some(good.len() / 2)
-        } else {
+        let wants = if may_vary(call[1], index) {
             None
+        } else {
+            Some(good.len() / 2)
         };
-        alike = alike && is_at_fault(alloc, call, before.as_slice(), index.wrapping_add(1), wants)?;
+        alike &= is_at_fault(alloc, call, before.as_slice(), index.wrapping_add(1), wants)?;
     }
     Ok(alike)
 }
@@ -112,12 +90,12 @@ fn judges_in_turn(alloc: Global, recorded: [&str; 4]) -> Result<bool, AllocError
     let verify = [public, signature, "00", "00"];
     let check = [ZEROS, ZEROS, "00", "00"];
     let batch = [public, "00", "0002", signature, "00", signature, "00"];
-    let mut alike = faults_in_turn(alloc, ["fill55", "id", set], &[public], &[0])?;
-    alike &= faults_in_turn(alloc, ["fill55", "keygen", set], &[ZEROS], &[0])?;
-    alike &= faults_in_turn(alloc, ["fill55", "sign", set], &sign, &[0, 1])?;
-    alike &= faults_in_turn(alloc, ["fill55", "verify", set], &verify, &[0, 1])?;
-    alike &= faults_in_turn(alloc, ["fill55", "check", set], &check, &[0, 1])?;
-    alike &= faults_in_turn(alloc, ["fill55", "batch", set], &batch, &[0, 2, 3, 5])?;
+    let mut alike = faults_in_turn(alloc, ["fill55", "id", set], &[public])?;
+    alike &= faults_in_turn(alloc, ["fill55", "keygen", set], &[ZEROS])?;
+    alike &= faults_in_turn(alloc, ["fill55", "sign", set], &sign)?;
+    alike &= faults_in_turn(alloc, ["fill55", "verify", set], &verify)?;
+    alike &= faults_in_turn(alloc, ["fill55", "check", set], &check)?;
+    alike &= faults_in_turn(alloc, ["fill55", "batch", set], &batch)?;
     Ok(alike)
 }
 

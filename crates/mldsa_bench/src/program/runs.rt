@@ -88,33 +88,52 @@ pub fn run_of(
     })
 }
 
-/// Whether an outcome has this answer, wrote these bytes in so many calls, and has no device that failed.
+/// Whether a run has this answer, wrote these bytes in so many calls, and had a device fail only if the answer says so.
 pub fn is_as(
     outcome: &Outcome,
     answer: Result<bool, RunFault>,
     written: &[u8],
     writes: usize,
 ) -> bool {
-    outcome.answer == answer
-        && outcome.written.as_slice() == written
-        && outcome.writes == writes
-        && !outcome.read_failed
-        && !outcome.write_failed
+    let same = outcome.answer == answer && outcome.written.as_slice() == written;
+    let read_failed = answer == Err(RunFault::Read);
+    let write_failed = answer == Err(RunFault::Write);
+    same && outcome.writes == writes
+        && outcome.read_failed == read_failed
+        && outcome.write_failed == write_failed
 }
 
-/// What a run returns, whether it writes these bytes, and how many bytes it leaves unread.
+/// What a run returns, whether it writes what is expected, and how many bytes it leaves unread.
+pub type Told = (Result<bool, RunFault>, bool, usize);
+
+/// A run that succeeds, with nothing left unread.
+pub const YES: Told = (Ok(true), true, 0);
+
+/// A run that answers no, with nothing left unread.
+pub const NO: Told = (Ok(false), true, 0);
+
+/// A run on these bytes beside what it should write.
 pub fn told(
     alloc: Global,
     call: [&str; 3],
     bytes: &[u8],
     written: &[u8],
-) -> Result<(Result<bool, RunFault>, bool, usize), AllocError> {
+) -> Result<Told, AllocError> {
     let outcome = run_of(alloc, WHOLE, call, bytes)?;
     Ok((
         outcome.answer,
         outcome.written.as_slice() == written,
         outcome.unread,
     ))
+}
+
+/// Whether a line of a command, counted from 0, may have any number of bytes: a context or a message.
+pub fn may_vary(command: &str, line: usize) -> bool {
+    match command {
+        "id" | "keygen" => false,
+        "batch" => line == 1 || line > 3 && line % 2 == 0,
+        _ => line > 1,
+    }
 }
 
 /// These lines, each ended by LF.

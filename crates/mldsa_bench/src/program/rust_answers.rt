@@ -8,53 +8,16 @@ use sha2::{Digest, Sha256};
 use std::alloc::{AllocError, Global};
 use std::test::Fail;
 
-/// Where no byte stands.
-const NOWHERE: usize = usize::MAX;
-
-/// A case: its streams, its set, its number, and how many hex digits a public and a private key and a signature have.
-#[derive(Clone, Copy)]
-struct Case {
-    streams: &'static str,
-    set: &'static str,
-    number: u8,
-    digits: [usize; 3],
-}
-
 /// The bytes that a case draws for a purpose.
 fn drawn(number: u8, purpose: u8) -> [u8; 32] {
     Sha256::digest(&[number, purpose])
 }
 
-/// The bytes with one of them replaced, if there are so many.
-fn changed(alloc: Global, bytes: &[u8], at: usize, value: u8) -> Result<Vec<u8>, AllocError> {
-    let mut copy = Vec::from_slice(alloc, bytes)?;
-    if let Some(byte) = copy.as_mut_slice().get_mut(at) {
+/// Replaces one of the bytes, if there are so many.
+fn spoil(bytes: &mut Vec<u8>, at: usize, value: u8) {
+    if let Some(byte) = bytes.as_mut_slice().get_mut(at) {
         *byte = value;
     }
-    Ok(copy)
-}
-
-/// Runs a command on lines of these values, adds the digest of what it writes and of its status, and returns what it
-/// writes.
-fn run_and_add(
-    alloc: Global,
-    case: Case,
-    command: &'static str,
-    values: &[&[u8]],
-    digests: &mut Sha256,
-) -> Result<Vec<u8>, AllocError> {
-    let input = hex_lines(alloc, values)?;
-    let outcome = run_of(
-        alloc,
-        WHOLE,
-        [case.streams, command, case.set],
-        input.as_slice(),
-    )?;
-    let mut hasher = Sha256::new();
-    hasher.update(outcome.written.as_slice());
-    hasher.update(&[status(outcome.answer)]);
-    digests.update(&hasher.finalize());
-    Ok(outcome.written)
 }
 
 /// The bytes that a part of a text spells.
@@ -62,105 +25,125 @@ fn spelt(alloc: Global, text: &[u8], start: usize, end: usize) -> Result<Vec<u8>
     Ok(hex::decode(alloc, text.get(start..end).unwrap_or(b""))?)
 }
 
-/// Runs `keygen`, `id` and `sign` of a case. Returns the public key, and keeps the signature if one was made.
-fn add_made(
-    alloc: Global,
-    case: Case,
-    context: &[u8],
-    signature: &mut Vec<u8>,
-    digests: &mut Sha256,
-) -> Result<Vec<u8>, Fail> {
-    let at = usize::from(case.number);
-    let (seed, random) = (drawn(case.number, 0), drawn(case.number, 1));
-    let text = drawn(case.number, 2);
-    let pair = run_and_add(alloc, case, "keygen", &[&seed], digests)?;
-    let public = spelt(alloc, pair.as_slice(), 0, case.digits[0])?;
-    run_and_add(alloc, case, "id", &[public.as_slice()], digests)?;
-    let start = case.digits[0].wrapping_add(1);
-    let private = spelt(alloc, pair.as_slice(), start, pair.len().wrapping_sub(1))?;
-    let damage = if case.number % 5 == 3 {
-        128 + at
-    } else {
-        NOWHERE
-    };
-    let private = changed(alloc, private.as_slice(), damage, 0xff)?;
-    let lines = [private.as_slice(), &random, context, &text[..at.min(32)]];
-    let made = run_and_add(alloc, case, "sign", &lines, digests)?;
-    if made.len() > case.digits[2] {
-        *signature = spelt(alloc, made.as_slice(), 0, case.digits[2])?;
-    }
-    Ok(public)
+/// A case: its streams, its set, its number, and the digests of what was written and of the statuses.
+#[derive(Drop)]
+struct Case {
+    streams: &'static str,
+    set: &'static str,
+    number: u8,
+    digests: Sha256,
 }
 
-/// Where a byte of a signature of this length is replaced, and by what.
-fn damage_of(number: u8, length: usize) -> (usize, u8) {
-    match number % 6 {
-        1 | 4 => (37 * usize::from(number), number),
-        5 => (length.wrapping_sub(1), 0xff),
-        _ => (NOWHERE, 0),
+impl Case {
+    /// Runs a command on lines of these values, adds the digest of what it writes and of its status, and returns what
+    /// it writes.
+    fn run(
+        &mut self,
+        alloc: Global,
+        command: &'static str,
+        values: &[&[u8]],
+    ) -> Result<Vec<u8>, AllocError> {
+        let input = hex_lines(alloc, values)?;
+        let call = [self.streams, command, self.set];
+        let outcome = run_of(alloc, WHOLE, call, input.as_slice())?;
+        let mut hasher = Sha256::new();
+        hasher.update(outcome.written.as_slice());
+        hasher.update(&[status(outcome.answer)]);
+        self.digests.update(&hasher.finalize());
+        Ok(outcome.written)
     }
-}
 
-/// Runs `verify`, `check` and `batch` of a case with this key and this signature, some of them damaged or for another
-/// message.
-fn add_judged(
-    alloc: Global,
-    case: Case,
-    context: &[u8],
-    public: &[u8],
-    signature: &[u8],
-    digests: &mut Sha256,
-) -> Result<(), Fail> {
-    let (seed, random) = (drawn(case.number, 0), drawn(case.number, 1));
-    let text = drawn(case.number, 2);
-    let (damage, value) = damage_of(case.number, signature.len());
-    // What stands in a list of lines is owned here.
-    let (public, context) = (
-        Vec::from_slice(alloc, public)?,
-        Vec::from_slice(alloc, context)?,
-    );
-    let made = Vec::from_slice(alloc, signature)?;
-    let other = changed(alloc, signature, damage, value)?;
-    let message = Vec::from_slice(alloc, &text[..usize::from(case.number).min(32)])?;
-    let spoken = if case.number % 6 == 2 {
-        Vec::from_slice(alloc, &random)?
-    } else {
-        Vec::from_slice(alloc, message.as_slice())?
-    };
-    let lines = [
-        public.as_slice(),
-        other.as_slice(),
-        context.as_slice(),
-        spoken.as_slice(),
-    ];
-    run_and_add(alloc, case, "verify", &lines, digests)?;
-    let lines = [
-        seed.as_slice(),
-        random.as_slice(),
-        context.as_slice(),
-        message.as_slice(),
-    ];
-    run_and_add(alloc, case, "check", &lines, digests)?;
-    // Their number says how many of the two entries are read.
-    let count = [0, case.number % 3];
-    let lines = [
-        public.as_slice(),
-        context.as_slice(),
-        count.as_slice(),
-        made.as_slice(),
-        message.as_slice(),
-        other.as_slice(),
-        spoken.as_slice(),
-    ];
-    run_and_add(alloc, case, "batch", &lines, digests)?;
-    Ok(())
+    /// Runs `keygen`, `id` and `sign`, where a public key and a signature have so many digits. Returns the public key,
+    /// and keeps the signature if one was made.
+    fn make(
+        &mut self,
+        alloc: Global,
+        digits: [usize; 2],
+        context: &[u8],
+        signature: &mut Vec<u8>,
+    ) -> Result<Vec<u8>, Fail> {
+        let at = usize::from(self.number);
+        let text = drawn(self.number, 2);
+        let pair = self.run(alloc, "keygen", &[&drawn(self.number, 0)])?;
+        let public = spelt(alloc, pair.as_slice(), 0, digits[0])?;
+        self.run(alloc, "id", &[public.as_slice()])?;
+        let start = digits[0].wrapping_add(1);
+        let mut private = spelt(alloc, pair.as_slice(), start, pair.len().wrapping_sub(1))?;
+        if self.number % 5 == 3 {
+            spoil(&mut private, 128 + at, 0xff);
+        }
+        let random = drawn(self.number, 1);
+        let lines = [private.as_slice(), &random, context, &text[..at.min(32)]];
+        let made = self.run(alloc, "sign", &lines)?;
+        if made.len() > digits[1] {
+            *signature = spelt(alloc, made.as_slice(), 0, digits[1])?;
+        }
+        Ok(public)
+    }
+
+    /// Runs `verify`, `check` and `batch` with this key and this signature, some of them damaged or for another message.
+    fn judge(
+        &mut self,
+        alloc: Global,
+        context: &[u8],
+        public: &[u8],
+        signature: &[u8],
+    ) -> Result<(), Fail> {
+        let number = self.number;
+        let (seed, random, text) = (drawn(number, 0), drawn(number, 1), drawn(number, 2));
+        // What stands in a list of lines is owned here.
+        let (public, context) = (
+            Vec::from_slice(alloc, public)?,
+            Vec::from_slice(alloc, context)?,
+        );
+        let made = Vec::from_slice(alloc, signature)?;
+        let message = Vec::from_slice(alloc, &text[..usize::from(number).min(32)])?;
+        let spoken = if number % 6 == 2 {
+            Vec::from_slice(alloc, &random)?
+        } else {
+            Vec::from_slice(alloc, message.as_slice())?
+        };
+        let mut other = Vec::from_slice(alloc, signature)?;
+        match number % 6 {
+            1 | 4 => spoil(&mut other, 37 * usize::from(number), number),
+            5 => spoil(&mut other, signature.len().wrapping_sub(1), 0xff),
+            _ => {}
+        }
+        let lines = [
+            public.as_slice(),
+            other.as_slice(),
+            context.as_slice(),
+            spoken.as_slice(),
+        ];
+        self.run(alloc, "verify", &lines)?;
+        let lines = [
+            seed.as_slice(),
+            random.as_slice(),
+            context.as_slice(),
+            message.as_slice(),
+        ];
+        self.run(alloc, "check", &lines)?;
+        // Their number says how many of the two entries are read.
+        let count = [0, number % 3];
+        let lines = [
+            public.as_slice(),
+            context.as_slice(),
+            count.as_slice(),
+            made.as_slice(),
+            message.as_slice(),
+            other.as_slice(),
+            spoken.as_slice(),
+        ];
+        self.run(alloc, "batch", &lines)?;
+        Ok(())
+    }
 }
 
 /// The number of the first case of a set whose digest is not the recorded one, if there is any.
 fn first_other(
     alloc: Global,
     set: &'static str,
-    digits: [usize; 3],
+    digits: [usize; 2],
     recorded: &str,
 ) -> Result<Option<u8>, Fail> {
     let recorded = hex::decode(alloc, recorded)?;
@@ -170,20 +153,23 @@ fn first_other(
             6 | 10 | 13 => "fill55",
             _ => "sha2",
         };
-        let case = Case {
+        let digests = Sha256::new();
+        let mut case = Case {
             streams,
             set,
             number,
-            digits,
+            digests,
         };
         let context = vec![in alloc; number; usize::from(number) * 27 / 2]?;
-        let context = context.as_slice();
-        let mut digests = Sha256::new();
-        let public = add_made(alloc, case, context, &mut signature, &mut digests)?;
-        let (public, made) = (public.as_slice(), signature.as_slice());
-        add_judged(alloc, case, context, public, made, &mut digests)?;
+        let public = case.make(alloc, digits, context.as_slice(), &mut signature)?;
+        case.judge(
+            alloc,
+            context.as_slice(),
+            public.as_slice(),
+            signature.as_slice(),
+        )?;
         let at = 32 * usize::from(number);
-        if recorded.as_slice().get(at..at + 32) != Some(digests.finalize().as_slice()) {
+        if recorded.as_slice().get(at..at + 32) != Some(case.digests.finalize().as_slice()) {
             return Ok(Some(number));
         }
     }
@@ -195,9 +181,9 @@ fn first_other(
 #[test]
 fn answers_of_the_rust_crate(rt: HostRuntime) -> Result<(), Fail> {
     for (set, digits, recorded) in [
-        ("44", [2624, 5120, 4840], ANSWERS_44),
-        ("65", [3904, 8064, 6618], ANSWERS_65),
-        ("87", [5184, 9792, 9254], ANSWERS_87),
+        ("44", [2624, 4840], ANSWERS_44),
+        ("65", [3904, 6618], ANSWERS_65),
+        ("87", [5184, 9254], ANSWERS_87),
     ] {
         assert_eq!(rt; first_other(rt.alloc(), set, digits, recorded)?, None);
     }

@@ -1,13 +1,14 @@
 //! Every call of a set over streams at their limits and past them, and the masks and responses of attempts.
 #![tactic(auto)]
 
-ghost use Rattle.std.specs.Prelude.{◌≡◌, ◌<◌, ◌≤◌, ◌+◌, ◌⊎◌, ◌≤ℤ◌, pos};
+ghost use Rattle.std.specs.Prelude.{◌≡◌, ◌≤◌, ◌+◌, ◌⊎◌, ◌≤ℤ◌, pos};
 
 use crate::arithmetic::polynomials::slow_product;
-use crate::keys::sets::{Constant44, Judges, Set44, Set65, Set87, Signs, TestSet, Text, is_same};
+use crate::keys::sets::{Constant44, Judges, Set44, Signs, TestSet, Text, is_same};
+use crate::signatures::each_set::{Spoils, Suite, at_each_set};
 use crate::streams::input_chosen::{ByLength, Second};
 use crate::streams::written_fronts::{FourthTriples, Patterned};
-use crate::values::constant_streams::{private_44, signature_44};
+use crate::values::constant_streams::{private_44, put_fields, signature_44};
 use fips204::hashing::{expand_mask, sample_in_ball};
 use fips204::traits::SerDes;
 use fips204::types::R;
@@ -24,75 +25,56 @@ type PastLastTriple = Patterned<FourthTriples<12>>;
 /// The message that is signed here.
 const TEXT: Text = Text::Message(b"abc", &[]);
 
-/// Whether a pair of keys, and the public key of the private one, are those over constant streams, or their refusals.
-fn key_answers<S: TestSet>() -> Result<[Result<bool, Fault>; 2], Fault> {
-    let pair = match S::pair(&[7; 32]) {
-        Ok((public, private)) => Ok(S::is_pair(public, private)),
-        Err(fault) => Err(fault),
-    };
-    let derived = match S::derived(&S::private()?) {
-        Ok(public) => Ok(S::is_public(public)),
-        Err(fault) => Err(fault),
-    };
-    Ok([pair, derived])
-}
-
-/// Whether a signature is that over constant streams, and whether that is accepted, or their refusals; and so by
-/// prepared keys, or the refusals to prepare them.
-fn signature_answers<S: TestSet>() -> Result<[Result<bool, Fault>; 4], Fault> {
-    let (public, private) = (S::public()?, S::private()?);
-    let signature = S::signature();
-    let signed = match S::prepared_private(&private) {
-        Ok(key) => is_same(key.seeded(&[0; 32], &TEXT), &signature),
-        Err(fault) => Err(fault),
-    };
-    let accepted = match S::prepared_public(&public) {
-        Ok(key) => Ok(key.accepts(&TEXT, &signature)),
-        Err(fault) => Err(fault),
-    };
+/// What calls return, beside what they return over constant streams, or their refusals: a pair of keys, the public key
+/// of the private one, a signature, and whether that is accepted; and the last two by prepared keys, or the refusals to
+/// prepare them.
+fn answers<S: TestSet>() -> Result<[Result<bool, Fault>; 6], Fault> {
+    let (public, private, signature) = (S::public()?, S::private()?, S::signature());
+    let signer = S::prepared_private(&private);
     Ok([
+        S::pair(&[7; 32]).map(|(public, private)| S::is_pair(public, private)),
+        S::derived(&private).map(|public| S::is_public(public)),
         is_same(private.seeded(&[0; 32], &TEXT), &signature),
         Ok(public.accepts(&TEXT, &signature)),
-        signed,
-        accepted,
+        signer.and_then(|key| is_same(key.seeded(&[0; 32], &TEXT), &signature)),
+        S::prepared_public(&public).map(|key| key.accepts(&TEXT, &signature)),
     ])
 }
 
-/// All these answers.
-fn answers<S: TestSet>() -> Result<[Result<bool, Fault>; 6], Fault> {
-    let [pair, derived] = key_answers::<S>()?;
-    let [signed, accepted, signed_prepared, accepted_prepared] = signature_answers::<S>()?;
-    Ok([
-        pair,
-        derived,
-        signed,
-        accepted,
-        signed_prepared,
-        accepted_prepared,
-    ])
+/// What calls return.
+#[derive(Drop)]
+struct LimitedCalls;
+
+impl Suite for LimitedCalls {
+    type Answer = [Result<bool, Fault>; 6];
+
+    fn at<S: TestSet>(&self, _number: usize) -> Result<[Result<bool, Fault>; 6], Fail>
+    where
+        S::Signature: Spoils,
+    {
+        Ok(answers::<S>()?)
+    }
 }
 
 /// Every fourth triple 0 and the rest FF at each set: key generation, deriving, preparing, signing and
 /// verifying return what they return over constant streams.
 #[test]
-fn calls_whose_matrix_ends_at_its_last_triple(rt: HostRuntime) {
-    let all = Ok([Ok(true); 6]);
-    assert_eq!(rt; answers::<Set44<Fill<0x55>, LastTriple>>(), all);
-    assert_eq!(rt; answers::<Set65<Fill<0x55>, LastTriple>>(), all);
-    assert_eq!(rt; answers::<Set87<Fill<0x55>, LastTriple>>(), all);
+fn calls_whose_matrix_ends_at_its_last_triple(rt: HostRuntime) -> Result<(), Fail> {
+    let found = at_each_set::<Fill<0x55>, LastTriple, LimitedCalls>(&LimitedCalls)?;
+    assert_eq!(rt; found, [[Ok(true); 6]; 3]);
+    Ok(())
 }
 
 /// Past that limit each call returns `SamplingLimit`, also `prepare`, and verifying returns false.
 #[test]
-fn calls_whose_matrix_passes_its_limit(rt: HostRuntime) {
+fn calls_whose_matrix_passes_its_limit(rt: HostRuntime) -> Result<(), Fail> {
     let limit = Err(Fault::SamplingLimit);
-    let refused = Ok([limit, limit, limit, Ok(false), limit, limit]);
-    assert_eq!(rt; answers::<Set44<Fill<0x55>, PastLastTriple>>(), refused);
-    assert_eq!(rt; answers::<Set65<Fill<0x55>, PastLastTriple>>(), refused);
-    assert_eq!(rt; answers::<Set87<Fill<0x55>, PastLastTriple>>(), refused);
-    assert_eq!(rt; answers::<Set44<Fill<0x55>, Fill<0xff>>>(), refused);
-    assert_eq!(rt; answers::<Set65<Fill<0x55>, Fill<0xff>>>(), refused);
-    assert_eq!(rt; answers::<Set87<Fill<0x55>, Fill<0xff>>>(), refused);
+    let refused = [[limit, limit, limit, Ok(false), limit, limit]; 3];
+    let found = at_each_set::<Fill<0x55>, PastLastTriple, LimitedCalls>(&LimitedCalls)?;
+    assert_eq!(rt; found, refused);
+    let found = at_each_set::<Fill<0x55>, Fill<0xff>, LimitedCalls>(&LimitedCalls)?;
+    assert_eq!(rt; found, refused);
+    Ok(())
 }
 
 /// `H` of bytes FF over inputs of 32 bytes and else 55, set 44: the same keys, `SamplingLimit` in signing,
@@ -107,18 +89,33 @@ fn challenges_that_pass_their_limit(rt: HostRuntime) {
 }
 
 /// The refusal of both keys of 32 bytes 00.
-fn pair_fault<S: TestSet>() -> Option<Fault> {
-    S::pair(&[0; 32]).err()
+#[derive(Drop)]
+struct PairFault;
+
+impl Suite for PairFault {
+    type Answer = Option<Fault>;
+
+    fn at<S: TestSet>(&self, _number: usize) -> Result<Option<Fault>, Fail>
+    where
+        S::Signature: Spoils,
+    {
+        Ok(S::pair(&[0; 32]).err())
+    }
 }
 
 /// Key generation with `G`, or `H`, of bytes FF returns `SamplingLimit`.
 #[test]
-fn key_generation_past_limits(rt: HostRuntime) {
-    let limit = Some(Fault::SamplingLimit);
-    assert_eq!(rt; pair_fault::<Set44<Fill<0x55>, Fill<0xff>>>(), limit);
-    assert_eq!(rt; pair_fault::<Set65<Sha256Ctr, Fill<0xff>>>(), limit);
-    assert_eq!(rt; pair_fault::<Set87<Fill<0xff>, Fill<0xff>>>(), limit);
-    assert_eq!(rt; pair_fault::<Set44<Fill<0xff>, Fill<0>>>(), limit);
+fn key_generation_past_limits(rt: HostRuntime) -> Result<(), Fail> {
+    let limit = [Some(Fault::SamplingLimit); 3];
+    let found = at_each_set::<Fill<0x55>, Fill<0xff>, PairFault>(&PairFault)?;
+    assert_eq!(rt; found, limit);
+    let found = at_each_set::<Sha256Ctr, Fill<0xff>, PairFault>(&PairFault)?;
+    assert_eq!(rt; found, limit);
+    let found = at_each_set::<Fill<0xff>, Fill<0xff>, PairFault>(&PairFault)?;
+    assert_eq!(rt; found, limit);
+    let found = at_each_set::<Fill<0xff>, Fill<0>, PairFault>(&PairFault)?;
+    assert_eq!(rt; found, limit);
+    Ok(())
 }
 
 /// Whether the signature of set 44 with the first bytes of a front of bytes FF is accepted where `H` has bytes FF, by
@@ -152,43 +149,40 @@ fn signing_faults<S: TestSet>(key: &S::Private) -> Result<[Option<Fault>; 2], Fa
 }
 
 /// The refusals of a signature by the private key of 32 bytes 00.
-fn seeded_faults<S: TestSet>() -> Result<[Option<Fault>; 2], Fault> {
-    let (_, key) = S::pair(&[0; 32])?;
-    signing_faults::<S>(&key)
+#[derive(Drop)]
+struct SigningFaults;
+
+impl Suite for SigningFaults {
+    type Answer = [Option<Fault>; 2];
+
+    fn at<S: TestSet>(&self, _number: usize) -> Result<[Option<Fault>; 2], Fail>
+    where
+        S::Signature: Spoils,
+    {
+        let (_, key) = S::pair(&[0; 32])?;
+        Ok(signing_faults::<S>(&key)?)
+    }
 }
 
 /// Both streams of bytes 00, each set: `TooManyAttempts`, with plain and prepared keys.
 #[test]
-fn keys_that_never_sign(rt: HostRuntime) {
-    let many = Ok([Some(Fault::TooManyAttempts); 2]);
-    assert_eq!(rt; seeded_faults::<Set44<Fill<0>, Fill<0>>>(), many);
-    assert_eq!(rt; seeded_faults::<Set65<Fill<0>, Fill<0>>>(), many);
-    assert_eq!(rt; seeded_faults::<Set87<Fill<0>, Fill<0>>>(), many);
+fn keys_that_never_sign(rt: HostRuntime) -> Result<(), Fail> {
+    let found = at_each_set::<Fill<0>, Fill<0>, SigningFaults>(&SigningFaults)?;
+    assert_eq!(rt; found, [[Some(Fault::TooManyAttempts); 2]; 3]);
+    Ok(())
 }
 
 /// The private key of set 44 with other fields in the first polynomial of t0: 0 at even places up to 36,
 /// and 8191 at odd places up to 37 and at 170.
 fn with_low_parts() -> [u8; 2560] {
     let mut key = private_44();
+    let mut fields = [4094; 256];
     for place in 0..38usize {
-        put_low_part(&mut key, place, if place % 2 == 0 { 0 } else { 8191 });
+        fields[place] = if place % 2 == 0 { 0 } else { 8191 };
     }
-    put_low_part(&mut key, 170, 8191);
+    fields[170] = 8191;
+    put_fields(&mut key[896..1312], &fields, 13);
     key
-}
-
-/// Puts a field of 13 bits of t0, bit by bit.
-fn put_low_part(key: &mut [u8; 2560], place: usize, field: u32)
-    requires { place < 256 }
-{
-    for bit in 0..13usize {
-        let at = 13 * place + bit;
-        let mask = 1u8 << (at % 8);
-        key[896 + at / 8] &= !mask;
-        if (field >> bit) % 2 == 1 {
-            key[896 + at / 8] |= mask;
-        }
-    }
 }
 
 /// A key of set 44 with another t0, whose product with the challenge is too large: `TooManyAttempts`.

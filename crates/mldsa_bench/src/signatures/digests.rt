@@ -33,33 +33,38 @@ fn identifiers_and_lengths(rt: HostRuntime) -> Result<(), Fail> {
     Ok(())
 }
 
+/// The first ten bytes of an identifier of eleven.
+const CUT: &[u8] = &[0x06, 0x09, 0x60, 0x86, 0x48, 0x01, 0x65, 0x03, 0x04, 0x02];
+
+/// An identifier of no hash that is known here.
+const UNKNOWN: &[u8] = &[0x06, 0x03, 0x2a, 0x03, 0x04];
+
+/// Digests and identifiers that are refused, and why.
+pub const REFUSED_DIGESTS: [(&[u8], &[u8], Fault); 13] = [
+    (&[0; 32], &[], Fault::OidEmpty),
+    (&[0; 32], &[0xff], Fault::OidNotDer),
+    (&[0; 32], &[0x06], Fault::OidNotDer),
+    (&[0; 32], &[0x06, 0x00], Fault::OidNotDer),
+    (&[0; 32], &[0x04, 0x01, 0x00], Fault::OidNotDer),
+    (&[0; 32], CUT, Fault::OidNotDer),
+    (&[0; 1025], &pre_hash::SHA2_256, Fault::DigestTooLong),
+    (&[0; 1025], UNKNOWN, Fault::DigestTooLong),
+    (&[], &pre_hash::SHA2_256, Fault::DigestLength),
+    (&[0; 31], &pre_hash::SHA2_256, Fault::DigestLength),
+    (&[5; 31], &pre_hash::SHA2_256, Fault::DigestLength),
+    (&[0; 33], &pre_hash::SHA2_256, Fault::DigestLength),
+    (&[9; 63], &pre_hash::SHA2_512, Fault::DigestLength),
+];
+
 /// Each error of `check_pre_hash` by itself and in its order; digests of 0, 31, 33, 1024 and 1025 bytes.
 #[test]
-fn digests_that_are_refused(rt: HostRuntime) -> Result<(), Fail> {
-    let sha256 = oid(0x01);
-    for (digest, identifier, fault) in [
-        ([0u8; 32].as_slice(), [].as_slice(), Fault::OidEmpty),
-        (&[0; 32], &[0xff], Fault::OidNotDer),
-        (&[0; 32], &[0x06], Fault::OidNotDer),
-        (&[0; 32], &[0x06, 0x00], Fault::OidNotDer),
-        (&[0; 32], &[0x04, 0x01, 0x00], Fault::OidNotDer),
-        (&[0; 32], &sha256[..10], Fault::OidNotDer),
-        (&[0; 1025], &sha256, Fault::DigestTooLong),
-        (&[], &sha256, Fault::DigestLength),
-        (&[0; 31], &sha256, Fault::DigestLength),
-        (&[0; 33], &sha256, Fault::DigestLength),
-        (
-            &[0; 1025],
-            &[0x06, 0x03, 0x2a, 0x03, 0x04],
-            Fault::DigestTooLong,
-        ),
-    ] {
-        assert!(rt; check_pre_hash(digest, identifier) == Err(fault));
+fn digests_that_are_refused(rt: HostRuntime) {
+    for (digest, identifier, fault) in REFUSED_DIGESTS {
+        assert_eq!(rt; check_pre_hash(digest, identifier), Err(fault));
     }
-    assert!(rt; check_pre_hash(&[0; 1024], &[0x06, 0x03, 0x2a, 0x03, 0x04]) == Ok(()));
-    assert!(rt; check_pre_hash(&[0; 32], &sha256) == Ok(()));
-    assert!(rt; check_pre_hash(&[], &[0x06, 0x01, 0x00]) == Ok(()));
-    Ok(())
+    assert_eq!(rt; check_pre_hash(&[0; 1024], UNKNOWN), Ok(()));
+    assert_eq!(rt; check_pre_hash(&[0; 32], &pre_hash::SHA2_256), Ok(()));
+    assert_eq!(rt; check_pre_hash(&[], &[0x06, 0x01, 0x00]), Ok(()));
 }
 
 /// Object identifiers of 3, 129 and 130 bytes.

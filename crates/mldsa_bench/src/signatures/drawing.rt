@@ -1,18 +1,20 @@
 //! Calls that draw: a generator that refuses at the first, the second or the third of four.
 #![tactic(auto)]
 
-use crate::keys::sets::{
-    Constant44, Constant65, Constant87, PairCall, Signs, TestSet, Text, is_same,
-};
+use crate::keys::sets::{PairCall, Signs, TestSet, Text, is_same};
+use crate::signatures::each_set::{Spoils, Suite, at_each_set};
 use crate::signatures::generators::RefusesAt;
 use fips204::Fault;
 use fips204::pre_hash::SHA2_256;
 use fips204::traits::{CryptoRngCore, DummyRng};
+use fips204::xof::Fill;
 use std::test::Fail;
 
 /// What is signed with drawn bytes, and the refusal that stands for the generator's.
-const DRAWN: [(Text, Fault); 4] = [
+const DRAWN: [(Text, Fault); 6] = [
+    (Text::Message(b"abc", &[]), Fault::SignRng),
     (Text::Message(b"abc", &[1; 255]), Fault::SignRng),
+    (Text::Digest(&[0; 32], &[], &SHA2_256), Fault::HashRng),
     (Text::Digest(&[0; 32], &[1; 255], &SHA2_256), Fault::HashRng),
     (Text::Framed(b"abc"), Fault::InternalRng),
     (Text::Hash(&[0; 64]), Fault::InternalRng),
@@ -70,31 +72,63 @@ fn draws_pairs<S: TestSet>(pair_call: PairCall, call: u8, writes: bool) -> bool 
 
 /// Whether every call of a set that draws answers so: three for pairs, those of a private key, and those of a
 /// prepared one.
-fn every_call_draws<S: TestSet>(call: u8, writes: bool) -> Result<[bool; 5], Fault> {
-    let private = S::private()?;
-    let signer = S::prepared_private(&private)?;
-    let signature = S::signature();
-    Ok([
-        draws_pairs::<S>(PairCall::OfTrait, call, writes),
-        draws_pairs::<S>(PairCall::OfSet, call, writes),
-        draws_pairs::<S>(PairCall::Shared, call, writes),
-        draws_each(&private, &signature, call, writes),
-        draws_each(&signer, &signature, call, writes),
-    ])
+#[derive(Drop)]
+struct DrawingCalls {
+    call: u8,
+    writes: bool,
+}
+
+impl Suite for DrawingCalls {
+    type Answer = [bool; 5];
+
+    fn at<S: TestSet>(&self, _number: usize) -> Result<[bool; 5], Fail>
+    where
+        S::Signature: Spoils,
+    {
+        let (call, writes) = (self.call, self.writes);
+        let (private, signature) = (S::private()?, S::signature());
+        let signer = S::prepared_private(&private)?;
+        Ok([
+            draws_pairs::<S>(PairCall::OfTrait, call, writes),
+            draws_pairs::<S>(PairCall::OfSet, call, writes),
+            draws_pairs::<S>(PairCall::Shared, call, writes),
+            draws_each(&private, &signature, call, writes),
+            draws_each(&signer, &signature, call, writes),
+        ])
+    }
 }
 
 /// At each set every drawing call, plain and prepared, with a generator that fails at its first, second or
 /// third of four calls: the error of that call; the others sign as over constant streams. The generator is
 /// asked four times, with zeros to fill.
 #[test]
-fn refusing_generators(rt: HostRuntime) {
+fn refusing_generators(rt: HostRuntime) -> Result<(), Fail> {
     for call in 0..3u8 {
         for writes in [false, true] {
-            assert_eq!(rt; every_call_draws::<Constant44>(call, writes), Ok([true; 5]));
-            assert_eq!(rt; every_call_draws::<Constant65>(call, writes), Ok([true; 5]));
-            assert_eq!(rt; every_call_draws::<Constant87>(call, writes), Ok([true; 5]));
+            let found = at_each_set::<Fill<0x55>, Fill<0>, DrawingCalls>(&DrawingCalls {
+                call,
+                writes,
+            })?;
+            assert_eq!(rt; found, [[true; 5]; 3]);
         }
     }
+    Ok(())
+}
+
+/// Whether the generator of these tests gives bytes over such ones, and notes that they are not zeros.
+fn gives_and_notes(byte: u8) -> [bool; 2] {
+    let mut rng = RefusesAt::new(255, false);
+    [rng.try_fill_bytes(&mut [byte; 32]).is_ok(), rng.saw_a_value]
+}
+
+/// The generator of these tests looks at the place that it is handed, and gives 32 bytes at a time.
+#[test]
+fn generator_that_looks(rt: HostRuntime) {
+    assert_eq!(rt; gives_and_notes(0), [true, false]);
+    assert_eq!(rt; gives_and_notes(1), [true, true]);
+    let mut rng = RefusesAt::new(255, false);
+    assert!(rt; rng.try_fill_bytes(&mut [0, 1]).is_err());
+    assert!(rt; rng.saw_a_value);
 }
 
 /// Whether `DummyRng` refuses so many bytes and leaves them as they were.

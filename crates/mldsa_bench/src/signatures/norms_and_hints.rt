@@ -6,8 +6,6 @@ use crate::arithmetic::hint_parts::{part_of, rising};
 use crate::keys::sets::{Constant44, Judges, TestSet, Text};
 use crate::values::constant_streams::{signature_44, signature_65};
 use fips204::Fault;
-use fips204::encodings::sig_decode;
-use fips204::types::R;
 use std::test::Fail;
 
 /// The signature of set 44 with another first field of z.
@@ -43,11 +41,8 @@ fn accepted(signature: [u8; 2420]) -> Result<[bool; 2], Fault> {
 #[test]
 fn range_of_z(rt: HostRuntime) {
     for (field, yes) in [(78, false), (79, true), (262065, true), (262066, false)] {
-        assert_eq!(rt;
-            accepted(with_first_field(field)),
-            Ok([yes; 2]),
-            "field {field}"
-        );
+        let answer = accepted(with_first_field(field));
+        assert_eq!(rt; answer, Ok([yes; 2]), "field {field}");
     }
 }
 
@@ -57,40 +52,24 @@ fn range_of_z(rt: HostRuntime) {
 fn hints_of_signatures(rt: HostRuntime) {
     let mut late = [0u8; 80];
     late[79] = 1;
-    assert_eq!(rt; accepted(with_hint(&[], [0, 0, 0, 1])), Ok([true; 2]));
-    assert_eq!(rt; accepted(with_hint(&[1], [0, 0, 0, 0])), Ok([false; 2]));
-    assert_eq!(rt;
-        accepted(with_hint(&rising(), [80, 80, 80, 80])),
-        Ok([true; 2])
-    );
-    assert_eq!(rt;
-        accepted(with_hint(&rising(), [81, 81, 81, 81])),
-        Ok([false; 2])
-    );
-    assert_eq!(rt;
-        accepted(with_hint(&[0xff, 0x00], [1, 2, 2, 2])),
-        Ok([true; 2])
-    );
-    assert_eq!(rt; accepted(with_hint(&[5, 5], [2, 2, 2, 2])), Ok([false; 2]));
-    assert_eq!(rt; accepted(with_hint(&[1, 2], [2, 1, 2, 2])), Ok([false; 2]));
-    assert_eq!(rt; accepted(with_hint(&late, [0, 0, 0, 0])), Ok([false; 2]));
-}
-
-/// The first bytes of z in a signature.
-fn first_bytes<const N: usize>(z: &[u8]) -> [u8; N] {
-    let mut bytes = [0u8; N];
-    for i in 0..N {
-        bytes[i] = *z.get(i).unwrap_or(&0);
+    for (places, counts, yes) in [
+        ([].as_slice(), [0, 0, 0, 1], true),
+        (&[1], [0, 0, 0, 0], false),
+        (&rising(), [80, 80, 80, 80], true),
+        (&rising(), [81, 81, 81, 81], false),
+        (&[0xff, 0x00], [1, 2, 2, 2], true),
+        (&[5, 5], [2, 2, 2, 2], false),
+        (&[1, 2], [2, 1, 2, 2], false),
+        (&late, [0, 0, 0, 0], false),
+    ] {
+        assert_eq!(rt; accepted(with_hint(places, counts)), Ok([yes; 2]));
     }
-    bytes
 }
 
 /// z begins with `53 55 4D` at set 44 and with `56 55 65 55 55` at set 65 over constant streams.
 #[test]
 fn first_bytes_of_z(rt: HostRuntime) {
-    assert_eq!(rt; first_bytes(&signature_44()[32..]), [0x53, 0x55, 0x4d]);
-    assert_eq!(rt;
-        first_bytes(&signature_65()[48..]),
-        [0x56, 0x55, 0x65, 0x55, 0x55]
-    );
+    let (first, second) = (signature_44(), signature_65());
+    assert_eq!(rt; &first[32..35], [0x53, 0x55, 0x4d].as_slice());
+    assert_eq!(rt; &second[48..53], [0x56, 0x55, 0x65, 0x55, 0x55].as_slice());
 }

@@ -78,7 +78,7 @@ fn fields(turn: usize, first: u32, second: u32, third: u32) -> [u32; 256] {
 }
 
 /// Puts the fields of a polynomial again and again, each of so many bits, the lowest first.
-fn put_fields(bytes: &mut [u8], fields: &[u32; 256], width: usize)
+pub fn put_fields(bytes: &mut [u8], fields: &[u32; 256], width: usize)
     requires some { 0 < width }
     requires few { width ≤ 20 }
 {
