@@ -2,6 +2,4 @@
 #![tactic(auto)]
 
 pub mod pairs;
-pub mod public_key_bytes;
 pub mod sets;
-mod whole_keys;

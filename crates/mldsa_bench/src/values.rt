@@ -7,6 +7,8 @@ pub mod counter_65;
 pub mod counter_87;
 pub mod rust_crate;
 
+ghost use Rattle.std.specs.Prelude.{◌<◌};
+
 use hex::FromHexError;
 use std::alloc::Global;
 
@@ -31,6 +33,13 @@ pub const RECORDED: [[&str; 4]; 3] = [
         counter_87::SIGNATURE,
     ],
 ];
+
+/// Those of a set, of which this is the number.
+pub fn recorded(number: usize) -> [&'static str; 4]
+    requires { number < 3 }
+{
+    RECORDED[number]
+}
 
 /// Whether bytes have this text in hex.
 pub fn has_text(alloc: Global, bytes: &[u8], text: &str) -> Result<bool, FromHexError> {

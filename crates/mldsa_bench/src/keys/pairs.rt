@@ -1,153 +1,154 @@
-//! Key pairs over constant streams, and private keys through their bytes.
+//! Key pairs over constant streams, and keys through their bytes.
 #![tactic(auto)]
 
-ghost use Rattle.std.specs.Prelude.{◌<◌};
-
-use crate::keys::public_key_bytes::counting;
-use crate::keys::sets::{Constant44, Constant65, Constant87, TestSet};
-use crate::values::constant_streams::{
-    LOW_0, private_44, private_65, private_87, public_44, repeat,
-};
+use crate::keys::sets::{Constant44, Suite, TestSet, at_each_set};
+use crate::signatures::calls_at_limits::{ALL, Calls};
+use crate::values::constant_streams::{LOW_0, private_44, public_44, repeat};
 use fips204::traits::{SerDes, Signer};
-use fips204::xof::Fill;
+use fips204::xof::{Fill, Sha256Ctr, Sha512Ctr};
 use fips204::{Fault, ml_dsa_44, ml_dsa_65, ml_dsa_87};
 use std::test::Fail;
 
 /// A private key of set 44.
 type Private44 = ml_dsa_44::PrivateKey<Fill<0x55>, Fill<0>>;
 
-/// A private key of set 65.
-type Private65 = ml_dsa_65::PrivateKey<Fill<0x55>, Fill<0>>;
-
-/// A private key of set 87.
-type Private87 = ml_dsa_87::PrivateKey<Fill<0x55>, Fill<0>>;
-
 /// A public key of set 44.
 type Public44 = ml_dsa_44::PublicKey<Fill<0x55>, Fill<0>>;
 
-/// Whether the pair of a seed is that over constant streams.
-fn is_constant<S: TestSet>(seed: &[u8; 32]) -> Result<bool, Fault> {
-    let (public, private) = S::pair(seed)?;
-    Ok(S::is_pair(public, private))
-}
-
-/// The key pair of each set with `H` of bytes 55 and `G` of bytes 00, byte for byte, for any seed.
+/// The key pair of each set with `H` of bytes 55 and `G` of bytes 00, byte for byte, for any seed, and what its calls
+/// return; private keys come back from their bytes, and are whole.
 #[test]
-fn pairs_of_each_set(rt: HostRuntime) {
+fn pairs_of_each_set(rt: HostRuntime) -> Result<(), Fail> {
     for seed in [[7; 32], [0; 32]] {
-        assert_eq!(rt; is_constant::<Constant44>(&seed), Ok(true));
-        assert_eq!(rt; is_constant::<Constant65>(&seed), Ok(true));
-        assert_eq!(rt; is_constant::<Constant87>(&seed), Ok(true));
+        let found = at_each_set::<Fill<0x55>, Fill<0>, Calls>(&Calls { seed })?;
+        assert_eq!(rt; found, [ALL; 3]);
     }
-}
-
-/// The public keys of a pair of set 44 and of bytes that count up have bytes 55 as their hash.
-#[test]
-fn hash_of_a_public_key(rt: HostRuntime) -> Result<(), Fail> {
-    let (public, _) = Constant44::pair(&[7; 32])?;
-    assert!(rt; *public.tr() == [0x55; 64]);
-    assert!(rt; *Public44::try_from_bytes(counting())?.tr() == [0x55; 64]);
     Ok(())
 }
 
+/// The array whose byte `i` is `i` modulo 256.
+fn counting<const N: usize>() -> [u8; N] {
+    let mut bytes = [0u8; N];
+    for i in 0..N {
+        bytes[i] = (i % 256) as u8;
+    }
+    bytes
+}
+
 /// Whether a key of these bytes has them again, or its error.
-pub fn comes_back<S: SerDes<ByteArray = [u8; N]> + Drop, const N: usize>(
+fn comes_back<S: SerDes<ByteArray = [u8; N]> + Drop, const N: usize>(
     bytes: &[u8; N],
 ) -> Result<bool, Fault> {
     Ok(S::try_from_bytes(*bytes)?.into_bytes() == *bytes)
 }
 
-/// The three private keys over constant streams come back from their bytes.
+/// Public keys come back from their bytes: at each set where these count up modulo 256, and at set 44 where all have
+/// one value.
 #[test]
-fn private_keys_come_back(rt: HostRuntime) {
-    assert_eq!(rt; comes_back::<Private44, 2560>(&private_44()), Ok(true));
-    assert_eq!(rt; comes_back::<Private65, 4032>(&private_65()), Ok(true));
-    assert_eq!(rt; comes_back::<Private87, 4896>(&private_87()), Ok(true));
-}
-
-/// The first value of a field whose key neither comes back, as up to `most`, nor is `KeyRange`, as above it. The field
-/// has the bits of `mask` in a byte, moved up by `shift`.
-fn wrong_field<S: SerDes<ByteArray = [u8; N]> + Drop, const N: usize>(
-    key: &[u8; N],
-    at: usize,
-    mask: u8,
-    shift: u8,
-    most: u8,
-) -> Option<u8>
-    requires { shift < 8 }
-{
-    let mut bytes = *key;
-    for field in 0..=mask {
-        if let Some(byte) = bytes.get_mut(at) {
-            *byte = (*byte & !(mask << shift)) | (field << shift);
-        }
-        let wanted = if field <= most {
-            Ok(true)
-        } else {
-            Err(Fault::KeyRange)
-        };
-        if comes_back::<S, N>(&bytes) != wanted {
-            return Some(field);
-        }
+fn public_keys_come_back(rt: HostRuntime) {
+    let back = comes_back::<Public44, 1312>(&counting());
+    assert_eq!(rt; back, Ok(true));
+    let back = comes_back::<ml_dsa_65::PublicKey<Sha256Ctr, Sha512Ctr>, 1952>(&counting());
+    assert_eq!(rt; back, Ok(true));
+    let back = comes_back::<ml_dsa_87::PublicKey<Sha256Ctr, Sha512Ctr>, 2592>(&counting());
+    assert_eq!(rt; back, Ok(true));
+    for byte in [0u8, 1, 0x7f, 0x80, 0xff] {
+        let back = comes_back::<ml_dsa_44::PublicKey<Fill<0>, Fill<0>>, 1312>(&[byte; 1312]);
+        assert_eq!(rt; back, Ok(true), "bytes of {byte}");
     }
-    None
 }
 
-/// The first such value of the first field of s1, in the low bits of byte 128, and of the last of s2, in the high bits of
-/// a byte, from `shift` on.
-fn wrong_fields<S: SerDes<ByteArray = [u8; N]> + Drop, const N: usize>(
-    key: &[u8; N],
-    last: usize,
-    shift: u8,
-    most: u8,
-) -> [Option<u8>; 2]
-    requires { shift < 8 }
-{
-    let mask = 0xff >> shift;
-    [
-        wrong_field::<S, N>(key, 128, mask, 0, most),
-        wrong_field::<S, N>(key, last, mask, shift, most),
-    ]
+/// The first field of s1, in the low bits of byte 128, and the last of s2, in the high bits of another byte, with every
+/// value of their bits: where the key neither comes back, as up to 2 eta, nor is `KeyRange`, as above it, and that value.
+#[derive(Drop)]
+struct WrongField;
+
+impl Suite for WrongField {
+    type Answer = Option<(usize, u8)>;
+
+    fn at<S: TestSet>(&self, number: usize) -> Result<Option<(usize, u8)>, Fail> {
+        let rows = [
+            (895, 32u8, [7u8, 0, 4]),
+            (1535, 16, [15, 5, 8]),
+            (1567, 32, [7, 0, 4]),
+        ];
+        let (last, high, [largest, recorded, most]) = rows[number];
+        for (at, unit) in [(128usize, 1u8), (last, high)] {
+            for field in 0..=largest {
+                let wanted = if field <= most {
+                    Ok(true)
+                } else {
+                    Err(Fault::KeyRange)
+                };
+                let (keys, _) = S::constant()?;
+                let bits = (field ^ recorded).wrapping_mul(unit);
+                let answer = match S::read_again(keys, at, bits) {
+                    Ok(found) => Ok(found[0]),
+                    Err(fault) => Err(fault),
+                };
+                if answer != wanted {
+                    return Ok(Some((at, field)));
+                }
+            }
+        }
+        Ok(None)
+    }
 }
 
 /// The first field of s1 and the last of s2 at each set, with every value of their bits: the same bytes come
 /// back up to 2 eta, and above it `KeyRange`.
 #[test]
-fn field_ranges_of_each_set(rt: HostRuntime) {
-    let none = [None; 2];
-    assert_eq!(rt;
-        wrong_fields::<Private44, 2560>(&private_44(), 895, 5, 4),
-        none
-    );
-    assert_eq!(rt;
-        wrong_fields::<Private65, 4032>(&private_65(), 1535, 4, 8),
-        none
-    );
-    assert_eq!(rt;
-        wrong_fields::<Private87, 4896>(&private_87(), 1567, 5, 4),
-        none
-    );
-}
-
-/// `get_public_key` of the private key of set 44 is the public key of its pair.
-#[test]
-fn public_key_of_a_private_key(rt: HostRuntime) -> Result<(), Fail> {
-    let key = Private44::try_from_bytes(private_44())?.get_public_key()?;
-    assert!(rt; *key.tr() == [0x55; 64]);
-    assert!(rt; key.into_bytes() == public_44());
+fn field_ranges_of_each_set(rt: HostRuntime) -> Result<(), Fail> {
+    let found = at_each_set::<Fill<0x55>, Fill<0>, WrongField>(&WrongField)?;
+    assert_eq!(rt; found, [None; 3]);
     Ok(())
 }
 
-/// With `tr` of bytes 00 the public key keeps it until it is decoded anew.
+/// Whether the private key of 32 bytes 07 is whole, and with another bit in K, in `tr`, and in the first and in the last
+/// byte of t0.
+#[derive(Drop)]
+struct Whole;
+
+impl Suite for Whole {
+    type Answer = [bool; 5];
+
+    fn at<S: TestSet>(&self, number: usize) -> Result<[bool; 5], Fail> {
+        let (first, last) = [(896, 2559), (1536, 4031), (1568, 4895)][number];
+        let places = [(0usize, 0u8), (32, 1), (127, 1), (first, 1), (last, 1)];
+        let mut found = [false; 5];
+        for (answer, (at, bits)) in found.iter_mut().zip(places) {
+            let [_, is_whole] = S::read_again(S::pair(&[7; 32])?, at, bits)?;
+            *answer = is_whole;
+        }
+        Ok(found)
+    }
+}
+
+/// A generated key of each set is whole, also with another bit in K or `tr`. With one in the first or the last byte of t0
+/// it is not.
 #[test]
-fn public_key_of_a_key_with_another_hash(rt: HostRuntime) -> Result<(), Fail> {
+fn whole_keys_of_each_set(rt: HostRuntime) -> Result<(), Fail> {
+    let found = at_each_set::<Sha256Ctr, Sha512Ctr, Whole>(&Whole)?;
+    assert_eq!(rt; found, [[true, true, true, false, false]; 3]);
+    Ok(())
+}
+
+/// The hash of a public key of set 44 has bytes 55: in a pair, of bytes that count up, and derived of a private key. With
+/// `tr` of bytes 00 in that, the derived key keeps it until it is decoded anew.
+#[test]
+fn hashes_of_public_keys(rt: HostRuntime) -> Result<(), Fail> {
+    let (public, _) = Constant44::pair(&[7; 32])?;
+    assert!(rt; *public.tr() == [0x55; 64]);
+    assert!(rt; *Public44::try_from_bytes(counting())?.tr() == [0x55; 64]);
     let mut bytes = private_44();
-    bytes[64..128].fill(0);
-    let key = Private44::try_from_bytes(bytes)?.get_public_key()?;
-    assert!(rt; *key.tr() == [0; 64]);
-    let key = Public44::try_from_bytes(key.into_bytes())?;
-    assert!(rt; *key.tr() == [0x55; 64]);
-    assert!(rt; key.into_bytes() == public_44());
+    for hash in [[0x55u8; 64], [0; 64]] {
+        bytes[64..128].copy_from_slice(&hash);
+        let key = Private44::try_from_bytes(bytes)?.get_public_key()?;
+        assert!(rt; *key.tr() == hash);
+        let key = Public44::try_from_bytes(key.into_bytes())?;
+        assert!(rt; *key.tr() == [0x55; 64]);
+        assert!(rt; key.into_bytes() == public_44());
+    }
     Ok(())
 }
 

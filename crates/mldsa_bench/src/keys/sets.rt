@@ -1,7 +1,12 @@
 //! Every call of the keys of a set, plain and prepared, behind traits: a suite is written once, over these.
 #![tactic(auto)]
 
-use crate::values::constant_streams as constant;
+ghost use Rattle.std.proofs.Common.{rules};
+
+use crate::values::constant_streams::{
+    private_44, private_65, private_87, public_44, public_65, public_87, signature_44,
+    signature_65, signature_87,
+};
 use fips204::ml_dsa_44::{self, MlDsa44};
 use fips204::ml_dsa_65::{self, MlDsa65};
 use fips204::ml_dsa_87::{self, MlDsa87};
@@ -11,6 +16,7 @@ use fips204::types::{KG, PreparedPrivateKey, PreparedPublicKey, PrivateKey, Publ
 use fips204::xof::{Fill, Xof};
 use fips204::{Fault, ml_dsa};
 use std::alloc::{AllocError, Global};
+use std::test::Fail;
 
 /// What is signed, and what a signature is judged of.
 #[derive(Clone, Copy)]
@@ -25,39 +31,38 @@ pub enum Text<'a> {
     Hash(&'a [u8; 64]),
 }
 
-impl Text<'_> {
-    /// Whether it is signed and judged by a hook.
-    pub fn is_of_hook(&self) -> bool {
-        matches!(self, Text::Framed(_) | Text::Hash(_))
-    }
-}
-
-/// A private key, plain or prepared.
-pub trait Signs<S> {
+/// A public key and a private key, plain or prepared.
+pub trait Keys<S> {
     /// Signs with these random bytes; a hook draws them from a generator that returns them.
     fn seeded(&self, seed: &[u8; 32], text: &Text) -> Result<S, Fault>;
 
     /// Signs with random bytes of a generator; a hook that is not hedged draws none.
     fn drawn<R: CryptoRngCore>(&self, rng: &mut R, hedged: bool, text: &Text) -> Result<S, Fault>;
-}
 
-/// A public key, plain or prepared.
-pub trait Judges<S> {
     /// Whether a signature is accepted.
     fn accepts(&self, text: &Text, signature: &S) -> bool;
 }
 
-impl<S, const K: usize, const L: usize, const N: usize, const SIG_LEN: usize, H: Xof, G: Xof> Signs<
+/// Plain keys.
+type Plain<const K: usize, const L: usize, H, G> = (PublicKey<K, L, H, G>, PrivateKey<K, L, H, G>);
+
+/// Prepared keys.
+type Prepared<const K: usize, const L: usize, H> = (
+    PreparedPublicKey<K, L, H>,
+    PreparedPrivateKey<K, L, H>,
+);
+
+impl<S, const K: usize, const L: usize, const N: usize, const SIG_LEN: usize, H: Xof, G: Xof> Keys<
     [u8; SIG_LEN],
-> for PrivateKey<K, L, H, G>
+> for (PublicKey<K, L, H, G>, PrivateKey<K, L, H, G>)
 where
     Matrix<K, L>: HasSet<Set = S>,
     S: Set<Commitment = [u8; N], Signature = [u8; SIG_LEN]> + SignatureSizes<K, L, N, SIG_LEN>,
 {
     fn seeded(&self, seed: &[u8; 32], text: &Text) -> Result<[u8; SIG_LEN], Fault> {
         match *text {
-            Text::Message(message, ctx) => self.try_sign_with_seed(seed, message, ctx),
-            Text::Digest(digest, ctx, oid) => self.try_hash_sign_with_seed(seed, digest, ctx, oid),
+            Text::Message(message, ctx) => self.1.try_sign_with_seed(seed, message, ctx),
+            Text::Digest(hash, ctx, oid) => { self.1.try_hash_sign_with_seed(seed, hash, ctx, oid) }
             _ => self.drawn(&mut DummyRng { bytes: *seed }, true, text),
         }
     }
@@ -69,25 +74,34 @@ where
         text: &Text,
     ) -> Result<[u8; SIG_LEN], Fault> {
         match *text {
-            Text::Message(message, ctx) => self.try_sign_with_rng(rng, message, ctx),
-            Text::Digest(digest, ctx, oid) => self.try_hash_sign_with_rng(rng, digest, ctx, oid),
-            Text::Framed(m) => self.sign_internal(rng, m, hedged),
-            Text::Hash(mu) => self.sign_mu(rng, mu, hedged),
+            Text::Message(message, ctx) => self.1.try_sign_with_rng(rng, message, ctx),
+            Text::Digest(hash, ctx, oid) => self.1.try_hash_sign_with_rng(rng, hash, ctx, oid),
+            Text::Framed(m) => self.1.sign_internal(rng, m, hedged),
+            Text::Hash(mu) => self.1.sign_mu(rng, mu, hedged),
+        }
+    }
+
+    fn accepts(&self, text: &Text, signature: &[u8; SIG_LEN]) -> bool {
+        match *text {
+            Text::Message(message, ctx) => self.0.verify(message, signature, ctx),
+            Text::Digest(hash, ctx, oid) => self.0.hash_verify(hash, signature, ctx, oid),
+            Text::Framed(m) => self.0.verify_internal(m, signature),
+            Text::Hash(mu) => self.0.verify_mu(mu, signature),
         }
     }
 }
 
-impl<S, const K: usize, const L: usize, const N: usize, const SIG_LEN: usize, H: Xof> Signs<
+impl<S, const K: usize, const L: usize, const N: usize, const SIG_LEN: usize, H: Xof> Keys<
     [u8; SIG_LEN],
-> for PreparedPrivateKey<K, L, H>
+> for (PreparedPublicKey<K, L, H>, PreparedPrivateKey<K, L, H>)
 where
     Matrix<K, L>: HasSet<Set = S>,
     S: Set<Commitment = [u8; N], Signature = [u8; SIG_LEN]> + SignatureSizes<K, L, N, SIG_LEN>,
 {
     fn seeded(&self, seed: &[u8; 32], text: &Text) -> Result<[u8; SIG_LEN], Fault> {
         match *text {
-            Text::Message(message, ctx) => self.try_sign_with_seed(seed, message, ctx),
-            Text::Digest(digest, ctx, oid) => self.try_hash_sign_with_seed(seed, digest, ctx, oid),
+            Text::Message(message, ctx) => self.1.try_sign_with_seed(seed, message, ctx),
+            Text::Digest(hash, ctx, oid) => { self.1.try_hash_sign_with_seed(seed, hash, ctx, oid) }
             _ => self.drawn(&mut DummyRng { bytes: *seed }, true, text),
         }
     }
@@ -99,50 +113,19 @@ where
         text: &Text,
     ) -> Result<[u8; SIG_LEN], Fault> {
         match *text {
-            Text::Message(message, ctx) => self.try_sign_with_rng(rng, message, ctx),
-            Text::Digest(digest, ctx, oid) => self.try_hash_sign_with_rng(rng, digest, ctx, oid),
-            Text::Framed(m) => self.sign_internal(rng, m, hedged),
-            Text::Hash(mu) => self.sign_mu(rng, mu, hedged),
+            Text::Message(message, ctx) => self.1.try_sign_with_rng(rng, message, ctx),
+            Text::Digest(hash, ctx, oid) => self.1.try_hash_sign_with_rng(rng, hash, ctx, oid),
+            Text::Framed(m) => self.1.sign_internal(rng, m, hedged),
+            Text::Hash(mu) => self.1.sign_mu(rng, mu, hedged),
         }
     }
-}
 
-impl<
-    S,
-    const K: usize,
-    const L: usize,
-    const N: usize,
-    const SIG_LEN: usize,
-    H: Xof,
-    G: Xof,
-> Judges<[u8; SIG_LEN]> for PublicKey<K, L, H, G>
-where
-    Matrix<K, L>: HasSet<Set = S>,
-    S: Set<Commitment = [u8; N], Signature = [u8; SIG_LEN]> + SignatureSizes<K, L, N, SIG_LEN>,
-{
     fn accepts(&self, text: &Text, signature: &[u8; SIG_LEN]) -> bool {
         match *text {
-            Text::Message(message, ctx) => self.verify(message, signature, ctx),
-            Text::Digest(digest, ctx, oid) => self.hash_verify(digest, signature, ctx, oid),
-            Text::Framed(m) => self.verify_internal(m, signature),
-            Text::Hash(mu) => self.verify_mu(mu, signature),
-        }
-    }
-}
-
-impl<S, const K: usize, const L: usize, const N: usize, const SIG_LEN: usize, H: Xof> Judges<
-    [u8; SIG_LEN],
-> for PreparedPublicKey<K, L, H>
-where
-    Matrix<K, L>: HasSet<Set = S>,
-    S: Set<Commitment = [u8; N], Signature = [u8; SIG_LEN]> + SignatureSizes<K, L, N, SIG_LEN>,
-{
-    fn accepts(&self, text: &Text, signature: &[u8; SIG_LEN]) -> bool {
-        match *text {
-            Text::Message(message, ctx) => self.verify(message, signature, ctx),
-            Text::Digest(digest, ctx, oid) => self.hash_verify(digest, signature, ctx, oid),
-            Text::Framed(m) => self.verify_internal(m, signature),
-            Text::Hash(mu) => self.verify_mu(mu, signature),
+            Text::Message(message, ctx) => self.0.verify(message, signature, ctx),
+            Text::Digest(hash, ctx, oid) => self.0.hash_verify(hash, signature, ctx, oid),
+            Text::Framed(m) => self.0.verify_internal(m, signature),
+            Text::Hash(mu) => self.0.verify_mu(mu, signature),
         }
     }
 }
@@ -172,245 +155,116 @@ pub fn is_same<T: PartialEq + Drop>(answer: Result<T, Fault>, wanted: &T) -> Res
     }
 }
 
+/// Changes bits of a byte, if there is one at this place.
+fn change(bytes: &mut [u8], at: usize, bits: u8) {
+    if let Some(byte) = bytes.get_mut(at) {
+        *byte ^= bits;
+    }
+}
+
 /// What is a set's own: its keys and signature where every byte of `H` is 55 and every byte of `G` is 00, and its
 /// function that draws a pair.
-pub trait Row<H, G>: Set {
-    /// A public key.
-    type Public;
+pub trait Row<P, const SK_LEN: usize>: Set {
+    ghost use Rattle.std.specs.Prelude.{◌<◌, ◌^◌};
 
-    /// A private key.
-    type Private;
-
-    /// The signature.
-    fn signature() -> Self::Signature;
-
-    /// The bytes of the public key.
-    fn public() -> Self::PublicKey;
-
-    /// The private key, of its bytes.
-    fn private() -> Result<Self::Private, Fault>;
-
-    /// Whether a private key has these bytes.
-    fn is_private(key: Self::Private) -> bool;
-
-    /// The bytes of both keys.
-    fn key_bytes(
-        alloc: Global,
-        public: Self::Public,
-        private: Self::Private,
-    ) -> Result<[Vec<u8>; 2], AllocError>;
+    /// The public key, the private key and the signature.
+    fn recorded() -> (Self::PublicKey, Self::PrivateKey, Self::Signature);
 
     /// Both keys of what a generator returns.
-    fn drawn_pair<R: CryptoRngCore>(rng: &mut R) -> Result<(Self::Public, Self::Private), Fault>;
+    fn drawn_pair<R: CryptoRngCore>(rng: &mut R) -> Result<P, Fault>;
+
+    // A private key fits into memory.
+    ghost fits: { SK_LEN < 2 ^ 63 };
 }
 
-impl<H: Xof, G: Xof> Row<H, G> for MlDsa44 {
-    type Public = ml_dsa_44::PublicKey<H, G>;
-
-    type Private = ml_dsa_44::PrivateKey<H, G>;
-
-    fn signature() -> [u8; 2420] {
-        constant::signature_44()
+impl<H: Xof, G: Xof> Row<Plain<4, 4, H, G>, 2560> for MlDsa44 {
+    fn recorded() -> ([u8; 1312], [u8; 2560], [u8; 2420]) {
+        (public_44(), private_44(), signature_44())
     }
 
-    fn public() -> [u8; 1312] {
-        constant::public_44()
-    }
-
-    fn private() -> Result<ml_dsa_44::PrivateKey<H, G>, Fault> {
-        ml_dsa_44::PrivateKey::<H, G>::try_from_bytes(constant::private_44())
-    }
-
-    fn is_private(key: ml_dsa_44::PrivateKey<H, G>) -> bool {
-        key.into_bytes() == constant::private_44()
-    }
-
-    fn key_bytes(
-        alloc: Global,
-        public: ml_dsa_44::PublicKey<H, G>,
-        private: ml_dsa_44::PrivateKey<H, G>,
-    ) -> Result<[Vec<u8>; 2], AllocError> {
-        let (pk, sk) = (public.into_bytes(), private.into_bytes());
-        Ok([Vec::from_slice(alloc, &pk)?, Vec::from_slice(alloc, &sk)?])
-    }
-
-    fn drawn_pair<R: CryptoRngCore>(
-        rng: &mut R,
-    ) -> Result<(ml_dsa_44::PublicKey<H, G>, ml_dsa_44::PrivateKey<H, G>), Fault> {
+    fn drawn_pair<R: CryptoRngCore>(rng: &mut R) -> Result<Plain<4, 4, H, G>, Fault> {
         ml_dsa_44::try_keygen_with_rng::<H, G, R>(rng)
     }
+
+    ghost fits = { Prim.search rules };
 }
 
-impl<H: Xof, G: Xof> Row<H, G> for MlDsa65 {
-    type Public = ml_dsa_65::PublicKey<H, G>;
-
-    type Private = ml_dsa_65::PrivateKey<H, G>;
-
-    fn signature() -> [u8; 3309] {
-        constant::signature_65()
+impl<H: Xof, G: Xof> Row<Plain<6, 5, H, G>, 4032> for MlDsa65 {
+    fn recorded() -> ([u8; 1952], [u8; 4032], [u8; 3309]) {
+        (public_65(), private_65(), signature_65())
     }
 
-    fn public() -> [u8; 1952] {
-        constant::public_65()
-    }
-
-    fn private() -> Result<ml_dsa_65::PrivateKey<H, G>, Fault> {
-        ml_dsa_65::PrivateKey::<H, G>::try_from_bytes(constant::private_65())
-    }
-
-    fn is_private(key: ml_dsa_65::PrivateKey<H, G>) -> bool {
-        key.into_bytes() == constant::private_65()
-    }
-
-    fn key_bytes(
-        alloc: Global,
-        public: ml_dsa_65::PublicKey<H, G>,
-        private: ml_dsa_65::PrivateKey<H, G>,
-    ) -> Result<[Vec<u8>; 2], AllocError> {
-        let (pk, sk) = (public.into_bytes(), private.into_bytes());
-        Ok([Vec::from_slice(alloc, &pk)?, Vec::from_slice(alloc, &sk)?])
-    }
-
-    fn drawn_pair<R: CryptoRngCore>(
-        rng: &mut R,
-    ) -> Result<(ml_dsa_65::PublicKey<H, G>, ml_dsa_65::PrivateKey<H, G>), Fault> {
+    fn drawn_pair<R: CryptoRngCore>(rng: &mut R) -> Result<Plain<6, 5, H, G>, Fault> {
         ml_dsa_65::try_keygen_with_rng::<H, G, R>(rng)
     }
+
+    ghost fits = { Prim.search rules };
 }
 
-impl<H: Xof, G: Xof> Row<H, G> for MlDsa87 {
-    type Public = ml_dsa_87::PublicKey<H, G>;
-
-    type Private = ml_dsa_87::PrivateKey<H, G>;
-
-    fn signature() -> [u8; 4627] {
-        constant::signature_87()
+impl<H: Xof, G: Xof> Row<Plain<8, 7, H, G>, 4896> for MlDsa87 {
+    fn recorded() -> ([u8; 2592], [u8; 4896], [u8; 4627]) {
+        (public_87(), private_87(), signature_87())
     }
 
-    fn public() -> [u8; 2592] {
-        constant::public_87()
-    }
-
-    fn private() -> Result<ml_dsa_87::PrivateKey<H, G>, Fault> {
-        ml_dsa_87::PrivateKey::<H, G>::try_from_bytes(constant::private_87())
-    }
-
-    fn is_private(key: ml_dsa_87::PrivateKey<H, G>) -> bool {
-        key.into_bytes() == constant::private_87()
-    }
-
-    fn key_bytes(
-        alloc: Global,
-        public: ml_dsa_87::PublicKey<H, G>,
-        private: ml_dsa_87::PrivateKey<H, G>,
-    ) -> Result<[Vec<u8>; 2], AllocError> {
-        let (pk, sk) = (public.into_bytes(), private.into_bytes());
-        Ok([Vec::from_slice(alloc, &pk)?, Vec::from_slice(alloc, &sk)?])
-    }
-
-    fn drawn_pair<R: CryptoRngCore>(
-        rng: &mut R,
-    ) -> Result<(ml_dsa_87::PublicKey<H, G>, ml_dsa_87::PrivateKey<H, G>), Fault> {
+    fn drawn_pair<R: CryptoRngCore>(rng: &mut R) -> Result<Plain<8, 7, H, G>, Fault> {
         ml_dsa_87::try_keygen_with_rng::<H, G, R>(rng)
     }
+
+    ghost fits = { Prim.search rules };
 }
 
-/// Set 44 over two streams.
-pub type Set44<H, G> = ml_dsa_44::KG<H, G>;
-
-/// Set 65 over two streams.
-pub type Set65<H, G> = ml_dsa_65::KG<H, G>;
-
-/// Set 87 over two streams.
-pub type Set87<H, G> = ml_dsa_87::KG<H, G>;
-
 /// Set 44 over constant streams.
-pub type Constant44 = Set44<Fill<0x55>, Fill<0>>;
-
-/// Set 65 over constant streams.
-pub type Constant65 = Set65<Fill<0x55>, Fill<0>>;
-
-/// Set 87 over constant streams.
-pub type Constant87 = Set87<Fill<0x55>, Fill<0>>;
+pub type Constant44 = ml_dsa_44::KG<Fill<0x55>, Fill<0>>;
 
 /// A set over two streams.
 pub trait TestSet {
     /// The bytes of a signature.
     type Signature: Copy + PartialEq + Drop;
 
-    /// A public key.
-    type Public: Judges<Self::Signature> + Drop;
+    /// Plain keys.
+    type Plain: Keys<Self::Signature> + Drop;
 
-    /// A private key.
-    type Private: Signs<Self::Signature> + Drop;
+    /// Prepared keys.
+    type Prepared: Keys<Self::Signature> + Drop;
 
-    /// A public key that is prepared.
-    type PreparedPublic: Judges<Self::Signature> + Drop;
+    /// The keys and the signature over constant streams, of their bytes.
+    fn constant() -> Result<(Self::Plain, Self::Signature), Fault>;
 
-    /// A private key that is prepared.
-    type PreparedPrivate: Signs<Self::Signature> + Drop;
+    /// Whether keys are those over constant streams, or their refusal.
+    fn is_constant(keys: Result<Self::Plain, Fault>) -> Result<bool, Fault>;
 
-    /// The signature over constant streams.
-    fn signature() -> Self::Signature;
+    /// Whether the public key of the private one is that over constant streams.
+    fn derives_constant(keys: &Self::Plain) -> Result<bool, Fault>;
+
+    /// With these bits changed in a byte of the private key: whether it has its bytes again, and whether it is whole.
+    fn read_again(keys: Self::Plain, at: usize, bits: u8) -> Result<[bool; 2], Fault>;
+
+    /// Both keys of a seed.
+    fn pair(seed: &[u8; 32]) -> Result<Self::Plain, Fault>;
+
+    /// Both keys of what a generator returns, by one of the calls that draw.
+    fn drawn_pair<R: CryptoRngCore>(rng: &mut R, call: PairCall) -> Result<Self::Plain, Fault>;
+
+    /// Both keys with their matrix.
+    fn prepared(keys: &Self::Plain) -> Result<Self::Prepared, Fault>;
+
+    /// The same, the private key first, so that a refusal is of this.
+    fn prepared_private_first(keys: &Self::Plain) -> Result<Self::Prepared, Fault>;
+
+    /// Signs the first messages under a context, with one call: as many as `answers` has room for, at most five.
+    fn sign_each(keys: &Self::Prepared, ctx: &[u8], answers: &mut [Result<Self::Signature, Fault>]);
+
+    /// Which of the signatures of the first messages, at most five, are accepted, with one call; false after these.
+    fn verify_each(keys: &Self::Prepared, signatures: &[Self::Signature], ctx: &[u8]) -> [bool; 5];
+
+    /// The bytes of both keys.
+    fn key_bytes(alloc: Global, keys: Self::Plain) -> Result<[Vec<u8>; 2], AllocError>;
 
     /// The bytes of a signature.
     fn bytes(signature: &Self::Signature) -> &[u8];
 
-    /// A signature with another bit in byte 100.
-    fn spoiled(signature: &Self::Signature) -> Self::Signature;
-
-    /// The public key over constant streams, of its bytes.
-    fn public() -> Result<Self::Public, Fault>;
-
-    /// The private key over constant streams, of its bytes.
-    fn private() -> Result<Self::Private, Fault>;
-
-    /// Whether a pair is that over constant streams.
-    fn is_pair(public: Self::Public, private: Self::Private) -> bool;
-
-    /// Whether a public key is that over constant streams.
-    fn is_public(public: Self::Public) -> bool;
-
-    /// Both keys of a seed.
-    fn pair(seed: &[u8; 32]) -> Result<(Self::Public, Self::Private), Fault>;
-
-    /// Both keys of what a generator returns, by one of the calls that draw.
-    fn drawn_pair<R: CryptoRngCore>(
-        rng: &mut R,
-        call: PairCall,
-    ) -> Result<(Self::Public, Self::Private), Fault>;
-
-    /// The public key of a private key.
-    fn derived(key: &Self::Private) -> Result<Self::Public, Fault>;
-
-    /// A public key with its matrix.
-    fn prepared_public(key: &Self::Public) -> Result<Self::PreparedPublic, Fault>;
-
-    /// A private key with its matrix.
-    fn prepared_private(key: &Self::Private) -> Result<Self::PreparedPrivate, Fault>;
-
-    /// Signs the first messages with a prepared key under a context, with one call: as many as `answers` has room for,
-    /// at most five.
-    fn sign_each(
-        key: &Self::PreparedPrivate,
-        ctx: &[u8],
-        answers: &mut [Result<Self::Signature, Fault>],
-    );
-
-    /// Which of the signatures of the first messages, at most five, a prepared key accepts, with one call; false after
-    /// these.
-    fn verify_each(
-        key: &Self::PreparedPublic,
-        signatures: &[Self::Signature],
-        ctx: &[u8],
-    ) -> [bool; 5];
-
-    /// The bytes of both keys.
-    fn key_bytes(
-        alloc: Global,
-        public: Self::Public,
-        private: Self::Private,
-    ) -> Result<[Vec<u8>; 2], AllocError>;
+    /// A signature with another bit in a byte.
+    fn spoiled(signature: &Self::Signature, at: usize) -> Self::Signature;
 }
 
 impl<
@@ -433,58 +287,47 @@ where
         PrivateKey = [u8; SK_LEN],
     >,
     S: SignatureSizes<K, L, N, SIG_LEN> + KeySizes<K, L, PK_LEN, SK_LEN>,
-    S: Row<H, G, Public = PublicKey<K, L, H, G>, Private = PrivateKey<K, L, H, G>>,
+    S: Row<Plain<K, L, H, G>, SK_LEN>,
 {
     type Signature = [u8; SIG_LEN];
 
-    type Public = PublicKey<K, L, H, G>;
+    type Plain = Plain<K, L, H, G>;
 
-    type Private = PrivateKey<K, L, H, G>;
+    type Prepared = Prepared<K, L, H>;
 
-    type PreparedPublic = PreparedPublicKey<K, L, H>;
-
-    type PreparedPrivate = PreparedPrivateKey<K, L, H>;
-
-    fn signature() -> [u8; SIG_LEN] {
-        S::signature()
+    fn constant() -> Result<(Plain<K, L, H, G>, [u8; SIG_LEN]), Fault> {
+        let (public, private, signature) = S::recorded();
+        let public = PublicKey::<K, L, H, G>::try_from_bytes(public)?;
+        let private = PrivateKey::<K, L, H, G>::try_from_bytes(private)?;
+        Ok(((public, private), signature))
     }
 
-    fn bytes(signature: &[u8; SIG_LEN]) -> &[u8] {
-        signature
+    fn is_constant(keys: Result<Plain<K, L, H, G>, Fault>) -> Result<bool, Fault> {
+        let (public, private) = keys?;
+        let recorded = S::recorded();
+        Ok(public.into_bytes() == recorded.0 && private.into_bytes() == recorded.1)
     }
 
-    fn spoiled(signature: &[u8; SIG_LEN]) -> [u8; SIG_LEN] {
-        let mut other = *signature;
-        if let Some(byte) = other.get_mut(100) {
-            *byte ^= 1;
-        }
-        other
+    fn derives_constant(keys: &Plain<K, L, H, G>) -> Result<bool, Fault> {
+        Ok(keys.1.get_public_key()?.into_bytes() == S::recorded().0)
     }
 
-    fn public() -> Result<Self::Public, Fault> {
-        PublicKey::<K, L, H, G>::try_from_bytes(S::public())
+    fn read_again(keys: Plain<K, L, H, G>, at: usize, bits: u8) -> Result<[bool; 2], Fault> {
+        let mut bytes = keys.1.into_bytes();
+        change(&mut bytes, at, bits);
+        let key = PrivateKey::<K, L, H, G>::try_from_bytes(bytes)?;
+        let is_whole = key.is_whole()?;
+        Ok([key.into_bytes() == bytes, is_whole])
     }
 
-    fn private() -> Result<Self::Private, Fault> {
-        S::private()
-    }
-
-    fn is_pair(public: Self::Public, private: Self::Private) -> bool {
-        public.into_bytes() == S::public() && S::is_private(private)
-    }
-
-    fn is_public(public: Self::Public) -> bool {
-        public.into_bytes() == S::public()
-    }
-
-    fn pair(seed: &[u8; 32]) -> Result<(Self::Public, Self::Private), Fault> {
+    fn pair(seed: &[u8; 32]) -> Result<Plain<K, L, H, G>, Fault> {
         KG::<K, L, H, G>::keygen_from_seed(seed)
     }
 
     fn drawn_pair<R: CryptoRngCore>(
         rng: &mut R,
         call: PairCall,
-    ) -> Result<(Self::Public, Self::Private), Fault> {
+    ) -> Result<Plain<K, L, H, G>, Fault> {
         match call {
             PairCall::OfTrait => KG::<K, L, H, G>::try_keygen_with_rng(rng),
             PairCall::OfSet => S::drawn_pair::<R>(rng),
@@ -492,25 +335,22 @@ where
         }
     }
 
-    fn derived(key: &Self::Private) -> Result<Self::Public, Fault> {
-        key.get_public_key()
+    fn prepared(keys: &Plain<K, L, H, G>) -> Result<Prepared<K, L, H>, Fault> {
+        Ok((keys.0.prepare()?, keys.1.prepare()?))
     }
 
-    fn prepared_public(key: &Self::Public) -> Result<Self::PreparedPublic, Fault> {
-        key.prepare()
-    }
-
-    fn prepared_private(key: &Self::Private) -> Result<Self::PreparedPrivate, Fault> {
-        key.prepare()
+    fn prepared_private_first(keys: &Plain<K, L, H, G>) -> Result<Prepared<K, L, H>, Fault> {
+        let private = keys.1.prepare()?;
+        Ok((keys.0.prepare()?, private))
     }
 
     fn sign_each(
-        key: &Self::PreparedPrivate,
+        keys: &Prepared<K, L, H>,
         ctx: &[u8],
         answers: &mut [Result<[u8; SIG_LEN], Fault>],
     ) {
         let count = answers.len().min(5);
-        key.sign_each(
+        keys.1.sign_each(
             &SEEDS[..count],
             &MESSAGES[..count],
             ctx,
@@ -519,13 +359,13 @@ where
     }
 
     fn verify_each(
-        key: &Self::PreparedPublic,
+        keys: &Prepared<K, L, H>,
         signatures: &[[u8; SIG_LEN]],
         ctx: &[u8],
     ) -> [bool; 5] {
         let count = signatures.len().min(5);
         let mut verdicts = [false; 5];
-        key.verify_each(
+        keys.0.verify_each(
             &MESSAGES[..count],
             &signatures[..count],
             ctx,
@@ -534,11 +374,43 @@ where
         verdicts
     }
 
-    fn key_bytes(
-        alloc: Global,
-        public: Self::Public,
-        private: Self::Private,
-    ) -> Result<[Vec<u8>; 2], AllocError> {
-        S::key_bytes(alloc, public, private)
+    fn key_bytes(alloc: Global, keys: Plain<K, L, H, G>) -> Result<[Vec<u8>; 2], AllocError> {
+        let (public, private) = (keys.0.into_bytes(), keys.1.into_bytes());
+        Ok([
+            Vec::from_slice(alloc, &public)?,
+            Vec::from_slice(alloc, &private)?,
+        ])
     }
+
+    fn bytes(signature: &[u8; SIG_LEN]) -> &[u8] {
+        signature
+    }
+
+    fn spoiled(signature: &[u8; SIG_LEN], at: usize) -> [u8; SIG_LEN] {
+        let mut other = *signature;
+        change(&mut other, at, 1);
+        other
+    }
+}
+
+/// What is tried at a set.
+pub trait Suite {
+    ghost use Rattle.std.specs.Prelude.{◌<◌};
+
+    /// What it finds.
+    type Answer: Drop;
+
+    /// What it finds at a set, of which this is the number: 0, 1 and 2 for 44, 65 and 87.
+    fn at<S: TestSet>(&self, number: usize) -> Result<Self::Answer, Fail>
+        requires { number < 3 };
+}
+
+/// What is found at each set over these streams. No other function names a type of each set, since it takes the prover
+/// seconds.
+pub fn at_each_set<H: Xof, G: Xof, X: Suite>(suite: &X) -> Result<[X::Answer; 3], Fail> {
+    Ok([
+        suite.at::<ml_dsa_44::KG<H, G>>(0)?,
+        suite.at::<ml_dsa_65::KG<H, G>>(1)?,
+        suite.at::<ml_dsa_87::KG<H, G>>(2)?,
+    ])
 }

@@ -4,16 +4,17 @@
 ghost use Rattle.std.specs.Prelude.{◌≡◌, ◌≤◌, ◌+◌, ◌⊎◌, ◌≤ℤ◌, pos};
 
 use crate::arithmetic::polynomials::slow_product;
-use crate::keys::sets::{Constant44, Judges, Set44, Signs, TestSet, Text, is_same};
-use crate::signatures::each_set::{Spoils, Suite, at_each_set};
+use crate::keys::sets::{Constant44, Keys, Suite, TestSet, Text, at_each_set, is_same};
+use crate::signatures::norms_and_hints::accepted;
 use crate::streams::input_chosen::{ByLength, Second};
 use crate::streams::written_fronts::{FourthTriples, Patterned};
 use crate::values::constant_streams::{private_44, put_fields, signature_44};
+use fips204::Fault;
 use fips204::hashing::{expand_mask, sample_in_ball};
+use fips204::ml_dsa_44::{KG, PrivateKey};
 use fips204::traits::SerDes;
 use fips204::types::R;
 use fips204::xof::{Fill, Sha256Ctr, Xof};
-use fips204::{Fault, ml_dsa_44};
 use std::test::Fail;
 
 /// The streams whose matrix entries keep their last coefficient from the last triple.
@@ -25,34 +26,62 @@ type PastLastTriple = Patterned<FourthTriples<12>>;
 /// The message that is signed here.
 const TEXT: Text = Text::Message(b"abc", &[]);
 
-/// What calls return, beside what they return over constant streams, or their refusals: a pair of keys, the public key
-/// of the private one, a signature, and whether that is accepted; and the last two by prepared keys, or the refusals to
-/// prepare them.
-fn answers<S: TestSet>() -> Result<[Result<bool, Fault>; 6], Fault> {
-    let (public, private, signature) = (S::public()?, S::private()?, S::signature());
-    let signer = S::prepared_private(&private);
-    Ok([
-        S::pair(&[7; 32]).map(|(public, private)| S::is_pair(public, private)),
-        S::derived(&private).map(|public| S::is_public(public)),
-        is_same(private.seeded(&[0; 32], &TEXT), &signature),
-        Ok(public.accepts(&TEXT, &signature)),
-        signer.and_then(|key| is_same(key.seeded(&[0; 32], &TEXT), &signature)),
-        S::prepared_public(&public).map(|key| key.accepts(&TEXT, &signature)),
-    ])
+/// Whether the pair of a seed is that over constant streams, and so the public key of the private one, and whether this
+/// comes back from its bytes and is whole; the refusals to prepare both; and whether plain and prepared keys sign as over
+/// constant streams, and accept that signature.
+type Answers = (
+    [Result<bool, Fault>; 3],
+    [Option<Fault>; 2],
+    [[Result<bool, Fault>; 2]; 2],
+);
+
+/// What keys over constant streams answer.
+pub const ALL: Answers = ([Ok(true); 3], [None; 2], [[Ok(true); 2]; 2]);
+
+/// What is refused without a matrix.
+const LIMIT: Result<bool, Fault> = Err(Fault::SamplingLimit);
+
+/// Whether keys sign with this signature, and accept it.
+fn signed<S: PartialEq + Drop, K: Keys<S>>(keys: &K, signature: &S) -> [Result<bool, Fault>; 2] {
+    [
+        is_same(keys.seeded(&[0; 32], &TEXT), signature),
+        Ok(keys.accepts(&TEXT, signature)),
+    ]
 }
 
-/// What calls return.
+/// What the calls of a set return, or their refusals.
+fn answers<S: TestSet>(seed: &[u8; 32]) -> Result<Answers, Fault> {
+    let (keys, signature) = S::constant()?;
+    let signatures = [
+        signed(&keys, &signature),
+        match S::prepared(&keys) {
+            Ok(prepared) => signed(&prepared, &signature),
+            Err(fault) => [Err(fault); 2],
+        },
+    ];
+    let refusals = [
+        S::prepared(&keys).err(),
+        S::prepared_private_first(&keys).err(),
+    ];
+    let read = [
+        S::is_constant(S::pair(seed)),
+        S::derives_constant(&keys),
+        is_same(S::read_again(keys, 0, 0), &[true; 2]),
+    ];
+    Ok((read, refusals, signatures))
+}
+
+/// What the calls of a set return; the pair is of this seed.
 #[derive(Drop)]
-struct LimitedCalls;
+pub struct Calls {
+    pub seed: [u8; 32],
+}
 
-impl Suite for LimitedCalls {
-    type Answer = [Result<bool, Fault>; 6];
+impl Suite for Calls {
+    type Answer = Answers;
 
-    fn at<S: TestSet>(&self, _number: usize) -> Result<[Result<bool, Fault>; 6], Fail>
-    where
-        S::Signature: Spoils,
-    {
-        Ok(answers::<S>()?)
+    fn at<S: TestSet>(&self, _number: usize) -> Result<Answers, Fail> {
+        Ok(answers::<S>(&self.seed)?)
     }
 }
 
@@ -60,107 +89,72 @@ impl Suite for LimitedCalls {
 /// verifying return what they return over constant streams.
 #[test]
 fn calls_whose_matrix_ends_at_its_last_triple(rt: HostRuntime) -> Result<(), Fail> {
-    let found = at_each_set::<Fill<0x55>, LastTriple, LimitedCalls>(&LimitedCalls)?;
-    assert_eq!(rt; found, [[Ok(true); 6]; 3]);
+    let found = at_each_set::<Fill<0x55>, LastTriple, Calls>(&Calls { seed: [7; 32] })?;
+    assert_eq!(rt; found, [ALL; 3]);
     Ok(())
 }
 
-/// Past that limit each call returns `SamplingLimit`, also `prepare`, and verifying returns false.
+/// Past that limit, and with `G` of bytes FF, each call returns `SamplingLimit`, also `prepare` and `is_whole`, and
+/// verifying returns false.
 #[test]
 fn calls_whose_matrix_passes_its_limit(rt: HostRuntime) -> Result<(), Fail> {
-    let limit = Err(Fault::SamplingLimit);
-    let refused = [[limit, limit, limit, Ok(false), limit, limit]; 3];
-    let found = at_each_set::<Fill<0x55>, PastLastTriple, LimitedCalls>(&LimitedCalls)?;
+    let refused = [(
+        [LIMIT; 3],
+        [Some(Fault::SamplingLimit); 2],
+        [[LIMIT, Ok(false)], [LIMIT; 2]],
+    ); 3];
+    let calls = Calls { seed: [7; 32] };
+    let found = at_each_set::<Fill<0x55>, PastLastTriple, Calls>(&calls)?;
     assert_eq!(rt; found, refused);
-    let found = at_each_set::<Fill<0x55>, Fill<0xff>, LimitedCalls>(&LimitedCalls)?;
+    let found = at_each_set::<Fill<0x55>, Fill<0xff>, Calls>(&calls)?;
+    assert_eq!(rt; found, refused);
+    let calls = Calls { seed: [0; 32] };
+    let found = at_each_set::<Fill<0x55>, Fill<0xff>, Calls>(&calls)?;
+    assert_eq!(rt; found, refused);
+    let found = at_each_set::<Sha256Ctr, Fill<0xff>, Calls>(&calls)?;
+    assert_eq!(rt; found, refused);
+    let found = at_each_set::<Fill<0xff>, Fill<0xff>, Calls>(&calls)?;
     assert_eq!(rt; found, refused);
     Ok(())
 }
 
 /// `H` of bytes FF over inputs of 32 bytes and else 55, set 44: the same keys, `SamplingLimit` in signing,
-/// and false, with plain and prepared keys.
+/// and false, with plain and prepared keys. `H` of bytes FF, each set: `SamplingLimit` in key generation too, and false
+/// also of a signature that begins with bytes FF.
 #[test]
-fn challenges_that_pass_their_limit(rt: HostRuntime) {
-    let limit = Err(Fault::SamplingLimit);
+fn challenges_that_pass_their_limit(rt: HostRuntime) -> Result<(), Fail> {
+    let none = [[LIMIT, Ok(false)]; 2];
+    let found = answers::<KG<ByLength, Fill<0>>>(&[7; 32])?;
+    assert_eq!(rt; found, ([Ok(true); 3], [None; 2], none));
+    let found = at_each_set::<Fill<0xff>, Fill<0>, Calls>(&Calls { seed: [0; 32] })?;
+    assert_eq!(rt; found, [([LIMIT, Ok(true), Ok(true)], [None; 2], none); 3]);
+    let mut signature = signature_44();
+    signature[..32].fill(0xff);
     assert_eq!(rt;
-        answers::<Set44<ByLength, Fill<0>>>(),
-        Ok([Ok(true), Ok(true), limit, Ok(false), limit, Ok(false)])
+        accepted::<KG<Fill<0xff>, Fill<0>>>(&signature)?,
+        [false; 2]
     );
-}
-
-/// The refusal of both keys of 32 bytes 00.
-#[derive(Drop)]
-struct PairFault;
-
-impl Suite for PairFault {
-    type Answer = Option<Fault>;
-
-    fn at<S: TestSet>(&self, _number: usize) -> Result<Option<Fault>, Fail>
-    where
-        S::Signature: Spoils,
-    {
-        Ok(S::pair(&[0; 32]).err())
-    }
-}
-
-/// Key generation with `G`, or `H`, of bytes FF returns `SamplingLimit`.
-#[test]
-fn key_generation_past_limits(rt: HostRuntime) -> Result<(), Fail> {
-    let limit = [Some(Fault::SamplingLimit); 3];
-    let found = at_each_set::<Fill<0x55>, Fill<0xff>, PairFault>(&PairFault)?;
-    assert_eq!(rt; found, limit);
-    let found = at_each_set::<Sha256Ctr, Fill<0xff>, PairFault>(&PairFault)?;
-    assert_eq!(rt; found, limit);
-    let found = at_each_set::<Fill<0xff>, Fill<0xff>, PairFault>(&PairFault)?;
-    assert_eq!(rt; found, limit);
-    let found = at_each_set::<Fill<0xff>, Fill<0>, PairFault>(&PairFault)?;
-    assert_eq!(rt; found, limit);
     Ok(())
 }
 
-/// Whether the signature of set 44 with the first bytes of a front of bytes FF is accepted where `H` has bytes FF, by
-/// the plain public key and by the prepared one.
-fn accepts_commitment_of_ff() -> Result<[bool; 2], Fault> {
-    let mut signature = signature_44();
-    for i in 0..32usize {
-        signature[i] = 0xff;
-    }
-    let public = Set44::<Fill<0xff>, Fill<0>>::public()?;
-    let prepared = Set44::<Fill<0xff>, Fill<0>>::prepared_public(&public)?;
+/// The refusals of a signature by plain keys and by the prepared ones.
+fn signing_faults<S: TestSet>(keys: &S::Plain) -> Result<[Option<Fault>; 2], Fault> {
+    let prepared = S::prepared(keys)?;
     Ok([
-        public.accepts(&TEXT, &signature),
-        prepared.accepts(&TEXT, &signature),
+        keys.seeded(&[0; 32], &TEXT).err(),
+        prepared.seeded(&[0; 32], &TEXT).err(),
     ])
 }
 
-/// Verifying returns false where matrix or challenge reach their limit.
-#[test]
-fn verifying_past_limits(rt: HostRuntime) {
-    assert_eq!(rt; accepts_commitment_of_ff(), Ok([false; 2]));
-}
-
-/// The refusals of a signature by a private key and by the prepared one.
-fn signing_faults<S: TestSet>(key: &S::Private) -> Result<[Option<Fault>; 2], Fault> {
-    let signer = S::prepared_private(key)?;
-    Ok([
-        key.seeded(&[0; 32], &TEXT).err(),
-        signer.seeded(&[0; 32], &TEXT).err(),
-    ])
-}
-
-/// The refusals of a signature by the private key of 32 bytes 00.
+/// The refusals of a signature by the keys of 32 bytes 00.
 #[derive(Drop)]
 struct SigningFaults;
 
 impl Suite for SigningFaults {
     type Answer = [Option<Fault>; 2];
 
-    fn at<S: TestSet>(&self, _number: usize) -> Result<[Option<Fault>; 2], Fail>
-    where
-        S::Signature: Spoils,
-    {
-        let (_, key) = S::pair(&[0; 32])?;
-        Ok(signing_faults::<S>(&key)?)
+    fn at<S: TestSet>(&self, _number: usize) -> Result<[Option<Fault>; 2], Fail> {
+        Ok(signing_faults::<S>(&S::pair(&[0; 32])?)?)
     }
 }
 
@@ -172,26 +166,31 @@ fn keys_that_never_sign(rt: HostRuntime) -> Result<(), Fail> {
     Ok(())
 }
 
-/// The private key of set 44 with other fields in the first polynomial of t0: 0 at even places up to 36,
-/// and 8191 at odd places up to 37 and at 170.
-fn with_low_parts() -> [u8; 2560] {
-    let mut key = private_44();
-    let mut fields = [4094; 256];
-    for place in 0..38usize {
-        fields[place] = if place % 2 == 0 { 0 } else { 8191 };
-    }
-    fields[170] = 8191;
-    put_fields(&mut key[896..1312], &fields, 13);
-    key
-}
-
-/// A key of set 44 with another t0, whose product with the challenge is too large: `TooManyAttempts`.
+/// A key of set 44 with another first polynomial of t0: -4095 at odd places up to 37 and at 170, and 4096 at even places
+/// between. Its product with the challenge is too large, 159724 at index 255 by double sums: `TooManyAttempts`.
 #[test]
 fn low_parts_that_never_sign(rt: HostRuntime) -> Result<(), Fail> {
-    let key = ml_dsa_44::PrivateKey::<Fill<0x55>, Fill<0>>::try_from_bytes(with_low_parts())?;
+    let R(c) = sample_in_ball::<Fill<0x55>>(39, &[0x55; 32])?;
+    let (mut low, mut fields) = ([2i32; 256], [4094; 256]);
+    for place in 0..38usize {
+        (low[place], fields[place]) = if place % 2 == 0 {
+            (4096, 0)
+        } else {
+            (-4095, 8191)
+        };
+    }
+    (low[170], fields[170]) = (-4095, 8191);
+    assert!(rt; slow_product(&c, &low)[255] == 159724);
+    let mut bytes = private_44();
+    put_fields(&mut bytes[896..1312], &fields, 13);
+    let ((public, _), _) = Constant44::constant()?;
+    let keys = (
+        public,
+        PrivateKey::<Fill<0x55>, Fill<0>>::try_from_bytes(bytes)?,
+    );
     let many = Ok([Some(Fault::TooManyAttempts); 2]);
-    assert_eq!(rt; signing_faults::<Constant44>(&key), many);
-    assert!(rt; Constant44::is_public(Constant44::derived(&key)?));
+    assert_eq!(rt; signing_faults::<Constant44>(&keys), many);
+    assert_eq!(rt; Constant44::derives_constant(&keys), Ok(true));
     Ok(())
 }
 
@@ -233,7 +232,7 @@ fn first_attempts_that_are_rejected(rt: HostRuntime) -> Result<(), Fail> {
     assert!(rt; masks_are::<4, Second>(131072, 0, 131072));
     assert!(rt; smallest_response::<Second>(131072, 39, 2)? == 131066);
     assert!(rt; masks_are::<4, Second>(131072, 4, 43691));
-    assert!(rt; answers::<Set44<Second, Fill<0>>>()? == [Ok(true); 6]);
+    assert_eq!(rt; answers::<KG<Second, Fill<0>>>(&[7; 32])?, ALL);
     Ok(())
 }
 
@@ -250,18 +249,5 @@ fn responses_over_zeros(rt: HostRuntime) -> Result<(), Fail> {
     assert!(rt; smallest_response::<Fill<0>>(131072, 39, 2)? == 130998);
     assert!(rt; smallest_response::<Fill<0>>(524288, 49, 4)? == 524100);
     assert!(rt; smallest_response::<Fill<0>>(524288, 60, 2)? == 524172);
-    Ok(())
-}
-
-/// A product of challenge and t0 that is too large: 159724 at index 255, by double sums.
-#[test]
-fn challenge_times_large_low_parts(rt: HostRuntime) -> Result<(), Fail> {
-    let R(c) = sample_in_ball::<Fill<0x55>>(39, &[0x55; 32])?;
-    let mut low = [2i32; 256];
-    for place in 0..38usize {
-        low[place] = if place % 2 == 0 { 4096 } else { -4095 };
-    }
-    low[170] = -4095;
-    assert!(rt; slow_product(&c, &low)[255] == 159724);
     Ok(())
 }

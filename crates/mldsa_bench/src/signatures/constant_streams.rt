@@ -1,9 +1,8 @@
 //! Every call that signs or verifies over constant streams, at each set, with plain and with prepared keys.
 #![tactic(auto)]
 
-use crate::keys::sets::{Judges, Signs, TestSet, Text, is_same};
+use crate::keys::sets::{Keys, Suite, TestSet, Text, at_each_set, is_same};
 use crate::signatures::digests::REFUSED_DIGESTS;
-use crate::signatures::each_set::{Spoils, Suite, at_each_set};
 use crate::signatures::generators::RefusesAt;
 use fips204::Fault;
 use fips204::pre_hash::{SHA2_256, SHA2_512};
@@ -38,53 +37,56 @@ const TOO_LONG: [(Text, Fault); 8] = [
     (Text::Digest(&[9; 32], &[1; 256], &SHA2_256), Fault::HashCtx),
 ];
 
-/// Whether each call that signs a text gives this signature: with random bytes that are given, and with drawn
-/// ones. A hook that is not hedged draws none.
-fn is_signed<S: PartialEq + Drop, K: Signs<S>>(key: &K, text: &Text, signature: &S) -> bool {
+/// Whether each call that signs a text gives this signature, with random bytes that are given and with drawn ones, and it
+/// is accepted. A hook that is not hedged draws none.
+fn is_signed<S: PartialEq + Drop, K: Keys<S>>(keys: &K, text: &Text, signature: &S) -> bool {
     let mut rng = RefusesAt::new(255, false);
     let answers = [
-        is_same(key.seeded(&[0; 32], text), signature),
-        is_same(key.seeded(&[7; 32], text), signature),
-        is_same(key.drawn(&mut rng, true, text), signature),
-        is_same(key.drawn(&mut rng, false, text), signature),
+        is_same(keys.seeded(&[0; 32], text), signature),
+        is_same(keys.seeded(&[7; 32], text), signature),
+        is_same(keys.drawn(&mut rng, true, text), signature),
+        is_same(keys.drawn(&mut rng, false, text), signature),
+        Ok(keys.accepts(text, signature)),
     ];
-    answers == [Ok(true); 4] && rng.asked == if text.is_of_hook() { 1 } else { 2 }
+    let of_hook = matches!(text, Text::Framed(_) | Text::Hash(_));
+    answers == [Ok(true); 5] && rng.asked == if of_hook { 1 } else { 2 }
 }
 
-/// Whether each call that signs a text refuses so, and asks no generator.
-fn is_refused<S: PartialEq + Drop, K: Signs<S>>(
-    key: &K,
+/// Whether each call that signs a text refuses so, and asks no generator, and the signature is not accepted.
+fn is_refused<S: PartialEq + Drop, K: Keys<S>>(
+    keys: &K,
     text: &Text,
     fault: Fault,
     signature: &S,
 ) -> bool {
     let mut rng = RefusesAt::new(0, true);
     let answers = [
-        is_same(key.seeded(&[0; 32], text), signature),
-        is_same(key.drawn(&mut rng, true, text), signature),
+        is_same(keys.seeded(&[0; 32], text), signature),
+        is_same(keys.drawn(&mut rng, true, text), signature),
+        Ok(keys.accepts(text, signature)),
     ];
-    answers == [Err(fault); 2] && rng.asked == 0
+    answers == [Err(fault), Err(fault), Ok(false)] && rng.asked == 0
 }
 
-/// The first text to be signed that is not signed and accepted, and the first with a context that is too long, and the
-/// first digest, that are not refused.
-fn first_wrong<S: PartialEq + Drop, K: Signs<S>, P: Judges<S>>(
-    private: &K,
-    public: &P,
-    signature: &S,
-) -> [Option<usize>; 3] {
-    [
-        SIGNED.iter().position(|text| {
-            !is_signed(private, text, signature) || !public.accepts(text, signature)
-        }),
-        TOO_LONG.iter().position(|(text, fault)| {
-            !is_refused(private, text, *fault, signature) || public.accepts(text, signature)
-        }),
-        REFUSED_DIGESTS.iter().position(|(digest, oid, fault)| {
-            let text = Text::Digest(digest, &[], oid);
-            !is_refused(private, &text, *fault, signature) || public.accepts(&text, signature)
-        }),
-    ]
+/// The first text to be signed that is not, and the first with a context that is too long, or the first digest, that is
+/// not refused: the table and the row.
+fn first_wrong<S: PartialEq + Drop, K: Keys<S>>(keys: &K, signature: &S) -> Option<(u8, usize)> {
+    for (row, text) in SIGNED.iter().enumerate() {
+        if !is_signed(keys, text, signature) {
+            return Some((0, row));
+        }
+    }
+    for (row, (text, fault)) in TOO_LONG.iter().enumerate() {
+        if !is_refused(keys, text, *fault, signature) {
+            return Some((1, row));
+        }
+    }
+    for (row, (digest, oid, fault)) in REFUSED_DIGESTS.iter().enumerate() {
+        if !is_refused(keys, &Text::Digest(digest, &[], oid), *fault, signature) {
+            return Some((2, row));
+        }
+    }
+    None
 }
 
 /// The same of plain and of prepared keys of a set.
@@ -92,18 +94,14 @@ fn first_wrong<S: PartialEq + Drop, K: Signs<S>, P: Judges<S>>(
 struct FirstWrong;
 
 impl Suite for FirstWrong {
-    type Answer = [[Option<usize>; 3]; 2];
+    type Answer = [Option<(u8, usize)>; 2];
 
-    fn at<S: TestSet>(&self, _number: usize) -> Result<[[Option<usize>; 3]; 2], Fail>
-    where
-        S::Signature: Spoils,
-    {
-        let (public, private, signature) = (S::public()?, S::private()?, S::signature());
-        let verifier = S::prepared_public(&public)?;
-        let signer = S::prepared_private(&private)?;
+    fn at<S: TestSet>(&self, _number: usize) -> Result<[Option<(u8, usize)>; 2], Fail> {
+        let (keys, signature) = S::constant()?;
+        let prepared = S::prepared(&keys)?;
         Ok([
-            first_wrong(&private, &public, &signature),
-            first_wrong(&signer, &verifier, &signature),
+            first_wrong(&keys, &signature),
+            first_wrong(&prepared, &signature),
         ])
     }
 }
@@ -113,6 +111,6 @@ impl Suite for FirstWrong {
 #[test]
 fn signatures_of_each_set(rt: HostRuntime) -> Result<(), Fail> {
     let found = at_each_set::<Fill<0x55>, Fill<0>, FirstWrong>(&FirstWrong)?;
-    assert_eq!(rt; found, [[[None; 3]; 2]; 3]);
+    assert_eq!(rt; found, [[None; 2]; 3]);
     Ok(())
 }

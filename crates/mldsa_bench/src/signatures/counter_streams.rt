@@ -1,9 +1,8 @@
 //! Key pairs and signatures over the counter streams, at each set, with plain and with prepared keys.
 #![tactic(auto)]
 
-use crate::keys::sets::{Judges, MESSAGES, PairCall, SEEDS, Signs, TestSet, Text};
-use crate::signatures::each_set::{Spoils, Suite, at_each_set};
-use crate::values::{RECORDED, has_text};
+use crate::keys::sets::{Keys, MESSAGES, PairCall, SEEDS, Suite, TestSet, Text, at_each_set};
+use crate::values::{has_text, recorded};
 use fips204::Fault;
 use fips204::pre_hash::SHA2_256;
 use fips204::traits::DummyRng;
@@ -15,87 +14,90 @@ use std::test::Fail;
 /// The message `00` with an empty context.
 const MESSAGE: Text = Text::Message(&[0], &[]);
 
-/// Which of these a key accepts: a signature of the message `00` with an empty context, of another message and of
-/// another context, and another signature.
-fn verdicts<S, P: Judges<S>>(key: &P, signature: &S, other: &S) -> [bool; 4] {
-    [
-        key.accepts(&MESSAGE, signature),
-        key.accepts(&Text::Message(&[1], &[]), signature),
-        key.accepts(&Text::Message(&[0], &[0]), signature),
-        key.accepts(&MESSAGE, other),
-    ]
-}
+/// The digest of 32 bytes 00 with an empty context.
+const DIGEST: Text = Text::Digest(&[0; 32], &[], &SHA2_256);
 
-/// Whether the signatures of the message `00` by 32 bytes 00 are these, in hex, drawn or not, of a private key and of
-/// the prepared one.
-fn are_signed<S: TestSet>(
-    alloc: Global,
-    private: &S::Private,
-    signature: &S::Signature,
-    recorded: &str,
-) -> Result<[bool; 4], Fail> {
-    let signer = S::prepared_private(private)?;
-    let mut zeros = DummyRng { bytes: [0; 32] };
-    Ok([
-        has_text(alloc, S::bytes(signature), recorded)?,
-        private.drawn(&mut zeros, true, &MESSAGE)? == *signature,
-        signer.seeded(&[0; 32], &MESSAGE)? == *signature,
-        signer.drawn(&mut zeros, true, &MESSAGE)? == *signature,
-    ])
+/// The SHA-256 of signed digests at each set, in hex.
+const DIGESTS: [&str; 3] = [
+    "4309fb4dd5abe94f0f311fc405d50c307e428f4ca843ab68bacc8d87e084f95b",
+    "542f532c1bf976d659e5c6dd8eeb5c4da20bb5c06cb1f6eaf31cd434c2441e6f",
+    "91bf84c83703a7204ddbf8f96f6f16c93201c72afb6296ed2f4575970081d8e5",
+];
+
+/// What keys sign with 32 bytes 00, given and drawn; and whether the two are one, and accepted, of another message, under
+/// another context, and with another bit in byte 100.
+fn signed<S: TestSet, K: Keys<S::Signature>>(
+    keys: &K,
+    text: &Text,
+) -> Result<(S::Signature, [bool; 5]), Fault> {
+    let signature = keys.seeded(&[0; 32], text)?;
+    let drawn = keys.drawn(&mut DummyRng { bytes: [0; 32] }, true, text)?;
+    let answers = [
+        drawn == signature,
+        keys.accepts(text, &signature),
+        keys.accepts(&Text::Message(&[1], &[]), &signature),
+        keys.accepts(&Text::Message(&[0], &[0]), &signature),
+        keys.accepts(text, &S::spoiled(&signature, 100)),
+    ];
+    Ok((signature, answers))
 }
 
 /// Whether both keys are these, in hex.
 fn are_keys<S: TestSet>(
     alloc: Global,
-    pair: (S::Public, S::Private),
+    keys: S::Plain,
     recorded: [&str; 4],
 ) -> Result<[bool; 2], Fail> {
-    let [public, private] = S::key_bytes(alloc, pair.0, pair.1)?;
+    let [public, private] = S::key_bytes(alloc, keys)?;
     Ok([
         has_text(alloc, public.as_slice(), recorded[1])?,
         has_text(alloc, private.as_slice(), recorded[2])?,
     ])
 }
 
-/// The pairs of 32 bytes 00, given and drawn, and their signatures beside those that are recorded.
+/// Whether the pairs of 32 bytes 00, given and drawn, and the signatures of a message and of a digest are as recorded; and
+/// what plain and prepared keys answer of these, the same by both.
 #[derive(Drop)]
 struct Bytes {
     alloc: Global,
 }
 
 impl Suite for Bytes {
-    type Answer = ([[bool; 2]; 2], [bool; 4], [[bool; 4]; 2]);
+    type Answer = ([[bool; 2]; 2], [bool; 4], [[bool; 5]; 4]);
 
-    fn at<S: TestSet>(&self, number: usize) -> Result<Self::Answer, Fail>
-    where
-        S::Signature: Spoils,
-    {
-        let recorded = RECORDED[number];
+    fn at<S: TestSet>(&self, number: usize) -> Result<Self::Answer, Fail> {
+        let (alloc, recorded) = (self.alloc, recorded(number));
         let drawn = S::drawn_pair(&mut DummyRng { bytes: [0; 32] }, PairCall::OfTrait)?;
-        let (public, private) = S::pair(&[0; 32])?;
-        let verifier = S::prepared_public(&public)?;
-        let signature = private.seeded(&[0; 32], &MESSAGE)?;
-        let other = signature.spoiled(100);
-        let signed = are_signed::<S>(self.alloc, &private, &signature, recorded[3])?;
-        let accepted = [
-            verdicts(&public, &signature, &other),
-            verdicts(&verifier, &signature, &other),
+        let keys = S::pair(&[0; 32])?;
+        let prepared = S::prepared(&keys)?;
+        let (message, first) = signed::<S, S::Plain>(&keys, &MESSAGE)?;
+        let (digest, second) = signed::<S, S::Plain>(&keys, &DIGEST)?;
+        let (same_message, third) = signed::<S, S::Prepared>(&prepared, &MESSAGE)?;
+        let (same_digest, fourth) = signed::<S, S::Prepared>(&prepared, &DIGEST)?;
+        let hash = Sha256::digest(S::bytes(&digest));
+        let signatures = [
+            has_text(alloc, S::bytes(&message), recorded[3])?,
+            has_text(alloc, hash.as_slice(), DIGESTS[number])?,
+            same_message == message,
+            same_digest == digest,
         ];
-        let given = are_keys::<S>(self.alloc, (public, private), recorded)?;
-        let drawn = are_keys::<S>(self.alloc, drawn, recorded)?;
-        Ok(([given, drawn], signed, accepted))
+        let pairs = [
+            are_keys::<S>(alloc, keys, recorded)?,
+            are_keys::<S>(alloc, drawn, recorded)?,
+        ];
+        Ok((pairs, signatures, [first, second, third, fourth]))
     }
 }
 
-/// What is found where all is recorded, and one verdict of four is yes.
-const ALL: ([[bool; 2]; 2], [bool; 4], [[bool; 4]; 2]) = (
+/// What is found where all is as recorded: two verdicts of five are yes.
+const ALL: ([[bool; 2]; 2], [bool; 4], [[bool; 5]; 4]) = (
     [[true; 2]; 2],
     [true; 4],
-    [[true, false, false, false]; 2],
+    [[true, true, false, false, false]; 4],
 );
 
-/// Key pairs and signatures over the counter streams, byte for byte, with seeds of 32 bytes 00 given or
-/// drawn, by plain and prepared keys; another message, context or bit is rejected.
+/// Key pairs and signatures of a message and of a digest over the counter streams, byte for byte or by SHA-256, with seeds
+/// of 32 bytes 00 given or drawn, by plain and prepared keys; another message, context or bit is rejected.
 #[test]
 fn bytes_of_each_set(rt: HostRuntime) -> Result<(), Fail> {
     let suite = Bytes { alloc: rt.alloc() };
@@ -113,62 +115,18 @@ fn bytes_of_each_set_over_long_fronts(rt: HostRuntime) -> Result<(), Fail> {
     Ok(())
 }
 
-/// The SHA-256 of signed digests at each set, in hex.
-const DIGESTS: [&str; 3] = [
-    "4309fb4dd5abe94f0f311fc405d50c307e428f4ca843ab68bacc8d87e084f95b",
-    "542f532c1bf976d659e5c6dd8eeb5c4da20bb5c06cb1f6eaf31cd434c2441e6f",
-    "91bf84c83703a7204ddbf8f96f6f16c93201c72afb6296ed2f4575970081d8e5",
-];
-
-/// Whether the private key of 32 bytes 00 signs the digest of 32 bytes 00 by 32 bytes 00 with a signature of its SHA-256,
-/// and so when it is prepared; and whether the public key accepts it, and so when it is prepared.
-#[derive(Drop)]
-struct Digests {
-    alloc: Global,
-}
-
-impl Suite for Digests {
-    type Answer = [bool; 4];
-
-    fn at<S: TestSet>(&self, number: usize) -> Result<[bool; 4], Fail>
-    where
-        S::Signature: Spoils,
-    {
-        let text = Text::Digest(&[0; 32], &[], &SHA2_256);
-        let (public, private) = S::pair(&[0; 32])?;
-        let signature = private.seeded(&[0; 32], &text)?;
-        let found = Sha256::digest(S::bytes(&signature));
-        Ok([
-            has_text(self.alloc, found.as_slice(), DIGESTS[number])?,
-            S::prepared_private(&private)?.seeded(&[0; 32], &text)? == signature,
-            public.accepts(&text, &signature),
-            S::prepared_public(&public)?.accepts(&text, &signature),
-        ])
-    }
-}
-
-/// Signed digests at each set over the counter streams, by SHA-256 of the signature.
-#[test]
-fn signed_digests(rt: HostRuntime) -> Result<(), Fail> {
-    let suite = Digests { alloc: rt.alloc() };
-    let found = at_each_set::<Sha256Ctr, Sha512Ctr, Digests>(&suite)?;
-    assert_eq!(rt; found, [[true; 4]; 3]);
-    Ok(())
-}
-
-/// The signatures of the first messages, so many, one call for each, and which of them the public key accepts.
+/// The signatures of the first messages, so many, one call for each, and which of them are accepted.
 fn single_calls<S: TestSet>(
     alloc: Global,
-    public: &S::Public,
-    private: &S::Private,
+    keys: &S::Plain,
     count: usize,
 ) -> Result<(Vec<S::Signature>, [bool; 5]), Fail> {
     let mut signatures = Vec::new(alloc);
     let mut verdicts = [false; 5];
     for i in 0..count.min(5) {
         let text = Text::Message(MESSAGES[i], b"context");
-        let signature = private.seeded(&SEEDS[i], &text)?;
-        verdicts[i] = public.accepts(&text, &signature);
+        let signature = keys.seeded(&SEEDS[i], &text)?;
+        verdicts[i] = keys.accepts(&text, &signature);
         signatures.push(signature)?;
     }
     Ok((signatures, verdicts))
@@ -177,14 +135,14 @@ fn single_calls<S: TestSet>(
 /// Whether so many messages are signed with one call as these signatures, and refused under a context of 256 bytes.
 fn sign_each_as<S: TestSet>(
     alloc: Global,
-    key: &S::PreparedPrivate,
+    keys: &S::Prepared,
     signatures: &[S::Signature],
 ) -> Result<[bool; 2], Fail> {
     let mut answers = vec![in alloc; Err(Fault::KeyRange); signatures.len()]?;
-    S::sign_each(key, b"context", answers.as_mut_slice());
+    S::sign_each(keys, b"context", answers.as_mut_slice());
     let mut pairs = answers.iter().zip(signatures);
     let signed = pairs.all(|(answer, signature)| *answer == Ok(*signature));
-    S::sign_each(key, &[0; 256], answers.as_mut_slice());
+    S::sign_each(keys, &[0; 256], answers.as_mut_slice());
     let refused = answers.iter().all(|answer| *answer == Err(Fault::SignCtx));
     Ok([signed, refused])
 }
@@ -200,22 +158,17 @@ struct Lists {
 impl Suite for Lists {
     type Answer = ([bool; 2], [[bool; 5]; 4]);
 
-    fn at<S: TestSet>(&self, _number: usize) -> Result<Self::Answer, Fail>
-    where
-        S::Signature: Spoils,
-    {
-        let (public, private) = S::pair(&[0; 32])?;
-        let calls = single_calls::<S>(self.alloc, &public, &private, self.count)?;
-        let (mut signatures, single) = calls;
-        let signer = S::prepared_private(&private)?;
-        let verifier = S::prepared_public(&public)?;
-        let signed = sign_each_as::<S>(self.alloc, &signer, signatures.as_slice())?;
-        let accepted = S::verify_each(&verifier, signatures.as_slice(), b"context");
-        let long = S::verify_each(&verifier, signatures.as_slice(), &[0; 256]);
+    fn at<S: TestSet>(&self, _number: usize) -> Result<Self::Answer, Fail> {
+        let keys = S::pair(&[0; 32])?;
+        let prepared = S::prepared(&keys)?;
+        let (mut signatures, single) = single_calls::<S>(self.alloc, &keys, self.count)?;
+        let signed = sign_each_as::<S>(self.alloc, &prepared, signatures.as_slice())?;
+        let accepted = S::verify_each(&prepared, signatures.as_slice(), b"context");
+        let long = S::verify_each(&prepared, signatures.as_slice(), &[0; 256]);
         if let Some(third) = signatures.as_mut_slice().get_mut(2) {
-            *third = third.spoiled(50);
+            *third = S::spoiled(third, 50);
         }
-        let spoiled = S::verify_each(&verifier, signatures.as_slice(), b"context");
+        let spoiled = S::verify_each(&prepared, signatures.as_slice(), b"context");
         Ok((signed, [single, accepted, long, spoiled]))
     }
 }

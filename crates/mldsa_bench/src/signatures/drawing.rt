@@ -1,8 +1,7 @@
 //! Calls that draw: a generator that refuses at the first, the second or the third of four.
 #![tactic(auto)]
 
-use crate::keys::sets::{PairCall, Signs, TestSet, Text, is_same};
-use crate::signatures::each_set::{Spoils, Suite, at_each_set};
+use crate::keys::sets::{Keys, PairCall, Suite, TestSet, Text, at_each_set, is_same};
 use crate::signatures::generators::RefusesAt;
 use fips204::Fault;
 use fips204::pre_hash::SHA2_256;
@@ -25,75 +24,56 @@ fn wanted(refused: bool, fault: Fault) -> Result<bool, Fault> {
     if refused { Err(fault) } else { Ok(true) }
 }
 
-/// Whether four signatures are made, but for the one whose generator refuses, each of one call of the generator,
-/// which is handed zeros.
-fn draws<S: PartialEq + Drop, K: Signs<S>>(
-    key: &K,
-    text: &Text,
-    fault: Fault,
-    signature: &S,
+/// Generators that refuse at this call, and have written before.
+#[derive(Clone, Copy)]
+struct Refusing {
     call: u8,
     writes: bool,
-) -> bool {
-    let mut rng = RefusesAt::new(call, writes);
-    for number in 0..4u8 {
-        let answer = is_same(key.drawn(&mut rng, true, text), signature);
-        if answer != wanted(number == call, fault) {
+}
+
+/// Whether four signatures of each text are made, but for the one whose generator refuses, each of one call of the
+/// generator, which is handed zeros.
+fn draws<S: PartialEq + Drop, K: Keys<S>>(keys: &K, signature: &S, refusing: Refusing) -> bool {
+    for (text, fault) in &DRAWN {
+        let mut rng = RefusesAt::new(refusing.call, refusing.writes);
+        for number in 0..4u8 {
+            let answer = is_same(keys.drawn(&mut rng, true, text), signature);
+            if answer != wanted(number == refusing.call, *fault) {
+                return false;
+            }
+        }
+        if rng.asked != 4 || rng.saw_a_value {
             return false;
         }
     }
-    rng.asked == 4 && !rng.saw_a_value
-}
-
-/// Whether texts of each kind are drawn so.
-fn draws_each<S: PartialEq + Drop, K: Signs<S>>(
-    key: &K,
-    signature: &S,
-    call: u8,
-    writes: bool,
-) -> bool {
-    DRAWN.iter().all(|(text, fault)| draws(key, text, *fault, signature, call, writes))
+    true
 }
 
 /// Whether four pairs of keys are made so.
-fn draws_pairs<S: TestSet>(pair_call: PairCall, call: u8, writes: bool) -> bool {
-    let mut rng = RefusesAt::new(call, writes);
+fn draws_pairs<S: TestSet>(pair_call: PairCall, refusing: Refusing) -> bool {
+    let mut rng = RefusesAt::new(refusing.call, refusing.writes);
     for number in 0..4u8 {
-        let answer = match S::drawn_pair(&mut rng, pair_call) {
-            Ok((public, private)) => Ok(S::is_pair(public, private)),
-            Err(fault) => Err(fault),
-        };
-        if answer != wanted(number == call, Fault::KeyGenRng) {
+        let answer = S::is_constant(S::drawn_pair(&mut rng, pair_call));
+        if answer != wanted(number == refusing.call, Fault::KeyGenRng) {
             return false;
         }
     }
     rng.asked == 4 && !rng.saw_a_value
 }
 
-/// Whether every call of a set that draws answers so: three for pairs, those of a private key, and those of a
-/// prepared one.
-#[derive(Drop)]
-struct DrawingCalls {
-    call: u8,
-    writes: bool,
-}
-
-impl Suite for DrawingCalls {
+/// Whether every call of a set that draws answers so: three for pairs, those of plain keys, and those of prepared ones.
+impl Suite for Refusing {
     type Answer = [bool; 5];
 
-    fn at<S: TestSet>(&self, _number: usize) -> Result<[bool; 5], Fail>
-    where
-        S::Signature: Spoils,
-    {
-        let (call, writes) = (self.call, self.writes);
-        let (private, signature) = (S::private()?, S::signature());
-        let signer = S::prepared_private(&private)?;
+    fn at<S: TestSet>(&self, _number: usize) -> Result<[bool; 5], Fail> {
+        let (keys, signature) = S::constant()?;
+        let prepared = S::prepared(&keys)?;
         Ok([
-            draws_pairs::<S>(PairCall::OfTrait, call, writes),
-            draws_pairs::<S>(PairCall::OfSet, call, writes),
-            draws_pairs::<S>(PairCall::Shared, call, writes),
-            draws_each(&private, &signature, call, writes),
-            draws_each(&signer, &signature, call, writes),
+            draws_pairs::<S>(PairCall::OfTrait, *self),
+            draws_pairs::<S>(PairCall::OfSet, *self),
+            draws_pairs::<S>(PairCall::Shared, *self),
+            draws(&keys, &signature, *self),
+            draws(&prepared, &signature, *self),
         ])
     }
 }
@@ -105,10 +85,8 @@ impl Suite for DrawingCalls {
 fn refusing_generators(rt: HostRuntime) -> Result<(), Fail> {
     for call in 0..3u8 {
         for writes in [false, true] {
-            let found = at_each_set::<Fill<0x55>, Fill<0>, DrawingCalls>(&DrawingCalls {
-                call,
-                writes,
-            })?;
+            let refusing = Refusing { call, writes };
+            let found = at_each_set::<Fill<0x55>, Fill<0>, Refusing>(&refusing)?;
             assert_eq!(rt; found, [[true; 5]; 3]);
         }
     }
@@ -131,13 +109,12 @@ fn generator_that_looks(rt: HostRuntime) {
     assert!(rt; rng.saw_a_value);
 }
 
-/// Whether `DummyRng` refuses so many bytes and leaves them as they were.
+/// Whether `DummyRng` refuses so many bytes, at most 33, and leaves them as they were.
 fn refused_and_left(out: &mut [u8]) -> bool {
     out.fill(0x11);
     let mut rng = DummyRng { bytes: [7; 32] };
     let answer = rng.try_fill_bytes(out);
-    let DummyRng { bytes } = rng;
-    answer.is_err() && out.iter().all(|byte| *byte == 0x11) && bytes == [7; 32]
+    answer.is_err() && &*out == &[0x11; 33][..out.len().min(33)] && rng.bytes == [7; 32]
 }
 
 /// `DummyRng` asked for 0, 31, 32 and 33 bytes.

@@ -1,9 +1,10 @@
 //! How a message and a digest are framed: the hooks sign what is framed by hand as the other calls sign what is not.
 #![tactic(auto)]
 
-use crate::keys::sets::{Judges, Set44, Signs, TestSet, Text};
+use crate::keys::sets::{Keys, TestSet, Text};
 use crate::signatures::generators::RefusesAt;
 use fips204::Fault;
+use fips204::ml_dsa_44::KG;
 use fips204::pre_hash::SHA2_256;
 use fips204::xof::{Sha256Ctr, Sha512Ctr};
 
@@ -18,37 +19,35 @@ const DIGEST: &[u8] = &[
 
 /// Whether a text and its framing have one signature, with one call of the generator, which each accepts of the
 /// other, and not of the third text.
-fn is_framed<S: PartialEq + Drop, K: Signs<S>, P: Judges<S>>(
-    private: &K,
-    public: &P,
+fn is_framed<S: PartialEq + Drop, K: Keys<S>>(
+    keys: &K,
     text: &Text,
     framed: &[u8],
     other: &Text,
 ) -> Result<bool, Fault> {
     let mut rng = RefusesAt::new(1, false);
     let framed = Text::Framed(framed);
-    let signature = private.seeded(&[7; 32], text)?;
-    let drawn = private.drawn(&mut rng, true, &framed)?;
+    let signature = keys.seeded(&[7; 32], text)?;
+    let drawn = keys.drawn(&mut rng, true, &framed)?;
     let verdicts = [
-        public.accepts(&framed, &signature),
-        public.accepts(text, &drawn),
-        public.accepts(other, &drawn),
+        keys.accepts(&framed, &signature),
+        keys.accepts(text, &drawn),
+        keys.accepts(other, &drawn),
     ];
     Ok(signature == drawn && rng.asked == 1 && verdicts == [true, true, false])
 }
 
 /// Whether a message and a digest are framed so, by plain keys and by prepared ones.
 fn are_framed<S: TestSet>() -> Result<[bool; 4], Fault> {
-    let (public, private) = S::pair(&[0; 32])?;
-    let verifier = S::prepared_public(&public)?;
-    let signer = S::prepared_private(&private)?;
+    let keys = S::pair(&[0; 32])?;
+    let prepared = S::prepared(&keys)?;
     let message = Text::Message(b"c", b"ab");
     let digest = Text::Digest(&[9; 32], b"ab", &SHA2_256);
     Ok([
-        is_framed(&private, &public, &message, MESSAGE, &digest)?,
-        is_framed(&private, &public, &digest, DIGEST, &message)?,
-        is_framed(&signer, &verifier, &message, MESSAGE, &digest)?,
-        is_framed(&signer, &verifier, &digest, DIGEST, &message)?,
+        is_framed(&keys, &message, MESSAGE, &digest)?,
+        is_framed(&keys, &digest, DIGEST, &message)?,
+        is_framed(&prepared, &message, MESSAGE, &digest)?,
+        is_framed(&prepared, &digest, DIGEST, &message)?,
     ])
 }
 
@@ -56,5 +55,5 @@ fn are_framed<S: TestSet>() -> Result<[bool; 4], Fault> {
 /// streams.
 #[test]
 fn hooks_take_framed_messages(rt: HostRuntime) {
-    assert_eq!(rt; are_framed::<Set44<Sha256Ctr, Sha512Ctr>>(), Ok([true; 4]));
+    assert_eq!(rt; are_framed::<KG<Sha256Ctr, Sha512Ctr>>(), Ok([true; 4]));
 }

@@ -3,7 +3,7 @@
 #![tactic(auto)]
 
 use crate::arithmetic::hint_parts::{part_of, rising};
-use crate::keys::sets::{Constant44, Judges, TestSet, Text};
+use crate::keys::sets::{Constant44, Keys, TestSet, Text};
 use crate::values::constant_streams::{signature_44, signature_65};
 use fips204::Fault;
 use std::test::Fail;
@@ -25,14 +25,14 @@ fn with_hint(places: &[u8], counts: [u8; 4]) -> [u8; 2420] {
     signature
 }
 
-/// Whether a signature is accepted by the plain public key, and whether by the prepared one.
-fn accepted(signature: [u8; 2420]) -> Result<[bool; 2], Fault> {
+/// Whether the plain public key over constant streams accepts a signature, and whether the prepared one.
+pub fn accepted<S: TestSet>(signature: &S::Signature) -> Result<[bool; 2], Fault> {
     let text = Text::Message(b"abc", &[]);
-    let key = Constant44::public()?;
-    let prepared = Constant44::prepared_public(&key)?;
+    let (keys, _) = S::constant()?;
+    let prepared = S::prepared(&keys)?;
     Ok([
-        key.accepts(&text, &signature),
-        prepared.accepts(&text, &signature),
+        keys.accepts(&text, signature),
+        prepared.accepts(&text, signature),
     ])
 }
 
@@ -41,7 +41,7 @@ fn accepted(signature: [u8; 2420]) -> Result<[bool; 2], Fault> {
 #[test]
 fn range_of_z(rt: HostRuntime) {
     for (field, yes) in [(78, false), (79, true), (262065, true), (262066, false)] {
-        let answer = accepted(with_first_field(field));
+        let answer = accepted::<Constant44>(&with_first_field(field));
         assert_eq!(rt; answer, Ok([yes; 2]), "field {field}");
     }
 }
@@ -62,7 +62,8 @@ fn hints_of_signatures(rt: HostRuntime) {
         (&[1, 2], [2, 1, 2, 2], false),
         (&late, [0, 0, 0, 0], false),
     ] {
-        assert_eq!(rt; accepted(with_hint(places, counts)), Ok([yes; 2]));
+        let answer = accepted::<Constant44>(&with_hint(places, counts));
+        assert_eq!(rt; answer, Ok([yes; 2]));
     }
 }
 
