@@ -1,130 +1,115 @@
-//! A run of the program over devices of the tests, and the lines that it reads.
+//! Runs of the program over devices of the tests.
 #![tactic(auto)]
 
-ghost use Rattle.std.specs.Prelude.{◌≡◌, false};
-
-use crate::program::devices::{Drip, Trickle};
+use crate::program::devices::{Drip, Pace, Trickle, WHOLE};
+use crate::program::texts::spelt;
+use mldsa_engine::process::status;
 use mldsa_engine::{Marked, RunFault, from_words};
 use std::alloc::{AllocError, Global};
-use std::io::{Read, Write};
+use std::test::Fail;
 
-/// What the program returns for a call: its streams, its command and its set.
-fn answer_of<I: Read, O: Write>(
-    alloc: Global,
-    call: [&str; 3],
-    input: &mut Marked<I>,
-    output: &mut Marked<O>,
-) -> Result<bool, RunFault>
-    requires { (input.old.failed ≡ false) × (output.old.failed ≡ false) }
-{
-    let mut words = Vec::new(alloc);
-    for word in call {
-        words.push(String::from_str(alloc, word)?)?;
-    }
-    from_words(alloc, words.as_slice(), input, output)
-}
-
-/// What a run returned and did to its devices.
+/// What a run returned and did to its devices, of which the reader stands first.
 #[derive(Drop)]
 pub struct Outcome {
     pub answer: Result<bool, RunFault>,
     pub written: Vec<u8>,
     pub unread: usize,
-    pub reads: usize,
-    pub writes: usize,
-    pub read_failed: bool,
-    pub write_failed: bool,
+    pub calls: [usize; 2],
+    pub marks: [bool; 2],
 }
 
-/// How many bytes each device moves a call at most, and the number of the call that fails.
-#[derive(Clone, Copy)]
-pub struct Manner {
-    pub most: usize,
-    pub read_fails: usize,
-    pub write_fails: usize,
-}
-
-/// Devices that move all that is asked for, and never fail.
-pub const WHOLE: Manner = Manner {
-    most: usize::MAX,
-    read_fails: usize::MAX,
-    write_fails: usize::MAX,
-};
-
-/// Devices that move a byte a call, and never fail.
-pub const BY_BYTES: Manner = Manner { most: 1, ..WHOLE };
-
-/// A run of a call on these bytes.
+/// A run of a call on these bytes, with a reader and a writer of these paces. A call is its streams, its command and
+/// its set.
 pub fn run_of(
     alloc: Global,
-    manner: Manner,
+    paces: [Pace; 2],
     call: [&str; 3],
     bytes: &[u8],
 ) -> Result<Outcome, AllocError> {
+    let mut words = Vec::new(alloc);
+    for word in call {
+        words.push(String::from_str(alloc, word)?)?;
+    }
     let mut input = Marked::new(Trickle {
         bytes,
-        most: manner.most,
-        calls: 0,
-        fails_at: manner.read_fails,
+        pace: paces[0],
     });
     let mut output = Marked::new(Drip {
         taken: Vec::new(alloc),
-        most: manner.most,
-        calls: 0,
-        fails_at: manner.write_fails,
+        pace: paces[1],
     });
-    let answer = answer_of(alloc, call, &mut input, &mut output);
-    let (read_failed, write_failed) = (input.failed(), output.failed());
-    let reader = input.into_device();
-    let writer = output.into_device();
+    let answer = from_words(alloc, words.as_slice(), &mut input, &mut output);
+    let marks = [input.failed(), output.failed()];
+    let (reader, writer) = (input.into_device(), output.into_device());
     Ok(Outcome {
         answer,
         written: writer.taken,
         unread: reader.bytes.len(),
-        reads: reader.calls,
-        writes: writer.calls,
-        read_failed,
-        write_failed,
+        calls: [reader.pace.calls, writer.pace.calls],
+        marks,
     })
 }
 
-/// Whether a run has this answer, wrote these bytes in so many calls, and had a device fail only if the answer says so.
-pub fn is_as(
-    outcome: &Outcome,
-    answer: Result<bool, RunFault>,
-    written: &[u8],
-    writes: usize,
-) -> bool {
-    let same = outcome.answer == answer && outcome.written.as_slice() == written;
-    let read_failed = answer == Err(RunFault::Read);
-    let write_failed = answer == Err(RunFault::Write);
-    same && outcome.writes == writes
-        && outcome.read_failed == read_failed
-        && outcome.write_failed == write_failed
-}
+/// What a run returned, whether it wrote what is expected and marked the device that its fault names and no other, how
+/// many bytes it left unread, and how often it called each device.
+pub type Told = (Result<bool, RunFault>, bool, usize, [usize; 2]);
 
-/// What a run returns, whether it writes what is expected, and how many bytes it leaves unread.
-pub type Told = (Result<bool, RunFault>, bool, usize);
-
-/// A run that succeeds, with nothing left unread.
-pub const YES: Told = (Ok(true), true, 0);
-
-/// A run that answers no, with nothing left unread.
-pub const NO: Told = (Ok(false), true, 0);
-
-/// A run on these bytes beside what it should write.
+/// A run beside what it should write.
 pub fn told(
     alloc: Global,
+    paces: [Pace; 2],
     call: [&str; 3],
     bytes: &[u8],
     written: &[u8],
 ) -> Result<Told, AllocError> {
-    let outcome = run_of(alloc, WHOLE, call, bytes)?;
-    Ok((
-        outcome.answer,
-        outcome.written.as_slice() == written,
-        outcome.unread,
-    ))
+    let outcome = run_of(alloc, paces, call, bytes)?;
+    let answer = outcome.answer;
+    let marks = [
+        answer == Err(RunFault::Read),
+        answer == Err(RunFault::Write),
+    ];
+    let same = outcome.written.as_slice() == written && outcome.marks == marks;
+    Ok((answer, same, outcome.unread, outcome.calls))
+}
+
+/// A case: its call, its input, its output and its status. `spelt` reads both texts; what stands after a bar in the input
+/// stays unread. At status 2 nothing is written, and the text is that of the fault.
+pub type Case<'a> = ([&'a str; 3], &'a str, &'a str, u8);
+
+/// Fails with these words unless a statement holds.
+pub fn ensure(holds: bool, words: &str) -> Result<(), Fail> {
+    if holds { Ok(()) } else { Err(Fail::new(words)) }
+}
+
+/// Fails with its input unless a case goes so.
+fn goes(alloc: Global, case: &Case) -> Result<(), Fail> {
+    let (call, text, output, ends) = *case;
+    let (read, rest) = text.split_once('|').unwrap_or((text, ""));
+    let mut input = spelt(alloc, call, read)?;
+    let unread = spelt(alloc, call, rest)?;
+    input.push_str(unread.as_str())?;
+    let written = spelt(alloc, call, if ends < 2 { output } else { "" })?;
+    let told = told(
+        alloc,
+        [WHOLE; 2],
+        call,
+        input.as_bytes(),
+        written.as_bytes(),
+    )?;
+    let same = match told.0 {
+        Ok(_) => true,
+        Err(fault) => format!(in alloc; "{fault}")?.as_str() == output,
+    };
+    let left = (told.1, told.2, status(told.0));
+    ensure(same && left == (true, unread.len(), ends), text)
+}
+
+/// Fails unless each case goes so.
+pub fn all_go(alloc: Global, cases: &[Case]) -> Result<(), Fail> {
+    for case in cases {
+        goes(alloc, case)?;
+    }
+    Ok(())
 }
 
 /// Whether a line of a command, counted from 0, may have any number of bytes: a context or a message.
@@ -134,36 +119,4 @@ pub fn may_vary(command: &str, line: usize) -> bool {
         "batch" => line == 1 || line > 3 && line % 2 == 0,
         _ => line > 1,
     }
-}
-
-/// These lines, each ended by LF.
-pub fn text_lines(alloc: Global, lines: &[&str]) -> Result<Vec<u8>, AllocError> {
-    let mut bytes = Vec::new(alloc);
-    for line in lines {
-        bytes.extend_from_slice(line.as_bytes())?;
-        bytes.push(b'\n')?;
-    }
-    Ok(bytes)
-}
-
-/// Lines, each of so many copies of a digit.
-pub fn digit_lines(alloc: Global, lines: &[(u8, usize)]) -> Result<Vec<u8>, AllocError> {
-    let mut bytes = Vec::new(alloc);
-    for (digit, digits) in lines {
-        let line = vec![in alloc; *digit; *digits]?;
-        bytes.extend_from_slice(line.as_slice())?;
-        bytes.push(b'\n')?;
-    }
-    Ok(bytes)
-}
-
-/// Lines of hex, one for each of these values.
-pub fn hex_lines(alloc: Global, values: &[&[u8]]) -> Result<Vec<u8>, AllocError> {
-    let mut lines = Vec::new(alloc);
-    for value in values {
-        let text = hex::encode(alloc, *value)?;
-        lines.extend_from_slice(text.as_bytes())?;
-        lines.push(b'\n')?;
-    }
-    Ok(lines)
 }
