@@ -10,8 +10,7 @@ use std::fmt::Display;
 use std::io::{self, Read, Write};
 use std::rt::Env;
 
-/// How a device moves bytes: at most so many a call. It counts its calls, and fails at the call of this number, counted
-/// from 0.
+/// How a device moves bytes: at most so many a call. It counts its calls from 0, and fails at the one of this number.
 #[derive(Clone, Copy)]
 pub struct Pace {
     pub most: usize,
@@ -28,6 +27,14 @@ pub const WHOLE: Pace = Pace {
 
 /// A byte a call, and no failure.
 pub const BY_BYTES: Pace = Pace { most: 1, ..WHOLE };
+
+/// A byte a call, and a failure at the call of this number.
+pub fn stopping(fails_at: usize) -> Pace {
+    Pace {
+        fails_at,
+        ..BY_BYTES
+    }
+}
 
 impl Pace {
     /// Counts a call that could move so many bytes, and returns how many it moves.
@@ -86,14 +93,9 @@ pub struct Arguments<'a> {
 
 impl Env for Arguments<'_> {
     fn arg(&self, i: usize, buf: &mut [u8]) -> Result<usize, FillError> {
-        if i >= self.arguments.len() {
-            return Err(FillError::NotPresent);
-        }
-        let argument = self.arguments[i];
-        if buf.len() < argument.len() {
-            return Err(FillError::TooLong);
-        }
-        buf[..argument.len()].copy_from_slice(argument);
+        let argument = self.arguments.get(i).ok_or(FillError::NotPresent)?;
+        let room = buf.get_mut(..argument.len()).ok_or(FillError::TooLong)?;
+        room.copy_from_slice(argument);
         Ok(argument.len())
     }
 

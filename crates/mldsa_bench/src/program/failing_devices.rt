@@ -2,19 +2,19 @@
 //! end at each byte.
 #![tactic(auto)]
 
-use crate::program::devices::{BY_BYTES, Pace, WHOLE};
+use crate::program::devices::{BY_BYTES, Pace, WHOLE, stopping};
 use crate::program::runs::{ensure, may_vary, told};
 use crate::program::texts::spelt;
 use mldsa_engine::RunFault;
 use std::alloc::Global;
 use std::test::Fail;
 
-/// A call with its input and what it writes, which has no `no` if it succeeds.
-#[derive(Clone, Copy)]
-struct Run<'a> {
-    call: [&'a str; 3],
-    input: &'a str,
-    written: &'a str,
+/// A command with its input and what it writes, which has no `no` if it succeeds.
+#[derive(Drop)]
+struct Run {
+    command: &'static str,
+    input: String,
+    written: String,
 }
 
 /// The fault of an input that is cut after so many characters, or none where the last line is good.
@@ -29,7 +29,7 @@ fn fault_of_cut(run: &Run, cut: usize) -> Option<RunFault> {
             left = left - digits - 1;
         } else if left % 2 == 1 {
             return Some(RunFault::NotHex { line });
-        } else if left < digits && !may_vary(run.call[1], index) {
+        } else if left < digits && !may_vary(run.command, index) {
             let (wants, has) = (digits / 2, left / 2);
             return Some(RunFault::Length { line, wants, has });
         } else {
@@ -42,7 +42,7 @@ fn fault_of_cut(run: &Run, cut: usize) -> Option<RunFault> {
 /// Whether the call of this number, counted from 0, is tried where a run makes `last` calls: every one of `check`
 /// and of `id` on a key of zeros, and else the first and the last 300, and every 53rd between.
 fn is_tried(run: &Run, call: usize, last: usize) -> bool {
-    let every = run.call[1] == "check" || run.written.starts_with("00");
+    let every = run.command == "check" || run.written.starts_with("00");
     every || call < 300 || call % 53 == 0 || last.saturating_sub(call) <= 300
 }
 
@@ -68,48 +68,33 @@ fn ends_so(alloc: Global, run: &Run, paces: [Pace; 2], input: &[u8]) -> Result<(
         usize::from(!written.is_empty())
     };
     let writes = puts.wrapping_add(usize::from(answer == Err(RunFault::Write)));
-    let told = told(alloc, paces, run.call, input, written)?;
+    let told = told(alloc, paces, ["fill55", run.command, "44"], input, written)?;
     let same = (told.0, told.1, told.2, told.3[1]) == (answer, true, unread, writes);
     let fails = (reader.fails_at, writer.fails_at);
-    let words = format!(in alloc;
-        "{} bytes, failing at {} and {}",
-        input.len(),
-        fails.0,
-        fails.1
-    )?;
+    let words = format!(in alloc; "{} bytes, {} and {}", input.len(), fails.0, fails.1)?;
     ensure(same, words.as_str())
 }
 
 /// Fails unless a command over bytes 55 ends so where the reader fails, where the input ends and where the writer fails, at
 /// each call that is tried. Each end of the input is tried also by devices that move all that is asked for.
-fn fails_well(alloc: Global, command: &str, input: &str, output: &str) -> Result<(), Fail> {
+fn fails_well(alloc: Global, command: &'static str, input: &str, text: &str) -> Result<(), Fail> {
     let call = ["fill55", command, "44"];
-    let text = spelt(alloc, call, input)?;
-    let written = spelt(alloc, call, output)?;
     let run = Run {
-        call,
-        input: text.as_str(),
-        written: written.as_str(),
+        command,
+        input: spelt(alloc, call, input)?,
+        written: spelt(alloc, call, text)?,
     };
-    let input = text.as_bytes();
+    let input = run.input.as_bytes();
     for call in 0..=input.len() {
-        let stopping = Pace {
-            fails_at: call,
-            ..BY_BYTES
-        };
         ends_so(alloc, &run, [WHOLE; 2], &input[..call])?;
         if is_tried(&run, call, input.len()) {
             ends_so(alloc, &run, [BY_BYTES; 2], &input[..call])?;
-            ends_so(alloc, &run, [stopping, BY_BYTES], input)?;
+            ends_so(alloc, &run, [stopping(call), BY_BYTES], input)?;
         }
     }
-    for call in 0..=written.len() {
-        let stopping = Pace {
-            fails_at: call,
-            ..BY_BYTES
-        };
-        if is_tried(&run, call, written.len()) {
-            ends_so(alloc, &run, [BY_BYTES, stopping], input)?;
+    for call in 0..=run.written.len() {
+        if is_tried(&run, call, run.written.len()) {
+            ends_so(alloc, &run, [BY_BYTES, stopping(call)], input)?;
         }
     }
     Ok(())

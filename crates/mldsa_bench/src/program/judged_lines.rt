@@ -1,36 +1,15 @@
 //! Each line of an input is judged before anything that follows it is read.
 #![tactic(auto)]
 
-use crate::program::devices::{BY_BYTES, Pace, WHOLE};
+use crate::program::devices::{BY_BYTES, WHOLE, stopping};
 use crate::program::runs::{ensure, may_vary, told};
 use crate::program::texts::spelt;
 use mldsa_engine::RunFault;
 use std::alloc::Global;
 use std::test::Fail;
 
-/// Fails unless a run ends in this fault and writes nothing, where the reader gives a byte a call and fails at the call of
-/// this number, which is the next, and also where it gives all that it is asked for.
-fn ends_with(
-    alloc: Global,
-    call: [&str; 3],
-    input: &str,
-    reads: usize,
-    fault: RunFault,
-) -> Result<(), Fail> {
-    let stopping = Pace {
-        fails_at: reads,
-        ..BY_BYTES
-    };
-    let (answer, same, _, calls) = told(alloc, [stopping, BY_BYTES], call, input.as_bytes(), b"")?;
-    ensure(
-        (answer, same, calls) == (Err(fault), true, [reads, 0]),
-        call[1],
-    )?;
-    let (answer, same, _, calls) = told(alloc, [WHOLE; 2], call, input.as_bytes(), b"")?;
-    ensure((answer, same, calls[1]) == (Err(fault), true, 0), call[1])
-}
-
-/// Fails unless a line that follows others ends a run in this fault before anything that follows is read.
+/// Fails unless a line that follows others ends a run in this fault, or that none follows, and nothing is written: where the
+/// reader gives a byte a call and fails at the call after the line, and also where it gives all that it is asked for.
 fn is_judged(
     alloc: Global,
     call: [&str; 3],
@@ -38,9 +17,18 @@ fn is_judged(
     line: &str,
     fault: RunFault,
 ) -> Result<(), Fail> {
-    let input = format!(in alloc; "{before}{line}00\n00\n00\n")?;
-    let reads = before.len().wrapping_add(line.len());
-    ends_with(alloc, call, input.as_str(), reads, fault)
+    let rest = if line.is_empty() { "" } else { "00\n00\n00\n" };
+    let input = format!(in alloc; "{before}{line}{rest}")?;
+    // The end of the input takes a call.
+    let reads = before.len().wrapping_add(line.len().max(1));
+    let paces = [stopping(reads), BY_BYTES];
+    let (answer, same, _, calls) = told(alloc, paces, call, input.as_bytes(), b"")?;
+    ensure(
+        (answer, same, calls) == (Err(fault), true, [reads, 0]),
+        line,
+    )?;
+    let (answer, same, _, calls) = told(alloc, [WHOLE; 2], call, input.as_bytes(), b"")?;
+    ensure((answer, same, calls[1]) == (Err(fault), true, 0), line)
 }
 
 /// Fails unless each fault of one line ends a run, after these lines: that it is missing, that it is no hex, and unless it may
@@ -53,8 +41,7 @@ fn is_at_fault(
     good: &str,
 ) -> Result<(), Fail> {
     let line = index.wrapping_add(1);
-    let missing = before.len().wrapping_add(1);
-    ends_with(alloc, call, before, missing, RunFault::Missing { line })?;
+    is_judged(alloc, call, before, "", RunFault::Missing { line })?;
     for bad in ["0\n", "0g\n", "00 \n", "0x\n"] {
         is_judged(alloc, call, before, bad, RunFault::NotHex { line })?;
     }
@@ -82,19 +69,22 @@ fn faults_in_turn(alloc: Global, call: [&str; 3], input: &str) -> Result<(), Fai
     Ok(())
 }
 
+/// Each command with its lines.
+const COMMANDS: [[&str; 2]; 6] = [
+    ["id", "public,"],
+    ["keygen", "00*32,"],
+    ["sign", "private,00*32,00,00,"],
+    ["verify", "public,good,00,00,"],
+    ["check", "00*32,00*32,00,00,"],
+    ["batch", "public,00,0002,good,00,good,00,"],
+];
+
 /// Readers that count their calls, at each fault and each line: no line is read before the one before it is
 /// judged.
 #[test]
 fn each_line_is_judged_before_the_next_is_read(rt: HostRuntime) -> Result<(), Fail> {
     for set in ["44", "65", "87"] {
-        for (command, input) in [
-            ("id", "public,"),
-            ("keygen", "00*32,"),
-            ("sign", "private,00*32,00,00,"),
-            ("verify", "public,good,00,00,"),
-            ("check", "00*32,00*32,00,00,"),
-            ("batch", "public,00,0002,good,00,good,00,"),
-        ] {
+        for [command, input] in COMMANDS {
             let input = spelt(rt.alloc(), ["sha2", command, set], input)?;
             faults_in_turn(rt.alloc(), ["fill55", command, set], input.as_str())?;
         }

@@ -19,13 +19,12 @@ fn is_put(alloc: Global, bytes: &[u8], fails_at: usize) -> bool {
         taken: Vec::new(alloc),
         pace: Pace { fails_at, ..WHOLE },
     });
-    let fails = fails_at == 0 && !bytes.is_empty();
+    let calls = usize::from(!bytes.is_empty());
+    let fails = fails_at < calls;
     let failed = write_all(&mut output, bytes).is_err();
     let marked = output.failed();
     let writer = output.into_device();
-    failed == fails
-        && marked == fails
-        && writer.pace.calls == usize::from(!bytes.is_empty())
+    (failed, marked, writer.pace.calls) == (fails, fails, calls)
         && (fails || writer.taken.as_slice() == bytes)
 }
 

@@ -38,21 +38,27 @@ impl Case {
         ""
     }
 
+    /// Names a line.
+    fn keep(&mut self, name: &'static str, line: String) -> Result<(), AllocError> {
+        self.lines.push((name, line))?;
+        Ok(())
+    }
+
     /// Runs a command on the lines of these names, adds the digest of what it writes and of its status, and returns what
     /// it writes.
-    fn run(&mut self, alloc: Global, command: &str, names: &str) -> Result<String, AllocError> {
+    fn run(&mut self, alloc: Global, to: &'static str, names: &str) -> Result<String, AllocError> {
         let mut input = String::new(alloc);
         for name in names.split(',') {
             input.push_str(self.line(name))?;
             input.push('\n')?;
         }
-        let call = [self.streams, command, self.set];
-        let outcome = run_of(alloc, [WHOLE; 2], call, input.as_bytes())?;
+        let call = [self.streams, to, self.set];
+        let (told, written) = run_of(alloc, [WHOLE; 2], call, input.as_bytes())?;
         let mut hasher = Sha256::new();
-        hasher.update(outcome.written.as_slice());
-        hasher.update(&[status(outcome.answer)]);
+        hasher.update(written.as_slice());
+        hasher.update(&[status(told.0)]);
         self.digests.update(&hasher.finalize());
-        String::from_utf8_lossy(alloc, outcome.written.as_slice())
+        String::from_utf8_lossy(alloc, written.as_slice())
     }
 
     /// Runs `keygen`, `id` and `sign`, and keeps the signature if one was made.
@@ -61,9 +67,8 @@ impl Case {
         let (public, private) = pair.split_once('\n').unwrap_or(("", ""));
         let at = if number % 5 == 3 { 128 } else { usize::MAX };
         let private = changed(alloc, private.trim_end(), at.saturating_add(number), 0xff)?;
-        self.lines.push(("private", private))?;
-        self.lines
-            .push(("public", String::from_str(alloc, public)?))?;
+        self.keep("private", private)?;
+        self.keep("public", String::from_str(alloc, public)?)?;
         self.run(alloc, "id", "public")?;
         let signed = self.run(alloc, "sign", "private,random,context,message")?;
         // A refusal is shorter than a key.
@@ -82,20 +87,15 @@ impl Case {
             _ => (usize::MAX, 0, "message"),
         };
         let spoken = String::from_str(alloc, self.line(spoken))?;
-        self.lines.push(("spoken", spoken))?;
-        self.lines.push(("made", String::from_str(alloc, made)?))?;
-        self.lines
-            .push(("other", changed(alloc, made, at, value)?))?;
+        self.keep("spoken", spoken)?;
+        self.keep("made", String::from_str(alloc, made)?)?;
+        self.keep("other", changed(alloc, made, at, value)?)?;
         // Their number says how many of the two entries are read.
-        self.lines
-            .push(("count", hex::encode(alloc, &[0, number % 3])?))?;
+        self.keep("count", hex::encode(alloc, &[0, number % 3])?)?;
         self.run(alloc, "verify", "public,other,context,spoken")?;
         self.run(alloc, "check", "seed,random,context,message")?;
-        self.run(
-            alloc,
-            "batch",
-            "public,context,count,made,message,other,spoken",
-        )?;
+        let batch = "public,context,count,made,message,other,spoken";
+        self.run(alloc, "batch", batch)?;
         Ok(())
     }
 }
@@ -107,7 +107,8 @@ fn drawn(alloc: Global, set: &'static str, number: u8) -> Result<Case, AllocErro
         _ => "sha2",
     };
     let size = usize::from(number);
-    let [seed, random, text] = [0, 1, 2].map(|purpose| Sha256::digest(&[number, purpose]));
+    let (seed, random) = (Sha256::digest(&[number, 0]), Sha256::digest(&[number, 1]));
+    let text = Sha256::digest(&[number, 2]);
     let context = vec![in alloc; number; size * 27 / 2]?;
     let mut lines = Vec::new(alloc);
     for (name, bytes) in [
@@ -118,12 +119,11 @@ fn drawn(alloc: Global, set: &'static str, number: u8) -> Result<Case, AllocErro
     ] {
         lines.push((name, hex::encode(alloc, bytes)?))?;
     }
-    let digests = Sha256::new();
     Ok(Case {
         streams,
         set,
         lines,
-        digests,
+        digests: Sha256::new(),
     })
 }
 

@@ -10,17 +10,19 @@ use std::alloc::{AllocError, Global};
 
 /// What a word names at a set over the counter streams, in hex. Any other word is itself.
 fn recorded<'a>(set: &str, word: &'a str) -> &'a str {
-    let [_, public, private, signature] = match set {
-        "44" => RECORDED[0],
-        "65" => RECORDED[1],
-        _ => RECORDED[2],
+    let number = match set {
+        "44" => 0,
+        "65" => 1,
+        _ => 2,
     };
+    let [_, public, private, signature] = RECORDED[number];
     match word {
         "public" => public,
         "private" => private,
         // A private key has the hash of its public key after two seeds.
         "hash" => private.get(128..256).unwrap_or(""),
         "good" => signature,
+        "other" => "no",
         _ => word,
     }
 }
@@ -41,55 +43,41 @@ fn refused() -> [u8; 2420] {
     signature
 }
 
-/// What a word names at set 44 over constant streams, in hex. Any other word is itself.
-fn constant_44(alloc: Global, word: &str) -> Result<String, AllocError> {
-    match word {
-        "public" => hex::encode(alloc, &public_44()),
-        "private" => hex::encode(alloc, &private_44()),
-        "private4" => hex::encode(alloc, &private_with(4)),
-        "private5" => hex::encode(alloc, &private_with(5)),
-        "good" => hex::encode(alloc, &signature_44()),
-        "good4" => hex::encode(alloc, &signature_44_of_least_coefficient()),
-        "bad" => hex::encode(alloc, &refused()),
+/// What a word names at a set over constant streams, in hex. Any other word is itself.
+fn constant(alloc: Global, set: &str, word: &str) -> Result<String, AllocError> {
+    match (set, word) {
+        ("44", "public") => hex::encode(alloc, &public_44()),
+        ("65", "public") => hex::encode(alloc, &public_65()),
+        ("87", "public") => hex::encode(alloc, &public_87()),
+        (_, "hash") => "5".repeat(alloc, 128),
+        (_, "other") => String::from_str(alloc, "yes"),
+        ("44", "private") => hex::encode(alloc, &private_44()),
+        ("44", "private4") => hex::encode(alloc, &private_with(4)),
+        ("44", "private5") => hex::encode(alloc, &private_with(5)),
+        ("65", "private") => hex::encode(alloc, &private_65()),
+        ("87", "private") => hex::encode(alloc, &private_87()),
+        ("44", "good") => hex::encode(alloc, &signature_44()),
+        ("44", "good4") => hex::encode(alloc, &signature_44_of_least_coefficient()),
+        ("44", "bad") => hex::encode(alloc, &refused()),
+        ("65", "good") => hex::encode(alloc, &signature_65()),
+        ("87", "good") => hex::encode(alloc, &signature_87()),
         _ => String::from_str(alloc, word),
-    }
-}
-
-/// The same at sets 65 and 87.
-fn constant_above(alloc: Global, set: &str, word: &str) -> Result<String, AllocError> {
-    match word {
-        "public" if set == "65" => hex::encode(alloc, &public_65()),
-        "public" => hex::encode(alloc, &public_87()),
-        "private" if set == "65" => hex::encode(alloc, &private_65()),
-        "private" => hex::encode(alloc, &private_87()),
-        "good" if set == "65" => hex::encode(alloc, &signature_65()),
-        "good" => hex::encode(alloc, &signature_87()),
-        _ => String::from_str(alloc, word),
-    }
-}
-
-/// What a word names for a call: its streams, its command and its set.
-fn named(alloc: Global, call: [&str; 3], word: &str) -> Result<String, AllocError> {
-    let [streams, _, set] = call;
-    if streams == "sha2" {
-        return String::from_str(alloc, recorded(set, word));
-    }
-    match word {
-        "hash" => "5".repeat(alloc, 128),
-        _ if set == "44" => constant_44(alloc, word),
-        _ => constant_above(alloc, set, word),
     }
 }
 
 /// What a text spells for a call: a comma is an LF, a word what it names, and `X*N` so many copies of it.
 pub fn spelt(alloc: Global, call: [&str; 3], text: &str) -> Result<String, AllocError> {
+    let [streams, _, set] = call;
     let mut spelt = String::new(alloc);
     for (index, line) in text.split(',').enumerate() {
         if index > 0 {
             spelt.push('\n')?;
         }
         let (word, copies) = line.split_once('*').unwrap_or((line, "1"));
-        let word = named(alloc, call, word)?;
+        let word = match streams {
+            "sha2" => String::from_str(alloc, recorded(set, word))?,
+            _ => constant(alloc, set, word)?,
+        };
         let copies = copies.parse().unwrap_or(0);
         spelt.push_str(word.repeat(alloc, copies)?.as_str())?;
     }
