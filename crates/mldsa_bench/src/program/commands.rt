@@ -3,7 +3,7 @@
 
 use crate::program::devices::{BY_BYTES, WHOLE};
 use crate::program::runs::{ensure, may_vary, told};
-use crate::program::texts::spelt;
+use crate::program::texts::{parted, spelt};
 use std::alloc::Global;
 use std::test::Fail;
 
@@ -36,27 +36,24 @@ fn goes(alloc: Global, call: [&str; 3], text: &str, output: &str) -> Result<(), 
 
 /// Each command with its input and what it writes, with the recorded pair and signature, which belong to 32 bytes 00 and the
 /// message `00`; `other` is what another message or context gives.
-const COMMANDS: [[&str; 3]; 10] = [
-    ["keygen", "00*32,", "public,private,"],
-    ["id", "public,", "public,hash,"],
-    ["sign", "private,00*32,,00,", "good,"],
-    ["check", "00*32,00*32,,00,", "yes,"],
-    ["verify", "public,good,,00,", "yes,"],
-    ["verify", "public,good,00*256,00,", "no,"],
-    ["verify", "public,good,,01,", "other,"],
-    ["verify", "public,good,00,00,", "other,"],
-    ["batch", "public,,0002,good,00,good,00,", "yes,yes,"],
-    [
-        "batch",
-        "public,,0003,good,00,good,01,good,00,",
-        "yes,other,yes,",
-    ],
-];
+const COMMANDS: &str = "\
+keygen | 00*32, | public,private,
+id | public, | public,hash,
+sign | private,00*32,,00, | good,
+check | 00*32,00*32,,00, | yes,
+verify | public,good,,00, | yes,
+verify | public,good,00*256,00, | no,
+verify | public,good,,01, | other,
+verify | public,good,00,00, | other,
+batch | public,,0002,good,00,good,00, | yes,yes,
+batch | public,,0003,good,00,good,01,good,00, | yes,other,yes,";
 
 /// Fails unless each command goes so at each set over these streams.
 fn all_go(alloc: Global, streams: &'static str) -> Result<(), Fail> {
     for set in ["44", "65", "87"] {
-        for [command, input, output] in COMMANDS {
+        for case in COMMANDS.lines() {
+            let (command, case) = parted(case, " | ");
+            let (input, output) = parted(case, " | ");
             goes(alloc, [streams, command, set], input, output)?;
         }
     }

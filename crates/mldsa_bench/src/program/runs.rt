@@ -2,8 +2,7 @@
 #![tactic(auto)]
 
 use crate::program::devices::{Drip, Pace, Trickle, WHOLE};
-use crate::program::texts::spelt;
-use mldsa_engine::process::status;
+use crate::program::texts::{parted, spelt};
 use mldsa_engine::{Marked, RunFault, from_words};
 use std::alloc::{AllocError, Global};
 use std::test::Fail;
@@ -55,31 +54,45 @@ pub fn ensure(holds: bool, words: &str) -> Result<(), Fail> {
     if holds { Ok(()) } else { Err(Fail::new(words)) }
 }
 
-/// A case: its call, its input, its output and its status. `spelt` reads both texts; what stands after a bar in the input
-/// stays unread. At status 2 nothing is written, and the text is that of the fault.
-pub type Case<'a> = ([&'a str; 3], &'a str, &'a str, u8);
+/// Whether a call on this input has this output and this status. `spelt` reads both texts; what stands after a bar in the
+/// input stays unread. At status 2 nothing is written, and the output is the text of the fault.
+fn ends_so(
+    alloc: Global,
+    call: [&str; 3],
+    text: &str,
+    output: &str,
+    status: &str,
+) -> Result<bool, AllocError> {
+    let (read, rest) = parted(text, "|");
+    let mut input = spelt(alloc, call, read)?;
+    let unread = spelt(alloc, call, rest)?;
+    input.push_str(unread.as_str())?;
+    let written = spelt(alloc, call, if status == "2" { "" } else { output })?;
+    let (bytes, written) = (input.as_bytes(), written.as_bytes());
+    let (answer, same, left, _) = told(alloc, [WHOLE; 2], call, bytes, written)?;
+    let ended = match answer {
+        Ok(true) => status == "0",
+        Ok(false) => status == "1",
+        Err(fault) => status == "2" && format!(in alloc; "{fault}")?.as_str() == output,
+    };
+    Ok(ended && same && left == unread.len())
+}
 
-/// Fails with its input unless each case goes so.
-pub fn all_go(alloc: Global, cases: &[Case]) -> Result<(), Fail> {
-    for (call, text, output, ends) in cases {
-        let (read, rest) = text.split_once('|').unwrap_or((*text, ""));
-        let mut input = spelt(alloc, *call, read)?;
-        let unread = spelt(alloc, *call, rest)?;
-        input.push_str(unread.as_str())?;
-        let written = spelt(alloc, *call, if *ends < 2 { *output } else { "" })?;
-        let told = told(
-            alloc,
-            [WHOLE; 2],
-            *call,
-            input.as_bytes(),
-            written.as_bytes(),
-        )?;
-        let same = match told.0 {
-            Ok(_) => true,
-            Err(fault) => format!(in alloc; "{fault}")?.as_str() == *output,
-        };
-        let left = (told.1, told.2, status(told.0));
-        ensure(same && left == (true, unread.len(), *ends), *text)?;
+/// Fails with its input unless a case goes so: its call, its input, its output and its status, with ` | ` between them.
+pub fn goes(alloc: Global, case: &str) -> Result<(), Fail> {
+    let (call, case) = parted(case, " | ");
+    let (text, case) = parted(case, " | ");
+    let (output, status) = parted(case, " | ");
+    let (streams, call) = parted(call, "/");
+    let (command, set) = parted(call, "/");
+    let call = [streams, command, set];
+    ensure(ends_so(alloc, call, text, output, status)?, text)
+}
+
+/// Fails unless each of these cases, a line each, goes so.
+pub fn all_go(alloc: Global, cases: &str) -> Result<(), Fail> {
+    for case in cases.lines() {
+        goes(alloc, case)?;
     }
     Ok(())
 }

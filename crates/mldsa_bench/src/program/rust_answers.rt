@@ -3,6 +3,7 @@
 
 use crate::program::devices::WHOLE;
 use crate::program::runs::run_of;
+use crate::program::texts::parted;
 use crate::values::rust_crate::{ANSWERS_44, ANSWERS_65, ANSWERS_87};
 use mldsa_engine::process::status;
 use sha2::{Digest, Sha256};
@@ -64,7 +65,7 @@ impl Case {
     /// Runs `keygen`, `id` and `sign`, and keeps the signature if one was made.
     fn make(&mut self, alloc: Global, number: usize, made: &mut String) -> Result<(), AllocError> {
         let pair = self.run(alloc, "keygen", "seed")?;
-        let (public, private) = pair.split_once('\n').unwrap_or(("", ""));
+        let (public, private) = parted(pair.as_str(), "\n");
         let at = if number % 5 == 3 { 128 } else { usize::MAX };
         let private = changed(alloc, private.trim_end(), at.saturating_add(number), 0xff)?;
         self.keep("private", private)?;

@@ -43,26 +43,39 @@ fn refused() -> [u8; 2420] {
     signature
 }
 
-/// What a word names at a set over constant streams, in hex. Any other word is itself.
-fn constant(alloc: Global, set: &str, word: &str) -> Result<String, AllocError> {
-    match (set, word) {
-        ("44", "public") => hex::encode(alloc, &public_44()),
-        ("65", "public") => hex::encode(alloc, &public_65()),
-        ("87", "public") => hex::encode(alloc, &public_87()),
-        (_, "hash") => "5".repeat(alloc, 128),
-        (_, "other") => String::from_str(alloc, "yes"),
-        ("44", "private") => hex::encode(alloc, &private_44()),
-        ("44", "private4") => hex::encode(alloc, &private_with(4)),
-        ("44", "private5") => hex::encode(alloc, &private_with(5)),
-        ("65", "private") => hex::encode(alloc, &private_65()),
-        ("87", "private") => hex::encode(alloc, &private_87()),
-        ("44", "good") => hex::encode(alloc, &signature_44()),
-        ("44", "good4") => hex::encode(alloc, &signature_44_of_least_coefficient()),
-        ("44", "bad") => hex::encode(alloc, &refused()),
-        ("65", "good") => hex::encode(alloc, &signature_65()),
-        ("87", "good") => hex::encode(alloc, &signature_87()),
+/// What a word names at set 44 over constant streams, in hex. Any other word is itself.
+fn constant_44(alloc: Global, word: &str) -> Result<String, AllocError> {
+    match word {
+        "public" => hex::encode(alloc, &public_44()),
+        "private" => hex::encode(alloc, &private_44()),
+        "private4" => hex::encode(alloc, &private_with(4)),
+        "private5" => hex::encode(alloc, &private_with(5)),
+        "good" => hex::encode(alloc, &signature_44()),
+        "good4" => hex::encode(alloc, &signature_44_of_least_coefficient()),
+        "bad" => hex::encode(alloc, &refused()),
         _ => String::from_str(alloc, word),
     }
+}
+
+/// The same at each set.
+fn constant(alloc: Global, set: &str, word: &str) -> Result<String, AllocError> {
+    match word {
+        "hash" => "5".repeat(alloc, 128),
+        "other" => String::from_str(alloc, "yes"),
+        _ if set == "44" => constant_44(alloc, word),
+        "public" if set == "65" => hex::encode(alloc, &public_65()),
+        "public" => hex::encode(alloc, &public_87()),
+        "private" if set == "65" => hex::encode(alloc, &private_65()),
+        "private" => hex::encode(alloc, &private_87()),
+        "good" if set == "65" => hex::encode(alloc, &signature_65()),
+        "good" => hex::encode(alloc, &signature_87()),
+        _ => String::from_str(alloc, word),
+    }
+}
+
+/// What stands before and after the first of these marks: all and nothing where there is none.
+pub fn parted<'a>(text: &'a str, mark: &str) -> (&'a str, &'a str) {
+    text.split_once(mark).unwrap_or((text, ""))
 }
 
 /// What a text spells for a call: a comma is an LF, a word what it names, and `X*N` so many copies of it.
@@ -73,12 +86,12 @@ pub fn spelt(alloc: Global, call: [&str; 3], text: &str) -> Result<String, Alloc
         if index > 0 {
             spelt.push('\n')?;
         }
-        let (word, copies) = line.split_once('*').unwrap_or((line, "1"));
+        let (word, copies) = parted(line, "*");
         let word = match streams {
             "sha2" => String::from_str(alloc, recorded(set, word))?,
             _ => constant(alloc, set, word)?,
         };
-        let copies = copies.parse().unwrap_or(0);
+        let copies = copies.parse().unwrap_or(1);
         spelt.push_str(word.repeat(alloc, copies)?.as_str())?;
     }
     Ok(spelt)
