@@ -1,18 +1,15 @@
 //! The inverse transform over numbers whose sums are noted: how large they grow before they are reduced.
 #![tactic(auto)]
 
-ghost use Rattle.std.specs.Prelude.{◌≡◌, ◌<◌, ◌≤◌, ◌∷◌, [], ℕ, nat_abs};
-ghost use Rattle.fips204_base.specs.Lanes.{lane, LanesWithin};
+ghost use Rattle.std.specs.Prelude.{◌≡◌, ◌≤◌, ◌∷◌, [], nat_abs};
+ghost use Rattle.fips204_base.specs.Lanes.{LanesWithin};
 
 use fips204::helpers::Count;
 use fips204::ntt::{Residue, inv_ntt};
-use std::test::Fail;
 
 /// A number whose sums and differences are noted.
 #[derive(Clone, Copy)]
-struct Noted {
-    number: i32,
-}
+struct Noted(i32);
 
 /// The count of the steps, and the largest absolute value of a sum or a difference.
 #[derive(Drop)]
@@ -23,16 +20,16 @@ struct Notes {
 
 /// Notes a sum or a difference.
 fn note(number: i32, largest: &mut u32) -> Noted
-    ensures { result.number ≡ number }
+    ensures { result.0 ≡ number }
 {
     *largest = (*largest).max(number.unsigned_abs());
-    Noted { number }
+    Noted(number)
 }
 
 impl Residue for Noted {
     type Meter = Notes;
 
-    ghost lanes = { λ x. x.number ∷ [] };
+    ghost lanes = { λ x. x.0 ∷ [] };
 
     ghost width = { 1 };
 
@@ -41,63 +38,43 @@ impl Residue for Noted {
     ghost sums = { λ notes. notes.count.sums };
 
     fn add(self, other: Noted, meter: &mut Notes) -> Noted {
-        let sum = Residue::add(self.number, other.number, &mut meter.count);
+        let sum = Residue::add(self.0, other.0, &mut meter.count);
         note(sum, &mut meter.largest)
     }
 
     fn sub(self, other: Noted, meter: &mut Notes) -> Noted {
-        let difference = Residue::sub(self.number, other.number, &mut meter.count);
+        let difference = Residue::sub(self.0, other.0, &mut meter.count);
         note(difference, &mut meter.largest)
     }
 
     fn mul_zeta(self, m: usize, meter: &mut Notes) -> Noted {
-        Noted {
-            number: self.number.mul_zeta(m, &mut meter.count),
-        }
+        Noted(self.0.mul_zeta(m, &mut meter.count))
     }
 
     fn mul_neg_zeta(self, m: usize, meter: &mut Notes) -> Noted {
-        Noted {
-            number: self.number.mul_neg_zeta(m, &mut meter.count),
-        }
+        Noted(self.0.mul_neg_zeta(m, &mut meter.count))
     }
 
     fn reduce(self) -> Noted {
-        Noted {
-            number: self.number.reduce(),
-        }
+        Noted(self.0.reduce())
     }
 
     fn finish(self) -> Noted {
-        Noted {
-            number: self.number.finish(),
-        }
+        Noted(self.0.finish())
     }
-}
-
-/// A number below `q` in absolute value.
-fn bounded(number: i32) -> Noted
-    requires { nat_abs number ≤ 8380416 }
-    ensures { (j : ℕ) → j < 1 → nat_abs (lane (result.number ∷ []) j) ≤ 8380416 }
-{
-    Noted { number }
 }
 
 /// 256 times this number.
 fn row_of(number: i32) -> [Noted; 256]
     requires { nat_abs number ≤ 8380416 }
-    ensures { LanesWithin (λ x. x.number ∷ []) 1 8380416 result }
+    ensures { LanesWithin (λ x. x.0 ∷ []) 1 8380416 result }
 {
-    let mut out = [Noted { number: 0 }; 256];
-    for n in 0..256usize {
-        out[n] = bounded(number);
-    }
-    out
+    [Noted(number); 256]
 }
 
-/// The largest sum or difference in the inverse transform of such a row.
+/// The largest sum or difference in the inverse transform of a row.
 fn largest_sum(row: [Noted; 256]) -> u32
-    requires { LanesWithin (λ x. x.number ∷ []) 1 8380416 row }
+    requires { LanesWithin (λ x. x.0 ∷ []) 1 8380416 row }
 {
     let mut notes = Notes {
         count: Count::new(),
