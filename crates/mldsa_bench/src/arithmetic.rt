@@ -4,5 +4,4 @@
 pub mod coefficients;
 pub mod hint_parts;
 pub mod lanes;
-pub mod noted_sums;
 pub mod polynomials;

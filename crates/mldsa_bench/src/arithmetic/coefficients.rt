@@ -1,7 +1,7 @@
 //! Coefficients: from bytes, reduced, rounded, packed, and their hints.
 #![tactic(auto)]
 
-ghost use Rattle.std.specs.Prelude.{◌≤◌, ◌≤ℤ◌, pos, nat_abs};
+ghost use Rattle.std.specs.Prelude.{◌≤ℤ◌, pos};
 ghost use Rattle.std.specs.List.{All};
 
 use fips204::conversion::{
@@ -11,9 +11,10 @@ use fips204::helpers::{ZETA_TABLE_MONT, center_mod, mont_reduce};
 use fips204::high_low::{decompose, high_bits, make_hint, power2round, use_hint};
 use fips204::types::R;
 
-/// `12 34 56`, `12 34 80`, `01 E0 80` and `00 E0 7F` make coefficients, `01 E0 7F` makes none.
+/// `12 34 56`, `12 34 80`, `01 E0 80` and `00 E0 7F` make coefficients, `01 E0 7F` makes none; so do half bytes 3 at eta
+/// 2 and 8 at eta 4, but not 15 and 9.
 #[test]
-fn coefficients_of_three_bytes(rt: HostRuntime) {
+fn coefficients_of_bytes(rt: HostRuntime) {
     for (bytes, coefficient) in [
         ([0x12, 0x34, 0x56], Some(5649426)),
         ([0x12, 0x34, 0x80], Some(13330)),
@@ -23,11 +24,6 @@ fn coefficients_of_three_bytes(rt: HostRuntime) {
     ] {
         assert!(rt; coeff_from_three_bytes(bytes) == coefficient);
     }
-}
-
-/// Half bytes 3 and 15 at eta 2, and 8 and 9 at eta 4.
-#[test]
-fn coefficients_of_half_bytes(rt: HostRuntime) {
     assert!(rt; coeff_from_half_byte(2, 3) == Some(-1));
     assert!(rt; coeff_from_half_byte(2, 15) == None);
     assert!(rt; coeff_from_half_byte(4, 8) == Some(-4));

@@ -1,8 +1,8 @@
-//! Eight polynomials side by side, against values worked out from the standard's arithmetic and against
-//! eight transforms one by one.
+//! Transforms of eight polynomials side by side, against values worked out from the standard's arithmetic and against
+//! transforms one by one; and how large sums grow on the way back.
 #![tactic(auto)]
 
-ghost use Rattle.std.specs.Prelude.{◌≡◌, ◌≤◌, ◌<◌, ℕ, nat_abs, slice_index_or};
+ghost use Rattle.std.specs.Prelude.{◌≡◌, ◌≤◌, ◌<◌, ◌∷◌, [], ℕ, nat_abs};
 ghost use Rattle.fips204_base.specs.Lanes.{Steps, lane, LanesWithin};
 
 use crate::arithmetic::polynomials::{monomial, spread, within};
@@ -11,16 +11,16 @@ use fips204::helpers::Count;
 use fips204::ntt::{Lanes, Residue, inv_ntt, ntt};
 use std::test::Fail;
 
-/// Row `n` of eight polynomials; numbers of an absolute value of `q` or more are cut to `q - 1`.
+/// Row `n` of eight polynomials, with numbers cut as `within` does.
 fn row(w: &[[i32; 256]; 8], n: usize) -> Lanes
     requires { n < 256 }
     ensures { (j : ℕ) → j < 8 → nat_abs (lane result.lanes j) ≤ 8380416 }
 {
     let mut entries = [0; 8];
     for r in 0..8usize {
-        entries[r] = w[r][n].clamp(-8380416, 8380416);
+        entries[r] = w[r][n];
     }
-    Lanes::from_array(entries)
+    Lanes::from_array(within(&entries))
 }
 
 /// Eight polynomials, side by side.
@@ -99,4 +99,89 @@ fn eight_forth_and_back(rt: HostRuntime) -> Result<(), Fail> {
     }
     assert!(rt; transforms(&w).is_some());
     Ok(())
+}
+
+/// A number whose sums and differences are noted.
+#[derive(Clone, Copy)]
+struct Noted(i32);
+
+/// The count of the steps, and the largest absolute value of a sum or a difference.
+#[derive(Drop)]
+struct Notes {
+    count: Count,
+    largest: u32,
+}
+
+/// Notes a sum or a difference.
+fn note(number: i32, largest: &mut u32) -> Noted
+    ensures { result.0 ≡ number }
+{
+    *largest = (*largest).max(number.unsigned_abs());
+    Noted(number)
+}
+
+impl Residue for Noted {
+    type Meter = Notes;
+
+    ghost lanes = { λ x. x.0 ∷ [] };
+
+    ghost width = { 1 };
+
+    ghost products = { λ notes. notes.count.products };
+
+    ghost sums = { λ notes. notes.count.sums };
+
+    fn add(self, other: Noted, meter: &mut Notes) -> Noted {
+        let sum = Residue::add(self.0, other.0, &mut meter.count);
+        note(sum, &mut meter.largest)
+    }
+
+    fn sub(self, other: Noted, meter: &mut Notes) -> Noted {
+        let difference = Residue::sub(self.0, other.0, &mut meter.count);
+        note(difference, &mut meter.largest)
+    }
+
+    fn mul_zeta(self, m: usize, meter: &mut Notes) -> Noted {
+        Noted(self.0.mul_zeta(m, &mut meter.count))
+    }
+
+    fn mul_neg_zeta(self, m: usize, meter: &mut Notes) -> Noted {
+        Noted(self.0.mul_neg_zeta(m, &mut meter.count))
+    }
+
+    fn reduce(self) -> Noted {
+        Noted(self.0.reduce())
+    }
+
+    fn finish(self) -> Noted {
+        Noted(self.0.finish())
+    }
+}
+
+/// 256 times this number.
+fn repeated(number: i32) -> [Noted; 256]
+    requires { nat_abs number ≤ 8380416 }
+    ensures { LanesWithin (λ x. x.0 ∷ []) 1 8380416 result }
+{
+    [Noted(number); 256]
+}
+
+/// The largest sum or difference in the inverse transform of a row.
+fn largest_sum(row: [Noted; 256]) -> u32
+    requires { LanesWithin (λ x. x.0 ∷ []) 1 8380416 row }
+{
+    let mut notes = Notes {
+        count: Count::new(),
+        largest: 0,
+    };
+    inv_ntt(&[row], &mut notes);
+    notes.largest
+}
+
+/// The largest sum or difference inside the inverse transform of 256 times q - 1, and of 256 times 1 - q, is
+/// 2145386496.
+#[test]
+fn largest_sum_of_the_inverse_transform(rt: HostRuntime) {
+    assert_eq!(rt; largest_sum(repeated(8380416)), 2145386496);
+    assert_eq!(rt; largest_sum(repeated(-8380416)), 2145386496);
 }

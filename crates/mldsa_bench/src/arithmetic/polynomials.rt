@@ -15,11 +15,11 @@ use fips204_base::product::challenge_times_vector;
 use std::test::Fail;
 
 /// These numbers; those of an absolute value of `q` or more are cut to `q - 1`.
-pub fn within(w: &[i32; 256]) -> [i32; 256]
+pub fn within<const N: usize>(w: &[i32; N]) -> [i32; N]
     ensures { All (λ x. nat_abs x ≤ 8380416) result }
 {
-    let mut out = [0; 256];
-    for n in 0..256usize {
+    let mut out = [0; N];
+    for n in 0..N {
         out[n] = w[n].clamp(-8380416, 8380416);
     }
     out

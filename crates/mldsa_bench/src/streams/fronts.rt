@@ -1,7 +1,7 @@
 //! The fronts of the streams. The expected bytes were computed with Python's `hashlib`.
 #![tactic(auto)]
 
-ghost use Rattle.std.specs.Prelude.{◌≤◌, ◌<◌};
+ghost use Rattle.std.specs.Prelude.{◌≤◌};
 
 use crate::values::has_text;
 use fips204::xof::{Fill, Sha256Ctr, Sha256CtrLong, Sha512Ctr, Sha512CtrLong, Xof, XofReader};

@@ -1,8 +1,6 @@
-use Rattle.std.proofs.Common.{ℕ, ℤ, ◌≡◌, ◌<◌, ◌≤◌, get_or, length, nat_abs}
+use Rattle.std.proofs.Common.{◌≡◌, ◌≤◌, nat_abs, length}
+use Rattle.std.specs.List.{All}
 use Rattle.mldsa_bench.proofs.arithmetic.polynomials.within.Given as goal
 
 abbrev pub invariant-loop-n : goal.invariant-loop-n
-invariant-loop-n l = record {
-  size : length l.out ≡ 256;
-  small : (k : ℕ) (d : ℤ) → k < l.n → nat_abs (get_or l.out k d) ≤ 8380416;
-}
+invariant-loop-n g l = (length l.out ≡ g.row.N) × All (λ y. nat_abs y ≤ 8380416) l.out

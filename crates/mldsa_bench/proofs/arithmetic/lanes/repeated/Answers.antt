@@ -4,8 +4,8 @@ use Rattle.std.proofs.lemmas.Int.{to_z-of_z}
 use Rattle.std.proofs.lemmas.List.{get_or-replicate}
 use Rattle.std.proofs.lemmas.List.Elements.{All-replicate}
 use Rattle.fips204_base.proofs.Residues.{size_at}
-use Rattle.mldsa_bench.specs.declared.arithmetic.noted_sums.Noted.{Noted}
-use Rattle.mldsa_bench.proofs.arithmetic.noted_sums.row_of.Goals as goal
+use Rattle.mldsa_bench.specs.declared.arithmetic.lanes.Noted.{Noted}
+use Rattle.mldsa_bench.proofs.arithmetic.lanes.repeated.Goals as goal
 
 pub returns : goal.returns
 returns c = λ i j d below h.
