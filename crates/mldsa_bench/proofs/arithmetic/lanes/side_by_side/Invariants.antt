@@ -1,7 +1,7 @@
 use Rattle.std.proofs.Common.{ℕ, ◌≡◌, ◌<◌, ◌≤◌, nat_abs, length}
 use Rattle.fips204_base.specs.Lanes.{lane_at}
 use Rattle.fips204_base.specs.declared.lanes.row.Lanes.{Lanes}
-use Rattle.mldsa_bench.proofs.arithmetic.lanes.one_and_x.Given as goal
+use Rattle.mldsa_bench.proofs.arithmetic.lanes.side_by_side.Given as goal
 
 abbrev pub invariant-loop-n : goal.invariant-loop-n
 invariant-loop-n l = record {
