@@ -1,15 +1,13 @@
 //! A ledger that grows, and changes that are noticed.
 #![tactic(auto)]
 
+use super::{Key, Owner, pair};
 use crate::pages::ledger::{AppendFault, Entry, append, check_all};
 use fips204::Fault;
-use fips204::ml_dsa_44::{KG, PrivateKey, PublicKey, SIG_LEN};
-use fips204::traits::{KeyGen, SerDes};
-use fips204::xof::{Fill, Sha256Ctr, Sha512Ctr, Xof};
+use fips204::ml_dsa_44::{PrivateKey, PublicKey, SIG_LEN};
+use fips204::traits::SerDes;
+use fips204::xof::{Fill, Sha256Ctr, Xof};
 use std::test::Fail;
-
-/// The public keys of the tests.
-type Key = PublicKey<Sha256Ctr, Sha512Ctr>;
 
 /// Appends an entry with this byte everywhere as its payload.
 fn add<G: Xof>(
@@ -61,11 +59,23 @@ fn parts(key: &Key, ledger: &[Entry]) -> Result<[bool; 4], Fault> {
     ])
 }
 
+/// What is refused without a matrix: an entry to append, and a ledger to check.
+fn without_a_matrix(
+    key: Key,
+    owner: Owner,
+    ledger: &mut Vec<Entry>,
+) -> Result<(Result<(), AppendFault>, Result<bool, Fault>), Fault> {
+    let owner = PrivateKey::<Sha256Ctr, Fill<0xff>>::try_from_bytes(owner.into_bytes())?;
+    let appended = add(ledger, &owner, 3);
+    let key = PublicKey::<Sha256Ctr, Fill<0xff>>::try_from_bytes(key.into_bytes())?;
+    Ok((appended, stands(&key, ledger)))
+}
+
 /// Entries that were appended stand; a broken link, a swapped pair, a changed payload, a cut signature and a missing
 /// first entry are noticed, and a dropped tail is not. On an error the ledger stays.
 #[test]
 fn a_ledger(rt: HostRuntime) -> Result<(), Fail> {
-    let (key, owner) = KG::<Sha256Ctr, Sha512Ctr>::keygen_from_seed(&[7; 32])?;
+    let (key, owner) = pair(7)?;
     let mut ledger = Vec::new(rt.alloc());
     for payload in 0..3u8 {
         assert!(rt; add(&mut ledger, &owner, payload) == Ok(()));
@@ -74,11 +84,9 @@ fn a_ledger(rt: HostRuntime) -> Result<(), Fail> {
     let entries = <[Entry; 3]>::try_from(ledger.as_slice())?;
     assert!(rt; entries[0].previous == [0; 32] && entries[2].payload == [2; 32]);
     assert!(rt; changed(&key, &entries)? == [true, false, false, false, false]);
-    let silent = PrivateKey::<Sha256Ctr, Fill<0xff>>::try_from_bytes(owner.into_bytes())?;
-    let limit = Err(AppendFault::Signing(Fault::SamplingLimit));
-    assert!(rt; add(&mut ledger, &silent, 3) == limit);
+    let (appended, checked) = without_a_matrix(key, owner, &mut ledger)?;
+    assert!(rt; appended == Err(AppendFault::Signing(Fault::SamplingLimit)));
+    assert!(rt; checked == Err(Fault::SamplingLimit));
     assert!(rt; ledger.as_slice() == entries.as_slice());
-    let other = PublicKey::<Sha256Ctr, Fill<0xff>>::try_from_bytes(key.into_bytes())?;
-    assert!(rt; stands(&other, &entries) == Err(Fault::SamplingLimit));
     Ok(())
 }

@@ -7,7 +7,6 @@ use fips204::ml_dsa_65::{KG, PrivateKey, PublicKey, SIG_LEN};
 use fips204::pre_hash::SHA2_256;
 use fips204::traits::{KeyGen, Signer};
 use fips204::xof::{Sha256Ctr, Sha512Ctr};
-use std::test::Fail;
 
 /// The public keys of the test.
 type Key = PublicKey<Sha256Ctr, Sha512Ctr>;
@@ -52,20 +51,34 @@ fn under_one(key: &Key, entries: &[Entry], signature: &[u8; SIG_LEN]) -> [Option
     ]
 }
 
+/// What is handed out of a manifest without its last entry, of one with another entry, and of one with another
+/// signature.
+fn of_others(key: &Key, entries: &[Entry; 2], signature: &[u8; SIG_LEN]) -> [Option<bool>; 3] {
+    let other = [entries[0], entry_of(TWO, b"another file")];
+    let mut changed = *signature;
+    changed[0] ^= 1;
+    [
+        given(key, &entries[..1], signature, ONE, b"first file"),
+        given(key, &other, signature, TWO, b"another file"),
+        given(key, entries, &changed, ONE, b"first file"),
+    ]
+}
+
+/// Whether a manifest hands out its two files and nothing else.
+fn is_judged() -> Result<bool, Fault> {
+    let (key, owner) = KG::<Sha256Ctr, Sha512Ctr>::keygen_from_seed(&[7; 32])?;
+    let entries = [entry_of(ONE, b"first file"), entry_of(TWO, b"second file")];
+    let signature = signed(&owner, &entries)?;
+    Ok(
+        under_one(&key, &entries, &signature) == [Some(true), None, None, None, None]
+            && given(&key, &entries, &signature, TWO, b"second file") == Some(true)
+            && of_others(&key, &entries, &signature) == [None; 3],
+    )
+}
+
 /// A file is handed out under its name; a longer, shorter or changed file, a file under another name, and a file of
 /// a manifest with an entry less, an entry changed or another signature are not.
 #[test]
-fn a_manifest(rt: HostRuntime) -> Result<(), Fail> {
-    let (key, owner) = KG::<Sha256Ctr, Sha512Ctr>::keygen_from_seed(&[7; 32])?;
-    let mut entries = [entry_of(ONE, b"first file"), entry_of(TWO, b"second file")];
-    let mut signature = signed(&owner, &entries)?;
-    assert!(rt; under_one(&key, &entries, &signature) == [Some(true), None, None, None, None]);
-    assert!(rt; given(&key, &entries, &signature, TWO, b"second file") == Some(true));
-    assert!(rt; given(&key, &entries[..1], &signature, ONE, b"first file") == None);
-    entries[1] = entry_of(TWO, b"another file");
-    assert!(rt; given(&key, &entries, &signature, TWO, b"another file") == None);
-    entries[1] = entry_of(TWO, b"second file");
-    signature[0] ^= 1;
-    assert!(rt; given(&key, &entries, &signature, ONE, b"first file") == None);
-    Ok(())
+fn a_manifest(rt: HostRuntime) {
+    assert_eq!(rt; is_judged(), Ok(true));
 }
