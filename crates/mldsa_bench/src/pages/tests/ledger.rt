@@ -7,7 +7,6 @@ use fips204::Fault;
 use fips204::ml_dsa_44::{PrivateKey, PublicKey, SIG_LEN};
 use fips204::traits::SerDes;
 use fips204::xof::{Fill, Sha256Ctr, Xof};
-use std::test::Fail;
 
 /// Appends an entry with this byte everywhere as its payload.
 fn add<G: Xof>(
@@ -71,22 +70,55 @@ fn without_a_matrix(
     Ok((appended, stands(&key, ledger)))
 }
 
+/// Appends the payloads 0, 1 and 2 to an empty ledger. Returns its entries if all were appended and there are three.
+fn grown(owner: &Owner, ledger: &mut Vec<Entry>) -> Option<[Entry; 3]> {
+    for payload in 0..3u8 {
+        if add(ledger, owner, payload) != Ok(()) {
+            return None;
+        }
+    }
+    match <[Entry; 3]>::try_from(ledger.as_slice()) {
+        Ok(entries) => Some(entries),
+        Err(_) => None,
+    }
+}
+
+/// Whether its parts, and changes of it, are judged as they must be.
+fn is_checked(key: &Key, entries: &[Entry; 3]) -> Result<bool, Fault> {
+    Ok(
+        parts(key, entries)? == [true, true, true, false]
+            && changed(key, entries)? == [true, false, false, false, false],
+    )
+}
+
+/// Whether both errors of a key without a matrix are returned, and the ledger stays.
+fn is_kept(
+    key: Key,
+    owner: Owner,
+    ledger: &mut Vec<Entry>,
+    entries: &[Entry; 3],
+) -> Result<bool, Fault> {
+    let (appended, checked) = without_a_matrix(key, owner, ledger)?;
+    Ok(
+        appended == Err(AppendFault::Signing(Fault::SamplingLimit))
+            && checked == Err(Fault::SamplingLimit)
+            && ledger.as_slice() == entries.as_slice(),
+    )
+}
+
+/// Whether all of these hold of a ledger that is empty before.
+fn is_judged(ledger: &mut Vec<Entry>) -> Result<bool, Fault> {
+    let (key, owner) = pair(7)?;
+    match grown(&owner, ledger) {
+        Some(entries) => Ok(is_checked(&key, &entries)? && is_kept(key, owner, ledger, &entries)?),
+        None => Ok(false),
+    }
+}
+
 /// Entries that were appended stand; a broken link, a swapped pair, a changed payload, a cut signature and a missing
 /// first entry are noticed, and a dropped tail is not. On an error the ledger stays.
 #[test]
-fn a_ledger(rt: HostRuntime) -> Result<(), Fail> {
-    let (key, owner) = pair(7)?;
+fn a_ledger(rt: HostRuntime) {
     let mut ledger = Vec::new(rt.alloc());
-    for payload in 0..3u8 {
-        assert!(rt; add(&mut ledger, &owner, payload) == Ok(()));
-    }
-    assert!(rt; parts(&key, &ledger)? == [true, true, true, false]);
-    let entries = <[Entry; 3]>::try_from(ledger.as_slice())?;
-    assert!(rt; entries[0].previous == [0; 32] && entries[2].payload == [2; 32]);
-    assert!(rt; changed(&key, &entries)? == [true, false, false, false, false]);
-    let (appended, checked) = without_a_matrix(key, owner, &mut ledger)?;
-    assert!(rt; appended == Err(AppendFault::Signing(Fault::SamplingLimit)));
-    assert!(rt; checked == Err(Fault::SamplingLimit));
-    assert!(rt; ledger.as_slice() == entries.as_slice());
-    Ok(())
+    assert!(rt; is_judged(&mut ledger) == Ok(true));
 }
