@@ -19,8 +19,8 @@ fill00/id/44 | 0*2624 | 0*2624,0*128, | 0";
     all_go(rt.alloc(), cases)
 }
 
-/// Lines of another length, at the longest and past it, digits or not, and none. A letter past f, a carriage return, a
-/// space, `0x` and an odd number of digits are `not hex`.
+/// Lines of another length, and none. A letter past f, a carriage return, a space, `0x` and an odd number of digits are
+/// `not hex`.
 #[test]
 fn lines_that_are_refused(rt: HostRuntime) -> Result<(), Fail> {
     let cases = "\
@@ -32,16 +32,35 @@ fill55/id/44 |  | line 1: missing | 2
 fillff/keygen/65 | 0*63, | line 1: not hex | 2
 fillff/keygen/65 | 0*62, | line 1: wants 32 bytes, has 31 | 2
 fillff/keygen/65 |  | line 1: missing | 2
-fill55/id/44 | g*2097153|, | line 1: too long | 2
-fill55/id/44 | 0*2097153|, | line 1: too long | 2
-fill55/id/44 | g*2097152, | line 1: not hex | 2
-fill55/id/44 | 0*2097152, | line 1: wants 1312 bytes, has 1048576 | 2
 fill55/id/44 | 0g, | line 1: not hex | 2
 fill55/id/44 | 00\r, | line 1: not hex | 2
 fill55/id/44 |  00, | line 1: not hex | 2
 fill55/id/44 | 0x00, | line 1: not hex | 2
 fill55/id/44 | 0, | line 1: not hex | 2";
     all_go(rt.alloc(), cases)
+}
+
+/// 2097153 characters are `too long`, digits or not, and their LF stays unread; 2097152 are `not hex`, or
+/// `wants 1312 bytes, has 1048576`.
+#[test]
+fn lines_at_the_longest(rt: HostRuntime) -> Result<(), Fail> {
+    let call = ["fill55", "id", "44"];
+    let (line, wants, has) = (1, 1312, 1048576);
+    for (character, left, fault) in [
+        (b'g', 1usize, RunFault::TooLong { line }),
+        (b'0', 1, RunFault::TooLong { line }),
+        (b'g', 0, RunFault::NotHex { line }),
+        (b'0', 0, RunFault::Length { line, wants, has }),
+    ] {
+        let mut bytes = vec![in rt.alloc(); character; 2097152 + left]?;
+        bytes.push(b'\n')?;
+        let (answer, same, unread, _) = told(rt.alloc(), [WHOLE; 2], call, bytes.as_slice(), b"")?;
+        ensure(
+            (answer, same, unread) == (Err(fault), true, left),
+            "a long line",
+        )?;
+    }
+    Ok(())
 }
 
 /// Bytes above 127, and a carriage return after a key: `not hex`.
