@@ -42,4 +42,4 @@ loads_stored_public tell H pk file (Ok key) parts hashed long same (none, is) =
     let hashes = is.hash ∙ ap (λ b. take 64 (H b)) (ap (drop 2) same) ∙ sym hashed in
     let whole : ArePublicParts 4 key = record { seed = is.seed; hash = ap length hashes ∙ parts.hash; high = is.high } in
     ap Ok (tell.public_keys key pk whole parts hashes bytes)
-loads_stored_public tell H pk file (Err fault) parts hashed long same refused = absurd (not_refused 1314 file _ fault refl long same refused)
+loads_stored_public tell H pk file (Err fault) parts hashed long same said = absurd (not_refused 1314 file _ fault refl long same said)

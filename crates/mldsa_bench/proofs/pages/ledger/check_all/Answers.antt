@@ -9,6 +9,6 @@ returns-clause-answer g c =
     let law = c.prepared_keys.ensures set_44 g.H.Xof.front g.G.Xof.front in
     let same = λ (message signature : List ℕ).
     law.verify_inputs c.args.key.now _ signature (plain message CONTEXT.now) (sym c.in_ok-prepare.ensures) in (
-      λ yes place below. let fits = c.each_fits.ensures.0 yes place below in record { linked = fits.linked; signed = (same _ _).0 fits.signed },
-      λ all. c.each_fits.ensures.1 (λ place below. record { linked = (all place below).linked; signed = (same _ _).1 (all place below).signed }),
+      λ yes k below. let fits = c.each_fits.ensures.0 yes k below in record { linked = fits.linked; signed = (same _ _).0 fits.signed },
+      λ all. c.each_fits.ensures.1 (λ k below. record { linked = (all k below).linked; signed = (same _ _).1 (all k below).signed }),
     )
