@@ -1,5 +1,5 @@
-//! Functions that call the library at one set or at every set, with clauses in the words of the definitions. None of
-//! them has a file of proofs.
+//! Functions that call the library at one set, with clauses in the words of the definitions. None of them has a file of
+//! proofs.
 #![tactic(auto)]
 
 ghost use Rattle.std.specs.Prelude.{◌≡◌, ◌↔◌, [], true, Ok, IsTrue, IfOk};
@@ -8,7 +8,7 @@ ghost use Rattle.fips204.specs.Completeness.{AcceptedIfWhole, HashComplete};
 ghost use Rattle.fips204.specs.Keys.{IsWhole};
 ghost use Rattle.fips204.specs.Keys.{DecodesPrivate};
 ghost use Rattle.fips204.specs.ParameterSets.{set_44, set_65, set_87};
-ghost use Rattle.fips204.specs.Prepared.{prepared_private, sign_message_prepared, VerifiesDigestPrepared};
+ghost use Rattle.fips204.specs.Prepared.{prepared_private, sign_message_prepared, IsWholePrepared, VerifiesDigestPrepared, public_of_prepared};
 ghost use Rattle.fips204.specs.Refusals.{generated, derived, sign_message, sign_digest, OnlySamplingLimit, VerifiesMessage, VerifiesDigest, DrawsIf};
 ghost use Rattle.fips204.specs.Signing.{sign};
 ghost use Rattle.fips204_base.specs.Encodings.{public_key_bytes};
@@ -67,22 +67,14 @@ pub fn decoded_at_44<H: Xof, G: Xof>(
     ml_dsa_44::PrivateKey::<H, G>::try_from_bytes(bytes)
 }
 
-/// Makes both keys of a seed at set 44. It returns no error but `SamplingLimit`.
-pub fn made_at_44<H: Xof, G: Xof>(
-    xi: &[u8; 32],
-) -> Result<(ml_dsa_44::PublicKey<H, G>, ml_dsa_44::PrivateKey<H, G>), Fault>
-    ensures { OnlySamplingLimit result }
-{
-    laws::refusals();
-    ml_dsa_44::KG::<H, G>::keygen_from_seed(xi)
-}
-
-/// Makes both keys of a seed at set 65.
+/// Makes both keys of a seed at set 65. It returns no error but `SamplingLimit`.
 pub fn made_at_65<H: Xof, G: Xof>(
     xi: &[u8; 32],
 ) -> Result<(ml_dsa_65::PublicKey<H, G>, ml_dsa_65::PrivateKey<H, G>), Fault>
-    ensures { result ≡ generated set_65 H.front G.front xi.now }
+    ensures answer { result ≡ generated set_65 H.front G.front xi.now }
+    ensures refusals { OnlySamplingLimit result }
 {
+    laws::refusals();
     ml_dsa_65::KG::<H, G>::keygen_from_seed(xi)
 }
 
@@ -158,17 +150,6 @@ pub fn signed_by<K: Signer>(key: &K, rnd: &[u8; 32], message: &[u8]) -> Result<K
     key.try_sign_with_seed(rnd, message, &[])
 }
 
-/// `signed_by` with a key of set 65.
-pub fn signed_by_65<H: Xof, G: Xof>(
-    key: &ml_dsa_65::PrivateKey<H, G>,
-    rnd: &[u8; 32],
-    message: &[u8],
-) -> Result<[u8; ml_dsa_65::SIG_LEN], Fault>
-    ensures { result ≡ sign_message set_65 H.front G.front key.now rnd.now message.now [] }
-{
-    signed_by(key, rnd, message)
-}
-
 /// `signed_by` with a key of set 87.
 pub fn signed_by_87<H: Xof, G: Xof>(
     key: &ml_dsa_87::PrivateKey<H, G>,
@@ -185,4 +166,37 @@ pub fn checked_at_87<H: Xof, G: Xof>(xi: &[u8; 32], rnd: &[u8; 32]) -> Result<bo
     ensures { IfOk result (λ verdict. IsTrue verdict) }
 {
     pairwise_check::<ml_dsa_87::KG<H, G>>(xi, rnd, b"a message", &[])
+}
+
+/// Whether the public key that is derived of a whole private key, of whatever origin, accepts what this signs: yes,
+/// wherever nothing is refused, by the clause `accepted` alone.
+pub fn accepts_what_it_signs<H: Xof, G: Xof>(
+    sk: &ml_dsa_44::PrivateKey<H, G>,
+    rnd: &[u8; 32],
+    message: &[u8],
+    ctx: &[u8],
+) -> Result<bool, Fault>
+    requires { IsWhole set_44 G.front sk.now }
+    ensures { IfOk result (λ answer. answer ≡ true) }
+{
+    let pk = sk.get_public_key()?;
+    let signature = sk.try_sign_with_seed(rnd, message, ctx)?;
+    Ok(pk.verify(message, &signature, ctx))
+}
+
+/// The same of prepared keys: the public key that belongs to a whole prepared private key accepts what this
+/// signs.
+pub fn accepts_what_it_signs_prepared<H: Xof>(
+    sk: &ml_dsa_44::PreparedPrivateKey<H>,
+    pk: &ml_dsa_44::PreparedPublicKey<H>,
+    rnd: &[u8; 32],
+    message: &[u8],
+    ctx: &[u8],
+) -> Result<bool, Fault>
+    requires whole { IsWholePrepared set_44 sk.now }
+    requires pair { pk.now ≡ public_of_prepared set_44 sk.now }
+    ensures { IfOk result (λ answer. answer ≡ true) }
+{
+    let signature = sk.try_sign_with_seed(rnd, message, ctx)?;
+    Ok(pk.verify(message, &signature, ctx))
 }

@@ -9,7 +9,6 @@ mod keys;
 pub mod pages;
 #[cfg(test)]
 mod program;
-pub mod received_keys;
 #[cfg(test)]
 mod signatures;
 #[cfg(test)]

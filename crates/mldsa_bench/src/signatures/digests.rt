@@ -1,10 +1,16 @@
 //! Identifiers of hashes, and the conditions on digests.
 #![tactic(auto)]
 
-use crate::values::identifiers::{longer_oid, longest_oid, oid};
 use fips204::pre_hash::{self, digest_len};
 use fips204::{Fault, check_pre_hash};
 use std::test::Fail;
+
+/// The identifier of one of the twelve hashes, by its last byte.
+fn oid(last: u8) -> [u8; 11] {
+    [
+        0x06, 0x09, 0x60, 0x86, 0x48, 0x01, 0x65, 0x03, 0x04, 0x02, last,
+    ]
+}
 
 /// The twelve object identifiers, byte for byte, and the lengths of their digests.
 #[test]
@@ -56,7 +62,8 @@ pub const REFUSED_DIGESTS: [(&[u8], &[u8], Fault); 13] = [
     (&[9; 63], &pre_hash::SHA2_512, Fault::DigestLength),
 ];
 
-/// Each error of `check_pre_hash` by itself and in its order; digests of 0, 31, 33, 1024 and 1025 bytes.
+/// Each error of `check_pre_hash` by itself and in its order; digests of 0, 31, 33, 1024 and 1025 bytes; identifiers of 3,
+/// 129 and 130 bytes.
 #[test]
 fn digests_that_are_refused(rt: HostRuntime) {
     for (digest, identifier, fault) in REFUSED_DIGESTS {
@@ -65,12 +72,9 @@ fn digests_that_are_refused(rt: HostRuntime) {
     assert_eq!(rt; check_pre_hash(&[0; 1024], UNKNOWN), Ok(()));
     assert_eq!(rt; check_pre_hash(&[0; 32], &pre_hash::SHA2_256), Ok(()));
     assert_eq!(rt; check_pre_hash(&[], &[0x06, 0x01, 0x00]), Ok(()));
-}
-
-/// Object identifiers of 3, 129 and 130 bytes.
-#[test]
-fn longest_identifiers(rt: HostRuntime) -> Result<(), Fail> {
-    assert!(rt; check_pre_hash(&[], &longest_oid()) == Ok(()));
-    assert!(rt; check_pre_hash(&[], &longer_oid()) == Err(Fault::OidNotDer));
-    Ok(())
+    let (mut longest, mut longer) = ([0u8; 129], [0u8; 130]);
+    longest[..2].copy_from_slice(&[0x06, 0x7f]);
+    longer[..2].copy_from_slice(&[0x06, 0x80]);
+    assert_eq!(rt; check_pre_hash(&[], &longest), Ok(()));
+    assert_eq!(rt; check_pre_hash(&[], &longer), Err(Fault::OidNotDer));
 }

@@ -55,5 +55,10 @@ impl CryptoRngCore for RefusesAt {
 
 /// Whether every byte is 0.
 fn is_zero(bytes: &[u8]) -> bool {
-    bytes.iter().all(|byte| *byte == 0)
+    for byte in bytes {
+        if *byte != 0 {
+            return false;
+        }
+    }
+    true
 }
