@@ -38,6 +38,8 @@ where
 
     ghost generated = { generated S.set H.front G.front };
 
+    // Inlined, since both keys are copied on their way through a call.
+    #[inline(always)]
     fn keygen_from_seed(xi: &[u8; 32]) -> Result<(Self::PublicKey, Self::PrivateKey), Fault> {
         ml_dsa::key_gen_internal::<K, L, PK_LEN, H, G>(&S::params(), xi)
     }

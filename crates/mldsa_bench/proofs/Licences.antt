@@ -1,21 +1,16 @@
 -- Two tokens with one spelling are one token.
-use Rattle.std.proofs.Common.{◌≡◌, ◌<◌, ◌^◌, ◌++◌, ℕ, List, refl}
-use Rattle.std.specs.Int.{w32, to_be_bytes}
-use Rattle.mldsa_bench.specs.Licence.{spelling, IsToken, SpellingIsOneToOne}
-use Rattle.mldsa_bench.specs.declared.pages.licence.Token.{Token}
-use Rattle.fips204.proofs.Spellings.{same_parts, same_u32}
+use Rattle.std.proofs.Common.{◌≡◌, ◌<◌, ◌^◌, ℕ, take, drop, sym, ap, ◌∙◌}
+use Rattle.std.specs.Int.{w32, to_be_bytes, from_be_bytes}
+use Rattle.std.proofs.lemmas.Nat.{from_be_bytes-to_be_bytes_4}
+use Rattle.mldsa_bench.specs.Licence.{SpellingIsOneToOne}
 
-token : ℕ → ℕ → List ℕ → Token
-token product last_day customer = record { product = product; last_day = last_day; customer = customer }
-
-same_token : (p q d e : ℕ) (c f : List ℕ) → p ≡ q → d ≡ e → c ≡ f → token p d c ≡ token q e f
-same_token p q d e c f one two three = cc
+-- two numbers with the same four bytes are the same
+same_number : (n m : ℕ) → n < 2 ^ 32 → m < 2 ^ 32 → to_be_bytes w32 n ≡ to_be_bytes w32 m → n ≡ m
+same_number n m small little e =
+    sym (from_be_bytes-to_be_bytes_4 n small) ∙ ap (from_be_bytes w32) e ∙ from_be_bytes-to_be_bytes_4 m little
 
 pub one_token : SpellingIsOneToOne
-unfolding token
 one_token a b one other same =
-    let cut = same_parts (to_be_bytes w32 a.product ++ to_be_bytes w32 a.last_day) (to_be_bytes w32 b.product ++ to_be_bytes w32 b.last_day) a.customer b.customer refl same in
-    let numbers = same_parts (to_be_bytes w32 a.product) (to_be_bytes w32 b.product) (to_be_bytes w32 a.last_day) (to_be_bytes w32 b.last_day) refl cut.0 in
-    let products = same_u32 a.product b.product one.product other.product numbers.0 in
-    let days = same_u32 a.last_day b.last_day one.last_day other.last_day numbers.1 in
-    same_token a.product b.product a.last_day b.last_day a.customer b.customer products days cut.1
+    let products = same_number a.product b.product one.product other.product (ap (take 4) same) in
+    let days = same_number a.last_day b.last_day one.last_day other.last_day (ap (λ bytes. take 4 (drop 4 bytes)) same) in
+    λ i. record { product = products i; last_day = days i; customer = ap (drop 8) same i }

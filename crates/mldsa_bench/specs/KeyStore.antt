@@ -22,6 +22,12 @@ file_fault size file =
     if nat_eq (length file) size then (if nat_eq (slice_index file 0) 1 then (if nat_eq (slice_index file 1) 44 then None else Some WrongSet) else Some WrongHeader)
     else Some WrongLength
 
+-- what reading the header answers: the bytes after it, or the first of these refusals
+abbrev pub HasBytes : ℕ → List ℕ → Result (List ℕ) LoadFault → Type 0
+HasBytes size file answer = MatchResult answer
+    (λ bytes. (file_fault size file ≡ None) × (file ≡ 1 ∷ 44 ∷ bytes))
+    (λ fault. file_fault size file ≡ Some fault)
+
 -- what loading answers: the key whose bytes stand after the header, or the first refusal
 abbrev pub LoadsAs : List ℕ → Result PrivateParts LoadFault → Type 0
 LoadsAs file answer = MatchResult answer

@@ -2,9 +2,10 @@
 use Rattle.std.specs.Prelude.{◌≡◌, ◌⊎◌, ◌<◌, ℕ, ◌+◌, ◌-◌, List, [], ◌∷◌, ◌++◌, length, replicate, slice_index_or, nat_eq, if◌then◌else◌, Result, Ok, Err, MatchResult}
 use Rattle.sha2.specs.Sha256.{sha256}
 use Rattle.fips204_base.specs.declared.fault.Fault.{Fault}
-use Rattle.fips204.specs.Keys.{PublicParts, PrivateParts}
+use Rattle.fips204.specs.Keys.{PublicParts, PrivateParts, IsWhole}
 use Rattle.fips204.specs.ParameterSets.{set_44}
-use Rattle.fips204.specs.Refusals.{sign_message, VerifiesMessage}
+use Rattle.fips204.specs.Prepared.{PreparedPublic, VerifiesMessagePrepared}
+use Rattle.fips204.specs.Refusals.{derived, sign_message, VerifiesMessage}
 use Rattle.mldsa_bench.specs.declared.pages.ledger.AppendFault.{AppendFault}
 use Rattle.mldsa_bench.specs.declared.pages.ledger.AppendFault.TheVariants.{Signing, OutOfMemory}
 use Rattle.mldsa_bench.specs.declared.pages.ledger.Entry.{Entry}
@@ -33,6 +34,18 @@ EachFits accepts ledger = (place : ℕ) → place < length ledger → Fits accep
 -- a ledger stands under a public key: each entry fits, by the signatures that the key accepts
 abbrev pub Stands : (List ℕ → List ℕ) → (List ℕ → List ℕ) → PublicParts → List ℕ → List Entry → Type 0
 Stands H G key context ledger = EachFits (λ message signature. VerifiesMessage set_44 H G key message signature context) ledger
+
+-- the same under a prepared public key: the entry at a place fits, and each does
+abbrev pub FitsPrepared : (List ℕ → List ℕ) → PreparedPublic → List ℕ → List Entry → ℕ → Type 0
+FitsPrepared H key context ledger place = Fits (λ message signature. VerifiesMessagePrepared set_44 H key message signature context) ledger place
+
+abbrev pub StandsPrepared : (List ℕ → List ℕ) → PreparedPublic → List ℕ → List Entry → Type 0
+StandsPrepared H key context ledger = (place : ℕ) → place < length ledger → FitsPrepared H key context ledger place
+
+-- if the owner's key is whole, and the old ledger stood under its public key, the new one stands under it
+abbrev pub StaysStanding : (List ℕ → List ℕ) → (List ℕ → List ℕ) → PrivateParts → List ℕ → List Entry → List Entry → Type 0
+StaysStanding H G owner context old new =
+    (key : PublicParts) → IsWhole set_44 G owner → derived set_44 G owner ≡ Ok key → Stands H G key context old → Stands H G key context new
 
 -- what is appended: an entry with the hash of the last one, the payload, and the key's signature of both
 pub record IsNext (H G : List ℕ → List ℕ) (owner : PrivateParts) (context random payload : List ℕ) (ledger : List Entry) (entry : Entry) : Type 0 where

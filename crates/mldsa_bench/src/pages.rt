@@ -8,6 +8,8 @@ pub mod licence;
 pub mod manifest;
 pub mod pieces;
 #[cfg(test)]
+mod tests;
+#[cfg(test)]
 mod toy_hash;
 #[cfg(test)]
 mod toy_stream;

@@ -10,3 +10,4 @@ pub mod judged_lines;
 pub mod process;
 pub mod runs;
 pub mod rust_answers;
+pub mod texts;

@@ -3,6 +3,5 @@
 
 pub mod fronts;
 pub mod input_chosen;
-pub mod sampler_limits;
 pub mod samplers;
 pub mod written_fronts;

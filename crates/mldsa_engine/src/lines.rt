@@ -136,6 +136,7 @@ fn read_line<I: Read>(
     alloc: Global,
     number: usize,
     wanted: Option<usize>,
+    room: &mut [u8; PIECE],
     input: &mut Marked<I>,
 ) -> Result<Vec<u8>, RunFault>
     requires unmarked { input.old.failed ≡ false }
@@ -146,7 +147,6 @@ fn read_line<I: Read>(
     ensures faults { IfErr result (λ fault. IsInputFault fault) }
 {
     let characters = characters_of(wanted);
-    let mut room = [0; PIECE];
     let mut line = Vec::new(alloc);
     while line.len() <= LONGEST_LINE {
         let asked = characters.saturating_sub(line.len());
@@ -195,6 +195,7 @@ fn read_bytes<I: Read>(
     alloc: Global,
     number: usize,
     wanted: Option<usize>,
+    room: &mut [u8; PIECE],
     input: &mut Marked<I>,
 ) -> Result<Vec<u8>, RunFault>
     requires unmarked { input.old.failed ≡ false }
@@ -205,7 +206,7 @@ fn read_bytes<I: Read>(
     ensures stops { IfErr result (StopsAt I.remaining input.old input.new number (wanted ∷ [])) }
     ensures faults { IfErr result (λ fault. IsInputFault fault) }
 {
-    let line = read_line(alloc, number, wanted, input)?;
+    let line = read_line(alloc, number, wanted, room, input)?;
     judge(number, wanted, hex::decode(alloc, line.as_slice()))
 }
 
@@ -226,9 +227,10 @@ pub(crate) fn read_lines<I: Read>(
     ensures stops { IfErr result (StopsAt I.remaining input.old input.new first wanted.now) }
     ensures faults { IfErr result (λ fault. IsInputFault fault) }
 {
+    let mut room = [0; PIECE];
     let mut lines = Vec::new(alloc);
     for length in wanted {
-        let bytes = read_bytes(alloc, first + lines.len(), *length, input)?;
+        let bytes = read_bytes(alloc, first + lines.len(), *length, &mut room, input)?;
         lines.push(bytes)?;
     }
     Ok(lines)

@@ -1,12 +1,23 @@
-//! Hints as bytes.
+//! Hints as bytes, also beside a slow decoder that is written from the definition of a spelling.
 #![tactic(auto)]
 
+ghost use Rattle.std.specs.Prelude.{◌≡◌, ◌<◌, ◌≤◌, ◌+◌, ◌≤ℤ◌, pos, nat_abs, length};
+
+use crate::values::constant_streams::{public_44, signature_44};
+use crate::values::counter_44;
 use fips204::conversion::{hint_bit_pack, hint_bit_unpack};
+use fips204::encodings::sig_decode;
+use fips204::ml_dsa_44;
+use fips204::traits::{SerDes, Verifier};
 use fips204::types::R;
+use fips204::xof::Fill;
 use std::test::Fail;
 
+/// A public key of set 44 over constant streams.
+type Public44 = ml_dsa_44::PublicKey<Fill<0x55>, Fill<0>>;
+
 /// 18, 12, 15 and 22 places, rising from 0 each time.
-pub const MANY_PLACES: [u8; 67] = [
+const MANY_PLACES: [u8; 67] = [
     0, 1, 2, 3, 4, 5, 6, 7, 8, 9, 10, 11, 12, 13, 14, 15, 16, 17, 0, 1, 2, 3, 4, 5, 6, 7, 8, 9, 10,
     11, 0, 1, 2, 3, 4, 5, 6, 7, 8, 9, 10, 11, 12, 13, 14, 0, 1, 2, 3, 4, 5, 6, 7, 8, 9, 10, 11, 12,
     13, 14, 15, 16, 17, 18, 19, 20, 21,
@@ -21,24 +32,6 @@ pub fn part_of(places: &[u8], counts: [u8; 4]) -> [u8; 84] {
     part
 }
 
-/// The hint that a part spells with these places and counts; none also where it is not packed again as it was.
-fn hint_and_back(places: &[u8], counts: [u8; 4]) -> Option<[R; 4]> {
-    let part = part_of(places, counts);
-    let hint = hint_bit_unpack::<4>(80, &part)?;
-    let mut again = [0xffu8; 84];
-    hint_bit_pack(80, &hint, &mut again);
-    if again == part { Some(hint) } else { None }
-}
-
-/// The polynomial that has ones at these places.
-fn with_ones(places: &[u8]) -> [i32; 256] {
-    let mut out = [0i32; 256];
-    for place in places {
-        out[*place as usize] = 1;
-    }
-    out
-}
-
 /// The numbers 0, 1, 2 and so on.
 pub fn rising() -> [u8; 80] {
     let mut places = [0u8; 80];
@@ -48,18 +41,8 @@ pub fn rising() -> [u8; 80] {
     places
 }
 
-/// Whether the ones of a hint stand at these places of its polynomials.
-fn has_ones(hint: &[R; 4], places: [&[u8]; 4]) -> bool {
-    for r in 0..4usize {
-        if hint[r].0 != with_ones(places[r]) {
-            return false;
-        }
-    }
-    true
-}
-
 /// How many ones each polynomial of a hint has.
-pub fn ones_of(hint: &[R; 4]) -> [usize; 4] {
+fn ones_of(hint: &[R; 4]) -> [usize; 4] {
     let mut ones = [0; 4];
     for r in 0..4usize {
         for x in &hint[r].0 {
@@ -69,47 +52,214 @@ pub fn ones_of(hint: &[R; 4]) -> [usize; 4] {
     ones
 }
 
-/// Whether a part with these places and counts spells a hint with so many ones, and is packed again as it was.
-fn spells(places: &[u8], counts: [u8; 4], ones: [usize; 4]) -> bool {
-    match hint_and_back(places, counts) {
-        Some(hint) => ones_of(&hint) == ones,
-        None => false,
+/// Whether a part with these places and counts spells a hint with so many ones and is packed again as it was, or,
+/// where none are given, spells none.
+fn is_read(places: &[u8], counts: [u8; 4], ones: Option<[usize; 4]>) -> bool {
+    let part = part_of(places, counts);
+    let hint = hint_bit_unpack::<4>(80, &part);
+    let mut again = part;
+    if let Some(hint) = &hint {
+        again = [0xff; 84];
+        hint_bit_pack(80, hint, &mut again);
+    }
+    again == part && hint.map(|hint| ones_of(&hint)) == ones
+}
+
+/// Parts of no ones, of 80 ones in one polynomial and of 67 ones spell hints; indices that fall or repeat, indices that
+/// no total covers, a total above 80 and totals that fall spell none.
+#[test]
+fn parts_that_spell_hints_or_none(rt: HostRuntime) {
+    let mut late = [0u8; 80];
+    late[79] = 1;
+    for (places, counts, ones) in [
+        ([].as_slice(), [0, 0, 0, 0], Some([0, 0, 0, 0])),
+        (&[], [0, 0, 0, 1], Some([0, 0, 0, 1])),
+        (&[0x05, 0x00, 0xff], [1, 1, 3, 3], Some([1, 0, 2, 0])),
+        (&rising(), [80, 80, 80, 80], Some([80, 0, 0, 0])),
+        (&[0xff, 0x00], [1, 2, 2, 2], Some([1, 1, 0, 0])),
+        (
+            &MANY_PLACES,
+            [0x12, 0x1e, 0x2d, 0x43],
+            Some([18, 12, 15, 22]),
+        ),
+        (&[0x05, 0xff, 0x00], [1, 1, 3, 3], None),
+        (&[0x01], [0, 0, 0, 0], None),
+        (&late, [0, 0, 0, 0], None),
+        (&rising(), [81, 81, 81, 81], None),
+        (&[0x05, 0x05], [2, 2, 2, 2], None),
+        (&[0x01, 0x02], [2, 1, 2, 2], None),
+    ] {
+        assert!(rt; is_read(places, counts, ones), "counts {counts:?}");
     }
 }
 
-/// Whether a part with these places and counts spells no hint.
-fn spells_none(places: &[u8], counts: [u8; 4]) -> bool {
-    hint_bit_unpack::<4>(80, &part_of(places, counts)).is_none()
-}
-
-/// The hint with a one at index 5 of polynomial 0 and at both ends of polynomial 2 is packed and read back.
+/// The hint with a one at index 5 of polynomial 0 and at both ends of polynomial 2.
 #[test]
 fn ones_and_their_places(rt: HostRuntime) -> Result<(), Fail> {
-    let hint = hint_and_back(&[0x05, 0x00, 0xff], [1, 1, 3, 3]).ok_or("no hint")?;
-    assert!(rt; has_ones(&hint, [&[5], &[], &[0, 255], &[]]));
+    let part = part_of(&[0x05, 0x00, 0xff], [1, 1, 3, 3]);
+    let hint = hint_bit_unpack::<4>(80, &part).ok_or("no hint")?;
+    let mut wanted = [[0; 256]; 4];
+    wanted[0][5] = 1;
+    wanted[2][0] = 1;
+    wanted[2][255] = 1;
+    assert!(rt; hint.map(|w| w.0) == wanted);
     Ok(())
 }
 
-/// No ones, 80 ones in one polynomial, and 67 ones with totals `12 1E 2D 43` are read and packed again.
-#[test]
-fn parts_that_spell_hints(rt: HostRuntime) {
-    assert!(rt; spells(&[], [0, 0, 0, 0], [0, 0, 0, 0]));
-    assert!(rt; spells(&[], [0, 0, 0, 1], [0, 0, 0, 1]));
-    assert!(rt; spells(&rising(), [80, 80, 80, 80], [80, 0, 0, 0]));
-    assert!(rt; spells(&[0xff, 0x00], [1, 2, 2, 2], [1, 1, 0, 0]));
-    assert!(rt; spells(&MANY_PLACES, [0x12, 0x1e, 0x2d, 0x43], [18, 12, 15, 22]));
+/// How many ones each polynomial of the hint in a signature of set 44 has.
+#[tactic(auto, unfolding(fips204_base::specs::Packing::bit_length))]
+fn ones_in(signature: &[u8; 2420]) -> Option<[usize; 4]> {
+    let (_, _, hint) = sig_decode::<4, 4, 32, 2420>(131072, 80, signature)?;
+    Some(ones_of(&hint))
 }
 
-/// Indices that fall or repeat, indices that no total covers, a total above 80 and totals that fall spell no
-/// hint.
+/// The hints of two signatures of set 44, by `sig_decode`: totals `16 22 36 48`, as recorded, and `12 1E 2D 43`.
 #[test]
-fn parts_that_spell_none(rt: HostRuntime) {
-    let mut late = [0u8; 80];
-    late[79] = 1;
-    assert!(rt; spells_none(&[0x05, 0xff, 0x00], [1, 1, 3, 3]));
-    assert!(rt; spells_none(&[0x01], [0, 0, 0, 0]));
-    assert!(rt; spells_none(&late, [0, 0, 0, 0]));
-    assert!(rt; spells_none(&rising(), [81, 81, 81, 81]));
-    assert!(rt; spells_none(&[0x05, 0x05], [2, 2, 2, 2]));
-    assert!(rt; spells_none(&[0x01, 0x02], [2, 1, 2, 2]));
+fn hints_in_signatures(rt: HostRuntime) -> Result<(), Fail> {
+    let mut signature = [0u8; 2420];
+    hex::decode_to_slice(counter_44::SIGNATURE, &mut signature)?;
+    assert_eq!(rt; ones_in(&signature), Some([22, 12, 20, 18]));
+    let mut signature = signature_44();
+    signature[2336..2420].copy_from_slice(&part_of(&MANY_PLACES, [0x12, 0x1e, 0x2d, 0x43]));
+    assert_eq!(rt; ones_in(&signature), Some([18, 12, 15, 22]));
+    Ok(())
+}
+
+/// The hint that a part spells: the ones that its totals cut off, where the spelling of these is the part. That is their
+/// places, polynomial by polynomial, zeros up to byte omega, and the running totals.
+fn slow_hint<const K: usize>(omega: usize, part: &[u8]) -> Option<[[i32; 256]; K]>
+    requires few { omega + K ≤ 255 }
+    requires room { omega + K ≤ length part.now }
+{
+    let mut hint = [[0i32; 256]; K];
+    let mut before = 0usize;
+    for i in 0..K {
+        let total = part[omega + i] as usize;
+        for at in before..total.min(omega) {
+            hint[i][part[at] as usize] = 1;
+        }
+        before = total;
+    }
+    let mut spelling = [0u8; 255];
+    let mut total = 0usize;
+    for i in 0..K {
+        for place in 0..256usize {
+            if hint[i][place] == 1 && total < omega {
+                spelling[total] = place as u8;
+                total += 1;
+            }
+        }
+        spelling[omega + i] = (total % 256) as u8;
+    }
+    if &spelling[..omega + K] == part {
+        Some(hint)
+    } else {
+        None
+    }
+}
+
+/// Whether a part spells a hint; none where the library and the slow decoder answer differently.
+fn spells<const K: usize>(omega: i32, part: &[u8]) -> Option<bool>
+    requires some { pos 1 ≤ℤ omega }
+    requires sizes { nat_abs omega + K < 256 }
+    requires room { length part.now ≡ nat_abs omega + K }
+{
+    match (
+        hint_bit_unpack::<K>(omega, part),
+        slow_hint::<K>(omega as usize, part),
+    ) {
+        (None, None) => Some(false),
+        (Some(hint), Some(slow)) => {
+            for i in 0..K {
+                if hint[i].0 != slow[i] {
+                    return None;
+                }
+            }
+            Some(true)
+        }
+        _ => None,
+    }
+}
+
+/// Whether a key of set 44 accepts a signature that gets this hint part.
+fn accepts(key: &Public44, signature: &mut [u8; 2420], part: &[u8]) -> bool {
+    if part.len() != 84 {
+        return false;
+    }
+    signature[2336..2420].copy_from_slice(part);
+    key.verify(b"abc", signature, &[])
+}
+
+/// How many parts spell a hint: this one, and each that differs from it in one byte. None where the library and the
+/// slow decoder answer one differently, or the key accepts its signature and it spells none, or the other way round.
+fn spelled_about<const K: usize, const N: usize>(
+    omega: i32,
+    part: [u8; N],
+    key: Option<&Public44>,
+) -> Option<usize>
+    requires some { pos 1 ≤ℤ omega }
+    requires sizes { nat_abs omega + K < 256 }
+    requires room { N ≡ nat_abs omega + K }
+{
+    let mut signature = signature_44();
+    let mut count = 0usize;
+    for at in 0..N {
+        let mut changed = part;
+        for other in 0..=255u8 {
+            changed[at] = other;
+            let spelled = spells::<K>(omega, &changed)?;
+            if let Some(key) = key
+                && accepts(key, &mut signature, &changed) != spelled
+            {
+                return None;
+            }
+            if spelled && (at == 0 || other != part[at]) {
+                count = count.wrapping_add(1);
+            }
+        }
+    }
+    Some(count)
+}
+
+/// How many parts spell a hint about each of three: ones at all the first places of polynomial 0; at place 255 of
+/// polynomial 0 and place 0 of polynomial 1; at place 0 of the last.
+fn sweep<const K: usize, const N: usize>(omega: i32, key: Option<&Public44>) -> [Option<usize>; 3]
+    requires some { pos 1 ≤ℤ omega }
+    requires sizes { nat_abs omega + K < 256 }
+    requires room { N ≡ nat_abs omega + K }
+    requires rows { 1 ≤ K }
+{
+    let most = omega as usize;
+    let (mut rising, mut ends, mut last) = ([0u8; N], [0u8; N], [0u8; N]);
+    for i in 0..N {
+        rising[i] = (i.min(most) % 256) as u8;
+        ends[i] = if i < most { 0 } else { 2 };
+    }
+    ends[0] = 255;
+    ends[most] = 1;
+    last[N - 1] = 1;
+    [
+        spelled_about::<K, N>(omega, rising, key),
+        spelled_about::<K, N>(omega, ends, key),
+        spelled_about::<K, N>(omega, last, key),
+    ]
+}
+
+/// How many parts spell a hint about each of the three.
+const SPELLED: [Option<usize>; 3] = [Some(257), Some(513), Some(258)];
+
+/// Three hint parts of sets 65 and 87, and every part that differs from one of them in one byte, are read as a slow
+/// decoder reads them; 257, 513 and 258 spell a hint.
+#[test]
+fn parts_changed_in_one_byte(rt: HostRuntime) {
+    assert_eq!(rt; sweep::<6, 61>(55, None), SPELLED);
+    assert_eq!(rt; sweep::<8, 83>(75, None), SPELLED);
+}
+
+/// The same of set 44; and its signatures with these parts are accepted if and only if the part spells a hint.
+#[test]
+fn signatures_changed_in_one_byte_of_their_hint(rt: HostRuntime) -> Result<(), Fail> {
+    let key = Public44::try_from_bytes(public_44())?;
+    assert_eq!(rt; sweep::<4, 84>(80, Some(&key)), SPELLED);
+    Ok(())
 }

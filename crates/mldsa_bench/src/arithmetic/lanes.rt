@@ -1,174 +1,187 @@
-//! Eight polynomials side by side, against values worked out from the standard's arithmetic and against
-//! eight transforms one by one.
+//! Transforms of eight polynomials side by side, against values worked out from the standard's arithmetic and against
+//! transforms one by one; and how large sums grow on the way back.
 #![tactic(auto)]
 
-ghost use Rattle.std.specs.Prelude.{◌≡◌, ◌≤◌, ◌<◌, ℕ, List, pos, nat_abs, length, slice_index_or};
-ghost use Rattle.std.specs.List.{All};
-ghost use Rattle.fips204_base.specs.Lanes.{lane, LanesWithin};
+ghost use Rattle.std.specs.Prelude.{◌≡◌, ◌≤◌, ◌<◌, ◌∷◌, [], ℕ, nat_abs};
+ghost use Rattle.fips204_base.specs.Lanes.{Steps, lane, LanesWithin};
 
+use crate::arithmetic::polynomials::{monomial, spread, within};
 use fips204::Q;
 use fips204::helpers::Count;
-use fips204::ntt::{Lanes, inv_ntt, ntt};
+use fips204::ntt::{Lanes, Residue, inv_ntt, ntt};
 use std::test::Fail;
 
-/// The value at a place.
-fn value_at<V: Copy, const N: usize>(w: &[V; N], n: usize) -> V
-    requires { n < N }
-    ensures { (d : V) → result ≡ slice_index_or w.now n d }
-{
-    w[n]
-}
-
-/// The row whose lanes are these numbers below `q` in absolute value.
-fn row(entries: [i32; 8]) -> Lanes
-    requires { All (λ x. nat_abs x ≤ 8380416) entries }
-    ensures { (j : ℕ) → j < 8 → nat_abs (lane result.lanes j) ≤ 8380416 }
-{
-    Lanes::from_array(entries)
-}
-
-/// Row `n` of the polynomials 1, X and six zeros.
-fn one_and_x_row(n: usize) -> Lanes
-    ensures { (j : ℕ) → j < 8 → nat_abs (lane result.lanes j) ≤ 8380416 }
-{
-    if n == 0 {
-        row([1, 0, 0, 0, 0, 0, 0, 0])
-    } else if n == 1 {
-        row([0, 1, 0, 0, 0, 0, 0, 0])
-    } else {
-        row([0; 8])
-    }
-}
-
-/// These polynomials, side by side.
-fn one_and_x() -> [Lanes; 256]
-    ensures { LanesWithin (λ x. x.lanes) 8 8380416 result }
-{
-    let mut out = [row([0; 8]); 256];
-    for n in 0..256usize {
-        out[n] = one_and_x_row(n);
-    }
-    out
-}
-
-/// A polynomial that is fixed by its number, by a linear congruence: coefficients from `1 - q` to `q - 1`, and
-/// these two at the ends.
-fn spread(number: u32) -> [i32; 256]
-    ensures { All (λ x. nat_abs x ≤ 8380416) result }
-{
-    let mut out = [0; 256];
-    let mut state = number;
-    for n in 0..256usize {
-        state = state.wrapping_mul(1664525).wrapping_add(1013904223);
-        out[n] = (state % 16760833) as i32 - 8380416;
-    }
-    out[0] = 8380416;
-    out[255] = -8380416;
-    out
-}
-
-/// Row `n` of eight such polynomials.
-fn spread_row(n: usize) -> Lanes
+/// Row `n` of eight polynomials, with numbers cut as `within` does.
+fn row(w: &[[i32; 256]; 8], n: usize) -> Lanes
     requires { n < 256 }
     ensures { (j : ℕ) → j < 8 → nat_abs (lane result.lanes j) ≤ 8380416 }
 {
     let mut entries = [0; 8];
     for r in 0..8usize {
-        entries[r] = spread(r as u32)[n];
+        entries[r] = w[r][n];
     }
-    row(entries)
+    Lanes::from_array(within(&entries))
 }
 
-/// Eight such polynomials, side by side.
-fn spread_rows() -> [Lanes; 256]
+/// Eight polynomials, side by side.
+fn side_by_side(w: &[[i32; 256]; 8]) -> [Lanes; 256]
     ensures { LanesWithin (λ x. x.lanes) 8 8380416 result }
 {
-    let mut out = [row([0; 8]); 256];
+    let mut out = [Lanes::from_array([0; 8]); 256];
     for n in 0..256usize {
-        out[n] = spread_row(n);
+        out[n] = row(w, n);
     }
     out
-}
-
-/// Both ends of `i32`, q - 1, 1 - q and small numbers, as an array, a row of lanes and an array again.
-#[test]
-fn rows_and_arrays(rt: HostRuntime) -> Result<(), Fail> {
-    let entries = [-2147483648, 2147483647, 0, -1, 1, -8380416, 8380416, 7];
-    assert_eq!(rt; Lanes::from_array(entries).to_array(), entries);
-    Ok(())
 }
 
 /// The numbers in a lane of rows.
 fn lane_of(rows: &[Lanes; 256], r: usize) -> [i32; 256]
     requires { r < 8 }
 {
-    let mut out = [0; 256];
-    for n in 0..256usize {
-        out[n] = rows[n].to_array()[r];
-    }
-    out
+    rows.map(|row| row.to_array()[r])
 }
 
 /// The residues of numbers modulo `q`.
-pub fn residues(w: &[i32; 256]) -> [i32; 256] {
-    let mut out = [0; 256];
-    for n in 0..256usize {
-        out[n] = w[n].rem_euclid(Q);
-    }
-    out
+fn residues(w: &[i32; 256]) -> [i32; 256] {
+    w.map(|x| x.rem_euclid(Q))
 }
 
-/// The transforms of these rows, and whether they took 1024 products and 2048 sums.
-fn counted_ntt(rows: [Lanes; 256]) -> ([Lanes; 256], bool)
-    requires { LanesWithin (λ x. x.lanes) 8 8380416 rows }
+/// The transform of a row, the row again, and whether each way took 1024 products and 2048 sums.
+fn both_ways<V: Residue<Meter = Count>>(w: [V; 256]) -> ([V; 256], [V; 256], bool)
+    requires products { (steps : Steps) → V.products steps ≡ steps.products }
+    requires sums { (steps : Steps) → V.sums steps ≡ steps.sums }
+    requires range { LanesWithin V.lanes V.width 8380416 w }
 {
     let mut count = Count::new();
-    let out = value_at(&ntt(&[rows], &mut count), 0);
-    (out, count.products() == 1024 && count.sums() == 2048)
+    let [hat] = ntt(&[w], &mut count);
+    let once = count.products() == 1024 && count.sums() == 2048;
+    let [back] = inv_ntt(&[hat], &mut count);
+    let twice = count.products() == 2048 && count.sums() == 4096;
+    (hat, back, once && twice)
 }
 
-/// 1, X and six zeros, transformed side by side: the three transforms, with 1024 products and 2048 sums for
-/// all eight.
-#[test]
-fn one_x_and_zeros_side_by_side(rt: HostRuntime) {
-    let (out, counted) = counted_ntt(one_and_x());
-    assert!(rt; counted);
-    assert!(rt; residues(&lane_of(&out, 0)) == [1; 256]);
-    let second = residues(&lane_of(&out, 1));
-    assert!(rt; second[0] == 1753 && second[1] == 8378664);
-    for r in 2..8usize {
-        assert!(rt; residues(&lane_of(&out, r)) == [0; 256]);
-    }
-}
-
-/// The transforms of the eight polynomials, the polynomials again, and whether both ways took 2048 products.
-fn eight_both_ways() -> ([Lanes; 256], [Lanes; 256], bool) {
-    let mut count = Count::new();
-    let hats = ntt(&[spread_rows()], &mut count);
-    let back = value_at(&inv_ntt(&hats, &mut count), 0);
-    (value_at(&hats, 0), back, count.products() == 2048)
-}
-
-/// The transform of a polynomial, and the polynomial again.
-fn both_ways(w: [i32; 256]) -> ([i32; 256], [i32; 256])
-    requires { All (λ x. nat_abs x ≤ 8380416) w }
-{
-    let hat = ntt(&[w], &mut Count::new());
-    let plain = inv_ntt(&hat, &mut Count::new());
-    (hat[0], plain[0])
-}
-
-/// Eight polynomials with coefficients from 1 - q to q - 1: each lane is the transform over `i32` modulo q,
-/// and the way back returns the polynomial.
-#[test]
-fn eight_forth_and_back(rt: HostRuntime) {
-    let (hats, back, counted) = eight_both_ways();
-    assert!(rt; counted);
+/// The residues of the transforms of eight polynomials, where each lane is as the transform over `i32`, and the
+/// way back returns the polynomial.
+fn transforms(w: &[[i32; 256]; 8]) -> Option<[[i32; 256]; 8]> {
+    let (hats, back, mut counted) = both_ways(side_by_side(w));
+    let mut out = [[0; 256]; 8];
     for r in 0..8usize {
-        let w = spread(r as u32);
-        let (hat, plain) = both_ways(w);
-        assert!(rt; residues(&lane_of(&hats, r)) == residues(&hat));
-        assert!(rt; lane_of(&back, r) == plain);
-        assert!(rt; plain == residues(&w));
+        let (hat, plain, alone) = both_ways(within(&w[r]));
+        out[r] = residues(&hat);
+        counted = counted && alone && residues(&lane_of(&hats, r)) == out[r];
+        counted = counted && lane_of(&back, r) == plain && plain == residues(&w[r]);
     }
+    if counted { Some(out) } else { None }
+}
+
+/// Both ends of `i32`, q - 1, 1 - q and small numbers, as an array, a row of lanes and an array again.
+#[test]
+fn rows_and_arrays(rt: HostRuntime) {
+    let entries = [-2147483648, 2147483647, 0, -1, 1, -8380416, 8380416, 7];
+    assert_eq!(rt; Lanes::from_array(entries).to_array(), entries);
+}
+
+/// The transform of 1 is 1 everywhere, that of X begins with 1753 and 8378664, that of zeros is zero; side by side as
+/// one by one, also for eight polynomials with coefficients from 1 - q to q - 1, and back.
+#[test]
+fn eight_forth_and_back(rt: HostRuntime) -> Result<(), Fail> {
+    let mut w = [[0; 256]; 8];
+    w[0] = monomial(0, 1);
+    w[1] = monomial(1, 1);
+    let hats = transforms(&w).ok_or("not the same")?;
+    assert!(rt; hats[0] == [1; 256]);
+    assert!(rt; hats[1].starts_with(&[1753, 8378664]));
+    for r in 2..8usize {
+        assert!(rt; hats[r] == [0; 256]);
+    }
+    for r in 0..8usize {
+        w[r] = spread(r as u32);
+    }
+    assert!(rt; transforms(&w).is_some());
+    Ok(())
+}
+
+/// A number whose sums and differences are noted.
+#[derive(Clone, Copy)]
+struct Noted(i32);
+
+/// The count of the steps, and the largest absolute value of a sum or a difference.
+#[derive(Drop)]
+struct Notes {
+    count: Count,
+    largest: u32,
+}
+
+/// Notes a sum or a difference.
+fn note(number: i32, largest: &mut u32) -> Noted
+    ensures { result.0 ≡ number }
+{
+    *largest = (*largest).max(number.unsigned_abs());
+    Noted(number)
+}
+
+impl Residue for Noted {
+    type Meter = Notes;
+
+    ghost lanes = { λ x. x.0 ∷ [] };
+
+    ghost width = { 1 };
+
+    ghost products = { λ notes. notes.count.products };
+
+    ghost sums = { λ notes. notes.count.sums };
+
+    fn add(self, other: Noted, meter: &mut Notes) -> Noted {
+        let sum = Residue::add(self.0, other.0, &mut meter.count);
+        note(sum, &mut meter.largest)
+    }
+
+    fn sub(self, other: Noted, meter: &mut Notes) -> Noted {
+        let difference = Residue::sub(self.0, other.0, &mut meter.count);
+        note(difference, &mut meter.largest)
+    }
+
+    fn mul_zeta(self, m: usize, meter: &mut Notes) -> Noted {
+        Noted(self.0.mul_zeta(m, &mut meter.count))
+    }
+
+    fn mul_neg_zeta(self, m: usize, meter: &mut Notes) -> Noted {
+        Noted(self.0.mul_neg_zeta(m, &mut meter.count))
+    }
+
+    fn reduce(self) -> Noted {
+        Noted(self.0.reduce())
+    }
+
+    fn finish(self) -> Noted {
+        Noted(self.0.finish())
+    }
+}
+
+/// 256 times this number.
+fn repeated(number: i32) -> [Noted; 256]
+    requires { nat_abs number ≤ 8380416 }
+    ensures { LanesWithin (λ x. x.0 ∷ []) 1 8380416 result }
+{
+    [Noted(number); 256]
+}
+
+/// The largest sum or difference in the inverse transform of a row.
+fn largest_sum(row: [Noted; 256]) -> u32
+    requires { LanesWithin (λ x. x.0 ∷ []) 1 8380416 row }
+{
+    let mut notes = Notes {
+        count: Count::new(),
+        largest: 0,
+    };
+    inv_ntt(&[row], &mut notes);
+    notes.largest
+}
+
+/// The largest sum or difference inside the inverse transform of 256 times q - 1, and of 256 times 1 - q, is
+/// 2145386496.
+#[test]
+fn largest_sum_of_the_inverse_transform(rt: HostRuntime) {
+    assert_eq!(rt; largest_sum(repeated(8380416)), 2145386496);
+    assert_eq!(rt; largest_sum(repeated(-8380416)), 2145386496);
 }

@@ -9,10 +9,9 @@ ghost use Rattle.fips204.specs.ParameterSets.{set_44};
 ghost use Rattle.mldsa_bench.specs.Licence.{spelling, IsToken, IsValid, SpellingIsOneToOne};
 
 use fips204::laws;
-use fips204::ml_dsa_44::{KG, PublicKey, SIG_LEN};
-use fips204::traits::{KeyGen, Signer, Verifier};
-use fips204::xof::{Sha256Ctr, Sha512Ctr, Xof};
-use std::test::Fail;
+use fips204::ml_dsa_44::{PublicKey, SIG_LEN};
+use fips204::traits::Verifier;
+use fips204::xof::Xof;
 
 /// What the owner's signatures are for.
 pub const CONTEXT: &[u8] = b"licence";
@@ -43,6 +42,7 @@ pub fn spelled(token: &Token) -> [u8; 40]
 }
 
 /// Two tokens with the same bytes are the same token.
+#[tactic(auto, using(crate::proofs::Licences::one_token))]
 pub fn one_spelling()
     ensures { SpellingIsOneToOne }
 {}
@@ -74,36 +74,4 @@ pub fn accepted_for_both<H: Xof, G: Xof>(
     one_spelling();
     key.verify(&spelled(first), signature, CONTEXT)
         && key.verify(&spelled(second), signature, CONTEXT)
-}
-
-/// A token is valid up to its last day, and not with another product, day, customer, context or signature.
-#[test]
-fn a_licence(rt: HostRuntime) -> Result<(), Fail> {
-    let (key, owner) = KG::<Sha256Ctr, Sha512Ctr>::keygen_from_seed(&[7; 32])?;
-    let token = Token {
-        product: 17,
-        last_day: 20_000,
-        customer: [b'a'; 32],
-    };
-    let signature = owner.try_sign_with_seed(&[0; 32], &spelled(&token), CONTEXT)?;
-    assert!(rt; licence_valid(&key, &token, &signature, 19_999));
-    assert!(rt; licence_valid(&key, &token, &signature, 20_000));
-    assert!(rt; !licence_valid(&key, &token, &signature, 20_001));
-    let mut other = token;
-    other.product = 18;
-    assert!(rt; !licence_valid(&key, &other, &signature, 19_999));
-    assert!(rt; accepted_for_both(&key, &token, &token, &signature));
-    assert!(rt; !accepted_for_both(&key, &token, &other, &signature));
-    other = token;
-    other.last_day = 20_001;
-    assert!(rt; !licence_valid(&key, &other, &signature, 19_999));
-    other = token;
-    other.customer[31] = b'b';
-    assert!(rt; !licence_valid(&key, &other, &signature, 19_999));
-    let elsewhere = owner.try_sign_with_seed(&[0; 32], &spelled(&token), b"manifest")?;
-    assert!(rt; !licence_valid(&key, &token, &elsewhere, 19_999));
-    let mut changed = signature;
-    changed[0] ^= 1;
-    assert!(rt; !licence_valid(&key, &token, &changed, 19_999));
-    Ok(())
 }

@@ -1,23 +1,21 @@
 //! A signed manifest: a list of files, each with its name, size and digest, signed as a whole, at any set.
 //!
-//! Bodies that the contracts refuse: a spelling without the size; entries compared without the digest; a file handed out
-//! though the signature is not accepted; an entry that is not found in a list of one.
+//! Bodies that the contracts refuse: a spelling without the size; an entry that has another size than its file; a file
+//! handed out though the signature is not accepted.
 #![tactic(auto)]
 
-ghost use Rattle.std.specs.Prelude.{◌≡◌, ◌↔◌, ◌++◌, ℕ, List, IsTrue, MatchOption};
-ghost use Rattle.std.specs.List.{All, Contains};
+ghost use Rattle.std.specs.Prelude.{◌≡◌, ◌++◌, ℕ, List, MatchOption};
+ghost use Rattle.std.specs.List.{All};
 ghost use Rattle.sha2.specs.Hashers.{Holds256};
 ghost use Rattle.sha2.specs.Sha256.{sha256};
 ghost use Rattle.mldsa_bench.specs.Manifest.{entry_bytes, file_entry, spelling, IsEntry, IsHandedOut, SpellingIsOneToOne};
 
-use fips204::ml_dsa_65;
 use fips204::pre_hash::SHA2_256;
 use fips204::sets::{HasSet, Matrix, Set, SignatureSizes};
-use fips204::traits::{KeyGen, Signer, Verifier};
+use fips204::traits::Verifier;
 use fips204::types::PublicKey;
-use fips204::xof::{Sha256Ctr, Sha512Ctr, Xof};
+use fips204::xof::Xof;
 use sha2::{Digest, Sha256};
-use std::test::Fail;
 
 /// What the owner's signatures are for.
 pub const CONTEXT: &[u8] = b"manifest";
@@ -68,28 +66,10 @@ pub fn digest_of(entries: &[Entry]) -> [u8; 32]
 }
 
 /// Two manifests with the same bytes are the same manifest.
+#[tactic(auto, using(crate::proofs::Manifests::one_manifest))]
 pub fn one_spelling()
     ensures { SpellingIsOneToOne }
 {}
-
-/// Whether two entries are the same.
-fn same(first: &Entry, second: &Entry) -> bool
-    ensures { IsTrue result ↔ (first.now ≡ second.now) }
-{
-    first.name == second.name && first.size == second.size && first.digest == second.digest
-}
-
-/// Whether an entry stands in a manifest.
-fn lists(entries: &[Entry], wanted: &Entry) -> bool
-    ensures { IsTrue result ↔ Contains entries.now wanted.now }
-{
-    for entry in entries {
-        if same(entry, wanted) {
-            return true;
-        }
-    }
-    false
-}
 
 /// The file if the manifest is signed and lists it under this name, with its size and digest; else none.
 pub fn handed_out<
@@ -119,41 +99,9 @@ where
     if !key.hash_verify(&digest_of(entries), signature, CONTEXT, &SHA2_256) {
         return None;
     }
-    if lists(entries, &entry_of(name, file)) {
+    if entries.contains(&entry_of(name, file)) {
         Some(file)
     } else {
         None
     }
-}
-
-/// A file is handed out under its name; a longer, shorter or changed file, a file under another name, and a file of
-/// a manifest with an entry less, an entry changed or another signature are not.
-#[test]
-fn a_manifest(rt: HostRuntime) -> Result<(), Fail> {
-    let (key, owner) = ml_dsa_65::KG::<Sha256Ctr, Sha512Ctr>::keygen_from_seed(&[7; 32])?;
-    let (one, two) = ([b'1'; 32], [b'2'; 32]);
-    let entries = [
-        entry_of(&one, b"first file"),
-        entry_of(&two, b"second file"),
-    ];
-    let digest = digest_of(&entries);
-    let sign = owner.try_hash_sign_with_seed(&[0; 32], &digest, CONTEXT, &SHA2_256)?;
-    assert!(rt; handed_out(&key, &entries, &sign, &one, b"first file") == Some(b"first file"));
-    assert!(rt; handed_out(&key, &entries, &sign, &two, b"second file") == Some(b"second file"));
-    for file in [
-        b"first file!".as_slice(),
-        b"first fil",
-        b"fjrst file",
-        b"second file",
-    ] {
-        assert!(rt; handed_out(&key, &entries, &sign, &one, file) == None);
-    }
-    assert!(rt; handed_out(&key, &entries[..1], &sign, &one, b"first file") == None);
-    let mut changed = entries;
-    changed[1] = entry_of(&two, b"another file");
-    assert!(rt; handed_out(&key, &changed, &sign, &two, b"another file") == None);
-    let mut other = sign;
-    other[0] ^= 1;
-    assert!(rt; handed_out(&key, &entries, &other, &one, b"first file") == None);
-    Ok(())
 }

@@ -9,10 +9,9 @@ ghost use Rattle.fips204.specs.ParameterSets.{set_44};
 ghost use Rattle.fips204.specs.Refusals.{sign_message, Draws, VerifiesMessage};
 
 use fips204::Fault;
-use fips204::ml_dsa_44::{KG, PrivateKey, PublicKey, SIG_LEN};
-use fips204::traits::{CryptoRngCore, DummyRng, KeyGen, Signer};
-use fips204::xof::{Sha256Ctr, Sha512Ctr, Xof, hash};
-use std::test::Fail;
+use fips204::ml_dsa_44::{PrivateKey, PublicKey, SIG_LEN};
+use fips204::traits::CryptoRngCore;
+use fips204::xof::{Xof, hash};
 
 /// What the signatures are for.
 pub const CONTEXT: &[u8] = b"pieces";
@@ -61,23 +60,4 @@ pub fn accepts_joined<H: Xof, G: Xof>(
     ensures { IsTrue result ↔ VerifiesMessage set_44 H.front G.front key.now (first.now ++ second.now) signature.now CONTEXT.now }
 {
     key.verify_mu(&joined_hash::<H>(key.tr(), first, second), signature)
-}
-
-/// A message in pieces is signed as the whole, and verifies however it is cut in two, and not with other pieces; a
-/// signature of another length is none.
-#[test]
-fn a_message_in_pieces(rt: HostRuntime) -> Result<(), Fail> {
-    let (key, owner) = KG::<Sha256Ctr, Sha512Ctr>::keygen_from_seed(&[7; 32])?;
-    let signature = owner.try_sign_with_seed(&[3; 32], b"a long message", CONTEXT)?;
-    let mut rng = DummyRng { bytes: [3; 32] };
-    assert!(rt; signed_joined(&owner, &mut rng, b"a long ", b"message")? == signature);
-    assert!(rt; signed_joined(&owner, &mut rng, b"a long ", b"massage")? != signature);
-    assert!(rt; accepts_joined(&key, b"a long ", b"message", &signature));
-    assert!(rt; accepts_joined(&key, b"", b"a long message", &signature));
-    assert!(rt; !accepts_joined(&key, b"a long ", b"massage", &signature));
-    assert!(rt; !accepts_joined(&key, b"message", b"a long ", &signature));
-    assert!(rt; signature_of(&signature) == Some(signature));
-    assert!(rt; signature_of(&signature[1..]) == None);
-    assert!(rt; signature_of(&[0; SIG_LEN + 1]) == None);
-    Ok(())
 }

@@ -2,54 +2,80 @@
 //! edges of a process that a test makes.
 #![tactic(auto)]
 
+ghost use Rattle.std.specs.Prelude.{◌≤◌, IfOk};
+
 use std::cell::RefCell;
 use std::env::FillError;
 use std::fmt::Display;
 use std::io::{self, Read, Write};
 use std::rt::Env;
 
-/// A reader that gives at most so many bytes a call, counts its calls, and fails at call number
-/// `fails_at`, counted from 0.
-#[derive(Drop)]
-pub struct Trickle<'a> {
-    pub bytes: &'a [u8],
+/// How a device moves bytes: at most so many a call. It counts its calls from 0, and fails at the one of this number.
+#[derive(Clone, Copy)]
+pub struct Pace {
     pub most: usize,
     pub calls: usize,
     pub fails_at: usize,
 }
 
-impl Read for Trickle<'_> {
-    fn read(&mut self, buf: &mut [u8]) -> io::Result<usize> {
+/// All that is asked for, and no failure.
+pub const WHOLE: Pace = Pace {
+    most: usize::MAX,
+    calls: 0,
+    fails_at: usize::MAX,
+};
+
+/// A byte a call, and no failure.
+pub const BY_BYTES: Pace = Pace { most: 1, ..WHOLE };
+
+/// A byte a call, and a failure at the call of this number.
+pub fn stopping(fails_at: usize) -> Pace {
+    Pace {
+        fails_at,
+        ..BY_BYTES
+    }
+}
+
+impl Pace {
+    /// Counts a call that could move so many bytes, and returns how many it moves.
+    fn step(&mut self, bytes: usize) -> io::Result<usize>
+        ensures { IfOk result (λ count. count ≤ bytes) }
+    {
         let call = self.calls;
         self.calls = call.saturating_add(1);
         if call == self.fails_at {
             return Err(io::Error::from(io::ErrorKind::BrokenPipe));
         }
-        let count = self.bytes.len().min(self.most).min(buf.len());
+        Ok(bytes.min(self.most))
+    }
+}
+
+/// A reader of these bytes.
+#[derive(Drop)]
+pub struct Trickle<'a> {
+    pub bytes: &'a [u8],
+    pub pace: Pace,
+}
+
+impl Read for Trickle<'_> {
+    fn read(&mut self, buf: &mut [u8]) -> io::Result<usize> {
+        let count = self.pace.step(self.bytes.len().min(buf.len()))?;
         buf[..count].copy_from_slice(&self.bytes[..count]);
         self.bytes = &self.bytes[count..];
         Ok(count)
     }
 }
 
-/// A writer that takes at most so many bytes a call, counts its calls, and fails at call number
-/// `fails_at`, counted from 0.
+/// A writer that keeps what it takes.
 #[derive(Drop)]
 pub struct Drip {
     pub taken: Vec<u8>,
-    pub most: usize,
-    pub calls: usize,
-    pub fails_at: usize,
+    pub pace: Pace,
 }
 
 impl Write for Drip {
     fn write(&mut self, buf: &[u8]) -> io::Result<usize> {
-        let call = self.calls;
-        self.calls = call.saturating_add(1);
-        if call == self.fails_at {
-            return Err(io::Error::from(io::ErrorKind::BrokenPipe));
-        }
-        let count = buf.len().min(self.most);
+        let count = self.pace.step(buf.len())?;
         self.taken.extend_from_slice(&buf[..count])?;
         Ok(count)
     }
@@ -67,14 +93,9 @@ pub struct Arguments<'a> {
 
 impl Env for Arguments<'_> {
     fn arg(&self, i: usize, buf: &mut [u8]) -> Result<usize, FillError> {
-        if i >= self.arguments.len() {
-            return Err(FillError::NotPresent);
-        }
-        let argument = self.arguments[i];
-        if buf.len() < argument.len() {
-            return Err(FillError::TooLong);
-        }
-        buf[..argument.len()].copy_from_slice(argument);
+        let argument = self.arguments.get(i).ok_or(FillError::NotPresent)?;
+        let room = buf.get_mut(..argument.len()).ok_or(FillError::TooLong)?;
+        room.copy_from_slice(argument);
         Ok(argument.len())
     }
 

@@ -3,7 +3,7 @@
 
 ghost use Rattle.std.specs.Prelude.{◌<◌};
 
-use crate::program::devices::{Arguments, Drip, KeptError, Trickle};
+use crate::program::devices::{Arguments, Drip, KeptError, Pace, Trickle, WHOLE};
 use mldsa_engine::output::write_all;
 use mldsa_engine::process::{self, end};
 use mldsa_engine::{Bytewise, Marked, RunFault};
@@ -17,17 +17,14 @@ use std::test::Fail;
 fn is_put(alloc: Global, bytes: &[u8], fails_at: usize) -> bool {
     let mut output = Marked::new(Drip {
         taken: Vec::new(alloc),
-        most: usize::MAX,
-        calls: 0,
-        fails_at,
+        pace: Pace { fails_at, ..WHOLE },
     });
-    let fails = fails_at == 0 && !bytes.is_empty();
+    let calls = usize::from(!bytes.is_empty());
+    let fails = fails_at < calls;
     let failed = write_all(&mut output, bytes).is_err();
     let marked = output.failed();
     let writer = output.into_device();
-    failed == fails
-        && marked == fails
-        && writer.calls == usize::from(!bytes.is_empty())
+    (failed, marked, writer.pace.calls) == (fails, fails, calls)
         && (fails || writer.taken.as_slice() == bytes)
 }
 
@@ -36,57 +33,59 @@ fn is_put(alloc: Global, bytes: &[u8], fails_at: usize) -> bool {
 fn writes_of_every_size(rt: HostRuntime) {
     let bytes = [0x5a; 20000];
     for size in 0..20001usize {
-        assert!(rt; is_put(rt.alloc(), &bytes[..size], 0));
-        assert!(rt; is_put(rt.alloc(), &bytes[..size], usize::MAX));
+        for fails_at in [0, usize::MAX] {
+            assert!(rt; is_put(rt.alloc(), &bytes[..size], fails_at));
+        }
     }
 }
 
-/// Whether an answer ends a run with this status, after this text on standard error.
-pub fn is_told(alloc: Global, answer: Result<bool, RunFault>, status: u8, text: &str) -> bool {
+/// Whether an answer ends a run with this status, and with this text on standard error, which is its fault on a line.
+fn is_told(
+    alloc: Global,
+    answer: Result<bool, RunFault>,
+    status: u8,
+    text: &str,
+) -> Result<bool, Fail> {
     let error = KeptError {
         text: RefCell::new(String::new(alloc)),
     };
-    end(&error, answer) == ExitCode::from(status) && error.text.into_inner().as_str() == text
+    let line = match answer {
+        Ok(_) => String::new(alloc),
+        Err(fault) => format!(in alloc; "{fault}\n")?,
+    };
+    let ended = end(&error, answer) == ExitCode::from(status);
+    Ok(ended && line.as_str() == text && error.text.into_inner().as_str() == text)
 }
 
-/// Statuses 0 and 1, with nothing on standard error.
-#[test]
-fn statuses_of_answers(rt: HostRuntime) {
-    assert!(rt; is_told(rt.alloc(), Ok(true), 0, ""));
-    assert!(rt; is_told(rt.alloc(), Ok(false), 1, ""));
-}
-
-/// Whether a fault has this text, and ends a run with status 2 after it as a line on standard error.
-fn has_text(alloc: Global, fault: RunFault, text: &str) -> Result<bool, Fail> {
-    let printed = format!(in alloc; "{fault}")?;
-    let mut line = String::from_str(alloc, text)?;
-    line.push('\n')?;
-    Ok(printed.as_str() == text && is_told(alloc, Err(fault), 2, line.as_str()))
-}
-
-/// Status 2 of each fault, with its text as a line on standard error.
+/// Statuses 0 and 1, with nothing on standard error, and status 2 of each fault, with its text as a line there.
 #[test]
 fn statuses_and_lines_of_faults(rt: HostRuntime) -> Result<(), Fail> {
-    let usage = "usage: mldsa sha2|fill00|fill55|fillff id|keygen|sign|verify|check|batch 44|65|87";
+    let usage =
+        "usage: mldsa sha2|fill00|fill55|fillff id|keygen|sign|verify|check|batch 44|65|87\n";
     let length = |line, wants, has| RunFault::Length { line, wants, has };
     for (fault, text) in [
         (RunFault::Usage, usage),
-        (RunFault::Missing { line: 1 }, "line 1: missing"),
-        (RunFault::Missing { line: 4 }, "line 4: missing"),
-        (RunFault::TooLong { line: 1 }, "line 1: too long"),
-        (RunFault::TooLong { line: 2 }, "line 2: too long"),
-        (RunFault::TooLong { line: 3 }, "line 3: too long"),
-        (RunFault::NotHex { line: 1 }, "line 1: not hex"),
-        (RunFault::NotHex { line: 12 }, "line 12: not hex"),
-        (length(1, 32, 31), "line 1: wants 32 bytes, has 31"),
-        (length(2, 2420, 0), "line 2: wants 2420 bytes, has 0"),
-        (length(2, 2420, 2419), "line 2: wants 2420 bytes, has 2419"),
-        (RunFault::Read, "read failed"),
-        (RunFault::Write, "write failed"),
-        (RunFault::Memory, "out of memory"),
+        (RunFault::Missing { line: 1 }, "line 1: missing\n"),
+        (RunFault::Missing { line: 4 }, "line 4: missing\n"),
+        (RunFault::TooLong { line: 1 }, "line 1: too long\n"),
+        (RunFault::TooLong { line: 2 }, "line 2: too long\n"),
+        (RunFault::TooLong { line: 3 }, "line 3: too long\n"),
+        (RunFault::NotHex { line: 1 }, "line 1: not hex\n"),
+        (RunFault::NotHex { line: 12 }, "line 12: not hex\n"),
+        (length(1, 32, 31), "line 1: wants 32 bytes, has 31\n"),
+        (length(2, 2420, 0), "line 2: wants 2420 bytes, has 0\n"),
+        (
+            length(2, 2420, 2419),
+            "line 2: wants 2420 bytes, has 2419\n",
+        ),
+        (RunFault::Read, "read failed\n"),
+        (RunFault::Write, "write failed\n"),
+        (RunFault::Memory, "out of memory\n"),
     ] {
-        assert!(rt; has_text(rt.alloc(), fault, text)?);
+        assert!(rt; is_told(rt.alloc(), Err(fault), 2, text)?);
     }
+    assert!(rt; is_told(rt.alloc(), Ok(true), 0, "")?);
+    assert!(rt; is_told(rt.alloc(), Ok(false), 1, "")?);
     Ok(())
 }
 
@@ -129,7 +128,7 @@ fn comes_singly(
     let mut one = [0];
     for byte in bytes {
         let count = bytewise.read(&mut one)?;
-        if count != 1 || one[0] != *byte || bytewise.reader.get_ref().calls != calls {
+        if (count, one[0], bytewise.reader.get_ref().pace.calls) != (1, *byte, calls) {
             return Ok(false);
         }
     }
@@ -141,16 +140,13 @@ fn comes_singly(
 fn single_bytes_come_from_a_buffer(rt: HostRuntime) -> Result<(), Fail> {
     let reader = Trickle {
         bytes: b"twenty bytes to read",
-        most: usize::MAX,
-        calls: 0,
-        fails_at: usize::MAX,
+        pace: WHOLE,
     };
     let reader = BufReader::with_capacity(rt.alloc(), 8, reader)?;
     let mut bytewise = Bytewise { reader };
     assert!(rt; comes_singly(&mut bytewise, b"twenty b", 1)?);
     let mut eight = [0; 8];
-    assert!(rt; bytewise.read(&mut eight)? == 8);
-    assert!(rt; eight == *b"ytes to ");
+    assert_eq!(rt; (bytewise.read(&mut eight)?, eight), (8, *b"ytes to "));
     assert!(rt; comes_singly(&mut bytewise, b"read", 3)?);
     assert!(rt; bytewise.read(&mut [0])? == 0);
     Ok(())

@@ -1,191 +1,152 @@
 //! What the Rust crate fips204 0.5.0 returned in 20 cases of each command at each set, over the same streams.
 #![tactic(auto)]
 
-use crate::program::runs::{WHOLE, hex_lines, run_of};
+use crate::program::devices::WHOLE;
+use crate::program::runs::run_of;
+use crate::program::texts::parted;
 use crate::values::rust_crate::{ANSWERS_44, ANSWERS_65, ANSWERS_87};
 use mldsa_engine::process::status;
 use sha2::{Digest, Sha256};
 use std::alloc::{AllocError, Global};
 use std::test::Fail;
 
-/// The bytes that a case draws for a purpose.
-fn drawn(number: u8, purpose: u8) -> [u8; 32] {
-    Sha256::digest(&[number, purpose])
-}
-
-/// Replaces one of the bytes, if there are so many.
-fn spoil(bytes: &mut Vec<u8>, at: usize, value: u8) {
+/// Hex with one of its bytes replaced, if there are so many.
+fn changed(alloc: Global, text: &str, at: usize, value: u8) -> Result<String, AllocError> {
+    let mut bytes = hex::decode(alloc, text).unwrap_or(Vec::new(alloc));
     if let Some(byte) = bytes.as_mut_slice().get_mut(at) {
         *byte = value;
     }
+    hex::encode(alloc, bytes.as_slice())
 }
 
-/// The bytes that a part of a text spells.
-fn spelt(alloc: Global, text: &[u8], start: usize, end: usize) -> Result<Vec<u8>, Fail> {
-    Ok(hex::decode(alloc, text.get(start..end).unwrap_or(b""))?)
-}
-
-/// A case: its streams, its set, its number, and the digests of what was written and of the statuses.
+/// A case: its streams, its set, lines by their names, and the digests of what was written and of the statuses.
 #[derive(Drop)]
 struct Case {
     streams: &'static str,
     set: &'static str,
-    number: u8,
+    lines: Vec<(&'static str, String)>,
     digests: Sha256,
 }
 
 impl Case {
-    /// Runs a command on lines of these values, adds the digest of what it writes and of its status, and returns what
+    /// The line of this name.
+    fn line(&self, name: &str) -> &str {
+        for (known, line) in &self.lines {
+            if *known == name {
+                return line.as_str();
+            }
+        }
+        ""
+    }
+
+    /// Names a line.
+    fn keep(&mut self, name: &'static str, line: String) -> Result<(), AllocError> {
+        self.lines.push((name, line))?;
+        Ok(())
+    }
+
+    /// Runs a command on the lines of these names, adds the digest of what it writes and of its status, and returns what
     /// it writes.
-    fn run(
-        &mut self,
-        alloc: Global,
-        command: &'static str,
-        values: &[&[u8]],
-    ) -> Result<Vec<u8>, AllocError> {
-        let input = hex_lines(alloc, values)?;
-        let call = [self.streams, command, self.set];
-        let outcome = run_of(alloc, WHOLE, call, input.as_slice())?;
+    fn run(&mut self, alloc: Global, to: &'static str, names: &str) -> Result<String, AllocError> {
+        let mut input = String::new(alloc);
+        for name in names.split(',') {
+            input.push_str(self.line(name))?;
+            input.push('\n')?;
+        }
+        let call = [self.streams, to, self.set];
+        let (told, written) = run_of(alloc, [WHOLE; 2], call, input.as_bytes())?;
         let mut hasher = Sha256::new();
-        hasher.update(outcome.written.as_slice());
-        hasher.update(&[status(outcome.answer)]);
+        hasher.update(written.as_slice());
+        hasher.update(&[status(told.0)]);
         self.digests.update(&hasher.finalize());
-        Ok(outcome.written)
+        String::from_utf8_lossy(alloc, written.as_slice())
     }
 
-    /// Runs `keygen`, `id` and `sign`, where a public key and a signature have so many digits. Returns the public key,
-    /// and keeps the signature if one was made.
-    fn make(
-        &mut self,
-        alloc: Global,
-        digits: [usize; 2],
-        context: &[u8],
-        signature: &mut Vec<u8>,
-    ) -> Result<Vec<u8>, Fail> {
-        let at = usize::from(self.number);
-        let text = drawn(self.number, 2);
-        let pair = self.run(alloc, "keygen", &[&drawn(self.number, 0)])?;
-        let public = spelt(alloc, pair.as_slice(), 0, digits[0])?;
-        self.run(alloc, "id", &[public.as_slice()])?;
-        let start = digits[0].wrapping_add(1);
-        let mut private = spelt(alloc, pair.as_slice(), start, pair.len().wrapping_sub(1))?;
-        if self.number % 5 == 3 {
-            spoil(&mut private, 128 + at, 0xff);
+    /// Runs `keygen`, `id` and `sign`, and keeps the signature if one was made.
+    fn make(&mut self, alloc: Global, number: usize, made: &mut String) -> Result<(), AllocError> {
+        let pair = self.run(alloc, "keygen", "seed")?;
+        let (public, private) = parted(pair.as_str(), "\n");
+        let at = if number % 5 == 3 { 128 } else { usize::MAX };
+        let private = changed(alloc, private.trim_end(), at.saturating_add(number), 0xff)?;
+        self.keep("private", private)?;
+        self.keep("public", String::from_str(alloc, public)?)?;
+        self.run(alloc, "id", "public")?;
+        let signed = self.run(alloc, "sign", "private,random,context,message")?;
+        // A refusal is shorter than a key.
+        if signed.len() > public.len() {
+            *made = String::from_str(alloc, signed.trim_end())?;
         }
-        let random = drawn(self.number, 1);
-        let lines = [private.as_slice(), &random, context, &text[..at.min(32)]];
-        let made = self.run(alloc, "sign", &lines)?;
-        if made.len() > digits[1] {
-            *signature = spelt(alloc, made.as_slice(), 0, digits[1])?;
-        }
-        Ok(public)
+        Ok(())
     }
 
-    /// Runs `verify`, `check` and `batch` with this key and this signature, some of them damaged or for another message.
-    fn judge(
-        &mut self,
-        alloc: Global,
-        context: &[u8],
-        public: &[u8],
-        signature: &[u8],
-    ) -> Result<(), Fail> {
-        let number = self.number;
-        let (seed, random, text) = (drawn(number, 0), drawn(number, 1), drawn(number, 2));
-        // What stands in a list of lines is owned here.
-        let (public, context) = (
-            Vec::from_slice(alloc, public)?,
-            Vec::from_slice(alloc, context)?,
-        );
-        let made = Vec::from_slice(alloc, signature)?;
-        let message = Vec::from_slice(alloc, &text[..usize::from(number).min(32)])?;
-        let spoken = if number % 6 == 2 {
-            Vec::from_slice(alloc, &random)?
-        } else {
-            Vec::from_slice(alloc, message.as_slice())?
+    /// Runs `verify`, `check` and `batch` with a signature, some of them damaged or for another message.
+    fn judge(&mut self, alloc: Global, number: u8, made: &str) -> Result<(), AllocError> {
+        let (at, value, spoken) = match number % 6 {
+            1 | 4 => (37 * usize::from(number), number, "message"),
+            5 => ((made.len() / 2).wrapping_sub(1), 0xff, "message"),
+            2 => (usize::MAX, 0, "random"),
+            _ => (usize::MAX, 0, "message"),
         };
-        let mut other = Vec::from_slice(alloc, signature)?;
-        match number % 6 {
-            1 | 4 => spoil(&mut other, 37 * usize::from(number), number),
-            5 => spoil(&mut other, signature.len().wrapping_sub(1), 0xff),
-            _ => {}
-        }
-        let lines = [
-            public.as_slice(),
-            other.as_slice(),
-            context.as_slice(),
-            spoken.as_slice(),
-        ];
-        self.run(alloc, "verify", &lines)?;
-        let lines = [
-            seed.as_slice(),
-            random.as_slice(),
-            context.as_slice(),
-            message.as_slice(),
-        ];
-        self.run(alloc, "check", &lines)?;
+        let spoken = String::from_str(alloc, self.line(spoken))?;
+        self.keep("spoken", spoken)?;
+        self.keep("made", String::from_str(alloc, made)?)?;
+        self.keep("other", changed(alloc, made, at, value)?)?;
         // Their number says how many of the two entries are read.
-        let count = [0, number % 3];
-        let lines = [
-            public.as_slice(),
-            context.as_slice(),
-            count.as_slice(),
-            made.as_slice(),
-            message.as_slice(),
-            other.as_slice(),
-            spoken.as_slice(),
-        ];
-        self.run(alloc, "batch", &lines)?;
+        self.keep("count", hex::encode(alloc, &[0, number % 3])?)?;
+        self.run(alloc, "verify", "public,other,context,spoken")?;
+        self.run(alloc, "check", "seed,random,context,message")?;
+        let batch = "public,context,count,made,message,other,spoken";
+        self.run(alloc, "batch", batch)?;
         Ok(())
     }
 }
 
-/// The number of the first case of a set whose digest is not the recorded one, if there is any.
-fn first_other(
-    alloc: Global,
-    set: &'static str,
-    digits: [usize; 2],
-    recorded: &str,
-) -> Result<Option<u8>, Fail> {
-    let recorded = hex::decode(alloc, recorded)?;
-    let mut signature = Vec::new(alloc);
-    for number in 0..20u8 {
-        let streams = match number {
-            6 | 10 | 13 => "fill55",
-            _ => "sha2",
-        };
-        let digests = Sha256::new();
-        let mut case = Case {
-            streams,
-            set,
-            number,
-            digests,
-        };
-        let context = vec![in alloc; number; usize::from(number) * 27 / 2]?;
-        let public = case.make(alloc, digits, context.as_slice(), &mut signature)?;
-        case.judge(
-            alloc,
-            context.as_slice(),
-            public.as_slice(),
-            signature.as_slice(),
-        )?;
-        let at = 32 * usize::from(number);
-        if recorded.as_slice().get(at..at + 32) != Some(case.digests.finalize().as_slice()) {
-            return Ok(Some(number));
-        }
+/// What a case of this number draws at a set.
+fn drawn(alloc: Global, set: &'static str, number: u8) -> Result<Case, AllocError> {
+    let streams = match number {
+        6 | 10 | 13 => "fill55",
+        _ => "sha2",
+    };
+    let size = usize::from(number);
+    let (seed, random) = (Sha256::digest(&[number, 0]), Sha256::digest(&[number, 1]));
+    let text = Sha256::digest(&[number, 2]);
+    let context = vec![in alloc; number; size * 27 / 2]?;
+    let mut lines = Vec::new(alloc);
+    for (name, bytes) in [
+        ("seed", seed.as_slice()),
+        ("random", random.as_slice()),
+        ("context", context.as_slice()),
+        ("message", &text[..size.min(32)]),
+    ] {
+        lines.push((name, hex::encode(alloc, bytes)?))?;
     }
-    Ok(None)
+    Ok(Case {
+        streams,
+        set,
+        lines,
+        digests: Sha256::new(),
+    })
 }
 
 /// 20 cases of each command and set: the SHA-256 of the output and the status that fips204 0.5.0 gave over
 /// the same streams.
 #[test]
 fn answers_of_the_rust_crate(rt: HostRuntime) -> Result<(), Fail> {
-    for (set, digits, recorded) in [
-        ("44", [2624, 4840], ANSWERS_44),
-        ("65", [3904, 6618], ANSWERS_65),
-        ("87", [5184, 9254], ANSWERS_87),
-    ] {
-        assert_eq!(rt; first_other(rt.alloc(), set, digits, recorded)?, None);
+    let alloc = rt.alloc();
+    for (set, recorded) in [("44", ANSWERS_44), ("65", ANSWERS_65), ("87", ANSWERS_87)] {
+        let recorded = hex::decode(alloc, recorded)?;
+        let mut made = String::new(alloc);
+        for number in 0..20u8 {
+            let mut case = drawn(alloc, set, number)?;
+            let at = usize::from(number);
+            case.make(alloc, at, &mut made)?;
+            case.judge(alloc, number, made.as_str())?;
+            let wanted = recorded.as_slice().get(32 * at..32 * at + 32);
+            assert!(rt;
+                wanted == Some(case.digests.finalize().as_slice()),
+                "{set} {number}"
+            );
+        }
     }
     Ok(())
 }

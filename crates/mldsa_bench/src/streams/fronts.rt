@@ -1,7 +1,7 @@
 //! The fronts of the streams. The expected bytes were computed with Python's `hashlib`.
 #![tactic(auto)]
 
-ghost use Rattle.std.specs.Prelude.{◌≤◌, ◌<◌};
+ghost use Rattle.std.specs.Prelude.{◌≤◌};
 
 use crate::values::has_text;
 use fips204::xof::{Fill, Sha256Ctr, Sha256CtrLong, Sha512Ctr, Sha512CtrLong, Xof, XofReader};
@@ -31,34 +31,36 @@ fn has_front<H: Xof, const N: usize>(
     requires { N ≤ H.FRONT }
 {
     let whole = front::<H, N>(&[b"abc", b"", b""]);
-    let cut = front::<H, N>(&[b"a", b"", b"bc"]) == whole;
-    let first = hex::decode(alloc, first)?;
-    let last = hex::decode(alloc, last)?;
-    let same = has_text(alloc, Sha256::digest(whole.as_slice()).as_slice(), digest)?;
-    let ends = whole.as_slice().ends_with(last.as_slice());
-    Ok(cut && same && ends && whole.as_slice().starts_with(first.as_slice()))
+    let cut = front::<H, N>(&[b"a", b"", b"bc"]);
+    let starts = whole.starts_with(hex::decode(alloc, first)?.as_slice());
+    let ends = whole.ends_with(hex::decode(alloc, last)?.as_slice());
+    let same = has_text(alloc, Sha256::digest(whole).as_slice(), digest)?;
+    Ok(cut == whole && starts && ends && same)
 }
 
-/// Whether a reader gives the front of `abc`, of `N` bytes, also in pieces of so many bytes, and then has
-/// none left.
-fn comes_in_pieces<H: Xof, const N: usize>(size: usize) -> bool
-    requires some { 0 < size }
-    requires whole { N ≤ H.FRONT }
+/// Whether a reader gives the front of `abc`, of `N` bytes, in pieces of each of these sizes, and then has none left.
+fn comes_in_pieces<H: Xof, const N: usize>(sizes: &[usize]) -> bool
+    requires { N ≤ H.FRONT }
 {
     let whole = front::<H, N>(&[b"abc"]);
-    let mut reader = H::open(&[b"abc"]);
-    for wanted in whole.chunks(size) {
-        let mut piece = [0u8; N];
-        if wanted.len() > reader.left() || wanted.len() > N {
-            return false;
+    for size in sizes {
+        let mut reader = H::open(&[b"abc"]);
+        for wanted in whole.chunks((*size).max(1)) {
+            let mut piece = [0u8; N];
+            if wanted.len() > reader.left() || wanted.len() > N {
+                return false;
+            }
+            let piece = &mut piece[..wanted.len()];
+            reader.read(piece);
+            if *piece != *wanted {
+                return false;
+            }
         }
-        let piece = &mut piece[..wanted.len()];
-        reader.read(piece);
-        if *piece != *wanted {
+        if reader.left() != 0 {
             return false;
         }
     }
-    reader.left() == 0
+    true
 }
 
 /// SHA-256 and SHA-512 of `abc`, which the counter streams start from, as Python's `hashlib` has them.
@@ -102,39 +104,17 @@ e10d54b4f6907338d720d91ea01fd33a596bd7424b730c69cad720339e2a8839";
     Ok(())
 }
 
-/// Read at once or in pieces of 1 to 4096 bytes, around each block length, a front has the same bytes, and
-/// none are left.
+/// In pieces of several sizes, around each block length and up to the whole, a front has the same bytes, and none
+/// are left.
 #[test]
 fn fronts_in_pieces(rt: HostRuntime) {
-    for size in [1usize, 7, 31, 32, 33, 63, 64, 65, 100, 200, 4095, 4096] {
-        assert!(rt;
-            comes_in_pieces::<Sha256Ctr, 4096>(size),
-            "SHA-256 by {size}"
-        );
-        assert!(rt;
-            comes_in_pieces::<Sha512Ctr, 4096>(size),
-            "SHA-512 by {size}"
-        );
-        assert!(rt;
-            comes_in_pieces::<Fill<0x55>, 4096>(size),
-            "constant by {size}"
-        );
-    }
-}
-
-/// The longer fronts have the same bytes in pieces of several sizes.
-#[test]
-fn long_fronts_in_pieces(rt: HostRuntime) {
-    for size in [33usize, 100, 4096, 16384] {
-        assert!(rt;
-            comes_in_pieces::<Sha256CtrLong, 16384>(size),
-            "SHA-256 by {size}"
-        );
-        assert!(rt;
-            comes_in_pieces::<Sha512CtrLong, 16384>(size),
-            "SHA-512 by {size}"
-        );
-    }
+    let sizes = [1, 7, 31, 32, 33, 63, 64, 65, 100, 200, 4095, 4096].as_slice();
+    assert!(rt; comes_in_pieces::<Sha256Ctr, 4096>(sizes));
+    assert!(rt; comes_in_pieces::<Sha512Ctr, 4096>(sizes));
+    assert!(rt; comes_in_pieces::<Fill<0x55>, 4096>(sizes));
+    let sizes = [33, 100, 4096, 16384].as_slice();
+    assert!(rt; comes_in_pieces::<Sha256CtrLong, 16384>(sizes));
+    assert!(rt; comes_in_pieces::<Sha512CtrLong, 16384>(sizes));
 }
 
 /// A constant stream is 4096 times its byte.

@@ -1,12 +1,11 @@
 //! Streams whose fronts are written out.
 #![tactic(auto)]
 
-ghost use Rattle.std.specs.Prelude.{◌≡◌, ℕ, List, map};
+ghost use Rattle.std.specs.Prelude.{◌≡◌, ◌≤◌, ◌+◌, ℕ, map};
 ghost use Rattle.std.specs.List.{range_with_len};
-ghost use Rattle.std.proofs.lemmas.List.FromFn.{length-map-range_with_len};
 ghost use Rattle.std.proofs.Common.{rules};
 
-use fips204::xof::{FrontReader, Xof};
+use fips204::xof::{Xof, XofReader};
 use std::marker::PhantomData;
 
 /// A byte for each place of a front.
@@ -18,115 +17,75 @@ pub trait Pattern {
         ensures { result ≡ byte place };
 }
 
-/// The stream whose front has the bytes of a pattern, `N` of them, whatever its input.
-pub struct PatternedBy<P, const N: usize> {
+/// The stream whose front has the bytes of a pattern, 4096 and `MORE`, whatever its input; it is its own reader.
+#[derive(Drop)]
+pub struct PatternedBy<P: Pattern, const MORE: u16> {
     pattern: PhantomData<P>,
+    given: usize,
+    ghost within: { given ≤ 4096 + MORE },
 }
 
 /// The same with a front of 4096 bytes.
-pub type Patterned<P> = PatternedBy<P, 4096>;
+pub type Patterned<P> = PatternedBy<P, 0>;
 
-/// The first `N` bytes of a pattern.
-fn front_of<P: Pattern, const N: usize>() -> [u8; N]
-    ensures { result ≡ map P.byte (range_with_len 0 N) }
-{
-    let mut front = [0u8; N];
-    for place in 0..N {
-        front[place] = P::byte_at(place);
+impl<P: Pattern, const MORE: u16> XofReader for PatternedBy<P, MORE> {
+    ghost use Rattle.std.specs.Prelude.{drop};
+
+    ghost rest = { λ reader. drop reader.given (map P.byte (range_with_len 0 (4096 + MORE))) };
+
+    fn left(&self) -> usize {
+        4096 + MORE as usize - self.given
     }
-    front
+
+    fn read(&mut self, out: &mut [u8]) {
+        for i in 0..out.len() {
+            out[i] = P::byte_at(self.given + i);
+        }
+        self.given += out.len();
+    }
 }
 
-impl<P: Pattern> Xof for PatternedBy<P, 4096> {
-    type Reader = FrontReader<4096>;
+impl<P: Pattern, const MORE: u16> Xof for PatternedBy<P, MORE> {
+    ghost use Rattle.std.proofs.lemmas.List.FromFn.{length-map-range_with_len};
 
-    const FRONT: usize = 4096;
+    type Reader = Self;
 
-    ghost FRONT = { 4096 };
+    const FRONT: usize = 4096 + MORE as usize;
 
-    ghost front = { λ _. map P.byte (range_with_len 0 4096) };
+    ghost FRONT = { 4096 + MORE };
 
-    ghost front_size = { λ _. length-map-range_with_len P.byte 0 4096 };
+    ghost front = { λ _. map P.byte (range_with_len 0 (4096 + MORE)) };
+
+    ghost front_size = { λ _. length-map-range_with_len P.byte 0 (4096 + MORE) };
 
     ghost front_least = { Prim.search rules };
 
     ghost front_most = { Prim.search rules };
 
-    fn open(_parts: &[&[u8]]) -> FrontReader<4096> {
-        FrontReader::new(front_of::<P, 4096>())
+    fn open(_parts: &[&[u8]]) -> Self {
+        PatternedBy {
+            pattern: PhantomData,
+            given: 0,
+        }
     }
 }
 
-impl<P: Pattern> Xof for PatternedBy<P, 4097> {
-    type Reader = FrontReader<4097>;
+/// Eight bytes `SIGNS`, bytes 255 up to place `END`, and then zeros.
+pub struct Turn<const SIGNS: u8, const END: usize>;
 
-    const FRONT: usize = 4097;
-
-    ghost FRONT = { 4097 };
-
-    ghost front = { λ _. map P.byte (range_with_len 0 4097) };
-
-    ghost front_size = { λ _. length-map-range_with_len P.byte 0 4097 };
-
-    ghost front_least = { Prim.search rules };
-
-    ghost front_most = { Prim.search rules };
-
-    fn open(_parts: &[&[u8]]) -> FrontReader<4097> {
-        FrontReader::new(front_of::<P, 4097>())
-    }
-}
-
-impl<P: Pattern> Xof for PatternedBy<P, 5000> {
-    type Reader = FrontReader<5000>;
-
-    const FRONT: usize = 5000;
-
-    ghost FRONT = { 5000 };
-
-    ghost front = { λ _. map P.byte (range_with_len 0 5000) };
-
-    ghost front_size = { λ _. length-map-range_with_len P.byte 0 5000 };
-
-    ghost front_least = { Prim.search rules };
-
-    ghost front_most = { Prim.search rules };
-
-    fn open(_parts: &[&[u8]]) -> FrontReader<5000> {
-        FrontReader::new(front_of::<P, 5000>())
-    }
-}
-
-impl<P: Pattern> Xof for PatternedBy<P, 8192> {
-    type Reader = FrontReader<8192>;
-
-    const FRONT: usize = 8192;
-
-    ghost FRONT = { 8192 };
-
-    ghost front = { λ _. map P.byte (range_with_len 0 8192) };
-
-    ghost front_size = { λ _. length-map-range_with_len P.byte 0 8192 };
-
-    ghost front_least = { Prim.search rules };
-
-    ghost front_most = { Prim.search rules };
-
-    fn open(_parts: &[&[u8]]) -> FrontReader<8192> {
-        FrontReader::new(front_of::<P, 8192>())
-    }
-}
-
-/// The first bytes of a front, `COUNT` of them, are one byte, and all that follow another.
-pub struct Turn<const COUNT: usize, const FIRST: u8, const THEN: u8>;
-
-impl<const COUNT: usize, const FIRST: u8, const THEN: u8> Pattern for Turn<COUNT, FIRST, THEN> {
+impl<const SIGNS: u8, const END: usize> Pattern for Turn<SIGNS, END> {
     ghost use Rattle.std.specs.Prelude.{nat_lt, if◌then◌else◌};
 
-    ghost byte = { λ place. if nat_lt place COUNT then FIRST else THEN };
+    ghost byte = { λ place. if nat_lt place 8 then SIGNS else if nat_lt place END then 255 else 0 };
 
     fn byte_at(place: usize) -> u8 {
-        if place < COUNT { FIRST } else { THEN }
+        if place < 8 {
+            SIGNS
+        } else if place < END {
+            255
+        } else {
+            0
+        }
     }
 }
 
@@ -147,25 +106,6 @@ impl<const START: usize, const END: usize> Pattern for FourthTriplesTo<START, EN
             0
         } else {
             255
-        }
-    }
-}
-
-/// Eight bytes 85, `COUNT` bytes 255, and then zeros.
-pub struct SignsThenTurn<const COUNT: usize>;
-
-impl<const COUNT: usize> Pattern for SignsThenTurn<COUNT> {
-    ghost use Rattle.std.specs.Prelude.{◌+◌, nat_lt, if◌then◌else◌};
-
-    ghost byte = { λ place. if nat_lt place 8 then 85 else if nat_lt place (COUNT + 8) then 255 else 0 };
-
-    fn byte_at(place: usize) -> u8 {
-        if place < 8 {
-            85
-        } else if place - 8 < COUNT {
-            255
-        } else {
-            0
         }
     }
 }

@@ -15,21 +15,21 @@ ended_short : (line piece : List ℕ) (room whole most count : ℕ) → room ≡
     → length line ≤ longest_line → count < room → length piece ≡ count → length (line ++ piece) ≤ longest_line
 ended_short line piece room whole most count a b c d e = omega (arith, a, b, c, d, e, length-append line piece)
 
-pub loop-room-preserved : goal.loop-room-preserved
-loop-room-preserved g c =
+pub loop-line-preserved : goal.loop-line-preserved
+loop-line-preserved g c =
     let count = c.in_ok-piece.piece.length in
     let bound = c.in_ok-piece.ensures.bound in
-    let piece = take-append-le count c.read_piece.new.room (drop c.min-most.result c.loop-room.room) bound in
-    let size = length-take c.min-most.result c.loop-room.room in
-    let most : c.min-most.result ≤ longest_line + 1 - length c.loop-room.line.items = search rules in
-    let short = short_enough (length c.read_piece.new.room) _ _ (length c.loop-room.line.items) (c.read_piece.auto.room ∙ size) most
+    let piece = take-append-le count c.read_piece.new.room (drop c.min-most.result c.loop-line.room) bound in
+    let size = length-take c.min-most.result c.loop-line.room in
+    let most : c.min-most.result ≤ longest_line + 1 - length c.loop-line.line.items = search rules in
+    let short = short_enough (length c.read_piece.new.room) _ _ (length c.loop-line.line.items) (c.read_piece.auto.room ∙ size) most
     (search rules) in
-    let more = goes_on _ _ _ _ c.loop-room.line.items (take count c.read_piece.new.room) _
-    c.loop-room.invariant.2 c.loop-room.invariant.3 c.in_ok-piece.ensures.taken c.in-Open.is in
+    let more = goes_on _ _ _ _ c.loop-line.line.items (take count c.read_piece.new.room) _
+    c.loop-line.invariant.2 c.loop-line.invariant.3 c.in_ok-piece.ensures.taken c.in-Open.is in
     let long = length-take-le count c.read_piece.new.room bound in
     rw (c.in_ok-extend_from_slice.ensures.items, piece) (
       search rules,
-      omega (arith, length-append c.loop-room.line.items (take count c.read_piece.new.room), long, bound, short),
+      omega (arith, length-append c.loop-line.line.items (take count c.read_piece.new.room), long, bound, short),
       more.0,
       more.1,
     )
@@ -38,10 +38,10 @@ pub returns-in-Line-clause-taken : goal.returns-in-Line-clause-taken
 returns-in-Line-clause-taken g c =
     let count = c.in_ok-piece.piece.length in
     let bound = c.in_ok-piece.ensures.bound in
-    let line = c.loop-room.line.items in
+    let line = c.loop-line.line.items in
     let read = take count c.read_piece.new.room in
-    let piece = take-append-le count c.read_piece.new.room (drop c.min-most.result c.loop-room.room) bound in
-    let room = c.read_piece.auto.room ∙ length-take c.min-most.result c.loop-room.room in
+    let piece = take-append-le count c.read_piece.new.room (drop c.min-most.result c.loop-line.room) bound in
+    let room = c.read_piece.auto.room ∙ length-take c.min-most.result c.loop-line.room in
     let most : c.min-most.result ≤ longest_line + 1 - length line = search rules in
     let less : count < length c.read_piece.new.room = search rules in
     let short = ended_short line read _ _ _ count room most (search rules) less (length-take-le count c.read_piece.new.room bound) in
@@ -51,7 +51,7 @@ returns-in-Line-clause-taken g c =
     rw (c.in_ok-extend_from_slice.ensures.items, piece) (
       short,
       ends_with_line c.args.wanted _ _ _ _ line read _
-          c.loop-room.invariant.2 c.loop-room.invariant.3 c.in_ok-piece.ensures.taken c.in-Line.is
+          c.loop-line.invariant.2 c.loop-line.invariant.3 c.in_ok-piece.ensures.taken c.in-Line.is
           (omega (arith, asked, digits)) (omega (arith, asked, few)) short,
     )
 
@@ -59,10 +59,10 @@ pub returns-in-Input-clause-taken : goal.returns-in-Input-clause-taken
 returns-in-Input-clause-taken g c =
     let count = c.in_ok-piece.piece.length in
     let bound = c.in_ok-piece.ensures.bound in
-    let line = c.loop-room.line.items in
+    let line = c.loop-line.line.items in
     let read = take count c.read_piece.new.room in
-    let piece = take-append-le count c.read_piece.new.room (drop c.min-most.result c.loop-room.room) bound in
-    let room = c.read_piece.auto.room ∙ length-take c.min-most.result c.loop-room.room in
+    let piece = take-append-le count c.read_piece.new.room (drop c.min-most.result c.loop-line.room) bound in
+    let room = c.read_piece.auto.room ∙ length-take c.min-most.result c.loop-line.room in
     let most : c.min-most.result ≤ longest_line + 1 - length line = search rules in
     let less : count < length c.read_piece.new.room = search rules in
     let short = ended_short line read _ _ _ count room most (search rules) less (length-take-le count c.read_piece.new.room bound) in
@@ -70,12 +70,12 @@ returns-in-Input-clause-taken g c =
     rw (c.in_ok-extend_from_slice.ensures.items, piece) (
       short,
       ends_with_input c.args.wanted _ _ _ _ line read _
-          c.loop-room.invariant.2 c.loop-room.invariant.3 c.in_ok-piece.ensures.taken c.in-Input.is
+          c.loop-line.invariant.2 c.loop-line.invariant.3 c.in_ok-piece.ensures.taken c.in-Input.is
           (rw (c.in_ok-extend_from_slice.ensures.items, piece) at some) short,
     )
 
 pub returns-clause-stops : goal.returns-clause-stops
 returns-clause-stops g c =
-    let long : longest_line < length c.loop-room.line.items = search rules in
-    let most : length c.loop-room.line.items ≤ longest_line + 1 = c.loop-room.invariant.1 in
-    long_line _ _ _ c.loop-room.invariant.2 c.loop-room.invariant.3 (omega (arith, most, long)) _ _
+    let long : longest_line < length c.loop-line.line.items = search rules in
+    let most : length c.loop-line.line.items ≤ longest_line + 1 = c.loop-line.invariant.1 in
+    long_line _ _ _ c.loop-line.invariant.2 c.loop-line.invariant.3 (omega (arith, most, long)) _ _

@@ -1,4 +1,4 @@
-use Rattle.std.proofs.Common.{◌++◌, ℕ, List, refl, rules, subst}
+use Rattle.std.proofs.Common.{ℕ, List, refl, rules}
 use Rattle.fips204.specs.ParameterSets.{set_44}
 use Rattle.fips204.specs.Refusals.{VerifiesMessage}
 use Rattle.mldsa_bench.specs.declared.pages.ledger.TheConstants.{CONTEXT}
@@ -8,5 +8,5 @@ use Rattle.mldsa_bench.proofs.pages.ledger.append.Goals as goal
 pub returns-in-Ok-push-clause-stands : goal.returns-in-Ok-push-clause-stands
 returns-in-Ok-push-clause-stands g c key whole derives stood =
     let accepts = λ (message signature : List ℕ). VerifiesMessage set_44 g.H.Xof.front g.G.Xof.front key message signature CONTEXT.now in
-    still_stands accepts c.args.ledger.now.items c.push.new.self.items _ c.in-Ok-push.ensures.items (search rules)
-    (subst (λ m. accepts m c.in-Ok.signature) c.signed_bytes-bytes.ensures (c.in-Ok.ensures.accepted key c.in-Ok.signature whole derives refl)) stood
+    let signed = rw c.signed_bytes-bytes.ensures at c.in-Ok.ensures.accepted key c.in-Ok.signature whole derives refl in
+    rw c.in-Ok-push.ensures.items (still_stands accepts c.args.ledger.now.items _ (search rules) signed stood)

@@ -4,7 +4,7 @@ use Rattle.mldsa_bench.proofs.streams.input_chosen.joined.Given as goal
 
 abbrev pub invariant-loop-part : goal.invariant-loop-part
 invariant-loop-part l = record {
-  size : length l.room ≡ 66;
-  within : l.count ≤ 66;
+  size : length l.room ≡ 257;
+  within : l.count ≤ 257;
   bytes : take l.count l.room ≡ flat_map (λ part. part.now) (take l.part-index l.parts);
 }

@@ -1,5 +1,0 @@
-use Rattle.std.proofs.Common.{◌∙◌}
-use Rattle.mldsa_bench.proofs.streams.written_fronts.PatternedBy4097Xof.open.Goals as goal
-
-pub returns : goal.returns
-returns g c = c.new.ensures ∙ c.front_of.ensures

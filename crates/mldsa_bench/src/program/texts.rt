@@ -1,0 +1,98 @@
+//! Inputs and outputs, spelt with words for recorded bytes.
+#![tactic(auto)]
+
+use crate::values::RECORDED;
+use crate::values::constant_streams::{
+    private_44, private_65, private_87, public_44, public_65, public_87, signature_44,
+    signature_44_of_least_coefficient, signature_65, signature_87,
+};
+use std::alloc::{AllocError, Global};
+
+/// What a word names at a set over the counter streams, in hex. Any other word is itself.
+fn recorded<'a>(set: &str, word: &'a str) -> &'a str {
+    let number = match set {
+        "44" => 0,
+        "65" => 1,
+        _ => 2,
+    };
+    let [_, public, private, signature] = RECORDED[number];
+    match word {
+        "public" => public,
+        "private" => private,
+        // A private key has the hash of its public key after two seeds.
+        "hash" => private.get(128..256).unwrap_or(""),
+        "good" => signature,
+        "other" => "no",
+        _ => word,
+    }
+}
+
+/// The private key of set 44 with this first field of s1, of which 4 is the last in range.
+fn private_with(field: u8) -> [u8; 2560] {
+    let mut key = private_44();
+    key[128] = field;
+    key
+}
+
+/// The signature of set 44 with a first coefficient of z that is out of range.
+fn refused() -> [u8; 2420] {
+    let mut signature = signature_44();
+    signature[32] = 0x4e;
+    signature[33] = 0x00;
+    signature[34] = 0x4c;
+    signature
+}
+
+/// What a word names at set 44 over constant streams, in hex. Any other word is itself.
+fn constant_44(alloc: Global, word: &str) -> Result<String, AllocError> {
+    match word {
+        "public" => hex::encode(alloc, &public_44()),
+        "private" => hex::encode(alloc, &private_44()),
+        "private4" => hex::encode(alloc, &private_with(4)),
+        "private5" => hex::encode(alloc, &private_with(5)),
+        "good" => hex::encode(alloc, &signature_44()),
+        "good4" => hex::encode(alloc, &signature_44_of_least_coefficient()),
+        "bad" => hex::encode(alloc, &refused()),
+        _ => String::from_str(alloc, word),
+    }
+}
+
+/// The same at each set.
+fn constant(alloc: Global, set: &str, word: &str) -> Result<String, AllocError> {
+    match word {
+        "hash" => "5".repeat(alloc, 128),
+        "other" => String::from_str(alloc, "yes"),
+        _ if set == "44" => constant_44(alloc, word),
+        "public" if set == "65" => hex::encode(alloc, &public_65()),
+        "public" => hex::encode(alloc, &public_87()),
+        "private" if set == "65" => hex::encode(alloc, &private_65()),
+        "private" => hex::encode(alloc, &private_87()),
+        "good" if set == "65" => hex::encode(alloc, &signature_65()),
+        "good" => hex::encode(alloc, &signature_87()),
+        _ => String::from_str(alloc, word),
+    }
+}
+
+/// What stands before and after the first of these marks: all and nothing where there is none.
+pub fn parted<'a>(text: &'a str, mark: &str) -> (&'a str, &'a str) {
+    text.split_once(mark).unwrap_or((text, ""))
+}
+
+/// What a text spells for a call: a comma is an LF, a word what it names, and `X*N` so many copies of it.
+pub fn spelt(alloc: Global, call: [&str; 3], text: &str) -> Result<String, AllocError> {
+    let [streams, _, set] = call;
+    let mut spelt = String::new(alloc);
+    for (index, line) in text.split(',').enumerate() {
+        if index > 0 {
+            spelt.push('\n')?;
+        }
+        let (word, copies) = parted(line, "*");
+        let word = match streams {
+            "sha2" => String::from_str(alloc, recorded(set, word))?,
+            _ => constant(alloc, set, word)?,
+        };
+        let copies = copies.parse().unwrap_or(1);
+        spelt.push_str(word.repeat(alloc, copies)?.as_str())?;
+    }
+    Ok(spelt)
+}
