@@ -118,6 +118,15 @@ fn calls_whose_matrix_passes_its_limit(rt: HostRuntime) -> Result<(), Fail> {
     Ok(())
 }
 
+/// Which keys of set 44 accept a signature that begins with bytes FF where `H` has bytes FF: plain and prepared ones.
+fn commitment_of_ff_accepted() -> Result<[bool; 2], Fault> {
+    let mut signature = signature_44();
+    for i in 0..32usize {
+        signature[i] = 0xff;
+    }
+    accepted::<KG<Fill<0xff>, Fill<0>>>(&signature)
+}
+
 /// `H` of bytes FF over inputs of 32 bytes and else 55, set 44: the same keys, `SamplingLimit` in signing,
 /// and false, with plain and prepared keys. `H` of bytes FF, each set: `SamplingLimit` in key generation too, and false
 /// also of a signature that begins with bytes FF.
@@ -128,12 +137,7 @@ fn challenges_that_pass_their_limit(rt: HostRuntime) -> Result<(), Fail> {
     assert_eq!(rt; found, ([Ok(true); 3], [None; 2], none));
     let found = at_each_set::<Fill<0xff>, Fill<0>, Calls>(&Calls { seed: [0; 32] })?;
     assert_eq!(rt; found, [([LIMIT, Ok(true), Ok(true)], [None; 2], none); 3]);
-    let mut signature = signature_44();
-    signature[..32].fill(0xff);
-    assert_eq!(rt;
-        accepted::<KG<Fill<0xff>, Fill<0>>>(&signature)?,
-        [false; 2]
-    );
+    assert_eq!(rt; commitment_of_ff_accepted()?, [false; 2]);
     Ok(())
 }
 
