@@ -14,7 +14,7 @@ use fips204::xof::Fill;
 use fips204_base::product::challenge_times_vector;
 use std::test::Fail;
 
-/// These numbers; those of an absolute value of `q` or more are cut to `q - 1`.
+/// These numbers; those outside of `1 - q` to `q - 1` are cut to the nearer of these.
 pub fn within<const N: usize>(w: &[i32; N]) -> [i32; N]
     ensures { All (λ x. nat_abs x ≤ 8380416) result }
 {

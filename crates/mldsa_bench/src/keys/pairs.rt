@@ -1,4 +1,4 @@
-//! Key pairs over constant streams, and keys through their bytes.
+//! Key pairs, and keys through their bytes.
 #![tactic(auto)]
 
 use crate::keys::sets::{Constant44, Suite, TestSet, at_each_set};
@@ -59,7 +59,8 @@ fn public_keys_come_back(rt: HostRuntime) {
 }
 
 /// The first field of s1, in the low bits of byte 128, and the last of s2, in the high bits of another byte, with every
-/// value of their bits: where the key neither comes back, as up to 2 eta, nor is `KeyRange`, as above it, and that value.
+/// value of their bits: where the key neither comes back, as up to 2 eta, nor is `KeyRange`, as above it, and that value;
+/// place 0 where the recorded keys do not come back.
 #[derive(Drop)]
 struct WrongField;
 
@@ -73,6 +74,10 @@ impl Suite for WrongField {
             (1567, 32, [7, 0, 4]),
         ];
         let (last, high, [largest, recorded, most]) = rows[number];
+        let (keys, _) = S::constant()?;
+        if S::is_constant(Ok(keys)) != Ok(true) {
+            return Ok(Some((0, 0)));
+        }
         for (at, unit) in [(128usize, 1u8), (last, high)] {
             for field in 0..=largest {
                 let wanted = if field <= most {

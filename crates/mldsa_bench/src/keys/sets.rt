@@ -227,6 +227,12 @@ pub trait TestSet {
     /// Prepared keys.
     type Prepared: Keys<Self::Signature> + Drop;
 
+    /// A prepared public key.
+    type PreparedPublic: Drop;
+
+    /// A prepared private key.
+    type PreparedPrivate: Drop;
+
     /// The keys and the signature over constant streams, of their bytes.
     fn constant() -> Result<(Self::Plain, Self::Signature), Fault>;
 
@@ -248,8 +254,13 @@ pub trait TestSet {
     /// Both keys with their matrix.
     fn prepared(keys: &Self::Plain) -> Result<Self::Prepared, Fault>;
 
-    /// The same, the private key first, so that a refusal is of this.
-    fn prepared_private_first(keys: &Self::Plain) -> Result<Self::Prepared, Fault>;
+    /// The public key and the private key with their matrix, or the refusal of each.
+    fn prepared_parts(
+        keys: &Self::Plain,
+    ) -> (
+        Result<Self::PreparedPublic, Fault>,
+        Result<Self::PreparedPrivate, Fault>,
+    );
 
     /// Signs the first messages under a context, with one call: as many as `answers` has room for, at most five.
     fn sign_each(keys: &Self::Prepared, ctx: &[u8], answers: &mut [Result<Self::Signature, Fault>]);
@@ -295,6 +306,10 @@ where
 
     type Prepared = Prepared<K, L, H>;
 
+    type PreparedPublic = PreparedPublicKey<K, L, H>;
+
+    type PreparedPrivate = PreparedPrivateKey<K, L, H>;
+
     fn constant() -> Result<(Plain<K, L, H, G>, [u8; SIG_LEN]), Fault> {
         let (public, private, signature) = S::recorded();
         let public = PublicKey::<K, L, H, G>::try_from_bytes(public)?;
@@ -339,9 +354,13 @@ where
         Ok((keys.0.prepare()?, keys.1.prepare()?))
     }
 
-    fn prepared_private_first(keys: &Plain<K, L, H, G>) -> Result<Prepared<K, L, H>, Fault> {
-        let private = keys.1.prepare()?;
-        Ok((keys.0.prepare()?, private))
+    fn prepared_parts(
+        keys: &Plain<K, L, H, G>,
+    ) -> (
+        Result<PreparedPublicKey<K, L, H>, Fault>,
+        Result<PreparedPrivateKey<K, L, H>, Fault>,
+    ) {
+        (keys.0.prepare(), keys.1.prepare())
     }
 
     fn sign_each(
@@ -405,7 +424,7 @@ pub trait Suite {
         requires { number < 3 };
 }
 
-/// What is found at each set over these streams. No other function names a type of each set, since it takes the prover
+/// What is found at each set over these streams. No suite names a type of each set, since it takes the prover
 /// seconds.
 pub fn at_each_set<H: Xof, G: Xof, X: Suite>(suite: &X) -> Result<[X::Answer; 3], Fail> {
     Ok([

@@ -8,7 +8,7 @@ use crate::values::constant_streams::{
 };
 use std::alloc::{AllocError, Global};
 
-/// What a word names at a set over the counter streams, in hex. Any other word is itself.
+/// What a word names at a set over the counter streams, in hex or as an answer. Any other word is itself.
 fn recorded<'a>(set: &str, word: &'a str) -> &'a str {
     let number = match set {
         "44" => 0,

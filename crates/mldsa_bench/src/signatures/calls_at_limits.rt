@@ -27,7 +27,7 @@ type PastLastTriple = Patterned<FourthTriples<12>>;
 const TEXT: Text = Text::Message(b"abc", &[]);
 
 /// Whether the pair of a seed is that over constant streams, and so the public key of the private one, and whether this
-/// comes back from its bytes and is whole; the refusals to prepare both; and whether plain and prepared keys sign as over
+/// comes back from its bytes and is whole; the refusals to prepare the public key and the private key; and whether plain and prepared keys sign as over
 /// constant streams, and accept that signature.
 type Answers = (
     [Result<bool, Fault>; 3],
@@ -38,7 +38,7 @@ type Answers = (
 /// What keys over constant streams answer.
 pub const ALL: Answers = ([Ok(true); 3], [None; 2], [[Ok(true); 2]; 2]);
 
-/// What is refused without a matrix.
+/// What a call refuses whose sampling reaches its limit.
 const LIMIT: Result<bool, Fault> = Err(Fault::SamplingLimit);
 
 /// Whether keys sign with this signature, and accept it.
@@ -59,10 +59,8 @@ fn answers<S: TestSet>(seed: &[u8; 32]) -> Result<Answers, Fault> {
             Err(fault) => [Err(fault); 2],
         },
     ];
-    let refusals = [
-        S::prepared(&keys).err(),
-        S::prepared_private_first(&keys).err(),
-    ];
+    let (public, private) = S::prepared_parts(&keys);
+    let refusals = [public.err(), private.err()];
     let read = [
         S::is_constant(S::pair(seed)),
         S::derives_constant(&keys),
@@ -128,8 +126,8 @@ fn commitment_of_ff_accepted() -> Result<[bool; 2], Fault> {
 }
 
 /// `H` of bytes FF over inputs of 32 bytes and else 55, set 44: the same keys, `SamplingLimit` in signing,
-/// and false, with plain and prepared keys. `H` of bytes FF, each set: `SamplingLimit` in key generation too, and false
-/// also of a signature that begins with bytes FF.
+/// and false, with plain and prepared keys. `H` of bytes FF, each set: `SamplingLimit` in key generation too, and at
+/// set 44 false also of a signature that begins with bytes FF.
 #[test]
 fn challenges_that_pass_their_limit(rt: HostRuntime) -> Result<(), Fail> {
     let none = [[LIMIT, Ok(false)]; 2];

@@ -24,7 +24,7 @@ fn wanted(refused: bool, fault: Fault) -> Result<bool, Fault> {
     if refused { Err(fault) } else { Ok(true) }
 }
 
-/// Generators that refuse at this call, and have written before.
+/// Generators that refuse at this call, and whether they have written before.
 #[derive(Clone, Copy)]
 struct Refusing {
     call: u8,

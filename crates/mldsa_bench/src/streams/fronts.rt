@@ -4,7 +4,9 @@
 ghost use Rattle.std.specs.Prelude.{◌≤◌};
 
 use crate::values::has_text;
-use fips204::xof::{Fill, Sha256Ctr, Sha256CtrLong, Sha512Ctr, Sha512CtrLong, Xof, XofReader};
+use fips204::xof::{
+    Fill, FrontReader, Sha256Ctr, Sha256CtrLong, Sha512Ctr, Sha512CtrLong, Xof, XofReader,
+};
 use hex::FromHexError;
 use sha2::{Digest, Sha256, Sha512};
 use std::alloc::Global;
@@ -105,7 +107,7 @@ e10d54b4f6907338d720d91ea01fd33a596bd7424b730c69cad720339e2a8839";
 }
 
 /// In pieces of several sizes, around each block length and up to the whole, a front has the same bytes, and none
-/// are left.
+/// are left. A reader of an array gives its bytes in turn.
 #[test]
 fn fronts_in_pieces(rt: HostRuntime) {
     let sizes = [1, 7, 31, 32, 33, 63, 64, 65, 100, 200, 4095, 4096].as_slice();
@@ -115,6 +117,12 @@ fn fronts_in_pieces(rt: HostRuntime) {
     let sizes = [33, 100, 4096, 16384].as_slice();
     assert!(rt; comes_in_pieces::<Sha256CtrLong, 16384>(sizes));
     assert!(rt; comes_in_pieces::<Sha512CtrLong, 16384>(sizes));
+    let mut reader = FrontReader::new([1, 2, 3, 4, 5]);
+    let (mut first, mut second) = ([0u8; 2], [0u8; 3]);
+    reader.read(&mut first);
+    assert_eq!(rt; (first, reader.left()), ([1, 2], 3));
+    reader.read(&mut second);
+    assert_eq!(rt; (second, reader.left()), ([3, 4, 5], 0));
 }
 
 /// A constant stream is 4096 times its byte.

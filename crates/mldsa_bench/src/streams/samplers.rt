@@ -49,12 +49,13 @@ fn challenge_with(place: usize, odd: i32) -> [i32; 256]
 }
 
 /// An entry whose 256th value comes from the last triple that a quarter of the front allows is there, and from the next
-/// one it is not.
+/// one it is not; past the limit of 4096 bytes it is there over 8192.
 #[test]
 fn entries_of_longer_fronts(rt: HostRuntime) {
-    // Every fourth triple is kept: 256 of the first 1024, or 255 of them and triple 1024, the last.
+    // Every fourth triple is kept: 256 of the first 1024, or 255 of them.
     assert!(rt; entry::<Patterned<FourthTriples<0>>>() == Ok([0; 256]));
     assert!(rt; entry::<Patterned<FourthTriples<12>>>() == Err(LIMIT));
+    // 255 of the first 1024, and triple 1024.
     assert!(rt; entry::<PatternedBy<FourthTriplesTo<12, 3072>, 0>>() == Err(LIMIT));
     assert!(rt; entry::<PatternedBy<FourthTriplesTo<12, 3072>, 1>>() == Err(LIMIT));
     assert!(rt; entry::<PatternedBy<FourthTriplesTo<12, 3072>, 4096>>() == Ok([0; 256]));
@@ -67,7 +68,7 @@ fn entries_of_longer_fronts(rt: HostRuntime) {
     assert!(rt; entry::<PatternedBy<Turn<0xff, 2985>, 904>>() == Err(LIMIT));
 }
 
-/// Small polynomials at their limit and one byte past it.
+/// Small polynomials at their limit and one byte past it, which is within that of 8192 bytes.
 #[test]
 fn small_polynomials_of_longer_fronts(rt: HostRuntime) {
     assert!(rt; small::<PatternedBy<Turn<0xff, 896>, 0>>() == Ok([2; 256]));
@@ -79,7 +80,7 @@ fn small_polynomials_of_longer_fronts(rt: HostRuntime) {
     assert!(rt; small::<PatternedBy<Turn<0xff, 897>, 4096>>() == Ok([2; 256]));
 }
 
-/// Challenges at their limit and one byte past it, of sign bytes FF or 55.
+/// The same of challenges, of sign bytes FF or 55.
 #[test]
 fn challenges_of_longer_fronts(rt: HostRuntime) {
     let wanted = challenge_with(0, -1);
