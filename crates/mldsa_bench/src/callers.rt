@@ -184,8 +184,7 @@ pub fn accepts_what_it_signs<H: Xof, G: Xof>(
     Ok(pk.verify(message, &signature, ctx))
 }
 
-/// The same of prepared keys: the public key that belongs to a whole prepared private key accepts what this
-/// signs.
+/// The same of prepared keys: the public key that belongs to a whole prepared private key accepts what this signs.
 pub fn accepts_what_it_signs_prepared<H: Xof>(
     sk: &ml_dsa_44::PreparedPrivateKey<H>,
     pk: &ml_dsa_44::PreparedPublicKey<H>,

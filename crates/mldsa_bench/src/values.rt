@@ -12,30 +12,15 @@ ghost use Rattle.std.specs.Prelude.{◌<◌};
 use hex::FromHexError;
 use std::alloc::Global;
 
-/// The sets with their keys and signatures over the counter streams, in hex: public key, private key, signature.
-pub const RECORDED: [[&str; 4]; 3] = [
-    [
-        "44",
-        counter_44::PUBLIC_KEY,
-        counter_44::PRIVATE_KEY,
-        counter_44::SIGNATURE,
-    ],
-    [
-        "65",
-        counter_65::PUBLIC_KEY,
-        counter_65::PRIVATE_KEY,
-        counter_65::SIGNATURE,
-    ],
-    [
-        "87",
-        counter_87::PUBLIC_KEY,
-        counter_87::PRIVATE_KEY,
-        counter_87::SIGNATURE,
-    ],
+/// The public key, the private key and the signature of each set over the counter streams, in hex.
+pub const RECORDED: [[&str; 3]; 3] = [
+    counter_44::RECORDED,
+    counter_65::RECORDED,
+    counter_87::RECORDED,
 ];
 
 /// Those of a set, of which this is the number.
-pub fn recorded(number: usize) -> [&'static str; 4]
+pub fn recorded(number: usize) -> [&'static str; 3]
     requires { number < 3 }
 {
     RECORDED[number]

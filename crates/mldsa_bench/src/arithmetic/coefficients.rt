@@ -11,8 +11,8 @@ use fips204::helpers::{ZETA_TABLE_MONT, center_mod, mont_reduce};
 use fips204::high_low::{decompose, high_bits, make_hint, power2round, use_hint};
 use fips204::types::R;
 
-/// `12 34 56`, `12 34 80`, `01 E0 80` and `00 E0 7F` make coefficients, `01 E0 7F` makes none; so do half bytes 3 at eta
-/// 2 and 8 at eta 4, but not 15 and 9.
+/// `12 34 56`, `12 34 80`, `01 E0 80` and `00 E0 7F` make coefficients, `01 E0 7F` makes none; so do half bytes 3 at
+/// eta 2 and 8 at eta 4, but not 15 and 9.
 #[test]
 fn coefficients_of_bytes(rt: HostRuntime) {
     for (bytes, coefficient) in [

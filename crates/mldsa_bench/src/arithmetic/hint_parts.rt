@@ -3,8 +3,8 @@
 
 ghost use Rattle.std.specs.Prelude.{◌≡◌, ◌<◌, ◌≤◌, ◌+◌, ◌≤ℤ◌, pos, nat_abs, length};
 
+use crate::values::RECORDED;
 use crate::values::constant_streams::{public_44, signature_44};
-use crate::values::counter_44;
 use fips204::conversion::{hint_bit_pack, hint_bit_unpack};
 use fips204::encodings::sig_decode;
 use fips204::ml_dsa_44;
@@ -117,7 +117,7 @@ fn ones_in(signature: &[u8; 2420]) -> Option<[usize; 4]> {
 #[test]
 fn hints_in_signatures(rt: HostRuntime) -> Result<(), Fail> {
     let mut signature = [0u8; 2420];
-    hex::decode_to_slice(counter_44::SIGNATURE, &mut signature)?;
+    hex::decode_to_slice(RECORDED[0][2], &mut signature)?;
     assert_eq!(rt; ones_in(&signature), Some([22, 12, 20, 18]));
     let mut signature = signature_44();
     signature[2336..2420].copy_from_slice(&part_of(&MANY_PLACES, [0x12, 0x1e, 0x2d, 0x43]));
@@ -125,8 +125,8 @@ fn hints_in_signatures(rt: HostRuntime) -> Result<(), Fail> {
     Ok(())
 }
 
-/// The hint that a part spells: the ones that its totals cut off, where the spelling of these is the part. That is their
-/// places, polynomial by polynomial, zeros up to byte omega, and the running totals.
+/// The hint that a part spells: the ones that its totals cut off, where the spelling of these is the part. That is
+/// their places, polynomial by polynomial, zeros up to byte omega, and the running totals.
 fn slow_hint<const K: usize>(omega: usize, part: &[u8]) -> Option<[[i32; 256]; K]>
     requires few { omega + K ≤ 255 }
     requires room { omega + K ≤ length part.now }

@@ -119,8 +119,8 @@ fn product_of_transforms(a: &[i32; 256], b: &[i32; 256]) -> [i32; 256] {
     inverse(&values)
 }
 
-/// X^255 times X is q - 1 at index 0, also in Montgomery form; fixed polynomials, and all coefficients q - 1, agree with
-/// a product by double sums.
+/// X^255 times X is q - 1 at index 0, also in Montgomery form; fixed polynomials, and all coefficients q - 1, agree
+/// with a product by double sums.
 #[test]
 fn products_of_polynomials(rt: HostRuntime) {
     let (last, x) = (monomial(255, 1), monomial(1, 1));

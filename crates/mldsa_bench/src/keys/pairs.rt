@@ -59,8 +59,8 @@ fn public_keys_come_back(rt: HostRuntime) {
 }
 
 /// The first field of s1, in the low bits of byte 128, and the last of s2, in the high bits of another byte, with every
-/// value of their bits: where the key neither comes back, as up to 2 eta, nor is `KeyRange`, as above it, and that value;
-/// place 0 where the recorded keys do not come back.
+/// value of their bits: where the key neither comes back, as up to 2 eta, nor is `KeyRange`, as above it, and that
+/// value; place 0 where the recorded keys do not come back.
 #[derive(Drop)]
 struct WrongField;
 
@@ -109,8 +109,8 @@ fn field_ranges_of_each_set(rt: HostRuntime) -> Result<(), Fail> {
     Ok(())
 }
 
-/// Whether the private key of 32 bytes 07 is whole, and with another bit in K, in `tr`, and in the first and in the last
-/// byte of t0.
+/// Whether the private key of 32 bytes 07 is whole, and with another bit in K, in `tr`, and in the first and in the
+/// last byte of t0.
 #[derive(Drop)]
 struct Whole;
 
@@ -129,8 +129,8 @@ impl Suite for Whole {
     }
 }
 
-/// A generated key of each set is whole, also with another bit in K or `tr`. With one in the first or the last byte of t0
-/// it is not.
+/// A generated key of each set is whole, also with another bit in K or `tr`. With one in the first or the last byte of
+/// t0 it is not.
 #[test]
 fn whole_keys_of_each_set(rt: HostRuntime) -> Result<(), Fail> {
     let found = at_each_set::<Sha256Ctr, Sha512Ctr, Whole>(&Whole)?;
@@ -138,8 +138,8 @@ fn whole_keys_of_each_set(rt: HostRuntime) -> Result<(), Fail> {
     Ok(())
 }
 
-/// The hash of a public key of set 44 has bytes 55: in a pair, of bytes that count up, and derived of a private key. With
-/// `tr` of bytes 00 in that, the derived key keeps it until it is decoded anew.
+/// The hash of a public key of set 44 has bytes 55: in a pair, of bytes that count up, and derived of a private key.
+/// With `tr` of bytes 00 in that, the derived key keeps it until it is decoded anew.
 #[test]
 fn hashes_of_public_keys(rt: HostRuntime) -> Result<(), Fail> {
     let (public, _) = Constant44::pair(&[7; 32])?;

@@ -52,83 +52,59 @@ type Prepared<const K: usize, const L: usize, H> = (
     PreparedPrivateKey<K, L, H>,
 );
 
-impl<S, const K: usize, const L: usize, const N: usize, const SIG_LEN: usize, H: Xof, G: Xof> Keys<
-    [u8; SIG_LEN],
-> for (PublicKey<K, L, H, G>, PrivateKey<K, L, H, G>)
-where
-    Matrix<K, L>: HasSet<Set = S>,
-    S: Set<Commitment = [u8; N], Signature = [u8; SIG_LEN]> + SignatureSizes<K, L, N, SIG_LEN>,
-{
-    fn seeded(&self, seed: &[u8; 32], text: &Text) -> Result<[u8; SIG_LEN], Fault> {
-        match *text {
-            Text::Message(message, ctx) => self.1.try_sign_with_seed(seed, message, ctx),
-            Text::Digest(hash, ctx, oid) => { self.1.try_hash_sign_with_seed(seed, hash, ctx, oid) }
-            _ => self.drawn(&mut DummyRng { bytes: *seed }, true, text),
-        }
-    }
+// Plain keys and prepared ones have the same calls.
+macro_rules! keys {
+    ($keys:ty, $($streams:ident),*) => {
+        impl<
+            S,
+            const K: usize,
+            const L: usize,
+            const N: usize,
+            const SIG_LEN: usize,
+            $($streams: Xof),*
+        > Keys<[u8; SIG_LEN]> for $keys
+        where
+            Matrix<K, L>: HasSet<Set = S>,
+            S: Set<Commitment = [u8; N], Signature = [u8; SIG_LEN]>
+                + SignatureSizes<K, L, N, SIG_LEN>,
+        {
+            fn seeded(&self, seed: &[u8; 32], text: &Text) -> Result<[u8; SIG_LEN], Fault> {
+                match *text {
+                    Text::Message(message, ctx) => self.1.try_sign_with_seed(seed, message, ctx),
+                    Text::Digest(hash, ctx, oid) => self.1.try_hash_sign_with_seed(seed, hash, ctx, oid),
+                    _ => self.drawn(&mut DummyRng { bytes: *seed }, true, text),
+                }
+            }
 
-    fn drawn<R: CryptoRngCore>(
-        &self,
-        rng: &mut R,
-        hedged: bool,
-        text: &Text,
-    ) -> Result<[u8; SIG_LEN], Fault> {
-        match *text {
-            Text::Message(message, ctx) => self.1.try_sign_with_rng(rng, message, ctx),
-            Text::Digest(hash, ctx, oid) => self.1.try_hash_sign_with_rng(rng, hash, ctx, oid),
-            Text::Framed(m) => self.1.sign_internal(rng, m, hedged),
-            Text::Hash(mu) => self.1.sign_mu(rng, mu, hedged),
-        }
-    }
+            fn drawn<R: CryptoRngCore>(
+                &self,
+                rng: &mut R,
+                hedged: bool,
+                text: &Text,
+            ) -> Result<[u8; SIG_LEN], Fault> {
+                match *text {
+                    Text::Message(message, ctx) => self.1.try_sign_with_rng(rng, message, ctx),
+                    Text::Digest(hash, ctx, oid) => self.1.try_hash_sign_with_rng(rng, hash, ctx, oid),
+                    Text::Framed(m) => self.1.sign_internal(rng, m, hedged),
+                    Text::Hash(mu) => self.1.sign_mu(rng, mu, hedged),
+                }
+            }
 
-    fn accepts(&self, text: &Text, signature: &[u8; SIG_LEN]) -> bool {
-        match *text {
-            Text::Message(message, ctx) => self.0.verify(message, signature, ctx),
-            Text::Digest(hash, ctx, oid) => self.0.hash_verify(hash, signature, ctx, oid),
-            Text::Framed(m) => self.0.verify_internal(m, signature),
-            Text::Hash(mu) => self.0.verify_mu(mu, signature),
+            fn accepts(&self, text: &Text, signature: &[u8; SIG_LEN]) -> bool {
+                match *text {
+                    Text::Message(message, ctx) => self.0.verify(message, signature, ctx),
+                    Text::Digest(hash, ctx, oid) => self.0.hash_verify(hash, signature, ctx, oid),
+                    Text::Framed(m) => self.0.verify_internal(m, signature),
+                    Text::Hash(mu) => self.0.verify_mu(mu, signature),
+                }
+            }
         }
-    }
+    };
 }
 
-impl<S, const K: usize, const L: usize, const N: usize, const SIG_LEN: usize, H: Xof> Keys<
-    [u8; SIG_LEN],
-> for (PreparedPublicKey<K, L, H>, PreparedPrivateKey<K, L, H>)
-where
-    Matrix<K, L>: HasSet<Set = S>,
-    S: Set<Commitment = [u8; N], Signature = [u8; SIG_LEN]> + SignatureSizes<K, L, N, SIG_LEN>,
-{
-    fn seeded(&self, seed: &[u8; 32], text: &Text) -> Result<[u8; SIG_LEN], Fault> {
-        match *text {
-            Text::Message(message, ctx) => self.1.try_sign_with_seed(seed, message, ctx),
-            Text::Digest(hash, ctx, oid) => { self.1.try_hash_sign_with_seed(seed, hash, ctx, oid) }
-            _ => self.drawn(&mut DummyRng { bytes: *seed }, true, text),
-        }
-    }
+keys!((PublicKey<K, L, H, G>, PrivateKey<K, L, H, G>), H, G);
 
-    fn drawn<R: CryptoRngCore>(
-        &self,
-        rng: &mut R,
-        hedged: bool,
-        text: &Text,
-    ) -> Result<[u8; SIG_LEN], Fault> {
-        match *text {
-            Text::Message(message, ctx) => self.1.try_sign_with_rng(rng, message, ctx),
-            Text::Digest(hash, ctx, oid) => self.1.try_hash_sign_with_rng(rng, hash, ctx, oid),
-            Text::Framed(m) => self.1.sign_internal(rng, m, hedged),
-            Text::Hash(mu) => self.1.sign_mu(rng, mu, hedged),
-        }
-    }
-
-    fn accepts(&self, text: &Text, signature: &[u8; SIG_LEN]) -> bool {
-        match *text {
-            Text::Message(message, ctx) => self.0.verify(message, signature, ctx),
-            Text::Digest(hash, ctx, oid) => self.0.hash_verify(hash, signature, ctx, oid),
-            Text::Framed(m) => self.0.verify_internal(m, signature),
-            Text::Hash(mu) => self.0.verify_mu(mu, signature),
-        }
-    }
-}
+keys!((PreparedPublicKey<K, L, H>, PreparedPrivateKey<K, L, H>), H);
 
 /// The calls that make a pair from what a generator returns.
 #[derive(Clone, Copy)]
@@ -227,12 +203,6 @@ pub trait TestSet {
     /// Prepared keys.
     type Prepared: Keys<Self::Signature> + Drop;
 
-    /// A prepared public key.
-    type PreparedPublic: Drop;
-
-    /// A prepared private key.
-    type PreparedPrivate: Drop;
-
     /// The keys and the signature over constant streams, of their bytes.
     fn constant() -> Result<(Self::Plain, Self::Signature), Fault>;
 
@@ -254,13 +224,8 @@ pub trait TestSet {
     /// Both keys with their matrix.
     fn prepared(keys: &Self::Plain) -> Result<Self::Prepared, Fault>;
 
-    /// The public key and the private key with their matrix, or the refusal of each.
-    fn prepared_parts(
-        keys: &Self::Plain,
-    ) -> (
-        Result<Self::PreparedPublic, Fault>,
-        Result<Self::PreparedPrivate, Fault>,
-    );
+    /// The refusals to prepare the public key and the private key.
+    fn prepare_faults(keys: &Self::Plain) -> [Option<Fault>; 2];
 
     /// Signs the first messages under a context, with one call: as many as `answers` has room for, at most five.
     fn sign_each(keys: &Self::Prepared, ctx: &[u8], answers: &mut [Result<Self::Signature, Fault>]);
@@ -306,10 +271,6 @@ where
 
     type Prepared = Prepared<K, L, H>;
 
-    type PreparedPublic = PreparedPublicKey<K, L, H>;
-
-    type PreparedPrivate = PreparedPrivateKey<K, L, H>;
-
     fn constant() -> Result<(Plain<K, L, H, G>, [u8; SIG_LEN]), Fault> {
         let (public, private, signature) = S::recorded();
         let public = PublicKey::<K, L, H, G>::try_from_bytes(public)?;
@@ -354,13 +315,8 @@ where
         Ok((keys.0.prepare()?, keys.1.prepare()?))
     }
 
-    fn prepared_parts(
-        keys: &Plain<K, L, H, G>,
-    ) -> (
-        Result<PreparedPublicKey<K, L, H>, Fault>,
-        Result<PreparedPrivateKey<K, L, H>, Fault>,
-    ) {
-        (keys.0.prepare(), keys.1.prepare())
+    fn prepare_faults(keys: &Plain<K, L, H, G>) -> [Option<Fault>; 2] {
+        [keys.0.prepare().err(), keys.1.prepare().err()]
     }
 
     fn sign_each(
@@ -424,8 +380,7 @@ pub trait Suite {
         requires { number < 3 };
 }
 
-/// What is found at each set over these streams. No suite names a type of each set, since it takes the prover
-/// seconds.
+/// What is found at each set over these streams. No suite names a type of each set, since it takes the prover seconds.
 pub fn at_each_set<H: Xof, G: Xof, X: Suite>(suite: &X) -> Result<[X::Answer; 3], Fail> {
     Ok([
         suite.at::<ml_dsa_44::KG<H, G>>(0)?,

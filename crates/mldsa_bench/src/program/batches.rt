@@ -5,8 +5,8 @@ use crate::program::runs::{all_go, goes};
 use crate::program::texts::spelt;
 use std::test::Fail;
 
-/// `yes` and `no` in the order of the entries, and status 0 if all are `yes`. With a context of 256 bytes and over a key
-/// without a matrix each is `no`. Count `0000`: no output, status 0, and what follows stays unread.
+/// `yes` and `no` in the order of the entries, and status 0 if all are `yes`. With a context of 256 bytes and over a
+/// key without a matrix each is `no`. Count `0000`: no output, status 0, and what follows stays unread.
 #[test]
 fn answers_in_the_order_of_the_entries(rt: HostRuntime) -> Result<(), Fail> {
     let cases = "\

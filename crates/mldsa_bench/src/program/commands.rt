@@ -18,8 +18,8 @@ fn reads_of(command: &str, input: &str) -> usize {
     reads
 }
 
-/// Fails with its input unless a run writes this, succeeds if that has no `no`, reads no more often than its lines need, and
-/// leaves what follows unread; and the same where each device moves a byte a call.
+/// Fails with its input unless a run writes this, succeeds if that has no `no`, reads no more often than its lines
+/// need, and leaves what follows unread; and the same where each device moves a byte a call.
 fn goes(alloc: Global, call: [&str; 3], text: &str, output: &str) -> Result<(), Fail> {
     let mut input = spelt(alloc, call, text)?;
     let written = spelt(alloc, call, output)?;
@@ -34,8 +34,8 @@ fn goes(alloc: Global, call: [&str; 3], text: &str, output: &str) -> Result<(), 
     Ok(())
 }
 
-/// Each command with its input and what it writes, with the recorded pair and signature, which belong to 32 bytes 00 and the
-/// message `00`; `other` is what another message or context gives.
+/// Each command with its input and what it writes, with the recorded pair and signature, which belong to 32 bytes 00
+/// and the message `00`; `other` is what another message or context gives.
 const COMMANDS: &str = "\
 keygen | 00*32, | public,private,
 id | public, | public,hash,

@@ -46,9 +46,9 @@ fn is_tried(run: &Run, call: usize, last: usize) -> bool {
     every || call < 300 || call % 53 == 0 || last.saturating_sub(call) <= 300
 }
 
-/// Fails unless a run on these first bytes of its input and devices of these paces ends as it should: in the fault of a reader
-/// that fails, then in that of its lines, with nothing written, then in that of a writer that fails, after the bytes of
-/// the calls before it, and else as on good devices.
+/// Fails unless a run on these first bytes of its input and devices of these paces ends as it should: in the fault of a
+/// reader that fails, then in that of its lines, with nothing written, then in that of a writer that fails, after the
+/// bytes of the calls before it, and else as on good devices.
 fn ends_so(alloc: Global, run: &Run, paces: [Pace; 2], input: &[u8]) -> Result<(), Fail> {
     let [reader, writer] = paces;
     let unread = input.len().saturating_sub(reader.fails_at);
@@ -75,8 +75,8 @@ fn ends_so(alloc: Global, run: &Run, paces: [Pace; 2], input: &[u8]) -> Result<(
     ensure(same, words.as_str())
 }
 
-/// Fails unless a command over bytes 55 ends so where the reader fails, where the input ends and where the writer fails, at
-/// each call that is tried. Each end of the input is tried also by devices that move all that is asked for.
+/// Fails unless a command over bytes 55 ends so where the reader fails, where the input ends and where the writer
+/// fails, at each call that is tried. Each end of the input is tried also by devices that move all that is asked for.
 fn fails_well(alloc: Global, command: &'static str, input: &str, text: &str) -> Result<(), Fail> {
     let call = ["fill55", command, "44"];
     let run = Run {
@@ -100,8 +100,9 @@ fn fails_well(alloc: Global, command: &'static str, input: &str, text: &str) -> 
     Ok(())
 }
 
-/// `id` with devices of one byte a call, which fail at each call in turn (of long inputs and outputs at a choice of calls),
-/// and with the input ended there: the fault, with nothing written, or the bytes of the calls before a failed write.
+/// `id` with devices of one byte a call, which fail at each call in turn (of long inputs and outputs at a choice of
+/// calls), and with the input ended there: the fault, with nothing written, or the bytes of the calls before a failed
+/// write.
 #[test]
 fn failing_devices_of_id(rt: HostRuntime) -> Result<(), Fail> {
     fails_well(rt.alloc(), "id", "0*2624,", "0*2624,5*128,")?;

@@ -91,11 +91,11 @@ fn words_that_are_no_call(rt: HostRuntime) -> Result<(), Fail> {
     Ok(())
 }
 
-/// Errors of the library. `keygen` passes its limit at each set. `sign` refuses a key out of range before a context of 256
-/// bytes, and this by itself too, but a missing line before both; with a field at the end of its range a key signs.
-/// `check` says yes, or too many attempts, or a long context, and before that the error of key generation. `verify` says no
-/// over a key without a matrix, and a fifth line stays unread; of a signature of 2419 bytes, a fault, 4841 characters are
-/// read, as of a good one with its LF.
+/// Errors of the library. `keygen` passes its limit at each set. `sign` refuses a key out of range before a context of
+/// 256 bytes, and this by itself too, but a missing line before both; with a field at the end of its range a key signs.
+/// `check` says yes, or too many attempts, or a long context, and before that the error of key generation. `verify`
+/// says no over a key without a matrix, and a fifth line stays unread; of a signature of 2419 bytes, a fault, 4841
+/// characters are read, as of a good one with its LF.
 #[test]
 fn refusals_of_the_library_in_order(rt: HostRuntime) -> Result<(), Fail> {
     let cases = "\

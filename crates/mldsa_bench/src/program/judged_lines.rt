@@ -8,8 +8,9 @@ use mldsa_engine::RunFault;
 use std::alloc::Global;
 use std::test::Fail;
 
-/// Fails unless a line that follows others ends a run in this fault, or that none follows, and nothing is written: where the
-/// reader gives a byte a call and fails at the call after the line, and also where it gives all that it is asked for.
+/// Fails unless a line that follows others ends a run in this fault, or that none follows, and nothing is written:
+/// where the reader gives a byte a call and fails at the call after the line, and also where it gives all that it is
+/// asked for.
 fn is_judged(
     alloc: Global,
     call: [&str; 3],
@@ -31,8 +32,8 @@ fn is_judged(
     ensure((answer, same, calls[1]) == (Err(fault), true, 0), line)
 }
 
-/// Fails unless each fault of one line ends a run, after these lines: that it is missing, that it is no hex, and unless it may
-/// have any number of bytes, that it has not as many as the good line.
+/// Fails unless each fault of one line ends a run, after these lines: that it is missing, that it is no hex, and unless
+/// it may have any number of bytes, that it has not as many as the good line.
 fn is_at_fault(
     alloc: Global,
     call: [&str; 3],
@@ -79,8 +80,7 @@ const COMMANDS: [[&str; 2]; 6] = [
     ["batch", "public,00,0002,good,00,good,00,"],
 ];
 
-/// Readers that count their calls, at each fault and each line: no line is read before the one before it is
-/// judged.
+/// Readers that count their calls, at each fault and each line: no line is read before the one before it is judged.
 #[test]
 fn each_line_is_judged_before_the_next_is_read(rt: HostRuntime) -> Result<(), Fail> {
     for set in ["44", "65", "87"] {
@@ -92,8 +92,8 @@ fn each_line_is_judged_before_the_next_is_read(rt: HostRuntime) -> Result<(), Fa
     Ok(())
 }
 
-/// Lines longer than expected are judged with the characters that they have: one with a digit too many is too long, whatever
-/// follows.
+/// Lines longer than expected are judged with the characters that they have: one with a digit too many is too long,
+/// whatever follows.
 #[test]
 fn lines_that_are_too_long(rt: HostRuntime) -> Result<(), Fail> {
     let call = ["fill55", "check", "44"];

@@ -7,8 +7,8 @@ use mldsa_engine::{Marked, RunFault, from_words};
 use std::alloc::{AllocError, Global};
 use std::test::Fail;
 
-/// What a run returned, whether it marked the device that its fault names and no other and, where this is compared, wrote
-/// what it should, how many bytes it left unread, and how often it called its reader and its writer.
+/// What a run returned, whether it marked the device that its fault names and no other and, where this is compared,
+/// wrote what it should, how many bytes it left unread, and how often it called its reader and its writer.
 pub type Told = (Result<bool, RunFault>, bool, usize, [usize; 2]);
 
 /// A run of a call, which is its streams, its command and its set, on these bytes, with a reader and a writer of these
@@ -54,8 +54,8 @@ pub fn ensure(holds: bool, words: &str) -> Result<(), Fail> {
     if holds { Ok(()) } else { Err(Fail::new(words)) }
 }
 
-/// Whether a call on this input has this output and this status. `spelt` reads both texts; what stands after a bar in the
-/// input stays unread. At status 2 nothing is written, and the output is the text of the fault.
+/// Whether a call on this input has this output and this status. `spelt` reads both texts; what stands after a bar in
+/// the input stays unread. At status 2 nothing is written, and the output is the text of the fault.
 fn ends_so(
     alloc: Global,
     call: [&str; 3],

@@ -45,8 +45,8 @@ impl Case {
         Ok(())
     }
 
-    /// Runs a command on the lines of these names, adds the digest of what it writes and of its status, and returns what
-    /// it writes.
+    /// Runs a command on the lines of these names, adds the digest of what it writes and of its status, and returns
+    /// what it writes.
     fn run(&mut self, alloc: Global, to: &'static str, names: &str) -> Result<String, AllocError> {
         let mut input = String::new(alloc);
         for name in names.split(',') {

@@ -15,7 +15,7 @@ fn recorded<'a>(set: &str, word: &'a str) -> &'a str {
         "65" => 1,
         _ => 2,
     };
-    let [_, public, private, signature] = RECORDED[number];
+    let [public, private, signature] = RECORDED[number];
     match word {
         "public" => public,
         "private" => private,

@@ -27,8 +27,8 @@ type PastLastTriple = Patterned<FourthTriples<12>>;
 const TEXT: Text = Text::Message(b"abc", &[]);
 
 /// Whether the pair of a seed is that over constant streams, and so the public key of the private one, and whether this
-/// comes back from its bytes and is whole; the refusals to prepare the public key and the private key; and whether plain and prepared keys sign as over
-/// constant streams, and accept that signature.
+/// comes back from its bytes and is whole; the refusals to prepare the public key and the private key; and whether
+/// plain and prepared keys sign as over constant streams, and accept that signature.
 type Answers = (
     [Result<bool, Fault>; 3],
     [Option<Fault>; 2],
@@ -59,8 +59,7 @@ fn answers<S: TestSet>(seed: &[u8; 32]) -> Result<Answers, Fault> {
             Err(fault) => [Err(fault); 2],
         },
     ];
-    let (public, private) = S::prepared_parts(&keys);
-    let refusals = [public.err(), private.err()];
+    let refusals = S::prepare_faults(&keys);
     let read = [
         S::is_constant(S::pair(seed)),
         S::derives_constant(&keys),
@@ -168,8 +167,8 @@ fn keys_that_never_sign(rt: HostRuntime) -> Result<(), Fail> {
     Ok(())
 }
 
-/// A key of set 44 with another first polynomial of t0: -4095 at odd places up to 37 and at 170, and 4096 at even places
-/// between. Its product with the challenge is too large, 159724 at index 255 by double sums: `TooManyAttempts`.
+/// A key of set 44 with another first polynomial of t0: -4095 at odd places up to 37 and at 170, and 4096 at even
+/// places between. Its product with the challenge is too large, 159724 at index 255 by double sums: `TooManyAttempts`.
 #[test]
 fn low_parts_that_never_sign(rt: HostRuntime) -> Result<(), Fail> {
     let R(c) = sample_in_ball::<Fill<0x55>>(39, &[0x55; 32])?;

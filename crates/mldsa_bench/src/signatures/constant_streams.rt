@@ -37,8 +37,8 @@ const TOO_LONG: [(Text, Fault); 8] = [
     (Text::Digest(&[9; 32], &[1; 256], &SHA2_256), Fault::HashCtx),
 ];
 
-/// Whether each call that signs a text gives this signature, with random bytes that are given and with drawn ones, and it
-/// is accepted. A hook that is not hedged draws none.
+/// Whether each call that signs a text gives this signature, with random bytes that are given and with drawn ones, and
+/// it is accepted. A hook that is not hedged draws none.
 fn is_signed<S: PartialEq + Drop, K: Keys<S>>(keys: &K, text: &Text, signature: &S) -> bool {
     let mut rng = RefusesAt::new(255, false);
     let answers = [

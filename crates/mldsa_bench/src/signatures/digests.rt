@@ -62,8 +62,8 @@ pub const REFUSED_DIGESTS: [(&[u8], &[u8], Fault); 13] = [
     (&[9; 63], &pre_hash::SHA2_512, Fault::DigestLength),
 ];
 
-/// Each error of `check_pre_hash` by itself and in its order; digests of 0, 31, 33, 1024 and 1025 bytes; identifiers of 3,
-/// 129 and 130 bytes.
+/// Each error of `check_pre_hash` by itself and in its order; digests of 0, 31, 33, 1024 and 1025 bytes; identifiers of
+/// 3, 129 and 130 bytes.
 #[test]
 fn digests_that_are_refused(rt: HostRuntime) {
     for (digest, identifier, fault) in REFUSED_DIGESTS {

@@ -51,8 +51,7 @@ fn are_framed<S: TestSet>() -> Result<[bool; 4], Fault> {
     ])
 }
 
-/// The framed message `00 02 61 62 63`, and the 47 bytes of a framed digest, by the hooks over the counter
-/// streams.
+/// The framed message `00 02 61 62 63`, and the 47 bytes of a framed digest, by the hooks over the counter streams.
 #[test]
 fn hooks_take_framed_messages(rt: HostRuntime) {
     assert_eq!(rt; are_framed::<KG<Sha256Ctr, Sha512Ctr>>(), Ok([true; 4]));

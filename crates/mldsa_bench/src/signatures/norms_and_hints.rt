@@ -36,8 +36,7 @@ pub fn accepted<S: TestSet>(signature: &S::Signature) -> Result<[bool; 2], Fault
     ])
 }
 
-/// The first field of z: 78 is rejected, 79 and 262065 accepted, 262066 rejected, by plain and prepared
-/// public keys.
+/// The first field of z: 78 is rejected, 79 and 262065 accepted, 262066 rejected, by plain and prepared public keys.
 #[test]
 fn range_of_z(rt: HostRuntime) {
     for (field, yes) in [(78, false), (79, true), (262065, true), (262066, false)] {
