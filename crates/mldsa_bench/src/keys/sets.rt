@@ -203,6 +203,12 @@ pub trait TestSet {
     /// Prepared keys.
     type Prepared: Keys<Self::Signature> + Drop;
 
+    /// A prepared public key.
+    type PreparedPublic: Drop;
+
+    /// A prepared private key.
+    type PreparedPrivate: Drop;
+
     /// The keys and the signature over constant streams, of their bytes.
     fn constant() -> Result<(Self::Plain, Self::Signature), Fault>;
 
@@ -224,8 +230,13 @@ pub trait TestSet {
     /// Both keys with their matrix.
     fn prepared(keys: &Self::Plain) -> Result<Self::Prepared, Fault>;
 
-    /// The refusals to prepare the public key and the private key.
-    fn prepare_faults(keys: &Self::Plain) -> [Option<Fault>; 2];
+    /// The public key and the private key with their matrix, or the refusal of each.
+    fn prepared_parts(
+        keys: &Self::Plain,
+    ) -> (
+        Result<Self::PreparedPublic, Fault>,
+        Result<Self::PreparedPrivate, Fault>,
+    );
 
     /// Signs the first messages under a context, with one call: as many as `answers` has room for, at most five.
     fn sign_each(keys: &Self::Prepared, ctx: &[u8], answers: &mut [Result<Self::Signature, Fault>]);
@@ -271,6 +282,10 @@ where
 
     type Prepared = Prepared<K, L, H>;
 
+    type PreparedPublic = PreparedPublicKey<K, L, H>;
+
+    type PreparedPrivate = PreparedPrivateKey<K, L, H>;
+
     fn constant() -> Result<(Plain<K, L, H, G>, [u8; SIG_LEN]), Fault> {
         let (public, private, signature) = S::recorded();
         let public = PublicKey::<K, L, H, G>::try_from_bytes(public)?;
@@ -315,8 +330,13 @@ where
         Ok((keys.0.prepare()?, keys.1.prepare()?))
     }
 
-    fn prepare_faults(keys: &Plain<K, L, H, G>) -> [Option<Fault>; 2] {
-        [keys.0.prepare().err(), keys.1.prepare().err()]
+    fn prepared_parts(
+        keys: &Plain<K, L, H, G>,
+    ) -> (
+        Result<PreparedPublicKey<K, L, H>, Fault>,
+        Result<PreparedPrivateKey<K, L, H>, Fault>,
+    ) {
+        (keys.0.prepare(), keys.1.prepare())
     }
 
     fn sign_each(

@@ -59,7 +59,8 @@ fn answers<S: TestSet>(seed: &[u8; 32]) -> Result<Answers, Fault> {
             Err(fault) => [Err(fault); 2],
         },
     ];
-    let refusals = S::prepare_faults(&keys);
+    let (public, private) = S::prepared_parts(&keys);
+    let refusals = [public.err(), private.err()];
     let read = [
         S::is_constant(S::pair(seed)),
         S::derives_constant(&keys),
