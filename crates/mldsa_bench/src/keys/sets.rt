@@ -52,59 +52,83 @@ type Prepared<const K: usize, const L: usize, H> = (
     PreparedPrivateKey<K, L, H>,
 );
 
-// Plain keys and prepared ones have the same calls.
-macro_rules! keys {
-    ($keys:ty, $($streams:ident),*) => {
-        impl<
-            S,
-            const K: usize,
-            const L: usize,
-            const N: usize,
-            const SIG_LEN: usize,
-            $($streams: Xof),*
-        > Keys<[u8; SIG_LEN]> for $keys
-        where
-            Matrix<K, L>: HasSet<Set = S>,
-            S: Set<Commitment = [u8; N], Signature = [u8; SIG_LEN]>
-                + SignatureSizes<K, L, N, SIG_LEN>,
-        {
-            fn seeded(&self, seed: &[u8; 32], text: &Text) -> Result<[u8; SIG_LEN], Fault> {
-                match *text {
-                    Text::Message(message, ctx) => self.1.try_sign_with_seed(seed, message, ctx),
-                    Text::Digest(hash, ctx, oid) => self.1.try_hash_sign_with_seed(seed, hash, ctx, oid),
-                    _ => self.drawn(&mut DummyRng { bytes: *seed }, true, text),
-                }
-            }
-
-            fn drawn<R: CryptoRngCore>(
-                &self,
-                rng: &mut R,
-                hedged: bool,
-                text: &Text,
-            ) -> Result<[u8; SIG_LEN], Fault> {
-                match *text {
-                    Text::Message(message, ctx) => self.1.try_sign_with_rng(rng, message, ctx),
-                    Text::Digest(hash, ctx, oid) => self.1.try_hash_sign_with_rng(rng, hash, ctx, oid),
-                    Text::Framed(m) => self.1.sign_internal(rng, m, hedged),
-                    Text::Hash(mu) => self.1.sign_mu(rng, mu, hedged),
-                }
-            }
-
-            fn accepts(&self, text: &Text, signature: &[u8; SIG_LEN]) -> bool {
-                match *text {
-                    Text::Message(message, ctx) => self.0.verify(message, signature, ctx),
-                    Text::Digest(hash, ctx, oid) => self.0.hash_verify(hash, signature, ctx, oid),
-                    Text::Framed(m) => self.0.verify_internal(m, signature),
-                    Text::Hash(mu) => self.0.verify_mu(mu, signature),
-                }
-            }
+impl<S, const K: usize, const L: usize, const N: usize, const SIG_LEN: usize, H: Xof, G: Xof> Keys<
+    [u8; SIG_LEN],
+> for (PublicKey<K, L, H, G>, PrivateKey<K, L, H, G>)
+where
+    Matrix<K, L>: HasSet<Set = S>,
+    S: Set<Commitment = [u8; N], Signature = [u8; SIG_LEN]> + SignatureSizes<K, L, N, SIG_LEN>,
+{
+    fn seeded(&self, seed: &[u8; 32], text: &Text) -> Result<[u8; SIG_LEN], Fault> {
+        match *text {
+            Text::Message(message, ctx) => self.1.try_sign_with_seed(seed, message, ctx),
+            Text::Digest(hash, ctx, oid) => { self.1.try_hash_sign_with_seed(seed, hash, ctx, oid) }
+            _ => self.drawn(&mut DummyRng { bytes: *seed }, true, text),
         }
-    };
+    }
+
+    fn drawn<R: CryptoRngCore>(
+        &self,
+        rng: &mut R,
+        hedged: bool,
+        text: &Text,
+    ) -> Result<[u8; SIG_LEN], Fault> {
+        match *text {
+            Text::Message(message, ctx) => self.1.try_sign_with_rng(rng, message, ctx),
+            Text::Digest(hash, ctx, oid) => self.1.try_hash_sign_with_rng(rng, hash, ctx, oid),
+            Text::Framed(m) => self.1.sign_internal(rng, m, hedged),
+            Text::Hash(mu) => self.1.sign_mu(rng, mu, hedged),
+        }
+    }
+
+    fn accepts(&self, text: &Text, signature: &[u8; SIG_LEN]) -> bool {
+        match *text {
+            Text::Message(message, ctx) => self.0.verify(message, signature, ctx),
+            Text::Digest(hash, ctx, oid) => self.0.hash_verify(hash, signature, ctx, oid),
+            Text::Framed(m) => self.0.verify_internal(m, signature),
+            Text::Hash(mu) => self.0.verify_mu(mu, signature),
+        }
+    }
 }
 
-keys!((PublicKey<K, L, H, G>, PrivateKey<K, L, H, G>), H, G);
+impl<S, const K: usize, const L: usize, const N: usize, const SIG_LEN: usize, H: Xof> Keys<
+    [u8; SIG_LEN],
+> for (PreparedPublicKey<K, L, H>, PreparedPrivateKey<K, L, H>)
+where
+    Matrix<K, L>: HasSet<Set = S>,
+    S: Set<Commitment = [u8; N], Signature = [u8; SIG_LEN]> + SignatureSizes<K, L, N, SIG_LEN>,
+{
+    fn seeded(&self, seed: &[u8; 32], text: &Text) -> Result<[u8; SIG_LEN], Fault> {
+        match *text {
+            Text::Message(message, ctx) => self.1.try_sign_with_seed(seed, message, ctx),
+            Text::Digest(hash, ctx, oid) => { self.1.try_hash_sign_with_seed(seed, hash, ctx, oid) }
+            _ => self.drawn(&mut DummyRng { bytes: *seed }, true, text),
+        }
+    }
 
-keys!((PreparedPublicKey<K, L, H>, PreparedPrivateKey<K, L, H>), H);
+    fn drawn<R: CryptoRngCore>(
+        &self,
+        rng: &mut R,
+        hedged: bool,
+        text: &Text,
+    ) -> Result<[u8; SIG_LEN], Fault> {
+        match *text {
+            Text::Message(message, ctx) => self.1.try_sign_with_rng(rng, message, ctx),
+            Text::Digest(hash, ctx, oid) => self.1.try_hash_sign_with_rng(rng, hash, ctx, oid),
+            Text::Framed(m) => self.1.sign_internal(rng, m, hedged),
+            Text::Hash(mu) => self.1.sign_mu(rng, mu, hedged),
+        }
+    }
+
+    fn accepts(&self, text: &Text, signature: &[u8; SIG_LEN]) -> bool {
+        match *text {
+            Text::Message(message, ctx) => self.0.verify(message, signature, ctx),
+            Text::Digest(hash, ctx, oid) => self.0.hash_verify(hash, signature, ctx, oid),
+            Text::Framed(m) => self.0.verify_internal(m, signature),
+            Text::Hash(mu) => self.0.verify_mu(mu, signature),
+        }
+    }
+}
 
 /// The calls that make a pair from what a generator returns.
 #[derive(Clone, Copy)]
