@@ -1,4 +1,4 @@
-//! Tests of the library and of the program on values from outside.
+//! Tests of the library on values from outside; recorded bytes; and the code of the pages for users.
 #![tactic(auto)]
 
 #[cfg(test)]
@@ -8,10 +8,7 @@ pub mod callers;
 mod keys;
 pub mod pages;
 #[cfg(test)]
-mod program;
-#[cfg(test)]
 mod signatures;
 #[cfg(test)]
 mod streams;
-#[cfg(test)]
-mod values;
+pub mod values;

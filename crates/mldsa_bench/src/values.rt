@@ -5,7 +5,6 @@ pub mod constant_streams;
 pub mod counter_44;
 pub mod counter_65;
 pub mod counter_87;
-pub mod rust_crate;
 
 ghost use Rattle.std.specs.Prelude.{◌<◌};
 

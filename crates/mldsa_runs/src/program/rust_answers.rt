@@ -3,8 +3,8 @@
 
 use crate::program::devices::WHOLE;
 use crate::program::runs::run_of;
+use crate::program::rust_crate::{ANSWERS_44, ANSWERS_65, ANSWERS_87};
 use crate::program::texts::parted;
-use crate::values::rust_crate::{ANSWERS_44, ANSWERS_65, ANSWERS_87};
 use mldsa_engine::process::status;
 use sha2::{Digest, Sha256};
 use std::alloc::{AllocError, Global};

@@ -10,4 +10,5 @@ pub mod judged_lines;
 pub mod process;
 pub mod runs;
 pub mod rust_answers;
+pub mod rust_crate;
 pub mod texts;

@@ -1,8 +1,8 @@
 //! Inputs and outputs, spelt with words for recorded bytes.
 #![tactic(auto)]
 
-use crate::values::RECORDED;
-use crate::values::constant_streams::{
+use mldsa_bench::values::RECORDED;
+use mldsa_bench::values::constant_streams::{
     private_44, private_65, private_87, public_44, public_65, public_87, signature_44,
     signature_44_of_least_coefficient, signature_65, signature_87,
 };
