@@ -11,15 +11,6 @@ use Rattle.mldsa_engine.proofs.LinesInSequence.{AllFit-length}
 use Rattle.mldsa_engine.specs.ProgramText.{wanted_lines, input_lines, entry_lines, two_bytes, Answers, Executes}
 use Rattle.mldsa_engine.specs.InnerSteps.{AllFit, JudgesByKey}
 
--- every command but a batch wants the same lines of every input
-whole_lines : (task : Task) (p : ParameterSet) (given : Option (List ℕ)) → ¬ (task ≡ Batch) → wanted_lines task p ≡ input_lines task p given
-whole_lines Id p given other = refl
-whole_lines Keygen p given other = refl
-whole_lines Sign p given other = refl
-whole_lines Verify p given other = refl
-whole_lines Check p given other = refl
-whole_lines Batch p given other = absurd (other refl)
-
 -- one line is wanted, so the first is all of them
 one_counted : {V : Type 0} (items : V → List ℕ) (w : Option ℕ) (lines : List V) (first : V)
     → AllFit (w ∷ []) (map items lines) → first ≡ get_or lines 0 first → map items lines ≡ items first ∷ []
@@ -38,17 +29,17 @@ three_counted items w x y (a ∷ b ∷ []) first second third fit p0 p1 p2 = abs
 three_counted items w x y (a ∷ b ∷ c ∷ []) first second third fit p0 p1 p2 = rw (p0, p1, p2) refl
 three_counted items w x y (a ∷ b ∷ c ∷ d ∷ more) first second third fit p0 p1 p2 = absurd fit.1.1.1
 
--- four are wanted, so the first four are all of them
-four_counted : {V : Type 0} (items : V → List ℕ) (w x y z : Option ℕ) (lines : List V) (first second third fourth : V)
-    → AllFit (w ∷ x ∷ y ∷ z ∷ []) (map items lines)
-    → first ≡ get_or lines 0 first → second ≡ get_or lines 1 second → third ≡ get_or lines 2 third → fourth ≡ get_or lines 3 fourth
-    → map items lines ≡ items first ∷ items second ∷ items third ∷ items fourth ∷ []
-four_counted items w x y z [] first second third fourth fit p0 p1 p2 p3 = absurd fit
-four_counted items w x y z (a ∷ []) first second third fourth fit p0 p1 p2 p3 = absurd fit.1
-four_counted items w x y z (a ∷ b ∷ []) first second third fourth fit p0 p1 p2 p3 = absurd fit.1.1
-four_counted items w x y z (a ∷ b ∷ c ∷ []) first second third fourth fit p0 p1 p2 p3 = absurd fit.1.1.1
-four_counted items w x y z (a ∷ b ∷ c ∷ d ∷ []) first second third fourth fit p0 p1 p2 p3 = rw (p0, p1, p2, p3) refl
-four_counted items w x y z (a ∷ b ∷ c ∷ d ∷ e ∷ more) first second third fourth fit p0 p1 p2 p3 = absurd fit.1.1.1.1
+-- four are wanted, so the first four fields are all of them
+four_counted : {V : Type 0} (now : V → List ℕ) (w x y z : Option ℕ) (fields : List V) (other : V)
+    → AllFit (w ∷ x ∷ y ∷ z ∷ []) (map now fields)
+    → map now fields ≡ now (get_or fields 0 other) ∷ now (get_or fields 1 other) ∷ now (get_or fields 2 other)
+    ∷ now (get_or fields 3 other) ∷ []
+four_counted now w x y z [] other fit = absurd fit
+four_counted now w x y z (a ∷ []) other fit = absurd fit.1
+four_counted now w x y z (a ∷ b ∷ []) other fit = absurd fit.1.1
+four_counted now w x y z (a ∷ b ∷ c ∷ []) other fit = absurd fit.1.1.1
+four_counted now w x y z (a ∷ b ∷ c ∷ d ∷ []) other fit = refl
+four_counted now w x y z (a ∷ b ∷ c ∷ d ∷ e ∷ more) other fit = absurd fit.1.1.1.1
 
 -- a command of one line answers, by what it writes for that line's bytes
 pub answers_one : {V W E : Type 0} (items : V → List ℕ) (text : W → List ℕ) (success : W → Bool) (H G : List ℕ → List ℕ) (task : Task)
@@ -60,30 +51,19 @@ answers_one items text success H G task p w R lines first a (Err fault) means fi
 answers_one items text success H G task p w R lines first a (Ok it) means fit p0 e0 told =
     rw (one_counted items w lines first fit p0, ← e0) (means a (text it) (success it) told)
 
--- a command of four lines answers, by what it writes for their bytes
-pub answers_four : {V W E : Type 0} (items : V → List ℕ) (text : W → List ℕ) (success : W → Bool) (H G : List ℕ → List ℕ) (task : Task)
+-- a command of four lines answers, by what it writes for the fields that have their bytes
+pub answers_four : {V W E : Type 0} (now : V → List ℕ) (text : W → List ℕ) (success : W → Bool) (H G : List ℕ → List ℕ) (task : Task)
     (p : ParameterSet) (w x y z : Option ℕ) (R : List ℕ → List ℕ → List ℕ → List ℕ → List ℕ → Bool → Type 0)
-    (lines : List V) (first second third fourth : V) (a b c d : List ℕ) (result : Result W E)
+    (lines : List (List ℕ)) (fields : List V) (other : V) (a b : List ℕ) (result : Result W E)
     → ((a b c d output : List ℕ) (answer : Bool) → R a b c d output answer → Answers H G task p (a ∷ b ∷ c ∷ d ∷ []) output answer)
-    → AllFit (w ∷ x ∷ y ∷ z ∷ []) (map items lines)
-    → first ≡ get_or lines 0 first → second ≡ get_or lines 1 second → third ≡ get_or lines 2 third → fourth ≡ get_or lines 3 fourth
-    → a ≡ items first → b ≡ items second → c ≡ items third → d ≡ items fourth
-    → IfOk result (λ it. R a b c d (text it) (success it)) → IfOk result (λ it. Answers H G task p (map items lines) (text it) (success it))
-answers_four items text success H G task p w x y z R lines first second third fourth a b c d
-    (Err fault) means fit p0 p1 p2 p3 e0 e1 e2 e3 told = told
-answers_four items text success H G task p w x y z R lines first second third fourth a b c d
-    (Ok it) means fit p0 p1 p2 p3 e0 e1 e2 e3 told =
-    rw (four_counted items w x y z lines first second third fourth fit p0 p1 p2 p3, ← e0, ← e1, ← e2, ← e3)
-    (means a b c d (text it) (success it) told)
-
--- a command that wants no lines but its first was carried out, by its answer to them
-pub executes_whole : {W E : Type 0} (text : W → List ℕ) (success : W → Bool) (H G : List ℕ → List ℕ) (task : Task) (p : ParameterSet)
-    (given left : Option (List ℕ)) (lines : List (List ℕ)) (result : Result W E) → ¬ (task ≡ Batch)
-    → TakesLines 1 (wanted_lines task p) given left lines → IfOk result (λ it. Answers H G task p lines (text it) (success it))
-    → IfOk result (λ it. Executes H G task p given left (text it) (success it))
-executes_whole text success H G task p given left lines (Err fault) other taken told = told
-executes_whole text success H G task p given left lines (Ok it) other taken told =
-    (lines, subst (λ l. TakesLines 1 l given left lines) (whole_lines task p given other) taken, told)
+    → AllFit (w ∷ x ∷ y ∷ z ∷ []) lines → map now fields ≡ lines
+    → a ≡ now (get_or fields 0 other) → b ≡ now (get_or fields 1 other)
+    → IfOk result (λ it. R a b (now (get_or fields 2 other)) (now (get_or fields 3 other)) (text it) (success it))
+    → IfOk result (λ it. Answers H G task p lines (text it) (success it))
+answers_four now text success H G task p w x y z R lines fields other a b (Err fault) means fit is first second told = told
+answers_four now text success H G task p w x y z R lines fields other a b (Ok it) means fit is first second told =
+    let whole = four_counted now w x y z fields other (rw is fit) in
+    rw (← is, whole, ← first, ← second) (means a b _ _ (text it) (success it) told)
 
 -- a batch was carried out, by what was told of its entries
 pub executes_batch : {V W E : Type 0} (items : V → List ℕ) (text : W → List ℕ) (success : W → Bool) (H G : List ℕ → List ℕ)

@@ -131,25 +131,18 @@ where
         match task {
             Task::Id => Self::identify(alloc, lines[0].as_slice()),
             Task::Keygen => Self::make_keys(alloc, &array_of(lines[0].as_slice())),
-            Task::Sign => Self::sign(
-                alloc,
-                lines[0].as_slice(),
-                &array_of(lines[1].as_slice()),
-                lines[2].as_slice(),
-                lines[3].as_slice(),
-            ),
+            Task::Sign => {
+                let [key, seed, context, message] = fields(lines);
+                Self::sign(alloc, key, &array_of(seed), context, message)
+            }
             Task::Verify => {
-                let (key, signature) = (lines[0].as_slice(), lines[1].as_slice());
-                let (context, message) = (lines[2].as_slice(), lines[3].as_slice());
+                let [key, signature, context, message] = fields(lines);
                 tell(alloc, Self::accepts(key, signature, context, message))
             }
-            Task::Check => Self::check(
-                alloc,
-                &array_of(lines[0].as_slice()),
-                &array_of(lines[1].as_slice()),
-                lines[2].as_slice(),
-                lines[3].as_slice(),
-            ),
+            Task::Check => {
+                let [xi, rnd, context, message] = fields(lines);
+                Self::check(alloc, &array_of(xi), &array_of(rnd), context, message)
+            }
             Task::Batch => unreachable!(),
         }
     }
@@ -335,6 +328,19 @@ where
             Err(_) => false,
         }
     }
+}
+
+/// The bytes of each of four lines.
+fn fields(lines: &[Vec<u8>]) -> [&[u8]; 4]
+    requires { length lines.now ≡ 4 }
+    ensures { map (λ field. field.now) result ≡ map (λ line. line.items) lines.now }
+{
+    [
+        lines[0].as_slice(),
+        lines[1].as_slice(),
+        lines[2].as_slice(),
+        lines[3].as_slice(),
+    ]
 }
 
 /// The number that two bytes spell, the high byte first.

@@ -25,35 +25,27 @@ returns-in-Keygen-clause-given g c =
 
 pub returns-in-Sign-clause-given : goal.returns-in-Sign-clause-given
 returns-in-Sign-clause-given g c =
+    let p = g.S.Set.set in
     let fit = rw c.in-Sign.is at c.requires.fit in
-    rw c.in-Sign.is (answers_four (λ line. line.items) (λ output. output.text.items)
-    (λ output. output.success) g.H.Xof.front g.G.Xof.front Sign g.S.Set.set (Some (private_key_length g.S.Set.set)) (Some 32) None None
-    (Signs g.S.Set.set g.H.Xof.front g.G.Xof.front) c.args.lines.now _ _ _ _ _ _ _ _ _
-    (λ x y z w output answer told. (x, y, z, w, refl, told)) fit
-    c.index-lines-0-in-Sign.is c.index-lines-1.is c.index-lines-2.is c.index-lines-3.is
-    c.as_slice-in-Sign.ensures.value (c.array_of-in-Sign.ensures ∙ c.as_slice-in-Sign-2.ensures.value) c.as_slice-in-Sign-3.ensures.value
-    c.as_slice-in-Sign-4.ensures.value c.sign.ensures.given)
+    rw c.in-Sign.is (answers_four (λ field. field.now) (λ output. output.text.items) (λ output. output.success) g.H.Xof.front g.G.Xof.front
+    Sign p (Some (private_key_length p)) (Some 32) None None (Signs p g.H.Xof.front g.G.Xof.front) _ c.fields.result _ _ _ _
+    (λ x y z w output answer told. (x, y, z, w, refl, told)) fit c.fields.ensures refl c.array_of-in-Sign.ensures c.sign.ensures.given)
 
 pub returns-in-Verify-clause-given : goal.returns-in-Verify-clause-given
 returns-in-Verify-clause-given g c =
-    let fit = rw c.in-Verify.is at c.requires.fit in
     let p = g.S.Set.set in
-    rw c.in-Verify.is (answers_four (λ line. line.items) (λ output. output.text.items)
-    (λ output. output.success) g.H.Xof.front g.G.Xof.front Verify p (Some (public_key_length p)) (Some (signature_length p)) None None
-    (Judges p g.H.Xof.front g.G.Xof.front) c.args.lines.now _ _ _ _ _ _ _ _ _ (λ x y z w output answer told. (x, y, z, w, refl, told)) fit
-    c.index-lines-0-in-Verify.is c.index-lines-1-in-Verify.is c.index-lines-2-in-Verify.is c.index-lines-3-in-Verify.is
-    c.as_slice-key.ensures.value c.as_slice-signature.ensures.value c.as_slice-context.ensures.value c.as_slice-message.ensures.value
+    let fit = rw c.in-Verify.is at c.requires.fit in
+    rw c.in-Verify.is (answers_four (λ field. field.now) (λ output. output.text.items) (λ output. output.success) g.H.Xof.front
+    g.G.Xof.front Verify p (Some (public_key_length p)) (Some (signature_length p)) None None (Judges p g.H.Xof.front g.G.Xof.front) _
+    c.fields-in-Verify.result _ _ _ _ (λ x y z w output answer told. (x, y, z, w, refl, told)) fit c.fields-in-Verify.ensures refl refl
     (judges_told (λ output. output.text.items) (λ output. output.success) p _ _ _ _ _ _ c.accepts.result _ c.accepts.ensures
     c.tell.ensures.given))
 
 pub returns-in-Check-clause-given : goal.returns-in-Check-clause-given
 returns-in-Check-clause-given g c =
+    let p = g.S.Set.set in
     let fit = rw c.in-Check.is at c.requires.fit in
-    rw c.in-Check.is (answers_four (λ line. line.items) (λ output. output.text.items)
-    (λ output. output.success) g.H.Xof.front g.G.Xof.front Check g.S.Set.set (Some 32) (Some 32) None None
-    (Checks g.S.Set.set g.H.Xof.front g.G.Xof.front) c.args.lines.now _ _ _ _ _ _ _ _ _
-    (λ x y z w output answer told. (x, y, z, w, refl, told)) fit
-    c.index-lines-0-in-Check.is c.index-lines-1-in-Check.is c.index-lines-2-in-Check.is c.index-lines-3-in-Check.is
-    (c.array_of-in-Check.ensures ∙ c.as_slice-in-Check.ensures.value)
-    (c.array_of-in-Check-2.ensures ∙ c.as_slice-in-Check-2.ensures.value) c.as_slice-in-Check-3.ensures.value
-    c.as_slice-in-Check-4.ensures.value c.check.ensures.given)
+    rw c.in-Check.is (answers_four (λ field. field.now) (λ output. output.text.items) (λ output. output.success) g.H.Xof.front
+    g.G.Xof.front Check p (Some 32) (Some 32) None None (Checks p g.H.Xof.front g.G.Xof.front) _ c.fields-in-Check.result _ _ _ _
+    (λ x y z w output answer told. (x, y, z, w, refl, told)) fit c.fields-in-Check.ensures c.array_of-in-Check.ensures
+    c.array_of-in-Check-2.ensures c.check.ensures.given)
