@@ -1,10 +1,11 @@
 //! Generators over a source and over a generator of the kit.
 #![tactic(auto)]
 
+use super::{Owner, pair};
 use crate::pages::generators::{FromGenerator, FromSource};
-use fips204::ml_dsa_44::KG;
-use fips204::traits::{KeyGen, Signer, Verifier};
-use fips204::xof::{Sha256Ctr, Sha512Ctr};
+use fips204::Fault;
+use fips204::ml_dsa_44::SIG_LEN;
+use fips204::traits::{CryptoRngCore, Signer, Verifier};
 use rand_core::{TryCryptoRng, TryRng};
 use std::io;
 use std::random::RandomSource;
@@ -50,42 +51,49 @@ impl TryRng for Constant {
 
 impl TryCryptoRng for Constant {}
 
+/// The signature with random bytes of a generator.
+fn drawn<R: CryptoRngCore>(owner: &Owner, rng: &mut R) -> Result<[u8; SIG_LEN], Fault> {
+    owner.try_sign_with_rng(rng, b"a message", b"test")
+}
+
+/// The signature with random bytes 03.
+fn seeded(owner: &Owner) -> Result<[u8; SIG_LEN], Fault> {
+    owner.try_sign_with_seed(&[3; 32], b"a message", b"test")
+}
+
 /// A generator over a source of the kit signs as the call with the bytes that the source returned.
 #[test]
 fn a_source_that_gives(rt: HostRuntime) -> Result<(), Fail> {
-    let (public, private) = KG::<Sha256Ctr, Sha512Ctr>::keygen_from_seed(&[7; 32])?;
+    let (public, private) = pair(7)?;
     let mut rng = FromSource {
         source: Constant { byte: Some(3) },
     };
-    let signature = private.try_sign_with_rng(&mut rng, b"a message", b"test")?;
+    let signature = drawn(&private, &mut rng)?;
     assert!(rt; public.verify(b"a message", &signature, b"test"));
-    assert!(rt; signature == private.try_sign_with_seed(&[3; 32], b"a message", b"test")?);
+    assert!(rt; seeded(&private) == Ok(signature));
     Ok(())
 }
 
 /// A source that reports an error: `SignRng`.
 #[test]
 fn a_source_that_refuses(rt: HostRuntime) -> Result<(), Fail> {
-    let (_, private) = KG::<Sha256Ctr, Sha512Ctr>::keygen_from_seed(&[7; 32])?;
+    let (_, private) = pair(7)?;
     let mut rng = FromSource {
         source: Constant { byte: None },
     };
-    let answer = private.try_sign_with_rng(&mut rng, b"a message", b"test");
-    assert!(rt; answer == Err(fips204::Fault::SignRng));
+    assert!(rt; drawn(&private, &mut rng) == Err(Fault::SignRng));
     Ok(())
 }
 
 /// A generator of the kit signs as the call with the bytes that it gave, and where it reports an error: `SignRng`.
 #[test]
 fn a_generator_of_the_kit(rt: HostRuntime) -> Result<(), Fail> {
-    let (_, private) = KG::<Sha256Ctr, Sha512Ctr>::keygen_from_seed(&[7; 32])?;
+    let (_, private) = pair(7)?;
     let mut rng = FromGenerator {
         generator: Constant { byte: Some(3) },
     };
-    let signature = private.try_sign_with_rng(&mut rng, b"a message", b"test")?;
-    assert!(rt; signature == private.try_sign_with_seed(&[3; 32], b"a message", b"test")?);
+    assert!(rt; drawn(&private, &mut rng)? == seeded(&private)?);
     rng.generator.byte = None;
-    let answer = private.try_sign_with_rng(&mut rng, b"a message", b"test");
-    assert!(rt; answer == Err(fips204::Fault::SignRng));
+    assert!(rt; drawn(&private, &mut rng) == Err(Fault::SignRng));
     Ok(())
 }
