@@ -15,15 +15,11 @@ use fips204::types::R;
 /// eta 2 and 8 at eta 4, but not 15 and 9.
 #[test]
 fn coefficients_of_bytes(rt: HostRuntime) {
-    for (bytes, coefficient) in [
-        ([0x12, 0x34, 0x56], Some(5649426)),
-        ([0x12, 0x34, 0x80], Some(13330)),
-        ([0x01, 0xe0, 0x80], Some(57345)),
-        ([0x01, 0xe0, 0x7f], None),
-        ([0x00, 0xe0, 0x7f], Some(8380416)),
-    ] {
-        assert!(rt; coeff_from_three_bytes(bytes) == coefficient);
-    }
+    assert!(rt; coeff_from_three_bytes([0x12, 0x34, 0x56]) == Some(5649426));
+    assert!(rt; coeff_from_three_bytes([0x12, 0x34, 0x80]) == Some(13330));
+    assert!(rt; coeff_from_three_bytes([0x01, 0xe0, 0x80]) == Some(57345));
+    assert!(rt; coeff_from_three_bytes([0x01, 0xe0, 0x7f]) == None);
+    assert!(rt; coeff_from_three_bytes([0x00, 0xe0, 0x7f]) == Some(8380416));
     assert!(rt; coeff_from_half_byte(2, 3) == Some(-1));
     assert!(rt; coeff_from_half_byte(2, 15) == None);
     assert!(rt; coeff_from_half_byte(4, 8) == Some(-4));
@@ -42,18 +38,16 @@ pub fn reduced(wide: i64) -> i32 {
 /// `mont_reduce` at 0, 1, 2^32 and both ends of its range; the table of powers begins with 4193792, 25847, 5771523.
 #[test]
 fn montgomery_reductions(rt: HostRuntime) {
-    assert!(rt; reduced(0) == 0);
-    assert!(rt; reduced(1) == -114592);
-    assert!(rt; reduced(4294967296) == 1);
-    assert!(rt; reduced(-17996808470921216) == 0);
-    assert!(rt; reduced(17996808462540799) == 0);
+    let numbers = [0, 1, 4294967296, -17996808470921216, 17996808462540799];
+    assert_eq!(rt; numbers.map(reduced), [0, -114592, 1, 0, 0]);
     assert!(rt; ZETA_TABLE_MONT.starts_with(&[4193792, 25847, 5771523]));
 }
 
 /// Centring at both ends of its range; hints at 0 wrap to 43 and 15, and 190465 and 523777 are the largest distances
-/// that a hint leaves.
+/// that a hint leaves. `decompose` on both sides of q - 1 less gamma2; `make_hint` of 95232, the largest change for
+/// which a hint is promised, and of 95233.
 #[test]
-fn centred_values(rt: HostRuntime) {
+fn centred_values_and_hints(rt: HostRuntime) {
     assert!(rt; center_mod(0) == 0);
     assert!(rt; center_mod(4190208) == 4190208);
     assert!(rt; center_mod(4190209) == -4190208);
@@ -62,12 +56,6 @@ fn centred_values(rt: HostRuntime) {
     assert!(rt; use_hint(261888, 1, 0) == 15);
     assert!(rt; center_mod(0 - 43 * 190464) == 190465);
     assert!(rt; center_mod(0 - 15 * 523776) == 523777);
-}
-
-/// `decompose` on both sides of q - 1 less gamma2; `make_hint` of 95232, the largest change for which a hint is
-/// promised, and of 95233.
-#[test]
-fn high_bits_and_hints(rt: HostRuntime) {
     assert!(rt; decompose(95232, 8285184) == (43, 95232));
     assert!(rt; decompose(95232, 8285185) == (0, -95232));
     assert!(rt; decompose(261888, 8118529) == (0, -261888));
@@ -77,7 +65,6 @@ fn high_bits_and_hints(rt: HostRuntime) {
     assert!(rt; high_bits(95232, 95233) == 1);
 }
 
-/// Both parts of a polynomial whose coefficients are all the same.
 fn parts_of(coefficients: [i32; 256]) -> ([i32; 256], [i32; 256])
     requires { All (λ x. (pos 0 ≤ℤ x) × (x ≤ℤ pos 8380416)) coefficients }
 {

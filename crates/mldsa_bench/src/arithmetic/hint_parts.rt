@@ -3,8 +3,8 @@
 
 ghost use Rattle.std.specs.Prelude.{◌≡◌, ◌<◌, ◌≤◌, ◌+◌, ◌≤ℤ◌, pos, nat_abs, length};
 
-use crate::values::RECORDED;
 use crate::values::constant_streams::{public_44, signature_44};
+use crate::values::recorded;
 use fips204::conversion::{hint_bit_pack, hint_bit_unpack};
 use fips204::encodings::sig_decode;
 use fips204::ml_dsa_44;
@@ -13,7 +13,6 @@ use fips204::types::R;
 use fips204::xof::Fill;
 use std::test::Fail;
 
-/// A public key of set 44 over constant streams.
 type Public44 = ml_dsa_44::PublicKey<Fill<0x55>, Fill<0>>;
 
 /// 18, 12, 15 and 22 places, rising from 0 each time.
@@ -41,32 +40,20 @@ pub fn rising() -> [u8; 80] {
     places
 }
 
-/// How many ones each polynomial of a hint has.
 fn ones_of(hint: &[R; 4]) -> [usize; 4] {
-    let mut ones = [0; 4];
-    for r in 0..4usize {
-        for x in &hint[r].0 {
-            ones[r] = usize::from(*x == 1).wrapping_add(ones[r]);
-        }
-    }
-    ones
+    hint.map(|w| w.0.iter().filter(|x| **x == 1).count())
 }
 
-/// Whether a part with these places and counts spells a hint with so many ones and is packed again as it was, or,
-/// where none are given, spells none.
-fn is_read(places: &[u8], counts: [u8; 4], ones: Option<[usize; 4]>) -> bool {
-    let part = part_of(places, counts);
-    let hint = hint_bit_unpack::<4>(80, &part);
-    let mut again = part;
-    if let Some(hint) = &hint {
-        again = [0xff; 84];
-        hint_bit_pack(80, hint, &mut again);
-    }
-    again == part && hint.map(|hint| ones_of(&hint)) == ones
+/// The hint that a part spells, packed again over bytes FF, and how many ones each polynomial has.
+fn read_again(part: &[u8; 84]) -> Option<([u8; 84], [usize; 4])> {
+    let hint = hint_bit_unpack::<4>(80, part)?;
+    let mut again = [0xff; 84];
+    hint_bit_pack(80, &hint, &mut again);
+    Some((again, ones_of(&hint)))
 }
 
-/// Parts of no ones, of 80 ones in one polynomial and of 67 ones spell hints; indices that fall or repeat, indices that
-/// no total covers, a total above 80 and totals that fall spell none.
+/// Parts of no ones, of 80 ones in one polynomial and of 67 ones spell hints, which are packed again as they were;
+/// indices that fall or repeat, indices that no total covers, a total above 80 and totals that fall spell none.
 #[test]
 fn parts_that_spell_hints_or_none(rt: HostRuntime) {
     let mut late = [0u8; 80];
@@ -77,11 +64,7 @@ fn parts_that_spell_hints_or_none(rt: HostRuntime) {
         (&[0x05, 0x00, 0xff], [1, 1, 3, 3], Some([1, 0, 2, 0])),
         (&rising(), [80, 80, 80, 80], Some([80, 0, 0, 0])),
         (&[0xff, 0x00], [1, 2, 2, 2], Some([1, 1, 0, 0])),
-        (
-            &MANY_PLACES,
-            [0x12, 0x1e, 0x2d, 0x43],
-            Some([18, 12, 15, 22]),
-        ),
+        (&MANY_PLACES, [18, 30, 45, 67], Some([18, 12, 15, 22])),
         (&[0x05, 0xff, 0x00], [1, 1, 3, 3], None),
         (&[0x01], [0, 0, 0, 0], None),
         (&late, [0, 0, 0, 0], None),
@@ -89,11 +72,20 @@ fn parts_that_spell_hints_or_none(rt: HostRuntime) {
         (&[0x05, 0x05], [2, 2, 2, 2], None),
         (&[0x01, 0x02], [2, 1, 2, 2], None),
     ] {
-        assert!(rt; is_read(places, counts, ones), "counts {counts:?}");
+        let part = part_of(places, counts);
+        let wanted = ones.map(|ones| (part, ones));
+        assert!(rt; read_again(&part) == wanted, "counts {counts:?}");
     }
 }
 
-/// The hint with a one at index 5 of polynomial 0 and at both ends of polynomial 2.
+#[tactic(auto, unfolding(fips204_base::specs::Packing::bit_length))]
+fn ones_in(signature: &[u8; 2420]) -> Option<[usize; 4]> {
+    let (_, _, hint) = sig_decode::<4, 4, 32, 2420>(131072, 80, signature)?;
+    Some(ones_of(&hint))
+}
+
+/// The hint with a one at index 5 of polynomial 0 and at both ends of polynomial 2. The hints of two signatures of set
+/// 44, by `sig_decode`: totals `16 22 36 48`, as recorded, and `12 1E 2D 43`.
 #[test]
 fn ones_and_their_places(rt: HostRuntime) -> Result<(), Fail> {
     let part = part_of(&[0x05, 0x00, 0xff], [1, 1, 3, 3]);
@@ -103,24 +95,11 @@ fn ones_and_their_places(rt: HostRuntime) -> Result<(), Fail> {
     wanted[2][0] = 1;
     wanted[2][255] = 1;
     assert!(rt; hint.map(|w| w.0) == wanted);
-    Ok(())
-}
-
-/// How many ones each polynomial of the hint in a signature of set 44 has.
-#[tactic(auto, unfolding(fips204_base::specs::Packing::bit_length))]
-fn ones_in(signature: &[u8; 2420]) -> Option<[usize; 4]> {
-    let (_, _, hint) = sig_decode::<4, 4, 32, 2420>(131072, 80, signature)?;
-    Some(ones_of(&hint))
-}
-
-/// The hints of two signatures of set 44, by `sig_decode`: totals `16 22 36 48`, as recorded, and `12 1E 2D 43`.
-#[test]
-fn hints_in_signatures(rt: HostRuntime) -> Result<(), Fail> {
     let mut signature = [0u8; 2420];
-    hex::decode_to_slice(RECORDED[0][2], &mut signature)?;
+    hex::decode_to_slice(recorded(0)[2], &mut signature)?;
     assert_eq!(rt; ones_in(&signature), Some([22, 12, 20, 18]));
     let mut signature = signature_44();
-    signature[2336..2420].copy_from_slice(&part_of(&MANY_PLACES, [0x12, 0x1e, 0x2d, 0x43]));
+    signature[2336..2420].copy_from_slice(&part_of(&MANY_PLACES, [18, 30, 45, 67]));
     assert_eq!(rt; ones_in(&signature), Some([18, 12, 15, 22]));
     Ok(())
 }
@@ -128,8 +107,7 @@ fn hints_in_signatures(rt: HostRuntime) -> Result<(), Fail> {
 /// The hint that a part spells: the ones that its totals cut off, where the spelling of these is the part. That is
 /// their places, polynomial by polynomial, zeros up to byte omega, and the running totals.
 fn slow_hint<const K: usize>(omega: usize, part: &[u8]) -> Option<[[i32; 256]; K]>
-    requires few { omega + K ≤ 255 }
-    requires room { omega + K ≤ length part.now }
+    requires { (omega + K ≤ 255) × (omega + K ≤ length part.now) }
 {
     let mut hint = [[0i32; 256]; K];
     let mut before = 0usize;
@@ -151,37 +129,25 @@ fn slow_hint<const K: usize>(omega: usize, part: &[u8]) -> Option<[[i32; 256]; K
         }
         spelling[omega + i] = (total % 256) as u8;
     }
-    if &spelling[..omega + K] == part {
-        Some(hint)
-    } else {
-        None
-    }
+    (&spelling[..omega + K] == part).then_some(hint)
 }
 
 /// Whether a part spells a hint; none where the library and the slow decoder answer differently.
 fn spells<const K: usize>(omega: i32, part: &[u8]) -> Option<bool>
-    requires some { pos 1 ≤ℤ omega }
-    requires sizes { nat_abs omega + K < 256 }
-    requires room { length part.now ≡ nat_abs omega + K }
+    requires { (pos 1 ≤ℤ omega) × (nat_abs omega + K < 256) × (length part.now ≡ nat_abs omega + K) }
 {
-    match (
-        hint_bit_unpack::<K>(omega, part),
-        slow_hint::<K>(omega as usize, part),
-    ) {
-        (None, None) => Some(false),
-        (Some(hint), Some(slow)) => {
-            for i in 0..K {
-                if hint[i].0 != slow[i] {
-                    return None;
-                }
+    let hint = hint_bit_unpack::<K>(omega, part);
+    let slow = slow_hint::<K>(omega as usize, part);
+    if let (Some(hint), Some(slow)) = (&hint, &slow) {
+        for i in 0..K {
+            if hint[i].0 != slow[i] {
+                return None;
             }
-            Some(true)
         }
-        _ => None,
     }
+    (hint.is_some() == slow.is_some()).then_some(slow.is_some())
 }
 
-/// Whether a key of set 44 accepts a signature that gets this hint part.
 fn accepts(key: &Public44, signature: &mut [u8; 2420], part: &[u8]) -> bool {
     if part.len() != 84 {
         return false;
@@ -197,9 +163,7 @@ fn spelled_about<const K: usize, const N: usize>(
     part: [u8; N],
     key: Option<&Public44>,
 ) -> Option<usize>
-    requires some { pos 1 ≤ℤ omega }
-    requires sizes { nat_abs omega + K < 256 }
-    requires room { N ≡ nat_abs omega + K }
+    requires { (pos 1 ≤ℤ omega) × (nat_abs omega + K < 256) × (N ≡ nat_abs omega + K) }
 {
     let mut signature = signature_44();
     let mut count = 0usize;
@@ -224,9 +188,7 @@ fn spelled_about<const K: usize, const N: usize>(
 /// How many parts spell a hint about each of three: ones at all the first places of polynomial 0; at place 255 of
 /// polynomial 0 and place 0 of polynomial 1; at place 0 of the last.
 fn sweep<const K: usize, const N: usize>(omega: i32, key: Option<&Public44>) -> [Option<usize>; 3]
-    requires some { pos 1 ≤ℤ omega }
-    requires sizes { nat_abs omega + K < 256 }
-    requires room { N ≡ nat_abs omega + K }
+    requires sizes { (pos 1 ≤ℤ omega) × (nat_abs omega + K < 256) × (N ≡ nat_abs omega + K) }
     requires rows { 1 ≤ K }
 {
     let most = omega as usize;
@@ -245,21 +207,21 @@ fn sweep<const K: usize, const N: usize>(omega: i32, key: Option<&Public44>) -> 
     ]
 }
 
-/// How many parts spell a hint about each of the three.
-const SPELLED: [Option<usize>; 3] = [Some(257), Some(513), Some(258)];
-
 /// Three hint parts of sets 65 and 87, and every part that differs from one of them in one byte, are read as a slow
 /// decoder reads them; 257, 513 and 258 spell a hint.
 #[test]
 fn parts_changed_in_one_byte(rt: HostRuntime) {
-    assert_eq!(rt; sweep::<6, 61>(55, None), SPELLED);
-    assert_eq!(rt; sweep::<8, 83>(75, None), SPELLED);
+    assert_eq!(rt; sweep::<6, 61>(55, None), [Some(257), Some(513), Some(258)]);
+    assert_eq!(rt; sweep::<8, 83>(75, None), [Some(257), Some(513), Some(258)]);
 }
 
 /// The same of set 44; and its signatures with these parts are accepted if and only if the part spells a hint.
 #[test]
 fn signatures_changed_in_one_byte_of_their_hint(rt: HostRuntime) -> Result<(), Fail> {
     let key = Public44::try_from_bytes(public_44())?;
-    assert_eq!(rt; sweep::<4, 84>(80, Some(&key)), SPELLED);
+    assert_eq!(rt;
+        sweep::<4, 84>(80, Some(&key)),
+        [Some(257), Some(513), Some(258)]
+    );
     Ok(())
 }

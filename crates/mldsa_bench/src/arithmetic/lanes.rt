@@ -11,19 +11,13 @@ use fips204::helpers::Count;
 use fips204::ntt::{Lanes, Residue, inv_ntt, ntt};
 use std::test::Fail;
 
-/// Row `n` of eight polynomials, with numbers cut as `within` does.
 fn row(w: &[[i32; 256]; 8], n: usize) -> Lanes
     requires { n < 256 }
     ensures { (j : ℕ) → j < 8 → nat_abs (lane result.lanes j) ≤ 8380416 }
 {
-    let mut entries = [0; 8];
-    for r in 0..8usize {
-        entries[r] = w[r][n];
-    }
-    Lanes::from_array(within(&entries))
+    Lanes::from_array(within(&w.map(|polynomial| polynomial[n])))
 }
 
-/// Eight polynomials, side by side.
 fn side_by_side(w: &[[i32; 256]; 8]) -> [Lanes; 256]
     ensures { LanesWithin (λ x. x.lanes) 8 8380416 result }
 {
@@ -34,14 +28,12 @@ fn side_by_side(w: &[[i32; 256]; 8]) -> [Lanes; 256]
     out
 }
 
-/// The numbers in a lane of rows.
 fn lane_of(rows: &[Lanes; 256], r: usize) -> [i32; 256]
     requires { r < 8 }
 {
     rows.map(|row| row.to_array()[r])
 }
 
-/// The residues of numbers modulo `q`.
 fn residues(w: &[i32; 256]) -> [i32; 256] {
     w.map(|x| x.rem_euclid(Q))
 }
@@ -54,14 +46,13 @@ fn both_ways<V: Residue<Meter = Count>>(w: [V; 256]) -> ([V; 256], [V; 256], boo
 {
     let mut count = Count::new();
     let [hat] = ntt(&[w], &mut count);
-    let once = count.products() == 1024 && count.sums() == 2048;
+    let once = (count.products(), count.sums()) == (1024, 2048);
     let [back] = inv_ntt(&[hat], &mut count);
-    let twice = count.products() == 2048 && count.sums() == 4096;
-    (hat, back, once && twice)
+    let both = once && (count.products(), count.sums()) == (2048, 4096);
+    (hat, back, both)
 }
 
-/// The residues of the transforms of eight polynomials, where each lane is as the transform over `i32`, and the
-/// way back returns the polynomial.
+/// The residues of the transforms of eight polynomials, if each lane is as the one over `i32` and they come back.
 fn transforms(w: &[[i32; 256]; 8]) -> Option<[[i32; 256]; 8]> {
     let (hats, back, mut counted) = both_ways(side_by_side(w));
     let mut out = [[0; 256]; 8];
@@ -71,18 +62,12 @@ fn transforms(w: &[[i32; 256]; 8]) -> Option<[[i32; 256]; 8]> {
         counted = counted && alone && residues(&lane_of(&hats, r)) == out[r];
         counted = counted && lane_of(&back, r) == plain && plain == residues(&w[r]);
     }
-    if counted { Some(out) } else { None }
-}
-
-/// Both ends of `i32`, q - 1, 1 - q and small numbers, as an array, a row of lanes and an array again.
-#[test]
-fn rows_and_arrays(rt: HostRuntime) {
-    let entries = [-2147483648, 2147483647, 0, -1, 1, -8380416, 8380416, 7];
-    assert_eq!(rt; Lanes::from_array(entries).to_array(), entries);
+    counted.then_some(out)
 }
 
 /// The transform of 1 is 1 everywhere, that of X begins with 1753 and 8378664, that of zeros is zero; side by side as
-/// one by one, also for eight polynomials with coefficients from 1 - q to q - 1, and back.
+/// one by one, also for eight polynomials with coefficients from 1 - q to q - 1, and back. Both ends of `i32`, q - 1,
+/// 1 - q and small numbers, as an array, a row of lanes and an array again.
 #[test]
 fn eight_forth_and_back(rt: HostRuntime) -> Result<(), Fail> {
     let mut w = [[0; 256]; 8];
@@ -91,13 +76,10 @@ fn eight_forth_and_back(rt: HostRuntime) -> Result<(), Fail> {
     let hats = transforms(&w).ok_or("not the same")?;
     assert!(rt; hats[0] == [1; 256]);
     assert!(rt; hats[1].starts_with(&[1753, 8378664]));
-    for r in 2..8usize {
-        assert!(rt; hats[r] == [0; 256]);
-    }
-    for r in 0..8usize {
-        w[r] = spread(r as u32);
-    }
-    assert!(rt; transforms(&w).is_some());
+    assert!(rt; hats[2..] == [[0; 256]; 6]);
+    assert!(rt; transforms(&[0, 1, 2, 3, 4, 5, 6, 7].map(spread)).is_some());
+    let entries = [-2147483648, 2147483647, 0, -1, 1, -8380416, 8380416, 7];
+    assert_eq!(rt; Lanes::from_array(entries).to_array(), entries);
     Ok(())
 }
 
@@ -106,19 +88,7 @@ fn eight_forth_and_back(rt: HostRuntime) -> Result<(), Fail> {
 struct Noted(i32);
 
 /// The count of the steps, and the largest absolute value of a sum or a difference.
-#[derive(Drop)]
-struct Notes {
-    count: Count,
-    largest: u32,
-}
-
-/// Notes a sum or a difference.
-fn note(number: i32, largest: &mut u32) -> Noted
-    ensures { result.0 ≡ number }
-{
-    *largest = (*largest).max(number.unsigned_abs());
-    Noted(number)
-}
+type Notes = (Count, u32);
 
 impl Residue for Noted {
     type Meter = Notes;
@@ -127,26 +97,28 @@ impl Residue for Noted {
 
     ghost width = { 1 };
 
-    ghost products = { λ notes. notes.count.products };
+    ghost products = { λ notes. notes.0.products };
 
-    ghost sums = { λ notes. notes.count.sums };
+    ghost sums = { λ notes. notes.0.sums };
 
     fn add(self, other: Noted, meter: &mut Notes) -> Noted {
-        let sum = Residue::add(self.0, other.0, &mut meter.count);
-        note(sum, &mut meter.largest)
+        let sum = Residue::add(self.0, other.0, &mut meter.0);
+        meter.1 = meter.1.max(sum.unsigned_abs());
+        Noted(sum)
     }
 
     fn sub(self, other: Noted, meter: &mut Notes) -> Noted {
-        let difference = Residue::sub(self.0, other.0, &mut meter.count);
-        note(difference, &mut meter.largest)
+        let difference = Residue::sub(self.0, other.0, &mut meter.0);
+        meter.1 = meter.1.max(difference.unsigned_abs());
+        Noted(difference)
     }
 
     fn mul_zeta(self, m: usize, meter: &mut Notes) -> Noted {
-        Noted(self.0.mul_zeta(m, &mut meter.count))
+        Noted(self.0.mul_zeta(m, &mut meter.0))
     }
 
     fn mul_neg_zeta(self, m: usize, meter: &mut Notes) -> Noted {
-        Noted(self.0.mul_neg_zeta(m, &mut meter.count))
+        Noted(self.0.mul_neg_zeta(m, &mut meter.0))
     }
 
     fn reduce(self) -> Noted {
@@ -158,7 +130,6 @@ impl Residue for Noted {
     }
 }
 
-/// 256 times this number.
 fn repeated(number: i32) -> [Noted; 256]
     requires { nat_abs number ≤ 8380416 }
     ensures { LanesWithin (λ x. x.0 ∷ []) 1 8380416 result }
@@ -170,12 +141,9 @@ fn repeated(number: i32) -> [Noted; 256]
 fn largest_sum(row: [Noted; 256]) -> u32
     requires { LanesWithin (λ x. x.0 ∷ []) 1 8380416 row }
 {
-    let mut notes = Notes {
-        count: Count::new(),
-        largest: 0,
-    };
+    let mut notes = (Count::new(), 0);
     inv_ntt(&[row], &mut notes);
-    notes.largest
+    notes.1
 }
 
 /// The largest sum or difference inside the inverse transform of 256 times q - 1, and of 256 times 1 - q, is

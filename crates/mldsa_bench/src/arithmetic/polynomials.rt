@@ -30,25 +30,16 @@ fn norm_of(x: i32) -> i32 {
     infinity_norm(&[R(within(&[x; 256]))])
 }
 
-/// Norms of the coefficients 0, 4190208, 4190209, 8380416 and their negatives.
-#[test]
-fn norms(rt: HostRuntime) {
-    assert!(rt; norm_of(0) == 0);
-    assert!(rt; norm_of(4190208) == 4190208);
-    assert!(rt; norm_of(4190209) == 4190208);
-    assert!(rt; norm_of(8380416) == 1);
-    assert!(rt; norm_of(-4190208) == 4190208);
-    assert!(rt; norm_of(-8380416) == 1);
-}
-
-/// The sum of the vectors of one polynomial whose coefficients are all these.
+/// The sum of the polynomials whose coefficients are all these.
 fn sum_of(x: i32, y: i32) -> [i32; 256] {
     add_vector_ntt(&[R(within(&[x; 256]))], &[R(within(&[y; 256]))])[0].0
 }
 
-/// `add_vector_ntt` of 1 and 2, and of -7 and 4.
+/// Norms of the coefficients 0, 4190208, 4190209, 8380416 and negatives; `add_vector_ntt` of 1 and 2, and of -7 and 4.
 #[test]
-fn sums_of_vectors(rt: HostRuntime) {
+fn norms_and_sums(rt: HostRuntime) {
+    let norms = [0, 4190208, 4190209, 8380416, -4190208, -8380416].map(norm_of);
+    assert_eq!(rt; norms, [0, 4190208, 4190208, 1, 4190208, 1]);
     assert!(rt; sum_of(1, 2) == [3; 256]);
     assert!(rt; sum_of(-7, 4) == [-3; 256]);
 }
@@ -83,36 +74,26 @@ pub fn slow_product(a: &[i32; 256], b: &[i32; 256]) -> [i32; 256] {
         let mut sum = 0i64;
         for i in 0..256usize {
             let term = i64::from(a[i]).wrapping_mul(i64::from(b[(256 + n - i) % 256]));
-            sum = if i <= n {
-                sum.wrapping_add(term)
-            } else {
-                sum.wrapping_sub(term)
-            };
+            sum = sum.wrapping_add(if i <= n { term } else { term.wrapping_neg() });
         }
         out[n] = sum.rem_euclid(8380417) as i32;
     }
     out
 }
 
-/// The product by the library.
 fn product(a: &[i32; 256], b: &[i32; 256]) -> [i32; 256] {
     challenge_times_vector(&R(within(a)), &[R(within(b))])[0].0
 }
 
-/// The transform of a polynomial.
-fn transform(w: &[i32; 256]) -> [i32; 256] {
-    ntt(&[within(w)], &mut Count::new())[0]
-}
-
-/// The polynomial that has a transform.
 fn inverse(w: &[i32; 256]) -> [i32; 256] {
     inv_ntt(&[within(w)], &mut Count::new())[0]
 }
 
 /// The product, by transforms in Montgomery form.
 fn product_of_transforms(a: &[i32; 256], b: &[i32; 256]) -> [i32; 256] {
-    let [T(mut values)] = to_mont(&[T(within(&transform(a)))]);
-    let second = transform(b);
+    let [first] = ntt(&[within(a)], &mut Count::new());
+    let [second] = ntt(&[within(b)], &mut Count::new());
+    let [T(mut values)] = to_mont(&[T(within(&first))]);
     for n in 0..256usize {
         values[n] = reduced(i64::from(values[n]).wrapping_mul(i64::from(second[n])));
     }
@@ -120,7 +101,7 @@ fn product_of_transforms(a: &[i32; 256], b: &[i32; 256]) -> [i32; 256] {
 }
 
 /// X^255 times X is q - 1 at index 0, also in Montgomery form; fixed polynomials, and all coefficients q - 1, agree
-/// with a product by double sums.
+/// with a product by double sums. Inverse transforms of 256 times q - 1 and 256 times 1 - q.
 #[test]
 fn products_of_polynomials(rt: HostRuntime) {
     let (last, x) = (monomial(255, 1), monomial(1, 1));
@@ -128,19 +109,11 @@ fn products_of_polynomials(rt: HostRuntime) {
     assert!(rt; product_of_transforms(&last, &x) == monomial(0, 8380416));
     for number in [1u32, 77, 40000, 1234567890] {
         let (a, b) = (spread(number), spread(number.wrapping_add(1)));
-        assert!(rt;
-            product(&a, &b) == slow_product(&a, &b),
-            "polynomials {number}"
-        );
+        assert!(rt; product(&a, &b) == slow_product(&a, &b), "seed {number}");
     }
     let most = [8380416; 256];
     assert!(rt; product(&most, &most) == slow_product(&most, &most));
-}
-
-/// Inverse transforms of 256 times q - 1 and 256 times 1 - q.
-#[test]
-fn inverse_transforms_of_constants(rt: HostRuntime) {
-    assert!(rt; inverse(&[8380416; 256]) == monomial(0, 8380416));
+    assert!(rt; inverse(&most) == monomial(0, 8380416));
     assert!(rt; inverse(&[-8380416; 256]) == monomial(0, 1));
 }
 
@@ -149,22 +122,16 @@ fn inverse_transforms_of_constants(rt: HostRuntime) {
 #[test]
 fn products_with_a_challenge(rt: HostRuntime) -> Result<(), Fail> {
     let R(c) = sample_in_ball::<Fill<0x55>>(39, b"abc")?;
-    let product = slow_product(&c, &[2; 256]);
-    let (mut same, mut opposite) = ([2i32; 256], [-2i32; 256]);
-    for i in 0..256usize {
-        let wanted = if i < 85 {
-            2
-        } else if i >= 218 && i % 2 == 0 {
-            Q - 6
-        } else {
-            Q - 2
-        };
-        assert_eq!(rt; product[i], wanted, "place {i}");
-        if c[255 - i] == -1 {
-            same[i] = -2;
-            opposite[i] = 2;
-        }
+    let mut wanted = [Q - 2; 256];
+    wanted[..85].fill(2);
+    for half in 109..128usize {
+        wanted[2 * half] = Q - 6;
     }
+    assert!(rt; slow_product(&c, &[2; 256]) == wanted);
+    let mut turned = c;
+    turned.reverse();
+    let same = turned.map(|x| if x == -1 { -2 } else { 2 });
+    let opposite = turned.map(|x| if x == -1 { 2 } else { -2 });
     assert_eq!(rt; slow_product(&c, &same)[255], 78);
     assert_eq!(rt; slow_product(&c, &opposite)[255], Q - 78);
     Ok(())

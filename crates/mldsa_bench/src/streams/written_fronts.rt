@@ -79,12 +79,10 @@ impl<const SIGNS: u8, const END: usize> Pattern for Turn<SIGNS, END> {
     ghost byte = { λ place. if nat_lt place 8 then SIGNS else if nat_lt place END then 255 else 0 };
 
     fn byte_at(place: usize) -> u8 {
-        if place < 8 {
-            SIGNS
-        } else if place < END {
-            255
-        } else {
-            0
+        match place {
+            0..8 => SIGNS,
+            _ if place < END => 255,
+            _ => 0,
         }
     }
 }
