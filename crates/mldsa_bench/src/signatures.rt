@@ -7,4 +7,3 @@ mod counter_streams;
 mod digests;
 mod drawing;
 mod norms_and_hints;
-mod refusal_words;

@@ -2,6 +2,7 @@
 #![tactic(auto)]
 
 ghost use Rattle.std.proofs.Common.{rules};
+ghost use Rattle.std.specs.Prelude.{◌<◌, ◌^◌};
 
 use crate::values::constant_streams::{
     private_44, private_65, private_87, public_44, public_65, public_87, signature_44,
@@ -44,13 +45,10 @@ pub trait Keys<S> {
     fn accepts(&self, text: &Text, signature: &S) -> bool;
 }
 
-/// A signature, or its refusal.
 type Signed<const SIG_LEN: usize> = Result<[u8; SIG_LEN], Fault>;
 
-/// Plain keys.
 type Plain<const K: usize, const L: usize, H, G> = (PublicKey<K, L, H, G>, PrivateKey<K, L, H, G>);
 
-/// Prepared keys.
 type Prepared<const K: usize, const L: usize, H> = (
     PreparedPublicKey<K, L, H>,
     PreparedPrivateKey<K, L, H>,
@@ -154,8 +152,6 @@ pub fn change(bytes: &mut [u8], at: usize, bits: u8) {
 /// What is a set's own: its keys and signature where every byte of `H` is 55 and every byte of `G` is 00, and its
 /// function that draws a pair.
 pub trait Row<P, const SK_LEN: usize>: Set {
-    ghost use Rattle.std.specs.Prelude.{◌<◌, ◌^◌};
-
     /// The public key, the private key and the signature.
     fn recorded() -> (Self::PublicKey, Self::PrivateKey, Self::Signature);
 
@@ -205,6 +201,9 @@ impl<H: Xof, G: Xof> Row<Plain<8, 7, H, G>, 4896> for MlDsa87 {
 /// Set 44 over constant streams.
 pub type Constant44 = ml_dsa_44::KG<Fill<0x55>, Fill<0>>;
 
+/// Two values, or the refusal of each.
+pub type Both<A, B> = (Result<A, Fault>, Result<B, Fault>);
+
 /// A set over two streams.
 pub trait TestSet {
     /// The bytes of a signature.
@@ -244,12 +243,7 @@ pub trait TestSet {
     fn prepared(keys: &Self::Plain) -> Result<Self::Prepared, Fault>;
 
     /// The public key and the private key with their matrix, or the refusal of each.
-    fn prepared_parts(
-        keys: &Self::Plain,
-    ) -> (
-        Result<Self::PreparedPublic, Fault>,
-        Result<Self::PreparedPrivate, Fault>,
-    );
+    fn prepared_parts(keys: &Self::Plain) -> Both<Self::PreparedPublic, Self::PreparedPrivate>;
 
     /// Signs the first messages under a context, with one call: as many as `answers` has room for, at most five.
     fn sign_each(keys: &Self::Prepared, ctx: &[u8], answers: &mut [Result<Self::Signature, Fault>]);
@@ -277,13 +271,8 @@ impl<
 > TestSet for KG<K, L, H, G>
 where
     Matrix<K, L>: HasSet<Set = S>,
-    S: Set<
-        Commitment = [u8; N],
-        Signature = [u8; SIG_LEN],
-        PublicKey = [u8; PK_LEN],
-        PrivateKey = [u8; SK_LEN],
-    >,
-    S: SignatureSizes<K, L, N, SIG_LEN> + KeySizes<K, L, PK_LEN, SK_LEN>,
+    S: Set<Commitment = [u8; N], Signature = [u8; SIG_LEN]> + SignatureSizes<K, L, N, SIG_LEN>,
+    S: Set<PublicKey = [u8; PK_LEN], PrivateKey = [u8; SK_LEN]> + KeySizes<K, L, PK_LEN, SK_LEN>,
     S: Row<Plain<K, L, H, G>, SK_LEN>,
 {
     type Signature = [u8; SIG_LEN];
@@ -337,12 +326,7 @@ where
         Ok((keys.0.prepare()?, keys.1.prepare()?))
     }
 
-    fn prepared_parts(
-        keys: &Plain<K, L, H, G>,
-    ) -> (
-        Result<PreparedPublicKey<K, L, H>, Fault>,
-        Result<PreparedPrivateKey<K, L, H>, Fault>,
-    ) {
+    fn prepared_parts(keys: &Self::Plain) -> Both<Self::PreparedPublic, Self::PreparedPrivate> {
         (keys.0.prepare(), keys.1.prepare())
     }
 
@@ -373,8 +357,6 @@ where
 
 /// What is tried at a set.
 pub trait Suite {
-    ghost use Rattle.std.specs.Prelude.{◌<◌};
-
     /// What it finds.
     type Answer: Drop;
 

@@ -65,11 +65,8 @@ fn first_wrong<S: PartialEq + Drop, K: Keys<S>>(keys: &K, signature: &S) -> Opti
         }
     }
     for (row, (digest, oid, fault)) in REFUSED_DIGESTS.iter().enumerate() {
-        if !answers(
-            keys,
-            (&Text::Digest(digest, &[], oid), Some(*fault)),
-            signature,
-        ) {
+        let text = Text::Digest(digest, &[], oid);
+        if !answers(keys, (&text, Some(*fault)), signature) {
             return Some((1, row));
         }
     }
@@ -84,12 +81,9 @@ impl Suite for FirstWrong {
     type Answer = [Option<(u8, usize)>; 2];
 
     fn at<S: TestSet>(&self, _number: usize) -> Result<[Option<(u8, usize)>; 2], Fail> {
-        let (keys, signature) = S::constant()?;
+        let (keys, good) = S::constant()?;
         let prepared = S::prepared(&keys)?;
-        Ok([
-            first_wrong(&keys, &signature),
-            first_wrong(&prepared, &signature),
-        ])
+        Ok([first_wrong(&keys, &good), first_wrong(&prepared, &good)])
     }
 }
 

@@ -117,9 +117,8 @@ impl Suite for RefusesAt {
     }
 }
 
-/// At each set every drawing call, plain and prepared, with a generator that fails at its first, second or
-/// third of four calls: the error of that call; the others sign as over constant streams. The generator is
-/// asked four times, with zeros to fill.
+/// At each set every drawing call, plain and prepared, with a generator that fails at its first, second or third of four
+/// calls: that call's error; the others sign as over constant streams. It is asked four times, with zeros to fill.
 #[test]
 fn refusing_generators(rt: HostRuntime) -> Result<(), Fail> {
     for call in 0..3u8 {
@@ -153,6 +152,7 @@ fn generator_of_one_seed(rt: HostRuntime) {
         let mut out = [0x11u8; 33];
         assert!(rt; rng.try_fill_bytes(&mut out[..size]).is_err());
         assert_eq!(rt; out, [0x11; 33]);
+        assert_eq!(rt; rng.bytes, [7; 32]);
     }
     let mut out = [0u8; 32];
     assert_eq!(rt; rng.try_fill_bytes(&mut out), Ok(()));
