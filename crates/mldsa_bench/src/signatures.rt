@@ -6,7 +6,4 @@ mod constant_streams;
 mod counter_streams;
 mod digests;
 mod drawing;
-mod framing;
-mod generators;
 mod norms_and_hints;
-mod refusal_words;

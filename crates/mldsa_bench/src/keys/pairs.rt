@@ -2,27 +2,23 @@
 #![tactic(auto)]
 
 use crate::keys::sets::{Constant44, Suite, TestSet, at_each_set};
-use crate::signatures::calls_at_limits::{ALL, Calls};
+use crate::signatures::calls_at_limits::{ALL, returned};
 use crate::values::constant_streams::{LOW_0, private_44, public_44, repeat};
 use fips204::traits::{SerDes, Signer};
 use fips204::xof::{Fill, Sha256Ctr, Sha512Ctr};
 use fips204::{Fault, ml_dsa_44, ml_dsa_65, ml_dsa_87};
 use std::test::Fail;
 
-/// A private key of set 44.
 type Private44 = ml_dsa_44::PrivateKey<Fill<0x55>, Fill<0>>;
 
-/// A public key of set 44.
 type Public44 = ml_dsa_44::PublicKey<Fill<0x55>, Fill<0>>;
 
 /// The key pair of each set with `H` of bytes 55 and `G` of bytes 00, byte for byte, for any seed, and what its calls
 /// return; private keys come back from their bytes, and are whole.
 #[test]
 fn pairs_of_each_set(rt: HostRuntime) -> Result<(), Fail> {
-    for seed in [[7; 32], [0; 32]] {
-        let found = at_each_set::<Fill<0x55>, Fill<0>, Calls>(&Calls { seed })?;
-        assert_eq!(rt; found, [ALL; 3]);
-    }
+    assert_eq!(rt; returned::<Fill<0x55>, Fill<0>>(7)?, [ALL; 3]);
+    assert_eq!(rt; returned::<Fill<0x55>, Fill<0>>(0)?, [ALL; 3]);
     Ok(())
 }
 
@@ -46,8 +42,7 @@ fn comes_back<S: SerDes<ByteArray = [u8; N]> + Drop, const N: usize>(
 /// one value.
 #[test]
 fn public_keys_come_back(rt: HostRuntime) {
-    let back = comes_back::<Public44, 1312>(&counting());
-    assert_eq!(rt; back, Ok(true));
+    assert_eq!(rt; comes_back::<Public44, 1312>(&counting()), Ok(true));
     let back = comes_back::<ml_dsa_65::PublicKey<Sha256Ctr, Sha512Ctr>, 1952>(&counting());
     assert_eq!(rt; back, Ok(true));
     let back = comes_back::<ml_dsa_87::PublicKey<Sha256Ctr, Sha512Ctr>, 2592>(&counting());
@@ -58,9 +53,8 @@ fn public_keys_come_back(rt: HostRuntime) {
     }
 }
 
-/// The first field of s1, in the low bits of byte 128, and the last of s2, in the high bits of another byte, with every
-/// value of their bits: where the key neither comes back, as up to 2 eta, nor is `KeyRange`, as above it, and that
-/// value; place 0 where the recorded keys do not come back.
+/// The byte of the first field of s1 or the last of s2, and the value with which the key neither comes back, as up to 2
+/// eta, nor is `KeyRange`, as above it; byte 0 where the recorded keys do not come back.
 #[derive(Drop)]
 struct WrongField;
 
@@ -68,30 +62,21 @@ impl Suite for WrongField {
     type Answer = Option<(usize, u8)>;
 
     fn at<S: TestSet>(&self, number: usize) -> Result<Option<(usize, u8)>, Fail> {
-        let rows = [
-            (895, 32u8, [7u8, 0, 4]),
-            (1535, 16, [15, 5, 8]),
-            (1567, 32, [7, 0, 4]),
-        ];
-        let (last, high, [largest, recorded, most]) = rows[number];
+        let (last, high) = [(895, 32u8), (1535, 16), (1567, 32)][number];
+        let [largest, recorded, most] = [[7u8, 0, 4], [15, 5, 8], [7, 0, 4]][number];
         let (keys, _) = S::constant()?;
         if S::is_constant(Ok(keys)) != Ok(true) {
             return Ok(Some((0, 0)));
         }
         for (at, unit) in [(128usize, 1u8), (last, high)] {
             for field in 0..=largest {
-                let wanted = if field <= most {
-                    Ok(true)
-                } else {
-                    Err(Fault::KeyRange)
-                };
                 let (keys, _) = S::constant()?;
                 let bits = (field ^ recorded).wrapping_mul(unit);
-                let answer = match S::read_again(keys, at, bits) {
-                    Ok(found) => Ok(found[0]),
-                    Err(fault) => Err(fault),
+                let as_wanted = match S::read_again(keys, at, bits) {
+                    Ok([same, _]) => same && field <= most,
+                    Err(fault) => matches!(fault, Fault::KeyRange) && field > most,
                 };
-                if answer != wanted {
+                if !as_wanted {
                     return Ok(Some((at, field)));
                 }
             }
@@ -109,8 +94,7 @@ fn field_ranges_of_each_set(rt: HostRuntime) -> Result<(), Fail> {
     Ok(())
 }
 
-/// Whether the private key of 32 bytes 07 is whole, and with another bit in K, in `tr`, and in the first and in the
-/// last byte of t0.
+/// Whether the private key of 32 bytes 07 is whole, and with another bit in K, `tr`, and the first and last byte of t0.
 #[derive(Drop)]
 struct Whole;
 
@@ -122,8 +106,7 @@ impl Suite for Whole {
         let places = [(0usize, 0u8), (32, 1), (127, 1), (first, 1), (last, 1)];
         let mut found = [false; 5];
         for (answer, (at, bits)) in found.iter_mut().zip(places) {
-            let [_, is_whole] = S::read_again(S::pair(&[7; 32])?, at, bits)?;
-            *answer = is_whole;
+            [_, *answer] = S::read_again(S::pair(&[7; 32])?, at, bits)?;
         }
         Ok(found)
     }

@@ -2,11 +2,13 @@
 #![tactic(auto)]
 
 ghost use Rattle.std.proofs.Common.{rules};
+ghost use Rattle.std.specs.Prelude.{◌<◌, ◌^◌};
 
 use crate::values::constant_streams::{
     private_44, private_65, private_87, public_44, public_65, public_87, signature_44,
     signature_65, signature_87,
 };
+use crate::values::has_text;
 use fips204::ml_dsa_44::{self, MlDsa44};
 use fips204::ml_dsa_65::{self, MlDsa65};
 use fips204::ml_dsa_87::{self, MlDsa87};
@@ -15,7 +17,7 @@ use fips204::traits::{CryptoRngCore, DummyRng, KeyGen, SerDes, Signer, Verifier}
 use fips204::types::{KG, PreparedPrivateKey, PreparedPublicKey, PrivateKey, PublicKey};
 use fips204::xof::{Fill, Xof};
 use fips204::{Fault, ml_dsa};
-use std::alloc::{AllocError, Global};
+use std::alloc::Global;
 use std::test::Fail;
 
 /// What is signed, and what a signature is judged of.
@@ -43,10 +45,10 @@ pub trait Keys<S> {
     fn accepts(&self, text: &Text, signature: &S) -> bool;
 }
 
-/// Plain keys.
+type Signed<const SIG_LEN: usize> = Result<[u8; SIG_LEN], Fault>;
+
 type Plain<const K: usize, const L: usize, H, G> = (PublicKey<K, L, H, G>, PrivateKey<K, L, H, G>);
 
-/// Prepared keys.
 type Prepared<const K: usize, const L: usize, H> = (
     PreparedPublicKey<K, L, H>,
     PreparedPrivateKey<K, L, H>,
@@ -54,12 +56,12 @@ type Prepared<const K: usize, const L: usize, H> = (
 
 impl<S, const K: usize, const L: usize, const N: usize, const SIG_LEN: usize, H: Xof, G: Xof> Keys<
     [u8; SIG_LEN],
-> for (PublicKey<K, L, H, G>, PrivateKey<K, L, H, G>)
+> for Plain<K, L, H, G>
 where
     Matrix<K, L>: HasSet<Set = S>,
     S: Set<Commitment = [u8; N], Signature = [u8; SIG_LEN]> + SignatureSizes<K, L, N, SIG_LEN>,
 {
-    fn seeded(&self, seed: &[u8; 32], text: &Text) -> Result<[u8; SIG_LEN], Fault> {
+    fn seeded(&self, seed: &[u8; 32], text: &Text) -> Signed<SIG_LEN> {
         match *text {
             Text::Message(message, ctx) => self.1.try_sign_with_seed(seed, message, ctx),
             Text::Digest(hash, ctx, oid) => { self.1.try_hash_sign_with_seed(seed, hash, ctx, oid) }
@@ -67,12 +69,7 @@ where
         }
     }
 
-    fn drawn<R: CryptoRngCore>(
-        &self,
-        rng: &mut R,
-        hedged: bool,
-        text: &Text,
-    ) -> Result<[u8; SIG_LEN], Fault> {
+    fn drawn<R: CryptoRngCore>(&self, rng: &mut R, hedged: bool, text: &Text) -> Signed<SIG_LEN> {
         match *text {
             Text::Message(message, ctx) => self.1.try_sign_with_rng(rng, message, ctx),
             Text::Digest(hash, ctx, oid) => self.1.try_hash_sign_with_rng(rng, hash, ctx, oid),
@@ -93,12 +90,12 @@ where
 
 impl<S, const K: usize, const L: usize, const N: usize, const SIG_LEN: usize, H: Xof> Keys<
     [u8; SIG_LEN],
-> for (PreparedPublicKey<K, L, H>, PreparedPrivateKey<K, L, H>)
+> for Prepared<K, L, H>
 where
     Matrix<K, L>: HasSet<Set = S>,
     S: Set<Commitment = [u8; N], Signature = [u8; SIG_LEN]> + SignatureSizes<K, L, N, SIG_LEN>,
 {
-    fn seeded(&self, seed: &[u8; 32], text: &Text) -> Result<[u8; SIG_LEN], Fault> {
+    fn seeded(&self, seed: &[u8; 32], text: &Text) -> Signed<SIG_LEN> {
         match *text {
             Text::Message(message, ctx) => self.1.try_sign_with_seed(seed, message, ctx),
             Text::Digest(hash, ctx, oid) => { self.1.try_hash_sign_with_seed(seed, hash, ctx, oid) }
@@ -106,12 +103,7 @@ where
         }
     }
 
-    fn drawn<R: CryptoRngCore>(
-        &self,
-        rng: &mut R,
-        hedged: bool,
-        text: &Text,
-    ) -> Result<[u8; SIG_LEN], Fault> {
+    fn drawn<R: CryptoRngCore>(&self, rng: &mut R, hedged: bool, text: &Text) -> Signed<SIG_LEN> {
         match *text {
             Text::Message(message, ctx) => self.1.try_sign_with_rng(rng, message, ctx),
             Text::Digest(hash, ctx, oid) => self.1.try_hash_sign_with_rng(rng, hash, ctx, oid),
@@ -130,14 +122,12 @@ where
     }
 }
 
-/// The calls that make a pair from what a generator returns.
+/// The calls that make a pair from what a generator returns: that of the trait `KeyGen`, the function of the set, and
+/// the function that the sets share.
 #[derive(Clone, Copy)]
 pub enum PairCall {
-    /// The call of the trait `KeyGen`.
     OfTrait,
-    /// The function of the set.
     OfSet,
-    /// The function that the sets share.
     Shared,
 }
 
@@ -149,14 +139,11 @@ pub const SEEDS: [[u8; 32]; 5] = [[0; 32], [1; 32], [2; 32], [3; 32], [0xff; 32]
 
 /// Whether an answer is this value, or its refusal.
 pub fn is_same<T: PartialEq + Drop>(answer: Result<T, Fault>, wanted: &T) -> Result<bool, Fault> {
-    match answer {
-        Ok(value) => Ok(value == *wanted),
-        Err(fault) => Err(fault),
-    }
+    Ok(answer? == *wanted)
 }
 
 /// Changes bits of a byte, if there is one at this place.
-fn change(bytes: &mut [u8], at: usize, bits: u8) {
+pub fn change(bytes: &mut [u8], at: usize, bits: u8) {
     if let Some(byte) = bytes.get_mut(at) {
         *byte ^= bits;
     }
@@ -165,8 +152,6 @@ fn change(bytes: &mut [u8], at: usize, bits: u8) {
 /// What is a set's own: its keys and signature where every byte of `H` is 55 and every byte of `G` is 00, and its
 /// function that draws a pair.
 pub trait Row<P, const SK_LEN: usize>: Set {
-    ghost use Rattle.std.specs.Prelude.{◌<◌, ◌^◌};
-
     /// The public key, the private key and the signature.
     fn recorded() -> (Self::PublicKey, Self::PrivateKey, Self::Signature);
 
@@ -216,6 +201,9 @@ impl<H: Xof, G: Xof> Row<Plain<8, 7, H, G>, 4896> for MlDsa87 {
 /// Set 44 over constant streams.
 pub type Constant44 = ml_dsa_44::KG<Fill<0x55>, Fill<0>>;
 
+/// Two values, or the refusal of each.
+pub type Both<A, B> = (Result<A, Fault>, Result<B, Fault>);
+
 /// A set over two streams.
 pub trait TestSet {
     /// The bytes of a signature.
@@ -255,12 +243,7 @@ pub trait TestSet {
     fn prepared(keys: &Self::Plain) -> Result<Self::Prepared, Fault>;
 
     /// The public key and the private key with their matrix, or the refusal of each.
-    fn prepared_parts(
-        keys: &Self::Plain,
-    ) -> (
-        Result<Self::PreparedPublic, Fault>,
-        Result<Self::PreparedPrivate, Fault>,
-    );
+    fn prepared_parts(keys: &Self::Plain) -> Both<Self::PreparedPublic, Self::PreparedPrivate>;
 
     /// Signs the first messages under a context, with one call: as many as `answers` has room for, at most five.
     fn sign_each(keys: &Self::Prepared, ctx: &[u8], answers: &mut [Result<Self::Signature, Fault>]);
@@ -268,14 +251,11 @@ pub trait TestSet {
     /// Which of the signatures of the first messages, at most five, are accepted, with one call; false after these.
     fn verify_each(keys: &Self::Prepared, signatures: &[Self::Signature], ctx: &[u8]) -> [bool; 5];
 
-    /// The bytes of both keys.
-    fn key_bytes(alloc: Global, keys: Self::Plain) -> Result<[Vec<u8>; 2], AllocError>;
+    /// Whether the public key and the private key have these texts in hex.
+    fn have_texts(alloc: Global, keys: Self::Plain, texts: [&str; 3]) -> Result<[bool; 2], Fail>;
 
     /// The bytes of a signature.
-    fn bytes(signature: &Self::Signature) -> &[u8];
-
-    /// A signature with another bit in a byte.
-    fn spoiled(signature: &Self::Signature, at: usize) -> Self::Signature;
+    fn bytes(signature: &mut Self::Signature) -> &mut [u8];
 }
 
 impl<
@@ -291,13 +271,8 @@ impl<
 > TestSet for KG<K, L, H, G>
 where
     Matrix<K, L>: HasSet<Set = S>,
-    S: Set<
-        Commitment = [u8; N],
-        Signature = [u8; SIG_LEN],
-        PublicKey = [u8; PK_LEN],
-        PrivateKey = [u8; SK_LEN],
-    >,
-    S: SignatureSizes<K, L, N, SIG_LEN> + KeySizes<K, L, PK_LEN, SK_LEN>,
+    S: Set<Commitment = [u8; N], Signature = [u8; SIG_LEN]> + SignatureSizes<K, L, N, SIG_LEN>,
+    S: Set<PublicKey = [u8; PK_LEN], PrivateKey = [u8; SK_LEN]> + KeySizes<K, L, PK_LEN, SK_LEN>,
     S: Row<Plain<K, L, H, G>, SK_LEN>,
 {
     type Signature = [u8; SIG_LEN];
@@ -339,10 +314,7 @@ where
         KG::<K, L, H, G>::keygen_from_seed(seed)
     }
 
-    fn drawn_pair<R: CryptoRngCore>(
-        rng: &mut R,
-        call: PairCall,
-    ) -> Result<Plain<K, L, H, G>, Fault> {
+    fn drawn_pair<R: CryptoRngCore>(rng: &mut R, call: PairCall) -> Result<Self::Plain, Fault> {
         match call {
             PairCall::OfTrait => KG::<K, L, H, G>::try_keygen_with_rng(rng),
             PairCall::OfSet => S::drawn_pair::<R>(rng),
@@ -354,68 +326,37 @@ where
         Ok((keys.0.prepare()?, keys.1.prepare()?))
     }
 
-    fn prepared_parts(
-        keys: &Plain<K, L, H, G>,
-    ) -> (
-        Result<PreparedPublicKey<K, L, H>, Fault>,
-        Result<PreparedPrivateKey<K, L, H>, Fault>,
-    ) {
+    fn prepared_parts(keys: &Self::Plain) -> Both<Self::PreparedPublic, Self::PreparedPrivate> {
         (keys.0.prepare(), keys.1.prepare())
     }
 
-    fn sign_each(
-        keys: &Prepared<K, L, H>,
-        ctx: &[u8],
-        answers: &mut [Result<[u8; SIG_LEN], Fault>],
-    ) {
+    fn sign_each(keys: &Self::Prepared, ctx: &[u8], answers: &mut [Result<[u8; SIG_LEN], Fault>]) {
         let count = answers.len().min(5);
-        keys.1.sign_each(
-            &SEEDS[..count],
-            &MESSAGES[..count],
-            ctx,
-            &mut answers[..count],
-        );
+        let (seeds, messages) = (&SEEDS[..count], &MESSAGES[..count]);
+        keys.1
+            .sign_each(seeds, messages, ctx, &mut answers[..count]);
     }
 
-    fn verify_each(
-        keys: &Prepared<K, L, H>,
-        signatures: &[[u8; SIG_LEN]],
-        ctx: &[u8],
-    ) -> [bool; 5] {
+    fn verify_each(keys: &Self::Prepared, signatures: &[[u8; SIG_LEN]], ctx: &[u8]) -> [bool; 5] {
         let count = signatures.len().min(5);
-        let mut verdicts = [false; 5];
-        keys.0.verify_each(
-            &MESSAGES[..count],
-            &signatures[..count],
-            ctx,
-            &mut verdicts[..count],
-        );
+        let (messages, mut verdicts) = (&MESSAGES[..count], [false; 5]);
+        keys.0.verify_each(messages, &signatures[..count], ctx, &mut verdicts[..count]);
         verdicts
     }
 
-    fn key_bytes(alloc: Global, keys: Plain<K, L, H, G>) -> Result<[Vec<u8>; 2], AllocError> {
-        let (public, private) = (keys.0.into_bytes(), keys.1.into_bytes());
-        Ok([
-            Vec::from_slice(alloc, &public)?,
-            Vec::from_slice(alloc, &private)?,
-        ])
+    fn have_texts(alloc: Global, keys: Self::Plain, texts: [&str; 3]) -> Result<[bool; 2], Fail> {
+        let public = has_text(alloc, &keys.0.into_bytes(), texts[0])?;
+        let private = has_text(alloc, &keys.1.into_bytes(), texts[1])?;
+        Ok([public, private])
     }
 
-    fn bytes(signature: &[u8; SIG_LEN]) -> &[u8] {
+    fn bytes(signature: &mut [u8; SIG_LEN]) -> &mut [u8] {
         signature
-    }
-
-    fn spoiled(signature: &[u8; SIG_LEN], at: usize) -> [u8; SIG_LEN] {
-        let mut other = *signature;
-        change(&mut other, at, 1);
-        other
     }
 }
 
 /// What is tried at a set.
 pub trait Suite {
-    ghost use Rattle.std.specs.Prelude.{◌<◌};
-
     /// What it finds.
     type Answer: Drop;
 

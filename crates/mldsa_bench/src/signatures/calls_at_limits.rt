@@ -23,13 +23,12 @@ type LastTriple = Patterned<FourthTriples<0>>;
 /// The streams whose matrix entries keep one coefficient fewer.
 type PastLastTriple = Patterned<FourthTriples<12>>;
 
-/// The message that is signed here.
 const TEXT: Text = Text::Message(b"abc", &[]);
 
 /// Whether the pair of a seed is that over constant streams, and so the public key of the private one, and whether this
 /// comes back from its bytes and is whole; the refusals to prepare the public key and the private key; and whether
 /// plain and prepared keys sign as over constant streams, and accept that signature.
-type Answers = (
+pub type Answers = (
     [Result<bool, Fault>; 3],
     [Option<Fault>; 2],
     [[Result<bool, Fault>; 2]; 2],
@@ -38,57 +37,51 @@ type Answers = (
 /// What keys over constant streams answer.
 pub const ALL: Answers = ([Ok(true); 3], [None; 2], [[Ok(true); 2]; 2]);
 
-/// What a call refuses whose sampling reaches its limit.
 const LIMIT: Result<bool, Fault> = Err(Fault::SamplingLimit);
 
 /// Whether keys sign with this signature, and accept it.
 fn signed<S: PartialEq + Drop, K: Keys<S>>(keys: &K, signature: &S) -> [Result<bool, Fault>; 2] {
-    [
-        is_same(keys.seeded(&[0; 32], &TEXT), signature),
-        Ok(keys.accepts(&TEXT, signature)),
-    ]
-}
-
-/// What the calls of a set return, or their refusals.
-fn answers<S: TestSet>(seed: &[u8; 32]) -> Result<Answers, Fault> {
-    let (keys, signature) = S::constant()?;
-    let signatures = [
-        signed(&keys, &signature),
-        match S::prepared(&keys) {
-            Ok(prepared) => signed(&prepared, &signature),
-            Err(fault) => [Err(fault); 2],
-        },
-    ];
-    let (public, private) = S::prepared_parts(&keys);
-    let refusals = [public.err(), private.err()];
-    let read = [
-        S::is_constant(S::pair(seed)),
-        S::derives_constant(&keys),
-        is_same(S::read_again(keys, 0, 0), &[true; 2]),
-    ];
-    Ok((read, refusals, signatures))
+    let same = is_same(keys.seeded(&[0; 32], &TEXT), signature);
+    [same, Ok(keys.accepts(&TEXT, signature))]
 }
 
 /// What the calls of a set return; the pair is of this seed.
 #[derive(Drop)]
-pub struct Calls {
-    pub seed: [u8; 32],
-}
+struct Calls([u8; 32]);
 
 impl Suite for Calls {
     type Answer = Answers;
 
     fn at<S: TestSet>(&self, _number: usize) -> Result<Answers, Fail> {
-        Ok(answers::<S>(&self.seed)?)
+        let (keys, signature) = S::constant()?;
+        let signatures = [
+            signed(&keys, &signature),
+            match S::prepared(&keys) {
+                Ok(prepared) => signed(&prepared, &signature),
+                Err(fault) => [Err(fault); 2],
+            },
+        ];
+        let (public, private) = S::prepared_parts(&keys);
+        let refusals = [public.err(), private.err()];
+        let read = [
+            S::is_constant(S::pair(&self.0)),
+            S::derives_constant(&keys),
+            is_same(S::read_again(keys, 0, 0), &[true; 2]),
+        ];
+        Ok((read, refusals, signatures))
     }
+}
+
+/// What the calls of each set return; the pair is of a seed of bytes of this value.
+pub fn returned<H: Xof, G: Xof>(seed: u8) -> Result<[Answers; 3], Fail> {
+    at_each_set::<H, G, Calls>(&Calls([seed; 32]))
 }
 
 /// Every fourth triple 0 and the rest FF at each set: key generation, deriving, preparing, signing and
 /// verifying return what they return over constant streams.
 #[test]
 fn calls_whose_matrix_ends_at_its_last_triple(rt: HostRuntime) -> Result<(), Fail> {
-    let found = at_each_set::<Fill<0x55>, LastTriple, Calls>(&Calls { seed: [7; 32] })?;
-    assert_eq!(rt; found, [ALL; 3]);
+    assert_eq!(rt; returned::<Fill<0x55>, LastTriple>(7)?, [ALL; 3]);
     Ok(())
 }
 
@@ -96,33 +89,14 @@ fn calls_whose_matrix_ends_at_its_last_triple(rt: HostRuntime) -> Result<(), Fai
 /// verifying returns false.
 #[test]
 fn calls_whose_matrix_passes_its_limit(rt: HostRuntime) -> Result<(), Fail> {
-    let refused = [(
-        [LIMIT; 3],
-        [Some(Fault::SamplingLimit); 2],
-        [[LIMIT, Ok(false)], [LIMIT; 2]],
-    ); 3];
-    let calls = Calls { seed: [7; 32] };
-    let found = at_each_set::<Fill<0x55>, PastLastTriple, Calls>(&calls)?;
-    assert_eq!(rt; found, refused);
-    let found = at_each_set::<Fill<0x55>, Fill<0xff>, Calls>(&calls)?;
-    assert_eq!(rt; found, refused);
-    let calls = Calls { seed: [0; 32] };
-    let found = at_each_set::<Fill<0x55>, Fill<0xff>, Calls>(&calls)?;
-    assert_eq!(rt; found, refused);
-    let found = at_each_set::<Sha256Ctr, Fill<0xff>, Calls>(&calls)?;
-    assert_eq!(rt; found, refused);
-    let found = at_each_set::<Fill<0xff>, Fill<0xff>, Calls>(&calls)?;
-    assert_eq!(rt; found, refused);
+    let signatures = [[LIMIT, Ok(false)], [LIMIT; 2]];
+    let refused = [([LIMIT; 3], [Some(Fault::SamplingLimit); 2], signatures); 3];
+    assert_eq!(rt; returned::<Fill<0x55>, PastLastTriple>(7)?, refused);
+    assert_eq!(rt; returned::<Fill<0x55>, Fill<0xff>>(7)?, refused);
+    assert_eq!(rt; returned::<Fill<0x55>, Fill<0xff>>(0)?, refused);
+    assert_eq!(rt; returned::<Sha256Ctr, Fill<0xff>>(0)?, refused);
+    assert_eq!(rt; returned::<Fill<0xff>, Fill<0xff>>(0)?, refused);
     Ok(())
-}
-
-/// Which keys of set 44 accept a signature that begins with bytes FF where `H` has bytes FF: plain and prepared ones.
-fn commitment_of_ff_accepted() -> Result<[bool; 2], Fault> {
-    let mut signature = signature_44();
-    for i in 0..32usize {
-        signature[i] = 0xff;
-    }
-    accepted::<KG<Fill<0xff>, Fill<0>>>(&signature)
 }
 
 /// `H` of bytes FF over inputs of 32 bytes and else 55, set 44: the same keys, `SamplingLimit` in signing,
@@ -131,11 +105,14 @@ fn commitment_of_ff_accepted() -> Result<[bool; 2], Fault> {
 #[test]
 fn challenges_that_pass_their_limit(rt: HostRuntime) -> Result<(), Fail> {
     let none = [[LIMIT, Ok(false)]; 2];
-    let found = answers::<KG<ByLength, Fill<0>>>(&[7; 32])?;
+    let found = Calls([7; 32]).at::<KG<ByLength, Fill<0>>>(0)?;
     assert_eq!(rt; found, ([Ok(true); 3], [None; 2], none));
-    let found = at_each_set::<Fill<0xff>, Fill<0>, Calls>(&Calls { seed: [0; 32] })?;
-    assert_eq!(rt; found, [([LIMIT, Ok(true), Ok(true)], [None; 2], none); 3]);
-    assert_eq!(rt; commitment_of_ff_accepted()?, [false; 2]);
+    let wanted = [([LIMIT, Ok(true), Ok(true)], [None; 2], none); 3];
+    assert_eq!(rt; returned::<Fill<0xff>, Fill<0>>(0)?, wanted);
+    let mut signature = signature_44();
+    signature[..32].fill(0xff);
+    let answer = accepted::<KG<Fill<0xff>, Fill<0>>>(&signature);
+    assert_eq!(rt; answer, Ok([false; 2]));
     Ok(())
 }
 
@@ -148,7 +125,7 @@ fn signing_faults<S: TestSet>(keys: &S::Plain) -> Result<[Option<Fault>; 2], Fau
     ])
 }
 
-/// The refusals of a signature by the keys of 32 bytes 00.
+/// The same by the keys of 32 bytes 00.
 #[derive(Drop)]
 struct SigningFaults;
 
@@ -163,8 +140,8 @@ impl Suite for SigningFaults {
 /// Both streams of bytes 00, each set: `TooManyAttempts`, with plain and prepared keys.
 #[test]
 fn keys_that_never_sign(rt: HostRuntime) -> Result<(), Fail> {
-    let found = at_each_set::<Fill<0>, Fill<0>, SigningFaults>(&SigningFaults)?;
-    assert_eq!(rt; found, [[Some(Fault::TooManyAttempts); 2]; 3]);
+    let faults = at_each_set::<Fill<0>, Fill<0>, SigningFaults>(&SigningFaults)?;
+    assert_eq!(rt; faults, [[Some(Fault::TooManyAttempts); 2]; 3]);
     Ok(())
 }
 
@@ -175,21 +152,14 @@ fn low_parts_that_never_sign(rt: HostRuntime) -> Result<(), Fail> {
     let R(c) = sample_in_ball::<Fill<0x55>>(39, &[0x55; 32])?;
     let (mut low, mut fields) = ([2i32; 256], [4094; 256]);
     for place in 0..38usize {
-        (low[place], fields[place]) = if place % 2 == 0 {
-            (4096, 0)
-        } else {
-            (-4095, 8191)
-        };
+        (low[place], fields[place]) = [(4096, 0), (-4095, 8191)][place % 2];
     }
     (low[170], fields[170]) = (-4095, 8191);
     assert!(rt; slow_product(&c, &low)[255] == 159724);
     let mut bytes = private_44();
     put_fields(&mut bytes[896..1312], &fields, 13);
     let ((public, _), _) = Constant44::constant()?;
-    let keys = (
-        public,
-        PrivateKey::<Fill<0x55>, Fill<0>>::try_from_bytes(bytes)?,
-    );
+    let keys = (public, PrivateKey::try_from_bytes(bytes)?);
     let many = Ok([Some(Fault::TooManyAttempts); 2]);
     assert_eq!(rt; signing_faults::<Constant44>(&keys), many);
     assert_eq!(rt; Constant44::derives_constant(&keys), Ok(true));
@@ -202,11 +172,7 @@ fn masks_are<const L: usize, H: Xof>(gamma1: i32, counter: u16, coefficient: i32
     requires numbers { counter + L ≤ 65536 }
 {
     let masks = expand_mask::<L, H>(gamma1, &[0; 64], counter);
-    let mut same = true;
-    for mask in &masks {
-        same = same && mask.0 == [coefficient; 256];
-    }
-    same
+    masks.iter().all(|mask| mask.0 == [coefficient; 256])
 }
 
 /// The smallest coefficient of z where every one of the mask is `gamma1` and every one of s1 is `eta`.
@@ -214,14 +180,9 @@ fn smallest_response<H: Xof>(gamma1: i64, tau: i32, eta: i32) -> Result<i64, Fau
     requires tau { (pos 1 ≤ℤ tau) × (tau ≤ℤ pos 64) }
 {
     let R(c) = sample_in_ball::<H>(tau, &[0x55; 32])?;
-    let product = slow_product(&c, &[eta; 256]);
     let mut smallest = gamma1;
-    for residue in product {
-        let centred = if residue > 4190208 {
-            i64::from(residue).wrapping_sub(8380417)
-        } else {
-            i64::from(residue)
-        };
+    for residue in slow_product(&c, &[eta; 256]) {
+        let centred = (i64::from(residue) + 4190208) % 8380417 - 4190208;
         smallest = smallest.min(gamma1.wrapping_add(centred));
     }
     Ok(smallest)
@@ -234,7 +195,7 @@ fn first_attempts_that_are_rejected(rt: HostRuntime) -> Result<(), Fail> {
     assert!(rt; masks_are::<4, Second>(131072, 0, 131072));
     assert!(rt; smallest_response::<Second>(131072, 39, 2)? == 131066);
     assert!(rt; masks_are::<4, Second>(131072, 4, 43691));
-    assert_eq!(rt; answers::<KG<Second, Fill<0>>>(&[7; 32])?, ALL);
+    assert_eq!(rt; Calls([7; 32]).at::<KG<Second, Fill<0>>>(0)?, ALL);
     Ok(())
 }
 

@@ -1,9 +1,14 @@
-//! Key pairs and signatures over the counter streams, at each set, with plain and with prepared keys.
+//! Key pairs and signatures over the counter streams, at each set, with plain and with prepared keys; and how a message
+//! and a digest are framed.
 #![tactic(auto)]
 
-use crate::keys::sets::{Keys, MESSAGES, PairCall, SEEDS, Suite, TestSet, Text, at_each_set};
-use crate::values::{has_text, recorded};
+use crate::keys::sets::{
+    Keys, MESSAGES, PairCall, SEEDS, Suite, TestSet, Text, at_each_set, change,
+};
+use crate::signatures::drawing::RefusesAt;
+use crate::values::{RECORDED, has_text};
 use fips204::Fault;
+use fips204::ml_dsa_44::KG;
 use fips204::pre_hash::SHA2_256;
 use fips204::traits::DummyRng;
 use fips204::xof::{Sha256Ctr, Sha256CtrLong, Sha512Ctr, Sha512CtrLong};
@@ -11,10 +16,8 @@ use sha2::{Digest, Sha256};
 use std::alloc::Global;
 use std::test::Fail;
 
-/// The message `00` with an empty context.
 const MESSAGE: Text = Text::Message(&[0], &[]);
 
-/// The digest of 32 bytes 00 with an empty context.
 const DIGEST: Text = Text::Digest(&[0; 32], &[], &SHA2_256);
 
 /// The SHA-256 of signed digests at each set, in hex.
@@ -32,86 +35,59 @@ fn signed<S: TestSet, K: Keys<S::Signature>>(
 ) -> Result<(S::Signature, [bool; 5]), Fault> {
     let signature = keys.seeded(&[0; 32], text)?;
     let drawn = keys.drawn(&mut DummyRng { bytes: [0; 32] }, true, text)?;
+    let mut spoiled = signature;
+    change(S::bytes(&mut spoiled), 100, 1);
     let answers = [
         drawn == signature,
         keys.accepts(text, &signature),
         keys.accepts(&Text::Message(&[1], &[]), &signature),
         keys.accepts(&Text::Message(&[0], &[0]), &signature),
-        keys.accepts(text, &S::spoiled(&signature, 100)),
+        keys.accepts(text, &spoiled),
     ];
     Ok((signature, answers))
-}
-
-/// Whether both keys are these, in hex.
-fn are_keys<S: TestSet>(
-    alloc: Global,
-    keys: S::Plain,
-    recorded: [&str; 3],
-) -> Result<[bool; 2], Fail> {
-    let [public, private] = S::key_bytes(alloc, keys)?;
-    Ok([
-        has_text(alloc, public.as_slice(), recorded[0])?,
-        has_text(alloc, private.as_slice(), recorded[1])?,
-    ])
 }
 
 /// Whether the pairs of 32 bytes 00, given and drawn, and the signatures of a message and of a digest are as recorded;
 /// and what plain and prepared keys answer of these, the same by both.
 #[derive(Drop)]
-struct Bytes {
-    alloc: Global,
-}
+struct Bytes(Global);
 
 impl Suite for Bytes {
     type Answer = ([[bool; 2]; 2], [bool; 4], [[bool; 5]; 4]);
 
     fn at<S: TestSet>(&self, number: usize) -> Result<Self::Answer, Fail> {
-        let (alloc, recorded) = (self.alloc, recorded(number));
+        let (alloc, recorded) = (self.0, RECORDED[number]);
         let drawn = S::drawn_pair(&mut DummyRng { bytes: [0; 32] }, PairCall::OfTrait)?;
         let keys = S::pair(&[0; 32])?;
         let prepared = S::prepared(&keys)?;
-        let (message, first) = signed::<S, S::Plain>(&keys, &MESSAGE)?;
-        let (digest, second) = signed::<S, S::Plain>(&keys, &DIGEST)?;
+        let (mut message, first) = signed::<S, S::Plain>(&keys, &MESSAGE)?;
+        let (mut digest, second) = signed::<S, S::Plain>(&keys, &DIGEST)?;
         let (same_message, third) = signed::<S, S::Prepared>(&prepared, &MESSAGE)?;
         let (same_digest, fourth) = signed::<S, S::Prepared>(&prepared, &DIGEST)?;
-        let hash = Sha256::digest(S::bytes(&digest));
+        let hash = Sha256::digest(S::bytes(&mut digest));
         let signatures = [
-            has_text(alloc, S::bytes(&message), recorded[2])?,
+            has_text(alloc, S::bytes(&mut message), recorded[2])?,
             has_text(alloc, hash.as_slice(), DIGESTS[number])?,
             same_message == message,
             same_digest == digest,
         ];
-        let pairs = [
-            are_keys::<S>(alloc, keys, recorded)?,
-            are_keys::<S>(alloc, drawn, recorded)?,
-        ];
-        Ok((pairs, signatures, [first, second, third, fourth]))
+        let given = S::have_texts(alloc, keys, recorded)?;
+        let drawn = S::have_texts(alloc, drawn, recorded)?;
+        Ok(([given, drawn], signatures, [first, second, third, fourth]))
     }
 }
 
-/// What is found where all is as recorded: two verdicts of five are yes.
-const ALL: ([[bool; 2]; 2], [bool; 4], [[bool; 5]; 4]) = (
-    [[true; 2]; 2],
-    [true; 4],
-    [[true, true, false, false, false]; 4],
-);
-
-/// Key pairs and signatures of a message and of a digest over the counter streams, byte for byte or by SHA-256, with
-/// seeds of 32 bytes 00 given or drawn, by plain and prepared keys; another message, context or bit is rejected.
+/// Key pairs and signatures of a message and a digest over both kinds of counter streams, byte for byte or by SHA-256,
+/// with seeds of 32 bytes 00 given or drawn, by plain and prepared keys; another message, context or bit is rejected.
 #[test]
 fn bytes_of_each_set(rt: HostRuntime) -> Result<(), Fail> {
-    let suite = Bytes { alloc: rt.alloc() };
+    let suite = Bytes(rt.alloc());
+    let verdicts = [true, true, false, false, false];
+    let all = ([[true; 2]; 2], [true; 4], [verdicts; 4]);
     let found = at_each_set::<Sha256Ctr, Sha512Ctr, Bytes>(&suite)?;
-    assert_eq!(rt; found, [ALL; 3]);
-    Ok(())
-}
-
-/// The recorded bytes of each set again over the longer counter streams.
-#[test]
-fn bytes_of_each_set_over_long_fronts(rt: HostRuntime) -> Result<(), Fail> {
-    let suite = Bytes { alloc: rt.alloc() };
+    assert_eq!(rt; found, [all; 3]);
     let found = at_each_set::<Sha256CtrLong, Sha512CtrLong, Bytes>(&suite)?;
-    assert_eq!(rt; found, [ALL; 3]);
+    assert_eq!(rt; found, [all; 3]);
     Ok(())
 }
 
@@ -150,31 +126,28 @@ fn sign_each_as<S: TestSet>(
 /// A list of the first messages, so many: whether it is signed and refused as by single calls, and which signatures are
 /// accepted by single calls, with one call, under a context of 256 bytes, and with another bit in the third.
 #[derive(Drop)]
-struct Lists {
-    alloc: Global,
-    count: usize,
-}
+struct Lists(Global, usize);
 
 impl Suite for Lists {
     type Answer = ([bool; 2], [[bool; 5]; 4]);
 
     fn at<S: TestSet>(&self, _number: usize) -> Result<Self::Answer, Fail> {
+        let Lists(alloc, count) = *self;
         let keys = S::pair(&[0; 32])?;
         let prepared = S::prepared(&keys)?;
-        let (mut signatures, single) = single_calls::<S>(self.alloc, &keys, self.count)?;
-        let signed = sign_each_as::<S>(self.alloc, &prepared, signatures.as_slice())?;
+        let (mut signatures, single) = single_calls::<S>(alloc, &keys, count)?;
+        let signed = sign_each_as::<S>(alloc, &prepared, signatures.as_slice())?;
         let accepted = S::verify_each(&prepared, signatures.as_slice(), b"context");
         let long = S::verify_each(&prepared, signatures.as_slice(), &[0; 256]);
         if let Some(third) = signatures.as_mut_slice().get_mut(2) {
-            *third = S::spoiled(third, 50);
+            change(S::bytes(third), 50, 1);
         }
         let spoiled = S::verify_each(&prepared, signatures.as_slice(), b"context");
         Ok((signed, [single, accepted, long, spoiled]))
     }
 }
 
-/// Lists of 0, 1 and 5 messages under prepared keys, entry by entry as single calls; one changed signature;
-/// a context of 256 bytes.
+/// Lists of 0, 1 and 5 messages under prepared keys, as by single calls; one changed signature; a context of 256 bytes.
 #[test]
 fn many_messages_of_each_set(rt: HostRuntime) -> Result<(), Fail> {
     let (none, all) = ([false; 5], [true; 5]);
@@ -185,9 +158,55 @@ fn many_messages_of_each_set(rt: HostRuntime) -> Result<(), Fail> {
         (1, [first, first, none, first]),
         (5, [all, all, none, spoiled]),
     ] {
-        let alloc = rt.alloc();
-        let found = at_each_set::<Sha256Ctr, Sha512Ctr, Lists>(&Lists { alloc, count })?;
+        let lists = Lists(rt.alloc(), count);
+        let found = at_each_set::<Sha256Ctr, Sha512Ctr, Lists>(&lists)?;
         assert_eq!(rt; found, [([true; 2], verdicts); 3]);
     }
+    Ok(())
+}
+
+/// `c` under the context `ab`, framed.
+const FRAMED_MESSAGE: Text = Text::Framed(&[0x00, 0x02, 0x61, 0x62, 0x63]);
+
+/// The digest of 32 bytes 09 under the context `ab`, framed.
+const FRAMED_DIGEST: Text = Text::Framed(&[
+    0x01, 0x02, 0x61, 0x62, 0x06, 0x09, 0x60, 0x86, 0x48, 0x01, 0x65, 0x03, 0x04, 0x02, 0x01, 9, 9,
+    9, 9, 9, 9, 9, 9, 9, 9, 9, 9, 9, 9, 9, 9, 9, 9, 9, 9, 9, 9, 9, 9, 9, 9, 9, 9, 9, 9, 9, 9,
+]);
+
+/// Whether a text and its framing have one signature, with one call of the generator, which each accepts of the
+/// other, and not of the third text.
+fn is_framed<S: PartialEq + Drop, K: Keys<S>>(
+    keys: &K,
+    text: &Text,
+    framed: &Text,
+    other: &Text,
+) -> Result<bool, Fault> {
+    let mut rng = RefusesAt::new(1, false);
+    let signature = keys.seeded(&[7; 32], text)?;
+    let drawn = keys.drawn(&mut rng, true, framed)?;
+    let verdicts = [
+        keys.accepts(framed, &signature),
+        keys.accepts(text, &drawn),
+        keys.accepts(other, &drawn),
+    ];
+    Ok(signature == drawn && rng.asked == 1 && verdicts == [true, true, false])
+}
+
+/// The framed message `00 02 61 62 63`, and the 47 bytes of a framed digest, by the hooks over the counter streams, with
+/// plain and prepared keys.
+#[test]
+fn hooks_take_framed_messages(rt: HostRuntime) -> Result<(), Fail> {
+    let keys = KG::<Sha256Ctr, Sha512Ctr>::pair(&[0; 32])?;
+    let prepared = KG::<Sha256Ctr, Sha512Ctr>::prepared(&keys)?;
+    let message = Text::Message(b"c", b"ab");
+    let digest = Text::Digest(&[9; 32], b"ab", &SHA2_256);
+    let found = [
+        is_framed(&keys, &message, &FRAMED_MESSAGE, &digest)?,
+        is_framed(&keys, &digest, &FRAMED_DIGEST, &message)?,
+        is_framed(&prepared, &message, &FRAMED_MESSAGE, &digest)?,
+        is_framed(&prepared, &digest, &FRAMED_DIGEST, &message)?,
+    ];
+    assert_eq!(rt; found, [true; 4]);
     Ok(())
 }

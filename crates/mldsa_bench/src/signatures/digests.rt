@@ -1,11 +1,14 @@
-//! Identifiers of hashes, and the conditions on digests.
+//! Identifiers of hashes, the conditions on digests, and the words of the refusals.
 #![tactic(auto)]
 
+use fips204::Fault::{
+    self, DigestLength, DigestTooLong, HashCtx, HashRng, InternalRng, KeyGenRng, KeyRange,
+    OidEmpty, OidNotDer, SamplingLimit, SignCtx, SignRng, TooManyAttempts,
+};
+use fips204::check_pre_hash;
 use fips204::pre_hash::{self, digest_len};
-use fips204::{Fault, check_pre_hash};
 use std::test::Fail;
 
-/// The identifier of one of the twelve hashes, by its last byte.
 fn oid(last: u8) -> [u8; 11] {
     [
         0x06, 0x09, 0x60, 0x86, 0x48, 0x01, 0x65, 0x03, 0x04, 0x02, last,
@@ -14,7 +17,7 @@ fn oid(last: u8) -> [u8; 11] {
 
 /// The twelve object identifiers, byte for byte, and the lengths of their digests.
 #[test]
-fn identifiers_and_lengths(rt: HostRuntime) -> Result<(), Fail> {
+fn identifiers_and_lengths(rt: HostRuntime) {
     for (identifier, last, length) in [
         (pre_hash::SHA2_256, 0x01, 32),
         (pre_hash::SHA2_384, 0x02, 48),
@@ -36,7 +39,6 @@ fn identifiers_and_lengths(rt: HostRuntime) -> Result<(), Fail> {
     assert!(rt; digest_len(&oid(0x0d)) == None);
     assert!(rt; digest_len(&oid(0x01)[..10]) == None);
     assert!(rt; digest_len(&[]) == None);
-    Ok(())
 }
 
 /// The first ten bytes of an identifier of eleven.
@@ -47,19 +49,19 @@ const UNKNOWN: &[u8] = &[0x06, 0x03, 0x2a, 0x03, 0x04];
 
 /// Digests and identifiers that are refused, and why.
 pub const REFUSED_DIGESTS: [(&[u8], &[u8], Fault); 13] = [
-    (&[0; 32], &[], Fault::OidEmpty),
-    (&[0; 32], &[0xff], Fault::OidNotDer),
-    (&[0; 32], &[0x06], Fault::OidNotDer),
-    (&[0; 32], &[0x06, 0x00], Fault::OidNotDer),
-    (&[0; 32], &[0x04, 0x01, 0x00], Fault::OidNotDer),
-    (&[0; 32], CUT, Fault::OidNotDer),
-    (&[0; 1025], &pre_hash::SHA2_256, Fault::DigestTooLong),
-    (&[0; 1025], UNKNOWN, Fault::DigestTooLong),
-    (&[], &pre_hash::SHA2_256, Fault::DigestLength),
-    (&[0; 31], &pre_hash::SHA2_256, Fault::DigestLength),
-    (&[5; 31], &pre_hash::SHA2_256, Fault::DigestLength),
-    (&[0; 33], &pre_hash::SHA2_256, Fault::DigestLength),
-    (&[9; 63], &pre_hash::SHA2_512, Fault::DigestLength),
+    (&[0; 32], &[], OidEmpty),
+    (&[0; 32], &[0xff], OidNotDer),
+    (&[0; 32], &[0x06], OidNotDer),
+    (&[0; 32], &[0x06, 0x00], OidNotDer),
+    (&[0; 32], &[0x04, 0x01, 0x00], OidNotDer),
+    (&[0; 32], CUT, OidNotDer),
+    (&[0; 1025], &pre_hash::SHA2_256, DigestTooLong),
+    (&[0; 1025], UNKNOWN, DigestTooLong),
+    (&[], &pre_hash::SHA2_256, DigestLength),
+    (&[0; 31], &pre_hash::SHA2_256, DigestLength),
+    (&[5; 31], &pre_hash::SHA2_256, DigestLength),
+    (&[0; 33], &pre_hash::SHA2_256, DigestLength),
+    (&[9; 63], &pre_hash::SHA2_512, DigestLength),
 ];
 
 /// Each error of `check_pre_hash` by itself and in its order; digests of 0, 31, 33, 1024 and 1025 bytes; identifiers of
@@ -76,5 +78,38 @@ fn digests_that_are_refused(rt: HostRuntime) {
     longest[..2].copy_from_slice(&[0x06, 0x7f]);
     longer[..2].copy_from_slice(&[0x06, 0x80]);
     assert_eq!(rt; check_pre_hash(&[], &longest), Ok(()));
-    assert_eq!(rt; check_pre_hash(&[], &longer), Err(Fault::OidNotDer));
+    assert_eq!(rt; check_pre_hash(&[], &longer), Err(OidNotDer));
+}
+
+/// The thirteen texts of `Fault`, by `as_str` and by `Display`.
+#[test]
+fn words_of_refusals(rt: HostRuntime) -> Result<(), Fail> {
+    for (fault, words) in [
+        (KeyGenRng, "KeyGen: Random number generator failed"),
+        (SignCtx, "ML-DSA.Sign: ctx too long"),
+        (SignRng, "ML-DSA.Sign: random number generator failed"),
+        (HashCtx, "HashML-DSA.Sign: ctx too long"),
+        (OidEmpty, "HashML-DSA.Sign: OID is empty"),
+        (OidNotDer, "HashML-DSA.Sign: OID is not DER encoded"),
+        (
+            DigestTooLong,
+            "Hash of message is too long, should not be more than 1KiB",
+        ),
+        (
+            DigestLength,
+            "HashML-DSA.Sign: digest length does not match the OID",
+        ),
+        (HashRng, "HashML-DSA.Sign: random number generator failed"),
+        (
+            InternalRng,
+            "ML-DSA.Sign_internal: random number generator failed",
+        ),
+        (TooManyAttempts, "ML-DSA.Sign: too many attempts"),
+        (KeyRange, "Alg 25: s1 or s2 out of range"),
+        (SamplingLimit, "sampling limit reached"),
+    ] {
+        assert_eq!(rt; fault.as_str(), words);
+        assert_eq!(rt; format!(in rt.alloc(); "{fault}")?.as_str(), words);
+    }
+    Ok(())
 }

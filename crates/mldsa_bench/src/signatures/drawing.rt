@@ -1,13 +1,59 @@
 //! Calls that draw: a generator that refuses at the first, the second or the third of four.
 #![tactic(auto)]
 
+ghost use Rattle.std.specs.Prelude.{◌≡◌};
+
 use crate::keys::sets::{Keys, PairCall, Suite, TestSet, Text, at_each_set, is_same};
-use crate::signatures::generators::RefusesAt;
-use fips204::Fault;
 use fips204::pre_hash::SHA2_256;
 use fips204::traits::{CryptoRngCore, DummyRng};
 use fips204::xof::Fill;
+use fips204::{Fault, RngError};
 use std::test::Fail;
+
+/// A generator that refuses at one call, counted from 0, and every call that asks for another number of
+/// bytes than 32; it gives 32 bytes 07 to every other. Where it `writes`, it has written over `out` before
+/// it refuses. It notes whether `out` ever held anything but zeros.
+#[derive(Clone, Copy)]
+pub struct RefusesAt {
+    pub call: u8,
+    pub writes: bool,
+    pub asked: u8,
+    pub saw_a_value: bool,
+}
+
+impl RefusesAt {
+    /// A generator that has not been asked yet.
+    pub fn new(call: u8, writes: bool) -> RefusesAt {
+        RefusesAt {
+            call,
+            writes,
+            asked: 0,
+            saw_a_value: false,
+        }
+    }
+}
+
+impl CryptoRngCore for RefusesAt {
+    ghost use Rattle.std.specs.Prelude.{◌≡◌, ◌≢◌, ◌⊎◌, replicate};
+
+    ghost gives = { λ before asked bytes after. (asked ≡ 32) × (before.asked ≢ before.call) × (bytes ≡ replicate 32 7) × (after.call ≡ before.call) };
+
+    ghost refuses = { λ before asked after. ((asked ≢ 32) ⊎ (before.asked ≡ before.call)) × (after.call ≡ before.call) };
+
+    fn try_fill_bytes(&mut self, out: &mut [u8]) -> Result<(), RngError> {
+        let call = self.asked;
+        self.asked = call.wrapping_add(1);
+        self.saw_a_value |= !out.iter().all(|byte| *byte == 0);
+        if out.len() == 32 && call != self.call {
+            out.fill(7);
+            return Ok(());
+        }
+        if self.writes {
+            out.fill(0xaa);
+        }
+        Err(RngError)
+    }
+}
 
 /// What is signed with drawn bytes, and the refusal that stands for the generator's.
 const DRAWN: [(Text, Fault); 6] = [
@@ -19,26 +65,19 @@ const DRAWN: [(Text, Fault); 6] = [
     (Text::Hash(&[0; 64]), Fault::InternalRng),
 ];
 
-/// What a call that draws answers.
-fn wanted(refused: bool, fault: Fault) -> Result<bool, Fault> {
-    if refused { Err(fault) } else { Ok(true) }
-}
-
-/// Generators that refuse at this call, and whether they have written before.
-#[derive(Clone, Copy)]
-struct Refusing {
-    call: u8,
-    writes: bool,
+/// Whether an answer is as wanted: yes, or this refusal at the call where the generator refuses.
+fn is_wanted(answer: Result<bool, Fault>, refused: bool, fault: Fault) -> bool {
+    answer == if refused { Err(fault) } else { Ok(true) }
 }
 
 /// Whether four signatures of each text are made, but for the one whose generator refuses, each of one call of the
 /// generator, which is handed zeros.
-fn draws<S: PartialEq + Drop, K: Keys<S>>(keys: &K, signature: &S, refusing: Refusing) -> bool {
+fn draws<S: PartialEq + Drop, K: Keys<S>>(keys: &K, signature: &S, refusing: RefusesAt) -> bool {
     for (text, fault) in &DRAWN {
-        let mut rng = RefusesAt::new(refusing.call, refusing.writes);
+        let mut rng = refusing;
         for number in 0..4u8 {
             let answer = is_same(keys.drawn(&mut rng, true, text), signature);
-            if answer != wanted(number == refusing.call, *fault) {
+            if !is_wanted(answer, number == refusing.call, *fault) {
                 return false;
             }
         }
@@ -50,11 +89,11 @@ fn draws<S: PartialEq + Drop, K: Keys<S>>(keys: &K, signature: &S, refusing: Ref
 }
 
 /// Whether four pairs of keys are made so.
-fn draws_pairs<S: TestSet>(pair_call: PairCall, refusing: Refusing) -> bool {
-    let mut rng = RefusesAt::new(refusing.call, refusing.writes);
+fn draws_pairs<S: TestSet>(pair_call: PairCall, refusing: RefusesAt) -> bool {
+    let mut rng = refusing;
     for number in 0..4u8 {
         let answer = S::is_constant(S::drawn_pair(&mut rng, pair_call));
-        if answer != wanted(number == refusing.call, Fault::KeyGenRng) {
+        if !is_wanted(answer, number == refusing.call, Fault::KeyGenRng) {
             return false;
         }
     }
@@ -62,7 +101,7 @@ fn draws_pairs<S: TestSet>(pair_call: PairCall, refusing: Refusing) -> bool {
 }
 
 /// Whether every call of a set that draws answers so: three for pairs, those of plain keys, and those of prepared ones.
-impl Suite for Refusing {
+impl Suite for RefusesAt {
     type Answer = [bool; 5];
 
     fn at<S: TestSet>(&self, _number: usize) -> Result<[bool; 5], Fail> {
@@ -78,52 +117,43 @@ impl Suite for Refusing {
     }
 }
 
-/// At each set every drawing call, plain and prepared, with a generator that fails at its first, second or
-/// third of four calls: the error of that call; the others sign as over constant streams. The generator is
-/// asked four times, with zeros to fill.
+/// At each set every drawing call, plain and prepared, with a generator that fails at its first, second or third of four
+/// calls: that call's error; the others sign as over constant streams. It is asked four times, with zeros to fill.
 #[test]
 fn refusing_generators(rt: HostRuntime) -> Result<(), Fail> {
     for call in 0..3u8 {
         for writes in [false, true] {
-            let refusing = Refusing { call, writes };
-            let found = at_each_set::<Fill<0x55>, Fill<0>, Refusing>(&refusing)?;
+            let refusing = RefusesAt::new(call, writes);
+            let found = at_each_set::<Fill<0x55>, Fill<0>, RefusesAt>(&refusing)?;
             assert_eq!(rt; found, [[true; 5]; 3]);
         }
     }
     Ok(())
 }
 
-/// Whether the generator of these tests gives bytes over such ones, and notes that they are not zeros.
-fn gives_and_notes(byte: u8) -> [bool; 2] {
-    let mut rng = RefusesAt::new(255, false);
-    [rng.try_fill_bytes(&mut [byte; 32]).is_ok(), rng.saw_a_value]
-}
-
 /// The generator of these tests looks at the place that it is handed, and gives 32 bytes at a time.
 #[test]
 fn generator_that_looks(rt: HostRuntime) {
-    assert_eq!(rt; gives_and_notes(0), [true, false]);
-    assert_eq!(rt; gives_and_notes(1), [true, true]);
+    for (byte, noted) in [(0u8, false), (1, true)] {
+        let mut rng = RefusesAt::new(255, false);
+        assert!(rt; rng.try_fill_bytes(&mut [byte; 32]).is_ok());
+        assert_eq!(rt; rng.saw_a_value, noted);
+    }
     let mut rng = RefusesAt::new(255, false);
     assert!(rt; rng.try_fill_bytes(&mut [0, 1]).is_err());
     assert!(rt; rng.saw_a_value);
 }
 
-/// Whether `DummyRng` refuses so many bytes, at most 33, and leaves them as they were.
-fn refused_and_left(out: &mut [u8]) -> bool {
-    out.fill(0x11);
-    let mut rng = DummyRng { bytes: [7; 32] };
-    let answer = rng.try_fill_bytes(out);
-    answer.is_err() && &*out == &[0x11; 33][..out.len().min(33)] && rng.bytes == [7; 32]
-}
-
-/// `DummyRng` asked for 0, 31, 32 and 33 bytes.
+/// `DummyRng` asked for 0, 31, 32 and 33 bytes: it refuses all but 32, and leaves the others as they were.
 #[test]
 fn generator_of_one_seed(rt: HostRuntime) {
-    assert!(rt; refused_and_left(&mut [0; 0]));
-    assert!(rt; refused_and_left(&mut [0; 31]));
-    assert!(rt; refused_and_left(&mut [0; 33]));
     let mut rng = DummyRng { bytes: [7; 32] };
+    for size in [0usize, 31, 33] {
+        let mut out = [0x11u8; 33];
+        assert!(rt; rng.try_fill_bytes(&mut out[..size]).is_err());
+        assert_eq!(rt; out, [0x11; 33]);
+        assert_eq!(rt; rng.bytes, [7; 32]);
+    }
     let mut out = [0u8; 32];
     assert_eq!(rt; rng.try_fill_bytes(&mut out), Ok(()));
     assert_eq!(rt; out, [7; 32]);

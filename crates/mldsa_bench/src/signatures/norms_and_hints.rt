@@ -8,7 +8,6 @@ use crate::values::constant_streams::{signature_44, signature_65};
 use fips204::Fault;
 use std::test::Fail;
 
-/// The signature of set 44 with another first field of z.
 fn with_first_field(field: u32) -> [u8; 2420] {
     let mut signature = signature_44();
     let [low, middle, high, _] = field.to_le_bytes();
@@ -26,14 +25,11 @@ fn with_hint(places: &[u8], counts: [u8; 4]) -> [u8; 2420] {
 }
 
 /// Whether the plain public key over constant streams accepts a signature, and whether the prepared one.
-pub fn accepted<S: TestSet>(signature: &S::Signature) -> Result<[bool; 2], Fault> {
-    let text = Text::Message(b"abc", &[]);
+pub fn accepted<S: TestSet>(bytes: &S::Signature) -> Result<[bool; 2], Fault> {
+    let text = &Text::Message(b"abc", &[]);
     let (keys, _) = S::constant()?;
     let prepared = S::prepared(&keys)?;
-    Ok([
-        keys.accepts(&text, signature),
-        prepared.accepts(&text, signature),
-    ])
+    Ok([keys.accepts(text, bytes), prepared.accepts(text, bytes)])
 }
 
 /// The first field of z: 78 is rejected, 79 and 262065 accepted, 262066 rejected, by plain and prepared public keys.

@@ -64,15 +64,12 @@ pub fn private_87() -> [u8; 4896] {
     key
 }
 
-/// The fields of a polynomial of z: one at places 0 to 84, another from 85 on, and from `turn` on a third
-/// at every second place.
+/// The fields of a polynomial of z: one at places 0 to 84, another from 85 on, and a third at every second from `turn`.
 fn fields(turn: usize, first: u32, second: u32, third: u32) -> [u32; 256] {
     let mut out = [second; 256];
     out[..85].fill(first);
-    for i in 0..256usize {
-        if i >= turn && (i - turn) % 2 == 0 {
-            out[i] = third;
-        }
+    for field in out.iter_mut().skip(turn).step_by(2) {
+        *field = third;
     }
     out
 }
@@ -96,11 +93,10 @@ pub fn put_fields(bytes: &mut [u8], fields: &[u32; 256], width: usize)
 
 /// The signature of set 44.
 pub fn signature_44() -> [u8; 2420] {
-    let mut signature = [0u8; 2420];
-    signature[..32].fill(0x55);
-    let fields = fields(218, 87379, 87383, 87387);
-    put_fields(&mut signature[32..2336], &fields, 18);
-    signature
+    let mut sig = [0u8; 2420];
+    sig[..32].fill(0x55);
+    put_fields(&mut sig[32..2336], &fields(218, 87379, 87383, 87387), 18);
+    sig
 }
 
 /// The signature of set 44 with the private key whose first coefficient of s1 is -2: the first polynomial
@@ -115,18 +111,16 @@ pub fn signature_44_of_least_coefficient() -> [u8; 2420] {
 
 /// The signature of set 65.
 pub fn signature_65() -> [u8; 3309] {
-    let mut signature = [0u8; 3309];
-    signature[..48].fill(0x55);
-    let fields = fields(208, 349526, 349524, 349522);
-    put_fields(&mut signature[48..3248], &fields, 20);
-    signature
+    let mut sig = [0u8; 3309];
+    sig[..48].fill(0x55);
+    put_fields(&mut sig[48..3248], &fields(208, 349526, 349524, 349522), 20);
+    sig
 }
 
 /// The signature of set 87.
 pub fn signature_87() -> [u8; 4627] {
-    let mut signature = [0u8; 4627];
-    signature[..64].fill(0x55);
-    let fields = fields(197, 349525, 349521, 349525);
-    put_fields(&mut signature[64..4544], &fields, 20);
-    signature
+    let mut sig = [0u8; 4627];
+    sig[..64].fill(0x55);
+    put_fields(&mut sig[64..4544], &fields(197, 349525, 349521, 349525), 20);
+    sig
 }
