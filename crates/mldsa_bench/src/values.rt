@@ -4,7 +4,7 @@
 pub mod constant_streams;
 pub mod counter_streams;
 
-pub use counter_streams::RECORDED;
+pub use counter_streams::recorded;
 use hex::FromHexError;
 use std::alloc::Global;
 

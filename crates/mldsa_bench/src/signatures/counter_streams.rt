@@ -6,7 +6,7 @@ use crate::keys::sets::{
     Keys, MESSAGES, PairCall, SEEDS, Suite, TestSet, Text, at_each_set, change,
 };
 use crate::signatures::drawing::RefusesAt;
-use crate::values::{RECORDED, has_text};
+use crate::values::{has_text, recorded};
 use fips204::Fault;
 use fips204::ml_dsa_44::KG;
 use fips204::pre_hash::SHA2_256;
@@ -56,7 +56,7 @@ impl Suite for Bytes {
     type Answer = ([[bool; 2]; 2], [bool; 4], [[bool; 5]; 4]);
 
     fn at<S: TestSet>(&self, number: usize) -> Result<Self::Answer, Fail> {
-        let (alloc, recorded) = (self.0, RECORDED[number]);
+        let (alloc, recorded) = (self.0, recorded(number));
         let drawn = S::drawn_pair(&mut DummyRng { bytes: [0; 32] }, PairCall::OfTrait)?;
         let keys = S::pair(&[0; 32])?;
         let prepared = S::prepared(&keys)?;

@@ -2,8 +2,16 @@
 //! `00`, as an independent model gives them.
 #![tactic(auto)]
 
-/// The public key, the private key and the signature of each set, in hex.
-pub const RECORDED: [[&str; 3]; 3] = [
+ghost use Rattle.std.specs.Prelude.{◌<◌};
+
+/// The public key, the private key and the signature of a set, in hex; the numbers 0, 1 and 2 stand for 44, 65 and 87.
+pub fn recorded(number: usize) -> [&'static str; 3]
+    requires { number < 3 }
+{
+    RECORDED[number]
+}
+
+const RECORDED: [[&str; 3]; 3] = [
     [
         "\
 997dbdb42f8904c34753e035b5b0a03dfe13a68c332e4d70aa643d3b25fd3bcc6be073332417ee2be64418b641d8779d5bc5b9bf15630f9782a26103b1e094eae2093d21df35345df986c988a3bd61556ae735e8bcefaa3d6b65fd33b298abb161d2cd6166c0104c14e95bbf7c75638ab9a3990844b21d27f269888c6f11ae418ffc4df31f8eaebc70be270bea57fc670e5c2e77423ead64ddf3aed89daf3fd7a25922ecc9c385c9d270d303310ad741c918375f37b7ca5bafe7f4369194b206c05741db65abba0efaab359f487725f70eb458255dcf62e231b7ed26ebcd39c0676d4cc2f5ca7da5aadf329ccef7a82301ef6c65609bcf898df7dd47c75ec080\
