@@ -6,7 +6,8 @@ use crate::program::texts::spelt;
 use std::test::Fail;
 
 /// `yes` and `no` in the order of the entries, and status 0 if all are `yes`. With a context of 256 bytes and over a
-/// key without a matrix each is `no`. Count `0000`: no output, status 0, and what follows stays unread.
+/// key without a matrix each is `no`. Count `0000`: no output, status 0, and what follows stays unread. Faults come
+/// before answers: counts of no byte, one and three, and a signature of 2419 bytes in the last entry.
 #[test]
 fn answers_in_the_order_of_the_entries(rt: HostRuntime) -> Result<(), Fail> {
     let cases = "\
@@ -22,14 +23,7 @@ fillff/batch/44 | public,00*256,0001,good,00, | no, | 1
 sha2/batch/44 | public,,0000, |  | 0
 fill55/batch/44 | public,,0000, |  | 0
 fillff/batch/44 | public,,0000, |  | 0
-fill55/batch/44 | public,,0000,|good,00, |  | 0";
-    all_go(rt.alloc(), cases)
-}
-
-/// Faults come before answers: counts of no byte, one and three, and a signature of 2419 bytes in the last entry.
-#[test]
-fn faults_before_answers(rt: HostRuntime) -> Result<(), Fail> {
-    let cases = "\
+fill55/batch/44 | public,,0000,|good,00, |  | 0
 fill55/batch/44 | public,,, | line 3: wants 2 bytes, has 0 | 2
 fill55/batch/44 | public,,01, | line 3: wants 2 bytes, has 1 | 2
 fill55/batch/44 | public,,000001, | line 3: wants 2 bytes, has 3 | 2

@@ -87,13 +87,11 @@ impl Write for Drip {
 
 /// A process with these arguments, of which the first is the program's name, and no environment.
 #[derive(Clone, Copy)]
-pub struct Arguments<'a> {
-    pub arguments: &'a [&'a [u8]],
-}
+pub struct Arguments<'a>(pub &'a [&'a [u8]]);
 
 impl Env for Arguments<'_> {
     fn arg(&self, i: usize, buf: &mut [u8]) -> Result<usize, FillError> {
-        let argument = self.arguments.get(i).ok_or(FillError::NotPresent)?;
+        let argument = self.0.get(i).ok_or(FillError::NotPresent)?;
         let room = buf.get_mut(..argument.len()).ok_or(FillError::TooLong)?;
         room.copy_from_slice(argument);
         Ok(argument.len())
@@ -110,13 +108,11 @@ impl Env for Arguments<'_> {
 
 /// A standard error that keeps what is printed.
 #[derive(Drop)]
-pub struct KeptError {
-    pub text: RefCell<String>,
-}
+pub struct KeptError(pub RefCell<String>);
 
 impl Eprint for KeptError {
     fn eprint<D: Display + Drop>(&self, value: D) -> io::Result<()> {
-        match self.text.try_borrow_mut() {
+        match self.0.try_borrow_mut() {
             Ok(mut text) => Ok(write!(text, "{value}")?),
             Err(_) => Err(io::Error::from(io::ErrorKind::Other)),
         }

@@ -1,29 +1,21 @@
 //! Lines, words and errors: what the program returns where something is wrong, and in which order.
 #![tactic(auto)]
 
-use crate::program::devices::{BY_BYTES, WHOLE, stopping};
-use crate::program::runs::{all_go, ensure, goes, told};
-use crate::program::texts::spelt;
+use crate::program::devices::WHOLE;
+use crate::program::runs::{all_go, goes, told};
 use mldsa_engine::RunFault;
 use std::test::Fail;
 
 /// A key is printed with its hash. Upper-case hex is read, and printed in lower case. What follows the last expected
-/// line stays unread, and a last line without LF is read.
+/// line stays unread, and a last line without LF is read. Lines of another length, and none, are refused. A letter past
+/// f, a carriage return, a space, `0x` and an odd number of digits are `not hex`.
 #[test]
-fn keys_and_their_hashes(rt: HostRuntime) -> Result<(), Fail> {
+fn lines_that_are_read_or_refused(rt: HostRuntime) -> Result<(), Fail> {
     let cases = "\
 fill55/id/44 | 0*2624, | 0*2624,5*128, | 0
 fillff/id/44 | A*2624, | a*2624,f*128, | 0
 fill00/id/44 | 0*2624,|rest, | 0*2624,0*128, | 0
-fill00/id/44 | 0*2624 | 0*2624,0*128, | 0";
-    all_go(rt.alloc(), cases)
-}
-
-/// Lines of another length, and none. A letter past f, a carriage return, a space, `0x` and an odd number of digits are
-/// `not hex`.
-#[test]
-fn lines_that_are_refused(rt: HostRuntime) -> Result<(), Fail> {
-    let cases = "\
+fill00/id/44 | 0*2624 | 0*2624,0*128, | 0
 fill55/id/44 | 0*2622, | line 1: wants 1312 bytes, has 1311 | 2
 fill55/id/44 | 0*63, | line 1: not hex | 2
 fill55/id/44 | 0*62, | line 1: wants 1312 bytes, has 31 | 2
@@ -41,41 +33,26 @@ fill55/id/44 | 0, | line 1: not hex | 2";
 }
 
 /// 2097153 characters are `too long`, digits or not, and their LF stays unread; 2097152 are `not hex`, or
-/// `wants 1312 bytes, has 1048576`.
+/// `wants 1312 bytes, has 1048576`. Bytes above 127, and a carriage return after a key: `not hex`.
 #[test]
-fn lines_at_the_longest(rt: HostRuntime) -> Result<(), Fail> {
+fn lines_of_one_character(rt: HostRuntime) -> Result<(), Fail> {
     let call = ["fill55", "id", "44"];
     let (line, wants, has) = (1, 1312, 1048576);
-    for (character, left, fault) in [
-        (b'g', 1usize, RunFault::TooLong { line }),
-        (b'0', 1, RunFault::TooLong { line }),
-        (b'g', 0, RunFault::NotHex { line }),
-        (b'0', 0, RunFault::Length { line, wants, has }),
+    let length = RunFault::Length { line, wants, has };
+    for (character, count, end, left, fault) in [
+        (b'g', 2097153usize, "\n", 1usize, RunFault::TooLong { line }),
+        (b'0', 2097153, "\n", 1, RunFault::TooLong { line }),
+        (b'g', 2097152, "\n", 0, RunFault::NotHex { line }),
+        (b'0', 2097152, "\n", 0, length),
+        (0xff, 2, "\n", 0, RunFault::NotHex { line }),
+        (b'0', 2624, "\r\n", 0, RunFault::NotHex { line }),
     ] {
-        let mut bytes = vec![in rt.alloc(); character; 2097152 + left]?;
-        bytes.push(b'\n')?;
+        let mut bytes = vec![in rt.alloc(); character; count]?;
+        bytes.extend_from_slice(end.as_bytes())?;
         let (answer, same, unread, _) = told(rt.alloc(), [WHOLE; 2], call, bytes.as_slice(), b"")?;
-        ensure(
-            (answer, same, unread) == (Err(fault), true, left),
-            "a long line",
-        )?;
+        assert_eq!(rt; (answer, same, unread), (Err(fault), true, left));
     }
     Ok(())
-}
-
-/// Bytes above 127, and a carriage return after a key: `not hex`.
-#[test]
-fn bytes_that_are_no_digits(rt: HostRuntime) -> Result<(), Fail> {
-    let id = ["fill55", "id", "44"];
-    let key = "0".repeat(rt.alloc(), 2624)?;
-    let case = format!(in rt.alloc(); "fill55/id/44 | {key}\r, | line 1: not hex | 2")?;
-    goes(rt.alloc(), case.as_str())?;
-    let (answer, same, unread, _) = told(rt.alloc(), [WHOLE; 2], id, b"\xff\xff\n", b"")?;
-    let fault = Err(RunFault::NotHex { line: 1 });
-    ensure(
-        (answer, same, unread) == (fault, true, 0),
-        "bytes above 127",
-    )
 }
 
 /// Words that are no call: the usage fault, with nothing read.
@@ -116,21 +93,4 @@ fillff/check/44 | 0*64,0*64,0*512,00, | sampling limit reached, | 1
 fillff/verify/44 | 0*2624,0*4840,,,|00, | no, | 1
 fill55/verify/44 | 0*2624,0*4838,,0|0, | line 2: wants 2420 bytes, has 2419 | 2";
     all_go(rt.alloc(), cases)
-}
-
-/// A writer that fails at byte 0, 1 or 22 of an error of the library: `write failed` after so many bytes.
-#[test]
-fn writer_that_fails_at_a_refusal(rt: HostRuntime) -> Result<(), Fail> {
-    let keygen = ["fillff", "keygen", "65"];
-    let seed = spelt(rt.alloc(), keygen, "0*64,")?;
-    for fails_at in [0usize, 1, 22] {
-        let paces = [BY_BYTES, stopping(fails_at)];
-        let written = &b"sampling limit reached\n"[..fails_at];
-        let (answer, same, _, _) = told(rt.alloc(), paces, keygen, seed.as_bytes(), written)?;
-        ensure(
-            (answer, same) == (Err(RunFault::Write), true),
-            "another end",
-        )?;
-    }
-    Ok(())
 }

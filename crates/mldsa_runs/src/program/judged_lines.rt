@@ -24,53 +24,35 @@ fn is_judged(
     let reads = before.len().wrapping_add(line.len().max(1));
     let paces = [stopping(reads), BY_BYTES];
     let (answer, same, _, calls) = told(alloc, paces, call, input.as_bytes(), b"")?;
-    ensure(
-        (answer, same, calls) == (Err(fault), true, [reads, 0]),
-        line,
-    )?;
+    let ended = (answer, same, calls) == (Err(fault), true, [reads, 0]);
+    ensure(ended, line)?;
     let (answer, same, _, calls) = told(alloc, [WHOLE; 2], call, input.as_bytes(), b"")?;
     ensure((answer, same, calls[1]) == (Err(fault), true, 0), line)
 }
 
-/// Fails unless each fault of one line ends a run, after these lines: that it is missing, that it is no hex, and unless
-/// it may have any number of bytes, that it has not as many as the good line.
-fn is_at_fault(
-    alloc: Global,
-    call: [&str; 3],
-    before: &str,
-    index: usize,
-    good: &str,
-) -> Result<(), Fail> {
-    let line = index.wrapping_add(1);
-    is_judged(alloc, call, before, "", RunFault::Missing { line })?;
-    for bad in ["0\n", "0g\n", "00 \n", "0x\n"] {
-        is_judged(alloc, call, before, bad, RunFault::NotHex { line })?;
-    }
-    if may_vary(call[1], index) {
-        return Ok(());
-    }
-    let wants = good.len() / 2;
-    for has in [0, 1, wants.wrapping_sub(1), wants.wrapping_add(1)] {
-        let mut digits = "00".repeat(alloc, has)?;
-        digits.push('\n')?;
-        let fault = RunFault::Length { line, wants, has };
-        is_judged(alloc, call, before, digits.as_str(), fault)?;
-    }
-    Ok(())
-}
-
-/// Fails unless each fault of each of these lines, which are good, ends a run before anything that follows is read.
+/// Fails unless each fault of each of these lines, which are good, ends a run before anything that follows is read:
+/// that it is missing, that it is no hex, and unless it may have any number of bytes, that it has not as many as here.
 fn faults_in_turn(alloc: Global, call: [&str; 3], input: &str) -> Result<(), Fail> {
     let mut before = String::new(alloc);
     for (index, good) in input.lines().enumerate() {
-        is_at_fault(alloc, call, before.as_str(), index, good)?;
+        let (line, wants) = (index.wrapping_add(1), good.len() / 2);
+        is_judged(alloc, call, before.as_str(), "", RunFault::Missing { line })?;
+        for bad in ["0\n", "0g\n", "00 \n", "0x\n"] {
+            is_judged(alloc, call, before.as_str(), bad, RunFault::NotHex { line })?;
+        }
+        if !may_vary(call[1], index) {
+            for has in [0, 1, wants.wrapping_sub(1), wants.wrapping_add(1)] {
+                let bad = format!(in alloc; "{}\n", "00".repeat(alloc, has)?)?;
+                let fault = RunFault::Length { line, wants, has };
+                is_judged(alloc, call, before.as_str(), bad.as_str(), fault)?;
+            }
+        }
         before.push_str(good)?;
         before.push('\n')?;
     }
     Ok(())
 }
 
-/// Each command with its lines.
 const COMMANDS: [[&str; 2]; 6] = [
     ["id", "public,"],
     ["keygen", "00*32,"],

@@ -13,48 +13,24 @@ use std::io::{self, BufReader, Read};
 use std::process::ExitCode;
 use std::test::Fail;
 
-/// Whether bytes are put in one call of a device, which takes them or fails, and none of them in none.
-fn is_put(alloc: Global, bytes: &[u8], fails_at: usize) -> bool {
-    let mut output = Marked::new(Drip {
-        taken: Vec::new(alloc),
-        pace: Pace { fails_at, ..WHOLE },
-    });
-    let calls = usize::from(!bytes.is_empty());
-    let fails = fails_at < calls;
-    let failed = write_all(&mut output, bytes).is_err();
-    let marked = output.failed();
-    let writer = output.into_device();
-    (failed, marked, writer.pace.calls) == (fails, fails, calls)
-        && (fails || writer.taken.as_slice() == bytes)
-}
-
-/// Of 0 to 20000 bytes the device is handed each.
+/// Of 0 to 20000 bytes the device is handed each in one call, which takes them or fails, and in none if there are none.
 #[test]
 fn writes_of_every_size(rt: HostRuntime) {
     let bytes = [0x5a; 20000];
     for size in 0..20001usize {
         for fails_at in [0, usize::MAX] {
-            assert!(rt; is_put(rt.alloc(), &bytes[..size], fails_at));
+            let pace = Pace { fails_at, ..WHOLE };
+            let taken = Vec::new(rt.alloc());
+            let mut output = Marked::new(Drip { taken, pace });
+            let failed = write_all(&mut output, &bytes[..size]).is_err();
+            let marked = output.failed();
+            let Drip { taken, pace } = output.into_device();
+            let calls = usize::from(size > 0);
+            let fails = fails_at < calls;
+            assert_eq!(rt; (failed, marked, pace.calls), (fails, fails, calls));
+            assert!(rt; fails || taken.as_slice() == &bytes[..size], "{size} bytes");
         }
     }
-}
-
-/// Whether an answer ends a run with this status, and with this text on standard error, which is its fault on a line.
-fn is_told(
-    alloc: Global,
-    answer: Result<bool, RunFault>,
-    status: u8,
-    text: &str,
-) -> Result<bool, Fail> {
-    let error = KeptError {
-        text: RefCell::new(String::new(alloc)),
-    };
-    let line = match answer {
-        Ok(_) => String::new(alloc),
-        Err(fault) => format!(in alloc; "{fault}\n")?,
-    };
-    let ended = end(&error, answer) == ExitCode::from(status);
-    Ok(ended && line.as_str() == text && error.text.into_inner().as_str() == text)
 }
 
 /// Statuses 0 and 1, with nothing on standard error, and status 2 of each fault, with its text as a line there.
@@ -62,40 +38,45 @@ fn is_told(
 fn statuses_and_lines_of_faults(rt: HostRuntime) -> Result<(), Fail> {
     let usage =
         "usage: mldsa sha2|fill00|fill55|fillff id|keygen|sign|verify|check|batch 44|65|87\n";
-    let length = |line, wants, has| RunFault::Length { line, wants, has };
-    for (fault, text) in [
-        (RunFault::Usage, usage),
-        (RunFault::Missing { line: 1 }, "line 1: missing\n"),
-        (RunFault::Missing { line: 4 }, "line 4: missing\n"),
-        (RunFault::TooLong { line: 1 }, "line 1: too long\n"),
-        (RunFault::TooLong { line: 2 }, "line 2: too long\n"),
-        (RunFault::TooLong { line: 3 }, "line 3: too long\n"),
-        (RunFault::NotHex { line: 1 }, "line 1: not hex\n"),
-        (RunFault::NotHex { line: 12 }, "line 12: not hex\n"),
-        (length(1, 32, 31), "line 1: wants 32 bytes, has 31\n"),
-        (length(2, 2420, 0), "line 2: wants 2420 bytes, has 0\n"),
+    let length = |line, wants, has| Err(RunFault::Length { line, wants, has });
+    for (answer, status, text) in [
+        (Ok(true), 0, ""),
+        (Ok(false), 1, ""),
+        (Err(RunFault::Usage), 2, usage),
+        (Err(RunFault::Missing { line: 1 }), 2, "line 1: missing\n"),
+        (Err(RunFault::Missing { line: 4 }), 2, "line 4: missing\n"),
+        (Err(RunFault::TooLong { line: 1 }), 2, "line 1: too long\n"),
+        (Err(RunFault::TooLong { line: 2 }), 2, "line 2: too long\n"),
+        (Err(RunFault::TooLong { line: 3 }), 2, "line 3: too long\n"),
+        (Err(RunFault::NotHex { line: 1 }), 2, "line 1: not hex\n"),
+        (Err(RunFault::NotHex { line: 12 }), 2, "line 12: not hex\n"),
+        (length(1, 32, 31), 2, "line 1: wants 32 bytes, has 31\n"),
+        (length(2, 2420, 0), 2, "line 2: wants 2420 bytes, has 0\n"),
         (
             length(2, 2420, 2419),
+            2,
             "line 2: wants 2420 bytes, has 2419\n",
         ),
-        (RunFault::Read, "read failed\n"),
-        (RunFault::Write, "write failed\n"),
-        (RunFault::Memory, "out of memory\n"),
+        (Err(RunFault::Read), 2, "read failed\n"),
+        (Err(RunFault::Write), 2, "write failed\n"),
+        (Err(RunFault::Memory), 2, "out of memory\n"),
     ] {
-        assert!(rt; is_told(rt.alloc(), Err(fault), 2, text)?);
+        let error = KeptError(RefCell::new(String::new(rt.alloc())));
+        assert!(rt; end(&error, answer) == ExitCode::from(status), "{text}");
+        assert_eq!(rt; error.0.into_inner().as_str(), text);
+        if let Err(fault) = answer {
+            assert_eq!(rt; format!(in rt.alloc(); "{fault}\n")?.as_str(), text);
+        }
     }
-    assert!(rt; is_told(rt.alloc(), Ok(true), 0, "")?);
-    assert!(rt; is_told(rt.alloc(), Ok(false), 1, "")?);
     Ok(())
 }
 
-/// Whether the words of a process with these arguments are these.
 fn has_words(
     alloc: Global,
     arguments: &'static [&'static [u8]],
     texts: &[&str],
 ) -> Result<bool, RunFault> {
-    let words = process::words(&(Arguments { arguments }, alloc))?;
+    let words = process::words(&(Arguments(arguments), alloc))?;
     let mut alike = words.len() == texts.len();
     for (word, text) in words.iter().zip(texts) {
         alike = alike && word.as_str() == *text;
@@ -103,10 +84,8 @@ fn has_words(
     Ok(alike)
 }
 
-/// The arguments of a call.
 const CALL: [&[u8]; 4] = [b"mldsa", b"fill55", b"id", b"44"];
 
-/// Arguments of which one is no text.
 const NO_TEXT: [&[u8]; 2] = [b"mldsa", b"\xff"];
 
 /// The name of the program is left out of its words, and nothing else.
@@ -138,10 +117,8 @@ fn comes_singly(
 /// Single bytes come out of the buffer, a longer piece from the device.
 #[test]
 fn single_bytes_come_from_a_buffer(rt: HostRuntime) -> Result<(), Fail> {
-    let reader = Trickle {
-        bytes: b"twenty bytes to read",
-        pace: WHOLE,
-    };
+    let bytes = b"twenty bytes to read";
+    let reader = Trickle { bytes, pace: WHOLE };
     let reader = BufReader::with_capacity(rt.alloc(), 8, reader)?;
     let mut bytewise = Bytewise { reader };
     assert!(rt; comes_singly(&mut bytewise, b"twenty b", 1)?);

@@ -25,10 +25,8 @@ pub fn run_of(
     }
     let [pace, writing] = paces;
     let mut input = Marked::new(Trickle { bytes, pace });
-    let mut output = Marked::new(Drip {
-        taken: Vec::new(alloc),
-        pace: writing,
-    });
+    let (taken, pace) = (Vec::new(alloc), writing);
+    let mut output = Marked::new(Drip { taken, pace });
     let answer = from_words(alloc, words.as_slice(), &mut input, &mut output);
     let read = input.failed() == (answer == Err(RunFault::Read));
     let marked = read && output.failed() == (answer == Err(RunFault::Write));
@@ -54,15 +52,16 @@ pub fn ensure(holds: bool, words: &str) -> Result<(), Fail> {
     if holds { Ok(()) } else { Err(Fail::new(words)) }
 }
 
-/// Whether a call on this input has this output and this status. `spelt` reads both texts; what stands after a bar in
-/// the input stays unread. At status 2 nothing is written, and the output is the text of the fault.
-fn ends_so(
-    alloc: Global,
-    call: [&str; 3],
-    text: &str,
-    output: &str,
-    status: &str,
-) -> Result<bool, AllocError> {
+/// Fails with its input unless a case goes so: its call, its input, its output and its status, with ` | ` between them.
+/// `spelt` reads the input and the output; what stands after a bar in the input stays unread. At status 2 nothing is
+/// written, and the output is the text of the fault.
+pub fn goes(alloc: Global, case: &str) -> Result<(), Fail> {
+    let (call, case) = parted(case, " | ");
+    let (text, case) = parted(case, " | ");
+    let (output, status) = parted(case, " | ");
+    let (streams, call) = parted(call, "/");
+    let (command, set) = parted(call, "/");
+    let call = [streams, command, set];
     let (read, rest) = parted(text, "|");
     let mut input = spelt(alloc, call, read)?;
     let unread = spelt(alloc, call, rest)?;
@@ -75,18 +74,7 @@ fn ends_so(
         Ok(false) => status == "1",
         Err(fault) => status == "2" && format!(in alloc; "{fault}")?.as_str() == output,
     };
-    Ok(ended && same && left == unread.len())
-}
-
-/// Fails with its input unless a case goes so: its call, its input, its output and its status, with ` | ` between them.
-pub fn goes(alloc: Global, case: &str) -> Result<(), Fail> {
-    let (call, case) = parted(case, " | ");
-    let (text, case) = parted(case, " | ");
-    let (output, status) = parted(case, " | ");
-    let (streams, call) = parted(call, "/");
-    let (command, set) = parted(call, "/");
-    let call = [streams, command, set];
-    ensure(ends_so(alloc, call, text, output, status)?, text)
+    ensure(ended && same && left == unread.len(), text)
 }
 
 /// Fails unless each of these cases, a line each, goes so.

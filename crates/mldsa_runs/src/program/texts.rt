@@ -10,12 +10,11 @@ use std::alloc::{AllocError, Global};
 
 /// What a word names at a set over the counter streams, in hex or as an answer. Any other word is itself.
 fn recorded<'a>(set: &str, word: &'a str) -> &'a str {
-    let number = match set {
-        "44" => 0,
-        "65" => 1,
-        _ => 2,
+    let [public, private, signature] = match set {
+        "44" => RECORDED[0],
+        "65" => RECORDED[1],
+        _ => RECORDED[2],
     };
-    let [public, private, signature] = RECORDED[number];
     match word {
         "public" => public,
         "private" => private,
@@ -27,48 +26,33 @@ fn recorded<'a>(set: &str, word: &'a str) -> &'a str {
     }
 }
 
-/// The private key of set 44 with this first field of s1, of which 4 is the last in range.
-fn private_with(field: u8) -> [u8; 2560] {
-    let mut key = private_44();
-    key[128] = field;
-    key
-}
-
-/// The signature of set 44 with a first coefficient of z that is out of range.
-fn refused() -> [u8; 2420] {
-    let mut signature = signature_44();
-    signature[32] = 0x4e;
-    signature[33] = 0x00;
-    signature[34] = 0x4c;
-    signature
-}
-
-/// What a word names at set 44 over constant streams, in hex. Any other word is itself.
-fn constant_44(alloc: Global, word: &str) -> Result<String, AllocError> {
-    match word {
-        "public" => hex::encode(alloc, &public_44()),
-        "private" => hex::encode(alloc, &private_44()),
-        "private4" => hex::encode(alloc, &private_with(4)),
-        "private5" => hex::encode(alloc, &private_with(5)),
-        "good" => hex::encode(alloc, &signature_44()),
-        "good4" => hex::encode(alloc, &signature_44_of_least_coefficient()),
-        "bad" => hex::encode(alloc, &refused()),
-        _ => String::from_str(alloc, word),
-    }
-}
-
-/// The same at each set.
+/// What a word names at a set over constant streams, in hex or as an answer. Any other word is itself.
 fn constant(alloc: Global, set: &str, word: &str) -> Result<String, AllocError> {
-    match word {
-        "hash" => "5".repeat(alloc, 128),
-        "other" => String::from_str(alloc, "yes"),
-        _ if set == "44" => constant_44(alloc, word),
-        "public" if set == "65" => hex::encode(alloc, &public_65()),
-        "public" => hex::encode(alloc, &public_87()),
-        "private" if set == "65" => hex::encode(alloc, &private_65()),
-        "private" => hex::encode(alloc, &private_87()),
-        "good" if set == "65" => hex::encode(alloc, &signature_65()),
-        "good" => hex::encode(alloc, &signature_87()),
+    match (word, set) {
+        ("public", "44") => hex::encode(alloc, &public_44()),
+        ("public", "65") => hex::encode(alloc, &public_65()),
+        ("public", _) => hex::encode(alloc, &public_87()),
+        ("private", "44") => hex::encode(alloc, &private_44()),
+        ("private", "65") => hex::encode(alloc, &private_65()),
+        ("private", _) => hex::encode(alloc, &private_87()),
+        ("private4" | "private5", _) => {
+            // The first field of s1, of which 4 is the last in range.
+            let mut key = private_44();
+            key[128] = if word == "private4" { 4 } else { 5 };
+            hex::encode(alloc, &key)
+        }
+        ("good", "44") => hex::encode(alloc, &signature_44()),
+        ("good", "65") => hex::encode(alloc, &signature_65()),
+        ("good", _) => hex::encode(alloc, &signature_87()),
+        ("good4", _) => hex::encode(alloc, &signature_44_of_least_coefficient()),
+        ("bad", _) => {
+            // The first coefficient of z is out of range.
+            let mut signature = signature_44();
+            signature[32..35].copy_from_slice(&[0x4e, 0x00, 0x4c]);
+            hex::encode(alloc, &signature)
+        }
+        ("hash", _) => "5".repeat(alloc, 128),
+        ("other", _) => String::from_str(alloc, "yes"),
         _ => String::from_str(alloc, word),
     }
 }
