@@ -133,18 +133,19 @@ pub fn signed_by<K: Signer>(key: &K, rnd: &[u8; 32], message: &[u8]) -> Result<K
     key.try_sign_with_seed(rnd, message, &[])
 }
 
-/// Signs a message by `signed_by` with one key of set 87, and verifies it with another.
+/// Signs a message by `signed_by` with one key of set 87, and verifies it under a context with another.
 pub fn signed_and_verified_at_87<H: Xof, G: Xof>(
     private: &ml_dsa_87::PrivateKey<H, G>,
     public: &ml_dsa_87::PublicKey<H, G>,
     rnd: &[u8; 32],
     message: &[u8],
+    ctx: &[u8],
 ) -> Result<([u8; ml_dsa_87::SIG_LEN], bool), Fault>
     ensures { IfOk result (λ pair. (sign_message set_87 H.front G.front private.now rnd.now message.now [] ≡ Ok pair.0)
-        × (IsTrue pair.1 ↔ VerifiesMessage set_87 H.front G.front public.now message.now pair.0 [])) }
+        × (IsTrue pair.1 ↔ VerifiesMessage set_87 H.front G.front public.now message.now pair.0 ctx.now)) }
 {
     let signature = signed_by(private, rnd, message)?;
-    let accepted = public.verify(message, &signature, &[]);
+    let accepted = public.verify(message, &signature, ctx);
     Ok((signature, accepted))
 }
 
