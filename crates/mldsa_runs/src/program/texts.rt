@@ -1,20 +1,21 @@
 //! Inputs and outputs, spelt with words for recorded bytes.
 #![tactic(auto)]
 
-use mldsa_bench::values::RECORDED;
 use mldsa_bench::values::constant_streams::{
     private_44, private_65, private_87, public_44, public_65, public_87, signature_44,
     signature_44_of_least_coefficient, signature_65, signature_87,
 };
+use mldsa_bench::values::recorded;
 use std::alloc::{AllocError, Global};
 
 /// What a word names at a set over the counter streams, in hex or as an answer. Any other word is itself.
-fn recorded<'a>(set: &str, word: &'a str) -> &'a str {
-    let [public, private, signature] = match set {
-        "44" => RECORDED[0],
-        "65" => RECORDED[1],
-        _ => RECORDED[2],
+fn counted<'a>(set: &str, word: &'a str) -> &'a str {
+    let number = match set {
+        "44" => 0,
+        "65" => 1,
+        _ => 2,
     };
+    let [public, private, signature] = recorded(number);
     match word {
         "public" => public,
         "private" => private,
@@ -28,31 +29,37 @@ fn recorded<'a>(set: &str, word: &'a str) -> &'a str {
 
 /// What a word names at a set over constant streams, in hex or as an answer. Any other word is itself.
 fn constant(alloc: Global, set: &str, word: &str) -> Result<String, AllocError> {
-    match (word, set) {
-        ("public", "44") => hex::encode(alloc, &public_44()),
-        ("public", "65") => hex::encode(alloc, &public_65()),
-        ("public", _) => hex::encode(alloc, &public_87()),
-        ("private", "44") => hex::encode(alloc, &private_44()),
-        ("private", "65") => hex::encode(alloc, &private_65()),
-        ("private", _) => hex::encode(alloc, &private_87()),
-        ("private4" | "private5", _) => {
+    match word {
+        "public" => match set {
+            "44" => hex::encode(alloc, &public_44()),
+            "65" => hex::encode(alloc, &public_65()),
+            _ => hex::encode(alloc, &public_87()),
+        },
+        "private" => match set {
+            "44" => hex::encode(alloc, &private_44()),
+            "65" => hex::encode(alloc, &private_65()),
+            _ => hex::encode(alloc, &private_87()),
+        },
+        "good" => match set {
+            "44" => hex::encode(alloc, &signature_44()),
+            "65" => hex::encode(alloc, &signature_65()),
+            _ => hex::encode(alloc, &signature_87()),
+        },
+        "good4" => hex::encode(alloc, &signature_44_of_least_coefficient()),
+        "private4" | "private5" => {
             // The first field of s1, of which 4 is the last in range.
             let mut key = private_44();
             key[128] = if word == "private4" { 4 } else { 5 };
             hex::encode(alloc, &key)
         }
-        ("good", "44") => hex::encode(alloc, &signature_44()),
-        ("good", "65") => hex::encode(alloc, &signature_65()),
-        ("good", _) => hex::encode(alloc, &signature_87()),
-        ("good4", _) => hex::encode(alloc, &signature_44_of_least_coefficient()),
-        ("bad", _) => {
+        "bad" => {
             // The first coefficient of z is out of range.
             let mut signature = signature_44();
             signature[32..35].copy_from_slice(&[0x4e, 0x00, 0x4c]);
             hex::encode(alloc, &signature)
         }
-        ("hash", _) => "5".repeat(alloc, 128),
-        ("other", _) => String::from_str(alloc, "yes"),
+        "hash" => "5".repeat(alloc, 128),
+        "other" => String::from_str(alloc, "yes"),
         _ => String::from_str(alloc, word),
     }
 }
@@ -72,7 +79,7 @@ pub fn spelt(alloc: Global, call: [&str; 3], text: &str) -> Result<String, Alloc
         }
         let (word, copies) = parted(line, "*");
         let word = match streams {
-            "sha2" => String::from_str(alloc, recorded(set, word))?,
+            "sha2" => String::from_str(alloc, counted(set, word))?,
             _ => constant(alloc, set, word)?,
         };
         let copies = copies.parse().unwrap_or(1);
