@@ -30,6 +30,22 @@ pub fn signed_at_44<H: Xof, G: Xof>(
     key.try_sign_with_seed(rnd, message, ctx)
 }
 
+/// Signs a message with one key of set 44, and verifies it with another.
+pub fn signed_and_verified_at_44<H: Xof, G: Xof>(
+    private: &ml_dsa_44::PrivateKey<H, G>,
+    public: &ml_dsa_44::PublicKey<H, G>,
+    rnd: &[u8; 32],
+    message: &[u8],
+    ctx: &[u8],
+) -> Result<([u8; ml_dsa_44::SIG_LEN], bool), Fault>
+    ensures { IfOk result (λ pair. (sign_message set_44 H.front G.front private.now rnd.now message.now ctx.now ≡ Ok pair.0)
+        × (IsTrue pair.1 ↔ VerifiesMessage set_44 H.front G.front public.now message.now pair.0 ctx.now)) }
+{
+    let signature = private.try_sign_with_seed(rnd, message, ctx)?;
+    let accepted = public.verify(message, &signature, ctx);
+    Ok((signature, accepted))
+}
+
 /// Signs a message under the empty context with a prepared key of set 44.
 pub fn signed_prepared_at_44<H: Xof>(
     key: &ml_dsa_44::PreparedPrivateKey<H>,
@@ -133,20 +149,15 @@ pub fn signed_by<K: Signer>(key: &K, rnd: &[u8; 32], message: &[u8]) -> Result<K
     key.try_sign_with_seed(rnd, message, &[])
 }
 
-/// Signs a message by `signed_by` with one key of set 87, and verifies it under a context with another.
-pub fn signed_and_verified_at_87<H: Xof, G: Xof>(
-    private: &ml_dsa_87::PrivateKey<H, G>,
-    public: &ml_dsa_87::PublicKey<H, G>,
+/// `signed_by` with a key of set 87.
+pub fn signed_by_87<H: Xof, G: Xof>(
+    key: &ml_dsa_87::PrivateKey<H, G>,
     rnd: &[u8; 32],
     message: &[u8],
-    ctx: &[u8],
-) -> Result<([u8; ml_dsa_87::SIG_LEN], bool), Fault>
-    ensures { IfOk result (λ pair. (sign_message set_87 H.front G.front private.now rnd.now message.now [] ≡ Ok pair.0)
-        × (IsTrue pair.1 ↔ VerifiesMessage set_87 H.front G.front public.now message.now pair.0 ctx.now)) }
+) -> Result<[u8; ml_dsa_87::SIG_LEN], Fault>
+    ensures { result ≡ sign_message set_87 H.front G.front key.now rnd.now message.now [] }
 {
-    let signature = signed_by(private, rnd, message)?;
-    let accepted = public.verify(message, &signature, ctx);
-    Ok((signature, accepted))
+    signed_by(key, rnd, message)
 }
 
 /// Makes a pair of set 87, signs with it and verifies.
