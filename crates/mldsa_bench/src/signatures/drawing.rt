@@ -88,7 +88,6 @@ fn draws<S: PartialEq + Drop, K: Keys<S>>(keys: &K, signature: &S, refusing: Ref
     true
 }
 
-/// Whether four pairs of keys are made so.
 fn draws_pairs<S: TestSet>(pair_call: PairCall, refusing: RefusesAt) -> bool {
     let mut rng = refusing;
     for number in 0..4u8 {
