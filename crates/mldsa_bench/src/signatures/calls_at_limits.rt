@@ -100,7 +100,9 @@ fn calls_whose_matrix_passes_its_limit(rt: HostRuntime) -> Result<(), Fail> {
 
 fn commitment_of_ff() -> [u8; 2420] {
     let mut signature = signature_44();
-    signature[..32].fill(0xff);
+    for i in 0..32usize {
+        signature[i] = 0xff;
+    }
     signature
 }
 

@@ -65,7 +65,6 @@ const DRAWN: [(Text, Fault); 6] = [
     (Text::Hash(&[0; 64]), Fault::InternalRng),
 ];
 
-/// Whether an answer is as wanted: yes, or this refusal at the call where the generator refuses.
 fn is_wanted(answer: Result<bool, Fault>, refused: bool, fault: Fault) -> bool {
     answer == if refused { Err(fault) } else { Ok(true) }
 }
