@@ -31,7 +31,6 @@ fn counting<const N: usize>() -> [u8; N] {
     bytes
 }
 
-/// Whether a key of these bytes has them again, or its error.
 fn comes_back<S: SerDes<ByteArray = [u8; N]> + Drop, const N: usize>(
     bytes: &[u8; N],
 ) -> Result<bool, Fault> {
@@ -73,7 +72,7 @@ impl Suite for WrongField {
                 let (keys, _) = S::constant()?;
                 let bits = (field ^ recorded).wrapping_mul(unit);
                 let as_wanted = match S::read_again(keys, at, bits) {
-                    Ok([same, _]) => same && field <= most,
+                    Ok(found) => found[0] && field <= most,
                     Err(fault) => matches!(fault, Fault::KeyRange) && field > most,
                 };
                 if !as_wanted {

@@ -39,7 +39,6 @@ pub const ALL: Answers = ([Ok(true); 3], [None; 2], [[Ok(true); 2]; 2]);
 
 const LIMIT: Result<bool, Fault> = Err(Fault::SamplingLimit);
 
-/// Whether keys sign with this signature, and accept it.
 fn signed<S: PartialEq + Drop, K: Keys<S>>(keys: &K, signature: &S) -> [Result<bool, Fault>; 2] {
     let same = is_same(keys.seeded(&[0; 32], &TEXT), signature);
     [same, Ok(keys.accepts(&TEXT, signature))]
@@ -99,6 +98,14 @@ fn calls_whose_matrix_passes_its_limit(rt: HostRuntime) -> Result<(), Fail> {
     Ok(())
 }
 
+fn commitment_of_ff() -> [u8; 2420] {
+    let mut signature = signature_44();
+    for i in 0..32usize {
+        signature[i] = 0xff;
+    }
+    signature
+}
+
 /// `H` of bytes FF over inputs of 32 bytes and else 55, set 44: the same keys, `SamplingLimit` in signing,
 /// and false, with plain and prepared keys. `H` of bytes FF, each set: `SamplingLimit` in key generation too, and at
 /// set 44 false also of a signature that begins with bytes FF.
@@ -109,14 +116,11 @@ fn challenges_that_pass_their_limit(rt: HostRuntime) -> Result<(), Fail> {
     assert_eq!(rt; found, ([Ok(true); 3], [None; 2], none));
     let wanted = [([LIMIT, Ok(true), Ok(true)], [None; 2], none); 3];
     assert_eq!(rt; returned::<Fill<0xff>, Fill<0>>(0)?, wanted);
-    let mut signature = signature_44();
-    signature[..32].fill(0xff);
-    let answer = accepted::<KG<Fill<0xff>, Fill<0>>>(&signature);
+    let answer = accepted::<KG<Fill<0xff>, Fill<0>>>(&commitment_of_ff());
     assert_eq!(rt; answer, Ok([false; 2]));
     Ok(())
 }
 
-/// The refusals of a signature by plain keys and by the prepared ones.
 fn signing_faults<S: TestSet>(keys: &S::Plain) -> Result<[Option<Fault>; 2], Fault> {
     let prepared = S::prepared(keys)?;
     Ok([
@@ -125,7 +129,7 @@ fn signing_faults<S: TestSet>(keys: &S::Plain) -> Result<[Option<Fault>; 2], Fau
     ])
 }
 
-/// The same by the keys of 32 bytes 00.
+/// The refusals of a signature by the keys of 32 bytes 00, plain and prepared.
 #[derive(Drop)]
 struct SigningFaults;
 

@@ -73,7 +73,6 @@ fn first_wrong<S: PartialEq + Drop, K: Keys<S>>(keys: &K, signature: &S) -> Opti
     None
 }
 
-/// The same of plain and of prepared keys of a set.
 #[derive(Drop)]
 struct FirstWrong;
 

@@ -65,7 +65,6 @@ const DRAWN: [(Text, Fault); 6] = [
     (Text::Hash(&[0; 64]), Fault::InternalRng),
 ];
 
-/// Whether an answer is as wanted: yes, or this refusal at the call where the generator refuses.
 fn is_wanted(answer: Result<bool, Fault>, refused: bool, fault: Fault) -> bool {
     answer == if refused { Err(fault) } else { Ok(true) }
 }
@@ -88,7 +87,6 @@ fn draws<S: PartialEq + Drop, K: Keys<S>>(keys: &K, signature: &S, refusing: Ref
     true
 }
 
-/// Whether four pairs of keys are made so.
 fn draws_pairs<S: TestSet>(pair_call: PairCall, refusing: RefusesAt) -> bool {
     let mut rng = refusing;
     for number in 0..4u8 {
