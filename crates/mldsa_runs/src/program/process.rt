@@ -86,16 +86,17 @@ fn has_words(
 
 const CALL: [&[u8]; 4] = [b"mldsa", b"fill55", b"id", b"44"];
 
-const NO_TEXT: [&[u8]; 2] = [b"mldsa", b"\xff"];
-
 /// The name of the program is left out of its words, and nothing else.
 #[test]
 fn words_after_the_name_of_the_program(rt: HostRuntime) {
     let alloc = rt.alloc();
-    assert_eq!(rt; has_words(alloc, &CALL, &["fill55", "id", "44"]), Ok(true));
-    assert_eq!(rt; has_words(alloc, &CALL[..1], &[]), Ok(true));
-    assert_eq!(rt; has_words(alloc, &CALL[..0], &[]), Ok(true));
-    assert_eq!(rt; has_words(alloc, &NO_TEXT, &[]), Err(RunFault::Usage));
+    let found = [
+        has_words(alloc, &CALL, &["fill55", "id", "44"]),
+        has_words(alloc, &CALL[..1], &[]),
+        has_words(alloc, &[], &[]),
+        has_words(alloc, &[b"mldsa", b"\xff"], &[]),
+    ];
+    assert_eq!(rt; found, [Ok(true), Ok(true), Ok(true), Err(RunFault::Usage)]);
 }
 
 /// Whether reads for one byte return these, after so many calls of the reader below.
