@@ -27,8 +27,8 @@ fn days(key: &Key, token: &Token, signature: &[u8; SIG_LEN]) -> [bool; 3] {
 }
 
 /// Whether a token with another product, with another last day, with another customer, and with another signature is
-/// valid, and whether its signature is accepted for it and the token with another product.
-fn changes(key: &Key, token: &Token, signature: &[u8; SIG_LEN]) -> [bool; 5] {
+/// valid, and whether its signature is accepted for it and the token with another product, and for it twice.
+fn changes(key: &Key, token: &Token, signature: &[u8; SIG_LEN]) -> [bool; 6] {
     let mut product = *token;
     product.product = 18;
     let mut last_day = *token;
@@ -43,26 +43,31 @@ fn changes(key: &Key, token: &Token, signature: &[u8; SIG_LEN]) -> [bool; 5] {
         valid(key, &customer, signature, 19_999),
         valid(key, token, &other, 19_999),
         accepted_for_both(key, token, &product, signature),
+        accepted_for_both(key, token, token, signature),
     ]
 }
 
-/// Whether all answers about a token are as they must be: it is valid up to its last day, and not with another
-/// product, day, customer, signature or context.
-fn is_judged() -> Result<bool, Fault> {
-    let (key, owner) = pair(7)?;
+/// The answers about a token: on its days, changed, and signed under another context.
+fn judged(key: &Key, owner: &Owner) -> Result<([bool; 3], [bool; 6], [bool; 3]), Fault> {
     let token = Token {
         product: 17,
         last_day: 20_000,
         customer: [b'a'; 32],
     };
-    let signature = signed(&owner, &token, CONTEXT)?;
-    let elsewhere = signed(&owner, &token, b"manifest")?;
-    Ok(
-        days(&key, &token, &signature) == [true, true, false]
-            && changes(&key, &token, &signature) == [false; 5]
-            && accepted_for_both(&key, &token, &token, &signature)
-            && !valid(&key, &token, &elsewhere, 19_999),
-    )
+    let signature = signed(owner, &token, CONTEXT)?;
+    let elsewhere = signed(owner, &token, b"manifest")?;
+    Ok((
+        days(key, &token, &signature),
+        changes(key, &token, &signature),
+        days(key, &token, &elsewhere),
+    ))
+}
+
+/// Whether all of them are as they must be.
+fn is_judged() -> Result<bool, Fault> {
+    let (key, owner) = pair(7)?;
+    let changes = [false, false, false, false, false, true];
+    Ok(judged(&key, &owner) == Ok(([true, true, false], changes, [false; 3])))
 }
 
 /// A token is valid up to its last day, and not with another product, day, customer, context or signature.

@@ -40,14 +40,15 @@ fn given(
 }
 
 /// What is handed out under the first name: of the first file, of a longer, a shorter and a changed one, and of the
-/// second file.
-fn under_one(key: &Key, entries: &[Entry], signature: &[u8; SIG_LEN]) -> [Option<bool>; 5] {
+/// second file; and of that under the second name.
+fn of_files(key: &Key, entries: &[Entry], signature: &[u8; SIG_LEN]) -> [Option<bool>; 6] {
     [
         given(key, entries, signature, ONE, b"first file"),
         given(key, entries, signature, ONE, b"first file!"),
         given(key, entries, signature, ONE, b"first fil"),
         given(key, entries, signature, ONE, b"fjrst file"),
         given(key, entries, signature, ONE, b"second file"),
+        given(key, entries, signature, TWO, b"second file"),
     ]
 }
 
@@ -64,16 +65,21 @@ fn of_others(key: &Key, entries: &[Entry; 2], signature: &[u8; SIG_LEN]) -> [Opt
     ]
 }
 
+/// The same of a manifest with two files.
+fn judged(key: &Key, owner: &Owner) -> Result<([Option<bool>; 6], [Option<bool>; 3]), Fault> {
+    let entries = [entry_of(ONE, b"first file"), entry_of(TWO, b"second file")];
+    let signature = signed(owner, &entries)?;
+    Ok((
+        of_files(key, &entries, &signature),
+        of_others(key, &entries, &signature),
+    ))
+}
+
 /// Whether a manifest hands out its two files and nothing else.
 fn is_judged() -> Result<bool, Fault> {
     let (key, owner) = KG::<Sha256Ctr, Sha512Ctr>::keygen_from_seed(&[7; 32])?;
-    let entries = [entry_of(ONE, b"first file"), entry_of(TWO, b"second file")];
-    let signature = signed(&owner, &entries)?;
-    Ok(
-        under_one(&key, &entries, &signature) == [Some(true), None, None, None, None]
-            && given(&key, &entries, &signature, TWO, b"second file") == Some(true)
-            && of_others(&key, &entries, &signature) == [None; 3],
-    )
+    let of_files = [Some(true), None, None, None, None, Some(true)];
+    Ok(judged(&key, &owner) == Ok((of_files, [None; 3])))
 }
 
 /// A file is handed out under its name; a longer, shorter or changed file, a file under another name, and a file of
