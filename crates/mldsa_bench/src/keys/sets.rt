@@ -211,10 +211,8 @@ fn both<A: Drop, B: Drop>(answers: Both<A, B>) -> Result<(A, B), Fault> {
 
 /// Whether two arrays of bytes have the first two of these texts in hex.
 fn both_have(alloc: Global, bytes: [&[u8]; 2], texts: [&str; 3]) -> Result<[bool; 2], Fail> {
-    Ok([
-        has_text(alloc, bytes[0], texts[0])?,
-        has_text(alloc, bytes[1], texts[1])?,
-    ])
+    let public = has_text(alloc, bytes[0], texts[0])?;
+    Ok([public, has_text(alloc, bytes[1], texts[1])?])
 }
 
 /// A set over two streams.
@@ -306,21 +304,26 @@ where
     }
 
     fn is_constant(keys: Result<Plain<K, L, H, G>, Fault>) -> Result<bool, Fault> {
-        let (public, private) = keys?;
-        let recorded = S::recorded();
-        Ok((public.into_bytes() == recorded.0) & (private.into_bytes() == recorded.1))
+        let (public, private, _) = S::recorded();
+        match keys {
+            Ok(keys) => Ok((keys.0.into_bytes() == public) & (keys.1.into_bytes() == private)),
+            Err(fault) => Err(fault),
+        }
     }
 
     fn derives_constant(keys: &Plain<K, L, H, G>) -> Result<bool, Fault> {
-        Ok(keys.1.get_public_key()?.into_bytes() == S::recorded().0)
+        let bytes = keys.1.get_public_key().map(SerDes::into_bytes);
+        is_same(bytes, &S::recorded().0)
     }
 
     fn read_again(keys: Plain<K, L, H, G>, at: usize, bits: u8) -> Result<[bool; 2], Fault> {
         let mut bytes = keys.1.into_bytes();
         change(&mut bytes, at, bits);
         let key = PrivateKey::<K, L, H, G>::try_from_bytes(bytes)?;
-        let is_whole = key.is_whole();
-        Ok([key.into_bytes() == bytes, is_whole?])
+        match key.is_whole() {
+            Ok(is_whole) => Ok([key.into_bytes() == bytes, is_whole]),
+            Err(fault) => Err(fault),
+        }
     }
 
     fn pair(seed: &[u8; 32]) -> Result<Plain<K, L, H, G>, Fault> {

@@ -69,15 +69,13 @@ fn three(
     seeds: &[[u8; 32]; 3],
     messages: &[&[u8]; 3],
 ) -> Result<[bool; 3], Fault> {
+    let signer = private.prepare()?;
     let mut answers = [Err(Fault::SamplingLimit); 3];
-    private
-        .prepare()?
-        .sign_each(seeds, messages, CONTEXT, &mut answers);
+    signer.sign_each(seeds, messages, CONTEXT, &mut answers);
     let signatures = [answers[0]?, answers[1]?, answers[2]?];
+    let verifier = public.prepare()?;
     let mut verdicts = [false; 3];
-    public
-        .prepare()?
-        .verify_each(messages, &signatures, CONTEXT, &mut verdicts);
+    verifier.verify_each(messages, &signatures, CONTEXT, &mut verdicts);
     Ok(verdicts)
 }
 

@@ -70,10 +70,7 @@ fn grown(owner: &Owner, ledger: &mut Vec<Entry>) -> Option<[Entry; 3]> {
             return None;
         }
     }
-    match <[Entry; 3]>::try_from(ledger.as_slice()) {
-        Ok(entries) => Some(entries),
-        Err(_) => None,
-    }
+    <[Entry; 3]>::try_from(ledger.as_slice()).ok()
 }
 
 /// Whether its parts, and changes of it, are judged as they must be.
