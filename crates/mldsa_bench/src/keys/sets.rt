@@ -204,6 +204,17 @@ pub type Constant44 = ml_dsa_44::KG<Fill<0x55>, Fill<0>>;
 /// Two values, or the refusal of each.
 pub type Both<A, B> = (Result<A, Fault>, Result<B, Fault>);
 
+/// Two values, or the first refusal.
+fn both<A: Drop, B: Drop>(answers: Both<A, B>) -> Result<(A, B), Fault> {
+    Ok((answers.0?, answers.1?))
+}
+
+/// Whether two arrays of bytes have the first two of these texts in hex.
+fn both_have(alloc: Global, bytes: [&[u8]; 2], texts: [&str; 3]) -> Result<[bool; 2], Fail> {
+    let public = has_text(alloc, bytes[0], texts[0])?;
+    Ok([public, has_text(alloc, bytes[1], texts[1])?])
+}
+
 /// A set over two streams.
 pub trait TestSet {
     /// The bytes of a signature.
@@ -287,27 +298,32 @@ where
 
     fn constant() -> Result<(Plain<K, L, H, G>, [u8; SIG_LEN]), Fault> {
         let (public, private, signature) = S::recorded();
-        let public = PublicKey::<K, L, H, G>::try_from_bytes(public)?;
-        let private = PrivateKey::<K, L, H, G>::try_from_bytes(private)?;
-        Ok(((public, private), signature))
+        let public = PublicKey::<K, L, H, G>::try_from_bytes(public);
+        let private = PrivateKey::<K, L, H, G>::try_from_bytes(private);
+        Ok((both((public, private))?, signature))
     }
 
     fn is_constant(keys: Result<Plain<K, L, H, G>, Fault>) -> Result<bool, Fault> {
-        let (public, private) = keys?;
-        let recorded = S::recorded();
-        Ok(public.into_bytes() == recorded.0 && private.into_bytes() == recorded.1)
+        let (public, private, _) = S::recorded();
+        match keys {
+            Ok(keys) => Ok((keys.0.into_bytes() == public) & (keys.1.into_bytes() == private)),
+            Err(fault) => Err(fault),
+        }
     }
 
     fn derives_constant(keys: &Plain<K, L, H, G>) -> Result<bool, Fault> {
-        Ok(keys.1.get_public_key()?.into_bytes() == S::recorded().0)
+        let bytes = keys.1.get_public_key().map(SerDes::into_bytes);
+        is_same(bytes, &S::recorded().0)
     }
 
     fn read_again(keys: Plain<K, L, H, G>, at: usize, bits: u8) -> Result<[bool; 2], Fault> {
         let mut bytes = keys.1.into_bytes();
         change(&mut bytes, at, bits);
         let key = PrivateKey::<K, L, H, G>::try_from_bytes(bytes)?;
-        let is_whole = key.is_whole()?;
-        Ok([key.into_bytes() == bytes, is_whole])
+        match key.is_whole() {
+            Ok(is_whole) => Ok([key.into_bytes() == bytes, is_whole]),
+            Err(fault) => Err(fault),
+        }
     }
 
     fn pair(seed: &[u8; 32]) -> Result<Plain<K, L, H, G>, Fault> {
@@ -323,7 +339,7 @@ where
     }
 
     fn prepared(keys: &Plain<K, L, H, G>) -> Result<Prepared<K, L, H>, Fault> {
-        Ok((keys.0.prepare()?, keys.1.prepare()?))
+        both(Self::prepared_parts(keys))
     }
 
     fn prepared_parts(keys: &Self::Plain) -> Both<Self::PreparedPublic, Self::PreparedPrivate> {
@@ -345,9 +361,7 @@ where
     }
 
     fn have_texts(alloc: Global, keys: Self::Plain, texts: [&str; 3]) -> Result<[bool; 2], Fail> {
-        let public = has_text(alloc, &keys.0.into_bytes(), texts[0])?;
-        let private = has_text(alloc, &keys.1.into_bytes(), texts[1])?;
-        Ok([public, private])
+        both_have(alloc, [&keys.0.into_bytes(), &keys.1.into_bytes()], texts)
     }
 
     fn bytes(signature: &mut [u8; SIG_LEN]) -> &mut [u8] {

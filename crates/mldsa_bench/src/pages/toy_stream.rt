@@ -12,7 +12,6 @@ use super::toy_hash::{digest, state_of};
 use fips204::ml_dsa_44::KG;
 use fips204::traits::pairwise_check;
 use fips204::xof::{BlockHash, BlockReader, FrontReader, Xof, XofReader};
-use std::test::Fail;
 
 /// The toy hash, with digests of four bytes.
 pub struct Toy;
@@ -85,15 +84,18 @@ impl Xof for ToySpread {
     }
 }
 
+/// The first 4096 bytes of a stream over the joined parts.
+fn front_of<H: Xof>(parts: &[&[u8]]) -> [u8; 4096] {
+    let mut front = [0u8; 4096];
+    H::open(parts).read(&mut front);
+    front
+}
+
 /// Whether a stream over `abc` begins and ends with these bytes, and gives the same where the input comes
 /// in three parts.
 fn has_ends<H: Xof>(first: [u8; 16], last: [u8; 8]) -> bool {
-    let mut reader = H::open(&[b"abc"]);
-    let mut front = [0u8; 4096];
-    reader.read(&mut front);
-    let mut reader = H::open(&[b"a", b"", b"bc"]);
-    let mut cut = [0u8; 4096];
-    reader.read(&mut cut);
+    let front = front_of::<H>(&[b"abc"]);
+    let cut = front_of::<H>(&[b"a", b"", b"bc"]);
     front.starts_with(&first) && front.ends_with(&last) && front == cut
 }
 
@@ -103,17 +105,16 @@ fn has_ends<H: Xof>(first: [u8; 16], last: [u8; 8]) -> bool {
 fn toy_fronts(rt: HostRuntime) {
     let first = *b"\x9d\xf3\xe0\x96\x13\xe5\x64\xed\x8e\xd6\xe8\x43\x04\xc8\x6c\x9a";
     let last = *b"\xc7\xf7\xe0\xdf\x42\xe9\x64\x36";
-    assert!(rt; has_ends::<ToyCtr>(first, last));
+    let of_ctr = has_ends::<ToyCtr>(first, last);
     let first = *b"\xb0\x6d\x29\xe6\xa2\x5f\x1b\xd8\x95\x51\x0e\xca\x87\x43\x00\xbc";
     let last = *b"\xbc\x78\x35\xf1\xae\x6a\x27\xe3";
-    assert!(rt; has_ends::<ToySpread>(first, last));
+    assert!(rt; [of_ctr, has_ends::<ToySpread>(first, last)] == [true; 2]);
 }
 
 /// A pair over the toy streams signs, and the signature is accepted.
 #[test]
 fn toy_signatures(rt: HostRuntime) {
-    let answer = pairwise_check::<KG<ToyCtr, ToyCtr>>(&[1; 32], &[2; 32], b"a message", b"");
-    assert!(rt; answer == Ok(true));
-    let answer = pairwise_check::<KG<ToyCtr, ToySpread>>(&[1; 32], &[2; 32], b"a message", b"");
-    assert!(rt; answer == Ok(true));
+    let one = pairwise_check::<KG<ToyCtr, ToyCtr>>(&[1; 32], &[2; 32], b"a message", b"");
+    let two = pairwise_check::<KG<ToyCtr, ToySpread>>(&[1; 32], &[2; 32], b"a message", b"");
+    assert!(rt; [one, two] == [Ok(true); 2]);
 }

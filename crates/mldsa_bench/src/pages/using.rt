@@ -1,7 +1,7 @@
 //! The calls of the library one after the other, as docs/USING.md shows them.
 #![tactic(auto)]
 
-ghost use Rattle.std.specs.Prelude.{◌≡◌, true, Ok, IfOk};
+ghost use Rattle.std.specs.Prelude.{◌≡◌, ◌<◌, ◌^◌, true, Ok, IfOk};
 
 use fips204::ml_dsa_44::{self, PK_LEN, SIG_LEN, SK_LEN};
 use fips204::pre_hash::SHA2_256;
@@ -9,7 +9,6 @@ use fips204::traits::{CryptoRngCore, DummyRng, KeyGen, SerDes, Signer, Verifier}
 use fips204::xof::{Sha256Ctr, Sha512Ctr};
 use fips204::{Fault, ml_dsa_65, ml_dsa_87};
 use sha2::{Digest, Sha256};
-use std::test::Fail;
 
 /// The pairs of ML-DSA-44 over two streams.
 type Keys = ml_dsa_44::KG<Sha256Ctr, Sha512Ctr>;
@@ -98,60 +97,76 @@ where
     Ok(public.verify(message, &signature, CONTEXT))
 }
 
-/// The bytes of the private key of a seed, for any of the three sets.
-fn private_bytes<K, P, S, const SK: usize>(seed: &[u8; 32]) -> Result<[u8; SK], Fault>
+/// What `stands` answers of the key of a seed, for any of the three sets.
+fn pair_stands<K, P, S, const SK: usize, const SIG: usize>() -> Result<bool, Fault>
 where
     K: KeyGen<PublicKey = P, PrivateKey = S>,
     P: Drop,
-    S: SerDes<ByteArray = [u8; SK]> + Drop,
+    S: SerDes<ByteArray = [u8; SK]> + Signer<Signature = [u8; SIG]> + Drop,
+    S::PublicKey: Drop,
+    requires key { SK < 2 ^ 63 }
+    requires signature { SIG < 2 ^ 63 }
 {
-    let (_, private) = K::keygen_from_seed(seed)?;
-    Ok(private.into_bytes())
+    let (_, private) = K::keygen_from_seed(&[7; 32])?;
+    stands::<S, _, _>(private.into_bytes(), &[0; 32], b"a message")
+}
+
+/// Whether the signature of a stored key is accepted for its message and for another, and whether a generator of
+/// zeros signs the same.
+fn read_back() -> Result<[Result<bool, Fault>; 3], Fault> {
+    let (public, private) = stored(&[7; 32])?;
+    let signature = signed(private, &[0; 32], b"a message")?;
+    let drawn = signed_at_random(private, &mut DummyRng { bytes: [0; 32] }, b"a message");
+    Ok([
+        verified(public, b"a message", &signature),
+        verified(public, b"another", &signature),
+        Ok(drawn == Ok(signature)),
+    ])
+}
+
+/// Whether the signature of a file is accepted for it and for another.
+fn of_files() -> Result<[bool; 2], Fault> {
+    let (public, private) = Keys::keygen_from_seed(&[7; 32])?;
+    let signature = signed_file(&private, &[0; 32], b"a file")?;
+    Ok([
+        verified_file(&public, b"a file", &signature),
+        verified_file(&public, b"another", &signature),
+    ])
+}
+
+/// What `three` answers of three messages, one of them empty.
+fn of_messages() -> Result<[bool; 3], Fault> {
+    let (public, private) = Keys::keygen_from_seed(&[7; 32])?;
+    let seeds = [[1; 32], [2; 32], [3; 32]];
+    three(&public, &private, &seeds, &[b"one", b"two", b""])
 }
 
 /// A signature under a key read back from its bytes is accepted, and rejected for another message; a
 /// generator of zeros signs the same.
 #[test]
-fn a_stored_pair(rt: HostRuntime) -> Result<(), Fail> {
-    let (public, private) = stored(&[7; 32])?;
-    let signature = signed(private, &[0; 32], b"a message")?;
-    assert!(rt; verified(public, b"a message", &signature)?);
-    assert!(rt; !verified(public, b"another", &signature)?);
-    let mut rng = DummyRng { bytes: [0; 32] };
-    assert!(rt; signed_at_random(private, &mut rng, b"a message")? == signature);
-    Ok(())
+fn a_stored_pair(rt: HostRuntime) {
+    assert!(rt; read_back() == Ok([Ok(true), Ok(false), Ok(true)]));
 }
 
 /// The signature of a file's digest is accepted, and rejected for another file.
 #[test]
-fn a_signed_file(rt: HostRuntime) -> Result<(), Fail> {
-    let (public, private) = Keys::keygen_from_seed(&[7; 32])?;
-    let signature = signed_file(&private, &[0; 32], b"a file")?;
-    assert!(rt; verified_file(&public, b"a file", &signature));
-    assert!(rt; !verified_file(&public, b"another", &signature));
-    Ok(())
+fn a_signed_file(rt: HostRuntime) {
+    assert!(rt; of_files() == Ok([true, false]));
 }
 
 /// Three messages under prepared keys, one of them empty, are accepted.
 #[test]
-fn three_messages(rt: HostRuntime) -> Result<(), Fail> {
-    let (public, private) = Keys::keygen_from_seed(&[7; 32])?;
-    let seeds = [[1; 32], [2; 32], [3; 32]];
-    let verdicts = three(&public, &private, &seeds, &[b"one", b"two", b""])?;
-    assert!(rt; verdicts == [true; 3]);
-    Ok(())
+fn three_messages(rt: HostRuntime) {
+    assert!(rt; of_messages() == Ok([true; 3]));
 }
 
 /// One generic function signs and verifies at each set with a key read back from its bytes.
 #[test]
-fn one_function_at_three_sets(rt: HostRuntime) -> Result<(), Fail> {
-    let key = private_bytes::<Keys, _, _, 2560>(&[7; 32])?;
-    assert!(rt; stands::<Private, _, _>(key, &[0; 32], b"a message")?);
-    let key = private_bytes::<ml_dsa_65::KG<Sha256Ctr, Sha512Ctr>, _, _, 4032>(&[7; 32])?;
-    let stands_65 = stands::<ml_dsa_65::PrivateKey<Sha256Ctr, Sha512Ctr>, _, _>;
-    assert!(rt; stands_65(key, &[0; 32], b"a message")?);
-    let key = private_bytes::<ml_dsa_87::KG<Sha256Ctr, Sha512Ctr>, _, _, 4896>(&[7; 32])?;
-    let stands_87 = stands::<ml_dsa_87::PrivateKey<Sha256Ctr, Sha512Ctr>, _, _>;
-    assert!(rt; stands_87(key, &[0; 32], b"a message")?);
-    Ok(())
+fn one_function_at_three_sets(rt: HostRuntime) {
+    let answers = [
+        pair_stands::<Keys, _, _, _, _>(),
+        pair_stands::<ml_dsa_65::KG<Sha256Ctr, Sha512Ctr>, _, _, _, _>(),
+        pair_stands::<ml_dsa_87::KG<Sha256Ctr, Sha512Ctr>, _, _, _, _>(),
+    ];
+    assert!(rt; answers == [Ok(true); 3]);
 }

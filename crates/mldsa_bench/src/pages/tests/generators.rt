@@ -1,15 +1,13 @@
 //! Generators over a source and over a generator of the kit.
 #![tactic(auto)]
 
-use super::{Owner, pair};
+use super::pair;
 use crate::pages::generators::{FromGenerator, FromSource};
 use fips204::Fault;
-use fips204::ml_dsa_44::SIG_LEN;
 use fips204::traits::{CryptoRngCore, Signer, Verifier};
 use rand_core::{TryCryptoRng, TryRng};
 use std::io;
 use std::random::RandomSource;
-use std::test::Fail;
 
 /// A source of the tests: it writes one byte everywhere, or reports an error.
 #[derive(Drop)]
@@ -51,49 +49,38 @@ impl TryRng for Constant {
 
 impl TryCryptoRng for Constant {}
 
-/// The signature with random bytes of a generator.
-fn drawn<R: CryptoRngCore>(owner: &Owner, rng: &mut R) -> Result<[u8; SIG_LEN], Fault> {
-    owner.try_sign_with_rng(rng, b"a message", b"test")
-}
-
-/// The signature with random bytes 03.
-fn seeded(owner: &Owner) -> Result<[u8; SIG_LEN], Fault> {
-    owner.try_sign_with_seed(&[3; 32], b"a message", b"test")
+/// Whether the signature with random bytes of a generator is accepted, and is that with bytes 03.
+fn signs<R: CryptoRngCore>(rng: &mut R) -> Result<[bool; 2], Fault> {
+    let (public, private) = pair(7)?;
+    let drawn = private.try_sign_with_rng(rng, b"a message", b"test")?;
+    let seeded = private.try_sign_with_seed(&[3; 32], b"a message", b"test");
+    Ok([
+        public.verify(b"a message", &drawn, b"test"),
+        seeded == Ok(drawn),
+    ])
 }
 
 /// A generator over a source of the kit signs as the call with the bytes that the source returned.
 #[test]
-fn a_source_that_gives(rt: HostRuntime) -> Result<(), Fail> {
-    let (public, private) = pair(7)?;
-    let mut rng = FromSource {
-        source: Constant { byte: Some(3) },
-    };
-    let signature = drawn(&private, &mut rng)?;
-    assert!(rt; public.verify(b"a message", &signature, b"test"));
-    assert!(rt; seeded(&private) == Ok(signature));
-    Ok(())
+fn a_source_that_gives(rt: HostRuntime) {
+    let source = Constant { byte: Some(3) };
+    assert!(rt; signs(&mut FromSource { source }) == Ok([true; 2]));
 }
 
 /// A source that reports an error: `SignRng`.
 #[test]
-fn a_source_that_refuses(rt: HostRuntime) -> Result<(), Fail> {
-    let (_, private) = pair(7)?;
-    let mut rng = FromSource {
-        source: Constant { byte: None },
-    };
-    assert!(rt; drawn(&private, &mut rng) == Err(Fault::SignRng));
-    Ok(())
+fn a_source_that_refuses(rt: HostRuntime) {
+    let source = Constant { byte: None };
+    assert!(rt; signs(&mut FromSource { source }) == Err(Fault::SignRng));
 }
 
 /// A generator of the kit signs as the call with the bytes that it gave, and where it reports an error: `SignRng`.
 #[test]
-fn a_generator_of_the_kit(rt: HostRuntime) -> Result<(), Fail> {
-    let (_, private) = pair(7)?;
+fn a_generator_of_the_kit(rt: HostRuntime) {
     let mut rng = FromGenerator {
         generator: Constant { byte: Some(3) },
     };
-    assert!(rt; drawn(&private, &mut rng)? == seeded(&private)?);
+    let given = signs(&mut rng);
     rng.generator.byte = None;
-    assert!(rt; drawn(&private, &mut rng) == Err(Fault::SignRng));
-    Ok(())
+    assert!(rt; [given, signs(&mut rng)] == [Ok([true; 2]), Err(Fault::SignRng)]);
 }

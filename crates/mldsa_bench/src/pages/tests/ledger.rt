@@ -24,38 +24,31 @@ fn stands<G: Xof>(key: &PublicKey<Sha256Ctr, G>, ledger: &[Entry]) -> Result<boo
 
 /// Whether three entries stand, with the first two exchanged, with a bit of the second link changed, with one of the
 /// third payload, and with one of the third signature.
-fn changed(key: &Key, entries: &[Entry; 3]) -> Result<[bool; 5], Fault> {
-    let mut swapped = *entries;
-    swapped.swap(0, 1);
-    let mut link = *entries;
-    link[1].previous[0] ^= 1;
-    let mut payload = *entries;
-    payload[2].payload[31] ^= 1;
-    let mut signature = *entries;
-    signature[2].signature[SIG_LEN - 1] ^= 1;
-    Ok([
-        stands(key, entries)?,
-        stands(key, &swapped)?,
-        stands(key, &link)?,
-        stands(key, &payload)?,
-        stands(key, &signature)?,
-    ])
+fn changed(key: &Key, entries: &[Entry; 3]) -> [Result<bool, Fault>; 5] {
+    let [first, second, third] = *entries;
+    let mut link = second;
+    link.previous[0] ^= 1;
+    let mut payload = third;
+    payload.payload[31] ^= 1;
+    let mut signature = third;
+    signature.signature[SIG_LEN - 1] ^= 1;
+    [
+        stands(key, entries),
+        stands(key, &[second, first, third]),
+        stands(key, &[first, link, third]),
+        stands(key, &[first, second, payload]),
+        stands(key, &[first, second, signature]),
+    ]
 }
 
 /// Whether a ledger, none of it, and it without its last entry or its first stand.
-fn parts(key: &Key, ledger: &[Entry]) -> Result<[bool; 4], Fault> {
-    let [_, but_first @ ..] = ledger else {
-        return Ok([false; 4]);
-    };
-    let [but_last @ .., _] = ledger else {
-        return Ok([false; 4]);
-    };
-    Ok([
-        stands(key, ledger)?,
-        stands(key, &[])?,
-        stands(key, but_last)?,
-        stands(key, but_first)?,
-    ])
+fn parts(key: &Key, ledger: &[Entry; 3]) -> [Result<bool, Fault>; 4] {
+    [
+        stands(key, ledger),
+        stands(key, &[]),
+        stands(key, &ledger[..2]),
+        stands(key, &ledger[1..]),
+    ]
 }
 
 /// What is refused without a matrix: an entry to append, and a ledger to check.
@@ -77,40 +70,28 @@ fn grown(owner: &Owner, ledger: &mut Vec<Entry>) -> Option<[Entry; 3]> {
             return None;
         }
     }
-    match <[Entry; 3]>::try_from(ledger.as_slice()) {
-        Ok(entries) => Some(entries),
-        Err(_) => None,
-    }
+    <[Entry; 3]>::try_from(ledger.as_slice()).ok()
 }
 
 /// Whether its parts, and changes of it, are judged as they must be.
-fn is_checked(key: &Key, entries: &[Entry; 3]) -> Result<bool, Fault> {
-    Ok(
-        parts(key, entries)? == [true, true, true, false]
-            && changed(key, entries)? == [true, false, false, false, false],
-    )
+fn is_checked(key: &Key, entries: &[Entry; 3]) -> bool {
+    let [wrong, right] = [Ok(false), Ok(true)];
+    parts(key, entries) == [right, right, right, wrong]
+        && changed(key, entries) == [right, wrong, wrong, wrong, wrong]
 }
 
 /// Whether both errors of a key without a matrix are returned, and the ledger stays.
-fn is_kept(
-    key: Key,
-    owner: Owner,
-    ledger: &mut Vec<Entry>,
-    entries: &[Entry; 3],
-) -> Result<bool, Fault> {
-    let (appended, checked) = without_a_matrix(key, owner, ledger)?;
-    Ok(
-        appended == Err(AppendFault::Signing(Fault::SamplingLimit))
-            && checked == Err(Fault::SamplingLimit)
-            && ledger.as_slice() == entries.as_slice(),
-    )
+fn is_kept(key: Key, owner: Owner, ledger: &mut Vec<Entry>, entries: &[Entry; 3]) -> bool {
+    let refused = Err(AppendFault::Signing(Fault::SamplingLimit));
+    without_a_matrix(key, owner, ledger) == Ok((refused, Err(Fault::SamplingLimit)))
+        && ledger.as_slice() == entries.as_slice()
 }
 
 /// Whether all of these hold of a ledger that is empty before.
 fn is_judged(ledger: &mut Vec<Entry>) -> Result<bool, Fault> {
     let (key, owner) = pair(7)?;
     match grown(&owner, ledger) {
-        Some(entries) => Ok(is_checked(&key, &entries)? && is_kept(key, owner, ledger, &entries)?),
+        Some(entries) => Ok(is_checked(&key, &entries) && is_kept(key, owner, ledger, &entries)),
         None => Ok(false),
     }
 }
