@@ -57,39 +57,29 @@ fn answers<S: PartialEq + Drop, K: Keys<S>>(
     signed == [wanted; 4] && accepted == fault.is_none() && rng.asked == draws
 }
 
-/// The first refused digest that is not answered so.
-fn wrong_digest<S: PartialEq + Drop, K: Keys<S>>(keys: &K, signature: &S) -> Option<usize> {
+/// The first text, and else the first refused digest, that is not answered so: the table and the row.
+fn first_wrong<S: PartialEq + Drop, K: Keys<S>>(keys: &K, signature: &S) -> Option<(u8, usize)> {
+    for (row, (text, fault)) in TEXTS.iter().enumerate() {
+        if !answers(keys, (text, *fault), signature) {
+            return Some((0, row));
+        }
+    }
     for (row, (digest, oid, fault)) in REFUSED_DIGESTS.iter().enumerate() {
         let text = Text::Digest(digest, &[], oid);
         if !answers(keys, (&text, Some(*fault)), signature) {
-            return Some(row);
+            return Some((1, row));
         }
     }
     None
-}
-
-/// The first text that is not answered so.
-fn wrong_text<S: PartialEq + Drop, K: Keys<S>>(keys: &K, signature: &S) -> Option<usize> {
-    for (row, (text, fault)) in TEXTS.iter().enumerate() {
-        if !answers(keys, (text, *fault), signature) {
-            return Some(row);
-        }
-    }
-    None
-}
-
-/// The first text and the first refused digest that are not answered so.
-fn first_wrong<S: PartialEq + Drop, K: Keys<S>>(keys: &K, signature: &S) -> [Option<usize>; 2] {
-    [wrong_text(keys, signature), wrong_digest(keys, signature)]
 }
 
 #[derive(Drop)]
 struct FirstWrong;
 
 impl Suite for FirstWrong {
-    type Answer = [[Option<usize>; 2]; 2];
+    type Answer = [Option<(u8, usize)>; 2];
 
-    fn at<S: TestSet>(&self, _number: usize) -> Result<Self::Answer, Fail> {
+    fn at<S: TestSet>(&self, _number: usize) -> Result<[Option<(u8, usize)>; 2], Fail> {
         let (keys, good) = S::constant()?;
         let prepared = S::prepared(&keys)?;
         Ok([first_wrong(&keys, &good), first_wrong(&prepared, &good)])
@@ -101,6 +91,6 @@ impl Suite for FirstWrong {
 #[test]
 fn signatures_of_each_set(rt: HostRuntime) -> Result<(), Fail> {
     let found = at_each_set::<Fill<0x55>, Fill<0>, FirstWrong>(&FirstWrong)?;
-    assert_eq!(rt; found, [[[None; 2]; 2]; 3]);
+    assert_eq!(rt; found, [[None; 2]; 3]);
     Ok(())
 }

@@ -59,8 +59,7 @@ fn have_pairs<S: TestSet>(alloc: Global, texts: [&str; 3]) -> Result<[[bool; 2];
     Ok([given, S::have_texts(alloc, drawn, texts)?])
 }
 
-/// Whether the pairs and the signatures of a message and of a digest are as recorded; and what plain and prepared keys
-/// answer of these, the same by both.
+/// Whether the pairs and the signatures are as recorded; and what plain and prepared keys answer of these.
 #[derive(Drop)]
 struct Bytes(Global);
 
@@ -182,13 +181,9 @@ fn is_framed<S: PartialEq + Drop, K: Keys<S>>(
     let mut rng = RefusesAt::new(1, false);
     let signature = keys.seeded(&[7; 32], text)?;
     let drawn = keys.drawn(&mut rng, true, framed)?;
-    Ok([
-        signature == drawn,
-        rng.asked == 1,
-        keys.accepts(framed, &signature),
-        keys.accepts(text, &drawn),
-        keys.accepts(other, &drawn),
-    ])
+    let (same, one) = (signature == drawn, rng.asked == 1);
+    let (first, second) = (keys.accepts(framed, &signature), keys.accepts(text, &drawn));
+    Ok([same, one, first, second, keys.accepts(other, &drawn)])
 }
 
 /// What `is_framed` finds of `c` and of the digest of 32 bytes 09, under the context `ab`.

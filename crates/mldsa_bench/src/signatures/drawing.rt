@@ -56,16 +56,14 @@ impl CryptoRngCore for RefusesAt {
 }
 
 /// What is signed with drawn bytes, and the refusal that stands for the generator's.
-fn drawn_texts<'a>() -> [(Text<'a>, Fault); 6] {
-    [
-        (Text::Message(b"abc", &[]), Fault::SignRng),
-        (Text::Message(b"abc", &[1; 255]), Fault::SignRng),
-        (Text::Digest(&[0; 32], &[], &SHA2_256), Fault::HashRng),
-        (Text::Digest(&[0; 32], &[1; 255], &SHA2_256), Fault::HashRng),
-        (Text::Framed(b"abc"), Fault::InternalRng),
-        (Text::Hash(&[0; 64]), Fault::InternalRng),
-    ]
-}
+const DRAWN: [(Text, Fault); 6] = [
+    (Text::Message(b"abc", &[]), Fault::SignRng),
+    (Text::Message(b"abc", &[1; 255]), Fault::SignRng),
+    (Text::Digest(&[0; 32], &[], &SHA2_256), Fault::HashRng),
+    (Text::Digest(&[0; 32], &[1; 255], &SHA2_256), Fault::HashRng),
+    (Text::Framed(b"abc"), Fault::InternalRng),
+    (Text::Hash(&[0; 64]), Fault::InternalRng),
+];
 
 fn is_wanted(answer: Result<bool, Fault>, refused: bool, fault: Fault) -> bool {
     answer == if refused { Err(fault) } else { Ok(true) }
@@ -74,7 +72,7 @@ fn is_wanted(answer: Result<bool, Fault>, refused: bool, fault: Fault) -> bool {
 /// Whether four signatures of each text are made, but for the one whose generator refuses, each of one call of the
 /// generator, which is handed zeros.
 fn draws<S: PartialEq + Drop, K: Keys<S>>(keys: &K, signature: &S, refusing: RefusesAt) -> bool {
-    for (text, fault) in &drawn_texts() {
+    for (text, fault) in &DRAWN {
         let mut rng = refusing;
         for number in 0..4u8 {
             let answer = is_same(keys.drawn(&mut rng, true, text), signature);
