@@ -16,10 +16,6 @@ use sha2::{Digest, Sha256};
 use std::alloc::Global;
 use std::test::Fail;
 
-const MESSAGE: Text = Text::Message(&[0], &[]);
-
-const DIGEST: Text = Text::Digest(&[0; 32], &[], &SHA2_256);
-
 /// The SHA-256 of signed digests at each set, in hex.
 const DIGESTS: [&str; 3] = [
     "4309fb4dd5abe94f0f311fc405d50c307e428f4ca843ab68bacc8d87e084f95b",
@@ -27,53 +23,63 @@ const DIGESTS: [&str; 3] = [
     "91bf84c83703a7204ddbf8f96f6f16c93201c72afb6296ed2f4575970081d8e5",
 ];
 
-/// What keys sign with 32 bytes 00, given and drawn; and whether the two are one, and accepted, of another message,
+/// Whether keys sign so with 32 bytes 00, given and drawn; and whether they accept the signature, of another message,
 /// under another context, and with another bit in byte 100.
-fn signed<S: TestSet, K: Keys<S::Signature>>(
+fn sign_so<S: TestSet, K: Keys<S::Signature>>(
     keys: &K,
     text: &Text,
-) -> Result<(S::Signature, [bool; 5]), Fault> {
-    let signature = keys.seeded(&[0; 32], text)?;
-    let drawn = keys.drawn(&mut DummyRng { bytes: [0; 32] }, true, text)?;
-    let mut spoiled = signature;
+    signature: &S::Signature,
+) -> [bool; 6] {
+    let mut spoiled = *signature;
     change(S::bytes(&mut spoiled), 100, 1);
-    let answers = [
-        drawn == signature,
-        keys.accepts(text, &signature),
-        keys.accepts(&Text::Message(&[1], &[]), &signature),
-        keys.accepts(&Text::Message(&[0], &[0]), &signature),
+    [
+        keys.seeded(&[0; 32], text) == Ok(*signature),
+        keys.drawn(&mut DummyRng { bytes: [0; 32] }, true, text) == Ok(*signature),
+        keys.accepts(text, signature),
+        keys.accepts(&Text::Message(&[1], &[]), signature),
+        keys.accepts(&Text::Message(&[0], &[0]), signature),
         keys.accepts(text, &spoiled),
-    ];
-    Ok((signature, answers))
+    ]
 }
 
-/// Whether the pairs of 32 bytes 00, given and drawn, and the signatures of a message and of a digest are as recorded;
-/// and what plain and prepared keys answer of these, the same by both.
+/// The signature of a text with 32 bytes 00, and what plain and prepared keys answer of it.
+fn signed<S: TestSet>(text: &Text) -> Result<(S::Signature, [[bool; 6]; 2]), Fault> {
+    let keys = S::pair(&[0; 32])?;
+    let prepared = S::prepared(&keys)?;
+    let signature = keys.seeded(&[0; 32], text)?;
+    let plain = sign_so::<S, S::Plain>(&keys, text, &signature);
+    let prepared = sign_so::<S, S::Prepared>(&prepared, text, &signature);
+    Ok((signature, [plain, prepared]))
+}
+
+/// Whether the pairs of 32 bytes 00, given and drawn, have these texts in hex.
+fn have_pairs<S: TestSet>(alloc: Global, texts: [&str; 3]) -> Result<[[bool; 2]; 2], Fail> {
+    let given = S::have_texts(alloc, S::pair(&[0; 32])?, texts)?;
+    let drawn = S::drawn_pair(&mut DummyRng { bytes: [0; 32] }, PairCall::OfTrait)?;
+    Ok([given, S::have_texts(alloc, drawn, texts)?])
+}
+
+/// Whether the pairs and the signatures are as recorded; and what plain and prepared keys answer of these.
 #[derive(Drop)]
 struct Bytes(Global);
 
 impl Suite for Bytes {
-    type Answer = ([[bool; 2]; 2], [bool; 4], [[bool; 5]; 4]);
+    type Answer = ([[bool; 2]; 2], [bool; 2], [[bool; 6]; 4]);
 
     fn at<S: TestSet>(&self, number: usize) -> Result<Self::Answer, Fail> {
         let (alloc, recorded) = (self.0, recorded(number));
-        let drawn = S::drawn_pair(&mut DummyRng { bytes: [0; 32] }, PairCall::OfTrait)?;
-        let keys = S::pair(&[0; 32])?;
-        let prepared = S::prepared(&keys)?;
-        let (mut message, first) = signed::<S, S::Plain>(&keys, &MESSAGE)?;
-        let (mut digest, second) = signed::<S, S::Plain>(&keys, &DIGEST)?;
-        let (same_message, third) = signed::<S, S::Prepared>(&prepared, &MESSAGE)?;
-        let (same_digest, fourth) = signed::<S, S::Prepared>(&prepared, &DIGEST)?;
+        let [given, drawn] = have_pairs::<S>(alloc, recorded)?;
+        let (mut message, [first, second]) = signed::<S>(&Text::Message(&[0], &[]))?;
+        let digest = Text::Digest(&[0; 32], &[], &SHA2_256);
+        let (mut digest, [third, fourth]) = signed::<S>(&digest)?;
         let hash = Sha256::digest(S::bytes(&mut digest));
-        let signatures = [
-            has_text(alloc, S::bytes(&mut message), recorded[2])?,
-            has_text(alloc, hash.as_slice(), DIGESTS[number])?,
-            same_message == message,
-            same_digest == digest,
-        ];
-        let given = S::have_texts(alloc, keys, recorded)?;
-        let drawn = S::have_texts(alloc, drawn, recorded)?;
-        Ok(([given, drawn], signatures, [first, second, third, fourth]))
+        let message = has_text(alloc, S::bytes(&mut message), recorded[2])?;
+        let digest = has_text(alloc, hash.as_slice(), DIGESTS[number])?;
+        Ok((
+            [given, drawn],
+            [message, digest],
+            [first, second, third, fourth],
+        ))
     }
 }
 
@@ -82,12 +88,11 @@ impl Suite for Bytes {
 #[test]
 fn bytes_of_each_set(rt: HostRuntime) -> Result<(), Fail> {
     let suite = Bytes(rt.alloc());
-    let verdicts = [true, true, false, false, false];
-    let all = ([[true; 2]; 2], [true; 4], [verdicts; 4]);
-    let found = at_each_set::<Sha256Ctr, Sha512Ctr, Bytes>(&suite)?;
-    assert_eq!(rt; found, [all; 3]);
-    let found = at_each_set::<Sha256CtrLong, Sha512CtrLong, Bytes>(&suite)?;
-    assert_eq!(rt; found, [all; 3]);
+    let verdicts = [true, true, true, false, false, false];
+    let wanted = [([[true; 2]; 2], [true; 2], [verdicts; 4]); 3];
+    let short = at_each_set::<Sha256Ctr, Sha512Ctr, Bytes>(&suite)?;
+    let long = at_each_set::<Sha256CtrLong, Sha512CtrLong, Bytes>(&suite)?;
+    assert_eq!(rt; [short == wanted, long == wanted], [true; 2]);
     Ok(())
 }
 
@@ -165,32 +170,32 @@ fn many_messages_of_each_set(rt: HostRuntime) -> Result<(), Fail> {
     Ok(())
 }
 
-/// `c` under the context `ab`, framed.
-const FRAMED_MESSAGE: Text = Text::Framed(&[0x00, 0x02, 0x61, 0x62, 0x63]);
-
-/// The digest of 32 bytes 09 under the context `ab`, framed.
-const FRAMED_DIGEST: Text = Text::Framed(&[
-    0x01, 0x02, 0x61, 0x62, 0x06, 0x09, 0x60, 0x86, 0x48, 0x01, 0x65, 0x03, 0x04, 0x02, 0x01, 9, 9,
-    9, 9, 9, 9, 9, 9, 9, 9, 9, 9, 9, 9, 9, 9, 9, 9, 9, 9, 9, 9, 9, 9, 9, 9, 9, 9, 9, 9, 9, 9,
-]);
-
-/// Whether a text and its framing have one signature, with one call of the generator, which each accepts of the
-/// other, and not of the third text.
+/// Whether a text and its framing have one signature, with one call of the generator; whether each accepts it of the
+/// other; and of the third text.
 fn is_framed<S: PartialEq + Drop, K: Keys<S>>(
     keys: &K,
     text: &Text,
     framed: &Text,
     other: &Text,
-) -> Result<bool, Fault> {
+) -> Result<[bool; 5], Fault> {
     let mut rng = RefusesAt::new(1, false);
     let signature = keys.seeded(&[7; 32], text)?;
     let drawn = keys.drawn(&mut rng, true, framed)?;
-    let verdicts = [
-        keys.accepts(framed, &signature),
-        keys.accepts(text, &drawn),
-        keys.accepts(other, &drawn),
-    ];
-    Ok(signature == drawn && rng.asked == 1 && verdicts == [true, true, false])
+    let (same, one) = (signature == drawn, rng.asked == 1);
+    let (first, second) = (keys.accepts(framed, &signature), keys.accepts(text, &drawn));
+    Ok([same, one, first, second, keys.accepts(other, &drawn)])
+}
+
+/// What `is_framed` finds of `c` and of the digest of 32 bytes 09, under the context `ab`.
+fn are_framed<S: PartialEq + Drop, K: Keys<S>>(keys: &K) -> [Result<[bool; 5], Fault>; 2] {
+    let mut framed = [9u8; 47];
+    framed[..15].copy_from_slice(b"\x01\x02ab\x06\x09\x60\x86\x48\x01\x65\x03\x04\x02\x01");
+    let message = Text::Message(b"c", b"ab");
+    let digest = Text::Digest(&[9; 32], b"ab", &SHA2_256);
+    [
+        is_framed(keys, &message, &Text::Framed(b"\x00\x02abc"), &digest),
+        is_framed(keys, &digest, &Text::Framed(&framed), &message),
+    ]
 }
 
 /// The framed message `00 02 61 62 63`, and the 47 bytes of a framed digest, by the hooks over the counter streams, with
@@ -199,14 +204,7 @@ fn is_framed<S: PartialEq + Drop, K: Keys<S>>(
 fn hooks_take_framed_messages(rt: HostRuntime) -> Result<(), Fail> {
     let keys = KG::<Sha256Ctr, Sha512Ctr>::pair(&[0; 32])?;
     let prepared = KG::<Sha256Ctr, Sha512Ctr>::prepared(&keys)?;
-    let message = Text::Message(b"c", b"ab");
-    let digest = Text::Digest(&[9; 32], b"ab", &SHA2_256);
-    let found = [
-        is_framed(&keys, &message, &FRAMED_MESSAGE, &digest)?,
-        is_framed(&keys, &digest, &FRAMED_DIGEST, &message)?,
-        is_framed(&prepared, &message, &FRAMED_MESSAGE, &digest)?,
-        is_framed(&prepared, &digest, &FRAMED_DIGEST, &message)?,
-    ];
-    assert_eq!(rt; found, [true; 4]);
+    let found = [are_framed(&keys), are_framed(&prepared)];
+    assert_eq!(rt; found, [[Ok([true, true, true, true, false]); 2]; 2]);
     Ok(())
 }

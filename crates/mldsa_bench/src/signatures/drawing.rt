@@ -129,31 +129,30 @@ fn refusing_generators(rt: HostRuntime) -> Result<(), Fail> {
     Ok(())
 }
 
+/// Whether a generator gives this place its bytes, and whether it sees a value there.
+fn sees(place: &mut [u8]) -> [bool; 2] {
+    let mut rng = RefusesAt::new(255, false);
+    [rng.try_fill_bytes(place).is_ok(), rng.saw_a_value]
+}
+
 /// The generator of these tests looks at the place that it is handed, and gives 32 bytes at a time.
 #[test]
 fn generator_that_looks(rt: HostRuntime) {
-    for (byte, noted) in [(0u8, false), (1, true)] {
-        let mut rng = RefusesAt::new(255, false);
-        assert!(rt; rng.try_fill_bytes(&mut [byte; 32]).is_ok());
-        assert_eq!(rt; rng.saw_a_value, noted);
-    }
-    let mut rng = RefusesAt::new(255, false);
-    assert!(rt; rng.try_fill_bytes(&mut [0, 1]).is_err());
-    assert!(rt; rng.saw_a_value);
+    let found = [sees(&mut [0; 32]), sees(&mut [1; 32]), sees(&mut [0, 1])];
+    assert_eq!(rt; found, [[true, false], [true, true], [false, true]]);
 }
 
 /// `DummyRng` asked for 0, 31, 32 and 33 bytes: it refuses all but 32, and leaves the others as they were.
 #[test]
 fn generator_of_one_seed(rt: HostRuntime) {
     let mut rng = DummyRng { bytes: [7; 32] };
+    let mut refused = true;
     for size in [0usize, 31, 33] {
         let mut out = [0x11u8; 33];
-        assert!(rt; rng.try_fill_bytes(&mut out[..size]).is_err());
-        assert_eq!(rt; out, [0x11; 33]);
-        assert_eq!(rt; rng.bytes, [7; 32]);
+        refused &= rng.try_fill_bytes(&mut out[..size]).is_err();
+        refused &= out == [0x11; 33] && rng.bytes == [7; 32];
     }
     let mut out = [0u8; 32];
-    assert_eq!(rt; rng.try_fill_bytes(&mut out), Ok(()));
-    assert_eq!(rt; out, [7; 32]);
-    assert_eq!(rt; rng.bytes, [7; 32]);
+    let found = (refused, rng.try_fill_bytes(&mut out), out, rng.bytes);
+    assert_eq!(rt; found, (true, Ok(()), [7; 32], [7; 32]));
 }
