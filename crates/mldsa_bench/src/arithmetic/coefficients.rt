@@ -15,15 +15,18 @@ use fips204::types::R;
 /// eta 2 and 8 at eta 4, but not 15 and 9.
 #[test]
 fn coefficients_of_bytes(rt: HostRuntime) {
-    assert!(rt; coeff_from_three_bytes([0x12, 0x34, 0x56]) == Some(5649426));
-    assert!(rt; coeff_from_three_bytes([0x12, 0x34, 0x80]) == Some(13330));
-    assert!(rt; coeff_from_three_bytes([0x01, 0xe0, 0x80]) == Some(57345));
-    assert!(rt; coeff_from_three_bytes([0x01, 0xe0, 0x7f]) == None);
-    assert!(rt; coeff_from_three_bytes([0x00, 0xe0, 0x7f]) == Some(8380416));
-    assert!(rt; coeff_from_half_byte(2, 3) == Some(-1));
-    assert!(rt; coeff_from_half_byte(2, 15) == None);
-    assert!(rt; coeff_from_half_byte(4, 8) == Some(-4));
-    assert!(rt; coeff_from_half_byte(4, 9) == None);
+    let of_triples = [
+        coeff_from_three_bytes([0x12, 0x34, 0x56]),
+        coeff_from_three_bytes([0x12, 0x34, 0x80]),
+        coeff_from_three_bytes([0x01, 0xe0, 0x80]),
+        coeff_from_three_bytes([0x01, 0xe0, 0x7f]),
+        coeff_from_three_bytes([0x00, 0xe0, 0x7f]),
+    ];
+    let at_two = [coeff_from_half_byte(2, 3), coeff_from_half_byte(2, 15)];
+    let at_four = [coeff_from_half_byte(4, 8), coeff_from_half_byte(4, 9)];
+    let wanted = [Some(5649426), Some(13330), Some(57345), None, Some(8380416)];
+    let wanted = (wanted, [Some(-1), None], [Some(-4), None]);
+    assert_eq!(rt; (of_triples, at_two, at_four), wanted);
 }
 
 /// What `mont_reduce` gives, or `q - 1` outside of its range.
@@ -48,21 +51,19 @@ fn montgomery_reductions(rt: HostRuntime) {
 /// which a hint is promised, and of 95233.
 #[test]
 fn centred_values_and_hints(rt: HostRuntime) {
-    assert!(rt; center_mod(0) == 0);
-    assert!(rt; center_mod(4190208) == 4190208);
-    assert!(rt; center_mod(4190209) == -4190208);
-    assert!(rt; center_mod(8380416) == -1);
-    assert!(rt; use_hint(95232, 1, 0) == 43);
-    assert!(rt; use_hint(261888, 1, 0) == 15);
-    assert!(rt; center_mod(0 - 43 * 190464) == 190465);
-    assert!(rt; center_mod(0 - 15 * 523776) == 523777);
-    assert!(rt; decompose(95232, 8285184) == (43, 95232));
-    assert!(rt; decompose(95232, 8285185) == (0, -95232));
-    assert!(rt; decompose(261888, 8118529) == (0, -261888));
-    assert!(rt; !make_hint(95232, 95232, 0));
-    assert!(rt; high_bits(95232, 95232) == 0);
-    assert!(rt; make_hint(95232, 95233, 0));
-    assert!(rt; high_bits(95232, 95233) == 1);
+    let near = [center_mod(0), center_mod(4190208)];
+    let turned = [center_mod(4190209), center_mod(8380416)];
+    let far = [center_mod(0 - 43 * 190464), center_mod(0 - 15 * 523776)];
+    let hinted = [use_hint(95232, 1, 0), use_hint(261888, 1, 0)];
+    let sides = [decompose(95232, 8285184), decompose(95232, 8285185)];
+    let side = decompose(261888, 8118529);
+    let hints = [make_hint(95232, 95232, 0), make_hint(95232, 95233, 0)];
+    let high = [high_bits(95232, 95232), high_bits(95232, 95233)];
+    let found = ([near, turned, far], (sides, side), (hinted, hints, high));
+    let centred = [[0, 4190208], [-4190208, -1], [190465, 523777]];
+    let parts = ([(43, 95232), (0, -95232)], (0, -261888));
+    let hinted = ([43, 15], [false, true], [0, 1]);
+    assert_eq!(rt; found, (centred, parts, hinted));
 }
 
 fn parts_of(coefficients: [i32; 256]) -> ([i32; 256], [i32; 256])
@@ -86,7 +87,6 @@ fn parts_of_coefficients(rt: HostRuntime) {
 fn fields_of_ten_bits(rt: HostRuntime) {
     let mut bytes = [0u8; 320];
     simple_bit_pack(&R([1023; 256]), 1023, &mut bytes);
-    assert!(rt; bytes == [0xff; 320]);
     let fields = simple_bit_unpack(&bytes, 1023).map(|w| w.0);
-    assert!(rt; fields == Some([1023; 256]));
+    assert!(rt; bytes == [0xff; 320] && fields == Some([1023; 256]));
 }

@@ -44,38 +44,39 @@ fn ones_of(hint: &[R; 4]) -> [usize; 4] {
     hint.map(|w| w.0.iter().filter(|x| **x == 1).count())
 }
 
-/// The hint that a part spells, packed again over bytes FF, and how many ones each polynomial has.
-fn read_again(part: &[u8; 84]) -> Option<([u8; 84], [usize; 4])> {
-    let hint = hint_bit_unpack::<4>(80, part)?;
+/// Whether these places and counts spell a hint of so many ones in each polynomial, which packed again over bytes FF
+/// is spelled so, or none where that is wanted.
+fn reads<const N: usize>(places: [u8; N], counts: [u8; 4], ones: Option<[usize; 4]>) -> bool {
+    let part = part_of(&places, counts);
+    let Some(hint) = hint_bit_unpack::<4>(80, &part) else {
+        return ones.is_none();
+    };
     let mut again = [0xff; 84];
     hint_bit_pack(80, &hint, &mut again);
-    Some((again, ones_of(&hint)))
+    again == part && Some(ones_of(&hint)) == ones
 }
 
 /// Parts of no ones, of 80 ones in one polynomial and of 67 ones spell hints, which are packed again as they were;
 /// indices that fall or repeat, indices that no total covers, a total above 80 and totals that fall spell none.
 #[test]
 fn parts_that_spell_hints_or_none(rt: HostRuntime) {
-    let mut late = [0u8; 80];
+    let (mut late, rising) = ([0u8; 80], rising());
     late[79] = 1;
-    for (places, counts, ones) in [
-        ([].as_slice(), [0, 0, 0, 0], Some([0, 0, 0, 0])),
-        (&[], [0, 0, 0, 1], Some([0, 0, 0, 1])),
-        (&[0x05, 0x00, 0xff], [1, 1, 3, 3], Some([1, 0, 2, 0])),
-        (&rising(), [80, 80, 80, 80], Some([80, 0, 0, 0])),
-        (&[0xff, 0x00], [1, 2, 2, 2], Some([1, 1, 0, 0])),
-        (&MANY_PLACES, [18, 30, 45, 67], Some([18, 12, 15, 22])),
-        (&[0x05, 0xff, 0x00], [1, 1, 3, 3], None),
-        (&[0x01], [0, 0, 0, 0], None),
-        (&late, [0, 0, 0, 0], None),
-        (&rising(), [81, 81, 81, 81], None),
-        (&[0x05, 0x05], [2, 2, 2, 2], None),
-        (&[0x01, 0x02], [2, 1, 2, 2], None),
-    ] {
-        let part = part_of(places, counts);
-        let wanted = ones.map(|ones| (part, ones));
-        assert!(rt; read_again(&part) == wanted, "counts {counts:?}");
-    }
+    let found = [
+        reads([], [0, 0, 0, 0], Some([0, 0, 0, 0])),
+        reads([], [0, 0, 0, 1], Some([0, 0, 0, 1])),
+        reads([0x05, 0x00, 0xff], [1, 1, 3, 3], Some([1, 0, 2, 0])),
+        reads(rising, [80, 80, 80, 80], Some([80, 0, 0, 0])),
+        reads([0xff, 0x00], [1, 2, 2, 2], Some([1, 1, 0, 0])),
+        reads(MANY_PLACES, [18, 30, 45, 67], Some([18, 12, 15, 22])),
+        reads([0x05, 0xff, 0x00], [1, 1, 3, 3], None),
+        reads([0x01], [0, 0, 0, 0], None),
+        reads(late, [0, 0, 0, 0], None),
+        reads(rising, [81, 81, 81, 81], None),
+        reads([0x05, 0x05], [2, 2, 2, 2], None),
+        reads([0x01, 0x02], [2, 1, 2, 2], None),
+    ];
+    assert_eq!(rt; found, [true; 12]);
 }
 
 #[tactic(auto, unfolding(fips204_base::specs::Packing::bit_length))]
@@ -88,19 +89,18 @@ fn ones_in(signature: &[u8; 2420]) -> Option<[usize; 4]> {
 /// 44, by `sig_decode`: totals `16 22 36 48`, as recorded, and `12 1E 2D 43`.
 #[test]
 fn ones_and_their_places(rt: HostRuntime) -> Result<(), Fail> {
+    let mut signature = [0u8; 2420];
+    hex::decode_to_slice(recorded(0)[2], &mut signature)?;
+    let mut other = signature_44();
+    other[2336..2420].copy_from_slice(&part_of(&MANY_PLACES, [18, 30, 45, 67]));
     let part = part_of(&[0x05, 0x00, 0xff], [1, 1, 3, 3]);
-    let hint = hint_bit_unpack::<4>(80, &part).ok_or("no hint")?;
+    let hint = hint_bit_unpack::<4>(80, &part).map(|hint| hint.map(|w| w.0));
     let mut wanted = [[0; 256]; 4];
     wanted[0][5] = 1;
     wanted[2][0] = 1;
     wanted[2][255] = 1;
-    assert!(rt; hint.map(|w| w.0) == wanted);
-    let mut signature = [0u8; 2420];
-    hex::decode_to_slice(recorded(0)[2], &mut signature)?;
-    assert_eq!(rt; ones_in(&signature), Some([22, 12, 20, 18]));
-    let mut signature = signature_44();
-    signature[2336..2420].copy_from_slice(&part_of(&MANY_PLACES, [18, 30, 45, 67]));
-    assert_eq!(rt; ones_in(&signature), Some([18, 12, 15, 22]));
+    let wanted = (Some(wanted), Some([22, 12, 20, 18]), Some([18, 12, 15, 22]));
+    assert_eq!(rt; (hint, ones_in(&signature), ones_in(&other)), wanted);
     Ok(())
 }
 
@@ -211,17 +211,13 @@ fn sweep<const K: usize, const N: usize>(omega: i32, key: Option<&Public44>) -> 
 /// decoder reads them; 257, 513 and 258 spell a hint.
 #[test]
 fn parts_changed_in_one_byte(rt: HostRuntime) {
-    assert_eq!(rt; sweep::<6, 61>(55, None), [Some(257), Some(513), Some(258)]);
-    assert_eq!(rt; sweep::<8, 83>(75, None), [Some(257), Some(513), Some(258)]);
+    let found = [sweep::<6, 61>(55, None), sweep::<8, 83>(75, None)];
+    assert_eq!(rt; found, [[Some(257), Some(513), Some(258)]; 2]);
 }
 
 /// The same of set 44; and its signatures with these parts are accepted if and only if the part spells a hint.
 #[test]
-fn signatures_changed_in_one_byte_of_their_hint(rt: HostRuntime) -> Result<(), Fail> {
-    let key = Public44::try_from_bytes(public_44())?;
-    assert_eq!(rt;
-        sweep::<4, 84>(80, Some(&key)),
-        [Some(257), Some(513), Some(258)]
-    );
-    Ok(())
+fn signatures_changed_in_one_byte_of_their_hint(rt: HostRuntime) {
+    let found = Public44::try_from_bytes(public_44()).map(|key| sweep::<4, 84>(80, Some(&key)));
+    assert_eq!(rt; found, Ok([Some(257), Some(513), Some(258)]));
 }

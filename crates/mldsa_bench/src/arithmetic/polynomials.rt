@@ -40,8 +40,7 @@ fn sum_of(x: i32, y: i32) -> [i32; 256] {
 fn norms_and_sums(rt: HostRuntime) {
     let norms = [0, 4190208, 4190209, 8380416, -4190208, -8380416].map(norm_of);
     assert_eq!(rt; norms, [0, 4190208, 4190208, 1, 4190208, 1]);
-    assert!(rt; sum_of(1, 2) == [3; 256]);
-    assert!(rt; sum_of(-7, 4) == [-3; 256]);
+    assert!(rt; sum_of(1, 2) == [3; 256] && sum_of(-7, 4) == [-3; 256]);
 }
 
 /// The polynomial that has this coefficient at a place and else zero.
@@ -100,21 +99,24 @@ fn product_of_transforms(a: &[i32; 256], b: &[i32; 256]) -> [i32; 256] {
     inverse(&values)
 }
 
+/// Whether the product of two fixed polynomials is that by double sums.
+fn agrees(number: u32) -> bool {
+    let (a, b) = (spread(number), spread(number.wrapping_add(1)));
+    product(&a, &b) == slow_product(&a, &b)
+}
+
 /// X^255 times X is q - 1 at index 0, also in Montgomery form; fixed polynomials, and all coefficients q - 1, agree
 /// with a product by double sums. Inverse transforms of 256 times q - 1 and 256 times 1 - q.
 #[test]
 fn products_of_polynomials(rt: HostRuntime) {
-    let (last, x) = (monomial(255, 1), monomial(1, 1));
-    assert!(rt; product(&last, &x) == monomial(0, 8380416));
-    assert!(rt; product_of_transforms(&last, &x) == monomial(0, 8380416));
-    for number in [1u32, 77, 40000, 1234567890] {
-        let (a, b) = (spread(number), spread(number.wrapping_add(1)));
-        assert!(rt; product(&a, &b) == slow_product(&a, &b), "seed {number}");
-    }
-    let most = [8380416; 256];
-    assert!(rt; product(&most, &most) == slow_product(&most, &most));
-    assert!(rt; inverse(&most) == monomial(0, 8380416));
-    assert!(rt; inverse(&[-8380416; 256]) == monomial(0, 1));
+    let (last, x, most) = (monomial(255, 1), monomial(1, 1), [8380416; 256]);
+    let agree = [1, 77, 40000, 1234567890].map(agrees);
+    let most_agree = product(&most, &most) == slow_product(&most, &most);
+    let products = [product(&last, &x), product_of_transforms(&last, &x)];
+    let inverses = [inverse(&most), inverse(&[-8380416; 256])];
+    let lowest = monomial(0, 8380416);
+    let wanted = (([true; 4], true), [lowest; 2], [lowest, monomial(0, 1)]);
+    assert_eq!(rt; ((agree, most_agree), products, inverses), wanted);
 }
 
 /// The challenge over bytes 55, by double sums: times coefficients 2 it is 2, -2, and then -6 and -2 in turn. Its
@@ -127,12 +129,11 @@ fn products_with_a_challenge(rt: HostRuntime) -> Result<(), Fail> {
     for half in 109..128usize {
         wanted[2 * half] = Q - 6;
     }
-    assert!(rt; slow_product(&c, &[2; 256]) == wanted);
-    let mut turned = c;
-    turned.reverse();
-    let same = turned.map(|x| if x == -1 { -2 } else { 2 });
-    let opposite = turned.map(|x| if x == -1 { 2 } else { -2 });
-    assert_eq!(rt; slow_product(&c, &same)[255], 78);
-    assert_eq!(rt; slow_product(&c, &opposite)[255], Q - 78);
+    let mut same = c.map(|x| if x == -1 { -2 } else { 2 });
+    same.reverse();
+    let most = slow_product(&c, &same)[255];
+    let least = slow_product(&c, &same.map(i32::wrapping_neg))[255];
+    let twice = slow_product(&c, &[2; 256]);
+    assert_eq!(rt; (twice, most, least), (wanted, 78, Q - 78));
     Ok(())
 }

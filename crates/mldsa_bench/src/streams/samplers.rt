@@ -3,7 +3,7 @@
 
 ghost use Rattle.std.specs.Prelude.{◌<◌};
 
-use crate::streams::written_fronts::{FourthTriplesTo, Patterned, PatternedBy, Turn};
+use crate::streams::written_fronts::{FourthTriplesTo, Pattern, Patterned, PatternedBy, Turn};
 use fips204::Fault;
 use fips204::conversion::bit_unpack;
 use fips204::hashing::{
@@ -15,16 +15,24 @@ use std::test::Fail;
 
 const LIMIT: Fault = Fault::SamplingLimit;
 
-fn entry<G: Xof>() -> Result<[i32; 256], Fault> {
-    rej_ntt_poly::<G>(&[b"abc"]).map(|entry| entry.0)
+fn entry<P: Pattern, const MORE: u16>() -> Result<[i32; 256], Fault> {
+    rej_ntt_poly::<PatternedBy<P, MORE>>(&[b"abc"]).map(|entry| entry.0)
 }
 
-fn small<H: Xof>() -> Result<[i32; 256], Fault> {
-    rej_bounded_poly::<H>(2, &[b"abc"]).map(|polynomial| polynomial.0)
+fn turn<const END: usize, const MORE: u16>() -> Result<[i32; 256], Fault> {
+    entry::<Turn<0xff, END>, MORE>()
+}
+
+fn small<const END: usize, const MORE: u16>() -> Result<[i32; 256], Fault> {
+    rej_bounded_poly::<PatternedBy<Turn<0xff, END>, MORE>>(2, &[b"abc"]).map(|w| w.0)
 }
 
 fn challenge<H: Xof>(rho: &[u8]) -> Result<[i32; 256], Fault> {
     sample_in_ball::<H>(39, rho).map(|polynomial| polynomial.0)
+}
+
+fn ball<const SIGNS: u8, const END: usize, const MORE: u16>() -> Result<[i32; 256], Fault> {
+    challenge::<PatternedBy<Turn<SIGNS, END>, MORE>>(b"abc")
 }
 
 /// The challenge of -1 at one place and at each even place from 218 on, and of `odd` at each odd one.
@@ -43,48 +51,44 @@ fn challenge_with(place: usize, odd: i32) -> [i32; 256]
 /// one it is not; past the limit of 4096 bytes it is there over 8192.
 #[test]
 fn entries_of_longer_fronts(rt: HostRuntime) {
-    // Every fourth triple is kept: 256 of the first 1024, or 255 of them.
-    assert!(rt; entry::<Patterned<FourthTriplesTo<0, 4096>>>() == Ok([0; 256]));
-    assert!(rt; entry::<Patterned<FourthTriplesTo<12, 4096>>>() == Err(LIMIT));
-    // 255 of the first 1024, and triple 1024.
-    assert!(rt; entry::<PatternedBy<FourthTriplesTo<12, 3072>, 0>>() == Err(LIMIT));
-    assert!(rt; entry::<PatternedBy<FourthTriplesTo<12, 3072>, 1>>() == Err(LIMIT));
-    assert!(rt; entry::<PatternedBy<FourthTriplesTo<12, 3072>, 4096>>() == Ok([0; 256]));
+    // Every fourth triple is kept: 256 of the first 1024, 255 of them, or 255 and triple 1024.
+    let fourth = [
+        entry::<FourthTriplesTo<0, 4096>, 0>(),
+        entry::<FourthTriplesTo<12, 4096>, 0>(),
+        entry::<FourthTriplesTo<12, 3072>, 0>(),
+        entry::<FourthTriplesTo<12, 3072>, 1>(),
+        entry::<FourthTriplesTo<12, 3072>, 4096>(),
+    ];
     // 256 triples of zeros, the last at the limit or one past it.
-    assert!(rt; entry::<PatternedBy<Turn<0xff, 2304>, 0>>() == Ok([0; 256]));
-    assert!(rt; entry::<PatternedBy<Turn<0xff, 2307>, 0>>() == Err(LIMIT));
-    assert!(rt; entry::<PatternedBy<Turn<0xff, 2304>, 1>>() == Ok([0; 256]));
-    assert!(rt; entry::<PatternedBy<Turn<0xff, 2307>, 1>>() == Err(LIMIT));
-    assert!(rt; entry::<PatternedBy<Turn<0xff, 2982>, 904>>() == Ok([0; 256]));
-    assert!(rt; entry::<PatternedBy<Turn<0xff, 2985>, 904>>() == Err(LIMIT));
+    let last = [turn::<2304, 0>(), turn::<2304, 1>(), turn::<2982, 904>()];
+    let past = [turn::<2307, 0>(), turn::<2307, 1>(), turn::<2985, 904>()];
+    let (zero, none) = (Ok([0; 256]), Err(LIMIT));
+    let wanted = ([zero, none, none, none, zero], [zero; 3], [none; 3]);
+    assert_eq!(rt; (fourth, last, past), wanted);
 }
 
 /// Small polynomials at their limit and one byte past it, which is within that of 8192 bytes.
 #[test]
 fn small_polynomials_of_longer_fronts(rt: HostRuntime) {
-    assert!(rt; small::<PatternedBy<Turn<0xff, 896>, 0>>() == Ok([2; 256]));
-    assert!(rt; small::<PatternedBy<Turn<0xff, 897>, 0>>() == Err(LIMIT));
-    assert!(rt; small::<PatternedBy<Turn<0xff, 896>, 1>>() == Ok([2; 256]));
-    assert!(rt; small::<PatternedBy<Turn<0xff, 897>, 1>>() == Err(LIMIT));
-    assert!(rt; small::<PatternedBy<Turn<0xff, 1122>, 904>>() == Ok([2; 256]));
-    assert!(rt; small::<PatternedBy<Turn<0xff, 1123>, 904>>() == Err(LIMIT));
-    assert!(rt; small::<PatternedBy<Turn<0xff, 897>, 4096>>() == Ok([2; 256]));
+    let last = [small::<896, 0>(), small::<896, 1>(), small::<1122, 904>()];
+    let past = [small::<897, 0>(), small::<897, 1>(), small::<1123, 904>()];
+    let wanted = ([Ok([2; 256]); 3], [Err(LIMIT); 3], Ok([2; 256]));
+    assert_eq!(rt; (last, past, small::<897, 4096>()), wanted);
 }
 
 /// The same of challenges, of sign bytes FF or 55. Over bytes 55: -1 at index 85, and from 218 on -1 and 1 in turn.
 #[test]
 fn challenges_of_longer_fronts(rt: HostRuntime) {
-    let wanted = challenge_with(0, -1);
-    assert!(rt; challenge::<PatternedBy<Turn<0xff, 993>, 0>>(b"abc") == Ok(wanted));
-    assert!(rt; challenge::<PatternedBy<Turn<0xff, 994>, 0>>(b"abc") == Err(LIMIT));
-    let wanted = challenge_with(0, 1);
-    assert!(rt; challenge::<PatternedBy<Turn<0x55, 994>, 0>>(b"abc") == Err(LIMIT));
-    assert!(rt; challenge::<PatternedBy<Turn<0x55, 993>, 1>>(b"abc") == Ok(wanted));
-    assert!(rt; challenge::<PatternedBy<Turn<0x55, 994>, 1>>(b"abc") == Err(LIMIT));
-    assert!(rt; challenge::<PatternedBy<Turn<0x55, 1219>, 904>>(b"abc") == Ok(wanted));
-    assert!(rt; challenge::<PatternedBy<Turn<0x55, 1220>, 904>>(b"abc") == Err(LIMIT));
-    assert!(rt; challenge::<PatternedBy<Turn<0x55, 994>, 4096>>(b"abc") == Ok(wanted));
-    assert!(rt; challenge::<Fill<0x55>>(&[0x55; 32]) == Ok(challenge_with(85, 1)));
+    let first = [ball::<0xff, 993, 0>(), ball::<0xff, 994, 0>()];
+    let past = [ball::<0x55, 994, 0>(), ball::<0x55, 994, 1>()];
+    let last = [ball::<0x55, 993, 1>(), ball::<0x55, 994, 4096>()];
+    let longer = [ball::<0x55, 1219, 904>(), ball::<0x55, 1220, 904>()];
+    let filled = challenge::<Fill<0x55>>(&[0x55; 32]);
+    let (same, turns) = (challenge_with(0, -1), challenge_with(0, 1));
+    let (turns, none) = (Ok(turns), Err(LIMIT));
+    let wanted = [[Ok(same), none], [none; 2], [turns; 2], [turns, none]];
+    let wanted = (wanted, Ok(challenge_with(85, 1)));
+    assert_eq!(rt; ([first, past, last, longer], filled), wanted);
 }
 
 /// Bytes 10: at eta 2 the coefficients 2, 1 in turn, also in both vectors of `ExpandS`, at eta 4 the coefficients 4, 3.
@@ -101,8 +105,7 @@ fn low_halves_come_first(rt: HostRuntime) -> Result<(), Fail> {
 
 fn all_zero<G: Xof>() -> Result<bool, Fault> {
     let matrix = expand_a::<4, 4, G>(&[7; 32])?;
-    let mut entries = matrix.as_flattened().iter();
-    Ok(entries.all(|entry| entry.0 == [0; 256]))
+    Ok(matrix.as_flattened().iter().all(|w| w.0 == [0; 256]))
 }
 
 /// A matrix whose entries use their last triple, every fourth 0 and the rest FF; with one value fewer, `SamplingLimit`.
@@ -129,7 +132,6 @@ fn last_mask<H: Xof>(rho: &[u8; 64]) -> bool {
 /// The largest counter of a mask, 5697, is the bytes `41 16` after the seed; a field of a mask has 20 bits.
 #[test]
 fn counter_of_the_last_mask(rt: HostRuntime) {
-    assert_eq!(rt; bit_length(1048575), 20);
-    assert!(rt; last_mask::<Sha256Ctr>(&[7; 64]));
-    assert!(rt; last_mask::<Sha512Ctr>(&[0; 64]));
+    let both = last_mask::<Sha256Ctr>(&[7; 64]) && last_mask::<Sha512Ctr>(&[0; 64]);
+    assert_eq!(rt; (bit_length(1048575), both), (20, true));
 }
