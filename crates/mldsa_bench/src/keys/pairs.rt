@@ -1,13 +1,12 @@
 //! Key pairs, and keys through their bytes.
 #![tactic(auto)]
 
-use crate::keys::sets::{Constant44, Suite, TestSet, at_each_set};
+use crate::keys::sets::{Constant44, TestSet};
 use crate::signatures::calls_at_limits::{ALL, returned};
 use crate::values::constant_streams::{LOW_0, private_44, public_44, repeat};
 use fips204::traits::{SerDes, Signer};
 use fips204::xof::{Fill, Sha256Ctr, Sha512Ctr};
 use fips204::{Fault, ml_dsa_44, ml_dsa_65, ml_dsa_87};
-use std::test::Fail;
 
 type Private44 = ml_dsa_44::PrivateKey<Fill<0x55>, Fill<0>>;
 
@@ -45,68 +44,52 @@ fn comes_back_of(byte: u8) -> Result<bool, Fault> {
 /// one value.
 #[test]
 fn public_keys_come_back(rt: HostRuntime) {
-    let found = [
+    let filled = [0, 1, 0x7f, 0x80, 0xff].map(comes_back_of);
+    let rising = [
         comes_back::<Public44, 1312>(&counting()),
         comes_back::<ml_dsa_65::PublicKey<Sha256Ctr, Sha512Ctr>, 1952>(&counting()),
         comes_back::<ml_dsa_87::PublicKey<Sha256Ctr, Sha512Ctr>, 2592>(&counting()),
-        comes_back_of(0),
-        comes_back_of(1),
-        comes_back_of(0x7f),
-        comes_back_of(0x80),
-        comes_back_of(0xff),
     ];
-    assert_eq!(rt; found, [Ok(true); 8]);
+    assert_eq!(rt; (rising, filled), ([Ok(true); 3], [Ok(true); 5]));
 }
 
-/// The first value, up to the largest, of a field of the recorded private key, with which the key neither comes back,
-/// as up to 2 eta, nor is `KeyRange`, as above it. The field is at this byte, from a bit of this value on.
+/// Whether the recorded keys come back; and the first value of a field, up to the largest, with which the private key
+/// neither comes back, as up to 2 eta, nor is `KeyRange`, as above it.
 fn wrong_value<S: TestSet>(
     (at, unit): (usize, u8),
-    (largest, recorded, most): (u8, u8, u8),
-) -> Result<Option<u8>, Fault> {
+    [largest, recorded, most]: [u8; 3],
+) -> Result<(bool, Option<u8>), Fault> {
+    let comes_back = S::is_constant(Ok(S::constant()?.0))?;
     for field in 0..=largest {
-        let (keys, _) = S::constant()?;
         let bits = (field ^ recorded).wrapping_mul(unit);
-        let as_wanted = match S::read_again(keys, at, bits) {
+        let as_wanted = match S::read_again(S::constant()?.0, at, bits) {
             Ok(found) => found[0] && field <= most,
             Err(fault) => matches!(fault, Fault::KeyRange) && field > most,
         };
         if !as_wanted {
-            return Ok(Some(field));
+            return Ok((comes_back, Some(field)));
         }
     }
-    Ok(None)
+    Ok((comes_back, None))
 }
 
-fn recorded_come_back<S: TestSet>() -> Result<bool, Fault> {
-    S::is_constant(Ok(S::constant()?.0))
-}
+type Set65 = ml_dsa_65::KG<Fill<0x55>, Fill<0>>;
 
-/// Whether the recorded keys come back, and the wrong value of the first field of s1 and that of the last of s2.
-#[derive(Drop)]
-struct WrongField;
-
-impl Suite for WrongField {
-    type Answer = (Result<bool, Fault>, [Result<Option<u8>, Fault>; 2]);
-
-    fn at<S: TestSet>(&self, number: usize) -> Result<Self::Answer, Fail> {
-        let last = [(895, 32), (1535, 16), (1567, 32)][number];
-        let values = [(7, 0, 4), (15, 5, 8), (7, 0, 4)][number];
-        let wrong = [
-            wrong_value::<S>((128, 1), values),
-            wrong_value::<S>(last, values),
-        ];
-        Ok((recorded_come_back::<S>(), wrong))
-    }
-}
+type Set87 = ml_dsa_87::KG<Fill<0x55>, Fill<0>>;
 
 /// The first field of s1 and the last of s2 at each set, with every value of their bits: the same bytes come
 /// back up to 2 eta, and above it `KeyRange`.
 #[test]
-fn field_ranges_of_each_set(rt: HostRuntime) -> Result<(), Fail> {
-    let found = at_each_set::<Fill<0x55>, Fill<0>, WrongField>(&WrongField)?;
-    assert_eq!(rt; found, [(Ok(true), [Ok(None); 2]); 3]);
-    Ok(())
+fn field_ranges_of_each_set(rt: HostRuntime) {
+    let found = [
+        wrong_value::<Constant44>((128, 1), [7, 0, 4]),
+        wrong_value::<Constant44>((895, 32), [7, 0, 4]),
+        wrong_value::<Set65>((128, 1), [15, 5, 8]),
+        wrong_value::<Set65>((1535, 16), [15, 5, 8]),
+        wrong_value::<Set87>((128, 1), [7, 0, 4]),
+        wrong_value::<Set87>((1567, 32), [7, 0, 4]),
+    ];
+    assert_eq!(rt; found, [Ok((true, None)); 6]);
 }
 
 /// Whether the private key of 32 bytes 07 is whole with these bits changed in a byte.
@@ -115,41 +98,28 @@ fn whole<S: TestSet>(at: usize, bits: u8) -> Result<bool, Fault> {
 }
 
 /// Whether that key is whole, and with another bit in K, `tr`, and the first and last byte of t0.
-#[derive(Drop)]
-struct WholeWithBits;
-
-impl Suite for WholeWithBits {
-    type Answer = [Result<bool, Fault>; 5];
-
-    fn at<S: TestSet>(&self, number: usize) -> Result<Self::Answer, Fail> {
-        let (first, last) = [(896, 2559), (1536, 4031), (1568, 4895)][number];
-        let others = (whole::<S>(first, 1), whole::<S>(last, 1));
-        Ok([
-            whole::<S>(0, 0),
-            whole::<S>(32, 1),
-            whole::<S>(127, 1),
-            others.0,
-            others.1,
-        ])
-    }
+fn whole_with_bits<S: TestSet>(first: usize, last: usize) -> [Result<bool, Fault>; 5] {
+    let [before, k, tr] = [whole::<S>(0, 0), whole::<S>(32, 1), whole::<S>(127, 1)];
+    [before, k, tr, whole::<S>(first, 1), whole::<S>(last, 1)]
 }
 
 /// A generated key of each set is whole, also with another bit in K or `tr`. With one in the first or the last byte of
 /// t0 it is not.
 #[test]
-fn whole_keys_of_each_set(rt: HostRuntime) -> Result<(), Fail> {
-    let found = at_each_set::<Sha256Ctr, Sha512Ctr, WholeWithBits>(&WholeWithBits)?;
-    let wanted = [Ok(true), Ok(true), Ok(true), Ok(false), Ok(false)];
-    assert_eq!(rt; found, [wanted; 3]);
-    Ok(())
+fn whole_keys_of_each_set(rt: HostRuntime) {
+    let found = [
+        whole_with_bits::<ml_dsa_44::KG<Sha256Ctr, Sha512Ctr>>(896, 2559),
+        whole_with_bits::<ml_dsa_65::KG<Sha256Ctr, Sha512Ctr>>(1536, 4031),
+        whole_with_bits::<ml_dsa_87::KG<Sha256Ctr, Sha512Ctr>>(1568, 4895),
+    ];
+    assert_eq!(rt; found, [[true, true, true, false, false].map(Ok); 3]);
 }
 
-fn hash_of(bytes: [u8; 1312]) -> Result<[u8; 64], Fault> {
-    Ok(*Public44::try_from_bytes(bytes)?.tr())
-}
-
-fn hash_in_a_pair() -> Result<[u8; 64], Fault> {
-    Ok(*Constant44::pair(&[7; 32])?.0.tr())
+fn hashes() -> Result<[[u8; 64]; 3], Fault> {
+    let (public, _) = Constant44::pair(&[7; 32])?;
+    let other = *Public44::try_from_bytes(counting())?.tr();
+    let recorded = *Public44::try_from_bytes(public_44())?.tr();
+    Ok([*public.tr(), other, recorded])
 }
 
 /// The hash of the public key that is derived where `tr` has bytes of this value, and the bytes of that key.
@@ -164,10 +134,9 @@ fn derived_with(byte: u8) -> Result<([u8; 64], [u8; 1312]), Fault> {
 /// With `tr` of bytes 00 in that, the derived key keeps it until it is decoded anew.
 #[test]
 fn hashes_of_public_keys(rt: HostRuntime) {
-    let hashes = [hash_in_a_pair(), hash_of(counting()), hash_of(public_44())];
     let derived = [0x55, 0].map(derived_with);
     let wanted = [Ok(([0x55; 64], public_44())), Ok(([0; 64], public_44()))];
-    assert_eq!(rt; (hashes, derived), ([Ok([0x55; 64]); 3], wanted));
+    assert_eq!(rt; (hashes(), derived), (Ok([[0x55; 64]; 3]), wanted));
 }
 
 /// Whether the recorded private key is whole with this t0, and whether its public key is the recorded one.
@@ -175,10 +144,8 @@ fn with_low_parts(part: [u8; 13]) -> Result<[bool; 2], Fault> {
     let mut bytes = private_44();
     repeat(&mut bytes[896..], &part);
     let private = Private44::try_from_bytes(bytes)?;
-    Ok([
-        private.is_whole()?,
-        private.get_public_key()?.into_bytes() == public_44(),
-    ])
+    let public = private.get_public_key()?.into_bytes();
+    Ok([private.is_whole()?, public == public_44()])
 }
 
 /// `get_public_key` does not look at t0, with which the key is no longer whole.

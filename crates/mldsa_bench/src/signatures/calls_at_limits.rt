@@ -4,7 +4,7 @@
 ghost use Rattle.std.specs.Prelude.{◌≡◌, ◌≤◌, ◌+◌, ◌⊎◌, ◌≤ℤ◌, pos};
 
 use crate::arithmetic::polynomials::slow_product;
-use crate::keys::sets::{Constant44, Keys, Suite, TestSet, at_each_set, is_same};
+use crate::keys::sets::{Constant44, Keys, TestSet, is_same};
 use crate::signatures::norms_and_hints::{accepted, short};
 use crate::streams::input_chosen::{ByLength, Second};
 use crate::streams::written_fronts::{FourthTriples, Patterned};
@@ -15,7 +15,6 @@ use fips204::traits::SerDes;
 use fips204::types::R;
 use fips204::xof::{Fill, Sha256Ctr, Xof};
 use fips204::{Fault, ml_dsa_65, ml_dsa_87};
-use std::test::Fail;
 
 /// The streams whose matrix entries keep their last coefficient from the last triple.
 type LastTriple = Patterned<FourthTriples<0>>;
@@ -58,14 +57,12 @@ fn refusals<S: TestSet>(keys: &S::Plain) -> [Option<Fault>; 2] {
 /// What the calls of a set return; the pair is of a seed of bytes of this value.
 fn calls<S: TestSet>(seed: u8) -> Result<Answers, Fault> {
     let (keys, signature) = S::constant()?;
-    let signatures = [
-        signed(&keys, &signature),
-        signed_prepared::<S>(&keys, &signature),
-    ];
+    let plain = signed(&keys, &signature);
+    let prepared = signed_prepared::<S>(&keys, &signature);
     let pair = S::is_constant(S::pair(&[seed; 32]));
     let (derived, refused) = (S::derives_constant(&keys), refusals::<S>(&keys));
     let read = is_same(S::read_again(keys, 0, 0), &[true; 2]);
-    Ok(([pair, derived, read], refused, signatures))
+    Ok(([pair, derived, read], refused, [plain, prepared]))
 }
 
 /// What the calls of each set return; the pair is of a seed of bytes of this value.
@@ -113,43 +110,35 @@ fn commitment_of_ff() -> [u8; 2420] {
 /// set 44 false also of a signature that begins with bytes FF.
 #[test]
 fn challenges_that_pass_their_limit(rt: HostRuntime) {
-    let found = (
-        calls::<KG<ByLength, Fill<0>>>(7),
-        returned::<Fill<0xff>, Fill<0>>(0),
-        accepted::<KG<Fill<0xff>, Fill<0>>>(&commitment_of_ff()),
-    );
+    let one = calls::<KG<ByLength, Fill<0>>>(7);
+    let each = returned::<Fill<0xff>, Fill<0>>(0);
+    let answer = accepted::<KG<Fill<0xff>, Fill<0>>>(&commitment_of_ff());
     let none = [[LIMIT, Ok(false)]; 2];
-    let one = ([Ok(true); 3], [None; 2], none);
-    let all = ([LIMIT, Ok(true), Ok(true)], [None; 2], none);
-    assert_eq!(rt; found, (Ok(one), [Ok(all); 3], Ok([false; 2])));
-}
-
-fn signing_fault<S: Drop, K: Keys<S>>(keys: &K) -> Option<Fault> {
-    keys.seeded(&[0; 32], &short()).err()
+    let pair = Ok(([Ok(true); 3], [None; 2], none));
+    let no_pair = Ok(([LIMIT, Ok(true), Ok(true)], [None; 2], none));
+    assert_eq!(rt; (one, each, answer), (pair, [no_pair; 3], Ok([false; 2])));
 }
 
 fn signing_faults<S: TestSet>(keys: &S::Plain) -> Result<[Option<Fault>; 2], Fault> {
-    Ok([signing_fault(keys), signing_fault(&S::prepared(keys)?)])
+    let (text, prepared) = (&short(), S::prepared(keys)?);
+    let plain = keys.seeded(&[0; 32], text).err();
+    Ok([plain, prepared.seeded(&[0; 32], text).err()])
 }
 
 /// The refusals of a signature by the keys of 32 bytes 00, plain and prepared.
-#[derive(Drop)]
-struct SigningFaults;
-
-impl Suite for SigningFaults {
-    type Answer = [Option<Fault>; 2];
-
-    fn at<S: TestSet>(&self, _number: usize) -> Result<[Option<Fault>; 2], Fail> {
-        Ok(signing_faults::<S>(&S::pair(&[0; 32])?)?)
-    }
+fn faults_of_pair<S: TestSet>() -> Result<[Option<Fault>; 2], Fault> {
+    signing_faults::<S>(&S::pair(&[0; 32])?)
 }
 
 /// Both streams of bytes 00, each set: `TooManyAttempts`, with plain and prepared keys.
 #[test]
-fn keys_that_never_sign(rt: HostRuntime) -> Result<(), Fail> {
-    let faults = at_each_set::<Fill<0>, Fill<0>, SigningFaults>(&SigningFaults)?;
-    assert_eq!(rt; faults, [[Some(Fault::TooManyAttempts); 2]; 3]);
-    Ok(())
+fn keys_that_never_sign(rt: HostRuntime) {
+    let found = [
+        faults_of_pair::<KG<Fill<0>, Fill<0>>>(),
+        faults_of_pair::<ml_dsa_65::KG<Fill<0>, Fill<0>>>(),
+        faults_of_pair::<ml_dsa_87::KG<Fill<0>, Fill<0>>>(),
+    ];
+    assert_eq!(rt; found, [Ok([Some(Fault::TooManyAttempts); 2]); 3]);
 }
 
 /// A first polynomial of t0: -4095 at odd places up to 37 and at 170, 4096 at even places between, and else 2; and its
@@ -163,30 +152,26 @@ fn large_low_parts() -> ([i32; 256], [u32; 256]) {
     (low, fields)
 }
 
-fn product_of_large_low_parts() -> Result<i32, Fault> {
+/// Coefficient 255 of its product with the challenge; and with it, what refuses to sign, and whether the public key is
+/// derived as over constant streams.
+fn with_large_low_parts() -> Result<(i32, [Option<Fault>; 2], bool), Fault> {
     let R(c) = sample_in_ball::<Fill<0x55>>(39, &[0x55; 32])?;
-    Ok(slow_product(&c, &large_low_parts().0)[255])
-}
-
-/// With those: the refusals of a signature, and whether the public key is derived as over constant streams.
-fn answers_of_large_low_parts() -> Result<([Option<Fault>; 2], bool), Fault> {
+    let (low, fields) = large_low_parts();
     let mut bytes = private_44();
-    put_fields(&mut bytes[896..1312], &large_low_parts().1, 13);
+    put_fields(&mut bytes[896..1312], &fields, 13);
     let ((public, _), _) = Constant44::constant()?;
     let keys = (public, PrivateKey::try_from_bytes(bytes)?);
-    Ok((
-        signing_faults::<Constant44>(&keys)?,
-        Constant44::derives_constant(&keys)?,
-    ))
+    let faults = signing_faults::<Constant44>(&keys)?;
+    let derived = Constant44::derives_constant(&keys)?;
+    Ok((slow_product(&c, &low)[255], faults, derived))
 }
 
 /// A key of set 44 with another first polynomial of t0. Its product with the challenge is too large, 159724 at index
 /// 255 by double sums: `TooManyAttempts`.
 #[test]
 fn low_parts_that_never_sign(rt: HostRuntime) {
-    let found = (product_of_large_low_parts(), answers_of_large_low_parts());
     let many = [Some(Fault::TooManyAttempts); 2];
-    assert_eq!(rt; found, (Ok(159724), Ok((many, true))));
+    assert_eq!(rt; with_large_low_parts(), Ok((159724, many, true)));
 }
 
 /// Whether every coefficient of the masks at a counter is this one.
@@ -219,12 +204,10 @@ fn smallest_response<H: Xof>(gamma1: i64, tau: i32, eta: i32) -> Result<i64, Fau
 /// signs as over constant streams.
 #[test]
 fn first_attempts_that_are_rejected(rt: HostRuntime) {
-    let found = (
-        masks_are::<4, Second>(131072, 0, 131072),
-        smallest_response::<Second>(131072, 39, 2),
-        masks_are::<4, Second>(131072, 4, 43691),
-        calls::<KG<Second, Fill<0>>>(7),
-    );
+    let first = masks_are::<4, Second>(131072, 0, 131072);
+    let smallest = smallest_response::<Second>(131072, 39, 2);
+    let second = masks_are::<4, Second>(131072, 4, 43691);
+    let found = (first, smallest, second, calls::<KG<Second, Fill<0>>>(7));
     assert_eq!(rt; found, (true, Ok(131066), true, Ok(ALL)));
 }
 
@@ -245,8 +228,6 @@ fn responses_over_zeros(rt: HostRuntime) {
         smallest_response::<Fill<0>>(524288, 49, 4),
         smallest_response::<Fill<0>>(524288, 60, 2),
     ];
-    assert_eq!(rt;
-        (masks, responses),
-        ([true; 6], [Ok(130998), Ok(524100), Ok(524172)])
-    );
+    let wanted = [Ok(130998), Ok(524100), Ok(524172)];
+    assert_eq!(rt; (masks, responses), ([true; 6], wanted));
 }
