@@ -4,26 +4,23 @@
 ghost use Rattle.std.specs.Prelude.{◌≡◌, ◌≤◌, ◌+◌, ◌⊎◌, ◌≤ℤ◌, pos};
 
 use crate::arithmetic::polynomials::slow_product;
-use crate::keys::sets::{Constant44, Keys, Suite, TestSet, Text, at_each_set, is_same};
-use crate::signatures::norms_and_hints::accepted;
+use crate::keys::sets::{Constant44, Keys, TestSet, is_same};
+use crate::signatures::norms_and_hints::{accepted, short};
 use crate::streams::input_chosen::{ByLength, Second};
 use crate::streams::written_fronts::{FourthTriples, Patterned};
 use crate::values::constant_streams::{private_44, put_fields, signature_44};
-use fips204::Fault;
 use fips204::hashing::{expand_mask, sample_in_ball};
 use fips204::ml_dsa_44::{KG, PrivateKey};
 use fips204::traits::SerDes;
 use fips204::types::R;
 use fips204::xof::{Fill, Sha256Ctr, Xof};
-use std::test::Fail;
+use fips204::{Fault, ml_dsa_65, ml_dsa_87};
 
 /// The streams whose matrix entries keep their last coefficient from the last triple.
 type LastTriple = Patterned<FourthTriples<0>>;
 
 /// The streams whose matrix entries keep one coefficient fewer.
 type PastLastTriple = Patterned<FourthTriples<12>>;
-
-const TEXT: Text = Text::Message(b"abc", &[]);
 
 /// Whether the pair of a seed is that over constant streams, and so the public key of the private one, and whether this
 /// comes back from its bytes and is whole; the refusals to prepare the public key and the private key; and whether
@@ -40,62 +37,64 @@ pub const ALL: Answers = ([Ok(true); 3], [None; 2], [[Ok(true); 2]; 2]);
 const LIMIT: Result<bool, Fault> = Err(Fault::SamplingLimit);
 
 fn signed<S: PartialEq + Drop, K: Keys<S>>(keys: &K, signature: &S) -> [Result<bool, Fault>; 2] {
-    let same = is_same(keys.seeded(&[0; 32], &TEXT), signature);
-    [same, Ok(keys.accepts(&TEXT, signature))]
+    let text = &short();
+    let same = is_same(keys.seeded(&[0; 32], text), signature);
+    [same, Ok(keys.accepts(text, signature))]
 }
 
-/// What the calls of a set return; the pair is of this seed.
-#[derive(Drop)]
-struct Calls([u8; 32]);
-
-impl Suite for Calls {
-    type Answer = Answers;
-
-    fn at<S: TestSet>(&self, _number: usize) -> Result<Answers, Fail> {
-        let (keys, signature) = S::constant()?;
-        let signatures = [
-            signed(&keys, &signature),
-            match S::prepared(&keys) {
-                Ok(prepared) => signed(&prepared, &signature),
-                Err(fault) => [Err(fault); 2],
-            },
-        ];
-        let (public, private) = S::prepared_parts(&keys);
-        let refusals = [public.err(), private.err()];
-        let read = [
-            S::is_constant(S::pair(&self.0)),
-            S::derives_constant(&keys),
-            is_same(S::read_again(keys, 0, 0), &[true; 2]),
-        ];
-        Ok((read, refusals, signatures))
+fn signed_prepared<S: TestSet>(keys: &S::Plain, wanted: &S::Signature) -> [Result<bool, Fault>; 2] {
+    match S::prepared(keys) {
+        Ok(prepared) => signed(&prepared, wanted),
+        Err(fault) => [Err(fault); 2],
     }
 }
 
+fn refusals<S: TestSet>(keys: &S::Plain) -> [Option<Fault>; 2] {
+    let (public, private) = S::prepared_parts(keys);
+    [public.err(), private.err()]
+}
+
+/// What the calls of a set return; the pair is of a seed of bytes of this value.
+fn calls<S: TestSet>(seed: u8) -> Result<Answers, Fault> {
+    let (keys, signature) = S::constant()?;
+    let plain = signed(&keys, &signature);
+    let prepared = signed_prepared::<S>(&keys, &signature);
+    let pair = S::is_constant(S::pair(&[seed; 32]));
+    let (derived, refused) = (S::derives_constant(&keys), refusals::<S>(&keys));
+    let read = is_same(S::read_again(keys, 0, 0), &[true; 2]);
+    Ok(([pair, derived, read], refused, [plain, prepared]))
+}
+
 /// What the calls of each set return; the pair is of a seed of bytes of this value.
-pub fn returned<H: Xof, G: Xof>(seed: u8) -> Result<[Answers; 3], Fail> {
-    at_each_set::<H, G, Calls>(&Calls([seed; 32]))
+pub fn returned<H: Xof, G: Xof>(seed: u8) -> [Result<Answers, Fault>; 3] {
+    [
+        calls::<KG<H, G>>(seed),
+        calls::<ml_dsa_65::KG<H, G>>(seed),
+        calls::<ml_dsa_87::KG<H, G>>(seed),
+    ]
 }
 
 /// Every fourth triple 0 and the rest FF at each set: key generation, deriving, preparing, signing and
 /// verifying return what they return over constant streams.
 #[test]
-fn calls_whose_matrix_ends_at_its_last_triple(rt: HostRuntime) -> Result<(), Fail> {
-    assert_eq!(rt; returned::<Fill<0x55>, LastTriple>(7)?, [ALL; 3]);
-    Ok(())
+fn calls_whose_matrix_ends_at_its_last_triple(rt: HostRuntime) {
+    assert_eq!(rt; returned::<Fill<0x55>, LastTriple>(7), [Ok(ALL); 3]);
 }
 
 /// Past that limit, and with `G` of bytes FF, each call returns `SamplingLimit`, also `prepare` and `is_whole`, and
 /// verifying returns false.
 #[test]
-fn calls_whose_matrix_passes_its_limit(rt: HostRuntime) -> Result<(), Fail> {
+fn calls_whose_matrix_passes_its_limit(rt: HostRuntime) {
+    let found = [
+        returned::<Fill<0x55>, PastLastTriple>(7),
+        returned::<Fill<0x55>, Fill<0xff>>(7),
+        returned::<Fill<0x55>, Fill<0xff>>(0),
+        returned::<Sha256Ctr, Fill<0xff>>(0),
+        returned::<Fill<0xff>, Fill<0xff>>(0),
+    ];
     let signatures = [[LIMIT, Ok(false)], [LIMIT; 2]];
-    let refused = [([LIMIT; 3], [Some(Fault::SamplingLimit); 2], signatures); 3];
-    assert_eq!(rt; returned::<Fill<0x55>, PastLastTriple>(7)?, refused);
-    assert_eq!(rt; returned::<Fill<0x55>, Fill<0xff>>(7)?, refused);
-    assert_eq!(rt; returned::<Fill<0x55>, Fill<0xff>>(0)?, refused);
-    assert_eq!(rt; returned::<Sha256Ctr, Fill<0xff>>(0)?, refused);
-    assert_eq!(rt; returned::<Fill<0xff>, Fill<0xff>>(0)?, refused);
-    Ok(())
+    let refused = ([LIMIT; 3], [Some(Fault::SamplingLimit); 2], signatures);
+    assert_eq!(rt; found, [[Ok(refused); 3]; 5]);
 }
 
 fn commitment_of_ff() -> [u8; 2420] {
@@ -110,64 +109,69 @@ fn commitment_of_ff() -> [u8; 2420] {
 /// and false, with plain and prepared keys. `H` of bytes FF, each set: `SamplingLimit` in key generation too, and at
 /// set 44 false also of a signature that begins with bytes FF.
 #[test]
-fn challenges_that_pass_their_limit(rt: HostRuntime) -> Result<(), Fail> {
-    let none = [[LIMIT, Ok(false)]; 2];
-    let found = Calls([7; 32]).at::<KG<ByLength, Fill<0>>>(0)?;
-    assert_eq!(rt; found, ([Ok(true); 3], [None; 2], none));
-    let wanted = [([LIMIT, Ok(true), Ok(true)], [None; 2], none); 3];
-    assert_eq!(rt; returned::<Fill<0xff>, Fill<0>>(0)?, wanted);
+fn challenges_that_pass_their_limit(rt: HostRuntime) {
+    let one = calls::<KG<ByLength, Fill<0>>>(7);
+    let each = returned::<Fill<0xff>, Fill<0>>(0);
     let answer = accepted::<KG<Fill<0xff>, Fill<0>>>(&commitment_of_ff());
-    assert_eq!(rt; answer, Ok([false; 2]));
-    Ok(())
+    let none = [[LIMIT, Ok(false)]; 2];
+    let pair = Ok(([Ok(true); 3], [None; 2], none));
+    let no_pair = Ok(([LIMIT, Ok(true), Ok(true)], [None; 2], none));
+    assert_eq!(rt; (one, each, answer), (pair, [no_pair; 3], Ok([false; 2])));
 }
 
 fn signing_faults<S: TestSet>(keys: &S::Plain) -> Result<[Option<Fault>; 2], Fault> {
-    let prepared = S::prepared(keys)?;
-    Ok([
-        keys.seeded(&[0; 32], &TEXT).err(),
-        prepared.seeded(&[0; 32], &TEXT).err(),
-    ])
+    let (text, prepared) = (&short(), S::prepared(keys)?);
+    let plain = keys.seeded(&[0; 32], text).err();
+    Ok([plain, prepared.seeded(&[0; 32], text).err()])
 }
 
 /// The refusals of a signature by the keys of 32 bytes 00, plain and prepared.
-#[derive(Drop)]
-struct SigningFaults;
-
-impl Suite for SigningFaults {
-    type Answer = [Option<Fault>; 2];
-
-    fn at<S: TestSet>(&self, _number: usize) -> Result<[Option<Fault>; 2], Fail> {
-        Ok(signing_faults::<S>(&S::pair(&[0; 32])?)?)
-    }
+fn faults_of_pair<S: TestSet>() -> Result<[Option<Fault>; 2], Fault> {
+    signing_faults::<S>(&S::pair(&[0; 32])?)
 }
 
 /// Both streams of bytes 00, each set: `TooManyAttempts`, with plain and prepared keys.
 #[test]
-fn keys_that_never_sign(rt: HostRuntime) -> Result<(), Fail> {
-    let faults = at_each_set::<Fill<0>, Fill<0>, SigningFaults>(&SigningFaults)?;
-    assert_eq!(rt; faults, [[Some(Fault::TooManyAttempts); 2]; 3]);
-    Ok(())
+fn keys_that_never_sign(rt: HostRuntime) {
+    let found = [
+        faults_of_pair::<KG<Fill<0>, Fill<0>>>(),
+        faults_of_pair::<ml_dsa_65::KG<Fill<0>, Fill<0>>>(),
+        faults_of_pair::<ml_dsa_87::KG<Fill<0>, Fill<0>>>(),
+    ];
+    assert_eq!(rt; found, [Ok([Some(Fault::TooManyAttempts); 2]); 3]);
 }
 
-/// A key of set 44 with another first polynomial of t0: -4095 at odd places up to 37 and at 170, and 4096 at even
-/// places between. Its product with the challenge is too large, 159724 at index 255 by double sums: `TooManyAttempts`.
-#[test]
-fn low_parts_that_never_sign(rt: HostRuntime) -> Result<(), Fail> {
-    let R(c) = sample_in_ball::<Fill<0x55>>(39, &[0x55; 32])?;
+/// A first polynomial of t0: -4095 at odd places up to 37 and at 170, 4096 at even places between, and else 2; and its
+/// fields.
+fn large_low_parts() -> ([i32; 256], [u32; 256]) {
     let (mut low, mut fields) = ([2i32; 256], [4094; 256]);
     for place in 0..38usize {
         (low[place], fields[place]) = [(4096, 0), (-4095, 8191)][place % 2];
     }
     (low[170], fields[170]) = (-4095, 8191);
-    assert!(rt; slow_product(&c, &low)[255] == 159724);
+    (low, fields)
+}
+
+/// Coefficient 255 of its product with the challenge; and with it, what refuses to sign, and whether the public key is
+/// derived as over constant streams.
+fn with_large_low_parts() -> Result<(i32, [Option<Fault>; 2], bool), Fault> {
+    let R(c) = sample_in_ball::<Fill<0x55>>(39, &[0x55; 32])?;
+    let (low, fields) = large_low_parts();
     let mut bytes = private_44();
     put_fields(&mut bytes[896..1312], &fields, 13);
     let ((public, _), _) = Constant44::constant()?;
     let keys = (public, PrivateKey::try_from_bytes(bytes)?);
-    let many = Ok([Some(Fault::TooManyAttempts); 2]);
-    assert_eq!(rt; signing_faults::<Constant44>(&keys), many);
-    assert_eq!(rt; Constant44::derives_constant(&keys), Ok(true));
-    Ok(())
+    let faults = signing_faults::<Constant44>(&keys)?;
+    let derived = Constant44::derives_constant(&keys)?;
+    Ok((slow_product(&c, &low)[255], faults, derived))
+}
+
+/// A key of set 44 with another first polynomial of t0. Its product with the challenge is too large, 159724 at index
+/// 255 by double sums: `TooManyAttempts`.
+#[test]
+fn low_parts_that_never_sign(rt: HostRuntime) {
+    let many = [Some(Fault::TooManyAttempts); 2];
+    assert_eq!(rt; with_large_low_parts(), Ok((159724, many, true)));
 }
 
 /// Whether every coefficient of the masks at a counter is this one.
@@ -175,8 +179,12 @@ fn masks_are<const L: usize, H: Xof>(gamma1: i32, counter: u16, coefficient: i32
     requires gamma1 { (gamma1 ≡ pos 131072) ⊎ (gamma1 ≡ pos 524288) }
     requires numbers { counter + L ≤ 65536 }
 {
-    let masks = expand_mask::<L, H>(gamma1, &[0; 64], counter);
-    masks.iter().all(|mask| mask.0 == [coefficient; 256])
+    for R(mask) in expand_mask::<L, H>(gamma1, &[0; 64], counter) {
+        if mask != [coefficient; 256] {
+            return false;
+        }
+    }
+    true
 }
 
 /// The smallest coefficient of z where every one of the mask is `gamma1` and every one of s1 is `eta`.
@@ -195,26 +203,31 @@ fn smallest_response<H: Xof>(gamma1: i64, tau: i32, eta: i32) -> Result<i64, Fau
 /// `H` of bytes 00 over the masks of attempt 0 and else 55, set 44: that attempt is rejected, and attempt 1
 /// signs as over constant streams.
 #[test]
-fn first_attempts_that_are_rejected(rt: HostRuntime) -> Result<(), Fail> {
-    assert!(rt; masks_are::<4, Second>(131072, 0, 131072));
-    assert!(rt; smallest_response::<Second>(131072, 39, 2)? == 131066);
-    assert!(rt; masks_are::<4, Second>(131072, 4, 43691));
-    assert_eq!(rt; Calls([7; 32]).at::<KG<Second, Fill<0>>>(0)?, ALL);
-    Ok(())
+fn first_attempts_that_are_rejected(rt: HostRuntime) {
+    let first = masks_are::<4, Second>(131072, 0, 131072);
+    let smallest = smallest_response::<Second>(131072, 39, 2);
+    let second = masks_are::<4, Second>(131072, 4, 43691);
+    let found = (first, smallest, second, calls::<KG<Second, Fill<0>>>(7));
+    assert_eq!(rt; found, (true, Ok(131066), true, Ok(ALL)));
 }
 
 /// Over bytes 00 every coefficient of the mask is gamma1, and the smallest response is 130998, 524100 and
 /// 524172 at the three sets.
 #[test]
-fn responses_over_zeros(rt: HostRuntime) -> Result<(), Fail> {
-    assert!(rt; masks_are::<4, Fill<0>>(131072, 0, 131072));
-    assert!(rt; masks_are::<4, Fill<0>>(131072, 3252, 131072));
-    assert!(rt; masks_are::<5, Fill<0>>(524288, 0, 524288));
-    assert!(rt; masks_are::<5, Fill<0>>(524288, 4065, 524288));
-    assert!(rt; masks_are::<7, Fill<0>>(524288, 0, 524288));
-    assert!(rt; masks_are::<7, Fill<0>>(524288, 5691, 524288));
-    assert!(rt; smallest_response::<Fill<0>>(131072, 39, 2)? == 130998);
-    assert!(rt; smallest_response::<Fill<0>>(524288, 49, 4)? == 524100);
-    assert!(rt; smallest_response::<Fill<0>>(524288, 60, 2)? == 524172);
-    Ok(())
+fn responses_over_zeros(rt: HostRuntime) {
+    let masks = [
+        masks_are::<4, Fill<0>>(131072, 0, 131072),
+        masks_are::<4, Fill<0>>(131072, 3252, 131072),
+        masks_are::<5, Fill<0>>(524288, 0, 524288),
+        masks_are::<5, Fill<0>>(524288, 4065, 524288),
+        masks_are::<7, Fill<0>>(524288, 0, 524288),
+        masks_are::<7, Fill<0>>(524288, 5691, 524288),
+    ];
+    let responses = [
+        smallest_response::<Fill<0>>(131072, 39, 2),
+        smallest_response::<Fill<0>>(524288, 49, 4),
+        smallest_response::<Fill<0>>(524288, 60, 2),
+    ];
+    let wanted = [Ok(130998), Ok(524100), Ok(524172)];
+    assert_eq!(rt; (masks, responses), ([true; 6], wanted));
 }
