@@ -73,10 +73,6 @@ fn wrong_value<S: TestSet>(
     Ok((comes_back, None))
 }
 
-type Set65 = ml_dsa_65::KG<Fill<0x55>, Fill<0>>;
-
-type Set87 = ml_dsa_87::KG<Fill<0x55>, Fill<0>>;
-
 /// The first field of s1 and the last of s2 at each set, with every value of their bits: the same bytes come
 /// back up to 2 eta, and above it `KeyRange`.
 #[test]
@@ -84,10 +80,10 @@ fn field_ranges_of_each_set(rt: HostRuntime) {
     let found = [
         wrong_value::<Constant44>((128, 1), [7, 0, 4]),
         wrong_value::<Constant44>((895, 32), [7, 0, 4]),
-        wrong_value::<Set65>((128, 1), [15, 5, 8]),
-        wrong_value::<Set65>((1535, 16), [15, 5, 8]),
-        wrong_value::<Set87>((128, 1), [7, 0, 4]),
-        wrong_value::<Set87>((1567, 32), [7, 0, 4]),
+        wrong_value::<ml_dsa_65::KG<Fill<0x55>, Fill<0>>>((128, 1), [15, 5, 8]),
+        wrong_value::<ml_dsa_65::KG<Fill<0x55>, Fill<0>>>((1535, 16), [15, 5, 8]),
+        wrong_value::<ml_dsa_87::KG<Fill<0x55>, Fill<0>>>((128, 1), [7, 0, 4]),
+        wrong_value::<ml_dsa_87::KG<Fill<0x55>, Fill<0>>>((1567, 32), [7, 0, 4]),
     ];
     assert_eq!(rt; found, [Ok((true, None)); 6]);
 }

@@ -204,17 +204,6 @@ pub type Constant44 = ml_dsa_44::KG<Fill<0x55>, Fill<0>>;
 /// Two values, or the refusal of each.
 pub type Both<A, B> = (Result<A, Fault>, Result<B, Fault>);
 
-/// Two values, or the first refusal.
-fn both<A: Drop, B: Drop>(answers: Both<A, B>) -> Result<(A, B), Fault> {
-    Ok((answers.0?, answers.1?))
-}
-
-/// Whether two arrays of bytes have the first two of these texts in hex.
-fn both_have(alloc: Global, bytes: [&[u8]; 2], texts: [&str; 3]) -> Result<[bool; 2], Fail> {
-    let public = has_text(alloc, bytes[0], texts[0])?;
-    Ok([public, has_text(alloc, bytes[1], texts[1])?])
-}
-
 /// A set over two streams.
 pub trait TestSet {
     /// The bytes of a signature.
@@ -298,17 +287,15 @@ where
 
     fn constant() -> Result<(Plain<K, L, H, G>, [u8; SIG_LEN]), Fault> {
         let (public, private, signature) = S::recorded();
-        let public = PublicKey::<K, L, H, G>::try_from_bytes(public);
-        let private = PrivateKey::<K, L, H, G>::try_from_bytes(private);
-        Ok((both((public, private))?, signature))
+        let public = PublicKey::<K, L, H, G>::try_from_bytes(public)?;
+        let private = PrivateKey::<K, L, H, G>::try_from_bytes(private)?;
+        Ok(((public, private), signature))
     }
 
     fn is_constant(keys: Result<Plain<K, L, H, G>, Fault>) -> Result<bool, Fault> {
-        let (public, private, _) = S::recorded();
-        match keys {
-            Ok(keys) => Ok((keys.0.into_bytes() == public) & (keys.1.into_bytes() == private)),
-            Err(fault) => Err(fault),
-        }
+        let (public, private) = keys?;
+        let recorded = S::recorded();
+        Ok(public.into_bytes() == recorded.0 && private.into_bytes() == recorded.1)
     }
 
     fn derives_constant(keys: &Plain<K, L, H, G>) -> Result<bool, Fault> {
@@ -320,10 +307,8 @@ where
         let mut bytes = keys.1.into_bytes();
         change(&mut bytes, at, bits);
         let key = PrivateKey::<K, L, H, G>::try_from_bytes(bytes)?;
-        match key.is_whole() {
-            Ok(is_whole) => Ok([key.into_bytes() == bytes, is_whole]),
-            Err(fault) => Err(fault),
-        }
+        let is_whole = key.is_whole()?;
+        Ok([key.into_bytes() == bytes, is_whole])
     }
 
     fn pair(seed: &[u8; 32]) -> Result<Plain<K, L, H, G>, Fault> {
@@ -339,7 +324,7 @@ where
     }
 
     fn prepared(keys: &Plain<K, L, H, G>) -> Result<Prepared<K, L, H>, Fault> {
-        both(Self::prepared_parts(keys))
+        Ok((keys.0.prepare()?, keys.1.prepare()?))
     }
 
     fn prepared_parts(keys: &Self::Plain) -> Both<Self::PreparedPublic, Self::PreparedPrivate> {
@@ -361,7 +346,9 @@ where
     }
 
     fn have_texts(alloc: Global, keys: Self::Plain, texts: [&str; 3]) -> Result<[bool; 2], Fail> {
-        both_have(alloc, [&keys.0.into_bytes(), &keys.1.into_bytes()], texts)
+        let public = has_text(alloc, &keys.0.into_bytes(), texts[0])?;
+        let private = has_text(alloc, &keys.1.into_bytes(), texts[1])?;
+        Ok([public, private])
     }
 
     fn bytes(signature: &mut [u8; SIG_LEN]) -> &mut [u8] {

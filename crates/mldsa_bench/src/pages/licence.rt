@@ -17,7 +17,7 @@ use fips204::xof::Xof;
 pub const CONTEXT: &[u8] = b"licence";
 
 /// What a customer receives, together with its signature.
-#[derive(Clone, Copy, PartialEq, Eq)]
+#[derive(Debug, Clone, Copy, PartialEq, Eq)]
 pub struct Token {
     /// The product's number.
     pub product: u32,

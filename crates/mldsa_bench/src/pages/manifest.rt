@@ -21,7 +21,7 @@ use sha2::{Digest, Sha256};
 pub const CONTEXT: &[u8] = b"manifest";
 
 /// What a manifest says of a file.
-#[derive(Clone, Copy, PartialEq, Eq)]
+#[derive(Debug, Clone, Copy, PartialEq, Eq)]
 pub struct Entry {
     /// The file's name, ended by zeros.
     pub name: [u8; 32],

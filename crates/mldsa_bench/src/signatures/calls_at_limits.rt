@@ -49,18 +49,15 @@ fn signed_prepared<S: TestSet>(keys: &S::Plain, wanted: &S::Signature) -> [Resul
     }
 }
 
-fn refusals<S: TestSet>(keys: &S::Plain) -> [Option<Fault>; 2] {
-    let (public, private) = S::prepared_parts(keys);
-    [public.err(), private.err()]
-}
-
 /// What the calls of a set return; the pair is of a seed of bytes of this value.
 fn calls<S: TestSet>(seed: u8) -> Result<Answers, Fault> {
     let (keys, signature) = S::constant()?;
     let plain = signed(&keys, &signature);
     let prepared = signed_prepared::<S>(&keys, &signature);
     let pair = S::is_constant(S::pair(&[seed; 32]));
-    let (derived, refused) = (S::derives_constant(&keys), refusals::<S>(&keys));
+    let (public, private) = S::prepared_parts(&keys);
+    let refused = [public.err(), private.err()];
+    let derived = S::derives_constant(&keys);
     let read = is_same(S::read_again(keys, 0, 0), &[true; 2]);
     Ok(([pair, derived, read], refused, [plain, prepared]))
 }
@@ -141,22 +138,15 @@ fn keys_that_never_sign(rt: HostRuntime) {
     assert_eq!(rt; found, [Ok([Some(Fault::TooManyAttempts); 2]); 3]);
 }
 
-/// A first polynomial of t0: -4095 at odd places up to 37 and at 170, 4096 at even places between, and else 2; and its
-/// fields.
-fn large_low_parts() -> ([i32; 256], [u32; 256]) {
+/// Coefficient 255 of the product of the challenge with another first polynomial of t0; and with it, what refuses to
+/// sign, and whether the public key is derived as over constant streams.
+fn with_large_low_parts() -> Result<(i32, [Option<Fault>; 2], bool), Fault> {
+    let R(c) = sample_in_ball::<Fill<0x55>>(39, &[0x55; 32])?;
     let (mut low, mut fields) = ([2i32; 256], [4094; 256]);
     for place in 0..38usize {
         (low[place], fields[place]) = [(4096, 0), (-4095, 8191)][place % 2];
     }
     (low[170], fields[170]) = (-4095, 8191);
-    (low, fields)
-}
-
-/// Coefficient 255 of its product with the challenge; and with it, what refuses to sign, and whether the public key is
-/// derived as over constant streams.
-fn with_large_low_parts() -> Result<(i32, [Option<Fault>; 2], bool), Fault> {
-    let R(c) = sample_in_ball::<Fill<0x55>>(39, &[0x55; 32])?;
-    let (low, fields) = large_low_parts();
     let mut bytes = private_44();
     put_fields(&mut bytes[896..1312], &fields, 13);
     let ((public, _), _) = Constant44::constant()?;
@@ -166,8 +156,8 @@ fn with_large_low_parts() -> Result<(i32, [Option<Fault>; 2], bool), Fault> {
     Ok((slow_product(&c, &low)[255], faults, derived))
 }
 
-/// A key of set 44 with another first polynomial of t0. Its product with the challenge is too large, 159724 at index
-/// 255 by double sums: `TooManyAttempts`.
+/// A key of set 44 with another first polynomial of t0: -4095 at odd places up to 37 and at 170, 4096 at even places
+/// between. Its product with the challenge is too large, 159724 at index 255 by double sums: `TooManyAttempts`.
 #[test]
 fn low_parts_that_never_sign(rt: HostRuntime) {
     let many = [Some(Fault::TooManyAttempts); 2];
@@ -179,12 +169,8 @@ fn masks_are<const L: usize, H: Xof>(gamma1: i32, counter: u16, coefficient: i32
     requires gamma1 { (gamma1 ≡ pos 131072) ⊎ (gamma1 ≡ pos 524288) }
     requires numbers { counter + L ≤ 65536 }
 {
-    for R(mask) in expand_mask::<L, H>(gamma1, &[0; 64], counter) {
-        if mask != [coefficient; 256] {
-            return false;
-        }
-    }
-    true
+    let masks = expand_mask::<L, H>(gamma1, &[0; 64], counter);
+    masks.iter().all(|mask| mask.0 == [coefficient; 256])
 }
 
 /// The smallest coefficient of z where every one of the mask is `gamma1` and every one of s1 is `eta`.

@@ -67,12 +67,9 @@ pub fn private_87() -> [u8; 4896] {
 /// The fields of a polynomial of z: one at places 0 to 84, another from 85 on, and a third at every second from `turn`.
 fn fields(turn: usize, first: u32, second: u32, third: u32) -> [u32; 256] {
     let mut out = [second; 256];
-    for (place, field) in out.iter_mut().enumerate() {
-        if place >= turn && place % 2 == turn % 2 {
-            *field = third;
-        } else if place < 85 {
-            *field = first;
-        }
+    out[..85].fill(first);
+    for field in out.iter_mut().skip(turn).step_by(2) {
+        *field = third;
     }
     out
 }

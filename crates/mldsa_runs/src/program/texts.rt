@@ -29,37 +29,31 @@ fn counted<'a>(set: &str, word: &'a str) -> &'a str {
 
 /// What a word names at a set over constant streams, in hex or as an answer. Any other word is itself.
 fn constant(alloc: Global, set: &str, word: &str) -> Result<String, AllocError> {
-    match word {
-        "public" => match set {
-            "44" => hex::encode(alloc, &public_44()),
-            "65" => hex::encode(alloc, &public_65()),
-            _ => hex::encode(alloc, &public_87()),
-        },
-        "private" => match set {
-            "44" => hex::encode(alloc, &private_44()),
-            "65" => hex::encode(alloc, &private_65()),
-            _ => hex::encode(alloc, &private_87()),
-        },
-        "good" => match set {
-            "44" => hex::encode(alloc, &signature_44()),
-            "65" => hex::encode(alloc, &signature_65()),
-            _ => hex::encode(alloc, &signature_87()),
-        },
-        "good4" => hex::encode(alloc, &signature_44_of_least_coefficient()),
-        "private4" | "private5" => {
+    match (word, set) {
+        ("public", "44") => hex::encode(alloc, &public_44()),
+        ("public", "65") => hex::encode(alloc, &public_65()),
+        ("public", _) => hex::encode(alloc, &public_87()),
+        ("private", "44") => hex::encode(alloc, &private_44()),
+        ("private", "65") => hex::encode(alloc, &private_65()),
+        ("private", _) => hex::encode(alloc, &private_87()),
+        ("good", "44") => hex::encode(alloc, &signature_44()),
+        ("good", "65") => hex::encode(alloc, &signature_65()),
+        ("good", _) => hex::encode(alloc, &signature_87()),
+        ("good4", _) => hex::encode(alloc, &signature_44_of_least_coefficient()),
+        ("private4" | "private5", _) => {
             // The first field of s1, of which 4 is the last in range.
             let mut key = private_44();
             key[128] = if word == "private4" { 4 } else { 5 };
             hex::encode(alloc, &key)
         }
-        "bad" => {
+        ("bad", _) => {
             // The first coefficient of z is out of range.
             let mut signature = signature_44();
             signature[32..35].copy_from_slice(&[0x4e, 0x00, 0x4c]);
             hex::encode(alloc, &signature)
         }
-        "hash" => "5".repeat(alloc, 128),
-        "other" => String::from_str(alloc, "yes"),
+        ("hash", _) => "5".repeat(alloc, 128),
+        ("other", _) => String::from_str(alloc, "yes"),
         _ => String::from_str(alloc, word),
     }
 }

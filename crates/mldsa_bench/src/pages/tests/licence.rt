@@ -54,5 +54,5 @@ fn signed_under(context: &[u8]) -> Result<[bool; 9], Fault> {
 fn a_licence(rt: HostRuntime) {
     let right = [true, true, false, false, false, false, false, false, true];
     let answers = [signed_under(CONTEXT), signed_under(b"manifest")];
-    assert!(rt; answers == [Ok(right), Ok([false; 9])]);
+    assert_eq!(rt; answers, [Ok(right), Ok([false; 9])]);
 }

@@ -79,5 +79,5 @@ fn is_judged() -> Result<bool, Fault> {
 /// a manifest with an entry less, an entry changed or another signature are not.
 #[test]
 fn a_manifest(rt: HostRuntime) {
-    assert!(rt; is_judged() == Ok(true));
+    assert_eq!(rt; is_judged(), Ok(true));
 }

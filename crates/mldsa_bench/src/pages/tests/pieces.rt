@@ -38,7 +38,7 @@ fn answers() -> Result<([Result<bool, Fault>; 2], [bool; 4]), Fault> {
 #[test]
 fn a_message_in_pieces(rt: HostRuntime) {
     let verdicts = [true, true, false, false];
-    assert!(rt; answers() == Ok(([Ok(true), Ok(false)], verdicts)));
+    assert_eq!(rt; answers(), Ok(([Ok(true), Ok(false)], verdicts)));
 }
 
 /// The bytes of a file are a signature if they are as many as one has.
