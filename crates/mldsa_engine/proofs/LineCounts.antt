@@ -1,10 +1,10 @@
 -- Lines that are as many as a command wants, and what it then writes for them.
 use Rattle.std.proofs.Common.{◌≡◌, ℕ, Bool, List, [], ◌∷◌, ◌*◌, map, get_or, Option, Result, Ok, Err, IfOk, IfErr, Some, None, refl, ap}
-use Rattle.std.proofs.Common.{◌∙◌, subst}
+use Rattle.std.proofs.Common.{◌∙◌}
 use Rattle.fips204.specs.ParameterSets.{ParameterSet, public_key_length, signature_length}
 use Rattle.mldsa_engine.specs.declared.fault.RunFault.{RunFault}
 use Rattle.mldsa_engine.specs.declared.call.Task.{Task}
-use Rattle.mldsa_engine.specs.declared.call.Task.TheVariants.{Id, Keygen, Sign, Verify, Check, Batch}
+use Rattle.mldsa_engine.specs.declared.call.Task.TheVariants.{Batch}
 use Rattle.mldsa_engine.specs.Lines.{TakesLines, Stops}
 use Rattle.mldsa_engine.proofs.Entries.{two_each, batch_taken, stops_batch}
 use Rattle.mldsa_engine.proofs.LinesInSequence.{AllFit-length}
