@@ -15,7 +15,7 @@ ghost use Rattle.fips204_base.specs.Encodings.{public_key_bytes, private_key_byt
 mod prepared;
 
 use crate::ml_dsa;
-use crate::sets::{HasSet, KeySizes, Matrix, Set, SignatureSizes};
+use crate::sets::{HasSet, KeySizes, Matrix, Set, SignatureSizes, sized_params};
 use crate::traits::{CryptoRngCore, KeyGen, Scheme, SerDes, Signer, Verifier, draw, draw_if};
 use crate::types::{KG, PreparedPrivateKey, PreparedPublicKey, PrivateKey, PublicKey, T0};
 use fips204_base::Fault;
@@ -215,7 +215,8 @@ where
         ensures answer { result ≡ sign S.set H.front G.front self.now mu.now rnd.now }
         ensures accepted { HashComplete S.set H.front G.front self.now mu.now result }
     {
-        ml_dsa::sign_internal::<K, L, N, SIG_LEN, H, G>(&S::params(), self, mu, rnd)
+        let p = sized_params::<S, K, L, N, SIG_LEN>();
+        ml_dsa::sign_internal::<K, L, N, SIG_LEN, H, G>(&p, self, mu, rnd)
     }
 
     /// Signs a framed message `m` (Algorithm 7). The 32 random bytes are zeros without `hedged`; with it they
@@ -311,7 +312,8 @@ where
     pub fn verify_mu(&self, mu: &[u8; 64], sig: &[u8; SIG_LEN]) -> bool
         ensures { IsTrue result ↔ Verifies S.set H.front G.front self.now mu.now sig.now }
     {
-        ml_dsa::verify_internal::<K, L, N, SIG_LEN, H, G>(&S::params(), self, mu, sig)
+        let p = sized_params::<S, K, L, N, SIG_LEN>();
+        ml_dsa::verify_internal::<K, L, N, SIG_LEN, H, G>(&p, self, mu, sig)
     }
 
     /// Samples the matrix once, for many verifications.

@@ -51,6 +51,20 @@ pub trait KeySizes<const K: usize, const L: usize, const PK_LEN: usize, const SK
     ghost key_sizes: { HasKeySizes Self.set K L PK_LEN SK_LEN };
 }
 
+/// The numbers of a set with these sizes.
+pub(crate) fn sized_params<
+    S: SignatureSizes<K, L, N, SIG_LEN>,
+    const K: usize,
+    const L: usize,
+    const N: usize,
+    const SIG_LEN: usize,
+>() -> Params
+    ensures row { set_of result ≡ S.set }
+    ensures sizes { HasSizes (set_of result) K L N SIG_LEN }
+{
+    S::params()
+}
+
 /// A matrix of `K` rows and `L` columns, which determines the set of a key type.
 pub struct Matrix<const K: usize, const L: usize>;
 

@@ -9,7 +9,7 @@ ghost use Rattle.fips204.specs.Prepared.{VerifiesPrepared, VerifiesMessagePrepar
 ghost use Rattle.fips204.specs.Refusals.{message_fault, digest_fault, DrawsIf, DrawsUnless};
 
 use crate::ml_dsa;
-use crate::sets::{HasSet, Matrix, Set, SignatureSizes};
+use crate::sets::{HasSet, Matrix, Set, SignatureSizes, sized_params};
 use crate::traits::{CryptoRngCore, draw, draw_if};
 use crate::types::{PreparedPrivateKey, PreparedPublicKey};
 use fips204_base::Fault;
@@ -32,8 +32,9 @@ where
         ensures answer { result ≡ sign_prepared S.set H.front self.now mu.now rnd.now }
         ensures accepted { AcceptedIfWholePrepared S.set self.now (λ pk signature. VerifiesPrepared S.set H.front pk mu.now signature) result }
     {
+        let p = sized_params::<S, K, L, N, SIG_LEN>();
         self.key
-            .sign_with::<N, SIG_LEN>(&S::params(), &self.a_hat, &self.transforms, mu, rnd)
+            .sign_with::<N, SIG_LEN>(&p, &self.a_hat, &self.transforms, mu, rnd)
     }
 
     /// Signs (Algorithm 2), as `Signer::try_sign_with_rng`.
@@ -198,7 +199,8 @@ where
     pub fn verify_mu(&self, mu: &[u8; 64], sig: &[u8; SIG_LEN]) -> bool
         ensures { IsTrue result ↔ VerifiesPrepared S.set H.front self.now mu.now sig.now }
     {
-        ml_dsa::verify_prepared::<K, L, N, SIG_LEN, H>(&S::params(), self, mu, sig)
+        let p = sized_params::<S, K, L, N, SIG_LEN>();
+        ml_dsa::verify_prepared::<K, L, N, SIG_LEN, H>(&p, self, mu, sig)
     }
 
     /// Verifies each signature with its message, under one context: `out[i]` becomes the result of `verify`

@@ -1,14 +1,8 @@
 use Rattle.std.proofs.Common.{rules, arith, ap, subst}
 use Rattle.fips204.specs.Keys.{PrivateParts, ArePrivateParts}
 use Rattle.fips204.specs.Prepared.{PreparedPrivate}
-use Rattle.fips204.specs.Sets.{HasSizes, set_of}
 use Rattle.fips204.proofs.Prepared.{hash_accepted}
 use Rattle.fips204.proofs.types.prepared.PreparedPrivateKey.sign_hash.Goals as goal
-
-pub sign_with-requires : goal.sign_with-requires
-sign_with-requires g c =
-    let sizes : HasSizes (set_of c.params.result) g.row.K g.row.L g.row.N g.row.SIG_LEN = rw c.params.ensures g.met.S.SignatureSizes.sizes in
-    search rules
 
 pub returns-clause-accepted : goal.returns-clause-accepted
 returns-clause-accepted g c =
