@@ -45,8 +45,8 @@ whole_vector k f v rows typed at = vector_of-same k f v rows (λ r h. whole_rows
 
 -- ---- the matrix
 
-pub matrix-within : (G : List ℕ → List ℕ) (rho : List ℕ) (k l : ℕ) (a : List (List T)) → sampled_matrix G rho k l ≡ Some a → MatrixWithin 8380416 a
-matrix-within G rho k l a e r d h s f m =
+pub matrix_within : (G : List ℕ → List ℕ) (rho : List ℕ) (k l : ℕ) (a : List (List T)) → sampled_matrix G rho k l ≡ Some a → MatrixWithin 8380416 a
+matrix_within G rho k l a e r d h s f m =
     let entries = sampled_matrix-entries G rho k l a e in
     let row : r < k = omega (arith, h, entries.0) in
     let size : length (get_or a r d) ≡ l = entries.1 r d row in

@@ -23,6 +23,7 @@ pub const MAX_SIGN_ATTEMPTS: u16 = 814;
 /// reaches its limit; `Fault::TooManyAttempts` if all attempts are rejected.
 ///
 /// `K` and `L` are those of the set, and `LAMBDA_DIV4` and `SIG_LEN` its lengths.
+#[tactic(auto, using(crate::proofs::Ranges::matrix_within, crate::proofs::ParameterSets::matrix_room))]
 pub fn sign_internal<
     const K: usize,
     const L: usize,
@@ -40,6 +41,7 @@ pub fn sign_internal<
     ensures answer { result ≡ sign (set_of p.now) H.front G.front sk.now mu.now rnd.now }
     ensures accepted { HashComplete (set_of p.now) H.front G.front sk.now mu.now result }
 {
+    prove!(K <= 8 && L <= 7);
     // A = ExpandA(rho)
     let mut a_hat = [[T0; L]; K];
     write_expanded_a::<K, L, G>(&sk.rho, &mut a_hat)?;

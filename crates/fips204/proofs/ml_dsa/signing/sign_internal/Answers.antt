@@ -3,16 +3,14 @@ use Rattle.fips204_base.specs.Sampling.{sampled_matrix}
 use Rattle.fips204_base.specs.declared.fault.Fault.TheVariants.{SamplingLimit}
 use Rattle.fips204.specs.Sets.{set_of}
 use Rattle.fips204.proofs.ParameterSets.{limits}
-use Rattle.fips204.proofs.Ranges.{matrix-within}
 use Rattle.fips204.proofs.SeedKeys.{hash_accepted}
 use Rattle.fips204.proofs.Signing.{sign-by_matrix, sign-no_matrix}
 use Rattle.fips204.proofs.ml_dsa.signing.sign_internal.Goals as goal
 
-pub write_expanded_a-requires : goal.write_expanded_a-requires
-write_expanded_a-requires g c =
-    let p = c.args.p.now in
-    let known = limits p (search rules) in
-    (search rules, (search rules, (omega (arith, c.requires.sizes.rows, known.few_rows), omega (arith, c.requires.sizes.columns, known.few_columns))))
+pub prove-unreachable-requires : goal.prove-unreachable-requires
+prove-unreachable-requires g c =
+    let known = limits c.args.p.now (search rules) in
+    omega (arith, c.requires.sizes.rows, c.requires.sizes.columns, known.few_rows, known.few_columns)
 
 pub returns-in_err-write_expanded_a-clause-answer : goal.returns-in_err-write_expanded_a-clause-answer
 returns-in_err-write_expanded_a-clause-answer g c =
@@ -21,14 +19,6 @@ returns-in_err-write_expanded_a-clause-answer g c =
     let same : c.sk.inside.rho ≡ c.args.sk.now.rho = search rules in
     let there : sampled_matrix g.G.Xof.front c.args.sk.now.rho p.k p.l ≡ None = rw (same, c.requires.sizes.rows, c.requires.sizes.columns) at c.in_err-write_expanded_a.ensures.refused.0 in
     refused ∙ sym (sign-no_matrix p g.H.Xof.front g.G.Xof.front c.args.sk.now c.args.mu.now c.args.rnd.now there)
-
-pub sign_with-requires : goal.sign_with-requires
-sign_with-requires g c =
-    let p = c.args.p.now in
-    let known = limits p (search rules) in
-    let a = c.write_expanded_a.new.matrix in
-    let some = c.in_ok-write_expanded_a.ensures.values in
-    (search rules, (search rules, (search rules, (search rules, (search rules, record { sizes = c.requires.sizes; matrix = matrix-within g.G.Xof.front c.sk.inside.rho g.row.K g.row.L a some; transforms = c.transforms.ensures })))))
 
 pub returns-clause-answer : goal.returns-clause-answer
 returns-clause-answer g c =
