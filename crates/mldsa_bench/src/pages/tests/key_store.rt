@@ -113,22 +113,25 @@ fn checks_of_another_hash(
     Ok([check(&owner, file), check(&owner, &file[1..])])
 }
 
-/// Whether the check answers as it must beside a key with no matrix, and beside a key of another `tr`.
-fn owners_are_judged() -> Result<bool, Fault> {
+/// What the check answers beside a key with no matrix, and beside a key of another `tr`.
+fn checks_of_owners() -> Result<([Option<LoadFault>; 3], [Option<LoadFault>; 2]), Fault> {
     let (key, owner) = pair(7)?;
     let file = stored_public(key);
     let bytes = owner.into_bytes();
-    let without = checks_without_a_matrix(bytes, &file);
-    let other = checks_of_another_hash(bytes, &file);
-    Ok(
-        without == Ok([Some(NoMatrix), Some(WrongSet), Some(WrongHeader)])
-            && other == Ok([Some(OtherKey), Some(WrongLength)]),
-    )
+    Ok((
+        checks_without_a_matrix(bytes, &file)?,
+        checks_of_another_hash(bytes, &file)?,
+    ))
 }
 
 /// A public key's file belongs to its private key; each error of such a file by itself and in its order.
 #[test]
 fn a_stored_public_key(rt: HostRuntime) {
-    let of_files = checks_of_files() == Ok([None, Some(OtherKey), Some(OtherKey)]);
-    assert!(rt; of_files && owners_are_judged() == Ok(true));
+    assert_eq!(rt;
+        checks_of_files(),
+        Ok([None, Some(OtherKey), Some(OtherKey)])
+    );
+    let without = [Some(NoMatrix), Some(WrongSet), Some(WrongHeader)];
+    let other = [Some(OtherKey), Some(WrongLength)];
+    assert_eq!(rt; checks_of_owners(), Ok((without, other)));
 }
