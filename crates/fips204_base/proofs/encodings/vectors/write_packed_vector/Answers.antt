@@ -1,4 +1,5 @@
 use Rattle.std.proofs.Common.{◌≡◌, ◌+◌, ◌*◌, ◌-◌, ◌≤◌, ◌++◌, ◌∙◌, [], ap, sym, arith, length, length-take, length-drop, take, w32, to_z, of_z, rules}
+use Rattle.std.proofs.lemmas.Grind.{common_steps}
 use Rattle.std.specs.List.{flat_map}
 use Rattle.std.proofs.lemmas.Int.{to_z-of_z}
 use Rattle.std.proofs.lemmas.List.{take_all}
@@ -52,3 +53,9 @@ returns g c =
     ∙ ap (λ a. flat_map (λ (w : R). polynomial_bytes a (to_z w32 (of_z w32 c.args.b)) w.0) c.args.v.now) A
     ∙ ap (λ b. flat_map (λ (w : R). polynomial_bytes c.args.a b w.0) c.args.v.now) B
     ∙ sym (bytes_at_integers c.args.a c.args.b c.args.v.now c.requires.bounds)
+
+pub overflow_mul-at : goal.overflow_mul-at
+overflow_mul-at g c = grind arith
+
+pub write_packed_by_range-requires-clause-range : goal.write_packed_by_range-requires-clause-range
+write_packed_by_range-requires-clause-range g c = grind (arith, common_steps)
