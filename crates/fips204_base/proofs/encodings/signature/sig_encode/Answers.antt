@@ -1,5 +1,4 @@
 use Rattle.std.proofs.Common.{◌≡◌, ◌+◌, ◌*◌, ◌-◌, ◌∙◌, ◌-ℤ◌, pos, ap, arith, refl, rules, nat_abs, length, w32, to_z, of_z, replicate}
-use Rattle.std.proofs.lemmas.Grind.{common_steps}
 use Rattle.std.proofs.lemmas.Int.{ints, to_z-of_z}
 use Rattle.std.proofs.lemmas.List.{length-replicate}
 use Rattle.fips204_base.specs.Encodings.{vector_bytes}
@@ -69,8 +68,5 @@ overflow_mul-hint g c = grind arith
 pub overflow_add-hint : goal.overflow_add-hint
 overflow_add-hint g c = grind arith
 
-pub slice_bounds-write_packed_vector-end : goal.slice_bounds-write_packed_vector-end
-slice_bounds-write_packed_vector-end g c = grind (arith, common_steps)
-
 pub slice_bounds-hint_bit_pack-count : goal.slice_bounds-hint_bit_pack-count
-slice_bounds-hint_bit_pack-count g c = grind (arith, common_steps)
+slice_bounds-hint_bit_pack-count g c = grind arith

@@ -68,9 +68,3 @@ returns g c =
           ∙ ap (λ a. flat_map (λ (w : R). polynomial_bytes a a w.0) c.loop-i.v) (sym E)
           ∙ ap (flat_map (λ (w : R). polynomial_bytes (to_z w32 (of_z w32 c.args.eta)) (to_z w32 (of_z w32 c.args.eta)) w.0)) (sym all) ∙ c.loop-i.invariant.read ∙ whole,
     )
-
-pub overflow_mul-at : goal.overflow_mul-at
-overflow_mul-at g c = grind arith
-
-pub overflow_add-at : goal.overflow_add-at
-overflow_add-at g c = search rules

@@ -1,5 +1,4 @@
 use Rattle.std.proofs.Common.{◌≡◌, ◌+◌, ◌*◌, ◌-◌, ◌≤◌, ◌++◌, ◌∙◌, [], ap, sym, arith, length, length-take, length-drop, take, w32, to_z, of_z, rules}
-use Rattle.std.proofs.lemmas.Grind.{common_steps}
 use Rattle.std.specs.List.{flat_map}
 use Rattle.std.proofs.lemmas.Int.{to_z-of_z}
 use Rattle.std.proofs.lemmas.List.{take_all}
@@ -58,4 +57,4 @@ pub overflow_mul-at : goal.overflow_mul-at
 overflow_mul-at g c = grind arith
 
 pub write_packed_by_range-requires-clause-range : goal.write_packed_by_range-requires-clause-range
-write_packed_by_range-requires-clause-range g c = grind (arith, common_steps)
+write_packed_by_range-requires-clause-range g c = grind arith
