@@ -54,3 +54,9 @@ returns g c =
     c.unpack_vector.ensures.vector c.unpack_vector.ensures.same_bytes in
     signature-of_parts (nat_abs c.args.gamma1) (nat_abs c.args.omega) g.row.K g.row.L n sigma c.unwrap-c_tilde.result.now response hint c.unpack_vector.result c.in_ok-h.h cut
     (ap length first ∙ length-take-le n sigma inside) vector.0 vector.1 (subst (λ o. Spells (nat_abs o) g.row.K c.in_ok-h.h hint) O c.in_ok-h.ensures)
+
+pub overflow_mul-polynomial_size : goal.overflow_mul-polynomial_size
+overflow_mul-polynomial_size g c = grind arith
+
+pub split_at-requires : goal.split_at-requires
+split_at-requires g c = grind arith

@@ -61,3 +61,12 @@ returns g c =
     ∙ ap (λ b. vector_bytes (nat_abs c.args.gamma1 - 1) (nat_abs b) c.args.z.now) G in
     let spelled = c.hint_bit_pack.ensures ∙ ap (λ o. hint_bytes (nat_abs o) c.args.h.now) O in
     written_last (n + k) g.row.SIG_LEN _ _ c.hint_bit_pack.new.y two c.hint_bit_pack.auto.y ∙ rw (c.copy_from_slice.ensures.after, packed, spelled) refl
+
+pub overflow_mul-hint : goal.overflow_mul-hint
+overflow_mul-hint g c = grind arith
+
+pub overflow_add-hint : goal.overflow_add-hint
+overflow_add-hint g c = grind arith
+
+pub slice_bounds-hint_bit_pack-count : goal.slice_bounds-hint_bit_pack-count
+slice_bounds-hint_bit_pack-count g c = grind arith

@@ -1,4 +1,5 @@
 use Rattle.std.proofs.Common.{◌≡◌, ◌+◌, ◌*◌, ◌-◌, ◌<◌, ◌++◌, ◌∙◌, ◌-ℤ◌, pos, ap, sym, subst, arith, length, length-set, take, w32, to_z, of_z, rules}
+use Rattle.std.proofs.lemmas.Grind.{common_steps}
 use Rattle.std.specs.List.{All, flat_map}
 use Rattle.std.proofs.lemmas.Int.{to_z-of_z}
 use Rattle.std.proofs.lemmas.List.{take_all, take_more_set}
@@ -65,3 +66,9 @@ returns-clause-same_bytes g c =
     ∙ ap (λ b. flat_map (λ (w : R). polynomial_bytes c.args.a b w.0) c.loop-i.v) (sym B)
     ∙ ap (λ a. flat_map (λ (w : R). polynomial_bytes a (to_z w32 (of_z w32 c.args.b)) w.0) c.loop-i.v) (sym A)
     ∙ ap (flat_map f) (sym all) ∙ c.loop-i.invariant.read ∙ whole
+
+pub overflow_mul-at : goal.overflow_mul-at
+overflow_mul-at g c = grind arith
+
+pub loop-i-init : goal.loop-i-init
+loop-i-init g c = grind (arith, common_steps)

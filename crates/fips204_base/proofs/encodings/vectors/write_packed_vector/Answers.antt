@@ -52,3 +52,9 @@ returns g c =
     ∙ ap (λ a. flat_map (λ (w : R). polynomial_bytes a (to_z w32 (of_z w32 c.args.b)) w.0) c.args.v.now) A
     ∙ ap (λ b. flat_map (λ (w : R). polynomial_bytes c.args.a b w.0) c.args.v.now) B
     ∙ sym (bytes_at_integers c.args.a c.args.b c.args.v.now c.requires.bounds)
+
+pub overflow_mul-at : goal.overflow_mul-at
+overflow_mul-at g c = grind arith
+
+pub write_packed_by_range-requires-clause-range : goal.write_packed_by_range-requires-clause-range
+write_packed_by_range-requires-clause-range g c = grind arith
