@@ -1,6 +1,6 @@
 -- Lines that were read piece by piece.
 use Rattle.std.proofs.Common.{◌≡◌, ℕ, ◌+◌, ◌-◌, ◌<◌, ◌≤◌, not, List, [], ◌∷◌, ◌++◌, length, take, drop, get_or, Option, Some, None, Ok, Err}
-use Rattle.std.proofs.Common.{MatchResult, refl, sym, ap, ◌∙◌, arith, append_assoc, append-nil, length-append, length-take-le, length-drop}
+use Rattle.std.proofs.Common.{MatchResult, sym, ap, ◌∙◌, arith, append_assoc, append-nil, length-append, length-take-le, length-drop}
 use Rattle.std.proofs.Common.{take-append-drop, subst}
 use Rattle.std.specs.List.{position, position_or_len}
 use Rattle.std.proofs.lemmas.Bool.Decides.{nat_tests}
@@ -13,7 +13,7 @@ use Rattle.std.proofs.KnownBytes.{Consumes-trans}
 use Rattle.std.specs.Io.KnownBytes.{Consumes, IsAtEnd}
 use Rattle.mldsa_engine.specs.declared.lines.Ending.{Ending}
 use Rattle.mldsa_engine.specs.declared.lines.Ending.TheVariants.{Open, Line, Input}
-use Rattle.mldsa_engine.specs.declared.fault.RunFault.TheVariants.{Missing, TooLong}
+use Rattle.mldsa_engine.specs.declared.fault.RunFault.TheVariants.{TooLong}
 use Rattle.mldsa_engine.specs.Lines.{ends_line, first_line, longest_line, line_digits, line_reach, before_lines, line_bytes}
 use Rattle.mldsa_engine.specs.Lines.{Stops, LeavesAllBut}
 use Rattle.mldsa_engine.specs.InnerSteps.{HasNoEnd, TakesPiece, TakesLine}
@@ -126,16 +126,6 @@ long_line (Some (byte ∷ later)) (Some left) line h taken long number wanted = 
           (length line, omega (arith, size, place, long), sym (ap (drop (length line)) taken ∙ drop-append_seam line left)),
     )
 
--- an input without a byte has no line
-pub no_line : (old new : Option (List ℕ)) (line : List ℕ) → Consumes old new line → length line ≡ 0 → IsAtEnd new
-    → (number : ℕ) (wanted : Option ℕ) → Stops number (wanted ∷ []) old new (Missing number)
-no_line None new line all none end number wanted = λ _. (tt, tt)
-no_line (Some input) None line all none end number wanted = absurd all
-no_line (Some input) (Some left) [] all none end number wanted =
-    let empty : input ≡ [] = all ∙ end in
-    λ _. rw empty (refl, (0, omega arith, end))
-no_line (Some input) (Some left) (byte ∷ line) all none end number wanted = absurd (omega (arith, none))
-
 -- LF stands in a piece that one call gave
 pub ended_at_once : (old new : Option (List ℕ)) (asked count : ℕ) (room : List ℕ) (end : ℕ) → count ≤ length room → count ≤ asked
     → Consumes old new (take count room) → position ends_line (take count room) ≡ Some end
@@ -153,10 +143,3 @@ ended_at_once old new asked count room end within size given some =
       rw same at first.1,
       omega (arith, few, long, size, short, within),
     )
-
--- what is read singly stands for what is read in pieces of any size
-pub at_any_size : (asked : ℕ) (old new : Option (List ℕ)) (piece : List ℕ) (ending : Ending)
-    → TakesPiece 0 old new piece ending → TakesPiece asked old new piece ending
-at_any_size asked old new piece Open taken = taken
-at_any_size asked old new piece Line (more, all, h, few) = (more, all, h, omega (arith, few))
-at_any_size asked old new piece Input taken = taken

@@ -34,9 +34,6 @@ pub sized_other : (number wants : ℕ) (bytes : List ℕ) → ¬ (length bytes �
     → sized number (Some wants) bytes ≡ Err (Length number wants (length bytes))
 sized_other number wants bytes other = grind (arith, nat_tests)
 
-pub sized_same : (number wants : ℕ) (bytes : List ℕ) → length bytes ≡ wants → sized number (Some wants) bytes ≡ Ok bytes
-sized_same number wants bytes same = grind (arith, nat_tests)
-
 -- the fault of a line that could not be decoded is what it is judged to be
 refused_line : (number : ℕ) (wanted : Option ℕ) (line : List ℕ) (e : FromHexError) (fault : RunFault) → length line ≤ longest_line
     → (e ≡ OutOfMemory) ⊎ (decode_of line ≡ Err e) → fault ≡ refused number e → IsLineFault fault → judged number wanted line ≡ Err fault

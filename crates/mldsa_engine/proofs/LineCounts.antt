@@ -1,6 +1,6 @@
 -- Lines that are as many as a command wants, and what it then writes for them.
-use Rattle.std.proofs.Common.{◌≡◌, ℕ, Bool, List, [], ◌∷◌, ◌*◌, map, get_or, Option, Result, Ok, Err, IfOk, IfErr, Some, None, refl, ap}
-use Rattle.std.proofs.Common.{◌∙◌}
+use Rattle.std.proofs.Common.{◌≡◌, ℕ, Bool, List, [], ◌∷◌, ◌*◌, map, length, get_or, Option, Result, Ok, Err, IfOk, IfErr, Some, None, refl, ap}
+use Rattle.std.proofs.Common.{zero, suc, ◌∙◌}
 use Rattle.fips204.specs.ParameterSets.{ParameterSet, public_key_length, signature_length}
 use Rattle.mldsa_engine.specs.declared.fault.RunFault.{RunFault}
 use Rattle.mldsa_engine.specs.declared.call.Task.{Task}
@@ -10,6 +10,14 @@ use Rattle.mldsa_engine.proofs.Entries.{two_each, batch_taken, stops_batch}
 use Rattle.mldsa_engine.proofs.LinesInSequence.{AllFit-length}
 use Rattle.mldsa_engine.specs.ProgramText.{wanted_lines, input_lines, entry_lines, two_bytes, Answers, Executes}
 use Rattle.mldsa_engine.specs.InnerSteps.{AllFit, JudgesByKey}
+
+-- a line that fits has the bytes that are wanted of it
+pub fits_at : {V : Type 0} (items : V → List ℕ) (wanted : List (Option ℕ)) (lines : List V) (index : ℕ) {size : ℕ} (other : V)
+    → AllFit wanted (map items lines) → get_or wanted index None ≡ Some size → length (items (get_or lines index other)) ≡ size
+fits_at items [] lines index other fit is = cc is
+fits_at items (want ∷ wanted) [] index other fit is = absurd fit
+fits_at items (want ∷ wanted) (line ∷ lines) zero other fit is = rw is at fit.0
+fits_at items (want ∷ wanted) (line ∷ lines) (suc index) other fit is = fits_at items wanted lines index other fit.1 is
 
 -- one line is wanted, so the first is all of them
 one_counted : {V : Type 0} (items : V → List ℕ) (w : Option ℕ) (lines : List V) (first : V)

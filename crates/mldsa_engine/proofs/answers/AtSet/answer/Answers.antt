@@ -1,8 +1,8 @@
-use Rattle.std.proofs.Common.{◌≡◌, ◌∷◌, [], take, true, Some, None, refl, ◌∙◌}
+use Rattle.std.proofs.Common.{◌≡◌, ◌∷◌, [], take, length, true, Some, None, refl, ap, sym, arith, ◌∙◌}
 use Rattle.fips204.specs.ParameterSets.{public_key_length, private_key_length, signature_length}
 use Rattle.mldsa_engine.specs.declared.call.Task.TheVariants.{Id, Keygen, Sign, Verify, Check}
-use Rattle.mldsa_engine.specs.ProgramText.{hex_text, Generates, Signs, Judges, Checks}
-use Rattle.mldsa_engine.proofs.LineCounts.{answers_one, answers_four}
+use Rattle.mldsa_engine.specs.ProgramText.{wanted_lines, hex_text, Generates, Signs, Judges, Checks}
+use Rattle.mldsa_engine.proofs.LineCounts.{fits_at, answers_one, answers_four}
 use Rattle.mldsa_engine.proofs.Verdicts.{judges_told}
 use Rattle.mldsa_engine.proofs.answers.AtSet.answer.Goals as goal
 
@@ -49,3 +49,35 @@ returns-in-Check-clause-given g c =
     g.G.Xof.front Check p (Some 32) (Some 32) None None (Checks p g.H.Xof.front g.G.Xof.front) _ c.fields-in-Check.result _ _ _ _
     (λ x y z w output answer told. (x, y, z, w, refl, told)) fit c.fields-in-Check.ensures c.array_of-in-Check.ensures
     c.array_of-in-Check-2.ensures c.check.ensures.given)
+
+pub identify-requires-clause-key : goal.identify-requires-clause-key
+identify-requires-clause-key g c =
+    ap length c.as_slice.ensures.value ∙ ap (λ line. length line.items) c.index-lines-0.is ∙ fits_at (λ line. line.items)
+    (wanted_lines Id g.S.Set.set) c.args.lines.now 0 _ (rw c.in-Id.is at c.requires.fit) refl ∙ sym g.met.S.KeySizes.key_sizes.public_key
+
+pub array_of-requires-in-Sign : goal.array_of-requires-in-Sign
+array_of-requires-in-Sign g c =
+    let fit = rw (c.in-Sign.is, ← c.fields.ensures) at c.requires.fit in
+    (omega arith, fits_at (λ field. field.now) (wanted_lines Sign g.S.Set.set) _ 1 _ fit refl)
+
+pub sign-requires-clause-key : goal.sign-requires-clause-key
+sign-requires-clause-key g c = fits_at (λ field. field.now) (wanted_lines Sign g.S.Set.set) _ 0 _
+    (rw (c.in-Sign.is, ← c.fields.ensures) at c.requires.fit) refl ∙ sym g.met.S.KeySizes.key_sizes.private_key
+
+pub accepts-requires-clause-key : goal.accepts-requires-clause-key
+accepts-requires-clause-key g c = fits_at (λ field. field.now) (wanted_lines Verify g.S.Set.set) _ 0 _
+    (rw (c.in-Verify.is, ← c.fields-in-Verify.ensures) at c.requires.fit) refl ∙ sym g.met.S.KeySizes.key_sizes.public_key
+
+pub accepts-requires-clause-signature : goal.accepts-requires-clause-signature
+accepts-requires-clause-signature g c = fits_at (λ field. field.now) (wanted_lines Verify g.S.Set.set) _ 1 _
+    (rw (c.in-Verify.is, ← c.fields-in-Verify.ensures) at c.requires.fit) refl ∙ sym g.met.S.SignatureSizes.sizes.signature
+
+pub array_of-requires-in-Check : goal.array_of-requires-in-Check
+array_of-requires-in-Check g c =
+    let fit = rw (c.in-Check.is, ← c.fields-in-Check.ensures) at c.requires.fit in
+    (omega arith, fits_at (λ field. field.now) (wanted_lines Check g.S.Set.set) _ 0 _ fit refl)
+
+pub array_of-requires-in-Check-2 : goal.array_of-requires-in-Check-2
+array_of-requires-in-Check-2 g c =
+    let fit = rw (c.in-Check.is, ← c.fields-in-Check.ensures) at c.requires.fit in
+    (omega arith, fits_at (λ field. field.now) (wanted_lines Check g.S.Set.set) _ 1 _ fit refl)
