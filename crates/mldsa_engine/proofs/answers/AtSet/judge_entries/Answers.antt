@@ -1,9 +1,8 @@
-use Rattle.std.proofs.Common.{rules, ℕ, List, length, refl, ap, arith, ◌≡◌, ◌∙◌}
+use Rattle.std.proofs.Common.{rules, ℕ, List, ◌∙◌}
 use Rattle.mldsa_engine.specs.Lines.{Stops}
 use Rattle.mldsa_engine.specs.ProgramText.{entry_lines}
 use Rattle.mldsa_engine.specs.InnerSteps.{AcceptsIfPrepared}
 use Rattle.mldsa_engine.proofs.Entries.{stops_entry}
-use Rattle.mldsa_engine.proofs.LineCounts.{fits_at}
 use Rattle.mldsa_engine.proofs.Verdicts.{judges_none, judges_next}
 use Rattle.mldsa_engine.proofs.answers.AtSet.judge_entries.Goals as goal
 
@@ -34,9 +33,3 @@ loop-entry-preserved g c =
           signature c.as_slice-message.ensures.value c.is_accepted-accepted.ensures
           c.in_ok-add_answer.ensures.text c.in_ok-add_answer.ensures.success c.loop-entry.invariant.1,
     )
-
-pub array_of-signature-requires : goal.array_of-signature-requires
-array_of-signature-requires g c =
-    let size : length c.as_slice.result.now ≡ g.row.SIG_LEN = ap length c.as_slice.ensures.value ∙ ap (λ line. length line.items) c.index.ensures
-    ∙ fits_at (λ line. line.items) (entry_lines g.row.SIG_LEN 1) c.in_ok-lines.lines.items 0 _ c.in_ok-lines.ensures.fit refl in
-    (omega (arith, size), size)
