@@ -1,12 +1,13 @@
 //! Key pairs, and keys through their bytes.
 #![tactic(auto)]
 
-use crate::keys::sets::{Constant44, TestSet};
-use crate::signatures::calls_at_limits::{ALL, returned};
+use crate::keys::sets::{Constant44, Suite, TestSet, at_each_set};
+use crate::signatures::calls_at_limits::{ALL, Calls};
 use crate::values::constant_streams::{LOW_0, private_44, public_44, repeat};
 use fips204::traits::{SerDes, Signer};
 use fips204::xof::{Fill, Sha256Ctr, Sha512Ctr};
 use fips204::{Fault, ml_dsa_44, ml_dsa_65, ml_dsa_87};
+use std::test::Fail;
 
 type Private44 = ml_dsa_44::PrivateKey<Fill<0x55>, Fill<0>>;
 
@@ -15,9 +16,11 @@ type Public44 = ml_dsa_44::PublicKey<Fill<0x55>, Fill<0>>;
 /// The key pair of each set with `H` of bytes 55 and `G` of bytes 00, byte for byte, for any seed, and what its calls
 /// return; private keys come back from their bytes, and are whole.
 #[test]
-fn pairs_of_each_set(rt: HostRuntime) {
-    let found = [7, 0].map(returned::<Fill<0x55>, Fill<0>>);
-    assert_eq!(rt; found, [[Ok(ALL); 3]; 2]);
+fn pairs_of_each_set(rt: HostRuntime) -> Result<(), Fail> {
+    let seven = at_each_set::<Fill<0x55>, Fill<0>, Calls>(&Calls(7))?;
+    let zero = at_each_set::<Fill<0x55>, Fill<0>, Calls>(&Calls(0))?;
+    assert_eq!(rt; [seven, zero], [[ALL; 3]; 2]);
+    Ok(())
 }
 
 /// The array whose byte `i` is `i` modulo 256.
@@ -73,19 +76,30 @@ fn wrong_value<S: TestSet>(
     Ok((comes_back, None))
 }
 
+/// What `wrong_value` finds in the first field of s1 and in the last of s2.
+#[derive(Drop)]
+struct FieldRanges;
+
+impl Suite for FieldRanges {
+    type Answer = [Result<(bool, Option<u8>), Fault>; 2];
+
+    fn at<S: TestSet>(&self, number: usize) -> Result<Self::Answer, Fail> {
+        let last = [(895, 32), (1535, 16), (1567, 32)][number];
+        let values = [[7, 0, 4], [15, 5, 8], [7, 0, 4]][number];
+        Ok([
+            wrong_value::<S>((128, 1), values),
+            wrong_value::<S>(last, values),
+        ])
+    }
+}
+
 /// The first field of s1 and the last of s2 at each set, with every value of their bits: the same bytes come
 /// back up to 2 eta, and above it `KeyRange`.
 #[test]
-fn field_ranges_of_each_set(rt: HostRuntime) {
-    let found = [
-        wrong_value::<Constant44>((128, 1), [7, 0, 4]),
-        wrong_value::<Constant44>((895, 32), [7, 0, 4]),
-        wrong_value::<ml_dsa_65::KG<Fill<0x55>, Fill<0>>>((128, 1), [15, 5, 8]),
-        wrong_value::<ml_dsa_65::KG<Fill<0x55>, Fill<0>>>((1535, 16), [15, 5, 8]),
-        wrong_value::<ml_dsa_87::KG<Fill<0x55>, Fill<0>>>((128, 1), [7, 0, 4]),
-        wrong_value::<ml_dsa_87::KG<Fill<0x55>, Fill<0>>>((1567, 32), [7, 0, 4]),
-    ];
-    assert_eq!(rt; found, [Ok((true, None)); 6]);
+fn field_ranges_of_each_set(rt: HostRuntime) -> Result<(), Fail> {
+    let found = at_each_set::<Fill<0x55>, Fill<0>, FieldRanges>(&FieldRanges)?;
+    assert_eq!(rt; found, [[Ok((true, None)); 2]; 3]);
+    Ok(())
 }
 
 /// Whether the private key of 32 bytes 07 is whole with these bits changed in a byte.
@@ -94,21 +108,26 @@ fn whole<S: TestSet>(at: usize, bits: u8) -> Result<bool, Fault> {
 }
 
 /// Whether that key is whole, and with another bit in K, `tr`, and the first and last byte of t0.
-fn whole_with_bits<S: TestSet>(first: usize, last: usize) -> [Result<bool, Fault>; 5] {
-    let [before, k, tr] = [whole::<S>(0, 0), whole::<S>(32, 1), whole::<S>(127, 1)];
-    [before, k, tr, whole::<S>(first, 1), whole::<S>(last, 1)]
+#[derive(Drop)]
+struct WholeWithBits;
+
+impl Suite for WholeWithBits {
+    type Answer = [Result<bool, Fault>; 5];
+
+    fn at<S: TestSet>(&self, number: usize) -> Result<Self::Answer, Fail> {
+        let (first, last) = [(896, 2559), (1536, 4031), (1568, 4895)][number];
+        let [before, k, tr] = [whole::<S>(0, 0), whole::<S>(32, 1), whole::<S>(127, 1)];
+        Ok([before, k, tr, whole::<S>(first, 1), whole::<S>(last, 1)])
+    }
 }
 
 /// A generated key of each set is whole, also with another bit in K or `tr`. With one in the first or the last byte of
 /// t0 it is not.
 #[test]
-fn whole_keys_of_each_set(rt: HostRuntime) {
-    let found = [
-        whole_with_bits::<ml_dsa_44::KG<Sha256Ctr, Sha512Ctr>>(896, 2559),
-        whole_with_bits::<ml_dsa_65::KG<Sha256Ctr, Sha512Ctr>>(1536, 4031),
-        whole_with_bits::<ml_dsa_87::KG<Sha256Ctr, Sha512Ctr>>(1568, 4895),
-    ];
+fn whole_keys_of_each_set(rt: HostRuntime) -> Result<(), Fail> {
+    let found = at_each_set::<Sha256Ctr, Sha512Ctr, WholeWithBits>(&WholeWithBits)?;
     assert_eq!(rt; found, [[true, true, true, false, false].map(Ok); 3]);
+    Ok(())
 }
 
 fn hashes() -> Result<[[u8; 64]; 3], Fault> {

@@ -4,17 +4,18 @@
 ghost use Rattle.std.specs.Prelude.{◌≡◌, ◌≤◌, ◌+◌, ◌⊎◌, ◌≤ℤ◌, pos};
 
 use crate::arithmetic::polynomials::slow_product;
-use crate::keys::sets::{Constant44, Keys, TestSet, is_same};
+use crate::keys::sets::{Constant44, Keys, Suite, TestSet, at_each_set, is_same};
 use crate::signatures::norms_and_hints::{accepted, short};
 use crate::streams::input_chosen::{ByLength, Second};
 use crate::streams::written_fronts::{FourthTriples, Patterned};
 use crate::values::constant_streams::{private_44, put_fields, signature_44};
+use fips204::Fault;
 use fips204::hashing::{expand_mask, sample_in_ball};
 use fips204::ml_dsa_44::{KG, PrivateKey};
 use fips204::traits::SerDes;
 use fips204::types::R;
 use fips204::xof::{Fill, Sha256Ctr, Xof};
-use fips204::{Fault, ml_dsa_65, ml_dsa_87};
+use std::test::Fail;
 
 /// The streams whose matrix entries keep their last coefficient from the last triple.
 type LastTriple = Patterned<FourthTriples<0>>;
@@ -50,48 +51,49 @@ fn signed_prepared<S: TestSet>(keys: &S::Plain, wanted: &S::Signature) -> [Resul
 }
 
 /// What the calls of a set return; the pair is of a seed of bytes of this value.
-fn calls<S: TestSet>(seed: u8) -> Result<Answers, Fault> {
-    let (keys, signature) = S::constant()?;
-    let plain = signed(&keys, &signature);
-    let prepared = signed_prepared::<S>(&keys, &signature);
-    let pair = S::is_constant(S::pair(&[seed; 32]));
-    let (public, private) = S::prepared_parts(&keys);
-    let refused = [public.err(), private.err()];
-    let derived = S::derives_constant(&keys);
-    let read = is_same(S::read_again(keys, 0, 0), &[true; 2]);
-    Ok(([pair, derived, read], refused, [plain, prepared]))
-}
+#[derive(Drop)]
+pub struct Calls(pub u8);
 
-/// What the calls of each set return; the pair is of a seed of bytes of this value.
-pub fn returned<H: Xof, G: Xof>(seed: u8) -> [Result<Answers, Fault>; 3] {
-    [
-        calls::<KG<H, G>>(seed),
-        calls::<ml_dsa_65::KG<H, G>>(seed),
-        calls::<ml_dsa_87::KG<H, G>>(seed),
-    ]
+impl Suite for Calls {
+    type Answer = Answers;
+
+    fn at<S: TestSet>(&self, _number: usize) -> Result<Answers, Fail> {
+        let (keys, signature) = S::constant()?;
+        let plain = signed(&keys, &signature);
+        let prepared = signed_prepared::<S>(&keys, &signature);
+        let pair = S::is_constant(S::pair(&[self.0; 32]));
+        let (public, private) = S::prepared_parts(&keys);
+        let refused = [public.err(), private.err()];
+        let derived = S::derives_constant(&keys);
+        let read = is_same(S::read_again(keys, 0, 0), &[true; 2]);
+        Ok(([pair, derived, read], refused, [plain, prepared]))
+    }
 }
 
 /// Every fourth triple 0 and the rest FF at each set: key generation, deriving, preparing, signing and
 /// verifying return what they return over constant streams.
 #[test]
-fn calls_whose_matrix_ends_at_its_last_triple(rt: HostRuntime) {
-    assert_eq!(rt; returned::<Fill<0x55>, LastTriple>(7), [Ok(ALL); 3]);
+fn calls_whose_matrix_ends_at_its_last_triple(rt: HostRuntime) -> Result<(), Fail> {
+    let found = at_each_set::<Fill<0x55>, LastTriple, Calls>(&Calls(7))?;
+    assert_eq!(rt; found, [ALL; 3]);
+    Ok(())
 }
 
 /// Past that limit, and with `G` of bytes FF, each call returns `SamplingLimit`, also `prepare` and `is_whole`, and
 /// verifying returns false.
 #[test]
-fn calls_whose_matrix_passes_its_limit(rt: HostRuntime) {
+fn calls_whose_matrix_passes_its_limit(rt: HostRuntime) -> Result<(), Fail> {
     let found = [
-        returned::<Fill<0x55>, PastLastTriple>(7),
-        returned::<Fill<0x55>, Fill<0xff>>(7),
-        returned::<Fill<0x55>, Fill<0xff>>(0),
-        returned::<Sha256Ctr, Fill<0xff>>(0),
-        returned::<Fill<0xff>, Fill<0xff>>(0),
+        at_each_set::<Fill<0x55>, PastLastTriple, Calls>(&Calls(7))?,
+        at_each_set::<Fill<0x55>, Fill<0xff>, Calls>(&Calls(7))?,
+        at_each_set::<Fill<0x55>, Fill<0xff>, Calls>(&Calls(0))?,
+        at_each_set::<Sha256Ctr, Fill<0xff>, Calls>(&Calls(0))?,
+        at_each_set::<Fill<0xff>, Fill<0xff>, Calls>(&Calls(0))?,
     ];
     let signatures = [[LIMIT, Ok(false)], [LIMIT; 2]];
     let refused = ([LIMIT; 3], [Some(Fault::SamplingLimit); 2], signatures);
-    assert_eq!(rt; found, [[Ok(refused); 3]; 5]);
+    assert_eq!(rt; found, [[refused; 3]; 5]);
+    Ok(())
 }
 
 fn commitment_of_ff() -> [u8; 2420] {
@@ -106,14 +108,15 @@ fn commitment_of_ff() -> [u8; 2420] {
 /// and false, with plain and prepared keys. `H` of bytes FF, each set: `SamplingLimit` in key generation too, and at
 /// set 44 false also of a signature that begins with bytes FF.
 #[test]
-fn challenges_that_pass_their_limit(rt: HostRuntime) {
-    let one = calls::<KG<ByLength, Fill<0>>>(7);
-    let each = returned::<Fill<0xff>, Fill<0>>(0);
-    let answer = accepted::<KG<Fill<0xff>, Fill<0>>>(&commitment_of_ff());
+fn challenges_that_pass_their_limit(rt: HostRuntime) -> Result<(), Fail> {
+    let one = Calls(7).at::<KG<ByLength, Fill<0>>>(0)?;
+    let each = at_each_set::<Fill<0xff>, Fill<0>, Calls>(&Calls(0))?;
+    let answer = accepted::<KG<Fill<0xff>, Fill<0>>>(&commitment_of_ff())?;
     let none = [[LIMIT, Ok(false)]; 2];
-    let pair = Ok(([Ok(true); 3], [None; 2], none));
-    let no_pair = Ok(([LIMIT, Ok(true), Ok(true)], [None; 2], none));
-    assert_eq!(rt; (one, each, answer), (pair, [no_pair; 3], Ok([false; 2])));
+    let pair = ([Ok(true); 3], [None; 2], none);
+    let no_pair = ([LIMIT, Ok(true), Ok(true)], [None; 2], none);
+    assert_eq!(rt; (one, each, answer), (pair, [no_pair; 3], [false; 2]));
+    Ok(())
 }
 
 fn signing_faults<S: TestSet>(keys: &S::Plain) -> Result<[Option<Fault>; 2], Fault> {
@@ -123,19 +126,23 @@ fn signing_faults<S: TestSet>(keys: &S::Plain) -> Result<[Option<Fault>; 2], Fau
 }
 
 /// The refusals of a signature by the keys of 32 bytes 00, plain and prepared.
-fn faults_of_pair<S: TestSet>() -> Result<[Option<Fault>; 2], Fault> {
-    signing_faults::<S>(&S::pair(&[0; 32])?)
+#[derive(Drop)]
+struct FaultsOfPair;
+
+impl Suite for FaultsOfPair {
+    type Answer = [Option<Fault>; 2];
+
+    fn at<S: TestSet>(&self, _number: usize) -> Result<[Option<Fault>; 2], Fail> {
+        Ok(signing_faults::<S>(&S::pair(&[0; 32])?)?)
+    }
 }
 
 /// Both streams of bytes 00, each set: `TooManyAttempts`, with plain and prepared keys.
 #[test]
-fn keys_that_never_sign(rt: HostRuntime) {
-    let found = [
-        faults_of_pair::<KG<Fill<0>, Fill<0>>>(),
-        faults_of_pair::<ml_dsa_65::KG<Fill<0>, Fill<0>>>(),
-        faults_of_pair::<ml_dsa_87::KG<Fill<0>, Fill<0>>>(),
-    ];
-    assert_eq!(rt; found, [Ok([Some(Fault::TooManyAttempts); 2]); 3]);
+fn keys_that_never_sign(rt: HostRuntime) -> Result<(), Fail> {
+    let found = at_each_set::<Fill<0>, Fill<0>, FaultsOfPair>(&FaultsOfPair)?;
+    assert_eq!(rt; found, [[Some(Fault::TooManyAttempts); 2]; 3]);
+    Ok(())
 }
 
 /// Coefficient 255 of the product of the challenge with another first polynomial of t0; and with it, what refuses to
@@ -189,12 +196,13 @@ fn smallest_response<H: Xof>(gamma1: i64, tau: i32, eta: i32) -> Result<i64, Fau
 /// `H` of bytes 00 over the masks of attempt 0 and else 55, set 44: that attempt is rejected, and attempt 1
 /// signs as over constant streams.
 #[test]
-fn first_attempts_that_are_rejected(rt: HostRuntime) {
+fn first_attempts_that_are_rejected(rt: HostRuntime) -> Result<(), Fail> {
     let first = masks_are::<4, Second>(131072, 0, 131072);
-    let smallest = smallest_response::<Second>(131072, 39, 2);
+    let smallest = smallest_response::<Second>(131072, 39, 2)?;
     let second = masks_are::<4, Second>(131072, 4, 43691);
-    let found = (first, smallest, second, calls::<KG<Second, Fill<0>>>(7));
-    assert_eq!(rt; found, (true, Ok(131066), true, Ok(ALL)));
+    let found = Calls(7).at::<KG<Second, Fill<0>>>(0)?;
+    assert_eq!(rt; (first, smallest, second, found), (true, 131066, true, ALL));
+    Ok(())
 }
 
 /// Over bytes 00 every coefficient of the mask is gamma1, and the smallest response is 130998, 524100 and
