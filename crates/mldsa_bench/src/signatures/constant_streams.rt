@@ -11,7 +11,7 @@ use std::test::Fail;
 
 /// What has the signature over constant streams, whatever is signed; and what is neither signed nor accepted for its
 /// context, and why.
-const TEXTS: [(Text, Option<Fault>); 20] = [
+static TEXTS: [(Text, Option<Fault>); 20] = [
     (Text::Message(b"", &[]), None),
     (Text::Message(b"abc", &[]), None),
     (Text::Message(b"abc", &[1; 255]), None),
