@@ -2,7 +2,7 @@
 #![tactic(auto)]
 
 use crate::keys::sets::{Keys, Suite, TestSet, Text, at_each_set, is_same};
-use crate::signatures::digests::{REFUSED_DIGESTS, refused_digest};
+use crate::signatures::digests::REFUSED_DIGESTS;
 use crate::signatures::drawing::RefusesAt;
 use fips204::Fault::{self, HashCtx, SignCtx};
 use fips204::pre_hash::{SHA2_256, SHA2_512};
@@ -64,10 +64,9 @@ fn first_wrong<S: PartialEq + Drop, K: Keys<S>>(keys: &K, signature: &S) -> Opti
             return Some((0, row));
         }
     }
-    for row in 0..REFUSED_DIGESTS {
-        let (digest, oid, fault) = refused_digest(row);
+    for (row, (digest, oid, fault)) in REFUSED_DIGESTS.iter().enumerate() {
         let text = Text::Digest(digest, &[], oid);
-        if !answers(keys, (&text, Some(fault)), signature) {
+        if !answers(keys, (&text, Some(*fault)), signature) {
             return Some((1, row));
         }
     }

@@ -44,38 +44,26 @@ fn identifiers_and_lengths(rt: HostRuntime) {
 /// An identifier of no hash that is known here.
 const UNKNOWN: &[u8] = &[0x06, 0x03, 0x2a, 0x03, 0x04];
 
-/// The identifier of a refused digest: that of SHA2-256 in most rows, and its first ten bytes in row 5.
-fn refused_identifier<'a>(row: usize) -> &'a [u8] {
-    match row {
-        0 => &[],
-        1 => &[0xff],
-        2 => &[0x06],
-        3 => &[0x06, 0x00],
-        4 => &[0x04, 0x01, 0x00],
-        5 => &[0x06, 0x09, 0x60, 0x86, 0x48, 0x01, 0x65, 0x03, 0x04, 0x02],
-        7 => UNKNOWN,
-        12 => &pre_hash::SHA2_512,
-        _ => &pre_hash::SHA2_256,
-    }
-}
-
-/// How many digests are refused with their identifiers.
-pub const REFUSED_DIGESTS: usize = 13;
-
-/// A digest and an identifier that are refused, and why.
-pub fn refused_digest<'a>(row: usize) -> (&'a [u8], &'a [u8], Fault) {
-    let (digest, fault): (&'a [u8], Fault) = match row {
-        0 => (&[0; 32], OidEmpty),
-        1..=5 => (&[0; 32], OidNotDer),
-        6..=7 => (&[0; 1025], DigestTooLong),
-        8 => (&[], DigestLength),
-        9 => (&[0; 31], DigestLength),
-        10 => (&[5; 31], DigestLength),
-        11 => (&[0; 33], DigestLength),
-        _ => (&[9; 63], DigestLength),
-    };
-    (digest, refused_identifier(row), fault)
-}
+/// Digests that are refused, with their identifiers, and why.
+pub static REFUSED_DIGESTS: [(&[u8], &[u8], Fault); 13] = [
+    (&[0; 32], &[], OidEmpty),
+    (&[0; 32], &[0xff], OidNotDer),
+    (&[0; 32], &[0x06], OidNotDer),
+    (&[0; 32], &[0x06, 0x00], OidNotDer),
+    (&[0; 32], &[0x04, 0x01, 0x00], OidNotDer),
+    (
+        &[0; 32],
+        b"\x06\x09\x60\x86\x48\x01\x65\x03\x04\x02",
+        OidNotDer,
+    ),
+    (&[0; 1025], &pre_hash::SHA2_256, DigestTooLong),
+    (&[0; 1025], UNKNOWN, DigestTooLong),
+    (&[], &pre_hash::SHA2_256, DigestLength),
+    (&[0; 31], &pre_hash::SHA2_256, DigestLength),
+    (&[5; 31], &pre_hash::SHA2_256, DigestLength),
+    (&[0; 33], &pre_hash::SHA2_256, DigestLength),
+    (&[9; 63], &pre_hash::SHA2_512, DigestLength),
+];
 
 /// Each error of `check_pre_hash` by itself and in its order; digests of 0, 31, 33, 1024 and 1025 bytes; identifiers of
 /// 3, 129 and 130 bytes.
@@ -89,44 +77,46 @@ fn digests_that_are_refused(rt: HostRuntime) {
         check_pre_hash(&[], &[0x06, 0x01, 0x00]),
         check_pre_hash(&[], &longest),
     ];
-    let mut refused = [false; REFUSED_DIGESTS];
-    for (row, answer) in refused.iter_mut().enumerate() {
-        let (digest, identifier, fault) = refused_digest(row);
-        *answer = check_pre_hash(digest, identifier) == Err(fault);
+    let found = (accepted, check_pre_hash(&[], &longer));
+    assert_eq!(rt; found, ([Ok(()); 4], Err(OidNotDer)));
+    for (row, (digest, identifier, fault)) in REFUSED_DIGESTS.iter().enumerate() {
+        let found = (row, check_pre_hash(digest, identifier));
+        assert_eq!(rt; found, (row, Err(*fault)));
     }
-    let found = (refused, accepted, check_pre_hash(&[], &longer));
-    assert_eq!(rt; found, ([true; 13], [Ok(()); 4], Err(OidNotDer)));
 }
+
+/// The refusals and their texts.
+static WORDS: [(Fault, &str); 13] = [
+    (KeyGenRng, "KeyGen: Random number generator failed"),
+    (SignCtx, "ML-DSA.Sign: ctx too long"),
+    (SignRng, "ML-DSA.Sign: random number generator failed"),
+    (HashCtx, "HashML-DSA.Sign: ctx too long"),
+    (OidEmpty, "HashML-DSA.Sign: OID is empty"),
+    (OidNotDer, "HashML-DSA.Sign: OID is not DER encoded"),
+    (
+        DigestTooLong,
+        "Hash of message is too long, should not be more than 1KiB",
+    ),
+    (
+        DigestLength,
+        "HashML-DSA.Sign: digest length does not match the OID",
+    ),
+    (HashRng, "HashML-DSA.Sign: random number generator failed"),
+    (
+        InternalRng,
+        "ML-DSA.Sign_internal: random number generator failed",
+    ),
+    (TooManyAttempts, "ML-DSA.Sign: too many attempts"),
+    (KeyRange, "Alg 25: s1 or s2 out of range"),
+    (SamplingLimit, "sampling limit reached"),
+];
 
 /// The thirteen texts of `Fault`, by `as_str` and by `Display`.
 #[test]
 fn words_of_refusals(rt: HostRuntime) -> Result<(), Fail> {
-    for (fault, words) in [
-        (KeyGenRng, "KeyGen: Random number generator failed"),
-        (SignCtx, "ML-DSA.Sign: ctx too long"),
-        (SignRng, "ML-DSA.Sign: random number generator failed"),
-        (HashCtx, "HashML-DSA.Sign: ctx too long"),
-        (OidEmpty, "HashML-DSA.Sign: OID is empty"),
-        (OidNotDer, "HashML-DSA.Sign: OID is not DER encoded"),
-        (
-            DigestTooLong,
-            "Hash of message is too long, should not be more than 1KiB",
-        ),
-        (
-            DigestLength,
-            "HashML-DSA.Sign: digest length does not match the OID",
-        ),
-        (HashRng, "HashML-DSA.Sign: random number generator failed"),
-        (
-            InternalRng,
-            "ML-DSA.Sign_internal: random number generator failed",
-        ),
-        (TooManyAttempts, "ML-DSA.Sign: too many attempts"),
-        (KeyRange, "Alg 25: s1 or s2 out of range"),
-        (SamplingLimit, "sampling limit reached"),
-    ] {
-        assert_eq!(rt; fault.as_str(), words);
-        assert_eq!(rt; format!(in rt.alloc(); "{fault}")?.as_str(), words);
+    for (fault, words) in &WORDS {
+        assert_eq!(rt; fault.as_str(), *words);
+        assert_eq!(rt; format!(in rt.alloc(); "{fault}")?.as_str(), *words);
     }
     Ok(())
 }

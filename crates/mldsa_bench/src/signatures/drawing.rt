@@ -56,7 +56,7 @@ impl CryptoRngCore for RefusesAt {
 }
 
 /// What is signed with drawn bytes, and the refusal that stands for the generator's.
-const DRAWN: [(Text, Fault); 6] = [
+static DRAWN: [(Text, Fault); 6] = [
     (Text::Message(b"abc", &[]), Fault::SignRng),
     (Text::Message(b"abc", &[1; 255]), Fault::SignRng),
     (Text::Digest(&[0; 32], &[], &SHA2_256), Fault::HashRng),
