@@ -77,7 +77,6 @@ fn wrong_value<S: TestSet>(
 }
 
 /// What `wrong_value` finds in the first field of s1 and in the last of s2.
-#[derive(Drop)]
 struct FieldRanges;
 
 impl Suite for FieldRanges {
@@ -108,7 +107,6 @@ fn whole<S: TestSet>(at: usize, bits: u8) -> Result<bool, Fault> {
 }
 
 /// Whether that key is whole, and with another bit in K, `tr`, and the first and last byte of t0.
-#[derive(Drop)]
 struct WholeWithBits;
 
 impl Suite for WholeWithBits {
@@ -166,6 +164,6 @@ fn with_low_parts(part: [u8; 13]) -> Result<[bool; 2], Fault> {
 /// `get_public_key` does not look at t0, with which the key is no longer whole.
 #[test]
 fn public_key_of_a_key_with_other_low_parts(rt: HostRuntime) {
-    let found = [[0u8; 13], LOW_0].map(with_low_parts);
+    let found = [[0u8; 13], *LOW_0].map(with_low_parts);
     assert_eq!(rt; found, [Ok([false, true]); 2]);
 }

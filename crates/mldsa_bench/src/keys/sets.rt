@@ -201,9 +201,6 @@ impl<H: Xof, G: Xof> Row<Plain<8, 7, H, G>, 4896> for MlDsa87 {
 /// Set 44 over constant streams.
 pub type Constant44 = ml_dsa_44::KG<Fill<0x55>, Fill<0>>;
 
-/// Two values, or the refusal of each.
-pub type Both<A, B> = (Result<A, Fault>, Result<B, Fault>);
-
 /// A set over two streams.
 pub trait TestSet {
     /// The bytes of a signature.
@@ -214,12 +211,6 @@ pub trait TestSet {
 
     /// Prepared keys.
     type Prepared: Keys<Self::Signature> + Drop;
-
-    /// A prepared public key.
-    type PreparedPublic: Drop;
-
-    /// A prepared private key.
-    type PreparedPrivate: Drop;
 
     /// The keys and the signature over constant streams, of their bytes.
     fn constant() -> Result<(Self::Plain, Self::Signature), Fault>;
@@ -242,8 +233,8 @@ pub trait TestSet {
     /// Both keys with their matrix.
     fn prepared(keys: &Self::Plain) -> Result<Self::Prepared, Fault>;
 
-    /// The public key and the private key with their matrix, or the refusal of each.
-    fn prepared_parts(keys: &Self::Plain) -> Both<Self::PreparedPublic, Self::PreparedPrivate>;
+    /// The refusals to prepare the public key and the private key.
+    fn refusals(keys: &Self::Plain) -> [Option<Fault>; 2];
 
     /// Signs the first messages under a context, with one call: as many as `answers` has room for, at most five.
     fn sign_each(keys: &Self::Prepared, ctx: &[u8], answers: &mut [Result<Self::Signature, Fault>]);
@@ -280,10 +271,6 @@ where
     type Plain = Plain<K, L, H, G>;
 
     type Prepared = Prepared<K, L, H>;
-
-    type PreparedPublic = PreparedPublicKey<K, L, H>;
-
-    type PreparedPrivate = PreparedPrivateKey<K, L, H>;
 
     fn constant() -> Result<(Plain<K, L, H, G>, [u8; SIG_LEN]), Fault> {
         let (public, private, signature) = S::recorded();
@@ -327,8 +314,9 @@ where
         Ok((keys.0.prepare()?, keys.1.prepare()?))
     }
 
-    fn prepared_parts(keys: &Self::Plain) -> Both<Self::PreparedPublic, Self::PreparedPrivate> {
-        (keys.0.prepare(), keys.1.prepare())
+    fn refusals(keys: &Plain<K, L, H, G>) -> [Option<Fault>; 2] {
+        prove!(K <= 8 && L <= 7);
+        [keys.0.prepare().err(), keys.1.prepare().err()]
     }
 
     fn sign_each(keys: &Self::Prepared, ctx: &[u8], answers: &mut [Result<[u8; SIG_LEN], Fault>]) {

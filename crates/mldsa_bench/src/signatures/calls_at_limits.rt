@@ -51,7 +51,6 @@ fn signed_prepared<S: TestSet>(keys: &S::Plain, wanted: &S::Signature) -> [Resul
 }
 
 /// What the calls of a set return; the pair is of a seed of bytes of this value.
-#[derive(Drop)]
 pub struct Calls(pub u8);
 
 impl Suite for Calls {
@@ -62,9 +61,7 @@ impl Suite for Calls {
         let plain = signed(&keys, &signature);
         let prepared = signed_prepared::<S>(&keys, &signature);
         let pair = S::is_constant(S::pair(&[self.0; 32]));
-        let (public, private) = S::prepared_parts(&keys);
-        let refused = [public.err(), private.err()];
-        let derived = S::derives_constant(&keys);
+        let (refused, derived) = (S::refusals(&keys), S::derives_constant(&keys));
         let read = is_same(S::read_again(keys, 0, 0), &[true; 2]);
         Ok(([pair, derived, read], refused, [plain, prepared]))
     }
@@ -126,7 +123,6 @@ fn signing_faults<S: TestSet>(keys: &S::Plain) -> Result<[Option<Fault>; 2], Fau
 }
 
 /// The refusals of a signature by the keys of 32 bytes 00, plain and prepared.
-#[derive(Drop)]
 struct FaultsOfPair;
 
 impl Suite for FaultsOfPair {

@@ -73,7 +73,6 @@ fn first_wrong<S: PartialEq + Drop, K: Keys<S>>(keys: &K, signature: &S) -> Opti
     None
 }
 
-#[derive(Drop)]
 struct FirstWrong;
 
 impl Suite for FirstWrong {

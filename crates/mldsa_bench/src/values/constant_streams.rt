@@ -4,14 +4,10 @@
 ghost use Rattle.std.specs.Prelude.{◌<◌, ◌≤◌};
 
 /// `t0` where every coefficient is 2: these bytes again and again.
-const LOW_2: [u8; 13] = [
-    0xfe, 0xcf, 0xff, 0xf9, 0x3f, 0xff, 0xe7, 0xff, 0xfc, 0x9f, 0xff, 0xf3, 0x7f,
-];
+const LOW_2: &[u8; 13] = b"\xfe\xcf\xff\xf9\x3f\xff\xe7\xff\xfc\x9f\xff\xf3\x7f";
 
 /// `t0` where every coefficient is 0: these bytes again and again.
-pub const LOW_0: [u8; 13] = [
-    0x00, 0x10, 0x00, 0x02, 0x40, 0x00, 0x08, 0x00, 0x01, 0x20, 0x00, 0x04, 0x80,
-];
+pub const LOW_0: &[u8; 13] = b"\x00\x10\x00\x02\x40\x00\x08\x00\x01\x20\x00\x04\x80";
 
 /// Puts 13 bytes again and again.
 pub fn repeat(bytes: &mut [u8], pattern: &[u8; 13]) {
@@ -45,14 +41,14 @@ pub fn public_87() -> [u8; 2592] {
 pub fn private_44() -> [u8; 2560] {
     let mut key = [0u8; 2560];
     key[..128].fill(0x55);
-    repeat(&mut key[896..], &LOW_2);
+    repeat(&mut key[896..], LOW_2);
     key
 }
 
 /// The private key of set 65: every coefficient of s1 and s2 is -1, and of t0 0.
 pub fn private_65() -> [u8; 4032] {
     let mut key = [0x55u8; 4032];
-    repeat(&mut key[1536..], &LOW_0);
+    repeat(&mut key[1536..], LOW_0);
     key
 }
 
@@ -60,7 +56,7 @@ pub fn private_65() -> [u8; 4032] {
 pub fn private_87() -> [u8; 4896] {
     let mut key = [0u8; 4896];
     key[..128].fill(0x55);
-    repeat(&mut key[1568..], &LOW_2);
+    repeat(&mut key[1568..], LOW_2);
     key
 }
 

@@ -64,8 +64,8 @@ pub fn goes(alloc: Global, case: &str) -> Result<(), Fail> {
     let call = [streams, command, set];
     let (read, rest) = parted(text, "|");
     let mut input = spelt(alloc, call, read)?;
-    let unread = spelt(alloc, call, rest)?;
-    input.push_str(unread.as_str())?;
+    let end = input.len();
+    input.push_str(spelt(alloc, call, rest)?.as_str())?;
     let written = spelt(alloc, call, if status == "2" { "" } else { output })?;
     let (bytes, written) = (input.as_bytes(), written.as_bytes());
     let (answer, same, left, _) = told(alloc, [WHOLE; 2], call, bytes, written)?;
@@ -74,7 +74,7 @@ pub fn goes(alloc: Global, case: &str) -> Result<(), Fail> {
         Ok(false) => status == "1",
         Err(fault) => status == "2" && format!(in alloc; "{fault}")?.as_str() == output,
     };
-    ensure(ended && same && left == unread.len(), text)
+    ensure(ended && same && end.wrapping_add(left) == input.len(), text)
 }
 
 /// Fails unless each of these cases, a line each, goes so.
