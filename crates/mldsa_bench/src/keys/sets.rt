@@ -18,6 +18,8 @@ use fips204::types::{KG, PreparedPrivateKey, PreparedPublicKey, PrivateKey, Publ
 use fips204::xof::{Fill, Xof};
 use fips204::{Fault, ml_dsa};
 use std::alloc::Global;
+use std::fmt::Debug;
+use std::process::Abort;
 use std::test::Fail;
 
 /// What is signed, and what a signature is judged of.
@@ -347,18 +349,25 @@ where
 /// What is tried at a set.
 pub trait Suite {
     /// What it finds.
-    type Answer: Drop;
+    type Answer: PartialEq + Debug + Drop;
 
     /// What it finds at a set, of which this is the number: 0, 1 and 2 for 44, 65 and 87.
     fn at<S: TestSet>(&self, number: usize) -> Result<Self::Answer, Fail>
         requires { number < 3 };
 }
 
-/// What is found at each set over these streams. No suite names a type of each set, since it takes the prover seconds.
-pub fn at_each_set<H: Xof, G: Xof, X: Suite>(suite: &X) -> Result<[X::Answer; 3], Fail> {
-    Ok([
+/// Fails unless a suite finds this at each set over these streams. No suite names a type of each set, since it takes the
+/// prover seconds.
+pub fn at_each_set<H: Xof, G: Xof, X: Suite>(
+    rt: &impl Abort,
+    suite: &X,
+    wanted: &[X::Answer; 3],
+) -> Result<(), Fail> {
+    let found = [
         suite.at::<ml_dsa_44::KG<H, G>>(0)?,
         suite.at::<ml_dsa_65::KG<H, G>>(1)?,
         suite.at::<ml_dsa_87::KG<H, G>>(2)?,
-    ])
+    ];
+    assert_eq!(*rt; found, *wanted);
+    Ok(())
 }

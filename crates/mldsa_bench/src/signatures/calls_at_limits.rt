@@ -71,26 +71,20 @@ impl Suite for Calls {
 /// verifying return what they return over constant streams.
 #[test]
 fn calls_whose_matrix_ends_at_its_last_triple(rt: HostRuntime) -> Result<(), Fail> {
-    let found = at_each_set::<Fill<0x55>, LastTriple, Calls>(&Calls(7))?;
-    assert_eq!(rt; found, [ALL; 3]);
-    Ok(())
+    at_each_set::<Fill<0x55>, LastTriple, Calls>(&rt, &Calls(7), &[ALL; 3])
 }
 
 /// Past that limit, and with `G` of bytes FF, each call returns `SamplingLimit`, also `prepare` and `is_whole`, and
 /// verifying returns false.
 #[test]
 fn calls_whose_matrix_passes_its_limit(rt: HostRuntime) -> Result<(), Fail> {
-    let found = [
-        at_each_set::<Fill<0x55>, PastLastTriple, Calls>(&Calls(7))?,
-        at_each_set::<Fill<0x55>, Fill<0xff>, Calls>(&Calls(7))?,
-        at_each_set::<Fill<0x55>, Fill<0xff>, Calls>(&Calls(0))?,
-        at_each_set::<Sha256Ctr, Fill<0xff>, Calls>(&Calls(0))?,
-        at_each_set::<Fill<0xff>, Fill<0xff>, Calls>(&Calls(0))?,
-    ];
     let signatures = [[LIMIT, Ok(false)], [LIMIT; 2]];
-    let refused = ([LIMIT; 3], [Some(Fault::SamplingLimit); 2], signatures);
-    assert_eq!(rt; found, [[refused; 3]; 5]);
-    Ok(())
+    let refused = [([LIMIT; 3], [Some(Fault::SamplingLimit); 2], signatures); 3];
+    at_each_set::<Fill<0x55>, PastLastTriple, Calls>(&rt, &Calls(7), &refused)?;
+    at_each_set::<Fill<0x55>, Fill<0xff>, Calls>(&rt, &Calls(7), &refused)?;
+    at_each_set::<Fill<0x55>, Fill<0xff>, Calls>(&rt, &Calls(0), &refused)?;
+    at_each_set::<Sha256Ctr, Fill<0xff>, Calls>(&rt, &Calls(0), &refused)?;
+    at_each_set::<Fill<0xff>, Fill<0xff>, Calls>(&rt, &Calls(0), &refused)
 }
 
 fn commitment_of_ff() -> [u8; 2420] {
@@ -107,13 +101,12 @@ fn commitment_of_ff() -> [u8; 2420] {
 #[test]
 fn challenges_that_pass_their_limit(rt: HostRuntime) -> Result<(), Fail> {
     let one = Calls(7).at::<KG<ByLength, Fill<0>>>(0)?;
-    let each = at_each_set::<Fill<0xff>, Fill<0>, Calls>(&Calls(0))?;
     let answer = accepted::<KG<Fill<0xff>, Fill<0>>>(&commitment_of_ff())?;
     let none = [[LIMIT, Ok(false)]; 2];
     let pair = ([Ok(true); 3], [None; 2], none);
     let no_pair = ([LIMIT, Ok(true), Ok(true)], [None; 2], none);
-    assert_eq!(rt; (one, each, answer), (pair, [no_pair; 3], [false; 2]));
-    Ok(())
+    assert_eq!(rt; (one, answer), (pair, [false; 2]));
+    at_each_set::<Fill<0xff>, Fill<0>, Calls>(&rt, &Calls(0), &[no_pair; 3])
 }
 
 fn signing_faults<S: TestSet>(keys: &S::Plain) -> Result<[Option<Fault>; 2], Fault> {
@@ -136,9 +129,8 @@ impl Suite for FaultsOfPair {
 /// Both streams of bytes 00, each set: `TooManyAttempts`, with plain and prepared keys.
 #[test]
 fn keys_that_never_sign(rt: HostRuntime) -> Result<(), Fail> {
-    let found = at_each_set::<Fill<0>, Fill<0>, FaultsOfPair>(&FaultsOfPair)?;
-    assert_eq!(rt; found, [[Some(Fault::TooManyAttempts); 2]; 3]);
-    Ok(())
+    let wanted = [[Some(Fault::TooManyAttempts); 2]; 3];
+    at_each_set::<Fill<0>, Fill<0>, FaultsOfPair>(&rt, &FaultsOfPair, &wanted)
 }
 
 /// Coefficient 255 of the product of the challenge with another first polynomial of t0; and with it, what refuses to

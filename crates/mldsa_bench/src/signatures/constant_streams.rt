@@ -89,7 +89,5 @@ impl Suite for FirstWrong {
 /// with given and drawn bytes; contexts of 255 to 257 bytes; each condition on a digest.
 #[test]
 fn signatures_of_each_set(rt: HostRuntime) -> Result<(), Fail> {
-    let found = at_each_set::<Fill<0x55>, Fill<0>, FirstWrong>(&FirstWrong)?;
-    assert_eq!(rt; found, [[None; 2]; 3]);
-    Ok(())
+    at_each_set::<Fill<0x55>, Fill<0>, FirstWrong>(&rt, &FirstWrong, &[[None; 2]; 3])
 }

@@ -122,8 +122,7 @@ fn refusing_generators(rt: HostRuntime) -> Result<(), Fail> {
     for call in 0..3u8 {
         for writes in [false, true] {
             let refusing = RefusesAt::new(call, writes);
-            let found = at_each_set::<Fill<0x55>, Fill<0>, RefusesAt>(&refusing)?;
-            assert_eq!(rt; found, [[true; 5]; 3]);
+            at_each_set::<Fill<0x55>, Fill<0>, RefusesAt>(&rt, &refusing, &[[true; 5]; 3])?;
         }
     }
     Ok(())
