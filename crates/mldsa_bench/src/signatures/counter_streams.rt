@@ -8,7 +8,6 @@ use crate::keys::sets::{
 use crate::signatures::drawing::RefusesAt;
 use crate::values::{has_text, recorded};
 use fips204::Fault;
-use fips204::ml_dsa_44::KG;
 use fips204::pre_hash::SHA2_256;
 use fips204::traits::DummyRng;
 use fips204::xof::{Sha256Ctr, Sha256CtrLong, Sha512Ctr, Sha512CtrLong};
@@ -192,13 +191,23 @@ fn are_framed<S: PartialEq + Drop, K: Keys<S>>(keys: &K) -> [Result<[bool; 5], F
     ]
 }
 
+/// What `are_framed` finds with plain and with prepared keys.
+struct Framed;
+
+impl Suite for Framed {
+    type Answer = [[Result<[bool; 5], Fault>; 2]; 2];
+
+    fn at<S: TestSet>(&self, _number: usize) -> Result<Self::Answer, Fail> {
+        let keys = S::pair(&[0; 32])?;
+        let prepared = S::prepared(&keys)?;
+        Ok([are_framed(&keys), are_framed(&prepared)])
+    }
+}
+
 /// The framed message `00 02 61 62 63`, and the 47 bytes of a framed digest, by the hooks over the counter streams, with
 /// plain and prepared keys.
 #[test]
 fn hooks_take_framed_messages(rt: HostRuntime) -> Result<(), Fail> {
-    let keys = KG::<Sha256Ctr, Sha512Ctr>::pair(&[0; 32])?;
-    let prepared = KG::<Sha256Ctr, Sha512Ctr>::prepared(&keys)?;
-    let found = [are_framed(&keys), are_framed(&prepared)];
-    assert_eq!(rt; found, [[Ok([true, true, true, true, false]); 2]; 2]);
-    Ok(())
+    let wanted = [[[Ok([true, true, true, true, false]); 2]; 2]; 3];
+    at_each_set::<Sha256Ctr, Sha512Ctr, Framed>(&rt, &Framed, &wanted)
 }

@@ -94,12 +94,12 @@ fn challenges_of_longer_fronts(rt: HostRuntime) {
 /// Bytes 10: at eta 2 the coefficients 2, 1 in turn, also in both vectors of `ExpandS`, at eta 4 the coefficients 4, 3.
 #[test]
 fn low_halves_come_first(rt: HostRuntime) -> Result<(), Fail> {
-    let values = rej_bounded_poly::<Fill<0x10>>(2, &[])?.0;
-    assert!(rt; values.starts_with(&[2, 1, 2, 1]));
-    let values = rej_bounded_poly::<Fill<0x10>>(4, &[])?.0;
-    assert!(rt; values.starts_with(&[4, 3, 4, 3]));
+    let two = rej_bounded_poly::<Fill<0x10>>(2, &[])?;
+    let four = rej_bounded_poly::<Fill<0x10>>(4, &[])?;
     let ([first, ..], [second, ..]) = expand_s::<4, 4, Fill<0x10>>(2, &[0; 64])?;
-    assert!(rt; first.0.starts_with(&[2, 1, 2, 1]) && second.0.starts_with(&[2, 1, 2, 1]));
+    let found = [two, four, first, second].map(|w| [w.0[0], w.0[1], w.0[2], w.0[3]]);
+    let [in_two, in_four] = [[2, 1, 2, 1], [4, 3, 4, 3]];
+    assert_eq!(rt; found, [in_two, in_four, in_two, in_two]);
     Ok(())
 }
 
