@@ -349,7 +349,7 @@ where
 /// What is tried at a set.
 pub trait Suite {
     /// What it finds.
-    type Answer: PartialEq + Debug + Drop;
+    type Answer: Copy + PartialEq + Debug;
 
     /// What it finds at a set, of which this is the number: 0, 1 and 2 for 44, 65 and 87.
     fn at<S: TestSet>(&self, number: usize) -> Result<Self::Answer, Fail>
