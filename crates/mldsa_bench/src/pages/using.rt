@@ -1,7 +1,7 @@
 //! The calls of the library one after the other, as docs/USING.md shows them.
 #![tactic(auto)]
 
-ghost use Rattle.std.specs.Prelude.{◌≡◌, ◌<◌, ◌^◌, true, Ok, IfOk};
+ghost use Rattle.std.specs.Prelude.{◌≡◌, true, Ok, IfOk};
 
 use fips204::ml_dsa_44::{self, PK_LEN, SIG_LEN, SK_LEN};
 use fips204::pre_hash::SHA2_256;
@@ -98,19 +98,15 @@ where
     Ok(public.verify(message, &signature, CONTEXT))
 }
 
-/// What `stands` answers of the bytes of the private key of a seed, which fit into memory, for any of the three sets.
-fn stands_of_seed<K, P, S, const SK: usize, const SIG: usize>(
-    seed: &[u8; 32],
-) -> Result<bool, Fault>
+/// The bytes of the private key of a seed, for any of the three sets.
+fn private_bytes<K, P, S, const SK: usize>(seed: &[u8; 32]) -> Result<[u8; SK], Fault>
 where
     K: KeyGen<PublicKey = P, PrivateKey = S>,
     P: Drop,
-    S: SerDes<ByteArray = [u8; SK]> + Signer<Signature = [u8; SIG]> + Drop,
-    S::PublicKey: Drop,
-    requires { SK < 2 ^ 63 }
+    S: SerDes<ByteArray = [u8; SK]> + Drop,
 {
     let (_, private) = K::keygen_from_seed(seed)?;
-    stands::<S, _, _>(private.into_bytes(), &[0; 32], b"a message")
+    Ok(private.into_bytes())
 }
 
 /// Whether the signature of a stored key is accepted for its message and for another, and whether a generator of
@@ -165,11 +161,13 @@ fn three_messages(rt: HostRuntime) {
 /// One generic function signs and verifies at each set with a key read back from its bytes.
 #[test]
 fn one_function_at_three_sets(rt: HostRuntime) -> Result<(), Fail> {
-    let found = [
-        stands_of_seed::<Keys, _, _, _, _>(&[7; 32])?,
-        stands_of_seed::<ml_dsa_65::KG<Sha256Ctr, Sha512Ctr>, _, _, _, _>(&[7; 32])?,
-        stands_of_seed::<ml_dsa_87::KG<Sha256Ctr, Sha512Ctr>, _, _, _, _>(&[7; 32])?,
-    ];
-    assert_eq!(rt; found, [true; 3]);
+    let key = private_bytes::<Keys, _, _, 2560>(&[7; 32])?;
+    assert!(rt; stands::<Private, _, _>(key, &[0; 32], b"a message")?);
+    let key = private_bytes::<ml_dsa_65::KG<Sha256Ctr, Sha512Ctr>, _, _, 4032>(&[7; 32])?;
+    let stands_65 = stands::<ml_dsa_65::PrivateKey<Sha256Ctr, Sha512Ctr>, _, _>;
+    assert!(rt; stands_65(key, &[0; 32], b"a message")?);
+    let key = private_bytes::<ml_dsa_87::KG<Sha256Ctr, Sha512Ctr>, _, _, 4896>(&[7; 32])?;
+    let stands_87 = stands::<ml_dsa_87::PrivateKey<Sha256Ctr, Sha512Ctr>, _, _>;
+    assert!(rt; stands_87(key, &[0; 32], b"a message")?);
     Ok(())
 }
