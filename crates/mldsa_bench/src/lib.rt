@@ -1,12 +1,10 @@
-//! Tests of the library on values from outside; recorded bytes; and the code of the pages for users.
+//! Tests of the library on values from outside, and recorded bytes.
 #![tactic(auto)]
 
 #[cfg(test)]
 mod arithmetic;
-pub mod callers;
 #[cfg(test)]
 mod keys;
-pub mod pages;
 #[cfg(test)]
 mod signatures;
 #[cfg(test)]

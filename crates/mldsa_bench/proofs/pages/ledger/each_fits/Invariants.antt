@@ -1,7 +1,0 @@
-use Rattle.std.proofs.Common.{ℕ, ◌<◌}
-use Rattle.mldsa_bench.specs.Ledger.{FitsPrepared}
-use Rattle.mldsa_bench.specs.declared.pages.ledger.TheConstants.{CONTEXT}
-use Rattle.mldsa_bench.proofs.pages.ledger.each_fits.Given as goal
-
-abbrev pub invariant-loop-place : goal.invariant-loop-place
-invariant-loop-place g l = (k : ℕ) → k < l.place → FitsPrepared g.H.Xof.front l.key CONTEXT.now l.ledger k

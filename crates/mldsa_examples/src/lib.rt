@@ -1,0 +1,18 @@
+//! The code of the pages for users, and programs that users build over the library, to be copied.
+#![tactic(auto)]
+
+pub mod callers;
+pub mod generators;
+pub mod key_store;
+pub mod ledger;
+pub mod licence;
+pub mod manifest;
+pub mod pieces;
+#[cfg(test)]
+mod tests;
+#[cfg(test)]
+mod toy_hash;
+#[cfg(test)]
+mod toy_stream;
+#[cfg(test)]
+mod using;
