@@ -2,14 +2,14 @@
 use Rattle.std.proofs.Common.{◌≡◌, ℕ, Bool, List, [], ◌∷◌, ◌*◌, map, length, get_or, Option, Result, Ok, Err, IfOk, IfErr, Some, None, refl, ap}
 use Rattle.std.proofs.Common.{zero, suc, ◌∙◌}
 use Rattle.fips204.specs.ParameterSets.{ParameterSet, public_key_length, signature_length}
-use Rattle.mldsa_engine.specs.declared.fault.RunFault.{RunFault}
+use Rattle.mldsa_lines.specs.declared.fault.RunFault.{RunFault}
 use Rattle.mldsa_engine.specs.declared.call.Task.{Task}
 use Rattle.mldsa_engine.specs.declared.call.Task.TheVariants.{Batch}
-use Rattle.mldsa_engine.specs.Lines.{TakesLines, Stops}
+use Rattle.mldsa_lines.specs.Lines.{AllFit, TakesLines, Stops}
 use Rattle.mldsa_engine.proofs.Entries.{two_each, batch_taken, stops_batch}
-use Rattle.mldsa_engine.proofs.LinesInSequence.{AllFit-length}
+use Rattle.mldsa_lines.proofs.LinesInSequence.{AllFit-length}
 use Rattle.mldsa_engine.specs.ProgramText.{wanted_lines, input_lines, entry_lines, two_bytes, Answers, Executes}
-use Rattle.mldsa_engine.specs.InnerSteps.{AllFit, JudgesByKey}
+use Rattle.mldsa_engine.specs.InnerSteps.{JudgesByKey}
 
 -- a line that fits has the bytes that are wanted of it
 pub fits_at : {V : Type 0} (items : V → List ℕ) (wanted : List (Option ℕ)) (lines : List V) (index : ℕ) {size : ℕ} (other : V)

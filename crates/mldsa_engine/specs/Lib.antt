@@ -1,5 +1,3 @@
-pub mod Devices
 pub mod Calls
-pub mod Lines
 pub mod ProgramText
 pub mod InnerSteps

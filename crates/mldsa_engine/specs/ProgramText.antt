@@ -11,9 +11,9 @@ use Rattle.fips204.specs.Keys.{PublicParts, IsPublicKeyOf, DecodesPrivate}
 use Rattle.fips204.specs.ParameterSets.{ParameterSet, set_44, set_65, set_87, public_key_length, private_key_length, signature_length}
 use Rattle.fips204.specs.Refusals.{generated, sign_message, VerifiesMessage}
 use Rattle.mldsa_engine.specs.Calls.{first_stream, second_stream, AreCall}
-use Rattle.mldsa_engine.specs.Devices.{MarkedDevice}
-use Rattle.mldsa_engine.specs.Lines.{after_lines, line_bytes, TakesLines, FaultOfLines, InTurn}
-use Rattle.mldsa_engine.specs.declared.fault.RunFault.{RunFault}
+use Rattle.mldsa_lines.specs.Devices.{MarkedDevice}
+use Rattle.mldsa_lines.specs.Lines.{after_lines, line_bytes, TakesLines, FaultOfLines, InTurn}
+use Rattle.mldsa_lines.specs.declared.fault.RunFault.{RunFault}
 use Rattle.mldsa_engine.specs.declared.call.Task.{Task}
 use Rattle.mldsa_engine.specs.declared.call.Task.TheVariants.{Id, Keygen, Sign, Verify, Check, Batch}
 use Rattle.mldsa_engine.specs.declared.call.SetName.{SetName}

@@ -6,8 +6,7 @@ ghost use Rattle.std.specs.Prelude.{Err, IsTrue, IfOk, IfErr};
 ghost use Rattle.fips204.specs.Keys.{PublicParts, IsPublicKeyOf};
 ghost use Rattle.fips204.specs.Prepared.{prepared_public};
 ghost use Rattle.fips204.specs.Refusals.{VerifiesMessage};
-ghost use Rattle.mldsa_engine.specs.InnerSteps.{AllFit, IsInputFault};
-ghost use Rattle.mldsa_engine.specs.Lines.{StopsAt};
+ghost use Rattle.mldsa_lines.specs.Lines.{AllFit, IsInputFault, StopsAt};
 ghost use Rattle.mldsa_engine.specs.ProgramText.{named_set, two_bytes, wanted_lines, entry_lines, input_lines, lines_of_input, hex_text};
 ghost use Rattle.mldsa_engine.specs.ProgramText.{AreSmall, Generates, Signs, Checks, Answers, Executes};
 ghost use Rattle.mldsa_engine.specs.InnerSteps.{AcceptsIfPrepared, JudgesEntries, JudgesByKey};
@@ -15,14 +14,13 @@ ghost use Rattle.mldsa_engine.specs.InnerSteps.{AcceptsIfPrepared, JudgesEntries
 mod writing;
 
 use crate::call::{SetName, Task};
-use crate::fault::RunFault;
-use crate::lines::read_lines;
-use crate::marked::Marked;
 use fips204::sets::{HasSet, KeySizes, Matrix, Set, SignatureSizes};
 use fips204::traits::{KeyGen, SerDes, Signer, Verifier, pairwise_check};
 use fips204::types::{KG, PreparedPublicKey, PrivateKey, PublicKey};
 use fips204::xof::Xof;
 use fips204::{Fault, laws};
+use mldsa_lines::lines::read_lines;
+use mldsa_lines::{Marked, RunFault};
 use std::alloc::Global;
 use std::io::Read;
 use std::marker::PhantomData;

@@ -3,25 +3,18 @@
 
 ghost use Rattle.std.specs.Prelude.{◌≡◌, ◌↔◌, false, Err, IsTrue, IfOk, IfErr, map, string_bytes};
 ghost use Rattle.mldsa_engine.specs.Calls.{AreNoCall};
-ghost use Rattle.mldsa_engine.specs.Devices.{KeepsWritten};
-ghost use Rattle.mldsa_engine.specs.Lines.{IsLineFault};
+ghost use Rattle.mldsa_lines.specs.Devices.{KeepsWritten};
+ghost use Rattle.mldsa_lines.specs.Lines.{IsLineFault};
 ghost use Rattle.mldsa_engine.specs.ProgramText.{RunsOver, RunsCall, FaultOfRun, FaultOfCall, RunInTurn, CallInTurn};
 
 mod answers;
-pub mod bytewise;
 pub mod call;
-pub mod fault;
-pub mod lines;
-pub mod marked;
-pub mod output;
 pub mod process;
 
 use answers::{Output, execute};
-pub use bytewise::Bytewise;
 pub use call::{SetName, Streams, Task};
-pub use fault::RunFault;
 use fips204::xof::{Fill, Sha256Ctr, Sha512Ctr, Xof};
-pub use marked::Marked;
+pub use mldsa_lines::{Bytewise, Marked, RunFault, output};
 use std::alloc::Global;
 use std::io::{Read, Write};
 

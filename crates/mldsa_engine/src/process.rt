@@ -5,7 +5,7 @@ ghost use Rattle.std.specs.Prelude.{◌≡◌, ◌⊎◌, IfErr};
 ghost use Rattle.std.specs.Process.{exit_status};
 ghost use Rattle.mldsa_engine.specs.ProgramText.{status_of};
 
-use crate::fault::RunFault;
+use mldsa_lines::RunFault;
 use std::env;
 use std::io::ErrorKind;
 use std::process::ExitCode;

@@ -4,8 +4,8 @@
 ghost use Rattle.std.specs.Prelude.{◌≡◌, ◌↔◌, ◌++◌, ◌∷◌, [], true, IsTrue, IfOk, IfErr, OnOk};
 ghost use Rattle.mldsa_engine.specs.ProgramText.{text, hex_text, answer_word, Refuses};
 
-use crate::fault::RunFault;
 use fips204::Fault;
+use mldsa_lines::RunFault;
 use std::alloc::Global;
 
 /// The result of a command.

@@ -1,5 +1,5 @@
 use Rattle.std.proofs.Common.{rules}
-use Rattle.mldsa_engine.specs.Lines.{Stops}
+use Rattle.mldsa_lines.specs.Lines.{Stops}
 use Rattle.mldsa_engine.specs.ProgramText.{input_lines}
 use Rattle.mldsa_engine.proofs.Entries.{stops_first}
 use Rattle.mldsa_engine.proofs.LineCounts.{executes_batch, batch_stops}

@@ -1,7 +1,7 @@
 use Rattle.std.proofs.Common.{◌≡◌, false, length, take, map}
-use Rattle.mldsa_engine.specs.InnerSteps.{AllFit}
-use Rattle.mldsa_engine.specs.Lines.{TakesLines}
-use Rattle.mldsa_engine.proofs.lines.read_lines.Given as goal
+use Rattle.mldsa_lines.specs.Lines.{AllFit}
+use Rattle.mldsa_lines.specs.Lines.{TakesLines}
+use Rattle.mldsa_lines.proofs.lines.read_lines.Given as goal
 
 abbrev pub invariant-loop-length : goal.invariant-loop-length
 invariant-loop-length g l = (l.input.failed ≡ false) × (length l.lines.items ≡ l.length-index)

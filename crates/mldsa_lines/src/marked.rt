@@ -17,7 +17,7 @@ pub struct Marked<D> {
 }
 
 impl<D> Model for Marked<D> {
-    ghost use Rattle.mldsa_engine.specs.Devices.{MarkedDevice, marked_code};
+    ghost use Rattle.mldsa_lines.specs.Devices.{MarkedDevice, marked_code};
 
     ghost Value = { MarkedDevice D };
 
@@ -57,7 +57,7 @@ impl<D> Marked<D> {
 impl<D: Read> Marked<D> {
     /// Reads from the device once, and returns how many bytes it gave: none at the end of the input, or if
     /// there is no room.
-    pub(crate) fn read(&mut self, room: &mut [u8]) -> Result<usize, RunFault>
+    pub fn read(&mut self, room: &mut [u8]) -> Result<usize, RunFault>
         requires unmarked { self.old.failed ≡ false }
         ensures mark { MatchResult result (λ _. self.new.failed ≡ false)
             (λ fault. (self.new.failed ≡ true) × (fault ≡ RunFault.Read)) }
@@ -76,7 +76,7 @@ impl<D: Read> Marked<D> {
 
 impl<D: Write> Marked<D> {
     /// Writes to the device once, and returns how many bytes it took: some, unless there are none.
-    pub(crate) fn write(&mut self, bytes: &[u8]) -> Result<usize, RunFault>
+    pub fn write(&mut self, bytes: &[u8]) -> Result<usize, RunFault>
         requires unmarked { self.old.failed ≡ false }
         ensures mark { MatchResult result (λ _. self.new.failed ≡ false)
             (λ fault. (self.new.failed ≡ true) × (fault ≡ RunFault.Write)) }

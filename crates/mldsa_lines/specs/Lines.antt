@@ -5,9 +5,9 @@ use Rattle.std.specs.List.{before_first, after_first}
 use Rattle.hex.specs.Hex.{decode_of}
 use Rattle.hex.specs.declared.error.FromHexError.{FromHexError}
 use Rattle.hex.specs.declared.error.FromHexError.TheVariants.{InvalidHexCharacter, InvalidStringLength, OddLength, OutOfMemory}
-use Rattle.mldsa_engine.specs.Devices.{MarkedDevice}
-use Rattle.mldsa_engine.specs.declared.fault.RunFault.{RunFault}
-use Rattle.mldsa_engine.specs.declared.fault.RunFault.TheVariants.{Usage, Missing, TooLong, NotHex, Length, Read, Write, Memory}
+use Rattle.mldsa_lines.specs.Devices.{MarkedDevice}
+use Rattle.mldsa_lines.specs.declared.fault.RunFault.{RunFault}
+use Rattle.mldsa_lines.specs.declared.fault.RunFault.TheVariants.{Usage, Missing, TooLong, NotHex, Length, Read, Write, Memory}
 
 -- the byte that ends a line: LF
 abbrev pub ends_line : ℕ → Bool
@@ -129,3 +129,26 @@ refused number (InvalidHexCharacter _ _) = NotHex number
 refused number InvalidStringLength = NotHex number
 refused number OddLength = NotHex number
 refused number OutOfMemory = Memory
+
+-- the fault is one that reading an input may end with
+abbrev pub IsInputFault : RunFault → Type 0
+IsInputFault Usage = ⊥
+IsInputFault (Missing _) = ⊤
+IsInputFault (TooLong _) = ⊤
+IsInputFault (NotHex _) = ⊤
+IsInputFault (Length _ _ _) = ⊤
+IsInputFault Read = ⊤
+IsInputFault Write = ⊥
+IsInputFault Memory = ⊤
+
+-- the bytes are as many as are wanted
+abbrev pub Fits : Option ℕ → List ℕ → Type 0
+Fits None bytes = ⊤
+Fits (Some wants) bytes = length bytes ≡ wants
+
+-- each line has as many bytes as are wanted of it
+abbrev pub AllFit : List (Option ℕ) → List (List ℕ) → Type 0
+AllFit [] [] = ⊤
+AllFit [] (line ∷ lines) = ⊥
+AllFit (wanted ∷ later) [] = ⊥
+AllFit (wanted ∷ later) (line ∷ lines) = Fits wanted line × AllFit later lines

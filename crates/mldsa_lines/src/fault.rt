@@ -45,7 +45,7 @@ pub enum RunFault {
 
 impl From<AllocError> for RunFault {
     ghost use Rattle.std.specs.Prelude.{◌≡◌};
-    ghost use Rattle.mldsa_engine.specs.declared.fault.RunFault.TheVariants.{Memory};
+    ghost use Rattle.mldsa_lines.specs.declared.fault.RunFault.TheVariants.{Memory};
 
     ghost from_gives = { λ _ fault. fault ≡ Memory };
 
@@ -56,7 +56,7 @@ impl From<AllocError> for RunFault {
 
 impl<T: Drop> From<AllocFailed<T>> for RunFault {
     ghost use Rattle.std.specs.Prelude.{◌≡◌};
-    ghost use Rattle.mldsa_engine.specs.declared.fault.RunFault.TheVariants.{Memory};
+    ghost use Rattle.mldsa_lines.specs.declared.fault.RunFault.TheVariants.{Memory};
 
     ghost from_gives = { λ _ fault. fault ≡ Memory };
 

@@ -1,6 +1,6 @@
 use Rattle.std.proofs.Common.{length, ◌-◌, ◌≡◌, ◌≤◌, false, take}
 use Rattle.std.specs.Io.KnownBytes.{Appends}
-use Rattle.mldsa_engine.proofs.output.write_all.Given as goal
+use Rattle.mldsa_lines.proofs.output.write_all.Given as goal
 
 abbrev pub invariant-loop-written : goal.invariant-loop-written
 invariant-loop-written g l = (l.output.failed ≡ false) × (l.written ≤ length l.bytes)

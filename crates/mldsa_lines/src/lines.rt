@@ -3,10 +3,9 @@
 
 ghost use Rattle.std.specs.Prelude.{◌≡◌, ◌<◌, ◌≤◌, ◌+◌, ◌^◌, ◌↔◌, ◌∷◌, [], length, take, map, position};
 ghost use Rattle.std.specs.Prelude.{false, true, Ok, Err, IsTrue, IfOk, IfErr, MatchResult};
-ghost use Rattle.mldsa_engine.specs.Lines.{longest_line, line_digits, ends_line, sized, refused};
-ghost use Rattle.mldsa_engine.specs.InnerSteps.{Fits, AllFit, IsInputFault};
-ghost use Rattle.mldsa_engine.specs.InnerSteps.{TakesPiece, TakesLine};
-ghost use Rattle.mldsa_engine.specs.Lines.{TakesLines, StopsAt};
+ghost use Rattle.mldsa_lines.specs.Lines.{longest_line, line_digits, ends_line, sized, refused};
+ghost use Rattle.mldsa_lines.specs.InnerSteps.{TakesPiece, TakesLine};
+ghost use Rattle.mldsa_lines.specs.Lines.{Fits, AllFit, IsInputFault, TakesLines, StopsAt};
 
 use crate::fault::RunFault;
 use crate::marked::Marked;
@@ -212,7 +211,7 @@ fn read_bytes<I: Read>(
 
 /// Reads the bytes of the wanted lines, of which the first has this number: as many bytes of each as are wanted of it, or any
 /// number of them. A line is judged as soon as it is there, and no byte past the last one's LF is taken.
-pub(crate) fn read_lines<I: Read>(
+pub fn read_lines<I: Read>(
     alloc: Global,
     first: usize,
     wanted: &[Option<usize>],

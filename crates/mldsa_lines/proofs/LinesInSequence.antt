@@ -3,11 +3,12 @@ use Rattle.std.proofs.Common.{◌≡◌, ℕ, suc, ◌+◌, List, [], ◌∷◌,
 use Rattle.std.proofs.Common.{refl, sym, ap, ◌∙◌, arith, add-zero, length-take-le, take, drop, map, get_or, ◌<◌, ◌≤◌, subst}
 use Rattle.std.proofs.Common.{take-append-drop}
 use Rattle.std.proofs.lemmas.List.{take_more, drop_more, map-append}
-use Rattle.mldsa_engine.specs.declared.fault.RunFault.{RunFault}
-use Rattle.mldsa_engine.specs.Lines.{longest_line, line_reach, first_line, after_line, after_lines, line_bytes, before_lines, lines_bytes}
-use Rattle.mldsa_engine.specs.InnerSteps.{Fits, AllFit, TakesLine}
-use Rattle.mldsa_engine.specs.Lines.{LeavesAllBut, IsLineFault, TakesLines, StopsInTurn, Stops, judged}
-use Rattle.mldsa_engine.proofs.Judging.{judged_digits}
+use Rattle.mldsa_lines.specs.declared.fault.RunFault.{RunFault}
+use Rattle.mldsa_lines.specs.Lines.{longest_line, line_reach, first_line, after_line, after_lines, line_bytes, before_lines, lines_bytes}
+use Rattle.mldsa_lines.specs.InnerSteps.{TakesLine}
+use Rattle.mldsa_lines.specs.Lines.{Fits, AllFit}
+use Rattle.mldsa_lines.specs.Lines.{LeavesAllBut, IsLineFault, TakesLines, StopsInTurn, Stops, judged}
+use Rattle.mldsa_lines.proofs.Judging.{judged_digits}
 
 -- the lines of one part of an input, and then those of the next, or the first fault among them
 abbrev pub join_lines : Result (List (List ℕ)) RunFault → Result (List (List ℕ)) RunFault → Result (List (List ℕ)) RunFault

@@ -1,7 +1,7 @@
 use Rattle.std.proofs.Common.{rules}
-use Rattle.mldsa_engine.specs.Lines.{Stops}
-use Rattle.mldsa_engine.proofs.LinesInSequence.{next_line, stops_at}
-use Rattle.mldsa_engine.proofs.lines.read_lines.Goals as goal
+use Rattle.mldsa_lines.specs.Lines.{Stops}
+use Rattle.mldsa_lines.proofs.LinesInSequence.{next_line, stops_at}
+use Rattle.mldsa_lines.proofs.lines.read_lines.Goals as goal
 
 pub loop-length-init : goal.loop-length-init
 loop-length-init g c = (search rules, search rules, search rules, search rules)

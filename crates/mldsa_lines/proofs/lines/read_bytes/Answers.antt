@@ -1,6 +1,6 @@
-use Rattle.mldsa_engine.proofs.Judging.{judged_by_decoding}
-use Rattle.mldsa_engine.proofs.LinesInSequence.{takes_judged, stops_judged}
-use Rattle.mldsa_engine.proofs.lines.read_bytes.Goals as goal
+use Rattle.mldsa_lines.proofs.Judging.{judged_by_decoding}
+use Rattle.mldsa_lines.proofs.LinesInSequence.{takes_judged, stops_judged}
+use Rattle.mldsa_lines.proofs.lines.read_bytes.Goals as goal
 
 pub returns-clause-fits : goal.returns-clause-fits
 returns-clause-fits g c =

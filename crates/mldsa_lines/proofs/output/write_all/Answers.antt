@@ -1,7 +1,7 @@
 use Rattle.std.proofs.Common.{take-add, rules}
 use Rattle.std.proofs.lemmas.List.{take_rest}
 use Rattle.std.proofs.KnownBytes.{Appends-trans}
-use Rattle.mldsa_engine.proofs.output.write_all.Goals as goal
+use Rattle.mldsa_lines.proofs.output.write_all.Goals as goal
 
 pub loop-written-preserved : goal.loop-written-preserved
 loop-written-preserved g c =

@@ -11,13 +11,13 @@ use Rattle.std.proofs.Math.Seq.{take-append_seam, drop-append_seam, take-length}
 use Rattle.std.proofs.Math.ListN.{drop_of_length-le}
 use Rattle.std.proofs.KnownBytes.{Consumes-trans}
 use Rattle.std.specs.Io.KnownBytes.{Consumes, IsAtEnd}
-use Rattle.mldsa_engine.specs.declared.lines.Ending.{Ending}
-use Rattle.mldsa_engine.specs.declared.lines.Ending.TheVariants.{Open, Line, Input}
-use Rattle.mldsa_engine.specs.declared.fault.RunFault.TheVariants.{TooLong}
-use Rattle.mldsa_engine.specs.Lines.{ends_line, first_line, longest_line, line_digits, line_reach, before_lines, line_bytes}
-use Rattle.mldsa_engine.specs.Lines.{Stops, LeavesAllBut}
-use Rattle.mldsa_engine.specs.InnerSteps.{HasNoEnd, TakesPiece, TakesLine}
-use Rattle.mldsa_engine.proofs.Judging.{judged_long}
+use Rattle.mldsa_lines.specs.declared.lines.Ending.{Ending}
+use Rattle.mldsa_lines.specs.declared.lines.Ending.TheVariants.{Open, Line, Input}
+use Rattle.mldsa_lines.specs.declared.fault.RunFault.TheVariants.{TooLong}
+use Rattle.mldsa_lines.specs.Lines.{ends_line, first_line, longest_line, line_digits, line_reach, before_lines, line_bytes}
+use Rattle.mldsa_lines.specs.Lines.{Stops, LeavesAllBut}
+use Rattle.mldsa_lines.specs.InnerSteps.{HasNoEnd, TakesPiece, TakesLine}
+use Rattle.mldsa_lines.proofs.Judging.{judged_long}
 
 pub end_after : (line rest : List ℕ) → HasNoEnd line
     → position_or_len ends_line (line ++ rest) ≡ length line + position_or_len ends_line rest

@@ -1,8 +1,8 @@
 use Rattle.std.proofs.Common.{◌≡◌, ◌∷◌, [], ◌∙◌, ap, arith, get_or, rules, take, take-suc}
 use Rattle.std.proofs.KnownBytes.{Consumes-trans}
 use Rattle.std.proofs.lemmas.List.{take_more_set}
-use Rattle.mldsa_engine.proofs.Endings.{has_no_end-append, has_no_end-one}
-use Rattle.mldsa_engine.proofs.lines.read_singly.Goals as goal
+use Rattle.mldsa_lines.proofs.Endings.{has_no_end-append, has_no_end-one}
+use Rattle.mldsa_lines.proofs.lines.read_singly.Goals as goal
 
 pub returns-then-character-eq10-clause-taken : goal.returns-then-character-eq10-clause-taken
 returns-then-character-eq10-clause-taken g c =

@@ -7,10 +7,9 @@ use Rattle.hex.specs.Hex.{decode_of}
 use Rattle.hex.proofs.HexLemmas.{decode_of-ok}
 use Rattle.hex.specs.declared.error.FromHexError.{FromHexError}
 use Rattle.hex.specs.declared.error.FromHexError.TheVariants.{InvalidHexCharacter, InvalidStringLength, OddLength, OutOfMemory}
-use Rattle.mldsa_engine.specs.declared.fault.RunFault.{RunFault}
-use Rattle.mldsa_engine.specs.declared.fault.RunFault.TheVariants.{TooLong, NotHex, Length}
-use Rattle.mldsa_engine.specs.Lines.{longest_line, line_digits, judged, decoded, sized, refused, IsLineFault}
-use Rattle.mldsa_engine.specs.InnerSteps.{Fits}
+use Rattle.mldsa_lines.specs.declared.fault.RunFault.{RunFault}
+use Rattle.mldsa_lines.specs.declared.fault.RunFault.TheVariants.{TooLong, NotHex, Length}
+use Rattle.mldsa_lines.specs.Lines.{longest_line, line_digits, judged, decoded, sized, refused, IsLineFault, Fits}
 
 pub judged_short : (number : ℕ) (wanted : Option ℕ) (line : List ℕ) → length line ≤ longest_line
     → judged number wanted line ≡ decoded number wanted (decode_of line)

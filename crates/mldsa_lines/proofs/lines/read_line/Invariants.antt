@@ -1,8 +1,8 @@
 use Rattle.std.proofs.Common.{◌≡◌, ◌+◌, ◌-◌, ◌≤◌, length, false, vec_len}
 use Rattle.std.specs.Io.KnownBytes.{Consumes}
-use Rattle.mldsa_engine.specs.Lines.{longest_line}
-use Rattle.mldsa_engine.specs.InnerSteps.{HasNoEnd}
-use Rattle.mldsa_engine.proofs.lines.read_line.Given as goal
+use Rattle.mldsa_lines.specs.Lines.{longest_line}
+use Rattle.mldsa_lines.specs.InnerSteps.{HasNoEnd}
+use Rattle.mldsa_lines.proofs.lines.read_line.Given as goal
 
 abbrev pub invariant-loop-line : goal.invariant-loop-line
 invariant-loop-line g l = (l.input.failed ≡ false) × (length l.line.items ≤ longest_line + 1) × HasNoEnd l.line.items

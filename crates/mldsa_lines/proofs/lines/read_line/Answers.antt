@@ -1,9 +1,9 @@
 use Rattle.std.proofs.Common.{◌≡◌, ◌<◌, ◌≤◌, ◌+◌, ◌-◌, ◌∙◌, ◌++◌, ℕ, List, min, rules, arith, take, drop, length, length-append}
 use Rattle.std.proofs.Common.{length-take, length-take-le}
 use Rattle.std.proofs.lemmas.List.{take-append-le}
-use Rattle.mldsa_engine.specs.Lines.{longest_line}
-use Rattle.mldsa_engine.proofs.Endings.{goes_on, ends_with_line, ends_with_input, long_line}
-use Rattle.mldsa_engine.proofs.lines.read_line.Goals as goal
+use Rattle.mldsa_lines.specs.Lines.{longest_line}
+use Rattle.mldsa_lines.proofs.Endings.{goes_on, ends_with_line, ends_with_input, long_line}
+use Rattle.mldsa_lines.proofs.lines.read_line.Goals as goal
 
 -- a piece leaves the line at most one character too long
 short_enough : (room whole most length : ℕ) → room ≡ min most whole → most ≤ longest_line + 1 - length → length ≤ longest_line

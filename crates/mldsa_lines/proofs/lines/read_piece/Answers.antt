@@ -1,7 +1,7 @@
 use Rattle.std.proofs.Common.{rules, drop, length-append, ◌∙◌, sym, arith}
 use Rattle.std.proofs.lemmas.List.{take-append-le}
-use Rattle.mldsa_engine.proofs.Endings.{ended_at_once, no_end}
-use Rattle.mldsa_engine.proofs.lines.read_piece.Goals as goal
+use Rattle.mldsa_lines.proofs.Endings.{ended_at_once, no_end}
+use Rattle.mldsa_lines.proofs.lines.read_piece.Goals as goal
 
 pub returns-in-Some-clause-taken : goal.returns-in-Some-clause-taken
 returns-in-Some-clause-taken g c =

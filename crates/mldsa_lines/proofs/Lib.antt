@@ -1,0 +1,3 @@
+mod Endings
+mod Judging
+pub mod LinesInSequence
