@@ -1,8 +1,11 @@
-use Rattle.std.proofs.Common.{rules}
+use Rattle.std.proofs.Common.{rules, arith, length, refl, sym, ap, ◌∙◌}
+use Rattle.std.proofs.lemmas.List.{length-map}
 use Rattle.mldsa_lines.specs.Lines.{Stops}
-use Rattle.mldsa_engine.specs.ProgramText.{input_lines}
+use Rattle.mldsa_lines.proofs.LinesInSequence.{AllFit-length}
+use Rattle.mldsa_engine.specs.declared.call.Task.TheVariants.{Batch}
+use Rattle.mldsa_engine.specs.ProgramText.{input_lines, wanted_lines}
 use Rattle.mldsa_engine.proofs.Entries.{stops_first}
-use Rattle.mldsa_engine.proofs.LineCounts.{executes_batch, batch_stops}
+use Rattle.mldsa_engine.proofs.LineCounts.{executes_batch, batch_stops, fits_at}
 use Rattle.mldsa_engine.proofs.answers.AtSet.execute.Goals as goal
 
 pub returns-in_err-lines-clause-stops : goal.returns-in_err-lines-clause-stops
@@ -30,3 +33,34 @@ returns-in-Batch-clause-stops g c =
     rw c.in-Batch.is (batch_stops (λ line. line.items) g.S.Set.set _ _ _ c.in_ok-lines.lines.items _ _ _ _ _ _
     fit taken c.index-in-Batch.ensures c.index-in-Batch-2.ensures c.index.ensures c.as_slice.ensures.value c.number_of-count.ensures.value
     (rw sizes.signature at c.judge_batch.ensures.stops))
+
+pub index-requires : goal.index-requires
+index-requires g c =
+    let fit = rw (c.wanted-count.ensures.lines, c.in-Batch.is) at c.in_ok-lines.ensures.fit in
+    let long = sym (length-map c.in_ok-lines.lines.items (λ line. line.items)) ∙ AllFit-length (wanted_lines Batch g.S.Set.set) _ fit in
+    omega (arith, long)
+
+pub index-requires-in-Batch : goal.index-requires-in-Batch
+index-requires-in-Batch g c =
+    let fit = rw (c.wanted-count.ensures.lines, c.in-Batch.is) at c.in_ok-lines.ensures.fit in
+    let long = sym (length-map c.in_ok-lines.lines.items (λ line. line.items)) ∙ AllFit-length (wanted_lines Batch g.S.Set.set) _ fit in
+    omega (arith, long)
+
+pub index-requires-in-Batch-2 : goal.index-requires-in-Batch-2
+index-requires-in-Batch-2 g c =
+    let fit = rw (c.wanted-count.ensures.lines, c.in-Batch.is) at c.in_ok-lines.ensures.fit in
+    let long = sym (length-map c.in_ok-lines.lines.items (λ line. line.items)) ∙ AllFit-length (wanted_lines Batch g.S.Set.set) _ fit in
+    omega (arith, long)
+
+pub number_of-count-requires : goal.number_of-count-requires
+number_of-count-requires g c =
+    let fit = rw (c.wanted-count.ensures.lines, c.in-Batch.is) at c.in_ok-lines.ensures.fit in
+    ap length c.as_slice.ensures.value ∙ ap (λ line. length line.items) c.index.ensures
+    ∙ fits_at (λ line. line.items) (wanted_lines Batch g.S.Set.set) c.in_ok-lines.lines.items 2 _ fit refl
+
+pub judge_batch-requires-clause-key : goal.judge_batch-requires-clause-key
+judge_batch-requires-clause-key g c =
+    let fit = rw (c.wanted-count.ensures.lines, c.in-Batch.is) at c.in_ok-lines.ensures.fit in
+    ap length c.as_slice-key.ensures.value ∙ ap (λ line. length line.items) c.index-in-Batch.ensures
+    ∙ fits_at (λ line. line.items) (wanted_lines Batch g.S.Set.set) c.in_ok-lines.lines.items 0 _ fit refl
+    ∙ sym g.met.S.KeySizes.key_sizes.public_key

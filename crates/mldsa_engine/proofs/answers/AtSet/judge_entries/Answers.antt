@@ -1,8 +1,11 @@
-use Rattle.std.proofs.Common.{rules, ℕ, List, ◌∙◌}
+use Rattle.std.proofs.Common.{rules, arith, ℕ, List, [], ◌∷◌, length, Some, None, refl, sym, ap, ◌∙◌}
+use Rattle.std.proofs.lemmas.List.{length-map}
 use Rattle.mldsa_lines.specs.Lines.{Stops}
 use Rattle.mldsa_engine.specs.ProgramText.{entry_lines}
 use Rattle.mldsa_engine.specs.InnerSteps.{AcceptsIfPrepared}
+use Rattle.mldsa_lines.proofs.LinesInSequence.{AllFit-length}
 use Rattle.mldsa_engine.proofs.Entries.{stops_entry}
+use Rattle.mldsa_engine.proofs.LineCounts.{fits_at}
 use Rattle.mldsa_engine.proofs.Verdicts.{judges_none, judges_next}
 use Rattle.mldsa_engine.proofs.answers.AtSet.judge_entries.Goals as goal
 
@@ -33,3 +36,20 @@ loop-entry-preserved g c =
           signature c.as_slice-message.ensures.value c.is_accepted-accepted.ensures
           c.in_ok-add_answer.ensures.text c.in_ok-add_answer.ensures.success c.loop-entry.invariant.1,
     )
+
+pub index-requires : goal.index-requires
+index-requires g c =
+    let long = sym (length-map c.in_ok-lines.lines.items (λ line. line.items)) ∙ AllFit-length (Some g.row.SIG_LEN ∷ None ∷ []) _ c.in_ok-lines.ensures.fit in
+    omega (arith, long)
+
+pub index-requires-in-loop-entry : goal.index-requires-in-loop-entry
+index-requires-in-loop-entry g c =
+    let long = sym (length-map c.in_ok-lines.lines.items (λ line. line.items)) ∙ AllFit-length (Some g.row.SIG_LEN ∷ None ∷ []) _ c.in_ok-lines.ensures.fit in
+    omega (arith, long)
+
+pub array_of-signature-requires : goal.array_of-signature-requires
+array_of-signature-requires g c =
+    let small = c.as_slice.type_inv.1 in
+    let sized = ap length c.as_slice.ensures.value ∙ ap (λ line. length line.items) c.index.ensures
+    ∙ fits_at (λ line. line.items) (Some g.row.SIG_LEN ∷ None ∷ []) c.in_ok-lines.lines.items 0 _ c.in_ok-lines.ensures.fit refl in
+    (omega (arith, small, sized), sized)
