@@ -167,10 +167,6 @@ commitment-decides p H a t1 mu sig c_tilde z h c u w k l answer known rows colum
     accepts-by_parts p H a t1 mu sig c_tilde z h answer known parts
     (decided (set_of p) H a t1 z h (hinted (set_of p) h (vector_coefficients w)) mu c_tilde (challenge (nat_abs p.tau) (H c_tilde)) c answer ball w1 verdict)
 
--- ranges of the parts
-pub short-response : (p : Params) (L : ℕ) (sig c_tilde : List ℕ) (z h : List R) → IsKnown p → L ≡ p.l → HasShortParts (set_of p) sig c_tilde z h → VectorWithin L 524288 z
-short-response p L sig c_tilde z h known columns parts = response-within (nat_abs p.gamma1) L z (mask-size p.gamma1 (limits p known).mask).1 (rw columns parts.parts.response)
-
 -- with the matrix at hand acceptance is that of the plain key
 pub verifies-with : (p : ParameterSet) (H G : List ℕ → List ℕ) (pk : PublicParts) (mu sig : List ℕ) (a : List (List T)) (answer : Bool)
     → sampled_matrix G pk.rho p.k p.l ≡ Some a → (IsTrue answer ↔ Accepts p H a pk.t1 mu sig) → IsTrue answer ↔ Verifies p H G pk mu sig

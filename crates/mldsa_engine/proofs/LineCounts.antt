@@ -1,6 +1,7 @@
 -- Lines that are as many as a command wants, and what it then writes for them.
-use Rattle.std.proofs.Common.{◌≡◌, ℕ, Bool, List, [], ◌∷◌, ◌*◌, map, length, get_or, Option, Result, Ok, Err, IfOk, IfErr, Some, None, refl, ap}
+use Rattle.std.proofs.Common.{◌≡◌, ℕ, Bool, List, [], ◌∷◌, ◌*◌, map, length, get_or, Option, Result, Ok, Err, IfOk, IfErr, Some, None, refl, sym, ap}
 use Rattle.std.proofs.Common.{zero, suc, ◌∙◌}
+use Rattle.std.proofs.lemmas.List.{length-map}
 use Rattle.fips204.specs.ParameterSets.{ParameterSet, public_key_length, signature_length}
 use Rattle.mldsa_lines.specs.declared.fault.RunFault.{RunFault}
 use Rattle.mldsa_engine.specs.declared.call.Task.{Task}
@@ -18,6 +19,11 @@ fits_at items [] lines index other fit is = cc is
 fits_at items (want ∷ wanted) [] index other fit is = absurd fit
 fits_at items (want ∷ wanted) (line ∷ lines) zero other fit is = rw is at fit.0
 fits_at items (want ∷ wanted) (line ∷ lines) (suc index) other fit is = fits_at items wanted lines index other fit.1 is
+
+-- lines that fit are as many as are wanted
+pub counted : {V : Type 0} (items : V → List ℕ) (wanted : List (Option ℕ)) (lines : List V) → AllFit wanted (map items lines)
+    → length lines ≡ length wanted
+counted items wanted lines fit = sym (length-map lines items) ∙ AllFit-length wanted (map items lines) fit
 
 -- one line is wanted, so the first is all of them
 one_counted : {V : Type 0} (items : V → List ℕ) (w : Option ℕ) (lines : List V) (first : V)

@@ -1,22 +1,22 @@
--- The answers of a batch, one after another, and by a prepared key.
+-- What is told of a signature, and the answers of a batch, one after another, and by a prepared key.
 use Rattle.std.proofs.Common.{◌≡◌, ℕ, ◌+◌, ◌*◌, ◌<◌, Bool, true, false, IsTrue, ◌↔◌, List, [], ◌∷◌, ◌++◌, length, map, get_or, inl, inr}
 use Rattle.std.proofs.Common.{refl, sym, ap, ◌∙◌, arith, subst, length-append, Result, Ok, Err, Some, None}
 use Rattle.std.proofs.lemmas.List.{get_or_append_left, get_or-append-add, map-append, flat_map_more}
 use Rattle.std.proofs.lemmas.List.Elements.{All-nil, All-push, All-pop}
 use Rattle.std.proofs.lemmas.Bool.{cases_eq}
-use Rattle.std.specs.Prelude.{IfOk, ok_or, option_map}
+use Rattle.std.specs.Prelude.{IfOk, MatchResult, ok_or, option_map}
 use Rattle.std.specs.declared.option.Option.{Option}
 use Rattle.fips204.specs.fault.Fault.{Fault}
 use Rattle.fips204.specs.fault.Fault.TheVariants.{SamplingLimit}
 use Rattle.fips204.specs.Framing.{plain}
-use Rattle.fips204.specs.Keys.{PublicParts, IsPublicKeyOf}
+use Rattle.fips204.specs.Keys.{PublicParts, PrivateParts, IsPublicKeyOf, DecodesPrivate}
 use Rattle.fips204.specs.Sampling.{sampled_matrix}
 use Rattle.fips204.specs.ParameterSets.{ParameterSet, signature_length}
 use Rattle.fips204.specs.Prepared.{PreparedPublic, prepared_public, PreparedAnswersAsPlain}
-use Rattle.fips204.specs.Refusals.{VerifiesMessage}
+use Rattle.fips204.specs.Refusals.{sign_message, VerifiesMessage}
 use Rattle.fips204.specs.declared.types.T.{T}
 use Rattle.mldsa_lines.specs.Lines.{AllFit, TakesLines}
-use Rattle.mldsa_engine.specs.ProgramText.{text, answer_word, entry_lines, AnswersEach, TellsAll, Judges}
+use Rattle.mldsa_engine.specs.ProgramText.{text, answer_word, entry_lines, Refuses, Tells, Signs, AnswersEach, TellsAll, Judges}
 use Rattle.mldsa_engine.specs.InnerSteps.{AcceptsIfPrepared, JudgesEntries, JudgesByKey}
 use Rattle.mldsa_lines.proofs.LinesInSequence.{no_lines}
 use Rattle.mldsa_engine.proofs.Entries.{next_entry}
@@ -141,3 +141,14 @@ pub judges_told : {W E : Type 0} (output : W → List ℕ) (success : W → Bool
     → IfOk result (λ it. Judges p H G key signature context message (output it) (success it))
 judges_told output success p H G key signature context message answer (Err fault) now told = told
 judges_told output success p H G key signature context message answer (Ok it) (pk, is, now) told = rw told.1 (pk, is, now, told.0)
+
+-- what is told of a signature by the key that bytes spell, or of a refusal, is what `sign` writes
+pub signs_told : {W E : Type 0} (output : W → List ℕ) (success : W → Bool) (p : ParameterSet) (H G : List ℕ → List ℕ)
+    (key seed context message : List ℕ) (decoded : Result PrivateParts Fault) (result : Result W E)
+    → DecodesPrivate p.eta p.k p.l key decoded
+    → IfOk result (λ it. MatchResult decoded
+    (λ sk. Tells (λ signature. signature ∷ []) (sign_message p H G sk seed message context) (output it) (success it))
+    (λ fault. Refuses fault (output it) (success it)))
+    → IfOk result (λ it. Signs p H G key seed context message (output it) (success it))
+signs_told output success p H G key seed context message decoded (Err fault) decodes told = told
+signs_told output success p H G key seed context message decoded (Ok it) decodes told = (decoded, decodes, told)

@@ -1,11 +1,11 @@
 //! Verifying a signature (FIPS 204, Algorithm 8).
 #![tactic(auto)]
 
-ghost use Rattle.std.specs.Prelude.{◌≡◌, ◌≤◌, ◌<◌, ◌⊎◌, ◌-◌, ◌*◌, ◌%◌, ◌≤ℤ◌, ◌↔◌, ℕ, List, pos, nat_abs, IsTrue, Some, int_lt, MatchOption};
+ghost use Rattle.std.specs.Prelude.{◌≡◌, ◌≤◌, ◌<◌, ◌⊎◌, ◌-◌, ◌*◌, ◌%◌, ◌≤ℤ◌, ◌↔◌, ℕ, List, pos, nat_abs, IsTrue, Some, int_lt, IfSome, MatchOption};
 ghost use Rattle.std.specs.List.{All};
 ghost use Rattle.fips204_base.specs.Sampling.{challenge};
 ghost use Rattle.fips204_base.specs.Packing.{PolynomialInRange};
-ghost use Rattle.fips204_base.specs.Vectors.{VectorWithin};
+ghost use Rattle.fips204_base.specs.Vectors.{PolynomialWithin, VectorWithin};
 ghost use Rattle.fips204_base.specs.Residues.{residue};
 ghost use Rattle.fips204_base.specs.Rounding.{high_values, use_hint};
 ghost use Rattle.fips204_base.specs.Vectors.{IsVector, vector_coefficients};
@@ -81,14 +81,16 @@ pub(crate) fn verify_prepared<
 }
 
 /// The parts `c_tilde`, `z` and `h` of a signature and its challenge (lines 2 to 8), or `None` where its last
-/// bytes spell no hint, the norm of `z` is not below gamma1 - beta, or the challenge passes its limit.
+/// bytes spell no hint, the norm of `z` is not below gamma1 - beta, or the challenge passes its limit. Coefficients
+/// of `z` and of the challenge are below `q` in absolute value.
 #[inline(always)]
 fn opened<const K: usize, const L: usize, const LAMBDA_DIV4: usize, const SIG_LEN: usize, H: Xof>(
     p: &Params,
     sig: &[u8; SIG_LEN],
 ) -> Option<([u8; LAMBDA_DIV4], [R; L], [R; K], R)>
     requires sizes { HasSizes (set_of p.now) K L LAMBDA_DIV4 SIG_LEN }
-    ensures { MatchOption result
+    ensures within { IfSome result (λ parts. ((K ≤ 8) × (L ≤ 7)) × VectorWithin L 8380416 parts.1 × PolynomialWithin 8380416 parts.3.0) }
+    ensures parts { MatchOption result
         ((c_tilde : List ℕ) (z h : List R) (c : R) → HasShortParts (set_of p.now) sig.now c_tilde z h → challenge (nat_abs p.now.tau) (H.front c_tilde) ≡ Some c → ⊥)
         (λ parts. HasShortParts (set_of p.now) sig.now parts.0 parts.1 parts.2 × (challenge (nat_abs p.now.tau) (H.front parts.0) ≡ Some parts.3)) }
 {

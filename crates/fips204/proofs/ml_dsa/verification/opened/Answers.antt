@@ -9,6 +9,7 @@ use Rattle.fips204_base.proofs.Sampled.{some_of_ok, none_of_err}
 use Rattle.fips204.specs.ParameterSets.{commitment_length}
 use Rattle.fips204.specs.Sets.{set_of}
 use Rattle.fips204.proofs.ParameterSets.{limits, mask-size, signature-size}
+use Rattle.fips204.proofs.Ranges.{challenge-reduced}
 use Rattle.fips204.proofs.Verification.{response-within, same_norm}
 use Rattle.fips204.proofs.ml_dsa.verification.opened.Given.{Over}
 use Rattle.fips204.proofs.ml_dsa.verification.opened.Goals.{After-has_norm_below}
@@ -53,19 +54,19 @@ decoded g c =
 bound-is : (g : Over) (c : After-has_norm_below g) → nat_abs (to_z w32 (of_z w32 c.z_bound.result)) ≡ (set_of c.args.p.now).gamma1 - (set_of c.args.p.now).beta
 bound-is g c = ap nat_abs (to_z-of_z w32 c.z_bound.result (search rules) ∙ c.z_bound.ensures)
 
-pub returns-then-not-has_norm_below : goal.returns-then-not-has_norm_below
-returns-then-not-has_norm_below g c =
+pub returns-then-not-has_norm_below-clause-parts : goal.returns-then-not-has_norm_below-clause-parts
+returns-then-not-has_norm_below-clause-parts g c =
     let p = set_of c.args.p.now in
-    let k = (goal.at.returns-then-not-has_norm_below g c).After-has_norm_below in
+    let k = (goal.at.returns-then-not-has_norm_below-clause-parts g c).After-has_norm_below in
     let sizes = mask-size c.args.p.now.gamma1 (limits c.args.p.now (search rules)).mask in
     let test = rw (bound-is g k) at c.has_norm_below.ensures in
     λ c_tilde z h ball found there. absurd (true≢false (sym (test ∙ lt-ltb _ _ (same_norm p c.args.sig.now c.in_ok-c_tilde.c_tilde c_tilde c.in_ok-c_tilde.z z c.in_ok-c_tilde.h h
     sizes.0 (omega (arith, sizes.1)) (decoded g k) found)) ∙ c.if-not-has_norm_below.true))
 
-pub returns-in-Err : goal.returns-in-Err
-returns-in-Err g c =
+pub returns-in-Err-clause-parts : goal.returns-in-Err-clause-parts
+returns-in-Err-clause-parts g c =
     let p = c.args.p.now in
-    let k = (goal.at.returns-in-Err g c).After-has_norm_below in
+    let k = (goal.at.returns-in-Err-clause-parts g c).After-has_norm_below in
     let front = g.H.Xof.front in
     let T : to_z w32 (of_z w32 p.tau) ≡ p.tau = search rules in
     let sizes = mask-size p.gamma1 (limits p (search rules)).mask in
@@ -76,11 +77,20 @@ returns-in-Err g c =
     sizes.0 (omega (arith, sizes.1)) (decoded g k) found.parts in
     absurd (none-some ball (sym here ∙ ap (λ (x : List ℕ). challenge (nat_abs p.tau) (front x)) same.0 ∙ there))
 
-pub returns-in-Ok : goal.returns-in-Ok
-returns-in-Ok g c =
+pub returns-in-Ok-clause-parts : goal.returns-in-Ok-clause-parts
+returns-in-Ok-clause-parts g c =
     let p = c.args.p.now in
-    let k = (goal.at.returns-in-Ok g c).After-has_norm_below in
+    let k = (goal.at.returns-in-Ok-clause-parts g c).After-has_norm_below in
     let front = g.H.Xof.front in
     let T : to_z w32 (of_z w32 p.tau) ≡ p.tau = search rules in
     let ball = some_of_ok (challenge (nat_abs (to_z w32 (of_z w32 p.tau))) (front c.in_ok-c_tilde.c_tilde)) c.in-Ok.c c.in-Ok.ensures in
     (record { parts = decoded g k; norm = ltb-true _ _ (sym (rw (bound-is g k) at c.has_norm_below.ensures) ∙ c.if-not-has_norm_below.false) }, rw T at ball)
+
+pub returns-in-Ok-clause-within : goal.returns-in-Ok-clause-within
+returns-in-Ok-clause-within g c =
+    let p = c.args.p.now in
+    let k = (goal.at.returns-in-Ok-clause-within g c).After-has_norm_below in
+    let some = limits p (search rules) in
+    let z = response-within (nat_abs p.gamma1) g.row.L c.in_ok-c_tilde.z (mask-size p.gamma1 some.mask).1 (rw c.requires.sizes.columns (decoded g k).response) in
+    ((rw c.requires.sizes.rows some.few_rows, rw c.requires.sizes.columns some.few_columns), λ r n i m. (let x = z r n i m in omega (arith, x)),
+    challenge-reduced _ _ c.in-Ok.c (some_of_ok _ c.in-Ok.c c.in-Ok.ensures))

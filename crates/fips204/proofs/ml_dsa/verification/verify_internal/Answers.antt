@@ -1,27 +1,11 @@
-use Rattle.std.proofs.Common.{rules, arith, ◌≡◌, ◌≤◌, IsTrue, Some, ap}
+use Rattle.std.proofs.Common.{rules, ◌≡◌, IsTrue, Some, ap}
 use Rattle.std.specs.Prelude.{◌↔◌}
 use Rattle.fips204_base.specs.Sampling.{sampled_matrix}
 use Rattle.fips204.specs.Signing.{commitment}
 use Rattle.fips204.specs.Keys.{PublicParts}
 use Rattle.fips204.specs.Sets.{set_of}
-use Rattle.fips204.proofs.ParameterSets.{IsKnown, limits}
-use Rattle.fips204.proofs.Ranges.{challenge-reduced}
-use Rattle.fips204.proofs.Verification.{short-response, commitment-decides, verifies-with}
+use Rattle.fips204.proofs.Verification.{commitment-decides, verifies-with}
 use Rattle.fips204.proofs.ml_dsa.verification.verify_internal.Goals as goal
-
-pub write_expanded_times_vector_less-requires : goal.write_expanded_times_vector_less-requires
-write_expanded_times_vector_less-requires g c =
-    let p = c.args.p.now in
-    let known : IsKnown p = search rules in
-    let some = limits p known in
-    let rows : g.row.K ≤ 8 = rw c.requires.sizes.rows some.few_rows in
-    let columns : g.row.L ≤ 7 = rw c.requires.sizes.columns some.few_columns in
-    let z = short-response p g.row.L c.args.sig.now c.in-Some.parts.0 c.in-Some.parts.1 c.in-Some.parts.2 known c.requires.sizes.columns c.in-Some.ensures.0 in
-    (omega (arith, columns), (omega (arith, rows), ((rows, columns), ((λ r n i m. (let x = z r n i m in omega (arith, x))), (challenge-reduced _ _ c.in-Some.parts.3 c.in-Some.ensures.1, c.t1_shifted.ensures.range)))))
-
-pub commitment-requires : goal.commitment-requires
-commitment-requires g c =
-    (search rules, (search rules, (c.requires.sizes.rows, (c.requires.sizes.commitment, c.write_hinted.ensures.range))))
 
 pub returns-in-Ok : goal.returns-in-Ok
 returns-in-Ok g c =
@@ -33,5 +17,5 @@ returns-in-Ok g c =
     let matrix : sampled_matrix g.G.Xof.front c.args.pk.now.rho p.k p.l ≡ Some sampled.0 = rw (rho, c.requires.sizes.rows, c.requires.sizes.columns) at there in
     let verdict : IsTrue c.eq.result ↔ (c.in-Some.parts.0 ≡ commitment (set_of p) g.H.Xof.front c.args.mu.now c.write_hinted.new.w) = search rules in
     let decided = commitment-decides p g.H.Xof.front sampled.0 c.pk.inside.t1 c.args.mu.now c.args.sig.now c.in-Some.parts.0 c.in-Some.parts.1 c.in-Some.parts.2 c.in-Some.parts.3 c.t1_shifted.result c.write_expanded_times_vector_less.new.out g.row.K g.row.L c.eq.result
-    (search rules) c.requires.sizes.rows c.requires.sizes.columns c.in-Some.ensures.0 c.in-Some.ensures.1 c.t1_shifted.ensures.values sampled.2 (rw c.write_hinted.ensures.values at verdict) in
+    (search rules) c.requires.sizes.rows c.requires.sizes.columns c.in-Some.ensures.parts.0 c.in-Some.ensures.parts.1 c.t1_shifted.ensures.values sampled.2 (rw c.write_hinted.ensures.values at verdict) in
     verifies-with (set_of p) g.H.Xof.front g.G.Xof.front c.args.pk.now c.args.mu.now c.args.sig.now sampled.0 c.eq.result matrix (rw t1 at decided)

@@ -1,11 +1,9 @@
 use Rattle.std.proofs.Common.{rules, arith, length, refl, sym, ap, ◌∙◌}
-use Rattle.std.proofs.lemmas.List.{length-map}
 use Rattle.mldsa_lines.specs.Lines.{Stops}
-use Rattle.mldsa_lines.proofs.LinesInSequence.{AllFit-length}
 use Rattle.mldsa_engine.specs.declared.call.Task.TheVariants.{Batch}
 use Rattle.mldsa_engine.specs.ProgramText.{input_lines, wanted_lines}
 use Rattle.mldsa_engine.proofs.Entries.{stops_first}
-use Rattle.mldsa_engine.proofs.LineCounts.{executes_batch, batch_stops, fits_at}
+use Rattle.mldsa_engine.proofs.LineCounts.{executes_batch, batch_stops, counted, fits_at}
 use Rattle.mldsa_engine.proofs.answers.AtSet.execute.Goals as goal
 
 pub returns-in_err-lines-clause-stops : goal.returns-in_err-lines-clause-stops
@@ -37,20 +35,17 @@ returns-in-Batch-clause-stops g c =
 pub index-requires : goal.index-requires
 index-requires g c =
     let fit = rw (c.wanted-count.ensures.lines, c.in-Batch.is) at c.in_ok-lines.ensures.fit in
-    let long = sym (length-map c.in_ok-lines.lines.items (λ line. line.items)) ∙ AllFit-length (wanted_lines Batch g.S.Set.set) _ fit in
-    omega (arith, long)
+    omega (arith, counted (λ line. line.items) (wanted_lines Batch g.S.Set.set) _ fit)
 
 pub index-requires-in-Batch : goal.index-requires-in-Batch
 index-requires-in-Batch g c =
     let fit = rw (c.wanted-count.ensures.lines, c.in-Batch.is) at c.in_ok-lines.ensures.fit in
-    let long = sym (length-map c.in_ok-lines.lines.items (λ line. line.items)) ∙ AllFit-length (wanted_lines Batch g.S.Set.set) _ fit in
-    omega (arith, long)
+    omega (arith, counted (λ line. line.items) (wanted_lines Batch g.S.Set.set) _ fit)
 
 pub index-requires-in-Batch-2 : goal.index-requires-in-Batch-2
 index-requires-in-Batch-2 g c =
     let fit = rw (c.wanted-count.ensures.lines, c.in-Batch.is) at c.in_ok-lines.ensures.fit in
-    let long = sym (length-map c.in_ok-lines.lines.items (λ line. line.items)) ∙ AllFit-length (wanted_lines Batch g.S.Set.set) _ fit in
-    omega (arith, long)
+    omega (arith, counted (λ line. line.items) (wanted_lines Batch g.S.Set.set) _ fit)
 
 pub number_of-count-requires : goal.number_of-count-requires
 number_of-count-requires g c =

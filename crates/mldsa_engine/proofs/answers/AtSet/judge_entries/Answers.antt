@@ -1,11 +1,9 @@
-use Rattle.std.proofs.Common.{rules, arith, ℕ, List, [], ◌∷◌, length, Some, None, refl, sym, ap, ◌∙◌}
-use Rattle.std.proofs.lemmas.List.{length-map}
+use Rattle.std.proofs.Common.{rules, arith, ℕ, List, [], ◌∷◌, length, Some, None, refl, ap, ◌∙◌}
 use Rattle.mldsa_lines.specs.Lines.{Stops}
 use Rattle.mldsa_engine.specs.ProgramText.{entry_lines}
 use Rattle.mldsa_engine.specs.InnerSteps.{AcceptsIfPrepared}
-use Rattle.mldsa_lines.proofs.LinesInSequence.{AllFit-length}
 use Rattle.mldsa_engine.proofs.Entries.{stops_entry}
-use Rattle.mldsa_engine.proofs.LineCounts.{fits_at}
+use Rattle.mldsa_engine.proofs.LineCounts.{counted, fits_at}
 use Rattle.mldsa_engine.proofs.Verdicts.{judges_none, judges_next}
 use Rattle.mldsa_engine.proofs.answers.AtSet.judge_entries.Goals as goal
 
@@ -38,14 +36,10 @@ loop-entry-preserved g c =
     )
 
 pub index-requires : goal.index-requires
-index-requires g c =
-    let long = sym (length-map c.in_ok-lines.lines.items (λ line. line.items)) ∙ AllFit-length (Some g.row.SIG_LEN ∷ None ∷ []) _ c.in_ok-lines.ensures.fit in
-    omega (arith, long)
+index-requires g c = omega (arith, counted (λ line. line.items) (Some g.row.SIG_LEN ∷ None ∷ []) _ c.in_ok-lines.ensures.fit)
 
 pub index-requires-in-loop-entry : goal.index-requires-in-loop-entry
-index-requires-in-loop-entry g c =
-    let long = sym (length-map c.in_ok-lines.lines.items (λ line. line.items)) ∙ AllFit-length (Some g.row.SIG_LEN ∷ None ∷ []) _ c.in_ok-lines.ensures.fit in
-    omega (arith, long)
+index-requires-in-loop-entry g c = omega (arith, counted (λ line. line.items) (Some g.row.SIG_LEN ∷ None ∷ []) _ c.in_ok-lines.ensures.fit)
 
 pub array_of-signature-requires : goal.array_of-signature-requires
 array_of-signature-requires g c =
