@@ -14,8 +14,7 @@ use Rattle.std.specs.Io.KnownBytes.{Consumes, IsAtEnd}
 use Rattle.mldsa_lines.specs.declared.lines.Ending.{Ending}
 use Rattle.mldsa_lines.specs.declared.lines.Ending.TheVariants.{Open, Line, Input}
 use Rattle.mldsa_lines.specs.declared.fault.RunFault.TheVariants.{TooLong}
-use Rattle.mldsa_lines.specs.Lines.{ends_line, first_line, longest_line, line_digits, line_reach, before_lines, line_bytes}
-use Rattle.mldsa_lines.specs.Lines.{Stops, LeavesAllBut}
+use Rattle.mldsa_lines.specs.Lines.{ends_line, first_line, longest_line, line_digits, line_reach, before_lines, line_bytes, Stops, LeavesAllBut}
 use Rattle.mldsa_lines.specs.InnerSteps.{HasNoEnd, TakesPiece, TakesLine}
 use Rattle.mldsa_lines.proofs.Judging.{judged_long}
 

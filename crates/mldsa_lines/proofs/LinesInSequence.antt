@@ -5,9 +5,8 @@ use Rattle.std.proofs.Common.{take-append-drop}
 use Rattle.std.proofs.lemmas.List.{take_more, drop_more, map-append}
 use Rattle.mldsa_lines.specs.declared.fault.RunFault.{RunFault}
 use Rattle.mldsa_lines.specs.Lines.{longest_line, line_reach, first_line, after_line, after_lines, line_bytes, before_lines, lines_bytes}
+use Rattle.mldsa_lines.specs.Lines.{Fits, AllFit, LeavesAllBut, IsLineFault, TakesLines, StopsInTurn, Stops, judged}
 use Rattle.mldsa_lines.specs.InnerSteps.{TakesLine}
-use Rattle.mldsa_lines.specs.Lines.{Fits, AllFit}
-use Rattle.mldsa_lines.specs.Lines.{LeavesAllBut, IsLineFault, TakesLines, StopsInTurn, Stops, judged}
 use Rattle.mldsa_lines.proofs.Judging.{judged_digits}
 
 -- the lines of one part of an input, and then those of the next, or the first fault among them

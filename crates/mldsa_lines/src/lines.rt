@@ -4,8 +4,8 @@
 ghost use Rattle.std.specs.Prelude.{◌≡◌, ◌<◌, ◌≤◌, ◌+◌, ◌^◌, ◌↔◌, ◌∷◌, [], length, take, map, position};
 ghost use Rattle.std.specs.Prelude.{false, true, Ok, Err, IsTrue, IfOk, IfErr, MatchResult};
 ghost use Rattle.mldsa_lines.specs.Lines.{longest_line, line_digits, ends_line, sized, refused};
-ghost use Rattle.mldsa_lines.specs.InnerSteps.{TakesPiece, TakesLine};
 ghost use Rattle.mldsa_lines.specs.Lines.{Fits, AllFit, IsInputFault, TakesLines, StopsAt};
+ghost use Rattle.mldsa_lines.specs.InnerSteps.{TakesPiece, TakesLine};
 
 use crate::fault::RunFault;
 use crate::marked::Marked;

@@ -1,6 +1,5 @@
 use Rattle.std.proofs.Common.{◌≡◌, false, length, take, map}
-use Rattle.mldsa_lines.specs.Lines.{AllFit}
-use Rattle.mldsa_lines.specs.Lines.{TakesLines}
+use Rattle.mldsa_lines.specs.Lines.{AllFit, TakesLines}
 use Rattle.mldsa_lines.proofs.lines.read_lines.Given as goal
 
 abbrev pub invariant-loop-length : goal.invariant-loop-length
