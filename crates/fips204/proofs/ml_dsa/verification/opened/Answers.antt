@@ -91,6 +91,8 @@ returns-in-Ok-clause-within g c =
     let p = c.args.p.now in
     let k = (goal.at.returns-in-Ok-clause-within g c).After-has_norm_below in
     let some = limits p (search rules) in
-    let z = response-within (nat_abs p.gamma1) g.row.L c.in_ok-c_tilde.z (mask-size p.gamma1 some.mask).1 (rw c.requires.sizes.columns (decoded g k).response) in
-    ((rw c.requires.sizes.rows some.few_rows, rw c.requires.sizes.columns some.few_columns), λ r n i m. (let x = z r n i m in omega (arith, x)),
-    challenge-reduced _ _ c.in-Ok.c (some_of_ok _ c.in-Ok.c c.in-Ok.ensures))
+    let z = response-within (nat_abs p.gamma1) g.row.L c.in_ok-c_tilde.z (mask-size p.gamma1 some.mask).1 (rw c.requires.sizes.columns (decoded g k).response) in (
+      (rw c.requires.sizes.rows some.few_rows, rw c.requires.sizes.columns some.few_columns),
+      λ r n i m. (let x = z r n i m in omega (arith, x)),
+      challenge-reduced _ _ c.in-Ok.c (some_of_ok _ c.in-Ok.c c.in-Ok.ensures),
+    )
