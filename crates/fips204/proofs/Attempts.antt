@@ -5,15 +5,13 @@ use Rattle.std.proofs.lemmas.Int.{ints}
 use Rattle.fips204_base.specs.declared.fault.Fault.TheVariants.{SamplingLimit}
 use Rattle.fips204_base.specs.declared.types.R.{R}
 use Rattle.fips204_base.specs.declared.types.T.{T}
-use Rattle.fips204_base.specs.Sampling.{challenge}
+use Rattle.fips204_base.specs.Sampling.{challenge, mask}
 use Rattle.fips204_base.specs.Encodings.{w1_bytes}
-use Rattle.fips204_base.specs.Sampling.{mask}
 use Rattle.fips204_base.specs.Packing.{PolynomialInRange}
-use Rattle.fips204_base.specs.Vectors.{entry, VectorWithin}
+use Rattle.fips204_base.specs.Vectors.{entry, VectorWithin, vector_coefficients, matrix_product, plain_matrix, vector_of}
 use Rattle.fips204_base.specs.Transforms.{minus}
 use Rattle.fips204_base.specs.Residues.{residue}
 use Rattle.fips204_base.specs.Rounding.{high_bits, high_values, low_bits}
-use Rattle.fips204_base.specs.Vectors.{vector_coefficients, matrix_product, plain_matrix, vector_of}
 use Rattle.fips204_base.proofs.Residues.{residue_below}
 use Rattle.fips204_base.proofs.Products.{row_below}
 use Rattle.fips204_base.proofs.Rounding.{high_bits_below}

@@ -6,15 +6,14 @@ use Rattle.fips204_base.specs.declared.types.R.{R}
 use Rattle.fips204_base.specs.Sampling.{sign_of, signed_sum, challenge}
 use Rattle.fips204_base.specs.Packing.{bits}
 use Rattle.fips204_base.specs.Transforms.{shifted, product}
-use Rattle.fips204_base.specs.Residues.{IsCongruent, residue, coefficients, sum_below}
+use Rattle.fips204_base.specs.Residues.{IsCongruent, residue, coefficients, sum_below, centred, norm, vector_norm}
 use Rattle.fips204_base.specs.Vectors.{polynomial_of, vector_of}
 use Rattle.fips204_base.proofs.Challenges.{challenge_places, length-challenge_places}
-use Rattle.fips204_base.proofs.Reductions.{centred_is}
+use Rattle.fips204_base.proofs.Reductions.{centred_is, residue-again}
 use Rattle.fips204_base.proofs.Residues.{residue_add, residue_below, congruent_refl, congruent_of, congruent_sym, congruent_trans, congruent_mod, congruent_mul, sum_same, sum_equal, sum_zero, sum_one, sum_add}
 use Rattle.fips204_base.proofs.Vectors.{polynomial_of-at, length-polynomial_of, length-vector_of, vector_of-row, vector_of-at}
 use Rattle.std.proofs.Math.Nat.{le-max_left, le-max_right, max-le}
 use Rattle.std.proofs.lemmas.Int.{ints}
-use Rattle.fips204_base.specs.Residues.{centred, norm, vector_norm}
 use Rattle.std.proofs.lemmas.List.{get_or_past}
 use Rattle.fips204.specs.SchemeLaws.{ChallengeProductIsSmall}
 use Rattle.fips204.proofs.Ranges.{challenge-sum}
@@ -119,9 +118,6 @@ near_challenge_product tau front c b m n e h below =
 -- A norm is at most n exactly where each coefficient is at most n from a multiple of q.
 
 -- ---- one number
-
-residue-again : (x : ℤ) → residue x % 8380417 ≡ residue x
-residue-again x = omega (arith, residue_below x)
 
 pub near_of_centred : (n : ℕ) (x : ℤ) → nat_abs (centred x) ≤ n → Near n (residue x)
 near_of_centred n x h = elim (cases_lt 4190208 (residue x)) [

@@ -6,20 +6,15 @@ use Rattle.std.proofs.lemmas.Bool.{cases_Bool, ltb-true, leb-true}
 use Rattle.fips204_base.specs.declared.types.R.{R}
 use Rattle.fips204_base.specs.declared.types.T.{T}
 use Rattle.fips204_base.specs.Residues.{vector_norm}
-use Rattle.fips204_base.specs.Sampling.{challenge}
-use Rattle.fips204_base.specs.Encodings.{signature_bytes, w1_bytes}
-use Rattle.fips204_base.specs.Encodings.{all_ones}
-use Rattle.fips204_base.specs.Sampling.{mask}
-use Rattle.fips204_base.specs.Sampling.{sampled_matrix}
+use Rattle.fips204_base.specs.Sampling.{challenge, mask, sampled_matrix}
+use Rattle.fips204_base.specs.Encodings.{signature_bytes, w1_bytes, all_ones}
 use Rattle.fips204_base.specs.Vectors.{vector_coefficients, matrix_product, IsVector}
 use Rattle.fips204.specs.ParameterSets.{ParameterSet, is_parameter_set, commitment_length}
-use Rattle.fips204.specs.Keys.{PrivateParts, ArePrivateParts}
-use Rattle.fips204.specs.Signing.{Attempt, limit, rejected, signed, response, low_vector, ct0, hint_vector, high_vector, passes_checks, commitment, checked_attempt, attempt, scaled, w_minus_cs2, y_plus_cs1}
-use Rattle.fips204.specs.Signing.{first_answer, mask_seed, sign_with, sign_if_matrix, sign}
+use Rattle.fips204.specs.Keys.{PrivateParts, ArePrivateParts, IsWhole, high_part, low_part}
+use Rattle.fips204.specs.Signing.{Attempt, limit, rejected, signed, response, low_vector, ct0, hint_vector, high_vector, passes_checks, commitment, checked_attempt, attempt, scaled, w_minus_cs2, y_plus_cs1, first_answer, mask_seed, sign_with, sign_if_matrix, sign}
 use Rattle.fips204.proofs.ParameterSets.{and_out, AreSetNumbers, set_numbers}
 use Rattle.fips204.proofs.KeptHints.{IsKept, hinted_is_high}
 use Rattle.std.proofs.lemmas.List.{length-take-le}
-use Rattle.fips204.specs.Keys.{IsWhole, high_part, low_part}
 use Rattle.fips204.specs.Acceptance.{Accepts, Verifies}
 use Rattle.fips204.proofs.RejectionChecks.{centred-range, hint-range}
 

@@ -3,7 +3,7 @@ use Rattle.std.proofs.Common.{◌≡◌, ◌+◌, ℕ, List, [], ◌∷◌, ◌+
 use Rattle.fips204_base.specs.declared.fault.Fault.{Fault}
 use Rattle.fips204_base.specs.declared.fault.Fault.TheVariants.{OidEmpty, OidNotDer, DigestTooLong, DigestLength, HashCtx}
 use Rattle.fips204.proofs.Spellings.{same_parts}
-use Rattle.fips204.specs.Framing.{is_der, differs, digest_length, pre_hash_fault}
+use Rattle.fips204.specs.Framing.{is_der, differs, digest_length, pre_hash_fault, Input, plain, hashed, framed_input, message_hash}
 use Rattle.fips204.specs.SchemeLaws.{FramingIsOneToOne, SignatureBindsMessage, SignatureBindsInput, SignatureBindsText}
 use Rattle.fips204.proofs.ParameterSets.{and_out, set_numbers}
 use Rattle.fips204.proofs.RefusedCalls.{passed, short_context}
@@ -18,7 +18,6 @@ use Rattle.fips204_base.proofs.EncodedParts.{same_signature}
 use Rattle.fips204.specs.ParameterSets.{ParameterSet, is_parameter_set, commitment_length}
 use Rattle.fips204.specs.Signing.{commitment}
 use Rattle.fips204.specs.Acceptance.{Accepts, w1_prime}
-use Rattle.fips204.specs.Framing.{Input, plain, hashed, framed_input, message_hash}
 
 -- A framed message determines what was framed.
 

@@ -4,19 +4,16 @@ use Rattle.std.proofs.lemmas.Int.{ints}
 use Rattle.std.proofs.lemmas.Bool.{cases_lt, le-leb, lt-leb}
 use Rattle.fips204_base.specs.declared.types.R.{R}
 use Rattle.fips204_base.specs.declared.types.T.{T}
-use Rattle.fips204_base.specs.Vectors.{product_difference, entry}
-use Rattle.fips204_base.specs.Residues.{centred, vector_norm}
+use Rattle.fips204_base.specs.Vectors.{product_difference, entry, vector_coefficients, matrix_product, plain_matrix, vector_of, IsVector}
+use Rattle.fips204_base.specs.Residues.{centred, vector_norm, IsCongruent, residue, coefficients}
 use Rattle.fips204_base.specs.Transforms.{product, plus, minus, row_product}
-use Rattle.fips204_base.specs.Residues.{IsCongruent, residue, coefficients}
 use Rattle.fips204_base.specs.Rounding.{power2round, high_bits, low_bits, make_hint, use_hint}
-use Rattle.fips204_base.specs.Vectors.{vector_coefficients, matrix_product, plain_matrix, vector_of, IsVector}
 use Rattle.fips204_base.proofs.Residues.{residue_add, residue_below, congruent_refl, congruent_of, congruent_sym, congruent_trans, congruent_mod, sum_equal}
 use Rattle.fips204_base.proofs.Products.{product_same, product_plus, row_of_multiple, row_of_sum, row_below, product_below}
 use Rattle.fips204_base.proofs.Rounding.{power2round_back, low_bits_near}
 use Rattle.fips204_base.proofs.Vectors.{vector_of-ext, vector_of-entry, vector_of-at, vector-within}
 use Rattle.fips204.specs.ParameterSets.{ParameterSet}
-use Rattle.fips204.specs.Keys.{PrivateParts, eta_of_rows}
-use Rattle.fips204.specs.Keys.{key_vector, high_part, low_part}
+use Rattle.fips204.specs.Keys.{PrivateParts, eta_of_rows, key_vector, high_part, low_part}
 use Rattle.fips204.specs.Signing.{scaled, response, w_minus_cs2, low_vector, ct0, hint_vector, high_vector}
 use Rattle.fips204.specs.Acceptance.{t1_shifted, w1_prime}
 use Rattle.std.specs.Prelude.{int_lt}

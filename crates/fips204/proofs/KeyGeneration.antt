@@ -11,15 +11,13 @@ use Rattle.fips204_base.specs.Rounding.{power2round}
 use Rattle.fips204_base.specs.Vectors.{IsVector, vector_coefficients, vector_of, matrix_product}
 use Rattle.fips204_base.proofs.Rounding.{power2round_high, power2round_low}
 use Rattle.fips204_base.proofs.Vectors.{vector_of-ext, vector_of-entry, vector_of-range}
-use Rattle.fips204.specs.Keys.{IsWhole, key_vector, high_part, low_part, seeds, key_hash, key_pair, key_pair_if_all, key_generation, public_key_of}
+use Rattle.fips204.specs.Keys.{IsWhole, key_vector, high_part, low_part, seeds, key_hash, key_pair, key_pair_if_all, key_generation, public_key_of, PublicParts, PrivateParts}
 use Rattle.fips204.specs.ParameterSets.{ParameterSet}
 use Rattle.std.specs.Prelude.{ok_or}
 use Rattle.std.proofs.lemmas.List.{drop-take, take-take}
 use Rattle.std.specs.declared.option.Option.{Option}
 use Rattle.fips204_base.specs.declared.fault.Fault.TheVariants.{SamplingLimit}
-use Rattle.fips204_base.specs.Sampling.{sampled_matrix}
-use Rattle.fips204_base.specs.Sampling.{small_vector}
-use Rattle.fips204.specs.Keys.{PublicParts, PrivateParts}
+use Rattle.fips204_base.specs.Sampling.{sampled_matrix, small_vector}
 use Rattle.fips204.specs.Refusals.{generated, derived}
 
 -- The vector t = A s1 + s2 of a pair of keys, and its parts.

@@ -1,8 +1,6 @@
 -- Keys with their matrix: what is signed with one is accepted, and each answers as its plain key.
-use Rattle.std.proofs.Common.{IsTrue, ◌≡◌, ◌≤◌, ◌<◌, ◌+◌, ℕ, List, [], Bool, refl, sym, ap, subst, ◌∙◌, length, get_or, set, inl, inr, Result, Ok, Some, None, arith}
+use Rattle.std.proofs.Common.{IsTrue, ◌≡◌, ◌≤◌, ℕ, List, [], Bool, refl, sym, ap, subst, ◌∙◌, length, get_or, Result, Ok, Some, None}
 use Rattle.std.specs.Prelude.{◌↔◌, ok_or, option_map}
-use Rattle.std.proofs.lemmas.List.{get_or-set_same, get_or-set_other}
-use Rattle.std.proofs.lemmas.Bool.{cases_lt}
 use Rattle.std.specs.declared.option.Option.{Option}
 use Rattle.fips204_base.specs.declared.fault.Fault.{Fault}
 use Rattle.fips204_base.specs.declared.fault.Fault.TheVariants.{SamplingLimit}
@@ -10,13 +8,11 @@ use Rattle.fips204_base.specs.declared.types.T.{T}
 use Rattle.fips204_base.specs.Sampling.{sampled_matrix}
 use Rattle.fips204.specs.Acceptance.{Accepts, Verifies}
 use Rattle.fips204.specs.Framing.{Input, plain, framed_input, message_hash}
-use Rattle.fips204.specs.Keys.{PublicParts, PrivateParts, ArePrivateParts}
+use Rattle.fips204.specs.Keys.{PublicParts, PrivateParts, ArePrivateParts, IsWhole, high_part, low_part, public_key_of}
 use Rattle.fips204.specs.ParameterSets.{ParameterSet, is_parameter_set}
-use Rattle.fips204.specs.Prepared.{PreparedPrivate, PreparedPublic, prepared_private, prepared_public, public_of_prepared, sign_prepared, sign_message_prepared, IsWholePrepared}
-use Rattle.fips204.specs.Prepared.{VerifiesPrepared, VerifiesMessagePrepared, IsEachSigned, IsEachJudged, AcceptedIfWholePrepared, PreparedAnswersAsPlain}
+use Rattle.fips204.specs.Prepared.{PreparedPrivate, PreparedPublic, prepared_private, prepared_public, public_of_prepared, sign_prepared, sign_message_prepared, IsWholePrepared, VerifiesPrepared, VerifiesMessagePrepared, IsEachSigned, IsEachJudged, AcceptedIfWholePrepared, PreparedAnswersAsPlain}
 use Rattle.fips204.specs.Refusals.{refused_or, input_fault, sign_input, AcceptsInput, derived, sign_message, VerifiesMessage}
 use Rattle.fips204.specs.SigningInputs.{input_hash}
-use Rattle.fips204.specs.Keys.{IsWhole, high_part, low_part, public_key_of}
 use Rattle.fips204.specs.Signing.{sign, sign_with, sign_if_matrix}
 use Rattle.fips204.proofs.Completeness.{accepts_signed_with}
 use Rattle.fips204.proofs.RefusedCalls.{given_input, same_some}
@@ -142,15 +138,3 @@ prepared_answers_as_plain p H G =
       whole = λ sk prepared e. let is = private sk prepared e in whole_as_plain p G sk prepared is.0 is.1;
       public_key = λ sk prepared pk e. let is = private sk prepared e in public_as_plain p G sk prepared pk is.0 is.1;
     }
-
--- ---- one answer a message
-
--- what holds of the answers before place i, and of the one that is written there, holds of those up to it
-pub each_more : {A : Type 0} (P : ℕ → A → Type 0) (answers : List A) (i : ℕ) (x d : A) → i < length answers → ((k : ℕ) → k < i → P k (get_or answers k d)) → P i x
-    → (k : ℕ) → k < i + 1 → P k (get_or (set answers i x) k d)
-each_more P answers i x d room before now k h = elim (cases_lt k i) [
-  | inl below ↦ subst (P k) (sym (get_or-set_other answers i k x d (λ e. absurd (omega (arith, below, e))))) (before k below)
-  | inr last ↦
-      let same : i ≡ k = omega (arith, h, last) in
-      subst (λ j. P j (get_or (set answers i x) j d)) same (subst (P i) (sym (get_or-set_same answers i x d room)) now)
-]

@@ -17,10 +17,8 @@ use Rattle.std.proofs.lemmas.Int.{ints}
 use Rattle.std.proofs.lemmas.Option.{none-some}
 use Rattle.fips204_base.specs.declared.types.T.{T}
 use Rattle.fips204_base.specs.Packing.{bits}
-use Rattle.fips204_base.specs.Vectors.{coefficient_at, entry, PolynomialWithin, MatrixWithin}
-use Rattle.fips204_base.specs.Sampling.{sampled_matrix}
-use Rattle.fips204_base.specs.Sampling.{sign_of, signed_sum, challenge_picks, challenge}
-use Rattle.fips204_base.specs.Vectors.{polynomial_of, vector_of}
+use Rattle.fips204_base.specs.Vectors.{coefficient_at, entry, PolynomialWithin, MatrixWithin, polynomial_of, vector_of}
+use Rattle.fips204_base.specs.Sampling.{sampled_matrix, sign_of, signed_sum, challenge_picks, challenge}
 use Rattle.fips204_base.proofs.Sampled.{matrix_entry-residues, residues-within, sampled_matrix-entries}
 use Rattle.fips204_base.proofs.Challenges.{challenge_places, challenge_places-apart, length-challenge_places, sum-elsewhere}
 use Rattle.fips204_base.proofs.Vectors.{polynomial_of-at, vector_of-same}

@@ -5,20 +5,17 @@ use Rattle.std.specs.List.{All}
 use Rattle.std.proofs.lemmas.Bool.{cases_lt, le-leb, lt-leb}
 use Rattle.std.proofs.lemmas.Int.{ints}
 use Rattle.fips204_base.specs.declared.types.R.{R}
-use Rattle.fips204_base.specs.Residues.{centred, vector_norm}
+use Rattle.fips204_base.specs.Residues.{centred, vector_norm, residue}
 use Rattle.fips204_base.specs.Packing.{PolynomialInRange, width}
-use Rattle.fips204_base.specs.Vectors.{entry}
+use Rattle.fips204_base.specs.Vectors.{entry, vector_of, IsVector, vector_coefficients}
 use Rattle.fips204_base.specs.Transforms.{product}
-use Rattle.fips204_base.specs.Residues.{residue}
 use Rattle.fips204_base.specs.Rounding.{low_bits, make_hint}
-use Rattle.fips204_base.specs.Vectors.{vector_of, IsVector, vector_coefficients}
 use Rattle.fips204_base.proofs.Reductions.{centred_is}
 use Rattle.fips204_base.proofs.Residues.{residue_add, residue_sub, residue_is, residue_below}
 use Rattle.fips204_base.proofs.Rounding.{low_bits_near}
 use Rattle.fips204_base.proofs.Products.{product_below}
 use Rattle.fips204_base.proofs.Vectors.{vector_of-ext, vector_of-range}
-use Rattle.fips204_base.specs.Encodings.{signature_bytes}
-use Rattle.fips204_base.specs.Encodings.{all_ones}
+use Rattle.fips204_base.specs.Encodings.{signature_bytes, all_ones}
 use Rattle.fips204.specs.declared.types.Params.{Params}
 use Rattle.fips204.specs.Signing.{scaled, response, low_vector, ct0, hint_bit, hint_vector, passes_checks, checked_attempt, w_minus_cs2, y_plus_cs1}
 use Rattle.fips204.specs.Keys.{PrivateParts}

@@ -3,11 +3,10 @@ use Rattle.std.proofs.Common.{◌≡◌, ◌≤◌, ℕ, List, IsTrue, sym, ◌�
 use Rattle.fips204_base.specs.declared.fault.Fault.{Fault}
 use Rattle.fips204_base.proofs.Sampled.{some_of_ok}
 use Rattle.fips204.specs.ParameterSets.{ParameterSet, is_parameter_set}
-use Rattle.fips204.specs.Keys.{PublicParts, PrivateParts, ArePrivateParts}
+use Rattle.fips204.specs.Keys.{PublicParts, PrivateParts, ArePrivateParts, IsWhole, key_generation}
 use Rattle.fips204.specs.declared.types.Params.{Params}
 use Rattle.fips204.specs.Sets.{set_of}
 use Rattle.fips204.specs.Signing.{sign}
-use Rattle.fips204.specs.Keys.{IsWhole, key_generation}
 use Rattle.fips204.specs.Framing.{plain}
 use Rattle.fips204.specs.Refusals.{generated, derived, sign_message, VerifiesMessage}
 use Rattle.fips204.specs.Completeness.{HashComplete, AcceptsSigned, SignedIsAccepted}

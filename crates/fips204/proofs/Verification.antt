@@ -8,17 +8,13 @@ use Rattle.std.proofs.lemmas.Int.{ints}
 use Rattle.std.proofs.lemmas.Nat.{mod_below}
 use Rattle.fips204_base.specs.declared.types.R.{R}
 use Rattle.fips204_base.specs.declared.types.T.{T}
-use Rattle.fips204_base.specs.Residues.{vector_norm}
-use Rattle.fips204_base.specs.Sampling.{challenge}
-use Rattle.fips204_base.specs.Encodings.{IsSignature}
-use Rattle.fips204_base.specs.Sampling.{sampled_matrix}
-use Rattle.fips204_base.specs.Encodings.{is_one}
+use Rattle.fips204_base.specs.Residues.{vector_norm, residue, coefficients}
+use Rattle.fips204_base.specs.Sampling.{challenge, sampled_matrix}
+use Rattle.fips204_base.specs.Encodings.{IsSignature, is_one}
 use Rattle.fips204_base.specs.Packing.{PolynomialInRange}
-use Rattle.fips204_base.specs.Vectors.{entry, VectorWithin}
+use Rattle.fips204_base.specs.Vectors.{entry, VectorWithin, IsVector, vector_coefficients, matrix_product, product_difference, vector_of}
 use Rattle.fips204_base.specs.Transforms.{product, minus}
-use Rattle.fips204_base.specs.Residues.{residue, coefficients}
 use Rattle.fips204_base.specs.Rounding.{use_hint, high_bits, low_bits, high_values}
-use Rattle.fips204_base.specs.Vectors.{IsVector, vector_coefficients, matrix_product, product_difference, vector_of}
 use Rattle.fips204_base.proofs.Rounding.{high_bits_below}
 use Rattle.fips204_base.proofs.Products.{product_same}
 use Rattle.fips204_base.proofs.Residues.{congruent_of, congruent_refl, residue_below}

@@ -8,13 +8,11 @@ use Rattle.std.proofs.lemmas.Option.{none-some}
 use Rattle.fips204_base.specs.declared.types.R.{R}
 use Rattle.fips204_base.specs.declared.types.T.{T}
 use Rattle.fips204_base.specs.Encodings.{public_key_bytes, private_key_bytes}
-use Rattle.fips204_base.specs.Sampling.{sampled_matrix}
-use Rattle.fips204_base.specs.Sampling.{small_vector}
+use Rattle.fips204_base.specs.Sampling.{sampled_matrix, small_vector}
 use Rattle.fips204_base.specs.Vectors.{IsVector}
 use Rattle.fips204_base.proofs.Sampled.{small_vector-range, some_of_ok}
 use Rattle.fips204.specs.ParameterSets.{ParameterSet, is_parameter_set}
-use Rattle.fips204.specs.Keys.{PublicParts, PrivateParts, ArePrivateParts, IsHighPart, IsPublicKeyOf, IsPrivateKeyOf, eta_of_rows}
-use Rattle.fips204.specs.Keys.{IsWhole, high_part, low_part, key_hash, key_pair, key_pair_if_all, seeds, key_generation, public_key_of}
+use Rattle.fips204.specs.Keys.{PublicParts, PrivateParts, ArePrivateParts, IsHighPart, IsPublicKeyOf, IsPrivateKeyOf, eta_of_rows, IsWhole, high_part, low_part, key_hash, key_pair, key_pair_if_all, seeds, key_generation, public_key_of}
 use Rattle.fips204.specs.Signing.{sign}
 use Rattle.fips204.specs.Acceptance.{Verifies}
 use Rattle.fips204.proofs.Completeness.{completeness}

@@ -2,23 +2,18 @@
 use Rattle.std.proofs.Common.{◌≡◌, ◌*◌, ℕ, ℤ, List, [], ◌∷◌, ◌++◌, Ok, Err, refl, true, false, map, length, take, Some, None, pos, negsuc, if◌then◌else◌}
 use Rattle.fips204_base.specs.declared.fault.Fault.TheVariants.{TooManyAttempts, SamplingLimit, SignCtx, HashCtx, OidEmpty, OidNotDer, DigestTooLong, DigestLength}
 use Rattle.fips204_base.specs.Encodings.{is_one}
-use Rattle.fips204_base.specs.Sampling.{triple, kept_triples, matrix_entry, sampled_matrix}
+use Rattle.fips204_base.specs.Sampling.{triple, kept_triples, matrix_entry, sampled_matrix, first_256, all_present, kept_half_bytes, small_polynomial, small_vector}
 use Rattle.fips204_base.specs.Packing.{bit_length, packed, bits_to_bytes, bits, integer_to_bits, bits_to_integer, field}
 use Rattle.fips204_base.specs.Rounding.{decompose, use_hint}
-use Rattle.fips204_base.specs.Sampling.{first_256, all_present}
-use Rattle.fips204_base.specs.Sampling.{kept_half_bytes, small_polynomial, small_vector}
 use Rattle.fips204_base.specs.Vectors.{polynomial_of, vector_of}
-use Rattle.fips204.specs.Keys.{PrivateParts}
-use Rattle.fips204.specs.Keys.{seeds, key_pair, key_pair_if_all, key_generation}
+use Rattle.fips204.specs.Keys.{PrivateParts, seeds, key_pair, key_pair_if_all, key_generation}
 use Rattle.fips204.specs.Acceptance.{t1_shifted, hinted}
 use Rattle.fips204.specs.ParameterSets.{ParameterSet, set_44, set_65, set_87, is_parameter_set, public_key_length, private_key_length, signature_length}
-use Rattle.fips204.specs.Signing.{first_answer, mask_seed}
-use Rattle.fips204.specs.Signing.{limit, rejected, signed, commitment, hint_bit}
+use Rattle.fips204.specs.Signing.{first_answer, mask_seed, limit, rejected, signed, commitment, hint_bit}
 use Rattle.std.specs.Prelude.{replicate, nat_eq, get_or, option_map}
 use Rattle.std.specs.List.{range_with_len, flat_map}
 use Rattle.fips204.specs.declared.types.pre_hash.TheConstants.{SHA2_224, SHA2_256, SHA2_384, SHA2_512, SHA2_512_224, SHA2_512_256, SHA3_224, SHA3_256, SHA3_384, SHA3_512, SHAKE_128, SHAKE_256}
-use Rattle.fips204.specs.Framing.{framed, framed_digest, message_hash}
-use Rattle.fips204.specs.Framing.{hash_oid, hashes, digest_length, pre_hash_fault}
+use Rattle.fips204.specs.Framing.{framed, framed_digest, message_hash, hash_oid, hashes, digest_length, pre_hash_fault}
 use Rattle.fips204.specs.Refusals.{message_fault, digest_fault}
 
 -- Worked values of the parameter sets, and of the order of attempts.

@@ -5,10 +5,8 @@ use Rattle.fips204_base.specs.declared.types.T.{T}
 use Rattle.fips204_base.specs.Residues.{vector_norm}
 use Rattle.fips204_base.specs.Vectors.{vector_coefficients, product_difference, vector_of}
 use Rattle.fips204_base.specs.Rounding.{use_hint}
-use Rattle.fips204_base.specs.Encodings.{is_one}
-use Rattle.fips204_base.specs.Encodings.{IsSignature}
-use Rattle.fips204_base.specs.Sampling.{sampled_matrix}
-use Rattle.fips204_base.specs.Sampling.{challenge}
+use Rattle.fips204_base.specs.Encodings.{is_one, IsSignature}
+use Rattle.fips204_base.specs.Sampling.{sampled_matrix, challenge}
 use Rattle.fips204.specs.ParameterSets.{ParameterSet, commitment_length}
 use Rattle.fips204.specs.Keys.{PublicParts}
 use Rattle.fips204.specs.Signing.{commitment}

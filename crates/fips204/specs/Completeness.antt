@@ -3,9 +3,8 @@ use Rattle.std.specs.Prelude.{◌≡◌, ◌≤◌, ◌↔◌, ℕ, List, length
 use Rattle.fips204_base.specs.declared.fault.Fault.{Fault}
 use Rattle.fips204_base.specs.Encodings.{public_key_bytes, private_key_bytes}
 use Rattle.fips204.specs.ParameterSets.{ParameterSet, is_parameter_set}
-use Rattle.fips204.specs.Keys.{PublicParts, PrivateParts, ArePublicParts, ArePrivateParts, IsPublicKeyOf, IsPrivateKeyOf}
+use Rattle.fips204.specs.Keys.{PublicParts, PrivateParts, ArePublicParts, ArePrivateParts, IsPublicKeyOf, IsPrivateKeyOf, IsWhole}
 use Rattle.fips204.specs.Framing.{Input}
-use Rattle.fips204.specs.Keys.{IsWhole}
 use Rattle.fips204.specs.Signing.{sign}
 use Rattle.fips204.specs.Acceptance.{Verifies}
 use Rattle.fips204.specs.Refusals.{generated, derived, sign_input, AcceptsInput}

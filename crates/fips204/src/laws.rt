@@ -9,12 +9,11 @@ ghost use Rattle.fips204_base.specs.Transforms.{ProductOfTransforms, InverseOfTr
 ghost use Rattle.fips204.specs.Completeness.{SignedIsAccepted, BytesTellKeys};
 ghost use Rattle.fips204.specs.Constants.{ConstantsStand, LengthsStand};
 ghost use Rattle.fips204.specs.LongerFronts.{CounterFrontsArePrefixes, LongerFrontsKeep};
-ghost use Rattle.fips204.specs.SchemeLaws.{FramingIsOneToOne, SignatureBindsMessage, SignatureBindsInput, SignatureBindsText};
+ghost use Rattle.fips204.specs.SchemeLaws.{FramingIsOneToOne, SignatureBindsMessage, SignatureBindsInput, SignatureBindsText, HintGivesHighBits, HintStaysNear, HighBitsStay, ChallengeProductIsSmall, SignatureHasOneSpelling, HintHasOneSpelling};
 ghost use Rattle.fips204.specs.Prepared.{PreparedAnswersAsPlain};
 ghost use Rattle.fips204.specs.RefusalLaws.{RefusesOnly};
 ghost use Rattle.fips204.specs.ParameterSets.{ParameterSet, is_parameter_set};
 ghost use Rattle.std.specs.Prelude.{ℕ, List, IsTrue};
-ghost use Rattle.fips204.specs.SchemeLaws.{HintGivesHighBits, HintStaysNear, HighBitsStay, ChallengeProductIsSmall, SignatureHasOneSpelling, HintHasOneSpelling};
 
 mod joined;
 

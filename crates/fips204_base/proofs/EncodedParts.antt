@@ -5,7 +5,7 @@ use Rattle.std.proofs.lemmas.Int.{ints}
 use Rattle.std.proofs.lemmas.List.Elements.{All-head, All-tail}
 use Rattle.fips204_base.specs.declared.types.R.{R}
 use Rattle.fips204_base.specs.Sampling.{IsEta}
-use Rattle.fips204_base.specs.Encodings.{IsGamma1, public_key_bytes, IsPrivateKey, vector_bytes, IsSignature, private_key_bytes, signature_bytes}
+use Rattle.fips204_base.specs.Encodings.{IsGamma1, public_key_bytes, IsPrivateKey, vector_bytes, IsSignature, private_key_bytes, signature_bytes, Spells, hint_bytes}
 use Rattle.fips204_base.specs.Packing.{PolynomialInRange, polynomial_bytes, Bounds, bit_length, width}
 use Rattle.fips204_base.proofs.Bits.{cut}
 use Rattle.fips204_base.proofs.Packing.{length-polynomial_bytes, same_polynomial}
@@ -13,7 +13,6 @@ use Rattle.std.proofs.lemmas.List.{take_all, take_at, drop_at}
 use Rattle.std.proofs.Math.Seq.{take-add}
 use Rattle.fips204_base.specs.Vectors.{IsVector}
 use Rattle.fips204_base.proofs.VectorBytes.{vector-length}
-use Rattle.fips204_base.specs.Encodings.{Spells, hint_bytes}
 use Rattle.fips204_base.proofs.HintSpelling.{one_hint}
 
 -- A public key determines rho and t1. So `pk_decode` of what `pk_encode` gives are the parts again; the other way round is

@@ -6,8 +6,7 @@ use Rattle.std.proofs.lemmas.List.Elements.{All-from_get_or}
 use mir.Val.{SFits}
 use native.Mathlib.Decide.{dec_lt}
 use Rattle.fips204_base.specs.Residues.{coefficients, IsCongruent}
-use Rattle.fips204_base.specs.Transforms.{transform, inverse_transform}
-use Rattle.fips204_base.specs.Transforms.{pointwise, product}
+use Rattle.fips204_base.specs.Transforms.{transform, inverse_transform, pointwise, product}
 use Rattle.fips204_base.specs.Lanes.{residues}
 use Rattle.fips204_base.specs.Network.{InRow}
 use Rattle.fips204_base.specs.Vectors.{ValuesWithin, entry}

@@ -9,12 +9,7 @@ use Rattle.std.proofs.lemmas.Option.{none-some}
 use Rattle.fips204_base.specs.declared.types.R.{R}
 use Rattle.fips204_base.specs.declared.types.T.{T}
 use Rattle.fips204_base.specs.Streams.{IsPrefix, ArePrefixes}
-use Rattle.fips204_base.specs.Sampling.{first_256, all_present}
-use Rattle.fips204_base.specs.Sampling.{triple, kept_triples, matrix_entry, sampled_matrix}
-use Rattle.fips204_base.specs.Sampling.{half_bytes, kept_half_bytes, small_polynomial, small_vector}
-use Rattle.fips204_base.specs.Sampling.{coefficient_from_half_byte}
-use Rattle.fips204_base.specs.Sampling.{picks, challenge_picks, challenge}
-use Rattle.fips204_base.specs.Sampling.{unpacked, mask_polynomial, mask_width, mask}
+use Rattle.fips204_base.specs.Sampling.{first_256, all_present, triple, kept_triples, matrix_entry, sampled_matrix, half_bytes, kept_half_bytes, small_polynomial, small_vector, coefficient_from_half_byte, picks, challenge_picks, challenge, unpacked, mask_polynomial, mask_width, mask}
 use Rattle.fips204_base.specs.Packing.{bit_length}
 use Rattle.fips204_base.proofs.Sampling.{given_joined, kept_triples-beyond, kept_half_bytes-beyond, first_256-beyond}
 use Rattle.fips204_base.proofs.Sampled.{whole_entry, whole_polynomial}

@@ -1,10 +1,9 @@
 -- Products in Montgomery form, and centring modulo q.
 use Rattle.std.proofs.Common.{◌≡◌, ℕ, zero, suc, ◌<◌, ◌*◌, ◌%◌, ℤ, pos, ◌-ℤ◌, nat_le, if◌then◌else◌, [], ◌∷◌, neg_ℤ, arith, ap, refl, negsuc}
 use Rattle.std.proofs.lemmas.Int.{ints}
-use Rattle.fips204_base.specs.Residues.{residue, IsCongruent}
+use Rattle.fips204_base.specs.Residues.{residue, IsCongruent, centred_modulo, centred}
 use Rattle.fips204_base.specs.Lanes.{lane}
 use Rattle.fips204_base.proofs.Residues.{congruent_refl, congruent_of, congruent_trans, congruent_mod, congruent_mul, residue_is, congruent_without_word}
-use Rattle.fips204_base.specs.Residues.{centred_modulo, centred}
 
 -- Products in Montgomery form.
 
@@ -29,7 +28,8 @@ minus_factor_is factor z e = record { same = omega (arith, ints, e, (residue_is 
 
 -- The centred value modulo q is the centred value modulo any number, at q.
 
-residue-again : (x : ℤ) → residue x % 8380417 ≡ residue x
+-- a residue is its own residue
+pub residue-again : (x : ℤ) → residue x % 8380417 ≡ residue x
 residue-again (pos n) = omega arith
 residue-again (negsuc n) = omega arith
 

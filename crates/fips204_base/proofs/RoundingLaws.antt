@@ -4,8 +4,7 @@ use Rattle.std.specs.Prelude.{Bool, ◌⊎◌, ◌<ℤ◌, ◌≤ℤ◌}
 use Rattle.std.proofs.lemmas.Int.{ints, by_lt_z}
 use Rattle.std.proofs.lemmas.Nat.{mod_below}
 use Rattle.std.proofs.lemmas.Bool.{cases_eq, cases_lt, eq-eqb, ne_eqb, le-leb, lt-leb}
-use Rattle.fips204_base.specs.Residues.{residue}
-use Rattle.fips204_base.specs.Residues.{centred_modulo, centred}
+use Rattle.fips204_base.specs.Residues.{residue, centred_modulo, centred}
 use Rattle.fips204_base.specs.Rounding.{IsGamma2, high_bits, low_bits, high_values, use_hint, make_hint}
 use Rattle.fips204_base.proofs.Reductions.{centred-modulo, centred_is}
 use Rattle.fips204_base.proofs.Residues.{residue_below}

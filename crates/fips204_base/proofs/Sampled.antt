@@ -8,20 +8,16 @@ use Rattle.std.proofs.lemmas.List.{take_all, take_more_set, length-take-le}
 use Rattle.std.proofs.lemmas.List.FromFn.{map-range_with_len_more}
 use Rattle.fips204_base.specs.declared.fault.Fault.{Fault}
 use Rattle.fips204_base.specs.declared.fault.Fault.TheVariants.{SamplingLimit}
-use Rattle.fips204_base.specs.Sampling.{all_present, first_256}
+use Rattle.fips204_base.specs.Sampling.{all_present, first_256, three_bytes, coefficient_from_half_byte, triple, kept_triples, matrix_entry, sampled_entry, sampled_row, sampled_matrix, half_bytes, kept_half_bytes, small_polynomial, small_vector}
 use Rattle.std.proofs.lemmas.Bool.{le-ltb, lt-ltb, cases_lt}
 use Rattle.std.proofs.lemmas.Int.{ints}
 use Rattle.std.proofs.lemmas.Option.{none-some}
 use Rattle.std.proofs.lemmas.List.Elements.{All-nil, All-cons, All-take}
 use Rattle.fips204_base.specs.declared.types.T.{T}
-use Rattle.fips204_base.specs.Sampling.{three_bytes, coefficient_from_half_byte}
-use Rattle.fips204_base.specs.Sampling.{triple, kept_triples, matrix_entry, sampled_entry, sampled_row, sampled_matrix}
 use Rattle.std.specs.Int.{w16, to_le_bytes}
 use Rattle.fips204_base.specs.declared.types.R.{R}
 use Rattle.fips204_base.specs.Packing.{PolynomialInRange}
-use Rattle.fips204_base.specs.Vectors.{ValuesWithin, TransformsWithin}
-use Rattle.fips204_base.specs.Vectors.{IsVector}
-use Rattle.fips204_base.specs.Sampling.{half_bytes, kept_half_bytes, small_polynomial, small_vector}
+use Rattle.fips204_base.specs.Vectors.{ValuesWithin, TransformsWithin, IsVector}
 
 -- Lists of values that may be none, each made in turn.
 

@@ -6,13 +6,10 @@ use Rattle.std.proofs.lemmas.List.{take_all, take_at, take-append-le, take_more_
 use Rattle.std.proofs.lemmas.List.Elements.{filter_map-append}
 use Rattle.std.proofs.lemmas.List.FromFn.{map-range_with_len_more}
 use Rattle.std.proofs.lemmas.Bool.{cases_lt, le-ltb, lt-ltb}
-use Rattle.fips204_base.specs.Sampling.{first_256}
+use Rattle.fips204_base.specs.Sampling.{first_256, coefficient_from_half_byte, coefficient_from_three_bytes, half_bytes, kept_half_bytes, small_polynomial, triple, kept_triples, matrix_entry}
 use Rattle.std.specs.Prelude.{option_to_list, slice_index}
 use Rattle.std.proofs.lemmas.Grind.{flat_map-append}
 use Rattle.std.proofs.Math.Seq.{take-add}
-use Rattle.fips204_base.specs.Sampling.{coefficient_from_half_byte, coefficient_from_three_bytes}
-use Rattle.fips204_base.specs.Sampling.{half_bytes, kept_half_bytes, small_polynomial}
-use Rattle.fips204_base.specs.Sampling.{triple, kept_triples, matrix_entry}
 
 -- What a sampler keeps: the places written so far, and the first 256 coefficients of all that were given.
 

@@ -1,11 +1,8 @@
 -- Worked values of residues, products, transforms, norms and rounding.
 use Rattle.std.proofs.Common.{◌≡◌, pos, negsuc, [], ◌∷◌, refl, cond, rules, ◌++◌, if◌then◌else◌, map, true, false, ◌*◌, ◌+◌, ◌-◌, ◌%◌}
 use Rattle.std.proofs.Math.Dec.{eqb}
-use Rattle.fips204_base.specs.Residues.{residue, sum_below}
-use Rattle.fips204_base.specs.Residues.{centred, norm, centred_modulo}
-use Rattle.fips204_base.specs.Residues.{IsMontgomery}
-use Rattle.fips204_base.specs.Transforms.{bit_reversed, zeta_at, root, inverse_root, transform, inverse_transform}
-use Rattle.fips204_base.specs.Transforms.{product, row_product, shifted}
+use Rattle.fips204_base.specs.Residues.{residue, sum_below, centred, norm, centred_modulo, IsMontgomery}
+use Rattle.fips204_base.specs.Transforms.{bit_reversed, zeta_at, root, inverse_root, transform, inverse_transform, product, row_product, shifted}
 use Rattle.std.specs.Prelude.{replicate, nat_eq}
 use Rattle.std.specs.List.{range_with_len, flat_map}
 use Rattle.fips204_base.specs.Packing.{polynomial_bytes, packed, bits_to_bytes, bits, integer_to_bits, bits_to_integer, field, bit_length}

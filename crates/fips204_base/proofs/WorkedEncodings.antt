@@ -2,8 +2,7 @@
 use Rattle.std.proofs.Common.{◌≡◌, [], ◌∷◌, refl, pos, negsuc, ◌++◌}
 use Rattle.std.specs.Prelude.{replicate}
 use Rattle.std.specs.List.{range_with_len, flat_map}
-use Rattle.fips204_base.specs.Encodings.{public_key_bytes, private_key_bytes, signature_bytes, w1_bytes}
-use Rattle.fips204_base.specs.Encodings.{ones_below}
+use Rattle.fips204_base.specs.Encodings.{public_key_bytes, private_key_bytes, signature_bytes, w1_bytes, ones_below}
 use Rattle.fips204_base.specs.Packing.{bit_length, bits, bits_to_bytes, bits_to_integer, field, integer_to_bits, packed}
 
 -- four fields of ten bits that are 1 are five bytes

@@ -6,8 +6,7 @@
 #![tactic(auto)]
 
 ghost use Rattle.std.specs.Prelude.{◌≡◌, ◌<◌, ℕ, ℤ, length};
-ghost use Rattle.fips204_base.specs.Vectors.{coefficient_at, entry};
-ghost use Rattle.fips204_base.specs.Vectors.{vector_of};
+ghost use Rattle.fips204_base.specs.Vectors.{coefficient_at, entry, vector_of};
 
 use crate::types::R;
 

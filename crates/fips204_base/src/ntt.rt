@@ -2,10 +2,8 @@
 #![tactic(auto)]
 
 ghost use Rattle.std.specs.Prelude.{◌≡◌, ℕ, ◌<◌, ◌≤◌, ◌+◌, ◌*◌, ◌-◌, ◌^◌, nat_abs, length};
-ghost use Rattle.fips204_base.specs.Lanes.{lane, lane_at, LanesWithin, RowsWithin};
-ghost use Rattle.fips204_base.specs.Network.{EachPair, EachLaneOfRow};
-ghost use Rattle.fips204_base.specs.Lanes.{IsTransform, AreTransforms, IsInverse, AreInverses};
-ghost use Rattle.fips204_base.specs.Network.{IsButterfly, IsInverseButterfly, IsBlock, AreBlocks};
+ghost use Rattle.fips204_base.specs.Lanes.{lane, lane_at, LanesWithin, RowsWithin, IsTransform, AreTransforms, IsInverse, AreInverses};
+ghost use Rattle.fips204_base.specs.Network.{EachPair, EachLaneOfRow, IsButterfly, IsInverseButterfly, IsBlock, AreBlocks};
 
 pub use crate::helpers::{Lanes, Residue};
 

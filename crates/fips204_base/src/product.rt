@@ -4,8 +4,7 @@
 ghost use Rattle.std.specs.Prelude.{◌≡◌, ◌≤◌, ◌<◌, ◌+◌, ◌^◌, ℕ, List, pos};
 ghost use Rattle.fips204_base.specs.Residues.{coefficients};
 ghost use Rattle.fips204_base.specs.Transforms.{product};
-ghost use Rattle.fips204_base.specs.Vectors.{entry, ValuesWithin, PolynomialWithin, VectorWithin, TransformsWithin, AreRowProducts, MatrixWithin};
-ghost use Rattle.fips204_base.specs.Vectors.{vector_coefficients, matrix_product, product_difference, IsTransformOf, AreTransformsOf};
+ghost use Rattle.fips204_base.specs.Vectors.{entry, ValuesWithin, PolynomialWithin, VectorWithin, TransformsWithin, AreRowProducts, MatrixWithin, vector_coefficients, matrix_product, product_difference, IsTransformOf, AreTransformsOf};
 ghost use Rattle.fips204_base.specs.declared.types.R.{R};
 ghost use Rattle.fips204_base.specs.declared.types.T.{T};
 

@@ -1,6 +1,5 @@
 -- Lines that are as many as a command wants, and what it then writes for them.
-use Rattle.std.proofs.Common.{◌≡◌, ℕ, Bool, List, [], ◌∷◌, ◌*◌, map, length, get_or, Option, Result, Ok, Err, IfOk, IfErr, Some, None, refl, sym, ap}
-use Rattle.std.proofs.Common.{zero, suc, ◌∙◌}
+use Rattle.std.proofs.Common.{◌≡◌, ℕ, Bool, List, [], ◌∷◌, ◌*◌, map, length, get_or, Option, Result, Ok, Err, IfOk, IfErr, Some, None, refl, sym, ap, zero, suc, ◌∙◌}
 use Rattle.std.proofs.lemmas.List.{length-map}
 use Rattle.fips204.specs.ParameterSets.{ParameterSet, public_key_length, signature_length}
 use Rattle.mldsa_lines.specs.declared.fault.RunFault.{RunFault}

@@ -1,14 +1,12 @@
 //! What each command reads, writes and returns.
 #![tactic(auto)]
 
-ghost use Rattle.std.specs.Prelude.{◌≡◌, ◌≤◌, ◌↔◌, ◌∷◌, [], length, map, take, false, true};
-ghost use Rattle.std.specs.Prelude.{Err, IsTrue, IfOk, IfErr};
+ghost use Rattle.std.specs.Prelude.{◌≡◌, ◌≤◌, ◌↔◌, ◌∷◌, [], length, map, take, false, true, Err, IsTrue, IfOk, IfErr};
 ghost use Rattle.fips204.specs.Keys.{PublicParts, IsPublicKeyOf};
 ghost use Rattle.fips204.specs.Prepared.{prepared_public};
 ghost use Rattle.fips204.specs.Refusals.{VerifiesMessage};
 ghost use Rattle.mldsa_lines.specs.Lines.{AllFit, IsInputFault, StopsAt};
-ghost use Rattle.mldsa_engine.specs.ProgramText.{named_set, two_bytes, wanted_lines, entry_lines, input_lines, lines_of_input, hex_text};
-ghost use Rattle.mldsa_engine.specs.ProgramText.{AreSmall, Generates, Signs, Checks, Answers, Executes};
+ghost use Rattle.mldsa_engine.specs.ProgramText.{named_set, two_bytes, wanted_lines, entry_lines, input_lines, lines_of_input, hex_text, AreSmall, Generates, Signs, Checks, Answers, Executes};
 ghost use Rattle.mldsa_engine.specs.InnerSteps.{AcceptsIfPrepared, JudgesEntries, JudgesByKey};
 
 mod writing;

@@ -1,10 +1,9 @@
 -- What is loaded from the file of a key is that key.
-use Rattle.std.proofs.Common.{◌≡◌, ◌⊎◌, inl, inr, ℕ, List, ◌∷◌, length, take, drop, nat_eq, true, Option, Some, None}
-use Rattle.std.proofs.Common.{Result, Ok, Err, refl, sym, ap, ◌∙◌}
+use Rattle.std.proofs.Common.{◌≡◌, inl, inr, ℕ, List, ◌∷◌, length, take, drop, nat_eq, true, Some, None, Ok, Err, refl, sym, ap, ◌∙◌}
 use Rattle.fips204.specs.Completeness.{BytesTellKeys}
-use Rattle.fips204.specs.Keys.{PublicParts, PrivateParts, ArePublicParts, ArePrivateParts}
+use Rattle.fips204.specs.Keys.{ArePublicParts, ArePrivateParts}
 use Rattle.fips204.specs.ParameterSets.{set_44}
-use Rattle.mldsa_examples.specs.KeyStore.{file_fault, file_of, LoadsAs, LoadsStored, LoadsStoredPublic}
+use Rattle.mldsa_examples.specs.KeyStore.{file_fault, LoadsStored, LoadsStoredPublic}
 use Rattle.mldsa_examples.specs.declared.key_store.LoadFault.{LoadFault}
 
 -- a file with the header and so many bytes is not refused for these

@@ -2,7 +2,7 @@
 use Rattle.std.proofs.Common.{◌≡◌, ◌<◌, ◌+◌, ◌-◌, ℕ, List, [], ◌∷◌, ◌++◌, length, arith, length-append, below_more, refl}
 use Rattle.std.proofs.lemmas.List.{get_or_append_left}
 use Rattle.std.proofs.Math.Seq.{get_or-append_seam}
-use Rattle.mldsa_examples.specs.Ledger.{entry_at, hash_before, Fits, EachFits}
+use Rattle.mldsa_examples.specs.Ledger.{hash_before, Fits, EachFits}
 use Rattle.mldsa_examples.specs.declared.ledger.Entry.{Entry}
 
 before_last : (old : List Entry) (entry : Entry) → hash_before (old ++ entry ∷ []) (length old) ≡ hash_before old (length old)

@@ -2,8 +2,7 @@
 use Rattle.std.specs.Prelude.{◌≡◌, ◌⊎◌, ℕ, List, ◌∷◌, length, take, drop, slice_index, nat_eq, Option, Some, None, Result, Ok, Err, MatchResult, if◌then◌else◌}
 use Rattle.fips204_base.specs.Encodings.{public_key_bytes, private_key_bytes}
 use Rattle.fips204_base.specs.declared.fault.Fault.TheVariants.{SamplingLimit}
-use Rattle.fips204.specs.Keys.{key_hash}
-use Rattle.fips204.specs.Keys.{PublicParts, PrivateParts, ArePublicParts, ArePrivateParts, IsPublicKeyOf, IsPrivateKeyOf}
+use Rattle.fips204.specs.Keys.{key_hash, PublicParts, PrivateParts, ArePublicParts, ArePrivateParts, IsPublicKeyOf, IsPrivateKeyOf}
 use Rattle.fips204.specs.ParameterSets.{set_44}
 use Rattle.fips204.specs.Refusals.{derived}
 use Rattle.mldsa_examples.specs.declared.key_store.LoadFault.{LoadFault}

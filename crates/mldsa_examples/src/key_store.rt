@@ -5,8 +5,7 @@
 #![tactic(auto)]
 
 ghost use Rattle.std.specs.Prelude.{◌≡◌, ◌+◌, ◌∷◌, ◌↔◌, IsTrue};
-ghost use Rattle.mldsa_examples.specs.KeyStore.{file_of, public_file_of, HasBytes, IsFileOf, ChecksAs};
-ghost use Rattle.mldsa_examples.specs.KeyStore.{LoadsAs, LoadsPublicAs, LoadsStored, LoadsStoredPublic};
+ghost use Rattle.mldsa_examples.specs.KeyStore.{file_of, public_file_of, HasBytes, IsFileOf, ChecksAs, LoadsAs, LoadsPublicAs, LoadsStored, LoadsStoredPublic};
 
 use fips204::laws;
 use fips204::ml_dsa_44::{PK_LEN, PrivateKey, PublicKey};

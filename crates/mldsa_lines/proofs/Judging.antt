@@ -1,6 +1,5 @@
 -- What the characters of a line are judged to be.
-use Rattle.std.proofs.Common.{◌≡◌, ◌≤◌, ◌<◌, ℕ, List, length, Option, Some, None, Result, Ok, Err, ap, sym, ◌∙◌, arith, refl, inl, inr}
-use Rattle.std.proofs.Common.{IfOk, IfErr, MatchResult, ◌⊎◌, subst}
+use Rattle.std.proofs.Common.{◌≡◌, ◌≤◌, ◌<◌, ℕ, List, length, Option, Some, None, Result, Ok, Err, ap, sym, ◌∙◌, arith, refl, inl, inr, IfOk, IfErr, MatchResult, ◌⊎◌, subst}
 use Rattle.std.proofs.lemmas.Bool.{cases_eq}
 use Rattle.std.proofs.lemmas.Bool.Decides.{nat_tests}
 use Rattle.hex.specs.Hex.{decode_of}

@@ -1,11 +1,8 @@
 -- Wanted lines one after another.
-use Rattle.std.proofs.Common.{◌≡◌, ℕ, suc, ◌+◌, List, [], ◌∷◌, ◌++◌, length, Option, Some, None, Result, Ok, Err, IfOk, IfErr, MatchResult}
-use Rattle.std.proofs.Common.{refl, sym, ap, ◌∙◌, arith, add-zero, length-take-le, take, drop, map, get_or, ◌<◌, ◌≤◌, subst}
-use Rattle.std.proofs.Common.{take-append-drop}
+use Rattle.std.proofs.Common.{◌≡◌, ℕ, suc, ◌+◌, List, [], ◌∷◌, ◌++◌, length, Option, Some, None, Result, Ok, Err, IfOk, IfErr, MatchResult, refl, sym, ap, ◌∙◌, arith, add-zero, length-take-le, take, drop, map, get_or, ◌<◌, ◌≤◌, subst, take-append-drop}
 use Rattle.std.proofs.lemmas.List.{take_more, drop_more, map-append}
 use Rattle.mldsa_lines.specs.declared.fault.RunFault.{RunFault}
-use Rattle.mldsa_lines.specs.Lines.{longest_line, line_reach, first_line, after_line, after_lines, line_bytes, before_lines, lines_bytes}
-use Rattle.mldsa_lines.specs.Lines.{Fits, AllFit, LeavesAllBut, IsLineFault, TakesLines, StopsInTurn, Stops, judged}
+use Rattle.mldsa_lines.specs.Lines.{longest_line, line_reach, first_line, after_line, after_lines, line_bytes, before_lines, lines_bytes, Fits, AllFit, LeavesAllBut, IsLineFault, TakesLines, StopsInTurn, Stops, judged}
 use Rattle.mldsa_lines.specs.InnerSteps.{TakesLine}
 use Rattle.mldsa_lines.proofs.Judging.{judged_digits}
 

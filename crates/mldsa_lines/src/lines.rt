@@ -1,10 +1,8 @@
 //! The lines of an input.
 #![tactic(auto)]
 
-ghost use Rattle.std.specs.Prelude.{◌≡◌, ◌<◌, ◌≤◌, ◌+◌, ◌^◌, ◌↔◌, ◌∷◌, [], length, take, map, position};
-ghost use Rattle.std.specs.Prelude.{false, true, Ok, Err, IsTrue, IfOk, IfErr, MatchResult};
-ghost use Rattle.mldsa_lines.specs.Lines.{longest_line, line_digits, ends_line, sized, refused};
-ghost use Rattle.mldsa_lines.specs.Lines.{Fits, AllFit, IsInputFault, TakesLines, StopsAt};
+ghost use Rattle.std.specs.Prelude.{◌≡◌, ◌<◌, ◌≤◌, ◌+◌, ◌^◌, ◌↔◌, ◌∷◌, [], length, take, map, position, false, true, Ok, Err, IsTrue, IfOk, IfErr, MatchResult};
+ghost use Rattle.mldsa_lines.specs.Lines.{longest_line, line_digits, ends_line, sized, refused, Fits, AllFit, IsInputFault, TakesLines, StopsAt};
 ghost use Rattle.mldsa_lines.specs.InnerSteps.{TakesPiece, TakesLine};
 
 use crate::fault::RunFault;

@@ -4,8 +4,7 @@
 
 ghost use Rattle.std.specs.Prelude.{◌≡◌, ◌↔◌, length, map, IsTrue};
 ghost use Rattle.fips204.specs.Framing.{message_hash};
-ghost use Rattle.fips204.specs.Prepared.{sign_prepared, sign_message_prepared, sign_digest_prepared, AcceptedIfWholePrepared, SignsEach, VerifiesEach};
-ghost use Rattle.fips204.specs.Prepared.{VerifiesPrepared, VerifiesMessagePrepared, VerifiesDigestPrepared};
+ghost use Rattle.fips204.specs.Prepared.{sign_prepared, sign_message_prepared, sign_digest_prepared, AcceptedIfWholePrepared, SignsEach, VerifiesEach, VerifiesPrepared, VerifiesMessagePrepared, VerifiesDigestPrepared};
 ghost use Rattle.fips204.specs.Refusals.{message_fault, digest_fault, DrawsIf, DrawsUnless};
 
 use crate::ml_dsa;

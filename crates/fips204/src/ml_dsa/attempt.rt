@@ -2,14 +2,12 @@
 #![tactic(auto)]
 
 ghost use Rattle.std.specs.Prelude.{◌≡◌, ◌≤◌, ◌<◌, ◌⊎◌, pos, nat_abs};
-ghost use Rattle.fips204_base.specs.Vectors.{VectorWithin};
+ghost use Rattle.fips204_base.specs.Vectors.{VectorWithin, vector_coefficients, vector_of};
 ghost use Rattle.fips204_base.specs.Residues.{residue};
 ghost use Rattle.fips204_base.specs.Rounding.{high_bits};
-ghost use Rattle.fips204_base.specs.Vectors.{vector_coefficients, vector_of};
 ghost use Rattle.fips204.specs.Signing.{attempt};
-ghost use Rattle.fips204.specs.SigningInputs.{AreAttemptInputs};
+ghost use Rattle.fips204.specs.SigningInputs.{AreAttemptInputs, attempt_answer};
 ghost use Rattle.fips204.specs.Sets.{set_of};
-ghost use Rattle.fips204.specs.SigningInputs.{attempt_answer};
 
 use super::commitment::commitment;
 use crate::types::{KeyTransforms, Params, PrivateKey, R, R0, T};

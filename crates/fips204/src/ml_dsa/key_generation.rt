@@ -3,9 +3,8 @@
 
 ghost use Rattle.std.specs.Prelude.{◌≡◌, ◌≤◌, ◌<◌, ◌+◌, ◌*◌, ◌%◌, List, None, Some, pos, nat_abs, take, drop, IfOk, IfErr};
 ghost use Rattle.fips204_base.specs.Sampling.{sampled_matrix};
-ghost use Rattle.fips204_base.specs.Vectors.{IsResidueVector, VectorWithin};
+ghost use Rattle.fips204_base.specs.Vectors.{IsResidueVector, VectorWithin, vector_of};
 ghost use Rattle.fips204_base.specs.Residues.{residue};
-ghost use Rattle.fips204_base.specs.Vectors.{vector_of};
 ghost use Rattle.fips204_base.specs.declared.types.T.{T};
 ghost use Rattle.fips204.specs.Keys.{key_vector};
 ghost use Rattle.fips204.specs.ParameterSets.{public_key_length};

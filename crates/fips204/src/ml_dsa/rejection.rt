@@ -2,18 +2,15 @@
 #![tactic(auto)]
 
 ghost use Rattle.std.specs.Prelude.{◌≡◌, ◌⊎◌, ◌<◌, ◌≤◌, ◌+◌, ◌*◌, ◌%◌, ℕ, List, pos, nat_abs, nat_lt, ◌≤ℤ◌, Ok, Some, length};
-ghost use Rattle.fips204_base.specs.Residues.{centred, vector_norm};
+ghost use Rattle.fips204_base.specs.Residues.{centred, vector_norm, coefficients, residue};
 ghost use Rattle.fips204_base.specs.Encodings.{all_ones};
-ghost use Rattle.fips204_base.specs.Vectors.{entry, VectorWithin};
+ghost use Rattle.fips204_base.specs.Vectors.{entry, VectorWithin, vector_coefficients, vector_of};
 ghost use Rattle.fips204_base.specs.Transforms.{product};
-ghost use Rattle.fips204_base.specs.Residues.{coefficients, residue};
 ghost use Rattle.fips204_base.specs.Rounding.{low_bits};
-ghost use Rattle.fips204_base.specs.Vectors.{vector_coefficients, vector_of};
 ghost use Rattle.fips204_base.specs.declared.types.R.{R};
 ghost use Rattle.fips204.specs.Signing.{checked_attempt, hint_bit, w_minus_cs2, y_plus_cs1};
-ghost use Rattle.fips204.specs.SigningInputs.{AreCheckInputs};
+ghost use Rattle.fips204.specs.SigningInputs.{AreCheckInputs, attempt_answer};
 ghost use Rattle.fips204.specs.Sets.{set_of};
-ghost use Rattle.fips204.specs.SigningInputs.{attempt_answer};
 
 use crate::types::{KeyTransforms, Params, PrivateKey, R, R0};
 use fips204_base::encodings::sig_encode;

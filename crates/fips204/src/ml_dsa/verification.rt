@@ -5,10 +5,9 @@ ghost use Rattle.std.specs.Prelude.{◌≡◌, ◌≤◌, ◌<◌, ◌⊎◌, �
 ghost use Rattle.std.specs.List.{All};
 ghost use Rattle.fips204_base.specs.Sampling.{challenge};
 ghost use Rattle.fips204_base.specs.Packing.{PolynomialInRange};
-ghost use Rattle.fips204_base.specs.Vectors.{PolynomialWithin, VectorWithin};
+ghost use Rattle.fips204_base.specs.Vectors.{PolynomialWithin, VectorWithin, IsVector, vector_coefficients};
 ghost use Rattle.fips204_base.specs.Residues.{residue};
 ghost use Rattle.fips204_base.specs.Rounding.{high_values, use_hint};
-ghost use Rattle.fips204_base.specs.Vectors.{IsVector, vector_coefficients};
 ghost use Rattle.fips204_base.specs.declared.types.R.{R};
 ghost use Rattle.fips204.specs.Acceptance.{t1_shifted, hinted, Accepts, Verifies};
 ghost use Rattle.fips204.specs.SigningInputs.{HasShortParts};

@@ -2,8 +2,7 @@
 #![tactic(auto)]
 
 ghost use Rattle.std.specs.Prelude.{◌≡◌, ◌<◌, ◌≤◌, ◌+◌, ◌-◌, ◌*◌, ℕ, ℤ, List, pos, nat_abs, ◌-ℤ◌, ◌≤ℤ◌, length, MatchOption};
-ghost use Rattle.fips204_base.specs.Encodings.{IsGamma1, IsSignature, signature_bytes, w1_bytes};
-ghost use Rattle.fips204_base.specs.Encodings.{all_ones};
+ghost use Rattle.fips204_base.specs.Encodings.{IsGamma1, IsSignature, signature_bytes, w1_bytes, all_ones};
 ghost use Rattle.fips204_base.specs.Packing.{width};
 ghost use Rattle.fips204_base.specs.Rounding.{IsGamma2, high_values};
 ghost use Rattle.fips204_base.specs.Vectors.{VectorInRange};

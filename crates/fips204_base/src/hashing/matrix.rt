@@ -5,8 +5,7 @@ ghost use Rattle.std.specs.Prelude.{◌≡◌, ◌≤◌, ◌<◌, ◌/◌, ℕ,
 ghost use Rattle.std.specs.List.{flat_map};
 ghost use Rattle.fips204_base.specs.Network.{AreKept};
 ghost use Rattle.fips204_base.specs.Sampling.{kept_triples, matrix_entry, sampled_matrix, sampled_row};
-ghost use Rattle.fips204_base.specs.Vectors.{entry, TransformsWithin, AreRowProducts, PolynomialWithin, VectorWithin};
-ghost use Rattle.fips204_base.specs.Vectors.{vector_coefficients, matrix_product, product_difference};
+ghost use Rattle.fips204_base.specs.Vectors.{entry, TransformsWithin, AreRowProducts, PolynomialWithin, VectorWithin, vector_coefficients, matrix_product, product_difference};
 ghost use Rattle.fips204_base.specs.declared.types.T.{T};
 
 use crate::conversion::coeff_from_three_bytes;

@@ -3,9 +3,8 @@
 
 ghost use Rattle.std.specs.Prelude.{◌≡◌, ◌≤◌, ◌+◌, length, nat_abs, ok_or, IfOk, IfErr, Some};
 ghost use Rattle.std.specs.List.{flat_map};
-ghost use Rattle.fips204_base.specs.Sampling.{IsEta};
+ghost use Rattle.fips204_base.specs.Sampling.{IsEta, LacksSmallVector, kept_half_bytes, small_polynomial, small_vector};
 ghost use Rattle.fips204_base.specs.Network.{AreKept};
-ghost use Rattle.fips204_base.specs.Sampling.{LacksSmallVector, kept_half_bytes, small_polynomial, small_vector};
 
 use crate::conversion::coeff_from_half_byte;
 use crate::fault::Fault;

@@ -3,9 +3,7 @@
 
 ghost use Rattle.std.specs.Prelude.{◌≡◌, ◌<◌, ◌≤◌, ◌+◌, ◌*◌, ◌/◌, ◌%◌, ℤ, pos, ◌-ℤ◌, ◌*ℤ◌, ◌≤ℤ◌, nat_abs};
 ghost use Rattle.std.specs.Int.{int_rem_euclid};
-ghost use Rattle.fips204_base.specs.Residues.{residue, IsCongruent};
-ghost use Rattle.fips204_base.specs.Residues.{centred};
-ghost use Rattle.fips204_base.specs.Residues.{IsMontgomery};
+ghost use Rattle.fips204_base.specs.Residues.{residue, IsCongruent, centred, IsMontgomery};
 
 use crate::Q;
 

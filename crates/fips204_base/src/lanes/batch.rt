@@ -4,12 +4,10 @@
 
 ghost use Rattle.std.specs.Prelude.{◌≡◌, ◌<◌, ◌≤◌, ◌+◌, ◌-◌, ◌*◌, ◌/◌, ◌^◌, ℕ, pos, nat_abs, length, slice_index_or};
 ghost use Rattle.fips204_base.specs.Lanes.{lane, lane_at, residues, LanesWithin};
-ghost use Rattle.fips204_base.specs.Vectors.{coefficient_at, entry, TransformsWithin, VectorWithin, ValuesWithin, vector_residues};
+ghost use Rattle.fips204_base.specs.Vectors.{coefficient_at, entry, TransformsWithin, VectorWithin, ValuesWithin, vector_residues, vector_coefficients, AreTransformsOf};
 ghost use Rattle.fips204_base.specs.Network.{InRow, value_at};
-ghost use Rattle.fips204_base.specs.Transforms.{minus, pointwise};
+ghost use Rattle.fips204_base.specs.Transforms.{minus, pointwise, transform, inverse_transform};
 ghost use Rattle.fips204_base.specs.Residues.{coefficients, residue};
-ghost use Rattle.fips204_base.specs.Transforms.{transform, inverse_transform};
-ghost use Rattle.fips204_base.specs.Vectors.{vector_coefficients, AreTransformsOf};
 
 use crate::helpers::{Count, Lanes};
 use crate::ntt::{write_inv_ntt, write_ntt};

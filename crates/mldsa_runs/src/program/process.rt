@@ -62,7 +62,7 @@ fn statuses_and_lines_of_faults(rt: HostRuntime) -> Result<(), Fail> {
         (Err(RunFault::Memory), 2, "out of memory\n"),
     ] {
         let error = KeptError(RefCell::new(String::new(rt.alloc())));
-        assert!(rt; end(&error, answer) == ExitCode::from(status), "{text}");
+        assert_eq!(rt; end(&error, answer), ExitCode::from(status), "{answer:?}");
         assert_eq!(rt; error.0.into_inner().as_str(), text);
         if let Err(fault) = answer {
             assert_eq!(rt; format!(in rt.alloc(); "{fault}\n")?.as_str(), text);

@@ -1,6 +1,5 @@
-use Rattle.std.proofs.Common.{rules, arith, ℕ, ◌≡◌, ◌<◌, ◌+◌, ◌*◌, ◌%◌, ◌^◌, pos, length, take, get_or, bit_and, ◌∙◌, refl, length-set, append-nil, w32}
+use Rattle.std.proofs.Common.{rules, arith, ℕ, ◌≡◌, ◌<◌, ◌+◌, ◌*◌, ◌%◌, ◌^◌, pos, length, take, get_or, bit_and, ◌∙◌, refl, length-set, append-nil, w32, SFits}
 use Rattle.std.proofs.lemmas.Int.{to_z-of_z}
-use Rattle.std.proofs.Common.{SFits}
 use Rattle.std.proofs.lemmas.List.{map_more, take_more_set, take_all}
 use Rattle.std.proofs.lemmas.Nat.{and_mask}
 use Rattle.fips204_base.specs.Packing.{width, field, bits}

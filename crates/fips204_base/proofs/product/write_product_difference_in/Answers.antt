@@ -1,9 +1,8 @@
 use Rattle.std.proofs.Common.{ap, pos, refl, ◌∙◌}
 use Rattle.fips204_base.specs.Residues.{coefficients}
-use Rattle.fips204_base.specs.Vectors.{vector_residues}
+use Rattle.fips204_base.specs.Vectors.{vector_residues, vector_coefficients}
 use Rattle.fips204_base.specs.Network.{matrix_residues}
 use Rattle.fips204_base.specs.Transforms.{minus, pointwise}
-use Rattle.fips204_base.specs.Vectors.{vector_coefficients}
 use Rattle.fips204_base.proofs.Products.{difference_of_products}
 use Rattle.fips204_base.proofs.product.write_product_difference_in.Goals as goal
 

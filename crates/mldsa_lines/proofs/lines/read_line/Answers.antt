@@ -1,5 +1,4 @@
-use Rattle.std.proofs.Common.{◌≡◌, ◌<◌, ◌≤◌, ◌+◌, ◌-◌, ◌∙◌, ◌++◌, ℕ, List, min, rules, arith, take, drop, length, length-append}
-use Rattle.std.proofs.Common.{length-take, length-take-le}
+use Rattle.std.proofs.Common.{◌≡◌, ◌<◌, ◌≤◌, ◌+◌, ◌-◌, ◌∙◌, ◌++◌, ℕ, List, min, rules, arith, take, drop, length, length-append, length-take, length-take-le}
 use Rattle.std.proofs.lemmas.List.{take-append-le}
 use Rattle.mldsa_lines.specs.Lines.{longest_line}
 use Rattle.mldsa_lines.proofs.Endings.{goes_on, ends_with_line, ends_with_input, long_line}

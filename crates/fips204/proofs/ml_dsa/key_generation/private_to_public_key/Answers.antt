@@ -1,8 +1,7 @@
 use Rattle.std.proofs.Common.{rules, ◌≡◌, ◌∙◌, sym, subst, Ok, Err}
 use Rattle.fips204_base.specs.declared.fault.Fault.TheVariants.{SamplingLimit}
 use Rattle.fips204_base.proofs.Vectors.{vector-within}
-use Rattle.fips204.specs.Keys.{high_part}
-use Rattle.fips204.specs.Keys.{PublicParts, PrivateParts}
+use Rattle.fips204.specs.Keys.{high_part, PublicParts, PrivateParts}
 use Rattle.fips204.specs.Refusals.{derived}
 use Rattle.fips204.specs.Sets.{set_of}
 use Rattle.fips204.proofs.ParameterSets.{matrix-shape, eta_of_rows-small}

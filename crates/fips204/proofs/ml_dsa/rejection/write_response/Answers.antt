@@ -1,6 +1,5 @@
 use Rattle.std.proofs.Common.{◌∙◌, ap, pos, arith}
-use Rattle.fips204_base.specs.Residues.{centred}
-use Rattle.fips204_base.specs.Residues.{residue}
+use Rattle.fips204_base.specs.Residues.{centred, residue}
 use Rattle.fips204.specs.Signing.{y_plus_cs1}
 use Rattle.fips204.proofs.ml_dsa.rejection.write_response.Goals as goal
 

@@ -1,8 +1,7 @@
 use Rattle.std.proofs.Common.{rules, subst, IsTrue, None, ◌≢◌, ◌↔◌}
 use Rattle.fips204_base.specs.Sampling.{sampled_matrix}
 use Rattle.fips204_base.proofs.Vectors.{vector-within}
-use Rattle.fips204.specs.Keys.{PrivateParts}
-use Rattle.fips204.specs.Keys.{IsWhole}
+use Rattle.fips204.specs.Keys.{PrivateParts, IsWhole}
 use Rattle.fips204.specs.Sets.{set_of}
 use Rattle.fips204.proofs.KeyGeneration.{key_vector-is, low_part-is, tells_whole}
 use Rattle.fips204.proofs.ParameterSets.{matrix-shape, eta_of_rows-small}

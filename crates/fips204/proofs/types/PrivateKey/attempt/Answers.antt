@@ -1,11 +1,9 @@
 use Rattle.std.proofs.Common.{rules, ◌≡◌, ◌∙◌, ap, sym, nat_abs, pos, arith, w32, Ok, Err, ok_or}
 use Rattle.std.proofs.lemmas.Int.{to_z-of_z}
 use Rattle.fips204_base.specs.declared.fault.Fault.TheVariants.{SamplingLimit}
-use Rattle.fips204_base.specs.Sampling.{challenge}
-use Rattle.fips204_base.specs.Sampling.{mask}
-use Rattle.fips204_base.specs.Vectors.{VectorWithin}
+use Rattle.fips204_base.specs.Sampling.{challenge, mask}
+use Rattle.fips204_base.specs.Vectors.{VectorWithin, vector_coefficients, vector_of}
 use Rattle.fips204_base.specs.Rounding.{high_bits}
-use Rattle.fips204_base.specs.Vectors.{vector_coefficients, vector_of}
 use Rattle.fips204_base.proofs.Sampled.{some_of_ok, none_of_err}
 use Rattle.fips204.specs.Signing.{attempt, checked_attempt}
 use Rattle.fips204.specs.SigningInputs.{attempt_answer}

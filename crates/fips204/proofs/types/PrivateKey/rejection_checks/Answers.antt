@@ -3,8 +3,7 @@ use Rattle.std.specs.Prelude.{nat_lt}
 use Rattle.std.proofs.lemmas.Int.{to_z-of_z, ints}
 use Rattle.std.proofs.lemmas.Bool.{ltb-true}
 use Rattle.fips204_base.specs.Encodings.{all_ones}
-use Rattle.fips204_base.specs.Residues.{vector_norm}
-use Rattle.fips204_base.specs.Residues.{coefficients}
+use Rattle.fips204_base.specs.Residues.{vector_norm, coefficients}
 use Rattle.fips204_base.specs.Vectors.{vector_coefficients}
 use Rattle.fips204.specs.Signing.{response, low_vector, ct0, hint_vector, y_plus_cs1}
 use Rattle.fips204.specs.Sets.{set_of}

@@ -1,9 +1,8 @@
 use Rattle.std.proofs.Common.{rules, ◌≡◌, ◌≤◌, ◌+◌, ◌*◌, ◌∙◌, ◌++◌, ℕ, List, [], take, append-nil, append_assoc, ap, sym, arith, Err}
 use Rattle.fips204_base.specs.declared.fault.Fault.TheVariants.{SamplingLimit}
-use Rattle.fips204.specs.Signing.{attempt}
+use Rattle.fips204.specs.Signing.{attempt, mask_seed}
 use Rattle.fips204.specs.Keys.{PrivateParts}
 use Rattle.fips204.specs.Sets.{set_of}
-use Rattle.fips204.specs.Signing.{mask_seed}
 use Rattle.fips204.proofs.ParameterSets.{limits}
 use Rattle.fips204.proofs.Signing.{counter_fits, answered-fault, one_more, sign_with-signed, sign_with-limit, sign_with-none}
 use Rattle.fips204.proofs.types.PrivateKey.sign_with.Given.{Over}

@@ -1,8 +1,7 @@
 use Rattle.std.proofs.Common.{◌≡◌, ◌+◌, ◌*◌, ◌-◌, ◌∙◌, ◌-ℤ◌, pos, ap, arith, refl, rules, nat_abs, length, w32, to_z, of_z, replicate}
 use Rattle.std.proofs.lemmas.Int.{ints, to_z-of_z}
 use Rattle.std.proofs.lemmas.List.{length-replicate}
-use Rattle.fips204_base.specs.Encodings.{vector_bytes}
-use Rattle.fips204_base.specs.Encodings.{hint_bytes}
+use Rattle.fips204_base.specs.Encodings.{vector_bytes, hint_bytes}
 use Rattle.fips204_base.specs.Packing.{width}
 use Rattle.fips204_base.proofs.VectorBytes.{room_within, room_left, written_first, written_more, written_last}
 use Rattle.fips204_base.proofs.EncodedParts.{response_bounds, response_least}

@@ -1,8 +1,7 @@
 use Rattle.std.proofs.Common.{◌≡◌, ◌++◌, length, map, take, nat_abs, Some}
 use Rattle.std.specs.Int.{w16, to_le_bytes}
 use Rattle.std.specs.List.{range_with_len}
-use Rattle.fips204_base.specs.Sampling.{small_polynomial}
-use Rattle.fips204_base.specs.Sampling.{all_present}
+use Rattle.fips204_base.specs.Sampling.{small_polynomial, all_present}
 use Rattle.fips204_base.proofs.hashing.small.write_small_polynomials.Given as goal
 
 abbrev pub invariant-loop-r : goal.invariant-loop-r

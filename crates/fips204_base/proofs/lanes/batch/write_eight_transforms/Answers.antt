@@ -2,8 +2,7 @@ use Rattle.std.proofs.Common.{◌≡◌, ◌<◌, ◌+◌, ◌-◌, ◌∙◌, [
 use Rattle.fips204_base.specs.Residues.{residue}
 use Rattle.fips204_base.specs.Lanes.{residues}
 use Rattle.fips204_base.specs.Network.{InRow}
-use Rattle.fips204_base.specs.Vectors.{entry}
-use Rattle.fips204_base.specs.Vectors.{vector_coefficients}
+use Rattle.fips204_base.specs.Vectors.{entry, vector_coefficients}
 use Rattle.fips204_base.specs.declared.lanes.row.Lanes.{Lanes}
 use Rattle.fips204_base.proofs.LaneBatches.{zeros, lane_transform}
 use Rattle.fips204_base.proofs.lanes.batch.write_eight_transforms.Goals as goal

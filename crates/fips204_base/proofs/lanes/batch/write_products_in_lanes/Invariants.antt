@@ -1,8 +1,7 @@
 use Rattle.std.proofs.Common.{ℕ, ◌≡◌, ◌<◌, ◌+◌, ◌*◌, pos}
 use Rattle.fips204_base.specs.Vectors.{entry, vector_residues}
-use Rattle.fips204_base.specs.Transforms.{pointwise}
+use Rattle.fips204_base.specs.Transforms.{pointwise, inverse_transform}
 use Rattle.fips204_base.specs.Residues.{coefficients}
-use Rattle.fips204_base.specs.Transforms.{inverse_transform}
 use Rattle.fips204_base.proofs.lanes.batch.write_products_in_lanes.Given as goal
 
 abbrev pub invariant-loop-part : goal.invariant-loop-part

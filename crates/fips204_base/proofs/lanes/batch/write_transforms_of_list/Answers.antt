@@ -1,8 +1,7 @@
 use Rattle.std.proofs.Common.{ℕ, ◌≡◌, ◌<◌, ◌*◌, [], arith}
 use Rattle.fips204_base.specs.Residues.{coefficients}
 use Rattle.fips204_base.specs.Transforms.{transform}
-use Rattle.fips204_base.specs.Vectors.{ValuesWithin}
-use Rattle.fips204_base.specs.Vectors.{vector_coefficients}
+use Rattle.fips204_base.specs.Vectors.{ValuesWithin, vector_coefficients}
 use Rattle.fips204_base.specs.declared.types.T.{T}
 use Rattle.fips204_base.proofs.LaneBatches.{row_of_eight}
 use Rattle.fips204_base.proofs.lanes.batch.write_transforms_of_list.Goals as goal

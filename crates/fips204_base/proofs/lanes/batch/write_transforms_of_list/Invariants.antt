@@ -1,8 +1,7 @@
 use Rattle.std.proofs.Common.{ℕ, ◌≡◌, ◌<◌, ◌+◌, ◌*◌, length, get_or}
 use Rattle.fips204_base.specs.declared.types.T.{T}
-use Rattle.fips204_base.specs.Vectors.{ValuesWithin, vector_residues}
+use Rattle.fips204_base.specs.Vectors.{ValuesWithin, vector_residues, vector_coefficients}
 use Rattle.fips204_base.specs.Transforms.{transform}
-use Rattle.fips204_base.specs.Vectors.{vector_coefficients}
 use Rattle.fips204_base.proofs.lanes.batch.write_transforms_of_list.Given as goal
 
 abbrev pub invariant-loop-part : goal.invariant-loop-part

@@ -1,7 +1,6 @@
 use Rattle.std.proofs.Common.{ℕ, ◌≡◌, ◌<◌, ◌+◌, ◌-◌, pos, length, get_or}
 use Rattle.fips204_base.specs.declared.types.T.{T}
-use Rattle.fips204_base.specs.Network.{InRow}
-use Rattle.fips204_base.specs.Network.{value_at}
+use Rattle.fips204_base.specs.Network.{InRow, value_at}
 use Rattle.fips204_base.proofs.lanes.batch.write_value.Given as goal
 
 abbrev pub invariant-loop-r : goal.invariant-loop-r

@@ -3,7 +3,7 @@ use Rattle.fips204_base.specs.declared.fault.Fault.{Fault}
 use Rattle.fips204_base.specs.declared.fault.Fault.TheVariants.{SamplingLimit}
 use Rattle.std.proofs.lemmas.List.{get_or-map, length-map}
 use Rattle.fips204.specs.Prepared.{sign_message_prepared}
-use Rattle.fips204.proofs.Prepared.{each_more}
+use Rattle.fips204_base.proofs.Vectors.{row_written}
 use Rattle.fips204.proofs.types.prepared.PreparedPrivateKey.sign_each.Goals as goal
 
 pub loop-i-preserved : goal.loop-i-preserved
@@ -13,7 +13,7 @@ loop-i-preserved g c =
     let text = get_or-map (λ (m : Bor (List ℕ)). m.now) c.args.messages.now c.loop-i.i record { ref_ptr = (0, 0); now = [] } [] c.loop-i-test.true in
     record {
       size = search rules;
-      signed = each_more (λ (k : ℕ) (answer : Result (List ℕ) Fault). answer ≡ signed k (get_or texts k [])) c.loop-i.out c.loop-i.i c.try_sign_with_seed.result (Err SamplingLimit)
+      signed = row_written (λ (k : ℕ) (answer : Result (List ℕ) Fault). answer ≡ signed k (get_or texts k [])) c.loop-i.out c.loop-i.i c.try_sign_with_seed.result (Err SamplingLimit)
           (omega (arith, c.loop-i-test.true, c.loop-i.invariant.size)) c.loop-i.invariant.signed (c.try_sign_with_seed.ensures.answer ∙ ap (signed c.loop-i.i) (sym text));
     }
 

@@ -2,7 +2,7 @@ use Rattle.std.proofs.Common.{rules, arith, ◌≡◌, ◌∙◌, ℕ, List, [],
 use Rattle.std.specs.Prelude.{◌↔◌}
 use Rattle.std.proofs.lemmas.List.{get_or-map, get_or_default, length-map}
 use Rattle.fips204.specs.Prepared.{VerifiesMessagePrepared}
-use Rattle.fips204.proofs.Prepared.{each_more}
+use Rattle.fips204_base.proofs.Vectors.{row_written}
 use Rattle.fips204.proofs.types.prepared.PreparedPublicKey.verify_each.Goals as goal
 
 pub loop-i-preserved : goal.loop-i-preserved
@@ -14,7 +14,7 @@ loop-i-preserved g c =
     c.index-signatures-i.is ∙ get_or_default c.args.signatures.now c.loop-i.i c.index-signatures-i.result [] (omega (arith, c.loop-i-test.true, c.requires.signatures)) in
     record {
       size = search rules;
-      judged = each_more (λ (k : ℕ) (answer : Bool). IsTrue answer ↔ accepted k (get_or texts k [])) c.loop-i.out c.loop-i.i c.verify.result false
+      judged = row_written (λ (k : ℕ) (answer : Bool). IsTrue answer ↔ accepted k (get_or texts k [])) c.loop-i.out c.loop-i.i c.verify.result false
           (omega (arith, c.loop-i-test.true, c.loop-i.invariant.size)) c.loop-i.invariant.judged
           (subst (λ (message : List ℕ). IsTrue c.verify.result ↔ accepted c.loop-i.i message) (sym text) (rw signature at c.verify.ensures));
     }
