@@ -1,5 +1,5 @@
 -- The ranges of what is sampled or given by a type.
-use Rattle.std.proofs.Common.{◌≡◌, ℕ, List, [], ◌∷◌, length, ◌<◌, ◌≤◌, suc, ◌++◌, ℤ, nat_abs, get_or, take, sym, subst, ◌∙◌, arith, Some, Bool, true, false, not, inl, inr, refl, ap, ◌≢◌, Decides, true≢false}
+use Rattle.std.proofs.Common.{◌≡◌, ℕ, List, [], ◌∷◌, length, ◌<◌, ◌≤◌, suc, ℤ, nat_abs, get_or, take, sym, subst, ◌∙◌, arith, Some, Bool, true, false, not, inl, inr, refl, ap, ◌≢◌, Decides, true≢false}
 use lib.Pointwise.{pointwise}
 use Rattle.std.specs.Ordering.{int_eq}
 use Rattle.std.proofs.lemmas.Bool.Decides.{Decides-int_eq}
@@ -15,11 +15,9 @@ use Rattle.std.specs.Prelude.{nat_eq, nat_lt}
 use Rattle.std.proofs.lemmas.Bool.{cases_Bool, cases_lt, eqb-true, lt-ltb, le-ltb}
 use Rattle.std.proofs.lemmas.Int.{ints}
 use Rattle.std.proofs.lemmas.Option.{none-some}
-use Rattle.fips204_base.specs.declared.types.T.{T}
 use Rattle.fips204_base.specs.Packing.{bits}
-use Rattle.fips204_base.specs.Vectors.{coefficient_at, entry, PolynomialWithin, MatrixWithin, polynomial_of, vector_of}
-use Rattle.fips204_base.specs.Sampling.{sampled_matrix, sign_of, signed_sum, challenge_picks, challenge}
-use Rattle.fips204_base.proofs.Sampled.{matrix_entry-residues, residues-within, sampled_matrix-entries}
+use Rattle.fips204_base.specs.Vectors.{coefficient_at, entry, PolynomialWithin, polynomial_of, vector_of}
+use Rattle.fips204_base.specs.Sampling.{sign_of, signed_sum, challenge_picks, challenge}
 use Rattle.fips204_base.proofs.Challenges.{challenge_places, challenge_places-apart, length-challenge_places, sum-elsewhere}
 use Rattle.fips204_base.proofs.Vectors.{polynomial_of-at, vector_of-same}
 
@@ -39,19 +37,7 @@ pub whole_vector : (k : ℕ) (f : ℕ → ℕ → ℤ) (v : List R) → length v
     → ((r n : ℕ) → r < k → n < 256 → entry v r n ≡ f r n) → v ≡ vector_of k f
 whole_vector k f v rows typed at = vector_of-same k f v rows (λ r h. whole_rows k v typed r record { 0 = [] } (omega (arith, h, rows))) at
 
--- The ranges of what is sampled: a matrix has residues, and a challenge has ones, minus ones and zeros.
-
--- ---- the matrix
-
-pub matrix_within : (G : List ℕ → List ℕ) (rho : List ℕ) (k l : ℕ) (a : List (List T)) → sampled_matrix G rho k l ≡ Some a → MatrixWithin 8380416 a
-matrix_within G rho k l a e r d h s f m =
-    let entries = sampled_matrix-entries G rho k l a e in
-    let row : r < k = omega (arith, h, entries.0) in
-    let size : length (get_or a r d) ≡ l = entries.1 r d row in
-    let column : s < l = omega (arith, m, size) in
-    residues-within (get_or (get_or a r d) s f).0 (matrix_entry-residues (G (rho ++ s ∷ r ∷ [])) (get_or (get_or a r d) s f) (entries.2 r s d f row column)).1
-
--- ---- the challenge
+-- The range of a challenge: ones, minus ones and zeros.
 
 sign-within : (bit : ℕ) → nat_abs (sign_of bit) ≤ 1
 sign-within bit = elim (cases_Bool (nat_eq bit 1)) [

@@ -17,7 +17,7 @@ use Rattle.fips204_base.specs.declared.types.T.{T}
 use Rattle.std.specs.Int.{w16, to_le_bytes}
 use Rattle.fips204_base.specs.declared.types.R.{R}
 use Rattle.fips204_base.specs.Packing.{PolynomialInRange}
-use Rattle.fips204_base.specs.Vectors.{ValuesWithin, TransformsWithin, IsVector}
+use Rattle.fips204_base.specs.Vectors.{ValuesWithin, TransformsWithin, MatrixWithin, IsVector}
 
 -- Lists of values that may be none, each made in turn.
 
@@ -174,29 +174,14 @@ pub whole_entry : (kept : List ℤ) (o : Option (List ℤ)) (t : T) → first_25
 whole_entry kept None t e m = absurd (none-some t m)
 whole_entry kept (Some values) t e m = let made : T = record { 0 = values } in let whole : Some made ≡ Some t = m in let same : made ≡ t = cc in e ∙ ap (λ (t : T). Some t.0) same
 
-pub matrix_entry-residues : (front : List ℕ) (t : T) → matrix_entry front ≡ Some t → (length t.0 ≡ 256) × All (λ x. (pos 0 ≤ℤ x) × (x ≤ℤ pos 8380416)) t.0
+matrix_entry-residues : (front : List ℕ) (t : T) → matrix_entry front ≡ Some t → (length t.0 ≡ 256) × All (λ x. (pos 0 ≤ℤ x) × (x ≤ℤ pos 8380416)) t.0
 unfolding matrix_entry kept_triples
 matrix_entry-residues front t e =
     let P = λ (x : ℤ). (pos 0 ≤ℤ x) × (x ≤ℤ pos 8380416) in
     let kept = filter_map (triple front) (range_with_len 0 (length front / 4)) in
     first_kept P kept t.0 (all_kept P (triple front) (range_with_len 0 (length front / 4)) (triple_residue front)) (whole_entry kept (first_256 kept) t refl e)
 
--- ---- the matrix, entry by entry
-
--- the entries of a sampled matrix
-pub sampled_matrix-entries : (G : List ℕ → List ℕ) (rho : List ℕ) (k l : ℕ) (a : List (List T)) → sampled_matrix G rho k l ≡ Some a
-    → (length a ≡ k) × ((r : ℕ) (d : List T) → r < k → length (get_or a r d) ≡ l) × ((r s : ℕ) (d : List T) (e : T) → r < k → s < l → sampled_entry G rho r s ≡ Some (get_or (get_or a r d) s e))
-unfolding sampled_matrix
-sampled_matrix-entries G rho k l a e =
-    let rows = all_present-at (sampled_row G rho l) 0 k a e in
-    let row : (r : ℕ) (d : List T) → r < k → AreValues (sampled_entry G rho r) 0 l (get_or a r d) =
-    λ r d h. all_present-at (sampled_entry G rho r) 0 l (get_or a r d) (ap (sampled_row G rho l) (sym (from_zero r)) ∙ rows.1 r d h) in (
-      rows.0,
-      λ r d h. (row r d h).0,
-      λ r s d f h m. ap (sampled_entry G rho r) (sym (from_zero s)) ∙ (row r d h).1 s f m,
-    )
-
-pub residues-within : (xs : List ℤ) → All (λ x. (pos 0 ≤ℤ x) × (x ≤ℤ pos 8380416)) xs → ValuesWithin 8380416 xs
+residues-within : (xs : List ℤ) → All (λ x. (pos 0 ≤ℤ x) × (x ≤ℤ pos 8380416)) xs → ValuesWithin 8380416 xs
 residues-within xs h i d l = let b = h i d l in omega (arith, ints, b)
 
 -- where a row is none, the matrix is, and a caller answers by its fault
@@ -212,6 +197,13 @@ row-within G rho l r row e s f m =
     let column : s < l = omega (arith, m, values.0) in
     let there : sampled_entry G rho r s ≡ Some (get_or row s f) = ap (sampled_entry G rho r) (sym (from_zero s)) ∙ values.1 s f column in
     residues-within (get_or row s f).0 (matrix_entry-residues (G (rho ++ s ∷ r ∷ [])) (get_or row s f) there).1
+
+-- and so is a matrix
+pub matrix-within : (G : List ℕ → List ℕ) (rho : List ℕ) (k l : ℕ) (a : List (List T)) → sampled_matrix G rho k l ≡ Some a → MatrixWithin 8380416 a
+unfolding sampled_matrix
+matrix-within G rho k l a e r d h =
+    let rows = all_present-at (sampled_row G rho l) 0 k a e in
+    row-within G rho l r (get_or a r d) (ap (sampled_row G rho l) (sym (from_zero r)) ∙ rows.1 r d (omega (arith, h, rows.0)))
 
 -- The range of small polynomials.
 

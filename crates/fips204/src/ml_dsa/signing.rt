@@ -23,7 +23,7 @@ pub const MAX_SIGN_ATTEMPTS: u16 = 814;
 /// reaches its limit; `Fault::TooManyAttempts` if all attempts are rejected.
 ///
 /// `K` and `L` are those of the set, and `LAMBDA_DIV4` and `SIG_LEN` its lengths.
-#[tactic(auto, using(crate::proofs::Ranges::matrix_within, crate::proofs::ParameterSets::matrix_room))]
+#[tactic(auto, using(crate::proofs::ParameterSets::matrix_room))]
 pub fn sign_internal<
     const K: usize,
     const L: usize,

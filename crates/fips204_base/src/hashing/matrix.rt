@@ -5,7 +5,7 @@ ghost use Rattle.std.specs.Prelude.{◌≡◌, ◌≤◌, ◌<◌, ◌/◌, ℕ,
 ghost use Rattle.std.specs.List.{flat_map};
 ghost use Rattle.fips204_base.specs.Network.{AreKept};
 ghost use Rattle.fips204_base.specs.Sampling.{kept_triples, matrix_entry, sampled_matrix, sampled_row};
-ghost use Rattle.fips204_base.specs.Vectors.{entry, TransformsWithin, AreRowProducts, PolynomialWithin, VectorWithin, vector_coefficients, matrix_product, product_difference};
+ghost use Rattle.fips204_base.specs.Vectors.{entry, TransformsWithin, MatrixWithin, AreRowProducts, PolynomialWithin, VectorWithin, vector_coefficients, matrix_product, product_difference};
 ghost use Rattle.fips204_base.specs.declared.types.T.{T};
 
 use crate::conversion::coeff_from_three_bytes;
@@ -78,8 +78,8 @@ pub fn expand_a<const K: usize, const L: usize, G: Xof>(
     Ok(matrix)
 }
 
-/// `expand_a`, written into the caller's place. After an error part of it may be written. Internal: serves the crate
-/// `fips204` alone.
+/// `expand_a`, written into the caller's place, with values below `q` in absolute value. After an error part of it
+/// may be written. Internal: serves the crate `fips204` alone.
 pub fn write_expanded_a<const K: usize, const L: usize, G: Xof>(
     rho: &[u8; 32],
     matrix: &mut [[T; L]; K],
@@ -87,6 +87,7 @@ pub fn write_expanded_a<const K: usize, const L: usize, G: Xof>(
     requires shape { (K ≤ 8) × (L ≤ 7) }
     ensures refused { IfErr result (λ fault. (sampled_matrix G.front rho.now K L ≡ None) × (fault ≡ Fault.SamplingLimit)) }
     ensures values { IfOk result (λ _. sampled_matrix G.front rho.now K L ≡ Some matrix.new) }
+    ensures small { IfOk result (λ _. MatrixWithin 8380416 matrix.new) }
 {
     for r in 0..K {
         write_expanded_row::<L, G>(rho, r, &mut matrix[r])?;

@@ -1,6 +1,6 @@
 use Rattle.std.proofs.Common.{◌∙◌, arith, rules, length-set}
 use Rattle.fips204_base.specs.Sampling.{sampled_row, sampled_matrix}
-use Rattle.fips204_base.proofs.Sampled.{matrix-refused, present_nil, present_next, present_whole}
+use Rattle.fips204_base.proofs.Sampled.{matrix-refused, matrix-within, present_nil, present_next, present_whole}
 use Rattle.fips204_base.proofs.hashing.matrix.write_expanded_a.Goals as goal
 
 pub loop-r-init : goal.loop-r-init
@@ -22,3 +22,6 @@ unfolding sampled_matrix
 returns-clause-values g c =
     present_whole (sampled_row g.G.Xof.front c.args.rho.now g.row.L) 0 g.row.K c.loop-r.r c.loop-r.matrix
     (omega (arith, c.loop-r-test.false, c.loop-r.auto.r-end)) c.loop-r.invariant.0 c.loop-r.invariant.1
+
+pub returns-clause-small : goal.returns-clause-small
+returns-clause-small g c = matrix-within g.G.Xof.front c.args.rho.now g.row.K g.row.L c.loop-r.matrix (returns-clause-values g c)
