@@ -108,9 +108,6 @@ transform_below w i = omega arith
 pub transform_residue : (w : ℕ → ℕ) (i a : ℕ) → IsCongruent a (transform w i) → a % 8380417 ≡ transform w i
 transform_residue w i a s = let below = transform_below w i in omega (arith, s.same)
 
-pub pointwise_turned : (a b : ℕ → ℕ) (j : ℕ) → pointwise a b j ≡ pointwise b a j
-pointwise_turned a b j = ap (λ x. x % 8380417) (omega arith)
-
 pub product_below : (a b : ℕ → ℕ) (n : ℕ) → product a b n < 8380417
 unfolding product
 product_below a b n = omega arith
@@ -270,11 +267,6 @@ difference_of_products l d p c x y a b v t s e h g i f k n q =
     (congruent_mul (congruent_refl 8380416) (congruent_trans (products_same c x y a b i f k j r) (congruent_trans (congruent_mod (transform a j * transform b j)) (congruent_sym (transform_of_product a b j r))))))
     (congruent_sym (transform_of_minus (row_product l matrix s) (product a b) j))))) n
     ∙ (inverse_reduced (transform (minus (row_product l matrix s) (product a b))) n ∙ (congruent_equal_mod (inverse_of_transform (minus (row_product l matrix s) (product a b)) n q) ∙ omega arith))
-
--- the inverse transform of a difference, by the values that its second part is made of
-pub difference_same : (d p c x y : ℕ → ℕ) → ((j : ℕ) → j < 256 → d j ≡ minus p c j) → ((j : ℕ) → j < 256 → c j ≡ pointwise x y j) →
-    (n : ℕ) → inverse_transform d n ≡ inverse_transform (minus p (pointwise x y)) n
-difference_same d p c x y e i = inverse_same d (minus p (pointwise x y)) (λ j r. congruent_of (e j r ∙ ap (λ v. (p j + 8380416 * v) % 8380417) (i j r)))
 
 -- ---- the same for whole lists
 pub product_of_transforms_listed : ProductOfTransforms
