@@ -1,5 +1,5 @@
 -- The vector t = A s1 + s2 of a pair of keys, and what key generation and derivation answer.
-use Rattle.std.proofs.Common.{◌≡◌, ◌<◌, ◌≤◌, ◌+◌, ◌-◌, ◌%◌, ℕ, List, pos, ap, ◌∙◌, arith, ◌⊎◌, inl, inr, refl, sym, Some, None, Ok, Err, take, drop, Bool, IsTrue, ◌≢◌, ◌↔◌}
+use Rattle.std.proofs.Common.{◌≡◌, ◌<◌, ◌≤◌, ◌+◌, ◌-◌, ◌%◌, ℕ, ℤ, List, pos, ap, ◌∙◌, arith, ◌⊎◌, inl, inr, refl, sym, Some, None, Ok, Err, take, drop, Bool, IsTrue, ◌≢◌, ◌↔◌}
 use Rattle.std.proofs.lemmas.Option.{none-some}
 use Rattle.fips204.proofs.RefusedCalls.{same_some}
 use Rattle.std.proofs.lemmas.Int.{ints}
@@ -162,3 +162,8 @@ pub generated-some : (p : ParameterSet) (H G : List ℕ → List ℕ) (xi rho rh
 unfolding key_pair_if_all key_pair
 generated-some p H G xi rho rho' key tr k l a s1 s2 t1 t0 from given high low hash =
     generated-is p H G xi rho rho' key k l (Some a) (Some s1) (Some s2) from given ∙ rw (hash, high, low) refl
+
+-- A s1 + s2 at one place
+pub key_sum : (l : ℕ) (a : List (List T)) (s1 s2 : List R) (r n : ℕ) (x : ℤ) → x ≡ pos (matrix_product l a (vector_coefficients s1) r n)
+    → pos ((residue x + vector_coefficients s2 r n) % 8380417) ≡ pos (key_vector l a s1 s2 r n)
+key_sum l a s1 s2 r n x e = rw e (ap pos (omega arith))

@@ -5,15 +5,16 @@ use Rattle.std.specs.List.{All}
 use Rattle.std.proofs.lemmas.Bool.{cases_lt, le-leb, lt-leb}
 use Rattle.std.proofs.lemmas.Int.{ints}
 use Rattle.fips204_base.specs.declared.types.R.{R}
-use Rattle.fips204_base.specs.Residues.{centred, vector_norm, residue}
+use Rattle.fips204_base.specs.Residues.{centred, vector_norm, residue, coefficients}
 use Rattle.fips204_base.specs.Packing.{PolynomialInRange, width}
-use Rattle.fips204_base.specs.Vectors.{entry, vector_of, IsVector, vector_coefficients}
-use Rattle.fips204_base.specs.Transforms.{product}
+use Rattle.fips204_base.specs.Vectors.{entry, vector_of, IsVector, vector_coefficients, AreSameModQ}
+use Rattle.fips204_base.specs.Transforms.{product, plus, minus}
 use Rattle.fips204_base.specs.Rounding.{low_bits, make_hint}
 use Rattle.fips204_base.proofs.Reductions.{centred_is}
 use Rattle.fips204_base.proofs.Residues.{residue_add, residue_sub, residue_is, residue_below}
 use Rattle.fips204_base.proofs.Rounding.{low_bits_near}
 use Rattle.fips204_base.proofs.Products.{product_below}
+use Rattle.fips204_base.proofs.PlainTransforms.{multiple-same}
 use Rattle.fips204_base.proofs.Vectors.{vector_of-ext, vector_of-range}
 use Rattle.fips204_base.specs.Encodings.{signature_bytes, all_ones}
 use Rattle.fips204.specs.declared.types.Params.{Params}
@@ -153,6 +154,21 @@ unfolding passes_checks
 kept p sk y w c_tilde c e f h few = signed p sk y w c_tilde c (and-fourth _ _ _ _ e f h ∙ le-leb _ _ few)
 
 -- ---- the vectors of an attempt
+
+-- a product that is written from what is the same modulo q
+pub product-written : (c d : R) (out v w : List R) (k : ℕ) → ((j : ℕ) → j < 256 → coefficients c.0 j ≡ coefficients d.0 j) → AreSameModQ k v w
+    → ((r n : ℕ) → r < k → n < 256 → entry out r n ≡ pos (scaled c (vector_coefficients v) r n)) → (r n : ℕ) → r < k → n < 256 → entry out r n ≡ pos (scaled d (vector_coefficients w) r n)
+product-written c d out v w k e f values r n h l = values r n h l ∙ ap pos (multiple-same c d v w k r n e f h l)
+
+pub sum-is : (s1 y z out : List R) (c : R) (k : ℕ) → ((r n : ℕ) → r < k → n < 256 → entry out r n ≡ pos (scaled c (vector_coefficients s1) r n))
+    → z ≡ vector_of k (λ r n. centred (pos (plus (vector_coefficients y r) (vector_coefficients out r) n))) → z ≡ vector_of k (λ r n. centred (pos (y_plus_cs1 s1 y c r n)))
+sum-is s1 y z out c k values e =
+    e ∙ vector_of-ext k (λ r n. centred (pos (plus (vector_coefficients y r) (vector_coefficients out r) n))) (λ r n. centred (pos (y_plus_cs1 s1 y c r n)))
+    (λ r n h l. ap (λ (x : ℕ). centred (pos ((vector_coefficients y r n + x) % 8380417))) (product-own _ _ n _ (values r n h l)))
+
+pub difference-is : (s2 v out : List R) (w : ℕ → ℕ → ℕ) (c : R) (k : ℕ) → ((r n : ℕ) → r < k → n < 256 → entry out r n ≡ pos (scaled c (vector_coefficients s2) r n))
+    → ((r n : ℕ) → r < k → n < 256 → vector_coefficients v r n ≡ minus (w r) (vector_coefficients out r) n) → (r n : ℕ) → r < k → n < 256 → vector_coefficients v r n ≡ w_minus_cs2 s2 w c r n
+difference-is s2 v out w c k values e r n h l = e r n h l ∙ ap (λ (x : ℕ). (w r n + 8380416 * x) % 8380417) (product-own _ _ n _ (values r n h l))
 
 pub response-is : (p : ParameterSet) (sk : PrivateParts) (y : List R) (c : R) (z : List R) (k : ℕ) → k ≡ p.l
     → z ≡ vector_of k (λ r n. centred (pos (y_plus_cs1 sk.s1 y c r n))) → z ≡ response p sk y c

@@ -1,5 +1,5 @@
 -- Verifying: w1' as a vector, and what a signature's parts have to keep.
-use Rattle.std.proofs.Common.{◌≡◌, ◌<◌, ◌≤◌, ◌⊎◌, ◌+◌, ◌-◌, ◌%◌, ℕ, List, [], pos, nat_abs, get_or, length, ap, sym, subst, ◌∙◌, arith, Bool, Some, true, false, inl, inr, refl, IsTrue, ℤ, zero, suc, negsuc, ◌≤ℤ◌}
+use Rattle.std.proofs.Common.{◌≡◌, ◌<◌, ◌≤◌, ◌⊎◌, ◌+◌, ◌-◌, ◌*◌, ◌%◌, ℕ, List, [], pos, nat_abs, get_or, length, ap, sym, subst, ◌∙◌, arith, Bool, Some, true, false, inl, inr, refl, IsTrue, ℤ, zero, suc, negsuc, ◌≤ℤ◌}
 use Rattle.std.specs.Prelude.{int_lt, ◌↔◌}
 use Rattle.std.specs.declared.option.Option.{Option}
 use Rattle.std.specs.List.{All}
@@ -12,7 +12,7 @@ use Rattle.fips204_base.specs.Residues.{vector_norm, residue, coefficients}
 use Rattle.fips204_base.specs.Sampling.{challenge, sampled_matrix}
 use Rattle.fips204_base.specs.Encodings.{IsSignature, is_one}
 use Rattle.fips204_base.specs.Packing.{PolynomialInRange}
-use Rattle.fips204_base.specs.Vectors.{entry, VectorWithin, IsVector, vector_coefficients, matrix_product, product_difference, vector_of}
+use Rattle.fips204_base.specs.Vectors.{entry, VectorWithin, IsVector, vector_coefficients, matrix_product, vector_of}
 use Rattle.fips204_base.specs.Transforms.{product, minus}
 use Rattle.fips204_base.specs.Rounding.{use_hint, high_bits, low_bits, high_values}
 use Rattle.fips204_base.proofs.Rounding.{high_bits_below}
@@ -20,7 +20,7 @@ use Rattle.fips204_base.proofs.Products.{product_same}
 use Rattle.fips204_base.proofs.Residues.{congruent_of, congruent_refl, residue_below}
 use Rattle.fips204_base.proofs.Vectors.{vector_of-ext, vector_of-range, vector-within}
 use Rattle.fips204_base.proofs.EncodedParts.{same_signature}
-use Rattle.fips204.specs.Acceptance.{t1_shifted, hinted, w1_prime, Accepts, Verifies}
+use Rattle.fips204.specs.Acceptance.{t1_shifted, AreShifted, hinted, w1_prime, Accepts, Verifies}
 use Rattle.fips204.specs.SigningInputs.{HasShortParts}
 use Rattle.fips204.specs.Signing.{commitment}
 use Rattle.fips204.specs.Keys.{PublicParts}
@@ -44,17 +44,6 @@ use_hint-below g r true set below = elim (cases_Bool (int_lt (pos 0) (low_bits g
   | inr down ↦ rw down (mod_below (high_bits g r + (high_values g - 1)) (high_values g) (some_values g set))
 ]
 
--- w' is A z less c t1 2^13, where the coefficients of u are those of t1 2^13
-pub w_approx-is : (p : ParameterSet) (a : List (List T)) (t1 z u w : List R) (c : R) (l r n : ℕ) → l ≡ p.l → ((j : ℕ) → j < 256 → vector_coefficients u r j ≡ t1_shifted t1 r j) → n < 256
-    → entry w r n ≡ pos (minus (matrix_product l a (vector_coefficients z) r) (product (coefficients c.0) (vector_coefficients u r)) n) → vector_coefficients w r n ≡ product_difference p.l a z c (t1_shifted t1) r n
-w_approx-is p a t1 z u w c l r n columns shifted below e =
-    let challenge = coefficients c.0 in
-    let same = product_same challenge (vector_coefficients u r) challenge (t1_shifted t1 r) (λ j q. congruent_refl (challenge j)) (λ j q. congruent_of (shifted j q)) n below in
-    ap residue e ∙ mod-mod _ ∙ rw (same, columns) refl
-  where
-    mod-mod : (x : ℕ) → x % 8380417 % 8380417 ≡ x % 8380417
-    mod-mod x = omega arith
-
 bit : (x : ℤ) → pos 0 ≤ℤ x → x ≤ℤ pos 1 → (x ≡ pos 0) ⊎ (x ≡ pos 1)
 bit (pos zero) low high = inl refl
 bit (pos (suc zero)) low high = inr refl
@@ -69,12 +58,33 @@ hint-bit k h r n is l m =
     let range = is.range r empty inside n (pos 0) (omega (arith, m, is.places r empty inside)) in
     bit (entry h r n) (omega (arith, ints, range.0)) range.1
 
--- UseHint of h and w' is w1'
-pub w1_prime-is : (p : ParameterSet) (a : List (List T)) (t1 z h w : List R) (c : R) (k : ℕ) → k ≡ p.k
-    → ((r n : ℕ) → r < k → n < 256 → vector_coefficients w r n ≡ product_difference p.l a z c (t1_shifted t1) r n) → hinted p h (vector_coefficients w) ≡ w1_prime p a t1 z h c
+-- UseHint at each place of what is the same
+pub hinted-same : (p : ParameterSet) (h : List R) (v w : ℕ → ℕ → ℕ) (k : ℕ) → k ≡ p.k → ((r n : ℕ) → r < k → n < 256 → v r n ≡ w r n) → hinted p h v ≡ hinted p h w
+hinted-same p h v w k rows same = vector_of-ext p.k _ _ (λ r n l m. ap (λ x. pos (use_hint p.gamma2 (is_one (get_or h r record { 0 = [] }) n) x)) (same r n (rw rows l) m))
+
+-- what is written as A z - c t1 2^13
+pub hinted-written : (p : ParameterSet) (h w before after t : List R) (c d : R) (k : ℕ) → k ≡ p.k
+    → ((j : ℕ) → j < 256 → coefficients d.0 j ≡ coefficients c.0 j)
+    → ((r n : ℕ) → r < k → n < 256 → vector_coefficients after r n ≡ minus (vector_coefficients before r) (product (coefficients d.0) (vector_coefficients t r)) n)
+    → ((r n : ℕ) → r < k → n < 256 → entry w r n ≡ pos (vector_coefficients after r n))
+    → hinted p h (vector_coefficients w) ≡ hinted p h (λ r. minus (vector_coefficients before r) (product (coefficients c.0) (vector_coefficients t r)))
+hinted-written p h w before after t c d k rows same made written =
+    hinted-same p h (vector_coefficients w) (λ r. minus (vector_coefficients before r) (product (coefficients c.0) (vector_coefficients t r))) k rows (λ r n i m.
+    let below = residue_below (get_or (get_or after r record { 0 = [] }).0 n (pos 0)) in
+    let own : vector_coefficients w r n ≡ vector_coefficients after r n = ap residue (written r n i m) ∙ omega (arith, below) in
+    let multiple = product_same (coefficients d.0) (vector_coefficients t r) (coefficients c.0) (vector_coefficients t r) (λ j q. congruent_of (same j q)) (λ j q. congruent_refl (vector_coefficients t r j)) n m in
+    own ∙ made r n i m ∙ ap (λ (x : ℕ). (vector_coefficients before r n + 8380416 * x) % 8380417) multiple)
+
+-- UseHint of h and what is made of A z and t1 2^13 is w1'
+pub w1_prime-is : (p : ParameterSet) (a : List (List T)) (t1 z h az u : List R) (c : R) (k l : ℕ) → k ≡ p.k → l ≡ p.l
+    → ((r n : ℕ) → r < k → n < 256 → vector_coefficients az r n ≡ matrix_product l a (vector_coefficients z) r n) → AreShifted k t1 u
+    → hinted p h (λ r. minus (vector_coefficients az r) (product (coefficients c.0) (vector_coefficients u r))) ≡ w1_prime p a t1 z h c
 unfolding w1_prime
-w1_prime-is p a t1 z h w c k rows approx =
-    vector_of-ext p.k _ _ (λ r n l m. ap (λ x. pos (use_hint p.gamma2 (is_one (get_or h r record { 0 = [] }) n) x)) (approx r n (rw rows l) m))
+w1_prime-is p a t1 z h az u c k l rows columns made shifted =
+    hinted-same p h _ _ k rows (λ r n i m.
+    let challenge = coefficients c.0 in
+    let same = product_same challenge (vector_coefficients u r) challenge (t1_shifted t1 r) (λ j q. congruent_refl (challenge j)) (λ j q. congruent_of (shifted r j i q)) n m in
+    rw (made r n i m, same, columns) refl)
 
 -- what UseHint gives at each place, as a vector
 pub hinted-is : (p : ParameterSet) (h w v : List R) (k : ℕ) → k ≡ p.k
@@ -152,16 +162,16 @@ accepts-by_parts p H a t1 mu sig c_tilde z h answer known parts both =
       λ v. both.1 (accepts-out (set_of p) H a t1 mu sig c_tilde z h sizes.0 (omega (arith, sizes.1)) parts v),
     )
 
--- with the challenge and A z - c t1 2^13 at hand, where the coefficients of u are those of t1 2^13, the commitment decides
-pub commitment-decides : (p : Params) (H : List ℕ → List ℕ) (a : List (List T)) (t1 : List R) (mu sig c_tilde : List ℕ) (z h : List R) (c : R) (u w : List R) (k l : ℕ) (answer : Bool) → IsKnown p → k ≡ p.k → l ≡ p.l
+-- with the challenge, A z and t1 2^13 at hand, the commitment decides
+pub commitment-decides : (p : Params) (H : List ℕ → List ℕ) (a : List (List T)) (t1 : List R) (mu sig c_tilde : List ℕ) (z h : List R) (c : R) (az u : List R) (k l : ℕ) (answer : Bool) → IsKnown p → k ≡ p.k → l ≡ p.l
     → HasShortParts (set_of p) sig c_tilde z h → challenge (nat_abs p.tau) (H c_tilde) ≡ Some c
-    → ((r n : ℕ) → r < k → n < 256 → vector_coefficients u r n ≡ t1_shifted t1 r n)
-    → ((r n : ℕ) → r < k → n < 256 → entry w r n ≡ pos (product_difference l a z c (vector_coefficients u) r n))
-    → (IsTrue answer ↔ (c_tilde ≡ commitment (set_of p) H mu (hinted (set_of p) h (vector_coefficients w)))) → IsTrue answer ↔ Accepts (set_of p) H a t1 mu sig
-commitment-decides p H a t1 mu sig c_tilde z h c u w k l answer known rows columns parts ball shifted values verdict =
-    let w1 = w1_prime-is (set_of p) a t1 z h w c k rows (λ r n i m. w_approx-is (set_of p) a t1 z u w c l r n columns (λ j q. shifted r j i q) m (values r n i m)) in
+    → ((r n : ℕ) → r < k → n < 256 → vector_coefficients az r n ≡ matrix_product l a (vector_coefficients z) r n) → AreShifted k t1 u
+    → (IsTrue answer ↔ (c_tilde ≡ commitment (set_of p) H mu (hinted (set_of p) h (λ r. minus (vector_coefficients az r) (product (coefficients c.0) (vector_coefficients u r))))))
+    → IsTrue answer ↔ Accepts (set_of p) H a t1 mu sig
+commitment-decides p H a t1 mu sig c_tilde z h c az u k l answer known rows columns parts ball made shifted verdict =
     accepts-by_parts p H a t1 mu sig c_tilde z h answer known parts
-    (decided (set_of p) H a t1 z h (hinted (set_of p) h (vector_coefficients w)) mu c_tilde (challenge (nat_abs p.tau) (H c_tilde)) c answer ball w1 verdict)
+    (decided (set_of p) H a t1 z h (hinted (set_of p) h (λ r. minus (vector_coefficients az r) (product (coefficients c.0) (vector_coefficients u r)))) mu c_tilde (challenge (nat_abs p.tau) (H c_tilde)) c answer ball
+    (w1_prime-is (set_of p) a t1 z h az u c k l rows columns made shifted) verdict)
 
 -- with the matrix at hand acceptance is that of the plain key
 pub verifies-with : (p : ParameterSet) (H G : List ℕ → List ℕ) (pk : PublicParts) (mu sig : List ℕ) (a : List (List T)) (answer : Bool)

@@ -15,6 +15,10 @@ use Rattle.fips204.specs.Signing.{commitment}
 abbrev pub t1_shifted : List R → ℕ → ℕ → ℕ
 t1_shifted t1 r n = 8192 * vector_coefficients t1 r n % 8380417
 
+-- the first k polynomials of v are those of t1 2^13, modulo q
+abbrev pub AreShifted : ℕ → List R → List R → Type 0
+AreShifted k t1 v = (r n : ℕ) → r < k → n < 256 → vector_coefficients v r n ≡ t1_shifted t1 r n
+
 -- UseHint(h, w), coefficient by coefficient
 abbrev pub hinted : ParameterSet → List R → (ℕ → ℕ → ℕ) → List R
 hinted p h w = vector_of p.k (λ r n. pos (use_hint p.gamma2 (is_one (slice_index_or h r record { 0 = [] }) n) (w r n)))

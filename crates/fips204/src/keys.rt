@@ -20,6 +20,7 @@ use crate::types::{KG, PreparedPrivateKey, PreparedPublicKey, PrivateKey, Public
 use fips204_base::Fault;
 use fips204_base::encodings::{pk_encode, sk_encode};
 use fips204_base::hashing::write_expanded_a;
+use fips204_base::lanes::Transforms;
 use fips204_base::xof::Xof;
 use std::marker::PhantomData;
 
@@ -329,7 +330,9 @@ where
             t1: self.t1,
             streams: PhantomData,
         };
-        Ok(PreparedPublicKey { key, a_hat })
+        let mut t1_hat = Transforms::zeros();
+        t1_hat.write_transforms(&ml_dsa::t1_shifted(&self.t1));
+        Ok(PreparedPublicKey { key, a_hat, t1_hat })
     }
 }
 

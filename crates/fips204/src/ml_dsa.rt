@@ -26,7 +26,7 @@ pub use key_generation::{key_gen, key_gen_internal, private_to_public_key};
 pub use signing::{MAX_SIGN_ATTEMPTS, sign_internal};
 use std::marker::PhantomData;
 pub use verification::verify_internal;
-pub(crate) use verification::verify_prepared;
+pub(crate) use verification::{t1_shifted, verify_prepared};
 pub(crate) use whole::is_whole;
 
 /// Decodes a public key and computes `tr`, the first 64 bytes of `H` over its bytes (FIPS 204, Algorithm 23,

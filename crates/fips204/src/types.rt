@@ -11,7 +11,7 @@ pub mod pre_hash;
 mod prepared;
 
 pub use fips204_base::types::{R, R0, T, T0, Zq};
-pub(crate) use prepared::KeyTransforms;
+pub(crate) use prepared::{KeyTransforms, SigningKey};
 pub use prepared::{PreparedPrivateKey, PreparedPublicKey};
 use std::alloc::AllocError;
 use std::marker::{Model, PhantomData};

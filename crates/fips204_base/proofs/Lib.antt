@@ -23,7 +23,7 @@ pub mod VectorBytes
 pub mod EncodedParts
 pub mod CounterStreams
 pub mod Vectors
-pub mod LaneBatches
+pub mod PlainTransforms
 mod WorkedArithmetic
 mod WorkedBytes
 mod WorkedEncodings

@@ -253,21 +253,6 @@ pub product_of_products : (p x y a b : ℕ → ℕ) → ((j : ℕ) → j < 256 �
 product_of_products p x y a b h f g n q =
     inverse_same p (pointwise (transform a) (transform b)) (products_same p x y a b h f g) n ∙ product_of_transforms a b n q
 
--- differences of both make the difference of the plain products
-pub difference_of_products : (l : ℕ) (d p c x y a b : ℕ → ℕ) (v t s : ℕ → ℕ → ℕ) → ((j : ℕ) → j < 256 → d j ≡ minus p c j) →
-    ((j : ℕ) → j < 256 → p j ≡ sum_below l (λ k. v k j * t k j) % 8380417) → ((k : ℕ) → k < l → (j : ℕ) → j < 256 → t k j ≡ transform (s k) j) →
-    ((j : ℕ) → j < 256 → c j ≡ pointwise x y j) → ((j : ℕ) → j < 256 → x j ≡ transform a j) → ((j : ℕ) → j < 256 → y j ≡ transform b j) →
-    (n : ℕ) → n < 256 → inverse_transform d n ≡ minus (row_product l (λ k. inverse_transform (v k)) s) (product a b) n
-difference_of_products l d p c x y a b v t s e h g i f k n q =
-    let matrix = λ (k : ℕ). inverse_transform (v k) in
-    inverse_same d (transform (minus (row_product l matrix s) (product a b))) (λ j r.
-    congruent_trans (congruent_of (e j r)) (congruent_trans (congruent_mod (p j + 8380416 * c j))
-    (congruent_trans (congruent_add
-    (congruent_trans (row_same l p v t s h g j r) (row_value l v s j r))
-    (congruent_mul (congruent_refl 8380416) (congruent_trans (products_same c x y a b i f k j r) (congruent_trans (congruent_mod (transform a j * transform b j)) (congruent_sym (transform_of_product a b j r))))))
-    (congruent_sym (transform_of_minus (row_product l matrix s) (product a b) j))))) n
-    ∙ (inverse_reduced (transform (minus (row_product l matrix s) (product a b))) n ∙ (congruent_equal_mod (inverse_of_transform (minus (row_product l matrix s) (product a b)) n q) ∙ omega arith))
-
 -- ---- the same for whole lists
 pub product_of_transforms_listed : ProductOfTransforms
 product_of_transforms_listed a b = listed_same (inverse_transform (pointwise (transform a) (transform b))) (product a b) (product_of_transforms a b)

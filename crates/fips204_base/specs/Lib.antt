@@ -6,6 +6,7 @@ pub mod Transforms
 pub mod Vectors
 pub mod Rounding
 pub mod Lanes
+pub mod PlainTransforms
 pub mod Network
 pub mod Packing
 pub mod Encodings

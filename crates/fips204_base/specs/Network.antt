@@ -3,7 +3,7 @@ use Rattle.std.specs.Prelude.{◌≡◌, ℕ, ◌+◌, ◌*◌, ◌-◌, ◌<◌
 use Rattle.fips204_base.specs.Lanes.{lane, lane_at}
 use Rattle.fips204_base.specs.Residues.{residue, IsCongruent}
 use Rattle.fips204_base.specs.Transforms.{zeta_at}
-use Rattle.fips204_base.specs.Vectors.{vector_residues, coefficient_at}
+use Rattle.fips204_base.specs.Vectors.{vector_residues}
 use Rattle.fips204_base.specs.declared.types.T.{T}
 
 -- one butterfly at m makes a + zeta b and a - zeta b of a and b
@@ -55,14 +55,6 @@ EachLaneOfRow {V} Changed lanes width before after = (j : ℕ) (d : V) → j < w
 abbrev pub matrix_residues : List (List T) → ℕ → ℕ → ℕ → ℕ
 matrix_residues a i = vector_residues (slice_index_or a i [])
 
--- value n of transform r of a vector
-abbrev pub value_at : List T → ℕ → ℕ → ℤ
-value_at v r = coefficient_at (slice_index_or v r record { 0 = [] }).0
-
 -- the first count of the new values are the first `kept` of the old ones and then those given, as many as have room among 256
 abbrev pub AreKept : List ℤ → ℕ → List ℤ → List ℤ → ℕ → Type 0
 AreKept old kept given new count = take count new ≡ take 256 (take kept old ++ given)
-
--- place p of a list of polynomials is in the row that holds the eight from `first` on
-abbrev pub InRow : ℕ → ℕ → Type 0
-InRow first p = (first ≤ p) × (p < first + 8)

@@ -1,9 +1,11 @@
 -- Samplers: the matrix, small vectors, the challenge and the mask (FIPS 204, Algorithms 14, 15 and 29 to 34).
-use Rattle.std.specs.Prelude.{ℕ, ◌+◌, ◌*◌, ◌%◌, ℤ, pos, ◌-ℤ◌, Option, Some, None, ◌&&◌, ◌≡◌, ◌⊎◌, if◌then◌else◌, nat_eq, nat_lt, List, [], ◌∷◌, ◌++◌, length, take, option_map, option_and_then, ◌/◌, map, filter_map, slice_index, flat_map, ◌-◌, ◌+ℤ◌, neg_ℤ, drop, nat_le}
+use Rattle.std.specs.Prelude.{ℕ, ◌+◌, ◌*◌, ◌%◌, ℤ, pos, ◌-ℤ◌, Option, Some, None, Result, MatchResult, ◌&&◌, ◌≡◌, ◌⊎◌, if◌then◌else◌, nat_eq, nat_lt, List, [], ◌∷◌, ◌++◌, length, take, option_map, option_and_then, ◌/◌, map, filter_map, slice_index, flat_map, ◌-◌, ◌+ℤ◌, neg_ℤ, drop, nat_le}
 use Rattle.std.specs.Int.{w16, to_le_bytes}
 use Rattle.std.specs.List.{range_with_len}
 use Rattle.fips204_base.specs.Packing.{bits, bits_to_integer, coefficient, width}
 use Rattle.fips204_base.specs.Vectors.{polynomial_of}
+use Rattle.fips204_base.specs.declared.fault.Fault.{Fault}
+use Rattle.fips204_base.specs.declared.fault.Fault.TheVariants.{SamplingLimit}
 use Rattle.fips204_base.specs.declared.types.R.{R}
 use Rattle.fips204_base.specs.declared.types.T.{T}
 
@@ -60,6 +62,11 @@ sampled_row G rho l r = all_present (map (sampled_entry G rho r) (range_with_len
 -- ExpandA (Algorithm 32): k rows of l entries, or none where an entry is none
 unfoldable pub sampled_matrix : (List ℕ → List ℕ) → List ℕ → ℕ → ℕ → Option (List (List T))
 sampled_matrix G rho k l = all_present (map (sampled_row G rho l) (range_with_len 0 k))
+
+-- a step that samples the matrix of rho: it refuses where there is none, and else P holds of the matrix
+abbrev pub OnSampled : (List ℕ → List ℕ) → List ℕ → ℕ → ℕ → Result (Unit {0}) Fault → (List (List T) → Type 0) → Type 0
+OnSampled G rho k l result P = MatchResult result (λ _. (a : List (List T)) × (sampled_matrix G rho k l ≡ Some a) × P a)
+    (λ fault. (sampled_matrix G rho k l ≡ None) × (fault ≡ SamplingLimit))
 
 -- ---- Small polynomials (Algorithms 31 and 33)
 

@@ -3,7 +3,7 @@ use Rattle.std.specs.Prelude.{◌≡◌, ◌≤◌, ◌<◌, ◌≤ℤ◌, ℕ, 
 use Rattle.std.specs.List.{All, range_with_len}
 use Rattle.fips204_base.specs.Packing.{PolynomialInRange}
 use Rattle.fips204_base.specs.Residues.{coefficients, sum_below}
-use Rattle.fips204_base.specs.Transforms.{minus, product, row_product, transform, inverse_transform}
+use Rattle.fips204_base.specs.Transforms.{minus, product, row_product, inverse_transform}
 use Rattle.fips204_base.specs.declared.types.R.{R}
 use Rattle.fips204_base.specs.declared.types.T.{T}
 
@@ -65,14 +65,6 @@ pub record IsVector (count a b : ℕ) (v : List R) : Type 0 where
 abbrev pub vector_coefficients : List R → ℕ → ℕ → ℕ
 vector_coefficients v i = coefficients (slice_index_or v i record { 0 = [] }).0
 
--- the values of t are those of the transform of the polynomial w
-abbrev pub IsTransformOf : (ℕ → ℕ) → T → Type 0
-IsTransformOf w t = (i : ℕ) → i < 256 → coefficients t.0 i ≡ transform w i
-
--- the first l of t are the transforms of the polynomials of v
-abbrev pub AreTransformsOf : ℕ → (ℕ → ℕ → ℕ) → List T → Type 0
-AreTransformsOf l v t = (k : ℕ) → k < l → IsTransformOf (v k) (slice_index_or t k record { 0 = [] })
-
 -- the plain row of a row of transforms, by column and place: the inverse transform of each entry
 abbrev pub plain_row : List T → ℕ → ℕ → ℕ
 plain_row row k = inverse_transform (vector_residues row k)
@@ -96,3 +88,7 @@ polynomial_of f = record { 0 = map f (range_with_len 0 256) }
 -- the vector of k polynomials whose coefficient n of polynomial r is f r n
 unfoldable pub vector_of : ℕ → (ℕ → ℕ → ℤ) → List R
 vector_of k f = map (λ r. polynomial_of (f r)) (range_with_len 0 k)
+
+-- two vectors are the same modulo q in their first k polynomials
+abbrev pub AreSameModQ : ℕ → List R → List R → Type 0
+AreSameModQ k v w = (r n : ℕ) → r < k → n < 256 → vector_coefficients v r n ≡ vector_coefficients w r n

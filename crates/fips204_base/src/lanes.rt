@@ -1,7 +1,8 @@
-//! Eight polynomials side by side: the row of eight lanes, and what goes through such rows.
+//! Eight polynomials side by side: the row of eight lanes, and vectors given by their transforms.
 #![tactic(auto)]
 
-pub(crate) mod batch;
 pub mod row;
+pub mod transforms;
 
 pub use row::Lanes;
+pub use transforms::{Factor, Transforms};

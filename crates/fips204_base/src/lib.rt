@@ -14,7 +14,6 @@ pub mod high_low;
 pub mod lanes;
 pub mod maps;
 pub mod ntt;
-pub mod product;
 pub mod types;
 pub mod xof;
 

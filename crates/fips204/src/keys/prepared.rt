@@ -10,7 +10,7 @@ ghost use Rattle.fips204.specs.Refusals.{message_fault, digest_fault, DrawsIf, D
 use crate::ml_dsa;
 use crate::sets::{HasSet, Matrix, Set, SignatureSizes, sized_params};
 use crate::traits::{CryptoRngCore, draw, draw_if};
-use crate::types::{PreparedPrivateKey, PreparedPublicKey};
+use crate::types::{PreparedPrivateKey, PreparedPublicKey, SigningKey};
 use fips204_base::Fault;
 use fips204_base::xof::Xof;
 
@@ -32,8 +32,12 @@ where
         ensures accepted { AcceptedIfWholePrepared S.set self.now (λ pk signature. VerifiesPrepared S.set H.front pk mu.now signature) result }
     {
         let p = sized_params::<S, K, L, N, SIG_LEN>();
-        self.key
-            .sign_with::<N, SIG_LEN>(&p, &self.a_hat, &self.transforms, mu, rnd)
+        let key = SigningKey {
+            key: &self.key,
+            a_hat: &self.a_hat,
+            transforms: &self.transforms,
+        };
+        key.sign_with::<N, SIG_LEN>(&p, mu, rnd)
     }
 
     /// Signs (Algorithm 2), as `Signer::try_sign_with_rng`.

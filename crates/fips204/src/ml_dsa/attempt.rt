@@ -1,8 +1,8 @@
 //! One attempt of signing: the body of the loop of FIPS 204, Algorithm 7.
 #![tactic(auto)]
 
-ghost use Rattle.std.specs.Prelude.{◌≡◌, ◌≤◌, ◌<◌, ◌⊎◌, pos, nat_abs};
-ghost use Rattle.fips204_base.specs.Vectors.{VectorWithin, vector_coefficients, vector_of};
+ghost use Rattle.std.specs.Prelude.{◌≡◌, ◌≤◌, ◌<◌, ◌⊎◌, ℕ, pos, nat_abs};
+ghost use Rattle.fips204_base.specs.Vectors.{entry, MatrixWithin, VectorWithin, matrix_product, vector_coefficients, vector_of};
 ghost use Rattle.fips204_base.specs.Residues.{residue};
 ghost use Rattle.fips204_base.specs.Rounding.{high_bits};
 ghost use Rattle.fips204.specs.Signing.{attempt};
@@ -10,45 +10,63 @@ ghost use Rattle.fips204.specs.SigningInputs.{AreAttemptInputs, attempt_answer};
 ghost use Rattle.fips204.specs.Sets.{set_of};
 
 use super::commitment::commitment;
-use crate::types::{KeyTransforms, Params, PrivateKey, R, R0, T};
+use crate::types::{Params, R, R0, SigningKey, T};
 use fips204_base::Fault;
 use fips204_base::hashing::{expand_mask, sample_in_ball};
 use fips204_base::high_low::high_bits;
+use fips204_base::lanes::Transforms;
 use fips204_base::maps::map_vector;
-use fips204_base::product::write_matrix_times_vector;
 use fips204_base::xof::Xof;
 
-impl<const K: usize, const L: usize, H: Xof, G> PrivateKey<K, L, H, G> {
-    /// The attempt at counter `kappa`, with the matrix, the transforms of the key's vectors, and the seed
-    /// `rho''` of the masks (lines 11 to 32): returns its signature, or `None` if it is rejected. `K` and `L`
-    /// are those of the set, and `LAMBDA_DIV4` and `SIG_LEN` its lengths.
+impl<'a, const K: usize, const L: usize, H: Xof, G> SigningKey<'a, K, L, H, G> {
+    /// The attempt at counter `kappa` with the seed `rho''` of the masks (lines 11 to 32): returns its signature,
+    /// or `None` if it is rejected. `K` and `L` are those of the set, and `LAMBDA_DIV4` and `SIG_LEN` its lengths.
     ///
     /// Errors: `Fault::SamplingLimit` if its challenge reaches its limit.
     pub(crate) fn attempt<const LAMBDA_DIV4: usize, const SIG_LEN: usize>(
         &self,
         p: &Params,
-        a_hat: &[[T; L]; K],
-        transforms: &KeyTransforms<K, L>,
         mu: &[u8; 64],
         seed: &[u8; 64],
         kappa: u16,
     ) -> Result<Option<[u8; SIG_LEN]>, Fault>
-        requires inputs { AreAttemptInputs p.now K L LAMBDA_DIV4 SIG_LEN self.now a_hat.now transforms.now kappa }
-        ensures { result ≡ attempt_answer (attempt (set_of p.now) H.front a_hat.now self.now mu.now seed.now kappa) }
+        requires inputs { AreAttemptInputs p.now K L LAMBDA_DIV4 SIG_LEN kappa }
+        ensures { result ≡ attempt_answer (attempt (set_of p.now) H.front self.now.matrix self.now.parts mu.now seed.now kappa) }
     {
         // y = ExpandMask(rho'', kappa)
         let y = expand_mask::<L, H>(p.gamma1, seed, kappa);
         // w = A y
         let mut w = [R0; K];
-        write_matrix_times_vector(a_hat, &y, &mut w);
+        write_matrix_times_vector(self.a_hat, &y, &mut w);
         // w1 = HighBits(w)
         let w1 = high_vector(p.gamma2, &w);
         // c_tilde = H(mu || w1Encode(w1))
         let c_tilde = commitment::<K, LAMBDA_DIV4, H>(p, mu, &w1);
         // c = SampleInBall(c_tilde)
         let c = sample_in_ball::<H>(p.tau, &c_tilde)?;
-        Ok(self.rejection_checks(p, transforms, &y, &w, &c_tilde, &c))
+        Ok(self.rejection_checks(p, &y, &w, &c_tilde, &c))
     }
+}
+
+/// Writes `A v`, with coefficients from 0 to `q - 1`. Those of `v` are below `q` in absolute value.
+///
+/// Not inlined, so that its lanes don't stay in the caller's frame.
+#[inline(never)]
+fn write_matrix_times_vector<const K: usize, const L: usize>(
+    a_hat: &[[T; L]; K],
+    v: &[R; L],
+    out: &mut [R; K],
+)
+    requires shape { (K ≤ 8) × (L ≤ 7) }
+    requires matrix { MatrixWithin 8380416 a_hat.now }
+    requires vector { VectorWithin L 8380416 v.now }
+    ensures values { (r n : ℕ) → r < K → n < 256 → entry out.new r n ≡ pos (matrix_product L a_hat.now (vector_coefficients v.now) r n) }
+    ensures range { VectorWithin K 8380416 out.new }
+{
+    let mut w = Transforms::zeros();
+    w.write_transforms(v);
+    w.multiply_by(a_hat);
+    w.write_plain(out);
 }
 
 /// `HighBits` of each coefficient of a vector. `gamma2` is 95232 or 261888, and coefficients are below

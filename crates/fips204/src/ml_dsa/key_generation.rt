@@ -1,11 +1,10 @@
 //! Making keys (FIPS 204, Algorithms 1 and 6).
 #![tactic(auto)]
 
-ghost use Rattle.std.specs.Prelude.{◌≡◌, ◌≤◌, ◌<◌, ◌+◌, ◌*◌, ◌%◌, List, None, Some, pos, nat_abs, take, drop, IfOk, IfErr};
-ghost use Rattle.fips204_base.specs.Sampling.{sampled_matrix};
+ghost use Rattle.std.specs.Prelude.{◌≡◌, ◌≤◌, ◌<◌, ◌+◌, ◌*◌, ◌%◌, pos, nat_abs, take, drop, IfOk};
+ghost use Rattle.fips204_base.specs.Sampling.{OnSampled};
 ghost use Rattle.fips204_base.specs.Vectors.{IsResidueVector, VectorWithin, vector_of};
 ghost use Rattle.fips204_base.specs.Residues.{residue};
-ghost use Rattle.fips204_base.specs.declared.types.T.{T};
 ghost use Rattle.fips204.specs.Keys.{key_vector};
 ghost use Rattle.fips204.specs.ParameterSets.{public_key_length};
 ghost use Rattle.fips204.specs.Refusals.{generated, derived, Draws};
@@ -15,9 +14,10 @@ use crate::traits::{CryptoRngCore, draw};
 use crate::types::{Params, PrivateKey, PublicKey, R, R0};
 use fips204_base::Fault;
 use fips204_base::encodings::pk_encode;
-use fips204_base::hashing::{write_expanded_s, write_expanded_times_vector};
+use fips204_base::hashing::{write_expanded_s, write_sampled_product};
 use fips204_base::helpers::full_reduce32;
 use fips204_base::high_low::write_power2round;
+use fips204_base::lanes::Transforms;
 use fips204_base::maps::write_zip_vectors;
 use fips204_base::xof::{Xof, hash};
 use std::marker::PhantomData;
@@ -92,12 +92,14 @@ pub(super) fn write_key_vector<const K: usize, const L: usize, G: Xof>(
     requires shape { (K ≤ 8) × (L ≤ 7) }
     requires first { VectorWithin L 8380416 s1.now }
     requires second { VectorWithin K 8380416 s2.now }
-    ensures refused { IfErr result (λ fault. (sampled_matrix G.front rho.now K L ≡ None) × (fault ≡ Fault.SamplingLimit)) }
-    ensures values { IfOk result (λ _. (a : List (List T)) × (sampled_matrix G.front rho.now K L ≡ Some a)
-        × (t.new ≡ vector_of K (λ r n. pos (key_vector L a s1.now s2.now r n)))) }
+    ensures values { OnSampled G.front rho.now K L result (λ a. t.new ≡ vector_of K (λ r n. pos (key_vector L a s1.now s2.now r n))) }
     ensures range { IfOk result (λ _. IsResidueVector K t.new) }
 {
-    write_expanded_times_vector::<K, L, G>(rho, s1, t)?;
+    let mut s1_hat = Transforms::zeros();
+    s1_hat.write_transforms(s1);
+    let mut product = Transforms::zeros();
+    write_sampled_product::<K, L, G>(rho, &s1_hat, &mut product)?;
+    product.write_plain(t);
     write_zip_vectors(
         t,
         s2,

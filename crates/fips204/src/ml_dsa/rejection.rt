@@ -2,74 +2,63 @@
 #![tactic(auto)]
 
 ghost use Rattle.std.specs.Prelude.{◌≡◌, ◌⊎◌, ◌<◌, ◌≤◌, ◌+◌, ◌*◌, ◌%◌, ℕ, List, pos, nat_abs, nat_lt, ◌≤ℤ◌, Ok, Some, length};
-ghost use Rattle.fips204_base.specs.Residues.{centred, vector_norm, coefficients, residue};
+ghost use Rattle.fips204_base.specs.Residues.{centred, vector_norm, residue};
 ghost use Rattle.fips204_base.specs.Encodings.{all_ones};
-ghost use Rattle.fips204_base.specs.Vectors.{entry, VectorWithin, vector_coefficients, vector_of};
-ghost use Rattle.fips204_base.specs.Transforms.{product};
+ghost use Rattle.fips204_base.specs.Vectors.{VectorWithin, vector_coefficients, vector_of};
+ghost use Rattle.fips204_base.specs.Transforms.{minus, plus};
 ghost use Rattle.fips204_base.specs.Rounding.{low_bits};
-ghost use Rattle.fips204_base.specs.declared.types.R.{R};
-ghost use Rattle.fips204.specs.Signing.{checked_attempt, hint_bit, w_minus_cs2, y_plus_cs1};
+ghost use Rattle.fips204.specs.Signing.{checked_attempt, hint_bit};
 ghost use Rattle.fips204.specs.SigningInputs.{AreCheckInputs, attempt_answer};
 ghost use Rattle.fips204.specs.Sets.{set_of};
 
-use crate::types::{KeyTransforms, Params, PrivateKey, R, R0};
+use crate::types::{Params, R, R0, SigningKey};
 use fips204_base::encodings::sig_encode;
-use fips204_base::helpers::{Count, center_mod, difference, infinity_norm};
+use fips204_base::helpers::{center_mod, difference, infinity_norm};
 use fips204_base::high_low::{low_bits, make_hint};
+use fips204_base::lanes::transforms::{Factor, write_product};
 use fips204_base::maps::{map_vector, write_zip_vectors, zip_vectors};
-use fips204_base::product::{
-    challenge_times_transforms, transform_of, write_challenge_times_first,
-    write_challenge_times_second,
-};
 
-impl<const K: usize, const L: usize, H, G> PrivateKey<K, L, H, G> {
-    /// The signature of an attempt with the transforms of the key's vectors, mask `y`, `w = A y`, commitment
-    /// and challenge, or `None` where one of the checks rejects it.
+impl<'a, const K: usize, const L: usize, H, G> SigningKey<'a, K, L, H, G> {
+    /// The signature of an attempt with mask `y`, `w = A y`, commitment and challenge, or `None` where one of the checks rejects it.
     ///
     /// Coefficients of `y` are in `[1 - gamma1, gamma1]`, those of `w` and `c` below `q` in absolute value.
     /// `K` and `L` are those of the set, and `LAMBDA_DIV4` and `SIG_LEN` its lengths.
     pub(crate) fn rejection_checks<const LAMBDA_DIV4: usize, const SIG_LEN: usize>(
         &self,
         p: &Params,
-        transforms: &KeyTransforms<K, L>,
         y: &[R; L],
         w: &[R; K],
         c_tilde: &[u8; LAMBDA_DIV4],
         c: &R,
     ) -> Option<[u8; SIG_LEN]>
-        requires inputs { AreCheckInputs p.now K L LAMBDA_DIV4 SIG_LEN self.now transforms.now y.now w.now c.now }
+        requires inputs { AreCheckInputs p.now K L LAMBDA_DIV4 SIG_LEN y.now w.now c.now }
         ensures { Ok result
-            ≡ attempt_answer (checked_attempt (set_of p.now) self.now y.now (vector_coefficients w.now) c_tilde.now (Some c.now)) }
+            ≡ attempt_answer (checked_attempt (set_of p.now) self.now.parts y.now (vector_coefficients w.now) c_tilde.now (Some c.now)) }
     {
         // c_hat = NTT(c)
-        let c_hat = transform_of(c, &mut Count::new());
+        let c_hat = Factor::of(c);
         // z = y + c s1, with a norm below gamma1 - beta
         let mut z = [R0; L];
-        let mut rest = [R0; K];
-        write_challenge_times_first(
-            &c_hat,
-            &transforms.s1_hat,
-            &transforms.s2_hat,
-            &mut z,
-            &mut rest,
-        );
-        write_response(y, &mut z);
+        write_product(&c_hat, &self.transforms.s1_hat, &mut z);
+        write_centred_sum(&mut z, y);
         if !has_norm_below(&z, p.z_bound()) {
             return None;
         }
         // r0 = LowBits(w - c s2), with a norm below gamma2 - beta
-        write_challenge_times_second::<L, K>(&c_hat, &transforms.s2_hat, &mut rest);
-        write_w_minus_cs2(w, &mut rest);
-        if !has_norm_below(&low_vector(p.gamma2, &rest), p.r0_bound()) {
+        let mut v = [R0; K];
+        write_product(&c_hat, &self.transforms.s2_hat, &mut v);
+        write_difference(w, &mut v);
+        if !has_norm_below(&low_vector(p.gamma2, &v), p.r0_bound()) {
             return None;
         }
         // c t0, with a norm below gamma2
-        let ct0 = challenge_times_transforms(&c_hat, &transforms.t0_hat);
+        let mut ct0 = [R0; K];
+        write_product(&c_hat, &self.transforms.t0_hat, &mut ct0);
         if !has_norm_below(&ct0, p.gamma2) {
             return None;
         }
         // h = MakeHint(-c t0, w - c s2 + c t0), with at most omega ones
-        let h = hint(p.gamma2, &rest, &ct0);
+        let h = hint(p.gamma2, &v, &ct0);
         if number_of_ones(&h) > p.omega as usize {
             return None;
         }
@@ -89,13 +78,11 @@ pub(crate) fn has_norm_below<const N: usize>(v: &[R; N], bound: i32) -> bool
     infinity_norm(v) < bound
 }
 
-/// Adds `y` to `c s1`, which is in `z`: `z = y + c s1`, centred. Coefficients of `y` are at most 524288, and those of
-/// `c s1` below `q`, in absolute value.
-fn write_response<const L: usize>(y: &[R; L], z: &mut [R; L])
+/// Adds `y` to `z`, centred. Coefficients of `y` are at most 524288, and those of `z` below `q`, in absolute value.
+fn write_centred_sum<const L: usize>(z: &mut [R; L], y: &[R; L])
     requires mask { VectorWithin L 524288 y.now }
     requires product { VectorWithin L 8380416 z.old }
-    ensures value { (s1 : List R) (c : R) → ((r n : ℕ) → r < L → n < 256 → entry z.old r n ≡ pos (product (coefficients c.0) (vector_coefficients s1 r) n))
-        → z.new ≡ vector_of L (λ r n. centred (pos (y_plus_cs1 s1 y.now c r n))) }
+    ensures value { z.new ≡ vector_of L (λ r n. centred (pos (plus (vector_coefficients y.now r) (vector_coefficients z.old r) n))) }
     ensures range { VectorWithin L 8380416 z.new }
 {
     write_zip_vectors(
@@ -109,17 +96,16 @@ fn write_response<const L: usize>(y: &[R; L], z: &mut [R; L])
     );
 }
 
-/// Subtracts `c s2`, which is in `rest`, from `w`: `w - c s2`, below `q` in absolute value, as coefficients of both
-/// are.
-fn write_w_minus_cs2<const K: usize>(w: &[R; K], rest: &mut [R; K])
+/// Makes `w - v` of `v`, below `q` in absolute value, as coefficients of both are.
+fn write_difference<const K: usize>(w: &[R; K], v: &mut [R; K])
     requires w { VectorWithin K 8380416 w.now }
-    requires product { VectorWithin K 8380416 rest.old }
-    ensures values { (s2 : List R) (c : R) → ((r n : ℕ) → r < K → n < 256 → entry rest.old r n ≡ pos (product (coefficients c.0) (vector_coefficients s2 r) n))
-        → (r n : ℕ) → r < K → n < 256 → vector_coefficients rest.new r n ≡ w_minus_cs2 s2 (vector_coefficients w.now) c r n }
-    ensures range { VectorWithin K 8380416 rest.new }
+    requires product { VectorWithin K 8380416 v.old }
+    ensures values { (r n : ℕ) → r < K → n < 256
+        → vector_coefficients v.new r n ≡ minus (vector_coefficients w.now r) (vector_coefficients v.old r) n }
+    ensures range { VectorWithin K 8380416 v.new }
 {
     write_zip_vectors(
-        rest,
+        v,
         w,
         |product, x|
             requires { (nat_abs product ≤ 8380416) × (nat_abs x ≤ 8380416) }

@@ -1,16 +1,16 @@
 //! Signing (FIPS 204, Algorithm 7, with the limit of attempts of Appendix C).
 #![tactic(auto)]
 
-ghost use Rattle.std.specs.Prelude.{◌≡◌};
+ghost use Rattle.std.specs.Prelude.{◌≡◌, ◌≤◌};
 ghost use Rattle.fips204.specs.Completeness.{HashComplete};
-ghost use Rattle.fips204.specs.SigningInputs.{AreKeyTransforms, AreSigningInputs};
+ghost use Rattle.fips204.specs.SigningInputs.{AreKeyTransforms};
 ghost use Rattle.fips204.specs.Sets.{HasSizes, set_of};
 ghost use Rattle.fips204.specs.Signing.{sign, sign_with};
 
-use crate::types::{KeyTransforms, Params, PrivateKey, T, T0};
+use crate::types::{KeyTransforms, Params, PrivateKey, SigningKey, T0};
 use fips204_base::Fault;
 use fips204_base::hashing::write_expanded_a;
-use fips204_base::product::{transforms, write_transforms_of_both};
+use fips204_base::lanes::Transforms;
 use fips204_base::xof::{Xof, hash};
 
 /// How many attempts signing makes (FIPS 204, Appendix C).
@@ -45,47 +45,53 @@ pub fn sign_internal<
     // A = ExpandA(rho)
     let mut a_hat = [[T0; L]; K];
     write_expanded_a::<K, L, G>(&sk.rho, &mut a_hat)?;
-    sk.sign_with::<LAMBDA_DIV4, SIG_LEN>(p, &a_hat, &sk.transforms(), mu, rnd)
+    let transforms = sk.transforms();
+    let key = SigningKey {
+        key: sk,
+        a_hat: &a_hat,
+        transforms: &transforms,
+    };
+    key.sign_with::<LAMBDA_DIV4, SIG_LEN>(p, mu, rnd)
 }
 
 impl<const K: usize, const L: usize, H, G> PrivateKey<K, L, H, G> {
     /// The transforms of s1, s2 and t0 (lines 2 to 4).
-    pub(crate) fn transforms(&self) -> KeyTransforms<K, L>
+    pub(crate) fn transforms(&self) -> KeyTransforms
+        requires shape { (K ≤ 8) × (L ≤ 7) }
         ensures { AreKeyTransforms K L self.now result }
     {
-        let mut s1_hat = [T0; L];
-        let mut s2_hat = [T0; K];
-        write_transforms_of_both(&self.s1, &self.s2, &mut s1_hat, &mut s2_hat);
+        let mut s1_hat = Transforms::zeros();
+        s1_hat.write_transforms(&self.s1);
+        let mut s2_hat = Transforms::zeros();
+        s2_hat.write_transforms(&self.s2);
+        let mut t0_hat = Transforms::zeros();
+        t0_hat.write_transforms(&self.t0);
         KeyTransforms {
             s1_hat,
             s2_hat,
-            t0_hat: transforms(&self.t0),
+            t0_hat,
         }
     }
 }
 
-impl<const K: usize, const L: usize, H: Xof, G> PrivateKey<K, L, H, G> {
-    /// `sign_internal` with the matrix, whose values are below `q` in absolute value, and the transforms of the
-    /// key's vectors (lines 7 to 33).
+impl<'a, const K: usize, const L: usize, H: Xof, G> SigningKey<'a, K, L, H, G> {
+    /// `sign_internal` with the matrix at hand (lines 7 to 33).
     pub(crate) fn sign_with<const LAMBDA_DIV4: usize, const SIG_LEN: usize>(
         &self,
         p: &Params,
-        a_hat: &[[T; L]; K],
-        transforms: &KeyTransforms<K, L>,
         mu: &[u8; 64],
         rnd: &[u8; 32],
     ) -> Result<[u8; SIG_LEN], Fault>
-        requires inputs { AreSigningInputs p.now K L LAMBDA_DIV4 SIG_LEN self.now a_hat.now transforms.now }
-        ensures { result ≡ sign_with (set_of p.now) H.front a_hat.now self.now mu.now rnd.now }
+        requires sizes { HasSizes (set_of p.now) K L LAMBDA_DIV4 SIG_LEN }
+        ensures { result ≡ sign_with (set_of p.now) H.front self.now.matrix self.now.parts mu.now rnd.now }
     {
         // rho'' = H(K || rnd || mu)
-        let seed = hash::<H, 64>(&[self.key.as_slice(), rnd, mu]);
+        let key = self.key;
+        let seed = hash::<H, 64>(&[key.key.as_slice(), rnd, mu]);
         for n in 0..MAX_SIGN_ATTEMPTS {
             // kappa = n l
             let kappa = n * L as u16;
-            if let Some(signature) = self.attempt::<LAMBDA_DIV4, SIG_LEN>(
-                p, a_hat, transforms, mu, &seed, kappa,
-            )? {
+            if let Some(signature) = self.attempt::<LAMBDA_DIV4, SIG_LEN>(p, mu, &seed, kappa)? {
                 return Ok(signature);
             }
         }

@@ -6,10 +6,13 @@ ghost use Rattle.std.specs.List.{All};
 ghost use Rattle.fips204_base.specs.Sampling.{challenge};
 ghost use Rattle.fips204_base.specs.Packing.{PolynomialInRange};
 ghost use Rattle.fips204_base.specs.Vectors.{PolynomialWithin, VectorWithin, IsVector, vector_coefficients};
-ghost use Rattle.fips204_base.specs.Residues.{residue};
+ghost use Rattle.fips204_base.specs.Residues.{residue, coefficients};
+ghost use Rattle.fips204_base.specs.Transforms.{minus, product};
 ghost use Rattle.fips204_base.specs.Rounding.{high_values, use_hint};
 ghost use Rattle.fips204_base.specs.declared.types.R.{R};
-ghost use Rattle.fips204.specs.Acceptance.{t1_shifted, hinted, Accepts, Verifies};
+ghost use Rattle.fips204.specs.Acceptance.{AreShifted, hinted, Accepts, Verifies};
+ghost use Rattle.fips204.specs.ParameterSets.{commitment_length};
+ghost use Rattle.fips204.specs.Signing.{commitment};
 ghost use Rattle.fips204.specs.SigningInputs.{HasShortParts};
 ghost use Rattle.fips204.specs.Keys.{IsHighPart};
 ghost use Rattle.fips204.specs.Sets.{HasSizes, set_of};
@@ -19,10 +22,10 @@ use super::rejection::has_norm_below;
 use crate::types::{Params, PreparedPublicKey, PublicKey, R, R0};
 use fips204_base::D;
 use fips204_base::encodings::sig_decode;
-use fips204_base::hashing::{sample_in_ball, write_expanded_times_vector_less};
+use fips204_base::hashing::{sample_in_ball, write_sampled_product};
 use fips204_base::high_low::use_hint;
+use fips204_base::lanes::{Factor, Transforms};
 use fips204_base::maps::{map_vector, write_zip_vectors};
-use fips204_base::product::matrix_times_vector_less;
 use fips204_base::xof::Xof;
 
 /// `ML-DSA.Verify_internal` (Algorithm 8) from `mu`: returns true if and only if the signature is accepted.
@@ -43,15 +46,17 @@ pub fn verify_internal<
         return false;
     };
     let (c_tilde, z, h, c) = &parts;
-    // A = ExpandA(rho), w'_approx = A z - c t1 2^d
-    let mut w = [R0; K];
-    match write_expanded_times_vector_less::<K, L, G>(&pk.rho, z, c, &t1_shifted(&pk.t1), &mut w) {
+    // A = ExpandA(rho), A z
+    let mut z_hat = Transforms::zeros();
+    z_hat.write_transforms(z);
+    let mut az = Transforms::zeros();
+    match write_sampled_product::<K, L, G>(&pk.rho, &z_hat, &mut az) {
         Err(_) => false,
         Ok(()) => {
-            // w1' = UseHint(h, w'_approx)
-            write_hinted(p, h, &mut w);
-            // c_tilde = H(mu || w1Encode(w1'))
-            *c_tilde == commitment::<K, LAMBDA_DIV4, H>(p, mu, &w)
+            // t1 2^d
+            let mut t1_hat = Transforms::zeros();
+            t1_hat.write_transforms(&t1_shifted(&pk.t1));
+            is_committed::<K, LAMBDA_DIV4, H>(p, mu, c_tilde, h, c, &mut az, &t1_hat)
         }
     }
 }
@@ -71,8 +76,36 @@ pub(crate) fn verify_prepared<
         return false;
     };
     let (c_tilde, z, h, c) = &parts;
+    // A z
+    let mut az = Transforms::zeros();
+    az.write_transforms(z);
+    az.multiply_by(&pk.a_hat);
+    is_committed::<K, LAMBDA_DIV4, H>(p, mu, c_tilde, h, c, &mut az, &pk.t1_hat)
+}
+
+/// Whether `c_tilde` commits to `mu` and `w1' = UseHint(h, A z - c t1 2^d)` (lines 9 to 13). Uses `A z` up.
+///
+/// Coefficients of `c` are below `q` in absolute value, those of `h` 0 or 1. `K` is that of the set.
+fn is_committed<const K: usize, const LAMBDA_DIV4: usize, H: Xof>(
+    p: &Params,
+    mu: &[u8; 64],
+    c_tilde: &[u8; LAMBDA_DIV4],
+    h: &[R; K],
+    c: &R,
+    az: &mut Transforms,
+    t1_hat: &Transforms,
+) -> bool
+    requires rows { K ≡ p.now.k }
+    requires size { LAMBDA_DIV4 ≡ commitment_length (set_of p.now) }
+    requires hint { IsVector K 0 1 h.now }
+    requires challenge { PolynomialWithin 8380416 c.now.0 }
+    ensures { IsTrue result ↔ (c_tilde.now ≡ commitment (set_of p.now) H.front mu.now (hinted (set_of p.now) h.now (λ r.
+        minus (vector_coefficients az.old r) (product (coefficients c.now.0) (vector_coefficients t1_hat.now r))))) }
+{
     // w'_approx = A z - c t1 2^d
-    let mut w = matrix_times_vector_less(&pk.a_hat, z, c, &t1_shifted(&pk.key.t1));
+    az.subtract_multiple(&Factor::of(c), t1_hat);
+    let mut w = [R0; K];
+    az.write_plain(&mut w);
     // w1' = UseHint(h, w'_approx)
     write_hinted(p, h, &mut w);
     // c_tilde = H(mu || w1Encode(w1'))
@@ -128,9 +161,9 @@ fn write_hinted<const K: usize>(p: &Params, h: &[R; K], w: &mut [R; K])
 }
 
 /// `t1 2^d`, with coefficients from 0 to `q - 1`.
-fn t1_shifted<const K: usize>(t1: &[R; K]) -> [R; K]
+pub(crate) fn t1_shifted<const K: usize>(t1: &[R; K]) -> [R; K]
     requires { IsHighPart K t1.now }
-    ensures values { (r n : ℕ) → r < K → n < 256 → vector_coefficients result r n ≡ t1_shifted t1.now r n }
+    ensures values { AreShifted K t1.now result }
     ensures range { VectorWithin K 8380416 result }
 {
     map_vector(

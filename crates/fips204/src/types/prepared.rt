@@ -6,15 +6,15 @@ ghost use Rattle.fips204_base.specs.Vectors.{MatrixWithin};
 ghost use Rattle.fips204.specs.Keys.{ArePrivateParts, ArePublicParts};
 
 use super::{PrivateKey, PublicKey, T};
+use fips204_base::lanes::Transforms;
 use std::marker::Model;
 
-/// The transforms of a private key's vectors (FIPS 204, Algorithm 7, lines 2 to 4), with values below `q` in
-/// absolute value.
+/// The transforms of a private key's vectors (FIPS 204, Algorithm 7, lines 2 to 4).
 #[derive(Drop)]
-pub struct KeyTransforms<const K: usize, const L: usize> {
-    pub(crate) s1_hat: [T; L],
-    pub(crate) s2_hat: [T; K],
-    pub(crate) t0_hat: [T; K],
+pub struct KeyTransforms {
+    pub(crate) s1_hat: Transforms,
+    pub(crate) s2_hat: Transforms,
+    pub(crate) t0_hat: Transforms,
 }
 
 /// A private key of a set with a matrix of `K` rows and `L` columns, over the stream `H`, with its matrix and
@@ -26,7 +26,7 @@ pub struct KeyTransforms<const K: usize, const L: usize> {
 pub struct PreparedPrivateKey<const K: usize, const L: usize, H> {
     pub(crate) key: PrivateKey<K, L, H, ()>,
     pub(crate) a_hat: [[T; L]; K],
-    pub(crate) transforms: KeyTransforms<K, L>,
+    pub(crate) transforms: KeyTransforms,
 }
 
 impl<const K: usize, const L: usize, H> Model for PreparedPrivateKey<K, L, H> {
@@ -42,6 +42,27 @@ impl<const K: usize, const L: usize, H> Model for PreparedPrivateKey<K, L, H> {
     ghost invariant = { λ sk. MatrixWithin 8380416 sk.a_hat × ArePrivateParts K L sk.key × AreKeyTransforms K L sk.key sk.transforms };
 }
 
+/// A private key with its matrix and the transforms of its vectors, from wherever each comes.
+#[derive(Drop)]
+pub(crate) struct SigningKey<'a, const K: usize, const L: usize, H, G> {
+    pub(crate) key: &'a PrivateKey<K, L, H, G>,
+    pub(crate) a_hat: &'a [[T; L]; K],
+    pub(crate) transforms: &'a KeyTransforms,
+}
+
+impl<'a, const K: usize, const L: usize, H, G> Model for SigningKey<'a, K, L, H, G> {
+    ghost use Rattle.fips204_base.specs.Vectors.{MatrixWithin};
+    ghost use Rattle.fips204.specs.SigningInputs.{AreKeyTransforms};
+    ghost use Rattle.fips204.specs.Keys.{ArePrivateParts};
+    ghost use Rattle.fips204.specs.Prepared.{PreparedPrivate};
+
+    ghost Value = { PreparedPrivate };
+
+    ghost view = { λ sk. record { parts = sk.key.now; matrix = sk.a_hat.now } };
+
+    ghost invariant = { λ sk. MatrixWithin 8380416 sk.a_hat.now × ArePrivateParts K L sk.key.now × AreKeyTransforms K L sk.key.now sk.transforms.now };
+}
+
 impl<const K: usize, const L: usize, H> PreparedPrivateKey<K, L, H> {
     /// A law, which computes nothing: the matrix has values below `q` in absolute value, and the parts have
     /// the lengths and ranges of a private key whose matrix has `K` rows and `L` columns.
@@ -53,7 +74,8 @@ impl<const K: usize, const L: usize, H> PreparedPrivateKey<K, L, H> {
     }
 }
 
-/// A public key of a set with a matrix of `K` rows and `L` columns, over the stream `H`, with its matrix.
+/// A public key of a set with a matrix of `K` rows and `L` columns, over the stream `H`, with its matrix and the
+/// transforms of `t1 2^d`.
 ///
 /// Contracts see it as the public key's parts and the matrix, whose entries are the transforms of the plain
 /// matrix.
@@ -61,17 +83,19 @@ impl<const K: usize, const L: usize, H> PreparedPrivateKey<K, L, H> {
 pub struct PreparedPublicKey<const K: usize, const L: usize, H> {
     pub(crate) key: PublicKey<K, L, H, ()>,
     pub(crate) a_hat: [[T; L]; K],
+    pub(crate) t1_hat: Transforms,
 }
 
 impl<const K: usize, const L: usize, H> Model for PreparedPublicKey<K, L, H> {
     ghost use Rattle.fips204_base.specs.Vectors.{MatrixWithin};
+    ghost use Rattle.fips204.specs.Acceptance.{AreShifted};
     ghost use Rattle.fips204.specs.Prepared.{PreparedPublic};
 
     ghost Value = { PreparedPublic };
 
     ghost view = { λ pk. record { parts = pk.key; matrix = pk.a_hat } };
 
-    ghost invariant = { λ pk. MatrixWithin 8380416 pk.a_hat };
+    ghost invariant = { λ pk. MatrixWithin 8380416 pk.a_hat × AreShifted K pk.key.t1 pk.t1_hat };
 }
 
 impl<const K: usize, const L: usize, H> PreparedPublicKey<K, L, H> {

@@ -1,21 +1,17 @@
 //! The matrix, from the stream in the place of SHAKE128.
 #![tactic(auto)]
 
-ghost use Rattle.std.specs.Prelude.{◌≡◌, ◌≤◌, ◌<◌, ◌/◌, ℕ, List, None, Some, pos, length, ok_or, IfOk, IfErr};
+ghost use Rattle.std.specs.Prelude.{◌≡◌, ◌≤◌, ◌<◌, ◌/◌, ℕ, None, Some, length, ok_or, IfOk, IfErr};
 ghost use Rattle.std.specs.List.{flat_map};
 ghost use Rattle.fips204_base.specs.Network.{AreKept};
-ghost use Rattle.fips204_base.specs.Sampling.{kept_triples, matrix_entry, sampled_matrix, sampled_row};
-ghost use Rattle.fips204_base.specs.Vectors.{entry, TransformsWithin, MatrixWithin, AreRowProducts, PolynomialWithin, VectorWithin, vector_coefficients, matrix_product, product_difference};
-ghost use Rattle.fips204_base.specs.declared.types.T.{T};
+ghost use Rattle.fips204_base.specs.Sampling.{OnSampled, kept_triples, matrix_entry, sampled_matrix, sampled_row};
+ghost use Rattle.fips204_base.specs.Vectors.{MatrixWithin, vector_coefficients, matrix_product};
 
 use crate::conversion::coeff_from_three_bytes;
 use crate::fault::Fault;
 use crate::hashing::write_kept;
-use crate::helpers::vector::row_sum;
-use crate::product::{
-    transforms, write_plain_products, write_product_difference, write_transforms_of_both,
-};
-use crate::types::{R, T, T0};
+use crate::lanes::Transforms;
+use crate::types::{T, T0};
 use crate::xof::{Xof, XofReader};
 
 /// Puts the coefficients that the triples of `piece` give into `values` from place `kept` on, as many as have
@@ -111,80 +107,23 @@ fn write_expanded_row<const L: usize, G: Xof>(
     Ok(())
 }
 
-/// Writes the products of the matrix of `rho` with a vector of transforms, value by value, as `mat_vec_mul`
-/// of `expand_a` returns them, with one row of the matrix at a time. `K` and `L` are those of a parameter
-/// set, and values of the vector are below `q` in absolute value, as are those written.
+/// Writes `A v` for the matrix of `rho`, with one row of it at a time. `K` and `L` are those of a parameter set.
+/// Internal: serves the crate `fips204` alone.
 ///
 /// Errors: `SamplingLimit` if an entry reaches its limit.
-fn write_expanded_mat_vec_mul<const K: usize, const L: usize, G: Xof>(
+pub fn write_sampled_product<const K: usize, const L: usize, G: Xof>(
     rho: &[u8; 32],
-    u: &[T; L],
-    out: &mut [T; K],
+    v: &Transforms,
+    out: &mut Transforms,
 ) -> Result<(), Fault>
     requires shape { (K ≤ 8) × (L ≤ 7) }
-    requires vector { TransformsWithin 8380416 u.now }
-    ensures refused { IfErr result (λ fault. (sampled_matrix G.front rho.now K L ≡ None) × (fault ≡ Fault.SamplingLimit)) }
-    ensures values { IfOk result (λ _. (a : List (List T)) × (sampled_matrix G.front rho.now K L ≡ Some a) × AreRowProducts K L a u.now out.new) }
-    ensures small { IfOk result (λ _. TransformsWithin 8380416 out.new) }
+    ensures { OnSampled G.front rho.now K L result (λ a. (r n : ℕ) → r < K → n < 256
+        → vector_coefficients out.new r n ≡ matrix_product L a (vector_coefficients v.now) r n) }
 {
     let mut row = [T0; L];
     for r in 0..K {
         write_expanded_row::<L, G>(rho, r, &mut row)?;
-        out[r] = row_sum(&row, u);
+        out.write_row_product(r, &row, v);
     }
-    Ok(())
-}
-
-/// Writes the product of the matrix of `rho` with a vector of plain polynomials, as `write_matrix_times_vector` of
-/// `expand_a` does, with one row of the matrix at a time. `K` and `L` are those of a parameter set, and
-/// coefficients are below `q` in absolute value. Internal: serves the crate `fips204` alone.
-///
-/// Errors: `SamplingLimit` if an entry reaches its limit.
-pub fn write_expanded_times_vector<const K: usize, const L: usize, G: Xof>(
-    rho: &[u8; 32],
-    v: &[R; L],
-    out: &mut [R; K],
-) -> Result<(), Fault>
-    requires shape { (K ≤ 8) × (L ≤ 7) }
-    requires vector { VectorWithin L 8380416 v.now }
-    ensures refused { IfErr result (λ fault. (sampled_matrix G.front rho.now K L ≡ None) × (fault ≡ Fault.SamplingLimit)) }
-    ensures values { IfOk result (λ _. (a : List (List T)) × (sampled_matrix G.front rho.now K L ≡ Some a)
-        × ((r n : ℕ) → r < K → n < 256 → entry out.new r n ≡ pos (matrix_product L a (vector_coefficients v.now) r n))) }
-    ensures range { IfOk result (λ _. VectorWithin K 8380416 out.new) }
-{
-    let mut products = [T0; K];
-    write_expanded_mat_vec_mul::<K, L, G>(rho, &transforms(v), &mut products)?;
-    write_plain_products(&products, out);
-    Ok(())
-}
-
-/// Writes the product of the matrix of `rho` with a vector, less the product of a challenge with a vector, as
-/// `matrix_times_vector_less` of `expand_a` returns it, with one row of the matrix at a time. `K` and `L` are
-/// those of a parameter set, and coefficients are below `q` in absolute value. Internal: serves the crate `fips204`
-/// alone.
-///
-/// Errors: `SamplingLimit` if an entry reaches its limit.
-pub fn write_expanded_times_vector_less<const K: usize, const L: usize, G: Xof>(
-    rho: &[u8; 32],
-    z: &[R; L],
-    c: &R,
-    t: &[R; K],
-    out: &mut [R; K],
-) -> Result<(), Fault>
-    requires shape { (K ≤ 8) × (L ≤ 7) }
-    requires vector { VectorWithin L 8380416 z.now }
-    requires challenge { PolynomialWithin 8380416 c.now.0 }
-    requires less { VectorWithin K 8380416 t.now }
-    ensures refused { IfErr result (λ fault. (sampled_matrix G.front rho.now K L ≡ None) × (fault ≡ Fault.SamplingLimit)) }
-    ensures values { IfOk result (λ _. (a : List (List T)) × (sampled_matrix G.front rho.now K L ≡ Some a)
-        × ((r n : ℕ) → r < K → n < 256 → entry out.new r n ≡ pos (product_difference L a z.now c.now (vector_coefficients t.now) r n))) }
-    ensures range { IfOk result (λ _. VectorWithin K 8380416 out.new) }
-{
-    let mut z_hat = [T0; L];
-    let mut t_hat = [T0; K];
-    write_transforms_of_both(z, t, &mut z_hat, &mut t_hat);
-    let mut products = [T0; K];
-    write_expanded_mat_vec_mul::<K, L, G>(rho, &z_hat, &mut products)?;
-    write_product_difference(&products, c, &t_hat, out);
     Ok(())
 }

@@ -3,6 +3,8 @@
 
 ghost use Rattle.std.specs.Prelude.{◌≡◌, ◌≤◌, ◌<◌, ◌*◌, ◌%◌, ℕ, ◌+ℤ◌, nat_abs};
 ghost use Rattle.fips204_base.specs.Residues.{residue, coefficients};
+ghost use Rattle.fips204_base.specs.Lanes.{lane};
+ghost use Rattle.fips204_base.specs.PlainTransforms.{lanes_value};
 ghost use Rattle.fips204_base.specs.Vectors.{entry, VectorWithin, ValuesWithin, TransformsWithin, MatrixWithin, vector_residues, row_value, AreRowProducts};
 
 use crate::helpers::reduce::{partial_reduce64, wide_product};
@@ -60,29 +62,14 @@ pub fn mat_vec_mul<const K: usize, const L: usize>(a: &[[T; L]; K], u: &[T; L]) 
     ensures small { TransformsWithin 8380416 result }
 {
     let mut out = [T0; K];
-    write_mat_vec_mul(a, u, &mut out);
-    out
-}
-
-/// Writes what `mat_vec_mul` returns.
-pub(crate) fn write_mat_vec_mul<const K: usize, const L: usize>(
-    a: &[[T; L]; K],
-    u: &[T; L],
-    out: &mut [T; K],
-)
-    requires columns { L ≤ 7 }
-    requires matrix { MatrixWithin 8380416 a.now }
-    requires vector { TransformsWithin 8380416 u.now }
-    ensures values { AreRowProducts K L a.now u.now out.new }
-    ensures small { TransformsWithin 8380416 out.new }
-{
     for i in 0..K {
         out[i] = row_sum(&a[i], u);
     }
+    out
 }
 
 /// The sum of the products of a row of the matrix with the vector, value by value.
-pub(crate) fn row_sum<const L: usize>(row: &[T; L], u: &[T; L]) -> T
+fn row_sum<const L: usize>(row: &[T; L], u: &[T; L]) -> T
     requires columns { L ≤ 7 }
     requires row { TransformsWithin 8380416 row.now }
     requires vector { TransformsWithin 8380416 u.now }
@@ -91,23 +78,39 @@ pub(crate) fn row_sum<const L: usize>(row: &[T; L], u: &[T; L]) -> T
 {
     let mut out = [0; 256];
     for j in 0..256 {
-        out[j] = partial_reduce64(place_sum(row, u, j));
+        out[j] = partial_reduce64(place_sum(row, &values_at(u, j), j));
     }
     T(out)
 }
 
-/// The sum of the products at one place.
-fn place_sum<const L: usize>(row: &[T; L], u: &[T; L], j: usize) -> i64
+/// The values of the transforms at one place.
+fn values_at<const L: usize>(u: &[T; L], j: usize) -> [i32; 8]
     requires columns { L ≤ 7 }
-    requires row { TransformsWithin 8380416 row.now }
     requires vector { TransformsWithin 8380416 u.now }
     requires place { j < 256 }
-    ensures value { residue result ≡ row_value L row.now u.now j }
+    ensures values { (k : ℕ) → k < L → coefficients result k ≡ vector_residues u.now k j }
+    ensures small { (k : ℕ) → k < 8 → nat_abs (lane result k) ≤ 8380416 }
+{
+    let mut out = [0; 8];
+    for k in 0..L {
+        out[k] = u[k].0[j];
+    }
+    out
+}
+
+/// The sum of the products at one place of a row of the matrix with as many numbers.
+#[inline(always)]
+pub(crate) fn place_sum<const L: usize>(row: &[T; L], u: &[i32; 8], j: usize) -> i64
+    requires columns { L ≤ 7 }
+    requires row { TransformsWithin 8380416 row.now }
+    requires numbers { (k : ℕ) → k < 8 → nat_abs (lane u.now k) ≤ 8380416 }
+    requires place { j < 256 }
+    ensures value { residue result ≡ lanes_value L row.now u.now j }
     ensures small { nat_abs result ≤ 70231372333056 * L }
 {
     let mut sum = 0;
     for k in 0..L {
-        sum += wide_product(row[k].0[j], u[k].0[j]);
+        sum += wide_product(row[k].0[j], u[k]);
     }
     sum
 }

@@ -1,60 +1,89 @@
 //! Eight values for the butterflies in one row, which goes through each step at once.
 #![tactic(auto)]
 
-ghost use Rattle.std.specs.Prelude.{◌≡◌, ℕ, ◌<◌, ◌≤◌, ◌+◌, ◌*◌, ◌%◌, pos, ◌*ℤ◌, length, nat_abs, slice_index_or, FitsSigned};
+ghost use Rattle.std.specs.Prelude.{◌≡◌, ℕ, ◌<◌, ◌≤◌, ◌+◌, ◌*◌, ◌%◌, ◌≢◌, pos, ◌*ℤ◌, length, nat_abs, slice_index_or, FitsSigned};
 ghost use Rattle.std.specs.Int.{int_rem_euclid, int_div_euclid, w32};
-ghost use Rattle.fips204_base.specs.Residues.{residue, IsCongruent};
+ghost use Rattle.fips204_base.specs.Residues.{residue, from_mont, IsCongruent};
 ghost use Rattle.fips204_base.specs.Lanes.{lane, EachLane};
 
 use crate::Q;
 use crate::helpers::count::Count;
 use crate::helpers::residue::Residue;
-use crate::helpers::vector::value_to_mont;
 use crate::helpers::zeta_table::zeta_mont;
+use std::marker::Model;
 use std::simd::{i32x8, i64x8};
 
 /// A row of eight `i32` lanes. Contracts see the row as the list of its lanes.
 #[derive(Clone, Copy)]
 pub struct Lanes {
     lanes: i32x8,
-    ghost eight: { length lanes ≡ 8 },
-    ghost fits: { (j : ℕ) → j < 8 → FitsSigned w32 (slice_index_or lanes j (pos 0)) },
+}
+
+impl Model for Lanes {
+    ghost use Rattle.std.specs.Prelude.{List, ℤ};
+    ghost use Rattle.fips204_base.specs.Lanes.{AreEight};
+
+    ghost Value = { List ℤ };
+
+    ghost view = { λ x. x.lanes };
+
+    ghost invariant = { λ x. AreEight x.lanes };
+
+    ghost inverse = { λ xs. record { lanes = xs } };
 }
 
 impl Lanes {
     /// The row whose lane `i` is entry `i`.
     pub fn from_array(entries: [i32; 8]) -> Lanes
-        ensures { result.lanes ≡ entries }
+        ensures { result ≡ entries }
     {
         Lanes {
             lanes: row_of(&entries),
         }
     }
 
-    /// Each lane times a factor modulo `q`, below `q` in absolute value, as the factor is.
-    pub(crate) fn times(self, factor: i32) -> Lanes
-        requires { nat_abs factor ≤ 8380416 }
-        ensures value { EachLane (λ x y. residue y ≡ residue factor * residue x % 8380417) 8 self.lanes result.lanes }
-        ensures small { (j : ℕ) → j < 8 → nat_abs (lane result.lanes j) ≤ 8380416 }
+    /// The row of zeros.
+    pub(crate) fn zeros() -> Lanes
+        ensures { (j : ℕ) → lane result j ≡ pos 0 }
     {
-        mont_products(self, value_to_mont(factor))
-    }
-
-    /// Each lane less that of another row modulo `q`, below `q` in absolute value, as lanes of both are.
-    pub(crate) fn less(self, other: Lanes) -> Lanes
-        requires first { (j : ℕ) → j < 8 → nat_abs (lane self.lanes j) ≤ 8380416 }
-        requires second { (j : ℕ) → j < 8 → nat_abs (lane other.lanes j) ≤ 8380416 }
-        ensures value { (j : ℕ) → j < 8 → residue (lane result.lanes j) ≡ (residue (lane self.lanes j) + 8380416 * residue (lane other.lanes j)) % 8380417 }
-        ensures small { (j : ℕ) → j < 8 → nat_abs (lane result.lanes j) ≤ 8380416 }
-    {
-        self.sub(other, &mut Count::new()).reduce()
+        Lanes::from_array([0; 8])
     }
 
     /// The array whose entry `i` is lane `i`.
     pub fn to_array(self) -> [i32; 8]
-        ensures { result ≡ self.lanes }
+        ensures { result ≡ self }
     {
         self.lanes.to_array()
+    }
+
+    /// The row with `x` in lane `r`.
+    pub(crate) fn with_lane(self, r: usize, x: i32) -> Lanes
+        requires { r < 8 }
+        ensures lane { lane result r ≡ x }
+        ensures others { (j : ℕ) → j ≢ r → lane result j ≡ lane self j }
+    {
+        let mut entries = self.to_array();
+        entries[r] = x;
+        Lanes::from_array(entries)
+    }
+
+    /// Each lane times a factor in Montgomery form, modulo `q` and below `q` in absolute value, as the factor is.
+    pub(crate) fn times(self, factor: i32) -> Lanes
+        requires { nat_abs factor ≤ 8380416 }
+        ensures value { EachLane (λ x y. residue y ≡ from_mont (residue factor) * residue x % 8380417) 8 self result }
+        ensures small { (j : ℕ) → j < 8 → nat_abs (lane result j) ≤ 8380416 }
+    {
+        mont_products(self, factor)
+    }
+
+    /// Each lane minus that of another row, modulo `q` and below `q` in absolute value, as lanes of both are.
+    pub(crate) fn minus(self, other: Lanes) -> Lanes
+        requires first { (j : ℕ) → j < 8 → nat_abs (lane self j) ≤ 8380416 }
+        requires second { (j : ℕ) → j < 8 → nat_abs (lane other j) ≤ 8380416 }
+        ensures value { (j : ℕ) → j < 8 → residue (lane result j) ≡ (residue (lane self j) + 8380416 * residue (lane other j)) % 8380417 }
+        ensures small { (j : ℕ) → j < 8 → nat_abs (lane result j) ≤ 8380416 }
+    {
+        self.sub(other, &mut Count::new()).reduce()
     }
 }
 
@@ -62,7 +91,7 @@ impl Lanes {
 impl Residue for Lanes {
     type Meter = Count;
 
-    ghost lanes = { λ x. x.lanes };
+    ghost lanes = { λ x. x };
 
     ghost width = { 8 };
 
@@ -114,8 +143,8 @@ impl Residue for Lanes {
 /// bits, and a lane's wide product is one instruction and not three.
 fn mont_products(x: Lanes, factor: i32) -> Lanes
     requires { nat_abs factor ≤ 8380416 }
-    ensures congruent { EachLane (λ x y. IsCongruent (4294967296 * residue y) (residue x * residue factor)) 8 x.lanes result.lanes }
-    ensures small { (j : ℕ) → j < 8 → nat_abs (lane result.lanes j) ≤ 8380416 }
+    ensures congruent { EachLane (λ x y. IsCongruent (4294967296 * residue y) (residue x * residue factor)) 8 x result }
+    ensures small { (j : ℕ) → j < 8 → nat_abs (lane result j) ≤ 8380416 }
 {
     let both = i64x8::splat(factor_words(factor));
     let word = i64x8::splat(32);
@@ -141,8 +170,8 @@ fn factor_words(factor: i32) -> i64
 
 /// Each lane modulo `q`, from 0 to `q - 1`, for lanes below `q` in absolute value.
 fn raised(x: Lanes) -> Lanes
-    requires { (j : ℕ) → j < 8 → nat_abs (lane x.lanes j) ≤ 8380416 }
-    ensures { EachLane (λ x y. y ≡ pos (residue x)) 8 x.lanes result.lanes }
+    requires { (j : ℕ) → j < 8 → nat_abs (lane x j) ≤ 8380416 }
+    ensures { EachLane (λ x y. y ≡ pos (residue x)) 8 x result }
 {
     Lanes {
         lanes: x.lanes - (x.lanes >> i32x8::splat(31)) * i32x8::splat(Q),

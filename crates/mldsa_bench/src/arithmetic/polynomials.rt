@@ -9,9 +9,9 @@ use fips204::Q;
 use fips204::hashing::sample_in_ball;
 use fips204::helpers::{Count, add_vector_ntt, infinity_norm, to_mont};
 use fips204::ntt::{inv_ntt, ntt};
-use fips204::types::{R, T};
+use fips204::types::{R, R0, T};
 use fips204::xof::Fill;
-use fips204_base::product::challenge_times_vector;
+use fips204_base::lanes::transforms::{Factor, Transforms, write_product};
 use std::test::Fail;
 
 /// These numbers; those outside of `1 - q` to `q - 1` are cut to the nearer of these.
@@ -81,7 +81,11 @@ pub fn slow_product(a: &[i32; 256], b: &[i32; 256]) -> [i32; 256] {
 }
 
 fn product(a: &[i32; 256], b: &[i32; 256]) -> [i32; 256] {
-    challenge_times_vector(&R(within(a)), &[R(within(b))])[0].0
+    let mut v = Transforms::zeros();
+    v.write_transforms(&[R(within(b))]);
+    let mut out = [R0];
+    write_product(&Factor::of(&R(within(a))), &v, &mut out);
+    out[0].0
 }
 
 fn inverse(w: &[i32; 256]) -> [i32; 256] {

@@ -62,7 +62,7 @@ returns-in_err-write_key_vector g c =
     let p = set_of c.args.p.now in
     let H = g.H.Xof.front in
     let seed = c.part-rho_prime.result in
-    let fault = c.in_err-write_key_vector.ensures.refused in
+    let fault = c.in_err-write_key_vector.ensures.values in
     let refused : c.from_residual-in_err-write_key_vector.result ≡ Err SamplingLimit = search rules in
     let given : AreSampled p H g.G.Xof.front g.row.K g.row.L c.part-rho.result seed None (small_vector p.eta H seed 0 g.row.L) (small_vector p.eta H seed g.row.L g.row.K) =
     record { rows = c.requires.rows; columns = c.requires.columns; matrix = fault.0; first = refl; second = refl } in

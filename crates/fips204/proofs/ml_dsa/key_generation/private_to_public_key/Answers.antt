@@ -18,7 +18,7 @@ write_key_vector-requires g c =
 
 pub returns-in_err-write_key_vector : goal.returns-in_err-write_key_vector
 returns-in_err-write_key_vector g c =
-    let fault = c.in_err-write_key_vector.ensures.refused in
+    let fault = c.in_err-write_key_vector.ensures.values in
     let refused : c.from_residual.result ≡ Err SamplingLimit = search rules in
     refused ∙ subst (λ (sk : PrivateParts). Err SamplingLimit ≡ derived (set_of c.args.p.now) g.G.Xof.front sk) c.sk.view_is
     (sym (derived-none (set_of c.args.p.now) g.G.Xof.front _ g.row.K g.row.L c.requires.rows c.requires.columns fault.0))

@@ -7,3 +7,9 @@ write_expanded_a-requires g c =
     let sizes = g.met.S.SignatureSizes.sizes in
     let shape = set-shape g.S.Set.set g.row.K g.row.L g.S.Set.known sizes.rows sizes.columns in
     (search rules, (search rules, (shape.2, shape.3)))
+
+pub transforms-transforms-requires : goal.transforms-transforms-requires
+transforms-transforms-requires g c =
+    let sizes = g.met.S.SignatureSizes.sizes in
+    let shape = set-shape g.S.Set.set g.row.K g.row.L g.S.Set.known sizes.rows sizes.columns in
+    (search rules, (shape.2, shape.3))

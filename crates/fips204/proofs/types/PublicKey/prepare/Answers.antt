@@ -11,6 +11,12 @@ write_expanded_a-requires g c =
     let shape = set-shape g.S.Set.set g.row.K g.row.L g.S.Set.known sizes.rows sizes.columns in
     (search rules, (search rules, (shape.2, shape.3)))
 
+pub write_transforms-requires : goal.write_transforms-requires
+write_transforms-requires g c =
+    let sizes = g.met.S.SignatureSizes.sizes in
+    let shape = set-shape g.S.Set.set g.row.K g.row.L g.S.Set.known sizes.rows sizes.columns in
+    (search rules, (shape.2, c.t1_shifted.ensures.range))
+
 pub returns : goal.returns
 returns g c =
     let p = g.S.Set.set in

@@ -1,21 +1,28 @@
-use Rattle.std.proofs.Common.{◌≡◌, ◌<◌, ◌≤◌, ◌∙◌, arith, rules, ap, length, length-set, pos, to_z, of_z, w32, w64}
+use Rattle.std.proofs.Common.{ℕ, ◌≡◌, ◌<◌, ◌≤◌, ◌*◌, ◌%◌, ◌∙◌, arith, rules, ap, length, length-set, pos, get_or, to_z, of_z, w32, w64}
 use Rattle.std.specs.Prelude.{nat_abs}
 use Rattle.fips204_base.specs.Residues.{residue}
-use Rattle.fips204_base.specs.Vectors.{row_value}
+use Rattle.fips204_base.specs.Vectors.{row_value, vector_residues}
+use Rattle.fips204_base.specs.PlainTransforms.{lanes_value}
+use Rattle.fips204_base.proofs.Residues.{sum_equal}
 use Rattle.fips204_base.proofs.Vectors.{row_written}
 use Rattle.fips204_base.proofs.helpers.vector.row_sum.Goals as goal
 
 pub loop-j-preserved : goal.loop-j-preserved
 loop-j-preserved g c =
     let out = c.loop-j.out in
-    let inside : c.loop-j.j < length out = omega (arith, c.loop-j-test.true, c.loop-j.invariant.size) in
+    let j = c.loop-j.j in
+    let u = c.args.u.now in
+    let row = c.args.row.now in
+    let inside : j < length out = omega (arith, c.loop-j-test.true, c.loop-j.invariant.size) in
     let sum : to_z w64 (of_z w64 c.place_sum.result) ≡ c.place_sum.result = search rules in
     let value = to_z w32 (of_z w32 c.partial_reduce64.result) in
     let reduced : value ≡ c.partial_reduce64.result = search rules in
+    let gathered : lanes_value g.row.L row c.values_at.result j ≡ row_value g.row.L row u j =
+    ap (λ (n : ℕ). n % 8380417) (sum_equal g.row.L (λ k. vector_residues row k j * residue (get_or c.values_at.result k (pos 0))) (λ k. vector_residues row k j * vector_residues u k j) (λ k h. ap (λ (n : ℕ). vector_residues row k j * n) (c.values_at.ensures.values k h))) in
     record {
       size = length-set _ _ _ ∙ c.loop-j.invariant.size;
-      values = row_written (λ p x. residue x ≡ row_value g.row.L c.args.row.now c.args.u.now p) out c.loop-j.j value (pos 0)
-          inside c.loop-j.invariant.values (ap residue reduced ∙ c.partial_reduce64.ensures.congruent ∙ ap residue sum ∙ c.place_sum.ensures.value);
-      small = λ p d. row_written (λ _ x. nat_abs x ≤ 8380416) out c.loop-j.j value d
+      values = row_written (λ p x. residue x ≡ row_value g.row.L row u p) out j value (pos 0)
+          inside c.loop-j.invariant.values (ap residue reduced ∙ c.partial_reduce64.ensures.congruent ∙ ap residue sum ∙ c.place_sum.ensures.value ∙ gathered);
+      small = λ p d. row_written (λ _ x. nat_abs x ≤ 8380416) out j value d
           inside (λ r h. c.loop-j.invariant.small r d h) (rw reduced c.partial_reduce64.ensures.small) p;
     }

@@ -7,8 +7,8 @@ use Rattle.fips204_base.proofs.lanes.row.LanesResidue.finish.Goals as goal
 
 pub returns : goal.returns
 returns c = λ j h.
-    let x = lane c.args.self.lanes j in
-    let near = lane c.mont_products.result.lanes j in
+    let x = lane c.args.self j in
+    let near = lane c.mont_products.result j in
     let value : IsCongruent (residue near) (8347681 * residue x) = factor_taken x near (pos 16382) 8347681 record { same = refl } (c.mont_products.ensures.congruent j h) in
     let below = residue_below near in
     let is : residue near ≡ 8347681 * residue x % 8380417 = omega (arith, value.same, below) in

@@ -13,4 +13,4 @@ returns-clause-value c = λ j h.
     let factor = to_z w32 (of_z w32 (pos 0 -ℤ to_z w32 (of_z w32 zeta))) in
     let z = zeta_at c.args.m in
     let minus : factor ≡ neg_ℤ zeta = omega (arith, ints, c.zeta_mont.ensures) in
-    congruent_trans (factor_taken (lane c.args.self.lanes j) (lane c.mont_products.result.lanes j) factor (8380416 * z) (minus_factor_is factor z (minus ∙ ap neg_ℤ c.zeta_mont.ensures)) (c.mont_products.ensures.congruent j h)) (congruent_of (omega arith))
+    congruent_trans (factor_taken (lane c.args.self j) (lane c.mont_products.result j) factor (8380416 * z) (minus_factor_is factor z (minus ∙ ap neg_ℤ c.zeta_mont.ensures)) (c.mont_products.ensures.congruent j h)) (congruent_of (omega arith))

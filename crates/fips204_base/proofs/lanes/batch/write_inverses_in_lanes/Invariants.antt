@@ -1,9 +1,0 @@
-use Rattle.std.proofs.Common.{ℕ, ◌≡◌, ◌<◌, ◌*◌, pos}
-use Rattle.fips204_base.specs.Vectors.{entry, vector_residues}
-use Rattle.fips204_base.specs.Transforms.{inverse_transform}
-use Rattle.fips204_base.proofs.lanes.batch.write_inverses_in_lanes.Given as goal
-
-abbrev pub invariant-loop-part : goal.invariant-loop-part
-invariant-loop-part g l = record {
-  values : (r n : ℕ) → r < g.row.K → r < 8 * l.part → n < 256 → entry l.out r n ≡ pos (inverse_transform (vector_residues l.t r) n);
-}

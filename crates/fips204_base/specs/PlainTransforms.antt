@@ -1,0 +1,28 @@
+-- What is given by its transforms, as the plain polynomials that contracts see.
+use Rattle.std.specs.Prelude.{ℕ, ℤ, List, [], pos, ◌*◌, ◌%◌}
+use Rattle.fips204_base.specs.Residues.{coefficients, residue, from_mont, sum_below}
+use Rattle.fips204_base.specs.Transforms.{inverse_transform}
+use Rattle.fips204_base.specs.Lanes.{lane, residues}
+use Rattle.fips204_base.specs.Vectors.{polynomial_of, vector_of, vector_residues}
+use Rattle.fips204_base.specs.declared.types.R.{R}
+use Rattle.fips204_base.specs.declared.types.T.{T}
+
+-- the transform in lane r, by place
+abbrev pub lane_values : List (List ℤ) → ℕ → ℕ → ℕ
+lane_values w r = residues (λ xs. xs) r [] w
+
+-- the eight polynomials whose transforms are the lanes
+abbrev pub plain_vector : List (List ℤ) → List R
+plain_vector w = vector_of 8 (λ r n. pos (inverse_transform (lane_values w r) n))
+
+-- the transform that has these values in Montgomery form, by place
+abbrev pub factor_values : List ℤ → ℕ → ℕ
+factor_values w n = from_mont (coefficients w n)
+
+-- the polynomial whose transform has these values in Montgomery form
+abbrev pub plain_factor : List ℤ → R
+plain_factor w = polynomial_of (λ n. pos (inverse_transform (factor_values w) n))
+
+-- the sum of the products of a row of l transforms at place n with as many lanes
+abbrev pub lanes_value : ℕ → List T → List ℤ → ℕ → ℕ
+lanes_value l row u n = sum_below l (λ k. vector_residues row k n * residue (lane u k)) % 8380417
