@@ -1,0 +1,5 @@
+pub mod Rounds
+pub mod BlockBytes
+pub mod Absorbing
+pub mod Squeezing
+pub mod Facts
