@@ -1,5 +1,5 @@
 -- Output given piece by piece.
-use Rattle.std.proofs.Common.{◌≡◌, ℕ, zero, suc, ◌+◌, ◌*◌, ◌<◌, ◌≤◌, List, [], ◌∷◌, ◌++◌, length, take, drop, append-nil, append_assoc, arith, refl, sym, ◌∙◌, ap}
+use Rattle.std.proofs.Common.{◌≡◌, ℕ, zero, suc, ◌+◌, ◌*◌, ◌<◌, ◌≤◌, List, [], ◌∷◌, ◌++◌, length, take, drop, length-append, append-nil, append_assoc, arith, refl, sym, ◌∙◌, ap}
 use Rattle.std.proofs.lemmas.List.{take_all, drop_all, drop-drop, drop-append-le, take-append-le, take-take, length-take-le}
 use Rattle.std.proofs.Math.Nat.{le-mul_of_pos_right}
 use Rattle.std.proofs.Math.Seq.{take-add, take-append-add}
@@ -7,7 +7,7 @@ use Rattle.std.specs.Int.{div_ceil}
 use borrow.Rule.Slice.PartMut.{put_mid}
 use Rattle.shake.specs.Keccak.{keccak_f}
 use Rattle.shake.specs.Shake.{bytes, squeezed, shake, message_state, next_bytes}
-use Rattle.shake.specs.Lengths.{length-bytes, length-keccak_f, length-message_state, ceil_enough}
+use Rattle.shake.specs.Lengths.{length-bytes, length-squeezed, length-keccak_f, length-message_state, ceil_enough}
 use Rattle.shake.proofs.BlockBytes.{take_run}
 
 -- a front of a join, where the second part may be cut
@@ -93,3 +93,12 @@ pub filled_only : (out : List ℕ) (S T : ℕ → List ℕ) (filled n : ℕ) →
 filled_only out S T filled n e f first none =
     let more : n ≡ filled + 0 = omega (arith, f) in
     rw more (first 0 ∙ rw (none, append-nil (take filled out)) (take_all filled out (omega (arith, e))))
+
+-- d bytes are d bytes
+pub length-next_bytes : (rate : ℕ) → 0 < rate → rate ≤ 200 → (lanes block : List ℕ) (given d : ℕ) → length (next_bytes rate lanes block given d) ≡ d
+unfolding next_bytes
+length-next_bytes rate some small lanes block given d =
+    let hand = drop given block in
+    let later = squeezed rate (keccak_f lanes) d in
+    let size = length-squeezed rate small (keccak_f lanes) (length-keccak_f lanes) d in
+    length-take-le d (hand ++ later) (omega (arith, length-append hand later, size, le-mul_of_pos_right d some))
