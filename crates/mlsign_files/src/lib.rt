@@ -1,0 +1,11 @@
+//! Keys in files: DER as RFC 9881 has it, in the text of RFC 7468.
+#![tactic(auto)]
+
+mod algorithm;
+mod der;
+mod fault;
+mod keys;
+
+pub use algorithm::Algorithm;
+pub use fault::FileFault;
+pub use keys::{PrivateKey, read_private, read_public};
