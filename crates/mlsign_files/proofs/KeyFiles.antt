@@ -1,6 +1,8 @@
 -- A key that is read is the key that the file has, and the key of a file is read.
 use Rattle.std.proofs.Common.{◌≡◌, ℕ, suc, ◌+◌, ◌<◌, ◌≤◌, Bool, true, false, cond, eqb, ◌⊎◌, inl, inr, List, [], ◌∷◌, ◌++◌, length, Result, Ok, Err, refl, sym, ap, subst, ◌∙◌, append_assoc, arith}
-use Rattle.std.specs.Prelude.{IfOk}
+use Rattle.std.specs.Prelude.{IfOk, OnOk}
+use Rattle.std.proofs.Common.{Vec, Global}
+use Rattle.std.specs.declared.alloc.AllocError.{AllocError}
 use Rattle.std.specs.Str.{bytes_eq}
 use denote.Ref.{Bor}
 use Rattle.mlsign_files.specs.declared.keys.PrivateKey.{PrivateKey}
@@ -245,7 +247,7 @@ private_small MlDsa44 = omega arith
 private_small MlDsa65 = omega arith
 private_small MlDsa87 = omega arith
 
-choice_small : (algorithm : Algorithm) (parts : PrivateParts) → HasPrivateSizes algorithm parts → length (private_choice parts) < 65000
+pub choice_small : (algorithm : Algorithm) (parts : PrivateParts) → HasPrivateSizes algorithm parts → length (private_choice parts) < 65000
 unfolding private_choice
 choice_small algorithm (Seed seed) sizes = omega (arith, length_of_element context_tag_0 seed)
 choice_small algorithm (Expanded expanded) sizes = omega (arith, length_of_element octet_string_tag expanded, private_small algorithm)
@@ -271,16 +273,19 @@ version_again : (rest : List ℕ) → version_at (small_integer 0 ++ rest) ≡ O
 unfolding version_at
 version_again rest = rw (element_again integer_tag (0 ∷ []) rest (omega arith)) refl
 
+pub private_info_small : (algorithm : Algorithm) (parts : PrivateParts) → HasPrivateSizes algorithm parts
+    → length (small_integer 0 ++ (algorithm_identifier algorithm ++ octet_string (private_choice parts))) < 65536
+private_info_small algorithm parts sizes =
+    omega (arith, choice_small algorithm parts sizes, length_of_algorithm algorithm, length_of_element octet_string_tag (private_choice parts),
+    length-append (algorithm_identifier algorithm) (octet_string (private_choice parts)),
+    length-append (small_integer 0) (algorithm_identifier algorithm ++ octet_string (private_choice parts)))
+
 pub private_again : (algorithm : Algorithm) (parts : PrivateParts) → HasPrivateSizes algorithm parts
     → private_at (one_asymmetric_key algorithm parts) ≡ Ok (algorithm, parts)
 unfolding private_at one_asymmetric_key
 private_again algorithm parts sizes =
     let inner : length (private_choice parts) < 65536 = omega (arith, choice_small algorithm parts sizes) in
-    let outer : length (small_integer 0 ++ (algorithm_identifier algorithm ++ octet_string (private_choice parts))) < 65536 =
-        omega (arith, choice_small algorithm parts sizes, length_of_algorithm algorithm, length_of_element octet_string_tag (private_choice parts),
-        length-append (algorithm_identifier algorithm) (octet_string (private_choice parts)),
-        length-append (small_integer 0) (algorithm_identifier algorithm ++ octet_string (private_choice parts))) in
-    rw (whole_again sequence_tag (small_integer 0 ++ (algorithm_identifier algorithm ++ octet_string (private_choice parts))) outer,
+    rw (whole_again sequence_tag (small_integer 0 ++ (algorithm_identifier algorithm ++ octet_string (private_choice parts))) (private_info_small algorithm parts sizes),
     version_again (algorithm_identifier algorithm ++ octet_string (private_choice parts)),
     algorithm_again algorithm (octet_string (private_choice parts)), whole_again octet_string_tag (private_choice parts) inner,
     choice_again algorithm parts sizes) refl
@@ -302,3 +307,25 @@ public_of_file der algorithm bytes file = ap public_at file.is ∙ public_again 
 
 pub private_of_file : (der : List ℕ) (algorithm : Algorithm) (parts : PrivateParts) → IsPrivateFile der algorithm parts → private_at der ≡ Ok (algorithm, parts)
 private_of_file der algorithm parts file = ap private_at file.is ∙ private_again algorithm parts file.sizes
+
+-- ---- what a writer wrote
+
+pub both_written : (r : Result (Unit {0}) AllocError) (seed expanded old new parts : List ℕ) → parts ≡ octet_string seed ++ octet_string expanded
+    → OnOk r (new ≡ old ++ element sequence_tag parts) → OnOk r (new ≡ old ++ private_choice (Both seed expanded))
+unfolding private_choice
+both_written (Ok x) seed expanded old new parts is e = e ∙ ap (λ (z : List ℕ). old ++ element sequence_tag z) is
+both_written (Err x) seed expanded old new parts is e = tt
+
+pub public_written : (algorithm : Algorithm) (bytes : List ℕ) (r : Result (Vec ℕ Global) AllocError) (info : List ℕ) → length bytes ≡ public_length algorithm
+    → info ≡ algorithm_identifier algorithm ++ bit_string bytes → IfOk r (λ der. der.items ≡ element sequence_tag info)
+    → IfOk r (λ der. IsPublicFile der.items algorithm bytes)
+unfolding subject_public_key_info
+public_written algorithm bytes (Ok der) info size is e = record { size = size; is = e ∙ ap (λ (z : List ℕ). element sequence_tag z) is }
+public_written algorithm bytes (Err x) info size is e = tt
+
+pub private_written : (algorithm : Algorithm) (parts : PrivateParts) (r : Result (Vec ℕ Global) AllocError) (info : List ℕ) → HasPrivateSizes algorithm parts
+    → info ≡ small_integer 0 ++ (algorithm_identifier algorithm ++ octet_string (private_choice parts)) → IfOk r (λ der. der.items ≡ element sequence_tag info)
+    → IfOk r (λ der. IsPrivateFile der.items algorithm parts)
+unfolding one_asymmetric_key
+private_written algorithm parts (Ok der) info sizes is e = record { sizes = sizes; is = e ∙ ap (λ (z : List ℕ). element sequence_tag z) is }
+private_written algorithm parts (Err x) info sizes is e = tt

@@ -1,14 +1,16 @@
 //! Keys in DER (RFC 9881).
 #![tactic(auto)]
 
-ghost use Rattle.std.specs.Prelude.{◌≡◌, ℕ, List, Ok, length, IfOk};
+ghost use Rattle.std.specs.Prelude.{◌≡◌, ◌<◌, ◌≤◌, ◌++◌, ℕ, List, Ok, length, IfOk, OnOk};
+ghost use Rattle.mlsign_files.specs.Der.{small_integer, octet_string, element};
 ghost use Rattle.mlsign_files.specs.declared.algorithm.Algorithm.{Algorithm};
-ghost use Rattle.mlsign_files.specs.Keys.{PrivateParts, private_parts, IsPublicFile, IsPrivateFile, HasPrivateSizes, public_length, private_choice, subject_public_key_info, one_asymmetric_key};
+ghost use Rattle.mlsign_files.specs.Keys.{PrivateParts, Both, private_parts, algorithm_identifier, IsPublicFile, IsPrivateFile, HasPrivateSizes, public_length, private_choice, subject_public_key_info, one_asymmetric_key};
 ghost use Rattle.mlsign_files.specs.Reading.{Gives, sized_at, algorithm_of, algorithm_at, whole_bytes_of, public_at, seed_at, expanded_at, both_at, choice_at, version_at, private_at};
 
 use crate::algorithm::Algorithm;
-use crate::der::{BIT_STRING, CONTEXT_0, INTEGER, OCTET_STRING, SEQUENCE, element, whole};
+use crate::der::{BIT_STRING, CONTEXT_0, INTEGER, OCTET_STRING, SEQUENCE, element, put_element, whole};
 use crate::fault::FileFault;
+use std::alloc::{AllocError, Global};
 
 /// How many bytes a seed has.
 pub const SEED_LENGTH: usize = 32;
@@ -197,4 +199,110 @@ pub fn read_private(der: &[u8]) -> Result<(Algorithm, PrivateKey<'_>), FileFault
     ensures exact { Gives (λ x. (x.0, private_parts x.1)) result (private_at der.now) }
 {
     asymmetric_key(der)
+}
+
+/// Adds an AlgorithmIdentifier.
+fn put_algorithm(out: &mut Vec<u8>, algorithm: Algorithm) -> Result<(), AllocError>
+    ensures { OnOk result (out.new.items ≡ out.old.items ++ algorithm_identifier algorithm) }
+{
+    match algorithm {
+        Algorithm::MlDsa44 => put_element(out, SEQUENCE, &ML_DSA_44),
+        Algorithm::MlDsa65 => put_element(out, SEQUENCE, &ML_DSA_65),
+        Algorithm::MlDsa87 => put_element(out, SEQUENCE, &ML_DSA_87),
+    }
+}
+
+/// An element with these contents, alone.
+fn element_of(alloc: Global, tag: u8, contents: &[u8]) -> Result<Vec<u8>, AllocError>
+    requires { length contents.now < 65536 }
+    ensures { IfOk result (λ bytes. bytes.items ≡ element tag contents.now) }
+{
+    let mut bytes = Vec::new(alloc);
+    put_element(&mut bytes, tag, contents)?;
+    Ok(bytes)
+}
+
+/// The file of a public key in DER: a SubjectPublicKeyInfo (RFC 9881, section 4).
+pub fn write_public(
+    alloc: Global,
+    algorithm: Algorithm,
+    bytes: &[u8],
+) -> Result<Vec<u8>, AllocError>
+    requires { length bytes.now ≡ public_length algorithm }
+    ensures { IfOk result (λ der. IsPublicFile der.items algorithm bytes.now) }
+{
+    let mut bits = Vec::new(alloc);
+    bits.push(0)?;
+    bits.extend_from_slice(bytes)?;
+    let mut info = Vec::new(alloc);
+    put_algorithm(&mut info, algorithm)?;
+    put_element(&mut info, BIT_STRING, bits.as_slice())?;
+    element_of(alloc, SEQUENCE, info.as_slice())
+}
+
+/// An ML-DSA-PrivateKey of both a seed and an expanded key.
+fn put_both(
+    out: &mut Vec<u8>,
+    alloc: Global,
+    seed: &[u8],
+    expanded: &[u8],
+) -> Result<(), AllocError>
+    requires seed_size { length seed.now ≡ 32 }
+    requires expanded_size { length expanded.now ≤ 4896 }
+    ensures { OnOk result (out.new.items ≡ out.old.items ++ private_choice (Both seed.now expanded.now)) }
+{
+    let mut parts = Vec::new(alloc);
+    put_element(&mut parts, OCTET_STRING, seed)?;
+    put_element(&mut parts, OCTET_STRING, expanded)?;
+    put_element(out, SEQUENCE, parts.as_slice())
+}
+
+/// An ML-DSA-PrivateKey.
+#[tactic(auto, unfolding(crate::specs::Keys::private_choice))]
+fn put_choice(
+    out: &mut Vec<u8>,
+    alloc: Global,
+    algorithm: Algorithm,
+    key: PrivateKey<'_>,
+) -> Result<(), AllocError>
+    requires { HasPrivateSizes algorithm (private_parts key) }
+    ensures { OnOk result (out.new.items ≡ out.old.items ++ private_choice (private_parts key.entry)) }
+{
+    match key {
+        PrivateKey::Seed(seed) => put_element(out, CONTEXT_0, seed),
+        PrivateKey::Expanded(expanded) => put_element(out, OCTET_STRING, expanded),
+        PrivateKey::Both { seed, expanded } => put_both(out, alloc, seed, expanded),
+    }
+}
+
+/// The contents of a OneAsymmetricKey.
+fn private_info(
+    alloc: Global,
+    algorithm: Algorithm,
+    key: PrivateKey<'_>,
+) -> Result<Vec<u8>, AllocError>
+    requires { HasPrivateSizes algorithm (private_parts key) }
+    ensures { IfOk result (λ info. info.items
+        ≡ small_integer 0 ++ (algorithm_identifier algorithm ++ octet_string (private_choice (private_parts key.entry)))) }
+{
+    let mut choice = Vec::new(alloc);
+    put_choice(&mut choice, alloc, algorithm, key)?;
+    let mut info = Vec::new(alloc);
+    put_element(&mut info, INTEGER, &[0])?;
+    put_algorithm(&mut info, algorithm)?;
+    put_element(&mut info, OCTET_STRING, choice.as_slice())?;
+    Ok(info)
+}
+
+/// The file of a private key in DER: a OneAsymmetricKey of version 0 (RFC 9881, section 6).
+pub fn write_private(
+    alloc: Global,
+    algorithm: Algorithm,
+    key: PrivateKey<'_>,
+) -> Result<Vec<u8>, AllocError>
+    requires { HasPrivateSizes algorithm (private_parts key) }
+    ensures { IfOk result (λ der. IsPrivateFile der.items algorithm (private_parts key.entry)) }
+{
+    let info = private_info(alloc, algorithm, key)?;
+    element_of(alloc, SEQUENCE, info.as_slice())
 }

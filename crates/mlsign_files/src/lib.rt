@@ -5,7 +5,8 @@ mod algorithm;
 mod der;
 mod fault;
 mod keys;
+pub mod pem;
 
 pub use algorithm::Algorithm;
 pub use fault::FileFault;
-pub use keys::{PrivateKey, read_private, read_public};
+pub use keys::{PrivateKey, SEED_LENGTH, read_private, read_public, write_private, write_public};
