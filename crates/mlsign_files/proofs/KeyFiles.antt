@@ -1,0 +1,331 @@
+-- A key that is read is the key that the file has, and the key of a file is read.
+use Rattle.std.proofs.Common.{◌≡◌, ℕ, suc, ◌+◌, ◌<◌, ◌≤◌, Bool, true, false, cond, eqb, ◌⊎◌, inl, inr, List, [], ◌∷◌, ◌++◌, length, Result, Ok, Err, refl, sym, ap, subst, ◌∙◌, append_assoc, arith}
+use Rattle.std.specs.Prelude.{IfOk, OnOk}
+use Rattle.std.proofs.Common.{Vec, Global}
+use Rattle.std.specs.declared.alloc.AllocError.{AllocError}
+use Rattle.std.specs.Str.{bytes_eq}
+use denote.Ref.{Bor}
+use Rattle.mlsign_files.specs.declared.keys.PrivateKey.{PrivateKey}
+use Rattle.std.proofs.lemmas.Bool.{eqb-true}
+use Rattle.std.proofs.lemmas.Bool.Decides.{nat_tests}
+use Rattle.std.proofs.lemmas.Slice.Eq.{bytes_eq-Decides}
+use Rattle.std.proofs.lemmas.List.{length-append}
+use Rattle.mlsign_files.specs.declared.algorithm.Algorithm.{Algorithm}
+use Rattle.mlsign_files.specs.declared.algorithm.Algorithm.TheVariants.{MlDsa44, MlDsa65, MlDsa87}
+use Rattle.mlsign_files.specs.declared.fault.FileFault.{FileFault}
+use Rattle.mlsign_files.specs.declared.fault.FileFault.TheVariants.{Short, Behind, Element, Version, OtherAlgorithm, KeyLength}
+use Rattle.mlsign_files.specs.Der.{element, length_bytes, sequence, octet_string, bit_string, small_integer, integer_tag, bit_string_tag, octet_string_tag, sequence_tag, context_tag_0}
+use Rattle.mlsign_files.specs.Keys.{identifier, algorithm_identifier, public_length, seed_length, private_length, subject_public_key_info, PrivateParts, Seed, Expanded, Both, private_parts, private_choice, HasPrivateSizes, one_asymmetric_key, IsPublicFile, IsPrivateFile}
+use Rattle.mlsign_files.specs.Reading.{◌>>=◌, Gives, sized_at, algorithm_of, algorithm_at, whole_bytes_of, public_at, seed_at, expanded_at, both_at, choice_at, version_at, private_at, element_at, whole_at}
+use Rattle.mlsign_files.proofs.Elements.{AreBytes, bytes_behind, bind_ok, chosen, ok_is, passed, met, IsElement, element_found, element_again, IsWhole, whole_found, whole_again}
+
+-- ---- sizes
+
+length_of_length : (n : ℕ) → length (length_bytes n) ≤ 3
+length_of_length n = grind (arith, nat_tests)
+
+length_of_element : (tag : ℕ) (contents : List ℕ) → length (element tag contents) ≤ length contents + 4
+length_of_element tag contents = omega (arith, length-append (length_bytes (length contents)) contents, length_of_length (length contents))
+
+sized_found : (wanted : ℕ) (bytes sized : List ℕ) → sized_at wanted bytes ≡ Ok sized → (bytes ≡ sized) × (length bytes ≡ wanted)
+sized_found wanted bytes sized e =
+    let m = met (eqb (length bytes) wanted) KeyLength bytes sized e in (m.1, eqb-true _ _ m.0)
+
+sized_again : (wanted : ℕ) (bytes : List ℕ) → length bytes ≡ wanted → sized_at wanted bytes ≡ Ok bytes
+sized_again wanted bytes e = grind (arith, nat_tests)
+
+-- ---- algorithms
+
+same_bytes : (a b : List ℕ) → bytes_eq a b ≡ true → a ≡ b
+same_bytes a b e = (bytes_eq-Decides a b).0 e
+
+algorithm_of_found : (contents : List ℕ) (algorithm : Algorithm) → algorithm_of contents ≡ Ok algorithm → contents ≡ identifier algorithm
+unfolding algorithm_of
+algorithm_of_found contents algorithm e =
+    let last = cond (bytes_eq contents (identifier MlDsa87)) (Ok MlDsa87) (Err OtherAlgorithm) in
+    elim (chosen (bytes_eq contents (identifier MlDsa44)) (Ok MlDsa44) (cond (bytes_eq contents (identifier MlDsa65)) (Ok MlDsa65) last) (Ok algorithm) e) [
+      | inl is ↦ same_bytes _ _ is.0 ∙ ap identifier (ok_is MlDsa44 algorithm is.1)
+      | inr other ↦
+      elim (chosen (bytes_eq contents (identifier MlDsa65)) (Ok MlDsa65) last (Ok algorithm) other.1) [
+        | inl is ↦ same_bytes _ _ is.0 ∙ ap identifier (ok_is MlDsa65 algorithm is.1)
+        | inr third ↦
+        let m = met (bytes_eq contents (identifier MlDsa87)) OtherAlgorithm MlDsa87 algorithm third.1 in
+        same_bytes _ _ m.0 ∙ ap identifier m.1
+      ]
+    ]
+
+algorithm_of_again : (algorithm : Algorithm) → algorithm_of (identifier algorithm) ≡ Ok algorithm
+unfolding algorithm_of
+algorithm_of_again MlDsa44 = refl
+algorithm_of_again MlDsa65 = refl
+algorithm_of_again MlDsa87 = refl
+
+-- bytes that begin with a text, and are bytes behind it
+pub record Takes (bytes text rest : List ℕ) : Type 0 where
+  pub parts : bytes ≡ text ++ rest
+  pub behind : AreBytes rest
+
+algorithm_found : (bytes : List ℕ) (x : Algorithm × List ℕ) → AreBytes bytes → algorithm_at bytes ≡ Ok x → Takes bytes (algorithm_identifier x.0) x.1
+unfolding algorithm_at
+algorithm_found bytes x all e =
+    let a = bind_ok (element_at sequence_tag bytes) (λ found. algorithm_of found.0 >>= λ algorithm. Ok (algorithm, found.1)) x e in
+    let b = bind_ok (algorithm_of a.0.0) (λ algorithm. Ok (algorithm, a.0.1)) x a.2 in
+    let f = element_found sequence_tag bytes a.0 all a.1 in
+    let is : a.0.0 ≡ identifier b.0 = algorithm_of_found a.0.0 b.0 b.1 in
+    let here : Takes bytes (algorithm_identifier b.0) a.0.1 =
+        record { parts = f.parts ∙ ap (λ (z : List ℕ). element sequence_tag z ++ a.0.1) is; behind = f.behind } in
+    subst (λ (y : Algorithm × List ℕ). Takes bytes (algorithm_identifier y.0) y.1) (ok_is (b.0, a.0.1) x b.2) here
+
+identifier_small : (algorithm : Algorithm) → length (identifier algorithm) ≡ 11
+identifier_small MlDsa44 = refl
+identifier_small MlDsa65 = refl
+identifier_small MlDsa87 = refl
+
+algorithm_again : (algorithm : Algorithm) (rest : List ℕ) → algorithm_at (algorithm_identifier algorithm ++ rest) ≡ Ok (algorithm, rest)
+unfolding algorithm_at
+algorithm_again algorithm rest =
+    ap (λ (read : Result (List ℕ × List ℕ) FileFault). read >>= λ found. algorithm_of found.0 >>= λ algorithm. Ok (algorithm, found.1))
+    (element_again sequence_tag (identifier algorithm) rest (omega (arith, identifier_small algorithm)))
+    ∙ ap (λ (read : Result Algorithm FileFault). read >>= λ algorithm. Ok (algorithm, rest)) (algorithm_of_again algorithm)
+
+-- ---- public keys
+
+whole_bytes_found : (contents bytes : List ℕ) → whole_bytes_of contents ≡ Ok bytes → contents ≡ 0 ∷ bytes
+unfolding whole_bytes_of
+whole_bytes_found [] bytes e = absurd cc
+whole_bytes_found (unused ∷ rest) bytes e =
+    let m = met (eqb unused 0) Element rest bytes e in
+    let none : unused ≡ 0 = eqb-true _ _ m.0 in
+    ap (λ (k : ℕ). k ∷ rest) none ∙ ap (λ (z : List ℕ). 0 ∷ z) m.1
+
+pub public_found : (der : List ℕ) (x : Algorithm × List ℕ) → AreBytes der → public_at der ≡ Ok x → IsPublicFile der x.0 x.1
+unfolding public_at subject_public_key_info
+public_found der x all e =
+    let a = bind_ok (whole_at sequence_tag der) (λ info. algorithm_at info >>= λ algorithm. whole_at bit_string_tag algorithm.1 >>= λ bits. whole_bytes_of bits >>= λ bytes. sized_at (public_length algorithm.0) bytes >>= λ sized. Ok (algorithm.0, sized)) x e in
+    let b = bind_ok (algorithm_at a.0) (λ algorithm. whole_at bit_string_tag algorithm.1 >>= λ bits. whole_bytes_of bits >>= λ bytes. sized_at (public_length algorithm.0) bytes >>= λ sized. Ok (algorithm.0, sized)) x a.2 in
+    let c = bind_ok (whole_at bit_string_tag b.0.1) (λ bits. whole_bytes_of bits >>= λ bytes. sized_at (public_length b.0.0) bytes >>= λ sized. Ok (b.0.0, sized)) x b.2 in
+    let d = bind_ok (whole_bytes_of c.0) (λ bytes. sized_at (public_length b.0.0) bytes >>= λ sized. Ok (b.0.0, sized)) x c.2 in
+    let f = bind_ok (sized_at (public_length b.0.0) d.0) (λ sized. Ok (b.0.0, sized)) x d.2 in
+    let info = whole_found sequence_tag der a.0 all a.1 in
+    let algorithm = algorithm_found a.0 b.0 info.inside b.1 in
+    let bits = whole_found bit_string_tag b.0.1 c.0 algorithm.behind c.1 in
+    let bytes : c.0 ≡ 0 ∷ d.0 = whole_bytes_found c.0 d.0 d.1 in
+    let sized = sized_found (public_length b.0.0) d.0 f.0 f.1 in
+    let here : IsPublicFile der b.0.0 d.0 =
+        record {
+          size = sized.1;
+          is = info.is ∙ ap (λ (z : List ℕ). element sequence_tag z) (algorithm.parts
+              ∙ ap (λ (z : List ℕ). algorithm_identifier b.0.0 ++ z) (bits.is ∙ ap (λ (z : List ℕ). element bit_string_tag z) bytes));
+        } in
+    subst (λ (y : Algorithm × List ℕ). IsPublicFile der y.0 y.1) (ok_is (b.0.0, f.0) x f.2) (subst (λ (y : List ℕ). IsPublicFile der b.0.0 y) sized.0 here)
+
+public_small : (algorithm : Algorithm) → public_length algorithm ≤ 4896
+public_small MlDsa44 = omega arith
+public_small MlDsa65 = omega arith
+public_small MlDsa87 = omega arith
+
+length_of_algorithm : (algorithm : Algorithm) → length (algorithm_identifier algorithm) ≤ 15
+length_of_algorithm algorithm = omega (arith, identifier_small algorithm, length_of_element sequence_tag (identifier algorithm))
+
+pub public_again : (algorithm : Algorithm) (bytes : List ℕ) → length bytes ≡ public_length algorithm
+    → public_at (subject_public_key_info algorithm bytes) ≡ Ok (algorithm, bytes)
+unfolding public_at subject_public_key_info whole_bytes_of
+public_again algorithm bytes size =
+    let bits : length (bit_string bytes) ≤ length (0 ∷ bytes) + 4 = length_of_element bit_string_tag (0 ∷ bytes) in
+    let inner : length (0 ∷ bytes) < 65536 = omega (arith, public_small algorithm) in
+    let outer : length (algorithm_identifier algorithm ++ bit_string bytes) < 65536 =
+        omega (arith, public_small algorithm, length_of_algorithm algorithm, length-append (algorithm_identifier algorithm) (bit_string bytes)) in
+    rw (whole_again sequence_tag (algorithm_identifier algorithm ++ bit_string bytes) outer, algorithm_again algorithm (bit_string bytes),
+    whole_again bit_string_tag (0 ∷ bytes) inner, sized_again (public_length algorithm) bytes size) refl
+
+-- ---- private keys
+
+seed_found : (bytes : List ℕ) (parts : PrivateParts) → AreBytes bytes → seed_at bytes ≡ Ok parts
+    → (seed : List ℕ) × (parts ≡ Seed seed) × (length seed ≡ seed_length) × (bytes ≡ element context_tag_0 seed)
+unfolding seed_at
+seed_found bytes parts all e =
+    let a = bind_ok (whole_at context_tag_0 bytes) (λ contents. sized_at seed_length contents >>= λ seed. Ok (Seed seed)) parts e in
+    let b = bind_ok (sized_at seed_length a.0) (λ seed. Ok (Seed seed)) parts a.2 in
+    let whole = whole_found context_tag_0 bytes a.0 all a.1 in
+    let sized = sized_found seed_length a.0 b.0 b.1 in
+    (a.0, sym (ok_is (Seed b.0) parts b.2) ∙ ap Seed (sym sized.0), sized.1, whole.is)
+
+expanded_found : (algorithm : Algorithm) (bytes : List ℕ) (parts : PrivateParts) → AreBytes bytes → expanded_at algorithm bytes ≡ Ok parts
+    → (expanded : List ℕ) × (parts ≡ Expanded expanded) × (length expanded ≡ private_length algorithm) × (bytes ≡ octet_string expanded)
+unfolding expanded_at
+expanded_found algorithm bytes parts all e =
+    let a = bind_ok (whole_at octet_string_tag bytes) (λ contents. sized_at (private_length algorithm) contents >>= λ expanded. Ok (Expanded expanded)) parts e in
+    let b = bind_ok (sized_at (private_length algorithm) a.0) (λ expanded. Ok (Expanded expanded)) parts a.2 in
+    let whole = whole_found octet_string_tag bytes a.0 all a.1 in
+    let sized = sized_found (private_length algorithm) a.0 b.0 b.1 in
+    (a.0, sym (ok_is (Expanded b.0) parts b.2) ∙ ap Expanded (sym sized.0), sized.1, whole.is)
+
+pub record IsBoth (bytes : List ℕ) (algorithm : Algorithm) (seed expanded : List ℕ) : Type 0 where
+  pub seed_size : length seed ≡ seed_length
+  pub expanded_size : length expanded ≡ private_length algorithm
+  pub is : bytes ≡ sequence (octet_string seed ++ octet_string expanded)
+
+both_found : (algorithm : Algorithm) (bytes : List ℕ) (parts : PrivateParts) → AreBytes bytes → both_at algorithm bytes ≡ Ok parts
+    → (seed : List ℕ) × (expanded : List ℕ) × (parts ≡ Both seed expanded) × IsBoth bytes algorithm seed expanded
+unfolding both_at
+both_found algorithm bytes parts all e =
+    let a = bind_ok (whole_at sequence_tag bytes) (λ contents. element_at octet_string_tag contents >>= λ first. sized_at seed_length first.0 >>= λ seed. whole_at octet_string_tag first.1 >>= λ second. sized_at (private_length algorithm) second >>= λ expanded. Ok (Both seed expanded)) parts e in
+    let b = bind_ok (element_at octet_string_tag a.0) (λ first. sized_at seed_length first.0 >>= λ seed. whole_at octet_string_tag first.1 >>= λ second. sized_at (private_length algorithm) second >>= λ expanded. Ok (Both seed expanded)) parts a.2 in
+    let c = bind_ok (sized_at seed_length b.0.0) (λ seed. whole_at octet_string_tag b.0.1 >>= λ second. sized_at (private_length algorithm) second >>= λ expanded. Ok (Both seed expanded)) parts b.2 in
+    let d = bind_ok (whole_at octet_string_tag b.0.1) (λ second. sized_at (private_length algorithm) second >>= λ expanded. Ok (Both c.0 expanded)) parts c.2 in
+    let f = bind_ok (sized_at (private_length algorithm) d.0) (λ expanded. Ok (Both c.0 expanded)) parts d.2 in
+    let whole = whole_found sequence_tag bytes a.0 all a.1 in
+    let first = element_found octet_string_tag a.0 b.0 whole.inside b.1 in
+    let seed = sized_found seed_length b.0.0 c.0 c.1 in
+    let second = whole_found octet_string_tag b.0.1 d.0 first.behind d.1 in
+    let expanded = sized_found (private_length algorithm) d.0 f.0 f.1 in
+    (b.0.0, d.0, sym (ok_is (Both c.0 f.0) parts f.2) ∙ ap (λ (z : List ℕ). Both z f.0) (sym seed.0) ∙ ap (λ (z : List ℕ). Both b.0.0 z) (sym expanded.0),
+    record {
+      seed_size = seed.1;
+      expanded_size = expanded.1;
+      is = whole.is ∙ ap (λ (z : List ℕ). element sequence_tag z) (first.parts ∙ ap (λ (z : List ℕ). octet_string b.0.0 ++ z) second.is);
+    })
+
+pub record IsChoice (bytes : List ℕ) (algorithm : Algorithm) (parts : PrivateParts) : Type 0 where
+  pub sizes : HasPrivateSizes algorithm parts
+  pub is : bytes ≡ private_choice parts
+
+choice_found : (algorithm : Algorithm) (bytes : List ℕ) (parts : PrivateParts) → AreBytes bytes → choice_at algorithm bytes ≡ Ok parts → IsChoice bytes algorithm parts
+unfolding choice_at private_choice
+choice_found algorithm [] parts all e = absurd cc
+choice_found algorithm (tag ∷ rest) parts all e =
+    elim (chosen (eqb tag context_tag_0) (seed_at (tag ∷ rest)) (cond (eqb tag octet_string_tag) (expanded_at algorithm (tag ∷ rest)) (both_at algorithm (tag ∷ rest))) (Ok parts) e) [
+      | inl is ↦
+      let s = seed_found (tag ∷ rest) parts all is.1 in
+      subst (IsChoice (tag ∷ rest) algorithm) (sym s.1) (record { sizes = s.2; is = s.3 })
+      | inr other ↦
+      elim (chosen (eqb tag octet_string_tag) (expanded_at algorithm (tag ∷ rest)) (both_at algorithm (tag ∷ rest)) (Ok parts) other.1) [
+        | inl is ↦
+        let s = expanded_found algorithm (tag ∷ rest) parts all is.1 in
+        subst (IsChoice (tag ∷ rest) algorithm) (sym s.1) (record { sizes = s.2; is = s.3 })
+        | inr is ↦
+        let s = both_found algorithm (tag ∷ rest) parts all is.1 in
+        subst (IsChoice (tag ∷ rest) algorithm) (sym s.2) (record { sizes = (s.3.seed_size, s.3.expanded_size); is = s.3.is })
+      ]
+    ]
+
+version_found : (bytes rest : List ℕ) → AreBytes bytes → version_at bytes ≡ Ok rest → Takes bytes (small_integer 0) rest
+unfolding version_at
+version_found bytes rest all e =
+    let a = bind_ok (element_at integer_tag bytes) (λ version. cond (bytes_eq version.0 (0 ∷ [])) (Ok version.1) (Err Version)) rest e in
+    let f = element_found integer_tag bytes a.0 all a.1 in
+    let m = met (bytes_eq a.0.0 (0 ∷ [])) Version a.0.1 rest a.2 in
+    let here : Takes bytes (small_integer 0) a.0.1 =
+        record { parts = f.parts ∙ ap (λ (z : List ℕ). element integer_tag z ++ a.0.1) (same_bytes a.0.0 (0 ∷ []) m.0); behind = f.behind } in
+    subst (λ (y : List ℕ). Takes bytes (small_integer 0) y) m.1 here
+
+pub private_found : (der : List ℕ) (x : Algorithm × PrivateParts) → AreBytes der → private_at der ≡ Ok x → IsPrivateFile der x.0 x.1
+unfolding private_at one_asymmetric_key
+private_found der x all e =
+    let a = bind_ok (whole_at sequence_tag der) (λ info. version_at info >>= λ rest. algorithm_at rest >>= λ algorithm. whole_at octet_string_tag algorithm.1 >>= λ contents. choice_at algorithm.0 contents >>= λ parts. Ok (algorithm.0, parts)) x e in
+    let b = bind_ok (version_at a.0) (λ rest. algorithm_at rest >>= λ algorithm. whole_at octet_string_tag algorithm.1 >>= λ contents. choice_at algorithm.0 contents >>= λ parts. Ok (algorithm.0, parts)) x a.2 in
+    let c = bind_ok (algorithm_at b.0) (λ algorithm. whole_at octet_string_tag algorithm.1 >>= λ contents. choice_at algorithm.0 contents >>= λ parts. Ok (algorithm.0, parts)) x b.2 in
+    let d = bind_ok (whole_at octet_string_tag c.0.1) (λ contents. choice_at c.0.0 contents >>= λ parts. Ok (c.0.0, parts)) x c.2 in
+    let f = bind_ok (choice_at c.0.0 d.0) (λ parts. Ok (c.0.0, parts)) x d.2 in
+    let info = whole_found sequence_tag der a.0 all a.1 in
+    let version = version_found a.0 b.0 info.inside b.1 in
+    let algorithm = algorithm_found b.0 c.0 version.behind c.1 in
+    let contents = whole_found octet_string_tag c.0.1 d.0 algorithm.behind d.1 in
+    let choice = choice_found c.0.0 d.0 f.0 contents.inside f.1 in
+    let here : IsPrivateFile der c.0.0 f.0 =
+        record {
+          sizes = choice.sizes;
+          is = info.is ∙ ap (λ (z : List ℕ). element sequence_tag z) (version.parts
+              ∙ ap (λ (z : List ℕ). small_integer 0 ++ z) (algorithm.parts
+              ∙ ap (λ (z : List ℕ). algorithm_identifier c.0.0 ++ z) (contents.is
+              ∙ ap (λ (z : List ℕ). octet_string z) choice.is)));
+        } in
+    subst (λ (y : Algorithm × PrivateParts). IsPrivateFile der y.0 y.1) (ok_is (c.0.0, f.0) x f.2) here
+
+private_small : (algorithm : Algorithm) → private_length algorithm ≤ 4896
+private_small MlDsa44 = omega arith
+private_small MlDsa65 = omega arith
+private_small MlDsa87 = omega arith
+
+pub choice_small : (algorithm : Algorithm) (parts : PrivateParts) → HasPrivateSizes algorithm parts → length (private_choice parts) < 65000
+unfolding private_choice
+choice_small algorithm (Seed seed) sizes = omega (arith, length_of_element context_tag_0 seed)
+choice_small algorithm (Expanded expanded) sizes = omega (arith, length_of_element octet_string_tag expanded, private_small algorithm)
+choice_small algorithm (Both seed expanded) sizes =
+    omega (arith, private_small algorithm, length_of_element octet_string_tag seed, length_of_element octet_string_tag expanded,
+    length-append (octet_string seed) (octet_string expanded), length_of_element sequence_tag (octet_string seed ++ octet_string expanded))
+
+choice_again : (algorithm : Algorithm) (parts : PrivateParts) → HasPrivateSizes algorithm parts → choice_at algorithm (private_choice parts) ≡ Ok parts
+unfolding choice_at private_choice seed_at expanded_at both_at
+choice_again algorithm (Seed seed) sizes =
+    rw (whole_again context_tag_0 seed (omega arith), sized_again seed_length seed sizes) refl
+choice_again algorithm (Expanded expanded) sizes =
+    rw (whole_again octet_string_tag expanded (omega (arith, private_small algorithm)), sized_again (private_length algorithm) expanded sizes) refl
+choice_again algorithm (Both seed expanded) sizes =
+    let outer : length (octet_string seed ++ octet_string expanded) < 65536 =
+        omega (arith, private_small algorithm, length_of_element octet_string_tag seed, length_of_element octet_string_tag expanded,
+        length-append (octet_string seed) (octet_string expanded)) in
+    rw (whole_again sequence_tag (octet_string seed ++ octet_string expanded) outer, element_again octet_string_tag seed (octet_string expanded) (omega arith),
+    sized_again seed_length seed sizes.0, whole_again octet_string_tag expanded (omega (arith, private_small algorithm)),
+    sized_again (private_length algorithm) expanded sizes.1) refl
+
+version_again : (rest : List ℕ) → version_at (small_integer 0 ++ rest) ≡ Ok rest
+unfolding version_at
+version_again rest = rw (element_again integer_tag (0 ∷ []) rest (omega arith)) refl
+
+pub private_info_small : (algorithm : Algorithm) (parts : PrivateParts) → HasPrivateSizes algorithm parts
+    → length (small_integer 0 ++ (algorithm_identifier algorithm ++ octet_string (private_choice parts))) < 65536
+private_info_small algorithm parts sizes =
+    omega (arith, choice_small algorithm parts sizes, length_of_algorithm algorithm, length_of_element octet_string_tag (private_choice parts),
+    length-append (algorithm_identifier algorithm) (octet_string (private_choice parts)),
+    length-append (small_integer 0) (algorithm_identifier algorithm ++ octet_string (private_choice parts)))
+
+pub private_again : (algorithm : Algorithm) (parts : PrivateParts) → HasPrivateSizes algorithm parts
+    → private_at (one_asymmetric_key algorithm parts) ≡ Ok (algorithm, parts)
+unfolding private_at one_asymmetric_key
+private_again algorithm parts sizes =
+    let inner : length (private_choice parts) < 65536 = omega (arith, choice_small algorithm parts sizes) in
+    rw (whole_again sequence_tag (small_integer 0 ++ (algorithm_identifier algorithm ++ octet_string (private_choice parts))) (private_info_small algorithm parts sizes),
+    version_again (algorithm_identifier algorithm ++ octet_string (private_choice parts)),
+    algorithm_again algorithm (octet_string (private_choice parts)), whole_again octet_string_tag (private_choice parts) inner,
+    choice_again algorithm parts sizes) refl
+
+-- ---- what a reader returned
+
+pub public_is : (der : List ℕ) (r : Result (Algorithm × Bor (List ℕ)) FileFault) → AreBytes der → Gives (λ x. (x.0, x.1.now)) r (public_at der)
+    → IfOk r (λ x. IsPublicFile der x.0 x.1.now)
+public_is der (Ok x) all e = public_found der (x.0, x.1.now) all e
+public_is der (Err fault) all e = tt
+
+pub private_is : (der : List ℕ) (r : Result (Algorithm × PrivateKey) FileFault) → AreBytes der → Gives (λ x. (x.0, private_parts x.1)) r (private_at der)
+    → IfOk r (λ x. IsPrivateFile der x.0 (private_parts x.1))
+private_is der (Ok x) all e = private_found der (x.0, private_parts x.1) all e
+private_is der (Err fault) all e = tt
+
+pub public_of_file : (der : List ℕ) (algorithm : Algorithm) (bytes : List ℕ) → IsPublicFile der algorithm bytes → public_at der ≡ Ok (algorithm, bytes)
+public_of_file der algorithm bytes file = ap public_at file.is ∙ public_again algorithm bytes file.size
+
+pub private_of_file : (der : List ℕ) (algorithm : Algorithm) (parts : PrivateParts) → IsPrivateFile der algorithm parts → private_at der ≡ Ok (algorithm, parts)
+private_of_file der algorithm parts file = ap private_at file.is ∙ private_again algorithm parts file.sizes
+
+-- ---- what a writer wrote
+
+pub both_written : (r : Result (Unit {0}) AllocError) (seed expanded old new parts : List ℕ) → parts ≡ octet_string seed ++ octet_string expanded
+    → OnOk r (new ≡ old ++ element sequence_tag parts) → OnOk r (new ≡ old ++ private_choice (Both seed expanded))
+unfolding private_choice
+both_written (Ok x) seed expanded old new parts is e = e ∙ ap (λ (z : List ℕ). old ++ element sequence_tag z) is
+both_written (Err x) seed expanded old new parts is e = tt
+
+pub public_written : (algorithm : Algorithm) (bytes : List ℕ) (r : Result (Vec ℕ Global) AllocError) (info : List ℕ) → length bytes ≡ public_length algorithm
+    → info ≡ algorithm_identifier algorithm ++ bit_string bytes → IfOk r (λ der. der.items ≡ element sequence_tag info)
+    → IfOk r (λ der. IsPublicFile der.items algorithm bytes)
+unfolding subject_public_key_info
+public_written algorithm bytes (Ok der) info size is e = record { size = size; is = e ∙ ap (λ (z : List ℕ). element sequence_tag z) is }
+public_written algorithm bytes (Err x) info size is e = tt
+
+pub private_written : (algorithm : Algorithm) (parts : PrivateParts) (r : Result (Vec ℕ Global) AllocError) (info : List ℕ) → HasPrivateSizes algorithm parts
+    → info ≡ small_integer 0 ++ (algorithm_identifier algorithm ++ octet_string (private_choice parts)) → IfOk r (λ der. der.items ≡ element sequence_tag info)
+    → IfOk r (λ der. IsPrivateFile der.items algorithm parts)
+unfolding one_asymmetric_key
+private_written algorithm parts (Ok der) info sizes is e = record { sizes = sizes; is = e ∙ ap (λ (z : List ℕ). element sequence_tag z) is }
+private_written algorithm parts (Err x) info sizes is e = tt

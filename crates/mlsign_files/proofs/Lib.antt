@@ -1,0 +1,4 @@
+pub mod Elements
+pub mod KeyFiles
+pub mod Texts
+pub mod PemFiles

@@ -1,0 +1,169 @@
+-- A text that is read spells what is read, and the bytes that a text spells are read.
+use Rattle.std.proofs.Common.{◌≡◌, ℕ, zero, suc, ◌+◌, ◌<◌, ◌≤◌, Bool, true, false, cond, not, IfOk, Vec, Global, ◌⊎◌, inl, inr, List, [], ◌∷◌, ◌++◌, length, take, drop, Result, Ok, Err, refl, sym, ap, subst, ◌∙◌, append_assoc, arith}
+use Rattle.std.specs.Str.{bytes_eq}
+use Rattle.std.specs.List.{position_or_len, filter, list_all}
+use Rattle.std.proofs.lemmas.List.{take-append-drop, take_at, drop_at}
+use Rattle.std.proofs.lemmas.Slice.Eq.{bytes_eq-Decides}
+use Rattle.base64.specs.GeneralPurpose.{encode_of, decode_of, IsBytes}
+use Rattle.base64.specs.Engines.{standard}
+use Rattle.base64.proofs.EngineFacts.{decode_of-encode_of}
+use Rattle.mlsign_files.specs.declared.fault.FileFault.{FileFault}
+use Rattle.mlsign_files.specs.declared.fault.FileFault.TheVariants.{CutShort, Text}
+use Rattle.mlsign_files.specs.declared.pem.Kind.{Kind}
+use Rattle.mlsign_files.specs.declared.pem.LineEnd.{LineEnd}
+use Rattle.mlsign_files.specs.declared.pem.LineEnd.TheVariants.{Lf, CrLf}
+use Rattle.mlsign_files.specs.Pem.{begin_line, line_end, wrapped, closing, pem, IsPem}
+use Rattle.mlsign_files.specs.Reading.{◌>>=◌}
+use Rattle.mlsign_files.specs.PemReading.{begins, begun_fault, ended_at, opened_at, closed_fault, is_dash, closed_at, is_in_line, unwrapped_at, decoded_as, pem_at}
+use Rattle.mlsign_files.proofs.Elements.{chosen, ok_is, met}
+use Rattle.mlsign_files.proofs.Texts.{wrapped_kept, wrapped_pass, encoded_passes, first_place}
+
+pub not_opened : (kind : Kind) (text first : List ℕ) (fault : FileFault) → first ≡ begin_line kind → bytes_eq first (take (length first) text) ≡ false
+    → fault ≡ begun_fault first text → opened_at kind text ≡ Err fault
+unfolding opened_at
+not_opened kind text first fault e other is =
+    let test : begins (begin_line kind) text ≡ false = subst (λ (z : List ℕ). begins z text ≡ false) e other in
+    let same : fault ≡ begun_fault (begin_line kind) text = is ∙ ap (λ (z : List ℕ). begun_fault z text) e in
+    rw (test, same) refl
+
+-- ---- what is read is what is there
+
+same : (a b : List ℕ) → bytes_eq a b ≡ true → a ≡ b
+same a b e = (bytes_eq-Decides a b).0 e
+
+same_again : (a : List ℕ) → bytes_eq a a ≡ true
+same_again a = (bytes_eq-Decides a a).1 refl
+
+begun : (front text : List ℕ) → begins front text ≡ true → text ≡ front ++ drop (length front) text
+begun front text e =
+    sym (take-append-drop (length front) text) ∙ ap (λ (z : List ℕ). z ++ drop (length front) text) (sym (same front (take (length front) text) e))
+
+begun_again : (front rest : List ℕ) → begins front (front ++ rest) ≡ true
+begun_again front rest = ap (λ (z : List ℕ). bytes_eq front z) (take_at front rest (length front) refl) ∙ same_again front
+
+ended_found : (rest : List ℕ) (x : LineEnd × List ℕ) → ended_at rest ≡ Ok x → rest ≡ line_end x.0 ++ x.1
+ended_found rest x e =
+    let last = cond (begins rest (line_end CrLf)) (Err CutShort) (Err Text) in
+    elim (chosen (begins (line_end Lf) rest) (Ok (Lf, drop 1 rest)) (cond (begins (line_end CrLf) rest) (Ok (CrLf, drop 2 rest)) last) (Ok x) e) [
+      | inl lf ↦ begun (line_end Lf) rest lf.0 ∙ ap (λ (y : LineEnd × List ℕ). line_end y.0 ++ y.1) (ok_is (Lf, drop 1 rest) x lf.1)
+      | inr other ↦
+      elim (chosen (begins (line_end CrLf) rest) (Ok (CrLf, drop 2 rest)) last (Ok x) other.1) [
+        | inl crlf ↦ begun (line_end CrLf) rest crlf.0 ∙ ap (λ (y : LineEnd × List ℕ). line_end y.0 ++ y.1) (ok_is (CrLf, drop 2 rest) x crlf.1)
+        | inr none ↦
+        elim (chosen (begins rest (line_end CrLf)) (Err CutShort) (Err Text) (Ok x) none.1) [
+          | inl a ↦ absurd (cc a.1)
+          | inr b ↦ absurd (cc b.1)
+        ]
+      ]
+    ]
+
+opened_found : (kind : Kind) (text : List ℕ) (x : LineEnd × List ℕ) → opened_at kind text ≡ Ok x → text ≡ begin_line kind ++ (line_end x.0 ++ x.1)
+unfolding opened_at
+opened_found kind text x e =
+    elim (chosen (begins (begin_line kind) text) (ended_at (drop (length (begin_line kind)) text)) (Err (begun_fault (begin_line kind) text)) (Ok x) e) [
+      | inl is ↦ begun (begin_line kind) text is.0 ∙ ap (λ (z : List ℕ). begin_line kind ++ z) (ended_found (drop (length (begin_line kind)) text) x is.1)
+      | inr other ↦ absurd (cc other.1)
+    ]
+
+closed_found : (last text body : List ℕ) → closed_at last text ≡ Ok body → text ≡ body ++ last
+unfolding closed_at
+closed_found last text body e =
+    let dash = position_or_len is_dash text in
+    elim (chosen (bytes_eq (drop dash text) last) (Ok (take dash text)) (Err (closed_fault last (drop dash text))) (Ok body) e) [
+      | inl is ↦
+      sym (take-append-drop dash text) ∙ ap (λ (z : List ℕ). take dash text ++ z) (same (drop dash text) last is.0)
+      ∙ ap (λ (z : List ℕ). z ++ last) (ok_is (take dash text) body is.1)
+      | inr other ↦ absurd (cc other.1)
+    ]
+
+unwrapped_found : (ending text symbols : List ℕ) → unwrapped_at ending text ≡ Ok symbols → text ≡ wrapped ending symbols
+unfolding unwrapped_at
+unwrapped_found ending text symbols e =
+    let kept = filter is_in_line text in
+    let m = met (bytes_eq (wrapped ending kept) text) Text kept symbols e in
+    sym (same (wrapped ending kept) text m.0) ∙ ap (wrapped ending) m.1
+
+-- the bytes that a text was found to have
+pub pem_found : (kind : Kind) (text : List ℕ) (ending : LineEnd) (rest body symbols der : List ℕ) → opened_at kind text ≡ Ok (ending, rest)
+    → closed_at (closing kind ending) rest ≡ Ok body → unwrapped_at (line_end ending) body ≡ Ok symbols
+    → symbols ≡ encode_of standard der → IsBytes der → IsPem text kind der
+unfolding pem
+pem_found kind text ending rest body symbols der opened closed unwrapped encoded bytes =
+    record {
+      ending = ending;
+      bytes = bytes;
+      is = opened_found kind text (ending, rest) opened ∙ ap (λ (z : List ℕ). begin_line kind ++ (line_end ending ++ z))
+          (closed_found (closing kind ending) rest body closed ∙ ap (λ (z : List ℕ). z ++ closing kind ending)
+          (unwrapped_found (line_end ending) body symbols unwrapped ∙ ap (wrapped (line_end ending)) encoded));
+    }
+
+-- ---- what is there is read
+
+ended_again : (ending : LineEnd) (rest : List ℕ) → ended_at (line_end ending ++ rest) ≡ Ok (ending, rest)
+ended_again Lf rest = refl
+ended_again CrLf rest = refl
+
+opened_again : (kind : Kind) (ending : LineEnd) (rest : List ℕ) → opened_at kind (begin_line kind ++ (line_end ending ++ rest)) ≡ Ok (ending, rest)
+unfolding opened_at
+opened_again kind ending rest =
+    ap (λ (b : Bool). cond b (ended_at (drop (length (begin_line kind)) (begin_line kind ++ (line_end ending ++ rest))))
+    (Err (begun_fault (begin_line kind) (begin_line kind ++ (line_end ending ++ rest))))) (begun_again (begin_line kind) (line_end ending ++ rest))
+    ∙ ap ended_at (drop_at (begin_line kind) (line_end ending ++ rest) (length (begin_line kind)) refl) ∙ ended_again ending rest
+
+closed_again : (tail body : List ℕ) → list_all (λ x. not (is_dash x)) body ≡ true → closed_at (45 ∷ tail) (body ++ 45 ∷ tail) ≡ Ok body
+unfolding closed_at
+closed_again tail body none =
+    let at : position_or_len is_dash (body ++ 45 ∷ tail) ≡ length body = first_place is_dash body tail 45 none refl in
+    let front : take (length body) (body ++ 45 ∷ tail) ≡ body = take_at body (45 ∷ tail) (length body) refl in
+    let back : drop (length body) (body ++ 45 ∷ tail) ≡ 45 ∷ tail = drop_at body (45 ∷ tail) (length body) refl in
+    rw (at, front, back, same_again (45 ∷ tail)) refl
+
+unwrapped_again : (ending symbols : List ℕ) → filter is_in_line ending ≡ [] → list_all is_in_line symbols ≡ true
+    → unwrapped_at ending (wrapped ending symbols) ≡ Ok symbols
+unfolding unwrapped_at
+unwrapped_again ending symbols dropped all = rw (wrapped_kept is_in_line ending symbols dropped all, same_again (wrapped ending symbols)) refl
+
+ending_dropped : (ending : LineEnd) → filter is_in_line (line_end ending) ≡ []
+ending_dropped Lf = refl
+ending_dropped CrLf = refl
+
+no_dash_in_ending : (ending : LineEnd) → list_all (λ x. not (is_dash x)) (line_end ending) ≡ true
+no_dash_in_ending Lf = refl
+no_dash_in_ending CrLf = refl
+
+pub pem_again : (kind : Kind) (ending : LineEnd) (der : List ℕ) → IsBytes der → pem_at kind (pem kind ending der) ≡ Ok der
+unfolding pem_at pem
+pem_again kind ending der bytes =
+    let symbols : List ℕ = encode_of standard der in
+    let body : List ℕ = wrapped (line_end ending) symbols in
+    let plain : list_all is_in_line symbols ≡ true = encoded_passes is_in_line der refl refl refl in
+    let no_dash : list_all (λ x. not (is_dash x)) body ≡ true =
+        wrapped_pass (λ x. not (is_dash x)) (line_end ending) symbols (no_dash_in_ending ending) (encoded_passes (λ x. not (is_dash x)) der refl refl refl) in
+    ap (λ (read : Result (LineEnd × List ℕ) FileFault). read >>= λ opened. closed_at (closing kind opened.0) opened.1 >>= λ body.
+    unwrapped_at (line_end opened.0) body >>= λ symbols. decoded_as (decode_of standard symbols)) (opened_again kind ending (body ++ closing kind ending))
+    ∙ ap (λ (read : Result (List ℕ) FileFault). read >>= λ body. unwrapped_at (line_end ending) body >>= λ symbols. decoded_as (decode_of standard symbols))
+    (closed_again (drop 1 (closing kind ending)) body no_dash)
+    ∙ ap (λ (read : Result (List ℕ) FileFault). read >>= λ symbols. decoded_as (decode_of standard symbols))
+    (unwrapped_again (line_end ending) symbols (ending_dropped ending) plain)
+    ∙ ap decoded_as (decode_of-encode_of standard der refl bytes)
+
+pub pem_of_text : (text : List ℕ) (kind : Kind) (der : List ℕ) → IsPem text kind der → pem_at kind text ≡ Ok der
+pem_of_text text kind der is = ap (pem_at kind) is.is ∙ pem_again kind is.ending der is.bytes
+
+-- what was decoded of the symbols of a text
+pub pem_of_symbols : (kind : Kind) (text : List ℕ) (ending : LineEnd) (rest body symbols : List ℕ) (r : Result (Vec ℕ Global) FileFault)
+    → opened_at kind text ≡ Ok (ending, rest) → closed_at (closing kind ending) rest ≡ Ok body → unwrapped_at (line_end ending) body ≡ Ok symbols
+    → IfOk r (λ x. symbols ≡ encode_of standard x.items) → IfOk r (λ x. IsBytes x.items) → IfOk r (λ x. IsPem text kind x.items)
+pem_of_symbols kind text ending rest body symbols (Ok x) opened closed unwrapped encoded bytes =
+    pem_found kind text ending rest body symbols x.items opened closed unwrapped encoded bytes
+pem_of_symbols kind text ending rest body symbols (Err fault) opened closed unwrapped encoded bytes = tt
+
+-- a text as it is written, line by line
+pub text_written : (kind : Kind) (ending : LineEnd) (der a b c d : List ℕ) → a ≡ begin_line kind → b ≡ a ++ line_end ending
+    → c ≡ b ++ wrapped (line_end ending) (encode_of standard der) → d ≡ c ++ closing kind ending → d ≡ pem kind ending der
+unfolding pem
+text_written kind ending der a b c d first ended body last =
+    let lines : List ℕ = wrapped (line_end ending) (encode_of standard der) in
+    last ∙ ap (λ (z : List ℕ). z ++ closing kind ending) (body ∙ ap (λ (z : List ℕ). z ++ lines) (ended ∙ ap (λ (z : List ℕ). z ++ line_end ending) first))
+    ∙ append_assoc (begin_line kind ++ line_end ending) lines (closing kind ending)
+    ∙ append_assoc (begin_line kind) (line_end ending) (lines ++ closing kind ending)

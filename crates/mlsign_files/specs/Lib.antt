@@ -1,0 +1,5 @@
+pub mod Der
+pub mod Keys
+pub mod Pem
+pub mod Reading
+pub mod PemReading
