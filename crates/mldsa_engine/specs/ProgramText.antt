@@ -9,10 +9,11 @@ use Rattle.fips204.specs.Faults.{words}
 use Rattle.fips204.specs.Keys.{PublicParts, IsPublicKeyOf, DecodesPrivate}
 use Rattle.fips204.specs.ParameterSets.{ParameterSet, set_44, set_65, set_87, public_key_length, private_key_length, signature_length}
 use Rattle.fips204.specs.Refusals.{generated, sign_message, VerifiesMessage}
-use Rattle.mldsa_engine.specs.Calls.{first_stream, second_stream, AreCall}
-use Rattle.mldsa_lines.specs.Devices.{MarkedDevice}
-use Rattle.mldsa_lines.specs.Lines.{after_lines, line_bytes, TakesLines, FaultOfLines, InTurn}
+use Rattle.mldsa_engine.specs.Calls.{first_stream, second_stream, AreCall, AreNoCall}
+use Rattle.mldsa_lines.specs.Devices.{KeepsWritten, MarkedDevice}
+use Rattle.mldsa_lines.specs.Lines.{after_lines, line_bytes, IsLineFault, TakesLines, FaultOfLines, InTurn}
 use Rattle.mldsa_lines.specs.declared.fault.RunFault.{RunFault}
+use Rattle.mldsa_lines.specs.declared.fault.RunFault.TheVariants.{Usage, Write}
 use Rattle.mldsa_engine.specs.declared.call.Task.{Task}
 use Rattle.mldsa_engine.specs.declared.call.Task.TheVariants.{Id, Keygen, Sign, Verify, Check, Batch}
 use Rattle.mldsa_engine.specs.declared.call.SetName.{SetName}
@@ -209,3 +210,12 @@ abbrev pub status_of : Result Bool RunFault → ℕ
 status_of (Ok true) = 0
 status_of (Ok false) = 1
 status_of (Err fault) = 2
+
+-- how a call is answered: it was carried out, and the writer got what it writes; or its fault is the first of the lines that it
+-- wants, or its words are no call, and without a failed write nothing was written
+abbrev pub AnswersCall : {I O : Type 0} → List (List ℕ) → (I → Option (List ℕ)) → MarkedDevice I → MarkedDevice I
+    → (O → Option (List ℕ)) → MarkedDevice O → MarkedDevice O → Result Bool RunFault → Type 0
+AnswersCall words remaining given left contents before after answer = MatchResult answer
+    (λ success. RunsCall words remaining given left contents before after success)
+    (λ fault. (fault ≡ Usage ↔ AreNoCall words) × (IsLineFault fault → FaultOfCall words remaining given fault)
+    × (¬ (fault ≡ Write) → KeepsWritten contents before after))
