@@ -9,13 +9,11 @@ use Rattle.fips204.specs.declared.ml_dsa.signing.TheConstants.{MAX_SIGN_ATTEMPTS
 use Rattle.fips204.specs.declared.ml_dsa_44.TheConstants as lengths_44
 use Rattle.fips204.specs.declared.ml_dsa_65.TheConstants as lengths_65
 use Rattle.fips204.specs.declared.ml_dsa_87.TheConstants as lengths_87
-use Rattle.fips204.specs.declared.types.TheConstants.{ML_DSA_44, ML_DSA_65, ML_DSA_87}
 use Rattle.fips204.specs.declared.types.pre_hash.TheConstants as hash
 use Rattle.fips204.specs.ParameterSets.{set_44, set_65, set_87, public_key_length, private_key_length, signature_length}
 use Rattle.fips204.specs.Framing.{hash_oid}
-use Rattle.fips204.specs.Sets.{set_of}
 
--- the modulus, the root of unity and its powers, the zeros, the sets, the limits, and the identifiers of the hashes
+-- the modulus, the root of unity and its powers, the zeros, the limits, and the identifiers of the hashes
 pub record ConstantsStand : Type 0 where
   pub q : Q ≡ pos 8380417
   pub zeta : ZETA ≡ pos 1753
@@ -23,7 +21,6 @@ pub record ConstantsStand : Type 0 where
   pub d : D ≡ 13
   pub zero_polynomial : R0.0 ≡ replicate 256 (pos 0)
   pub zero_transform : T0.0 ≡ replicate 256 (pos 0)
-  pub sets : (set_of ML_DSA_44 ≡ set_44) × (set_of ML_DSA_65 ≡ set_65) × (set_of ML_DSA_87 ≡ set_87)
   pub attempts : MAX_SIGN_ATTEMPTS ≡ 814
   pub digest_limit : hash.MAX_PREHASH_LEN ≡ 1024
   pub sha2 : (hash.SHA2_224 ≡ hash_oid 0x04) × (hash.SHA2_256 ≡ hash_oid 0x01) × (hash.SHA2_384 ≡ hash_oid 0x02) × (hash.SHA2_512 ≡ hash_oid 0x03)

@@ -20,7 +20,7 @@ mod joined;
 use crate::xof::Xof;
 
 /// The public constants have the standard's values: the modulus and the root of unity, whose powers are the
-/// table of the butterflies; zeros; the numbers of the sets; limits; object identifiers; the lengths of keys and signatures.
+/// table of the butterflies; zeros; limits; object identifiers; the lengths of keys and signatures.
 pub fn constants()
     ensures values { ConstantsStand }
     ensures lengths { LengthsStand }

@@ -1,5 +1,5 @@
 -- The program's text: what a run answers and writes, by what its input spells.
-use Rattle.std.specs.Prelude.{◌≡◌, ◌<◌, ◌≤◌, ◌↔◌, ℕ, zero, suc, ◌+◌, ◌*◌, Bool, true, false, IsTrue, List, [], ◌∷◌, ◌++◌, length, get_or, map, take, All, codes, Option, Some, None, Result, Ok, Err, MatchResult}
+use Rattle.std.specs.Prelude.{◌≡◌, ◌<◌, ◌≤◌, ◌↔◌, ℕ, zero, suc, ◌+◌, ◌*◌, Bool, true, false, IsTrue, List, [], ◌∷◌, ◌++◌, length, get_or, map, take, All, codes, Option, Some, None, Result, Ok, Err, MatchResult, IfOk, IfErr}
 use Rattle.std.specs.List.{flat_map}
 use Rattle.std.specs.Io.KnownBytes.{Appends}
 use Rattle.hex.specs.Hex.{encode_lower}
@@ -211,11 +211,11 @@ status_of (Ok true) = 0
 status_of (Ok false) = 1
 status_of (Err fault) = 2
 
--- how a call is answered: it was carried out, and the writer got what it writes; or its fault is the first of the lines that it
--- wants, or its words are no call, and without a failed write nothing was written
+-- how a call is answered: with its usage where the words are none, else as the command is carried out, or with the first fault of
+-- the lines that it wants; and but for a failed write a fault has written nothing
 abbrev pub AnswersCall : {I O : Type 0} → List (List ℕ) → (I → Option (List ℕ)) → MarkedDevice I → MarkedDevice I
     → (O → Option (List ℕ)) → MarkedDevice O → MarkedDevice O → Result Bool RunFault → Type 0
-AnswersCall words remaining given left contents before after answer = MatchResult answer
-    (λ success. RunsCall words remaining given left contents before after success)
-    (λ fault. (fault ≡ Usage ↔ AreNoCall words) × (IsLineFault fault → FaultOfCall words remaining given fault)
-    × (¬ (fault ≡ Write) → KeepsWritten contents before after))
+AnswersCall words remaining given left contents before after answer = ((answer ≡ Err Usage) ↔ AreNoCall words)
+    × IfOk answer (RunsCall words remaining given left contents before after)
+    × IfErr answer (λ fault. IsLineFault fault → FaultOfCall words remaining given fault)
+    × IfErr answer (λ fault. ¬ (fault ≡ Write) → KeepsWritten contents before after)

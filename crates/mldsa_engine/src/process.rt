@@ -52,11 +52,10 @@ pub fn run_words<R: AllocGlobal + Eprint, I: Read, O: Write>(
         × AnswersCall (map string_bytes words.items) I.remaining input.old input.new O.contents output.old output.new answer) }
     ensures untouched { IfErr words (λ _. (exit_status result ≡ 2) × (input.new ≡ input.old) × (output.new ≡ output.old)) }
 {
-    let answer = match words {
-        Ok(words) => from_words(rt.alloc(), words.as_slice(), input, output),
-        Err(fault) => Err(fault),
-    };
-    end(rt, answer)
+    match words {
+        Ok(words) => end(rt, from_words(rt.alloc(), words.as_slice(), input, output)),
+        Err(fault) => end(rt, Err(fault)),
+    }
 }
 
 /// Ends a run: prints its fault, if there is one, as a line on standard error, and returns its exit status,

@@ -13,7 +13,6 @@ returns-clause-values _ = record {
   d = refl;
   zero_polynomial = refl;
   zero_transform = refl;
-  sets = (refl, refl, refl);
   attempts = refl;
   digest_limit = refl;
   sha2 = (refl, refl, refl, refl);
