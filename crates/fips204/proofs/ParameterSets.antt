@@ -198,6 +198,13 @@ limits p t = elim (rows p.tau p.lambda p.gamma1 p.gamma2 p.k p.l p.eta p.beta p.
   | inr (inr n) ↦ limits_of p set_87 n numbers_87
 ]
 
+-- a set's vectors fit eight lanes
+pub rows-few : (k : ℕ) (p : Params) → IsKnown p → k ≡ p.k → k ≤ 8
+rows-few k p t e = omega (arith, e, (limits p t).few_rows)
+
+pub columns-few : (l : ℕ) (p : Params) → IsKnown p → l ≡ p.l → l ≤ 8
+columns-few l p t e = omega (arith, e, (limits p t).few_columns)
+
 -- the numbers of a row make a set
 abbrev is_set : ParameterSet → Type 0
 is_set row = IsTrue (is_parameter_set row)
@@ -211,25 +218,17 @@ known-set p t = elim (rows p.tau p.lambda p.gamma1 p.gamma2 p.k p.l p.eta p.beta
 
 -- ---- the bytes of a high part
 
-high_widths-44 : (gamma2 : ℤ) (k : ℕ) → gamma2 ≡ pos 95232 → 192 * k ≡ 32 * width (pos 0) (pos (high_values (nat_abs gamma2) - 1)) * k
+size_few : (gamma2 bound : ℤ) (k n : ℕ) → gamma2 ≡ bound → k ≡ n → 32 * width (pos 0) (pos (high_values (nat_abs bound) - 1)) * n ≤ 1024
+    → 32 * width (pos 0) (pos (high_values (nat_abs gamma2) - 1)) * k ≤ 1024
+size_few gamma2 bound k n e f few = rw (e, f) few
+
+-- they are at most 1024
+pub high_part-few : (p : Params) → IsKnown p → 32 * width (pos 0) (pos (high_values (nat_abs p.gamma2) - 1)) * p.k ≤ 1024
 unfolding bit_length
-high_widths-44 gamma2 k e = rw e refl
-
-high_widths : (gamma2 : ℤ) (k : ℕ) → gamma2 ≡ pos 261888 → 128 * k ≡ 32 * width (pos 0) (pos (high_values (nat_abs gamma2) - 1)) * k
-unfolding bit_length
-high_widths gamma2 k e = rw e refl
-
--- a polynomial of a high part has 192 bytes or 128
-pub high_part-size : (gamma2 : ℤ) (k size : ℕ) → ((gamma2 ≡ pos 95232) × (size ≡ 192)) ⊎ ((gamma2 ≡ pos 261888) × (size ≡ 128)) → size * k ≡ 32 * width (pos 0) (pos (high_values (nat_abs gamma2) - 1)) * k
-high_part-size gamma2 k size (inl h) = rw h.1 (high_widths-44 gamma2 k h.0)
-high_part-size gamma2 k size (inr h) = rw h.1 (high_widths gamma2 k h.0)
-
--- and all of them have at most 1024
-pub high_part-few : (p : Params) (size : ℕ) → IsKnown p → ((p.gamma2 ≡ pos 95232) × (size ≡ 192)) ⊎ ((p.gamma2 ≡ pos 261888) × (size ≡ 128)) → size * p.k ≤ 1024
-high_part-few p size t h = elim (rows p.tau p.lambda p.gamma1 p.gamma2 p.k p.l p.eta p.beta p.omega t) [
-  | inl n ↦ rw n.k_is (elim h [ inl e ↦ omega (arith, e.1) | inr e ↦ omega (arith, e.1) ])
-  | inr (inl n) ↦ rw n.k_is (elim h [ inl e ↦ absurd (omega (arith, ints, n.gamma2_is, e.0)) | inr e ↦ omega (arith, e.1) ])
-  | inr (inr n) ↦ rw n.k_is (elim h [ inl e ↦ absurd (omega (arith, ints, n.gamma2_is, e.0)) | inr e ↦ omega (arith, e.1) ])
+high_part-few p t = elim (rows p.tau p.lambda p.gamma1 p.gamma2 p.k p.l p.eta p.beta p.omega t) [
+  | inl n ↦ size_few p.gamma2 (pos 95232) p.k 4 n.gamma2_is n.k_is (omega arith)
+  | inr (inl n) ↦ size_few p.gamma2 (pos 261888) p.k 6 n.gamma2_is n.k_is (omega arith)
+  | inr (inr n) ↦ size_few p.gamma2 (pos 261888) p.k 8 n.gamma2_is n.k_is (omega arith)
 ]
 
 -- gamma2 without its sign

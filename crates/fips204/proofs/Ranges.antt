@@ -1,5 +1,5 @@
 -- The ranges of what is sampled or given by a type.
-use Rattle.std.proofs.Common.{◌≡◌, ℕ, List, [], ◌∷◌, length, ◌<◌, ◌≤◌, suc, ℤ, nat_abs, get_or, take, sym, subst, ◌∙◌, arith, Some, Bool, true, false, not, inl, inr, refl, ap, ◌≢◌, Decides, true≢false}
+use Rattle.std.proofs.Common.{◌≡◌, ℕ, List, [], ◌∷◌, length, ◌<◌, ◌≤◌, suc, ℤ, nat_abs, get_or, take, sym, subst, ◌∙◌, arith, Some, Bool, true, false, inl, inr, refl, ap, Decides}
 use lib.Pointwise.{pointwise}
 use Rattle.std.specs.Ordering.{int_eq}
 use Rattle.std.proofs.lemmas.Bool.Decides.{Decides-int_eq}
@@ -81,11 +81,12 @@ challenge-reduced tau front c e n h =
     let one = signed_sum-within (challenge_places tau front) (bits 8 (take 8 front)) n (λ i j l m. challenge_places-apart tau front c i j e l (omega (arith, m, count))) in
     subst (λ (w : R). nat_abs (coefficient_at w.0 n) ≤ 8380416) (challenge-sum tau front c e) (rw (polynomial_of-at f n h) (omega (arith, one)))
 
--- What `!=` says of the coefficients of two polynomials.
+-- What `==` says of vectors.
 
-told : (v w : R) (equal differ : Bool) → differ ≡ not equal → Decides equal (v.0 ≡ w.0) → (differ ≡ false → v ≡ w) × (differ ≡ true → v ≢ w)
-told v w true differ e d = (λ f. ap (λ (l : List ℤ). let r : R = record { 0 = l } in r) (d.0 refl), λ t. absurd (true≢false (sym t ∙ e)))
-told v w false differ e d = (λ f. absurd (true≢false (sym e ∙ f)), λ t same. true≢false (sym (d.1 (ap (λ (r : R). r.0) same))))
+decides : (v w : R) → Decides (pointwise int_eq v.0 w.0) (Path R v w)
+decides v w =
+    let d = slice_eq-Decides Decides-int_eq v.0 w.0 (pointwise int_eq v.0 w.0) refl in
+    (λ t. ap (λ (l : List ℤ). let r : R = record { 0 = l } in r) (d.0 t), λ e. d.1 (ap (λ (r : R). r.0) e))
 
-pub told_rows : (v w : R) (differ : Bool) → differ ≡ not (pointwise int_eq v.0 w.0) → (differ ≡ false → v ≡ w) × (differ ≡ true → v ≢ w)
-told_rows v w differ e = told v w (pointwise int_eq v.0 w.0) differ e (slice_eq-Decides Decides-int_eq v.0 w.0 (pointwise int_eq v.0 w.0) refl)
+pub vectors_eq-Decides : (v w : List R) (r : Bool) → r ≡ pointwise (λ (a b : R). pointwise int_eq a.0 b.0) v w → Decides r (v ≡ w)
+vectors_eq-Decides = slice_eq-Decides decides

@@ -156,9 +156,18 @@ kept p sk y w c_tilde c e f h few = signed p sk y w c_tilde c (and-fourth _ _ _ 
 -- ---- the vectors of an attempt
 
 -- a product that is written from what is the same modulo q
-pub product-written : (c d : R) (out v w : List R) (k : ℕ) → ((j : ℕ) → j < 256 → coefficients c.0 j ≡ coefficients d.0 j) → AreSameModQ k v w
-    → ((r n : ℕ) → r < k → n < 256 → entry out r n ≡ pos (scaled c (vector_coefficients v) r n)) → (r n : ℕ) → r < k → n < 256 → entry out r n ≡ pos (scaled d (vector_coefficients w) r n)
-product-written c d out v w k e f values r n h l = values r n h l ∙ ap pos (multiple-same c d v w k r n e f h l)
+pub product-written : (c d : R) (product out v w : List R) (k : ℕ) → k ≤ 8 → ((j : ℕ) → j < 256 → coefficients c.0 j ≡ coefficients d.0 j) → AreSameModQ k v w
+    → ((r n : ℕ) → r < 8 → n < 256 → vector_coefficients product r n ≡ scaled c (vector_coefficients v) r n)
+    → ((r n : ℕ) → r < k → n < 256 → entry out r n ≡ pos (vector_coefficients product r n)) → (r n : ℕ) → r < k → n < 256 → entry out r n ≡ pos (scaled d (vector_coefficients w) r n)
+product-written c d product out v w k few e f made written r n h l =
+    written r n h l ∙ ap pos (made r n (omega (arith, h, few)) l ∙ multiple-same c d v w k r n e f h l)
+
+pub product-whole : (c d : R) (product out v w : List R) (k : ℕ) → k ≤ 8 → ((j : ℕ) → j < 256 → coefficients c.0 j ≡ coefficients d.0 j) → AreSameModQ k v w
+    → ((r n : ℕ) → r < 8 → n < 256 → vector_coefficients product r n ≡ scaled c (vector_coefficients v) r n)
+    → out ≡ vector_of k (λ r n. pos (vector_coefficients product r n)) → out ≡ vector_of k (λ r n. pos (scaled d (vector_coefficients w) r n))
+product-whole c d product out v w k few e f made whole =
+    whole ∙ vector_of-ext k (λ r n. pos (vector_coefficients product r n)) (λ r n. pos (scaled d (vector_coefficients w) r n))
+    (λ r n h l. ap pos (made r n (omega (arith, h, few)) l ∙ multiple-same c d v w k r n e f h l))
 
 pub sum-is : (s1 y z out : List R) (c : R) (k : ℕ) → ((r n : ℕ) → r < k → n < 256 → entry out r n ≡ pos (scaled c (vector_coefficients s1) r n))
     → z ≡ vector_of k (λ r n. centred (pos (plus (vector_coefficients y r) (vector_coefficients out r) n))) → z ≡ vector_of k (λ r n. centred (pos (y_plus_cs1 s1 y c r n)))

@@ -20,7 +20,7 @@ use crate::types::{KG, PreparedPrivateKey, PreparedPublicKey, PrivateKey, Public
 use fips204_base::Fault;
 use fips204_base::encodings::{pk_encode, sk_encode};
 use fips204_base::hashing::write_expanded_a;
-use fips204_base::lanes::Transforms;
+use fips204_base::product::Transforms;
 use fips204_base::xof::Xof;
 use std::marker::PhantomData;
 
@@ -49,7 +49,7 @@ impl<
     S,
     const K: usize,
     const L: usize,
-    const N: usize,
+    const LAMBDA_DIV4: usize,
     const SIG_LEN: usize,
     const PK_LEN: usize,
     const SK_LEN: usize,
@@ -59,12 +59,12 @@ impl<
 where
     Matrix<K, L>: HasSet<Set = S>,
     S: Set<
-        Commitment = [u8; N],
+        Commitment = [u8; LAMBDA_DIV4],
         Signature = [u8; SIG_LEN],
         PublicKey = [u8; PK_LEN],
         PrivateKey = [u8; SK_LEN],
     >,
-    S: SignatureSizes<K, L, N, SIG_LEN> + KeySizes<K, L, PK_LEN, SK_LEN>,
+    S: SignatureSizes<K, L, LAMBDA_DIV4, SIG_LEN> + KeySizes<K, L, PK_LEN, SK_LEN>,
 {
     type Public = PublicKey<K, L, H, G>;
 
@@ -96,11 +96,19 @@ where
     }
 }
 
-impl<S, const K: usize, const L: usize, const N: usize, const SIG_LEN: usize, H: Xof, G: Xof> Signer
-    for PrivateKey<K, L, H, G>
+impl<
+    S,
+    const K: usize,
+    const L: usize,
+    const LAMBDA_DIV4: usize,
+    const SIG_LEN: usize,
+    H: Xof,
+    G: Xof,
+> Signer for PrivateKey<K, L, H, G>
 where
     Matrix<K, L>: HasSet<Set = S>,
-    S: Set<Commitment = [u8; N], Signature = [u8; SIG_LEN]> + SignatureSizes<K, L, N, SIG_LEN>,
+    S: Set<Commitment = [u8; LAMBDA_DIV4], Signature = [u8; SIG_LEN]>
+        + SignatureSizes<K, L, LAMBDA_DIV4, SIG_LEN>,
 {
     type Signature = [u8; SIG_LEN];
 
@@ -159,13 +167,21 @@ where
     }
 }
 
-impl<S, const K: usize, const L: usize, const N: usize, const SIG_LEN: usize, H, G> Verifier
-    for PublicKey<K, L, H, G>
+impl<
+    S,
+    const K: usize,
+    const L: usize,
+    const LAMBDA_DIV4: usize,
+    const SIG_LEN: usize,
+    H,
+    G,
+> Verifier for PublicKey<K, L, H, G>
 where
     H: Xof,
     G: Xof,
     Matrix<K, L>: HasSet<Set = S>,
-    S: Set<Commitment = [u8; N], Signature = [u8; SIG_LEN]> + SignatureSizes<K, L, N, SIG_LEN>,
+    S: Set<Commitment = [u8; LAMBDA_DIV4], Signature = [u8; SIG_LEN]>
+        + SignatureSizes<K, L, LAMBDA_DIV4, SIG_LEN>,
 {
     type Signature = [u8; SIG_LEN];
 
@@ -198,22 +214,23 @@ impl<
     S,
     const K: usize,
     const L: usize,
-    const N: usize,
+    const LAMBDA_DIV4: usize,
     const SIG_LEN: usize,
     H: Xof,
     G: Xof,
 > PrivateKey<K, L, H, G>
 where
     Matrix<K, L>: HasSet<Set = S>,
-    S: Set<Commitment = [u8; N], Signature = [u8; SIG_LEN]> + SignatureSizes<K, L, N, SIG_LEN>,
+    S: Set<Commitment = [u8; LAMBDA_DIV4], Signature = [u8; SIG_LEN]>
+        + SignatureSizes<K, L, LAMBDA_DIV4, SIG_LEN>,
 {
     /// Signs the hash `mu` of a framed message with the random bytes `rnd` (Algorithm 7 from line 7 on).
     fn sign_hash(&self, mu: &[u8; 64], rnd: &[u8; 32]) -> Result<[u8; SIG_LEN], Fault>
         ensures answer { result ≡ sign S.set H.front G.front self.now mu.now rnd.now }
         ensures accepted { HashComplete S.set H.front G.front self.now mu.now result }
     {
-        let p = sized_params::<S, K, L, N, SIG_LEN>();
-        ml_dsa::sign_internal::<K, L, N, SIG_LEN, H, G>(&p, self, mu, rnd)
+        let p = sized_params::<S, K, L, LAMBDA_DIV4, SIG_LEN>();
+        ml_dsa::sign_internal::<K, L, LAMBDA_DIV4, SIG_LEN, H, G>(&p, self, mu, rnd)
     }
 
     /// Signs a framed message `m` (Algorithm 7). The 32 random bytes are zeros without `hedged`; with it they
@@ -262,6 +279,9 @@ where
     /// Samples the matrix once, for many signatures.
     ///
     /// Errors: `Fault::SamplingLimit` if rejection sampling of the matrix reaches its limit.
+    ///
+    /// Not inlined, so that what sampling takes leaves the stack before the key is used.
+    #[inline(never)]
     pub fn prepare(&self) -> Result<PreparedPrivateKey<K, L, H>, Fault>
         ensures { result ≡ prepared_private S.set G.front self.now }
     {
@@ -269,7 +289,7 @@ where
         write_expanded_a::<K, L, G>(&self.rho, &mut a_hat)?;
         let key = PrivateKey {
             rho: self.rho,
-            key: self.key,
+            cap_k: self.cap_k,
             tr: self.tr,
             s1: self.s1,
             s2: self.s2,
@@ -289,14 +309,15 @@ impl<
     S,
     const K: usize,
     const L: usize,
-    const N: usize,
+    const LAMBDA_DIV4: usize,
     const SIG_LEN: usize,
     H: Xof,
     G: Xof,
 > PublicKey<K, L, H, G>
 where
     Matrix<K, L>: HasSet<Set = S>,
-    S: Set<Commitment = [u8; N], Signature = [u8; SIG_LEN]> + SignatureSizes<K, L, N, SIG_LEN>,
+    S: Set<Commitment = [u8; LAMBDA_DIV4], Signature = [u8; SIG_LEN]>
+        + SignatureSizes<K, L, LAMBDA_DIV4, SIG_LEN>,
 {
     /// Verifies the signature of a framed message `m` (Algorithm 8).
     pub fn verify_internal(&self, m: &[u8], sig: &[u8; SIG_LEN]) -> bool
@@ -309,13 +330,16 @@ where
     pub fn verify_mu(&self, mu: &[u8; 64], sig: &[u8; SIG_LEN]) -> bool
         ensures { IsTrue result ↔ Verifies S.set H.front G.front self.now mu.now sig.now }
     {
-        let p = sized_params::<S, K, L, N, SIG_LEN>();
-        ml_dsa::verify_internal::<K, L, N, SIG_LEN, H, G>(&p, self, mu, sig)
+        let p = sized_params::<S, K, L, LAMBDA_DIV4, SIG_LEN>();
+        ml_dsa::verify_internal::<K, L, LAMBDA_DIV4, SIG_LEN, H, G>(&p, self, mu, sig)
     }
 
     /// Samples the matrix once, for many verifications.
     ///
     /// Errors: `Fault::SamplingLimit` if rejection sampling of the matrix reaches its limit.
+    ///
+    /// Not inlined, so that what sampling takes leaves the stack before the key is used.
+    #[inline(never)]
     pub fn prepare(&self) -> Result<PreparedPublicKey<K, L, H>, Fault>
         ensures { result ≡ prepared_public S.set G.front self.now }
     {
@@ -353,7 +377,7 @@ where
         sk_encode(
             S::params().eta,
             &self.rho,
-            &self.key,
+            &self.cap_k,
             &self.tr,
             &self.s1,
             &self.s2,

@@ -32,16 +32,16 @@ pub trait Set {
         ensures { set_of result ≡ set };
 }
 
-/// The sizes of a set's signatures: a matrix of `K` rows and `L` columns, `N` bytes of `c_tilde`, and `SIG_LEN`
-/// bytes in all.
+/// The sizes of a set's signatures: a matrix of `K` rows and `L` columns, `LAMBDA_DIV4` bytes of `c_tilde`, and
+/// `SIG_LEN` bytes in all.
 pub trait SignatureSizes<
     const K: usize,
     const L: usize,
-    const N: usize,
+    const LAMBDA_DIV4: usize,
     const SIG_LEN: usize,
 >: Set {
     // They are those of the set's row.
-    ghost sizes: { HasSizes Self.set K L N SIG_LEN };
+    ghost sizes: { HasSizes Self.set K L LAMBDA_DIV4 SIG_LEN };
 }
 
 /// The sizes of a set's keys: a matrix of `K` rows and `L` columns, `PK_LEN` bytes of a public key, and `SK_LEN`
@@ -53,14 +53,14 @@ pub trait KeySizes<const K: usize, const L: usize, const PK_LEN: usize, const SK
 
 /// The numbers of a set with these sizes.
 pub(crate) fn sized_params<
-    S: SignatureSizes<K, L, N, SIG_LEN>,
+    S: SignatureSizes<K, L, LAMBDA_DIV4, SIG_LEN>,
     const K: usize,
     const L: usize,
-    const N: usize,
+    const LAMBDA_DIV4: usize,
     const SIG_LEN: usize,
 >() -> Params
     ensures row { set_of result ≡ S.set }
-    ensures sizes { HasSizes (set_of result) K L N SIG_LEN }
+    ensures sizes { HasSizes (set_of result) K L LAMBDA_DIV4 SIG_LEN }
 {
     S::params()
 }

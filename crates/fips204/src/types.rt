@@ -1,9 +1,7 @@
 //! Polynomials, and keys as values.
 #![tactic(auto)]
 
-ghost use Rattle.std.specs.Prelude.{◌≡◌, ◌≤◌, ◌-◌, ◌*◌, ⊤, pos, nat_abs, IsTrue};
-ghost use Rattle.fips204_base.specs.Packing.{width};
-ghost use Rattle.fips204_base.specs.Rounding.{high_values};
+ghost use Rattle.std.specs.Prelude.{◌≡◌, ◌-◌, ⊤, pos, nat_abs, IsTrue};
 ghost use Rattle.fips204.specs.Keys.{ArePrivateParts, ArePublicParts};
 ghost use Rattle.fips204.specs.ParameterSets.{are_parameters};
 
@@ -53,15 +51,6 @@ impl Params {
         ensures { result ≡ pos (nat_abs self.now.gamma2 - nat_abs self.now.beta) }
     {
         self.gamma2 - self.beta
-    }
-
-    /// The number of bytes that `w1Encode` returns (FIPS 204, Algorithm 28).
-    pub(crate) fn w1_length(&self) -> usize
-        ensures size { result ≡ 32 * width (pos 0) (pos (high_values (nat_abs self.now.gamma2) - 1)) * self.now.k }
-        ensures few { result ≤ 1024 }
-    {
-        let polynomial: usize = if self.gamma2 == 95_232 { 192 } else { 128 };
-        polynomial * self.k
     }
 }
 
@@ -141,18 +130,13 @@ impl<const K: usize, const L: usize, H, G> Clone for PublicKey<K, L, H, G> {
 }
 
 impl<const K: usize, const L: usize, H, G> PublicKey<K, L, H, G> {
-    /// The hash of the key's bytes (64 bytes of `H`), which signing and verifying hash before the message.
+    /// The hash of the key's bytes (64 bytes of `H`), which signing and verifying hash before the message. The
+    /// key's parts are in range.
     pub fn tr(&self) -> &[u8; 64]
-        ensures { result.now ≡ self.now.tr }
+        ensures hash { result.now ≡ self.now.tr }
+        ensures parts { ArePublicParts K self.now }
     {
         &self.tr
-    }
-
-    /// A law, which computes nothing: the parts have the lengths and ranges of a public key with `K` polynomials.
-    pub fn parts_in_range_law(&self)
-        ensures { ArePublicParts K self.now }
-    {
-        let _ = &self.t1;
     }
 }
 
@@ -164,7 +148,7 @@ impl<const K: usize, const L: usize, H, G> PublicKey<K, L, H, G> {
 #[derive(Drop)]
 pub struct PrivateKey<const K: usize, const L: usize, H, G> {
     pub(crate) rho: [u8; 32],
-    pub(crate) key: [u8; 32],
+    pub(crate) cap_k: [u8; 32],
     pub(crate) tr: [u8; 64],
     pub(crate) s1: [R; L],
     pub(crate) s2: [R; K],
@@ -177,9 +161,9 @@ impl<const K: usize, const L: usize, H, G> Model for PrivateKey<K, L, H, G> {
 
     ghost Value = { PrivateParts };
 
-    ghost view = { λ sk. record { rho = sk.rho; key = sk.key; tr = sk.tr; s1 = sk.s1; s2 = sk.s2; t0 = sk.t0 } };
+    ghost view = { λ sk. record { rho = sk.rho; key = sk.cap_k; tr = sk.tr; s1 = sk.s1; s2 = sk.s2; t0 = sk.t0 } };
 
-    ghost invariant = { λ sk. ArePrivateParts K L record { rho = sk.rho; key = sk.key; tr = sk.tr; s1 = sk.s1; s2 = sk.s2; t0 = sk.t0 } };
+    ghost invariant = { λ sk. ArePrivateParts K L record { rho = sk.rho; key = sk.cap_k; tr = sk.tr; s1 = sk.s1; s2 = sk.s2; t0 = sk.t0 } };
 }
 
 impl<const K: usize, const L: usize, H, G> Clone for PrivateKey<K, L, H, G> {
@@ -195,19 +179,12 @@ impl<const K: usize, const L: usize, H, G> Clone for PrivateKey<K, L, H, G> {
 
 impl<const K: usize, const L: usize, H, G> PrivateKey<K, L, H, G> {
     /// The hash that the key keeps, which signing hashes before the message: the hash of the public key's bytes if
-    /// the key comes from key generation, and the bytes that stood there if it comes from bytes.
+    /// the key comes from key generation, and the bytes that stood there if it comes from bytes. The key's parts are
+    /// in range.
     pub fn tr(&self) -> &[u8; 64]
-        ensures { result.now ≡ self.now.tr }
+        ensures hash { result.now ≡ self.now.tr }
+        ensures parts { ArePrivateParts K L self.now }
     {
-        let Self { tr, .. } = self;
-        tr
-    }
-
-    /// A law, which computes nothing: the parts have the lengths and ranges of a private key whose matrix has
-    /// `K` rows and `L` columns.
-    pub fn parts_in_range_law(&self)
-        ensures { ArePrivateParts K L self.now }
-    {
-        let _ = &self.s1;
+        &self.tr
     }
 }

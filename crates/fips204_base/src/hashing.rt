@@ -12,7 +12,8 @@ mod small;
 
 pub use challenge::sample_in_ball;
 pub use mask::expand_mask;
-pub use matrix::{expand_a, rej_ntt_poly, write_expanded_a, write_sampled_product};
+pub(crate) use matrix::write_expanded_row;
+pub use matrix::{expand_a, rej_ntt_poly, write_expanded_a};
 pub use small::{expand_s, rej_bounded_poly, write_expanded_s};
 
 /// Puts a coefficient, if there is one, at place `kept` of `values`, if there is room, and returns how many

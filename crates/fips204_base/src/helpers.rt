@@ -11,8 +11,6 @@ pub mod residue;
 pub mod vector;
 pub mod zeta_table;
 
-pub use crate::lanes;
-pub use crate::lanes::Lanes;
 use crate::types::R;
 pub use count::Count;
 pub use norm::infinity_norm;

@@ -14,6 +14,7 @@ pub mod high_low;
 pub mod lanes;
 pub mod maps;
 pub mod ntt;
+pub mod product;
 pub mod types;
 pub mod xof;
 

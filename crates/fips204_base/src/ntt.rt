@@ -5,7 +5,8 @@ ghost use Rattle.std.specs.Prelude.{◌≡◌, ℕ, ◌<◌, ◌≤◌, ◌+◌,
 ghost use Rattle.fips204_base.specs.Lanes.{lane, lane_at, LanesWithin, RowsWithin, IsTransform, AreTransforms, IsInverse, AreInverses};
 ghost use Rattle.fips204_base.specs.Network.{EachPair, EachLaneOfRow, IsButterfly, IsInverseButterfly, IsBlock, AreBlocks};
 
-pub use crate::helpers::{Lanes, Residue};
+pub use crate::helpers::Residue;
+pub use crate::lanes::Lanes;
 
 /// The transform (FIPS 204, Algorithm 41) of each row of 256 values, lane by lane. The lanes have an
 /// absolute value of at most `q - 1`, before and after. Each row raises the meter by 1024

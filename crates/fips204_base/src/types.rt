@@ -2,7 +2,7 @@
 #![tactic(auto)]
 
 /// A polynomial: its 256 coefficients, the constant one first.
-#[derive(Clone, Copy)]
+#[derive(Clone, Copy, PartialEq, Eq)]
 pub struct R(pub [i32; 256]);
 
 /// A transform: the 256 values that Algorithm 41 of FIPS 204 gives for a polynomial.

@@ -3,7 +3,6 @@
 
 ghost use Rattle.std.specs.Prelude.{◌≡◌, ◌≤◌, ◌↔◌, ◌∷◌, [], length, map, take, false, true, Err, IsTrue, IfOk, IfErr};
 ghost use Rattle.fips204.specs.Keys.{PublicParts, IsPublicKeyOf};
-ghost use Rattle.fips204.specs.Prepared.{prepared_public};
 ghost use Rattle.fips204.specs.Refusals.{VerifiesMessage};
 ghost use Rattle.mldsa_lines.specs.Lines.{AllFit, IsInputFault, StopsAt};
 ghost use Rattle.mldsa_engine.specs.ProgramText.{named_set, two_bytes, wanted_lines, entry_lines, input_lines, lines_of_input, hex_text, AreSmall, Generates, Signs, Checks, Answers, Executes};
@@ -55,7 +54,7 @@ impl<
     S,
     const K: usize,
     const L: usize,
-    const N: usize,
+    const LAMBDA_DIV4: usize,
     const SIG_LEN: usize,
     const PK_LEN: usize,
     const SK_LEN: usize,
@@ -65,12 +64,12 @@ impl<
 where
     Matrix<K, L>: HasSet<Set = S>,
     S: Set<
-        Commitment = [u8; N],
+        Commitment = [u8; LAMBDA_DIV4],
         Signature = [u8; SIG_LEN],
         PublicKey = [u8; PK_LEN],
         PrivateKey = [u8; SK_LEN],
     >,
-    S: SignatureSizes<K, L, N, SIG_LEN> + KeySizes<K, L, PK_LEN, SK_LEN>,
+    S: SignatureSizes<K, L, LAMBDA_DIV4, SIG_LEN> + KeySizes<K, L, PK_LEN, SK_LEN>,
 {
     /// Reads the lines that a command wants, and carries it out.
     fn execute<I: Read>(
@@ -133,7 +132,7 @@ where
             }
             Task::Verify => {
                 let [key, signature, context, message] = fields(lines);
-                tell(alloc, Self::accepts(key, signature, context, message))
+                tell(alloc, Self::accepts(key, message, signature, context))
             }
             Task::Check => {
                 let [xi, rnd, context, message] = fields(lines);
@@ -197,7 +196,7 @@ where
 
     /// Whether the public key that has these bytes accepts a signature.
     #[inline(never)]
-    fn accepts(key: &[u8], signature: &[u8], context: &[u8], message: &[u8]) -> bool
+    fn accepts(key: &[u8], message: &[u8], signature: &[u8], context: &[u8]) -> bool
         requires key { length key.now ≡ PK_LEN }
         requires signature { length signature.now ≡ SIG_LEN }
         requires small { AreSmall K L PK_LEN SK_LEN SIG_LEN }
@@ -249,8 +248,7 @@ where
     {
         laws::prepared_keys();
         let key = Self::decode(key);
-        let mut prepared = Err(Fault::SamplingLimit);
-        Self::write_prepared(&key, &mut prepared);
+        let prepared = key.prepare();
         Self::judge_entries(alloc, &prepared, context, count, input)
     }
 
@@ -294,20 +292,6 @@ where
         ensures { IsPublicKeyOf H.front S.set.k key.now result }
     {
         PublicKey::<K, L, H, G>::try_from_bytes(array_of(key)).unwrap()
-    }
-
-    /// The key with its matrix, or the refusal, written into the caller's place.
-    ///
-    /// Not inlined, so that what sampling takes does not stand in the stack beside the entries.
-    #[inline(never)]
-    fn write_prepared(
-        key: &PublicKey<K, L, H, G>,
-        prepared: &mut Result<PreparedPublicKey<K, L, H>, Fault>,
-    )
-        requires small { AreSmall K L PK_LEN SK_LEN SIG_LEN }
-        ensures { prepared.new ≡ prepared_public S.set G.front key.now }
-    {
-        *prepared = key.prepare();
     }
 
     /// Whether a prepared key accepts a signature; false if the key has no matrix.

@@ -18,26 +18,27 @@ impl<
     S,
     const K: usize,
     const L: usize,
-    const N: usize,
+    const LAMBDA_DIV4: usize,
     const SIG_LEN: usize,
     H: Xof,
 > PreparedPrivateKey<K, L, H>
 where
     Matrix<K, L>: HasSet<Set = S>,
-    S: Set<Commitment = [u8; N], Signature = [u8; SIG_LEN]> + SignatureSizes<K, L, N, SIG_LEN>,
+    S: Set<Commitment = [u8; LAMBDA_DIV4], Signature = [u8; SIG_LEN]>
+        + SignatureSizes<K, L, LAMBDA_DIV4, SIG_LEN>,
 {
     /// Signs the hash `mu` of a framed message with the random bytes `rnd`.
     fn sign_hash(&self, mu: &[u8; 64], rnd: &[u8; 32]) -> Result<[u8; SIG_LEN], Fault>
         ensures answer { result ≡ sign_prepared S.set H.front self.now mu.now rnd.now }
         ensures accepted { AcceptedIfWholePrepared S.set self.now (λ pk signature. VerifiesPrepared S.set H.front pk mu.now signature) result }
     {
-        let p = sized_params::<S, K, L, N, SIG_LEN>();
+        let p = sized_params::<S, K, L, LAMBDA_DIV4, SIG_LEN>();
         let key = SigningKey {
             key: &self.key,
             a_hat: &self.a_hat,
             transforms: &self.transforms,
         };
-        key.sign_with::<N, SIG_LEN>(&p, mu, rnd)
+        key.sign_with::<LAMBDA_DIV4, SIG_LEN>(&p, mu, rnd)
     }
 
     /// Signs (Algorithm 2), as `Signer::try_sign_with_rng`.
@@ -154,13 +155,14 @@ impl<
     S,
     const K: usize,
     const L: usize,
-    const N: usize,
+    const LAMBDA_DIV4: usize,
     const SIG_LEN: usize,
     H: Xof,
 > PreparedPublicKey<K, L, H>
 where
     Matrix<K, L>: HasSet<Set = S>,
-    S: Set<Commitment = [u8; N], Signature = [u8; SIG_LEN]> + SignatureSizes<K, L, N, SIG_LEN>,
+    S: Set<Commitment = [u8; LAMBDA_DIV4], Signature = [u8; SIG_LEN]>
+        + SignatureSizes<K, L, LAMBDA_DIV4, SIG_LEN>,
 {
     /// Verifies (Algorithm 3), as `Verifier::verify`.
     pub fn verify(&self, message: &[u8], signature: &[u8; SIG_LEN], ctx: &[u8]) -> bool
@@ -199,8 +201,8 @@ where
     pub fn verify_mu(&self, mu: &[u8; 64], sig: &[u8; SIG_LEN]) -> bool
         ensures { IsTrue result ↔ VerifiesPrepared S.set H.front self.now mu.now sig.now }
     {
-        let p = sized_params::<S, K, L, N, SIG_LEN>();
-        ml_dsa::verify_prepared::<K, L, N, SIG_LEN, H>(&p, self, mu, sig)
+        let p = sized_params::<S, K, L, LAMBDA_DIV4, SIG_LEN>();
+        ml_dsa::verify_prepared::<K, L, LAMBDA_DIV4, SIG_LEN, H>(&p, self, mu, sig)
     }
 
     /// Verifies each signature with its message, under one context: `out[i]` becomes the result of `verify`

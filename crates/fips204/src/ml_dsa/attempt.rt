@@ -1,10 +1,10 @@
 //! One attempt of signing: the body of the loop of FIPS 204, Algorithm 7.
 #![tactic(auto)]
 
-ghost use Rattle.std.specs.Prelude.{◌≡◌, ◌≤◌, ◌<◌, ◌⊎◌, ℕ, pos, nat_abs};
+ghost use Rattle.std.specs.Prelude.{◌≡◌, ◌≤◌, ◌<◌, ℕ, pos, nat_abs};
 ghost use Rattle.fips204_base.specs.Vectors.{entry, MatrixWithin, VectorWithin, matrix_product, vector_coefficients, vector_of};
 ghost use Rattle.fips204_base.specs.Residues.{residue};
-ghost use Rattle.fips204_base.specs.Rounding.{high_bits};
+ghost use Rattle.fips204_base.specs.Rounding.{IsGamma2, high_bits};
 ghost use Rattle.fips204.specs.Signing.{attempt};
 ghost use Rattle.fips204.specs.SigningInputs.{AreAttemptInputs, attempt_answer};
 ghost use Rattle.fips204.specs.Sets.{set_of};
@@ -14,12 +14,12 @@ use crate::types::{Params, R, R0, SigningKey, T};
 use fips204_base::Fault;
 use fips204_base::hashing::{expand_mask, sample_in_ball};
 use fips204_base::high_low::high_bits;
-use fips204_base::lanes::Transforms;
 use fips204_base::maps::map_vector;
+use fips204_base::product::write_matrix_product;
 use fips204_base::xof::Xof;
 
 impl<'a, const K: usize, const L: usize, H: Xof, G> SigningKey<'a, K, L, H, G> {
-    /// The attempt at counter `kappa` with the seed `rho''` of the masks (lines 11 to 32): returns its signature,
+    /// The attempt at counter `kappa` with the seed `rho''` of the mask (lines 11 to 32): returns its signature,
     /// or `None` if it is rejected. `K` and `L` are those of the set, and `LAMBDA_DIV4` and `SIG_LEN` its lengths.
     ///
     /// Errors: `Fault::SamplingLimit` if its challenge reaches its limit.
@@ -27,17 +27,18 @@ impl<'a, const K: usize, const L: usize, H: Xof, G> SigningKey<'a, K, L, H, G> {
         &self,
         p: &Params,
         mu: &[u8; 64],
-        seed: &[u8; 64],
+        mask_seed: &[u8; 64],
         kappa: u16,
     ) -> Result<Option<[u8; SIG_LEN]>, Fault>
         requires inputs { AreAttemptInputs p.now K L LAMBDA_DIV4 SIG_LEN kappa }
-        ensures { result ≡ attempt_answer (attempt (set_of p.now) H.front self.now.matrix self.now.parts mu.now seed.now kappa) }
+        ensures { result
+            ≡ attempt_answer (attempt (set_of p.now) H.front self.now.matrix self.now.parts mu.now mask_seed.now kappa) }
     {
         // y = ExpandMask(rho'', kappa)
-        let y = expand_mask::<L, H>(p.gamma1, seed, kappa);
+        let y = expand_mask::<L, H>(p.gamma1, mask_seed, kappa);
         // w = A y
         let mut w = [R0; K];
-        write_matrix_times_vector(self.a_hat, &y, &mut w);
+        write_matrix_product(self.a_hat, &y, &mut w);
         // w1 = HighBits(w)
         let w1 = high_vector(p.gamma2, &w);
         // c_tilde = H(mu || w1Encode(w1))
@@ -48,38 +49,17 @@ impl<'a, const K: usize, const L: usize, H: Xof, G> SigningKey<'a, K, L, H, G> {
     }
 }
 
-/// Writes `A v`, with coefficients from 0 to `q - 1`. Those of `v` are below `q` in absolute value.
-///
-/// Not inlined, so that its lanes don't stay in the caller's frame.
-#[inline(never)]
-fn write_matrix_times_vector<const K: usize, const L: usize>(
-    a_hat: &[[T; L]; K],
-    v: &[R; L],
-    out: &mut [R; K],
-)
-    requires shape { (K ≤ 8) × (L ≤ 7) }
-    requires matrix { MatrixWithin 8380416 a_hat.now }
-    requires vector { VectorWithin L 8380416 v.now }
-    ensures values { (r n : ℕ) → r < K → n < 256 → entry out.new r n ≡ pos (matrix_product L a_hat.now (vector_coefficients v.now) r n) }
-    ensures range { VectorWithin K 8380416 out.new }
-{
-    let mut w = Transforms::zeros();
-    w.write_transforms(v);
-    w.multiply_by(a_hat);
-    w.write_plain(out);
-}
-
 /// `HighBits` of each coefficient of a vector. `gamma2` is 95232 or 261888, and coefficients are below
 /// `q` in absolute value.
 fn high_vector<const K: usize>(gamma2: i32, w: &[R; K]) -> [R; K]
-    requires set { (gamma2 ≡ pos 95232) ⊎ (gamma2 ≡ pos 261888) }
+    requires set { IsGamma2 gamma2 }
     requires range { VectorWithin K 8380416 w.now }
     ensures { result ≡ vector_of K (λ r n. pos (high_bits (nat_abs gamma2) (vector_coefficients w.now r n))) }
 {
     map_vector(
         w,
         |x|
-            requires { ((gamma2 ≡ pos 95232) ⊎ (gamma2 ≡ pos 261888)) × (nat_abs x ≤ 8380416) }
+            requires { IsGamma2 gamma2 × (nat_abs x ≤ 8380416) }
             ensures { result ≡ pos (high_bits (nat_abs gamma2) (residue x)) }
         { high_bits(gamma2, x) },
     )

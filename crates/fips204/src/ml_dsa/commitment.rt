@@ -10,23 +10,23 @@ ghost use Rattle.fips204.specs.ParameterSets.{commitment_length};
 ghost use Rattle.fips204.specs.Sets.{set_of};
 
 use crate::types::{Params, R};
-use fips204_base::encodings::w1_encode;
+use fips204_base::encodings::{w1_encode, w1_size};
 use fips204_base::xof::{Xof, hash};
 
 /// `c_tilde` of `w1`: the first `lambda / 4` bytes of `H` over `mu` and the bytes of `w1`, whose
 /// coefficients are high bits.
-pub(crate) fn commitment<const K: usize, const N: usize, H: Xof>(
+pub(crate) fn commitment<const K: usize, const LAMBDA_DIV4: usize, H: Xof>(
     p: &Params,
     mu: &[u8; 64],
     w1: &[R; K],
-) -> [u8; N]
+) -> [u8; LAMBDA_DIV4]
     requires rows { K ≡ p.now.k }
-    requires size { N ≡ commitment_length (set_of p.now) }
+    requires size { LAMBDA_DIV4 ≡ commitment_length (set_of p.now) }
     requires range { All (λ w. PolynomialInRange (pos 0) (pos (high_values (nat_abs p.now.gamma2) - 1)) w.0) w1.now }
     ensures { result ≡ commitment (set_of p.now) H.front mu.now w1.now }
 {
     let mut room = [0u8; 1024];
-    let bytes = &mut room[..p.w1_length()];
+    let bytes = &mut room[..w1_size(p.gamma2) * K];
     w1_encode(p.gamma2, w1, bytes);
-    hash::<H, N>(&[mu.as_slice(), bytes])
+    hash::<H, LAMBDA_DIV4>(&[mu.as_slice(), bytes])
 }

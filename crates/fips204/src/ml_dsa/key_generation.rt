@@ -14,11 +14,11 @@ use crate::traits::{CryptoRngCore, draw};
 use crate::types::{Params, PrivateKey, PublicKey, R, R0};
 use fips204_base::Fault;
 use fips204_base::encodings::pk_encode;
-use fips204_base::hashing::{write_expanded_s, write_sampled_product};
+use fips204_base::hashing::write_expanded_s;
 use fips204_base::helpers::full_reduce32;
 use fips204_base::high_low::write_power2round;
-use fips204_base::lanes::Transforms;
 use fips204_base::maps::write_zip_vectors;
+use fips204_base::product::{Transforms, write_sampled_product};
 use fips204_base::xof::{Xof, hash};
 use std::marker::PhantomData;
 
@@ -40,7 +40,7 @@ pub fn key_gen_internal<const K: usize, const L: usize, const PK_LEN: usize, H: 
     let seeds = hash::<H, 128>(&[xi.as_slice(), &[p.k as u8], &[p.l as u8]]);
     let rho: [u8; 32] = part(&seeds, 0);
     let rho_prime: [u8; 64] = part(&seeds, 32);
-    let key: [u8; 32] = part(&seeds, 96);
+    let cap_k: [u8; 32] = part(&seeds, 96);
     // (s1, s2) = ExpandS(rho')
     let mut s1 = [R0; L];
     let mut s2 = [R0; K];
@@ -62,7 +62,7 @@ pub fn key_gen_internal<const K: usize, const L: usize, const PK_LEN: usize, H: 
     };
     let private = PrivateKey {
         rho,
-        key,
+        cap_k,
         tr,
         s1,
         s2,
@@ -92,7 +92,8 @@ pub(super) fn write_key_vector<const K: usize, const L: usize, G: Xof>(
     requires shape { (K ≤ 8) × (L ≤ 7) }
     requires first { VectorWithin L 8380416 s1.now }
     requires second { VectorWithin K 8380416 s2.now }
-    ensures values { OnSampled G.front rho.now K L result (λ a. t.new ≡ vector_of K (λ r n. pos (key_vector L a s1.now s2.now r n))) }
+    ensures values { OnSampled G.front rho.now K L result (λ a.
+        t.new ≡ vector_of K (λ r n. pos (key_vector L a s1.now s2.now r n))) }
     ensures range { IfOk result (λ _. IsResidueVector K t.new) }
 {
     let mut s1_hat = Transforms::zeros();

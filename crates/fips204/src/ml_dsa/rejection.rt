@@ -1,12 +1,12 @@
 //! The rejection checks of an attempt of signing (FIPS 204, Algorithm 7, lines 18 to 32).
 #![tactic(auto)]
 
-ghost use Rattle.std.specs.Prelude.{◌≡◌, ◌⊎◌, ◌<◌, ◌≤◌, ◌+◌, ◌*◌, ◌%◌, ℕ, List, pos, nat_abs, nat_lt, ◌≤ℤ◌, Ok, Some, length};
+ghost use Rattle.std.specs.Prelude.{◌≡◌, ◌<◌, ◌≤◌, ◌+◌, ◌*◌, ◌%◌, ℕ, List, pos, nat_abs, nat_lt, ◌≤ℤ◌, Ok, Some, length};
 ghost use Rattle.fips204_base.specs.Residues.{centred, vector_norm, residue};
 ghost use Rattle.fips204_base.specs.Encodings.{all_ones};
 ghost use Rattle.fips204_base.specs.Vectors.{VectorWithin, vector_coefficients, vector_of};
 ghost use Rattle.fips204_base.specs.Transforms.{minus, plus};
-ghost use Rattle.fips204_base.specs.Rounding.{low_bits};
+ghost use Rattle.fips204_base.specs.Rounding.{IsGamma2, low_bits};
 ghost use Rattle.fips204.specs.Signing.{checked_attempt, hint_bit};
 ghost use Rattle.fips204.specs.SigningInputs.{AreCheckInputs, attempt_answer};
 ghost use Rattle.fips204.specs.Sets.{set_of};
@@ -15,11 +15,12 @@ use crate::types::{Params, R, R0, SigningKey};
 use fips204_base::encodings::sig_encode;
 use fips204_base::helpers::{center_mod, difference, infinity_norm};
 use fips204_base::high_low::{low_bits, make_hint};
-use fips204_base::lanes::transforms::{Factor, write_product};
 use fips204_base::maps::{map_vector, write_zip_vectors, zip_vectors};
+use fips204_base::product::{Factor, Transforms};
 
 impl<'a, const K: usize, const L: usize, H, G> SigningKey<'a, K, L, H, G> {
-    /// The signature of an attempt with mask `y`, `w = A y`, commitment and challenge, or `None` where one of the checks rejects it.
+    /// The signature of an attempt with mask `y`, `w = A y`, commitment and challenge, or `None` where one of the
+    /// checks rejects it.
     ///
     /// Coefficients of `y` are in `[1 - gamma1, gamma1]`, those of `w` and `c` below `q` in absolute value.
     /// `K` and `L` are those of the set, and `LAMBDA_DIV4` and `SIG_LEN` its lengths.
@@ -37,23 +38,27 @@ impl<'a, const K: usize, const L: usize, H, G> SigningKey<'a, K, L, H, G> {
     {
         // c_hat = NTT(c)
         let c_hat = Factor::of(c);
+        let mut product = Transforms::zeros();
         // z = y + c s1, with a norm below gamma1 - beta
         let mut z = [R0; L];
-        write_product(&c_hat, &self.transforms.s1_hat, &mut z);
+        product.write_multiple(&c_hat, &self.transforms.s1_hat);
+        product.write_plain(&mut z);
         write_centred_sum(&mut z, y);
         if !has_norm_below(&z, p.z_bound()) {
             return None;
         }
         // r0 = LowBits(w - c s2), with a norm below gamma2 - beta
         let mut v = [R0; K];
-        write_product(&c_hat, &self.transforms.s2_hat, &mut v);
+        product.write_multiple(&c_hat, &self.transforms.s2_hat);
+        product.write_plain(&mut v);
         write_difference(w, &mut v);
         if !has_norm_below(&low_vector(p.gamma2, &v), p.r0_bound()) {
             return None;
         }
         // c t0, with a norm below gamma2
         let mut ct0 = [R0; K];
-        write_product(&c_hat, &self.transforms.t0_hat, &mut ct0);
+        product.write_multiple(&c_hat, &self.transforms.t0_hat);
+        product.write_plain(&mut ct0);
         if !has_norm_below(&ct0, p.gamma2) {
             return None;
         }
@@ -82,7 +87,8 @@ pub(crate) fn has_norm_below<const N: usize>(v: &[R; N], bound: i32) -> bool
 fn write_centred_sum<const L: usize>(z: &mut [R; L], y: &[R; L])
     requires mask { VectorWithin L 524288 y.now }
     requires product { VectorWithin L 8380416 z.old }
-    ensures value { z.new ≡ vector_of L (λ r n. centred (pos (plus (vector_coefficients y.now r) (vector_coefficients z.old r) n))) }
+    ensures value { z.new
+        ≡ vector_of L (λ r n. centred (pos (plus (vector_coefficients y.now r) (vector_coefficients z.old r) n))) }
     ensures range { VectorWithin L 8380416 z.new }
 {
     write_zip_vectors(
@@ -117,7 +123,7 @@ fn write_difference<const K: usize>(w: &[R; K], v: &mut [R; K])
 
 /// `LowBits` of each coefficient of a vector whose coefficients are below `q` in absolute value.
 fn low_vector<const K: usize>(gamma2: i32, v: &[R; K]) -> [R; K]
-    requires set { (gamma2 ≡ pos 95232) ⊎ (gamma2 ≡ pos 261888) }
+    requires set { IsGamma2 gamma2 }
     requires range { VectorWithin K 8380416 v.now }
     ensures value { result ≡ vector_of K (λ r n. low_bits (nat_abs gamma2) (vector_coefficients v.now r n)) }
     ensures range { VectorWithin K 8380416 result }
@@ -125,7 +131,7 @@ fn low_vector<const K: usize>(gamma2: i32, v: &[R; K]) -> [R; K]
     map_vector(
         v,
         |x|
-            requires { ((gamma2 ≡ pos 95232) ⊎ (gamma2 ≡ pos 261888)) × (nat_abs x ≤ 8380416) }
+            requires { IsGamma2 gamma2 × (nat_abs x ≤ 8380416) }
             ensures value { result ≡ low_bits (nat_abs gamma2) (residue x) }
             ensures small { nat_abs result ≤ 8380416 }
         { low_bits(gamma2, x) },
@@ -135,16 +141,17 @@ fn low_vector<const K: usize>(gamma2: i32, v: &[R; K]) -> [R; K]
 /// The hint of `v = w - c s2` and `t = c t0`: `MakeHint` of `-t` and `v + t` at each coefficient.
 /// `gamma2` is 95232 or 261888, and coefficients are below `q` in absolute value.
 fn hint<const K: usize>(gamma2: i32, v: &[R; K], t: &[R; K]) -> [R; K]
-    requires set { (gamma2 ≡ pos 95232) ⊎ (gamma2 ≡ pos 261888) }
+    requires set { IsGamma2 gamma2 }
     requires v { VectorWithin K 8380416 v.now }
     requires t { VectorWithin K 8380416 t.now }
-    ensures { result ≡ vector_of K (λ r n. hint_bit (nat_abs gamma2) (vector_coefficients v.now r n) (vector_coefficients t.now r n)) }
+    ensures { result
+        ≡ vector_of K (λ r n. hint_bit (nat_abs gamma2) (vector_coefficients v.now r n) (vector_coefficients t.now r n)) }
 {
     zip_vectors(
         v,
         t,
         |x, t|
-            requires { ((gamma2 ≡ pos 95232) ⊎ (gamma2 ≡ pos 261888)) × (nat_abs x ≤ 8380416) × (nat_abs t ≤ 8380416) }
+            requires { IsGamma2 gamma2 × (nat_abs x ≤ 8380416) × (nat_abs t ≤ 8380416) }
             ensures { result ≡ hint_bit (nat_abs gamma2) (residue x) (residue t) }
         { if make_hint(gamma2, -t, x + t) { 1 } else { 0 } },
     )

@@ -10,7 +10,7 @@ ghost use Rattle.fips204.specs.Signing.{sign, sign_with};
 use crate::types::{KeyTransforms, Params, PrivateKey, SigningKey, T0};
 use fips204_base::Fault;
 use fips204_base::hashing::write_expanded_a;
-use fips204_base::lanes::Transforms;
+use fips204_base::product::Transforms;
 use fips204_base::xof::{Xof, hash};
 
 /// How many attempts signing makes (FIPS 204, Appendix C).
@@ -60,17 +60,15 @@ impl<const K: usize, const L: usize, H, G> PrivateKey<K, L, H, G> {
         requires shape { (K ≤ 8) × (L ≤ 7) }
         ensures { AreKeyTransforms K L self.now result }
     {
-        let mut s1_hat = Transforms::zeros();
-        s1_hat.write_transforms(&self.s1);
-        let mut s2_hat = Transforms::zeros();
-        s2_hat.write_transforms(&self.s2);
-        let mut t0_hat = Transforms::zeros();
-        t0_hat.write_transforms(&self.t0);
-        KeyTransforms {
-            s1_hat,
-            s2_hat,
-            t0_hat,
-        }
+        let mut transforms = KeyTransforms {
+            s1_hat: Transforms::zeros(),
+            s2_hat: Transforms::zeros(),
+            t0_hat: Transforms::zeros(),
+        };
+        transforms.s1_hat.write_transforms(&self.s1);
+        transforms.s2_hat.write_transforms(&self.s2);
+        transforms.t0_hat.write_transforms(&self.t0);
+        transforms
     }
 }
 
@@ -87,11 +85,13 @@ impl<'a, const K: usize, const L: usize, H: Xof, G> SigningKey<'a, K, L, H, G> {
     {
         // rho'' = H(K || rnd || mu)
         let key = self.key;
-        let seed = hash::<H, 64>(&[key.key.as_slice(), rnd, mu]);
+        let mask_seed = hash::<H, 64>(&[key.cap_k.as_slice(), rnd, mu]);
         for n in 0..MAX_SIGN_ATTEMPTS {
             // kappa = n l
             let kappa = n * L as u16;
-            if let Some(signature) = self.attempt::<LAMBDA_DIV4, SIG_LEN>(p, mu, &seed, kappa)? {
+            if let Some(signature) = self.attempt::<LAMBDA_DIV4, SIG_LEN>(
+                p, mu, &mask_seed, kappa,
+            )? {
                 return Ok(signature);
             }
         }

@@ -8,7 +8,7 @@ ghost use Rattle.fips204_base.specs.Packing.{PolynomialInRange};
 ghost use Rattle.fips204_base.specs.Vectors.{PolynomialWithin, VectorWithin, IsVector, vector_coefficients};
 ghost use Rattle.fips204_base.specs.Residues.{residue, coefficients};
 ghost use Rattle.fips204_base.specs.Transforms.{minus, product};
-ghost use Rattle.fips204_base.specs.Rounding.{high_values, use_hint};
+ghost use Rattle.fips204_base.specs.Rounding.{IsGamma2, high_values, use_hint};
 ghost use Rattle.fips204_base.specs.declared.types.R.{R};
 ghost use Rattle.fips204.specs.Acceptance.{AreShifted, hinted, Accepts, Verifies};
 ghost use Rattle.fips204.specs.ParameterSets.{commitment_length};
@@ -22,10 +22,10 @@ use super::rejection::has_norm_below;
 use crate::types::{Params, PreparedPublicKey, PublicKey, R, R0};
 use fips204_base::D;
 use fips204_base::encodings::sig_decode;
-use fips204_base::hashing::{sample_in_ball, write_sampled_product};
+use fips204_base::hashing::sample_in_ball;
 use fips204_base::high_low::use_hint;
-use fips204_base::lanes::{Factor, Transforms};
 use fips204_base::maps::{map_vector, write_zip_vectors};
+use fips204_base::product::{Factor, Transforms, write_sampled_product};
 use fips204_base::xof::Xof;
 
 /// `ML-DSA.Verify_internal` (Algorithm 8) from `mu`: returns true if and only if the signature is accepted.
@@ -47,16 +47,15 @@ pub fn verify_internal<
     };
     let (c_tilde, z, h, c) = &parts;
     // A = ExpandA(rho), A z
-    let mut z_hat = Transforms::zeros();
-    z_hat.write_transforms(z);
+    let mut v_hat = Transforms::zeros();
+    v_hat.write_transforms(z);
     let mut az = Transforms::zeros();
-    match write_sampled_product::<K, L, G>(&pk.rho, &z_hat, &mut az) {
+    match write_sampled_product::<K, L, G>(&pk.rho, &v_hat, &mut az) {
         Err(_) => false,
         Ok(()) => {
-            // t1 2^d
-            let mut t1_hat = Transforms::zeros();
-            t1_hat.write_transforms(&t1_shifted(&pk.t1));
-            is_committed::<K, LAMBDA_DIV4, H>(p, mu, c_tilde, h, c, &mut az, &t1_hat)
+            // t1 2^d, in the place of z
+            v_hat.write_transforms(&t1_shifted(&pk.t1));
+            is_committed::<K, LAMBDA_DIV4, H>(p, mu, c_tilde, h, c, &mut az, &v_hat)
         }
     }
 }
@@ -154,7 +153,7 @@ fn write_hinted<const K: usize>(p: &Params, h: &[R; K], w: &mut [R; K])
         w,
         h,
         |w, h|
-            requires { ((gamma2 ≡ pos 95232) ⊎ (gamma2 ≡ pos 261888)) × (nat_abs w ≤ 8380416) × ((h ≡ pos 0) ⊎ (h ≡ pos 1)) }
+            requires { IsGamma2 gamma2 × (nat_abs w ≤ 8380416) × ((h ≡ pos 0) ⊎ (h ≡ pos 1)) }
             ensures { result ≡ pos (use_hint (nat_abs gamma2) (int_lt (pos 0) h) (residue w)) }
         { use_hint(gamma2, h, w) },
     );

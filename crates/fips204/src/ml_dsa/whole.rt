@@ -1,27 +1,15 @@
 //! Whether a private key is whole (FIPS 204, Algorithm 6, lines 3 to 6).
 #![tactic(auto)]
 
-ghost use Rattle.std.specs.Prelude.{◌≡◌, ◌↔◌, IsTrue};
+ghost use Rattle.std.specs.Prelude.{◌≡◌};
 ghost use Rattle.fips204.specs.Keys.{TellsWhole};
 ghost use Rattle.fips204.specs.Sets.{set_of};
 
 use super::key_generation::write_key_vector;
-use crate::types::{Params, PrivateKey, R, R0};
+use crate::types::{Params, PrivateKey, R0};
 use fips204_base::Fault;
 use fips204_base::high_low::write_power2round;
 use fips204_base::xof::Xof;
-
-/// Whether two vectors are the same.
-fn are_same<const K: usize>(v: &[R; K], w: &[R; K]) -> bool
-    ensures { IsTrue result ↔ (v.now ≡ w.now) }
-{
-    for i in 0..K {
-        if v[i].0 != w[i].0 {
-            return false;
-        }
-    }
-    true
-}
 
 /// Tells whether t0 of a private key is the low part of `A s1 + s2`.
 ///
@@ -39,5 +27,5 @@ pub(crate) fn is_whole<const K: usize, const L: usize, H, G: Xof>(
     write_key_vector::<K, L, G>(&sk.rho, &sk.s1, &sk.s2, &mut t)?;
     // (_, t0) = Power2Round(t)
     write_power2round(&mut t, &mut [R0; K]);
-    Ok(are_same(&sk.t0, &t))
+    Ok(sk.t0 == t)
 }

@@ -2,11 +2,12 @@
 //! the transforms of its vectors.
 #![tactic(auto)]
 
+ghost use Rattle.std.specs.Prelude.{◌≡◌};
 ghost use Rattle.fips204_base.specs.Vectors.{MatrixWithin};
 ghost use Rattle.fips204.specs.Keys.{ArePrivateParts, ArePublicParts};
 
 use super::{PrivateKey, PublicKey, T};
-use fips204_base::lanes::Transforms;
+use fips204_base::product::Transforms;
 use std::marker::Model;
 
 /// The transforms of a private key's vectors (FIPS 204, Algorithm 7, lines 2 to 4).
@@ -39,7 +40,8 @@ impl<const K: usize, const L: usize, H> Model for PreparedPrivateKey<K, L, H> {
 
     ghost view = { λ sk. record { parts = sk.key; matrix = sk.a_hat } };
 
-    ghost invariant = { λ sk. MatrixWithin 8380416 sk.a_hat × ArePrivateParts K L sk.key × AreKeyTransforms K L sk.key sk.transforms };
+    ghost invariant = { λ sk.
+        MatrixWithin 8380416 sk.a_hat × ArePrivateParts K L sk.key × AreKeyTransforms K L sk.key sk.transforms };
 }
 
 /// A private key with its matrix and the transforms of its vectors, from wherever each comes.
@@ -60,17 +62,18 @@ impl<'a, const K: usize, const L: usize, H, G> Model for SigningKey<'a, K, L, H,
 
     ghost view = { λ sk. record { parts = sk.key.now; matrix = sk.a_hat.now } };
 
-    ghost invariant = { λ sk. MatrixWithin 8380416 sk.a_hat.now × ArePrivateParts K L sk.key.now × AreKeyTransforms K L sk.key.now sk.transforms.now };
+    ghost invariant = { λ sk. MatrixWithin 8380416 sk.a_hat.now × ArePrivateParts K L sk.key.now
+        × AreKeyTransforms K L sk.key.now sk.transforms.now };
 }
 
 impl<const K: usize, const L: usize, H> PreparedPrivateKey<K, L, H> {
-    /// A law, which computes nothing: the matrix has values below `q` in absolute value, and the parts have
-    /// the lengths and ranges of a private key whose matrix has `K` rows and `L` columns.
-    pub fn parts_in_range_law(&self)
+    /// The hash that the key keeps, as `PrivateKey::tr`. The key's parts and its matrix are in range.
+    pub fn tr(&self) -> &[u8; 64]
+        ensures hash { result.now ≡ self.now.parts.tr }
         ensures matrix { MatrixWithin 8380416 self.now.matrix }
         ensures parts { ArePrivateParts K L self.now.parts }
     {
-        let _ = &self.a_hat;
+        self.key.tr()
     }
 }
 
@@ -99,13 +102,12 @@ impl<const K: usize, const L: usize, H> Model for PreparedPublicKey<K, L, H> {
 }
 
 impl<const K: usize, const L: usize, H> PreparedPublicKey<K, L, H> {
-    /// A law, which computes nothing: the matrix has values below `q` in absolute value, and the parts have
-    /// the lengths and ranges of a public key with `K` polynomials.
-    pub fn parts_in_range_law(&self)
+    /// The hash of the key's bytes, as `PublicKey::tr`. The key's parts and its matrix are in range.
+    pub fn tr(&self) -> &[u8; 64]
+        ensures hash { result.now ≡ self.now.parts.tr }
         ensures matrix { MatrixWithin 8380416 self.now.matrix }
         ensures parts { ArePublicParts K self.now.parts }
     {
-        let _ = &self.a_hat;
-        let _ = &self.key.t1;
+        self.key.tr()
     }
 }

@@ -1,16 +1,15 @@
-//! The matrix, from the stream in the place of SHAKE128.
+//! The matrix, as it is sampled from the stream in the place of SHAKE128.
 #![tactic(auto)]
 
 ghost use Rattle.std.specs.Prelude.{◌≡◌, ◌≤◌, ◌<◌, ◌/◌, ℕ, None, Some, length, ok_or, IfOk, IfErr};
 ghost use Rattle.std.specs.List.{flat_map};
 ghost use Rattle.fips204_base.specs.Network.{AreKept};
 ghost use Rattle.fips204_base.specs.Sampling.{OnSampled, kept_triples, matrix_entry, sampled_matrix, sampled_row};
-ghost use Rattle.fips204_base.specs.Vectors.{MatrixWithin, vector_coefficients, matrix_product};
+ghost use Rattle.fips204_base.specs.Vectors.{MatrixWithin};
 
 use crate::conversion::coeff_from_three_bytes;
 use crate::fault::Fault;
 use crate::hashing::write_kept;
-use crate::lanes::Transforms;
 use crate::types::{T, T0};
 use crate::xof::{Xof, XofReader};
 
@@ -81,9 +80,8 @@ pub fn write_expanded_a<const K: usize, const L: usize, G: Xof>(
     matrix: &mut [[T; L]; K],
 ) -> Result<(), Fault>
     requires shape { (K ≤ 8) × (L ≤ 7) }
-    ensures refused { IfErr result (λ fault. (sampled_matrix G.front rho.now K L ≡ None) × (fault ≡ Fault.SamplingLimit)) }
-    ensures values { IfOk result (λ _. sampled_matrix G.front rho.now K L ≡ Some matrix.new) }
-    ensures small { IfOk result (λ _. MatrixWithin 8380416 matrix.new) }
+    ensures values { OnSampled G.front rho.now K L result (λ a. matrix.new ≡ a) }
+    ensures range { IfOk result (λ _. MatrixWithin 8380416 matrix.new) }
 {
     for r in 0..K {
         write_expanded_row::<L, G>(rho, r, &mut matrix[r])?;
@@ -92,7 +90,7 @@ pub fn write_expanded_a<const K: usize, const L: usize, G: Xof>(
 }
 
 /// Writes row `r` of the matrix (Algorithm 32, lines 2 to 5).
-fn write_expanded_row<const L: usize, G: Xof>(
+pub(crate) fn write_expanded_row<const L: usize, G: Xof>(
     rho: &[u8; 32],
     r: usize,
     row: &mut [T; L],
@@ -103,27 +101,6 @@ fn write_expanded_row<const L: usize, G: Xof>(
 {
     for s in 0..L {
         row[s] = rej_ntt_poly::<G>(&[rho.as_slice(), &[s as u8], &[r as u8]])?;
-    }
-    Ok(())
-}
-
-/// Writes `A v` for the matrix of `rho`, with one row of it at a time. `K` and `L` are those of a parameter set.
-/// Internal: serves the crate `fips204` alone.
-///
-/// Errors: `SamplingLimit` if an entry reaches its limit.
-pub fn write_sampled_product<const K: usize, const L: usize, G: Xof>(
-    rho: &[u8; 32],
-    v: &Transforms,
-    out: &mut Transforms,
-) -> Result<(), Fault>
-    requires shape { (K ≤ 8) × (L ≤ 7) }
-    ensures { OnSampled G.front rho.now K L result (λ a. (r n : ℕ) → r < K → n < 256
-        → vector_coefficients out.new r n ≡ matrix_product L a (vector_coefficients v.now) r n) }
-{
-    let mut row = [T0; L];
-    for r in 0..K {
-        write_expanded_row::<L, G>(rho, r, &mut row)?;
-        out.write_row_product(r, &row, v);
     }
     Ok(())
 }

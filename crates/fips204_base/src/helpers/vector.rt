@@ -78,7 +78,7 @@ fn row_sum<const L: usize>(row: &[T; L], u: &[T; L]) -> T
 {
     let mut out = [0; 256];
     for j in 0..256 {
-        out[j] = partial_reduce64(place_sum(row, &values_at(u, j), j));
+        out[j] = place_sum(row, &values_at(u, j), j);
     }
     T(out)
 }
@@ -98,19 +98,20 @@ fn values_at<const L: usize>(u: &[T; L], j: usize) -> [i32; 8]
     out
 }
 
-/// The sum of the products at one place of a row of the matrix with as many numbers.
+/// The sum of the products of a row of the matrix at one place with as many numbers, modulo `q` and below `q` in
+/// absolute value.
 #[inline(always)]
-pub(crate) fn place_sum<const L: usize>(row: &[T; L], u: &[i32; 8], j: usize) -> i64
+pub(crate) fn place_sum<const L: usize>(row: &[T; L], u: &[i32; 8], j: usize) -> i32
     requires columns { L ≤ 7 }
     requires row { TransformsWithin 8380416 row.now }
     requires numbers { (k : ℕ) → k < 8 → nat_abs (lane u.now k) ≤ 8380416 }
     requires place { j < 256 }
     ensures value { residue result ≡ lanes_value L row.now u.now j }
-    ensures small { nat_abs result ≤ 70231372333056 * L }
+    ensures small { nat_abs result ≤ 8380416 }
 {
     let mut sum = 0;
     for k in 0..L {
         sum += wide_product(row[k].0[j], u[k]);
     }
-    sum
+    partial_reduce64(sum)
 }

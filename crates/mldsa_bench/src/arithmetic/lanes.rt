@@ -12,13 +12,13 @@ use fips204::ntt::{Lanes, Residue, inv_ntt, ntt};
 
 fn row(w: &[[i32; 256]; 8], n: usize) -> Lanes
     requires { n < 256 }
-    ensures { (j : ℕ) → j < 8 → nat_abs (lane result.lanes j) ≤ 8380416 }
+    ensures { (j : ℕ) → j < 8 → nat_abs (lane result j) ≤ 8380416 }
 {
     Lanes::from_array(within(&w.map(|polynomial| polynomial[n])))
 }
 
 fn side_by_side(w: &[[i32; 256]; 8]) -> [Lanes; 256]
-    ensures { LanesWithin (λ x. x.lanes) 8 8380416 result }
+    ensures { LanesWithin (λ x. x) 8 8380416 result }
 {
     let mut out = [Lanes::from_array([0; 8]); 256];
     for n in 0..256usize {

@@ -1,4 +1,4 @@
-use Rattle.std.proofs.Common.{rules, ◌≡◌, ◌∙◌, sym, arith, Err, Some, None}
+use Rattle.std.proofs.Common.{rules, ◌≡◌, ◌∙◌, ap, sym, arith, Err, Some, None}
 use Rattle.fips204_base.specs.Sampling.{sampled_matrix}
 use Rattle.fips204_base.specs.declared.fault.Fault.TheVariants.{SamplingLimit}
 use Rattle.fips204.specs.Sets.{set_of}
@@ -17,15 +17,16 @@ returns-in_err-write_expanded_a-clause-answer g c =
     let p = set_of c.args.p.now in
     let refused : c.from_residual.result ≡ Err SamplingLimit = search rules in
     let same : c.sk.inside.rho ≡ c.args.sk.now.rho = search rules in
-    let there : sampled_matrix g.G.Xof.front c.args.sk.now.rho p.k p.l ≡ None = rw (same, c.requires.sizes.rows, c.requires.sizes.columns) at c.in_err-write_expanded_a.ensures.refused.0 in
+    let there : sampled_matrix g.G.Xof.front c.args.sk.now.rho p.k p.l ≡ None = rw (same, c.requires.sizes.rows, c.requires.sizes.columns) at c.in_err-write_expanded_a.ensures.values.0 in
     refused ∙ sym (sign-no_matrix p g.H.Xof.front g.G.Xof.front c.args.sk.now c.args.mu.now c.args.rnd.now there)
 
 pub returns-clause-answer : goal.returns-clause-answer
 returns-clause-answer g c =
     let p = set_of c.args.p.now in
     let a = c.write_expanded_a.new.matrix in
+    let sampled = c.in_ok-write_expanded_a.ensures.values in
     let same : c.sk.inside.rho ≡ c.args.sk.now.rho = search rules in
-    let there : sampled_matrix g.G.Xof.front c.args.sk.now.rho p.k p.l ≡ Some a = rw (same, c.requires.sizes.rows, c.requires.sizes.columns) at c.in_ok-write_expanded_a.ensures.values in
+    let there : sampled_matrix g.G.Xof.front c.args.sk.now.rho p.k p.l ≡ Some a = rw (same, c.requires.sizes.rows, c.requires.sizes.columns) at (sampled.1 ∙ ap Some (sym sampled.2)) in
     sign-by_matrix p g.H.Xof.front g.G.Xof.front c.args.sk.now c.args.mu.now c.args.rnd.now a c.sign_with.result there c.sign_with.ensures
 
 pub returns-clause-accepted : goal.returns-clause-accepted

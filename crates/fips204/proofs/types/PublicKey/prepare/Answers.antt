@@ -1,4 +1,4 @@
-use Rattle.std.proofs.Common.{refl, ◌≡◌, ap, sym, subst, Ok, Some, rules}
+use Rattle.std.proofs.Common.{refl, ◌≡◌, ◌∙◌, ap, sym, subst, Ok, Some, rules}
 use Rattle.fips204.specs.Keys.{PublicParts}
 use Rattle.fips204.specs.Prepared.{PreparedPublic, prepared_public}
 use Rattle.fips204_base.specs.Sampling.{sampled_matrix}
@@ -21,7 +21,8 @@ pub returns : goal.returns
 returns g c =
     let p = g.S.Set.set in
     let sizes = g.met.S.SignatureSizes.sizes in
-    let there = c.in_ok-write_expanded_a.ensures.values in
+    let sampled = c.in_ok-write_expanded_a.ensures.values in
+    let there = sampled.1 ∙ ap Some (sym sampled.2) in
     let at_set : sampled_matrix g.G.Xof.front c.self.inside.rho p.k p.l ≡ Some c.write_expanded_a.new.matrix = rw (sizes.rows, sizes.columns) at there in
     let same : c.self.inside.rho ≡ c.args.self.now.rho = ap (λ (k : PublicParts). k.rho) c.self.view_is in
     let entry = rw same at at_set in

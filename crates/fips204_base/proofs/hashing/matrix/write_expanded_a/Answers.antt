@@ -1,4 +1,6 @@
-use Rattle.std.proofs.Common.{◌∙◌, arith, rules, length-set}
+use Rattle.std.proofs.Common.{◌≡◌, ◌∙◌, Err, arith, rules, refl, sym, subst, length-set}
+use Rattle.fips204_base.specs.Vectors.{MatrixWithin}
+use Rattle.fips204_base.specs.declared.fault.Fault.TheVariants.{SamplingLimit}
 use Rattle.fips204_base.specs.Sampling.{sampled_row, sampled_matrix}
 use Rattle.fips204_base.proofs.Sampled.{matrix-refused, matrix-within, present_nil, present_next, present_whole}
 use Rattle.fips204_base.proofs.hashing.matrix.write_expanded_a.Goals as goal
@@ -6,9 +8,11 @@ use Rattle.fips204_base.proofs.hashing.matrix.write_expanded_a.Goals as goal
 pub loop-r-init : goal.loop-r-init
 loop-r-init g c = (c.told-matrix, present_nil)
 
-pub returns-in_err-write_expanded_row-clause-refused : goal.returns-in_err-write_expanded_row-clause-refused
-returns-in_err-write_expanded_row-clause-refused g c =
-    matrix-refused g.G.Xof.front c.args.rho.now g.row.K g.row.L c.loop-r.r c.loop-r-test.true c.in_err-write_expanded_row.ensures.refused.0 (search rules)
+pub returns-in_err-write_expanded_row-clause-values : goal.returns-in_err-write_expanded_row-clause-values
+returns-in_err-write_expanded_row-clause-values g c =
+    let refused : c.from_residual.result ≡ Err SamplingLimit = search rules in
+    let none = c.in_err-write_expanded_row.ensures.refused.0 in
+    rw refused (matrix-refused {A = Unit {0}} g.G.Xof.front c.args.rho.now g.row.K g.row.L c.loop-r.r {result = Err SamplingLimit} c.loop-r-test.true none refl)
 
 pub loop-r-preserved : goal.loop-r-preserved
 loop-r-preserved g c =
@@ -19,9 +23,13 @@ loop-r-preserved g c =
 
 pub returns-clause-values : goal.returns-clause-values
 unfolding sampled_matrix
-returns-clause-values g c =
-    present_whole (sampled_row g.G.Xof.front c.args.rho.now g.row.L) 0 g.row.K c.loop-r.r c.loop-r.matrix
-    (omega (arith, c.loop-r-test.false, c.loop-r.auto.r-end)) c.loop-r.invariant.0 c.loop-r.invariant.1
+returns-clause-values g c = (
+  c.loop-r.matrix,
+  present_whole (sampled_row g.G.Xof.front c.args.rho.now g.row.L) 0 g.row.K c.loop-r.r c.loop-r.matrix (omega (arith, c.loop-r-test.false, c.loop-r.auto.r-end)) c.loop-r.invariant.0 c.loop-r.invariant.1,
+  refl,
+)
 
-pub returns-clause-small : goal.returns-clause-small
-returns-clause-small g c = matrix-within g.G.Xof.front c.args.rho.now g.row.K g.row.L c.loop-r.matrix (returns-clause-values g c)
+pub returns-clause-range : goal.returns-clause-range
+returns-clause-range g c =
+    let a = returns-clause-values g c in
+    subst (MatrixWithin 8380416) (sym a.2) (matrix-within g.G.Xof.front c.args.rho.now g.row.K g.row.L a.0 a.1)

@@ -1,4 +1,4 @@
-use Rattle.std.proofs.Common.{ℕ, ◌≡◌, ◌<◌, ◌≤◌, ◌*◌, ◌%◌, ◌∙◌, arith, rules, ap, length, length-set, pos, get_or, to_z, of_z, w32, w64}
+use Rattle.std.proofs.Common.{ℕ, ◌≡◌, ◌<◌, ◌≤◌, ◌*◌, ◌%◌, ◌∙◌, arith, rules, ap, length, length-set, pos, get_or, to_z, of_z, w32}
 use Rattle.std.specs.Prelude.{nat_abs}
 use Rattle.fips204_base.specs.Residues.{residue}
 use Rattle.fips204_base.specs.Vectors.{row_value, vector_residues}
@@ -14,15 +14,14 @@ loop-j-preserved g c =
     let u = c.args.u.now in
     let row = c.args.row.now in
     let inside : j < length out = omega (arith, c.loop-j-test.true, c.loop-j.invariant.size) in
-    let sum : to_z w64 (of_z w64 c.place_sum.result) ≡ c.place_sum.result = search rules in
-    let value = to_z w32 (of_z w32 c.partial_reduce64.result) in
-    let reduced : value ≡ c.partial_reduce64.result = search rules in
+    let value = to_z w32 (of_z w32 c.place_sum.result) in
+    let read : value ≡ c.place_sum.result = search rules in
     let gathered : lanes_value g.row.L row c.values_at.result j ≡ row_value g.row.L row u j =
     ap (λ (n : ℕ). n % 8380417) (sum_equal g.row.L (λ k. vector_residues row k j * residue (get_or c.values_at.result k (pos 0))) (λ k. vector_residues row k j * vector_residues u k j) (λ k h. ap (λ (n : ℕ). vector_residues row k j * n) (c.values_at.ensures.values k h))) in
     record {
       size = length-set _ _ _ ∙ c.loop-j.invariant.size;
       values = row_written (λ p x. residue x ≡ row_value g.row.L row u p) out j value (pos 0)
-          inside c.loop-j.invariant.values (ap residue reduced ∙ c.partial_reduce64.ensures.congruent ∙ ap residue sum ∙ c.place_sum.ensures.value ∙ gathered);
+          inside c.loop-j.invariant.values (ap residue read ∙ c.place_sum.ensures.value ∙ gathered);
       small = λ p d. row_written (λ _ x. nat_abs x ≤ 8380416) out j value d
-          inside (λ r h. c.loop-j.invariant.small r d h) (rw reduced c.partial_reduce64.ensures.small) p;
+          inside (λ r h. c.loop-j.invariant.small r d h) (rw read c.place_sum.ensures.small) p;
     }

@@ -1,0 +1,18 @@
+use Rattle.std.proofs.Common.{◌≡◌, arith, to_z, of_z}
+use Rattle.std.specs.Int.{w32}
+use Rattle.std.proofs.lemmas.Int.{to_z-of_z}
+use Rattle.fips204_base.specs.Residues.{residue, from_mont}
+use Rattle.fips204_base.specs.Lanes.{lane}
+use Rattle.fips204_base.proofs.Residues.{residue_below}
+use Rattle.fips204_base.proofs.Reductions.{factor_taken}
+use Rattle.fips204_base.proofs.lanes.Lanes.times.Goals as goal
+
+pub returns-clause-value : goal.returns-clause-value
+returns-clause-value c = λ j h.
+    let x = lane c.args.self j in
+    let r = lane c.mont_products.result j in
+    let given : to_z w32 (of_z w32 c.args.factor) ≡ c.args.factor = to_z-of_z w32 c.args.factor c.ranges.factor in
+    let s = rw given at c.mont_products.ensures.congruent j h in
+    let product = factor_taken x r c.args.factor (from_mont (residue c.args.factor)) record { same = omega arith } s in
+    let below = residue_below r in
+    omega (arith, product.same, below)

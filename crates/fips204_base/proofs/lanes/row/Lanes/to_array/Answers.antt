@@ -1,6 +1,0 @@
-use Rattle.std.proofs.Common.{◌∙◌, arith}
-use Rattle.fips204_base.proofs.LaneRows.{readback}
-use Rattle.fips204_base.proofs.lanes.row.Lanes.to_array.Goals as goal
-
-pub returns : goal.returns
-returns c = readback c.self.inside.lanes (λ j h. c.self.invariant.fits j (omega (arith, h, c.self.invariant.eight))) ∙ c.self.view_is

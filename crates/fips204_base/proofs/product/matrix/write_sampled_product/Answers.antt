@@ -1,0 +1,38 @@
+use Rattle.std.proofs.Common.{◌≡◌, ◌≢◌, ℕ, ◌<◌, ◌∙◌, [], Err, arith, rules, refl}
+use native.Mathlib.Decide.{dec_lt}
+use Rattle.fips204_base.specs.declared.fault.Fault.TheVariants.{SamplingLimit}
+use Rattle.fips204_base.specs.Sampling.{sampled_row, sampled_matrix}
+use Rattle.fips204_base.specs.Transforms.{row_product}
+use Rattle.fips204_base.specs.Vectors.{plain_row, vector_coefficients}
+use Rattle.fips204_base.proofs.Sampled.{matrix-refused, all_present-each, row-within}
+use Rattle.fips204_base.proofs.product.matrix.write_sampled_product.Goals as goal
+
+pub returns-in_err-write_expanded_row : goal.returns-in_err-write_expanded_row
+returns-in_err-write_expanded_row g c =
+    let refused : c.from_residual.result ≡ Err SamplingLimit = search rules in
+    rw refused (matrix-refused {A = Unit {0}} g.G.Xof.front c.args.rho.now g.row.K g.row.L c.loop-r.r {result = Err SamplingLimit} c.loop-r-test.true c.in_err-write_expanded_row.ensures.refused.0 refl)
+
+pub write_row_product-requires : goal.write_row_product-requires
+write_row_product-requires g c =
+    (omega (arith, c.requires.shape.1), ((omega (arith, c.loop-r-test.true, c.requires.shape.0), c.requires.shape.1), row-within g.G.Xof.front c.args.rho.now g.row.L c.loop-r.r c.write_expanded_row.new.row c.in_ok-write_expanded_row.ensures.values))
+
+pub loop-r-preserved : goal.loop-r-preserved
+loop-r-preserved g c = record {
+  values = λ i h. elim (dec_lt i c.loop-r.r) [
+    | yes before ↦
+        let known = c.loop-r.invariant.values i before in
+        let other : i ≢ c.loop-r.r = λ e. omega (arith, before, e) in
+        (known.0, known.1, λ n l. c.write_row_product.ensures.kept i n other (omega (arith, before, c.loop-r-test.true, c.requires.shape.0)) l ∙ known.2 n l)
+    | no now ↦
+        let here : i ≡ c.loop-r.r = omega (arith, h, now) in
+        rw here (c.write_expanded_row.new.row, c.in_ok-write_expanded_row.ensures.values, c.write_row_product.ensures.product)
+  ];
+}
+
+pub returns : goal.returns
+unfolding sampled_matrix
+returns g c =
+    let end : c.loop-r.r ≡ g.row.K = omega (arith, c.loop-r-test.false, c.loop-r.auto.r-end) in
+    let row = sampled_row g.G.Xof.front c.args.rho.now g.row.L in
+    let rows = all_present-each (λ i x. (n : ℕ) → n < 256 → vector_coefficients c.loop-r.out i n ≡ row_product g.row.L (plain_row x) (vector_coefficients c.args.v.now) n) row g.row.K [] (λ i h. c.loop-r.invariant.values i (omega (arith, h, end))) in
+    (rows.0, rows.1, λ r n h l. rows.2 r h n l)

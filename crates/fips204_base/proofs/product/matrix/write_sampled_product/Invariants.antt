@@ -1,0 +1,12 @@
+use Rattle.std.proofs.Common.{ℕ, ◌≡◌, ◌<◌, List, Some}
+use Rattle.fips204_base.specs.declared.types.T.{T}
+use Rattle.fips204_base.specs.Sampling.{sampled_row}
+use Rattle.fips204_base.specs.Transforms.{row_product}
+use Rattle.fips204_base.specs.Vectors.{plain_row, vector_coefficients}
+use Rattle.fips204_base.proofs.product.matrix.write_sampled_product.Given as goal
+
+abbrev pub invariant-loop-r : goal.invariant-loop-r
+invariant-loop-r g l = record {
+  values : (i : ℕ) → i < l.r → (row : List T) × (sampled_row g.G.Xof.front l.rho g.row.L i ≡ Some row)
+      × ((n : ℕ) → n < 256 → vector_coefficients l.out i n ≡ row_product g.row.L (plain_row row) (vector_coefficients l.v) n);
+}
