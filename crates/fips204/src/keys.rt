@@ -15,7 +15,9 @@ mod prepared;
 
 use crate::ml_dsa;
 use crate::sets::{HasSet, KeySizes, Matrix, Set, SignatureSizes, sized_params};
-use crate::traits::{CryptoRngCore, DummyRng, KeyGen, Scheme, SerDes, Signer, Verifier, draw, draw_if};
+use crate::traits::{
+    CryptoRngCore, DummyRng, KeyGen, Scheme, SerDes, Signer, Verifier, draw, draw_if,
+};
 use crate::types::{KG, PreparedPrivateKey, PreparedPublicKey, PrivateKey, PublicKey, T0};
 use fips204_base::Fault;
 use fips204_base::encodings::{pk_encode, sk_encode};

@@ -143,7 +143,10 @@ fn values(number: u32) -> T
 /// A matrix of two rows times a vector, of fixed values: value by value the sum of the products modulo q.
 #[test]
 fn product_with_a_matrix(rt: HostRuntime) {
-    let matrix = [[values(1), values(2), values(3)], [values(4), values(5), values(6)]];
+    let matrix = [
+        [values(1), values(2), values(3)],
+        [values(4), values(5), values(6)],
+    ];
     let vector = [values(7), values(8), values(9)];
     let product = mat_vec_mul(&matrix, &vector);
     for i in 0..2usize {
@@ -153,7 +156,10 @@ fn product_with_a_matrix(rt: HostRuntime) {
                 let term = i64::from(matrix[i][j].0[n]).wrapping_mul(i64::from(vector[j].0[n]));
                 sum = sum.wrapping_add(term);
             }
-            assert_eq!(rt; product[i].0[n].rem_euclid(Q), sum.rem_euclid(8380417) as i32);
+            assert_eq!(rt;
+                product[i].0[n].rem_euclid(Q),
+                sum.rem_euclid(8380417) as i32
+            );
         }
     }
 }

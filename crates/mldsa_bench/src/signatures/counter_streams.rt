@@ -133,9 +133,18 @@ fn signs_in_turn<S: TestSet, K: Keys<S::Signature>>(
 ) -> Result<[bool; 5], Fail> {
     let (first, second) = (Some([0; 32]), Some([7; 32]));
     let (answers, texts) = match refused {
-        0 => ([None, first, second], [None, Some(texts[0]), Some(texts[1])]),
-        1 => ([first, None, second], [Some(texts[0]), None, Some(texts[1])]),
-        _ => ([first, second, None], [Some(texts[0]), Some(texts[1]), None]),
+        0 => (
+            [None, first, second],
+            [None, Some(texts[0]), Some(texts[1])],
+        ),
+        1 => (
+            [first, None, second],
+            [Some(texts[0]), None, Some(texts[1])],
+        ),
+        _ => (
+            [first, second, None],
+            [Some(texts[0]), Some(texts[1]), None],
+        ),
     };
     let mut rng = Listed {
         answers: &answers,
@@ -163,7 +172,10 @@ impl Suite for InTurn {
         let prepared = S::prepared(&keys)?;
         let texts = DRAWN[number];
         let plain = signs_in_turn::<S, S::Plain>(alloc, &keys, texts, refused)?;
-        Ok([plain, signs_in_turn::<S, S::Prepared>(alloc, &prepared, texts, refused)?])
+        Ok([
+            plain,
+            signs_in_turn::<S, S::Prepared>(alloc, &prepared, texts, refused)?,
+        ])
     }
 }
 

@@ -173,6 +173,9 @@ fn every_byte_is_read(rt: HostRuntime) -> Result<(), Fail> {
     let mut bytewise = Bytewise { reader };
     assert!(rt; comes_singly(&mut bytewise, &bytes[..256], 1)?);
     let mut rest = [0; 256];
-    assert_eq!(rt; (bytewise.read(&mut rest)?, rest.as_slice()), (256, &bytes[256..]));
+    assert_eq!(rt;
+        (bytewise.read(&mut rest)?, rest.as_slice()),
+        (256, &bytes[256..])
+    );
     Ok(())
 }
