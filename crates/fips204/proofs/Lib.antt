@@ -3,7 +3,6 @@ mod Ranges
 mod KeyGeneration
 mod WholeKeys
 mod SeedKeys
-mod Prepared
 mod RejectionChecks
 mod ChallengeProducts
 mod KeptHints
@@ -19,4 +18,5 @@ mod LongerFronts
 mod Worked
 -- what users may cite
 pub mod Callers
+pub mod Prepared
 pub mod Spellings

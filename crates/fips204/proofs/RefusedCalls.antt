@@ -1,11 +1,11 @@
 -- Answers and refusals of whole calls.
-use Rattle.std.proofs.Common.{Result, ◌≡◌, ◌≤◌, ◌↔◌, ℕ, List, length, Bool, true, false, IsTrue, Option, Some, None, Ok, refl, sym, ap, ◌∙◌, subst}
+use Rattle.std.proofs.Common.{Result, ◌≡◌, ◌≤◌, ◌↔◌, ◌⊎◌, inl, inr, ℕ, List, length, Bool, true, false, IsTrue, Option, Some, None, Ok, Err, refl, sym, ap, ◌∙◌, subst}
 use Rattle.std.specs.Prelude.{nat_lt, if◌then◌else◌}
 use Rattle.std.proofs.lemmas.Bool.{ltb-false}
 use Rattle.fips204_base.specs.declared.fault.Fault.{Fault}
 use Rattle.fips204.specs.Completeness.{AcceptedIfWhole}
 use Rattle.fips204.specs.Framing.{Input, framed_input, message_hash}
-use Rattle.fips204.specs.Refusals.{refused_or, input_fault, sign_input, AcceptsInput}
+use Rattle.fips204.specs.Refusals.{refused_or, input_fault, sign_input, AcceptsInput, DrawsUnless}
 use Rattle.fips204.specs.SigningInputs.{input_hash}
 
 -- two values are the same where the options that hold them are
@@ -64,3 +64,11 @@ accepted_input H tr mu input whole derives own accepts answer hashes e accepted 
     λ pk signature w d made.
     let given = given_input H tr (own pk) mu input (hashes pk d) e in
     record { allowed = given.0; accepted = subst (λ m. accepts pk m signature) given.1 (accepted pk signature w d made) }
+
+-- a call that draws from a generator which gives a request for 32 bytes these bytes, and no others, answers as over them
+pub drawn_seed : {S A : Type 0} (fault : Option Fault) (gives : S → ℕ → List ℕ → S → Type 0) (refuses : S → ℕ → S → Type 0) (before after : S) (refusal : Fault) (seed : List ℕ)
+    (answer : List ℕ → Result A Fault) (result : Result A Fault) → ((bytes : List ℕ) → gives before 32 bytes after → bytes ≡ seed) → (refuses before 32 after → ⊥)
+    → ((f : Fault) → fault ≡ Some f → answer seed ≡ Err f) → DrawsUnless fault gives refuses before after refusal answer result → result ≡ answer seed
+drawn_seed None gives refuses before after refusal seed answer result one never first (inl (bytes, given, size, is)) = is ∙ ap answer (one bytes given)
+drawn_seed None gives refuses before after refusal seed answer result one never first (inr (refused, is)) = absurd (never refused)
+drawn_seed (Some f) gives refuses before after refusal seed answer result one never first (same, is) = is ∙ sym (first f refl)

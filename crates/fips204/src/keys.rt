@@ -15,7 +15,9 @@ mod prepared;
 
 use crate::ml_dsa;
 use crate::sets::{HasSet, KeySizes, Matrix, Set, SignatureSizes, sized_params};
-use crate::traits::{CryptoRngCore, KeyGen, Scheme, SerDes, Signer, Verifier, draw, draw_if};
+use crate::traits::{
+    CryptoRngCore, DummyRng, KeyGen, Scheme, SerDes, Signer, Verifier, draw, draw_if,
+};
 use crate::types::{KG, PreparedPrivateKey, PreparedPublicKey, PrivateKey, PublicKey, T0};
 use fips204_base::Fault;
 use fips204_base::encodings::{pk_encode, sk_encode};
@@ -138,7 +140,7 @@ where
         message: &[u8],
         ctx: &[u8],
     ) -> Result<[u8; SIG_LEN], Fault> {
-        self.sign_hash(&ml_dsa::message_mu::<H>(&self.tr, message, ctx)?, seed)
+        self.try_sign_with_rng(&mut DummyRng { bytes: *seed }, message, ctx)
     }
 
     fn try_hash_sign_with_rng<R: CryptoRngCore>(
@@ -159,10 +161,7 @@ where
         ctx: &[u8],
         hash_oid: &[u8],
     ) -> Result<[u8; SIG_LEN], Fault> {
-        self.sign_hash(
-            &ml_dsa::digest_mu::<H>(&self.tr, hash, ctx, hash_oid)?,
-            seed,
-        )
+        self.try_hash_sign_with_rng(&mut DummyRng { bytes: *seed }, hash, ctx, hash_oid)
     }
 
     fn get_public_key(&self) -> Result<PublicKey<K, L, H, G>, Fault> {

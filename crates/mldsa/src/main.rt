@@ -4,8 +4,8 @@
 //! goes to standard error.
 #![tactic(auto)]
 
-use mldsa_engine::process::{end, words};
-use mldsa_engine::{Bytewise, Marked, from_words};
+use mldsa_engine::process::{run_words, words};
+use mldsa_engine::{Bytewise, Marked};
 use std::process::ExitCode;
 
 fn main(rt: HostRuntime) -> ExitCode {
@@ -14,9 +14,5 @@ fn main(rt: HostRuntime) -> ExitCode {
         reader: rt.reader(),
     });
     let mut output = Marked::new(rt.stdout());
-    let answer = match words(&rt) {
-        Ok(words) => from_words(rt.alloc(), words.as_slice(), &mut input, &mut output),
-        Err(fault) => Err(fault),
-    };
-    end(&rt, answer)
+    run_words(&rt, words(&rt), &mut input, &mut output)
 }

@@ -1,5 +1,5 @@
 -- The program's text: what a run answers and writes, by what its input spells.
-use Rattle.std.specs.Prelude.{◌≡◌, ◌<◌, ◌≤◌, ◌↔◌, ℕ, zero, suc, ◌+◌, ◌*◌, Bool, true, false, IsTrue, List, [], ◌∷◌, ◌++◌, length, get_or, map, take, All, codes, Option, Some, None, Result, Ok, Err, MatchResult}
+use Rattle.std.specs.Prelude.{◌≡◌, ◌<◌, ◌≤◌, ◌↔◌, ℕ, zero, suc, ◌+◌, ◌*◌, Bool, true, false, IsTrue, List, [], ◌∷◌, ◌++◌, length, get_or, map, take, All, codes, Option, Some, None, Result, Ok, Err, MatchResult, IfOk, IfErr}
 use Rattle.std.specs.List.{flat_map}
 use Rattle.std.specs.Io.KnownBytes.{Appends}
 use Rattle.hex.specs.Hex.{encode_lower}
@@ -9,10 +9,11 @@ use Rattle.fips204.specs.Faults.{words}
 use Rattle.fips204.specs.Keys.{PublicParts, IsPublicKeyOf, DecodesPrivate}
 use Rattle.fips204.specs.ParameterSets.{ParameterSet, set_44, set_65, set_87, public_key_length, private_key_length, signature_length}
 use Rattle.fips204.specs.Refusals.{generated, sign_message, VerifiesMessage}
-use Rattle.mldsa_engine.specs.Calls.{first_stream, second_stream, AreCall}
-use Rattle.mldsa_lines.specs.Devices.{MarkedDevice}
-use Rattle.mldsa_lines.specs.Lines.{after_lines, line_bytes, TakesLines, FaultOfLines, InTurn}
+use Rattle.mldsa_engine.specs.Calls.{first_stream, second_stream, AreCall, AreNoCall}
+use Rattle.mldsa_lines.specs.Devices.{KeepsWritten, MarkedDevice}
+use Rattle.mldsa_lines.specs.Lines.{after_lines, line_bytes, IsLineFault, TakesLines, FaultOfLines, InTurn}
 use Rattle.mldsa_lines.specs.declared.fault.RunFault.{RunFault}
+use Rattle.mldsa_lines.specs.declared.fault.RunFault.TheVariants.{Usage, Write}
 use Rattle.mldsa_engine.specs.declared.call.Task.{Task}
 use Rattle.mldsa_engine.specs.declared.call.Task.TheVariants.{Id, Keygen, Sign, Verify, Check, Batch}
 use Rattle.mldsa_engine.specs.declared.call.SetName.{SetName}
@@ -209,3 +210,12 @@ abbrev pub status_of : Result Bool RunFault → ℕ
 status_of (Ok true) = 0
 status_of (Ok false) = 1
 status_of (Err fault) = 2
+
+-- how a call is answered: with its usage where the words are none, else as the command is carried out, or with the first fault of
+-- the lines that it wants; and but for a failed write a fault has written nothing
+abbrev pub AnswersCall : {I O : Type 0} → List (List ℕ) → (I → Option (List ℕ)) → MarkedDevice I → MarkedDevice I
+    → (O → Option (List ℕ)) → MarkedDevice O → MarkedDevice O → Result Bool RunFault → Type 0
+AnswersCall words remaining given left contents before after answer = ((answer ≡ Err Usage) ↔ AreNoCall words)
+    × IfOk answer (RunsCall words remaining given left contents before after)
+    × IfErr answer (λ fault. IsLineFault fault → FaultOfCall words remaining given fault)
+    × IfErr answer (λ fault. ¬ (fault ≡ Write) → KeepsWritten contents before after)

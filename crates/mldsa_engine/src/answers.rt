@@ -11,11 +11,11 @@ ghost use Rattle.mldsa_engine.specs.InnerSteps.{AcceptsIfPrepared, JudgesEntries
 mod writing;
 
 use crate::call::{SetName, Task};
+use fips204::Fault;
 use fips204::sets::{HasSet, KeySizes, Matrix, Set, SignatureSizes};
 use fips204::traits::{KeyGen, SerDes, Signer, Verifier, pairwise_check};
 use fips204::types::{KG, PreparedPublicKey, PrivateKey, PublicKey};
 use fips204::xof::Xof;
-use fips204::{Fault, laws};
 use mldsa_lines::lines::read_lines;
 use mldsa_lines::{Marked, RunFault};
 use std::alloc::Global;
@@ -246,7 +246,6 @@ where
         ensures stops { IfErr result (StopsAt I.remaining input.old input.new 4 (entry_lines SIG_LEN count)) }
         ensures faults { IfErr result (λ fault. IsInputFault fault) }
     {
-        laws::prepared_keys();
         let key = Self::decode(key);
         let prepared = key.prepare();
         Self::judge_entries(alloc, &prepared, context, count, input)

@@ -1,13 +1,14 @@
 //! What the program takes from its process, and leaves to it.
 #![tactic(auto)]
 
-ghost use Rattle.std.specs.Prelude.{◌≡◌, ◌⊎◌, IfErr};
+ghost use Rattle.std.specs.Prelude.{◌≡◌, ◌⊎◌, Bool, false, Result, IfOk, IfErr, map, string_bytes};
 ghost use Rattle.std.specs.Process.{exit_status};
-ghost use Rattle.mldsa_engine.specs.ProgramText.{status_of};
+ghost use Rattle.mldsa_engine.specs.ProgramText.{AnswersCall, status_of};
 
-use mldsa_lines::RunFault;
+use crate::from_words;
+use mldsa_lines::{Marked, RunFault};
 use std::env;
-use std::io::ErrorKind;
+use std::io::{ErrorKind, Read, Write};
 use std::process::ExitCode;
 use std::rt::Env;
 
@@ -35,6 +36,25 @@ pub fn status(answer: Result<bool, RunFault>) -> u8
         Ok(true) => 0,
         Ok(false) => 1,
         Err(_) => 2,
+    }
+}
+
+/// Runs the call that a process's words name, over its reader and its writer, and ends the run: prints its fault, if there
+/// is one, as a line on standard error, and returns its exit status. Words that make no call read and write nothing.
+pub fn run_words<R: AllocGlobal + Eprint, I: Read, O: Write>(
+    rt: &R,
+    words: Result<Vec<String>, RunFault>,
+    input: &mut Marked<I>,
+    output: &mut Marked<O>,
+) -> ExitCode
+    requires unmarked { (input.old.failed ≡ false) × (output.old.failed ≡ false) }
+    ensures ran { IfOk words (λ words. (answer : Result Bool RunFault) × (exit_status result ≡ status_of answer)
+        × AnswersCall (map string_bytes words.items) I.remaining input.old input.new O.contents output.old output.new answer) }
+    ensures untouched { IfErr words (λ _. (exit_status result ≡ 2) × (input.new ≡ input.old) × (output.new ≡ output.old)) }
+{
+    match words {
+        Ok(words) => end(rt, from_words(rt.alloc(), words.as_slice(), input, output)),
+        Err(fault) => end(rt, Err(fault)),
     }
 }
 

@@ -7,7 +7,7 @@ ghost use Rattle.fips204.specs.Acceptance.{Verifies};
 ghost use Rattle.fips204.specs.Completeness.{AcceptedIfWhole, HashComplete};
 ghost use Rattle.fips204.specs.Keys.{IsWhole, DecodesPrivate};
 ghost use Rattle.fips204.specs.ParameterSets.{set_44, set_65, set_87};
-ghost use Rattle.fips204.specs.Prepared.{prepared_private, sign_message_prepared, IsWholePrepared, VerifiesDigestPrepared, public_of_prepared};
+ghost use Rattle.fips204.specs.Prepared.{prepared_private, prepared_public, sign_message_prepared, IsWholePrepared, VerifiesDigestPrepared, public_of_prepared};
 ghost use Rattle.fips204.specs.Refusals.{generated, derived, sign_message, sign_digest, OnlySamplingLimit, VerifiesMessage, VerifiesDigest, DrawsIf};
 ghost use Rattle.fips204.specs.Signing.{sign};
 ghost use Rattle.fips204_base.specs.Encodings.{public_key_bytes};
@@ -108,6 +108,24 @@ pub fn prepared_at_65<H: Xof, G: Xof>(
     key: &ml_dsa_65::PrivateKey<H, G>,
 ) -> Result<ml_dsa_65::PreparedPrivateKey<H>, Fault>
     ensures { result ≡ prepared_private set_65 G.front key.now }
+{
+    key.prepare()
+}
+
+/// Prepares a private key of set 87.
+pub fn prepared_at_87<H: Xof, G: Xof>(
+    key: &ml_dsa_87::PrivateKey<H, G>,
+) -> Result<ml_dsa_87::PreparedPrivateKey<H>, Fault>
+    ensures { result ≡ prepared_private set_87 G.front key.now }
+{
+    key.prepare()
+}
+
+/// Prepares a public key of set 87.
+pub fn public_prepared_at_87<H: Xof, G: Xof>(
+    key: &ml_dsa_87::PublicKey<H, G>,
+) -> Result<ml_dsa_87::PreparedPublicKey<H>, Fault>
+    ensures { result ≡ prepared_public set_87 G.front key.now }
 {
     key.prepare()
 }

@@ -9,7 +9,7 @@ ghost use Rattle.fips204.specs.Refusals.{message_fault, digest_fault, DrawsIf, D
 
 use crate::ml_dsa;
 use crate::sets::{HasSet, Matrix, Set, SignatureSizes, sized_params};
-use crate::traits::{CryptoRngCore, draw, draw_if};
+use crate::traits::{CryptoRngCore, DummyRng, draw, draw_if};
 use crate::types::{PreparedPrivateKey, PreparedPublicKey, SigningKey};
 use fips204_base::Fault;
 use fips204_base::xof::Xof;
@@ -68,7 +68,7 @@ where
         ensures accepted { AcceptedIfWholePrepared S.set self.now
             (λ pk signature. VerifiesMessagePrepared S.set H.front pk message.now signature ctx.now) result }
     {
-        self.sign_hash(&ml_dsa::message_mu::<H>(&self.key.tr, message, ctx)?, seed)
+        self.try_sign_with_rng(&mut DummyRng { bytes: *seed }, message, ctx)
     }
 
     /// Signs a digest (Algorithm 4), as `Signer::try_hash_sign_with_rng`.
@@ -100,10 +100,7 @@ where
         ensures accepted { AcceptedIfWholePrepared S.set self.now
             (λ pk signature. VerifiesDigestPrepared S.set H.front pk hash.now signature ctx.now hash_oid.now) result }
     {
-        self.sign_hash(
-            &ml_dsa::digest_mu::<H>(&self.key.tr, hash, ctx, hash_oid)?,
-            seed,
-        )
+        self.try_hash_sign_with_rng(&mut DummyRng { bytes: *seed }, hash, ctx, hash_oid)
     }
 
     /// Signs a framed message (Algorithm 7), as `PrivateKey::sign_internal`.

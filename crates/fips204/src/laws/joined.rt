@@ -3,12 +3,14 @@
 
 ghost use Rattle.std.specs.Prelude.{◌≡◌, true, Ok, Err, IfOk, MatchResult};
 ghost use Rattle.fips204.specs.Keys.{IsWhole};
-ghost use Rattle.fips204.specs.ParameterSets.{set_44};
+ghost use Rattle.fips204.specs.ParameterSets.{set_44, set_65, set_87};
 ghost use Rattle.fips204.specs.Refusals.{generated};
+ghost use Rattle.fips204.specs.Sets.{set_of};
 
 use super::{prepared_keys, signed_is_accepted};
 use crate::ml_dsa_44::{KG, PrivateKey, PublicKey};
 use crate::traits::{KeyGen, Signer};
+use crate::types::{ML_DSA_44, ML_DSA_65, ML_DSA_87, Params};
 use crate::xof::Xof;
 use fips204_base::Fault;
 
@@ -46,4 +48,11 @@ pub(crate) fn prepared_accepts<H: Xof, G: Xof>(
     let public = private.get_public_key()?.prepare()?;
     let signature = private.prepare()?.try_sign_with_seed(rnd, message, ctx)?;
     Ok(public.verify(message, &signature, ctx))
+}
+
+/// The rows of the three sets, each under its name. A clause of `constants` cannot name them.
+pub(crate) fn named_rows() -> (Params, Params, Params)
+    ensures { (set_of result.0 ≡ set_44) × (set_of result.1 ≡ set_65) × (set_of result.2 ≡ set_87) }
+{
+    (ML_DSA_44, ML_DSA_65, ML_DSA_87)
 }

@@ -7,7 +7,7 @@ ghost use Rattle.std.specs.List.{All};
 use crate::arithmetic::coefficients::reduced;
 use fips204::Q;
 use fips204::hashing::sample_in_ball;
-use fips204::helpers::{Count, add_vector_ntt, infinity_norm, to_mont};
+use fips204::helpers::{Count, add_vector_ntt, infinity_norm, mat_vec_mul, to_mont};
 use fips204::ntt::{inv_ntt, ntt};
 use fips204::types::{R, R0, T};
 use fips204::xof::Fill;
@@ -91,7 +91,14 @@ fn product(a: &[i32; 256], b: &[i32; 256]) -> [i32; 256] {
 }
 
 fn inverse(w: &[i32; 256]) -> [i32; 256] {
-    inv_ntt(&[within(w)], &mut Count::new())[0]
+    counted_inverse(w).0
+}
+
+/// The inverse transform, and the products and sums that it took.
+fn counted_inverse(w: &[i32; 256]) -> ([i32; 256], [u64; 2]) {
+    let mut count = Count::new();
+    let [out] = inv_ntt(&[within(w)], &mut count);
+    (out, [count.products(), count.sums()])
 }
 
 /// The product, by transforms in Montgomery form.
@@ -112,17 +119,49 @@ fn agrees(number: u32) -> bool {
 }
 
 /// X^255 times X is q - 1 at index 0, also in Montgomery form; fixed polynomials, and all coefficients q - 1, agree
-/// with a product by double sums. Inverse transforms of 256 times q - 1 and 256 times 1 - q.
+/// with a product by double sums. Inverse transforms of 256 times q - 1 and 256 times 1 - q, in 1024 products each.
 #[test]
 fn products_of_polynomials(rt: HostRuntime) {
     let (last, x, most) = (monomial(255, 1), monomial(1, 1), [8380416; 256]);
     let agree = [1, 77, 40000, 1234567890].map(agrees);
     let most_agree = product(&most, &most) == slow_product(&most, &most);
     let products = [product(&last, &x), product_of_transforms(&last, &x)];
-    let inverses = [inverse(&most), inverse(&[-8380416; 256])];
+    let inverses = [counted_inverse(&most), counted_inverse(&[-8380416; 256])];
     let lowest = monomial(0, 8380416);
-    let wanted = (([true; 4], true), [lowest; 2], [lowest, monomial(0, 1)]);
+    let ends = [(lowest, [1024, 2048]), (monomial(0, 1), [1024, 2048])];
+    let wanted = (([true; 4], true), [lowest; 2], ends);
     assert_eq!(rt; ((agree, most_agree), products, inverses), wanted);
+}
+
+/// The values of a transform that is fixed by its number.
+fn values(number: u32) -> T
+    ensures { All (λ x. nat_abs x ≤ 8380416) result.0 }
+{
+    T(within(&spread(number)))
+}
+
+/// A matrix of two rows times a vector, of fixed values: value by value the sum of the products modulo q.
+#[test]
+fn product_with_a_matrix(rt: HostRuntime) {
+    let matrix = [
+        [values(1), values(2), values(3)],
+        [values(4), values(5), values(6)],
+    ];
+    let vector = [values(7), values(8), values(9)];
+    let product = mat_vec_mul(&matrix, &vector);
+    for i in 0..2usize {
+        for n in 0..256usize {
+            let mut sum = 0i64;
+            for j in 0..3usize {
+                let term = i64::from(matrix[i][j].0[n]).wrapping_mul(i64::from(vector[j].0[n]));
+                sum = sum.wrapping_add(term);
+            }
+            assert_eq!(rt;
+                product[i].0[n].rem_euclid(Q),
+                sum.rem_euclid(8380417) as i32
+            );
+        }
+    }
 }
 
 /// The challenge over bytes 55, by double sums: times coefficients 2 it is 2, -2, and then -6 and -2 in turn. Its

@@ -54,6 +54,16 @@ fn public_keys_come_back(rt: HostRuntime) {
     assert_eq!(rt; (rising, filled), ([Ok(true); 3], [Ok(true); 5]));
 }
 
+/// A copy of a private key has the key's bytes.
+#[test]
+fn private_keys_are_copied(rt: HostRuntime) -> Result<(), Fail> {
+    let key = Private44::try_from_bytes(private_44())?;
+    let copy = key.clone()?;
+    let found = [copy.into_bytes(), key.into_bytes()];
+    assert!(rt; found == [private_44(); 2]);
+    Ok(())
+}
+
 /// Whether the recorded keys come back; and the first value of a field, up to the largest, with which the private key
 /// neither comes back, as up to 2 eta, nor is `KeyRange`, as above it.
 fn wrong_value<S: TestSet>(

@@ -5,7 +5,7 @@
 use crate::keys::sets::{
     Keys, MESSAGES, PairCall, SEEDS, Suite, TestSet, Text, at_each_set, change,
 };
-use crate::signatures::drawing::RefusesAt;
+use crate::signatures::drawing::{Listed, RefusesAt};
 use crate::values::{has_text, recorded};
 use fips204::Fault;
 use fips204::pre_hash::SHA2_256;
@@ -20,6 +20,22 @@ const DIGESTS: [&str; 3] = [
     "4309fb4dd5abe94f0f311fc405d50c307e428f4ca843ab68bacc8d87e084f95b",
     "542f532c1bf976d659e5c6dd8eeb5c4da20bb5c06cb1f6eaf31cd434c2441e6f",
     "91bf84c83703a7204ddbf8f96f6f16c93201c72afb6296ed2f4575970081d8e5",
+];
+
+/// The SHA-256 of the signatures of the message `00` with 32 bytes 00 and with 32 bytes 07 at each set, in hex.
+const DRAWN: [[&str; 2]; 3] = [
+    [
+        "57e50e2dc7a32343b6860eee95fff548b1ad8a7fa5eee44337566cca14997d03",
+        "c4096a837008a0b2c47a7940c07d55d996606580f531c95cd4069902fb0cb37b",
+    ],
+    [
+        "544dae9e9b6887bb93bd08c9671858d1a3ad07857cf8ed5cc3d8ba732d3766b9",
+        "3c56a7bc5650fe5bfd7c301f4986b67106a40b92deac05616843ff28a34667db",
+    ],
+    [
+        "ac2234539bf12864151e2cb882c4b0ac3406499fa9ee6782fdb619da6fd92bdb",
+        "7470ba4857abacb07f20cb9f796750f5fe32ab5c69b3e287d9558f1874100f63",
+    ],
 ];
 
 /// Whether keys sign so with 32 bytes 00, given and drawn; and whether they accept the signature, of another message,
@@ -87,6 +103,90 @@ fn bytes_of_each_set(rt: HostRuntime) -> Result<(), Fail> {
     let wanted = [([[true; 2]; 2], [true; 2], [verdicts; 2], [verdicts; 2]); 3];
     at_each_set::<Sha256Ctr, Sha512Ctr, Bytes>(&rt, &suite, &wanted)?;
     at_each_set::<Sha256CtrLong, Sha512CtrLong, Bytes>(&rt, &suite, &wanted)
+}
+
+/// Whether the message `00` is signed with the generator's next answer as this text says, by SHA-256; or, without a text,
+/// whether the generator's refusal is the answer.
+fn signs_next<S: TestSet, K: Keys<S::Signature>>(
+    alloc: Global,
+    keys: &K,
+    rng: &mut Listed,
+    text: Option<&str>,
+) -> Result<bool, Fail> {
+    match (keys.drawn(rng, true, &Text::Message(&[0], &[])), text) {
+        (Ok(mut signature), Some(text)) => {
+            let hash = Sha256::digest(S::bytes(&mut signature));
+            Ok(has_text(alloc, hash.as_slice(), text)?)
+        }
+        (Err(fault), None) => Ok(fault == Fault::SignRng),
+        _ => Ok(false),
+    }
+}
+
+/// Whether three calls sign in turn with the answers of a list that has a refusal at this place, and the list is then
+/// used up.
+fn signs_in_turn<S: TestSet, K: Keys<S::Signature>>(
+    alloc: Global,
+    keys: &K,
+    texts: [&str; 2],
+    refused: usize,
+) -> Result<[bool; 5], Fail> {
+    let (first, second) = (Some([0; 32]), Some([7; 32]));
+    let (answers, texts) = match refused {
+        0 => (
+            [None, first, second],
+            [None, Some(texts[0]), Some(texts[1])],
+        ),
+        1 => (
+            [first, None, second],
+            [Some(texts[0]), None, Some(texts[1])],
+        ),
+        _ => (
+            [first, second, None],
+            [Some(texts[0]), Some(texts[1]), None],
+        ),
+    };
+    let mut rng = Listed {
+        answers: &answers,
+        asked: 0,
+    };
+    let mut found = [false; 5];
+    for call in 0..3usize {
+        found[call] = signs_next::<S, K>(alloc, keys, &mut rng, texts[call])?;
+    }
+    found[3] = rng.asked == 3;
+    found[4] = signs_next::<S, K>(alloc, keys, &mut rng, None)?;
+    Ok(found)
+}
+
+/// What `signs_in_turn` finds with a refusal at this place, with plain and with prepared keys.
+#[derive(Drop)]
+struct InTurn(Global, usize);
+
+impl Suite for InTurn {
+    type Answer = [[bool; 5]; 2];
+
+    fn at<S: TestSet>(&self, number: usize) -> Result<Self::Answer, Fail> {
+        let InTurn(alloc, refused) = *self;
+        let keys = S::pair(&[0; 32])?;
+        let prepared = S::prepared(&keys)?;
+        let texts = DRAWN[number];
+        let plain = signs_in_turn::<S, S::Plain>(alloc, &keys, texts, refused)?;
+        Ok([
+            plain,
+            signs_in_turn::<S, S::Prepared>(alloc, &prepared, texts, refused)?,
+        ])
+    }
+}
+
+/// Two signatures with two draws from a list, which refuses before, between or after them, and then has no more answers.
+#[test]
+fn draws_from_a_list(rt: HostRuntime) -> Result<(), Fail> {
+    for refused in 0..3usize {
+        let suite = InTurn(rt.alloc(), refused);
+        at_each_set::<Sha256Ctr, Sha512Ctr, InTurn>(&rt, &suite, &[[[true; 5]; 2]; 3])?;
+    }
+    Ok(())
 }
 
 /// The signatures of the first messages, so many, one call for each, and which of them are accepted.

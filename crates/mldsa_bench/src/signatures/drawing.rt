@@ -1,4 +1,5 @@
-//! Calls that draw: a generator that refuses at the first, the second or the third of four.
+//! Calls that draw: a generator that refuses at the first, the second or the third of four, and one that answers from a
+//! list.
 #![tactic(auto)]
 
 ghost use Rattle.std.specs.Prelude.{◌≡◌};
@@ -52,6 +53,38 @@ impl CryptoRngCore for RefusesAt {
             out.fill(0xaa);
         }
         Err(RngError)
+    }
+}
+
+/// A generator that answers from a list, one entry a call: 32 bytes, or a refusal. It refuses every call that asks for
+/// another number of bytes, and every call after the list. It counts the calls that the list answers.
+#[derive(Drop)]
+pub struct Listed<'a> {
+    pub answers: &'a [Option<[u8; 32]>],
+    pub asked: usize,
+}
+
+impl CryptoRngCore for Listed<'_> {
+    ghost use Rattle.std.specs.Prelude.{◌≡◌, ◌≢◌, ◌<◌, ◌+◌, ◌⊎◌, Some, None, length, slice_index_or};
+
+    ghost gives = { λ before asked bytes after. (asked ≡ 32) × (slice_index_or before.answers.now before.asked None ≡ Some bytes)
+        × (after.asked ≡ before.asked + 1) × (after.answers.now ≡ before.answers.now) };
+
+    ghost refuses = { λ before asked after. ((asked ≢ 32) ⊎ (slice_index_or before.answers.now before.asked None ≡ None))
+        × (before.asked < length before.answers.now → after.asked ≡ before.asked + 1) × (after.answers.now ≡ before.answers.now) };
+
+    fn try_fill_bytes(&mut self, out: &mut [u8]) -> Result<(), RngError> {
+        let Some(answer) = self.answers.get(self.asked) else {
+            return Err(RngError);
+        };
+        self.asked += 1;
+        match answer {
+            Some(bytes) if out.len() == 32 => {
+                out.copy_from_slice(bytes);
+                Ok(())
+            }
+            _ => Err(RngError),
+        }
     }
 }
 

@@ -1,4 +1,4 @@
-//! Samplers: over fronts of 4096, 4097, 5000 and 8192 bytes, which their limits follow, and over the counter streams.
+//! Samplers: over fronts of 4096, 4097, 4100, 5000 and 8192 bytes, which their limits follow, and over the counter streams.
 #![tactic(auto)]
 
 ghost use Rattle.std.specs.Prelude.{◌<◌};
@@ -48,7 +48,7 @@ fn challenge_with(place: usize, odd: i32) -> [i32; 256]
 }
 
 /// An entry whose 256th value comes from the last triple that a quarter of the front allows is there, and from the next
-/// one it is not; past the limit of 4096 bytes it is there over 8192.
+/// one it is not; past the limit of 4096 bytes it is there over 4100, whose limit is one triple more, and over 8192.
 #[test]
 fn entries_of_longer_fronts(rt: HostRuntime) {
     // Every fourth triple is kept: 256 of the first 1024, 255 of them, or 255 and triple 1024.
@@ -57,22 +57,43 @@ fn entries_of_longer_fronts(rt: HostRuntime) {
         entry::<FourthTriplesTo<12, 4096>, 0>(),
         entry::<FourthTriplesTo<12, 3072>, 0>(),
         entry::<FourthTriplesTo<12, 3072>, 1>(),
+        entry::<FourthTriplesTo<12, 3072>, 4>(),
         entry::<FourthTriplesTo<12, 3072>, 4096>(),
     ];
     // 256 triples of zeros, the last at the limit or one past it.
-    let last = [turn::<2304, 0>(), turn::<2304, 1>(), turn::<2982, 904>()];
-    let past = [turn::<2307, 0>(), turn::<2307, 1>(), turn::<2985, 904>()];
+    let last = [
+        turn::<2304, 0>(),
+        turn::<2304, 1>(),
+        turn::<2307, 4>(),
+        turn::<2982, 904>(),
+    ];
+    let past = [
+        turn::<2307, 0>(),
+        turn::<2307, 1>(),
+        turn::<2310, 4>(),
+        turn::<2985, 904>(),
+    ];
     let (zero, none) = (Ok([0; 256]), Err(LIMIT));
-    let wanted = ([zero, none, none, none, zero], [zero; 3], [none; 3]);
+    let wanted = ([zero, none, none, none, zero, zero], [zero; 4], [none; 4]);
     assert_eq!(rt; (fourth, last, past), wanted);
 }
 
 /// Small polynomials at their limit and one byte past it, which is within that of 8192 bytes.
 #[test]
 fn small_polynomials_of_longer_fronts(rt: HostRuntime) {
-    let last = [small::<896, 0>(), small::<896, 1>(), small::<1122, 904>()];
-    let past = [small::<897, 0>(), small::<897, 1>(), small::<1123, 904>()];
-    let wanted = ([Ok([2; 256]); 3], [Err(LIMIT); 3], Ok([2; 256]));
+    let last = [
+        small::<896, 0>(),
+        small::<896, 1>(),
+        small::<897, 4>(),
+        small::<1122, 904>(),
+    ];
+    let past = [
+        small::<897, 0>(),
+        small::<897, 1>(),
+        small::<898, 4>(),
+        small::<1123, 904>(),
+    ];
+    let wanted = ([Ok([2; 256]); 4], [Err(LIMIT); 4], Ok([2; 256]));
     assert_eq!(rt; (last, past, small::<897, 4096>()), wanted);
 }
 
@@ -82,13 +103,15 @@ fn challenges_of_longer_fronts(rt: HostRuntime) {
     let first = [ball::<0xff, 993, 0>(), ball::<0xff, 994, 0>()];
     let past = [ball::<0x55, 994, 0>(), ball::<0x55, 994, 1>()];
     let last = [ball::<0x55, 993, 1>(), ball::<0x55, 994, 4096>()];
+    let fourth = [ball::<0x55, 994, 4>(), ball::<0x55, 995, 4>()];
     let longer = [ball::<0x55, 1219, 904>(), ball::<0x55, 1220, 904>()];
     let filled = challenge::<Fill<0x55>>(&[0x55; 32]);
     let (same, turns) = (challenge_with(0, -1), challenge_with(0, 1));
     let (turns, none) = (Ok(turns), Err(LIMIT));
-    let wanted = [[Ok(same), none], [none; 2], [turns; 2], [turns, none]];
+    let ends = [turns, none];
+    let wanted = [[Ok(same), none], [none; 2], [turns; 2], ends, ends];
     let wanted = (wanted, Ok(challenge_with(85, 1)));
-    assert_eq!(rt; ([first, past, last, longer], filled), wanted);
+    assert_eq!(rt; ([first, past, last, fourth, longer], filled), wanted);
 }
 
 /// Bytes 10: at eta 2 the coefficients 2, 1 in turn, also in both vectors of `ExpandS`, at eta 4 the coefficients 4, 3.

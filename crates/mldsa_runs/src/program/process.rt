@@ -86,6 +86,25 @@ fn has_words(
 
 const CALL: [&[u8]; 4] = [b"mldsa", b"fill55", b"id", b"44"];
 
+/// Each of the words of a call, at its place.
+const CALLS: [[&[u8]; 4]; 6] = [
+    [b"mldsa", b"sha2", b"id", b"44"],
+    [b"mldsa", b"fill00", b"keygen", b"65"],
+    [b"mldsa", b"fill55", b"sign", b"87"],
+    [b"mldsa", b"fillff", b"verify", b"44"],
+    [b"mldsa", b"sha2", b"check", b"65"],
+    [b"mldsa", b"sha2", b"batch", b"87"],
+];
+
+const TEXTS: [[&str; 3]; 6] = [
+    ["sha2", "id", "44"],
+    ["fill00", "keygen", "65"],
+    ["fill55", "sign", "87"],
+    ["fillff", "verify", "44"],
+    ["sha2", "check", "65"],
+    ["sha2", "batch", "87"],
+];
+
 /// The name of the program is left out of its words, and nothing else.
 #[test]
 fn words_after_the_name_of_the_program(rt: HostRuntime) {
@@ -97,6 +116,15 @@ fn words_after_the_name_of_the_program(rt: HostRuntime) {
         has_words(alloc, &[b"mldsa", b"\xff"], &[]),
     ];
     assert_eq!(rt; found, [Ok(true), Ok(true), Ok(true), Err(RunFault::Usage)]);
+}
+
+/// Each of the thirteen words of a call is given as it is.
+#[test]
+fn each_word_of_a_call(rt: HostRuntime) -> Result<(), Fail> {
+    for (call, texts) in CALLS.iter().zip(&TEXTS) {
+        assert!(rt; has_words(rt.alloc(), call, texts)?, "{texts:?}");
+    }
+    Ok(())
 }
 
 /// Whether reads for one byte return these, after so many calls of the reader below.
@@ -127,5 +155,27 @@ fn single_bytes_come_from_a_buffer(rt: HostRuntime) -> Result<(), Fail> {
     assert_eq!(rt; (bytewise.read(&mut eight)?, eight), (8, *b"ytes to "));
     assert!(rt; comes_singly(&mut bytewise, b"read", 3)?);
     assert!(rt; bytewise.read(&mut [0])? == 0);
+    Ok(())
+}
+
+/// Each of the 256 bytes is read as it is, alone and in one piece.
+#[test]
+fn every_byte_is_read(rt: HostRuntime) -> Result<(), Fail> {
+    let mut bytes = [0u8; 512];
+    for i in 0..512usize {
+        bytes[i] = (i % 256) as u8;
+    }
+    let reader = Trickle {
+        bytes: &bytes,
+        pace: WHOLE,
+    };
+    let reader = BufReader::with_capacity(rt.alloc(), 256, reader)?;
+    let mut bytewise = Bytewise { reader };
+    assert!(rt; comes_singly(&mut bytewise, &bytes[..256], 1)?);
+    let mut rest = [0; 256];
+    assert_eq!(rt;
+        (bytewise.read(&mut rest)?, rest.as_slice()),
+        (256, &bytes[256..])
+    );
     Ok(())
 }

@@ -1,15 +1,7 @@
-use Rattle.std.proofs.Common.{rules, List, ℕ}
-use Rattle.fips204.specs.Acceptance.{Verifies}
-use Rattle.fips204.specs.Framing.{plain}
-use Rattle.fips204.specs.Keys.{IsWhole, PublicParts}
-use Rattle.fips204.specs.Refusals.{derived}
-use Rattle.fips204.proofs.RefusedCalls.{accepted_input}
-use Rattle.fips204.proofs.WholeKeys.{derived_hash}
+use Rattle.std.proofs.Common.{refl, rules}
+use Rattle.fips204.proofs.RefusedCalls.{drawn_seed}
 use Rattle.fips204.proofs.keys.PrivateKeySigner.try_sign_with_seed.Goals as goal
 
-pub returns-clause-accepted : goal.returns-clause-accepted
-returns-clause-accepted g c =
-    let p = g.S.Set.set in
-    let sk = c.args.self.now in
-    accepted_input g.H.Xof.front sk.tr c.in_ok-message_mu.field-0 (plain c.args.message.now c.args.ctx.now) (IsWhole p g.G.Xof.front sk) (derived p g.G.Xof.front sk) (λ (pk : PublicParts). pk.tr)
-    (λ (pk : PublicParts) (mu signature : List ℕ). Verifies p g.H.Xof.front g.G.Xof.front pk mu signature) c.sign_hash.result (λ pk d. derived_hash p g.G.Xof.front sk pk d) (search rules) c.sign_hash.ensures.accepted
+pub returns-clause-answer : goal.returns-clause-answer
+returns-clause-answer g c =
+    drawn_seed _ _ _ _ _ _ c.args.seed.now _ c.try_sign_with_rng.result (λ bytes given. search (given, rules)) (λ refused. search (refused, rules)) (λ f is. rw is refl) c.try_sign_with_rng.ensures.answer

@@ -1,8 +1,7 @@
-use Rattle.std.proofs.Common.{rules}
-use Rattle.fips204.specs.Framing.{hashed}
-use Rattle.fips204.proofs.Prepared.{input_accepted_prepared}
+use Rattle.std.proofs.Common.{refl, rules}
+use Rattle.fips204.proofs.RefusedCalls.{drawn_seed}
 use Rattle.fips204.proofs.types.prepared.PreparedPrivateKey.try_hash_sign_with_seed.Goals as goal
 
-pub returns-clause-accepted : goal.returns-clause-accepted
-returns-clause-accepted g c =
-    input_accepted_prepared g.S.Set.set g.H.Xof.front c.args.self.now (hashed c.args.hash.now c.args.ctx.now c.args.hash_oid.now) c.in_ok-digest_mu.field-0 c.sign_hash.result (search rules) c.sign_hash.ensures.accepted
+pub returns-clause-answer : goal.returns-clause-answer
+returns-clause-answer g c =
+    drawn_seed _ _ _ _ _ _ c.args.seed.now _ c.try_hash_sign_with_rng.result (λ bytes given. search (given, rules)) (λ refused. search (refused, rules)) (λ f is. rw is refl) c.try_hash_sign_with_rng.ensures.answer
