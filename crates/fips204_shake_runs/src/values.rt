@@ -11,8 +11,10 @@ pub static ACCUMULATED: [&str; 3] = [
 ];
 
 /// The SHA-256 of the public key, the private key and the signature of the message `asdf` that the tests of the Rust crate
-/// fips204 0.5.0 have in full: drawn from ChaCha with 8 rounds, seeded with the number 123.
-pub const BROWSER: &str = "9ed75710bab8febd1d02d9300e437cf64aee7723a452b6581961409edb120f9c9feab291cebeea4957b51105c2baf18a1b070ef7c36a4771dc37aec0d28c3cbb0ba58893a99f4ffba6764bc3a7e3f34ec796f2ded5a11d8a5733ac792b607d9c";
+/// fips204 0.5.0 have in full: drawn from ChaCha with 8 rounds, seeded with the number 123. What is
+/// after them is not used.
+pub const BROWSER: &str =
+    "9ed75710bab8febd1d02d9300e437cf64aee7723a452b6581961409edb120f9c9feab291cebeea4957b51105c2baf18a1b070ef7c36a4771dc37aec0d28c3cbb0ba58893a99f4ffba6764bc3a7e3f34ec796f2ded5a11d8a5733ac792b607d9c00000000000000000000000000000000000000000000000000000000000000000000000000000000000000000000000000000000000000000000000000000000";
 
 /// Rows of ML-DSA-44: what the Rust crate fips204 0.5.0 gives over another SHAKE, and OpenSSL 4.0.0 accepts. In hex a seed,
 /// random bytes, the SHA-256 of the public key, of the private key and of the signature, then after a space each the context
