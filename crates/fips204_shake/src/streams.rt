@@ -4,7 +4,8 @@
 ghost use Rattle.std.specs.Prelude.{◌≡◌, ℕ, List};
 ghost use Rattle.std.specs.List.{flat_map};
 ghost use Rattle.std.proofs.Common.{rules};
-ghost use Rattle.shake.specs.Shake.{shake, IsRate};
+ghost use Rattle.shake.specs.Shake.{shake};
+ghost use Rattle.shake.specs.State.{IsRate};
 ghost use Rattle.fips204_shake.specs.Fronts.{shake256_front, shake128_front, length-shake256_front, length-shake128_front};
 
 use fips204::xof::{Xof, XofReader};
@@ -17,12 +18,12 @@ pub const FRONT: usize = 1_048_576;
 
 /// A reader of a front: so many bytes of SHAKE with blocks of `R` bytes.
 #[derive(Drop)]
-pub struct FrontReader<const R: usize> {
+pub struct SpongeReader<const R: usize> {
     output: ShakeReader<R>,
     left: usize,
 }
 
-impl<const R: usize> Model for FrontReader<R> {
+impl<const R: usize> Model for SpongeReader<R> {
     ghost use Rattle.std.specs.Prelude.{ℕ, List};
     ghost use Rattle.shake.specs.Pieces.{next};
 
@@ -31,9 +32,9 @@ impl<const R: usize> Model for FrontReader<R> {
     ghost view = { λ reader. next reader.output reader.left };
 }
 
-impl<const R: usize> FrontReader<R> {
+impl<const R: usize> SpongeReader<R> {
     /// A reader of the front of the joined parts.
-    fn open(parts: &[&[u8]]) -> FrontReader<R>
+    fn open(parts: &[&[u8]]) -> SpongeReader<R>
         requires { IsRate R }
         ensures { result ≡ shake R (flat_map (λ part. part.now) parts.now) 1048576 }
     {
@@ -41,14 +42,14 @@ impl<const R: usize> FrontReader<R> {
         for part in parts {
             hasher.update(part);
         }
-        FrontReader {
+        SpongeReader {
             output: hasher.finalize_xof(),
             left: FRONT,
         }
     }
 }
 
-impl<const R: usize> XofReader for FrontReader<R> {
+impl<const R: usize> XofReader for SpongeReader<R> {
     ghost rest = { λ bytes. bytes };
 
     fn left(&self) -> usize {
@@ -68,7 +69,7 @@ pub struct Shake256Stream;
 pub struct Shake128Stream;
 
 impl Xof for Shake256Stream {
-    type Reader = FrontReader<136>;
+    type Reader = SpongeReader<136>;
 
     const FRONT: usize = FRONT;
 
@@ -82,13 +83,13 @@ impl Xof for Shake256Stream {
 
     ghost front_most = { Prim.search rules };
 
-    fn open(parts: &[&[u8]]) -> FrontReader<136> {
-        FrontReader::open(parts)
+    fn open(parts: &[&[u8]]) -> SpongeReader<136> {
+        SpongeReader::open(parts)
     }
 }
 
 impl Xof for Shake128Stream {
-    type Reader = FrontReader<168>;
+    type Reader = SpongeReader<168>;
 
     const FRONT: usize = FRONT;
 
@@ -102,7 +103,7 @@ impl Xof for Shake128Stream {
 
     ghost front_most = { Prim.search rules };
 
-    fn open(parts: &[&[u8]]) -> FrontReader<168> {
-        FrontReader::open(parts)
+    fn open(parts: &[&[u8]]) -> SpongeReader<168> {
+        SpongeReader::open(parts)
     }
 }

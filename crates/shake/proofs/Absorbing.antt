@@ -5,7 +5,8 @@ use Rattle.std.proofs.lemmas.Nat.{mod-mul-add}
 use Rattle.std.proofs.Math.Nat.{mul-div_cancel}
 use Rattle.std.proofs.Math.Seq.{take-add}
 use Rattle.shake.specs.Keccak.{keccak_f}
-use Rattle.shake.specs.Shake.{add_block, absorbed, padding, message_state, IsAbsorbed}
+use Rattle.shake.specs.Shake.{add_block, absorbed, padding, message_state}
+use Rattle.shake.specs.State.{IsAbsorbed}
 use Rattle.shake.proofs.BlockBytes.{length-padding, take_run}
 use borrow.Rule.Slice.PartMut.{put_mid}
 

@@ -6,7 +6,8 @@ use Rattle.std.proofs.Math.Seq.{take-add, take-append-add}
 use Rattle.std.specs.Int.{div_ceil}
 use borrow.Rule.Slice.PartMut.{put_mid}
 use Rattle.shake.specs.Keccak.{keccak_f}
-use Rattle.shake.specs.Shake.{bytes, squeezed, shake, message_state, next_bytes}
+use Rattle.shake.specs.Shake.{bytes, squeezed, shake, message_state}
+use Rattle.shake.specs.State.{next_bytes}
 use Rattle.shake.specs.Lengths.{length-bytes, length-squeezed, length-keccak_f, length-message_state, ceil_enough}
 use Rattle.shake.proofs.BlockBytes.{take_run}
 

@@ -1,4 +1,5 @@
 pub mod Keccak
 pub mod Shake
+pub mod State
 pub mod Lengths
 pub mod Pieces

@@ -1,6 +1,6 @@
 -- What contracts say of a hasher and of a reader.
 use Rattle.std.specs.Prelude.{ℕ, List}
-use Rattle.shake.specs.Shake.{IsAbsorbed, next_bytes}
+use Rattle.shake.specs.State.{IsAbsorbed, next_bytes}
 use Rattle.shake.specs.declared.sponge.Shake.{Shake}
 use Rattle.shake.specs.declared.sponge.ShakeReader.{ShakeReader}
 

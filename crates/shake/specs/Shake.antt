@@ -1,6 +1,6 @@
 -- SHAKE128 and SHAKE256 (FIPS 202, sections 4 and 6.2) on messages of whole bytes. `rate` is r / 8 of the
 -- standard, the number of bytes in a block.
-use Rattle.std.specs.Prelude.{◌≡◌, ◌<◌, ◌≤◌, ℕ, zero, suc, ◌+◌, ◌-◌, ◌*◌, ◌/◌, ◌%◌, List, [], ◌∷◌, ◌++◌, length, take, drop, map, replicate, slice_index}
+use Rattle.std.specs.Prelude.{ℕ, zero, suc, ◌+◌, ◌-◌, ◌*◌, ◌/◌, ◌%◌, List, [], ◌∷◌, ◌++◌, length, take, drop, map, replicate, slice_index}
 use Rattle.std.specs.List.{flat_map, range_with_len}
 use Rattle.std.specs.Int.{w64, to_le_bytes, from_le_bytes, div_ceil}
 use Rattle.shake.specs.Keccak.{◌⊕◌, keccak_f}
@@ -52,20 +52,3 @@ shake128 m d = shake 168 m d
 
 abbrev pub shake256 : List ℕ → ℕ → List ℕ
 shake256 m d = shake 136 m d
-
--- ---- a message taken in piece by piece
-
--- a number of bytes that a block can have here: whole lanes
-abbrev pub IsRate : ℕ → Type 0
-IsRate rate = (0 < rate) × (rate ≤ 200) × (rate % 8 ≡ 0)
-
--- the lanes have absorbed the whole blocks of m, and the block begins with the `used` bytes that are left
-unfoldable pub IsAbsorbed : ℕ → List ℕ → List ℕ → ℕ → List ℕ → Type 0
-IsAbsorbed rate lanes block used m =
-    (n : ℕ) × (length m ≡ n * rate + used) × (lanes ≡ absorbed rate m n) × (take used block ≡ drop (n * rate) m)
-
--- ---- output given piece by piece
-
--- the next d bytes, where `given` bytes of the block are out and the lanes are the state that it was taken of
-unfoldable pub next_bytes : ℕ → List ℕ → List ℕ → ℕ → ℕ → List ℕ
-next_bytes rate lanes block given d = take d (drop given block ++ squeezed rate (keccak_f lanes) d)

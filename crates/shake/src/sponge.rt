@@ -2,7 +2,8 @@
 #![tactic(auto)]
 
 ghost use Rattle.std.specs.Prelude.{◌≡◌, ◌<◌, ◌≤◌, ◌+◌, ◌++◌, ℕ, List, [], length, take};
-ghost use Rattle.shake.specs.Shake.{shake, IsRate};
+ghost use Rattle.shake.specs.Shake.{shake};
+ghost use Rattle.shake.specs.State.{IsRate};
 
 use crate::blocks::{add_block, pad, write_block, write_run};
 use crate::permutation::f1600;

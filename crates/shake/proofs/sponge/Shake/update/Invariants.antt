@@ -1,5 +1,5 @@
 use Rattle.std.proofs.Common.{length, ◌-◌, ◌≤◌, ◌++◌, ℕ, List, take}
-use Rattle.shake.specs.Shake.{IsAbsorbed}
+use Rattle.shake.specs.State.{IsAbsorbed}
 use Rattle.shake.proofs.sponge.Shake.update.Given as goal
 
 abbrev pub invariant-loop-taken : goal.invariant-loop-taken

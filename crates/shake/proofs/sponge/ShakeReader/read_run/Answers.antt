@@ -1,7 +1,7 @@
 use Rattle.std.proofs.Common.{◌≡◌, ◌≤◌, ◌+◌, ◌∙◌, ℕ, drop, length, arith, refl, rules, take}
 use Rattle.std.proofs.lemmas.List.{take_rest, take_at, length-take-le}
 use Rattle.shake.specs.Pieces.{next}
-use Rattle.shake.specs.Shake.{next_bytes}
+use Rattle.shake.specs.State.{next_bytes}
 use Rattle.shake.proofs.Squeezing.{next_bytes-made, next_bytes-run}
 use Rattle.shake.proofs.sponge.ShakeReader.read_run.Given.{Over}
 use Rattle.shake.proofs.sponge.ShakeReader.read_run.Goals as goal

@@ -1,9 +1,9 @@
 use Rattle.std.proofs.Common.{◌≤◌, drop, length, take, ap, ◌∙◌, arith}
 use Rattle.shake.specs.Pieces.{next}
 use Rattle.shake.proofs.Pieces.{length-next, front_given, front_left}
-use Rattle.fips204_shake.proofs.streams.FrontReaderXofReader.read.Given.{Over}
-use Rattle.fips204_shake.proofs.streams.FrontReaderXofReader.read.Goals as goal
-use Rattle.fips204_shake.proofs.streams.FrontReaderXofReader.read.Goals.{After-read}
+use Rattle.fips204_shake.proofs.streams.SpongeReaderXofReader.read.Given.{Over}
+use Rattle.fips204_shake.proofs.streams.SpongeReaderXofReader.read.Goals as goal
+use Rattle.fips204_shake.proofs.streams.SpongeReaderXofReader.read.Goals.{After-read}
 
 enough : (g : Over) (c : After-read g) → length c.args.out.now ≤ c.self.inside.left
 enough g c = omega (arith, c.requires, length-next c.self.inside.output c.self.inside.left, ap length c.self.view_is)
