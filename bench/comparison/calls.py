@@ -1,0 +1,84 @@
+"""The calls of our static library, and inputs for them."""
+import ctypes
+import os
+import shutil
+import subprocess
+import sys
+
+TOP = os.path.dirname(os.path.dirname(os.path.dirname(os.path.abspath(__file__))))
+CRATE = f"{TOP}/crates/mldsa_c"
+# Bytes of a public key, a private key and a signature (FIPS 204, Table 2).
+LENGTHS = {"44": (1312, 2560, 2420), "65": (1952, 4032, 3309), "87": (2592, 4896, 4627)}
+DONE, NO = 0, 1
+
+
+def missing(library):
+    """Says what has to be installed for the library, and how."""
+    names = []
+    if not (library or "").endswith(".so") and not shutil.which("cc"):
+        names.append("a C compiler, to link the archive: apt-get install gcc")
+    if library is None and not shutil.which("rt"):
+        names.append("rt, of the Rattle kit, or a library named by --library")
+    if library is None and not os.path.isdir(CRATE):
+        names.append("crates/mldsa_c, or a library named by --library")
+    return names
+
+
+def loaded(library, room):
+    """The library, linked as a shared one if it is an archive. Without a name it is built."""
+    if library is None:
+        done = subprocess.run(["rt", "lib"], cwd=CRATE, capture_output=True, text=True, check=False)
+        if done.returncode:
+            sys.exit(f"rt lib failed in crates/mldsa_c:\n{done.stdout}{done.stderr}")
+        library = f"{CRATE}/out/libmldsa_c.a"
+    if library.endswith(".a"):
+        shared = f"{room}/libmldsa_c.so"
+        done = subprocess.run(["cc", "-shared", "-o", shared, "-Wl,--whole-archive", library, "-Wl,--no-whole-archive"],
+                              capture_output=True, text=True, check=False)
+        if done.returncode:
+            sys.exit(f"linking failed:\n{done.stderr}")
+        library = shared
+    return ctypes.CDLL(os.path.abspath(library))
+
+
+class Ours:
+    """The calls of a set: each array is a pointer and a length."""
+
+    def __init__(self, library, number):
+        self.library, self.number = library, number
+        self.public_length, self.private_length, self.signature_length = LENGTHS[number]
+
+    def call(self, name, *arrays):
+        function = getattr(self.library, f"mldsa{self.number}_{name}")
+        function.restype = ctypes.c_uint32
+        given = []
+        for array in arrays:
+            given += [array if isinstance(array, ctypes.Array) else ctypes.c_char_p(array), ctypes.c_size_t(len(array))]
+        return function(*given)
+
+    def keygen(self, seed):
+        public, private = (ctypes.c_uint8 * self.public_length)(), (ctypes.c_uint8 * self.private_length)()
+        return (bytes(public), bytes(private)) if self.call("keygen", seed, public, private) == DONE else None
+
+    def sign(self, private, message, context, drawn):
+        signature = (ctypes.c_uint8 * self.signature_length)()
+        return bytes(signature) if self.call("sign", private, message, context, drawn, signature) == DONE else None
+
+    def accepts(self, public, message, context, signature):
+        return self.call("verify", public, message, context, signature) == DONE
+
+    def refuses(self, public, message, context, signature):
+        return self.call("verify", public, message, context, signature) == NO
+
+
+def changed(draw, text):
+    """The bytes with one of them changed."""
+    text = bytearray(text)
+    text[draw.randrange(len(text))] ^= draw.randrange(1, 256)
+    return bytes(text)
+
+
+def inputs(draw):
+    """A seed, random bytes, a context and a message."""
+    drawn = draw.choice([bytes(32), draw.randbytes(32)])
+    return draw.randbytes(32), drawn, draw.randbytes(draw.choice([0, 1, 7, 254, 255])), draw.randbytes(draw.randrange(400))

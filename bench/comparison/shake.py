@@ -1,0 +1,55 @@
+"""Compares what the Rust crate answers over the crate sha3 with what our library over SHAKE answers."""
+import os
+import random
+import shutil
+import subprocess
+import sys
+
+from comparison import build, calls
+
+
+def missing(library):
+    """Gives the names of what has to be installed first."""
+    crates = os.listdir(build.REGISTRY) if os.path.isdir(build.REGISTRY) else []
+    return calls.missing(library) + [f"librust-{it}-dev" for it in ("sha3", "keccak") if not any(name.startswith(f"{it}-") for name in crates)]
+
+
+def driver(folder, room):
+    """Builds the Rust crate over the crate sha3, with the command line of `mldsa`."""
+    build.lay_out(folder, room)
+    shutil.copytree(f"{build.TOP}/bench/shake", f"{room}/rust/sha3", dirs_exist_ok=True)
+    done = subprocess.run(["cargo", "build", "--release", "--offline"], cwd=f"{room}/rust", capture_output=True, text=True, check=False)
+    if done.returncode:
+        sys.exit(f"cargo build failed:\n{done.stderr}")
+    return f"{room}/rust/target/release/driver"
+
+
+def table(folder, room, library, sets, count, seed):
+    """Prints for each set in how many cases both answer the same. Gives how many differ."""
+    names = missing(library)
+    if names:
+        sys.exit(f"missing: {', '.join(names)}")
+    program, loaded = driver(folder, room), calls.loaded(library, room)
+
+    def rust(command, number, *fields):
+        status, output, _ = build.run([program, "sha2", command, number], build.lines_of(fields), False, 60)
+        return status, [bytes.fromhex(line) for line in output.decode().split()] if command != "verify" else output
+
+    print("| set | cases | key pairs | signatures | verdicts of these | of changed ones |\n|---|---|---|---|---|---|")
+    different = 0
+    for number in sets:
+        draw, ours = random.Random(f"{seed} {number}"), calls.Ours(loaded, number)
+        equal = [0, 0, 0, 0]
+        for _ in range(count):
+            seed_bytes, drawn, context, message = calls.inputs(draw)
+            public, private = ours.keygen(seed_bytes)
+            signature = ours.sign(private, message, context, drawn)
+            spoiled = calls.changed(draw, signature)
+            equal[0] += rust("keygen", number, seed_bytes) == (0, [public, private])
+            equal[1] += rust("sign", number, private, drawn, context, message) == (0, [signature])
+            for place, given in ((2, signature), (3, spoiled)):
+                good = ours.accepts(public, message, context, given)
+                equal[place] += good == (place == 2) and rust("verify", number, public, given, context, message)[0] == (0 if good else 1)
+        print(f"| {number} | {count} | {' | '.join(map(str, equal))} |", flush=True)
+        different += sum(count - it for it in equal)
+    return different
