@@ -1,0 +1,35 @@
+//! ML-DSA-87 over SHAKE256 and SHAKE128.
+#![tactic(auto)]
+
+ghost use Rattle.fips204.specs.ParameterSets.{set_87};
+ghost use Rattle.fips204.specs.Refusals.{generated, Draws};
+ghost use Rattle.fips204_shake.specs.Fronts.{shake256_front, shake128_front};
+
+use crate::streams::{Shake128Stream, Shake256Stream};
+use fips204::ml_dsa_87;
+pub use fips204::ml_dsa_87::{PK_LEN, SIG_LEN, SK_LEN};
+use fips204::traits::CryptoRngCore;
+use fips204_base::Fault;
+
+/// Key generation.
+pub type KG = ml_dsa_87::KG<Shake256Stream, Shake128Stream>;
+
+/// A public key.
+pub type PublicKey = ml_dsa_87::PublicKey<Shake256Stream, Shake128Stream>;
+
+/// A private key.
+pub type PrivateKey = ml_dsa_87::PrivateKey<Shake256Stream, Shake128Stream>;
+
+/// A public key with its matrix, for many verifications.
+pub type PreparedPublicKey = ml_dsa_87::PreparedPublicKey<Shake256Stream>;
+
+/// A private key with its matrix, for many signatures.
+pub type PreparedPrivateKey = ml_dsa_87::PreparedPrivateKey<Shake256Stream>;
+
+/// Makes a key pair (Algorithm 1) from 32 bytes of the generator, which is asked once. Errors as for
+/// `KeyGen::try_keygen_with_rng`.
+pub fn try_keygen_with_rng<R: CryptoRngCore>(rng: &mut R) -> Result<(PublicKey, PrivateKey), Fault>
+    ensures { Draws R.gives R.refuses rng.old rng.new Fault.KeyGenRng (generated set_87 shake256_front shake128_front) result }
+{
+    ml_dsa_87::try_keygen_with_rng::<Shake256Stream, Shake128Stream, R>(rng)
+}

@@ -1,0 +1,108 @@
+//! SHAKE256 and SHAKE128 as the streams of `fips204`.
+#![tactic(auto)]
+
+ghost use Rattle.std.specs.Prelude.{◌≡◌, ℕ, List};
+ghost use Rattle.std.specs.List.{flat_map};
+ghost use Rattle.std.proofs.Common.{rules};
+ghost use Rattle.shake.specs.Shake.{shake, IsRate};
+ghost use Rattle.fips204_shake.specs.Fronts.{shake256_front, shake128_front, length-shake256_front, length-shake128_front};
+
+use fips204::xof::{Xof, XofReader};
+use shake::{Shake, ShakeReader};
+use std::marker::Model;
+
+/// The number of bytes of the fronts here: as many as `Xof` allows. What is not read of a front costs nothing. The limits of
+/// sampling, a quarter of it, lie far above those that Appendix C of FIPS 204 asks for at least.
+pub const FRONT: usize = 1_048_576;
+
+/// A reader of a front: so many bytes of SHAKE with blocks of `R` bytes.
+#[derive(Drop)]
+pub struct FrontReader<const R: usize> {
+    output: ShakeReader<R>,
+    left: usize,
+}
+
+impl<const R: usize> Model for FrontReader<R> {
+    ghost use Rattle.std.specs.Prelude.{ℕ, List};
+    ghost use Rattle.shake.specs.Pieces.{next};
+
+    ghost Value = { List ℕ };
+
+    ghost view = { λ reader. next reader.output reader.left };
+}
+
+impl<const R: usize> FrontReader<R> {
+    /// A reader of the front of the joined parts.
+    fn open(parts: &[&[u8]]) -> FrontReader<R>
+        requires { IsRate R }
+        ensures { result ≡ shake R (flat_map (λ part. part.now) parts.now) 1048576 }
+    {
+        let mut hasher = Shake::<R>::new();
+        for part in parts {
+            hasher.update(part);
+        }
+        FrontReader {
+            output: hasher.finalize_xof(),
+            left: FRONT,
+        }
+    }
+}
+
+impl<const R: usize> XofReader for FrontReader<R> {
+    ghost rest = { λ bytes. bytes };
+
+    fn left(&self) -> usize {
+        self.left
+    }
+
+    fn read(&mut self, out: &mut [u8]) {
+        self.output.read(out);
+        self.left -= out.len();
+    }
+}
+
+/// SHAKE256, the function H of the standard.
+pub struct Shake256Stream;
+
+/// SHAKE128, the function G of the standard.
+pub struct Shake128Stream;
+
+impl Xof for Shake256Stream {
+    type Reader = FrontReader<136>;
+
+    const FRONT: usize = FRONT;
+
+    ghost FRONT = { 1048576 };
+
+    ghost front = { shake256_front };
+
+    ghost front_size = { length-shake256_front };
+
+    ghost front_least = { Prim.search rules };
+
+    ghost front_most = { Prim.search rules };
+
+    fn open(parts: &[&[u8]]) -> FrontReader<136> {
+        FrontReader::open(parts)
+    }
+}
+
+impl Xof for Shake128Stream {
+    type Reader = FrontReader<168>;
+
+    const FRONT: usize = FRONT;
+
+    ghost FRONT = { 1048576 };
+
+    ghost front = { shake128_front };
+
+    ghost front_size = { length-shake128_front };
+
+    ghost front_least = { Prim.search rules };
+
+    ghost front_most = { Prim.search rules };
+
+    fn open(parts: &[&[u8]]) -> FrontReader<168> {
+        FrontReader::open(parts)
+    }
+}

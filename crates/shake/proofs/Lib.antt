@@ -1,0 +1,6 @@
+pub mod Rounds
+pub mod BlockBytes
+pub mod Absorbing
+pub mod Squeezing
+pub mod Pieces
+pub mod Facts

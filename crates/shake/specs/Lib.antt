@@ -1,0 +1,4 @@
+pub mod Keccak
+pub mod Shake
+pub mod Lengths
+pub mod Pieces

@@ -1,0 +1,9 @@
+//! SHAKE128 and SHAKE256, the extendable-output functions of FIPS 202.
+#![tactic(auto)]
+
+mod blocks;
+mod permutation;
+mod sponge;
+
+pub use permutation::f1600;
+pub use sponge::{Shake, Shake128, Shake128Reader, Shake256, Shake256Reader, ShakeReader};
