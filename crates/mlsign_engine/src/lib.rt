@@ -3,6 +3,10 @@
 
 mod at_set;
 mod fault;
+mod key_text;
 mod message;
+mod verifying;
 
 pub use fault::CommandFault;
+pub use mldsa_lines::Marked;
+pub use verifying::verify;
