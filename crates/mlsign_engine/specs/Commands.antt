@@ -1,0 +1,96 @@
+-- What the commands answer, by the files that they are given and the message that is read.
+use Rattle.std.specs.Prelude.{◌≡◌, ◌↔◌, ℕ, List, length, take, Bool, IsTrue, Result, Ok}
+use Rattle.fips204.specs.Encodings.{public_key_bytes, private_key_bytes}
+use Rattle.fips204.specs.Keys.{PublicParts, PrivateParts, IsPublicKeyOf, IsPrivateKeyOf, IsWhole}
+use Rattle.fips204.specs.ParameterSets.{ParameterSet, set_44, set_65, set_87, signature_length}
+use Rattle.fips204.specs.Refusals.{generated, derived, sign_message, VerifiesMessage}
+use Rattle.fips204_shake.specs.Fronts.{shake256_front, shake128_front}
+use Rattle.mlsign_files.specs.Keys.{IsPublicFile, IsPrivateFile, PrivateParts as FileParts, Seed, Expanded, Both}
+use Rattle.mlsign_files.specs.Pem.{IsPem}
+use Rattle.mlsign_files.specs.PemReading.{pem_at, FailsLike}
+use Rattle.mlsign_files.specs.Reading.{◌>>=◌, public_at, private_at}
+use Rattle.mlsign_files.specs.declared.fault.FileFault.{FileFault}
+use Rattle.mlsign_files.specs.declared.algorithm.Algorithm.{Algorithm}
+use Rattle.mlsign_files.specs.declared.algorithm.Algorithm.TheVariants.{MlDsa44, MlDsa65, MlDsa87}
+use Rattle.mlsign_files.specs.declared.pem.Kind.TheVariants.{Public, Private}
+
+-- the parameters of an algorithm
+abbrev pub set_of : Algorithm → ParameterSet
+set_of MlDsa44 = set_44
+set_of MlDsa65 = set_65
+set_of MlDsa87 = set_87
+
+-- reading a public key out of the text of a file: the key, or the first fault
+abbrev pub public_text_at : List ℕ → Result (Algorithm × List ℕ) FileFault
+public_text_at text = do
+  der ← pem_at Public text
+  public_at der
+
+-- the text of a file has this public key
+pub record IsPublicText (text : List ℕ) (algorithm : Algorithm) (bytes : List ℕ) : Type 0 where
+  pub der : List ℕ
+  pub spelled : IsPem text Public der
+  pub file : IsPublicFile der algorithm bytes
+
+-- the public key with these bytes accepts these bytes as a signature of the message
+abbrev pub IsValid : ParameterSet → PublicParts → List ℕ → List ℕ → List ℕ → Type 0
+IsValid p key signature context message =
+    (length signature ≡ signature_length p) × VerifiesMessage p shake256_front shake128_front key message signature context
+
+-- `verify`: the file has a public key, and the answer is whether it accepts the signature
+pub record Judges (public signature context message : List ℕ) (valid : Bool) : Type 0 where
+  pub algorithm : Algorithm
+  pub bytes : List ℕ
+  pub key : PublicParts
+  pub text : IsPublicText public algorithm bytes
+  pub decoded : IsPublicKeyOf shake256_front (set_of algorithm).k bytes key
+  pub answer : IsTrue valid ↔ IsValid (set_of algorithm) key signature context message
+
+-- a fault of a public key's file is the first one in its text, unless memory ran out
+abbrev pub IsPublicFault : List ℕ → FileFault → Type 0
+IsPublicFault text fault = FailsLike fault (public_text_at text)
+
+-- reading a private key out of the text of a file: the key, or the first fault
+abbrev pub private_text_at : List ℕ → Result (Algorithm × FileParts) FileFault
+private_text_at text = do
+  der ← pem_at Private text
+  private_at der
+
+-- a fault of a private key's file is the first one in its text, unless memory ran out
+abbrev pub IsPrivateFault : List ℕ → FileFault → Type 0
+IsPrivateFault text fault = FailsLike fault (private_text_at text)
+
+-- the text of a file has this private key
+pub record IsPrivateText (text : List ℕ) (algorithm : Algorithm) (parts : FileParts) : Type 0 where
+  pub der : List ℕ
+  pub spelled : IsPem text Private der
+  pub file : IsPrivateFile der algorithm parts
+
+-- the bytes of a private key
+abbrev pub expanded_bytes : ParameterSet → PrivateParts → List ℕ
+expanded_bytes p sk = private_key_bytes p.eta sk.rho sk.key sk.tr sk.s1 sk.s2 sk.t0
+
+-- these keys are what a private key in a file stands for: what its seed generates, whose bytes an expanded key beside it is; or
+-- what an expanded key alone decodes to, with the hash of the public key's bytes in it
+abbrev pub StandsFor : ParameterSet → FileParts → PublicParts → PrivateParts → Type 0
+StandsFor p (Seed seed) pk sk = generated p shake256_front shake128_front seed ≡ Ok (pk, sk)
+StandsFor p (Expanded expanded) pk sk = IsPrivateKeyOf p.eta p.k p.l expanded sk × (sk.tr ≡ take 64 (shake256_front (public_key_bytes pk.rho pk.t1)))
+StandsFor p (Both seed expanded) pk sk = (generated p shake256_front shake128_front seed ≡ Ok (pk, sk)) × (expanded ≡ expanded_bytes p sk)
+
+-- these keys are those of a file, and consistent: the private one is whole, and the public one derived of it
+pub record HasKeys (p : ParameterSet) (parts : FileParts) (pk : PublicParts) (sk : PrivateParts) : Type 0 where
+  pub stands : StandsFor p parts pk sk
+  pub whole : IsWhole p shake128_front sk
+  pub derives : derived p shake128_front sk ≡ Ok pk
+
+-- `sign`: the file has a consistent private key, and these bytes are its signature of the message, over these random bytes, which
+-- the public key accepts
+pub record Signs (private random context message signature : List ℕ) : Type 0 where
+  pub algorithm : Algorithm
+  pub parts : FileParts
+  pub text : IsPrivateText private algorithm parts
+  pub pk : PublicParts
+  pub sk : PrivateParts
+  pub keys : HasKeys (set_of algorithm) parts pk sk
+  pub signed : sign_message (set_of algorithm) shake256_front shake128_front sk random message context ≡ Ok signature
+  pub accepted : IsValid (set_of algorithm) pk signature context message

@@ -1,0 +1,76 @@
+//! Why a command ends without an answer.
+#![tactic(auto)]
+
+use fips204::Fault;
+use mldsa_lines::RunFault;
+use mlsign_files::FileFault;
+use std::alloc::AllocError;
+use thiserror::Error;
+
+/// Why a command ended without an answer. `Display` gives a sentence.
+#[derive(Debug, Clone, Copy, PartialEq, Eq, Error)]
+pub enum CommandFault {
+    /// The file of a key could not be read.
+    #[error("the key's file was not read: {0}")]
+    Key(FileFault),
+    /// A private key's parts do not belong together: its seed gives another expanded key, or an expanded key is no key, or not
+    /// whole, or has another hash of its public key.
+    #[error("the private key is not consistent")]
+    Inconsistent,
+    /// The library could not make or use the key.
+    #[error("{0}")]
+    Library(Fault),
+    /// The context has more than 255 bytes.
+    #[error("the context has more than 255 bytes")]
+    Context,
+    /// A memory allocation failed.
+    #[error("out of memory")]
+    Memory,
+    /// The message could not be read.
+    #[error("the message was not read")]
+    Message,
+}
+
+impl From<FileFault> for CommandFault {
+    ghost use Rattle.std.specs.Prelude.{◌≡◌};
+    ghost use Rattle.mlsign_engine.specs.declared.fault.CommandFault.TheVariants.{Key};
+
+    ghost from_gives = { λ fault e. e ≡ Key fault };
+
+    fn from(fault: FileFault) -> CommandFault {
+        CommandFault::Key(fault)
+    }
+}
+
+impl From<RunFault> for CommandFault {
+    ghost use Rattle.std.specs.Prelude.{◌≡◌};
+    ghost use Rattle.mlsign_engine.specs.declared.fault.CommandFault.TheVariants.{Message};
+
+    ghost from_gives = { λ _ e. e ≡ Message };
+
+    fn from(_: RunFault) -> CommandFault {
+        CommandFault::Message
+    }
+}
+
+impl From<Fault> for CommandFault {
+    ghost use Rattle.std.specs.Prelude.{◌≡◌};
+    ghost use Rattle.mlsign_engine.specs.declared.fault.CommandFault.TheVariants.{Library};
+
+    ghost from_gives = { λ fault e. e ≡ Library fault };
+
+    fn from(fault: Fault) -> CommandFault {
+        CommandFault::Library(fault)
+    }
+}
+
+impl From<AllocError> for CommandFault {
+    ghost use Rattle.std.specs.Prelude.{◌≡◌};
+    ghost use Rattle.mlsign_engine.specs.declared.fault.CommandFault.TheVariants.{Memory};
+
+    ghost from_gives = { λ _ e. e ≡ Memory };
+
+    fn from(_: AllocError) -> CommandFault {
+        CommandFault::Memory
+    }
+}

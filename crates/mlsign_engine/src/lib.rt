@@ -1,0 +1,17 @@
+//! The commands of `mlsign` as a library, generic over the reader of a message.
+#![tactic(auto)]
+
+mod at_set;
+mod fault;
+mod key_text;
+mod message;
+mod signing;
+mod verifying;
+
+pub use fault::CommandFault;
+pub use mldsa_lines::Marked;
+pub use signing::sign;
+pub use verifying::verify;
+
+#[cfg(test)]
+mod tests;
