@@ -27,7 +27,7 @@ pub use signing::{MAX_SIGN_ATTEMPTS, sign_internal};
 use std::marker::PhantomData;
 pub use verification::verify_internal;
 pub(crate) use verification::{t1_shifted, verify_prepared};
-pub(crate) use whole::is_whole;
+pub(crate) use whole::{is_pair, is_whole};
 
 /// Decodes a public key and computes `tr`, the first 64 bytes of `H` over its bytes (FIPS 204, Algorithm 23,
 /// and line 6 of Algorithm 8). Every array of `32 + 320 K` bytes is a public key.
