@@ -140,25 +140,30 @@ hint_range p sk w c = hint-range p.k p.gamma2 (w_minus_cs2 sk.s2 w c) (λ r. sca
 
 accepts : (p : ParameterSet) (H : List ℕ → List ℕ) (a : List (List T)) (sk : PrivateParts) (mu signature : List ℕ) → AreSetNumbers p → ArePrivateParts p.k p.l sk → sk.t0 ≡ low_part p a sk.s1 sk.s2
     → ((x : List ℕ) → 4096 ≤ length (H x)) → WasSigned p H a sk mu signature → Accepts p H a (high_part p a sk.s1 sk.s2) mu signature
+unfolding commitment
 accepts p H a sk mu signature numbers parts low whole was =
     let w = matrix_product p.l a (vector_coefficients was.y) in
     let c_tilde = commitment p H mu (high_vector p w) in
     let g = was.gives in
     record {
       c_tilde = c_tilde;
-      z = response p sk was.y g.c;
-      h = hint_vector p sk w g.c;
-      parts = record {
-        commitment = length-commitment p H mu (high_vector p w) whole numbers.short;
-        response = response_range p sk was.y g.c g.tests.response_norm;
-        hint = hint_range p sk w g.c;
-        few = g.tests.few;
-        encoding = g.bytes;
+      w1 = w1_bytes p.gamma2 (high_vector p w);
+      opened = record {
+        z = response p sk was.y g.c;
+        h = hint_vector p sk w g.c;
+        parts = record {
+          commitment = length-commitment p H mu (high_vector p w) whole numbers.short;
+          response = response_range p sk was.y g.c g.tests.response_norm;
+          hint = hint_range p sk w g.c;
+          few = g.tests.few;
+          encoding = g.bytes;
+        };
+        norm = g.tests.response_norm;
+        c = g.c;
+        sampled = g.there;
+        recomputed = ap (w1_bytes p.gamma2) (sym (hinted_is_high p a sk was.y (H c_tilde) g.c numbers parts.second low g.there g.tests));
       };
-      norm = g.tests.response_norm;
-      c = g.c;
-      challenge = g.there;
-      commitment = ap (commitment p H mu) (sym (hinted_is_high p a sk was.y (H c_tilde) g.c numbers parts.second low g.there g.tests));
+      same = refl;
     }
 
 -- what signing gives with the matrix and a private key that is whole with it

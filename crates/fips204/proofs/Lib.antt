@@ -14,6 +14,8 @@ mod PreHash
 mod RefusedCalls
 mod RefusalLaws
 mod Framing
+mod Binding
+mod OtherHints
 mod LongerFronts
 mod Worked
 -- what users may cite

@@ -20,7 +20,7 @@ use Rattle.fips204.specs.ParameterSets.{ParameterSet, is_parameter_set, commitme
 use Rattle.fips204.specs.Keys.{PublicParts, PrivateParts, high_part, key_hash, key_pair, key_pair_if_all, key_generation, public_key_of}
 use Rattle.fips204.specs.Framing.{Input, framed_input, message_hash}
 use Rattle.fips204.specs.Signing.{Attempt, limit, rejected, signed, commitment, high_vector, checked_attempt, attempt, attempt_limit, first_answer, mask_seed, sign_with, sign_if_matrix, sign}
-use Rattle.fips204.specs.Acceptance.{w1_prime, Verifies}
+use Rattle.fips204.specs.Acceptance.{Verifies}
 use Rattle.fips204.specs.Refusals.{refused_or, input_fault, AcceptsInput}
 use Rattle.fips204.specs.LongerFronts.{CounterFrontsArePrefixes, SamplesStay, Stays, AnswersStay, IsDecided, sampled, malformed, YesAndNoStay, AcceptanceStays, LongerFrontsKeep}
 use Rattle.fips204.proofs.ParameterSets.{set_numbers}
@@ -188,43 +188,55 @@ module _ (H G H' G' : List ℕ → List ℕ) (first : ArePrefixes H H') (second 
   verifies-longer : (p : ParameterSet) (pk : PublicParts) (mu signature : List ℕ) → IsTrue (is_parameter_set p) → Verifies p H G pk mu signature → Verifies p H' G' pk mu signature
   verifies-longer p pk mu signature t v =
       let accepted = v.accepted in
+      let opened = accepted.opened in
       record {
         a = v.a;
         matrix = sampled_matrix-longer G G' pk.rho p.k p.l v.a second v.matrix;
         accepted = record {
           c_tilde = accepted.c_tilde;
-          z = accepted.z;
-          h = accepted.h;
-          parts = accepted.parts;
-          norm = accepted.norm;
-          c = accepted.c;
-          challenge = challenge-longer p.tau (H accepted.c_tilde) (H' accepted.c_tilde) accepted.c (first accepted.c_tilde) (enough accepted.c_tilde) accepted.challenge;
-          commitment = accepted.commitment ∙ sym (commitment-longer p mu (w1_prime p v.a pk.t1 accepted.z accepted.h accepted.c) t);
+          w1 = accepted.w1;
+          opened = record {
+            z = opened.z;
+            h = opened.h;
+            parts = opened.parts;
+            norm = opened.norm;
+            c = opened.c;
+            sampled = challenge-longer p.tau (H accepted.c_tilde) (H' accepted.c_tilde) opened.c (first accepted.c_tilde) (enough accepted.c_tilde) opened.sampled;
+            recomputed = opened.recomputed;
+          };
+          same = accepted.same ∙ sym (hash-longer (commitment_length p) (mu ++ accepted.w1) (omega (arith, (set_numbers p t).short)));
         };
       }
 
   verifies-shorter : (p : ParameterSet) (pk : PublicParts) (mu signature : List ℕ) → IsTrue (is_parameter_set p) → IsDecided p H G pk signature
       → Verifies p H' G' pk mu signature → Verifies p H G pk mu signature
-  verifies-shorter p pk mu signature t (malformed none) v = absurd (none v.accepted.c_tilde v.accepted.z v.accepted.h v.accepted.parts v.accepted.norm)
+  verifies-shorter p pk mu signature t (malformed none) v =
+      let opened = v.accepted.opened in
+      absurd (none v.accepted.c_tilde opened.z opened.h opened.parts opened.norm)
   verifies-shorter p pk mu signature t (sampled a matrix c there) v =
       let accepted = v.accepted in
+      let opened = accepted.opened in
       let matrices : Some a ≡ Some v.a = sym (sampled_matrix-longer G G' pk.rho p.k p.l a second matrix) ∙ v.matrix in
-      let c_tilde : take (commitment_length p) signature ≡ accepted.c_tilde = signature-first p.gamma1 p.omega p.k p.l (commitment_length p) signature accepted.c_tilde accepted.z accepted.h accepted.parts in
+      let c_tilde : take (commitment_length p) signature ≡ accepted.c_tilde = signature-first p.gamma1 p.omega p.k p.l (commitment_length p) signature accepted.c_tilde opened.z opened.h opened.parts in
       let here : challenge p.tau (H accepted.c_tilde) ≡ Some c = ap (λ l. challenge p.tau (H l)) (sym c_tilde) ∙ there in
       let longer = challenge-longer p.tau (H accepted.c_tilde) (H' accepted.c_tilde) c (first accepted.c_tilde) (enough accepted.c_tilde) here in
-      let challenges : Some c ≡ Some accepted.c = sym longer ∙ accepted.challenge in
+      let challenges : Some c ≡ Some opened.c = sym longer ∙ opened.sampled in
       record {
         a = v.a;
         matrix = matrix ∙ matrices;
         accepted = record {
           c_tilde = accepted.c_tilde;
-          z = accepted.z;
-          h = accepted.h;
-          parts = accepted.parts;
-          norm = accepted.norm;
-          c = accepted.c;
-          challenge = here ∙ challenges;
-          commitment = accepted.commitment ∙ commitment-longer p mu (w1_prime p v.a pk.t1 accepted.z accepted.h accepted.c) t;
+          w1 = accepted.w1;
+          opened = record {
+            z = opened.z;
+            h = opened.h;
+            parts = opened.parts;
+            norm = opened.norm;
+            c = opened.c;
+            sampled = here ∙ challenges;
+            recomputed = opened.recomputed;
+          };
+          same = accepted.same ∙ hash-longer (commitment_length p) (mu ++ accepted.w1) (omega (arith, (set_numbers p t).short));
         };
       }
 

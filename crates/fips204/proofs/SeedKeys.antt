@@ -11,11 +11,11 @@ use Rattle.fips204.specs.Framing.{plain}
 use Rattle.fips204.specs.Refusals.{generated, derived, sign_message, VerifiesMessage}
 use Rattle.fips204.specs.Completeness.{HashComplete, AcceptsSigned, SignedIsAccepted}
 use Rattle.fips204.proofs.ParameterSets.{IsKnown, known-set}
-use Rattle.fips204.proofs.WholeKeys.{generated_pair, accepts_signed}
+use Rattle.fips204.proofs.WholeKeys.{generated_pair, accepts_signed, pair_of_whole}
 
 pub signed_is_accepted : SignedIsAccepted
 signed_is_accepted p H G pk sk row law = (
-  accepts_signed p H G pk sk row law,
+  λ parts whole derives. (accepts_signed p H G pk sk row law parts whole derives, pair_of_whole p H G pk sk row parts whole derives),
   λ xi made. generated_pair p H G xi pk sk row law (some_of_ok (key_generation p H G xi) (pk, sk) (sym made)),
 )
 

@@ -1,5 +1,5 @@
 -- Verifying: w1' as a vector, and what a signature's parts have to keep.
-use Rattle.std.proofs.Common.{◌≡◌, ◌<◌, ◌≤◌, ◌⊎◌, ◌+◌, ◌-◌, ◌*◌, ◌%◌, ℕ, List, [], pos, nat_abs, get_or, length, ap, sym, subst, ◌∙◌, arith, Bool, Some, true, false, inl, inr, refl, IsTrue, ℤ, zero, suc, negsuc, ◌≤ℤ◌}
+use Rattle.std.proofs.Common.{◌≡◌, ◌<◌, ◌≤◌, ◌⊎◌, ◌+◌, ◌-◌, ◌*◌, ◌%◌, ℕ, List, [], pos, nat_abs, get_or, length, ap, sym, subst, ◌∙◌, arith, Bool, Some, true, false, inl, inr, refl, IsTrue, ℤ, zero, suc, negsuc, ◌≤ℤ◌, ◌++◌, take}
 use Rattle.std.specs.Prelude.{int_lt, ◌↔◌}
 use Rattle.std.specs.declared.option.Option.{Option}
 use Rattle.std.specs.List.{All}
@@ -10,7 +10,7 @@ use Rattle.fips204_base.specs.declared.types.R.{R}
 use Rattle.fips204_base.specs.declared.types.T.{T}
 use Rattle.fips204_base.specs.Residues.{vector_norm, residue, coefficients}
 use Rattle.fips204_base.specs.Sampling.{challenge, sampled_matrix}
-use Rattle.fips204_base.specs.Encodings.{IsSignature, is_one}
+use Rattle.fips204_base.specs.Encodings.{IsSignature, is_one, w1_bytes}
 use Rattle.fips204_base.specs.Packing.{PolynomialInRange}
 use Rattle.fips204_base.specs.Vectors.{entry, VectorWithin, IsVector, vector_coefficients, matrix_product, vector_of}
 use Rattle.fips204_base.specs.Transforms.{product, minus}
@@ -127,15 +127,12 @@ Gives p H a t1 mu c_tilde z h = (c : R) × (challenge p.tau (H c_tilde) ≡ Some
 
 pub accepts-in : (p : ParameterSet) (H : List ℕ → List ℕ) (a : List (List T)) (t1 : List R) (mu sig c_tilde : List ℕ) (z h : List R)
     → HasShortParts p sig c_tilde z h → Gives p H a t1 mu c_tilde z h → Accepts p H a t1 mu sig
+unfolding commitment
 accepts-in p H a t1 mu sig c_tilde z h parts x = record {
   c_tilde = c_tilde;
-  z = z;
-  h = h;
-  parts = parts.parts;
-  norm = parts.norm;
-  c = x.0;
-  challenge = x.1;
-  commitment = x.2;
+  w1 = w1_bytes p.gamma2 (w1_prime p a t1 z h x.0);
+  opened = record { z = z; h = h; parts = parts.parts; norm = parts.norm; c = x.0; sampled = x.1; recomputed = refl };
+  same = x.2;
 }
 
 -- a signature has no other parts
@@ -147,11 +144,14 @@ same_norm p sig c_tilde c_tilde' z z' h h' low high parts v =
 
 pub accepts-out : (p : ParameterSet) (H : List ℕ → List ℕ) (a : List (List T)) (t1 : List R) (mu sig c_tilde : List ℕ) (z h : List R) → 1 ≤ p.gamma1 → p.gamma1 ≤ 1048575
     → HasShortParts p sig c_tilde z h → Accepts p H a t1 mu sig → Gives p H a t1 mu c_tilde z h
+unfolding commitment
 accepts-out p H a t1 mu sig c_tilde z h low high parts v =
-    let same = same_signature p.gamma1 p.omega p.k p.l (commitment_length p) sig v.c_tilde c_tilde v.z z v.h h low high v.parts parts.parts in
-    let ball = subst (λ (x : List ℕ). challenge p.tau (H x) ≡ Some v.c) same.0 v.challenge in
-    let value = sym same.0 ∙ v.commitment ∙ ap (λ (z : List R). commitment p H mu (w1_prime p a t1 z v.h v.c)) same.1 ∙ ap (λ (h : List R). commitment p H mu (w1_prime p a t1 z h v.c)) same.2 in
-    (v.c, ball, value)
+    let o = v.opened in
+    let same = same_signature p.gamma1 p.omega p.k p.l (commitment_length p) sig v.c_tilde c_tilde o.z z o.h h low high o.parts parts.parts in
+    let ball = subst (λ (x : List ℕ). challenge p.tau (H x) ≡ Some o.c) same.0 o.sampled in
+    let hash = λ (w1 : List ℕ). take (commitment_length p) (H (mu ++ w1)) in
+    let value = sym same.0 ∙ v.same ∙ ap hash (o.recomputed ∙ ap (λ (z : List R). w1_bytes p.gamma2 (w1_prime p a t1 z o.h o.c)) same.1 ∙ ap (λ (h : List R). w1_bytes p.gamma2 (w1_prime p a t1 z h o.c)) same.2) in
+    (o.c, ball, value)
 
 -- with the parts at hand acceptance is what they give
 pub accepts-by_parts : (p : Params) (H : List ℕ → List ℕ) (a : List (List T)) (t1 : List R) (mu sig c_tilde : List ℕ) (z h : List R) (answer : Bool) → IsKnown p

@@ -1,6 +1,6 @@
 -- Keys by their bytes, generated pairs, and what a whole private key signs.
-use Rattle.std.proofs.Common.{◌≡◌, ◌-◌, ℕ, List, length, take, drop, IsTrue, Some, None, Ok, refl, ap, sym, subst, ◌∙◌, arith, length-drop, ◌≤◌}
-use Rattle.std.specs.Prelude.{option_map, ok_or}
+use Rattle.std.proofs.Common.{◌≡◌, ◌-◌, ℕ, List, length, take, drop, IsTrue, Bool, Some, None, Ok, refl, ap, sym, subst, ◌∙◌, arith, length-drop, ◌≤◌}
+use Rattle.std.specs.Prelude.{option_map, ok_or, ◌↔◌}
 use Rattle.std.specs.List.{All}
 use Rattle.std.specs.declared.option.Option.{Option}
 use Rattle.std.proofs.lemmas.List.{length-take-le}
@@ -36,7 +36,7 @@ same_private : (rho rho' key key' tr tr' : List ℕ) (s1 s1' s2 s2' t0 t0' : Lis
 same_private rho rho' key key' tr tr' s1 s1' s2 s2' t0 t0' e f g h i j = cc
 
 -- bytes that two public keys have
-one_public_key : (k : ℕ) (pk other : PublicParts) → length pk.rho ≡ 32 → length other.rho ≡ 32 → IsHighPart k pk.t1 → IsHighPart k other.t1 → pk.tr ≡ other.tr
+pub one_public_key : (k : ℕ) (pk other : PublicParts) → length pk.rho ≡ 32 → length other.rho ≡ 32 → IsHighPart k pk.t1 → IsHighPart k other.t1 → pk.tr ≡ other.tr
     → public_key_bytes pk.rho pk.t1 ≡ public_key_bytes other.rho other.t1 → pk ≡ other
 one_public_key k pk other seed other_seed high other_high hash same =
     let parts = same_parts pk.rho other.rho pk.t1 other.t1 seed other_seed (high.rows ∙ sym other_high.rows) (all_high k pk.t1 high) (all_high k other.t1 other_high) same in
@@ -104,6 +104,38 @@ accepts_signed p H G pk sk row law parts whole derives =
           signed_input H sk.tr pk.tr input (λ mu. sign p H G sk mu rnd) (λ mu. Verifies p H G pk mu signature) signature (derived_hash p G sk pk derives) (λ mu. accepts mu rnd signature) made;
     }
 
+-- ---- a whole private key and the hash of its public key's bytes
+
+pub pair_of_whole : (p : ParameterSet) (H G : List ℕ → List ℕ) (pk : PublicParts) (sk : PrivateParts) → IsTrue (is_parameter_set p)
+    → ArePrivateParts p.k p.l sk → IsWhole p G sk → derived p G sk ≡ Ok pk → sk.tr ≡ key_hash H pk.rho pk.t1 → IsPair p H G pk sk
+pair_of_whole p H G pk sk row parts whole derives hash =
+    let bytes = private_key_bytes p.eta sk.rho sk.key sk.tr sk.s1 sk.s2 sk.t0 in
+    let own : PublicParts = record { rho = sk.rho; tr = sk.tr; t1 = high_part p whole.matrix sk.s1 sk.s2 } in
+    let same : own ≡ pk = same_some own pk (sym (public_key_of_whole p G sk whole) ∙ some_of_ok (public_key_of p G sk) pk (sym derives)) in
+    let seed : length pk.rho ≡ 32 = subst (λ (k : PublicParts). length k.rho ≡ 32) same parts.seed in
+    let high : IsHighPart p.k pk.t1 = subst (λ (k : PublicParts). IsHighPart p.k k.t1) same (high_part-range p whole.matrix sk.s1 sk.s2) in
+    let tr : pk.tr ≡ key_hash H pk.rho pk.t1 = sym (ap (λ (k : PublicParts). k.tr) same) ∙ hash in
+    let encoded : IsPublicKeyOf H p.k (public_key_bytes pk.rho pk.t1) pk = record { seed = seed; high = high; same_bytes = refl; hash = tr } in
+    let held = has_its_bytes p sk bytes row parts refl in
+    record {
+      parts = parts;
+      whole = whole;
+      derives = derives;
+      public_decoded = λ other. (
+        λ d. one_public_key p.k other pk d.seed seed d.high high (d.hash ∙ sym tr) d.same_bytes,
+        λ e. subst (λ (k : PublicParts). IsPublicKeyOf H p.k (public_key_bytes pk.rho pk.t1) k) (sym e) encoded,
+      );
+      private_decoded = λ other. (λ d. one_private_key p bytes other sk row d held, λ e. subst (λ (k : PrivateParts). IsPrivateKeyOf p.eta p.k p.l bytes k) (sym e) held);
+    }
+
+-- with a whole private key at hand its tr decides
+pub pair_by_hash : (p : ParameterSet) (H G : List ℕ → List ℕ) (pk : PublicParts) (sk : PrivateParts) (own : Bool) → IsTrue (is_parameter_set p)
+    → ArePrivateParts p.k p.l sk → IsWhole p G sk → derived p G sk ≡ Ok pk → (IsTrue own ↔ (sk.tr ≡ key_hash H pk.rho pk.t1)) → IsTrue own ↔ IsPair p H G pk sk
+pair_by_hash p H G pk sk own row parts whole derives both = (
+  λ t. pair_of_whole p H G pk sk row parts whole derives (both.0 t),
+  λ pair. both.1 (derived_hash p G sk pk derives ∙ ((pair.public_decoded pk).1 refl).hash),
+)
+
 -- ---- key generation
 
 small : (p : ParameterSet) (H : List ℕ → List ℕ) (rho : List ℕ) (first count : ℕ) (v : List R) → AreSetNumbers p → small_vector p.eta H rho first count ≡ Some v → IsVector count (eta_of_rows p.k) (eta_of_rows p.k) v
@@ -117,26 +149,12 @@ pair_of_parts p H G rho key a s1 s2 row law m n there first second =
     let t1 = high_part p a s1 s2 in
     let tr = key_hash H rho t1 in
     let sk : PrivateParts = record { rho = rho; key = key; tr = tr; s1 = s1; s2 = s2; t0 = low_part p a s1 s2 } in
-    let bytes = private_key_bytes p.eta rho key tr s1 s2 (low_part p a s1 s2) in
     let hash = length-take-le 64 (H (public_key_bytes rho t1)) (omega (arith, law (public_key_bytes rho t1))) in
     let parts : ArePrivateParts p.k p.l sk = record { seed = m; private_seed = n; hash = hash; first = first; second = second; low = low_part-range p a s1 s2 } in
     let whole : IsWhole p G sk = record { matrix = a; sampled = there; low = refl } in
-    let high = high_part-range p a s1 s2 in
     let pk : PublicParts = record { rho = rho; tr = tr; t1 = t1 } in
-    let encoded : IsPublicKeyOf H p.k (public_key_bytes rho t1) pk = record { seed = m; high = high; same_bytes = refl; hash = refl } in
-    let own = has_its_bytes p sk bytes row parts refl in
     let derives : derived p G sk ≡ Ok pk = ap (λ (o : Option PublicParts). ok_or o SamplingLimit) (public_key_of_whole p G sk whole) in
-    let pair : IsPair p H G pk sk = record {
-      parts = parts;
-      whole = whole;
-      derives = derives;
-      public_decoded = λ other. (
-        λ d. one_public_key p.k other pk d.seed m d.high high d.hash d.same_bytes,
-        λ e. subst (λ (k : PublicParts). IsPublicKeyOf H p.k (public_key_bytes rho t1) k) (sym e) encoded,
-      );
-      private_decoded = λ other. (λ d. one_private_key p bytes other sk row d own, λ e. subst (λ (k : PrivateParts). IsPrivateKeyOf p.eta p.k p.l bytes k) (sym e) own);
-    } in
-    (pair, accepts_signed p H G pk sk row law parts whole derives)
+    (pair_of_whole p H G pk sk row parts whole derives refl, accepts_signed p H G pk sk row law parts whole derives)
 
 -- what a pair that is there was made of
 record WasMade (p : ParameterSet) (H : List ℕ → List ℕ) (rho key : List ℕ) (a : Option (List (List T))) (s1 s2 : Option (List R)) (pk : PublicParts) (sk : PrivateParts) : Type 0 where

@@ -5,16 +5,19 @@ use Rattle.fips204_base.specs.Encodings.{is_one}
 use Rattle.fips204_base.specs.Sampling.{triple, kept_triples, matrix_entry, sampled_matrix, first_256, all_present, kept_half_bytes, small_polynomial, small_vector}
 use Rattle.fips204_base.specs.Packing.{bit_length, packed, bits_to_bytes, bits, integer_to_bits, bits_to_integer, field}
 use Rattle.fips204_base.specs.Rounding.{decompose, use_hint}
+use Rattle.fips204_base.specs.Residues.{sum_below}
+use Rattle.fips204_base.specs.Transforms.{product, shifted}
 use Rattle.fips204_base.specs.Vectors.{polynomial_of, vector_of}
+use Rattle.fips204_base.specs.declared.types.R.{R}
 use Rattle.fips204.specs.Keys.{PrivateParts, seeds, key_pair, key_pair_if_all, key_generation}
 use Rattle.fips204.specs.Acceptance.{t1_shifted, hinted}
 use Rattle.fips204.specs.ParameterSets.{ParameterSet, set_44, set_65, set_87, is_parameter_set, public_key_length, private_key_length, signature_length}
-use Rattle.fips204.specs.Signing.{first_answer, mask_seed, limit, rejected, signed, commitment, hint_bit}
+use Rattle.fips204.specs.Signing.{first_answer, mask_seed, limit, rejected, signed, commitment, hint_bit, w_minus_cs2, y_plus_cs1}
 use Rattle.std.specs.Prelude.{replicate, nat_eq, get_or, option_map}
 use Rattle.std.specs.List.{range_with_len, flat_map}
 use Rattle.fips204.specs.declared.types.pre_hash.TheConstants.{SHA2_224, SHA2_256, SHA2_384, SHA2_512, SHA2_512_224, SHA2_512_256, SHA3_224, SHA3_256, SHA3_384, SHA3_512, SHAKE_128, SHAKE_256}
-use Rattle.fips204.specs.Framing.{framed, framed_digest, message_hash, hash_oid, hashes, digest_length, pre_hash_fault}
-use Rattle.fips204.specs.Refusals.{message_fault, digest_fault}
+use Rattle.fips204.specs.Framing.{plain, hashed, framed, framed_digest, framed_input, message_hash, hash_oid, hashes, digest_length, pre_hash_fault}
+use Rattle.fips204.specs.Refusals.{message_fault, digest_fault, sign_input}
 
 -- Worked values of the parameter sets, and of the order of attempts.
 
@@ -180,3 +183,29 @@ hint_above_zero : map (λ w. take 4 w.0) (hinted set_44 (polynomial_of (λ _. po
     ≡ replicate 4 (pos 0) ∷ (pos 0 ∷ pos 0 ∷ pos 1 ∷ pos 0 ∷ []) ∷ replicate 4 (pos 0) ∷ replicate 4 (pos 0) ∷ []
 unfolding vector_of polynomial_of is_one use_hint decompose
 hint_above_zero = refl
+
+-- as many polynomials as rows
+rows_of_hinted : length (hinted set_65 [] (λ r n. 0)) ≡ 6
+unfolding vector_of
+rows_of_hinted = refl
+
+-- the constant polynomial x
+constant : ℤ → R
+constant x = polynomial_of (λ n. if nat_eq n 0 then x else pos 0)
+
+-- 3 less 5, and 3 and 5
+challenge_times_parts : (w_minus_cs2 (constant (pos 5) ∷ []) (λ r n. 3) (constant (pos 1)) 0 0 ≡ 8380415)
+    × (y_plus_cs1 (constant (pos 5) ∷ []) (constant (pos 3) ∷ []) (constant (pos 1)) 0 0 ≡ 8)
+unfolding constant polynomial_of product shifted sum_below
+challenge_times_parts = (refl, refl)
+
+-- a message, and a digest after its OID
+framed_inputs : (framed_input (plain (3 ∷ []) (1 ∷ 2 ∷ [])) ≡ 0 ∷ 2 ∷ 1 ∷ 2 ∷ 3 ∷ []) × (framed_input (hashed (3 ∷ []) (1 ∷ 2 ∷ []) (6 ∷ 1 ∷ 9 ∷ [])) ≡ 1 ∷ 2 ∷ 1 ∷ 2 ∷ 6 ∷ 1 ∷ 9 ∷ 3 ∷ [])
+framed_inputs = (refl, refl)
+
+-- a refusal stands before what signs, which else gets mu
+signed_inputs : (sign_input (λ x. x) (5 ∷ []) (λ mu. Ok mu) (plain [] (replicate 256 0)) ≡ Err SignCtx)
+    × (sign_input (λ x. x) (5 ∷ []) (λ mu. Ok mu) (hashed [] [] []) ≡ Err OidEmpty)
+    × (sign_input (λ x. x) (5 ∷ []) (λ mu. Ok mu) (plain (3 ∷ []) (1 ∷ 2 ∷ [])) ≡ Ok (5 ∷ 0 ∷ 2 ∷ 1 ∷ 2 ∷ 3 ∷ []))
+unfolding pre_hash_fault
+signed_inputs = (refl, refl, refl)

@@ -1,15 +1,14 @@
 -- Acceptance (FIPS 204, Algorithm 8).
-use Rattle.std.specs.Prelude.{◌≡◌, ◌<◌, ℕ, ◌-◌, ◌*◌, ◌%◌, List, pos, Some, slice_index_or, []}
+use Rattle.std.specs.Prelude.{◌≡◌, ◌<◌, ℕ, ◌-◌, ◌*◌, ◌%◌, List, ◌++◌, take, pos, Some, slice_index_or, []}
 use Rattle.fips204_base.specs.declared.types.R.{R}
 use Rattle.fips204_base.specs.declared.types.T.{T}
 use Rattle.fips204_base.specs.Residues.{vector_norm}
 use Rattle.fips204_base.specs.Vectors.{vector_coefficients, product_difference, vector_of}
 use Rattle.fips204_base.specs.Rounding.{use_hint}
-use Rattle.fips204_base.specs.Encodings.{is_one, IsSignature}
+use Rattle.fips204_base.specs.Encodings.{is_one, IsSignature, w1_bytes}
 use Rattle.fips204_base.specs.Sampling.{sampled_matrix, challenge}
 use Rattle.fips204.specs.ParameterSets.{ParameterSet, commitment_length}
 use Rattle.fips204.specs.Keys.{PublicParts}
-use Rattle.fips204.specs.Signing.{commitment}
 
 -- t1 2^13
 abbrev pub t1_shifted : List R → ℕ → ℕ → ℕ
@@ -27,17 +26,24 @@ hinted p h w = vector_of p.k (λ r n. pos (use_hint p.gamma2 (is_one (slice_inde
 unfoldable pub w1_prime : ParameterSet → List (List T) → List R → List R → List R → R → List R
 w1_prime p a t1 z h c = hinted p h (product_difference p.l a z c (t1_shifted t1))
 
--- ML-DSA.Verify_internal (Algorithm 8) from mu, with the matrix a: the signature has parts, the norm of z is small, there is a
--- challenge, and c_tilde is the one that w1' gives
-pub record Accepts (p : ParameterSet) (H : List ℕ → List ℕ) (a : List (List T)) (t1 : List R) (mu signature : List ℕ) : Type 0 where
-  pub c_tilde : List ℕ
+-- what a signature fixes under a matrix and t1, whatever was signed: parts, of which the norm of z is small, a challenge, and the
+-- bytes of w1'
+pub record Opens (p : ParameterSet) (H : List ℕ → List ℕ) (a : List (List T)) (t1 : List R) (signature c_tilde w1 : List ℕ) : Type 0 where
   pub z : List R
   pub h : List R
   pub parts : IsSignature p.gamma1 p.omega p.k p.l (commitment_length p) signature c_tilde z h
   pub norm : vector_norm z < p.gamma1 - p.beta
   pub c : R
-  pub challenge : challenge p.tau (H c_tilde) ≡ Some c
-  pub commitment : c_tilde ≡ commitment p H mu (w1_prime p a t1 z h c)
+  pub sampled : challenge p.tau (H c_tilde) ≡ Some c
+  pub recomputed : w1 ≡ w1_bytes p.gamma2 (w1_prime p a t1 z h c)
+
+-- ML-DSA.Verify_internal (Algorithm 8) from mu, with the matrix a: the signature fixes c_tilde and w1, and c_tilde is the hash of mu
+-- and w1
+pub record Accepts (p : ParameterSet) (H : List ℕ → List ℕ) (a : List (List T)) (t1 : List R) (mu signature : List ℕ) : Type 0 where
+  pub c_tilde : List ℕ
+  pub w1 : List ℕ
+  pub opened : Opens p H a t1 signature c_tilde w1
+  pub same : c_tilde ≡ take (commitment_length p) (H (mu ++ w1))
 
 -- the same with a plain key, whose matrix has to be there
 pub record Verifies (p : ParameterSet) (H G : List ℕ → List ℕ) (pk : PublicParts) (mu signature : List ℕ) : Type 0 where

@@ -1,9 +1,9 @@
 -- What is signed is accepted, and what makes two keys a pair (FIPS 204, Algorithms 1 to 8).
-use Rattle.std.specs.Prelude.{◌≡◌, ◌≤◌, ◌↔◌, ℕ, List, length, IsTrue, Result, Ok}
+use Rattle.std.specs.Prelude.{◌≡◌, ◌≤◌, ◌↔◌, ℕ, List, length, Bool, IsTrue, Result, Ok, Err, MatchResult}
 use Rattle.fips204_base.specs.declared.fault.Fault.{Fault}
 use Rattle.fips204_base.specs.Encodings.{public_key_bytes, private_key_bytes}
 use Rattle.fips204.specs.ParameterSets.{ParameterSet, is_parameter_set}
-use Rattle.fips204.specs.Keys.{PublicParts, PrivateParts, ArePublicParts, ArePrivateParts, IsPublicKeyOf, IsPrivateKeyOf, IsWhole}
+use Rattle.fips204.specs.Keys.{PublicParts, PrivateParts, ArePublicParts, ArePrivateParts, IsPublicKeyOf, IsPrivateKeyOf, IsWhole, key_hash}
 use Rattle.fips204.specs.Framing.{Input}
 use Rattle.fips204.specs.Signing.{sign}
 use Rattle.fips204.specs.Acceptance.{Verifies}
@@ -32,13 +32,19 @@ pub record IsPair (p : ParameterSet) (H G : List ℕ → List ℕ) (pk : PublicP
   pub public_decoded : (other : PublicParts) → IsPublicKeyOf H p.k (public_key_bytes pk.rho pk.t1) other ↔ (other ≡ pk)
   pub private_decoded : (other : PrivateParts) → IsPrivateKeyOf p.eta p.k p.l (private_key_bytes p.eta sk.rho sk.key sk.tr sk.s1 sk.s2 sk.t0) other ↔ (other ≡ sk)
 
+-- an answer to whether a private key and the public key that is derived of it are a pair; a refusal where no key is derived
+abbrev pub TellsPair : ParameterSet → (List ℕ → List ℕ) → (List ℕ → List ℕ) → PrivateParts → Result Bool Fault → Type 0
+TellsPair p H G sk answer = MatchResult answer (λ yes. (pk : PublicParts) × (derived p G sk ≡ Ok pk) × (IsTrue yes ↔ IsPair p H G pk sk))
+    (λ fault. derived p G sk ≡ Err fault)
+
 -- at each of the three sets and over any two streams: what a whole private key signs is accepted by the public key that is
--- derived of it; and keys that a seed generates are a pair, whose public key accepts what the private one signs
+-- derived of it; where its tr is the hash of that key's bytes, the two are a pair; and keys that a seed generates are a pair, whose
+-- public key accepts what the private one signs
 abbrev pub SignedIsAccepted : Type 0
 SignedIsAccepted =
     (p : ParameterSet) (H G : List ℕ → List ℕ) (pk : PublicParts) (sk : PrivateParts) → IsTrue (is_parameter_set p)
     → ((x : List ℕ) → 4096 ≤ length (H x))
-    → (ArePrivateParts p.k p.l sk → IsWhole p G sk → derived p G sk ≡ Ok pk → AcceptsSigned p H G pk sk)
+    → (ArePrivateParts p.k p.l sk → IsWhole p G sk → derived p G sk ≡ Ok pk → AcceptsSigned p H G pk sk × (sk.tr ≡ key_hash H pk.rho pk.t1 → IsPair p H G pk sk))
     × ((xi : List ℕ) → generated p H G xi ≡ Ok (pk, sk) → IsPair p H G pk sk × AcceptsSigned p H G pk sk)
 
 -- keys in range are the same where their bytes are: two private keys, and two public keys with the same tr

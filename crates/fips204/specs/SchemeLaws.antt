@@ -1,16 +1,18 @@
 -- What rounding, hints, challenges and spellings promise to signing and verifying (FIPS 204, sections 2.3 and 7.4), and what a
 -- framed message and a signature determine (Algorithms 2 to 5 and 8).
-use Rattle.std.specs.Prelude.{◌≡◌, ◌⊎◌, ◌<◌, ◌≤◌, ℕ, ◌+◌, ◌*◌, ◌%◌, List, pos, ◌-ℤ◌, nat_abs, true, false, length, Some, ◌≢◌, ◌++◌, take, None, IsTrue}
-use Rattle.fips204_base.specs.Encodings.{IsSignature, Spells, all_ones, hint_bytes, w1_bytes}
+use Rattle.std.specs.Prelude.{◌≡◌, ◌⊎◌, ◌<◌, ◌≤◌, ℕ, ◌+◌, ◌-◌, ◌*◌, ◌%◌, List, pos, ◌-ℤ◌, nat_abs, true, false, length, Some, ◌≢◌, ◌++◌, take, None, IsTrue}
+use Rattle.fips204_base.specs.Encodings.{IsSignature, Spells, all_ones, hint_bytes}
+use Rattle.fips204_base.specs.Packing.{width}
 use Rattle.fips204_base.specs.Residues.{centred, norm, coefficients}
 use Rattle.fips204_base.specs.Rounding.{IsGamma2, high_bits, low_bits, make_hint, use_hint}
-use Rattle.fips204_base.specs.Sampling.{challenge}
+use Rattle.fips204_base.specs.Sampling.{challenge, sampled_matrix}
 use Rattle.fips204_base.specs.Transforms.{product}
 use Rattle.fips204_base.specs.Vectors.{IsVector, polynomial_of}
 use Rattle.fips204_base.specs.declared.types.R.{R}
-use Rattle.fips204.specs.Acceptance.{Verifies, w1_prime}
+use Rattle.fips204_base.specs.declared.types.T.{T}
+use Rattle.fips204.specs.Acceptance.{Opens, Verifies}
 use Rattle.fips204.specs.Framing.{Input, framed, framed_input, message_hash}
-use Rattle.fips204.specs.Keys.{PublicParts}
+use Rattle.fips204.specs.Keys.{PublicParts, IsPublicKeyOf}
 use Rattle.fips204.specs.ParameterSets.{ParameterSet, is_parameter_set, commitment_length}
 use Rattle.fips204.specs.Refusals.{input_fault, AcceptsInput, VerifiesMessage}
 
@@ -39,11 +41,13 @@ ChallengeProductIsSmall =
     (tau eta : ℕ) (front : List ℕ) (c s : R) → challenge tau front ≡ Some c → norm s.0 ≤ eta
     → norm (polynomial_of (λ n. pos (product (coefficients c.0) (coefficients s.0) n))).0 ≤ tau * eta
 
--- c_tilde, z and h determine the bytes of a signature
+-- c_tilde, z and h determine the bytes of a signature, and these determine c_tilde, z and h
 abbrev pub SignatureHasOneSpelling : Type 0
 SignatureHasOneSpelling =
-    (gamma1 omega' k l n : ℕ) (first second c_tilde : List ℕ) (z h : List R)
-    → IsSignature gamma1 omega' k l n first c_tilde z h → IsSignature gamma1 omega' k l n second c_tilde z h → first ≡ second
+    (gamma1 omega' k l n : ℕ) (first second c_tilde other_c_tilde : List ℕ) (z h other_z other_h : List R)
+    → (IsSignature gamma1 omega' k l n first c_tilde z h → IsSignature gamma1 omega' k l n second c_tilde z h → first ≡ second)
+    × (1 ≤ gamma1 → gamma1 ≤ 1048575 → IsSignature gamma1 omega' k l n first c_tilde z h → IsSignature gamma1 omega' k l n first other_c_tilde other_z other_h
+    → (c_tilde ≡ other_c_tilde) × (z ≡ other_z) × (h ≡ other_h))
 
 -- a hint whose ones number no more than omega is spelled by one row of bytes alone, which spells no other hint
 abbrev pub HintHasOneSpelling : Type 0
@@ -62,36 +66,85 @@ pub record Collide (H : List ℕ → List ℕ) (n : ℕ) (x y : List ℕ) : Type
   pub differ : x ≢ y
   pub same : take n (H x) ≡ take n (H y)
 
--- the encoded w1' of a signature that is accepted
-abbrev pub accepted_w1 : {p : ParameterSet} {H G : List ℕ → List ℕ} {pk : PublicParts} {mu signature : List ℕ} → Verifies p H G pk mu signature → List ℕ
-accepted_w1 {p} {H} {G} {pk} v = w1_bytes p.gamma2 (w1_prime p v.a pk.t1 v.accepted.z v.accepted.h v.accepted.c)
+-- w1 are the bytes that a signature fixes under a key, whatever was signed
+pub record Fixes (p : ParameterSet) (H G : List ℕ → List ℕ) (pk : PublicParts) (signature w1 : List ℕ) : Type 0 where
+  pub a : List (List T)
+  pub matrix : sampled_matrix G pk.rho p.k p.l ≡ Some a
+  pub c_tilde : List ℕ
+  pub opened : Opens p H a pk.t1 signature c_tilde w1
 
--- two M' under the hash tr of a key, with one encoded w1', name a collision: of the two M' in mu, or of the two mu in c_tilde
-abbrev pub NamesCollision : ParameterSet → (List ℕ → List ℕ) → List ℕ → List ℕ → List ℕ → List ℕ → Type 0
-NamesCollision p H tr m n w1 = Collide H 64 (tr ++ m) (tr ++ n)
-    ⊎ Collide H (commitment_length p) (message_hash H tr m ++ w1) (message_hash H tr n ++ w1)
+-- a signature fixes no other w1 under a key
+abbrev pub SignatureFixesOne : Type 0
+SignatureFixesOne =
+    (p : ParameterSet) (H G : List ℕ → List ℕ) (pk : PublicParts) (signature w1 other : List ℕ) → IsTrue (is_parameter_set p)
+    → Fixes p H G pk signature w1 → Fixes p H G pk signature other → w1 ≡ other
 
--- one signature that a key accepts for two different M' has one encoded w1', and names a collision
+-- under a key two M' name a collision: of the two M', after tr, in mu; or of the two mu, before the w1 that the signature fixes, in
+-- c_tilde
+pub record NamesCollision (p : ParameterSet) (H G : List ℕ → List ℕ) (pk : PublicParts) (signature m n : List ℕ) : Type 0 where
+  pub w1 : List ℕ
+  pub fixed : Fixes p H G pk signature w1
+  pub collide : Collide H 64 (pk.tr ++ m) (pk.tr ++ n)
+      ⊎ Collide H (commitment_length p) (message_hash H pk.tr m ++ w1) (message_hash H pk.tr n ++ w1)
+
+-- one signature that a key accepts for two different M' names a collision
 abbrev pub SignatureBindsMessage : Type 0
 SignatureBindsMessage =
     (p : ParameterSet) (H G : List ℕ → List ℕ) (pk : PublicParts) (m n signature : List ℕ) → IsTrue (is_parameter_set p) → m ≢ n
-    → (first : Verifies p H G pk (message_hash H pk.tr m) signature) → (second : Verifies p H G pk (message_hash H pk.tr n) signature)
-    → (accepted_w1 first ≡ accepted_w1 second) × NamesCollision p H pk.tr m n (accepted_w1 first)
+    → Verifies p H G pk (message_hash H pk.tr m) signature → Verifies p H G pk (message_hash H pk.tr n) signature
+    → NamesCollision p H G pk signature m n
 
 -- so does one signature that a key accepts for two different inputs: messages or digests under their contexts
 abbrev pub SignatureBindsInput : Type 0
 SignatureBindsInput =
     (p : ParameterSet) (H G : List ℕ → List ℕ) (pk : PublicParts) (x y : Input) (signature : List ℕ) → IsTrue (is_parameter_set p) → x ≢ y
-    → (first : AcceptsInput H pk.tr (λ mu. Verifies p H G pk mu signature) x) → (second : AcceptsInput H pk.tr (λ mu. Verifies p H G pk mu signature) y)
-    → (accepted_w1 first.accepted ≡ accepted_w1 second.accepted) × NamesCollision p H pk.tr (framed_input x) (framed_input y) (accepted_w1 first.accepted)
+    → AcceptsInput H pk.tr (λ mu. Verifies p H G pk mu signature) x → AcceptsInput H pk.tr (λ mu. Verifies p H G pk mu signature) y
+    → NamesCollision p H G pk signature (framed_input x) (framed_input y)
 
--- two messages under one context name a collision, with one encoded w1'
-abbrev pub MessagesCollide : ParameterSet → (List ℕ → List ℕ) → List ℕ → List ℕ → List ℕ → List ℕ → Type 0
-MessagesCollide p H tr context first second = (w1 : List ℕ) × NamesCollision p H tr (framed first context) (framed second context) w1
-
--- so do two different messages with one signature that a key accepts for both
+-- so do two different messages under one context
 abbrev pub SignatureBindsText : Type 0
 SignatureBindsText =
     (p : ParameterSet) (H G : List ℕ → List ℕ) (pk : PublicParts) (context first second signature : List ℕ) → IsTrue (is_parameter_set p)
     → first ≢ second → VerifiesMessage p H G pk first signature context → VerifiesMessage p H G pk second signature context
-    → MessagesCollide p H pk.tr context first second
+    → NamesCollision p H G pk signature (framed first context) (framed second context)
+
+-- under two keys with these bytes two M' name a collision: of the bytes in tr; of the two M', each after its tr, in mu; or of the two
+-- mu, each before the w1 that the signature fixes under its key, in c_tilde
+pub record NamesKeyCollision (p : ParameterSet) (H G : List ℕ → List ℕ) (bytes others : List ℕ) (pk other : PublicParts) (signature m n : List ℕ) : Type 0 where
+  pub w1 : List ℕ
+  pub fixed : Fixes p H G pk signature w1
+  pub other_w1 : List ℕ
+  pub other_fixed : Fixes p H G other signature other_w1
+  pub collide : Collide H 64 bytes others ⊎ (Collide H 64 (pk.tr ++ m) (other.tr ++ n)
+      ⊎ Collide H (commitment_length p) (message_hash H pk.tr m ++ w1) (message_hash H other.tr n ++ other_w1))
+
+-- one signature that two keys accept, each read from its bytes, is accepted for one M' under one key, or names a collision
+abbrev pub SignatureBindsKey : Type 0
+SignatureBindsKey =
+    (p : ParameterSet) (H G : List ℕ → List ℕ) (bytes others : List ℕ) (pk other : PublicParts) (m n signature : List ℕ) → IsTrue (is_parameter_set p)
+    → ((x : List ℕ) → 4096 ≤ length (H x)) → IsPublicKeyOf H p.k bytes pk → IsPublicKeyOf H p.k others other
+    → Verifies p H G pk (message_hash H pk.tr m) signature → Verifies p H G other (message_hash H other.tr n) signature
+    → ((pk ≡ other) × (m ≡ n)) ⊎ NamesKeyCollision p H G bytes others pk other signature m n
+
+-- so is one signature that two keys accept for inputs
+abbrev pub SignatureBindsKeyAndInput : Type 0
+SignatureBindsKeyAndInput =
+    (p : ParameterSet) (H G : List ℕ → List ℕ) (bytes others : List ℕ) (pk other : PublicParts) (x y : Input) (signature : List ℕ) → IsTrue (is_parameter_set p)
+    → ((x : List ℕ) → 4096 ≤ length (H x)) → IsPublicKeyOf H p.k bytes pk → IsPublicKeyOf H p.k others other
+    → AcceptsInput H pk.tr (λ mu. Verifies p H G pk mu signature) x → AcceptsInput H other.tr (λ mu. Verifies p H G other mu signature) y
+    → ((pk ≡ other) × (x ≡ y)) ⊎ NamesKeyCollision p H G bytes others pk other signature (framed_input x) (framed_input y)
+
+-- two signatures under a key name a collision of one mu, before the w1 that each of them fixes, in c_tilde
+pub record NamesHintCollision (p : ParameterSet) (H G : List ℕ → List ℕ) (pk : PublicParts) (mu first second : List ℕ) : Type 0 where
+  pub w1 : List ℕ
+  pub fixed : Fixes p H G pk first w1
+  pub other_w1 : List ℕ
+  pub other_fixed : Fixes p H G pk second other_w1
+  pub collide : Collide H (commitment_length p) (mu ++ w1) (mu ++ other_w1)
+
+-- so do two different signatures that a key accepts for one mu, if they are the same up to their hints
+abbrev pub OtherHintCollides : Type 0
+OtherHintCollides =
+    (p : ParameterSet) (H G : List ℕ → List ℕ) (pk : PublicParts) (mu first second : List ℕ) → IsTrue (is_parameter_set p) → first ≢ second
+    → take (commitment_length p + 32 * width (pos (p.gamma1 - 1)) (pos p.gamma1) * p.l) first ≡ take (commitment_length p + 32 * width (pos (p.gamma1 - 1)) (pos p.gamma1) * p.l) second
+    → Verifies p H G pk mu first → Verifies p H G pk mu second → NamesHintCollision p H G pk mu first second

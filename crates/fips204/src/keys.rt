@@ -3,7 +3,7 @@
 
 ghost use Rattle.std.specs.Prelude.{◌≡◌, ◌↔◌, IsTrue, MatchResult};
 ghost use Rattle.fips204.specs.Acceptance.{Verifies};
-ghost use Rattle.fips204.specs.Completeness.{HashComplete};
+ghost use Rattle.fips204.specs.Completeness.{HashComplete, TellsPair};
 ghost use Rattle.fips204.specs.Framing.{message_hash};
 ghost use Rattle.fips204.specs.Keys.{IsWhole, TellsWhole, DecodesPrivate, IsPublicKeyOf};
 ghost use Rattle.fips204.specs.Prepared.{prepared_private, prepared_public};
@@ -269,7 +269,8 @@ where
     }
 
     /// Tells whether the key is whole: whether its t0 is the low part of `A s1 + s2` (Algorithm 6, lines 5
-    /// and 6). Signatures of a whole key verify under the public key that `get_public_key` returns.
+    /// and 6). Signatures of a whole key verify under the public key that `get_public_key` returns, and under the
+    /// one that is decoded from its bytes only if `tr` is the hash of these bytes: `is_pair` tells both.
     ///
     /// Errors: `Fault::SamplingLimit` if rejection sampling of the matrix reaches its limit.
     pub fn is_whole(&self) -> Result<bool, Fault>
@@ -304,6 +305,30 @@ where
             a_hat,
             transforms,
         })
+    }
+}
+
+impl<S, const K: usize, const L: usize, const PK_LEN: usize, const SK_LEN: usize, H, G> PrivateKey<
+    K,
+    L,
+    H,
+    G,
+>
+where
+    H: Xof,
+    G: Xof,
+    Matrix<K, L>: HasSet<Set = S>,
+    S: Set<PublicKey = [u8; PK_LEN], PrivateKey = [u8; SK_LEN]> + KeySizes<K, L, PK_LEN, SK_LEN>,
+{
+    /// Tells whether the key and the public key that `get_public_key` returns are a pair: whether the key is
+    /// whole, as `is_whole` tells, and its `tr` is the hash of that public key's bytes. Signatures of such a key
+    /// also verify under the public key that is decoded from these bytes.
+    ///
+    /// Errors: `Fault::SamplingLimit` if rejection sampling of the matrix reaches its limit.
+    pub fn is_pair(&self) -> Result<bool, Fault>
+        ensures { TellsPair S.set H.front G.front self.now result }
+    {
+        ml_dsa::is_pair::<K, L, PK_LEN, H, G>(&S::params(), self)
     }
 }
 
@@ -387,7 +412,7 @@ where
         )
     }
 
-    /// Decodes a private key. Its t0 and `tr` are not checked: `is_whole` checks t0.
+    /// Decodes a private key. Its t0 and `tr` are not checked: `is_whole` checks t0, and `is_pair` both.
     ///
     /// Errors: `Fault::KeyRange` if a coefficient of s1 or s2 is out of range, so that its field is above `2
     /// eta`.

@@ -9,7 +9,7 @@ ghost use Rattle.fips204_base.specs.Transforms.{ProductOfTransforms, InverseOfTr
 ghost use Rattle.fips204.specs.Completeness.{SignedIsAccepted, BytesTellKeys};
 ghost use Rattle.fips204.specs.Constants.{ConstantsStand, LengthsStand};
 ghost use Rattle.fips204.specs.LongerFronts.{CounterFrontsArePrefixes, LongerFrontsKeep};
-ghost use Rattle.fips204.specs.SchemeLaws.{FramingIsOneToOne, SignatureBindsMessage, SignatureBindsInput, SignatureBindsText, HintGivesHighBits, HintStaysNear, HighBitsStay, ChallengeProductIsSmall, SignatureHasOneSpelling, HintHasOneSpelling};
+ghost use Rattle.fips204.specs.SchemeLaws.{FramingIsOneToOne, SignatureFixesOne, SignatureBindsMessage, SignatureBindsInput, SignatureBindsText, SignatureBindsKey, SignatureBindsKeyAndInput, OtherHintCollides, HintGivesHighBits, HintStaysNear, HighBitsStay, ChallengeProductIsSmall, SignatureHasOneSpelling, HintHasOneSpelling};
 ghost use Rattle.fips204.specs.Prepared.{PreparedAnswersAsPlain};
 ghost use Rattle.fips204.specs.RefusalLaws.{RefusesOnly};
 ghost use Rattle.fips204.specs.ParameterSets.{ParameterSet, is_parameter_set};
@@ -61,7 +61,8 @@ pub fn challenge_product_bound()
     ensures { ChallengeProductIsSmall }
 {}
 
-/// Two signatures that decode to the same commitment, response and hint are the same bytes.
+/// Two signatures with the same `c_tilde`, response and hint are the same bytes, and bytes decode to one `c_tilde`,
+/// one response and one hint.
 pub fn signature_spelling()
     ensures { SignatureHasOneSpelling }
 {}
@@ -78,14 +79,26 @@ pub fn framing()
     ensures { FramingIsOneToOne }
 {}
 
-/// One signature for two inputs gives a collision of `H`: if a public key accepts one signature for two
-/// framed messages, or two inputs, that differ, either the framed messages collide in the 64 bytes of mu, or
-/// the two values of mu, each followed by the same encoded `w1`, collide in the bytes of `c_tilde`. So do two
-/// different messages under one context.
+/// A signature fixes one encoded `w1` under a key, whatever was signed. One signature for two inputs gives a
+/// collision of `H`: if a public key accepts one signature for two framed messages, or two inputs, that differ,
+/// either the framed messages collide in the 64 bytes of mu, or the two values of mu, each followed by this `w1`,
+/// collide in the bytes of `c_tilde`. So do two different messages under one context.
+///
+/// One signature under two keys gives a collision too: if two keys that were decoded from bytes accept one
+/// signature, they are the same key and it is the same framed message or input; or the bytes of the keys collide
+/// in the 64 bytes of `tr`, or the framed messages, each after its `tr`, in those of mu, or the values of mu, each
+/// followed by the `w1` of its key, in those of `c_tilde`.
+///
+/// So do two signatures of one mu under one key that differ in their hints alone: mu, followed by the `w1` of each,
+/// collides in the bytes of `c_tilde`.
 pub fn binding()
+    ensures fixed { SignatureFixesOne }
     ensures framed { SignatureBindsMessage }
     ensures inputs { SignatureBindsInput }
     ensures messages { SignatureBindsText }
+    ensures keys { SignatureBindsKey }
+    ensures keys_and_inputs { SignatureBindsKeyAndInput }
+    ensures hints { OtherHintCollides }
 {}
 
 /// A signature made with a whole private key verifies under the public key derived from it. The key pair of a

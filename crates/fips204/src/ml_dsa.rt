@@ -18,4 +18,4 @@ pub use key_generation::{key_gen, key_gen_internal, private_to_public_key};
 pub use signing::{MAX_SIGN_ATTEMPTS, sign_internal};
 pub use verification::verify_internal;
 pub(crate) use verification::{t1_shifted, verify_prepared};
-pub(crate) use whole::is_whole;
+pub(crate) use whole::{is_pair, is_whole};

@@ -1,8 +1,9 @@
 -- Worked values of residues, products, transforms, norms and rounding.
 use Rattle.std.proofs.Common.{◌≡◌, pos, negsuc, [], ◌∷◌, refl, cond, rules, ◌++◌, if◌then◌else◌, map, true, false, ◌*◌, ◌+◌, ◌-◌, ◌%◌}
 use Rattle.std.proofs.Math.Dec.{eqb}
-use Rattle.fips204_base.specs.Residues.{residue, sum_below, centred, norm, centred_modulo, IsMontgomery}
-use Rattle.fips204_base.specs.Transforms.{bit_reversed, zeta_at, root, inverse_root, transform, inverse_transform, product, row_product, shifted}
+use Rattle.fips204_base.specs.declared.types.R.{R}
+use Rattle.fips204_base.specs.Residues.{residue, sum_below, centred, norm, vector_norm, centred_modulo, IsMontgomery}
+use Rattle.fips204_base.specs.Transforms.{bit_reversed, zeta_at, root, inverse_root, transform, inverse_transform, product, row_product, shifted, plus, minus, pointwise}
 use Rattle.std.specs.Prelude.{replicate, nat_eq}
 use Rattle.std.specs.List.{range_with_len, flat_map}
 use Rattle.fips204_base.specs.Packing.{polynomial_bytes, packed, bits_to_bytes, bits, integer_to_bits, bits_to_integer, field, bit_length}
@@ -122,3 +123,23 @@ use_hint_at_zero = refl
 make_hint_steps : (make_hint 95232 1 95232 ∷ make_hint 95232 1 95231 ∷ make_hint 95232 1 8285184 ∷ make_hint 95232 1 8380416 ∷ []) ≡ true ∷ false ∷ true ∷ false ∷ []
 unfolding decompose
 make_hint_steps = refl
+
+below_minus_q : residue (negsuc 8380417) ≡ 8380416
+below_minus_q = refl
+
+-- X times X is X^2, -1 times 2 is reduced, and place 256 is no part of a polynomial
+product_inside : (product (λ i. if nat_eq i 256 then 1 else 0) (λ _. 1) 5 ≡ 0) × (product (λ i. if nat_eq i 1 then 1 else 0) (λ i. if nat_eq i 1 then 1 else 0) 2 ≡ 1) × (product (λ i. if nat_eq i 0 then 8380416 else 0) (λ i. if nat_eq i 0 then 2 else 0) 0 ≡ 8380415)
+unfolding product shifted sum_below
+product_inside = (refl, refl, refl)
+
+-- a step down from 1, and one up to 3
+use_hint_between : (use_hint 95232 true 95233 ≡ 0) × (use_hint 95232 true 380928 ≡ 1) × (use_hint 95232 true 380929 ≡ 3) × (use_hint 261888 true 8118528 ≡ 0)
+unfolding use_hint decompose
+use_hint_between = (refl, refl, refl, refl)
+
+sums_reduced : (plus (λ n. 8380416) (λ n. 3) 0 ≡ 2) × (minus (λ n. 1) (λ n. 3) 0 ≡ 8380415) × (pointwise (λ i. 8380416) (λ i. i) 5 ≡ 8380412)
+sums_reduced = (refl, refl, refl)
+
+largest_norm : vector_norm (record { 0 = pos 3 ∷ [] } ∷ record { 0 = negsuc 6 ∷ [] } ∷ record { 0 = [] } ∷ []) ≡ 7
+unfolding centred
+largest_norm = refl

@@ -4,6 +4,7 @@ use Rattle.fips204_base.specs.Packing.{bit_length, bits, bits_to_bytes, bits_to_
 use Rattle.std.specs.Prelude.{replicate, nat_eq}
 use Rattle.std.specs.List.{range_with_len}
 use Rattle.fips204_base.specs.declared.types.R.{R}
+use Rattle.fips204_base.specs.Streams.{counter_block, counter_blocks}
 use Rattle.fips204_base.specs.Vectors.{polynomial_of}
 use Rattle.fips204_base.specs.Encodings.{is_one, ones_below, hint_bytes, Spells}
 use Rattle.fips204_base.proofs.HintSpelling.{pieces, totals_rise, piece_rises, zero_rest}
@@ -130,3 +131,15 @@ total_above_omega h s =
     let bytes : List ℕ = range_with_len 0 80 ++ 0 ∷ 0 ∷ 0 ∷ 81 ∷ [] in
     let rise = totals_rise 80 h bytes 3 (pieces 80 4 h bytes s) (omega (arith, rows)) in
     omega (arith, rise.1)
+
+coefficient_from_zero : coefficient (pos 0) (pos 1023) 700 ≡ pos 700
+unfolding coefficient
+coefficient_from_zero = refl
+
+block_of_a_stream : counter_block (λ x. x) (7 ∷ []) 258 ≡ 7 ∷ 2 ∷ 1 ∷ 0 ∷ 0 ∷ []
+unfolding counter_block
+block_of_a_stream = refl
+
+blocks_of_a_stream : counter_blocks (λ x. x) (7 ∷ []) 2 ≡ 7 ∷ 0 ∷ 0 ∷ 0 ∷ 0 ∷ 7 ∷ 1 ∷ 0 ∷ 0 ∷ 0 ∷ []
+unfolding counter_blocks counter_block
+blocks_of_a_stream = refl

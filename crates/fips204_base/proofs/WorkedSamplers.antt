@@ -1,11 +1,11 @@
 -- Worked values of the samplers.
 use Rattle.std.proofs.Common.{◌≡◌, [], ◌∷◌, ◌++◌, pos, negsuc, refl, Some, None}
-use Rattle.std.specs.Prelude.{replicate, flat_map, option_map, map, get_or}
+use Rattle.std.specs.Prelude.{replicate, flat_map, option_map, map, get_or, take, length}
 use Rattle.std.specs.Int.{w16, to_le_bytes}
 use Rattle.std.specs.List.{range_with_len}
 use Rattle.fips204_base.specs.Packing.{bits, integer_to_bits, bits_to_integer, coefficient, bit_length}
 use Rattle.fips204_base.specs.Vectors.{polynomial_of}
-use Rattle.fips204_base.specs.Sampling.{coefficient_from_three_bytes, coefficient_from_half_byte, first_256, all_present, triple, kept_triples, matrix_entry, sampled_matrix, kept_half_bytes, small_polynomial, small_vector, field_at, unpacked, mask_polynomial, mask, picks, moved, places, signed_sum, challenge_picks, challenge}
+use Rattle.fips204_base.specs.Sampling.{coefficient_from_three_bytes, coefficient_from_half_byte, half_bytes, sampled_entry, first_256, all_present, triple, kept_triples, matrix_entry, sampled_matrix, kept_half_bytes, small_polynomial, small_vector, field_at, unpacked, mask_polynomial, mask, picks, moved, places, signed_sum, challenge_picks, challenge}
 
 three_bytes_examples : (coefficient_from_three_bytes 0x12 0x34 0x56 ∷ coefficient_from_three_bytes 0x12 0x34 0x80 ∷ coefficient_from_three_bytes 0x01 0xE0 0x80 ∷ coefficient_from_three_bytes 0x01 0xE0 0x7F ∷ coefficient_from_three_bytes 0x00 0xE0 0x7F ∷ [])
     ≡ Some (pos 5649426) ∷ Some (pos 13330) ∷ Some (pos 57345) ∷ None ∷ Some (pos 8380416) ∷ []
@@ -85,3 +85,37 @@ mask_over_zeros = refl
 -- the largest counter of the mask, 813 * 7 + 6
 mask_counter : to_le_bytes w16 5697 ≡ 0x41 ∷ 0x16 ∷ []
 mask_counter = refl
+
+half_byte_of_fourteen : (coefficient_from_half_byte 2 14 ≡ Some (negsuc 1)) × (half_bytes (240 ∷ []) ≡ 0 ∷ 15 ∷ [])
+half_byte_of_fourteen = (refl, refl)
+
+-- triples are three bytes apart
+three_triples : kept_triples (range_with_len 0 9) 3 ≡ pos 131328 ∷ pos 328707 ∷ pos 526086 ∷ []
+unfolding kept_triples triple
+three_triples = refl
+
+-- a quarter of the front is tried: 258 triples, of which 256 have to be kept
+entry_at_its_limit : (option_map (λ t. length t.0) (matrix_entry (replicate 6 0xFF ++ replicate 1026 0)) ≡ Some 256) × (option_map (λ t. length t.0) (matrix_entry (replicate 9 0xFF ++ replicate 1023 0)) ≡ None)
+unfolding matrix_entry kept_triples triple first_256
+entry_at_its_limit = (refl, refl)
+
+-- the seed of an entry begins with rho
+seed_begins_with_rho : option_map (λ t. get_or t.0 0 (pos 0)) (sampled_entry (λ seed. seed ++ replicate 1021 0) (7 ∷ []) 2 1) ≡ Some (pos 131335)
+unfolding matrix_entry kept_triples triple first_256
+seed_begins_with_rho = refl
+
+-- a coefficient moves twice
+places_move_twice : places 217 (217 ∷ 217 ∷ 218 ∷ []) ≡ 219 ∷ 217 ∷ 218 ∷ []
+unfolding places moved
+places_move_twice = refl
+
+-- signs are read from the first byte on, and picks from the ninth
+challenge_of_two : option_map (λ c. take 9 c.0) (challenge 2 (1 ∷ replicate 7 0 ++ 255 ∷ 3 ∷ 7 ∷ replicate 9 0))
+    ≡ Some (replicate 3 (pos 0) ++ negsuc 0 ∷ replicate 3 (pos 0) ++ pos 1 ∷ pos 0 ∷ [])
+unfolding challenge challenge_picks picks places moved signed_sum polynomial_of bits integer_to_bits
+challenge_of_two = refl
+
+-- the seed of a polynomial of the mask begins with rho
+mask_begins_with_rho : map (λ w. get_or w.0 0 (pos 0)) (mask 131072 (λ seed. seed ++ replicate 573 0) (5 ∷ []) 1 513) ≡ negsuc 260 ∷ []
+unfolding mask polynomial_of unpacked field_at bits integer_to_bits bits_to_integer coefficient bit_length
+mask_begins_with_rho = refl

@@ -4,7 +4,8 @@
 #![tactic(auto)]
 
 ghost use Rattle.std.specs.Prelude.{◌≡◌, ◌≢◌, ◌↔◌, IsTrue};
-ghost use Rattle.fips204.specs.SchemeLaws.{MessagesCollide};
+ghost use Rattle.fips204.specs.SchemeLaws.{NamesCollision};
+ghost use Rattle.fips204.specs.Framing.{framed};
 ghost use Rattle.fips204.specs.ParameterSets.{set_44};
 ghost use Rattle.mldsa_examples.specs.Licence.{spelling, IsToken, IsValid, SpellingIsOneToOne};
 
@@ -60,7 +61,7 @@ pub fn licence_valid<H: Xof, G: Xof>(
 }
 
 /// Whether one signature is accepted for two tokens. If the tokens differ, that is a collision of the stream
-/// `H`, and the clause names the pair.
+/// `H`, and the clause names the pair: its inputs come from the tokens, the key and the signature.
 pub fn accepted_for_both<H: Xof, G: Xof>(
     key: &PublicKey<H, G>,
     first: &Token,
@@ -68,7 +69,8 @@ pub fn accepted_for_both<H: Xof, G: Xof>(
     signature: &[u8; SIG_LEN],
 ) -> bool
     ensures { IsTrue result → first.now ≢ second.now
-        → MessagesCollide set_44 H.front key.now.tr CONTEXT.now (spelling first.now) (spelling second.now) }
+        → NamesCollision set_44 H.front G.front key.now signature.now
+            (framed (spelling first.now) CONTEXT.now) (framed (spelling second.now) CONTEXT.now) }
 {
     laws::binding();
     one_spelling();

@@ -1,17 +1,28 @@
 //! What a caller gets of a call by a law. No code calls these functions: they show what the laws must say.
 #![tactic(auto)]
 
-ghost use Rattle.std.specs.Prelude.{◌≡◌, true, Ok, Err, IfOk, MatchResult};
-ghost use Rattle.fips204.specs.Keys.{IsWhole};
+ghost use Rattle.std.specs.Prelude.{◌≡◌, ◌≢◌, ℕ, List, [], true, None, Ok, Err, IfOk, IsTrue, MatchResult, replicate, slice_index_or};
+ghost use Rattle.fips204_base.specs.Encodings.{IsSignature, Spells};
+ghost use Rattle.fips204_base.specs.Streams.{counter_blocks, sha256_front, sha256_long_front, sha512_front, sha512_long_front, IsPrefix};
+ghost use Rattle.fips204_base.specs.declared.types.R.{R};
+ghost use Rattle.fips204.specs.Acceptance.{Verifies};
+ghost use Rattle.fips204.specs.Framing.{framed};
+ghost use Rattle.fips204.specs.Keys.{PublicParts, IsWhole};
+ghost use Rattle.fips204.specs.LongerFronts.{IsDecided};
 ghost use Rattle.fips204.specs.ParameterSets.{set_44, set_65, set_87};
-ghost use Rattle.fips204.specs.Refusals.{generated};
+ghost use Rattle.fips204.specs.Prepared.{sign_message_prepared};
+ghost use Rattle.fips204.specs.Refusals.{generated, message_fault};
+ghost use Rattle.fips204.specs.SchemeLaws.{NamesCollision, NamesKeyCollision};
 ghost use Rattle.fips204.specs.Sets.{set_of};
 
-use super::{prepared_keys, signed_is_accepted};
-use crate::ml_dsa_44::{KG, PrivateKey, PublicKey};
-use crate::traits::{KeyGen, Signer};
+use super::{
+    binding, counter_fronts, framing, hint_spelling, longer_front, prepared_keys,
+    signature_spelling, signed_is_accepted,
+};
+use crate::ml_dsa_44::{KG, PK_LEN, PreparedPrivateKey, PrivateKey, PublicKey, SIG_LEN};
+use crate::traits::{KeyGen, SerDes, Signer, Verifier};
 use crate::types::{ML_DSA_44, ML_DSA_65, ML_DSA_87, Params};
-use crate::xof::Xof;
+use crate::xof::{Fill, Sha256Ctr, Sha256CtrLong, Sha512Ctr, Sha512CtrLong, Xof};
 use fips204_base::Fault;
 
 /// The public key that is derived from the private key of a seed. It is the public key of the seed, and deriving
@@ -48,6 +59,116 @@ pub(crate) fn prepared_accepts<H: Xof, G: Xof>(
     let public = private.get_public_key()?.prepare()?;
     let signature = private.prepare()?.try_sign_with_seed(rnd, message, ctx)?;
     Ok(public.verify(message, &signature, ctx))
+}
+
+/// Whether both keys of a seed, each read from its bytes, go together: the public one accepts what the private one
+/// signs. It does, if there is no error.
+pub(crate) fn stored_pair_accepts<H: Xof, G: Xof>(
+    xi: &[u8; 32],
+    rnd: &[u8; 32],
+    message: &[u8],
+    ctx: &[u8],
+) -> Result<bool, Fault>
+    ensures { IfOk result (λ answer. answer ≡ true) }
+{
+    signed_is_accepted();
+    let (public, private) = KG::<H, G>::keygen_from_seed(xi)?;
+    let public = PublicKey::<H, G>::try_from_bytes(public.into_bytes())?;
+    let private = PrivateKey::<H, G>::try_from_bytes(private.into_bytes())?;
+    let signature = private.try_sign_with_seed(rnd, message, ctx)?;
+    Ok(public.verify(message, &signature, ctx))
+}
+
+/// The second of two messages, signed by `sign_each`.
+pub(crate) fn second_of_two<H: Xof>(
+    key: &PreparedPrivateKey<H>,
+    seeds: &[[u8; 32]; 2],
+    first: &[u8],
+    second: &[u8],
+    ctx: &[u8],
+) -> Result<[u8; SIG_LEN], Fault>
+    ensures { result ≡ sign_message_prepared set_44 H.front key.now (slice_index_or seeds.now 1 []) second.now ctx.now }
+{
+    let mut answers = [Err(Fault::SamplingLimit); 2];
+    key.sign_each(seeds, &[first, second], ctx, &mut answers);
+    answers[1]
+}
+
+/// Whether one signature is accepted for two messages, over streams of one byte. Each two inputs collide there, so
+/// what the clause says of a true is that the signature fixes its w1 under the key.
+pub(crate) fn accepted_for_both_over_one_byte(
+    key: &PublicKey<Fill<0x55>, Fill<0x55>>,
+    first: &[u8],
+    second: &[u8],
+    signature: &[u8; SIG_LEN],
+    ctx: &[u8],
+) -> bool
+    ensures { IsTrue result → first.now ≢ second.now
+        → NamesCollision set_44 (λ _. replicate 4096 0x55) (λ _. replicate 4096 0x55) key.now signature.now
+        (framed first.now ctx.now) (framed second.now ctx.now) }
+{
+    binding();
+    key.verify(first, signature, ctx) && key.verify(second, signature, ctx)
+}
+
+/// Whether one signature of a message is accepted under two keys. If the keys have other bytes, that is a collision
+/// of the stream `H`, and the clause names it.
+pub(crate) fn accepted_under_both<H: Xof, G: Xof>(
+    bytes: [u8; PK_LEN],
+    others: [u8; PK_LEN],
+    message: &[u8],
+    signature: &[u8; SIG_LEN],
+    ctx: &[u8],
+) -> Result<bool, Fault>
+    ensures { IfOk result (λ yes. IsTrue yes → bytes ≢ others
+        → (pk other : PublicParts) × NamesKeyCollision set_44 H.front G.front bytes others pk other signature.now
+        (framed message.now ctx.now) (framed message.now ctx.now)) }
+{
+    binding();
+    let first = PublicKey::<H, G>::try_from_bytes(bytes)?;
+    let second = PublicKey::<H, G>::try_from_bytes(others)?;
+    Ok(first.verify(message, signature, ctx) && second.verify(message, signature, ctx))
+}
+
+/// Two messages under contexts that are short enough are the same where their framed messages are.
+pub(crate) fn one_message()
+    ensures { (m n c d : List ℕ) → message_fault c ≡ None → message_fault d ≡ None → framed m c ≡ framed n d → (m ≡ n) × (c ≡ d) }
+{
+    framing();
+}
+
+/// Parts have one spelling as a signature of set 44, and bytes have one c_tilde and one hint.
+pub(crate) fn one_signature()
+    ensures bytes { (first second c_tilde : List ℕ) (z h : List R) → IsSignature 131072 80 4 4 32 first c_tilde z h
+        → IsSignature 131072 80 4 4 32 second c_tilde z h → first ≡ second }
+    ensures parts { (bytes c_tilde other : List ℕ) (z h y g : List R) → IsSignature 131072 80 4 4 32 bytes c_tilde z h
+        → IsSignature 131072 80 4 4 32 bytes other y g → (c_tilde ≡ other) × (h ≡ g) }
+{
+    signature_spelling();
+}
+
+/// A hint of set 44 has one spelling, and bytes spell one hint.
+pub(crate) fn one_hint()
+    ensures bytes { (first second : List ℕ) (h : List R) → Spells 80 4 h first → Spells 80 4 h second → first ≡ second }
+    ensures hints { (bytes : List ℕ) (h g : List R) → Spells 80 4 h bytes → Spells 80 4 g bytes → h ≡ g }
+{
+    hint_spelling();
+}
+
+/// A verdict over the streams in counter mode that is decided stays over the longer ones.
+pub(crate) fn decided_verdict()
+    ensures { (pk : PublicParts) (mu signature : List ℕ) → IsDecided set_44 sha256_front sha512_front pk signature
+        → Verifies set_44 sha256_long_front sha512_long_front pk mu signature → Verifies set_44 sha256_front sha512_front pk mu signature }
+{
+    counter_fronts();
+    longer_front::<Sha256Ctr, Sha512Ctr, Sha256CtrLong, Sha512CtrLong>();
+}
+
+/// Two blocks of any stream in counter mode are a prefix of five.
+pub(crate) fn two_blocks_of_five()
+    ensures { (hash : List ℕ → List ℕ) (seed : List ℕ) → IsPrefix (counter_blocks hash seed 2) (counter_blocks hash seed 5) }
+{
+    counter_fronts();
 }
 
 /// The rows of the three sets, each under its name. A clause of `constants` cannot name them.

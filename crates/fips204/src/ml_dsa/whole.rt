@@ -1,15 +1,18 @@
-//! Whether a private key is whole (FIPS 204, Algorithm 6, lines 3 to 6).
+//! Whether a private key is whole (FIPS 204, Algorithm 6, lines 3 to 6), and half of a pair.
 #![tactic(auto)]
 
-ghost use Rattle.std.specs.Prelude.{◌≡◌};
+ghost use Rattle.std.specs.Prelude.{◌≡◌, ◌↔◌, IsTrue};
+ghost use Rattle.fips204.specs.Completeness.{TellsPair};
 ghost use Rattle.fips204.specs.Keys.{TellsWhole};
+ghost use Rattle.fips204.specs.ParameterSets.{public_key_length};
 ghost use Rattle.fips204.specs.Sets.{set_of};
 
-use super::key_generation::write_key_vector;
+use super::key_generation::{private_to_public_key, write_key_vector};
 use crate::types::{Params, PrivateKey, R0};
 use fips204_base::Fault;
+use fips204_base::encodings::pk_encode;
 use fips204_base::high_low::write_power2round;
-use fips204_base::xof::Xof;
+use fips204_base::xof::{Xof, hash};
 
 /// Tells whether t0 of a private key is the low part of `A s1 + s2`.
 ///
@@ -28,4 +31,28 @@ pub(crate) fn is_whole<const K: usize, const L: usize, H, G: Xof>(
     // (_, t0) = Power2Round(t)
     write_power2round(&mut t, &mut [R0; K]);
     Ok(sk.t0 == t)
+}
+
+/// Tells whether a private key and the public key derived from it are a pair: whether the private key is whole,
+/// and its `tr` is the hash of the bytes of that public key.
+///
+/// Errors: `Fault::SamplingLimit` if the matrix of `rho` reaches its limit.
+///
+/// `PK_LEN` is the length of the set's public keys.
+pub(crate) fn is_pair<const K: usize, const L: usize, const PK_LEN: usize, H: Xof, G: Xof>(
+    p: &Params,
+    sk: &PrivateKey<K, L, H, G>,
+) -> Result<bool, Fault>
+    requires rows { K ≡ p.now.k }
+    requires columns { L ≡ p.now.l }
+    requires size { PK_LEN ≡ public_key_length (set_of p.now) }
+    ensures { TellsPair (set_of p.now) H.front G.front sk.now result }
+{
+    let public = private_to_public_key::<K, L, H, G>(p, sk)?;
+    let whole = is_whole::<K, L, H, G>(p, sk)?;
+    // tr = H(pkEncode(rho, t1))
+    let pk: [u8; PK_LEN] = pk_encode(&public.rho, &public.t1);
+    let tr = hash::<H, 64>(&[pk.as_slice()]);
+    let own = sk.tr == tr;
+    Ok(whole && own)
 }

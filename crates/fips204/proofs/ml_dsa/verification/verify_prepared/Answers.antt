@@ -9,7 +9,9 @@ use Rattle.fips204.proofs.ml_dsa.verification.verify_prepared.Goals as goal
 pub returns-in_default : goal.returns-in_default
 returns-in_default g c = (
   λ t. absurd (true≢false (sym t)),
-  λ v. absurd (c.in_default.ensures.parts v.c_tilde v.z v.h v.c (record { parts = v.parts; norm = v.norm }) v.challenge),
+  λ v.
+      let o = v.opened in
+      absurd (c.in_default.ensures.parts v.c_tilde o.z o.h o.c (record { parts = o.parts; norm = o.norm }) o.sampled),
 )
 
 pub returns : goal.returns

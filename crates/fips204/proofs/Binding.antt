@@ -1,0 +1,144 @@
+-- What one signature fixes: one w1 under a key, and one message and one key unless it names a collision.
+use Rattle.std.proofs.Common.{◌≡◌, ◌≤◌, ℕ, List, ◌++◌, length, take, Bool, true, false, IsTrue, Some, refl, sym, ap, ◌∙◌, arith, true≢false, ◌≢◌, ◌⊎◌, inl, inr, Decides}
+use Rattle.std.specs.Prelude.{bytes_eq}
+use Rattle.std.proofs.lemmas.List.{append_cancel_left, append_cancel_right, length-take-le}
+use Rattle.std.proofs.lemmas.Slice.Eq.{bytes_eq-Decides}
+use Rattle.fips204_base.specs.declared.types.R.{R}
+use Rattle.fips204_base.specs.declared.types.T.{T}
+use Rattle.fips204_base.specs.Encodings.{w1_bytes}
+use Rattle.fips204_base.specs.Sampling.{challenge}
+use Rattle.fips204_base.proofs.EncodedParts.{same_signature}
+use Rattle.fips204.specs.ParameterSets.{ParameterSet, is_parameter_set, commitment_length}
+use Rattle.fips204.specs.Acceptance.{Opens, Verifies, w1_prime}
+use Rattle.fips204.specs.Framing.{Input, plain, hashed, framed_input, message_hash}
+use Rattle.fips204.specs.Keys.{PublicParts}
+use Rattle.fips204.specs.SchemeLaws.{Collide, Fixes, SignatureFixesOne, SignatureBindsMessage, SignatureBindsInput, SignatureBindsText, NamesKeyCollision, SignatureBindsKey, SignatureBindsKeyAndInput}
+use Rattle.fips204.proofs.Framing.{same_input}
+use Rattle.fips204.proofs.ParameterSets.{set_numbers}
+use Rattle.fips204.proofs.WholeKeys.{one_public_key}
+use Rattle.fips204.proofs.Spellings.{same_parts}
+
+-- ---- two lists are the same or they differ
+
+by_test : (P : Type 0) (b : Bool) → Decides b P → P ⊎ (P → ⊥)
+by_test P true d = inl (d.0 refl)
+by_test P false d = inr (λ p. true≢false (sym (d.1 p)))
+
+same_or_not : (xs ys : List ℕ) → (xs ≡ ys) ⊎ (xs ≢ ys)
+same_or_not xs ys = by_test (xs ≡ ys) (bytes_eq xs ys) (bytes_eq-Decides xs ys)
+
+-- ---- what a signature fixes under a key
+
+-- c_tilde under any two keys, and w1 under one
+same_opened : (p : ParameterSet) (H : List ℕ → List ℕ) (a b : List (List T)) (t1 : List R) (signature c d v w : List ℕ) → IsTrue (is_parameter_set p)
+    → a ≡ b → Opens p H a t1 signature c v → Opens p H b t1 signature d w → v ≡ w
+same_opened p H a b t1 signature c d v w row same x y =
+    let gamma1 = (set_numbers p row).gamma1 in
+    let parts = same_signature p.gamma1 p.omega p.k p.l (commitment_length p) signature c d x.z y.z x.h y.h (omega (arith, gamma1)) (omega (arith, gamma1)) x.parts y.parts in
+    let challenges : Some x.c ≡ Some y.c = sym x.sampled ∙ ap (λ bytes. challenge p.tau (H bytes)) parts.0 ∙ y.sampled in
+    let one : x.c ≡ y.c = cc in
+    let z = parts.1 in
+    let h = parts.2 in
+    let bytes = w1_bytes p.gamma2 in
+    x.recomputed ∙ ap (λ m. bytes (w1_prime p m t1 x.z x.h x.c)) same ∙ ap (λ v. bytes (w1_prime p b t1 v x.h x.c)) z ∙ ap (λ v. bytes (w1_prime p b t1 y.z v x.c)) h
+    ∙ ap (λ v. bytes (w1_prime p b t1 y.z y.h v)) one ∙ sym y.recomputed
+
+same_commitment : (p : ParameterSet) (H : List ℕ → List ℕ) (a b : List (List T)) (t u : List R) (signature c d v w : List ℕ) → IsTrue (is_parameter_set p)
+    → Opens p H a t signature c v → Opens p H b u signature d w → c ≡ d
+same_commitment p H a b t u signature c d v w row x y =
+    let gamma1 = (set_numbers p row).gamma1 in
+    (same_signature p.gamma1 p.omega p.k p.l (commitment_length p) signature c d x.z y.z x.h y.h (omega (arith, gamma1)) (omega (arith, gamma1)) x.parts y.parts).0
+
+pub signature_fixes_one : SignatureFixesOne
+signature_fixes_one p H G pk signature w1 other row x y =
+    let matrices : Some x.a ≡ Some y.a = sym x.matrix ∙ y.matrix in
+    let matrix : x.a ≡ y.a = cc in
+    same_opened p H x.a y.a pk.t1 signature x.c_tilde y.c_tilde w1 other row matrix x.opened y.opened
+
+pub fixed_by : (p : ParameterSet) (H G : List ℕ → List ℕ) (pk : PublicParts) (mu signature : List ℕ) → (v : Verifies p H G pk mu signature) → Fixes p H G pk signature v.accepted.w1
+fixed_by p H G pk mu signature v = record { a = v.a; matrix = v.matrix; c_tilde = v.accepted.c_tilde; opened = v.accepted.opened }
+
+-- the hash of mu and of nu, each with the w1 of its acceptance, is the c_tilde of the signature
+same_hash : (p : ParameterSet) (H G : List ℕ → List ℕ) (pk other : PublicParts) (mu nu signature : List ℕ) → IsTrue (is_parameter_set p)
+    → (x : Verifies p H G pk mu signature) (y : Verifies p H G other nu signature)
+    → take (commitment_length p) (H (mu ++ x.accepted.w1)) ≡ take (commitment_length p) (H (nu ++ y.accepted.w1))
+same_hash p H G pk other mu nu signature row x y =
+    let one = same_commitment p H x.a y.a pk.t1 other.t1 signature x.accepted.c_tilde y.accepted.c_tilde x.accepted.w1 y.accepted.w1 row x.accepted.opened y.accepted.opened in
+    sym x.accepted.same ∙ one ∙ y.accepted.same
+
+-- ---- one signature for two framed messages
+
+pub signature_binds_message : SignatureBindsMessage
+signature_binds_message p H G pk m n signature row differ first second =
+    let mu = message_hash H pk.tr m in
+    let nu = message_hash H pk.tr n in
+    let w1 = first.accepted.w1 in
+    let own = fixed_by p H G pk mu signature first in
+    let one = signature_fixes_one p H G pk signature w1 second.accepted.w1 row own (fixed_by p H G pk nu signature second) in
+    let hash = same_hash p H G pk pk mu nu signature row first second ∙ ap (λ v. take (commitment_length p) (H (nu ++ v))) (sym one) in
+    record {
+      w1 = w1;
+      fixed = own;
+      collide = elim (same_or_not mu nu) [
+        | inl e ↦ inl record { differ = λ d. differ (append_cancel_left pk.tr m n d); same = e }
+        | inr other ↦ inr record { differ = λ d. other (append_cancel_right mu nu w1 d); same = hash }
+      ];
+    }
+
+pub signature_binds_input : SignatureBindsInput
+signature_binds_input p H G pk x y signature row differ first second =
+    signature_binds_message p H G pk (framed_input x) (framed_input y) signature row (λ same. differ (same_input x y first.allowed second.allowed same)) first.accepted second.accepted
+
+message_of : Input → List ℕ
+message_of (plain message context) = message
+message_of (hashed digest context oid) = digest
+
+pub signature_binds_text : SignatureBindsText
+unfolding message_of
+signature_binds_text p H G pk context first second signature row differ one two =
+    let inputs_differ = λ (same : plain first context ≡ plain second context). differ (ap message_of same) in
+    signature_binds_input p H G pk (plain first context) (plain second context) signature row inputs_differ one two
+
+-- ---- one signature under two keys
+
+-- 64 bytes of a front
+length-64 : (H : List ℕ → List ℕ) → ((x : List ℕ) → 4096 ≤ length (H x)) → (input : List ℕ) → length (take 64 (H input)) ≡ 64
+length-64 H long input = let enough = long input in length-take-le 64 (H input) (omega (arith, enough))
+
+pub signature_binds_key : SignatureBindsKey
+signature_binds_key p H G bytes others pk other m n signature row long one two first second =
+    let mu = message_hash H pk.tr m in
+    let nu = message_hash H other.tr n in
+    let v = first.accepted.w1 in
+    let w = second.accepted.w1 in
+    let named = λ (collide : Collide H 64 bytes others ⊎ (Collide H 64 (pk.tr ++ m) (other.tr ++ n) ⊎ Collide H (commitment_length p) (mu ++ v) (nu ++ w))).
+    let all : NamesKeyCollision p H G bytes others pk other signature m n = record {
+      w1 = v;
+      fixed = fixed_by p H G pk mu signature first;
+      other_w1 = w;
+      other_fixed = fixed_by p H G other nu signature second;
+      collide = collide;
+    } in all in
+    elim (same_or_not (mu ++ v) (nu ++ w)) [
+      | inr differ ↦ inr (named (inr (inr record { differ = differ; same = same_hash p H G pk other mu nu signature row first second })))
+      | inl equal ↦
+          let hashes = same_parts mu nu v w (length-64 H long (pk.tr ++ m) ∙ sym (length-64 H long (other.tr ++ n))) equal in
+          elim (same_or_not (pk.tr ++ m) (other.tr ++ n)) [
+            | inr differ ↦ inr (named (inr (inl record { differ = differ; same = hashes.0 })))
+            | inl framed ↦
+                let tr = ap length one.hash ∙ length-64 H long bytes in
+                let other_tr = ap length two.hash ∙ length-64 H long others in
+                let parts = same_parts pk.tr other.tr m n (tr ∙ sym other_tr) framed in
+                elim (same_or_not bytes others) [
+                  | inr differ ↦ inr (named (inl record { differ = differ; same = sym one.hash ∙ parts.0 ∙ two.hash }))
+                  | inl read ↦ inl (one_public_key p.k pk other one.seed two.seed one.high two.high parts.0 (one.same_bytes ∙ read ∙ sym two.same_bytes), parts.1)
+                ]
+          ]
+    ]
+
+pub signature_binds_key_and_input : SignatureBindsKeyAndInput
+signature_binds_key_and_input p H G bytes others pk other x y signature row long one two first second =
+    elim (signature_binds_key p H G bytes others pk other (framed_input x) (framed_input y) signature row long one two first.accepted second.accepted) [
+      | inl same ↦ inl (same.0, same_input x y first.allowed second.allowed same.1)
+      | inr named ↦ inr named
+    ]

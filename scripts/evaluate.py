@@ -1,0 +1,586 @@
+"""An evaluator of the definitions of specs/: each equation becomes a function of Python, and nothing is known beside the text but the
+library's functions on numbers, lists and options, which stand here by their names.
+
+Numbers and integers are numbers of Python, lists are tuples, and `map` gives a list whose elements are made when they are asked for; so
+are the fields of records, the parts of pairs and what `let` binds. Types, records of facts and propositions are passed over.
+"""
+import hashlib
+import re
+
+from specs import files
+
+TOKEN = re.compile(r'\s*(?:("[^"]*")|(0x[0-9A-Fa-f]+|\d+)|([^\W\d][\w\']*)|(\.(?=\w)|[+\-*≤<]ℤ|\+\+|&&|\|\||\S))')
+LEVELS = [("≡",), ("||",), ("&&",), ("<", "≤", "<ℤ", "≤ℤ"), ("∷", "++"), ("+", "-", "+ℤ", "-ℤ"), ("*", "/", "%", "*ℤ"), ("^",)]
+RIGHT = {"∷", "++", "^", "&&", "||"}
+OPERATOR = {
+    "≡": "same({}, {})", "||": "({} or {})", "&&": "({} and {})", "<": "({} < {})", "≤": "({} <= {})", "<ℤ": "({} < {})", "≤ℤ": "({} <= {})",
+    "∷": "(({},) + listed({}))", "++": "(listed({}) + listed({}))", "+": "({} + {})", "-": "less({}, {})", "+ℤ": "({} + {})",
+    "-ℤ": "({} - {})", "*": "({} * {})", "*ℤ": "({} * {})", "/": "over({}, {})", "%": "modulo({}, {})", "^": "({} ** {})",
+}
+
+
+class Unparsed(Exception):
+    """A text that is no plain definition: a type, a proposition or a proof."""
+
+
+def tokens(text):
+    text = re.sub(r"--.*", "", text)
+    found, place = [], 0
+    text = text.rstrip()
+    while place < len(text):
+        match = TOKEN.match(text, place)
+        kind = ("text", "number", "name", "sign")[[bool(part) for part in match.groups()].index(True)]
+        found.append((kind, match.group(match.lastindex), match.start(match.lastindex)))
+        place = match.end()
+    return found
+
+
+class Parser:
+    """A parser of terms: trees of tuples, whose first part is `number`, `text`, `name`, `apply`, `binary`, `if`, `let`, `lambda`, `record`,
+    `pair`, `field` or `list`."""
+
+    def __init__(self, text):
+        self.tokens, self.place = tokens(text), 0
+
+    def peek(self, ahead=0):
+        return self.tokens[self.place + ahead][1] if self.place + ahead < len(self.tokens) else ""
+
+    def kind(self):
+        return self.tokens[self.place][0] if self.place < len(self.tokens) else ""
+
+    def take(self, wanted=None):
+        if self.place >= len(self.tokens) or (wanted and self.peek() != wanted):
+            raise Unparsed(f"{wanted} for {self.peek()}")
+        self.place += 1
+        return self.tokens[self.place - 1][1]
+
+    def skipped(self, opening="{", closing="}"):
+        depth = 0
+        while True:
+            depth += {opening: 1, closing: -1}.get(self.take(), 0)
+            if depth == 0:
+                return
+
+    def term(self, level=0):
+        if self.peek() == "λ":
+            return self.function()
+        if self.peek() == "let":
+            self.take()
+            name = self.take()
+            if self.peek() == ":":
+                while self.peek() != "=":
+                    self.take()
+            self.take("=")
+            value = self.term()
+            self.take("in")
+            return ("let", name, value, self.term())
+        if self.peek() == "if":
+            self.take()
+            test = self.term()
+            self.take("then")
+            one = self.term()
+            self.take("else")
+            return ("if", test, one, self.term())
+        if level == len(LEVELS):
+            return self.application()
+        left = self.term(level + 1)
+        while self.peek() in LEVELS[level]:
+            sign = self.take()
+            left = ("binary", sign, left, self.term(level if sign in RIGHT else level + 1))
+        return left
+
+    def function(self):
+        self.take("λ")
+        names = []
+        while self.peek() != ".":
+            if self.peek() == "(":
+                self.take()
+                names.append(self.take())
+                while self.peek() != ")":
+                    self.take()
+                self.take()
+            else:
+                names.append(self.take())
+        self.take(".")
+        return ("lambda", names, self.term())
+
+    def application(self):
+        head = self.atom()
+        arguments = []
+        while True:
+            if self.peek() == "{":
+                self.skipped()
+            elif self.kind() in ("number", "text") or self.peek() in ("(", "[") or (self.kind() == "name" and self.peek() not in ("in", "then", "else")):
+                arguments.append(self.atom())
+            elif self.peek() == "λ":
+                arguments.append(self.function())
+            else:
+                return ("apply", head, arguments) if arguments else head
+
+    def atom(self):
+        kind, word = self.kind(), self.take()
+        if kind == "number":
+            tree = ("number", int(word, 0))
+        elif kind == "text":
+            tree = ("text", word[1:-1])
+        elif word == "record":
+            base = None if self.peek() == "{" else self.atom()
+            self.take("{")
+            fields = []
+            while self.peek() != "}":
+                name = self.take()
+                self.take("=")
+                fields.append((name, self.term()))
+                if self.peek() == ";":
+                    self.take()
+            self.take("}")
+            tree = ("record", base, fields)
+        elif kind == "name":
+            tree = ("name", word)
+        elif word == "[":
+            self.take("]")
+            tree = ("list",)
+        elif word == "(":
+            parts = [self.term()]
+            while self.peek() == ",":
+                self.take()
+                if self.peek() != ")":
+                    parts.append(self.term())
+            self.take(")")
+            tree = parts[0] if len(parts) == 1 else ("pair", parts)
+        else:
+            raise Unparsed(word)
+        while self.peek() == "." and self.tokens[self.place][0] == "sign" and self.place + 1 < len(self.tokens) and self.tokens[self.place + 1][2] == self.tokens[self.place][2] + 1 and self.tokens[self.place][2] == self.end(self.place - 1):
+            self.take()
+            tree = ("field", tree, self.take())
+        return tree
+
+    def end(self, place):
+        return self.tokens[place][2] + len(self.tokens[place][1])
+
+
+# ---- Values
+
+
+class Later:
+    """A value that is computed when it is asked for."""
+
+    __slots__ = ("make", "value")
+
+    def __init__(self, make):
+        self.make = make
+
+    def get(self):
+        if self.make is not None:
+            self.value, self.make = self.make(), None
+        return self.value
+
+
+def now(x):
+    return x.get() if type(x) is Later else x
+
+
+class Mapped:
+    """A list whose elements are computed when they are asked for, or a run of such a list."""
+
+    __slots__ = ("function", "of", "made", "start", "count")
+
+    def __init__(self, function, of, made=None, start=0, count=None):
+        self.function, self.of, self.made, self.start = function, of, {} if made is None else made, start
+        self.count = len(of) if count is None else count
+
+    def __len__(self):
+        return self.count
+
+    def __getitem__(self, place):
+        place += self.start
+        if place not in self.made:
+            self.made[place] = ap(self.function, self.of[place])
+        return self.made[place]
+
+    def run(self, start, count):
+        return Mapped(self.function, self.of, self.made, self.start + start, count)
+
+
+def listed(xs):
+    if type(xs) is tuple:
+        return xs
+    if type(xs) is not Mapped:
+        raise TypeError("no list")
+    return tuple(xs[place] for place in range(len(xs)))
+
+
+class Record:
+    """A record or a pair, whose fields are computed when they are asked for."""
+
+    def __init__(self, fields):
+        self.fields = fields
+
+    def get(self, name):
+        value = self.fields[name]
+        if type(value) is Later:
+            value = self.fields[name] = value.get()
+        return value
+
+
+class Made:
+    """A value of a type with constructors: an option, a result, or what specs/ declare."""
+
+    __slots__ = ("name", "parts")
+
+    def __init__(self, name, parts):
+        self.name, self.parts = name, parts
+
+
+class Function:
+    """A function with some of its arguments; `key` tells it from others by what it is made of."""
+
+    __slots__ = ("code", "arity", "arguments", "name", "known")
+
+    def __init__(self, code, arity, arguments=(), name=None):
+        self.code, self.arity, self.arguments, self.name, self.known = code, arity, arguments, name, None
+
+    @property
+    def key(self):
+        if self.known is None:
+            inside = tuple(key(cell.cell_contents) for cell in self.code.__closure__ or ())
+            self.known = (self.name or id(self.code.__code__), inside, tuple(map(key, self.arguments)))
+        return self.known
+
+
+KEPT = []
+
+
+def key(x):
+    x = now(x)
+    if type(x) is Function:
+        return x.key
+    if type(x) in (int, bool, str):
+        return x
+    KEPT.append(x)
+    return id(x)
+
+
+def ap(f, *arguments):
+    f = now(f)
+    while True:
+        given = f.arguments + arguments
+        if len(given) < f.arity:
+            return Function(f.code, f.arity, given, f.name)
+        answer = f.code(*given[: f.arity])
+        arguments = given[f.arity :]
+        if not arguments:
+            return answer
+        f = now(answer)
+
+
+def same(x, y):
+    x, y = now(x), now(y)
+    if isinstance(x, (tuple, Mapped)) and isinstance(y, (tuple, Mapped)):
+        return len(x) == len(y) and all(same(x[n], y[n]) for n in range(len(x)))
+    if type(x) is Record and type(y) is Record:
+        return x.fields.keys() == y.fields.keys() and all(same(x.get(name), y.get(name)) for name in x.fields)
+    if type(x) is Made and type(y) is Made:
+        return x.name == y.name and all(map(same, x.parts, y.parts))
+    if type(x) is not type(y):
+        raise TypeError("values of two types")
+    return x == y
+
+
+# ---- The library's functions
+
+
+def less(a, b):
+    return max(0, a - b)
+
+
+def over(a, b):
+    return a // b if b else 0
+
+
+def modulo(a, b):
+    return a % b if b else a
+
+
+def whole(n):
+    if type(n) is not int:
+        raise TypeError("no number")
+    return n
+
+
+def some(x):
+    return Made("Some", (x,))
+
+
+NOTHING = Made("None", ())
+
+
+def option_and_then(f, x):
+    return ap(f, x.parts[0]) if x.name == "Some" else {"None": NOTHING}[x.name]
+
+
+def run(xs, start, end):
+    return xs.run(start, end - start) if type(xs) is Mapped else xs[start:end]
+
+
+def element(xs, place, other):
+    return xs[place] if 0 <= place < len(xs) else now(other)
+
+
+def kept(f, xs):
+    return tuple(answer.parts[0] for answer in (ap(f, x) for x in listed(xs)) if answer.name == "Some")
+
+
+def folded(f, start, xs):
+    for x in listed(xs):
+        start = ap(f, start, x)
+    return start
+
+
+def found(f, xs):
+    return next((some(x) for x in listed(xs) if ap(f, x)), NOTHING)
+
+
+LIBRARY = {
+    "suc": (1, lambda n: whole(n) + 1),
+    "pos": (1, whole),
+    "negsuc": (1, lambda n: -whole(n) - 1),
+    "neg_ℤ": (1, lambda x: -x),
+    "nat_abs": (1, lambda x: abs(whole(x))),
+    "max": (2, max),
+    "not": (1, lambda b: not b),
+    "cond": (3, lambda b, x, y: x if b else y),
+    "eqb": (2, lambda x, y: whole(x) == whole(y)),
+    "nat_eq": (2, lambda x, y: whole(x) == whole(y)),
+    "nat_lt": (2, lambda x, y: whole(x) < whole(y)),
+    "nat_le": (2, lambda x, y: whole(x) <= whole(y)),
+    "int_lt": (2, lambda x, y: whole(x) < whole(y)),
+    "int_le": (2, lambda x, y: whole(x) <= whole(y)),
+    "length": (1, len),
+    "take": (2, lambda n, xs: run(xs, 0, min(whole(n), len(xs)))),
+    "drop": (2, lambda n, xs: run(xs, min(whole(n), len(xs)), len(xs))),
+    "map": (2, lambda f, xs: Mapped(f, xs)),
+    "filter": (2, lambda f, xs: tuple(x for x in listed(xs) if ap(f, x))),
+    "flat_map": (2, lambda f, xs: tuple(y for x in listed(xs) for y in listed(ap(f, x)))),
+    "filter_map": (2, kept),
+    "fold": (3, folded),
+    "find": (2, found),
+    "count_by": (2, lambda f, xs: sum(1 for x in listed(xs) if ap(f, x))),
+    "range_with_len": (2, lambda first, count: tuple(range(first, first + count))),
+    "replicate": (2, lambda n, x: (x,) * n),
+    "slice_index": (2, lambda xs, n: element(xs, n, 0)),
+    "slice_index_or": (3, element),
+    "get_or": (3, element),
+    "bytes_eq": (2, lambda xs, ys: listed(xs) == listed(ys)),
+    "option_map": (2, lambda f, x: some(ap(f, x.parts[0])) if x.name == "Some" else {"None": NOTHING}[x.name]),
+    "option_and_then": (2, option_and_then),
+    "ok_or": (2, lambda x, fault: Made("Ok", x.parts) if x.name == "Some" else Made("Err", (fault,))),
+    "to_le_bytes": (2, lambda width, n: tuple((n % 2 ** (8 * width)).to_bytes(width, "little"))),
+    "codes": (1, lambda text: tuple(text.encode())),
+    "sha256": (1, lambda xs: tuple(hashlib.sha256(bytes(listed(xs))).digest())),
+    "sha512": (1, lambda xs: tuple(hashlib.sha512(bytes(listed(xs))).digest())),
+}
+CONSTANTS = {"zero": 0, "true": True, "false": False, "w16": 2, "w32": 4, "None": NOTHING}
+CONSTRUCTORS = {"Some": 1, "Ok": 1, "Err": 1, "None": 0}
+FAULTS = ("KeyGenRng", "SignCtx", "SignRng", "HashCtx", "OidEmpty", "OidNotDer", "DigestTooLong", "DigestLength", "HashRng", "InternalRng", "TooManyAttempts", "KeyRange", "SamplingLimit")
+CONSTRUCTORS.update({name: 0 for name in FAULTS})
+
+
+# ---- From definitions to functions
+
+
+def clauses(definition):
+    """The equations of a definition: the trees of their patterns and of their right sides; none where it states a type."""
+    if definition.kind:
+        return []
+    found, here = [], None
+    for line in definition.lines[0:]:
+        if line.startswith(definition.name + " ") and " = " in line + " " and not line.startswith(definition.name + " :"):
+            here = [line]
+            found.append(here)
+        elif here is not None:
+            here.append(line)
+    trees = []
+    for lines in found:
+        parser = Parser("\n".join(lines))
+        parser.take(definition.name)
+        patterns = []
+        while parser.peek() != "=":
+            if parser.peek() == "{":
+                parser.skipped()
+            else:
+                patterns.append(parser.atom())
+        parser.take("=")
+        tree = parser.term()
+        if parser.peek():
+            raise Unparsed(parser.peek())
+        trees.append((patterns, tree))
+    return trees
+
+
+class Program:
+    """All definitions that compute, as functions in one space of names."""
+
+    def __init__(self, all_files):
+        self.space = dict(globals())
+        self.arity, self.trees, self.made = {}, {}, dict(CONSTRUCTORS)
+        for name, (arity, code) in LIBRARY.items():
+            self.arity[name] = arity
+            self.space[mangled(name)] = code
+        for file in all_files:
+            for definition in file.definitions:
+                if definition.kind == "data":
+                    for line in definition.lines[1:]:
+                        names, _, kind = line.partition(" : ")
+                        arrows = sum(len(part.split(" :")[0].split()) for part in re.findall(r"\(([^()]*:[^()]*)\)", kind)) or kind.count("→")
+                        self.made[names.strip()] = arrows
+        for file in all_files:
+            for definition in file.definitions:
+                try:
+                    trees = clauses(definition)
+                except (Unparsed, IndexError):
+                    continue
+                if trees:
+                    self.trees[definition.name] = trees
+                    self.arity[definition.name] = len(trees[0][0])
+        for name in list(self.trees):
+            self.define(name, self.trees[name])
+
+    def define(self, name, trees):
+        """Makes the function of a name anew from these equations."""
+        self.space["counter"] = 0
+        try:
+            source = self.source(name, trees)
+        except Unparsed:
+            self.trees.pop(name, None)
+            return
+        exec(compile(source, name, "exec"), self.space)
+
+    def source(self, name, trees):
+        arity = self.arity[name]
+        arguments = [f"a{n}" for n in range(arity)]
+        lines = [f"def {mangled(name)}({', '.join(arguments)}):"]
+        for patterns, tree in trees:
+            tests, binds = [], []
+            for argument, pattern in zip(arguments, patterns):
+                self.match(argument, pattern, tests, binds)
+            scope = {name: False for name, _ in binds}
+            values = "".join(f"; v_{clean(bound)} = {value}" for bound, value in binds)
+            lines.append(f"    if {' and '.join(tests) or 'True'}: pass{values}; return {self.code(tree, scope)}")
+        lines.append("    raise TypeError('no equation')")
+        return "\n".join(lines)
+
+    def match(self, value, pattern, tests, binds):
+        kind = pattern[0]
+        if kind == "list":
+            tests.append(f"len({value}) == 0")
+        elif kind == "number":
+            tests.append(f"{value} == {pattern[1]}")
+        elif kind == "name" and pattern[1] in ("zero", "true", "false"):
+            tests.append(f"{value} == {CONSTANTS[pattern[1]]}")
+        elif kind == "name" and pattern[1] in self.made:
+            tests.append(f"{value}.name == {pattern[1]!r}")
+        elif kind == "name":
+            binds.append((pattern[1], value))
+        elif kind == "binary" and pattern[1] == "∷":
+            tests.append(f"len({value}) > 0")
+            self.match(f"{value}[0]", pattern[2], tests, binds)
+            self.match(f"run({value}, 1, len({value}))", pattern[3], tests, binds)
+        elif kind == "apply" and pattern[1] == ("name", "suc"):
+            tests.append(f"{value} > 0")
+            self.match(f"({value} - 1)", pattern[2][0], tests, binds)
+        elif kind == "apply" and pattern[1] == ("name", "pos"):
+            tests.append(f"{value} >= 0")
+            self.match(value, pattern[2][0], tests, binds)
+        elif kind == "apply" and pattern[1] == ("name", "negsuc"):
+            tests.append(f"{value} < 0")
+            self.match(f"(-{value} - 1)", pattern[2][0], tests, binds)
+        elif kind == "apply" and pattern[1][1] in self.made:
+            tests.append(f"{value}.name == {pattern[1][1]!r}")
+            for place, part in enumerate(pattern[2]):
+                self.match(f"{value}.parts[{place}]", part, tests, binds)
+        else:
+            raise Unparsed(pattern)
+
+    def later(self, tree, scope):
+        """The code of a value that need not be computed at once."""
+        if tree[0] in ("number", "list", "lambda") or (tree[0] == "name" and tree[1] in scope):
+            return f"v_{clean(tree[1])}" if tree[0] == "name" else self.code(tree, scope)
+        return f"Later(lambda: {self.code(tree, scope)})"
+
+    def code(self, tree, scope):
+        kind = tree[0]
+        if kind == "number":
+            return str(tree[1])
+        if kind == "text":
+            return repr(tree[1])
+        if kind == "list":
+            return "()"
+        if kind == "binary":
+            return OPERATOR[tree[1]].format(self.code(tree[2], scope), self.code(tree[3], scope))
+        if kind == "if":
+            return f"({self.code(tree[2], scope)} if {self.code(tree[1], scope)} else {self.code(tree[3], scope)})"
+        if kind == "let":
+            return f"(lambda v_{clean(tree[1])}: {self.code(tree[3], {**scope, tree[1]: True})})({self.later(tree[2], scope)})"
+        if kind == "lambda":
+            inside = {**scope, **{name: False for name in tree[1]}}
+            names = ", ".join(f"v_{clean(name)}" if name != "_" else f"unused{place}" for place, name in enumerate(tree[1]))
+            return f"Function(lambda {names}: {self.code(tree[2], inside)}, {len(tree[1])})"
+        if kind == "field":
+            return f"{self.code(tree[1], scope)}.get({tree[2]!r})"
+        if kind == "pair":
+            first, *others = tree[1]
+            other = others[0] if len(others) == 1 else ("pair", others)
+            return f"Record({{'0': {self.later(first, scope)}, '1': {self.later(other, scope)}}})"
+        if kind == "record":
+            fields = ", ".join(f"{name!r}: {self.later(value, scope)}" for name, value in tree[2])
+            return f"Record({{{'**' + self.code(tree[1], scope) + '.fields, ' if tree[1] else ''}{fields}}})"
+        if kind == "name":
+            return self.name(tree[1], scope)
+        head, arguments = tree[1], tree[2]
+        given = [self.code(argument, scope) for argument in arguments]
+        if head[0] == "name" and head[1] not in scope:
+            word = head[1]
+            if word in self.made and self.made[word] == len(given):
+                return f"Made({word!r}, ({', '.join(given)},))"
+            if word == "cond" and len(given) == 3:
+                return f"({given[1]} if {given[0]} else {given[2]})"
+            if word in self.arity and 0 < self.arity[word] <= len(given):
+                direct = f"{mangled(word)}({', '.join(given[: self.arity[word]])})"
+                rest = given[self.arity[word] :]
+                return f"ap({direct}, {', '.join(rest)})" if rest else direct
+        return f"ap({self.code(head, scope)}, {', '.join(given)})"
+
+    def name(self, word, scope):
+        if word in scope:
+            return f"now(v_{clean(word)})" if scope[word] else f"v_{clean(word)}"
+        if word in CONSTANTS:
+            return {"None": "NOTHING"}.get(word, str(CONSTANTS[word]))
+        if word in self.made:
+            arity = self.made[word]
+            names = ", ".join(f"x{place}" for place in range(arity))
+            return f"Function(lambda {names}: Made({word!r}, ({names},)), {arity}, (), {word!r})" if arity else f"Made({word!r}, ())"
+        if word in self.arity:
+            arity = self.arity[word]
+            names = ", ".join(f"x{place}" for place in range(arity))
+            return f"Function(lambda {names}: {mangled(word)}({names}), {arity}, (), {word!r})" if arity else f"{mangled(word)}()"
+        raise Unparsed(word)
+
+    def value(self, name, *arguments):
+        return self.space[mangled(name)](*arguments)
+
+    def evaluated(self, tree, scope=()):
+        """The value of a closed term."""
+        return eval(self.code(tree, dict.fromkeys(scope, False)), self.space, {})
+
+
+def clean(name):
+    return name.replace("'", "_prime").replace("ℤ", "Z")
+
+
+def mangled(name):
+    return f"d_{clean(name)}"
+
+
+def program():
+    return Program(files())

@@ -1,0 +1,82 @@
+"""The definitions of specs/, as text: each with its comment, its lines, and the names that its file imports."""
+import pathlib
+import re
+
+ROOT = pathlib.Path(__file__).resolve().parent.parent
+NAME = r"[^\s(){}\[\],;:.λ→]+"
+HEAD = re.compile(rf"(?:(abbrev|unfoldable) )?(?:pub )?(?:(record|data) )?({NAME})")
+IMPORT = re.compile(r"(?:ghost )?use (\S+?)\.\{([^}]*)\};?$")
+CONSTRUCTOR = re.compile(rf"  ({NAME}) :")
+
+
+class Definition:
+    """One definition: where it stands, its kind (`record`, `data` or empty), its comment and its lines."""
+
+    def __init__(self, file, kind, name, comment):
+        self.file, self.kind, self.name, self.comment, self.lines = file, kind, name, comment, []
+
+    @property
+    def text(self):
+        return "\n".join(self.lines)
+
+
+class File:
+    """A file of definitions: its path, the names that it imports, and its definitions in order."""
+
+    def __init__(self, path):
+        self.path, self.definitions = path, []
+        lines = path.read_text(encoding="utf-8").splitlines()
+        self.private = "cited by no public clause" in lines[0]
+        self.imports = imported(lines)
+        comment, here = [], None
+        for line in lines:
+            if not line.strip() or line.startswith(("use ", "pub use ", "pub mod ", "-- ----", "unfolding ")):
+                comment = []
+            elif line.startswith("--"):
+                comment.append(line)
+            elif line.startswith(" "):
+                if here:
+                    here.lines.append(line)
+            else:
+                _, kind, name = HEAD.match(line).groups()
+                if not (here and here.name == name):
+                    here = Definition(self, kind or "", name, comment)
+                    self.definitions.append(here)
+                here.lines.append(line)
+                comment = []
+
+    def __str__(self):
+        return f"{self.path.parts[-3]}/{self.path.stem}"
+
+
+def imported(lines):
+    """The names that `use` lines bring in."""
+    names = set()
+    for line in lines:
+        if found := IMPORT.match(line.strip()):
+            names.update(name.strip() for name in found.group(2).split(","))
+    return names
+
+
+def files(crates=("fips204_base", "fips204"), part="specs/*"):
+    """The files of definitions of these crates, without `Lib`."""
+    paths = [path for crate in crates for path in sorted((ROOT / "crates" / crate).glob(f"{part}.antt"))]
+    return [File(path) for path in paths if path.stem != "Lib"]
+
+
+def by_name(all_files):
+    """Each definition by its name, and by those of its constructors."""
+    found = {}
+    for file in all_files:
+        for definition in file.definitions:
+            names = [definition.name]
+            if definition.kind == "data":
+                names += [made.group(1) for line in definition.lines if (made := CONSTRUCTOR.match(line))]
+            for name in names:
+                found[name] = definition
+    return found
+
+
+def words(text):
+    """The words of a text in order, without what follows a point."""
+    return re.findall(r"(?<![\w'.])[^\W\d][\w']*", re.sub(r"--.*", "", text))
