@@ -18,7 +18,9 @@ use crate::sets::{HasSet, KeySizes, Matrix, Set, SignatureSizes, sized_params};
 use crate::traits::{
     CryptoRngCore, DummyRng, KeyGen, Scheme, SerDes, Signer, Verifier, draw, draw_if,
 };
-use crate::types::{KG, PreparedPrivateKey, PreparedPublicKey, PrivateKey, PublicKey, T0};
+use crate::types::{
+    KG, KeyTransforms, PreparedPrivateKey, PreparedPublicKey, PrivateKey, PublicKey, T0,
+};
 use fips204_base::Fault;
 use fips204_base::encodings::{pk_encode, sk_encode};
 use fips204_base::hashing::write_expanded_a;
@@ -299,7 +301,8 @@ where
             t0: self.t0,
             streams: PhantomData,
         };
-        let transforms = self.transforms();
+        let mut transforms = KeyTransforms::zeros();
+        self.write_transforms(&mut transforms);
         Ok(PreparedPrivateKey {
             key,
             a_hat,

@@ -247,8 +247,7 @@ where
         ensures faults { IfErr result (λ fault. IsInputFault fault) }
     {
         let key = Self::decode(key);
-        let prepared = key.prepare();
-        Self::judge_entries(alloc, &prepared, context, count, input)
+        Self::judge_entries(alloc, &key.prepare(), context, count, input)
     }
 
     /// Judges the entries by a prepared key: reads the two lines of an entry, and keeps of it the verdict alone.

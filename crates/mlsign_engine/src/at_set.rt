@@ -111,7 +111,6 @@ where
     {
         laws::signed_is_accepted();
         let key = Self::private(parts)?;
-        key.parts_in_range_law();
         let mu = message_mu(key.tr(), context, input)?;
         let mut generator = DummyRng { bytes: *random };
         match key.sign_mu(&mut generator, &mu, true) {

@@ -10,7 +10,6 @@ ghost use Rattle.fips204.specs.Signing.{sign, sign_with};
 use crate::types::{KeyTransforms, Params, PrivateKey, SigningKey, T0};
 use fips204_base::Fault;
 use fips204_base::hashing::write_expanded_a;
-use fips204_base::product::Transforms;
 use fips204_base::xof::{Xof, hash};
 
 /// How many attempts signing makes (FIPS 204, Appendix C).
@@ -45,7 +44,8 @@ pub fn sign_internal<
     // A = ExpandA(rho)
     let mut a_hat = [[T0; L]; K];
     write_expanded_a::<K, L, G>(&sk.rho, &mut a_hat)?;
-    let transforms = sk.transforms();
+    let mut transforms = KeyTransforms::zeros();
+    sk.write_transforms(&mut transforms);
     let key = SigningKey {
         key: sk,
         a_hat: &a_hat,
@@ -55,20 +55,14 @@ pub fn sign_internal<
 }
 
 impl<const K: usize, const L: usize, H, G> PrivateKey<K, L, H, G> {
-    /// The transforms of s1, s2 and t0 (lines 2 to 4).
-    pub(crate) fn transforms(&self) -> KeyTransforms
+    /// Writes the transforms of s1, s2 and t0 (lines 2 to 4).
+    pub(crate) fn write_transforms(&self, out: &mut KeyTransforms)
         requires shape { (K ≤ 8) × (L ≤ 7) }
-        ensures { AreKeyTransforms K L self.now result }
+        ensures { AreKeyTransforms K L self.now out.new }
     {
-        let mut transforms = KeyTransforms {
-            s1_hat: Transforms::zeros(),
-            s2_hat: Transforms::zeros(),
-            t0_hat: Transforms::zeros(),
-        };
-        transforms.s1_hat.write_transforms(&self.s1);
-        transforms.s2_hat.write_transforms(&self.s2);
-        transforms.t0_hat.write_transforms(&self.t0);
-        transforms
+        out.s1_hat.write_transforms(&self.s1);
+        out.s2_hat.write_transforms(&self.s2);
+        out.t0_hat.write_transforms(&self.t0);
     }
 }
 

@@ -18,6 +18,17 @@ pub struct KeyTransforms {
     pub(crate) t0_hat: Transforms,
 }
 
+impl KeyTransforms {
+    /// The transforms of vectors of zeros.
+    pub(crate) fn zeros() -> KeyTransforms {
+        KeyTransforms {
+            s1_hat: Transforms::zeros(),
+            s2_hat: Transforms::zeros(),
+            t0_hat: Transforms::zeros(),
+        }
+    }
+}
+
 /// A private key of a set with a matrix of `K` rows and `L` columns, over the stream `H`, with its matrix and
 /// the transforms of its vectors.
 ///

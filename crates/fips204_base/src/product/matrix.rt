@@ -85,10 +85,8 @@ impl Transforms {
             → vector_coefficients self.new i n ≡ vector_coefficients self.old i n }
     {
         for n in 0..256usize {
-            self.values[n] = self.values[n].with_lane(
-                r,
-                place_sum(row, &v.values[n].to_array(), n),
-            );
+            let sum = place_sum(row, &v.values[n].to_array(), n);
+            self.values[n] = self.values[n].with_lane(r, sum);
         }
     }
 }

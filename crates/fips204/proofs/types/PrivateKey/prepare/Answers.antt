@@ -8,8 +8,8 @@ write_expanded_a-requires g c =
     let shape = set-shape g.S.Set.set g.row.K g.row.L g.S.Set.known sizes.rows sizes.columns in
     (search rules, (search rules, (shape.2, shape.3)))
 
-pub transforms-transforms-requires : goal.transforms-transforms-requires
-transforms-transforms-requires g c =
+pub write_transforms-requires : goal.write_transforms-requires
+write_transforms-requires g c =
     let sizes = g.met.S.SignatureSizes.sizes in
     let shape = set-shape g.S.Set.set g.row.K g.row.L g.S.Set.known sizes.rows sizes.columns in
     (search rules, (shape.2, shape.3))

@@ -13,10 +13,10 @@ returns-in-Ok g c =
     let p = g.S.Set.set in
     let sizes = g.met.S.SignatureSizes.sizes in
     let key = c.in_ok-key.key in
-    let range : ArePrivateParts p.k p.l key = rw (← sizes.rows, ← sizes.columns) c.parts_in_range_law.ensures in
+    let range : ArePrivateParts p.k p.l key = rw (← sizes.rows, ← sizes.columns) c.tr.ensures.parts in
     let hashed = c.in_ok-mu.ensures.hashed in
     let hash : c.in_ok-mu.mu ≡ message_hash shake256_front key.tr (framed hashed.0 c.args.context.now) =
-        hashed.2 ∙ ap (λ (tr : List ℕ). message_hash shake256_front tr (framed hashed.0 c.args.context.now)) c.tr.ensures in
+        hashed.2 ∙ ap (λ (tr : List ℕ). message_hash shake256_front tr (framed hashed.0 c.args.context.now)) c.tr.ensures.hash in
     let before : DummyRng = record { bytes = c.args.random.now } in
     let signed = drawn c.args.random.now before c.sign_mu.new.rng (sign p shake256_front shake128_front key c.in_ok-mu.mu) c.in-Ok.signature
         c.in-Ok.ensures.answer refl in
