@@ -1,4 +1,3 @@
-pub mod Rounds
 pub mod BlockBytes
 pub mod Absorbing
 pub mod Squeezing

@@ -129,15 +129,36 @@ fn round(a: &[u64; 25], constant: u64) -> [u64; 25]
     ]
 }
 
-/// The permutation Keccak-f[1600] of the 25 lanes of a state, lane (x, y) at place `x + 5 * y`.
+/// The permutation Keccak-f[1600] of the 25 lanes of a state, lane (x, y) at place `x + 5 * y`. The rounds stand one after the
+/// other, so that no lane changes its place between two of them.
+#[tactic(auto, unfolding(crate::specs::Keccak::rounds))]
 pub fn f1600(state: &mut [u64; 25])
     ensures { state.new ≡ keccak_f state.old }
 {
     let mut a = *state;
-    // Two rounds a turn, so that the lanes change places only once.
-    for pair in 0..12 {
-        a = round(&a, ROUND_CONSTANTS[2 * pair]);
-        a = round(&a, ROUND_CONSTANTS[2 * pair + 1]);
-    }
+    a = round(&a, ROUND_CONSTANTS[0]);
+    a = round(&a, ROUND_CONSTANTS[1]);
+    a = round(&a, ROUND_CONSTANTS[2]);
+    a = round(&a, ROUND_CONSTANTS[3]);
+    a = round(&a, ROUND_CONSTANTS[4]);
+    a = round(&a, ROUND_CONSTANTS[5]);
+    a = round(&a, ROUND_CONSTANTS[6]);
+    a = round(&a, ROUND_CONSTANTS[7]);
+    a = round(&a, ROUND_CONSTANTS[8]);
+    a = round(&a, ROUND_CONSTANTS[9]);
+    a = round(&a, ROUND_CONSTANTS[10]);
+    a = round(&a, ROUND_CONSTANTS[11]);
+    a = round(&a, ROUND_CONSTANTS[12]);
+    a = round(&a, ROUND_CONSTANTS[13]);
+    a = round(&a, ROUND_CONSTANTS[14]);
+    a = round(&a, ROUND_CONSTANTS[15]);
+    a = round(&a, ROUND_CONSTANTS[16]);
+    a = round(&a, ROUND_CONSTANTS[17]);
+    a = round(&a, ROUND_CONSTANTS[18]);
+    a = round(&a, ROUND_CONSTANTS[19]);
+    a = round(&a, ROUND_CONSTANTS[20]);
+    a = round(&a, ROUND_CONSTANTS[21]);
+    a = round(&a, ROUND_CONSTANTS[22]);
+    a = round(&a, ROUND_CONSTANTS[23]);
     *state = a;
 }
