@@ -50,9 +50,11 @@ consumes_last a b c x y p q none = subst (λ (z : List ℕ). Consumes a c z) (ap
 pub taken_all : (a b c : Option (List ℕ)) (tr context piece : List ℕ) (hasher : Shake 136) (mu : List ℕ) → IsTaken a b tr context hasher → Consumes b c piece → piece ≡ []
     → IsAtEnd c → ((m : List ℕ) → Holds hasher m → mu ≡ take 64 (shake256_front m))
     → (message : List ℕ) × GivesAll a c message × (mu ≡ message_hash shake256_front tr (framed message context))
-taken_all a b c tr context piece hasher mu so_far consumed none ended hash =
-    (so_far.given, record { taken = consumes_last a b c so_far.given piece so_far.consumed consumed none; ended = ended },
-    hash (tr ++ framed so_far.given context) so_far.held)
+taken_all a b c tr context piece hasher mu so_far consumed none ended hash = (
+  so_far.given,
+  record { taken = consumes_last a b c so_far.given piece so_far.consumed consumed none; ended = ended },
+  hash (tr ++ framed so_far.given context) so_far.held,
+)
 
 -- the first bytes of a longer output
 pub first_of_front : (m out rest : List ℕ) → length out ≡ 64 → shake 136 m 1048576 ≡ out ++ rest → out ≡ take 64 (shake256_front m)

@@ -1,5 +1,5 @@
 -- What makes the keys of a file consistent.
-use Rattle.std.proofs.Common.{◌≡◌, ℕ, ◌≤◌, ◌<◌, List, length, take, Bool, true, false, not, ltb, Option, None, Result, Ok, Err, refl, sym, ap, subst, ◌∙◌, arith, IsTrue, inl, inr, ◌⊎◌}
+use Rattle.std.proofs.Common.{◌≡◌, ℕ, ◌≤◌, ◌<◌, List, length, take, Bool, true, false, not, ltb, Option, None, Result, Ok, Err, refl, sym, ap, subst, ◌∙◌, arith, IsTrue, inl, inr, ◌⊎◌, ◌↔◌}
 use Rattle.std.proofs.lemmas.Bool.{le-ltb}
 use Rattle.std.specs.Str.{bytes_eq}
 use Rattle.std.proofs.lemmas.Slice.Eq.{bytes_eq-Decides}
@@ -10,13 +10,19 @@ use Rattle.fips204.specs.Framing.{plain, framed, message_hash}
 use Rattle.fips204.specs.Signing.{sign}
 use Rattle.fips204.specs.Encodings.{public_key_bytes, private_key_bytes}
 use Rattle.fips204.specs.Completeness.{SignedIsAccepted, IsPair, AcceptsSigned}
-use Rattle.fips204.specs.Keys.{PublicParts, PrivateParts, ArePrivateParts, IsPrivateKeyOf, IsWhole, TellsWhole}
+use Rattle.fips204.specs.Keys.{PublicParts, PrivateParts, ArePrivateParts, IsPublicKeyOf, IsPrivateKeyOf, IsWhole, TellsWhole}
 use Rattle.fips204.specs.ParameterSets.{ParameterSet, is_parameter_set, signature_length}
 use Rattle.fips204.specs.Refusals.{generated, derived, message_fault, sign_message, Draws}
 use Rattle.fips204_shake.specs.Fronts.{shake256_front, shake128_front, length-shake256_front}
 use Rattle.mlsign_files.specs.Keys.{PrivateParts as FileParts, Seed, Expanded, Both, HasPrivateSizes, private_length}
 use Rattle.mlsign_files.specs.declared.algorithm.Algorithm.{Algorithm}
-use Rattle.mlsign_engine.specs.Commands.{HasKeys, IsValid, expanded_bytes}
+use Rattle.mlsign_engine.specs.Commands.{HasKeys, IsValid, expanded_bytes, set_of, IsPublicText, IsPrivateText, Judges, Signs, Generates, SignedIsValid}
+use Rattle.mlsign_files.specs.Reading.{public_at, private_at}
+use Rattle.mlsign_files.specs.declared.pem.Kind.TheVariants.{Public, Private}
+use Rattle.mlsign_files.proofs.Elements.{ok_is}
+use Rattle.mlsign_files.proofs.PemFiles.{pem_of_text}
+use Rattle.mlsign_files.proofs.KeyFiles.{public_of_file, private_of_file}
+use Rattle.mlsign_files.specs.declared.algorithm.Algorithm.TheVariants.{MlDsa44, MlDsa65, MlDsa87}
 use Rattle.mlsign_engine.specs.InnerSteps.{HasPrivate, HasLengths, SignsAt}
 use Rattle.mlsign_engine.specs.Messages.{GivesAll}
 
@@ -58,7 +64,7 @@ keys_of_expanded p expanded hash pk sk whole decoded tells told derives hashed s
 -- what a generator that gives these bytes drew
 pub drawn : (random : List ℕ) (before after : DummyRng) (answer : List ℕ → Result (List ℕ) Fault) (signature : List ℕ)
     → Draws {S = DummyRng} (λ before asked bytes after. (asked ≡ 32) × (bytes ≡ before.bytes) × (after ≡ before)) (λ before asked after. (¬ (asked ≡ 32)) × (after ≡ before))
-        before after InternalRng answer (Ok signature)
+    before after InternalRng answer (Ok signature)
     → before.bytes ≡ random → answer random ≡ Ok signature
 drawn random before after answer signature (inl d) is = ap answer (sym (d.1.1 ∙ is)) ∙ sym d.3
 drawn random before after answer signature (inr d) is = absurd (d.0.0 refl)
@@ -76,9 +82,9 @@ pub signs_at : (p : ParameterSet) (law : SignedIsAccepted) → IsTrue (is_parame
 signs_at p law known parts sk random context message signature mu old new range has short given hash signed size =
     let keys = has.1 in
     let accepts : AcceptsSigned p shake256_front shake128_front has.0 sk =
-        (law p shake256_front shake128_front has.0 sk known long_fronts).0 range keys.whole keys.derives in
+    (law p shake256_front shake128_front has.0 sk known long_fronts).0 range keys.whole keys.derives in
     let signed_message : sign_message p shake256_front shake128_front sk random message context ≡ Ok signature =
-        rw (short_context context short) (ap (λ (z : List ℕ). sign p shake256_front shake128_front sk z random) (sym hash) ∙ signed) in
+    rw (short_context context short) (ap (λ (z : List ℕ). sign p shake256_front shake128_front sk z random) (sym hash) ∙ signed) in
     record {
       message = message;
       given = given;
@@ -94,3 +100,64 @@ pub lengths_fit : (algorithm : Algorithm) (parts : FileParts) → HasPrivateSize
 lengths_fit algorithm (Seed seed) sizes = sizes
 lengths_fit algorithm (Expanded expanded) sizes = sizes
 lengths_fit algorithm (Both seed expanded) sizes = sizes
+
+-- an answer of the library
+abbrev library : {A : Type 0} → A → Result A Fault
+library x = Ok x
+
+ok_is_of : {A : Type 0} (x y : A) → library x ≡ library y → x ≡ y
+ok_is_of x y e = cc
+
+-- ---- what keygen wrote, sign reads, and verify reads
+
+-- an algorithm and a public key, an algorithm and a private key, and two keys
+abbrev public_pair : Algorithm → List ℕ → Algorithm × List ℕ
+public_pair algorithm bytes = (algorithm, bytes)
+
+abbrev private_pair : Algorithm → FileParts → Algorithm × FileParts
+private_pair algorithm parts = (algorithm, parts)
+
+abbrev key_pair : PublicParts → PrivateParts → PublicParts × PrivateParts
+key_pair pk sk = (pk, sk)
+
+same_public : (text : List ℕ) (a b : Algorithm) (x y : List ℕ) → IsPublicText text a x → IsPublicText text b y → public_pair a x ≡ public_pair b y
+same_public text a b x y p q =
+    let der : p.der ≡ q.der = ok_is p.der q.der (sym (pem_of_text text Public p.der p.spelled) ∙ pem_of_text text Public q.der q.spelled) in
+    ok_is (public_pair a x) (public_pair b y) (sym (public_of_file p.der a x p.file) ∙ ap public_at der ∙ public_of_file q.der b y q.file)
+
+same_private : (text : List ℕ) (a b : Algorithm) (x y : FileParts) → IsPrivateText text a x → IsPrivateText text b y → private_pair a x ≡ private_pair b y
+same_private text a b x y p q =
+    let der : p.der ≡ q.der = ok_is p.der q.der (sym (pem_of_text text Private p.der p.spelled) ∙ pem_of_text text Private q.der q.spelled) in
+    ok_is (private_pair a x) (private_pair b y) (sym (private_of_file p.der a x p.file) ∙ ap private_at der ∙ private_of_file q.der b y q.file)
+
+known_set : (algorithm : Algorithm) → IsTrue (is_parameter_set (set_of algorithm))
+known_set MlDsa44 = refl
+known_set MlDsa65 = refl
+known_set MlDsa87 = refl
+
+-- what a public key accepts is valid for the text that has its bytes
+judged_valid : (algorithm : Algorithm) (pk : PublicParts) (public signature context message : List ℕ) (valid : Bool)
+    → ((other : PublicParts) → IsPublicKeyOf shake256_front (set_of algorithm).k (public_key_bytes pk.rho pk.t1) other → other ≡ pk)
+    → IsPublicText public algorithm (public_key_bytes pk.rho pk.t1) → Judges public signature context message valid
+    → IsValid (set_of algorithm) pk signature context message → IsTrue valid
+judged_valid algorithm pk public signature context message valid one text judges accepted =
+    let e = same_public public judges.algorithm algorithm judges.bytes (public_key_bytes pk.rho pk.t1) judges.text text in
+    let moved : IsPublicKeyOf shake256_front (set_of algorithm).k (public_key_bytes pk.rho pk.t1) judges.key
+    × (IsTrue valid ↔ IsValid (set_of algorithm) judges.key signature context message) =
+    subst (λ (x : Algorithm × List ℕ). IsPublicKeyOf shake256_front (set_of x.0).k x.1 judges.key
+    × (IsTrue valid ↔ IsValid (set_of x.0) judges.key signature context message)) e (judges.decoded, judges.answer) in
+    let key : judges.key ≡ pk = one judges.key moved.0 in
+    moved.1.1 (subst (λ (k : PublicParts). IsValid (set_of algorithm) k signature context message) (sym key) accepted)
+
+pub signed_valid : (law : SignedIsAccepted) → SignedIsValid
+signed_valid law algorithm seed private public random context message signature valid made signs judges =
+    let p = set_of algorithm in
+    let parts : FileParts = Both seed (expanded_bytes p made.sk) in
+    let e = same_private private signs.algorithm algorithm signs.parts parts signs.text made.private_text in
+    let moved : HasKeys p parts signs.pk signs.sk × IsValid p signs.pk signature context message =
+    subst (λ (x : Algorithm × FileParts). HasKeys (set_of x.0) x.1 signs.pk signs.sk × IsValid (set_of x.0) signs.pk signature context message) e
+    (signs.keys, signs.accepted) in
+    let keys : key_pair signs.pk signs.sk ≡ key_pair made.pk made.sk = ok_is_of (key_pair signs.pk signs.sk) (key_pair made.pk made.sk) (sym moved.0.stands.0 ∙ made.keys) in
+    let pair = pair_of_seed p law (known_set algorithm) seed made.pk made.sk made.keys in
+    judged_valid algorithm made.pk public signature context message valid (λ other. (pair.public_decoded other).0) made.public_text judges
+    (subst (λ (x : PublicParts × PrivateParts). IsValid p x.0 signature context message) keys moved.1)

@@ -94,3 +94,18 @@ pub record Signs (private random context message signature : List ℕ) : Type 0 
   pub keys : HasKeys (set_of algorithm) parts pk sk
   pub signed : sign_message (set_of algorithm) shake256_front shake128_front sk random message context ≡ Ok signature
   pub accepted : IsValid (set_of algorithm) pk signature context message
+
+-- `keygen`: the texts have both keys of a seed; that of the private one has the seed and the expanded key
+pub record Generates (algorithm : Algorithm) (seed private public : List ℕ) : Type 0 where
+  pub pk : PublicParts
+  pub sk : PrivateParts
+  pub keys : generated (set_of algorithm) shake256_front shake128_front seed ≡ Ok (pk, sk)
+  pub private_text : IsPrivateText private algorithm (Both seed (expanded_bytes (set_of algorithm) sk))
+  pub public_text : IsPublicText public algorithm (public_key_bytes pk.rho pk.t1)
+
+-- what `sign` wrote, with a private file that `keygen` wrote, `verify` accepts with the public file that came with it
+abbrev pub SignedIsValid : Type 0
+SignedIsValid =
+    (algorithm : Algorithm) (seed private public random context message signature : List ℕ) (valid : Bool)
+    → Generates algorithm seed private public → Signs private random context message signature → Judges public signature context message valid
+    → IsTrue valid

@@ -5,7 +5,7 @@ ghost use Rattle.std.specs.Prelude.{◌≡◌, ◌≤◌, ◌↔◌, length, fal
 ghost use Rattle.fips204.specs.Acceptance.{Verifies};
 ghost use Rattle.fips204.specs.Keys.{IsPublicKeyOf};
 ghost use Rattle.fips204_shake.specs.Fronts.{shake256_front, shake128_front};
-ghost use Rattle.mlsign_engine.specs.InnerSteps.{AreSmall, HasLengths, JudgesAt, HasPrivate, SignsAt, IsSigningFault};
+ghost use Rattle.mlsign_engine.specs.InnerSteps.{AreSmall, HasLengths, JudgesAt, HasPrivate, SignsAt, IsSigningFault, GeneratesAt};
 ghost use Rattle.mlsign_files.specs.Keys.{Seed, Expanded, Both, private_parts};
 
 use crate::fault::CommandFault;
@@ -17,15 +17,24 @@ use fips204::{laws, types};
 use fips204_shake::streams::{Shake128Stream, Shake256Stream};
 use mldsa_lines::Marked;
 use mlsign_files::PrivateKey as FileKey;
+use std::alloc::Global;
 use std::io::Read;
 
 /// A public key at the set whose matrix has `K` rows and `L` columns.
-type PublicKey<const K: usize, const L: usize> =
-    types::PublicKey<K, L, Shake256Stream, Shake128Stream>;
+type PublicKey<const K: usize, const L: usize> = types::PublicKey<
+    K,
+    L,
+    Shake256Stream,
+    Shake128Stream,
+>;
 
 /// A private key at that set.
-type PrivateKey<const K: usize, const L: usize> =
-    types::PrivateKey<K, L, Shake256Stream, Shake128Stream>;
+type PrivateKey<const K: usize, const L: usize> = types::PrivateKey<
+    K,
+    L,
+    Shake256Stream,
+    Shake128Stream,
+>;
 
 /// Key generation at that set.
 type KG<const K: usize, const L: usize> = types::KG<K, L, Shake256Stream, Shake128Stream>;
@@ -117,6 +126,24 @@ where
             Ok(signature) => Ok(signature),
             Err(fault) => Err(CommandFault::Library(fault)),
         }
+    }
+
+    /// The bytes of the public and of the private key of a seed.
+    #[inline(never)]
+    pub(crate) fn generate(
+        alloc: Global,
+        seed: &[u8; 32],
+    ) -> Result<(Vec<u8>, Vec<u8>), CommandFault>
+        requires small { AreSmall K L PK_LEN SK_LEN SIG_LEN }
+        ensures made { IfOk result (λ keys. GeneratesAt S.set seed.now keys.0.items keys.1.items) }
+        ensures public_size { IfOk result (λ keys. length keys.0.items ≡ PK_LEN) }
+        ensures private_size { IfOk result (λ keys. length keys.1.items ≡ SK_LEN) }
+        ensures faults { IfErr result IsSigningFault }
+    {
+        let (public, private) = KG::<K, L>::keygen_from_seed(seed)?;
+        let public = Vec::from_slice(alloc, &public.into_bytes())?;
+        let private = Vec::from_slice(alloc, &private.into_bytes())?;
+        Ok((public, private))
     }
 
     /// The private key of a file, if it is consistent.

@@ -3,12 +3,15 @@
 
 mod at_set;
 mod fault;
+mod generating;
 mod key_text;
+pub mod laws;
 mod message;
 mod signing;
 mod verifying;
 
 pub use fault::CommandFault;
+pub use generating::{KeyTexts, keygen};
 pub use mldsa_lines::Marked;
 pub use signing::sign;
 pub use verifying::verify;

@@ -3,13 +3,22 @@
 mod recorded;
 
 use crate::tests::recorded::{
-    PUBLIC_44, PUBLIC_65, PUBLIC_87, SIGNATURE_44, SIGNATURE_65, SIGNATURE_87,
+    PRIVATE_44, PRIVATE_65, PRIVATE_87, PUBLIC_44, PUBLIC_65, PUBLIC_87, SIGNATURE_44,
+    SIGNATURE_65, SIGNATURE_87,
 };
-use crate::{CommandFault, Marked, verify};
+use crate::{CommandFault, Marked, keygen, sign, verify};
 use base64::engine::general_purpose::STANDARD;
-use mlsign_files::FileFault;
+use mlsign_files::pem::{self, Kind, LineEnd};
+use mlsign_files::{Algorithm, FileFault, PrivateKey, write_private};
+use sha2::{Digest, Sha256};
 use std::alloc::Global;
 use std::test::*;
+
+/// The seed of each recorded key.
+static SEED: [u8; 32] = [
+    0, 1, 2, 3, 4, 5, 6, 7, 8, 9, 10, 11, 12, 13, 14, 15, 16, 17, 18, 19, 20, 21, 22, 23, 24, 25,
+    26, 27, 28, 29, 30, 31,
+];
 
 /// What `verify` answers of a signature in base64.
 fn answer(
@@ -35,10 +44,22 @@ fn signatures_of_openssl(rt: HostRuntime) {
         (PUBLIC_87, SIGNATURE_87, SIGNATURE_44),
     ] {
         let alloc = rt.alloc();
-        assert_eq!(rt; answer(alloc, public, signature, b"context", b"message"), Ok(true));
-        assert_eq!(rt; answer(alloc, public, signature, b"context", b"messagf"), Ok(false));
-        assert_eq!(rt; answer(alloc, public, signature, b"", b"message"), Ok(false));
-        assert_eq!(rt; answer(alloc, public, other, b"context", b"message"), Ok(false));
+        assert_eq!(rt;
+            answer(alloc, public, signature, b"context", b"message"),
+            Ok(true)
+        );
+        assert_eq!(rt;
+            answer(alloc, public, signature, b"context", b"messagf"),
+            Ok(false)
+        );
+        assert_eq!(rt;
+            answer(alloc, public, signature, b"", b"message"),
+            Ok(false)
+        );
+        assert_eq!(rt;
+            answer(alloc, public, other, b"context", b"message"),
+            Ok(false)
+        );
     }
 }
 
@@ -46,8 +67,102 @@ fn signatures_of_openssl(rt: HostRuntime) {
 #[test]
 fn faults(rt: HostRuntime) {
     let alloc = rt.alloc();
-    assert_eq!(rt; answer(alloc, PUBLIC_44, b"", &[7; 256], b""), Err(CommandFault::Context));
+    assert_eq!(rt;
+        answer(alloc, PUBLIC_44, b"", &[7; 256], b""),
+        Err(CommandFault::Context)
+    );
     assert_eq!(rt; answer(alloc, PUBLIC_44, b"", &[7; 255], b""), Ok(false));
     let cut = &PUBLIC_44[..1000];
-    assert_eq!(rt; answer(alloc, cut, b"", b"", b""), Err(CommandFault::Key(FileFault::CutShort)));
+    assert_eq!(rt;
+        answer(alloc, cut, b"", b"", b""),
+        Err(CommandFault::Key(FileFault::CutShort))
+    );
+}
+
+/// Whether the signature of an empty message under the empty context, over 32 zeros, has this SHA-256.
+fn has_hash(alloc: Global, private: &[u8], text: &str) -> Result<bool, Fail> {
+    let mut input = Marked::new(b"".as_slice());
+    let signature = sign(alloc, private, &[0; 32], b"", &mut input)?;
+    let hash = Sha256::digest(signature.as_slice());
+    let wanted = hex::decode(alloc, text)?;
+    Ok(wanted.as_slice() == hash.as_slice())
+}
+
+/// At each set the deterministic signature is that of an independent model.
+#[test]
+fn signatures_of_a_model(rt: HostRuntime) -> Result<(), Fail> {
+    for (private, hash) in [
+        (
+            PRIVATE_44,
+            "4f1602550ef34012149cbeaaf73a9e98d9a0aac0f904adb683d5cea86d595471",
+        ),
+        (
+            PRIVATE_65,
+            "77b1e979eb90529a25a10996259c26d6dc2ea900f8751f20395a523b1347c51a",
+        ),
+        (
+            PRIVATE_87,
+            "8f5ae0a451cd6875159d4d39667b53e9e1a162ce69d3078aad356dc704ccdbf8",
+        ),
+    ] {
+        let same = has_hash(rt.alloc(), private, hash)?;
+        assert!(rt; same);
+    }
+    Ok(())
+}
+
+/// The keys of a seed: the public text is that of OpenSSL, and a signature by the private one is valid.
+#[test]
+fn keys_of_openssl(rt: HostRuntime) -> Result<(), Fail> {
+    let alloc = rt.alloc();
+    for (algorithm, public) in [
+        (Algorithm::MlDsa44, PUBLIC_44),
+        (Algorithm::MlDsa65, PUBLIC_65),
+        (Algorithm::MlDsa87, PUBLIC_87),
+    ] {
+        let keys = keygen(alloc, algorithm, &SEED)?;
+        assert!(rt; keys.public.as_slice() == public);
+        let mut input = Marked::new(b"message".as_slice());
+        let signature = sign(
+            alloc,
+            keys.private.as_slice(),
+            &[1; 32],
+            b"context",
+            &mut input,
+        )?;
+        let mut input = Marked::new(b"message".as_slice());
+        let valid = verify(alloc, public, signature.as_slice(), b"context", &mut input)?;
+        assert!(rt; valid);
+    }
+    Ok(())
+}
+
+/// What `sign` answers with the file of this private key of ML-DSA-44.
+fn fault_of(alloc: Global, der: &[u8]) -> Result<bool, CommandFault> {
+    let text = pem::encode(alloc, Kind::Private, LineEnd::Lf, der)?;
+    let mut input = Marked::new(b"".as_slice());
+    let signature = sign(alloc, text.as_slice(), &[0; 32], b"", &mut input)?;
+    Ok(signature.is_empty())
+}
+
+/// A seed beside an expanded key that is not its own, and an expanded key that is not whole.
+#[test]
+fn inconsistent_keys(rt: HostRuntime) -> Result<(), Fail> {
+    let alloc = rt.alloc();
+    let expanded = [0; 2560];
+    let both = PrivateKey::Both {
+        seed: &[0; 32],
+        expanded: &expanded,
+    };
+    let der = write_private(alloc, Algorithm::MlDsa44, both)?;
+    assert_eq!(rt;
+        fault_of(alloc, der.as_slice()),
+        Err(CommandFault::Inconsistent)
+    );
+    let der = write_private(alloc, Algorithm::MlDsa44, PrivateKey::Expanded(&expanded))?;
+    assert_eq!(rt;
+        fault_of(alloc, der.as_slice()),
+        Err(CommandFault::Inconsistent)
+    );
+    Ok(())
 }

@@ -80,7 +80,7 @@ one_byte_found (size ∷ rest) x all e =
     let long : 128 ≤ size = ltb-false _ _ p.0 in
     let short : size < 256 = all 0 in
     let here : IsLength (129 ∷ size ∷ rest) size rest =
-        record { parts = rw (length_one size long short) refl; small = omega arith; behind = bytes_behind size rest all } in
+    record { parts = rw (length_one size long short) refl; small = omega arith; behind = bytes_behind size rest all } in
     subst (λ (y : ℕ × List ℕ). IsLength (129 ∷ size ∷ rest) y.0 y.1) p.1 here
 
 two_bytes_found : (rest : List ℕ) (x : ℕ × List ℕ) → AreBytes rest → two_bytes_at rest ≡ Ok x → IsLength (130 ∷ rest) x.0 x.1
@@ -92,11 +92,11 @@ two_bytes_found (high ∷ low ∷ rest) x all e =
     let high_small : high < 256 = all 0 in
     let low_small : low < 256 = all 1 in
     let here : IsLength (130 ∷ high ∷ low ∷ rest) (256 * high + low) rest =
-        record {
-          parts = rw (length_two (256 * high + low) high low refl some low_small) refl;
-          small = omega arith;
-          behind = bytes_behind low rest (bytes_behind high (low ∷ rest) all);
-        } in
+    record {
+      parts = rw (length_two (256 * high + low) high low refl some low_small) refl;
+      small = omega arith;
+      behind = bytes_behind low rest (bytes_behind high (low ∷ rest) all);
+    } in
     subst (λ (y : ℕ × List ℕ). IsLength (130 ∷ high ∷ low ∷ rest) y.0 y.1) p.1 here
 
 length_found : (bytes : List ℕ) (x : ℕ × List ℕ) → AreBytes bytes → length_at bytes ≡ Ok x → IsLength bytes x.0 x.1
@@ -106,19 +106,19 @@ length_found (size ∷ rest) x all e =
     let long = cond (eqb size 129) (one_byte_at rest) (cond (eqb size 130) (two_bytes_at rest) (Err Element)) in
     elim (chosen (ltb size 128) (Ok (size, rest)) long (Ok x) e) [
       | inl is ↦
-      let short : size < 128 = ltb-true _ _ is.0 in
-      let here : IsLength (size ∷ rest) size rest =
+          let short : size < 128 = ltb-true _ _ is.0 in
+          let here : IsLength (size ∷ rest) size rest =
           record { parts = rw (length_short size short) refl; small = omega arith; behind = bytes_behind size rest all } in
-      subst (λ (y : ℕ × List ℕ). IsLength (size ∷ rest) y.0 y.1) (ok_is (size, rest) x is.1) here
+          subst (λ (y : ℕ × List ℕ). IsLength (size ∷ rest) y.0 y.1) (ok_is (size, rest) x is.1) here
       | inr is ↦
-      elim (chosen (eqb size 129) (one_byte_at rest) (cond (eqb size 130) (two_bytes_at rest) (Err Element)) (Ok x) is.1) [
-        | inl one ↦ rw (eqb-true _ _ one.0) (one_byte_found rest x (bytes_behind size rest all) one.1)
-        | inr other ↦
-        elim (chosen (eqb size 130) (two_bytes_at rest) (Err Element) (Ok x) other.1) [
-          | inl two ↦ rw (eqb-true _ _ two.0) (two_bytes_found rest x (bytes_behind size rest all) two.1)
-          | inr none ↦ absurd (cc none.1)
-        ]
-      ]
+          elim (chosen (eqb size 129) (one_byte_at rest) (cond (eqb size 130) (two_bytes_at rest) (Err Element)) (Ok x) is.1) [
+            | inl one ↦ rw (eqb-true _ _ one.0) (one_byte_found rest x (bytes_behind size rest all) one.1)
+            | inr other ↦
+                elim (chosen (eqb size 130) (two_bytes_at rest) (Err Element) (Ok x) other.1) [
+                  | inl two ↦ rw (eqb-true _ _ two.0) (two_bytes_found rest x (bytes_behind size rest all) two.1)
+                  | inr none ↦ absurd (cc none.1)
+                ]
+          ]
     ]
 
 length_again : (n : ℕ) (rest : List ℕ) → n < 65536 → length_at (length_bytes n ++ rest) ≡ Ok (n, rest)
@@ -127,13 +127,13 @@ length_again n rest small =
     elim (cases_lt n 128) [
       | inl short ↦ rw (length_short n short) (grind (arith, nat_tests))
       | inr long ↦
-      elim (cases_lt n 256) [
-        | inl one ↦ rw (length_one n long one) (grind (arith, nat_tests))
-        | inr two ↦
-        let whole : 256 * (n / 256) + n % 256 ≡ n = omega arith in
-        let some : eqb (n / 256) 0 ≡ false = grind (arith, nat_tests) in
-        rw (length_long n two, some, whole) refl
-      ]
+          elim (cases_lt n 256) [
+            | inl one ↦ rw (length_one n long one) (grind (arith, nat_tests))
+            | inr two ↦
+                let whole : 256 * (n / 256) + n % 256 ≡ n = omega arith in
+                let some : eqb (n / 256) 0 ≡ false = grind (arith, nat_tests) in
+                rw (length_long n two, some, whole) refl
+          ]
     ]
 
 -- ---- elements
@@ -158,17 +158,17 @@ element_found tag (first ∷ rest) x all e =
     let tag-is : first ≡ tag = eqb-true _ _ t.0 in
     let split : b.0.1 ≡ take b.0.0 b.0.1 ++ drop b.0.0 b.0.1 = sym (take-append-drop b.0.0 b.0.1) in
     let rest-is : rest ≡ (length_bytes b.0.0 ++ take b.0.0 b.0.1) ++ drop b.0.0 b.0.1 =
-        t.1 ∙ l.parts ∙ ap (λ (z : List ℕ). length_bytes b.0.0 ++ z) split
-        ∙ sym (append_assoc (length_bytes b.0.0) (take b.0.0 b.0.1) (drop b.0.0 b.0.1)) in
+    t.1 ∙ l.parts ∙ ap (λ (z : List ℕ). length_bytes b.0.0 ++ z) split
+    ∙ sym (append_assoc (length_bytes b.0.0) (take b.0.0 b.0.1) (drop b.0.0 b.0.1)) in
     let sized : rest ≡ (length_bytes (length (take b.0.0 b.0.1)) ++ take b.0.0 b.0.1) ++ drop b.0.0 b.0.1 =
-        subst (λ (k : ℕ). rest ≡ (length_bytes k ++ take b.0.0 b.0.1) ++ drop b.0.0 b.0.1) (sym exact) rest-is in
+    subst (λ (k : ℕ). rest ≡ (length_bytes k ++ take b.0.0 b.0.1) ++ drop b.0.0 b.0.1) (sym exact) rest-is in
     let here : IsElement (first ∷ rest) tag (take b.0.0 b.0.1) (drop b.0.0 b.0.1) =
-        record {
-          parts = ap (λ (z : List ℕ). first ∷ z) sized
-              ∙ ap (λ (k : ℕ). k ∷ ((length_bytes (length (take b.0.0 b.0.1)) ++ take b.0.0 b.0.1) ++ drop b.0.0 b.0.1)) tag-is;
-          inside = bytes_before b.0.0 b.0.1 l.behind;
-          behind = bytes_after b.0.0 b.0.1 l.behind;
-        } in
+    record {
+      parts = ap (λ (z : List ℕ). first ∷ z) sized
+          ∙ ap (λ (k : ℕ). k ∷ ((length_bytes (length (take b.0.0 b.0.1)) ++ take b.0.0 b.0.1) ++ drop b.0.0 b.0.1)) tag-is;
+      inside = bytes_before b.0.0 b.0.1 l.behind;
+      behind = bytes_after b.0.0 b.0.1 l.behind;
+    } in
     subst (λ (y : List ℕ × List ℕ). IsElement (first ∷ rest) tag y.0 y.1) c.1 here
 
 tagged_again : (tag : ℕ) (rest : List ℕ) → tagged_at tag (tag ∷ rest) ≡ Ok rest
@@ -203,12 +203,12 @@ whole_found tag bytes contents all e =
     let m = met (eqb (length a.0.1) 0) Behind a.0.0 contents a.2 in
     let none : a.0.1 ≡ [] = nil_from_length a.0.1 (eqb-true _ _ m.0) in
     let here : IsWhole bytes tag a.0.0 =
-        record { is = f.parts ∙ ap (λ (z : List ℕ). element tag a.0.0 ++ z) none ∙ append-nil (element tag a.0.0); inside = f.inside } in
+    record { is = f.parts ∙ ap (λ (z : List ℕ). element tag a.0.0 ++ z) none ∙ append-nil (element tag a.0.0); inside = f.inside } in
     subst (λ (y : List ℕ). IsWhole bytes tag y) m.1 here
 
 pub whole_again : (tag : ℕ) (contents : List ℕ) → length contents < 65536 → whole_at tag (element tag contents) ≡ Ok contents
 unfolding whole_at
 whole_again tag contents small =
     let again : element_at tag (element tag contents) ≡ Ok (contents, []) =
-        ap (λ (z : List ℕ). element_at tag z) (sym (append-nil (element tag contents))) ∙ element_again tag contents [] small in
+    ap (λ (z : List ℕ). element_at tag z) (sym (append-nil (element tag contents))) ∙ element_again tag contents [] small in
     ap (λ (read : Result (List ℕ × List ℕ) FileFault). read >>= λ x. cond (eqb (length x.1) 0) (Ok x.0) (Err Behind)) again

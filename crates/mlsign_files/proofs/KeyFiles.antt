@@ -46,12 +46,12 @@ algorithm_of_found contents algorithm e =
     elim (chosen (bytes_eq contents (identifier MlDsa44)) (Ok MlDsa44) (cond (bytes_eq contents (identifier MlDsa65)) (Ok MlDsa65) last) (Ok algorithm) e) [
       | inl is ↦ same_bytes _ _ is.0 ∙ ap identifier (ok_is MlDsa44 algorithm is.1)
       | inr other ↦
-      elim (chosen (bytes_eq contents (identifier MlDsa65)) (Ok MlDsa65) last (Ok algorithm) other.1) [
-        | inl is ↦ same_bytes _ _ is.0 ∙ ap identifier (ok_is MlDsa65 algorithm is.1)
-        | inr third ↦
-        let m = met (bytes_eq contents (identifier MlDsa87)) OtherAlgorithm MlDsa87 algorithm third.1 in
-        same_bytes _ _ m.0 ∙ ap identifier m.1
-      ]
+          elim (chosen (bytes_eq contents (identifier MlDsa65)) (Ok MlDsa65) last (Ok algorithm) other.1) [
+            | inl is ↦ same_bytes _ _ is.0 ∙ ap identifier (ok_is MlDsa65 algorithm is.1)
+            | inr third ↦
+                let m = met (bytes_eq contents (identifier MlDsa87)) OtherAlgorithm MlDsa87 algorithm third.1 in
+                same_bytes _ _ m.0 ∙ ap identifier m.1
+          ]
     ]
 
 algorithm_of_again : (algorithm : Algorithm) → algorithm_of (identifier algorithm) ≡ Ok algorithm
@@ -73,7 +73,7 @@ algorithm_found bytes x all e =
     let f = element_found sequence_tag bytes a.0 all a.1 in
     let is : a.0.0 ≡ identifier b.0 = algorithm_of_found a.0.0 b.0 b.1 in
     let here : Takes bytes (algorithm_identifier b.0) a.0.1 =
-        record { parts = f.parts ∙ ap (λ (z : List ℕ). element sequence_tag z ++ a.0.1) is; behind = f.behind } in
+    record { parts = f.parts ∙ ap (λ (z : List ℕ). element sequence_tag z ++ a.0.1) is; behind = f.behind } in
     subst (λ (y : Algorithm × List ℕ). Takes bytes (algorithm_identifier y.0) y.1) (ok_is (b.0, a.0.1) x b.2) here
 
 identifier_small : (algorithm : Algorithm) → length (identifier algorithm) ≡ 11
@@ -112,11 +112,11 @@ public_found der x all e =
     let bytes : c.0 ≡ 0 ∷ d.0 = whole_bytes_found c.0 d.0 d.1 in
     let sized = sized_found (public_length b.0.0) d.0 f.0 f.1 in
     let here : IsPublicFile der b.0.0 d.0 =
-        record {
-          size = sized.1;
-          is = info.is ∙ ap (λ (z : List ℕ). element sequence_tag z) (algorithm.parts
-              ∙ ap (λ (z : List ℕ). algorithm_identifier b.0.0 ++ z) (bits.is ∙ ap (λ (z : List ℕ). element bit_string_tag z) bytes));
-        } in
+    record {
+      size = sized.1;
+      is = info.is ∙ ap (λ (z : List ℕ). element sequence_tag z) (algorithm.parts
+          ∙ ap (λ (z : List ℕ). algorithm_identifier b.0.0 ++ z) (bits.is ∙ ap (λ (z : List ℕ). element bit_string_tag z) bytes));
+    } in
     subst (λ (y : Algorithm × List ℕ). IsPublicFile der y.0 y.1) (ok_is (b.0.0, f.0) x f.2) (subst (λ (y : List ℕ). IsPublicFile der b.0.0 y) sized.0 here)
 
 public_small : (algorithm : Algorithm) → public_length algorithm ≤ 4896
@@ -134,9 +134,13 @@ public_again algorithm bytes size =
     let bits : length (bit_string bytes) ≤ length (0 ∷ bytes) + 4 = length_of_element bit_string_tag (0 ∷ bytes) in
     let inner : length (0 ∷ bytes) < 65536 = omega (arith, public_small algorithm) in
     let outer : length (algorithm_identifier algorithm ++ bit_string bytes) < 65536 =
-        omega (arith, public_small algorithm, length_of_algorithm algorithm, length-append (algorithm_identifier algorithm) (bit_string bytes)) in
-    rw (whole_again sequence_tag (algorithm_identifier algorithm ++ bit_string bytes) outer, algorithm_again algorithm (bit_string bytes),
-    whole_again bit_string_tag (0 ∷ bytes) inner, sized_again (public_length algorithm) bytes size) refl
+    omega (arith, public_small algorithm, length_of_algorithm algorithm, length-append (algorithm_identifier algorithm) (bit_string bytes)) in
+    rw (
+      whole_again sequence_tag (algorithm_identifier algorithm ++ bit_string bytes) outer,
+      algorithm_again algorithm (bit_string bytes),
+      whole_again bit_string_tag (0 ∷ bytes) inner,
+      sized_again (public_length algorithm) bytes size,
+    ) refl
 
 -- ---- private keys
 
@@ -178,13 +182,16 @@ both_found algorithm bytes parts all e =
     let first = element_found octet_string_tag a.0 b.0 whole.inside b.1 in
     let seed = sized_found seed_length b.0.0 c.0 c.1 in
     let second = whole_found octet_string_tag b.0.1 d.0 first.behind d.1 in
-    let expanded = sized_found (private_length algorithm) d.0 f.0 f.1 in
-    (b.0.0, d.0, sym (ok_is (Both c.0 f.0) parts f.2) ∙ ap (λ (z : List ℕ). Both z f.0) (sym seed.0) ∙ ap (λ (z : List ℕ). Both b.0.0 z) (sym expanded.0),
-    record {
-      seed_size = seed.1;
-      expanded_size = expanded.1;
-      is = whole.is ∙ ap (λ (z : List ℕ). element sequence_tag z) (first.parts ∙ ap (λ (z : List ℕ). octet_string b.0.0 ++ z) second.is);
-    })
+    let expanded = sized_found (private_length algorithm) d.0 f.0 f.1 in (
+      b.0.0,
+      d.0,
+      sym (ok_is (Both c.0 f.0) parts f.2) ∙ ap (λ (z : List ℕ). Both z f.0) (sym seed.0) ∙ ap (λ (z : List ℕ). Both b.0.0 z) (sym expanded.0),
+      record {
+        seed_size = seed.1;
+        expanded_size = expanded.1;
+        is = whole.is ∙ ap (λ (z : List ℕ). element sequence_tag z) (first.parts ∙ ap (λ (z : List ℕ). octet_string b.0.0 ++ z) second.is);
+      },
+    )
 
 pub record IsChoice (bytes : List ℕ) (algorithm : Algorithm) (parts : PrivateParts) : Type 0 where
   pub sizes : HasPrivateSizes algorithm parts
@@ -196,17 +203,17 @@ choice_found algorithm [] parts all e = absurd cc
 choice_found algorithm (tag ∷ rest) parts all e =
     elim (chosen (eqb tag context_tag_0) (seed_at (tag ∷ rest)) (cond (eqb tag octet_string_tag) (expanded_at algorithm (tag ∷ rest)) (both_at algorithm (tag ∷ rest))) (Ok parts) e) [
       | inl is ↦
-      let s = seed_found (tag ∷ rest) parts all is.1 in
-      subst (IsChoice (tag ∷ rest) algorithm) (sym s.1) (record { sizes = s.2; is = s.3 })
+          let s = seed_found (tag ∷ rest) parts all is.1 in
+          subst (IsChoice (tag ∷ rest) algorithm) (sym s.1) (record { sizes = s.2; is = s.3 })
       | inr other ↦
-      elim (chosen (eqb tag octet_string_tag) (expanded_at algorithm (tag ∷ rest)) (both_at algorithm (tag ∷ rest)) (Ok parts) other.1) [
-        | inl is ↦
-        let s = expanded_found algorithm (tag ∷ rest) parts all is.1 in
-        subst (IsChoice (tag ∷ rest) algorithm) (sym s.1) (record { sizes = s.2; is = s.3 })
-        | inr is ↦
-        let s = both_found algorithm (tag ∷ rest) parts all is.1 in
-        subst (IsChoice (tag ∷ rest) algorithm) (sym s.2) (record { sizes = (s.3.seed_size, s.3.expanded_size); is = s.3.is })
-      ]
+          elim (chosen (eqb tag octet_string_tag) (expanded_at algorithm (tag ∷ rest)) (both_at algorithm (tag ∷ rest)) (Ok parts) other.1) [
+            | inl is ↦
+                let s = expanded_found algorithm (tag ∷ rest) parts all is.1 in
+                subst (IsChoice (tag ∷ rest) algorithm) (sym s.1) (record { sizes = s.2; is = s.3 })
+            | inr is ↦
+                let s = both_found algorithm (tag ∷ rest) parts all is.1 in
+                subst (IsChoice (tag ∷ rest) algorithm) (sym s.2) (record { sizes = (s.3.seed_size, s.3.expanded_size); is = s.3.is })
+          ]
     ]
 
 version_found : (bytes rest : List ℕ) → AreBytes bytes → version_at bytes ≡ Ok rest → Takes bytes (small_integer 0) rest
@@ -216,7 +223,7 @@ version_found bytes rest all e =
     let f = element_found integer_tag bytes a.0 all a.1 in
     let m = met (bytes_eq a.0.0 (0 ∷ [])) Version a.0.1 rest a.2 in
     let here : Takes bytes (small_integer 0) a.0.1 =
-        record { parts = f.parts ∙ ap (λ (z : List ℕ). element integer_tag z ++ a.0.1) (same_bytes a.0.0 (0 ∷ []) m.0); behind = f.behind } in
+    record { parts = f.parts ∙ ap (λ (z : List ℕ). element integer_tag z ++ a.0.1) (same_bytes a.0.0 (0 ∷ []) m.0); behind = f.behind } in
     subst (λ (y : List ℕ). Takes bytes (small_integer 0) y) m.1 here
 
 pub private_found : (der : List ℕ) (x : Algorithm × PrivateParts) → AreBytes der → private_at der ≡ Ok x → IsPrivateFile der x.0 x.1
@@ -233,13 +240,13 @@ private_found der x all e =
     let contents = whole_found octet_string_tag c.0.1 d.0 algorithm.behind d.1 in
     let choice = choice_found c.0.0 d.0 f.0 contents.inside f.1 in
     let here : IsPrivateFile der c.0.0 f.0 =
-        record {
-          sizes = choice.sizes;
-          is = info.is ∙ ap (λ (z : List ℕ). element sequence_tag z) (version.parts
-              ∙ ap (λ (z : List ℕ). small_integer 0 ++ z) (algorithm.parts
-              ∙ ap (λ (z : List ℕ). algorithm_identifier c.0.0 ++ z) (contents.is
-              ∙ ap (λ (z : List ℕ). octet_string z) choice.is)));
-        } in
+    record {
+      sizes = choice.sizes;
+      is = info.is ∙ ap (λ (z : List ℕ). element sequence_tag z) (version.parts
+          ∙ ap (λ (z : List ℕ). small_integer 0 ++ z) (algorithm.parts
+          ∙ ap (λ (z : List ℕ). algorithm_identifier c.0.0 ++ z) (contents.is
+          ∙ ap (λ (z : List ℕ). octet_string z) choice.is)));
+    } in
     subst (λ (y : Algorithm × PrivateParts). IsPrivateFile der y.0 y.1) (ok_is (c.0.0, f.0) x f.2) here
 
 private_small : (algorithm : Algorithm) → private_length algorithm ≤ 4896
@@ -252,8 +259,14 @@ unfolding private_choice
 choice_small algorithm (Seed seed) sizes = omega (arith, length_of_element context_tag_0 seed)
 choice_small algorithm (Expanded expanded) sizes = omega (arith, length_of_element octet_string_tag expanded, private_small algorithm)
 choice_small algorithm (Both seed expanded) sizes =
-    omega (arith, private_small algorithm, length_of_element octet_string_tag seed, length_of_element octet_string_tag expanded,
-    length-append (octet_string seed) (octet_string expanded), length_of_element sequence_tag (octet_string seed ++ octet_string expanded))
+    omega (
+      arith,
+      private_small algorithm,
+      length_of_element octet_string_tag seed,
+      length_of_element octet_string_tag expanded,
+      length-append (octet_string seed) (octet_string expanded),
+      length_of_element sequence_tag (octet_string seed ++ octet_string expanded),
+    )
 
 choice_again : (algorithm : Algorithm) (parts : PrivateParts) → HasPrivateSizes algorithm parts → choice_at algorithm (private_choice parts) ≡ Ok parts
 unfolding choice_at private_choice seed_at expanded_at both_at
@@ -263,11 +276,20 @@ choice_again algorithm (Expanded expanded) sizes =
     rw (whole_again octet_string_tag expanded (omega (arith, private_small algorithm)), sized_again (private_length algorithm) expanded sizes) refl
 choice_again algorithm (Both seed expanded) sizes =
     let outer : length (octet_string seed ++ octet_string expanded) < 65536 =
-        omega (arith, private_small algorithm, length_of_element octet_string_tag seed, length_of_element octet_string_tag expanded,
-        length-append (octet_string seed) (octet_string expanded)) in
-    rw (whole_again sequence_tag (octet_string seed ++ octet_string expanded) outer, element_again octet_string_tag seed (octet_string expanded) (omega arith),
-    sized_again seed_length seed sizes.0, whole_again octet_string_tag expanded (omega (arith, private_small algorithm)),
-    sized_again (private_length algorithm) expanded sizes.1) refl
+    omega (
+      arith,
+      private_small algorithm,
+      length_of_element octet_string_tag seed,
+      length_of_element octet_string_tag expanded,
+      length-append (octet_string seed) (octet_string expanded),
+    ) in
+    rw (
+      whole_again sequence_tag (octet_string seed ++ octet_string expanded) outer,
+      element_again octet_string_tag seed (octet_string expanded) (omega arith),
+      sized_again seed_length seed sizes.0,
+      whole_again octet_string_tag expanded (omega (arith, private_small algorithm)),
+      sized_again (private_length algorithm) expanded sizes.1,
+    ) refl
 
 version_again : (rest : List ℕ) → version_at (small_integer 0 ++ rest) ≡ Ok rest
 unfolding version_at
@@ -276,19 +298,27 @@ version_again rest = rw (element_again integer_tag (0 ∷ []) rest (omega arith)
 pub private_info_small : (algorithm : Algorithm) (parts : PrivateParts) → HasPrivateSizes algorithm parts
     → length (small_integer 0 ++ (algorithm_identifier algorithm ++ octet_string (private_choice parts))) < 65536
 private_info_small algorithm parts sizes =
-    omega (arith, choice_small algorithm parts sizes, length_of_algorithm algorithm, length_of_element octet_string_tag (private_choice parts),
-    length-append (algorithm_identifier algorithm) (octet_string (private_choice parts)),
-    length-append (small_integer 0) (algorithm_identifier algorithm ++ octet_string (private_choice parts)))
+    omega (
+      arith,
+      choice_small algorithm parts sizes,
+      length_of_algorithm algorithm,
+      length_of_element octet_string_tag (private_choice parts),
+      length-append (algorithm_identifier algorithm) (octet_string (private_choice parts)),
+      length-append (small_integer 0) (algorithm_identifier algorithm ++ octet_string (private_choice parts)),
+    )
 
 pub private_again : (algorithm : Algorithm) (parts : PrivateParts) → HasPrivateSizes algorithm parts
     → private_at (one_asymmetric_key algorithm parts) ≡ Ok (algorithm, parts)
 unfolding private_at one_asymmetric_key
 private_again algorithm parts sizes =
     let inner : length (private_choice parts) < 65536 = omega (arith, choice_small algorithm parts sizes) in
-    rw (whole_again sequence_tag (small_integer 0 ++ (algorithm_identifier algorithm ++ octet_string (private_choice parts))) (private_info_small algorithm parts sizes),
-    version_again (algorithm_identifier algorithm ++ octet_string (private_choice parts)),
-    algorithm_again algorithm (octet_string (private_choice parts)), whole_again octet_string_tag (private_choice parts) inner,
-    choice_again algorithm parts sizes) refl
+    rw (
+      whole_again sequence_tag (small_integer 0 ++ (algorithm_identifier algorithm ++ octet_string (private_choice parts))) (private_info_small algorithm parts sizes),
+      version_again (algorithm_identifier algorithm ++ octet_string (private_choice parts)),
+      algorithm_again algorithm (octet_string (private_choice parts)),
+      whole_again octet_string_tag (private_choice parts) inner,
+      choice_again algorithm parts sizes,
+    ) refl
 
 -- ---- what a reader returned
 

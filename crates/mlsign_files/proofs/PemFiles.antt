@@ -47,14 +47,14 @@ ended_found rest x e =
     elim (chosen (begins (line_end Lf) rest) (Ok (Lf, drop 1 rest)) (cond (begins (line_end CrLf) rest) (Ok (CrLf, drop 2 rest)) last) (Ok x) e) [
       | inl lf ↦ begun (line_end Lf) rest lf.0 ∙ ap (λ (y : LineEnd × List ℕ). line_end y.0 ++ y.1) (ok_is (Lf, drop 1 rest) x lf.1)
       | inr other ↦
-      elim (chosen (begins (line_end CrLf) rest) (Ok (CrLf, drop 2 rest)) last (Ok x) other.1) [
-        | inl crlf ↦ begun (line_end CrLf) rest crlf.0 ∙ ap (λ (y : LineEnd × List ℕ). line_end y.0 ++ y.1) (ok_is (CrLf, drop 2 rest) x crlf.1)
-        | inr none ↦
-        elim (chosen (begins rest (line_end CrLf)) (Err CutShort) (Err Text) (Ok x) none.1) [
-          | inl a ↦ absurd (cc a.1)
-          | inr b ↦ absurd (cc b.1)
-        ]
-      ]
+          elim (chosen (begins (line_end CrLf) rest) (Ok (CrLf, drop 2 rest)) last (Ok x) other.1) [
+            | inl crlf ↦ begun (line_end CrLf) rest crlf.0 ∙ ap (λ (y : LineEnd × List ℕ). line_end y.0 ++ y.1) (ok_is (CrLf, drop 2 rest) x crlf.1)
+            | inr none ↦
+                elim (chosen (begins rest (line_end CrLf)) (Err CutShort) (Err Text) (Ok x) none.1) [
+                  | inl a ↦ absurd (cc a.1)
+                  | inr b ↦ absurd (cc b.1)
+                ]
+          ]
     ]
 
 opened_found : (kind : Kind) (text : List ℕ) (x : LineEnd × List ℕ) → opened_at kind text ≡ Ok x → text ≡ begin_line kind ++ (line_end x.0 ++ x.1)
@@ -71,8 +71,8 @@ closed_found last text body e =
     let dash = position_or_len is_dash text in
     elim (chosen (bytes_eq (drop dash text) last) (Ok (take dash text)) (Err (closed_fault last (drop dash text))) (Ok body) e) [
       | inl is ↦
-      sym (take-append-drop dash text) ∙ ap (λ (z : List ℕ). take dash text ++ z) (same (drop dash text) last is.0)
-      ∙ ap (λ (z : List ℕ). z ++ last) (ok_is (take dash text) body is.1)
+          sym (take-append-drop dash text) ∙ ap (λ (z : List ℕ). take dash text ++ z) (same (drop dash text) last is.0)
+          ∙ ap (λ (z : List ℕ). z ++ last) (ok_is (take dash text) body is.1)
       | inr other ↦ absurd (cc other.1)
     ]
 
@@ -138,7 +138,7 @@ pem_again kind ending der bytes =
     let body : List ℕ = wrapped (line_end ending) symbols in
     let plain : list_all is_in_line symbols ≡ true = encoded_passes is_in_line der refl refl refl in
     let no_dash : list_all (λ x. not (is_dash x)) body ≡ true =
-        wrapped_pass (λ x. not (is_dash x)) (line_end ending) symbols (no_dash_in_ending ending) (encoded_passes (λ x. not (is_dash x)) der refl refl refl) in
+    wrapped_pass (λ x. not (is_dash x)) (line_end ending) symbols (no_dash_in_ending ending) (encoded_passes (λ x. not (is_dash x)) der refl refl refl) in
     ap (λ (read : Result (LineEnd × List ℕ) FileFault). read >>= λ opened. closed_at (closing kind opened.0) opened.1 >>= λ body.
     unwrapped_at (line_end opened.0) body >>= λ symbols. decoded_as (decode_of standard symbols)) (opened_again kind ending (body ++ closing kind ending))
     ∙ ap (λ (read : Result (List ℕ) FileFault). read >>= λ body. unwrapped_at (line_end ending) body >>= λ symbols. decoded_as (decode_of standard symbols))

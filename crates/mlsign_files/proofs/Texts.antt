@@ -28,11 +28,11 @@ wrapped_some ending text some =
 first_line : (text : List ℕ) (k : ℕ) → k ≡ min 64 (length text) → (take k text ≡ take 64 text) × (drop k text ≡ drop 64 text)
 first_line text k is = elim (cases_lt (length text) 64) [
   | inl short ↦
-  let all : k ≡ length text = omega arith in
-  (rw (take_all k text (omega arith), take_all 64 text (omega arith)) refl, rw (drop_all k text (omega arith), drop_all 64 text (omega arith)) refl)
+      let all : k ≡ length text = omega arith in
+      (rw (take_all k text (omega arith), take_all 64 text (omega arith)) refl, rw (drop_all k text (omega arith), drop_all 64 text (omega arith)) refl)
   | inr long ↦
-  let full : k ≡ 64 = omega arith in
-  (ap (λ n. take n text) full, ap (λ n. drop n text) full)
+      let full : k ≡ 64 = omega arith in
+      (ap (λ n. take n text) full, ap (λ n. drop n text) full)
 ]
 
 -- what is written and what is still to be written, after one more line
@@ -42,7 +42,7 @@ line_written out ending text after total written k not_empty is left added so_fa
     let some : 0 < length text = grind (arith, nat_tests) in
     let f = first_line text k is in
     let one : out ++ wrapped ending text ≡ out ++ (take 64 text ++ (ending ++ wrapped ending (drop 64 text))) =
-        ap (λ (z : List ℕ). out ++ z) (wrapped_some ending text some) in
+    ap (λ (z : List ℕ). out ++ z) (wrapped_some ending text some) in
     rw (added, left, f.0, f.1, append_assoc (out ++ take 64 text) ending (wrapped ending (drop 64 text)), append_assoc out (take 64 text) (ending ++ wrapped ending (drop 64 text)))
     (sym one ∙ so_far)
 
@@ -56,8 +56,8 @@ past_all p xs none =
     let within : position_or_len p xs ≤ length xs = prefix_len-le-length (λ x. not (p x)) xs in
     elim (cases_lt (position_or_len p xs) (length xs)) [
       | inl before ↦
-      let test : ltb (position_or_len p xs) (length xs) ≡ true = grind (arith, nat_tests) in
-      absurd (cc (sym none ∙ ap (λ (b : Bool). cond b (Some (position_or_len p xs)) None) test))
+          let test : ltb (position_or_len p xs) (length xs) ≡ true = grind (arith, nat_tests) in
+          absurd (cc (sym none ∙ ap (λ (b : Bool). cond b (Some (position_or_len p xs)) None) test))
       | inr past ↦ omega (arith, within, past)
     ]
 
@@ -104,7 +104,7 @@ lines_kept p ending zero text dropped all fits = sym (nil_from_length text (omeg
 lines_kept p ending (suc count) text dropped all fits =
     let parts = all_around p 64 text all in
     let later : filter p (lines ending count (drop 64 text)) ≡ drop 64 text =
-        lines_kept p ending count (drop 64 text) dropped parts.1 (omega (arith, length-drop 64 text)) in
+    lines_kept p ending count (drop 64 text) dropped parts.1 (omega (arith, length-drop 64 text)) in
     filter-append p (take 64 text) (ending ++ lines ending count (drop 64 text))
     ∙ ap (λ (z : List ℕ). z ++ filter p (ending ++ lines ending count (drop 64 text))) (kept_all p (take 64 text) parts.0)
     ∙ ap (λ (z : List ℕ). take 64 text ++ z) (filter-append p ending (lines ending count (drop 64 text))

@@ -9,8 +9,11 @@ use crate::fault::FileFault;
 use std::alloc::AllocError;
 
 pub(crate) const INTEGER: u8 = 2;
+
 pub(crate) const BIT_STRING: u8 = 3;
+
 pub(crate) const OCTET_STRING: u8 = 4;
+
 pub(crate) const SEQUENCE: u8 = 48;
 /// The tag `[0]` of a string under IMPLICIT tags.
 pub(crate) const CONTEXT_0: u8 = 128;

@@ -8,7 +8,9 @@ ghost use Rattle.mlsign_files.specs.Keys.{PrivateParts, Both, private_parts, alg
 ghost use Rattle.mlsign_files.specs.Reading.{Gives, sized_at, algorithm_of, algorithm_at, whole_bytes_of, public_at, seed_at, expanded_at, both_at, choice_at, version_at, private_at};
 
 use crate::algorithm::Algorithm;
-use crate::der::{BIT_STRING, CONTEXT_0, INTEGER, OCTET_STRING, SEQUENCE, element, put_element, whole};
+use crate::der::{
+    BIT_STRING, CONTEXT_0, INTEGER, OCTET_STRING, SEQUENCE, element, put_element, whole,
+};
 use crate::fault::FileFault;
 use std::alloc::{AllocError, Global};
 
@@ -23,15 +25,14 @@ pub enum PrivateKey<'a> {
     /// The expanded key.
     Expanded(&'a [u8]),
     /// Both.
-    Both {
-        seed: &'a [u8],
-        expanded: &'a [u8],
-    },
+    Both { seed: &'a [u8], expanded: &'a [u8] },
 }
 
 /// The identifiers of the algorithms in DER.
 const ML_DSA_44: [u8; 11] = [6, 9, 96, 134, 72, 1, 101, 3, 4, 3, 17];
+
 const ML_DSA_65: [u8; 11] = [6, 9, 96, 134, 72, 1, 101, 3, 4, 3, 18];
+
 const ML_DSA_87: [u8; 11] = [6, 9, 96, 134, 72, 1, 101, 3, 4, 3, 19];
 
 /// The algorithm of an AlgorithmIdentifier with these contents.

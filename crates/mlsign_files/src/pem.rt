@@ -232,12 +232,7 @@ pub fn decode(alloc: Global, kind: Kind, text: &[u8]) -> Result<Vec<u8>, FileFau
 }
 
 /// The text of this kind that spells these bytes.
-pub fn encode(
-    alloc: Global,
-    kind: Kind,
-    ending: LineEnd,
-    der: &[u8],
-) -> Result<Vec<u8>, AllocError>
+pub fn encode(alloc: Global, kind: Kind, ending: LineEnd, der: &[u8]) -> Result<Vec<u8>, AllocError>
     ensures { IfOk result (λ text. IsPem text.items kind der.now) }
 {
     let symbols = STANDARD.encode(alloc, der)?;

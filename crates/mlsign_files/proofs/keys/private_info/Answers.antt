@@ -8,7 +8,7 @@ pub put_element-requires-2 : goal.put_element-requires-2
 put_element-requires-2 c =
     let parts = private_parts c.args.key in
     let choice : c.as_slice.result.now ≡ private_choice parts =
-        c.as_slice.ensures.value ∙ c.in_ok-put_choice.ensures ∙ ap (λ (z : List ℕ). z ++ private_choice parts) c.new-choice.ensures.items in
+    c.as_slice.ensures.value ∙ c.in_ok-put_choice.ensures ∙ ap (λ (z : List ℕ). z ++ private_choice parts) c.new-choice.ensures.items in
     subst (λ (z : List ℕ). length z < 65536) (sym choice) (omega (arith, choice_small c.args.algorithm parts c.requires))
 
 pub returns : goal.returns

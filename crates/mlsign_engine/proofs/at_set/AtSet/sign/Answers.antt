@@ -16,10 +16,13 @@ returns-in-Ok g c =
     let range : ArePrivateParts p.k p.l key = rw (← sizes.rows, ← sizes.columns) c.tr.ensures.parts in
     let hashed = c.in_ok-mu.ensures.hashed in
     let hash : c.in_ok-mu.mu ≡ message_hash shake256_front key.tr (framed hashed.0 c.args.context.now) =
-        hashed.2 ∙ ap (λ (tr : List ℕ). message_hash shake256_front tr (framed hashed.0 c.args.context.now)) c.tr.ensures.hash in
+    hashed.2 ∙ ap (λ (tr : List ℕ). message_hash shake256_front tr (framed hashed.0 c.args.context.now)) c.tr.ensures.hash in
     let before : DummyRng = record { bytes = c.args.random.now } in
     let signed = drawn c.args.random.now before c.sign_mu.new.rng (sign p shake256_front shake128_front key c.in_ok-mu.mu) c.in-Ok.signature
-        c.in-Ok.ensures.answer refl in
+    c.in-Ok.ensures.answer refl in
     let size : length c.in-Ok.signature ≡ g.row.SIG_LEN = search rules in
-    record { signed = signs_at p c.signed_is_accepted.ensures g.S.Set.known (private_parts c.args.parts) key c.args.random.now c.args.context.now hashed.0
-    c.in-Ok.signature c.in_ok-mu.mu _ _ range c.in_ok-key.ensures.keys c.requires.short hashed.1 hash signed (size ∙ sizes.signature); faults = tt }
+    record {
+      signed = signs_at p c.signed_is_accepted.ensures g.S.Set.known (private_parts c.args.parts) key c.args.random.now c.args.context.now hashed.0
+          c.in-Ok.signature c.in_ok-mu.mu _ _ range c.in_ok-key.ensures.keys c.requires.short hashed.1 hash signed (size ∙ sizes.signature);
+      faults = tt;
+    }
