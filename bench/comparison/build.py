@@ -36,28 +36,38 @@ def missing():
     return names
 
 
-def lay_out(folder, room):
-    """Copies the workspace, with the crate's files, into a room, and checks that the files are what they were."""
-    shutil.copytree(f"{TOP}/bench/rust", f"{room}/rust", dirs_exist_ok=True)
-    os.makedirs(f"{room}/rust/fips204/src", exist_ok=True)
+def source(folder, name):
+    """The text of a file of the crate's sources, which is what it was."""
+    for path in (f"{folder}/src/{name}", f"{folder}/src--src--{name}.txt"):
+        if os.path.isfile(path):
+            break
+    else:
+        sys.exit(f"there is no src/{name} in {folder}")
+    with open(path, "rb") as it:
+        text = it.read()
+    if hashlib.sha256(text).hexdigest() != SOURCES[name]:
+        sys.exit(f"{path} is not that of fips204 0.5.0")
+    return text
+
+
+def lay_out_sources(folder, crate):
+    """Copies the crate's sources into the folder of a manifest."""
+    os.makedirs(f"{crate}/src", exist_ok=True)
     # The crate's documentation is a page of its own, which no code needs.
-    with open(f"{room}/rust/fips204/README.md", "w", encoding="ascii"):
+    with open(f"{crate}/README.md", "w", encoding="ascii"):
         pass
-    for name, wanted in SOURCES.items():
-        for path in (f"{folder}/src/{name}", f"{folder}/src--src--{name}.txt"):
-            if os.path.isfile(path):
-                break
-        else:
-            sys.exit(f"there is no src/{name} in {folder}")
-        with open(path, "rb") as it:
-            text = it.read()
-        if hashlib.sha256(text).hexdigest() != wanted:
-            sys.exit(f"{path} is not that of fips204 0.5.0")
-        target = f"{room}/rust/fips204/src/{name}"
+    for name in SOURCES:
+        text, target = source(folder, name), f"{crate}/src/{name}"
         # A file that is there already keeps its time, so that nothing is built anew for it.
         if not os.path.isfile(target) or open(target, "rb").read() != text:
             with open(target, "wb") as it:
                 it.write(text)
+
+
+def lay_out(folder, room):
+    """Copies the workspace, with the crate's files, into a room."""
+    shutil.copytree(f"{TOP}/bench/rust", f"{room}/rust", dirs_exist_ok=True)
+    lay_out_sources(folder, f"{room}/rust/fips204")
 
 
 def built(folder, room, program):

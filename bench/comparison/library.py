@@ -1,0 +1,210 @@
+"""The original's own tests over the Rust crate of ours, and what the calls of both cost."""
+import hashlib
+import os
+import pathlib
+import re
+import shutil
+import subprocess
+import sys
+import textwrap
+
+from comparison.build import REGISTRY, TOP, lay_out_sources, source
+
+# The tests of fips204 0.5.0 and its page by their SHA-256: as files of their own, or joined with the tests of its modules.
+TESTS = {
+    "accumulated.rs": "498ec3a5097e6cf648292d987366e0e04d67b10741e02922637c80b7fc5364d4",
+    "integration.rs": "e3eb36631da25302a70a595c84c116ab695895f7290e7231b2bdb5fee1c0cab1",
+    "messages.rs": "170bfe64b34d67a7deb6f692f9183cffe5af48970c7d9ad4bd9cc85d08353f5d",
+    "negative.rs": "f4d99269b948db6e04f96e42d009c0394428563cb67753ec427714eca4888d0a",
+}
+JOINED = {
+    "part1": "a6b3caf8989d3934e66a1bb01f75ded08b1c1d4fb3ccd5fbb5da4bf1621dc086",
+    "part2": "2e99a305f8a0e8caf5582fd8ecc4becc94eb300faaac0cfdc350dbccd53a776d",
+}
+PAGE = "0e87f15819ff2f84af3e88c3416c81a158209babad24a089add568b077b22b57"
+CRATES = ("hex", "rand_chacha", "rand_core", "sha2", "sha3", "zeroize", "zeroize_derive")
+CALLS = ("keygen", "sign", "verify")
+
+
+def missing():
+    """Gives the names of what has to be installed first."""
+    crates = os.listdir(REGISTRY) if os.path.isdir(REGISTRY) else []
+    names = [tool for tool in ("cargo", "rustc", "rt") if not shutil.which(tool)]
+    return names + [f"librust-{it.replace('_', '-')}-dev" for it in CRATES if not any(name.startswith(f"{it}-") for name in crates)]
+
+
+def checked(path, wanted):
+    """The text of a file that is what it was."""
+    text = pathlib.Path(path).read_bytes()
+    if hashlib.sha256(text).hexdigest() != wanted:
+        sys.exit(f"{path} is not that of fips204 0.5.0")
+    return text.decode()
+
+
+def original_tests(folder):
+    """The original's files of tests, by their names, and the tests of its modules, by the module."""
+    parts = [(f"{folder}/src--tests--tests--{name}.rs.txt", wanted) for name, wanted in JOINED.items()]
+    if all(os.path.isfile(path) for path, _ in parts):
+        text = "".join(checked(*it) + "\n" for it in parts)
+        pieces = re.split(r"^// ===== (\S+)(?: \(test module\))? =====\n", text, flags=re.M)
+        named = list(zip(pieces[1::2], pieces[2::2]))
+        files = {name.removeprefix("tests/"): body for name, body in named if name.startswith("tests/")}
+        return files, {name.removeprefix("src/"): body for name, body in named if name.startswith("src/")}
+    for name in TESTS:
+        if not os.path.isfile(f"{folder}/tests/{name}"):
+            sys.exit(f"there is no tests/{name} in {folder}")
+    return {name: checked(f"{folder}/tests/{name}", wanted) for name, wanted in TESTS.items()}, {}
+
+
+def smoke(body):
+    """The tests of the original's root, which it has in each set's module, as a file of tests. What they name of the crate's
+    inside, the module `types` and a constant, stands where they look for it."""
+    body = textwrap.dedent(body)
+    head = "mod types {\n    pub use fips204::pre_hash;\n}\nconst MAX_PREHASH_LEN: usize = 1024;\n"
+    return head + "".join(f"mod ml_dsa_{it} {{\n#[allow(unused_imports)]\nuse fips204::{{ml_dsa_{it}::*, traits::*}};\n{body}}}\n" for it in ("44", "65", "87"))
+
+
+def examples(folder):
+    """The examples of the original's documents, as one page."""
+    page, count = "", 0
+    texts = [checked(path, PAGE) for path in (f"{folder}/README.md", f"{folder}/src--README.md") if os.path.isfile(path)][:1]
+    for name in ("lib.rs", "traits.rs"):
+        lines = [line.strip() for line in source(folder, name).decode().split("\n")]
+        texts.append("\n".join(re.sub(r"^/// ?", "", line) for line in lines if line.startswith("///")))
+    for text in texts:
+        for block in re.findall(r"^(?:```|~~~)rust\n(.*?)^(?:```|~~~)$", text, re.M | re.S):
+            count += 1
+            page += f"Example {count}\n\n```rust\n{block}```\n\n"
+    return page, count
+
+
+def lay_out(folder, room):
+    """Lays out the workspace of `bench/library` with our crate and the original, and gives its folder."""
+    place = f"{room}/library"
+    shutil.copytree(f"{TOP}/bench/library", place, dirs_exist_ok=True)
+    shutil.copytree(f"{TOP}/bench/rust/rand_core", f"{place}/rand_core", dirs_exist_ok=True)
+    shutil.copytree(f"{TOP}/rust/fips204/src", f"{place}/fips204/src", dirs_exist_ok=True)
+    for name in ("build.rs", "README.md"):
+        shutil.copy(f"{TOP}/rust/fips204/{name}", f"{place}/fips204/{name}")
+    lay_out_sources(folder, f"{place}/original")
+    return place
+
+
+def archive():
+    """The folder of the static library, which is built first."""
+    done = subprocess.run([f"{TOP}/scripts/archive"], capture_output=True, text=True, check=False)
+    if done.returncode:
+        sys.exit(done.stdout + done.stderr)
+    return os.path.dirname(done.stdout.strip())
+
+
+def cargo(place, *words):
+    environment = dict(os.environ, MLDSA_C_DIR=archive())
+    return subprocess.run(["cargo", *words], cwd=place, env=environment, capture_output=True, text=True, check=False)
+
+
+def results(done):
+    """How many tests of a run passed, failed and were ignored."""
+    found = re.findall(r"test result: \w+\. (\d+) passed; (\d+) failed; (\d+) ignored", done.stdout)
+    return [sum(int(it[which]) for it in found) for which in range(3)]
+
+
+def tests(folder, room, long):
+    """Runs the original's tests over our crate. Gives how many failed."""
+    names = missing()
+    if names:
+        sys.exit(f"missing: {', '.join(names)}")
+    place = lay_out(folder, room)
+    files, modules = original_tests(folder)
+    page, count = examples(folder)
+    os.makedirs(f"{place}/fips204/tests", exist_ok=True)
+    files = {**files, **({"smoke.rs": smoke(modules["lib.rs"])} if "lib.rs" in modules else {})}
+    for name, body in files.items():
+        pathlib.Path(f"{place}/fips204/tests/{name}").write_text(body, encoding="utf-8")
+    pathlib.Path(f"{place}/fips204/tests/examples.md").write_text(page, encoding="utf-8")
+    with open(f"{place}/fips204/src/lib.rs", "a", encoding="utf-8") as it:
+        it.write('\n/// The examples.\n#[cfg(doctest)]\n#[doc = include_str!("../tests/examples.md")]\npub mod examples {}\n')
+    total = [0, 0, 0]
+    print("| tests | passed | failed | ignored |\n|---|---|---|---|", flush=True)
+    rows = [(name, ["--test", name.removesuffix(".rs")]) for name in sorted(files)] + [(f"{count} examples, and that of our page", ["--doc"])]
+    if long:
+        rows.append(("accumulated.rs, 10,000 pairs and signatures a set", ["--release", "--test", "accumulated"]))
+    for name, words in rows:
+        done = cargo(place, "test", "--offline", "-p", "fips204", *words)
+        row = results(done)
+        if done.returncode and not row[1]:
+            row[1] = 1
+        print(f"| {name} | {' | '.join(map(str, row))} |", flush=True)
+        if done.returncode:
+            print(done.stdout[-6000:] + done.stderr[-6000:])
+        total = [a + b for a, b in zip(total, row)]
+    print(f"\n{total[0]} passed, {total[1]} failed, {total[2]} ignored (the original ignores it: it runs for ever).")
+    for name, body in modules.items():
+        if name != "lib.rs":
+            print(f"Not run: {body.count('#[test]')} of src/{name}, which call functions that are private there.")
+    if not modules:
+        print("Not run: the tests in src/, which this folder has not.")
+    return total[1]
+
+
+def openssl(runs):
+    """Median nanoseconds of the three calls of a set in OpenSSL, by python's cryptography, or None where it is not there."""
+    try:
+        from cryptography.hazmat.backends.openssl import backend
+        from cryptography.hazmat.primitives.asymmetric import mldsa
+    except ImportError:
+        return None, {}
+    import statistics
+    import time
+
+    def median(call, cases):
+        taken = []
+        for case in cases:
+            start = time.perf_counter_ns()
+            call(*case)
+            taken.append(time.perf_counter_ns() - start)
+        return statistics.median(taken)
+
+    found = {}
+    for number in ("44", "65", "87"):
+        make = getattr(mldsa, f"MLDSA{number}PrivateKey").from_seed_bytes
+        texts = [it.to_bytes(32, "little") for it in range(runs)]
+        key = make(bytes(32))
+        public = key.public_key()
+        found[number, "keygen"] = median(make, [(it,) for it in texts])
+        found[number, "sign"] = median(key.sign, [(it,) for it in texts])
+        found[number, "verify"] = median(public.verify, [(key.sign(it), it) for it in texts])
+    return backend.openssl_version_text(), found
+
+
+def instructions(program, number, call, which, room):
+    """The instructions of one call, as the difference of a run with twenty and one with none."""
+    counts = []
+    for count in ("20", "0"):
+        out = f"{room}/calls"
+        words = ["valgrind", "--tool=callgrind", f"--callgrind-out-file={out}", program, count, number, call, which]
+        subprocess.run(words, capture_output=True, check=True)
+        counts.append(int(re.search(r"^(?:summary|totals): (\d+)", pathlib.Path(out).read_text(errors="replace"), re.M)[1]))
+    return (counts[0] - counts[1]) / 20
+
+
+def costs(folder, room, runs):
+    """Prints the table of what the three calls cost at each set: the original, our crate, and OpenSSL."""
+    names = missing() + ([] if shutil.which("valgrind") else ["valgrind"])
+    if names:
+        sys.exit(f"missing: {', '.join(names)}")
+    place = lay_out(folder, room)
+    done = cargo(place, "build", "--offline", "--release", "-p", "costs")
+    if done.returncode:
+        sys.exit(done.stderr)
+    program = f"{place}/target/release/costs"
+    times = subprocess.run([program, str(runs)], capture_output=True, text=True, check=True).stdout.splitlines()
+    version, theirs = openssl(runs)
+    print(f"Medians of {runs} calls on the same inputs, in turns, with equal results; OpenSSL: {version}, through Python.\n")
+    print("| set | call | microseconds: original | ours | ours / original | OpenSSL | millions of instructions: original | ours | ours / original |")
+    print("|---|---|---|---|---|---|---|---|---|")
+    for number, call, original, ours in map(str.split, times):
+        counts = [instructions(program, number, call, which, room) for which in ("original", "ours")]
+        other = f"{theirs[number, call] / 1000:.0f}" if theirs else "-"
+        print(f"| {number} | {call} | {int(original) / 1000:.0f} | {int(ours) / 1000:.0f} | {int(ours) / int(original):.2f} | {other} "
+              f"| {counts[0] / 1e6:.3f} | {counts[1] / 1e6:.3f} | {counts[1] / counts[0]:.2f} |", flush=True)

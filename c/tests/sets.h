@@ -1,0 +1,55 @@
+/* The calls of each set as a row of a table, and what the tests share. */
+#ifndef SETS_H
+#define SETS_H
+
+#include "mldsa.h"
+
+#include <stdio.h>
+#include <stdlib.h>
+#include <string.h>
+
+enum { LONGEST_KEY = MLDSA87_PRIVATE_KEY_LEN, LONGEST_SIGNATURE = MLDSA87_SIGNATURE_LEN };
+
+typedef const uint8_t *in;
+struct set {
+    int number;
+    size_t public_key_len, private_key_len, signature_len;
+    size_t stack_keygen, stack_sign, stack_verify, stack_public_key, stack_check, stack_whole;
+    uint32_t (*keygen)(in, size_t, uint8_t *, size_t, uint8_t *, size_t);
+    uint32_t (*sign)(in, size_t, in, size_t, in, size_t, in, size_t, uint8_t *, size_t);
+    uint32_t (*verify)(in, size_t, in, size_t, in, size_t, in, size_t);
+    uint32_t (*hash_sign)(in, size_t, in, size_t, in, size_t, in, size_t, in, size_t, uint8_t *, size_t);
+    uint32_t (*hash_verify)(in, size_t, in, size_t, in, size_t, in, size_t, in, size_t);
+    uint32_t (*sign_mu)(in, size_t, in, size_t, in, size_t, uint8_t *, size_t);
+    uint32_t (*verify_mu)(in, size_t, in, size_t, in, size_t);
+    uint32_t (*public_key)(in, size_t, uint8_t *, size_t);
+    uint32_t (*check_private_key)(in, size_t);
+    uint32_t (*is_whole)(in, size_t);
+};
+
+#define SET(N)                                                                                                 \
+    {                                                                                                          \
+        N, MLDSA##N##_PUBLIC_KEY_LEN, MLDSA##N##_PRIVATE_KEY_LEN, MLDSA##N##_SIGNATURE_LEN,                    \
+            MLDSA##N##_STACK_KEYGEN, MLDSA##N##_STACK_SIGN, MLDSA##N##_STACK_VERIFY,                           \
+            MLDSA##N##_STACK_PUBLIC_KEY, MLDSA##N##_STACK_CHECK, MLDSA##N##_STACK_WHOLE, mldsa##N##_keygen,    \
+            mldsa##N##_sign, mldsa##N##_verify, mldsa##N##_hash_sign, mldsa##N##_hash_verify,                  \
+            mldsa##N##_sign_mu, mldsa##N##_verify_mu, mldsa##N##_public_key, mldsa##N##_check_private_key,     \
+            mldsa##N##_is_whole                                                                                \
+    }
+static const struct set SETS[3] = {SET(44), SET(65), SET(87)};
+
+/* The object identifier of SHA-256. */
+static const uint8_t SHA256_OID[11] = {0x06, 0x09, 0x60, 0x86, 0x48, 0x01, 0x65, 0x03, 0x04, 0x02, 0x01};
+
+static int failures __attribute__((unused));
+/* Counts an answer that is another one than wanted. */
+#define WANT(got, wanted)                                                                                      \
+    do {                                                                                                       \
+        unsigned long got_ = (got), wanted_ = (wanted);                                                        \
+        if (got_ != wanted_) {                                                                                 \
+            printf("line %d: %s is %lu, wanted %lu\n", __LINE__, #got, got_, wanted_);                         \
+            failures++;                                                                                        \
+        }                                                                                                      \
+    } while (0)
+
+#endif

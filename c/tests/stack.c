@@ -1,0 +1,86 @@
+/* Each call on a stack of the size that the header states, and no more: below it lies a page that faults.
+ * `stack measure` prints what each call uses: SET NAME BYTES. */
+#define _GNU_SOURCE
+#include "sets.h"
+
+#include <sys/mman.h>
+#include <ucontext.h>
+
+enum { PAGE = 4096, ROOM = 1 << 20 };
+static uint8_t *room;
+static ucontext_t back, call;
+static const struct set *s;
+static uint8_t public_key[LONGEST_KEY], private_key[LONGEST_KEY], signature[LONGEST_SIGNATURE], seed[64];
+static uint32_t answer;
+
+static void keygen(void) { answer = s->keygen(seed, 32, public_key, s->public_key_len, private_key, s->private_key_len); }
+static void sign(void) { answer = s->sign(private_key, s->private_key_len, seed, 32, seed, 9, seed, 32, signature, s->signature_len); }
+static void verify(void) { answer = s->verify(public_key, s->public_key_len, seed, 32, seed, 9, signature, s->signature_len); }
+static void hash_sign(void)
+{
+    answer = s->hash_sign(private_key, s->private_key_len, seed, 32, seed, 9, SHA256_OID, 11, seed, 32, signature, s->signature_len);
+}
+static void hash_verify(void)
+{
+    answer = s->hash_verify(public_key, s->public_key_len, seed, 32, seed, 9, SHA256_OID, 11, signature, s->signature_len);
+}
+static void sign_mu(void) { answer = s->sign_mu(private_key, s->private_key_len, seed, 64, seed, 32, signature, s->signature_len); }
+static void verify_mu(void) { answer = s->verify_mu(public_key, s->public_key_len, seed, 64, signature, s->signature_len); }
+static void derive(void) { answer = s->public_key(private_key, s->private_key_len, public_key, s->public_key_len); }
+static void check(void) { answer = s->check_private_key(private_key, s->private_key_len); }
+static void whole(void) { answer = s->is_whole(private_key, s->private_key_len); }
+static void nothing(void) { answer = 0; }
+
+/* Runs a call on the last `size` bytes of the room, whose pages below are taken away if `tight`, and gives how many bytes of
+ * it were written. */
+static size_t used(void (*run)(void), size_t size, int tight)
+{
+    size_t untouched = 0, below = (ROOM - size) / PAGE * PAGE;
+    mprotect(room, ROOM, PROT_READ | PROT_WRITE);
+    memset(room, 0xA5, ROOM);
+    if (tight && mprotect(room, below, PROT_NONE))
+        exit(2);
+    getcontext(&call);
+    call.uc_stack.ss_sp = room + ROOM - size;
+    call.uc_stack.ss_size = size;
+    call.uc_link = &back;
+    makecontext(&call, run, 0);
+    swapcontext(&back, &call);
+    WANT(answer, 0);
+    while (untouched < size && room[ROOM - size + untouched] == 0xA5)
+        untouched++;
+    return size - untouched;
+}
+
+int main(int count, char **words)
+{
+    static const struct { const char *name; void (*run)(void); } CALLS[10] = {
+        {"KEYGEN", keygen}, {"SIGN", sign}, {"SIGN", hash_sign}, {"SIGN", sign_mu}, {"VERIFY", verify_mu},
+        {"VERIFY", hash_verify}, {"VERIFY", verify}, {"PUBLIC_KEY", derive}, {"CHECK", check}, {"WHOLE", whole}};
+    int measure = count > 1 && strcmp(words[1], "measure") == 0;
+    size_t own;
+    room = mmap(NULL, ROOM, PROT_READ | PROT_WRITE, MAP_PRIVATE | MAP_ANONYMOUS, -1, 0);
+    own = used(nothing, ROOM, 0);
+    for (s = SETS; s < SETS + 3; s++)
+        for (int i = 0; i < 10; i++) {
+            const size_t stated[10] = {s->stack_keygen, s->stack_sign, s->stack_sign, s->stack_sign, s->stack_verify,
+                                       s->stack_verify, s->stack_verify, s->stack_public_key, s->stack_check, s->stack_whole};
+            size_t took;
+            /* What is verified was signed by the call of its name. */
+            if (CALLS[i].run == verify)
+                used(sign, ROOM, 0);
+            if (CALLS[i].run == hash_verify)
+                used(hash_sign, ROOM, 0);
+            if (measure) {
+                printf("%d %s %zu\n", s->number, CALLS[i].name, used(CALLS[i].run, ROOM, 0) - own);
+                continue;
+            }
+            /* The one that asks has a frame of its own. */
+            took = used(CALLS[i].run, stated[i] + own, 1);
+            if (took > stated[i] + own || 4 * took < 3 * stated[i]) {
+                printf("set %d, %s: %zu bytes used, %zu stated\n", s->number, CALLS[i].name, took, stated[i]);
+                failures++;
+            }
+        }
+    return failures != 0;
+}

@@ -1,0 +1,30 @@
+#![doc = include_str!("../README.md")]
+#![cfg_attr(not(feature = "default-rng"), no_std)]
+#![deny(missing_docs)]
+
+mod library;
+pub mod pre_hash;
+mod set;
+pub mod traits;
+mod wiped;
+
+#[cfg(feature = "rand_core")]
+pub use rand_core::{CryptoRng, Error as RngError, RngCore};
+
+/// ML-DSA-44, of security category 2.
+#[cfg(feature = "ml-dsa-44")]
+pub mod ml_dsa_44 {
+    crate::set::parameter_set!(set_44, 1312, 2560, 2420);
+}
+
+/// ML-DSA-65, of security category 3.
+#[cfg(feature = "ml-dsa-65")]
+pub mod ml_dsa_65 {
+    crate::set::parameter_set!(set_65, 1952, 4032, 3309);
+}
+
+/// ML-DSA-87, of security category 5.
+#[cfg(feature = "ml-dsa-87")]
+pub mod ml_dsa_87 {
+    crate::set::parameter_set!(set_87, 2592, 4896, 4627);
+}

@@ -1,0 +1,98 @@
+//! The calls of the static library, as safe functions over slices.
+#![allow(dead_code)] // a set may be left out
+
+/// Done; of a question: yes.
+pub(crate) const DONE: u32 = 0;
+/// Of a question: no.
+pub(crate) const NO: u32 = 1;
+
+/// The text of a status that is no success.
+pub(crate) fn error(status: u32) -> &'static str {
+    match status {
+        2 => "an array has the wrong length",
+        4 => "ML-DSA.Sign: ctx too long",
+        6 => "HashML-DSA.Sign: ctx too long",
+        7 => "HashML-DSA.Sign: OID is empty",
+        8 => "HashML-DSA.Sign: OID is not DER encoded",
+        9 => "Hash of message is too long, should not be more than 1KiB",
+        10 => "HashML-DSA.Sign: digest length does not match the OID",
+        13 => "ML-DSA.Sign: too many attempts",
+        14 => "Alg 25: s1 or s2 out of range",
+        15 => "sampling limit reached",
+        _ => "no answer of this library",
+    }
+}
+
+/// The value where the call is done, and else the text of its status.
+pub(crate) fn answer<T>(status: u32, value: T) -> Result<T, &'static str> {
+    if status == DONE {
+        Ok(value)
+    } else {
+        Err(error(status))
+    }
+}
+
+/// Declares calls: for each a C function, in which a slice is a pointer and then a length, and a safe function of the same
+/// name. A slice before the arrow is read, and one after it is written. In the library `$prefix` stands before a name.
+macro_rules! calls {
+    ($prefix:literal: $($name:ident($($read:ident),*) => ($($written:ident),*);)*) => {
+        mod foreign {
+            unsafe extern "C" {
+                $(
+                    #[link_name = concat!($prefix, stringify!($name))]
+                    pub(super) fn $name(
+                        $($read: *const u8, _: usize,)*
+                        $($written: *mut u8, _: usize,)*
+                    ) -> u32;
+                )*
+            }
+        }
+        $(
+            pub(crate) fn $name($($read: &[u8],)* $($written: &mut [u8],)*) -> u32 {
+                // SAFETY: the declaration is that of `mldsa.h`. Each pointer is not null and has as many bytes as the length
+                // after it says; what is written overlaps nothing else. The call asks for no more.
+                unsafe {
+                    foreign::$name(
+                        $($read.as_ptr(), $read.len(),)*
+                        $($written.as_mut_ptr(), $written.len(),)*
+                    )
+                }
+            }
+        )*
+    };
+}
+
+macro_rules! calls_of_a_set {
+    ($prefix:literal) => {
+        calls! {
+            $prefix:
+            keygen(seed) => (public_key, private_key);
+            sign(private_key, message, context, random) => (signature);
+            verify(public_key, message, context, signature) => ();
+            hash_sign(private_key, digest, context, oid, random) => (signature);
+            hash_verify(public_key, digest, context, oid, signature) => ();
+            sign_mu(private_key, mu, random) => (signature);
+            verify_mu(public_key, mu, signature) => ();
+            public_key(private_key) => (public_key);
+            check_private_key(private_key) => ();
+            is_whole(private_key) => ();
+        }
+    };
+}
+
+pub(crate) mod set_44 {
+    calls_of_a_set!("mldsa44_");
+}
+
+pub(crate) mod set_65 {
+    calls_of_a_set!("mldsa65_");
+}
+
+pub(crate) mod set_87 {
+    calls_of_a_set!("mldsa87_");
+}
+
+calls! {
+    "mldsa_":
+    check_pre_hash(digest, oid) => ();
+}

@@ -1,0 +1,232 @@
+//! What every parameter set has.
+
+/// The items of a set's module: the calls of the library, and the lengths of a public key, a private key and a signature.
+#[cfg(any(feature = "ml-dsa-44", feature = "ml-dsa-65", feature = "ml-dsa-87"))]
+macro_rules! parameter_set {
+    ($calls:ident, $pk_len:literal, $sk_len:literal, $sig_len:literal) => {
+        use crate::library::{self, answer, $calls as calls};
+        use crate::traits::{CryptoRngCore, KeyGen, SerDes, Signer, Verifier};
+        use crate::wiped::Wiped;
+
+        /// The number of bytes of a private key.
+        pub const SK_LEN: usize = $sk_len;
+        /// The number of bytes of a public key.
+        pub const PK_LEN: usize = $pk_len;
+        /// The number of bytes of a signature.
+        pub const SIG_LEN: usize = $sig_len;
+
+        /// Key generation.
+        pub struct KG();
+
+        /// A private key, which is wiped when it is dropped.
+        #[derive(Clone)]
+        pub struct PrivateKey(Wiped<SK_LEN>);
+
+        /// A public key, which is wiped when it is dropped.
+        #[derive(Clone)]
+        pub struct PublicKey(Wiped<PK_LEN>);
+
+        /// Makes a key pair from 32 bytes of the operating system's generator.
+        ///
+        /// # Errors
+        /// The generator failed.
+        #[cfg(feature = "default-rng")]
+        pub fn try_keygen() -> Result<(PublicKey, PrivateKey), &'static str> {
+            KG::try_keygen()
+        }
+
+        /// Makes a key pair from 32 bytes of a generator, which is asked once.
+        ///
+        /// # Errors
+        /// The generator failed.
+        pub fn try_keygen_with_rng(
+            rng: &mut impl CryptoRngCore,
+        ) -> Result<(PublicKey, PrivateKey), &'static str> {
+            KG::try_keygen_with_rng(rng)
+        }
+
+        /// 32 bytes of a generator.
+        fn draw(
+            rng: &mut impl CryptoRngCore,
+            refusal: &'static str,
+        ) -> Result<Wiped<32>, &'static str> {
+            let mut bytes = Wiped([0; 32]);
+            rng.try_fill_bytes(&mut bytes.0).map_err(|_| refusal)?;
+            Ok(bytes)
+        }
+
+        impl KeyGen for KG {
+            type PublicKey = PublicKey;
+            type PrivateKey = PrivateKey;
+
+            fn try_keygen_with_rng(
+                rng: &mut impl CryptoRngCore,
+            ) -> Result<(PublicKey, PrivateKey), &'static str> {
+                let xi = draw(rng, "KeyGen: Random number generator failed")?;
+                Ok(KG::keygen_from_seed(&xi.0))
+            }
+
+            /// # Panics
+            /// Rejection sampling reached its limit, for which no seed is known.
+            fn keygen_from_seed(xi: &[u8; 32]) -> (PublicKey, PrivateKey) {
+                let mut public = PublicKey(Wiped([0; PK_LEN]));
+                let mut private = PrivateKey(Wiped([0; SK_LEN]));
+                let status = calls::keygen(xi, &mut public.0.0, &mut private.0.0);
+                answer(status, (public, private)).unwrap()
+            }
+        }
+
+        impl PrivateKey {
+            /// Whether the key's part t0 belongs to its parts s1 and s2, as in every key of key generation.
+            ///
+            /// # Errors
+            /// Rejection sampling reached its limit, for which no key is known.
+            pub fn is_whole(&self) -> Result<bool, &'static str> {
+                match calls::is_whole(&self.0.0) {
+                    library::NO => Ok(false),
+                    status => answer(status, true),
+                }
+            }
+
+            /// Signs the hash `mu` of a framed message (Algorithm 7 from line 7 on): with random bytes of the generator, or
+            /// without `hedged` with 32 zeros.
+            ///
+            /// # Errors
+            /// The generator failed, or all 814 attempts were rejected.
+            #[cfg(feature = "acvp-internal")]
+            pub fn sign_mu(
+                &self,
+                rng: &mut impl CryptoRngCore,
+                mu: &[u8; 64],
+                hedged: bool,
+            ) -> Result<[u8; SIG_LEN], &'static str> {
+                let mut random = Wiped([0; 32]);
+                if hedged {
+                    random = draw(rng, "ML-DSA.Sign_internal: random number generator failed")?;
+                }
+                let mut signature = [0; SIG_LEN];
+                let status = calls::sign_mu(&self.0.0, mu, &random.0, &mut signature);
+                answer(status, signature)
+            }
+        }
+
+        #[cfg(feature = "acvp-internal")]
+        impl PublicKey {
+            /// Whether the key accepts the signature of the hash `mu` of a framed message (Algorithm 8, with mu given).
+            #[must_use]
+            pub fn verify_mu(&self, mu: &[u8; 64], sig: &[u8; SIG_LEN]) -> bool {
+                calls::verify_mu(&self.0.0, mu, sig) == library::DONE
+            }
+        }
+
+        impl Signer for PrivateKey {
+            type Signature = [u8; SIG_LEN];
+            type PublicKey = PublicKey;
+
+            fn try_sign_with_rng(
+                &self,
+                rng: &mut impl CryptoRngCore,
+                message: &[u8],
+                ctx: &[u8],
+            ) -> Result<[u8; SIG_LEN], &'static str> {
+                if ctx.len() > 255 {
+                    return Err("ML-DSA.Sign: ctx too long");
+                }
+                let random = draw(rng, "ML-DSA.Sign: random number generator failed")?;
+                self.try_sign_with_seed(&random.0, message, ctx)
+            }
+
+            fn try_sign_with_seed(
+                &self,
+                seed: &[u8; 32],
+                message: &[u8],
+                ctx: &[u8],
+            ) -> Result<[u8; SIG_LEN], &'static str> {
+                let mut signature = [0; SIG_LEN];
+                let status = calls::sign(&self.0.0, message, ctx, seed, &mut signature);
+                answer(status, signature)
+            }
+
+            fn try_hash_sign_with_rng(
+                &self,
+                rng: &mut impl CryptoRngCore,
+                hash: &[u8],
+                ctx: &[u8],
+                hash_oid: &[u8],
+            ) -> Result<[u8; SIG_LEN], &'static str> {
+                if ctx.len() > 255 {
+                    return Err("HashML-DSA.Sign: ctx too long");
+                }
+                answer(library::check_pre_hash(hash, hash_oid), ())?;
+                let random = draw(rng, "HashML-DSA.Sign: random number generator failed")?;
+                self.try_hash_sign_with_seed(&random.0, hash, ctx, hash_oid)
+            }
+
+            fn try_hash_sign_with_seed(
+                &self,
+                seed: &[u8; 32],
+                hash: &[u8],
+                ctx: &[u8],
+                hash_oid: &[u8],
+            ) -> Result<[u8; SIG_LEN], &'static str> {
+                let mut signature = [0; SIG_LEN];
+                let status = calls::hash_sign(&self.0.0, hash, ctx, hash_oid, seed, &mut signature);
+                answer(status, signature)
+            }
+
+            /// # Panics
+            /// Rejection sampling reached its limit, for which no key is known.
+            fn get_public_key(&self) -> PublicKey {
+                let mut public = PublicKey(Wiped([0; PK_LEN]));
+                let status = calls::public_key(&self.0.0, &mut public.0.0);
+                answer(status, public).unwrap()
+            }
+        }
+
+        impl Verifier for PublicKey {
+            type Signature = [u8; SIG_LEN];
+
+            fn verify(&self, message: &[u8], signature: &[u8; SIG_LEN], ctx: &[u8]) -> bool {
+                calls::verify(&self.0.0, message, ctx, signature) == library::DONE
+            }
+
+            fn hash_verify(
+                &self,
+                hash: &[u8],
+                signature: &[u8; SIG_LEN],
+                ctx: &[u8],
+                hash_oid: &[u8],
+            ) -> bool {
+                calls::hash_verify(&self.0.0, hash, ctx, hash_oid, signature) == library::DONE
+            }
+        }
+
+        impl SerDes for PrivateKey {
+            type ByteArray = [u8; SK_LEN];
+
+            fn into_bytes(self) -> [u8; SK_LEN] {
+                self.0.0
+            }
+
+            fn try_from_bytes(ba: [u8; SK_LEN]) -> Result<Self, &'static str> {
+                let key = PrivateKey(Wiped(ba));
+                answer(calls::check_private_key(&key.0.0), key)
+            }
+        }
+
+        impl SerDes for PublicKey {
+            type ByteArray = [u8; PK_LEN];
+
+            fn into_bytes(self) -> [u8; PK_LEN] {
+                self.0.0
+            }
+
+            fn try_from_bytes(ba: [u8; PK_LEN]) -> Result<Self, &'static str> {
+                Ok(PublicKey(Wiped(ba)))
+            }
+        }
+    };
+}
+
+#[cfg(any(feature = "ml-dsa-44", feature = "ml-dsa-65", feature = "ml-dsa-87"))]
+pub(crate) use parameter_set;

@@ -1,0 +1,238 @@
+//! What this crate does itself: it draws random bytes, orders errors, and turns a status into an error.
+
+use fips204::pre_hash;
+use fips204::traits::{CryptoRngCore, KeyGen, SerDes, Signer, Verifier};
+
+/// A generator that gives a byte over and over, or fails, and counts how often it was asked.
+struct Counted {
+    byte: Option<u8>,
+    asked: Vec<usize>,
+}
+
+impl Counted {
+    fn new(byte: Option<u8>) -> Self {
+        Counted {
+            byte,
+            asked: vec![],
+        }
+    }
+
+    fn fill(&mut self, out: &mut [u8]) -> bool {
+        self.asked.push(out.len());
+        self.byte.map(|byte| out.fill(byte)).is_some()
+    }
+}
+
+#[cfg(not(feature = "rand_core"))]
+impl CryptoRngCore for Counted {
+    type Error = ();
+    fn try_fill_bytes(&mut self, dest: &mut [u8]) -> Result<(), ()> {
+        if self.fill(dest) { Ok(()) } else { Err(()) }
+    }
+}
+
+#[cfg(feature = "rand_core")]
+impl fips204::CryptoRng for Counted {}
+
+#[cfg(feature = "rand_core")]
+impl fips204::RngCore for Counted {
+    fn next_u32(&mut self) -> u32 {
+        unimplemented!()
+    }
+    fn next_u64(&mut self) -> u64 {
+        unimplemented!()
+    }
+    fn fill_bytes(&mut self, _dest: &mut [u8]) {
+        unimplemented!()
+    }
+    fn try_fill_bytes(&mut self, dest: &mut [u8]) -> Result<(), fips204::RngError> {
+        if self.fill(dest) {
+            Ok(())
+        } else {
+            Err(core::num::NonZeroU32::new(7).unwrap().into())
+        }
+    }
+}
+
+/// Signs by each call that draws, and returns the errors.
+fn drawing_errors<K: Signer>(
+    key: &K,
+    rng: &mut impl CryptoRngCore,
+    ctx: &[u8],
+    digest: &[u8],
+    oid: &[u8],
+) -> [Option<&'static str>; 2] {
+    [
+        key.try_sign_with_rng(rng, b"m", ctx).err(),
+        key.try_hash_sign_with_rng(rng, digest, ctx, oid).err(),
+    ]
+}
+
+macro_rules! interface {
+    ($test:ident, $set:ident, $feature:literal) => {
+        #[cfg(feature = $feature)]
+        #[test]
+        fn $test() {
+            use fips204::$set::{self, KG, PrivateKey, PublicKey};
+            let digest = [5; 32];
+
+            // A pair is that of the 32 bytes drawn, and asks once.
+            let mut rng = Counted::new(Some(9));
+            let (public, private) = $set::try_keygen_with_rng(&mut rng).unwrap();
+            let (same_public, same_private) = KG::keygen_from_seed(&[9; 32]);
+            assert_eq!(rng.asked, [32]);
+            assert_eq!(public.clone().into_bytes(), same_public.into_bytes());
+            assert_eq!(private.clone().into_bytes(), same_private.into_bytes());
+            assert_eq!(
+                private.get_public_key().into_bytes(),
+                public.clone().into_bytes()
+            );
+            assert_eq!(private.is_whole(), Ok(true));
+
+            // So is a signature.
+            let drawn = private.try_sign_with_rng(&mut rng, b"m", b"c").unwrap();
+            assert_eq!(
+                drawn,
+                private.try_sign_with_seed(&[9; 32], b"m", b"c").unwrap()
+            );
+            assert!(public.verify(b"m", &drawn, b"c"));
+            assert!(!public.verify(b"m", &drawn, b""));
+            assert!(!public.verify(b"m", &drawn, &[0; 256]));
+            let hashed = private
+                .try_hash_sign_with_rng(&mut rng, &digest, b"c", &pre_hash::SHA2_256)
+                .unwrap();
+            assert_eq!(
+                hashed,
+                private
+                    .try_hash_sign_with_seed(&[9; 32], &digest, b"c", &pre_hash::SHA2_256)
+                    .unwrap()
+            );
+            assert!(public.hash_verify(&digest, &hashed, b"c", &pre_hash::SHA2_256));
+            assert!(!public.hash_verify(&digest, &hashed, b"c", &pre_hash::SHA3_256));
+            assert!(!public.verify(&digest, &hashed, b"c"));
+            assert_eq!(rng.asked, [32, 32, 32]);
+
+            // A generator that fails has its own error at each call.
+            let mut failing = Counted::new(None);
+            assert_eq!(
+                $set::try_keygen_with_rng(&mut failing).err(),
+                Some("KeyGen: Random number generator failed")
+            );
+            assert_eq!(
+                drawing_errors(&private, &mut failing, b"c", &digest, &pre_hash::SHA2_256),
+                [
+                    Some("ML-DSA.Sign: random number generator failed"),
+                    Some("HashML-DSA.Sign: random number generator failed")
+                ]
+            );
+            assert_eq!(failing.asked, [32, 32, 32]);
+
+            // What is refused beforehand does not ask.
+            let mut unasked = Counted::new(None);
+            assert_eq!(
+                drawing_errors(
+                    &private,
+                    &mut unasked,
+                    &[0; 256],
+                    &digest,
+                    &pre_hash::SHA2_256
+                ),
+                [
+                    Some("ML-DSA.Sign: ctx too long"),
+                    Some("HashML-DSA.Sign: ctx too long")
+                ]
+            );
+            for (digest, oid, error) in [
+                (&digest[..], &[][..], "HashML-DSA.Sign: OID is empty"),
+                (
+                    &digest[..],
+                    &pre_hash::SHA2_256[..10],
+                    "HashML-DSA.Sign: OID is not DER encoded",
+                ),
+                (
+                    &[0; 1025][..],
+                    &[6, 1, 42][..],
+                    "Hash of message is too long, should not be more than 1KiB",
+                ),
+                (
+                    &digest[..31],
+                    &pre_hash::SHA2_256[..],
+                    "HashML-DSA.Sign: digest length does not match the OID",
+                ),
+            ] {
+                assert_eq!(
+                    private
+                        .try_hash_sign_with_rng(&mut unasked, digest, b"", oid)
+                        .err(),
+                    Some(error)
+                );
+                assert_eq!(
+                    private
+                        .try_hash_sign_with_seed(&[0; 32], digest, b"", oid)
+                        .err(),
+                    Some(error)
+                );
+                assert!(!public.hash_verify(digest, &hashed, b"", oid));
+            }
+            assert_eq!(unasked.asked, [0; 0]);
+
+            // Bytes.
+            let restored = PublicKey::try_from_bytes(public.clone().into_bytes()).unwrap();
+            assert!(restored.verify(b"m", &drawn, b"c"));
+            let mut bytes = private.clone().into_bytes();
+            assert_eq!(
+                PrivateKey::try_from_bytes(bytes).unwrap().into_bytes(),
+                bytes
+            );
+            bytes[$set::SK_LEN - 1] ^= 1;
+            assert_eq!(
+                PrivateKey::try_from_bytes(bytes).unwrap().is_whole(),
+                Ok(false)
+            );
+            bytes[128] = 0xFF;
+            assert_eq!(
+                PrivateKey::try_from_bytes(bytes).err(),
+                Some("Alg 25: s1 or s2 out of range")
+            );
+
+            #[cfg(feature = "default-rng")]
+            {
+                let (public, private) = $set::try_keygen().unwrap();
+                let (other, _) = KG::try_keygen().unwrap();
+                assert_ne!(public.clone().into_bytes(), other.into_bytes());
+                let (first, second) = (
+                    private.try_sign(b"m", b"").unwrap(),
+                    private.try_sign(b"m", b"").unwrap(),
+                );
+                assert_ne!(first, second);
+                assert!(public.verify(b"m", &first, b"") && public.verify(b"m", &second, b""));
+                let signature = private
+                    .try_hash_sign(&digest, b"", &pre_hash::SHAKE_128)
+                    .unwrap();
+                assert!(public.hash_verify(&digest, &signature, b"", &pre_hash::SHAKE_128));
+            }
+
+            #[cfg(feature = "acvp-internal")]
+            {
+                let mut rng = Counted::new(Some(9));
+                let fixed = private.sign_mu(&mut rng, &[1; 64], false).unwrap();
+                assert_eq!(rng.asked, [0; 0]);
+                let hedged = private.sign_mu(&mut rng, &[1; 64], true).unwrap();
+                assert_eq!(rng.asked, [32]);
+                assert_ne!(fixed, hedged);
+                assert!(public.verify_mu(&[1; 64], &fixed) && public.verify_mu(&[1; 64], &hedged));
+                assert!(!public.verify_mu(&[2; 64], &fixed));
+                assert_eq!(
+                    private
+                        .sign_mu(&mut Counted::new(None), &[1; 64], true)
+                        .err(),
+                    Some("ML-DSA.Sign_internal: random number generator failed")
+                );
+            }
+        }
+    };
+}
+
+interface!(set_44, ml_dsa_44, "ml-dsa-44");
+interface!(set_65, ml_dsa_65, "ml-dsa-65");
+interface!(set_87, ml_dsa_87, "ml-dsa-87");
