@@ -70,7 +70,7 @@ pub fn accepted_for_both<H: Xof, G: Xof>(
 ) -> bool
     ensures { IsTrue result → first.now ≢ second.now
         → NamesCollision set_44 H.front G.front key.now signature.now
-            (framed (spelling first.now) CONTEXT.now) (framed (spelling second.now) CONTEXT.now) }
+        (framed (spelling first.now) CONTEXT.now) (framed (spelling second.now) CONTEXT.now) }
 {
     laws::binding();
     one_spelling();
