@@ -1,5 +1,5 @@
 -- A key that is read is the key that the file has, and the key of a file is read.
-use Rattle.std.proofs.Common.{◌≡◌, ℕ, suc, ◌+◌, ◌<◌, ◌≤◌, Bool, true, false, cond, eqb, ◌⊎◌, inl, inr, List, [], ◌∷◌, ◌++◌, length, Result, Ok, Err, refl, sym, ap, subst, ◌∙◌, append_assoc, arith}
+use Rattle.std.proofs.Common.{◌≡◌, ℕ, ◌+◌, ◌<◌, ◌≤◌, true, cond, eqb, inl, inr, List, [], ◌∷◌, ◌++◌, length, Result, Ok, Err, refl, sym, ap, subst, ◌∙◌, arith}
 use Rattle.std.specs.Prelude.{IfOk, OnOk}
 use Rattle.std.proofs.Common.{Vec, Global}
 use Rattle.std.specs.declared.alloc.AllocError.{AllocError}
@@ -13,11 +13,11 @@ use Rattle.std.proofs.lemmas.List.{length-append}
 use Rattle.mlsign_files.specs.declared.algorithm.Algorithm.{Algorithm}
 use Rattle.mlsign_files.specs.declared.algorithm.Algorithm.TheVariants.{MlDsa44, MlDsa65, MlDsa87}
 use Rattle.mlsign_files.specs.declared.fault.FileFault.{FileFault}
-use Rattle.mlsign_files.specs.declared.fault.FileFault.TheVariants.{Short, Behind, Element, Version, OtherAlgorithm, KeyLength}
+use Rattle.mlsign_files.specs.declared.fault.FileFault.TheVariants.{Element, Version, OtherAlgorithm, KeyLength}
 use Rattle.mlsign_files.specs.Der.{element, length_bytes, sequence, octet_string, bit_string, small_integer, integer_tag, bit_string_tag, octet_string_tag, sequence_tag, context_tag_0}
 use Rattle.mlsign_files.specs.Keys.{identifier, algorithm_identifier, public_length, seed_length, private_length, subject_public_key_info, PrivateParts, Seed, Expanded, Both, private_parts, private_choice, HasPrivateSizes, one_asymmetric_key, IsPublicFile, IsPrivateFile}
 use Rattle.mlsign_files.specs.Reading.{◌>>=◌, Gives, sized_at, algorithm_of, algorithm_at, whole_bytes_of, public_at, seed_at, expanded_at, both_at, choice_at, version_at, private_at, element_at, whole_at}
-use Rattle.mlsign_files.proofs.Elements.{AreBytes, bytes_behind, bind_ok, chosen, ok_is, passed, met, IsElement, element_found, element_again, IsWhole, whole_found, whole_again}
+use Rattle.mlsign_files.proofs.Elements.{AreBytes, bind_ok, chosen, ok_is, met, element_found, element_again, whole_found, whole_again}
 
 -- ---- sizes
 

@@ -1,5 +1,5 @@
-use Rattle.std.proofs.Common.{◌≡◌, sym, ap, ◌∙◌, List, ℕ, ◌++◌}
-use Rattle.mlsign_files.specs.Der.{element, octet_string}
+use Rattle.std.proofs.Common.{ap, ◌∙◌, List, ℕ, ◌++◌}
+use Rattle.mlsign_files.specs.Der.{octet_string}
 use Rattle.mlsign_files.proofs.KeyFiles.{both_written}
 use Rattle.mlsign_files.proofs.keys.put_both.Goals as goal
 

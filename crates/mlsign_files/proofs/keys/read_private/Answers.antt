@@ -1,4 +1,4 @@
-use Rattle.std.proofs.Common.{Result, Ok, subst, arith}
+use Rattle.std.proofs.Common.{Result, subst, arith}
 use Rattle.mlsign_files.specs.declared.algorithm.Algorithm.{Algorithm}
 use Rattle.mlsign_files.specs.declared.fault.FileFault.{FileFault}
 use Rattle.mlsign_files.specs.Keys.{PrivateParts, private_parts}

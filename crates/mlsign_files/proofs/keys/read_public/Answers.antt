@@ -1,4 +1,4 @@
-use Rattle.std.proofs.Common.{Result, Ok, subst, arith, List, ℕ}
+use Rattle.std.proofs.Common.{Result, subst, arith, List, ℕ}
 use Rattle.mlsign_files.specs.declared.algorithm.Algorithm.{Algorithm}
 use Rattle.mlsign_files.specs.declared.fault.FileFault.{FileFault}
 use Rattle.mlsign_files.specs.Reading.{Gives}

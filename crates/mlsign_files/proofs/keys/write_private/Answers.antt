@@ -1,4 +1,4 @@
-use Rattle.std.proofs.Common.{◌≡◌, ◌<◌, length, sym, subst, ◌∙◌, List, ℕ}
+use Rattle.std.proofs.Common.{◌<◌, length, sym, subst, ◌∙◌, List, ℕ}
 use Rattle.mlsign_files.specs.Keys.{private_parts}
 use Rattle.mlsign_files.proofs.KeyFiles.{private_info_small, private_written}
 use Rattle.mlsign_files.proofs.keys.write_private.Goals as goal

@@ -1,5 +1,5 @@
-use Rattle.std.proofs.Common.{◌≡◌, sym, ap, ◌∙◌, List, ℕ, ◌++◌, ◌∷◌, []}
-use Rattle.mlsign_files.specs.Der.{element, bit_string, bit_string_tag}
+use Rattle.std.proofs.Common.{ap, ◌∙◌, List, ℕ, ◌++◌, ◌∷◌, []}
+use Rattle.mlsign_files.specs.Der.{element, bit_string_tag}
 use Rattle.mlsign_files.specs.Keys.{algorithm_identifier}
 use Rattle.mlsign_files.proofs.KeyFiles.{public_written}
 use Rattle.mlsign_files.proofs.keys.write_public.Goals as goal

@@ -1,4 +1,4 @@
-use Rattle.std.proofs.Common.{◌≡◌, sym, ap, ◌∙◌, subst, List, ℕ, Result, Ok}
+use Rattle.std.proofs.Common.{subst, List, ℕ, Result}
 use Rattle.mlsign_files.specs.declared.fault.FileFault.{FileFault}
 use Rattle.mlsign_files.specs.PemReading.{GivesOrFails}
 use Rattle.mlsign_files.proofs.PemFiles.{pem_of_text}

@@ -1,4 +1,4 @@
-use Rattle.std.proofs.Common.{◌≡◌, sym, ap, ◌∙◌, List, ℕ, ◌++◌, arith}
+use Rattle.std.proofs.Common.{ap, ◌∙◌, List, ℕ, ◌++◌, arith}
 use Rattle.mlsign_files.specs.Pem.{line_end, wrapped}
 use Rattle.mlsign_files.proofs.PemFiles.{text_written}
 use Rattle.mlsign_files.proofs.pem.encode.Goals as goal

@@ -1,4 +1,4 @@
-use Rattle.std.proofs.Common.{refl, ◌∙◌, sym}
+use Rattle.std.proofs.Common.{◌∙◌, sym}
 use Rattle.mlsign_files.proofs.PemFiles.{not_opened}
 use Rattle.mlsign_files.proofs.pem.opened.Goals as goal
 

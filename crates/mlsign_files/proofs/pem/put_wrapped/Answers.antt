@@ -1,4 +1,4 @@
-use Rattle.std.proofs.Common.{◌≡◌, ◌∙◌, ap, sym, List, ℕ, ◌++◌, arith, length}
+use Rattle.std.proofs.Common.{◌∙◌, ap, sym, List, ℕ, ◌++◌}
 use Rattle.mlsign_files.proofs.Texts.{line_written, all_written}
 use Rattle.mlsign_files.proofs.pem.put_wrapped.Goals as goal
 

@@ -1,10 +1,7 @@
-use Rattle.std.proofs.Common.{◌∙◌, sym, ap, subst, ◌≡◌, List, ℕ, Result, Ok, Err, IfOk, Vec, Global}
-use Rattle.base64.specs.GeneralPurpose.{encode_of, IsBytes}
-use Rattle.base64.specs.Engines.{standard}
-use Rattle.mlsign_files.specs.declared.fault.FileFault.{FileFault}
-use Rattle.mlsign_files.specs.Pem.{IsPem, line_end, closing}
+use Rattle.std.proofs.Common.{◌∙◌, sym, ap, ◌≡◌, List, ℕ, Ok}
+use Rattle.mlsign_files.specs.Pem.{line_end, closing}
 use Rattle.mlsign_files.specs.PemReading.{closed_at, unwrapped_at}
-use Rattle.mlsign_files.proofs.PemFiles.{pem_found, pem_of_symbols}
+use Rattle.mlsign_files.proofs.PemFiles.{pem_of_symbols}
 use Rattle.mlsign_files.proofs.pem.spelled.Goals as goal
 
 pub returns-clause-found : goal.returns-clause-found
