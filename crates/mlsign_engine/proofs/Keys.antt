@@ -82,7 +82,7 @@ pub signs_at : (p : ParameterSet) (law : SignedIsAccepted) → IsTrue (is_parame
 signs_at p law known parts sk random context message signature mu old new range has short given hash signed size =
     let keys = has.1 in
     let accepts : AcceptsSigned p shake256_front shake128_front has.0 sk =
-    (law p shake256_front shake128_front has.0 sk known long_fronts).0 range keys.whole keys.derives in
+    ((law p shake256_front shake128_front has.0 sk known long_fronts).0 range keys.whole keys.derives).0 in
     let signed_message : sign_message p shake256_front shake128_front sk random message context ≡ Ok signature =
     rw (short_context context short) (ap (λ (z : List ℕ). sign p shake256_front shake128_front sk z random) (sym hash) ∙ signed) in
     record {

@@ -20,7 +20,7 @@ returns g c =
       keys = (
         public,
         keys_of_expanded p c.args.expanded.now c.hash-hash.result public c.in-Ok.private c.in_ok-whole.whole decoded c.in_ok-whole.ensures
-            c.if-not-whole.false (sym c.get_public_key.ensures ∙ c.in_ok-public.was) hashed (same ∙ c.tr.ensures),
+            c.if-not-whole.false (sym c.get_public_key.ensures ∙ c.in_ok-public.was) hashed (same ∙ c.tr.ensures.hash),
       );
       faults = tt;
     }
