@@ -39,7 +39,6 @@ fn constant(alloc: Global, set: &str, word: &str) -> Result<String, AllocError> 
         ("good", "44") => hex::encode(alloc, &signature_44()),
         ("good", "65") => hex::encode(alloc, &signature_65()),
         ("good", _) => hex::encode(alloc, &signature_87()),
-        ("short", _) => hex::encode(alloc, &signature_44()[..2419]),
         ("good4", _) => hex::encode(alloc, &signature_44_of_least_coefficient()),
         ("private4" | "private5", _) => {
             // The first field of s1, of which 4 is the last in range.
