@@ -29,16 +29,16 @@ pub fn bit_length(x: i32) -> usize
     (32 - (x as u32).leading_zeros()) as usize
 }
 
-/// Whether every coefficient is in `[-lo, hi]`, for `lo` and `hi` that are not negative.
+/// Whether every coefficient is in `[-lo, hi]`, for `lo` and `hi` that are not negative. Reads all of them, since
+/// how many pass the test may be secret.
 pub fn is_in_range(w: &R, lo: i32, hi: i32) -> bool
     requires low { pos 0 ≤ℤ lo }
     requires high { pos 0 ≤ℤ hi }
     ensures { IsTrue result ↔ PolynomialInRange (pos 0 -ℤ lo) hi w.now.0 }
 {
+    let mut inside = true;
     for x in &w.0 {
-        if *x < -lo || *x > hi {
-            return false;
-        }
+        inside &= (-lo <= *x) & (*x <= hi);
     }
-    true
+    inside
 }

@@ -3,4 +3,4 @@ use Rattle.std.proofs.lemmas.Grind.{common_steps}
 use Rattle.fips204_base.proofs.helpers.is_in_range.Goals as goal
 
 pub loop-x-preserved : goal.loop-x-preserved
-loop-x-preserved c = grind (arith, common_steps)
+loop-x-preserved c = (λ t k d less. grind (arith, common_steps), λ all. grind (arith, common_steps))
