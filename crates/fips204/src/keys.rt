@@ -28,6 +28,10 @@ use fips204_base::product::Transforms;
 use fips204_base::xof::Xof;
 use std::marker::PhantomData;
 
+// Every head below says the same: `S` is the set that `Matrix<K, L>` names, and the arrays of `S` name the other sizes:
+// `LAMBDA_DIV4` bytes of c_tilde, `SIG_LEN` of a signature, `PK_LEN` and `SK_LEN` of the keys. That these are the set's
+// sizes in the standard's tables is the law of `SignatureSizes` and of `KeySizes`.
+
 impl<S, const K: usize, const L: usize, const PK_LEN: usize, const SK_LEN: usize, H, G> KeyGen
     for KG<K, L, H, G>
 where
@@ -290,24 +294,22 @@ where
     pub fn prepare(&self) -> Result<PreparedPrivateKey<K, L, H>, Fault>
         ensures { result ≡ prepared_private S.set G.front self.now }
     {
-        let mut a_hat = [[T0; L]; K];
-        write_expanded_a::<K, L, G>(&self.rho, &mut a_hat)?;
-        let key = PrivateKey {
-            rho: self.rho,
-            cap_k: self.cap_k,
-            tr: self.tr,
-            s1: self.s1,
-            s2: self.s2,
-            t0: self.t0,
-            streams: PhantomData,
+        let mut sk = PreparedPrivateKey {
+            key: PrivateKey {
+                rho: self.rho,
+                cap_k: self.cap_k,
+                tr: self.tr,
+                s1: self.s1,
+                s2: self.s2,
+                t0: self.t0,
+                streams: PhantomData,
+            },
+            a_hat: [[T0; L]; K],
+            transforms: KeyTransforms::zeros(),
         };
-        let mut transforms = KeyTransforms::zeros();
-        self.write_transforms(&mut transforms);
-        Ok(PreparedPrivateKey {
-            key,
-            a_hat,
-            transforms,
-        })
+        write_expanded_a::<K, L, G>(&self.rho, &mut sk.a_hat)?;
+        self.write_transforms(&mut sk.transforms);
+        Ok(sk)
     }
 }
 
@@ -373,17 +375,20 @@ where
     pub fn prepare(&self) -> Result<PreparedPublicKey<K, L, H>, Fault>
         ensures { result ≡ prepared_public S.set G.front self.now }
     {
-        let mut a_hat = [[T0; L]; K];
-        write_expanded_a::<K, L, G>(&self.rho, &mut a_hat)?;
-        let key = PublicKey {
-            rho: self.rho,
-            tr: self.tr,
-            t1: self.t1,
-            streams: PhantomData,
+        let rho = self.rho;
+        let mut pk = PreparedPublicKey {
+            key: PublicKey {
+                rho,
+                tr: self.tr,
+                t1: self.t1,
+                streams: PhantomData,
+            },
+            a_hat: [[T0; L]; K],
+            t1_hat: Transforms::zeros(),
         };
-        let mut t1_hat = Transforms::zeros();
-        t1_hat.write_transforms(&ml_dsa::t1_shifted(&self.t1));
-        Ok(PreparedPublicKey { key, a_hat, t1_hat })
+        write_expanded_a::<K, L, G>(&rho, &mut pk.a_hat)?;
+        pk.t1_hat.write_transforms(&ml_dsa::t1_shifted(&self.t1));
+        Ok(pk)
     }
 }
 
@@ -419,6 +424,9 @@ where
     ///
     /// Errors: `Fault::KeyRange` if a coefficient of s1 or s2 is out of range, so that its field is above `2
     /// eta`.
+    ///
+    /// Not inlined, so that what decoding needs leaves the stack before the key is used.
+    #[inline(never)]
     fn try_from_bytes(ba: [u8; SK_LEN]) -> Result<PrivateKey<K, L, H, G>, Fault> {
         ml_dsa::expand_private(&S::params(), &ba)
     }

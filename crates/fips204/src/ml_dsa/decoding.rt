@@ -33,9 +33,6 @@ pub fn expand_public<const K: usize, const L: usize, const PK_LEN: usize, H: Xof
 /// private keys.
 ///
 /// Errors: `Fault::KeyRange` if a field of s1 or s2 is above `2 eta`.
-///
-/// Not inlined, so that what decoding needs leaves the stack before the key is used.
-#[inline(never)]
 pub fn expand_private<const K: usize, const L: usize, const SK_LEN: usize, H, G>(
     p: &Params,
     sk: &[u8; SK_LEN],

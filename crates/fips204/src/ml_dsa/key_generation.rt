@@ -40,35 +40,32 @@ pub fn key_gen_internal<const K: usize, const L: usize, const PK_LEN: usize, H: 
     let seeds = hash::<H, 128>(&[xi.as_slice(), &[p.k as u8], &[p.l as u8]]);
     let rho: [u8; 32] = part(&seeds, 0);
     let rho_prime: [u8; 64] = part(&seeds, 32);
-    let cap_k: [u8; 32] = part(&seeds, 96);
+    // both keys, of which each part is written in its place
+    let mut public = PublicKey {
+        rho,
+        tr: [0; 64],
+        t1: [R0; K],
+        streams: PhantomData,
+    };
+    let mut private = PrivateKey {
+        rho,
+        cap_k: part(&seeds, 96),
+        tr: [0; 64],
+        s1: [R0; L],
+        s2: [R0; K],
+        t0: [R0; K],
+        streams: PhantomData,
+    };
     // (s1, s2) = ExpandS(rho')
-    let mut s1 = [R0; L];
-    let mut s2 = [R0; K];
-    write_expanded_s::<K, L, H>(p.eta, &rho_prime, &mut s1, &mut s2)?;
+    write_expanded_s::<K, L, H>(p.eta, &rho_prime, &mut private.s1, &mut private.s2)?;
     // A = ExpandA(rho), t = A s1 + s2
-    let mut t = [R0; K];
-    write_key_vector::<K, L, G>(&rho, &s1, &s2, &mut t)?;
+    write_key_vector::<K, L, G>(&rho, &private.s1, &private.s2, &mut private.t0)?;
     // (t1, t0) = Power2Round(t)
-    let mut t1 = [R0; K];
-    write_power2round(&mut t, &mut t1);
+    write_power2round(&mut private.t0, &mut public.t1);
     // tr = H(pkEncode(rho, t1))
-    let pk: [u8; PK_LEN] = pk_encode(&rho, &t1);
-    let tr = hash::<H, 64>(&[pk.as_slice()]);
-    let public = PublicKey {
-        rho,
-        tr,
-        t1,
-        streams: PhantomData,
-    };
-    let private = PrivateKey {
-        rho,
-        cap_k,
-        tr,
-        s1,
-        s2,
-        t0: t,
-        streams: PhantomData,
-    };
+    let pk: [u8; PK_LEN] = pk_encode(&rho, &public.t1);
+    public.tr = hash::<H, 64>(&[pk.as_slice()]);
+    private.tr = public.tr;
     Ok((public, private))
 }
 

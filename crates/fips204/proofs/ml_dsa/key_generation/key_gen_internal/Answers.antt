@@ -9,14 +9,14 @@ use Rattle.fips204.specs.Sets.{set_of}
 use Rattle.fips204.proofs.ParameterSets.{limits, small_vector-parts, matrix-shape, eta_of_rows-small}
 use Rattle.fips204.proofs.KeyGeneration.{AreSampled, AreSeeds, are_seeds, generated-none, generated-some, key_vector-is, high_part-is, high_part-range, low_part-is, low_part-range}
 use Rattle.fips204.proofs.ml_dsa.key_generation.key_gen_internal.Given.{Over}
-use Rattle.fips204.proofs.ml_dsa.key_generation.key_gen_internal.Goals.{After-part-cap_k, After-write_power2round}
+use Rattle.fips204.proofs.ml_dsa.key_generation.key_gen_internal.Goals.{After-part, After-write_power2round}
 use Rattle.fips204.proofs.ml_dsa.key_generation.key_gen_internal.Goals as goal
 
-seeds-here : (g : Over) (c : After-part-cap_k g)
-    → AreSeeds (set_of c.args.p.now) g.H.Xof.front c.args.xi.now c.part-rho.result c.part-rho_prime.result c.part-cap_k.result
+seeds-here : (g : Over) (c : After-part g)
+    → AreSeeds (set_of c.args.p.now) g.H.Xof.front c.args.xi.now c.part-rho.result c.part-rho_prime.result c.part.result
 seeds-here g c =
     are_seeds (set_of c.args.p.now) g.H.Xof.front c.args.xi.now c.hash-seeds.result _ _ _ (search rules)
-    c.part-rho.ensures c.part-rho_prime.ensures c.part-cap_k.ensures
+    c.part-rho.ensures c.part-rho_prime.ensures c.part.ensures
 
 pub overflow_cast-p : goal.overflow_cast-p
 overflow_cast-p g c = omega (arith, (limits c.args.p.now (search rules)).few_rows)
@@ -43,7 +43,7 @@ returns-in_err-write_expanded_s g c =
     let refused : c.from_residual.result ≡ Err SamplingLimit = search rules in
     let given : AreSampled p H g.G.Xof.front g.row.K g.row.L c.part-rho.result seed (sampled_matrix g.G.Xof.front c.part-rho.result g.row.K g.row.L) (small_vector p.eta H seed 0 g.row.L) (small_vector p.eta H seed g.row.L g.row.K) =
     record { rows = c.requires.rows; columns = c.requires.columns; matrix = refl; first = refl; second = refl } in
-    refused ∙ sym (generated-none p H g.G.Xof.front c.args.xi.now c.part-rho.result seed c.part-cap_k.result g.row.K g.row.L _ _ _ (seeds-here g (goal.at.returns-in_err-write_expanded_s g c).After-part-cap_k) given (inr fault.1))
+    refused ∙ sym (generated-none p H g.G.Xof.front c.args.xi.now c.part-rho.result seed c.part.result g.row.K g.row.L _ _ _ (seeds-here g (goal.at.returns-in_err-write_expanded_s g c).After-part) given (inr fault.1))
 
 pub write_key_vector-requires : goal.write_key_vector-requires
 write_key_vector-requires g c =
@@ -66,7 +66,7 @@ returns-in_err-write_key_vector g c =
     let refused : c.from_residual-in_err-write_key_vector.result ≡ Err SamplingLimit = search rules in
     let given : AreSampled p H g.G.Xof.front g.row.K g.row.L c.part-rho.result seed None (small_vector p.eta H seed 0 g.row.L) (small_vector p.eta H seed g.row.L g.row.K) =
     record { rows = c.requires.rows; columns = c.requires.columns; matrix = fault.0; first = refl; second = refl } in
-    refused ∙ sym (generated-none p H g.G.Xof.front c.args.xi.now c.part-rho.result seed c.part-cap_k.result g.row.K g.row.L _ _ _ (seeds-here g (goal.at.returns-in_err-write_key_vector g c).After-part-cap_k) given (inl refl))
+    refused ∙ sym (generated-none p H g.G.Xof.front c.args.xi.now c.part-rho.result seed c.part.result g.row.K g.row.L _ _ _ (seeds-here g (goal.at.returns-in_err-write_key_vector g c).After-part) given (inl refl))
 
 -- the parts of the vector
 high_part-here : (g : Over) (c : After-write_power2round g) → c.write_power2round.new.high ≡ high_part (set_of c.args.p.now) c.in_ok-write_key_vector.ensures.values.0 c.write_expanded_s.new.s1 c.write_expanded_s.new.s2
@@ -118,6 +118,6 @@ returns g c =
     let given : AreSampled p H g.G.Xof.front g.row.K g.row.L c.part-rho.result seed (Some c.in_ok-write_key_vector.ensures.values.0) (Some c.write_expanded_s.new.s1) (Some c.write_expanded_s.new.s2) =
     record { rows = c.requires.rows; columns = c.requires.columns; matrix = c.in_ok-write_key_vector.ensures.values.1; first = first; second = second } in
     let k = (goal.at.returns g c).After-write_power2round in
-    let hash : c.hash-tr.result ≡ key_hash H c.part-rho.result c.write_power2round.new.high = search rules in
-    sym (generated-some p H g.G.Xof.front c.args.xi.now c.part-rho.result seed c.part-cap_k.result c.hash-tr.result g.row.K g.row.L c.in_ok-write_key_vector.ensures.values.0 c.write_expanded_s.new.s1 c.write_expanded_s.new.s2
-    c.write_power2round.new.high c.write_power2round.new.r (seeds-here g (goal.at.returns g c).After-part-cap_k) given (high_part-here g k) (low_part-here g k) hash)
+    let hash : c.hash-public-inside.result ≡ key_hash H c.part-rho.result c.write_power2round.new.high = search rules in
+    sym (generated-some p H g.G.Xof.front c.args.xi.now c.part-rho.result seed c.part.result c.hash-public-inside.result g.row.K g.row.L c.in_ok-write_key_vector.ensures.values.0 c.write_expanded_s.new.s1 c.write_expanded_s.new.s2
+    c.write_power2round.new.high c.write_power2round.new.r (seeds-here g (goal.at.returns g c).After-part) given (high_part-here g k) (low_part-here g k) hash)
