@@ -12,8 +12,10 @@ pub mod hashing;
 pub mod helpers;
 pub mod high_low;
 pub mod lanes;
+#[doc(hidden)]
 pub mod maps;
 pub mod ntt;
+#[doc(hidden)]
 pub mod product;
 pub mod types;
 pub mod xof;
