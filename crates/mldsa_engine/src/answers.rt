@@ -24,7 +24,7 @@ use std::marker::PhantomData;
 pub(crate) use writing::Output;
 use writing::{one_line, refuse, tell, two_lines};
 
-/// Reads the lines that a command wants, and carries it out.
+/// Reads the lines that a command wants, and carries it out at a set.
 pub(crate) fn execute<H: Xof, G: Xof, I: Read>(
     alloc: Global,
     task: Task,
@@ -39,9 +39,9 @@ pub(crate) fn execute<H: Xof, G: Xof, I: Read>(
     ensures faults { IfErr result (λ fault. IsInputFault fault) }
 {
     match set {
-        SetName::MlDsa44 => AtSet::<4, 4, H, G>::execute(alloc, task, input),
-        SetName::MlDsa65 => AtSet::<6, 5, H, G>::execute(alloc, task, input),
-        SetName::MlDsa87 => AtSet::<8, 7, H, G>::execute(alloc, task, input),
+        SetName::MlDsa44 => AtSet::<4, 4, H, G>::carry_out(alloc, task, input),
+        SetName::MlDsa65 => AtSet::<6, 5, H, G>::carry_out(alloc, task, input),
+        SetName::MlDsa87 => AtSet::<8, 7, H, G>::carry_out(alloc, task, input),
     }
 }
 
@@ -72,7 +72,7 @@ where
     S: SignatureSizes<K, L, LAMBDA_DIV4, SIG_LEN> + KeySizes<K, L, PK_LEN, SK_LEN>,
 {
     /// Reads the lines that a command wants, and carries it out.
-    fn execute<I: Read>(
+    fn carry_out<I: Read>(
         alloc: Global,
         task: Task,
         input: &mut Marked<I>,
@@ -151,7 +151,7 @@ where
             × (output.success ≡ true)) }
         ensures memory { IfErr result (λ fault. fault ≡ RunFault.Memory) }
     {
-        let key = PublicKey::<K, L, H, G>::try_from_bytes(array_of(key)).unwrap();
+        let key = Self::decode(key);
         let tr = *key.tr();
         two_lines(alloc, &key.into_bytes(), &tr)
     }

@@ -4,7 +4,7 @@ use Rattle.mldsa_engine.specs.declared.call.Task.TheVariants.{Batch}
 use Rattle.mldsa_engine.specs.ProgramText.{input_lines, wanted_lines}
 use Rattle.mldsa_engine.proofs.Entries.{stops_first}
 use Rattle.mldsa_engine.proofs.LineCounts.{executes_batch, batch_stops, counted, fits_at}
-use Rattle.mldsa_engine.proofs.answers.AtSet.execute.Goals as goal
+use Rattle.mldsa_engine.proofs.answers.AtSet.carry_out.Goals as goal
 
 pub returns-in_err-lines-clause-stops : goal.returns-in_err-lines-clause-stops
 returns-in_err-lines-clause-stops g c =
