@@ -1,6 +1,7 @@
 """Lays the Rust crate out, builds both programs, and runs them."""
 import hashlib
 import os
+import re
 import shutil
 import subprocess
 import sys
@@ -10,7 +11,7 @@ TOP = os.path.dirname(os.path.dirname(os.path.dirname(os.path.abspath(__file__))
 OURS = f"{TOP}/crates/mldsa/out/mldsa"
 REGISTRY = "/usr/share/cargo/registry"
 
-# The sources of fips204 0.5.0 by their SHA-256.
+# The sources of fips204 0.5.0 by their SHA-256, without the modules of tests that some of them have.
 SOURCES = {
     "conversion.rs": "28e58d5b212155a0d7ac50b7926fb3f53c4eadd40bfc10c423bfae12fdbe5de9",
     "encodings.rs": "8cefbdaa486c1236e6fe6811d182f727b2b832854f35b8953b4eeaefb92adbe9",
@@ -36,18 +37,23 @@ def missing():
     return names
 
 
+TEST_MODULE = re.compile(r"^( *)#\[cfg\(test\)\]\n\1mod tests \{\n.*?^\1\}\n", re.M | re.S)
+
+
 def source(folder, name):
-    """The text of a file of the crate's sources, which is what it was."""
-    for path in (f"{folder}/src/{name}", f"{folder}/src--src--{name}.txt"):
-        if os.path.isfile(path):
-            break
-    else:
+    """A file of the crate's sources: its code, which is what it was, and its module of tests or None where it has none."""
+    path = f"{folder}/src/{name}"
+    if not os.path.isfile(path):
         sys.exit(f"there is no src/{name} in {folder}")
-    with open(path, "rb") as it:
+    with open(path, encoding="utf-8", newline="") as it:
         text = it.read()
-    if hashlib.sha256(text).hexdigest() != SOURCES[name]:
-        sys.exit(f"{path} is not that of fips204 0.5.0")
-    return text
+    found = TEST_MODULE.search(text)
+    before, tests, after = (text[: found.start()], found[0], text[found.end() :]) if found else (text, None, "")
+    # The empty lines between the code and its tests may go with the tests.
+    for code in (before + after, before.rstrip("\n") + "\n" + after):
+        if hashlib.sha256(code.encode()).hexdigest() == SOURCES[name]:
+            return code, tests
+    sys.exit(f"{path} is not that of fips204 0.5.0")
 
 
 def lay_out_sources(folder, crate):
@@ -57,7 +63,7 @@ def lay_out_sources(folder, crate):
     with open(f"{crate}/README.md", "w", encoding="ascii"):
         pass
     for name in SOURCES:
-        text, target = source(folder, name), f"{crate}/src/{name}"
+        text, target = source(folder, name)[0].encode(), f"{crate}/src/{name}"
         # A file that is there already keeps its time, so that nothing is built anew for it.
         if not os.path.isfile(target) or open(target, "rb").read() != text:
             with open(target, "wb") as it:

@@ -10,16 +10,19 @@ import textwrap
 
 from comparison.build import REGISTRY, TOP, lay_out_sources, source
 
-# The tests of fips204 0.5.0 and its page by their SHA-256: as files of their own, or joined with the tests of its modules.
+# The tests of fips204 0.5.0 and its page by their SHA-256: the files, and the modules of tests that its sources have.
 TESTS = {
     "accumulated.rs": "498ec3a5097e6cf648292d987366e0e04d67b10741e02922637c80b7fc5364d4",
     "integration.rs": "e3eb36631da25302a70a595c84c116ab695895f7290e7231b2bdb5fee1c0cab1",
     "messages.rs": "170bfe64b34d67a7deb6f692f9183cffe5af48970c7d9ad4bd9cc85d08353f5d",
     "negative.rs": "f4d99269b948db6e04f96e42d009c0394428563cb67753ec427714eca4888d0a",
 }
-JOINED = {
-    "part1": "a6b3caf8989d3934e66a1bb01f75ded08b1c1d4fb3ccd5fbb5da4bf1621dc086",
-    "part2": "2e99a305f8a0e8caf5582fd8ecc4becc94eb300faaac0cfdc350dbccd53a776d",
+MODULES = {
+    "conversion.rs": "4cb26f8e58f93484de618f091cfa5ac13935eb1fd087c3d674350d7055eb110d",
+    "encodings.rs": "a43000d7df6cda7bdc8dc6bc5af1226b83a421ee0e9ff059a55abcdbee0491a9",
+    "helpers.rs": "84aeb2caec043c51ce53a7d59bbc637d364ab552421bebb1d64c8cb5456cdb9a",
+    "high_low.rs": "31e414f51e7c78ff141292ac6538a060adc21f8af4f60f418a5d322c888e5762",
+    "lib.rs": "2b315b94ef528f8744a41e6fcb2faf820edd3d6e4cc34efdb43804e86a80ca01",
 }
 PAGE = "0e87f15819ff2f84af3e88c3416c81a158209babad24a089add568b077b22b57"
 CRATES = ("hex", "rand_chacha", "rand_core", "sha2", "sha3", "zeroize", "zeroize_derive")
@@ -33,27 +36,23 @@ def missing():
     return names + [f"librust-{it.replace('_', '-')}-dev" for it in CRATES if not any(name.startswith(f"{it}-") for name in crates)]
 
 
-def checked(path, wanted):
+def checked(path, text, wanted):
     """The text of a file that is what it was."""
-    text = pathlib.Path(path).read_bytes()
-    if hashlib.sha256(text).hexdigest() != wanted:
+    if hashlib.sha256(text.encode()).hexdigest() != wanted:
         sys.exit(f"{path} is not that of fips204 0.5.0")
-    return text.decode()
+    return text
 
 
 def original_tests(folder):
-    """The original's files of tests, by their names, and the tests of its modules, by the module."""
-    parts = [(f"{folder}/src--tests--tests--{name}.rs.txt", wanted) for name, wanted in JOINED.items()]
-    if all(os.path.isfile(path) for path, _ in parts):
-        text = "".join(checked(*it) + "\n" for it in parts)
-        pieces = re.split(r"^// ===== (\S+)(?: \(test module\))? =====\n", text, flags=re.M)
-        named = list(zip(pieces[1::2], pieces[2::2]))
-        files = {name.removeprefix("tests/"): body for name, body in named if name.startswith("tests/")}
-        return files, {name.removeprefix("src/"): body for name, body in named if name.startswith("src/")}
-    for name in TESTS:
-        if not os.path.isfile(f"{folder}/tests/{name}"):
+    """The original's files of tests, by their names, and the tests of its modules, by the module, where they are there."""
+    files = {}
+    for name, wanted in TESTS.items():
+        path = pathlib.Path(f"{folder}/tests/{name}")
+        if not path.is_file():
             sys.exit(f"there is no tests/{name} in {folder}")
-    return {name: checked(f"{folder}/tests/{name}", wanted) for name, wanted in TESTS.items()}, {}
+        files[name] = checked(path, path.read_bytes().decode(), wanted)
+    modules = {name: source(folder, name)[1] for name in MODULES}
+    return files, {name: checked(f"{folder}/src/{name}", text, MODULES[name]) for name, text in modules.items() if text}
 
 
 def smoke(body):
@@ -67,9 +66,10 @@ def smoke(body):
 def examples(folder):
     """The examples of the original's documents, as one page."""
     page, count = "", 0
-    texts = [checked(path, PAGE) for path in (f"{folder}/README.md", f"{folder}/src--README.md") if os.path.isfile(path)][:1]
+    own = pathlib.Path(f"{folder}/README.md")
+    texts = [checked(own, own.read_bytes().decode(), PAGE)] if own.is_file() else []
     for name in ("lib.rs", "traits.rs"):
-        lines = [line.strip() for line in source(folder, name).decode().split("\n")]
+        lines = [line.strip() for line in source(folder, name)[0].split("\n")]
         texts.append("\n".join(re.sub(r"^/// ?", "", line) for line in lines if line.startswith("///")))
     for text in texts:
         for block in re.findall(r"^(?:```|~~~)rust\n(.*?)^(?:```|~~~)$", text, re.M | re.S):
@@ -142,8 +142,8 @@ def tests(folder, room, long):
     for name, body in modules.items():
         if name != "lib.rs":
             print(f"Not run: {body.count('#[test]')} of src/{name}, which call functions that are private there.")
-    if not modules:
-        print("Not run: the tests in src/, which this folder has not.")
+    if len(modules) < len(MODULES):
+        print(f"Not run: the tests in {', '.join(f'src/{name}' for name in MODULES if name not in modules)}, which are not in this folder.")
     return total[1]
 
 
