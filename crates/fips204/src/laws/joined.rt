@@ -19,7 +19,8 @@ use super::{
     binding, counter_fronts, framing, hint_spelling, longer_front, prepared_keys,
     signature_spelling, signed_is_accepted,
 };
-use crate::ml_dsa_44::{KG, PK_LEN, PreparedPrivateKey, PrivateKey, PublicKey, SIG_LEN};
+use crate::ml_dsa::key_gen_internal;
+use crate::ml_dsa_44::{PK_LEN, PreparedPrivateKey, PrivateKey, PublicKey, SIG_LEN};
 use crate::traits::{KeyGen, SerDes, Signer, Verifier};
 use crate::types::{ML_DSA_44, ML_DSA_65, ML_DSA_87, Params};
 use crate::xof::{Fill, Sha256Ctr, Sha256CtrLong, Sha512Ctr, Sha512CtrLong, Xof};
@@ -31,7 +32,7 @@ pub(crate) fn derived_of_seed<H: Xof, G: Xof>(xi: &[u8; 32]) -> Result<PublicKey
     ensures { MatchResult (generated set_44 H.front G.front xi.now) (λ pair. result ≡ Ok pair.0) (λ fault. result ≡ Err fault) }
 {
     signed_is_accepted();
-    let (_, private) = KG::<H, G>::keygen_from_seed(xi)?;
+    let (_, private) = key_gen_internal::<4, 4, PK_LEN, H, G>(&ML_DSA_44, xi)?;
     private.get_public_key()
 }
 
@@ -40,7 +41,7 @@ pub(crate) fn whole_of_seed<H: Xof, G: Xof>(xi: &[u8; 32]) -> Result<bool, Fault
     ensures { MatchResult (generated set_44 H.front G.front xi.now) (λ _. result ≡ Ok true) (λ fault. result ≡ Err fault) }
 {
     signed_is_accepted();
-    let (_, private) = KG::<H, G>::keygen_from_seed(xi)?;
+    let (_, private) = key_gen_internal::<4, 4, PK_LEN, H, G>(&ML_DSA_44, xi)?;
     private.is_whole()
 }
 
@@ -72,9 +73,33 @@ pub(crate) fn stored_pair_accepts<H: Xof, G: Xof>(
     ensures { IfOk result (λ answer. answer ≡ true) }
 {
     signed_is_accepted();
-    let (public, private) = KG::<H, G>::keygen_from_seed(xi)?;
+    let (public, private) = key_gen_internal::<4, 4, PK_LEN, H, G>(&ML_DSA_44, xi)?;
     let public = PublicKey::<H, G>::try_from_bytes(public.into_bytes())?;
     let private = PrivateKey::<H, G>::try_from_bytes(private.into_bytes())?;
+    let signature = private.try_sign_with_seed(rnd, message, ctx)?;
+    Ok(public.verify(message, &signature, ctx))
+}
+
+/// The same with the trait's word alone, at any scheme that makes keys: both keys of a seed, each read from its bytes,
+/// go together. Reading them adds no error.
+pub(crate) fn stored_keys_accept<K, const PK: usize, const SK: usize, const SIG: usize>(
+    xi: &[u8; 32],
+    rnd: &[u8; 32],
+    message: &[u8],
+    ctx: &[u8],
+) -> Result<bool, Fault>
+where
+    K: KeyGen,
+    K::PublicKey: SerDes<ByteArray = [u8; PK]> + Drop,
+    K::PrivateKey: SerDes<ByteArray = [u8; SK]> + Signer<Signature = [u8; SIG]> + Drop,
+    ensures { MatchResult (K.generated xi.now)
+        (λ keys. MatchResult (K.PrivateKey.signs keys.1 rnd.now message.now ctx.now)
+            (λ _. result ≡ Ok true) (λ fault. result ≡ Err fault))
+        (λ fault. result ≡ Err fault) }
+{
+    let (public, private) = K::keygen_from_seed(xi)?;
+    let public = K::PublicKey::try_from_bytes(public.into_bytes())?;
+    let private = K::PrivateKey::try_from_bytes(private.into_bytes())?;
     let signature = private.try_sign_with_seed(rnd, message, ctx)?;
     Ok(public.verify(message, &signature, ctx))
 }
