@@ -12,11 +12,11 @@ use Rattle.fips204_base.specs.Sampling.{sampled_matrix, small_vector}
 use Rattle.fips204_base.specs.Vectors.{IsVector}
 use Rattle.fips204_base.proofs.Sampled.{small_vector-range, some_of_ok}
 use Rattle.fips204.specs.ParameterSets.{ParameterSet, is_parameter_set}
-use Rattle.fips204.specs.Keys.{PublicParts, PrivateParts, ArePrivateParts, IsHighPart, IsPublicKeyOf, IsPrivateKeyOf, DecodesPrivate, eta_of_rows, IsWhole, high_part, low_part, key_hash, key_pair, key_pair_if_all, seeds, key_generation, public_key_of}
+use Rattle.fips204.specs.Keys.{PublicParts, PrivateParts, ArePrivateParts, IsPublicKeyOf, IsPrivateKeyOf, DecodesPrivate, eta_of_rows, IsWhole, high_part, low_part, key_hash, key_pair, seeds, key_generation, public_key_of}
 use Rattle.fips204.specs.Signing.{sign}
 use Rattle.fips204.specs.Acceptance.{Verifies}
 use Rattle.fips204.proofs.Completeness.{completeness}
-use Rattle.fips204.proofs.KeyGeneration.{high_part-range, low_part-range}
+use Rattle.fips204.proofs.KeyGeneration.{high_part-range, low_part-range, key_pair_if_all, key_generation-is}
 use Rattle.fips204.proofs.RefusedCalls.{same_some, signed_input}
 use Rattle.fips204.proofs.ParameterSets.{AreSetNumbers, set_numbers}
 use Rattle.fips204.specs.Refusals.{derived}
@@ -24,6 +24,7 @@ use Rattle.fips204.specs.Completeness.{AcceptsSigned, IsPair, DecodesAlone, Byte
 use Rattle.fips204_base.specs.declared.fault.Fault.{Fault}
 use Rattle.fips204_base.specs.declared.fault.Fault.TheVariants.{SamplingLimit}
 use Rattle.fips204_base.proofs.EncodedParts.{same_private_key, IsT1, same_parts}
+use Rattle.fips204.specs.SigningInputs.{IsHighPart}
 
 -- ---- keys by their bytes
 
@@ -206,14 +207,13 @@ made_of p H rho key (Some a) (Some s1) (Some s2) pk sk e = record {
 
 pub generated_parts : (p : ParameterSet) (H G : List ℕ → List ℕ) (xi : List ℕ) (pk : PublicParts) (sk : PrivateParts) → IsTrue (is_parameter_set p) → ((x : List ℕ) → 4096 ≤ length (H x))
     → key_generation p H G xi ≡ Some (pk, sk) → AreGenerated p H G pk sk
-unfolding key_generation
 generated_parts p H G xi pk sk row law e =
     let numbers = set_numbers p row in
     let all = seeds p H xi in
     let rho = take 32 all in
     let rho' = take 64 (drop 32 all) in
     let key = take 32 (drop 96 all) in
-    let was = made_of p H rho key (sampled_matrix G rho p.k p.l) (small_vector p.eta H rho' 0 p.l) (small_vector p.eta H rho' p.l p.k) pk sk e in
+    let was = made_of p H rho key (sampled_matrix G rho p.k p.l) (small_vector p.eta H rho' 0 p.l) (small_vector p.eta H rho' p.l p.k) pk sk (sym (key_generation-is p H G xi) ∙ e) in
     let long : 4096 ≤ length all = law _ in
     let rest : length (drop 96 all) ≡ length all - 96 = length-drop 96 all in
     subst (λ (pair : PublicParts × PrivateParts). AreGenerated p H G pair.0 pair.1) was.made

@@ -5,7 +5,8 @@ ghost use Rattle.std.specs.Prelude.{◌≡◌, ◌≢◌, ◌↔◌, ℕ, List, 
 ghost use Rattle.fips204_base.specs.declared.fault.Fault.{Fault};
 ghost use Rattle.fips204_base.specs.declared.fault.Fault.TheVariants.{KeyGenRng, SignRng, HashRng, InternalRng};
 ghost use Rattle.fips204.specs.Completeness.{AcceptedIfWhole, DecodesAlone};
-ghost use Rattle.fips204.specs.Refusals.{Draws, DrawsUnless, DrawsIf, message_fault, digest_fault};
+ghost use Rattle.fips204.specs.Framing.{plain, hashed};
+ghost use Rattle.fips204.specs.Refusals.{Draws, DrawsUnless, DrawsIf, input_fault};
 
 use fips204_base::Fault;
 
@@ -145,7 +146,7 @@ pub trait Signer {
         message: &[u8],
         ctx: &[u8],
     ) -> Result<Self::Signature, Fault>
-        ensures answer { DrawsUnless (message_fault ctx.now) R.gives R.refuses rng.old rng.new SignRng
+        ensures answer { DrawsUnless (input_fault (plain message.now ctx.now)) R.gives R.refuses rng.old rng.new SignRng
             (λ rnd. signs self.now rnd message.now ctx.now) result }
         ensures accepted { AcceptedIfWhole (whole self.now) (derives self.now)
             (λ pk signature. Self.PublicKey.accepts pk message.now signature ctx.now) result };
@@ -177,7 +178,7 @@ pub trait Signer {
         ctx: &[u8],
         hash_oid: &[u8],
     ) -> Result<Self::Signature, Fault>
-        ensures answer { DrawsUnless (digest_fault hash.now ctx.now hash_oid.now) R.gives R.refuses rng.old rng.new HashRng
+        ensures answer { DrawsUnless (input_fault (hashed hash.now ctx.now hash_oid.now)) R.gives R.refuses rng.old rng.new HashRng
             (λ rnd. signs_digest self.now rnd hash.now ctx.now hash_oid.now) result }
         ensures accepted { AcceptedIfWhole (whole self.now) (derives self.now)
             (λ pk signature. Self.PublicKey.accepts_digest pk hash.now signature ctx.now hash_oid.now) result };
