@@ -4,7 +4,7 @@
 
 ghost use Rattle.std.specs.Prelude.{◌≡◌, ◌↔◌, length, map, IsTrue};
 ghost use Rattle.fips204.specs.Framing.{message_hash, plain, hashed};
-ghost use Rattle.fips204.specs.Prepared.{sign_prepared, sign_message_prepared, sign_digest_prepared, AcceptedIfWholePrepared, SignsEach, VerifiesEach, VerifiesPrepared, VerifiesMessagePrepared, VerifiesDigestPrepared};
+ghost use Rattle.fips204.specs.Prepared.{sign_prepared, sign_message_prepared, sign_digest_prepared, AcceptedIfWholePrepared, IsEachSigned, IsEachJudged, VerifiesPrepared, VerifiesMessagePrepared, VerifiesDigestPrepared};
 ghost use Rattle.fips204.specs.Refusals.{input_fault, DrawsIf, DrawsUnless};
 
 use crate::ml_dsa;
@@ -143,7 +143,8 @@ where
     )
         requires seeds { length seeds.now ≡ length messages.now }
         requires room { length out.old ≡ length messages.now }
-        ensures { SignsEach S.set H.front self.now seeds.now (map (λ m. m.now) messages.now) ctx.now out.new }
+        ensures { IsEachSigned (λ rnd message. sign_message_prepared S.set H.front self.now rnd message ctx.now)
+            seeds.now (map (λ m. m.now) messages.now) out.new }
     {
         for i in 0..messages.len() {
             out[i] = self.try_sign_with_seed(&seeds[i], messages[i], ctx);
@@ -216,7 +217,8 @@ where
     )
         requires signatures { length signatures.now ≡ length messages.now }
         requires room { length out.old ≡ length messages.now }
-        ensures { VerifiesEach S.set H.front self.now (map (λ m. m.now) messages.now) signatures.now ctx.now out.new }
+        ensures { IsEachJudged (λ message signature. VerifiesMessagePrepared S.set H.front self.now message signature ctx.now)
+            (map (λ m. m.now) messages.now) signatures.now out.new }
     {
         for i in 0..messages.len() {
             out[i] = self.verify(messages[i], &signatures[i], ctx);
