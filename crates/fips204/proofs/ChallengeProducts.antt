@@ -2,8 +2,9 @@
 use Rattle.std.proofs.Common.{◌≡◌, ◌≢◌, ◌⊎◌, inl, inr, ◌<◌, ◌≤◌, ◌+◌, ◌-◌, ◌*◌, ◌%◌, ℕ, List, [], ◌∷◌, pos, ◌+ℤ◌, get_or, length, take, Some, suc, refl, ap, sym, subst, ◌∙◌, arith, if◌then◌else◌, zero, ℤ, nat_abs}
 use Rattle.std.specs.Prelude.{nat_eq, max, fold}
 use Rattle.std.proofs.lemmas.Bool.{cases_Bool, cases_lt, ne_eqb, eq-eqb, lt-ltb, le-ltb, le-leb, lt-leb}
+use Rattle.fips204_base.specs.Network.{sign_of}
 use Rattle.fips204_base.specs.declared.types.R.{R}
-use Rattle.fips204_base.specs.Sampling.{sign_of, signed_sum, challenge}
+use Rattle.fips204_base.specs.Sampling.{signed_sum, challenge}
 use Rattle.fips204_base.specs.Packing.{bits}
 use Rattle.fips204_base.specs.Transforms.{shifted, product}
 use Rattle.fips204_base.specs.Residues.{IsCongruent, residue, coefficients, sum_below, centred, norm, vector_norm}

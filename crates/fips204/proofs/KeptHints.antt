@@ -2,9 +2,10 @@
 use Rattle.std.proofs.Common.{◌≡◌, ◌<◌, ◌+◌, ◌-◌, ◌*◌, ◌%◌, ℕ, List, ℤ, pos, negsuc, ◌+ℤ◌, ◌-ℤ◌, inl, inr, ap, sym, ◌∙◌, arith, ◌≤◌, [], get_or, length, nat_abs, Bool, true, false, Some, refl, subst, if◌then◌else◌}
 use Rattle.std.proofs.lemmas.Int.{ints}
 use Rattle.std.proofs.lemmas.Bool.{cases_lt, le-leb, lt-leb}
+use Rattle.fips204_base.specs.Network.{product_difference, plain_matrix}
 use Rattle.fips204_base.specs.declared.types.R.{R}
 use Rattle.fips204_base.specs.declared.types.T.{T}
-use Rattle.fips204_base.specs.Vectors.{product_difference, entry, vector_coefficients, matrix_product, plain_matrix, vector_of, IsVector}
+use Rattle.fips204_base.specs.Vectors.{entry, vector_coefficients, matrix_product, vector_of, IsVector}
 use Rattle.fips204_base.specs.Residues.{centred, vector_norm, IsCongruent, residue, coefficients}
 use Rattle.fips204_base.specs.Transforms.{product, plus, minus, row_product}
 use Rattle.fips204_base.specs.Rounding.{power2round, high_bits, low_bits, make_hint, use_hint}
@@ -14,7 +15,7 @@ use Rattle.fips204_base.proofs.Rounding.{power2round_back, low_bits_near}
 use Rattle.fips204_base.proofs.Vectors.{vector_of-ext, vector_of-entry, vector_of-at, vector-within}
 use Rattle.fips204.specs.ParameterSets.{ParameterSet}
 use Rattle.fips204.specs.Keys.{PrivateParts, eta_of_rows, key_vector, high_part, low_part}
-use Rattle.fips204.specs.Signing.{scaled, response, w_minus_cs2, low_vector, ct0, hint_vector, high_vector}
+use Rattle.fips204.specs.Signing.{response, w_minus_cs2, low_vector, ct0, hint_vector, high_vector}
 use Rattle.fips204.specs.Acceptance.{t1_shifted, w1_prime}
 use Rattle.std.specs.Prelude.{int_lt}
 use Rattle.fips204_base.specs.Sampling.{challenge}
@@ -24,6 +25,7 @@ use Rattle.fips204_base.proofs.RoundingLaws.{IsGamma, use_hint_of_make_hint, hig
 use Rattle.fips204.proofs.ChallengeProducts.{Near, near_same, near_turned, near_challenge_product, norm_of_place, near_of_centred, centred_of_near}
 use Rattle.fips204.proofs.RejectionChecks.{centred-own}
 use Rattle.fips204.proofs.ParameterSets.{AreSetNumbers}
+use Rattle.fips204.specs.SigningInputs.{scaled}
 
 -- The vector that verifying computes is the one whose high bits signing hinted at: A z - c t1 2^13 = w - c s2 + c t0.
 

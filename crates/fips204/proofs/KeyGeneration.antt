@@ -11,13 +11,13 @@ use Rattle.fips204_base.specs.Rounding.{power2round}
 use Rattle.fips204_base.specs.Vectors.{IsVector, vector_coefficients, vector_of, matrix_product}
 use Rattle.fips204_base.proofs.Rounding.{power2round_high, power2round_low}
 use Rattle.fips204_base.proofs.Vectors.{vector_of-ext, vector_of-entry, vector_of-range}
-use Rattle.fips204.specs.Keys.{IsWhole, key_vector, high_part, low_part, seeds, key_hash, key_pair, key_pair_if_all, key_generation, public_key_of, PublicParts, PrivateParts}
+use Rattle.fips204.specs.Keys.{IsWhole, key_vector, high_part, low_part, seeds, key_hash, key_pair, key_generation, public_key_of, PublicParts, PrivateParts}
 use Rattle.fips204.specs.ParameterSets.{ParameterSet}
-use Rattle.std.specs.Prelude.{ok_or}
+use Rattle.std.specs.Prelude.{ok_or, option_map, option_and_then}
 use Rattle.std.proofs.lemmas.List.{drop-take, take-take}
 use Rattle.std.specs.declared.option.Option.{Option}
 use Rattle.fips204_base.specs.declared.fault.Fault.TheVariants.{SamplingLimit}
-use Rattle.fips204_base.specs.Sampling.{sampled_matrix, small_vector}
+use Rattle.fips204_base.specs.Sampling.{sampled_matrix, small_vector, small_vectors}
 use Rattle.fips204.specs.Refusals.{generated, derived}
 
 -- The vector t = A s1 + s2 of a pair of keys, and its parts.
@@ -131,14 +131,33 @@ are_seeds p H xi bytes rho rho' key e f g h = record {
   masks = part_of_front 96 32 (seeds p H xi) bytes key (omega arith) e h;
 }
 
+-- both keys where the matrix and the small vectors are there, or else none
+unfoldable pub key_pair_if_all : ParameterSet → (List ℕ → List ℕ) → List ℕ → List ℕ → Option (List (List T)) → Option (List R) → Option (List R) → Option (PublicParts × PrivateParts)
+key_pair_if_all p H rho key (Some a) (Some s1) (Some s2) = Some (key_pair p H rho key a s1 s2)
+key_pair_if_all p H rho key a s1 s2 = None
+
+if_all : (p : ParameterSet) (H : List ℕ → List ℕ) (rho key : List ℕ) (a : Option (List (List T))) (s1 s2 : Option (List R))
+    → option_and_then (λ m. option_map (λ (small : List R × List R). key_pair p H rho key m small.0 small.1) (option_and_then (λ x. option_map (λ y. (x, y)) s2) s1)) a ≡ key_pair_if_all p H rho key a s1 s2
+unfolding key_pair_if_all
+if_all p H rho key None s1 s2 = refl
+if_all p H rho key (Some a) None s2 = refl
+if_all p H rho key (Some a) (Some s1) None = refl
+if_all p H rho key (Some a) (Some s1) (Some s2) = refl
+
+-- key generation by what is sampled
+pub key_generation-is : (p : ParameterSet) (H G : List ℕ → List ℕ) (xi : List ℕ)
+    → key_generation p H G xi ≡ key_pair_if_all p H (take 32 (seeds p H xi)) (take 32 (drop 96 (seeds p H xi))) (sampled_matrix G (take 32 (seeds p H xi)) p.k p.l)
+        (small_vector p.eta H (take 64 (drop 32 (seeds p H xi))) 0 p.l) (small_vector p.eta H (take 64 (drop 32 (seeds p H xi))) p.l p.k)
+unfolding key_generation small_vectors
+key_generation-is p H G xi = if_all p H (take 32 (seeds p H xi)) (take 32 (drop 96 (seeds p H xi))) _ _ _
+
 generated-is : (p : ParameterSet) (H G : List ℕ → List ℕ) (xi rho rho' key : List ℕ) (k l : ℕ) (a : Option (List (List T))) (s1 s2 : Option (List R))
     → AreSeeds p H xi rho rho' key → AreSampled p H G k l rho rho' a s1 s2 → generated p H G xi ≡ ok_or (key_pair_if_all p H rho key a s1 s2) SamplingLimit
-unfolding key_generation
 generated-is p H G xi rho rho' key k l a s1 s2 from given =
     let matrix = rw (given.rows, given.columns) at given.matrix in
     let first = rw given.columns at given.first in
     let second = rw (given.rows, given.columns) at given.second in
-    rw (sym from.matrix, sym from.vectors, sym from.masks) (rw (matrix, first, second) refl)
+    ap (λ (o : Option (PublicParts × PrivateParts)). ok_or o SamplingLimit) (key_generation-is p H G xi) ∙ rw (sym from.matrix, sym from.vectors, sym from.masks) (rw (matrix, first, second) refl)
 
 no_pair : (p : ParameterSet) (H : List ℕ → List ℕ) (rho key : List ℕ) (a : Option (List (List T))) (s1 s2 : Option (List R)) → (a ≡ None) ⊎ ((s1 ≡ None) ⊎ (s2 ≡ None)) → key_pair_if_all p H rho key a s1 s2 ≡ None
 unfolding key_pair_if_all

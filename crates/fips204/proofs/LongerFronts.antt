@@ -17,9 +17,10 @@ use Rattle.fips204_base.specs.Encodings.{w1_bytes, public_key_bytes, vector_byte
 use Rattle.fips204_base.specs.Sampling.{sampled_matrix, challenge, mask}
 use Rattle.fips204_base.proofs.LongerFronts.{prefix-take, prefix-part, matrix_entry-longer, small_polynomial-longer, challenge-longer, sampled_matrix-longer, small_vector-longer, mask-longer}
 use Rattle.fips204.specs.ParameterSets.{ParameterSet, is_parameter_set, commitment_length}
-use Rattle.fips204.specs.Keys.{PublicParts, PrivateParts, high_part, key_hash, key_pair, key_pair_if_all, key_generation, public_key_of}
+use Rattle.fips204.specs.Keys.{PublicParts, PrivateParts, high_part, key_hash, key_pair, key_generation, public_key_of}
+use Rattle.fips204.proofs.KeyGeneration.{key_pair_if_all, key_generation-is}
 use Rattle.fips204.specs.Framing.{Input, framed_input, message_hash}
-use Rattle.fips204.specs.Signing.{Attempt, limit, rejected, signed, commitment, high_vector, checked_attempt, attempt, attempt_limit, first_answer, mask_seed, sign_with, sign_if_matrix, sign}
+use Rattle.fips204.specs.Signing.{Attempt, limit, rejected, signed, commitment, high_vector, checked_attempt, attempt, first_answer, mask_seed, sign_with, sign_if_matrix, sign}
 use Rattle.fips204.specs.Acceptance.{Verifies}
 use Rattle.fips204.specs.Refusals.{refused_or, input_fault, AcceptsInput}
 use Rattle.fips204.specs.LongerFronts.{CounterFrontsArePrefixes, SamplesStay, Stays, AnswersStay, IsDecided, sampled, malformed, YesAndNoStay, AcceptanceStays, LongerFrontsKeep}
@@ -85,17 +86,16 @@ module _ (H G H' G' : List ℕ → List ℕ) (first : ArePrefixes H H') (second 
   pair_stays p rho key (Some a) a' (Some s1) s1' (Some s2) s2' keys x y z e = rw (x a refl, y s1 refl, z s2 refl) (ap Some (key_pair-longer p rho key a s1 s2) ∙ e)
 
   key_generation-longer : (p : ParameterSet) (xi : List ℕ) (keys : PublicParts × PrivateParts) → key_generation p H G xi ≡ Some keys → key_generation p H' G' xi ≡ Some keys
-  unfolding key_generation
   key_generation-longer p xi keys e =
       let input = xi ++ p.k ∷ p.l ∷ [] in
       let rho : take 32 (H' input) ≡ take 32 (H input) = hash-longer 32 input (omega arith) in
       let rho' : take 64 (drop 32 (H' input)) ≡ take 64 (drop 32 (H input)) = part-longer 32 64 input (omega arith) in
       let key : take 32 (drop 96 (H' input)) ≡ take 32 (drop 96 (H input)) = part-longer 96 32 input (omega arith) in
-      rw (rho, rho', key)
+      key_generation-is p H' G' xi ∙ rw (rho, rho', key)
       (pair_stays p (take 32 (H input)) (take 32 (drop 96 (H input))) _ _ _ _ _ _ keys
       (λ a there. sampled_matrix-longer G G' (take 32 (H input)) p.k p.l a second there)
       (λ v there. small_vector-longer p.eta H H' (take 64 (drop 32 (H input))) 0 p.l v first there)
-      (λ v there. small_vector-longer p.eta H H' (take 64 (drop 32 (H input))) p.l p.k v first there) e)
+      (λ v there. small_vector-longer p.eta H H' (take 64 (drop 32 (H input))) p.l p.k v first there) (sym (key_generation-is p H G xi) ∙ e))
 
   public_key_of-longer : (p : ParameterSet) (sk : PrivateParts) (pk : PublicParts) → public_key_of p G sk ≡ Some pk → public_key_of p G' sk ≡ Some pk
   unfolding public_key_of
@@ -146,8 +146,8 @@ module _ (H G H' G' : List ℕ → List ℕ) (first : ArePrefixes H H') (second 
   sign_with-longer p a sk mu rnd t not =
       let seed : mask_seed H' sk rnd mu ≡ mask_seed H sk rnd mu = hash-longer 64 (sk.key ++ rnd ++ mu) (omega arith) in
       let rho = mask_seed H sk rnd mu in
-      ap (λ s. first_answer (map (λ n. attempt p H' a sk mu s (n * p.l)) (range_with_len 0 attempt_limit))) seed
-      ∙ first_stays (λ n. attempt p H a sk mu rho (n * p.l)) (λ n. attempt p H' a sk mu rho (n * p.l)) (range_with_len 0 attempt_limit) (λ n. attempt-longer p a sk mu rho (n * p.l) t) not
+      ap (λ s. first_answer (map (λ n. attempt p H' a sk mu s (n * p.l)) (range_with_len 0 814))) seed
+      ∙ first_stays (λ n. attempt p H a sk mu rho (n * p.l)) (λ n. attempt p H' a sk mu rho (n * p.l)) (range_with_len 0 814) (λ n. attempt-longer p a sk mu rho (n * p.l) t) not
 
   matrix_stays : (p : ParameterSet) (a longer : Option (List (List T))) (sk : PrivateParts) (mu rnd : List ℕ) → IsTrue (is_parameter_set p)
       → ((x : List (List T)) → a ≡ Some x → longer ≡ Some x) → Stays (sign_if_matrix p H a sk mu rnd) (sign_if_matrix p H' longer sk mu rnd)

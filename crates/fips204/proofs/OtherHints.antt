@@ -5,25 +5,27 @@ use Rattle.std.proofs.lemmas.Bool.{cases_Bool}
 use Rattle.std.proofs.lemmas.Int.{ints}
 use Rattle.std.proofs.lemmas.List.{take_at}
 use Rattle.std.proofs.lemmas.Nat.{mod_below}
+use Rattle.fips204_base.specs.Network.{product_difference}
 use Rattle.fips204_base.specs.declared.types.R.{R}
 use Rattle.fips204_base.specs.declared.types.T.{T}
 use Rattle.fips204_base.specs.Encodings.{is_one, vector_bytes, hint_bytes, signature_bytes, w1_bytes, IsSignature}
 use Rattle.fips204_base.specs.Packing.{width}
 use Rattle.fips204_base.specs.Rounding.{use_hint, high_bits, low_bits, high_values}
 use Rattle.fips204_base.specs.Sampling.{challenge}
-use Rattle.fips204_base.specs.Vectors.{entry, IsVector, product_difference}
+use Rattle.fips204_base.specs.Vectors.{entry, IsVector}
 use Rattle.fips204_base.proofs.Bits.{cut}
 use Rattle.fips204_base.proofs.EncodedParts.{same_vector}
 use Rattle.fips204_base.proofs.Rounding.{high_bits_below}
 use Rattle.fips204_base.proofs.VectorBytes.{vector-length}
 use Rattle.fips204_base.proofs.Vectors.{vector_of-entry, vector_of-same, vector_of-range}
 use Rattle.std.proofs.lemmas.List.{append_cancel_left}
-use Rattle.fips204.specs.Acceptance.{t1_shifted, hinted, w1_prime}
+use Rattle.fips204.specs.Acceptance.{t1_shifted, w1_prime}
 use Rattle.fips204.specs.ParameterSets.{ParameterSet, commitment_length}
 use Rattle.fips204.specs.SchemeLaws.{OtherHintCollides}
 use Rattle.fips204.proofs.Binding.{fixed_by}
 use Rattle.fips204.proofs.ParameterSets.{set_numbers}
 use Rattle.fips204.proofs.Verification.{use_hint-below, hint-bit}
+use Rattle.fips204.specs.SigningInputs.{hinted}
 
 -- ---- UseHint with and without a hint
 

@@ -88,13 +88,14 @@ verdict_as_plain p H G pk prepared signature input e =
 -- of lists: an answer that is as that of the plain key for each entry
 each_signed : (signs alike : List ℕ → List ℕ → Result (List ℕ) Fault) (seeds messages : List (List ℕ)) (answers : List (Result (List ℕ) Fault)) → ((rnd m : List ℕ) → signs rnd m ≡ alike rnd m)
     → IsEachSigned signs seeds messages answers → IsEachSigned alike seeds messages answers
-each_signed signs alike seeds messages answers same each = (each.0, λ i h. each.1 i h ∙ same (get_or seeds i []) (get_or messages i []))
+each_signed signs alike seeds messages answers same each = (each.0, each.1, λ i h. each.2 i h ∙ same (get_or seeds i []) (get_or messages i []))
 
 each_judged : (accepts alike : List ℕ → List ℕ → Type 0) (messages signatures : List (List ℕ)) (answers : List Bool) → ((m s : List ℕ) → accepts m s ↔ alike m s)
     → IsEachJudged accepts messages signatures answers → IsEachJudged alike messages signatures answers
 each_judged accepts alike messages signatures answers same each = (
   each.0,
-  λ i h. let both = same (get_or messages i []) (get_or signatures i []) in (λ t. both.0 ((each.1 i h).0 t), λ v. (each.1 i h).1 (both.1 v)),
+  each.1,
+  λ i h. let both = same (get_or messages i []) (get_or signatures i []) in (λ t. both.0 ((each.2 i h).0 t), λ v. (each.2 i h).1 (both.1 v)),
 )
 
 whole_as_plain : (p : ParameterSet) (G : List ℕ → List ℕ) (sk : PrivateParts) (prepared : PreparedPrivate) → sk ≡ prepared.parts → sampled_matrix G sk.rho p.k p.l ≡ Some prepared.matrix

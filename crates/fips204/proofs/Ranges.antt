@@ -9,6 +9,7 @@ use Rattle.std.proofs.lemmas.List.Elements.{All-nil, All-cons}
 use mir.Val.{Val}
 use denote.Array.{each, in_array}
 use denote.Shadow.{shadow}
+use Rattle.fips204_base.specs.Network.{sign_of}
 use Rattle.fips204_base.specs.declared.types.R.{R}
 use Rattle.fips204_base.specs.contracts.types.R.{the_row}
 use Rattle.std.specs.Prelude.{nat_eq, nat_lt}
@@ -17,7 +18,7 @@ use Rattle.std.proofs.lemmas.Int.{ints}
 use Rattle.std.proofs.lemmas.Option.{none-some}
 use Rattle.fips204_base.specs.Packing.{bits}
 use Rattle.fips204_base.specs.Vectors.{coefficient_at, entry, PolynomialWithin, polynomial_of, vector_of}
-use Rattle.fips204_base.specs.Sampling.{sign_of, signed_sum, challenge_picks, challenge}
+use Rattle.fips204_base.specs.Sampling.{signed_sum, challenge_picks, challenge}
 use Rattle.fips204_base.proofs.Challenges.{challenge_places, challenge_places-apart, length-challenge_places, sum-elsewhere}
 use Rattle.fips204_base.proofs.Vectors.{polynomial_of-at, vector_of-same}
 

@@ -1,17 +1,19 @@
 -- What the keys of a seed sign is accepted, and what a whole private key signs.
-use Rattle.std.proofs.Common.{◌≡◌, ◌≤◌, ℕ, List, IsTrue, sym, ◌∙◌, length, Result, Ok}
+use Rattle.std.proofs.Common.{◌≡◌, ◌≤◌, ℕ, List, IsTrue, sym, ◌∙◌, length, Result, Ok, Err, rules}
+use Rattle.std.specs.Prelude.{IfOk, MatchResult}
+use Rattle.fips204_base.specs.Encodings.{public_key_bytes, private_key_bytes}
 use Rattle.fips204_base.specs.declared.fault.Fault.{Fault}
 use Rattle.fips204_base.proofs.Sampled.{some_of_ok}
 use Rattle.fips204.specs.ParameterSets.{ParameterSet, is_parameter_set}
-use Rattle.fips204.specs.Keys.{PublicParts, PrivateParts, ArePrivateParts, IsWhole, key_generation}
+use Rattle.fips204.specs.Keys.{PublicParts, PrivateParts, ArePrivateParts, IsPublicKeyOf, DecodesPrivate, IsWhole, key_generation}
 use Rattle.fips204.specs.declared.types.Params.{Params}
 use Rattle.fips204.specs.Sets.{set_of}
 use Rattle.fips204.specs.Signing.{sign}
 use Rattle.fips204.specs.Framing.{plain}
 use Rattle.fips204.specs.Refusals.{generated, derived, sign_message, VerifiesMessage}
-use Rattle.fips204.specs.Completeness.{HashComplete, AcceptsSigned, SignedIsAccepted}
+use Rattle.fips204.specs.Completeness.{HashComplete, AcceptsSigned, SignedIsAccepted, DecodesAlone}
 use Rattle.fips204.proofs.ParameterSets.{IsKnown, known-set}
-use Rattle.fips204.proofs.WholeKeys.{generated_pair, accepts_signed, pair_of_whole}
+use Rattle.fips204.proofs.WholeKeys.{generated_pair, generated_parts, accepts_signed, pair_of_whole, public_alone, private_alone}
 
 pub signed_is_accepted : SignedIsAccepted
 signed_is_accepted p H G pk sk row law = (
@@ -23,6 +25,24 @@ signed_is_accepted p H G pk sk row law = (
 pub seed_accepts : (p : ParameterSet) (H G : List ℕ → List ℕ) (xi rnd message context signature : List ℕ) (pk : PublicParts) (sk : PrivateParts) → IsTrue (is_parameter_set p) → ((x : List ℕ) → 4096 ≤ length (H x))
     → generated p H G xi ≡ Ok (pk, sk) → sign_message p H G sk rnd message context ≡ Ok signature → VerifiesMessage p H G pk message signature context
 seed_accepts p H G xi rnd message context signature pk sk row law from made = ((signed_is_accepted p H G pk sk row law).1 xi from).1.inputs rnd signature (plain message context) made
+
+-- ---- what generating answers
+
+pub generated_pairs : (p : ParameterSet) (H G : List ℕ → List ℕ) (xi : List ℕ) (answer : Result (PublicParts × PrivateParts) Fault) → IsTrue (is_parameter_set p)
+    → ((x : List ℕ) → 4096 ≤ length (H x)) → answer ≡ generated p H G xi → IfOk answer (λ keys. IsWhole p G keys.1 × (derived p G keys.1 ≡ Ok keys.0))
+generated_pairs p H G xi (Err fault) row law made = search rules
+generated_pairs p H G xi (Ok keys) row law made =
+    let are = generated_parts p H G xi keys.0 keys.1 row law (some_of_ok (key_generation p H G xi) keys made) in
+    (are.consistent, are.belongs)
+
+pub generated_decode : (p : ParameterSet) (H G : List ℕ → List ℕ) (xi : List ℕ) (answer : Result (PublicParts × PrivateParts) Fault) → IsTrue (is_parameter_set p)
+    → ((x : List ℕ) → 4096 ≤ length (H x)) → answer ≡ generated p H G xi
+    → IfOk answer (λ keys. DecodesAlone (λ bytes (read : Result PublicParts Fault). MatchResult read (λ key. IsPublicKeyOf H p.k bytes key) (λ _. ⊥)) (public_key_bytes keys.0.rho keys.0.t1) keys.0
+        × DecodesAlone (DecodesPrivate p.eta p.k p.l) (private_key_bytes p.eta keys.1.rho keys.1.key keys.1.tr keys.1.s1 keys.1.s2 keys.1.t0) keys.1)
+generated_decode p H G xi (Err fault) row law made = search rules
+generated_decode p H G xi (Ok keys) row law made =
+    let are = generated_parts p H G xi keys.0 keys.1 row law (some_of_ok (key_generation p H G xi) keys made) in
+    (public_alone p H G keys.0 keys.1 are, private_alone p H G keys.0 keys.1 row are)
 
 -- What the signing calls answer with a private key of a row of numbers is accepted where the key is whole.
 

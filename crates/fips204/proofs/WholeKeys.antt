@@ -1,6 +1,6 @@
 -- Keys by their bytes, generated pairs, and what a whole private key signs.
-use Rattle.std.proofs.Common.{◌≡◌, ◌-◌, ℕ, List, length, take, drop, IsTrue, Bool, Some, None, Ok, refl, ap, sym, subst, ◌∙◌, arith, length-drop, ◌≤◌}
-use Rattle.std.specs.Prelude.{option_map, ok_or, ◌↔◌}
+use Rattle.std.proofs.Common.{◌≡◌, ◌-◌, ℕ, List, length, take, drop, IsTrue, Bool, Some, None, Result, Ok, Err, refl, ap, sym, subst, ◌∙◌, arith, length-drop, ◌≤◌}
+use Rattle.std.specs.Prelude.{option_map, ok_or, ◌↔◌, MatchResult}
 use Rattle.std.specs.List.{All}
 use Rattle.std.specs.declared.option.Option.{Option}
 use Rattle.std.proofs.lemmas.List.{length-take-le}
@@ -12,17 +12,19 @@ use Rattle.fips204_base.specs.Sampling.{sampled_matrix, small_vector}
 use Rattle.fips204_base.specs.Vectors.{IsVector}
 use Rattle.fips204_base.proofs.Sampled.{small_vector-range, some_of_ok}
 use Rattle.fips204.specs.ParameterSets.{ParameterSet, is_parameter_set}
-use Rattle.fips204.specs.Keys.{PublicParts, PrivateParts, ArePrivateParts, IsHighPart, IsPublicKeyOf, IsPrivateKeyOf, eta_of_rows, IsWhole, high_part, low_part, key_hash, key_pair, key_pair_if_all, seeds, key_generation, public_key_of}
+use Rattle.fips204.specs.Keys.{PublicParts, PrivateParts, ArePrivateParts, IsPublicKeyOf, IsPrivateKeyOf, DecodesPrivate, eta_of_rows, IsWhole, high_part, low_part, key_hash, key_pair, seeds, key_generation, public_key_of}
 use Rattle.fips204.specs.Signing.{sign}
 use Rattle.fips204.specs.Acceptance.{Verifies}
 use Rattle.fips204.proofs.Completeness.{completeness}
-use Rattle.fips204.proofs.KeyGeneration.{high_part-range, low_part-range}
+use Rattle.fips204.proofs.KeyGeneration.{high_part-range, low_part-range, key_pair_if_all, key_generation-is}
 use Rattle.fips204.proofs.RefusedCalls.{same_some, signed_input}
 use Rattle.fips204.proofs.ParameterSets.{AreSetNumbers, set_numbers}
 use Rattle.fips204.specs.Refusals.{derived}
-use Rattle.fips204.specs.Completeness.{AcceptsSigned, IsPair, BytesTellKeys}
+use Rattle.fips204.specs.Completeness.{AcceptsSigned, IsPair, DecodesAlone, BytesTellKeys}
+use Rattle.fips204_base.specs.declared.fault.Fault.{Fault}
 use Rattle.fips204_base.specs.declared.fault.Fault.TheVariants.{SamplingLimit}
 use Rattle.fips204_base.proofs.EncodedParts.{same_private_key, IsT1, same_parts}
+use Rattle.fips204.specs.SigningInputs.{IsHighPart}
 
 -- ---- keys by their bytes
 
@@ -106,23 +108,35 @@ accepts_signed p H G pk sk row law parts whole derives =
 
 -- ---- a whole private key and the hash of its public key's bytes
 
+-- bytes decode to one public key over a stream
+one_decoded : (H : List ℕ → List ℕ) (k : ℕ) (bytes : List ℕ) (pk other : PublicParts) → IsPublicKeyOf H k bytes pk → IsPublicKeyOf H k bytes other → other ≡ pk
+one_decoded H k bytes pk other one two = one_public_key k other pk two.seed one.seed two.high one.high (two.hash ∙ sym one.hash) (two.same_bytes ∙ sym one.same_bytes)
+
+-- the public key that is derived of a whole private key is what its bytes decode to, if tr is their hash
+public_decodes : (p : ParameterSet) (H G : List ℕ → List ℕ) (pk : PublicParts) (sk : PrivateParts) → ArePrivateParts p.k p.l sk → IsWhole p G sk → derived p G sk ≡ Ok pk
+    → sk.tr ≡ key_hash H pk.rho pk.t1 → IsPublicKeyOf H p.k (public_key_bytes pk.rho pk.t1) pk
+public_decodes p H G pk sk parts whole derives hash =
+    let own : PublicParts = record { rho = sk.rho; tr = sk.tr; t1 = high_part p whole.matrix sk.s1 sk.s2 } in
+    let same : own ≡ pk = same_some own pk (sym (public_key_of_whole p G sk whole) ∙ some_of_ok (public_key_of p G sk) pk (sym derives)) in
+    record {
+      seed = subst (λ (k : PublicParts). length k.rho ≡ 32) same parts.seed;
+      high = subst (λ (k : PublicParts). IsHighPart p.k k.t1) same (high_part-range p whole.matrix sk.s1 sk.s2);
+      same_bytes = refl;
+      hash = sym (ap (λ (k : PublicParts). k.tr) same) ∙ hash;
+    }
+
 pub pair_of_whole : (p : ParameterSet) (H G : List ℕ → List ℕ) (pk : PublicParts) (sk : PrivateParts) → IsTrue (is_parameter_set p)
     → ArePrivateParts p.k p.l sk → IsWhole p G sk → derived p G sk ≡ Ok pk → sk.tr ≡ key_hash H pk.rho pk.t1 → IsPair p H G pk sk
 pair_of_whole p H G pk sk row parts whole derives hash =
     let bytes = private_key_bytes p.eta sk.rho sk.key sk.tr sk.s1 sk.s2 sk.t0 in
-    let own : PublicParts = record { rho = sk.rho; tr = sk.tr; t1 = high_part p whole.matrix sk.s1 sk.s2 } in
-    let same : own ≡ pk = same_some own pk (sym (public_key_of_whole p G sk whole) ∙ some_of_ok (public_key_of p G sk) pk (sym derives)) in
-    let seed : length pk.rho ≡ 32 = subst (λ (k : PublicParts). length k.rho ≡ 32) same parts.seed in
-    let high : IsHighPart p.k pk.t1 = subst (λ (k : PublicParts). IsHighPart p.k k.t1) same (high_part-range p whole.matrix sk.s1 sk.s2) in
-    let tr : pk.tr ≡ key_hash H pk.rho pk.t1 = sym (ap (λ (k : PublicParts). k.tr) same) ∙ hash in
-    let encoded : IsPublicKeyOf H p.k (public_key_bytes pk.rho pk.t1) pk = record { seed = seed; high = high; same_bytes = refl; hash = tr } in
+    let encoded = public_decodes p H G pk sk parts whole derives hash in
     let held = has_its_bytes p sk bytes row parts refl in
     record {
       parts = parts;
       whole = whole;
       derives = derives;
       public_decoded = λ other. (
-        λ d. one_public_key p.k other pk d.seed seed d.high high (d.hash ∙ sym tr) d.same_bytes,
+        λ d. one_decoded H p.k (public_key_bytes pk.rho pk.t1) pk other encoded d,
         λ e. subst (λ (k : PublicParts). IsPublicKeyOf H p.k (public_key_bytes pk.rho pk.t1) k) (sym e) encoded,
       );
       private_decoded = λ other. (λ d. one_private_key p bytes other sk row d held, λ e. subst (λ (k : PrivateParts). IsPrivateKeyOf p.eta p.k p.l bytes k) (sym e) held);
@@ -141,20 +155,29 @@ pair_by_hash p H G pk sk own row parts whole derives both = (
 small : (p : ParameterSet) (H : List ℕ → List ℕ) (rho : List ℕ) (first count : ℕ) (v : List R) → AreSetNumbers p → small_vector p.eta H rho first count ≡ Some v → IsVector count (eta_of_rows p.k) (eta_of_rows p.k) v
 small p H rho first count v numbers e = subst (λ m. IsVector count m m v) numbers.eta (small_vector-range p.eta H rho first count v numbers.small e)
 
-pair_of_parts : (p : ParameterSet) (H G : List ℕ → List ℕ) (rho key : List ℕ) (a : List (List T)) (s1 s2 : List R) → IsTrue (is_parameter_set p) → ((x : List ℕ) → 4096 ≤ length (H x))
+-- what the keys of a seed are to each other
+pub record AreGenerated (p : ParameterSet) (H G : List ℕ → List ℕ) (pk : PublicParts) (sk : PrivateParts) : Type 0 where
+  pub in_range : ArePrivateParts p.k p.l sk
+  pub consistent : IsWhole p G sk
+  pub belongs : derived p G sk ≡ Ok pk
+  pub hashed : sk.tr ≡ key_hash H pk.rho pk.t1
+
+generated_of_parts : (p : ParameterSet) (H G : List ℕ → List ℕ) (rho key : List ℕ) (a : List (List T)) (s1 s2 : List R) → ((x : List ℕ) → 4096 ≤ length (H x))
     → length rho ≡ 32 → length key ≡ 32 → sampled_matrix G rho p.k p.l ≡ Some a → IsVector p.l (eta_of_rows p.k) (eta_of_rows p.k) s1 → IsVector p.k (eta_of_rows p.k) (eta_of_rows p.k) s2
-    → IsPair p H G (key_pair p H rho key a s1 s2).0 (key_pair p H rho key a s1 s2).1 × AcceptsSigned p H G (key_pair p H rho key a s1 s2).0 (key_pair p H rho key a s1 s2).1
+    → AreGenerated p H G (key_pair p H rho key a s1 s2).0 (key_pair p H rho key a s1 s2).1
 unfolding key_pair
-pair_of_parts p H G rho key a s1 s2 row law m n there first second =
+generated_of_parts p H G rho key a s1 s2 law m n there first second =
     let t1 = high_part p a s1 s2 in
     let tr = key_hash H rho t1 in
     let sk : PrivateParts = record { rho = rho; key = key; tr = tr; s1 = s1; s2 = s2; t0 = low_part p a s1 s2 } in
     let hash = length-take-le 64 (H (public_key_bytes rho t1)) (omega (arith, law (public_key_bytes rho t1))) in
-    let parts : ArePrivateParts p.k p.l sk = record { seed = m; private_seed = n; hash = hash; first = first; second = second; low = low_part-range p a s1 s2 } in
     let whole : IsWhole p G sk = record { matrix = a; sampled = there; low = refl } in
-    let pk : PublicParts = record { rho = rho; tr = tr; t1 = t1 } in
-    let derives : derived p G sk ≡ Ok pk = ap (λ (o : Option PublicParts). ok_or o SamplingLimit) (public_key_of_whole p G sk whole) in
-    (pair_of_whole p H G pk sk row parts whole derives refl, accepts_signed p H G pk sk row law parts whole derives)
+    record {
+      in_range = record { seed = m; private_seed = n; hash = hash; first = first; second = second; low = low_part-range p a s1 s2 };
+      consistent = whole;
+      belongs = ap (λ (o : Option PublicParts). ok_or o SamplingLimit) (public_key_of_whole p G sk whole);
+      hashed = refl;
+    }
 
 -- what a pair that is there was made of
 record WasMade (p : ParameterSet) (H : List ℕ → List ℕ) (rho key : List ℕ) (a : Option (List (List T))) (s1 s2 : Option (List R)) (pk : PublicParts) (sk : PrivateParts) : Type 0 where
@@ -182,19 +205,36 @@ made_of p H rho key (Some a) (Some s1) (Some s2) pk sk e = record {
   made = same_some (key_pair p H rho key a s1 s2) (pk, sk) e;
 }
 
--- the keys of a seed are a pair, and the public one accepts what the private one signs
-pub generated_pair : (p : ParameterSet) (H G : List ℕ → List ℕ) (xi : List ℕ) (pk : PublicParts) (sk : PrivateParts) → IsTrue (is_parameter_set p) → ((x : List ℕ) → 4096 ≤ length (H x))
-    → key_generation p H G xi ≡ Some (pk, sk) → IsPair p H G pk sk × AcceptsSigned p H G pk sk
-unfolding key_generation
-generated_pair p H G xi pk sk row law e =
+pub generated_parts : (p : ParameterSet) (H G : List ℕ → List ℕ) (xi : List ℕ) (pk : PublicParts) (sk : PrivateParts) → IsTrue (is_parameter_set p) → ((x : List ℕ) → 4096 ≤ length (H x))
+    → key_generation p H G xi ≡ Some (pk, sk) → AreGenerated p H G pk sk
+generated_parts p H G xi pk sk row law e =
     let numbers = set_numbers p row in
     let all = seeds p H xi in
     let rho = take 32 all in
     let rho' = take 64 (drop 32 all) in
     let key = take 32 (drop 96 all) in
-    let was = made_of p H rho key (sampled_matrix G rho p.k p.l) (small_vector p.eta H rho' 0 p.l) (small_vector p.eta H rho' p.l p.k) pk sk e in
+    let was = made_of p H rho key (sampled_matrix G rho p.k p.l) (small_vector p.eta H rho' 0 p.l) (small_vector p.eta H rho' p.l p.k) pk sk (sym (key_generation-is p H G xi) ∙ e) in
     let long : 4096 ≤ length all = law _ in
     let rest : length (drop 96 all) ≡ length all - 96 = length-drop 96 all in
-    subst (λ (pair : PublicParts × PrivateParts). IsPair p H G pair.0 pair.1 × AcceptsSigned p H G pair.0 pair.1) was.made
-    (pair_of_parts p H G rho key was.matrix was.first was.second row law (length-take-le 32 all (omega (arith, long))) (length-take-le 32 (drop 96 all) (omega (arith, long, rest)))
+    subst (λ (pair : PublicParts × PrivateParts). AreGenerated p H G pair.0 pair.1) was.made
+    (generated_of_parts p H G rho key was.matrix was.first was.second law (length-take-le 32 all (omega (arith, long))) (length-take-le 32 (drop 96 all) (omega (arith, long, rest)))
     was.has_matrix (small p H rho' 0 p.l was.first numbers was.has_first) (small p H rho' p.l p.k was.second numbers was.has_second))
+
+-- the keys of a seed are a pair, and the public one accepts what the private one signs
+pub generated_pair : (p : ParameterSet) (H G : List ℕ → List ℕ) (xi : List ℕ) (pk : PublicParts) (sk : PrivateParts) → IsTrue (is_parameter_set p) → ((x : List ℕ) → 4096 ≤ length (H x))
+    → key_generation p H G xi ≡ Some (pk, sk) → IsPair p H G pk sk × AcceptsSigned p H G pk sk
+generated_pair p H G xi pk sk row law e =
+    let are = generated_parts p H G xi pk sk row law e in
+    (pair_of_whole p H G pk sk row are.in_range are.consistent are.belongs are.hashed, accepts_signed p H G pk sk row law are.in_range are.consistent are.belongs)
+
+-- the public key of a seed is what its bytes decode to, and so is the private one
+pub public_alone : (p : ParameterSet) (H G : List ℕ → List ℕ) (pk : PublicParts) (sk : PrivateParts) → AreGenerated p H G pk sk
+    → DecodesAlone (λ bytes (answer : Result PublicParts Fault). MatchResult answer (λ key. IsPublicKeyOf H p.k bytes key) (λ _. ⊥)) (public_key_bytes pk.rho pk.t1) pk
+public_alone p H G pk sk are (Ok other) decoded =
+    ap Ok (one_decoded H p.k (public_key_bytes pk.rho pk.t1) pk other (public_decodes p H G pk sk are.in_range are.consistent are.belongs are.hashed) decoded)
+public_alone p H G pk sk are (Err fault) decoded = absurd decoded
+
+pub private_alone : (p : ParameterSet) (H G : List ℕ → List ℕ) (pk : PublicParts) (sk : PrivateParts) → IsTrue (is_parameter_set p) → AreGenerated p H G pk sk
+    → DecodesAlone (DecodesPrivate p.eta p.k p.l) (private_key_bytes p.eta sk.rho sk.key sk.tr sk.s1 sk.s2 sk.t0) sk
+private_alone p H G pk sk row are (Ok other) decoded = ap Ok (one_private_key p _ other sk row decoded (has_its_bytes p sk _ row are.in_range refl))
+private_alone p H G pk sk row are (Err fault) decoded = absurd (decoded.1 sk (has_its_bytes p sk _ row are.in_range refl))

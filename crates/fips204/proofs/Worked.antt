@@ -2,22 +2,23 @@
 use Rattle.std.proofs.Common.{◌≡◌, ◌*◌, ℕ, ℤ, List, [], ◌∷◌, ◌++◌, Ok, Err, refl, true, false, map, length, take, Some, None, pos, negsuc, if◌then◌else◌}
 use Rattle.fips204_base.specs.declared.fault.Fault.TheVariants.{TooManyAttempts, SamplingLimit, SignCtx, HashCtx, OidEmpty, OidNotDer, DigestTooLong, DigestLength}
 use Rattle.fips204_base.specs.Encodings.{is_one}
-use Rattle.fips204_base.specs.Sampling.{triple, kept_triples, matrix_entry, sampled_matrix, first_256, all_present, kept_half_bytes, small_polynomial, small_vector}
+use Rattle.fips204_base.specs.Sampling.{triple, kept_triples, matrix_entry, sampled_matrix, first_256, all_present, kept_half_bytes, small_polynomial, small_vector, small_vectors}
 use Rattle.fips204_base.specs.Packing.{bit_length, packed, bits_to_bytes, bits, integer_to_bits, bits_to_integer, field}
 use Rattle.fips204_base.specs.Rounding.{decompose, use_hint}
 use Rattle.fips204_base.specs.Residues.{sum_below}
 use Rattle.fips204_base.specs.Transforms.{product, shifted}
 use Rattle.fips204_base.specs.Vectors.{polynomial_of, vector_of}
 use Rattle.fips204_base.specs.declared.types.R.{R}
-use Rattle.fips204.specs.Keys.{PrivateParts, seeds, key_pair, key_pair_if_all, key_generation}
-use Rattle.fips204.specs.Acceptance.{t1_shifted, hinted}
+use Rattle.fips204.specs.Keys.{PrivateParts, seeds, key_pair, key_generation}
+use Rattle.fips204.specs.Acceptance.{t1_shifted}
 use Rattle.fips204.specs.ParameterSets.{ParameterSet, set_44, set_65, set_87, is_parameter_set, public_key_length, private_key_length, signature_length}
-use Rattle.fips204.specs.Signing.{first_answer, mask_seed, limit, rejected, signed, commitment, hint_bit, w_minus_cs2, y_plus_cs1}
+use Rattle.fips204.specs.Signing.{first_answer, mask_seed, limit, rejected, signed, commitment, hint_bit, w_minus_cs2}
 use Rattle.std.specs.Prelude.{replicate, nat_eq, get_or, option_map}
 use Rattle.std.specs.List.{range_with_len, flat_map}
 use Rattle.fips204.specs.declared.types.pre_hash.TheConstants.{SHA2_224, SHA2_256, SHA2_384, SHA2_512, SHA2_512_224, SHA2_512_256, SHA3_224, SHA3_256, SHA3_384, SHA3_512, SHAKE_128, SHAKE_256}
-use Rattle.fips204.specs.Framing.{plain, hashed, framed, framed_digest, framed_input, message_hash, hash_oid, hashes, digest_length, pre_hash_fault}
-use Rattle.fips204.specs.Refusals.{message_fault, digest_fault, sign_input}
+use Rattle.fips204.specs.Framing.{plain, hashed, framed, framed_input, message_hash, hash_oid, hashes, digest_length, pre_hash_fault}
+use Rattle.fips204.specs.Refusals.{sign_input}
+use Rattle.fips204.specs.SigningInputs.{message_fault, digest_fault, y_plus_cs1, hinted}
 
 -- Worked values of the parameter sets, and of the order of attempts.
 
@@ -65,11 +66,11 @@ framed_message : framed (0x63 ∷ []) (0x61 ∷ 0x62 ∷ []) ≡ 0x00 ∷ 0x02 �
 framed_message = refl
 
 -- context `ab`, a digest of 32 bytes 07 under SHA2-256: 47 bytes
-framed_sha2_256 : framed_digest (replicate 32 7) (0x61 ∷ 0x62 ∷ []) (hash_oid 1)
+framed_sha2_256 : framed_input (hashed (replicate 32 7) (0x61 ∷ 0x62 ∷ []) (hash_oid 1))
     ≡ 0x01 ∷ 0x02 ∷ 0x61 ∷ 0x62 ∷ 0x06 ∷ 0x09 ∷ 0x60 ∷ 0x86 ∷ 0x48 ∷ 0x01 ∷ 0x65 ∷ 0x03 ∷ 0x04 ∷ 0x02 ∷ 0x01 ∷ replicate 32 7
 framed_sha2_256 = refl
 
-framed_length : length (framed_digest (replicate 32 7) (0x61 ∷ 0x62 ∷ []) (hash_oid 1)) ≡ 47
+framed_length : length (framed_input (hashed (replicate 32 7) (0x61 ∷ 0x62 ∷ []) (hash_oid 1))) ≡ 47
 framed_length = refl
 
 -- the twelve hashes by last byte, and no other
@@ -129,14 +130,14 @@ numbered input = if nat_eq (length input) 34 then range_with_len 0 128 else flat
 -- rho is bytes 0 to 31 of the seeds, and K bytes 96 to 127
 seeds_of_keys : option_map {U = List ℕ × List ℕ × List ℕ} (λ pair. (pair.0.rho, pair.1.rho, pair.1.key)) (key_generation set_44 numbered (λ _. replicate 1024 0) (replicate 32 9))
     ≡ Some (range_with_len 0 32, range_with_len 0 32, range_with_len 96 32)
-unfolding numbered key_generation key_pair_if_all key_pair sampled_matrix all_present matrix_entry kept_triples triple first_256 small_vector small_polynomial kept_half_bytes
+unfolding numbered key_generation small_vectors key_pair sampled_matrix all_present matrix_entry kept_triples triple first_256 small_vector small_polynomial kept_half_bytes
 seeds_of_keys = refl
 
 -- rho' is bytes 32 to 95, so its first byte 32 has the half bytes 0 and 2, which are the coefficients 2 and 0; then stand the numbers 0 to 3 of s1,
 -- which are the coefficients 2 to -1, and 4 to 7 of s2, which are -2 and 2 to 0
 seeds_of_vectors : option_map {U = List (List ℤ) × List (List ℤ)} (λ pair. (map (λ w. take 3 w.0) pair.1.s1, map (λ w. take 3 w.0) pair.1.s2)) (key_generation set_44 numbered (λ _. replicate 1024 0) (replicate 32 9))
     ≡ Some (map (λ x. pos 2 ∷ pos 0 ∷ x ∷ []) (pos 2 ∷ pos 1 ∷ pos 0 ∷ negsuc 0 ∷ []), map (λ x. pos 2 ∷ pos 0 ∷ x ∷ []) (negsuc 1 ∷ pos 2 ∷ pos 1 ∷ pos 0 ∷ []))
-unfolding numbered key_generation key_pair_if_all key_pair sampled_matrix all_present matrix_entry kept_triples triple first_256 small_vector small_polynomial kept_half_bytes
+unfolding numbered key_generation small_vectors key_pair sampled_matrix all_present matrix_entry kept_triples triple first_256 small_vector small_polynomial kept_half_bytes
 seeds_of_vectors = refl
 
 -- mu hashes tr before the framed message, and keeps 64 bytes

@@ -2,8 +2,9 @@
 use Rattle.std.specs.Prelude.{◌≡◌, ◌<◌, ℕ, ◌-◌, ◌*◌, ◌%◌, List, ◌++◌, take, pos, Some, slice_index_or, []}
 use Rattle.fips204_base.specs.declared.types.R.{R}
 use Rattle.fips204_base.specs.declared.types.T.{T}
-use Rattle.fips204_base.specs.Residues.{vector_norm}
-use Rattle.fips204_base.specs.Vectors.{vector_coefficients, product_difference, vector_of}
+use Rattle.fips204_base.specs.Residues.{vector_norm, coefficients}
+use Rattle.fips204_base.specs.Transforms.{minus, product}
+use Rattle.fips204_base.specs.Vectors.{vector_coefficients, matrix_product, vector_of}
 use Rattle.fips204_base.specs.Rounding.{use_hint}
 use Rattle.fips204_base.specs.Encodings.{is_one, IsSignature, w1_bytes}
 use Rattle.fips204_base.specs.Sampling.{sampled_matrix, challenge}
@@ -18,13 +19,10 @@ t1_shifted t1 r n = 8192 * vector_coefficients t1 r n % 8380417
 abbrev pub AreShifted : ℕ → List R → List R → Type 0
 AreShifted k t1 v = (r n : ℕ) → r < k → n < 256 → vector_coefficients v r n ≡ t1_shifted t1 r n
 
--- UseHint(h, w), coefficient by coefficient
-abbrev pub hinted : ParameterSet → List R → (ℕ → ℕ → ℕ) → List R
-hinted p h w = vector_of p.k (λ r n. pos (use_hint p.gamma2 (is_one (slice_index_or h r record { 0 = [] }) n) (w r n)))
-
--- w1' = UseHint(h, w'), where w' = A z - c t1 2^13
+-- w1' = UseHint(h, A z - c t1 2^13), coefficient by coefficient
 unfoldable pub w1_prime : ParameterSet → List (List T) → List R → List R → List R → R → List R
-w1_prime p a t1 z h c = hinted p h (product_difference p.l a z c (t1_shifted t1))
+w1_prime p a t1 z h c = vector_of p.k (λ r n. pos (use_hint p.gamma2 (is_one (slice_index_or h r record { 0 = [] }) n)
+    (minus (matrix_product p.l a (vector_coefficients z) r) (product (coefficients c.0) (t1_shifted t1 r)) n)))
 
 -- what a signature fixes under a matrix and t1, whatever was signed: parts, of which the norm of z is small, a challenge, and the
 -- bytes of w1'

@@ -23,6 +23,10 @@ AcceptedIfWhole {P} {S} whole derives accepts answer = (pk : P) (signature : S) 
 abbrev pub HashComplete : ParameterSet → (List ℕ → List ℕ) → (List ℕ → List ℕ) → PrivateParts → List ℕ → Result (List ℕ) Fault → Type 0
 HashComplete p H G sk mu answer = AcceptedIfWhole (IsWhole p G sk) (derived p G sk) (λ pk signature. Verifies p H G pk mu signature) answer
 
+-- decoding a key's bytes answers that key and nothing else
+abbrev pub DecodesAlone : {K B : Type 0} → (B → Result K Fault → Type 0) → B → K → Type 0
+DecodesAlone {K} {B} decodes bytes key = (answer : Result K Fault) → decodes bytes answer → answer ≡ Ok key
+
 -- two keys are a pair: the private one is in range and whole, the public one is derived of it, and each is the one key that
 -- its bytes decode to
 pub record IsPair (p : ParameterSet) (H G : List ℕ → List ℕ) (pk : PublicParts) (sk : PrivateParts) : Type 0 where

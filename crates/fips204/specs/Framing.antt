@@ -8,17 +8,15 @@ pub data Input : Type 0 where
   plain : (message context : List ℕ) → Input
   hashed : (digest context oid : List ℕ) → Input
 
--- M' of a message and a context: byte 0, a byte of the context's length, the context, and the message
-abbrev pub framed : List ℕ → List ℕ → List ℕ
-framed message context = 0 ∷ length context ∷ context ++ message
-
--- M' of a digest and a context: byte 1, a byte of the context's length, the context, the OID of the hash, and the digest
-abbrev pub framed_digest : List ℕ → List ℕ → List ℕ → List ℕ
-framed_digest digest context oid = 1 ∷ length context ∷ context ++ oid ++ digest
-
+-- M': byte 0, a byte of the context's length, the context, and the message; or byte 1, a byte of the context's length, the context,
+-- the OID and the digest
 abbrev pub framed_input : Input → List ℕ
-framed_input (plain message context) = framed message context
-framed_input (hashed digest context oid) = framed_digest digest context oid
+framed_input (plain message context) = 0 ∷ length context ∷ context ++ message
+framed_input (hashed digest context oid) = 1 ∷ length context ∷ context ++ oid ++ digest
+
+-- M' of a message and a context
+abbrev pub framed : List ℕ → List ℕ → List ℕ
+framed message context = framed_input (plain message context)
 
 -- mu, the first 64 bytes of H over tr and M'
 abbrev pub message_hash : (List ℕ → List ℕ) → List ℕ → List ℕ → List ℕ

@@ -1,8 +1,8 @@
 -- Keys as values, and key generation (FIPS 204, sections 3.3 and 7.2, Algorithm 6), over streams H and G.
-use Rattle.std.specs.Prelude.{◌≡◌, ℕ, List, take, length, nat_eq, if◌then◌else◌, Result, MatchResult, ◌≢◌, ◌↔◌, [], ◌∷◌, ◌++◌, pos, drop, Bool, IsTrue, Option, Some, None, option_map}
+use Rattle.std.specs.Prelude.{◌≡◌, ℕ, List, take, length, nat_eq, if◌then◌else◌, Result, MatchResult, ◌≢◌, ◌↔◌, [], ◌∷◌, ◌++◌, pos, drop, Bool, IsTrue, Option, Some, None, option_map, option_and_then}
 use Rattle.fips204_base.specs.Encodings.{public_key_bytes, IsPrivateKey}
 use Rattle.fips204_base.specs.Rounding.{power2round}
-use Rattle.fips204_base.specs.Sampling.{sampled_matrix, small_vector}
+use Rattle.fips204_base.specs.Sampling.{sampled_matrix, small_vectors}
 use Rattle.fips204_base.specs.Transforms.{plus}
 use Rattle.fips204_base.specs.Vectors.{IsVector, vector_coefficients, matrix_product, vector_of}
 use Rattle.fips204_base.specs.declared.fault.Fault.{Fault}
@@ -17,19 +17,16 @@ pub record PublicParts : Type 0 where
   pub tr : List ℕ
   pub t1 : List R
 
-abbrev pub IsHighPart : ℕ → List R → Type 0
-IsHighPart k t1 = IsVector k 0 1023 t1
-
 -- the parts have the lengths and ranges of a public key of k polynomials
 pub record ArePublicParts (k : ℕ) (pk : PublicParts) : Type 0 where
   pub seed : length pk.rho ≡ 32
   pub hash : length pk.tr ≡ 64
-  pub high : IsHighPart k pk.t1
+  pub high : IsVector k 0 1023 pk.t1
 
 -- the public key, with k polynomials, that has these bytes, over the stream H
 pub record IsPublicKeyOf (H : List ℕ → List ℕ) (k : ℕ) (bytes : List ℕ) (key : PublicParts) : Type 0 where
   pub seed : length key.rho ≡ 32
-  pub high : IsHighPart k key.t1
+  pub high : IsVector k 0 1023 key.t1
   pub same_bytes : public_key_bytes key.rho key.t1 ≡ bytes
   pub hash : key.tr ≡ take 64 (H bytes)
 
@@ -89,22 +86,17 @@ key_pair p H rho key a s1 s2 =
     let tr = key_hash H rho t1 in
     (record { rho = rho; tr = tr; t1 = t1 }, record { rho = rho; key = key; tr = tr; s1 = s1; s2 = s2; t0 = low_part p a s1 s2 })
 
--- the same where the matrix and the small vectors are there, or else none
-unfoldable pub key_pair_if_all : ParameterSet → (List ℕ → List ℕ) → List ℕ → List ℕ → Option (List (List T)) → Option (List R) → Option (List R) → Option (PublicParts × PrivateParts)
-key_pair_if_all p H rho key (Some a) (Some s1) (Some s2) = Some (key_pair p H rho key a s1 s2)
-key_pair_if_all p H rho key a s1 s2 = None
-
 -- the seeds of both keys: H over xi, byte k and byte l
 abbrev pub seeds : ParameterSet → (List ℕ → List ℕ) → List ℕ → List ℕ
 seeds p H xi = H (xi ++ p.k ∷ p.l ∷ [])
 
--- ML-DSA.KeyGen_internal (Algorithm 6): the seeds are rho of 32 bytes, rho' of 64 and K of 32
+-- ML-DSA.KeyGen_internal (Algorithm 6): the seeds are rho of 32 bytes, rho' of 64 and K of 32; none where a sampler gives none
 unfoldable pub key_generation : ParameterSet → (List ℕ → List ℕ) → (List ℕ → List ℕ) → List ℕ → Option (PublicParts × PrivateParts)
 key_generation p H G xi =
     let rho = take 32 (seeds p H xi) in
     let rho' = take 64 (drop 32 (seeds p H xi)) in
     let key = take 32 (drop 96 (seeds p H xi)) in
-    key_pair_if_all p H rho key (sampled_matrix G rho p.k p.l) (small_vector p.eta H rho' 0 p.l) (small_vector p.eta H rho' p.l p.k)
+    option_and_then (λ a. option_map (λ small. key_pair p H rho key a small.0 small.1) (small_vectors p.eta H rho' p.k p.l)) (sampled_matrix G rho p.k p.l)
 
 -- a whole private key: rejection sampling gives its matrix, and its t0 comes of A s1 + s2 by power2round
 pub record IsWhole (p : ParameterSet) (G : List ℕ → List ℕ) (sk : PrivateParts) : Type 0 where

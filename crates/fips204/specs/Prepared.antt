@@ -46,23 +46,15 @@ VerifiesMessagePrepared p H pk message signature context = AcceptsInput H pk.par
 abbrev pub VerifiesDigestPrepared : ParameterSet → (List ℕ → List ℕ) → PreparedPublic → List ℕ → List ℕ → List ℕ → List ℕ → Type 0
 VerifiesDigestPrepared p H pk digest signature context oid = AcceptsInput H pk.parts.tr (λ mu. VerifiesPrepared p H pk mu signature) (hashed digest context oid)
 
--- an answer for each message: what signs gives for its own random bytes and the message
+-- random bytes and an answer for each message: what signs gives for these and the message
 abbrev pub IsEachSigned : (List ℕ → List ℕ → Result (List ℕ) Fault) → List (List ℕ) → List (List ℕ) → List (Result (List ℕ) Fault) → Type 0
-IsEachSigned signs seeds messages answers = (length answers ≡ length messages)
+IsEachSigned signs seeds messages answers = (length seeds ≡ length messages) × (length answers ≡ length messages)
     × ((i : ℕ) → i < length messages → slice_index_or answers i (Err SamplingLimit) ≡ signs (slice_index_or seeds i []) (slice_index_or messages i []))
 
--- an answer for each message: true if and only if it is accepted with its signature
+-- a signature and an answer for each message: true if and only if it is accepted with the signature
 abbrev pub IsEachJudged : (List ℕ → List ℕ → Type 0) → List (List ℕ) → List (List ℕ) → List Bool → Type 0
-IsEachJudged accepts messages signatures answers = (length answers ≡ length messages)
+IsEachJudged accepts messages signatures answers = (length signatures ≡ length messages) × (length answers ≡ length messages)
     × ((i : ℕ) → i < length messages → IsTrue (slice_index_or answers i false) ↔ accepts (slice_index_or messages i []) (slice_index_or signatures i []))
-
--- each message is signed under the context, with its own random bytes
-abbrev pub SignsEach : ParameterSet → (List ℕ → List ℕ) → PreparedPrivate → List (List ℕ) → List (List ℕ) → List ℕ → List (Result (List ℕ) Fault) → Type 0
-SignsEach p H sk seeds messages context answers = IsEachSigned (λ rnd message. sign_message_prepared p H sk rnd message context) seeds messages answers
-
--- each answer is whether the signature of its message is accepted under the context
-abbrev pub VerifiesEach : ParameterSet → (List ℕ → List ℕ) → PreparedPublic → List (List ℕ) → List (List ℕ) → List ℕ → List Bool → Type 0
-VerifiesEach p H pk messages signatures context answers = IsEachJudged (λ message signature. VerifiesMessagePrepared p H pk message signature context) messages signatures answers
 
 -- a whole prepared private key: its t0 comes of A s1 + s2 by power2round; the public key that belongs to it has the high part
 abbrev pub IsWholePrepared : ParameterSet → PreparedPrivate → Type 0
@@ -83,14 +75,14 @@ pub record PreparedAnswersAsPlain (p : ParameterSet) (H G : List ℕ → List �
   pub sign_inputs : (sk : PrivateParts) (prepared : PreparedPrivate) (rnd : List ℕ) (input : Input) → prepared_private p G sk ≡ Ok prepared
       → sign_input H prepared.parts.tr (λ mu. sign_prepared p H prepared mu rnd) input ≡ sign_input H sk.tr (λ mu. sign p H G sk mu rnd) input
   pub sign_lists : (sk : PrivateParts) (prepared : PreparedPrivate) (seeds messages : List (List ℕ)) (context : List ℕ) (answers : List (Result (List ℕ) Fault))
-      → prepared_private p G sk ≡ Ok prepared → SignsEach p H prepared seeds messages context answers
+      → prepared_private p G sk ≡ Ok prepared → IsEachSigned (λ rnd message. sign_message_prepared p H prepared rnd message context) seeds messages answers
       → IsEachSigned (λ rnd message. sign_message p H G sk rnd message context) seeds messages answers
   pub verify_hash : (pk : PublicParts) (prepared : PreparedPublic) (mu signature : List ℕ) → prepared_public p G pk ≡ Ok prepared
       → VerifiesPrepared p H prepared mu signature ↔ Verifies p H G pk mu signature
   pub verify_inputs : (pk : PublicParts) (prepared : PreparedPublic) (signature : List ℕ) (input : Input) → prepared_public p G pk ≡ Ok prepared
       → AcceptsInput H prepared.parts.tr (λ mu. VerifiesPrepared p H prepared mu signature) input ↔ AcceptsInput H pk.tr (λ mu. Verifies p H G pk mu signature) input
   pub verify_lists : (pk : PublicParts) (prepared : PreparedPublic) (messages signatures : List (List ℕ)) (context : List ℕ) (answers : List Bool)
-      → prepared_public p G pk ≡ Ok prepared → VerifiesEach p H prepared messages signatures context answers
+      → prepared_public p G pk ≡ Ok prepared → IsEachJudged (λ message signature. VerifiesMessagePrepared p H prepared message signature context) messages signatures answers
       → IsEachJudged (λ message signature. VerifiesMessage p H G pk message signature context) messages signatures answers
   pub whole : (sk : PrivateParts) (prepared : PreparedPrivate) → prepared_private p G sk ≡ Ok prepared → IsWholePrepared p prepared ↔ IsWhole p G sk
   pub public_key : (sk : PrivateParts) (prepared : PreparedPrivate) (pk : PublicParts) → prepared_private p G sk ≡ Ok prepared → derived p G sk ≡ Ok pk

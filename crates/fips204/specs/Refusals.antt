@@ -13,18 +13,10 @@ abbrev pub refused_or : {A : Type 0} → Option Fault → Result A Fault → Res
 refused_or None answer = answer
 refused_or (Some fault) answer = Err fault
 
--- what refuses plain signing before its random bytes are drawn: a context of more than 255 bytes
-abbrev pub message_fault : List ℕ → Option Fault
-message_fault context = if nat_lt 255 (length context) then Some SignCtx else None
-
--- what refuses pre-hash signing before its random bytes are drawn: such a context, and then the conditions on the digest
-abbrev pub digest_fault : List ℕ → List ℕ → List ℕ → Option Fault
-digest_fault digest context oid = if nat_lt 255 (length context) then Some HashCtx else pre_hash_fault digest oid
-
--- the first condition on context, OID and digest that an input breaks, or none
+-- the first condition that an input breaks, or none: a context of at most 255 bytes, and then the conditions on digest and OID
 abbrev pub input_fault : Input → Option Fault
-input_fault (plain message context) = message_fault context
-input_fault (hashed digest context oid) = digest_fault digest context oid
+input_fault (plain message context) = if nat_lt 255 (length context) then Some SignCtx else None
+input_fault (hashed digest context oid) = if nat_lt 255 (length context) then Some HashCtx else pre_hash_fault digest oid
 
 -- signing an input, where signs is what signs mu
 abbrev pub sign_input : (List ℕ → List ℕ) → List ℕ → (List ℕ → Result (List ℕ) Fault) → Input → Result (List ℕ) Fault

@@ -28,21 +28,13 @@ commitment p H mu w1 = take (commitment_length p) (H (mu ++ w1_bytes p.gamma2 w1
 unfoldable pub high_vector : ParameterSet → (ℕ → ℕ → ℕ) → List R
 high_vector p w = vector_of p.k (λ r n. pos (high_bits p.gamma2 (w r n)))
 
--- c v
-abbrev pub scaled : R → (ℕ → ℕ → ℕ) → ℕ → ℕ → ℕ
-scaled c v r = product (coefficients c.0) (v r)
-
--- y + c s1
-abbrev pub y_plus_cs1 : List R → List R → R → ℕ → ℕ → ℕ
-y_plus_cs1 s1 y c r = plus (vector_coefficients y r) (scaled c (vector_coefficients s1) r)
-
 -- z = y + c s1, centred
 unfoldable pub response : ParameterSet → PrivateParts → List R → R → List R
-response p sk y c = vector_of p.l (λ r n. centred (pos (y_plus_cs1 sk.s1 y c r n)))
+response p sk y c = vector_of p.l (λ r n. centred (pos (plus (vector_coefficients y r) (product (coefficients c.0) (vector_coefficients sk.s1 r)) n)))
 
 -- w - c s2
 abbrev pub w_minus_cs2 : List R → (ℕ → ℕ → ℕ) → R → ℕ → ℕ → ℕ
-w_minus_cs2 s2 w c r = minus (w r) (scaled c (vector_coefficients s2) r)
+w_minus_cs2 s2 w c r = minus (w r) (product (coefficients c.0) (vector_coefficients s2 r))
 
 -- r0, the low bits of w - c s2
 unfoldable pub low_vector : ParameterSet → PrivateParts → (ℕ → ℕ → ℕ) → R → List R
@@ -50,7 +42,7 @@ low_vector p sk w c = vector_of p.k (λ r n. low_bits p.gamma2 (w_minus_cs2 sk.s
 
 -- c t0
 unfoldable pub ct0 : ParameterSet → PrivateParts → R → List R
-ct0 p sk c = vector_of p.k (λ r n. pos (scaled c (vector_coefficients sk.t0) r n))
+ct0 p sk c = vector_of p.k (λ r n. pos (product (coefficients c.0) (vector_coefficients sk.t0 r) n))
 
 -- MakeHint(0 - t, v + t) at one place, as a coefficient
 abbrev pub hint_bit : ℕ → ℕ → ℕ → ℤ
@@ -58,7 +50,7 @@ hint_bit gamma2 v t = if make_hint gamma2 (8380416 * t % 8380417) ((v + t) % 838
 
 -- h = MakeHint(-c t0, w - c s2 + c t0)
 unfoldable pub hint_vector : ParameterSet → PrivateParts → (ℕ → ℕ → ℕ) → R → List R
-hint_vector p sk w c = vector_of p.k (λ r n. hint_bit p.gamma2 (w_minus_cs2 sk.s2 w c r n) (scaled c (vector_coefficients sk.t0) r n))
+hint_vector p sk w c = vector_of p.k (λ r n. hint_bit p.gamma2 (w_minus_cs2 sk.s2 w c r n) (product (coefficients c.0) (vector_coefficients sk.t0 r) n))
 
 -- whether an attempt is kept: the tests of lines 23 and 28
 unfoldable pub passes_checks : ParameterSet → PrivateParts → List R → (ℕ → ℕ → ℕ) → R → Bool
@@ -82,10 +74,6 @@ attempt p H a sk mu rho'' kappa =
     let c_tilde = commitment p H mu (high_vector p w) in
     checked_attempt p sk y w c_tilde (challenge p.tau (H c_tilde))
 
--- how many attempts there are (Appendix C)
-abbrev pub attempt_limit : ℕ
-attempt_limit = 814
-
 -- the answer of the first attempt that isn't rejected
 unfoldable pub first_answer : List Attempt → Result (List ℕ) Fault
 first_answer [] = Err TooManyAttempts
@@ -97,9 +85,9 @@ first_answer (signed signature ∷ later) = Ok signature
 abbrev pub mask_seed : (List ℕ → List ℕ) → PrivateParts → List ℕ → List ℕ → List ℕ
 mask_seed H sk rnd mu = take 64 (H (sk.key ++ rnd ++ mu))
 
--- signing with the matrix a: attempt n has kappa = n l
+-- signing with the matrix a: the first of 814 attempts (Appendix C) that isn't rejected; attempt n has kappa = n l
 unfoldable pub sign_with : ParameterSet → (List ℕ → List ℕ) → List (List T) → PrivateParts → List ℕ → List ℕ → Result (List ℕ) Fault
-sign_with p H a sk mu rnd = first_answer (map (λ n. attempt p H a sk mu (mask_seed H sk rnd mu) (n * p.l)) (range_with_len 0 attempt_limit))
+sign_with p H a sk mu rnd = first_answer (map (λ n. attempt p H a sk mu (mask_seed H sk rnd mu) (n * p.l)) (range_with_len 0 814))
 
 -- the same where the matrix is there, or else a refusal
 unfoldable pub sign_if_matrix : ParameterSet → (List ℕ → List ℕ) → Option (List (List T)) → PrivateParts → List ℕ → List ℕ → Result (List ℕ) Fault

@@ -1,12 +1,14 @@
--- What private functions of signing take and answer: cited by no public clause; nobody has to believe it.
-use Rattle.std.specs.Prelude.{◌+◌, ◌-◌, ◌<◌, ◌≤◌, ℕ, List, Option, Some, None, Result, Ok, Err}
-use Rattle.fips204_base.specs.Encodings.{IsSignature}
-use Rattle.fips204_base.specs.Residues.{vector_norm}
-use Rattle.fips204_base.specs.Vectors.{PolynomialWithin, VectorWithin, AreSameModQ}
+-- What private functions of signing take and answer, and parts of definitions: cited by no public clause; nobody has to believe it.
+use Rattle.std.specs.Prelude.{◌+◌, ◌-◌, ◌<◌, ◌≤◌, ℕ, List, [], pos, slice_index_or, length, nat_lt, if◌then◌else◌, Option, Some, None, Result, Ok, Err}
+use Rattle.fips204_base.specs.Encodings.{IsSignature, is_one}
+use Rattle.fips204_base.specs.Residues.{vector_norm, coefficients}
+use Rattle.fips204_base.specs.Rounding.{use_hint}
+use Rattle.fips204_base.specs.Transforms.{product, plus}
+use Rattle.fips204_base.specs.Vectors.{PolynomialWithin, VectorWithin, AreSameModQ, IsVector, vector_coefficients, vector_of}
 use Rattle.fips204_base.specs.declared.fault.Fault.{Fault}
-use Rattle.fips204_base.specs.declared.fault.Fault.TheVariants.{SamplingLimit}
+use Rattle.fips204_base.specs.declared.fault.Fault.TheVariants.{SamplingLimit, SignCtx, HashCtx}
 use Rattle.fips204_base.specs.declared.types.R.{R}
-use Rattle.fips204.specs.Framing.{Input, framed_input, message_hash}
+use Rattle.fips204.specs.Framing.{Input, framed_input, message_hash, pre_hash_fault}
 use Rattle.fips204.specs.Keys.{PrivateParts}
 use Rattle.fips204.specs.ParameterSets.{ParameterSet, commitment_length}
 use Rattle.fips204.specs.Refusals.{refused_or, input_fault}
@@ -49,3 +51,29 @@ input_hash H tr input = refused_or (input_fault input) (Ok (message_hash H tr (f
 pub record HasShortParts (p : ParameterSet) (signature c_tilde : List ℕ) (z h : List R) : Type 0 where
   pub parts : IsSignature p.gamma1 p.omega p.k p.l (commitment_length p) signature c_tilde z h
   pub norm : vector_norm z < p.gamma1 - p.beta
+
+-- ---- parts of definitions, by themselves
+
+-- what refuses to sign a message before the random bytes are drawn
+abbrev pub message_fault : List ℕ → Option Fault
+message_fault context = if nat_lt 255 (length context) then Some SignCtx else None
+
+-- and what refuses to sign a digest
+abbrev pub digest_fault : List ℕ → List ℕ → List ℕ → Option Fault
+digest_fault digest context oid = if nat_lt 255 (length context) then Some HashCtx else pre_hash_fault digest oid
+
+-- t1, with k polynomials
+abbrev pub IsHighPart : ℕ → List R → Type 0
+IsHighPart k t1 = IsVector k 0 1023 t1
+
+-- c v
+abbrev pub scaled : R → (ℕ → ℕ → ℕ) → ℕ → ℕ → ℕ
+scaled c v r = product (coefficients c.0) (v r)
+
+-- y + c s1
+abbrev pub y_plus_cs1 : List R → List R → R → ℕ → ℕ → ℕ
+y_plus_cs1 s1 y c r = plus (vector_coefficients y r) (scaled c (vector_coefficients s1) r)
+
+-- UseHint(h, w), coefficient by coefficient
+abbrev pub hinted : ParameterSet → List R → (ℕ → ℕ → ℕ) → List R
+hinted p h w = vector_of p.k (λ r n. pos (use_hint p.gamma2 (is_one (slice_index_or h r record { 0 = [] }) n) (w r n)))

@@ -32,19 +32,38 @@ use std::marker::PhantomData;
 // `LAMBDA_DIV4` bytes of c_tilde, `SIG_LEN` of a signature, `PK_LEN` and `SK_LEN` of the keys. That these are the set's
 // sizes in the standard's tables is the law of `SignatureSizes` and of `KeySizes`.
 
-impl<S, const K: usize, const L: usize, const PK_LEN: usize, const SK_LEN: usize, H, G> KeyGen
-    for KG<K, L, H, G>
-where
+impl<
+    S,
+    const K: usize,
+    const L: usize,
+    const LAMBDA_DIV4: usize,
+    const SIG_LEN: usize,
+    const PK_LEN: usize,
+    const SK_LEN: usize,
     H: Xof,
     G: Xof,
+> KeyGen for KG<K, L, H, G>
+where
     Matrix<K, L>: HasSet<Set = S>,
-    S: Set<PublicKey = [u8; PK_LEN], PrivateKey = [u8; SK_LEN]> + KeySizes<K, L, PK_LEN, SK_LEN>,
+    S: Set<
+        Commitment = [u8; LAMBDA_DIV4],
+        Signature = [u8; SIG_LEN],
+        PublicKey = [u8; PK_LEN],
+        PrivateKey = [u8; SK_LEN],
+    >,
+    S: SignatureSizes<K, L, LAMBDA_DIV4, SIG_LEN> + KeySizes<K, L, PK_LEN, SK_LEN>,
 {
     type PublicKey = PublicKey<K, L, H, G>;
 
     type PrivateKey = PrivateKey<K, L, H, G>;
 
     ghost generated = { generated S.set H.front G.front };
+
+    fn try_keygen_with_rng<R: CryptoRngCore>(
+        rng: &mut R,
+    ) -> Result<(Self::PublicKey, Self::PrivateKey), Fault> {
+        Self::keygen_from_seed(&draw(rng, Fault::KeyGenRng)?)
+    }
 
     // Inlined, since both keys are copied on their way through a call.
     #[inline(always)]

@@ -1,11 +1,12 @@
 //! The calls that every parameter set offers.
 #![tactic(auto)]
 
-ghost use Rattle.std.specs.Prelude.{◌≡◌, ◌≢◌, ◌↔◌, ℕ, List, length, Result, Ok, Err, true, IsTrue, MatchResult};
+ghost use Rattle.std.specs.Prelude.{◌≡◌, ◌≢◌, ◌↔◌, ℕ, List, length, Result, Ok, Err, true, IfOk, IsTrue, MatchResult};
 ghost use Rattle.fips204_base.specs.declared.fault.Fault.{Fault};
 ghost use Rattle.fips204_base.specs.declared.fault.Fault.TheVariants.{KeyGenRng, SignRng, HashRng, InternalRng};
-ghost use Rattle.fips204.specs.Completeness.{AcceptedIfWhole};
-ghost use Rattle.fips204.specs.Refusals.{Draws, DrawsUnless, DrawsIf, message_fault, digest_fault};
+ghost use Rattle.fips204.specs.Completeness.{AcceptedIfWhole, DecodesAlone};
+ghost use Rattle.fips204.specs.Framing.{plain, hashed};
+ghost use Rattle.fips204.specs.Refusals.{Draws, DrawsUnless, DrawsIf, input_fault};
 
 use fips204_base::Fault;
 
@@ -79,13 +80,15 @@ pub(crate) fn draw_if<R: CryptoRngCore>(hedged: bool, rng: &mut R) -> Result<[u8
     }
 }
 
-/// Key generation (FIPS 204, Algorithm 1).
+/// Key generation (FIPS 204, Algorithm 1). The private key of a pair is whole, the public key is the one that is
+/// derived from it, and each is what decoding its bytes returns. So what the private key signs, also after it was
+/// stored, is accepted by the public key, also after it was stored.
 pub trait KeyGen {
     /// The public key of a pair.
-    type PublicKey;
+    type PublicKey: Verifier<Signature = <Self::PrivateKey as Signer>::Signature> + SerDes;
 
     /// The private key of a pair.
-    type PrivateKey;
+    type PrivateKey: Signer<PublicKey = Self::PublicKey> + SerDes;
 
     // Both keys of a seed, or the refusal.
     ghost generated: { List ℕ → Result (Self.PublicKey × Self.PrivateKey) Fault };
@@ -96,16 +99,19 @@ pub trait KeyGen {
     fn try_keygen_with_rng<R: CryptoRngCore>(
         rng: &mut R,
     ) -> Result<(Self::PublicKey, Self::PrivateKey), Fault>
-        ensures { Draws R.gives R.refuses rng.old rng.new KeyGenRng generated result }
-    {
-        Self::keygen_from_seed(&draw(rng, Fault::KeyGenRng)?)
-    }
+        ensures answer { Draws R.gives R.refuses rng.old rng.new KeyGenRng generated result }
+        ensures pair { IfOk result (λ keys. Self.PrivateKey.whole keys.1 × (Self.PrivateKey.derives keys.1 ≡ Ok keys.0)) }
+        ensures stored { IfOk result (λ keys. DecodesAlone Self.PublicKey.decodes (Self.PublicKey.bytes_of keys.0) keys.0
+            × DecodesAlone Self.PrivateKey.decodes (Self.PrivateKey.bytes_of keys.1) keys.1) };
 
     /// Makes the key pair of a seed (Algorithm 6).
     ///
     /// Errors: `Fault::SamplingLimit` if rejection sampling reaches its limit.
     fn keygen_from_seed(xi: &[u8; 32]) -> Result<(Self::PublicKey, Self::PrivateKey), Fault>
-        ensures { result ≡ generated xi.now };
+        ensures answer { result ≡ generated xi.now }
+        ensures pair { IfOk result (λ keys. Self.PrivateKey.whole keys.1 × (Self.PrivateKey.derives keys.1 ≡ Ok keys.0)) }
+        ensures stored { IfOk result (λ keys. DecodesAlone Self.PublicKey.decodes (Self.PublicKey.bytes_of keys.0) keys.0
+            × DecodesAlone Self.PrivateKey.decodes (Self.PrivateKey.bytes_of keys.1) keys.1) };
 }
 
 /// Signing (FIPS 204, Algorithms 2 and 4).
@@ -140,7 +146,7 @@ pub trait Signer {
         message: &[u8],
         ctx: &[u8],
     ) -> Result<Self::Signature, Fault>
-        ensures answer { DrawsUnless (message_fault ctx.now) R.gives R.refuses rng.old rng.new SignRng
+        ensures answer { DrawsUnless (input_fault (plain message.now ctx.now)) R.gives R.refuses rng.old rng.new SignRng
             (λ rnd. signs self.now rnd message.now ctx.now) result }
         ensures accepted { AcceptedIfWhole (whole self.now) (derives self.now)
             (λ pk signature. Self.PublicKey.accepts pk message.now signature ctx.now) result };
@@ -172,7 +178,7 @@ pub trait Signer {
         ctx: &[u8],
         hash_oid: &[u8],
     ) -> Result<Self::Signature, Fault>
-        ensures answer { DrawsUnless (digest_fault hash.now ctx.now hash_oid.now) R.gives R.refuses rng.old rng.new HashRng
+        ensures answer { DrawsUnless (input_fault (hashed hash.now ctx.now hash_oid.now)) R.gives R.refuses rng.old rng.new HashRng
             (λ rnd. signs_digest self.now rnd hash.now ctx.now hash_oid.now) result }
         ensures accepted { AcceptedIfWhole (whole self.now) (derives self.now)
             (λ pk signature. Self.PublicKey.accepts_digest pk hash.now signature ctx.now hash_oid.now) result };

@@ -3,7 +3,8 @@ use Rattle.std.proofs.Common.{◌≡◌, ℕ, zero, suc, ◌+◌, ◌*◌, ◌%�
 use Rattle.std.specs.Prelude.{◌≢◌, nat_eq, nat_le, nat_lt}
 use Rattle.std.specs.Int.{w32}
 use Rattle.std.proofs.lemmas.Bool.Decides.{nat_tests}
-use Rattle.fips204_base.specs.Sampling.{sign_of, picks, moved, places, signed_sum, challenge_picks, challenge}
+use Rattle.fips204_base.specs.Network.{sign_of}
+use Rattle.fips204_base.specs.Sampling.{picks, moved, places, signed_sum, challenge_picks, challenge}
 use Rattle.std.proofs.Math.Nat.{pow-succ', div-div-eq-div-mul}
 use Rattle.fips204_base.specs.Packing.{bits, integer_to_bits}
 use Rattle.fips204_base.proofs.Bits.{digits-suc}

@@ -6,8 +6,9 @@ use Rattle.std.proofs.lemmas.List.{take_more_set, drop-set-lt, drop-drop, map-id
 use Rattle.std.proofs.lemmas.List.FromFn.{filter_of_map_range_with_len_more, get_or-map-range_with_len, length-range_with_len}
 use Rattle.std.proofs.lemmas.List.Elements.{All-set, All-replicate, All-nil, All-push, All-weaker, All-get_or, All-same}
 use Rattle.std.proofs.lemmas.Bool.{cases_lt, cases_Bool}
+use Rattle.fips204_base.specs.Network.{running_totals}
 use Rattle.fips204_base.specs.declared.types.R.{R}
-use Rattle.fips204_base.specs.Encodings.{is_one, ones_below, ones, all_ones, running_totals, hint_bytes, Spells}
+use Rattle.fips204_base.specs.Encodings.{is_one, ones_below, ones, all_ones, hint_bytes, Spells}
 use Rattle.fips204_base.specs.Packing.{PolynomialInRange}
 use Rattle.std.proofs.lemmas.List.Concat.{flat_map-append}
 use Rattle.std.proofs.lemmas.Grind.{same_number_lists}

@@ -9,11 +9,13 @@ use Rattle.std.proofs.lemmas.Option.{none-some}
 use Rattle.fips204_base.specs.declared.types.R.{R}
 use Rattle.fips204_base.specs.declared.types.T.{T}
 use Rattle.fips204_base.specs.Streams.{IsPrefix, ArePrefixes}
-use Rattle.fips204_base.specs.Sampling.{first_256, all_present, triple, kept_triples, matrix_entry, sampled_matrix, half_bytes, kept_half_bytes, small_polynomial, small_vector, coefficient_from_half_byte, picks, challenge_picks, challenge, unpacked, mask_polynomial, mask_width, mask}
+use Rattle.fips204_base.specs.Sampling.{first_256, all_present, triple, kept_triples, matrix_entry, sampled_matrix, half_bytes, kept_half_bytes, small_polynomial, small_vector, coefficient_from_half_byte, picks, challenge_picks, challenge, unpacked, mask}
 use Rattle.fips204_base.specs.Packing.{bit_length}
 use Rattle.fips204_base.proofs.Sampling.{given_joined, kept_triples-beyond, kept_half_bytes-beyond, first_256-beyond}
 use Rattle.fips204_base.proofs.Sampled.{whole_entry, whole_polynomial}
 use Rattle.fips204_base.proofs.Challenges.{picks-beyond, length-challenge_picks}
+use Rattle.fips204_base.specs.Network.{mask_polynomial, mask_width}
+use Rattle.fips204_base.proofs.Masks.{mask-is, map_same}
 
 -- ---- bytes of a prefix
 
@@ -122,10 +124,6 @@ small_vector-longer eta H H' rho first count v e there =
 
 -- ---- the mask
 
-map_same : {X Y : Type 0} (f g : X → Y) (xs : List X) → ((x : X) → f x ≡ g x) → map f xs ≡ map g xs
-map_same f g [] same = refl
-map_same f g (x ∷ xs) same = rw (same x, map_same f g xs same) refl
-
 mask_bytes : (gamma1 : ℕ) → (gamma1 ≡ 131072) ⊎ (gamma1 ≡ 524288) → 32 * mask_width gamma1 ≤ 4096
 unfolding bit_length
 mask_bytes gamma1 (inl e) = rw e (omega arith)
@@ -133,8 +131,7 @@ mask_bytes gamma1 (inr e) = rw e (omega arith)
 
 pub mask-longer : (gamma1 : ℕ) (H H' : List ℕ → List ℕ) (rho : List ℕ) (l kappa : ℕ) → (gamma1 ≡ 131072) ⊎ (gamma1 ≡ 524288) → ArePrefixes H H'
     → ((input : List ℕ) → 4096 ≤ length (H input)) → mask gamma1 H' rho l kappa ≡ mask gamma1 H rho l kappa
-unfolding mask
 mask-longer gamma1 H H' rho l kappa set e enough =
-    map_same (λ r. mask_polynomial gamma1 (H' (rho ++ to_le_bytes w16 (kappa + r)))) (λ r. mask_polynomial gamma1 (H (rho ++ to_le_bytes w16 (kappa + r)))) (range_with_len 0 l)
+    mask-is gamma1 H' rho l kappa ∙ map_same (λ r. mask_polynomial gamma1 (H' (rho ++ to_le_bytes w16 (kappa + r)))) (λ r. mask_polynomial gamma1 (H (rho ++ to_le_bytes w16 (kappa + r)))) (range_with_len 0 l)
     (λ r. let input = rho ++ to_le_bytes w16 (kappa + r) in
-    ap (unpacked (gamma1 - 1) gamma1) (prefix-take (H input) (H' input) (32 * mask_width gamma1) (e input) (omega (arith, mask_bytes gamma1 set, enough input))))
+    ap (unpacked (gamma1 - 1) gamma1) (prefix-take (H input) (H' input) (32 * mask_width gamma1) (e input) (omega (arith, mask_bytes gamma1 set, enough input)))) ∙ sym (mask-is gamma1 H rho l kappa)

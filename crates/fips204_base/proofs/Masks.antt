@@ -1,16 +1,21 @@
 -- The polynomials of the mask, as they are read and unpacked.
-use Rattle.std.proofs.Common.{◌≡◌, ◌<◌, ◌*◌, ◌^◌, ℕ, List, ℤ, pos, get_or, length, take, drop, map, ap, sym, ◌∙◌, arith, ◌+◌, ◌≤◌, ◌≤ℤ◌, ◌++◌, length-take, ◌-◌, ◌-ℤ◌, ◌⊎◌, inl, inr, nat_abs, refl}
+use Rattle.std.proofs.Common.{zero, suc, [], ◌∷◌, ◌≡◌, ◌<◌, ◌*◌, ◌^◌, ℕ, List, ℤ, pos, get_or, length, take, drop, map, ap, sym, ◌∙◌, arith, ◌+◌, ◌≤◌, ◌≤ℤ◌, ◌++◌, length-take, ◌-◌, ◌-ℤ◌, ◌⊎◌, inl, inr, nat_abs, refl}
 use Rattle.std.specs.List.{range_with_len}
-use Rattle.std.proofs.lemmas.List.{ext_get_or, get_or-map, length-map, take_all, take-take}
+use Rattle.std.proofs.lemmas.List.{ext_get_or, get_or-map, length-map, take_all, take_at, drop_at, take-take, drop-take}
 use Rattle.std.proofs.lemmas.List.Elements.{All-get_or, All-drop, All-map, All-take}
 use Rattle.std.proofs.lemmas.List.FromFn.{get_or-map-range_with_len, length-map-range_with_len}
 use Rattle.fips204_base.specs.declared.types.R.{R}
-use Rattle.fips204_base.specs.Packing.{bits, bits_to_integer, coefficient, field, width, Packs, Unpacks, PolynomialInRange, bit_length}
+use Rattle.std.proofs.Math.Seq.{take-add}
+use Rattle.std.proofs.lemmas.Nat.{mul-le}
+use Rattle.fips204_base.proofs.Bits.{length-digits}
+use Rattle.fips204_base.proofs.Vectors.{length-polynomial_of, polynomial_of-at, polynomial_of-same}
+use Rattle.fips204_base.specs.Packing.{integer_to_bits, bits, bits_to_integer, coefficient, field, width, Packs, Unpacks, PolynomialInRange, bit_length}
 use Rattle.fips204_base.specs.Vectors.{polynomial_of, IsVector}
-use Rattle.fips204_base.specs.Sampling.{field_at, unpacked, mask, mask_polynomial, mask_width}
+use Rattle.fips204_base.specs.Sampling.{field_at, unpacked, mask}
 use Rattle.fips204_base.proofs.Packing.{integer_of_digits, digits_at, bits_below, integer_small}
 use Rattle.std.specs.Int.{w16, to_le_bytes}
 use Rattle.std.proofs.lemmas.Int.{ints}
+use Rattle.fips204_base.specs.Network.{mask_polynomial, mask_width}
 
 -- The polynomial that bytes hold is the one that they unpack to.
 
@@ -36,7 +41,50 @@ unpacked-unpacks a b bytes w u =
     ∙ All-get_or (λ x. coefficient (pos a) (pos b) (field (pos a) (pos b) x) ≡ x) w.0 n (pos 0) inside' u.coefficients) in
     ap (λ (l : List ℤ). let w : R = record { 0 = l } in w) same
 
+-- What is unpacked are the first 32 c bytes, with c bits a coefficient.
+
+bits_take : (k : ℕ) (xs : List ℕ) → bits 8 (take k xs) ≡ take (8 * k) (bits 8 xs)
+unfolding bits
+bits_take zero xs = refl
+bits_take (suc k) [] = sym (take_all (8 * suc k) [] (omega arith))
+bits_take (suc k) (x ∷ xs) =
+    let more : 8 * suc k ≡ 8 + 8 * k = omega arith in
+    ap (λ l. integer_to_bits 8 x ++ l) (bits_take k xs) ∙ sym (take-append-add 8 (8 * k) (integer_to_bits 8 x) (bits 8 xs) (length-digits 8 x))
+    ∙ ap (λ m. take m (integer_to_bits 8 x ++ bits 8 xs)) (sym more)
+  where
+    take-append-add : (n m : ℕ) (ys zs : List ℕ) → length ys ≡ n → take (n + m) (ys ++ zs) ≡ ys ++ take m zs
+    take-append-add n m ys zs e = take-add n m (ys ++ zs) ∙ rw (take_at ys zs n e, drop_at ys zs n e) refl
+
+field_at-take : (c n : ℕ) (xs : List ℕ) → n < 256 → field_at c (bits 8 (take (32 * c) xs)) n ≡ field_at c (bits 8 xs) n
+unfolding field_at
+field_at-take c n xs h =
+    let room = mul-le c (n + 1) c 256 (omega arith) (omega (arith, h)) in
+    let rest = 8 * (32 * c) - c * n in
+    let split : 8 * (32 * c) ≡ c * n + rest = omega (arith, room) in
+    let enough : c ≤ rest = omega (arith, room) in
+    ap (λ l. bits_to_integer (take c (drop (c * n) l))) (bits_take (32 * c) xs ∙ ap (λ k. take k (bits 8 xs)) split)
+    ∙ ap (λ l. bits_to_integer (take c l)) (drop-take (c * n) rest (bits 8 xs)) ∙ ap bits_to_integer (take-take c rest (drop (c * n) (bits 8 xs)) enough)
+
+pub unpacked-take : (a b : ℕ) (bytes : List ℕ) → unpacked a b (take (32 * width (pos a) (pos b)) bytes) ≡ unpacked a b bytes
+unfolding unpacked
+unpacked-take a b bytes =
+    let c = width (pos a) (pos b) in
+    let f = λ (n : ℕ). coefficient (pos a) (pos b) (field_at c (bits 8 (take (32 * c) bytes)) n) in
+    let g = λ (n : ℕ). coefficient (pos a) (pos b) (field_at c (bits 8 bytes) n) in
+    polynomial_of-same g (polynomial_of f) (length-polynomial_of f) (λ n h. polynomial_of-at f n h ∙ ap (coefficient (pos a) (pos b)) (field_at-take c n bytes h))
+
 -- The polynomials of the mask, as they are read and unpacked.
+
+pub map_same : {X Y : Type 0} (f g : X → Y) (xs : List X) → ((x : X) → f x ≡ g x) → map f xs ≡ map g xs
+map_same f g [] same = refl
+map_same f g (x ∷ xs) same = rw (same x, map_same f g xs same) refl
+
+pub mask-is : (gamma1 : ℕ) (H : List ℕ → List ℕ) (rho : List ℕ) (l kappa : ℕ)
+    → mask gamma1 H rho l kappa ≡ map (λ r. mask_polynomial gamma1 (H (rho ++ to_le_bytes w16 (kappa + r)))) (range_with_len 0 l)
+unfolding mask
+mask-is gamma1 H rho l kappa =
+    map_same (λ r. unpacked (gamma1 - 1) gamma1 (H (rho ++ to_le_bytes w16 (kappa + r)))) (λ r. mask_polynomial gamma1 (H (rho ++ to_le_bytes w16 (kappa + r)))) (range_with_len 0 l)
+    (λ r. sym (unpacked-take (gamma1 - 1) gamma1 (H (rho ++ to_le_bytes w16 (kappa + r)))))
 
 -- the two ranges of the mask
 
@@ -82,10 +130,9 @@ mask_polynomial-range gamma1 front (inl e) = rw e (all_of (λ n. coefficient (po
 mask_polynomial-range gamma1 front (inr e) = rw e (all_of (λ n. coefficient (pos 524287) (pos 524288) (field_at 20 (bits 8 (take 640 front)) n)) (pos 0 -ℤ pos 524287) (pos 524288) (λ n. coefficient-high (field_at 20 (bits 8 (take 640 front)) n) (field_small 20 n (take 640 front))))
 
 pub mask-range : (gamma1 : ℕ) (H : List ℕ → List ℕ) (rho : List ℕ) (l kappa : ℕ) → (gamma1 ≡ 131072) ⊎ (gamma1 ≡ 524288) → IsVector l (gamma1 - 1) gamma1 (mask gamma1 H rho l kappa)
-unfolding mask
 mask-range gamma1 H rho l kappa set =
     let polynomial = λ (r : ℕ). mask_polynomial gamma1 (H (rho ++ to_le_bytes w16 (kappa + r))) in
-    record {
+    rw mask-is record {
       rows = length-map-range_with_len polynomial 0 l;
       places = All-map (λ w. length w.0 ≡ 256) polynomial (range_with_len 0 l) (λ k d h. (mask_polynomial-range gamma1 _ set).0);
       range = All-map (λ w. PolynomialInRange (pos 0 -ℤ pos (gamma1 - 1)) (pos gamma1) w.0) polynomial (range_with_len 0 l) (λ k d h. (mask_polynomial-range gamma1 _ set).1);

@@ -1,9 +1,10 @@
 -- What is given by its transforms: the plain polynomials, and what steps over the transforms make of them.
 use Rattle.std.proofs.Common.{◌≡◌, ℕ, ◌<◌, ◌≤◌, ◌+◌, ◌*◌, ◌%◌, ◌^◌, ℤ, pos, List, [], get_or, arith, ap, sym, refl, ◌∙◌}
+use Rattle.fips204_base.specs.Network.{plain_row, plain_matrix}
 use Rattle.fips204_base.specs.Residues.{residue, coefficients, from_mont, IsCongruent}
 use Rattle.fips204_base.specs.Transforms.{transform, inverse_transform, inverse_root, pointwise, product, minus, row_product}
 use Rattle.fips204_base.specs.Lanes.{lane}
-use Rattle.fips204_base.specs.Vectors.{entry, vector_coefficients, vector_residues, plain_row, plain_matrix, matrix_product, AreSameModQ}
+use Rattle.fips204_base.specs.Vectors.{entry, vector_coefficients, vector_residues, matrix_product, AreSameModQ}
 use Rattle.fips204_base.specs.PlainTransforms.{lane_values, plain_vector, factor_values, plain_factor, lanes_value}
 use Rattle.fips204_base.specs.declared.types.R.{R}
 use Rattle.fips204_base.specs.declared.types.T.{T}

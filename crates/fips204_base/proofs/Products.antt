@@ -4,7 +4,7 @@ use Rattle.std.proofs.lemmas.Nat.{pow-add}
 use Rattle.std.proofs.lemmas.Bool.{lt-ltb, le-ltb}
 use Rattle.fips204_base.specs.Residues.{sum_below, IsCongruent}
 use Rattle.fips204_base.specs.Transforms.{root, transform, inverse_root, inverse_transform, shifted, product, plus, minus, pointwise, row_product, ProductOfTransforms, InverseOfTransform}
-use Rattle.fips204_base.proofs.Residues.{congruent_refl, congruent_of, congruent_sym, congruent_trans, congruent_mod, congruent_add, congruent_mul, sum_same, sum_equal, sum_below-swap, sum_below-plus, sum_below-times, sum_below-times_right, listed_same, congruent_equal_mod, congruent_equal, sum_add}
+use Rattle.fips204_base.proofs.Residues.{congruent_refl, congruent_of, congruent_sym, congruent_trans, congruent_mod, congruent_add, congruent_mul, sum_same, sum_equal, sum_below-swap, sum_below-plus, sum_below-times, sum_below-times_right, congruent_equal_mod, congruent_equal, sum_add}
 use Rattle.fips204_base.proofs.Roots.{root_turn}
 use Rattle.fips204_base.proofs.Transforms.{value_at, transform_value, inverse_of_transform, transform_of_inverse}
 
@@ -254,11 +254,8 @@ product_of_products p x y a b h f g n q =
     inverse_same p (pointwise (transform a) (transform b)) (products_same p x y a b h f g) n ∙ product_of_transforms a b n q
 
 -- ---- the same for whole lists
-pub product_of_transforms_listed : ProductOfTransforms
-product_of_transforms_listed a b = listed_same (inverse_transform (pointwise (transform a) (transform b))) (product a b) (product_of_transforms a b)
-
-pub inverse_of_transform_listed : InverseOfTransform
-inverse_of_transform_listed w = (
-  listed_same (inverse_transform (transform w)) (λ j. w j % 8380417) (λ j p. sym (inverse_residue (transform w) j (w j) (congruent_sym (inverse_of_transform w j p)))),
-  listed_same (transform (inverse_transform w)) (λ i. w i % 8380417) (λ i p. sym (transform_residue (inverse_transform w) i (w i) (congruent_sym (transform_of_inverse w i p)))),
+pub inverse_of_transforms : InverseOfTransform
+inverse_of_transforms w n p = (
+  sym (inverse_residue (transform w) n (w n) (congruent_sym (inverse_of_transform w n p))),
+  sym (transform_residue (inverse_transform w) n (w n) (congruent_sym (transform_of_inverse w n p))),
 )

@@ -3,8 +3,9 @@ use Rattle.std.proofs.Common.{◌≡◌, ◌≢◌, ℕ, ◌<◌, ◌≤◌, ◌
 use Rattle.std.proofs.lemmas.Int.{ints}
 use Rattle.std.proofs.lemmas.Nat.{div-mul-add, mod-mul-add, div-add-mod', mod_below}
 use Rattle.std.proofs.lemmas.Bool.{cases_lt, le-leb, lt-leb, eq-eqb, ne_eqb, cases_eq}
+use Rattle.fips204_base.specs.Network.{nearest_multiple}
 use Rattle.fips204_base.specs.Residues.{centred_modulo}
-use Rattle.fips204_base.specs.Rounding.{power2round, nearest_multiple, decompose, high_bits, low_bits, high_values, use_hint}
+use Rattle.fips204_base.specs.Rounding.{power2round, decompose, high_bits, low_bits, high_values, use_hint}
 use Rattle.std.specs.Prelude.{◌⊎◌, ◌<ℤ◌, ◌≤ℤ◌, int_lt}
 
 -- the two reciprocals: 1488 * 11275 is 2^24 - 16, and 4092 * 1025 is 2^22 - 4

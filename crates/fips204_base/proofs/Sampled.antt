@@ -6,9 +6,10 @@ use Rattle.std.specs.declared.option.Option.{Option}
 use Rattle.std.specs.List.{range_with_len, All, cons_option}
 use Rattle.std.proofs.lemmas.List.{take_all, take_more_set, length-take-le}
 use Rattle.std.proofs.lemmas.List.FromFn.{map-range_with_len_more}
+use Rattle.fips204_base.specs.Network.{three_bytes, sampled_entry, sampled_row}
 use Rattle.fips204_base.specs.declared.fault.Fault.{Fault}
 use Rattle.fips204_base.specs.declared.fault.Fault.TheVariants.{SamplingLimit}
-use Rattle.fips204_base.specs.Sampling.{all_present, first_256, three_bytes, coefficient_from_half_byte, triple, kept_triples, matrix_entry, sampled_entry, sampled_row, sampled_matrix, half_bytes, kept_half_bytes, small_polynomial, small_vector}
+use Rattle.fips204_base.specs.Sampling.{all_present, first_256, coefficient_from_half_byte, triple, kept_triples, matrix_entry, sampled_matrix, half_bytes, kept_half_bytes, small_polynomial, small_vector, small_vectors}
 use Rattle.std.proofs.lemmas.Bool.{le-ltb, lt-ltb, cases_lt}
 use Rattle.std.proofs.lemmas.Int.{ints}
 use Rattle.std.proofs.lemmas.Option.{none-some}
@@ -239,3 +240,20 @@ small_vector-range eta H rho first count v set e =
     let each : (k : ℕ) (d : R) → k < length v → (length (get_or v k d).0 ≡ 256) × PolynomialInRange (pos 0 -ℤ pos eta) (pos eta) (get_or v k d).0 =
     λ k d l. small_polynomial-range eta (H (rho ++ to_le_bytes w16 (first + k))) (get_or v k d) set (values.1 k d (omega (arith, l, values.0))) in
     record { rows = values.0; places = λ k d l. (each k d l).0; range = λ k d l. (each k d l).1 }
+
+-- ---- both small vectors
+
+pub vectors_some : (eta : ℕ) (H : List ℕ → List ℕ) (rho : List ℕ) (k l : ℕ) (s1 s2 : List R) → small_vector eta H rho 0 l ≡ Some s1 → small_vector eta H rho l k ≡ Some s2
+    → small_vectors eta H rho k l ≡ Some (s1, s2)
+unfolding small_vectors
+vectors_some eta H rho k l s1 s2 e f = rw (e, f) refl
+
+pub vectors_none : (eta : ℕ) (H : List ℕ → List ℕ) (rho : List ℕ) (k l : ℕ) → (small_vector eta H rho 0 l ≡ None) ⊎ (small_vector eta H rho l k ≡ None)
+    → small_vectors eta H rho k l ≡ None
+unfolding small_vectors
+vectors_none eta H rho k l (inl e) = rw e refl
+vectors_none eta H rho k l (inr e) = rw e (whatever (small_vector eta H rho 0 l))
+  where
+    whatever : (o : Option (List R)) → option_and_then (λ s1. let none : Option (List R × List R) = None in none) o ≡ None
+    whatever None = refl
+    whatever (Some s1) = refl

@@ -1,9 +1,14 @@
--- Butterflies, layers and lanes by place, and what a sampler's loop keeps: cited by no public clause; nobody has to believe it.
-use Rattle.std.specs.Prelude.{◌≡◌, ℕ, ◌+◌, ◌*◌, ◌-◌, ◌<◌, ◌≤◌, ℤ, nat_abs, List, [], slice_index_or, ◌++◌, take}
+-- Butterflies, layers and lanes by place, what a sampler's loop keeps, and parts of definitions: cited by no public clause; nobody has to believe it.
+use Rattle.std.specs.Prelude.{◌≡◌, ℕ, ◌+◌, ◌*◌, ◌-◌, ◌%◌, ◌<◌, ◌≤◌, ℤ, pos, ◌-ℤ◌, neg_ℤ, nat_abs, List, [], ◌∷◌, slice_index_or, ◌++◌, take, length, map, Option, nat_eq, if◌then◌else◌}
+use Rattle.std.specs.List.{range_with_len}
+use Rattle.fips204_base.specs.Encodings.{all_ones}
 use Rattle.fips204_base.specs.Lanes.{lane, lane_at}
-use Rattle.fips204_base.specs.Residues.{residue, IsCongruent}
-use Rattle.fips204_base.specs.Transforms.{zeta_at}
-use Rattle.fips204_base.specs.Vectors.{vector_residues}
+use Rattle.fips204_base.specs.Packing.{width}
+use Rattle.fips204_base.specs.Residues.{residue, centred_modulo, coefficients, IsCongruent}
+use Rattle.fips204_base.specs.Sampling.{all_present, matrix_entry, unpacked}
+use Rattle.fips204_base.specs.Transforms.{zeta_at, inverse_transform, minus, product}
+use Rattle.fips204_base.specs.Vectors.{vector_residues, vector_coefficients, matrix_product}
+use Rattle.fips204_base.specs.declared.types.R.{R}
 use Rattle.fips204_base.specs.declared.types.T.{T}
 
 -- one butterfly at m makes a + zeta b and a - zeta b of a and b
@@ -58,3 +63,49 @@ matrix_residues a i = vector_residues (slice_index_or a i [])
 -- the first count of the new values are the first `kept` of the old ones and then those given, as many as have room among 256
 abbrev pub AreKept : List ℤ → ℕ → List ℤ → List ℤ → ℕ → Type 0
 AreKept old kept given new count = take count new ≡ take 256 (take kept old ++ given)
+
+-- ---- parts of definitions, by themselves
+
+-- the number of three bytes, the lowest first, without the top bit of the last
+abbrev pub three_bytes : ℕ → ℕ → ℕ → ℕ
+three_bytes b0 b1 b2 = b0 + 256 * b1 + 65536 * (b2 % 128)
+
+-- the entry of the matrix at row r and column s
+abbrev pub sampled_entry : (List ℕ → List ℕ) → List ℕ → ℕ → ℕ → Option T
+sampled_entry G rho r s = matrix_entry (G (rho ++ s ∷ r ∷ []))
+
+-- its row r, of l entries, or none where an entry is none
+abbrev pub sampled_row : (List ℕ → List ℕ) → List ℕ → ℕ → ℕ → Option (List T)
+sampled_row G rho l r = all_present (map (sampled_entry G rho r) (range_with_len 0 l))
+
+-- the sign of a set bit is -1, of another 1
+abbrev pub sign_of : ℕ → ℤ
+sign_of bit = if nat_eq bit 1 then neg_ℤ (pos 1) else pos 1
+
+-- the plain row of a row of transforms, by column and place
+abbrev pub plain_row : List T → ℕ → ℕ → ℕ
+plain_row row k = inverse_transform (vector_residues row k)
+
+-- the plain matrix of a matrix of transforms, by row, column and place
+abbrev pub plain_matrix : List (List T) → ℕ → ℕ → ℕ → ℕ
+plain_matrix a i = plain_row (slice_index_or a i [])
+
+-- coefficient n of polynomial r of A z - c t, where A is the plain matrix and z a vector of l polynomials
+abbrev pub product_difference : ℕ → List (List T) → List R → R → (ℕ → ℕ → ℕ) → ℕ → ℕ → ℕ
+product_difference l a z c t r = minus (matrix_product l a (vector_coefficients z) r) (product (coefficients c.0) (t r))
+
+-- r - r0, where r0 is r centred modulo 2 gamma2: the multiple of 2 gamma2 that is nearest to r
+abbrev pub nearest_multiple : ℕ → ℕ → ℕ
+nearest_multiple gamma2 r = nat_abs (pos r -ℤ centred_modulo (2 * gamma2) r)
+
+-- for each polynomial of a hint, how many ones there are up to its end
+abbrev pub running_totals : List R → List ℕ
+running_totals h = map (λ i. length (all_ones (take (i + 1) h))) (range_with_len 0 (length h))
+
+-- how many bits a coefficient of z has: 18 or 20
+abbrev pub mask_width : ℕ → ℕ
+mask_width gamma1 = width (pos (gamma1 - 1)) (pos gamma1)
+
+-- a polynomial of the mask: the first 32 c bytes of a front, c bits a coefficient
+abbrev pub mask_polynomial : ℕ → List ℕ → R
+mask_polynomial gamma1 front = unpacked (gamma1 - 1) gamma1 (take (32 * mask_width gamma1) front)

@@ -16,7 +16,7 @@ bits_to_integer (bit ∷ higher) = bit + 2 * bits_to_integer higher
 unfoldable pub bits : ℕ → List ℕ → List ℕ
 bits w numbers = flat_map (integer_to_bits w) numbers
 
--- BitsToBytes (Algorithm 12): the bits cut in eights, of which every list here is made
+-- BitsToBytes (Algorithm 12): the bits cut in eights; every list here has a whole number of eights
 unfoldable pub bits_to_bytes : List ℕ → List ℕ
 bits_to_bytes all = map (λ i. bits_to_integer (take 8 (drop (8 * i) all))) (range_with_len 0 (length all / 8))
 

@@ -10,16 +10,13 @@ IsGamma2 gamma2 = (gamma2 ≡ pos 95232) ⊎ (gamma2 ≡ pos 261888)
 abbrev pub power2round : ℕ → ℕ × ℤ
 power2round r = (nat_abs (pos r -ℤ centred_modulo 8192 r) / 8192, centred_modulo 8192 r)
 
--- r - r0, where r0 is r centred modulo 2 gamma2: the multiple of 2 gamma2 that is nearest to r
-abbrev pub nearest_multiple : ℕ → ℕ → ℕ
-nearest_multiple gamma2 r = nat_abs (pos r -ℤ centred_modulo (2 * gamma2) r)
-
 -- Decompose (Algorithm 36): (r1, r0), where r0 is r centred modulo 2 gamma2 and r1 is (r - r0) / (2 gamma2);
 -- but where r - r0 is q - 1, r1 is 0 and r0 is one less
 unfoldable pub decompose : ℕ → ℕ → ℕ × ℤ
 decompose gamma2 r =
-    if nat_eq (nearest_multiple gamma2 r) 8380416 then (0, centred_modulo (2 * gamma2) r -ℤ pos 1)
-    else (nearest_multiple gamma2 r / (2 * gamma2), centred_modulo (2 * gamma2) r)
+    let r0 = centred_modulo (2 * gamma2) r in
+    let multiple = nat_abs (pos r -ℤ r0) in
+    if nat_eq multiple 8380416 then (0, r0 -ℤ pos 1) else (multiple / (2 * gamma2), r0)
 
 -- HighBits (Algorithm 37)
 abbrev pub high_bits : ℕ → ℕ → ℕ

@@ -13,13 +13,11 @@ use Rattle.fips204_base.specs.declared.types.T.{T}
 abbrev pub IsEta : ℤ → Type 0
 IsEta eta = (eta ≡ pos 2) ⊎ (eta ≡ pos 4)
 
--- the number of three bytes, the lowest first, without the top bit of the last
-abbrev pub three_bytes : ℕ → ℕ → ℕ → ℕ
-three_bytes b0 b1 b2 = b0 + 256 * b1 + 65536 * (b2 % 128)
-
--- CoeffFromThreeBytes (Algorithm 14): that number, or none from q on
+-- CoeffFromThreeBytes (Algorithm 14): the number of three bytes, the lowest first, without the top bit of the last; or none from q on
 abbrev pub coefficient_from_three_bytes : ℕ → ℕ → ℕ → Option ℤ
-coefficient_from_three_bytes b0 b1 b2 = if nat_lt (three_bytes b0 b1 b2) 8380417 then Some (pos (three_bytes b0 b1 b2)) else None
+coefficient_from_three_bytes b0 b1 b2 =
+    let number = b0 + 256 * b1 + 65536 * (b2 % 128) in
+    if nat_lt number 8380417 then Some (pos number) else None
 
 -- CoeffFromHalfByte (Algorithm 15): with eta 2, 2 - (b mod 5) where b < 15; with eta 4, 4 - b where b < 9; else none
 abbrev pub coefficient_from_half_byte : ℕ → ℕ → Option ℤ
@@ -51,17 +49,11 @@ kept_triples front n = filter_map (triple front) (range_with_len 0 n)
 unfoldable pub matrix_entry : List ℕ → Option T
 matrix_entry front = option_map (λ values. record { 0 = values }) (first_256 (kept_triples front (length front / 4)))
 
--- the entry at row r and column s, from G over rho, its column and its row, a byte each
-abbrev pub sampled_entry : (List ℕ → List ℕ) → List ℕ → ℕ → ℕ → Option T
-sampled_entry G rho r s = matrix_entry (G (rho ++ s ∷ r ∷ []))
-
--- row r, of l entries, or none where an entry is none
-abbrev pub sampled_row : (List ℕ → List ℕ) → List ℕ → ℕ → ℕ → Option (List T)
-sampled_row G rho l r = all_present (map (sampled_entry G rho r) (range_with_len 0 l))
-
--- ExpandA (Algorithm 32): k rows of l entries, or none where an entry is none
+-- ExpandA (Algorithm 32): k rows of l entries, or none where an entry is none; the entry at row r and column s is sampled from G
+-- over rho, its column and its row, a byte each
 unfoldable pub sampled_matrix : (List ℕ → List ℕ) → List ℕ → ℕ → ℕ → Option (List (List T))
-sampled_matrix G rho k l = all_present (map (sampled_row G rho l) (range_with_len 0 k))
+sampled_matrix G rho k l =
+    all_present (map (λ r. all_present (map (λ s. matrix_entry (G (rho ++ s ∷ r ∷ []))) (range_with_len 0 l))) (range_with_len 0 k))
 
 -- a step that samples the matrix of rho: it refuses where there is none, and else P holds of the matrix
 abbrev pub OnSampled : (List ℕ → List ℕ) → List ℕ → ℕ → ℕ → Result (Unit {0}) Fault → (List (List T) → Type 0) → Type 0
@@ -86,9 +78,10 @@ small_polynomial eta front = option_map (λ values. record { 0 = values }) (firs
 unfoldable pub small_vector : ℕ → (List ℕ → List ℕ) → List ℕ → ℕ → ℕ → Option (List R)
 small_vector eta H rho first count = all_present (map (λ r. small_polynomial eta (H (rho ++ to_le_bytes w16 r))) (range_with_len first count))
 
--- ExpandS (Algorithm 33) gives none: of s1, with the numbers from 0 on, and s2, with those from l on, one is none
-abbrev pub LacksSmallVector : ℕ → (List ℕ → List ℕ) → List ℕ → ℕ → ℕ → Type 0
-LacksSmallVector eta H rho k l = (small_vector eta H rho 0 l ≡ None) ⊎ (small_vector eta H rho l k ≡ None)
+-- ExpandS (Algorithm 33): s1 of l polynomials, with the numbers from 0 on, and s2 of k, with those from l on; or none where one is none
+unfoldable pub small_vectors : ℕ → (List ℕ → List ℕ) → List ℕ → ℕ → ℕ → Option (List R × List R)
+small_vectors eta H rho k l =
+    option_and_then (λ s1. option_map (λ s2. (s1, s2)) (small_vector eta H rho l k)) (small_vector eta H rho 0 l)
 
 -- ---- The challenge (Algorithm 29)
 
@@ -108,15 +101,11 @@ unfoldable pub places : ℕ → List ℕ → List ℕ
 places i [] = []
 places i (pick ∷ later) = moved (i + 1) pick later ∷ places (i + 1) later
 
--- the sign of a set bit is -1, of another 1
-abbrev pub sign_of : ℕ → ℤ
-sign_of bit = if nat_eq bit 1 then neg_ℤ (pos 1) else pos 1
-
--- coefficient n of the polynomial with a term sign_i X^place(i) for each i
+-- coefficient n of the polynomial with a term sign_i X^place(i) for each i; the sign of a set bit is -1, of another 1
 unfoldable pub signed_sum : List ℕ → List ℕ → ℕ → ℤ
 signed_sum [] sign_bits n = pos 0
 signed_sum (place ∷ later) [] n = pos 0
-signed_sum (place ∷ later) (bit ∷ sign_bits) n = (if nat_eq place n then sign_of bit else pos 0) +ℤ signed_sum later sign_bits n
+signed_sum (place ∷ later) (bit ∷ sign_bits) n = (if nat_eq place n then (if nat_eq bit 1 then neg_ℤ (pos 1) else pos 1) else pos 0) +ℤ signed_sum later sign_bits n
 
 -- the picks of 256 - tau to 255 from the bytes after the first eight, a quarter as many as the front has
 unfoldable pub challenge_picks : ℕ → List ℕ → List ℕ
@@ -142,14 +131,7 @@ unpacked a b bytes =
     let all = bits 8 bytes in
     polynomial_of (λ n. coefficient (pos a) (pos b) (field_at c all n))
 
--- how many bits a coefficient of z has: 18 or 20
-abbrev pub mask_width : ℕ → ℕ
-mask_width gamma1 = width (pos (gamma1 - 1)) (pos gamma1)
-
--- a polynomial of the mask: the first 32 c bytes of a front, c bits a coefficient
-abbrev pub mask_polynomial : ℕ → List ℕ → R
-mask_polynomial gamma1 front = unpacked (gamma1 - 1) gamma1 (take (32 * mask_width gamma1) front)
-
--- ExpandMask (Algorithm 34): l polynomials, the one at r from H(rho'', kappa + r in two bytes)
+-- ExpandMask (Algorithm 34): l polynomials, the one at r from H(rho'', kappa + r in two bytes); with c bits a coefficient, 18 or 20,
+-- the first 32 c bytes are read
 unfoldable pub mask : ℕ → (List ℕ → List ℕ) → List ℕ → ℕ → ℕ → List R
-mask gamma1 H rho l kappa = map (λ r. mask_polynomial gamma1 (H (rho ++ to_le_bytes w16 (kappa + r)))) (range_with_len 0 l)
+mask gamma1 H rho l kappa = map (λ r. unpacked (gamma1 - 1) gamma1 (H (rho ++ to_le_bytes w16 (kappa + r)))) (range_with_len 0 l)

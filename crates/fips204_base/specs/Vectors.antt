@@ -3,7 +3,7 @@ use Rattle.std.specs.Prelude.{◌≡◌, ◌≤◌, ◌<◌, ◌≤ℤ◌, ℕ, 
 use Rattle.std.specs.List.{All, range_with_len}
 use Rattle.fips204_base.specs.Packing.{PolynomialInRange}
 use Rattle.fips204_base.specs.Residues.{coefficients, sum_below}
-use Rattle.fips204_base.specs.Transforms.{minus, product, row_product, inverse_transform}
+use Rattle.fips204_base.specs.Transforms.{row_product, inverse_transform}
 use Rattle.fips204_base.specs.declared.types.R.{R}
 use Rattle.fips204_base.specs.declared.types.T.{T}
 
@@ -59,27 +59,15 @@ VectorInRange lo hi v = All (λ w. PolynomialInRange lo hi w.0) v
 pub record IsVector (count a b : ℕ) (v : List R) : Type 0 where
   pub rows : length v ≡ count
   pub places : All (λ w. length w.0 ≡ 256) v
-  pub range : VectorInRange (pos 0 -ℤ pos a) (pos b) v
+  pub range : All (λ w. All (λ x. ((pos 0 -ℤ pos a) ≤ℤ x) × (x ≤ℤ pos b)) w.0) v
 
 -- the residues of a vector of polynomials, by row and place
 abbrev pub vector_coefficients : List R → ℕ → ℕ → ℕ
 vector_coefficients v i = coefficients (slice_index_or v i record { 0 = [] }).0
 
--- the plain row of a row of transforms, by column and place: the inverse transform of each entry
-abbrev pub plain_row : List T → ℕ → ℕ → ℕ
-plain_row row k = inverse_transform (vector_residues row k)
-
--- the plain matrix of a matrix of transforms, by row, column and place
-abbrev pub plain_matrix : List (List T) → ℕ → ℕ → ℕ → ℕ
-plain_matrix a i = plain_row (slice_index_or a i [])
-
--- coefficient n of polynomial r of A v, where A is the plain matrix and v a vector of l polynomials
+-- coefficient n of polynomial r of A v, where the matrix a has the transforms of A, and v has l polynomials
 abbrev pub matrix_product : ℕ → List (List T) → (ℕ → ℕ → ℕ) → ℕ → ℕ → ℕ
-matrix_product l a v r = row_product l (plain_matrix a r) v
-
--- coefficient n of polynomial r of A z - c t, where A is the plain matrix and z a vector of l polynomials
-abbrev pub product_difference : ℕ → List (List T) → List R → R → (ℕ → ℕ → ℕ) → ℕ → ℕ → ℕ
-product_difference l a z c t r = minus (matrix_product l a (vector_coefficients z) r) (product (coefficients c.0) (t r))
+matrix_product l a v r = row_product l (λ k. inverse_transform (vector_residues (slice_index_or a r []) k)) v
 
 -- the polynomial whose coefficient n is f n
 unfoldable pub polynomial_of : (ℕ → ℤ) → R

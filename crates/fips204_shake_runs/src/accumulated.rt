@@ -11,11 +11,11 @@ use std::alloc::Global;
 use std::test::Fail;
 
 /// The digest of 100 public keys and signatures, and whether all of these signatures are accepted.
-fn accumulated<K, P, S, const PK: usize, const SIG: usize>() -> Result<([u8; 32], bool), Fault>
+fn accumulated<K, const PK: usize, const SIG: usize>() -> Result<([u8; 32], bool), Fault>
 where
-    K: KeyGen<PublicKey = P, PrivateKey = S>,
-    P: SerDes<ByteArray = [u8; PK]> + Verifier<Signature = [u8; SIG]> + Drop,
-    S: Signer<Signature = [u8; SIG]> + Drop,
+    K: KeyGen,
+    K::PublicKey: SerDes<ByteArray = [u8; PK]> + Drop,
+    K::PrivateKey: Signer<Signature = [u8; SIG]> + Drop,
     requires { (PK < 2 ^ 63) × (SIG < 2 ^ 63) }
 {
     let mut seeds = Shake128::new().finalize_xof();
@@ -52,7 +52,7 @@ fn is_published(
 /// 100 key pairs and signatures of ML-DSA-44.
 #[test]
 fn accumulated_44(rt: HostRuntime) -> Result<(), Fail> {
-    let given = accumulated::<ml_dsa_44::KG, _, _, 1312, 2420>();
+    let given = accumulated::<ml_dsa_44::KG, 1312, 2420>();
     assert!(rt; is_published(rt.alloc(), given, 0)?);
     Ok(())
 }
@@ -60,7 +60,7 @@ fn accumulated_44(rt: HostRuntime) -> Result<(), Fail> {
 /// 100 key pairs and signatures of ML-DSA-65.
 #[test]
 fn accumulated_65(rt: HostRuntime) -> Result<(), Fail> {
-    let given = accumulated::<ml_dsa_65::KG, _, _, 1952, 3309>();
+    let given = accumulated::<ml_dsa_65::KG, 1952, 3309>();
     assert!(rt; is_published(rt.alloc(), given, 1)?);
     Ok(())
 }
@@ -68,7 +68,7 @@ fn accumulated_65(rt: HostRuntime) -> Result<(), Fail> {
 /// 100 key pairs and signatures of ML-DSA-87.
 #[test]
 fn accumulated_87(rt: HostRuntime) -> Result<(), Fail> {
-    let given = accumulated::<ml_dsa_87::KG, _, _, 2592, 4627>();
+    let given = accumulated::<ml_dsa_87::KG, 2592, 4627>();
     assert!(rt; is_published(rt.alloc(), given, 2)?);
     Ok(())
 }

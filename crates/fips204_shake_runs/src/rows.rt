@@ -18,16 +18,16 @@ fn sha256(bytes: &[u8]) -> [u8; 32] {
 }
 
 /// The SHA-256 of the public key of a seed, of its private key, and of its signature; and whether the signature is accepted.
-fn hashes<K, P, S, const PK: usize, const SK: usize, const SIG: usize>(
+fn hashes<K, const PK: usize, const SK: usize, const SIG: usize>(
     seed: &[u8; 32],
     random: &[u8; 32],
     context: &[u8],
     message: &[u8],
 ) -> Result<([[u8; 32]; 3], bool), Fault>
 where
-    K: KeyGen<PublicKey = P, PrivateKey = S>,
-    P: SerDes<ByteArray = [u8; PK]> + Verifier<Signature = [u8; SIG]> + Drop,
-    S: SerDes<ByteArray = [u8; SK]> + Signer<Signature = [u8; SIG]> + Drop,
+    K: KeyGen,
+    K::PublicKey: SerDes<ByteArray = [u8; PK]> + Drop,
+    K::PrivateKey: SerDes<ByteArray = [u8; SK]> + Signer<Signature = [u8; SIG]> + Drop,
     requires { (PK < 2 ^ 63) × (SK < 2 ^ 63) × (SIG < 2 ^ 63) }
 {
     let (public, private) = K::keygen_from_seed(seed)?;
@@ -52,14 +52,14 @@ fn bytes(text: &str) -> Result<[[u8; 32]; 5], Fail> {
 }
 
 /// Whether a row is what the set gives, and its signature is accepted.
-fn is_given<K, P, S, const PK: usize, const SK: usize, const SIG: usize>(
+fn is_given<K, const PK: usize, const SK: usize, const SIG: usize>(
     alloc: Global,
     row: &str,
 ) -> Result<bool, Fail>
 where
-    K: KeyGen<PublicKey = P, PrivateKey = S>,
-    P: SerDes<ByteArray = [u8; PK]> + Verifier<Signature = [u8; SIG]> + Drop,
-    S: SerDes<ByteArray = [u8; SK]> + Signer<Signature = [u8; SIG]> + Drop,
+    K: KeyGen,
+    K::PublicKey: SerDes<ByteArray = [u8; PK]> + Drop,
+    K::PrivateKey: SerDes<ByteArray = [u8; SK]> + Signer<Signature = [u8; SIG]> + Drop,
     requires { (PK < 2 ^ 63) × (SK < 2 ^ 63) × (SIG < 2 ^ 63) }
 {
     let (fixed, spoken) = row.split_once(' ').unwrap_or(("", ""));
@@ -67,7 +67,7 @@ where
     let context = hex::decode(alloc, context)?;
     let message = hex::decode(alloc, message)?;
     let [seed, random, public, private, signature] = bytes(fixed)?;
-    let given = hashes::<K, P, S, PK, SK, SIG>(
+    let given = hashes::<K, PK, SK, SIG>(
         &seed,
         &random,
         context.as_slice(),
@@ -80,7 +80,7 @@ where
 #[test]
 fn rows_of_44(rt: HostRuntime) -> Result<(), Fail> {
     for row in &ROWS_44 {
-        assert!(rt; is_given::<ml_dsa_44::KG, _, _, 1312, 2560, 2420>(rt.alloc(), row)?);
+        assert!(rt; is_given::<ml_dsa_44::KG, 1312, 2560, 2420>(rt.alloc(), row)?);
     }
     Ok(())
 }
@@ -89,7 +89,7 @@ fn rows_of_44(rt: HostRuntime) -> Result<(), Fail> {
 #[test]
 fn rows_of_65(rt: HostRuntime) -> Result<(), Fail> {
     for row in &ROWS_65 {
-        assert!(rt; is_given::<ml_dsa_65::KG, _, _, 1952, 4032, 3309>(rt.alloc(), row)?);
+        assert!(rt; is_given::<ml_dsa_65::KG, 1952, 4032, 3309>(rt.alloc(), row)?);
     }
     Ok(())
 }
@@ -98,7 +98,7 @@ fn rows_of_65(rt: HostRuntime) -> Result<(), Fail> {
 #[test]
 fn rows_of_87(rt: HostRuntime) -> Result<(), Fail> {
     for row in &ROWS_87 {
-        assert!(rt; is_given::<ml_dsa_87::KG, _, _, 2592, 4896, 4627>(rt.alloc(), row)?);
+        assert!(rt; is_given::<ml_dsa_87::KG, 2592, 4896, 4627>(rt.alloc(), row)?);
     }
     Ok(())
 }
@@ -110,7 +110,7 @@ fn test_browser_message(rt: HostRuntime) -> Result<(), Fail> {
     let (mut seed, mut random) = ([0u8; 32], [0u8; 32]);
     generator.fill_bytes(&mut seed);
     generator.fill_bytes(&mut random);
-    let given = hashes::<ml_dsa_44::KG, _, _, 1312, 2560, 2420>(&seed, &random, b"", b"asdf");
+    let given = hashes::<ml_dsa_44::KG, 1312, 2560, 2420>(&seed, &random, b"", b"asdf");
     let [public, private, signature, ..] = bytes(BROWSER)?;
     assert_eq!(rt; given, Ok(([public, private, signature], true)));
     Ok(())

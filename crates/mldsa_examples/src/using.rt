@@ -1,7 +1,7 @@
 //! The calls of the library one after the other, as docs/USING.md shows them.
 #![tactic(auto)]
 
-ghost use Rattle.std.specs.Prelude.{◌≡◌, true, Ok, IfOk};
+ghost use Rattle.std.specs.Prelude.{◌≡◌, true, Ok, Err, IfOk, MatchResult};
 
 use fips204::ml_dsa_44::{self, PK_LEN, SIG_LEN, SK_LEN};
 use fips204::pre_hash::SHA2_256;
@@ -98,12 +98,36 @@ where
     Ok(public.verify(message, &signature, CONTEXT))
 }
 
-/// The bytes of the private key of a seed, for any of the three sets.
-fn private_bytes<K, P, S, const SK: usize>(seed: &[u8; 32]) -> Result<[u8; SK], Fault>
+/// Makes the pair of a seed at any of the three sets, keeps both keys as bytes, reads them back, signs with the one and
+/// verifies with the other. Keeping them adds no error, and the answer is never false.
+fn stands_when_stored<K, const PK: usize, const SK: usize, const SIG: usize>(
+    seed: &[u8; 32],
+    random: &[u8; 32],
+    message: &[u8],
+) -> Result<bool, Fault>
 where
-    K: KeyGen<PublicKey = P, PrivateKey = S>,
-    P: Drop,
-    S: SerDes<ByteArray = [u8; SK]> + Drop,
+    K: KeyGen,
+    K::PublicKey: SerDes<ByteArray = [u8; PK]> + Drop,
+    K::PrivateKey: SerDes<ByteArray = [u8; SK]> + Signer<Signature = [u8; SIG]> + Drop,
+    ensures { MatchResult (K.generated seed.now)
+        (λ keys. MatchResult (K.PrivateKey.signs keys.1 random.now message.now CONTEXT.now)
+            (λ _. result ≡ Ok true) (λ fault. result ≡ Err fault))
+        (λ fault. result ≡ Err fault) }
+{
+    let (public, private) = K::keygen_from_seed(seed)?;
+    let (public, private) = (public.into_bytes(), private.into_bytes());
+    let private = K::PrivateKey::try_from_bytes(private)?;
+    let signature = private.try_sign_with_seed(random, message, CONTEXT)?;
+    let public = K::PublicKey::try_from_bytes(public)?;
+    Ok(public.verify(message, &signature, CONTEXT))
+}
+
+/// The bytes of the private key of a seed, for any of the three sets.
+fn private_bytes<K>(seed: &[u8; 32]) -> Result<<K::PrivateKey as SerDes>::ByteArray, Fault>
+where
+    K: KeyGen,
+    K::PublicKey: Drop,
+    K::PrivateKey: Drop,
 {
     let (_, private) = K::keygen_from_seed(seed)?;
     Ok(private.into_bytes())
@@ -181,7 +205,7 @@ fn three_messages(rt: HostRuntime) {
 /// A key whose t0 has other bits in its first polynomial is not whole, and this signature of it is not accepted.
 #[test]
 fn a_key_that_is_not_whole(rt: HostRuntime) -> Result<(), Fail> {
-    let mut key = private_bytes::<Keys, _, _, 2560>(&[7; 32])?;
+    let mut key = private_bytes::<Keys>(&[7; 32])?;
     for byte in &mut key[896..1312] {
         *byte ^= 0xff;
     }
@@ -192,13 +216,27 @@ fn a_key_that_is_not_whole(rt: HostRuntime) -> Result<(), Fail> {
 /// One generic function signs and verifies at each set with a key read back from its bytes.
 #[test]
 fn one_function_at_three_sets(rt: HostRuntime) -> Result<(), Fail> {
-    let key = private_bytes::<Keys, _, _, 2560>(&[7; 32])?;
+    let key = private_bytes::<Keys>(&[7; 32])?;
     assert!(rt; stands::<Private, _, _>(key, &[0; 32], b"a message")?);
-    let key = private_bytes::<ml_dsa_65::KG<Sha256Ctr, Sha512Ctr>, _, _, 4032>(&[7; 32])?;
+    let key = private_bytes::<ml_dsa_65::KG<Sha256Ctr, Sha512Ctr>>(&[7; 32])?;
     let stands_65 = stands::<ml_dsa_65::PrivateKey<Sha256Ctr, Sha512Ctr>, _, _>;
     assert!(rt; stands_65(key, &[0; 32], b"a message")?);
-    let key = private_bytes::<ml_dsa_87::KG<Sha256Ctr, Sha512Ctr>, _, _, 4896>(&[7; 32])?;
+    let key = private_bytes::<ml_dsa_87::KG<Sha256Ctr, Sha512Ctr>>(&[7; 32])?;
     let stands_87 = stands::<ml_dsa_87::PrivateKey<Sha256Ctr, Sha512Ctr>, _, _>;
     assert!(rt; stands_87(key, &[0; 32], b"a message")?);
+    Ok(())
+}
+
+/// One generic function makes, stores, reads back, signs and verifies at each set.
+#[test]
+fn stored_at_three_sets(rt: HostRuntime) -> Result<(), Fail> {
+    let stands_65 = stands_when_stored::<ml_dsa_65::KG<Sha256Ctr, Sha512Ctr>, _, _, _>;
+    let stands_87 = stands_when_stored::<ml_dsa_87::KG<Sha256Ctr, Sha512Ctr>, _, _, _>;
+    let stands = [
+        stands_when_stored::<Keys, _, _, _>(&[7; 32], &[0; 32], b"a message")?,
+        stands_65(&[7; 32], &[0; 32], b"a message")?,
+        stands_87(&[7; 32], &[0; 32], b"a message")?,
+    ];
+    assert!(rt; stands == [true; 3]);
     Ok(())
 }

@@ -1,3 +1,4 @@
+mod Buffered
 mod Endings
 mod Judging
 pub mod LinesInSequence

@@ -12,7 +12,7 @@ use Rattle.fips204.specs.Encodings.{public_key_bytes, private_key_bytes}
 use Rattle.fips204.specs.Completeness.{SignedIsAccepted, IsPair, AcceptsSigned}
 use Rattle.fips204.specs.Keys.{PublicParts, PrivateParts, ArePrivateParts, IsPublicKeyOf, IsPrivateKeyOf, IsWhole, TellsWhole}
 use Rattle.fips204.specs.ParameterSets.{ParameterSet, is_parameter_set, signature_length}
-use Rattle.fips204.specs.Refusals.{generated, derived, message_fault, sign_message, Draws}
+use Rattle.fips204.specs.Refusals.{generated, derived, sign_message, Draws}
 use Rattle.fips204_shake.specs.Fronts.{shake256_front, shake128_front, length-shake256_front}
 use Rattle.mlsign_files.specs.Keys.{PrivateParts as FileParts, Seed, Expanded, Both, HasPrivateSizes, private_length}
 use Rattle.mlsign_files.specs.declared.algorithm.Algorithm.{Algorithm}
@@ -25,6 +25,7 @@ use Rattle.mlsign_files.proofs.KeyFiles.{public_of_file, private_of_file}
 use Rattle.mlsign_files.specs.declared.algorithm.Algorithm.TheVariants.{MlDsa44, MlDsa65, MlDsa87}
 use Rattle.mlsign_engine.specs.InnerSteps.{HasPrivate, HasLengths, SignsAt}
 use Rattle.mlsign_engine.specs.Messages.{GivesAll}
+use Rattle.fips204.specs.SigningInputs.{message_fault}
 
 long_fronts : (x : List ℕ) → 4096 ≤ length (shake256_front x)
 long_fronts x = omega (arith, length-shake256_front x)

@@ -3,9 +3,9 @@
 #![tactic(auto)]
 
 ghost use Rattle.std.specs.Prelude.{◌≡◌, ◌↔◌, length, map, IsTrue};
-ghost use Rattle.fips204.specs.Framing.{message_hash};
-ghost use Rattle.fips204.specs.Prepared.{sign_prepared, sign_message_prepared, sign_digest_prepared, AcceptedIfWholePrepared, SignsEach, VerifiesEach, VerifiesPrepared, VerifiesMessagePrepared, VerifiesDigestPrepared};
-ghost use Rattle.fips204.specs.Refusals.{message_fault, digest_fault, DrawsIf, DrawsUnless};
+ghost use Rattle.fips204.specs.Framing.{message_hash, plain, hashed};
+ghost use Rattle.fips204.specs.Prepared.{sign_prepared, sign_message_prepared, sign_digest_prepared, AcceptedIfWholePrepared, IsEachSigned, IsEachJudged, VerifiesPrepared, VerifiesMessagePrepared, VerifiesDigestPrepared};
+ghost use Rattle.fips204.specs.Refusals.{input_fault, DrawsIf, DrawsUnless};
 
 use crate::ml_dsa;
 use crate::sets::{HasSet, Matrix, Set, SignatureSizes, sized_params};
@@ -48,7 +48,7 @@ where
         message: &[u8],
         ctx: &[u8],
     ) -> Result<[u8; SIG_LEN], Fault>
-        ensures answer { DrawsUnless (message_fault ctx.now) R.gives R.refuses rng.old rng.new Fault.SignRng
+        ensures answer { DrawsUnless (input_fault (plain message.now ctx.now)) R.gives R.refuses rng.old rng.new Fault.SignRng
             (λ rnd. sign_message_prepared S.set H.front self.now rnd message.now ctx.now) result }
         ensures accepted { AcceptedIfWholePrepared S.set self.now
             (λ pk signature. VerifiesMessagePrepared S.set H.front pk message.now signature ctx.now) result }
@@ -79,7 +79,7 @@ where
         ctx: &[u8],
         hash_oid: &[u8],
     ) -> Result<[u8; SIG_LEN], Fault>
-        ensures answer { DrawsUnless (digest_fault hash.now ctx.now hash_oid.now) R.gives R.refuses rng.old rng.new Fault.HashRng
+        ensures answer { DrawsUnless (input_fault (hashed hash.now ctx.now hash_oid.now)) R.gives R.refuses rng.old rng.new Fault.HashRng
             (λ rnd. sign_digest_prepared S.set H.front self.now rnd hash.now ctx.now hash_oid.now) result }
         ensures accepted { AcceptedIfWholePrepared S.set self.now
             (λ pk signature. VerifiesDigestPrepared S.set H.front pk hash.now signature ctx.now hash_oid.now) result }
@@ -143,7 +143,8 @@ where
     )
         requires seeds { length seeds.now ≡ length messages.now }
         requires room { length out.old ≡ length messages.now }
-        ensures { SignsEach S.set H.front self.now seeds.now (map (λ m. m.now) messages.now) ctx.now out.new }
+        ensures { IsEachSigned (λ rnd message. sign_message_prepared S.set H.front self.now rnd message ctx.now)
+            seeds.now (map (λ m. m.now) messages.now) out.new }
     {
         for i in 0..messages.len() {
             out[i] = self.try_sign_with_seed(&seeds[i], messages[i], ctx);
@@ -216,7 +217,8 @@ where
     )
         requires signatures { length signatures.now ≡ length messages.now }
         requires room { length out.old ≡ length messages.now }
-        ensures { VerifiesEach S.set H.front self.now (map (λ m. m.now) messages.now) signatures.now ctx.now out.new }
+        ensures { IsEachJudged (λ message signature. VerifiesMessagePrepared S.set H.front self.now message signature ctx.now)
+            (map (λ m. m.now) messages.now) signatures.now out.new }
     {
         for i in 0..messages.len() {
             out[i] = self.verify(messages[i], &signatures[i], ctx);

@@ -1,25 +1,35 @@
 //! What a caller gets of a call by a law. No code calls these functions: they show what the laws must say.
 #![tactic(auto)]
 
-ghost use Rattle.std.specs.Prelude.{◌≡◌, ◌≢◌, ℕ, List, [], true, None, Ok, Err, IfOk, IsTrue, MatchResult, replicate, slice_index_or};
+ghost use Rattle.std.specs.Prelude.{◌≡◌, ◌≢◌, ◌↔◌, ◌<◌, ◌≤◌, ◌+◌, ◌*◌, ◌%◌, ◌^◌, ℕ, pos, ◌-ℤ◌, nat_abs, List, [], true, Some, None, Ok, Err, IfOk, IsTrue, MatchResult, replicate, slice_index_or};
 ghost use Rattle.fips204_base.specs.Encodings.{IsSignature, Spells};
+ghost use Rattle.fips204_base.specs.Residues.{centred, coefficients, norm};
+ghost use Rattle.fips204_base.specs.Rounding.{high_bits, low_bits, make_hint, use_hint};
+ghost use Rattle.fips204_base.specs.Sampling.{challenge};
 ghost use Rattle.fips204_base.specs.Streams.{counter_blocks, sha256_front, sha256_long_front, sha512_front, sha512_long_front, IsPrefix};
+ghost use Rattle.fips204_base.specs.Transforms.{bit_reversed, inverse_transform, pointwise, product, transform};
+ghost use Rattle.fips204_base.specs.Vectors.{polynomial_of};
+ghost use Rattle.fips204_base.specs.declared.helpers.zeta_table.TheConstants.{ZETA_TABLE_MONT};
 ghost use Rattle.fips204_base.specs.declared.types.R.{R};
 ghost use Rattle.fips204.specs.Acceptance.{Verifies};
-ghost use Rattle.fips204.specs.Framing.{framed};
+ghost use Rattle.fips204.specs.Framing.{framed, plain};
 ghost use Rattle.fips204.specs.Keys.{PublicParts, IsWhole};
 ghost use Rattle.fips204.specs.LongerFronts.{IsDecided};
 ghost use Rattle.fips204.specs.ParameterSets.{set_44, set_65, set_87};
-ghost use Rattle.fips204.specs.Prepared.{sign_message_prepared};
-ghost use Rattle.fips204.specs.Refusals.{generated, message_fault};
+ghost use Rattle.fips204.specs.Prepared.{sign_message_prepared, VerifiesMessagePrepared};
+ghost use Rattle.fips204.specs.Refusals.{generated, input_fault};
 ghost use Rattle.fips204.specs.SchemeLaws.{NamesCollision, NamesKeyCollision};
 ghost use Rattle.fips204.specs.Sets.{set_of};
 
 use super::{
-    binding, counter_fronts, framing, hint_spelling, longer_front, prepared_keys,
-    signature_spelling, signed_is_accepted,
+    binding, challenge_product_bound, constants, counter_fronts, framing, high_bits_stay,
+    hint_spelling, inverse_of_transform, longer_front, prepared_keys, product_of_transforms,
+    signature_spelling, signed_is_accepted, use_hint_distance, use_hint_of_make_hint,
 };
-use crate::ml_dsa_44::{KG, PK_LEN, PreparedPrivateKey, PrivateKey, PublicKey, SIG_LEN};
+use crate::ml_dsa::key_gen_internal;
+use crate::ml_dsa_44::{
+    PK_LEN, PreparedPrivateKey, PreparedPublicKey, PrivateKey, PublicKey, SIG_LEN,
+};
 use crate::traits::{KeyGen, SerDes, Signer, Verifier};
 use crate::types::{ML_DSA_44, ML_DSA_65, ML_DSA_87, Params};
 use crate::xof::{Fill, Sha256Ctr, Sha256CtrLong, Sha512Ctr, Sha512CtrLong, Xof};
@@ -31,7 +41,7 @@ pub(crate) fn derived_of_seed<H: Xof, G: Xof>(xi: &[u8; 32]) -> Result<PublicKey
     ensures { MatchResult (generated set_44 H.front G.front xi.now) (λ pair. result ≡ Ok pair.0) (λ fault. result ≡ Err fault) }
 {
     signed_is_accepted();
-    let (_, private) = KG::<H, G>::keygen_from_seed(xi)?;
+    let (_, private) = key_gen_internal::<4, 4, PK_LEN, H, G>(&ML_DSA_44, xi)?;
     private.get_public_key()
 }
 
@@ -40,7 +50,7 @@ pub(crate) fn whole_of_seed<H: Xof, G: Xof>(xi: &[u8; 32]) -> Result<bool, Fault
     ensures { MatchResult (generated set_44 H.front G.front xi.now) (λ _. result ≡ Ok true) (λ fault. result ≡ Err fault) }
 {
     signed_is_accepted();
-    let (_, private) = KG::<H, G>::keygen_from_seed(xi)?;
+    let (_, private) = key_gen_internal::<4, 4, PK_LEN, H, G>(&ML_DSA_44, xi)?;
     private.is_whole()
 }
 
@@ -72,9 +82,33 @@ pub(crate) fn stored_pair_accepts<H: Xof, G: Xof>(
     ensures { IfOk result (λ answer. answer ≡ true) }
 {
     signed_is_accepted();
-    let (public, private) = KG::<H, G>::keygen_from_seed(xi)?;
+    let (public, private) = key_gen_internal::<4, 4, PK_LEN, H, G>(&ML_DSA_44, xi)?;
     let public = PublicKey::<H, G>::try_from_bytes(public.into_bytes())?;
     let private = PrivateKey::<H, G>::try_from_bytes(private.into_bytes())?;
+    let signature = private.try_sign_with_seed(rnd, message, ctx)?;
+    Ok(public.verify(message, &signature, ctx))
+}
+
+/// The same with the trait's word alone, at any scheme that makes keys: both keys of a seed, each read from its bytes,
+/// go together. Reading them adds no error.
+pub(crate) fn stored_keys_accept<K, const PK: usize, const SK: usize, const SIG: usize>(
+    xi: &[u8; 32],
+    rnd: &[u8; 32],
+    message: &[u8],
+    ctx: &[u8],
+) -> Result<bool, Fault>
+where
+    K: KeyGen,
+    K::PublicKey: SerDes<ByteArray = [u8; PK]> + Drop,
+    K::PrivateKey: SerDes<ByteArray = [u8; SK]> + Signer<Signature = [u8; SIG]> + Drop,
+    ensures { MatchResult (K.generated xi.now)
+        (λ keys. MatchResult (K.PrivateKey.signs keys.1 rnd.now message.now ctx.now)
+            (λ _. result ≡ Ok true) (λ fault. result ≡ Err fault))
+        (λ fault. result ≡ Err fault) }
+{
+    let (public, private) = K::keygen_from_seed(xi)?;
+    let public = K::PublicKey::try_from_bytes(public.into_bytes())?;
+    let private = K::PrivateKey::try_from_bytes(private.into_bytes())?;
     let signature = private.try_sign_with_seed(rnd, message, ctx)?;
     Ok(public.verify(message, &signature, ctx))
 }
@@ -132,7 +166,7 @@ pub(crate) fn accepted_under_both<H: Xof, G: Xof>(
 
 /// Two messages under contexts that are short enough are the same where their framed messages are.
 pub(crate) fn one_message()
-    ensures { (m n c d : List ℕ) → message_fault c ≡ None → message_fault d ≡ None → framed m c ≡ framed n d → (m ≡ n) × (c ≡ d) }
+    ensures { (m n c d : List ℕ) → input_fault (plain m c) ≡ None → input_fault (plain n d) ≡ None → framed m c ≡ framed n d → (m ≡ n) × (c ≡ d) }
 {
     framing();
 }
@@ -176,4 +210,56 @@ pub(crate) fn named_rows() -> (Params, Params, Params)
     ensures { (set_of result.0 ≡ set_44) × (set_of result.1 ≡ set_65) × (set_of result.2 ≡ set_87) }
 {
     (ML_DSA_44, ML_DSA_65, ML_DSA_87)
+}
+
+/// Whether the second of two signatures is accepted, by `verify_each`.
+pub(crate) fn second_verdict<H: Xof>(
+    key: &PreparedPublicKey<H>,
+    first: &[u8],
+    second: &[u8],
+    signatures: &[[u8; SIG_LEN]; 2],
+    ctx: &[u8],
+) -> bool
+    ensures { IsTrue result ↔ VerifiesMessagePrepared set_44 H.front key.now second.now (slice_index_or signatures.now 1 []) ctx.now }
+{
+    let mut answers = [false; 2];
+    key.verify_each(&[first, second], signatures, ctx, &mut answers);
+    answers[1]
+}
+
+/// The table of the butterflies, place by place.
+pub(crate) fn powers_by_place()
+    ensures { (m : ℕ) → m < 256 → slice_index_or ZETA_TABLE_MONT m (pos 0) ≡ pos (1753 ^ bit_reversed m % 8380417 * 4294967296 % 8380417) }
+{
+    constants();
+}
+
+/// The last coefficient of a product, and of a polynomial, by way of transforms.
+pub(crate) fn last_by_transforms()
+    ensures product { (a b : ℕ → ℕ) → inverse_transform (pointwise (transform a) (transform b)) 255 ≡ product a b 255 }
+    ensures back { (w : ℕ → ℕ) → (inverse_transform (transform w) 255 ≡ w 255 % 8380417) × (transform (inverse_transform w) 255 ≡ w 255 % 8380417) }
+{
+    product_of_transforms();
+    inverse_of_transform();
+}
+
+/// Hints and high bits of set 44, up to the bounds of the laws.
+pub(crate) fn rounding_of_44()
+    ensures hint { (z r : ℕ) → r < 8380417 → z < 8380417 → nat_abs (centred (pos z)) ≤ 95232
+        → use_hint 95232 (make_hint 95232 z r) r ≡ high_bits 95232 ((r + z) % 8380417) }
+    ensures near { (r : ℕ) → r < 8380417 → nat_abs (centred (pos r -ℤ pos (use_hint 95232 true r * (2 * 95232)))) ≤ 2 * 95232 + 1 }
+    ensures same { (r s : ℕ) → r < 8380417 → s < 8380417 → nat_abs (centred (pos s)) ≤ 78 → nat_abs (low_bits 95232 r) + 78 < 95232
+        → high_bits 95232 ((r + s) % 8380417) ≡ high_bits 95232 r }
+{
+    use_hint_of_make_hint();
+    use_hint_distance();
+    high_bits_stay();
+}
+
+/// A challenge of set 44 times a polynomial of norm 2.
+pub(crate) fn product_of_44()
+    ensures { (front : List ℕ) (c s : R) → challenge 39 front ≡ Some c → norm s.0 ≤ 2
+        → norm (polynomial_of (λ n. pos (product (coefficients c.0) (coefficients s.0) n))).0 ≤ 78 }
+{
+    challenge_product_bound();
 }

@@ -2,7 +2,8 @@
 #![tactic(auto)]
 
 ghost use Rattle.std.specs.Prelude.{◌≡◌, ◌<◌, ◌≤ℤ◌, pos, nat_abs, ok_or, slice_index};
-ghost use Rattle.fips204_base.specs.Sampling.{challenge, sign_of};
+ghost use Rattle.fips204_base.specs.Network.{sign_of};
+ghost use Rattle.fips204_base.specs.Sampling.{challenge};
 ghost use Rattle.fips204_base.specs.Packing.{bits};
 
 use crate::fault::Fault;

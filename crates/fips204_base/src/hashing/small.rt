@@ -1,9 +1,9 @@
 //! Small polynomials, from the stream in the place of SHAKE256.
 #![tactic(auto)]
 
-ghost use Rattle.std.specs.Prelude.{◌≡◌, ◌≤◌, ◌+◌, length, nat_abs, ok_or, IfOk, IfErr, Some};
+ghost use Rattle.std.specs.Prelude.{◌≡◌, ◌≤◌, ◌+◌, ◌⊎◌, length, nat_abs, ok_or, IfOk, IfErr, Some, None};
 ghost use Rattle.std.specs.List.{flat_map};
-ghost use Rattle.fips204_base.specs.Sampling.{IsEta, LacksSmallVector, kept_half_bytes, small_polynomial, small_vector};
+ghost use Rattle.fips204_base.specs.Sampling.{IsEta, kept_half_bytes, small_polynomial, small_vector, small_vectors};
 ghost use Rattle.fips204_base.specs.Network.{AreKept};
 
 use crate::conversion::coeff_from_half_byte;
@@ -91,9 +91,7 @@ pub fn expand_s<const K: usize, const L: usize, H: Xof>(
 ) -> Result<([R; L], [R; K]), Fault>
     requires eta { IsEta eta }
     requires shape { (K ≤ 8) × (L ≤ 7) }
-    ensures s1 { IfOk result (λ vectors. small_vector (nat_abs eta) H.front rho.now 0 L ≡ Some vectors.0) }
-    ensures s2 { IfOk result (λ vectors. small_vector (nat_abs eta) H.front rho.now L K ≡ Some vectors.1) }
-    ensures limit { IfErr result (λ fault. (fault ≡ Fault.SamplingLimit) × LacksSmallVector (nat_abs eta) H.front rho.now K L) }
+    ensures { result ≡ ok_or (small_vectors (nat_abs eta) H.front rho.now K L) Fault.SamplingLimit }
 {
     let mut s1 = [R0; L];
     let mut s2 = [R0; K];
@@ -113,7 +111,8 @@ pub fn write_expanded_s<const K: usize, const L: usize, H: Xof>(
     requires shape { (K ≤ 8) × (L ≤ 7) }
     ensures s1 { IfOk result (λ _. small_vector (nat_abs eta) H.front rho.now 0 L ≡ Some s1.new) }
     ensures s2 { IfOk result (λ _. small_vector (nat_abs eta) H.front rho.now L K ≡ Some s2.new) }
-    ensures limit { IfErr result (λ fault. (fault ≡ Fault.SamplingLimit) × LacksSmallVector (nat_abs eta) H.front rho.now K L) }
+    ensures limit { IfErr result (λ fault. (fault ≡ Fault.SamplingLimit)
+        × ((small_vector (nat_abs eta) H.front rho.now 0 L ≡ None) ⊎ (small_vector (nat_abs eta) H.front rho.now L K ≡ None))) }
 {
     write_small_polynomials::<L, H>(eta, rho, 0, s1)?;
     write_small_polynomials::<K, H>(eta, rho, L, s2)?;

@@ -1,5 +1,5 @@
-use Rattle.fips204_base.proofs.Products.{inverse_of_transform_listed}
+use Rattle.fips204_base.proofs.Products.{inverse_of_transforms}
 use Rattle.fips204.proofs.laws.inverse_of_transform.Goals as goal
 
 pub returns : goal.returns
-returns _ = inverse_of_transform_listed
+returns _ = inverse_of_transforms

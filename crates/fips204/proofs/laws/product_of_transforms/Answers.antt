@@ -1,5 +1,5 @@
-use Rattle.fips204_base.proofs.Products.{product_of_transforms_listed}
+use Rattle.fips204_base.proofs.Products.{product_of_transforms}
 use Rattle.fips204.proofs.laws.product_of_transforms.Goals as goal
 
 pub returns : goal.returns
-returns _ = product_of_transforms_listed
+returns _ = product_of_transforms

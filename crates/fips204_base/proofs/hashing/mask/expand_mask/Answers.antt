@@ -1,19 +1,20 @@
-use Rattle.std.proofs.Common.{ℕ, ◌≡◌, ◌+◌, ◌<◌, ◌++◌, [], get_or, nat_abs, to_z, of_z, arith, rules}
+use Rattle.std.proofs.Common.{ℕ, ◌≡◌, ◌+◌, ◌<◌, ◌++◌, [], get_or, nat_abs, sym, ◌∙◌, to_z, of_z, arith, rules}
 use Rattle.std.specs.Int.{w16, w32, to_le_bytes}
 use Rattle.std.proofs.lemmas.List.FromFn.{fill_by_all}
 use Rattle.fips204_base.specs.declared.types.R.{R}
-use Rattle.fips204_base.specs.Sampling.{mask, mask_polynomial}
+use Rattle.fips204_base.specs.Sampling.{mask}
+use Rattle.fips204_base.proofs.Masks.{mask-is}
 use Rattle.fips204_base.proofs.hashing.mask.expand_mask.Goals as goal
+use Rattle.fips204_base.specs.Network.{mask_polynomial}
 
 pub loop-r-preserved : goal.loop-r-preserved
 loop-r-preserved g c = search rules
 
 pub returns : goal.returns
-unfolding mask
 returns g c =
     let gamma1 : to_z w32 (of_z w32 c.args.gamma1) ≡ c.args.gamma1 = search rules in
     let end : c.loop-r.r ≡ g.row.L = omega (arith, c.loop-r-test.false, c.loop-r.auto.r-end) in
     let polynomial = λ (r : ℕ). mask_polynomial (nat_abs c.args.gamma1) (g.H.Xof.front (c.args.rho.now ++ to_le_bytes w16 (c.args.mu + r))) in
     let none : R = record { 0 = [] } in
     let each : (k : ℕ) → k < g.row.L → get_or c.loop-r.polynomials k none ≡ polynomial k = λ k l. rw gamma1 at (c.loop-r.invariant.1 k none (rw end l)) in
-    fill_by_all polynomial c.loop-r.polynomials g.row.L none c.loop-r.invariant.0 each
+    fill_by_all polynomial c.loop-r.polynomials g.row.L none c.loop-r.invariant.0 each ∙ sym (mask-is (nat_abs c.args.gamma1) g.H.Xof.front c.args.rho.now g.row.L c.args.mu)

@@ -1,8 +1,8 @@
 use Rattle.std.proofs.Common.{◌≡◌, ℕ, ◌+◌, ◌<◌, ◌++◌, length, get_or, nat_abs}
 use Rattle.std.specs.Int.{w16, to_le_bytes}
 use Rattle.fips204_base.specs.declared.types.R.{R}
-use Rattle.fips204_base.specs.Sampling.{mask_polynomial}
 use Rattle.fips204_base.proofs.hashing.mask.expand_mask.Given as goal
+use Rattle.fips204_base.specs.Network.{mask_polynomial}
 
 abbrev pub invariant-loop-r : goal.invariant-loop-r
 invariant-loop-r g l =

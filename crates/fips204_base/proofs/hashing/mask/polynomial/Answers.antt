@@ -1,9 +1,10 @@
 use Rattle.std.proofs.Common.{ℤ, ◌≡◌, ◌∙◌, ◌*◌, ◌++◌, length, take, pos, nat_abs, ◌-ℤ◌, append-nil, to_z, of_z, inl, inr, ◌⊎◌, ◌-◌, refl, ap, rules}
 use Rattle.std.specs.Int.{w16, w32, to_le_bytes}
-use Rattle.fips204_base.specs.Sampling.{mask_width, unpacked}
+use Rattle.fips204_base.specs.Sampling.{unpacked}
 use Rattle.fips204_base.specs.Packing.{Unpacks}
 use Rattle.fips204_base.proofs.Masks.{as_long, mask_width-is, mask_is_unpacked}
 use Rattle.fips204_base.proofs.hashing.mask.polynomial.Goals as goal
+use Rattle.fips204_base.specs.Network.{mask_width}
 
 less_read : (gamma1 : ℤ) → (gamma1 ≡ pos 131072) ⊎ (gamma1 ≡ pos 524288) → to_z w32 (of_z w32 (gamma1 -ℤ pos 1)) ≡ gamma1 -ℤ pos 1
 less_read gamma1 (inl e) = rw e refl

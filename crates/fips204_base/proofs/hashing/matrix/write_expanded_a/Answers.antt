@@ -1,7 +1,8 @@
 use Rattle.std.proofs.Common.{◌≡◌, ◌∙◌, Err, arith, rules, refl, sym, subst, length-set}
+use Rattle.fips204_base.specs.Network.{sampled_row}
 use Rattle.fips204_base.specs.Vectors.{MatrixWithin}
 use Rattle.fips204_base.specs.declared.fault.Fault.TheVariants.{SamplingLimit}
-use Rattle.fips204_base.specs.Sampling.{sampled_row, sampled_matrix}
+use Rattle.fips204_base.specs.Sampling.{sampled_matrix}
 use Rattle.fips204_base.proofs.Sampled.{matrix-refused, matrix-within, present_nil, present_next, present_whole}
 use Rattle.fips204_base.proofs.hashing.matrix.write_expanded_a.Goals as goal
 

@@ -1,6 +1,7 @@
 use Rattle.std.proofs.Common.{◌≡◌, length, map, take, Some}
 use Rattle.std.specs.List.{range_with_len}
-use Rattle.fips204_base.specs.Sampling.{sampled_row, all_present}
+use Rattle.fips204_base.specs.Network.{sampled_row}
+use Rattle.fips204_base.specs.Sampling.{all_present}
 use Rattle.fips204_base.proofs.hashing.matrix.write_expanded_a.Given as goal
 
 abbrev pub invariant-loop-r : goal.invariant-loop-r

@@ -1,6 +1,6 @@
 use Rattle.std.proofs.Common.{◌≡◌, ◌∙◌, refl, arith, rules, length-set, Some, None, Err}
+use Rattle.fips204_base.specs.Network.{sampled_entry}
 use Rattle.fips204_base.specs.declared.fault.Fault.TheVariants.{SamplingLimit}
-use Rattle.fips204_base.specs.Sampling.{sampled_entry}
 use Rattle.fips204_base.proofs.Sampled.{all_present-none, present_nil, present_next, present_whole, some_of_ok, none_of_err}
 use Rattle.fips204_base.proofs.hashing.matrix.write_expanded_row.Goals as goal
 

@@ -1,9 +1,10 @@
 use Rattle.std.proofs.Common.{◌≡◌, ◌≢◌, ℕ, ◌<◌, ◌∙◌, [], Err, arith, rules, refl}
 use native.Mathlib.Decide.{dec_lt}
+use Rattle.fips204_base.specs.Network.{sampled_row, plain_row}
 use Rattle.fips204_base.specs.declared.fault.Fault.TheVariants.{SamplingLimit}
-use Rattle.fips204_base.specs.Sampling.{sampled_row, sampled_matrix}
+use Rattle.fips204_base.specs.Sampling.{sampled_matrix}
 use Rattle.fips204_base.specs.Transforms.{row_product}
-use Rattle.fips204_base.specs.Vectors.{plain_row, vector_coefficients}
+use Rattle.fips204_base.specs.Vectors.{vector_coefficients}
 use Rattle.fips204_base.proofs.Sampled.{matrix-refused, all_present-each, row-within}
 use Rattle.fips204_base.proofs.product.matrix.write_sampled_product.Goals as goal
 

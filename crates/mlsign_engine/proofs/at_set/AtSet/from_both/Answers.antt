@@ -10,7 +10,7 @@ pub returns-in-Ok : goal.returns-in-Ok
 returns-in-Ok g c =
     let p = g.S.Set.set in
     let sizes = g.met.S.KeySizes.key_sizes in
-    let made = ap (generated p shake256_front shake128_front) (sym c.array_of.ensures) ∙ sym c.keygen_from_seed.ensures ∙ c.in_ok-_public.was in
+    let made = ap (generated p shake256_front shake128_front) (sym c.array_of.ensures) ∙ sym c.keygen_from_seed.ensures.answer ∙ c.in_ok-_public.was in
     let same : c.into_bytes-bytes.result ≡ c.args.expanded.now =
     sym c.as_slice.ensures ∙ not_different c.as_slice.result.now c.args.expanded.now c.ne.result c.ne.ensures c.if-ne.false in
     let decoded : DecodesPrivate p.eta p.k p.l c.args.expanded.now (Ok c.in-Ok.private) = rw (← sizes.rows, ← sizes.columns, ← same) c.in-Ok.ensures in

@@ -7,5 +7,5 @@ use Rattle.mlsign_engine.proofs.at_set.AtSet.from_seed.Goals as goal
 pub returns : goal.returns
 returns g c =
     let p = g.S.Set.set in
-    let made = ap (generated p shake256_front shake128_front) (sym c.array_of.ensures) ∙ sym c.keygen_from_seed.ensures ∙ c.in_ok-_public.was in
+    let made = ap (generated p shake256_front shake128_front) (sym c.array_of.ensures) ∙ sym c.keygen_from_seed.ensures.answer ∙ c.in_ok-_public.was in
     record { keys = (c.in_ok-_public._public, keys_of_seed p c.signed_is_accepted.ensures g.S.Set.known c.args.seed.now c.in_ok-_public._public c.in_ok-_public.private made); faults = tt }

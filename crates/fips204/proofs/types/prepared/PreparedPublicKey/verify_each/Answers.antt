@@ -22,4 +22,4 @@ loop-i-preserved g c =
 pub returns : goal.returns
 returns g c =
     let size = length-map c.args.messages.now (λ (m : Bor (List ℕ)). m.now) in
-    (c.loop-i.invariant.size ∙ sym size, λ k h. c.loop-i.invariant.judged k (omega (arith, h, size, c.loop-i-test.false)))
+    (c.requires.signatures ∙ sym size, c.loop-i.invariant.size ∙ sym size, λ k h. c.loop-i.invariant.judged k (omega (arith, h, size, c.loop-i-test.false)))

@@ -5,13 +5,14 @@ use Rattle.std.proofs.lemmas.Bool.{ltb-true}
 use Rattle.fips204_base.specs.Encodings.{all_ones}
 use Rattle.fips204_base.specs.Residues.{vector_norm}
 use Rattle.fips204_base.specs.Vectors.{vector_coefficients}
-use Rattle.fips204.specs.Signing.{response, low_vector, ct0, hint_vector, y_plus_cs1}
+use Rattle.fips204.specs.Signing.{response, low_vector, ct0, hint_vector}
 use Rattle.fips204.specs.Sets.{set_of}
 use Rattle.fips204.proofs.RejectionChecks.{rejected-first, rejected-second, rejected-third, rejected-fourth, kept, product-written, product-whole, sum-is, difference-is, response-is, low-is, ct0-is, hint-is, response-range, hint-range, signature_size}
 use Rattle.fips204.proofs.ParameterSets.{limits, rounding-some, rows-few, columns-few}
 use Rattle.fips204.proofs.types.prepared.SigningKey.rejection_checks.Given.{Over}
 use Rattle.fips204.proofs.types.prepared.SigningKey.rejection_checks.Goals as goal
 use Rattle.fips204.proofs.types.prepared.SigningKey.rejection_checks.Goals.{After-has_norm_below, After-has_norm_below-2, After-has_norm_below-3, After-number_of_ones}
+use Rattle.fips204.specs.SigningInputs.{y_plus_cs1}
 
 -- the checks that the calls answer
 first : (g : Over) (c : After-has_norm_below g) → c.has_norm_below.result ≡ nat_lt (vector_norm (response (set_of c.args.p.now) c.self.inside.key.now c.args.y.now c.args.c.now)) (nat_abs c.args.p.now.gamma1 - nat_abs c.args.p.now.beta)
