@@ -1,5 +1,5 @@
 -- What makes the keys of a file consistent.
-use Rattle.std.proofs.Common.{◌≡◌, ℕ, ◌≤◌, ◌<◌, List, length, take, Bool, true, false, not, ltb, Option, None, Result, Ok, Err, refl, sym, ap, subst, ◌∙◌, arith, IsTrue, inl, inr, ◌⊎◌, ◌↔◌}
+use Rattle.std.proofs.Common.{◌≡◌, ℕ, ◌≤◌, List, length, take, Bool, true, false, not, ltb, Option, None, Result, Ok, refl, sym, ap, subst, ◌∙◌, arith, IsTrue, inl, inr, ◌↔◌}
 use Rattle.std.proofs.lemmas.Bool.{le-ltb}
 use Rattle.std.specs.Str.{bytes_eq}
 use Rattle.std.proofs.lemmas.Slice.Eq.{bytes_eq-Decides}
@@ -8,15 +8,15 @@ use Rattle.fips204.specs.fault.Fault.TheVariants.{InternalRng}
 use Rattle.fips204.specs.declared.traits.DummyRng.{DummyRng}
 use Rattle.fips204.specs.Framing.{plain, framed, message_hash}
 use Rattle.fips204.specs.Signing.{sign}
-use Rattle.fips204.specs.Encodings.{public_key_bytes, private_key_bytes}
+use Rattle.fips204.specs.Encodings.{public_key_bytes}
 use Rattle.fips204.specs.Completeness.{SignedIsAccepted, IsPair, AcceptsSigned}
-use Rattle.fips204.specs.Keys.{PublicParts, PrivateParts, ArePrivateParts, IsPublicKeyOf, IsPrivateKeyOf, IsWhole, TellsWhole}
+use Rattle.fips204.specs.Keys.{PublicParts, PrivateParts, ArePrivateParts, IsPublicKeyOf, IsPrivateKeyOf, TellsWhole}
 use Rattle.fips204.specs.ParameterSets.{ParameterSet, is_parameter_set, signature_length}
 use Rattle.fips204.specs.Refusals.{generated, derived, message_fault, sign_message, Draws}
 use Rattle.fips204_shake.specs.Fronts.{shake256_front, shake128_front, length-shake256_front}
 use Rattle.mlsign_files.specs.Keys.{PrivateParts as FileParts, Seed, Expanded, Both, HasPrivateSizes, private_length}
 use Rattle.mlsign_files.specs.declared.algorithm.Algorithm.{Algorithm}
-use Rattle.mlsign_engine.specs.Commands.{HasKeys, IsValid, expanded_bytes, set_of, IsPublicText, IsPrivateText, Judges, Signs, Generates, SignedIsValid}
+use Rattle.mlsign_engine.specs.Commands.{HasKeys, IsValid, expanded_bytes, set_of, IsPublicText, IsPrivateText, Judges, SignedIsValid}
 use Rattle.mlsign_files.specs.Reading.{public_at, private_at}
 use Rattle.mlsign_files.specs.declared.pem.Kind.TheVariants.{Public, Private}
 use Rattle.mlsign_files.proofs.Elements.{ok_is}
@@ -152,12 +152,12 @@ judged_valid algorithm pk public signature context message valid one text judges
 pub signed_valid : (law : SignedIsAccepted) → SignedIsValid
 signed_valid law algorithm seed private public random context message signature valid made signs judges =
     let p = set_of algorithm in
-    let parts : FileParts = Both seed (expanded_bytes p made.sk) in
+    let parts : FileParts = Seed seed in
     let e = same_private private signs.algorithm algorithm signs.parts parts signs.text made.private_text in
     let moved : HasKeys p parts signs.pk signs.sk × IsValid p signs.pk signature context message =
     subst (λ (x : Algorithm × FileParts). HasKeys (set_of x.0) x.1 signs.pk signs.sk × IsValid (set_of x.0) signs.pk signature context message) e
     (signs.keys, signs.accepted) in
-    let keys : key_pair signs.pk signs.sk ≡ key_pair made.pk made.sk = ok_is_of (key_pair signs.pk signs.sk) (key_pair made.pk made.sk) (sym moved.0.stands.0 ∙ made.keys) in
+    let keys : key_pair signs.pk signs.sk ≡ key_pair made.pk made.sk = ok_is_of (key_pair signs.pk signs.sk) (key_pair made.pk made.sk) (sym moved.0.stands ∙ made.keys) in
     let pair = pair_of_seed p law (known_set algorithm) seed made.pk made.sk made.keys in
     judged_valid algorithm made.pk public signature context message valid (λ other. (pair.public_decoded other).0) made.public_text judges
     (subst (λ (x : PublicParts × PrivateParts). IsValid p x.0 signature context message) keys moved.1)

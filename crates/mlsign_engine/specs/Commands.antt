@@ -97,12 +97,12 @@ pub record Signs (private random context message signature : List ℕ) : Type 0 
   pub signed : sign_message (set_of algorithm) shake256_front shake128_front sk random message context ≡ Ok signature
   pub accepted : IsValid (set_of algorithm) pk signature context message
 
--- `keygen`: the texts have both keys of a seed; that of the private one has the seed and the expanded key
+-- `keygen`: the texts have both keys of a seed; that of the private one has the seed
 pub record Generates (algorithm : Algorithm) (seed private public : List ℕ) : Type 0 where
   pub pk : PublicParts
   pub sk : PrivateParts
   pub keys : generated (set_of algorithm) shake256_front shake128_front seed ≡ Ok (pk, sk)
-  pub private_text : IsPrivateText private algorithm (Both seed (expanded_bytes (set_of algorithm) sk))
+  pub private_text : IsPrivateText private algorithm (Seed seed)
   pub public_text : IsPublicText public algorithm (public_key_bytes pk.rho pk.t1)
 
 -- a file's private key is consistent, and its public key has these bytes

@@ -5,13 +5,13 @@ ghost use Rattle.std.specs.Prelude.{◌≡◌, length, Err, IfOk};
 ghost use Rattle.mlsign_files.specs.Keys.{HasPrivateSizes, private_parts, public_length};
 ghost use Rattle.mlsign_files.specs.declared.fault.FileFault.{FileFault};
 ghost use Rattle.mlsign_files.specs.declared.pem.Kind.TheVariants.{Private};
-ghost use Rattle.mlsign_engine.specs.Commands.{HasPublicBytes, HasPublicKey, Publishes, IsPrivateFault, set_of};
+ghost use Rattle.mlsign_engine.specs.Commands.{HasPublicBytes, HasPublicKey, Publishes, IsPublicText, IsPrivateFault, set_of};
 
 use crate::at_set::AtSet;
 use crate::fault::CommandFault;
 use mlsign_files::pem::{self, Kind, LineEnd};
 use mlsign_files::{Algorithm, PrivateKey, read_private, write_public};
-use std::alloc::Global;
+use std::alloc::{AllocError, Global};
 
 /// The text of the public key that belongs to the private key in this text, which is first checked to be consistent.
 ///
@@ -22,8 +22,20 @@ pub fn public(alloc: Global, private: &[u8]) -> Result<Vec<u8>, CommandFault>
     ensures key { (fault : FileFault) → result ≡ Err (CommandFault.Key fault) → IsPrivateFault private.now fault }
 {
     let (algorithm, bytes) = public_bytes(alloc, private)?;
-    let der = write_public(alloc, algorithm, bytes.as_slice())?;
-    Ok(pem::encode(alloc, Kind::Public, LineEnd::Lf, der.as_slice())?)
+    Ok(public_text(alloc, algorithm, bytes.as_slice())?)
+}
+
+/// The text of the public key with these bytes.
+pub(crate) fn public_text(
+    alloc: Global,
+    algorithm: Algorithm,
+    bytes: &[u8],
+) -> Result<Vec<u8>, AllocError>
+    requires { length bytes.now ≡ public_length algorithm }
+    ensures { IfOk result (λ text. IsPublicText text.items algorithm bytes.now) }
+{
+    let der = write_public(alloc, algorithm, bytes)?;
+    pem::encode(alloc, Kind::Public, LineEnd::Lf, der.as_slice())
 }
 
 /// The algorithm of the private key in this text, and the bytes of its public key.
@@ -43,7 +55,7 @@ pub(crate) fn public_bytes(
 
 /// The bytes of the public key that belongs to a private key of this algorithm.
 #[tactic(auto, using(crate::proofs::Keys::lengths_fit))]
-fn bytes_at(
+pub(crate) fn bytes_at(
     alloc: Global,
     algorithm: Algorithm,
     key: PrivateKey<'_>,
