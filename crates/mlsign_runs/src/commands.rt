@@ -1,4 +1,4 @@
-//! Signatures of OpenSSL.
+//! The commands, on keys and signatures of OpenSSL.
 
 use crate::recorded::{
     PRIVATE_44, PRIVATE_65, PRIVATE_87, PUBLIC_44, PUBLIC_65, PUBLIC_87, SEED, SIGNATURE_44,
@@ -116,16 +116,17 @@ fn signatures_of_a_model(rt: HostRuntime) -> Result<(), Fail> {
     Ok(())
 }
 
-/// The keys of a seed: the public text is that of OpenSSL, and a signature by the private one is valid.
+/// The keys of a seed: both texts are those of OpenSSL, and a signature by the private one is valid.
 #[test]
 fn keys_of_openssl(rt: HostRuntime) -> Result<(), Fail> {
     let alloc = rt.alloc();
-    for (algorithm, public) in [
-        (Algorithm::MlDsa44, PUBLIC_44),
-        (Algorithm::MlDsa65, PUBLIC_65),
-        (Algorithm::MlDsa87, PUBLIC_87),
+    for (algorithm, private, public) in [
+        (Algorithm::MlDsa44, PRIVATE_44, PUBLIC_44),
+        (Algorithm::MlDsa65, PRIVATE_65, PUBLIC_65),
+        (Algorithm::MlDsa87, PRIVATE_87, PUBLIC_87),
     ] {
         let keys = keygen(alloc, algorithm, &SEED)?;
+        assert!(rt; keys.private.as_slice() == private);
         assert!(rt; keys.public.as_slice() == public);
         let mut input = Marked::new(b"message".as_slice());
         let signature = sign(
