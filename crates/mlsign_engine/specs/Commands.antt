@@ -132,7 +132,13 @@ abbrev pub IsKeyFault : List ℕ → FileFault → Type 0
 IsKeyFault text fault =
     (IsPublicFault text fault × ¬ (fault ≡ OtherKind)) ⊎ ((public_text_at text ≡ Err OtherKind) × IsPrivateFault text fault)
 
--- what `sign` wrote, with a private file that `keygen` wrote, `verify` accepts with the public file that came with it
+-- what `sign` wrote with a private file, `verify` accepts with the public file that `public` made of it
+abbrev pub PublishedIsValid : Type 0
+PublishedIsValid =
+    (private public random context message signature : List ℕ) (valid : Bool)
+    → Publishes private public → Signs private random context message signature → Judges public signature context message valid → IsTrue valid
+
+-- the same of the two files that `keygen` wrote
 abbrev pub SignedIsValid : Type 0
 SignedIsValid =
     (algorithm : Algorithm) (seed private public random context message signature : List ℕ) (valid : Bool)
