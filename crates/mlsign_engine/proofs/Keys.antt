@@ -1,5 +1,5 @@
 -- What makes the keys of a file consistent.
-use Rattle.std.proofs.Common.{◌≡◌, ℕ, ◌≤◌, ◌<◌, List, length, take, Bool, true, false, not, ltb, Option, None, Result, Ok, Err, refl, sym, ap, subst, ◌∙◌, arith, IsTrue, inl, inr, ◌⊎◌, ◌↔◌}
+use Rattle.std.proofs.Common.{◌≡◌, ℕ, ◌≤◌, List, length, take, Bool, true, false, not, ltb, Option, None, Result, Ok, refl, sym, ap, subst, ◌∙◌, arith, IsTrue, inl, inr, ◌↔◌}
 use Rattle.std.proofs.lemmas.Bool.{le-ltb}
 use Rattle.std.specs.Str.{bytes_eq}
 use Rattle.std.proofs.lemmas.Slice.Eq.{bytes_eq-Decides}
@@ -8,15 +8,15 @@ use Rattle.fips204.specs.fault.Fault.TheVariants.{InternalRng}
 use Rattle.fips204.specs.declared.traits.DummyRng.{DummyRng}
 use Rattle.fips204.specs.Framing.{plain, framed, message_hash}
 use Rattle.fips204.specs.Signing.{sign}
-use Rattle.fips204.specs.Encodings.{public_key_bytes, private_key_bytes}
+use Rattle.fips204.specs.Encodings.{public_key_bytes}
 use Rattle.fips204.specs.Completeness.{SignedIsAccepted, IsPair, AcceptsSigned}
-use Rattle.fips204.specs.Keys.{PublicParts, PrivateParts, ArePrivateParts, IsPublicKeyOf, IsPrivateKeyOf, IsWhole, TellsWhole}
+use Rattle.fips204.specs.Keys.{PublicParts, PrivateParts, ArePrivateParts, IsPublicKeyOf, IsPrivateKeyOf, TellsWhole}
 use Rattle.fips204.specs.ParameterSets.{ParameterSet, is_parameter_set, signature_length}
 use Rattle.fips204.specs.Refusals.{generated, derived, sign_message, Draws}
 use Rattle.fips204_shake.specs.Fronts.{shake256_front, shake128_front, length-shake256_front}
 use Rattle.mlsign_files.specs.Keys.{PrivateParts as FileParts, Seed, Expanded, Both, HasPrivateSizes, private_length}
 use Rattle.mlsign_files.specs.declared.algorithm.Algorithm.{Algorithm}
-use Rattle.mlsign_engine.specs.Commands.{HasKeys, IsValid, expanded_bytes, set_of, IsPublicText, IsPrivateText, Judges, Signs, Generates, SignedIsValid}
+use Rattle.mlsign_engine.specs.Commands.{HasKeys, IsValid, expanded_bytes, set_of, IsPublicText, IsPrivateText, Judges, PublishedIsValid, SignedIsValid}
 use Rattle.mlsign_files.specs.Reading.{public_at, private_at}
 use Rattle.mlsign_files.specs.declared.pem.Kind.TheVariants.{Public, Private}
 use Rattle.mlsign_files.proofs.Elements.{ok_is}
@@ -150,15 +150,64 @@ judged_valid algorithm pk public signature context message valid one text judges
     let key : judges.key ≡ pk = one judges.key moved.0 in
     moved.1.1 (subst (λ (k : PublicParts). IsValid (set_of algorithm) k signature context message) (sym key) accepted)
 
-pub signed_valid : (law : SignedIsAccepted) → SignedIsValid
-signed_valid law algorithm seed private public random context message signature valid made signs judges =
+range_of : (algorithm : Algorithm) (bytes : List ℕ) (sk : PrivateParts)
+    → IsPrivateKeyOf (set_of algorithm).eta (set_of algorithm).k (set_of algorithm).l bytes sk → ArePrivateParts (set_of algorithm).k (set_of algorithm).l sk
+range_of MlDsa44 bytes sk has =
+    record { seed = has.seed; private_seed = has.private_seed; hash = has.hash; first = has.first; second = has.second; low = has.low }
+range_of MlDsa65 bytes sk has =
+    record { seed = has.seed; private_seed = has.private_seed; hash = has.hash; first = has.first; second = has.second; low = has.low }
+range_of MlDsa87 bytes sk has =
+    record { seed = has.seed; private_seed = has.private_seed; hash = has.hash; first = has.first; second = has.second; low = has.low }
+
+-- the keys of a file are a pair
+pair_of_file : (law : SignedIsAccepted) (algorithm : Algorithm) (parts : FileParts) (pk : PublicParts) (sk : PrivateParts)
+    → HasKeys (set_of algorithm) parts pk sk → IsPair (set_of algorithm) shake256_front shake128_front pk sk
+pair_of_file law algorithm (Seed seed) pk sk keys = pair_of_seed (set_of algorithm) law (known_set algorithm) seed pk sk keys.stands
+pair_of_file law algorithm (Both seed expanded) pk sk keys = pair_of_seed (set_of algorithm) law (known_set algorithm) seed pk sk keys.stands.0
+pair_of_file law algorithm (Expanded expanded) pk sk keys =
+    ((law (set_of algorithm) shake256_front shake128_front pk sk (known_set algorithm) long_fronts).0 (range_of algorithm expanded sk keys.stands.0) keys.whole
+    keys.derives).1 keys.stands.1
+
+same_derived : (p : ParameterSet) (a b : PrivateParts) (x y : PublicParts) → a ≡ b → derived p shake128_front a ≡ Ok x → derived p shake128_front b ≡ Ok y → x ≡ y
+same_derived p a b x y same first second = ok_is_of x y (sym first ∙ ap (derived p shake128_front) same ∙ second)
+
+same_generated : (p : ParameterSet) (seed : List ℕ) (a b : PrivateParts) (x y : PublicParts)
+    → generated p shake256_front shake128_front seed ≡ Ok (x, a) → generated p shake256_front shake128_front seed ≡ Ok (y, b) → x ≡ y
+same_generated p seed a b x y first second = ap (λ (z : PublicParts × PrivateParts). z.0) (ok_is_of (key_pair x a) (key_pair y b) (sym first ∙ second))
+
+-- a file has one public key
+one_public : (law : SignedIsAccepted) (algorithm : Algorithm) (parts : FileParts) (x y : PublicParts) (a b : PrivateParts)
+    → HasKeys (set_of algorithm) parts x a → HasKeys (set_of algorithm) parts y b → x ≡ y
+one_public law algorithm (Seed seed) x y a b first second = same_generated (set_of algorithm) seed a b x y first.stands second.stands
+one_public law algorithm (Both seed expanded) x y a b first second = same_generated (set_of algorithm) seed a b x y first.stands.0 second.stands.0
+one_public law algorithm (Expanded expanded) x y a b first second =
     let p = set_of algorithm in
-    let parts : FileParts = Both seed (expanded_bytes p made.sk) in
-    let e = same_private private signs.algorithm algorithm signs.parts parts signs.text made.private_text in
-    let moved : HasKeys p parts signs.pk signs.sk × IsValid p signs.pk signature context message =
+    let moved : IsPrivateKeyOf p.eta p.k p.l (expanded_bytes p b) a =
+    subst (λ (bytes : List ℕ). IsPrivateKeyOf p.eta p.k p.l bytes a) (sym second.stands.0.encoding) first.stands.0 in
+    same_derived p a b x y (((pair_of_file law algorithm (Expanded expanded) y b second).private_decoded a).0 moved) first.derives second.derives
+
+pub published_valid : (law : SignedIsAccepted) → PublishedIsValid
+published_valid law private public random context message signature valid published signs judges =
+    let algorithm = published.0 in
+    let parts = published.2.0 in
+    let made = published.2.2 in
+    let e = same_private private signs.algorithm algorithm signs.parts parts signs.text published.2.1 in
+    let moved : HasKeys (set_of algorithm) parts signs.pk signs.sk × IsValid (set_of algorithm) signs.pk signature context message =
     subst (λ (x : Algorithm × FileParts). HasKeys (set_of x.0) x.1 signs.pk signs.sk × IsValid (set_of x.0) signs.pk signature context message) e
     (signs.keys, signs.accepted) in
-    let keys : key_pair signs.pk signs.sk ≡ key_pair made.pk made.sk = ok_is_of (key_pair signs.pk signs.sk) (key_pair made.pk made.sk) (sym moved.0.stands.0 ∙ made.keys) in
-    let pair = pair_of_seed p law (known_set algorithm) seed made.pk made.sk made.keys in
-    judged_valid algorithm made.pk public signature context message valid (λ other. (pair.public_decoded other).0) made.public_text judges
-    (subst (λ (x : PublicParts × PrivateParts). IsValid p x.0 signature context message) keys moved.1)
+    let same : signs.pk ≡ made.pk = one_public law algorithm parts signs.pk made.pk signs.sk made.sk moved.0 made.keys in
+    judged_valid algorithm made.pk public signature context message valid
+    (λ other. ((pair_of_file law algorithm parts made.pk made.sk made.keys).public_decoded other).0)
+    (subst (λ (bytes : List ℕ). IsPublicText public algorithm bytes) made.is published.3) judges
+    (subst (λ (pk : PublicParts). IsValid (set_of algorithm) pk signature context message) same moved.1)
+
+pub signed_valid : (law : SignedIsAccepted) → SignedIsValid
+signed_valid law algorithm seed private public random context message signature valid made signs judges =
+    let keys = keys_of_seed (set_of algorithm) law (known_set algorithm) seed made.pk made.sk made.keys in
+    published_valid law private public random context message signature valid
+    (
+      algorithm,
+      public_key_bytes made.pk.rho made.pk.t1,
+      (Seed seed, made.private_text, record { pk = made.pk; sk = made.sk; keys = keys; is = refl }),
+      made.public_text,
+    ) signs judges

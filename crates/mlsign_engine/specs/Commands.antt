@@ -1,5 +1,5 @@
 -- What the commands answer, by the files that they are given and the message that is read.
-use Rattle.std.specs.Prelude.{◌≡◌, ◌↔◌, ℕ, List, length, take, Bool, IsTrue, Result, Ok}
+use Rattle.std.specs.Prelude.{◌≡◌, ◌↔◌, ◌⊎◌, ℕ, List, length, take, Bool, IsTrue, Result, Ok, Err}
 use Rattle.fips204.specs.Encodings.{public_key_bytes, private_key_bytes}
 use Rattle.fips204.specs.Keys.{PublicParts, PrivateParts, IsPublicKeyOf, IsPrivateKeyOf, IsWhole}
 use Rattle.fips204.specs.ParameterSets.{ParameterSet, set_44, set_65, set_87, signature_length}
@@ -12,6 +12,8 @@ use Rattle.mlsign_files.specs.Reading.{◌>>=◌, public_at, private_at}
 use Rattle.mlsign_files.specs.declared.fault.FileFault.{FileFault}
 use Rattle.mlsign_files.specs.declared.algorithm.Algorithm.{Algorithm}
 use Rattle.mlsign_files.specs.declared.algorithm.Algorithm.TheVariants.{MlDsa44, MlDsa65, MlDsa87}
+use Rattle.mlsign_files.specs.declared.fault.FileFault.TheVariants.{OtherKind}
+use Rattle.mlsign_files.specs.declared.pem.Kind.{Kind}
 use Rattle.mlsign_files.specs.declared.pem.Kind.TheVariants.{Public, Private}
 
 -- the parameters of an algorithm
@@ -95,15 +97,48 @@ pub record Signs (private random context message signature : List ℕ) : Type 0 
   pub signed : sign_message (set_of algorithm) shake256_front shake128_front sk random message context ≡ Ok signature
   pub accepted : IsValid (set_of algorithm) pk signature context message
 
--- `keygen`: the texts have both keys of a seed; that of the private one has the seed and the expanded key
+-- `keygen`: the texts have both keys of a seed; that of the private one has the seed
 pub record Generates (algorithm : Algorithm) (seed private public : List ℕ) : Type 0 where
   pub pk : PublicParts
   pub sk : PrivateParts
   pub keys : generated (set_of algorithm) shake256_front shake128_front seed ≡ Ok (pk, sk)
-  pub private_text : IsPrivateText private algorithm (Both seed (expanded_bytes (set_of algorithm) sk))
+  pub private_text : IsPrivateText private algorithm (Seed seed)
   pub public_text : IsPublicText public algorithm (public_key_bytes pk.rho pk.t1)
 
--- what `sign` wrote, with a private file that `keygen` wrote, `verify` accepts with the public file that came with it
+-- a file's private key is consistent, and its public key has these bytes
+pub record HasPublicBytes (p : ParameterSet) (parts : FileParts) (bytes : List ℕ) : Type 0 where
+  pub pk : PublicParts
+  pub sk : PrivateParts
+  pub keys : HasKeys p parts pk sk
+  pub is : bytes ≡ public_key_bytes pk.rho pk.t1
+
+-- the text of a file has a public key with these bytes, or a consistent private key whose public key has them
+abbrev pub HasPublicKey : Kind → List ℕ → Algorithm → List ℕ → Type 0
+HasPublicKey Public text algorithm bytes = IsPublicText text algorithm bytes
+HasPublicKey Private text algorithm bytes =
+    (parts : FileParts) × IsPrivateText text algorithm parts × HasPublicBytes (set_of algorithm) parts bytes
+
+-- `public`: one file has a consistent private key, and the other its public key
+abbrev pub Publishes : List ℕ → List ℕ → Type 0
+Publishes private public =
+    (algorithm : Algorithm) × (bytes : List ℕ) × HasPublicKey Private private algorithm bytes × IsPublicText public algorithm bytes
+
+-- `show`: the file has a key of this kind, and this is the hash of the public key's bytes
+abbrev pub Shows : List ℕ → Kind → Algorithm → List ℕ → Type 0
+Shows text kind algorithm hash = (bytes : List ℕ) × HasPublicKey kind text algorithm bytes × (hash ≡ take 64 (shake256_front bytes))
+
+-- a fault of a key's file of either kind: of a public key's, or, where the file has another kind, of a private key's
+abbrev pub IsKeyFault : List ℕ → FileFault → Type 0
+IsKeyFault text fault =
+    (IsPublicFault text fault × ¬ (fault ≡ OtherKind)) ⊎ ((public_text_at text ≡ Err OtherKind) × IsPrivateFault text fault)
+
+-- what `sign` wrote with a private file, `verify` accepts with the public file that `public` made of it
+abbrev pub PublishedIsValid : Type 0
+PublishedIsValid =
+    (private public random context message signature : List ℕ) (valid : Bool)
+    → Publishes private public → Signs private random context message signature → Judges public signature context message valid → IsTrue valid
+
+-- the same of the two files that `keygen` wrote
 abbrev pub SignedIsValid : Type 0
 SignedIsValid =
     (algorithm : Algorithm) (seed private public random context message signature : List ℕ) (valid : Bool)

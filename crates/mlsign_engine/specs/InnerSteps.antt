@@ -1,15 +1,14 @@
 -- What private functions state of each other: cited by no public clause; nobody has to believe it.
-use Rattle.std.specs.Prelude.{◌≡◌, ◌↔◌, ◌≤◌, ◌*◌, ℕ, List, Option, Bool, IsTrue, Result, Ok, length}
+use Rattle.std.specs.Prelude.{◌≡◌, ◌↔◌, ◌≤◌, ◌*◌, ℕ, List, Option, Bool, IsTrue, Ok, length}
 use Rattle.fips204.specs.Keys.{PublicParts, PrivateParts, IsPublicKeyOf}
 use Rattle.fips204.specs.ParameterSets.{ParameterSet}
 use Rattle.fips204_shake.specs.Fronts.{shake256_front, shake128_front}
 use Rattle.mlsign_engine.specs.Messages.{GivesAll}
 use Rattle.mlsign_engine.specs.declared.fault.CommandFault.{CommandFault}
 use Rattle.mlsign_engine.specs.declared.fault.CommandFault.TheVariants.{Key, Inconsistent, Library, Context, Memory, Message}
-use Rattle.mlsign_engine.specs.Commands.{IsValid, HasKeys, expanded_bytes}
+use Rattle.mlsign_engine.specs.Commands.{IsValid, HasKeys}
 use Rattle.mlsign_files.specs.Keys.{PrivateParts as FileParts, Seed, Expanded, Both}
-use Rattle.fips204.specs.Refusals.{generated, sign_message}
-use Rattle.fips204.specs.Encodings.{public_key_bytes}
+use Rattle.fips204.specs.Refusals.{sign_message}
 
 -- a matrix, keys and signatures are no larger than those of the largest set
 abbrev pub AreSmall : ℕ → ℕ → ℕ → ℕ → ℕ → Type 0
@@ -52,11 +51,3 @@ IsSigningFault (Library _) = Unit {0}
 IsSigningFault Context = ⊥
 IsSigningFault Memory = Unit {0}
 IsSigningFault Message = Unit {0}
-
--- these are the bytes of both keys of a seed
-pub record GeneratesAt (p : ParameterSet) (seed public private : List ℕ) : Type 0 where
-  pub pk : PublicParts
-  pub sk : PrivateParts
-  pub keys : generated p shake256_front shake128_front seed ≡ Ok (pk, sk)
-  pub public_bytes : public ≡ public_key_bytes pk.rho pk.t1
-  pub private_bytes : private ≡ expanded_bytes p sk

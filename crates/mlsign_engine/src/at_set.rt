@@ -5,7 +5,8 @@ ghost use Rattle.std.specs.Prelude.{◌≡◌, ◌≤◌, ◌↔◌, length, fal
 ghost use Rattle.fips204.specs.Acceptance.{Verifies};
 ghost use Rattle.fips204.specs.Keys.{IsPublicKeyOf};
 ghost use Rattle.fips204_shake.specs.Fronts.{shake256_front, shake128_front};
-ghost use Rattle.mlsign_engine.specs.InnerSteps.{AreSmall, HasLengths, JudgesAt, HasPrivate, SignsAt, IsSigningFault, GeneratesAt};
+ghost use Rattle.mlsign_engine.specs.Commands.{HasPublicBytes};
+ghost use Rattle.mlsign_engine.specs.InnerSteps.{AreSmall, HasLengths, JudgesAt, HasPrivate, SignsAt, IsSigningFault};
 ghost use Rattle.mlsign_files.specs.Keys.{Seed, Expanded, Both, private_parts};
 
 use crate::fault::CommandFault;
@@ -128,22 +129,17 @@ where
         }
     }
 
-    /// The bytes of the public and of the private key of a seed.
-    #[inline(never)]
-    pub(crate) fn generate(
-        alloc: Global,
-        seed: &[u8; 32],
-    ) -> Result<(Vec<u8>, Vec<u8>), CommandFault>
+    /// The bytes of the public key that belongs to a private key of a file, if that is consistent.
+    pub(crate) fn public(alloc: Global, parts: FileKey<'_>) -> Result<Vec<u8>, CommandFault>
+        requires parts { HasLengths SK_LEN (private_parts parts) }
         requires small { AreSmall K L PK_LEN SK_LEN SIG_LEN }
-        ensures made { IfOk result (λ keys. GeneratesAt S.set seed.now keys.0.items keys.1.items) }
-        ensures public_size { IfOk result (λ keys. length keys.0.items ≡ PK_LEN) }
-        ensures private_size { IfOk result (λ keys. length keys.1.items ≡ SK_LEN) }
+        ensures made { IfOk result (λ bytes. HasPublicBytes S.set (private_parts parts.entry) bytes.items) }
+        ensures size { IfOk result (λ bytes. length bytes.items ≡ PK_LEN) }
         ensures faults { IfErr result IsSigningFault }
     {
-        let (public, private) = KG::<K, L>::keygen_from_seed(seed)?;
-        let public = Vec::from_slice(alloc, &public.into_bytes())?;
-        let private = Vec::from_slice(alloc, &private.into_bytes())?;
-        Ok((public, private))
+        let key = Self::private(parts)?;
+        let public = key.get_public_key()?;
+        Ok(Vec::from_slice(alloc, &public.into_bytes())?)
     }
 
     /// The private key of a file, if it is consistent.

@@ -11,7 +11,7 @@ use thiserror::Error;
 #[derive(Debug, Clone, Copy, PartialEq, Eq, Error)]
 pub enum CommandFault {
     /// The file of a key could not be read.
-    #[error("the key's file was not read: {0}")]
+    #[error("{0}")]
     Key(FileFault),
     /// A private key's parts do not belong together: its seed gives another expanded key, or an expanded key is no key, or not
     /// whole, or has another hash of its public key.

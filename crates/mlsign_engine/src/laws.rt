@@ -2,14 +2,15 @@
 #![tactic(auto)]
 
 ghost use Rattle.fips204.specs.Completeness.{SignedIsAccepted};
-ghost use Rattle.mlsign_engine.specs.Commands.{SignedIsValid};
+ghost use Rattle.mlsign_engine.specs.Commands.{PublishedIsValid, SignedIsValid};
 
 use fips204::laws::signed_is_accepted;
 
-/// A signature that `sign` made with the private text of `keygen` is valid for `verify` with the public text: of the same
-/// message and under the same context.
+/// A signature that `sign` made with a private text is valid for `verify` with the public text that `public` made of it, or
+/// that `keygen` wrote with it: of the same message and under the same context.
 pub fn signed_is_valid()
-    ensures { SignedIsValid }
+    ensures published { PublishedIsValid }
+    ensures generated { SignedIsValid }
 {
     signed_is_accepted();
 }

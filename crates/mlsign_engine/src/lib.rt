@@ -7,14 +7,15 @@ mod generating;
 mod key_text;
 pub mod laws;
 mod message;
+mod publishing;
+mod showing;
 mod signing;
 mod verifying;
 
 pub use fault::CommandFault;
 pub use generating::{KeyTexts, keygen};
 pub use mldsa_lines::Marked;
+pub use publishing::public;
+pub use showing::{Shown, show};
 pub use signing::sign;
 pub use verifying::verify;
-
-#[cfg(test)]
-mod tests;

@@ -10,6 +10,3 @@ pub mod pem;
 pub use algorithm::Algorithm;
 pub use fault::FileFault;
 pub use keys::{PrivateKey, SEED_LENGTH, read_private, read_public, write_private, write_public};
-
-#[cfg(test)]
-mod tests;

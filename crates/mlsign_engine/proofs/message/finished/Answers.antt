@@ -1,4 +1,4 @@
-use Rattle.std.proofs.Common.{◌≡◌, ◌∙◌, sym, refl, length, arith}
+use Rattle.std.proofs.Common.{◌∙◌, sym}
 use Rattle.shake.specs.Pieces.{next}
 use Rattle.mlsign_engine.proofs.Hashing.{first_of_front}
 use Rattle.mlsign_engine.proofs.message.finished.Goals as goal

@@ -1,8 +1,7 @@
-use Rattle.std.proofs.Common.{Ok, List, ℕ, ◌≡◌, sym, ap, ◌∙◌}
+use Rattle.std.proofs.Common.{Ok, ◌≡◌, sym, ap, ◌∙◌}
 use Rattle.fips204.specs.Keys.{DecodesPrivate}
 use Rattle.fips204.specs.Refusals.{generated}
 use Rattle.fips204_shake.specs.Fronts.{shake256_front, shake128_front}
-use Rattle.mlsign_engine.specs.Commands.{expanded_bytes}
 use Rattle.mlsign_engine.proofs.Keys.{keys_of_both, not_different}
 use Rattle.mlsign_engine.proofs.at_set.AtSet.from_both.Goals as goal
 

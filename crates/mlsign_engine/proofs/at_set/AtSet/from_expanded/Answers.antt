@@ -1,8 +1,8 @@
 use Rattle.std.proofs.Common.{Ok, List, ℕ, ◌≡◌, take, sym, ap, ◌∙◌}
 use Rattle.std.proofs.lemmas.List.{append-nil}
 use Rattle.fips204.specs.Encodings.{public_key_bytes}
-use Rattle.fips204.specs.Keys.{DecodesPrivate, TellsWhole}
-use Rattle.fips204_shake.specs.Fronts.{shake256_front, shake128_front}
+use Rattle.fips204.specs.Keys.{DecodesPrivate}
+use Rattle.fips204_shake.specs.Fronts.{shake256_front}
 use Rattle.mlsign_engine.proofs.Keys.{keys_of_expanded, not_different}
 use Rattle.mlsign_engine.proofs.at_set.AtSet.from_expanded.Goals as goal
 

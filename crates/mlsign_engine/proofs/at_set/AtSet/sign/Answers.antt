@@ -1,4 +1,4 @@
-use Rattle.std.proofs.Common.{rules, Ok, List, ℕ, ◌≡◌, length, refl, sym, ap, subst, ◌∙◌, arith}
+use Rattle.std.proofs.Common.{rules, List, ℕ, ◌≡◌, length, refl, ap, ◌∙◌}
 use Rattle.fips204.specs.Framing.{framed, message_hash}
 use Rattle.fips204.specs.Keys.{ArePrivateParts}
 use Rattle.fips204.specs.Signing.{sign}

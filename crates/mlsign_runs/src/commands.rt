@@ -1,24 +1,29 @@
-//! Signatures of OpenSSL.
+//! The commands, on keys and signatures of OpenSSL.
 
-mod recorded;
-
-use crate::tests::recorded::{
-    PRIVATE_44, PRIVATE_65, PRIVATE_87, PUBLIC_44, PUBLIC_65, PUBLIC_87, SIGNATURE_44,
+use crate::recorded::{
+    PRIVATE_44, PRIVATE_65, PRIVATE_87, PUBLIC_44, PUBLIC_65, PUBLIC_87, SEED, SIGNATURE_44,
     SIGNATURE_65, SIGNATURE_87,
 };
-use crate::{CommandFault, Marked, keygen, sign, verify};
 use base64::engine::general_purpose::STANDARD;
+use mlsign_engine::{CommandFault, Marked, keygen, public, show, sign, verify};
 use mlsign_files::pem::{self, Kind, LineEnd};
 use mlsign_files::{Algorithm, FileFault, PrivateKey, write_private};
 use sha2::{Digest, Sha256};
 use std::alloc::Global;
 use std::test::*;
 
-/// The seed of each recorded key.
-static SEED: [u8; 32] = [
-    0, 1, 2, 3, 4, 5, 6, 7, 8, 9, 10, 11, 12, 13, 14, 15, 16, 17, 18, 19, 20, 21, 22, 23, 24, 25,
-    26, 27, 28, 29, 30, 31,
-];
+/// The hashes of the recorded public keys, in hex.
+const HASH_44: &str = "\
+    329a07b1fabb48f52a309f11a1898f848e2322ffe623ec810db3bee33685854a\
+    88269da320d5120bfcfe89a18e30f7114d83aa404a646b6c997389860d12522e";
+
+const HASH_65: &str = "\
+    1b0563e3cd3346149c8c9ebcf23b0a4e5a900eea9c6562790a7c63e38663daa2\
+    dddb6e480dc405a1e701948b74841ef5cc1c3f2bf327972e9510510cd5375ecc";
+
+const HASH_87: &str = "\
+    89886750b57c24db3fc012e61ede59753337374fa7124991549af243496d0637\
+    cb3be05a5948235bf79875f896d8fe0cab30c84948db4d6315aaaf160ac62436";
 
 /// What `verify` answers of a signature in base64.
 fn answer(
@@ -111,16 +116,17 @@ fn signatures_of_a_model(rt: HostRuntime) -> Result<(), Fail> {
     Ok(())
 }
 
-/// The keys of a seed: the public text is that of OpenSSL, and a signature by the private one is valid.
+/// The keys of a seed: both texts are those of OpenSSL, and a signature by the private one is valid.
 #[test]
 fn keys_of_openssl(rt: HostRuntime) -> Result<(), Fail> {
     let alloc = rt.alloc();
-    for (algorithm, public) in [
-        (Algorithm::MlDsa44, PUBLIC_44),
-        (Algorithm::MlDsa65, PUBLIC_65),
-        (Algorithm::MlDsa87, PUBLIC_87),
+    for (algorithm, private, public) in [
+        (Algorithm::MlDsa44, PRIVATE_44, PUBLIC_44),
+        (Algorithm::MlDsa65, PRIVATE_65, PUBLIC_65),
+        (Algorithm::MlDsa87, PRIVATE_87, PUBLIC_87),
     ] {
         let keys = keygen(alloc, algorithm, &SEED)?;
+        assert!(rt; keys.private.as_slice() == private);
         assert!(rt; keys.public.as_slice() == public);
         let mut input = Marked::new(b"message".as_slice());
         let signature = sign(
@@ -164,5 +170,51 @@ fn inconsistent_keys(rt: HostRuntime) -> Result<(), Fail> {
         fault_of(alloc, der.as_slice()),
         Err(CommandFault::Inconsistent)
     );
+    Ok(())
+}
+
+/// The public key of each recorded seed is that of OpenSSL.
+#[test]
+fn public_keys_of_openssl(rt: HostRuntime) -> Result<(), Fail> {
+    for (private, wanted) in [
+        (PRIVATE_44, PUBLIC_44),
+        (PRIVATE_65, PUBLIC_65),
+        (PRIVATE_87, PUBLIC_87),
+    ] {
+        let text = public(rt.alloc(), private)?;
+        assert!(rt; text.as_slice() == wanted);
+    }
+    Ok(())
+}
+
+/// Whether this key of either kind is shown as such, of this set, with this hash of its public key.
+fn is_shown(
+    alloc: Global,
+    text: &[u8],
+    kind: Kind,
+    algorithm: Algorithm,
+    hash: &str,
+) -> Result<bool, Fail> {
+    let shown = show(alloc, text)?;
+    let wanted = hex::decode(alloc, hash)?;
+    Ok(
+        shown.kind == kind
+            && shown.algorithm == algorithm
+            && wanted.as_slice() == shown.hash.as_slice(),
+    )
+}
+
+/// Both keys of each recorded pair are shown with the hash that Python's `hashlib` gives of the public one.
+#[test]
+fn recorded_keys(rt: HostRuntime) -> Result<(), Fail> {
+    for (algorithm, private, public, hash) in [
+        (Algorithm::MlDsa44, PRIVATE_44, PUBLIC_44, HASH_44),
+        (Algorithm::MlDsa65, PRIVATE_65, PUBLIC_65, HASH_65),
+        (Algorithm::MlDsa87, PRIVATE_87, PUBLIC_87, HASH_87),
+    ] {
+        let alloc = rt.alloc();
+        assert!(rt; is_shown(alloc, public, Kind::Public, algorithm, hash)?);
+        assert!(rt; is_shown(alloc, private, Kind::Private, algorithm, hash)?);
+    }
     Ok(())
 }

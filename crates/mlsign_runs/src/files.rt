@@ -1,20 +1,12 @@
 //! Files of OpenSSL, and files that are none.
 
-mod recorded;
-
-use crate::pem::{self, Kind, LineEnd};
-use crate::tests::recorded::{PRIVATE_44, PRIVATE_65, PRIVATE_87, PUBLIC_44, PUBLIC_65, PUBLIC_87};
-use crate::{
+use crate::recorded::{PRIVATE_44, PRIVATE_65, PRIVATE_87, PUBLIC_44, PUBLIC_65, PUBLIC_87, SEED};
+use mlsign_files::pem::{self, Kind, LineEnd};
+use mlsign_files::{
     Algorithm, FileFault, PrivateKey, read_private, read_public, write_private, write_public,
 };
 use std::alloc::Global;
 use std::test::*;
-
-/// The seed of each recorded key.
-static SEED: [u8; 32] = [
-    0, 1, 2, 3, 4, 5, 6, 7, 8, 9, 10, 11, 12, 13, 14, 15, 16, 17, 18, 19, 20, 21, 22, 23, 24, 25,
-    26, 27, 28, 29, 30, 31,
-];
 
 /// What a file of ML-DSA-44's private key in both forms has before its seed, as a model in Python wrote it.
 static BEFORE_SEED_44: [u8; 30] = [

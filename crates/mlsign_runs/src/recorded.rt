@@ -2,6 +2,12 @@
 //! `00 01 .. 1F`, and what they signed of the message `message` under the context `context`, in base64.
 #![tactic(auto)]
 
+/// The seed of each recorded key.
+pub static SEED: [u8; 32] = [
+    0, 1, 2, 3, 4, 5, 6, 7, 8, 9, 10, 11, 12, 13, 14, 15, 16, 17, 18, 19, 20, 21, 22, 23, 24, 25,
+    26, 27, 28, 29, 30, 31,
+];
+
 /// The public key at set 44.
 pub static PUBLIC_44: &[u8] = b"\
     -----BEGIN PUBLIC KEY-----\n\

@@ -1,0 +1,25 @@
+//! Tests of the program `mlsign`: answers the calls that the lines of standard input make, one after another, and prints how
+//! each ended.
+#![tactic(auto)]
+
+use anyhow::Result;
+use mlsign_program::answer;
+
+/// Answers the words of a line.
+fn answer_line(rt: &HostRuntime, line: &str) -> Result<()> {
+    let words: Vec<&str> = line.split(' ').collect(rt.alloc())?;
+    println!(rt; "> {line}")?;
+    match answer(rt, words.as_slice(), false) {
+        Ok(true) => println!(rt; "0")?,
+        Ok(false) => println!(rt; "1")?,
+        Err(error) => println!(rt; "2: {error:#}")?,
+    }
+    Ok(())
+}
+
+fn main(rt: HostRuntime) -> Result<()> {
+    for line in rt.lines(rt.alloc()) {
+        answer_line(&rt, line?.as_str())?;
+    }
+    Ok(())
+}
