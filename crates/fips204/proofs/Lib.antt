@@ -18,6 +18,7 @@ mod Binding
 mod OtherHints
 mod LongerFronts
 mod Worked
+mod WorkedAttempts
 -- what users may cite
 pub mod Callers
 pub mod Prepared

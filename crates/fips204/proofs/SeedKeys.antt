@@ -38,7 +38,7 @@ generated_pairs p H G xi (Ok keys) row law made =
 pub generated_decode : (p : ParameterSet) (H G : List ℕ → List ℕ) (xi : List ℕ) (answer : Result (PublicParts × PrivateParts) Fault) → IsTrue (is_parameter_set p)
     → ((x : List ℕ) → 4096 ≤ length (H x)) → answer ≡ generated p H G xi
     → IfOk answer (λ keys. DecodesAlone (λ bytes (read : Result PublicParts Fault). MatchResult read (λ key. IsPublicKeyOf H p.k bytes key) (λ _. ⊥)) (public_key_bytes keys.0.rho keys.0.t1) keys.0
-        × DecodesAlone (DecodesPrivate p.eta p.k p.l) (private_key_bytes p.eta keys.1.rho keys.1.key keys.1.tr keys.1.s1 keys.1.s2 keys.1.t0) keys.1)
+    × DecodesAlone (DecodesPrivate p.eta p.k p.l) (private_key_bytes p.eta keys.1.rho keys.1.key keys.1.tr keys.1.s1 keys.1.s2 keys.1.t0) keys.1)
 generated_decode p H G xi (Err fault) row law made = search rules
 generated_decode p H G xi (Ok keys) row law made =
     let are = generated_parts p H G xi keys.0 keys.1 row law (some_of_ok (key_generation p H G xi) keys made) in

@@ -10,15 +10,14 @@ use Rattle.fips204_base.specs.Transforms.{product, shifted}
 use Rattle.fips204_base.specs.Vectors.{polynomial_of, vector_of}
 use Rattle.fips204_base.specs.declared.types.R.{R}
 use Rattle.fips204.specs.Keys.{PrivateParts, seeds, key_pair, key_generation}
-use Rattle.fips204.specs.Acceptance.{t1_shifted}
+use Rattle.fips204.specs.Acceptance.{t1_shifted, hinted}
 use Rattle.fips204.specs.ParameterSets.{ParameterSet, set_44, set_65, set_87, is_parameter_set, public_key_length, private_key_length, signature_length}
 use Rattle.fips204.specs.Signing.{first_answer, mask_seed, limit, rejected, signed, commitment, hint_bit, w_minus_cs2}
 use Rattle.std.specs.Prelude.{replicate, nat_eq, get_or, option_map}
 use Rattle.std.specs.List.{range_with_len, flat_map}
 use Rattle.fips204.specs.declared.types.pre_hash.TheConstants.{SHA2_224, SHA2_256, SHA2_384, SHA2_512, SHA2_512_224, SHA2_512_256, SHA3_224, SHA3_256, SHA3_384, SHA3_512, SHAKE_128, SHAKE_256}
 use Rattle.fips204.specs.Framing.{plain, hashed, framed, framed_input, message_hash, hash_oid, hashes, digest_length, pre_hash_fault}
-use Rattle.fips204.specs.Refusals.{sign_input}
-use Rattle.fips204.specs.SigningInputs.{message_fault, digest_fault, y_plus_cs1, hinted}
+use Rattle.fips204.specs.Refusals.{input_fault, sign_input}
 
 -- Worked values of the parameter sets, and of the order of attempts.
 
@@ -112,9 +111,13 @@ unfolding pre_hash_fault digest_length hashes
 digests_of_others = refl
 
 -- the context stands before all of these
-long_contexts : (message_fault (replicate 255 0) ∷ message_fault (replicate 256 0) ∷ digest_fault [] (replicate 255 0) [] ∷ digest_fault [] (replicate 256 0) [] ∷ []) ≡ None ∷ Some SignCtx ∷ Some OidEmpty ∷ Some HashCtx ∷ []
+long_contexts : (input_fault (plain [] (replicate 255 0)) ∷ input_fault (plain [] (replicate 256 0)) ∷ input_fault (hashed [] (replicate 255 0) []) ∷ input_fault (hashed [] (replicate 256 0) []) ∷ []) ≡ None ∷ Some SignCtx ∷ Some OidEmpty ∷ Some HashCtx ∷ []
 unfolding pre_hash_fault
 long_contexts = refl
+
+digest_before_identifier : input_fault (hashed (replicate 32 0) [] (hash_oid 0x01)) ≡ None
+unfolding pre_hash_fault digest_length hashes
+digest_before_identifier = refl
 
 -- Worked values of key generation, of signing's hashes and hints, and of acceptance.
 
@@ -125,7 +128,7 @@ seeds_of_sets = (refl, refl, refl)
 -- a stream whose front over the 34 bytes of the seeds is 0, 1, .. to 127, and over any other input its bytes 0 and 64 in turn: over rho'
 -- and a number those are the first byte of rho' and the low byte of the number
 numbered : List ℕ → List ℕ
-numbered input = if nat_eq (length input) 34 then range_with_len 0 128 else flat_map (λ _. get_or input 0 0 ∷ get_or input 64 0 ∷ []) (range_with_len 0 256)
+numbered input = if nat_eq (length input) 34 then range_with_len 0 128 else flat_map (λ _. get_or input 0 0 ∷ get_or input 64 0 ∷ []) (range_with_len 0 512)
 
 -- rho is bytes 0 to 31 of the seeds, and K bytes 96 to 127
 seeds_of_keys : option_map {U = List ℕ × List ℕ × List ℕ} (λ pair. (pair.0.rho, pair.1.rho, pair.1.key)) (key_generation set_44 numbered (λ _. replicate 1024 0) (replicate 32 9))
@@ -139,6 +142,12 @@ seeds_of_vectors : option_map {U = List (List ℤ) × List (List ℤ)} (λ pair.
     ≡ Some (map (λ x. pos 2 ∷ pos 0 ∷ x ∷ []) (pos 2 ∷ pos 1 ∷ pos 0 ∷ negsuc 0 ∷ []), map (λ x. pos 2 ∷ pos 0 ∷ x ∷ []) (negsuc 1 ∷ pos 2 ∷ pos 1 ∷ pos 0 ∷ []))
 unfolding numbered key_generation small_vectors key_pair sampled_matrix all_present matrix_entry kept_triples triple first_256 small_vector small_polynomial kept_half_bytes
 seeds_of_vectors = refl
+
+-- the same at set 65: s1 has numbers 0 to 4, and s2 has 5 to 10, of which 9 and 10 give no coefficient
+seeds_of_65 : option_map {U = List ℤ × List ℤ} (λ pair. (map (λ w. get_or w.0 2 (pos 0)) pair.1.s1, map (λ w. get_or w.0 2 (pos 0)) pair.1.s2)) (key_generation set_65 numbered (λ _. replicate 1024 0) (replicate 32 9))
+    ≡ Some (pos 4 ∷ pos 3 ∷ pos 2 ∷ pos 1 ∷ pos 0 ∷ [], negsuc 0 ∷ negsuc 1 ∷ negsuc 2 ∷ negsuc 3 ∷ pos 4 ∷ pos 4 ∷ [])
+unfolding numbered key_generation small_vectors key_pair sampled_matrix all_present matrix_entry kept_triples triple first_256 small_vector small_polynomial kept_half_bytes
+seeds_of_65 = refl
 
 -- mu hashes tr before the framed message, and keeps 64 bytes
 hash_of_message : (message_hash (λ x. x) (1 ∷ 2 ∷ []) (3 ∷ []) ≡ 1 ∷ 2 ∷ 3 ∷ []) × (message_hash (λ x. x) (range_with_len 0 60) (range_with_len 60 9) ≡ range_with_len 0 64)
@@ -194,11 +203,10 @@ rows_of_hinted = refl
 constant : ℤ → R
 constant x = polynomial_of (λ n. if nat_eq n 0 then x else pos 0)
 
--- 3 less 5, and 3 and 5
-challenge_times_parts : (w_minus_cs2 (constant (pos 5) ∷ []) (λ r n. 3) (constant (pos 1)) 0 0 ≡ 8380415)
-    × (y_plus_cs1 (constant (pos 5) ∷ []) (constant (pos 3) ∷ []) (constant (pos 1)) 0 0 ≡ 8)
+-- 3 less 2 times 5
+challenge_times_part : w_minus_cs2 (constant (pos 5) ∷ []) (λ r n. 3) (constant (pos 2)) 0 0 ≡ 8380410
 unfolding constant polynomial_of product shifted sum_below
-challenge_times_parts = (refl, refl)
+challenge_times_part = refl
 
 -- a message, and a digest after its OID
 framed_inputs : (framed_input (plain (3 ∷ []) (1 ∷ 2 ∷ [])) ≡ 0 ∷ 2 ∷ 1 ∷ 2 ∷ 3 ∷ []) × (framed_input (hashed (3 ∷ []) (1 ∷ 2 ∷ []) (6 ∷ 1 ∷ 9 ∷ [])) ≡ 1 ∷ 2 ∷ 1 ∷ 2 ∷ 6 ∷ 1 ∷ 9 ∷ 3 ∷ [])

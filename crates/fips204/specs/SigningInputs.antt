@@ -1,10 +1,9 @@
 -- What private functions of signing take and answer, and parts of definitions: cited by no public clause; nobody has to believe it.
-use Rattle.std.specs.Prelude.{◌+◌, ◌-◌, ◌<◌, ◌≤◌, ℕ, List, [], pos, slice_index_or, length, nat_lt, if◌then◌else◌, Option, Some, None, Result, Ok, Err}
-use Rattle.fips204_base.specs.Encodings.{IsSignature, is_one}
+use Rattle.std.specs.Prelude.{◌+◌, ◌-◌, ◌<◌, ◌≤◌, ℕ, List, length, nat_lt, if◌then◌else◌, Option, Some, None, Result, Ok, Err}
+use Rattle.fips204_base.specs.Encodings.{IsSignature}
 use Rattle.fips204_base.specs.Residues.{vector_norm, coefficients}
-use Rattle.fips204_base.specs.Rounding.{use_hint}
 use Rattle.fips204_base.specs.Transforms.{product, plus}
-use Rattle.fips204_base.specs.Vectors.{PolynomialWithin, VectorWithin, AreSameModQ, IsVector, vector_coefficients, vector_of}
+use Rattle.fips204_base.specs.Vectors.{PolynomialWithin, VectorWithin, AreSameModQ, IsVector, vector_coefficients}
 use Rattle.fips204_base.specs.declared.fault.Fault.{Fault}
 use Rattle.fips204_base.specs.declared.fault.Fault.TheVariants.{SamplingLimit, SignCtx, HashCtx}
 use Rattle.fips204_base.specs.declared.types.R.{R}
@@ -73,7 +72,3 @@ scaled c v r = product (coefficients c.0) (v r)
 -- y + c s1
 abbrev pub y_plus_cs1 : List R → List R → R → ℕ → ℕ → ℕ
 y_plus_cs1 s1 y c r = plus (vector_coefficients y r) (scaled c (vector_coefficients s1) r)
-
--- UseHint(h, w), coefficient by coefficient
-abbrev pub hinted : ParameterSet → List R → (ℕ → ℕ → ℕ) → List R
-hinted p h w = vector_of p.k (λ r n. pos (use_hint p.gamma2 (is_one (slice_index_or h r record { 0 = [] }) n) (w r n)))

@@ -3,7 +3,7 @@ use Rattle.std.proofs.Common.{◌≡◌, ℕ, ◌<◌, ◌%◌, ◌≤◌, ◌+�
 use Rattle.std.proofs.lemmas.Nat.{pow-add}
 use Rattle.std.proofs.lemmas.Bool.{lt-ltb, le-ltb}
 use Rattle.fips204_base.specs.Residues.{sum_below, IsCongruent}
-use Rattle.fips204_base.specs.Transforms.{root, transform, inverse_root, inverse_transform, shifted, product, plus, minus, pointwise, row_product, ProductOfTransforms, InverseOfTransform}
+use Rattle.fips204_base.specs.Transforms.{root, transform, inverse_root, inverse_transform, shifted, product, plus, minus, pointwise, row_product, InverseOfTransform}
 use Rattle.fips204_base.proofs.Residues.{congruent_refl, congruent_of, congruent_sym, congruent_trans, congruent_mod, congruent_add, congruent_mul, sum_same, sum_equal, sum_below-swap, sum_below-plus, sum_below-times, sum_below-times_right, congruent_equal_mod, congruent_equal, sum_add}
 use Rattle.fips204_base.proofs.Roots.{root_turn}
 use Rattle.fips204_base.proofs.Transforms.{value_at, transform_value, inverse_of_transform, transform_of_inverse}

@@ -1,7 +1,6 @@
 -- Worked values of residues, products, transforms, norms and rounding.
 use Rattle.std.proofs.Common.{◌≡◌, pos, negsuc, [], ◌∷◌, refl, cond, rules, ◌++◌, if◌then◌else◌, map, true, false, ◌*◌, ◌+◌, ◌-◌, ◌%◌}
 use Rattle.std.proofs.Math.Dec.{eqb}
-use Rattle.fips204_base.specs.declared.types.R.{R}
 use Rattle.fips204_base.specs.Residues.{residue, sum_below, centred, norm, vector_norm, centred_modulo, IsMontgomery}
 use Rattle.fips204_base.specs.Transforms.{bit_reversed, zeta_at, root, inverse_root, transform, inverse_transform, product, row_product, shifted, plus, minus, pointwise}
 use Rattle.std.specs.Prelude.{replicate, nat_eq}

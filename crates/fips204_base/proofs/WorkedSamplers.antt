@@ -3,7 +3,6 @@ use Rattle.std.proofs.Common.{◌≡◌, [], ◌∷◌, ◌++◌, pos, negsuc, r
 use Rattle.std.specs.Prelude.{replicate, flat_map, option_map, map, get_or, take, length}
 use Rattle.std.specs.Int.{w16, to_le_bytes}
 use Rattle.std.specs.List.{range_with_len}
-use Rattle.fips204_base.specs.Network.{sampled_entry, mask_polynomial}
 use Rattle.fips204_base.specs.Packing.{bits, integer_to_bits, bits_to_integer, coefficient, bit_length}
 use Rattle.fips204_base.specs.Vectors.{polynomial_of}
 use Rattle.fips204_base.specs.Sampling.{coefficient_from_three_bytes, coefficient_from_half_byte, half_bytes, first_256, all_present, triple, kept_triples, matrix_entry, sampled_matrix, kept_half_bytes, small_polynomial, small_vector, field_at, unpacked, mask, picks, moved, places, signed_sum, challenge_picks, challenge}
@@ -74,13 +73,13 @@ unfolding challenge challenge_picks picks places moved signed_sum polynomial_of 
 challenge_past_its_limit = refl
 
 -- over bytes 55 every field of 18 bits is 87381, and every coefficient 131072 less it
-mask_over_55 : mask_polynomial 131072 (replicate 576 0x55) ≡ record { 0 = replicate 256 (pos 43691) }
-unfolding polynomial_of unpacked field_at bits integer_to_bits bits_to_integer coefficient bit_length
+mask_over_55 : mask 131072 (λ _. replicate 576 0x55) [] 1 0 ≡ record { 0 = replicate 256 (pos 43691) } ∷ []
+unfolding mask polynomial_of unpacked field_at bits integer_to_bits bits_to_integer coefficient bit_length
 mask_over_55 = refl
 
 -- over zeros every coefficient is gamma1, also with 20 bits
-mask_over_zeros : mask_polynomial 524288 (replicate 640 0) ≡ record { 0 = replicate 256 (pos 524288) }
-unfolding polynomial_of unpacked field_at bits integer_to_bits bits_to_integer coefficient bit_length
+mask_over_zeros : mask 524288 (λ _. replicate 640 0) [] 1 0 ≡ record { 0 = replicate 256 (pos 524288) } ∷ []
+unfolding mask polynomial_of unpacked field_at bits integer_to_bits bits_to_integer coefficient bit_length
 mask_over_zeros = refl
 
 -- the largest counter of the mask, 813 * 7 + 6
@@ -100,10 +99,11 @@ entry_at_its_limit : (option_map (λ t. length t.0) (matrix_entry (replicate 6 0
 unfolding matrix_entry kept_triples triple first_256
 entry_at_its_limit = (refl, refl)
 
--- the seed of an entry begins with rho
-seed_begins_with_rho : option_map (λ t. get_or t.0 0 (pos 0)) (sampled_entry (λ seed. seed ++ replicate 1021 0) (7 ∷ []) 2 1) ≡ Some (pos 131335)
-unfolding matrix_entry kept_triples triple first_256
-seed_begins_with_rho = refl
+-- the seed of an entry is rho, its column and its row: here 7, then 0 or 1 each
+seeds_of_a_matrix : option_map (λ a. map (λ row. map (λ t. get_or t.0 0 (pos 0)) row) a) (sampled_matrix (λ seed. seed ++ replicate 1021 0) (7 ∷ []) 2 2)
+    ≡ Some ((pos 7 ∷ pos 263 ∷ []) ∷ (pos 65543 ∷ pos 65799 ∷ []) ∷ [])
+unfolding sampled_matrix all_present matrix_entry kept_triples triple first_256
+seeds_of_a_matrix = refl
 
 -- a coefficient moves twice
 places_move_twice : places 217 (217 ∷ 217 ∷ 218 ∷ []) ≡ 219 ∷ 217 ∷ 218 ∷ []
@@ -116,7 +116,7 @@ challenge_of_two : option_map (λ c. take 9 c.0) (challenge 2 (1 ∷ replicate 7
 unfolding challenge challenge_picks picks places moved signed_sum polynomial_of bits integer_to_bits
 challenge_of_two = refl
 
--- the seed of a polynomial of the mask begins with rho
-mask_begins_with_rho : map (λ w. get_or w.0 0 (pos 0)) (mask 131072 (λ seed. seed ++ replicate 573 0) (5 ∷ []) 1 513) ≡ negsuc 260 ∷ []
+-- the seed of a polynomial of the mask is rho and two bytes
+mask_begins_with_rho : map (λ w. take 2 w.0) (mask 131072 (λ seed. seed ++ replicate 573 0xFF) (5 ∷ []) 1 513) ≡ (negsuc 260 ∷ negsuc 131007 ∷ []) ∷ []
 unfolding mask polynomial_of unpacked field_at bits integer_to_bits bits_to_integer coefficient bit_length
 mask_begins_with_rho = refl

@@ -34,10 +34,11 @@ make_hint gamma2 z r = not (nat_eq (high_bits gamma2 r) (high_bits gamma2 ((r + 
 abbrev pub high_values : ℕ → ℕ
 high_values gamma2 = 8380416 / (2 * gamma2)
 
--- UseHint (Algorithm 40): without a hint the high bits of r; with one they go one up where r0 > 0 and else one down,
--- modulo the number of values
+-- UseHint (Algorithm 40): without a hint r1 of (r1, r0); with one r1 goes one up where r0 > 0 and else one down, modulo the number
+-- of values
 unfoldable pub use_hint : ℕ → Bool → ℕ → ℕ
 use_hint gamma2 hint r =
-    if not hint then high_bits gamma2 r
-    else if int_lt (pos 0) (low_bits gamma2 r) then (high_bits gamma2 r + 1) % high_values gamma2
-    else (high_bits gamma2 r + (high_values gamma2 - 1)) % high_values gamma2
+    let parts = decompose gamma2 r in
+    if not hint then parts.0
+    else if int_lt (pos 0) parts.1 then (parts.0 + 1) % high_values gamma2
+    else (parts.0 + (high_values gamma2 - 1)) % high_values gamma2

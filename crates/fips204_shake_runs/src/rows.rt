@@ -67,12 +67,7 @@ where
     let context = hex::decode(alloc, context)?;
     let message = hex::decode(alloc, message)?;
     let [seed, random, public, private, signature] = bytes(fixed)?;
-    let given = hashes::<K, PK, SK, SIG>(
-        &seed,
-        &random,
-        context.as_slice(),
-        message.as_slice(),
-    )?;
+    let given = hashes::<K, PK, SK, SIG>(&seed, &random, context.as_slice(), message.as_slice())?;
     Ok(given == ([public, private, signature], true))
 }
 

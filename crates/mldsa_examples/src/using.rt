@@ -111,7 +111,7 @@ where
     K::PrivateKey: SerDes<ByteArray = [u8; SK]> + Signer<Signature = [u8; SIG]> + Drop,
     ensures { MatchResult (K.generated seed.now)
         (λ keys. MatchResult (K.PrivateKey.signs keys.1 random.now message.now CONTEXT.now)
-            (λ _. result ≡ Ok true) (λ fault. result ≡ Err fault))
+        (λ _. result ≡ Ok true) (λ fault. result ≡ Err fault))
         (λ fault. result ≡ Err fault) }
 {
     let (public, private) = K::keygen_from_seed(seed)?;

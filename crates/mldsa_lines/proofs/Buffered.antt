@@ -36,9 +36,11 @@ gave_one (Some xs) (Some ys) new limit r s byte is keeps few known first drops r
     within : (most : Option ℕ) → IfSome most (λ n. length s.now ≤ n) → 1 ≤ length s.now → IfSome most (λ n. 1 ≤ n)
     within None few one = search rules
     within (Some n) few one = omega (arith, few, one)
+
     written : (xs : List ℕ) → length xs ≡ 1 → take 1 (slice_set xs 0 byte) ≡ byte ∷ []
     written [] e = absurd cc
     written (x ∷ xs) e = refl
+
     filled : (buffer : List ℕ) (b : ℕ) → slice_get buffer 0 ≡ Some b → 1 ≤ length buffer
     filled [] b e = absurd cc
     filled (x ∷ rest) b e = omega arith

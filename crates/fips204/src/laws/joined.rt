@@ -103,7 +103,7 @@ where
     K::PrivateKey: SerDes<ByteArray = [u8; SK]> + Signer<Signature = [u8; SIG]> + Drop,
     ensures { MatchResult (K.generated xi.now)
         (λ keys. MatchResult (K.PrivateKey.signs keys.1 rnd.now message.now ctx.now)
-            (λ _. result ≡ Ok true) (λ fault. result ≡ Err fault))
+        (λ _. result ≡ Ok true) (λ fault. result ≡ Err fault))
         (λ fault. result ≡ Err fault) }
 {
     let (public, private) = K::keygen_from_seed(xi)?;

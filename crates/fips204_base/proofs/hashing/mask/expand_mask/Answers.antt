@@ -2,7 +2,6 @@ use Rattle.std.proofs.Common.{ℕ, ◌≡◌, ◌+◌, ◌<◌, ◌++◌, [], ge
 use Rattle.std.specs.Int.{w16, w32, to_le_bytes}
 use Rattle.std.proofs.lemmas.List.FromFn.{fill_by_all}
 use Rattle.fips204_base.specs.declared.types.R.{R}
-use Rattle.fips204_base.specs.Sampling.{mask}
 use Rattle.fips204_base.proofs.Masks.{mask-is}
 use Rattle.fips204_base.proofs.hashing.mask.expand_mask.Goals as goal
 use Rattle.fips204_base.specs.Network.{mask_polynomial}

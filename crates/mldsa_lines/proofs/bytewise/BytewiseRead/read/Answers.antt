@@ -20,4 +20,4 @@ returns-clause-told g c =
     let first : slice_get c.in_ok-fill_buf.field-0.now 0 ≡ Some c.in-Some.byte = sym c.first.ensures.value ∙ sym c.copied.ensures ∙ c.in-Some.is in
     let single : length c.args.room.now ≡ 1 = search rules in
     gave_one before held after (g.B.BufRead.consumable_len c.fill_buf.follows.lender-at-none) c.fill_buf.result c.in_ok-fill_buf.field-0 c.in-Some.byte is
-      c.fill_buf.follows.holds-at-none.0 c.fill_buf.follows.holds-at-none.1 c.fill_buf.follows.claims.0 first c.consume.ensures.bytes c.args.room.now single
+    c.fill_buf.follows.holds-at-none.0 c.fill_buf.follows.holds-at-none.1 c.fill_buf.follows.claims.0 first c.consume.ensures.bytes c.args.room.now single

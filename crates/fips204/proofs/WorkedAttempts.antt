@@ -1,0 +1,64 @@
+-- Worked values of one attempt of signing.
+use Rattle.std.proofs.Common.{◌≡◌, ℕ, ℤ, pos, negsuc, [], ◌∷◌, Bool, true, false, refl, map, take, nat_eq}
+use Rattle.std.specs.Prelude.{if◌then◌else◌}
+use Rattle.fips204_base.specs.declared.types.R.{R}
+use Rattle.fips204_base.specs.Residues.{sum_below, centred}
+use Rattle.fips204_base.specs.Rounding.{decompose}
+use Rattle.fips204_base.specs.Transforms.{product, shifted}
+use Rattle.fips204_base.specs.Vectors.{polynomial_of, vector_of}
+use Rattle.fips204_base.specs.Encodings.{ones_below, is_one}
+use Rattle.fips204.specs.ParameterSets.{ParameterSet, set_44}
+use Rattle.fips204.specs.Keys.{PrivateParts}
+use Rattle.fips204.specs.Signing.{response, low_vector, ct0, hint_vector, passes_checks}
+
+-- a set of one row and one column, with another gamma1 and omega; beta is 78
+toy : ℕ → ℕ → ParameterSet
+toy g o = record set_44 { tau = 1; gamma1 = g; k = 1; l = 1; omega = o }
+
+-- the constant polynomial x
+one : ℤ → R
+one x = record { 0 = x ∷ [] }
+
+-- a key whose vectors are constants
+parts : ℤ → ℤ → ℤ → PrivateParts
+parts s1 s2 t0 = record { rho = []; key = []; tr = []; s1 = one s1 ∷ []; s2 = one s2 ∷ []; t0 = one t0 ∷ [] }
+
+-- whether an attempt is kept whose mask is y and whose w is w, with the challenge 1
+checks : ℕ → ℕ → ℤ → ℤ → ℤ → ℤ → ℕ → Bool
+checks g o s1 s2 t0 y w = passes_checks (toy g o) (parts s1 s2 t0) (one y ∷ []) (λ r n. if nat_eq n 0 then w else 0) (one (pos 1))
+
+-- 98 and 2 times 3, and -98
+response_of_constants : (map (λ w. take 2 w.0) (response (toy 178 80) (parts (pos 3) (pos 0) (pos 0)) (one (pos 98) ∷ []) (one (pos 2))) ≡ (pos 104 ∷ pos 0 ∷ []) ∷ [])
+    × (map (λ w. take 1 w.0) (response (toy 178 80) (parts (pos 0) (pos 0) (pos 0)) (one (negsuc 97) ∷ []) (one (pos 2))) ≡ (negsuc 97 ∷ []) ∷ [])
+unfolding toy one parts response vector_of polynomial_of product shifted sum_below centred
+response_of_constants = (refl, refl)
+
+-- 5 less 2 times 7
+low_bits_of_constants : map (λ w. take 2 w.0) (low_vector (toy 178 80) (parts (pos 0) (pos 7) (pos 0)) (λ r n. if nat_eq n 0 then 5 else 0) (one (pos 2))) ≡ (negsuc 8 ∷ pos 0 ∷ []) ∷ []
+unfolding toy one parts low_vector vector_of polynomial_of product shifted sum_below decompose
+low_bits_of_constants = refl
+
+-- 2 times 7
+ct0_of_constants : map (λ w. take 2 w.0) (ct0 (toy 178 80) (parts (pos 0) (pos 0) (pos 7)) (one (pos 2))) ≡ (pos 14 ∷ pos 0 ∷ []) ∷ []
+unfolding toy one parts ct0 vector_of polynomial_of product shifted sum_below
+ct0_of_constants = refl
+
+-- the norm of z is below 178 less 78
+norm_of_z : (checks 178 80 (pos 1) (pos 0) (pos 0) (pos 98) 0 ≡ true) × (checks 178 80 (pos 1) (pos 0) (pos 0) (pos 99) 0 ≡ false)
+unfolding checks toy one parts passes_checks response low_vector ct0 hint_vector vector_of polynomial_of product shifted sum_below centred decompose ones_below is_one
+norm_of_z = (refl, refl)
+
+-- that of r0 is below gamma2 less 78
+norm_of_r0 : (checks 178 80 (pos 0) (pos 1) (pos 0) (pos 0) 95154 ≡ true) × (checks 178 80 (pos 0) (negsuc 0) (pos 0) (pos 0) 95153 ≡ false)
+unfolding checks toy one parts passes_checks response low_vector ct0 hint_vector vector_of polynomial_of product shifted sum_below centred decompose ones_below is_one
+norm_of_r0 = (refl, refl)
+
+-- that of c t0 is below gamma2
+norm_of_ct0 : (checks 178 80 (pos 0) (pos 0) (pos 95231) (pos 0) 0 ≡ true) × (checks 178 80 (pos 0) (pos 0) (pos 95232) (pos 0) 0 ≡ false)
+unfolding checks toy one parts passes_checks response low_vector ct0 hint_vector vector_of polynomial_of product shifted sum_below centred decompose ones_below is_one
+norm_of_ct0 = (refl, refl)
+
+-- the hint has at most omega ones
+ones_of_hint : (checks 178 1 (pos 0) (pos 0) (pos 200) (pos 0) 95100 ≡ true) × (checks 178 0 (pos 0) (pos 0) (pos 200) (pos 0) 95100 ≡ false)
+unfolding checks toy one parts passes_checks response low_vector ct0 hint_vector vector_of polynomial_of product shifted sum_below centred decompose ones_below is_one
+ones_of_hint = (refl, refl)
