@@ -204,8 +204,7 @@ published_valid law private public random context message signature valid publis
 pub signed_valid : (law : SignedIsAccepted) → SignedIsValid
 signed_valid law algorithm seed private public random context message signature valid made signs judges =
     let keys = keys_of_seed (set_of algorithm) law (known_set algorithm) seed made.pk made.sk made.keys in
-    published_valid law private public random context message signature valid
-    (
+    published_valid law private public random context message signature valid (
       algorithm,
       public_key_bytes made.pk.rho made.pk.t1,
       (Seed seed, made.private_text, record { pk = made.pk; sk = made.sk; keys = keys; is = refl }),

@@ -6,7 +6,7 @@ ghost use Rattle.mlsign_engine.specs.Commands.{Generates};
 
 use crate::fault::CommandFault;
 use crate::publishing::{bytes_at, public_text};
-use mlsign_files::pem::{self, Kind, LineEnd};
+use mlsign_files::pem::{self, Kind};
 use mlsign_files::{Algorithm, PrivateKey, write_private};
 use std::alloc::Global;
 
@@ -33,7 +33,7 @@ pub fn keygen(
     let private = write_private(alloc, algorithm, key)?;
     let public = bytes_at(alloc, algorithm, key)?;
     Ok(KeyTexts {
-        private: pem::encode(alloc, Kind::Private, LineEnd::Lf, private.as_slice())?,
+        private: pem::encode(alloc, Kind::Private, private.as_slice())?,
         public: public_text(alloc, algorithm, public.as_slice())?,
     })
 }

@@ -9,7 +9,7 @@ ghost use Rattle.mlsign_engine.specs.Commands.{HasPublicBytes, HasPublicKey, Pub
 
 use crate::at_set::AtSet;
 use crate::fault::CommandFault;
-use mlsign_files::pem::{self, Kind, LineEnd};
+use mlsign_files::pem::{self, Kind};
 use mlsign_files::{Algorithm, PrivateKey, read_private, write_public};
 use std::alloc::{AllocError, Global};
 
@@ -35,7 +35,7 @@ pub(crate) fn public_text(
     ensures { IfOk result (λ text. IsPublicText text.items algorithm bytes.now) }
 {
     let der = write_public(alloc, algorithm, bytes)?;
-    pem::encode(alloc, Kind::Public, LineEnd::Lf, der.as_slice())
+    pem::encode(alloc, Kind::Public, der.as_slice())
 }
 
 /// The algorithm of the private key in this text, and the bytes of its public key.

@@ -8,6 +8,7 @@ ghost use Rattle.base64.specs.Engines.{standard};
 ghost use Rattle.mlsign_files.specs.Pem.{begin_line, end_line, line_end, lines, wrapped, closing, pem, IsPem};
 ghost use Rattle.mlsign_files.specs.PemReading.{GivesOrFails, FailsLike, begun_fault, ended_at, opened_at, closed_fault, is_dash, closed_at, is_in_line, unwrapped_at, decoded_as, pem_at};
 ghost use Rattle.mlsign_files.specs.Reading.{Gives};
+ghost use Rattle.mlsign_files.specs.declared.pem.LineEnd.TheVariants.{Lf};
 
 use crate::fault::FileFault;
 use base64::DecodeAllocError;
@@ -231,10 +232,12 @@ pub fn decode(alloc: Global, kind: Kind, text: &[u8]) -> Result<Vec<u8>, FileFau
     spelled(alloc, kind, text)
 }
 
-/// The text of this kind that spells these bytes.
-pub fn encode(alloc: Global, kind: Kind, ending: LineEnd, der: &[u8]) -> Result<Vec<u8>, AllocError>
-    ensures { IfOk result (λ text. IsPem text.items kind der.now) }
+/// The text of this kind that spells these bytes, in lines that end in LF.
+pub fn encode(alloc: Global, kind: Kind, der: &[u8]) -> Result<Vec<u8>, AllocError>
+    ensures written { IfOk result (λ text. text.items ≡ pem kind Lf der.now) }
+    ensures spelled { IfOk result (λ text. IsPem text.items kind der.now) }
 {
+    let ending = LineEnd::Lf;
     let symbols = STANDARD.encode(alloc, der)?;
     let mut text = Vec::new(alloc);
     text.extend_from_slice(kind.begin_line())?;

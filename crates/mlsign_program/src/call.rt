@@ -1,7 +1,7 @@
 //! The calls of the program.
 #![tactic(auto)]
 
-use clap::{Arg, ArgAction, ArgMatches, Command, Error};
+use clap::{Arg, ArgMatches, Command, Error, arg};
 use mlsign_files::Algorithm;
 use std::alloc::{AllocError, Global};
 use std::convert::AsStr;
@@ -42,105 +42,67 @@ pub(crate) enum Call<'a> {
     },
 }
 
-/// An option that names a file, and has to be given.
-fn file<'a>(alloc: Global, name: &'a str, help: &'a str) -> Arg<'a> {
-    Arg::new(alloc, name)
-        .long(name)
-        .value_name("FILE")
-        .required(true)
-        .help(help)
-}
-
-/// An argument that names a file by its place.
-fn place<'a>(alloc: Global, name: &'a str, shown: &'a str, help: &'a str) -> Arg<'a> {
-    Arg::new(alloc, name)
-        .value_name(shown)
-        .required(true)
-        .help(help)
-}
-
-/// The option for a context.
-fn context<'a>(alloc: Global) -> Arg<'a> {
-    Arg::new(alloc, "context")
-        .long("context")
-        .value_name("TEXT")
-        .default_value("")
-        .hide_default_value(true)
-        .help("What the message is signed for, at most 255 bytes")
-}
-
-/// An option that is given or not.
-fn flag<'a>(alloc: Global, name: &'a str, help: &'a str) -> Arg<'a> {
-    Arg::new(alloc, name)
-        .long(name)
-        .action(ArgAction::SetTrue)
-        .help(help)
-}
-
 /// The command `keygen`.
 fn keygen<'a>(alloc: Global) -> Result<Command<'a>, AllocError> {
-    let set = Arg::new(alloc, "set")
-        .long("set")
-        .value_name("SET")
+    let set = arg!(in alloc; --set <SET> "The parameter set")
         .value_parser(["44", "65", "87"].as_slice())
-        .default_value("65")
-        .help("The parameter set");
+        .default_value("65");
     Command::new(alloc, "keygen")
         .about("Makes a pair of keys")
         .arg(set)?
-        .arg(file(alloc, "private", "Where the private key goes"))?
-        .arg(file(alloc, "public", "Where the public key goes"))?
-        .arg(flag(alloc, "force", "Overwrite a private key"))
+        .arg(arg!(in alloc; --private <FILE> "Where the private key goes").required(true))?
+        .arg(arg!(in alloc; --public <FILE> "Where the public key goes").required(true))?
+        .arg(arg!(in alloc; --force "Overwrite a private key"))
 }
 
 /// The command `public`.
 fn public<'a>(alloc: Global) -> Result<Command<'a>, AllocError> {
     Command::new(alloc, "public")
         .about("Writes the public key of a private one")
-        .arg(file(alloc, "private", "The private key"))?
-        .arg(file(alloc, "public", "Where the public key goes"))
+        .arg(arg!(in alloc; --private <FILE> "The private key").required(true))?
+        .arg(arg!(in alloc; --public <FILE> "Where the public key goes").required(true))
+}
+
+/// The option for a context.
+fn context<'a>(alloc: Global) -> Arg<'a> {
+    arg!(in alloc; --context <TEXT> "What the message is signed for, at most 255 bytes")
+        .default_value("")
+        .hide_default_value(true)
+}
+
+/// The message.
+fn message<'a>(alloc: Global) -> Arg<'a> {
+    arg!(in alloc; message: <MESSAGE> "The message, or - for standard input")
 }
 
 /// The command `sign`.
 fn sign<'a>(alloc: Global) -> Result<Command<'a>, AllocError> {
     Command::new(alloc, "sign")
         .about("Signs a message")
-        .arg(file(alloc, "private", "The private key"))?
+        .arg(arg!(in alloc; --private <FILE> "The private key").required(true))?
         .arg(context(alloc))?
-        .arg(flag(
-            alloc,
-            "deterministic",
-            "Sign without random bytes: always the same signature",
-        ))?
-        .arg(file(alloc, "out", "Where the signature goes"))?
-        .arg(place(
-            alloc,
-            "message",
-            "MESSAGE",
-            "The message, or - for standard input",
-        ))
+        .arg(
+            arg!(in alloc; --deterministic "Sign without random bytes: always the same signature"),
+        )?
+        .arg(arg!(in alloc; --out <FILE> "Where the signature goes").required(true))?
+        .arg(message(alloc))
 }
 
 /// The command `verify`.
 fn verify<'a>(alloc: Global) -> Result<Command<'a>, AllocError> {
     Command::new(alloc, "verify")
         .about("Verifies a signature of a message")
-        .arg(file(alloc, "public", "The public key"))?
+        .arg(arg!(in alloc; --public <FILE> "The public key").required(true))?
         .arg(context(alloc))?
-        .arg(file(alloc, "signature", "The signature"))?
-        .arg(place(
-            alloc,
-            "message",
-            "MESSAGE",
-            "The message, or - for standard input",
-        ))
+        .arg(arg!(in alloc; --signature <FILE> "The signature").required(true))?
+        .arg(message(alloc))
 }
 
 /// The command `show`.
 fn show<'a>(alloc: Global) -> Result<Command<'a>, AllocError> {
     Command::new(alloc, "show")
         .about("Says what a key's file is: its kind, its set, the hash of its public key")
-        .arg(place(alloc, "file", "FILE", "The file of a key"))
+        .arg(arg!(in alloc; file: <FILE> "The file of a key"))
 }
 
 /// The command line of the program.

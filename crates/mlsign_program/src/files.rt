@@ -8,7 +8,7 @@ use std::os::unix::fs::OpenOptionsExt;
 use std::random::RandomSource;
 use std::rt::Files;
 
-/// The most bytes that a key's file has. The longest, of both a seed and an expanded key, has 6768.
+/// The most bytes that a key's file has. The longest, of both a seed and an expanded key, has 6880.
 const LONGEST: usize = 16384;
 
 /// The bytes of a key's file.

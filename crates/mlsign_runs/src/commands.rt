@@ -6,7 +6,7 @@ use crate::recorded::{
 };
 use base64::engine::general_purpose::STANDARD;
 use mlsign_engine::{CommandFault, Marked, keygen, public, show, sign, verify};
-use mlsign_files::pem::{self, Kind, LineEnd};
+use mlsign_files::pem::{self, Kind};
 use mlsign_files::{Algorithm, FileFault, PrivateKey, write_private};
 use sha2::{Digest, Sha256};
 use std::alloc::Global;
@@ -145,7 +145,7 @@ fn keys_of_openssl(rt: HostRuntime) -> Result<(), Fail> {
 
 /// What `sign` answers with the file of this private key of ML-DSA-44.
 fn fault_of(alloc: Global, der: &[u8]) -> Result<bool, CommandFault> {
-    let text = pem::encode(alloc, Kind::Private, LineEnd::Lf, der)?;
+    let text = pem::encode(alloc, Kind::Private, der)?;
     let mut input = Marked::new(b"".as_slice());
     let signature = sign(alloc, text.as_slice(), &[0; 32], b"", &mut input)?;
     Ok(signature.is_empty())

@@ -1,7 +1,7 @@
 //! Files of OpenSSL, and files that are none.
 
 use crate::recorded::{PRIVATE_44, PRIVATE_65, PRIVATE_87, PUBLIC_44, PUBLIC_65, PUBLIC_87, SEED};
-use mlsign_files::pem::{self, Kind, LineEnd};
+use mlsign_files::pem::{self, Kind};
 use mlsign_files::{
     Algorithm, FileFault, PrivateKey, read_private, read_public, write_private, write_public,
 };
@@ -44,7 +44,7 @@ fn again(alloc: Global, text: &[u8]) -> Result<(Algorithm, bool, Vec<u8>), FileF
     };
     let is_seed = seed == SEED.as_slice();
     let der = seed_file(alloc, algorithm)?;
-    let text = pem::encode(alloc, Kind::Private, LineEnd::Lf, der.as_slice())?;
+    let text = pem::encode(alloc, Kind::Private, der.as_slice())?;
     Ok((algorithm, is_seed, text))
 }
 
@@ -58,7 +58,7 @@ fn public_again(alloc: Global, text: &[u8]) -> Result<Vec<u8>, FileFault> {
     let der = pem::decode(alloc, Kind::Public, text)?;
     let (algorithm, bytes) = read_public(der.as_slice())?;
     let der = write_public(alloc, algorithm, bytes)?;
-    Ok(pem::encode(alloc, Kind::Public, LineEnd::Lf, der.as_slice())?)
+    Ok(pem::encode(alloc, Kind::Public, der.as_slice())?)
 }
 
 /// The private keys of OpenSSL, as seeds: each is read as its set and seed, and written as it was.
