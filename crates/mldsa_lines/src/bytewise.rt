@@ -5,8 +5,8 @@ use std::io::{self, BufRead, Read};
 
 /// A buffered reader that takes single bytes out of the buffer and reads longer pieces as the reader itself
 /// does. So a file is read a byte at a time without a system call for each, and from a pipe, where only
-/// single bytes are buffered, a longer piece comes in as few calls as the pipe allows. Its contract
-/// says nothing about the bytes read.
+/// single bytes are buffered, a longer piece comes in as few calls as the pipe allows. It tells none of its
+/// bytes.
 #[derive(Drop)]
 pub struct Bytewise<B> {
     pub reader: B,
