@@ -1,4 +1,4 @@
-//! The calls that every parameter set offers.
+//! Traits that every parameter set implements.
 #![tactic(auto)]
 
 ghost use Rattle.std.specs.Prelude.{◌≡◌, ◌≢◌, ◌↔◌, ℕ, List, length, Result, Ok, Err, true, IfOk, IsTrue, MatchResult};
@@ -57,7 +57,7 @@ impl CryptoRngCore for DummyRng {
     }
 }
 
-/// Draws 32 bytes from the generator, which is asked once. Returns `refusal` if it fails.
+/// Draws 32 bytes from the generator in a single request. Returns `refusal` if it fails.
 pub(crate) fn draw<R: CryptoRngCore>(rng: &mut R, refusal: Fault) -> Result<[u8; 32], Fault>
     ensures { Draws R.gives R.refuses rng.old rng.new refusal Ok result }
 {
@@ -267,7 +267,7 @@ pub trait Scheme {
         ensures { result ≡ signs sk.now rnd.now message.now ctx.now };
 
     /// Verifies the signature of a message under a context. Returns true for every signature that `sign`
-    /// returned for the same message and context with the private key of the pair.
+    /// returned for the same message and context with the private key of the pair that `keygen` returned.
     fn verify(pk: &Self::Public, message: &[u8], signature: &Self::Signature, ctx: &[u8]) -> bool
         ensures answer { IsTrue result ↔ accepts pk.now message.now signature.now ctx.now }
         ensures signed_is_accepted { (xi rnd : List ℕ) (sk : Self.Private)

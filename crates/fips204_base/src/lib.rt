@@ -1,7 +1,7 @@
-//! The lower half of ML-DSA (FIPS 204): byte streams, arithmetic, conversions and encodings, over
+//! The lower half of ML-DSA (FIPS 204): XOFs, arithmetic, conversions and encodings, over
 //! polynomials of 256 coefficients modulo `q`.
 //!
-//! The crate `fips204` names what users need of it again; depend on that one. What is marked internal serves the
+//! The crate `fips204` re-exports what users need; depend on that one. What is marked internal serves the
 //! crate `fips204` alone, and may change with it.
 #![tactic(auto)]
 

@@ -1,7 +1,7 @@
 //! The program `mldsa`: `mldsa STREAMS COMMAND SET`, with its lines on standard input.
 //!
-//! The exit status is 0 for done or `yes`, 1 for `no` or a refusal, and 2 for a fault, whose text
-//! goes to standard error.
+//! The exit status is 0 for success or `yes`, 1 for `no` or an error of the library, and 2 for any
+//! other error, whose text goes to standard error.
 #![tactic(auto)]
 
 use mldsa_engine::process::{run_words, words};

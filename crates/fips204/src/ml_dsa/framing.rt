@@ -10,7 +10,7 @@ use crate::types::pre_hash::check_pre_hash;
 use fips204_base::Fault;
 use fips204_base::xof::{Xof, hash};
 
-/// The hash mu of a framed message: 64 bytes of `H`, read over the joined parts (lines 6 of Algorithm 7 and 7
+/// The hash mu of a framed message: 64 bytes of `H`, read over the joined parts (line 6 of Algorithm 7, line 7
 /// of Algorithm 8).
 pub fn mu<H: Xof>(parts: &[&[u8]]) -> [u8; 64]
     ensures { result ≡ take 64 (H.front (flat_map (λ p. p.now) parts.now)) }

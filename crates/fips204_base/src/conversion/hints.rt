@@ -1,4 +1,4 @@
-//! The spelling of hints.
+//! The encoding of hints.
 #![tactic(auto)]
 
 ghost use Rattle.std.specs.Prelude.{◌≡◌, ◌<◌, ◌≤◌, ◌+◌, ◌≤ℤ◌, List, pos, nat_abs, length, take, drop, ◌++◌, MatchOption};
@@ -28,7 +28,7 @@ fn polynomial_of(places: &[u8]) -> Option<R>
     Some(R(w))
 }
 
-/// `HintBitUnpack` (Algorithm 21): the hint that `y` spells, or `None` where it spells none.
+/// `HintBitUnpack` (Algorithm 21): the hint that `y` encodes, or `None` where it encodes none.
 ///
 /// `omega` is at least 1, `omega + K` is below 256, and `y` has exactly `omega + K` bytes.
 pub fn hint_bit_unpack<const K: usize>(omega: i32, y: &[u8]) -> Option<[R; K]>
@@ -76,7 +76,7 @@ fn write_places(w: &R, y: &mut [u8], from: usize) -> usize
     at
 }
 
-/// `HintBitPack` (Algorithm 20): writes the spelling of the hint `h`, whose coefficients are 0 or
+/// `HintBitPack` (Algorithm 20): writes the encoding of the hint `h`, whose coefficients are 0 or
 /// 1, with at most `omega` ones in all.
 ///
 /// `omega` is at least 1, `omega + K` is below 256, and `y` has exactly `omega + K` bytes.

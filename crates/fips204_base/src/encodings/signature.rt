@@ -13,7 +13,7 @@ use crate::high_low::high_values;
 use crate::types::R;
 
 /// `sigDecode` (Algorithm 27): the parts of a signature, `c_tilde`, `z` and the hint, or `None` where
-/// its last `omega + K` bytes spell no hint. Coefficients of `z` are in `[1 - gamma1, gamma1]`.
+/// its last `omega + K` bytes encode no hint. Coefficients of `z` are in `[1 - gamma1, gamma1]`.
 ///
 /// `gamma1` is 131072 or 524288, `omega` is at least 1, `omega + K` is below 256, and `SIG_LEN` is
 /// the length of the parts: `LAMBDA_DIV4`, 576 (640 at the larger `gamma1`) for each of the `L`

@@ -67,7 +67,7 @@ fn block<H: BlockHash<N>, const N: usize>(seed: &[u8; N], number: u32) -> [u8; N
     H::digest(&[seed.as_slice(), number.to_le_bytes().as_slice()])
 }
 
-/// Copies from `source` as many bytes as `out` takes, and answers how many.
+/// Copies from `source` as many bytes as `out` takes, and returns how many.
 fn write_run(source: &[u8], out: &mut [u8]) -> usize
     ensures count { result ≡ min (length source.now) (length out.old) }
     ensures copied { out.new ≡ take result source.now ++ drop result out.old }
@@ -94,7 +94,7 @@ impl<H: BlockHash<N>, const N: usize> BlockReader<H, N> {
         }
     }
 
-    /// Fills the front of `out` with bytes of one block, and answers how many these are.
+    /// Fills the front of `out` with bytes of one block, and returns how many these are.
     fn read_run(&mut self, out: &mut [u8]) -> usize
         requires wanted { 0 < length out.old }
         requires enough { length out.old ≤ length self.old }

@@ -1,4 +1,5 @@
-//! SHA-256 and SHA-512 in counter mode.
+//! SHA-256 and SHA-512 in counter mode, for tests: over `Sha256Ctr` no parameter set has more than 128 bits of
+//! collision resistance.
 #![tactic(auto)]
 
 ghost use Rattle.sha2.specs.Sha256.{sha256};
@@ -39,7 +40,7 @@ pub type Sha256CtrReader = BlockReader<Sha256, 32>;
 /// A reader of `Sha512Ctr` or `Sha512CtrLong`.
 pub type Sha512CtrReader = BlockReader<Sha512, 64>;
 
-/// SHA-256 in counter mode: 128 blocks over the digest of the input, where block `i` is SHA-256 of that
+/// SHA-256 in counter mode, for tests: 128 blocks over the digest of the input, where block `i` is SHA-256 of that
 /// digest followed by `i` as four bytes, the lowest first.
 pub struct Sha256Ctr;
 
