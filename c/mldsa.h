@@ -78,12 +78,12 @@ enum mldsa_status {
 #define MLDSA44_PRIVATE_KEY_LEN 2560
 #define MLDSA44_SIGNATURE_LEN 2420
 
-#define MLDSA44_STACK_KEYGEN 131072
-#define MLDSA44_STACK_SIGN 191488
+#define MLDSA44_STACK_KEYGEN 112640
+#define MLDSA44_STACK_SIGN 180224
 #define MLDSA44_STACK_VERIFY 118784
-#define MLDSA44_STACK_PUBLIC_KEY 125952
-#define MLDSA44_STACK_CHECK 74752
-#define MLDSA44_STACK_WHOLE 107520
+#define MLDSA44_STACK_PUBLIC_KEY 133120
+#define MLDSA44_STACK_CHECK 95232
+#define MLDSA44_STACK_WHOLE 117760
 
 uint32_t mldsa44_keygen(const uint8_t *seed, size_t seed_len, uint8_t *public_key, size_t public_key_len,
                         uint8_t *private_key, size_t private_key_len);
@@ -114,12 +114,12 @@ uint32_t mldsa44_is_whole(const uint8_t *private_key, size_t private_key_len);
 #define MLDSA65_PRIVATE_KEY_LEN 4032
 #define MLDSA65_SIGNATURE_LEN 3309
 
-#define MLDSA65_STACK_KEYGEN 177152
-#define MLDSA65_STACK_SIGN 251904
+#define MLDSA65_STACK_KEYGEN 150528
+#define MLDSA65_STACK_SIGN 236544
 #define MLDSA65_STACK_VERIFY 146432
-#define MLDSA65_STACK_PUBLIC_KEY 192512
-#define MLDSA65_STACK_CHECK 118784
-#define MLDSA65_STACK_WHOLE 164864
+#define MLDSA65_STACK_PUBLIC_KEY 184320
+#define MLDSA65_STACK_CHECK 128000
+#define MLDSA65_STACK_WHOLE 161792
 
 uint32_t mldsa65_keygen(const uint8_t *seed, size_t seed_len, uint8_t *public_key, size_t public_key_len,
                         uint8_t *private_key, size_t private_key_len);
@@ -150,12 +150,12 @@ uint32_t mldsa65_is_whole(const uint8_t *private_key, size_t private_key_len);
 #define MLDSA87_PRIVATE_KEY_LEN 4896
 #define MLDSA87_SIGNATURE_LEN 4627
 
-#define MLDSA87_STACK_KEYGEN 230400
-#define MLDSA87_STACK_SIGN 340992
+#define MLDSA87_STACK_KEYGEN 194560
+#define MLDSA87_STACK_SIGN 319488
 #define MLDSA87_STACK_VERIFY 195584
-#define MLDSA87_STACK_PUBLIC_KEY 257024
-#define MLDSA87_STACK_CHECK 157696
-#define MLDSA87_STACK_WHOLE 220160
+#define MLDSA87_STACK_PUBLIC_KEY 253952
+#define MLDSA87_STACK_CHECK 178176
+#define MLDSA87_STACK_WHOLE 223232
 
 uint32_t mldsa87_keygen(const uint8_t *seed, size_t seed_len, uint8_t *public_key, size_t public_key_len,
                         uint8_t *private_key, size_t private_key_len);

@@ -17,6 +17,9 @@ use crate::types::R;
 /// and s2, plus 416 for each of the `K` polynomials of t0.
 ///
 /// Errors: `Fault::KeyRange` if a field of s1 or s2 is above `2 eta`.
+///
+/// Not inlined, so that what decoding needs leaves the stack before the parts are used.
+#[inline(never)]
 pub fn sk_decode<const K: usize, const L: usize, const SK_LEN: usize>(
     eta: i32,
     sk: &[u8; SK_LEN],
