@@ -151,7 +151,7 @@ where
             × (output.success ≡ true)) }
         ensures memory { IfErr result (λ fault. fault ≡ RunFault.Memory) }
     {
-        let key = Self::decode(key);
+        let key = PublicKey::<K, L, H, G>::try_from_bytes(array_of(key)).unwrap();
         let tr = *key.tr();
         two_lines(alloc, &key.into_bytes(), &tr)
     }
