@@ -91,6 +91,7 @@ fill00/check/44 | 0*64,0*64,,00, | ML-DSA.Sign: too many attempts, | 1
 fill55/check/44 | 0*64,0*64,0*512,00, | ML-DSA.Sign: ctx too long, | 1
 fillff/check/44 | 0*64,0*64,0*512,00, | sampling limit reached, | 1
 fillff/verify/44 | 0*2624,0*4840,,,|00, | no, | 1
-fill55/verify/44 | 0*2624,0*4838,,0|0, | line 2: wants 2420 bytes, has 2419 | 2";
+fill55/verify/44 | 0*2624,0*4838,,0|0, | line 2: wants 2420 bytes, has 2419 | 2
+fill55/verify/44 | public,short,,0|0, | line 2: wants 2420 bytes, has 2419 | 2";
     all_go(rt.alloc(), cases)
 }

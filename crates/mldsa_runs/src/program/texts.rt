@@ -39,6 +39,11 @@ fn constant(alloc: Global, set: &str, word: &str) -> Result<String, AllocError> 
         ("good", "44") => hex::encode(alloc, &signature_44()),
         ("good", "65") => hex::encode(alloc, &signature_65()),
         ("good", _) => hex::encode(alloc, &signature_87()),
+        ("short", _) => {
+            // All but the last byte.
+            let signature = hex::encode(alloc, &signature_44())?;
+            String::from_str(alloc, signature.get(..4838).unwrap_or(""))
+        }
         ("good4", _) => hex::encode(alloc, &signature_44_of_least_coefficient()),
         ("private4" | "private5", _) => {
             // The first field of s1, of which 4 is the last in range.
