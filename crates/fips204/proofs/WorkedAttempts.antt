@@ -1,5 +1,5 @@
 -- Worked values of one attempt of signing.
-use Rattle.std.proofs.Common.{◌≡◌, ℕ, ℤ, pos, negsuc, [], ◌∷◌, Bool, true, false, refl, map, take, nat_eq}
+use Rattle.std.proofs.Common.{◌≡◌, ℕ, ℤ, pos, negsuc, [], ◌∷◌, Bool, true, false, refl, map, take, length, nat_eq}
 use Rattle.std.specs.Prelude.{if◌then◌else◌}
 use Rattle.fips204_base.specs.declared.types.R.{R}
 use Rattle.fips204_base.specs.Residues.{sum_below, centred}
@@ -7,7 +7,7 @@ use Rattle.fips204_base.specs.Rounding.{decompose}
 use Rattle.fips204_base.specs.Transforms.{product, shifted}
 use Rattle.fips204_base.specs.Vectors.{polynomial_of, vector_of}
 use Rattle.fips204_base.specs.Encodings.{ones_below, is_one}
-use Rattle.fips204.specs.ParameterSets.{ParameterSet, set_44}
+use Rattle.fips204.specs.ParameterSets.{ParameterSet, set_44, set_65}
 use Rattle.fips204.specs.Keys.{PrivateParts}
 use Rattle.fips204.specs.Signing.{response, low_vector, ct0, hint_vector, passes_checks}
 
@@ -62,3 +62,11 @@ norm_of_ct0 = (refl, refl)
 ones_of_hint : (checks 178 1 (pos 0) (pos 0) (pos 200) (pos 0) 95100 ≡ true) × (checks 178 0 (pos 0) (pos 0) (pos 200) (pos 0) 95100 ≡ false)
 unfolding checks toy one parts passes_checks response low_vector ct0 hint_vector vector_of polynomial_of product shifted sum_below centred decompose ones_below is_one
 ones_of_hint = (refl, refl)
+
+-- as many polynomials as columns, and else as rows
+rows_of_parts : (length (response set_65 (parts (pos 0) (pos 0) (pos 0)) [] (one (pos 0))) ≡ 5)
+    × (length (low_vector set_65 (parts (pos 0) (pos 0) (pos 0)) (λ r n. 0) (one (pos 0))) ≡ 6)
+    × (length (ct0 set_65 (parts (pos 0) (pos 0) (pos 0)) (one (pos 0))) ≡ 6)
+    × (length (hint_vector set_65 (parts (pos 0) (pos 0) (pos 0)) (λ r n. 0) (one (pos 0))) ≡ 6)
+unfolding one parts response low_vector ct0 hint_vector vector_of
+rows_of_parts = (refl, refl, refl, refl)
