@@ -44,17 +44,17 @@ pub fn verify_internal<
     let Some(parts) = opened::<K, L, LAMBDA_DIV4, SIG_LEN, H>(p, sig) else {
         return false;
     };
-    let (c_tilde, z, h, c) = &parts;
+    let (c_tilde, z, h, c) = parts;
     // A = ExpandA(rho), A z
     let mut v_hat = Transforms::zeros();
-    v_hat.write_transforms(z);
+    v_hat.write_transforms(&z);
     let mut az = Transforms::zeros();
     match write_sampled_product::<K, L, G>(&pk.rho, &v_hat, &mut az) {
         Err(_) => false,
         Ok(()) => {
             // t1 2^d, in the place of z
             v_hat.write_transforms(&t1_shifted(&pk.t1));
-            is_committed::<K, LAMBDA_DIV4, H>(p, mu, c_tilde, h, c, &mut az, &v_hat)
+            is_committed::<K, LAMBDA_DIV4, H>(p, mu, &c_tilde, &h, &c, &mut az, &v_hat)
         }
     }
 }
@@ -73,12 +73,12 @@ pub(crate) fn verify_prepared<
     let Some(parts) = opened::<K, L, LAMBDA_DIV4, SIG_LEN, H>(p, sig) else {
         return false;
     };
-    let (c_tilde, z, h, c) = &parts;
+    let (c_tilde, z, h, c) = parts;
     // A z
     let mut az = Transforms::zeros();
-    az.write_transforms(z);
+    az.write_transforms(&z);
     az.multiply_by(&pk.a_hat);
-    is_committed::<K, LAMBDA_DIV4, H>(p, mu, c_tilde, h, c, &mut az, &pk.t1_hat)
+    is_committed::<K, LAMBDA_DIV4, H>(p, mu, &c_tilde, &h, &c, &mut az, &pk.t1_hat)
 }
 
 /// Whether `c_tilde` commits to `mu` and `w1' = UseHint(h, A z - c t1 2^d)` (lines 9 to 13). Uses `A z` up.
