@@ -4,8 +4,10 @@
 ghost use Rattle.std.specs.Prelude.{◌≡◌, ◌<◌, ◌≤◌, ◌++◌, ℕ, List, Ok, length, IfOk, OnOk};
 ghost use Rattle.mlsign_files.specs.Der.{small_integer, octet_string, element};
 ghost use Rattle.mlsign_files.specs.declared.algorithm.Algorithm.{Algorithm};
-ghost use Rattle.mlsign_files.specs.Keys.{PrivateParts, Both, private_parts, algorithm_identifier, IsPublicFile, IsPrivateFile, HasPrivateSizes, public_length, private_choice, subject_public_key_info, one_asymmetric_key};
-ghost use Rattle.mlsign_files.specs.Reading.{Gives, sized_at, algorithm_of, algorithm_at, whole_bytes_of, public_at, seed_at, expanded_at, both_at, choice_at, version_at, private_at};
+ghost use Rattle.mlsign_files.specs.Keys.{PrivateParts, Both, private_parts, private_choice, HasPrivateSizes};
+ghost use Rattle.mlsign_files.specs.Keys.{IsPublicFile, IsPrivateFile, algorithm_identifier, public_length};
+ghost use Rattle.mlsign_files.specs.Reading.{Gives, sized_at, algorithm_of, algorithm_at, whole_bytes_of, public_at};
+ghost use Rattle.mlsign_files.specs.Reading.{seed_at, expanded_at, both_at, choice_at, version_at, private_at};
 
 use crate::algorithm::Algorithm;
 use crate::der::{

@@ -5,8 +5,9 @@ ghost use Rattle.std.specs.Prelude.{◌≡◌, ◌≤◌, ◌++◌, ◌∷◌, �
 ghost use Rattle.std.specs.List.{position, position_or_len, filter};
 ghost use Rattle.base64.specs.GeneralPurpose.{encode_of, decode_of, IsBytes};
 ghost use Rattle.base64.specs.Engines.{standard};
-ghost use Rattle.mlsign_files.specs.Pem.{begin_line, end_line, line_end, lines, wrapped, closing, pem, IsPem};
-ghost use Rattle.mlsign_files.specs.PemReading.{GivesOrFails, FailsLike, begun_fault, ended_at, opened_at, closed_fault, is_dash, closed_at, is_in_line, unwrapped_at, decoded_as, pem_at};
+ghost use Rattle.mlsign_files.specs.Pem.{begin_line, line_end, wrapped, closing, pem, IsPem};
+ghost use Rattle.mlsign_files.specs.PemReading.{GivesOrFails, begun_fault, ended_at, opened_at, closed_fault, is_dash};
+ghost use Rattle.mlsign_files.specs.PemReading.{closed_at, is_in_line, unwrapped_at, decoded_as, pem_at};
 ghost use Rattle.mlsign_files.specs.Reading.{Gives};
 ghost use Rattle.mlsign_files.specs.declared.pem.LineEnd.TheVariants.{Lf};
 
