@@ -16,7 +16,7 @@ use Rattle.mlsign_files.specs.declared.fault.FileFault.{FileFault}
 use Rattle.mlsign_files.specs.declared.fault.FileFault.TheVariants.{Element, Version, OtherAlgorithm, KeyLength}
 use Rattle.mlsign_files.specs.Der.{element, length_bytes, sequence, octet_string, bit_string, small_integer, integer_tag, bit_string_tag, octet_string_tag, sequence_tag, context_tag_0}
 use Rattle.mlsign_files.specs.Keys.{identifier, algorithm_identifier, public_length, seed_length, private_length, subject_public_key_info, PrivateParts, Seed, Expanded, Both, private_parts, private_choice, HasPrivateSizes, one_asymmetric_key, IsPublicFile, IsPrivateFile}
-use Rattle.mlsign_files.specs.Reading.{◌>>=◌, Gives, sized_at, algorithm_of, algorithm_at, whole_bytes_of, public_at, seed_at, expanded_at, both_at, choice_at, version_at, private_at, element_at, whole_at}
+use Rattle.mlsign_files.specs.Reading.{◌>>=◌, Gives, sized_at, algorithm_of, algorithm_at, whole_bytes_of, public_at, seed_at, expanded_at, both_at, choice_at, version_at, private_at}
 use Rattle.mlsign_files.proofs.Elements.{AreBytes, bind_ok, chosen, ok_is, met, element_found, element_again, whole_found, whole_again}
 
 -- ---- sizes
@@ -68,8 +68,8 @@ pub record Takes (bytes text rest : List ℕ) : Type 0 where
 algorithm_found : (bytes : List ℕ) (x : Algorithm × List ℕ) → AreBytes bytes → algorithm_at bytes ≡ Ok x → Takes bytes (algorithm_identifier x.0) x.1
 unfolding algorithm_at
 algorithm_found bytes x all e =
-    let a = bind_ok (element_at sequence_tag bytes) (λ found. algorithm_of found.0 >>= λ algorithm. Ok (algorithm, found.1)) x e in
-    let b = bind_ok (algorithm_of a.0.0) (λ algorithm. Ok (algorithm, a.0.1)) x a.2 in
+    let a = bind_ok _ _ x e in
+    let b = bind_ok _ _ x a.2 in
     let f = element_found sequence_tag bytes a.0 all a.1 in
     let is : a.0.0 ≡ identifier b.0 = algorithm_of_found a.0.0 b.0 b.1 in
     let here : Takes bytes (algorithm_identifier b.0) a.0.1 =
@@ -101,11 +101,11 @@ whole_bytes_found (unused ∷ rest) bytes e =
 pub public_found : (der : List ℕ) (x : Algorithm × List ℕ) → AreBytes der → public_at der ≡ Ok x → IsPublicFile der x.0 x.1
 unfolding public_at subject_public_key_info
 public_found der x all e =
-    let a = bind_ok (whole_at sequence_tag der) (λ info. algorithm_at info >>= λ algorithm. whole_at bit_string_tag algorithm.1 >>= λ bits. whole_bytes_of bits >>= λ bytes. sized_at (public_length algorithm.0) bytes >>= λ sized. Ok (algorithm.0, sized)) x e in
-    let b = bind_ok (algorithm_at a.0) (λ algorithm. whole_at bit_string_tag algorithm.1 >>= λ bits. whole_bytes_of bits >>= λ bytes. sized_at (public_length algorithm.0) bytes >>= λ sized. Ok (algorithm.0, sized)) x a.2 in
-    let c = bind_ok (whole_at bit_string_tag b.0.1) (λ bits. whole_bytes_of bits >>= λ bytes. sized_at (public_length b.0.0) bytes >>= λ sized. Ok (b.0.0, sized)) x b.2 in
-    let d = bind_ok (whole_bytes_of c.0) (λ bytes. sized_at (public_length b.0.0) bytes >>= λ sized. Ok (b.0.0, sized)) x c.2 in
-    let f = bind_ok (sized_at (public_length b.0.0) d.0) (λ sized. Ok (b.0.0, sized)) x d.2 in
+    let a = bind_ok _ _ x e in
+    let b = bind_ok _ _ x a.2 in
+    let c = bind_ok _ _ x b.2 in
+    let d = bind_ok _ _ x c.2 in
+    let f = bind_ok _ _ x d.2 in
     let info = whole_found sequence_tag der a.0 all a.1 in
     let algorithm = algorithm_found a.0 b.0 info.inside b.1 in
     let bits = whole_found bit_string_tag b.0.1 c.0 algorithm.behind c.1 in
@@ -148,8 +148,8 @@ seed_found : (bytes : List ℕ) (parts : PrivateParts) → AreBytes bytes → se
     → (seed : List ℕ) × (parts ≡ Seed seed) × (length seed ≡ seed_length) × (bytes ≡ element context_tag_0 seed)
 unfolding seed_at
 seed_found bytes parts all e =
-    let a = bind_ok (whole_at context_tag_0 bytes) (λ contents. sized_at seed_length contents >>= λ seed. Ok (Seed seed)) parts e in
-    let b = bind_ok (sized_at seed_length a.0) (λ seed. Ok (Seed seed)) parts a.2 in
+    let a = bind_ok _ _ parts e in
+    let b = bind_ok _ _ parts a.2 in
     let whole = whole_found context_tag_0 bytes a.0 all a.1 in
     let sized = sized_found seed_length a.0 b.0 b.1 in
     (a.0, sym (ok_is (Seed b.0) parts b.2) ∙ ap Seed (sym sized.0), sized.1, whole.is)
@@ -158,8 +158,8 @@ expanded_found : (algorithm : Algorithm) (bytes : List ℕ) (parts : PrivatePart
     → (expanded : List ℕ) × (parts ≡ Expanded expanded) × (length expanded ≡ private_length algorithm) × (bytes ≡ octet_string expanded)
 unfolding expanded_at
 expanded_found algorithm bytes parts all e =
-    let a = bind_ok (whole_at octet_string_tag bytes) (λ contents. sized_at (private_length algorithm) contents >>= λ expanded. Ok (Expanded expanded)) parts e in
-    let b = bind_ok (sized_at (private_length algorithm) a.0) (λ expanded. Ok (Expanded expanded)) parts a.2 in
+    let a = bind_ok _ _ parts e in
+    let b = bind_ok _ _ parts a.2 in
     let whole = whole_found octet_string_tag bytes a.0 all a.1 in
     let sized = sized_found (private_length algorithm) a.0 b.0 b.1 in
     (a.0, sym (ok_is (Expanded b.0) parts b.2) ∙ ap Expanded (sym sized.0), sized.1, whole.is)
@@ -173,11 +173,11 @@ both_found : (algorithm : Algorithm) (bytes : List ℕ) (parts : PrivateParts) �
     → (seed : List ℕ) × (expanded : List ℕ) × (parts ≡ Both seed expanded) × IsBoth bytes algorithm seed expanded
 unfolding both_at
 both_found algorithm bytes parts all e =
-    let a = bind_ok (whole_at sequence_tag bytes) (λ contents. element_at octet_string_tag contents >>= λ first. sized_at seed_length first.0 >>= λ seed. whole_at octet_string_tag first.1 >>= λ second. sized_at (private_length algorithm) second >>= λ expanded. Ok (Both seed expanded)) parts e in
-    let b = bind_ok (element_at octet_string_tag a.0) (λ first. sized_at seed_length first.0 >>= λ seed. whole_at octet_string_tag first.1 >>= λ second. sized_at (private_length algorithm) second >>= λ expanded. Ok (Both seed expanded)) parts a.2 in
-    let c = bind_ok (sized_at seed_length b.0.0) (λ seed. whole_at octet_string_tag b.0.1 >>= λ second. sized_at (private_length algorithm) second >>= λ expanded. Ok (Both seed expanded)) parts b.2 in
-    let d = bind_ok (whole_at octet_string_tag b.0.1) (λ second. sized_at (private_length algorithm) second >>= λ expanded. Ok (Both c.0 expanded)) parts c.2 in
-    let f = bind_ok (sized_at (private_length algorithm) d.0) (λ expanded. Ok (Both c.0 expanded)) parts d.2 in
+    let a = bind_ok _ _ parts e in
+    let b = bind_ok _ _ parts a.2 in
+    let c = bind_ok _ _ parts b.2 in
+    let d = bind_ok _ _ parts c.2 in
+    let f = bind_ok _ _ parts d.2 in
     let whole = whole_found sequence_tag bytes a.0 all a.1 in
     let first = element_found octet_string_tag a.0 b.0 whole.inside b.1 in
     let seed = sized_found seed_length b.0.0 c.0 c.1 in
@@ -219,7 +219,7 @@ choice_found algorithm (tag ∷ rest) parts all e =
 version_found : (bytes rest : List ℕ) → AreBytes bytes → version_at bytes ≡ Ok rest → Takes bytes (small_integer 0) rest
 unfolding version_at
 version_found bytes rest all e =
-    let a = bind_ok (element_at integer_tag bytes) (λ version. cond (bytes_eq version.0 (0 ∷ [])) (Ok version.1) (Err Version)) rest e in
+    let a = bind_ok _ _ rest e in
     let f = element_found integer_tag bytes a.0 all a.1 in
     let m = met (bytes_eq a.0.0 (0 ∷ [])) Version a.0.1 rest a.2 in
     let here : Takes bytes (small_integer 0) a.0.1 =
@@ -229,11 +229,11 @@ version_found bytes rest all e =
 pub private_found : (der : List ℕ) (x : Algorithm × PrivateParts) → AreBytes der → private_at der ≡ Ok x → IsPrivateFile der x.0 x.1
 unfolding private_at one_asymmetric_key
 private_found der x all e =
-    let a = bind_ok (whole_at sequence_tag der) (λ info. version_at info >>= λ rest. algorithm_at rest >>= λ algorithm. whole_at octet_string_tag algorithm.1 >>= λ contents. choice_at algorithm.0 contents >>= λ parts. Ok (algorithm.0, parts)) x e in
-    let b = bind_ok (version_at a.0) (λ rest. algorithm_at rest >>= λ algorithm. whole_at octet_string_tag algorithm.1 >>= λ contents. choice_at algorithm.0 contents >>= λ parts. Ok (algorithm.0, parts)) x a.2 in
-    let c = bind_ok (algorithm_at b.0) (λ algorithm. whole_at octet_string_tag algorithm.1 >>= λ contents. choice_at algorithm.0 contents >>= λ parts. Ok (algorithm.0, parts)) x b.2 in
-    let d = bind_ok (whole_at octet_string_tag c.0.1) (λ contents. choice_at c.0.0 contents >>= λ parts. Ok (c.0.0, parts)) x c.2 in
-    let f = bind_ok (choice_at c.0.0 d.0) (λ parts. Ok (c.0.0, parts)) x d.2 in
+    let a = bind_ok _ _ x e in
+    let b = bind_ok _ _ x a.2 in
+    let c = bind_ok _ _ x b.2 in
+    let d = bind_ok _ _ x c.2 in
+    let f = bind_ok _ _ x d.2 in
     let info = whole_found sequence_tag der a.0 all a.1 in
     let version = version_found a.0 b.0 info.inside b.1 in
     let algorithm = algorithm_found b.0 c.0 version.behind c.1 in
