@@ -6,7 +6,10 @@ use Rattle.std.proofs.lemmas.List.{take_at, drop_at, take-append-drop, length-ap
 use Rattle.mlsign_files.specs.declared.fault.FileFault.{FileFault}
 use Rattle.mlsign_files.specs.declared.fault.FileFault.TheVariants.{Short, Behind, Element}
 use Rattle.mlsign_files.specs.Der.{length_bytes, element}
-use Rattle.mlsign_files.specs.Reading.{◌>>=◌, one_byte_at, two_bytes_at, length_at, contents_at, tagged_at, element_at, whole_at}
+use Rattle.std.specs.Prelude.{IfOk}
+use Rattle.std.specs.Str.{bytes_eq}
+use Rattle.std.proofs.lemmas.Slice.Eq.{bytes_eq-Decides}
+use Rattle.mlsign_files.specs.Reading.{◌>>=◌, Gives, one_byte_at, two_bytes_at, length_at, contents_at, tagged_at, element_at, whole_at}
 
 -- each of them is a byte
 abbrev pub AreBytes : List ℕ → Type 0
@@ -50,6 +53,18 @@ passed false fault x y e = (refl, cc)
 pub met : {A : Type 0} (b : Bool) (fault : FileFault) (x y : A) → cond b (Ok x) (Err fault) ≡ Ok y → (b ≡ true) × (x ≡ y)
 met true fault x y e = (refl, cc)
 met false fault x y e = absurd cc
+
+pub same_bytes : (a b : List ℕ) → bytes_eq a b ≡ true → a ≡ b
+same_bytes a b e = (bytes_eq-Decides a b).0 e
+
+-- what a function returned, where reading gives as much or gives this
+pub gives_found : {X Y : Type 0} (view : X → Y) (r : Result X FileFault) (read : Result Y FileFault) (P : Y → Type 0)
+    → Gives view r read → ((y : Y) → read ≡ Ok y → P y) → IfOk r (λ x. P (view x))
+gives_found view (Ok x) read P gives found = found (view x) gives
+gives_found view (Err fault) read P gives found = tt
+
+pub gives_only : {X Y : Type 0} (view : X → Y) (r : Result X FileFault) (read again : Result Y FileFault) → Gives view r read → read ≡ again → Gives view r again
+gives_only view r read again gives e = subst (Gives view r) e gives
 
 -- ---- lengths
 
@@ -103,18 +118,17 @@ length_found : (bytes : List ℕ) (x : ℕ × List ℕ) → AreBytes bytes → l
 unfolding length_at
 length_found [] x all e = absurd cc
 length_found (size ∷ rest) x all e =
-    let long = cond (eqb size 129) (one_byte_at rest) (cond (eqb size 130) (two_bytes_at rest) (Err Element)) in
-    elim (chosen (ltb size 128) (Ok (size, rest)) long (Ok x) e) [
+    elim (chosen (ltb size 128) _ _ _ e) [
       | inl is ↦
           let short : size < 128 = ltb-true _ _ is.0 in
           let here : IsLength (size ∷ rest) size rest =
           record { parts = rw (length_short size short) refl; small = omega arith; behind = bytes_behind size rest all } in
-          subst (λ (y : ℕ × List ℕ). IsLength (size ∷ rest) y.0 y.1) (ok_is (size, rest) x is.1) here
+          subst (λ (y : ℕ × List ℕ). IsLength (size ∷ rest) y.0 y.1) (ok_is _ x is.1) here
       | inr is ↦
-          elim (chosen (eqb size 129) (one_byte_at rest) (cond (eqb size 130) (two_bytes_at rest) (Err Element)) (Ok x) is.1) [
+          elim (chosen (eqb size 129) _ _ _ is.1) [
             | inl one ↦ rw (eqb-true _ _ one.0) (one_byte_found rest x (bytes_behind size rest all) one.1)
             | inr other ↦
-                elim (chosen (eqb size 130) (two_bytes_at rest) (Err Element) (Ok x) other.1) [
+                elim (chosen (eqb size 130) _ _ _ other.1) [
                   | inl two ↦ rw (eqb-true _ _ two.0) (two_bytes_found rest x (bytes_behind size rest all) two.1)
                   | inr none ↦ absurd (cc none.1)
                 ]
@@ -147,9 +161,9 @@ pub element_found : (tag : ℕ) (bytes : List ℕ) (x : List ℕ × List ℕ) �
 unfolding element_at
 element_found tag [] x all e = absurd cc
 element_found tag (first ∷ rest) x all e =
-    let a = bind_ok (tagged_at tag (first ∷ rest)) (λ tagged. length_at tagged >>= λ size. contents_at size.0 size.1) x e in
-    let t = met (eqb first tag) Element rest a.0 a.1 in
-    let b = bind_ok (length_at a.0) (λ size. contents_at size.0 size.1) x a.2 in
+    let a = bind_ok _ _ x e in
+    let t = met _ _ rest a.0 a.1 in
+    let b = bind_ok _ _ x a.2 in
     let after : AreBytes a.0 = subst AreBytes t.1 (bytes_behind first rest all) in
     let l = length_found a.0 b.0 after b.1 in
     let c = passed (ltb (length b.0.1) b.0.0) Short (take b.0.0 b.0.1, drop b.0.0 b.0.1) x b.2 in
@@ -198,7 +212,7 @@ pub record IsWhole (bytes : List ℕ) (tag : ℕ) (contents : List ℕ) : Type 0
 pub whole_found : (tag : ℕ) (bytes contents : List ℕ) → AreBytes bytes → whole_at tag bytes ≡ Ok contents → IsWhole bytes tag contents
 unfolding whole_at
 whole_found tag bytes contents all e =
-    let a = bind_ok (element_at tag bytes) (λ x. cond (eqb (length x.1) 0) (Ok x.0) (Err Behind)) contents e in
+    let a = bind_ok _ _ contents e in
     let f = element_found tag bytes a.0 all a.1 in
     let m = met (eqb (length a.0.1) 0) Behind a.0.0 contents a.2 in
     let none : a.0.1 ≡ [] = nil_from_length a.0.1 (eqb-true _ _ m.0) in

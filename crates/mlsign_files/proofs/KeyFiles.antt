@@ -1,23 +1,20 @@
 -- A key that is read is the key that the file has, and the key of a file is read.
-use Rattle.std.proofs.Common.{◌≡◌, ℕ, ◌+◌, ◌<◌, ◌≤◌, true, cond, eqb, inl, inr, List, [], ◌∷◌, ◌++◌, length, Result, Ok, Err, refl, sym, ap, subst, ◌∙◌, arith}
+use Rattle.std.proofs.Common.{◌≡◌, ℕ, ◌+◌, ◌<◌, ◌≤◌, eqb, inl, inr, List, [], ◌∷◌, ◌++◌, length, Result, Ok, Err, refl, ap, subst, ◌∙◌, arith}
 use Rattle.std.specs.Prelude.{IfOk, OnOk}
 use Rattle.std.proofs.Common.{Vec, Global}
 use Rattle.std.specs.declared.alloc.AllocError.{AllocError}
 use Rattle.std.specs.Str.{bytes_eq}
-use denote.Ref.{Bor}
-use Rattle.mlsign_files.specs.declared.keys.PrivateKey.{PrivateKey}
 use Rattle.std.proofs.lemmas.Bool.{eqb-true}
 use Rattle.std.proofs.lemmas.Bool.Decides.{nat_tests}
-use Rattle.std.proofs.lemmas.Slice.Eq.{bytes_eq-Decides}
 use Rattle.std.proofs.lemmas.List.{length-append}
 use Rattle.mlsign_files.specs.declared.algorithm.Algorithm.{Algorithm}
-use Rattle.mlsign_files.specs.declared.algorithm.Algorithm.TheVariants.{MlDsa44, MlDsa65, MlDsa87}
+use Rattle.mlsign_files.specs.declared.algorithm.Algorithm.TheVariants.{MlDsa44, MlDsa65}
 use Rattle.mlsign_files.specs.declared.fault.FileFault.{FileFault}
-use Rattle.mlsign_files.specs.declared.fault.FileFault.TheVariants.{Element, Version, OtherAlgorithm, KeyLength}
-use Rattle.mlsign_files.specs.Der.{element, length_bytes, sequence, octet_string, bit_string, small_integer, integer_tag, bit_string_tag, octet_string_tag, sequence_tag, context_tag_0}
-use Rattle.mlsign_files.specs.Keys.{identifier, algorithm_identifier, public_length, seed_length, private_length, subject_public_key_info, PrivateParts, Seed, Expanded, Both, private_parts, private_choice, HasPrivateSizes, one_asymmetric_key, IsPublicFile, IsPrivateFile}
-use Rattle.mlsign_files.specs.Reading.{◌>>=◌, Gives, sized_at, algorithm_of, algorithm_at, whole_bytes_of, public_at, seed_at, expanded_at, both_at, choice_at, version_at, private_at}
-use Rattle.mlsign_files.proofs.Elements.{AreBytes, bind_ok, chosen, ok_is, met, element_found, element_again, whole_found, whole_again}
+use Rattle.mlsign_files.specs.declared.fault.FileFault.TheVariants.{Element, Version, KeyLength}
+use Rattle.mlsign_files.specs.Der.{element, length_bytes, octet_string, bit_string, small_integer, integer_tag, bit_string_tag, octet_string_tag, sequence_tag, context_tag_0}
+use Rattle.mlsign_files.specs.Keys.{identifier, algorithm_identifier, public_length, seed_length, private_length, subject_public_key_info, PrivateParts, Seed, Expanded, Both, private_choice, HasPrivateSizes, one_asymmetric_key, IsPublicFile, IsPrivateFile}
+use Rattle.mlsign_files.specs.Reading.{◌>>=◌, sized_at, algorithm_of, algorithm_at, whole_bytes_of, public_at, seed_at, expanded_at, both_at, choice_at, version_at, private_at, whole_at}
+use Rattle.mlsign_files.proofs.Elements.{AreBytes, bind_ok, chosen, ok_is, met, same_bytes, element_found, element_again, whole_found, whole_again}
 
 -- ---- sizes
 
@@ -36,29 +33,21 @@ sized_again wanted bytes e = grind (arith, nat_tests)
 
 -- ---- algorithms
 
-same_bytes : (a b : List ℕ) → bytes_eq a b ≡ true → a ≡ b
-same_bytes a b e = (bytes_eq-Decides a b).0 e
-
 algorithm_of_found : (contents : List ℕ) (algorithm : Algorithm) → algorithm_of contents ≡ Ok algorithm → contents ≡ identifier algorithm
 unfolding algorithm_of
 algorithm_of_found contents algorithm e =
-    let last = cond (bytes_eq contents (identifier MlDsa87)) (Ok MlDsa87) (Err OtherAlgorithm) in
-    elim (chosen (bytes_eq contents (identifier MlDsa44)) (Ok MlDsa44) (cond (bytes_eq contents (identifier MlDsa65)) (Ok MlDsa65) last) (Ok algorithm) e) [
-      | inl is ↦ same_bytes _ _ is.0 ∙ ap identifier (ok_is MlDsa44 algorithm is.1)
+    elim (chosen (bytes_eq contents (identifier MlDsa44)) _ _ _ e) [
+      | inl is ↦ same_bytes _ _ is.0 ∙ ap identifier (ok_is _ algorithm is.1)
       | inr other ↦
-          elim (chosen (bytes_eq contents (identifier MlDsa65)) (Ok MlDsa65) last (Ok algorithm) other.1) [
-            | inl is ↦ same_bytes _ _ is.0 ∙ ap identifier (ok_is MlDsa65 algorithm is.1)
-            | inr third ↦
-                let m = met (bytes_eq contents (identifier MlDsa87)) OtherAlgorithm MlDsa87 algorithm third.1 in
-                same_bytes _ _ m.0 ∙ ap identifier m.1
+          elim (chosen (bytes_eq contents (identifier MlDsa65)) _ _ _ other.1) [
+            | inl is ↦ same_bytes _ _ is.0 ∙ ap identifier (ok_is _ algorithm is.1)
+            | inr third ↦ let m = met _ _ _ algorithm third.1 in same_bytes _ _ m.0 ∙ ap identifier m.1
           ]
     ]
 
 algorithm_of_again : (algorithm : Algorithm) → algorithm_of (identifier algorithm) ≡ Ok algorithm
 unfolding algorithm_of
-algorithm_of_again MlDsa44 = refl
-algorithm_of_again MlDsa65 = refl
-algorithm_of_again MlDsa87 = refl
+algorithm_of_again algorithm = grind arith
 
 -- bytes that begin with a text, and are bytes behind it
 pub record Takes (bytes text rest : List ℕ) : Type 0 where
@@ -77,9 +66,7 @@ algorithm_found bytes x all e =
     subst (λ (y : Algorithm × List ℕ). Takes bytes (algorithm_identifier y.0) y.1) (ok_is (b.0, a.0.1) x b.2) here
 
 identifier_small : (algorithm : Algorithm) → length (identifier algorithm) ≡ 11
-identifier_small MlDsa44 = refl
-identifier_small MlDsa65 = refl
-identifier_small MlDsa87 = refl
+identifier_small algorithm = grind arith
 
 algorithm_again : (algorithm : Algorithm) (rest : List ℕ) → algorithm_at (algorithm_identifier algorithm ++ rest) ≡ Ok (algorithm, rest)
 unfolding algorithm_at
@@ -120,9 +107,7 @@ public_found der x all e =
     subst (λ (y : Algorithm × List ℕ). IsPublicFile der y.0 y.1) (ok_is (b.0.0, f.0) x f.2) (subst (λ (y : List ℕ). IsPublicFile der b.0.0 y) sized.0 here)
 
 public_small : (algorithm : Algorithm) → public_length algorithm ≤ 4896
-public_small MlDsa44 = omega arith
-public_small MlDsa65 = omega arith
-public_small MlDsa87 = omega arith
+public_small algorithm = grind arith
 
 length_of_algorithm : (algorithm : Algorithm) → length (algorithm_identifier algorithm) ≤ 15
 length_of_algorithm algorithm = omega (arith, identifier_small algorithm, length_of_element sequence_tag (identifier algorithm))
@@ -144,34 +129,23 @@ public_again algorithm bytes size =
 
 -- ---- private keys
 
-seed_found : (bytes : List ℕ) (parts : PrivateParts) → AreBytes bytes → seed_at bytes ≡ Ok parts
-    → (seed : List ℕ) × (parts ≡ Seed seed) × (length seed ≡ seed_length) × (bytes ≡ element context_tag_0 seed)
-unfolding seed_at
-seed_found bytes parts all e =
+pub record IsChoice (bytes : List ℕ) (algorithm : Algorithm) (parts : PrivateParts) : Type 0 where
+  pub sizes : HasPrivateSizes algorithm parts
+  pub is : bytes ≡ private_choice parts
+
+-- one string, of a wanted size
+string_found : (tag size : ℕ) (make : List ℕ → PrivateParts) (bytes : List ℕ) (parts : PrivateParts) → AreBytes bytes
+    → (whole_at tag bytes >>= λ contents. sized_at size contents >>= λ string. Ok (make string)) ≡ Ok parts
+    → (string : List ℕ) × (make string ≡ parts) × (length string ≡ size) × (bytes ≡ element tag string)
+string_found tag size make bytes parts all e =
     let a = bind_ok _ _ parts e in
     let b = bind_ok _ _ parts a.2 in
-    let whole = whole_found context_tag_0 bytes a.0 all a.1 in
-    let sized = sized_found seed_length a.0 b.0 b.1 in
-    (a.0, sym (ok_is (Seed b.0) parts b.2) ∙ ap Seed (sym sized.0), sized.1, whole.is)
-
-expanded_found : (algorithm : Algorithm) (bytes : List ℕ) (parts : PrivateParts) → AreBytes bytes → expanded_at algorithm bytes ≡ Ok parts
-    → (expanded : List ℕ) × (parts ≡ Expanded expanded) × (length expanded ≡ private_length algorithm) × (bytes ≡ octet_string expanded)
-unfolding expanded_at
-expanded_found algorithm bytes parts all e =
-    let a = bind_ok _ _ parts e in
-    let b = bind_ok _ _ parts a.2 in
-    let whole = whole_found octet_string_tag bytes a.0 all a.1 in
-    let sized = sized_found (private_length algorithm) a.0 b.0 b.1 in
-    (a.0, sym (ok_is (Expanded b.0) parts b.2) ∙ ap Expanded (sym sized.0), sized.1, whole.is)
-
-pub record IsBoth (bytes : List ℕ) (algorithm : Algorithm) (seed expanded : List ℕ) : Type 0 where
-  pub seed_size : length seed ≡ seed_length
-  pub expanded_size : length expanded ≡ private_length algorithm
-  pub is : bytes ≡ sequence (octet_string seed ++ octet_string expanded)
+    let sized = sized_found size a.0 b.0 b.1 in
+    (a.0, ap make sized.0 ∙ ok_is (make b.0) parts b.2, sized.1, (whole_found tag bytes a.0 all a.1).is)
 
 both_found : (algorithm : Algorithm) (bytes : List ℕ) (parts : PrivateParts) → AreBytes bytes → both_at algorithm bytes ≡ Ok parts
-    → (seed : List ℕ) × (expanded : List ℕ) × (parts ≡ Both seed expanded) × IsBoth bytes algorithm seed expanded
-unfolding both_at
+    → IsChoice bytes algorithm parts
+unfolding both_at private_choice
 both_found algorithm bytes parts all e =
     let a = bind_ok _ _ parts e in
     let b = bind_ok _ _ parts a.2 in
@@ -182,37 +156,30 @@ both_found algorithm bytes parts all e =
     let first = element_found octet_string_tag a.0 b.0 whole.inside b.1 in
     let seed = sized_found seed_length b.0.0 c.0 c.1 in
     let second = whole_found octet_string_tag b.0.1 d.0 first.behind d.1 in
-    let expanded = sized_found (private_length algorithm) d.0 f.0 f.1 in (
-      b.0.0,
-      d.0,
-      sym (ok_is (Both c.0 f.0) parts f.2) ∙ ap (λ (z : List ℕ). Both z f.0) (sym seed.0) ∙ ap (λ (z : List ℕ). Both b.0.0 z) (sym expanded.0),
-      record {
-        seed_size = seed.1;
-        expanded_size = expanded.1;
-        is = whole.is ∙ ap (λ (z : List ℕ). element sequence_tag z) (first.parts ∙ ap (λ (z : List ℕ). octet_string b.0.0 ++ z) second.is);
-      },
-    )
+    let expanded = sized_found (private_length algorithm) d.0 f.0 f.1 in
+    let here : IsChoice bytes algorithm (Both b.0.0 d.0) =
+    record {
+      sizes = (seed.1, expanded.1);
+      is = whole.is ∙ ap (λ (z : List ℕ). element sequence_tag z) (first.parts ∙ ap (λ (z : List ℕ). octet_string b.0.0 ++ z) second.is);
+    } in
+    subst (IsChoice bytes algorithm)
+    (ap (λ (z : List ℕ). Both z d.0) seed.0 ∙ ap (λ (z : List ℕ). Both c.0 z) expanded.0 ∙ ok_is (Both c.0 f.0) parts f.2) here
 
-pub record IsChoice (bytes : List ℕ) (algorithm : Algorithm) (parts : PrivateParts) : Type 0 where
-  pub sizes : HasPrivateSizes algorithm parts
-  pub is : bytes ≡ private_choice parts
-
-choice_found : (algorithm : Algorithm) (bytes : List ℕ) (parts : PrivateParts) → AreBytes bytes → choice_at algorithm bytes ≡ Ok parts → IsChoice bytes algorithm parts
-unfolding choice_at private_choice
+choice_found : (algorithm : Algorithm) (bytes : List ℕ) (parts : PrivateParts) → AreBytes bytes → choice_at algorithm bytes ≡ Ok parts
+    → IsChoice bytes algorithm parts
+unfolding choice_at private_choice seed_at expanded_at
 choice_found algorithm [] parts all e = absurd cc
 choice_found algorithm (tag ∷ rest) parts all e =
-    elim (chosen (eqb tag context_tag_0) (seed_at (tag ∷ rest)) (cond (eqb tag octet_string_tag) (expanded_at algorithm (tag ∷ rest)) (both_at algorithm (tag ∷ rest))) (Ok parts) e) [
+    elim (chosen (eqb tag context_tag_0) _ _ _ e) [
       | inl is ↦
-          let s = seed_found (tag ∷ rest) parts all is.1 in
-          subst (IsChoice (tag ∷ rest) algorithm) (sym s.1) (record { sizes = s.2; is = s.3 })
+          let s = string_found context_tag_0 seed_length Seed (tag ∷ rest) parts all is.1 in
+          subst (IsChoice (tag ∷ rest) algorithm) s.1 (record { sizes = s.2; is = s.3 })
       | inr other ↦
-          elim (chosen (eqb tag octet_string_tag) (expanded_at algorithm (tag ∷ rest)) (both_at algorithm (tag ∷ rest)) (Ok parts) other.1) [
+          elim (chosen (eqb tag octet_string_tag) _ _ _ other.1) [
             | inl is ↦
-                let s = expanded_found algorithm (tag ∷ rest) parts all is.1 in
-                subst (IsChoice (tag ∷ rest) algorithm) (sym s.1) (record { sizes = s.2; is = s.3 })
-            | inr is ↦
-                let s = both_found algorithm (tag ∷ rest) parts all is.1 in
-                subst (IsChoice (tag ∷ rest) algorithm) (sym s.2) (record { sizes = (s.3.seed_size, s.3.expanded_size); is = s.3.is })
+                let s = string_found octet_string_tag (private_length algorithm) Expanded (tag ∷ rest) parts all is.1 in
+                subst (IsChoice (tag ∷ rest) algorithm) s.1 (record { sizes = s.2; is = s.3 })
+            | inr is ↦ both_found algorithm (tag ∷ rest) parts all is.1
           ]
     ]
 
@@ -250,9 +217,7 @@ private_found der x all e =
     subst (λ (y : Algorithm × PrivateParts). IsPrivateFile der y.0 y.1) (ok_is (c.0.0, f.0) x f.2) here
 
 private_small : (algorithm : Algorithm) → private_length algorithm ≤ 4896
-private_small MlDsa44 = omega arith
-private_small MlDsa65 = omega arith
-private_small MlDsa87 = omega arith
+private_small algorithm = grind arith
 
 pub choice_small : (algorithm : Algorithm) (parts : PrivateParts) → HasPrivateSizes algorithm parts → length (private_choice parts) < 65000
 unfolding private_choice
@@ -319,18 +284,6 @@ private_again algorithm parts sizes =
       whole_again octet_string_tag (private_choice parts) inner,
       choice_again algorithm parts sizes,
     ) refl
-
--- ---- what a reader returned
-
-pub public_is : (der : List ℕ) (r : Result (Algorithm × Bor (List ℕ)) FileFault) → AreBytes der → Gives (λ x. (x.0, x.1.now)) r (public_at der)
-    → IfOk r (λ x. IsPublicFile der x.0 x.1.now)
-public_is der (Ok x) all e = public_found der (x.0, x.1.now) all e
-public_is der (Err fault) all e = tt
-
-pub private_is : (der : List ℕ) (r : Result (Algorithm × PrivateKey) FileFault) → AreBytes der → Gives (λ x. (x.0, private_parts x.1)) r (private_at der)
-    → IfOk r (λ x. IsPrivateFile der x.0 (private_parts x.1))
-private_is der (Ok x) all e = private_found der (x.0, private_parts x.1) all e
-private_is der (Err fault) all e = tt
 
 pub public_of_file : (der : List ℕ) (algorithm : Algorithm) (bytes : List ℕ) → IsPublicFile der algorithm bytes → public_at der ≡ Ok (algorithm, bytes)
 public_of_file der algorithm bytes file = ap public_at file.is ∙ public_again algorithm bytes file.size

@@ -1,14 +1,14 @@
-use Rattle.std.proofs.Common.{Result, subst, arith, List, ℕ}
-use Rattle.mlsign_files.specs.declared.algorithm.Algorithm.{Algorithm}
-use Rattle.mlsign_files.specs.declared.fault.FileFault.{FileFault}
-use Rattle.mlsign_files.specs.Reading.{Gives}
-use Rattle.mlsign_files.proofs.KeyFiles.{public_is, public_of_file}
+use Rattle.std.proofs.Common.{arith}
+use Rattle.mlsign_files.specs.Keys.{IsPublicFile}
+use Rattle.mlsign_files.proofs.Elements.{gives_found, gives_only}
+use Rattle.mlsign_files.proofs.KeyFiles.{public_found, public_of_file}
 use Rattle.mlsign_files.proofs.keys.read_public.Goals as goal
 
 pub returns-clause-found : goal.returns-clause-found
-returns-clause-found c = public_is c.args.der.now c.public_key_info.result (λ i. omega (arith, c.type_inv.der i)) c.public_key_info.ensures
+returns-clause-found c =
+    gives_found _ c.public_key_info.result _ (λ y. IsPublicFile c.args.der.now y.0 y.1) c.public_key_info.ensures
+    (λ y e. public_found c.args.der.now y (λ i. omega (arith, c.type_inv.der i)) e)
 
 pub returns-clause-only : goal.returns-clause-only
 returns-clause-only c = λ algorithm bytes file.
-    subst (λ (read : Result (Algorithm × List ℕ) FileFault). Gives (λ x. (x.0, x.1.now)) c.public_key_info.result read)
-    (public_of_file c.args.der.now algorithm bytes file) c.public_key_info.ensures
+    gives_only _ c.public_key_info.result _ _ c.public_key_info.ensures (public_of_file c.args.der.now algorithm bytes file)
