@@ -8,14 +8,13 @@ use Rattle.base64.specs.GeneralPurpose.{encode_of, decode_of, IsBytes}
 use Rattle.base64.specs.Engines.{standard}
 use Rattle.base64.proofs.EngineFacts.{decode_of-encode_of}
 use Rattle.mlsign_files.specs.declared.fault.FileFault.{FileFault}
-use Rattle.mlsign_files.specs.declared.fault.FileFault.TheVariants.{CutShort, Text}
 use Rattle.mlsign_files.specs.declared.pem.Kind.{Kind}
 use Rattle.mlsign_files.specs.declared.pem.LineEnd.{LineEnd}
 use Rattle.mlsign_files.specs.declared.pem.LineEnd.TheVariants.{Lf, CrLf}
 use Rattle.mlsign_files.specs.Pem.{begin_line, line_end, wrapped, closing, pem, IsPem}
 use Rattle.mlsign_files.specs.Reading.{◌>>=◌}
-use Rattle.mlsign_files.specs.PemReading.{begins, begun_fault, ended_at, opened_at, closed_fault, is_dash, closed_at, is_in_line, unwrapped_at, decoded_as, pem_at}
-use Rattle.mlsign_files.proofs.Elements.{chosen, ok_is, met}
+use Rattle.mlsign_files.specs.PemReading.{begins, begun_fault, ended_at, opened_at, is_dash, closed_at, is_in_line, unwrapped_at, decoded_as, pem_at}
+use Rattle.mlsign_files.proofs.Elements.{chosen, ok_is, met, same_bytes}
 use Rattle.mlsign_files.proofs.Texts.{wrapped_kept, wrapped_pass, encoded_passes, first_place}
 
 pub not_opened : (kind : Kind) (text first : List ℕ) (fault : FileFault) → first ≡ begin_line kind → bytes_eq first (take (length first) text) ≡ false
@@ -28,40 +27,32 @@ not_opened kind text first fault e other is =
 
 -- ---- what is read is what is there
 
-same : (a b : List ℕ) → bytes_eq a b ≡ true → a ≡ b
-same a b e = (bytes_eq-Decides a b).0 e
-
 same_again : (a : List ℕ) → bytes_eq a a ≡ true
 same_again a = (bytes_eq-Decides a a).1 refl
 
 begun : (front text : List ℕ) → begins front text ≡ true → text ≡ front ++ drop (length front) text
 begun front text e =
-    sym (take-append-drop (length front) text) ∙ ap (λ (z : List ℕ). z ++ drop (length front) text) (sym (same front (take (length front) text) e))
+    sym (take-append-drop (length front) text) ∙ ap (λ (z : List ℕ). z ++ drop (length front) text) (sym (same_bytes front (take (length front) text) e))
 
 begun_again : (front rest : List ℕ) → begins front (front ++ rest) ≡ true
 begun_again front rest = ap (λ (z : List ℕ). bytes_eq front z) (take_at front rest (length front) refl) ∙ same_again front
 
 ended_found : (rest : List ℕ) (x : LineEnd × List ℕ) → ended_at rest ≡ Ok x → rest ≡ line_end x.0 ++ x.1
 ended_found rest x e =
-    let last = cond (begins rest (line_end CrLf)) (Err CutShort) (Err Text) in
-    elim (chosen (begins (line_end Lf) rest) (Ok (Lf, drop 1 rest)) (cond (begins (line_end CrLf) rest) (Ok (CrLf, drop 2 rest)) last) (Ok x) e) [
-      | inl lf ↦ begun (line_end Lf) rest lf.0 ∙ ap (λ (y : LineEnd × List ℕ). line_end y.0 ++ y.1) (ok_is (Lf, drop 1 rest) x lf.1)
+    elim (chosen (begins (line_end Lf) rest) _ _ _ e) [
+      | inl lf ↦ begun (line_end Lf) rest lf.0 ∙ ap (λ (y : LineEnd × List ℕ). line_end y.0 ++ y.1) (ok_is _ x lf.1)
       | inr other ↦
-          elim (chosen (begins (line_end CrLf) rest) (Ok (CrLf, drop 2 rest)) last (Ok x) other.1) [
-            | inl crlf ↦ begun (line_end CrLf) rest crlf.0 ∙ ap (λ (y : LineEnd × List ℕ). line_end y.0 ++ y.1) (ok_is (CrLf, drop 2 rest) x crlf.1)
-            | inr none ↦
-                elim (chosen (begins rest (line_end CrLf)) (Err CutShort) (Err Text) (Ok x) none.1) [
-                  | inl a ↦ absurd (cc a.1)
-                  | inr b ↦ absurd (cc b.1)
-                ]
+          elim (chosen (begins (line_end CrLf) rest) _ _ _ other.1) [
+            | inl crlf ↦ begun (line_end CrLf) rest crlf.0 ∙ ap (λ (y : LineEnd × List ℕ). line_end y.0 ++ y.1) (ok_is _ x crlf.1)
+            | inr none ↦ elim (chosen (begins rest (line_end CrLf)) _ _ _ none.1) [ | inl a ↦ absurd (cc a.1) | inr b ↦ absurd (cc b.1) ]
           ]
     ]
 
 opened_found : (kind : Kind) (text : List ℕ) (x : LineEnd × List ℕ) → opened_at kind text ≡ Ok x → text ≡ begin_line kind ++ (line_end x.0 ++ x.1)
 unfolding opened_at
 opened_found kind text x e =
-    elim (chosen (begins (begin_line kind) text) (ended_at (drop (length (begin_line kind)) text)) (Err (begun_fault (begin_line kind) text)) (Ok x) e) [
-      | inl is ↦ begun (begin_line kind) text is.0 ∙ ap (λ (z : List ℕ). begin_line kind ++ z) (ended_found (drop (length (begin_line kind)) text) x is.1)
+    elim (chosen (begins (begin_line kind) text) _ _ _ e) [
+      | inl is ↦ begun (begin_line kind) text is.0 ∙ ap (λ (z : List ℕ). begin_line kind ++ z) (ended_found _ x is.1)
       | inr other ↦ absurd (cc other.1)
     ]
 
@@ -69,33 +60,14 @@ closed_found : (last text body : List ℕ) → closed_at last text ≡ Ok body �
 unfolding closed_at
 closed_found last text body e =
     let dash = position_or_len is_dash text in
-    elim (chosen (bytes_eq (drop dash text) last) (Ok (take dash text)) (Err (closed_fault last (drop dash text))) (Ok body) e) [
-      | inl is ↦
-          sym (take-append-drop dash text) ∙ ap (λ (z : List ℕ). take dash text ++ z) (same (drop dash text) last is.0)
-          ∙ ap (λ (z : List ℕ). z ++ last) (ok_is (take dash text) body is.1)
-      | inr other ↦ absurd (cc other.1)
-    ]
+    let m = met (bytes_eq (drop dash text) last) _ _ body e in
+    sym (take-append-drop dash text) ∙ ap (λ (z : List ℕ). take dash text ++ z) (same_bytes _ _ m.0) ∙ ap (λ (z : List ℕ). z ++ last) m.1
 
 unwrapped_found : (ending text symbols : List ℕ) → unwrapped_at ending text ≡ Ok symbols → text ≡ wrapped ending symbols
 unfolding unwrapped_at
 unwrapped_found ending text symbols e =
-    let kept = filter is_in_line text in
-    let m = met (bytes_eq (wrapped ending kept) text) Text kept symbols e in
-    sym (same (wrapped ending kept) text m.0) ∙ ap (wrapped ending) m.1
-
--- the bytes that a text was found to have
-pub pem_found : (kind : Kind) (text : List ℕ) (ending : LineEnd) (rest body symbols der : List ℕ) → opened_at kind text ≡ Ok (ending, rest)
-    → closed_at (closing kind ending) rest ≡ Ok body → unwrapped_at (line_end ending) body ≡ Ok symbols
-    → symbols ≡ encode_of standard der → IsBytes der → IsPem text kind der
-unfolding pem
-pem_found kind text ending rest body symbols der opened closed unwrapped encoded bytes =
-    record {
-      ending = ending;
-      bytes = bytes;
-      is = opened_found kind text (ending, rest) opened ∙ ap (λ (z : List ℕ). begin_line kind ++ (line_end ending ++ z))
-          (closed_found (closing kind ending) rest body closed ∙ ap (λ (z : List ℕ). z ++ closing kind ending)
-          (unwrapped_found (line_end ending) body symbols unwrapped ∙ ap (wrapped (line_end ending)) encoded));
-    }
+    let m = met (bytes_eq (wrapped ending (filter is_in_line text)) text) _ _ symbols e in
+    sym (same_bytes _ _ m.0) ∙ ap (wrapped ending) m.1
 
 -- ---- what is there is read
 
@@ -154,8 +126,15 @@ pem_of_text text kind der is = ap (pem_at kind) is.is ∙ pem_again kind is.endi
 pub pem_of_symbols : (kind : Kind) (text : List ℕ) (ending : LineEnd) (rest body symbols : List ℕ) (r : Result (Vec ℕ Global) FileFault)
     → opened_at kind text ≡ Ok (ending, rest) → closed_at (closing kind ending) rest ≡ Ok body → unwrapped_at (line_end ending) body ≡ Ok symbols
     → IfOk r (λ x. symbols ≡ encode_of standard x.items) → IfOk r (λ x. IsBytes x.items) → IfOk r (λ x. IsPem text kind x.items)
+unfolding pem
 pem_of_symbols kind text ending rest body symbols (Ok x) opened closed unwrapped encoded bytes =
-    pem_found kind text ending rest body symbols x.items opened closed unwrapped encoded bytes
+    record {
+      ending = ending;
+      bytes = bytes;
+      is = opened_found kind text (ending, rest) opened ∙ ap (λ (z : List ℕ). begin_line kind ++ (line_end ending ++ z))
+          (closed_found (closing kind ending) rest body closed ∙ ap (λ (z : List ℕ). z ++ closing kind ending)
+          (unwrapped_found (line_end ending) body symbols unwrapped ∙ ap (wrapped (line_end ending)) encoded));
+    }
 pem_of_symbols kind text ending rest body symbols (Err fault) opened closed unwrapped encoded bytes = tt
 
 -- a text as it is written, line by line

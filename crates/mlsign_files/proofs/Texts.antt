@@ -9,7 +9,7 @@ use Rattle.base64.specs.Engines.{standard}
 use Rattle.std.proofs.lemmas.List.Sums.{prefix_len-le-length}
 use Rattle.std.proofs.lemmas.Bool.{cases_lt, eqb-true}
 use Rattle.std.proofs.lemmas.Bool.Decides.{nat_tests}
-use Rattle.std.proofs.lemmas.List.{take_all, drop_all, take-append-drop, length-drop, append-nil, nil_from_length}
+use Rattle.std.proofs.lemmas.List.{take_min, drop_min, take-append-drop, length-drop, append-nil, nil_from_length}
 use Rattle.mlsign_files.specs.Pem.{lines, wrapped}
 
 -- an empty text has no line
@@ -24,26 +24,16 @@ wrapped_some ending text some =
     let count : (length text + 63) / 64 ≡ suc ((length (drop 64 text) + 63) / 64) = omega (arith, length-drop 64 text) in
     rw count refl
 
--- a first line of all the characters that there are, or of 64
-first_line : (text : List ℕ) (k : ℕ) → k ≡ min 64 (length text) → (take k text ≡ take 64 text) × (drop k text ≡ drop 64 text)
-first_line text k is = elim (cases_lt (length text) 64) [
-  | inl short ↦
-      let all : k ≡ length text = omega arith in
-      (rw (take_all k text (omega arith), take_all 64 text (omega arith)) refl, rw (drop_all k text (omega arith), drop_all 64 text (omega arith)) refl)
-  | inr long ↦
-      let full : k ≡ 64 = omega arith in
-      (ap (λ n. take n text) full, ap (λ n. drop n text) full)
-]
-
--- what is written and what is still to be written, after one more line
+-- what is written and what is still to be written, after one more line: of all the characters that there are, or of 64
 pub line_written : (out ending text after total written : List ℕ) (k : ℕ) → eqb (length text) 0 ≡ false → k ≡ min 64 (length text) → after ≡ drop k text
     → written ≡ (out ++ take k text) ++ ending → out ++ wrapped ending text ≡ total → written ++ wrapped ending after ≡ total
 line_written out ending text after total written k not_empty is left added so_far =
     let some : 0 < length text = grind (arith, nat_tests) in
-    let f = first_line text k is in
+    let front : take k text ≡ take 64 text = rw (is, take_min 64 text) refl in
+    let back : drop k text ≡ drop 64 text = rw (is, drop_min 64 text) refl in
     let one : out ++ wrapped ending text ≡ out ++ (take 64 text ++ (ending ++ wrapped ending (drop 64 text))) =
     ap (λ (z : List ℕ). out ++ z) (wrapped_some ending text some) in
-    rw (added, left, f.0, f.1, append_assoc (out ++ take 64 text) ending (wrapped ending (drop 64 text)), append_assoc out (take 64 text) (ending ++ wrapped ending (drop 64 text)))
+    rw (added, left, front, back, append_assoc (out ++ take 64 text) ending (wrapped ending (drop 64 text)), append_assoc out (take 64 text) (ending ++ wrapped ending (drop 64 text)))
     (sym one ∙ so_far)
 
 pub all_written : (out ending text total : List ℕ) → eqb (length text) 0 ≡ true → out ++ wrapped ending text ≡ total → out ≡ total
