@@ -1,8 +1,9 @@
 -- A text that is read spells what is read, and the bytes that a text spells are read.
 use Rattle.std.proofs.Common.{◌≡◌, ℕ, Bool, true, false, cond, not, IfOk, Vec, Global, inl, inr, List, [], ◌∷◌, ◌++◌, length, take, drop, Result, Ok, Err, refl, sym, ap, subst, ◌∙◌, append_assoc}
 use Rattle.std.specs.Str.{bytes_eq}
-use Rattle.std.specs.List.{position_or_len, filter, list_all}
+use Rattle.std.specs.List.{position_or_len, filter, AllPass}
 use Rattle.std.proofs.lemmas.List.{take-append-drop, take_at, drop_at}
+use Rattle.std.proofs.lemmas.List.Sums.{AllPass-from_list_all}
 use Rattle.std.proofs.lemmas.Slice.Eq.{bytes_eq-Decides}
 use Rattle.base64.specs.GeneralPurpose.{encode_of, decode_of, IsBytes}
 use Rattle.base64.specs.Engines.{standard}
@@ -82,7 +83,7 @@ opened_again kind ending rest =
     (Err (begun_fault (begin_line kind) (begin_line kind ++ (line_end ending ++ rest))))) (begun_again (begin_line kind) (line_end ending ++ rest))
     ∙ ap ended_at (drop_at (begin_line kind) (line_end ending ++ rest) (length (begin_line kind)) refl) ∙ ended_again ending rest
 
-closed_again : (tail body : List ℕ) → list_all (λ x. not (is_dash x)) body ≡ true → closed_at (45 ∷ tail) (body ++ 45 ∷ tail) ≡ Ok body
+closed_again : (tail body : List ℕ) → AllPass (λ x. not (is_dash x)) body → closed_at (45 ∷ tail) (body ++ 45 ∷ tail) ≡ Ok body
 unfolding closed_at
 closed_again tail body none =
     let at : position_or_len is_dash (body ++ 45 ∷ tail) ≡ length body = first_place is_dash body tail 45 none refl in
@@ -90,7 +91,7 @@ closed_again tail body none =
     let back : drop (length body) (body ++ 45 ∷ tail) ≡ 45 ∷ tail = drop_at body (45 ∷ tail) (length body) refl in
     rw (at, front, back, same_again (45 ∷ tail)) refl
 
-unwrapped_again : (ending symbols : List ℕ) → filter is_in_line ending ≡ [] → list_all is_in_line symbols ≡ true
+unwrapped_again : (ending symbols : List ℕ) → filter is_in_line ending ≡ [] → AllPass is_in_line symbols
     → unwrapped_at ending (wrapped ending symbols) ≡ Ok symbols
 unfolding unwrapped_at
 unwrapped_again ending symbols dropped all = rw (wrapped_kept is_in_line ending symbols dropped all, same_again (wrapped ending symbols)) refl
@@ -99,17 +100,17 @@ ending_dropped : (ending : LineEnd) → filter is_in_line (line_end ending) ≡ 
 ending_dropped Lf = refl
 ending_dropped CrLf = refl
 
-no_dash_in_ending : (ending : LineEnd) → list_all (λ x. not (is_dash x)) (line_end ending) ≡ true
-no_dash_in_ending Lf = refl
-no_dash_in_ending CrLf = refl
+no_dash_in_ending : (ending : LineEnd) → AllPass (λ x. not (is_dash x)) (line_end ending)
+no_dash_in_ending Lf = AllPass-from_list_all (λ x. not (is_dash x)) (line_end Lf) refl
+no_dash_in_ending CrLf = AllPass-from_list_all (λ x. not (is_dash x)) (line_end CrLf) refl
 
 pub pem_again : (kind : Kind) (ending : LineEnd) (der : List ℕ) → IsBytes der → pem_at kind (pem kind ending der) ≡ Ok der
 unfolding pem_at pem
 pem_again kind ending der bytes =
     let symbols : List ℕ = encode_of standard der in
     let body : List ℕ = wrapped (line_end ending) symbols in
-    let plain : list_all is_in_line symbols ≡ true = encoded_passes is_in_line der refl refl refl in
-    let no_dash : list_all (λ x. not (is_dash x)) body ≡ true =
+    let plain : AllPass is_in_line symbols = encoded_passes is_in_line der refl refl refl in
+    let no_dash : AllPass (λ x. not (is_dash x)) body =
     wrapped_pass (λ x. not (is_dash x)) (line_end ending) symbols (no_dash_in_ending ending) (encoded_passes (λ x. not (is_dash x)) der refl refl refl) in
     ap (λ (read : Result (LineEnd × List ℕ) FileFault). read >>= λ opened. closed_at (closing kind opened.0) opened.1 >>= λ body.
     unwrapped_at (line_end opened.0) body >>= λ symbols. decoded_as (decode_of standard symbols)) (opened_again kind ending (body ++ closing kind ending))
