@@ -1,8 +1,5 @@
 -- A key that is read is the key that the file has, and the key of a file is read.
-use Rattle.std.proofs.Common.{◌≡◌, ℕ, ◌+◌, ◌<◌, ◌≤◌, eqb, inl, inr, List, [], ◌∷◌, ◌++◌, length, Result, Ok, Err, refl, ap, subst, ◌∙◌, arith}
-use Rattle.std.specs.Prelude.{IfOk, OnOk}
-use Rattle.std.proofs.Common.{Vec, Global}
-use Rattle.std.specs.declared.alloc.AllocError.{AllocError}
+use Rattle.std.proofs.Common.{◌≡◌, ℕ, ◌+◌, ◌<◌, ◌≤◌, eqb, inl, inr, List, [], ◌∷◌, ◌++◌, length, Result, Ok, refl, ap, subst, ◌∙◌, arith}
 use Rattle.std.specs.Str.{bytes_eq}
 use Rattle.std.proofs.lemmas.Bool.{eqb-true}
 use Rattle.std.proofs.lemmas.Bool.Decides.{nat_tests}
@@ -112,16 +109,24 @@ public_small algorithm = grind arith
 length_of_algorithm : (algorithm : Algorithm) → length (algorithm_identifier algorithm) ≤ 15
 length_of_algorithm algorithm = omega (arith, identifier_small algorithm, length_of_element sequence_tag (identifier algorithm))
 
+pub public_info_small : (algorithm : Algorithm) (bytes : List ℕ) → length bytes ≡ public_length algorithm
+    → length (algorithm_identifier algorithm ++ bit_string bytes) < 65536
+public_info_small algorithm bytes size =
+    omega (
+      arith,
+      public_small algorithm,
+      length_of_algorithm algorithm,
+      length_of_element bit_string_tag (0 ∷ bytes),
+      length-append (algorithm_identifier algorithm) (bit_string bytes),
+    )
+
 pub public_again : (algorithm : Algorithm) (bytes : List ℕ) → length bytes ≡ public_length algorithm
     → public_at (subject_public_key_info algorithm bytes) ≡ Ok (algorithm, bytes)
 unfolding public_at subject_public_key_info whole_bytes_of
 public_again algorithm bytes size =
-    let bits : length (bit_string bytes) ≤ length (0 ∷ bytes) + 4 = length_of_element bit_string_tag (0 ∷ bytes) in
     let inner : length (0 ∷ bytes) < 65536 = omega (arith, public_small algorithm) in
-    let outer : length (algorithm_identifier algorithm ++ bit_string bytes) < 65536 =
-    omega (arith, public_small algorithm, length_of_algorithm algorithm, length-append (algorithm_identifier algorithm) (bit_string bytes)) in
     rw (
-      whole_again sequence_tag (algorithm_identifier algorithm ++ bit_string bytes) outer,
+      whole_again sequence_tag (algorithm_identifier algorithm ++ bit_string bytes) (public_info_small algorithm bytes size),
       algorithm_again algorithm (bit_string bytes),
       whole_again bit_string_tag (0 ∷ bytes) inner,
       sized_again (public_length algorithm) bytes size,
@@ -290,25 +295,3 @@ public_of_file der algorithm bytes file = ap public_at file.is ∙ public_again 
 
 pub private_of_file : (der : List ℕ) (algorithm : Algorithm) (parts : PrivateParts) → IsPrivateFile der algorithm parts → private_at der ≡ Ok (algorithm, parts)
 private_of_file der algorithm parts file = ap private_at file.is ∙ private_again algorithm parts file.sizes
-
--- ---- what a writer wrote
-
-pub both_written : (r : Result (Unit {0}) AllocError) (seed expanded old new parts : List ℕ) → parts ≡ octet_string seed ++ octet_string expanded
-    → OnOk r (new ≡ old ++ element sequence_tag parts) → OnOk r (new ≡ old ++ private_choice (Both seed expanded))
-unfolding private_choice
-both_written (Ok x) seed expanded old new parts is e = e ∙ ap (λ (z : List ℕ). old ++ element sequence_tag z) is
-both_written (Err x) seed expanded old new parts is e = tt
-
-pub public_written : (algorithm : Algorithm) (bytes : List ℕ) (r : Result (Vec ℕ Global) AllocError) (info : List ℕ) → length bytes ≡ public_length algorithm
-    → info ≡ algorithm_identifier algorithm ++ bit_string bytes → IfOk r (λ der. der.items ≡ element sequence_tag info)
-    → IfOk r (λ der. IsPublicFile der.items algorithm bytes)
-unfolding subject_public_key_info
-public_written algorithm bytes (Ok der) info size is e = record { size = size; is = e ∙ ap (λ (z : List ℕ). element sequence_tag z) is }
-public_written algorithm bytes (Err x) info size is e = tt
-
-pub private_written : (algorithm : Algorithm) (parts : PrivateParts) (r : Result (Vec ℕ Global) AllocError) (info : List ℕ) → HasPrivateSizes algorithm parts
-    → info ≡ small_integer 0 ++ (algorithm_identifier algorithm ++ octet_string (private_choice parts)) → IfOk r (λ der. der.items ≡ element sequence_tag info)
-    → IfOk r (λ der. IsPrivateFile der.items algorithm parts)
-unfolding one_asymmetric_key
-private_written algorithm parts (Ok der) info sizes is e = record { sizes = sizes; is = e ∙ ap (λ (z : List ℕ). element sequence_tag z) is }
-private_written algorithm parts (Err x) info sizes is e = tt

@@ -45,7 +45,7 @@ ended_found rest x e =
       | inr other ↦
           elim (chosen (begins (line_end CrLf) rest) _ _ _ other.1) [
             | inl crlf ↦ begun (line_end CrLf) rest crlf.0 ∙ ap (λ (y : LineEnd × List ℕ). line_end y.0 ++ y.1) (ok_is _ x crlf.1)
-            | inr none ↦ elim (chosen (begins rest (line_end CrLf)) _ _ _ none.1) [ | inl a ↦ absurd (cc a.1) | inr b ↦ absurd (cc b.1) ]
+            | inr none ↦ elim (chosen (begins rest (line_end CrLf)) _ _ _ none.1) [ inl a ↦ absurd (cc a.1) | inr b ↦ absurd (cc b.1) ]
           ]
     ]
 

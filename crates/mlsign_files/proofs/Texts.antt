@@ -57,7 +57,7 @@ passes p x = p x ≡ true
 
 -- a test that all elements pass, passed by what a place has
 passed_at : (p : ℕ → Bool) (xs : List ℕ) (k : ℕ) → AllPass p xs → p 0 ≡ true → p (get_or xs k 0) ≡ true
-passed_at p xs k all none = elim (cases_lt k (length xs)) [ | inl before ↦ all k 0 before | inr past ↦ rw (get_or_past xs k 0 past) none ]
+passed_at p xs k all none = elim (cases_lt k (length xs)) [ inl before ↦ all k 0 before | inr past ↦ rw (get_or_past xs k 0 past) none ]
 
 -- a filter that drops nothing
 kept_all : (p : ℕ → Bool) (xs : List ℕ) → AllPass p xs → filter p xs ≡ xs

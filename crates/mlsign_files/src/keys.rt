@@ -215,17 +215,8 @@ fn put_algorithm(out: &mut Vec<u8>, algorithm: Algorithm) -> Result<(), AllocErr
     }
 }
 
-/// An element with these contents, alone.
-fn element_of(alloc: Global, tag: u8, contents: &[u8]) -> Result<Vec<u8>, AllocError>
-    requires { length contents.now < 65536 }
-    ensures { IfOk result (λ bytes. bytes.items ≡ element tag contents.now) }
-{
-    let mut bytes = Vec::new(alloc);
-    put_element(&mut bytes, tag, contents)?;
-    Ok(bytes)
-}
-
 /// The file of a public key in DER: a SubjectPublicKeyInfo (RFC 9881, section 4).
+#[tactic(auto, using(crate::proofs::KeyFiles::public_info_small), unfolding(crate::specs::Keys::subject_public_key_info))]
 pub fn write_public(
     alloc: Global,
     algorithm: Algorithm,
@@ -240,10 +231,13 @@ pub fn write_public(
     let mut info = Vec::new(alloc);
     put_algorithm(&mut info, algorithm)?;
     put_element(&mut info, BIT_STRING, bits.as_slice())?;
-    element_of(alloc, SEQUENCE, info.as_slice())
+    let mut der = Vec::new(alloc);
+    put_element(&mut der, SEQUENCE, info.as_slice())?;
+    Ok(der)
 }
 
 /// An ML-DSA-PrivateKey of both a seed and an expanded key.
+#[tactic(auto, unfolding(crate::specs::Keys::private_choice))]
 fn put_both(
     out: &mut Vec<u8>,
     alloc: Global,
@@ -257,7 +251,8 @@ fn put_both(
     let mut parts = Vec::new(alloc);
     put_element(&mut parts, OCTET_STRING, seed)?;
     put_element(&mut parts, OCTET_STRING, expanded)?;
-    put_element(out, SEQUENCE, parts.as_slice())
+    put_element(out, SEQUENCE, parts.as_slice())?;
+    Ok(())
 }
 
 /// An ML-DSA-PrivateKey.
@@ -279,6 +274,7 @@ fn put_choice(
 }
 
 /// The contents of a OneAsymmetricKey.
+#[tactic(auto, using(crate::proofs::KeyFiles::choice_small))]
 fn private_info(
     alloc: Global,
     algorithm: Algorithm,
@@ -298,6 +294,7 @@ fn private_info(
 }
 
 /// The file of a private key in DER: a OneAsymmetricKey of version 0 (RFC 9881, section 6).
+#[tactic(auto, using(crate::proofs::KeyFiles::private_info_small), unfolding(crate::specs::Keys::one_asymmetric_key))]
 pub fn write_private(
     alloc: Global,
     algorithm: Algorithm,
@@ -307,5 +304,7 @@ pub fn write_private(
     ensures { IfOk result (λ der. IsPrivateFile der.items algorithm (private_parts key.entry)) }
 {
     let info = private_info(alloc, algorithm, key)?;
-    element_of(alloc, SEQUENCE, info.as_slice())
+    let mut der = Vec::new(alloc);
+    put_element(&mut der, SEQUENCE, info.as_slice())?;
+    Ok(der)
 }

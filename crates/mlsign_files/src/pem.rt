@@ -133,6 +133,7 @@ fn dash_in(text: &[u8]) -> Option<usize>
 }
 
 /// The place of the first dash, or the end.
+#[tactic(auto, using(crate::proofs::Texts::past_all))]
 fn first_dash(text: &[u8]) -> usize
     ensures place { result ≡ position_or_len is_dash text.now }
     ensures within { result ≤ length text.now }
