@@ -1,5 +1,5 @@
 -- A text that is read spells what is read, and the bytes that a text spells are read.
-use Rattle.std.proofs.Common.{◌≡◌, ℕ, Bool, true, false, cond, not, IfOk, Vec, Global, inl, inr, List, [], ◌∷◌, ◌++◌, length, take, drop, Result, Ok, Err, refl, sym, ap, subst, ◌∙◌, append_assoc}
+use Rattle.std.proofs.Common.{◌≡◌, ℕ, Bool, true, cond, not, IfOk, Vec, Global, inl, inr, List, [], ◌∷◌, ◌++◌, length, take, drop, Result, Ok, Err, refl, sym, ap, ◌∙◌}
 use Rattle.std.specs.Str.{bytes_eq}
 use Rattle.std.specs.List.{position_or_len, filter, AllPass}
 use Rattle.std.proofs.lemmas.List.{take-append-drop, take_at, drop_at}
@@ -17,14 +17,6 @@ use Rattle.mlsign_files.specs.Reading.{◌>>=◌}
 use Rattle.mlsign_files.specs.PemReading.{begins, begun_fault, ended_at, opened_at, is_dash, closed_at, is_in_line, unwrapped_at, decoded_as, pem_at}
 use Rattle.mlsign_files.proofs.Elements.{chosen, ok_is, met, same_bytes}
 use Rattle.mlsign_files.proofs.Texts.{wrapped_kept, wrapped_pass, encoded_passes, first_place}
-
-pub not_opened : (kind : Kind) (text first : List ℕ) (fault : FileFault) → first ≡ begin_line kind → bytes_eq first (take (length first) text) ≡ false
-    → fault ≡ begun_fault first text → opened_at kind text ≡ Err fault
-unfolding opened_at
-not_opened kind text first fault e other is =
-    let test : begins (begin_line kind) text ≡ false = subst (λ (z : List ℕ). begins z text ≡ false) e other in
-    let same : fault ≡ begun_fault (begin_line kind) text = is ∙ ap (λ (z : List ℕ). begun_fault z text) e in
-    rw (test, same) refl
 
 -- ---- what is read is what is there
 
@@ -137,13 +129,3 @@ pem_of_symbols kind text ending rest body symbols (Ok x) opened closed unwrapped
           (unwrapped_found (line_end ending) body symbols unwrapped ∙ ap (wrapped (line_end ending)) encoded));
     }
 pem_of_symbols kind text ending rest body symbols (Err fault) opened closed unwrapped encoded bytes = tt
-
--- a text as it is written, line by line
-pub text_written : (kind : Kind) (ending : LineEnd) (der a b c d : List ℕ) → a ≡ begin_line kind → b ≡ a ++ line_end ending
-    → c ≡ b ++ wrapped (line_end ending) (encode_of standard der) → d ≡ c ++ closing kind ending → d ≡ pem kind ending der
-unfolding pem
-text_written kind ending der a b c d first ended body last =
-    let lines : List ℕ = wrapped (line_end ending) (encode_of standard der) in
-    last ∙ ap (λ (z : List ℕ). z ++ closing kind ending) (body ∙ ap (λ (z : List ℕ). z ++ lines) (ended ∙ ap (λ (z : List ℕ). z ++ line_end ending) first))
-    ∙ append_assoc (begin_line kind ++ line_end ending) lines (closing kind ending)
-    ∙ append_assoc (begin_line kind) (line_end ending) (lines ++ closing kind ending)

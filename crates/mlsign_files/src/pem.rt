@@ -100,7 +100,7 @@ fn ended(rest: &[u8]) -> Result<(LineEnd, &[u8]), FileFault>
 }
 
 /// How the lines end, and the text after the first one.
-#[tactic(auto, unfolding(crate::specs::PemReading::opened_at))]
+#[tactic(auto, unfolding(crate::specs::PemReading::opened_at, crate::specs::PemReading::begun_fault))]
 fn opened(kind: Kind, text: &[u8]) -> Result<(LineEnd, &[u8]), FileFault>
     ensures { Gives (λ x. (x.0, x.1.now)) result (opened_at kind text.now) }
 {
@@ -235,6 +235,7 @@ pub fn decode(alloc: Global, kind: Kind, text: &[u8]) -> Result<Vec<u8>, FileFau
 }
 
 /// The text of this kind that spells these bytes, in lines that end in LF.
+#[tactic(auto, unfolding(crate::specs::Pem::pem))]
 pub fn encode(alloc: Global, kind: Kind, der: &[u8]) -> Result<Vec<u8>, AllocError>
     ensures written { IfOk result (λ text. text.items ≡ pem kind Lf der.now) }
     ensures spelled { IfOk result (λ text. IsPem text.items kind der.now) }
