@@ -187,7 +187,7 @@ pub(crate) fn show<R: Files + Print + AllocGlobal>(rt: &R, file: &str) -> Result
         Algorithm::MlDsa65 => "ML-DSA-65",
         Algorithm::MlDsa87 => "ML-DSA-87",
     };
-    let hash = hex::encode(rt.alloc(), &shown.hash)?;
+    let hash = hex::encode(rt.alloc(), &shown.hash).map_err(io::Error::from)?;
     println!(rt; "kind: {kind}\nset: {set}\nhash of the public key: {hash}").context(
         "standard output",
     )

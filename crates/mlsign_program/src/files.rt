@@ -78,7 +78,7 @@ impl<'a> Output<'a> {
         rt: &R,
     ) -> Result<Written<'a>, Error> {
         let place = match self.found(rt)? {
-            Place::Free => String::from_str(rt.alloc(), self.path)?,
+            Place::Free => String::from_str(rt.alloc(), self.path).map_err(io::Error::from)?,
             Place::Taken => resolved(rt, self.path).context(self.path)?,
             Place::Device => {
                 return Ok(Written::Device { output: self });

@@ -4,12 +4,12 @@
 use crate::call::{Call, call_of};
 use crate::commands;
 use anyhow::{Context, Error, bail};
-use std::alloc::{AllocError, Global};
+use std::alloc::Global;
 use std::convert::AsStr;
-use std::env;
 use std::process::ExitCode;
 use std::random::RandomSource;
 use std::rt::{Env, Files};
+use std::{env, io};
 
 /// Runs the call that the words of the process make. The exit status is 0 if it was done, or the signature is valid; 1 if the
 /// signature is invalid; and 2 for anything else. In these two cases a line on standard error says which.
@@ -37,7 +37,7 @@ fn answer_process<R: Files + Input + Print + Eprint + Env + RandomSource + Alloc
 ) -> Result<bool, Error> {
     let mut words = Vec::new(rt.alloc());
     for word in env::args(rt)?.skip(1) {
-        words.push(word)?;
+        words.push(word).map_err(io::Error::from)?;
     }
     answer(rt, words.as_slice(), at_terminal)
 }
@@ -117,7 +117,7 @@ fn in_a_line(alloc: Global, error: &clap::Error) -> Error {
 }
 
 /// The lines of an error before the first empty one, joined.
-fn first_lines(alloc: Global, error: &clap::Error) -> Result<String, AllocError> {
+fn first_lines(alloc: Global, error: &clap::Error) -> io::Result<String> {
     let text = error.to_string(alloc)?;
     let mut joined = String::new(alloc);
     for line in text.as_str().lines() {
