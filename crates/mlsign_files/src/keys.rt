@@ -2,7 +2,7 @@
 #![tactic(auto)]
 
 ghost use Rattle.std.specs.Prelude.{◌≡◌, ◌<◌, ◌≤◌, ◌++◌, ℕ, List, Ok, length, IfOk, OnOk};
-ghost use Rattle.mlsign_files.specs.Der.{small_integer, octet_string, element};
+ghost use Rattle.mlsign_files.specs.Der.{small_integer, octet_string};
 ghost use Rattle.mlsign_files.specs.declared.algorithm.Algorithm.{Algorithm};
 ghost use Rattle.mlsign_files.specs.Keys.{PrivateParts, Both, private_parts, private_choice, HasPrivateSizes};
 ghost use Rattle.mlsign_files.specs.Keys.{IsPublicFile, IsPrivateFile, algorithm_identifier, public_length};
