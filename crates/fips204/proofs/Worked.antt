@@ -9,16 +9,14 @@ use Rattle.fips204_base.specs.Residues.{sum_below}
 use Rattle.fips204_base.specs.Transforms.{product, shifted}
 use Rattle.fips204_base.specs.Vectors.{polynomial_of, vector_of}
 use Rattle.fips204_base.specs.declared.types.R.{R}
-use Rattle.fips204.specs.Keys.{PrivateParts, key_pair, key_generation}
-use Rattle.fips204.specs.SigningInputs.{seeds, mask_seed, t1_shifted}
-use Rattle.fips204.specs.Acceptance.{hinted}
+use Rattle.fips204.specs.Keys.{PrivateParts, seeds, key_pair, key_generation}
+use Rattle.fips204.specs.Acceptance.{t1_shifted, hinted}
 use Rattle.fips204.specs.ParameterSets.{ParameterSet, set_44, set_65, set_87, is_parameter_set, public_key_length, private_key_length, signature_length}
-use Rattle.fips204.specs.Signing.{first_answer, limit, rejected, signed, commitment, hint_bit, w_minus_cs2}
+use Rattle.fips204.specs.Signing.{first_answer, mask_seed, limit, rejected, signed, commitment, hint_bit, w_minus_cs2}
 use Rattle.std.specs.Prelude.{replicate, nat_eq, get_or, option_map}
 use Rattle.std.specs.List.{range_with_len, flat_map}
 use Rattle.fips204.specs.declared.types.pre_hash.TheConstants.{SHA2_224, SHA2_256, SHA2_384, SHA2_512, SHA2_512_224, SHA2_512_256, SHA3_224, SHA3_256, SHA3_384, SHA3_512, SHAKE_128, SHAKE_256}
-use Rattle.fips204.specs.Framing.{plain, hashed, framed, framed_input, message_hash, hashes, digest_length, pre_hash_fault}
-use Rattle.fips204.specs.Constants.{hash_oid}
+use Rattle.fips204.specs.Framing.{plain, hashed, framed, framed_input, message_hash, hash_oid, hashes, digest_length, pre_hash_fault}
 use Rattle.fips204.specs.Refusals.{input_fault, sign_input}
 
 -- Worked values of the parameter sets, and of the order of attempts.
