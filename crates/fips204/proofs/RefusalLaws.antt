@@ -8,11 +8,11 @@ use Rattle.fips204_base.specs.declared.types.T.{T}
 use Rattle.fips204_base.specs.Sampling.{sampled_matrix}
 use Rattle.fips204.specs.ParameterSets.{ParameterSet}
 use Rattle.fips204.specs.Keys.{PrivateParts}
-use Rattle.fips204.specs.Signing.{Attempt, limit, rejected, signed, attempt, first_answer, sign_with, sign_if_matrix, sign}
+use Rattle.fips204.specs.Signing.{Attempt, limit, rejected, signed, attempt, first_answer, mask_seed, sign_with, sign_if_matrix, sign}
 use Rattle.fips204.specs.Framing.{Input, plain, framed_input, message_hash}
 use Rattle.fips204.specs.RefusalLaws.{RefusesOnly}
 use Rattle.fips204.specs.Refusals.{refused_or, input_fault, sign_input, OnlySamplingLimit, IsSigningLimit}
-use Rattle.fips204.specs.SigningInputs.{message_fault, mask_seed}
+use Rattle.fips204.specs.SigningInputs.{message_fault}
 
 -- a value, or a limit where there is none
 limited : {A : Type 0} (o : Option A) → OnlySamplingLimit (ok_or o SamplingLimit)

@@ -2,8 +2,8 @@
 use Rattle.std.proofs.Common.{◌≡◌, ◌<◌, ◌+◌, ◌-◌, ℕ, zero, suc, List, [], ◌∷◌, Ok, Err, map, refl, ap, sym, ◌∙◌, arith, add-zero, ◌≤◌, ◌*◌, Option, Some, None, Result}
 use Rattle.std.specs.List.{range_with_len}
 use Rattle.fips204_base.specs.declared.fault.Fault.TheVariants.{TooManyAttempts, SamplingLimit}
-use Rattle.fips204.specs.Signing.{Attempt, limit, rejected, signed, attempt, first_answer, sign, sign_if_matrix, sign_with}
-use Rattle.fips204.specs.SigningInputs.{attempt_answer, mask_seed}
+use Rattle.fips204.specs.Signing.{Attempt, limit, rejected, signed, attempt, first_answer, mask_seed, sign, sign_if_matrix, sign_with}
+use Rattle.fips204.specs.SigningInputs.{attempt_answer}
 use native.Mathlib.Decide.{dec_lt}
 use Rattle.std.proofs.Math.Nat.{mul-le-mul}
 use Rattle.fips204_base.specs.declared.fault.Fault.{Fault}

@@ -81,10 +81,13 @@ first_answer (limit ∷ later) = Err SamplingLimit
 first_answer (rejected ∷ later) = first_answer later
 first_answer (signed signature ∷ later) = Ok signature
 
--- signing with the matrix a: the first of 814 attempts (Appendix C) that isn't rejected; attempt n has kappa = n l, and rho'' is the
--- hash of K, rnd and mu
+-- rho'', the seed of the masks
+abbrev pub mask_seed : (List ℕ → List ℕ) → PrivateParts → List ℕ → List ℕ → List ℕ
+mask_seed H sk rnd mu = take 64 (H (sk.key ++ rnd ++ mu))
+
+-- signing with the matrix a: the first of 814 attempts (Appendix C) that isn't rejected; attempt n has kappa = n l
 unfoldable pub sign_with : ParameterSet → (List ℕ → List ℕ) → List (List T) → PrivateParts → List ℕ → List ℕ → Result (List ℕ) Fault
-sign_with p H a sk mu rnd = first_answer (map (λ n. attempt p H a sk mu (take 64 (H (sk.key ++ rnd ++ mu))) (n * p.l)) (range_with_len 0 814))
+sign_with p H a sk mu rnd = first_answer (map (λ n. attempt p H a sk mu (mask_seed H sk rnd mu) (n * p.l)) (range_with_len 0 814))
 
 -- the same where the matrix is there, or else a refusal
 unfoldable pub sign_if_matrix : ParameterSet → (List ℕ → List ℕ) → Option (List (List T)) → PrivateParts → List ℕ → List ℕ → Result (List ℕ) Fault

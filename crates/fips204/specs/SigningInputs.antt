@@ -73,10 +73,6 @@ seeds p H xi = H (xi ++ p.k ∷ p.l ∷ [])
 abbrev pub key_hash : (List ℕ → List ℕ) → List ℕ → List R → List ℕ
 key_hash H rho t1 = take 64 (H (public_key_bytes rho t1))
 
--- rho'', the seed of the masks
-abbrev pub mask_seed : (List ℕ → List ℕ) → PrivateParts → List ℕ → List ℕ → List ℕ
-mask_seed H sk rnd mu = take 64 (H (sk.key ++ rnd ++ mu))
-
 -- t1 2^13
 abbrev pub t1_shifted : List R → ℕ → ℕ → ℕ
 t1_shifted t1 r n = 8192 * vector_coefficients t1 r n % 8380417
