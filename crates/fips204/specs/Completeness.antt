@@ -49,7 +49,7 @@ SignedIsAccepted =
     (p : ParameterSet) (H G : List ℕ → List ℕ) (pk : PublicParts) (sk : PrivateParts) → IsTrue (is_parameter_set p)
     → ((x : List ℕ) → 4096 ≤ length (H x))
     → (ArePrivateParts p.k p.l sk → IsWhole p G sk → derived p G sk ≡ Ok pk
-      → AcceptsSigned p H G pk sk × (sk.tr ≡ take 64 (H (public_key_bytes pk.rho pk.t1)) → IsPair p H G pk sk))
+    → AcceptsSigned p H G pk sk × (sk.tr ≡ take 64 (H (public_key_bytes pk.rho pk.t1)) → IsPair p H G pk sk))
     × ((xi : List ℕ) → generated p H G xi ≡ Ok (pk, sk) → IsPair p H G pk sk × AcceptsSigned p H G pk sk)
 
 -- keys in range are the same where their bytes are: two private keys, and two public keys with the same tr

@@ -45,7 +45,7 @@ unfoldable pub pre_hash_fault : List ℕ → List ℕ → Option Fault
 pre_hash_fault digest oid =
     if nat_eq (length oid) 0 then Some OidEmpty
     else if not (nat_le 3 (length oid) && nat_eq (slice_index oid 0) 0x06 && nat_lt (slice_index oid 1) 128
-      && nat_eq (slice_index oid 1 + 2) (length oid)) then Some OidNotDer
+    && nat_eq (slice_index oid 1 + 2) (length oid)) then Some OidNotDer
     else if nat_lt 1024 (length digest) then Some DigestTooLong
     else if differs (digest_length oid) (length digest) then Some DigestLength
     else None
