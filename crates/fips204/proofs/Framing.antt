@@ -3,7 +3,8 @@ use Rattle.std.proofs.Common.{◌≡◌, ◌+◌, ℕ, List, [], ◌∷◌, ◌+
 use Rattle.fips204_base.specs.declared.fault.Fault.{Fault}
 use Rattle.fips204_base.specs.declared.fault.Fault.TheVariants.{OidEmpty, OidNotDer, DigestTooLong, DigestLength, HashCtx}
 use Rattle.fips204.proofs.Spellings.{same_parts}
-use Rattle.fips204.specs.Framing.{is_der, differs, digest_length, pre_hash_fault, plain, hashed}
+use Rattle.fips204.specs.Framing.{differs, digest_length, pre_hash_fault, plain, hashed}
+use Rattle.fips204.specs.SigningInputs.{is_der}
 use Rattle.fips204.specs.SchemeLaws.{FramingIsOneToOne}
 use Rattle.fips204.proofs.ParameterSets.{and_out}
 use Rattle.fips204.proofs.RefusedCalls.{passed, short_context}

@@ -16,7 +16,7 @@ use Rattle.fips204_base.proofs.Vectors.{vector_of-ext, vector_of-entry, vector_o
 use Rattle.fips204.specs.ParameterSets.{ParameterSet}
 use Rattle.fips204.specs.Keys.{PrivateParts, eta_of_rows, key_vector, high_part, low_part}
 use Rattle.fips204.specs.Signing.{response, w_minus_cs2, low_vector, ct0, hint_vector, high_vector}
-use Rattle.fips204.specs.Acceptance.{t1_shifted, w1_prime}
+use Rattle.fips204.specs.Acceptance.{w1_prime}
 use Rattle.std.specs.Prelude.{int_lt}
 use Rattle.fips204_base.specs.Sampling.{challenge}
 use Rattle.fips204_base.specs.Encodings.{is_one, all_ones}
@@ -25,7 +25,7 @@ use Rattle.fips204_base.proofs.RoundingLaws.{IsGamma, use_hint_of_make_hint, hig
 use Rattle.fips204.proofs.ChallengeProducts.{Near, near_same, near_turned, near_challenge_product, norm_of_place, near_of_centred, centred_of_near}
 use Rattle.fips204.proofs.RejectionChecks.{centred-own}
 use Rattle.fips204.proofs.ParameterSets.{AreSetNumbers}
-use Rattle.fips204.specs.SigningInputs.{scaled}
+use Rattle.fips204.specs.SigningInputs.{scaled, t1_shifted}
 
 -- The vector that verifying computes is the one whose high bits signing hinted at: A z - c t1 2^13 = w - c s2 + c t0.
 

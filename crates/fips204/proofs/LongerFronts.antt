@@ -17,7 +17,8 @@ use Rattle.fips204_base.specs.Encodings.{w1_bytes, public_key_bytes, vector_byte
 use Rattle.fips204_base.specs.Sampling.{sampled_matrix, challenge, mask}
 use Rattle.fips204_base.proofs.LongerFronts.{prefix-take, prefix-part, matrix_entry-longer, small_polynomial-longer, challenge-longer, sampled_matrix-longer, small_vector-longer, mask-longer}
 use Rattle.fips204.specs.ParameterSets.{ParameterSet, is_parameter_set, commitment_length}
-use Rattle.fips204.specs.Keys.{PublicParts, PrivateParts, high_part, key_hash, key_pair, key_generation, public_key_of}
+use Rattle.fips204.specs.Keys.{PublicParts, PrivateParts, high_part, key_pair, key_generation, public_key_of}
+use Rattle.fips204.specs.SigningInputs.{key_hash}
 use Rattle.fips204.proofs.KeyGeneration.{key_pair_if_all, key_generation-is}
 use Rattle.fips204.specs.Framing.{Input, framed_input, message_hash}
 use Rattle.fips204.specs.Signing.{Attempt, limit, rejected, signed, commitment, high_vector, checked_attempt, attempt, first_answer, mask_seed, sign_with, sign_if_matrix, sign}

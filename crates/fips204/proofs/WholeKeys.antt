@@ -12,7 +12,7 @@ use Rattle.fips204_base.specs.Sampling.{sampled_matrix, small_vector}
 use Rattle.fips204_base.specs.Vectors.{IsVector}
 use Rattle.fips204_base.proofs.Sampled.{small_vector-range, some_of_ok}
 use Rattle.fips204.specs.ParameterSets.{ParameterSet, is_parameter_set}
-use Rattle.fips204.specs.Keys.{PublicParts, PrivateParts, ArePrivateParts, IsPublicKeyOf, IsPrivateKeyOf, DecodesPrivate, eta_of_rows, IsWhole, high_part, low_part, key_hash, key_pair, seeds, key_generation, public_key_of}
+use Rattle.fips204.specs.Keys.{PublicParts, PrivateParts, ArePrivateParts, IsPublicKeyOf, IsPrivateKeyOf, DecodesPrivate, eta_of_rows, IsWhole, high_part, low_part, key_pair, key_generation, public_key_of}
 use Rattle.fips204.specs.Signing.{sign}
 use Rattle.fips204.specs.Acceptance.{Verifies}
 use Rattle.fips204.proofs.Completeness.{completeness}
@@ -24,7 +24,7 @@ use Rattle.fips204.specs.Completeness.{AcceptsSigned, IsPair, DecodesAlone, Byte
 use Rattle.fips204_base.specs.declared.fault.Fault.{Fault}
 use Rattle.fips204_base.specs.declared.fault.Fault.TheVariants.{SamplingLimit}
 use Rattle.fips204_base.proofs.EncodedParts.{same_private_key, IsT1, same_parts}
-use Rattle.fips204.specs.SigningInputs.{IsHighPart}
+use Rattle.fips204.specs.SigningInputs.{IsHighPart, seeds, key_hash}
 
 -- ---- keys by their bytes
 

@@ -9,14 +9,16 @@ use Rattle.fips204_base.specs.Residues.{sum_below}
 use Rattle.fips204_base.specs.Transforms.{product, shifted}
 use Rattle.fips204_base.specs.Vectors.{polynomial_of, vector_of}
 use Rattle.fips204_base.specs.declared.types.R.{R}
-use Rattle.fips204.specs.Keys.{PrivateParts, seeds, key_pair, key_generation}
-use Rattle.fips204.specs.Acceptance.{t1_shifted, hinted}
+use Rattle.fips204.specs.Keys.{PrivateParts, key_pair, key_generation}
+use Rattle.fips204.specs.SigningInputs.{seeds, t1_shifted}
+use Rattle.fips204.specs.Acceptance.{hinted}
 use Rattle.fips204.specs.ParameterSets.{ParameterSet, set_44, set_65, set_87, is_parameter_set, public_key_length, private_key_length, signature_length}
 use Rattle.fips204.specs.Signing.{first_answer, mask_seed, limit, rejected, signed, commitment, hint_bit, w_minus_cs2}
 use Rattle.std.specs.Prelude.{replicate, nat_eq, get_or, option_map}
 use Rattle.std.specs.List.{range_with_len, flat_map}
 use Rattle.fips204.specs.declared.types.pre_hash.TheConstants.{SHA2_224, SHA2_256, SHA2_384, SHA2_512, SHA2_512_224, SHA2_512_256, SHA3_224, SHA3_256, SHA3_384, SHA3_512, SHAKE_128, SHAKE_256}
-use Rattle.fips204.specs.Framing.{plain, hashed, framed, framed_input, message_hash, hash_oid, hashes, digest_length, pre_hash_fault}
+use Rattle.fips204.specs.Framing.{plain, hashed, framed, framed_input, message_hash, hashes, digest_length, pre_hash_fault}
+use Rattle.fips204.specs.Constants.{hash_oid}
 use Rattle.fips204.specs.Refusals.{input_fault, sign_input}
 
 -- Worked values of the parameter sets, and of the order of attempts.
@@ -124,6 +126,12 @@ digest_before_identifier = refl
 -- the seed is followed by a byte of the rows and one of the columns
 seeds_of_sets : (seeds set_44 (λ x. x) (9 ∷ []) ≡ 9 ∷ 4 ∷ 4 ∷ []) × (seeds set_65 (λ x. x) (9 ∷ []) ≡ 9 ∷ 6 ∷ 5 ∷ []) × (seeds set_87 (λ x. x) (9 ∷ []) ≡ 9 ∷ 8 ∷ 7 ∷ [])
 seeds_of_sets = (refl, refl, refl)
+
+-- so rho of set 65 begins with xi and the bytes 6 and 5, where H gives back its input
+seeds_begin : option_map {U = List ℕ} (λ pair. take 4 pair.0.rho) (key_generation set_65 (λ input. input ++ replicate 1024 0) (λ _. replicate 1024 0) (9 ∷ []))
+    ≡ Some (9 ∷ 6 ∷ 5 ∷ 0 ∷ [])
+unfolding key_generation small_vectors key_pair sampled_matrix all_present matrix_entry kept_triples triple first_256 small_vector small_polynomial kept_half_bytes
+seeds_begin = refl
 
 -- a stream whose front over the 34 bytes of the seeds is 0, 1, .. to 127, and over any other input its bytes 0 and 64 in turn: over rho'
 -- and a number those are the first byte of rho' and the low byte of the number

@@ -11,13 +11,9 @@ use Rattle.fips204_base.specs.Sampling.{sampled_matrix, challenge}
 use Rattle.fips204.specs.ParameterSets.{ParameterSet, commitment_length}
 use Rattle.fips204.specs.Keys.{PublicParts}
 
--- t1 2^13
-abbrev pub t1_shifted : List R → ℕ → ℕ → ℕ
-t1_shifted t1 r n = 8192 * vector_coefficients t1 r n % 8380417
-
 -- the first k polynomials of v are those of t1 2^13, modulo q
 abbrev pub AreShifted : ℕ → List R → List R → Type 0
-AreShifted k t1 v = (r n : ℕ) → r < k → n < 256 → vector_coefficients v r n ≡ t1_shifted t1 r n
+AreShifted k t1 v = (r n : ℕ) → r < k → n < 256 → vector_coefficients v r n ≡ 8192 * vector_coefficients t1 r n % 8380417
 
 -- UseHint(h, w), coefficient by coefficient
 abbrev pub hinted : ParameterSet → List R → (ℕ → ℕ → ℕ) → List R
@@ -27,8 +23,7 @@ hinted p h w = vector_of p.k (λ r n. pos (use_hint p.gamma2 (is_one (slice_inde
 unfoldable pub w1_prime : ParameterSet → List (List T) → List R → List R → List R → R → List R
 w1_prime p a t1 z h c = hinted p h (λ r. minus (matrix_product p.l a (vector_coefficients z) r) (product (coefficients c.0) (λ n. 8192 * vector_coefficients t1 r n % 8380417)))
 
--- what a signature fixes under a matrix and t1, whatever was signed: parts, of which the norm of z is small, a challenge, and the
--- bytes of w1'
+-- what a signature fixes under a matrix and t1, whatever was signed: parts, with a small z, a challenge, and the bytes of w1'
 pub record Opens (p : ParameterSet) (H : List ℕ → List ℕ) (a : List (List T)) (t1 : List R) (signature c_tilde w1 : List ℕ) : Type 0 where
   pub z : List R
   pub h : List R
@@ -38,8 +33,7 @@ pub record Opens (p : ParameterSet) (H : List ℕ → List ℕ) (a : List (List 
   pub sampled : challenge p.tau (H c_tilde) ≡ Some c
   pub recomputed : w1 ≡ w1_bytes p.gamma2 (w1_prime p a t1 z h c)
 
--- ML-DSA.Verify_internal (Algorithm 8) from mu, with the matrix a: the signature fixes c_tilde and w1, and c_tilde is the hash of mu
--- and w1
+-- ML-DSA.Verify_internal (Algorithm 8) from mu, with the matrix a: c_tilde is the hash of mu and the w1 that the signature fixes
 pub record Accepts (p : ParameterSet) (H : List ℕ → List ℕ) (a : List (List T)) (t1 : List R) (mu signature : List ℕ) : Type 0 where
   pub c_tilde : List ℕ
   pub w1 : List ℕ

@@ -1,9 +1,9 @@
 -- What is signed is accepted, and what makes two keys a pair (FIPS 204, Algorithms 1 to 8).
-use Rattle.std.specs.Prelude.{◌≡◌, ◌≤◌, ◌↔◌, ℕ, List, length, Bool, IsTrue, Result, Ok, Err, MatchResult}
+use Rattle.std.specs.Prelude.{◌≡◌, ◌≤◌, ◌↔◌, ℕ, List, length, take, Bool, IsTrue, Result, Ok, Err, MatchResult}
 use Rattle.fips204_base.specs.declared.fault.Fault.{Fault}
 use Rattle.fips204_base.specs.Encodings.{public_key_bytes, private_key_bytes}
 use Rattle.fips204.specs.ParameterSets.{ParameterSet, is_parameter_set}
-use Rattle.fips204.specs.Keys.{PublicParts, PrivateParts, ArePublicParts, ArePrivateParts, IsPublicKeyOf, IsPrivateKeyOf, IsWhole, key_hash}
+use Rattle.fips204.specs.Keys.{PublicParts, PrivateParts, ArePublicParts, ArePrivateParts, IsPublicKeyOf, IsPrivateKeyOf, IsWhole}
 use Rattle.fips204.specs.Framing.{Input}
 use Rattle.fips204.specs.Signing.{sign}
 use Rattle.fips204.specs.Acceptance.{Verifies}
@@ -48,7 +48,8 @@ abbrev pub SignedIsAccepted : Type 0
 SignedIsAccepted =
     (p : ParameterSet) (H G : List ℕ → List ℕ) (pk : PublicParts) (sk : PrivateParts) → IsTrue (is_parameter_set p)
     → ((x : List ℕ) → 4096 ≤ length (H x))
-    → (ArePrivateParts p.k p.l sk → IsWhole p G sk → derived p G sk ≡ Ok pk → AcceptsSigned p H G pk sk × (sk.tr ≡ key_hash H pk.rho pk.t1 → IsPair p H G pk sk))
+    → (ArePrivateParts p.k p.l sk → IsWhole p G sk → derived p G sk ≡ Ok pk
+    → AcceptsSigned p H G pk sk × (sk.tr ≡ take 64 (H (public_key_bytes pk.rho pk.t1)) → IsPair p H G pk sk))
     × ((xi : List ℕ) → generated p H G xi ≡ Ok (pk, sk) → IsPair p H G pk sk × AcceptsSigned p H G pk sk)
 
 -- keys in range are the same where their bytes are: two private keys, and two public keys with the same tr

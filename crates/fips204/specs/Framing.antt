@@ -8,8 +8,7 @@ pub data Input : Type 0 where
   plain : (message context : List ℕ) → Input
   hashed : (digest context oid : List ℕ) → Input
 
--- M': byte 0, a byte of the context's length, the context, and the message; or byte 1, a byte of the context's length, the context,
--- the OID and the digest
+-- M': byte 0, or 1 for a digest, a byte of the context's length, the context, and the message, or the OID and the digest
 abbrev pub framed_input : Input → List ℕ
 framed_input (plain message context) = 0 ∷ length context ∷ context ++ message
 framed_input (hashed digest context oid) = 1 ∷ length context ∷ context ++ oid ++ digest
@@ -22,10 +21,6 @@ framed message context = framed_input (plain message context)
 abbrev pub message_hash : (List ℕ → List ℕ) → List ℕ → List ℕ → List ℕ
 message_hash H tr m = take 64 (H (tr ++ m))
 
--- the OID 2.16.840.1.101.3.4.2.n in DER
-abbrev pub hash_oid : ℕ → List ℕ
-hash_oid n = 0x06 ∷ 0x09 ∷ 0x60 ∷ 0x86 ∷ 0x48 ∷ 0x01 ∷ 0x65 ∷ 0x03 ∷ 0x04 ∷ 0x02 ∷ n ∷ []
-
 -- the last byte of the OID of each of the twelve hashes, with the bytes of its digest: SHA2-256, -384, -512, -224,
 -- -512/224 and -512/256; SHA3-224, -256, -384 and -512; SHAKE128 and SHAKE256
 unfoldable pub hashes : List (ℕ × ℕ)
@@ -34,24 +29,23 @@ hashes =
     ∷ (0x07, 28) ∷ (0x08, 32) ∷ (0x09, 48) ∷ (0x0A, 64)
     ∷ (0x0B, 32) ∷ (0x0C, 64) ∷ []
 
--- how many bytes the digest has, where the OID is that of one of these hashes
+-- how many bytes the digest has, where the OID is that of one of these hashes: 2.16.840.1.101.3.4.2 and the last byte, in DER
 unfoldable pub digest_length : List ℕ → Option ℕ
-digest_length oid = option_map (λ hash. hash.1) (find (λ hash. bytes_eq oid (hash_oid hash.0)) hashes)
-
--- at least three bytes, the first 06, and the second below 128 and the number of bytes after it
-abbrev pub is_der : List ℕ → Bool
-is_der oid = nat_le 3 (length oid) && nat_eq (slice_index oid 0) 0x06 && nat_lt (slice_index oid 1) 128 && nat_eq (slice_index oid 1 + 2) (length oid)
+digest_length oid = option_map (λ hash. hash.1)
+    (find (λ hash. bytes_eq oid (0x06 ∷ 0x09 ∷ 0x60 ∷ 0x86 ∷ 0x48 ∷ 0x01 ∷ 0x65 ∷ 0x03 ∷ 0x04 ∷ 0x02 ∷ hash.0 ∷ [])) hashes)
 
 -- whether a length is wanted and is another one
 abbrev pub differs : Option ℕ → ℕ → Bool
 differs None n = false
 differs (Some wanted) n = not (nat_eq n wanted)
 
--- the first condition that the digest and the OID break, or none
+-- the first condition that the digest and the OID break, or none; an OID in DER has at least three bytes, the first 06, and the
+-- second below 128 and the number of bytes after it
 unfoldable pub pre_hash_fault : List ℕ → List ℕ → Option Fault
 pre_hash_fault digest oid =
     if nat_eq (length oid) 0 then Some OidEmpty
-    else if not (is_der oid) then Some OidNotDer
+    else if not (nat_le 3 (length oid) && nat_eq (slice_index oid 0) 0x06 && nat_lt (slice_index oid 1) 128
+    && nat_eq (slice_index oid 1 + 2) (length oid)) then Some OidNotDer
     else if nat_lt 1024 (length digest) then Some DigestTooLong
     else if differs (digest_length oid) (length digest) then Some DigestLength
     else None

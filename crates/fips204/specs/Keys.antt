@@ -75,27 +75,21 @@ high_part p a s1 s2 = vector_of p.k (λ r n. pos (power2round (key_vector p.l a 
 unfoldable pub low_part : ParameterSet → List (List T) → List R → List R → List R
 low_part p a s1 s2 = vector_of p.k (λ r n. (power2round (key_vector p.l a s1 s2 r n)).1)
 
--- tr, the hash by H of the public key's bytes, 64 of its bytes
-abbrev pub key_hash : (List ℕ → List ℕ) → List ℕ → List R → List ℕ
-key_hash H rho t1 = take 64 (H (public_key_bytes rho t1))
-
--- both keys of seeds, a matrix and small vectors
+-- both keys of seeds, a matrix and small vectors; tr is the hash of the public key's bytes
 unfoldable pub key_pair : ParameterSet → (List ℕ → List ℕ) → List ℕ → List ℕ → List (List T) → List R → List R → PublicParts × PrivateParts
 key_pair p H rho key a s1 s2 =
     let t1 = high_part p a s1 s2 in
-    let tr = key_hash H rho t1 in
+    let tr = take 64 (H (public_key_bytes rho t1)) in
     (record { rho = rho; tr = tr; t1 = t1 }, record { rho = rho; key = key; tr = tr; s1 = s1; s2 = s2; t0 = low_part p a s1 s2 })
 
--- the seeds of both keys: H over xi, byte k and byte l
-abbrev pub seeds : ParameterSet → (List ℕ → List ℕ) → List ℕ → List ℕ
-seeds p H xi = H (xi ++ p.k ∷ p.l ∷ [])
-
--- ML-DSA.KeyGen_internal (Algorithm 6): the seeds are rho of 32 bytes, rho' of 64 and K of 32; none where a sampler gives none
+-- ML-DSA.KeyGen_internal (Algorithm 6): H over xi, byte k and byte l gives rho of 32 bytes, rho' of 64 and K of 32; none where a
+-- sampler gives none
 unfoldable pub key_generation : ParameterSet → (List ℕ → List ℕ) → (List ℕ → List ℕ) → List ℕ → Option (PublicParts × PrivateParts)
 key_generation p H G xi =
-    let rho = take 32 (seeds p H xi) in
-    let rho' = take 64 (drop 32 (seeds p H xi)) in
-    let key = take 32 (drop 96 (seeds p H xi)) in
+    let seeds = H (xi ++ p.k ∷ p.l ∷ []) in
+    let rho = take 32 seeds in
+    let rho' = take 64 (drop 32 seeds) in
+    let key = take 32 (drop 96 seeds) in
     option_and_then (λ a. option_map (λ small. key_pair p H rho key a small.0 small.1) (small_vectors p.eta H rho' p.k p.l)) (sampled_matrix G rho p.k p.l)
 
 -- a whole private key: rejection sampling gives its matrix, and its t0 comes of A s1 + s2 by power2round

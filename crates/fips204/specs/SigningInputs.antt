@@ -1,6 +1,6 @@
 -- What private functions of signing take and answer, and parts of definitions: cited by no public clause; nobody has to believe it.
-use Rattle.std.specs.Prelude.{◌+◌, ◌-◌, ◌<◌, ◌≤◌, ℕ, List, length, nat_lt, if◌then◌else◌, Option, Some, None, Result, Ok, Err}
-use Rattle.fips204_base.specs.Encodings.{IsSignature}
+use Rattle.std.specs.Prelude.{◌+◌, ◌-◌, ◌*◌, ◌%◌, ◌<◌, ◌≤◌, ℕ, List, [], ◌∷◌, ◌++◌, length, take, slice_index, Bool, ◌&&◌, nat_eq, nat_lt, nat_le, if◌then◌else◌, Option, Some, None, Result, Ok, Err}
+use Rattle.fips204_base.specs.Encodings.{IsSignature, public_key_bytes}
 use Rattle.fips204_base.specs.Residues.{vector_norm, coefficients}
 use Rattle.fips204_base.specs.Transforms.{product, plus}
 use Rattle.fips204_base.specs.Vectors.{PolynomialWithin, VectorWithin, AreSameModQ, IsVector, vector_coefficients}
@@ -60,6 +60,22 @@ message_fault context = if nat_lt 255 (length context) then Some SignCtx else No
 -- and what refuses to sign a digest
 abbrev pub digest_fault : List ℕ → List ℕ → List ℕ → Option Fault
 digest_fault digest context oid = if nat_lt 255 (length context) then Some HashCtx else pre_hash_fault digest oid
+
+-- at least three bytes, the first 06, and the second below 128 and the number of bytes after it
+abbrev pub is_der : List ℕ → Bool
+is_der oid = nat_le 3 (length oid) && nat_eq (slice_index oid 0) 0x06 && nat_lt (slice_index oid 1) 128 && nat_eq (slice_index oid 1 + 2) (length oid)
+
+-- the seeds of both keys: H over xi, byte k and byte l
+abbrev pub seeds : ParameterSet → (List ℕ → List ℕ) → List ℕ → List ℕ
+seeds p H xi = H (xi ++ p.k ∷ p.l ∷ [])
+
+-- tr, the hash by H of the public key's bytes, 64 of its bytes
+abbrev pub key_hash : (List ℕ → List ℕ) → List ℕ → List R → List ℕ
+key_hash H rho t1 = take 64 (H (public_key_bytes rho t1))
+
+-- t1 2^13
+abbrev pub t1_shifted : List R → ℕ → ℕ → ℕ
+t1_shifted t1 r n = 8192 * vector_coefficients t1 r n % 8380417
 
 -- t1, with k polynomials
 abbrev pub IsHighPart : ℕ → List R → Type 0

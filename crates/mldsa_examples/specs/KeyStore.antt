@@ -2,7 +2,7 @@
 use Rattle.std.specs.Prelude.{◌≡◌, ◌⊎◌, ℕ, List, ◌∷◌, length, take, drop, slice_index, nat_eq, Option, Some, None, Result, Ok, Err, MatchResult, if◌then◌else◌}
 use Rattle.fips204_base.specs.Encodings.{public_key_bytes, private_key_bytes}
 use Rattle.fips204_base.specs.declared.fault.Fault.TheVariants.{SamplingLimit}
-use Rattle.fips204.specs.Keys.{key_hash, PublicParts, PrivateParts, ArePublicParts, ArePrivateParts, IsPublicKeyOf, IsPrivateKeyOf}
+use Rattle.fips204.specs.Keys.{PublicParts, PrivateParts, ArePublicParts, ArePrivateParts, IsPublicKeyOf, IsPrivateKeyOf}
 use Rattle.fips204.specs.ParameterSets.{set_44}
 use Rattle.fips204.specs.Refusals.{derived}
 use Rattle.mldsa_examples.specs.declared.key_store.LoadFault.{LoadFault}
@@ -63,5 +63,5 @@ LoadsStored =
 -- and from that of a public key in range, whose tr is the hash of its bytes, as key generation makes it
 abbrev pub LoadsStoredPublic : Type 0
 LoadsStoredPublic =
-    (H : List ℕ → List ℕ) (pk : PublicParts) (file : List ℕ) (answer : Result PublicParts LoadFault) → ArePublicParts 4 pk → pk.tr ≡ key_hash H pk.rho pk.t1
-    → length file ≡ 1314 → file ≡ public_file_of pk → LoadsPublicAs H file answer → answer ≡ Ok pk
+    (H : List ℕ → List ℕ) (pk : PublicParts) (file : List ℕ) (answer : Result PublicParts LoadFault) → ArePublicParts 4 pk
+    → pk.tr ≡ take 64 (H (public_key_bytes pk.rho pk.t1)) → length file ≡ 1314 → file ≡ public_file_of pk → LoadsPublicAs H file answer → answer ≡ Ok pk

@@ -8,7 +8,8 @@
 #![tactic(auto)]
 
 ghost use Rattle.std.specs.Prelude.{◌≡◌, MatchResult, Some, None};
-ghost use Rattle.fips204.specs.Framing.{digest_length, is_der, pre_hash_fault};
+ghost use Rattle.fips204.specs.Framing.{digest_length, pre_hash_fault};
+ghost use Rattle.fips204.specs.SigningInputs.{is_der};
 
 use fips204_base::Fault;
 

@@ -4,7 +4,8 @@ use Rattle.fips204_base.specs.declared.fault.Fault.TheVariants.{SamplingLimit}
 use Rattle.fips204_base.specs.Sampling.{sampled_matrix, small_vector}
 use Rattle.fips204_base.specs.Vectors.{IsVector}
 use Rattle.fips204_base.proofs.Vectors.{vector-within}
-use Rattle.fips204.specs.Keys.{high_part, low_part, key_hash}
+use Rattle.fips204.specs.Keys.{high_part, low_part}
+use Rattle.fips204.specs.SigningInputs.{key_hash}
 use Rattle.fips204.specs.Sets.{set_of}
 use Rattle.fips204.proofs.ParameterSets.{limits, small_vector-parts, matrix-shape, eta_of_rows-small}
 use Rattle.fips204.proofs.KeyGeneration.{AreSampled, AreSeeds, are_seeds, generated-none, generated-some, key_vector-is, high_part-is, high_part-range, low_part-is, low_part-range}

@@ -2,7 +2,8 @@ use Rattle.std.proofs.Common.{rules, ◌≡◌, ◌∙◌, IsTrue, None, Ok, Err
 use Rattle.std.specs.Prelude.{◌↔◌}
 use Rattle.fips204_base.specs.declared.fault.Fault.TheVariants.{SamplingLimit}
 use Rattle.fips204_base.specs.Sampling.{sampled_matrix}
-use Rattle.fips204.specs.Keys.{PublicParts, PrivateParts, ArePrivateParts, key_hash}
+use Rattle.fips204.specs.Keys.{PublicParts, PrivateParts, ArePrivateParts}
+use Rattle.fips204.specs.SigningInputs.{key_hash}
 use Rattle.fips204.specs.Refusals.{derived}
 use Rattle.fips204.specs.Sets.{set_of}
 use Rattle.fips204.proofs.KeyGeneration.{derived-none}
