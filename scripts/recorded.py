@@ -1,0 +1,91 @@
+"""Keys, signatures and verdicts by the definitions of specs/, over SHAKE256 and SHAKE128, for what `run-definitions.tsv` records.
+
+Fronts have 4096 bytes. For speed the values of `product` and `inverse_transform` at all 256 places are computed at once, by the sums of
+their definitions; nothing else is replaced. Verifying is a relation: evaluated is what it asks for, w1' of the parts of the signature and
+the hash of mu and w1'; the parts are cut here, the hint by Algorithm 21.
+"""
+import hashlib
+import operator
+import pathlib
+
+import evaluate
+from evaluate import Function, Parser, Record, ap, key, listed, now
+
+ROWS = [line.split("\t") for line in pathlib.Path(__file__).with_name("run-definitions.tsv").read_text(encoding="utf-8").splitlines() if line and line[0] != "#"]
+# what is evaluated, and the definitions that tables stand in for
+TEXTS = """generated public_key_bytes private_key_bytes sign_message unpacked sampled_matrix challenge message_hash framed w1_bytes w1_prime
+commitment_length inverse_root set_44 set_65 set_87"""
+TABULATED = ("product", "inverse_transform")
+
+Q = 8380417
+PLACES = range(256)
+
+
+def tabulated(program):
+    """Puts tables in the place of the two definitions that are sums over 256 places; returns what clears them."""
+    products, inverses, powers = {}, {}, []
+
+    def product(a, b, n):
+        name = (key(a), key(b))
+        if name not in products:
+            xs, ys = [ap(a, i) for i in PLACES], [ap(b, i) for i in PLACES]
+            wrapped = ys[::-1] + [(Q - 1) * y for y in reversed(ys)]
+            products[name] = [sum(map(operator.mul, xs, wrapped[255 - place : 511 - place])) % Q for place in PLACES]
+        return products[name][n]
+
+    def inverse_transform(v, j):
+        if not powers:
+            roots = [program.value("inverse_root", i) for i in PLACES]
+            powers.extend([pow(root, place, Q) for root in roots] for place in PLACES)
+        name = key(v)
+        if name not in inverses:
+            xs = [ap(v, i) for i in PLACES]
+            inverses[name] = [8347681 * sum(map(operator.mul, xs, row)) % Q for row in powers]
+        return inverses[name][j]
+
+    program.space.update({evaluate.mangled("product"): product, evaluate.mangled("inverse_transform"): inverse_transform})
+
+    def clear():
+        products.clear()
+        inverses.clear()
+        evaluate.KEPT.clear()
+
+    return clear
+
+
+def sha256(xs):
+    return hashlib.sha256(bytes(listed(xs))).hexdigest()
+
+
+def hashes(program, row):
+    """The hashes of both keys and the signature of a row, and whether the signature is accepted."""
+    name, seed, random, context, message = row[:5]
+    seed, random, context, message = (tuple(bytes.fromhex(part)) for part in (seed, random, context, message))
+    shake256 = Function(lambda xs: tuple(hashlib.shake_256(bytes(listed(xs))).digest(4096)), 1, (), "H")
+    shake128 = Function(lambda xs: tuple(hashlib.shake_128(bytes(listed(xs))).digest(4096)), 1, (), "G")
+    program.space.update(v_p=program.value(f"set_{name}"), v_H=shake256, v_G=shake128, v_xi=seed, v_rnd=random, v_context=context, v_message=message)
+
+    def said(text, **more):
+        program.space.update({f"v_{word}": value for word, value in more.items()})
+        scope = ("p", "H", "G", "xi", "rnd", "context", "message", *more)
+        return program.evaluated(Parser(text).term(), scope)
+
+    pair = said("generated p H G xi").parts[0]
+    pk, sk = pair.get("0"), pair.get("1")
+    public = said("public_key_bytes pk.rho pk.t1", pk=pk)
+    private = said("private_key_bytes p.eta sk.rho sk.key sk.tr sk.s1 sk.s2 sk.t0", sk=sk)
+    signature = listed(now(said("sign_message p H G sk rnd message context", sk=sk).parts[0]))
+    return [sha256(part) for part in (public, private, signature)], verified(said, pk, signature)
+
+
+def verified(said, pk, signature):
+    """Whether the hash of mu and w1' is the first part of the signature."""
+    k, l, omega, length = (int(said(text)) for text in ("p.k", "p.l", "p.omega", "commitment_length p"))
+    size = (len(signature) - length - omega - k) // l
+    c_tilde, hint = signature[:length], signature[-omega - k :]
+    z = tuple(said("unpacked (p.gamma1 - 1) p.gamma1 part", part=signature[length + size * i :][:size]) for i in range(l))
+    ends = (0, *hint[omega:])
+    h = tuple(Record({"0": tuple(int(place in hint[start:end]) for place in PLACES)}) for start, end in zip(ends, ends[1:]))
+    a, c = said("sampled_matrix G pk.rho p.k p.l", pk=pk).parts[0], said("challenge p.tau (H c_tilde)", c_tilde=c_tilde).parts[0]
+    mu = said("message_hash H pk.tr (framed message context)", pk=pk)
+    return listed(said("take (commitment_length p) (H (mu ++ w1_bytes p.gamma2 (w1_prime p a pk.t1 z h c)))", pk=pk, mu=mu, a=a, z=z, h=h, c=c)) == c_tilde
