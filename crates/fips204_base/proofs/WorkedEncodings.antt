@@ -11,7 +11,14 @@ unfolding packed bits_to_bytes bits integer_to_bits bits_to_integer field bit_le
 public_key_of_ones = refl
 
 -- at eta 2 a coefficient of 2 is the field 0, and -2 the field 4
-private_key_of_ends : private_key_bytes 2 (7 ∷ []) (8 ∷ []) (9 ∷ []) ((record { 0 = replicate 256 (pos 2) }) ∷ []) ((record { 0 = replicate 256 (negsuc 1) }) ∷ []) ((record { 0 = replicate 256 (pos 2) }) ∷ [])
+private_key_of_ends : private_key_bytes 2 record {
+  rho = 7 ∷ [];
+  key = 8 ∷ [];
+  tr = 9 ∷ [];
+  s1 = (record { 0 = replicate 256 (pos 2) }) ∷ [];
+  s2 = (record { 0 = replicate 256 (negsuc 1) }) ∷ [];
+  t0 = (record { 0 = replicate 256 (pos 2) }) ∷ [];
+}
     ≡ (7 ∷ 8 ∷ 9 ∷ replicate 96 0) ++ flat_map (λ _. 0x24 ∷ 0x49 ∷ 0x92 ∷ []) (range_with_len 0 32)
     ++ flat_map (λ _. 0xFE ∷ 0xCF ∷ 0xFF ∷ 0xF9 ∷ 0x3F ∷ 0xFF ∷ 0xE7 ∷ 0xFF ∷ 0xFC ∷ 0x9F ∷ 0xFF ∷ 0xF3 ∷ 0x7F ∷ []) (range_with_len 0 32)
 unfolding packed bits_to_bytes bits integer_to_bits bits_to_integer field bit_length
