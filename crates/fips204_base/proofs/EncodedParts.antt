@@ -64,7 +64,7 @@ private_key-vectors eta k l bytes sk s =
     let S2 = vector_bytes eta eta sk.s2 in
     let T0 = vector_bytes 4095 4096 sk.t0 in
     let size : length front ≡ 128 =
-        length-append (sk.rho ++ sk.key) sk.tr ∙ ap (λ n. n + length sk.tr) (length-append sk.rho sk.key) ∙ omega (arith, s.parts.rho, s.parts.key, s.parts.tr) in
+    length-append (sk.rho ++ sk.key) sk.tr ∙ ap (λ n. n + length sk.tr) (length-append sk.rho sk.key) ∙ omega (arith, s.parts.rho, s.parts.key, s.parts.tr) in
     ap (drop 128) (sym s.encoding ∙ regroup front S1 S2 T0) ∙ drop_at front (S1 ++ (S2 ++ T0)) 128 size
 
 -- the bytes of s1, and of s2
@@ -224,7 +224,7 @@ same_private_key eta k l bytes sk other low high p q =
     let f' : length (sk.rho ++ sk.key ++ sk.tr ++ S1 ++ S2) ≡ 128 + c * l + c * k = length-append (sk.rho ++ sk.key ++ sk.tr ++ S1) S2 ∙ rw (f, d) refl in
     let g' : length (other.rho ++ other.key ++ other.tr ++ U1 ++ U2) ≡ 128 + c * l + c * k = length-append (other.rho ++ other.key ++ other.tr ++ U1) U2 ∙ rw (g, e) refl in
     let one = cut (sk.rho ++ sk.key ++ sk.tr ++ S1 ++ S2) (other.rho ++ other.key ++ other.tr ++ U1 ++ U2) (vector_bytes 4095 4096 sk.t0) (vector_bytes 4095 4096 other.t0)
-        (128 + c * l + c * k) f' g' same in
+    (128 + c * l + c * k) f' g' same in
     let two = cut (sk.rho ++ sk.key ++ sk.tr ++ S1) (other.rho ++ other.key ++ other.tr ++ U1) S2 U2 (128 + c * l) f g one.0 in
     let three = cut (sk.rho ++ sk.key ++ sk.tr) (other.rho ++ other.key ++ other.tr) S1 U1 128 m' n' two.0 in
     let four = cut (sk.rho ++ sk.key) (other.rho ++ other.key) sk.tr other.tr 64 m n three.0 in

@@ -2,7 +2,7 @@
 use Rattle.std.proofs.Common.{◌≡◌, [], ◌∷◌, refl, pos, negsuc, ◌++◌}
 use Rattle.std.specs.Prelude.{replicate}
 use Rattle.std.specs.List.{range_with_len, flat_map}
-use Rattle.fips204_base.specs.Encodings.{public_key_bytes, private_key_bytes, signature_bytes, w1_bytes, ones_below}
+use Rattle.fips204_base.specs.Encodings.{public_key_bytes, private_key_bytes, signature_bytes, w1_bytes, all_ones}
 use Rattle.fips204_base.specs.Packing.{bit_length, bits, bits_to_bytes, bits_to_integer, field, integer_to_bits, packed}
 
 -- four fields of ten bits that are 1 are five bytes
@@ -26,7 +26,7 @@ private_key_of_ends = refl
 
 -- a z of gamma1 everywhere has fields 0
 signature_of_ends : signature_bytes 131072 2 (5 ∷ []) ((record { 0 = replicate 256 (pos 131072) }) ∷ []) [] ≡ 5 ∷ replicate 578 0
-unfolding packed bits_to_bytes bits integer_to_bits bits_to_integer field bit_length ones_below
+unfolding packed bits_to_bytes bits integer_to_bits bits_to_integer field bit_length all_ones
 signature_of_ends = refl
 
 -- four fields of six bits that are 43 are three bytes, and two of four bits that are 10 are one

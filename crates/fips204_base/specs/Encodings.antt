@@ -10,17 +10,9 @@ use Rattle.fips204_base.specs.declared.types.R.{R}
 unfoldable pub is_one : R → ℕ → Bool
 is_one w n = int_lt (pos 0) (slice_index_or w.0 n (pos 0))
 
--- the places below n that have a one, rising
-unfoldable pub ones_below : R → ℕ → List ℕ
-ones_below w n = filter (is_one w) (range_with_len 0 n)
-
--- the places that have a one, rising
-abbrev pub ones : R → List ℕ
-ones w = ones_below w 256
-
--- the places of all ones, polynomial by polynomial
-abbrev pub all_ones : List R → List ℕ
-all_ones h = flat_map (λ w. ones_below w 256) h
+-- the places of all ones, polynomial by polynomial and rising in each
+unfoldable pub all_ones : List R → List ℕ
+all_ones h = flat_map (λ w. filter (is_one w) (range_with_len 0 256)) h
 
 -- HintBitPack (Algorithm 20): the places of all ones, zeros up to byte omega, and for each polynomial how many ones there are up to
 -- its end
