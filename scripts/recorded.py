@@ -73,7 +73,7 @@ def hashes(program, row):
     pair = said("generated p H G xi").parts[0]
     pk, sk = pair.get("0"), pair.get("1")
     public = said("public_key_bytes pk.rho pk.t1", pk=pk)
-    private = said("private_key_bytes p.eta sk.rho sk.key sk.tr sk.s1 sk.s2 sk.t0", sk=sk)
+    private = said("private_key_bytes p.eta sk", sk=sk)
     signature = listed(now(said("sign_message p H G sk rnd message context", sk=sk).parts[0]))
     return [sha256(part) for part in (public, private, signature)], verified(said, pk, signature)
 

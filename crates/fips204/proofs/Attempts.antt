@@ -6,7 +6,7 @@ use Rattle.fips204_base.specs.declared.fault.Fault.TheVariants.{SamplingLimit}
 use Rattle.fips204_base.specs.declared.types.R.{R}
 use Rattle.fips204_base.specs.declared.types.T.{T}
 use Rattle.fips204_base.specs.Sampling.{challenge, mask}
-use Rattle.fips204_base.specs.Encodings.{w1_bytes}
+use Rattle.fips204_base.specs.Encodings.{PrivateParts, w1_bytes}
 use Rattle.fips204_base.specs.Packing.{PolynomialInRange}
 use Rattle.fips204_base.specs.Vectors.{entry, VectorWithin, vector_coefficients, matrix_product, vector_of}
 use Rattle.fips204_base.specs.Transforms.{minus}
@@ -18,7 +18,6 @@ use Rattle.fips204_base.proofs.Rounding.{high_bits_below}
 use Rattle.fips204_base.proofs.Masks.{mask-range}
 use Rattle.fips204_base.proofs.Vectors.{vector_of-ext, vector_of-range, vector-within}
 use Rattle.fips204.specs.Signing.{attempt, commitment, high_vector, hint_bit, hint_vector, passes_checks, checked_attempt, low_vector}
-use Rattle.fips204.specs.Keys.{PrivateParts}
 use Rattle.fips204.specs.ParameterSets.{ParameterSet, commitment_length}
 use Rattle.fips204.specs.SigningInputs.{attempt_answer, scaled}
 use Rattle.fips204.proofs.ParameterSets.{rounding-size}

@@ -5,13 +5,12 @@ use Rattle.std.proofs.lemmas.List.{append_cancel_left, append_cancel_right, leng
 use Rattle.std.proofs.lemmas.Slice.Eq.{bytes_eq-Decides}
 use Rattle.fips204_base.specs.declared.types.R.{R}
 use Rattle.fips204_base.specs.declared.types.T.{T}
-use Rattle.fips204_base.specs.Encodings.{w1_bytes}
+use Rattle.fips204_base.specs.Encodings.{PublicParts, w1_bytes}
 use Rattle.fips204_base.specs.Sampling.{challenge}
 use Rattle.fips204_base.proofs.EncodedParts.{same_signature}
 use Rattle.fips204.specs.ParameterSets.{ParameterSet, is_parameter_set, commitment_length}
 use Rattle.fips204.specs.Acceptance.{Opens, Verifies, w1_prime}
 use Rattle.fips204.specs.Framing.{Input, plain, hashed, framed_input, message_hash}
-use Rattle.fips204.specs.Keys.{PublicParts}
 use Rattle.fips204.specs.SchemeLaws.{Collide, Fixes, SignatureFixesOne, SignatureBindsMessage, SignatureBindsInput, SignatureBindsText, NamesKeyCollision, SignatureBindsKey, SignatureBindsKeyAndInput}
 use Rattle.fips204.proofs.Framing.{same_input}
 use Rattle.fips204.proofs.ParameterSets.{set_numbers}
@@ -126,12 +125,10 @@ signature_binds_key p H G bytes others pk other m n signature row long one two f
           elim (same_or_not (pk.tr ++ m) (other.tr ++ n)) [
             | inr differ ↦ inr (named (inr (inl record { differ = differ; same = hashes.0 })))
             | inl framed ↦
-                let tr = ap length one.hash ∙ length-64 H long bytes in
-                let other_tr = ap length two.hash ∙ length-64 H long others in
-                let parts = same_parts pk.tr other.tr m n (tr ∙ sym other_tr) framed in
+                let parts = same_parts pk.tr other.tr m n (one.parts.tr ∙ sym two.parts.tr) framed in
                 elim (same_or_not bytes others) [
-                  | inr differ ↦ inr (named (inl record { differ = differ; same = sym one.hash ∙ parts.0 ∙ two.hash }))
-                  | inl read ↦ inl (one_public_key p.k pk other one.seed two.seed one.high two.high parts.0 (one.same_bytes ∙ read ∙ sym two.same_bytes), parts.1)
+                  | inr differ ↦ inr (named (inl record { differ = differ; same = sym one.tr ∙ parts.0 ∙ two.tr }))
+                  | inl read ↦ inl (one_public_key p.k pk other one.parts two.parts parts.0 (one.encoding ∙ read ∙ sym two.encoding), parts.1)
                 ]
           ]
     ]

@@ -1,6 +1,6 @@
 -- What callers cite: a verdict over bytes is one over the same bytes by another name.
 use Rattle.std.proofs.Common.{◌≡◌, ◌↔◌, ℕ, List, Bool, IsTrue, subst}
-use Rattle.fips204.specs.Keys.{PublicParts}
+use Rattle.fips204_base.specs.Encodings.{PublicParts}
 use Rattle.fips204.specs.ParameterSets.{ParameterSet}
 use Rattle.fips204.specs.Prepared.{PreparedPublic, VerifiesMessagePrepared, VerifiesDigestPrepared}
 use Rattle.fips204.specs.Refusals.{VerifiesMessage, VerifiesDigest}

@@ -7,10 +7,10 @@ use Rattle.fips204_base.specs.declared.types.R.{R}
 use Rattle.fips204_base.specs.declared.types.T.{T}
 use Rattle.fips204_base.specs.Residues.{vector_norm}
 use Rattle.fips204_base.specs.Sampling.{challenge, mask, sampled_matrix}
-use Rattle.fips204_base.specs.Encodings.{signature_bytes, w1_bytes, all_ones}
+use Rattle.fips204_base.specs.Encodings.{PrivateParts, ArePrivateParts, signature_bytes, w1_bytes, all_ones}
 use Rattle.fips204_base.specs.Vectors.{vector_coefficients, matrix_product, IsVector}
 use Rattle.fips204.specs.ParameterSets.{ParameterSet, is_parameter_set, commitment_length}
-use Rattle.fips204.specs.Keys.{PrivateParts, ArePrivateParts, IsWhole, high_part, low_part}
+use Rattle.fips204.specs.Keys.{IsWhole, high_part, low_part}
 use Rattle.fips204.specs.Signing.{Attempt, limit, rejected, signed, response, low_vector, ct0, hint_vector, high_vector, passes_checks, commitment, checked_attempt, attempt, w_minus_cs2, first_answer, mask_seed, sign_with, sign_if_matrix, sign}
 use Rattle.fips204.proofs.ParameterSets.{and_out, AreSetNumbers, set_numbers}
 use Rattle.fips204.proofs.KeptHints.{IsKept, hinted_is_high}
@@ -139,7 +139,7 @@ hint_range p sk w c = hint-range p.k p.gamma2 (w_minus_cs2 sk.s2 w c) (λ r. sca
 
 -- ---- acceptance
 
-accepts : (p : ParameterSet) (H : List ℕ → List ℕ) (a : List (List T)) (sk : PrivateParts) (mu signature : List ℕ) → AreSetNumbers p → ArePrivateParts p.k p.l sk → sk.t0 ≡ low_part p a sk.s1 sk.s2
+accepts : (p : ParameterSet) (H : List ℕ → List ℕ) (a : List (List T)) (sk : PrivateParts) (mu signature : List ℕ) → AreSetNumbers p → ArePrivateParts p.eta p.k p.l sk → sk.t0 ≡ low_part p a sk.s1 sk.s2
     → ((x : List ℕ) → 4096 ≤ length (H x)) → WasSigned p H a sk mu signature → Accepts p H a (high_part p a sk.s1 sk.s2) mu signature
 unfolding commitment
 accepts p H a sk mu signature numbers parts low whole was =
@@ -162,18 +162,18 @@ accepts p H a sk mu signature numbers parts low whole was =
         norm = g.tests.response_norm;
         c = g.c;
         sampled = g.there;
-        recomputed = ap (w1_bytes p.gamma2) (sym (hinted_is_high p a sk was.y (H c_tilde) g.c numbers parts.second low g.there g.tests));
+        recomputed = ap (w1_bytes p.gamma2) (sym (hinted_is_high p a sk was.y (H c_tilde) g.c numbers parts.s2 low g.there g.tests));
       };
       same = refl;
     }
 
 -- what signing gives with the matrix and a private key that is whole with it
-pub accepts_signed_with : (p : ParameterSet) (H : List ℕ → List ℕ) (a : List (List T)) (sk : PrivateParts) (mu rnd signature : List ℕ) → IsTrue (is_parameter_set p) → ArePrivateParts p.k p.l sk
+pub accepts_signed_with : (p : ParameterSet) (H : List ℕ → List ℕ) (a : List (List T)) (sk : PrivateParts) (mu rnd signature : List ℕ) → IsTrue (is_parameter_set p) → ArePrivateParts p.eta p.k p.l sk
     → sk.t0 ≡ low_part p a sk.s1 sk.s2 → ((x : List ℕ) → 4096 ≤ length (H x)) → sign_with p H a sk mu rnd ≡ Ok signature → Accepts p H a (high_part p a sk.s1 sk.s2) mu signature
 accepts_signed_with p H a sk mu rnd signature row parts low law made = accepts p H a sk mu signature (set_numbers p row) parts low law (sign_with_signed p H a sk mu rnd signature made)
 
 -- what signing gives with a whole private key, the public key accepts whose high part is that of A s1 + s2
-pub completeness : (p : ParameterSet) (H G : List ℕ → List ℕ) (sk : PrivateParts) (mu rnd signature : List ℕ) → IsTrue (is_parameter_set p) → ArePrivateParts p.k p.l sk → (whole : IsWhole p G sk)
+pub completeness : (p : ParameterSet) (H G : List ℕ → List ℕ) (sk : PrivateParts) (mu rnd signature : List ℕ) → IsTrue (is_parameter_set p) → ArePrivateParts p.eta p.k p.l sk → (whole : IsWhole p G sk)
     → ((x : List ℕ) → 4096 ≤ length (H x)) → sign p H G sk mu rnd ≡ Ok signature
     → Verifies p H G record { rho = sk.rho; tr = sk.tr; t1 = high_part p whole.matrix sk.s1 sk.s2 } mu signature
 completeness p H G sk mu rnd signature row parts whole law made = record {

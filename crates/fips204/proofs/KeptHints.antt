@@ -14,12 +14,12 @@ use Rattle.fips204_base.proofs.Products.{product_same, product_plus, row_of_mult
 use Rattle.fips204_base.proofs.Rounding.{power2round_back, low_bits_near}
 use Rattle.fips204_base.proofs.Vectors.{vector_of-ext, vector_of-entry, vector_of-at, vector-within}
 use Rattle.fips204.specs.ParameterSets.{ParameterSet}
-use Rattle.fips204.specs.Keys.{PrivateParts, eta_of_rows, key_vector, high_part, low_part}
+use Rattle.fips204.specs.Keys.{key_vector, high_part, low_part}
 use Rattle.fips204.specs.Signing.{response, w_minus_cs2, low_vector, ct0, hint_vector, high_vector}
 use Rattle.fips204.specs.Acceptance.{w1_prime}
 use Rattle.std.specs.Prelude.{int_lt}
 use Rattle.fips204_base.specs.Sampling.{challenge}
-use Rattle.fips204_base.specs.Encodings.{is_one, all_ones}
+use Rattle.fips204_base.specs.Encodings.{PrivateParts, is_one, all_ones}
 use Rattle.fips204_base.proofs.Reductions.{centred_is}
 use Rattle.fips204_base.proofs.RoundingLaws.{IsGamma, use_hint_of_make_hint, high_bits_stay}
 use Rattle.fips204.proofs.ChallengeProducts.{Near, near_same, near_turned, near_challenge_product, norm_of_place, near_of_centred, centred_of_near}
@@ -194,7 +194,7 @@ scaled_place p sk c r n norm h below =
 
 -- w1' is w1
 pub hinted_is_high : (p : ParameterSet) (a : List (List T)) (sk : PrivateParts) (y : List R) (front : List ℕ) (c : R)
-    → AreSetNumbers p → IsVector p.k (eta_of_rows p.k) (eta_of_rows p.k) sk.s2 → sk.t0 ≡ low_part p a sk.s1 sk.s2 → challenge p.tau front ≡ Some c
+    → AreSetNumbers p → IsVector p.k p.eta p.eta sk.s2 → sk.t0 ≡ low_part p a sk.s1 sk.s2 → challenge p.tau front ≡ Some c
     → IsKept p sk y (matrix_product p.l a (vector_coefficients y)) c
     → w1_prime p a (high_part p a sk.s1 sk.s2) (response p sk y c) (hint_vector p sk (matrix_product p.l a (vector_coefficients y)) c) c
     ≡ high_vector p (matrix_product p.l a (vector_coefficients y))
@@ -208,7 +208,7 @@ hinted_is_high p a sk y front c numbers second low made kept =
     let s = scaled c (vector_coefficients sk.s2) r n in
     let t = scaled c (vector_coefficients sk.t0) r n in
     let small : Near p.beta s = subst (λ b. Near b s) numbers.beta (near_challenge_product p.tau front c (vector_coefficients sk.s2 r) p.eta n made (λ j q.
-    subst (λ m. Near m (vector_coefficients sk.s2 r j)) (sym numbers.eta) (near_of_vector p.k (eta_of_rows p.k) sk.s2 r j second inside q)) below) in
+    near_of_vector p.k p.eta sk.s2 r j second inside q) below) in
     ap pos (
     ap (λ b. use_hint p.gamma2 b (v r n)) (hint_at p sk w c r n empty inside below)
     ∙ ap (use_hint p.gamma2 (make_hint p.gamma2 (8380416 * scaled c (vector_coefficients sk.t0) r n % 8380417) (plus (w_minus_cs2 sk.s2 w c r) (scaled c (vector_coefficients sk.t0) r) n))) (w_approx_is p a sk y c r n low inside below)

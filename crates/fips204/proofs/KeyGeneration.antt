@@ -11,7 +11,8 @@ use Rattle.fips204_base.specs.Rounding.{power2round}
 use Rattle.fips204_base.specs.Vectors.{IsVector, vector_coefficients, vector_of, matrix_product}
 use Rattle.fips204_base.proofs.Rounding.{power2round_high, power2round_low}
 use Rattle.fips204_base.proofs.Vectors.{vector_of-ext, vector_of-entry, vector_of-range}
-use Rattle.fips204.specs.Keys.{IsWhole, key_vector, high_part, low_part, key_pair, key_generation, public_key_of, PublicParts, PrivateParts}
+use Rattle.fips204_base.specs.Encodings.{PublicParts, PrivateParts}
+use Rattle.fips204.specs.Keys.{IsWhole, key_vector, high_part, low_part, key_pair, key_generation, public_key_of}
 use Rattle.fips204.specs.SigningInputs.{seeds, key_hash}
 use Rattle.fips204.specs.ParameterSets.{ParameterSet}
 use Rattle.std.specs.Prelude.{ok_or, option_map, option_and_then}

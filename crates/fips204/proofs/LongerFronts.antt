@@ -13,11 +13,11 @@ use Rattle.fips204_base.specs.declared.types.T.{T}
 use Rattle.fips204_base.specs.FrontLengths.{counter_blocks-prefix}
 use Rattle.fips204_base.specs.Streams.{ArePrefixes}
 use Rattle.fips204_base.specs.Vectors.{vector_coefficients, matrix_product}
-use Rattle.fips204_base.specs.Encodings.{w1_bytes, public_key_bytes, vector_bytes, IsSignature, hint_bytes}
+use Rattle.fips204_base.specs.Encodings.{PublicParts, PrivateParts, w1_bytes, public_key_bytes, vector_bytes, IsSignature, hint_bytes}
 use Rattle.fips204_base.specs.Sampling.{sampled_matrix, challenge, mask}
 use Rattle.fips204_base.proofs.LongerFronts.{prefix-take, prefix-part, matrix_entry-longer, small_polynomial-longer, challenge-longer, sampled_matrix-longer, small_vector-longer, mask-longer}
 use Rattle.fips204.specs.ParameterSets.{ParameterSet, is_parameter_set, commitment_length}
-use Rattle.fips204.specs.Keys.{PublicParts, PrivateParts, high_part, key_pair, key_generation, public_key_of}
+use Rattle.fips204.specs.Keys.{high_part, key_pair, key_generation, public_key_of}
 use Rattle.fips204.specs.SigningInputs.{key_hash}
 use Rattle.fips204.proofs.KeyGeneration.{key_pair_if_all, key_generation-is}
 use Rattle.fips204.specs.Framing.{Input, framed_input, message_hash}
@@ -277,7 +277,7 @@ module _ (H G H' G' : List ℕ → List ℕ) (first : ArePrefixes H H') (second 
     hashes = λ pk mu signature. verdict_stays p pk mu signature t;
     framed = λ pk m signature. framed_stays p pk m signature t;
     inputs = λ pk signature input. input_stays p pk signature input t;
-    decoded = λ bytes pk d. record { seed = d.seed; high = d.high; same_bytes = d.same_bytes; hash = d.hash ∙ sym (hash-longer 64 bytes (omega arith)) };
+    decoded = λ bytes pk d. record { parts = d.parts; encoding = d.encoding; tr = d.tr ∙ sym (hash-longer 64 bytes (omega arith)) };
   }
 
 pub longer_fronts_keep : (H G H' G' : List ℕ → List ℕ) → AreLong H → LongerFrontsKeep H G H' G'

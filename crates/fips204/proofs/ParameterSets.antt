@@ -1,9 +1,9 @@
 -- The three parameter sets: their numbers, what these have in common, and the lengths that follow.
 use Rattle.std.proofs.Common.{rules, subst, ◌≡◌, ◌⊎◌, inl, inr, ℕ, ℤ, pos, negsuc, nat_abs, Bool, true, false, ◌&&◌, ◌||◌, IsTrue, refl, ap, sym, true≢false, eqb-true, ◌≤◌, ◌*◌, arith, ◌<◌, ◌+◌, ◌-◌, ◌/◌, ◌-ℤ◌, ◌≤ℤ◌, List, ◌∙◌, Some}
-use Rattle.std.specs.Prelude.{int_le, nat_eq}
+use Rattle.std.specs.Prelude.{int_le, nat_eq, if◌then◌else◌}
 use Rattle.fips204.specs.declared.types.Params.{Params}
 use Rattle.fips204.specs.ParameterSets.{ParameterSet, set_44, set_65, set_87, same_parameters, is_parameter_set, parameter_set, are_parameters, commitment_length}
-use Rattle.fips204.specs.Keys.{eta_of_rows, PrivateParts, IsPrivateKeyOf, ArePrivateParts}
+use Rattle.fips204_base.specs.Encodings.{PrivateParts, ArePrivateParts}
 use Rattle.fips204_base.proofs.RoundingLaws.{IsGamma}
 use Rattle.fips204.specs.Sets.{set_of}
 use Rattle.std.proofs.lemmas.Int.{ints}
@@ -11,7 +11,6 @@ use Rattle.std.proofs.lemmas.Nat.{mul-le}
 use Rattle.fips204_base.specs.Packing.{width, bit_length}
 use Rattle.fips204_base.specs.Rounding.{high_values}
 use Rattle.fips204_base.proofs.EncodedParts.{response_width, eta_width}
-use Rattle.std.proofs.lemmas.Bool.{cases_Bool}
 use Rattle.fips204_base.specs.declared.types.R.{R}
 use Rattle.fips204_base.specs.Sampling.{small_vector}
 use Rattle.fips204_base.specs.Vectors.{IsVector}
@@ -116,6 +115,10 @@ row-set row tau lambda gamma1 gamma2 k l eta beta omega' n = rw (n.tau_is, n.lam
 
 -- What the numbers of a parameter set have to do with one another.
 
+-- eta by the rows of the matrix, as the type of a private key has it
+abbrev pub eta_of_rows : ℕ → ℕ
+eta_of_rows k = if nat_eq k 6 then 4 else 2
+
 pub record AreSetNumbers (p : ParameterSet) : Type 0 where
   pub beta : p.tau * p.eta ≡ p.beta
   pub gamma1 : (p.gamma1 ≡ 131072) ⊎ (p.gamma1 ≡ 524288)
@@ -164,7 +167,6 @@ pub record Limits (p : Params) : Type 0 where
   pub r0_bound : p.gamma2 -ℤ p.beta ≡ pos (nat_abs p.gamma2 - nat_abs p.beta)
   pub eta : (p.eta ≡ pos 2) ⊎ (p.eta ≡ pos 4)
   pub small_low : nat_abs p.gamma2 ≤ 261888
-  pub eta_by_rows : nat_abs p.eta ≡ eta_of_rows p.k
 
 signed : (x a b : ℕ) → (x ≡ a) ⊎ (x ≡ b) → (pos x ≡ pos a) ⊎ (pos x ≡ pos b)
 signed x a b (inl e) = inl (ap pos e)
@@ -188,7 +190,6 @@ limits_of p row n s = record {
   r0_bound = rw (n.gamma2_is, n.beta_is) (omega (arith, ints, s.gamma2, s.small_beta));
   eta = rw n.eta_is (signed row.eta 2 4 s.small);
   small_low = rw n.gamma2_is (omega (arith, s.gamma2));
-  eta_by_rows = rw (n.eta_is, n.k_is) s.eta;
 }
 
 pub limits : (p : Params) → IsKnown p → Limits p
@@ -263,11 +264,9 @@ eta_size eta (inl e) = inl (ap nat_abs e)
 eta_size eta (inr e) = inr (ap nat_abs e)
 
 -- the range of a small vector
-pub small_vector-parts : (p : Params) (H : List ℕ → List ℕ) (rho : List ℕ) (K first count : ℕ) (v : List R) → IsKnown p → K ≡ p.k
-    → small_vector (nat_abs p.eta) H rho first count ≡ Some v → IsVector count (eta_of_rows K) (eta_of_rows K) v
-small_vector-parts p H rho K first count v t rows_are e =
-    let known = limits p t in
-    rw (sym (known.eta_by_rows ∙ ap eta_of_rows (sym rows_are))) (small_vector-range (nat_abs p.eta) H rho first count v (eta_size p.eta known.eta) e)
+pub small_vector-parts : (p : Params) (H : List ℕ → List ℕ) (rho : List ℕ) (first count : ℕ) (v : List R) → IsKnown p
+    → small_vector (nat_abs p.eta) H rho first count ≡ Some v → IsVector count (nat_abs p.eta) (nat_abs p.eta) v
+small_vector-parts p H rho first count v t e = small_vector-range (nat_abs p.eta) H rho first count v (eta_size p.eta (limits p t).eta) e
 
 -- the bytes of a private key, part by part
 pub private_key-size : (eta : ℤ) (K L k l size : ℕ) → (eta ≡ pos 2) ⊎ (eta ≡ pos 4) → K ≡ k → L ≡ l
@@ -277,27 +276,19 @@ private_key-size eta K L k l size set rows columns e =
     let w = eta_width eta set in
     rw (w, rows, columns) (omega (arith, e))
 
--- the parts of a private key are those of its matrix's rows
-pub parts_of_key : (eta k l : ℕ) (bytes : List ℕ) (sk : PrivateParts) → eta ≡ eta_of_rows k → IsPrivateKeyOf eta k l bytes sk → ArePrivateParts k l sk
-parts_of_key eta k l bytes sk e key =
-    record {
-      seed = key.seed;
-      private_seed = key.private_seed;
-      hash = key.hash;
-      first = rw (sym e) key.first;
-      second = rw (sym e) key.second;
-      low = key.low;
-    }
+-- the ranges of a private key's parts, at the set and by the rows of the matrix
+pub parts_at_set : (p : ParameterSet) (k l : ℕ) (sk : PrivateParts) → IsTrue (is_parameter_set p) → k ≡ p.k → ArePrivateParts (eta_of_rows k) k l sk → ArePrivateParts p.eta k l sk
+parts_at_set p k l sk row rows parts = subst (λ m. ArePrivateParts m k l sk) (ap eta_of_rows rows ∙ sym (set_numbers p row).eta) parts
 
--- eta of a set whose matrix has these rows
-pub eta-by_rows : (p : Params) (K : ℕ) → IsKnown p → K ≡ p.k → p.eta ≡ pos (eta_of_rows K)
-eta-by_rows p K t rows_are =
-    let known = limits p t in
-    let same : nat_abs p.eta ≡ eta_of_rows K = known.eta_by_rows ∙ ap eta_of_rows (sym rows_are) in
-    elim known.eta [
-      | inl e ↦ e ∙ ap pos (sym (ap nat_abs e) ∙ same)
-      | inr e ↦ e ∙ ap pos (sym (ap nat_abs e) ∙ same)
-    ]
+pub parts_by_rows : (p : Params) (k l : ℕ) (sk : PrivateParts) → IsKnown p → k ≡ p.k → ArePrivateParts (nat_abs p.eta) k l sk → ArePrivateParts (eta_of_rows k) k l sk
+parts_by_rows p k l sk known rows parts = subst (λ m. ArePrivateParts m k l sk) ((set_numbers (set_of p) (known-set p known)).eta ∙ ap eta_of_rows (sym rows)) parts
+
+-- eta has no sign
+pub eta-some : (p : Params) → IsKnown p → pos (nat_abs p.eta) ≡ p.eta
+eta-some p t = elim (limits p t).eta [
+  | inl e ↦ rw e refl
+  | inr e ↦ rw e refl
+]
 
 -- a matrix of these rows and columns
 pub matrix-shape : (p : Params) (K L : ℕ) → IsKnown p → K ≡ p.k → L ≡ p.l → (K * (L * 1024) < 9223372036854775808) × ((K ≤ 8) × (L ≤ 7))
@@ -316,8 +307,8 @@ set-shape p K L t rows_are columns_are =
     (matrix_room K L few_rows few_columns, omega (arith, few_columns), few_rows, few_columns)
 
 -- coefficients of s1 and s2 are small
-pub eta_of_rows-small : (k : ℕ) → eta_of_rows k ≤ 8380416
-eta_of_rows-small k = elim (cases_Bool (nat_eq k 6)) [
+pub eta-small : (p : Params) → IsKnown p → nat_abs p.eta ≤ 8380416
+eta-small p t = elim (limits p t).eta [
   | inl e ↦ rw e (omega arith)
   | inr e ↦ rw e (omega arith)
 ]

@@ -8,7 +8,8 @@ use Rattle.fips204_base.specs.declared.types.T.{T}
 use Rattle.fips204_base.specs.Sampling.{sampled_matrix}
 use Rattle.fips204.specs.Acceptance.{Accepts, Verifies}
 use Rattle.fips204.specs.Framing.{Input, plain, framed_input, message_hash}
-use Rattle.fips204.specs.Keys.{PublicParts, PrivateParts, ArePrivateParts, IsWhole, high_part, low_part, public_key_of}
+use Rattle.fips204_base.specs.Encodings.{PublicParts, PrivateParts, ArePrivateParts}
+use Rattle.fips204.specs.Keys.{IsWhole, high_part, low_part, public_key_of}
 use Rattle.fips204.specs.ParameterSets.{ParameterSet, is_parameter_set}
 use Rattle.fips204.specs.Prepared.{PreparedPrivate, PreparedPublic, prepared_private, prepared_public, public_of_prepared, sign_prepared, sign_message_prepared, IsWholePrepared, VerifiesPrepared, VerifiesMessagePrepared, IsEachSigned, IsEachJudged, AcceptedIfWholePrepared, PreparedAnswersAsPlain}
 use Rattle.fips204.specs.Refusals.{refused_or, input_fault, sign_input, AcceptsInput, derived, sign_message, VerifiesMessage}
@@ -20,7 +21,7 @@ use Rattle.fips204.proofs.RefusedCalls.{given_input, same_some}
 -- ---- what is signed is accepted
 
 pub hash_accepted : (p : ParameterSet) (H : List ℕ → List ℕ) (K L : ℕ) (sk : PreparedPrivate) (mu rnd : List ℕ) (answer : Result (List ℕ) Fault) → IsTrue (is_parameter_set p)
-    → ((x : List ℕ) → 4096 ≤ length (H x)) → K ≡ p.k → L ≡ p.l → ArePrivateParts K L sk.parts → answer ≡ sign_prepared p H sk mu rnd
+    → ((x : List ℕ) → 4096 ≤ length (H x)) → K ≡ p.k → L ≡ p.l → ArePrivateParts p.eta K L sk.parts → answer ≡ sign_prepared p H sk mu rnd
     → AcceptedIfWholePrepared p sk (λ pk signature. VerifiesPrepared p H pk mu signature) answer
 hash_accepted p H K L sk mu rnd answer known law rows columns parts same =
     λ signature whole e. accepts_signed_with p H sk.matrix sk.parts mu rnd signature known (rw (rows, columns) at parts) whole law (sym same ∙ e)

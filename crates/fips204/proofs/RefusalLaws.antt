@@ -7,7 +7,7 @@ use Rattle.fips204_base.specs.declared.fault.Fault.TheVariants.{SamplingLimit, S
 use Rattle.fips204_base.specs.declared.types.T.{T}
 use Rattle.fips204_base.specs.Sampling.{sampled_matrix}
 use Rattle.fips204.specs.ParameterSets.{ParameterSet}
-use Rattle.fips204.specs.Keys.{PrivateParts}
+use Rattle.fips204_base.specs.Encodings.{PrivateParts}
 use Rattle.fips204.specs.Signing.{Attempt, limit, rejected, signed, attempt, first_answer, mask_seed, sign_with, sign_if_matrix, sign}
 use Rattle.fips204.specs.Framing.{Input, plain, framed_input, message_hash}
 use Rattle.fips204.specs.RefusalLaws.{RefusesOnly}

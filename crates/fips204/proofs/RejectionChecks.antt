@@ -16,10 +16,9 @@ use Rattle.fips204_base.proofs.Rounding.{low_bits_near}
 use Rattle.fips204_base.proofs.Products.{product_below}
 use Rattle.fips204_base.proofs.PlainTransforms.{multiple-same}
 use Rattle.fips204_base.proofs.Vectors.{vector_of-ext, vector_of-range}
-use Rattle.fips204_base.specs.Encodings.{signature_bytes, all_ones}
+use Rattle.fips204_base.specs.Encodings.{PrivateParts, signature_bytes, all_ones}
 use Rattle.fips204.specs.declared.types.Params.{Params}
 use Rattle.fips204.specs.Signing.{response, low_vector, ct0, hint_bit, hint_vector, passes_checks, checked_attempt, w_minus_cs2}
-use Rattle.fips204.specs.Keys.{PrivateParts}
 use Rattle.fips204.specs.ParameterSets.{ParameterSet, commitment_length, signature_length}
 use Rattle.fips204.specs.Sets.{set_of}
 use Rattle.fips204.specs.SigningInputs.{attempt_answer, scaled, y_plus_cs1}

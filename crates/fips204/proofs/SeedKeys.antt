@@ -1,11 +1,11 @@
 -- What the keys of a seed sign is accepted, and what a whole private key signs.
-use Rattle.std.proofs.Common.{◌≡◌, ◌≤◌, ℕ, List, IsTrue, sym, ◌∙◌, length, Result, Ok, Err, rules}
+use Rattle.std.proofs.Common.{◌≡◌, ◌≤◌, ℕ, nat_abs, List, IsTrue, sym, ◌∙◌, length, Result, Ok, Err, rules}
 use Rattle.std.specs.Prelude.{IfOk, MatchResult}
-use Rattle.fips204_base.specs.Encodings.{public_key_bytes, private_key_bytes}
+use Rattle.fips204_base.specs.Encodings.{PublicParts, PrivateParts, ArePrivateParts, IsPublicKeyOf, public_key_bytes, private_key_bytes}
 use Rattle.fips204_base.specs.declared.fault.Fault.{Fault}
 use Rattle.fips204_base.proofs.Sampled.{some_of_ok}
 use Rattle.fips204.specs.ParameterSets.{ParameterSet, is_parameter_set}
-use Rattle.fips204.specs.Keys.{PublicParts, PrivateParts, ArePrivateParts, IsPublicKeyOf, DecodesPrivate, IsWhole, key_generation}
+use Rattle.fips204.specs.Keys.{DecodesPrivate, IsWhole, key_generation}
 use Rattle.fips204.specs.declared.types.Params.{Params}
 use Rattle.fips204.specs.Sets.{set_of}
 use Rattle.fips204.specs.Signing.{sign}
@@ -38,7 +38,7 @@ generated_pairs p H G xi (Ok keys) row law made =
 pub generated_decode : (p : ParameterSet) (H G : List ℕ → List ℕ) (xi : List ℕ) (answer : Result (PublicParts × PrivateParts) Fault) → IsTrue (is_parameter_set p)
     → ((x : List ℕ) → 4096 ≤ length (H x)) → answer ≡ generated p H G xi
     → IfOk answer (λ keys. DecodesAlone (λ bytes (read : Result PublicParts Fault). MatchResult read (λ key. IsPublicKeyOf H p.k bytes key) (λ _. ⊥)) (public_key_bytes keys.0.rho keys.0.t1) keys.0
-    × DecodesAlone (DecodesPrivate p.eta p.k p.l) (private_key_bytes p.eta keys.1.rho keys.1.key keys.1.tr keys.1.s1 keys.1.s2 keys.1.t0) keys.1)
+    × DecodesAlone (DecodesPrivate p.eta p.k p.l) (private_key_bytes p.eta keys.1) keys.1)
 generated_decode p H G xi (Err fault) row law made = search rules
 generated_decode p H G xi (Ok keys) row law made =
     let are = generated_parts p H G xi keys.0 keys.1 row law (some_of_ok (key_generation p H G xi) keys made) in
@@ -47,11 +47,11 @@ generated_decode p H G xi (Ok keys) row law made =
 -- What the signing calls answer with a private key of a row of numbers is accepted where the key is whole.
 
 key_accepts : (p : Params) (H G : List ℕ → List ℕ) (K L : ℕ) (sk : PrivateParts) (pk : PublicParts) → IsKnown p → ((x : List ℕ) → 4096 ≤ length (H x))
-    → K ≡ p.k → L ≡ p.l → ArePrivateParts K L sk → IsWhole (set_of p) G sk → derived (set_of p) G sk ≡ Ok pk → AcceptsSigned (set_of p) H G pk sk
+    → K ≡ p.k → L ≡ p.l → ArePrivateParts (nat_abs p.eta) K L sk → IsWhole (set_of p) G sk → derived (set_of p) G sk ≡ Ok pk → AcceptsSigned (set_of p) H G pk sk
 key_accepts p H G K L sk pk known law rows columns parts whole derives =
     accepts_signed (set_of p) H G pk sk (known-set p known) law (rw (rows, columns) at parts) whole derives
 
 pub hash_accepted : (p : Params) (H G : List ℕ → List ℕ) (K L : ℕ) (sk : PrivateParts) (mu rnd : List ℕ) (answer : Result (List ℕ) Fault) → IsKnown p
-    → ((x : List ℕ) → 4096 ≤ length (H x)) → K ≡ p.k → L ≡ p.l → ArePrivateParts K L sk → answer ≡ sign (set_of p) H G sk mu rnd → HashComplete (set_of p) H G sk mu answer
+    → ((x : List ℕ) → 4096 ≤ length (H x)) → K ≡ p.k → L ≡ p.l → ArePrivateParts (nat_abs p.eta) K L sk → answer ≡ sign (set_of p) H G sk mu rnd → HashComplete (set_of p) H G sk mu answer
 hash_accepted p H G K L sk mu rnd answer known law rows columns parts same =
     λ pk signature whole derives e. (key_accepts p H G K L sk pk known law rows columns parts whole derives).hashes mu rnd signature (sym same ∙ e)

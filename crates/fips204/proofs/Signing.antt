@@ -9,7 +9,7 @@ use Rattle.std.proofs.Math.Nat.{mul-le-mul}
 use Rattle.fips204_base.specs.declared.fault.Fault.{Fault}
 use Rattle.fips204_base.specs.declared.types.T.{T}
 use Rattle.fips204_base.specs.Sampling.{sampled_matrix}
-use Rattle.fips204.specs.Keys.{PrivateParts}
+use Rattle.fips204_base.specs.Encodings.{PrivateParts}
 use Rattle.fips204.specs.ParameterSets.{ParameterSet}
 
 -- The first attempt that isn't rejected decides signing's answer.

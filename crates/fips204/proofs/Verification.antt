@@ -10,7 +10,7 @@ use Rattle.fips204_base.specs.declared.types.R.{R}
 use Rattle.fips204_base.specs.declared.types.T.{T}
 use Rattle.fips204_base.specs.Residues.{vector_norm, residue, coefficients}
 use Rattle.fips204_base.specs.Sampling.{challenge, sampled_matrix}
-use Rattle.fips204_base.specs.Encodings.{IsSignature, is_one, w1_bytes}
+use Rattle.fips204_base.specs.Encodings.{PublicParts, IsSignature, is_one, w1_bytes}
 use Rattle.fips204_base.specs.Packing.{PolynomialInRange}
 use Rattle.fips204_base.specs.Vectors.{entry, VectorWithin, IsVector, vector_coefficients, matrix_product, vector_of}
 use Rattle.fips204_base.specs.Transforms.{product, minus}
@@ -23,7 +23,6 @@ use Rattle.fips204_base.proofs.EncodedParts.{same_signature}
 use Rattle.fips204.specs.Acceptance.{AreShifted, w1_prime, Accepts, Verifies, hinted}
 use Rattle.fips204.specs.SigningInputs.{HasShortParts, t1_shifted}
 use Rattle.fips204.specs.Signing.{commitment}
-use Rattle.fips204.specs.Keys.{PublicParts}
 use Rattle.fips204.specs.declared.types.Params.{Params}
 use Rattle.fips204.specs.ParameterSets.{ParameterSet, commitment_length}
 use Rattle.fips204.specs.Sets.{set_of}

@@ -7,18 +7,18 @@ use Rattle.std.proofs.lemmas.List.{length-take-le}
 use Rattle.std.proofs.lemmas.Option.{none-some}
 use Rattle.fips204_base.specs.declared.types.R.{R}
 use Rattle.fips204_base.specs.declared.types.T.{T}
-use Rattle.fips204_base.specs.Encodings.{public_key_bytes, private_key_bytes}
+use Rattle.fips204_base.specs.Encodings.{PublicParts, PrivateParts, ArePublicParts, ArePrivateParts, IsPublicKeyOf, IsPrivateKeyOf, public_key_bytes, private_key_bytes}
 use Rattle.fips204_base.specs.Sampling.{sampled_matrix, small_vector}
 use Rattle.fips204_base.specs.Vectors.{IsVector}
 use Rattle.fips204_base.proofs.Sampled.{small_vector-range, some_of_ok}
 use Rattle.fips204.specs.ParameterSets.{ParameterSet, is_parameter_set}
-use Rattle.fips204.specs.Keys.{PublicParts, PrivateParts, ArePrivateParts, IsPublicKeyOf, IsPrivateKeyOf, DecodesPrivate, eta_of_rows, IsWhole, high_part, low_part, key_pair, key_generation, public_key_of}
+use Rattle.fips204.specs.Keys.{DecodesPrivate, IsWhole, high_part, low_part, key_pair, key_generation, public_key_of}
 use Rattle.fips204.specs.Signing.{sign}
 use Rattle.fips204.specs.Acceptance.{Verifies}
 use Rattle.fips204.proofs.Completeness.{completeness}
 use Rattle.fips204.proofs.KeyGeneration.{high_part-range, low_part-range, key_pair_if_all, key_generation-is}
 use Rattle.fips204.proofs.RefusedCalls.{same_some, signed_input}
-use Rattle.fips204.proofs.ParameterSets.{AreSetNumbers, set_numbers}
+use Rattle.fips204.proofs.ParameterSets.{set_numbers}
 use Rattle.fips204.specs.Refusals.{derived}
 use Rattle.fips204.specs.Completeness.{AcceptsSigned, IsPair, DecodesAlone, BytesTellKeys}
 use Rattle.fips204_base.specs.declared.fault.Fault.{Fault}
@@ -33,15 +33,11 @@ same_public : (rho rho' tr tr' : List ℕ) (t1 t1' : List R) → rho ≡ rho' �
     → Path PublicParts record { rho = rho; tr = tr; t1 = t1 } record { rho = rho'; tr = tr'; t1 = t1' }
 same_public rho rho' tr tr' t1 t1' e f g = cc
 
-same_private : (rho rho' key key' tr tr' : List ℕ) (s1 s1' s2 s2' t0 t0' : List R) → rho ≡ rho' → key ≡ key' → tr ≡ tr' → s1 ≡ s1' → s2 ≡ s2' → t0 ≡ t0'
-    → Path PrivateParts record { rho = rho; key = key; tr = tr; s1 = s1; s2 = s2; t0 = t0 } record { rho = rho'; key = key'; tr = tr'; s1 = s1'; s2 = s2'; t0 = t0' }
-same_private rho rho' key key' tr tr' s1 s1' s2 s2' t0 t0' e f g h i j = cc
-
 -- bytes that two public keys have
-pub one_public_key : (k : ℕ) (pk other : PublicParts) → length pk.rho ≡ 32 → length other.rho ≡ 32 → IsHighPart k pk.t1 → IsHighPart k other.t1 → pk.tr ≡ other.tr
+pub one_public_key : (k : ℕ) (pk other : PublicParts) → ArePublicParts k pk → ArePublicParts k other → pk.tr ≡ other.tr
     → public_key_bytes pk.rho pk.t1 ≡ public_key_bytes other.rho other.t1 → pk ≡ other
-one_public_key k pk other seed other_seed high other_high hash same =
-    let parts = same_parts pk.rho other.rho pk.t1 other.t1 seed other_seed (high.rows ∙ sym other_high.rows) (all_high k pk.t1 high) (all_high k other.t1 other_high) same in
+one_public_key k pk other one two hash same =
+    let parts = same_parts pk.rho other.rho pk.t1 other.t1 one.rho two.rho (one.t1.rows ∙ sym two.t1.rows) (all_high k pk.t1 one.t1) (all_high k other.t1 two.t1) same in
     same_public pk.rho other.rho pk.tr other.tr pk.t1 other.t1 parts.0 hash parts.1
   where
     all_high : (n : ℕ) (v : List R) → IsHighPart n v → All IsT1 v
@@ -52,28 +48,12 @@ one_private_key : (p : ParameterSet) (bytes : List ℕ) (sk other : PrivateParts
     → IsPrivateKeyOf p.eta p.k p.l bytes other → sk ≡ other
 one_private_key p bytes sk other row one two =
     let eta = (set_numbers p row).small in
-    let parts = same_private_key p.eta p.k p.l bytes sk.rho sk.key sk.tr other.rho other.key other.tr sk.s1 sk.s2 sk.t0 other.s1 other.s2 other.t0 (omega (arith, eta)) (omega (arith, eta)) one two in
-    same_private sk.rho other.rho sk.key other.key sk.tr other.tr sk.s1 other.s1 sk.s2 other.s2 sk.t0 other.t0 parts.0 parts.1 parts.2 parts.3 parts.4 parts.5
-
--- a private key in range has its bytes
-has_its_bytes : (p : ParameterSet) (sk : PrivateParts) (bytes : List ℕ) → IsTrue (is_parameter_set p) → ArePrivateParts p.k p.l sk
-    → private_key_bytes p.eta sk.rho sk.key sk.tr sk.s1 sk.s2 sk.t0 ≡ bytes → IsPrivateKeyOf p.eta p.k p.l bytes sk
-has_its_bytes p sk bytes row parts same =
-    let eta = sym (set_numbers p row).eta in
-    record {
-      seed = parts.seed;
-      private_seed = parts.private_seed;
-      hash = parts.hash;
-      first = subst (λ m. IsVector p.l m m sk.s1) eta parts.first;
-      second = subst (λ m. IsVector p.k m m sk.s2) eta parts.second;
-      low = parts.low;
-      encoding = same;
-    }
+    same_private_key p.eta p.k p.l bytes sk other (omega (arith, eta)) (omega (arith, eta)) one two
 
 pub bytes_tell_keys : (p : ParameterSet) → IsTrue (is_parameter_set p) → BytesTellKeys p
 bytes_tell_keys p row = record {
-  private_keys = λ first second one two same. one_private_key p _ first second row (has_its_bytes p first _ row one same) (has_its_bytes p second _ row two refl);
-  public_keys = λ first second one two hash same. one_public_key p.k first second one.seed two.seed one.high two.high hash same;
+  private_keys = λ first second one two same. one_private_key p _ first second row record { parts = one; encoding = same } record { parts = two; encoding = refl };
+  public_keys = λ first second one two hash same. one_public_key p.k first second one two hash same;
 }
 
 -- ---- a private key and its public key
@@ -94,7 +74,7 @@ derived_hash p G sk pk e = of_matrix (sampled_matrix G sk.rho p.k p.l) (some_of_
     of_matrix (Some a) s = ap (λ (k : PublicParts). k.tr) (same_some _ pk s)
 
 pub accepts_signed : (p : ParameterSet) (H G : List ℕ → List ℕ) (pk : PublicParts) (sk : PrivateParts) → IsTrue (is_parameter_set p) → ((x : List ℕ) → 4096 ≤ length (H x))
-    → ArePrivateParts p.k p.l sk → IsWhole p G sk → derived p G sk ≡ Ok pk → AcceptsSigned p H G pk sk
+    → ArePrivateParts p.eta p.k p.l sk → IsWhole p G sk → derived p G sk ≡ Ok pk → AcceptsSigned p H G pk sk
 accepts_signed p H G pk sk row law parts whole derives =
     let own : PublicParts = record { rho = sk.rho; tr = sk.tr; t1 = high_part p whole.matrix sk.s1 sk.s2 } in
     let same : own ≡ pk = same_some own pk (sym (public_key_of_whole p G sk whole) ∙ some_of_ok (public_key_of p G sk) pk (sym derives)) in
@@ -110,27 +90,26 @@ accepts_signed p H G pk sk row law parts whole derives =
 
 -- bytes decode to one public key over a stream
 one_decoded : (H : List ℕ → List ℕ) (k : ℕ) (bytes : List ℕ) (pk other : PublicParts) → IsPublicKeyOf H k bytes pk → IsPublicKeyOf H k bytes other → other ≡ pk
-one_decoded H k bytes pk other one two = one_public_key k other pk two.seed one.seed two.high one.high (two.hash ∙ sym one.hash) (two.same_bytes ∙ sym one.same_bytes)
+one_decoded H k bytes pk other one two = one_public_key k other pk two.parts one.parts (two.tr ∙ sym one.tr) (two.encoding ∙ sym one.encoding)
 
 -- the public key that is derived of a whole private key is what its bytes decode to, if tr is their hash
-public_decodes : (p : ParameterSet) (H G : List ℕ → List ℕ) (pk : PublicParts) (sk : PrivateParts) → ArePrivateParts p.k p.l sk → IsWhole p G sk → derived p G sk ≡ Ok pk
+public_decodes : (p : ParameterSet) (H G : List ℕ → List ℕ) (pk : PublicParts) (sk : PrivateParts) → ArePrivateParts p.eta p.k p.l sk → IsWhole p G sk → derived p G sk ≡ Ok pk
     → sk.tr ≡ key_hash H pk.rho pk.t1 → IsPublicKeyOf H p.k (public_key_bytes pk.rho pk.t1) pk
 public_decodes p H G pk sk parts whole derives hash =
     let own : PublicParts = record { rho = sk.rho; tr = sk.tr; t1 = high_part p whole.matrix sk.s1 sk.s2 } in
     let same : own ≡ pk = same_some own pk (sym (public_key_of_whole p G sk whole) ∙ some_of_ok (public_key_of p G sk) pk (sym derives)) in
     record {
-      seed = subst (λ (k : PublicParts). length k.rho ≡ 32) same parts.seed;
-      high = subst (λ (k : PublicParts). IsHighPart p.k k.t1) same (high_part-range p whole.matrix sk.s1 sk.s2);
-      same_bytes = refl;
-      hash = sym (ap (λ (k : PublicParts). k.tr) same) ∙ hash;
+      parts = subst (λ (k : PublicParts). ArePublicParts p.k k) same record { rho = parts.rho; tr = parts.tr; t1 = high_part-range p whole.matrix sk.s1 sk.s2 };
+      encoding = refl;
+      tr = sym (ap (λ (k : PublicParts). k.tr) same) ∙ hash;
     }
 
 pub pair_of_whole : (p : ParameterSet) (H G : List ℕ → List ℕ) (pk : PublicParts) (sk : PrivateParts) → IsTrue (is_parameter_set p)
-    → ArePrivateParts p.k p.l sk → IsWhole p G sk → derived p G sk ≡ Ok pk → sk.tr ≡ key_hash H pk.rho pk.t1 → IsPair p H G pk sk
+    → ArePrivateParts p.eta p.k p.l sk → IsWhole p G sk → derived p G sk ≡ Ok pk → sk.tr ≡ key_hash H pk.rho pk.t1 → IsPair p H G pk sk
 pair_of_whole p H G pk sk row parts whole derives hash =
-    let bytes = private_key_bytes p.eta sk.rho sk.key sk.tr sk.s1 sk.s2 sk.t0 in
+    let bytes = private_key_bytes p.eta sk in
     let encoded = public_decodes p H G pk sk parts whole derives hash in
-    let held = has_its_bytes p sk bytes row parts refl in
+    let held : IsPrivateKeyOf p.eta p.k p.l bytes sk = record { parts = parts; encoding = refl } in
     record {
       parts = parts;
       whole = whole;
@@ -144,26 +123,23 @@ pair_of_whole p H G pk sk row parts whole derives hash =
 
 -- with a whole private key at hand its tr decides
 pub pair_by_hash : (p : ParameterSet) (H G : List ℕ → List ℕ) (pk : PublicParts) (sk : PrivateParts) (own : Bool) → IsTrue (is_parameter_set p)
-    → ArePrivateParts p.k p.l sk → IsWhole p G sk → derived p G sk ≡ Ok pk → (IsTrue own ↔ (sk.tr ≡ key_hash H pk.rho pk.t1)) → IsTrue own ↔ IsPair p H G pk sk
+    → ArePrivateParts p.eta p.k p.l sk → IsWhole p G sk → derived p G sk ≡ Ok pk → (IsTrue own ↔ (sk.tr ≡ key_hash H pk.rho pk.t1)) → IsTrue own ↔ IsPair p H G pk sk
 pair_by_hash p H G pk sk own row parts whole derives both = (
   λ t. pair_of_whole p H G pk sk row parts whole derives (both.0 t),
-  λ pair. both.1 (derived_hash p G sk pk derives ∙ ((pair.public_decoded pk).1 refl).hash),
+  λ pair. both.1 (derived_hash p G sk pk derives ∙ ((pair.public_decoded pk).1 refl).tr),
 )
 
 -- ---- key generation
 
-small : (p : ParameterSet) (H : List ℕ → List ℕ) (rho : List ℕ) (first count : ℕ) (v : List R) → AreSetNumbers p → small_vector p.eta H rho first count ≡ Some v → IsVector count (eta_of_rows p.k) (eta_of_rows p.k) v
-small p H rho first count v numbers e = subst (λ m. IsVector count m m v) numbers.eta (small_vector-range p.eta H rho first count v numbers.small e)
-
 -- what the keys of a seed are to each other
 pub record AreGenerated (p : ParameterSet) (H G : List ℕ → List ℕ) (pk : PublicParts) (sk : PrivateParts) : Type 0 where
-  pub in_range : ArePrivateParts p.k p.l sk
+  pub in_range : ArePrivateParts p.eta p.k p.l sk
   pub consistent : IsWhole p G sk
   pub belongs : derived p G sk ≡ Ok pk
   pub hashed : sk.tr ≡ key_hash H pk.rho pk.t1
 
 generated_of_parts : (p : ParameterSet) (H G : List ℕ → List ℕ) (rho key : List ℕ) (a : List (List T)) (s1 s2 : List R) → ((x : List ℕ) → 4096 ≤ length (H x))
-    → length rho ≡ 32 → length key ≡ 32 → sampled_matrix G rho p.k p.l ≡ Some a → IsVector p.l (eta_of_rows p.k) (eta_of_rows p.k) s1 → IsVector p.k (eta_of_rows p.k) (eta_of_rows p.k) s2
+    → length rho ≡ 32 → length key ≡ 32 → sampled_matrix G rho p.k p.l ≡ Some a → IsVector p.l p.eta p.eta s1 → IsVector p.k p.eta p.eta s2
     → AreGenerated p H G (key_pair p H rho key a s1 s2).0 (key_pair p H rho key a s1 s2).1
 unfolding key_pair
 generated_of_parts p H G rho key a s1 s2 law m n there first second =
@@ -173,7 +149,7 @@ generated_of_parts p H G rho key a s1 s2 law m n there first second =
     let hash = length-take-le 64 (H (public_key_bytes rho t1)) (omega (arith, law (public_key_bytes rho t1))) in
     let whole : IsWhole p G sk = record { matrix = a; sampled = there; low = refl } in
     record {
-      in_range = record { seed = m; private_seed = n; hash = hash; first = first; second = second; low = low_part-range p a s1 s2 };
+      in_range = record { rho = m; key = n; tr = hash; s1 = first; s2 = second; t0 = low_part-range p a s1 s2 };
       consistent = whole;
       belongs = ap (λ (o : Option PublicParts). ok_or o SamplingLimit) (public_key_of_whole p G sk whole);
       hashed = refl;
@@ -208,7 +184,7 @@ made_of p H rho key (Some a) (Some s1) (Some s2) pk sk e = record {
 pub generated_parts : (p : ParameterSet) (H G : List ℕ → List ℕ) (xi : List ℕ) (pk : PublicParts) (sk : PrivateParts) → IsTrue (is_parameter_set p) → ((x : List ℕ) → 4096 ≤ length (H x))
     → key_generation p H G xi ≡ Some (pk, sk) → AreGenerated p H G pk sk
 generated_parts p H G xi pk sk row law e =
-    let numbers = set_numbers p row in
+    let eta = (set_numbers p row).small in
     let all = seeds p H xi in
     let rho = take 32 all in
     let rho' = take 64 (drop 32 all) in
@@ -218,7 +194,7 @@ generated_parts p H G xi pk sk row law e =
     let rest : length (drop 96 all) ≡ length all - 96 = length-drop 96 all in
     subst (λ (pair : PublicParts × PrivateParts). AreGenerated p H G pair.0 pair.1) was.made
     (generated_of_parts p H G rho key was.matrix was.first was.second law (length-take-le 32 all (omega (arith, long))) (length-take-le 32 (drop 96 all) (omega (arith, long, rest)))
-    was.has_matrix (small p H rho' 0 p.l was.first numbers was.has_first) (small p H rho' p.l p.k was.second numbers was.has_second))
+    was.has_matrix (small_vector-range p.eta H rho' 0 p.l was.first eta was.has_first) (small_vector-range p.eta H rho' p.l p.k was.second eta was.has_second))
 
 -- the keys of a seed are a pair, and the public one accepts what the private one signs
 pub generated_pair : (p : ParameterSet) (H G : List ℕ → List ℕ) (xi : List ℕ) (pk : PublicParts) (sk : PrivateParts) → IsTrue (is_parameter_set p) → ((x : List ℕ) → 4096 ≤ length (H x))
@@ -235,6 +211,6 @@ public_alone p H G pk sk are (Ok other) decoded =
 public_alone p H G pk sk are (Err fault) decoded = absurd decoded
 
 pub private_alone : (p : ParameterSet) (H G : List ℕ → List ℕ) (pk : PublicParts) (sk : PrivateParts) → IsTrue (is_parameter_set p) → AreGenerated p H G pk sk
-    → DecodesAlone (DecodesPrivate p.eta p.k p.l) (private_key_bytes p.eta sk.rho sk.key sk.tr sk.s1 sk.s2 sk.t0) sk
-private_alone p H G pk sk row are (Ok other) decoded = ap Ok (one_private_key p _ other sk row decoded (has_its_bytes p sk _ row are.in_range refl))
-private_alone p H G pk sk row are (Err fault) decoded = absurd (decoded.1 sk (has_its_bytes p sk _ row are.in_range refl))
+    → DecodesAlone (DecodesPrivate p.eta p.k p.l) (private_key_bytes p.eta sk) sk
+private_alone p H G pk sk row are (Ok other) decoded = ap Ok (one_private_key p _ other sk row decoded record { parts = are.in_range; encoding = refl })
+private_alone p H G pk sk row are (Err fault) decoded = absurd (decoded.1 sk record { parts = are.in_range; encoding = refl })

@@ -1,7 +1,7 @@
 -- Worked values of the parameter sets, of the order of attempts, of framing, and of the hashes, seeds and hints of whole calls.
 use Rattle.std.proofs.Common.{◌≡◌, ◌*◌, ℕ, ℤ, List, [], ◌∷◌, ◌++◌, Ok, Err, refl, true, false, map, length, take, Some, None, pos, negsuc, if◌then◌else◌}
 use Rattle.fips204_base.specs.declared.fault.Fault.TheVariants.{TooManyAttempts, SamplingLimit, SignCtx, HashCtx, OidEmpty, OidNotDer, DigestTooLong, DigestLength}
-use Rattle.fips204_base.specs.Encodings.{is_one}
+use Rattle.fips204_base.specs.Encodings.{PrivateParts, is_one}
 use Rattle.fips204_base.specs.Sampling.{triple, kept_triples, matrix_entry, sampled_matrix, first_256, all_present, kept_half_bytes, small_polynomial, small_vector, small_vectors}
 use Rattle.fips204_base.specs.Packing.{bit_length, packed, bits_to_bytes, bits, integer_to_bits, bits_to_integer, field}
 use Rattle.fips204_base.specs.Rounding.{decompose, use_hint}
@@ -9,7 +9,7 @@ use Rattle.fips204_base.specs.Residues.{sum_below}
 use Rattle.fips204_base.specs.Transforms.{product, shifted}
 use Rattle.fips204_base.specs.Vectors.{polynomial_of, vector_of}
 use Rattle.fips204_base.specs.declared.types.R.{R}
-use Rattle.fips204.specs.Keys.{PrivateParts, key_pair, key_generation}
+use Rattle.fips204.specs.Keys.{key_pair, key_generation}
 use Rattle.fips204.specs.SigningInputs.{seeds, t1_shifted}
 use Rattle.fips204.specs.Acceptance.{hinted}
 use Rattle.fips204.specs.ParameterSets.{ParameterSet, set_44, set_65, set_87, is_parameter_set, public_key_length, private_key_length, signature_length}

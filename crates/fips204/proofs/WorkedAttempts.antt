@@ -6,9 +6,8 @@ use Rattle.fips204_base.specs.Residues.{sum_below, centred}
 use Rattle.fips204_base.specs.Rounding.{decompose}
 use Rattle.fips204_base.specs.Transforms.{product, shifted}
 use Rattle.fips204_base.specs.Vectors.{polynomial_of, vector_of}
-use Rattle.fips204_base.specs.Encodings.{ones_below, is_one}
+use Rattle.fips204_base.specs.Encodings.{PrivateParts, all_ones, is_one}
 use Rattle.fips204.specs.ParameterSets.{ParameterSet, set_44, set_65}
-use Rattle.fips204.specs.Keys.{PrivateParts}
 use Rattle.fips204.specs.Signing.{response, low_vector, ct0, hint_vector, passes_checks}
 
 -- a set of one row and one column, with another gamma1 and omega; beta is 78
@@ -45,22 +44,22 @@ ct0_of_constants = refl
 
 -- the norm of z is below 178 less 78
 norm_of_z : (checks 178 80 (pos 1) (pos 0) (pos 0) (pos 98) 0 ≡ true) × (checks 178 80 (pos 1) (pos 0) (pos 0) (pos 99) 0 ≡ false)
-unfolding checks toy one parts passes_checks response low_vector ct0 hint_vector vector_of polynomial_of product shifted sum_below centred decompose ones_below is_one
+unfolding checks toy one parts passes_checks response low_vector ct0 hint_vector vector_of polynomial_of product shifted sum_below centred decompose all_ones is_one
 norm_of_z = (refl, refl)
 
 -- that of r0 is below gamma2 less 78
 norm_of_r0 : (checks 178 80 (pos 0) (pos 1) (pos 0) (pos 0) 95154 ≡ true) × (checks 178 80 (pos 0) (negsuc 0) (pos 0) (pos 0) 95153 ≡ false)
-unfolding checks toy one parts passes_checks response low_vector ct0 hint_vector vector_of polynomial_of product shifted sum_below centred decompose ones_below is_one
+unfolding checks toy one parts passes_checks response low_vector ct0 hint_vector vector_of polynomial_of product shifted sum_below centred decompose all_ones is_one
 norm_of_r0 = (refl, refl)
 
 -- that of c t0 is below gamma2
 norm_of_ct0 : (checks 178 80 (pos 0) (pos 0) (pos 95231) (pos 0) 0 ≡ true) × (checks 178 80 (pos 0) (pos 0) (pos 95232) (pos 0) 0 ≡ false)
-unfolding checks toy one parts passes_checks response low_vector ct0 hint_vector vector_of polynomial_of product shifted sum_below centred decompose ones_below is_one
+unfolding checks toy one parts passes_checks response low_vector ct0 hint_vector vector_of polynomial_of product shifted sum_below centred decompose all_ones is_one
 norm_of_ct0 = (refl, refl)
 
 -- the hint has at most omega ones
 ones_of_hint : (checks 178 1 (pos 0) (pos 0) (pos 200) (pos 0) 95100 ≡ true) × (checks 178 0 (pos 0) (pos 0) (pos 200) (pos 0) 95100 ≡ false)
-unfolding checks toy one parts passes_checks response low_vector ct0 hint_vector vector_of polynomial_of product shifted sum_below centred decompose ones_below is_one
+unfolding checks toy one parts passes_checks response low_vector ct0 hint_vector vector_of polynomial_of product shifted sum_below centred decompose all_ones is_one
 ones_of_hint = (refl, refl)
 
 -- as many polynomials as columns, and else as rows

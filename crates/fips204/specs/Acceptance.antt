@@ -6,10 +6,9 @@ use Rattle.fips204_base.specs.Residues.{vector_norm, coefficients}
 use Rattle.fips204_base.specs.Transforms.{minus, product}
 use Rattle.fips204_base.specs.Vectors.{vector_coefficients, matrix_product, vector_of}
 use Rattle.fips204_base.specs.Rounding.{use_hint}
-use Rattle.fips204_base.specs.Encodings.{is_one, IsSignature, w1_bytes}
+use Rattle.fips204_base.specs.Encodings.{PublicParts, is_one, IsSignature, w1_bytes}
 use Rattle.fips204_base.specs.Sampling.{sampled_matrix, challenge}
 use Rattle.fips204.specs.ParameterSets.{ParameterSet, commitment_length}
-use Rattle.fips204.specs.Keys.{PublicParts}
 
 -- the first k polynomials of v are those of t1 2^13, modulo q
 abbrev pub AreShifted : ℕ → List R → List R → Type 0

@@ -1,9 +1,9 @@
 -- What is signed is accepted, and what makes two keys a pair (FIPS 204, Algorithms 1 to 8).
 use Rattle.std.specs.Prelude.{◌≡◌, ◌≤◌, ◌↔◌, ℕ, List, length, take, Bool, IsTrue, Result, Ok, Err, MatchResult}
 use Rattle.fips204_base.specs.declared.fault.Fault.{Fault}
-use Rattle.fips204_base.specs.Encodings.{public_key_bytes, private_key_bytes}
+use Rattle.fips204_base.specs.Encodings.{PublicParts, PrivateParts, ArePublicParts, ArePrivateParts, IsPublicKeyOf, IsPrivateKeyOf, public_key_bytes, private_key_bytes}
 use Rattle.fips204.specs.ParameterSets.{ParameterSet, is_parameter_set}
-use Rattle.fips204.specs.Keys.{PublicParts, PrivateParts, ArePublicParts, ArePrivateParts, IsPublicKeyOf, IsPrivateKeyOf, IsWhole}
+use Rattle.fips204.specs.Keys.{IsWhole}
 use Rattle.fips204.specs.Framing.{Input}
 use Rattle.fips204.specs.Signing.{sign}
 use Rattle.fips204.specs.Acceptance.{Verifies}
@@ -30,11 +30,11 @@ DecodesAlone {K} {B} decodes bytes key = (answer : Result K Fault) → decodes b
 -- two keys are a pair: the private one is in range and whole, the public one is derived of it, and each is the one key that
 -- its bytes decode to
 pub record IsPair (p : ParameterSet) (H G : List ℕ → List ℕ) (pk : PublicParts) (sk : PrivateParts) : Type 0 where
-  pub parts : ArePrivateParts p.k p.l sk
+  pub parts : ArePrivateParts p.eta p.k p.l sk
   pub whole : IsWhole p G sk
   pub derives : derived p G sk ≡ Ok pk
   pub public_decoded : (other : PublicParts) → IsPublicKeyOf H p.k (public_key_bytes pk.rho pk.t1) other ↔ (other ≡ pk)
-  pub private_decoded : (other : PrivateParts) → IsPrivateKeyOf p.eta p.k p.l (private_key_bytes p.eta sk.rho sk.key sk.tr sk.s1 sk.s2 sk.t0) other ↔ (other ≡ sk)
+  pub private_decoded : (other : PrivateParts) → IsPrivateKeyOf p.eta p.k p.l (private_key_bytes p.eta sk) other ↔ (other ≡ sk)
 
 -- an answer to whether a private key and the public key that is derived of it are a pair; a refusal where no key is derived
 abbrev pub TellsPair : ParameterSet → (List ℕ → List ℕ) → (List ℕ → List ℕ) → PrivateParts → Result Bool Fault → Type 0
@@ -48,14 +48,13 @@ abbrev pub SignedIsAccepted : Type 0
 SignedIsAccepted =
     (p : ParameterSet) (H G : List ℕ → List ℕ) (pk : PublicParts) (sk : PrivateParts) → IsTrue (is_parameter_set p)
     → ((x : List ℕ) → 4096 ≤ length (H x))
-    → (ArePrivateParts p.k p.l sk → IsWhole p G sk → derived p G sk ≡ Ok pk
+    → (ArePrivateParts p.eta p.k p.l sk → IsWhole p G sk → derived p G sk ≡ Ok pk
     → AcceptsSigned p H G pk sk × (sk.tr ≡ take 64 (H (public_key_bytes pk.rho pk.t1)) → IsPair p H G pk sk))
     × ((xi : List ℕ) → generated p H G xi ≡ Ok (pk, sk) → IsPair p H G pk sk × AcceptsSigned p H G pk sk)
 
 -- keys in range are the same where their bytes are: two private keys, and two public keys with the same tr
 pub record BytesTellKeys (p : ParameterSet) : Type 0 where
-  pub private_keys : (first second : PrivateParts) → ArePrivateParts p.k p.l first → ArePrivateParts p.k p.l second
-      → private_key_bytes p.eta first.rho first.key first.tr first.s1 first.s2 first.t0 ≡ private_key_bytes p.eta second.rho second.key second.tr second.s1 second.s2 second.t0
-      → first ≡ second
+  pub private_keys : (first second : PrivateParts) → ArePrivateParts p.eta p.k p.l first → ArePrivateParts p.eta p.k p.l second
+      → private_key_bytes p.eta first ≡ private_key_bytes p.eta second → first ≡ second
   pub public_keys : (first second : PublicParts) → ArePublicParts p.k first → ArePublicParts p.k second → first.tr ≡ second.tr
       → public_key_bytes first.rho first.t1 ≡ public_key_bytes second.rho second.t1 → first ≡ second

@@ -4,12 +4,11 @@ use Rattle.fips204_base.specs.declared.fault.Fault.{Fault}
 use Rattle.fips204_base.specs.declared.fault.Fault.TheVariants.{SamplingLimit}
 use Rattle.fips204_base.specs.declared.types.R.{R}
 use Rattle.fips204_base.specs.declared.types.T.{T}
-use Rattle.fips204_base.specs.Encodings.{IsSignature}
+use Rattle.fips204_base.specs.Encodings.{PublicParts, PrivateParts, IsPublicKeyOf, IsSignature}
 use Rattle.fips204_base.specs.Residues.{vector_norm}
 use Rattle.fips204_base.specs.Streams.{counter_blocks, sha256_front, sha256_long_front, sha512_front, sha512_long_front, IsPrefix, ArePrefixes}
 use Rattle.fips204_base.specs.Sampling.{matrix_entry, sampled_matrix, small_polynomial, challenge}
 use Rattle.fips204.specs.ParameterSets.{ParameterSet, is_parameter_set, commitment_length}
-use Rattle.fips204.specs.Keys.{PublicParts, PrivateParts, IsPublicKeyOf}
 use Rattle.fips204.specs.Framing.{Input, message_hash}
 use Rattle.fips204.specs.Signing.{sign}
 use Rattle.fips204.specs.Acceptance.{Verifies}

@@ -5,7 +5,8 @@ use Rattle.fips204_base.specs.declared.fault.Fault.TheVariants.{SamplingLimit}
 use Rattle.fips204_base.specs.declared.types.T.{T}
 use Rattle.fips204_base.specs.Sampling.{sampled_matrix}
 use Rattle.fips204.specs.ParameterSets.{ParameterSet}
-use Rattle.fips204.specs.Keys.{PublicParts, PrivateParts, high_part, low_part, IsWhole}
+use Rattle.fips204_base.specs.Encodings.{PublicParts, PrivateParts}
+use Rattle.fips204.specs.Keys.{high_part, low_part, IsWhole}
 use Rattle.fips204.specs.Framing.{Input, plain, hashed}
 use Rattle.fips204.specs.Signing.{sign, sign_with}
 use Rattle.fips204.specs.Acceptance.{Accepts, Verifies}

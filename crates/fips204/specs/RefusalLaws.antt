@@ -2,7 +2,7 @@
 use Rattle.std.specs.Prelude.{◌≡◌, ◌⊎◌, ℕ, List, Some, IfErr}
 use Rattle.fips204_base.specs.declared.fault.Fault.TheVariants.{SignCtx}
 use Rattle.fips204.specs.ParameterSets.{ParameterSet}
-use Rattle.fips204.specs.Keys.{PublicParts, PrivateParts}
+use Rattle.fips204_base.specs.Encodings.{PublicParts, PrivateParts}
 use Rattle.fips204.specs.Framing.{Input}
 use Rattle.fips204.specs.Prepared.{prepared_private, prepared_public}
 use Rattle.fips204.specs.Refusals.{generated, derived, input_fault, sign_input, sign_message, OnlySamplingLimit, IsSigningLimit}

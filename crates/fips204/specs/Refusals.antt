@@ -3,7 +3,8 @@ use Rattle.std.specs.Prelude.{◌≡◌, ◌⊎◌, ℕ, List, length, nat_lt, O
 use Rattle.fips204_base.specs.declared.fault.Fault.{Fault}
 use Rattle.fips204_base.specs.declared.fault.Fault.TheVariants.{SignCtx, HashCtx, SamplingLimit, TooManyAttempts}
 use Rattle.fips204.specs.ParameterSets.{ParameterSet}
-use Rattle.fips204.specs.Keys.{PublicParts, PrivateParts, key_generation, public_key_of}
+use Rattle.fips204_base.specs.Encodings.{PublicParts, PrivateParts}
+use Rattle.fips204.specs.Keys.{key_generation, public_key_of}
 use Rattle.fips204.specs.Framing.{Input, plain, hashed, framed_input, message_hash, pre_hash_fault}
 use Rattle.fips204.specs.Signing.{sign}
 use Rattle.fips204.specs.Acceptance.{Verifies}

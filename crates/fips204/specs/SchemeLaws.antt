@@ -1,7 +1,7 @@
 -- What rounding, hints, challenges and spellings promise to signing and verifying (FIPS 204, sections 2.3 and 7.4), and what a
 -- framed message and a signature determine (Algorithms 2 to 5 and 8).
 use Rattle.std.specs.Prelude.{◌≡◌, ◌⊎◌, ◌<◌, ◌≤◌, ℕ, ◌+◌, ◌-◌, ◌*◌, ◌%◌, List, pos, ◌-ℤ◌, nat_abs, true, false, length, Some, ◌≢◌, ◌++◌, take, None, IsTrue}
-use Rattle.fips204_base.specs.Encodings.{IsSignature, Spells, all_ones, hint_bytes}
+use Rattle.fips204_base.specs.Encodings.{PublicParts, IsPublicKeyOf, IsSignature, Spells, all_ones, hint_bytes}
 use Rattle.fips204_base.specs.Packing.{width}
 use Rattle.fips204_base.specs.Residues.{centred, norm, coefficients}
 use Rattle.fips204_base.specs.Rounding.{IsGamma2, high_bits, low_bits, make_hint, use_hint}
@@ -12,7 +12,6 @@ use Rattle.fips204_base.specs.declared.types.R.{R}
 use Rattle.fips204_base.specs.declared.types.T.{T}
 use Rattle.fips204.specs.Acceptance.{Opens, Verifies}
 use Rattle.fips204.specs.Framing.{Input, framed, framed_input, message_hash}
-use Rattle.fips204.specs.Keys.{PublicParts, IsPublicKeyOf}
 use Rattle.fips204.specs.ParameterSets.{ParameterSet, is_parameter_set, commitment_length}
 use Rattle.fips204.specs.Refusals.{input_fault, AcceptsInput, VerifiesMessage}
 

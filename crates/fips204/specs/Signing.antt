@@ -1,7 +1,7 @@
 -- Signing (FIPS 204, Algorithm 7): the body of its loop (lines 11 to 32), and the first of 814 attempts that is not rejected.
 use Rattle.std.specs.Prelude.{ℕ, ℤ, ◌+◌, ◌-◌, ◌*◌, ◌%◌, List, ◌++◌, pos, Bool, ◌&&◌, nat_lt, nat_le, length, take, Option, Some, None, if◌then◌else◌, [], ◌∷◌, map, Result, Ok, Err}
 use Rattle.std.specs.List.{range_with_len}
-use Rattle.fips204_base.specs.Encodings.{all_ones, signature_bytes, w1_bytes}
+use Rattle.fips204_base.specs.Encodings.{PrivateParts, all_ones, signature_bytes, w1_bytes}
 use Rattle.fips204_base.specs.Residues.{centred, vector_norm, coefficients}
 use Rattle.fips204_base.specs.Rounding.{high_bits, low_bits, make_hint}
 use Rattle.fips204_base.specs.Sampling.{challenge, mask, sampled_matrix}
@@ -11,7 +11,6 @@ use Rattle.fips204_base.specs.declared.fault.Fault.{Fault}
 use Rattle.fips204_base.specs.declared.fault.Fault.TheVariants.{TooManyAttempts, SamplingLimit}
 use Rattle.fips204_base.specs.declared.types.R.{R}
 use Rattle.fips204_base.specs.declared.types.T.{T}
-use Rattle.fips204.specs.Keys.{PrivateParts}
 use Rattle.fips204.specs.ParameterSets.{ParameterSet, commitment_length}
 
 -- what an attempt comes to: the challenge is past its limit, the attempt is rejected, or it gives a signature

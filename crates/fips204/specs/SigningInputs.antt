@@ -1,6 +1,6 @@
 -- What private functions of signing take and answer, and parts of definitions: cited by no public clause; nobody has to believe it.
 use Rattle.std.specs.Prelude.{◌+◌, ◌-◌, ◌*◌, ◌%◌, ◌<◌, ◌≤◌, ℕ, List, [], ◌∷◌, ◌++◌, length, take, slice_index, Bool, ◌&&◌, nat_eq, nat_lt, nat_le, if◌then◌else◌, Option, Some, None, Result, Ok, Err}
-use Rattle.fips204_base.specs.Encodings.{IsSignature, public_key_bytes}
+use Rattle.fips204_base.specs.Encodings.{PrivateParts, IsSignature, public_key_bytes}
 use Rattle.fips204_base.specs.Residues.{vector_norm, coefficients}
 use Rattle.fips204_base.specs.Transforms.{product, plus}
 use Rattle.fips204_base.specs.Vectors.{PolynomialWithin, VectorWithin, AreSameModQ, IsVector, vector_coefficients}
@@ -8,7 +8,6 @@ use Rattle.fips204_base.specs.declared.fault.Fault.{Fault}
 use Rattle.fips204_base.specs.declared.fault.Fault.TheVariants.{SamplingLimit, SignCtx, HashCtx}
 use Rattle.fips204_base.specs.declared.types.R.{R}
 use Rattle.fips204.specs.Framing.{Input, framed_input, message_hash, pre_hash_fault}
-use Rattle.fips204.specs.Keys.{PrivateParts}
 use Rattle.fips204.specs.ParameterSets.{ParameterSet, commitment_length}
 use Rattle.fips204.specs.Refusals.{refused_or, input_fault}
 use Rattle.fips204.specs.Sets.{HasSizes, set_of}

@@ -5,11 +5,11 @@ ghost use Rattle.std.specs.Prelude.{◌≡◌, ◌↔◌, IsTrue, MatchResult};
 ghost use Rattle.fips204.specs.Acceptance.{Verifies};
 ghost use Rattle.fips204.specs.Completeness.{HashComplete, TellsPair};
 ghost use Rattle.fips204.specs.Framing.{message_hash};
-ghost use Rattle.fips204.specs.Keys.{IsWhole, TellsWhole, DecodesPrivate, IsPublicKeyOf};
+ghost use Rattle.fips204.specs.Keys.{IsWhole, TellsWhole, DecodesPrivate};
 ghost use Rattle.fips204.specs.Prepared.{prepared_private, prepared_public};
 ghost use Rattle.fips204.specs.Refusals.{generated, derived, sign_message, sign_digest, VerifiesMessage, VerifiesDigest, DrawsIf};
 ghost use Rattle.fips204.specs.Signing.{sign};
-ghost use Rattle.fips204_base.specs.Encodings.{public_key_bytes, private_key_bytes};
+ghost use Rattle.fips204_base.specs.Encodings.{ArePrivateParts, IsPublicKeyOf, public_key_bytes, private_key_bytes};
 
 mod prepared;
 
@@ -251,6 +251,16 @@ where
     S: Set<Commitment = [u8; LAMBDA_DIV4], Signature = [u8; SIG_LEN]>
         + SignatureSizes<K, L, LAMBDA_DIV4, SIG_LEN>,
 {
+    /// The hash that the key keeps, which signing hashes before the message: the hash of the public key's bytes if
+    /// the key comes from key generation, and the bytes that stood there if it comes from bytes. The key's parts are
+    /// in range.
+    pub fn tr(&self) -> &[u8; 64]
+        ensures hash { result.now ≡ self.now.tr }
+        ensures parts { ArePrivateParts S.set.eta K L self.now }
+    {
+        &self.tr
+    }
+
     /// Signs the hash `mu` of a framed message with the random bytes `rnd` (Algorithm 7 from line 7 on).
     fn sign_hash(&self, mu: &[u8; 64], rnd: &[u8; 32]) -> Result<[u8; SIG_LEN], Fault>
         ensures answer { result ≡ sign S.set H.front G.front self.now mu.now rnd.now }
@@ -421,7 +431,7 @@ where
 {
     type ByteArray = [u8; SK_LEN];
 
-    ghost bytes_of = { λ key. private_key_bytes S.set.eta key.rho key.key key.tr key.s1 key.s2 key.t0 };
+    ghost bytes_of = { λ key. private_key_bytes S.set.eta key };
 
     ghost decodes = { DecodesPrivate S.set.eta K L };
 
@@ -465,7 +475,7 @@ where
 
     ghost decodes = { λ bytes answer. MatchResult answer (λ key. IsPublicKeyOf H.front K bytes key) (λ _. ⊥) };
 
-    ghost restored = { λ bytes key decoded. decoded.same_bytes };
+    ghost restored = { λ bytes key decoded. decoded.encoding };
 
     fn into_bytes(self) -> [u8; PK_LEN] {
         pk_encode(&self.rho, &self.t1)

@@ -2,7 +2,7 @@
 #![tactic(auto)]
 
 ghost use Rattle.std.specs.Prelude.{◌≡◌, ◌-◌, ⊤, pos, nat_abs, IsTrue};
-ghost use Rattle.fips204.specs.Keys.{ArePrivateParts, ArePublicParts};
+ghost use Rattle.fips204_base.specs.Encodings.{ArePublicParts};
 ghost use Rattle.fips204.specs.ParameterSets.{are_parameters};
 
 pub mod pre_hash;
@@ -109,7 +109,7 @@ pub struct PublicKey<const K: usize, const L: usize, H, G> {
 }
 
 impl<const K: usize, const L: usize, H, G> Model for PublicKey<K, L, H, G> {
-    ghost use Rattle.fips204.specs.Keys.{PublicParts, ArePublicParts};
+    ghost use Rattle.fips204_base.specs.Encodings.{PublicParts, ArePublicParts};
 
     ghost Value = { PublicParts };
 
@@ -157,13 +157,16 @@ pub struct PrivateKey<const K: usize, const L: usize, H, G> {
 }
 
 impl<const K: usize, const L: usize, H, G> Model for PrivateKey<K, L, H, G> {
-    ghost use Rattle.fips204.specs.Keys.{PrivateParts, ArePrivateParts};
+    ghost use Rattle.std.specs.Prelude.{nat_eq, if◌then◌else◌};
+    ghost use Rattle.fips204_base.specs.Encodings.{PrivateParts, ArePrivateParts};
 
     ghost Value = { PrivateParts };
 
     ghost view = { λ sk. record { rho = sk.rho; key = sk.cap_k; tr = sk.tr; s1 = sk.s1; s2 = sk.s2; t0 = sk.t0 } };
 
-    ghost invariant = { λ sk. ArePrivateParts K L record { rho = sk.rho; key = sk.cap_k; tr = sk.tr; s1 = sk.s1; s2 = sk.s2; t0 = sk.t0 } };
+    // eta is 4 in the set with 6 rows, ML-DSA-65, and 2 in the others.
+    ghost invariant = { λ sk. ArePrivateParts (if nat_eq K 6 then 4 else 2) K L
+        record { rho = sk.rho; key = sk.cap_k; tr = sk.tr; s1 = sk.s1; s2 = sk.s2; t0 = sk.t0 } };
 }
 
 impl<const K: usize, const L: usize, H, G> Clone for PrivateKey<K, L, H, G> {
@@ -174,17 +177,5 @@ impl<const K: usize, const L: usize, H, G> Clone for PrivateKey<K, L, H, G> {
     /// A copy of the key. Never returns an error.
     fn clone(&self) -> Result<Self, AllocError> {
         Ok(PrivateKey { ..*self })
-    }
-}
-
-impl<const K: usize, const L: usize, H, G> PrivateKey<K, L, H, G> {
-    /// The hash that the key keeps, which signing hashes before the message: the hash of the public key's bytes if
-    /// the key comes from key generation, and the bytes that stood there if it comes from bytes. The key's parts are
-    /// in range.
-    pub fn tr(&self) -> &[u8; 64]
-        ensures hash { result.now ≡ self.now.tr }
-        ensures parts { ArePrivateParts K L self.now }
-    {
-        &self.tr
     }
 }

@@ -5,7 +5,7 @@ use Rattle.std.proofs.lemmas.Int.{ints}
 use Rattle.std.proofs.lemmas.List.Elements.{All-head, All-tail}
 use Rattle.fips204_base.specs.declared.types.R.{R}
 use Rattle.fips204_base.specs.Sampling.{IsEta}
-use Rattle.fips204_base.specs.Encodings.{IsGamma1, public_key_bytes, IsPrivateKey, vector_bytes, IsSignature, private_key_bytes, signature_bytes, Spells, hint_bytes}
+use Rattle.fips204_base.specs.Encodings.{IsGamma1, PrivateParts, public_key_bytes, IsPrivateKeyOf, vector_bytes, IsSignature, private_key_bytes, signature_bytes, Spells, hint_bytes}
 use Rattle.fips204_base.specs.Packing.{PolynomialInRange, polynomial_bytes, Bounds, bit_length, width}
 use Rattle.fips204_base.proofs.Bits.{cut}
 use Rattle.fips204_base.proofs.Packing.{length-polynomial_bytes, same_polynomial}
@@ -47,38 +47,39 @@ regroup x a b c = append_assoc (x ++ a) b c ∙ append_assoc x a (b ++ c)
 
 pub private_key-of_parts : (eta k l : ℕ) (bytes rho key tr first second low : List ℕ) (s1 s2 t0 : List R) → bytes ≡ (rho ++ key ++ tr) ++ (first ++ (second ++ low))
     → length rho ≡ 32 → length key ≡ 32 → length tr ≡ 64 → IsVector l eta eta s1 → IsVector k eta eta s2 → IsVector k 4095 4096 t0
-    → vector_bytes eta eta s1 ≡ first → vector_bytes eta eta s2 ≡ second → vector_bytes 4095 4096 t0 ≡ low → IsPrivateKey eta k l bytes rho key tr s1 s2 t0
+    → vector_bytes eta eta s1 ≡ first → vector_bytes eta eta s2 ≡ second → vector_bytes 4095 4096 t0 ≡ low
+    → IsPrivateKeyOf eta k l bytes record { rho = rho; key = key; tr = tr; s1 = s1; s2 = s2; t0 = t0 }
 private_key-of_parts eta k l bytes rho key tr first second low s1 s2 t0 cut a b c u v w p q r = record {
-  seed = a;
-  private_seed = b;
-  hash = c;
-  first = u;
-  second = v;
-  low = w;
+  parts = record { rho = a; key = b; tr = c; s1 = u; s2 = v; t0 = w };
   encoding = ap (λ x. rho ++ key ++ tr ++ x ++ vector_bytes eta eta s2 ++ vector_bytes 4095 4096 t0) p
       ∙ ap (λ x. rho ++ key ++ tr ++ first ++ x ++ vector_bytes 4095 4096 t0) q ∙ ap (λ x. rho ++ key ++ tr ++ first ++ second ++ x) r
       ∙ regroup (rho ++ key ++ tr) first second low ∙ sym cut;
 }
 
-private_key-vectors : (eta k l : ℕ) (bytes rho key tr : List ℕ) (s1 s2 t0 : List R) → IsPrivateKey eta k l bytes rho key tr s1 s2 t0
-    → drop 128 bytes ≡ vector_bytes eta eta s1 ++ (vector_bytes eta eta s2 ++ vector_bytes 4095 4096 t0)
-private_key-vectors eta k l bytes rho key tr s1 s2 t0 s =
-    let size : length (rho ++ key ++ tr) ≡ 128 = length-append (rho ++ key) tr ∙ ap (λ n. n + length tr) (length-append rho key) ∙ omega (arith, s.seed, s.private_seed, s.hash) in
-    ap (drop 128) (sym s.encoding ∙ regroup (rho ++ key ++ tr) (vector_bytes eta eta s1) (vector_bytes eta eta s2) (vector_bytes 4095 4096 t0))
-    ∙ drop_at (rho ++ key ++ tr) (vector_bytes eta eta s1 ++ (vector_bytes eta eta s2 ++ vector_bytes 4095 4096 t0)) 128 size
+private_key-vectors : (eta k l : ℕ) (bytes : List ℕ) (sk : PrivateParts) → IsPrivateKeyOf eta k l bytes sk
+    → drop 128 bytes ≡ vector_bytes eta eta sk.s1 ++ (vector_bytes eta eta sk.s2 ++ vector_bytes 4095 4096 sk.t0)
+private_key-vectors eta k l bytes sk s =
+    let front = sk.rho ++ sk.key ++ sk.tr in
+    let S1 = vector_bytes eta eta sk.s1 in
+    let S2 = vector_bytes eta eta sk.s2 in
+    let T0 = vector_bytes 4095 4096 sk.t0 in
+    let size : length front ≡ 128 =
+    length-append (sk.rho ++ sk.key) sk.tr ∙ ap (λ n. n + length sk.tr) (length-append sk.rho sk.key) ∙ omega (arith, s.parts.rho, s.parts.key, s.parts.tr) in
+    ap (drop 128) (sym s.encoding ∙ regroup front S1 S2 T0) ∙ drop_at front (S1 ++ (S2 ++ T0)) 128 size
 
 -- the bytes of s1, and of s2
-pub private_key-first : (eta k l a : ℕ) (bytes rho key tr : List ℕ) (s1 s2 t0 : List R) → IsPrivateKey eta k l bytes rho key tr s1 s2 t0 → a ≡ 32 * width (pos eta) (pos eta) * l
-    → vector_bytes eta eta s1 ≡ take a (drop 128 bytes)
-private_key-first eta k l a bytes rho key tr s1 s2 t0 s e =
-    sym (ap (take a) (private_key-vectors eta k l bytes rho key tr s1 s2 t0 s) ∙ take_at (vector_bytes eta eta s1) (vector_bytes eta eta s2 ++ vector_bytes 4095 4096 t0) a (vector-length l eta eta s1 s.first ∙ sym e))
+pub private_key-first : (eta k l a : ℕ) (bytes : List ℕ) (sk : PrivateParts) → IsPrivateKeyOf eta k l bytes sk → a ≡ 32 * width (pos eta) (pos eta) * l
+    → vector_bytes eta eta sk.s1 ≡ take a (drop 128 bytes)
+private_key-first eta k l a bytes sk s e =
+    sym (ap (take a) (private_key-vectors eta k l bytes sk s)
+    ∙ take_at (vector_bytes eta eta sk.s1) (vector_bytes eta eta sk.s2 ++ vector_bytes 4095 4096 sk.t0) a (vector-length l eta eta sk.s1 s.parts.s1 ∙ sym e))
 
-pub private_key-second : (eta k l a b : ℕ) (bytes rho key tr : List ℕ) (s1 s2 t0 : List R) → IsPrivateKey eta k l bytes rho key tr s1 s2 t0 → a ≡ 32 * width (pos eta) (pos eta) * l
-    → b ≡ 32 * width (pos eta) (pos eta) * k → vector_bytes eta eta s2 ≡ take b (drop a (drop 128 bytes))
-private_key-second eta k l a b bytes rho key tr s1 s2 t0 s e f =
-    sym (ap (λ x. take b (drop a x)) (private_key-vectors eta k l bytes rho key tr s1 s2 t0 s)
-    ∙ ap (take b) (drop_at (vector_bytes eta eta s1) (vector_bytes eta eta s2 ++ vector_bytes 4095 4096 t0) a (vector-length l eta eta s1 s.first ∙ sym e))
-    ∙ take_at (vector_bytes eta eta s2) (vector_bytes 4095 4096 t0) b (vector-length k eta eta s2 s.second ∙ sym f))
+pub private_key-second : (eta k l a b : ℕ) (bytes : List ℕ) (sk : PrivateParts) → IsPrivateKeyOf eta k l bytes sk → a ≡ 32 * width (pos eta) (pos eta) * l
+    → b ≡ 32 * width (pos eta) (pos eta) * k → vector_bytes eta eta sk.s2 ≡ take b (drop a (drop 128 bytes))
+private_key-second eta k l a b bytes sk s e f =
+    sym (ap (λ x. take b (drop a x)) (private_key-vectors eta k l bytes sk s)
+    ∙ ap (take b) (drop_at (vector_bytes eta eta sk.s1) (vector_bytes eta eta sk.s2 ++ vector_bytes 4095 4096 sk.t0) a (vector-length l eta eta sk.s1 s.parts.s1 ∙ sym e))
+    ∙ take_at (vector_bytes eta eta sk.s2) (vector_bytes 4095 4096 sk.t0) b (vector-length k eta eta sk.s2 s.parts.s2 ∙ sym f))
 
 -- The parts of a signature.
 
@@ -202,37 +203,37 @@ same_signature gamma1 omega' k l n bytes c d z y g h low high p q =
 
 -- ---- private keys
 
-pub same_private_key : (eta k l : ℕ) (bytes rho key tr seed other hash : List ℕ) (s1 s2 t0 u1 u2 v0 : List R) → 1 ≤ eta → eta ≤ 1048575
-    → IsPrivateKey eta k l bytes rho key tr s1 s2 t0 → IsPrivateKey eta k l bytes seed other hash u1 u2 v0
-    → (rho ≡ seed) × (key ≡ other) × (tr ≡ hash) × (s1 ≡ u1) × (s2 ≡ u2) × (t0 ≡ v0)
-same_private_key eta k l bytes rho key tr seed other hash s1 s2 t0 u1 u2 v0 low high p q =
-    let same : private_key_bytes eta rho key tr s1 s2 t0 ≡ private_key_bytes eta seed other hash u1 u2 v0 = p.encoding ∙ sym q.encoding in
+pub same_private_key : (eta k l : ℕ) (bytes : List ℕ) (sk other : PrivateParts) → 1 ≤ eta → eta ≤ 1048575 → IsPrivateKeyOf eta k l bytes sk → IsPrivateKeyOf eta k l bytes other → sk ≡ other
+same_private_key eta k l bytes sk other low high p q =
+    let same : private_key_bytes eta sk ≡ private_key_bytes eta other = p.encoding ∙ sym q.encoding in
     let c = 32 * width (pos eta) (pos eta) in
-    let S1 = vector_bytes eta eta s1 in
-    let U1 = vector_bytes eta eta u1 in
-    let S2 = vector_bytes eta eta s2 in
-    let U2 = vector_bytes eta eta u2 in
-    let a = vector-length l eta eta s1 p.first in
-    let b = vector-length l eta eta u1 q.first in
-    let d = vector-length k eta eta s2 p.second in
-    let e = vector-length k eta eta u2 q.second in
-    let m : length (rho ++ key) ≡ 64 = length-append rho key ∙ rw (p.seed, p.private_seed) refl in
-    let n : length (seed ++ other) ≡ 64 = length-append seed other ∙ rw (q.seed, q.private_seed) refl in
-    let m' : length (rho ++ key ++ tr) ≡ 128 = length-append (rho ++ key) tr ∙ rw (m, p.hash) refl in
-    let n' : length (seed ++ other ++ hash) ≡ 128 = length-append (seed ++ other) hash ∙ rw (n, q.hash) refl in
-    let f : length (rho ++ key ++ tr ++ S1) ≡ 128 + c * l = length-append (rho ++ key ++ tr) S1 ∙ rw (m', a) refl in
-    let g : length (seed ++ other ++ hash ++ U1) ≡ 128 + c * l = length-append (seed ++ other ++ hash) U1 ∙ rw (n', b) refl in
-    let f' : length (rho ++ key ++ tr ++ S1 ++ S2) ≡ 128 + c * l + c * k = length-append (rho ++ key ++ tr ++ S1) S2 ∙ rw (f, d) refl in
-    let g' : length (seed ++ other ++ hash ++ U1 ++ U2) ≡ 128 + c * l + c * k = length-append (seed ++ other ++ hash ++ U1) U2 ∙ rw (g, e) refl in
-    let one = cut (rho ++ key ++ tr ++ S1 ++ S2) (seed ++ other ++ hash ++ U1 ++ U2) (vector_bytes 4095 4096 t0) (vector_bytes 4095 4096 v0) (128 + c * l + c * k) f' g' same in
-    let two = cut (rho ++ key ++ tr ++ S1) (seed ++ other ++ hash ++ U1) S2 U2 (128 + c * l) f g one.0 in
-    let three = cut (rho ++ key ++ tr) (seed ++ other ++ hash) S1 U1 128 m' n' two.0 in
-    let four = cut (rho ++ key) (seed ++ other) tr hash 64 m n three.0 in
-    let five = cut rho seed key other 32 p.seed q.seed four.0 in (
-      five.0,
-      five.1,
-      four.1,
-      same_vector l l eta eta s1 u1 (high, low, high) (p.first.rows ∙ sym q.first.rows) p.first q.first three.1,
-      same_vector k k eta eta s2 u2 (high, low, high) (p.second.rows ∙ sym q.second.rows) p.second q.second two.1,
-      same_vector k k 4095 4096 t0 v0 (omega arith, omega arith, omega arith) (p.low.rows ∙ sym q.low.rows) p.low q.low one.1,
-    )
+    let S1 = vector_bytes eta eta sk.s1 in
+    let U1 = vector_bytes eta eta other.s1 in
+    let S2 = vector_bytes eta eta sk.s2 in
+    let U2 = vector_bytes eta eta other.s2 in
+    let a = vector-length l eta eta sk.s1 p.parts.s1 in
+    let b = vector-length l eta eta other.s1 q.parts.s1 in
+    let d = vector-length k eta eta sk.s2 p.parts.s2 in
+    let e = vector-length k eta eta other.s2 q.parts.s2 in
+    let m : length (sk.rho ++ sk.key) ≡ 64 = length-append sk.rho sk.key ∙ rw (p.parts.rho, p.parts.key) refl in
+    let n : length (other.rho ++ other.key) ≡ 64 = length-append other.rho other.key ∙ rw (q.parts.rho, q.parts.key) refl in
+    let m' : length (sk.rho ++ sk.key ++ sk.tr) ≡ 128 = length-append (sk.rho ++ sk.key) sk.tr ∙ rw (m, p.parts.tr) refl in
+    let n' : length (other.rho ++ other.key ++ other.tr) ≡ 128 = length-append (other.rho ++ other.key) other.tr ∙ rw (n, q.parts.tr) refl in
+    let f : length (sk.rho ++ sk.key ++ sk.tr ++ S1) ≡ 128 + c * l = length-append (sk.rho ++ sk.key ++ sk.tr) S1 ∙ rw (m', a) refl in
+    let g : length (other.rho ++ other.key ++ other.tr ++ U1) ≡ 128 + c * l = length-append (other.rho ++ other.key ++ other.tr) U1 ∙ rw (n', b) refl in
+    let f' : length (sk.rho ++ sk.key ++ sk.tr ++ S1 ++ S2) ≡ 128 + c * l + c * k = length-append (sk.rho ++ sk.key ++ sk.tr ++ S1) S2 ∙ rw (f, d) refl in
+    let g' : length (other.rho ++ other.key ++ other.tr ++ U1 ++ U2) ≡ 128 + c * l + c * k = length-append (other.rho ++ other.key ++ other.tr ++ U1) U2 ∙ rw (g, e) refl in
+    let one = cut (sk.rho ++ sk.key ++ sk.tr ++ S1 ++ S2) (other.rho ++ other.key ++ other.tr ++ U1 ++ U2) (vector_bytes 4095 4096 sk.t0) (vector_bytes 4095 4096 other.t0)
+    (128 + c * l + c * k) f' g' same in
+    let two = cut (sk.rho ++ sk.key ++ sk.tr ++ S1) (other.rho ++ other.key ++ other.tr ++ U1) S2 U2 (128 + c * l) f g one.0 in
+    let three = cut (sk.rho ++ sk.key ++ sk.tr) (other.rho ++ other.key ++ other.tr) S1 U1 128 m' n' two.0 in
+    let four = cut (sk.rho ++ sk.key) (other.rho ++ other.key) sk.tr other.tr 64 m n three.0 in
+    let five = cut sk.rho other.rho sk.key other.key 32 p.parts.rho q.parts.rho four.0 in
+    same_private sk.rho other.rho sk.key other.key sk.tr other.tr sk.s1 other.s1 sk.s2 other.s2 sk.t0 other.t0 five.0 five.1 four.1
+    (same_vector l l eta eta sk.s1 other.s1 (high, low, high) (p.parts.s1.rows ∙ sym q.parts.s1.rows) p.parts.s1 q.parts.s1 three.1)
+    (same_vector k k eta eta sk.s2 other.s2 (high, low, high) (p.parts.s2.rows ∙ sym q.parts.s2.rows) p.parts.s2 q.parts.s2 two.1)
+    (same_vector k k 4095 4096 sk.t0 other.t0 (omega arith, omega arith, omega arith) (p.parts.t0.rows ∙ sym q.parts.t0.rows) p.parts.t0 q.parts.t0 one.1)
+  where
+    same_private : (rho rho' key key' tr tr' : List ℕ) (s1 s1' s2 s2' t0 t0' : List R) → rho ≡ rho' → key ≡ key' → tr ≡ tr' → s1 ≡ s1' → s2 ≡ s2' → t0 ≡ t0'
+        → Path PrivateParts record { rho = rho; key = key; tr = tr; s1 = s1; s2 = s2; t0 = t0 } record { rho = rho'; key = key'; tr = tr'; s1 = s1'; s2 = s2'; t0 = t0' }
+    same_private rho rho' key key' tr tr' s1 s1' s2 s2' t0 t0' e f g h i j = cc

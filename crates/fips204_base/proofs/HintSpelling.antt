@@ -1,14 +1,14 @@
 -- The places of ones, and what the spelling of a hint says piece by piece: each hint has one, and bytes spell at most one.
 use Rattle.std.proofs.Common.{ℕ, ℤ, pos, zero, suc, ◌+◌, ◌-◌, ◌<◌, ◌≤◌, ◌≤ℤ◌, ◌≡◌, List, [], ◌∷◌, ◌++◌, Bool, true, false, get_or, set, length, take, drop, refl, ap, sym, ◌∙◌, arith, append-nil, append_assoc, length-append, cond, inl, inr, int_lt, add-one, add-zero, get_or-take, get_or-drop, length-drop}
-use Rattle.std.specs.List.{All, range_with_len, flat_map}
+use Rattle.std.specs.List.{All, filter, range_with_len}
 use Rattle.std.specs.Prelude.{replicate}
 use Rattle.std.proofs.lemmas.List.{take_more_set, drop-set-lt, drop-drop, map-id, get_or-set_same, get_or-set_other, get_or_append_left, get_or_at, get_or-replicate, get_or_past, length-replicate, take_at, drop_at, take_more, take_all, take-append-drop, drop-take, take-take, take-set-le, get_or-append_right, length-take-le, length-map, same_from_push, ext_get_or}
 use Rattle.std.proofs.lemmas.List.FromFn.{filter_of_map_range_with_len_more, get_or-map-range_with_len, length-range_with_len}
 use Rattle.std.proofs.lemmas.List.Elements.{All-set, All-replicate, All-nil, All-push, All-weaker, All-get_or, All-same}
 use Rattle.std.proofs.lemmas.Bool.{cases_lt, cases_Bool}
-use Rattle.fips204_base.specs.Network.{running_totals}
+use Rattle.fips204_base.specs.Network.{ones_below, ones, running_totals}
 use Rattle.fips204_base.specs.declared.types.R.{R}
-use Rattle.fips204_base.specs.Encodings.{is_one, ones_below, ones, all_ones, hint_bytes, Spells}
+use Rattle.fips204_base.specs.Encodings.{is_one, all_ones, hint_bytes, Spells}
 use Rattle.fips204_base.specs.Packing.{PolynomialInRange}
 use Rattle.std.proofs.lemmas.List.Concat.{flat_map-append}
 use Rattle.std.proofs.lemmas.Grind.{same_number_lists}
@@ -207,23 +207,35 @@ spelling o h y size p =
     (λ k l. get_or-drop o y k 0 ∙ p.totals k (omega (arith, left, size, l)) ∙ sym (running_total h k (omega (arith, left, size, l)))) in
     ap (λ l. (all_ones h ++ replicate (o - length (all_ones h)) 0) ++ l) (sym rest) ∙ ap (λ l. l ++ drop o y) (sym p.places) ∙ take-append-drop o y
 
+-- the ones of no polynomial, of one, and of some after others
+pub all_ones-none : all_ones [] ≡ []
+unfolding all_ones
+all_ones-none = refl
+
+all_ones-one : (w : R) → all_ones (w ∷ []) ≡ ones w
+unfolding all_ones ones_below
+all_ones-one w = append-nil (filter (is_one w) (range_with_len 0 256))
+
+all_ones-append : (g h : List R) → all_ones (g ++ h) ≡ all_ones g ++ all_ones h
+unfolding all_ones
+all_ones-append g h = flat_map-append (λ w. filter (is_one w) (range_with_len 0 256)) g h
+
 -- the ones of one polynomial more
 pub ones_more : (h : List R) (i : ℕ) (d : R) → i < length h → all_ones (take (i + 1) h) ≡ all_ones (take i h) ++ ones (get_or h i d)
 ones_more h i d l =
-    ap (flat_map ones) (take_more h i d l) ∙ flat_map-append ones (take i h) (get_or h i d ∷ [])
-    ∙ ap (λ w. all_ones (take i h) ++ w) (append-nil (ones_below (get_or h i d) 256))
+    ap all_ones (take_more h i d l) ∙ all_ones-append (take i h) (get_or h i d ∷ []) ∙ ap (λ w. all_ones (take i h) ++ w) (all_ones-one (get_or h i d))
 
 pub total_more : (h : List R) (i : ℕ) (d : R) → i < length h → length (all_ones (take (i + 1) h)) ≡ length (all_ones (take i h)) + length (ones (get_or h i d))
 total_more h i d l = ap length (ones_more h i d l) ∙ length-append (all_ones (take i h)) (ones (get_or h i d))
 
 pub total_le : (h : List R) (i : ℕ) → length (all_ones (take i h)) ≤ length (all_ones h)
 total_le h i =
-    let e : all_ones h ≡ all_ones (take i h) ++ all_ones (drop i h) = ap (flat_map ones) (sym (take-append-drop i h)) ∙ flat_map-append ones (take i h) (drop i h) in
+    let e : all_ones h ≡ all_ones (take i h) ++ all_ones (drop i h) = ap all_ones (sym (take-append-drop i h)) ∙ all_ones-append (take i h) (drop i h) in
     let l = ap length e ∙ length-append (all_ones (take i h)) (all_ones (drop i h)) in
     omega (arith, l)
 
 pub before_is : (o : ℕ) (h : List R) (y : List ℕ) (i : ℕ) → Pieces o h y → i ≤ length h → before o y i ≡ length (all_ones (take i h))
-before_is o h y zero p l = refl
+before_is o h y zero p l = sym (ap length all_ones-none)
 before_is o h y (suc i) p l = p.totals i (omega arith) ∙ ap (λ n. length (all_ones (take n h))) (add-one i)
 
 -- the totals rise up to omega
@@ -250,7 +262,7 @@ piece o h y i p l =
     let b = p.totals i l in
     let m = total_more h i R0 l in
     let all : all_ones h ≡ (all_ones (take i h) ++ ones (get_or h i R0)) ++ all_ones (drop (i + 1) h) =
-    ap (flat_map ones) (sym (take-append-drop (i + 1) h)) ∙ flat_map-append ones (take (i + 1) h) (drop (i + 1) h) ∙ ap (λ x. x ++ all_ones (drop (i + 1) h)) (ones_more h i R0 l) in
+    ap all_ones (sym (take-append-drop (i + 1) h)) ∙ all_ones-append (take (i + 1) h) (drop (i + 1) h) ∙ ap (λ x. x ++ all_ones (drop (i + 1) h)) (ones_more h i R0 l) in
     let whole = sym (take-append-drop o y)
     ∙ ap (λ x. x ++ drop o y) (p.places ∙ ap (λ x. x ++ replicate (o - length (all_ones h)) 0) all)
     ∙ regroup (all_ones (take i h)) (ones (get_or h i R0)) (all_ones (drop (i + 1) h)) (replicate (o - length (all_ones h)) 0) (drop o y) in
@@ -294,8 +306,8 @@ take_join m n y l =
 pub one_more : (h : List R) (y : List ℕ) (i index end : ℕ) (w : R) → i < length h → index ≤ end → take index y ≡ all_ones (take i h)
     → take (end - index) (drop index y) ≡ ones w → take end y ≡ all_ones (take (i + 1) (set h i w))
 one_more h y i index end w l le so_far here =
-    take_join index end y le ∙ ap (λ x. x ++ take (end - index) (drop index y)) so_far ∙ ap (λ x. all_ones (take i h) ++ x) (here ∙ sym (append-nil (ones w)))
-    ∙ sym (flat_map-append ones (take i h) (w ∷ [])) ∙ ap (flat_map ones) (sym (take_more_set h i w l))
+    take_join index end y le ∙ ap (λ x. x ++ take (end - index) (drop index y)) so_far ∙ ap (λ x. all_ones (take i h) ++ x) (here ∙ sym (all_ones-one w))
+    ∙ sym (all_ones-append (take i h) (w ∷ [])) ∙ ap all_ones (sym (take_more_set h i w l))
 
 pub totals_more : (h : List R) (y : List ℕ) (o i end : ℕ) (w : R) → i < length h → o + i < length y → end ≡ get_or y (o + i) 0 → end ≤ length y → take end y ≡ all_ones (take (i + 1) (set h i w))
     → ((k : ℕ) → k < i → get_or y (o + k) 0 ≡ length (all_ones (take (k + 1) h)))

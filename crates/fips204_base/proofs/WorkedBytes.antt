@@ -6,7 +6,7 @@ use Rattle.std.specs.List.{range_with_len}
 use Rattle.fips204_base.specs.declared.types.R.{R}
 use Rattle.fips204_base.specs.Streams.{counter_block, counter_blocks}
 use Rattle.fips204_base.specs.Vectors.{polynomial_of}
-use Rattle.fips204_base.specs.Encodings.{is_one, ones_below, hint_bytes, Spells}
+use Rattle.fips204_base.specs.Encodings.{is_one, all_ones, hint_bytes, Spells}
 use Rattle.fips204_base.proofs.HintSpelling.{pieces, totals_rise, piece_rises, zero_rest}
 
 -- Worked values of the definitions in specs/Packing.antt.
@@ -89,7 +89,7 @@ example : List R
 example = polynomial_of (λ n. if nat_eq n 5 then pos 1 else pos 0) ∷ polynomial_of (λ _. pos 0) ∷ polynomial_of (λ n. if nat_eq n 0 || nat_eq n 255 then pos 1 else pos 0) ∷ polynomial_of (λ _. pos 0) ∷ []
 
 spelling_of_example : hint_bytes 80 example ≡ 0x05 ∷ 0x00 ∷ 0xFF ∷ replicate 77 0 ++ 1 ∷ 1 ∷ 3 ∷ 3 ∷ []
-unfolding example polynomial_of is_one ones_below
+unfolding example polynomial_of is_one all_ones
 spelling_of_example = refl
 
 -- ---- bytes that spell no hint

@@ -10,17 +10,9 @@ use Rattle.fips204_base.specs.declared.types.R.{R}
 unfoldable pub is_one : R → ℕ → Bool
 is_one w n = int_lt (pos 0) (slice_index_or w.0 n (pos 0))
 
--- the places below n that have a one, rising
-unfoldable pub ones_below : R → ℕ → List ℕ
-ones_below w n = filter (is_one w) (range_with_len 0 n)
-
--- the places that have a one, rising
-abbrev pub ones : R → List ℕ
-ones w = ones_below w 256
-
--- the places of all ones, polynomial by polynomial
-abbrev pub all_ones : List R → List ℕ
-all_ones h = flat_map (λ w. ones_below w 256) h
+-- the places of all ones, polynomial by polynomial and rising in each
+unfoldable pub all_ones : List R → List ℕ
+all_ones h = flat_map (λ w. filter (is_one w) (range_with_len 0 256)) h
 
 -- HintBitPack (Algorithm 20): the places of all ones, zeros up to byte omega, and for each polynomial how many ones there are up to
 -- its end
@@ -50,23 +42,55 @@ IsGamma1 gamma1 = (gamma1 ≡ pos 131072) ⊎ (gamma1 ≡ pos 524288)
 abbrev pub vector_bytes : ℕ → ℕ → List R → List ℕ
 vector_bytes a b v = flat_map (λ w. packed (width (pos a) (pos b)) (map (field (pos a) (pos b)) w.0)) v
 
+-- a public key: the seed of its matrix, the hash of its bytes, and the high part of its vector t
+pub record PublicParts : Type 0 where
+  pub rho : List ℕ
+  pub tr : List ℕ
+  pub t1 : List R
+
+-- the parts have the lengths and ranges of a public key of k polynomials
+pub record ArePublicParts (k : ℕ) (pk : PublicParts) : Type 0 where
+  pub rho : length pk.rho ≡ 32
+  pub tr : length pk.tr ≡ 64
+  pub t1 : IsVector k 0 1023 pk.t1
+
 -- pkEncode (Algorithm 22): rho, t1
 abbrev pub public_key_bytes : List ℕ → List R → List ℕ
 public_key_bytes rho t1 = rho ++ vector_bytes 0 1023 t1
 
--- skEncode (Algorithm 24): rho, K, tr, s1, s2, t0
-abbrev pub private_key_bytes : ℕ → List ℕ → List ℕ → List ℕ → List R → List R → List R → List ℕ
-private_key_bytes eta rho key tr s1 s2 t0 = rho ++ key ++ tr ++ vector_bytes eta eta s1 ++ vector_bytes eta eta s2 ++ vector_bytes 4095 4096 t0
+-- pkDecode (Algorithm 23): the parts in range that have these bytes, with their hash over the stream H
+pub record IsPublicKeyOf (H : List ℕ → List ℕ) (k : ℕ) (bytes : List ℕ) (pk : PublicParts) : Type 0 where
+  pub parts : ArePublicParts k pk
+  pub encoding : public_key_bytes pk.rho pk.t1 ≡ bytes
+  pub tr : pk.tr ≡ take 64 (H bytes)
 
--- skDecode (Algorithm 25): the parts whose encoding the bytes are; there are none where an s1 or s2 is out of its range
-pub record IsPrivateKey (eta k l : ℕ) (bytes rho key tr : List ℕ) (s1 s2 t0 : List R) : Type 0 where
-  pub seed : length rho ≡ 32
-  pub private_seed : length key ≡ 32
-  pub hash : length tr ≡ 64
-  pub first : IsVector l eta eta s1
-  pub second : IsVector k eta eta s2
-  pub low : IsVector k 4095 4096 t0
-  pub encoding : private_key_bytes eta rho key tr s1 s2 t0 ≡ bytes
+-- a private key: the seed of its matrix, the seed K of its masks, the hash of the public key's bytes, its two small
+-- vectors, and the low part of its vector t
+pub record PrivateParts : Type 0 where
+  pub rho : List ℕ
+  pub key : List ℕ
+  pub tr : List ℕ
+  pub s1 : List R
+  pub s2 : List R
+  pub t0 : List R
+
+-- the parts have the lengths and ranges of a private key whose matrix has k rows and l columns
+pub record ArePrivateParts (eta k l : ℕ) (sk : PrivateParts) : Type 0 where
+  pub rho : length sk.rho ≡ 32
+  pub key : length sk.key ≡ 32
+  pub tr : length sk.tr ≡ 64
+  pub s1 : IsVector l eta eta sk.s1
+  pub s2 : IsVector k eta eta sk.s2
+  pub t0 : IsVector k 4095 4096 sk.t0
+
+-- skEncode (Algorithm 24): rho, K, tr, s1, s2, t0
+abbrev pub private_key_bytes : ℕ → PrivateParts → List ℕ
+private_key_bytes eta sk = sk.rho ++ sk.key ++ sk.tr ++ vector_bytes eta eta sk.s1 ++ vector_bytes eta eta sk.s2 ++ vector_bytes 4095 4096 sk.t0
+
+-- skDecode (Algorithm 25): the parts in range that have these bytes; there are none where an s1 or s2 is out of its range
+pub record IsPrivateKeyOf (eta k l : ℕ) (bytes : List ℕ) (sk : PrivateParts) : Type 0 where
+  pub parts : ArePrivateParts eta k l sk
+  pub encoding : private_key_bytes eta sk ≡ bytes
 
 -- sigEncode (Algorithm 26): c_tilde, z, and the spelling of the hint
 abbrev pub signature_bytes : ℕ → ℕ → List ℕ → List R → List R → List ℕ

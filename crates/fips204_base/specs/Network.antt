@@ -1,7 +1,7 @@
 -- Butterflies, layers and lanes by place, what a sampler's loop keeps, and parts of definitions: cited by no public clause; nobody has to believe it.
 use Rattle.std.specs.Prelude.{◌≡◌, ℕ, ◌+◌, ◌*◌, ◌-◌, ◌%◌, ◌<◌, ◌≤◌, ℤ, pos, ◌-ℤ◌, neg_ℤ, nat_abs, List, [], ◌∷◌, slice_index_or, ◌++◌, take, length, map, Option, nat_eq, if◌then◌else◌}
-use Rattle.std.specs.List.{range_with_len}
-use Rattle.fips204_base.specs.Encodings.{all_ones}
+use Rattle.std.specs.List.{filter, range_with_len}
+use Rattle.fips204_base.specs.Encodings.{is_one, all_ones}
 use Rattle.fips204_base.specs.Lanes.{lane, lane_at}
 use Rattle.fips204_base.specs.Packing.{width}
 use Rattle.fips204_base.specs.Residues.{residue, centred_modulo, coefficients, IsCongruent}
@@ -97,6 +97,14 @@ product_difference l a z c t r = minus (matrix_product l a (vector_coefficients 
 -- r - r0, where r0 is r centred modulo 2 gamma2: the multiple of 2 gamma2 that is nearest to r
 abbrev pub nearest_multiple : ℕ → ℕ → ℕ
 nearest_multiple gamma2 r = nat_abs (pos r -ℤ centred_modulo (2 * gamma2) r)
+
+-- the places below n of a polynomial that have a one, rising
+unfoldable pub ones_below : R → ℕ → List ℕ
+ones_below w n = filter (is_one w) (range_with_len 0 n)
+
+-- all its places that have a one
+abbrev pub ones : R → List ℕ
+ones w = ones_below w 256
 
 -- for each polynomial of a hint, how many ones there are up to its end
 abbrev pub running_totals : List R → List ℕ

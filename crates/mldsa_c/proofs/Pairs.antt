@@ -6,12 +6,13 @@ use Rattle.fips204_base.specs.declared.fault.Fault.TheVariants.{KeyGenRng, SignC
 use Rattle.fips204.specs.Acceptance.{Verifies}
 use Rattle.fips204.specs.Completeness.{SignedIsAccepted, IsPair}
 use Rattle.fips204.specs.Framing.{plain, hashed}
-use Rattle.fips204.specs.Keys.{PublicParts, PrivateParts, DecodesPrivate, IsPrivateKeyOf, IsPublicKeyOf, IsWhole, TellsWhole}
+use Rattle.fips204_base.specs.Encodings.{PublicParts, PrivateParts, IsPrivateKeyOf, IsPublicKeyOf, private_key_bytes}
+use Rattle.fips204.specs.Keys.{DecodesPrivate, IsWhole, TellsWhole}
 use Rattle.fips204.specs.ParameterSets.{ParameterSet, is_parameter_set}
 use Rattle.fips204.specs.Refusals.{generated, derived, sign_message, sign_digest, VerifiesMessage, VerifiesDigest}
 use Rattle.fips204.specs.Signing.{sign}
 use Rattle.fips204_shake.specs.Fronts.{shake256_front, shake128_front, length-shake256_front}
-use Rattle.mldsa_c.specs.Calls.{bytes_of_public, bytes_of_private, WritesPair, Generates, WritesPublic, TellsPrivate, TellsWholeness, WritesSignature, TellsVerdict}
+use Rattle.mldsa_c.specs.Calls.{bytes_of_public, WritesPair, Generates, WritesPublic, TellsPrivate, TellsWholeness, WritesSignature, TellsVerdict}
 use Rattle.mldsa_c.specs.Pairs.{PairsAcceptWritten, PairsBelong}
 use Rattle.mldsa_c.specs.Statuses.{status_of, verdict_status, Leaves, Writes}
 
@@ -55,7 +56,7 @@ yes false t = absurd cc
 made : (p : ParameterSet) (seed public public' private private' : List ℕ) (status : ℕ) → status ≡ 0
     → Generates p seed public public' private private' status
     → (pair : PublicParts × PrivateParts) × (generated p shake256_front shake128_front seed ≡ Ok pair)
-    × ((public' ≡ bytes_of_public pair.0) × (private' ≡ bytes_of_private p pair.1) × (status ≡ 0))
+    × ((public' ≡ bytes_of_public pair.0) × (private' ≡ private_key_bytes p.eta pair.1) × (status ≡ 0))
 made p seed public public' private private' status zero done =
     let pair : WritesPair p seed public public' private private' status = chosen _ done (λ (_, (_, two)). not_two status zero two) in
     answered _ _ _ pair (λ e (_, (_, is)). not_done e (sym zero ∙ is))
@@ -90,7 +91,7 @@ judged_yes p key accepts status fits judged not_wrong all =
 
 -- a pair's bytes: what the private key signs, where the pair's public key accepts it, is judged yes
 pair_yes : (p : ParameterSet) (pk : PublicParts) (sk : PrivateParts) (public private : List ℕ) → IsPair p shake256_front shake128_front pk sk
-    → public ≡ bytes_of_public pk → private ≡ bytes_of_private p sk
+    → public ≡ bytes_of_public pk → private ≡ private_key_bytes p.eta sk
     → (signs : PrivateParts → Result (List ℕ) Fault) (accepts : List ℕ → PublicParts → Type 0) → ((signature : List ℕ) → signs sk ≡ Ok signature → accepts signature pk)
     → (old signature : List ℕ) (fits fits' : Bool) (status : ℕ)
     → MatchBool fits (WritesSignature p private signs old signature 0) (Leaves 2 old signature 0)

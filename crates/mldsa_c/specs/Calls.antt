@@ -1,10 +1,10 @@
 -- What the exported calls do with arrays of any length: FIPS 204 over SHAKE256 and SHAKE128. A last status is the answer.
 use Rattle.std.specs.Prelude.{◌≡◌, ◌≤◌, ◌↔◌, ◌*◌, ℕ, Bool, ◌&&◌, IsTrue, MatchBool, List, length, nat_eq, Result, Ok, MatchResult, MatchOption}
 use Rattle.fips204_base.specs.declared.fault.Fault.{Fault}
-use Rattle.fips204_base.specs.Encodings.{public_key_bytes, private_key_bytes}
+use Rattle.fips204_base.specs.Encodings.{PublicParts, PrivateParts, IsPublicKeyOf, public_key_bytes, private_key_bytes}
 use Rattle.fips204.specs.Acceptance.{Verifies}
 use Rattle.fips204.specs.Framing.{pre_hash_fault}
-use Rattle.fips204.specs.Keys.{PublicParts, PrivateParts, IsPublicKeyOf, DecodesPrivate, TellsWhole}
+use Rattle.fips204.specs.Keys.{DecodesPrivate, TellsWhole}
 use Rattle.fips204.specs.ParameterSets.{ParameterSet, public_key_length, private_key_length, signature_length}
 use Rattle.fips204.specs.Refusals.{generated, derived, sign_message, sign_digest, VerifiesMessage, VerifiesDigest}
 use Rattle.fips204.specs.Signing.{sign}
@@ -21,9 +21,6 @@ AreSmall rows columns public private signature = (rows ≤ 8) × (columns ≤ 7)
 abbrev pub bytes_of_public : PublicParts → List ℕ
 bytes_of_public pk = public_key_bytes pk.rho pk.t1
 
-abbrev pub bytes_of_private : ParameterSet → PrivateParts → List ℕ
-bytes_of_private p sk = private_key_bytes p.eta sk.rho sk.key sk.tr sk.s1 sk.s2 sk.t0
-
 -- the private key that has these bytes is used, or refused where no key has them
 abbrev pub WithPrivate : ParameterSet → List ℕ → (PrivateParts → Type 0) → (Fault → Type 0) → Type 0
 WithPrivate p key uses refuses = (decoded : Result PrivateParts Fault) × DecodesPrivate p.eta p.k p.l key decoded × MatchResult decoded uses refuses
@@ -32,7 +29,7 @@ WithPrivate p key uses refuses = (decoded : Result PrivateParts Fault) × Decode
 abbrev pub WritesPair : ParameterSet → List ℕ → List ℕ → List ℕ → List ℕ → List ℕ → ℕ → Type 0
 WritesPair p seed public public' private private' status =
     MatchResult (generated p shake256_front shake128_front seed)
-    (λ pair. (public' ≡ bytes_of_public pair.0) × (private' ≡ bytes_of_private p pair.1) × (status ≡ 0))
+    (λ pair. (public' ≡ bytes_of_public pair.0) × (private' ≡ private_key_bytes p.eta pair.1) × (status ≡ 0))
     (λ fault. (public' ≡ public) × Leaves (status_of fault) private private' status)
 
 abbrev pub Generates : ParameterSet → List ℕ → List ℕ → List ℕ → List ℕ → List ℕ → ℕ → Type 0

@@ -8,7 +8,8 @@ use Rattle.std.specs.declared.option.Option.{Option}
 use Rattle.fips204.specs.fault.Fault.{Fault}
 use Rattle.fips204.specs.fault.Fault.TheVariants.{SamplingLimit}
 use Rattle.fips204.specs.Framing.{plain}
-use Rattle.fips204.specs.Keys.{PublicParts, PrivateParts, IsPublicKeyOf, DecodesPrivate}
+use Rattle.fips204.specs.Encodings.{PublicParts, PrivateParts, IsPublicKeyOf}
+use Rattle.fips204.specs.Keys.{DecodesPrivate}
 use Rattle.fips204.specs.Sampling.{sampled_matrix}
 use Rattle.fips204.specs.ParameterSets.{ParameterSet, signature_length}
 use Rattle.fips204.specs.Prepared.{PreparedPublic, prepared_public, PreparedAnswersAsPlain}

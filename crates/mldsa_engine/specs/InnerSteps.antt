@@ -1,6 +1,6 @@
 -- What private functions of the program state of each other: cited by no public clause; nobody has to believe it.
 use Rattle.std.specs.Prelude.{ℕ, List, Option, Result, MatchResult, Bool}
-use Rattle.fips204.specs.Keys.{PublicParts, IsPublicKeyOf}
+use Rattle.fips204.specs.Encodings.{PublicParts, IsPublicKeyOf}
 use Rattle.fips204.specs.ParameterSets.{ParameterSet, signature_length}
 use Rattle.fips204.specs.Prepared.{PreparedPublic, VerifiesMessagePrepared}
 use Rattle.fips204.specs.Refusals.{VerifiesMessage}

@@ -4,9 +4,9 @@ use Rattle.std.specs.List.{flat_map}
 use Rattle.std.specs.Io.KnownBytes.{Appends}
 use Rattle.hex.specs.Hex.{encode_lower}
 use Rattle.fips204.specs.fault.Fault.{Fault}
-use Rattle.fips204.specs.Encodings.{public_key_bytes, private_key_bytes}
+use Rattle.fips204.specs.Encodings.{PublicParts, IsPublicKeyOf, public_key_bytes, private_key_bytes}
 use Rattle.fips204.specs.Faults.{words}
-use Rattle.fips204.specs.Keys.{PublicParts, IsPublicKeyOf, DecodesPrivate}
+use Rattle.fips204.specs.Keys.{DecodesPrivate}
 use Rattle.fips204.specs.ParameterSets.{ParameterSet, set_44, set_65, set_87, public_key_length, private_key_length, signature_length}
 use Rattle.fips204.specs.Refusals.{generated, sign_message, VerifiesMessage}
 use Rattle.mldsa_engine.specs.Calls.{first_stream, second_stream, AreCall, AreNoCall}
@@ -99,8 +99,7 @@ TellsOfKey {K} decodes tells output answer = (decoded : Result K Fault) × decod
 -- `keygen`: the public key and the private key of a seed
 abbrev pub Generates : ParameterSet → (List ℕ → List ℕ) → (List ℕ → List ℕ) → List ℕ → List ℕ → Bool → Type 0
 Generates p H G seed output answer =
-    Tells (λ keys. public_key_bytes keys.0.rho keys.0.t1 ∷ private_key_bytes p.eta keys.1.rho keys.1.key keys.1.tr keys.1.s1 keys.1.s2
-    keys.1.t0 ∷ [])
+    Tells (λ keys. public_key_bytes keys.0.rho keys.0.t1 ∷ private_key_bytes p.eta keys.1 ∷ [])
     (generated p H G seed) output answer
 
 -- `sign`: the signature by the private key that has these bytes, or the refusal; that of the bytes stands first

@@ -1,7 +1,6 @@
 -- What is loaded from the file of a key is that key.
 use Rattle.std.proofs.Common.{◌≡◌, inl, inr, ℕ, List, ◌∷◌, length, take, drop, nat_eq, true, Some, None, Ok, Err, refl, sym, ap, ◌∙◌}
 use Rattle.fips204.specs.Completeness.{BytesTellKeys}
-use Rattle.fips204.specs.Keys.{ArePublicParts, ArePrivateParts}
 use Rattle.fips204.specs.ParameterSets.{set_44}
 use Rattle.mldsa_examples.specs.KeyStore.{file_fault, LoadsStored, LoadsStoredPublic}
 use Rattle.mldsa_examples.specs.declared.key_store.LoadFault.{LoadFault}
@@ -14,31 +13,13 @@ not_refused size file rest fault same long itself refused =
     absurd (cc (stands, refused))
 
 pub loads_stored : BytesTellKeys set_44 → LoadsStored
-loads_stored tell sk file (Ok key) parts long same (none, is) =
-    let whole : ArePrivateParts 4 4 key = record {
-      seed = is.seed;
-      private_seed = is.private_seed;
-      hash = is.hash;
-      first = is.first;
-      second = is.second;
-      low = is.low;
-    } in
-    ap Ok (tell.private_keys key sk whole parts (is.encoding ∙ ap (drop 2) same))
+loads_stored tell sk file (Ok key) parts long same (none, is) = ap Ok (tell.private_keys key sk is.parts parts (is.encoding ∙ ap (drop 2) same))
 loads_stored tell sk file (Err fault) parts long same (inl refused) = absurd (not_refused 2562 file _ fault refl long same refused)
-loads_stored tell sk file (Err fault) parts long same (inr (none, range, nobody)) = absurd (nobody sk (record {
-  seed = parts.seed;
-  private_seed = parts.private_seed;
-  hash = parts.hash;
-  first = parts.first;
-  second = parts.second;
-  low = parts.low;
-  encoding = sym (ap (drop 2) same);
-}))
+loads_stored tell sk file (Err fault) parts long same (inr (none, range, nobody)) = absurd (nobody sk (record { parts = parts; encoding = sym (ap (drop 2) same) }))
 
 pub loads_stored_public : BytesTellKeys set_44 → LoadsStoredPublic
 loads_stored_public tell H pk file (Ok key) parts hashed long same (none, is) =
-    let bytes = is.same_bytes ∙ ap (drop 2) same in
-    let hashes = is.hash ∙ ap (λ b. take 64 (H b)) (ap (drop 2) same) ∙ sym hashed in
-    let whole : ArePublicParts 4 key = record { seed = is.seed; hash = ap length hashes ∙ parts.hash; high = is.high } in
-    ap Ok (tell.public_keys key pk whole parts hashes bytes)
+    let bytes = is.encoding ∙ ap (drop 2) same in
+    let hashes = is.tr ∙ ap (λ b. take 64 (H b)) (ap (drop 2) same) ∙ sym hashed in
+    ap Ok (tell.public_keys key pk is.parts parts hashes bytes)
 loads_stored_public tell H pk file (Err fault) parts hashed long same said = absurd (not_refused 1314 file _ fault refl long same said)

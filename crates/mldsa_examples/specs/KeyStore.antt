@@ -1,8 +1,7 @@
 -- The files of a private and of a public key, for an example: a byte of the version, one of the set, and the key's bytes.
 use Rattle.std.specs.Prelude.{◌≡◌, ◌⊎◌, ℕ, List, ◌∷◌, length, take, drop, slice_index, nat_eq, Option, Some, None, Result, Ok, Err, MatchResult, if◌then◌else◌}
-use Rattle.fips204_base.specs.Encodings.{public_key_bytes, private_key_bytes}
+use Rattle.fips204_base.specs.Encodings.{PublicParts, PrivateParts, ArePublicParts, ArePrivateParts, IsPublicKeyOf, IsPrivateKeyOf, public_key_bytes, private_key_bytes}
 use Rattle.fips204_base.specs.declared.fault.Fault.TheVariants.{SamplingLimit}
-use Rattle.fips204.specs.Keys.{PublicParts, PrivateParts, ArePublicParts, ArePrivateParts, IsPublicKeyOf, IsPrivateKeyOf}
 use Rattle.fips204.specs.ParameterSets.{set_44}
 use Rattle.fips204.specs.Refusals.{derived}
 use Rattle.mldsa_examples.specs.declared.key_store.LoadFault.{LoadFault}
@@ -10,7 +9,7 @@ use Rattle.mldsa_examples.specs.declared.key_store.LoadFault.TheVariants.{WrongL
 
 -- the files of two keys: version 1, set 44, and the key's bytes
 abbrev pub file_of : PrivateParts → List ℕ
-file_of sk = 1 ∷ 44 ∷ private_key_bytes 2 sk.rho sk.key sk.tr sk.s1 sk.s2 sk.t0
+file_of sk = 1 ∷ 44 ∷ private_key_bytes 2 sk
 
 abbrev pub public_file_of : PublicParts → List ℕ
 public_file_of pk = 1 ∷ 44 ∷ public_key_bytes pk.rho pk.t1
@@ -57,7 +56,7 @@ ChecksAs H G sk file answer = MatchResult answer
 -- what is loaded from the file of a private key in range is that key
 abbrev pub LoadsStored : Type 0
 LoadsStored =
-    (sk : PrivateParts) (file : List ℕ) (answer : Result PrivateParts LoadFault) → ArePrivateParts 4 4 sk
+    (sk : PrivateParts) (file : List ℕ) (answer : Result PrivateParts LoadFault) → ArePrivateParts 2 4 4 sk
     → length file ≡ 2562 → file ≡ file_of sk → LoadsAs file answer → answer ≡ Ok sk
 
 -- and from that of a public key in range, whose tr is the hash of its bytes, as key generation makes it

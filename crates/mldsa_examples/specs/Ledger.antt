@@ -2,7 +2,8 @@
 use Rattle.std.specs.Prelude.{◌≡◌, ◌⊎◌, ◌<◌, ℕ, ◌+◌, ◌-◌, List, [], ◌∷◌, ◌++◌, length, replicate, slice_index_or, nat_eq, if◌then◌else◌, Result, Ok, Err, MatchResult}
 use Rattle.sha2.specs.Sha256.{sha256}
 use Rattle.fips204_base.specs.declared.fault.Fault.{Fault}
-use Rattle.fips204.specs.Keys.{PublicParts, PrivateParts, IsWhole}
+use Rattle.fips204_base.specs.Encodings.{PublicParts, PrivateParts}
+use Rattle.fips204.specs.Keys.{IsWhole}
 use Rattle.fips204.specs.ParameterSets.{set_44}
 use Rattle.fips204.specs.Prepared.{PreparedPublic, VerifiesMessagePrepared}
 use Rattle.fips204.specs.Refusals.{derived, sign_message, VerifiesMessage}

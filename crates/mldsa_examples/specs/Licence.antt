@@ -1,7 +1,7 @@
 -- What a licence is, for an example.
 use Rattle.std.specs.Prelude.{◌≡◌, ◌≤◌, ◌<◌, ◌^◌, ℕ, List, ◌++◌}
 use Rattle.std.specs.Int.{w32, to_be_bytes}
-use Rattle.fips204.specs.Keys.{PublicParts}
+use Rattle.fips204_base.specs.Encodings.{PublicParts}
 use Rattle.fips204.specs.ParameterSets.{set_44}
 use Rattle.fips204.specs.Refusals.{VerifiesMessage}
 use Rattle.mldsa_examples.specs.declared.licence.Token.{Token}

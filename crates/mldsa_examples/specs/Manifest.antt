@@ -3,7 +3,7 @@ use Rattle.std.specs.Prelude.{◌≡◌, ◌<◌, ◌^◌, ℕ, List, ◌++◌, 
 use Rattle.std.specs.Int.{w64, to_be_bytes}
 use Rattle.std.specs.List.{All, Contains, flat_map}
 use Rattle.sha2.specs.Sha256.{sha256}
-use Rattle.fips204.specs.Keys.{PublicParts}
+use Rattle.fips204_base.specs.Encodings.{PublicParts}
 use Rattle.fips204.specs.ParameterSets.{ParameterSet}
 use Rattle.fips204.specs.Refusals.{VerifiesDigest}
 use Rattle.mldsa_examples.specs.declared.manifest.Entry.{Entry}

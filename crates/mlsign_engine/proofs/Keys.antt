@@ -8,15 +8,15 @@ use Rattle.fips204.specs.fault.Fault.TheVariants.{InternalRng}
 use Rattle.fips204.specs.declared.traits.DummyRng.{DummyRng}
 use Rattle.fips204.specs.Framing.{plain, framed, message_hash}
 use Rattle.fips204.specs.Signing.{sign}
-use Rattle.fips204.specs.Encodings.{public_key_bytes}
+use Rattle.fips204.specs.Encodings.{PublicParts, PrivateParts, ArePrivateParts, IsPublicKeyOf, IsPrivateKeyOf, public_key_bytes, private_key_bytes}
 use Rattle.fips204.specs.Completeness.{SignedIsAccepted, IsPair, AcceptsSigned}
-use Rattle.fips204.specs.Keys.{PublicParts, PrivateParts, ArePrivateParts, IsPublicKeyOf, IsPrivateKeyOf, TellsWhole}
+use Rattle.fips204.specs.Keys.{TellsWhole}
 use Rattle.fips204.specs.ParameterSets.{ParameterSet, is_parameter_set, signature_length}
 use Rattle.fips204.specs.Refusals.{generated, derived, sign_message, Draws}
 use Rattle.fips204_shake.specs.Fronts.{shake256_front, shake128_front, length-shake256_front}
 use Rattle.mlsign_files.specs.Keys.{PrivateParts as FileParts, Seed, Expanded, Both, HasPrivateSizes, private_length}
 use Rattle.mlsign_files.specs.declared.algorithm.Algorithm.{Algorithm}
-use Rattle.mlsign_engine.specs.Commands.{HasKeys, IsValid, expanded_bytes, set_of, IsPublicText, IsPrivateText, Judges, PublishedIsValid, SignedIsValid}
+use Rattle.mlsign_engine.specs.Commands.{HasKeys, IsValid, set_of, IsPublicText, IsPrivateText, Judges, PublishedIsValid, SignedIsValid}
 use Rattle.mlsign_files.specs.Reading.{public_at, private_at}
 use Rattle.mlsign_files.specs.declared.pem.Kind.TheVariants.{Public, Private}
 use Rattle.mlsign_files.proofs.Elements.{ok_is}
@@ -42,7 +42,7 @@ keys_of_seed p law known seed pk sk made =
 
 -- the private key that the bytes of a generated one decode to is that one
 pub keys_of_both : (p : ParameterSet) (law : SignedIsAccepted) → IsTrue (is_parameter_set p) → (seed expanded : List ℕ) (pk : PublicParts) (sk again : PrivateParts)
-    → generated p shake256_front shake128_front seed ≡ Ok (pk, sk) → expanded ≡ expanded_bytes p sk → IsPrivateKeyOf p.eta p.k p.l expanded again
+    → generated p shake256_front shake128_front seed ≡ Ok (pk, sk) → expanded ≡ private_key_bytes p.eta sk → IsPrivateKeyOf p.eta p.k p.l expanded again
     → HasKeys p (Both seed expanded) pk again
 keys_of_both p law known seed expanded pk sk again made same decoded =
     let pair = pair_of_seed p law known seed pk sk made in
@@ -76,7 +76,7 @@ short_context context short =
 
 -- what a key of a file signed
 pub signs_at : (p : ParameterSet) (law : SignedIsAccepted) → IsTrue (is_parameter_set p) → (parts : FileParts) (sk : PrivateParts)
-    (random context message signature mu : List ℕ) (old new : Option (List ℕ)) → ArePrivateParts p.k p.l sk → HasPrivate p parts sk → length context ≤ 255
+    (random context message signature mu : List ℕ) (old new : Option (List ℕ)) → ArePrivateParts p.eta p.k p.l sk → HasPrivate p parts sk → length context ≤ 255
     → GivesAll old new message → mu ≡ message_hash shake256_front sk.tr (framed message context)
     → sign p shake256_front shake128_front sk mu random ≡ Ok signature → length signature ≡ signature_length p
     → SignsAt p parts random context old new signature
@@ -150,22 +150,13 @@ judged_valid algorithm pk public signature context message valid one text judges
     let key : judges.key ≡ pk = one judges.key moved.0 in
     moved.1.1 (subst (λ (k : PublicParts). IsValid (set_of algorithm) k signature context message) (sym key) accepted)
 
-range_of : (algorithm : Algorithm) (bytes : List ℕ) (sk : PrivateParts)
-    → IsPrivateKeyOf (set_of algorithm).eta (set_of algorithm).k (set_of algorithm).l bytes sk → ArePrivateParts (set_of algorithm).k (set_of algorithm).l sk
-range_of MlDsa44 bytes sk has =
-    record { seed = has.seed; private_seed = has.private_seed; hash = has.hash; first = has.first; second = has.second; low = has.low }
-range_of MlDsa65 bytes sk has =
-    record { seed = has.seed; private_seed = has.private_seed; hash = has.hash; first = has.first; second = has.second; low = has.low }
-range_of MlDsa87 bytes sk has =
-    record { seed = has.seed; private_seed = has.private_seed; hash = has.hash; first = has.first; second = has.second; low = has.low }
-
 -- the keys of a file are a pair
 pair_of_file : (law : SignedIsAccepted) (algorithm : Algorithm) (parts : FileParts) (pk : PublicParts) (sk : PrivateParts)
     → HasKeys (set_of algorithm) parts pk sk → IsPair (set_of algorithm) shake256_front shake128_front pk sk
 pair_of_file law algorithm (Seed seed) pk sk keys = pair_of_seed (set_of algorithm) law (known_set algorithm) seed pk sk keys.stands
 pair_of_file law algorithm (Both seed expanded) pk sk keys = pair_of_seed (set_of algorithm) law (known_set algorithm) seed pk sk keys.stands.0
 pair_of_file law algorithm (Expanded expanded) pk sk keys =
-    ((law (set_of algorithm) shake256_front shake128_front pk sk (known_set algorithm) long_fronts).0 (range_of algorithm expanded sk keys.stands.0) keys.whole
+    ((law (set_of algorithm) shake256_front shake128_front pk sk (known_set algorithm) long_fronts).0 keys.stands.0.parts keys.whole
     keys.derives).1 keys.stands.1
 
 same_derived : (p : ParameterSet) (a b : PrivateParts) (x y : PublicParts) → a ≡ b → derived p shake128_front a ≡ Ok x → derived p shake128_front b ≡ Ok y → x ≡ y
@@ -182,7 +173,7 @@ one_public law algorithm (Seed seed) x y a b first second = same_generated (set_
 one_public law algorithm (Both seed expanded) x y a b first second = same_generated (set_of algorithm) seed a b x y first.stands.0 second.stands.0
 one_public law algorithm (Expanded expanded) x y a b first second =
     let p = set_of algorithm in
-    let moved : IsPrivateKeyOf p.eta p.k p.l (expanded_bytes p b) a =
+    let moved : IsPrivateKeyOf p.eta p.k p.l (private_key_bytes p.eta b) a =
     subst (λ (bytes : List ℕ). IsPrivateKeyOf p.eta p.k p.l bytes a) (sym second.stands.0.encoding) first.stands.0 in
     same_derived p a b x y (((pair_of_file law algorithm (Expanded expanded) y b second).private_decoded a).0 moved) first.derives second.derives
 

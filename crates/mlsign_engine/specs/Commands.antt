@@ -1,7 +1,7 @@
 -- What the commands answer, by the files that they are given and the message that is read.
 use Rattle.std.specs.Prelude.{◌≡◌, ◌↔◌, ◌⊎◌, ℕ, List, length, take, Bool, IsTrue, Result, Ok, Err}
-use Rattle.fips204.specs.Encodings.{public_key_bytes, private_key_bytes}
-use Rattle.fips204.specs.Keys.{PublicParts, PrivateParts, IsPublicKeyOf, IsPrivateKeyOf, IsWhole}
+use Rattle.fips204.specs.Encodings.{PublicParts, PrivateParts, IsPublicKeyOf, IsPrivateKeyOf, public_key_bytes, private_key_bytes}
+use Rattle.fips204.specs.Keys.{IsWhole}
 use Rattle.fips204.specs.ParameterSets.{ParameterSet, set_44, set_65, set_87, signature_length}
 use Rattle.fips204.specs.Refusals.{generated, derived, sign_message, VerifiesMessage}
 use Rattle.fips204_shake.specs.Fronts.{shake256_front, shake128_front}
@@ -68,16 +68,12 @@ pub record IsPrivateText (text : List ℕ) (algorithm : Algorithm) (parts : File
   pub spelled : IsPem text Private der
   pub file : IsPrivateFile der algorithm parts
 
--- the bytes of a private key
-abbrev pub expanded_bytes : ParameterSet → PrivateParts → List ℕ
-expanded_bytes p sk = private_key_bytes p.eta sk.rho sk.key sk.tr sk.s1 sk.s2 sk.t0
-
 -- these keys are what a private key in a file stands for: what its seed generates, whose bytes an expanded key beside it is; or
 -- what an expanded key alone decodes to, with the hash of the public key's bytes in it
 abbrev pub StandsFor : ParameterSet → FileParts → PublicParts → PrivateParts → Type 0
 StandsFor p (Seed seed) pk sk = generated p shake256_front shake128_front seed ≡ Ok (pk, sk)
 StandsFor p (Expanded expanded) pk sk = IsPrivateKeyOf p.eta p.k p.l expanded sk × (sk.tr ≡ take 64 (shake256_front (public_key_bytes pk.rho pk.t1)))
-StandsFor p (Both seed expanded) pk sk = (generated p shake256_front shake128_front seed ≡ Ok (pk, sk)) × (expanded ≡ expanded_bytes p sk)
+StandsFor p (Both seed expanded) pk sk = (generated p shake256_front shake128_front seed ≡ Ok (pk, sk)) × (expanded ≡ private_key_bytes p.eta sk)
 
 -- these keys are those of a file, and consistent: the private one is whole, and the public one derived of it
 pub record HasKeys (p : ParameterSet) (parts : FileParts) (pk : PublicParts) (sk : PrivateParts) : Type 0 where

@@ -1,6 +1,6 @@
 -- What private functions state of each other: cited by no public clause; nobody has to believe it.
 use Rattle.std.specs.Prelude.{◌≡◌, ◌↔◌, ◌≤◌, ◌*◌, ℕ, List, Option, Bool, IsTrue, Ok, length}
-use Rattle.fips204.specs.Keys.{PublicParts, PrivateParts, IsPublicKeyOf}
+use Rattle.fips204.specs.Encodings.{PublicParts, PrivateParts, IsPublicKeyOf}
 use Rattle.fips204.specs.ParameterSets.{ParameterSet}
 use Rattle.fips204_shake.specs.Fronts.{shake256_front, shake128_front}
 use Rattle.mlsign_engine.specs.Messages.{GivesAll}

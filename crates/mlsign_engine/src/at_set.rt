@@ -3,7 +3,7 @@
 
 ghost use Rattle.std.specs.Prelude.{◌≡◌, ◌≤◌, ◌↔◌, length, false, IsTrue, IfOk, IfErr};
 ghost use Rattle.fips204.specs.Acceptance.{Verifies};
-ghost use Rattle.fips204.specs.Keys.{IsPublicKeyOf};
+ghost use Rattle.fips204.specs.Encodings.{IsPublicKeyOf};
 ghost use Rattle.fips204_shake.specs.Fronts.{shake256_front, shake128_front};
 ghost use Rattle.mlsign_engine.specs.Commands.{HasPublicBytes};
 ghost use Rattle.mlsign_engine.specs.InnerSteps.{AreSmall, HasLengths, JudgesAt, HasPrivate, SignsAt, IsSigningFault};

@@ -3,6 +3,8 @@
 #![tactic(auto)]
 
 ghost use Rattle.std.specs.Prelude.{◌≡◌, ◌↔◌, length, map, IsTrue};
+ghost use Rattle.fips204_base.specs.Encodings.{ArePrivateParts};
+ghost use Rattle.fips204_base.specs.Vectors.{MatrixWithin};
 ghost use Rattle.fips204.specs.Framing.{message_hash, plain, hashed};
 ghost use Rattle.fips204.specs.Prepared.{sign_prepared, sign_message_prepared, sign_digest_prepared, AcceptedIfWholePrepared, IsEachSigned, IsEachJudged, VerifiesPrepared, VerifiesMessagePrepared, VerifiesDigestPrepared};
 ghost use Rattle.fips204.specs.Refusals.{input_fault, DrawsIf, DrawsUnless};
@@ -27,6 +29,15 @@ where
     S: Set<Commitment = [u8; LAMBDA_DIV4], Signature = [u8; SIG_LEN]>
         + SignatureSizes<K, L, LAMBDA_DIV4, SIG_LEN>,
 {
+    /// The hash that the key keeps, as `PrivateKey::tr`. The key's parts and its matrix are in range.
+    pub fn tr(&self) -> &[u8; 64]
+        ensures hash { result.now ≡ self.now.parts.tr }
+        ensures matrix { MatrixWithin 8380416 self.now.matrix }
+        ensures parts { ArePrivateParts S.set.eta K L self.now.parts }
+    {
+        &self.key.tr
+    }
+
     /// Signs the hash `mu` of a framed message with the random bytes `rnd`.
     fn sign_hash(&self, mu: &[u8; 64], rnd: &[u8; 32]) -> Result<[u8; SIG_LEN], Fault>
         ensures answer { result ≡ sign_prepared S.set H.front self.now mu.now rnd.now }

@@ -2,7 +2,7 @@
 #![tactic(auto)]
 
 ghost use Rattle.std.specs.Prelude.{◌≡◌, ◌≢◌, ◌↔◌, ◌<◌, ◌≤◌, ◌+◌, ◌*◌, ◌%◌, ◌^◌, ℕ, pos, ◌-ℤ◌, nat_abs, List, [], true, Some, None, Ok, Err, IfOk, IsTrue, MatchResult, replicate, slice_index_or};
-ghost use Rattle.fips204_base.specs.Encodings.{IsSignature, Spells};
+ghost use Rattle.fips204_base.specs.Encodings.{PublicParts, IsSignature, Spells};
 ghost use Rattle.fips204_base.specs.Residues.{centred, coefficients, norm};
 ghost use Rattle.fips204_base.specs.Rounding.{high_bits, low_bits, make_hint, use_hint};
 ghost use Rattle.fips204_base.specs.Sampling.{challenge};
@@ -13,7 +13,7 @@ ghost use Rattle.fips204_base.specs.declared.helpers.zeta_table.TheConstants.{ZE
 ghost use Rattle.fips204_base.specs.declared.types.R.{R};
 ghost use Rattle.fips204.specs.Acceptance.{Verifies};
 ghost use Rattle.fips204.specs.Framing.{framed, plain};
-ghost use Rattle.fips204.specs.Keys.{PublicParts, IsWhole};
+ghost use Rattle.fips204.specs.Keys.{IsWhole};
 ghost use Rattle.fips204.specs.LongerFronts.{IsDecided};
 ghost use Rattle.fips204.specs.ParameterSets.{set_44, set_65, set_87};
 ghost use Rattle.fips204.specs.Prepared.{sign_message_prepared, VerifiesMessagePrepared};

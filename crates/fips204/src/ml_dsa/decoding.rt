@@ -2,7 +2,8 @@
 #![tactic(auto)]
 
 ghost use Rattle.std.specs.Prelude.{◌≡◌, ◌+◌, ◌*◌, nat_abs};
-ghost use Rattle.fips204.specs.Keys.{IsPublicKeyOf, DecodesPrivate};
+ghost use Rattle.fips204_base.specs.Encodings.{IsPublicKeyOf};
+ghost use Rattle.fips204.specs.Keys.{DecodesPrivate};
 ghost use Rattle.fips204.specs.ParameterSets.{private_key_length};
 ghost use Rattle.fips204.specs.Sets.{set_of};
 

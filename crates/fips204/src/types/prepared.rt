@@ -4,7 +4,7 @@
 
 ghost use Rattle.std.specs.Prelude.{◌≡◌};
 ghost use Rattle.fips204_base.specs.Vectors.{MatrixWithin};
-ghost use Rattle.fips204.specs.Keys.{ArePrivateParts, ArePublicParts};
+ghost use Rattle.fips204_base.specs.Encodings.{ArePublicParts};
 
 use super::{PrivateKey, PublicKey, T};
 use fips204_base::product::Transforms;
@@ -44,15 +44,17 @@ pub struct PreparedPrivateKey<const K: usize, const L: usize, H> {
 impl<const K: usize, const L: usize, H> Model for PreparedPrivateKey<K, L, H> {
     ghost use Rattle.fips204_base.specs.Vectors.{MatrixWithin};
     ghost use Rattle.fips204.specs.SigningInputs.{AreKeyTransforms};
-    ghost use Rattle.fips204.specs.Keys.{ArePrivateParts};
+    ghost use Rattle.std.specs.Prelude.{nat_eq, if◌then◌else◌};
+    ghost use Rattle.fips204_base.specs.Encodings.{ArePrivateParts};
     ghost use Rattle.fips204.specs.Prepared.{PreparedPrivate};
 
     ghost Value = { PreparedPrivate };
 
     ghost view = { λ sk. record { parts = sk.key; matrix = sk.a_hat } };
 
-    ghost invariant = { λ sk.
-        MatrixWithin 8380416 sk.a_hat × ArePrivateParts K L sk.key × AreKeyTransforms K L sk.key sk.transforms };
+    // The key is in the ranges of `PrivateKey`.
+    ghost invariant = { λ sk. MatrixWithin 8380416 sk.a_hat × ArePrivateParts (if nat_eq K 6 then 4 else 2) K L sk.key
+        × AreKeyTransforms K L sk.key sk.transforms };
 }
 
 /// A private key with its matrix and the transforms of its vectors, from wherever each comes.
@@ -66,26 +68,13 @@ pub(crate) struct SigningKey<'a, const K: usize, const L: usize, H, G> {
 impl<'a, const K: usize, const L: usize, H, G> Model for SigningKey<'a, K, L, H, G> {
     ghost use Rattle.fips204_base.specs.Vectors.{MatrixWithin};
     ghost use Rattle.fips204.specs.SigningInputs.{AreKeyTransforms};
-    ghost use Rattle.fips204.specs.Keys.{ArePrivateParts};
     ghost use Rattle.fips204.specs.Prepared.{PreparedPrivate};
 
     ghost Value = { PreparedPrivate };
 
     ghost view = { λ sk. record { parts = sk.key.now; matrix = sk.a_hat.now } };
 
-    ghost invariant = { λ sk. MatrixWithin 8380416 sk.a_hat.now × ArePrivateParts K L sk.key.now
-        × AreKeyTransforms K L sk.key.now sk.transforms.now };
-}
-
-impl<const K: usize, const L: usize, H> PreparedPrivateKey<K, L, H> {
-    /// The hash that the key keeps, as `PrivateKey::tr`. The key's parts and its matrix are in range.
-    pub fn tr(&self) -> &[u8; 64]
-        ensures hash { result.now ≡ self.now.parts.tr }
-        ensures matrix { MatrixWithin 8380416 self.now.matrix }
-        ensures parts { ArePrivateParts K L self.now.parts }
-    {
-        self.key.tr()
-    }
+    ghost invariant = { λ sk. MatrixWithin 8380416 sk.a_hat.now × AreKeyTransforms K L sk.key.now sk.transforms.now };
 }
 
 /// A public key of a set with a matrix of `K` rows and `L` columns, over the stream `H`, with its matrix and the

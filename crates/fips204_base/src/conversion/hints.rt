@@ -2,7 +2,8 @@
 #![tactic(auto)]
 
 ghost use Rattle.std.specs.Prelude.{◌≡◌, ◌<◌, ◌≤◌, ◌+◌, ◌≤ℤ◌, List, pos, nat_abs, length, take, drop, ◌++◌, MatchOption};
-ghost use Rattle.fips204_base.specs.Encodings.{Spells, all_ones, hint_bytes, ones};
+ghost use Rattle.fips204_base.specs.Encodings.{Spells, all_ones, hint_bytes};
+ghost use Rattle.fips204_base.specs.Network.{ones};
 ghost use Rattle.fips204_base.specs.Packing.{PolynomialInRange};
 ghost use Rattle.fips204_base.specs.Vectors.{VectorInRange};
 

@@ -1,9 +1,9 @@
 //! Private keys as bytes.
 #![tactic(auto)]
 
-ghost use Rattle.std.specs.Prelude.{◌≡◌, ◌≤◌, ◌+◌, ◌*◌, ℕ, List, pos, nat_abs, length, take, drop, MatchResult, ◌-ℤ◌};
+ghost use Rattle.std.specs.Prelude.{◌≡◌, ◌≤◌, ◌+◌, ◌*◌, pos, nat_abs, length, take, drop, MatchResult, ◌-ℤ◌};
 ghost use Rattle.fips204_base.specs.Sampling.{IsEta};
-ghost use Rattle.fips204_base.specs.Encodings.{IsPrivateKey, private_key_bytes};
+ghost use Rattle.fips204_base.specs.Encodings.{PrivateParts, IsPrivateKeyOf, private_key_bytes};
 ghost use Rattle.fips204_base.specs.Packing.{width};
 ghost use Rattle.fips204_base.specs.Vectors.{VectorInRange};
 
@@ -27,10 +27,9 @@ pub fn sk_decode<const K: usize, const L: usize, const SK_LEN: usize>(
     requires set { IsEta eta }
     requires size { SK_LEN ≡ 128 + 32 * width eta eta * L + 32 * width eta eta * K + 416 * K }
     ensures { MatchResult result
-        (λ parts. IsPrivateKey (nat_abs eta) K L sk.now parts.0.now parts.1.now parts.2.now parts.3 parts.4 parts.5)
-        (λ fault.
-        (fault ≡ Fault.KeyRange)
-        × ((rho key tr : List ℕ) (s1 s2 t0 : List R) → IsPrivateKey (nat_abs eta) K L sk.now rho key tr s1 s2 t0 → ⊥)) }
+        (λ parts. IsPrivateKeyOf (nat_abs eta) K L sk.now
+        record { rho = parts.0.now; key = parts.1.now; tr = parts.2.now; s1 = parts.3; s2 = parts.4; t0 = parts.5 })
+        (λ fault. (fault ≡ Fault.KeyRange) × ((key : PrivateParts) → IsPrivateKeyOf (nat_abs eta) K L sk.now key → ⊥)) }
 {
     let bytes: &[u8] = sk;
     // line 1: (rho, K, tr, y, z, w) = sk
@@ -69,7 +68,8 @@ pub fn sk_encode<const K: usize, const L: usize, const SK_LEN: usize>(
     requires s1_range { VectorInRange (pos 0 -ℤ eta) eta s1.now }
     requires s2_range { VectorInRange (pos 0 -ℤ eta) eta s2.now }
     requires t0_range { VectorInRange (pos 0 -ℤ pos 4095) (pos 4096) t0.now }
-    ensures { result ≡ private_key_bytes (nat_abs eta) rho.now k.now tr.now s1.now s2.now t0.now }
+    ensures { result ≡ private_key_bytes (nat_abs eta)
+        record { rho = rho.now; key = k.now; tr = tr.now; s1 = s1.now; s2 = s2.now; t0 = t0.now } }
 {
     let size = polynomial_size(eta, eta);
     let second = 128 + size * L;

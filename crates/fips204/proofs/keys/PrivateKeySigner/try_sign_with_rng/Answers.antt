@@ -1,7 +1,8 @@
 use Rattle.std.proofs.Common.{rules, List, ℕ}
 use Rattle.fips204.specs.Acceptance.{Verifies}
 use Rattle.fips204.specs.Framing.{plain}
-use Rattle.fips204.specs.Keys.{IsWhole, PublicParts}
+use Rattle.fips204_base.specs.Encodings.{PublicParts}
+use Rattle.fips204.specs.Keys.{IsWhole}
 use Rattle.fips204.specs.Refusals.{derived}
 use Rattle.fips204.proofs.RefusedCalls.{accepted_input}
 use Rattle.fips204.proofs.WholeKeys.{derived_hash}

@@ -1,7 +1,6 @@
 use Rattle.std.proofs.Common.{◌≤◌, ◌∙◌, ℕ, List, length, inl, inr, refl, ap, sym, arith, rules}
-use Rattle.fips204_base.specs.Encodings.{public_key_bytes}
+use Rattle.fips204_base.specs.Encodings.{PublicParts, IsPublicKeyOf, public_key_bytes}
 use Rattle.fips204.specs.Framing.{plain}
-use Rattle.fips204.specs.Keys.{PublicParts, IsPublicKeyOf}
 use Rattle.fips204.specs.ParameterSets.{set_44}
 use Rattle.fips204.proofs.laws.joined.accepted_under_both.Goals as goal
 
@@ -16,6 +15,6 @@ returns-then-verify g c both differ =
     let two : IsPublicKeyOf H 4 c.args.others other = search rules in
     elim (c.binding.ensures.keys_and_inputs set_44 H g.G.Xof.front c.args.bytes c.args.others pk other input input c.args.signature.now refl long one two
     (c.verify.ensures.0 c.if-verify.true) (c.verify-then-verify.ensures.0 both)) [
-      | inl same ↦ absurd (differ (sym one.same_bytes ∙ ap (λ (k : PublicParts). public_key_bytes k.rho k.t1) same.0 ∙ two.same_bytes))
+      | inl same ↦ absurd (differ (sym one.encoding ∙ ap (λ (k : PublicParts). public_key_bytes k.rho k.t1) same.0 ∙ two.encoding))
       | inr named ↦ (pk, other, named)
     ]

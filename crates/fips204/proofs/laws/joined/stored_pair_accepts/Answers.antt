@@ -1,7 +1,6 @@
 use Rattle.std.proofs.Common.{◌≡◌, ◌≤◌, ℕ, List, length, Ok, refl, arith, rules}
-use Rattle.fips204_base.specs.Encodings.{public_key_bytes, private_key_bytes}
+use Rattle.fips204_base.specs.Encodings.{IsPublicKeyOf, IsPrivateKeyOf, public_key_bytes, private_key_bytes}
 use Rattle.fips204.specs.Framing.{plain}
-use Rattle.fips204.specs.Keys.{IsPublicKeyOf, IsPrivateKeyOf}
 use Rattle.fips204.specs.ParameterSets.{set_44}
 use Rattle.fips204.specs.Refusals.{generated, sign_message, VerifiesMessage}
 use Rattle.fips204.proofs.laws.joined.stored_pair_accepts.Goals as goal
@@ -16,7 +15,7 @@ returns g c =
     let made : generated set_44 H G c.args.xi.now ≡ Ok (pk, sk) = search rules in
     let both = (c.signed_is_accepted.ensures set_44 H G pk sk refl long).1 c.args.xi.now made in
     let public_read : IsPublicKeyOf H 4 (public_key_bytes pk.rho pk.t1) c.in_ok-public-2.public = search rules in
-    let private_read : IsPrivateKeyOf 2 4 4 (private_key_bytes 2 sk.rho sk.key sk.tr sk.s1 sk.s2 sk.t0) c.in_ok-private.private = search rules in
+    let private_read : IsPrivateKeyOf 2 4 4 (private_key_bytes 2 sk) c.in_ok-private.private = search rules in
     let public = (both.0.public_decoded c.in_ok-public-2.public).0 public_read in
     let private = (both.0.private_decoded c.in_ok-private.private).0 private_read in
     let signed : sign_message set_44 H G c.in_ok-private.private c.args.rnd.now c.args.message.now c.args.ctx.now ≡ Ok c.in_ok-signature.signature = search rules in

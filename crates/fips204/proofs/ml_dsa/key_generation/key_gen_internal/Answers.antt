@@ -7,7 +7,7 @@ use Rattle.fips204_base.proofs.Vectors.{vector-within}
 use Rattle.fips204.specs.Keys.{high_part, low_part}
 use Rattle.fips204.specs.SigningInputs.{key_hash}
 use Rattle.fips204.specs.Sets.{set_of}
-use Rattle.fips204.proofs.ParameterSets.{limits, small_vector-parts, matrix-shape, eta_of_rows-small}
+use Rattle.fips204.proofs.ParameterSets.{limits, small_vector-parts, matrix-shape, eta-small, parts_by_rows}
 use Rattle.fips204.proofs.KeyGeneration.{AreSampled, AreSeeds, are_seeds, generated-none, generated-some, key_vector-is, high_part-is, high_part-range, low_part-is, low_part-range}
 use Rattle.fips204.proofs.ml_dsa.key_generation.key_gen_internal.Given.{Over}
 use Rattle.fips204.proofs.ml_dsa.key_generation.key_gen_internal.Goals.{After-part, After-write_power2round}
@@ -52,10 +52,10 @@ write_key_vector-requires g c =
     let E = to_z-of_z w32 p.eta (search rules) in
     let s1 = c.in_ok-write_expanded_s.ensures.s1 in
     let s2 = c.in_ok-write_expanded_s.ensures.s2 in
-    let first = small_vector-parts p _ _ g.row.K _ _ c.write_expanded_s.new.s1 (search rules) c.requires.rows (rw E at s1) in
-    let second = small_vector-parts p _ _ g.row.K _ _ c.write_expanded_s.new.s2 (search rules) c.requires.rows (rw E at s2) in
+    let first = small_vector-parts p _ _ _ _ c.write_expanded_s.new.s1 (search rules) (rw E at s1) in
+    let second = small_vector-parts p _ _ _ _ c.write_expanded_s.new.s2 (search rules) (rw E at s2) in
     let shape = matrix-shape p g.row.K g.row.L (search rules) c.requires.rows c.requires.columns in
-    let eta = eta_of_rows-small g.row.K in
+    let eta = eta-small p (search rules) in
     (search rules, (search rules, (shape.1, (vector-within _ _ _ _ _ eta eta first, vector-within _ _ _ _ _ eta eta second))))
 
 pub returns-in_err-write_key_vector : goal.returns-in_err-write_key_vector
@@ -89,7 +89,7 @@ pk_encode-pk-requires g c =
     (search rules, (search rules, (size, (high_part-vector g (goal.at.pk_encode-pk-requires g c).After-write_power2round).range)))
 
 pub invariant_of-public : goal.invariant_of-public
-invariant_of-public g c = record { seed = search rules; hash = search rules; high = high_part-vector g (goal.at.invariant_of-public g c).After-write_power2round }
+invariant_of-public g c = record { rho = search rules; tr = search rules; t1 = high_part-vector g (goal.at.invariant_of-public g c).After-write_power2round }
 
 pub invariant_of-private : goal.invariant_of-private
 invariant_of-private g c =
@@ -97,13 +97,13 @@ invariant_of-private g c =
     let E = to_z-of_z w32 p.eta (search rules) in
     let s1 = c.in_ok-write_expanded_s.ensures.s1 in
     let s2 = c.in_ok-write_expanded_s.ensures.s2 in
-    record {
-      seed = search rules;
-      private_seed = search rules;
-      hash = search rules;
-      first = small_vector-parts p _ _ g.row.K _ _ c.write_expanded_s.new.s1 (search rules) c.requires.rows (rw E at s1);
-      second = small_vector-parts p _ _ g.row.K _ _ c.write_expanded_s.new.s2 (search rules) c.requires.rows (rw E at s2);
-      low = rw (low_part-here g (goal.at.invariant_of-private g c).After-write_power2round, c.requires.rows) (low_part-range (set_of p) c.in_ok-write_key_vector.ensures.values.0 c.write_expanded_s.new.s1 c.write_expanded_s.new.s2);
+    parts_by_rows p _ _ _ (search rules) c.requires.rows record {
+      rho = search rules;
+      key = search rules;
+      tr = search rules;
+      s1 = small_vector-parts p _ _ _ _ c.write_expanded_s.new.s1 (search rules) (rw E at s1);
+      s2 = small_vector-parts p _ _ _ _ c.write_expanded_s.new.s2 (search rules) (rw E at s2);
+      t0 = rw (low_part-here g (goal.at.invariant_of-private g c).After-write_power2round, c.requires.rows) (low_part-range (set_of p) c.in_ok-write_key_vector.ensures.values.0 c.write_expanded_s.new.s1 c.write_expanded_s.new.s2);
     }
 
 pub returns : goal.returns

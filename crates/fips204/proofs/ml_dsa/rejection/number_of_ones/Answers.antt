@@ -1,10 +1,16 @@
 use Rattle.std.proofs.Common.{rules, arith, ◌≡◌, pos, true, false, length, get_or, ◌∙◌, ap, w32, SFits, add-one, length-append, [], ◌∷◌}
 use Rattle.std.proofs.lemmas.Int.{to_z-of_z}
 use Rattle.fips204_base.specs.declared.types.R.{R}
-use Rattle.fips204_base.specs.Encodings.{ones_below, is_one}
-use Rattle.fips204_base.proofs.HintSpelling.{ones-none, is_one-test, ones-keep, ones-skip}
+use Rattle.fips204_base.specs.Encodings.{all_ones, is_one}
+use Rattle.fips204_base.specs.Network.{ones_below}
+use Rattle.fips204_base.proofs.HintSpelling.{all_ones-none, total_more, ones-none, is_one-test, ones-keep, ones-skip}
 use Rattle.fips204.proofs.ml_dsa.rejection.number_of_ones.Goals as goal
 use Rattle.fips204.proofs.ml_dsa.rejection.number_of_ones.Goals.{then-row-n-gt0, else-row-n-gt0}
+
+pub loop-row-init : goal.loop-row-init
+loop-row-init g c =
+    let none = ap length all_ones-none in
+    record { value = omega (arith, none); few = omega arith }
 
 pub loop-n-init : goal.loop-n-init
 loop-n-init g c =
@@ -28,3 +34,13 @@ loop-n-preserved g c =
           let same = next ∙ ap length (ones-skip row n not) in
           rw (w.total-is) (record { value = omega (arith, same, c.loop-n.invariant.value); few = omega (arith, c.loop-n.invariant.few) })
     ]
+
+pub loop-row-preserved : goal.loop-row-preserved
+loop-row-preserved g c =
+    let more = total_more c.args.h.now c.loop-row.row-index record { 0 = [] } (omega arith) in
+    let last : c.loop-n.n ≡ 256 = omega arith in
+    let row = rw last at c.loop-n.invariant.value in
+    record {
+      value = omega (arith, more, row, c.loop-row.invariant.value);
+      few = omega (arith, last, c.loop-n.invariant.few, c.loop-row.invariant.few);
+    }

@@ -1,8 +1,9 @@
-use Rattle.std.proofs.Common.{rules, ◌≡◌, ◌∙◌, ap, sym, arith, Err, Some, None}
+use Rattle.std.proofs.Common.{rules, ◌≡◌, ◌∙◌, ap, sym, subst, arith, Err, Some, None}
+use Rattle.fips204_base.specs.Encodings.{PrivateParts, ArePrivateParts}
 use Rattle.fips204_base.specs.Sampling.{sampled_matrix}
 use Rattle.fips204_base.specs.declared.fault.Fault.TheVariants.{SamplingLimit}
 use Rattle.fips204.specs.Sets.{set_of}
-use Rattle.fips204.proofs.ParameterSets.{limits}
+use Rattle.fips204.proofs.ParameterSets.{limits, known-set, parts_at_set}
 use Rattle.fips204.proofs.SeedKeys.{hash_accepted}
 use Rattle.fips204.proofs.Signing.{sign-by_matrix, sign-no_matrix}
 use Rattle.fips204.proofs.ml_dsa.signing.sign_internal.Goals as goal
@@ -31,5 +32,8 @@ returns-clause-answer g c =
 
 pub returns-clause-accepted : goal.returns-clause-accepted
 returns-clause-accepted g c =
+    let p = set_of c.args.p.now in
+    let parts = subst (λ (k : PrivateParts). ArePrivateParts p.eta g.row.K g.row.L k) c.sk.view_is
+    (parts_at_set p _ _ _ (known-set c.args.p.now (search rules)) c.requires.sizes.rows c.sk.invariant) in
     hash_accepted c.args.p.now g.H.Xof.front g.G.Xof.front g.row.K g.row.L c.args.sk.now c.args.mu.now c.args.rnd.now c.sign_with.result (search rules)
-    (λ input. omega (arith, g.met.H.Xof.front_size input, g.met.H.Xof.front_least)) c.requires.sizes.rows c.requires.sizes.columns (search rules) (returns-clause-answer g c)
+    (λ input. omega (arith, g.met.H.Xof.front_size input, g.met.H.Xof.front_least)) c.requires.sizes.rows c.requires.sizes.columns parts (returns-clause-answer g c)

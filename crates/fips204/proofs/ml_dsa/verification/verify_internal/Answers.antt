@@ -1,7 +1,7 @@
 use Rattle.std.proofs.Common.{rules, ◌≡◌, ◌∙◌, Some, ap}
 use Rattle.fips204_base.specs.Sampling.{sampled_matrix}
 use Rattle.fips204_base.proofs.PlainTransforms.{matrix-same}
-use Rattle.fips204.specs.Keys.{PublicParts}
+use Rattle.fips204_base.specs.Encodings.{PublicParts}
 use Rattle.fips204.specs.Sets.{set_of}
 use Rattle.fips204.proofs.Verification.{commitment-decides, verifies-with}
 use Rattle.fips204.proofs.ml_dsa.verification.verify_internal.Goals as goal

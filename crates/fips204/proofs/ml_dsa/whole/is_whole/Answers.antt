@@ -1,18 +1,20 @@
 use Rattle.std.proofs.Common.{rules, subst, IsTrue, None, ◌≢◌, ◌↔◌}
 use Rattle.fips204_base.specs.Sampling.{sampled_matrix}
 use Rattle.fips204_base.proofs.Vectors.{vector-within}
-use Rattle.fips204.specs.Keys.{PrivateParts, IsWhole}
+use Rattle.fips204_base.specs.Encodings.{PrivateParts}
+use Rattle.fips204.specs.Keys.{IsWhole}
 use Rattle.fips204.specs.Sets.{set_of}
 use Rattle.fips204.proofs.Ranges.{vectors_eq-Decides}
 use Rattle.fips204.proofs.KeyGeneration.{key_vector-is, low_part-is, tells_whole}
-use Rattle.fips204.proofs.ParameterSets.{matrix-shape, eta_of_rows-small}
+use Rattle.fips204.proofs.ParameterSets.{known-set, matrix-shape, parts_at_set, eta-small}
 use Rattle.fips204.proofs.ml_dsa.whole.is_whole.Goals as goal
 
 pub write_key_vector-requires : goal.write_key_vector-requires
 write_key_vector-requires g c =
     let shape = matrix-shape c.args.p.now g.row.K g.row.L (search rules) c.requires.rows c.requires.columns in
-    let eta = eta_of_rows-small g.row.K in
-    (search rules, (search rules, (shape.1, (vector-within _ _ _ _ _ eta eta c.sk.invariant.first, vector-within _ _ _ _ _ eta eta c.sk.invariant.second))))
+    let eta = eta-small c.args.p.now (search rules) in
+    let parts = parts_at_set (set_of c.args.p.now) _ _ _ (known-set c.args.p.now (search rules)) c.requires.rows c.sk.invariant in
+    (search rules, (search rules, (shape.1, (vector-within _ _ _ _ _ eta eta parts.s1, vector-within _ _ _ _ _ eta eta parts.s2))))
 
 pub returns : goal.returns
 returns g c =

@@ -1,5 +1,5 @@
 use Rattle.std.proofs.Common.{refl, ◌≡◌, ◌∙◌, ap, sym, subst, Ok, Some, rules}
-use Rattle.fips204.specs.Keys.{PublicParts}
+use Rattle.fips204_base.specs.Encodings.{PublicParts}
 use Rattle.fips204.specs.Prepared.{PreparedPublic, prepared_public}
 use Rattle.fips204_base.specs.Sampling.{sampled_matrix}
 use Rattle.fips204.proofs.ParameterSets.{set-shape}

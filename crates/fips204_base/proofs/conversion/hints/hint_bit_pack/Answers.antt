@@ -1,9 +1,8 @@
 use Rattle.std.proofs.Common.{rules, arith, ◌≡◌, ◌+◌, nat_abs, take, [], ◌∙◌, ap, sym, length, w32, to_z, of_z}
-use Rattle.std.specs.List.{flat_map}
 use Rattle.std.proofs.lemmas.Int.{to_z-of_z}
 use Rattle.std.proofs.lemmas.List.{take_all}
-use Rattle.fips204_base.specs.Encodings.{ones}
-use Rattle.fips204_base.proofs.HintSpelling.{total_more, total_le, written, gathered, spelling}
+use Rattle.fips204_base.specs.Encodings.{all_ones}
+use Rattle.fips204_base.proofs.HintSpelling.{all_ones-none, total_more, total_le, written, gathered, spelling}
 use Rattle.fips204_base.proofs.conversion.hints.hint_bit_pack.Goals as goal
 
 pub write_places-index-requires : goal.write_places-index-requires
@@ -11,6 +10,11 @@ write_places-index-requires g c =
     let more = total_more c.args.h.now c.loop-i.i record { 0 = [] } (omega arith) in
     let le = total_le c.args.h.now (c.loop-i.i + 1) in
     omega (arith, more, le)
+
+pub loop-i-init : goal.loop-i-init
+loop-i-init g c =
+    let none = ap length all_ones-none in
+    record { at = omega (arith, none); places = sym all_ones-none; totals = search rules; zeros = search rules }
 
 pub loop-i-preserved : goal.loop-i-preserved
 loop-i-preserved g c =
@@ -31,6 +35,6 @@ returns g c =
     let le = total_le c.args.h.now c.loop-i.i in
     let size : length c.loop-i.y ≡ nat_abs (to_z w32 (of_z w32 c.args.omega)) + length c.args.h.now = search rules in
     let pieces = gathered c.args.h.now c.loop-i.y (nat_abs (to_z w32 (of_z w32 c.args.omega))) c.loop-i.index (omega (arith, le, limit)) size
-    (c.loop-i.invariant.places ∙ ap (flat_map ones) whole) (λ k l. c.loop-i.invariant.totals k (omega (arith, l))) c.loop-i.invariant.zeros in
+    (c.loop-i.invariant.places ∙ ap all_ones whole) (λ k l. c.loop-i.invariant.totals k (omega (arith, l))) c.loop-i.invariant.zeros in
     let same = spelling _ c.args.h.now c.loop-i.y size pieces in
     sym (rw O at same)

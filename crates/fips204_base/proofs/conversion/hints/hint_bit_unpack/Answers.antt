@@ -1,13 +1,12 @@
 use Rattle.std.proofs.Common.{rules, arith, ◌≡◌, ◌<◌, ◌+◌, pos, nat_abs, length, take, get_or, ◌∙◌, ap, sym, refl, length-set, w32, to_z, of_z, add-one, None}
-use Rattle.std.specs.List.{flat_map}
 use Rattle.std.proofs.lemmas.Int.{to_z-of_z}
-use Rattle.std.proofs.lemmas.List.{take_more_set, take_all}
+use Rattle.std.proofs.lemmas.List.{take_more_set, take_all, length-replicate}
 use Rattle.std.proofs.lemmas.List.Elements.{All-push}
 use Rattle.fips204_base.specs.declared.types.R.{R}
 use Rattle.fips204_base.specs.declared.types.TheConstants.{R0}
 use Rattle.fips204_base.specs.Packing.{PolynomialInRange}
-use Rattle.fips204_base.specs.Encodings.{ones, Spells}
-use Rattle.fips204_base.proofs.HintSpelling.{before, pieces, totals_rise, piece, zero_rest, one_more, totals_more, gathered, spelling}
+use Rattle.fips204_base.specs.Encodings.{all_ones, Spells}
+use Rattle.fips204_base.proofs.HintSpelling.{all_ones-none, before, pieces, totals_rise, piece, zero_rest, one_more, totals_more, gathered, spelling}
 use Rattle.fips204_base.proofs.conversion.hints.hint_bit_unpack.Goals as goal
 use Rattle.fips204_base.proofs.conversion.hints.hint_bit_unpack.Goals.{then-end-index-via-then-end-index, then-end-index-via-else-end-index+then-end-limit}
 
@@ -30,6 +29,17 @@ returns-in_err-h g c =
     let S : Spells (nat_abs (to_z w32 (of_z w32 c.args.omega))) g.row.K h c.args.y.now = rw O s in
     let n = S.hint.rows in
     c.in_err-h.ensures (get_or h c.loop-i.i R0) (rw c.loop-i.invariant.at (piece _ h c.args.y.now c.loop-i.i (pieces _ _ h c.args.y.now S) (omega (arith, n)))))
+
+pub loop-i-init : goal.loop-i-init
+loop-i-init g c = record {
+  count = length-replicate _ _;
+  at = refl;
+  few = omega arith;
+  places = sym all_ones-none;
+  totals = search rules;
+  sizes = search rules;
+  bits = search rules;
+}
 
 pub loop-i-preserved : goal.loop-i-preserved
 loop-i-preserved g c =
@@ -66,7 +76,7 @@ returns g c =
     let whole : take c.loop-i.i c.loop-i.h ≡ c.loop-i.h = take_all c.loop-i.i c.loop-i.h (omega arith) in
     let limit : nat_abs (to_z w32 (of_z w32 c.args.omega)) ≡ nat_abs c.args.omega = ap nat_abs O in
     let size : length c.args.y.now ≡ nat_abs (to_z w32 (of_z w32 c.args.omega)) + length c.loop-i.h = omega (arith, limit) in
-    let all_pieces = gathered c.loop-i.h c.args.y.now (nat_abs (to_z w32 (of_z w32 c.args.omega))) c.loop-i.index c.loop-i.invariant.few size (c.loop-i.invariant.places ∙ ap (flat_map ones) whole)
+    let all_pieces = gathered c.loop-i.h c.args.y.now (nat_abs (to_z w32 (of_z w32 c.args.omega))) c.loop-i.index c.loop-i.invariant.few size (c.loop-i.invariant.places ∙ ap all_ones whole)
     (λ k l. c.loop-i.invariant.totals k (omega (arith, l))) (λ j l u. c.loop-k.invariant j l (omega (arith, u))) in
     let spells : Spells (nat_abs (to_z w32 (of_z w32 c.args.omega))) g.row.K c.loop-i.h c.args.y.now = record {
       hint = record { rows = c.loop-i.invariant.count; places = rw whole at c.loop-i.invariant.sizes; range = rw whole at c.loop-i.invariant.bits };

@@ -1,6 +1,7 @@
 use Rattle.std.proofs.Common.{rules, arith, ◌≡◌, ◌+◌, pos, true, false, length, take, get_or, ◌++◌, ◌∙◌, ap, sym, refl, length-set, w32, SFits, add-one, append-nil}
 use Rattle.std.proofs.lemmas.Int.{to_z-of_z}
-use Rattle.fips204_base.specs.Encodings.{ones_below, is_one}
+use Rattle.fips204_base.specs.Encodings.{is_one}
+use Rattle.fips204_base.specs.Network.{ones_below}
 use Rattle.fips204_base.proofs.HintSpelling.{ones-none, ones-room, is_one-test, placed, ones-skip}
 use Rattle.fips204_base.proofs.conversion.hints.write_places.Goals as goal
 use Rattle.fips204_base.proofs.conversion.hints.write_places.Goals.{then-w-j-gt0, else-w-j-gt0}

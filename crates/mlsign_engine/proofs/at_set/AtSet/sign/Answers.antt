@@ -1,6 +1,6 @@
 use Rattle.std.proofs.Common.{rules, List, ℕ, ◌≡◌, length, refl, ap, ◌∙◌}
 use Rattle.fips204.specs.Framing.{framed, message_hash}
-use Rattle.fips204.specs.Keys.{ArePrivateParts}
+use Rattle.fips204.specs.Encodings.{ArePrivateParts}
 use Rattle.fips204.specs.Signing.{sign}
 use Rattle.fips204.specs.declared.traits.DummyRng.{DummyRng}
 use Rattle.fips204_shake.specs.Fronts.{shake256_front, shake128_front}
@@ -13,7 +13,7 @@ returns-in-Ok g c =
     let p = g.S.Set.set in
     let sizes = g.met.S.SignatureSizes.sizes in
     let key = c.in_ok-key.key in
-    let range : ArePrivateParts p.k p.l key = rw (← sizes.rows, ← sizes.columns) c.tr.ensures.parts in
+    let range : ArePrivateParts p.eta p.k p.l key = rw (← sizes.rows, ← sizes.columns) c.tr.ensures.parts in
     let hashed = c.in_ok-mu.ensures.hashed in
     let hash : c.in_ok-mu.mu ≡ message_hash shake256_front key.tr (framed hashed.0 c.args.context.now) =
     hashed.2 ∙ ap (λ (tr : List ℕ). message_hash shake256_front tr (framed hashed.0 c.args.context.now)) c.tr.ensures.hash in

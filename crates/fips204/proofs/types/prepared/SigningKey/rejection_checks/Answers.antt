@@ -21,7 +21,7 @@ first g c =
     let bound = to_z-of_z w32 c.z_bound.result (search rules) ∙ c.z_bound.ensures in
     let few = columns-few g.row.L p (search rules) c.requires.inputs.sizes.columns in
     let z = sum-is c.self.inside.key.now.s1 c.args.y.now c.write_centred_sum.new.z c.write_plain.new.out c.args.c.now g.row.L
-    (product-written c.of-c_hat.result c.args.c.now c.write_multiple.new.self c.write_plain.new.out c.self.inside.transforms.now.s1_hat c.self.inside.key.now.s1 g.row.L few c.of-c_hat.ensures c.self.invariant.2.first c.write_multiple.ensures c.write_plain.ensures.values) c.write_centred_sum.ensures.value in
+    (product-written c.of-c_hat.result c.args.c.now c.write_multiple.new.self c.write_plain.new.out c.self.inside.transforms.now.s1_hat c.self.inside.key.now.s1 g.row.L few c.of-c_hat.ensures c.self.invariant.1.first c.write_multiple.ensures c.write_plain.ensures.values) c.write_centred_sum.ensures.value in
     (rw bound at c.has_norm_below.ensures)
     ∙ ap (λ v. nat_lt (vector_norm v) (nat_abs p.gamma1 - nat_abs p.beta)) (response-is (set_of p) c.self.inside.key.now c.args.y.now c.args.c.now c.write_centred_sum.new.z g.row.L c.requires.inputs.sizes.columns z)
 
@@ -32,7 +32,7 @@ second g c =
     let gamma2 = to_z-of_z w32 p.gamma2 (search rules) in
     let few = rows-few g.row.K p (search rules) c.requires.inputs.sizes.rows in
     let difference = difference-is c.self.inside.key.now.s2 c.write_difference.new.v c.write_plain-2.new.out (vector_coefficients c.args.w.now) c.args.c.now g.row.K
-    (product-written c.of-c_hat.result c.args.c.now c.write_multiple-2.new.self c.write_plain-2.new.out c.self.inside.transforms.now.s2_hat c.self.inside.key.now.s2 g.row.K few c.of-c_hat.ensures c.self.invariant.2.second c.write_multiple-2.ensures c.write_plain-2.ensures.values) c.write_difference.ensures.values in
+    (product-written c.of-c_hat.result c.args.c.now c.write_multiple-2.new.self c.write_plain-2.new.out c.self.inside.transforms.now.s2_hat c.self.inside.key.now.s2 g.row.K few c.of-c_hat.ensures c.self.invariant.1.second c.write_multiple-2.ensures c.write_plain-2.ensures.values) c.write_difference.ensures.values in
     (rw bound at c.has_norm_below-2.ensures)
     ∙ ap (λ v. nat_lt (vector_norm v) (nat_abs p.gamma2 - nat_abs p.beta)) ((rw gamma2 at c.low_vector.ensures.value) ∙ low-is (set_of p) c.self.inside.key.now (vector_coefficients c.args.w.now) c.args.c.now _ _ c.requires.inputs.sizes.rows difference)
 
@@ -41,7 +41,7 @@ third g c =
     let p = c.args.p.now in
     let gamma2 = to_z-of_z w32 p.gamma2 (search rules) in
     let few = rows-few g.row.K p (search rules) c.requires.inputs.sizes.rows in
-    let whole = product-whole c.of-c_hat.result c.args.c.now c.write_multiple-3.new.self c.write_plain-3.new.out c.self.inside.transforms.now.t0_hat c.self.inside.key.now.t0 g.row.K few c.of-c_hat.ensures c.self.invariant.2.low
+    let whole = product-whole c.of-c_hat.result c.args.c.now c.write_multiple-3.new.self c.write_plain-3.new.out c.self.inside.transforms.now.t0_hat c.self.inside.key.now.t0 g.row.K few c.of-c_hat.ensures c.self.invariant.1.low
     c.write_multiple-3.ensures c.write_plain-3.ensures.whole in
     (rw gamma2 at c.has_norm_below-3.ensures)
     ∙ ap (λ v. nat_lt (vector_norm v) (nat_abs p.gamma2)) (ct0-is (set_of p) c.self.inside.key.now c.args.c.now _ _ c.requires.inputs.sizes.rows whole)
@@ -52,8 +52,8 @@ hint_of g c =
     let gamma2 = to_z-of_z w32 p.gamma2 (search rules) in
     let few = rows-few g.row.K p (search rules) c.requires.inputs.sizes.rows in
     let difference = difference-is c.self.inside.key.now.s2 c.write_difference.new.v c.write_plain-2.new.out (vector_coefficients c.args.w.now) c.args.c.now g.row.K
-    (product-written c.of-c_hat.result c.args.c.now c.write_multiple-2.new.self c.write_plain-2.new.out c.self.inside.transforms.now.s2_hat c.self.inside.key.now.s2 g.row.K few c.of-c_hat.ensures c.self.invariant.2.second c.write_multiple-2.ensures c.write_plain-2.ensures.values) c.write_difference.ensures.values in
-    let product = product-written c.of-c_hat.result c.args.c.now c.write_multiple-3.new.self c.write_plain-3.new.out c.self.inside.transforms.now.t0_hat c.self.inside.key.now.t0 g.row.K few c.of-c_hat.ensures c.self.invariant.2.low c.write_multiple-3.ensures c.write_plain-3.ensures.values in
+    (product-written c.of-c_hat.result c.args.c.now c.write_multiple-2.new.self c.write_plain-2.new.out c.self.inside.transforms.now.s2_hat c.self.inside.key.now.s2 g.row.K few c.of-c_hat.ensures c.self.invariant.1.second c.write_multiple-2.ensures c.write_plain-2.ensures.values) c.write_difference.ensures.values in
+    let product = product-written c.of-c_hat.result c.args.c.now c.write_multiple-3.new.self c.write_plain-3.new.out c.self.inside.transforms.now.t0_hat c.self.inside.key.now.t0 g.row.K few c.of-c_hat.ensures c.self.invariant.1.low c.write_multiple-3.ensures c.write_plain-3.ensures.values in
     hint-is (set_of p) c.self.inside.key.now (vector_coefficients c.args.w.now) c.args.c.now _ _ _ _ c.requires.inputs.sizes.rows difference product (rw gamma2 at c.hint-h.ensures)
 
 pub has_norm_below-requires : goal.has_norm_below-requires
@@ -142,7 +142,7 @@ sig_encode-requires g c =
     let hint = rw gamma2 at c.hint-h.ensures in
     let few = columns-few g.row.L p (search rules) c.requires.inputs.sizes.columns in
     let sum = sum-is c.self.inside.key.now.s1 c.args.y.now c.write_centred_sum.new.z c.write_plain.new.out c.args.c.now g.row.L
-    (product-written c.of-c_hat.result c.args.c.now c.write_multiple.new.self c.write_plain.new.out c.self.inside.transforms.now.s1_hat c.self.inside.key.now.s1 g.row.L few c.of-c_hat.ensures c.self.invariant.2.first c.write_multiple.ensures c.write_plain.ensures.values) c.write_centred_sum.ensures.value in
+    (product-written c.of-c_hat.result c.args.c.now c.write_multiple.new.self c.write_plain.new.out c.self.inside.transforms.now.s1_hat c.self.inside.key.now.s1 g.row.L few c.of-c_hat.ensures c.self.invariant.1.first c.write_multiple.ensures c.write_plain.ensures.values) c.write_centred_sum.ensures.value in
     let z = response-is (set_of p) c.self.inside.key.now c.args.y.now c.args.c.now _ _ c.requires.inputs.sizes.columns sum in
     let test = sym c.if-not-has_norm_below.false ∙ first g at.After-has_norm_below ∙ ap (λ v. nat_lt (vector_norm v) (nat_abs p.gamma1 - nat_abs p.beta)) (sym z) in (
       search rules,
@@ -181,7 +181,7 @@ returns g c =
     let omega_is = to_z-of_z w32 p.omega (search rules) in
     let few = columns-few g.row.L p (search rules) c.requires.inputs.sizes.columns in
     let sum = sum-is c.self.inside.key.now.s1 c.args.y.now c.write_centred_sum.new.z c.write_plain.new.out c.args.c.now g.row.L
-    (product-written c.of-c_hat.result c.args.c.now c.write_multiple.new.self c.write_plain.new.out c.self.inside.transforms.now.s1_hat c.self.inside.key.now.s1 g.row.L few c.of-c_hat.ensures c.self.invariant.2.first c.write_multiple.ensures c.write_plain.ensures.values) c.write_centred_sum.ensures.value in
+    (product-written c.of-c_hat.result c.args.c.now c.write_multiple.new.self c.write_plain.new.out c.self.inside.transforms.now.s1_hat c.self.inside.key.now.s1 g.row.L few c.of-c_hat.ensures c.self.invariant.1.first c.write_multiple.ensures c.write_plain.ensures.values) c.write_centred_sum.ensures.value in
     let z = response-is (set_of p) c.self.inside.key.now c.args.y.now c.args.c.now _ _ c.requires.inputs.sizes.columns sum in
     let h = hint_of g at.After-number_of_ones in
     let count = c.number_of_ones.ensures ∙ ap (λ h. length (all_ones h)) h in

@@ -1,7 +1,7 @@
 use Rattle.std.proofs.Common.{rules, ◌≡◌, ◌≤◌, ◌+◌, ◌*◌, ◌∙◌, ◌++◌, ℕ, List, [], take, append-nil, append_assoc, ap, sym, arith, Err}
 use Rattle.fips204_base.specs.declared.fault.Fault.TheVariants.{SamplingLimit}
 use Rattle.fips204.specs.Signing.{attempt, mask_seed}
-use Rattle.fips204.specs.Keys.{PrivateParts}
+use Rattle.fips204_base.specs.Encodings.{PrivateParts}
 use Rattle.fips204.specs.Prepared.{PreparedPrivate}
 use Rattle.fips204.specs.Sets.{set_of}
 use Rattle.fips204.proofs.ParameterSets.{limits}
