@@ -2,12 +2,12 @@
 use Rattle.std.proofs.Common.{◌≡◌, ◌<◌, ◌+◌, ◌-◌, ◌*◌, ◌%◌, ℕ, List, ℤ, pos, negsuc, ◌+ℤ◌, ◌-ℤ◌, inl, inr, ap, sym, ◌∙◌, arith, ◌≤◌, [], get_or, length, nat_abs, Bool, true, false, Some, refl, subst, if◌then◌else◌}
 use Rattle.std.proofs.lemmas.Int.{ints}
 use Rattle.std.proofs.lemmas.Bool.{cases_lt, le-leb, lt-leb}
-use Rattle.fips204_base.specs.Network.{product_difference, plain_matrix}
+use Rattle.fips204_base.specs.Network.{product_difference, plain_matrix, row_product}
 use Rattle.fips204_base.specs.declared.types.R.{R}
 use Rattle.fips204_base.specs.declared.types.T.{T}
 use Rattle.fips204_base.specs.Vectors.{entry, vector_coefficients, matrix_product, vector_of, IsVector}
 use Rattle.fips204_base.specs.Residues.{centred, vector_norm, IsCongruent, residue, coefficients}
-use Rattle.fips204_base.specs.Transforms.{product, plus, minus, row_product}
+use Rattle.fips204_base.specs.Transforms.{product, plus, minus}
 use Rattle.fips204_base.specs.Rounding.{power2round, high_bits, low_bits, make_hint, use_hint}
 use Rattle.fips204_base.proofs.Residues.{residue_add, residue_below, congruent_refl, congruent_of, congruent_sym, congruent_trans, congruent_mod, sum_equal}
 use Rattle.fips204_base.proofs.Products.{product_same, product_plus, row_of_multiple, row_of_sum, row_below, product_below}

@@ -18,7 +18,8 @@ use Rattle.std.specs.Prelude.{ok_or, option_map, option_and_then}
 use Rattle.std.proofs.lemmas.List.{drop-take, take-take}
 use Rattle.std.specs.declared.option.Option.{Option}
 use Rattle.fips204_base.specs.declared.fault.Fault.TheVariants.{SamplingLimit}
-use Rattle.fips204_base.specs.Sampling.{sampled_matrix, small_vector, small_vectors}
+use Rattle.fips204_base.specs.Sampling.{sampled_matrix, small_vectors}
+use Rattle.fips204_base.specs.Network.{small_vector}
 use Rattle.fips204.specs.Refusals.{generated, derived}
 
 -- The vector t = A s1 + s2 of a pair of keys, and its parts.

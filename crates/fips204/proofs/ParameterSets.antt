@@ -13,7 +13,7 @@ use Rattle.fips204_base.specs.Rounding.{high_values}
 use Rattle.fips204_base.proofs.EncodedParts.{response_width, eta_width}
 use Rattle.std.proofs.lemmas.Bool.{cases_Bool}
 use Rattle.fips204_base.specs.declared.types.R.{R}
-use Rattle.fips204_base.specs.Sampling.{small_vector}
+use Rattle.fips204_base.specs.Network.{small_vector}
 use Rattle.fips204_base.specs.Vectors.{IsVector}
 use Rattle.fips204_base.proofs.Sampled.{small_vector-range}
 

@@ -11,11 +11,11 @@ use Rattle.fips204_base.proofs.Bits.{length-digits}
 use Rattle.fips204_base.proofs.Vectors.{length-polynomial_of, polynomial_of-at, polynomial_of-same}
 use Rattle.fips204_base.specs.Packing.{integer_to_bits, bits, bits_to_integer, coefficient, field, width, Packs, Unpacks, PolynomialInRange, bit_length}
 use Rattle.fips204_base.specs.Vectors.{polynomial_of, IsVector}
-use Rattle.fips204_base.specs.Sampling.{field_at, unpacked, mask}
+use Rattle.fips204_base.specs.Sampling.{unpacked, mask}
 use Rattle.fips204_base.proofs.Packing.{integer_of_digits, digits_at, bits_below, integer_small}
 use Rattle.std.specs.Int.{w16, to_le_bytes}
 use Rattle.std.proofs.lemmas.Int.{ints}
-use Rattle.fips204_base.specs.Network.{mask_polynomial, mask_width}
+use Rattle.fips204_base.specs.Network.{mask_polynomial, mask_width, field_at}
 
 -- The polynomial that bytes hold is the one that they unpack to.
 
@@ -26,7 +26,7 @@ field_at-packs c bytes fields n p h =
     ∙ integer_of_digits c (get_or fields n 0) (All-get_or (λ (f : ℕ). f < 2 ^ c) fields n 0 h p.small_fields)
 
 pub unpacked-unpacks : (a b : ℕ) (bytes : List ℕ) (w : R) → Unpacks (pos a) (pos b) bytes w.0 → unpacked a b bytes ≡ w
-unfolding unpacked polynomial_of
+unfolding unpacked polynomial_of field_at
 unpacked-unpacks a b bytes w u =
     let c = width (pos a) (pos b) in
     let value = λ (n : ℕ). coefficient (pos a) (pos b) (field_at c (bits 8 bytes) n) in
@@ -66,7 +66,7 @@ field_at-take c n xs h =
     ∙ ap (λ l. bits_to_integer (take c l)) (drop-take (c * n) rest (bits 8 xs)) ∙ ap bits_to_integer (take-take c rest (drop (c * n) (bits 8 xs)) enough)
 
 pub unpacked-take : (a b : ℕ) (bytes : List ℕ) → unpacked a b (take (32 * width (pos a) (pos b)) bytes) ≡ unpacked a b bytes
-unfolding unpacked
+unfolding unpacked field_at
 unpacked-take a b bytes =
     let c = width (pos a) (pos b) in
     let f = λ (n : ℕ). coefficient (pos a) (pos b) (field_at c (bits 8 (take (32 * c) bytes)) n) in
@@ -125,7 +125,7 @@ all_of f a b each = (length-map-range_with_len f 0 256, All-map (λ x. (a ≤ℤ
 
 pub mask_polynomial-range : (gamma1 : ℕ) (front : List ℕ) → (gamma1 ≡ 131072) ⊎ (gamma1 ≡ 524288)
     → (length (mask_polynomial gamma1 front).0 ≡ 256) × PolynomialInRange (pos 0 -ℤ pos (gamma1 - 1)) (pos gamma1) (mask_polynomial gamma1 front).0
-unfolding unpacked bit_length
+unfolding unpacked bit_length field_at
 mask_polynomial-range gamma1 front (inl e) = rw e (all_of (λ n. coefficient (pos 131071) (pos 131072) (field_at 18 (bits 8 (take 576 front)) n)) (pos 0 -ℤ pos 131071) (pos 131072) (λ n. coefficient-low (field_at 18 (bits 8 (take 576 front)) n) (field_small 18 n (take 576 front))))
 mask_polynomial-range gamma1 front (inr e) = rw e (all_of (λ n. coefficient (pos 524287) (pos 524288) (field_at 20 (bits 8 (take 640 front)) n)) (pos 0 -ℤ pos 524287) (pos 524288) (λ n. coefficient-high (field_at 20 (bits 8 (take 640 front)) n) (field_small 20 n (take 640 front))))
 

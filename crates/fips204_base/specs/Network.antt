@@ -1,13 +1,14 @@
 -- Butterflies, layers and lanes by place, what a sampler's loop keeps, and parts of definitions: cited by no public clause; nobody has to believe it.
-use Rattle.std.specs.Prelude.{◌≡◌, ℕ, ◌+◌, ◌*◌, ◌-◌, ◌%◌, ◌<◌, ◌≤◌, ℤ, pos, ◌-ℤ◌, neg_ℤ, nat_abs, List, [], ◌∷◌, slice_index_or, ◌++◌, take, length, map, Option, nat_eq, if◌then◌else◌}
+use Rattle.std.specs.Prelude.{◌≡◌, ℕ, ◌+◌, ◌*◌, ◌-◌, ◌/◌, ◌%◌, ◌^◌, ◌<◌, ◌≤◌, ℤ, pos, ◌-ℤ◌, neg_ℤ, nat_abs, List, [], ◌∷◌, slice_index, slice_index_or, ◌++◌, take, drop, length, map, filter_map, flat_map, Option, nat_eq, nat_lt, if◌then◌else◌}
+use Rattle.std.specs.Int.{w16, to_le_bytes}
 use Rattle.std.specs.List.{range_with_len}
 use Rattle.fips204_base.specs.Encodings.{all_ones}
 use Rattle.fips204_base.specs.Lanes.{lane, lane_at}
-use Rattle.fips204_base.specs.Packing.{width}
-use Rattle.fips204_base.specs.Residues.{residue, centred_modulo, coefficients, IsCongruent}
-use Rattle.fips204_base.specs.Sampling.{all_present, matrix_entry, unpacked}
-use Rattle.fips204_base.specs.Transforms.{zeta_at, inverse_transform, minus, product}
-use Rattle.fips204_base.specs.Vectors.{vector_residues, vector_coefficients, matrix_product}
+use Rattle.fips204_base.specs.Packing.{bits_to_integer, width}
+use Rattle.fips204_base.specs.Residues.{residue, sum_below, centred_modulo, coefficients, IsCongruent}
+use Rattle.fips204_base.specs.Sampling.{all_present, coefficient_from_three_bytes, coefficient_from_half_byte, matrix_entry, picks, small_polynomial, unpacked}
+use Rattle.fips204_base.specs.Transforms.{bit_reversed, zeta_at, inverse_transform, minus, product}
+use Rattle.fips204_base.specs.Vectors.{vector_coefficients, matrix_product}
 use Rattle.fips204_base.specs.declared.types.R.{R}
 use Rattle.fips204_base.specs.declared.types.T.{T}
 
@@ -56,6 +57,18 @@ EachPair Pair width a b x y = (j : ℕ) → j < width → Pair (lane a j) (lane 
 abbrev pub EachLaneOfRow : {V : Type 0} → ((ℕ → ℤ) → (ℕ → ℤ) → Type 0) → (V → List ℤ) → ℕ → List V → List V → Type 0
 EachLaneOfRow {V} Changed lanes width before after = (j : ℕ) (d : V) → j < width → Changed (lane_at lanes j d before) (lane_at lanes j d after)
 
+-- the residues of a vector of transforms, by row and place
+abbrev pub vector_residues : List T → ℕ → ℕ → ℕ
+vector_residues v i = coefficients (slice_index_or v i record { 0 = [] }).0
+
+-- value j of the product of a matrix's row of transforms with a vector, of l transforms each
+abbrev pub row_value : ℕ → List T → List T → ℕ → ℕ
+row_value l row u j = sum_below l (λ k. vector_residues row k j * vector_residues u k j) % 8380417
+
+-- the first k of t are the products of the matrix's rows with a vector, of l transforms each
+abbrev pub AreRowProducts : ℕ → ℕ → List (List T) → List T → List T → Type 0
+AreRowProducts k l a u t = (i j : ℕ) → i < k → j < 256 → vector_residues t i j ≡ row_value l (slice_index_or a i []) u j
+
 -- the residues of a matrix of transforms, by row, column and place
 abbrev pub matrix_residues : List (List T) → ℕ → ℕ → ℕ → ℕ
 matrix_residues a i = vector_residues (slice_index_or a i [])
@@ -70,6 +83,34 @@ AreKept old kept given new count = take count new ≡ take 256 (take kept old ++
 abbrev pub three_bytes : ℕ → ℕ → ℕ → ℕ
 three_bytes b0 b1 b2 = b0 + 256 * b1 + 65536 * (b2 % 128)
 
+-- the coefficient that triple p of a front gives, if any
+unfoldable pub triple : List ℕ → ℕ → Option ℤ
+triple front p = coefficient_from_three_bytes (slice_index front (3 * p)) (slice_index front (3 * p + 1)) (slice_index front (3 * p + 2))
+
+-- the coefficients that the first n triples give
+unfoldable pub kept_triples : List ℕ → ℕ → List ℤ
+kept_triples front n = filter_map (triple front) (range_with_len 0 n)
+
+-- the half bytes of bytes, the low half first
+abbrev pub half_bytes : List ℕ → List ℕ
+half_bytes bytes = flat_map (λ byte. byte % 16 ∷ byte / 16 ∷ []) bytes
+
+-- the coefficients that the half bytes of the first n bytes give
+unfoldable pub kept_half_bytes : ℕ → List ℕ → ℕ → List ℤ
+kept_half_bytes eta front n = filter_map (coefficient_from_half_byte eta) (half_bytes (take n front))
+
+-- count small polynomials, those of the numbers from first on, or none where one is none
+unfoldable pub small_vector : ℕ → (List ℕ → List ℕ) → List ℕ → ℕ → ℕ → Option (List R)
+small_vector eta H rho first count = all_present (map (λ r. small_polynomial eta (H (rho ++ to_le_bytes w16 r))) (range_with_len first count))
+
+-- the picks of 256 - tau to 255 from the bytes after the first eight, a quarter as many as the front has
+unfoldable pub challenge_picks : ℕ → List ℕ → List ℕ
+challenge_picks tau front = take tau (picks (256 - tau) (take (length front / 4) (drop 8 front)))
+
+-- field n of bits that are those of fields of c bits each
+unfoldable pub field_at : ℕ → List ℕ → ℕ → ℕ
+field_at c all n = bits_to_integer (take c (drop (c * n) all))
+
 -- the entry of the matrix at row r and column s
 abbrev pub sampled_entry : (List ℕ → List ℕ) → List ℕ → ℕ → ℕ → Option T
 sampled_entry G rho r s = matrix_entry (G (rho ++ s ∷ r ∷ []))
@@ -81,6 +122,22 @@ sampled_row G rho l r = all_present (map (sampled_entry G rho r) (range_with_len
 -- the sign of a set bit is -1, of another 1
 abbrev pub sign_of : ℕ → ℤ
 sign_of bit = if nat_eq bit 1 then neg_ℤ (pos 1) else pos 1
+
+-- coefficient n of X^i b, where X^256 is minus one
+unfoldable pub shifted : (ℕ → ℕ) → ℕ → ℕ → ℕ
+shifted b i n = if nat_lt n i then 8380416 * b (256 + n - i) else b (n - i)
+
+-- coefficient n of the product of a matrix's row with a vector, of l polynomials each
+unfoldable pub row_product : ℕ → (ℕ → ℕ → ℕ) → (ℕ → ℕ → ℕ) → ℕ → ℕ
+row_product l row v n = sum_below l (λ k. product (row k) (v k) n) % 8380417
+
+-- the point at which value i of a transform is taken
+unfoldable pub root : ℕ → ℕ
+root i = 1753 ^ (2 * bit_reversed i + 1) % 8380417
+
+-- the inverse of that point; 1753^512 is 1 modulo q
+unfoldable pub inverse_root : ℕ → ℕ
+inverse_root i = 1753 ^ (512 - (2 * bit_reversed i + 1)) % 8380417
 
 -- the plain row of a row of transforms, by column and place
 abbrev pub plain_row : List T → ℕ → ℕ → ℕ
