@@ -9,8 +9,8 @@ use Rattle.std.proofs.lemmas.Option.{none-some}
 use Rattle.fips204_base.specs.declared.types.R.{R}
 use Rattle.fips204_base.specs.declared.types.T.{T}
 use Rattle.fips204_base.specs.Streams.{IsPrefix, ArePrefixes}
-use Rattle.fips204_base.specs.Sampling.{first_256, all_present, matrix_entry, sampled_matrix, small_polynomial, coefficient_from_half_byte, picks, challenge, unpacked, mask}
-use Rattle.fips204_base.specs.Packing.{bit_length}
+use Rattle.fips204_base.specs.Sampling.{first_256, all_present, matrix_entry, sampled_matrix, small_polynomial, coefficient_from_half_byte, picks, challenge, mask}
+use Rattle.fips204_base.specs.Packing.{bit_length, unpacked}
 use Rattle.fips204_base.proofs.Sampling.{given_joined, kept_triples-beyond, kept_half_bytes-beyond, first_256-beyond}
 use Rattle.fips204_base.proofs.Sampled.{whole_entry, whole_polynomial}
 use Rattle.fips204_base.proofs.Challenges.{picks-beyond, length-challenge_picks}

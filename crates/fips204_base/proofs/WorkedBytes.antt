@@ -1,6 +1,6 @@
 -- Worked values of packing and of the spelling of hints.
 use Rattle.std.proofs.Common.{◌≡◌, [], ◌∷◌, refl, pos, negsuc, arith, length, ℕ, List, ◌++◌, if◌then◌else◌, ◌||◌}
-use Rattle.fips204_base.specs.Packing.{bit_length, bits, bits_to_bytes, bits_to_integer, coefficient, field, integer_to_bits, packed, width}
+use Rattle.fips204_base.specs.Packing.{bit_length, bits, bits_to_bytes, bits_to_integer, coefficient, field, integer_to_bits, width}
 use Rattle.std.specs.Prelude.{replicate, nat_eq}
 use Rattle.std.specs.List.{range_with_len}
 use Rattle.fips204_base.specs.declared.types.R.{R}
@@ -52,18 +52,18 @@ unfolding bit_length
 bits_of_the_mask = refl
 
 -- 1 + 2 * 2^10 + 3 * 2^20 + 4 * 2^30, in five bytes
-ten_bits : packed 10 (1 ∷ 2 ∷ 3 ∷ 4 ∷ []) ≡ 1 ∷ 8 ∷ 48 ∷ 0 ∷ 1 ∷ []
-unfolding packed bits_to_bytes bits_to_integer bits integer_to_bits
+ten_bits : bits_to_bytes (bits 10 (1 ∷ 2 ∷ 3 ∷ 4 ∷ [])) ≡ 1 ∷ 8 ∷ 48 ∷ 0 ∷ 1 ∷ []
+unfolding bits_to_bytes bits_to_integer bits integer_to_bits
 ten_bits = refl
 
 -- 0 + 1 * 8 + 2 * 64 + 3 * 512 + 4 * 4096 + 2^18 + 2 * 2^21, in three bytes
-three_bits : packed 3 (0 ∷ 1 ∷ 2 ∷ 3 ∷ 4 ∷ 0 ∷ 1 ∷ 2 ∷ []) ≡ 136 ∷ 70 ∷ 68 ∷ []
-unfolding packed bits_to_bytes bits_to_integer bits integer_to_bits
+three_bits : bits_to_bytes (bits 3 (0 ∷ 1 ∷ 2 ∷ 3 ∷ 4 ∷ 0 ∷ 1 ∷ 2 ∷ [])) ≡ 136 ∷ 70 ∷ 68 ∷ []
+unfolding bits_to_bytes bits_to_integer bits integer_to_bits
 three_bits = refl
 
 -- 1 + (2^20 - 1) * 2^20, in five bytes
-twenty_bits : packed 20 (1 ∷ 1048575 ∷ []) ≡ 1 ∷ 0 ∷ 240 ∷ 255 ∷ 255 ∷ []
-unfolding packed bits_to_bytes bits_to_integer bits integer_to_bits
+twenty_bits : bits_to_bytes (bits 20 (1 ∷ 1048575 ∷ [])) ≡ 1 ∷ 0 ∷ 240 ∷ 255 ∷ 255 ∷ []
+unfolding bits_to_bytes bits_to_integer bits integer_to_bits
 twenty_bits = refl
 
 field_of_least : field (pos 2) (pos 2) (negsuc 1) ≡ 4

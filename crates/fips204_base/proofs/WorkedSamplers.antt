@@ -3,9 +3,9 @@ use Rattle.std.proofs.Common.{◌≡◌, ℤ, List, [], ◌∷◌, ◌++◌, pos
 use Rattle.std.specs.Prelude.{◌+◌, ◌-◌, ◌*◌, replicate, flat_map, option_map, map, get_or, take, drop, length}
 use Rattle.std.specs.Int.{w16, to_le_bytes}
 use Rattle.std.specs.List.{range_with_len}
-use Rattle.fips204_base.specs.Packing.{bits, integer_to_bits, bits_to_integer, coefficient, bit_length}
+use Rattle.fips204_base.specs.Packing.{bits, integer_to_bits, bits_to_integer, coefficient, bit_length, unpacked}
 use Rattle.fips204_base.specs.Vectors.{polynomial_of}
-use Rattle.fips204_base.specs.Sampling.{coefficient_from_three_bytes, coefficient_from_half_byte, first_256, all_present, matrix_entry, sampled_matrix, small_polynomial, small_vectors, unpacked, mask, picks, moved, places, signed_sum, challenge}
+use Rattle.fips204_base.specs.Sampling.{coefficient_from_three_bytes, coefficient_from_half_byte, first_256, all_present, matrix_entry, sampled_matrix, small_polynomial, small_vectors, mask, picks, moved, places, signed_sum, challenge}
 
 three_bytes_examples : (coefficient_from_three_bytes 0x12 0x34 0x56 ∷ coefficient_from_three_bytes 0x12 0x34 0x80 ∷ coefficient_from_three_bytes 0x01 0xE0 0x80 ∷ coefficient_from_three_bytes 0x01 0xE0 0x7F ∷ coefficient_from_three_bytes 0x00 0xE0 0x7F ∷ [])
     ≡ Some (pos 5649426) ∷ Some (pos 13330) ∷ Some (pos 57345) ∷ None ∷ Some (pos 8380416) ∷ []

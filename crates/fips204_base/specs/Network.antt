@@ -1,12 +1,12 @@
 -- Butterflies, layers and lanes by place, what a sampler's loop keeps, and parts of definitions: cited by no public clause; nobody has to believe it.
 use Rattle.std.specs.Prelude.{◌≡◌, ℕ, ◌+◌, ◌*◌, ◌-◌, ◌/◌, ◌%◌, ◌^◌, ◌<◌, ◌≤◌, ℤ, pos, ◌-ℤ◌, neg_ℤ, nat_abs, List, [], ◌∷◌, slice_index, slice_index_or, ◌++◌, take, drop, length, map, filter_map, flat_map, Option, nat_eq, nat_lt, if◌then◌else◌}
 use Rattle.std.specs.Int.{w16, to_le_bytes}
-use Rattle.std.specs.List.{range_with_len}
+use Rattle.std.specs.List.{All, range_with_len}
 use Rattle.fips204_base.specs.Encodings.{all_ones}
 use Rattle.fips204_base.specs.Lanes.{lane, lane_at}
-use Rattle.fips204_base.specs.Packing.{bits_to_integer, width}
+use Rattle.fips204_base.specs.Packing.{bits, width, unpacked}
 use Rattle.fips204_base.specs.Residues.{residue, sum_below, centred_modulo, coefficients, IsCongruent}
-use Rattle.fips204_base.specs.Sampling.{all_present, coefficient_from_three_bytes, coefficient_from_half_byte, matrix_entry, picks, small_polynomial, unpacked}
+use Rattle.fips204_base.specs.Sampling.{all_present, coefficient_from_three_bytes, coefficient_from_half_byte, matrix_entry, picks, small_polynomial}
 use Rattle.fips204_base.specs.Transforms.{bit_reversed, zeta_at, inverse_transform, minus, product}
 use Rattle.fips204_base.specs.Vectors.{vector_coefficients, matrix_product}
 use Rattle.fips204_base.specs.declared.types.R.{R}
@@ -107,9 +107,11 @@ small_vector eta H rho first count = all_present (map (λ r. small_polynomial et
 unfoldable pub challenge_picks : ℕ → List ℕ → List ℕ
 challenge_picks tau front = take tau (picks (256 - tau) (take (length front / 4) (drop 8 front)))
 
--- field n of bits that are those of fields of c bits each
-unfoldable pub field_at : ℕ → List ℕ → ℕ → ℕ
-field_at c all n = bits_to_integer (take c (drop (c * n) all))
+-- all bits of the bytes, lowest first, are all bits of fields of c bits each, lowest first
+pub record Packs (c : ℕ) (bytes fields : List ℕ) : Type 0 where
+  pub same_bits : bits 8 bytes ≡ bits c fields
+  pub small_bytes : All (λ byte. byte < 256) bytes
+  pub small_fields : All (λ field. field < 2 ^ c) fields
 
 -- the entry of the matrix at row r and column s
 abbrev pub sampled_entry : (List ℕ → List ℕ) → List ℕ → ℕ → ℕ → Option T

@@ -2,7 +2,7 @@
 use Rattle.std.specs.Prelude.{ℕ, ◌+◌, ◌*◌, ◌%◌, ℤ, pos, ◌-ℤ◌, Option, Some, None, Result, MatchResult, ◌&&◌, ◌≡◌, ◌⊎◌, if◌then◌else◌, nat_eq, nat_lt, List, [], ◌∷◌, ◌++◌, length, take, option_map, option_and_then, ◌/◌, map, filter_map, slice_index, flat_map, ◌-◌, ◌+ℤ◌, neg_ℤ, drop, nat_le}
 use Rattle.std.specs.Int.{w16, to_le_bytes}
 use Rattle.std.specs.List.{range_with_len}
-use Rattle.fips204_base.specs.Packing.{bit_length, bits, bits_to_integer, coefficient}
+use Rattle.fips204_base.specs.Packing.{bits, unpacked}
 use Rattle.fips204_base.specs.Vectors.{polynomial_of}
 use Rattle.fips204_base.specs.declared.fault.Fault.{Fault}
 use Rattle.fips204_base.specs.declared.fault.Fault.TheVariants.{SamplingLimit}
@@ -103,15 +103,7 @@ challenge tau front =
     if nat_lt (length picked) tau then None
     else Some (polynomial_of (signed_sum (places (256 - tau) picked) (bits 8 (take 8 front))))
 
--- ---- The mask (Algorithm 34), by unpacking (Algorithms 18 and 19)
-
--- SimpleBitUnpack and BitUnpack (Algorithms 18 and 19): the polynomial that bytes hold, with coefficients from -a to b: coefficient
--- n is that of the field in bits c n to c n + c - 1
-unfoldable pub unpacked : ℕ → ℕ → List ℕ → R
-unpacked a b bytes =
-    let c = bit_length (a + b) in
-    let all = bits 8 bytes in
-    polynomial_of (λ n. coefficient (pos a) (pos b) (bits_to_integer (take c (drop (c * n) all))))
+-- ---- The mask (Algorithm 34)
 
 -- ExpandMask (Algorithm 34): l polynomials, the one at r from H(rho'', kappa + r in two bytes); with c bits a coefficient, 18 or 20,
 -- the first 32 c bytes are read
