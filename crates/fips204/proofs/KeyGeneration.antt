@@ -150,7 +150,7 @@ if_all p H rho key (Some a) (Some s1) (Some s2) = refl
 pub key_generation-is : (p : ParameterSet) (H G : List ℕ → List ℕ) (xi : List ℕ)
     → key_generation p H G xi ≡ key_pair_if_all p H (take 32 (seeds p H xi)) (take 32 (drop 96 (seeds p H xi))) (sampled_matrix G (take 32 (seeds p H xi)) p.k p.l)
     (small_vector p.eta H (take 64 (drop 32 (seeds p H xi))) 0 p.l) (small_vector p.eta H (take 64 (drop 32 (seeds p H xi))) p.l p.k)
-unfolding key_generation small_vectors
+unfolding key_generation small_vectors small_vector
 key_generation-is p H G xi = if_all p H (take 32 (seeds p H xi)) (take 32 (drop 96 (seeds p H xi))) _ _ _
 
 generated-is : (p : ParameterSet) (H G : List ℕ → List ℕ) (xi rho rho' key : List ℕ) (k l : ℕ) (a : Option (List (List T))) (s1 s2 : Option (List R))

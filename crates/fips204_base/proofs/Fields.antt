@@ -5,7 +5,7 @@ use Rattle.std.specs.Int.{leading_zeros, w32}
 use Rattle.std.proofs.lemmas.Bool.{cases_lt}
 use Rattle.std.proofs.lemmas.Bool.Decides.{nat_tests}
 use Rattle.std.proofs.lemmas.Int.{ints, by_lt_z}
-use Rattle.std.proofs.lemmas.List.{take_more_set, map_push, take_all, length-map}
+use Rattle.std.proofs.lemmas.List.{take_more_set, map_push, take_all}
 use Rattle.std.proofs.lemmas.List.Sums.{sum_by-cons}
 use Rattle.std.proofs.lemmas.List.Elements.{All-map, All-weaker, All-push, All-nil, All-cons, All-head, All-tail}
 use Rattle.std.proofs.lemmas.Nat.{leading_length}

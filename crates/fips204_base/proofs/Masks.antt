@@ -1,10 +1,9 @@
 -- The polynomials of the mask, as they are read and unpacked.
-use Rattle.std.proofs.Common.{zero, suc, [], ◌∷◌, ◌≡◌, ◌<◌, ◌*◌, ◌^◌, ℕ, List, ℤ, pos, get_or, length, take, drop, map, ap, sym, ◌∙◌, arith, ◌+◌, ◌≤◌, ◌≤ℤ◌, ◌++◌, length-take, ◌-◌, ◌-ℤ◌, ◌⊎◌, inl, inr, nat_abs, refl}
+use Rattle.std.proofs.Common.{zero, suc, [], ◌∷◌, ◌≡◌, ◌<◌, ◌*◌, ℕ, List, ℤ, pos, get_or, length, take, drop, map, ap, sym, ◌∙◌, arith, ◌+◌, ◌≤◌, ◌≤ℤ◌, ◌++◌, length-take, ◌-◌, ◌-ℤ◌, ◌⊎◌, inl, inr, nat_abs, refl}
 use Rattle.std.specs.List.{range_with_len}
-use Rattle.std.proofs.lemmas.List.{ext_get_or, get_or-map, length-map, take_all, take_at, drop_at, take-take, drop-take}
-use Rattle.std.proofs.lemmas.List.Elements.{All-get_or, All-drop, All-map, All-take}
-use Rattle.std.proofs.lemmas.List.FromFn.{get_or-map-range_with_len, length-map-range_with_len}
-use Rattle.fips204_base.specs.declared.types.R.{R}
+use Rattle.std.proofs.lemmas.List.{take_all, take_at, drop_at, take-take, drop-take}
+use Rattle.std.proofs.lemmas.List.Elements.{All-map}
+use Rattle.std.proofs.lemmas.List.FromFn.{length-map-range_with_len}
 use Rattle.std.proofs.Math.Seq.{take-add}
 use Rattle.std.proofs.lemmas.Nat.{mul-le}
 use Rattle.fips204_base.proofs.Bits.{length-digits}

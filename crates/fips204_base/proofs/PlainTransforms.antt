@@ -10,7 +10,7 @@ use Rattle.fips204_base.specs.declared.types.R.{R}
 use Rattle.fips204_base.specs.declared.types.T.{T}
 use Rattle.fips204_base.proofs.Residues.{congruent_of, congruent_sym, congruent_trans, congruent_mod, congruent_refl, congruent_add, congruent_mul, congruent_equal, congruent_equal_mod, residue_below, sum_equal, sum_below-times}
 use Rattle.fips204_base.proofs.Transforms.{inverse_of_transform, transform_of_inverse}
-use Rattle.fips204_base.proofs.Products.{transform_same, transform_below, transform_of_minus, inverse_same, inverse_below, product_same, product_of_products, row_of_products}
+use Rattle.fips204_base.proofs.Products.{transform_same, transform_below, transform_of_minus, inverse_same, inverse_below, product_same, product_of_products, row_of_products, row_below}
 use Rattle.fips204_base.proofs.Vectors.{vector_of-entry, polynomial_of-at}
 
 -- ---- the inverse transform
@@ -108,6 +108,9 @@ plain-row columns row v w r n few h l made =
 pub matrix-row : (l : ℕ) (a : List (List T)) (v : ℕ → ℕ → ℕ) (r n : ℕ) → matrix_product l a v r n ≡ row_product l (plain_matrix a r) v n
 unfolding matrix_product row_product
 matrix-row l a v r n = refl
+
+pub matrix_below : (l : ℕ) (a : List (List T)) (v : ℕ → ℕ → ℕ) (r n : ℕ) → matrix_product l a v r n < 8380417
+matrix_below l a v r n = rw (matrix-row l a v r n) (row_below l (plain_matrix a r) v n)
 
 -- Montgomery form and back
 pub back_from_mont : (x y : ℕ) → x ≡ 4294967296 * y % 8380417 → y < 8380417 → from_mont x ≡ y

@@ -1,14 +1,16 @@
--- Butterflies, layers and lanes by place, what a sampler's loop keeps, and parts of definitions: cited by no public clause; nobody has to believe it.
-use Rattle.std.specs.Prelude.{◌≡◌, ℕ, ◌+◌, ◌*◌, ◌-◌, ◌/◌, ◌%◌, ◌^◌, ◌<◌, ◌≤◌, ℤ, pos, ◌-ℤ◌, neg_ℤ, nat_abs, List, [], ◌∷◌, slice_index, slice_index_or, ◌++◌, take, drop, length, map, filter_map, flat_map, Option, nat_eq, nat_lt, if◌then◌else◌}
+-- Butterflies, layers and lanes by place, what a sampler's loop keeps, bounds, and parts of definitions: cited by no public clause; nobody has to believe it.
+use Rattle.std.specs.Prelude.{◌≡◌, ℕ, ◌+◌, ◌*◌, ◌-◌, ◌/◌, ◌%◌, ◌^◌, ◌<◌, ◌≤◌, ◌≤ℤ◌, ◌⊎◌, ℤ, pos, ◌-ℤ◌, neg_ℤ, nat_abs, List, [], ◌∷◌, slice_index, slice_index_or, ◌++◌, take, drop, length, map, filter_map, flat_map, Option, Some, None, Result, MatchResult, nat_eq, nat_lt, if◌then◌else◌}
 use Rattle.std.specs.Int.{w16, to_le_bytes}
 use Rattle.std.specs.List.{All, range_with_len}
 use Rattle.fips204_base.specs.Encodings.{all_ones}
 use Rattle.fips204_base.specs.Lanes.{lane, lane_at}
 use Rattle.fips204_base.specs.Packing.{bits, width, unpacked}
 use Rattle.fips204_base.specs.Residues.{residue, sum_below, centred_modulo, coefficients, IsCongruent}
-use Rattle.fips204_base.specs.Sampling.{all_present, coefficient_from_three_bytes, coefficient_from_half_byte, matrix_entry, picks, small_polynomial}
+use Rattle.fips204_base.specs.Sampling.{all_present, coefficient_from_three_bytes, coefficient_from_half_byte, matrix_entry, picks, sampled_matrix, small_polynomial}
 use Rattle.fips204_base.specs.Transforms.{bit_reversed, zeta_at, inverse_transform, minus, product}
-use Rattle.fips204_base.specs.Vectors.{vector_coefficients, matrix_product}
+use Rattle.fips204_base.specs.Vectors.{coefficient_at, entry, vector_coefficients, matrix_product}
+use Rattle.fips204_base.specs.declared.fault.Fault.{Fault}
+use Rattle.fips204_base.specs.declared.fault.Fault.TheVariants.{SamplingLimit}
 use Rattle.fips204_base.specs.declared.types.R.{R}
 use Rattle.fips204_base.specs.declared.types.T.{T}
 
@@ -76,6 +78,37 @@ matrix_residues a i = vector_residues (slice_index_or a i [])
 -- the first count of the new values are the first `kept` of the old ones and then those given, as many as have room among 256
 abbrev pub AreKept : List ℤ → ℕ → List ℤ → List ℤ → ℕ → Type 0
 AreKept old kept given new count = take count new ≡ take 256 (take kept old ++ given)
+
+-- ---- bounds, and what a step promises
+
+-- eta at the parameter sets (FIPS 204, Table 1)
+abbrev pub IsEta : ℤ → Type 0
+IsEta eta = (eta ≡ pos 2) ⊎ (eta ≡ pos 4)
+
+-- every number has an absolute value of at most m
+abbrev pub ValuesWithin : ℕ → List ℤ → Type 0
+ValuesWithin m w = All (λ x. nat_abs x ≤ m) w
+
+-- each of the 256 coefficients of a polynomial has an absolute value of at most m
+abbrev pub PolynomialWithin : ℕ → List ℤ → Type 0
+PolynomialWithin m w = (n : ℕ) → n < 256 → nat_abs (coefficient_at w n) ≤ m
+
+-- every coefficient of the k polynomials of a vector has an absolute value of at most m
+abbrev pub VectorWithin : ℕ → ℕ → List R → Type 0
+VectorWithin k m v = (r n : ℕ) → r < k → n < 256 → nat_abs (entry v r n) ≤ m
+
+-- every coefficient of the k polynomials of a vector is from 0 to q - 1
+abbrev pub IsResidueVector : ℕ → List R → Type 0
+IsResidueVector k v = (r n : ℕ) → r < k → n < 256 → (pos 0 ≤ℤ entry v r n) × (entry v r n ≤ℤ pos 8380416)
+
+-- every value of a vector of transforms has an absolute value of at most m
+abbrev pub TransformsWithin : ℕ → List T → Type 0
+TransformsWithin m v = All (λ t. ValuesWithin m t.0) v
+
+-- a step that samples the matrix of rho: it refuses where there is none, and else P holds of the matrix
+abbrev pub OnSampled : (List ℕ → List ℕ) → List ℕ → ℕ → ℕ → Result (Unit {0}) Fault → (List (List T) → Type 0) → Type 0
+OnSampled G rho k l result P = MatchResult result (λ _. (a : List (List T)) × (sampled_matrix G rho k l ≡ Some a) × P a)
+    (λ fault. (sampled_matrix G rho k l ≡ None) × (fault ≡ SamplingLimit))
 
 -- ---- parts of definitions, by themselves
 

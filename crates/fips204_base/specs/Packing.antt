@@ -1,5 +1,5 @@
 -- Bits, fields and bytes (FIPS 204, Algorithms 9 to 13 and 16 to 19).
-use Rattle.std.specs.Prelude.{◌≡◌, ◌<◌, ◌*◌, ◌/◌, ◌%◌, ◌+◌, ◌^◌, ℕ, zero, suc, List, [], ◌∷◌, ℤ, pos, ◌+ℤ◌, ◌-ℤ◌, ◌≤ℤ◌, ◌<ℤ◌, nat_abs, length, map, take, drop, count_by, nat_le, if◌then◌else◌, int_lt}
+use Rattle.std.specs.Prelude.{◌*◌, ◌/◌, ◌%◌, ◌+◌, ◌^◌, ℕ, zero, suc, List, [], ◌∷◌, ℤ, pos, ◌+ℤ◌, ◌-ℤ◌, ◌≤ℤ◌, nat_abs, length, map, take, drop, count_by, nat_le, if◌then◌else◌, int_lt}
 use Rattle.std.specs.List.{All, flat_map, range_with_len}
 use Rattle.fips204_base.specs.declared.types.R.{R}
 

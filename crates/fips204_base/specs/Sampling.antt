@@ -1,17 +1,11 @@
 -- Samplers: the matrix, small vectors, the challenge and the mask (FIPS 204, Algorithms 14, 15 and 29 to 34).
-use Rattle.std.specs.Prelude.{ℕ, ◌+◌, ◌*◌, ◌%◌, ℤ, pos, ◌-ℤ◌, Option, Some, None, Result, MatchResult, ◌&&◌, ◌≡◌, ◌⊎◌, if◌then◌else◌, nat_eq, nat_lt, List, [], ◌∷◌, ◌++◌, length, take, option_map, option_and_then, ◌/◌, map, filter_map, slice_index, flat_map, ◌-◌, ◌+ℤ◌, neg_ℤ, drop, nat_le}
+use Rattle.std.specs.Prelude.{ℕ, ◌+◌, ◌*◌, ◌%◌, ℤ, pos, ◌-ℤ◌, Option, Some, None, ◌&&◌, if◌then◌else◌, nat_eq, nat_lt, List, [], ◌∷◌, ◌++◌, length, take, option_map, option_and_then, ◌/◌, map, filter_map, slice_index, flat_map, ◌-◌, ◌+ℤ◌, neg_ℤ, drop, nat_le}
 use Rattle.std.specs.Int.{w16, to_le_bytes}
 use Rattle.std.specs.List.{range_with_len}
 use Rattle.fips204_base.specs.Packing.{bits, unpacked}
 use Rattle.fips204_base.specs.Vectors.{polynomial_of}
-use Rattle.fips204_base.specs.declared.fault.Fault.{Fault}
-use Rattle.fips204_base.specs.declared.fault.Fault.TheVariants.{SamplingLimit}
 use Rattle.fips204_base.specs.declared.types.R.{R}
 use Rattle.fips204_base.specs.declared.types.T.{T}
-
--- eta at the parameter sets (FIPS 204, Table 1)
-abbrev pub IsEta : ℤ → Type 0
-IsEta eta = (eta ≡ pos 2) ⊎ (eta ≡ pos 4)
 
 -- CoeffFromThreeBytes (Algorithm 14): the number of three bytes, the lowest first, without the top bit of the last; or none from q on
 abbrev pub coefficient_from_three_bytes : ℕ → ℕ → ℕ → Option ℤ
@@ -48,11 +42,6 @@ matrix_entry front =
 unfoldable pub sampled_matrix : (List ℕ → List ℕ) → List ℕ → ℕ → ℕ → Option (List (List T))
 sampled_matrix G rho k l =
     all_present (map (λ r. all_present (map (λ s. matrix_entry (G (rho ++ s ∷ r ∷ []))) (range_with_len 0 l))) (range_with_len 0 k))
-
--- a step that samples the matrix of rho: it refuses where there is none, and else P holds of the matrix
-abbrev pub OnSampled : (List ℕ → List ℕ) → List ℕ → ℕ → ℕ → Result (Unit {0}) Fault → (List (List T) → Type 0) → Type 0
-OnSampled G rho k l result P = MatchResult result (λ _. (a : List (List T)) × (sampled_matrix G rho k l ≡ Some a) × P a)
-    (λ fault. (sampled_matrix G rho k l ≡ None) × (fault ≡ SamplingLimit))
 
 -- ---- Small polynomials (Algorithms 31 and 33)
 

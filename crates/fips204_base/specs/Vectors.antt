@@ -1,5 +1,5 @@
 -- Vectors and matrices of polynomials, and bounds on their coefficients (FIPS 204, sections 2.3 to 2.5).
-use Rattle.std.specs.Prelude.{◌≡◌, ◌≤◌, ◌<◌, ◌≤ℤ◌, ℕ, List, [], ℤ, pos, nat_abs, slice_index_or, ◌*◌, ◌%◌, ◌-ℤ◌, length, map}
+use Rattle.std.specs.Prelude.{◌≡◌, ◌≤◌, ◌<◌, ◌≤ℤ◌, ℕ, List, [], ℤ, pos, nat_abs, slice_index_or, ◌%◌, ◌-ℤ◌, length, map}
 use Rattle.std.specs.List.{All, range_with_len}
 use Rattle.fips204_base.specs.Packing.{PolynomialInRange}
 use Rattle.fips204_base.specs.Residues.{coefficients, sum_below}
@@ -15,29 +15,9 @@ coefficient_at w n = slice_index_or w n (pos 0)
 abbrev pub entry : List R → ℕ → ℕ → ℤ
 entry v r = coefficient_at (slice_index_or v r record { 0 = [] }).0
 
--- every number has an absolute value of at most m
-abbrev pub ValuesWithin : ℕ → List ℤ → Type 0
-ValuesWithin m w = All (λ x. nat_abs x ≤ m) w
-
--- each of the 256 coefficients of a polynomial has an absolute value of at most m
-abbrev pub PolynomialWithin : ℕ → List ℤ → Type 0
-PolynomialWithin m w = (n : ℕ) → n < 256 → nat_abs (coefficient_at w n) ≤ m
-
--- every coefficient of the k polynomials of a vector has an absolute value of at most m
-abbrev pub VectorWithin : ℕ → ℕ → List R → Type 0
-VectorWithin k m v = (r n : ℕ) → r < k → n < 256 → nat_abs (entry v r n) ≤ m
-
--- every coefficient of the k polynomials of a vector is from 0 to q - 1
-abbrev pub IsResidueVector : ℕ → List R → Type 0
-IsResidueVector k v = (r n : ℕ) → r < k → n < 256 → (pos 0 ≤ℤ entry v r n) × (entry v r n ≤ℤ pos 8380416)
-
--- every value of a vector of transforms has an absolute value of at most m
-abbrev pub TransformsWithin : ℕ → List T → Type 0
-TransformsWithin m v = All (λ t. ValuesWithin m t.0) v
-
 -- every value of a matrix of transforms has an absolute value of at most m
 abbrev pub MatrixWithin : ℕ → List (List T) → Type 0
-MatrixWithin m a = All (TransformsWithin m) a
+MatrixWithin m a = All (λ row. All (λ t. All (λ x. nat_abs x ≤ m) t.0) row) a
 
 -- every coefficient of a vector's polynomials is from lo to hi
 abbrev pub VectorInRange : ℤ → ℤ → List R → Type 0

@@ -2,7 +2,7 @@
 #![tactic(auto)]
 
 ghost use Rattle.std.specs.Prelude.{◌≡◌, ◌≤◌, ◌+◌, ◌*◌, ℕ, List, pos, nat_abs, length, take, drop, MatchResult, ◌-ℤ◌};
-ghost use Rattle.fips204_base.specs.Sampling.{IsEta};
+ghost use Rattle.fips204_base.specs.Network.{IsEta};
 ghost use Rattle.fips204_base.specs.Encodings.{IsPrivateKey, private_key_bytes};
 ghost use Rattle.fips204_base.specs.Packing.{width};
 ghost use Rattle.fips204_base.specs.Vectors.{VectorInRange};
