@@ -3,7 +3,7 @@ use Rattle.std.proofs.Common.{◌≡◌, ◌*◌, ℕ, ℤ, List, [], ◌∷◌,
 use Rattle.fips204_base.specs.declared.fault.Fault.TheVariants.{TooManyAttempts, SamplingLimit, SignCtx, HashCtx, OidEmpty, OidNotDer, DigestTooLong, DigestLength}
 use Rattle.fips204_base.specs.Encodings.{is_one}
 use Rattle.fips204_base.specs.Sampling.{matrix_entry, sampled_matrix, first_256, all_present, small_polynomial, small_vectors}
-use Rattle.fips204_base.specs.Packing.{bit_length, bits_to_bytes, bits, integer_to_bits, bits_to_integer, field}
+use Rattle.fips204_base.specs.Packing.{bit_length, bits_to_bytes, bits, integer_to_bits, bits_to_integer, polynomial_bytes}
 use Rattle.fips204_base.specs.Rounding.{decompose, use_hint}
 use Rattle.fips204_base.specs.Residues.{sum_below}
 use Rattle.fips204_base.specs.Transforms.{product}
@@ -171,7 +171,7 @@ seed_of_masks sk = (refl, refl)
 commitments : (commitment set_44 (λ x. x) (7 ∷ []) (record { 0 = replicate 256 (pos 43) } ∷ []) ≡ 7 ∷ flat_map (λ _. 0xEB ∷ 0xBA ∷ 0xAE ∷ []) (range_with_len 0 10) ++ 0xEB ∷ [])
     × (commitment set_65 (λ x. x) (7 ∷ []) (record { 0 = replicate 256 (pos 10) } ∷ []) ≡ 7 ∷ replicate 47 0xAA)
     × (commitment set_87 (λ x. x) (7 ∷ []) (record { 0 = replicate 256 (pos 10) } ∷ []) ≡ 7 ∷ replicate 63 0xAA)
-unfolding commitment bits_to_bytes bits integer_to_bits bits_to_integer field bit_length
+unfolding commitment bits_to_bytes bits integer_to_bits bits_to_integer polynomial_bytes bit_length
 commitments = (refl, refl, refl)
 
 -- a hint tells whether v and v + t have other high bits: from gamma2 to one more, and back by -1; not from one less, from one more, or

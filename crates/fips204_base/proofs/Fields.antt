@@ -10,8 +10,8 @@ use Rattle.std.proofs.lemmas.List.Sums.{sum_by-cons}
 use Rattle.std.proofs.lemmas.List.Elements.{All-map, All-weaker, All-push, All-nil, All-cons, All-head, All-tail}
 use Rattle.std.proofs.lemmas.Nat.{leading_length}
 use Rattle.std.proofs.Math.Nat.{pow-succ', pow-le-pow_right}
-use Rattle.fips204_base.specs.Packing.{Bounds, PolynomialInRange, bit_length, bits, coefficient, field, integer_to_bits, width}
-use Rattle.fips204_base.specs.Network.{Packs}
+use Rattle.fips204_base.specs.Packing.{Bounds, PolynomialInRange, bit_length, bits, integer_to_bits, width}
+use Rattle.fips204_base.specs.Network.{Packs, coefficient, field}
 use Rattle.fips204_base.proofs.Bits.{digits-zero}
 
 -- the powers of two that are at most a number of c digits, counted from 2 ^ s on

@@ -8,13 +8,13 @@ use Rattle.std.proofs.Math.Seq.{take-add}
 use Rattle.std.proofs.lemmas.Nat.{mul-le}
 use Rattle.fips204_base.proofs.Bits.{length-digits}
 use Rattle.fips204_base.proofs.Vectors.{length-polynomial_of, polynomial_of-at, polynomial_of-same}
-use Rattle.fips204_base.specs.Packing.{integer_to_bits, bits, bits_to_integer, coefficient, width, PolynomialInRange, bit_length, unpacked}
+use Rattle.fips204_base.specs.Packing.{integer_to_bits, bits, bits_to_integer, width, PolynomialInRange, bit_length, unpacked}
 use Rattle.fips204_base.specs.Vectors.{polynomial_of, IsVector}
 use Rattle.fips204_base.specs.Sampling.{mask}
 use Rattle.fips204_base.proofs.Packing.{field_at, field_small, bits_below}
 use Rattle.std.specs.Int.{w16, to_le_bytes}
 use Rattle.std.proofs.lemmas.Int.{ints}
-use Rattle.fips204_base.specs.Network.{mask_polynomial, mask_width}
+use Rattle.fips204_base.specs.Network.{mask_polynomial, mask_width, coefficient}
 
 -- What is unpacked are the first 32 c bytes, with c bits a coefficient.
 
@@ -40,11 +40,11 @@ field_at-take c n xs h =
     ∙ ap (λ l. bits_to_integer (take c l)) (drop-take (c * n) rest (bits 8 xs)) ∙ ap bits_to_integer (take-take c rest (drop (c * n) (bits 8 xs)) enough)
 
 unpacked-is : (a b : ℕ) (bytes : List ℕ) → unpacked a b bytes ≡ polynomial_of (λ n. coefficient (pos a) (pos b) (field_at (width (pos a) (pos b)) (bits 8 bytes) n))
-unfolding unpacked polynomial_of
+unfolding unpacked polynomial_of coefficient
 unpacked-is a b bytes = refl
 
 pub unpacked-take : (a b : ℕ) (bytes : List ℕ) → unpacked a b (take (32 * width (pos a) (pos b)) bytes) ≡ unpacked a b bytes
-unfolding unpacked polynomial_of
+unfolding unpacked polynomial_of coefficient
 unpacked-take a b bytes =
     let c = width (pos a) (pos b) in
     let f = λ (n : ℕ). coefficient (pos a) (pos b) (field_at c (bits 8 (take (32 * c) bytes)) n) in

@@ -9,9 +9,9 @@ use Rattle.std.proofs.lemmas.List.FromFn.{fill_by_all, length-map-range_with_len
 use Rattle.std.proofs.lemmas.Nat.{pow_pos}
 use Rattle.std.proofs.Math.Seq.{take-add, drop-append-add}
 use Rattle.std.proofs.Math.Nat.{pow-succ'}
-use Rattle.fips204_base.specs.Packing.{bits, bits_to_bytes, bits_to_integer, integer_to_bits, Bounds, PolynomialInRange, coefficient, field, polynomial_bytes, unpacked, width}
+use Rattle.fips204_base.specs.Packing.{bits, bits_to_bytes, bits_to_integer, integer_to_bits, Bounds, PolynomialInRange, polynomial_bytes, unpacked, width}
 use Rattle.fips204_base.specs.declared.types.R.{R}
-use Rattle.fips204_base.specs.Network.{Packs}
+use Rattle.fips204_base.specs.Network.{Packs, coefficient, field}
 use Rattle.fips204_base.proofs.Bits.{digits-zero, digits-suc, length-digits, same_numbers}
 use Rattle.fips204_base.proofs.Fields.{coefficient-field, field-coefficient, fields_fit}
 
@@ -177,20 +177,24 @@ in_range_again : (a b : ℤ) (w : List ℤ) → Bounds a b → PolynomialInRange
 in_range_again a b w bounds range =
     All-weaker (λ (x : ℤ). ((pos 0 -ℤ a) ≤ℤ x) × (x ≤ℤ b)) (λ (x : ℤ). coefficient a b (field a b x) ≡ x) (λ x r. coefficient-field a b x bounds r.0 r.1) w range
 
+pub polynomial_bytes-is : (a b : ℤ) (w : List ℤ) → polynomial_bytes a b w ≡ bits_to_bytes (bits (width a b) (map (field a b) w))
+unfolding polynomial_bytes field
+polynomial_bytes-is a b w = refl
+
 pub length-polynomial_bytes : (a b : ℤ) (w : List ℤ) → length w ≡ 256 → length (polynomial_bytes a b w) ≡ 32 * width a b
 length-polynomial_bytes a b w n =
     let all : length (map (field a b) w) ≡ 256 = length-map w (field a b) ∙ n in
-    length-packed (width a b) (32 * width a b) (map (field a b) w) (rw all (eighths (width a b)))
+    ap length (polynomial_bytes-is a b w) ∙ length-packed (width a b) (32 * width a b) (map (field a b) w) (rw all (eighths (width a b)))
 
 -- bytes unpack to a polynomial in range exactly if they are its bytes
 pub unpacks_bytes : (a b : ℤ) (bytes : List ℕ) (w : List ℤ) → Unpacks a b bytes w → bytes ≡ polynomial_bytes a b w
-unpacks_bytes a b bytes w u = is_packed (width a b) bytes (map (field a b) w) u.same_fields
+unpacks_bytes a b bytes w u = is_packed (width a b) bytes (map (field a b) w) u.same_fields ∙ sym (polynomial_bytes-is a b w)
 
 pub bytes_unpack : (a b : ℤ) (w : List ℤ) → Bounds a b → PolynomialInRange (pos 0 -ℤ a) b w → length w ≡ 256 → Unpacks a b (polynomial_bytes a b w) w
 bytes_unpack a b w bounds range n =
     let all : length (map (field a b) w) ≡ 256 = length-map w (field a b) ∙ n in
     record {
-      same_fields = packs_packed (width a b) (32 * width a b) (map (field a b) w) (rw all (eighths (width a b))) (fields_fit a b w bounds range);
+      same_fields = rw (polynomial_bytes-is a b w) (packs_packed (width a b) (32 * width a b) (map (field a b) w) (rw all (eighths (width a b))) (fields_fit a b w bounds range));
       count = n;
       coefficients = in_range_again a b w bounds range;
     }
@@ -214,7 +218,7 @@ field_at-packs c bytes fields n p h =
     ∙ integer_of_digits c (get_or fields n 0) (All-get_or (λ (f : ℕ). f < 2 ^ c) fields n 0 h p.small_fields)
 
 unpacked-unpacks : (a b : ℕ) (bytes : List ℕ) (w : R) → Unpacks (pos a) (pos b) bytes w.0 → unpacked a b bytes ≡ w
-unfolding unpacked
+unfolding unpacked coefficient
 unpacked-unpacks a b bytes w u =
     let c = width (pos a) (pos b) in
     let value = λ (n : ℕ). coefficient (pos a) (pos b) (field_at c (bits 8 bytes) n) in
@@ -234,7 +238,7 @@ fields_again a b f [] = refl
 fields_again a b f (n ∷ ns) = rw (field-coefficient a b (f n), fields_again a b f ns) refl
 
 unpacks-unpacked : (a b : ℕ) (bytes : List ℕ) → length bytes ≡ 32 * width (pos a) (pos b) → All (λ byte. byte < 256) bytes → Unpacks (pos a) (pos b) bytes (unpacked a b bytes).0
-unfolding unpacked
+unfolding unpacked coefficient
 unpacks-unpacked a b bytes room small =
     let c = width (pos a) (pos b) in
     let at = field_at c (bits 8 bytes) in

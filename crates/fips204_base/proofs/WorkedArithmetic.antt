@@ -6,7 +6,7 @@ use Rattle.fips204_base.specs.Transforms.{bit_reversed, zeta_at, transform, inve
 use Rattle.fips204_base.specs.Vectors.{matrix_product}
 use Rattle.std.specs.Prelude.{replicate, nat_eq}
 use Rattle.std.specs.List.{range_with_len, flat_map}
-use Rattle.fips204_base.specs.Packing.{polynomial_bytes, bits_to_bytes, bits, integer_to_bits, bits_to_integer, field, bit_length}
+use Rattle.fips204_base.specs.Packing.{polynomial_bytes, bits_to_bytes, bits, integer_to_bits, bits_to_integer, bit_length}
 use Rattle.fips204_base.specs.Rounding.{power2round, decompose, make_hint, use_hint, high_values}
 
 -- Worked values of the definitions of residues, products and transforms.
@@ -96,7 +96,7 @@ highest_times_x = refl
 
 -- every coefficient of t0 is 2, so every field is 4094, in 13 bits
 fields_of_t0 : polynomial_bytes (pos 4095) (pos 4096) (replicate 256 (pos 2)) ≡ flat_map (λ _. 0xFE ∷ 0xCF ∷ 0xFF ∷ 0xF9 ∷ 0x3F ∷ 0xFF ∷ 0xE7 ∷ 0xFF ∷ 0xFC ∷ 0x9F ∷ 0xFF ∷ 0xF3 ∷ 0x7F ∷ []) (range_with_len 0 32)
-unfolding bits_to_bytes bits integer_to_bits bits_to_integer field bit_length
+unfolding bits_to_bytes bits integer_to_bits bits_to_integer polynomial_bytes bit_length
 fields_of_t0 = refl
 
 -- Worked values of rounding and of hints.

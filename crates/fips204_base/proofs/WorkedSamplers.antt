@@ -3,7 +3,7 @@ use Rattle.std.proofs.Common.{◌≡◌, ℤ, List, [], ◌∷◌, ◌++◌, pos
 use Rattle.std.specs.Prelude.{◌+◌, ◌-◌, ◌*◌, replicate, flat_map, option_map, map, get_or, take, drop, length}
 use Rattle.std.specs.Int.{w16, to_le_bytes}
 use Rattle.std.specs.List.{range_with_len}
-use Rattle.fips204_base.specs.Packing.{bits, integer_to_bits, bits_to_integer, coefficient, bit_length, unpacked}
+use Rattle.fips204_base.specs.Packing.{bits, integer_to_bits, bits_to_integer, bit_length, unpacked}
 use Rattle.fips204_base.specs.Vectors.{polynomial_of}
 use Rattle.fips204_base.specs.Sampling.{coefficient_from_three_bytes, coefficient_from_half_byte, first_256, all_present, matrix_entry, sampled_matrix, small_polynomial, small_vectors, mask, picks, moved, places, signed_sum, challenge}
 
@@ -49,7 +49,7 @@ seeds_of_small = refl
 
 -- the seed of a polynomial of the mask ends in kappa and its number together
 seeds_of_mask : map (λ w. get_or w.0 0 (pos 0)) (mask 131072 (λ seed. seed ++ replicate 574 0) [] 2 5696) ≡ pos 125376 ∷ pos 125375 ∷ []
-unfolding mask polynomial_of unpacked bits integer_to_bits bits_to_integer coefficient bit_length
+unfolding mask polynomial_of unpacked bits integer_to_bits bits_to_integer bit_length
 seeds_of_mask = refl
 
 -- 218 is above 217, and 219 above 218
@@ -75,12 +75,12 @@ challenge_past_its_limit = refl
 
 -- over bytes 55 every field of 18 bits is 87381, and every coefficient 131072 less it
 mask_over_55 : mask 131072 (λ _. replicate 576 0x55) [] 1 0 ≡ record { 0 = replicate 256 (pos 43691) } ∷ []
-unfolding mask polynomial_of unpacked bits integer_to_bits bits_to_integer coefficient bit_length
+unfolding mask polynomial_of unpacked bits integer_to_bits bits_to_integer bit_length
 mask_over_55 = refl
 
 -- over zeros every coefficient is gamma1, also with 20 bits
 mask_over_zeros : mask 524288 (λ _. replicate 640 0) [] 1 0 ≡ record { 0 = replicate 256 (pos 524288) } ∷ []
-unfolding mask polynomial_of unpacked bits integer_to_bits bits_to_integer coefficient bit_length
+unfolding mask polynomial_of unpacked bits integer_to_bits bits_to_integer bit_length
 mask_over_zeros = refl
 
 -- the largest counter of the mask, 813 * 7 + 6
@@ -124,5 +124,5 @@ challenge_of_two = refl
 
 -- the seed of a polynomial of the mask is rho and two bytes
 mask_begins_with_rho : map (λ w. take 2 w.0) (mask 131072 (λ seed. seed ++ replicate 573 0xFF) (5 ∷ []) 1 513) ≡ (negsuc 260 ∷ negsuc 131007 ∷ []) ∷ []
-unfolding mask polynomial_of unpacked bits integer_to_bits bits_to_integer coefficient bit_length
+unfolding mask polynomial_of unpacked bits integer_to_bits bits_to_integer bit_length
 mask_begins_with_rho = refl

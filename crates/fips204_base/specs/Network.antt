@@ -1,5 +1,5 @@
 -- Butterflies, layers and lanes by place, what a sampler's loop keeps, bounds, and parts of definitions: cited by no public clause; nobody has to believe it.
-use Rattle.std.specs.Prelude.{◌≡◌, ℕ, ◌+◌, ◌*◌, ◌-◌, ◌/◌, ◌%◌, ◌^◌, ◌<◌, ◌≤◌, ◌≤ℤ◌, ◌⊎◌, ℤ, pos, ◌-ℤ◌, neg_ℤ, nat_abs, List, [], ◌∷◌, slice_index, slice_index_or, ◌++◌, take, drop, length, map, filter_map, flat_map, Option, Some, None, Result, MatchResult, nat_eq, nat_lt, if◌then◌else◌}
+use Rattle.std.specs.Prelude.{◌≡◌, ℕ, ◌+◌, ◌*◌, ◌-◌, ◌/◌, ◌%◌, ◌^◌, ◌<◌, ◌≤◌, ◌≤ℤ◌, ◌⊎◌, ℤ, pos, ◌-ℤ◌, neg_ℤ, nat_abs, List, [], ◌∷◌, slice_index, slice_index_or, ◌++◌, take, drop, length, map, filter_map, flat_map, Option, Some, None, Result, MatchResult, nat_eq, nat_lt, int_lt, if◌then◌else◌}
 use Rattle.std.specs.Int.{w16, to_le_bytes}
 use Rattle.std.specs.List.{All, range_with_len}
 use Rattle.fips204_base.specs.Encodings.{all_ones}
@@ -139,6 +139,14 @@ small_vector eta H rho first count = all_present (map (λ r. small_polynomial et
 -- the picks of 256 - tau to 255 from the bytes after the first eight, a quarter as many as the front has
 unfoldable pub challenge_picks : ℕ → List ℕ → List ℕ
 challenge_picks tau front = take tau (picks (256 - tau) (take (length front / 4) (drop 8 front)))
+
+-- the field of a coefficient from -a to b: the coefficient itself where a is 0, else its distance from b
+unfoldable pub field : ℤ → ℤ → ℤ → ℕ
+field a b x = if int_lt (pos 0) a then nat_abs (b -ℤ x) else nat_abs x
+
+-- the coefficient that has a field
+unfoldable pub coefficient : ℤ → ℤ → ℕ → ℤ
+coefficient a b f = if int_lt (pos 0) a then b -ℤ pos f else pos f
 
 -- all bits of the bytes, lowest first, are all bits of fields of c bits each, lowest first
 pub record Packs (c : ℕ) (bytes fields : List ℕ) : Type 0 where

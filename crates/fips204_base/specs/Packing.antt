@@ -29,14 +29,6 @@ bit_length n = count_by (λ k. nat_le (2 ^ k) n) (range_with_len 0 32)
 abbrev pub width : ℤ → ℤ → ℕ
 width a b = bit_length (nat_abs (a +ℤ b))
 
--- the field of a coefficient from -a to b: the coefficient itself where a is 0, else its distance from b
-unfoldable pub field : ℤ → ℤ → ℤ → ℕ
-field a b x = if int_lt (pos 0) a then nat_abs (b -ℤ x) else nat_abs x
-
--- the coefficient that has a field
-unfoldable pub coefficient : ℤ → ℤ → ℕ → ℤ
-coefficient a b f = if int_lt (pos 0) a then b -ℤ pos f else pos f
-
 -- every coefficient is from lo to hi
 abbrev pub PolynomialInRange : ℤ → ℤ → List ℤ → Type 0
 PolynomialInRange lo hi w = All (λ x. (lo ≤ℤ x) × (x ≤ℤ hi)) w
@@ -45,14 +37,17 @@ PolynomialInRange lo hi w = All (λ x. (lo ≤ℤ x) × (x ≤ℤ hi)) w
 abbrev pub Bounds : ℤ → ℤ → Type 0
 Bounds a b = (pos 0 ≤ℤ a) × (a ≤ℤ pos 1048575) × (pos 1 ≤ℤ b) × (b ≤ℤ pos 1048575)
 
--- SimpleBitPack and BitPack (Algorithms 16 and 17): the bytes of a polynomial with coefficients from -a to b
-abbrev pub polynomial_bytes : ℤ → ℤ → List ℤ → List ℕ
-polynomial_bytes a b w = bits_to_bytes (bits (bit_length (nat_abs (a +ℤ b))) (map (field a b) w))
+-- SimpleBitPack and BitPack (Algorithms 16 and 17): the bytes of a polynomial with coefficients from -a to b; the field of a coefficient
+-- is its distance from b, but where a is 0 the coefficient itself
+unfoldable pub polynomial_bytes : ℤ → ℤ → List ℤ → List ℕ
+polynomial_bytes a b w =
+    let field = λ (x : ℤ). if int_lt (pos 0) a then nat_abs (b -ℤ x) else nat_abs x in
+    bits_to_bytes (bits (bit_length (nat_abs (a +ℤ b))) (map field w))
 
--- SimpleBitUnpack and BitUnpack (Algorithms 18 and 19): the polynomial that bytes hold, whose coefficient n has the field in bits c n to
--- c n + c - 1, where a field has c bits
+-- SimpleBitUnpack and BitUnpack (Algorithms 18 and 19): the polynomial that bytes hold; field n stands in bits c n to c n + c - 1
 unfoldable pub unpacked : ℕ → ℕ → List ℕ → R
 unpacked a b bytes =
     let c = bit_length (a + b) in
     let all = bits 8 bytes in
-    record { 0 = map (λ n. coefficient (pos a) (pos b) (bits_to_integer (take c (drop (c * n) all)))) (range_with_len 0 256) }
+    let field = λ (n : ℕ). pos (bits_to_integer (take c (drop (c * n) all))) in
+    record { 0 = map (λ n. if int_lt (pos 0) (pos a) then pos b -ℤ field n else field n) (range_with_len 0 256) }

@@ -4,8 +4,8 @@
 
 ghost use Rattle.std.specs.Prelude.{◌≡◌, ◌<◌, ◌≤◌, ◌+◌, ◌*◌, ◌%◌, ◌^◌, ℤ, pos, ◌-ℤ◌, ◌≤ℤ◌, ◌<ℤ◌, nat_abs, length, map, MatchOption};
 ghost use Rattle.std.specs.List.{All, Any};
-ghost use Rattle.fips204_base.specs.Packing.{Bounds, PolynomialInRange, coefficient, field, polynomial_bytes, unpacked, width};
-ghost use Rattle.fips204_base.specs.Network.{Packs};
+ghost use Rattle.fips204_base.specs.Packing.{Bounds, PolynomialInRange, polynomial_bytes, unpacked, width};
+ghost use Rattle.fips204_base.specs.Network.{Packs, coefficient, field};
 
 mod coefficients;
 mod hints;
@@ -43,7 +43,7 @@ fn low(word: u32, c: u32) -> u32
 }
 
 /// The field of a coefficient.
-#[tactic(auto, using(std::proofs::lemmas::Int::ints), unfolding(crate::specs::Packing::field))]
+#[tactic(auto, using(std::proofs::lemmas::Int::ints), unfolding(crate::specs::Network::field))]
 fn field_of(x: i32, a: i32, b: i32) -> u32
     requires bounds { Bounds a b }
     requires range { ((pos 0 -ℤ a) ≤ℤ x) × (x ≤ℤ b) }
@@ -54,7 +54,7 @@ fn field_of(x: i32, a: i32, b: i32) -> u32
 }
 
 /// The coefficient of a field.
-#[tactic(auto, using(std::proofs::lemmas::Int::ints), unfolding(crate::specs::Packing::coefficient))]
+#[tactic(auto, using(std::proofs::lemmas::Int::ints), unfolding(crate::specs::Network::coefficient))]
 fn coefficient_of(field: u32, a: i32, b: i32) -> i32
     requires bounds { Bounds a b }
     requires below { field < 2 ^ 21 }

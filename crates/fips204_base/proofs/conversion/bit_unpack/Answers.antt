@@ -6,7 +6,8 @@ use Rattle.std.proofs.lemmas.List.Elements.{All-append}
 use Rattle.std.proofs.Math.Seq.{take-add}
 use Rattle.std.specs.List.{Any}
 use Rattle.fips204_base.specs.declared.types.R.{R}
-use Rattle.fips204_base.specs.Packing.{coefficient, field, width}
+use Rattle.fips204_base.specs.Packing.{width}
+use Rattle.fips204_base.specs.Network.{coefficient, field}
 use Rattle.fips204_base.proofs.Fields.{one_above}
 use Rattle.fips204_base.proofs.Packing.{Unpacks, is_unpacked, packs_none, packs_joined}
 use Rattle.fips204_base.proofs.VectorBytes.{length-put_mid, put_piece}
