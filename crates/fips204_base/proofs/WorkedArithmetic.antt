@@ -68,10 +68,10 @@ second_row : matrix_product 2 ([] ∷ (record { 0 = replicate 256 (pos 1) } ∷ 
 unfolding matrix_product sum_below
 second_row = refl
 
--- X^255 X is minus one
-product_of_powers : (product (λ j. cond (eqb j 255) 1 0) (λ j. cond (eqb j 1) 1 0) 0 ≡ 8380416) × (product (λ j. cond (eqb j 255) 1 0) (λ j. cond (eqb j 1) 1 0) 1 ≡ 0)
+-- X^255 X is minus one, and X^255 X^2 is minus X
+product_of_powers : (product (λ j. cond (eqb j 255) 1 0) (λ j. cond (eqb j 1) 1 0) 0 ≡ 8380416) × (product (λ j. cond (eqb j 255) 1 0) (λ j. cond (eqb j 1) 1 0) 1 ≡ 0) × (product (λ j. cond (eqb j 255) 1 0) (λ j. cond (eqb j 2) 1 0) 1 ≡ 8380416)
 unfolding product sum_below
-product_of_powers = (refl, refl)
+product_of_powers = (refl, refl, refl)
 
 -- Worked values of centring, the norm, the product, and packing.
 
