@@ -95,7 +95,8 @@ class Parser:
         while self.peek() != ".":
             if self.peek() == "(":
                 self.take()
-                names.append(self.take())
+                while self.peek() != ":":
+                    names.append(self.take())
                 while self.peek() != ")":
                     self.take()
                 self.take()

@@ -14,7 +14,7 @@ from evaluate import Function, Parser, Record, ap, key, listed, now
 ROWS = [line.split("\t") for line in pathlib.Path(__file__).with_name("run-definitions.tsv").read_text(encoding="utf-8").splitlines() if line and line[0] != "#"]
 # what is evaluated, and the definitions that tables stand in for
 TEXTS = """generated public_key_bytes private_key_bytes sign_message unpacked sampled_matrix challenge message_hash framed w1_bytes w1_prime
-commitment_length inverse_root set_44 set_65 set_87"""
+commitment_length set_44 set_65 set_87"""
 TABULATED = ("product", "inverse_transform")
 
 Q = 8380417
@@ -23,7 +23,7 @@ PLACES = range(256)
 
 def tabulated(program):
     """Puts tables in the place of the two definitions that are sums over 256 places; returns what clears them."""
-    products, inverses, powers = {}, {}, []
+    products, inverses, powers, defined = {}, {}, [], program.space[evaluate.mangled("inverse_transform")]
 
     def product(a, b, n):
         name = (key(a), key(b))
@@ -35,8 +35,10 @@ def tabulated(program):
 
     def inverse_transform(v, j):
         if not powers:
-            roots = [program.value("inverse_root", i) for i in PLACES]
-            powers.extend([pow(root, place, Q) for root in roots] for place in PLACES)
+            # what has 1 at one point and 0 at the others has a 256th of the inverse of the point for its coefficient 1
+            units = [Function(lambda n, i=i: int(now(n) == i), 1) for i in PLACES]
+            inverse_points = [256 * defined(unit, 1) % Q for unit in units]
+            powers.extend([pow(point, place, Q) for point in inverse_points] for place in PLACES)
         name = key(v)
         if name not in inverses:
             xs = [ap(v, i) for i in PLACES]

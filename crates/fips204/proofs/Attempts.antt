@@ -8,12 +8,12 @@ use Rattle.fips204_base.specs.declared.types.T.{T}
 use Rattle.fips204_base.specs.Sampling.{challenge, mask}
 use Rattle.fips204_base.specs.Encodings.{PrivateParts, w1_bytes}
 use Rattle.fips204_base.specs.Packing.{PolynomialInRange}
-use Rattle.fips204_base.specs.Vectors.{entry, VectorWithin, vector_coefficients, matrix_product, vector_of}
+use Rattle.fips204_base.specs.Vectors.{entry, vector_coefficients, matrix_product, vector_of}
 use Rattle.fips204_base.specs.Transforms.{minus}
 use Rattle.fips204_base.specs.Residues.{residue}
 use Rattle.fips204_base.specs.Rounding.{high_bits, high_values, low_bits}
 use Rattle.fips204_base.proofs.Residues.{residue_below}
-use Rattle.fips204_base.proofs.Products.{row_below}
+use Rattle.fips204_base.proofs.PlainTransforms.{matrix_below}
 use Rattle.fips204_base.proofs.Rounding.{high_bits_below}
 use Rattle.fips204_base.proofs.Masks.{mask-range}
 use Rattle.fips204_base.proofs.Vectors.{vector_of-ext, vector_of-range, vector-within}
@@ -21,7 +21,7 @@ use Rattle.fips204.specs.Signing.{attempt, commitment, high_vector, hint_bit, hi
 use Rattle.fips204.specs.ParameterSets.{ParameterSet, commitment_length}
 use Rattle.fips204.specs.SigningInputs.{attempt_answer, scaled}
 use Rattle.fips204.proofs.ParameterSets.{rounding-size}
-use Rattle.fips204_base.specs.Network.{plain_matrix}
+use Rattle.fips204_base.specs.Network.{VectorWithin}
 
 -- ---- vectors of the same coefficients
 
@@ -84,7 +84,7 @@ IsProduct k l a y w = Agree k (entry w) (λ r n. pos (matrix_product l a (vector
 
 product-coefficients : (k l : ℕ) (a : List (List T)) (y w : List R) → IsProduct k l a y w → Agree k (vector_coefficients w) (matrix_product l a (vector_coefficients y))
 product-coefficients k l a y w e r n h m =
-    let below = row_below l (plain_matrix a r) (vector_coefficients y) n in
+    let below = matrix_below l a (vector_coefficients y) r n in
     ap residue (e r n h m) ∙ small (matrix_product l a (vector_coefficients y) r n) below
   where
     small : (x : ℕ) → x < 8380417 → x % 8380417 ≡ x

@@ -2,11 +2,11 @@
 use Rattle.std.proofs.Common.{◌≡◌, ◌≢◌, ◌⊎◌, inl, inr, ◌<◌, ◌≤◌, ◌+◌, ◌-◌, ◌*◌, ◌%◌, ℕ, List, [], ◌∷◌, pos, ◌+ℤ◌, get_or, length, take, Some, suc, refl, ap, sym, subst, ◌∙◌, arith, if◌then◌else◌, zero, ℤ, nat_abs}
 use Rattle.std.specs.Prelude.{nat_eq, max, fold}
 use Rattle.std.proofs.lemmas.Bool.{cases_Bool, cases_lt, ne_eqb, eq-eqb, lt-ltb, le-ltb, le-leb, lt-leb}
-use Rattle.fips204_base.specs.Network.{sign_of}
+use Rattle.fips204_base.specs.Network.{sign_of, shifted}
 use Rattle.fips204_base.specs.declared.types.R.{R}
 use Rattle.fips204_base.specs.Sampling.{signed_sum, challenge}
 use Rattle.fips204_base.specs.Packing.{bits}
-use Rattle.fips204_base.specs.Transforms.{shifted, product}
+use Rattle.fips204_base.specs.Transforms.{product}
 use Rattle.fips204_base.specs.Residues.{IsCongruent, residue, coefficients, sum_below, centred, norm, vector_norm}
 use Rattle.fips204_base.specs.Vectors.{polynomial_of, vector_of}
 use Rattle.fips204_base.proofs.Challenges.{challenge_places, length-challenge_places}
@@ -100,7 +100,7 @@ near_shifted b i n m inside below h = elim (cases_lt n i) [
 
 near_sum : (c : R) (ps sign_bits : List ℕ) (b : ℕ → ℕ) (n m : ℕ) → polynomial_of (signed_sum ps sign_bits) ≡ c → ((j : ℕ) → j < 256 → Near m (b j)) → n < 256
     → Near (length ps * m) (product (coefficients c.0) b n)
-unfolding product
+unfolding product shifted
 near_sum c ps sign_bits b n m is h below =
     let f = λ (i : ℕ). shifted b i n in
     let terms : sum_below 256 (λ i. residue (signed_sum ps sign_bits i) * f i) ≡ sum_below 256 (λ i. coefficients c.0 i * f i) =

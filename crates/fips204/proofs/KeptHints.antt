@@ -2,15 +2,16 @@
 use Rattle.std.proofs.Common.{◌≡◌, ◌<◌, ◌+◌, ◌-◌, ◌*◌, ◌%◌, ℕ, List, ℤ, pos, negsuc, ◌+ℤ◌, ◌-ℤ◌, inl, inr, ap, sym, ◌∙◌, arith, ◌≤◌, [], get_or, length, nat_abs, Bool, true, false, Some, refl, subst, if◌then◌else◌}
 use Rattle.std.proofs.lemmas.Int.{ints}
 use Rattle.std.proofs.lemmas.Bool.{cases_lt, le-leb, lt-leb}
-use Rattle.fips204_base.specs.Network.{product_difference, plain_matrix}
+use Rattle.fips204_base.specs.Network.{product_difference, plain_matrix, row_product}
 use Rattle.fips204_base.specs.declared.types.R.{R}
 use Rattle.fips204_base.specs.declared.types.T.{T}
 use Rattle.fips204_base.specs.Vectors.{entry, vector_coefficients, matrix_product, vector_of, IsVector}
 use Rattle.fips204_base.specs.Residues.{centred, vector_norm, IsCongruent, residue, coefficients}
-use Rattle.fips204_base.specs.Transforms.{product, plus, minus, row_product}
+use Rattle.fips204_base.specs.Transforms.{product, plus, minus}
 use Rattle.fips204_base.specs.Rounding.{power2round, high_bits, low_bits, make_hint, use_hint}
 use Rattle.fips204_base.proofs.Residues.{residue_add, residue_below, congruent_refl, congruent_of, congruent_sym, congruent_trans, congruent_mod, sum_equal}
-use Rattle.fips204_base.proofs.Products.{product_same, product_plus, row_of_multiple, row_of_sum, row_below, product_below}
+use Rattle.fips204_base.proofs.Products.{product_same, product_plus, row_of_multiple, row_of_sum, product_below}
+use Rattle.fips204_base.proofs.PlainTransforms.{matrix_below}
 use Rattle.fips204_base.proofs.Rounding.{power2round_back, low_bits_near}
 use Rattle.fips204_base.proofs.Vectors.{vector_of-ext, vector_of-entry, vector_of-at, vector-within}
 use Rattle.fips204.specs.ParameterSets.{ParameterSet}
@@ -72,6 +73,7 @@ response_coefficients p sk y c k j h below =
 pub matrix_response : (p : ParameterSet) (a : List (List T)) (sk : PrivateParts) (y : List R) (c : R) (r n : ℕ) → n < 256
     → matrix_product p.l a (vector_coefficients (response p sk y c)) r n
     ≡ plus (matrix_product p.l a (vector_coefficients y) r) (product (coefficients c.0) (matrix_product p.l a (vector_coefficients sk.s1) r)) n
+unfolding matrix_product row_product
 matrix_response p a sk y c r n below =
     let A = plain_matrix a r in
     let Y = vector_coefficients y in
@@ -212,5 +214,5 @@ hinted_is_high p a sk y front c numbers second low made kept =
     ap pos (
     ap (λ b. use_hint p.gamma2 b (v r n)) (hint_at p sk w c r n empty inside below)
     ∙ ap (use_hint p.gamma2 (make_hint p.gamma2 (8380416 * scaled c (vector_coefficients sk.t0) r n % 8380417) (plus (w_minus_cs2 sk.s2 w c r) (scaled c (vector_coefficients sk.t0) r) n))) (w_approx_is p a sk y c r n low inside below)
-    ∙ hinted_place p.gamma2 p.beta (w r n) s t numbers.gamma2 (row_below p.l (plain_matrix a r) (vector_coefficients y) n) (product_below (coefficients c.0) (vector_coefficients sk.s2 r) n) small
+    ∙ hinted_place p.gamma2 p.beta (w r n) s t numbers.gamma2 (matrix_below p.l a (vector_coefficients y) r n) (product_below (coefficients c.0) (vector_coefficients sk.s2 r) n) small
     (low_place p sk w c r n numbers.gamma2 kept.low_norm inside below) (scaled_place p sk c r n kept.scaled_norm inside below)))

@@ -19,7 +19,8 @@ use Rattle.std.specs.Prelude.{ok_or, option_map, option_and_then}
 use Rattle.std.proofs.lemmas.List.{drop-take, take-take}
 use Rattle.std.specs.declared.option.Option.{Option}
 use Rattle.fips204_base.specs.declared.fault.Fault.TheVariants.{SamplingLimit}
-use Rattle.fips204_base.specs.Sampling.{sampled_matrix, small_vector, small_vectors}
+use Rattle.fips204_base.specs.Sampling.{sampled_matrix, small_vectors}
+use Rattle.fips204_base.specs.Network.{small_vector}
 use Rattle.fips204.specs.Refusals.{generated, derived}
 
 -- The vector t = A s1 + s2 of a pair of keys, and its parts.
@@ -150,7 +151,7 @@ if_all p H rho key (Some a) (Some s1) (Some s2) = refl
 pub key_generation-is : (p : ParameterSet) (H G : List ℕ → List ℕ) (xi : List ℕ)
     → key_generation p H G xi ≡ key_pair_if_all p H (take 32 (seeds p H xi)) (take 32 (drop 96 (seeds p H xi))) (sampled_matrix G (take 32 (seeds p H xi)) p.k p.l)
     (small_vector p.eta H (take 64 (drop 32 (seeds p H xi))) 0 p.l) (small_vector p.eta H (take 64 (drop 32 (seeds p H xi))) p.l p.k)
-unfolding key_generation small_vectors
+unfolding key_generation small_vectors small_vector
 key_generation-is p H G xi = if_all p H (take 32 (seeds p H xi)) (take 32 (drop 96 (seeds p H xi))) _ _ _
 
 generated-is : (p : ParameterSet) (H G : List ℕ → List ℕ) (xi rho rho' key : List ℕ) (k l : ℕ) (a : Option (List (List T))) (s1 s2 : Option (List R))

@@ -12,7 +12,7 @@ use Rattle.fips204_base.specs.Packing.{width, bit_length}
 use Rattle.fips204_base.specs.Rounding.{high_values}
 use Rattle.fips204_base.proofs.EncodedParts.{response_width, eta_width}
 use Rattle.fips204_base.specs.declared.types.R.{R}
-use Rattle.fips204_base.specs.Sampling.{small_vector}
+use Rattle.fips204_base.specs.Network.{small_vector}
 use Rattle.fips204_base.specs.Vectors.{IsVector}
 use Rattle.fips204_base.proofs.Sampled.{small_vector-range}
 

@@ -9,7 +9,7 @@ use Rattle.std.proofs.lemmas.List.Elements.{All-nil, All-cons}
 use mir.Val.{Val}
 use denote.Array.{each, in_array}
 use denote.Shadow.{shadow}
-use Rattle.fips204_base.specs.Network.{sign_of}
+use Rattle.fips204_base.specs.Network.{sign_of, challenge_picks, PolynomialWithin}
 use Rattle.fips204_base.specs.declared.types.R.{R}
 use Rattle.fips204_base.specs.contracts.types.R.{the_row}
 use Rattle.std.specs.Prelude.{nat_eq, nat_lt}
@@ -17,8 +17,8 @@ use Rattle.std.proofs.lemmas.Bool.{cases_Bool, cases_lt, eqb-true, lt-ltb, le-lt
 use Rattle.std.proofs.lemmas.Int.{ints}
 use Rattle.std.proofs.lemmas.Option.{none-some}
 use Rattle.fips204_base.specs.Packing.{bits}
-use Rattle.fips204_base.specs.Vectors.{coefficient_at, entry, PolynomialWithin, polynomial_of, vector_of}
-use Rattle.fips204_base.specs.Sampling.{signed_sum, challenge_picks, challenge}
+use Rattle.fips204_base.specs.Vectors.{coefficient_at, entry, polynomial_of, vector_of}
+use Rattle.fips204_base.specs.Sampling.{signed_sum, challenge}
 use Rattle.fips204_base.proofs.Challenges.{challenge_places, challenge_places-apart, length-challenge_places, sum-elsewhere}
 use Rattle.fips204_base.proofs.Vectors.{polynomial_of-at, vector_of-same}
 
@@ -64,7 +64,7 @@ signed_sum-within (place ∷ ps) (bit ∷ sign_bits) n apart = elim (cases_Bool 
 
 -- a challenge is the sum of its signs at its places
 pub challenge-sum : (tau : ℕ) (front : List ℕ) (c : R) → challenge tau front ≡ Some c → polynomial_of (signed_sum (challenge_places tau front) (bits 8 (take 8 front))) ≡ c
-unfolding challenge
+unfolding challenge challenge_picks
 challenge-sum tau front c e = elim (cases_lt (length (challenge_picks tau front)) tau) [
   | inl few ↦
       let test : nat_lt (length (challenge_picks tau front)) tau ≡ true = lt-ltb (length (challenge_picks tau front)) tau few in

@@ -2,11 +2,11 @@
 use Rattle.std.proofs.Common.{◌≡◌, ◌*◌, ℕ, ℤ, List, [], ◌∷◌, ◌++◌, Ok, Err, refl, true, false, map, length, take, Some, None, pos, negsuc, if◌then◌else◌}
 use Rattle.fips204_base.specs.declared.fault.Fault.TheVariants.{TooManyAttempts, SamplingLimit, SignCtx, HashCtx, OidEmpty, OidNotDer, DigestTooLong, DigestLength}
 use Rattle.fips204_base.specs.Encodings.{PrivateParts, is_one}
-use Rattle.fips204_base.specs.Sampling.{triple, kept_triples, matrix_entry, sampled_matrix, first_256, all_present, kept_half_bytes, small_polynomial, small_vector, small_vectors}
-use Rattle.fips204_base.specs.Packing.{bit_length, packed, bits_to_bytes, bits, integer_to_bits, bits_to_integer, field}
+use Rattle.fips204_base.specs.Sampling.{matrix_entry, sampled_matrix, first_256, all_present, small_polynomial, small_vectors}
+use Rattle.fips204_base.specs.Packing.{bit_length, bits_to_bytes, bits, integer_to_bits, bits_to_integer, polynomial_bytes}
 use Rattle.fips204_base.specs.Rounding.{decompose, use_hint}
 use Rattle.fips204_base.specs.Residues.{sum_below}
-use Rattle.fips204_base.specs.Transforms.{product, shifted}
+use Rattle.fips204_base.specs.Transforms.{product}
 use Rattle.fips204_base.specs.Vectors.{polynomial_of, vector_of}
 use Rattle.fips204_base.specs.declared.types.R.{R}
 use Rattle.fips204.specs.Keys.{key_pair, key_generation}
@@ -130,7 +130,7 @@ seeds_of_sets = (refl, refl, refl)
 -- so rho of set 65 begins with xi and the bytes 6 and 5, where H gives back its input
 seeds_begin : option_map {U = List ℕ} (λ pair. take 4 pair.0.rho) (key_generation set_65 (λ input. input ++ replicate 1024 0) (λ _. replicate 1024 0) (9 ∷ []))
     ≡ Some (9 ∷ 6 ∷ 5 ∷ 0 ∷ [])
-unfolding key_generation small_vectors key_pair sampled_matrix all_present matrix_entry kept_triples triple first_256 small_vector small_polynomial kept_half_bytes
+unfolding key_generation small_vectors key_pair sampled_matrix all_present matrix_entry first_256 small_polynomial
 seeds_begin = refl
 
 -- a stream whose front over the 34 bytes of the seeds is 0, 1, .. to 127, and over any other input its bytes 0 and 64 in turn: over rho'
@@ -141,20 +141,20 @@ numbered input = if nat_eq (length input) 34 then range_with_len 0 128 else flat
 -- rho is bytes 0 to 31 of the seeds, and K bytes 96 to 127
 seeds_of_keys : option_map {U = List ℕ × List ℕ × List ℕ} (λ pair. (pair.0.rho, pair.1.rho, pair.1.key)) (key_generation set_44 numbered (λ _. replicate 1024 0) (replicate 32 9))
     ≡ Some (range_with_len 0 32, range_with_len 0 32, range_with_len 96 32)
-unfolding numbered key_generation small_vectors key_pair sampled_matrix all_present matrix_entry kept_triples triple first_256 small_vector small_polynomial kept_half_bytes
+unfolding numbered key_generation small_vectors key_pair sampled_matrix all_present matrix_entry first_256 small_polynomial
 seeds_of_keys = refl
 
 -- rho' is bytes 32 to 95, so its first byte 32 has the half bytes 0 and 2, which are the coefficients 2 and 0; then stand the numbers 0 to 3 of s1,
 -- which are the coefficients 2 to -1, and 4 to 7 of s2, which are -2 and 2 to 0
 seeds_of_vectors : option_map {U = List (List ℤ) × List (List ℤ)} (λ pair. (map (λ w. take 3 w.0) pair.1.s1, map (λ w. take 3 w.0) pair.1.s2)) (key_generation set_44 numbered (λ _. replicate 1024 0) (replicate 32 9))
     ≡ Some (map (λ x. pos 2 ∷ pos 0 ∷ x ∷ []) (pos 2 ∷ pos 1 ∷ pos 0 ∷ negsuc 0 ∷ []), map (λ x. pos 2 ∷ pos 0 ∷ x ∷ []) (negsuc 1 ∷ pos 2 ∷ pos 1 ∷ pos 0 ∷ []))
-unfolding numbered key_generation small_vectors key_pair sampled_matrix all_present matrix_entry kept_triples triple first_256 small_vector small_polynomial kept_half_bytes
+unfolding numbered key_generation small_vectors key_pair sampled_matrix all_present matrix_entry first_256 small_polynomial
 seeds_of_vectors = refl
 
 -- the same at set 65: s1 has numbers 0 to 4, and s2 has 5 to 10, of which 9 and 10 give no coefficient
 seeds_of_65 : option_map {U = List ℤ × List ℤ} (λ pair. (map (λ w. get_or w.0 2 (pos 0)) pair.1.s1, map (λ w. get_or w.0 2 (pos 0)) pair.1.s2)) (key_generation set_65 numbered (λ _. replicate 1024 0) (replicate 32 9))
     ≡ Some (pos 4 ∷ pos 3 ∷ pos 2 ∷ pos 1 ∷ pos 0 ∷ [], negsuc 0 ∷ negsuc 1 ∷ negsuc 2 ∷ negsuc 3 ∷ pos 4 ∷ pos 4 ∷ [])
-unfolding numbered key_generation small_vectors key_pair sampled_matrix all_present matrix_entry kept_triples triple first_256 small_vector small_polynomial kept_half_bytes
+unfolding numbered key_generation small_vectors key_pair sampled_matrix all_present matrix_entry first_256 small_polynomial
 seeds_of_65 = refl
 
 -- mu hashes tr before the framed message, and keeps 64 bytes
@@ -171,7 +171,7 @@ seed_of_masks sk = (refl, refl)
 commitments : (commitment set_44 (λ x. x) (7 ∷ []) (record { 0 = replicate 256 (pos 43) } ∷ []) ≡ 7 ∷ flat_map (λ _. 0xEB ∷ 0xBA ∷ 0xAE ∷ []) (range_with_len 0 10) ++ 0xEB ∷ [])
     × (commitment set_65 (λ x. x) (7 ∷ []) (record { 0 = replicate 256 (pos 10) } ∷ []) ≡ 7 ∷ replicate 47 0xAA)
     × (commitment set_87 (λ x. x) (7 ∷ []) (record { 0 = replicate 256 (pos 10) } ∷ []) ≡ 7 ∷ replicate 63 0xAA)
-unfolding commitment packed bits_to_bytes bits integer_to_bits bits_to_integer field bit_length
+unfolding commitment bits_to_bytes bits integer_to_bits bits_to_integer polynomial_bytes bit_length
 commitments = (refl, refl, refl)
 
 -- a hint tells whether v and v + t have other high bits: from gamma2 to one more, and back by -1; not from one less, from one more, or
@@ -213,7 +213,7 @@ constant x = polynomial_of (λ n. if nat_eq n 0 then x else pos 0)
 
 -- 3 less 2 times 5
 challenge_times_part : w_minus_cs2 (constant (pos 5) ∷ []) (λ r n. 3) (constant (pos 2)) 0 0 ≡ 8380410
-unfolding constant polynomial_of product shifted sum_below
+unfolding constant polynomial_of product sum_below
 challenge_times_part = refl
 
 -- a message, and a digest after its OID

@@ -4,7 +4,7 @@ use Rattle.std.specs.Prelude.{if◌then◌else◌}
 use Rattle.fips204_base.specs.declared.types.R.{R}
 use Rattle.fips204_base.specs.Residues.{sum_below, centred}
 use Rattle.fips204_base.specs.Rounding.{decompose}
-use Rattle.fips204_base.specs.Transforms.{product, shifted}
+use Rattle.fips204_base.specs.Transforms.{product}
 use Rattle.fips204_base.specs.Vectors.{polynomial_of, vector_of}
 use Rattle.fips204_base.specs.Encodings.{PrivateParts, all_ones, is_one}
 use Rattle.fips204.specs.ParameterSets.{ParameterSet, set_44, set_65}
@@ -29,37 +29,37 @@ checks g o s1 s2 t0 y w = passes_checks (toy g o) (parts s1 s2 t0) (one y ∷ []
 -- 98 and 2 times 3, and -98
 response_of_constants : (map (λ w. take 2 w.0) (response (toy 178 80) (parts (pos 3) (pos 0) (pos 0)) (one (pos 98) ∷ []) (one (pos 2))) ≡ (pos 104 ∷ pos 0 ∷ []) ∷ [])
     × (map (λ w. take 1 w.0) (response (toy 178 80) (parts (pos 0) (pos 0) (pos 0)) (one (negsuc 97) ∷ []) (one (pos 2))) ≡ (negsuc 97 ∷ []) ∷ [])
-unfolding toy one parts response vector_of polynomial_of product shifted sum_below centred
+unfolding toy one parts response vector_of polynomial_of product sum_below centred
 response_of_constants = (refl, refl)
 
 -- 5 less 2 times 7
 low_bits_of_constants : map (λ w. take 2 w.0) (low_vector (toy 178 80) (parts (pos 0) (pos 7) (pos 0)) (λ r n. if nat_eq n 0 then 5 else 0) (one (pos 2))) ≡ (negsuc 8 ∷ pos 0 ∷ []) ∷ []
-unfolding toy one parts low_vector vector_of polynomial_of product shifted sum_below decompose
+unfolding toy one parts low_vector vector_of polynomial_of product sum_below decompose
 low_bits_of_constants = refl
 
 -- 2 times 7
 ct0_of_constants : map (λ w. take 2 w.0) (ct0 (toy 178 80) (parts (pos 0) (pos 0) (pos 7)) (one (pos 2))) ≡ (pos 14 ∷ pos 0 ∷ []) ∷ []
-unfolding toy one parts ct0 vector_of polynomial_of product shifted sum_below
+unfolding toy one parts ct0 vector_of polynomial_of product sum_below
 ct0_of_constants = refl
 
 -- the norm of z is below 178 less 78
 norm_of_z : (checks 178 80 (pos 1) (pos 0) (pos 0) (pos 98) 0 ≡ true) × (checks 178 80 (pos 1) (pos 0) (pos 0) (pos 99) 0 ≡ false)
-unfolding checks toy one parts passes_checks response low_vector ct0 hint_vector vector_of polynomial_of product shifted sum_below centred decompose all_ones is_one
+unfolding checks toy one parts passes_checks response low_vector ct0 hint_vector vector_of polynomial_of product sum_below centred decompose all_ones is_one
 norm_of_z = (refl, refl)
 
 -- that of r0 is below gamma2 less 78
 norm_of_r0 : (checks 178 80 (pos 0) (pos 1) (pos 0) (pos 0) 95154 ≡ true) × (checks 178 80 (pos 0) (negsuc 0) (pos 0) (pos 0) 95153 ≡ false)
-unfolding checks toy one parts passes_checks response low_vector ct0 hint_vector vector_of polynomial_of product shifted sum_below centred decompose all_ones is_one
+unfolding checks toy one parts passes_checks response low_vector ct0 hint_vector vector_of polynomial_of product sum_below centred decompose all_ones is_one
 norm_of_r0 = (refl, refl)
 
 -- that of c t0 is below gamma2
 norm_of_ct0 : (checks 178 80 (pos 0) (pos 0) (pos 95231) (pos 0) 0 ≡ true) × (checks 178 80 (pos 0) (pos 0) (pos 95232) (pos 0) 0 ≡ false)
-unfolding checks toy one parts passes_checks response low_vector ct0 hint_vector vector_of polynomial_of product shifted sum_below centred decompose all_ones is_one
+unfolding checks toy one parts passes_checks response low_vector ct0 hint_vector vector_of polynomial_of product sum_below centred decompose all_ones is_one
 norm_of_ct0 = (refl, refl)
 
 -- the hint has at most omega ones
 ones_of_hint : (checks 178 1 (pos 0) (pos 0) (pos 200) (pos 0) 95100 ≡ true) × (checks 178 0 (pos 0) (pos 0) (pos 200) (pos 0) 95100 ≡ false)
-unfolding checks toy one parts passes_checks response low_vector ct0 hint_vector vector_of polynomial_of product shifted sum_below centred decompose all_ones is_one
+unfolding checks toy one parts passes_checks response low_vector ct0 hint_vector vector_of polynomial_of product sum_below centred decompose all_ones is_one
 ones_of_hint = (refl, refl)
 
 -- as many polynomials as columns, and else as rows

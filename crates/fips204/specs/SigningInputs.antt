@@ -3,7 +3,8 @@ use Rattle.std.specs.Prelude.{◌+◌, ◌-◌, ◌*◌, ◌%◌, ◌<◌, ◌�
 use Rattle.fips204_base.specs.Encodings.{PrivateParts, IsSignature, public_key_bytes}
 use Rattle.fips204_base.specs.Residues.{vector_norm, coefficients}
 use Rattle.fips204_base.specs.Transforms.{product, plus}
-use Rattle.fips204_base.specs.Vectors.{PolynomialWithin, VectorWithin, AreSameModQ, IsVector, vector_coefficients}
+use Rattle.fips204_base.specs.Vectors.{AreSameModQ, IsVector, vector_coefficients}
+use Rattle.fips204_base.specs.Network.{PolynomialWithin, VectorWithin}
 use Rattle.fips204_base.specs.declared.fault.Fault.{Fault}
 use Rattle.fips204_base.specs.declared.fault.Fault.TheVariants.{SamplingLimit, SignCtx, HashCtx}
 use Rattle.fips204_base.specs.declared.types.R.{R}

@@ -3,8 +3,8 @@ use Rattle.std.proofs.Common.{◌≡◌, ℕ, zero, suc, ◌+◌, ◌*◌, ◌%�
 use Rattle.std.specs.Prelude.{◌≢◌, nat_eq, nat_le, nat_lt}
 use Rattle.std.specs.Int.{w32}
 use Rattle.std.proofs.lemmas.Bool.Decides.{nat_tests}
-use Rattle.fips204_base.specs.Network.{sign_of}
-use Rattle.fips204_base.specs.Sampling.{picks, moved, places, signed_sum, challenge_picks, challenge}
+use Rattle.fips204_base.specs.Network.{sign_of, challenge_picks}
+use Rattle.fips204_base.specs.Sampling.{picks, moved, places, signed_sum, challenge}
 use Rattle.std.proofs.Math.Nat.{pow-succ', div-div-eq-div-mul}
 use Rattle.fips204_base.specs.Packing.{bits, integer_to_bits}
 use Rattle.fips204_base.proofs.Bits.{digits-suc}
@@ -199,7 +199,7 @@ picks_within tau front = taken-within (256 - tau) tau (picks (256 - tau) (take (
 
 whole : (tau : ℕ) (front : List ℕ) (c : R) → challenge tau front ≡ Some c
     → (length (challenge_picks tau front) ≡ tau) × AreWithin (256 - tau) (challenge_picks tau front) × (c ≡ polynomial_of (signed_sum (challenge_places tau front) (bits 8 (take 8 front))))
-unfolding challenge
+unfolding challenge challenge_picks
 whole tau front c e = elim (cases_lt (length (challenge_picks tau front)) tau) [
   | inl few ↦
       let test : nat_lt (length (challenge_picks tau front)) tau ≡ true = lt-ltb (length (challenge_picks tau front)) tau few in

@@ -5,12 +5,13 @@ use Rattle.std.specs.Int.{leading_zeros, w32}
 use Rattle.std.proofs.lemmas.Bool.{cases_lt}
 use Rattle.std.proofs.lemmas.Bool.Decides.{nat_tests}
 use Rattle.std.proofs.lemmas.Int.{ints, by_lt_z}
-use Rattle.std.proofs.lemmas.List.{take_more_set, map_push, take_all, length-map}
+use Rattle.std.proofs.lemmas.List.{take_more_set, map_push, take_all}
 use Rattle.std.proofs.lemmas.List.Sums.{sum_by-cons}
 use Rattle.std.proofs.lemmas.List.Elements.{All-map, All-weaker, All-push, All-nil, All-cons, All-head, All-tail}
 use Rattle.std.proofs.lemmas.Nat.{leading_length}
 use Rattle.std.proofs.Math.Nat.{pow-succ', pow-le-pow_right}
-use Rattle.fips204_base.specs.Packing.{Bounds, PolynomialInRange, Packs, PacksAbove, Unpacks, bit_length, bits, coefficient, field, integer_to_bits, width}
+use Rattle.fips204_base.specs.Packing.{Bounds, PolynomialInRange, bit_length, bits, integer_to_bits, width}
+use Rattle.fips204_base.specs.Network.{Packs, coefficient, field}
 use Rattle.fips204_base.proofs.Bits.{digits-zero}
 
 -- the powers of two that are at most a number of c digits, counted from 2 ^ s on
@@ -136,35 +137,27 @@ group_finished a b c i have at word out v w eight long done few whole bytes same
       All-weaker (HasField a b) (λ (x : ℤ). coefficient a b (field a b x) ≡ x) (λ x h. h.1) out have_fields,
     )
 
-Any-cons : (P : ℕ → Type 0) (y : ℕ) (xs : List ℕ) → Any P xs → Any P (y ∷ xs)
+Any-cons : (P : ℤ → Type 0) (y : ℤ) (xs : List ℤ) → Any P xs → Any P (y ∷ xs)
 Any-cons P y xs h = (suc h.0, h.1, omega (arith, h.2), h.3, h.4)
 
--- all numbers are at most b, or one is above
-pub one_above : (b : ℤ) (fields : List ℕ) → All (λ f. pos f ≤ℤ b) fields ⊎ Any (λ f. b <ℤ pos f) fields
-one_above b [] = inl (All-nil (λ (f : ℕ). pos f ≤ℤ b))
-one_above b (f ∷ fields) = by_lt_z b (pos f)
-    (λ above. inr (0, f, omega arith, refl, above))
-    (λ within. elim (one_above b fields) [
-      | inl none ↦ inl (All-cons (λ (g : ℕ). pos g ≤ℤ b) f fields within none)
-      | inr some ↦ inr (Any-cons (λ (g : ℕ). b <ℤ pos g) f fields some)
+-- the coefficient of a field is not below 0 where a is 0
+not_below : (b x : ℤ) → coefficient (pos 0) b (field (pos 0) b x) ≡ x → pos 0 ≤ℤ x
+unfolding field coefficient
+not_below b x same = omega (arith, ints, same)
+
+-- where a is 0 the coefficients are in range, or one is above b
+in_range_or_above : (b : ℤ) (w : List ℤ) → All (λ x. coefficient (pos 0) b (field (pos 0) b x) ≡ x) w → PolynomialInRange (pos 0) b w ⊎ Any (λ x. b <ℤ x) w
+in_range_or_above b [] h = inl (All-nil (λ (x : ℤ). (pos 0 ≤ℤ x) × (x ≤ℤ b)))
+in_range_or_above b (x ∷ w) h = by_lt_z b x
+    (λ above. inr (0, x, omega arith, refl, above))
+    (λ within. elim (in_range_or_above b w (All-tail (λ (y : ℤ). coefficient (pos 0) b (field (pos 0) b y) ≡ y) x w h)) [
+      | inl rest ↦ inl (All-cons (λ (y : ℤ). (pos 0 ≤ℤ y) × (y ≤ℤ b)) x w (not_below b x (All-head (λ (y : ℤ). coefficient (pos 0) b (field (pos 0) b y) ≡ y) x w h), within) rest)
+      | inr some ↦ inr (Any-cons (λ (y : ℤ). b <ℤ y) x w some)
     ])
 
--- where a is 0 the coefficients are in range exactly if their fields are at most b
-within_range : (b : ℤ) (w : List ℤ) → All (λ x. coefficient (pos 0) b (field (pos 0) b x) ≡ x) w → All (λ f. pos f ≤ℤ b) (map (field (pos 0) b) w) → PolynomialInRange (pos 0) b w
-unfolding field coefficient
-within_range b [] h k = All-nil (λ (x : ℤ). (pos 0 ≤ℤ x) × (x ≤ℤ b))
-within_range b (x ∷ w) h k =
-    let P = λ (f : ℕ). pos f ≤ℤ b in
-    let here = All-head P (field (pos 0) b x) (map (field (pos 0) b) w) k in
-    let same : pos (nat_abs x) ≡ x = All-head (λ (y : ℤ). coefficient (pos 0) b (field (pos 0) b y) ≡ y) x w h in
-    let rest = within_range b w (All-tail (λ (y : ℤ). coefficient (pos 0) b (field (pos 0) b y) ≡ y) x w h) (All-tail P (field (pos 0) b x) (map (field (pos 0) b) w) k) in
-    All-cons (λ (x : ℤ). (pos 0 ≤ℤ x) × (x ≤ℤ b)) x w (omega (arith, ints, same), omega (arith, ints, same, here)) rest
-
--- where a is 0 and the coefficients are not in range, a field is above b
-pub refused : (a b : ℤ) (v : List ℕ) (w : List ℤ) → a ≡ pos 0 → Unpacks a b v w → (PolynomialInRange (pos 0) b w → ⊥) → PacksAbove b (width a b) v
-refused a b v w none_below u outside =
-    let z : Unpacks (pos 0) b v w = subst (λ a. Unpacks a b v w) none_below u in
-    elim (one_above b (map (field a b) w)) [
-      | inl none ↦ absurd (outside (within_range b w z.coefficients (subst (λ a. All (λ f. pos f ≤ℤ b) (map (field a b) w)) none_below none)))
-      | inr some ↦ record { fields = map (field a b) w; same_fields = u.same_fields; count = length-map w (field a b) ∙ u.count; above = some }
-    ]
+-- so where they are not in range, one is above b
+pub one_above : (a b : ℤ) (w : List ℤ) → a ≡ pos 0 → All (λ x. coefficient a b (field a b x) ≡ x) w → (PolynomialInRange (pos 0) b w → ⊥) → Any (λ x. b <ℤ x) w
+one_above a b w none h outside = elim (in_range_or_above b w (subst (λ a. All (λ x. coefficient a b (field a b x) ≡ x) w) none h)) [
+  | inl inside ↦ absurd (outside inside)
+  | inr some ↦ some
+]

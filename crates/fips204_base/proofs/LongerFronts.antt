@@ -9,12 +9,12 @@ use Rattle.std.proofs.lemmas.Option.{none-some}
 use Rattle.fips204_base.specs.declared.types.R.{R}
 use Rattle.fips204_base.specs.declared.types.T.{T}
 use Rattle.fips204_base.specs.Streams.{IsPrefix, ArePrefixes}
-use Rattle.fips204_base.specs.Sampling.{first_256, all_present, triple, kept_triples, matrix_entry, sampled_matrix, half_bytes, kept_half_bytes, small_polynomial, small_vector, coefficient_from_half_byte, picks, challenge_picks, challenge, unpacked, mask}
-use Rattle.fips204_base.specs.Packing.{bit_length}
+use Rattle.fips204_base.specs.Sampling.{first_256, all_present, matrix_entry, sampled_matrix, small_polynomial, coefficient_from_half_byte, picks, challenge, mask}
+use Rattle.fips204_base.specs.Packing.{bit_length, unpacked}
 use Rattle.fips204_base.proofs.Sampling.{given_joined, kept_triples-beyond, kept_half_bytes-beyond, first_256-beyond}
 use Rattle.fips204_base.proofs.Sampled.{whole_entry, whole_polynomial}
 use Rattle.fips204_base.proofs.Challenges.{picks-beyond, length-challenge_picks}
-use Rattle.fips204_base.specs.Network.{mask_polynomial, mask_width}
+use Rattle.fips204_base.specs.Network.{mask_polynomial, mask_width, triple, kept_triples, half_bytes, kept_half_bytes, small_vector, challenge_picks}
 use Rattle.fips204_base.proofs.Masks.{mask-is, map_same}
 
 -- ---- bytes of a prefix
@@ -49,7 +49,7 @@ kept_triples-longer xs ys n e l =
     ∙ given_joined (triple ys) (triple xs) 0 n (λ p h. ap (triple ys) (from_zero p) ∙ triple-longer xs ys p e (omega (arith, l, h)))
 
 pub matrix_entry-longer : (xs ys : List ℕ) (t : T) → IsPrefix xs ys → matrix_entry xs ≡ Some t → matrix_entry ys ≡ Some t
-unfolding matrix_entry
+unfolding matrix_entry kept_triples triple
 matrix_entry-longer xs ys t e there =
     let n : ℕ = length xs / 4 in
     let more = kept_triples-beyond ys (length xs / 4) (length ys / 4) (omega (arith, prefix-length xs ys e)) in
@@ -65,7 +65,7 @@ unfolding kept_half_bytes
 kept_half_bytes-longer eta xs ys n e l = ap (λ bytes. filter_map (coefficient_from_half_byte eta) (half_bytes bytes)) (prefix-take xs ys n e l)
 
 pub small_polynomial-longer : (eta : ℕ) (xs ys : List ℕ) (w : R) → IsPrefix xs ys → small_polynomial eta xs ≡ Some w → small_polynomial eta ys ≡ Some w
-unfolding small_polynomial
+unfolding small_polynomial kept_half_bytes
 small_polynomial-longer eta xs ys w e there =
     let kept = kept_half_bytes eta xs (length xs / 4) in
     let more = kept_half_bytes-beyond eta ys (length xs / 4) (length ys / 4) (omega (arith, prefix-length xs ys e)) in

@@ -5,8 +5,8 @@ use Rattle.std.proofs.Math.Nat.{pow-zero}
 use Rattle.std.proofs.lemmas.Bool.{eqb-true}
 use native.Mathlib.Decide.{dec_lt}
 use Rattle.fips204_base.specs.Residues.{sum_below, IsCongruent}
-use Rattle.fips204_base.specs.Transforms.{zeta_at, root, transform, inverse_root, inverse_transform}
-use Rattle.fips204_base.specs.Network.{IsLayer, IsInverseLayer}
+use Rattle.fips204_base.specs.Transforms.{zeta_at, transform, inverse_transform}
+use Rattle.fips204_base.specs.Network.{IsLayer, IsInverseLayer, root, inverse_root}
 use Rattle.fips204_base.proofs.Residues.{congruent_refl, congruent_of, congruent_sym, congruent_trans, congruent_mod, congruent_add, congruent_mul, sum_same, sum_equal, sum_add, sum_below-plus, sum_below-one, sum_below-times}
 use Rattle.fips204_base.proofs.Roots.{first_half, second_half, both, both_first, both_second, all_below, at_index, inverse_first_half, inverse_second_half}
 
@@ -48,7 +48,7 @@ KeepsValues count n first w = (b k : ℕ) → b < count → k < n →
     IsCongruent (block_value n (n * b) w (root (n * b + k))) (transform first (n * b + k))
 
 whole_block : (w : ℕ → ℕ) (start i : ℕ) → start ≡ 0 → IsCongruent (block_value 256 start w (root i)) (transform w i)
-unfolding block_value transform
+unfolding block_value transform root
 whole_block w start i e =
     congruent_trans (congruent_of (sum_equal 256 (λ j. w (start + j) * root i ^ j) (λ j. w j * root i ^ j) (λ j p. ap (λ t. w t * root i ^ j) (omega arith))))
     (congruent_sym (congruent_mod (sum_below 256 (λ j. w j * root i ^ j))))
@@ -237,7 +237,7 @@ sums_next s count len first w v p ec el layer held =
     subst (λ n. HoldsSums (2 ^ (8 - (s + 1))) n first v) shape.3 (subst (λ n. HoldsSums (2 ^ n) (2 * 2 ^ s) first v) (sym e2) after)
 
 whole_sum : (v : ℕ → ℕ) (start j : ℕ) → start ≡ 0 → IsCongruent (8347681 * leaf_sum 256 start v j) (inverse_transform v j)
-unfolding leaf_sum inverse_transform
+unfolding leaf_sum inverse_transform inverse_root
 whole_sum v start j e =
     congruent_trans (congruent_of (ap (λ t. 8347681 * t) (sum_equal 256 (λ k. v (start + k) * inverse_root (start + k) ^ j) (λ k. v k * inverse_root k ^ j) (λ k p. ap (λ i. v i * inverse_root i ^ j) (omega arith)))))
     (congruent_sym (congruent_mod (8347681 * sum_below 256 (λ k. v k * inverse_root k ^ j))))

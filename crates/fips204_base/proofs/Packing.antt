@@ -1,16 +1,19 @@
 -- Bytes determine the fields that they pack, and fields the bytes; so it is with the bytes of a polynomial.
-use Rattle.std.proofs.Common.{◌≡◌, ℕ, zero, suc, ◌+◌, ◌*◌, ◌%◌, ◌/◌, ◌^◌, ◌<◌, ◌≤◌, List, [], ◌∷◌, ◌++◌, length, take, drop, map, get_or, refl, ap, sym, ◌∙◌, arith, length-append, length-take, length-drop, ℤ, pos, ◌-ℤ◌, ◌≤ℤ◌}
+use Rattle.std.proofs.Common.{◌≡◌, ℕ, zero, suc, ◌+◌, ◌*◌, ◌%◌, ◌/◌, ◌^◌, ◌<◌, ◌≤◌, List, [], ◌∷◌, ◌++◌, length, take, drop, map, get_or, refl, ap, sym, ◌∙◌, arith, length-append, length-take, length-drop, ℤ, pos, nat_abs, ◌-ℤ◌, ◌≤ℤ◌, subst}
 use Rattle.std.specs.List.{All, range_with_len}
-use Rattle.std.proofs.lemmas.List.{take_at, drop-drop, take_all, length-map}
-use Rattle.std.proofs.lemmas.List.Elements.{All-head, All-tail, All-nil, All-cons, All-append, All-map, All-take, All-drop, All-weaker}
+use Rattle.std.proofs.lemmas.Int.{ints}
+use Rattle.std.proofs.lemmas.List.{take_at, drop-drop, take_all, length-map, ext_get_or, get_or-map}
+use Rattle.std.proofs.lemmas.List.Elements.{All-head, All-tail, All-nil, All-cons, All-append, All-map, All-take, All-drop, All-weaker, All-get_or}
 use Rattle.std.proofs.lemmas.List.Concat.{flat_map-append}
-use Rattle.std.proofs.lemmas.List.FromFn.{fill_by_all, length-map-range_with_len}
+use Rattle.std.proofs.lemmas.List.FromFn.{fill_by_all, length-map-range_with_len, get_or-map-range_with_len}
 use Rattle.std.proofs.lemmas.Nat.{pow_pos}
 use Rattle.std.proofs.Math.Seq.{take-add, drop-append-add}
 use Rattle.std.proofs.Math.Nat.{pow-succ'}
-use Rattle.fips204_base.specs.Packing.{Packs, bits, bits_to_bytes, bits_to_integer, integer_to_bits, packed, Bounds, PolynomialInRange, Unpacks, coefficient, field, polynomial_bytes, width}
+use Rattle.fips204_base.specs.Packing.{bits, bits_to_bytes, bits_to_integer, integer_to_bits, Bounds, PolynomialInRange, polynomial_bytes, unpacked, width}
+use Rattle.fips204_base.specs.declared.types.R.{R}
+use Rattle.fips204_base.specs.Network.{Packs, coefficient, field}
 use Rattle.fips204_base.proofs.Bits.{digits-zero, digits-suc, length-digits, same_numbers}
-use Rattle.fips204_base.proofs.Fields.{coefficient-field, fields_fit}
+use Rattle.fips204_base.proofs.Fields.{coefficient-field, field-coefficient, fields_fit}
 
 -- Bytes determine the fields that they pack, and fields the bytes.
 
@@ -77,23 +80,25 @@ bytes_of_bits bytes h =
     rw n (sym (fill_by_all (λ i. bits_to_integer (take 8 (drop (8 * i) (bits 8 bytes)))) bytes (length bytes) 0 refl
     (λ k l. sym (ap bits_to_integer (digits_at 8 k bytes l) ∙ integer_of_digits 8 (get_or bytes k 0) (h k 0 l)))))
 
--- the bits of bytes that were cut from bits
-bits_of_bytes : (all : List ℕ) (s n : ℕ) → 8 * (s + n) ≤ length all → All (λ digit. digit < 2) all
-    → bits 8 (map (λ i. bits_to_integer (take 8 (drop (8 * i) all))) (range_with_len s n)) ≡ take (8 * n) (drop (8 * s) all)
-unfolding bits
-bits_of_bytes all s zero h d = refl
-bits_of_bytes all s (suc n) h d =
-    let here : integer_to_bits 8 (bits_to_integer (take 8 (drop (8 * s) all))) ≡ take 8 (drop (8 * s) all) =
-    digits_of_integer 8 (take 8 (drop (8 * s) all)) (simp (length-take, length-drop) (omega (arith, h))) (All-take (λ (x : ℕ). x < 2) 8 (drop (8 * s) all) (All-drop (λ (x : ℕ). x < 2) (8 * s) all d)) in
-    let rest = bits_of_bytes all (s + 1) n (omega (arith, h)) d in
-    let later : 8 * (s + 1) ≡ 8 * s + 8 = omega arith in
-    let count : 8 * suc n ≡ 8 + 8 * n = omega arith in
-    let cut : take (8 * suc n) (drop (8 * s) all) ≡ take 8 (drop (8 * s) all) ++ take (8 * n) (drop (8 * (s + 1)) all) =
-    ap (λ k. take k (drop (8 * s) all)) count ∙ take-add 8 (8 * n) (drop (8 * s) all) ∙ ap (λ l. take 8 (drop (8 * s) all) ++ take (8 * n) l) (drop-drop 8 (8 * s) all ∙ ap (λ k. drop k all) (sym later)) in
-    ap (λ l. l ++ bits 8 (map (λ i. bits_to_integer (take 8 (drop (8 * i) all))) (range_with_len (s + 1) n))) here ∙ ap (λ l. take 8 (drop (8 * s) all) ++ l) rest ∙ sym cut
+-- field n of bits that are those of fields of c bits each
+abbrev pub field_at : ℕ → List ℕ → ℕ → ℕ
+field_at c all n = bits_to_integer (take c (drop (c * n) all))
 
-pub is_packed : (c : ℕ) (bytes fields : List ℕ) → Packs c bytes fields → bytes ≡ packed c fields
-unfolding packed
+-- the bits of fields that were cut from bits
+bits_of_fields : (c : ℕ) (all : List ℕ) (s n : ℕ) → c * (s + n) ≤ length all → All (λ digit. digit < 2) all → bits c (map (field_at c all) (range_with_len s n)) ≡ take (c * n) (drop (c * s) all)
+unfolding bits
+bits_of_fields c all s zero h d = let none : c * 0 ≡ 0 = omega arith in rw none refl
+bits_of_fields c all s (suc n) h d =
+    let here : integer_to_bits c (field_at c all s) ≡ take c (drop (c * s) all) =
+    digits_of_integer c (take c (drop (c * s) all)) (simp (length-take, length-drop) (omega (arith, h))) (All-take (λ (x : ℕ). x < 2) c (drop (c * s) all) (All-drop (λ (x : ℕ). x < 2) (c * s) all d)) in
+    let rest = bits_of_fields c all (s + 1) n (omega (arith, h)) d in
+    let later : c * (s + 1) ≡ c * s + c = omega arith in
+    let count : c * suc n ≡ c + c * n = omega arith in
+    let cut : take (c * suc n) (drop (c * s) all) ≡ take c (drop (c * s) all) ++ take (c * n) (drop (c * (s + 1)) all) =
+    ap (λ k. take k (drop (c * s) all)) count ∙ take-add c (c * n) (drop (c * s) all) ∙ ap (λ l. take c (drop (c * s) all) ++ take (c * n) l) (drop-drop c (c * s) all ∙ ap (λ k. drop k all) (sym later)) in
+    ap (λ l. l ++ bits c (map (field_at c all) (range_with_len (s + 1) n))) here ∙ ap (λ l. take c (drop (c * s) all) ++ l) rest ∙ sym cut
+
+pub is_packed : (c : ℕ) (bytes fields : List ℕ) → Packs c bytes fields → bytes ≡ bits_to_bytes (bits c fields)
 is_packed c bytes fields p = sym (bytes_of_bits bytes p.small_bytes) ∙ ap bits_to_bytes p.same_bits
 
 byte_count : (all : List ℕ) → length (bits_to_bytes all) ≡ length all / 8
@@ -108,27 +113,25 @@ integer_small (suc w) (x ∷ xs) h d =
     let rest = integer_small w xs (omega (arith, h)) (All-tail (λ (y : ℕ). y < 2) x xs d) in
     rw integer-cons (omega (arith, here, rest, pow-succ' 2 w))
 
-byte_small : (all : List ℕ) (i : ℕ) → All (λ digit. digit < 2) all → bits_to_integer (take 8 (drop (8 * i) all)) < 256
-byte_small all i d =
-    let short : length (take 8 (drop (8 * i) all)) ≤ 8 = simp length-take (omega arith) in
-    integer_small 8 (take 8 (drop (8 * i) all)) short (All-take (λ (x : ℕ). x < 2) 8 (drop (8 * i) all) (All-drop (λ (x : ℕ). x < 2) (8 * i) all d))
+pub field_small : (c : ℕ) (all : List ℕ) (i : ℕ) → All (λ digit. digit < 2) all → field_at c all i < 2 ^ c
+field_small c all i d =
+    let short : length (take c (drop (c * i) all)) ≤ c = simp length-take (omega arith) in
+    integer_small c (take c (drop (c * i) all)) short (All-take (λ (x : ℕ). x < 2) c (drop (c * i) all) (All-drop (λ (x : ℕ). x < 2) (c * i) all d))
 
-pub length-packed : (c n : ℕ) (fields : List ℕ) → c * length fields ≡ 8 * n → length (packed c fields) ≡ n
-unfolding packed
+pub length-packed : (c n : ℕ) (fields : List ℕ) → c * length fields ≡ 8 * n → length (bits_to_bytes (bits c fields)) ≡ n
 length-packed c n fields e =
     let eighths : length (bits c fields) / 8 ≡ n = omega (arith, length-bits c fields, e) in
     byte_count (bits c fields) ∙ eighths
 
-pub packs_packed : (c n : ℕ) (fields : List ℕ) → c * length fields ≡ 8 * n → All (λ field. field < 2 ^ c) fields → Packs c (packed c fields) fields
-unfolding packed bits_to_bytes
+pub packs_packed : (c n : ℕ) (fields : List ℕ) → c * length fields ≡ 8 * n → All (λ field. field < 2 ^ c) fields → Packs c (bits_to_bytes (bits c fields)) fields
+unfolding bits_to_bytes
 packs_packed c n fields e h =
     let long : length (bits c fields) ≡ 8 * n = length-bits c fields ∙ e in
     let eighths : length (bits c fields) / 8 ≡ n = omega (arith, long) in
-    let all = bits_of_bytes (bits c fields) 0 n (omega (arith, long)) (bits_below c fields) in
+    let all = bits_of_fields 8 (bits c fields) 0 n (omega (arith, long)) (bits_below c fields) in
     record {
       same_bits = rw eighths (all ∙ take_all (8 * n) (bits c fields) (omega (arith, long)));
-      small_bytes = All-map (λ (b : ℕ). b < 256) (λ i. bits_to_integer (take 8 (drop (8 * i) (bits c fields)))) (range_with_len 0 (length (bits c fields) / 8))
-          (λ k d l. byte_small (bits c fields) _ (bits_below c fields));
+      small_bytes = All-map (λ (b : ℕ). b < 256) (field_at 8 (bits c fields)) (range_with_len 0 (length (bits c fields) / 8)) (λ k d l. field_small 8 (bits c fields) _ (bits_below c fields));
       small_fields = h;
     }
 
@@ -154,6 +157,12 @@ same_bytes c bytes others fields p q = is_packed c bytes fields p ∙ sym (is_pa
 
 -- The bytes of a polynomial determine it, and it determines them.
 
+-- the bytes pack the fields of 256 coefficients, each the one that its field has
+pub record Unpacks (a b : ℤ) (bytes : List ℕ) (w : List ℤ) : Type 0 where
+  pub same_fields : Packs (width a b) bytes (map (field a b) w)
+  pub count : length w ≡ 256
+  pub coefficients : All (λ x. coefficient a b (field a b x) ≡ x) w
+
 eighths : (c : ℕ) → c * 256 ≡ 8 * (32 * c)
 eighths c = omega arith
 
@@ -168,20 +177,24 @@ in_range_again : (a b : ℤ) (w : List ℤ) → Bounds a b → PolynomialInRange
 in_range_again a b w bounds range =
     All-weaker (λ (x : ℤ). ((pos 0 -ℤ a) ≤ℤ x) × (x ≤ℤ b)) (λ (x : ℤ). coefficient a b (field a b x) ≡ x) (λ x r. coefficient-field a b x bounds r.0 r.1) w range
 
+pub polynomial_bytes-is : (a b : ℤ) (w : List ℤ) → polynomial_bytes a b w ≡ bits_to_bytes (bits (width a b) (map (field a b) w))
+unfolding polynomial_bytes field
+polynomial_bytes-is a b w = refl
+
 pub length-polynomial_bytes : (a b : ℤ) (w : List ℤ) → length w ≡ 256 → length (polynomial_bytes a b w) ≡ 32 * width a b
 length-polynomial_bytes a b w n =
     let all : length (map (field a b) w) ≡ 256 = length-map w (field a b) ∙ n in
-    length-packed (width a b) (32 * width a b) (map (field a b) w) (rw all (eighths (width a b)))
+    ap length (polynomial_bytes-is a b w) ∙ length-packed (width a b) (32 * width a b) (map (field a b) w) (rw all (eighths (width a b)))
 
 -- bytes unpack to a polynomial in range exactly if they are its bytes
 pub unpacks_bytes : (a b : ℤ) (bytes : List ℕ) (w : List ℤ) → Unpacks a b bytes w → bytes ≡ polynomial_bytes a b w
-unpacks_bytes a b bytes w u = is_packed (width a b) bytes (map (field a b) w) u.same_fields
+unpacks_bytes a b bytes w u = is_packed (width a b) bytes (map (field a b) w) u.same_fields ∙ sym (polynomial_bytes-is a b w)
 
 pub bytes_unpack : (a b : ℤ) (w : List ℤ) → Bounds a b → PolynomialInRange (pos 0 -ℤ a) b w → length w ≡ 256 → Unpacks a b (polynomial_bytes a b w) w
 bytes_unpack a b w bounds range n =
     let all : length (map (field a b) w) ≡ 256 = length-map w (field a b) ∙ n in
     record {
-      same_fields = packs_packed (width a b) (32 * width a b) (map (field a b) w) (rw all (eighths (width a b))) (fields_fit a b w bounds range);
+      same_fields = rw (polynomial_bytes-is a b w) (packs_packed (width a b) (32 * width a b) (map (field a b) w) (rw all (eighths (width a b))) (fields_fit a b w bounds range));
       count = n;
       coefficients = in_range_again a b w bounds range;
     }
@@ -196,3 +209,66 @@ pub same_polynomial : (a b : ℤ) (v w : List ℤ) → Bounds a b → Polynomial
     → polynomial_bytes a b v ≡ polynomial_bytes a b w → v ≡ w
 same_polynomial a b v w bounds p q n m e =
     unpacks_once a b (polynomial_bytes a b w) v w (rw e at (bytes_unpack a b v bounds p n)) (bytes_unpack a b w bounds q m)
+
+-- The polynomial that bytes hold is the one that they unpack to.
+
+field_at-packs : (c : ℕ) (bytes fields : List ℕ) (n : ℕ) → Packs c bytes fields → n < length fields → field_at c (bits 8 bytes) n ≡ get_or fields n 0
+field_at-packs c bytes fields n p h =
+    ap (λ l. bits_to_integer (take c (drop (c * n) l))) p.same_bits ∙ ap bits_to_integer (digits_at c n fields h)
+    ∙ integer_of_digits c (get_or fields n 0) (All-get_or (λ (f : ℕ). f < 2 ^ c) fields n 0 h p.small_fields)
+
+unpacked-unpacks : (a b : ℕ) (bytes : List ℕ) (w : R) → Unpacks (pos a) (pos b) bytes w.0 → unpacked a b bytes ≡ w
+unfolding unpacked coefficient
+unpacked-unpacks a b bytes w u =
+    let c = width (pos a) (pos b) in
+    let value = λ (n : ℕ). coefficient (pos a) (pos b) (field_at c (bits 8 bytes) n) in
+    let fields = map (field (pos a) (pos b)) w.0 in
+    let long : length fields ≡ 256 = length-map w.0 (field (pos a) (pos b)) ∙ u.count in
+    let same : map value (range_with_len 0 256) ≡ w.0 =
+    ext_get_or (pos 0) (map value (range_with_len 0 256)) w.0 (length-map-range_with_len value 0 256 ∙ sym u.count) (λ n l.
+    let inside : n < 256 = omega (arith, l, length-map-range_with_len value 0 256) in
+    let inside' : n < length w.0 = omega (arith, inside, u.count) in
+    get_or-map-range_with_len value 0 256 n n (pos 0) inside (omega arith)
+    ∙ ap (coefficient (pos a) (pos b)) (field_at-packs c bytes fields n u.same_fields (omega (arith, inside, long)) ∙ get_or-map (field (pos a) (pos b)) w.0 n (pos 0) 0 inside')
+    ∙ All-get_or (λ x. coefficient (pos a) (pos b) (field (pos a) (pos b) x) ≡ x) w.0 n (pos 0) inside' u.coefficients) in
+    ap (λ (l : List ℤ). let w : R = record { 0 = l } in w) same
+
+fields_again : (a b : ℤ) (f : ℕ → ℕ) (ns : List ℕ) → map (field a b) (map (λ n. coefficient a b (f n)) ns) ≡ map f ns
+fields_again a b f [] = refl
+fields_again a b f (n ∷ ns) = rw (field-coefficient a b (f n), fields_again a b f ns) refl
+
+unpacks-unpacked : (a b : ℕ) (bytes : List ℕ) → length bytes ≡ 32 * width (pos a) (pos b) → All (λ byte. byte < 256) bytes → Unpacks (pos a) (pos b) bytes (unpacked a b bytes).0
+unfolding unpacked coefficient
+unpacks-unpacked a b bytes room small =
+    let c = width (pos a) (pos b) in
+    let at = field_at c (bits 8 bytes) in
+    let long : length (bits 8 bytes) ≡ c * 256 = length-bits 8 bytes ∙ omega (arith, room) in
+    let start : c * 0 ≡ 0 = omega arith in
+    let same : bits c (map at (range_with_len 0 256)) ≡ bits 8 bytes =
+    bits_of_fields c (bits 8 bytes) 0 256 (omega (arith, long)) (bits_below 8 bytes) ∙ ap (λ k. take (c * 256) (drop k (bits 8 bytes))) start ∙ take_all (c * 256) (bits 8 bytes) (omega (arith, long)) in
+    record {
+      same_fields = rw (fields_again (pos a) (pos b) at (range_with_len 0 256)) record {
+        same_bits = sym same;
+        small_bytes = small;
+        small_fields = All-map (λ (f : ℕ). f < 2 ^ c) at (range_with_len 0 256) (λ k d l. field_small c (bits 8 bytes) _ (bits_below 8 bytes));
+      };
+      count = length-map-range_with_len (λ n. coefficient (pos a) (pos b) (at n)) 0 256;
+      coefficients = All-map (λ x. coefficient (pos a) (pos b) (field (pos a) (pos b) x) ≡ x) (λ n. coefficient (pos a) (pos b) (at n)) (range_with_len 0 256)
+          (λ k d l. ap (coefficient (pos a) (pos b)) (field-coefficient (pos a) (pos b) (at (get_or (range_with_len 0 256) k d))));
+    }
+
+-- the same with the bounds as integers
+pub is_unpacked : (a b : ℤ) (bytes : List ℕ) (w : R) → Bounds a b → Unpacks a b bytes w.0 → w ≡ unpacked (nat_abs a) (nat_abs b) bytes
+is_unpacked a b bytes w bounds u =
+    let p : a ≡ pos (nat_abs a) = omega (arith, ints, bounds) in
+    let q : b ≡ pos (nat_abs b) = omega (arith, ints, bounds) in
+    sym (unpacked-unpacks (nat_abs a) (nat_abs b) bytes w (subst (λ m. Unpacks (pos (nat_abs a)) m bytes w.0) q (subst (λ m. Unpacks m b bytes w.0) p u)))
+
+pub unpacks : (a b : ℤ) (bytes : List ℕ) (w : R) → Bounds a b → length bytes ≡ 32 * width a b → All (λ byte. byte < 256) bytes → w ≡ unpacked (nat_abs a) (nat_abs b) bytes → Unpacks a b bytes w.0
+unpacks a b bytes w bounds room small e =
+    let p : pos (nat_abs a) ≡ a = omega (arith, ints, bounds) in
+    let q : pos (nat_abs b) ≡ b = omega (arith, ints, bounds) in
+    let size : length bytes ≡ 32 * width (pos (nat_abs a)) (pos (nat_abs b)) = room ∙ ap (λ m. 32 * width m b) (sym p) ∙ ap (λ m. 32 * width (pos (nat_abs a)) m) (sym q) in
+    let w' = unpacked (nat_abs a) (nat_abs b) bytes in
+    let all : Unpacks a b bytes w'.0 = subst (λ m. Unpacks a m bytes w'.0) q (subst (λ m. Unpacks m (pos (nat_abs b)) bytes w'.0) p (unpacks-unpacked (nat_abs a) (nat_abs b) bytes size small)) in
+    subst (λ (v : R). Unpacks a b bytes v.0) (sym e) all

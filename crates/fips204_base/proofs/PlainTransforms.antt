@@ -1,16 +1,16 @@
 -- What is given by its transforms: the plain polynomials, and what steps over the transforms make of them.
 use Rattle.std.proofs.Common.{◌≡◌, ℕ, ◌<◌, ◌≤◌, ◌+◌, ◌*◌, ◌%◌, ◌^◌, ℤ, pos, List, [], get_or, arith, ap, sym, refl, ◌∙◌}
-use Rattle.fips204_base.specs.Network.{plain_row, plain_matrix}
+use Rattle.fips204_base.specs.Network.{plain_row, plain_matrix, inverse_root, row_product, vector_residues}
 use Rattle.fips204_base.specs.Residues.{residue, coefficients, from_mont, IsCongruent}
-use Rattle.fips204_base.specs.Transforms.{transform, inverse_transform, inverse_root, pointwise, product, minus, row_product}
+use Rattle.fips204_base.specs.Transforms.{transform, inverse_transform, pointwise, product, minus}
 use Rattle.fips204_base.specs.Lanes.{lane}
-use Rattle.fips204_base.specs.Vectors.{entry, vector_coefficients, vector_residues, matrix_product, AreSameModQ}
+use Rattle.fips204_base.specs.Vectors.{entry, vector_coefficients, matrix_product, AreSameModQ}
 use Rattle.fips204_base.specs.PlainTransforms.{lane_values, plain_vector, factor_values, plain_factor, lanes_value}
 use Rattle.fips204_base.specs.declared.types.R.{R}
 use Rattle.fips204_base.specs.declared.types.T.{T}
 use Rattle.fips204_base.proofs.Residues.{congruent_of, congruent_sym, congruent_trans, congruent_mod, congruent_refl, congruent_add, congruent_mul, congruent_equal, congruent_equal_mod, residue_below, sum_equal, sum_below-times}
 use Rattle.fips204_base.proofs.Transforms.{inverse_of_transform, transform_of_inverse}
-use Rattle.fips204_base.proofs.Products.{transform_same, transform_below, transform_of_minus, inverse_same, inverse_below, product_same, product_of_products, row_of_products}
+use Rattle.fips204_base.proofs.Products.{transform_same, transform_below, transform_of_minus, inverse_same, inverse_below, product_same, product_of_products, row_of_products, row_below}
 use Rattle.fips204_base.proofs.Vectors.{vector_of-entry, polynomial_of-at}
 
 -- ---- the inverse transform
@@ -18,7 +18,7 @@ inverse_reduced : (v : ℕ → ℕ) (j : ℕ) → inverse_transform v j % 838041
 inverse_reduced v j = omega (arith, inverse_below v j)
 
 inverse_of_zeros : (v : ℕ → ℕ) (j : ℕ) → ((i : ℕ) → i < 256 → v i ≡ 0) → inverse_transform v j ≡ 0
-unfolding inverse_transform
+unfolding inverse_transform inverse_root
 inverse_of_zeros v j h = inverse_same v (λ i. 0) (λ i p. congruent_of (h i p)) j ∙ none
   where
     none : inverse_transform (λ i. 0) j ≡ 0
@@ -104,6 +104,14 @@ plain-row columns row v w r n few h l made =
     plain-at w r n h l
     ∙ row_of_products columns (lane_values w r) (vector_residues row) (lane_values v) (vector_coefficients (plain_vector v)) made (λ k i j p. plain-transform v k (omega (arith, few, i)) j p) n l
 
+-- a row of the matrix times a vector
+pub matrix-row : (l : ℕ) (a : List (List T)) (v : ℕ → ℕ → ℕ) (r n : ℕ) → matrix_product l a v r n ≡ row_product l (plain_matrix a r) v n
+unfolding matrix_product row_product
+matrix-row l a v r n = refl
+
+pub matrix_below : (l : ℕ) (a : List (List T)) (v : ℕ → ℕ → ℕ) (r n : ℕ) → matrix_product l a v r n < 8380417
+matrix_below l a v r n = rw (matrix-row l a v r n) (row_below l (plain_matrix a r) v n)
+
 -- Montgomery form and back
 pub back_from_mont : (x y : ℕ) → x ≡ 4294967296 * y % 8380417 → y < 8380417 → from_mont x ≡ y
 back_from_mont x y e h = omega (arith, e, h)
@@ -116,7 +124,7 @@ multiple-same c d v w k r n e f h l =
 
 pub matrix-same : (k : ℕ) (a : List (List T)) (v w : List R) (r n : ℕ) → AreSameModQ k v w → n < 256
     → matrix_product k a (vector_coefficients v) r n ≡ matrix_product k a (vector_coefficients w) r n
-unfolding row_product
+unfolding matrix_product
 matrix-same k a v w r n f l =
     let m = plain_matrix a r in
     ap (λ (x : ℕ). x % 8380417) (sum_equal k (λ j. product (m j) (vector_coefficients v j) n) (λ j. product (m j) (vector_coefficients w j) n) (λ j h.

@@ -3,7 +3,8 @@ use Rattle.std.proofs.Common.{◌≡◌, ℕ, ◌<◌, ◌%◌, ◌≤◌, ◌+�
 use Rattle.std.proofs.lemmas.Nat.{pow-add}
 use Rattle.std.proofs.lemmas.Bool.{lt-ltb, le-ltb}
 use Rattle.fips204_base.specs.Residues.{sum_below, IsCongruent}
-use Rattle.fips204_base.specs.Transforms.{root, transform, inverse_root, inverse_transform, shifted, product, plus, minus, pointwise, row_product, InverseOfTransform}
+use Rattle.fips204_base.specs.Transforms.{transform, inverse_transform, product, plus, minus, pointwise, InverseOfTransform}
+use Rattle.fips204_base.specs.Network.{root, inverse_root, shifted, row_product}
 use Rattle.fips204_base.proofs.Residues.{congruent_refl, congruent_of, congruent_sym, congruent_trans, congruent_mod, congruent_add, congruent_mul, sum_same, sum_equal, sum_below-swap, sum_below-plus, sum_below-times, sum_below-times_right, congruent_equal_mod, congruent_equal, sum_add}
 use Rattle.fips204_base.proofs.Roots.{root_turn}
 use Rattle.fips204_base.proofs.Transforms.{value_at, transform_value, inverse_of_transform, transform_of_inverse}
@@ -50,7 +51,7 @@ module _ (x i c : ℕ) (b : ℕ → ℕ) (e : i + c ≡ 256) (turn : IsCongruent
       congruent_trans (congruent_of left) (congruent_trans (congruent_add low (congruent_of high)) (congruent_of (omega (arith, right))))
 
 pub product_value : (a b : ℕ → ℕ) (x : ℕ) → IsCongruent (x ^ 256) 8380416 → IsCongruent (value_at (product a b) x) (value_at a x * value_at b x)
-unfolding product
+unfolding product shifted
 product_value a b x turn =
     let rows = λ (n : ℕ) (i : ℕ). a i * (shifted b i n * x ^ n) in
     let columns : IsCongruent (sum_below 256 (λ i. sum_below 256 (λ n. rows n i))) (sum_below 256 (λ i. a i * x ^ i * value_at b x)) =
@@ -76,11 +77,11 @@ transform_of_product a b i p =
 
 -- ---- the transforms and the product go by residues
 pub transform_same : (v w : ℕ → ℕ) → ((j : ℕ) → j < 256 → IsCongruent (v j) (w j)) → (i : ℕ) → transform v i ≡ transform w i
-unfolding transform
+unfolding transform root
 transform_same v w h i = congruent_equal_mod (sum_same 256 (λ j. v j * root i ^ j) (λ j. w j * root i ^ j) (λ j p. congruent_mul (h j p) (congruent_refl (root i ^ j))))
 
 pub inverse_same : (v w : ℕ → ℕ) → ((i : ℕ) → i < 256 → IsCongruent (v i) (w i)) → (j : ℕ) → inverse_transform v j ≡ inverse_transform w j
-unfolding inverse_transform
+unfolding inverse_transform inverse_root
 inverse_same v w h j = congruent_equal_mod (congruent_mul (congruent_refl 8347681) (sum_same 256 (λ i. v i * inverse_root i ^ j) (λ i. w i * inverse_root i ^ j) (λ i p. congruent_mul (h i p) (congruent_refl (inverse_root i ^ j)))))
 
 -- two polynomials with one transform are the same
@@ -90,7 +91,7 @@ by_transforms v w h j p =
     (congruent_trans (congruent_of (inverse_same (transform v) (transform w) h j)) (inverse_of_transform w j p))
 
 pub inverse_below : (v : ℕ → ℕ) (j : ℕ) → inverse_transform v j < 8380417
-unfolding inverse_transform
+unfolding inverse_transform inverse_root
 inverse_below v j = omega arith
 
 inverse_reduced : (v : ℕ → ℕ) (j : ℕ) → inverse_transform v j ≡ inverse_transform v j % 8380417
@@ -101,7 +102,7 @@ pub inverse_residue : (v : ℕ → ℕ) (j a : ℕ) → IsCongruent a (inverse_t
 inverse_residue v j a s = congruent_equal_mod s ∙ sym (inverse_reduced v j)
 
 pub transform_below : (w : ℕ → ℕ) (i : ℕ) → transform w i < 8380417
-unfolding transform
+unfolding transform root
 transform_below w i = omega arith
 
 -- a number congruent to a value of the transform, reduced
@@ -109,7 +110,7 @@ pub transform_residue : (w : ℕ → ℕ) (i a : ℕ) → IsCongruent a (transfo
 transform_residue w i a s = let below = transform_below w i in omega (arith, s.same)
 
 pub product_below : (a b : ℕ → ℕ) (n : ℕ) → product a b n < 8380417
-unfolding product
+unfolding product shifted
 product_below a b n = omega arith
 
 pub row_below : (l : ℕ) (a s : ℕ → ℕ → ℕ) (n : ℕ) → row_product l a s n < 8380417
@@ -117,7 +118,7 @@ unfolding row_product
 row_below l a s n = omega arith
 
 product_residue : (a b : ℕ → ℕ) (n : ℕ) → product a b n % 8380417 ≡ product a b n
-unfolding product
+unfolding product shifted
 product_residue a b n = omega arith
 
 pub by_transforms_exactly : (a b c d : ℕ → ℕ) → ((i : ℕ) → i < 256 → IsCongruent (transform (product a b) i) (transform (product c d) i)) → (n : ℕ) → n < 256 → product a b n ≡ product c d n

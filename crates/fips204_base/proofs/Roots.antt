@@ -3,7 +3,8 @@ use Rattle.std.proofs.Common.{◌≡◌, ℕ, zero, suc, ◌<◌, ◌%◌, arith
 use Rattle.std.proofs.lemmas.Bool.{eqb-true}
 use native.Mathlib.Decide.{dec_lt}
 use Rattle.fips204_base.specs.Residues.{IsCongruent, sum_below}
-use Rattle.fips204_base.specs.Transforms.{bit_reversed, zeta_at, root, inverse_root}
+use Rattle.fips204_base.specs.Transforms.{bit_reversed, zeta_at}
+use Rattle.fips204_base.specs.Network.{root, inverse_root}
 use Rattle.fips204_base.proofs.Residues.{congruent_of, congruent_sym, congruent_trans, congruent_mod, congruent_pow, sum_same, sum_powers}
 
 -- Facts of every number below a bound, shown by a test that computes each of them.

@@ -6,10 +6,10 @@ use Rattle.std.specs.declared.option.Option.{Option}
 use Rattle.std.specs.List.{range_with_len, All, cons_option}
 use Rattle.std.proofs.lemmas.List.{take_all, take_more_set, length-take-le}
 use Rattle.std.proofs.lemmas.List.FromFn.{map-range_with_len_more}
-use Rattle.fips204_base.specs.Network.{three_bytes, sampled_entry, sampled_row}
+use Rattle.fips204_base.specs.Network.{three_bytes, sampled_entry, sampled_row, triple, kept_triples, half_bytes, kept_half_bytes, small_vector, ValuesWithin, TransformsWithin}
 use Rattle.fips204_base.specs.declared.fault.Fault.{Fault}
 use Rattle.fips204_base.specs.declared.fault.Fault.TheVariants.{SamplingLimit}
-use Rattle.fips204_base.specs.Sampling.{all_present, first_256, coefficient_from_half_byte, triple, kept_triples, matrix_entry, sampled_matrix, half_bytes, kept_half_bytes, small_polynomial, small_vector, small_vectors}
+use Rattle.fips204_base.specs.Sampling.{all_present, first_256, coefficient_from_half_byte, matrix_entry, sampled_matrix, small_polynomial, small_vectors}
 use Rattle.std.proofs.lemmas.Bool.{le-ltb, lt-ltb, cases_lt}
 use Rattle.std.proofs.lemmas.Int.{ints}
 use Rattle.std.proofs.lemmas.Option.{none-some}
@@ -18,7 +18,7 @@ use Rattle.fips204_base.specs.declared.types.T.{T}
 use Rattle.std.specs.Int.{w16, to_le_bytes}
 use Rattle.fips204_base.specs.declared.types.R.{R}
 use Rattle.fips204_base.specs.Packing.{PolynomialInRange}
-use Rattle.fips204_base.specs.Vectors.{ValuesWithin, TransformsWithin, MatrixWithin, IsVector}
+use Rattle.fips204_base.specs.Vectors.{MatrixWithin, IsVector}
 
 -- Lists of values that may be none, each made in turn.
 
@@ -176,7 +176,7 @@ whole_entry kept None t e m = absurd (none-some t m)
 whole_entry kept (Some values) t e m = let made : T = record { 0 = values } in let whole : Some made ≡ Some t = m in let same : made ≡ t = cc in e ∙ ap (λ (t : T). Some t.0) same
 
 matrix_entry-residues : (front : List ℕ) (t : T) → matrix_entry front ≡ Some t → (length t.0 ≡ 256) × All (λ x. (pos 0 ≤ℤ x) × (x ≤ℤ pos 8380416)) t.0
-unfolding matrix_entry kept_triples
+unfolding matrix_entry kept_triples triple
 matrix_entry-residues front t e =
     let P = λ (x : ℤ). (pos 0 ≤ℤ x) × (x ≤ℤ pos 8380416) in
     let kept = filter_map (triple front) (range_with_len 0 (length front / 4)) in
@@ -245,12 +245,12 @@ small_vector-range eta H rho first count v set e =
 
 pub vectors_some : (eta : ℕ) (H : List ℕ → List ℕ) (rho : List ℕ) (k l : ℕ) (s1 s2 : List R) → small_vector eta H rho 0 l ≡ Some s1 → small_vector eta H rho l k ≡ Some s2
     → small_vectors eta H rho k l ≡ Some (s1, s2)
-unfolding small_vectors
+unfolding small_vectors small_vector
 vectors_some eta H rho k l s1 s2 e f = rw (e, f) refl
 
 pub vectors_none : (eta : ℕ) (H : List ℕ → List ℕ) (rho : List ℕ) (k l : ℕ) → (small_vector eta H rho 0 l ≡ None) ⊎ (small_vector eta H rho l k ≡ None)
     → small_vectors eta H rho k l ≡ None
-unfolding small_vectors
+unfolding small_vectors small_vector
 vectors_none eta H rho k l (inl e) = rw e refl
 vectors_none eta H rho k l (inr e) = rw e (whatever (small_vector eta H rho 0 l))
   where

@@ -6,7 +6,8 @@ use Rattle.std.proofs.lemmas.List.{take_all, take_at, take-append-le, take_more_
 use Rattle.std.proofs.lemmas.List.Elements.{filter_map-append}
 use Rattle.std.proofs.lemmas.List.FromFn.{map-range_with_len_more}
 use Rattle.std.proofs.lemmas.Bool.{cases_lt, le-ltb, lt-ltb}
-use Rattle.fips204_base.specs.Sampling.{first_256, coefficient_from_half_byte, coefficient_from_three_bytes, half_bytes, kept_half_bytes, small_polynomial, triple, kept_triples, matrix_entry}
+use Rattle.fips204_base.specs.Sampling.{first_256, coefficient_from_half_byte, coefficient_from_three_bytes, small_polynomial, matrix_entry}
+use Rattle.fips204_base.specs.Network.{half_bytes, kept_half_bytes, triple, kept_triples}
 use Rattle.std.specs.Prelude.{option_to_list, slice_index}
 use Rattle.std.proofs.lemmas.Grind.{flat_map-append}
 use Rattle.std.proofs.Math.Seq.{take-add}
@@ -171,14 +172,14 @@ kept_half_bytes-beyond eta front n m l =
     (kept_half_bytes eta (take (m - n) (drop n front)) (m - n), ap (kept_half_bytes eta front) (sym e) ∙ kept_half_bytes-joined eta front n (m - n))
 
 pub polynomial-full : (eta : ℕ) (front : List ℕ) (n : ℕ) (values : List ℤ) → n ≤ length front / 4 → Keeps values 256 (kept_half_bytes eta front n) → small_polynomial eta front ≡ Some record { 0 = values }
-unfolding small_polynomial
+unfolding small_polynomial kept_half_bytes
 polynomial-full eta front n values l k =
     let whole = kept_half_bytes-beyond eta front n (length front / 4) l in
     let first : first_256 (kept_half_bytes eta front (length front / 4)) ≡ Some values = ap first_256 whole.1 ∙ first_256-beyond _ whole.0 values (first_of_full k) in
     rw first refl
 
 pub polynomial-few : (eta : ℕ) (front : List ℕ) (values : List ℤ) (count : ℕ) → count < 256 → Keeps values count (kept_half_bytes eta front (length front / 4)) → small_polynomial eta front ≡ None
-unfolding small_polynomial
+unfolding small_polynomial kept_half_bytes
 polynomial-few eta front values count l k = rw (first_of_few k l) refl
 
 -- The coefficients that the triples of a front give, piece by piece.
@@ -222,12 +223,12 @@ kept_triples-beyond front n m l =
     (kept_triples (take (3 * (m - n)) (drop (3 * n) front)) (m - n), ap (kept_triples front) (sym e) ∙ kept_triples-joined front n (m - n))
 
 pub entry-full : (front : List ℕ) (n : ℕ) (values : List ℤ) → n ≤ length front / 4 → Keeps values 256 (kept_triples front n) → matrix_entry front ≡ Some record { 0 = values }
-unfolding matrix_entry
+unfolding matrix_entry kept_triples triple
 entry-full front n values l k =
     let whole = kept_triples-beyond front n (length front / 4) l in
     let first : first_256 (kept_triples front (length front / 4)) ≡ Some values = ap first_256 whole.1 ∙ first_256-beyond _ whole.0 values (first_of_full k) in
     rw first refl
 
 pub entry-few : (front : List ℕ) (values : List ℤ) (count : ℕ) → count < 256 → Keeps values count (kept_triples front (length front / 4)) → matrix_entry front ≡ None
-unfolding matrix_entry
+unfolding matrix_entry kept_triples triple
 entry-few front values count l k = rw (first_of_few k l) refl

@@ -3,7 +3,8 @@ use Rattle.std.proofs.Common.{◌≡◌, ℕ, ◌<◌, ◌+◌, ◌*◌, ◌^◌
 use Rattle.std.proofs.lemmas.Nat.{pow-add, mul-pow}
 use native.Mathlib.Decide.{dec_lt}
 use Rattle.fips204_base.specs.Residues.{sum_below, IsCongruent}
-use Rattle.fips204_base.specs.Transforms.{bit_reversed, root, inverse_root, transform, inverse_transform}
+use Rattle.fips204_base.specs.Transforms.{bit_reversed, transform, inverse_transform}
+use Rattle.fips204_base.specs.Network.{root, inverse_root}
 use Rattle.fips204_base.proofs.Residues.{congruent_refl, congruent_of, congruent_trans, congruent_mod, congruent_mul, congruent_pow, sum_same, sum_equal, sum_below-times, sum_below-times_right, sum_weighed, pow_mul, one_pow}
 use Rattle.fips204_base.proofs.Roots.{root_inverse, sum_reversed, sum_turned, geometric, bit_reversed_below, bit_reversed_twice}
 
@@ -69,11 +70,11 @@ abbrev pub value_at : (ℕ → ℕ) → ℕ → ℕ
 value_at w x = sum_below 256 (λ j. w j * x ^ j)
 
 pub transform_value : (w : ℕ → ℕ) (i : ℕ) → IsCongruent (transform w i) (value_at w (root i))
-unfolding transform
+unfolding transform root
 transform_value w i = congruent_mod (value_at w (root i))
 
 pub inverse_of_transform : (w : ℕ → ℕ) (j : ℕ) → j < 256 → IsCongruent (inverse_transform (transform w) j) (w j)
-unfolding inverse_transform
+unfolding inverse_transform inverse_root
 inverse_of_transform w j p =
     let inner : IsCongruent (sum_below 256 (λ i. transform w i * inverse_root i ^ j)) (sum_below 256 (λ i. sum_below 256 (λ k. w k * (root i ^ k * inverse_root i ^ j)))) =
     sum_same 256 (λ i. transform w i * inverse_root i ^ j) (λ i. sum_below 256 (λ k. w k * (root i ^ k * inverse_root i ^ j))) (λ i q.
@@ -110,7 +111,7 @@ leaf_other i k p q h =
     (geometric (256 + bit_reversed i - bit_reversed k) (omega arith) (omega arith))
 
 pub transform_of_inverse : (v : ℕ → ℕ) (i : ℕ) → i < 256 → IsCongruent (transform (inverse_transform v) i) (v i)
-unfolding inverse_transform
+unfolding inverse_transform inverse_root
 transform_of_inverse v i p =
     let inner : IsCongruent (value_at (inverse_transform v) (root i)) (8347681 * sum_below 256 (λ j. sum_below 256 (λ k. v k * (inverse_root k ^ j * root i ^ j)))) =
     congruent_trans (sum_same 256 (λ j. inverse_transform v j * root i ^ j) (λ j. 8347681 * sum_below 256 (λ k. v k * (inverse_root k ^ j * root i ^ j))) (λ j q.

@@ -1,9 +1,9 @@
 -- Lists of bytes that are written or read piece by piece, and the bytes of a vector.
-use Rattle.std.proofs.Common.{◌≡◌, ℕ, ◌+◌, ◌-◌, ◌≤◌, List, ◌++◌, length, take, drop, ap, sym, ◌∙◌, arith, length-append, length-take, length-drop, ◌*◌, ◌^◌, ◌<◌, [], ◌∷◌, ℤ, pos, ◌+ℤ◌, ◌-ℤ◌, ◌≤ℤ◌, nat_abs, append_assoc, set, get_or, map, subst}
+use Rattle.std.proofs.Common.{◌≡◌, ℕ, ◌+◌, ◌-◌, ◌≤◌, List, ◌++◌, length, take, drop, ap, sym, ◌∙◌, arith, length-append, length-take, length-drop, ◌*◌, ◌^◌, ◌<◌, [], ◌∷◌, ℤ, pos, ◌+ℤ◌, ◌-ℤ◌, ◌≤ℤ◌, ◌<ℤ◌, nat_abs, append_assoc, set, get_or, map, subst}
 use Rattle.std.proofs.lemmas.List.{take_all, take_at, take_more, take_more_set, drop_at, take-append-drop, length-take-le, flat_map_more}
 use Rattle.std.proofs.lemmas.Slice.{take-put_mid}
 use borrow.Rule.Slice.PartMut.{put_mid}
-use Rattle.std.specs.List.{All, flat_map}
+use Rattle.std.specs.List.{All, Any, flat_map}
 use Rattle.std.proofs.lemmas.Int.{ints}
 use Rattle.std.proofs.lemmas.List.Elements.{All-take, All-head, All-tail, All-nil, All-cons}
 use Rattle.std.proofs.lemmas.Nat.{mul-le}
@@ -11,8 +11,9 @@ use Rattle.std.proofs.lemmas.List.Concat.{flat_map-append}
 use Rattle.fips204_base.specs.declared.types.R.{R}
 use Rattle.fips204_base.specs.Encodings.{vector_bytes}
 use Rattle.fips204_base.specs.Vectors.{IsVector}
-use Rattle.fips204_base.proofs.Packing.{length-polynomial_bytes}
-use Rattle.fips204_base.specs.Packing.{Bounds, PolynomialInRange, Unpacks, coefficient, field, polynomial_bytes, width}
+use Rattle.fips204_base.proofs.Packing.{Unpacks, length-polynomial_bytes}
+use Rattle.fips204_base.specs.Packing.{Bounds, PolynomialInRange, polynomial_bytes, width}
+use Rattle.fips204_base.specs.Network.{coefficient, field}
 
 -- A list of bytes that is written or read piece by piece.
 
@@ -82,6 +83,10 @@ whole_range a b (x ∷ w) bounds whole small same =
 
 pub unpacked_range : (a b : ℤ) (bytes : List ℕ) (w : List ℤ) → Bounds a b → pos (2 ^ width a b) ≡ a +ℤ b +ℤ pos 1 → Unpacks a b bytes w → PolynomialInRange (pos 0 -ℤ a) b w
 unpacked_range a b bytes w bounds whole u = whole_range a b w bounds whole u.same_fields.small_fields u.coefficients
+
+-- none of what is in range is above it
+pub none_above : (a b : ℤ) (w : List ℤ) → PolynomialInRange a b w → Any (λ x. b <ℤ x) w → ⊥
+none_above a b w range h = let within = range h.0 h.1 h.2 in omega (arith, ints, within.1, h.3, h.4)
 
 -- piece i of n pieces of one size ends within them
 pub piece-within : (size i n len : ℕ) → len ≡ size * n → i < n → size * i + size ≤ len

@@ -1,11 +1,12 @@
 -- Worked values of residues, products, transforms, norms and rounding.
-use Rattle.std.proofs.Common.{◌≡◌, pos, negsuc, [], ◌∷◌, refl, cond, rules, ◌++◌, if◌then◌else◌, map, true, false, ◌*◌, ◌+◌, ◌-◌, ◌%◌}
+use Rattle.std.proofs.Common.{◌≡◌, pos, negsuc, [], ◌∷◌, refl, cond, rules, ◌++◌, if◌then◌else◌, map, true, false, ◌*◌, ◌+◌, ◌-◌, ◌%◌, ◌^◌}
 use Rattle.std.proofs.Math.Dec.{eqb}
-use Rattle.fips204_base.specs.Residues.{residue, sum_below, centred, norm, vector_norm, centred_modulo, IsMontgomery}
-use Rattle.fips204_base.specs.Transforms.{bit_reversed, zeta_at, root, inverse_root, transform, inverse_transform, product, row_product, shifted, plus, minus, pointwise}
+use Rattle.fips204_base.specs.Residues.{residue, coefficients, sum_below, centred, norm, vector_norm, centred_modulo, IsMontgomery}
+use Rattle.fips204_base.specs.Transforms.{bit_reversed, zeta_at, transform, inverse_transform, product, plus, minus, pointwise}
+use Rattle.fips204_base.specs.Vectors.{matrix_product}
 use Rattle.std.specs.Prelude.{replicate, nat_eq}
 use Rattle.std.specs.List.{range_with_len, flat_map}
-use Rattle.fips204_base.specs.Packing.{polynomial_bytes, packed, bits_to_bytes, bits, integer_to_bits, bits_to_integer, field, bit_length}
+use Rattle.fips204_base.specs.Packing.{polynomial_bytes, bits_to_bytes, bits, integer_to_bits, bits_to_integer, bit_length}
 use Rattle.fips204_base.specs.Rounding.{power2round, decompose, make_hint, use_hint, high_values}
 
 -- Worked values of the definitions of residues, products and transforms.
@@ -38,37 +39,39 @@ zetas = (refl, refl, refl, refl)
 
 -- the transform of X is the list of the roots
 transform_of_x : (transform (λ j. cond (eqb j 1) 1 0) 0 ≡ 1753) × (transform (λ j. cond (eqb j 1) 1 0) 1 ≡ 8378664)
-unfolding transform root bit_reversed sum_below
+unfolding transform bit_reversed sum_below
 transform_of_x = (refl, refl)
 
 -- the transform of 1 is 1 everywhere
 transform_of_one : (transform (λ j. cond (eqb j 0) 1 0) 0 ≡ 1) × (transform (λ j. cond (eqb j 0) 1 0) 200 ≡ 1)
-unfolding transform root bit_reversed sum_below
+unfolding transform bit_reversed sum_below
 transform_of_one = (refl, refl)
 
--- 1753^511 is the inverse of 1753, and the inverses of the last points are the first points
-inverse_roots : (inverse_root 0 ≡ 731434) × (inverse_root 1 ≡ 7648983) × (inverse_root 255 ≡ 1753) × (1753 * inverse_root 0 % 8380417 ≡ 1)
-unfolding inverse_root bit_reversed sum_below
-inverse_roots = (refl, refl, refl, refl)
+-- coefficient 1 of what has 1 at one point and 0 at the others is the inverse of the point, times 8347681: 1753^511, which is 731434, then
+-- 7648983, and 1753 at the last point
+inverse_points : (inverse_transform (λ i. if nat_eq i 0 then 1 else 0) 1 ≡ 7008362) × (inverse_transform (λ i. if nat_eq i 1 then 1 else 0) 1 ≡ 1372055) × (inverse_transform (λ i. if nat_eq i 255 then 1 else 0) 1 ≡ 1276711)
+unfolding inverse_transform bit_reversed sum_below
+inverse_points = (refl, refl, refl)
 
--- what has 1 everywhere for its transform is 1, and what has the roots is X
+-- what has 1 everywhere for its transform is 1, and what has the points is X
 inverse_transform_of_ones : (inverse_transform (λ _. 1) 0 ≡ 1) × (inverse_transform (λ _. 1) 5 ≡ 0)
-unfolding inverse_transform inverse_root bit_reversed sum_below
+unfolding inverse_transform bit_reversed sum_below
 inverse_transform_of_ones = (refl, refl)
 
-inverse_transform_of_roots : (inverse_transform root 0 ≡ 0) × (inverse_transform root 1 ≡ 1) × (inverse_transform root 2 ≡ 0)
-unfolding inverse_transform inverse_root root bit_reversed sum_below
-inverse_transform_of_roots = (refl, refl, refl)
+inverse_transform_of_points : map (inverse_transform (λ i. 1753 ^ (2 * bit_reversed i + 1) % 8380417)) (range_with_len 0 3) ≡ 0 ∷ 1 ∷ 0 ∷ []
+unfolding inverse_transform bit_reversed sum_below
+inverse_transform_of_points = refl
 
--- X^255 X + 1 * 3 is 2
-row_of_two : (row_product 2 (λ k i. if nat_eq i (255 * (1 - k)) then 1 else 0) (λ k i. if nat_eq i (1 - k) then 1 + 2 * k else 0) 0 ≡ 2) × (row_product 2 (λ k i. if nat_eq i (255 * (1 - k)) then 1 else 0) (λ k i. if nat_eq i (1 - k) then 1 + 2 * k else 0) 1 ≡ 0)
-unfolding row_product product shifted sum_below
-row_of_two = (refl, refl)
+-- the second row of a matrix times a vector: the sum of its two products, modulo q
+second_row : matrix_product 2 ([] ∷ (record { 0 = replicate 256 (pos 1) } ∷ record { 0 = replicate 256 (pos 5) } ∷ []) ∷ []) (λ k i. if nat_eq i 2 then 8380416 - k else 0) 1 2
+    ≡ (0 + product (inverse_transform (coefficients (replicate 256 (pos 1)))) (λ i. if nat_eq i 2 then 8380416 else 0) 2 + product (inverse_transform (coefficients (replicate 256 (pos 5)))) (λ i. if nat_eq i 2 then 8380415 else 0) 2) % 8380417
+unfolding matrix_product sum_below
+second_row = refl
 
--- X^255 X is minus one
-product_of_powers : (product (λ j. cond (eqb j 255) 1 0) (λ j. cond (eqb j 1) 1 0) 0 ≡ 8380416) × (product (λ j. cond (eqb j 255) 1 0) (λ j. cond (eqb j 1) 1 0) 1 ≡ 0)
-unfolding product shifted sum_below
-product_of_powers = (refl, refl)
+-- X^255 X is minus one, and X^255 X^2 is minus X
+product_of_powers : (product (λ j. cond (eqb j 255) 1 0) (λ j. cond (eqb j 1) 1 0) 0 ≡ 8380416) × (product (λ j. cond (eqb j 255) 1 0) (λ j. cond (eqb j 1) 1 0) 1 ≡ 0) × (product (λ j. cond (eqb j 255) 1 0) (λ j. cond (eqb j 2) 1 0) 1 ≡ 8380416)
+unfolding product sum_below
+product_of_powers = (refl, refl, refl)
 
 -- Worked values of centring, the norm, the product, and packing.
 
@@ -88,12 +91,12 @@ norm_at_the_ends = refl
 
 -- X^255 times X is -1: q - 1 at place 0, and 0 at others
 highest_times_x : map (product (λ i. if nat_eq i 255 then 1 else 0) (λ i. if nat_eq i 1 then 1 else 0)) (range_with_len 0 8 ++ range_with_len 248 8) ≡ 8380416 ∷ replicate 15 0
-unfolding product shifted sum_below
+unfolding product sum_below
 highest_times_x = refl
 
 -- every coefficient of t0 is 2, so every field is 4094, in 13 bits
 fields_of_t0 : polynomial_bytes (pos 4095) (pos 4096) (replicate 256 (pos 2)) ≡ flat_map (λ _. 0xFE ∷ 0xCF ∷ 0xFF ∷ 0xF9 ∷ 0x3F ∷ 0xFF ∷ 0xE7 ∷ 0xFF ∷ 0xFC ∷ 0x9F ∷ 0xFF ∷ 0xF3 ∷ 0x7F ∷ []) (range_with_len 0 32)
-unfolding packed bits_to_bytes bits integer_to_bits bits_to_integer field bit_length
+unfolding bits_to_bytes bits integer_to_bits bits_to_integer polynomial_bytes bit_length
 fields_of_t0 = refl
 
 -- Worked values of rounding and of hints.
@@ -128,7 +131,7 @@ below_minus_q = refl
 
 -- X times X is X^2, -1 times 2 is reduced, and place 256 is no part of a polynomial
 product_inside : (product (λ i. if nat_eq i 256 then 1 else 0) (λ _. 1) 5 ≡ 0) × (product (λ i. if nat_eq i 1 then 1 else 0) (λ i. if nat_eq i 1 then 1 else 0) 2 ≡ 1) × (product (λ i. if nat_eq i 0 then 8380416 else 0) (λ i. if nat_eq i 0 then 2 else 0) 0 ≡ 8380415)
-unfolding product shifted sum_below
+unfolding product sum_below
 product_inside = (refl, refl, refl)
 
 -- a step down from 1, and one up to 3

@@ -1,7 +1,7 @@
 -- Worked values of packing and of the spelling of hints.
 use Rattle.std.proofs.Common.{◌≡◌, [], ◌∷◌, refl, pos, negsuc, arith, length, ℕ, List, ◌++◌, if◌then◌else◌, ◌||◌}
-use Rattle.fips204_base.specs.Packing.{bit_length, bits, bits_to_bytes, bits_to_integer, coefficient, field, integer_to_bits, packed, width}
-use Rattle.std.specs.Prelude.{replicate, nat_eq}
+use Rattle.fips204_base.specs.Packing.{bit_length, bits, bits_to_bytes, bits_to_integer, integer_to_bits, polynomial_bytes, unpacked, width}
+use Rattle.std.specs.Prelude.{replicate, nat_eq, take}
 use Rattle.std.specs.List.{range_with_len}
 use Rattle.fips204_base.specs.declared.types.R.{R}
 use Rattle.fips204_base.specs.Streams.{counter_block, counter_blocks}
@@ -52,34 +52,33 @@ unfolding bit_length
 bits_of_the_mask = refl
 
 -- 1 + 2 * 2^10 + 3 * 2^20 + 4 * 2^30, in five bytes
-ten_bits : packed 10 (1 ∷ 2 ∷ 3 ∷ 4 ∷ []) ≡ 1 ∷ 8 ∷ 48 ∷ 0 ∷ 1 ∷ []
-unfolding packed bits_to_bytes bits_to_integer bits integer_to_bits
+ten_bits : bits_to_bytes (bits 10 (1 ∷ 2 ∷ 3 ∷ 4 ∷ [])) ≡ 1 ∷ 8 ∷ 48 ∷ 0 ∷ 1 ∷ []
+unfolding bits_to_bytes bits_to_integer bits integer_to_bits
 ten_bits = refl
 
 -- 0 + 1 * 8 + 2 * 64 + 3 * 512 + 4 * 4096 + 2^18 + 2 * 2^21, in three bytes
-three_bits : packed 3 (0 ∷ 1 ∷ 2 ∷ 3 ∷ 4 ∷ 0 ∷ 1 ∷ 2 ∷ []) ≡ 136 ∷ 70 ∷ 68 ∷ []
-unfolding packed bits_to_bytes bits_to_integer bits integer_to_bits
+three_bits : bits_to_bytes (bits 3 (0 ∷ 1 ∷ 2 ∷ 3 ∷ 4 ∷ 0 ∷ 1 ∷ 2 ∷ [])) ≡ 136 ∷ 70 ∷ 68 ∷ []
+unfolding bits_to_bytes bits_to_integer bits integer_to_bits
 three_bits = refl
 
 -- 1 + (2^20 - 1) * 2^20, in five bytes
-twenty_bits : packed 20 (1 ∷ 1048575 ∷ []) ≡ 1 ∷ 0 ∷ 240 ∷ 255 ∷ 255 ∷ []
-unfolding packed bits_to_bytes bits_to_integer bits integer_to_bits
+twenty_bits : bits_to_bytes (bits 20 (1 ∷ 1048575 ∷ [])) ≡ 1 ∷ 0 ∷ 240 ∷ 255 ∷ 255 ∷ []
+unfolding bits_to_bytes bits_to_integer bits integer_to_bits
 twenty_bits = refl
 
-field_of_least : field (pos 2) (pos 2) (negsuc 1) ≡ 4
-unfolding field
-field_of_least = refl
+-- fields of three bits: 4 of the least coefficient, 0 of the most, and then 1 to 3
+fields_of_ends : polynomial_bytes (pos 2) (pos 2) (negsuc 1 ∷ pos 2 ∷ pos 1 ∷ pos 0 ∷ negsuc 0 ∷ pos 2 ∷ pos 2 ∷ pos 2 ∷ []) ≡ 0x44 ∷ 0x34 ∷ 0 ∷ []
+unfolding polynomial_bytes bits_to_bytes bits_to_integer bits integer_to_bits bit_length
+fields_of_ends = refl
 
-field_of_most : field (pos 2) (pos 2) (pos 2) ≡ 0
-unfolding field
-field_of_most = refl
-
-simple_field : field (pos 0) (pos 1023) (pos 700) ≡ 700
-unfolding field
+-- 700 is 0x2BC
+simple_field : polynomial_bytes (pos 0) (pos 1023) (pos 700 ∷ pos 0 ∷ pos 0 ∷ pos 0 ∷ []) ≡ 0xBC ∷ 2 ∷ 0 ∷ 0 ∷ 0 ∷ []
+unfolding polynomial_bytes bits_to_bytes bits_to_integer bits integer_to_bits bit_length
 simple_field = refl
 
-coefficient_below_range : coefficient (pos 2) (pos 2) 7 ≡ negsuc 4
-unfolding coefficient
+-- a field of 7 is that of a coefficient below the range
+coefficient_below_range : take 3 (unpacked 2 2 (0x0F ∷ replicate 95 0)).0 ≡ negsuc 4 ∷ pos 1 ∷ pos 2 ∷ []
+unfolding unpacked bits_to_integer bits integer_to_bits bit_length
 coefficient_below_range = refl
 
 -- Worked spellings of hints.
@@ -132,8 +131,8 @@ total_above_omega h s =
     let rise = totals_rise 80 h bytes 3 (pieces 80 4 h bytes s) (omega (arith, rows)) in
     omega (arith, rise.1)
 
-coefficient_from_zero : coefficient (pos 0) (pos 1023) 700 ≡ pos 700
-unfolding coefficient
+coefficient_from_zero : take 2 (unpacked 0 1023 (0xBC ∷ 6 ∷ replicate 318 0)).0 ≡ pos 700 ∷ pos 1 ∷ []
+unfolding unpacked bits_to_integer bits integer_to_bits bit_length
 coefficient_from_zero = refl
 
 block_of_a_stream : counter_block (λ x. x) (7 ∷ []) 258 ≡ 7 ∷ 2 ∷ 1 ∷ 0 ∷ 0 ∷ []

@@ -1,7 +1,7 @@
 -- Hints, keys and signatures as bytes (FIPS 204, Algorithms 20 to 28).
 use Rattle.std.specs.Prelude.{◌≡◌, ◌≤◌, ◌+◌, ◌-◌, ℕ, List, ◌++◌, Bool, pos, length, map, take, replicate, slice_index_or, int_lt, ◌⊎◌, ℤ}
 use Rattle.std.specs.List.{filter, flat_map, range_with_len}
-use Rattle.fips204_base.specs.Packing.{packed, width, field}
+use Rattle.fips204_base.specs.Packing.{polynomial_bytes}
 use Rattle.fips204_base.specs.Rounding.{high_values}
 use Rattle.fips204_base.specs.Vectors.{IsVector}
 use Rattle.fips204_base.specs.declared.types.R.{R}
@@ -40,7 +40,7 @@ IsGamma1 gamma1 = (gamma1 ≡ pos 131072) ⊎ (gamma1 ≡ pos 524288)
 --   z               gamma1 - 1    gamma1        18 or 20      all
 --   w1              0             43 or 15      6 or 4        written only
 abbrev pub vector_bytes : ℕ → ℕ → List R → List ℕ
-vector_bytes a b v = flat_map (λ w. packed (width (pos a) (pos b)) (map (field (pos a) (pos b)) w.0)) v
+vector_bytes a b v = flat_map (λ w. polynomial_bytes (pos a) (pos b) w.0) v
 
 -- a public key: the seed of its matrix, the hash of its bytes, and the high part of its vector t
 pub record PublicParts : Type 0 where

@@ -1,13 +1,16 @@
--- Butterflies, layers and lanes by place, what a sampler's loop keeps, and parts of definitions: cited by no public clause; nobody has to believe it.
-use Rattle.std.specs.Prelude.{◌≡◌, ℕ, ◌+◌, ◌*◌, ◌-◌, ◌%◌, ◌<◌, ◌≤◌, ℤ, pos, ◌-ℤ◌, neg_ℤ, nat_abs, List, [], ◌∷◌, slice_index_or, ◌++◌, take, length, map, Option, nat_eq, if◌then◌else◌}
-use Rattle.std.specs.List.{filter, range_with_len}
+-- Butterflies, layers and lanes by place, what a sampler's loop keeps, bounds, and parts of definitions: cited by no public clause; nobody has to believe it.
+use Rattle.std.specs.Prelude.{◌≡◌, ℕ, ◌+◌, ◌*◌, ◌-◌, ◌/◌, ◌%◌, ◌^◌, ◌<◌, ◌≤◌, ◌≤ℤ◌, ◌⊎◌, ℤ, pos, ◌-ℤ◌, neg_ℤ, nat_abs, List, [], ◌∷◌, slice_index, slice_index_or, ◌++◌, take, drop, length, map, filter_map, flat_map, Option, Some, None, Result, MatchResult, nat_eq, nat_lt, int_lt, if◌then◌else◌}
+use Rattle.std.specs.Int.{w16, to_le_bytes}
+use Rattle.std.specs.List.{All, filter, range_with_len}
 use Rattle.fips204_base.specs.Encodings.{is_one, all_ones}
 use Rattle.fips204_base.specs.Lanes.{lane, lane_at}
-use Rattle.fips204_base.specs.Packing.{width}
-use Rattle.fips204_base.specs.Residues.{residue, centred_modulo, coefficients, IsCongruent}
-use Rattle.fips204_base.specs.Sampling.{all_present, matrix_entry, unpacked}
-use Rattle.fips204_base.specs.Transforms.{zeta_at, inverse_transform, minus, product}
-use Rattle.fips204_base.specs.Vectors.{vector_residues, vector_coefficients, matrix_product}
+use Rattle.fips204_base.specs.Packing.{bits, width, unpacked}
+use Rattle.fips204_base.specs.Residues.{residue, sum_below, centred_modulo, coefficients, IsCongruent}
+use Rattle.fips204_base.specs.Sampling.{all_present, coefficient_from_three_bytes, coefficient_from_half_byte, matrix_entry, picks, sampled_matrix, small_polynomial}
+use Rattle.fips204_base.specs.Transforms.{bit_reversed, zeta_at, inverse_transform, minus, product}
+use Rattle.fips204_base.specs.Vectors.{coefficient_at, entry, vector_coefficients, matrix_product}
+use Rattle.fips204_base.specs.declared.fault.Fault.{Fault}
+use Rattle.fips204_base.specs.declared.fault.Fault.TheVariants.{SamplingLimit}
 use Rattle.fips204_base.specs.declared.types.R.{R}
 use Rattle.fips204_base.specs.declared.types.T.{T}
 
@@ -56,6 +59,18 @@ EachPair Pair width a b x y = (j : ℕ) → j < width → Pair (lane a j) (lane 
 abbrev pub EachLaneOfRow : {V : Type 0} → ((ℕ → ℤ) → (ℕ → ℤ) → Type 0) → (V → List ℤ) → ℕ → List V → List V → Type 0
 EachLaneOfRow {V} Changed lanes width before after = (j : ℕ) (d : V) → j < width → Changed (lane_at lanes j d before) (lane_at lanes j d after)
 
+-- the residues of a vector of transforms, by row and place
+abbrev pub vector_residues : List T → ℕ → ℕ → ℕ
+vector_residues v i = coefficients (slice_index_or v i record { 0 = [] }).0
+
+-- value j of the product of a matrix's row of transforms with a vector, of l transforms each
+abbrev pub row_value : ℕ → List T → List T → ℕ → ℕ
+row_value l row u j = sum_below l (λ k. vector_residues row k j * vector_residues u k j) % 8380417
+
+-- the first k of t are the products of the matrix's rows with a vector, of l transforms each
+abbrev pub AreRowProducts : ℕ → ℕ → List (List T) → List T → List T → Type 0
+AreRowProducts k l a u t = (i j : ℕ) → i < k → j < 256 → vector_residues t i j ≡ row_value l (slice_index_or a i []) u j
+
 -- the residues of a matrix of transforms, by row, column and place
 abbrev pub matrix_residues : List (List T) → ℕ → ℕ → ℕ → ℕ
 matrix_residues a i = vector_residues (slice_index_or a i [])
@@ -64,11 +79,80 @@ matrix_residues a i = vector_residues (slice_index_or a i [])
 abbrev pub AreKept : List ℤ → ℕ → List ℤ → List ℤ → ℕ → Type 0
 AreKept old kept given new count = take count new ≡ take 256 (take kept old ++ given)
 
+-- ---- bounds, and what a step promises
+
+-- eta at the parameter sets (FIPS 204, Table 1)
+abbrev pub IsEta : ℤ → Type 0
+IsEta eta = (eta ≡ pos 2) ⊎ (eta ≡ pos 4)
+
+-- every number has an absolute value of at most m
+abbrev pub ValuesWithin : ℕ → List ℤ → Type 0
+ValuesWithin m w = All (λ x. nat_abs x ≤ m) w
+
+-- each of the 256 coefficients of a polynomial has an absolute value of at most m
+abbrev pub PolynomialWithin : ℕ → List ℤ → Type 0
+PolynomialWithin m w = (n : ℕ) → n < 256 → nat_abs (coefficient_at w n) ≤ m
+
+-- every coefficient of the k polynomials of a vector has an absolute value of at most m
+abbrev pub VectorWithin : ℕ → ℕ → List R → Type 0
+VectorWithin k m v = (r n : ℕ) → r < k → n < 256 → nat_abs (entry v r n) ≤ m
+
+-- every coefficient of the k polynomials of a vector is from 0 to q - 1
+abbrev pub IsResidueVector : ℕ → List R → Type 0
+IsResidueVector k v = (r n : ℕ) → r < k → n < 256 → (pos 0 ≤ℤ entry v r n) × (entry v r n ≤ℤ pos 8380416)
+
+-- every value of a vector of transforms has an absolute value of at most m
+abbrev pub TransformsWithin : ℕ → List T → Type 0
+TransformsWithin m v = All (λ t. ValuesWithin m t.0) v
+
+-- a step that samples the matrix of rho: it refuses where there is none, and else P holds of the matrix
+abbrev pub OnSampled : (List ℕ → List ℕ) → List ℕ → ℕ → ℕ → Result (Unit {0}) Fault → (List (List T) → Type 0) → Type 0
+OnSampled G rho k l result P = MatchResult result (λ _. (a : List (List T)) × (sampled_matrix G rho k l ≡ Some a) × P a)
+    (λ fault. (sampled_matrix G rho k l ≡ None) × (fault ≡ SamplingLimit))
+
 -- ---- parts of definitions, by themselves
 
 -- the number of three bytes, the lowest first, without the top bit of the last
 abbrev pub three_bytes : ℕ → ℕ → ℕ → ℕ
 three_bytes b0 b1 b2 = b0 + 256 * b1 + 65536 * (b2 % 128)
+
+-- the coefficient that triple p of a front gives, if any
+unfoldable pub triple : List ℕ → ℕ → Option ℤ
+triple front p = coefficient_from_three_bytes (slice_index front (3 * p)) (slice_index front (3 * p + 1)) (slice_index front (3 * p + 2))
+
+-- the coefficients that the first n triples give
+unfoldable pub kept_triples : List ℕ → ℕ → List ℤ
+kept_triples front n = filter_map (triple front) (range_with_len 0 n)
+
+-- the half bytes of bytes, the low half first
+abbrev pub half_bytes : List ℕ → List ℕ
+half_bytes bytes = flat_map (λ byte. byte % 16 ∷ byte / 16 ∷ []) bytes
+
+-- the coefficients that the half bytes of the first n bytes give
+unfoldable pub kept_half_bytes : ℕ → List ℕ → ℕ → List ℤ
+kept_half_bytes eta front n = filter_map (coefficient_from_half_byte eta) (half_bytes (take n front))
+
+-- count small polynomials, those of the numbers from first on, or none where one is none
+unfoldable pub small_vector : ℕ → (List ℕ → List ℕ) → List ℕ → ℕ → ℕ → Option (List R)
+small_vector eta H rho first count = all_present (map (λ r. small_polynomial eta (H (rho ++ to_le_bytes w16 r))) (range_with_len first count))
+
+-- the picks of 256 - tau to 255 from the bytes after the first eight, a quarter as many as the front has
+unfoldable pub challenge_picks : ℕ → List ℕ → List ℕ
+challenge_picks tau front = take tau (picks (256 - tau) (take (length front / 4) (drop 8 front)))
+
+-- the field of a coefficient from -a to b: the coefficient itself where a is 0, else its distance from b
+unfoldable pub field : ℤ → ℤ → ℤ → ℕ
+field a b x = if int_lt (pos 0) a then nat_abs (b -ℤ x) else nat_abs x
+
+-- the coefficient that has a field
+unfoldable pub coefficient : ℤ → ℤ → ℕ → ℤ
+coefficient a b f = if int_lt (pos 0) a then b -ℤ pos f else pos f
+
+-- all bits of the bytes, lowest first, are all bits of fields of c bits each, lowest first
+pub record Packs (c : ℕ) (bytes fields : List ℕ) : Type 0 where
+  pub same_bits : bits 8 bytes ≡ bits c fields
+  pub small_bytes : All (λ byte. byte < 256) bytes
+  pub small_fields : All (λ field. field < 2 ^ c) fields
 
 -- the entry of the matrix at row r and column s
 abbrev pub sampled_entry : (List ℕ → List ℕ) → List ℕ → ℕ → ℕ → Option T
@@ -81,6 +165,22 @@ sampled_row G rho l r = all_present (map (sampled_entry G rho r) (range_with_len
 -- the sign of a set bit is -1, of another 1
 abbrev pub sign_of : ℕ → ℤ
 sign_of bit = if nat_eq bit 1 then neg_ℤ (pos 1) else pos 1
+
+-- coefficient n of X^i b, where X^256 is minus one
+unfoldable pub shifted : (ℕ → ℕ) → ℕ → ℕ → ℕ
+shifted b i n = if nat_lt n i then 8380416 * b (256 + n - i) else b (n - i)
+
+-- coefficient n of the product of a matrix's row with a vector, of l polynomials each
+unfoldable pub row_product : ℕ → (ℕ → ℕ → ℕ) → (ℕ → ℕ → ℕ) → ℕ → ℕ
+row_product l row v n = sum_below l (λ k. product (row k) (v k) n) % 8380417
+
+-- the point at which value i of a transform is taken
+unfoldable pub root : ℕ → ℕ
+root i = 1753 ^ (2 * bit_reversed i + 1) % 8380417
+
+-- the inverse of that point; 1753^512 is 1 modulo q
+unfoldable pub inverse_root : ℕ → ℕ
+inverse_root i = 1753 ^ (512 - (2 * bit_reversed i + 1)) % 8380417
 
 -- the plain row of a row of transforms, by column and place
 abbrev pub plain_row : List T → ℕ → ℕ → ℕ

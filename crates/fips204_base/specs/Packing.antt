@@ -1,6 +1,7 @@
 -- Bits, fields and bytes (FIPS 204, Algorithms 9 to 13 and 16 to 19).
-use Rattle.std.specs.Prelude.{◌≡◌, ◌<◌, ◌*◌, ◌/◌, ◌%◌, ◌+◌, ◌^◌, ℕ, zero, suc, List, [], ◌∷◌, ℤ, pos, ◌+ℤ◌, ◌-ℤ◌, ◌≤ℤ◌, ◌<ℤ◌, nat_abs, length, map, take, drop, count_by, nat_le, if◌then◌else◌, int_lt}
-use Rattle.std.specs.List.{All, Any, flat_map, range_with_len}
+use Rattle.std.specs.Prelude.{◌*◌, ◌/◌, ◌%◌, ◌+◌, ◌^◌, ℕ, zero, suc, List, [], ◌∷◌, ℤ, pos, ◌+ℤ◌, ◌-ℤ◌, ◌≤ℤ◌, nat_abs, length, map, take, drop, count_by, nat_le, if◌then◌else◌, int_lt}
+use Rattle.std.specs.List.{All, flat_map, range_with_len}
+use Rattle.fips204_base.specs.declared.types.R.{R}
 
 -- IntegerToBits (Algorithm 9): the w binary digits of a number, lowest first
 unfoldable pub integer_to_bits : ℕ → ℕ → List ℕ
@@ -24,27 +25,9 @@ bits_to_bytes all = map (λ i. bits_to_integer (take 8 (drop (8 * i) all))) (ran
 unfoldable pub bit_length : ℕ → ℕ
 bit_length n = count_by (λ k. nat_le (2 ^ k) n) (range_with_len 0 32)
 
--- all bits of the bytes, lowest first, are all bits of fields of c bits each, lowest first
-pub record Packs (c : ℕ) (bytes fields : List ℕ) : Type 0 where
-  pub same_bits : bits 8 bytes ≡ bits c fields
-  pub small_bytes : All (λ byte. byte < 256) bytes
-  pub small_fields : All (λ field. field < 2 ^ c) fields
-
--- the bytes that fields of c bits each pack to
-unfoldable pub packed : ℕ → List ℕ → List ℕ
-packed c fields = bits_to_bytes (bits c fields)
-
 -- how many bits the field of a coefficient from -a to b has (Algorithms 16 and 17)
 abbrev pub width : ℤ → ℤ → ℕ
 width a b = bit_length (nat_abs (a +ℤ b))
-
--- the field of a coefficient from -a to b: the coefficient itself where a is 0, else its distance from b
-unfoldable pub field : ℤ → ℤ → ℤ → ℕ
-field a b x = if int_lt (pos 0) a then nat_abs (b -ℤ x) else nat_abs x
-
--- the coefficient that has a field
-unfoldable pub coefficient : ℤ → ℤ → ℕ → ℤ
-coefficient a b f = if int_lt (pos 0) a then b -ℤ pos f else pos f
 
 -- every coefficient is from lo to hi
 abbrev pub PolynomialInRange : ℤ → ℤ → List ℤ → Type 0
@@ -54,19 +37,17 @@ PolynomialInRange lo hi w = All (λ x. (lo ≤ℤ x) × (x ≤ℤ hi)) w
 abbrev pub Bounds : ℤ → ℤ → Type 0
 Bounds a b = (pos 0 ≤ℤ a) × (a ≤ℤ pos 1048575) × (pos 1 ≤ℤ b) × (b ≤ℤ pos 1048575)
 
--- the bytes of a polynomial with coefficients from -a to b: SimpleBitPack and BitPack (Algorithms 16 and 17)
-abbrev pub polynomial_bytes : ℤ → ℤ → List ℤ → List ℕ
-polynomial_bytes a b w = packed (width a b) (map (field a b) w)
+-- SimpleBitPack and BitPack (Algorithms 16 and 17): the bytes of a polynomial with coefficients from -a to b; the field of a coefficient
+-- is its distance from b, but where a is 0 the coefficient itself
+unfoldable pub polynomial_bytes : ℤ → ℤ → List ℤ → List ℕ
+polynomial_bytes a b w =
+    let field = λ (x : ℤ). if int_lt (pos 0) a then nat_abs (b -ℤ x) else nat_abs x in
+    bits_to_bytes (bits (bit_length (nat_abs (a +ℤ b))) (map field w))
 
--- SimpleBitUnpack and BitUnpack (Algorithms 18 and 19): the bytes pack the fields of 256 coefficients, each the one that its field has
-pub record Unpacks (a b : ℤ) (bytes : List ℕ) (w : List ℤ) : Type 0 where
-  pub same_fields : Packs (width a b) bytes (map (field a b) w)
-  pub count : length w ≡ 256
-  pub coefficients : All (λ x. coefficient a b (field a b x) ≡ x) w
-
--- the bytes pack 256 fields of c bits each, and one of them is above b
-pub record PacksAbove (b : ℤ) (c : ℕ) (bytes : List ℕ) : Type 0 where
-  pub fields : List ℕ
-  pub same_fields : Packs c bytes fields
-  pub count : length fields ≡ 256
-  pub above : Any (λ field. b <ℤ pos field) fields
+-- SimpleBitUnpack and BitUnpack (Algorithms 18 and 19): the polynomial that bytes hold; field n stands in bits c n to c n + c - 1
+unfoldable pub unpacked : ℕ → ℕ → List ℕ → R
+unpacked a b bytes =
+    let c = bit_length (a + b) in
+    let all = bits 8 bytes in
+    let field = λ (n : ℕ). pos (bits_to_integer (take c (drop (c * n) all))) in
+    record { 0 = map (λ n. if int_lt (pos 0) (pos a) then pos b -ℤ field n else field n) (range_with_len 0 256) }

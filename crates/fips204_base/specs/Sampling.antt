@@ -1,17 +1,11 @@
 -- Samplers: the matrix, small vectors, the challenge and the mask (FIPS 204, Algorithms 14, 15 and 29 to 34).
-use Rattle.std.specs.Prelude.{ℕ, ◌+◌, ◌*◌, ◌%◌, ℤ, pos, ◌-ℤ◌, Option, Some, None, Result, MatchResult, ◌&&◌, ◌≡◌, ◌⊎◌, if◌then◌else◌, nat_eq, nat_lt, List, [], ◌∷◌, ◌++◌, length, take, option_map, option_and_then, ◌/◌, map, filter_map, slice_index, flat_map, ◌-◌, ◌+ℤ◌, neg_ℤ, drop, nat_le}
+use Rattle.std.specs.Prelude.{ℕ, ◌+◌, ◌*◌, ◌%◌, ℤ, pos, ◌-ℤ◌, Option, Some, None, ◌&&◌, if◌then◌else◌, nat_eq, nat_lt, List, [], ◌∷◌, ◌++◌, length, take, option_map, option_and_then, ◌/◌, map, filter_map, slice_index, flat_map, ◌-◌, ◌+ℤ◌, neg_ℤ, drop, nat_le}
 use Rattle.std.specs.Int.{w16, to_le_bytes}
 use Rattle.std.specs.List.{range_with_len}
-use Rattle.fips204_base.specs.Packing.{bits, bits_to_integer, coefficient, width}
+use Rattle.fips204_base.specs.Packing.{bits, unpacked}
 use Rattle.fips204_base.specs.Vectors.{polynomial_of}
-use Rattle.fips204_base.specs.declared.fault.Fault.{Fault}
-use Rattle.fips204_base.specs.declared.fault.Fault.TheVariants.{SamplingLimit}
 use Rattle.fips204_base.specs.declared.types.R.{R}
 use Rattle.fips204_base.specs.declared.types.T.{T}
-
--- eta at the parameter sets (FIPS 204, Table 1)
-abbrev pub IsEta : ℤ → Type 0
-IsEta eta = (eta ≡ pos 2) ⊎ (eta ≡ pos 4)
 
 -- CoeffFromThreeBytes (Algorithm 14): the number of three bytes, the lowest first, without the top bit of the last; or none from q on
 abbrev pub coefficient_from_three_bytes : ℕ → ℕ → ℕ → Option ℤ
@@ -37,17 +31,11 @@ all_present (x ∷ xs) = option_and_then (λ value. option_map (λ values. value
 
 -- ---- The matrix (Algorithms 30 and 32)
 
--- the coefficient that triple p of a front gives, if any
-unfoldable pub triple : List ℕ → ℕ → Option ℤ
-triple front p = coefficient_from_three_bytes (slice_index front (3 * p)) (slice_index front (3 * p + 1)) (slice_index front (3 * p + 2))
-
--- the coefficients that the first n triples give
-unfoldable pub kept_triples : List ℕ → ℕ → List ℤ
-kept_triples front n = filter_map (triple front) (range_with_len 0 n)
-
 -- RejNTTPoly (Algorithm 30): the first 256 coefficients of as many triples as a quarter of the front has bytes, or none
 unfoldable pub matrix_entry : List ℕ → Option T
-matrix_entry front = option_map (λ values. record { 0 = values }) (first_256 (kept_triples front (length front / 4)))
+matrix_entry front =
+    let triple = λ (p : ℕ). coefficient_from_three_bytes (slice_index front (3 * p)) (slice_index front (3 * p + 1)) (slice_index front (3 * p + 2)) in
+    option_map (λ values. record { 0 = values }) (first_256 (filter_map triple (range_with_len 0 (length front / 4))))
 
 -- ExpandA (Algorithm 32): k rows of l entries, or none where an entry is none; the entry at row r and column s is sampled from G
 -- over rho, its column and its row, a byte each
@@ -55,33 +43,21 @@ unfoldable pub sampled_matrix : (List ℕ → List ℕ) → List ℕ → ℕ →
 sampled_matrix G rho k l =
     all_present (map (λ r. all_present (map (λ s. matrix_entry (G (rho ++ s ∷ r ∷ []))) (range_with_len 0 l))) (range_with_len 0 k))
 
--- a step that samples the matrix of rho: it refuses where there is none, and else P holds of the matrix
-abbrev pub OnSampled : (List ℕ → List ℕ) → List ℕ → ℕ → ℕ → Result (Unit {0}) Fault → (List (List T) → Type 0) → Type 0
-OnSampled G rho k l result P = MatchResult result (λ _. (a : List (List T)) × (sampled_matrix G rho k l ≡ Some a) × P a)
-    (λ fault. (sampled_matrix G rho k l ≡ None) × (fault ≡ SamplingLimit))
-
 -- ---- Small polynomials (Algorithms 31 and 33)
 
--- the half bytes of bytes, the low half first
-abbrev pub half_bytes : List ℕ → List ℕ
-half_bytes bytes = flat_map (λ byte. byte % 16 ∷ byte / 16 ∷ []) bytes
-
--- the coefficients that the half bytes of the first n bytes give
-unfoldable pub kept_half_bytes : ℕ → List ℕ → ℕ → List ℤ
-kept_half_bytes eta front n = filter_map (coefficient_from_half_byte eta) (half_bytes (take n front))
-
--- RejBoundedPoly (Algorithm 31): the first 256 coefficients of the first bytes, a quarter of the front, or none
+-- RejBoundedPoly (Algorithm 31): the first 256 coefficients of the half bytes, the low half of a byte first, of the first bytes, a
+-- quarter of the front, or none
 unfoldable pub small_polynomial : ℕ → List ℕ → Option R
-small_polynomial eta front = option_map (λ values. record { 0 = values }) (first_256 (kept_half_bytes eta front (length front / 4)))
+small_polynomial eta front =
+    let half_bytes = flat_map (λ byte. byte % 16 ∷ byte / 16 ∷ []) (take (length front / 4) front) in
+    option_map (λ values. record { 0 = values }) (first_256 (filter_map (coefficient_from_half_byte eta) half_bytes))
 
--- ExpandS (Algorithm 33), a part of it: count polynomials from H(rho', number in two bytes), the numbers from first on
-unfoldable pub small_vector : ℕ → (List ℕ → List ℕ) → List ℕ → ℕ → ℕ → Option (List R)
-small_vector eta H rho first count = all_present (map (λ r. small_polynomial eta (H (rho ++ to_le_bytes w16 r))) (range_with_len first count))
-
--- ExpandS (Algorithm 33): s1 of l polynomials, with the numbers from 0 on, and s2 of k, with those from l on; or none where one is none
+-- ExpandS (Algorithm 33): s1 of l polynomials, with the numbers from 0 on, and s2 of k, with those from l on, each polynomial
+-- from H(rho', number in two bytes); or none where one is none
 unfoldable pub small_vectors : ℕ → (List ℕ → List ℕ) → List ℕ → ℕ → ℕ → Option (List R × List R)
 small_vectors eta H rho k l =
-    option_and_then (λ s1. option_map (λ s2. (s1, s2)) (small_vector eta H rho l k)) (small_vector eta H rho 0 l)
+    let vector = λ (first count : ℕ). all_present (map (λ r. small_polynomial eta (H (rho ++ to_le_bytes w16 r))) (range_with_len first count)) in
+    option_and_then (λ s1. option_map (λ s2. (s1, s2)) (vector l k)) (vector 0 l)
 
 -- ---- The challenge (Algorithm 29)
 
@@ -107,29 +83,16 @@ signed_sum [] sign_bits n = pos 0
 signed_sum (place ∷ later) [] n = pos 0
 signed_sum (place ∷ later) (bit ∷ sign_bits) n = (if nat_eq place n then (if nat_eq bit 1 then neg_ℤ (pos 1) else pos 1) else pos 0) +ℤ signed_sum later sign_bits n
 
--- the picks of 256 - tau to 255 from the bytes after the first eight, a quarter as many as the front has
-unfoldable pub challenge_picks : ℕ → List ℕ → List ℕ
-challenge_picks tau front = take tau (picks (256 - tau) (take (length front / 4) (drop 8 front)))
-
--- SampleInBall (Algorithm 29): the sum over i from 256 - tau to 255 of sign_i X^place(i), or none where a pick is missing;
--- sign_i is that of bit i + tau - 256 of the first eight bytes
+-- SampleInBall (Algorithm 29): the sum over i from 256 - tau to 255 of sign_i X^place(i), or none where a pick is missing; the
+-- picks are from the bytes after the first eight, a quarter as many as the front has, and sign_i is that of bit i + tau - 256 of
+-- the first eight bytes
 unfoldable pub challenge : ℕ → List ℕ → Option R
 challenge tau front =
-    if nat_lt (length (challenge_picks tau front)) tau then None
-    else Some (polynomial_of (signed_sum (places (256 - tau) (challenge_picks tau front)) (bits 8 (take 8 front))))
+    let picked = take tau (picks (256 - tau) (take (length front / 4) (drop 8 front))) in
+    if nat_lt (length picked) tau then None
+    else Some (polynomial_of (signed_sum (places (256 - tau) picked) (bits 8 (take 8 front))))
 
--- ---- The mask (Algorithm 34), by unpacking (Algorithms 18 and 19)
-
--- field n of bits that are those of fields of c bits each
-unfoldable pub field_at : ℕ → List ℕ → ℕ → ℕ
-field_at c all n = bits_to_integer (take c (drop (c * n) all))
-
--- BitUnpack (Algorithm 19): the polynomial that bytes hold, of coefficients from -a to b
-unfoldable pub unpacked : ℕ → ℕ → List ℕ → R
-unpacked a b bytes =
-    let c = width (pos a) (pos b) in
-    let all = bits 8 bytes in
-    polynomial_of (λ n. coefficient (pos a) (pos b) (field_at c all n))
+-- ---- The mask (Algorithm 34)
 
 -- ExpandMask (Algorithm 34): l polynomials, the one at r from H(rho'', kappa + r in two bytes); with c bits a coefficient, 18 or 20,
 -- the first 32 c bytes are read

@@ -1,9 +1,9 @@
 -- Vectors and matrices of polynomials, and bounds on their coefficients (FIPS 204, sections 2.3 to 2.5).
-use Rattle.std.specs.Prelude.{◌≡◌, ◌≤◌, ◌<◌, ◌≤ℤ◌, ℕ, List, [], ℤ, pos, nat_abs, slice_index_or, ◌*◌, ◌%◌, ◌-ℤ◌, length, map}
+use Rattle.std.specs.Prelude.{◌≡◌, ◌≤◌, ◌<◌, ◌≤ℤ◌, ℕ, List, [], ℤ, pos, nat_abs, slice_index_or, ◌%◌, ◌-ℤ◌, length, map}
 use Rattle.std.specs.List.{All, range_with_len}
 use Rattle.fips204_base.specs.Packing.{PolynomialInRange}
 use Rattle.fips204_base.specs.Residues.{coefficients, sum_below}
-use Rattle.fips204_base.specs.Transforms.{row_product, inverse_transform}
+use Rattle.fips204_base.specs.Transforms.{product, inverse_transform}
 use Rattle.fips204_base.specs.declared.types.R.{R}
 use Rattle.fips204_base.specs.declared.types.T.{T}
 
@@ -15,41 +15,9 @@ coefficient_at w n = slice_index_or w n (pos 0)
 abbrev pub entry : List R → ℕ → ℕ → ℤ
 entry v r = coefficient_at (slice_index_or v r record { 0 = [] }).0
 
--- every number has an absolute value of at most m
-abbrev pub ValuesWithin : ℕ → List ℤ → Type 0
-ValuesWithin m w = All (λ x. nat_abs x ≤ m) w
-
--- each of the 256 coefficients of a polynomial has an absolute value of at most m
-abbrev pub PolynomialWithin : ℕ → List ℤ → Type 0
-PolynomialWithin m w = (n : ℕ) → n < 256 → nat_abs (coefficient_at w n) ≤ m
-
--- every coefficient of the k polynomials of a vector has an absolute value of at most m
-abbrev pub VectorWithin : ℕ → ℕ → List R → Type 0
-VectorWithin k m v = (r n : ℕ) → r < k → n < 256 → nat_abs (entry v r n) ≤ m
-
--- every coefficient of the k polynomials of a vector is from 0 to q - 1
-abbrev pub IsResidueVector : ℕ → List R → Type 0
-IsResidueVector k v = (r n : ℕ) → r < k → n < 256 → (pos 0 ≤ℤ entry v r n) × (entry v r n ≤ℤ pos 8380416)
-
--- the residues of a vector of transforms, by row and place
-abbrev pub vector_residues : List T → ℕ → ℕ → ℕ
-vector_residues v i = coefficients (slice_index_or v i record { 0 = [] }).0
-
--- every value of a vector of transforms has an absolute value of at most m
-abbrev pub TransformsWithin : ℕ → List T → Type 0
-TransformsWithin m v = All (λ t. ValuesWithin m t.0) v
-
 -- every value of a matrix of transforms has an absolute value of at most m
 abbrev pub MatrixWithin : ℕ → List (List T) → Type 0
-MatrixWithin m a = All (TransformsWithin m) a
-
--- value j of the product of a matrix's row of transforms with a vector, of l transforms each
-abbrev pub row_value : ℕ → List T → List T → ℕ → ℕ
-row_value l row u j = sum_below l (λ k. vector_residues row k j * vector_residues u k j) % 8380417
-
--- the first k of t are the products of the matrix's rows with a vector, of l transforms each
-abbrev pub AreRowProducts : ℕ → ℕ → List (List T) → List T → List T → Type 0
-AreRowProducts k l a u t = (i j : ℕ) → i < k → j < 256 → vector_residues t i j ≡ row_value l (slice_index_or a i []) u j
+MatrixWithin m a = All (λ row. All (λ t. All (λ x. nat_abs x ≤ m) t.0) row) a
 
 -- every coefficient of a vector's polynomials is from lo to hi
 abbrev pub VectorInRange : ℤ → ℤ → List R → Type 0
@@ -66,8 +34,10 @@ abbrev pub vector_coefficients : List R → ℕ → ℕ → ℕ
 vector_coefficients v i = coefficients (slice_index_or v i record { 0 = [] }).0
 
 -- coefficient n of polynomial r of A v, where the matrix a has the transforms of A, and v has l polynomials
-abbrev pub matrix_product : ℕ → List (List T) → (ℕ → ℕ → ℕ) → ℕ → ℕ → ℕ
-matrix_product l a v r = row_product l (λ k. inverse_transform (vector_residues (slice_index_or a r []) k)) v
+unfoldable pub matrix_product : ℕ → List (List T) → (ℕ → ℕ → ℕ) → ℕ → ℕ → ℕ
+matrix_product l a v r n =
+    let row = slice_index_or a r [] in
+    sum_below l (λ k. product (inverse_transform (coefficients (slice_index_or row k record { 0 = [] }).0)) (v k) n) % 8380417
 
 -- the polynomial whose coefficient n is f n
 unfoldable pub polynomial_of : (ℕ → ℤ) → R

@@ -2,9 +2,10 @@
 //! coefficients asks for.
 #![tactic(auto)]
 
-ghost use Rattle.std.specs.Prelude.{◌≡◌, ◌<◌, ◌≤◌, ◌+◌, ◌*◌, ◌%◌, ◌^◌, ℤ, pos, ◌-ℤ◌, ◌≤ℤ◌, length, map, MatchOption};
-ghost use Rattle.std.specs.List.{All};
-ghost use Rattle.fips204_base.specs.Packing.{Bounds, PolynomialInRange, Packs, PacksAbove, Unpacks, coefficient, field, width};
+ghost use Rattle.std.specs.Prelude.{◌≡◌, ◌<◌, ◌≤◌, ◌+◌, ◌*◌, ◌%◌, ◌^◌, ℤ, pos, ◌-ℤ◌, ◌≤ℤ◌, ◌<ℤ◌, nat_abs, length, map, MatchOption};
+ghost use Rattle.std.specs.List.{All, Any};
+ghost use Rattle.fips204_base.specs.Packing.{Bounds, PolynomialInRange, polynomial_bytes, unpacked, width};
+ghost use Rattle.fips204_base.specs.Network.{Packs, coefficient, field};
 
 mod coefficients;
 mod hints;
@@ -42,7 +43,7 @@ fn low(word: u32, c: u32) -> u32
 }
 
 /// The field of a coefficient.
-#[tactic(auto, using(std::proofs::lemmas::Int::ints), unfolding(crate::specs::Packing::field))]
+#[tactic(auto, using(std::proofs::lemmas::Int::ints), unfolding(crate::specs::Network::field))]
 fn field_of(x: i32, a: i32, b: i32) -> u32
     requires bounds { Bounds a b }
     requires range { ((pos 0 -ℤ a) ≤ℤ x) × (x ≤ℤ b) }
@@ -53,7 +54,7 @@ fn field_of(x: i32, a: i32, b: i32) -> u32
 }
 
 /// The coefficient of a field.
-#[tactic(auto, using(std::proofs::lemmas::Int::ints), unfolding(crate::specs::Packing::coefficient))]
+#[tactic(auto, using(std::proofs::lemmas::Int::ints), unfolding(crate::specs::Network::coefficient))]
 fn coefficient_of(field: u32, a: i32, b: i32) -> i32
     requires bounds { Bounds a b }
     requires below { field < 2 ^ 21 }
@@ -74,7 +75,7 @@ pub fn simple_bit_pack(w: &R, b: i32, out: &mut [u8])
     requires bounds { Bounds (pos 0) b }
     requires range { PolynomialInRange (pos 0) b w.now.0 }
     requires room { length out.old ≡ 32 * width (pos 0) b }
-    ensures { Packs (width (pos 0) b) out.new (map (field (pos 0) b) w.now.0) }
+    ensures { out.new ≡ polynomial_bytes (pos 0) b w.now.0 }
 {
     bit_pack(w, 0, b, out);
 }
@@ -116,7 +117,7 @@ pub fn bit_pack(w: &R, a: i32, b: i32, out: &mut [u8])
     requires bounds { Bounds a b }
     requires range { PolynomialInRange (pos 0 -ℤ a) b w.now.0 }
     requires room { length out.old ≡ 32 * width a b }
-    ensures { Packs (width a b) out.new (map (field a b) w.now.0) }
+    ensures { out.new ≡ polynomial_bytes a b w.now.0 }
 {
     let c = field_width(a, b) as usize;
     for i in 0..32 {
@@ -129,7 +130,7 @@ pub(crate) fn write_packed_by_range(w: &R, a: i32, b: i32, out: &mut [u8])
     requires bounds { Bounds a b }
     requires range { PolynomialInRange (pos 0 -ℤ a) b w.now.0 }
     requires room { length out.old ≡ 32 * width a b }
-    ensures { Packs (width a b) out.new (map (field a b) w.now.0) }
+    ensures { out.new ≡ polynomial_bytes a b w.now.0 }
 {
     match (a, b) {
         (0, 15) => bit_pack(w, 0, 15, out),
@@ -177,7 +178,9 @@ fn write_unpacked_group(v: &[u8], a: i32, b: i32, out: &mut [i32])
 pub fn simple_bit_unpack(v: &[u8], b: i32) -> Option<R>
     requires bounds { Bounds (pos 0) b }
     requires room { length v.now ≡ 32 * width (pos 0) b }
-    ensures { MatchOption result (PacksAbove b (width (pos 0) b) v.now) (λ w. Unpacks (pos 0) b v.now w.0 × PolynomialInRange (pos 0) b w.0) }
+    ensures { MatchOption result
+        (Any (λ x. b <ℤ x) (unpacked 0 (nat_abs b) v.now).0)
+        (λ w. (w ≡ unpacked 0 (nat_abs b) v.now) × PolynomialInRange (pos 0) b w.0) }
 {
     bit_unpack(v, 0, b)
 }
@@ -192,8 +195,8 @@ pub fn bit_unpack(v: &[u8], a: i32, b: i32) -> Option<R>
     requires bounds { Bounds a b }
     requires room { length v.now ≡ 32 * width a b }
     ensures { MatchOption result
-        ((a ≡ pos 0) × PacksAbove b (width a b) v.now)
-        (λ w. Unpacks a b v.now w.0 × (a ≡ pos 0 → PolynomialInRange (pos 0) b w.0)) }
+        ((a ≡ pos 0) × Any (λ x. b <ℤ x) (unpacked (nat_abs a) (nat_abs b) v.now).0)
+        (λ w. (w ≡ unpacked (nat_abs a) (nat_abs b) v.now) × (a ≡ pos 0 → PolynomialInRange (pos 0) b w.0)) }
 {
     let c = field_width(a, b) as usize;
     let mut out = [0i32; 256];
@@ -212,8 +215,8 @@ pub(crate) fn bit_unpack_by_range(v: &[u8], a: i32, b: i32) -> Option<R>
     requires bounds { Bounds a b }
     requires room { length v.now ≡ 32 * width a b }
     ensures { MatchOption result
-        ((a ≡ pos 0) × PacksAbove b (width a b) v.now)
-        (λ w. Unpacks a b v.now w.0 × (a ≡ pos 0 → PolynomialInRange (pos 0) b w.0)) }
+        ((a ≡ pos 0) × Any (λ x. b <ℤ x) (unpacked (nat_abs a) (nat_abs b) v.now).0)
+        (λ w. (w ≡ unpacked (nat_abs a) (nat_abs b) v.now) × (a ≡ pos 0 → PolynomialInRange (pos 0) b w.0)) }
 {
     match (a, b) {
         (131071, 131072) => bit_unpack(v, 131071, 131072),

@@ -3,7 +3,8 @@
 
 ghost use Rattle.std.specs.Prelude.{◌≡◌, ◌⊎◌, ◌<◌, ◌≤◌, ◌+◌, ◌-◌, ◌*◌, ◌/◌, ℤ, pos, ◌≤ℤ◌, nat_abs, int_lt};
 ghost use Rattle.fips204_base.specs.Residues.{residue};
-ghost use Rattle.fips204_base.specs.Vectors.{IsResidueVector, vector_coefficients, vector_of};
+ghost use Rattle.fips204_base.specs.Vectors.{vector_coefficients, vector_of};
+ghost use Rattle.fips204_base.specs.Network.{IsResidueVector};
 ghost use Rattle.fips204_base.specs.Rounding.{IsGamma2, power2round, high_bits, low_bits, make_hint, high_values, use_hint};
 
 use crate::D;

@@ -6,7 +6,8 @@ ghost use Rattle.std.specs.Prelude.{◌≡◌, ◌≢◌, ◌<◌, ◌≤◌, �
 ghost use Rattle.fips204_base.specs.Lanes.{lane};
 ghost use Rattle.fips204_base.specs.Residues.{coefficients};
 ghost use Rattle.fips204_base.specs.Transforms.{minus, product};
-ghost use Rattle.fips204_base.specs.Vectors.{coefficient_at, entry, AreSameModQ, PolynomialWithin, VectorWithin, vector_coefficients, vector_of};
+ghost use Rattle.fips204_base.specs.Vectors.{coefficient_at, entry, AreSameModQ, vector_coefficients, vector_of};
+ghost use Rattle.fips204_base.specs.Network.{PolynomialWithin, VectorWithin};
 ghost use Rattle.fips204_base.specs.declared.types.R.{R};
 
 mod matrix;
@@ -111,7 +112,7 @@ pub struct Factor {
 
 impl Model for Factor {
     ghost use Rattle.fips204_base.specs.declared.types.R.{R};
-    ghost use Rattle.fips204_base.specs.Vectors.{PolynomialWithin};
+    ghost use Rattle.fips204_base.specs.Network.{PolynomialWithin};
     ghost use Rattle.fips204_base.specs.PlainTransforms.{plain_factor};
 
     ghost Value = { R };

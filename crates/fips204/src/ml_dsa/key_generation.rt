@@ -2,8 +2,8 @@
 #![tactic(auto)]
 
 ghost use Rattle.std.specs.Prelude.{◌≡◌, ◌≤◌, ◌<◌, ◌+◌, ◌*◌, ◌%◌, pos, nat_abs, take, drop, IfOk};
-ghost use Rattle.fips204_base.specs.Sampling.{OnSampled};
-ghost use Rattle.fips204_base.specs.Vectors.{IsResidueVector, VectorWithin, vector_of};
+ghost use Rattle.fips204_base.specs.Vectors.{vector_of};
+ghost use Rattle.fips204_base.specs.Network.{IsResidueVector, VectorWithin, OnSampled};
 ghost use Rattle.fips204_base.specs.Residues.{residue};
 ghost use Rattle.fips204.specs.Keys.{key_vector};
 ghost use Rattle.fips204.specs.ParameterSets.{public_key_length};

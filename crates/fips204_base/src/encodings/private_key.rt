@@ -2,8 +2,8 @@
 #![tactic(auto)]
 
 ghost use Rattle.std.specs.Prelude.{◌≡◌, ◌≤◌, ◌+◌, ◌*◌, pos, nat_abs, length, take, drop, MatchResult, ◌-ℤ◌};
-ghost use Rattle.fips204_base.specs.Sampling.{IsEta};
 ghost use Rattle.fips204_base.specs.Encodings.{PrivateParts, IsPrivateKeyOf, private_key_bytes};
+ghost use Rattle.fips204_base.specs.Network.{IsEta};
 ghost use Rattle.fips204_base.specs.Packing.{width};
 ghost use Rattle.fips204_base.specs.Vectors.{VectorInRange};
 

@@ -3,8 +3,8 @@
 
 ghost use Rattle.std.specs.Prelude.{◌≡◌, ◌≤◌, ◌<◌, ◌/◌, ℕ, None, Some, length, ok_or, IfOk, IfErr};
 ghost use Rattle.std.specs.List.{flat_map};
-ghost use Rattle.fips204_base.specs.Network.{AreKept, sampled_row};
-ghost use Rattle.fips204_base.specs.Sampling.{OnSampled, kept_triples, matrix_entry, sampled_matrix};
+ghost use Rattle.fips204_base.specs.Network.{AreKept, sampled_row, kept_triples, OnSampled};
+ghost use Rattle.fips204_base.specs.Sampling.{matrix_entry, sampled_matrix};
 ghost use Rattle.fips204_base.specs.Vectors.{MatrixWithin};
 
 use crate::conversion::coeff_from_three_bytes;

@@ -3,8 +3,8 @@
 
 ghost use Rattle.std.specs.Prelude.{◌≡◌, ◌≤◌, ◌+◌, ◌⊎◌, length, nat_abs, ok_or, IfOk, IfErr, Some, None};
 ghost use Rattle.std.specs.List.{flat_map};
-ghost use Rattle.fips204_base.specs.Sampling.{IsEta, kept_half_bytes, small_polynomial, small_vector, small_vectors};
-ghost use Rattle.fips204_base.specs.Network.{AreKept};
+ghost use Rattle.fips204_base.specs.Sampling.{small_polynomial, small_vectors};
+ghost use Rattle.fips204_base.specs.Network.{AreKept, kept_half_bytes, small_vector, IsEta};
 
 use crate::conversion::coeff_from_half_byte;
 use crate::fault::Fault;

@@ -2,13 +2,11 @@
 #![tactic(auto)]
 
 ghost use Rattle.std.specs.Prelude.{◌≡◌, ◌≢◌, ◌<◌, ◌≤◌, ℕ, [], pos, nat_abs, slice_index_or};
-ghost use Rattle.fips204_base.specs.Network.{plain_row};
+ghost use Rattle.fips204_base.specs.Network.{plain_row, row_product, TransformsWithin, VectorWithin, OnSampled};
 ghost use Rattle.fips204_base.specs.Lanes.{lane};
 ghost use Rattle.fips204_base.specs.PlainTransforms.{lanes_value};
 ghost use Rattle.fips204_base.specs.Residues.{residue};
-ghost use Rattle.fips204_base.specs.Sampling.{OnSampled};
-ghost use Rattle.fips204_base.specs.Transforms.{row_product};
-ghost use Rattle.fips204_base.specs.Vectors.{entry, MatrixWithin, TransformsWithin, VectorWithin, matrix_product, vector_coefficients};
+ghost use Rattle.fips204_base.specs.Vectors.{entry, MatrixWithin, matrix_product, vector_coefficients};
 
 use super::Transforms;
 use crate::fault::Fault;

@@ -1,10 +1,11 @@
-use Rattle.std.proofs.Common.{arith, ◌≡◌, ◌+◌, ◌*◌, ◌-◌, ◌≤◌, ◌∙◌, refl, ap, sym, length, length-take, length-drop, take, drop, w32, to_z, of_z}
+use Rattle.std.proofs.Common.{arith, ◌≡◌, ◌+◌, ◌*◌, ◌-◌, ◌≤◌, ◌∙◌, refl, ap, sym, length, length-take, length-drop, take, drop, map, w32, to_z, of_z}
 use Rattle.std.proofs.lemmas.Int.{to_z-of_z}
 use Rattle.std.proofs.lemmas.List.{map-append, take_all}
 use Rattle.std.proofs.Math.Seq.{take-add}
 use Rattle.std.proofs.lemmas.Grind.{common_steps}
-use Rattle.fips204_base.specs.Packing.{field, width}
-use Rattle.fips204_base.proofs.Packing.{packs_none, packs_joined}
+use Rattle.fips204_base.specs.Packing.{width}
+use Rattle.fips204_base.specs.Network.{field}
+use Rattle.fips204_base.proofs.Packing.{polynomial_bytes-is, is_packed, packs_none, packs_joined}
 use Rattle.fips204_base.proofs.VectorBytes.{length-put_mid, put_piece, piece-within}
 use Rattle.fips204_base.proofs.conversion.bit_pack.Goals as goal
 
@@ -49,4 +50,5 @@ returns c =
     let last : c.field_width-c.result * c.loop-i.i ≡ c.field_width-c.result * 32 = ap (λ i. c.field_width-c.result * i) all in
     let bytes : take (c.field_width-c.result * c.loop-i.i) c.loop-i.out ≡ c.loop-i.out = take_all _ c.loop-i.out (omega (arith, last, c.loop-i.invariant.long)) in
     let coefficients : take (8 * c.loop-i.i) c.args.w.now.0 ≡ c.args.w.now.0 = take_all _ c.args.w.now.0 (omega arith) in
-    rw (A, B, bytes, coefficients, w) at c.loop-i.invariant.so_far
+    is_packed (width c.args.a c.args.b) c.loop-i.out (map (field c.args.a c.args.b) c.args.w.now.0) (rw (A, B, bytes, coefficients, w) at c.loop-i.invariant.so_far)
+    ∙ sym (polynomial_bytes-is c.args.a c.args.b c.args.w.now.0)

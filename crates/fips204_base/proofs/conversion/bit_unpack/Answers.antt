@@ -1,12 +1,15 @@
-use Rattle.std.proofs.Common.{rules, arith, ℤ, pos, ◌≡◌, ◌+◌, ◌*◌, ◌-◌, ◌≤◌, ◌∙◌, refl, ap, length, length-take, length-drop, take, w32, to_z, of_z}
+use Rattle.std.proofs.Common.{rules, arith, ℤ, pos, ◌≡◌, ◌+◌, ◌*◌, ◌-◌, ◌≤◌, ◌∙◌, ◌<ℤ◌, refl, subst, ap, length, length-take, length-drop, take, w32, to_z, of_z}
 use Rattle.std.proofs.lemmas.Bool.{iff_false}
 use Rattle.std.proofs.lemmas.Int.{to_z-of_z, ints}
 use Rattle.std.proofs.lemmas.List.{map-append, take_all}
 use Rattle.std.proofs.lemmas.List.Elements.{All-append}
 use Rattle.std.proofs.Math.Seq.{take-add}
-use Rattle.fips204_base.specs.Packing.{Unpacks, coefficient, field, width}
-use Rattle.fips204_base.proofs.Fields.{refused}
-use Rattle.fips204_base.proofs.Packing.{packs_none, packs_joined}
+use Rattle.std.specs.List.{Any}
+use Rattle.fips204_base.specs.declared.types.R.{R}
+use Rattle.fips204_base.specs.Packing.{width}
+use Rattle.fips204_base.specs.Network.{coefficient, field}
+use Rattle.fips204_base.proofs.Fields.{one_above}
+use Rattle.fips204_base.proofs.Packing.{Unpacks, is_unpacked, packs_none, packs_joined}
 use Rattle.fips204_base.proofs.VectorBytes.{length-put_mid, put_piece}
 use Rattle.fips204_base.proofs.conversion.bit_unpack.Goals as goal
 use Rattle.fips204_base.proofs.conversion.bit_unpack.Goals.{After-loop-i, else-a-eq0-via-then-a-eq0+else-not-is_in_range, else-a-eq0-via-else-a-eq0}
@@ -62,11 +65,13 @@ returns-then-not-is_in_range c =
     let B = to_z-of_z w32 c.args.b c.ranges.b in
     let zero : c.args.a ≡ pos 0 = omega (arith, ints, c.if-a-eq0.true) in
     let unpacks = all_read (goal.at.returns-then-not-is_in_range c).After-loop-i in
-    (zero, refused c.args.a c.args.b c.args.v.now c.loop-i.out zero unpacks (λ r. iff_false c.is_in_range.ensures c.if-not-is_in_range.true (rw B r)))
+    let w : R = record { 0 = c.loop-i.out } in
+    let above = one_above c.args.a c.args.b c.loop-i.out zero unpacks.coefficients (λ r. iff_false c.is_in_range.ensures c.if-not-is_in_range.true (rw B r)) in
+    (zero, subst (λ (w : R). Any (λ x. c.args.b <ℤ x) w.0) (is_unpacked c.args.a c.args.b c.args.v.now w c.requires.bounds unpacks) above)
 
 pub returns : goal.returns
 returns c = (
-  all_read (goal.at.returns c).After-loop-i,
+  is_unpacked c.args.a c.args.b c.args.v.now record { 0 = c.loop-i.out } c.requires.bounds (all_read (goal.at.returns c).After-loop-i),
   λ zero. elim c.else-a-eq0.branch [
     | else-a-eq0-via-then-a-eq0+else-not-is_in_range w ↦ rw (to_z-of_z w32 c.args.b c.ranges.b) at w.is_in_range.ensures.0 (search rules)
     | else-a-eq0-via-else-a-eq0 w ↦ absurd (omega (arith, ints, zero, w.if-a-eq0.false))

@@ -2,7 +2,8 @@ use Rattle.std.proofs.Common.{rules, arith, ℕ, ◌≡◌, ◌<◌, ◌+◌, �
 use Rattle.std.proofs.lemmas.Int.{to_z-of_z}
 use Rattle.std.proofs.lemmas.List.{map_more, take_more_set, take_all}
 use Rattle.std.proofs.lemmas.Nat.{and_mask}
-use Rattle.fips204_base.specs.Packing.{width, field, bits}
+use Rattle.fips204_base.specs.Packing.{width, bits}
+use Rattle.fips204_base.specs.Network.{field}
 use Rattle.fips204_base.proofs.Bits.{digits-zero, bits-nil, put_bits, put_below, put_fits, give_bits, give_below, place_within}
 use Rattle.fips204_base.proofs.Fields.{fields_fit}
 use Rattle.std.proofs.lemmas.List.Elements.{All-nil, All-push}

@@ -3,7 +3,8 @@ use Rattle.std.proofs.lemmas.Int.{to_z-of_z}
 use Rattle.std.proofs.lemmas.List.{take_more}
 use Rattle.std.proofs.lemmas.List.Elements.{All-from_get_or}
 use Rattle.std.proofs.lemmas.Nat.{mod_below, pow_pos}
-use Rattle.fips204_base.specs.Packing.{Packs, width, field, coefficient, bits}
+use Rattle.fips204_base.specs.Packing.{width, bits}
+use Rattle.fips204_base.specs.Network.{Packs, field, coefficient}
 use Rattle.fips204_base.proofs.Bits.{digits-zero, bits-nil, put_bits, put_below, put_fits, give_bits, give_below, low_small, byte_within}
 use Rattle.fips204_base.proofs.Fields.{stored, group_finished}
 use Rattle.fips204_base.proofs.conversion.write_unpacked_group.Goals as goal

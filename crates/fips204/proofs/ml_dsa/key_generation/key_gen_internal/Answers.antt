@@ -1,7 +1,8 @@
 use Rattle.std.proofs.Common.{rules, arith, ◌≡◌, ◌∙◌, ◌+◌, ◌*◌, inl, inr, w32, ap, sym, refl, Some, None, Err}
 use Rattle.std.proofs.lemmas.Int.{to_z-of_z}
 use Rattle.fips204_base.specs.declared.fault.Fault.TheVariants.{SamplingLimit}
-use Rattle.fips204_base.specs.Sampling.{sampled_matrix, small_vector}
+use Rattle.fips204_base.specs.Sampling.{sampled_matrix}
+use Rattle.fips204_base.specs.Network.{small_vector}
 use Rattle.fips204_base.specs.Vectors.{IsVector}
 use Rattle.fips204_base.proofs.Vectors.{vector-within}
 use Rattle.fips204.specs.Keys.{high_part, low_part}

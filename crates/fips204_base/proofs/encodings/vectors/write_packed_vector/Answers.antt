@@ -4,7 +4,6 @@ use Rattle.std.proofs.lemmas.Int.{to_z-of_z}
 use Rattle.std.proofs.lemmas.List.{take_all}
 use Rattle.fips204_base.specs.declared.types.R.{R}
 use Rattle.fips204_base.specs.Packing.{polynomial_bytes, width}
-use Rattle.fips204_base.proofs.Packing.{is_packed}
 use Rattle.fips204_base.proofs.VectorBytes.{length-put_mid, put_piece, piece-within, vector_more, bytes_at_integers}
 use Rattle.fips204_base.proofs.encodings.vectors.write_packed_vector.Goals as goal
 
@@ -33,7 +32,7 @@ loop-i-preserved g c =
     record {
       size = length-put_mid at (at + size - at) c.loop-i.out c.write_packed_by_range.new.out long ends ∙ c.loop-i.invariant.size;
       written = put_piece at (at + size - at) (size * (c.loop-i.i + 1)) c.loop-i.out c.write_packed_by_range.new.out _ long ends next c.loop-i.invariant.written
-          ∙ ap (λ l. flat_map f (take c.loop-i.i c.args.v.now) ++ l) (is_packed _ _ _ c.write_packed_by_range.ensures)
+          ∙ ap (λ l. flat_map f (take c.loop-i.i c.args.v.now) ++ l) c.write_packed_by_range.ensures
           ∙ sym (vector_more f c.args.v.now c.loop-i.i record { 0 = [] } (omega (arith, c.loop-i-test.true, c.told-v)));
     }
 

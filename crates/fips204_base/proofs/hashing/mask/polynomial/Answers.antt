@@ -1,8 +1,8 @@
 use Rattle.std.proofs.Common.{ℤ, ◌≡◌, ◌∙◌, ◌*◌, ◌++◌, length, take, pos, nat_abs, ◌-ℤ◌, append-nil, to_z, of_z, inl, inr, ◌⊎◌, ◌-◌, refl, ap, rules}
 use Rattle.std.specs.Int.{w16, w32, to_le_bytes}
-use Rattle.fips204_base.specs.Sampling.{unpacked}
-use Rattle.fips204_base.specs.Packing.{Unpacks}
-use Rattle.fips204_base.proofs.Masks.{as_long, mask_width-is, mask_is_unpacked}
+use Rattle.fips204_base.specs.Packing.{unpacked}
+use Rattle.fips204_base.proofs.Masks.{as_long, mask_width-is}
+use Rattle.fips204_base.proofs.EncodedParts.{response_least}
 use Rattle.fips204_base.proofs.hashing.mask.polynomial.Goals as goal
 use Rattle.fips204_base.specs.Network.{mask_width}
 
@@ -26,5 +26,5 @@ returns g c =
     let read : c.read.new.out ≡ take (32 * mask_width (nat_abs c.args.gamma1)) front =
     as_long c.read.new.out _ _ (32 * mask_width (nat_abs c.args.gamma1)) c.read.ensures.given (long ∙ size) ∙ ap (take (32 * mask_width (nat_abs c.args.gamma1))) opened in
     let some = rw c.unwrap.ensures at c.bit_unpack_by_range.ensures in
-    let fields : Unpacks (c.args.gamma1 -ℤ pos 1) c.args.gamma1 c.read.new.out c.unwrap.result.0 = rw (gamma1, less) at some.0 in
-    mask_is_unpacked c.args.gamma1 c.read.new.out c.unwrap.result c.requires.gamma1 fields ∙ ap (unpacked (nat_abs c.args.gamma1 - 1) (nat_abs c.args.gamma1)) read
+    let unpacks : c.unwrap.result ≡ unpacked (nat_abs (c.args.gamma1 -ℤ pos 1)) (nat_abs c.args.gamma1) c.read.new.out = rw (gamma1, less) at some.0 in
+    unpacks ∙ ap (λ a. unpacked a (nat_abs c.args.gamma1) c.read.new.out) (response_least c.args.gamma1 c.requires.gamma1) ∙ ap (unpacked (nat_abs c.args.gamma1 - 1) (nat_abs c.args.gamma1)) read

@@ -1,6 +1,6 @@
 use Rattle.std.proofs.Common.{ℕ, ℤ, ◌≡◌, ◌∙◌, ◌+◌, ◌*◌, ◌/◌, ◌++◌, List, ◌≤◌, ap, sym, refl, arith, rules, take, drop, replicate, pos, length, drop-drop, length-drop, length-take}
 use Rattle.std.specs.List.{flat_map}
-use Rattle.fips204_base.specs.Sampling.{kept_triples}
+use Rattle.fips204_base.specs.Network.{kept_triples}
 use Rattle.fips204_base.proofs.Sampling.{Keeps, keeps_none, keeps_joined, kept_triples-zero, kept_triples-joined, entry-full, entry-few}
 use Rattle.fips204_base.proofs.hashing.matrix.rej_ntt_poly.Goals as goal
 

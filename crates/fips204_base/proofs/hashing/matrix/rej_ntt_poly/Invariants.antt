@@ -1,6 +1,6 @@
 use Rattle.std.proofs.Common.{◌≡◌, ◌<◌, ◌≤◌, ◌-◌, ◌*◌, drop}
 use Rattle.std.specs.List.{flat_map}
-use Rattle.fips204_base.specs.Sampling.{kept_triples}
+use Rattle.fips204_base.specs.Network.{kept_triples}
 use Rattle.fips204_base.proofs.Sampling.{Keeps}
 use Rattle.fips204_base.proofs.hashing.matrix.rej_ntt_poly.Given as goal
 

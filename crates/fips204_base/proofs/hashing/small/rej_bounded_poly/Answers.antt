@@ -1,7 +1,7 @@
 use Rattle.std.proofs.Common.{ℕ, ℤ, ◌≡◌, ◌∙◌, ◌+◌, ◌/◌, ◌≤◌, ◌++◌, List, ap, sym, refl, arith, rules, take, drop, replicate, pos, nat_abs, length, drop-drop, length-drop, length-take, to_z, of_z}
 use Rattle.std.specs.Int.{w32}
 use Rattle.std.specs.List.{flat_map}
-use Rattle.fips204_base.specs.Sampling.{kept_half_bytes}
+use Rattle.fips204_base.specs.Network.{kept_half_bytes}
 use Rattle.fips204_base.proofs.Sampling.{Keeps, keeps_none, keeps_joined, kept_half_bytes-zero, kept_half_bytes-joined, polynomial-full, polynomial-few}
 use Rattle.fips204_base.proofs.hashing.small.rej_bounded_poly.Goals as goal
 

@@ -1,6 +1,6 @@
 use Rattle.std.proofs.Common.{◌≡◌, ◌<◌, ◌≤◌, ◌-◌, drop, nat_abs}
 use Rattle.std.specs.List.{flat_map}
-use Rattle.fips204_base.specs.Sampling.{kept_half_bytes}
+use Rattle.fips204_base.specs.Network.{kept_half_bytes}
 use Rattle.fips204_base.proofs.Sampling.{Keeps}
 use Rattle.fips204_base.proofs.hashing.small.rej_bounded_poly.Given as goal
 

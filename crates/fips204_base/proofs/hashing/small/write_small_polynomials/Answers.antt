@@ -2,7 +2,8 @@ use Rattle.std.proofs.Common.{ℕ, ◌≡◌, ◌∙◌, ◌+◌, ◌++◌, [], 
 use Rattle.std.specs.Int.{w16, w32, to_le_bytes}
 use Rattle.std.specs.List.{range_with_len}
 use Rattle.fips204_base.specs.declared.fault.Fault.TheVariants.{SamplingLimit}
-use Rattle.fips204_base.specs.Sampling.{small_polynomial, small_vector, all_present}
+use Rattle.fips204_base.specs.Sampling.{small_polynomial, all_present}
+use Rattle.fips204_base.specs.Network.{small_vector}
 use Rattle.fips204_base.proofs.Sampled.{all_present-none, present_nil, present_next, present_whole, some_of_ok, none_of_err}
 use Rattle.fips204_base.proofs.hashing.small.write_small_polynomials.Goals as goal
 

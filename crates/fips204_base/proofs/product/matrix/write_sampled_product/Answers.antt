@@ -1,10 +1,9 @@
 use Rattle.std.proofs.Common.{◌≡◌, ◌≢◌, ℕ, ◌<◌, ◌∙◌, [], Err, arith, rules, refl}
 use native.Mathlib.Decide.{dec_lt}
-use Rattle.fips204_base.specs.Network.{sampled_row, plain_row}
+use Rattle.fips204_base.specs.Network.{sampled_row, plain_row, row_product}
 use Rattle.fips204_base.specs.declared.fault.Fault.TheVariants.{SamplingLimit}
 use Rattle.fips204_base.specs.Sampling.{sampled_matrix}
-use Rattle.fips204_base.specs.Transforms.{row_product}
-use Rattle.fips204_base.specs.Vectors.{vector_coefficients}
+use Rattle.fips204_base.specs.Vectors.{vector_coefficients, matrix_product}
 use Rattle.fips204_base.proofs.Sampled.{matrix-refused, all_present-each, row-within}
 use Rattle.fips204_base.proofs.product.matrix.write_sampled_product.Goals as goal
 
@@ -31,7 +30,7 @@ loop-r-preserved g c = record {
 }
 
 pub returns : goal.returns
-unfolding sampled_matrix
+unfolding sampled_matrix matrix_product row_product
 returns g c =
     let end : c.loop-r.r ≡ g.row.K = omega (arith, c.loop-r-test.false, c.loop-r.auto.r-end) in
     let row = sampled_row g.G.Xof.front c.args.rho.now g.row.L in

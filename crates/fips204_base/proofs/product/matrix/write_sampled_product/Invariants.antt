@@ -1,7 +1,6 @@
 use Rattle.std.proofs.Common.{ℕ, ◌≡◌, ◌<◌, List, Some}
-use Rattle.fips204_base.specs.Network.{sampled_row, plain_row}
+use Rattle.fips204_base.specs.Network.{sampled_row, plain_row, row_product}
 use Rattle.fips204_base.specs.declared.types.T.{T}
-use Rattle.fips204_base.specs.Transforms.{row_product}
 use Rattle.fips204_base.specs.Vectors.{vector_coefficients}
 use Rattle.fips204_base.proofs.product.matrix.write_sampled_product.Given as goal
 
