@@ -2,6 +2,7 @@
 #![tactic(auto)]
 
 ghost use Rattle.std.specs.Prelude.{refl};
+ghost use Rattle.std.proofs.lemmas.Bool.{leb-true};
 ghost use Rattle.fips204_base.specs.Packing.{bit_length};
 ghost use Rattle.fips204.specs.ParameterSets.{set_44};
 ghost use Rattle.fips204.specs.Refusals.{generated, Draws};
@@ -82,8 +83,12 @@ impl Set for MlDsa44 {
 
 impl SignatureSizes<K, L, LAMBDA_DIV4, SIG_LEN> for MlDsa44 {
     ghost sizes = { record { rows = refl; columns = refl; commitment = refl; signature = unfold bit_length in refl } };
+
+    ghost small = { (leb-true _ _ refl, leb-true _ _ refl, leb-true _ _ refl, leb-true _ _ refl) };
 }
 
 impl KeySizes<K, L, PK_LEN, SK_LEN> for MlDsa44 {
     ghost key_sizes = { record { rows = refl; columns = refl; public_key = refl; private_key = unfold bit_length in refl } };
+
+    ghost small_keys = { (leb-true _ _ refl, leb-true _ _ refl) };
 }

@@ -1,7 +1,7 @@
 //! The parameter sets (FIPS 204, Tables 1 and 2): each is a type that implements `Set`.
 #![tactic(auto)]
 
-ghost use Rattle.std.specs.Prelude.{◌≡◌, IsTrue};
+ghost use Rattle.std.specs.Prelude.{◌≡◌, ◌≤◌, ◌*◌, IsTrue};
 ghost use Rattle.fips204.specs.ParameterSets.{ParameterSet, is_parameter_set};
 ghost use Rattle.fips204.specs.Sets.{HasKeySizes, HasSizes, set_of};
 
@@ -42,6 +42,9 @@ pub trait SignatureSizes<
 >: Set {
     // They are those of the set's row.
     ghost sizes: { HasSizes Self.set K L LAMBDA_DIV4 SIG_LEN };
+
+    // They are no larger than those of the largest set.
+    ghost small: { (K ≤ 8) × (L ≤ 7) × (K * (L * 1024) ≤ 57344) × (SIG_LEN ≤ 4627) };
 }
 
 /// The sizes of a set's keys: a matrix of `K` rows and `L` columns, `PK_LEN` bytes of a public key, and `SK_LEN`
@@ -49,6 +52,9 @@ pub trait SignatureSizes<
 pub trait KeySizes<const K: usize, const L: usize, const PK_LEN: usize, const SK_LEN: usize>: Set {
     // They are those of the set's row.
     ghost key_sizes: { HasKeySizes Self.set K L PK_LEN SK_LEN };
+
+    // They are no larger than those of the largest set.
+    ghost small_keys: { (PK_LEN ≤ 2592) × (SK_LEN ≤ 4896) };
 }
 
 /// The numbers of a set with these sizes.

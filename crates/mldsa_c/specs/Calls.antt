@@ -1,5 +1,5 @@
 -- What the exported calls do with arrays of any length: FIPS 204 over SHAKE256 and SHAKE128. A last status is the answer.
-use Rattle.std.specs.Prelude.{◌≡◌, ◌≤◌, ◌↔◌, ◌*◌, ℕ, Bool, ◌&&◌, IsTrue, MatchBool, List, length, nat_eq, Result, Ok, MatchResult, MatchOption}
+use Rattle.std.specs.Prelude.{◌≡◌, ◌↔◌, ℕ, Bool, ◌&&◌, IsTrue, MatchBool, List, length, nat_eq, Result, Ok, MatchResult, MatchOption}
 use Rattle.fips204_base.specs.declared.fault.Fault.{Fault}
 use Rattle.fips204_base.specs.Encodings.{PublicParts, PrivateParts, IsPublicKeyOf, public_key_bytes, private_key_bytes}
 use Rattle.fips204.specs.Acceptance.{Verifies}
@@ -10,11 +10,6 @@ use Rattle.fips204.specs.Refusals.{generated, derived, sign_message, sign_digest
 use Rattle.fips204.specs.Signing.{sign}
 use Rattle.fips204_shake.specs.Fronts.{shake256_front, shake128_front}
 use Rattle.mldsa_c.specs.Statuses.{status_of, verdict_status, Leaves, Writes}
-
--- a matrix, keys and signatures are no larger than those of the largest set
-abbrev pub AreSmall : ℕ → ℕ → ℕ → ℕ → ℕ → Type 0
-AreSmall rows columns public private signature = (rows ≤ 8) × (columns ≤ 7) × (rows * (columns * 1024) ≤ 57344)
-    × (public ≤ 2592) × (private ≤ 4896) × (signature ≤ 4627)
 
 -- ---- Keys
 

@@ -1,5 +1,5 @@
 -- The program's text: what a run answers and writes, by what its input spells.
-use Rattle.std.specs.Prelude.{◌≡◌, ◌<◌, ◌≤◌, ◌↔◌, ℕ, zero, suc, ◌+◌, ◌*◌, Bool, true, false, IsTrue, List, [], ◌∷◌, ◌++◌, length, get_or, map, take, All, codes, Option, Some, None, Result, Ok, Err, MatchResult, IfOk, IfErr}
+use Rattle.std.specs.Prelude.{◌≡◌, ◌<◌, ◌↔◌, ℕ, zero, suc, ◌+◌, ◌*◌, Bool, true, false, IsTrue, List, [], ◌∷◌, ◌++◌, length, get_or, map, take, All, codes, Option, Some, None, Result, Ok, Err, MatchResult, IfOk, IfErr}
 use Rattle.std.specs.List.{flat_map}
 use Rattle.std.specs.Io.KnownBytes.{Appends}
 use Rattle.hex.specs.Hex.{encode_lower}
@@ -24,11 +24,6 @@ abbrev pub named_set : SetName → ParameterSet
 named_set MlDsa44 = set_44
 named_set MlDsa65 = set_65
 named_set MlDsa87 = set_87
-
--- a matrix, keys and signatures are no larger than those of the largest set
-abbrev pub AreSmall : ℕ → ℕ → ℕ → ℕ → ℕ → Type 0
-AreSmall rows columns public private signature = (rows ≤ 8) × (columns ≤ 7) × (rows * (columns * 1024) ≤ 57344)
-    × (public ≤ 2592) × (private ≤ 4896) × (signature ≤ 4627)
 
 -- the lines that a command wants of every input: a number of bytes each, or any number of them
 abbrev pub wanted_lines : Task → ParameterSet → List (Option ℕ)

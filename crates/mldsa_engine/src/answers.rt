@@ -5,7 +5,7 @@ ghost use Rattle.std.specs.Prelude.{◌≡◌, ◌≤◌, ◌↔◌, ◌∷◌, 
 ghost use Rattle.fips204.specs.Encodings.{PublicParts, IsPublicKeyOf};
 ghost use Rattle.fips204.specs.Refusals.{VerifiesMessage};
 ghost use Rattle.mldsa_lines.specs.Lines.{AllFit, IsInputFault, StopsAt};
-ghost use Rattle.mldsa_engine.specs.ProgramText.{named_set, two_bytes, wanted_lines, entry_lines, input_lines, lines_of_input, hex_text, AreSmall, Generates, Signs, Checks, Answers, Executes};
+ghost use Rattle.mldsa_engine.specs.ProgramText.{named_set, two_bytes, wanted_lines, entry_lines, input_lines, lines_of_input, hex_text, Generates, Signs, Checks, Answers, Executes};
 ghost use Rattle.mldsa_engine.specs.InnerSteps.{AcceptsIfPrepared, JudgesEntries, JudgesByKey};
 
 mod writing;
@@ -78,7 +78,6 @@ where
         input: &mut Marked<I>,
     ) -> Result<Output, RunFault>
         requires unmarked { input.old.failed ≡ false }
-        requires small { AreSmall K L PK_LEN SK_LEN SIG_LEN }
         ensures read_failed { IsTrue input.new.failed ↔ (result ≡ Err RunFault.Read) }
         ensures executed { IfOk result (λ output. Executes H.front G.front task S.set
             (I.remaining input.old.device) (I.remaining input.new.device) output.text.items output.success) }
@@ -118,7 +117,6 @@ where
     fn answer(alloc: Global, task: Task, lines: &[Vec<u8>]) -> Result<Output, RunFault>
         requires whole { ¬ (task ≡ Task.Batch) }
         requires fit { AllFit (wanted_lines task S.set) (map (λ line. line.items) lines.now) }
-        requires small { AreSmall K L PK_LEN SK_LEN SIG_LEN }
         ensures given { IfOk result (λ output. Answers H.front G.front task S.set
             (map (λ line. line.items) lines.now) output.text.items output.success) }
         ensures memory { IfErr result (λ fault. fault ≡ RunFault.Memory) }
@@ -146,7 +144,6 @@ where
     #[inline(never)]
     fn identify(alloc: Global, key: &[u8]) -> Result<Output, RunFault>
         requires key { length key.now ≡ PK_LEN }
-        requires small { AreSmall K L PK_LEN SK_LEN SIG_LEN }
         ensures given { IfOk result (λ output. (output.text.items ≡ hex_text (key.now ∷ take 64 (H.front key.now) ∷ []))
             × (output.success ≡ true)) }
         ensures memory { IfErr result (λ fault. fault ≡ RunFault.Memory) }
@@ -159,7 +156,6 @@ where
     /// The keys of a seed, as lines of hex, or the refusal.
     #[inline(never)]
     fn make_keys(alloc: Global, seed: &[u8; 32]) -> Result<Output, RunFault>
-        requires small { AreSmall K L PK_LEN SK_LEN SIG_LEN }
         ensures given { IfOk result (λ output. Generates S.set H.front G.front seed.now output.text.items output.success) }
         ensures memory { IfErr result (λ fault. fault ≡ RunFault.Memory) }
     {
@@ -180,7 +176,6 @@ where
         message: &[u8],
     ) -> Result<Output, RunFault>
         requires key { length key.now ≡ SK_LEN }
-        requires small { AreSmall K L PK_LEN SK_LEN SIG_LEN }
         ensures given { IfOk result (λ output. Signs S.set H.front G.front
             key.now seed.now context.now message.now output.text.items output.success) }
         ensures memory { IfErr result (λ fault. fault ≡ RunFault.Memory) }
@@ -199,7 +194,6 @@ where
     fn accepts(key: &[u8], message: &[u8], signature: &[u8], context: &[u8]) -> bool
         requires key { length key.now ≡ PK_LEN }
         requires signature { length signature.now ≡ SIG_LEN }
-        requires small { AreSmall K L PK_LEN SK_LEN SIG_LEN }
         ensures { (pk : PublicParts) × IsPublicKeyOf H.front S.set.k key.now pk
             × (IsTrue result ↔ VerifiesMessage S.set H.front G.front pk message.now signature.now context.now) }
     {
@@ -215,7 +209,6 @@ where
         context: &[u8],
         message: &[u8],
     ) -> Result<Output, RunFault>
-        requires small { AreSmall K L PK_LEN SK_LEN SIG_LEN }
         ensures given { IfOk result (λ output. Checks S.set H.front G.front
             xi.now rnd.now context.now message.now output.text.items output.success) }
         ensures memory { IfErr result (λ fault. fault ≡ RunFault.Memory) }
@@ -239,7 +232,6 @@ where
         requires unmarked { input.old.failed ≡ false }
         requires key { length key.now ≡ PK_LEN }
         requires few { count ≤ 65535 }
-        requires small { AreSmall K L PK_LEN SK_LEN SIG_LEN }
         ensures read_failed { IsTrue input.new.failed ↔ (result ≡ Err RunFault.Read) }
         ensures judged { IfOk result (λ output. JudgesByKey S.set H.front G.front key.now context.now count
             (I.remaining input.old.device) (I.remaining input.new.device) output.text.items output.success) }
@@ -286,7 +278,6 @@ where
     #[inline(never)]
     fn decode(key: &[u8]) -> PublicKey<K, L, H, G>
         requires key { length key.now ≡ PK_LEN }
-        requires small { AreSmall K L PK_LEN SK_LEN SIG_LEN }
         ensures { IsPublicKeyOf H.front S.set.k key.now result }
     {
         PublicKey::<K, L, H, G>::try_from_bytes(array_of(key)).unwrap()

@@ -2,7 +2,7 @@
 #![tactic(auto)]
 
 ghost use Rattle.std.specs.Prelude.{◌≡◌, ◌≤◌, length};
-ghost use Rattle.mldsa_c.specs.Calls.{AreSmall, WritesPair, Generates, WritesPublic, Derives, TellsPrivate, Checks, TellsWholeness, ChecksWholeness};
+ghost use Rattle.mldsa_c.specs.Calls.{WritesPair, Generates, WritesPublic, Derives, TellsPrivate, Checks, TellsWholeness, ChecksWholeness};
 
 use super::{Calls, Pair, Private};
 use crate::arrays::array_of;
@@ -31,7 +31,6 @@ where
 {
     /// Makes the key pair of a seed.
     pub(crate) fn keygen(seed: &[u8], public_key: &mut [u8], private_key: &mut [u8]) -> u32
-        requires small { AreSmall K L PK_LEN SK_LEN SIG_LEN }
         ensures { Generates S.set seed.now public_key.old public_key.new private_key.old private_key.new result }
     {
         let fit = seed.len() == 32 && public_key.len() == PK_LEN && private_key.len() == SK_LEN;
@@ -44,7 +43,6 @@ where
 
     #[inline(never)]
     fn write_pair(seed: &[u8], public_key: &mut [u8], private_key: &mut [u8]) -> u32
-        requires small { AreSmall K L PK_LEN SK_LEN SIG_LEN }
         requires lengths { (length seed.now ≡ 32) × (length public_key.old ≡ PK_LEN) × (length private_key.old ≡ SK_LEN) }
         ensures { WritesPair S.set seed.now public_key.old public_key.new private_key.old private_key.new result }
     {
@@ -60,7 +58,6 @@ where
 
     /// Computes the public key of a private one.
     pub(crate) fn public_key(private_key: &[u8], public_key: &mut [u8]) -> u32
-        requires small { AreSmall K L PK_LEN SK_LEN SIG_LEN }
         ensures { Derives S.set private_key.now public_key.old public_key.new result }
     {
         let fit = private_key.len() == SK_LEN && public_key.len() == PK_LEN;
@@ -73,7 +70,6 @@ where
 
     #[inline(never)]
     fn write_public(private_key: &[u8], public_key: &mut [u8]) -> u32
-        requires small { AreSmall K L PK_LEN SK_LEN SIG_LEN }
         requires lengths { (length private_key.now ≡ SK_LEN) × (length public_key.old ≡ PK_LEN) }
         ensures { WritesPublic S.set private_key.now public_key.old public_key.new result }
     {
@@ -91,7 +87,6 @@ where
 
     /// Tells whether bytes are a private key.
     pub(crate) fn check_private_key(private_key: &[u8]) -> u32
-        requires small { AreSmall K L PK_LEN SK_LEN SIG_LEN }
         ensures { Checks S.set private_key.now result }
     {
         let fit = private_key.len() == SK_LEN;
@@ -104,7 +99,6 @@ where
 
     #[inline(never)]
     fn private_status(private_key: &[u8]) -> u32
-        requires small { AreSmall K L PK_LEN SK_LEN SIG_LEN }
         requires lengths { length private_key.now ≡ SK_LEN }
         ensures { TellsPrivate S.set private_key.now result }
     {
@@ -116,7 +110,6 @@ where
 
     /// Tells whether a private key is whole.
     pub(crate) fn is_whole(private_key: &[u8]) -> u32
-        requires small { AreSmall K L PK_LEN SK_LEN SIG_LEN }
         ensures { ChecksWholeness S.set private_key.now result }
     {
         let fit = private_key.len() == SK_LEN;
@@ -129,7 +122,6 @@ where
 
     #[inline(never)]
     fn wholeness(private_key: &[u8]) -> u32
-        requires small { AreSmall K L PK_LEN SK_LEN SIG_LEN }
         requires lengths { length private_key.now ≡ SK_LEN }
         ensures { TellsWholeness S.set private_key.now result }
     {

@@ -5,7 +5,7 @@ ghost use Rattle.std.specs.Prelude.{◌≡◌, ◌≤◌, length};
 ghost use Rattle.fips204.specs.Refusals.{sign_message, sign_digest};
 ghost use Rattle.fips204.specs.Signing.{sign};
 ghost use Rattle.fips204_shake.specs.Fronts.{shake256_front, shake128_front};
-ghost use Rattle.mldsa_c.specs.Calls.{AreSmall, WritesSignature, SignsMessage, SignsDigest, SignsMu};
+ghost use Rattle.mldsa_c.specs.Calls.{WritesSignature, SignsMessage, SignsDigest, SignsMu};
 
 use super::{Calls, Private};
 use crate::arrays::{array_of, write};
@@ -41,7 +41,6 @@ where
         random: &[u8],
         signature: &mut [u8],
     ) -> u32
-        requires small { AreSmall K L PK_LEN SK_LEN SIG_LEN }
         ensures { SignsMessage S.set private_key.now message.now context.now random.now signature.old signature.new result }
     {
         let fit = private_key.len() == SK_LEN && random.len() == 32 && signature.len() == SIG_LEN;
@@ -60,7 +59,6 @@ where
         random: &[u8],
         signature: &mut [u8],
     ) -> u32
-        requires small { AreSmall K L PK_LEN SK_LEN SIG_LEN }
         requires lengths { (length private_key.now ≡ SK_LEN) × (length random.now ≡ 32) × (length signature.old ≡ SIG_LEN) }
         ensures { WritesSignature S.set private_key.now (λ sk. sign_message S.set shake256_front shake128_front sk random.now message.now context.now) signature.old signature.new result }
     {
@@ -82,7 +80,6 @@ where
         random: &[u8],
         signature: &mut [u8],
     ) -> u32
-        requires small { AreSmall K L PK_LEN SK_LEN SIG_LEN }
         ensures { SignsDigest S.set private_key.now digest.now context.now oid.now random.now signature.old signature.new result }
     {
         let fit = private_key.len() == SK_LEN && random.len() == 32 && signature.len() == SIG_LEN;
@@ -102,7 +99,6 @@ where
         random: &[u8],
         signature: &mut [u8],
     ) -> u32
-        requires small { AreSmall K L PK_LEN SK_LEN SIG_LEN }
         requires lengths { (length private_key.now ≡ SK_LEN) × (length random.now ≡ 32) × (length signature.old ≡ SIG_LEN) }
         ensures { WritesSignature S.set private_key.now (λ sk. sign_digest S.set shake256_front shake128_front sk random.now digest.now context.now oid.now) signature.old signature.new result }
     {
@@ -117,7 +113,6 @@ where
 
     /// Signs the hash `mu` of a framed message.
     pub(crate) fn sign_mu(private_key: &[u8], mu: &[u8], random: &[u8], signature: &mut [u8]) -> u32
-        requires small { AreSmall K L PK_LEN SK_LEN SIG_LEN }
         ensures { SignsMu S.set private_key.now mu.now random.now signature.old signature.new result }
     {
         let fit = private_key.len() == SK_LEN
@@ -133,7 +128,6 @@ where
 
     #[inline(never)]
     fn write_mu_signature(private_key: &[u8], mu: &[u8], random: &[u8], signature: &mut [u8]) -> u32
-        requires small { AreSmall K L PK_LEN SK_LEN SIG_LEN }
         requires lengths { (length private_key.now ≡ SK_LEN) × (length random.now ≡ 32) × (length signature.old ≡ SIG_LEN) × (length mu.now ≡ 64) }
         ensures { WritesSignature S.set private_key.now (λ sk. sign S.set shake256_front shake128_front sk mu.now random.now) signature.old signature.new result }
     {

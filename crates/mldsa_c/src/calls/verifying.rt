@@ -5,7 +5,7 @@ ghost use Rattle.std.specs.Prelude.{◌≡◌, ◌≤◌, length};
 ghost use Rattle.fips204.specs.Acceptance.{Verifies};
 ghost use Rattle.fips204.specs.Refusals.{VerifiesMessage, VerifiesDigest};
 ghost use Rattle.fips204_shake.specs.Fronts.{shake256_front, shake128_front};
-ghost use Rattle.mldsa_c.specs.Calls.{AreSmall, TellsVerdict, JudgesMessage, JudgesDigest, JudgesMu};
+ghost use Rattle.mldsa_c.specs.Calls.{TellsVerdict, JudgesMessage, JudgesDigest, JudgesMu};
 
 use super::{Calls, Public};
 use crate::arrays::array_of;
@@ -34,7 +34,6 @@ where
 {
     /// Tells whether a public key accepts the signature of a message under a context.
     pub(crate) fn verify(public_key: &[u8], message: &[u8], context: &[u8], signature: &[u8]) -> u32
-        requires small { AreSmall K L PK_LEN SK_LEN SIG_LEN }
         ensures { JudgesMessage S.set public_key.now message.now context.now signature.now result }
     {
         let fit = public_key.len() == PK_LEN && signature.len() == SIG_LEN;
@@ -47,7 +46,6 @@ where
 
     #[inline(never)]
     fn verdict(public_key: &[u8], message: &[u8], context: &[u8], signature: &[u8]) -> u32
-        requires small { AreSmall K L PK_LEN SK_LEN SIG_LEN }
         requires lengths { (length public_key.now ≡ PK_LEN) × (length signature.now ≡ SIG_LEN) }
         ensures { TellsVerdict S.set public_key.now (λ pk. VerifiesMessage S.set shake256_front shake128_front pk message.now signature.now context.now) result }
     {
@@ -63,7 +61,6 @@ where
         oid: &[u8],
         signature: &[u8],
     ) -> u32
-        requires small { AreSmall K L PK_LEN SK_LEN SIG_LEN }
         ensures { JudgesDigest S.set public_key.now digest.now context.now oid.now signature.now result }
     {
         let fit = public_key.len() == PK_LEN && signature.len() == SIG_LEN;
@@ -82,7 +79,6 @@ where
         oid: &[u8],
         signature: &[u8],
     ) -> u32
-        requires small { AreSmall K L PK_LEN SK_LEN SIG_LEN }
         requires lengths { (length public_key.now ≡ PK_LEN) × (length signature.now ≡ SIG_LEN) }
         ensures { TellsVerdict S.set public_key.now (λ pk. VerifiesDigest S.set shake256_front shake128_front pk digest.now signature.now context.now oid.now) result }
     {
@@ -92,7 +88,6 @@ where
 
     /// Tells whether a public key accepts the signature of the hash `mu` of a framed message.
     pub(crate) fn verify_mu(public_key: &[u8], mu: &[u8], signature: &[u8]) -> u32
-        requires small { AreSmall K L PK_LEN SK_LEN SIG_LEN }
         ensures { JudgesMu S.set public_key.now mu.now signature.now result }
     {
         let fit = public_key.len() == PK_LEN && signature.len() == SIG_LEN && mu.len() == 64;
@@ -105,7 +100,6 @@ where
 
     #[inline(never)]
     fn mu_verdict(public_key: &[u8], mu: &[u8], signature: &[u8]) -> u32
-        requires small { AreSmall K L PK_LEN SK_LEN SIG_LEN }
         requires lengths { (length public_key.now ≡ PK_LEN) × (length signature.now ≡ SIG_LEN) × (length mu.now ≡ 64) }
         ensures { TellsVerdict S.set public_key.now (λ pk. Verifies S.set shake256_front shake128_front pk mu.now signature.now) result }
     {

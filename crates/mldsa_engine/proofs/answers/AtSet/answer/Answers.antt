@@ -50,19 +50,24 @@ returns-in-Check-clause-given g c =
     (λ x y z w output answer told. (x, y, z, w, refl, told)) fit c.fields-in-Check.ensures c.array_of-in-Check.ensures
     c.array_of-in-Check-2.ensures c.check.ensures.given)
 
-pub identify-requires-clause-key : goal.identify-requires-clause-key
-identify-requires-clause-key g c =
-    ap length c.as_slice.ensures.value ∙ ap (λ line. length line.items) c.index-lines-0.is ∙ fits_at (λ line. line.items)
-    (wanted_lines Id g.S.Set.set) c.args.lines.now 0 _ (rw c.in-Id.is at c.requires.fit) refl ∙ sym g.met.S.KeySizes.key_sizes.public_key
+pub identify-requires : goal.identify-requires
+identify-requires g c =
+    record {
+      key = ap length c.as_slice.ensures.value ∙ ap (λ line. length line.items) c.index-lines-0.is ∙ fits_at (λ line. line.items)
+          (wanted_lines Id g.S.Set.set) c.args.lines.now 0 _ (rw c.in-Id.is at c.requires.fit) refl ∙ sym g.met.S.KeySizes.key_sizes.public_key;
+    }
 
 pub array_of-requires-in-Sign : goal.array_of-requires-in-Sign
 array_of-requires-in-Sign g c =
     let fit = rw (c.in-Sign.is, ← c.fields.ensures) at c.requires.fit in
     (omega arith, fits_at (λ field. field.now) (wanted_lines Sign g.S.Set.set) _ 1 _ fit refl)
 
-pub sign-requires-clause-key : goal.sign-requires-clause-key
-sign-requires-clause-key g c = fits_at (λ field. field.now) (wanted_lines Sign g.S.Set.set) _ 0 _
-    (rw (c.in-Sign.is, ← c.fields.ensures) at c.requires.fit) refl ∙ sym g.met.S.KeySizes.key_sizes.private_key
+pub sign-requires : goal.sign-requires
+sign-requires g c =
+    record {
+      key = fits_at (λ field. field.now) (wanted_lines Sign g.S.Set.set) _ 0 _
+          (rw (c.in-Sign.is, ← c.fields.ensures) at c.requires.fit) refl ∙ sym g.met.S.KeySizes.key_sizes.private_key;
+    }
 
 pub accepts-requires-clause-key : goal.accepts-requires-clause-key
 accepts-requires-clause-key g c = fits_at (λ field. field.now) (wanted_lines Verify g.S.Set.set) _ 0 _
