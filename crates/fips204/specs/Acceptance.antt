@@ -8,6 +8,7 @@ use Rattle.fips204_base.specs.Vectors.{vector_coefficients, matrix_product, vect
 use Rattle.fips204_base.specs.Rounding.{use_hint}
 use Rattle.fips204_base.specs.Encodings.{PublicParts, is_one, IsSignature, w1_bytes}
 use Rattle.fips204_base.specs.Sampling.{sampled_matrix, challenge}
+use Rattle.fips204_base.specs.Streams.{Bytes, XOF}
 use Rattle.fips204.specs.ParameterSets.{ParameterSet, commitment_length}
 
 -- the first k polynomials of v are those of t1 2^13, modulo q
@@ -23,7 +24,7 @@ unfoldable pub w1_prime : ParameterSet → List (List T) → List R → List R �
 w1_prime p a t1 z h c = hinted p h (λ r. minus (matrix_product p.l a (vector_coefficients z) r) (product (coefficients c.0) (λ n. 8192 * vector_coefficients t1 r n % 8380417)))
 
 -- what a signature fixes under a matrix and t1, whatever was signed: parts, with a small z, a challenge, and the bytes of w1'
-pub record Opens (p : ParameterSet) (H : List ℕ → List ℕ) (a : List (List T)) (t1 : List R) (signature c_tilde w1 : List ℕ) : Type 0 where
+pub record Opens (p : ParameterSet) (H : XOF) (a : List (List T)) (t1 : List R) (signature c_tilde w1 : Bytes) : Type 0 where
   pub z : List R
   pub h : List R
   pub parts : IsSignature p.gamma1 p.omega p.k p.l (commitment_length p) signature c_tilde z h
@@ -33,14 +34,14 @@ pub record Opens (p : ParameterSet) (H : List ℕ → List ℕ) (a : List (List 
   pub recomputed : w1 ≡ w1_bytes p.gamma2 (w1_prime p a t1 z h c)
 
 -- ML-DSA.Verify_internal (Algorithm 8) from mu, with the matrix a: c_tilde is the hash of mu and the w1 that the signature fixes
-pub record Accepts (p : ParameterSet) (H : List ℕ → List ℕ) (a : List (List T)) (t1 : List R) (mu signature : List ℕ) : Type 0 where
-  pub c_tilde : List ℕ
-  pub w1 : List ℕ
+pub record Accepts (p : ParameterSet) (H : XOF) (a : List (List T)) (t1 : List R) (mu signature : Bytes) : Type 0 where
+  pub c_tilde : Bytes
+  pub w1 : Bytes
   pub opened : Opens p H a t1 signature c_tilde w1
   pub same : c_tilde ≡ take (commitment_length p) (H (mu ++ w1))
 
 -- the same with a plain key, whose matrix has to be there
-pub record Verifies (p : ParameterSet) (H G : List ℕ → List ℕ) (pk : PublicParts) (mu signature : List ℕ) : Type 0 where
+pub record Verifies (p : ParameterSet) (H G : XOF) (pk : PublicParts) (mu signature : Bytes) : Type 0 where
   pub a : List (List T)
   pub matrix : sampled_matrix G pk.rho p.k p.l ≡ Some a
   pub accepted : Accepts p H a pk.t1 mu signature

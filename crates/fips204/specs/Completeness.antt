@@ -1,7 +1,8 @@
 -- What is signed is accepted, and what makes two keys a pair (FIPS 204, Algorithms 1 to 8).
-use Rattle.std.specs.Prelude.{◌≡◌, ◌≤◌, ◌↔◌, ℕ, List, length, take, Bool, IsTrue, Result, Ok, Err, MatchResult}
+use Rattle.std.specs.Prelude.{◌≡◌, ◌≤◌, ◌↔◌, ℕ, length, take, Bool, IsTrue, Result, Ok, Err, MatchResult}
 use Rattle.fips204_base.specs.declared.fault.Fault.{Fault}
 use Rattle.fips204_base.specs.Encodings.{PublicParts, PrivateParts, ArePublicParts, ArePrivateParts, IsPublicKeyOf, IsPrivateKeyOf, public_key_bytes, private_key_bytes}
+use Rattle.fips204_base.specs.Streams.{Bytes, XOF}
 use Rattle.fips204.specs.ParameterSets.{ParameterSet, is_parameter_set}
 use Rattle.fips204.specs.Keys.{IsWhole}
 use Rattle.fips204.specs.Framing.{Input}
@@ -10,9 +11,9 @@ use Rattle.fips204.specs.Acceptance.{Verifies}
 use Rattle.fips204.specs.Refusals.{generated, derived, sign_input, AcceptsInput}
 
 -- the public key accepts what the private key signs, whatever the random bytes: a hash mu, and an input
-pub record AcceptsSigned (p : ParameterSet) (H G : List ℕ → List ℕ) (pk : PublicParts) (sk : PrivateParts) : Type 0 where
-  pub hashes : (mu rnd signature : List ℕ) → sign p H G sk mu rnd ≡ Ok signature → Verifies p H G pk mu signature
-  pub inputs : (rnd signature : List ℕ) (input : Input) → sign_input H sk.tr (λ mu. sign p H G sk mu rnd) input ≡ Ok signature
+pub record AcceptsSigned (p : ParameterSet) (H G : XOF) (pk : PublicParts) (sk : PrivateParts) : Type 0 where
+  pub hashes : (mu rnd signature : Bytes) → sign p H G sk mu rnd ≡ Ok signature → Verifies p H G pk mu signature
+  pub inputs : (rnd signature : Bytes) (input : Input) → sign_input H sk.tr (λ mu. sign p H G sk mu rnd) input ≡ Ok signature
       → AcceptsInput H pk.tr (λ mu. Verifies p H G pk mu signature) input
 
 -- what a signing call answers is accepted: where the private key is whole, by the public key that is derived of it
@@ -20,7 +21,7 @@ abbrev pub AcceptedIfWhole : {P S : Type 0} → Type 0 → Result P Fault → (P
 AcceptedIfWhole {P} {S} whole derives accepts answer = (pk : P) (signature : S) → whole → derives ≡ Ok pk → answer ≡ Ok signature → accepts pk signature
 
 -- the same of a private key's signature of a hash mu
-abbrev pub HashComplete : ParameterSet → (List ℕ → List ℕ) → (List ℕ → List ℕ) → PrivateParts → List ℕ → Result (List ℕ) Fault → Type 0
+abbrev pub HashComplete : ParameterSet → XOF → XOF → PrivateParts → Bytes → Result Bytes Fault → Type 0
 HashComplete p H G sk mu answer = AcceptedIfWhole (IsWhole p G sk) (derived p G sk) (λ pk signature. Verifies p H G pk mu signature) answer
 
 -- decoding a key's bytes answers that key and nothing else
@@ -29,7 +30,7 @@ DecodesAlone {K} {B} decodes bytes key = (answer : Result K Fault) → decodes b
 
 -- two keys are a pair: the private one is in range and whole, the public one is derived of it, and each is the one key that
 -- its bytes decode to
-pub record IsPair (p : ParameterSet) (H G : List ℕ → List ℕ) (pk : PublicParts) (sk : PrivateParts) : Type 0 where
+pub record IsPair (p : ParameterSet) (H G : XOF) (pk : PublicParts) (sk : PrivateParts) : Type 0 where
   pub parts : ArePrivateParts p.eta p.k p.l sk
   pub whole : IsWhole p G sk
   pub derives : derived p G sk ≡ Ok pk
@@ -37,7 +38,7 @@ pub record IsPair (p : ParameterSet) (H G : List ℕ → List ℕ) (pk : PublicP
   pub private_decoded : (other : PrivateParts) → IsPrivateKeyOf p.eta p.k p.l (private_key_bytes p.eta sk) other ↔ (other ≡ sk)
 
 -- an answer to whether a private key and the public key that is derived of it are a pair; a refusal where no key is derived
-abbrev pub TellsPair : ParameterSet → (List ℕ → List ℕ) → (List ℕ → List ℕ) → PrivateParts → Result Bool Fault → Type 0
+abbrev pub TellsPair : ParameterSet → XOF → XOF → PrivateParts → Result Bool Fault → Type 0
 TellsPair p H G sk answer = MatchResult answer (λ yes. (pk : PublicParts) × (derived p G sk ≡ Ok pk) × (IsTrue yes ↔ IsPair p H G pk sk))
     (λ fault. derived p G sk ≡ Err fault)
 
@@ -46,11 +47,11 @@ TellsPair p H G sk answer = MatchResult answer (λ yes. (pk : PublicParts) × (d
 -- public key accepts what the private one signs
 abbrev pub SignedIsAccepted : Type 0
 SignedIsAccepted =
-    (p : ParameterSet) (H G : List ℕ → List ℕ) (pk : PublicParts) (sk : PrivateParts) → IsTrue (is_parameter_set p)
-    → ((x : List ℕ) → 4096 ≤ length (H x))
+    (p : ParameterSet) (H G : XOF) (pk : PublicParts) (sk : PrivateParts) → IsTrue (is_parameter_set p)
+    → ((x : Bytes) → 4096 ≤ length (H x))
     → (ArePrivateParts p.eta p.k p.l sk → IsWhole p G sk → derived p G sk ≡ Ok pk
     → AcceptsSigned p H G pk sk × (sk.tr ≡ take 64 (H (public_key_bytes pk.rho pk.t1)) → IsPair p H G pk sk))
-    × ((xi : List ℕ) → generated p H G xi ≡ Ok (pk, sk) → IsPair p H G pk sk × AcceptsSigned p H G pk sk)
+    × ((xi : Bytes) → generated p H G xi ≡ Ok (pk, sk) → IsPair p H G pk sk × AcceptsSigned p H G pk sk)
 
 -- keys in range are the same where their bytes are: two private keys, and two public keys with the same tr
 pub record BytesTellKeys (p : ParameterSet) : Type 0 where

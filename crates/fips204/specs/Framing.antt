@@ -1,24 +1,25 @@
 -- Framing, the hash of a framed message, and the conditions on a digest (FIPS 204, Algorithms 2 to 5, 7 and 8, section 5.4).
 use Rattle.std.specs.Prelude.{ℕ, List, ◌∷◌, ◌++◌, length, take, ◌+◌, [], Bool, false, ◌&&◌, not, nat_eq, nat_lt, nat_le, bytes_eq, find, Option, Some, None, option_map, slice_index, if◌then◌else◌}
+use Rattle.fips204_base.specs.Streams.{Bytes, XOF}
 use Rattle.fips204_base.specs.declared.fault.Fault.{Fault}
 use Rattle.fips204_base.specs.declared.fault.Fault.TheVariants.{OidEmpty, OidNotDer, DigestTooLong, DigestLength}
 
 -- what is signed under a context: a message, or the OID of a hash with a digest
 pub data Input : Type 0 where
-  plain : (message context : List ℕ) → Input
-  hashed : (digest context oid : List ℕ) → Input
+  plain : (message context : Bytes) → Input
+  hashed : (digest context oid : Bytes) → Input
 
 -- M': byte 0, or 1 for a digest, a byte of the context's length, the context, and the message, or the OID and the digest
-abbrev pub framed_input : Input → List ℕ
+abbrev pub framed_input : Input → Bytes
 framed_input (plain message context) = 0 ∷ length context ∷ context ++ message
 framed_input (hashed digest context oid) = 1 ∷ length context ∷ context ++ oid ++ digest
 
 -- M' of a message and a context
-abbrev pub framed : List ℕ → List ℕ → List ℕ
+abbrev pub framed : Bytes → Bytes → Bytes
 framed message context = framed_input (plain message context)
 
 -- mu, the first 64 bytes of H over tr and M'
-abbrev pub message_hash : (List ℕ → List ℕ) → List ℕ → List ℕ → List ℕ
+abbrev pub message_hash : XOF → Bytes → Bytes → Bytes
 message_hash H tr m = take 64 (H (tr ++ m))
 
 -- the last byte of the OID of each of the twelve hashes, with the bytes of its digest: SHA2-256, -384, -512, -224,
@@ -30,7 +31,7 @@ hashes =
     ∷ (0x0B, 32) ∷ (0x0C, 64) ∷ []
 
 -- how many bytes the digest has, where the OID is that of one of these hashes: 2.16.840.1.101.3.4.2 and the last byte, in DER
-unfoldable pub digest_length : List ℕ → Option ℕ
+unfoldable pub digest_length : Bytes → Option ℕ
 digest_length oid = option_map (λ hash. hash.1)
     (find (λ hash. bytes_eq oid (0x06 ∷ 0x09 ∷ 0x60 ∷ 0x86 ∷ 0x48 ∷ 0x01 ∷ 0x65 ∷ 0x03 ∷ 0x04 ∷ 0x02 ∷ hash.0 ∷ [])) hashes)
 
@@ -41,7 +42,7 @@ differs (Some wanted) n = not (nat_eq n wanted)
 
 -- the first condition that the digest and the OID break, or none; an OID in DER has at least three bytes, the first 06, and the
 -- second below 128 and the number of bytes after it
-unfoldable pub pre_hash_fault : List ℕ → List ℕ → Option Fault
+unfoldable pub pre_hash_fault : Bytes → Bytes → Option Fault
 pre_hash_fault digest oid =
     if nat_eq (length oid) 0 then Some OidEmpty
     else if not (nat_le 3 (length oid) && nat_eq (slice_index oid 0) 0x06 && nat_lt (slice_index oid 1) 128

@@ -3,6 +3,7 @@ use Rattle.std.specs.Prelude.{◌≡◌, ℕ, List, take, Result, MatchResult, �
 use Rattle.fips204_base.specs.Encodings.{PublicParts, PrivateParts, IsPrivateKeyOf, public_key_bytes}
 use Rattle.fips204_base.specs.Rounding.{power2round}
 use Rattle.fips204_base.specs.Sampling.{sampled_matrix, small_vectors}
+use Rattle.fips204_base.specs.Streams.{Bytes, XOF}
 use Rattle.fips204_base.specs.Transforms.{plus}
 use Rattle.fips204_base.specs.Vectors.{vector_coefficients, matrix_product, vector_of}
 use Rattle.fips204_base.specs.declared.fault.Fault.{Fault}
@@ -12,7 +13,7 @@ use Rattle.fips204_base.specs.declared.types.T.{T}
 use Rattle.fips204.specs.ParameterSets.{ParameterSet}
 
 -- what decoding answers: the private key that has these bytes, or a refusal where none has
-abbrev pub DecodesPrivate : ℕ → ℕ → ℕ → List ℕ → Result PrivateParts Fault → Type 0
+abbrev pub DecodesPrivate : ℕ → ℕ → ℕ → Bytes → Result PrivateParts Fault → Type 0
 DecodesPrivate eta k l bytes answer = MatchResult answer (λ key. IsPrivateKeyOf eta k l bytes key) (λ fault. (fault ≡ KeyRange) × ((key : PrivateParts) → IsPrivateKeyOf eta k l bytes key → ⊥))
 
 -- ---- Key generation (Algorithm 6)
@@ -30,7 +31,7 @@ unfoldable pub low_part : ParameterSet → List (List T) → List R → List R �
 low_part p a s1 s2 = vector_of p.k (λ r n. (power2round (key_vector p.l a s1 s2 r n)).1)
 
 -- both keys of seeds, a matrix and small vectors; tr is the hash of the public key's bytes
-unfoldable pub key_pair : ParameterSet → (List ℕ → List ℕ) → List ℕ → List ℕ → List (List T) → List R → List R → PublicParts × PrivateParts
+unfoldable pub key_pair : ParameterSet → XOF → Bytes → Bytes → List (List T) → List R → List R → PublicParts × PrivateParts
 key_pair p H rho key a s1 s2 =
     let t1 = high_part p a s1 s2 in
     let tr = take 64 (H (public_key_bytes rho t1)) in
@@ -38,7 +39,7 @@ key_pair p H rho key a s1 s2 =
 
 -- ML-DSA.KeyGen_internal (Algorithm 6): H over xi, byte k and byte l gives rho of 32 bytes, rho' of 64 and K of 32; none where a
 -- sampler gives none
-unfoldable pub key_generation : ParameterSet → (List ℕ → List ℕ) → (List ℕ → List ℕ) → List ℕ → Option (PublicParts × PrivateParts)
+unfoldable pub key_generation : ParameterSet → XOF → XOF → Bytes → Option (PublicParts × PrivateParts)
 key_generation p H G xi =
     let seeds = H (xi ++ p.k ∷ p.l ∷ []) in
     let rho = take 32 seeds in
@@ -47,16 +48,16 @@ key_generation p H G xi =
     option_and_then (λ a. option_map (λ small. key_pair p H rho key a small.0 small.1) (small_vectors p.eta H rho' p.k p.l)) (sampled_matrix G rho p.k p.l)
 
 -- a whole private key: rejection sampling gives its matrix, and its t0 comes of A s1 + s2 by power2round
-pub record IsWhole (p : ParameterSet) (G : List ℕ → List ℕ) (sk : PrivateParts) : Type 0 where
+pub record IsWhole (p : ParameterSet) (G : XOF) (sk : PrivateParts) : Type 0 where
   pub matrix : List (List T)
   pub sampled : sampled_matrix G sk.rho p.k p.l ≡ Some matrix
   pub low : sk.t0 ≡ low_part p matrix sk.s1 sk.s2
 
 -- an answer to whether a private key is whole; it is a refusal where there is no matrix, and only there
-abbrev pub TellsWhole : ParameterSet → (List ℕ → List ℕ) → PrivateParts → Result Bool Fault → Type 0
+abbrev pub TellsWhole : ParameterSet → XOF → PrivateParts → Result Bool Fault → Type 0
 TellsWhole p G sk answer = MatchResult answer (λ whole. (sampled_matrix G sk.rho p.k p.l ≢ None) × (IsTrue whole ↔ IsWhole p G sk))
     (λ fault. (sampled_matrix G sk.rho p.k p.l ≡ None) × (fault ≡ SamplingLimit))
 
 -- the public key of a private key: its rho and tr, and the high part of A s1 + s2; none where the matrix is none
-unfoldable pub public_key_of : ParameterSet → (List ℕ → List ℕ) → PrivateParts → Option PublicParts
+unfoldable pub public_key_of : ParameterSet → XOF → PrivateParts → Option PublicParts
 public_key_of p G sk = option_map (λ a. record { rho = sk.rho; tr = sk.tr; t1 = high_part p a sk.s1 sk.s2 }) (sampled_matrix G sk.rho p.k p.l)

@@ -6,7 +6,7 @@ use Rattle.fips204_base.specs.declared.types.R.{R}
 use Rattle.fips204_base.specs.declared.types.T.{T}
 use Rattle.fips204_base.specs.Encodings.{PublicParts, PrivateParts, IsPublicKeyOf, IsSignature}
 use Rattle.fips204_base.specs.Residues.{vector_norm}
-use Rattle.fips204_base.specs.Streams.{counter_blocks, sha256_front, sha256_long_front, sha512_front, sha512_long_front, IsPrefix, ArePrefixes}
+use Rattle.fips204_base.specs.Streams.{Bytes, XOF, counter_blocks, sha256_front, sha256_long_front, sha512_front, sha512_long_front, IsPrefix, ArePrefixes}
 use Rattle.fips204_base.specs.Sampling.{matrix_entry, sampled_matrix, small_polynomial, challenge}
 use Rattle.fips204.specs.ParameterSets.{ParameterSet, is_parameter_set, commitment_length}
 use Rattle.fips204.specs.Framing.{Input, message_hash}
@@ -18,16 +18,16 @@ use Rattle.fips204.specs.Prepared.{prepared_private, prepared_public}
 -- fronts in counter mode are prefixes of those with more blocks, so those of each two streams of the library that differ in
 -- length alone
 pub record CounterFrontsArePrefixes : Type 0 where
-  pub blocks : (hash : List ℕ → List ℕ) (seed : List ℕ) (n m : ℕ) → n ≤ m → IsPrefix (counter_blocks hash seed n) (counter_blocks hash seed m)
+  pub blocks : (hash : Bytes → Bytes) (seed : Bytes) (n m : ℕ) → n ≤ m → IsPrefix (counter_blocks hash seed n) (counter_blocks hash seed m)
   pub sha256 : ArePrefixes sha256_front sha256_long_front
   pub sha512 : ArePrefixes sha512_front sha512_long_front
 
 -- what a sampler gives over a front, it gives over the longer one
-pub record SamplesStay (H G H' G' : List ℕ → List ℕ) : Type 0 where
-  pub entries : (input : List ℕ) (t : T) → matrix_entry (G input) ≡ Some t → matrix_entry (G' input) ≡ Some t
-  pub matrices : (rho : List ℕ) (k l : ℕ) (a : List (List T)) → sampled_matrix G rho k l ≡ Some a → sampled_matrix G' rho k l ≡ Some a
-  pub small_polynomials : (eta : ℕ) (input : List ℕ) (w : R) → small_polynomial eta (H input) ≡ Some w → small_polynomial eta (H' input) ≡ Some w
-  pub challenges : (tau : ℕ) (input : List ℕ) (c : R) → challenge tau (H input) ≡ Some c → challenge tau (H' input) ≡ Some c
+pub record SamplesStay (H G H' G' : XOF) : Type 0 where
+  pub entries : (input : Bytes) (t : T) → matrix_entry (G input) ≡ Some t → matrix_entry (G' input) ≡ Some t
+  pub matrices : (rho : Bytes) (k l : ℕ) (a : List (List T)) → sampled_matrix G rho k l ≡ Some a → sampled_matrix G' rho k l ≡ Some a
+  pub small_polynomials : (eta : ℕ) (input : Bytes) (w : R) → small_polynomial eta (H input) ≡ Some w → small_polynomial eta (H' input) ≡ Some w
+  pub challenges : (tau : ℕ) (input : Bytes) (c : R) → challenge tau (H input) ≡ Some c → challenge tau (H' input) ≡ Some c
 
 -- an answer stays, unless it is the refusal for a passed limit on sampling
 abbrev pub Stays : {A : Type 0} → Result A Fault → Result A Fault → Type 0
@@ -35,23 +35,23 @@ Stays answer longer = answer ≢ Err SamplingLimit → longer ≡ answer
 
 -- the answers of key generation, of the public key of a private key, of preparing, and of signing: a hash mu, a framed message,
 -- and an input
-pub record AnswersStay (p : ParameterSet) (H G H' G' : List ℕ → List ℕ) : Type 0 where
-  pub key_pairs : (xi : List ℕ) → Stays (generated p H G xi) (generated p H' G' xi)
+pub record AnswersStay (p : ParameterSet) (H G H' G' : XOF) : Type 0 where
+  pub key_pairs : (xi : Bytes) → Stays (generated p H G xi) (generated p H' G' xi)
   pub public_keys : (sk : PrivateParts) → Stays (derived p G sk) (derived p G' sk)
   pub prepared_private_keys : (sk : PrivateParts) → Stays (prepared_private p G sk) (prepared_private p G' sk)
   pub prepared_public_keys : (pk : PublicParts) → Stays (prepared_public p G pk) (prepared_public p G' pk)
-  pub hashes : (sk : PrivateParts) (mu rnd : List ℕ) → Stays (sign p H G sk mu rnd) (sign p H' G' sk mu rnd)
-  pub framed : (sk : PrivateParts) (m rnd : List ℕ)
+  pub hashes : (sk : PrivateParts) (mu rnd : Bytes) → Stays (sign p H G sk mu rnd) (sign p H' G' sk mu rnd)
+  pub framed : (sk : PrivateParts) (m rnd : Bytes)
       → Stays (sign p H G sk (message_hash H sk.tr m) rnd) (sign p H' G' sk (message_hash H' sk.tr m) rnd)
-  pub inputs : (sk : PrivateParts) (rnd : List ℕ) (input : Input)
+  pub inputs : (sk : PrivateParts) (rnd : Bytes) (input : Input)
       → Stays (sign_input H sk.tr (λ mu. sign p H G sk mu rnd) input) (sign_input H' sk.tr (λ mu. sign p H' G' sk mu rnd) input)
 
 -- what decides a verdict whatever the fronts are longer by: the matrix of the public key is there, and so is the challenge of the
 -- first bytes of the signature; or the signature has no parts with a small z
-pub data IsDecided (p : ParameterSet) (H G : List ℕ → List ℕ) (pk : PublicParts) (signature : List ℕ) : Type 0 where
+pub data IsDecided (p : ParameterSet) (H G : XOF) (pk : PublicParts) (signature : Bytes) : Type 0 where
   sampled : (a : List (List T)) → sampled_matrix G pk.rho p.k p.l ≡ Some a
       → (c : R) → challenge p.tau (H (take (commitment_length p) signature)) ≡ Some c → IsDecided p H G pk signature
-  malformed : ((c_tilde : List ℕ) (z h : List R) → IsSignature p.gamma1 p.omega p.k p.l (commitment_length p) signature c_tilde z h
+  malformed : ((c_tilde : Bytes) (z h : List R) → IsSignature p.gamma1 p.omega p.k p.l (commitment_length p) signature c_tilde z h
       → vector_norm z < p.gamma1 - p.beta → ⊥) → IsDecided p H G pk signature
 
 -- a yes stays, and where it is decided, so does a no
@@ -61,19 +61,19 @@ pub record YesAndNoStay (decided yes longer_yes : Type 0) : Type 0 where
 
 -- the answers of verifying: a hash mu, a framed message, and an input, whose no for a broken condition stays; and the public key
 -- that bytes decode to
-pub record AcceptanceStays (p : ParameterSet) (H G H' G' : List ℕ → List ℕ) : Type 0 where
-  pub hashes : (pk : PublicParts) (mu signature : List ℕ)
+pub record AcceptanceStays (p : ParameterSet) (H G H' G' : XOF) : Type 0 where
+  pub hashes : (pk : PublicParts) (mu signature : Bytes)
       → YesAndNoStay (IsDecided p H G pk signature) (Verifies p H G pk mu signature) (Verifies p H' G' pk mu signature)
-  pub framed : (pk : PublicParts) (m signature : List ℕ)
+  pub framed : (pk : PublicParts) (m signature : Bytes)
       → YesAndNoStay (IsDecided p H G pk signature) (Verifies p H G pk (message_hash H pk.tr m) signature) (Verifies p H' G' pk (message_hash H' pk.tr m) signature)
-  pub inputs : (pk : PublicParts) (signature : List ℕ) (input : Input)
+  pub inputs : (pk : PublicParts) (signature : Bytes) (input : Input)
       → YesAndNoStay (IsDecided p H G pk signature ⊎ (input_fault input ≢ None))
       (AcceptsInput H pk.tr (λ mu. Verifies p H G pk mu signature) input) (AcceptsInput H' pk.tr (λ mu. Verifies p H' G' pk mu signature) input)
-  pub decoded : (bytes : List ℕ) (pk : PublicParts) → IsPublicKeyOf H p.k bytes pk → IsPublicKeyOf H' p.k bytes pk
+  pub decoded : (bytes : Bytes) (pk : PublicParts) → IsPublicKeyOf H p.k bytes pk → IsPublicKeyOf H' p.k bytes pk
 
 -- where each front of H and G is a prefix of the matching front of H' and G': samples stay, and at each of the three sets
 -- answers stay
-abbrev pub LongerFrontsKeep : (List ℕ → List ℕ) → (List ℕ → List ℕ) → (List ℕ → List ℕ) → (List ℕ → List ℕ) → Type 0
+abbrev pub LongerFrontsKeep : XOF → XOF → XOF → XOF → Type 0
 LongerFrontsKeep H G H' G' =
     ArePrefixes H H' → ArePrefixes G G'
     → SamplesStay H G H' G' × ((p : ParameterSet) → IsTrue (is_parameter_set p) → AnswersStay p H G H' G' × AcceptanceStays p H G H' G')

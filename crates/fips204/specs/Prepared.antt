@@ -6,6 +6,7 @@ use Rattle.fips204_base.specs.declared.types.T.{T}
 use Rattle.fips204_base.specs.Sampling.{sampled_matrix}
 use Rattle.fips204.specs.ParameterSets.{ParameterSet}
 use Rattle.fips204_base.specs.Encodings.{PublicParts, PrivateParts}
+use Rattle.fips204_base.specs.Streams.{Bytes, XOF}
 use Rattle.fips204.specs.Keys.{high_part, low_part, IsWhole}
 use Rattle.fips204.specs.Framing.{Input, plain, hashed}
 use Rattle.fips204.specs.Signing.{sign, sign_with}
@@ -22,38 +23,38 @@ pub record PreparedPublic : Type 0 where
   pub matrix : List (List T)
 
 -- preparing a key: its parts with the matrix of its seed, or the refusal where there is none
-abbrev pub prepared_private : ParameterSet → (List ℕ → List ℕ) → PrivateParts → Result PreparedPrivate Fault
+abbrev pub prepared_private : ParameterSet → XOF → PrivateParts → Result PreparedPrivate Fault
 prepared_private p G sk = ok_or (option_map (λ a. record { parts = sk; matrix = a }) (sampled_matrix G sk.rho p.k p.l)) SamplingLimit
 
-abbrev pub prepared_public : ParameterSet → (List ℕ → List ℕ) → PublicParts → Result PreparedPublic Fault
+abbrev pub prepared_public : ParameterSet → XOF → PublicParts → Result PreparedPublic Fault
 prepared_public p G pk = ok_or (option_map (λ a. record { parts = pk; matrix = a }) (sampled_matrix G pk.rho p.k p.l)) SamplingLimit
 
 -- signing and verifying with the kept matrix: a hash mu, a message under its context, and a digest under its context and OID
-abbrev pub sign_prepared : ParameterSet → (List ℕ → List ℕ) → PreparedPrivate → List ℕ → List ℕ → Result (List ℕ) Fault
+abbrev pub sign_prepared : ParameterSet → XOF → PreparedPrivate → Bytes → Bytes → Result Bytes Fault
 sign_prepared p H sk mu rnd = sign_with p H sk.matrix sk.parts mu rnd
 
-abbrev pub sign_message_prepared : ParameterSet → (List ℕ → List ℕ) → PreparedPrivate → List ℕ → List ℕ → List ℕ → Result (List ℕ) Fault
+abbrev pub sign_message_prepared : ParameterSet → XOF → PreparedPrivate → Bytes → Bytes → Bytes → Result Bytes Fault
 sign_message_prepared p H sk rnd message context = sign_input H sk.parts.tr (λ mu. sign_prepared p H sk mu rnd) (plain message context)
 
-abbrev pub sign_digest_prepared : ParameterSet → (List ℕ → List ℕ) → PreparedPrivate → List ℕ → List ℕ → List ℕ → List ℕ → Result (List ℕ) Fault
+abbrev pub sign_digest_prepared : ParameterSet → XOF → PreparedPrivate → Bytes → Bytes → Bytes → Bytes → Result Bytes Fault
 sign_digest_prepared p H sk rnd digest context oid = sign_input H sk.parts.tr (λ mu. sign_prepared p H sk mu rnd) (hashed digest context oid)
 
-abbrev pub VerifiesPrepared : ParameterSet → (List ℕ → List ℕ) → PreparedPublic → List ℕ → List ℕ → Type 0
+abbrev pub VerifiesPrepared : ParameterSet → XOF → PreparedPublic → Bytes → Bytes → Type 0
 VerifiesPrepared p H pk mu signature = Accepts p H pk.matrix pk.parts.t1 mu signature
 
-abbrev pub VerifiesMessagePrepared : ParameterSet → (List ℕ → List ℕ) → PreparedPublic → List ℕ → List ℕ → List ℕ → Type 0
+abbrev pub VerifiesMessagePrepared : ParameterSet → XOF → PreparedPublic → Bytes → Bytes → Bytes → Type 0
 VerifiesMessagePrepared p H pk message signature context = AcceptsInput H pk.parts.tr (λ mu. VerifiesPrepared p H pk mu signature) (plain message context)
 
-abbrev pub VerifiesDigestPrepared : ParameterSet → (List ℕ → List ℕ) → PreparedPublic → List ℕ → List ℕ → List ℕ → List ℕ → Type 0
+abbrev pub VerifiesDigestPrepared : ParameterSet → XOF → PreparedPublic → Bytes → Bytes → Bytes → Bytes → Type 0
 VerifiesDigestPrepared p H pk digest signature context oid = AcceptsInput H pk.parts.tr (λ mu. VerifiesPrepared p H pk mu signature) (hashed digest context oid)
 
 -- random bytes and an answer for each message: what signs gives for these and the message
-abbrev pub IsEachSigned : (List ℕ → List ℕ → Result (List ℕ) Fault) → List (List ℕ) → List (List ℕ) → List (Result (List ℕ) Fault) → Type 0
+abbrev pub IsEachSigned : (Bytes → Bytes → Result Bytes Fault) → List Bytes → List Bytes → List (Result Bytes Fault) → Type 0
 IsEachSigned signs seeds messages answers = (length seeds ≡ length messages) × (length answers ≡ length messages)
     × ((i : ℕ) → i < length messages → slice_index_or answers i (Err SamplingLimit) ≡ signs (slice_index_or seeds i []) (slice_index_or messages i []))
 
 -- a signature and an answer for each message: true if and only if it is accepted with the signature
-abbrev pub IsEachJudged : (List ℕ → List ℕ → Type 0) → List (List ℕ) → List (List ℕ) → List Bool → Type 0
+abbrev pub IsEachJudged : (Bytes → Bytes → Type 0) → List Bytes → List Bytes → List Bool → Type 0
 IsEachJudged accepts messages signatures answers = (length signatures ≡ length messages) × (length answers ≡ length messages)
     × ((i : ℕ) → i < length messages → IsTrue (slice_index_or answers i false) ↔ accepts (slice_index_or messages i []) (slice_index_or signatures i []))
 
@@ -65,24 +66,24 @@ abbrev pub public_of_prepared : ParameterSet → PreparedPrivate → PreparedPub
 public_of_prepared p sk = record { parts = record { rho = sk.parts.rho; tr = sk.parts.tr; t1 = high_part p sk.matrix sk.parts.s1 sk.parts.s2 }; matrix = sk.matrix }
 
 -- what a signing call answers with a whole prepared key is accepted by the public key that belongs to it
-abbrev pub AcceptedIfWholePrepared : ParameterSet → PreparedPrivate → (PreparedPublic → List ℕ → Type 0) → Result (List ℕ) Fault → Type 0
-AcceptedIfWholePrepared p sk accepts answer = (signature : List ℕ) → IsWholePrepared p sk → answer ≡ Ok signature → accepts (public_of_prepared p sk) signature
+abbrev pub AcceptedIfWholePrepared : ParameterSet → PreparedPrivate → (PreparedPublic → Bytes → Type 0) → Result Bytes Fault → Type 0
+AcceptedIfWholePrepared p sk accepts answer = (signature : Bytes) → IsWholePrepared p sk → answer ≡ Ok signature → accepts (public_of_prepared p sk) signature
 
 -- a prepared key answers as its plain key: over a hash mu, an input, and lists of messages; it is whole if and only if the plain
 -- key is; and preparing a derived public key gives the public key that belongs to it
-pub record PreparedAnswersAsPlain (p : ParameterSet) (H G : List ℕ → List ℕ) : Type 0 where
-  pub sign_hash : (sk : PrivateParts) (prepared : PreparedPrivate) (mu rnd : List ℕ) → prepared_private p G sk ≡ Ok prepared
+pub record PreparedAnswersAsPlain (p : ParameterSet) (H G : XOF) : Type 0 where
+  pub sign_hash : (sk : PrivateParts) (prepared : PreparedPrivate) (mu rnd : Bytes) → prepared_private p G sk ≡ Ok prepared
       → sign_prepared p H prepared mu rnd ≡ sign p H G sk mu rnd
-  pub sign_inputs : (sk : PrivateParts) (prepared : PreparedPrivate) (rnd : List ℕ) (input : Input) → prepared_private p G sk ≡ Ok prepared
+  pub sign_inputs : (sk : PrivateParts) (prepared : PreparedPrivate) (rnd : Bytes) (input : Input) → prepared_private p G sk ≡ Ok prepared
       → sign_input H prepared.parts.tr (λ mu. sign_prepared p H prepared mu rnd) input ≡ sign_input H sk.tr (λ mu. sign p H G sk mu rnd) input
-  pub sign_lists : (sk : PrivateParts) (prepared : PreparedPrivate) (seeds messages : List (List ℕ)) (context : List ℕ) (answers : List (Result (List ℕ) Fault))
+  pub sign_lists : (sk : PrivateParts) (prepared : PreparedPrivate) (seeds messages : List Bytes) (context : Bytes) (answers : List (Result Bytes Fault))
       → prepared_private p G sk ≡ Ok prepared → IsEachSigned (λ rnd message. sign_message_prepared p H prepared rnd message context) seeds messages answers
       → IsEachSigned (λ rnd message. sign_message p H G sk rnd message context) seeds messages answers
-  pub verify_hash : (pk : PublicParts) (prepared : PreparedPublic) (mu signature : List ℕ) → prepared_public p G pk ≡ Ok prepared
+  pub verify_hash : (pk : PublicParts) (prepared : PreparedPublic) (mu signature : Bytes) → prepared_public p G pk ≡ Ok prepared
       → VerifiesPrepared p H prepared mu signature ↔ Verifies p H G pk mu signature
-  pub verify_inputs : (pk : PublicParts) (prepared : PreparedPublic) (signature : List ℕ) (input : Input) → prepared_public p G pk ≡ Ok prepared
+  pub verify_inputs : (pk : PublicParts) (prepared : PreparedPublic) (signature : Bytes) (input : Input) → prepared_public p G pk ≡ Ok prepared
       → AcceptsInput H prepared.parts.tr (λ mu. VerifiesPrepared p H prepared mu signature) input ↔ AcceptsInput H pk.tr (λ mu. Verifies p H G pk mu signature) input
-  pub verify_lists : (pk : PublicParts) (prepared : PreparedPublic) (messages signatures : List (List ℕ)) (context : List ℕ) (answers : List Bool)
+  pub verify_lists : (pk : PublicParts) (prepared : PreparedPublic) (messages signatures : List Bytes) (context : Bytes) (answers : List Bool)
       → prepared_public p G pk ≡ Ok prepared → IsEachJudged (λ message signature. VerifiesMessagePrepared p H prepared message signature context) messages signatures answers
       → IsEachJudged (λ message signature. VerifiesMessage p H G pk message signature context) messages signatures answers
   pub whole : (sk : PrivateParts) (prepared : PreparedPrivate) → prepared_private p G sk ≡ Ok prepared → IsWholePrepared p prepared ↔ IsWhole p G sk

@@ -6,6 +6,7 @@ use Rattle.fips204_base.specs.Packing.{width}
 use Rattle.fips204_base.specs.Residues.{centred, norm, coefficients}
 use Rattle.fips204_base.specs.Rounding.{IsGamma2, high_bits, low_bits, make_hint, use_hint}
 use Rattle.fips204_base.specs.Sampling.{challenge, sampled_matrix}
+use Rattle.fips204_base.specs.Streams.{Bytes, XOF}
 use Rattle.fips204_base.specs.Transforms.{product}
 use Rattle.fips204_base.specs.Vectors.{IsVector, polynomial_of}
 use Rattle.fips204_base.specs.declared.types.R.{R}
@@ -37,13 +38,13 @@ HighBitsStay =
 -- no coefficient of c s is above tau eta in absolute value, centred, for a challenge c and an s with none above eta
 abbrev pub ChallengeProductIsSmall : Type 0
 ChallengeProductIsSmall =
-    (tau eta : ℕ) (front : List ℕ) (c s : R) → challenge tau front ≡ Some c → norm s.0 ≤ eta
+    (tau eta : ℕ) (front : Bytes) (c s : R) → challenge tau front ≡ Some c → norm s.0 ≤ eta
     → norm (polynomial_of (λ n. pos (product (coefficients c.0) (coefficients s.0) n))).0 ≤ tau * eta
 
 -- c_tilde, z and h determine the bytes of a signature, and these determine c_tilde, z and h
 abbrev pub SignatureHasOneSpelling : Type 0
 SignatureHasOneSpelling =
-    (gamma1 omega' k l n : ℕ) (first second c_tilde other_c_tilde : List ℕ) (z h other_z other_h : List R)
+    (gamma1 omega' k l n : ℕ) (first second c_tilde other_c_tilde : Bytes) (z h other_z other_h : List R)
     → (IsSignature gamma1 omega' k l n first c_tilde z h → IsSignature gamma1 omega' k l n second c_tilde z h → first ≡ second)
     × (1 ≤ gamma1 → gamma1 ≤ 1048575 → IsSignature gamma1 omega' k l n first c_tilde z h → IsSignature gamma1 omega' k l n first other_c_tilde other_z other_h
     → (c_tilde ≡ other_c_tilde) × (z ≡ other_z) × (h ≡ other_h))
@@ -53,35 +54,35 @@ abbrev pub HintHasOneSpelling : Type 0
 HintHasOneSpelling =
     (omega' k : ℕ) (h : List R)
     → (IsVector k 0 1 h → length (all_ones h) ≤ omega' → Spells omega' k h (hint_bytes omega' h))
-    × ((first second : List ℕ) → Spells omega' k h first → Spells omega' k h second → first ≡ second)
-    × ((other : List R) (bytes : List ℕ) → Spells omega' k h bytes → Spells omega' k other bytes → h ≡ other)
+    × ((first second : Bytes) → Spells omega' k h first → Spells omega' k h second → first ≡ second)
+    × ((other : List R) (bytes : Bytes) → Spells omega' k h bytes → Spells omega' k other bytes → h ≡ other)
 
 -- inputs that break no condition have the same M' only if they are the same, mode and part by part
 abbrev pub FramingIsOneToOne : Type 0
 FramingIsOneToOne = (x y : Input) → input_fault x ≡ None → input_fault y ≡ None → framed_input x ≡ framed_input y → x ≡ y
 
 -- two inputs of a stream that differ and have the same first n bytes
-pub record Collide (H : List ℕ → List ℕ) (n : ℕ) (x y : List ℕ) : Type 0 where
+pub record Collide (H : XOF) (n : ℕ) (x y : Bytes) : Type 0 where
   pub differ : x ≢ y
   pub same : take n (H x) ≡ take n (H y)
 
 -- w1 are the bytes that a signature fixes under a key, whatever was signed
-pub record Fixes (p : ParameterSet) (H G : List ℕ → List ℕ) (pk : PublicParts) (signature w1 : List ℕ) : Type 0 where
+pub record Fixes (p : ParameterSet) (H G : XOF) (pk : PublicParts) (signature w1 : Bytes) : Type 0 where
   pub a : List (List T)
   pub matrix : sampled_matrix G pk.rho p.k p.l ≡ Some a
-  pub c_tilde : List ℕ
+  pub c_tilde : Bytes
   pub opened : Opens p H a pk.t1 signature c_tilde w1
 
 -- a signature fixes no other w1 under a key
 abbrev pub SignatureFixesOne : Type 0
 SignatureFixesOne =
-    (p : ParameterSet) (H G : List ℕ → List ℕ) (pk : PublicParts) (signature w1 other : List ℕ) → IsTrue (is_parameter_set p)
+    (p : ParameterSet) (H G : XOF) (pk : PublicParts) (signature w1 other : Bytes) → IsTrue (is_parameter_set p)
     → Fixes p H G pk signature w1 → Fixes p H G pk signature other → w1 ≡ other
 
 -- under a key two M' name a collision: of the two M', after tr, in mu; or of the two mu, before the w1 that the signature fixes, in
 -- c_tilde
-pub record NamesCollision (p : ParameterSet) (H G : List ℕ → List ℕ) (pk : PublicParts) (signature m n : List ℕ) : Type 0 where
-  pub w1 : List ℕ
+pub record NamesCollision (p : ParameterSet) (H G : XOF) (pk : PublicParts) (signature m n : Bytes) : Type 0 where
+  pub w1 : Bytes
   pub fixed : Fixes p H G pk signature w1
   pub collide : Collide H 64 (pk.tr ++ m) (pk.tr ++ n)
       ⊎ Collide H (commitment_length p) (message_hash H pk.tr m ++ w1) (message_hash H pk.tr n ++ w1)
@@ -89,30 +90,30 @@ pub record NamesCollision (p : ParameterSet) (H G : List ℕ → List ℕ) (pk :
 -- one signature that a key accepts for two different M' names a collision
 abbrev pub SignatureBindsMessage : Type 0
 SignatureBindsMessage =
-    (p : ParameterSet) (H G : List ℕ → List ℕ) (pk : PublicParts) (m n signature : List ℕ) → IsTrue (is_parameter_set p) → m ≢ n
+    (p : ParameterSet) (H G : XOF) (pk : PublicParts) (m n signature : Bytes) → IsTrue (is_parameter_set p) → m ≢ n
     → Verifies p H G pk (message_hash H pk.tr m) signature → Verifies p H G pk (message_hash H pk.tr n) signature
     → NamesCollision p H G pk signature m n
 
 -- so does one signature that a key accepts for two different inputs: messages or digests under their contexts
 abbrev pub SignatureBindsInput : Type 0
 SignatureBindsInput =
-    (p : ParameterSet) (H G : List ℕ → List ℕ) (pk : PublicParts) (x y : Input) (signature : List ℕ) → IsTrue (is_parameter_set p) → x ≢ y
+    (p : ParameterSet) (H G : XOF) (pk : PublicParts) (x y : Input) (signature : Bytes) → IsTrue (is_parameter_set p) → x ≢ y
     → AcceptsInput H pk.tr (λ mu. Verifies p H G pk mu signature) x → AcceptsInput H pk.tr (λ mu. Verifies p H G pk mu signature) y
     → NamesCollision p H G pk signature (framed_input x) (framed_input y)
 
 -- so do two different messages under one context
 abbrev pub SignatureBindsText : Type 0
 SignatureBindsText =
-    (p : ParameterSet) (H G : List ℕ → List ℕ) (pk : PublicParts) (context first second signature : List ℕ) → IsTrue (is_parameter_set p)
+    (p : ParameterSet) (H G : XOF) (pk : PublicParts) (context first second signature : Bytes) → IsTrue (is_parameter_set p)
     → first ≢ second → VerifiesMessage p H G pk first signature context → VerifiesMessage p H G pk second signature context
     → NamesCollision p H G pk signature (framed first context) (framed second context)
 
 -- under two keys with these bytes two M' name a collision: of the bytes in tr; of the two M', each after its tr, in mu; or of the two
 -- mu, each before the w1 that the signature fixes under its key, in c_tilde
-pub record NamesKeyCollision (p : ParameterSet) (H G : List ℕ → List ℕ) (bytes others : List ℕ) (pk other : PublicParts) (signature m n : List ℕ) : Type 0 where
-  pub w1 : List ℕ
+pub record NamesKeyCollision (p : ParameterSet) (H G : XOF) (bytes others : Bytes) (pk other : PublicParts) (signature m n : Bytes) : Type 0 where
+  pub w1 : Bytes
   pub fixed : Fixes p H G pk signature w1
-  pub other_w1 : List ℕ
+  pub other_w1 : Bytes
   pub other_fixed : Fixes p H G other signature other_w1
   pub collide : Collide H 64 bytes others ⊎ (Collide H 64 (pk.tr ++ m) (other.tr ++ n)
       ⊎ Collide H (commitment_length p) (message_hash H pk.tr m ++ w1) (message_hash H other.tr n ++ other_w1))
@@ -120,30 +121,30 @@ pub record NamesKeyCollision (p : ParameterSet) (H G : List ℕ → List ℕ) (b
 -- one signature that two keys accept, each read from its bytes, is accepted for one M' under one key, or names a collision
 abbrev pub SignatureBindsKey : Type 0
 SignatureBindsKey =
-    (p : ParameterSet) (H G : List ℕ → List ℕ) (bytes others : List ℕ) (pk other : PublicParts) (m n signature : List ℕ) → IsTrue (is_parameter_set p)
-    → ((x : List ℕ) → 4096 ≤ length (H x)) → IsPublicKeyOf H p.k bytes pk → IsPublicKeyOf H p.k others other
+    (p : ParameterSet) (H G : XOF) (bytes others : Bytes) (pk other : PublicParts) (m n signature : Bytes) → IsTrue (is_parameter_set p)
+    → ((x : Bytes) → 4096 ≤ length (H x)) → IsPublicKeyOf H p.k bytes pk → IsPublicKeyOf H p.k others other
     → Verifies p H G pk (message_hash H pk.tr m) signature → Verifies p H G other (message_hash H other.tr n) signature
     → ((pk ≡ other) × (m ≡ n)) ⊎ NamesKeyCollision p H G bytes others pk other signature m n
 
 -- so is one signature that two keys accept for inputs
 abbrev pub SignatureBindsKeyAndInput : Type 0
 SignatureBindsKeyAndInput =
-    (p : ParameterSet) (H G : List ℕ → List ℕ) (bytes others : List ℕ) (pk other : PublicParts) (x y : Input) (signature : List ℕ) → IsTrue (is_parameter_set p)
-    → ((x : List ℕ) → 4096 ≤ length (H x)) → IsPublicKeyOf H p.k bytes pk → IsPublicKeyOf H p.k others other
+    (p : ParameterSet) (H G : XOF) (bytes others : Bytes) (pk other : PublicParts) (x y : Input) (signature : Bytes) → IsTrue (is_parameter_set p)
+    → ((x : Bytes) → 4096 ≤ length (H x)) → IsPublicKeyOf H p.k bytes pk → IsPublicKeyOf H p.k others other
     → AcceptsInput H pk.tr (λ mu. Verifies p H G pk mu signature) x → AcceptsInput H other.tr (λ mu. Verifies p H G other mu signature) y
     → ((pk ≡ other) × (x ≡ y)) ⊎ NamesKeyCollision p H G bytes others pk other signature (framed_input x) (framed_input y)
 
 -- two signatures under a key name a collision of one mu, before the w1 that each of them fixes, in c_tilde
-pub record NamesHintCollision (p : ParameterSet) (H G : List ℕ → List ℕ) (pk : PublicParts) (mu first second : List ℕ) : Type 0 where
-  pub w1 : List ℕ
+pub record NamesHintCollision (p : ParameterSet) (H G : XOF) (pk : PublicParts) (mu first second : Bytes) : Type 0 where
+  pub w1 : Bytes
   pub fixed : Fixes p H G pk first w1
-  pub other_w1 : List ℕ
+  pub other_w1 : Bytes
   pub other_fixed : Fixes p H G pk second other_w1
   pub collide : Collide H (commitment_length p) (mu ++ w1) (mu ++ other_w1)
 
 -- so do two different signatures that a key accepts for one mu, if they are the same up to their hints
 abbrev pub OtherHintCollides : Type 0
 OtherHintCollides =
-    (p : ParameterSet) (H G : List ℕ → List ℕ) (pk : PublicParts) (mu first second : List ℕ) → IsTrue (is_parameter_set p) → first ≢ second
+    (p : ParameterSet) (H G : XOF) (pk : PublicParts) (mu first second : Bytes) → IsTrue (is_parameter_set p) → first ≢ second
     → take (commitment_length p + 32 * width (pos (p.gamma1 - 1)) (pos p.gamma1) * p.l) first ≡ take (commitment_length p + 32 * width (pos (p.gamma1 - 1)) (pos p.gamma1) * p.l) second
     → Verifies p H G pk mu first → Verifies p H G pk mu second → NamesHintCollision p H G pk mu first second

@@ -5,6 +5,7 @@ use Rattle.fips204_base.specs.Encodings.{PrivateParts, all_ones, signature_bytes
 use Rattle.fips204_base.specs.Residues.{centred, vector_norm, coefficients}
 use Rattle.fips204_base.specs.Rounding.{high_bits, low_bits, make_hint}
 use Rattle.fips204_base.specs.Sampling.{challenge, mask, sampled_matrix}
+use Rattle.fips204_base.specs.Streams.{Bytes, XOF}
 use Rattle.fips204_base.specs.Transforms.{product, plus, minus}
 use Rattle.fips204_base.specs.Vectors.{vector_coefficients, matrix_product, vector_of}
 use Rattle.fips204_base.specs.declared.fault.Fault.{Fault}
@@ -17,10 +18,10 @@ use Rattle.fips204.specs.ParameterSets.{ParameterSet, commitment_length}
 pub data Attempt : Type 0 where
   limit : Attempt
   rejected : Attempt
-  signed : List ℕ → Attempt
+  signed : Bytes → Attempt
 
 -- c_tilde of a vector w1: the first lambda / 4 bytes of H over mu and the bytes of w1
-unfoldable pub commitment : ParameterSet → (List ℕ → List ℕ) → List ℕ → List R → List ℕ
+unfoldable pub commitment : ParameterSet → XOF → Bytes → List R → Bytes
 commitment p H mu w1 = take (commitment_length p) (H (mu ++ w1_bytes p.gamma2 w1))
 
 -- w1, the high bits of w
@@ -60,13 +61,13 @@ passes_checks p sk y w c =
     && nat_le (length (all_ones (hint_vector p sk w c))) p.omega
 
 -- what a challenge makes of an attempt with mask y, whose A y is w
-unfoldable pub checked_attempt : ParameterSet → PrivateParts → List R → (ℕ → ℕ → ℕ) → List ℕ → Option R → Attempt
+unfoldable pub checked_attempt : ParameterSet → PrivateParts → List R → (ℕ → ℕ → ℕ) → Bytes → Option R → Attempt
 checked_attempt p sk y w c_tilde None = limit
 checked_attempt p sk y w c_tilde (Some c) =
     if passes_checks p sk y w c then signed (signature_bytes p.gamma1 p.omega c_tilde (response p sk y c) (hint_vector p sk w c)) else rejected
 
 -- the attempt at counter kappa, with the matrix a and the seed rho'' of masks
-unfoldable pub attempt : ParameterSet → (List ℕ → List ℕ) → List (List T) → PrivateParts → List ℕ → List ℕ → ℕ → Attempt
+unfoldable pub attempt : ParameterSet → XOF → List (List T) → PrivateParts → Bytes → Bytes → ℕ → Attempt
 attempt p H a sk mu rho'' kappa =
     let y = mask p.gamma1 H rho'' p.l kappa in
     let w = matrix_product p.l a (vector_coefficients y) in
@@ -74,25 +75,25 @@ attempt p H a sk mu rho'' kappa =
     checked_attempt p sk y w c_tilde (challenge p.tau (H c_tilde))
 
 -- the answer of the first attempt that isn't rejected
-unfoldable pub first_answer : List Attempt → Result (List ℕ) Fault
+unfoldable pub first_answer : List Attempt → Result Bytes Fault
 first_answer [] = Err TooManyAttempts
 first_answer (limit ∷ later) = Err SamplingLimit
 first_answer (rejected ∷ later) = first_answer later
 first_answer (signed signature ∷ later) = Ok signature
 
 -- rho'', the seed of the masks
-abbrev pub mask_seed : (List ℕ → List ℕ) → PrivateParts → List ℕ → List ℕ → List ℕ
+abbrev pub mask_seed : XOF → PrivateParts → Bytes → Bytes → Bytes
 mask_seed H sk rnd mu = take 64 (H (sk.key ++ rnd ++ mu))
 
 -- signing with the matrix a: the first of 814 attempts (Appendix C) that isn't rejected; attempt n has kappa = n l
-unfoldable pub sign_with : ParameterSet → (List ℕ → List ℕ) → List (List T) → PrivateParts → List ℕ → List ℕ → Result (List ℕ) Fault
+unfoldable pub sign_with : ParameterSet → XOF → List (List T) → PrivateParts → Bytes → Bytes → Result Bytes Fault
 sign_with p H a sk mu rnd = first_answer (map (λ n. attempt p H a sk mu (mask_seed H sk rnd mu) (n * p.l)) (range_with_len 0 814))
 
 -- the same where the matrix is there, or else a refusal
-unfoldable pub sign_if_matrix : ParameterSet → (List ℕ → List ℕ) → Option (List (List T)) → PrivateParts → List ℕ → List ℕ → Result (List ℕ) Fault
+unfoldable pub sign_if_matrix : ParameterSet → XOF → Option (List (List T)) → PrivateParts → Bytes → Bytes → Result Bytes Fault
 sign_if_matrix p H None sk mu rnd = Err SamplingLimit
 sign_if_matrix p H (Some a) sk mu rnd = sign_with p H a sk mu rnd
 
 -- ML-DSA.Sign_internal (Algorithm 7) from mu and rnd, with a plain key
-unfoldable pub sign : ParameterSet → (List ℕ → List ℕ) → (List ℕ → List ℕ) → PrivateParts → List ℕ → List ℕ → Result (List ℕ) Fault
+unfoldable pub sign : ParameterSet → XOF → XOF → PrivateParts → Bytes → Bytes → Result Bytes Fault
 sign p H G sk mu rnd = sign_if_matrix p H (sampled_matrix G sk.rho p.k p.l) sk mu rnd

@@ -1,10 +1,11 @@
 -- The words of each refusal.
-use Rattle.std.specs.Prelude.{ℕ, List, codes}
+use Rattle.std.specs.Prelude.{ℕ, codes}
+use Rattle.fips204_base.specs.Streams.{Bytes}
 use Rattle.fips204_base.specs.declared.fault.Fault.{Fault}
 use Rattle.fips204_base.specs.declared.fault.Fault.TheVariants.{KeyGenRng, SignCtx, SignRng, HashCtx, OidEmpty, OidNotDer, DigestTooLong, DigestLength, HashRng, InternalRng, TooManyAttempts, KeyRange, SamplingLimit}
 
 -- the words of a refusal, as bytes
-abbrev pub words : Fault → List ℕ
+abbrev pub words : Fault → Bytes
 words KeyGenRng = codes "KeyGen: Random number generator failed"
 words SignCtx = codes "ML-DSA.Sign: ctx too long"
 words SignRng = codes "ML-DSA.Sign: random number generator failed"

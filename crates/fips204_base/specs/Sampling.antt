@@ -3,6 +3,7 @@ use Rattle.std.specs.Prelude.{ℕ, ◌+◌, ◌*◌, ◌%◌, ℤ, pos, ◌-ℤ�
 use Rattle.std.specs.Int.{w16, to_le_bytes}
 use Rattle.std.specs.List.{range_with_len}
 use Rattle.fips204_base.specs.Packing.{bits, unpacked}
+use Rattle.fips204_base.specs.Streams.{Bytes, XOF}
 use Rattle.fips204_base.specs.Vectors.{polynomial_of}
 use Rattle.fips204_base.specs.declared.types.R.{R}
 use Rattle.fips204_base.specs.declared.types.T.{T}
@@ -32,14 +33,14 @@ all_present (x ∷ xs) = option_and_then (λ value. option_map (λ values. value
 -- ---- The matrix (Algorithms 30 and 32)
 
 -- RejNTTPoly (Algorithm 30): the first 256 coefficients of as many triples as a quarter of the front has bytes, or none
-unfoldable pub matrix_entry : List ℕ → Option T
+unfoldable pub matrix_entry : Bytes → Option T
 matrix_entry front =
     let triple = λ (p : ℕ). coefficient_from_three_bytes (slice_index front (3 * p)) (slice_index front (3 * p + 1)) (slice_index front (3 * p + 2)) in
     option_map (λ values. record { 0 = values }) (first_256 (filter_map triple (range_with_len 0 (length front / 4))))
 
 -- ExpandA (Algorithm 32): k rows of l entries, or none where an entry is none; the entry at row r and column s is sampled from G
 -- over rho, its column and its row, a byte each
-unfoldable pub sampled_matrix : (List ℕ → List ℕ) → List ℕ → ℕ → ℕ → Option (List (List T))
+unfoldable pub sampled_matrix : XOF → Bytes → ℕ → ℕ → Option (List (List T))
 sampled_matrix G rho k l =
     all_present (map (λ r. all_present (map (λ s. matrix_entry (G (rho ++ s ∷ r ∷ []))) (range_with_len 0 l))) (range_with_len 0 k))
 
@@ -47,14 +48,14 @@ sampled_matrix G rho k l =
 
 -- RejBoundedPoly (Algorithm 31): the first 256 coefficients of the half bytes, the low half of a byte first, of the first bytes, a
 -- quarter of the front, or none
-unfoldable pub small_polynomial : ℕ → List ℕ → Option R
+unfoldable pub small_polynomial : ℕ → Bytes → Option R
 small_polynomial eta front =
     let half_bytes = flat_map (λ byte. byte % 16 ∷ byte / 16 ∷ []) (take (length front / 4) front) in
     option_map (λ values. record { 0 = values }) (first_256 (filter_map (coefficient_from_half_byte eta) half_bytes))
 
 -- ExpandS (Algorithm 33): s1 of l polynomials, with the numbers from 0 on, and s2 of k, with those from l on, each polynomial
 -- from H(rho', number in two bytes); or none where one is none
-unfoldable pub small_vectors : ℕ → (List ℕ → List ℕ) → List ℕ → ℕ → ℕ → Option (List R × List R)
+unfoldable pub small_vectors : ℕ → XOF → Bytes → ℕ → ℕ → Option (List R × List R)
 small_vectors eta H rho k l =
     let vector = λ (first count : ℕ). all_present (map (λ r. small_polynomial eta (H (rho ++ to_le_bytes w16 r))) (range_with_len first count)) in
     option_and_then (λ s1. option_map (λ s2. (s1, s2)) (vector l k)) (vector 0 l)
@@ -62,7 +63,7 @@ small_vectors eta H rho k l =
 -- ---- The challenge (Algorithm 29)
 
 -- the picks for i and the numbers after it: a byte above the number is passed over, and the first other one is its pick
-unfoldable pub picks : ℕ → List ℕ → List ℕ
+unfoldable pub picks : ℕ → Bytes → List ℕ
 picks i [] = []
 picks i (byte ∷ bytes) = (if nat_le byte i then byte ∷ [] else []) ++ picks (if nat_le byte i then i + 1 else i) bytes
 
@@ -86,7 +87,7 @@ signed_sum (place ∷ later) (bit ∷ sign_bits) n = (if nat_eq place n then (if
 -- SampleInBall (Algorithm 29): the sum over i from 256 - tau to 255 of sign_i X^place(i), or none where a pick is missing; the
 -- picks are from the bytes after the first eight, a quarter as many as the front has, and sign_i is that of bit i + tau - 256 of
 -- the first eight bytes
-unfoldable pub challenge : ℕ → List ℕ → Option R
+unfoldable pub challenge : ℕ → Bytes → Option R
 challenge tau front =
     let picked = take tau (picks (256 - tau) (take (length front / 4) (drop 8 front))) in
     if nat_lt (length picked) tau then None
@@ -96,5 +97,5 @@ challenge tau front =
 
 -- ExpandMask (Algorithm 34): l polynomials, the one at r from H(rho'', kappa + r in two bytes); with c bits a coefficient, 18 or 20,
 -- the first 32 c bytes are read
-unfoldable pub mask : ℕ → (List ℕ → List ℕ) → List ℕ → ℕ → ℕ → List R
+unfoldable pub mask : ℕ → XOF → Bytes → ℕ → ℕ → List R
 mask gamma1 H rho l kappa = map (λ r. unpacked (gamma1 - 1) gamma1 (H (rho ++ to_le_bytes w16 (kappa + r)))) (range_with_len 0 l)
