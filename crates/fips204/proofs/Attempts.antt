@@ -8,17 +8,17 @@ use Rattle.fips204_base.specs.declared.types.T.{T}
 use Rattle.fips204_base.specs.Sampling.{challenge, mask}
 use Rattle.fips204_base.specs.Encodings.{PrivateParts, w1_bytes}
 use Rattle.fips204_base.specs.Packing.{PolynomialInRange}
-use Rattle.fips204_base.specs.Vectors.{entry, vector_coefficients, matrix_product, vector_of}
+use Rattle.fips204_base.specs.Vectors.{coefficient_of, vector_coefficients, matrix_product, vector_of}
 use Rattle.fips204_base.specs.Transforms.{minus}
 use Rattle.fips204_base.specs.Residues.{residue}
-use Rattle.fips204_base.specs.Rounding.{high_bits, high_values, low_bits}
+use Rattle.fips204_base.specs.Rounding.{high_bits, high_count, low_bits}
 use Rattle.fips204_base.proofs.Residues.{residue_below}
 use Rattle.fips204_base.proofs.PlainTransforms.{matrix_below}
 use Rattle.fips204_base.proofs.Rounding.{high_bits_below}
 use Rattle.fips204_base.proofs.Masks.{mask-range}
 use Rattle.fips204_base.proofs.Vectors.{vector_of-ext, vector_of-range, vector-within}
-use Rattle.fips204.specs.Signing.{attempt, commitment, high_vector, hint_bit, hint_vector, passes_checks, checked_attempt, low_vector}
-use Rattle.fips204.specs.ParameterSets.{ParameterSet, commitment_length}
+use Rattle.fips204.specs.Signing.{attempt, commitment_hash, high_vector, hint_bit, hint_vector, passes_checks, checked_attempt, low_vector}
+use Rattle.fips204.specs.ParameterSets.{ParameterSet, c_tilde_length}
 use Rattle.fips204.specs.SigningInputs.{attempt_answer, scaled}
 use Rattle.fips204.proofs.ParameterSets.{rounding-size}
 use Rattle.fips204_base.specs.Network.{VectorWithin}
@@ -29,9 +29,9 @@ use Rattle.fips204_base.specs.Network.{VectorWithin}
 abbrev pub Agree : {A : Type 0} → ℕ → (ℕ → ℕ → A) → (ℕ → ℕ → A) → Type 0
 Agree k v w = (r n : ℕ) → r < k → n < 256 → v r n ≡ w r n
 
-pub commitment-is : (p : ParameterSet) (H : List ℕ → List ℕ) (mu : List ℕ) (w1 : List R) (n : ℕ) (bytes result : List ℕ) → n ≡ commitment_length p → bytes ≡ w1_bytes p.gamma2 w1
-    → result ≡ take n (H (mu ++ bytes)) → result ≡ commitment p H mu w1
-unfolding commitment
+pub commitment-is : (p : ParameterSet) (H : List ℕ → List ℕ) (mu : List ℕ) (w1 : List R) (n : ℕ) (bytes result : List ℕ) → n ≡ c_tilde_length p → bytes ≡ w1_bytes p.gamma2 w1
+    → result ≡ take n (H (mu ++ bytes)) → result ≡ commitment_hash p H mu w1
+unfolding commitment_hash
 commitment-is p H mu w1 n bytes result size is e = e ∙ rw (size, is) refl
 
 -- ---- the high part
@@ -80,7 +80,7 @@ mask-within gamma1 H rho l kappa y (inr is) e =
 
 -- coefficients of a matrix's product with a vector
 abbrev pub IsProduct : ℕ → ℕ → List (List T) → List R → List R → Type 0
-IsProduct k l a y w = Agree k (entry w) (λ r n. pos (matrix_product l a (vector_coefficients y) r n))
+IsProduct k l a y w = Agree k (coefficient_of w) (λ r n. pos (matrix_product l a (vector_coefficients y) r n))
 
 product-coefficients : (k l : ℕ) (a : List (List T)) (y w : List R) → IsProduct k l a y w → Agree k (vector_coefficients w) (matrix_product l a (vector_coefficients y))
 product-coefficients k l a y w e r n h m =
@@ -92,31 +92,31 @@ product-coefficients k l a y w e r n h m =
 
 -- the range of a high part
 high_values-range : (gamma2 k : ℕ) (f : ℕ → ℕ → ℕ) → (gamma2 ≡ 95232) ⊎ (gamma2 ≡ 261888) → ((r n : ℕ) → f r n < 8380417)
-    → All (λ u. PolynomialInRange (pos 0) (pos (high_values gamma2 - 1)) u.0) (vector_of k (λ r n. pos (high_bits gamma2 (f r n))))
+    → All (λ u. PolynomialInRange (pos 0) (pos (high_count gamma2 - 1)) u.0) (vector_of k (λ r n. pos (high_bits gamma2 (f r n))))
 high_values-range gamma2 k f set residues =
-    (vector_of-range k 0 (high_values gamma2 - 1) (λ r n. pos (high_bits gamma2 (f r n))) (λ r n h m.
+    (vector_of-range k 0 (high_count gamma2 - 1) (λ r n. pos (high_bits gamma2 (f r n))) (λ r n h m.
     let below = high_bits_below gamma2 (f r n) set (residues r n) in
     (omega (arith, ints), omega (arith, ints, below)))).range
 
 pub high-range : (gamma2 : ℤ) (k : ℕ) (w w1 : List R) → (gamma2 ≡ pos 95232) ⊎ (gamma2 ≡ pos 261888) → w1 ≡ vector_of k (λ r n. pos (high_bits (nat_abs gamma2) (vector_coefficients w r n)))
-    → All (λ u. PolynomialInRange (pos 0) (pos (high_values (nat_abs gamma2) - 1)) u.0) w1
-high-range gamma2 k w w1 set e = rw e (high_values-range (nat_abs gamma2) k (vector_coefficients w) (rounding-size gamma2 set) (λ r n. residue_below (entry w r n)))
+    → All (λ u. PolynomialInRange (pos 0) (pos (high_count (nat_abs gamma2) - 1)) u.0) w1
+high-range gamma2 k w w1 set e = rw e (high_values-range (nat_abs gamma2) k (vector_coefficients w) (rounding-size gamma2 set) (λ r n. residue_below (coefficient_of w r n)))
 
 -- ---- an attempt by its parts
 
 by_parts : (p : ParameterSet) (H : List ℕ → List ℕ) (a : List (List T)) (sk : PrivateParts) (mu rho'' : List ℕ) (kappa : ℕ) (y : List R) (w : ℕ → ℕ → ℕ) (w1 : List R) (c_tilde : List ℕ)
-    → y ≡ mask p.gamma1 H rho'' p.l kappa → Agree p.k w (matrix_product p.l a (vector_coefficients y)) → w1 ≡ high_vector p w → c_tilde ≡ commitment p H mu w1
+    → y ≡ mask p.gamma1 H rho'' p.l kappa → Agree p.k w (matrix_product p.l a (vector_coefficients y)) → w1 ≡ high_vector p w → c_tilde ≡ commitment_hash p H mu w1
     → attempt p H a sk mu rho'' kappa ≡ checked_attempt p sk y w c_tilde (challenge p.tau (H c_tilde))
 unfolding attempt
 by_parts p H a sk mu rho'' kappa y w w1 c_tilde masked product high committed =
     let product' : Agree p.k w (matrix_product p.l a (vector_coefficients (mask p.gamma1 H rho'' p.l kappa))) = rw masked at product in
-    let whole : c_tilde ≡ commitment p H mu (high_vector p (matrix_product p.l a (vector_coefficients (mask p.gamma1 H rho'' p.l kappa)))) =
-    committed ∙ ap (commitment p H mu) (high ∙ high_vector-agree p w (matrix_product p.l a (vector_coefficients (mask p.gamma1 H rho'' p.l kappa))) product') in
+    let whole : c_tilde ≡ commitment_hash p H mu (high_vector p (matrix_product p.l a (vector_coefficients (mask p.gamma1 H rho'' p.l kappa)))) =
+    committed ∙ ap (commitment_hash p H mu) (high ∙ high_vector-agree p w (matrix_product p.l a (vector_coefficients (mask p.gamma1 H rho'' p.l kappa))) product') in
     rw (masked, whole) (sym (checked_attempt-same p sk (mask p.gamma1 H rho'' p.l kappa) w (matrix_product p.l a (vector_coefficients (mask p.gamma1 H rho'' p.l kappa))) _ _ product'))
 
 -- an attempt is what the checks make of its mask, its product and its challenge
 pub attempt-is : (p : ParameterSet) (H : List ℕ → List ℕ) (a : List (List T)) (sk : PrivateParts) (mu rho'' : List ℕ) (kappa k l : ℕ) (y w w1 : List R) (c_tilde : List ℕ) → k ≡ p.k → l ≡ p.l
-    → y ≡ mask p.gamma1 H rho'' l kappa → IsProduct k l a y w → w1 ≡ vector_of k (λ r n. pos (high_bits p.gamma2 (vector_coefficients w r n))) → c_tilde ≡ commitment p H mu w1
+    → y ≡ mask p.gamma1 H rho'' l kappa → IsProduct k l a y w → w1 ≡ vector_of k (λ r n. pos (high_bits p.gamma2 (vector_coefficients w r n))) → c_tilde ≡ commitment_hash p H mu w1
     → attempt p H a sk mu rho'' kappa ≡ checked_attempt p sk y (vector_coefficients w) c_tilde (challenge p.tau (H c_tilde))
 attempt-is p H a sk mu rho'' kappa k l y w w1 c_tilde rows columns masked product high committed =
     let product' : IsProduct p.k p.l a y w = rw (rows, columns) at product in

@@ -8,7 +8,7 @@ use Rattle.fips204_base.specs.declared.types.T.{T}
 use Rattle.fips204_base.specs.Encodings.{PublicParts, w1_bytes}
 use Rattle.fips204_base.specs.Sampling.{challenge}
 use Rattle.fips204_base.proofs.EncodedParts.{same_signature}
-use Rattle.fips204.specs.ParameterSets.{ParameterSet, is_parameter_set, commitment_length}
+use Rattle.fips204.specs.ParameterSets.{ParameterSet, is_parameter_set, c_tilde_length}
 use Rattle.fips204.specs.Acceptance.{Opens, Verifies, w1_prime}
 use Rattle.fips204.specs.Framing.{Input, plain, hashed, framed_input, message_hash}
 use Rattle.fips204.specs.SchemeLaws.{Collide, Fixes, SignatureFixesOne, SignatureBindsMessage, SignatureBindsInput, SignatureBindsText, NamesKeyCollision, SignatureBindsKey, SignatureBindsKeyAndInput}
@@ -33,7 +33,7 @@ same_opened : (p : ParameterSet) (H : List ℕ → List ℕ) (a b : List (List T
     → a ≡ b → Opens p H a t1 signature c v → Opens p H b t1 signature d w → v ≡ w
 same_opened p H a b t1 signature c d v w row same x y =
     let gamma1 = (set_numbers p row).gamma1 in
-    let parts = same_signature p.gamma1 p.omega p.k p.l (commitment_length p) signature c d x.z y.z x.h y.h (omega (arith, gamma1)) (omega (arith, gamma1)) x.parts y.parts in
+    let parts = same_signature p.gamma1 p.omega p.k p.l (c_tilde_length p) signature c d x.z y.z x.h y.h (omega (arith, gamma1)) (omega (arith, gamma1)) x.parts y.parts in
     let challenges : Some x.c ≡ Some y.c = sym x.sampled ∙ ap (λ bytes. challenge p.tau (H bytes)) parts.0 ∙ y.sampled in
     let one : x.c ≡ y.c = cc in
     let z = parts.1 in
@@ -46,7 +46,7 @@ same_commitment : (p : ParameterSet) (H : List ℕ → List ℕ) (a b : List (Li
     → Opens p H a t signature c v → Opens p H b u signature d w → c ≡ d
 same_commitment p H a b t u signature c d v w row x y =
     let gamma1 = (set_numbers p row).gamma1 in
-    (same_signature p.gamma1 p.omega p.k p.l (commitment_length p) signature c d x.z y.z x.h y.h (omega (arith, gamma1)) (omega (arith, gamma1)) x.parts y.parts).0
+    (same_signature p.gamma1 p.omega p.k p.l (c_tilde_length p) signature c d x.z y.z x.h y.h (omega (arith, gamma1)) (omega (arith, gamma1)) x.parts y.parts).0
 
 pub signature_fixes_one : SignatureFixesOne
 signature_fixes_one p H G pk signature w1 other row x y =
@@ -60,7 +60,7 @@ fixed_by p H G pk mu signature v = record { a = v.a; matrix = v.matrix; c_tilde 
 -- the hash of mu and of nu, each with the w1 of its acceptance, is the c_tilde of the signature
 same_hash : (p : ParameterSet) (H G : List ℕ → List ℕ) (pk other : PublicParts) (mu nu signature : List ℕ) → IsTrue (is_parameter_set p)
     → (x : Verifies p H G pk mu signature) (y : Verifies p H G other nu signature)
-    → take (commitment_length p) (H (mu ++ x.accepted.w1)) ≡ take (commitment_length p) (H (nu ++ y.accepted.w1))
+    → take (c_tilde_length p) (H (mu ++ x.accepted.w1)) ≡ take (c_tilde_length p) (H (nu ++ y.accepted.w1))
 same_hash p H G pk other mu nu signature row x y =
     let one = same_commitment p H x.a y.a pk.t1 other.t1 signature x.accepted.c_tilde y.accepted.c_tilde x.accepted.w1 y.accepted.w1 row x.accepted.opened y.accepted.opened in
     sym x.accepted.same ∙ one ∙ y.accepted.same
@@ -74,7 +74,7 @@ signature_binds_message p H G pk m n signature row differ first second =
     let w1 = first.accepted.w1 in
     let own = fixed_by p H G pk mu signature first in
     let one = signature_fixes_one p H G pk signature w1 second.accepted.w1 row own (fixed_by p H G pk nu signature second) in
-    let hash = same_hash p H G pk pk mu nu signature row first second ∙ ap (λ v. take (commitment_length p) (H (nu ++ v))) (sym one) in
+    let hash = same_hash p H G pk pk mu nu signature row first second ∙ ap (λ v. take (c_tilde_length p) (H (nu ++ v))) (sym one) in
     record {
       w1 = w1;
       fixed = own;
@@ -110,7 +110,7 @@ signature_binds_key p H G bytes others pk other m n signature row long one two f
     let nu = message_hash H other.tr n in
     let v = first.accepted.w1 in
     let w = second.accepted.w1 in
-    let named = λ (collide : Collide H 64 bytes others ⊎ (Collide H 64 (pk.tr ++ m) (other.tr ++ n) ⊎ Collide H (commitment_length p) (mu ++ v) (nu ++ w))).
+    let named = λ (collide : Collide H 64 bytes others ⊎ (Collide H 64 (pk.tr ++ m) (other.tr ++ n) ⊎ Collide H (c_tilde_length p) (mu ++ v) (nu ++ w))).
     let all : NamesKeyCollision p H G bytes others pk other signature m n = record {
       w1 = v;
       fixed = fixed_by p H G pk mu signature first;

@@ -9,9 +9,9 @@ use Rattle.fips204_base.specs.Residues.{vector_norm}
 use Rattle.fips204_base.specs.Sampling.{challenge, mask, sampled_matrix}
 use Rattle.fips204_base.specs.Encodings.{PrivateParts, ArePrivateParts, signature_bytes, w1_bytes, all_ones}
 use Rattle.fips204_base.specs.Vectors.{vector_coefficients, matrix_product, IsVector}
-use Rattle.fips204.specs.ParameterSets.{ParameterSet, is_parameter_set, commitment_length}
+use Rattle.fips204.specs.ParameterSets.{ParameterSet, is_parameter_set, c_tilde_length}
 use Rattle.fips204.specs.Keys.{IsWhole, high_part, low_part}
-use Rattle.fips204.specs.Signing.{Attempt, limit, rejected, signed, response, low_vector, ct0, hint_vector, high_vector, passes_checks, commitment, checked_attempt, attempt, w_minus_cs2, first_answer, mask_seed, sign_with, sign_if_matrix, sign}
+use Rattle.fips204.specs.Signing.{Attempt, unsampled, rejected, signed, response, low_vector, ct0, hint_vector, high_vector, passes_checks, commitment_hash, checked_attempt, attempt, w_minus_cs2, first_answer, mask_seed, sign_with, sign_if_matrix, sign}
 use Rattle.fips204.proofs.ParameterSets.{and_out, AreSetNumbers, set_numbers}
 use Rattle.fips204.proofs.KeptHints.{IsKept, hinted_is_high}
 use Rattle.std.proofs.lemmas.List.{length-take-le}
@@ -25,7 +25,7 @@ use Rattle.fips204.specs.SigningInputs.{scaled, y_plus_cs1}
 
 signed_or_later : (this : Attempt) (later : List Attempt) (signature : List ℕ) → first_answer (this ∷ later) ≡ Ok signature → (this ≡ signed signature) ⊎ (first_answer later ≡ Ok signature)
 unfolding first_answer
-signed_or_later limit later signature e = absurd cc
+signed_or_later unsampled later signature e = absurd cc
 signed_or_later rejected later signature e = inr e
 signed_or_later (signed bytes) later signature e = let same : bytes ≡ signature = cc in inl (ap signed same)
 
@@ -72,7 +72,7 @@ signed_bytes x y e = cc
 not_signed : (x : List ℕ) → rejected ≡ signed x → ⊥
 not_signed x e = cc
 
-not_limit : (x : List ℕ) → limit ≡ signed x → ⊥
+not_limit : (x : List ℕ) → unsampled ≡ signed x → ⊥
 not_limit x e = cc
 
 judged_signed : (p : ParameterSet) (sk : PrivateParts) (y : List R) (w : ℕ → ℕ → ℕ) (c_tilde : List ℕ) (o : Option R) (signature : List ℕ) → checked_attempt p sk y w c_tilde o ≡ signed signature
@@ -94,8 +94,8 @@ judged_signed p sk y w c_tilde (Some c) signature e = elim (cases_Bool (passes_c
 -- the attempt that gave a signature: its mask, and what it says
 pub record WasSigned (p : ParameterSet) (H : List ℕ → List ℕ) (a : List (List T)) (sk : PrivateParts) (mu signature : List ℕ) : Type 0 where
   pub y : List R
-  pub gives : GivesSignature p sk y (matrix_product p.l a (vector_coefficients y)) (commitment p H mu (high_vector p (matrix_product p.l a (vector_coefficients y))))
-      (challenge p.tau (H (commitment p H mu (high_vector p (matrix_product p.l a (vector_coefficients y)))))) signature
+  pub gives : GivesSignature p sk y (matrix_product p.l a (vector_coefficients y)) (commitment_hash p H mu (high_vector p (matrix_product p.l a (vector_coefficients y))))
+      (challenge p.tau (H (commitment_hash p H mu (high_vector p (matrix_product p.l a (vector_coefficients y)))))) signature
 
 attempt_signed : (p : ParameterSet) (H : List ℕ → List ℕ) (a : List (List T)) (sk : PrivateParts) (mu seed signature : List ℕ) (kappa : ℕ) → attempt p H a sk mu seed kappa ≡ signed signature
     → WasSigned p H a sk mu signature
@@ -103,7 +103,7 @@ unfolding attempt
 attempt_signed p H a sk mu seed signature kappa e =
     let y = mask p.gamma1 H seed p.l kappa in
     let w = matrix_product p.l a (vector_coefficients y) in
-    let c_tilde = commitment p H mu (high_vector p w) in
+    let c_tilde = commitment_hash p H mu (high_vector p w) in
     record { y = y; gives = judged_signed p sk y w c_tilde (challenge p.tau (H c_tilde)) signature e }
 
 sign_with_signed : (p : ParameterSet) (H : List ℕ → List ℕ) (a : List (List T)) (sk : PrivateParts) (mu rnd signature : List ℕ) → sign_with p H a sk mu rnd ≡ Ok signature → WasSigned p H a sk mu signature
@@ -123,11 +123,11 @@ signed_by_attempt p H G sk mu rnd signature a there e =
 
 -- ---- the parts of the signature
 
-length-commitment : (p : ParameterSet) (H : List ℕ → List ℕ) (mu : List ℕ) (w1 : List R) → ((x : List ℕ) → 4096 ≤ length (H x)) → commitment_length p ≤ 64 → length (commitment p H mu w1) ≡ commitment_length p
-unfolding commitment
+length-commitment : (p : ParameterSet) (H : List ℕ → List ℕ) (mu : List ℕ) (w1 : List R) → ((x : List ℕ) → 4096 ≤ length (H x)) → c_tilde_length p ≤ 64 → length (commitment_hash p H mu w1) ≡ c_tilde_length p
+unfolding commitment_hash
 length-commitment p H mu w1 whole short =
     let long = whole (mu ++ w1_bytes p.gamma2 w1) in
-    length-take-le (commitment_length p) (H (mu ++ w1_bytes p.gamma2 w1)) (omega (arith, long, short))
+    length-take-le (c_tilde_length p) (H (mu ++ w1_bytes p.gamma2 w1)) (omega (arith, long, short))
 
 response_range : (p : ParameterSet) (sk : PrivateParts) (y : List R) (c : R) → vector_norm (response p sk y c) < p.gamma1 - p.beta → IsVector p.l (p.gamma1 - 1) p.gamma1 (response p sk y c)
 unfolding response
@@ -141,10 +141,10 @@ hint_range p sk w c = hint-range p.k p.gamma2 (w_minus_cs2 sk.s2 w c) (λ r. sca
 
 accepts : (p : ParameterSet) (H : List ℕ → List ℕ) (a : List (List T)) (sk : PrivateParts) (mu signature : List ℕ) → AreSetNumbers p → ArePrivateParts p.eta p.k p.l sk → sk.t0 ≡ low_part p a sk.s1 sk.s2
     → ((x : List ℕ) → 4096 ≤ length (H x)) → WasSigned p H a sk mu signature → Accepts p H a (high_part p a sk.s1 sk.s2) mu signature
-unfolding commitment
+unfolding commitment_hash
 accepts p H a sk mu signature numbers parts low whole was =
     let w = matrix_product p.l a (vector_coefficients was.y) in
-    let c_tilde = commitment p H mu (high_vector p w) in
+    let c_tilde = commitment_hash p H mu (high_vector p w) in
     let g = was.gives in
     record {
       c_tilde = c_tilde;
@@ -153,7 +153,7 @@ accepts p H a sk mu signature numbers parts low whole was =
         z = response p sk was.y g.c;
         h = hint_vector p sk w g.c;
         parts = record {
-          commitment = length-commitment p H mu (high_vector p w) whole numbers.short;
+          c_tilde_size = length-commitment p H mu (high_vector p w) whole numbers.short;
           response = response_range p sk was.y g.c g.tests.response_norm;
           hint = hint_range p sk w g.c;
           few = g.tests.few;

@@ -4,7 +4,7 @@ use Rattle.fips204_base.specs.declared.fault.Fault.{Fault}
 use Rattle.fips204_base.specs.declared.fault.Fault.TheVariants.{OidEmpty, OidNotDer, DigestTooLong, DigestLength, HashCtx}
 use Rattle.fips204.proofs.Spellings.{same_parts}
 use Rattle.fips204.specs.Framing.{differs, digest_length, pre_hash_fault, plain, hashed}
-use Rattle.fips204.specs.SigningInputs.{is_der}
+use Rattle.fips204.specs.SigningInputs.{has_oid_form}
 use Rattle.fips204.specs.SchemeLaws.{FramingIsOneToOne}
 use Rattle.fips204.proofs.ParameterSets.{and_out}
 use Rattle.fips204.proofs.RefusedCalls.{passed, short_context}
@@ -13,23 +13,23 @@ test_true : (b : Bool) (fault : Fault) (rest : Option Fault) → (if not b then 
 test_true true fault rest e = refl
 test_true false fault rest e = absurd (cc)
 
-der_of_none : (digest oid : List ℕ) → pre_hash_fault digest oid ≡ None → IsTrue (is_der oid)
+der_of_none : (digest oid : List ℕ) → pre_hash_fault digest oid ≡ None → IsTrue (has_oid_form oid)
 unfolding pre_hash_fault
 der_of_none digest oid e =
     let last = if nat_lt 1024 (length digest) then Some DigestTooLong else if differs (digest_length oid) (length digest) then Some DigestLength else None in
-    test_true (is_der oid) OidNotDer last (passed (nat_eq (length oid) 0) OidEmpty (if not (is_der oid) then Some OidNotDer else last) e).1
+    test_true (has_oid_form oid) OidNotDer last (passed (nat_eq (length oid) 0) OidEmpty (if not (has_oid_form oid) then Some OidNotDer else last) e).1
 
 -- ---- OIDs
 
 -- the second byte is the number of bytes after it
-second_byte : (x y : ℕ) (rest : List ℕ) → IsTrue (is_der (x ∷ y ∷ rest)) → y ≡ length rest
+second_byte : (x y : ℕ) (rest : List ℕ) → IsTrue (has_oid_form (x ∷ y ∷ rest)) → y ≡ length rest
 second_byte x y rest t =
     let oid = x ∷ y ∷ rest in
     let tests = and_out (nat_le 3 (length oid) && nat_eq x 0x06 && nat_lt y 128) (nat_eq (y + 2) (length oid)) t in
     let e = eqb-true (y + 2) (length oid) tests.1 in
     omega (arith, e)
 
-same_oid : (o p d e : List ℕ) → IsTrue (is_der o) → IsTrue (is_der p) → o ++ d ≡ p ++ e → (o ≡ p) × (d ≡ e)
+same_oid : (o p d e : List ℕ) → IsTrue (has_oid_form o) → IsTrue (has_oid_form p) → o ++ d ≡ p ++ e → (o ≡ p) × (d ≡ e)
 same_oid [] p d e s t same = absurd (true≢false (sym s))
 same_oid (w ∷ []) p d e s t same = absurd (true≢false (sym s))
 same_oid (w ∷ x ∷ o) [] d e s t same = absurd (true≢false (sym t))

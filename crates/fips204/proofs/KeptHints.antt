@@ -5,7 +5,7 @@ use Rattle.std.proofs.lemmas.Bool.{cases_lt, le-leb, lt-leb}
 use Rattle.fips204_base.specs.Network.{product_difference, plain_matrix, row_product}
 use Rattle.fips204_base.specs.declared.types.R.{R}
 use Rattle.fips204_base.specs.declared.types.T.{T}
-use Rattle.fips204_base.specs.Vectors.{entry, vector_coefficients, matrix_product, vector_of, IsVector}
+use Rattle.fips204_base.specs.Vectors.{coefficient_of, vector_coefficients, matrix_product, vector_of, IsVector}
 use Rattle.fips204_base.specs.Residues.{centred, vector_norm, IsCongruent, residue, coefficients}
 use Rattle.fips204_base.specs.Transforms.{product, plus, minus}
 use Rattle.fips204_base.specs.Rounding.{power2round, high_bits, low_bits, make_hint, use_hint}
@@ -131,7 +131,7 @@ near_small m (negsuc n) small = inr (omega (arith, ints, small))
 
 -- the coefficients of a vector from -m to m
 pub near_of_vector : (count m : ℕ) (v : List R) (r j : ℕ) → IsVector count m m v → r < count → j < 256 → Near m (vector_coefficients v r j)
-near_of_vector count m v r j is h below = near_small m (entry v r j) (vector-within count m m m v (omega arith) (omega arith) is r j h below)
+near_of_vector count m v r j is h below = near_small m (coefficient_of v r j) (vector-within count m m m v (omega arith) (omega arith) is r j h below)
 
 -- ---- one coefficient
 

@@ -13,7 +13,7 @@ use Rattle.fips204_base.proofs.Rounding.{power2round_high, power2round_low}
 use Rattle.fips204_base.proofs.Vectors.{vector_of-ext, vector_of-entry, vector_of-range}
 use Rattle.fips204_base.specs.Encodings.{PublicParts, PrivateParts}
 use Rattle.fips204.specs.Keys.{IsWhole, key_vector, high_part, low_part, key_pair, key_generation, public_key_of}
-use Rattle.fips204.specs.SigningInputs.{seeds, key_hash}
+use Rattle.fips204.specs.SigningInputs.{seed_front, key_hash}
 use Rattle.fips204.specs.ParameterSets.{ParameterSet}
 use Rattle.std.specs.Prelude.{ok_or, option_map, option_and_then}
 use Rattle.std.proofs.lemmas.List.{drop-take, take-take}
@@ -113,9 +113,9 @@ pub record AreSampled (p : ParameterSet) (H G : List ℕ → List ℕ) (k l : �
 
 -- the seeds
 pub record AreSeeds (p : ParameterSet) (H : List ℕ → List ℕ) (xi rho rho' key : List ℕ) : Type 0 where
-  pub matrix : rho ≡ take 32 (seeds p H xi)
-  pub vectors : rho' ≡ take 64 (drop 32 (seeds p H xi))
-  pub masks : key ≡ take 32 (drop 96 (seeds p H xi))
+  pub matrix : rho ≡ take 32 (seed_front p H xi)
+  pub vectors : rho' ≡ take 64 (drop 32 (seed_front p H xi))
+  pub masks : key ≡ take 32 (drop 96 (seed_front p H xi))
 
 -- n items of the first 128, from a place on
 part_of_front : (at n : ℕ) (front bytes part : List ℕ) → at + n ≤ 128 → bytes ≡ take 128 front → part ≡ take n (drop at bytes)
@@ -126,12 +126,12 @@ part_of_front at n front bytes part room first here =
     ∙ take-take n (n + (128 - at - n)) (drop at front) (omega arith)
 
 -- the seeds are parts of 128 bytes
-pub are_seeds : (p : ParameterSet) (H : List ℕ → List ℕ) (xi bytes rho rho' key : List ℕ) → bytes ≡ take 128 (seeds p H xi)
+pub are_seeds : (p : ParameterSet) (H : List ℕ → List ℕ) (xi bytes rho rho' key : List ℕ) → bytes ≡ take 128 (seed_front p H xi)
     → rho ≡ take 32 (drop 0 bytes) → rho' ≡ take 64 (drop 32 bytes) → key ≡ take 32 (drop 96 bytes) → AreSeeds p H xi rho rho' key
 are_seeds p H xi bytes rho rho' key e f g h = record {
-  matrix = part_of_front 0 32 (seeds p H xi) bytes rho (omega arith) e f;
-  vectors = part_of_front 32 64 (seeds p H xi) bytes rho' (omega arith) e g;
-  masks = part_of_front 96 32 (seeds p H xi) bytes key (omega arith) e h;
+  matrix = part_of_front 0 32 (seed_front p H xi) bytes rho (omega arith) e f;
+  vectors = part_of_front 32 64 (seed_front p H xi) bytes rho' (omega arith) e g;
+  masks = part_of_front 96 32 (seed_front p H xi) bytes key (omega arith) e h;
 }
 
 -- both keys where the matrix and the small vectors are there, or else none
@@ -149,10 +149,10 @@ if_all p H rho key (Some a) (Some s1) (Some s2) = refl
 
 -- key generation by what is sampled
 pub key_generation-is : (p : ParameterSet) (H G : List ℕ → List ℕ) (xi : List ℕ)
-    → key_generation p H G xi ≡ key_pair_if_all p H (take 32 (seeds p H xi)) (take 32 (drop 96 (seeds p H xi))) (sampled_matrix G (take 32 (seeds p H xi)) p.k p.l)
-    (small_vector p.eta H (take 64 (drop 32 (seeds p H xi))) 0 p.l) (small_vector p.eta H (take 64 (drop 32 (seeds p H xi))) p.l p.k)
+    → key_generation p H G xi ≡ key_pair_if_all p H (take 32 (seed_front p H xi)) (take 32 (drop 96 (seed_front p H xi))) (sampled_matrix G (take 32 (seed_front p H xi)) p.k p.l)
+    (small_vector p.eta H (take 64 (drop 32 (seed_front p H xi))) 0 p.l) (small_vector p.eta H (take 64 (drop 32 (seed_front p H xi))) p.l p.k)
 unfolding key_generation small_vectors small_vector
-key_generation-is p H G xi = if_all p H (take 32 (seeds p H xi)) (take 32 (drop 96 (seeds p H xi))) _ _ _
+key_generation-is p H G xi = if_all p H (take 32 (seed_front p H xi)) (take 32 (drop 96 (seed_front p H xi))) _ _ _
 
 generated-is : (p : ParameterSet) (H G : List ℕ → List ℕ) (xi rho rho' key : List ℕ) (k l : ℕ) (a : Option (List (List T))) (s1 s2 : Option (List R))
     → AreSeeds p H xi rho rho' key → AreSampled p H G k l rho rho' a s1 s2 → generated p H G xi ≡ ok_or (key_pair_if_all p H rho key a s1 s2) SamplingLimit

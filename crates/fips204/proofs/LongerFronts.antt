@@ -16,15 +16,15 @@ use Rattle.fips204_base.specs.Vectors.{vector_coefficients, matrix_product}
 use Rattle.fips204_base.specs.Encodings.{PublicParts, PrivateParts, w1_bytes, public_key_bytes, vector_bytes, IsSignature, hint_bytes}
 use Rattle.fips204_base.specs.Sampling.{sampled_matrix, challenge, mask}
 use Rattle.fips204_base.proofs.LongerFronts.{prefix-take, prefix-part, matrix_entry-longer, small_polynomial-longer, challenge-longer, sampled_matrix-longer, small_vector-longer, mask-longer}
-use Rattle.fips204.specs.ParameterSets.{ParameterSet, is_parameter_set, commitment_length}
+use Rattle.fips204.specs.ParameterSets.{ParameterSet, is_parameter_set, c_tilde_length}
 use Rattle.fips204.specs.Keys.{high_part, key_pair, key_generation, public_key_of}
 use Rattle.fips204.specs.SigningInputs.{key_hash}
 use Rattle.fips204.proofs.KeyGeneration.{key_pair_if_all, key_generation-is}
 use Rattle.fips204.specs.Framing.{Input, framed_input, message_hash}
-use Rattle.fips204.specs.Signing.{Attempt, limit, rejected, signed, commitment, high_vector, checked_attempt, attempt, first_answer, mask_seed, sign_with, sign_if_matrix, sign}
+use Rattle.fips204.specs.Signing.{Attempt, unsampled, rejected, signed, commitment_hash, high_vector, checked_attempt, attempt, first_answer, mask_seed, sign_with, sign_if_matrix, sign}
 use Rattle.fips204.specs.Acceptance.{Verifies}
 use Rattle.fips204.specs.Refusals.{refused_or, input_fault, AcceptsInput}
-use Rattle.fips204.specs.LongerFronts.{CounterFrontsArePrefixes, SamplesStay, Stays, AnswersStay, IsDecided, sampled, malformed, YesAndNoStay, AcceptanceStays, LongerFrontsKeep}
+use Rattle.fips204.specs.LongerFronts.{CounterFrontsArePrefixes, SamplesStay, Stays, AnswersStay, IsVerdictDecided, sampled, malformed, YesAndNoStay, AcceptanceStays, LongerFrontsKeep}
 use Rattle.fips204.proofs.ParameterSets.{set_numbers}
 
 -- a front has at least 4096 bytes
@@ -51,7 +51,7 @@ signature-first gamma1 omega' k l n bytes c_tilde z h s =
     let response = vector_bytes (gamma1 - 1) gamma1 z in
     let hint = hint_bytes omega' h in
     let same : (c_tilde ++ response) ++ hint ≡ bytes = s.encoding in
-    ap (take n) (sym same ∙ append_assoc c_tilde response hint) ∙ take_at c_tilde (response ++ hint) n s.commitment
+    ap (take n) (sym same ∙ append_assoc c_tilde response hint) ∙ take_at c_tilde (response ++ hint) n s.c_tilde_size
 
 -- from here on: the streams H and G, and H' and G' with longer fronts
 module _ (H G H' G' : List ℕ → List ℕ) (first : ArePrefixes H H') (second : ArePrefixes G G') (enough : AreLong H) where
@@ -106,35 +106,35 @@ module _ (H G H' G' : List ℕ → List ℕ) (first : ArePrefixes H H') (second 
 
   -- ---- signing
 
-  commitment-longer : (p : ParameterSet) (mu : List ℕ) (w1 : List R) → IsTrue (is_parameter_set p) → commitment p H' mu w1 ≡ commitment p H mu w1
-  unfolding commitment
-  commitment-longer p mu w1 t = hash-longer (commitment_length p) (mu ++ w1_bytes p.gamma2 w1) (omega (arith, (set_numbers p t).short))
+  commitment-longer : (p : ParameterSet) (mu : List ℕ) (w1 : List R) → IsTrue (is_parameter_set p) → commitment_hash p H' mu w1 ≡ commitment_hash p H mu w1
+  unfolding commitment_hash
+  commitment-longer p mu w1 t = hash-longer (c_tilde_length p) (mu ++ w1_bytes p.gamma2 w1) (omega (arith, (set_numbers p t).short))
 
   checked_stays : (p : ParameterSet) (sk : PrivateParts) (y : List R) (w : ℕ → ℕ → ℕ) (c_tilde : List ℕ) (c longer : Option R) → ((x : R) → c ≡ Some x → longer ≡ Some x)
-      → (checked_attempt p sk y w c_tilde c ≡ limit) ⊎ (checked_attempt p sk y w c_tilde longer ≡ checked_attempt p sk y w c_tilde c)
+      → (checked_attempt p sk y w c_tilde c ≡ unsampled) ⊎ (checked_attempt p sk y w c_tilde longer ≡ checked_attempt p sk y w c_tilde c)
   unfolding checked_attempt
   checked_stays p sk y w c_tilde None longer same = inl refl
   checked_stays p sk y w c_tilde (Some c) longer same = inr (ap (checked_attempt p sk y w c_tilde) (same c refl))
 
   attempt-longer : (p : ParameterSet) (a : List (List T)) (sk : PrivateParts) (mu rho : List ℕ) (kappa : ℕ) → IsTrue (is_parameter_set p)
-      → (attempt p H a sk mu rho kappa ≡ limit) ⊎ (attempt p H' a sk mu rho kappa ≡ attempt p H a sk mu rho kappa)
+      → (attempt p H a sk mu rho kappa ≡ unsampled) ⊎ (attempt p H' a sk mu rho kappa ≡ attempt p H a sk mu rho kappa)
   unfolding attempt
   attempt-longer p a sk mu rho kappa t =
       let y = mask p.gamma1 H rho p.l kappa in
       let w = matrix_product p.l a (vector_coefficients y) in
-      let c_tilde = commitment p H mu (high_vector p w) in
+      let c_tilde = commitment_hash p H mu (high_vector p w) in
       let masks : mask p.gamma1 H' rho p.l kappa ≡ mask p.gamma1 H rho p.l kappa = mask-longer p.gamma1 H H' rho p.l kappa (set_numbers p t).gamma1 first enough in
-      let committed : commitment p H' mu (high_vector p w) ≡ c_tilde = commitment-longer p mu (high_vector p w) t in
+      let committed : commitment_hash p H' mu (high_vector p w) ≡ c_tilde = commitment-longer p mu (high_vector p w) t in
       rw (masks, committed)
       (checked_stays p sk y w c_tilde (challenge p.tau (H c_tilde)) (challenge p.tau (H' c_tilde)) (λ c there. challenge-longer p.tau (H c_tilde) (H' c_tilde) c (first c_tilde) (enough c_tilde) there))
 
   next_stays : (x : Attempt) (later longer : List Attempt) → Stays (first_answer later) (first_answer longer) → Stays (first_answer (x ∷ later)) (first_answer (x ∷ longer))
   unfolding first_answer
-  next_stays limit later longer stays not = absurd (not refl)
+  next_stays unsampled later longer stays not = absurd (not refl)
   next_stays rejected later longer stays not = stays not
   next_stays (signed signature) later longer stays not = refl
 
-  first_stays : (f g : ℕ → Attempt) (ns : List ℕ) → ((n : ℕ) → (f n ≡ limit) ⊎ (g n ≡ f n)) → Stays (first_answer (map f ns)) (first_answer (map g ns))
+  first_stays : (f g : ℕ → Attempt) (ns : List ℕ) → ((n : ℕ) → (f n ≡ unsampled) ⊎ (g n ≡ f n)) → Stays (first_answer (map f ns)) (first_answer (map g ns))
   unfolding first_answer
   first_stays f g [] each not = refl
   first_stays f g (n ∷ ns) each not = elim (each n) [
@@ -205,11 +205,11 @@ module _ (H G H' G' : List ℕ → List ℕ) (first : ArePrefixes H H') (second 
             sampled = challenge-longer p.tau (H accepted.c_tilde) (H' accepted.c_tilde) opened.c (first accepted.c_tilde) (enough accepted.c_tilde) opened.sampled;
             recomputed = opened.recomputed;
           };
-          same = accepted.same ∙ sym (hash-longer (commitment_length p) (mu ++ accepted.w1) (omega (arith, (set_numbers p t).short)));
+          same = accepted.same ∙ sym (hash-longer (c_tilde_length p) (mu ++ accepted.w1) (omega (arith, (set_numbers p t).short)));
         };
       }
 
-  verifies-shorter : (p : ParameterSet) (pk : PublicParts) (mu signature : List ℕ) → IsTrue (is_parameter_set p) → IsDecided p H G pk signature
+  verifies-shorter : (p : ParameterSet) (pk : PublicParts) (mu signature : List ℕ) → IsTrue (is_parameter_set p) → IsVerdictDecided p H G pk signature
       → Verifies p H' G' pk mu signature → Verifies p H G pk mu signature
   verifies-shorter p pk mu signature t (malformed none) v =
       let opened = v.accepted.opened in
@@ -218,7 +218,7 @@ module _ (H G H' G' : List ℕ → List ℕ) (first : ArePrefixes H H') (second 
       let accepted = v.accepted in
       let opened = accepted.opened in
       let matrices : Some a ≡ Some v.a = sym (sampled_matrix-longer G G' pk.rho p.k p.l a second matrix) ∙ v.matrix in
-      let c_tilde : take (commitment_length p) signature ≡ accepted.c_tilde = signature-first p.gamma1 p.omega p.k p.l (commitment_length p) signature accepted.c_tilde opened.z opened.h opened.parts in
+      let c_tilde : take (c_tilde_length p) signature ≡ accepted.c_tilde = signature-first p.gamma1 p.omega p.k p.l (c_tilde_length p) signature accepted.c_tilde opened.z opened.h opened.parts in
       let here : challenge p.tau (H accepted.c_tilde) ≡ Some c = ap (λ l. challenge p.tau (H l)) (sym c_tilde) ∙ there in
       let longer = challenge-longer p.tau (H accepted.c_tilde) (H' accepted.c_tilde) c (first accepted.c_tilde) (enough accepted.c_tilde) here in
       let challenges : Some c ≡ Some opened.c = sym longer ∙ opened.sampled in
@@ -237,25 +237,25 @@ module _ (H G H' G' : List ℕ → List ℕ) (first : ArePrefixes H H') (second 
             sampled = here ∙ challenges;
             recomputed = opened.recomputed;
           };
-          same = accepted.same ∙ hash-longer (commitment_length p) (mu ++ accepted.w1) (omega (arith, (set_numbers p t).short));
+          same = accepted.same ∙ hash-longer (c_tilde_length p) (mu ++ accepted.w1) (omega (arith, (set_numbers p t).short));
         };
       }
 
   verdict_stays : (p : ParameterSet) (pk : PublicParts) (mu signature : List ℕ) → IsTrue (is_parameter_set p)
-      → YesAndNoStay (IsDecided p H G pk signature) (Verifies p H G pk mu signature) (Verifies p H' G' pk mu signature)
+      → YesAndNoStay (IsVerdictDecided p H G pk signature) (Verifies p H G pk mu signature) (Verifies p H' G' pk mu signature)
   verdict_stays p pk mu signature t = record {
     yes_stays = verifies-longer p pk mu signature t;
     no_stays = λ decided. (verifies-longer p pk mu signature t, verifies-shorter p pk mu signature t decided);
   }
 
   framed_stays : (p : ParameterSet) (pk : PublicParts) (m signature : List ℕ) → IsTrue (is_parameter_set p)
-      → YesAndNoStay (IsDecided p H G pk signature) (Verifies p H G pk (message_hash H pk.tr m) signature) (Verifies p H' G' pk (message_hash H' pk.tr m) signature)
+      → YesAndNoStay (IsVerdictDecided p H G pk signature) (Verifies p H G pk (message_hash H pk.tr m) signature) (Verifies p H' G' pk (message_hash H' pk.tr m) signature)
   framed_stays p pk m signature t =
       let mu : message_hash H' pk.tr m ≡ message_hash H pk.tr m = hash-longer 64 (pk.tr ++ m) (omega arith) in
       rw mu (verdict_stays p pk (message_hash H pk.tr m) signature t)
 
   input_stays : (p : ParameterSet) (pk : PublicParts) (signature : List ℕ) (input : Input) → IsTrue (is_parameter_set p)
-      → YesAndNoStay (IsDecided p H G pk signature ⊎ (input_fault input ≢ None))
+      → YesAndNoStay (IsVerdictDecided p H G pk signature ⊎ (input_fault input ≢ None))
       (AcceptsInput H pk.tr (λ mu. Verifies p H G pk mu signature) input) (AcceptsInput H' pk.tr (λ mu. Verifies p H' G' pk mu signature) input)
   input_stays p pk signature input t =
       let stays = framed_stays p pk (framed_input input) signature t in

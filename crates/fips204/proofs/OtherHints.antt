@@ -10,9 +10,9 @@ use Rattle.fips204_base.specs.declared.types.R.{R}
 use Rattle.fips204_base.specs.declared.types.T.{T}
 use Rattle.fips204_base.specs.Encodings.{is_one, vector_bytes, hint_bytes, signature_bytes, w1_bytes, IsSignature}
 use Rattle.fips204_base.specs.Packing.{width}
-use Rattle.fips204_base.specs.Rounding.{use_hint, high_bits, low_bits, high_values}
+use Rattle.fips204_base.specs.Rounding.{use_hint, high_bits, low_bits, high_count}
 use Rattle.fips204_base.specs.Sampling.{challenge}
-use Rattle.fips204_base.specs.Vectors.{entry, IsVector}
+use Rattle.fips204_base.specs.Vectors.{coefficient_of, IsVector}
 use Rattle.fips204_base.proofs.Bits.{cut}
 use Rattle.fips204_base.proofs.EncodedParts.{same_vector}
 use Rattle.fips204_base.proofs.Rounding.{high_bits_below}
@@ -21,7 +21,7 @@ use Rattle.fips204_base.proofs.Vectors.{vector_of-entry, vector_of-same, vector_
 use Rattle.std.proofs.lemmas.List.{append_cancel_left}
 use Rattle.fips204.specs.Acceptance.{w1_prime, hinted}
 use Rattle.fips204.specs.SigningInputs.{t1_shifted}
-use Rattle.fips204.specs.ParameterSets.{ParameterSet, commitment_length}
+use Rattle.fips204.specs.ParameterSets.{ParameterSet, c_tilde_length}
 use Rattle.fips204.specs.SchemeLaws.{OtherHintCollides}
 use Rattle.fips204.proofs.Binding.{fixed_by}
 use Rattle.fips204.proofs.ParameterSets.{set_numbers}
@@ -35,8 +35,8 @@ at_44 v h = (λ e. omega (arith, h, e), λ e. omega (arith, h, e))
 at_16 : (v : ℕ) → v < 16 → ((v + 1) % 16 ≡ v → ⊥) × ((v + 15) % 16 ≡ v → ⊥)
 at_16 v h = (λ e. omega (arith, h, e), λ e. omega (arith, h, e))
 
-moves : (g v : ℕ) → (g ≡ 95232) ⊎ (g ≡ 261888) → v < high_values g
-    → ((v + 1) % high_values g ≡ v → ⊥) × ((v + (high_values g - 1)) % high_values g ≡ v → ⊥)
+moves : (g v : ℕ) → (g ≡ 95232) ⊎ (g ≡ 261888) → v < high_count g
+    → ((v + 1) % high_count g ≡ v → ⊥) × ((v + (high_count g - 1)) % high_count g ≡ v → ⊥)
 moves g v (inl e) = rw e (at_44 v)
 moves g v (inr e) = rw e (at_16 v)
 
@@ -71,16 +71,16 @@ same_hint : (k : ℕ) (h g : List R) → IsVector k 0 1 h → IsVector k 0 1 g
 unfolding is_one
 same_hint k h g one two tells =
     let empty : R = record { 0 = [] } in
-    let at = λ (v : List R) (is : IsVector k 0 1 v) (same : (r n : ℕ) → r < k → n < 256 → entry v r n ≡ entry g r n).
-    vector_of-same k (entry g) v is.rows (λ r i. is.places r empty (omega (arith, i, is.rows))) same in
-    let left = at h one (λ r n i l. bit_same (entry h r n) (entry g r n) (hint-bit k h r n one i l) (hint-bit k g r n two i l) (tells r n i l)) in
+    let at = λ (v : List R) (is : IsVector k 0 1 v) (same : (r n : ℕ) → r < k → n < 256 → coefficient_of v r n ≡ coefficient_of g r n).
+    vector_of-same k (coefficient_of g) v is.rows (λ r i. is.places r empty (omega (arith, i, is.rows))) same in
+    let left = at h one (λ r n i l. bit_same (coefficient_of h r n) (coefficient_of g r n) (hint-bit k h r n one i l) (hint-bit k g r n two i l) (tells r n i l)) in
     left ∙ sym (at g two (λ r n i l. refl))
 
 hinted_tells : (p : ParameterSet) (h g : List R) (w : ℕ → ℕ → ℕ) → (p.gamma2 ≡ 95232) ⊎ (p.gamma2 ≡ 261888) → ((r n : ℕ) → w r n < 8380417)
     → IsVector p.k 0 1 h → IsVector p.k 0 1 g → hinted p h w ≡ hinted p g w → h ≡ g
 unfolding used
 hinted_tells p h g w set below one two same = same_hint p.k h g one two (λ r n i l.
-    let values : used p h w r n ≡ used p g w r n = sym (vector_of-entry p.k (used p h w) r n i l) ∙ ap (λ v. entry v r n) same ∙ vector_of-entry p.k (used p g w) r n i l in
+    let values : used p h w r n ≡ used p g w r n = sym (vector_of-entry p.k (used p h w) r n i l) ∙ ap (λ v. coefficient_of v r n) same ∙ vector_of-entry p.k (used p g w) r n i l in
     let numbers = ap nat_of values in
     hint_tells p.gamma2 (w r n) _ _ set (below r n) numbers)
   where
@@ -90,12 +90,12 @@ hinted_tells p h g w set below one two same = same_hint p.k h g one two (λ r n 
 
 -- w1' has coefficients below the number of high bits
 w1-vector : (p : ParameterSet) (h : List R) (w : ℕ → ℕ → ℕ) → (p.gamma2 ≡ 95232) ⊎ (p.gamma2 ≡ 261888) → ((r n : ℕ) → w r n < 8380417)
-    → IsVector p.k 0 (high_values p.gamma2 - 1) (hinted p h w)
-w1-vector p h w set below = vector_of-range p.k 0 (high_values p.gamma2 - 1) (λ r n. pos (use_hint p.gamma2 (is_one (get_or h r record { 0 = [] }) n) (w r n))) (λ r n i l.
+    → IsVector p.k 0 (high_count p.gamma2 - 1) (hinted p h w)
+w1-vector p h w set below = vector_of-range p.k 0 (high_count p.gamma2 - 1) (λ r n. pos (use_hint p.gamma2 (is_one (get_or h r record { 0 = [] }) n) (w r n))) (λ r n i l.
     let small = use_hint-below p.gamma2 (w r n) (is_one (get_or h r record { 0 = [] }) n) set (below r n) in
     (omega (arith, ints), omega (arith, ints, small)))
 
-w1_bounds : (g : ℕ) → (g ≡ 95232) ⊎ (g ≡ 261888) → (0 ≤ 1048575) × (1 ≤ high_values g - 1) × (high_values g - 1 ≤ 1048575)
+w1_bounds : (g : ℕ) → (g ≡ 95232) ⊎ (g ≡ 261888) → (0 ≤ 1048575) × (1 ≤ high_count g - 1) × (high_count g - 1 ≤ 1048575)
 w1_bounds g (inl e) = rw e (omega arith, omega arith, omega arith)
 w1_bounds g (inr e) = rw e (omega arith, omega arith, omega arith)
 
@@ -108,7 +108,7 @@ w1_tells p a t1 z h g c set one two same =
     let v = w1-vector p h w set below in
     let u = w1-vector p g w set below in
     hinted_tells p h g w set below one two
-    (same_vector p.k p.k 0 (high_values p.gamma2 - 1) (hinted p h w) (hinted p g w) (w1_bounds p.gamma2 set) (v.rows ∙ sym u.rows) v u same)
+    (same_vector p.k p.k 0 (high_count p.gamma2 - 1) (hinted p h w) (hinted p g w) (w1_bounds p.gamma2 set) (v.rows ∙ sym u.rows) v u same)
 
 -- ---- the bytes before the hint
 
@@ -117,7 +117,7 @@ before_hint : (gamma1 omega' k l n : ℕ) (bytes c : List ℕ) (z h : List R) �
 before_hint gamma1 omega' k l n bytes c z h s =
     let response = vector_bytes (gamma1 - 1) gamma1 z in
     let size = vector-length l (gamma1 - 1) gamma1 z s.response in
-    let whole : length (c ++ response) ≡ n + 32 * width (pos (gamma1 - 1)) (pos gamma1) * l = length-append c response ∙ omega (arith, size, s.commitment) in
+    let whole : length (c ++ response) ≡ n + 32 * width (pos (gamma1 - 1)) (pos gamma1) * l = length-append c response ∙ omega (arith, size, s.c_tilde_size) in
     ap (take (n + 32 * width (pos (gamma1 - 1)) (pos gamma1) * l)) (sym s.encoding) ∙ take_at (c ++ response) (hint_bytes omega' h) _ whole
 
 -- ---- the law
@@ -127,12 +127,12 @@ other_hint_collides p H G pk mu first second row differ alike one two =
     let numbers = set_numbers p row in
     let x = one.accepted.opened in
     let y = two.accepted.opened in
-    let n = commitment_length p in
+    let n = c_tilde_length p in
     let c = one.accepted.c_tilde in
     let d = two.accepted.c_tilde in
     let low = numbers.gamma1 in
     let joined = sym (before_hint p.gamma1 p.omega p.k p.l n first c x.z x.h x.parts) ∙ alike ∙ before_hint p.gamma1 p.omega p.k p.l n second d y.z y.h y.parts in
-    let parts = cut c d (vector_bytes (p.gamma1 - 1) p.gamma1 x.z) (vector_bytes (p.gamma1 - 1) p.gamma1 y.z) n x.parts.commitment y.parts.commitment joined in
+    let parts = cut c d (vector_bytes (p.gamma1 - 1) p.gamma1 x.z) (vector_bytes (p.gamma1 - 1) p.gamma1 y.z) n x.parts.c_tilde_size y.parts.c_tilde_size joined in
     let z : x.z ≡ y.z = same_vector p.l p.l (p.gamma1 - 1) p.gamma1 x.z y.z (omega (arith, low), omega (arith, low), omega (arith, low)) (x.parts.response.rows ∙ sym y.parts.response.rows) x.parts.response y.parts.response parts.1 in
     let challenges : Some x.c ≡ Some y.c = sym x.sampled ∙ ap (λ bytes. challenge p.tau (H bytes)) parts.0 ∙ y.sampled in
     let ball : x.c ≡ y.c = cc in

@@ -2,14 +2,14 @@
 use Rattle.std.proofs.Common.{rules, subst, ◌≡◌, ◌⊎◌, inl, inr, ℕ, ℤ, pos, negsuc, nat_abs, Bool, true, false, ◌&&◌, ◌||◌, IsTrue, refl, ap, sym, true≢false, eqb-true, ◌≤◌, ◌*◌, arith, ◌<◌, ◌+◌, ◌-◌, ◌/◌, ◌-ℤ◌, ◌≤ℤ◌, List, ◌∙◌, Some}
 use Rattle.std.specs.Prelude.{int_le, nat_eq, if◌then◌else◌}
 use Rattle.fips204.specs.declared.types.Params.{Params}
-use Rattle.fips204.specs.ParameterSets.{ParameterSet, set_44, set_65, set_87, same_parameters, is_parameter_set, parameter_set, are_parameters, commitment_length}
+use Rattle.fips204.specs.ParameterSets.{ParameterSet, set_44, set_65, set_87, same_parameters, is_parameter_set, parameter_set, are_parameters, c_tilde_length}
 use Rattle.fips204_base.specs.Encodings.{PrivateParts, ArePrivateParts}
 use Rattle.fips204_base.proofs.RoundingLaws.{IsGamma}
 use Rattle.fips204.specs.Sets.{set_of}
 use Rattle.std.proofs.lemmas.Int.{ints}
 use Rattle.std.proofs.lemmas.Nat.{mul-le}
 use Rattle.fips204_base.specs.Packing.{width, bit_length}
-use Rattle.fips204_base.specs.Rounding.{high_values}
+use Rattle.fips204_base.specs.Rounding.{high_count}
 use Rattle.fips204_base.proofs.EncodedParts.{response_width, eta_width}
 use Rattle.fips204_base.specs.declared.types.R.{R}
 use Rattle.fips204_base.specs.Network.{small_vector}
@@ -125,7 +125,7 @@ pub record AreSetNumbers (p : ParameterSet) : Type 0 where
   pub gamma2 : IsGamma p.gamma2
   pub eta : p.eta ≡ eta_of_rows p.k
   pub small : (p.eta ≡ 2) ⊎ (p.eta ≡ 4)
-  pub short : commitment_length p ≤ 64
+  pub short : c_tilde_length p ≤ 64
   pub signs : (1 ≤ p.tau) × (p.tau ≤ 64)
   pub rows : (1 ≤ p.k) × (p.k ≤ 8)
   pub columns : (1 ≤ p.l) × (p.l ≤ 7)
@@ -219,12 +219,12 @@ known-set p t = elim (rows p.tau p.lambda p.gamma1 p.gamma2 p.k p.l p.eta p.beta
 
 -- ---- the bytes of a high part
 
-size_few : (gamma2 bound : ℤ) (k n : ℕ) → gamma2 ≡ bound → k ≡ n → 32 * width (pos 0) (pos (high_values (nat_abs bound) - 1)) * n ≤ 1024
-    → 32 * width (pos 0) (pos (high_values (nat_abs gamma2) - 1)) * k ≤ 1024
+size_few : (gamma2 bound : ℤ) (k n : ℕ) → gamma2 ≡ bound → k ≡ n → 32 * width (pos 0) (pos (high_count (nat_abs bound) - 1)) * n ≤ 1024
+    → 32 * width (pos 0) (pos (high_count (nat_abs gamma2) - 1)) * k ≤ 1024
 size_few gamma2 bound k n e f few = rw (e, f) few
 
 -- they are at most 1024
-pub high_part-few : (p : Params) → IsKnown p → 32 * width (pos 0) (pos (high_values (nat_abs p.gamma2) - 1)) * p.k ≤ 1024
+pub high_part-few : (p : Params) → IsKnown p → 32 * width (pos 0) (pos (high_count (nat_abs p.gamma2) - 1)) * p.k ≤ 1024
 unfolding bit_length
 high_part-few p t = elim (rows p.tau p.lambda p.gamma1 p.gamma2 p.k p.l p.eta p.beta p.omega t) [
   | inl n ↦ size_few p.gamma2 (pos 95232) p.k 4 n.gamma2_is n.k_is (omega arith)

@@ -17,7 +17,7 @@ use Rattle.std.proofs.lemmas.Bool.{cases_Bool, cases_lt, eqb-true, lt-ltb, le-lt
 use Rattle.std.proofs.lemmas.Int.{ints}
 use Rattle.std.proofs.lemmas.Option.{none-some}
 use Rattle.fips204_base.specs.Packing.{bits}
-use Rattle.fips204_base.specs.Vectors.{coefficient_at, entry, polynomial_of, vector_of}
+use Rattle.fips204_base.specs.Vectors.{coefficient_at, coefficient_of, polynomial_of, vector_of}
 use Rattle.fips204_base.specs.Sampling.{signed_sum, challenge}
 use Rattle.fips204_base.proofs.Challenges.{challenge_places, challenge_places-apart, length-challenge_places, sum-elsewhere}
 use Rattle.fips204_base.proofs.Vectors.{polynomial_of-at, vector_of-same}
@@ -35,7 +35,7 @@ whole_rows k v typed = each_whole v typed.1.0 typed.1.1.1
 
 -- a vector that a call gave, by its coefficients
 pub whole_vector : (k : ℕ) (f : ℕ → ℕ → ℤ) (v : List R) → length v ≡ k → (words : List Val) × shadow (in_array the_row.Denot the_row.own_val k v words)
-    → ((r n : ℕ) → r < k → n < 256 → entry v r n ≡ f r n) → v ≡ vector_of k f
+    → ((r n : ℕ) → r < k → n < 256 → coefficient_of v r n ≡ f r n) → v ≡ vector_of k f
 whole_vector k f v rows typed at = vector_of-same k f v rows (λ r h. whole_rows k v typed r record { 0 = [] } (omega (arith, h, rows))) at
 
 -- The range of a challenge: ones, minus ones and zeros.

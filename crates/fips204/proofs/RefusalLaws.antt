@@ -8,7 +8,7 @@ use Rattle.fips204_base.specs.declared.types.T.{T}
 use Rattle.fips204_base.specs.Sampling.{sampled_matrix}
 use Rattle.fips204.specs.ParameterSets.{ParameterSet}
 use Rattle.fips204_base.specs.Encodings.{PrivateParts}
-use Rattle.fips204.specs.Signing.{Attempt, limit, rejected, signed, attempt, first_answer, mask_seed, sign_with, sign_if_matrix, sign}
+use Rattle.fips204.specs.Signing.{Attempt, unsampled, rejected, signed, attempt, first_answer, mask_seed, sign_with, sign_if_matrix, sign}
 use Rattle.fips204.specs.Framing.{Input, plain, framed_input, message_hash}
 use Rattle.fips204.specs.RefusalLaws.{RefusesOnly}
 use Rattle.fips204.specs.Refusals.{refused_or, input_fault, sign_input, OnlySamplingLimit, IsSigningLimit}
@@ -22,7 +22,7 @@ limited (Some x) = search rules
 first_refuses : (attempts : List Attempt) → IfErr (first_answer attempts) (λ fault. IsSigningLimit fault)
 unfolding first_answer
 first_refuses [] = inr refl
-first_refuses (limit ∷ later) = inl refl
+first_refuses (unsampled ∷ later) = inl refl
 first_refuses (rejected ∷ later) = first_refuses later
 first_refuses (signed signature ∷ later) = search rules
 

@@ -7,7 +7,7 @@ use Rattle.std.proofs.lemmas.Int.{ints}
 use Rattle.fips204_base.specs.declared.types.R.{R}
 use Rattle.fips204_base.specs.Residues.{centred, vector_norm, residue, coefficients}
 use Rattle.fips204_base.specs.Packing.{PolynomialInRange, width}
-use Rattle.fips204_base.specs.Vectors.{entry, vector_of, IsVector, vector_coefficients, AreSameModQ}
+use Rattle.fips204_base.specs.Vectors.{coefficient_of, vector_of, IsVector, vector_coefficients, AreSameModQ}
 use Rattle.fips204_base.specs.Transforms.{product, plus, minus}
 use Rattle.fips204_base.specs.Rounding.{low_bits, make_hint}
 use Rattle.fips204_base.proofs.Reductions.{centred_is}
@@ -19,7 +19,7 @@ use Rattle.fips204_base.proofs.Vectors.{vector_of-ext, vector_of-range}
 use Rattle.fips204_base.specs.Encodings.{PrivateParts, signature_bytes, all_ones}
 use Rattle.fips204.specs.declared.types.Params.{Params}
 use Rattle.fips204.specs.Signing.{response, low_vector, ct0, hint_bit, hint_vector, passes_checks, checked_attempt, w_minus_cs2}
-use Rattle.fips204.specs.ParameterSets.{ParameterSet, commitment_length, signature_length}
+use Rattle.fips204.specs.ParameterSets.{ParameterSet, c_tilde_length, signature_length}
 use Rattle.fips204.specs.Sets.{set_of}
 use Rattle.fips204.specs.SigningInputs.{attempt_answer, scaled, y_plus_cs1}
 use Rattle.fips204.proofs.ChallengeProducts.{norm_of_place}
@@ -157,7 +157,7 @@ kept p sk y w c_tilde c e f h few = signed p sk y w c_tilde c (and-fourth _ _ _ 
 -- a product that is written from what is the same modulo q
 pub product-written : (c d : R) (product out v w : List R) (k : ℕ) → k ≤ 8 → ((j : ℕ) → j < 256 → coefficients c.0 j ≡ coefficients d.0 j) → AreSameModQ k v w
     → ((r n : ℕ) → r < 8 → n < 256 → vector_coefficients product r n ≡ scaled c (vector_coefficients v) r n)
-    → ((r n : ℕ) → r < k → n < 256 → entry out r n ≡ pos (vector_coefficients product r n)) → (r n : ℕ) → r < k → n < 256 → entry out r n ≡ pos (scaled d (vector_coefficients w) r n)
+    → ((r n : ℕ) → r < k → n < 256 → coefficient_of out r n ≡ pos (vector_coefficients product r n)) → (r n : ℕ) → r < k → n < 256 → coefficient_of out r n ≡ pos (scaled d (vector_coefficients w) r n)
 product-written c d product out v w k few e f made written r n h l =
     written r n h l ∙ ap pos (made r n (omega (arith, h, few)) l ∙ multiple-same c d v w k r n e f h l)
 
@@ -168,13 +168,13 @@ product-whole c d product out v w k few e f made whole =
     whole ∙ vector_of-ext k (λ r n. pos (vector_coefficients product r n)) (λ r n. pos (scaled d (vector_coefficients w) r n))
     (λ r n h l. ap pos (made r n (omega (arith, h, few)) l ∙ multiple-same c d v w k r n e f h l))
 
-pub sum-is : (s1 y z out : List R) (c : R) (k : ℕ) → ((r n : ℕ) → r < k → n < 256 → entry out r n ≡ pos (scaled c (vector_coefficients s1) r n))
+pub sum-is : (s1 y z out : List R) (c : R) (k : ℕ) → ((r n : ℕ) → r < k → n < 256 → coefficient_of out r n ≡ pos (scaled c (vector_coefficients s1) r n))
     → z ≡ vector_of k (λ r n. centred (pos (plus (vector_coefficients y r) (vector_coefficients out r) n))) → z ≡ vector_of k (λ r n. centred (pos (y_plus_cs1 s1 y c r n)))
 sum-is s1 y z out c k values e =
     e ∙ vector_of-ext k (λ r n. centred (pos (plus (vector_coefficients y r) (vector_coefficients out r) n))) (λ r n. centred (pos (y_plus_cs1 s1 y c r n)))
     (λ r n h l. ap (λ (x : ℕ). centred (pos ((vector_coefficients y r n + x) % 8380417))) (product-own _ _ n _ (values r n h l)))
 
-pub difference-is : (s2 v out : List R) (w : ℕ → ℕ → ℕ) (c : R) (k : ℕ) → ((r n : ℕ) → r < k → n < 256 → entry out r n ≡ pos (scaled c (vector_coefficients s2) r n))
+pub difference-is : (s2 v out : List R) (w : ℕ → ℕ → ℕ) (c : R) (k : ℕ) → ((r n : ℕ) → r < k → n < 256 → coefficient_of out r n ≡ pos (scaled c (vector_coefficients s2) r n))
     → ((r n : ℕ) → r < k → n < 256 → vector_coefficients v r n ≡ minus (w r) (vector_coefficients out r) n) → (r n : ℕ) → r < k → n < 256 → vector_coefficients v r n ≡ w_minus_cs2 s2 w c r n
 difference-is s2 v out w c k values e r n h l = e r n h l ∙ ap (λ (x : ℕ). (w r n + 8380416 * x) % 8380417) (product-own _ _ n _ (values r n h l))
 
@@ -197,7 +197,7 @@ ct0-is p sk c v k size e = e ∙ rw size refl
 
 pub hint-is : (p : ParameterSet) (sk : PrivateParts) (w : ℕ → ℕ → ℕ) (c : R) (v t h : List R) (k : ℕ) → k ≡ p.k
     → ((r n : ℕ) → r < k → n < 256 → vector_coefficients v r n ≡ w_minus_cs2 sk.s2 w c r n)
-    → ((r n : ℕ) → r < k → n < 256 → entry t r n ≡ pos (scaled c (vector_coefficients sk.t0) r n))
+    → ((r n : ℕ) → r < k → n < 256 → coefficient_of t r n ≡ pos (scaled c (vector_coefficients sk.t0) r n))
     → h ≡ vector_of k (λ r n. hint_bit p.gamma2 (vector_coefficients v r n) (vector_coefficients t r n)) → h ≡ hint_vector p sk w c
 unfolding hint_vector
 hint-is p sk w c v t h k size e f is =
@@ -238,7 +238,7 @@ hint-range k g v t = vector_of-range k 0 1 (λ r n. hint_bit g (v r n) (t r n)) 
     bit_range (make_hint g (8380416 * t r n % 8380417) ((v r n + t r n) % 8380417)))
 
 -- how long a signature is
-pub signature_size : (p : Params) (k l n size : ℕ) → (p.gamma1 ≡ pos 131072) ⊎ (p.gamma1 ≡ pos 524288) → k ≡ p.k → l ≡ p.l → n ≡ commitment_length (set_of p) → size ≡ signature_length (set_of p)
+pub signature_size : (p : Params) (k l n size : ℕ) → (p.gamma1 ≡ pos 131072) ⊎ (p.gamma1 ≡ pos 524288) → k ≡ p.k → l ≡ p.l → n ≡ c_tilde_length (set_of p) → size ≡ signature_length (set_of p)
     → size ≡ n + 32 * width (p.gamma1 -ℤ pos 1) p.gamma1 * l + (nat_abs p.omega + k)
 signature_size p k l n size set rows_is columns_is commitment_is is =
     let fields : width (pos (nat_abs p.gamma1 - 1)) (pos (nat_abs p.gamma1)) ≡ width (p.gamma1 -ℤ pos 1) p.gamma1 = elim set [

@@ -2,7 +2,7 @@
 use Rattle.std.proofs.Common.{◌≡◌, ◌<◌, ◌+◌, ◌-◌, ℕ, zero, suc, List, [], ◌∷◌, Ok, Err, map, refl, ap, sym, ◌∙◌, arith, add-zero, ◌≤◌, ◌*◌, Option, Some, None, Result}
 use Rattle.std.specs.List.{range_with_len}
 use Rattle.fips204_base.specs.declared.fault.Fault.TheVariants.{TooManyAttempts, SamplingLimit}
-use Rattle.fips204.specs.Signing.{Attempt, limit, rejected, signed, attempt, first_answer, mask_seed, sign, sign_if_matrix, sign_with}
+use Rattle.fips204.specs.Signing.{Attempt, unsampled, rejected, signed, attempt, first_answer, mask_seed, sign, sign_if_matrix, sign_with}
 use Rattle.fips204.specs.SigningInputs.{attempt_answer}
 use native.Mathlib.Decide.{dec_lt}
 use Rattle.std.proofs.Math.Nat.{mul-le-mul}
@@ -45,7 +45,7 @@ answer-signed : (later : List Attempt) (this : Attempt) (signature : List ℕ) �
 unfolding first_answer
 answer-signed later this signature e = rw e refl
 
-answer-limit : (later : List Attempt) (this : Attempt) → this ≡ limit → first_answer (this ∷ later) ≡ Err SamplingLimit
+answer-limit : (later : List Attempt) (this : Attempt) → this ≡ unsampled → first_answer (this ∷ later) ≡ Err SamplingLimit
 unfolding first_answer
 answer-limit later this e = rw e refl
 
@@ -59,7 +59,7 @@ pub first_answer-signed : (f : ℕ → Attempt) (n count : ℕ) (signature : Lis
 first_answer-signed f n count signature l before this = from_here f n count l before ∙ answer-signed (map f (range_with_len (n + 1) (count - n - 1))) (f n) signature this
 
 -- attempt n is past its limit
-pub first_answer-limit : (f : ℕ → Attempt) (n count : ℕ) → n < count → ((m : ℕ) → m < n → f m ≡ rejected) → f n ≡ limit
+pub first_answer-limit : (f : ℕ → Attempt) (n count : ℕ) → n < count → ((m : ℕ) → m < n → f m ≡ rejected) → f n ≡ unsampled
     → first_answer (map f (range_with_len 0 count)) ≡ Err SamplingLimit
 first_answer-limit f n count l before this = from_here f n count l before ∙ answer-limit (map f (range_with_len (n + 1) (count - n - 1))) (f n) this
 
@@ -77,25 +77,25 @@ first_answer-none f count before =
 
 answered-rejected : (this : Attempt) (o : Option (List ℕ)) → o ≡ None → Ok o ≡ attempt_answer this → this ≡ rejected
 unfolding attempt_answer
-answered-rejected limit o n e = absurd cc
+answered-rejected unsampled o n e = absurd cc
 answered-rejected rejected o n e = refl
 answered-rejected (signed signature) o n e = absurd cc
 
 answered-signed : (this : Attempt) (o : Option (List ℕ)) (signature : List ℕ) → o ≡ Some signature → Ok o ≡ attempt_answer this → this ≡ signed signature
 unfolding attempt_answer
-answered-signed limit o signature s e = absurd cc
+answered-signed unsampled o signature s e = absurd cc
 answered-signed rejected o signature s e = absurd cc
 answered-signed (signed other) o signature s e = let same : signature ≡ other = cc in ap signed (sym same)
 
-answered-limit : (this : Attempt) (fault : Fault) → Err fault ≡ attempt_answer this → this ≡ limit
+answered-limit : (this : Attempt) (fault : Fault) → Err fault ≡ attempt_answer this → this ≡ unsampled
 unfolding attempt_answer
-answered-limit limit fault e = refl
+answered-limit unsampled fault e = refl
 answered-limit rejected fault e = absurd cc
 answered-limit (signed signature) fault e = absurd cc
 
 pub answered-fault : (this : Attempt) (fault : Fault) → Err fault ≡ attempt_answer this → fault ≡ SamplingLimit
 unfolding attempt_answer
-answered-fault limit fault e = cc
+answered-fault unsampled fault e = cc
 answered-fault rejected fault e = absurd cc
 answered-fault (signed signature) fault e = absurd cc
 
@@ -129,7 +129,7 @@ pub sign_with-limit : (p : ParameterSet) (H : List ℕ → List ℕ) (a : List (
 unfolding sign_with
 sign_with-limit p H a sk mu rnd seed l n fault seeded columns h before this =
     let before' : AreRejected p H a sk mu (mask_seed H sk rnd mu) p.l n = rw (seeded, columns) at before in
-    let this' : attempt p H a sk mu (mask_seed H sk rnd mu) (n * p.l) ≡ limit = rw (seeded, columns) at (answered-limit (attempt p H a sk mu seed (n * l)) fault this) in
+    let this' : attempt p H a sk mu (mask_seed H sk rnd mu) (n * p.l) ≡ unsampled = rw (seeded, columns) at (answered-limit (attempt p H a sk mu seed (n * l)) fault this) in
     first_answer-limit (λ n. attempt p H a sk mu (mask_seed H sk rnd mu) (n * p.l)) n 814 h before' this'
 
 pub sign_with-none : (p : ParameterSet) (H : List ℕ → List ℕ) (a : List (List T)) (sk : PrivateParts) (mu rnd seed : List ℕ) (l : ℕ) → seed ≡ mask_seed H sk rnd mu → l ≡ p.l

@@ -12,10 +12,10 @@ use Rattle.fips204_base.specs.Residues.{vector_norm, residue, coefficients}
 use Rattle.fips204_base.specs.Sampling.{challenge, sampled_matrix}
 use Rattle.fips204_base.specs.Encodings.{PublicParts, IsSignature, is_one, w1_bytes}
 use Rattle.fips204_base.specs.Packing.{PolynomialInRange}
-use Rattle.fips204_base.specs.Vectors.{entry, IsVector, vector_coefficients, matrix_product, vector_of}
+use Rattle.fips204_base.specs.Vectors.{coefficient_of, IsVector, vector_coefficients, matrix_product, vector_of}
 use Rattle.fips204_base.specs.Network.{VectorWithin}
 use Rattle.fips204_base.specs.Transforms.{product, minus}
-use Rattle.fips204_base.specs.Rounding.{use_hint, high_bits, low_bits, high_values}
+use Rattle.fips204_base.specs.Rounding.{use_hint, high_bits, low_bits, high_count}
 use Rattle.fips204_base.proofs.Rounding.{high_bits_below}
 use Rattle.fips204_base.proofs.Products.{product_same}
 use Rattle.fips204_base.proofs.Residues.{congruent_of, congruent_refl, residue_below}
@@ -23,25 +23,25 @@ use Rattle.fips204_base.proofs.Vectors.{vector_of-ext, vector_of-range, vector-w
 use Rattle.fips204_base.proofs.EncodedParts.{same_signature}
 use Rattle.fips204.specs.Acceptance.{AreShifted, w1_prime, Accepts, Verifies, hinted}
 use Rattle.fips204.specs.SigningInputs.{HasShortParts, t1_shifted}
-use Rattle.fips204.specs.Signing.{commitment}
+use Rattle.fips204.specs.Signing.{commitment_hash}
 use Rattle.fips204.specs.declared.types.Params.{Params}
-use Rattle.fips204.specs.ParameterSets.{ParameterSet, commitment_length}
+use Rattle.fips204.specs.ParameterSets.{ParameterSet, c_tilde_length}
 use Rattle.fips204.specs.Sets.{set_of}
 use Rattle.fips204.proofs.ParameterSets.{IsKnown, limits, mask-size}
 use Rattle.fips204.proofs.RefusedCalls.{same_some}
 
 -- ---- w1'
 
-some_values : (g : ℕ) → (g ≡ 95232) ⊎ (g ≡ 261888) → 0 < high_values g
+some_values : (g : ℕ) → (g ≡ 95232) ⊎ (g ≡ 261888) → 0 < high_count g
 some_values g (inl e) = rw e (omega arith)
 some_values g (inr e) = rw e (omega arith)
 
-pub use_hint-below : (g r : ℕ) (h : Bool) → (g ≡ 95232) ⊎ (g ≡ 261888) → r < 8380417 → use_hint g h r < high_values g
+pub use_hint-below : (g r : ℕ) (h : Bool) → (g ≡ 95232) ⊎ (g ≡ 261888) → r < 8380417 → use_hint g h r < high_count g
 unfolding use_hint
 use_hint-below g r false set below = high_bits_below g r set below
 use_hint-below g r true set below = elim (cases_Bool (int_lt (pos 0) (low_bits g r))) [
-  | inl up ↦ rw up (mod_below (high_bits g r + 1) (high_values g) (some_values g set))
-  | inr down ↦ rw down (mod_below (high_bits g r + (high_values g - 1)) (high_values g) (some_values g set))
+  | inl up ↦ rw up (mod_below (high_bits g r + 1) (high_count g) (some_values g set))
+  | inr down ↦ rw down (mod_below (high_bits g r + (high_count g - 1)) (high_count g) (some_values g set))
 ]
 
 bit : (x : ℤ) → pos 0 ≤ℤ x → x ≤ℤ pos 1 → (x ≡ pos 0) ⊎ (x ≡ pos 1)
@@ -51,12 +51,12 @@ bit (pos (suc (suc n))) low high = absurd (omega (arith, ints, high))
 bit (negsuc n) low high = absurd (omega (arith, ints, low))
 
 -- a hint has zeros and ones
-pub hint-bit : (k : ℕ) (h : List R) (r n : ℕ) → IsVector k 0 1 h → r < k → n < 256 → (entry h r n ≡ pos 0) ⊎ (entry h r n ≡ pos 1)
+pub hint-bit : (k : ℕ) (h : List R) (r n : ℕ) → IsVector k 0 1 h → r < k → n < 256 → (coefficient_of h r n ≡ pos 0) ⊎ (coefficient_of h r n ≡ pos 1)
 hint-bit k h r n is l m =
     let empty : R = record { 0 = [] } in
     let inside : r < length h = omega (arith, l, is.rows) in
     let range = is.range r empty inside n (pos 0) (omega (arith, m, is.places r empty inside)) in
-    bit (entry h r n) (omega (arith, ints, range.0)) range.1
+    bit (coefficient_of h r n) (omega (arith, ints, range.0)) range.1
 
 -- UseHint at each place of what is the same
 pub hinted-same : (p : ParameterSet) (h : List R) (v w : ℕ → ℕ → ℕ) (k : ℕ) → k ≡ p.k → ((r n : ℕ) → r < k → n < 256 → v r n ≡ w r n) → hinted p h v ≡ hinted p h w
@@ -66,7 +66,7 @@ hinted-same p h v w k rows same = vector_of-ext p.k _ _ (λ r n l m. ap (λ x. p
 pub hinted-written : (p : ParameterSet) (h w before after t : List R) (c d : R) (k : ℕ) → k ≡ p.k
     → ((j : ℕ) → j < 256 → coefficients d.0 j ≡ coefficients c.0 j)
     → ((r n : ℕ) → r < k → n < 256 → vector_coefficients after r n ≡ minus (vector_coefficients before r) (product (coefficients d.0) (vector_coefficients t r)) n)
-    → ((r n : ℕ) → r < k → n < 256 → entry w r n ≡ pos (vector_coefficients after r n))
+    → ((r n : ℕ) → r < k → n < 256 → coefficient_of w r n ≡ pos (vector_coefficients after r n))
     → hinted p h (vector_coefficients w) ≡ hinted p h (λ r. minus (vector_coefficients before r) (product (coefficients c.0) (vector_coefficients t r)))
 hinted-written p h w before after t c d k rows same made written =
     hinted-same p h (vector_coefficients w) (λ r. minus (vector_coefficients before r) (product (coefficients c.0) (vector_coefficients t r))) k rows (λ r n i m.
@@ -88,19 +88,19 @@ w1_prime-is p a t1 z h az u c k l rows columns made shifted =
 
 -- what UseHint gives at each place, as a vector
 pub hinted-is : (p : ParameterSet) (h w v : List R) (k : ℕ) → k ≡ p.k
-    → v ≡ vector_of k (λ r n. pos (use_hint p.gamma2 (int_lt (pos 0) (entry h r n)) (vector_coefficients w r n))) → v ≡ hinted p h (vector_coefficients w)
+    → v ≡ vector_of k (λ r n. pos (use_hint p.gamma2 (int_lt (pos 0) (coefficient_of h r n)) (vector_coefficients w r n))) → v ≡ hinted p h (vector_coefficients w)
 unfolding is_one
 hinted-is p h w v k rows e = e ∙ rw rows refl
 
 pub hinted-range : (p : ParameterSet) (h w v : List R) → (p.gamma2 ≡ 95232) ⊎ (p.gamma2 ≡ 261888) → v ≡ hinted p h (vector_coefficients w)
-    → All (λ x. PolynomialInRange (pos 0) (pos (high_values p.gamma2 - 1)) x.0) v
+    → All (λ x. PolynomialInRange (pos 0) (pos (high_count p.gamma2 - 1)) x.0) v
 hinted-range p h w v set e =
     let empty : R = record { 0 = [] } in
     let f = λ (r n : ℕ). pos (use_hint p.gamma2 (is_one (get_or h r empty) n) (vector_coefficients w r n)) in
-    let vector = vector_of-range p.k 0 (high_values p.gamma2 - 1) f (λ r n l m.
-    let below = use_hint-below p.gamma2 (vector_coefficients w r n) (is_one (get_or h r empty) n) set (residue_below (entry w r n)) in
+    let vector = vector_of-range p.k 0 (high_count p.gamma2 - 1) f (λ r n l m.
+    let below = use_hint-below p.gamma2 (vector_coefficients w r n) (is_one (get_or h r empty) n) set (residue_below (coefficient_of w r n)) in
     (omega (arith, ints), omega (arith, ints, below))) in
-    subst (λ (x : List R). All (λ x. PolynomialInRange (pos 0) (pos (high_values p.gamma2 - 1)) x.0) x) (sym e) vector.range
+    subst (λ (x : List R). All (λ x. PolynomialInRange (pos 0) (pos (high_count p.gamma2 - 1)) x.0) x) (sym e) vector.range
 
 -- ---- ranges
 
@@ -112,22 +112,22 @@ response-within gamma1 l z h vector = vector-within l (gamma1 - 1) gamma1 524288
 
 -- with the challenge and w1' at hand the commitment decides
 pub decided : (p : ParameterSet) (H : List ℕ → List ℕ) (a : List (List T)) (t1 z h w1 : List R) (mu c_tilde : List ℕ) (ball : Option R) (c : R) (answer : Bool)
-    → ball ≡ Some c → w1 ≡ w1_prime p a t1 z h c → (IsTrue answer ↔ (c_tilde ≡ commitment p H mu w1))
-    → IsTrue answer ↔ ((c : R) × (ball ≡ Some c) × (c_tilde ≡ commitment p H mu (w1_prime p a t1 z h c)))
+    → ball ≡ Some c → w1 ≡ w1_prime p a t1 z h c → (IsTrue answer ↔ (c_tilde ≡ commitment_hash p H mu w1))
+    → IsTrue answer ↔ ((c : R) × (ball ≡ Some c) × (c_tilde ≡ commitment_hash p H mu (w1_prime p a t1 z h c)))
 decided p H a t1 z h w1 mu c_tilde ball c answer b w both = (
-  λ t. (c, b, both.0 t ∙ ap (commitment p H mu) w),
+  λ t. (c, b, both.0 t ∙ ap (commitment_hash p H mu) w),
   λ x.
       let c' : x.0 ≡ c = same_some x.0 c (sym x.1 ∙ b) in
-      both.1 (x.2 ∙ ap (λ c. commitment p H mu (w1_prime p a t1 z h c)) c' ∙ sym (ap (commitment p H mu) w)),
+      both.1 (x.2 ∙ ap (λ c. commitment_hash p H mu (w1_prime p a t1 z h c)) c' ∙ sym (ap (commitment_hash p H mu) w)),
 )
 
 -- what the parts c_tilde, z and h of a signature keep besides the norm of z
 abbrev pub Gives : ParameterSet → (List ℕ → List ℕ) → List (List T) → List R → List ℕ → List ℕ → List R → List R → Type 0
-Gives p H a t1 mu c_tilde z h = (c : R) × (challenge p.tau (H c_tilde) ≡ Some c) × (c_tilde ≡ commitment p H mu (w1_prime p a t1 z h c))
+Gives p H a t1 mu c_tilde z h = (c : R) × (challenge p.tau (H c_tilde) ≡ Some c) × (c_tilde ≡ commitment_hash p H mu (w1_prime p a t1 z h c))
 
 pub accepts-in : (p : ParameterSet) (H : List ℕ → List ℕ) (a : List (List T)) (t1 : List R) (mu sig c_tilde : List ℕ) (z h : List R)
     → HasShortParts p sig c_tilde z h → Gives p H a t1 mu c_tilde z h → Accepts p H a t1 mu sig
-unfolding commitment
+unfolding commitment_hash
 accepts-in p H a t1 mu sig c_tilde z h parts x = record {
   c_tilde = c_tilde;
   w1 = w1_bytes p.gamma2 (w1_prime p a t1 z h x.0);
@@ -137,19 +137,19 @@ accepts-in p H a t1 mu sig c_tilde z h parts x = record {
 
 -- a signature has no other parts
 pub same_norm : (p : ParameterSet) (sig c_tilde c_tilde' : List ℕ) (z z' h h' : List R) → 1 ≤ p.gamma1 → p.gamma1 ≤ 1048575
-    → IsSignature p.gamma1 p.omega p.k p.l (commitment_length p) sig c_tilde z h → HasShortParts p sig c_tilde' z' h' → vector_norm z < p.gamma1 - p.beta
+    → IsSignature p.gamma1 p.omega p.k p.l (c_tilde_length p) sig c_tilde z h → HasShortParts p sig c_tilde' z' h' → vector_norm z < p.gamma1 - p.beta
 same_norm p sig c_tilde c_tilde' z z' h h' low high parts v =
-    let same = same_signature p.gamma1 p.omega p.k p.l (commitment_length p) sig c_tilde' c_tilde z' z h' h low high v.parts parts in
+    let same = same_signature p.gamma1 p.omega p.k p.l (c_tilde_length p) sig c_tilde' c_tilde z' z h' h low high v.parts parts in
     subst (λ (z : List R). vector_norm z < p.gamma1 - p.beta) same.1 v.norm
 
 pub accepts-out : (p : ParameterSet) (H : List ℕ → List ℕ) (a : List (List T)) (t1 : List R) (mu sig c_tilde : List ℕ) (z h : List R) → 1 ≤ p.gamma1 → p.gamma1 ≤ 1048575
     → HasShortParts p sig c_tilde z h → Accepts p H a t1 mu sig → Gives p H a t1 mu c_tilde z h
-unfolding commitment
+unfolding commitment_hash
 accepts-out p H a t1 mu sig c_tilde z h low high parts v =
     let o = v.opened in
-    let same = same_signature p.gamma1 p.omega p.k p.l (commitment_length p) sig v.c_tilde c_tilde o.z z o.h h low high o.parts parts.parts in
+    let same = same_signature p.gamma1 p.omega p.k p.l (c_tilde_length p) sig v.c_tilde c_tilde o.z z o.h h low high o.parts parts.parts in
     let ball = subst (λ (x : List ℕ). challenge p.tau (H x) ≡ Some o.c) same.0 o.sampled in
-    let hash = λ (w1 : List ℕ). take (commitment_length p) (H (mu ++ w1)) in
+    let hash = λ (w1 : List ℕ). take (c_tilde_length p) (H (mu ++ w1)) in
     let value = sym same.0 ∙ v.same ∙ ap hash (o.recomputed ∙ ap (λ (z : List R). w1_bytes p.gamma2 (w1_prime p a t1 z o.h o.c)) same.1 ∙ ap (λ (h : List R). w1_bytes p.gamma2 (w1_prime p a t1 z h o.c)) same.2) in
     (o.c, ball, value)
 
@@ -166,7 +166,7 @@ accepts-by_parts p H a t1 mu sig c_tilde z h answer known parts both =
 pub commitment-decides : (p : Params) (H : List ℕ → List ℕ) (a : List (List T)) (t1 : List R) (mu sig c_tilde : List ℕ) (z h : List R) (c : R) (az u : List R) (k l : ℕ) (answer : Bool) → IsKnown p → k ≡ p.k → l ≡ p.l
     → HasShortParts (set_of p) sig c_tilde z h → challenge (nat_abs p.tau) (H c_tilde) ≡ Some c
     → ((r n : ℕ) → r < k → n < 256 → vector_coefficients az r n ≡ matrix_product l a (vector_coefficients z) r n) → AreShifted k t1 u
-    → (IsTrue answer ↔ (c_tilde ≡ commitment (set_of p) H mu (hinted (set_of p) h (λ r. minus (vector_coefficients az r) (product (coefficients c.0) (vector_coefficients u r))))))
+    → (IsTrue answer ↔ (c_tilde ≡ commitment_hash (set_of p) H mu (hinted (set_of p) h (λ r. minus (vector_coefficients az r) (product (coefficients c.0) (vector_coefficients u r))))))
     → IsTrue answer ↔ Accepts (set_of p) H a t1 mu sig
 commitment-decides p H a t1 mu sig c_tilde z h c az u k l answer known rows columns parts ball made shifted verdict =
     accepts-by_parts p H a t1 mu sig c_tilde z h answer known parts

@@ -25,7 +25,7 @@ use Rattle.fips204.specs.Completeness.{AcceptsSigned, IsPair, DecodesAlone, Byte
 use Rattle.fips204_base.specs.declared.fault.Fault.{Fault}
 use Rattle.fips204_base.specs.declared.fault.Fault.TheVariants.{SamplingLimit}
 use Rattle.fips204_base.proofs.EncodedParts.{same_private_key, IsT1, same_parts}
-use Rattle.fips204.specs.SigningInputs.{IsHighPart, seeds, key_hash}
+use Rattle.fips204.specs.SigningInputs.{IsHighPart, seed_front, key_hash}
 
 -- ---- keys by their bytes
 
@@ -186,7 +186,7 @@ pub generated_parts : (p : ParameterSet) (H G : List ℕ → List ℕ) (xi : Lis
     → key_generation p H G xi ≡ Some (pk, sk) → AreGenerated p H G pk sk
 generated_parts p H G xi pk sk row law e =
     let eta = (set_numbers p row).small in
-    let all = seeds p H xi in
+    let all = seed_front p H xi in
     let rho = take 32 all in
     let rho' = take 64 (drop 32 all) in
     let key = take 32 (drop 96 all) in

@@ -10,10 +10,10 @@ use Rattle.fips204_base.specs.Transforms.{product}
 use Rattle.fips204_base.specs.Vectors.{polynomial_of, vector_of}
 use Rattle.fips204_base.specs.declared.types.R.{R}
 use Rattle.fips204.specs.Keys.{key_pair, key_generation}
-use Rattle.fips204.specs.SigningInputs.{seeds, t1_shifted}
+use Rattle.fips204.specs.SigningInputs.{seed_front, t1_shifted}
 use Rattle.fips204.specs.Acceptance.{hinted}
 use Rattle.fips204.specs.ParameterSets.{ParameterSet, set_44, set_65, set_87, is_parameter_set, public_key_length, private_key_length, signature_length}
-use Rattle.fips204.specs.Signing.{first_answer, mask_seed, limit, rejected, signed, commitment, hint_bit, w_minus_cs2}
+use Rattle.fips204.specs.Signing.{first_answer, mask_seed, unsampled, rejected, signed, commitment_hash, hint_bit, w_minus_cs2}
 use Rattle.std.specs.Prelude.{replicate, nat_eq, get_or, option_map}
 use Rattle.std.specs.List.{range_with_len, flat_map}
 use Rattle.fips204.specs.declared.types.pre_hash.TheConstants.{SHA2_224, SHA2_256, SHA2_384, SHA2_512, SHA2_512_224, SHA2_512_256, SHA3_224, SHA3_256, SHA3_384, SHA3_512, SHAKE_128, SHAKE_256}
@@ -52,7 +52,7 @@ first_signed : first_answer (rejected ∷ rejected ∷ signed (1 ∷ []) ∷ sig
 unfolding first_answer
 first_signed = refl
 
-first_limit : first_answer (rejected ∷ limit ∷ signed (2 ∷ []) ∷ []) ≡ Err SamplingLimit
+first_limit : first_answer (rejected ∷ unsampled ∷ signed (2 ∷ []) ∷ []) ≡ Err SamplingLimit
 unfolding first_answer
 first_limit = refl
 
@@ -124,7 +124,7 @@ digest_before_identifier = refl
 -- Worked values of key generation, of signing's hashes and hints, and of acceptance.
 
 -- the seed is followed by a byte of the rows and one of the columns
-seeds_of_sets : (seeds set_44 (λ x. x) (9 ∷ []) ≡ 9 ∷ 4 ∷ 4 ∷ []) × (seeds set_65 (λ x. x) (9 ∷ []) ≡ 9 ∷ 6 ∷ 5 ∷ []) × (seeds set_87 (λ x. x) (9 ∷ []) ≡ 9 ∷ 8 ∷ 7 ∷ [])
+seeds_of_sets : (seed_front set_44 (λ x. x) (9 ∷ []) ≡ 9 ∷ 4 ∷ 4 ∷ []) × (seed_front set_65 (λ x. x) (9 ∷ []) ≡ 9 ∷ 6 ∷ 5 ∷ []) × (seed_front set_87 (λ x. x) (9 ∷ []) ≡ 9 ∷ 8 ∷ 7 ∷ [])
 seeds_of_sets = (refl, refl, refl)
 
 -- so rho of set 65 begins with xi and the bytes 6 and 5, where H gives back its input
@@ -168,10 +168,10 @@ seed_of_masks sk = (refl, refl)
 
 -- c_tilde hashes mu before the bytes of w1, and keeps 32, 48 or 64 bytes: four fields of six bits that are 43 are three bytes, and two
 -- of four bits that are 10 are one
-commitments : (commitment set_44 (λ x. x) (7 ∷ []) (record { 0 = replicate 256 (pos 43) } ∷ []) ≡ 7 ∷ flat_map (λ _. 0xEB ∷ 0xBA ∷ 0xAE ∷ []) (range_with_len 0 10) ++ 0xEB ∷ [])
-    × (commitment set_65 (λ x. x) (7 ∷ []) (record { 0 = replicate 256 (pos 10) } ∷ []) ≡ 7 ∷ replicate 47 0xAA)
-    × (commitment set_87 (λ x. x) (7 ∷ []) (record { 0 = replicate 256 (pos 10) } ∷ []) ≡ 7 ∷ replicate 63 0xAA)
-unfolding commitment bits_to_bytes bits integer_to_bits bits_to_integer polynomial_bytes bit_length
+commitments : (commitment_hash set_44 (λ x. x) (7 ∷ []) (record { 0 = replicate 256 (pos 43) } ∷ []) ≡ 7 ∷ flat_map (λ _. 0xEB ∷ 0xBA ∷ 0xAE ∷ []) (range_with_len 0 10) ++ 0xEB ∷ [])
+    × (commitment_hash set_65 (λ x. x) (7 ∷ []) (record { 0 = replicate 256 (pos 10) } ∷ []) ≡ 7 ∷ replicate 47 0xAA)
+    × (commitment_hash set_87 (λ x. x) (7 ∷ []) (record { 0 = replicate 256 (pos 10) } ∷ []) ≡ 7 ∷ replicate 63 0xAA)
+unfolding commitment_hash bits_to_bytes bits integer_to_bits bits_to_integer polynomial_bytes bit_length
 commitments = (refl, refl, refl)
 
 -- a hint tells whether v and v + t have other high bits: from gamma2 to one more, and back by -1; not from one less, from one more, or

@@ -9,7 +9,7 @@ use Rattle.fips204_base.specs.Rounding.{use_hint}
 use Rattle.fips204_base.specs.Encodings.{PublicParts, is_one, IsSignature, w1_bytes}
 use Rattle.fips204_base.specs.Sampling.{sampled_matrix, challenge}
 use Rattle.fips204_base.specs.Streams.{Bytes, XOF}
-use Rattle.fips204.specs.ParameterSets.{ParameterSet, commitment_length}
+use Rattle.fips204.specs.ParameterSets.{ParameterSet, c_tilde_length}
 
 -- the first k polynomials of v are those of t1 2^13, modulo q
 abbrev pub AreShifted : ℕ → List R → List R → Type 0
@@ -27,7 +27,7 @@ w1_prime p a t1 z h c = hinted p h (λ r. minus (matrix_product p.l a (vector_co
 pub record Opens (p : ParameterSet) (H : XOF) (a : List (List T)) (t1 : List R) (signature c_tilde w1 : Bytes) : Type 0 where
   pub z : List R
   pub h : List R
-  pub parts : IsSignature p.gamma1 p.omega p.k p.l (commitment_length p) signature c_tilde z h
+  pub parts : IsSignature p.gamma1 p.omega p.k p.l (c_tilde_length p) signature c_tilde z h
   pub norm : vector_norm z < p.gamma1 - p.beta
   pub c : R
   pub sampled : challenge p.tau (H c_tilde) ≡ Some c
@@ -38,7 +38,7 @@ pub record Accepts (p : ParameterSet) (H : XOF) (a : List (List T)) (t1 : List R
   pub c_tilde : Bytes
   pub w1 : Bytes
   pub opened : Opens p H a t1 signature c_tilde w1
-  pub same : c_tilde ≡ take (commitment_length p) (H (mu ++ w1))
+  pub same : c_tilde ≡ take (c_tilde_length p) (H (mu ++ w1))
 
 -- the same with a plain key, whose matrix has to be there
 pub record Verifies (p : ParameterSet) (H G : XOF) (pk : PublicParts) (mu signature : Bytes) : Type 0 where

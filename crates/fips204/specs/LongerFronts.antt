@@ -8,7 +8,7 @@ use Rattle.fips204_base.specs.Encodings.{PublicParts, PrivateParts, IsPublicKeyO
 use Rattle.fips204_base.specs.Residues.{vector_norm}
 use Rattle.fips204_base.specs.Streams.{Bytes, XOF, counter_blocks, sha256_front, sha256_long_front, sha512_front, sha512_long_front, IsPrefix, ArePrefixes}
 use Rattle.fips204_base.specs.Sampling.{matrix_entry, sampled_matrix, small_polynomial, challenge}
-use Rattle.fips204.specs.ParameterSets.{ParameterSet, is_parameter_set, commitment_length}
+use Rattle.fips204.specs.ParameterSets.{ParameterSet, is_parameter_set, c_tilde_length}
 use Rattle.fips204.specs.Framing.{Input, message_hash}
 use Rattle.fips204.specs.Signing.{sign}
 use Rattle.fips204.specs.Acceptance.{Verifies}
@@ -48,11 +48,11 @@ pub record AnswersStay (p : ParameterSet) (H G H' G' : XOF) : Type 0 where
 
 -- what decides a verdict whatever the fronts are longer by: the matrix of the public key is there, and so is the challenge of the
 -- first bytes of the signature; or the signature has no parts with a small z
-pub data IsDecided (p : ParameterSet) (H G : XOF) (pk : PublicParts) (signature : Bytes) : Type 0 where
+pub data IsVerdictDecided (p : ParameterSet) (H G : XOF) (pk : PublicParts) (signature : Bytes) : Type 0 where
   sampled : (a : List (List T)) → sampled_matrix G pk.rho p.k p.l ≡ Some a
-      → (c : R) → challenge p.tau (H (take (commitment_length p) signature)) ≡ Some c → IsDecided p H G pk signature
-  malformed : ((c_tilde : Bytes) (z h : List R) → IsSignature p.gamma1 p.omega p.k p.l (commitment_length p) signature c_tilde z h
-      → vector_norm z < p.gamma1 - p.beta → ⊥) → IsDecided p H G pk signature
+      → (c : R) → challenge p.tau (H (take (c_tilde_length p) signature)) ≡ Some c → IsVerdictDecided p H G pk signature
+  malformed : ((c_tilde : Bytes) (z h : List R) → IsSignature p.gamma1 p.omega p.k p.l (c_tilde_length p) signature c_tilde z h
+      → vector_norm z < p.gamma1 - p.beta → ⊥) → IsVerdictDecided p H G pk signature
 
 -- a yes stays, and where it is decided, so does a no
 pub record YesAndNoStay (decided yes longer_yes : Type 0) : Type 0 where
@@ -63,11 +63,11 @@ pub record YesAndNoStay (decided yes longer_yes : Type 0) : Type 0 where
 -- that bytes decode to
 pub record AcceptanceStays (p : ParameterSet) (H G H' G' : XOF) : Type 0 where
   pub hashes : (pk : PublicParts) (mu signature : Bytes)
-      → YesAndNoStay (IsDecided p H G pk signature) (Verifies p H G pk mu signature) (Verifies p H' G' pk mu signature)
+      → YesAndNoStay (IsVerdictDecided p H G pk signature) (Verifies p H G pk mu signature) (Verifies p H' G' pk mu signature)
   pub framed : (pk : PublicParts) (m signature : Bytes)
-      → YesAndNoStay (IsDecided p H G pk signature) (Verifies p H G pk (message_hash H pk.tr m) signature) (Verifies p H' G' pk (message_hash H' pk.tr m) signature)
+      → YesAndNoStay (IsVerdictDecided p H G pk signature) (Verifies p H G pk (message_hash H pk.tr m) signature) (Verifies p H' G' pk (message_hash H' pk.tr m) signature)
   pub inputs : (pk : PublicParts) (signature : Bytes) (input : Input)
-      → YesAndNoStay (IsDecided p H G pk signature ⊎ (input_fault input ≢ None))
+      → YesAndNoStay (IsVerdictDecided p H G pk signature ⊎ (input_fault input ≢ None))
       (AcceptsInput H pk.tr (λ mu. Verifies p H G pk mu signature) input) (AcceptsInput H' pk.tr (λ mu. Verifies p H' G' pk mu signature) input)
   pub decoded : (bytes : Bytes) (pk : PublicParts) → IsPublicKeyOf H p.k bytes pk → IsPublicKeyOf H' p.k bytes pk
 

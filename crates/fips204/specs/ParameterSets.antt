@@ -61,8 +61,8 @@ public_key_length p = 32 + 320 * p.k
 abbrev pub private_key_length : ParameterSet → ℕ
 private_key_length p = 128 + 32 * ((p.l + p.k) * width (pos p.eta) (pos p.eta) + p.k * 13)
 
-abbrev pub commitment_length : ParameterSet → ℕ
-commitment_length p = p.lambda / 4
+abbrev pub c_tilde_length : ParameterSet → ℕ
+c_tilde_length p = p.lambda / 4
 
 abbrev pub signature_length : ParameterSet → ℕ
-signature_length p = commitment_length p + 32 * (p.l * width (pos (p.gamma1 - 1)) (pos p.gamma1)) + p.omega + p.k
+signature_length p = c_tilde_length p + 32 * (p.l * width (pos (p.gamma1 - 1)) (pos p.gamma1)) + p.omega + p.k

@@ -13,7 +13,7 @@ use Rattle.fips204_base.specs.declared.types.R.{R}
 use Rattle.fips204_base.specs.declared.types.T.{T}
 use Rattle.fips204.specs.Acceptance.{Opens, Verifies}
 use Rattle.fips204.specs.Framing.{Input, framed, framed_input, message_hash}
-use Rattle.fips204.specs.ParameterSets.{ParameterSet, is_parameter_set, commitment_length}
+use Rattle.fips204.specs.ParameterSets.{ParameterSet, is_parameter_set, c_tilde_length}
 use Rattle.fips204.specs.Refusals.{input_fault, AcceptsInput, VerifiesMessage}
 
 -- with the hint of z the high bits of r become those of r + z, where z is at most gamma2 in absolute value
@@ -85,7 +85,7 @@ pub record NamesCollision (p : ParameterSet) (H G : XOF) (pk : PublicParts) (sig
   pub w1 : Bytes
   pub fixed : Fixes p H G pk signature w1
   pub collide : Collide H 64 (pk.tr ++ m) (pk.tr ++ n)
-      ⊎ Collide H (commitment_length p) (message_hash H pk.tr m ++ w1) (message_hash H pk.tr n ++ w1)
+      ⊎ Collide H (c_tilde_length p) (message_hash H pk.tr m ++ w1) (message_hash H pk.tr n ++ w1)
 
 -- one signature that a key accepts for two different M' names a collision
 abbrev pub SignatureBindsMessage : Type 0
@@ -116,7 +116,7 @@ pub record NamesKeyCollision (p : ParameterSet) (H G : XOF) (bytes others : Byte
   pub other_w1 : Bytes
   pub other_fixed : Fixes p H G other signature other_w1
   pub collide : Collide H 64 bytes others ⊎ (Collide H 64 (pk.tr ++ m) (other.tr ++ n)
-      ⊎ Collide H (commitment_length p) (message_hash H pk.tr m ++ w1) (message_hash H other.tr n ++ other_w1))
+      ⊎ Collide H (c_tilde_length p) (message_hash H pk.tr m ++ w1) (message_hash H other.tr n ++ other_w1))
 
 -- one signature that two keys accept, each read from its bytes, is accepted for one M' under one key, or names a collision
 abbrev pub SignatureBindsKey : Type 0
@@ -140,11 +140,11 @@ pub record NamesHintCollision (p : ParameterSet) (H G : XOF) (pk : PublicParts) 
   pub fixed : Fixes p H G pk first w1
   pub other_w1 : Bytes
   pub other_fixed : Fixes p H G pk second other_w1
-  pub collide : Collide H (commitment_length p) (mu ++ w1) (mu ++ other_w1)
+  pub collide : Collide H (c_tilde_length p) (mu ++ w1) (mu ++ other_w1)
 
 -- so do two different signatures that a key accepts for one mu, if they are the same up to their hints
 abbrev pub OtherHintCollides : Type 0
 OtherHintCollides =
     (p : ParameterSet) (H G : XOF) (pk : PublicParts) (mu first second : Bytes) → IsTrue (is_parameter_set p) → first ≢ second
-    → take (commitment_length p + 32 * width (pos (p.gamma1 - 1)) (pos p.gamma1) * p.l) first ≡ take (commitment_length p + 32 * width (pos (p.gamma1 - 1)) (pos p.gamma1) * p.l) second
+    → take (c_tilde_length p + 32 * width (pos (p.gamma1 - 1)) (pos p.gamma1) * p.l) first ≡ take (c_tilde_length p + 32 * width (pos (p.gamma1 - 1)) (pos p.gamma1) * p.l) second
     → Verifies p H G pk mu first → Verifies p H G pk mu second → NamesHintCollision p H G pk mu first second

@@ -1,7 +1,7 @@
 -- The parameter sets as values of the program (FIPS 204, Tables 1 and 2).
 use Rattle.std.specs.Prelude.{◌≡◌, ℕ}
 use Rattle.fips204.specs.declared.types.Params.{Params}
-use Rattle.fips204.specs.ParameterSets.{ParameterSet, parameter_set, commitment_length, signature_length, public_key_length, private_key_length}
+use Rattle.fips204.specs.ParameterSets.{ParameterSet, parameter_set, c_tilde_length, signature_length, public_key_length, private_key_length}
 
 -- the set of a value
 abbrev pub set_of : Params → ParameterSet
@@ -11,7 +11,7 @@ set_of p = parameter_set p.tau p.lambda p.gamma1 p.gamma2 p.k p.l p.eta p.beta p
 pub record HasSizes (p : ParameterSet) (k l n s : ℕ) : Type 0 where
   pub rows : k ≡ p.k
   pub columns : l ≡ p.l
-  pub commitment : n ≡ commitment_length p
+  pub c_tilde_size : n ≡ c_tilde_length p
   pub signature : s ≡ signature_length p
 
 -- k rows and l columns, and the bytes of a public and of a private key, are those of the set

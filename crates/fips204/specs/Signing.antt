@@ -12,17 +12,17 @@ use Rattle.fips204_base.specs.declared.fault.Fault.{Fault}
 use Rattle.fips204_base.specs.declared.fault.Fault.TheVariants.{TooManyAttempts, SamplingLimit}
 use Rattle.fips204_base.specs.declared.types.R.{R}
 use Rattle.fips204_base.specs.declared.types.T.{T}
-use Rattle.fips204.specs.ParameterSets.{ParameterSet, commitment_length}
+use Rattle.fips204.specs.ParameterSets.{ParameterSet, c_tilde_length}
 
 -- what an attempt comes to: the challenge is past its limit, the attempt is rejected, or it gives a signature
 pub data Attempt : Type 0 where
-  limit : Attempt
+  unsampled : Attempt
   rejected : Attempt
   signed : Bytes → Attempt
 
 -- c_tilde of a vector w1: the first lambda / 4 bytes of H over mu and the bytes of w1
-unfoldable pub commitment : ParameterSet → XOF → Bytes → List R → Bytes
-commitment p H mu w1 = take (commitment_length p) (H (mu ++ w1_bytes p.gamma2 w1))
+unfoldable pub commitment_hash : ParameterSet → XOF → Bytes → List R → Bytes
+commitment_hash p H mu w1 = take (c_tilde_length p) (H (mu ++ w1_bytes p.gamma2 w1))
 
 -- w1, the high bits of w
 unfoldable pub high_vector : ParameterSet → (ℕ → ℕ → ℕ) → List R
@@ -62,7 +62,7 @@ passes_checks p sk y w c =
 
 -- what a challenge makes of an attempt with mask y, whose A y is w
 unfoldable pub checked_attempt : ParameterSet → PrivateParts → List R → (ℕ → ℕ → ℕ) → Bytes → Option R → Attempt
-checked_attempt p sk y w c_tilde None = limit
+checked_attempt p sk y w c_tilde None = unsampled
 checked_attempt p sk y w c_tilde (Some c) =
     if passes_checks p sk y w c then signed (signature_bytes p.gamma1 p.omega c_tilde (response p sk y c) (hint_vector p sk w c)) else rejected
 
@@ -71,13 +71,13 @@ unfoldable pub attempt : ParameterSet → XOF → List (List T) → PrivateParts
 attempt p H a sk mu rho'' kappa =
     let y = mask p.gamma1 H rho'' p.l kappa in
     let w = matrix_product p.l a (vector_coefficients y) in
-    let c_tilde = commitment p H mu (high_vector p w) in
+    let c_tilde = commitment_hash p H mu (high_vector p w) in
     checked_attempt p sk y w c_tilde (challenge p.tau (H c_tilde))
 
 -- the answer of the first attempt that isn't rejected
 unfoldable pub first_answer : List Attempt → Result Bytes Fault
 first_answer [] = Err TooManyAttempts
-first_answer (limit ∷ later) = Err SamplingLimit
+first_answer (unsampled ∷ later) = Err SamplingLimit
 first_answer (rejected ∷ later) = first_answer later
 first_answer (signed signature ∷ later) = Ok signature
 

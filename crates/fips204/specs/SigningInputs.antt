@@ -9,10 +9,10 @@ use Rattle.fips204_base.specs.declared.fault.Fault.{Fault}
 use Rattle.fips204_base.specs.declared.fault.Fault.TheVariants.{SamplingLimit, SignCtx, HashCtx}
 use Rattle.fips204_base.specs.declared.types.R.{R}
 use Rattle.fips204.specs.Framing.{Input, framed_input, message_hash, pre_hash_fault}
-use Rattle.fips204.specs.ParameterSets.{ParameterSet, commitment_length}
+use Rattle.fips204.specs.ParameterSets.{ParameterSet, c_tilde_length}
 use Rattle.fips204.specs.Refusals.{refused_or, input_fault}
 use Rattle.fips204.specs.Sets.{HasSizes, set_of}
-use Rattle.fips204.specs.Signing.{Attempt, limit, rejected, signed}
+use Rattle.fips204.specs.Signing.{Attempt, unsampled, rejected, signed}
 use Rattle.fips204.specs.declared.types.Params.{Params}
 use Rattle.fips204.specs.declared.types.prepared.KeyTransforms.{KeyTransforms}
 
@@ -38,7 +38,7 @@ pub record AreCheckInputs (p : Params) (k l n s : ℕ) (y w : List R) (c : R) : 
 
 -- an attempt as an answer: a refusal, none where it is rejected, or its signature
 unfoldable pub attempt_answer : Attempt → Result (Option (List ℕ)) Fault
-attempt_answer limit = Err SamplingLimit
+attempt_answer unsampled = Err SamplingLimit
 attempt_answer rejected = Ok None
 attempt_answer (signed signature) = Ok (Some signature)
 
@@ -48,7 +48,7 @@ input_hash H tr input = refused_or (input_fault input) (Ok (message_hash H tr (f
 
 -- the signature has these parts, and the norm of z is small
 pub record HasShortParts (p : ParameterSet) (signature c_tilde : List ℕ) (z h : List R) : Type 0 where
-  pub parts : IsSignature p.gamma1 p.omega p.k p.l (commitment_length p) signature c_tilde z h
+  pub parts : IsSignature p.gamma1 p.omega p.k p.l (c_tilde_length p) signature c_tilde z h
   pub norm : vector_norm z < p.gamma1 - p.beta
 
 -- ---- parts of definitions, by themselves
@@ -62,12 +62,12 @@ abbrev pub digest_fault : List ℕ → List ℕ → List ℕ → Option Fault
 digest_fault digest context oid = if nat_lt 255 (length context) then Some HashCtx else pre_hash_fault digest oid
 
 -- at least three bytes, the first 06, and the second below 128 and the number of bytes after it
-abbrev pub is_der : List ℕ → Bool
-is_der oid = nat_le 3 (length oid) && nat_eq (slice_index oid 0) 0x06 && nat_lt (slice_index oid 1) 128 && nat_eq (slice_index oid 1 + 2) (length oid)
+abbrev pub has_oid_form : List ℕ → Bool
+has_oid_form oid = nat_le 3 (length oid) && nat_eq (slice_index oid 0) 0x06 && nat_lt (slice_index oid 1) 128 && nat_eq (slice_index oid 1 + 2) (length oid)
 
 -- the seeds of both keys: H over xi, byte k and byte l
-abbrev pub seeds : ParameterSet → (List ℕ → List ℕ) → List ℕ → List ℕ
-seeds p H xi = H (xi ++ p.k ∷ p.l ∷ [])
+abbrev pub seed_front : ParameterSet → (List ℕ → List ℕ) → List ℕ → List ℕ
+seed_front p H xi = H (xi ++ p.k ∷ p.l ∷ [])
 
 -- tr, the hash by H of the public key's bytes, 64 of its bytes
 abbrev pub key_hash : (List ℕ → List ℕ) → List ℕ → List R → List ℕ

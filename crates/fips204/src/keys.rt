@@ -46,7 +46,7 @@ impl<
 where
     Matrix<K, L>: HasSet<Set = S>,
     S: Set<
-        Commitment = [u8; LAMBDA_DIV4],
+        CommitmentHash = [u8; LAMBDA_DIV4],
         Signature = [u8; SIG_LEN],
         PublicKey = [u8; PK_LEN],
         PrivateKey = [u8; SK_LEN],
@@ -86,7 +86,7 @@ impl<
 where
     Matrix<K, L>: HasSet<Set = S>,
     S: Set<
-        Commitment = [u8; LAMBDA_DIV4],
+        CommitmentHash = [u8; LAMBDA_DIV4],
         Signature = [u8; SIG_LEN],
         PublicKey = [u8; PK_LEN],
         PrivateKey = [u8; SK_LEN],
@@ -134,7 +134,7 @@ impl<
 > Signer for PrivateKey<K, L, H, G>
 where
     Matrix<K, L>: HasSet<Set = S>,
-    S: Set<Commitment = [u8; LAMBDA_DIV4], Signature = [u8; SIG_LEN]>
+    S: Set<CommitmentHash = [u8; LAMBDA_DIV4], Signature = [u8; SIG_LEN]>
         + SignatureSizes<K, L, LAMBDA_DIV4, SIG_LEN>,
 {
     type Signature = [u8; SIG_LEN];
@@ -207,7 +207,7 @@ where
     H: Xof,
     G: Xof,
     Matrix<K, L>: HasSet<Set = S>,
-    S: Set<Commitment = [u8; LAMBDA_DIV4], Signature = [u8; SIG_LEN]>
+    S: Set<CommitmentHash = [u8; LAMBDA_DIV4], Signature = [u8; SIG_LEN]>
         + SignatureSizes<K, L, LAMBDA_DIV4, SIG_LEN>,
 {
     type Signature = [u8; SIG_LEN];
@@ -248,7 +248,7 @@ impl<
 > PrivateKey<K, L, H, G>
 where
     Matrix<K, L>: HasSet<Set = S>,
-    S: Set<Commitment = [u8; LAMBDA_DIV4], Signature = [u8; SIG_LEN]>
+    S: Set<CommitmentHash = [u8; LAMBDA_DIV4], Signature = [u8; SIG_LEN]>
         + SignatureSizes<K, L, LAMBDA_DIV4, SIG_LEN>,
 {
     /// The hash that the key keeps, which signing hashes before the message: the hash of the public key's bytes if
@@ -377,7 +377,7 @@ impl<
 > PublicKey<K, L, H, G>
 where
     Matrix<K, L>: HasSet<Set = S>,
-    S: Set<Commitment = [u8; LAMBDA_DIV4], Signature = [u8; SIG_LEN]>
+    S: Set<CommitmentHash = [u8; LAMBDA_DIV4], Signature = [u8; SIG_LEN]>
         + SignatureSizes<K, L, LAMBDA_DIV4, SIG_LEN>,
 {
     /// Verifies the signature of a framed message `m` (Algorithm 8).

@@ -2,7 +2,7 @@
 #![tactic(auto)]
 
 mod attempt;
-mod commitment;
+mod commitment_hash;
 mod decoding;
 mod framing;
 mod key_generation;

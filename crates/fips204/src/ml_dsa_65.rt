@@ -64,7 +64,7 @@ impl HasSet for Matrix<K, L> {
 }
 
 impl Set for MlDsa65 {
-    type Commitment = [u8; LAMBDA_DIV4];
+    type CommitmentHash = [u8; LAMBDA_DIV4];
 
     type Signature = [u8; SIG_LEN];
 
@@ -82,7 +82,7 @@ impl Set for MlDsa65 {
 }
 
 impl SignatureSizes<K, L, LAMBDA_DIV4, SIG_LEN> for MlDsa65 {
-    ghost sizes = { record { rows = refl; columns = refl; commitment = refl; signature = unfold bit_length in refl } };
+    ghost sizes = { record { rows = refl; columns = refl; c_tilde_size = refl; signature = unfold bit_length in refl } };
 
     ghost small = { (leb-true _ _ refl, leb-true _ _ refl, leb-true _ _ refl, leb-true _ _ refl) };
 }

@@ -10,7 +10,7 @@ use crate::types::Params;
 /// A parameter set: its numbers, and the byte arrays of its keys and signatures.
 pub trait Set {
     /// The array of `c_tilde`.
-    type Commitment;
+    type CommitmentHash;
 
     /// The array of a signature.
     type Signature;

@@ -114,7 +114,7 @@ response_width gamma1 set = elim set [
 pub signature-of_parts : (gamma1 omega' k l n : ℕ) (sigma c_tilde response hint : List ℕ) (z h : List R) → sigma ≡ c_tilde ++ (response ++ hint) → length c_tilde ≡ n
     → IsVector l (gamma1 - 1) gamma1 z → vector_bytes (gamma1 - 1) gamma1 z ≡ response → Spells omega' k h hint → IsSignature gamma1 omega' k l n sigma c_tilde z h
 signature-of_parts gamma1 omega' k l n sigma c_tilde response hint z h cut size vector packed spells = record {
-  commitment = size;
+  c_tilde_size = size;
   response = vector;
   hint = spells.hint;
   few = spells.few;
@@ -126,7 +126,7 @@ pub signature-hint : (gamma1 omega' k l n m : ℕ) (sigma c_tilde : List ℕ) (z
     → Spells omega' k h (drop m sigma)
 signature-hint gamma1 omega' k l n m sigma c_tilde z h s e =
     let size = vector-length l (gamma1 - 1) gamma1 z s.response in
-    let front : length (c_tilde ++ vector_bytes (gamma1 - 1) gamma1 z) ≡ m = length-append c_tilde (vector_bytes (gamma1 - 1) gamma1 z) ∙ omega (arith, size, s.commitment, e) in
+    let front : length (c_tilde ++ vector_bytes (gamma1 - 1) gamma1 z) ≡ m = length-append c_tilde (vector_bytes (gamma1 - 1) gamma1 z) ∙ omega (arith, size, s.c_tilde_size, e) in
     record {
       hint = s.hint;
       few = s.few;
@@ -192,8 +192,8 @@ same_signature gamma1 omega' k l n bytes c d z y g h low high p q =
     let b = vector-length l (gamma1 - 1) gamma1 y q.response in
     let whole = 32 * width (pos (gamma1 - 1)) (pos gamma1) * l in
     let outer = cut (c ++ Z) (d ++ Y) (hint_bytes omega' g) (hint_bytes omega' h) (n + whole)
-    (length-append c Z ∙ rw (p.commitment, a) refl) (length-append d Y ∙ rw (q.commitment, b) refl) same in
-    let inner = cut c d Z Y n p.commitment q.commitment outer.0 in
+    (length-append c Z ∙ rw (p.c_tilde_size, a) refl) (length-append d Y ∙ rw (q.c_tilde_size, b) refl) same in
+    let inner = cut c d Z Y n p.c_tilde_size q.c_tilde_size outer.0 in
     let left : Spells omega' k g (hint_bytes omega' h) = record { hint = p.hint; few = p.few; spelling = outer.1 } in
     let right : Spells omega' k h (hint_bytes omega' h) = record { hint = q.hint; few = q.few; spelling = refl } in (
       inner.0,

@@ -110,10 +110,10 @@ all_present-longer f g (x ∷ xs) vs same e =
 pub sampled_matrix-longer : (G G' : List ℕ → List ℕ) (rho : List ℕ) (k l : ℕ) (a : List (List T)) → ArePrefixes G G' → sampled_matrix G rho k l ≡ Some a → sampled_matrix G' rho k l ≡ Some a
 unfolding sampled_matrix
 sampled_matrix-longer G G' rho k l a e there =
-    let entry = λ (F : List ℕ → List ℕ) (r s : ℕ). matrix_entry (F (rho ++ s ∷ r ∷ [])) in
-    let row = λ (F : List ℕ → List ℕ) (r : ℕ). all_present (map (entry F r) (range_with_len 0 l)) in
+    let coefficient_of = λ (F : List ℕ → List ℕ) (r s : ℕ). matrix_entry (F (rho ++ s ∷ r ∷ [])) in
+    let row = λ (F : List ℕ → List ℕ) (r : ℕ). all_present (map (coefficient_of F r) (range_with_len 0 l)) in
     all_present-longer (row G) (row G') (range_with_len 0 k) a
-    (λ r v here. all_present-longer (entry G r) (entry G' r) (range_with_len 0 l) v (λ s t. matrix_entry-longer (G (rho ++ s ∷ r ∷ [])) (G' (rho ++ s ∷ r ∷ [])) t (e (rho ++ s ∷ r ∷ []))) here) there
+    (λ r v here. all_present-longer (coefficient_of G r) (coefficient_of G' r) (range_with_len 0 l) v (λ s t. matrix_entry-longer (G (rho ++ s ∷ r ∷ [])) (G' (rho ++ s ∷ r ∷ [])) t (e (rho ++ s ∷ r ∷ []))) here) there
 
 pub small_vector-longer : (eta : ℕ) (H H' : List ℕ → List ℕ) (rho : List ℕ) (first count : ℕ) (v : List R) → ArePrefixes H H' → small_vector eta H rho first count ≡ Some v → small_vector eta H' rho first count ≡ Some v
 unfolding small_vector

@@ -4,7 +4,7 @@ use Rattle.fips204_base.specs.Network.{plain_row, plain_matrix, inverse_root, ro
 use Rattle.fips204_base.specs.Residues.{residue, coefficients, from_mont, IsCongruent}
 use Rattle.fips204_base.specs.Transforms.{transform, inverse_transform, pointwise, product, minus}
 use Rattle.fips204_base.specs.Lanes.{lane}
-use Rattle.fips204_base.specs.Vectors.{entry, vector_coefficients, matrix_product, AreSameModQ}
+use Rattle.fips204_base.specs.Vectors.{coefficient_of, vector_coefficients, matrix_product, AreSameModQ}
 use Rattle.fips204_base.specs.PlainTransforms.{lane_values, plain_vector, factor_values, plain_factor, lanes_value}
 use Rattle.fips204_base.specs.declared.types.R.{R}
 use Rattle.fips204_base.specs.declared.types.T.{T}
@@ -41,7 +41,7 @@ own v a h i p below =
 lane_below : (w : List (List ℤ)) (r i : ℕ) → lane_values w r i < 8380417
 lane_below w r i = residue_below (lane (get_or w i []) r)
 
-plain-entry : (w : List (List ℤ)) (r n : ℕ) → r < 8 → n < 256 → entry (plain_vector w) r n ≡ pos (inverse_transform (lane_values w r) n)
+plain-entry : (w : List (List ℤ)) (r n : ℕ) → r < 8 → n < 256 → coefficient_of (plain_vector w) r n ≡ pos (inverse_transform (lane_values w r) n)
 plain-entry w r n h l = vector_of-entry 8 (λ r n. pos (inverse_transform (lane_values w r) n)) r n h l
 
 pub plain-at : (w : List (List ℤ)) (r n : ℕ) → r < 8 → n < 256 → vector_coefficients (plain_vector w) r n ≡ inverse_transform (lane_values w r) n

@@ -5,7 +5,7 @@ use Rattle.std.proofs.lemmas.Nat.{div-mul-add, mod-mul-add, div-add-mod', mod_be
 use Rattle.std.proofs.lemmas.Bool.{cases_lt, le-leb, lt-leb, eq-eqb, ne_eqb, cases_eq}
 use Rattle.fips204_base.specs.Network.{nearest_multiple}
 use Rattle.fips204_base.specs.Residues.{centred_modulo}
-use Rattle.fips204_base.specs.Rounding.{power2round, decompose, high_bits, low_bits, high_values, use_hint}
+use Rattle.fips204_base.specs.Rounding.{power2round, decompose, high_bits, low_bits, high_count, use_hint}
 use Rattle.std.specs.Prelude.{◌⊎◌, ◌<ℤ◌, ◌≤ℤ◌, int_lt}
 
 -- the two reciprocals: 1488 * 11275 is 2^24 - 16, and 4092 * 1025 is 2^22 - 4
@@ -76,7 +76,7 @@ low_bits-other g r k p is other = ap (λ d. d.1) (decompose_other g r k p is oth
 pub ruleset decomposed = (high_bits-edge, low_bits-edge, high_bits-other, low_bits-other)
 
 -- high bits are below their number of values
-pub high_bits_below : (g r : ℕ) → (g ≡ 95232) ⊎ (g ≡ 261888) → r < 8380417 → high_bits g r < high_values g
+pub high_bits_below : (g r : ℕ) → (g ≡ 95232) ⊎ (g ≡ 261888) → r < 8380417 → high_bits g r < high_count g
 high_bits_below g r (inl is) h = rw is (below_44 r h)
   where
     below_44 : (n : ℕ) → n < 8380417 → high_bits 95232 n < 44
@@ -106,21 +106,21 @@ pub use_hint-none : (g r : ℕ) (h : Bool) → h ≡ false → use_hint g h r �
 unfolding use_hint
 use_hint-none g r h none = rw none
 
-pub use_hint-up : (g r : ℕ) (h : Bool) → h ≡ true → pos 0 <ℤ low_bits g r → high_bits g r + 1 < high_values g → use_hint g h r ≡ high_bits g r + 1
+pub use_hint-up : (g r : ℕ) (h : Bool) → h ≡ true → pos 0 <ℤ low_bits g r → high_bits g r + 1 < high_count g → use_hint g h r ≡ high_bits g r + 1
 unfolding use_hint
-use_hint-up g r h one low room = rw (one, above (low_bits g r) low) (remainder (high_bits g r + 1) 0 (high_values g) (high_bits g r + 1) room (omega arith))
+use_hint-up g r h one low room = rw (one, above (low_bits g r) low) (remainder (high_bits g r + 1) 0 (high_count g) (high_bits g r + 1) room (omega arith))
 
-pub use_hint-up_round : (g r : ℕ) (h : Bool) → h ≡ true → pos 0 <ℤ low_bits g r → high_bits g r + 1 ≡ high_values g → use_hint g h r ≡ 0
+pub use_hint-up_round : (g r : ℕ) (h : Bool) → h ≡ true → pos 0 <ℤ low_bits g r → high_bits g r + 1 ≡ high_count g → use_hint g h r ≡ 0
 unfolding use_hint
-use_hint-up_round g r h one low last = rw (one, above (low_bits g r) low) (remainder (high_bits g r + 1) 1 (high_values g) 0 (omega arith) (omega arith))
+use_hint-up_round g r h one low last = rw (one, above (low_bits g r) low) (remainder (high_bits g r + 1) 1 (high_count g) 0 (omega arith) (omega arith))
 
-pub use_hint-down : (g r : ℕ) (h : Bool) → h ≡ true → low_bits g r ≤ℤ pos 0 → 0 < high_bits g r → high_bits g r < high_values g → use_hint g h r ≡ high_bits g r - 1
+pub use_hint-down : (g r : ℕ) (h : Bool) → h ≡ true → low_bits g r ≤ℤ pos 0 → 0 < high_bits g r → high_bits g r < high_count g → use_hint g h r ≡ high_bits g r - 1
 unfolding use_hint
-use_hint-down g r h one low room below = rw (one, not_above (low_bits g r) low) (remainder (high_bits g r + (high_values g - 1)) 1 (high_values g) (high_bits g r - 1) (omega arith) (omega arith))
+use_hint-down g r h one low room below = rw (one, not_above (low_bits g r) low) (remainder (high_bits g r + (high_count g - 1)) 1 (high_count g) (high_bits g r - 1) (omega arith) (omega arith))
 
-pub use_hint-down_round : (g r : ℕ) (h : Bool) → h ≡ true → low_bits g r ≤ℤ pos 0 → high_bits g r ≡ 0 → 0 < high_values g → use_hint g h r ≡ high_values g - 1
+pub use_hint-down_round : (g r : ℕ) (h : Bool) → h ≡ true → low_bits g r ≤ℤ pos 0 → high_bits g r ≡ 0 → 0 < high_count g → use_hint g h r ≡ high_count g - 1
 unfolding use_hint
-use_hint-down_round g r h one low first some = rw (one, not_above (low_bits g r) low) (remainder (high_bits g r + (high_values g - 1)) 0 (high_values g) (high_values g - 1) (omega arith) (omega arith))
+use_hint-down_round g r h one low first some = rw (one, not_above (low_bits g r) low) (remainder (high_bits g r + (high_count g - 1)) 0 (high_count g) (high_count g - 1) (omega arith) (omega arith))
 
 pub ruleset hinted = (use_hint-none, use_hint-up, use_hint-up_round, use_hint-down, use_hint-down_round)
 

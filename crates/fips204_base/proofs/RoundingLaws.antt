@@ -5,7 +5,7 @@ use Rattle.std.proofs.lemmas.Int.{ints, by_lt_z}
 use Rattle.std.proofs.lemmas.Nat.{mod_below}
 use Rattle.std.proofs.lemmas.Bool.{cases_eq, cases_lt, eq-eqb, ne_eqb, le-leb, lt-leb}
 use Rattle.fips204_base.specs.Residues.{residue, centred_modulo, centred}
-use Rattle.fips204_base.specs.Rounding.{IsGamma2, high_bits, low_bits, high_values, use_hint, make_hint}
+use Rattle.fips204_base.specs.Rounding.{IsGamma2, high_bits, low_bits, high_count, use_hint, make_hint}
 use Rattle.fips204_base.proofs.Reductions.{centred-modulo, centred_is}
 use Rattle.fips204_base.proofs.Residues.{residue_below}
 use Rattle.fips204_base.proofs.Rounding.{decompose_sides, high_bits_below, above, not_above}
@@ -24,7 +24,7 @@ IsNearZero n z = (z ≤ n) ⊎ (8380417 ≤ z + n)
 
 -- where r + z has other high bits than r, they are one further on, round the end, or one further back
 high_bits-up : (g : ℕ) → IsGamma g → (r z : ℕ) → r < 8380417 → z < 8380417 → IsNearZero g z → pos 0 <ℤ low_bits g r
-    → high_bits g r ≢ high_bits g ((r + z) % 8380417) → (high_bits g r + 1) % high_values g ≡ high_bits g ((r + z) % 8380417)
+    → high_bits g r ≢ high_bits g ((r + z) % 8380417) → (high_bits g r + 1) % high_count g ≡ high_bits g ((r + z) % 8380417)
 high_bits-up g (inl is) = rw is (λ r z below small near low differs.
     let s = (r + z) % 8380417 in
     let r_fits = high_bits_below 95232 r (inl refl) below in
@@ -38,7 +38,7 @@ high_bits-up g (inr is) = rw is (λ r z below small near low differs.
 
 high_bits-down : (g : ℕ) → IsGamma g → (r z : ℕ) → r < 8380417 → z < 8380417 → IsNearZero g z → low_bits g r ≤ℤ pos 0
     → high_bits g r ≢ high_bits g ((r + z) % 8380417)
-    → (high_bits g r + (high_values g - 1)) % high_values g ≡ high_bits g ((r + z) % 8380417)
+    → (high_bits g r + (high_count g - 1)) % high_count g ≡ high_bits g ((r + z) % 8380417)
 high_bits-down g (inl is) = rw is (λ r z below small near low differs.
     let s = (r + z) % 8380417 in
     let r_fits = high_bits_below 95232 r (inl refl) below in
@@ -102,7 +102,7 @@ far_none g (inr is) = rw is (λ r u x below moved where_x small far.
     let fits = high_bits_below 261888 r (inr refl) below in
     omega (arith, ints, decompose_sides 261888 r (omega arith)))
 
-far_up : (g : ℕ) → IsGamma g → (r u x : ℕ) → r < 8380417 → pos 0 <ℤ low_bits g r → u ≡ (high_bits g r + 1) % high_values g
+far_up : (g : ℕ) → IsGamma g → (r u x : ℕ) → r < 8380417 → pos 0 <ℤ low_bits g r → u ≡ (high_bits g r + 1) % high_count g
     → (x + u * (2 * g) ≡ r) ⊎ (x + u * (2 * g) ≡ r + 8380417) → x < 8380417 → 2 * g + 1 < x → 8380417 ≤ x + (2 * g + 1)
 far_up g (inl is) = rw is (λ r u x below low moved where_x small far.
     let fits = high_bits_below 95232 r (inl refl) below in
@@ -112,7 +112,7 @@ far_up g (inr is) = rw is (λ r u x below low moved where_x small far.
     omega (arith, ints, decompose_sides 261888 r (omega arith)))
 
 far_down : (g : ℕ) → IsGamma g → (r u x : ℕ) → r < 8380417 → low_bits g r ≤ℤ pos 0
-    → u ≡ (high_bits g r + (high_values g - 1)) % high_values g
+    → u ≡ (high_bits g r + (high_count g - 1)) % high_count g
     → (x + u * (2 * g) ≡ r) ⊎ (x + u * (2 * g) ≡ r + 8380417) → x < 8380417 → 2 * g + 1 < x → 8380417 ≤ x + (2 * g + 1)
 far_down g (inl is) = rw is (λ r u x below low moved where_x small far.
     let fits = high_bits_below 95232 r (inl refl) below in
@@ -121,11 +121,11 @@ far_down g (inr is) = rw is (λ r u x below low moved where_x small far.
     let fits = high_bits_below 261888 r (inr refl) below in
     omega (arith, ints, decompose_sides 261888 r (omega arith)))
 
-use_hint-moved_up : (g r : ℕ) → pos 0 <ℤ low_bits g r → use_hint g true r ≡ (high_bits g r + 1) % high_values g
+use_hint-moved_up : (g r : ℕ) → pos 0 <ℤ low_bits g r → use_hint g true r ≡ (high_bits g r + 1) % high_count g
 unfolding use_hint
 use_hint-moved_up g r low = rw (above (low_bits g r) low)
 
-use_hint-moved_down : (g r : ℕ) → low_bits g r ≤ℤ pos 0 → use_hint g true r ≡ (high_bits g r + (high_values g - 1)) % high_values g
+use_hint-moved_down : (g r : ℕ) → low_bits g r ≤ℤ pos 0 → use_hint g true r ≡ (high_bits g r + (high_count g - 1)) % high_count g
 unfolding use_hint
 use_hint-moved_down g r low = rw (not_above (low_bits g r) low)
 
@@ -134,14 +134,14 @@ unfolding use_hint
 use_hint-unmoved g r = refl
 
 -- high bits, moved or not, are below their number of values, and times 2 gamma2 below q
-moved_few : (g r : ℕ) (hint : Bool) → 0 < high_values g → high_bits g r < high_values g → use_hint g hint r < high_values g
+moved_few : (g r : ℕ) (hint : Bool) → 0 < high_count g → high_bits g r < high_count g → use_hint g hint r < high_count g
 unfolding use_hint
 moved_few g r false some few = few
 moved_few g r true some few = by_lt_z (pos 0) (low_bits g r)
-    (λ up. rw (above (low_bits g r) up) (mod_below (high_bits g r + 1) (high_values g) some))
-    (λ down. rw (not_above (low_bits g r) down) (mod_below (high_bits g r + (high_values g - 1)) (high_values g) some))
+    (λ up. rw (above (low_bits g r) up) (mod_below (high_bits g r + 1) (high_count g) some))
+    (λ down. rw (not_above (low_bits g r) down) (mod_below (high_bits g r + (high_count g - 1)) (high_count g) some))
 
-times_below : (g : ℕ) → IsGamma g → (u : ℕ) → u < high_values g → u * (2 * g) < 8380417
+times_below : (g : ℕ) → IsGamma g → (u : ℕ) → u < high_count g → u * (2 * g) < 8380417
 times_below g (inl is) = rw is (λ u few. omega (arith, few))
 times_below g (inr is) = rw is (λ u few. omega (arith, few))
 

@@ -7,7 +7,7 @@ use Rattle.std.proofs.lemmas.List.Elements.{All-from_get_or}
 use Rattle.std.proofs.lemmas.List.FromFn.{get_or-map-range_with_len, length-map-range_with_len}
 use Rattle.fips204_base.specs.declared.types.R.{R}
 use Rattle.fips204_base.specs.Packing.{PolynomialInRange}
-use Rattle.fips204_base.specs.Vectors.{entry, IsVector, polynomial_of, vector_of}
+use Rattle.fips204_base.specs.Vectors.{coefficient_of, IsVector, polynomial_of, vector_of}
 use Rattle.fips204_base.specs.Network.{VectorWithin}
 
 -- Lists that a loop writes row by row.
@@ -73,14 +73,14 @@ vector_of-range k a b f range =
 
 -- k polynomials of 256 coefficients f r n are this vector
 pub vector_of-same : (k : ℕ) (f : ℕ → ℕ → ℤ) (v : List R) → length v ≡ k → ((r : ℕ) → r < k → length (get_or v r record { 0 = [] }).0 ≡ 256)
-    → ((r n : ℕ) → r < k → n < 256 → entry v r n ≡ f r n) → v ≡ vector_of k f
+    → ((r n : ℕ) → r < k → n < 256 → coefficient_of v r n ≡ f r n) → v ≡ vector_of k f
 vector_of-same k f v rows places at =
     let empty : R = record { 0 = [] } in
     ext_get_or empty v (vector_of k f) (rows ∙ sym (length-vector_of k f)) (λ r h.
     let inside : r < k = omega (arith, h, rows) in
     polynomial_of-same (f r) (get_or v r empty) (places r inside) (λ n l. at r n inside l) ∙ sym (vector_of-row k f r empty inside))
 
-pub vector_of-entry : (k : ℕ) (f : ℕ → ℕ → ℤ) (r n : ℕ) → r < k → n < 256 → entry (vector_of k f) r n ≡ f r n
+pub vector_of-entry : (k : ℕ) (f : ℕ → ℕ → ℤ) (r n : ℕ) → r < k → n < 256 → coefficient_of (vector_of k f) r n ≡ f r n
 vector_of-entry k f r n h l = vector_of-at k f r n record { 0 = [] } h l
 
 -- functions that agree at each place give one vector

@@ -7,7 +7,7 @@ use Rattle.fips204_base.specs.Vectors.{matrix_product}
 use Rattle.std.specs.Prelude.{replicate, nat_eq}
 use Rattle.std.specs.List.{range_with_len, flat_map}
 use Rattle.fips204_base.specs.Packing.{polynomial_bytes, bits_to_bytes, bits, integer_to_bits, bits_to_integer, bit_length}
-use Rattle.fips204_base.specs.Rounding.{power2round, decompose, make_hint, use_hint, high_values}
+use Rattle.fips204_base.specs.Rounding.{power2round, decompose, make_hint, use_hint, high_count}
 
 -- Worked values of the definitions of residues, products and transforms.
 
@@ -113,7 +113,7 @@ decompose_edge_65_87 : map (decompose 261888) (8118528 ∷ 8118529 ∷ 8380416 �
 unfolding decompose
 decompose_edge_65_87 = refl
 
-high_values_of_sets : map high_values (95232 ∷ 261888 ∷ []) ≡ 44 ∷ 16 ∷ []
+high_values_of_sets : map high_count (95232 ∷ 261888 ∷ []) ≡ 44 ∷ 16 ∷ []
 high_values_of_sets = refl
 
 -- at 0 a hint goes down, past 0 to the last value; above 0 up; at the last value from above back to 0

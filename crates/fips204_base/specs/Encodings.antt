@@ -2,7 +2,7 @@
 use Rattle.std.specs.Prelude.{◌≡◌, ◌≤◌, ◌+◌, ◌-◌, ℕ, List, ◌++◌, Bool, pos, length, map, take, replicate, slice_index_or, int_lt, ◌⊎◌, ℤ}
 use Rattle.std.specs.List.{filter, flat_map, range_with_len}
 use Rattle.fips204_base.specs.Packing.{polynomial_bytes}
-use Rattle.fips204_base.specs.Rounding.{high_values}
+use Rattle.fips204_base.specs.Rounding.{high_count}
 use Rattle.fips204_base.specs.Streams.{Bytes, XOF}
 use Rattle.fips204_base.specs.Vectors.{IsVector}
 use Rattle.fips204_base.specs.declared.types.R.{R}
@@ -100,7 +100,7 @@ signature_bytes gamma1 omega c_tilde z h = c_tilde ++ vector_bytes (gamma1 - 1) 
 -- sigDecode (Algorithm 27): the parts whose encoding the bytes are: c_tilde of so many bytes, z of l polynomials,
 -- and a hint of k polynomials and at most omega ones
 pub record IsSignature (gamma1 omega k l n : ℕ) (bytes c_tilde : Bytes) (z h : List R) : Type 0 where
-  pub commitment : length c_tilde ≡ n
+  pub c_tilde_size : length c_tilde ≡ n
   pub response : IsVector l (gamma1 - 1) gamma1 z
   pub hint : IsVector k 0 1 h
   pub few : length (all_ones h) ≤ omega
@@ -108,4 +108,4 @@ pub record IsSignature (gamma1 omega k l n : ℕ) (bytes c_tilde : Bytes) (z h :
 
 -- w1Encode (Algorithm 28)
 abbrev pub w1_bytes : ℕ → List R → Bytes
-w1_bytes gamma2 w1 = vector_bytes 0 (high_values gamma2 - 1) w1
+w1_bytes gamma2 w1 = vector_bytes 0 (high_count gamma2 - 1) w1

@@ -8,7 +8,7 @@ use Rattle.fips204_base.specs.Packing.{bits, width, unpacked}
 use Rattle.fips204_base.specs.Residues.{residue, sum_below, centred_modulo, coefficients, IsCongruent}
 use Rattle.fips204_base.specs.Sampling.{all_present, coefficient_from_three_bytes, coefficient_from_half_byte, matrix_entry, picks, sampled_matrix, small_polynomial}
 use Rattle.fips204_base.specs.Transforms.{bit_reversed, zeta_at, inverse_transform, minus, product}
-use Rattle.fips204_base.specs.Vectors.{coefficient_at, entry, vector_coefficients, matrix_product}
+use Rattle.fips204_base.specs.Vectors.{coefficient_at, coefficient_of, vector_coefficients, matrix_product}
 use Rattle.fips204_base.specs.declared.fault.Fault.{Fault}
 use Rattle.fips204_base.specs.declared.fault.Fault.TheVariants.{SamplingLimit}
 use Rattle.fips204_base.specs.declared.types.R.{R}
@@ -95,11 +95,11 @@ PolynomialWithin m w = (n : ℕ) → n < 256 → nat_abs (coefficient_at w n) �
 
 -- every coefficient of the k polynomials of a vector has an absolute value of at most m
 abbrev pub VectorWithin : ℕ → ℕ → List R → Type 0
-VectorWithin k m v = (r n : ℕ) → r < k → n < 256 → nat_abs (entry v r n) ≤ m
+VectorWithin k m v = (r n : ℕ) → r < k → n < 256 → nat_abs (coefficient_of v r n) ≤ m
 
 -- every coefficient of the k polynomials of a vector is from 0 to q - 1
 abbrev pub IsResidueVector : ℕ → List R → Type 0
-IsResidueVector k v = (r n : ℕ) → r < k → n < 256 → (pos 0 ≤ℤ entry v r n) × (entry v r n ≤ℤ pos 8380416)
+IsResidueVector k v = (r n : ℕ) → r < k → n < 256 → (pos 0 ≤ℤ coefficient_of v r n) × (coefficient_of v r n ≤ℤ pos 8380416)
 
 -- every value of a vector of transforms has an absolute value of at most m
 abbrev pub TransformsWithin : ℕ → List T → Type 0

@@ -31,8 +31,8 @@ abbrev pub make_hint : ℕ → ℕ → ℕ → Bool
 make_hint gamma2 z r = not (nat_eq (high_bits gamma2 r) (high_bits gamma2 ((r + z) % 8380417)))
 
 -- how many values high bits have: 44 or 16
-abbrev pub high_values : ℕ → ℕ
-high_values gamma2 = 8380416 / (2 * gamma2)
+abbrev pub high_count : ℕ → ℕ
+high_count gamma2 = 8380416 / (2 * gamma2)
 
 -- UseHint (Algorithm 40): without a hint r1 of (r1, r0); with one r1 goes one up where r0 > 0 and else one down, modulo the number
 -- of values
@@ -40,5 +40,5 @@ unfoldable pub use_hint : ℕ → Bool → ℕ → ℕ
 use_hint gamma2 hint r =
     let parts = decompose gamma2 r in
     if not hint then parts.0
-    else if int_lt (pos 0) parts.1 then (parts.0 + 1) % high_values gamma2
-    else (parts.0 + (high_values gamma2 - 1)) % high_values gamma2
+    else if int_lt (pos 0) parts.1 then (parts.0 + 1) % high_count gamma2
+    else (parts.0 + (high_count gamma2 - 1)) % high_count gamma2

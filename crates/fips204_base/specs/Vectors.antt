@@ -12,8 +12,8 @@ abbrev pub coefficient_at : List ℤ → ℕ → ℤ
 coefficient_at w n = slice_index_or w n (pos 0)
 
 -- coefficient n of polynomial r of a vector
-abbrev pub entry : List R → ℕ → ℕ → ℤ
-entry v r = coefficient_at (slice_index_or v r record { 0 = [] }).0
+abbrev pub coefficient_of : List R → ℕ → ℕ → ℤ
+coefficient_of v r = coefficient_at (slice_index_or v r record { 0 = [] }).0
 
 -- every value of a matrix of transforms has an absolute value of at most m
 abbrev pub MatrixWithin : ℕ → List (List T) → Type 0

@@ -5,7 +5,7 @@ ghost use Rattle.std.specs.Prelude.{◌≡◌, ◌⊎◌, ◌<◌, ◌≤◌, �
 ghost use Rattle.fips204_base.specs.Residues.{residue};
 ghost use Rattle.fips204_base.specs.Vectors.{vector_coefficients, vector_of};
 ghost use Rattle.fips204_base.specs.Network.{IsResidueVector};
-ghost use Rattle.fips204_base.specs.Rounding.{IsGamma2, power2round, high_bits, low_bits, make_hint, high_values, use_hint};
+ghost use Rattle.fips204_base.specs.Rounding.{IsGamma2, power2round, high_bits, low_bits, make_hint, high_count, use_hint};
 
 use crate::D;
 use crate::helpers::full_reduce32;
@@ -164,7 +164,7 @@ fn use_hint_residue(gamma2: u32, hint: bool, r: u32) -> Zq
     if !hint {
         return high;
     }
-    let last = high_values(gamma2) - 1;
+    let last = high_count(gamma2) - 1;
     if low > 0 {
         // h = 1 and r0 > 0: (r1 + 1) mod m
         if high == last { 0 } else { high + 1 }
@@ -175,9 +175,9 @@ fn use_hint_residue(gamma2: u32, hint: bool, r: u32) -> Zq
 }
 
 /// The number of values of high bits: `(q - 1) / (2 gamma2)`.
-pub(crate) fn high_values(gamma2: u32) -> Zq
+pub(crate) fn high_count(gamma2: u32) -> Zq
     requires { (gamma2 ≡ 95232) ⊎ (gamma2 ≡ 261888) }
-    ensures { result ≡ pos (high_values gamma2) }
+    ensures { result ≡ pos (high_count gamma2) }
 {
     if gamma2 == 95232 { 44 } else { 16 }
 }

@@ -6,7 +6,7 @@
 #![tactic(auto)]
 
 ghost use Rattle.std.specs.Prelude.{◌≡◌, ◌<◌, ℕ, ℤ, length};
-ghost use Rattle.fips204_base.specs.Vectors.{coefficient_at, entry, vector_of};
+ghost use Rattle.fips204_base.specs.Vectors.{coefficient_at, coefficient_of, vector_of};
 
 use crate::types::R;
 
@@ -48,10 +48,10 @@ pub fn write_zip<F: Fn(i32, i32) -> i32>(v: &mut [i32; 256], w: &[i32; 256], f: 
 /// The vector whose coefficients are `f` of those of `v`.
 #[inline(always)]
 pub fn map_vector<const K: usize, F: Fn(i32) -> i32>(v: &[R; K], f: F) -> [R; K]
-    requires { (r n : ℕ) → r < K → n < 256 → F.pre f (entry v.now r n) }
-    ensures values { (r n : ℕ) → r < K → n < 256 → F.post f (entry v.now r n) (entry result r n) }
+    requires { (r n : ℕ) → r < K → n < 256 → F.pre f (coefficient_of v.now r n) }
+    ensures values { (r n : ℕ) → r < K → n < 256 → F.post f (coefficient_of v.now r n) (coefficient_of result r n) }
     ensures whole { (g : ℕ → ℕ → ℤ)
-        → ((r n : ℕ) (y : ℤ) → r < K → n < 256 → F.post f (entry v.now r n) y → y ≡ g r n)
+        → ((r n : ℕ) (y : ℤ) → r < K → n < 256 → F.post f (coefficient_of v.now r n) y → y ≡ g r n)
         → result ≡ vector_of K g }
 {
     let mut out = *v;
@@ -62,10 +62,10 @@ pub fn map_vector<const K: usize, F: Fn(i32) -> i32>(v: &[R; K], f: F) -> [R; K]
 /// The vector whose coefficients are `f` of those of `v` and `w` at the same place.
 #[inline(always)]
 pub fn zip_vectors<const K: usize, F: Fn(i32, i32) -> i32>(v: &[R; K], w: &[R; K], f: F) -> [R; K]
-    requires { (r n : ℕ) → r < K → n < 256 → F.pre f (entry v.now r n) (entry w.now r n) }
-    ensures values { (r n : ℕ) → r < K → n < 256 → F.post f (entry v.now r n) (entry w.now r n) (entry result r n) }
+    requires { (r n : ℕ) → r < K → n < 256 → F.pre f (coefficient_of v.now r n) (coefficient_of w.now r n) }
+    ensures values { (r n : ℕ) → r < K → n < 256 → F.post f (coefficient_of v.now r n) (coefficient_of w.now r n) (coefficient_of result r n) }
     ensures whole { (g : ℕ → ℕ → ℤ)
-        → ((r n : ℕ) (y : ℤ) → r < K → n < 256 → F.post f (entry v.now r n) (entry w.now r n) y → y ≡ g r n)
+        → ((r n : ℕ) (y : ℤ) → r < K → n < 256 → F.post f (coefficient_of v.now r n) (coefficient_of w.now r n) y → y ≡ g r n)
         → result ≡ vector_of K g }
 {
     let mut out = *v;
@@ -76,10 +76,10 @@ pub fn zip_vectors<const K: usize, F: Fn(i32, i32) -> i32>(v: &[R; K], w: &[R; K
 /// Changes each coefficient of `v` to `f` of it.
 #[inline(always)]
 pub fn write_map_vector<const K: usize, F: Fn(i32) -> i32>(v: &mut [R; K], f: F)
-    requires { (r n : ℕ) → r < K → n < 256 → F.pre f (entry v.old r n) }
-    ensures values { (r n : ℕ) → r < K → n < 256 → F.post f (entry v.old r n) (entry v.new r n) }
+    requires { (r n : ℕ) → r < K → n < 256 → F.pre f (coefficient_of v.old r n) }
+    ensures values { (r n : ℕ) → r < K → n < 256 → F.post f (coefficient_of v.old r n) (coefficient_of v.new r n) }
     ensures whole { (g : ℕ → ℕ → ℤ)
-        → ((r n : ℕ) (y : ℤ) → r < K → n < 256 → F.post f (entry v.old r n) y → y ≡ g r n)
+        → ((r n : ℕ) (y : ℤ) → r < K → n < 256 → F.post f (coefficient_of v.old r n) y → y ≡ g r n)
         → v.new ≡ vector_of K g }
 {
     for r in 0..K {
@@ -90,10 +90,10 @@ pub fn write_map_vector<const K: usize, F: Fn(i32) -> i32>(v: &mut [R; K], f: F)
 /// Changes each coefficient of `v` to `f` of it and that of `w` at the same place.
 #[inline(always)]
 pub fn write_zip_vectors<const K: usize, F: Fn(i32, i32) -> i32>(v: &mut [R; K], w: &[R; K], f: F)
-    requires { (r n : ℕ) → r < K → n < 256 → F.pre f (entry v.old r n) (entry w.now r n) }
-    ensures values { (r n : ℕ) → r < K → n < 256 → F.post f (entry v.old r n) (entry w.now r n) (entry v.new r n) }
+    requires { (r n : ℕ) → r < K → n < 256 → F.pre f (coefficient_of v.old r n) (coefficient_of w.now r n) }
+    ensures values { (r n : ℕ) → r < K → n < 256 → F.post f (coefficient_of v.old r n) (coefficient_of w.now r n) (coefficient_of v.new r n) }
     ensures whole { (g : ℕ → ℕ → ℤ)
-        → ((r n : ℕ) (y : ℤ) → r < K → n < 256 → F.post f (entry v.old r n) (entry w.now r n) y → y ≡ g r n)
+        → ((r n : ℕ) (y : ℤ) → r < K → n < 256 → F.post f (coefficient_of v.old r n) (coefficient_of w.now r n) y → y ≡ g r n)
         → v.new ≡ vector_of K g }
 {
     for r in 0..K {

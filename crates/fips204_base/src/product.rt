@@ -6,7 +6,7 @@ ghost use Rattle.std.specs.Prelude.{◌≡◌, ◌≢◌, ◌<◌, ◌≤◌, �
 ghost use Rattle.fips204_base.specs.Lanes.{lane};
 ghost use Rattle.fips204_base.specs.Residues.{coefficients};
 ghost use Rattle.fips204_base.specs.Transforms.{minus, product};
-ghost use Rattle.fips204_base.specs.Vectors.{coefficient_at, entry, AreSameModQ, vector_coefficients, vector_of};
+ghost use Rattle.fips204_base.specs.Vectors.{coefficient_at, coefficient_of, AreSameModQ, vector_coefficients, vector_of};
 ghost use Rattle.fips204_base.specs.Network.{PolynomialWithin, VectorWithin};
 ghost use Rattle.fips204_base.specs.declared.types.R.{R};
 
@@ -71,7 +71,7 @@ impl Transforms {
     #[inline(never)]
     pub fn write_plain<const N: usize>(&mut self, out: &mut [R; N])
         requires { N ≤ 8 }
-        ensures values { (r n : ℕ) → r < N → n < 256 → entry out.new r n ≡ pos (vector_coefficients self.old r n) }
+        ensures values { (r n : ℕ) → r < N → n < 256 → coefficient_of out.new r n ≡ pos (vector_coefficients self.old r n) }
         ensures whole { out.new ≡ vector_of N (λ r n. pos (vector_coefficients self.old r n)) }
         ensures range { VectorWithin N 8380416 out.new }
     {
@@ -145,7 +145,7 @@ fn lanes_of<const N: usize>(v: &[R; N], n: usize) -> Lanes
     requires few { N ≤ 8 }
     requires place { n < 256 }
     requires range { VectorWithin N 8380416 v.now }
-    ensures value { (r : ℕ) → r < N → lane result r ≡ entry v.now r n }
+    ensures value { (r : ℕ) → r < N → lane result r ≡ coefficient_of v.now r n }
     ensures small { (r : ℕ) → r < 8 → nat_abs (lane result r) ≤ 8380416 }
 {
     let mut entries = [0; 8];
@@ -160,8 +160,8 @@ fn lanes_of<const N: usize>(v: &[R; N], n: usize) -> Lanes
 fn write_coefficients<const N: usize>(x: Lanes, n: usize, out: &mut [R; N])
     requires few { N ≤ 8 }
     requires place { n < 256 }
-    ensures value { (r : ℕ) → r < N → entry out.new r n ≡ lane x r }
-    ensures kept { (r m : ℕ) → m ≢ n → entry out.new r m ≡ entry out.old r m }
+    ensures value { (r : ℕ) → r < N → coefficient_of out.new r n ≡ lane x r }
+    ensures kept { (r m : ℕ) → m ≢ n → coefficient_of out.new r m ≡ coefficient_of out.old r m }
     ensures size { length out.new ≡ N }
     ensures places { (r : ℕ) (d : R) → r < N → length (slice_index_or out.new r d).0 ≡ 256 }
 {

@@ -64,7 +64,7 @@ impl<
 where
     Matrix<K, L>: HasSet<Set = S>,
     S: Set<
-        Commitment = [u8; LAMBDA_DIV4],
+        CommitmentHash = [u8; LAMBDA_DIV4],
         Signature = [u8; SIG_LEN],
         PublicKey = [u8; PK_LEN],
         PrivateKey = [u8; SK_LEN],

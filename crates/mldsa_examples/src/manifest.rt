@@ -90,7 +90,7 @@ pub fn handed_out<
 ) -> Option<&'a [u8]>
 where
     Matrix<K, L>: HasSet<Set = S>,
-    S: Set<Commitment = [u8; LAMBDA_DIV4], Signature = [u8; SIG_LEN]>
+    S: Set<CommitmentHash = [u8; LAMBDA_DIV4], Signature = [u8; SIG_LEN]>
         + SignatureSizes<K, L, LAMBDA_DIV4, SIG_LEN>,
     ensures { MatchOption result
         (IsHandedOut S.set H.front G.front key.now CONTEXT.now SHA2_256 entries.now signature.now name.now file.now → ⊥)

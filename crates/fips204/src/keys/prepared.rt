@@ -26,7 +26,7 @@ impl<
 > PreparedPrivateKey<K, L, H>
 where
     Matrix<K, L>: HasSet<Set = S>,
-    S: Set<Commitment = [u8; LAMBDA_DIV4], Signature = [u8; SIG_LEN]>
+    S: Set<CommitmentHash = [u8; LAMBDA_DIV4], Signature = [u8; SIG_LEN]>
         + SignatureSizes<K, L, LAMBDA_DIV4, SIG_LEN>,
 {
     /// The hash that the key keeps, as `PrivateKey::tr`. The key's parts and its matrix are in range.
@@ -173,7 +173,7 @@ impl<
 > PreparedPublicKey<K, L, H>
 where
     Matrix<K, L>: HasSet<Set = S>,
-    S: Set<Commitment = [u8; LAMBDA_DIV4], Signature = [u8; SIG_LEN]>
+    S: Set<CommitmentHash = [u8; LAMBDA_DIV4], Signature = [u8; SIG_LEN]>
         + SignatureSizes<K, L, LAMBDA_DIV4, SIG_LEN>,
 {
     /// Verifies (Algorithm 3), as `Verifier::verify`.

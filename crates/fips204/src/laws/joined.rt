@@ -14,7 +14,7 @@ ghost use Rattle.fips204_base.specs.declared.types.R.{R};
 ghost use Rattle.fips204.specs.Acceptance.{Verifies};
 ghost use Rattle.fips204.specs.Framing.{framed, plain};
 ghost use Rattle.fips204.specs.Keys.{IsWhole};
-ghost use Rattle.fips204.specs.LongerFronts.{IsDecided};
+ghost use Rattle.fips204.specs.LongerFronts.{IsVerdictDecided};
 ghost use Rattle.fips204.specs.ParameterSets.{set_44, set_65, set_87};
 ghost use Rattle.fips204.specs.Prepared.{sign_message_prepared, VerifiesMessagePrepared};
 ghost use Rattle.fips204.specs.Refusals.{generated, input_fault};
@@ -191,7 +191,7 @@ pub(crate) fn one_hint()
 
 /// A verdict over the streams in counter mode that is decided stays over the longer ones.
 pub(crate) fn decided_verdict()
-    ensures { (pk : PublicParts) (mu signature : List ℕ) → IsDecided set_44 sha256_front sha512_front pk signature
+    ensures { (pk : PublicParts) (mu signature : List ℕ) → IsVerdictDecided set_44 sha256_front sha512_front pk signature
         → Verifies set_44 sha256_long_front sha512_long_front pk mu signature → Verifies set_44 sha256_front sha512_front pk mu signature }
 {
     counter_fronts();

@@ -2,7 +2,7 @@
 #![tactic(auto)]
 
 ghost use Rattle.std.specs.Prelude.{◌≡◌, ◌≤◌, ◌<◌, ℕ, pos, nat_abs};
-ghost use Rattle.fips204_base.specs.Vectors.{entry, MatrixWithin, matrix_product, vector_coefficients, vector_of};
+ghost use Rattle.fips204_base.specs.Vectors.{coefficient_of, MatrixWithin, matrix_product, vector_coefficients, vector_of};
 ghost use Rattle.fips204_base.specs.Network.{VectorWithin};
 ghost use Rattle.fips204_base.specs.Residues.{residue};
 ghost use Rattle.fips204_base.specs.Rounding.{IsGamma2, high_bits};
@@ -10,7 +10,7 @@ ghost use Rattle.fips204.specs.Signing.{attempt};
 ghost use Rattle.fips204.specs.SigningInputs.{AreAttemptInputs, attempt_answer};
 ghost use Rattle.fips204.specs.Sets.{set_of};
 
-use super::commitment::commitment;
+use super::commitment_hash::commitment_hash;
 use crate::types::{Params, R, R0, SigningKey, T};
 use fips204_base::Fault;
 use fips204_base::hashing::{expand_mask, sample_in_ball};
@@ -43,7 +43,7 @@ impl<'a, const K: usize, const L: usize, H: Xof, G> SigningKey<'a, K, L, H, G> {
         // w1 = HighBits(w)
         let w1 = high_vector(p.gamma2, &w);
         // c_tilde = H(mu || w1Encode(w1))
-        let c_tilde = commitment::<K, LAMBDA_DIV4, H>(p, mu, &w1);
+        let c_tilde = commitment_hash::<K, LAMBDA_DIV4, H>(p, mu, &w1);
         // c = SampleInBall(c_tilde)
         let c = sample_in_ball::<H>(p.tau, &c_tilde)?;
         Ok(self.rejection_checks(p, &y, &w, &c_tilde, &c))

@@ -9,15 +9,15 @@ ghost use Rattle.fips204_base.specs.Vectors.{IsVector, vector_coefficients};
 ghost use Rattle.fips204_base.specs.Network.{PolynomialWithin, VectorWithin};
 ghost use Rattle.fips204_base.specs.Residues.{residue, coefficients};
 ghost use Rattle.fips204_base.specs.Transforms.{minus, product};
-ghost use Rattle.fips204_base.specs.Rounding.{IsGamma2, high_values, use_hint};
+ghost use Rattle.fips204_base.specs.Rounding.{IsGamma2, high_count, use_hint};
 ghost use Rattle.fips204_base.specs.declared.types.R.{R};
 ghost use Rattle.fips204.specs.Acceptance.{AreShifted, Accepts, Verifies, hinted};
-ghost use Rattle.fips204.specs.ParameterSets.{commitment_length};
-ghost use Rattle.fips204.specs.Signing.{commitment};
+ghost use Rattle.fips204.specs.ParameterSets.{c_tilde_length};
+ghost use Rattle.fips204.specs.Signing.{commitment_hash};
 ghost use Rattle.fips204.specs.SigningInputs.{HasShortParts, IsHighPart};
 ghost use Rattle.fips204.specs.Sets.{HasSizes, set_of};
 
-use super::commitment::commitment;
+use super::commitment_hash::commitment_hash;
 use super::rejection::has_norm_below;
 use crate::types::{Params, PreparedPublicKey, PublicKey, R, R0};
 use fips204_base::D;
@@ -95,10 +95,10 @@ fn is_committed<const K: usize, const LAMBDA_DIV4: usize, H: Xof>(
     t1_hat: &Transforms,
 ) -> bool
     requires rows { K ≡ p.now.k }
-    requires size { LAMBDA_DIV4 ≡ commitment_length (set_of p.now) }
+    requires size { LAMBDA_DIV4 ≡ c_tilde_length (set_of p.now) }
     requires hint { IsVector K 0 1 h.now }
     requires challenge { PolynomialWithin 8380416 c.now.0 }
-    ensures { IsTrue result ↔ (c_tilde.now ≡ commitment (set_of p.now) H.front mu.now (hinted (set_of p.now) h.now (λ r.
+    ensures { IsTrue result ↔ (c_tilde.now ≡ commitment_hash (set_of p.now) H.front mu.now (hinted (set_of p.now) h.now (λ r.
         minus (vector_coefficients az.old r) (product (coefficients c.now.0) (vector_coefficients t1_hat.now r))))) }
 {
     // w'_approx = A z - c t1 2^d
@@ -108,7 +108,7 @@ fn is_committed<const K: usize, const LAMBDA_DIV4: usize, H: Xof>(
     // w1' = UseHint(h, w'_approx)
     write_hinted(p, h, &mut w);
     // c_tilde = H(mu || w1Encode(w1'))
-    *c_tilde == commitment::<K, LAMBDA_DIV4, H>(p, mu, &w)
+    *c_tilde == commitment_hash::<K, LAMBDA_DIV4, H>(p, mu, &w)
 }
 
 /// The parts `c_tilde`, `z` and `h` of a signature and its challenge (lines 2 to 8), or `None` where its last
@@ -146,7 +146,7 @@ fn write_hinted<const K: usize>(p: &Params, h: &[R; K], w: &mut [R; K])
     requires range { VectorWithin K 8380416 w.old }
     requires hint { IsVector K 0 1 h.now }
     ensures values { w.new ≡ hinted (set_of p.now) h.now (vector_coefficients w.old) }
-    ensures range { All (λ w. PolynomialInRange (pos 0) (pos (high_values (nat_abs p.now.gamma2) - 1)) w.0) w.new }
+    ensures range { All (λ w. PolynomialInRange (pos 0) (pos (high_count (nat_abs p.now.gamma2) - 1)) w.0) w.new }
 {
     let gamma2 = p.gamma2;
     write_zip_vectors(

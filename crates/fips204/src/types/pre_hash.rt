@@ -9,7 +9,7 @@
 
 ghost use Rattle.std.specs.Prelude.{◌≡◌, MatchResult, Some, None};
 ghost use Rattle.fips204.specs.Framing.{digest_length, pre_hash_fault};
-ghost use Rattle.fips204.specs.SigningInputs.{is_der};
+ghost use Rattle.fips204.specs.SigningInputs.{has_oid_form};
 
 use fips204_base::Fault;
 
@@ -108,7 +108,7 @@ pub fn digest_len(oid: &[u8]) -> Option<usize>
 /// Whether these bytes are a valid DER object identifier: at least three, the first the tag 06, the second
 /// below 128 and the number of the bytes after it.
 fn has_der_form(oid: &[u8]) -> bool
-    ensures { result ≡ is_der oid.now }
+    ensures { result ≡ has_oid_form oid.now }
 {
     oid.len() >= 3 && oid[0] == 0x06 && oid[1] < 0x80 && oid[1] as usize + 2 == oid.len()
 }

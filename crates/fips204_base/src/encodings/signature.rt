@@ -4,12 +4,12 @@
 ghost use Rattle.std.specs.Prelude.{◌≡◌, ◌<◌, ◌≤◌, ◌+◌, ◌-◌, ◌*◌, ℕ, ℤ, List, pos, nat_abs, ◌-ℤ◌, ◌≤ℤ◌, length, MatchOption};
 ghost use Rattle.fips204_base.specs.Encodings.{IsGamma1, IsSignature, signature_bytes, w1_bytes, all_ones};
 ghost use Rattle.fips204_base.specs.Packing.{width};
-ghost use Rattle.fips204_base.specs.Rounding.{IsGamma2, high_values};
+ghost use Rattle.fips204_base.specs.Rounding.{IsGamma2, high_count};
 ghost use Rattle.fips204_base.specs.Vectors.{VectorInRange};
 
 use super::vectors::{polynomial_size, unpack_vector, write_packed_vector};
 use crate::conversion::{hint_bit_pack, hint_bit_unpack};
-use crate::high_low::high_values;
+use crate::high_low::high_count;
 use crate::types::R;
 
 /// `sigDecode` (Algorithm 27): the parts of a signature, `c_tilde`, `z` and the hint, or `None` where
@@ -80,18 +80,18 @@ pub fn sig_encode<const K: usize, const L: usize, const LAMBDA_DIV4: usize, cons
 /// `out` has exactly 192 bytes for each polynomial at `gamma2` 95232, and 128 at `gamma2` 261888.
 pub fn w1_encode<const K: usize>(gamma2: i32, w1: &[R; K], out: &mut [u8])
     requires set { IsGamma2 gamma2 }
-    requires range { VectorInRange (pos 0) (pos (high_values (nat_abs gamma2) - 1)) w1.now }
-    requires room { length out.old ≡ 32 * width (pos 0) (pos (high_values (nat_abs gamma2) - 1)) * K }
+    requires range { VectorInRange (pos 0) (pos (high_count (nat_abs gamma2) - 1)) w1.now }
+    requires room { length out.old ≡ 32 * width (pos 0) (pos (high_count (nat_abs gamma2) - 1)) * K }
     ensures { out.new ≡ w1_bytes (nat_abs gamma2) w1.now }
 {
     // w1_tilde = w1_tilde || SimpleBitPack(w1[i], (q - 1) / (2 gamma2) - 1)
-    write_packed_vector(w1, 0, high_values(gamma2 as u32) - 1, out);
+    write_packed_vector(w1, 0, high_count(gamma2 as u32) - 1, out);
 }
 
 /// How many bytes `w1_encode` writes for each polynomial. Internal: serves the crate `fips204` alone.
 pub fn w1_size(gamma2: i32) -> usize
     requires { IsGamma2 gamma2 }
-    ensures { result ≡ 32 * width (pos 0) (pos (high_values (nat_abs gamma2) - 1)) }
+    ensures { result ≡ 32 * width (pos 0) (pos (high_count (nat_abs gamma2) - 1)) }
 {
-    polynomial_size(0, high_values(gamma2 as u32) - 1)
+    polynomial_size(0, high_count(gamma2 as u32) - 1)
 }

@@ -5,7 +5,7 @@ ghost use Rattle.std.specs.Prelude.{◌≡◌, ◌≤◌, ◌<◌, ◌*◌, ◌%
 ghost use Rattle.fips204_base.specs.Residues.{residue, coefficients};
 ghost use Rattle.fips204_base.specs.Lanes.{lane};
 ghost use Rattle.fips204_base.specs.PlainTransforms.{lanes_value};
-ghost use Rattle.fips204_base.specs.Vectors.{entry, MatrixWithin};
+ghost use Rattle.fips204_base.specs.Vectors.{coefficient_of, MatrixWithin};
 ghost use Rattle.fips204_base.specs.Network.{vector_residues, row_value, AreRowProducts, VectorWithin, ValuesWithin, TransformsWithin};
 
 use crate::helpers::reduce::{partial_reduce64, wide_product};
@@ -17,7 +17,7 @@ use crate::types::{R, T, T0};
 pub fn add_vector_ntt<const K: usize>(v: &[R; K], w: &[R; K]) -> [R; K]
     requires v { VectorWithin K 1073741823 v.now }
     requires w { VectorWithin K 1073741823 w.now }
-    ensures { (r n : ℕ) → r < K → n < 256 → entry result r n ≡ entry v.now r n +ℤ entry w.now r n }
+    ensures { (r n : ℕ) → r < K → n < 256 → coefficient_of result r n ≡ coefficient_of v.now r n +ℤ coefficient_of w.now r n }
 {
     zip_vectors(
         v,

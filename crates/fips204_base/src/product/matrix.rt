@@ -6,7 +6,7 @@ ghost use Rattle.fips204_base.specs.Network.{plain_row, row_product, TransformsW
 ghost use Rattle.fips204_base.specs.Lanes.{lane};
 ghost use Rattle.fips204_base.specs.PlainTransforms.{lanes_value};
 ghost use Rattle.fips204_base.specs.Residues.{residue};
-ghost use Rattle.fips204_base.specs.Vectors.{entry, MatrixWithin, matrix_product, vector_coefficients};
+ghost use Rattle.fips204_base.specs.Vectors.{coefficient_of, MatrixWithin, matrix_product, vector_coefficients};
 
 use super::Transforms;
 use crate::fault::Fault;
@@ -30,7 +30,7 @@ pub fn write_matrix_product<const K: usize, const L: usize>(
     requires matrix { MatrixWithin 8380416 a.now }
     requires vector { VectorWithin L 8380416 v.now }
     ensures values { (r n : ℕ) → r < K → n < 256
-        → entry out.new r n ≡ pos (matrix_product L a.now (vector_coefficients v.now) r n) }
+        → coefficient_of out.new r n ≡ pos (matrix_product L a.now (vector_coefficients v.now) r n) }
     ensures range { VectorWithin K 8380416 out.new }
 {
     let mut w = Transforms::zeros();

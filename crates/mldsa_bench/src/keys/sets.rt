@@ -67,7 +67,7 @@ impl<
 > Keys<[u8; SIG_LEN]> for Plain<K, L, H, G>
 where
     Matrix<K, L>: HasSet<Set = S>,
-    S: Set<Commitment = [u8; LAMBDA_DIV4], Signature = [u8; SIG_LEN]>
+    S: Set<CommitmentHash = [u8; LAMBDA_DIV4], Signature = [u8; SIG_LEN]>
         + SignatureSizes<K, L, LAMBDA_DIV4, SIG_LEN>,
 {
     fn seeded(&self, seed: &[u8; 32], text: &Text) -> Signed<SIG_LEN> {
@@ -107,7 +107,7 @@ impl<
 > Keys<[u8; SIG_LEN]> for Prepared<K, L, H>
 where
     Matrix<K, L>: HasSet<Set = S>,
-    S: Set<Commitment = [u8; LAMBDA_DIV4], Signature = [u8; SIG_LEN]>
+    S: Set<CommitmentHash = [u8; LAMBDA_DIV4], Signature = [u8; SIG_LEN]>
         + SignatureSizes<K, L, LAMBDA_DIV4, SIG_LEN>,
 {
     fn seeded(&self, seed: &[u8; 32], text: &Text) -> Signed<SIG_LEN> {
@@ -277,7 +277,7 @@ impl<
 > TestSet for KG<K, L, H, G>
 where
     Matrix<K, L>: HasSet<Set = S>,
-    S: Set<Commitment = [u8; LAMBDA_DIV4], Signature = [u8; SIG_LEN]>
+    S: Set<CommitmentHash = [u8; LAMBDA_DIV4], Signature = [u8; SIG_LEN]>
         + SignatureSizes<K, L, LAMBDA_DIV4, SIG_LEN>,
     S: Set<PublicKey = [u8; PK_LEN], PrivateKey = [u8; SK_LEN]> + KeySizes<K, L, PK_LEN, SK_LEN>,
     S: Row<Plain<K, L, H, G>, SK_LEN>,

@@ -26,7 +26,7 @@ impl<
 where
     Matrix<K, L>: HasSet<Set = S>,
     S: Set<
-        Commitment = [u8; N],
+        CommitmentHash = [u8; N],
         Signature = [u8; SIG_LEN],
         PublicKey = [u8; PK_LEN],
         PrivateKey = [u8; SK_LEN],

@@ -1,6 +1,6 @@
 use Rattle.std.proofs.Common.{ℕ, ◌≡◌, ◌≢◌, ◌<◌, length, get_or}
 use Rattle.fips204_base.specs.Lanes.{lane}
-use Rattle.fips204_base.specs.Vectors.{entry}
+use Rattle.fips204_base.specs.Vectors.{coefficient_of}
 use Rattle.fips204_base.specs.declared.types.R.{R}
 use Rattle.fips204_base.proofs.product.write_coefficients.Given as goal
 
@@ -8,6 +8,6 @@ abbrev pub invariant-loop-r : goal.invariant-loop-r
 invariant-loop-r g l = record {
   size : length l.out ≡ g.row.N;
   places : (k : ℕ) (d : R) → k < l.r → length (get_or l.out k d).0 ≡ 256;
-  values : (k : ℕ) → k < l.r → entry l.out k l.n ≡ lane l.entries k;
-  kept : (k m : ℕ) → m ≢ l.n → entry l.out k m ≡ entry l.initial.out k m;
+  values : (k : ℕ) → k < l.r → coefficient_of l.out k l.n ≡ lane l.entries k;
+  kept : (k m : ℕ) → m ≢ l.n → coefficient_of l.out k m ≡ coefficient_of l.initial.out k m;
 }

@@ -40,8 +40,8 @@ returns-in_err-write_expanded_s g c =
     let H = g.H.Xof.front in
     let E = to_z-of_z w32 c.args.p.now.eta (search rules) in
     let seed = c.part-rho_prime.result in
-    let limit = c.in_err-write_expanded_s.ensures.limit in
-    let fault = rw E at limit in
+    let unsampled = c.in_err-write_expanded_s.ensures.limit in
+    let fault = rw E at unsampled in
     let refused : c.from_residual.result ≡ Err SamplingLimit = search rules in
     let given : AreSampled p H g.G.Xof.front g.row.K g.row.L c.part-rho.result seed (sampled_matrix g.G.Xof.front c.part-rho.result g.row.K g.row.L) (small_vector p.eta H seed 0 g.row.L) (small_vector p.eta H seed g.row.L g.row.K) =
     record { rows = c.requires.rows; columns = c.requires.columns; matrix = refl; first = refl; second = refl } in

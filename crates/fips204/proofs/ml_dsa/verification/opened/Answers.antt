@@ -6,7 +6,7 @@ use Rattle.fips204_base.specs.Sampling.{challenge}
 use Rattle.fips204_base.specs.Encodings.{IsSignature}
 use Rattle.fips204_base.proofs.EncodedParts.{same_signature}
 use Rattle.fips204_base.proofs.Sampled.{some_of_ok, none_of_err}
-use Rattle.fips204.specs.ParameterSets.{commitment_length}
+use Rattle.fips204.specs.ParameterSets.{c_tilde_length}
 use Rattle.fips204.specs.Sets.{set_of}
 use Rattle.fips204.proofs.ParameterSets.{limits, mask-size, signature-size}
 use Rattle.fips204.proofs.Ranges.{challenge-reduced}
@@ -22,8 +22,8 @@ sig_decode-requires g c =
     let O : to_z w32 (of_z w32 p.omega) ≡ p.omega = search rules in
     let some = limits p (search rules) in
     let ones : nat_abs p.omega + g.row.K < 256 = rw c.requires.sizes.rows some.hint_size in
-    let size = c.requires.sizes.signature ∙ signature-size p.gamma1 (commitment_length (set_of p)) p.k p.l (nat_abs p.omega) some.mask in
-    (search rules, (search rules, (search rules, (search rules, (rw M some.mask, (rw O some.some_ones, (rw O ones, rw (M, O, c.requires.sizes.rows, c.requires.sizes.columns, c.requires.sizes.commitment) size)))))))
+    let size = c.requires.sizes.signature ∙ signature-size p.gamma1 (c_tilde_length (set_of p)) p.k p.l (nat_abs p.omega) some.mask in
+    (search rules, (search rules, (search rules, (search rules, (rw M some.mask, (rw O some.some_ones, (rw O ones, rw (M, O, c.requires.sizes.rows, c.requires.sizes.columns, c.requires.sizes.c_tilde_size) size)))))))
 
 pub has_norm_below-requires : goal.has_norm_below-requires
 has_norm_below-requires g c =
@@ -44,12 +44,12 @@ sample_in_ball-requires g c =
 
 -- the decoded parts, and what the test of the norm says
 decoded : (g : Over) (c : After-has_norm_below g)
-    → IsSignature (nat_abs c.args.p.now.gamma1) (nat_abs c.args.p.now.omega) c.args.p.now.k c.args.p.now.l (commitment_length (set_of c.args.p.now)) c.args.sig.now c.in_ok-c_tilde.c_tilde c.in_ok-c_tilde.z c.in_ok-c_tilde.h
+    → IsSignature (nat_abs c.args.p.now.gamma1) (nat_abs c.args.p.now.omega) c.args.p.now.k c.args.p.now.l (c_tilde_length (set_of c.args.p.now)) c.args.sig.now c.in_ok-c_tilde.c_tilde c.in_ok-c_tilde.z c.in_ok-c_tilde.h
 decoded g c =
     let p = c.args.p.now in
     let M : to_z w32 (of_z w32 p.gamma1) ≡ p.gamma1 = search rules in
     let O : to_z w32 (of_z w32 p.omega) ≡ p.omega = search rules in
-    rw (M, O, c.requires.sizes.rows, c.requires.sizes.columns, c.requires.sizes.commitment) at c.in_ok-c_tilde.ensures
+    rw (M, O, c.requires.sizes.rows, c.requires.sizes.columns, c.requires.sizes.c_tilde_size) at c.in_ok-c_tilde.ensures
 
 bound-is : (g : Over) (c : After-has_norm_below g) → nat_abs (to_z w32 (of_z w32 c.z_bound.result)) ≡ (set_of c.args.p.now).gamma1 - (set_of c.args.p.now).beta
 bound-is g c = ap nat_abs (to_z-of_z w32 c.z_bound.result (search rules) ∙ c.z_bound.ensures)
@@ -73,7 +73,7 @@ returns-in-Err-clause-parts g c =
     let fault = none_of_err (challenge (nat_abs (to_z w32 (of_z w32 p.tau))) (front c.in_ok-c_tilde.c_tilde)) c.in-Err.field-0 c.in-Err.ensures in
     let here : challenge (nat_abs p.tau) (front c.in_ok-c_tilde.c_tilde) ≡ None = rw T at fault.0 in
     λ c_tilde z h ball found there.
-    let same = same_signature (nat_abs p.gamma1) (nat_abs p.omega) p.k p.l (commitment_length (set_of p)) c.args.sig.now c.in_ok-c_tilde.c_tilde c_tilde c.in_ok-c_tilde.z z c.in_ok-c_tilde.h h
+    let same = same_signature (nat_abs p.gamma1) (nat_abs p.omega) p.k p.l (c_tilde_length (set_of p)) c.args.sig.now c.in_ok-c_tilde.c_tilde c_tilde c.in_ok-c_tilde.z z c.in_ok-c_tilde.h h
     sizes.0 (omega (arith, sizes.1)) (decoded g k) found.parts in
     absurd (none-some ball (sym here ∙ ap (λ (x : List ℕ). challenge (nat_abs p.tau) (front x)) same.0 ∙ there))
 

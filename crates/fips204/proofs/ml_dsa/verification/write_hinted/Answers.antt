@@ -1,6 +1,6 @@
 use Rattle.std.proofs.Common.{rules, ◌≡◌, pos, nat_abs, to_z, of_z, w32}
 use Rattle.std.specs.Prelude.{int_lt}
-use Rattle.fips204_base.specs.Vectors.{entry, vector_coefficients}
+use Rattle.fips204_base.specs.Vectors.{coefficient_of, vector_coefficients}
 use Rattle.fips204_base.specs.Rounding.{use_hint}
 use Rattle.fips204.specs.Sets.{set_of}
 use Rattle.fips204.proofs.ParameterSets.{limits, rounding-size}
@@ -19,7 +19,7 @@ returns g c =
     let p = c.args.p.now in
     let G : to_z w32 (of_z w32 p.gamma2) ≡ p.gamma2 = search rules in
     let w1 = hinted-is (set_of p) c.args.h.now c.args.w.now c.write_zip_vectors.new.v g.row.K c.requires.rows
-    (c.write_zip_vectors.ensures.whole (λ r n. pos (use_hint (nat_abs p.gamma2) (int_lt (pos 0) (entry c.args.h.now r n)) (vector_coefficients c.args.w.now r n))) (λ r n y l m post. rw G at post)) in
+    (c.write_zip_vectors.ensures.whole (λ r n. pos (use_hint (nat_abs p.gamma2) (int_lt (pos 0) (coefficient_of c.args.h.now r n)) (vector_coefficients c.args.w.now r n))) (λ r n y l m post. rw G at post)) in
     record {
       values = w1;
       range = hinted-range (set_of p) c.args.h.now c.args.w.now c.write_zip_vectors.new.v (rounding-size p.gamma2 (limits p (search rules)).rounding) w1;

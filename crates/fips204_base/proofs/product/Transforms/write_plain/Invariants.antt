@@ -1,6 +1,6 @@
 use Rattle.std.proofs.Common.{ℕ, ℤ, ◌≡◌, ◌<◌, List, get_or, length}
 use Rattle.fips204_base.specs.Lanes.{lane}
-use Rattle.fips204_base.specs.Vectors.{entry}
+use Rattle.fips204_base.specs.Vectors.{coefficient_of}
 use Rattle.fips204_base.specs.declared.types.R.{R}
 use Rattle.fips204_base.proofs.product.Transforms.write_plain.Given as goal
 
@@ -8,5 +8,5 @@ abbrev pub invariant-loop-n : goal.invariant-loop-n
 invariant-loop-n g l = record {
   size : length l.out ≡ g.row.N;
   places : (r : ℕ) (d : R) → r < g.row.N → 0 < l.n → length (get_or l.out r d).0 ≡ 256;
-  values : (r i : ℕ) (d : List ℤ) → r < g.row.N → i < l.n → entry l.out r i ≡ lane (get_or l.self-inside.values i d) r;
+  values : (r i : ℕ) (d : List ℤ) → r < g.row.N → i < l.n → coefficient_of l.out r i ≡ lane (get_or l.self-inside.values i d) r;
 }

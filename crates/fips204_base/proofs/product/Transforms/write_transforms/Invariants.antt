@@ -1,12 +1,12 @@
 use Rattle.std.proofs.Common.{ℕ, ℤ, ◌≡◌, ◌<◌, ◌≤◌, List, length, get_or}
 use Rattle.std.specs.Prelude.{nat_abs}
 use Rattle.fips204_base.specs.Lanes.{lane}
-use Rattle.fips204_base.specs.Vectors.{entry}
+use Rattle.fips204_base.specs.Vectors.{coefficient_of}
 use Rattle.fips204_base.proofs.product.Transforms.write_transforms.Given as goal
 
 abbrev pub invariant-loop-n : goal.invariant-loop-n
 invariant-loop-n g l = record {
   size : length l.self-inside.values ≡ 256;
-  values : (r i : ℕ) (d : List ℤ) → r < g.row.N → i < l.n → lane (get_or l.self-inside.values i d) r ≡ entry l.v r i;
+  values : (r i : ℕ) (d : List ℤ) → r < g.row.N → i < l.n → lane (get_or l.self-inside.values i d) r ≡ coefficient_of l.v r i;
   small : (r i : ℕ) (d : List ℤ) → r < 8 → i < l.n → nat_abs (lane (get_or l.self-inside.values i d) r) ≤ 8380416;
 }

@@ -2,7 +2,7 @@ use Rattle.std.proofs.Common.{rules, ℕ, ◌<◌, ◌≡◌, ◌∙◌, ap, sym
 use Rattle.std.proofs.lemmas.Int.{to_z-of_z}
 use Rattle.fips204_base.specs.declared.fault.Fault.TheVariants.{SamplingLimit}
 use Rattle.fips204_base.specs.Sampling.{challenge, mask}
-use Rattle.fips204_base.specs.Vectors.{entry, matrix_product, vector_coefficients, vector_of}
+use Rattle.fips204_base.specs.Vectors.{coefficient_of, matrix_product, vector_coefficients, vector_of}
 use Rattle.fips204_base.specs.Network.{VectorWithin}
 use Rattle.fips204_base.specs.Rounding.{high_bits}
 use Rattle.fips204_base.proofs.Sampled.{some_of_ok, none_of_err}
@@ -15,7 +15,7 @@ use Rattle.fips204.proofs.ParameterSets.{limits}
 use Rattle.fips204.proofs.Ranges.{challenge-reduced}
 use Rattle.fips204.proofs.types.prepared.SigningKey.attempt.Given.{Over}
 use Rattle.fips204.proofs.types.prepared.SigningKey.attempt.Goals as goal
-use Rattle.fips204.proofs.types.prepared.SigningKey.attempt.Goals.{After-expand_mask-y, After-commitment-c_tilde}
+use Rattle.fips204.proofs.types.prepared.SigningKey.attempt.Goals.{After-expand_mask-y, After-commitment_hash-c_tilde}
 
 small : (g : Over) (c : After-expand_mask-y g) → VectorWithin g.row.L 524288 c.expand_mask-y.result
 small g c =
@@ -23,14 +23,14 @@ small g c =
     mask-within p.gamma1 g.H.Xof.front c.args.mask_seed.now g.row.L c.args.kappa c.expand_mask-y.result (limits p (search rules)).mask (rw (to_z-of_z w32 p.gamma1 (search rules)) at c.expand_mask-y.ensures)
 
 -- the attempt by its parts
-whole : (g : Over) (c : After-commitment-c_tilde g) → attempt (set_of c.args.p.now) g.H.Xof.front c.args.self.now.matrix c.args.self.now.parts c.args.mu.now c.args.mask_seed.now c.args.kappa
+whole : (g : Over) (c : After-commitment_hash-c_tilde g) → attempt (set_of c.args.p.now) g.H.Xof.front c.args.self.now.matrix c.args.self.now.parts c.args.mu.now c.args.mask_seed.now c.args.kappa
     ≡ checked_attempt (set_of c.args.p.now) c.args.self.now.parts c.expand_mask-y.result (vector_coefficients c.write_matrix_product.new.out) c.commitment-c_tilde.result
     (challenge (nat_abs c.args.p.now.tau) (g.H.Xof.front c.commitment-c_tilde.result))
 whole g c =
     let p = c.args.p.now in
     let y : c.expand_mask-y.result ≡ mask (nat_abs p.gamma1) g.H.Xof.front c.args.mask_seed.now g.row.L c.args.kappa = rw (to_z-of_z w32 p.gamma1 (search rules)) at c.expand_mask-y.ensures in
     let w1 : c.high_vector-w1.result ≡ vector_of g.row.K (λ r n. pos (high_bits (nat_abs p.gamma2) (vector_coefficients c.write_matrix_product.new.out r n))) = rw (to_z-of_z w32 p.gamma2 (search rules)) at c.high_vector-w1.ensures in
-    let values = subst (λ (k : PreparedPrivate). (r n : ℕ) → r < g.row.K → n < 256 → entry c.write_matrix_product.new.out r n ≡ pos (matrix_product g.row.L k.matrix (vector_coefficients c.expand_mask-y.result) r n)) c.self.view_is c.write_matrix_product.ensures.values in
+    let values = subst (λ (k : PreparedPrivate). (r n : ℕ) → r < g.row.K → n < 256 → coefficient_of c.write_matrix_product.new.out r n ≡ pos (matrix_product g.row.L k.matrix (vector_coefficients c.expand_mask-y.result) r n)) c.self.view_is c.write_matrix_product.ensures.values in
     attempt-is (set_of p) g.H.Xof.front c.args.self.now.matrix c.args.self.now.parts c.args.mu.now c.args.mask_seed.now c.args.kappa g.row.K g.row.L c.expand_mask-y.result c.write_matrix_product.new.out
     c.high_vector-w1.result c.commitment-c_tilde.result c.requires.inputs.sizes.rows c.requires.inputs.sizes.columns y values w1 c.commitment-c_tilde.ensures
 
@@ -54,7 +54,7 @@ pub commitment-c_tilde-requires : goal.commitment-c_tilde-requires
 commitment-c_tilde-requires g c =
     let p = c.args.p.now in
     let w1 : c.high_vector-w1.result ≡ vector_of g.row.K (λ r n. pos (high_bits (nat_abs p.gamma2) (vector_coefficients c.write_matrix_product.new.out r n))) = rw (to_z-of_z w32 p.gamma2 (search rules)) at c.high_vector-w1.ensures in
-    (omega (arith, c.requires.inputs.sizes.rows, (limits c.args.p.now (search rules)).few_rows), (search rules, (c.requires.inputs.sizes.rows, (c.requires.inputs.sizes.commitment, high-range p.gamma2 g.row.K c.write_matrix_product.new.out c.high_vector-w1.result (limits p (search rules)).rounding w1))))
+    (omega (arith, c.requires.inputs.sizes.rows, (limits c.args.p.now (search rules)).few_rows), (search rules, (c.requires.inputs.sizes.rows, (c.requires.inputs.sizes.c_tilde_size, high-range p.gamma2 g.row.K c.write_matrix_product.new.out c.high_vector-w1.result (limits p (search rules)).rounding w1))))
 
 pub sample_in_ball-requires : goal.sample_in_ball-requires
 sample_in_ball-requires g c =
@@ -69,7 +69,7 @@ returns-in_err-c g c =
     let none = (none_of_err (challenge (nat_abs p.tau) front) c.in_err-c.field-0.0 sampled).0 in
     let refused : c.from_residual.result ≡ Err SamplingLimit = search rules in
     refused
-    ∙ sym (ap attempt_answer (whole g (goal.at.returns-in_err-c g c).After-commitment-c_tilde) ∙ checked_attempt-limit (set_of p) c.args.self.now.parts c.expand_mask-y.result (vector_coefficients c.write_matrix_product.new.out) c.commitment-c_tilde.result _ none)
+    ∙ sym (ap attempt_answer (whole g (goal.at.returns-in_err-c g c).After-commitment_hash-c_tilde) ∙ checked_attempt-limit (set_of p) c.args.self.now.parts c.expand_mask-y.result (vector_coefficients c.write_matrix_product.new.out) c.commitment-c_tilde.result _ none)
 
 pub rejection_checks-requires : goal.rejection_checks-requires
 rejection_checks-requires g c =
@@ -96,4 +96,4 @@ returns g c =
     let sampled : Ok c.in_ok-c.c ≡ ok_or (challenge (nat_abs p.tau) front) SamplingLimit = rw (to_z-of_z w32 p.tau (search rules)) at c.in_ok-c.ensures in
     let there = some_of_ok (challenge (nat_abs p.tau) front) c.in_ok-c.c sampled in
     c.rejection_checks.ensures
-    ∙ sym (ap attempt_answer (whole g (goal.at.returns g c).After-commitment-c_tilde ∙ ap (checked_attempt (set_of p) c.args.self.now.parts c.expand_mask-y.result (vector_coefficients c.write_matrix_product.new.out) c.commitment-c_tilde.result) there))
+    ∙ sym (ap attempt_answer (whole g (goal.at.returns g c).After-commitment_hash-c_tilde ∙ ap (checked_attempt (set_of p) c.args.self.now.parts c.expand_mask-y.result (vector_coefficients c.write_matrix_product.new.out) c.commitment-c_tilde.result) there))

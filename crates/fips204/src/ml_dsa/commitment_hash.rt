@@ -4,9 +4,9 @@
 ghost use Rattle.std.specs.Prelude.{◌≡◌, ◌-◌, pos, nat_abs};
 ghost use Rattle.std.specs.List.{All};
 ghost use Rattle.fips204_base.specs.Packing.{PolynomialInRange};
-ghost use Rattle.fips204_base.specs.Rounding.{high_values};
-ghost use Rattle.fips204.specs.Signing.{commitment};
-ghost use Rattle.fips204.specs.ParameterSets.{commitment_length};
+ghost use Rattle.fips204_base.specs.Rounding.{high_count};
+ghost use Rattle.fips204.specs.Signing.{commitment_hash};
+ghost use Rattle.fips204.specs.ParameterSets.{c_tilde_length};
 ghost use Rattle.fips204.specs.Sets.{set_of};
 
 use crate::types::{Params, R};
@@ -15,15 +15,15 @@ use fips204_base::xof::{Xof, hash};
 
 /// `c_tilde` of `w1`: the first `lambda / 4` bytes of `H` over `mu` and the bytes of `w1`, whose
 /// coefficients are high bits.
-pub(crate) fn commitment<const K: usize, const LAMBDA_DIV4: usize, H: Xof>(
+pub(crate) fn commitment_hash<const K: usize, const LAMBDA_DIV4: usize, H: Xof>(
     p: &Params,
     mu: &[u8; 64],
     w1: &[R; K],
 ) -> [u8; LAMBDA_DIV4]
     requires rows { K ≡ p.now.k }
-    requires size { LAMBDA_DIV4 ≡ commitment_length (set_of p.now) }
-    requires range { All (λ w. PolynomialInRange (pos 0) (pos (high_values (nat_abs p.now.gamma2) - 1)) w.0) w1.now }
-    ensures { result ≡ commitment (set_of p.now) H.front mu.now w1.now }
+    requires size { LAMBDA_DIV4 ≡ c_tilde_length (set_of p.now) }
+    requires range { All (λ w. PolynomialInRange (pos 0) (pos (high_count (nat_abs p.now.gamma2) - 1)) w.0) w1.now }
+    ensures { result ≡ commitment_hash (set_of p.now) H.front mu.now w1.now }
 {
     let mut room = [0u8; 1024];
     let bytes = &mut room[..w1_size(p.gamma2) * K];

@@ -4,9 +4,9 @@ use Rattle.fips204_base.specs.Encodings.{w1_bytes}
 use Rattle.fips204.proofs.ParameterSets.{limits, high_part-few}
 use Rattle.fips204.specs.Sets.{set_of}
 use Rattle.fips204.proofs.Attempts.{commitment-is}
-use Rattle.fips204.proofs.ml_dsa.commitment.commitment.Given.{Over}
-use Rattle.fips204.proofs.ml_dsa.commitment.commitment.Goals as goal
-use Rattle.fips204.proofs.ml_dsa.commitment.commitment.Goals.{After-w1_size}
+use Rattle.fips204.proofs.ml_dsa.commitment_hash.commitment_hash.Given.{Over}
+use Rattle.fips204.proofs.ml_dsa.commitment_hash.commitment_hash.Goals as goal
+use Rattle.fips204.proofs.ml_dsa.commitment_hash.commitment_hash.Goals.{After-w1_size}
 
 few : (g : Over) (c : After-w1_size g) → c.w1_size.result * g.row.K ≤ 1024
 few g c =
