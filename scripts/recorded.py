@@ -13,8 +13,8 @@ from evaluate import Function, Parser, Record, ap, key, listed, now
 
 ROWS = [line.split("\t") for line in pathlib.Path(__file__).with_name("run-definitions.tsv").read_text(encoding="utf-8").splitlines() if line and line[0] != "#"]
 # what is evaluated, and the definitions that tables stand in for
-TEXTS = """generated public_key_bytes private_key_bytes sign_message unpacked sampled_matrix challenge message_hash framed w1_bytes w1_prime
-commitment_length set_44 set_65 set_87"""
+TEXTS = """generated public_key_bytes private_key_bytes sign_input unpacked sampled_matrix challenge representative w1_bytes w1_prime
+c_tilde_length set_44 set_65 set_87"""
 TABULATED = ("product", "inverse_transform")
 
 Q = 8380417
@@ -76,18 +76,18 @@ def hashes(program, row):
     pk, sk = pair.get("0"), pair.get("1")
     public = said("public_key_bytes pk.rho pk.t1", pk=pk)
     private = said("private_key_bytes p.eta sk", sk=sk)
-    signature = listed(now(said("sign_message p H G sk rnd message context", sk=sk).parts[0]))
+    signature = listed(now(said("sign_input p H G sk rnd (plain message context)", sk=sk).parts[0]))
     return [sha256(part) for part in (public, private, signature)], verified(said, pk, signature)
 
 
 def verified(said, pk, signature):
     """Whether the hash of mu and w1' is the first part of the signature."""
-    k, l, omega, length = (int(said(text)) for text in ("p.k", "p.l", "p.omega", "commitment_length p"))
+    k, l, omega, length = (int(said(text)) for text in ("p.k", "p.l", "p.omega", "c_tilde_length p"))
     size = (len(signature) - length - omega - k) // l
     c_tilde, hint = signature[:length], signature[-omega - k :]
     z = tuple(said("unpacked (p.gamma1 - 1) p.gamma1 part", part=signature[length + size * i :][:size]) for i in range(l))
     ends = (0, *hint[omega:])
     h = tuple(Record({"0": tuple(int(place in hint[start:end]) for place in PLACES)}) for start, end in zip(ends, ends[1:]))
     a, c = said("sampled_matrix G pk.rho p.k p.l", pk=pk).parts[0], said("challenge p.tau (H c_tilde)", c_tilde=c_tilde).parts[0]
-    mu = said("message_hash H pk.tr (framed message context)", pk=pk)
-    return listed(said("take (commitment_length p) (H (mu ++ w1_bytes p.gamma2 (w1_prime p a pk.t1 z h c)))", pk=pk, mu=mu, a=a, z=z, h=h, c=c)) == c_tilde
+    mu = said("representative H pk.tr (plain message context)", pk=pk)
+    return listed(said("take (c_tilde_length p) (H (mu ++ w1_bytes p.gamma2 (w1_prime p a pk.t1 z h c)))", pk=pk, mu=mu, a=a, z=z, h=h, c=c)) == c_tilde

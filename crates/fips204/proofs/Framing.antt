@@ -1,13 +1,14 @@
 -- A framed message determines what was framed.
-use Rattle.std.proofs.Common.{◌≡◌, ◌+◌, ℕ, List, [], ◌∷◌, ◌++◌, length, get_or, Bool, true, false, not, ◌&&◌, nat_eq, nat_lt, nat_le, IsTrue, if◌then◌else◌, Option, Some, None, refl, sym, ap, ◌∙◌, arith, append_assoc, true≢false, eqb-true}
+use Rattle.std.proofs.Common.{◌≡◌, ◌+◌, ℕ, List, [], ◌∷◌, ◌++◌, length, get_or, Bool, true, false, not, ◌&&◌, nat_eq, nat_lt, nat_le, IsTrue, if◌then◌else◌, Option, Some, None, refl, sym, ap, arith, true≢false, eqb-true}
+use Rattle.std.specs.Prelude.{unwrap_or}
 use Rattle.fips204_base.specs.declared.fault.Fault.{Fault}
 use Rattle.fips204_base.specs.declared.fault.Fault.TheVariants.{OidEmpty, OidNotDer, DigestTooLong, DigestLength, HashCtx}
 use Rattle.fips204.proofs.Spellings.{same_parts}
-use Rattle.fips204.specs.Framing.{differs, digest_length, pre_hash_fault, plain, hashed}
+use Rattle.fips204.specs.Framing.{plain, hashed, framed, represented, frame, digest_length, pre_hash_fault}
 use Rattle.fips204.specs.SigningInputs.{has_oid_form}
 use Rattle.fips204.specs.SchemeLaws.{FramingIsOneToOne}
 use Rattle.fips204.proofs.ParameterSets.{and_out}
-use Rattle.fips204.proofs.RefusedCalls.{passed, short_context}
+use Rattle.fips204.proofs.RefusedCalls.{same_some, passed, short_context}
 
 test_true : (b : Bool) (fault : Fault) (rest : Option Fault) → (if not b then Some fault else rest) ≡ None → IsTrue b
 test_true true fault rest e = refl
@@ -16,7 +17,7 @@ test_true false fault rest e = absurd (cc)
 der_of_none : (digest oid : List ℕ) → pre_hash_fault digest oid ≡ None → IsTrue (has_oid_form oid)
 unfolding pre_hash_fault
 der_of_none digest oid e =
-    let last = if nat_lt 1024 (length digest) then Some DigestTooLong else if differs (digest_length oid) (length digest) then Some DigestLength else None in
+    let last = if nat_lt 1024 (length digest) then Some DigestTooLong else if not (nat_eq (length digest) (unwrap_or (digest_length oid) (length digest))) then Some DigestLength else None in
     test_true (has_oid_form oid) OidNotDer last (passed (nat_eq (length oid) 0) OidEmpty (if not (has_oid_form oid) then Some OidNotDer else last) e).1
 
 -- ---- OIDs
@@ -46,22 +47,27 @@ modes : (xs ys : List ℕ) (m n : ℕ) → m ∷ xs ≡ n ∷ ys → m ≡ n
 modes xs ys m n e = ap (λ l. get_or l 0 0) e
 
 -- a context with its length before it, and what follows
-same_context : (c d us vs : List ℕ) (mode : ℕ) → mode ∷ length c ∷ c ++ us ≡ mode ∷ length d ∷ d ++ vs → (c ≡ d) × (us ≡ vs)
+same_context : (c d us vs : List ℕ) (mode : ℕ) → frame mode c us ≡ frame mode d vs → (c ≡ d) × (us ≡ vs)
 same_context c d us vs mode e =
     let lengths : length c ≡ length d = ap (λ l. get_or l 1 0) e in
     let rest : c ++ us ≡ d ++ vs = cc in
     same_parts c d us vs lengths rest
 
 pub same_input : FramingIsOneToOne
-same_input (plain m c) (plain n d) s t e =
-    let both = same_context c d m n 0 e in
+same_input (framed m) y s t e f same = absurd (true≢false (sym s))
+same_input (represented m) y s t e f same = absurd (true≢false (sym s))
+same_input (plain m c) (framed n) s t e f same = absurd (true≢false (sym t))
+same_input (plain m c) (represented n) s t e f same = absurd (true≢false (sym t))
+same_input (hashed h c o) (framed n) s t e f same = absurd (true≢false (sym t))
+same_input (hashed h c o) (represented n) s t e f same = absurd (true≢false (sym t))
+same_input (plain m c) (plain n d) s t e f same =
+    let both = same_context c d m n 0 (same_some _ _ same) in
     cc
-same_input (plain m c) (hashed h d o) s t e = absurd (omega (arith, modes _ _ _ _ e))
-same_input (hashed h c o) (plain n d) s t e = absurd (omega (arith, modes _ _ _ _ e))
-same_input (hashed h c o) (hashed i d p) s t e =
-    let left : 1 ∷ length c ∷ c ++ (o ++ h) ≡ 1 ∷ length d ∷ d ++ (p ++ i) = ap (λ l. 1 ∷ length c ∷ l) (sym (append_assoc c o h)) ∙ e ∙ ap (λ l. 1 ∷ length d ∷ l) (append_assoc d p i) in
-    let outer = same_context c d (o ++ h) (p ++ i) 1 left in
-    let first = der_of_none h o (short_context c HashCtx (pre_hash_fault h o) s).1 in
-    let second = der_of_none i p (short_context d HashCtx (pre_hash_fault i p) t).1 in
+same_input (plain m c) (hashed h d o) s t e f same = absurd (omega (arith, modes _ _ _ _ (same_some _ _ same)))
+same_input (hashed h c o) (plain n d) s t e f same = absurd (omega (arith, modes _ _ _ _ (same_some _ _ same)))
+same_input (hashed h c o) (hashed i d p) s t e f same =
+    let outer = same_context c d (o ++ h) (p ++ i) 1 (same_some _ _ same) in
+    let first = der_of_none h o (short_context c HashCtx (pre_hash_fault h o) e).1 in
+    let second = der_of_none i p (short_context d HashCtx (pre_hash_fault i p) f).1 in
     let inner = same_oid o p h i first second outer.1 in
     cc

@@ -1,6 +1,6 @@
 -- Answers stay where the fronts are prefixes of longer ones.
-use Rattle.std.proofs.Common.{◌≡◌, ◌≢◌, ℕ, ◌+◌, ◌-◌, ◌*◌, ◌≤◌, ◌⊎◌, inl, inr, List, [], ◌∷◌, ◌++◌, length, take, drop, map, refl, ap, sym, ◌∙◌, arith, Some, None, ok_or, IsTrue, append_assoc}
-use Rattle.std.specs.Prelude.{option_map}
+use Rattle.std.proofs.Common.{◌≡◌, ◌≢◌, ℕ, ◌+◌, ◌-◌, ◌*◌, ◌≤◌, ◌⊎◌, inl, inr, List, [], ◌∷◌, ◌++◌, length, take, drop, map, refl, ap, sym, subst, ◌∙◌, arith, Some, None, ok_or, IsTrue, append_assoc}
+use Rattle.std.specs.Prelude.{option_map, unwrap_or, Err}
 use Rattle.std.specs.declared.option.Option.{Option}
 use Rattle.std.specs.declared.result.Result.{Result}
 use Rattle.std.specs.List.{range_with_len}
@@ -17,13 +17,13 @@ use Rattle.fips204_base.specs.Encodings.{PublicParts, PrivateParts, w1_bytes, pu
 use Rattle.fips204_base.specs.Sampling.{sampled_matrix, challenge, mask}
 use Rattle.fips204_base.proofs.LongerFronts.{prefix-take, prefix-part, matrix_entry-longer, small_polynomial-longer, challenge-longer, sampled_matrix-longer, small_vector-longer, mask-longer}
 use Rattle.fips204.specs.ParameterSets.{ParameterSet, is_parameter_set, c_tilde_length}
-use Rattle.fips204.specs.Keys.{high_part, key_pair, key_generation, public_key_of}
-use Rattle.fips204.specs.SigningInputs.{key_hash}
-use Rattle.fips204.proofs.KeyGeneration.{key_pair_if_all, key_generation-is}
-use Rattle.fips204.specs.Framing.{Input, framed_input, message_hash}
-use Rattle.fips204.specs.Signing.{Attempt, unsampled, rejected, signed, commitment_hash, high_vector, checked_attempt, attempt, first_answer, mask_seed, sign_with, sign_if_matrix, sign}
+use Rattle.fips204.specs.Keys.{high_part, key_pair}
+use Rattle.fips204.specs.SigningInputs.{key_hash, high_vector, mask_seed, checked_attempt}
+use Rattle.fips204.proofs.KeyGeneration.{key_pair_if_all, key_pair_of_seed, generated-by_parts}
+use Rattle.fips204.specs.Framing.{Input, plain, hashed, framed, represented, frame, representative}
+use Rattle.fips204.specs.Signing.{Attempt, unsampled, rejected, signed, commitment_hash, attempt, first_answer, sign_with, sign}
 use Rattle.fips204.specs.Acceptance.{Verifies}
-use Rattle.fips204.specs.Refusals.{refused_or, input_fault, AcceptsInput}
+use Rattle.fips204.specs.Refusals.{generated, derived, refused_or, input_fault, sign_input, VerifiesInput}
 use Rattle.fips204.specs.LongerFronts.{CounterFrontsArePrefixes, SamplesStay, Stays, AnswersStay, IsVerdictDecided, sampled, malformed, YesAndNoStay, AcceptanceStays, LongerFrontsKeep}
 use Rattle.fips204.proofs.ParameterSets.{set_numbers}
 
@@ -86,23 +86,21 @@ module _ (H G H' G' : List ℕ → List ℕ) (first : ArePrefixes H H') (second 
   pair_stays p rho key (Some a) a' (Some s1) s1' None s2' keys x y z e = absurd (none-some keys e)
   pair_stays p rho key (Some a) a' (Some s1) s1' (Some s2) s2' keys x y z e = rw (x a refl, y s1 refl, z s2 refl) (ap Some (key_pair-longer p rho key a s1 s2) ∙ e)
 
-  key_generation-longer : (p : ParameterSet) (xi : List ℕ) (keys : PublicParts × PrivateParts) → key_generation p H G xi ≡ Some keys → key_generation p H' G' xi ≡ Some keys
-  key_generation-longer p xi keys e =
+  seed-longer : (p : ParameterSet) (xi : List ℕ) (keys : PublicParts × PrivateParts) → key_pair_of_seed p H G xi ≡ Some keys → key_pair_of_seed p H' G' xi ≡ Some keys
+  seed-longer p xi keys e =
       let input = xi ++ p.k ∷ p.l ∷ [] in
       let rho : take 32 (H' input) ≡ take 32 (H input) = hash-longer 32 input (omega arith) in
       let rho' : take 64 (drop 32 (H' input)) ≡ take 64 (drop 32 (H input)) = part-longer 32 64 input (omega arith) in
       let key : take 32 (drop 96 (H' input)) ≡ take 32 (drop 96 (H input)) = part-longer 96 32 input (omega arith) in
-      key_generation-is p H' G' xi ∙ rw (rho, rho', key)
+      rw (rho, rho', key)
       (pair_stays p (take 32 (H input)) (take 32 (drop 96 (H input))) _ _ _ _ _ _ keys
       (λ a there. sampled_matrix-longer G G' (take 32 (H input)) p.k p.l a second there)
       (λ v there. small_vector-longer p.eta H H' (take 64 (drop 32 (H input))) 0 p.l v first there)
-      (λ v there. small_vector-longer p.eta H H' (take 64 (drop 32 (H input))) p.l p.k v first there) (sym (key_generation-is p H G xi) ∙ e))
+      (λ v there. small_vector-longer p.eta H H' (take 64 (drop 32 (H input))) p.l p.k v first there) e)
 
-  public_key_of-longer : (p : ParameterSet) (sk : PrivateParts) (pk : PublicParts) → public_key_of p G sk ≡ Some pk → public_key_of p G' sk ≡ Some pk
-  unfolding public_key_of
-  public_key_of-longer p sk pk e =
-      mapped_stays (λ a. record { rho = sk.rho; tr = sk.tr; t1 = high_part p a sk.s1 sk.s2 }) (sampled_matrix G sk.rho p.k p.l) (sampled_matrix G' sk.rho p.k p.l) pk
-      (λ a there. sampled_matrix-longer G G' sk.rho p.k p.l a second there) e
+  generated-longer : (p : ParameterSet) (xi : List ℕ) → Stays (generated p H G xi) (generated p H' G' xi)
+  generated-longer p xi =
+      rw (generated-by_parts p H G xi, generated-by_parts p H' G' xi) (ok_stays (key_pair_of_seed p H G xi) (key_pair_of_seed p H' G' xi) (seed-longer p xi))
 
   -- ---- signing
 
@@ -112,7 +110,6 @@ module _ (H G H' G' : List ℕ → List ℕ) (first : ArePrefixes H H') (second 
 
   checked_stays : (p : ParameterSet) (sk : PrivateParts) (y : List R) (w : ℕ → ℕ → ℕ) (c_tilde : List ℕ) (c longer : Option R) → ((x : R) → c ≡ Some x → longer ≡ Some x)
       → (checked_attempt p sk y w c_tilde c ≡ unsampled) ⊎ (checked_attempt p sk y w c_tilde longer ≡ checked_attempt p sk y w c_tilde c)
-  unfolding checked_attempt
   checked_stays p sk y w c_tilde None longer same = inl refl
   checked_stays p sk y w c_tilde (Some c) longer same = inr (ap (checked_attempt p sk y w c_tilde) (same c refl))
 
@@ -151,8 +148,7 @@ module _ (H G H' G' : List ℕ → List ℕ) (first : ArePrefixes H H') (second 
       ∙ first_stays (λ n. attempt p H a sk mu rho (n * p.l)) (λ n. attempt p H' a sk mu rho (n * p.l)) (range_with_len 0 814) (λ n. attempt-longer p a sk mu rho (n * p.l) t) not
 
   matrix_stays : (p : ParameterSet) (a longer : Option (List (List T))) (sk : PrivateParts) (mu rnd : List ℕ) → IsTrue (is_parameter_set p)
-      → ((x : List (List T)) → a ≡ Some x → longer ≡ Some x) → Stays (sign_if_matrix p H a sk mu rnd) (sign_if_matrix p H' longer sk mu rnd)
-  unfolding sign_if_matrix
+      → ((x : List (List T)) → a ≡ Some x → longer ≡ Some x) → Stays (unwrap_or (option_map (λ m. sign_with p H m sk mu rnd) a) (Err SamplingLimit)) (unwrap_or (option_map (λ m. sign_with p H' m sk mu rnd) longer) (Err SamplingLimit))
   matrix_stays p None longer sk mu rnd t same not = absurd (not refl)
   matrix_stays p (Some a) longer sk mu rnd t same not = rw (same a refl) (sign_with-longer p a sk mu rnd t not)
 
@@ -161,27 +157,35 @@ module _ (H G H' G' : List ℕ → List ℕ) (first : ArePrefixes H H') (second 
   sign-longer p sk mu rnd t =
       matrix_stays p (sampled_matrix G sk.rho p.k p.l) (sampled_matrix G' sk.rho p.k p.l) sk mu rnd t (λ a there. sampled_matrix-longer G G' sk.rho p.k p.l a second there)
 
-  prepared-longer : {A : Type 0} (p : ParameterSet) (rho : List ℕ) (f : List (List T) → A)
+  made-longer : {A : Type 0} (p : ParameterSet) (rho : List ℕ) (f : List (List T) → A)
       → Stays (ok_or (option_map f (sampled_matrix G rho p.k p.l)) SamplingLimit) (ok_or (option_map f (sampled_matrix G' rho p.k p.l)) SamplingLimit)
-  prepared-longer p rho f =
+  made-longer p rho f =
       ok_stays (option_map f (sampled_matrix G rho p.k p.l)) (option_map f (sampled_matrix G' rho p.k p.l))
       (λ y. mapped_stays f (sampled_matrix G rho p.k p.l) (sampled_matrix G' rho p.k p.l) y (λ a there. sampled_matrix-longer G G' rho p.k p.l a second there))
 
-  framed-longer : (p : ParameterSet) (sk : PrivateParts) (m rnd : List ℕ) → IsTrue (is_parameter_set p)
-      → Stays (sign p H G sk (message_hash H sk.tr m) rnd) (sign p H' G' sk (message_hash H' sk.tr m) rnd)
-  framed-longer p sk m rnd t =
-      let mu : message_hash H' sk.tr m ≡ message_hash H sk.tr m = hash-longer 64 (sk.tr ++ m) (omega arith) in
-      rw mu (sign-longer p sk (message_hash H sk.tr m) rnd t)
+  derived-longer : (p : ParameterSet) (sk : PrivateParts) → Stays (derived p G sk) (derived p G' sk)
+  unfolding derived
+  derived-longer p sk = made-longer p sk.rho (λ a. let key : PublicParts = record { rho = sk.rho; tr = sk.tr; t1 = high_part p a sk.s1 sk.s2 } in key)
+
+  representative-longer : (tr : List ℕ) (input : Input) → representative H' tr input ≡ representative H tr input
+  representative-longer tr (plain message context) = hash-longer 64 (tr ++ frame 0 context message) (omega arith)
+  representative-longer tr (hashed digest context oid) = hash-longer 64 (tr ++ frame 1 context (oid ++ digest)) (omega arith)
+  representative-longer tr (framed m) = hash-longer 64 (tr ++ m) (omega arith)
+  representative-longer tr (represented mu) = refl
+
+  input-longer : (p : ParameterSet) (sk : PrivateParts) (rnd : List ℕ) (input : Input) → IsTrue (is_parameter_set p) → Stays (sign_input p H G sk rnd input) (sign_input p H' G' sk rnd input)
+  input-longer p sk rnd input t =
+      let stays = sign-longer p sk (representative H sk.tr input) rnd t in
+      refused_stays (input_fault input) (sign p H G sk (representative H sk.tr input) rnd) (sign p H' G' sk (representative H' sk.tr input) rnd)
+      (λ not. ap (λ mu. sign p H' G' sk mu rnd) (representative-longer sk.tr input) ∙ stays not)
 
   answers_stay : (p : ParameterSet) → IsTrue (is_parameter_set p) → AnswersStay p H G H' G'
   answers_stay p t = record {
-    key_pairs = λ xi. ok_stays (key_generation p H G xi) (key_generation p H' G' xi) (key_generation-longer p xi);
-    public_keys = λ sk. ok_stays (public_key_of p G sk) (public_key_of p G' sk) (public_key_of-longer p sk);
-    prepared_private_keys = λ sk. prepared-longer p sk.rho (λ a. record { parts = sk; matrix = a });
-    prepared_public_keys = λ pk. prepared-longer p pk.rho (λ a. record { parts = pk; matrix = a });
-    hashes = λ sk mu rnd. sign-longer p sk mu rnd t;
-    framed = λ sk m rnd. framed-longer p sk m rnd t;
-    inputs = λ sk rnd input. refused_stays (input_fault input) _ _ (framed-longer p sk (framed_input input) rnd t);
+    key_pairs = λ xi. generated-longer p xi;
+    public_keys = λ sk. derived-longer p sk;
+    prepared_private_keys = λ sk. made-longer p sk.rho (λ a. record { parts = sk; matrix = a });
+    prepared_public_keys = λ pk. made-longer p pk.rho (λ a. record { parts = pk; matrix = a });
+    inputs = λ sk rnd input. input-longer p sk rnd input t;
   }
 
   -- ---- verifying
@@ -241,41 +245,25 @@ module _ (H G H' G' : List ℕ → List ℕ) (first : ArePrefixes H H') (second 
         };
       }
 
-  verdict_stays : (p : ParameterSet) (pk : PublicParts) (mu signature : List ℕ) → IsTrue (is_parameter_set p)
-      → YesAndNoStay (IsVerdictDecided p H G pk signature) (Verifies p H G pk mu signature) (Verifies p H' G' pk mu signature)
-  verdict_stays p pk mu signature t = record {
-    yes_stays = verifies-longer p pk mu signature t;
-    no_stays = λ decided. (verifies-longer p pk mu signature t, verifies-shorter p pk mu signature t decided);
-  }
-
-  framed_stays : (p : ParameterSet) (pk : PublicParts) (m signature : List ℕ) → IsTrue (is_parameter_set p)
-      → YesAndNoStay (IsVerdictDecided p H G pk signature) (Verifies p H G pk (message_hash H pk.tr m) signature) (Verifies p H' G' pk (message_hash H' pk.tr m) signature)
-  framed_stays p pk m signature t =
-      let mu : message_hash H' pk.tr m ≡ message_hash H pk.tr m = hash-longer 64 (pk.tr ++ m) (omega arith) in
-      rw mu (verdict_stays p pk (message_hash H pk.tr m) signature t)
-
   input_stays : (p : ParameterSet) (pk : PublicParts) (signature : List ℕ) (input : Input) → IsTrue (is_parameter_set p)
-      → YesAndNoStay (IsVerdictDecided p H G pk signature ⊎ (input_fault input ≢ None))
-      (AcceptsInput H pk.tr (λ mu. Verifies p H G pk mu signature) input) (AcceptsInput H' pk.tr (λ mu. Verifies p H' G' pk mu signature) input)
+      → YesAndNoStay (IsVerdictDecided p H G pk signature ⊎ (input_fault input ≢ None)) (VerifiesInput p H G pk signature input) (VerifiesInput p H' G' pk signature input)
   input_stays p pk signature input t =
-      let stays = framed_stays p pk (framed_input input) signature t in
-      let yes = λ (v : AcceptsInput H pk.tr (λ mu. Verifies p H G pk mu signature) input).
-      let longer : AcceptsInput H' pk.tr (λ mu. Verifies p H' G' pk mu signature) input = record { allowed = v.allowed; accepted = stays.yes_stays v.accepted } in longer in
+      let mu = representative-longer pk.tr input in
+      let longer : VerifiesInput p H G pk signature input → VerifiesInput p H' G' pk signature input =
+      λ v. (v.0, subst (λ m. Verifies p H' G' pk m signature) (sym mu) (verifies-longer p pk (representative H pk.tr input) signature t v.1)) in
       record {
-        yes_stays = yes;
+        yes_stays = longer;
         no_stays = λ decided. (
-          yes,
+          longer,
           λ v. elim decided [
-            | inl d ↦ record { allowed = v.allowed; accepted = (stays.no_stays d).1 v.accepted }
-            | inr broken ↦ absurd (broken v.allowed)
+            | inl d ↦ (v.0, verifies-shorter p pk (representative H pk.tr input) signature t d (subst (λ m. Verifies p H' G' pk m signature) mu v.1))
+            | inr broken ↦ absurd (broken v.0)
           ],
         );
       }
 
   acceptance_stays : (p : ParameterSet) → IsTrue (is_parameter_set p) → AcceptanceStays p H G H' G'
   acceptance_stays p t = record {
-    hashes = λ pk mu signature. verdict_stays p pk mu signature t;
-    framed = λ pk m signature. framed_stays p pk m signature t;
     inputs = λ pk signature input. input_stays p pk signature input t;
     decoded = λ bytes pk d. record { parts = d.parts; encoding = d.encoding; tr = d.tr ∙ sym (hash-longer 64 bytes (omega arith)) };
   }

@@ -1,12 +1,13 @@
--- Whole calls, with their refusals in order (FIPS 204, Algorithms 1 to 5).
-use Rattle.std.specs.Prelude.{◌≡◌, ◌⊎◌, ℕ, length, nat_lt, Option, Some, None, Result, Err, IfErr, ok_or, Bool, true, false, replicate, if◌then◌else◌}
+-- Whole calls, with their refusals in order (FIPS 204, Algorithms 1 to 5, 7 and 8).
+use Rattle.std.specs.Prelude.{◌≡◌, ◌⊎◌, ℕ, [], ◌∷◌, ◌++◌, length, take, drop, nat_lt, Option, Some, None, option_map, option_and_then, Result, Err, IfErr, ok_or, Bool, true, false, replicate, if◌then◌else◌}
+use Rattle.fips204_base.specs.Encodings.{PublicParts, PrivateParts}
+use Rattle.fips204_base.specs.Sampling.{sampled_matrix, small_vectors}
+use Rattle.fips204_base.specs.Streams.{Bytes, XOF}
 use Rattle.fips204_base.specs.declared.fault.Fault.{Fault}
 use Rattle.fips204_base.specs.declared.fault.Fault.TheVariants.{SignCtx, HashCtx, SamplingLimit, TooManyAttempts}
 use Rattle.fips204.specs.ParameterSets.{ParameterSet}
-use Rattle.fips204_base.specs.Encodings.{PublicParts, PrivateParts}
-use Rattle.fips204_base.specs.Streams.{Bytes, XOF}
-use Rattle.fips204.specs.Keys.{key_generation, public_key_of}
-use Rattle.fips204.specs.Framing.{Input, plain, hashed, framed_input, message_hash, pre_hash_fault}
+use Rattle.fips204.specs.Keys.{high_part, key_pair}
+use Rattle.fips204.specs.Framing.{Input, plain, hashed, pre_hash_fault, framed, represented, representative}
 use Rattle.fips204.specs.Signing.{sign}
 use Rattle.fips204.specs.Acceptance.{Verifies}
 
@@ -15,43 +16,36 @@ abbrev pub refused_or : {A : Type 0} → Option Fault → Result A Fault → Res
 refused_or None answer = answer
 refused_or (Some fault) answer = Err fault
 
--- the first condition that an input breaks, or none: a context of at most 255 bytes, and then the conditions on digest and OID
+-- the first condition that an input breaks, or none: a context of at most 255 bytes, and then the conditions on digest and OID;
+-- M' and mu have none
 abbrev pub input_fault : Input → Option Fault
 input_fault (plain message context) = if nat_lt 255 (length context) then Some SignCtx else None
 input_fault (hashed digest context oid) = if nat_lt 255 (length context) then Some HashCtx else pre_hash_fault digest oid
+input_fault (framed m) = None
+input_fault (represented mu) = None
 
--- signing an input, where signs is what signs mu
-abbrev pub sign_input : XOF → Bytes → (Bytes → Result Bytes Fault) → Input → Result Bytes Fault
-sign_input H tr signs input = refused_or (input_fault input) (signs (message_hash H tr (framed_input input)))
+-- ML-DSA.KeyGen (Algorithms 1 and 6) from the seed xi: H over xi, byte k and byte l gives rho of 32 bytes, rho' of 64 and K of 32; a
+-- refusal where a sampler gives none
+unfoldable pub generated : ParameterSet → XOF → XOF → Bytes → Result (PublicParts × PrivateParts) Fault
+generated p H G xi =
+    let seeds = H (xi ++ p.k ∷ p.l ∷ []) in
+    let rho = take 32 seeds in
+    let rho' = take 64 (drop 32 seeds) in
+    let key = take 32 (drop 96 seeds) in
+    ok_or (option_and_then (λ a. option_map (λ small. key_pair p H rho key a small.0 small.1) (small_vectors p.eta H rho' p.k p.l)) (sampled_matrix G rho p.k p.l)) SamplingLimit
 
--- verifying an input, where accepts is what accepts mu
-pub record AcceptsInput (H : XOF) (tr : Bytes) (accepts : Bytes → Type 0) (input : Input) : Type 0 where
-  pub allowed : input_fault input ≡ None
-  pub accepted : accepts (message_hash H tr (framed_input input))
+-- the public key of a private key: its rho and tr, and the high part of A s1 + s2; a refusal where there is no matrix
+unfoldable pub derived : ParameterSet → XOF → PrivateParts → Result PublicParts Fault
+derived p G sk = ok_or (option_map (λ a. record { rho = sk.rho; tr = sk.tr; t1 = high_part p a sk.s1 sk.s2 }) (sampled_matrix G sk.rho p.k p.l)) SamplingLimit
 
--- ML-DSA.KeyGen (Algorithm 1) from the seed xi
-abbrev pub generated : ParameterSet → XOF → XOF → Bytes → Result (PublicParts × PrivateParts) Fault
-generated p H G xi = ok_or (key_generation p H G xi) SamplingLimit
+-- signing an input from rnd: ML-DSA.Sign (Algorithm 2) of a message, HashML-DSA.Sign (Algorithm 4) of a digest,
+-- ML-DSA.Sign_internal (Algorithm 7) of M'
+abbrev pub sign_input : ParameterSet → XOF → XOF → PrivateParts → Bytes → Input → Result Bytes Fault
+sign_input p H G sk rnd input = refused_or (input_fault input) (sign p H G sk (representative H sk.tr input) rnd)
 
--- the public key of a private key
-abbrev pub derived : ParameterSet → XOF → PrivateParts → Result PublicParts Fault
-derived p G sk = ok_or (public_key_of p G sk) SamplingLimit
-
--- ML-DSA.Sign (Algorithm 2) from rnd
-abbrev pub sign_message : ParameterSet → XOF → XOF → PrivateParts → Bytes → Bytes → Bytes → Result Bytes Fault
-sign_message p H G sk rnd message context = sign_input H sk.tr (λ mu. sign p H G sk mu rnd) (plain message context)
-
--- HashML-DSA.Sign (Algorithm 4) from rnd and the digest
-abbrev pub sign_digest : ParameterSet → XOF → XOF → PrivateParts → Bytes → Bytes → Bytes → Bytes → Result Bytes Fault
-sign_digest p H G sk rnd digest context oid = sign_input H sk.tr (λ mu. sign p H G sk mu rnd) (hashed digest context oid)
-
--- ML-DSA.Verify (Algorithm 3)
-abbrev pub VerifiesMessage : ParameterSet → XOF → XOF → PublicParts → Bytes → Bytes → Bytes → Type 0
-VerifiesMessage p H G pk message signature context = AcceptsInput H pk.tr (λ mu. Verifies p H G pk mu signature) (plain message context)
-
--- HashML-DSA.Verify (Algorithm 5), from the digest
-abbrev pub VerifiesDigest : ParameterSet → XOF → XOF → PublicParts → Bytes → Bytes → Bytes → Bytes → Type 0
-VerifiesDigest p H G pk digest signature context oid = AcceptsInput H pk.tr (λ mu. Verifies p H G pk mu signature) (hashed digest context oid)
+-- a signature of an input is accepted (Algorithms 3, 5 and 8): the input breaks no condition, and its mu is accepted
+abbrev pub VerifiesInput : ParameterSet → XOF → XOF → PublicParts → Bytes → Input → Type 0
+VerifiesInput p H G pk signature input = (input_fault input ≡ None) × Verifies p H G pk (representative H pk.tr input) signature
 
 -- an answer's one refusal is that a sampler reached its limit
 abbrev pub OnlySamplingLimit : {A : Type 0} → Result A Fault → Type 0

@@ -1,18 +1,19 @@
 -- What private functions of signing take and answer, and parts of definitions: cited by no public clause; nobody has to believe it.
-use Rattle.std.specs.Prelude.{◌+◌, ◌-◌, ◌*◌, ◌%◌, ◌<◌, ◌≤◌, ℕ, List, [], ◌∷◌, ◌++◌, length, take, slice_index, Bool, ◌&&◌, nat_eq, nat_lt, nat_le, if◌then◌else◌, Option, Some, None, Result, Ok, Err}
-use Rattle.fips204_base.specs.Encodings.{PrivateParts, IsSignature, public_key_bytes}
+use Rattle.std.specs.Prelude.{◌+◌, ◌-◌, ◌*◌, ◌%◌, ◌<◌, ◌≤◌, ℕ, List, [], ◌∷◌, ◌++◌, length, take, slice_index, Bool, ◌&&◌, nat_eq, nat_lt, nat_le, if◌then◌else◌, Option, Some, None, Result, Ok, Err, ℤ, pos, slice_index_or, option_map, unwrap_or}
+use Rattle.fips204_base.specs.Encodings.{PrivateParts, IsSignature, public_key_bytes, signature_bytes, is_one}
 use Rattle.fips204_base.specs.Residues.{vector_norm, coefficients}
+use Rattle.fips204_base.specs.Rounding.{high_bits, make_hint, use_hint}
 use Rattle.fips204_base.specs.Transforms.{product, plus}
-use Rattle.fips204_base.specs.Vectors.{AreSameModQ, IsVector, vector_coefficients}
+use Rattle.fips204_base.specs.Vectors.{AreSameModQ, IsVector, vector_coefficients, vector_of}
 use Rattle.fips204_base.specs.Network.{PolynomialWithin, VectorWithin}
 use Rattle.fips204_base.specs.declared.fault.Fault.{Fault}
 use Rattle.fips204_base.specs.declared.fault.Fault.TheVariants.{SamplingLimit, SignCtx, HashCtx}
 use Rattle.fips204_base.specs.declared.types.R.{R}
-use Rattle.fips204.specs.Framing.{Input, framed_input, message_hash, pre_hash_fault}
+use Rattle.fips204.specs.Framing.{Input, pre_hash_fault, representative}
 use Rattle.fips204.specs.ParameterSets.{ParameterSet, c_tilde_length}
 use Rattle.fips204.specs.Refusals.{refused_or, input_fault}
 use Rattle.fips204.specs.Sets.{HasSizes, set_of}
-use Rattle.fips204.specs.Signing.{Attempt, unsampled, rejected, signed}
+use Rattle.fips204.specs.Signing.{Attempt, unsampled, rejected, signed, response, hint_vector, passes_checks}
 use Rattle.fips204.specs.declared.types.Params.{Params}
 use Rattle.fips204.specs.declared.types.prepared.KeyTransforms.{KeyTransforms}
 
@@ -44,7 +45,7 @@ attempt_answer (signed signature) = Ok (Some signature)
 
 -- mu of an input under a key's hash tr, or the refusal
 abbrev pub input_hash : (List ℕ → List ℕ) → List ℕ → Input → Result (List ℕ) Fault
-input_hash H tr input = refused_or (input_fault input) (Ok (message_hash H tr (framed_input input)))
+input_hash H tr input = refused_or (input_fault input) (Ok (representative H tr input))
 
 -- the signature has these parts, and the norm of z is small
 pub record HasShortParts (p : ParameterSet) (signature c_tilde : List ℕ) (z h : List R) : Type 0 where
@@ -64,6 +65,27 @@ digest_fault digest context oid = if nat_lt 255 (length context) then Some HashC
 -- at least three bytes, the first 06, and the second below 128 and the number of bytes after it
 abbrev pub has_oid_form : List ℕ → Bool
 has_oid_form oid = nat_le 3 (length oid) && nat_eq (slice_index oid 0) 0x06 && nat_lt (slice_index oid 1) 128 && nat_eq (slice_index oid 1 + 2) (length oid)
+
+-- w1, the high bits of w
+abbrev pub high_vector : ParameterSet → (ℕ → ℕ → ℕ) → List R
+high_vector p w = vector_of p.k (λ r n. pos (high_bits p.gamma2 (w r n)))
+
+-- what a challenge makes of an attempt with mask y, whose A y is w
+abbrev pub checked_attempt : ParameterSet → PrivateParts → List R → (ℕ → ℕ → ℕ) → List ℕ → Option R → Attempt
+checked_attempt p sk y w c_tilde challenge =
+    unwrap_or (option_map (λ c. if passes_checks p sk y w c then signed (signature_bytes p.gamma1 p.omega c_tilde (response p sk y c) (hint_vector p sk w c)) else rejected) challenge) unsampled
+
+-- MakeHint(0 - t, v + t) at one place, as a coefficient
+abbrev pub hint_bit : ℕ → ℕ → ℕ → ℤ
+hint_bit gamma2 v t = if make_hint gamma2 (8380416 * t % 8380417) ((v + t) % 8380417) then pos 1 else pos 0
+
+-- rho'', the seed of the masks
+abbrev pub mask_seed : (List ℕ → List ℕ) → PrivateParts → List ℕ → List ℕ → List ℕ
+mask_seed H sk rnd mu = take 64 (H (sk.key ++ rnd ++ mu))
+
+-- UseHint(h, w), coefficient by coefficient
+abbrev pub hinted : ParameterSet → List R → (ℕ → ℕ → ℕ) → List R
+hinted p h w = vector_of p.k (λ r n. pos (use_hint p.gamma2 (is_one (slice_index_or h r record { 0 = [] }) n) (w r n)))
 
 -- the seeds of both keys: H over xi, byte k and byte l
 abbrev pub seed_front : ParameterSet → (List ℕ → List ℕ) → List ℕ → List ℕ
