@@ -413,7 +413,7 @@ where
             t1_hat: Transforms::zeros(),
         };
         write_expanded_a::<K, L, G>(&rho, &mut pk.a_hat)?;
-        pk.t1_hat.write_transforms(&ml_dsa::t1_shifted(&self.t1));
+        ml_dsa::write_shifted_transforms(&self.t1, &mut pk.t1_hat);
         Ok(pk)
     }
 }
