@@ -1,5 +1,5 @@
 -- What one signature fixes: one w1 under a key, and one message and one key unless it names a collision.
-use Rattle.std.proofs.Common.{◌≡◌, ◌≤◌, ℕ, List, ◌++◌, length, take, Bool, true, false, IsTrue, Some, None, refl, sym, ap, subst, ◌∙◌, arith, true≢false, ◌≢◌, ◌⊎◌, inl, inr, Decides}
+use Rattle.std.proofs.Common.{◌≡◌, ◌≤◌, ℕ, List, ◌++◌, length, take, Bool, true, false, Some, None, refl, sym, ap, subst, ◌∙◌, arith, true≢false, ◌≢◌, ◌⊎◌, inl, inr, Decides}
 use Rattle.std.specs.Prelude.{bytes_eq}
 use Rattle.std.proofs.lemmas.List.{append_cancel_left, append_cancel_right, length-take-le}
 use Rattle.std.proofs.lemmas.Option.{none-some}
@@ -9,7 +9,7 @@ use Rattle.fips204_base.specs.declared.types.T.{T}
 use Rattle.fips204_base.specs.Encodings.{PublicParts, w1_bytes}
 use Rattle.fips204_base.specs.Sampling.{challenge}
 use Rattle.fips204_base.proofs.EncodedParts.{same_signature}
-use Rattle.fips204.specs.ParameterSets.{ParameterSet, is_parameter_set, c_tilde_length}
+use Rattle.fips204.specs.ParameterSets.{ParameterSet, c_tilde_length, IsSet}
 use Rattle.fips204.specs.Acceptance.{Opens, Verifies, w1_prime}
 use Rattle.fips204.specs.Framing.{Input, plain, hashed, framed, represented, representative}
 use Rattle.fips204.specs.SchemeLaws.{Collide, Fixes, SignatureFixesOne, SignatureBindsInput, NamesKeyCollision, SignatureBindsKey, has_context, framing, AreFramedAlike}
@@ -32,7 +32,7 @@ same_or_not xs ys = by_test (xs ≡ ys) (bytes_eq xs ys) (bytes_eq-Decides xs ys
 -- ---- what a signature fixes under a key
 
 -- c_tilde under any two keys, and w1 under one
-same_opened : (p : ParameterSet) (H : List ℕ → List ℕ) (a b : List (List T)) (t1 : List R) (signature c d v w : List ℕ) → IsTrue (is_parameter_set p)
+same_opened : (p : ParameterSet) (H : List ℕ → List ℕ) (a b : List (List T)) (t1 : List R) (signature c d v w : List ℕ) → IsSet p
     → a ≡ b → Opens p H a t1 signature c v → Opens p H b t1 signature d w → v ≡ w
 same_opened p H a b t1 signature c d v w row same x y =
     let gamma1 = (set_numbers p row).gamma1 in
@@ -45,7 +45,7 @@ same_opened p H a b t1 signature c d v w row same x y =
     x.recomputed ∙ ap (λ m. bytes (w1_prime p m t1 x.z x.h x.c)) same ∙ ap (λ v. bytes (w1_prime p b t1 v x.h x.c)) z ∙ ap (λ v. bytes (w1_prime p b t1 y.z v x.c)) h
     ∙ ap (λ v. bytes (w1_prime p b t1 y.z y.h v)) one ∙ sym y.recomputed
 
-same_commitment : (p : ParameterSet) (H : List ℕ → List ℕ) (a b : List (List T)) (t u : List R) (signature c d v w : List ℕ) → IsTrue (is_parameter_set p)
+same_commitment : (p : ParameterSet) (H : List ℕ → List ℕ) (a b : List (List T)) (t u : List R) (signature c d v w : List ℕ) → IsSet p
     → Opens p H a t signature c v → Opens p H b u signature d w → c ≡ d
 same_commitment p H a b t u signature c d v w row x y =
     let gamma1 = (set_numbers p row).gamma1 in
@@ -61,7 +61,7 @@ pub fixed_by : (p : ParameterSet) (H G : List ℕ → List ℕ) (pk : PublicPart
 fixed_by p H G pk mu signature v = record { a = v.a; matrix = v.matrix; c_tilde = v.accepted.c_tilde; opened = v.accepted.opened }
 
 -- the hash of mu and of nu, each with the w1 of its acceptance, is the c_tilde of the signature
-same_hash : (p : ParameterSet) (H G : List ℕ → List ℕ) (pk other : PublicParts) (mu nu signature : List ℕ) → IsTrue (is_parameter_set p)
+same_hash : (p : ParameterSet) (H G : List ℕ → List ℕ) (pk other : PublicParts) (mu nu signature : List ℕ) → IsSet p
     → (x : Verifies p H G pk mu signature) (y : Verifies p H G other nu signature)
     → take (c_tilde_length p) (H (mu ++ x.accepted.w1)) ≡ take (c_tilde_length p) (H (nu ++ y.accepted.w1))
 same_hash p H G pk other mu nu signature row x y =

@@ -11,7 +11,7 @@ use Rattle.fips204_base.specs.Residues.{vector_norm}
 use Rattle.fips204_base.specs.Sampling.{challenge, mask, sampled_matrix}
 use Rattle.fips204_base.specs.Encodings.{PrivateParts, ArePrivateParts, signature_bytes, w1_bytes, all_ones}
 use Rattle.fips204_base.specs.Vectors.{vector_coefficients, matrix_product, IsVector}
-use Rattle.fips204.specs.ParameterSets.{ParameterSet, is_parameter_set, c_tilde_length}
+use Rattle.fips204.specs.ParameterSets.{ParameterSet, c_tilde_length, IsSet}
 use Rattle.fips204.specs.Keys.{IsWhole, high_part, low_part}
 use Rattle.fips204.specs.Signing.{Attempt, unsampled, rejected, signed, response, low_vector, ct0, hint_vector, passes_checks, commitment_hash, attempt, w_minus_cs2, first_answer, sign_with, sign}
 use Rattle.fips204.proofs.ParameterSets.{and_out, AreSetNumbers, set_numbers}
@@ -169,12 +169,12 @@ accepts p H a sk mu signature numbers parts low whole was =
     }
 
 -- what signing gives with the matrix and a private key that is whole with it
-pub accepts_signed_with : (p : ParameterSet) (H : List ℕ → List ℕ) (a : List (List T)) (sk : PrivateParts) (mu rnd signature : List ℕ) → IsTrue (is_parameter_set p) → ArePrivateParts p.eta p.k p.l sk
+pub accepts_signed_with : (p : ParameterSet) (H : List ℕ → List ℕ) (a : List (List T)) (sk : PrivateParts) (mu rnd signature : List ℕ) → IsSet p → ArePrivateParts p.eta p.k p.l sk
     → sk.t0 ≡ low_part p a sk.s1 sk.s2 → ((x : List ℕ) → 4096 ≤ length (H x)) → sign_with p H a sk mu rnd ≡ Ok signature → Accepts p H a (high_part p a sk.s1 sk.s2) mu signature
 accepts_signed_with p H a sk mu rnd signature row parts low law made = accepts p H a sk mu signature (set_numbers p row) parts low law (sign_with_signed p H a sk mu rnd signature made)
 
 -- what signing gives with a whole private key, the public key accepts whose high part is that of A s1 + s2
-pub completeness : (p : ParameterSet) (H G : List ℕ → List ℕ) (sk : PrivateParts) (mu rnd signature : List ℕ) → IsTrue (is_parameter_set p) → ArePrivateParts p.eta p.k p.l sk → (whole : IsWhole p G sk)
+pub completeness : (p : ParameterSet) (H G : List ℕ → List ℕ) (sk : PrivateParts) (mu rnd signature : List ℕ) → IsSet p → ArePrivateParts p.eta p.k p.l sk → (whole : IsWhole p G sk)
     → ((x : List ℕ) → 4096 ≤ length (H x)) → sign p H G sk mu rnd ≡ Ok signature
     → Verifies p H G record { rho = sk.rho; tr = sk.tr; t1 = high_part p whole.matrix sk.s1 sk.s2 } mu signature
 completeness p H G sk mu rnd signature row parts whole law made = record {

@@ -1,5 +1,5 @@
 -- Answers stay where the fronts are prefixes of longer ones.
-use Rattle.std.proofs.Common.{◌≡◌, ◌≢◌, ℕ, ◌+◌, ◌-◌, ◌*◌, ◌≤◌, ◌⊎◌, inl, inr, List, [], ◌∷◌, ◌++◌, length, take, drop, map, refl, ap, sym, subst, ◌∙◌, arith, Some, None, ok_or, IsTrue, append_assoc}
+use Rattle.std.proofs.Common.{◌≡◌, ◌≢◌, ℕ, ◌+◌, ◌-◌, ◌*◌, ◌≤◌, ◌⊎◌, inl, inr, List, [], ◌∷◌, ◌++◌, length, take, drop, map, refl, ap, sym, subst, ◌∙◌, arith, Some, None, ok_or, append_assoc}
 use Rattle.std.specs.Prelude.{option_map, unwrap_or, Err}
 use Rattle.std.specs.declared.option.Option.{Option}
 use Rattle.std.specs.declared.result.Result.{Result}
@@ -16,7 +16,7 @@ use Rattle.fips204_base.specs.Vectors.{vector_coefficients, matrix_product}
 use Rattle.fips204_base.specs.Encodings.{PublicParts, PrivateParts, w1_bytes, public_key_bytes, vector_bytes, IsSignature, hint_bytes}
 use Rattle.fips204_base.specs.Sampling.{sampled_matrix, challenge, mask}
 use Rattle.fips204_base.proofs.LongerFronts.{prefix-take, prefix-part, matrix_entry-longer, small_polynomial-longer, challenge-longer, sampled_matrix-longer, small_vector-longer, mask-longer}
-use Rattle.fips204.specs.ParameterSets.{ParameterSet, is_parameter_set, c_tilde_length}
+use Rattle.fips204.specs.ParameterSets.{ParameterSet, c_tilde_length, IsSet}
 use Rattle.fips204.specs.Keys.{high_part, key_pair}
 use Rattle.fips204.specs.SigningInputs.{key_hash, high_vector, mask_seed, checked_attempt}
 use Rattle.fips204.proofs.KeyGeneration.{key_pair_if_all, key_pair_of_seed, generated-by_parts}
@@ -104,7 +104,7 @@ module _ (H G H' G' : List ℕ → List ℕ) (first : ArePrefixes H H') (second 
 
   -- ---- signing
 
-  commitment-longer : (p : ParameterSet) (mu : List ℕ) (w1 : List R) → IsTrue (is_parameter_set p) → commitment_hash p H' mu w1 ≡ commitment_hash p H mu w1
+  commitment-longer : (p : ParameterSet) (mu : List ℕ) (w1 : List R) → IsSet p → commitment_hash p H' mu w1 ≡ commitment_hash p H mu w1
   unfolding commitment_hash
   commitment-longer p mu w1 t = hash-longer (c_tilde_length p) (mu ++ w1_bytes p.gamma2 w1) (omega (arith, (set_numbers p t).short))
 
@@ -113,7 +113,7 @@ module _ (H G H' G' : List ℕ → List ℕ) (first : ArePrefixes H H') (second 
   checked_stays p sk y w c_tilde None longer same = inl refl
   checked_stays p sk y w c_tilde (Some c) longer same = inr (ap (checked_attempt p sk y w c_tilde) (same c refl))
 
-  attempt-longer : (p : ParameterSet) (a : List (List T)) (sk : PrivateParts) (mu rho : List ℕ) (kappa : ℕ) → IsTrue (is_parameter_set p)
+  attempt-longer : (p : ParameterSet) (a : List (List T)) (sk : PrivateParts) (mu rho : List ℕ) (kappa : ℕ) → IsSet p
       → (attempt p H a sk mu rho kappa ≡ unsampled) ⊎ (attempt p H' a sk mu rho kappa ≡ attempt p H a sk mu rho kappa)
   unfolding attempt
   attempt-longer p a sk mu rho kappa t =
@@ -139,7 +139,7 @@ module _ (H G H' G' : List ℕ → List ℕ) (first : ArePrefixes H H') (second 
     | inr same ↦ ap (λ x. first_answer (x ∷ map g ns)) same ∙ next_stays (f n) (map f ns) (map g ns) (first_stays f g ns each) not
   ]
 
-  sign_with-longer : (p : ParameterSet) (a : List (List T)) (sk : PrivateParts) (mu rnd : List ℕ) → IsTrue (is_parameter_set p) → Stays (sign_with p H a sk mu rnd) (sign_with p H' a sk mu rnd)
+  sign_with-longer : (p : ParameterSet) (a : List (List T)) (sk : PrivateParts) (mu rnd : List ℕ) → IsSet p → Stays (sign_with p H a sk mu rnd) (sign_with p H' a sk mu rnd)
   unfolding sign_with
   sign_with-longer p a sk mu rnd t not =
       let seed : mask_seed H' sk rnd mu ≡ mask_seed H sk rnd mu = hash-longer 64 (sk.key ++ rnd ++ mu) (omega arith) in
@@ -147,12 +147,12 @@ module _ (H G H' G' : List ℕ → List ℕ) (first : ArePrefixes H H') (second 
       ap (λ s. first_answer (map (λ n. attempt p H' a sk mu s (n * p.l)) (range_with_len 0 814))) seed
       ∙ first_stays (λ n. attempt p H a sk mu rho (n * p.l)) (λ n. attempt p H' a sk mu rho (n * p.l)) (range_with_len 0 814) (λ n. attempt-longer p a sk mu rho (n * p.l) t) not
 
-  matrix_stays : (p : ParameterSet) (a longer : Option (List (List T))) (sk : PrivateParts) (mu rnd : List ℕ) → IsTrue (is_parameter_set p)
+  matrix_stays : (p : ParameterSet) (a longer : Option (List (List T))) (sk : PrivateParts) (mu rnd : List ℕ) → IsSet p
       → ((x : List (List T)) → a ≡ Some x → longer ≡ Some x) → Stays (unwrap_or (option_map (λ m. sign_with p H m sk mu rnd) a) (Err SamplingLimit)) (unwrap_or (option_map (λ m. sign_with p H' m sk mu rnd) longer) (Err SamplingLimit))
   matrix_stays p None longer sk mu rnd t same not = absurd (not refl)
   matrix_stays p (Some a) longer sk mu rnd t same not = rw (same a refl) (sign_with-longer p a sk mu rnd t not)
 
-  sign-longer : (p : ParameterSet) (sk : PrivateParts) (mu rnd : List ℕ) → IsTrue (is_parameter_set p) → Stays (sign p H G sk mu rnd) (sign p H' G' sk mu rnd)
+  sign-longer : (p : ParameterSet) (sk : PrivateParts) (mu rnd : List ℕ) → IsSet p → Stays (sign p H G sk mu rnd) (sign p H' G' sk mu rnd)
   unfolding sign
   sign-longer p sk mu rnd t =
       matrix_stays p (sampled_matrix G sk.rho p.k p.l) (sampled_matrix G' sk.rho p.k p.l) sk mu rnd t (λ a there. sampled_matrix-longer G G' sk.rho p.k p.l a second there)
@@ -173,13 +173,13 @@ module _ (H G H' G' : List ℕ → List ℕ) (first : ArePrefixes H H') (second 
   representative-longer tr (framed m) = hash-longer 64 (tr ++ m) (omega arith)
   representative-longer tr (represented mu) = refl
 
-  input-longer : (p : ParameterSet) (sk : PrivateParts) (rnd : List ℕ) (input : Input) → IsTrue (is_parameter_set p) → Stays (sign_input p H G sk rnd input) (sign_input p H' G' sk rnd input)
+  input-longer : (p : ParameterSet) (sk : PrivateParts) (rnd : List ℕ) (input : Input) → IsSet p → Stays (sign_input p H G sk rnd input) (sign_input p H' G' sk rnd input)
   input-longer p sk rnd input t =
       let stays = sign-longer p sk (representative H sk.tr input) rnd t in
       refused_stays (input_fault input) (sign p H G sk (representative H sk.tr input) rnd) (sign p H' G' sk (representative H' sk.tr input) rnd)
       (λ not. ap (λ mu. sign p H' G' sk mu rnd) (representative-longer sk.tr input) ∙ stays not)
 
-  answers_stay : (p : ParameterSet) → IsTrue (is_parameter_set p) → AnswersStay p H G H' G'
+  answers_stay : (p : ParameterSet) → IsSet p → AnswersStay p H G H' G'
   answers_stay p t = record {
     key_pairs = λ xi. generated-longer p xi;
     public_keys = λ sk. derived-longer p sk;
@@ -190,7 +190,7 @@ module _ (H G H' G' : List ℕ → List ℕ) (first : ArePrefixes H H') (second 
 
   -- ---- verifying
 
-  verifies-longer : (p : ParameterSet) (pk : PublicParts) (mu signature : List ℕ) → IsTrue (is_parameter_set p) → Verifies p H G pk mu signature → Verifies p H' G' pk mu signature
+  verifies-longer : (p : ParameterSet) (pk : PublicParts) (mu signature : List ℕ) → IsSet p → Verifies p H G pk mu signature → Verifies p H' G' pk mu signature
   verifies-longer p pk mu signature t v =
       let accepted = v.accepted in
       let opened = accepted.opened in
@@ -213,7 +213,7 @@ module _ (H G H' G' : List ℕ → List ℕ) (first : ArePrefixes H H') (second 
         };
       }
 
-  verifies-shorter : (p : ParameterSet) (pk : PublicParts) (mu signature : List ℕ) → IsTrue (is_parameter_set p) → IsVerdictDecided p H G pk signature
+  verifies-shorter : (p : ParameterSet) (pk : PublicParts) (mu signature : List ℕ) → IsSet p → IsVerdictDecided p H G pk signature
       → Verifies p H' G' pk mu signature → Verifies p H G pk mu signature
   verifies-shorter p pk mu signature t (malformed none) v =
       let opened = v.accepted.opened in
@@ -245,7 +245,7 @@ module _ (H G H' G' : List ℕ → List ℕ) (first : ArePrefixes H H') (second 
         };
       }
 
-  input_stays : (p : ParameterSet) (pk : PublicParts) (signature : List ℕ) (input : Input) → IsTrue (is_parameter_set p)
+  input_stays : (p : ParameterSet) (pk : PublicParts) (signature : List ℕ) (input : Input) → IsSet p
       → YesAndNoStay (IsVerdictDecided p H G pk signature ⊎ (input_fault input ≢ None)) (VerifiesInput p H G pk signature input) (VerifiesInput p H' G' pk signature input)
   input_stays p pk signature input t =
       let mu = representative-longer pk.tr input in
@@ -262,7 +262,7 @@ module _ (H G H' G' : List ℕ → List ℕ) (first : ArePrefixes H H') (second 
         );
       }
 
-  acceptance_stays : (p : ParameterSet) → IsTrue (is_parameter_set p) → AcceptanceStays p H G H' G'
+  acceptance_stays : (p : ParameterSet) → IsSet p → AcceptanceStays p H G H' G'
   acceptance_stays p t = record {
     inputs = λ pk signature input. input_stays p pk signature input t;
     decoded = λ bytes pk d. record { parts = d.parts; encoding = d.encoding; tr = d.tr ∙ sym (hash-longer 64 bytes (omega arith)) };

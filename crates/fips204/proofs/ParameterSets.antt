@@ -2,7 +2,8 @@
 use Rattle.std.proofs.Common.{rules, subst, ◌≡◌, ◌⊎◌, inl, inr, ℕ, ℤ, pos, negsuc, nat_abs, Bool, true, false, ◌&&◌, ◌||◌, IsTrue, refl, ap, sym, true≢false, eqb-true, ◌≤◌, ◌*◌, arith, ◌<◌, ◌+◌, ◌-◌, ◌/◌, ◌-ℤ◌, ◌≤ℤ◌, List, ◌∙◌, Some}
 use Rattle.std.specs.Prelude.{int_le, nat_eq, if◌then◌else◌}
 use Rattle.fips204.specs.declared.types.Params.{Params}
-use Rattle.fips204.specs.ParameterSets.{ParameterSet, set_44, set_65, set_87, same_parameters, is_parameter_set, parameter_set, are_parameters, c_tilde_length}
+use Rattle.fips204.specs.ParameterSets.{ParameterSet, set_44, set_65, set_87, c_tilde_length, IsSet}
+use Rattle.fips204.specs.Rows.{same_parameters, is_parameter_set, parameter_set, are_parameters}
 use Rattle.fips204_base.specs.Encodings.{PrivateParts, ArePrivateParts}
 use Rattle.fips204_base.proofs.RoundingLaws.{IsGamma}
 use Rattle.fips204.specs.Sets.{set_of}
@@ -61,8 +62,8 @@ one_of_sets p t = elim (or_out (same_parameters p set_44 || same_parameters p se
 ]
 
 -- what holds of each of the three holds of it
-pub of_each_set : (P : ParameterSet → Type 0) (p : ParameterSet) → IsTrue (is_parameter_set p) → P set_44 → P set_65 → P set_87 → P p
-of_each_set P p t x y z = elim (one_of_sets p t) [
+pub of_each_set : (P : ParameterSet → Type 0) (p : ParameterSet) → IsSet p → P set_44 → P set_65 → P set_87 → P p
+of_each_set P p t x y z = elim t [
   | inl e ↦ subst P (sym e) x
   | inr (inl e) ↦ subst P (sym e) y
   | inr (inr e) ↦ subst P (sym e) z
@@ -141,7 +142,7 @@ numbers_65 = search rules
 numbers_87 : AreSetNumbers set_87
 numbers_87 = search rules
 
-pub set_numbers : (p : ParameterSet) → IsTrue (is_parameter_set p) → AreSetNumbers p
+pub set_numbers : (p : ParameterSet) → IsSet p → AreSetNumbers p
 set_numbers p t = of_each_set AreSetNumbers p t numbers_44 numbers_65 numbers_87
 
 -- What the three rows of the parameter sets have in common.
@@ -207,14 +208,11 @@ pub columns-few : (l : ℕ) (p : Params) → IsKnown p → l ≡ p.l → l ≤ 8
 columns-few l p t e = omega (arith, e, (limits p t).few_columns)
 
 -- the numbers of a row make a set
-abbrev is_set : ParameterSet → Type 0
-is_set row = IsTrue (is_parameter_set row)
-
-pub known-set : (p : Params) → IsKnown p → IsTrue (is_parameter_set (set_of p))
+pub known-set : (p : Params) → IsKnown p → IsSet (set_of p)
 known-set p t = elim (rows p.tau p.lambda p.gamma1 p.gamma2 p.k p.l p.eta p.beta p.omega t) [
-  | inl n ↦ subst is_set (sym (row-set set_44 p.tau p.lambda p.gamma1 p.gamma2 p.k p.l p.eta p.beta p.omega n)) refl
-  | inr (inl n) ↦ subst is_set (sym (row-set set_65 p.tau p.lambda p.gamma1 p.gamma2 p.k p.l p.eta p.beta p.omega n)) refl
-  | inr (inr n) ↦ subst is_set (sym (row-set set_87 p.tau p.lambda p.gamma1 p.gamma2 p.k p.l p.eta p.beta p.omega n)) refl
+  | inl n ↦ inl (row-set set_44 p.tau p.lambda p.gamma1 p.gamma2 p.k p.l p.eta p.beta p.omega n)
+  | inr (inl n) ↦ inr (inl (row-set set_65 p.tau p.lambda p.gamma1 p.gamma2 p.k p.l p.eta p.beta p.omega n))
+  | inr (inr n) ↦ inr (inr (row-set set_87 p.tau p.lambda p.gamma1 p.gamma2 p.k p.l p.eta p.beta p.omega n))
 ]
 
 -- ---- the bytes of a high part
@@ -277,7 +275,7 @@ private_key-size eta K L k l size set rows columns e =
     rw (w, rows, columns) (omega (arith, e))
 
 -- the ranges of a private key's parts, at the set and by the rows of the matrix
-pub parts_at_set : (p : ParameterSet) (k l : ℕ) (sk : PrivateParts) → IsTrue (is_parameter_set p) → k ≡ p.k → ArePrivateParts (eta_of_rows k) k l sk → ArePrivateParts p.eta k l sk
+pub parts_at_set : (p : ParameterSet) (k l : ℕ) (sk : PrivateParts) → IsSet p → k ≡ p.k → ArePrivateParts (eta_of_rows k) k l sk → ArePrivateParts p.eta k l sk
 parts_at_set p k l sk row rows parts = subst (λ m. ArePrivateParts m k l sk) (ap eta_of_rows rows ∙ sym (set_numbers p row).eta) parts
 
 pub parts_by_rows : (p : Params) (k l : ℕ) (sk : PrivateParts) → IsKnown p → k ≡ p.k → ArePrivateParts (nat_abs p.eta) k l sk → ArePrivateParts (eta_of_rows k) k l sk

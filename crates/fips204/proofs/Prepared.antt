@@ -1,5 +1,5 @@
 -- Keys with their matrix: what is signed with one is accepted, and each answers as its plain key.
-use Rattle.std.proofs.Common.{IsTrue, ◌≡◌, ◌≤◌, ℕ, List, [], Bool, refl, sym, ap, subst, ◌∙◌, length, get_or, Result, Ok, Some, None}
+use Rattle.std.proofs.Common.{◌≡◌, ◌≤◌, ℕ, List, [], Bool, refl, sym, ap, subst, ◌∙◌, length, get_or, Result, Ok, Some, None}
 use Rattle.std.specs.Prelude.{◌↔◌, ok_or, option_map, unwrap_or, Err}
 use Rattle.std.specs.declared.option.Option.{Option}
 use Rattle.fips204_base.specs.declared.fault.Fault.{Fault}
@@ -10,7 +10,7 @@ use Rattle.fips204.specs.Acceptance.{Accepts, Verifies}
 use Rattle.fips204.specs.Framing.{Input, plain, represented, representative}
 use Rattle.fips204_base.specs.Encodings.{PublicParts, PrivateParts, ArePrivateParts}
 use Rattle.fips204.specs.Keys.{IsWhole, high_part, low_part}
-use Rattle.fips204.specs.ParameterSets.{ParameterSet, is_parameter_set}
+use Rattle.fips204.specs.ParameterSets.{ParameterSet, IsSet}
 use Rattle.fips204.specs.Prepared.{PreparedPrivate, PreparedPublic, prepared_private, prepared_public, public_of_prepared, sign_prepared, IsWholePrepared, VerifiesPrepared, IsEachSigned, IsEachJudged, AcceptedIfWholePrepared, PreparedAnswersAsPlain}
 use Rattle.fips204.specs.Refusals.{refused_or, input_fault, sign_input, VerifiesInput, derived}
 use Rattle.fips204.specs.SigningInputs.{input_hash}
@@ -20,7 +20,7 @@ use Rattle.fips204.proofs.RefusedCalls.{given_input, same_some, same_ok}
 
 -- ---- what is signed is accepted
 
-pub hash_accepted : (p : ParameterSet) (H : List ℕ → List ℕ) (K L : ℕ) (sk : PreparedPrivate) (mu rnd : List ℕ) (answer : Result (List ℕ) Fault) → IsTrue (is_parameter_set p)
+pub hash_accepted : (p : ParameterSet) (H : List ℕ → List ℕ) (K L : ℕ) (sk : PreparedPrivate) (mu rnd : List ℕ) (answer : Result (List ℕ) Fault) → IsSet p
     → ((x : List ℕ) → 4096 ≤ length (H x)) → K ≡ p.k → L ≡ p.l → ArePrivateParts p.eta K L sk.parts → answer ≡ sign_prepared p H sk rnd (represented mu)
     → AcceptedIfWholePrepared p sk (λ pk signature. VerifiesPrepared p H pk signature (represented mu)) answer
 hash_accepted p H K L sk mu rnd answer known law rows columns parts same =

@@ -1,9 +1,9 @@
 -- What the keys of a seed sign is accepted, and what a whole private key signs.
-use Rattle.std.proofs.Common.{◌≡◌, ◌≤◌, ℕ, nat_abs, List, IsTrue, sym, ◌∙◌, length, Result, Ok, Err, rules}
+use Rattle.std.proofs.Common.{◌≡◌, ◌≤◌, ℕ, nat_abs, List, sym, ◌∙◌, length, Result, Ok, Err, rules}
 use Rattle.std.specs.Prelude.{IfOk, MatchResult}
 use Rattle.fips204_base.specs.Encodings.{PublicParts, PrivateParts, ArePrivateParts, IsPublicKeyOf, public_key_bytes, private_key_bytes}
 use Rattle.fips204_base.specs.declared.fault.Fault.{Fault}
-use Rattle.fips204.specs.ParameterSets.{ParameterSet, is_parameter_set}
+use Rattle.fips204.specs.ParameterSets.{ParameterSet, IsSet}
 use Rattle.fips204.specs.Keys.{DecodesPrivate, IsWhole}
 use Rattle.fips204.specs.declared.types.Params.{Params}
 use Rattle.fips204.specs.Sets.{set_of}
@@ -21,20 +21,20 @@ signed_is_accepted p H G pk sk row law = (
 )
 
 -- what signing an input gives for both keys of a seed is accepted
-pub seed_accepts : (p : ParameterSet) (H G : List ℕ → List ℕ) (xi rnd signature : List ℕ) (input : Input) (pk : PublicParts) (sk : PrivateParts) → IsTrue (is_parameter_set p) → ((x : List ℕ) → 4096 ≤ length (H x))
+pub seed_accepts : (p : ParameterSet) (H G : List ℕ → List ℕ) (xi rnd signature : List ℕ) (input : Input) (pk : PublicParts) (sk : PrivateParts) → IsSet p → ((x : List ℕ) → 4096 ≤ length (H x))
     → generated p H G xi ≡ Ok (pk, sk) → sign_input p H G sk rnd input ≡ Ok signature → VerifiesInput p H G pk signature input
 seed_accepts p H G xi rnd signature input pk sk row law from made = ((signed_is_accepted p H G pk sk row law).1 xi from).1 rnd signature input made
 
 -- ---- what generating answers
 
-pub generated_pairs : (p : ParameterSet) (H G : List ℕ → List ℕ) (xi : List ℕ) (answer : Result (PublicParts × PrivateParts) Fault) → IsTrue (is_parameter_set p)
+pub generated_pairs : (p : ParameterSet) (H G : List ℕ → List ℕ) (xi : List ℕ) (answer : Result (PublicParts × PrivateParts) Fault) → IsSet p
     → ((x : List ℕ) → 4096 ≤ length (H x)) → answer ≡ generated p H G xi → IfOk answer (λ keys. IsWhole p G keys.1 × (derived p G keys.1 ≡ Ok keys.0))
 generated_pairs p H G xi (Err fault) row law made = search rules
 generated_pairs p H G xi (Ok keys) row law made =
     let are = generated_parts p H G xi keys.0 keys.1 row law (sym made) in
     (are.consistent, are.belongs)
 
-pub generated_decode : (p : ParameterSet) (H G : List ℕ → List ℕ) (xi : List ℕ) (answer : Result (PublicParts × PrivateParts) Fault) → IsTrue (is_parameter_set p)
+pub generated_decode : (p : ParameterSet) (H G : List ℕ → List ℕ) (xi : List ℕ) (answer : Result (PublicParts × PrivateParts) Fault) → IsSet p
     → ((x : List ℕ) → 4096 ≤ length (H x)) → answer ≡ generated p H G xi
     → IfOk answer (λ keys. DecodesAlone (λ bytes (read : Result PublicParts Fault). MatchResult read (λ key. IsPublicKeyOf H p.k bytes key) (λ _. ⊥)) (public_key_bytes keys.0.rho keys.0.t1) keys.0
     × DecodesAlone (DecodesPrivate p.eta p.k p.l) (private_key_bytes p.eta keys.1) keys.1)

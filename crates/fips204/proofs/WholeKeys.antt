@@ -12,7 +12,7 @@ use Rattle.fips204_base.specs.Sampling.{sampled_matrix}
 use Rattle.fips204_base.specs.Network.{small_vector}
 use Rattle.fips204_base.specs.Vectors.{IsVector}
 use Rattle.fips204_base.proofs.Sampled.{small_vector-range, some_of_ok}
-use Rattle.fips204.specs.ParameterSets.{ParameterSet, is_parameter_set}
+use Rattle.fips204.specs.ParameterSets.{ParameterSet, IsSet}
 use Rattle.fips204.specs.Keys.{DecodesPrivate, IsWhole, high_part, low_part, key_pair}
 use Rattle.fips204.specs.Signing.{sign}
 use Rattle.fips204.specs.Acceptance.{Verifies}
@@ -45,13 +45,13 @@ one_public_key k pk other one two hash same =
     all_high n v h = λ i d l. record { range = h.range i d l; count = h.places i d l }
 
 -- and that two private keys have
-one_private_key : (p : ParameterSet) (bytes : List ℕ) (sk other : PrivateParts) → IsTrue (is_parameter_set p) → IsPrivateKeyOf p.eta p.k p.l bytes sk
+one_private_key : (p : ParameterSet) (bytes : List ℕ) (sk other : PrivateParts) → IsSet p → IsPrivateKeyOf p.eta p.k p.l bytes sk
     → IsPrivateKeyOf p.eta p.k p.l bytes other → sk ≡ other
 one_private_key p bytes sk other row one two =
     let eta = (set_numbers p row).small in
     same_private_key p.eta p.k p.l bytes sk other (omega (arith, eta)) (omega (arith, eta)) one two
 
-pub bytes_tell_keys : (p : ParameterSet) → IsTrue (is_parameter_set p) → BytesTellKeys p
+pub bytes_tell_keys : (p : ParameterSet) → IsSet p → BytesTellKeys p
 bytes_tell_keys p row = record {
   private_keys = λ first second one two same. one_private_key p _ first second row record { parts = one; encoding = same } record { parts = two; encoding = refl };
   public_keys = λ first second one two hash same. one_public_key p.k first second one two hash same;
@@ -75,7 +75,7 @@ derived_hash p G sk pk e = of_matrix (sampled_matrix G sk.rho p.k p.l) e
     of_matrix None none = absurd cc
     of_matrix (Some a) s = ap (λ (k : PublicParts). k.tr) (same_ok _ pk s)
 
-pub accepts_signed : (p : ParameterSet) (H G : List ℕ → List ℕ) (pk : PublicParts) (sk : PrivateParts) → IsTrue (is_parameter_set p) → ((x : List ℕ) → 4096 ≤ length (H x))
+pub accepts_signed : (p : ParameterSet) (H G : List ℕ → List ℕ) (pk : PublicParts) (sk : PrivateParts) → IsSet p → ((x : List ℕ) → 4096 ≤ length (H x))
     → ArePrivateParts p.eta p.k p.l sk → IsWhole p G sk → derived p G sk ≡ Ok pk → AcceptsSigned p H G pk sk
 accepts_signed p H G pk sk row law parts whole derives =
     let own : PublicParts = record { rho = sk.rho; tr = sk.tr; t1 = high_part p whole.matrix sk.s1 sk.s2 } in
@@ -103,7 +103,7 @@ public_decodes p H G pk sk parts whole derives hash =
       tr = sym (ap (λ (k : PublicParts). k.tr) same) ∙ hash;
     }
 
-pub pair_of_whole : (p : ParameterSet) (H G : List ℕ → List ℕ) (pk : PublicParts) (sk : PrivateParts) → IsTrue (is_parameter_set p)
+pub pair_of_whole : (p : ParameterSet) (H G : List ℕ → List ℕ) (pk : PublicParts) (sk : PrivateParts) → IsSet p
     → ArePrivateParts p.eta p.k p.l sk → IsWhole p G sk → derived p G sk ≡ Ok pk → sk.tr ≡ key_hash H pk.rho pk.t1 → IsPair p H G pk sk
 pair_of_whole p H G pk sk row parts whole derives hash =
     let bytes = private_key_bytes p.eta sk in
@@ -121,7 +121,7 @@ pair_of_whole p H G pk sk row parts whole derives hash =
     }
 
 -- with a whole private key at hand its tr decides
-pub pair_by_hash : (p : ParameterSet) (H G : List ℕ → List ℕ) (pk : PublicParts) (sk : PrivateParts) (own : Bool) → IsTrue (is_parameter_set p)
+pub pair_by_hash : (p : ParameterSet) (H G : List ℕ → List ℕ) (pk : PublicParts) (sk : PrivateParts) (own : Bool) → IsSet p
     → ArePrivateParts p.eta p.k p.l sk → IsWhole p G sk → derived p G sk ≡ Ok pk → (IsTrue own ↔ (sk.tr ≡ key_hash H pk.rho pk.t1)) → IsTrue own ↔ IsPair p H G pk sk
 pair_by_hash p H G pk sk own row parts whole derives both = (
   λ t. pair_of_whole p H G pk sk row parts whole derives (both.0 t),
@@ -180,7 +180,7 @@ made_of p H rho key (Some a) (Some s1) (Some s2) pk sk e = record {
   made = same_some (key_pair p H rho key a s1 s2) (pk, sk) e;
 }
 
-pub generated_parts : (p : ParameterSet) (H G : List ℕ → List ℕ) (xi : List ℕ) (pk : PublicParts) (sk : PrivateParts) → IsTrue (is_parameter_set p) → ((x : List ℕ) → 4096 ≤ length (H x))
+pub generated_parts : (p : ParameterSet) (H G : List ℕ → List ℕ) (xi : List ℕ) (pk : PublicParts) (sk : PrivateParts) → IsSet p → ((x : List ℕ) → 4096 ≤ length (H x))
     → generated p H G xi ≡ Ok (pk, sk) → AreGenerated p H G pk sk
 generated_parts p H G xi pk sk row law e =
     let eta = (set_numbers p row).small in
@@ -197,7 +197,7 @@ generated_parts p H G xi pk sk row law e =
     was.has_matrix (small_vector-range p.eta H rho' 0 p.l was.first eta was.has_first) (small_vector-range p.eta H rho' p.l p.k was.second eta was.has_second))
 
 -- the keys of a seed are a pair, and the public one accepts what the private one signs
-pub generated_pair : (p : ParameterSet) (H G : List ℕ → List ℕ) (xi : List ℕ) (pk : PublicParts) (sk : PrivateParts) → IsTrue (is_parameter_set p) → ((x : List ℕ) → 4096 ≤ length (H x))
+pub generated_pair : (p : ParameterSet) (H G : List ℕ → List ℕ) (xi : List ℕ) (pk : PublicParts) (sk : PrivateParts) → IsSet p → ((x : List ℕ) → 4096 ≤ length (H x))
     → generated p H G xi ≡ Ok (pk, sk) → IsPair p H G pk sk × AcceptsSigned p H G pk sk
 generated_pair p H G xi pk sk row law e =
     let are = generated_parts p H G xi pk sk row law e in
@@ -210,7 +210,7 @@ public_alone p H G pk sk are (Ok other) decoded =
     ap Ok (one_decoded H p.k (public_key_bytes pk.rho pk.t1) pk other (public_decodes p H G pk sk are.in_range are.consistent are.belongs are.hashed) decoded)
 public_alone p H G pk sk are (Err fault) decoded = absurd decoded
 
-pub private_alone : (p : ParameterSet) (H G : List ℕ → List ℕ) (pk : PublicParts) (sk : PrivateParts) → IsTrue (is_parameter_set p) → AreGenerated p H G pk sk
+pub private_alone : (p : ParameterSet) (H G : List ℕ → List ℕ) (pk : PublicParts) (sk : PrivateParts) → IsSet p → AreGenerated p H G pk sk
     → DecodesAlone (DecodesPrivate p.eta p.k p.l) (private_key_bytes p.eta sk) sk
 private_alone p H G pk sk row are (Ok other) decoded = ap Ok (one_private_key p _ other sk row decoded record { parts = are.in_range; encoding = refl })
 private_alone p H G pk sk row are (Err fault) decoded = absurd (decoded.1 sk record { parts = are.in_range; encoding = refl })

@@ -13,7 +13,8 @@ use Rattle.fips204_base.specs.declared.types.R.{R}
 use Rattle.fips204.specs.Keys.{key_pair, PublicParts}
 use Rattle.fips204.specs.SigningInputs.{seed_front, t1_shifted, mask_seed}
 use Rattle.fips204.specs.Acceptance.{w1_prime}
-use Rattle.fips204.specs.ParameterSets.{ParameterSet, set_44, set_65, set_87, is_parameter_set, public_key_length, private_key_length, signature_length}
+use Rattle.fips204.specs.ParameterSets.{ParameterSet, set_44, set_65, set_87, public_key_length, private_key_length, signature_length}
+use Rattle.fips204.specs.Rows.{is_parameter_set}
 use Rattle.fips204.specs.Signing.{first_answer, unsampled, rejected, signed, commitment_hash, w_minus_cs2, sign}
 use Rattle.std.specs.Prelude.{replicate, nat_eq, get_or, option_map}
 use Rattle.std.specs.List.{range_with_len, flat_map}

@@ -3,7 +3,7 @@ use Rattle.std.specs.Prelude.{◌≡◌, ◌≤◌, ◌↔◌, ℕ, length, take
 use Rattle.fips204_base.specs.declared.fault.Fault.{Fault}
 use Rattle.fips204_base.specs.Encodings.{PublicParts, PrivateParts, ArePublicParts, ArePrivateParts, IsPublicKeyOf, IsPrivateKeyOf, public_key_bytes, private_key_bytes}
 use Rattle.fips204_base.specs.Streams.{Bytes, XOF}
-use Rattle.fips204.specs.ParameterSets.{ParameterSet, is_parameter_set}
+use Rattle.fips204.specs.ParameterSets.{ParameterSet, IsSet}
 use Rattle.fips204.specs.Keys.{IsWhole}
 use Rattle.fips204.specs.Framing.{Input}
 use Rattle.fips204.specs.Refusals.{generated, derived, sign_input, VerifiesInput}
@@ -39,7 +39,7 @@ TellsPair p H G sk answer = MatchResult answer (λ yes. (pk : PublicParts) × (d
 -- public key accepts what the private one signs
 abbrev pub SignedIsAccepted : Type 0
 SignedIsAccepted =
-    (p : ParameterSet) (H G : XOF) (pk : PublicParts) (sk : PrivateParts) → IsTrue (is_parameter_set p)
+    (p : ParameterSet) (H G : XOF) (pk : PublicParts) (sk : PrivateParts) → IsSet p
     → ((x : Bytes) → 4096 ≤ length (H x))
     → (ArePrivateParts p.eta p.k p.l sk → IsWhole p G sk → derived p G sk ≡ Ok pk
     → AcceptsSigned p H G pk sk × (sk.tr ≡ take 64 (H (public_key_bytes pk.rho pk.t1)) → IsPair p H G pk sk))

@@ -2,6 +2,7 @@ pub mod ParameterSets
 pub mod Sets
 pub mod Keys
 pub mod SigningInputs
+pub mod Rows
 pub mod Signing
 pub mod Acceptance
 pub mod Framing

@@ -1,5 +1,5 @@
 -- What stays where the fronts of two streams are prefixes of longer ones.
-use Rattle.std.specs.Prelude.{◌≡◌, ◌≢◌, ◌<◌, ◌≤◌, ◌-◌, ◌⊎◌, ◌↔◌, ℕ, List, take, Some, None, IsTrue, Result, Err}
+use Rattle.std.specs.Prelude.{◌≡◌, ◌≢◌, ◌<◌, ◌≤◌, ◌-◌, ◌⊎◌, ◌↔◌, ℕ, List, take, Some, None, Result, Err}
 use Rattle.fips204_base.specs.declared.fault.Fault.{Fault}
 use Rattle.fips204_base.specs.declared.fault.Fault.TheVariants.{SamplingLimit}
 use Rattle.fips204_base.specs.declared.types.R.{R}
@@ -8,7 +8,7 @@ use Rattle.fips204_base.specs.Encodings.{PublicParts, PrivateParts, IsPublicKeyO
 use Rattle.fips204_base.specs.Residues.{vector_norm}
 use Rattle.fips204_base.specs.Streams.{Bytes, XOF, counter_blocks, sha256_front, sha256_long_front, sha512_front, sha512_long_front, IsPrefix, ArePrefixes}
 use Rattle.fips204_base.specs.Sampling.{matrix_entry, sampled_matrix, small_polynomial, challenge}
-use Rattle.fips204.specs.ParameterSets.{ParameterSet, is_parameter_set, c_tilde_length}
+use Rattle.fips204.specs.ParameterSets.{ParameterSet, c_tilde_length, IsSet}
 use Rattle.fips204.specs.Framing.{Input}
 use Rattle.fips204.specs.Refusals.{generated, derived, input_fault, sign_input, VerifiesInput}
 use Rattle.fips204.specs.Prepared.{prepared_private, prepared_public}
@@ -63,4 +63,4 @@ pub record AcceptanceStays (p : ParameterSet) (H G H' G' : XOF) : Type 0 where
 abbrev pub LongerFrontsKeep : XOF → XOF → XOF → XOF → Type 0
 LongerFrontsKeep H G H' G' =
     ArePrefixes H H' → ArePrefixes G G'
-    → SamplesStay H G H' G' × ((p : ParameterSet) → IsTrue (is_parameter_set p) → AnswersStay p H G H' G' × AcceptanceStays p H G H' G')
+    → SamplesStay H G H' G' × ((p : ParameterSet) → IsSet p → AnswersStay p H G H' G' × AcceptanceStays p H G H' G')

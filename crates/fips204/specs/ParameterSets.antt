@@ -1,5 +1,5 @@
 -- The parameter sets (FIPS 204, Tables 1 and 2).
-use Rattle.std.specs.Prelude.{ℕ, ◌+◌, ◌-◌, ◌*◌, ◌/◌, ℤ, pos, nat_abs, Bool, ◌&&◌, ◌||◌, nat_eq, int_le}
+use Rattle.std.specs.Prelude.{ℕ, pos, ◌≡◌, ◌⊎◌, ◌+◌, ◌*◌, ◌/◌, ◌-◌}
 use Rattle.fips204_base.specs.Packing.{width}
 
 -- the columns of Table 1; beta is tau eta
@@ -23,37 +23,9 @@ set_65 = record { tau = 49; lambda = 192; gamma1 = 524288; gamma2 = 261888; k = 
 abbrev pub set_87 : ParameterSet
 set_87 = record { tau = 60; lambda = 256; gamma1 = 524288; gamma2 = 261888; k = 8; l = 7; eta = 2; beta = 120; omega = 75 }
 
--- whether two sets agree in each column
-abbrev pub same_parameters : ParameterSet → ParameterSet → Bool
-same_parameters p row =
-    nat_eq p.tau row.tau && nat_eq p.lambda row.lambda && nat_eq p.gamma1 row.gamma1 && nat_eq p.gamma2 row.gamma2
-    && nat_eq p.k row.k && nat_eq p.l row.l && nat_eq p.eta row.eta && nat_eq p.beta row.beta && nat_eq p.omega row.omega
-
--- whether the numbers are those of one of the three sets
-abbrev pub is_parameter_set : ParameterSet → Bool
-is_parameter_set p = same_parameters p set_44 || same_parameters p set_65 || same_parameters p set_87
-
--- the set with these numbers, where tau, gamma1, gamma2, eta, beta and omega stand in signed words
-abbrev pub parameter_set : ℤ → ℕ → ℤ → ℤ → ℕ → ℕ → ℤ → ℤ → ℤ → ParameterSet
-parameter_set tau lambda gamma1 gamma2 k l eta beta omega =
-    record {
-      tau = nat_abs tau;
-      lambda = lambda;
-      gamma1 = nat_abs gamma1;
-      gamma2 = nat_abs gamma2;
-      k = k;
-      l = l;
-      eta = nat_abs eta;
-      beta = nat_abs beta;
-      omega = nat_abs omega;
-    }
-
--- whether these numbers are those of one of the three sets
-abbrev pub are_parameters : ℤ → ℕ → ℤ → ℤ → ℕ → ℕ → ℤ → ℤ → ℤ → Bool
-are_parameters tau lambda gamma1 gamma2 k l eta beta omega =
-    is_parameter_set (parameter_set tau lambda gamma1 gamma2 k l eta beta omega)
-    && int_le (pos 0) tau && int_le (pos 0) gamma1 && int_le (pos 0) gamma2
-    && int_le (pos 0) eta && int_le (pos 0) beta && int_le (pos 0) omega
+-- one of the three
+abbrev pub IsSet : ParameterSet → Type 0
+IsSet p = (p ≡ set_44) ⊎ ((p ≡ set_65) ⊎ (p ≡ set_87))
 
 abbrev pub public_key_length : ParameterSet → ℕ
 public_key_length p = 32 + 320 * p.k

@@ -13,7 +13,7 @@ use Rattle.fips204_base.specs.declared.types.R.{R}
 use Rattle.fips204_base.specs.declared.types.T.{T}
 use Rattle.fips204.specs.Acceptance.{Opens}
 use Rattle.fips204.specs.Framing.{Input, framed, plain, hashed, represented, frame, representative}
-use Rattle.fips204.specs.ParameterSets.{ParameterSet, is_parameter_set, c_tilde_length}
+use Rattle.fips204.specs.ParameterSets.{ParameterSet, c_tilde_length, IsSet}
 use Rattle.fips204.specs.Refusals.{input_fault, VerifiesInput}
 
 -- with the hint of z the high bits of r become those of r + z, where z is at most gamma2 in absolute value
@@ -90,7 +90,7 @@ pub record Fixes (p : ParameterSet) (H G : XOF) (pk : PublicParts) (signature w1
 -- a signature fixes no other w1 under a key
 abbrev pub SignatureFixesOne : Type 0
 SignatureFixesOne =
-    (p : ParameterSet) (H G : XOF) (pk : PublicParts) (signature w1 other : Bytes) → IsTrue (is_parameter_set p)
+    (p : ParameterSet) (H G : XOF) (pk : PublicParts) (signature w1 other : Bytes) → IsSet p
     → Fixes p H G pk signature w1 → Fixes p H G pk signature other → w1 ≡ other
 
 -- under a key two M' name a collision: of the two M', after tr, in mu; or of the two mu, before the w1 that the signature fixes, in
@@ -110,7 +110,7 @@ pub record AreFramedAlike (x y : Input) (m n : Bytes) : Type 0 where
 -- one signature that a key accepts for two different inputs names a collision of their M'
 abbrev pub SignatureBindsInput : Type 0
 SignatureBindsInput =
-    (p : ParameterSet) (H G : XOF) (pk : PublicParts) (x y : Input) (m n signature : Bytes) → IsTrue (is_parameter_set p)
+    (p : ParameterSet) (H G : XOF) (pk : PublicParts) (x y : Input) (m n signature : Bytes) → IsSet p
     → AreFramedAlike x y m n → x ≢ y → VerifiesInput p H G pk signature x → VerifiesInput p H G pk signature y → NamesCollision p H G pk signature m n
 
 -- under two keys with these bytes two M' name a collision: of the bytes in tr; of the two M', each after its tr, in mu; or of the two
@@ -126,7 +126,7 @@ pub record NamesKeyCollision (p : ParameterSet) (H G : XOF) (bytes others : Byte
 -- one signature that two keys accept, each read from its bytes, is accepted for one input under one key, or names a collision
 abbrev pub SignatureBindsKey : Type 0
 SignatureBindsKey =
-    (p : ParameterSet) (H G : XOF) (bytes others : Bytes) (pk other : PublicParts) (x y : Input) (m n signature : Bytes) → IsTrue (is_parameter_set p)
+    (p : ParameterSet) (H G : XOF) (bytes others : Bytes) (pk other : PublicParts) (x y : Input) (m n signature : Bytes) → IsSet p
     → ((x : Bytes) → 4096 ≤ length (H x)) → IsPublicKeyOf H p.k bytes pk → IsPublicKeyOf H p.k others other
     → AreFramedAlike x y m n → VerifiesInput p H G pk signature x → VerifiesInput p H G other signature y
     → ((pk ≡ other) × (x ≡ y)) ⊎ NamesKeyCollision p H G bytes others pk other signature m n
@@ -142,6 +142,6 @@ pub record NamesHintCollision (p : ParameterSet) (H G : XOF) (pk : PublicParts) 
 -- so do two different signatures that a key accepts for one input, if they are the same up to their hints
 abbrev pub OtherHintCollides : Type 0
 OtherHintCollides =
-    (p : ParameterSet) (H G : XOF) (pk : PublicParts) (input : Input) (first second : Bytes) → IsTrue (is_parameter_set p) → first ≢ second
+    (p : ParameterSet) (H G : XOF) (pk : PublicParts) (input : Input) (first second : Bytes) → IsSet p → first ≢ second
     → take (c_tilde_length p + 32 * width (pos (p.gamma1 - 1)) (pos p.gamma1) * p.l) first ≡ take (c_tilde_length p + 32 * width (pos (p.gamma1 - 1)) (pos p.gamma1) * p.l) second
     → VerifiesInput p H G pk first input → VerifiesInput p H G pk second input → NamesHintCollision p H G pk (representative H pk.tr input) first second

@@ -1,11 +1,22 @@
 -- The parameter sets as values of the program (FIPS 204, Tables 1 and 2).
-use Rattle.std.specs.Prelude.{◌≡◌, ℕ}
+use Rattle.std.specs.Prelude.{◌≡◌, ℕ, nat_abs}
 use Rattle.fips204.specs.declared.types.Params.{Params}
-use Rattle.fips204.specs.ParameterSets.{ParameterSet, parameter_set, c_tilde_length, signature_length, public_key_length, private_key_length}
+use Rattle.fips204.specs.ParameterSets.{ParameterSet, c_tilde_length, signature_length, public_key_length, private_key_length}
 
 -- the set of a value
 abbrev pub set_of : Params → ParameterSet
-set_of p = parameter_set p.tau p.lambda p.gamma1 p.gamma2 p.k p.l p.eta p.beta p.omega
+set_of p =
+    record {
+      tau = nat_abs p.tau;
+      lambda = p.lambda;
+      gamma1 = nat_abs p.gamma1;
+      gamma2 = nat_abs p.gamma2;
+      k = p.k;
+      l = p.l;
+      eta = nat_abs p.eta;
+      beta = nat_abs p.beta;
+      omega = nat_abs p.omega;
+    }
 
 -- k rows and l columns, n bytes of c_tilde and s bytes of a signature are those of the set
 pub record HasSizes (p : ParameterSet) (k l n s : ℕ) : Type 0 where

@@ -12,8 +12,8 @@ ghost use Rattle.fips204.specs.LongerFronts.{CounterFrontsArePrefixes, LongerFro
 ghost use Rattle.fips204.specs.SchemeLaws.{FramingIsOneToOne, SignatureFixesOne, SignatureBindsInput, SignatureBindsKey, OtherHintCollides, HintGivesHighBits, HintStaysNear, HighBitsStay, ChallengeProductIsSmall, SignatureHasOneSpelling, HintHasOneSpelling};
 ghost use Rattle.fips204.specs.Prepared.{PreparedAnswersAsPlain};
 ghost use Rattle.fips204.specs.RefusalLaws.{RefusesOnly};
-ghost use Rattle.fips204.specs.ParameterSets.{ParameterSet, is_parameter_set};
-ghost use Rattle.std.specs.Prelude.{ℕ, List, IsTrue};
+ghost use Rattle.fips204.specs.ParameterSets.{ParameterSet, IsSet};
+ghost use Rattle.std.specs.Prelude.{ℕ, List};
 
 mod joined;
 
@@ -109,7 +109,7 @@ pub fn signed_is_accepted()
 /// Keys in range with the same bytes are the same key: two private keys, and two public keys with the same
 /// `tr`.
 pub fn key_bytes()
-    ensures { (p : ParameterSet) → IsTrue (is_parameter_set p) → BytesTellKeys p }
+    ensures { (p : ParameterSet) → IsSet p → BytesTellKeys p }
 {}
 
 /// A prepared key signs and verifies as the key that it was prepared from does: messages, digests, the hashes

@@ -1,7 +1,7 @@
 //! ML-DSA-44 (FIPS 204, Table 1).
 #![tactic(auto)]
 
-ghost use Rattle.std.specs.Prelude.{refl};
+ghost use Rattle.std.specs.Prelude.{refl, inl};
 ghost use Rattle.std.proofs.lemmas.Bool.{leb-true};
 ghost use Rattle.fips204_base.specs.Packing.{bit_length};
 ghost use Rattle.fips204.specs.ParameterSets.{set_44};
@@ -74,7 +74,7 @@ impl Set for MlDsa44 {
 
     ghost set = { set_44 };
 
-    ghost known = { refl };
+    ghost known = { inl refl };
 
     fn params() -> Params {
         ML_DSA_44

@@ -1,8 +1,8 @@
 //! The parameter sets (FIPS 204, Tables 1 and 2): each is a type that implements `Set`.
 #![tactic(auto)]
 
-ghost use Rattle.std.specs.Prelude.{◌≡◌, ◌≤◌, ◌*◌, IsTrue};
-ghost use Rattle.fips204.specs.ParameterSets.{ParameterSet, is_parameter_set};
+ghost use Rattle.std.specs.Prelude.{◌≡◌, ◌≤◌, ◌*◌};
+ghost use Rattle.fips204.specs.ParameterSets.{ParameterSet, IsSet};
 ghost use Rattle.fips204.specs.Sets.{HasKeySizes, HasSizes, set_of};
 
 use crate::types::Params;
@@ -25,7 +25,7 @@ pub trait Set {
     ghost set: { ParameterSet };
 
     // It is one of the three.
-    ghost known: { IsTrue (is_parameter_set set) };
+    ghost known: { IsSet set };
 
     /// The numbers of the row.
     fn params() -> Params

@@ -3,7 +3,7 @@
 
 ghost use Rattle.std.specs.Prelude.{◌≡◌, ◌-◌, ⊤, pos, nat_abs, IsTrue};
 ghost use Rattle.fips204_base.specs.Encodings.{ArePublicParts};
-ghost use Rattle.fips204.specs.ParameterSets.{are_parameters};
+ghost use Rattle.fips204.specs.Rows.{are_parameters};
 
 pub mod pre_hash;
 mod prepared;

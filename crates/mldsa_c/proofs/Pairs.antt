@@ -7,7 +7,7 @@ use Rattle.fips204.specs.Completeness.{SignedIsAccepted, IsPair}
 use Rattle.fips204.specs.Framing.{plain, hashed, represented}
 use Rattle.fips204_base.specs.Encodings.{PublicParts, PrivateParts, IsPrivateKeyOf, IsPublicKeyOf, private_key_bytes}
 use Rattle.fips204.specs.Keys.{DecodesPrivate, IsWhole, TellsWhole}
-use Rattle.fips204.specs.ParameterSets.{ParameterSet, is_parameter_set}
+use Rattle.fips204.specs.ParameterSets.{ParameterSet, IsSet}
 use Rattle.fips204.specs.Refusals.{generated, derived, sign_input, VerifiesInput}
 use Rattle.fips204_shake.specs.Fronts.{shake256_front, shake128_front, length-shake256_front}
 use Rattle.mldsa_c.specs.Calls.{bytes_of_public, WritesPair, Generates, WritesPublic, TellsPrivate, TellsWholeness, WritesSignature, TellsVerdict}
@@ -103,7 +103,7 @@ pair_yes p pk sk public private pair is_public is_private signs accepts complete
     let same_public : decoded ≡ pk = (pair.public_decoded decoded).0 (subst (λ bytes. IsPublicKeyOf shake256_front p.k bytes decoded) is_public is_key) in
     subst (λ key. accepts signature key) (sym same_public) accepted)
 
-pub accepts_written : (p : ParameterSet) → IsTrue (is_parameter_set p) → SignedIsAccepted → PairsAcceptWritten p
+pub accepts_written : (p : ParameterSet) → IsSet p → SignedIsAccepted → PairsAcceptWritten p
 accepts_written p known law seed public public' private private' keys =
     let (pair, generated, (is_public, is_private, _)) = made p seed public public' private private' 0 refl keys in
     let both = (law p shake256_front shake128_front pair.0 pair.1 known (λ x. omega (arith, length-shake256_front x))).1 seed generated in
@@ -146,7 +146,7 @@ derived_done : (answer : Result PublicParts Fault) (pk : PublicParts) (old new :
     → Writes bytes_of_public answer old new status → (new ≡ bytes_of_public pk) × (status ≡ 0)
 derived_done answer pk old new status is = subst (λ it. Writes bytes_of_public it old new status) is
 
-pub belong : (p : ParameterSet) → IsTrue (is_parameter_set p) → SignedIsAccepted → PairsBelong p
+pub belong : (p : ParameterSet) → IsSet p → SignedIsAccepted → PairsBelong p
 belong p known law seed public public' private private' keys =
     let (pair, generated, (is_public, is_private, _)) = made p seed public public' private private' 0 refl keys in
     let both = (law p shake256_front shake128_front pair.0 pair.1 known (λ x. omega (arith, length-shake256_front x))).1 seed generated in

@@ -11,7 +11,7 @@ use Rattle.fips204.specs.Signing.{sign}
 use Rattle.fips204.specs.Encodings.{PublicParts, PrivateParts, ArePrivateParts, IsPublicKeyOf, IsPrivateKeyOf, public_key_bytes, private_key_bytes}
 use Rattle.fips204.specs.Completeness.{SignedIsAccepted, IsPair, AcceptsSigned}
 use Rattle.fips204.specs.Keys.{TellsWhole}
-use Rattle.fips204.specs.ParameterSets.{ParameterSet, is_parameter_set, signature_length}
+use Rattle.fips204.specs.ParameterSets.{ParameterSet, signature_length, IsSet}
 use Rattle.fips204.specs.Refusals.{generated, derived, Draws, sign_input}
 use Rattle.fips204_shake.specs.Fronts.{shake256_front, shake128_front, length-shake256_front}
 use Rattle.mlsign_files.specs.Keys.{PrivateParts as FileParts, Seed, Expanded, Both, HasPrivateSizes, private_length}
@@ -31,17 +31,17 @@ long_fronts : (x : List ℕ) → 4096 ≤ length (shake256_front x)
 long_fronts x = omega (arith, length-shake256_front x)
 
 -- what a seed generates is a pair
-pair_of_seed : (p : ParameterSet) (law : SignedIsAccepted) → IsTrue (is_parameter_set p) → (seed : List ℕ) (pk : PublicParts) (sk : PrivateParts)
+pair_of_seed : (p : ParameterSet) (law : SignedIsAccepted) → IsSet p → (seed : List ℕ) (pk : PublicParts) (sk : PrivateParts)
     → generated p shake256_front shake128_front seed ≡ Ok (pk, sk) → IsPair p shake256_front shake128_front pk sk
 pair_of_seed p law known seed pk sk made = ((law p shake256_front shake128_front pk sk known long_fronts).1 seed made).0
 
-pub keys_of_seed : (p : ParameterSet) (law : SignedIsAccepted) → IsTrue (is_parameter_set p) → (seed : List ℕ) (pk : PublicParts) (sk : PrivateParts)
+pub keys_of_seed : (p : ParameterSet) (law : SignedIsAccepted) → IsSet p → (seed : List ℕ) (pk : PublicParts) (sk : PrivateParts)
     → generated p shake256_front shake128_front seed ≡ Ok (pk, sk) → HasKeys p (Seed seed) pk sk
 keys_of_seed p law known seed pk sk made =
     let pair = pair_of_seed p law known seed pk sk made in record { stands = made; whole = pair.whole; derives = pair.derives }
 
 -- the private key that the bytes of a generated one decode to is that one
-pub keys_of_both : (p : ParameterSet) (law : SignedIsAccepted) → IsTrue (is_parameter_set p) → (seed expanded : List ℕ) (pk : PublicParts) (sk again : PrivateParts)
+pub keys_of_both : (p : ParameterSet) (law : SignedIsAccepted) → IsSet p → (seed expanded : List ℕ) (pk : PublicParts) (sk again : PrivateParts)
     → generated p shake256_front shake128_front seed ≡ Ok (pk, sk) → expanded ≡ private_key_bytes p.eta sk → IsPrivateKeyOf p.eta p.k p.l expanded again
     → HasKeys p (Both seed expanded) pk again
 keys_of_both p law known seed expanded pk sk again made same decoded =
@@ -75,7 +75,7 @@ short_context context short =
     let test : ltb 255 (length context) ≡ false = le-ltb _ _ short in rw test refl
 
 -- what a key of a file signed
-pub signs_at : (p : ParameterSet) (law : SignedIsAccepted) → IsTrue (is_parameter_set p) → (parts : FileParts) (sk : PrivateParts)
+pub signs_at : (p : ParameterSet) (law : SignedIsAccepted) → IsSet p → (parts : FileParts) (sk : PrivateParts)
     (random context message signature mu : List ℕ) (old new : Option (List ℕ)) → ArePrivateParts p.eta p.k p.l sk → HasPrivate p parts sk → length context ≤ 255
     → GivesAll old new message → mu ≡ representative shake256_front sk.tr (plain message context)
     → sign p shake256_front shake128_front sk mu random ≡ Ok signature → length signature ≡ signature_length p
@@ -131,10 +131,10 @@ same_private text a b x y p q =
     let der : p.der ≡ q.der = ok_is p.der q.der (sym (pem_of_text text Private p.der p.spelled) ∙ pem_of_text text Private q.der q.spelled) in
     ok_is (private_pair a x) (private_pair b y) (sym (private_of_file p.der a x p.file) ∙ ap private_at der ∙ private_of_file q.der b y q.file)
 
-known_set : (algorithm : Algorithm) → IsTrue (is_parameter_set (set_of algorithm))
-known_set MlDsa44 = refl
-known_set MlDsa65 = refl
-known_set MlDsa87 = refl
+known_set : (algorithm : Algorithm) → IsSet (set_of algorithm)
+known_set MlDsa44 = inl refl
+known_set MlDsa65 = inr (inl refl)
+known_set MlDsa87 = inr (inr refl)
 
 -- what a public key accepts is valid for the text that has its bytes
 judged_valid : (algorithm : Algorithm) (pk : PublicParts) (public signature context message : List ℕ) (valid : Bool)

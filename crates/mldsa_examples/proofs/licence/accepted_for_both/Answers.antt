@@ -1,4 +1,4 @@
-use Rattle.std.proofs.Common.{◌≡◌, refl}
+use Rattle.std.proofs.Common.{◌≡◌, refl, inl}
 use Rattle.fips204.specs.Framing.{plain}
 use Rattle.fips204.specs.ParameterSets.{set_44}
 use Rattle.mldsa_examples.specs.Licence.{spelling}
@@ -13,5 +13,5 @@ returns-then-verify g c both differ =
     let one = plain (spelling c.args.first.now) CONTEXT.now in
     let two = plain (spelling c.args.second.now) CONTEXT.now in
     let inputs = λ (same : one ≡ two). let spellings : spelling c.args.first.now ≡ spelling c.args.second.now = cc in differ (tell spellings) in
-    c.binding.ensures.inputs set_44 g.H.Xof.front g.G.Xof.front c.args.key.now one two _ _ c.args.signature.now refl
+    c.binding.ensures.inputs set_44 g.H.Xof.front g.G.Xof.front c.args.key.now one two _ _ c.args.signature.now (inl refl)
     record { kind = refl; first = refl; second = refl } inputs (first.0 c.if-verify.true) (second.0 both)

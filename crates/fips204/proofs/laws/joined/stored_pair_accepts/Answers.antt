@@ -1,4 +1,4 @@
-use Rattle.std.proofs.Common.{◌≡◌, ◌≤◌, ℕ, List, length, Ok, refl, arith, rules}
+use Rattle.std.proofs.Common.{◌≡◌, ◌≤◌, ℕ, List, length, Ok, refl, inl, arith, rules}
 use Rattle.fips204_base.specs.Encodings.{IsPublicKeyOf, IsPrivateKeyOf, public_key_bytes, private_key_bytes}
 use Rattle.fips204.specs.Framing.{plain}
 use Rattle.fips204.specs.ParameterSets.{set_44}
@@ -13,7 +13,7 @@ returns g c =
     let sk = c.in_ok-public.private in
     let long = λ (x : List ℕ). let all : 4096 ≤ length (H x) = omega (arith, g.met.H.Xof.front_size x, g.met.H.Xof.front_least) in all in
     let made : generated set_44 H G c.args.xi.now ≡ Ok (pk, sk) = search rules in
-    let both = (c.signed_is_accepted.ensures set_44 H G pk sk refl long).1 c.args.xi.now made in
+    let both = (c.signed_is_accepted.ensures set_44 H G pk sk (inl refl) long).1 c.args.xi.now made in
     let public_read : IsPublicKeyOf H 4 (public_key_bytes pk.rho pk.t1) c.in_ok-public-2.public = search rules in
     let private_read : IsPrivateKeyOf 2 4 4 (private_key_bytes 2 sk) c.in_ok-private.private = search rules in
     let public = (both.0.public_decoded c.in_ok-public-2.public).0 public_read in
