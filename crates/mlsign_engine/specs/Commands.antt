@@ -1,9 +1,9 @@
 -- What the commands answer, by the files that they are given and the message that is read.
 use Rattle.std.specs.Prelude.{◌≡◌, ◌↔◌, ◌⊎◌, ℕ, List, length, take, Bool, IsTrue, Result, Ok, Err}
 use Rattle.fips204.specs.Encodings.{PublicParts, PrivateParts, IsPublicKeyOf, IsPrivateKeyOf, public_key_bytes, private_key_bytes}
-use Rattle.fips204.specs.Keys.{IsWhole}
+use Rattle.fips204.specs.Completeness.{IsPair}
 use Rattle.fips204.specs.ParameterSets.{ParameterSet, set_44, set_65, set_87, signature_length}
-use Rattle.fips204.specs.Refusals.{generated, derived, sign_input, VerifiesInput}
+use Rattle.fips204.specs.Refusals.{generated, sign_input, VerifiesInput}
 use Rattle.fips204.specs.Framing.{plain}
 use Rattle.fips204_shake.specs.Fronts.{shake256_front, shake128_front}
 use Rattle.mlsign_files.specs.Keys.{IsPublicFile, IsPrivateFile, PrivateParts as FileParts, Seed, Expanded, Both}
@@ -25,9 +25,7 @@ set_of MlDsa87 = set_87
 
 -- reading a public key out of the text of a file: the key, or the first fault
 abbrev pub public_text_at : List ℕ → Result (Algorithm × List ℕ) FileFault
-public_text_at text = do
-  der ← pem_at Public text
-  public_at der
+public_text_at text = pem_at Public text >>= public_at
 
 -- the text of a file has this public key
 pub record IsPublicText (text : List ℕ) (algorithm : Algorithm) (bytes : List ℕ) : Type 0 where
@@ -49,19 +47,9 @@ pub record Judges (public signature context message : List ℕ) (valid : Bool) :
   pub decoded : IsPublicKeyOf shake256_front (set_of algorithm).k bytes key
   pub answer : IsTrue valid ↔ IsValid (set_of algorithm) key signature context message
 
--- a fault of a public key's file is the first one in its text, unless memory ran out
-abbrev pub IsPublicFault : List ℕ → FileFault → Type 0
-IsPublicFault text fault = FailsLike fault (public_text_at text)
-
 -- reading a private key out of the text of a file: the key, or the first fault
 abbrev pub private_text_at : List ℕ → Result (Algorithm × FileParts) FileFault
-private_text_at text = do
-  der ← pem_at Private text
-  private_at der
-
--- a fault of a private key's file is the first one in its text, unless memory ran out
-abbrev pub IsPrivateFault : List ℕ → FileFault → Type 0
-IsPrivateFault text fault = FailsLike fault (private_text_at text)
+private_text_at text = pem_at Private text >>= private_at
 
 -- the text of a file has this private key
 pub record IsPrivateText (text : List ℕ) (algorithm : Algorithm) (parts : FileParts) : Type 0 where
@@ -70,17 +58,17 @@ pub record IsPrivateText (text : List ℕ) (algorithm : Algorithm) (parts : File
   pub file : IsPrivateFile der algorithm parts
 
 -- these keys are what a private key in a file stands for: what its seed generates, whose bytes an expanded key beside it is; or
--- what an expanded key alone decodes to, with the hash of the public key's bytes in it
+-- what an expanded key alone decodes to
 abbrev pub StandsFor : ParameterSet → FileParts → PublicParts → PrivateParts → Type 0
 StandsFor p (Seed seed) pk sk = generated p shake256_front shake128_front seed ≡ Ok (pk, sk)
-StandsFor p (Expanded expanded) pk sk = IsPrivateKeyOf p.eta p.k p.l expanded sk × (sk.tr ≡ take 64 (shake256_front (public_key_bytes pk.rho pk.t1)))
+StandsFor p (Expanded expanded) pk sk = IsPrivateKeyOf p.eta p.k p.l expanded sk
 StandsFor p (Both seed expanded) pk sk = (generated p shake256_front shake128_front seed ≡ Ok (pk, sk)) × (expanded ≡ private_key_bytes p.eta sk)
 
--- these keys are those of a file, and consistent: the private one is whole, and the public one derived of it
+-- these keys are those of a file, and consistent: the private one is whole, the public one is derived of it, and both have the hash
+-- of the public key's bytes
 pub record HasKeys (p : ParameterSet) (parts : FileParts) (pk : PublicParts) (sk : PrivateParts) : Type 0 where
   pub stands : StandsFor p parts pk sk
-  pub whole : IsWhole p shake128_front sk
-  pub derives : derived p shake128_front sk ≡ Ok pk
+  pub pair : IsPair p shake256_front shake128_front pk sk
 
 -- `sign`: the file has a consistent private key, and these bytes are its signature of the message, over these random bytes, which
 -- the public key accepts
@@ -94,20 +82,19 @@ pub record Signs (private random context message signature : List ℕ) : Type 0 
   pub signed : sign_input (set_of algorithm) shake256_front shake128_front sk random (plain message context) ≡ Ok signature
   pub accepted : IsValid (set_of algorithm) pk signature context message
 
--- `keygen`: the texts have both keys of a seed; that of the private one has the seed
-pub record Generates (algorithm : Algorithm) (seed private public : List ℕ) : Type 0 where
-  pub pk : PublicParts
-  pub sk : PrivateParts
-  pub keys : generated (set_of algorithm) shake256_front shake128_front seed ≡ Ok (pk, sk)
-  pub private_text : IsPrivateText private algorithm (Seed seed)
-  pub public_text : IsPublicText public algorithm (public_key_bytes pk.rho pk.t1)
-
 -- a file's private key is consistent, and its public key has these bytes
 pub record HasPublicBytes (p : ParameterSet) (parts : FileParts) (bytes : List ℕ) : Type 0 where
   pub pk : PublicParts
   pub sk : PrivateParts
   pub keys : HasKeys p parts pk sk
   pub is : bytes ≡ public_key_bytes pk.rho pk.t1
+
+-- `keygen`: the texts have both keys of a seed; that of the private one has the seed
+pub record Generates (algorithm : Algorithm) (seed private public : List ℕ) : Type 0 where
+  pub bytes : List ℕ
+  pub keys : HasPublicBytes (set_of algorithm) (Seed seed) bytes
+  pub private_text : IsPrivateText private algorithm (Seed seed)
+  pub public_text : IsPublicText public algorithm bytes
 
 -- the text of a file has a public key with these bytes, or a consistent private key whose public key has them
 abbrev pub HasPublicKey : Kind → List ℕ → Algorithm → List ℕ → Type 0
@@ -127,7 +114,7 @@ Shows text kind algorithm hash = (bytes : List ℕ) × HasPublicKey kind text al
 -- a fault of a key's file of either kind: of a public key's, or, where the file has another kind, of a private key's
 abbrev pub IsKeyFault : List ℕ → FileFault → Type 0
 IsKeyFault text fault =
-    (IsPublicFault text fault × ¬ (fault ≡ OtherKind)) ⊎ ((public_text_at text ≡ Err OtherKind) × IsPrivateFault text fault)
+    (FailsLike fault (public_text_at text) × ¬ (fault ≡ OtherKind)) ⊎ ((public_text_at text ≡ Err OtherKind) × FailsLike fault (private_text_at text))
 
 -- what `sign` wrote with a private file, `verify` accepts with the public file that `public` made of it
 abbrev pub PublishedIsValid : Type 0
