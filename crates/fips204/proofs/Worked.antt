@@ -2,15 +2,15 @@
 use Rattle.std.proofs.Common.{◌≡◌, ◌*◌, ℕ, ℤ, List, [], ◌∷◌, ◌++◌, Option, Result, Ok, Err, refl, true, false, map, length, take, Some, None, pos, negsuc, if◌then◌else◌}
 use Rattle.fips204_base.specs.declared.fault.Fault.{Fault}
 use Rattle.fips204_base.specs.declared.fault.Fault.TheVariants.{TooManyAttempts, SamplingLimit, SignCtx, HashCtx, OidEmpty, OidNotDer, DigestTooLong, DigestLength}
-use Rattle.fips204_base.specs.Encodings.{PrivateParts, is_one}
+use Rattle.fips204_base.specs.Encodings.{PublicParts, PrivateParts, is_one}
 use Rattle.fips204_base.specs.Sampling.{matrix_entry, sampled_matrix, first_256, all_present, small_polynomial, small_vectors}
 use Rattle.fips204_base.specs.Packing.{bit_length, bits_to_bytes, bits, integer_to_bits, bits_to_integer, polynomial_bytes}
 use Rattle.fips204_base.specs.Rounding.{decompose, use_hint}
 use Rattle.fips204_base.specs.Residues.{sum_below}
-use Rattle.fips204_base.specs.Transforms.{product, row_product}
-use Rattle.fips204_base.specs.Vectors.{polynomial_of, vector_of}
+use Rattle.fips204_base.specs.Transforms.{product}
+use Rattle.fips204_base.specs.Vectors.{matrix_product, polynomial_of, vector_of}
 use Rattle.fips204_base.specs.declared.types.R.{R}
-use Rattle.fips204.specs.Keys.{key_pair, PublicParts}
+use Rattle.fips204.specs.Keys.{key_pair}
 use Rattle.fips204.specs.SigningInputs.{seed_front, t1_shifted, mask_seed}
 use Rattle.fips204.specs.Acceptance.{w1_prime}
 use Rattle.fips204.specs.ParameterSets.{ParameterSet, set_44, set_65, set_87, public_key_length, private_key_length, signature_length}
@@ -209,12 +209,12 @@ shifted_high_part = (refl, refl)
 -- without columns w = A z - c t1 2^13 is 0 where c is 0, and 1 where c is 1 and t1 is 1023; a one at place 2 of polynomial 1: there a w of 0 goes down past 0 to 43, and one of 1 up to 1; elsewhere high bits are 0
 hint_at_one_place : map (λ w. take 4 w.0) (w1_prime (record set_44 { l = 0 }) [] (replicate 4 (polynomial_of (λ _. pos 1023))) [] (polynomial_of (λ _. pos 0) ∷ polynomial_of (λ n. if nat_eq n 2 then pos 1 else pos 0) ∷ []) (record { 0 = [] }))
     ≡ replicate 4 (pos 0) ∷ (pos 0 ∷ pos 0 ∷ pos 43 ∷ pos 0 ∷ []) ∷ replicate 4 (pos 0) ∷ replicate 4 (pos 0) ∷ []
-unfolding w1_prime vector_of polynomial_of row_product product shifted sum_below is_one use_hint decompose
+unfolding w1_prime vector_of polynomial_of matrix_product product sum_below is_one use_hint decompose
 hint_at_one_place = refl
 
 hint_above_zero : map (λ w. take 4 w.0) (w1_prime (record set_44 { l = 0 }) [] (replicate 4 (polynomial_of (λ _. pos 1023))) [] (polynomial_of (λ _. pos 0) ∷ polynomial_of (λ n. if nat_eq n 2 then pos 1 else pos 0) ∷ []) (record { 0 = pos 1 ∷ [] }))
     ≡ replicate 4 (pos 0) ∷ (pos 0 ∷ pos 0 ∷ pos 1 ∷ pos 0 ∷ []) ∷ replicate 4 (pos 0) ∷ replicate 4 (pos 0) ∷ []
-unfolding w1_prime vector_of polynomial_of row_product product shifted sum_below is_one use_hint decompose
+unfolding w1_prime vector_of polynomial_of matrix_product product sum_below is_one use_hint decompose
 hint_above_zero = refl
 
 -- as many polynomials as rows

@@ -51,17 +51,17 @@ hints p w s2 t0 = map (λ h. take 1 h.0) (hint_vector p (parts (pos 0) s2 t0) (�
 -- one more, or where t0 is 0; at the last multiple of 2 gamma2 the bits go back to 0, which q - 1 has too
 hints_44 : flat_map (λ (x : ℕ × ℤ). hints (toy 178 80) x.0 (pos 0) x.1) ((95232, pos 1) ∷ (95233, negsuc 0) ∷ (8285184, pos 1) ∷ (95231, pos 1) ∷ (95233, pos 1) ∷ (95232, pos 0) ∷ (8380416, pos 1) ∷ (0, negsuc 0) ∷ [])
     ≡ map (λ h. h ∷ []) (pos 1 ∷ pos 1 ∷ pos 1 ∷ pos 0 ∷ pos 0 ∷ pos 0 ∷ pos 0 ∷ pos 0 ∷ [])
-unfolding hints toy one parts hint_vector vector_of polynomial_of product shifted sum_below decompose
+unfolding hints toy one parts hint_vector vector_of polynomial_of product sum_below decompose
 hints_44 = refl
 
 hints_65_87 : flat_map (λ (x : ℕ × ℤ). hints (record (toy 178 80) { gamma2 = 261888 }) x.0 (pos 0) x.1) ((261888, pos 1) ∷ (261889, negsuc 0) ∷ (8118528, pos 1) ∷ (261887, pos 1) ∷ (261889, pos 1) ∷ (261888, pos 0) ∷ (8380416, pos 1) ∷ (0, negsuc 0) ∷ [])
     ≡ map (λ h. h ∷ []) (pos 1 ∷ pos 1 ∷ pos 1 ∷ pos 0 ∷ pos 0 ∷ pos 0 ∷ pos 0 ∷ pos 0 ∷ [])
-unfolding hints toy one parts hint_vector vector_of polynomial_of product shifted sum_below decompose
+unfolding hints toy one parts hint_vector vector_of polynomial_of product sum_below decompose
 hints_65_87 = refl
 
 -- v is 95232, and then 95233
 hint_after_part : (hints (toy 178 80) 95235 (pos 3) (pos 1) ≡ (pos 1 ∷ []) ∷ []) × (hints (toy 178 80) 95230 (negsuc 2) (pos 1) ≡ (pos 0 ∷ []) ∷ [])
-unfolding hints toy one parts hint_vector vector_of polynomial_of product shifted sum_below decompose
+unfolding hints toy one parts hint_vector vector_of polynomial_of product sum_below decompose
 hint_after_part = (refl, refl)
 
 -- the norm of z is below 178 less 78

@@ -1,7 +1,8 @@
 //! ML-DSA-87 (FIPS 204, Table 1).
 #![tactic(auto)]
 
-ghost use Rattle.std.specs.Prelude.{refl, inr};
+ghost use Rattle.std.specs.Prelude.{refl};
+ghost use Rattle.std.proofs.Common.{inr};
 ghost use Rattle.std.proofs.lemmas.Bool.{leb-true};
 ghost use Rattle.fips204_base.specs.Packing.{bit_length};
 ghost use Rattle.fips204.specs.ParameterSets.{set_87};

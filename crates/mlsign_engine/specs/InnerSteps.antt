@@ -1,5 +1,5 @@
 -- What private functions state of each other: cited by no public clause; nobody has to believe it.
-use Rattle.std.specs.Prelude.{◌≡◌, ◌↔◌, ◌≤◌, ◌*◌, ℕ, List, Option, Bool, IsTrue, Ok}
+use Rattle.std.specs.Prelude.{◌≡◌, ◌↔◌, ℕ, List, Option, Bool, IsTrue, Ok}
 use Rattle.fips204.specs.Encodings.{PublicParts, PrivateParts, IsPublicKeyOf}
 use Rattle.fips204.specs.ParameterSets.{ParameterSet}
 use Rattle.fips204_shake.specs.Fronts.{shake256_front, shake128_front}
@@ -10,11 +10,6 @@ use Rattle.mlsign_engine.specs.Commands.{IsValid, HasKeys}
 use Rattle.mlsign_files.specs.Keys.{PrivateParts as FileParts}
 use Rattle.fips204.specs.Refusals.{sign_input}
 use Rattle.fips204.specs.Framing.{plain}
-
--- a matrix, keys and signatures are no larger than those of the largest set
-abbrev pub AreSmall : ℕ → ℕ → ℕ → ℕ → ℕ → Type 0
-AreSmall rows columns public private signature = (rows ≤ 8) × (columns ≤ 7) × (rows * (columns * 1024) ≤ 57344)
-    × (public ≤ 2592) × (private ≤ 4896) × (signature ≤ 4627)
 
 -- the public key with these bytes was asked of the message that a reader gave
 pub record JudgesAt (p : ParameterSet) (bytes signature context : List ℕ) (old new : Option (List ℕ)) (valid : Bool) : Type 0 where

@@ -7,7 +7,7 @@ ghost use Rattle.fips204.specs.Framing.{represented};
 ghost use Rattle.fips204.specs.Refusals.{VerifiesInput};
 ghost use Rattle.fips204_shake.specs.Fronts.{shake256_front, shake128_front};
 ghost use Rattle.mlsign_engine.specs.Commands.{HasPublicBytes};
-ghost use Rattle.mlsign_engine.specs.InnerSteps.{AreSmall, JudgesAt, HasPrivate, SignsAt, IsSigningFault};
+ghost use Rattle.mlsign_engine.specs.InnerSteps.{JudgesAt, HasPrivate, SignsAt, IsSigningFault};
 ghost use Rattle.mlsign_files.specs.Keys.{Seed, Expanded, Both, HasPrivateSizes, private_parts};
 
 use crate::fault::CommandFault;
@@ -72,7 +72,6 @@ where
         requires unmarked { input.old.failed ≡ false }
         requires key { length key.now ≡ PK_LEN }
         requires short { length context.now ≤ 255 }
-        requires small { AreSmall K L PK_LEN SK_LEN SIG_LEN }
         ensures judged { IfOk result (JudgesAt S.set key.now signature.now context.now (I.remaining input.old.device) (I.remaining input.new.device)) }
         ensures fault { IfErr result (λ fault. fault ≡ CommandFault.Message) }
     {
@@ -85,7 +84,6 @@ where
     #[inline(never)]
     fn decode(key: &[u8]) -> PublicKey<K, L>
         requires key { length key.now ≡ PK_LEN }
-        requires small { AreSmall K L PK_LEN SK_LEN SIG_LEN }
         ensures { IsPublicKeyOf shake256_front S.set.k key.now result }
     {
         PublicKey::<K, L>::try_from_bytes(array_of(key)).unwrap()
@@ -94,7 +92,6 @@ where
     /// Whether a public key accepts these bytes as a signature of a message with this hash.
     #[inline(never)]
     fn accepts(key: &PublicKey<K, L>, mu: &[u8; 64], signature: &[u8]) -> bool
-        requires { AreSmall K L PK_LEN SK_LEN SIG_LEN }
         ensures { IsTrue result ↔ ((length signature.now ≡ SIG_LEN)
             × VerifiesInput S.set shake256_front shake128_front key.now signature.now (represented mu.now)) }
     {
@@ -115,7 +112,6 @@ where
         requires unmarked { input.old.failed ≡ false }
         requires parts { HasPrivateSizes SK_LEN (private_parts parts) }
         requires short { length context.now ≤ 255 }
-        requires small { AreSmall K L PK_LEN SK_LEN SIG_LEN }
         ensures signed { IfOk result (λ signature. SignsAt S.set (private_parts parts.entry) random.now context.now
             (I.remaining input.old.device) (I.remaining input.new.device) signature.items) }
         ensures faults { IfErr result IsSigningFault }
@@ -131,7 +127,6 @@ where
     /// The bytes of the public key that belongs to a private key of a file, if that is consistent.
     pub(crate) fn public(alloc: Global, parts: FileKey<'_>) -> Result<Vec<u8>, CommandFault>
         requires parts { HasPrivateSizes SK_LEN (private_parts parts) }
-        requires small { AreSmall K L PK_LEN SK_LEN SIG_LEN }
         ensures made { IfOk result (λ bytes. HasPublicBytes S.set (private_parts parts.entry) bytes.items) }
         ensures size { IfOk result (λ bytes. length bytes.items ≡ PK_LEN) }
         ensures faults { IfErr result IsSigningFault }
@@ -144,7 +139,6 @@ where
     /// The private key of a file, if it is consistent.
     fn private(parts: FileKey<'_>) -> Result<PrivateKey<K, L>, CommandFault>
         requires parts { HasPrivateSizes SK_LEN (private_parts parts) }
-        requires small { AreSmall K L PK_LEN SK_LEN SIG_LEN }
         ensures keys { IfOk result (HasPrivate S.set (private_parts parts.entry)) }
         ensures faults { IfErr result IsSigningFault }
     {
@@ -159,7 +153,6 @@ where
     #[inline(never)]
     fn from_seed(seed: &[u8]) -> Result<PrivateKey<K, L>, CommandFault>
         requires seed { length seed.now ≡ 32 }
-        requires small { AreSmall K L PK_LEN SK_LEN SIG_LEN }
         ensures keys { IfOk result (HasPrivate S.set (Seed seed.now)) }
         ensures faults { IfErr result IsSigningFault }
     {
@@ -172,7 +165,6 @@ where
     #[inline(never)]
     fn from_expanded(expanded: &[u8]) -> Result<PrivateKey<K, L>, CommandFault>
         requires expanded { length expanded.now ≡ SK_LEN }
-        requires small { AreSmall K L PK_LEN SK_LEN SIG_LEN }
         ensures keys { IfOk result (HasPrivate S.set (Expanded expanded.now)) }
         ensures faults { IfErr result IsSigningFault }
     {
@@ -189,7 +181,6 @@ where
     #[inline(never)]
     fn from_both(seed: &[u8], expanded: &[u8]) -> Result<PrivateKey<K, L>, CommandFault>
         requires seed { length seed.now ≡ 32 }
-        requires small { AreSmall K L PK_LEN SK_LEN SIG_LEN }
         ensures keys { IfOk result (HasPrivate S.set (Both seed.now expanded.now)) }
         ensures faults { IfErr result IsSigningFault }
     {

@@ -2,7 +2,8 @@ use Rattle.std.proofs.Common.{rules, ◌≡◌, List, ℕ, Ok, ap, subst}
 use Rattle.fips204.specs.Acceptance.{Verifies}
 use Rattle.fips204_base.specs.declared.fault.Fault.TheVariants.{InternalRng}
 use Rattle.fips204.specs.Framing.{framed, represented, representative}
-use Rattle.fips204.specs.Keys.{IsWhole, PublicParts}
+use Rattle.fips204_base.specs.Encodings.{PublicParts}
+use Rattle.fips204.specs.Keys.{IsWhole}
 use Rattle.fips204.specs.Refusals.{derived, sign_input, DrawsIf}
 use Rattle.fips204.proofs.RefusedCalls.{accepted_input}
 use Rattle.fips204.proofs.WholeKeys.{derived_hash}

@@ -24,15 +24,15 @@ small g c =
 
 -- the attempt by its parts
 whole : (g : Over) (c : After-commitment_hash-c_tilde g) → attempt (set_of c.args.p.now) g.H.Xof.front c.args.self.now.matrix c.args.self.now.parts c.args.mu.now c.args.mask_seed.now c.args.kappa
-    ≡ checked_attempt (set_of c.args.p.now) c.args.self.now.parts c.expand_mask-y.result (vector_coefficients c.write_matrix_product.new.out) c.commitment-c_tilde.result
-    (challenge (nat_abs c.args.p.now.tau) (g.H.Xof.front c.commitment-c_tilde.result))
+    ≡ checked_attempt (set_of c.args.p.now) c.args.self.now.parts c.expand_mask-y.result (vector_coefficients c.write_matrix_product.new.out) c.commitment_hash-c_tilde.result
+    (challenge (nat_abs c.args.p.now.tau) (g.H.Xof.front c.commitment_hash-c_tilde.result))
 whole g c =
     let p = c.args.p.now in
     let y : c.expand_mask-y.result ≡ mask (nat_abs p.gamma1) g.H.Xof.front c.args.mask_seed.now g.row.L c.args.kappa = rw (to_z-of_z w32 p.gamma1 (search rules)) at c.expand_mask-y.ensures in
     let w1 : c.high_vector-w1.result ≡ vector_of g.row.K (λ r n. pos (high_bits (nat_abs p.gamma2) (vector_coefficients c.write_matrix_product.new.out r n))) = rw (to_z-of_z w32 p.gamma2 (search rules)) at c.high_vector-w1.ensures in
     let values = subst (λ (k : PreparedPrivate). (r n : ℕ) → r < g.row.K → n < 256 → coefficient_of c.write_matrix_product.new.out r n ≡ pos (matrix_product g.row.L k.matrix (vector_coefficients c.expand_mask-y.result) r n)) c.self.view_is c.write_matrix_product.ensures.values in
     attempt-is (set_of p) g.H.Xof.front c.args.self.now.matrix c.args.self.now.parts c.args.mu.now c.args.mask_seed.now c.args.kappa g.row.K g.row.L c.expand_mask-y.result c.write_matrix_product.new.out
-    c.high_vector-w1.result c.commitment-c_tilde.result c.requires.inputs.sizes.rows c.requires.inputs.sizes.columns y values w1 c.commitment-c_tilde.ensures
+    c.high_vector-w1.result c.commitment_hash-c_tilde.result c.requires.inputs.sizes.rows c.requires.inputs.sizes.columns y values w1 c.commitment_hash-c_tilde.ensures
 
 pub expand_mask-y-requires : goal.expand_mask-y-requires
 expand_mask-y-requires g c =
@@ -50,8 +50,8 @@ high_vector-w1-requires g c =
     let p = c.args.p.now in
     rw (to_z-of_z w32 p.gamma2 (search rules)) (omega (arith, c.requires.inputs.sizes.rows, (limits c.args.p.now (search rules)).few_rows), ((limits p (search rules)).rounding, c.write_matrix_product.ensures.range))
 
-pub commitment-c_tilde-requires : goal.commitment-c_tilde-requires
-commitment-c_tilde-requires g c =
+pub commitment_hash-c_tilde-requires : goal.commitment_hash-c_tilde-requires
+commitment_hash-c_tilde-requires g c =
     let p = c.args.p.now in
     let w1 : c.high_vector-w1.result ≡ vector_of g.row.K (λ r n. pos (high_bits (nat_abs p.gamma2) (vector_coefficients c.write_matrix_product.new.out r n))) = rw (to_z-of_z w32 p.gamma2 (search rules)) at c.high_vector-w1.ensures in
     (omega (arith, c.requires.inputs.sizes.rows, (limits c.args.p.now (search rules)).few_rows), (search rules, (c.requires.inputs.sizes.rows, (c.requires.inputs.sizes.c_tilde_size, high-range p.gamma2 g.row.K c.write_matrix_product.new.out c.high_vector-w1.result (limits p (search rules)).rounding w1))))
@@ -64,17 +64,17 @@ sample_in_ball-requires g c =
 pub returns-in_err-c : goal.returns-in_err-c
 returns-in_err-c g c =
     let p = c.args.p.now in
-    let front = g.H.Xof.front c.commitment-c_tilde.result in
+    let front = g.H.Xof.front c.commitment_hash-c_tilde.result in
     let sampled : Err c.in_err-c.field-0.0 ≡ ok_or (challenge (nat_abs p.tau) front) SamplingLimit = rw (to_z-of_z w32 p.tau (search rules)) at c.in_err-c.ensures in
     let none = (none_of_err (challenge (nat_abs p.tau) front) c.in_err-c.field-0.0 sampled).0 in
     let refused : c.from_residual.result ≡ Err SamplingLimit = search rules in
     refused
-    ∙ sym (ap attempt_answer (whole g (goal.at.returns-in_err-c g c).After-commitment_hash-c_tilde) ∙ checked_attempt-limit (set_of p) c.args.self.now.parts c.expand_mask-y.result (vector_coefficients c.write_matrix_product.new.out) c.commitment-c_tilde.result _ none)
+    ∙ sym (ap attempt_answer (whole g (goal.at.returns-in_err-c g c).After-commitment_hash-c_tilde) ∙ checked_attempt-limit (set_of p) c.args.self.now.parts c.expand_mask-y.result (vector_coefficients c.write_matrix_product.new.out) c.commitment_hash-c_tilde.result _ none)
 
 pub rejection_checks-requires : goal.rejection_checks-requires
 rejection_checks-requires g c =
     let p = c.args.p.now in
-    let front = g.H.Xof.front c.commitment-c_tilde.result in
+    let front = g.H.Xof.front c.commitment_hash-c_tilde.result in
     let sampled : Ok c.in_ok-c.c ≡ ok_or (challenge (nat_abs p.tau) front) SamplingLimit = rw (to_z-of_z w32 p.tau (search rules)) at c.in_ok-c.ensures in
     let reduced = challenge-reduced (nat_abs p.tau) front c.in_ok-c.c (some_of_ok (challenge (nat_abs p.tau) front) c.in_ok-c.c sampled) in
     let mask = small g (goal.at.rejection_checks-requires g c).After-expand_mask-y in
@@ -92,8 +92,8 @@ rejection_checks-requires g c =
 pub returns : goal.returns
 returns g c =
     let p = c.args.p.now in
-    let front = g.H.Xof.front c.commitment-c_tilde.result in
+    let front = g.H.Xof.front c.commitment_hash-c_tilde.result in
     let sampled : Ok c.in_ok-c.c ≡ ok_or (challenge (nat_abs p.tau) front) SamplingLimit = rw (to_z-of_z w32 p.tau (search rules)) at c.in_ok-c.ensures in
     let there = some_of_ok (challenge (nat_abs p.tau) front) c.in_ok-c.c sampled in
     c.rejection_checks.ensures
-    ∙ sym (ap attempt_answer (whole g (goal.at.returns g c).After-commitment_hash-c_tilde ∙ ap (checked_attempt (set_of p) c.args.self.now.parts c.expand_mask-y.result (vector_coefficients c.write_matrix_product.new.out) c.commitment-c_tilde.result) there))
+    ∙ sym (ap attempt_answer (whole g (goal.at.returns g c).After-commitment_hash-c_tilde ∙ ap (checked_attempt (set_of p) c.args.self.now.parts c.expand_mask-y.result (vector_coefficients c.write_matrix_product.new.out) c.commitment_hash-c_tilde.result) there))
