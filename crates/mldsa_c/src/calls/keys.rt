@@ -14,7 +14,7 @@ impl<
     S,
     const K: usize,
     const L: usize,
-    const N: usize,
+    const LAMBDA_DIV4: usize,
     const SIG_LEN: usize,
     const PK_LEN: usize,
     const SK_LEN: usize,
@@ -22,12 +22,12 @@ impl<
 where
     Matrix<K, L>: HasSet<Set = S>,
     S: Set<
-        CommitmentHash = [u8; N],
+        CommitmentHash = [u8; LAMBDA_DIV4],
         Signature = [u8; SIG_LEN],
         PublicKey = [u8; PK_LEN],
         PrivateKey = [u8; SK_LEN],
     >,
-    S: SignatureSizes<K, L, N, SIG_LEN> + KeySizes<K, L, PK_LEN, SK_LEN>,
+    S: SignatureSizes<K, L, LAMBDA_DIV4, SIG_LEN> + KeySizes<K, L, PK_LEN, SK_LEN>,
 {
     /// Makes the key pair of a seed.
     pub(crate) fn keygen(seed: &[u8], public_key: &mut [u8], private_key: &mut [u8]) -> u32
