@@ -1,5 +1,5 @@
 -- What is signed is accepted, and what makes two keys a pair (FIPS 204, Algorithms 1 to 8).
-use Rattle.std.specs.Prelude.{◌≡◌, ◌≤◌, ◌↔◌, ℕ, length, take, Bool, IsTrue, Result, Ok, Err, MatchResult}
+use Rattle.std.specs.Prelude.{◌≡◌, ◌≤◌, ◌↔◌, length, take, Bool, IsTrue, Result, Ok, Err, MatchResult}
 use Rattle.fips204_base.specs.declared.fault.Fault.{Fault}
 use Rattle.fips204_base.specs.Encodings.{PublicParts, PrivateParts, ArePublicParts, ArePrivateParts, IsPublicKeyOf, IsPrivateKeyOf, public_key_bytes, private_key_bytes}
 use Rattle.fips204_base.specs.Streams.{Bytes, XOF}

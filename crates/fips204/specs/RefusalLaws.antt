@@ -1,5 +1,5 @@
 -- Which refusals whole calls have (FIPS 204, Algorithms 1 to 5).
-use Rattle.std.specs.Prelude.{◌≡◌, ◌⊎◌, ℕ, Some, IfErr}
+use Rattle.std.specs.Prelude.{◌≡◌, ◌⊎◌, Some, IfErr}
 use Rattle.fips204.specs.ParameterSets.{ParameterSet}
 use Rattle.fips204_base.specs.Encodings.{PublicParts, PrivateParts}
 use Rattle.fips204_base.specs.Streams.{Bytes, XOF}
