@@ -88,16 +88,16 @@ product-coefficients k l a y w e r n h m =
     small x h = omega (arith, h)
 
 -- the range of a high part
-high_values-range : (gamma2 k : ℕ) (f : ℕ → ℕ → ℕ) → (gamma2 ≡ 95232) ⊎ (gamma2 ≡ 261888) → ((r n : ℕ) → f r n < 8380417)
+high_count-range : (gamma2 k : ℕ) (f : ℕ → ℕ → ℕ) → (gamma2 ≡ 95232) ⊎ (gamma2 ≡ 261888) → ((r n : ℕ) → f r n < 8380417)
     → All (λ u. PolynomialInRange (pos 0) (pos (high_count gamma2 - 1)) u.0) (vector_of k (λ r n. pos (high_bits gamma2 (f r n))))
-high_values-range gamma2 k f set residues =
+high_count-range gamma2 k f set residues =
     (vector_of-range k 0 (high_count gamma2 - 1) (λ r n. pos (high_bits gamma2 (f r n))) (λ r n h m.
     let below = high_bits_below gamma2 (f r n) set (residues r n) in
     (omega (arith, ints), omega (arith, ints, below)))).range
 
 pub high-range : (gamma2 : ℤ) (k : ℕ) (w w1 : List R) → (gamma2 ≡ pos 95232) ⊎ (gamma2 ≡ pos 261888) → w1 ≡ vector_of k (λ r n. pos (high_bits (nat_abs gamma2) (vector_coefficients w r n)))
     → All (λ u. PolynomialInRange (pos 0) (pos (high_count (nat_abs gamma2) - 1)) u.0) w1
-high-range gamma2 k w w1 set e = rw e (high_values-range (nat_abs gamma2) k (vector_coefficients w) (rounding-size gamma2 set) (λ r n. residue_below (coefficient_of w r n)))
+high-range gamma2 k w w1 set e = rw e (high_count-range (nat_abs gamma2) k (vector_coefficients w) (rounding-size gamma2 set) (λ r n. residue_below (coefficient_of w r n)))
 
 -- ---- an attempt by its parts
 

@@ -110,7 +110,7 @@ response-within gamma1 l z h vector = vector-within l (gamma1 - 1) gamma1 524288
 
 -- ---- the parts of a signature
 
--- with the challenge and w1' at hand the commitment decides
+-- with the challenge and w1' at hand the commitment hash decides
 pub decided : (p : ParameterSet) (H : List ℕ → List ℕ) (a : List (List T)) (t1 z h w1 : List R) (mu c_tilde : List ℕ) (ball : Option R) (c : R) (answer : Bool)
     → ball ≡ Some c → w1 ≡ w1_prime p a t1 z h c → (IsTrue answer ↔ (c_tilde ≡ commitment_hash p H mu w1))
     → IsTrue answer ↔ ((c : R) × (ball ≡ Some c) × (c_tilde ≡ commitment_hash p H mu (w1_prime p a t1 z h c)))
@@ -162,7 +162,7 @@ accepts-by_parts p H a t1 mu sig c_tilde z h answer known parts both =
       λ v. both.1 (accepts-out (set_of p) H a t1 mu sig c_tilde z h sizes.0 (omega (arith, sizes.1)) parts v),
     )
 
--- with the challenge, A z and t1 2^13 at hand, the commitment decides
+-- with the challenge, A z and t1 2^13 at hand, the commitment hash decides
 pub commitment-decides : (p : Params) (H : List ℕ → List ℕ) (a : List (List T)) (t1 : List R) (mu sig c_tilde : List ℕ) (z h : List R) (c : R) (az u : List R) (k l : ℕ) (answer : Bool) → IsKnown p → k ≡ p.k → l ≡ p.l
     → HasShortParts (set_of p) sig c_tilde z h → challenge (nat_abs p.tau) (H c_tilde) ≡ Some c
     → ((r n : ℕ) → r < k → n < 256 → vector_coefficients az r n ≡ matrix_product l a (vector_coefficients z) r n) → AreShifted k t1 u

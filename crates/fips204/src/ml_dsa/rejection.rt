@@ -19,7 +19,7 @@ use fips204_base::maps::{map_vector, write_zip_vectors, zip_vectors};
 use fips204_base::product::{Factor, Transforms};
 
 impl<'a, const K: usize, const L: usize, H, G> SigningKey<'a, K, L, H, G> {
-    /// The signature of an attempt with mask `y`, `w = A y`, commitment and challenge, or `None` where one of the
+    /// The signature of an attempt with mask `y`, `w = A y`, `c_tilde` and challenge, or `None` where one of the
     /// checks rejects it.
     ///
     /// Coefficients of `y` are in `[1 - gamma1, gamma1]`, those of `w` and `c` below `q` in absolute value.
