@@ -1,4 +1,4 @@
-use Rattle.std.proofs.Common.{rules, sym, subst, w32, pos, ◌-ℤ◌, ℤ}
+use Rattle.std.proofs.Common.{rules, subst, w32, pos, ◌-ℤ◌, ℤ}
 use Rattle.std.proofs.lemmas.Int.{to_z-of_z}
 use Rattle.fips204_base.specs.Vectors.{VectorInRange}
 use Rattle.fips204.specs.Sets.{HasKeySizes, set_of}
