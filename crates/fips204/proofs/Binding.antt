@@ -1,7 +1,8 @@
 -- What one signature fixes: one w1 under a key, and one message and one key unless it names a collision.
-use Rattle.std.proofs.Common.{◌≡◌, ◌≤◌, ℕ, List, ◌++◌, length, take, Bool, true, false, IsTrue, Some, refl, sym, ap, ◌∙◌, arith, true≢false, ◌≢◌, ◌⊎◌, inl, inr, Decides}
+use Rattle.std.proofs.Common.{◌≡◌, ◌≤◌, ℕ, List, ◌++◌, length, take, Bool, true, false, IsTrue, Some, None, refl, sym, ap, subst, ◌∙◌, arith, true≢false, ◌≢◌, ◌⊎◌, inl, inr, Decides}
 use Rattle.std.specs.Prelude.{bytes_eq}
 use Rattle.std.proofs.lemmas.List.{append_cancel_left, append_cancel_right, length-take-le}
+use Rattle.std.proofs.lemmas.Option.{none-some}
 use Rattle.std.proofs.lemmas.Slice.Eq.{bytes_eq-Decides}
 use Rattle.fips204_base.specs.declared.types.R.{R}
 use Rattle.fips204_base.specs.declared.types.T.{T}
@@ -10,11 +11,13 @@ use Rattle.fips204_base.specs.Sampling.{challenge}
 use Rattle.fips204_base.proofs.EncodedParts.{same_signature}
 use Rattle.fips204.specs.ParameterSets.{ParameterSet, is_parameter_set, commitment_length}
 use Rattle.fips204.specs.Acceptance.{Opens, Verifies, w1_prime}
-use Rattle.fips204.specs.Framing.{Input, plain, hashed, framed_input, message_hash}
+use Rattle.fips204.specs.Framing.{Input, plain, hashed, framed, represented, representative}
 use Rattle.fips204.specs.Keys.{PublicParts}
-use Rattle.fips204.specs.SchemeLaws.{Collide, Fixes, SignatureFixesOne, SignatureBindsMessage, SignatureBindsInput, SignatureBindsText, NamesKeyCollision, SignatureBindsKey, SignatureBindsKeyAndInput}
+use Rattle.fips204.specs.Refusals.{input_fault, VerifiesInput}
+use Rattle.fips204.specs.SchemeLaws.{has_context, framing, AreFramedAlike, Collide, Fixes, SignatureFixesOne, SignatureBindsInput, NamesKeyCollision, SignatureBindsKey}
 use Rattle.fips204.proofs.Framing.{same_input}
 use Rattle.fips204.proofs.ParameterSets.{set_numbers}
+use Rattle.fips204.proofs.RefusedCalls.{same_some}
 use Rattle.fips204.proofs.WholeKeys.{one_public_key}
 use Rattle.fips204.proofs.Spellings.{same_parts}
 
@@ -66,12 +69,45 @@ same_hash p H G pk other mu nu signature row x y =
     let one = same_commitment p H x.a y.a pk.t1 other.t1 signature x.accepted.c_tilde y.accepted.c_tilde x.accepted.w1 y.accepted.w1 row x.accepted.opened y.accepted.opened in
     sym x.accepted.same ∙ one ∙ y.accepted.same
 
--- ---- one signature for two framed messages
+-- ---- one signature for two inputs
 
-pub signature_binds_message : SignatureBindsMessage
-signature_binds_message p H G pk m n signature row differ first second =
-    let mu = message_hash H pk.tr m in
-    let nu = message_hash H pk.tr n in
+-- mu of an input with this M'
+representative_of : (H : List ℕ → List ℕ) (tr m : List ℕ) (x : Input) → framing x ≡ Some m → representative H tr x ≡ representative H tr (framed m)
+representative_of H tr m (plain message context) e = ap (λ f. representative H tr (framed f)) (same_some _ m e)
+representative_of H tr m (hashed digest context oid) e = ap (λ f. representative H tr (framed f)) (same_some _ m e)
+representative_of H tr m (framed own) e = ap (λ f. representative H tr (framed f)) (same_some own m e)
+representative_of H tr m (represented mu) e = absurd (none-some m e)
+
+verifies_framed : (p : ParameterSet) (H G : List ℕ → List ℕ) (pk : PublicParts) (signature m : List ℕ) (x : Input) → framing x ≡ Some m → VerifiesInput p H G pk signature x
+    → Verifies p H G pk (representative H pk.tr (framed m)) signature
+verifies_framed p H G pk signature m x e v = subst (λ mu. Verifies p H G pk mu signature) (representative_of H pk.tr m x e) v.1
+
+-- inputs that are framed alike are the same where their M' are
+same_framed : (x y : Input) (m n : List ℕ) → AreFramedAlike x y m n → input_fault x ≡ None → input_fault y ≡ None → m ≡ n → x ≡ y
+same_framed x y m n alike first second e = of_kind (has_context x) refl
+  where
+    frames : framing x ≡ framing y
+    frames = alike.first ∙ ap Some e ∙ sym alike.second
+
+    bare : (u v : Input) → has_context u ≡ false → has_context v ≡ false → framing u ≡ framing v → framing u ≡ Some m → u ≡ v
+    bare (framed a) (framed b) s t f there = ap framed (same_some a b f)
+    bare (framed a) (represented b) s t f there = absurd (none-some a (sym f))
+    bare (represented a) v s t f there = absurd (none-some m there)
+    bare (plain a b) v s t f there = absurd (true≢false s)
+    bare (hashed a b c) v s t f there = absurd (true≢false s)
+    bare (framed a) (plain b c) s t f there = absurd (true≢false t)
+    bare (framed a) (hashed b c d) s t f there = absurd (true≢false t)
+
+    of_kind : (b : Bool) → has_context x ≡ b → x ≡ y
+    of_kind true s = same_input x y s (sym alike.kind ∙ s) first second frames
+    of_kind false s = bare x y s (sym alike.kind ∙ s) frames alike.first
+
+pub signature_binds_input : SignatureBindsInput
+signature_binds_input p H G pk x y m n signature row alike differ accepted other_accepted =
+    let mu = representative H pk.tr (framed m) in
+    let nu = representative H pk.tr (framed n) in
+    let first = verifies_framed p H G pk signature m x alike.first accepted in
+    let second = verifies_framed p H G pk signature n y alike.second other_accepted in
     let w1 = first.accepted.w1 in
     let own = fixed_by p H G pk mu signature first in
     let one = signature_fixes_one p H G pk signature w1 second.accepted.w1 row own (fixed_by p H G pk nu signature second) in
@@ -80,24 +116,10 @@ signature_binds_message p H G pk m n signature row differ first second =
       w1 = w1;
       fixed = own;
       collide = elim (same_or_not mu nu) [
-        | inl e ↦ inl record { differ = λ d. differ (append_cancel_left pk.tr m n d); same = e }
+        | inl e ↦ inl record { differ = λ d. differ (same_framed x y m n alike accepted.0 other_accepted.0 (append_cancel_left pk.tr m n d)); same = e }
         | inr other ↦ inr record { differ = λ d. other (append_cancel_right mu nu w1 d); same = hash }
       ];
     }
-
-pub signature_binds_input : SignatureBindsInput
-signature_binds_input p H G pk x y signature row differ first second =
-    signature_binds_message p H G pk (framed_input x) (framed_input y) signature row (λ same. differ (same_input x y first.allowed second.allowed same)) first.accepted second.accepted
-
-message_of : Input → List ℕ
-message_of (plain message context) = message
-message_of (hashed digest context oid) = digest
-
-pub signature_binds_text : SignatureBindsText
-unfolding message_of
-signature_binds_text p H G pk context first second signature row differ one two =
-    let inputs_differ = λ (same : plain first context ≡ plain second context). differ (ap message_of same) in
-    signature_binds_input p H G pk (plain first context) (plain second context) signature row inputs_differ one two
 
 -- ---- one signature under two keys
 
@@ -106,9 +128,11 @@ length-64 : (H : List ℕ → List ℕ) → ((x : List ℕ) → 4096 ≤ length 
 length-64 H long input = let enough = long input in length-take-le 64 (H input) (omega (arith, enough))
 
 pub signature_binds_key : SignatureBindsKey
-signature_binds_key p H G bytes others pk other m n signature row long one two first second =
-    let mu = message_hash H pk.tr m in
-    let nu = message_hash H other.tr n in
+signature_binds_key p H G bytes others pk other x y m n signature row long one two alike accepted other_accepted =
+    let mu = representative H pk.tr (framed m) in
+    let nu = representative H other.tr (framed n) in
+    let first = verifies_framed p H G pk signature m x alike.first accepted in
+    let second = verifies_framed p H G other signature n y alike.second other_accepted in
     let v = first.accepted.w1 in
     let w = second.accepted.w1 in
     let named = λ (collide : Collide H 64 bytes others ⊎ (Collide H 64 (pk.tr ++ m) (other.tr ++ n) ⊎ Collide H (commitment_length p) (mu ++ v) (nu ++ w))).
@@ -125,20 +149,16 @@ signature_binds_key p H G bytes others pk other m n signature row long one two f
           let hashes = same_parts mu nu v w (length-64 H long (pk.tr ++ m) ∙ sym (length-64 H long (other.tr ++ n))) equal in
           elim (same_or_not (pk.tr ++ m) (other.tr ++ n)) [
             | inr differ ↦ inr (named (inr (inl record { differ = differ; same = hashes.0 })))
-            | inl framed ↦
+            | inl equal_framed ↦
                 let tr = ap length one.hash ∙ length-64 H long bytes in
                 let other_tr = ap length two.hash ∙ length-64 H long others in
-                let parts = same_parts pk.tr other.tr m n (tr ∙ sym other_tr) framed in
+                let parts = same_parts pk.tr other.tr m n (tr ∙ sym other_tr) equal_framed in
                 elim (same_or_not bytes others) [
                   | inr differ ↦ inr (named (inl record { differ = differ; same = sym one.hash ∙ parts.0 ∙ two.hash }))
-                  | inl read ↦ inl (one_public_key p.k pk other one.seed two.seed one.high two.high parts.0 (one.same_bytes ∙ read ∙ sym two.same_bytes), parts.1)
+                  | inl read ↦ inl (
+                    one_public_key p.k pk other one.seed two.seed one.high two.high parts.0 (one.same_bytes ∙ read ∙ sym two.same_bytes),
+                    same_framed x y m n alike accepted.0 other_accepted.0 parts.1,
+                  )
                 ]
           ]
-    ]
-
-pub signature_binds_key_and_input : SignatureBindsKeyAndInput
-signature_binds_key_and_input p H G bytes others pk other x y signature row long one two first second =
-    elim (signature_binds_key p H G bytes others pk other (framed_input x) (framed_input y) signature row long one two first.accepted second.accepted) [
-      | inl same ↦ inl (same.0, same_input x y first.allowed second.allowed same.1)
-      | inr named ↦ inr named
     ]

@@ -1,13 +1,13 @@
 -- A framed message determines what was framed.
-use Rattle.std.proofs.Common.{◌≡◌, ◌+◌, ℕ, List, [], ◌∷◌, ◌++◌, length, get_or, Bool, true, false, not, ◌&&◌, nat_eq, nat_lt, nat_le, IsTrue, if◌then◌else◌, Option, Some, None, refl, sym, ap, ◌∙◌, arith, append_assoc, true≢false, eqb-true}
+use Rattle.std.proofs.Common.{◌≡◌, ◌+◌, ℕ, List, [], ◌∷◌, ◌++◌, length, get_or, Bool, true, false, not, ◌&&◌, nat_eq, nat_lt, nat_le, IsTrue, if◌then◌else◌, Option, Some, None, refl, sym, ap, arith, true≢false, eqb-true}
 use Rattle.fips204_base.specs.declared.fault.Fault.{Fault}
 use Rattle.fips204_base.specs.declared.fault.Fault.TheVariants.{OidEmpty, OidNotDer, DigestTooLong, DigestLength, HashCtx}
 use Rattle.fips204.proofs.Spellings.{same_parts}
-use Rattle.fips204.specs.Framing.{differs, digest_length, pre_hash_fault, plain, hashed}
+use Rattle.fips204.specs.Framing.{Input, plain, hashed, framed, represented, frame, differs, digest_length, pre_hash_fault}
 use Rattle.fips204.specs.SigningInputs.{is_der}
-use Rattle.fips204.specs.SchemeLaws.{FramingIsOneToOne}
+use Rattle.fips204.specs.SchemeLaws.{has_context, FramingIsOneToOne}
 use Rattle.fips204.proofs.ParameterSets.{and_out}
-use Rattle.fips204.proofs.RefusedCalls.{passed, short_context}
+use Rattle.fips204.proofs.RefusedCalls.{same_some, passed, short_context}
 
 test_true : (b : Bool) (fault : Fault) (rest : Option Fault) → (if not b then Some fault else rest) ≡ None → IsTrue b
 test_true true fault rest e = refl
@@ -46,22 +46,27 @@ modes : (xs ys : List ℕ) (m n : ℕ) → m ∷ xs ≡ n ∷ ys → m ≡ n
 modes xs ys m n e = ap (λ l. get_or l 0 0) e
 
 -- a context with its length before it, and what follows
-same_context : (c d us vs : List ℕ) (mode : ℕ) → mode ∷ length c ∷ c ++ us ≡ mode ∷ length d ∷ d ++ vs → (c ≡ d) × (us ≡ vs)
+same_context : (c d us vs : List ℕ) (mode : ℕ) → frame mode c us ≡ frame mode d vs → (c ≡ d) × (us ≡ vs)
 same_context c d us vs mode e =
     let lengths : length c ≡ length d = ap (λ l. get_or l 1 0) e in
     let rest : c ++ us ≡ d ++ vs = cc in
     same_parts c d us vs lengths rest
 
 pub same_input : FramingIsOneToOne
-same_input (plain m c) (plain n d) s t e =
-    let both = same_context c d m n 0 e in
+same_input (framed m) y s t e f same = absurd (true≢false (sym s))
+same_input (represented m) y s t e f same = absurd (true≢false (sym s))
+same_input (plain m c) (framed n) s t e f same = absurd (true≢false (sym t))
+same_input (plain m c) (represented n) s t e f same = absurd (true≢false (sym t))
+same_input (hashed h c o) (framed n) s t e f same = absurd (true≢false (sym t))
+same_input (hashed h c o) (represented n) s t e f same = absurd (true≢false (sym t))
+same_input (plain m c) (plain n d) s t e f same =
+    let both = same_context c d m n 0 (same_some _ _ same) in
     cc
-same_input (plain m c) (hashed h d o) s t e = absurd (omega (arith, modes _ _ _ _ e))
-same_input (hashed h c o) (plain n d) s t e = absurd (omega (arith, modes _ _ _ _ e))
-same_input (hashed h c o) (hashed i d p) s t e =
-    let left : 1 ∷ length c ∷ c ++ (o ++ h) ≡ 1 ∷ length d ∷ d ++ (p ++ i) = ap (λ l. 1 ∷ length c ∷ l) (sym (append_assoc c o h)) ∙ e ∙ ap (λ l. 1 ∷ length d ∷ l) (append_assoc d p i) in
-    let outer = same_context c d (o ++ h) (p ++ i) 1 left in
-    let first = der_of_none h o (short_context c HashCtx (pre_hash_fault h o) s).1 in
-    let second = der_of_none i p (short_context d HashCtx (pre_hash_fault i p) t).1 in
+same_input (plain m c) (hashed h d o) s t e f same = absurd (omega (arith, modes _ _ _ _ (same_some _ _ same)))
+same_input (hashed h c o) (plain n d) s t e f same = absurd (omega (arith, modes _ _ _ _ (same_some _ _ same)))
+same_input (hashed h c o) (hashed i d p) s t e f same =
+    let outer = same_context c d (o ++ h) (p ++ i) 1 (same_some _ _ same) in
+    let first = der_of_none h o (short_context c HashCtx (pre_hash_fault h o) e).1 in
+    let second = der_of_none i p (short_context d HashCtx (pre_hash_fault i p) f).1 in
     let inner = same_oid o p h i first second outer.1 in
     cc

@@ -1,5 +1,5 @@
 -- Answers stay where the fronts are prefixes of longer ones.
-use Rattle.std.proofs.Common.{◌≡◌, ◌≢◌, ℕ, ◌+◌, ◌-◌, ◌*◌, ◌≤◌, ◌⊎◌, inl, inr, List, [], ◌∷◌, ◌++◌, length, take, drop, map, refl, ap, sym, ◌∙◌, arith, Some, None, ok_or, IsTrue, append_assoc}
+use Rattle.std.proofs.Common.{◌≡◌, ◌≢◌, ℕ, ◌+◌, ◌-◌, ◌*◌, ◌≤◌, ◌⊎◌, inl, inr, List, [], ◌∷◌, ◌++◌, length, take, drop, map, refl, ap, sym, subst, ◌∙◌, arith, Some, None, ok_or, IsTrue, append_assoc}
 use Rattle.std.specs.Prelude.{option_map}
 use Rattle.std.specs.declared.option.Option.{Option}
 use Rattle.std.specs.declared.result.Result.{Result}
@@ -20,10 +20,10 @@ use Rattle.fips204.specs.ParameterSets.{ParameterSet, is_parameter_set, commitme
 use Rattle.fips204.specs.Keys.{PublicParts, PrivateParts, high_part, key_pair, key_generation, public_key_of}
 use Rattle.fips204.specs.SigningInputs.{key_hash}
 use Rattle.fips204.proofs.KeyGeneration.{key_pair_if_all, key_generation-is}
-use Rattle.fips204.specs.Framing.{Input, framed_input, message_hash}
+use Rattle.fips204.specs.Framing.{Input, plain, hashed, framed, represented, frame, representative}
 use Rattle.fips204.specs.Signing.{Attempt, limit, rejected, signed, commitment, high_vector, checked_attempt, attempt, first_answer, mask_seed, sign_with, sign_if_matrix, sign}
 use Rattle.fips204.specs.Acceptance.{Verifies}
-use Rattle.fips204.specs.Refusals.{refused_or, input_fault, AcceptsInput}
+use Rattle.fips204.specs.Refusals.{refused_or, input_fault, sign_input, VerifiesInput}
 use Rattle.fips204.specs.LongerFronts.{CounterFrontsArePrefixes, SamplesStay, Stays, AnswersStay, IsDecided, sampled, malformed, YesAndNoStay, AcceptanceStays, LongerFrontsKeep}
 use Rattle.fips204.proofs.ParameterSets.{set_numbers}
 
@@ -167,11 +167,17 @@ module _ (H G H' G' : List ℕ → List ℕ) (first : ArePrefixes H H') (second 
       ok_stays (option_map f (sampled_matrix G rho p.k p.l)) (option_map f (sampled_matrix G' rho p.k p.l))
       (λ y. mapped_stays f (sampled_matrix G rho p.k p.l) (sampled_matrix G' rho p.k p.l) y (λ a there. sampled_matrix-longer G G' rho p.k p.l a second there))
 
-  framed-longer : (p : ParameterSet) (sk : PrivateParts) (m rnd : List ℕ) → IsTrue (is_parameter_set p)
-      → Stays (sign p H G sk (message_hash H sk.tr m) rnd) (sign p H' G' sk (message_hash H' sk.tr m) rnd)
-  framed-longer p sk m rnd t =
-      let mu : message_hash H' sk.tr m ≡ message_hash H sk.tr m = hash-longer 64 (sk.tr ++ m) (omega arith) in
-      rw mu (sign-longer p sk (message_hash H sk.tr m) rnd t)
+  representative-longer : (tr : List ℕ) (input : Input) → representative H' tr input ≡ representative H tr input
+  representative-longer tr (plain message context) = hash-longer 64 (tr ++ frame 0 context message) (omega arith)
+  representative-longer tr (hashed digest context oid) = hash-longer 64 (tr ++ frame 1 context (oid ++ digest)) (omega arith)
+  representative-longer tr (framed m) = hash-longer 64 (tr ++ m) (omega arith)
+  representative-longer tr (represented mu) = refl
+
+  input-longer : (p : ParameterSet) (sk : PrivateParts) (rnd : List ℕ) (input : Input) → IsTrue (is_parameter_set p) → Stays (sign_input p H G sk rnd input) (sign_input p H' G' sk rnd input)
+  input-longer p sk rnd input t =
+      let stays = sign-longer p sk (representative H sk.tr input) rnd t in
+      refused_stays (input_fault input) (sign p H G sk (representative H sk.tr input) rnd) (sign p H' G' sk (representative H' sk.tr input) rnd)
+      (λ not. ap (λ mu. sign p H' G' sk mu rnd) (representative-longer sk.tr input) ∙ stays not)
 
   answers_stay : (p : ParameterSet) → IsTrue (is_parameter_set p) → AnswersStay p H G H' G'
   answers_stay p t = record {
@@ -179,9 +185,7 @@ module _ (H G H' G' : List ℕ → List ℕ) (first : ArePrefixes H H') (second 
     public_keys = λ sk. ok_stays (public_key_of p G sk) (public_key_of p G' sk) (public_key_of-longer p sk);
     prepared_private_keys = λ sk. prepared-longer p sk.rho (λ a. record { parts = sk; matrix = a });
     prepared_public_keys = λ pk. prepared-longer p pk.rho (λ a. record { parts = pk; matrix = a });
-    hashes = λ sk mu rnd. sign-longer p sk mu rnd t;
-    framed = λ sk m rnd. framed-longer p sk m rnd t;
-    inputs = λ sk rnd input. refused_stays (input_fault input) _ _ (framed-longer p sk (framed_input input) rnd t);
+    inputs = λ sk rnd input. input-longer p sk rnd input t;
   }
 
   -- ---- verifying
@@ -241,41 +245,25 @@ module _ (H G H' G' : List ℕ → List ℕ) (first : ArePrefixes H H') (second 
         };
       }
 
-  verdict_stays : (p : ParameterSet) (pk : PublicParts) (mu signature : List ℕ) → IsTrue (is_parameter_set p)
-      → YesAndNoStay (IsDecided p H G pk signature) (Verifies p H G pk mu signature) (Verifies p H' G' pk mu signature)
-  verdict_stays p pk mu signature t = record {
-    yes_stays = verifies-longer p pk mu signature t;
-    no_stays = λ decided. (verifies-longer p pk mu signature t, verifies-shorter p pk mu signature t decided);
-  }
-
-  framed_stays : (p : ParameterSet) (pk : PublicParts) (m signature : List ℕ) → IsTrue (is_parameter_set p)
-      → YesAndNoStay (IsDecided p H G pk signature) (Verifies p H G pk (message_hash H pk.tr m) signature) (Verifies p H' G' pk (message_hash H' pk.tr m) signature)
-  framed_stays p pk m signature t =
-      let mu : message_hash H' pk.tr m ≡ message_hash H pk.tr m = hash-longer 64 (pk.tr ++ m) (omega arith) in
-      rw mu (verdict_stays p pk (message_hash H pk.tr m) signature t)
-
   input_stays : (p : ParameterSet) (pk : PublicParts) (signature : List ℕ) (input : Input) → IsTrue (is_parameter_set p)
-      → YesAndNoStay (IsDecided p H G pk signature ⊎ (input_fault input ≢ None))
-      (AcceptsInput H pk.tr (λ mu. Verifies p H G pk mu signature) input) (AcceptsInput H' pk.tr (λ mu. Verifies p H' G' pk mu signature) input)
+      → YesAndNoStay (IsDecided p H G pk signature ⊎ (input_fault input ≢ None)) (VerifiesInput p H G pk signature input) (VerifiesInput p H' G' pk signature input)
   input_stays p pk signature input t =
-      let stays = framed_stays p pk (framed_input input) signature t in
-      let yes = λ (v : AcceptsInput H pk.tr (λ mu. Verifies p H G pk mu signature) input).
-      let longer : AcceptsInput H' pk.tr (λ mu. Verifies p H' G' pk mu signature) input = record { allowed = v.allowed; accepted = stays.yes_stays v.accepted } in longer in
+      let mu = representative-longer pk.tr input in
+      let longer : VerifiesInput p H G pk signature input → VerifiesInput p H' G' pk signature input =
+      λ v. (v.0, subst (λ m. Verifies p H' G' pk m signature) (sym mu) (verifies-longer p pk (representative H pk.tr input) signature t v.1)) in
       record {
-        yes_stays = yes;
+        yes_stays = longer;
         no_stays = λ decided. (
-          yes,
+          longer,
           λ v. elim decided [
-            | inl d ↦ record { allowed = v.allowed; accepted = (stays.no_stays d).1 v.accepted }
-            | inr broken ↦ absurd (broken v.allowed)
+            | inl d ↦ (v.0, verifies-shorter p pk (representative H pk.tr input) signature t d (subst (λ m. Verifies p H' G' pk m signature) mu v.1))
+            | inr broken ↦ absurd (broken v.0)
           ],
         );
       }
 
   acceptance_stays : (p : ParameterSet) → IsTrue (is_parameter_set p) → AcceptanceStays p H G H' G'
   acceptance_stays p t = record {
-    hashes = λ pk mu signature. verdict_stays p pk mu signature t;
-    framed = λ pk m signature. framed_stays p pk m signature t;
     inputs = λ pk signature input. input_stays p pk signature input t;
     decoded = λ bytes pk d. record { seed = d.seed; high = d.high; same_bytes = d.same_bytes; hash = d.hash ∙ sym (hash-longer 64 bytes (omega arith)) };
   }

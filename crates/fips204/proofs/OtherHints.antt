@@ -20,6 +20,7 @@ use Rattle.fips204_base.proofs.VectorBytes.{vector-length}
 use Rattle.fips204_base.proofs.Vectors.{vector_of-entry, vector_of-same, vector_of-range}
 use Rattle.std.proofs.lemmas.List.{append_cancel_left}
 use Rattle.fips204.specs.Acceptance.{w1_prime, hinted}
+use Rattle.fips204.specs.Framing.{representative}
 use Rattle.fips204.specs.SigningInputs.{t1_shifted}
 use Rattle.fips204.specs.ParameterSets.{ParameterSet, commitment_length}
 use Rattle.fips204.specs.SchemeLaws.{OtherHintCollides}
@@ -123,7 +124,10 @@ before_hint gamma1 omega' k l n bytes c z h s =
 -- ---- the law
 
 pub other_hint_collides : OtherHintCollides
-other_hint_collides p H G pk mu first second row differ alike one two =
+other_hint_collides p H G pk input first second row differ alike accepted other_accepted =
+    let mu = representative H pk.tr input in
+    let one = accepted.1 in
+    let two = other_accepted.1 in
     let numbers = set_numbers p row in
     let x = one.accepted.opened in
     let y = two.accepted.opened in

@@ -7,11 +7,11 @@ use Rattle.fips204_base.specs.declared.fault.Fault.TheVariants.{SamplingLimit}
 use Rattle.fips204_base.specs.declared.types.T.{T}
 use Rattle.fips204_base.specs.Sampling.{sampled_matrix}
 use Rattle.fips204.specs.Acceptance.{Accepts, Verifies}
-use Rattle.fips204.specs.Framing.{Input, plain, framed_input, message_hash}
+use Rattle.fips204.specs.Framing.{Input, plain, represented, representative}
 use Rattle.fips204.specs.Keys.{PublicParts, PrivateParts, ArePrivateParts, IsWhole, high_part, low_part, public_key_of}
 use Rattle.fips204.specs.ParameterSets.{ParameterSet, is_parameter_set}
-use Rattle.fips204.specs.Prepared.{PreparedPrivate, PreparedPublic, prepared_private, prepared_public, public_of_prepared, sign_prepared, sign_message_prepared, IsWholePrepared, VerifiesPrepared, VerifiesMessagePrepared, IsEachSigned, IsEachJudged, AcceptedIfWholePrepared, PreparedAnswersAsPlain}
-use Rattle.fips204.specs.Refusals.{refused_or, input_fault, sign_input, AcceptsInput, derived, sign_message, VerifiesMessage}
+use Rattle.fips204.specs.Prepared.{PreparedPrivate, PreparedPublic, prepared_private, prepared_public, public_of_prepared, sign_prepared, IsWholePrepared, VerifiesPrepared, IsEachSigned, IsEachJudged, AcceptedIfWholePrepared, PreparedAnswersAsPlain}
+use Rattle.fips204.specs.Refusals.{refused_or, input_fault, sign_input, VerifiesInput, derived}
 use Rattle.fips204.specs.SigningInputs.{input_hash}
 use Rattle.fips204.specs.Signing.{sign, sign_with, sign_if_matrix}
 use Rattle.fips204.proofs.Completeness.{accepts_signed_with}
@@ -20,19 +20,19 @@ use Rattle.fips204.proofs.RefusedCalls.{given_input, same_some}
 -- ---- what is signed is accepted
 
 pub hash_accepted : (p : ParameterSet) (H : List ℕ → List ℕ) (K L : ℕ) (sk : PreparedPrivate) (mu rnd : List ℕ) (answer : Result (List ℕ) Fault) → IsTrue (is_parameter_set p)
-    → ((x : List ℕ) → 4096 ≤ length (H x)) → K ≡ p.k → L ≡ p.l → ArePrivateParts K L sk.parts → answer ≡ sign_prepared p H sk mu rnd
-    → AcceptedIfWholePrepared p sk (λ pk signature. VerifiesPrepared p H pk mu signature) answer
+    → ((x : List ℕ) → 4096 ≤ length (H x)) → K ≡ p.k → L ≡ p.l → ArePrivateParts K L sk.parts → answer ≡ sign_prepared p H sk rnd (represented mu)
+    → AcceptedIfWholePrepared p sk (λ pk signature. VerifiesPrepared p H pk signature (represented mu)) answer
 hash_accepted p H K L sk mu rnd answer known law rows columns parts same =
-    λ signature whole e. accepts_signed_with p H sk.matrix sk.parts mu rnd signature known (rw (rows, columns) at parts) whole law (sym same ∙ e)
+    λ signature whole e. (refl, accepts_signed_with p H sk.matrix sk.parts mu rnd signature known (rw (rows, columns) at parts) whole law (sym same ∙ e))
 
 -- and so is what is signed of an input
 pub input_accepted_prepared : (p : ParameterSet) (H : List ℕ → List ℕ) (sk : PreparedPrivate) (input : Input) (mu : List ℕ) (answer : Result (List ℕ) Fault) → Ok mu ≡ input_hash H sk.parts.tr input
-    → AcceptedIfWholePrepared p sk (λ pk signature. VerifiesPrepared p H pk mu signature) answer
-    → AcceptedIfWholePrepared p sk (λ pk signature. AcceptsInput H pk.parts.tr (λ m. VerifiesPrepared p H pk m signature) input) answer
+    → AcceptedIfWholePrepared p sk (λ pk signature. VerifiesPrepared p H pk signature (represented mu)) answer
+    → AcceptedIfWholePrepared p sk (λ pk signature. VerifiesPrepared p H pk signature input) answer
 input_accepted_prepared p H sk input mu answer e accepted =
     λ signature whole made.
     let given = given_input H sk.parts.tr sk.parts.tr mu input refl e in
-    record { allowed = given.0; accepted = subst (λ m. VerifiesPrepared p H (public_of_prepared p sk) m signature) given.1 (accepted signature whole made) }
+    (given.0, subst (λ m. Accepts p H sk.matrix (high_part p sk.matrix sk.parts.s1 sk.parts.s2) m signature) given.1 (accepted signature whole made).1)
 
 -- ---- a prepared key answers as its plain key
 
@@ -53,13 +53,13 @@ public_parts (Some a) pk prepared e =
 
 -- with a hash mu
 hash_as_plain : (p : ParameterSet) (H G : List ℕ → List ℕ) (sk : PrivateParts) (prepared : PreparedPrivate) (mu rnd : List ℕ) → sk ≡ prepared.parts
-    → sampled_matrix G sk.rho p.k p.l ≡ Some prepared.matrix → sign_prepared p H prepared mu rnd ≡ sign p H G sk mu rnd
+    → sampled_matrix G sk.rho p.k p.l ≡ Some prepared.matrix → sign_with p H prepared.matrix prepared.parts mu rnd ≡ sign p H G sk mu rnd
 unfolding sign sign_if_matrix
 hash_as_plain p H G sk prepared mu rnd same there =
     ap (λ k. sign_with p H prepared.matrix k mu rnd) (sym same) ∙ sym (ap (λ o. sign_if_matrix p H o sk mu rnd) there)
 
 accepts_as_plain : (p : ParameterSet) (H G : List ℕ → List ℕ) (pk : PublicParts) (prepared : PreparedPublic) (mu signature : List ℕ) → pk ≡ prepared.parts
-    → sampled_matrix G pk.rho p.k p.l ≡ Some prepared.matrix → VerifiesPrepared p H prepared mu signature ↔ Verifies p H G pk mu signature
+    → sampled_matrix G pk.rho p.k p.l ≡ Some prepared.matrix → Accepts p H prepared.matrix prepared.parts.t1 mu signature ↔ Verifies p H G pk mu signature
 accepts_as_plain p H G pk prepared mu signature same there = (
   λ x. record { a = prepared.matrix; matrix = there; accepted = subst (λ (k : PublicParts). Accepts p H prepared.matrix k.t1 mu signature) (sym same) x },
   λ v.
@@ -69,21 +69,20 @@ accepts_as_plain p H G pk prepared mu signature same there = (
 
 -- with an input
 input_as_plain : (p : ParameterSet) (H G : List ℕ → List ℕ) (sk : PrivateParts) (prepared : PreparedPrivate) (rnd : List ℕ) (input : Input) → prepared_private p G sk ≡ Ok prepared
-    → sign_input H prepared.parts.tr (λ mu. sign_prepared p H prepared mu rnd) input ≡ sign_input H sk.tr (λ mu. sign p H G sk mu rnd) input
+    → sign_prepared p H prepared rnd input ≡ sign_input p H G sk rnd input
 input_as_plain p H G sk prepared rnd input e =
     let is = private_parts (sampled_matrix G sk.rho p.k p.l) sk prepared e in
-    ap (λ (k : PrivateParts). sign_input H k.tr (λ mu. sign_prepared p H prepared mu rnd) input) (sym is.0)
-    ∙ ap (λ x. refused_or (input_fault input) x) (hash_as_plain p H G sk prepared (message_hash H sk.tr (framed_input input)) rnd is.0 is.1)
+    ap (λ (k : PrivateParts). refused_or (input_fault input) (sign_with p H prepared.matrix prepared.parts (representative H k.tr input) rnd)) (sym is.0)
+    ∙ ap (λ x. refused_or (input_fault input) x) (hash_as_plain p H G sk prepared (representative H sk.tr input) rnd is.0 is.1)
 
 verdict_as_plain : (p : ParameterSet) (H G : List ℕ → List ℕ) (pk : PublicParts) (prepared : PreparedPublic) (signature : List ℕ) (input : Input) → prepared_public p G pk ≡ Ok prepared
-    → AcceptsInput H prepared.parts.tr (λ mu. VerifiesPrepared p H prepared mu signature) input ↔ AcceptsInput H pk.tr (λ mu. Verifies p H G pk mu signature) input
+    → VerifiesPrepared p H prepared signature input ↔ VerifiesInput p H G pk signature input
 verdict_as_plain p H G pk prepared signature input e =
     let is = public_parts (sampled_matrix G pk.rho p.k p.l) pk prepared e in
-    let mu = ap (λ (k : PublicParts). message_hash H k.tr (framed_input input)) is.0 in
-    let both = accepts_as_plain p H G pk prepared (message_hash H pk.tr (framed_input input)) signature is.0 is.1 in (
-      λ x. record { allowed = x.allowed; accepted = both.0 (subst (λ m. VerifiesPrepared p H prepared m signature) (sym mu) x.accepted) },
-      λ v. record { allowed = v.allowed; accepted = subst (λ m. VerifiesPrepared p H prepared m signature) mu (both.1 v.accepted) },
-    )
+    let mu = ap (λ (k : PublicParts). representative H k.tr input) is.0 in
+    let accepts = λ (m : List ℕ). Accepts p H prepared.matrix prepared.parts.t1 m signature in
+    let both = accepts_as_plain p H G pk prepared (representative H pk.tr input) signature is.0 is.1 in
+    (λ x. (x.0, both.0 (subst accepts (sym mu) x.1)), λ v. (v.0, subst accepts mu (both.1 v.1)))
 
 -- of lists: an answer that is as that of the plain key for each entry
 each_signed : (signs alike : List ℕ → List ℕ → Result (List ℕ) Fault) (seeds messages : List (List ℕ)) (answers : List (Result (List ℕ) Fault)) → ((rnd m : List ℕ) → signs rnd m ≡ alike rnd m)
@@ -124,17 +123,14 @@ public_as_plain p G sk prepared pk same there e =
 pub prepared_answers_as_plain : (p : ParameterSet) (H G : List ℕ → List ℕ) → PreparedAnswersAsPlain p H G
 prepared_answers_as_plain p H G =
     let private = λ (sk : PrivateParts) (prepared : PreparedPrivate) (e : prepared_private p G sk ≡ Ok prepared). private_parts (sampled_matrix G sk.rho p.k p.l) sk prepared e in
-    let public = λ (pk : PublicParts) (prepared : PreparedPublic) (e : prepared_public p G pk ≡ Ok prepared). public_parts (sampled_matrix G pk.rho p.k p.l) pk prepared e in
     record {
-      sign_hash = λ sk prepared mu rnd e. let is = private sk prepared e in hash_as_plain p H G sk prepared mu rnd is.0 is.1;
       sign_inputs = λ sk prepared rnd input e. input_as_plain p H G sk prepared rnd input e;
       sign_lists = λ sk prepared seeds messages context answers e each.
-          each_signed (λ rnd m. sign_message_prepared p H prepared rnd m context) (λ rnd m. sign_message p H G sk rnd m context) seeds messages answers
+          each_signed (λ rnd m. sign_prepared p H prepared rnd (plain m context)) (λ rnd m. sign_input p H G sk rnd (plain m context)) seeds messages answers
           (λ rnd m. input_as_plain p H G sk prepared rnd (plain m context) e) each;
-      verify_hash = λ pk prepared mu signature e. let is = public pk prepared e in accepts_as_plain p H G pk prepared mu signature is.0 is.1;
       verify_inputs = λ pk prepared signature input e. verdict_as_plain p H G pk prepared signature input e;
       verify_lists = λ pk prepared messages signatures context answers e each.
-          each_judged (λ m s. VerifiesMessagePrepared p H prepared m s context) (λ m s. VerifiesMessage p H G pk m s context) messages signatures answers
+          each_judged (λ m s. VerifiesPrepared p H prepared s (plain m context)) (λ m s. VerifiesInput p H G pk s (plain m context)) messages signatures answers
           (λ m s. verdict_as_plain p H G pk prepared s (plain m context) e) each;
       whole = λ sk prepared e. let is = private sk prepared e in whole_as_plain p G sk prepared is.0 is.1;
       public_key = λ sk prepared pk e. let is = private sk prepared e in public_as_plain p G sk prepared pk is.0 is.1;

@@ -1,18 +1,17 @@
 -- Which refusals whole calls have.
-use Rattle.std.proofs.Common.{◌≡◌, ◌⊎◌, inl, inr, ℕ, ◌*◌, List, [], ◌∷◌, length, map, Bool, true, false, Option, Some, None, Result, Ok, Err, refl, rules}
-use Rattle.std.specs.Prelude.{IfErr, ok_or, nat_lt, if◌then◌else◌}
+use Rattle.std.proofs.Common.{◌≡◌, ◌⊎◌, inl, inr, ℕ, ◌*◌, List, [], ◌∷◌, map, Option, Some, None, Result, Ok, Err, refl, rules}
+use Rattle.std.specs.Prelude.{IfErr, ok_or}
 use Rattle.std.specs.List.{range_with_len}
 use Rattle.fips204_base.specs.declared.fault.Fault.{Fault}
-use Rattle.fips204_base.specs.declared.fault.Fault.TheVariants.{SamplingLimit, SignCtx}
+use Rattle.fips204_base.specs.declared.fault.Fault.TheVariants.{SamplingLimit}
 use Rattle.fips204_base.specs.declared.types.T.{T}
 use Rattle.fips204_base.specs.Sampling.{sampled_matrix}
 use Rattle.fips204.specs.ParameterSets.{ParameterSet}
 use Rattle.fips204.specs.Keys.{PrivateParts}
 use Rattle.fips204.specs.Signing.{Attempt, limit, rejected, signed, attempt, first_answer, mask_seed, sign_with, sign_if_matrix, sign}
-use Rattle.fips204.specs.Framing.{Input, plain, framed_input, message_hash}
+use Rattle.fips204.specs.Framing.{Input, representative}
 use Rattle.fips204.specs.RefusalLaws.{RefusesOnly}
 use Rattle.fips204.specs.Refusals.{refused_or, input_fault, sign_input, OnlySamplingLimit, IsSigningLimit}
-use Rattle.fips204.specs.SigningInputs.{message_fault}
 
 -- a value, or a limit where there is none
 limited : {A : Type 0} (o : Option A) → OnlySamplingLimit (ok_or o SamplingLimit)
@@ -41,18 +40,10 @@ first_or_later None (Ok x) may is = search rules
 first_or_later None (Err fault) may is = inr is
 first_or_later (Some fault) answer may is = inl refl
 
-same_refusal : (answer : Result (List ℕ) Fault) (may also : Fault → Type 0) → ((fault : Fault) → may fault → also fault) → IfErr answer may → IfErr answer also
-same_refusal (Ok x) may also step is = search rules
-same_refusal (Err fault) may also step is = step fault is
-
-context_alone : (long : Bool) (fault : Fault) → (if long then Some SignCtx else None) ≡ Some fault → fault ≡ SignCtx
-context_alone true fault e = cc
-context_alone false fault e = absurd cc
-
 input_refuses : (p : ParameterSet) (H G : List ℕ → List ℕ) (sk : PrivateParts) (rnd : List ℕ) (input : Input)
-    → IfErr (sign_input H sk.tr (λ mu. sign p H G sk mu rnd) input) (λ fault. (input_fault input ≡ Some fault) ⊎ IsSigningLimit fault)
+    → IfErr (sign_input p H G sk rnd input) (λ fault. (input_fault input ≡ Some fault) ⊎ IsSigningLimit fault)
 input_refuses p H G sk rnd input =
-    let mu = message_hash H sk.tr (framed_input input) in
+    let mu = representative H sk.tr input in
     first_or_later (input_fault input) (sign p H G sk mu rnd) (λ fault. IsSigningLimit fault) (signing_refuses p H G sk mu rnd)
 
 pub refuses_only : (p : ParameterSet) (H G : List ℕ → List ℕ) → RefusesOnly p H G
@@ -61,10 +52,5 @@ refuses_only p H G = record {
   derived_keys = λ sk. limited _;
   private_keys = λ sk. limited _;
   public_keys = λ pk. limited _;
-  hashes = λ sk mu rnd. signing_refuses p H G sk mu rnd;
-  messages = λ sk rnd message context.
-      same_refusal (sign_input H sk.tr (λ mu. sign p H G sk mu rnd) (plain message context)) (λ fault. (message_fault context ≡ Some fault) ⊎ IsSigningLimit fault) (λ fault. (fault ≡ SignCtx) ⊎ IsSigningLimit fault)
-      (λ fault is. elim is [ inl long ↦ inl (context_alone (nat_lt 255 (length context)) fault long) | inr later ↦ inr later ])
-      (input_refuses p H G sk rnd (plain message context));
   inputs = λ sk rnd input. input_refuses p H G sk rnd input;
 }

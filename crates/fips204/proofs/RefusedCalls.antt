@@ -4,8 +4,8 @@ use Rattle.std.specs.Prelude.{nat_lt, if◌then◌else◌}
 use Rattle.std.proofs.lemmas.Bool.{ltb-false}
 use Rattle.fips204_base.specs.declared.fault.Fault.{Fault}
 use Rattle.fips204.specs.Completeness.{AcceptedIfWhole}
-use Rattle.fips204.specs.Framing.{Input, framed_input, message_hash}
-use Rattle.fips204.specs.Refusals.{refused_or, input_fault, sign_input, AcceptsInput, DrawsUnless}
+use Rattle.fips204.specs.Framing.{Input, represented, representative}
+use Rattle.fips204.specs.Refusals.{refused_or, input_fault, DrawsUnless}
 use Rattle.fips204.specs.SigningInputs.{input_hash}
 
 -- two values are the same where the options that hold them are
@@ -32,38 +32,40 @@ short_context context fault later e =
 
 -- mu of an input that isn't refused
 pub given_input : (H : List ℕ → List ℕ) (tr own mu : List ℕ) (input : Input) → tr ≡ own → Ok mu ≡ input_hash H tr input
-    → (input_fault input ≡ None) × (mu ≡ message_hash H own (framed_input input))
+    → (input_fault input ≡ None) × (mu ≡ representative H own input)
 given_input H tr own mu input same e =
-    let hash = message_hash H tr (framed_input input) in
+    let hash = representative H tr input in
     let made = not_refused (input_fault input) (Ok hash) mu (sym e) in
     let is : hash ≡ mu = let answer = made.1 in cc in
-    (made.0, sym is ∙ ap (λ t. message_hash H t (framed_input input)) same)
+    (made.0, sym is ∙ ap (λ t. representative H t input) same)
 
 -- a verdict over mu of an input is the verdict over the input
 pub verified_input : (H : List ℕ → List ℕ) (tr own mu : List ℕ) (input : Input) (accepts : List ℕ → Type 0) (r : Bool) → tr ≡ own → Ok mu ≡ input_hash H tr input
-    → IsTrue r ↔ accepts mu → IsTrue r ↔ AcceptsInput H own accepts input
+    → IsTrue r ↔ (input_fault (represented mu) ≡ None) × accepts mu → IsTrue r ↔ (input_fault input ≡ None) × accepts (representative H own input)
 verified_input H tr own mu input accepts r same e verdict =
     let given = given_input H tr own mu input same e in (
-      λ t. record { allowed = given.0; accepted = subst accepts given.1 (verdict.0 t) },
-      λ v. verdict.1 (subst accepts (sym given.1) v.accepted),
+      λ t. (given.0, subst accepts given.1 (verdict.0 t).1),
+      λ v. verdict.1 (refl, subst accepts (sym given.1) v.1),
     )
 
 -- what is signed of an input is accepted, where what is signed of a hash is
 pub signed_input : (H : List ℕ → List ℕ) (tr own : List ℕ) (input : Input) (signs : List ℕ → Result (List ℕ) Fault) (accepts : List ℕ → Type 0) (signature : List ℕ) → tr ≡ own
-    → ((mu : List ℕ) → signs mu ≡ Ok signature → accepts mu) → sign_input H tr signs input ≡ Ok signature → AcceptsInput H own accepts input
+    → ((mu : List ℕ) → signs mu ≡ Ok signature → accepts mu) → refused_or (input_fault input) (signs (representative H tr input)) ≡ Ok signature
+    → (input_fault input ≡ None) × accepts (representative H own input)
 signed_input H tr own input signs accepts signature same law made =
-    let mu = message_hash H tr (framed_input input) in
+    let mu = representative H tr input in
     let both = not_refused (input_fault input) (signs mu) signature made in
-    record { allowed = both.0; accepted = subst (λ t. accepts (message_hash H t (framed_input input))) same (law mu both.1) }
+    (both.0, subst (λ t. accepts (representative H t input)) same (law mu both.1))
 
 -- the same of an answer over mu of an input, and of every key that may verify it
 pub accepted_input : {P : Type 0} (H : List ℕ → List ℕ) (tr mu : List ℕ) (input : Input) (whole : Type 0) (derives : Result P Fault) (own : P → List ℕ) (accepts : P → List ℕ → List ℕ → Type 0)
-    (answer : Result (List ℕ) Fault) → ((pk : P) → derives ≡ Ok pk → tr ≡ own pk) → Ok mu ≡ input_hash H tr input → AcceptedIfWhole whole derives (λ pk signature. accepts pk mu signature) answer
-    → AcceptedIfWhole whole derives (λ pk signature. AcceptsInput H (own pk) (λ m. accepts pk m signature) input) answer
+    (answer : Result (List ℕ) Fault) → ((pk : P) → derives ≡ Ok pk → tr ≡ own pk) → Ok mu ≡ input_hash H tr input
+    → AcceptedIfWhole whole derives (λ pk signature. (input_fault (represented mu) ≡ None) × accepts pk mu signature) answer
+    → AcceptedIfWhole whole derives (λ pk signature. (input_fault input ≡ None) × accepts pk (representative H (own pk) input) signature) answer
 accepted_input H tr mu input whole derives own accepts answer hashes e accepted =
     λ pk signature w d made.
     let given = given_input H tr (own pk) mu input (hashes pk d) e in
-    record { allowed = given.0; accepted = subst (λ m. accepts pk m signature) given.1 (accepted pk signature w d made) }
+    (given.0, subst (λ m. accepts pk m signature) given.1 (accepted pk signature w d made).1)
 
 -- a call that draws from a generator which gives a request for 32 bytes these bytes, and no others, answers as over them
 pub drawn_seed : {S A : Type 0} (fault : Option Fault) (gives : S → ℕ → List ℕ → S → Type 0) (refuses : S → ℕ → S → Type 0) (before after : S) (refusal : Fault) (seed : List ℕ)

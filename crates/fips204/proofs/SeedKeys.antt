@@ -9,9 +9,9 @@ use Rattle.fips204.specs.Keys.{PublicParts, PrivateParts, ArePrivateParts, IsPub
 use Rattle.fips204.specs.declared.types.Params.{Params}
 use Rattle.fips204.specs.Sets.{set_of}
 use Rattle.fips204.specs.Signing.{sign}
-use Rattle.fips204.specs.Framing.{plain}
-use Rattle.fips204.specs.Refusals.{generated, derived, sign_message, VerifiesMessage}
-use Rattle.fips204.specs.Completeness.{HashComplete, AcceptsSigned, SignedIsAccepted, DecodesAlone}
+use Rattle.fips204.specs.Framing.{Input, represented}
+use Rattle.fips204.specs.Refusals.{generated, derived, sign_input, VerifiesInput}
+use Rattle.fips204.specs.Completeness.{AcceptedIfWhole, AcceptsSigned, SignedIsAccepted, DecodesAlone}
 use Rattle.fips204.proofs.ParameterSets.{IsKnown, known-set}
 use Rattle.fips204.proofs.WholeKeys.{generated_pair, generated_parts, accepts_signed, pair_of_whole, public_alone, private_alone}
 
@@ -21,10 +21,10 @@ signed_is_accepted p H G pk sk row law = (
   λ xi made. generated_pair p H G xi pk sk row law (some_of_ok (key_generation p H G xi) (pk, sk) (sym made)),
 )
 
--- what signing a message gives for both keys of a seed is accepted
-pub seed_accepts : (p : ParameterSet) (H G : List ℕ → List ℕ) (xi rnd message context signature : List ℕ) (pk : PublicParts) (sk : PrivateParts) → IsTrue (is_parameter_set p) → ((x : List ℕ) → 4096 ≤ length (H x))
-    → generated p H G xi ≡ Ok (pk, sk) → sign_message p H G sk rnd message context ≡ Ok signature → VerifiesMessage p H G pk message signature context
-seed_accepts p H G xi rnd message context signature pk sk row law from made = ((signed_is_accepted p H G pk sk row law).1 xi from).1.inputs rnd signature (plain message context) made
+-- what signing an input gives for both keys of a seed is accepted
+pub seed_accepts : (p : ParameterSet) (H G : List ℕ → List ℕ) (xi rnd signature : List ℕ) (input : Input) (pk : PublicParts) (sk : PrivateParts) → IsTrue (is_parameter_set p) → ((x : List ℕ) → 4096 ≤ length (H x))
+    → generated p H G xi ≡ Ok (pk, sk) → sign_input p H G sk rnd input ≡ Ok signature → VerifiesInput p H G pk signature input
+seed_accepts p H G xi rnd signature input pk sk row law from made = ((signed_is_accepted p H G pk sk row law).1 xi from).1 rnd signature input made
 
 -- ---- what generating answers
 
@@ -52,6 +52,7 @@ key_accepts p H G K L sk pk known law rows columns parts whole derives =
     accepts_signed (set_of p) H G pk sk (known-set p known) law (rw (rows, columns) at parts) whole derives
 
 pub hash_accepted : (p : Params) (H G : List ℕ → List ℕ) (K L : ℕ) (sk : PrivateParts) (mu rnd : List ℕ) (answer : Result (List ℕ) Fault) → IsKnown p
-    → ((x : List ℕ) → 4096 ≤ length (H x)) → K ≡ p.k → L ≡ p.l → ArePrivateParts K L sk → answer ≡ sign (set_of p) H G sk mu rnd → HashComplete (set_of p) H G sk mu answer
+    → ((x : List ℕ) → 4096 ≤ length (H x)) → K ≡ p.k → L ≡ p.l → ArePrivateParts K L sk → answer ≡ sign (set_of p) H G sk mu rnd
+    → AcceptedIfWhole (IsWhole (set_of p) G sk) (derived (set_of p) G sk) (λ pk signature. VerifiesInput (set_of p) H G pk signature (represented mu)) answer
 hash_accepted p H G K L sk mu rnd answer known law rows columns parts same =
-    λ pk signature whole derives e. (key_accepts p H G K L sk pk known law rows columns parts whole derives).hashes mu rnd signature (sym same ∙ e)
+    λ pk signature whole derives e. key_accepts p H G K L sk pk known law rows columns parts whole derives rnd signature (represented mu) (sym same ∙ e)

@@ -100,11 +100,8 @@ accepts_signed p H G pk sk row law parts whole derives =
     let same : own ≡ pk = same_some own pk (sym (public_key_of_whole p G sk whole) ∙ some_of_ok (public_key_of p G sk) pk (sym derives)) in
     let accepts = λ (mu rnd signature : List ℕ) (made : sign p H G sk mu rnd ≡ Ok signature).
     subst (λ (k : PublicParts). Verifies p H G k mu signature) same (completeness p H G sk mu rnd signature row parts whole law made) in
-    record {
-      hashes = accepts;
-      inputs = λ rnd signature input made.
-          signed_input H sk.tr pk.tr input (λ mu. sign p H G sk mu rnd) (λ mu. Verifies p H G pk mu signature) signature (derived_hash p G sk pk derives) (λ mu. accepts mu rnd signature) made;
-    }
+    λ rnd signature input made.
+    signed_input H sk.tr pk.tr input (λ mu. sign p H G sk mu rnd) (λ mu. Verifies p H G pk mu signature) signature (derived_hash p G sk pk derives) (λ mu. accepts mu rnd signature) made
 
 -- ---- a whole private key and the hash of its public key's bytes
 

@@ -13,13 +13,14 @@ use Rattle.fips204.specs.Keys.{PrivateParts, key_pair, key_generation}
 use Rattle.fips204.specs.SigningInputs.{seeds, t1_shifted}
 use Rattle.fips204.specs.Acceptance.{hinted}
 use Rattle.fips204.specs.ParameterSets.{ParameterSet, set_44, set_65, set_87, is_parameter_set, public_key_length, private_key_length, signature_length}
-use Rattle.fips204.specs.Signing.{first_answer, mask_seed, limit, rejected, signed, commitment, hint_bit, w_minus_cs2}
+use Rattle.fips204.specs.Signing.{first_answer, mask_seed, limit, rejected, signed, commitment, hint_bit, w_minus_cs2, sign}
 use Rattle.std.specs.Prelude.{replicate, nat_eq, get_or, option_map}
 use Rattle.std.specs.List.{range_with_len, flat_map}
 use Rattle.fips204.specs.declared.types.pre_hash.TheConstants.{SHA2_224, SHA2_256, SHA2_384, SHA2_512, SHA2_512_224, SHA2_512_256, SHA3_224, SHA3_256, SHA3_384, SHA3_512, SHAKE_128, SHAKE_256}
-use Rattle.fips204.specs.Framing.{plain, hashed, framed, framed_input, message_hash, hashes, digest_length, pre_hash_fault}
+use Rattle.fips204.specs.Framing.{plain, hashed, framed, represented, representative, hashes, digest_length, pre_hash_fault}
 use Rattle.fips204.specs.Constants.{hash_oid}
 use Rattle.fips204.specs.Refusals.{input_fault, sign_input}
+use Rattle.fips204.specs.SchemeLaws.{framing}
 
 -- Worked values of the parameter sets, and of the order of attempts.
 
@@ -63,15 +64,15 @@ none_left = refl
 -- Worked values of framing, and of the conditions on a digest.
 
 -- context `ab`, message `c`
-framed_message : framed (0x63 ∷ []) (0x61 ∷ 0x62 ∷ []) ≡ 0x00 ∷ 0x02 ∷ 0x61 ∷ 0x62 ∷ 0x63 ∷ []
+framed_message : framing (plain (0x63 ∷ []) (0x61 ∷ 0x62 ∷ [])) ≡ Some (0x00 ∷ 0x02 ∷ 0x61 ∷ 0x62 ∷ 0x63 ∷ [])
 framed_message = refl
 
 -- context `ab`, a digest of 32 bytes 07 under SHA2-256: 47 bytes
-framed_sha2_256 : framed_input (hashed (replicate 32 7) (0x61 ∷ 0x62 ∷ []) (hash_oid 1))
-    ≡ 0x01 ∷ 0x02 ∷ 0x61 ∷ 0x62 ∷ 0x06 ∷ 0x09 ∷ 0x60 ∷ 0x86 ∷ 0x48 ∷ 0x01 ∷ 0x65 ∷ 0x03 ∷ 0x04 ∷ 0x02 ∷ 0x01 ∷ replicate 32 7
+framed_sha2_256 : framing (hashed (replicate 32 7) (0x61 ∷ 0x62 ∷ []) (hash_oid 1))
+    ≡ Some (0x01 ∷ 0x02 ∷ 0x61 ∷ 0x62 ∷ 0x06 ∷ 0x09 ∷ 0x60 ∷ 0x86 ∷ 0x48 ∷ 0x01 ∷ 0x65 ∷ 0x03 ∷ 0x04 ∷ 0x02 ∷ 0x01 ∷ replicate 32 7)
 framed_sha2_256 = refl
 
-framed_length : length (framed_input (hashed (replicate 32 7) (0x61 ∷ 0x62 ∷ []) (hash_oid 1))) ≡ 47
+framed_length : option_map length (framing (hashed (replicate 32 7) (0x61 ∷ 0x62 ∷ []) (hash_oid 1))) ≡ Some 47
 framed_length = refl
 
 -- the twelve hashes by last byte, and no other
@@ -112,10 +113,20 @@ digests_of_others : map (λ n. pre_hash_fault (replicate n 0) (0x06 ∷ 0x03 ∷
 unfolding pre_hash_fault digest_length hashes
 digests_of_others = refl
 
--- the context stands before all of these
+-- the context stands before all of these; M' and mu have no condition
 long_contexts : (input_fault (plain [] (replicate 255 0)) ∷ input_fault (plain [] (replicate 256 0)) ∷ input_fault (hashed [] (replicate 255 0) []) ∷ input_fault (hashed [] (replicate 256 0) []) ∷ []) ≡ None ∷ Some SignCtx ∷ Some OidEmpty ∷ Some HashCtx ∷ []
 unfolding pre_hash_fault
 long_contexts = refl
+
+no_conditions : (input_fault (framed (replicate 256 0)) ≡ None) × (input_fault (represented []) ≡ None)
+no_conditions = (refl, refl)
+
+-- a refusal stands before what is signed, which else is mu
+signed_inputs : (H G : List ℕ → List ℕ) (sk : PrivateParts) (rnd : List ℕ) → (sign_input set_44 H G sk rnd (plain [] (replicate 256 0)) ≡ Err SignCtx)
+    × (sign_input set_44 H G sk rnd (hashed [] [] []) ≡ Err OidEmpty)
+    × (sign_input set_44 H G sk rnd (plain (3 ∷ []) (1 ∷ 2 ∷ [])) ≡ sign set_44 H G sk (take 64 (H (sk.tr ++ 0 ∷ 2 ∷ 1 ∷ 2 ∷ 3 ∷ []))) rnd)
+unfolding pre_hash_fault
+signed_inputs H G sk rnd = (refl, refl, refl)
 
 digest_before_identifier : input_fault (hashed (replicate 32 0) [] (hash_oid 0x01)) ≡ None
 unfolding pre_hash_fault digest_length hashes
@@ -157,9 +168,13 @@ seeds_of_65 : option_map {U = List ℤ × List ℤ} (λ pair. (map (λ w. get_or
 unfolding numbered key_generation small_vectors key_pair sampled_matrix all_present matrix_entry kept_triples triple first_256 small_vector small_polynomial kept_half_bytes
 seeds_of_65 = refl
 
--- mu hashes tr before the framed message, and keeps 64 bytes
-hash_of_message : (message_hash (λ x. x) (1 ∷ 2 ∷ []) (3 ∷ []) ≡ 1 ∷ 2 ∷ 3 ∷ []) × (message_hash (λ x. x) (range_with_len 0 60) (range_with_len 60 9) ≡ range_with_len 0 64)
-hash_of_message = (refl, refl)
+-- mu hashes tr before M', and keeps 64 bytes; a message, and a digest after its OID, are framed first; mu itself stays
+representatives : (representative (λ x. x) (1 ∷ 2 ∷ []) (framed (3 ∷ [])) ≡ 1 ∷ 2 ∷ 3 ∷ []) × (representative (λ x. x) (range_with_len 0 60) (framed (range_with_len 60 9)) ≡ range_with_len 0 64)
+    × (representative (λ x. x) (5 ∷ []) (plain (3 ∷ []) (1 ∷ 2 ∷ [])) ≡ 5 ∷ 0 ∷ 2 ∷ 1 ∷ 2 ∷ 3 ∷ []) × (representative (λ x. x) (range_with_len 0 60) (plain (range_with_len 63 9) (62 ∷ [])) ≡ range_with_len 0 60 ++ 0 ∷ 1 ∷ 62 ∷ 63 ∷ [])
+    × (representative (λ x. x) (5 ∷ []) (hashed (3 ∷ []) (1 ∷ 2 ∷ []) (6 ∷ 1 ∷ 9 ∷ [])) ≡ 5 ∷ 1 ∷ 2 ∷ 1 ∷ 2 ∷ 6 ∷ 1 ∷ 9 ∷ 3 ∷ [])
+    × (representative (λ x. x) (range_with_len 0 60) (hashed (7 ∷ 8 ∷ []) (62 ∷ []) (6 ∷ [])) ≡ range_with_len 0 60 ++ 1 ∷ 1 ∷ 62 ∷ 6 ∷ [])
+    × (representative (λ x. x) (5 ∷ []) (represented (3 ∷ [])) ≡ 3 ∷ [])
+representatives = (refl, refl, refl, refl, refl, refl, refl)
 
 -- the seed of the masks hashes K, then the random bytes, then mu, and keeps 64 bytes
 seed_of_masks : (sk : PrivateParts) → (mask_seed (λ x. x) record sk { key = 1 ∷ [] } (2 ∷ []) (3 ∷ []) ≡ 1 ∷ 2 ∷ 3 ∷ [])
@@ -215,14 +230,3 @@ constant x = polynomial_of (λ n. if nat_eq n 0 then x else pos 0)
 challenge_times_part : w_minus_cs2 (constant (pos 5) ∷ []) (λ r n. 3) (constant (pos 2)) 0 0 ≡ 8380410
 unfolding constant polynomial_of product shifted sum_below
 challenge_times_part = refl
-
--- a message, and a digest after its OID
-framed_inputs : (framed_input (plain (3 ∷ []) (1 ∷ 2 ∷ [])) ≡ 0 ∷ 2 ∷ 1 ∷ 2 ∷ 3 ∷ []) × (framed_input (hashed (3 ∷ []) (1 ∷ 2 ∷ []) (6 ∷ 1 ∷ 9 ∷ [])) ≡ 1 ∷ 2 ∷ 1 ∷ 2 ∷ 6 ∷ 1 ∷ 9 ∷ 3 ∷ [])
-framed_inputs = (refl, refl)
-
--- a refusal stands before what signs, which else gets mu
-signed_inputs : (sign_input (λ x. x) (5 ∷ []) (λ mu. Ok mu) (plain [] (replicate 256 0)) ≡ Err SignCtx)
-    × (sign_input (λ x. x) (5 ∷ []) (λ mu. Ok mu) (hashed [] [] []) ≡ Err OidEmpty)
-    × (sign_input (λ x. x) (5 ∷ []) (λ mu. Ok mu) (plain (3 ∷ []) (1 ∷ 2 ∷ [])) ≡ Ok (5 ∷ 0 ∷ 2 ∷ 1 ∷ 2 ∷ 3 ∷ []))
-unfolding pre_hash_fault
-signed_inputs = (refl, refl, refl)

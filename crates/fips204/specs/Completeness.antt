@@ -5,23 +5,15 @@ use Rattle.fips204_base.specs.Encodings.{public_key_bytes, private_key_bytes}
 use Rattle.fips204.specs.ParameterSets.{ParameterSet, is_parameter_set}
 use Rattle.fips204.specs.Keys.{PublicParts, PrivateParts, ArePublicParts, ArePrivateParts, IsPublicKeyOf, IsPrivateKeyOf, IsWhole}
 use Rattle.fips204.specs.Framing.{Input}
-use Rattle.fips204.specs.Signing.{sign}
-use Rattle.fips204.specs.Acceptance.{Verifies}
-use Rattle.fips204.specs.Refusals.{generated, derived, sign_input, AcceptsInput}
+use Rattle.fips204.specs.Refusals.{generated, derived, sign_input, VerifiesInput}
 
--- the public key accepts what the private key signs, whatever the random bytes: a hash mu, and an input
-pub record AcceptsSigned (p : ParameterSet) (H G : List ℕ → List ℕ) (pk : PublicParts) (sk : PrivateParts) : Type 0 where
-  pub hashes : (mu rnd signature : List ℕ) → sign p H G sk mu rnd ≡ Ok signature → Verifies p H G pk mu signature
-  pub inputs : (rnd signature : List ℕ) (input : Input) → sign_input H sk.tr (λ mu. sign p H G sk mu rnd) input ≡ Ok signature
-      → AcceptsInput H pk.tr (λ mu. Verifies p H G pk mu signature) input
+-- the public key accepts what the private key signs, whatever the random bytes
+abbrev pub AcceptsSigned : ParameterSet → (List ℕ → List ℕ) → (List ℕ → List ℕ) → PublicParts → PrivateParts → Type 0
+AcceptsSigned p H G pk sk = (rnd signature : List ℕ) (input : Input) → sign_input p H G sk rnd input ≡ Ok signature → VerifiesInput p H G pk signature input
 
 -- what a signing call answers is accepted: where the private key is whole, by the public key that is derived of it
 abbrev pub AcceptedIfWhole : {P S : Type 0} → Type 0 → Result P Fault → (P → S → Type 0) → Result S Fault → Type 0
 AcceptedIfWhole {P} {S} whole derives accepts answer = (pk : P) (signature : S) → whole → derives ≡ Ok pk → answer ≡ Ok signature → accepts pk signature
-
--- the same of a private key's signature of a hash mu
-abbrev pub HashComplete : ParameterSet → (List ℕ → List ℕ) → (List ℕ → List ℕ) → PrivateParts → List ℕ → Result (List ℕ) Fault → Type 0
-HashComplete p H G sk mu answer = AcceptedIfWhole (IsWhole p G sk) (derived p G sk) (λ pk signature. Verifies p H G pk mu signature) answer
 
 -- decoding a key's bytes answers that key and nothing else
 abbrev pub DecodesAlone : {K B : Type 0} → (B → Result K Fault → Type 0) → B → K → Type 0

@@ -1,25 +1,26 @@
--- Framing, the hash of a framed message, and the conditions on a digest (FIPS 204, Algorithms 2 to 5, 7 and 8, section 5.4).
+-- What is signed, its hash mu, and the conditions on a digest (FIPS 204, Algorithms 2 to 5, 7 and 8, section 5.4).
 use Rattle.std.specs.Prelude.{ℕ, List, ◌∷◌, ◌++◌, length, take, ◌+◌, [], Bool, false, ◌&&◌, not, nat_eq, nat_lt, nat_le, bytes_eq, find, Option, Some, None, option_map, slice_index, if◌then◌else◌}
 use Rattle.fips204_base.specs.declared.fault.Fault.{Fault}
 use Rattle.fips204_base.specs.declared.fault.Fault.TheVariants.{OidEmpty, OidNotDer, DigestTooLong, DigestLength}
 
--- what is signed under a context: a message, or the OID of a hash with a digest
+-- what is signed: a message, or a digest with the OID of its hash, under a context; M' itself; or mu itself
 pub data Input : Type 0 where
   plain : (message context : List ℕ) → Input
   hashed : (digest context oid : List ℕ) → Input
+  framed : (m : List ℕ) → Input
+  represented : (mu : List ℕ) → Input
 
--- M': byte 0, or 1 for a digest, a byte of the context's length, the context, and the message, or the OID and the digest
-abbrev pub framed_input : Input → List ℕ
-framed_input (plain message context) = 0 ∷ length context ∷ context ++ message
-framed_input (hashed digest context oid) = 1 ∷ length context ∷ context ++ oid ++ digest
+-- M': the mode, a byte of the context's length, the context, and the text
+abbrev pub frame : ℕ → List ℕ → List ℕ → List ℕ
+frame mode context text = mode ∷ length context ∷ context ++ text
 
--- M' of a message and a context
-abbrev pub framed : List ℕ → List ℕ → List ℕ
-framed message context = framed_input (plain message context)
-
--- mu, the first 64 bytes of H over tr and M'
-abbrev pub message_hash : (List ℕ → List ℕ) → List ℕ → List ℕ → List ℕ
-message_hash H tr m = take 64 (H (tr ++ m))
+-- mu, the message representative (line 6 of Algorithm 7): the first 64 bytes of H over tr and M'; a message is framed in mode 0,
+-- and the OID with the digest in mode 1
+abbrev pub representative : (List ℕ → List ℕ) → List ℕ → Input → List ℕ
+representative H tr (plain message context) = take 64 (H (tr ++ frame 0 context message))
+representative H tr (hashed digest context oid) = take 64 (H (tr ++ frame 1 context (oid ++ digest)))
+representative H tr (framed m) = take 64 (H (tr ++ m))
+representative H tr (represented mu) = mu
 
 -- the last byte of the OID of each of the twelve hashes, with the bytes of its digest: SHA2-256, -384, -512, -224,
 -- -512/224 and -512/256; SHA3-224, -256, -384 and -512; SHAKE128 and SHAKE256

@@ -10,10 +10,8 @@ use Rattle.fips204_base.specs.Streams.{counter_blocks, sha256_front, sha256_long
 use Rattle.fips204_base.specs.Sampling.{matrix_entry, sampled_matrix, small_polynomial, challenge}
 use Rattle.fips204.specs.ParameterSets.{ParameterSet, is_parameter_set, commitment_length}
 use Rattle.fips204.specs.Keys.{PublicParts, PrivateParts, IsPublicKeyOf}
-use Rattle.fips204.specs.Framing.{Input, message_hash}
-use Rattle.fips204.specs.Signing.{sign}
-use Rattle.fips204.specs.Acceptance.{Verifies}
-use Rattle.fips204.specs.Refusals.{generated, derived, input_fault, sign_input, AcceptsInput}
+use Rattle.fips204.specs.Framing.{Input}
+use Rattle.fips204.specs.Refusals.{generated, derived, input_fault, sign_input, VerifiesInput}
 use Rattle.fips204.specs.Prepared.{prepared_private, prepared_public}
 
 -- fronts in counter mode are prefixes of those with more blocks, so those of each two streams of the library that differ in
@@ -34,18 +32,13 @@ pub record SamplesStay (H G H' G' : List ℕ → List ℕ) : Type 0 where
 abbrev pub Stays : {A : Type 0} → Result A Fault → Result A Fault → Type 0
 Stays answer longer = answer ≢ Err SamplingLimit → longer ≡ answer
 
--- the answers of key generation, of the public key of a private key, of preparing, and of signing: a hash mu, a framed message,
--- and an input
+-- the answers of key generation, of the public key of a private key, of preparing, and of signing
 pub record AnswersStay (p : ParameterSet) (H G H' G' : List ℕ → List ℕ) : Type 0 where
   pub key_pairs : (xi : List ℕ) → Stays (generated p H G xi) (generated p H' G' xi)
   pub public_keys : (sk : PrivateParts) → Stays (derived p G sk) (derived p G' sk)
   pub prepared_private_keys : (sk : PrivateParts) → Stays (prepared_private p G sk) (prepared_private p G' sk)
   pub prepared_public_keys : (pk : PublicParts) → Stays (prepared_public p G pk) (prepared_public p G' pk)
-  pub hashes : (sk : PrivateParts) (mu rnd : List ℕ) → Stays (sign p H G sk mu rnd) (sign p H' G' sk mu rnd)
-  pub framed : (sk : PrivateParts) (m rnd : List ℕ)
-      → Stays (sign p H G sk (message_hash H sk.tr m) rnd) (sign p H' G' sk (message_hash H' sk.tr m) rnd)
-  pub inputs : (sk : PrivateParts) (rnd : List ℕ) (input : Input)
-      → Stays (sign_input H sk.tr (λ mu. sign p H G sk mu rnd) input) (sign_input H' sk.tr (λ mu. sign p H' G' sk mu rnd) input)
+  pub inputs : (sk : PrivateParts) (rnd : List ℕ) (input : Input) → Stays (sign_input p H G sk rnd input) (sign_input p H' G' sk rnd input)
 
 -- what decides a verdict whatever the fronts are longer by: the matrix of the public key is there, and so is the challenge of the
 -- first bytes of the signature; or the signature has no parts with a small z
@@ -60,16 +53,10 @@ pub record YesAndNoStay (decided yes longer_yes : Type 0) : Type 0 where
   pub yes_stays : yes → longer_yes
   pub no_stays : decided → (yes ↔ longer_yes)
 
--- the answers of verifying: a hash mu, a framed message, and an input, whose no for a broken condition stays; and the public key
--- that bytes decode to
+-- the answers of verifying, where a no for a broken condition stays too; and the public key that bytes decode to
 pub record AcceptanceStays (p : ParameterSet) (H G H' G' : List ℕ → List ℕ) : Type 0 where
-  pub hashes : (pk : PublicParts) (mu signature : List ℕ)
-      → YesAndNoStay (IsDecided p H G pk signature) (Verifies p H G pk mu signature) (Verifies p H' G' pk mu signature)
-  pub framed : (pk : PublicParts) (m signature : List ℕ)
-      → YesAndNoStay (IsDecided p H G pk signature) (Verifies p H G pk (message_hash H pk.tr m) signature) (Verifies p H' G' pk (message_hash H' pk.tr m) signature)
   pub inputs : (pk : PublicParts) (signature : List ℕ) (input : Input)
-      → YesAndNoStay (IsDecided p H G pk signature ⊎ (input_fault input ≢ None))
-      (AcceptsInput H pk.tr (λ mu. Verifies p H G pk mu signature) input) (AcceptsInput H' pk.tr (λ mu. Verifies p H' G' pk mu signature) input)
+      → YesAndNoStay (IsDecided p H G pk signature ⊎ (input_fault input ≢ None)) (VerifiesInput p H G pk signature input) (VerifiesInput p H' G' pk signature input)
   pub decoded : (bytes : List ℕ) (pk : PublicParts) → IsPublicKeyOf H p.k bytes pk → IsPublicKeyOf H' p.k bytes pk
 
 -- where each front of H and G is a prefix of the matching front of H' and G': samples stay, and at each of the three sets

@@ -1,15 +1,15 @@
 -- Keys that are prepared once: a key with the matrix of its seed, and whole calls with the kept matrix (FIPS 204, Algorithms 2 to 8).
-use Rattle.std.specs.Prelude.{◌≡◌, ◌<◌, ◌↔◌, ℕ, List, [], length, slice_index_or, Bool, false, IsTrue, Result, Ok, Err, ok_or, option_map}
+use Rattle.std.specs.Prelude.{◌≡◌, ◌<◌, ◌↔◌, ℕ, List, [], length, slice_index_or, Bool, false, IsTrue, None, Result, Ok, Err, ok_or, option_map}
 use Rattle.fips204_base.specs.declared.fault.Fault.{Fault}
 use Rattle.fips204_base.specs.declared.fault.Fault.TheVariants.{SamplingLimit}
 use Rattle.fips204_base.specs.declared.types.T.{T}
 use Rattle.fips204_base.specs.Sampling.{sampled_matrix}
 use Rattle.fips204.specs.ParameterSets.{ParameterSet}
 use Rattle.fips204.specs.Keys.{PublicParts, PrivateParts, high_part, low_part, IsWhole}
-use Rattle.fips204.specs.Framing.{Input, plain, hashed}
-use Rattle.fips204.specs.Signing.{sign, sign_with}
-use Rattle.fips204.specs.Acceptance.{Accepts, Verifies}
-use Rattle.fips204.specs.Refusals.{derived, sign_input, AcceptsInput, sign_message, VerifiesMessage}
+use Rattle.fips204.specs.Framing.{Input, plain, representative}
+use Rattle.fips204.specs.Signing.{sign_with}
+use Rattle.fips204.specs.Acceptance.{Accepts}
+use Rattle.fips204.specs.Refusals.{derived, refused_or, input_fault, sign_input, VerifiesInput}
 
 -- a key's parts and a matrix
 pub record PreparedPrivate : Type 0 where
@@ -27,24 +27,12 @@ prepared_private p G sk = ok_or (option_map (λ a. record { parts = sk; matrix =
 abbrev pub prepared_public : ParameterSet → (List ℕ → List ℕ) → PublicParts → Result PreparedPublic Fault
 prepared_public p G pk = ok_or (option_map (λ a. record { parts = pk; matrix = a }) (sampled_matrix G pk.rho p.k p.l)) SamplingLimit
 
--- signing and verifying with the kept matrix: a hash mu, a message under its context, and a digest under its context and OID
-abbrev pub sign_prepared : ParameterSet → (List ℕ → List ℕ) → PreparedPrivate → List ℕ → List ℕ → Result (List ℕ) Fault
-sign_prepared p H sk mu rnd = sign_with p H sk.matrix sk.parts mu rnd
+-- signing and verifying an input with the kept matrix
+abbrev pub sign_prepared : ParameterSet → (List ℕ → List ℕ) → PreparedPrivate → List ℕ → Input → Result (List ℕ) Fault
+sign_prepared p H sk rnd input = refused_or (input_fault input) (sign_with p H sk.matrix sk.parts (representative H sk.parts.tr input) rnd)
 
-abbrev pub sign_message_prepared : ParameterSet → (List ℕ → List ℕ) → PreparedPrivate → List ℕ → List ℕ → List ℕ → Result (List ℕ) Fault
-sign_message_prepared p H sk rnd message context = sign_input H sk.parts.tr (λ mu. sign_prepared p H sk mu rnd) (plain message context)
-
-abbrev pub sign_digest_prepared : ParameterSet → (List ℕ → List ℕ) → PreparedPrivate → List ℕ → List ℕ → List ℕ → List ℕ → Result (List ℕ) Fault
-sign_digest_prepared p H sk rnd digest context oid = sign_input H sk.parts.tr (λ mu. sign_prepared p H sk mu rnd) (hashed digest context oid)
-
-abbrev pub VerifiesPrepared : ParameterSet → (List ℕ → List ℕ) → PreparedPublic → List ℕ → List ℕ → Type 0
-VerifiesPrepared p H pk mu signature = Accepts p H pk.matrix pk.parts.t1 mu signature
-
-abbrev pub VerifiesMessagePrepared : ParameterSet → (List ℕ → List ℕ) → PreparedPublic → List ℕ → List ℕ → List ℕ → Type 0
-VerifiesMessagePrepared p H pk message signature context = AcceptsInput H pk.parts.tr (λ mu. VerifiesPrepared p H pk mu signature) (plain message context)
-
-abbrev pub VerifiesDigestPrepared : ParameterSet → (List ℕ → List ℕ) → PreparedPublic → List ℕ → List ℕ → List ℕ → List ℕ → Type 0
-VerifiesDigestPrepared p H pk digest signature context oid = AcceptsInput H pk.parts.tr (λ mu. VerifiesPrepared p H pk mu signature) (hashed digest context oid)
+abbrev pub VerifiesPrepared : ParameterSet → (List ℕ → List ℕ) → PreparedPublic → List ℕ → Input → Type 0
+VerifiesPrepared p H pk signature input = (input_fault input ≡ None) × Accepts p H pk.matrix pk.parts.t1 (representative H pk.parts.tr input) signature
 
 -- random bytes and an answer for each message: what signs gives for these and the message
 abbrev pub IsEachSigned : (List ℕ → List ℕ → Result (List ℕ) Fault) → List (List ℕ) → List (List ℕ) → List (Result (List ℕ) Fault) → Type 0
@@ -67,23 +55,19 @@ public_of_prepared p sk = record { parts = record { rho = sk.parts.rho; tr = sk.
 abbrev pub AcceptedIfWholePrepared : ParameterSet → PreparedPrivate → (PreparedPublic → List ℕ → Type 0) → Result (List ℕ) Fault → Type 0
 AcceptedIfWholePrepared p sk accepts answer = (signature : List ℕ) → IsWholePrepared p sk → answer ≡ Ok signature → accepts (public_of_prepared p sk) signature
 
--- a prepared key answers as its plain key: over a hash mu, an input, and lists of messages; it is whole if and only if the plain
--- key is; and preparing a derived public key gives the public key that belongs to it
+-- a prepared key answers as its plain key: over an input, and lists of messages; it is whole if and only if the plain key is; and
+-- preparing a derived public key gives the public key that belongs to it
 pub record PreparedAnswersAsPlain (p : ParameterSet) (H G : List ℕ → List ℕ) : Type 0 where
-  pub sign_hash : (sk : PrivateParts) (prepared : PreparedPrivate) (mu rnd : List ℕ) → prepared_private p G sk ≡ Ok prepared
-      → sign_prepared p H prepared mu rnd ≡ sign p H G sk mu rnd
   pub sign_inputs : (sk : PrivateParts) (prepared : PreparedPrivate) (rnd : List ℕ) (input : Input) → prepared_private p G sk ≡ Ok prepared
-      → sign_input H prepared.parts.tr (λ mu. sign_prepared p H prepared mu rnd) input ≡ sign_input H sk.tr (λ mu. sign p H G sk mu rnd) input
+      → sign_prepared p H prepared rnd input ≡ sign_input p H G sk rnd input
   pub sign_lists : (sk : PrivateParts) (prepared : PreparedPrivate) (seeds messages : List (List ℕ)) (context : List ℕ) (answers : List (Result (List ℕ) Fault))
-      → prepared_private p G sk ≡ Ok prepared → IsEachSigned (λ rnd message. sign_message_prepared p H prepared rnd message context) seeds messages answers
-      → IsEachSigned (λ rnd message. sign_message p H G sk rnd message context) seeds messages answers
-  pub verify_hash : (pk : PublicParts) (prepared : PreparedPublic) (mu signature : List ℕ) → prepared_public p G pk ≡ Ok prepared
-      → VerifiesPrepared p H prepared mu signature ↔ Verifies p H G pk mu signature
+      → prepared_private p G sk ≡ Ok prepared → IsEachSigned (λ rnd message. sign_prepared p H prepared rnd (plain message context)) seeds messages answers
+      → IsEachSigned (λ rnd message. sign_input p H G sk rnd (plain message context)) seeds messages answers
   pub verify_inputs : (pk : PublicParts) (prepared : PreparedPublic) (signature : List ℕ) (input : Input) → prepared_public p G pk ≡ Ok prepared
-      → AcceptsInput H prepared.parts.tr (λ mu. VerifiesPrepared p H prepared mu signature) input ↔ AcceptsInput H pk.tr (λ mu. Verifies p H G pk mu signature) input
+      → VerifiesPrepared p H prepared signature input ↔ VerifiesInput p H G pk signature input
   pub verify_lists : (pk : PublicParts) (prepared : PreparedPublic) (messages signatures : List (List ℕ)) (context : List ℕ) (answers : List Bool)
-      → prepared_public p G pk ≡ Ok prepared → IsEachJudged (λ message signature. VerifiesMessagePrepared p H prepared message signature context) messages signatures answers
-      → IsEachJudged (λ message signature. VerifiesMessage p H G pk message signature context) messages signatures answers
+      → prepared_public p G pk ≡ Ok prepared → IsEachJudged (λ message signature. VerifiesPrepared p H prepared signature (plain message context)) messages signatures answers
+      → IsEachJudged (λ message signature. VerifiesInput p H G pk signature (plain message context)) messages signatures answers
   pub whole : (sk : PrivateParts) (prepared : PreparedPrivate) → prepared_private p G sk ≡ Ok prepared → IsWholePrepared p prepared ↔ IsWhole p G sk
   pub public_key : (sk : PrivateParts) (prepared : PreparedPrivate) (pk : PublicParts) → prepared_private p G sk ≡ Ok prepared → derived p G sk ≡ Ok pk
       → prepared_public p G pk ≡ Ok (public_of_prepared p prepared)

@@ -1,10 +1,10 @@
--- Whole calls, with their refusals in order (FIPS 204, Algorithms 1 to 5).
+-- Whole calls, with their refusals in order (FIPS 204, Algorithms 1 to 5, 7 and 8).
 use Rattle.std.specs.Prelude.{◌≡◌, ◌⊎◌, ℕ, List, length, nat_lt, Option, Some, None, Result, Err, IfErr, ok_or, Bool, true, false, replicate, if◌then◌else◌}
 use Rattle.fips204_base.specs.declared.fault.Fault.{Fault}
 use Rattle.fips204_base.specs.declared.fault.Fault.TheVariants.{SignCtx, HashCtx, SamplingLimit, TooManyAttempts}
 use Rattle.fips204.specs.ParameterSets.{ParameterSet}
 use Rattle.fips204.specs.Keys.{PublicParts, PrivateParts, key_generation, public_key_of}
-use Rattle.fips204.specs.Framing.{Input, plain, hashed, framed_input, message_hash, pre_hash_fault}
+use Rattle.fips204.specs.Framing.{Input, plain, hashed, framed, represented, representative, pre_hash_fault}
 use Rattle.fips204.specs.Signing.{sign}
 use Rattle.fips204.specs.Acceptance.{Verifies}
 
@@ -13,19 +13,13 @@ abbrev pub refused_or : {A : Type 0} → Option Fault → Result A Fault → Res
 refused_or None answer = answer
 refused_or (Some fault) answer = Err fault
 
--- the first condition that an input breaks, or none: a context of at most 255 bytes, and then the conditions on digest and OID
+-- the first condition that an input breaks, or none: a context of at most 255 bytes, and then the conditions on digest and OID;
+-- M' and mu have none
 abbrev pub input_fault : Input → Option Fault
 input_fault (plain message context) = if nat_lt 255 (length context) then Some SignCtx else None
 input_fault (hashed digest context oid) = if nat_lt 255 (length context) then Some HashCtx else pre_hash_fault digest oid
-
--- signing an input, where signs is what signs mu
-abbrev pub sign_input : (List ℕ → List ℕ) → List ℕ → (List ℕ → Result (List ℕ) Fault) → Input → Result (List ℕ) Fault
-sign_input H tr signs input = refused_or (input_fault input) (signs (message_hash H tr (framed_input input)))
-
--- verifying an input, where accepts is what accepts mu
-pub record AcceptsInput (H : List ℕ → List ℕ) (tr : List ℕ) (accepts : List ℕ → Type 0) (input : Input) : Type 0 where
-  pub allowed : input_fault input ≡ None
-  pub accepted : accepts (message_hash H tr (framed_input input))
+input_fault (framed m) = None
+input_fault (represented mu) = None
 
 -- ML-DSA.KeyGen (Algorithm 1) from the seed xi
 abbrev pub generated : ParameterSet → (List ℕ → List ℕ) → (List ℕ → List ℕ) → List ℕ → Result (PublicParts × PrivateParts) Fault
@@ -35,21 +29,14 @@ generated p H G xi = ok_or (key_generation p H G xi) SamplingLimit
 abbrev pub derived : ParameterSet → (List ℕ → List ℕ) → PrivateParts → Result PublicParts Fault
 derived p G sk = ok_or (public_key_of p G sk) SamplingLimit
 
--- ML-DSA.Sign (Algorithm 2) from rnd
-abbrev pub sign_message : ParameterSet → (List ℕ → List ℕ) → (List ℕ → List ℕ) → PrivateParts → List ℕ → List ℕ → List ℕ → Result (List ℕ) Fault
-sign_message p H G sk rnd message context = sign_input H sk.tr (λ mu. sign p H G sk mu rnd) (plain message context)
+-- signing an input from rnd: ML-DSA.Sign (Algorithm 2) of a message, HashML-DSA.Sign (Algorithm 4) of a digest,
+-- ML-DSA.Sign_internal (Algorithm 7) of M'
+abbrev pub sign_input : ParameterSet → (List ℕ → List ℕ) → (List ℕ → List ℕ) → PrivateParts → List ℕ → Input → Result (List ℕ) Fault
+sign_input p H G sk rnd input = refused_or (input_fault input) (sign p H G sk (representative H sk.tr input) rnd)
 
--- HashML-DSA.Sign (Algorithm 4) from rnd and the digest
-abbrev pub sign_digest : ParameterSet → (List ℕ → List ℕ) → (List ℕ → List ℕ) → PrivateParts → List ℕ → List ℕ → List ℕ → List ℕ → Result (List ℕ) Fault
-sign_digest p H G sk rnd digest context oid = sign_input H sk.tr (λ mu. sign p H G sk mu rnd) (hashed digest context oid)
-
--- ML-DSA.Verify (Algorithm 3)
-abbrev pub VerifiesMessage : ParameterSet → (List ℕ → List ℕ) → (List ℕ → List ℕ) → PublicParts → List ℕ → List ℕ → List ℕ → Type 0
-VerifiesMessage p H G pk message signature context = AcceptsInput H pk.tr (λ mu. Verifies p H G pk mu signature) (plain message context)
-
--- HashML-DSA.Verify (Algorithm 5), from the digest
-abbrev pub VerifiesDigest : ParameterSet → (List ℕ → List ℕ) → (List ℕ → List ℕ) → PublicParts → List ℕ → List ℕ → List ℕ → List ℕ → Type 0
-VerifiesDigest p H G pk digest signature context oid = AcceptsInput H pk.tr (λ mu. Verifies p H G pk mu signature) (hashed digest context oid)
+-- a signature of an input is accepted (Algorithms 3, 5 and 8): the input breaks no condition, and its mu is accepted
+abbrev pub VerifiesInput : ParameterSet → (List ℕ → List ℕ) → (List ℕ → List ℕ) → PublicParts → List ℕ → Input → Type 0
+VerifiesInput p H G pk signature input = (input_fault input ≡ None) × Verifies p H G pk (representative H pk.tr input) signature
 
 -- an answer's one refusal is that a sampler reached its limit
 abbrev pub OnlySamplingLimit : {A : Type 0} → Result A Fault → Type 0

@@ -1,6 +1,6 @@
 -- What rounding, hints, challenges and spellings promise to signing and verifying (FIPS 204, sections 2.3 and 7.4), and what a
 -- framed message and a signature determine (Algorithms 2 to 5 and 8).
-use Rattle.std.specs.Prelude.{◌≡◌, ◌⊎◌, ◌<◌, ◌≤◌, ℕ, ◌+◌, ◌-◌, ◌*◌, ◌%◌, List, pos, ◌-ℤ◌, nat_abs, true, false, length, Some, ◌≢◌, ◌++◌, take, None, IsTrue}
+use Rattle.std.specs.Prelude.{◌≡◌, ◌⊎◌, ◌<◌, ◌≤◌, ℕ, ◌+◌, ◌-◌, ◌*◌, ◌%◌, List, pos, ◌-ℤ◌, nat_abs, true, false, length, Some, ◌≢◌, ◌++◌, take, Option, None, Bool, IsTrue}
 use Rattle.fips204_base.specs.Encodings.{IsSignature, Spells, all_ones, hint_bytes}
 use Rattle.fips204_base.specs.Packing.{width}
 use Rattle.fips204_base.specs.Residues.{centred, norm, coefficients}
@@ -10,11 +10,11 @@ use Rattle.fips204_base.specs.Transforms.{product}
 use Rattle.fips204_base.specs.Vectors.{IsVector, polynomial_of}
 use Rattle.fips204_base.specs.declared.types.R.{R}
 use Rattle.fips204_base.specs.declared.types.T.{T}
-use Rattle.fips204.specs.Acceptance.{Opens, Verifies}
-use Rattle.fips204.specs.Framing.{Input, framed, framed_input, message_hash}
+use Rattle.fips204.specs.Acceptance.{Opens}
+use Rattle.fips204.specs.Framing.{Input, plain, hashed, framed, represented, frame, representative}
 use Rattle.fips204.specs.Keys.{PublicParts, IsPublicKeyOf}
 use Rattle.fips204.specs.ParameterSets.{ParameterSet, is_parameter_set, commitment_length}
-use Rattle.fips204.specs.Refusals.{input_fault, AcceptsInput, VerifiesMessage}
+use Rattle.fips204.specs.Refusals.{input_fault, VerifiesInput}
 
 -- with the hint of z the high bits of r become those of r + z, where z is at most gamma2 in absolute value
 abbrev pub HintGivesHighBits : Type 0
@@ -57,9 +57,23 @@ HintHasOneSpelling =
     × ((first second : List ℕ) → Spells omega' k h first → Spells omega' k h second → first ≡ second)
     × ((other : List R) (bytes : List ℕ) → Spells omega' k h bytes → Spells omega' k other bytes → h ≡ other)
 
--- inputs that break no condition have the same M' only if they are the same, mode and part by part
+-- whether an input is framed when it is signed: a message or a digest, under a context
+abbrev pub has_context : Input → Bool
+has_context (plain message context) = true
+has_context (hashed digest context oid) = true
+has_context (framed m) = false
+has_context (represented mu) = false
+
+-- M' of an input; none where mu alone is given
+abbrev pub framing : Input → Option (List ℕ)
+framing (plain message context) = Some (frame 0 context message)
+framing (hashed digest context oid) = Some (frame 1 context (oid ++ digest))
+framing (framed m) = Some m
+framing (represented mu) = None
+
+-- messages and digests that break no condition have the same M' only if they are the same, mode and part by part
 abbrev pub FramingIsOneToOne : Type 0
-FramingIsOneToOne = (x y : Input) → input_fault x ≡ None → input_fault y ≡ None → framed_input x ≡ framed_input y → x ≡ y
+FramingIsOneToOne = (x y : Input) → IsTrue (has_context x) → IsTrue (has_context y) → input_fault x ≡ None → input_fault y ≡ None → framing x ≡ framing y → x ≡ y
 
 -- two inputs of a stream that differ and have the same first n bytes
 pub record Collide (H : List ℕ → List ℕ) (n : ℕ) (x y : List ℕ) : Type 0 where
@@ -85,28 +99,19 @@ pub record NamesCollision (p : ParameterSet) (H G : List ℕ → List ℕ) (pk :
   pub w1 : List ℕ
   pub fixed : Fixes p H G pk signature w1
   pub collide : Collide H 64 (pk.tr ++ m) (pk.tr ++ n)
-      ⊎ Collide H (commitment_length p) (message_hash H pk.tr m ++ w1) (message_hash H pk.tr n ++ w1)
+      ⊎ Collide H (commitment_length p) (representative H pk.tr (framed m) ++ w1) (representative H pk.tr (framed n) ++ w1)
 
--- one signature that a key accepts for two different M' names a collision
-abbrev pub SignatureBindsMessage : Type 0
-SignatureBindsMessage =
-    (p : ParameterSet) (H G : List ℕ → List ℕ) (pk : PublicParts) (m n signature : List ℕ) → IsTrue (is_parameter_set p) → m ≢ n
-    → Verifies p H G pk (message_hash H pk.tr m) signature → Verifies p H G pk (message_hash H pk.tr n) signature
-    → NamesCollision p H G pk signature m n
+-- two inputs can be told apart by their M', m and n: both are messages or digests, or both are M'
+pub record AreFramedAlike (x y : Input) (m n : List ℕ) : Type 0 where
+  pub kind : has_context x ≡ has_context y
+  pub first : framing x ≡ Some m
+  pub second : framing y ≡ Some n
 
--- so does one signature that a key accepts for two different inputs: messages or digests under their contexts
+-- one signature that a key accepts for two different inputs names a collision of their M'
 abbrev pub SignatureBindsInput : Type 0
 SignatureBindsInput =
-    (p : ParameterSet) (H G : List ℕ → List ℕ) (pk : PublicParts) (x y : Input) (signature : List ℕ) → IsTrue (is_parameter_set p) → x ≢ y
-    → AcceptsInput H pk.tr (λ mu. Verifies p H G pk mu signature) x → AcceptsInput H pk.tr (λ mu. Verifies p H G pk mu signature) y
-    → NamesCollision p H G pk signature (framed_input x) (framed_input y)
-
--- so do two different messages under one context
-abbrev pub SignatureBindsText : Type 0
-SignatureBindsText =
-    (p : ParameterSet) (H G : List ℕ → List ℕ) (pk : PublicParts) (context first second signature : List ℕ) → IsTrue (is_parameter_set p)
-    → first ≢ second → VerifiesMessage p H G pk first signature context → VerifiesMessage p H G pk second signature context
-    → NamesCollision p H G pk signature (framed first context) (framed second context)
+    (p : ParameterSet) (H G : List ℕ → List ℕ) (pk : PublicParts) (x y : Input) (m n signature : List ℕ) → IsTrue (is_parameter_set p)
+    → AreFramedAlike x y m n → x ≢ y → VerifiesInput p H G pk signature x → VerifiesInput p H G pk signature y → NamesCollision p H G pk signature m n
 
 -- under two keys with these bytes two M' name a collision: of the bytes in tr; of the two M', each after its tr, in mu; or of the two
 -- mu, each before the w1 that the signature fixes under its key, in c_tilde
@@ -116,23 +121,15 @@ pub record NamesKeyCollision (p : ParameterSet) (H G : List ℕ → List ℕ) (b
   pub other_w1 : List ℕ
   pub other_fixed : Fixes p H G other signature other_w1
   pub collide : Collide H 64 bytes others ⊎ (Collide H 64 (pk.tr ++ m) (other.tr ++ n)
-      ⊎ Collide H (commitment_length p) (message_hash H pk.tr m ++ w1) (message_hash H other.tr n ++ other_w1))
+      ⊎ Collide H (commitment_length p) (representative H pk.tr (framed m) ++ w1) (representative H other.tr (framed n) ++ other_w1))
 
--- one signature that two keys accept, each read from its bytes, is accepted for one M' under one key, or names a collision
+-- one signature that two keys accept, each read from its bytes, is accepted for one input under one key, or names a collision
 abbrev pub SignatureBindsKey : Type 0
 SignatureBindsKey =
-    (p : ParameterSet) (H G : List ℕ → List ℕ) (bytes others : List ℕ) (pk other : PublicParts) (m n signature : List ℕ) → IsTrue (is_parameter_set p)
+    (p : ParameterSet) (H G : List ℕ → List ℕ) (bytes others : List ℕ) (pk other : PublicParts) (x y : Input) (m n signature : List ℕ) → IsTrue (is_parameter_set p)
     → ((x : List ℕ) → 4096 ≤ length (H x)) → IsPublicKeyOf H p.k bytes pk → IsPublicKeyOf H p.k others other
-    → Verifies p H G pk (message_hash H pk.tr m) signature → Verifies p H G other (message_hash H other.tr n) signature
-    → ((pk ≡ other) × (m ≡ n)) ⊎ NamesKeyCollision p H G bytes others pk other signature m n
-
--- so is one signature that two keys accept for inputs
-abbrev pub SignatureBindsKeyAndInput : Type 0
-SignatureBindsKeyAndInput =
-    (p : ParameterSet) (H G : List ℕ → List ℕ) (bytes others : List ℕ) (pk other : PublicParts) (x y : Input) (signature : List ℕ) → IsTrue (is_parameter_set p)
-    → ((x : List ℕ) → 4096 ≤ length (H x)) → IsPublicKeyOf H p.k bytes pk → IsPublicKeyOf H p.k others other
-    → AcceptsInput H pk.tr (λ mu. Verifies p H G pk mu signature) x → AcceptsInput H other.tr (λ mu. Verifies p H G other mu signature) y
-    → ((pk ≡ other) × (x ≡ y)) ⊎ NamesKeyCollision p H G bytes others pk other signature (framed_input x) (framed_input y)
+    → AreFramedAlike x y m n → VerifiesInput p H G pk signature x → VerifiesInput p H G other signature y
+    → ((pk ≡ other) × (x ≡ y)) ⊎ NamesKeyCollision p H G bytes others pk other signature m n
 
 -- two signatures under a key name a collision of one mu, before the w1 that each of them fixes, in c_tilde
 pub record NamesHintCollision (p : ParameterSet) (H G : List ℕ → List ℕ) (pk : PublicParts) (mu first second : List ℕ) : Type 0 where
@@ -142,9 +139,9 @@ pub record NamesHintCollision (p : ParameterSet) (H G : List ℕ → List ℕ) (
   pub other_fixed : Fixes p H G pk second other_w1
   pub collide : Collide H (commitment_length p) (mu ++ w1) (mu ++ other_w1)
 
--- so do two different signatures that a key accepts for one mu, if they are the same up to their hints
+-- so do two different signatures that a key accepts for one input, if they are the same up to their hints
 abbrev pub OtherHintCollides : Type 0
 OtherHintCollides =
-    (p : ParameterSet) (H G : List ℕ → List ℕ) (pk : PublicParts) (mu first second : List ℕ) → IsTrue (is_parameter_set p) → first ≢ second
+    (p : ParameterSet) (H G : List ℕ → List ℕ) (pk : PublicParts) (input : Input) (first second : List ℕ) → IsTrue (is_parameter_set p) → first ≢ second
     → take (commitment_length p + 32 * width (pos (p.gamma1 - 1)) (pos p.gamma1) * p.l) first ≡ take (commitment_length p + 32 * width (pos (p.gamma1 - 1)) (pos p.gamma1) * p.l) second
-    → Verifies p H G pk mu first → Verifies p H G pk mu second → NamesHintCollision p H G pk mu first second
+    → VerifiesInput p H G pk first input → VerifiesInput p H G pk second input → NamesHintCollision p H G pk (representative H pk.tr input) first second

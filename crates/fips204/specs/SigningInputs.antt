@@ -7,7 +7,7 @@ use Rattle.fips204_base.specs.Vectors.{PolynomialWithin, VectorWithin, AreSameMo
 use Rattle.fips204_base.specs.declared.fault.Fault.{Fault}
 use Rattle.fips204_base.specs.declared.fault.Fault.TheVariants.{SamplingLimit, SignCtx, HashCtx}
 use Rattle.fips204_base.specs.declared.types.R.{R}
-use Rattle.fips204.specs.Framing.{Input, framed_input, message_hash, pre_hash_fault}
+use Rattle.fips204.specs.Framing.{Input, representative, pre_hash_fault}
 use Rattle.fips204.specs.Keys.{PrivateParts}
 use Rattle.fips204.specs.ParameterSets.{ParameterSet, commitment_length}
 use Rattle.fips204.specs.Refusals.{refused_or, input_fault}
@@ -44,7 +44,7 @@ attempt_answer (signed signature) = Ok (Some signature)
 
 -- mu of an input under a key's hash tr, or the refusal
 abbrev pub input_hash : (List ℕ → List ℕ) → List ℕ → Input → Result (List ℕ) Fault
-input_hash H tr input = refused_or (input_fault input) (Ok (message_hash H tr (framed_input input)))
+input_hash H tr input = refused_or (input_fault input) (Ok (representative H tr input))
 
 -- the signature has these parts, and the norm of z is small
 pub record HasShortParts (p : ParameterSet) (signature c_tilde : List ℕ) (z h : List R) : Type 0 where

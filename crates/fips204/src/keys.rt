@@ -2,13 +2,11 @@
 #![tactic(auto)]
 
 ghost use Rattle.std.specs.Prelude.{◌≡◌, ◌↔◌, IsTrue, MatchResult};
-ghost use Rattle.fips204.specs.Acceptance.{Verifies};
-ghost use Rattle.fips204.specs.Completeness.{HashComplete, TellsPair};
-ghost use Rattle.fips204.specs.Framing.{message_hash};
+ghost use Rattle.fips204.specs.Completeness.{AcceptedIfWhole, TellsPair};
+ghost use Rattle.fips204.specs.Framing.{framed, represented};
 ghost use Rattle.fips204.specs.Keys.{IsWhole, TellsWhole, DecodesPrivate, IsPublicKeyOf};
 ghost use Rattle.fips204.specs.Prepared.{prepared_private, prepared_public};
-ghost use Rattle.fips204.specs.Refusals.{generated, derived, sign_message, sign_digest, VerifiesMessage, VerifiesDigest, DrawsIf};
-ghost use Rattle.fips204.specs.Signing.{sign};
+ghost use Rattle.fips204.specs.Refusals.{generated, derived, sign_input, VerifiesInput, DrawsIf};
 ghost use Rattle.fips204_base.specs.Encodings.{public_key_bytes, private_key_bytes};
 
 mod prepared;
@@ -101,9 +99,9 @@ where
 
     ghost generated = { generated S.set H.front G.front };
 
-    ghost signs = { sign_message S.set H.front G.front };
+    ghost signs = { sign_input S.set H.front G.front };
 
-    ghost accepts = { VerifiesMessage S.set H.front G.front };
+    ghost accepts = { VerifiesInput S.set H.front G.front };
 
     fn keygen(xi: &[u8; 32]) -> Result<(Self::Public, Self::Private), Fault> {
         KG::<K, L, H, G>::keygen_from_seed(xi)
@@ -141,9 +139,7 @@ where
 
     type PublicKey = PublicKey<K, L, H, G>;
 
-    ghost signs = { sign_message S.set H.front G.front };
-
-    ghost signs_digest = { sign_digest S.set H.front G.front };
+    ghost signs = { sign_input S.set H.front G.front };
 
     ghost derives = { derived S.set G.front };
 
@@ -212,9 +208,7 @@ where
 {
     type Signature = [u8; SIG_LEN];
 
-    ghost accepts = { VerifiesMessage S.set H.front G.front };
-
-    ghost accepts_digest = { VerifiesDigest S.set H.front G.front };
+    ghost accepts = { VerifiesInput S.set H.front G.front };
 
     fn verify(&self, message: &[u8], signature: &[u8; SIG_LEN], ctx: &[u8]) -> bool {
         match ml_dsa::message_mu::<H>(&self.tr, message, ctx) {
@@ -253,8 +247,9 @@ where
 {
     /// Signs the hash `mu` of a framed message with the random bytes `rnd` (Algorithm 7 from line 7 on).
     fn sign_hash(&self, mu: &[u8; 64], rnd: &[u8; 32]) -> Result<[u8; SIG_LEN], Fault>
-        ensures answer { result ≡ sign S.set H.front G.front self.now mu.now rnd.now }
-        ensures accepted { HashComplete S.set H.front G.front self.now mu.now result }
+        ensures answer { result ≡ sign_input S.set H.front G.front self.now rnd.now (represented mu.now) }
+        ensures accepted { AcceptedIfWhole (IsWhole S.set G.front self.now) (derived S.set G.front self.now)
+            (λ pk signature. VerifiesInput S.set H.front G.front pk signature (represented mu.now)) result }
     {
         let p = sized_params::<S, K, L, LAMBDA_DIV4, SIG_LEN>();
         ml_dsa::sign_internal::<K, L, LAMBDA_DIV4, SIG_LEN, H, G>(&p, self, mu, rnd)
@@ -272,8 +267,9 @@ where
         hedged: bool,
     ) -> Result<[u8; SIG_LEN], Fault>
         ensures answer { DrawsIf hedged R.gives R.refuses rng.old rng.new Fault.InternalRng
-            (sign S.set H.front G.front self.now (message_hash H.front self.now.tr m.now)) result }
-        ensures accepted { HashComplete S.set H.front G.front self.now (message_hash H.front self.now.tr m.now) result }
+            (λ rnd. sign_input S.set H.front G.front self.now rnd (framed m.now)) result }
+        ensures accepted { AcceptedIfWhole (IsWhole S.set G.front self.now) (derived S.set G.front self.now)
+            (λ pk signature. VerifiesInput S.set H.front G.front pk signature (framed m.now)) result }
     {
         self.sign_mu(rng, &ml_dsa::mu::<H>(&[&self.tr, m]), hedged)
     }
@@ -287,8 +283,9 @@ where
         hedged: bool,
     ) -> Result<[u8; SIG_LEN], Fault>
         ensures answer { DrawsIf hedged R.gives R.refuses rng.old rng.new Fault.InternalRng
-            (sign S.set H.front G.front self.now mu.now) result }
-        ensures accepted { HashComplete S.set H.front G.front self.now mu.now result }
+            (λ rnd. sign_input S.set H.front G.front self.now rnd (represented mu.now)) result }
+        ensures accepted { AcceptedIfWhole (IsWhole S.set G.front self.now) (derived S.set G.front self.now)
+            (λ pk signature. VerifiesInput S.set H.front G.front pk signature (represented mu.now)) result }
     {
         self.sign_hash(mu, &draw_if(hedged, rng)?)
     }
@@ -372,14 +369,14 @@ where
 {
     /// Verifies the signature of a framed message `m` (Algorithm 8).
     pub fn verify_internal(&self, m: &[u8], sig: &[u8; SIG_LEN]) -> bool
-        ensures { IsTrue result ↔ Verifies S.set H.front G.front self.now (message_hash H.front self.now.tr m.now) sig.now }
+        ensures { IsTrue result ↔ VerifiesInput S.set H.front G.front self.now sig.now (framed m.now) }
     {
         self.verify_mu(&ml_dsa::mu::<H>(&[&self.tr, m]), sig)
     }
 
     /// Verifies the signature of the hash `mu` of a framed message (Algorithm 8, with mu given).
     pub fn verify_mu(&self, mu: &[u8; 64], sig: &[u8; SIG_LEN]) -> bool
-        ensures { IsTrue result ↔ Verifies S.set H.front G.front self.now mu.now sig.now }
+        ensures { IsTrue result ↔ VerifiesInput S.set H.front G.front self.now sig.now (represented mu.now) }
     {
         let p = sized_params::<S, K, L, LAMBDA_DIV4, SIG_LEN>();
         ml_dsa::verify_internal::<K, L, LAMBDA_DIV4, SIG_LEN, H, G>(&p, self, mu, sig)

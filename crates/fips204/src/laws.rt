@@ -9,7 +9,7 @@ ghost use Rattle.fips204_base.specs.Transforms.{ProductOfTransforms, InverseOfTr
 ghost use Rattle.fips204.specs.Completeness.{SignedIsAccepted, BytesTellKeys};
 ghost use Rattle.fips204.specs.Constants.{ConstantsStand, LengthsStand};
 ghost use Rattle.fips204.specs.LongerFronts.{CounterFrontsArePrefixes, LongerFrontsKeep};
-ghost use Rattle.fips204.specs.SchemeLaws.{FramingIsOneToOne, SignatureFixesOne, SignatureBindsMessage, SignatureBindsInput, SignatureBindsText, SignatureBindsKey, SignatureBindsKeyAndInput, OtherHintCollides, HintGivesHighBits, HintStaysNear, HighBitsStay, ChallengeProductIsSmall, SignatureHasOneSpelling, HintHasOneSpelling};
+ghost use Rattle.fips204.specs.SchemeLaws.{FramingIsOneToOne, SignatureFixesOne, SignatureBindsInput, SignatureBindsKey, OtherHintCollides, HintGivesHighBits, HintStaysNear, HighBitsStay, ChallengeProductIsSmall, SignatureHasOneSpelling, HintHasOneSpelling};
 ghost use Rattle.fips204.specs.Prepared.{PreparedAnswersAsPlain};
 ghost use Rattle.fips204.specs.RefusalLaws.{RefusesOnly};
 ghost use Rattle.fips204.specs.ParameterSets.{ParameterSet, is_parameter_set};
@@ -72,7 +72,7 @@ pub fn hint_spelling()
     ensures { HintHasOneSpelling }
 {}
 
-/// Framing is one to one: two inputs that break no condition on context, object identifier and digest have
+/// Framing is one to one: two messages or digests that break no condition on context, identifier and digest have
 /// equal framed messages only if they have the same mode, the same context and the same message, or the same
 /// mode, context, identifier and digest.
 pub fn framing()
@@ -80,24 +80,21 @@ pub fn framing()
 {}
 
 /// A signature fixes one encoded `w1` under a key, whatever was signed. One signature for two inputs gives a
-/// collision of `H`: if a public key accepts one signature for two framed messages, or two inputs, that differ,
-/// either the framed messages collide in the 64 bytes of mu, or the two values of mu, each followed by this `w1`,
-/// collide in the bytes of `c_tilde`. So do two different messages under one context.
+/// collision of `H`: if a public key accepts one signature for two inputs that differ, both messages or digests, or
+/// both framed messages, either the framed messages collide in the 64 bytes of mu, or the two values of mu, each
+/// followed by this `w1`, collide in the bytes of `c_tilde`.
 ///
 /// One signature under two keys gives a collision too: if two keys that were decoded from bytes accept one
-/// signature, they are the same key and it is the same framed message or input; or the bytes of the keys collide
+/// signature of such inputs, they are the same key and it is the same input; or the bytes of the keys collide
 /// in the 64 bytes of `tr`, or the framed messages, each after its `tr`, in those of mu, or the values of mu, each
 /// followed by the `w1` of its key, in those of `c_tilde`.
 ///
-/// So do two signatures of one mu under one key that differ in their hints alone: mu, followed by the `w1` of each,
+/// So do two signatures of one input under one key that differ in their hints alone: mu, followed by the `w1` of each,
 /// collides in the bytes of `c_tilde`.
 pub fn binding()
     ensures fixed { SignatureFixesOne }
-    ensures framed { SignatureBindsMessage }
     ensures inputs { SignatureBindsInput }
-    ensures messages { SignatureBindsText }
     ensures keys { SignatureBindsKey }
-    ensures keys_and_inputs { SignatureBindsKeyAndInput }
     ensures hints { OtherHintCollides }
 {}
 
@@ -124,8 +121,8 @@ pub fn prepared_keys()
 {}
 
 /// Which errors the calls have. Making a key pair, deriving a public key and preparing a key return no error but
-/// `SamplingLimit`. Signing a hash also returns `TooManyAttempts`, and signing a message or a digest also the first
-/// error of context, object identifier and digest.
+/// `SamplingLimit`. Signing also returns `TooManyAttempts`, and of a message or a digest also the first error of
+/// context, object identifier and digest.
 pub fn refusals()
     ensures { (p : ParameterSet) (H G : List ℕ → List ℕ) → RefusesOnly p H G }
 {}

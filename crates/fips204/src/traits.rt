@@ -5,7 +5,7 @@ ghost use Rattle.std.specs.Prelude.{◌≡◌, ◌≢◌, ◌↔◌, ℕ, List, 
 ghost use Rattle.fips204_base.specs.declared.fault.Fault.{Fault};
 ghost use Rattle.fips204_base.specs.declared.fault.Fault.TheVariants.{KeyGenRng, SignRng, HashRng, InternalRng};
 ghost use Rattle.fips204.specs.Completeness.{AcceptedIfWhole, DecodesAlone};
-ghost use Rattle.fips204.specs.Framing.{plain, hashed};
+ghost use Rattle.fips204.specs.Framing.{Input, plain, hashed};
 ghost use Rattle.fips204.specs.Refusals.{Draws, DrawsUnless, DrawsIf, input_fault};
 
 use fips204_base::Fault;
@@ -123,11 +123,8 @@ pub trait Signer {
     /// verifies with `K::PublicKey`: it needs no second bound.
     type PublicKey: Verifier<Signature = Self::Signature>;
 
-    // What signing answers for random bytes, a message and a context.
-    ghost signs: { Self → List ℕ → List ℕ → List ℕ → Result Self.Signature Fault };
-
-    // What pre-hash signing answers for random bytes, a digest, a context and an object identifier.
-    ghost signs_digest: { Self → List ℕ → List ℕ → List ℕ → List ℕ → Result Self.Signature Fault };
+    // What signing answers for random bytes and an input.
+    ghost signs: { Self → List ℕ → Input → Result Self.Signature Fault };
 
     // The public key that belongs to the private one, or the refusal.
     ghost derives: { Self → Result Self.PublicKey Fault };
@@ -147,9 +144,9 @@ pub trait Signer {
         ctx: &[u8],
     ) -> Result<Self::Signature, Fault>
         ensures answer { DrawsUnless (input_fault (plain message.now ctx.now)) R.gives R.refuses rng.old rng.new SignRng
-            (λ rnd. signs self.now rnd message.now ctx.now) result }
+            (λ rnd. signs self.now rnd (plain message.now ctx.now)) result }
         ensures accepted { AcceptedIfWhole (whole self.now) (derives self.now)
-            (λ pk signature. Self.PublicKey.accepts pk message.now signature ctx.now) result };
+            (λ pk signature. Self.PublicKey.accepts pk signature (plain message.now ctx.now)) result };
 
     /// Signs a message (Algorithm 2) with the random bytes `seed`; 32 zeros give the deterministic variant.
     ///
@@ -161,9 +158,9 @@ pub trait Signer {
         message: &[u8],
         ctx: &[u8],
     ) -> Result<Self::Signature, Fault>
-        ensures answer { result ≡ signs self.now seed.now message.now ctx.now }
+        ensures answer { result ≡ signs self.now seed.now (plain message.now ctx.now) }
         ensures accepted { AcceptedIfWhole (whole self.now) (derives self.now)
-            (λ pk signature. Self.PublicKey.accepts pk message.now signature ctx.now) result };
+            (λ pk signature. Self.PublicKey.accepts pk signature (plain message.now ctx.now)) result };
 
     /// Signs a digest (Algorithm 4) with 32 random bytes of the generator, which is asked once. `hash_oid` is
     /// the DER object identifier of the hash function.
@@ -179,9 +176,9 @@ pub trait Signer {
         hash_oid: &[u8],
     ) -> Result<Self::Signature, Fault>
         ensures answer { DrawsUnless (input_fault (hashed hash.now ctx.now hash_oid.now)) R.gives R.refuses rng.old rng.new HashRng
-            (λ rnd. signs_digest self.now rnd hash.now ctx.now hash_oid.now) result }
+            (λ rnd. signs self.now rnd (hashed hash.now ctx.now hash_oid.now)) result }
         ensures accepted { AcceptedIfWhole (whole self.now) (derives self.now)
-            (λ pk signature. Self.PublicKey.accepts_digest pk hash.now signature ctx.now hash_oid.now) result };
+            (λ pk signature. Self.PublicKey.accepts pk signature (hashed hash.now ctx.now hash_oid.now)) result };
 
     /// Signs a digest (Algorithm 4) with the random bytes `seed`.
     ///
@@ -194,9 +191,9 @@ pub trait Signer {
         ctx: &[u8],
         hash_oid: &[u8],
     ) -> Result<Self::Signature, Fault>
-        ensures answer { result ≡ signs_digest self.now seed.now hash.now ctx.now hash_oid.now }
+        ensures answer { result ≡ signs self.now seed.now (hashed hash.now ctx.now hash_oid.now) }
         ensures accepted { AcceptedIfWhole (whole self.now) (derives self.now)
-            (λ pk signature. Self.PublicKey.accepts_digest pk hash.now signature ctx.now hash_oid.now) result };
+            (λ pk signature. Self.PublicKey.accepts pk signature (hashed hash.now ctx.now hash_oid.now)) result };
 
     /// Computes the public key of the private key: its `rho` and `tr`, with t1 as in Algorithm 6.
     ///
@@ -210,15 +207,12 @@ pub trait Verifier {
     /// The byte array of a signature.
     type Signature;
 
-    // Whether the key accepts a message, a signature and a context.
-    ghost accepts: { Self → List ℕ → Self.Signature → List ℕ → Type 0 };
-
-    // Whether the key accepts a digest, a signature, a context and an object identifier.
-    ghost accepts_digest: { Self → List ℕ → Self.Signature → List ℕ → List ℕ → Type 0 };
+    // Whether the key accepts a signature of an input.
+    ghost accepts: { Self → Self.Signature → Input → Type 0 };
 
     /// Verifies the signature of a message (Algorithm 3). Returns false if `ctx` has more than 255 bytes.
     fn verify(&self, message: &[u8], signature: &Self::Signature, ctx: &[u8]) -> bool
-        ensures { IsTrue result ↔ accepts self.now message.now signature.now ctx.now };
+        ensures { IsTrue result ↔ accepts self.now signature.now (plain message.now ctx.now) };
 
     /// Verifies the signature of a digest (Algorithm 5). Returns false if `ctx` has more than 255 bytes, or
     /// if `check_pre_hash` returns an error.
@@ -229,7 +223,7 @@ pub trait Verifier {
         ctx: &[u8],
         hash_oid: &[u8],
     ) -> bool
-        ensures { IsTrue result ↔ accepts_digest self.now hash.now signature.now ctx.now hash_oid.now };
+        ensures { IsTrue result ↔ accepts self.now signature.now (hashed hash.now ctx.now hash_oid.now) };
 }
 
 /// A signature scheme: every signature that a pair makes verifies under the public key of that pair.
@@ -246,11 +240,11 @@ pub trait Scheme {
     // Both keys of a seed, or the refusal.
     ghost generated: { List ℕ → Result (Self.Public × Self.Private) Fault };
 
-    // What signing answers for random bytes, a message and a context.
-    ghost signs: { Self.Private → List ℕ → List ℕ → List ℕ → Result Self.Signature Fault };
+    // What signing answers for random bytes and an input.
+    ghost signs: { Self.Private → List ℕ → Input → Result Self.Signature Fault };
 
-    // Whether the key accepts a message, a signature and a context.
-    ghost accepts: { Self.Public → List ℕ → Self.Signature → List ℕ → Type 0 };
+    // Whether the key accepts a signature of an input.
+    ghost accepts: { Self.Public → Self.Signature → Input → Type 0 };
 
     /// Makes the key pair of a seed. Errors as for `KeyGen::keygen_from_seed`.
     fn keygen(xi: &[u8; 32]) -> Result<(Self::Public, Self::Private), Fault>
@@ -264,14 +258,14 @@ pub trait Scheme {
         message: &[u8],
         ctx: &[u8],
     ) -> Result<Self::Signature, Fault>
-        ensures { result ≡ signs sk.now rnd.now message.now ctx.now };
+        ensures { result ≡ signs sk.now rnd.now (plain message.now ctx.now) };
 
     /// Verifies the signature of a message under a context. Returns true for every signature that `sign`
     /// returned for the same message and context with the private key of the pair that `keygen` returned.
     fn verify(pk: &Self::Public, message: &[u8], signature: &Self::Signature, ctx: &[u8]) -> bool
-        ensures answer { IsTrue result ↔ accepts pk.now message.now signature.now ctx.now }
+        ensures answer { IsTrue result ↔ accepts pk.now signature.now (plain message.now ctx.now) }
         ensures signed_is_accepted { (xi rnd : List ℕ) (sk : Self.Private)
-            → generated xi ≡ Ok (pk.now, sk) → signs sk rnd message.now ctx.now ≡ Ok signature.now → IsTrue result };
+            → generated xi ≡ Ok (pk.now, sk) → signs sk rnd (plain message.now ctx.now) ≡ Ok signature.now → IsTrue result };
 }
 
 /// Makes a key pair, signs with it and verifies the signature. Returns true or the first error, and never
@@ -283,7 +277,7 @@ pub fn pairwise_check<S: Scheme>(
     ctx: &[u8],
 ) -> Result<bool, Fault>
     ensures { MatchResult (S.generated xi.now)
-        (λ pair. MatchResult (S.signs pair.1 rnd.now message.now ctx.now) (λ _. result ≡ Ok true) (λ fault. result ≡ Err fault))
+        (λ pair. MatchResult (S.signs pair.1 rnd.now (plain message.now ctx.now)) (λ _. result ≡ Ok true) (λ fault. result ≡ Err fault))
         (λ fault. result ≡ Err fault) }
 {
     let (pk, sk) = S::keygen(xi)?;

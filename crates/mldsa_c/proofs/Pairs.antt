@@ -3,13 +3,11 @@ use Rattle.std.proofs.Common.{◌≡◌, ◌≢◌, ℕ, Bool, true, false, IsTr
 use Rattle.std.specs.Prelude.{◌↔◌, MatchBool, MatchResult}
 use Rattle.fips204_base.specs.declared.fault.Fault.{Fault}
 use Rattle.fips204_base.specs.declared.fault.Fault.TheVariants.{KeyGenRng, SignCtx, SignRng, HashCtx, OidEmpty, OidNotDer, DigestTooLong, DigestLength, HashRng, InternalRng, TooManyAttempts, KeyRange, SamplingLimit}
-use Rattle.fips204.specs.Acceptance.{Verifies}
 use Rattle.fips204.specs.Completeness.{SignedIsAccepted, IsPair}
-use Rattle.fips204.specs.Framing.{plain, hashed}
+use Rattle.fips204.specs.Framing.{plain, hashed, represented}
 use Rattle.fips204.specs.Keys.{PublicParts, PrivateParts, DecodesPrivate, IsPrivateKeyOf, IsPublicKeyOf, IsWhole, TellsWhole}
 use Rattle.fips204.specs.ParameterSets.{ParameterSet, is_parameter_set}
-use Rattle.fips204.specs.Refusals.{generated, derived, sign_message, sign_digest, VerifiesMessage, VerifiesDigest}
-use Rattle.fips204.specs.Signing.{sign}
+use Rattle.fips204.specs.Refusals.{generated, derived, sign_input, VerifiesInput}
 use Rattle.fips204_shake.specs.Fronts.{shake256_front, shake128_front, length-shake256_front}
 use Rattle.mldsa_c.specs.Calls.{bytes_of_public, bytes_of_private, WritesPair, Generates, WritesPublic, TellsPrivate, TellsWholeness, WritesSignature, TellsVerdict}
 use Rattle.mldsa_c.specs.Pairs.{PairsAcceptWritten, PairsBelong}
@@ -111,21 +109,21 @@ accepts_written p known law seed public public' private private' keys =
     record {
       messages = λ message context random old signature status.
           pair_yes p pair.0 pair.1 public' private' both.0 is_public is_private
-          (λ sk. sign_message p shake256_front shake128_front sk random message context)
-          (λ signature pk. VerifiesMessage p shake256_front shake128_front pk message signature context)
-          (λ signature signed. both.1.inputs random signature (plain message context) signed)
+          (λ sk. sign_input p shake256_front shake128_front sk random (plain message context))
+          (λ signature pk. VerifiesInput p shake256_front shake128_front pk signature (plain message context))
+          (λ signature signed. both.1 random signature (plain message context) signed)
           old signature _ _ status;
       digests = λ digest context oid random old signature status.
           pair_yes p pair.0 pair.1 public' private' both.0 is_public is_private
-          (λ sk. sign_digest p shake256_front shake128_front sk random digest context oid)
-          (λ signature pk. VerifiesDigest p shake256_front shake128_front pk digest signature context oid)
-          (λ signature signed. both.1.inputs random signature (hashed digest context oid) signed)
+          (λ sk. sign_input p shake256_front shake128_front sk random (hashed digest context oid))
+          (λ signature pk. VerifiesInput p shake256_front shake128_front pk signature (hashed digest context oid))
+          (λ signature signed. both.1 random signature (hashed digest context oid) signed)
           old signature _ _ status;
       hashes = λ mu random old signature status.
           pair_yes p pair.0 pair.1 public' private' both.0 is_public is_private
-          (λ sk. sign p shake256_front shake128_front sk mu random)
-          (λ signature pk. Verifies p shake256_front shake128_front pk mu signature)
-          (λ signature signed. both.1.hashes mu random signature signed)
+          (λ sk. sign_input p shake256_front shake128_front sk random (represented mu))
+          (λ signature pk. VerifiesInput p shake256_front shake128_front pk signature (represented mu))
+          (λ signature signed. both.1 random signature (represented mu) signed)
           old signature _ _ status;
     }
 

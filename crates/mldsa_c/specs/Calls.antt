@@ -2,12 +2,10 @@
 use Rattle.std.specs.Prelude.{◌≡◌, ◌≤◌, ◌↔◌, ◌*◌, ℕ, Bool, ◌&&◌, IsTrue, MatchBool, List, length, nat_eq, Result, Ok, MatchResult, MatchOption}
 use Rattle.fips204_base.specs.declared.fault.Fault.{Fault}
 use Rattle.fips204_base.specs.Encodings.{public_key_bytes, private_key_bytes}
-use Rattle.fips204.specs.Acceptance.{Verifies}
-use Rattle.fips204.specs.Framing.{pre_hash_fault}
+use Rattle.fips204.specs.Framing.{plain, hashed, represented, pre_hash_fault}
 use Rattle.fips204.specs.Keys.{PublicParts, PrivateParts, IsPublicKeyOf, DecodesPrivate, TellsWhole}
 use Rattle.fips204.specs.ParameterSets.{ParameterSet, public_key_length, private_key_length, signature_length}
-use Rattle.fips204.specs.Refusals.{generated, derived, sign_message, sign_digest, VerifiesMessage, VerifiesDigest}
-use Rattle.fips204.specs.Signing.{sign}
+use Rattle.fips204.specs.Refusals.{generated, derived, sign_input, VerifiesInput}
 use Rattle.fips204_shake.specs.Fronts.{shake256_front, shake128_front}
 use Rattle.mldsa_c.specs.Statuses.{status_of, verdict_status, Leaves, Writes}
 
@@ -82,19 +80,19 @@ signing_fits p key random old = nat_eq (length key) (private_key_length p) && na
 -- sign: a message under a context
 abbrev pub SignsMessage : ParameterSet → List ℕ → List ℕ → List ℕ → List ℕ → List ℕ → List ℕ → ℕ → Type 0
 SignsMessage p key message context random old new status = MatchBool (signing_fits p key random old)
-    (WritesSignature p key (λ sk. sign_message p shake256_front shake128_front sk random message context) old new status)
+    (WritesSignature p key (λ sk. sign_input p shake256_front shake128_front sk random (plain message context)) old new status)
     (Leaves 2 old new status)
 
 -- hash_sign: a digest and the object identifier of its hash function, under a context
 abbrev pub SignsDigest : ParameterSet → List ℕ → List ℕ → List ℕ → List ℕ → List ℕ → List ℕ → List ℕ → ℕ → Type 0
 SignsDigest p key digest context oid random old new status = MatchBool (signing_fits p key random old)
-    (WritesSignature p key (λ sk. sign_digest p shake256_front shake128_front sk random digest context oid) old new status)
+    (WritesSignature p key (λ sk. sign_input p shake256_front shake128_front sk random (hashed digest context oid)) old new status)
     (Leaves 2 old new status)
 
 -- sign_mu: the 64 bytes of mu
 abbrev pub SignsMu : ParameterSet → List ℕ → List ℕ → List ℕ → List ℕ → List ℕ → ℕ → Type 0
 SignsMu p key mu random old new status = MatchBool (signing_fits p key random old && nat_eq (length mu) 64)
-    (WritesSignature p key (λ sk. sign p shake256_front shake128_front sk mu random) old new status)
+    (WritesSignature p key (λ sk. sign_input p shake256_front shake128_front sk random (represented mu)) old new status)
     (Leaves 2 old new status)
 
 -- check_pre_hash: the first condition that a digest and its object identifier break, or none
@@ -115,17 +113,17 @@ verifying_fits p key signature = nat_eq (length key) (public_key_length p) && na
 -- verify
 abbrev pub JudgesMessage : ParameterSet → List ℕ → List ℕ → List ℕ → List ℕ → ℕ → Type 0
 JudgesMessage p key message context signature status = MatchBool (verifying_fits p key signature)
-    (TellsVerdict p key (λ pk. VerifiesMessage p shake256_front shake128_front pk message signature context) status)
+    (TellsVerdict p key (λ pk. VerifiesInput p shake256_front shake128_front pk signature (plain message context)) status)
     (status ≡ 2)
 
 -- hash_verify
 abbrev pub JudgesDigest : ParameterSet → List ℕ → List ℕ → List ℕ → List ℕ → List ℕ → ℕ → Type 0
 JudgesDigest p key digest context oid signature status = MatchBool (verifying_fits p key signature)
-    (TellsVerdict p key (λ pk. VerifiesDigest p shake256_front shake128_front pk digest signature context oid) status)
+    (TellsVerdict p key (λ pk. VerifiesInput p shake256_front shake128_front pk signature (hashed digest context oid)) status)
     (status ≡ 2)
 
 -- verify_mu
 abbrev pub JudgesMu : ParameterSet → List ℕ → List ℕ → List ℕ → ℕ → Type 0
 JudgesMu p key mu signature status = MatchBool (verifying_fits p key signature && nat_eq (length mu) 64)
-    (TellsVerdict p key (λ pk. Verifies p shake256_front shake128_front pk mu signature) status)
+    (TellsVerdict p key (λ pk. VerifiesInput p shake256_front shake128_front pk signature (represented mu)) status)
     (status ≡ 2)

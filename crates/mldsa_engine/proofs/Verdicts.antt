@@ -12,7 +12,7 @@ use Rattle.fips204.specs.Keys.{PublicParts, PrivateParts, IsPublicKeyOf, Decodes
 use Rattle.fips204.specs.Sampling.{sampled_matrix}
 use Rattle.fips204.specs.ParameterSets.{ParameterSet, signature_length}
 use Rattle.fips204.specs.Prepared.{PreparedPublic, prepared_public, PreparedAnswersAsPlain}
-use Rattle.fips204.specs.Refusals.{sign_message, VerifiesMessage}
+use Rattle.fips204.specs.Refusals.{sign_input, VerifiesInput}
 use Rattle.fips204.specs.declared.types.T.{T}
 use Rattle.mldsa_lines.specs.Lines.{AllFit, TakesLines}
 use Rattle.mldsa_engine.specs.ProgramText.{text, answer_word, entry_lines, Refuses, Tells, Signs, AnswersEach, TellsAll, Judges}
@@ -96,9 +96,9 @@ judges_next items accepts size entry number old mid new
 accepts_as_key : (p : ParameterSet) (H G : List ℕ → List ℕ) (matrix : Option (List (List T))) (pk : PublicParts)
     (message signature context : List ℕ) → PreparedAnswersAsPlain p H G → sampled_matrix G pk.rho p.k p.l ≡ matrix
     → AcceptsIfPrepared p H (ok_or (option_map (λ a. record { parts = pk; matrix = a }) matrix) SamplingLimit) message signature context
-    ↔ VerifiesMessage p H G pk message signature context
+    ↔ VerifiesInput p H G pk signature (plain message context)
 accepts_as_key p H G None pk message signature context law none =
-    (λ x. absurd x, λ v. let there = sym none ∙ v.accepted.matrix in absurd cc)
+    (λ x. absurd x, λ v. let there = sym none ∙ v.1.matrix in absurd cc)
 accepts_as_key p H G (Some a) pk message signature context law there =
     law.verify_inputs pk record { parts = pk; matrix = a } signature (plain message context)
     (ap (λ matrix. ok_or (option_map (λ a. record { parts = pk; matrix = a }) matrix) SamplingLimit) there)
@@ -125,7 +125,7 @@ pub judged_by_prepared : {W E : Type 0} (output : W → List ℕ) (success : W �
 judged_by_prepared output success p H G pk prepared key context size count given left (Err fault) law is same sized each = each
 judged_by_prepared output success p H G pk prepared key context size count given left (Ok it) law is same sized each =
     let (entries, fit, taken, (answers, judged, tells)) = each in
-    let accepts : List ℕ → List ℕ → Type 0 = λ signature message. VerifiesMessage p H G pk message signature context in
+    let accepts : List ℕ → List ℕ → Type 0 = λ signature message. VerifiesInput p H G pk signature (plain message context) in
     let alike = answers_alike _ accepts entries answers
     (λ signature message. accepts_as_key p H G (sampled_matrix G pk.rho p.k p.l) pk message signature context law refl)
     (rw same at judged) in
@@ -135,7 +135,7 @@ judged_by_prepared output success p H G pk prepared key context size count given
 -- what is told of a verdict is what `verify` writes
 pub judges_told : {W E : Type 0} (output : W → List ℕ) (success : W → Bool) (p : ParameterSet) (H G : List ℕ → List ℕ)
     (key signature context message : List ℕ) (answer : Bool) (result : Result W E)
-    → ((pk : PublicParts) × IsPublicKeyOf H p.k key pk × (IsTrue answer ↔ VerifiesMessage p H G pk message signature context))
+    → ((pk : PublicParts) × IsPublicKeyOf H p.k key pk × (IsTrue answer ↔ VerifiesInput p H G pk signature (plain message context)))
     → IfOk result (λ it. (output it ≡ text (answer_word answer ∷ [])) × (success it ≡ answer))
     → IfOk result (λ it. Judges p H G key signature context message (output it) (success it))
 judges_told output success p H G key signature context message answer (Err fault) now told = told
@@ -146,7 +146,7 @@ pub signs_told : {W E : Type 0} (output : W → List ℕ) (success : W → Bool)
     (key seed context message : List ℕ) (decoded : Result PrivateParts Fault) (result : Result W E)
     → DecodesPrivate p.eta p.k p.l key decoded
     → IfOk result (λ it. MatchResult decoded
-    (λ sk. Tells (λ signature. signature ∷ []) (sign_message p H G sk seed message context) (output it) (success it))
+    (λ sk. Tells (λ signature. signature ∷ []) (sign_input p H G sk seed (plain message context)) (output it) (success it))
     (λ fault. Refuses fault (output it) (success it)))
     → IfOk result (λ it. Signs p H G key seed context message (output it) (success it))
 signs_told output success p H G key seed context message decoded (Err fault) decodes told = told

@@ -2,16 +2,17 @@
 use Rattle.std.specs.Prelude.{ℕ, List, Option, Result, MatchResult, Bool}
 use Rattle.fips204.specs.Keys.{PublicParts, IsPublicKeyOf}
 use Rattle.fips204.specs.ParameterSets.{ParameterSet, signature_length}
-use Rattle.fips204.specs.Prepared.{PreparedPublic, VerifiesMessagePrepared}
-use Rattle.fips204.specs.Refusals.{VerifiesMessage}
+use Rattle.fips204.specs.Prepared.{PreparedPublic, VerifiesPrepared}
+use Rattle.fips204.specs.Refusals.{VerifiesInput}
 use Rattle.fips204.specs.fault.Fault.{Fault}
+use Rattle.fips204.specs.Framing.{plain}
 use Rattle.mldsa_lines.specs.Lines.{AllFit, TakesLines}
 use Rattle.mldsa_engine.specs.ProgramText.{entry_lines, AnswersEach, TellsAll}
 
 -- what preparing a key answered accepts a message: nothing where it refused
 abbrev pub AcceptsIfPrepared : ParameterSet → (List ℕ → List ℕ) → Result PreparedPublic Fault → List ℕ → List ℕ → List ℕ → Type 0
 AcceptsIfPrepared p H prepared message signature context =
-    MatchResult prepared (λ key. VerifiesMessagePrepared p H key message signature context) (λ _. ⊥)
+    MatchResult prepared (λ key. VerifiesPrepared p H key signature (plain message context)) (λ _. ⊥)
 
 -- so many entries of a batch were judged by what accepts their signatures: a reader gave their lines, from the fourth on, and has
 -- left what follows them, and this is told of them
@@ -25,5 +26,5 @@ JudgesEntries accepts size count given left output answer = (entries : List (Lis
 abbrev pub JudgesByKey : ParameterSet → (List ℕ → List ℕ) → (List ℕ → List ℕ) → List ℕ → List ℕ → ℕ → Option (List ℕ) → Option (List ℕ)
     → List ℕ → Bool → Type 0
 JudgesByKey p H G key context count given left output answer = (pk : PublicParts) × IsPublicKeyOf H p.k key pk
-    × JudgesEntries (λ signature message. VerifiesMessage p H G pk message signature context)
+    × JudgesEntries (λ signature message. VerifiesInput p H G pk signature (plain message context))
     (signature_length p) count given left output answer

@@ -8,7 +8,8 @@ use Rattle.fips204.specs.Encodings.{public_key_bytes, private_key_bytes}
 use Rattle.fips204.specs.Faults.{words}
 use Rattle.fips204.specs.Keys.{PublicParts, IsPublicKeyOf, DecodesPrivate}
 use Rattle.fips204.specs.ParameterSets.{ParameterSet, set_44, set_65, set_87, public_key_length, private_key_length, signature_length}
-use Rattle.fips204.specs.Refusals.{generated, sign_message, VerifiesMessage}
+use Rattle.fips204.specs.Refusals.{generated, sign_input, VerifiesInput}
+use Rattle.fips204.specs.Framing.{plain}
 use Rattle.mldsa_engine.specs.Calls.{first_stream, second_stream, AreCall, AreNoCall}
 use Rattle.mldsa_lines.specs.Devices.{KeepsWritten, MarkedDevice}
 use Rattle.mldsa_lines.specs.Lines.{after_lines, line_bytes, IsLineFault, TakesLines, FaultOfLines, InTurn}
@@ -106,7 +107,7 @@ Generates p H G seed output answer =
 -- `sign`: the signature by the private key that has these bytes, or the refusal; that of the bytes stands first
 abbrev pub Signs : ParameterSet → (List ℕ → List ℕ) → (List ℕ → List ℕ) → List ℕ → List ℕ → List ℕ → List ℕ → List ℕ → Bool → Type 0
 Signs p H G key seed context message output answer =
-    TellsOfKey (DecodesPrivate p.eta p.k p.l key) (λ sk. Tells (λ signature. signature ∷ []) (sign_message p H G sk seed message context))
+    TellsOfKey (DecodesPrivate p.eta p.k p.l key) (λ sk. Tells (λ signature. signature ∷ []) (sign_input p H G sk seed (plain message context)))
     output answer
 
 -- the word for an answer
@@ -118,14 +119,14 @@ answer_word false = codes "no"
 abbrev pub Judges : ParameterSet → (List ℕ → List ℕ) → (List ℕ → List ℕ) → List ℕ → List ℕ → List ℕ → List ℕ → List ℕ → Bool → Type 0
 Judges p H G key signature context message output answer = (pk : PublicParts)
     × IsPublicKeyOf H p.k key pk
-    × (IsTrue answer ↔ VerifiesMessage p H G pk message signature context)
+    × (IsTrue answer ↔ VerifiesInput p H G pk signature (plain message context))
     × (output ≡ text (answer_word answer ∷ []))
 
 -- `check`: yes where the seed's pair signs the message, which its public key then accepts, or the first refusal
 abbrev pub Checks : ParameterSet → (List ℕ → List ℕ) → (List ℕ → List ℕ) → List ℕ → List ℕ → List ℕ → List ℕ → List ℕ → Bool → Type 0
 Checks p H G xi rnd context message output answer =
     MatchResult (generated p H G xi)
-    (λ keys. MatchResult (sign_message p H G keys.1 rnd message context)
+    (λ keys. MatchResult (sign_input p H G keys.1 rnd (plain message context))
     (λ _. (output ≡ text (answer_word true ∷ [])) × (answer ≡ true))
     (λ fault. Refuses fault output answer))
     (λ fault. Refuses fault output answer)
@@ -143,7 +144,7 @@ TellsAll answers output answer = (output ≡ text (map answer_word answers)) × 
 -- `batch`: whether the public key that has these bytes accepts each of the entries
 abbrev pub JudgesEach : ParameterSet → (List ℕ → List ℕ) → (List ℕ → List ℕ) → List ℕ → List ℕ → List (List ℕ) → List ℕ → Bool → Type 0
 JudgesEach p H G key context entries output answer = (pk : PublicParts) × IsPublicKeyOf H p.k key pk
-    × ((answers : List Bool) × AnswersEach (λ signature message. VerifiesMessage p H G pk message signature context) entries answers
+    × ((answers : List Bool) × AnswersEach (λ signature message. VerifiesInput p H G pk signature (plain message context)) entries answers
     × TellsAll answers output answer)
 
 -- what a command writes and answers, given the bytes of its lines, over the streams H and G; `id` writes the public key and

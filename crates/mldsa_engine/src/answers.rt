@@ -3,7 +3,8 @@
 
 ghost use Rattle.std.specs.Prelude.{◌≡◌, ◌≤◌, ◌↔◌, ◌∷◌, [], length, map, take, false, true, Err, IsTrue, IfOk, IfErr};
 ghost use Rattle.fips204.specs.Keys.{PublicParts, IsPublicKeyOf};
-ghost use Rattle.fips204.specs.Refusals.{VerifiesMessage};
+ghost use Rattle.fips204.specs.Refusals.{VerifiesInput};
+ghost use Rattle.fips204.specs.Framing.{plain};
 ghost use Rattle.mldsa_lines.specs.Lines.{AllFit, IsInputFault, StopsAt};
 ghost use Rattle.mldsa_engine.specs.ProgramText.{named_set, two_bytes, wanted_lines, entry_lines, input_lines, lines_of_input, hex_text, AreSmall, Generates, Signs, Checks, Answers, Executes};
 ghost use Rattle.mldsa_engine.specs.InnerSteps.{AcceptsIfPrepared, JudgesEntries, JudgesByKey};
@@ -201,7 +202,7 @@ where
         requires signature { length signature.now ≡ SIG_LEN }
         requires small { AreSmall K L PK_LEN SK_LEN SIG_LEN }
         ensures { (pk : PublicParts) × IsPublicKeyOf H.front S.set.k key.now pk
-            × (IsTrue result ↔ VerifiesMessage S.set H.front G.front pk message.now signature.now context.now) }
+            × (IsTrue result ↔ VerifiesInput S.set H.front G.front pk signature.now (plain message.now context.now)) }
     {
         Self::decode(key).verify(message, &array_of(signature), context)
     }

@@ -4,8 +4,9 @@ use Rattle.sha2.specs.Sha256.{sha256}
 use Rattle.fips204_base.specs.declared.fault.Fault.{Fault}
 use Rattle.fips204.specs.Keys.{PublicParts, PrivateParts, IsWhole}
 use Rattle.fips204.specs.ParameterSets.{set_44}
-use Rattle.fips204.specs.Prepared.{PreparedPublic, VerifiesMessagePrepared}
-use Rattle.fips204.specs.Refusals.{derived, sign_message, VerifiesMessage}
+use Rattle.fips204.specs.Prepared.{PreparedPublic, VerifiesPrepared}
+use Rattle.fips204.specs.Refusals.{derived, sign_input, VerifiesInput}
+use Rattle.fips204.specs.Framing.{plain}
 use Rattle.mldsa_examples.specs.declared.ledger.AppendFault.{AppendFault}
 use Rattle.mldsa_examples.specs.declared.ledger.AppendFault.TheVariants.{Signing, OutOfMemory}
 use Rattle.mldsa_examples.specs.declared.ledger.Entry.{Entry}
@@ -33,11 +34,11 @@ EachFits accepts ledger = (place : ℕ) → place < length ledger → Fits accep
 
 -- a ledger stands under a public key: each entry fits, by the signatures that the key accepts
 abbrev pub Stands : (List ℕ → List ℕ) → (List ℕ → List ℕ) → PublicParts → List ℕ → List Entry → Type 0
-Stands H G key context ledger = EachFits (λ message signature. VerifiesMessage set_44 H G key message signature context) ledger
+Stands H G key context ledger = EachFits (λ message signature. VerifiesInput set_44 H G key signature (plain message context)) ledger
 
 -- the same under a prepared public key: the entry at a place fits, and each does
 abbrev pub FitsPrepared : (List ℕ → List ℕ) → PreparedPublic → List ℕ → List Entry → ℕ → Type 0
-FitsPrepared H key context ledger place = Fits (λ message signature. VerifiesMessagePrepared set_44 H key message signature context) ledger place
+FitsPrepared H key context ledger place = Fits (λ message signature. VerifiesPrepared set_44 H key signature (plain message context)) ledger place
 
 abbrev pub StandsPrepared : (List ℕ → List ℕ) → PreparedPublic → List ℕ → List Entry → Type 0
 StandsPrepared H key context ledger = (place : ℕ) → place < length ledger → FitsPrepared H key context ledger place
@@ -51,11 +52,11 @@ StaysStanding H G owner context old new =
 pub record IsNext (H G : List ℕ → List ℕ) (owner : PrivateParts) (context random payload : List ℕ) (ledger : List Entry) (entry : Entry) : Type 0 where
   pub linked : entry.previous ≡ hash_before ledger (length ledger)
   pub recorded : entry.payload ≡ payload
-  pub signed : sign_message set_44 H G owner random (entry.previous ++ entry.payload) context ≡ Ok entry.signature
+  pub signed : sign_input set_44 H G owner random (plain (entry.previous ++ entry.payload) context) ≡ Ok entry.signature
 
 -- what appending answers: one entry more; or the ledger as it was, where the key does not sign, or there is no memory
 abbrev pub AppendsAs : (List ℕ → List ℕ) → (List ℕ → List ℕ) → PrivateParts → List ℕ → List ℕ → List ℕ → List Entry → List Entry → Result Unit AppendFault → Type 0
 AppendsAs H G owner context random payload old new answer = MatchResult answer
     (λ _. (entry : Entry) × IsNext H G owner context random payload old entry × (new ≡ old ++ entry ∷ []))
     (λ refusal. (new ≡ old) × ((refusal ≡ OutOfMemory)
-    ⊎ ((fault : Fault) × (refusal ≡ Signing fault) × (sign_message set_44 H G owner random (hash_before old (length old) ++ payload) context ≡ Err fault))))
+    ⊎ ((fault : Fault) × (refusal ≡ Signing fault) × (sign_input set_44 H G owner random (plain (hash_before old (length old) ++ payload) context) ≡ Err fault))))

@@ -3,7 +3,8 @@ use Rattle.std.specs.Prelude.{◌≡◌, ◌≤◌, ◌<◌, ◌^◌, ℕ, List,
 use Rattle.std.specs.Int.{w32, to_be_bytes}
 use Rattle.fips204.specs.Keys.{PublicParts}
 use Rattle.fips204.specs.ParameterSets.{set_44}
-use Rattle.fips204.specs.Refusals.{VerifiesMessage}
+use Rattle.fips204.specs.Refusals.{VerifiesInput}
+use Rattle.fips204.specs.Framing.{plain}
 use Rattle.mldsa_examples.specs.declared.licence.Token.{Token}
 
 -- the bytes that are signed for a token: four of the product, four of the last day, and the customer's
@@ -21,5 +22,5 @@ SpellingIsOneToOne = (first second : Token) → IsToken first → IsToken second
 
 -- a token is valid today: its signature is accepted, and its last day has not passed
 pub record IsValid (H G : List ℕ → List ℕ) (key : PublicParts) (context : List ℕ) (token : Token) (signature : List ℕ) (today : ℕ) : Type 0 where
-  pub signed : VerifiesMessage set_44 H G key (spelling token) signature context
+  pub signed : VerifiesInput set_44 H G key signature (plain (spelling token) context)
   pub in_time : today ≤ token.last_day

@@ -5,7 +5,8 @@ use Rattle.std.specs.List.{All, Contains, flat_map}
 use Rattle.sha2.specs.Sha256.{sha256}
 use Rattle.fips204.specs.Keys.{PublicParts}
 use Rattle.fips204.specs.ParameterSets.{ParameterSet}
-use Rattle.fips204.specs.Refusals.{VerifiesDigest}
+use Rattle.fips204.specs.Refusals.{VerifiesInput}
+use Rattle.fips204.specs.Framing.{hashed}
 use Rattle.mldsa_examples.specs.declared.manifest.Entry.{Entry}
 
 -- the bytes of an entry: 32 of the name, eight of the size, and 32 of the digest
@@ -32,5 +33,5 @@ file_entry name file = record { name = name; size = length file; digest = sha256
 
 -- a file is handed out: the digest of the manifest's bytes is signed, and the file's entry stands in the manifest
 pub record IsHandedOut (p : ParameterSet) (H G : List ℕ → List ℕ) (key : PublicParts) (context oid : List ℕ) (entries : List Entry) (signature name file : List ℕ) : Type 0 where
-  pub signed : VerifiesDigest p H G key (sha256 (spelling entries)) signature context oid
+  pub signed : VerifiesInput p H G key signature (hashed (sha256 (spelling entries)) context oid)
   pub listed : Contains entries (file_entry name file)

@@ -3,13 +3,13 @@
 #![tactic(auto)]
 
 ghost use Rattle.std.specs.Prelude.{◌≡◌, ◌↔◌, [], true, Ok, IsTrue, IfOk};
-ghost use Rattle.fips204.specs.Acceptance.{Verifies};
-ghost use Rattle.fips204.specs.Completeness.{AcceptedIfWhole, HashComplete};
+ghost use Rattle.fips204.specs.Completeness.{AcceptedIfWhole};
 ghost use Rattle.fips204.specs.Keys.{IsWhole, DecodesPrivate};
 ghost use Rattle.fips204.specs.ParameterSets.{set_44, set_65, set_87};
-ghost use Rattle.fips204.specs.Prepared.{prepared_private, prepared_public, sign_message_prepared, IsWholePrepared, VerifiesDigestPrepared, public_of_prepared};
-ghost use Rattle.fips204.specs.Refusals.{generated, derived, sign_message, sign_digest, OnlySamplingLimit, VerifiesMessage, VerifiesDigest, DrawsIf};
+ghost use Rattle.fips204.specs.Prepared.{prepared_private, prepared_public, IsWholePrepared, public_of_prepared, sign_prepared, VerifiesPrepared};
+ghost use Rattle.fips204.specs.Refusals.{generated, derived, OnlySamplingLimit, DrawsIf, sign_input, VerifiesInput};
 ghost use Rattle.fips204.specs.Signing.{sign};
+ghost use Rattle.fips204.specs.Framing.{plain, hashed, represented};
 ghost use Rattle.fips204_base.specs.Encodings.{public_key_bytes};
 
 use fips204::traits::{CryptoRngCore, KeyGen, SerDes, Signer, Verifier, pairwise_check};
@@ -23,9 +23,9 @@ pub fn signed_at_44<H: Xof, G: Xof>(
     message: &[u8],
     ctx: &[u8],
 ) -> Result<[u8; ml_dsa_44::SIG_LEN], Fault>
-    ensures answer { result ≡ sign_message set_44 H.front G.front key.now rnd.now message.now ctx.now }
+    ensures answer { result ≡ sign_input set_44 H.front G.front key.now rnd.now (plain message.now ctx.now) }
     ensures accepted { AcceptedIfWhole (IsWhole set_44 G.front key.now) (derived set_44 G.front key.now)
-        (λ pk signature. VerifiesMessage set_44 H.front G.front pk message.now signature ctx.now) result }
+        (λ pk signature. VerifiesInput set_44 H.front G.front pk signature (plain message.now ctx.now)) result }
 {
     key.try_sign_with_seed(rnd, message, ctx)
 }
@@ -38,8 +38,8 @@ pub fn signed_and_verified_at_44<H: Xof, G: Xof>(
     message: &[u8],
     ctx: &[u8],
 ) -> Result<([u8; ml_dsa_44::SIG_LEN], bool), Fault>
-    ensures { IfOk result (λ pair. (sign_message set_44 H.front G.front private.now rnd.now message.now ctx.now ≡ Ok pair.0)
-        × (IsTrue pair.1 ↔ VerifiesMessage set_44 H.front G.front public.now message.now pair.0 ctx.now)) }
+    ensures { IfOk result (λ pair. (sign_input set_44 H.front G.front private.now rnd.now (plain message.now ctx.now) ≡ Ok pair.0)
+        × (IsTrue pair.1 ↔ VerifiesInput set_44 H.front G.front public.now pair.0 (plain message.now ctx.now))) }
 {
     let signature = private.try_sign_with_seed(rnd, message, ctx)?;
     let accepted = public.verify(message, &signature, ctx);
@@ -52,7 +52,7 @@ pub fn signed_prepared_at_44<H: Xof>(
     rnd: &[u8; 32],
     message: &[u8],
 ) -> Result<[u8; ml_dsa_44::SIG_LEN], Fault>
-    ensures { result ≡ sign_message_prepared set_44 H.front key.now rnd.now message.now [] }
+    ensures { result ≡ sign_prepared set_44 H.front key.now rnd.now (plain message.now []) }
 {
     key.try_sign_with_seed(rnd, message, &[])
 }
@@ -85,7 +85,7 @@ pub fn digest_signed_at_65<H: Xof, G: Xof>(
     ctx: &[u8],
     oid: &[u8],
 ) -> Result<[u8; ml_dsa_65::SIG_LEN], Fault>
-    ensures { result ≡ sign_digest set_65 H.front G.front key.now rnd.now digest.now ctx.now oid.now }
+    ensures { result ≡ sign_input set_65 H.front G.front key.now rnd.now (hashed digest.now ctx.now oid.now) }
 {
     key.try_hash_sign_with_seed(rnd, digest, ctx, oid)
 }
@@ -98,7 +98,7 @@ pub fn digest_verified_at_65<H: Xof>(
     ctx: &[u8],
     oid: &[u8],
 ) -> bool
-    ensures { IsTrue result ↔ VerifiesDigestPrepared set_65 H.front key.now digest.now signature.now ctx.now oid.now }
+    ensures { IsTrue result ↔ VerifiesPrepared set_65 H.front key.now signature.now (hashed digest.now ctx.now oid.now) }
 {
     key.hash_verify(digest, signature, ctx, oid)
 }
@@ -137,7 +137,8 @@ pub fn hash_signed_at_87<H: Xof, G: Xof, R: CryptoRngCore>(
     mu: &[u8; 64],
 ) -> Result<[u8; ml_dsa_87::SIG_LEN], Fault>
     ensures answer { DrawsIf true R.gives R.refuses rng.old rng.new Fault.InternalRng (sign set_87 H.front G.front key.now mu.now) result }
-    ensures accepted { HashComplete set_87 H.front G.front key.now mu.now result }
+    ensures accepted { AcceptedIfWhole (IsWhole set_87 G.front key.now) (derived set_87 G.front key.now)
+        (λ pk signature. VerifiesInput set_87 H.front G.front pk signature (represented mu.now)) result }
 {
     key.sign_mu(rng, mu, true)
 }
@@ -148,7 +149,7 @@ pub fn hash_verified_at_87<H: Xof, G: Xof>(
     mu: &[u8; 64],
     signature: &[u8; ml_dsa_87::SIG_LEN],
 ) -> bool
-    ensures { IsTrue result ↔ Verifies set_87 H.front G.front key.now mu.now signature.now }
+    ensures { IsTrue result ↔ VerifiesInput set_87 H.front G.front key.now signature.now (represented mu.now) }
 {
     key.verify_mu(mu, signature)
 }
@@ -162,7 +163,7 @@ pub fn encoded_at_87<H: Xof, G: Xof>(key: ml_dsa_87::PublicKey<H, G>) -> [u8; ml
 
 /// Signs a message under the empty context with any key that signs.
 pub fn signed_by<K: Signer>(key: &K, rnd: &[u8; 32], message: &[u8]) -> Result<K::Signature, Fault>
-    ensures { result ≡ K.signs key.now rnd.now message.now [] }
+    ensures { result ≡ K.signs key.now rnd.now (plain message.now []) }
 {
     key.try_sign_with_seed(rnd, message, &[])
 }
@@ -173,7 +174,7 @@ pub fn signed_by_87<H: Xof, G: Xof>(
     rnd: &[u8; 32],
     message: &[u8],
 ) -> Result<[u8; ml_dsa_87::SIG_LEN], Fault>
-    ensures { result ≡ sign_message set_87 H.front G.front key.now rnd.now message.now [] }
+    ensures { result ≡ sign_input set_87 H.front G.front key.now rnd.now (plain message.now []) }
 {
     signed_by(key, rnd, message)
 }

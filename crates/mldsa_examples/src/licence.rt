@@ -5,7 +5,7 @@
 
 ghost use Rattle.std.specs.Prelude.{◌≡◌, ◌≢◌, ◌↔◌, IsTrue};
 ghost use Rattle.fips204.specs.SchemeLaws.{NamesCollision};
-ghost use Rattle.fips204.specs.Framing.{framed};
+ghost use Rattle.fips204.specs.Framing.{frame};
 ghost use Rattle.fips204.specs.ParameterSets.{set_44};
 ghost use Rattle.mldsa_examples.specs.Licence.{spelling, IsToken, IsValid, SpellingIsOneToOne};
 
@@ -70,7 +70,7 @@ pub fn accepted_for_both<H: Xof, G: Xof>(
 ) -> bool
     ensures { IsTrue result → first.now ≢ second.now
         → NamesCollision set_44 H.front G.front key.now signature.now
-        (framed (spelling first.now) CONTEXT.now) (framed (spelling second.now) CONTEXT.now) }
+        (frame 0 CONTEXT.now (spelling first.now)) (frame 0 CONTEXT.now (spelling second.now)) }
 {
     laws::binding();
     one_spelling();

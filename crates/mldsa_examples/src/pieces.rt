@@ -4,9 +4,9 @@
 #![tactic(auto)]
 
 ghost use Rattle.std.specs.Prelude.{◌≡◌, ◌≢◌, ◌↔◌, ◌++◌, length, IsTrue, MatchOption};
-ghost use Rattle.fips204.specs.Framing.{framed, message_hash};
+ghost use Rattle.fips204.specs.Framing.{plain, representative};
 ghost use Rattle.fips204.specs.ParameterSets.{set_44};
-ghost use Rattle.fips204.specs.Refusals.{sign_message, Draws, VerifiesMessage};
+ghost use Rattle.fips204.specs.Refusals.{Draws, sign_input, VerifiesInput};
 
 use fips204::Fault;
 use fips204::ml_dsa_44::{PrivateKey, PublicKey, SIG_LEN};
@@ -31,7 +31,7 @@ pub fn signature_of(file: &[u8]) -> Option<[u8; SIG_LEN]>
 /// The hash mu of a message in two pieces, under a key with this `tr`: a byte 0, the length of the context, the
 /// context, and the message (FIPS 204, Algorithm 2).
 pub fn joined_hash<H: Xof>(tr: &[u8; 64], first: &[u8], second: &[u8]) -> [u8; 64]
-    ensures { result ≡ message_hash H.front tr.now (framed (first.now ++ second.now) CONTEXT.now) }
+    ensures { result ≡ representative H.front tr.now (plain (first.now ++ second.now) CONTEXT.now) }
 {
     hash::<H, 64>(&[tr, &[0, 6], CONTEXT, first, second])
 }
@@ -45,7 +45,7 @@ pub fn signed_joined<H: Xof, G: Xof, R: CryptoRngCore>(
     second: &[u8],
 ) -> Result<[u8; SIG_LEN], Fault>
     ensures { Draws R.gives R.refuses rng.old rng.new Fault.InternalRng
-        (λ rnd. sign_message set_44 H.front G.front key.now rnd (first.now ++ second.now) CONTEXT.now) result }
+        (λ rnd. sign_input set_44 H.front G.front key.now rnd (plain (first.now ++ second.now) CONTEXT.now)) result }
 {
     key.sign_mu(rng, &joined_hash::<H>(key.tr(), first, second), true)
 }
@@ -57,7 +57,7 @@ pub fn accepts_joined<H: Xof, G: Xof>(
     second: &[u8],
     signature: &[u8; SIG_LEN],
 ) -> bool
-    ensures { IsTrue result ↔ VerifiesMessage set_44 H.front G.front key.now (first.now ++ second.now) signature.now CONTEXT.now }
+    ensures { IsTrue result ↔ VerifiesInput set_44 H.front G.front key.now signature.now (plain (first.now ++ second.now) CONTEXT.now) }
 {
     key.verify_mu(&joined_hash::<H>(key.tr(), first, second), signature)
 }

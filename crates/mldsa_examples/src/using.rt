@@ -2,6 +2,7 @@
 #![tactic(auto)]
 
 ghost use Rattle.std.specs.Prelude.{◌≡◌, true, Ok, Err, IfOk, MatchResult};
+ghost use Rattle.fips204.specs.Framing.{plain};
 
 use fips204::ml_dsa_44::{self, PK_LEN, SIG_LEN, SK_LEN};
 use fips204::pre_hash::SHA2_256;
@@ -110,7 +111,7 @@ where
     K::PublicKey: SerDes<ByteArray = [u8; PK]> + Drop,
     K::PrivateKey: SerDes<ByteArray = [u8; SK]> + Signer<Signature = [u8; SIG]> + Drop,
     ensures { MatchResult (K.generated seed.now)
-        (λ keys. MatchResult (K.PrivateKey.signs keys.1 random.now message.now CONTEXT.now)
+        (λ keys. MatchResult (K.PrivateKey.signs keys.1 random.now (plain message.now CONTEXT.now))
         (λ _. result ≡ Ok true) (λ fault. result ≡ Err fault))
         (λ fault. result ≡ Err fault) }
 {

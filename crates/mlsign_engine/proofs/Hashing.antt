@@ -5,7 +5,7 @@ use Rattle.std.specs.Io.KnownBytes.{Consumes, IsAtEnd}
 use Rattle.shake.specs.Pieces.{Holds}
 use Rattle.shake.specs.Shake.{shake}
 use Rattle.shake.specs.declared.sponge.Shake.{Shake}
-use Rattle.fips204.specs.Framing.{framed, message_hash}
+use Rattle.fips204.specs.Framing.{plain, frame, representative}
 use Rattle.fips204_shake.specs.Fronts.{shake256_front}
 use Rattle.mlsign_engine.specs.Messages.{GivesAll}
 
@@ -13,7 +13,7 @@ use Rattle.mlsign_engine.specs.Messages.{GivesAll}
 pub record IsTaken (old new : Option (List ℕ)) (tr context : List ℕ) (hasher : Shake 136) : Type 0 where
   pub given : List ℕ
   pub consumed : Consumes old new given
-  pub held : Holds hasher (tr ++ framed given context)
+  pub held : Holds hasher (tr ++ frame 0 context given)
 
 consumes_none : (known : Option (List ℕ)) → Consumes known known []
 consumes_none None = tt
@@ -25,12 +25,12 @@ consumes_more (Some xs) None c x y p q = absurd p
 consumes_more (Some xs) (Some ys) None x y p q = absurd q
 consumes_more (Some xs) (Some ys) (Some zs) x y p q = p ∙ ap (λ (z : List ℕ). x ++ z) q ∙ sym (append_assoc x y zs)
 
-framed_more : (tr context given piece : List ℕ) → (tr ++ framed given context) ++ piece ≡ tr ++ framed (given ++ piece) context
+framed_more : (tr context given piece : List ℕ) → (tr ++ frame 0 context given) ++ piece ≡ tr ++ frame 0 context (given ++ piece)
 framed_more tr context given piece =
-    append_assoc tr (framed given context) piece ∙ ap (λ (z : List ℕ). tr ++ 0 ∷ length context ∷ z) (append_assoc context given piece)
+    append_assoc tr (frame 0 context given) piece ∙ ap (λ (z : List ℕ). tr ++ 0 ∷ length context ∷ z) (append_assoc context given piece)
 
 -- before the first piece
-pub taken_none : (known : Option (List ℕ)) (tr context : List ℕ) (hasher : Shake 136) → Holds hasher (tr ++ framed [] context) → IsTaken known known tr context hasher
+pub taken_none : (known : Option (List ℕ)) (tr context : List ℕ) (hasher : Shake 136) → Holds hasher (tr ++ frame 0 context []) → IsTaken known known tr context hasher
 taken_none known tr context hasher held = record { given = []; consumed = consumes_none known; held = held }
 
 -- after one more
@@ -40,7 +40,7 @@ taken_more a b c tr context piece before after so_far consumed updates =
     record {
       given = so_far.given ++ piece;
       consumed = consumes_more a b c so_far.given piece so_far.consumed consumed;
-      held = subst (λ (m : List ℕ). Holds after m) (framed_more tr context so_far.given piece) (updates (tr ++ framed so_far.given context) so_far.held);
+      held = subst (λ (m : List ℕ). Holds after m) (framed_more tr context so_far.given piece) (updates (tr ++ frame 0 context so_far.given) so_far.held);
     }
 
 consumes_last : (a b c : Option (List ℕ)) (x y : List ℕ) → Consumes a b x → Consumes b c y → y ≡ [] → Consumes a c x
@@ -49,11 +49,11 @@ consumes_last a b c x y p q none = subst (λ (z : List ℕ). Consumes a c z) (ap
 -- at the end of the message
 pub taken_all : (a b c : Option (List ℕ)) (tr context piece : List ℕ) (hasher : Shake 136) (mu : List ℕ) → IsTaken a b tr context hasher → Consumes b c piece → piece ≡ []
     → IsAtEnd c → ((m : List ℕ) → Holds hasher m → mu ≡ take 64 (shake256_front m))
-    → (message : List ℕ) × GivesAll a c message × (mu ≡ message_hash shake256_front tr (framed message context))
+    → (message : List ℕ) × GivesAll a c message × (mu ≡ representative shake256_front tr (plain message context))
 taken_all a b c tr context piece hasher mu so_far consumed none ended hash = (
   so_far.given,
   record { taken = consumes_last a b c so_far.given piece so_far.consumed consumed none; ended = ended },
-  hash (tr ++ framed so_far.given context) so_far.held,
+  hash (tr ++ frame 0 context so_far.given) so_far.held,
 )
 
 -- the first bytes of a longer output

@@ -6,13 +6,13 @@ use Rattle.std.proofs.lemmas.Slice.Eq.{bytes_eq-Decides}
 use Rattle.fips204.specs.fault.Fault.{Fault}
 use Rattle.fips204.specs.fault.Fault.TheVariants.{InternalRng}
 use Rattle.fips204.specs.declared.traits.DummyRng.{DummyRng}
-use Rattle.fips204.specs.Framing.{plain, framed, message_hash}
+use Rattle.fips204.specs.Framing.{plain, representative}
 use Rattle.fips204.specs.Signing.{sign}
 use Rattle.fips204.specs.Encodings.{public_key_bytes}
 use Rattle.fips204.specs.Completeness.{SignedIsAccepted, IsPair, AcceptsSigned}
 use Rattle.fips204.specs.Keys.{PublicParts, PrivateParts, ArePrivateParts, IsPublicKeyOf, IsPrivateKeyOf, TellsWhole}
 use Rattle.fips204.specs.ParameterSets.{ParameterSet, is_parameter_set, signature_length}
-use Rattle.fips204.specs.Refusals.{generated, derived, sign_message, Draws}
+use Rattle.fips204.specs.Refusals.{generated, derived, Draws, sign_input}
 use Rattle.fips204_shake.specs.Fronts.{shake256_front, shake128_front, length-shake256_front}
 use Rattle.mlsign_files.specs.Keys.{PrivateParts as FileParts, Seed, Expanded, Both, HasPrivateSizes, private_length}
 use Rattle.mlsign_files.specs.declared.algorithm.Algorithm.{Algorithm}
@@ -77,14 +77,14 @@ short_context context short =
 -- what a key of a file signed
 pub signs_at : (p : ParameterSet) (law : SignedIsAccepted) → IsTrue (is_parameter_set p) → (parts : FileParts) (sk : PrivateParts)
     (random context message signature mu : List ℕ) (old new : Option (List ℕ)) → ArePrivateParts p.k p.l sk → HasPrivate p parts sk → length context ≤ 255
-    → GivesAll old new message → mu ≡ message_hash shake256_front sk.tr (framed message context)
+    → GivesAll old new message → mu ≡ representative shake256_front sk.tr (plain message context)
     → sign p shake256_front shake128_front sk mu random ≡ Ok signature → length signature ≡ signature_length p
     → SignsAt p parts random context old new signature
 signs_at p law known parts sk random context message signature mu old new range has short given hash signed size =
     let keys = has.1 in
     let accepts : AcceptsSigned p shake256_front shake128_front has.0 sk =
     ((law p shake256_front shake128_front has.0 sk known long_fronts).0 range keys.whole keys.derives).0 in
-    let signed_message : sign_message p shake256_front shake128_front sk random message context ≡ Ok signature =
+    let signed_message : sign_input p shake256_front shake128_front sk random (plain message context) ≡ Ok signature =
     rw (short_context context short) (ap (λ (z : List ℕ). sign p shake256_front shake128_front sk z random) (sym hash) ∙ signed) in
     record {
       message = message;
@@ -93,7 +93,7 @@ signs_at p law known parts sk random context message signature mu old new range 
       sk = sk;
       keys = keys;
       signed = signed_message;
-      accepted = (size, accepts.inputs random signature (plain message context) signed_message);
+      accepted = (size, accepts random signature (plain message context) signed_message);
     }
 
 -- the sizes of a file's private key, by the length of an expanded one

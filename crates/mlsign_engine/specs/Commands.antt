@@ -3,7 +3,8 @@ use Rattle.std.specs.Prelude.{◌≡◌, ◌↔◌, ◌⊎◌, ℕ, List, length
 use Rattle.fips204.specs.Encodings.{public_key_bytes, private_key_bytes}
 use Rattle.fips204.specs.Keys.{PublicParts, PrivateParts, IsPublicKeyOf, IsPrivateKeyOf, IsWhole}
 use Rattle.fips204.specs.ParameterSets.{ParameterSet, set_44, set_65, set_87, signature_length}
-use Rattle.fips204.specs.Refusals.{generated, derived, sign_message, VerifiesMessage}
+use Rattle.fips204.specs.Refusals.{generated, derived, sign_input, VerifiesInput}
+use Rattle.fips204.specs.Framing.{plain}
 use Rattle.fips204_shake.specs.Fronts.{shake256_front, shake128_front}
 use Rattle.mlsign_files.specs.Keys.{IsPublicFile, IsPrivateFile, PrivateParts as FileParts, Seed, Expanded, Both}
 use Rattle.mlsign_files.specs.Pem.{IsPem}
@@ -37,7 +38,7 @@ pub record IsPublicText (text : List ℕ) (algorithm : Algorithm) (bytes : List 
 -- the public key with these bytes accepts these bytes as a signature of the message
 abbrev pub IsValid : ParameterSet → PublicParts → List ℕ → List ℕ → List ℕ → Type 0
 IsValid p key signature context message =
-    (length signature ≡ signature_length p) × VerifiesMessage p shake256_front shake128_front key message signature context
+    (length signature ≡ signature_length p) × VerifiesInput p shake256_front shake128_front key signature (plain message context)
 
 -- `verify`: the file has a public key, and the answer is whether it accepts the signature
 pub record Judges (public signature context message : List ℕ) (valid : Bool) : Type 0 where
@@ -94,7 +95,7 @@ pub record Signs (private random context message signature : List ℕ) : Type 0 
   pub pk : PublicParts
   pub sk : PrivateParts
   pub keys : HasKeys (set_of algorithm) parts pk sk
-  pub signed : sign_message (set_of algorithm) shake256_front shake128_front sk random message context ≡ Ok signature
+  pub signed : sign_input (set_of algorithm) shake256_front shake128_front sk random (plain message context) ≡ Ok signature
   pub accepted : IsValid (set_of algorithm) pk signature context message
 
 -- `keygen`: the texts have both keys of a seed; that of the private one has the seed

@@ -8,7 +8,8 @@ use Rattle.mlsign_engine.specs.declared.fault.CommandFault.{CommandFault}
 use Rattle.mlsign_engine.specs.declared.fault.CommandFault.TheVariants.{Key, Inconsistent, Library, Context, Memory, Message}
 use Rattle.mlsign_engine.specs.Commands.{IsValid, HasKeys}
 use Rattle.mlsign_files.specs.Keys.{PrivateParts as FileParts, Seed, Expanded, Both}
-use Rattle.fips204.specs.Refusals.{sign_message}
+use Rattle.fips204.specs.Refusals.{sign_input}
+use Rattle.fips204.specs.Framing.{plain}
 
 -- a matrix, keys and signatures are no larger than those of the largest set
 abbrev pub AreSmall : ℕ → ℕ → ℕ → ℕ → ℕ → Type 0
@@ -40,7 +41,7 @@ pub record SignsAt (p : ParameterSet) (parts : FileParts) (random context : List
   pub pk : PublicParts
   pub sk : PrivateParts
   pub keys : HasKeys p parts pk sk
-  pub signed : sign_message p shake256_front shake128_front sk random message context ≡ Ok signature
+  pub signed : sign_input p shake256_front shake128_front sk random (plain message context) ≡ Ok signature
   pub accepted : IsValid p pk signature context message
 
 -- a fault of signing with a key that was read

@@ -2,8 +2,9 @@
 #![tactic(auto)]
 
 ghost use Rattle.std.specs.Prelude.{◌≡◌, ◌≤◌, ◌↔◌, length, false, IsTrue, IfOk, IfErr};
-ghost use Rattle.fips204.specs.Acceptance.{Verifies};
 ghost use Rattle.fips204.specs.Keys.{IsPublicKeyOf};
+ghost use Rattle.fips204.specs.Framing.{represented};
+ghost use Rattle.fips204.specs.Refusals.{VerifiesInput};
 ghost use Rattle.fips204_shake.specs.Fronts.{shake256_front, shake128_front};
 ghost use Rattle.mlsign_engine.specs.Commands.{HasPublicBytes};
 ghost use Rattle.mlsign_engine.specs.InnerSteps.{AreSmall, HasLengths, JudgesAt, HasPrivate, SignsAt, IsSigningFault};
@@ -96,7 +97,7 @@ where
     fn accepts(key: &PublicKey<K, L>, mu: &[u8; 64], signature: &[u8]) -> bool
         requires { AreSmall K L PK_LEN SK_LEN SIG_LEN }
         ensures { IsTrue result ↔ ((length signature.now ≡ SIG_LEN)
-            × Verifies S.set shake256_front shake128_front key.now mu.now signature.now) }
+            × VerifiesInput S.set shake256_front shake128_front key.now signature.now (represented mu.now)) }
     {
         if signature.len() != SIG_LEN {
             return false;

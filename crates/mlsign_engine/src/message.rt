@@ -3,7 +3,7 @@
 
 ghost use Rattle.std.specs.Prelude.{◌≡◌, ◌≤◌, ◌++◌, ℕ, List, [], length, take, false, IfOk, IfErr};
 ghost use Rattle.shake.specs.Pieces.{Holds};
-ghost use Rattle.fips204.specs.Framing.{framed, message_hash};
+ghost use Rattle.fips204.specs.Framing.{plain, frame, representative};
 ghost use Rattle.fips204_shake.specs.Fronts.{shake256_front};
 ghost use Rattle.mlsign_engine.specs.Messages.{GivesAll};
 
@@ -19,7 +19,7 @@ const PIECE: usize = 65536;
 /// context (FIPS 204, Algorithm 2).
 fn begun(tr: &[u8; 64], context: &[u8]) -> Shake256
     requires { length context.now ≤ 255 }
-    ensures { Holds result (tr.now ++ framed [] context.now) }
+    ensures { Holds result (tr.now ++ frame 0 context.now []) }
 {
     let mut hasher = Shake256::new();
     hasher.update(tr);
@@ -51,7 +51,7 @@ pub(crate) fn message_mu<I: Read>(
     requires short { length context.now ≤ 255 }
     ensures hashed { IfOk result (λ mu. (message : List ℕ)
         × GivesAll (I.remaining input.old.device) (I.remaining input.new.device) message
-        × (mu ≡ message_hash shake256_front tr.now (framed message context.now))) }
+        × (mu ≡ representative shake256_front tr.now (plain message context.now))) }
     ensures fault { IfErr result (λ fault. fault ≡ CommandFault.Message) }
 {
     let mut hasher = begun(tr, context);

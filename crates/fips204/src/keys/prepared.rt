@@ -3,8 +3,8 @@
 #![tactic(auto)]
 
 ghost use Rattle.std.specs.Prelude.{◌≡◌, ◌↔◌, length, map, IsTrue};
-ghost use Rattle.fips204.specs.Framing.{message_hash, plain, hashed};
-ghost use Rattle.fips204.specs.Prepared.{sign_prepared, sign_message_prepared, sign_digest_prepared, AcceptedIfWholePrepared, IsEachSigned, IsEachJudged, VerifiesPrepared, VerifiesMessagePrepared, VerifiesDigestPrepared};
+ghost use Rattle.fips204.specs.Framing.{plain, hashed, framed, represented};
+ghost use Rattle.fips204.specs.Prepared.{sign_prepared, AcceptedIfWholePrepared, IsEachSigned, IsEachJudged, VerifiesPrepared};
 ghost use Rattle.fips204.specs.Refusals.{input_fault, DrawsIf, DrawsUnless};
 
 use crate::ml_dsa;
@@ -29,8 +29,8 @@ where
 {
     /// Signs the hash `mu` of a framed message with the random bytes `rnd`.
     fn sign_hash(&self, mu: &[u8; 64], rnd: &[u8; 32]) -> Result<[u8; SIG_LEN], Fault>
-        ensures answer { result ≡ sign_prepared S.set H.front self.now mu.now rnd.now }
-        ensures accepted { AcceptedIfWholePrepared S.set self.now (λ pk signature. VerifiesPrepared S.set H.front pk mu.now signature) result }
+        ensures answer { result ≡ sign_prepared S.set H.front self.now rnd.now (represented mu.now) }
+        ensures accepted { AcceptedIfWholePrepared S.set self.now (λ pk signature. VerifiesPrepared S.set H.front pk signature (represented mu.now)) result }
     {
         let p = sized_params::<S, K, L, LAMBDA_DIV4, SIG_LEN>();
         let key = SigningKey {
@@ -49,9 +49,9 @@ where
         ctx: &[u8],
     ) -> Result<[u8; SIG_LEN], Fault>
         ensures answer { DrawsUnless (input_fault (plain message.now ctx.now)) R.gives R.refuses rng.old rng.new Fault.SignRng
-            (λ rnd. sign_message_prepared S.set H.front self.now rnd message.now ctx.now) result }
+            (λ rnd. sign_prepared S.set H.front self.now rnd (plain message.now ctx.now)) result }
         ensures accepted { AcceptedIfWholePrepared S.set self.now
-            (λ pk signature. VerifiesMessagePrepared S.set H.front pk message.now signature ctx.now) result }
+            (λ pk signature. VerifiesPrepared S.set H.front pk signature (plain message.now ctx.now)) result }
     {
         let mu = ml_dsa::message_mu::<H>(&self.key.tr, message, ctx)?;
         self.sign_hash(&mu, &draw(rng, Fault::SignRng)?)
@@ -64,9 +64,9 @@ where
         message: &[u8],
         ctx: &[u8],
     ) -> Result<[u8; SIG_LEN], Fault>
-        ensures answer { result ≡ sign_message_prepared S.set H.front self.now seed.now message.now ctx.now }
+        ensures answer { result ≡ sign_prepared S.set H.front self.now seed.now (plain message.now ctx.now) }
         ensures accepted { AcceptedIfWholePrepared S.set self.now
-            (λ pk signature. VerifiesMessagePrepared S.set H.front pk message.now signature ctx.now) result }
+            (λ pk signature. VerifiesPrepared S.set H.front pk signature (plain message.now ctx.now)) result }
     {
         self.try_sign_with_rng(&mut DummyRng { bytes: *seed }, message, ctx)
     }
@@ -80,9 +80,9 @@ where
         hash_oid: &[u8],
     ) -> Result<[u8; SIG_LEN], Fault>
         ensures answer { DrawsUnless (input_fault (hashed hash.now ctx.now hash_oid.now)) R.gives R.refuses rng.old rng.new Fault.HashRng
-            (λ rnd. sign_digest_prepared S.set H.front self.now rnd hash.now ctx.now hash_oid.now) result }
+            (λ rnd. sign_prepared S.set H.front self.now rnd (hashed hash.now ctx.now hash_oid.now)) result }
         ensures accepted { AcceptedIfWholePrepared S.set self.now
-            (λ pk signature. VerifiesDigestPrepared S.set H.front pk hash.now signature ctx.now hash_oid.now) result }
+            (λ pk signature. VerifiesPrepared S.set H.front pk signature (hashed hash.now ctx.now hash_oid.now)) result }
     {
         let mu = ml_dsa::digest_mu::<H>(&self.key.tr, hash, ctx, hash_oid)?;
         self.sign_hash(&mu, &draw(rng, Fault::HashRng)?)
@@ -96,9 +96,9 @@ where
         ctx: &[u8],
         hash_oid: &[u8],
     ) -> Result<[u8; SIG_LEN], Fault>
-        ensures answer { result ≡ sign_digest_prepared S.set H.front self.now seed.now hash.now ctx.now hash_oid.now }
+        ensures answer { result ≡ sign_prepared S.set H.front self.now seed.now (hashed hash.now ctx.now hash_oid.now) }
         ensures accepted { AcceptedIfWholePrepared S.set self.now
-            (λ pk signature. VerifiesDigestPrepared S.set H.front pk hash.now signature ctx.now hash_oid.now) result }
+            (λ pk signature. VerifiesPrepared S.set H.front pk signature (hashed hash.now ctx.now hash_oid.now)) result }
     {
         self.try_hash_sign_with_rng(&mut DummyRng { bytes: *seed }, hash, ctx, hash_oid)
     }
@@ -111,9 +111,9 @@ where
         hedged: bool,
     ) -> Result<[u8; SIG_LEN], Fault>
         ensures answer { DrawsIf hedged R.gives R.refuses rng.old rng.new Fault.InternalRng
-            (sign_prepared S.set H.front self.now (message_hash H.front self.now.parts.tr m.now)) result }
+            (λ rnd. sign_prepared S.set H.front self.now rnd (framed m.now)) result }
         ensures accepted { AcceptedIfWholePrepared S.set self.now
-            (λ pk signature. VerifiesPrepared S.set H.front pk (message_hash H.front self.now.parts.tr m.now) signature) result }
+            (λ pk signature. VerifiesPrepared S.set H.front pk signature (framed m.now)) result }
     {
         self.sign_mu(rng, &ml_dsa::mu::<H>(&[&self.key.tr, m]), hedged)
     }
@@ -126,8 +126,8 @@ where
         hedged: bool,
     ) -> Result<[u8; SIG_LEN], Fault>
         ensures answer { DrawsIf hedged R.gives R.refuses rng.old rng.new Fault.InternalRng
-            (sign_prepared S.set H.front self.now mu.now) result }
-        ensures accepted { AcceptedIfWholePrepared S.set self.now (λ pk signature. VerifiesPrepared S.set H.front pk mu.now signature) result }
+            (λ rnd. sign_prepared S.set H.front self.now rnd (represented mu.now)) result }
+        ensures accepted { AcceptedIfWholePrepared S.set self.now (λ pk signature. VerifiesPrepared S.set H.front pk signature (represented mu.now)) result }
     {
         self.sign_hash(mu, &draw_if(hedged, rng)?)
     }
@@ -143,7 +143,7 @@ where
     )
         requires seeds { length seeds.now ≡ length messages.now }
         requires room { length out.old ≡ length messages.now }
-        ensures { IsEachSigned (λ rnd message. sign_message_prepared S.set H.front self.now rnd message ctx.now)
+        ensures { IsEachSigned (λ rnd message. sign_prepared S.set H.front self.now rnd (plain message ctx.now))
             seeds.now (map (λ m. m.now) messages.now) out.new }
     {
         for i in 0..messages.len() {
@@ -167,7 +167,7 @@ where
 {
     /// Verifies (Algorithm 3), as `Verifier::verify`.
     pub fn verify(&self, message: &[u8], signature: &[u8; SIG_LEN], ctx: &[u8]) -> bool
-        ensures { IsTrue result ↔ VerifiesMessagePrepared S.set H.front self.now message.now signature.now ctx.now }
+        ensures { IsTrue result ↔ VerifiesPrepared S.set H.front self.now signature.now (plain message.now ctx.now) }
     {
         match ml_dsa::message_mu::<H>(&self.key.tr, message, ctx) {
             Ok(mu) => self.verify_mu(&mu, signature),
@@ -183,7 +183,7 @@ where
         ctx: &[u8],
         hash_oid: &[u8],
     ) -> bool
-        ensures { IsTrue result ↔ VerifiesDigestPrepared S.set H.front self.now hash.now signature.now ctx.now hash_oid.now }
+        ensures { IsTrue result ↔ VerifiesPrepared S.set H.front self.now signature.now (hashed hash.now ctx.now hash_oid.now) }
     {
         match ml_dsa::digest_mu::<H>(&self.key.tr, hash, ctx, hash_oid) {
             Ok(mu) => self.verify_mu(&mu, signature),
@@ -193,14 +193,14 @@ where
 
     /// Verifies a framed message (Algorithm 8), as `PublicKey::verify_internal`.
     pub fn verify_internal(&self, m: &[u8], sig: &[u8; SIG_LEN]) -> bool
-        ensures { IsTrue result ↔ VerifiesPrepared S.set H.front self.now (message_hash H.front self.now.parts.tr m.now) sig.now }
+        ensures { IsTrue result ↔ VerifiesPrepared S.set H.front self.now sig.now (framed m.now) }
     {
         self.verify_mu(&ml_dsa::mu::<H>(&[&self.key.tr, m]), sig)
     }
 
     /// Verifies the hash `mu` of a framed message, as `PublicKey::verify_mu`.
     pub fn verify_mu(&self, mu: &[u8; 64], sig: &[u8; SIG_LEN]) -> bool
-        ensures { IsTrue result ↔ VerifiesPrepared S.set H.front self.now mu.now sig.now }
+        ensures { IsTrue result ↔ VerifiesPrepared S.set H.front self.now sig.now (represented mu.now) }
     {
         let p = sized_params::<S, K, L, LAMBDA_DIV4, SIG_LEN>();
         ml_dsa::verify_prepared::<K, L, LAMBDA_DIV4, SIG_LEN, H>(&p, self, mu, sig)
@@ -217,7 +217,7 @@ where
     )
         requires signatures { length signatures.now ≡ length messages.now }
         requires room { length out.old ≡ length messages.now }
-        ensures { IsEachJudged (λ message signature. VerifiesMessagePrepared S.set H.front self.now message signature ctx.now)
+        ensures { IsEachJudged (λ message signature. VerifiesPrepared S.set H.front self.now signature (plain message ctx.now))
             (map (λ m. m.now) messages.now) signatures.now out.new }
     {
         for i in 0..messages.len() {

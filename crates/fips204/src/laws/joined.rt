@@ -11,13 +11,12 @@ ghost use Rattle.fips204_base.specs.Transforms.{bit_reversed, inverse_transform,
 ghost use Rattle.fips204_base.specs.Vectors.{polynomial_of};
 ghost use Rattle.fips204_base.specs.declared.helpers.zeta_table.TheConstants.{ZETA_TABLE_MONT};
 ghost use Rattle.fips204_base.specs.declared.types.R.{R};
-ghost use Rattle.fips204.specs.Acceptance.{Verifies};
-ghost use Rattle.fips204.specs.Framing.{framed, plain};
+ghost use Rattle.fips204.specs.Framing.{Input, plain, frame};
 ghost use Rattle.fips204.specs.Keys.{PublicParts, IsWhole};
 ghost use Rattle.fips204.specs.LongerFronts.{IsDecided};
 ghost use Rattle.fips204.specs.ParameterSets.{set_44, set_65, set_87};
-ghost use Rattle.fips204.specs.Prepared.{sign_message_prepared, VerifiesMessagePrepared};
-ghost use Rattle.fips204.specs.Refusals.{generated, input_fault};
+ghost use Rattle.fips204.specs.Prepared.{sign_prepared, VerifiesPrepared};
+ghost use Rattle.fips204.specs.Refusals.{generated, input_fault, VerifiesInput};
 ghost use Rattle.fips204.specs.SchemeLaws.{NamesCollision, NamesKeyCollision};
 ghost use Rattle.fips204.specs.Sets.{set_of};
 
@@ -102,7 +101,7 @@ where
     K::PublicKey: SerDes<ByteArray = [u8; PK]> + Drop,
     K::PrivateKey: SerDes<ByteArray = [u8; SK]> + Signer<Signature = [u8; SIG]> + Drop,
     ensures { MatchResult (K.generated xi.now)
-        (λ keys. MatchResult (K.PrivateKey.signs keys.1 rnd.now message.now ctx.now)
+        (λ keys. MatchResult (K.PrivateKey.signs keys.1 rnd.now (plain message.now ctx.now))
         (λ _. result ≡ Ok true) (λ fault. result ≡ Err fault))
         (λ fault. result ≡ Err fault) }
 {
@@ -121,7 +120,7 @@ pub(crate) fn second_of_two<H: Xof>(
     second: &[u8],
     ctx: &[u8],
 ) -> Result<[u8; SIG_LEN], Fault>
-    ensures { result ≡ sign_message_prepared set_44 H.front key.now (slice_index_or seeds.now 1 []) second.now ctx.now }
+    ensures { result ≡ sign_prepared set_44 H.front key.now (slice_index_or seeds.now 1 []) (plain second.now ctx.now) }
 {
     let mut answers = [Err(Fault::SamplingLimit); 2];
     key.sign_each(seeds, &[first, second], ctx, &mut answers);
@@ -139,7 +138,7 @@ pub(crate) fn accepted_for_both_over_one_byte(
 ) -> bool
     ensures { IsTrue result → first.now ≢ second.now
         → NamesCollision set_44 (λ _. replicate 4096 0x55) (λ _. replicate 4096 0x55) key.now signature.now
-        (framed first.now ctx.now) (framed second.now ctx.now) }
+        (frame 0 ctx.now first.now) (frame 0 ctx.now second.now) }
 {
     binding();
     key.verify(first, signature, ctx) && key.verify(second, signature, ctx)
@@ -156,7 +155,7 @@ pub(crate) fn accepted_under_both<H: Xof, G: Xof>(
 ) -> Result<bool, Fault>
     ensures { IfOk result (λ yes. IsTrue yes → bytes ≢ others
         → (pk other : PublicParts) × NamesKeyCollision set_44 H.front G.front bytes others pk other signature.now
-        (framed message.now ctx.now) (framed message.now ctx.now)) }
+        (frame 0 ctx.now message.now) (frame 0 ctx.now message.now)) }
 {
     binding();
     let first = PublicKey::<H, G>::try_from_bytes(bytes)?;
@@ -166,7 +165,7 @@ pub(crate) fn accepted_under_both<H: Xof, G: Xof>(
 
 /// Two messages under contexts that are short enough are the same where their framed messages are.
 pub(crate) fn one_message()
-    ensures { (m n c d : List ℕ) → input_fault (plain m c) ≡ None → input_fault (plain n d) ≡ None → framed m c ≡ framed n d → (m ≡ n) × (c ≡ d) }
+    ensures { (m n c d : List ℕ) → input_fault (plain m c) ≡ None → input_fault (plain n d) ≡ None → frame 0 c m ≡ frame 0 d n → (m ≡ n) × (c ≡ d) }
 {
     framing();
 }
@@ -191,8 +190,8 @@ pub(crate) fn one_hint()
 
 /// A verdict over the streams in counter mode that is decided stays over the longer ones.
 pub(crate) fn decided_verdict()
-    ensures { (pk : PublicParts) (mu signature : List ℕ) → IsDecided set_44 sha256_front sha512_front pk signature
-        → Verifies set_44 sha256_long_front sha512_long_front pk mu signature → Verifies set_44 sha256_front sha512_front pk mu signature }
+    ensures { (pk : PublicParts) (input : Input) (signature : List ℕ) → IsDecided set_44 sha256_front sha512_front pk signature
+        → VerifiesInput set_44 sha256_long_front sha512_long_front pk signature input → VerifiesInput set_44 sha256_front sha512_front pk signature input }
 {
     counter_fronts();
     longer_front::<Sha256Ctr, Sha512Ctr, Sha256CtrLong, Sha512CtrLong>();
@@ -220,7 +219,7 @@ pub(crate) fn second_verdict<H: Xof>(
     signatures: &[[u8; SIG_LEN]; 2],
     ctx: &[u8],
 ) -> bool
-    ensures { IsTrue result ↔ VerifiesMessagePrepared set_44 H.front key.now second.now (slice_index_or signatures.now 1 []) ctx.now }
+    ensures { IsTrue result ↔ VerifiesPrepared set_44 H.front key.now (slice_index_or signatures.now 1 []) (plain second.now ctx.now) }
 {
     let mut answers = [false; 2];
     key.verify_each(&[first, second], signatures, ctx, &mut answers);

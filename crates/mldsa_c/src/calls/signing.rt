@@ -2,8 +2,8 @@
 #![tactic(auto)]
 
 ghost use Rattle.std.specs.Prelude.{◌≡◌, ◌≤◌, length};
-ghost use Rattle.fips204.specs.Refusals.{sign_message, sign_digest};
-ghost use Rattle.fips204.specs.Signing.{sign};
+ghost use Rattle.fips204.specs.Refusals.{sign_input};
+ghost use Rattle.fips204.specs.Framing.{plain, hashed, represented};
 ghost use Rattle.fips204_shake.specs.Fronts.{shake256_front, shake128_front};
 ghost use Rattle.mldsa_c.specs.Calls.{AreSmall, WritesSignature, SignsMessage, SignsDigest, SignsMu};
 
@@ -62,7 +62,7 @@ where
     ) -> u32
         requires small { AreSmall K L PK_LEN SK_LEN SIG_LEN }
         requires lengths { (length private_key.now ≡ SK_LEN) × (length random.now ≡ 32) × (length signature.old ≡ SIG_LEN) }
-        ensures { WritesSignature S.set private_key.now (λ sk. sign_message S.set shake256_front shake128_front sk random.now message.now context.now) signature.old signature.new result }
+        ensures { WritesSignature S.set private_key.now (λ sk. sign_input S.set shake256_front shake128_front sk random.now (plain message.now context.now)) signature.old signature.new result }
     {
         match Private::<K, L>::try_from_bytes(array_of(private_key)) {
             Ok(key) => {
@@ -104,7 +104,7 @@ where
     ) -> u32
         requires small { AreSmall K L PK_LEN SK_LEN SIG_LEN }
         requires lengths { (length private_key.now ≡ SK_LEN) × (length random.now ≡ 32) × (length signature.old ≡ SIG_LEN) }
-        ensures { WritesSignature S.set private_key.now (λ sk. sign_digest S.set shake256_front shake128_front sk random.now digest.now context.now oid.now) signature.old signature.new result }
+        ensures { WritesSignature S.set private_key.now (λ sk. sign_input S.set shake256_front shake128_front sk random.now (hashed digest.now context.now oid.now)) signature.old signature.new result }
     {
         match Private::<K, L>::try_from_bytes(array_of(private_key)) {
             Ok(key) => {
@@ -135,7 +135,7 @@ where
     fn write_mu_signature(private_key: &[u8], mu: &[u8], random: &[u8], signature: &mut [u8]) -> u32
         requires small { AreSmall K L PK_LEN SK_LEN SIG_LEN }
         requires lengths { (length private_key.now ≡ SK_LEN) × (length random.now ≡ 32) × (length signature.old ≡ SIG_LEN) × (length mu.now ≡ 64) }
-        ensures { WritesSignature S.set private_key.now (λ sk. sign S.set shake256_front shake128_front sk mu.now random.now) signature.old signature.new result }
+        ensures { WritesSignature S.set private_key.now (λ sk. sign_input S.set shake256_front shake128_front sk random.now (represented mu.now)) signature.old signature.new result }
     {
         match Private::<K, L>::try_from_bytes(array_of(private_key)) {
             Ok(key) => {
@@ -152,7 +152,7 @@ where
         mu: &[u8; 64],
         random: [u8; 32],
     ) -> Result<[u8; SIG_LEN], Fault>
-        ensures { result ≡ sign S.set shake256_front shake128_front key.now mu.now random }
+        ensures { result ≡ sign_input S.set shake256_front shake128_front key.now random (represented mu.now) }
     {
         key.sign_mu(&mut DummyRng { bytes: random }, mu, true)
     }

@@ -2,8 +2,8 @@
 #![tactic(auto)]
 
 ghost use Rattle.std.specs.Prelude.{◌≡◌, ◌≤◌, length};
-ghost use Rattle.fips204.specs.Acceptance.{Verifies};
-ghost use Rattle.fips204.specs.Refusals.{VerifiesMessage, VerifiesDigest};
+ghost use Rattle.fips204.specs.Refusals.{VerifiesInput};
+ghost use Rattle.fips204.specs.Framing.{plain, hashed, represented};
 ghost use Rattle.fips204_shake.specs.Fronts.{shake256_front, shake128_front};
 ghost use Rattle.mldsa_c.specs.Calls.{AreSmall, TellsVerdict, JudgesMessage, JudgesDigest, JudgesMu};
 
@@ -49,7 +49,7 @@ where
     fn verdict(public_key: &[u8], message: &[u8], context: &[u8], signature: &[u8]) -> u32
         requires small { AreSmall K L PK_LEN SK_LEN SIG_LEN }
         requires lengths { (length public_key.now ≡ PK_LEN) × (length signature.now ≡ SIG_LEN) }
-        ensures { TellsVerdict S.set public_key.now (λ pk. VerifiesMessage S.set shake256_front shake128_front pk message.now signature.now context.now) result }
+        ensures { TellsVerdict S.set public_key.now (λ pk. VerifiesInput S.set shake256_front shake128_front pk signature.now (plain message.now context.now)) result }
     {
         let key = Public::<K, L>::try_from_bytes(array_of(public_key)).unwrap();
         verdict_status(Ok(key.verify(message, &array_of(signature), context)))
@@ -84,7 +84,7 @@ where
     ) -> u32
         requires small { AreSmall K L PK_LEN SK_LEN SIG_LEN }
         requires lengths { (length public_key.now ≡ PK_LEN) × (length signature.now ≡ SIG_LEN) }
-        ensures { TellsVerdict S.set public_key.now (λ pk. VerifiesDigest S.set shake256_front shake128_front pk digest.now signature.now context.now oid.now) result }
+        ensures { TellsVerdict S.set public_key.now (λ pk. VerifiesInput S.set shake256_front shake128_front pk signature.now (hashed digest.now context.now oid.now)) result }
     {
         let key = Public::<K, L>::try_from_bytes(array_of(public_key)).unwrap();
         verdict_status(Ok(key.hash_verify(digest, &array_of(signature), context, oid)))
@@ -107,7 +107,7 @@ where
     fn mu_verdict(public_key: &[u8], mu: &[u8], signature: &[u8]) -> u32
         requires small { AreSmall K L PK_LEN SK_LEN SIG_LEN }
         requires lengths { (length public_key.now ≡ PK_LEN) × (length signature.now ≡ SIG_LEN) × (length mu.now ≡ 64) }
-        ensures { TellsVerdict S.set public_key.now (λ pk. Verifies S.set shake256_front shake128_front pk mu.now signature.now) result }
+        ensures { TellsVerdict S.set public_key.now (λ pk. VerifiesInput S.set shake256_front shake128_front pk signature.now (represented mu.now)) result }
     {
         let key = Public::<K, L>::try_from_bytes(array_of(public_key)).unwrap();
         verdict_status(Ok(key.verify_mu(&array_of(mu), &array_of(signature))))

@@ -14,8 +14,8 @@ returns-then-verify g c both differ =
     let long = λ (x : List ℕ). let all : 4096 ≤ length (H x) = omega (arith, g.met.H.Xof.front_size x, g.met.H.Xof.front_least) in all in
     let one : IsPublicKeyOf H 4 c.args.bytes pk = search rules in
     let two : IsPublicKeyOf H 4 c.args.others other = search rules in
-    elim (c.binding.ensures.keys_and_inputs set_44 H g.G.Xof.front c.args.bytes c.args.others pk other input input c.args.signature.now refl long one two
-    (c.verify.ensures.0 c.if-verify.true) (c.verify-then-verify.ensures.0 both)) [
+    elim (c.binding.ensures.keys set_44 H g.G.Xof.front c.args.bytes c.args.others pk other input input _ _ c.args.signature.now refl long one two
+    record { kind = refl; first = refl; second = refl } (c.verify.ensures.0 c.if-verify.true) (c.verify-then-verify.ensures.0 both)) [
       | inl same ↦ absurd (differ (sym one.same_bytes ∙ ap (λ (k : PublicParts). public_key_bytes k.rho k.t1) same.0 ∙ two.same_bytes))
       | inr named ↦ (pk, other, named)
     ]

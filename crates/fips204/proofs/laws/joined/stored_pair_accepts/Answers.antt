@@ -3,7 +3,7 @@ use Rattle.fips204_base.specs.Encodings.{public_key_bytes, private_key_bytes}
 use Rattle.fips204.specs.Framing.{plain}
 use Rattle.fips204.specs.Keys.{IsPublicKeyOf, IsPrivateKeyOf}
 use Rattle.fips204.specs.ParameterSets.{set_44}
-use Rattle.fips204.specs.Refusals.{generated, sign_message, VerifiesMessage}
+use Rattle.fips204.specs.Refusals.{generated, sign_input, VerifiesInput}
 use Rattle.fips204.proofs.laws.joined.stored_pair_accepts.Goals as goal
 
 pub returns : goal.returns
@@ -19,7 +19,8 @@ returns g c =
     let private_read : IsPrivateKeyOf 2 4 4 (private_key_bytes 2 sk.rho sk.key sk.tr sk.s1 sk.s2 sk.t0) c.in_ok-private.private = search rules in
     let public = (both.0.public_decoded c.in_ok-public-2.public).0 public_read in
     let private = (both.0.private_decoded c.in_ok-private.private).0 private_read in
-    let signed : sign_message set_44 H G c.in_ok-private.private c.args.rnd.now c.args.message.now c.args.ctx.now ≡ Ok c.in_ok-signature.signature = search rules in
-    let accepted : VerifiesMessage set_44 H G pk c.args.message.now c.in_ok-signature.signature c.args.ctx.now =
-    both.1.inputs c.args.rnd.now c.in_ok-signature.signature (plain c.args.message.now c.args.ctx.now) (rw private at signed) in
+    let input = plain c.args.message.now c.args.ctx.now in
+    let signed : sign_input set_44 H G c.in_ok-private.private c.args.rnd.now input ≡ Ok c.in_ok-signature.signature = search rules in
+    let accepted : VerifiesInput set_44 H G pk c.in_ok-signature.signature input =
+    both.1 c.args.rnd.now c.in_ok-signature.signature input (rw private at signed) in
     c.verify.ensures.1 (rw public accepted)

@@ -1,7 +1,7 @@
 use Rattle.std.proofs.Common.{rules, List, ℕ, ◌≡◌, length, refl, ap, ◌∙◌}
-use Rattle.fips204.specs.Framing.{framed, message_hash}
+use Rattle.fips204.specs.Framing.{plain, represented, representative}
 use Rattle.fips204.specs.Keys.{ArePrivateParts}
-use Rattle.fips204.specs.Signing.{sign}
+use Rattle.fips204.specs.Refusals.{sign_input}
 use Rattle.fips204.specs.declared.traits.DummyRng.{DummyRng}
 use Rattle.fips204_shake.specs.Fronts.{shake256_front, shake128_front}
 use Rattle.mlsign_files.specs.Keys.{private_parts}
@@ -15,10 +15,10 @@ returns-in-Ok g c =
     let key = c.in_ok-key.key in
     let range : ArePrivateParts p.k p.l key = rw (← sizes.rows, ← sizes.columns) c.tr.ensures.parts in
     let hashed = c.in_ok-mu.ensures.hashed in
-    let hash : c.in_ok-mu.mu ≡ message_hash shake256_front key.tr (framed hashed.0 c.args.context.now) =
-    hashed.2 ∙ ap (λ (tr : List ℕ). message_hash shake256_front tr (framed hashed.0 c.args.context.now)) c.tr.ensures.hash in
+    let hash : c.in_ok-mu.mu ≡ representative shake256_front key.tr (plain hashed.0 c.args.context.now) =
+    hashed.2 ∙ ap (λ (tr : List ℕ). representative shake256_front tr (plain hashed.0 c.args.context.now)) c.tr.ensures.hash in
     let before : DummyRng = record { bytes = c.args.random.now } in
-    let signed = drawn c.args.random.now before c.sign_mu.new.rng (sign p shake256_front shake128_front key c.in_ok-mu.mu) c.in-Ok.signature
+    let signed = drawn c.args.random.now before c.sign_mu.new.rng (λ (rnd : List ℕ). sign_input p shake256_front shake128_front key rnd (represented c.in_ok-mu.mu)) c.in-Ok.signature
     c.in-Ok.ensures.answer refl in
     let size : length c.in-Ok.signature ≡ g.row.SIG_LEN = search rules in
     record {

@@ -2,14 +2,15 @@ use Rattle.std.proofs.Common.{rules, arith, ◌≡◌, ◌∙◌, ℕ, List, [],
 use Rattle.fips204_base.specs.declared.fault.Fault.{Fault}
 use Rattle.fips204_base.specs.declared.fault.Fault.TheVariants.{SamplingLimit}
 use Rattle.std.proofs.lemmas.List.{get_or-map, length-map}
-use Rattle.fips204.specs.Prepared.{sign_message_prepared}
+use Rattle.fips204.specs.Framing.{plain}
+use Rattle.fips204.specs.Prepared.{sign_prepared}
 use Rattle.fips204_base.proofs.Vectors.{row_written}
 use Rattle.fips204.proofs.types.prepared.PreparedPrivateKey.sign_each.Goals as goal
 
 pub loop-i-preserved : goal.loop-i-preserved
 loop-i-preserved g c =
     let texts = map (λ (m : Bor (List ℕ)). m.now) c.args.messages.now in
-    let signed = λ (k : ℕ) (message : List ℕ). sign_message_prepared g.S.Set.set g.H.Xof.front c.args.self.now (get_or c.args.seeds.now k []) message c.args.ctx.now in
+    let signed = λ (k : ℕ) (message : List ℕ). sign_prepared g.S.Set.set g.H.Xof.front c.args.self.now (get_or c.args.seeds.now k []) (plain message c.args.ctx.now) in
     let text = get_or-map (λ (m : Bor (List ℕ)). m.now) c.args.messages.now c.loop-i.i record { ref_ptr = (0, 0); now = [] } [] c.loop-i-test.true in
     record {
       size = search rules;

@@ -1,14 +1,15 @@
 use Rattle.std.proofs.Common.{rules, arith, ◌≡◌, ◌∙◌, ℕ, List, [], sym, subst, map, get_or, Bool, false, IsTrue, Bor}
 use Rattle.std.specs.Prelude.{◌↔◌}
 use Rattle.std.proofs.lemmas.List.{get_or-map, get_or_default, length-map}
-use Rattle.fips204.specs.Prepared.{VerifiesMessagePrepared}
+use Rattle.fips204.specs.Framing.{plain}
+use Rattle.fips204.specs.Prepared.{VerifiesPrepared}
 use Rattle.fips204_base.proofs.Vectors.{row_written}
 use Rattle.fips204.proofs.types.prepared.PreparedPublicKey.verify_each.Goals as goal
 
 pub loop-i-preserved : goal.loop-i-preserved
 loop-i-preserved g c =
     let texts = map (λ (m : Bor (List ℕ)). m.now) c.args.messages.now in
-    let accepted = λ (k : ℕ) (message : List ℕ). VerifiesMessagePrepared g.S.Set.set g.H.Xof.front c.args.self.now message (get_or c.args.signatures.now k []) c.args.ctx.now in
+    let accepted = λ (k : ℕ) (message : List ℕ). VerifiesPrepared g.S.Set.set g.H.Xof.front c.args.self.now (get_or c.args.signatures.now k []) (plain message c.args.ctx.now) in
     let text = get_or-map (λ (m : Bor (List ℕ)). m.now) c.args.messages.now c.loop-i.i record { ref_ptr = (0, 0); now = [] } [] c.loop-i-test.true in
     let signature : c.index-signatures-i.result ≡ get_or c.args.signatures.now c.loop-i.i [] =
     c.index-signatures-i.is ∙ get_or_default c.args.signatures.now c.loop-i.i c.index-signatures-i.result [] (omega (arith, c.loop-i-test.true, c.requires.signatures)) in

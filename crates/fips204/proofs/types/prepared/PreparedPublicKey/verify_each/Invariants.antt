@@ -1,11 +1,12 @@
 use Rattle.std.proofs.Common.{◌≡◌, ◌<◌, ℕ, [], length, map, get_or, false, IsTrue}
 use Rattle.std.specs.Prelude.{◌↔◌}
-use Rattle.fips204.specs.Prepared.{VerifiesMessagePrepared}
+use Rattle.fips204.specs.Framing.{plain}
+use Rattle.fips204.specs.Prepared.{VerifiesPrepared}
 use Rattle.fips204.proofs.types.prepared.PreparedPublicKey.verify_each.Given as goal
 
 abbrev pub invariant-loop-i : goal.invariant-loop-i
 invariant-loop-i g l = record {
   size : length l.out ≡ length l.messages;
   judged : (k : ℕ) → k < l.i
-      → IsTrue (get_or l.out k false) ↔ VerifiesMessagePrepared g.S.Set.set g.H.Xof.front l.self (get_or (map (λ m. m.now) l.messages) k []) (get_or l.signatures k []) l.ctx;
+      → IsTrue (get_or l.out k false) ↔ VerifiesPrepared g.S.Set.set g.H.Xof.front l.self (get_or l.signatures k []) (plain (get_or (map (λ m. m.now) l.messages) k []) l.ctx);
 }
