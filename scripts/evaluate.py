@@ -375,6 +375,7 @@ LIBRARY = {
     "option_map": (2, lambda f, x: some(ap(f, x.parts[0])) if x.name == "Some" else {"None": NOTHING}[x.name]),
     "option_and_then": (2, option_and_then),
     "ok_or": (2, lambda x, fault: Made("Ok", x.parts) if x.name == "Some" else Made("Err", (fault,))),
+    "unwrap_or": (2, lambda x, other: x.parts[0] if x.name == "Some" else other),
     "to_le_bytes": (2, lambda width, n: tuple((n % 2 ** (8 * width)).to_bytes(width, "little"))),
     "codes": (1, lambda text: tuple(text.encode())),
     "sha256": (1, lambda xs: tuple(hashlib.sha256(bytes(listed(xs))).digest())),

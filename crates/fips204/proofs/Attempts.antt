@@ -17,10 +17,10 @@ use Rattle.fips204_base.proofs.Products.{row_below}
 use Rattle.fips204_base.proofs.Rounding.{high_bits_below}
 use Rattle.fips204_base.proofs.Masks.{mask-range}
 use Rattle.fips204_base.proofs.Vectors.{vector_of-ext, vector_of-range, vector-within}
-use Rattle.fips204.specs.Signing.{attempt, commitment, high_vector, hint_bit, hint_vector, passes_checks, checked_attempt, low_vector}
+use Rattle.fips204.specs.Signing.{attempt, commitment, hint_vector, passes_checks, checked_attempt, low_vector}
 use Rattle.fips204.specs.Keys.{PrivateParts}
 use Rattle.fips204.specs.ParameterSets.{ParameterSet, commitment_length}
-use Rattle.fips204.specs.SigningInputs.{attempt_answer, scaled}
+use Rattle.fips204.specs.SigningInputs.{attempt_answer, scaled, high_vector, hint_bit}
 use Rattle.fips204.proofs.ParameterSets.{rounding-size}
 use Rattle.fips204_base.specs.Network.{plain_matrix}
 
@@ -38,11 +38,9 @@ commitment-is p H mu w1 n bytes result size is e = e ∙ rw (size, is) refl
 -- ---- the high part
 
 high_vector-agree : (p : ParameterSet) (v w : ℕ → ℕ → ℕ) → Agree p.k v w → high_vector p v ≡ high_vector p w
-unfolding high_vector
 high_vector-agree p v w e = vector_of-ext p.k _ _ (λ r n h l. ap (λ x. pos (high_bits p.gamma2 x)) (e r n h l))
 
 high_vector-is : (p : ParameterSet) (w : ℕ → ℕ → ℕ) (w1 : List R) (k : ℕ) → k ≡ p.k → w1 ≡ vector_of k (λ r n. pos (high_bits p.gamma2 (w r n))) → w1 ≡ high_vector p w
-unfolding high_vector
 high_vector-is p w w1 k rows e = e ∙ rw rows refl
 
 -- ---- what the rejection checks depend on

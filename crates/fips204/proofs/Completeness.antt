@@ -1,8 +1,10 @@
 -- What signing answers is the signature of a kept attempt, and it is accepted.
 use Rattle.std.proofs.Common.{◌≡◌, ◌⊎◌, inl, inr, ◌+◌, ◌-◌, ◌*◌, ℕ, zero, suc, List, [], ◌∷◌, IsTrue, ◌&&◌, nat_lt, nat_le, length, map, Some, None, Ok, refl, ap, sym, ◌∙◌, ◌<◌, ◌≤◌, ◌++◌, pos, arith}
+use Rattle.std.specs.Prelude.{option_map, unwrap_or, Err}
 use Rattle.std.specs.declared.option.Option.{Option}
 use Rattle.std.specs.List.{range_with_len}
 use Rattle.std.proofs.lemmas.Bool.{cases_Bool, ltb-true, leb-true}
+use Rattle.fips204_base.specs.declared.fault.Fault.TheVariants.{SamplingLimit}
 use Rattle.fips204_base.specs.declared.types.R.{R}
 use Rattle.fips204_base.specs.declared.types.T.{T}
 use Rattle.fips204_base.specs.Residues.{vector_norm}
@@ -11,13 +13,13 @@ use Rattle.fips204_base.specs.Encodings.{signature_bytes, w1_bytes, all_ones}
 use Rattle.fips204_base.specs.Vectors.{vector_coefficients, matrix_product, IsVector}
 use Rattle.fips204.specs.ParameterSets.{ParameterSet, is_parameter_set, commitment_length}
 use Rattle.fips204.specs.Keys.{PrivateParts, ArePrivateParts, IsWhole, high_part, low_part}
-use Rattle.fips204.specs.Signing.{Attempt, limit, rejected, signed, response, low_vector, ct0, hint_vector, high_vector, passes_checks, commitment, checked_attempt, attempt, w_minus_cs2, first_answer, mask_seed, sign_with, sign_if_matrix, sign}
+use Rattle.fips204.specs.Signing.{Attempt, limit, rejected, signed, response, low_vector, ct0, hint_vector, passes_checks, commitment, checked_attempt, attempt, w_minus_cs2, first_answer, sign_with, sign}
 use Rattle.fips204.proofs.ParameterSets.{and_out, AreSetNumbers, set_numbers}
 use Rattle.fips204.proofs.KeptHints.{IsKept, hinted_is_high}
 use Rattle.std.proofs.lemmas.List.{length-take-le}
 use Rattle.fips204.specs.Acceptance.{Accepts, Verifies}
 use Rattle.fips204.proofs.RejectionChecks.{centred-range, hint-range}
-use Rattle.fips204.specs.SigningInputs.{scaled, y_plus_cs1}
+use Rattle.fips204.specs.SigningInputs.{scaled, y_plus_cs1, high_vector, mask_seed}
 
 -- What signing answers is the signature of an attempt that was kept.
 
@@ -115,9 +117,9 @@ sign_with_signed p H a sk mu rnd signature e =
 
 pub signed_by_attempt : (p : ParameterSet) (H G : List ℕ → List ℕ) (sk : PrivateParts) (mu rnd signature : List ℕ) (a : List (List T)) → sampled_matrix G sk.rho p.k p.l ≡ Some a → sign p H G sk mu rnd ≡ Ok signature
     → WasSigned p H a sk mu signature
-unfolding sign sign_if_matrix
+unfolding sign
 signed_by_attempt p H G sk mu rnd signature a there e =
-    sign_with_signed p H a sk mu rnd signature (sym (ap (λ o. sign_if_matrix p H o sk mu rnd) there) ∙ e)
+    sign_with_signed p H a sk mu rnd signature (sym (ap (λ o. unwrap_or (option_map (λ m. sign_with p H m sk mu rnd) o) (Err SamplingLimit)) there) ∙ e)
 
 -- What signing gives with a whole private key is accepted.
 

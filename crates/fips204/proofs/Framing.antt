@@ -1,11 +1,12 @@
 -- A framed message determines what was framed.
 use Rattle.std.proofs.Common.{◌≡◌, ◌+◌, ℕ, List, [], ◌∷◌, ◌++◌, length, get_or, Bool, true, false, not, ◌&&◌, nat_eq, nat_lt, nat_le, IsTrue, if◌then◌else◌, Option, Some, None, refl, sym, ap, arith, true≢false, eqb-true}
+use Rattle.std.specs.Prelude.{unwrap_or}
 use Rattle.fips204_base.specs.declared.fault.Fault.{Fault}
 use Rattle.fips204_base.specs.declared.fault.Fault.TheVariants.{OidEmpty, OidNotDer, DigestTooLong, DigestLength, HashCtx}
 use Rattle.fips204.proofs.Spellings.{same_parts}
-use Rattle.fips204.specs.Framing.{Input, plain, hashed, framed, represented, frame, differs, digest_length, pre_hash_fault}
+use Rattle.fips204.specs.Framing.{plain, hashed, framed, represented, frame, digest_length, pre_hash_fault}
 use Rattle.fips204.specs.SigningInputs.{is_der}
-use Rattle.fips204.specs.SchemeLaws.{has_context, FramingIsOneToOne}
+use Rattle.fips204.specs.SchemeLaws.{FramingIsOneToOne}
 use Rattle.fips204.proofs.ParameterSets.{and_out}
 use Rattle.fips204.proofs.RefusedCalls.{same_some, passed, short_context}
 
@@ -16,7 +17,7 @@ test_true false fault rest e = absurd (cc)
 der_of_none : (digest oid : List ℕ) → pre_hash_fault digest oid ≡ None → IsTrue (is_der oid)
 unfolding pre_hash_fault
 der_of_none digest oid e =
-    let last = if nat_lt 1024 (length digest) then Some DigestTooLong else if differs (digest_length oid) (length digest) then Some DigestLength else None in
+    let last = if nat_lt 1024 (length digest) then Some DigestTooLong else if not (nat_eq (length digest) (unwrap_or (digest_length oid) (length digest))) then Some DigestLength else None in
     test_true (is_der oid) OidNotDer last (passed (nat_eq (length oid) 0) OidEmpty (if not (is_der oid) then Some OidNotDer else last) e).1
 
 -- ---- OIDs

@@ -15,7 +15,7 @@ use Rattle.fips204_base.proofs.Rounding.{power2round_back, low_bits_near}
 use Rattle.fips204_base.proofs.Vectors.{vector_of-ext, vector_of-entry, vector_of-at, vector-within}
 use Rattle.fips204.specs.ParameterSets.{ParameterSet}
 use Rattle.fips204.specs.Keys.{PrivateParts, eta_of_rows, key_vector, high_part, low_part}
-use Rattle.fips204.specs.Signing.{response, w_minus_cs2, low_vector, ct0, hint_vector, high_vector}
+use Rattle.fips204.specs.Signing.{response, w_minus_cs2, low_vector, ct0, hint_vector}
 use Rattle.fips204.specs.Acceptance.{w1_prime}
 use Rattle.std.specs.Prelude.{int_lt}
 use Rattle.fips204_base.specs.Sampling.{challenge}
@@ -25,7 +25,7 @@ use Rattle.fips204_base.proofs.RoundingLaws.{IsGamma, use_hint_of_make_hint, hig
 use Rattle.fips204.proofs.ChallengeProducts.{Near, near_same, near_turned, near_challenge_product, norm_of_place, near_of_centred, centred_of_near}
 use Rattle.fips204.proofs.RejectionChecks.{centred-own}
 use Rattle.fips204.proofs.ParameterSets.{AreSetNumbers}
-use Rattle.fips204.specs.SigningInputs.{scaled, t1_shifted}
+use Rattle.fips204.specs.SigningInputs.{scaled, t1_shifted, high_vector}
 
 -- The vector that verifying computes is the one whose high bits signing hinted at: A z - c t1 2^13 = w - c s2 + c t0.
 
@@ -198,7 +198,7 @@ pub hinted_is_high : (p : ParameterSet) (a : List (List T)) (sk : PrivateParts) 
     → IsKept p sk y (matrix_product p.l a (vector_coefficients y)) c
     → w1_prime p a (high_part p a sk.s1 sk.s2) (response p sk y c) (hint_vector p sk (matrix_product p.l a (vector_coefficients y)) c) c
     ≡ high_vector p (matrix_product p.l a (vector_coefficients y))
-unfolding w1_prime high_vector
+unfolding w1_prime
 hinted_is_high p a sk y front c numbers second low made kept =
     let w = matrix_product p.l a (vector_coefficients y) in
     let empty : R = record { 0 = [] } in

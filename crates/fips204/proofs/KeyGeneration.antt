@@ -11,7 +11,7 @@ use Rattle.fips204_base.specs.Rounding.{power2round}
 use Rattle.fips204_base.specs.Vectors.{IsVector, vector_coefficients, vector_of, matrix_product}
 use Rattle.fips204_base.proofs.Rounding.{power2round_high, power2round_low}
 use Rattle.fips204_base.proofs.Vectors.{vector_of-ext, vector_of-entry, vector_of-range}
-use Rattle.fips204.specs.Keys.{IsWhole, key_vector, high_part, low_part, key_pair, key_generation, public_key_of, PublicParts, PrivateParts}
+use Rattle.fips204.specs.Keys.{IsWhole, key_vector, high_part, low_part, key_pair, PublicParts, PrivateParts}
 use Rattle.fips204.specs.SigningInputs.{seeds, key_hash}
 use Rattle.fips204.specs.ParameterSets.{ParameterSet}
 use Rattle.std.specs.Prelude.{ok_or, option_map, option_and_then}
@@ -75,14 +75,14 @@ matrix_of : (G : List ℕ → List ℕ) (rho : List ℕ) (k l m n : ℕ) (o : Op
 matrix_of G rho k l m n o rows columns e = rw (rows, columns) at e
 
 pub derived-none : (p : ParameterSet) (G : List ℕ → List ℕ) (sk : PrivateParts) (k l : ℕ) → k ≡ p.k → l ≡ p.l → sampled_matrix G sk.rho k l ≡ None → derived p G sk ≡ Err SamplingLimit
-unfolding public_key_of
+unfolding derived
 derived-none p G sk k l rows columns e =
     let none = matrix_of G sk.rho k l p.k p.l None rows columns e in
     rw none refl
 
 pub derived-some : (p : ParameterSet) (G : List ℕ → List ℕ) (sk : PrivateParts) (k l : ℕ) (a : List (List T)) (t1 : List R) → k ≡ p.k → l ≡ p.l → sampled_matrix G sk.rho k l ≡ Some a
     → t1 ≡ high_part p a sk.s1 sk.s2 → derived p G sk ≡ Ok (record { rho = sk.rho; tr = sk.tr; t1 = t1 })
-unfolding public_key_of
+unfolding derived
 derived-some p G sk k l a t1 rows columns e high =
     let there = matrix_of G sk.rho k l p.k p.l (Some a) rows columns e in
     rw (there, high) refl
@@ -145,12 +145,17 @@ if_all p H rho key (Some a) None s2 = refl
 if_all p H rho key (Some a) (Some s1) None = refl
 if_all p H rho key (Some a) (Some s1) (Some s2) = refl
 
--- key generation by what is sampled
-pub key_generation-is : (p : ParameterSet) (H G : List ℕ → List ℕ) (xi : List ℕ)
-    → key_generation p H G xi ≡ key_pair_if_all p H (take 32 (seeds p H xi)) (take 32 (drop 96 (seeds p H xi))) (sampled_matrix G (take 32 (seeds p H xi)) p.k p.l)
+-- both keys of a seed, where what they are made of is there
+abbrev pub key_pair_of_seed : ParameterSet → (List ℕ → List ℕ) → (List ℕ → List ℕ) → List ℕ → Option (PublicParts × PrivateParts)
+key_pair_of_seed p H G xi =
+    key_pair_if_all p H (take 32 (seeds p H xi)) (take 32 (drop 96 (seeds p H xi))) (sampled_matrix G (take 32 (seeds p H xi)) p.k p.l)
     (small_vector p.eta H (take 64 (drop 32 (seeds p H xi))) 0 p.l) (small_vector p.eta H (take 64 (drop 32 (seeds p H xi))) p.l p.k)
-unfolding key_generation small_vectors
-key_generation-is p H G xi = if_all p H (take 32 (seeds p H xi)) (take 32 (drop 96 (seeds p H xi))) _ _ _
+
+-- key generation by what is sampled
+pub generated-by_parts : (p : ParameterSet) (H G : List ℕ → List ℕ) (xi : List ℕ) → generated p H G xi ≡ ok_or (key_pair_of_seed p H G xi) SamplingLimit
+unfolding generated small_vectors
+generated-by_parts p H G xi =
+    ap (λ (o : Option (PublicParts × PrivateParts)). ok_or o SamplingLimit) (if_all p H (take 32 (seeds p H xi)) (take 32 (drop 96 (seeds p H xi))) _ _ _)
 
 generated-is : (p : ParameterSet) (H G : List ℕ → List ℕ) (xi rho rho' key : List ℕ) (k l : ℕ) (a : Option (List (List T))) (s1 s2 : Option (List R))
     → AreSeeds p H xi rho rho' key → AreSampled p H G k l rho rho' a s1 s2 → generated p H G xi ≡ ok_or (key_pair_if_all p H rho key a s1 s2) SamplingLimit
@@ -158,7 +163,7 @@ generated-is p H G xi rho rho' key k l a s1 s2 from given =
     let matrix = rw (given.rows, given.columns) at given.matrix in
     let first = rw given.columns at given.first in
     let second = rw (given.rows, given.columns) at given.second in
-    ap (λ (o : Option (PublicParts × PrivateParts)). ok_or o SamplingLimit) (key_generation-is p H G xi) ∙ rw (sym from.matrix, sym from.vectors, sym from.masks) (rw (matrix, first, second) refl)
+    generated-by_parts p H G xi ∙ rw (sym from.matrix, sym from.vectors, sym from.masks) (rw (matrix, first, second) refl)
 
 no_pair : (p : ParameterSet) (H : List ℕ → List ℕ) (rho key : List ℕ) (a : Option (List (List T))) (s1 s2 : Option (List R)) → (a ≡ None) ⊎ ((s1 ≡ None) ⊎ (s2 ≡ None)) → key_pair_if_all p H rho key a s1 s2 ≡ None
 unfolding key_pair_if_all

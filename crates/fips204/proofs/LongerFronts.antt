@@ -1,6 +1,6 @@
 -- Answers stay where the fronts are prefixes of longer ones.
 use Rattle.std.proofs.Common.{◌≡◌, ◌≢◌, ℕ, ◌+◌, ◌-◌, ◌*◌, ◌≤◌, ◌⊎◌, inl, inr, List, [], ◌∷◌, ◌++◌, length, take, drop, map, refl, ap, sym, subst, ◌∙◌, arith, Some, None, ok_or, IsTrue, append_assoc}
-use Rattle.std.specs.Prelude.{option_map}
+use Rattle.std.specs.Prelude.{option_map, unwrap_or, Err}
 use Rattle.std.specs.declared.option.Option.{Option}
 use Rattle.std.specs.declared.result.Result.{Result}
 use Rattle.std.specs.List.{range_with_len}
@@ -17,13 +17,13 @@ use Rattle.fips204_base.specs.Encodings.{w1_bytes, public_key_bytes, vector_byte
 use Rattle.fips204_base.specs.Sampling.{sampled_matrix, challenge, mask}
 use Rattle.fips204_base.proofs.LongerFronts.{prefix-take, prefix-part, matrix_entry-longer, small_polynomial-longer, challenge-longer, sampled_matrix-longer, small_vector-longer, mask-longer}
 use Rattle.fips204.specs.ParameterSets.{ParameterSet, is_parameter_set, commitment_length}
-use Rattle.fips204.specs.Keys.{PublicParts, PrivateParts, high_part, key_pair, key_generation, public_key_of}
-use Rattle.fips204.specs.SigningInputs.{key_hash}
-use Rattle.fips204.proofs.KeyGeneration.{key_pair_if_all, key_generation-is}
+use Rattle.fips204.specs.Keys.{PublicParts, PrivateParts, high_part, key_pair}
+use Rattle.fips204.specs.SigningInputs.{key_hash, high_vector, mask_seed}
+use Rattle.fips204.proofs.KeyGeneration.{key_pair_if_all, key_pair_of_seed, generated-by_parts}
 use Rattle.fips204.specs.Framing.{Input, plain, hashed, framed, represented, frame, representative}
-use Rattle.fips204.specs.Signing.{Attempt, limit, rejected, signed, commitment, high_vector, checked_attempt, attempt, first_answer, mask_seed, sign_with, sign_if_matrix, sign}
+use Rattle.fips204.specs.Signing.{Attempt, limit, rejected, signed, commitment, checked_attempt, attempt, first_answer, sign_with, sign}
 use Rattle.fips204.specs.Acceptance.{Verifies}
-use Rattle.fips204.specs.Refusals.{refused_or, input_fault, sign_input, VerifiesInput}
+use Rattle.fips204.specs.Refusals.{generated, derived, refused_or, input_fault, sign_input, VerifiesInput}
 use Rattle.fips204.specs.LongerFronts.{CounterFrontsArePrefixes, SamplesStay, Stays, AnswersStay, IsDecided, sampled, malformed, YesAndNoStay, AcceptanceStays, LongerFrontsKeep}
 use Rattle.fips204.proofs.ParameterSets.{set_numbers}
 
@@ -86,23 +86,21 @@ module _ (H G H' G' : List ℕ → List ℕ) (first : ArePrefixes H H') (second 
   pair_stays p rho key (Some a) a' (Some s1) s1' None s2' keys x y z e = absurd (none-some keys e)
   pair_stays p rho key (Some a) a' (Some s1) s1' (Some s2) s2' keys x y z e = rw (x a refl, y s1 refl, z s2 refl) (ap Some (key_pair-longer p rho key a s1 s2) ∙ e)
 
-  key_generation-longer : (p : ParameterSet) (xi : List ℕ) (keys : PublicParts × PrivateParts) → key_generation p H G xi ≡ Some keys → key_generation p H' G' xi ≡ Some keys
-  key_generation-longer p xi keys e =
+  seed-longer : (p : ParameterSet) (xi : List ℕ) (keys : PublicParts × PrivateParts) → key_pair_of_seed p H G xi ≡ Some keys → key_pair_of_seed p H' G' xi ≡ Some keys
+  seed-longer p xi keys e =
       let input = xi ++ p.k ∷ p.l ∷ [] in
       let rho : take 32 (H' input) ≡ take 32 (H input) = hash-longer 32 input (omega arith) in
       let rho' : take 64 (drop 32 (H' input)) ≡ take 64 (drop 32 (H input)) = part-longer 32 64 input (omega arith) in
       let key : take 32 (drop 96 (H' input)) ≡ take 32 (drop 96 (H input)) = part-longer 96 32 input (omega arith) in
-      key_generation-is p H' G' xi ∙ rw (rho, rho', key)
+      rw (rho, rho', key)
       (pair_stays p (take 32 (H input)) (take 32 (drop 96 (H input))) _ _ _ _ _ _ keys
       (λ a there. sampled_matrix-longer G G' (take 32 (H input)) p.k p.l a second there)
       (λ v there. small_vector-longer p.eta H H' (take 64 (drop 32 (H input))) 0 p.l v first there)
-      (λ v there. small_vector-longer p.eta H H' (take 64 (drop 32 (H input))) p.l p.k v first there) (sym (key_generation-is p H G xi) ∙ e))
+      (λ v there. small_vector-longer p.eta H H' (take 64 (drop 32 (H input))) p.l p.k v first there) e)
 
-  public_key_of-longer : (p : ParameterSet) (sk : PrivateParts) (pk : PublicParts) → public_key_of p G sk ≡ Some pk → public_key_of p G' sk ≡ Some pk
-  unfolding public_key_of
-  public_key_of-longer p sk pk e =
-      mapped_stays (λ a. record { rho = sk.rho; tr = sk.tr; t1 = high_part p a sk.s1 sk.s2 }) (sampled_matrix G sk.rho p.k p.l) (sampled_matrix G' sk.rho p.k p.l) pk
-      (λ a there. sampled_matrix-longer G G' sk.rho p.k p.l a second there) e
+  generated-longer : (p : ParameterSet) (xi : List ℕ) → Stays (generated p H G xi) (generated p H' G' xi)
+  generated-longer p xi =
+      rw (generated-by_parts p H G xi, generated-by_parts p H' G' xi) (ok_stays (key_pair_of_seed p H G xi) (key_pair_of_seed p H' G' xi) (seed-longer p xi))
 
   -- ---- signing
 
@@ -151,8 +149,7 @@ module _ (H G H' G' : List ℕ → List ℕ) (first : ArePrefixes H H') (second 
       ∙ first_stays (λ n. attempt p H a sk mu rho (n * p.l)) (λ n. attempt p H' a sk mu rho (n * p.l)) (range_with_len 0 814) (λ n. attempt-longer p a sk mu rho (n * p.l) t) not
 
   matrix_stays : (p : ParameterSet) (a longer : Option (List (List T))) (sk : PrivateParts) (mu rnd : List ℕ) → IsTrue (is_parameter_set p)
-      → ((x : List (List T)) → a ≡ Some x → longer ≡ Some x) → Stays (sign_if_matrix p H a sk mu rnd) (sign_if_matrix p H' longer sk mu rnd)
-  unfolding sign_if_matrix
+      → ((x : List (List T)) → a ≡ Some x → longer ≡ Some x) → Stays (unwrap_or (option_map (λ m. sign_with p H m sk mu rnd) a) (Err SamplingLimit)) (unwrap_or (option_map (λ m. sign_with p H' m sk mu rnd) longer) (Err SamplingLimit))
   matrix_stays p None longer sk mu rnd t same not = absurd (not refl)
   matrix_stays p (Some a) longer sk mu rnd t same not = rw (same a refl) (sign_with-longer p a sk mu rnd t not)
 
@@ -161,11 +158,15 @@ module _ (H G H' G' : List ℕ → List ℕ) (first : ArePrefixes H H') (second 
   sign-longer p sk mu rnd t =
       matrix_stays p (sampled_matrix G sk.rho p.k p.l) (sampled_matrix G' sk.rho p.k p.l) sk mu rnd t (λ a there. sampled_matrix-longer G G' sk.rho p.k p.l a second there)
 
-  prepared-longer : {A : Type 0} (p : ParameterSet) (rho : List ℕ) (f : List (List T) → A)
+  made-longer : {A : Type 0} (p : ParameterSet) (rho : List ℕ) (f : List (List T) → A)
       → Stays (ok_or (option_map f (sampled_matrix G rho p.k p.l)) SamplingLimit) (ok_or (option_map f (sampled_matrix G' rho p.k p.l)) SamplingLimit)
-  prepared-longer p rho f =
+  made-longer p rho f =
       ok_stays (option_map f (sampled_matrix G rho p.k p.l)) (option_map f (sampled_matrix G' rho p.k p.l))
       (λ y. mapped_stays f (sampled_matrix G rho p.k p.l) (sampled_matrix G' rho p.k p.l) y (λ a there. sampled_matrix-longer G G' rho p.k p.l a second there))
+
+  derived-longer : (p : ParameterSet) (sk : PrivateParts) → Stays (derived p G sk) (derived p G' sk)
+  unfolding derived
+  derived-longer p sk = made-longer p sk.rho (λ a. let key : PublicParts = record { rho = sk.rho; tr = sk.tr; t1 = high_part p a sk.s1 sk.s2 } in key)
 
   representative-longer : (tr : List ℕ) (input : Input) → representative H' tr input ≡ representative H tr input
   representative-longer tr (plain message context) = hash-longer 64 (tr ++ frame 0 context message) (omega arith)
@@ -181,10 +182,10 @@ module _ (H G H' G' : List ℕ → List ℕ) (first : ArePrefixes H H') (second 
 
   answers_stay : (p : ParameterSet) → IsTrue (is_parameter_set p) → AnswersStay p H G H' G'
   answers_stay p t = record {
-    key_pairs = λ xi. ok_stays (key_generation p H G xi) (key_generation p H' G' xi) (key_generation-longer p xi);
-    public_keys = λ sk. ok_stays (public_key_of p G sk) (public_key_of p G' sk) (public_key_of-longer p sk);
-    prepared_private_keys = λ sk. prepared-longer p sk.rho (λ a. record { parts = sk; matrix = a });
-    prepared_public_keys = λ pk. prepared-longer p pk.rho (λ a. record { parts = pk; matrix = a });
+    key_pairs = λ xi. generated-longer p xi;
+    public_keys = λ sk. derived-longer p sk;
+    prepared_private_keys = λ sk. made-longer p sk.rho (λ a. record { parts = sk; matrix = a });
+    prepared_public_keys = λ pk. made-longer p pk.rho (λ a. record { parts = pk; matrix = a });
     inputs = λ sk rnd input. input-longer p sk rnd input t;
   }
 

@@ -19,9 +19,9 @@ use Rattle.fips204_base.proofs.Rounding.{high_bits_below}
 use Rattle.fips204_base.proofs.VectorBytes.{vector-length}
 use Rattle.fips204_base.proofs.Vectors.{vector_of-entry, vector_of-same, vector_of-range}
 use Rattle.std.proofs.lemmas.List.{append_cancel_left}
-use Rattle.fips204.specs.Acceptance.{w1_prime, hinted}
+use Rattle.fips204.specs.Acceptance.{w1_prime}
 use Rattle.fips204.specs.Framing.{representative}
-use Rattle.fips204.specs.SigningInputs.{t1_shifted}
+use Rattle.fips204.specs.SigningInputs.{t1_shifted, hinted}
 use Rattle.fips204.specs.ParameterSets.{ParameterSet, commitment_length}
 use Rattle.fips204.specs.SchemeLaws.{OtherHintCollides}
 use Rattle.fips204.proofs.Binding.{fixed_by}

@@ -1,6 +1,6 @@
 -- Keys with their matrix: what is signed with one is accepted, and each answers as its plain key.
 use Rattle.std.proofs.Common.{IsTrue, ◌≡◌, ◌≤◌, ℕ, List, [], Bool, refl, sym, ap, subst, ◌∙◌, length, get_or, Result, Ok, Some, None}
-use Rattle.std.specs.Prelude.{◌↔◌, ok_or, option_map}
+use Rattle.std.specs.Prelude.{◌↔◌, ok_or, option_map, unwrap_or, Err}
 use Rattle.std.specs.declared.option.Option.{Option}
 use Rattle.fips204_base.specs.declared.fault.Fault.{Fault}
 use Rattle.fips204_base.specs.declared.fault.Fault.TheVariants.{SamplingLimit}
@@ -8,14 +8,14 @@ use Rattle.fips204_base.specs.declared.types.T.{T}
 use Rattle.fips204_base.specs.Sampling.{sampled_matrix}
 use Rattle.fips204.specs.Acceptance.{Accepts, Verifies}
 use Rattle.fips204.specs.Framing.{Input, plain, represented, representative}
-use Rattle.fips204.specs.Keys.{PublicParts, PrivateParts, ArePrivateParts, IsWhole, high_part, low_part, public_key_of}
+use Rattle.fips204.specs.Keys.{PublicParts, PrivateParts, ArePrivateParts, IsWhole, high_part, low_part}
 use Rattle.fips204.specs.ParameterSets.{ParameterSet, is_parameter_set}
 use Rattle.fips204.specs.Prepared.{PreparedPrivate, PreparedPublic, prepared_private, prepared_public, public_of_prepared, sign_prepared, IsWholePrepared, VerifiesPrepared, IsEachSigned, IsEachJudged, AcceptedIfWholePrepared, PreparedAnswersAsPlain}
 use Rattle.fips204.specs.Refusals.{refused_or, input_fault, sign_input, VerifiesInput, derived}
 use Rattle.fips204.specs.SigningInputs.{input_hash}
-use Rattle.fips204.specs.Signing.{sign, sign_with, sign_if_matrix}
+use Rattle.fips204.specs.Signing.{sign, sign_with}
 use Rattle.fips204.proofs.Completeness.{accepts_signed_with}
-use Rattle.fips204.proofs.RefusedCalls.{given_input, same_some}
+use Rattle.fips204.proofs.RefusedCalls.{given_input, same_some, same_ok}
 
 -- ---- what is signed is accepted
 
@@ -54,9 +54,9 @@ public_parts (Some a) pk prepared e =
 -- with a hash mu
 hash_as_plain : (p : ParameterSet) (H G : List ℕ → List ℕ) (sk : PrivateParts) (prepared : PreparedPrivate) (mu rnd : List ℕ) → sk ≡ prepared.parts
     → sampled_matrix G sk.rho p.k p.l ≡ Some prepared.matrix → sign_with p H prepared.matrix prepared.parts mu rnd ≡ sign p H G sk mu rnd
-unfolding sign sign_if_matrix
+unfolding sign
 hash_as_plain p H G sk prepared mu rnd same there =
-    ap (λ k. sign_with p H prepared.matrix k mu rnd) (sym same) ∙ sym (ap (λ o. sign_if_matrix p H o sk mu rnd) there)
+    ap (λ k. sign_with p H prepared.matrix k mu rnd) (sym same) ∙ sym (ap (λ o. unwrap_or (option_map (λ m. sign_with p H m sk mu rnd) o) (Err SamplingLimit)) there)
 
 accepts_as_plain : (p : ParameterSet) (H G : List ℕ → List ℕ) (pk : PublicParts) (prepared : PreparedPublic) (mu signature : List ℕ) → pk ≡ prepared.parts
     → sampled_matrix G pk.rho p.k p.l ≡ Some prepared.matrix → Accepts p H prepared.matrix prepared.parts.t1 mu signature ↔ Verifies p H G pk mu signature
@@ -109,16 +109,13 @@ whole_as_plain p G sk prepared same there = (
 -- the derived key, prepared
 public_as_plain : (p : ParameterSet) (G : List ℕ → List ℕ) (sk : PrivateParts) (prepared : PreparedPrivate) (pk : PublicParts) → sk ≡ prepared.parts
     → sampled_matrix G sk.rho p.k p.l ≡ Some prepared.matrix → derived p G sk ≡ Ok pk → prepared_public p G pk ≡ Ok (public_of_prepared p prepared)
-unfolding public_key_of
+unfolding derived
 public_as_plain p G sk prepared pk same there e =
     let own = λ (k : PrivateParts). let key : PublicParts = record { rho = k.rho; tr = k.tr; t1 = high_part p prepared.matrix k.s1 k.s2 } in key in
     let made : own sk ≡ pk = same_ok (own sk) pk (ap (λ a. ok_or (option_map (λ m. let key : PublicParts = record { rho = sk.rho; tr = sk.tr; t1 = high_part p m sk.s1 sk.s2 } in key) a) SamplingLimit) (sym there) ∙ e) in
     let with = λ (k : PublicParts) (a : List (List T)). let key : PreparedPublic = record { parts = k; matrix = a } in key in
     subst (λ (k : PublicParts). prepared_public p G k ≡ Ok (public_of_prepared p prepared)) made
     (ap (λ a. ok_or (option_map (with (own sk)) a) SamplingLimit) there ∙ ap (λ (k : PrivateParts). Ok (with (own k) prepared.matrix)) same)
-  where
-    same_ok : (x y : PublicParts) → Path (Result PublicParts Fault) (Ok x) (Ok y) → x ≡ y
-    same_ok x y e = cc
 
 pub prepared_answers_as_plain : (p : ParameterSet) (H G : List ℕ → List ℕ) → PreparedAnswersAsPlain p H G
 prepared_answers_as_plain p H G =

@@ -1,6 +1,6 @@
 -- Which refusals whole calls have.
 use Rattle.std.proofs.Common.{◌≡◌, ◌⊎◌, inl, inr, ℕ, ◌*◌, List, [], ◌∷◌, map, Option, Some, None, Result, Ok, Err, refl, rules}
-use Rattle.std.specs.Prelude.{IfErr, ok_or}
+use Rattle.std.specs.Prelude.{IfErr, ok_or, option_map, unwrap_or}
 use Rattle.std.specs.List.{range_with_len}
 use Rattle.fips204_base.specs.declared.fault.Fault.{Fault}
 use Rattle.fips204_base.specs.declared.fault.Fault.TheVariants.{SamplingLimit}
@@ -8,10 +8,12 @@ use Rattle.fips204_base.specs.declared.types.T.{T}
 use Rattle.fips204_base.specs.Sampling.{sampled_matrix}
 use Rattle.fips204.specs.ParameterSets.{ParameterSet}
 use Rattle.fips204.specs.Keys.{PrivateParts}
-use Rattle.fips204.specs.Signing.{Attempt, limit, rejected, signed, attempt, first_answer, mask_seed, sign_with, sign_if_matrix, sign}
+use Rattle.fips204.specs.Signing.{Attempt, limit, rejected, signed, attempt, first_answer, sign_with, sign}
 use Rattle.fips204.specs.Framing.{Input, representative}
 use Rattle.fips204.specs.RefusalLaws.{RefusesOnly}
-use Rattle.fips204.specs.Refusals.{refused_or, input_fault, sign_input, OnlySamplingLimit, IsSigningLimit}
+use Rattle.fips204.specs.SigningInputs.{mask_seed}
+use Rattle.fips204.proofs.KeyGeneration.{key_pair_of_seed, generated-by_parts}
+use Rattle.fips204.specs.Refusals.{derived, refused_or, input_fault, sign_input, OnlySamplingLimit, IsSigningLimit}
 
 -- a value, or a limit where there is none
 limited : {A : Type 0} (o : Option A) → OnlySamplingLimit (ok_or o SamplingLimit)
@@ -25,8 +27,9 @@ first_refuses (limit ∷ later) = inl refl
 first_refuses (rejected ∷ later) = first_refuses later
 first_refuses (signed signature ∷ later) = search rules
 
-with_matrix : (p : ParameterSet) (H : List ℕ → List ℕ) (matrix : Option (List (List T))) (sk : PrivateParts) (mu rnd : List ℕ) → IfErr (sign_if_matrix p H matrix sk mu rnd) (λ fault. IsSigningLimit fault)
-unfolding sign_if_matrix sign_with
+with_matrix : (p : ParameterSet) (H : List ℕ → List ℕ) (matrix : Option (List (List T))) (sk : PrivateParts) (mu rnd : List ℕ)
+    → IfErr (unwrap_or (option_map (λ a. sign_with p H a sk mu rnd) matrix) (Err SamplingLimit)) (λ fault. IsSigningLimit fault)
+unfolding sign_with
 with_matrix p H None sk mu rnd = inl refl
 with_matrix p H (Some a) sk mu rnd = first_refuses (map (λ n. attempt p H a sk mu (mask_seed H sk rnd mu) (n * p.l)) (range_with_len 0 814))
 
@@ -47,8 +50,9 @@ input_refuses p H G sk rnd input =
     first_or_later (input_fault input) (sign p H G sk mu rnd) (λ fault. IsSigningLimit fault) (signing_refuses p H G sk mu rnd)
 
 pub refuses_only : (p : ParameterSet) (H G : List ℕ → List ℕ) → RefusesOnly p H G
+unfolding derived
 refuses_only p H G = record {
-  pairs = λ xi. limited _;
+  pairs = λ xi. rw (generated-by_parts p H G xi) (limited (key_pair_of_seed p H G xi));
   derived_keys = λ sk. limited _;
   private_keys = λ sk. limited _;
   public_keys = λ pk. limited _;

@@ -12,6 +12,10 @@ use Rattle.fips204.specs.SigningInputs.{input_hash}
 pub same_some : {A : Type 0} (x y : A) → Some x ≡ Some y → x ≡ y
 same_some x y e = cc
 
+-- and where the answers that hold them are
+pub same_ok : {A : Type 0} (x y : A) → Path (Result A Fault) (Ok x) (Ok y) → x ≡ y
+same_ok x y e = cc
+
 -- an answer comes where no refusal stands first
 pub not_refused : {A : Type 0} (fault : Option Fault) (answer : Result A Fault) (x : A) → refused_or fault answer ≡ Ok x
     → (fault ≡ None) × (answer ≡ Ok x)

@@ -18,11 +18,11 @@ use Rattle.fips204_base.proofs.PlainTransforms.{multiple-same}
 use Rattle.fips204_base.proofs.Vectors.{vector_of-ext, vector_of-range}
 use Rattle.fips204_base.specs.Encodings.{signature_bytes, all_ones}
 use Rattle.fips204.specs.declared.types.Params.{Params}
-use Rattle.fips204.specs.Signing.{response, low_vector, ct0, hint_bit, hint_vector, passes_checks, checked_attempt, w_minus_cs2}
+use Rattle.fips204.specs.Signing.{response, low_vector, ct0, hint_vector, passes_checks, checked_attempt, w_minus_cs2}
 use Rattle.fips204.specs.Keys.{PrivateParts}
 use Rattle.fips204.specs.ParameterSets.{ParameterSet, commitment_length, signature_length}
 use Rattle.fips204.specs.Sets.{set_of}
-use Rattle.fips204.specs.SigningInputs.{attempt_answer, scaled, y_plus_cs1}
+use Rattle.fips204.specs.SigningInputs.{attempt_answer, scaled, y_plus_cs1, hint_bit}
 use Rattle.fips204.proofs.ChallengeProducts.{norm_of_place}
 
 -- Sums, norms and hints of an attempt's vectors.

@@ -3,9 +3,8 @@ use Rattle.std.proofs.Common.{◌≡◌, ◌≤◌, ℕ, List, IsTrue, sym, ◌�
 use Rattle.std.specs.Prelude.{IfOk, MatchResult}
 use Rattle.fips204_base.specs.Encodings.{public_key_bytes, private_key_bytes}
 use Rattle.fips204_base.specs.declared.fault.Fault.{Fault}
-use Rattle.fips204_base.proofs.Sampled.{some_of_ok}
 use Rattle.fips204.specs.ParameterSets.{ParameterSet, is_parameter_set}
-use Rattle.fips204.specs.Keys.{PublicParts, PrivateParts, ArePrivateParts, IsPublicKeyOf, DecodesPrivate, IsWhole, key_generation}
+use Rattle.fips204.specs.Keys.{PublicParts, PrivateParts, ArePrivateParts, IsPublicKeyOf, DecodesPrivate, IsWhole}
 use Rattle.fips204.specs.declared.types.Params.{Params}
 use Rattle.fips204.specs.Sets.{set_of}
 use Rattle.fips204.specs.Signing.{sign}
@@ -18,7 +17,7 @@ use Rattle.fips204.proofs.WholeKeys.{generated_pair, generated_parts, accepts_si
 pub signed_is_accepted : SignedIsAccepted
 signed_is_accepted p H G pk sk row law = (
   λ parts whole derives. (accepts_signed p H G pk sk row law parts whole derives, pair_of_whole p H G pk sk row parts whole derives),
-  λ xi made. generated_pair p H G xi pk sk row law (some_of_ok (key_generation p H G xi) (pk, sk) (sym made)),
+  λ xi made. generated_pair p H G xi pk sk row law made,
 )
 
 -- what signing an input gives for both keys of a seed is accepted
@@ -32,7 +31,7 @@ pub generated_pairs : (p : ParameterSet) (H G : List ℕ → List ℕ) (xi : Lis
     → ((x : List ℕ) → 4096 ≤ length (H x)) → answer ≡ generated p H G xi → IfOk answer (λ keys. IsWhole p G keys.1 × (derived p G keys.1 ≡ Ok keys.0))
 generated_pairs p H G xi (Err fault) row law made = search rules
 generated_pairs p H G xi (Ok keys) row law made =
-    let are = generated_parts p H G xi keys.0 keys.1 row law (some_of_ok (key_generation p H G xi) keys made) in
+    let are = generated_parts p H G xi keys.0 keys.1 row law (sym made) in
     (are.consistent, are.belongs)
 
 pub generated_decode : (p : ParameterSet) (H G : List ℕ → List ℕ) (xi : List ℕ) (answer : Result (PublicParts × PrivateParts) Fault) → IsTrue (is_parameter_set p)
@@ -41,7 +40,7 @@ pub generated_decode : (p : ParameterSet) (H G : List ℕ → List ℕ) (xi : Li
     × DecodesAlone (DecodesPrivate p.eta p.k p.l) (private_key_bytes p.eta keys.1.rho keys.1.key keys.1.tr keys.1.s1 keys.1.s2 keys.1.t0) keys.1)
 generated_decode p H G xi (Err fault) row law made = search rules
 generated_decode p H G xi (Ok keys) row law made =
-    let are = generated_parts p H G xi keys.0 keys.1 row law (some_of_ok (key_generation p H G xi) keys made) in
+    let are = generated_parts p H G xi keys.0 keys.1 row law (sym made) in
     (public_alone p H G keys.0 keys.1 are, private_alone p H G keys.0 keys.1 row are)
 
 -- What the signing calls answer with a private key of a row of numbers is accepted where the key is whole.

@@ -2,8 +2,8 @@
 use Rattle.std.proofs.Common.{◌≡◌, ◌<◌, ◌+◌, ◌-◌, ℕ, zero, suc, List, [], ◌∷◌, Ok, Err, map, refl, ap, sym, ◌∙◌, arith, add-zero, ◌≤◌, ◌*◌, Option, Some, None, Result}
 use Rattle.std.specs.List.{range_with_len}
 use Rattle.fips204_base.specs.declared.fault.Fault.TheVariants.{TooManyAttempts, SamplingLimit}
-use Rattle.fips204.specs.Signing.{Attempt, limit, rejected, signed, attempt, first_answer, mask_seed, sign, sign_if_matrix, sign_with}
-use Rattle.fips204.specs.SigningInputs.{attempt_answer}
+use Rattle.fips204.specs.Signing.{Attempt, limit, rejected, signed, attempt, first_answer, sign, sign_with}
+use Rattle.fips204.specs.SigningInputs.{attempt_answer, mask_seed}
 use native.Mathlib.Decide.{dec_lt}
 use Rattle.std.proofs.Math.Nat.{mul-le-mul}
 use Rattle.fips204_base.specs.declared.fault.Fault.{Fault}
@@ -143,9 +143,9 @@ sign_with-none p H a sk mu rnd seed l seeded columns before =
 
 pub sign-by_matrix : (p : ParameterSet) (H G : List ℕ → List ℕ) (sk : PrivateParts) (mu rnd : List ℕ) (a : List (List T)) (answer : Result (List ℕ) Fault) → sampled_matrix G sk.rho p.k p.l ≡ Some a → answer ≡ sign_with p H a sk mu rnd
     → answer ≡ sign p H G sk mu rnd
-unfolding sign sign_if_matrix
+unfolding sign
 sign-by_matrix p H G sk mu rnd a answer e with_matrix = rw e with_matrix
 
 pub sign-no_matrix : (p : ParameterSet) (H G : List ℕ → List ℕ) (sk : PrivateParts) (mu rnd : List ℕ) → sampled_matrix G sk.rho p.k p.l ≡ None → sign p H G sk mu rnd ≡ Err SamplingLimit
-unfolding sign sign_if_matrix
+unfolding sign
 sign-no_matrix p H G sk mu rnd e = rw e refl

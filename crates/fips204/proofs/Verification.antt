@@ -20,8 +20,8 @@ use Rattle.fips204_base.proofs.Products.{product_same}
 use Rattle.fips204_base.proofs.Residues.{congruent_of, congruent_refl, residue_below}
 use Rattle.fips204_base.proofs.Vectors.{vector_of-ext, vector_of-range, vector-within}
 use Rattle.fips204_base.proofs.EncodedParts.{same_signature}
-use Rattle.fips204.specs.Acceptance.{AreShifted, w1_prime, Accepts, Verifies, hinted}
-use Rattle.fips204.specs.SigningInputs.{HasShortParts, t1_shifted}
+use Rattle.fips204.specs.Acceptance.{AreShifted, w1_prime, Accepts, Verifies}
+use Rattle.fips204.specs.SigningInputs.{HasShortParts, t1_shifted, hinted}
 use Rattle.fips204.specs.Signing.{commitment}
 use Rattle.fips204.specs.Keys.{PublicParts}
 use Rattle.fips204.specs.declared.types.Params.{Params}

@@ -12,14 +12,14 @@ use Rattle.fips204_base.specs.Sampling.{sampled_matrix, small_vector}
 use Rattle.fips204_base.specs.Vectors.{IsVector}
 use Rattle.fips204_base.proofs.Sampled.{small_vector-range, some_of_ok}
 use Rattle.fips204.specs.ParameterSets.{ParameterSet, is_parameter_set}
-use Rattle.fips204.specs.Keys.{PublicParts, PrivateParts, ArePrivateParts, IsPublicKeyOf, IsPrivateKeyOf, DecodesPrivate, eta_of_rows, IsWhole, high_part, low_part, key_pair, key_generation, public_key_of}
+use Rattle.fips204.specs.Keys.{PublicParts, PrivateParts, ArePrivateParts, IsPublicKeyOf, IsPrivateKeyOf, DecodesPrivate, eta_of_rows, IsWhole, high_part, low_part, key_pair}
 use Rattle.fips204.specs.Signing.{sign}
 use Rattle.fips204.specs.Acceptance.{Verifies}
 use Rattle.fips204.proofs.Completeness.{completeness}
-use Rattle.fips204.proofs.KeyGeneration.{high_part-range, low_part-range, key_pair_if_all, key_generation-is}
-use Rattle.fips204.proofs.RefusedCalls.{same_some, signed_input}
+use Rattle.fips204.proofs.KeyGeneration.{high_part-range, low_part-range, key_pair_if_all, key_pair_of_seed, generated-by_parts}
+use Rattle.fips204.proofs.RefusedCalls.{same_some, same_ok, signed_input}
 use Rattle.fips204.proofs.ParameterSets.{AreSetNumbers, set_numbers}
-use Rattle.fips204.specs.Refusals.{derived}
+use Rattle.fips204.specs.Refusals.{generated, derived}
 use Rattle.fips204.specs.Completeness.{AcceptsSigned, IsPair, DecodesAlone, BytesTellKeys}
 use Rattle.fips204_base.specs.declared.fault.Fault.{Fault}
 use Rattle.fips204_base.specs.declared.fault.Fault.TheVariants.{SamplingLimit}
@@ -78,26 +78,27 @@ bytes_tell_keys p row = record {
 
 -- ---- a private key and its public key
 
-pub public_key_of_whole : (p : ParameterSet) (G : List ℕ → List ℕ) (sk : PrivateParts) → (whole : IsWhole p G sk) → public_key_of p G sk ≡ Some record { rho = sk.rho; tr = sk.tr; t1 = high_part p whole.matrix sk.s1 sk.s2 }
-unfolding public_key_of
-public_key_of_whole p G sk whole = ap (option_map (λ a. let pk : PublicParts = record { rho = sk.rho; tr = sk.tr; t1 = high_part p a sk.s1 sk.s2 } in pk)) whole.sampled
+pub derived_of_whole : (p : ParameterSet) (G : List ℕ → List ℕ) (sk : PrivateParts) → (whole : IsWhole p G sk) → derived p G sk ≡ Ok record { rho = sk.rho; tr = sk.tr; t1 = high_part p whole.matrix sk.s1 sk.s2 }
+unfolding derived
+derived_of_whole p G sk whole =
+    ap (λ o. ok_or (option_map (λ a. let pk : PublicParts = record { rho = sk.rho; tr = sk.tr; t1 = high_part p a sk.s1 sk.s2 } in pk) o) SamplingLimit) whole.sampled
 
 -- ---- what a whole private key signs is accepted
 
 -- the public key of a private key has its tr
 pub derived_hash : (p : ParameterSet) (G : List ℕ → List ℕ) (sk : PrivateParts) (pk : PublicParts) → derived p G sk ≡ Ok pk → sk.tr ≡ pk.tr
-unfolding public_key_of
-derived_hash p G sk pk e = of_matrix (sampled_matrix G sk.rho p.k p.l) (some_of_ok (public_key_of p G sk) pk (sym e))
+unfolding derived
+derived_hash p G sk pk e = of_matrix (sampled_matrix G sk.rho p.k p.l) e
   where
-    of_matrix : (a : Option (List (List T))) → option_map (λ m. let key : PublicParts = record { rho = sk.rho; tr = sk.tr; t1 = high_part p m sk.s1 sk.s2 } in key) a ≡ Some pk → sk.tr ≡ pk.tr
-    of_matrix None none = absurd (none-some pk none)
-    of_matrix (Some a) s = ap (λ (k : PublicParts). k.tr) (same_some _ pk s)
+    of_matrix : (a : Option (List (List T))) → ok_or (option_map (λ m. let key : PublicParts = record { rho = sk.rho; tr = sk.tr; t1 = high_part p m sk.s1 sk.s2 } in key) a) SamplingLimit ≡ Ok pk → sk.tr ≡ pk.tr
+    of_matrix None none = absurd cc
+    of_matrix (Some a) s = ap (λ (k : PublicParts). k.tr) (same_ok _ pk s)
 
 pub accepts_signed : (p : ParameterSet) (H G : List ℕ → List ℕ) (pk : PublicParts) (sk : PrivateParts) → IsTrue (is_parameter_set p) → ((x : List ℕ) → 4096 ≤ length (H x))
     → ArePrivateParts p.k p.l sk → IsWhole p G sk → derived p G sk ≡ Ok pk → AcceptsSigned p H G pk sk
 accepts_signed p H G pk sk row law parts whole derives =
     let own : PublicParts = record { rho = sk.rho; tr = sk.tr; t1 = high_part p whole.matrix sk.s1 sk.s2 } in
-    let same : own ≡ pk = same_some own pk (sym (public_key_of_whole p G sk whole) ∙ some_of_ok (public_key_of p G sk) pk (sym derives)) in
+    let same : own ≡ pk = same_ok own pk (sym (derived_of_whole p G sk whole) ∙ derives) in
     let accepts = λ (mu rnd signature : List ℕ) (made : sign p H G sk mu rnd ≡ Ok signature).
     subst (λ (k : PublicParts). Verifies p H G k mu signature) same (completeness p H G sk mu rnd signature row parts whole law made) in
     λ rnd signature input made.
@@ -114,7 +115,7 @@ public_decodes : (p : ParameterSet) (H G : List ℕ → List ℕ) (pk : PublicPa
     → sk.tr ≡ key_hash H pk.rho pk.t1 → IsPublicKeyOf H p.k (public_key_bytes pk.rho pk.t1) pk
 public_decodes p H G pk sk parts whole derives hash =
     let own : PublicParts = record { rho = sk.rho; tr = sk.tr; t1 = high_part p whole.matrix sk.s1 sk.s2 } in
-    let same : own ≡ pk = same_some own pk (sym (public_key_of_whole p G sk whole) ∙ some_of_ok (public_key_of p G sk) pk (sym derives)) in
+    let same : own ≡ pk = same_ok own pk (sym (derived_of_whole p G sk whole) ∙ derives) in
     record {
       seed = subst (λ (k : PublicParts). length k.rho ≡ 32) same parts.seed;
       high = subst (λ (k : PublicParts). IsHighPart p.k k.t1) same (high_part-range p whole.matrix sk.s1 sk.s2);
@@ -172,7 +173,7 @@ generated_of_parts p H G rho key a s1 s2 law m n there first second =
     record {
       in_range = record { seed = m; private_seed = n; hash = hash; first = first; second = second; low = low_part-range p a s1 s2 };
       consistent = whole;
-      belongs = ap (λ (o : Option PublicParts). ok_or o SamplingLimit) (public_key_of_whole p G sk whole);
+      belongs = derived_of_whole p G sk whole;
       hashed = refl;
     }
 
@@ -203,14 +204,15 @@ made_of p H rho key (Some a) (Some s1) (Some s2) pk sk e = record {
 }
 
 pub generated_parts : (p : ParameterSet) (H G : List ℕ → List ℕ) (xi : List ℕ) (pk : PublicParts) (sk : PrivateParts) → IsTrue (is_parameter_set p) → ((x : List ℕ) → 4096 ≤ length (H x))
-    → key_generation p H G xi ≡ Some (pk, sk) → AreGenerated p H G pk sk
+    → generated p H G xi ≡ Ok (pk, sk) → AreGenerated p H G pk sk
 generated_parts p H G xi pk sk row law e =
     let numbers = set_numbers p row in
     let all = seeds p H xi in
     let rho = take 32 all in
     let rho' = take 64 (drop 32 all) in
     let key = take 32 (drop 96 all) in
-    let was = made_of p H rho key (sampled_matrix G rho p.k p.l) (small_vector p.eta H rho' 0 p.l) (small_vector p.eta H rho' p.l p.k) pk sk (sym (key_generation-is p H G xi) ∙ e) in
+    let was = made_of p H rho key (sampled_matrix G rho p.k p.l) (small_vector p.eta H rho' 0 p.l) (small_vector p.eta H rho' p.l p.k) pk sk
+    (some_of_ok (key_pair_of_seed p H G xi) (pk, sk) (sym e ∙ generated-by_parts p H G xi)) in
     let long : 4096 ≤ length all = law _ in
     let rest : length (drop 96 all) ≡ length all - 96 = length-drop 96 all in
     subst (λ (pair : PublicParts × PrivateParts). AreGenerated p H G pair.0 pair.1) was.made
@@ -219,7 +221,7 @@ generated_parts p H G xi pk sk row law e =
 
 -- the keys of a seed are a pair, and the public one accepts what the private one signs
 pub generated_pair : (p : ParameterSet) (H G : List ℕ → List ℕ) (xi : List ℕ) (pk : PublicParts) (sk : PrivateParts) → IsTrue (is_parameter_set p) → ((x : List ℕ) → 4096 ≤ length (H x))
-    → key_generation p H G xi ≡ Some (pk, sk) → IsPair p H G pk sk × AcceptsSigned p H G pk sk
+    → generated p H G xi ≡ Ok (pk, sk) → IsPair p H G pk sk × AcceptsSigned p H G pk sk
 generated_pair p H G xi pk sk row law e =
     let are = generated_parts p H G xi pk sk row law e in
     (pair_of_whole p H G pk sk row are.in_range are.consistent are.belongs are.hashed, accepts_signed p H G pk sk row law are.in_range are.consistent are.belongs)

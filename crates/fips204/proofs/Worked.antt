@@ -1,25 +1,26 @@
 -- Worked values of the parameter sets, of the order of attempts, of framing, and of the hashes, seeds and hints of whole calls.
-use Rattle.std.proofs.Common.{◌≡◌, ◌*◌, ℕ, ℤ, List, [], ◌∷◌, ◌++◌, Ok, Err, refl, true, false, map, length, take, Some, None, pos, negsuc, if◌then◌else◌}
+use Rattle.std.proofs.Common.{◌≡◌, ◌*◌, ℕ, ℤ, List, [], ◌∷◌, ◌++◌, Option, Result, Ok, Err, refl, true, false, map, length, take, Some, None, pos, negsuc, if◌then◌else◌}
+use Rattle.fips204_base.specs.declared.fault.Fault.{Fault}
 use Rattle.fips204_base.specs.declared.fault.Fault.TheVariants.{TooManyAttempts, SamplingLimit, SignCtx, HashCtx, OidEmpty, OidNotDer, DigestTooLong, DigestLength}
 use Rattle.fips204_base.specs.Encodings.{is_one}
 use Rattle.fips204_base.specs.Sampling.{triple, kept_triples, matrix_entry, sampled_matrix, first_256, all_present, kept_half_bytes, small_polynomial, small_vector, small_vectors}
 use Rattle.fips204_base.specs.Packing.{bit_length, packed, bits_to_bytes, bits, integer_to_bits, bits_to_integer, field}
 use Rattle.fips204_base.specs.Rounding.{decompose, use_hint}
 use Rattle.fips204_base.specs.Residues.{sum_below}
-use Rattle.fips204_base.specs.Transforms.{product, shifted}
+use Rattle.fips204_base.specs.Transforms.{product, shifted, row_product}
 use Rattle.fips204_base.specs.Vectors.{polynomial_of, vector_of}
 use Rattle.fips204_base.specs.declared.types.R.{R}
-use Rattle.fips204.specs.Keys.{PrivateParts, key_pair, key_generation}
-use Rattle.fips204.specs.SigningInputs.{seeds, t1_shifted}
-use Rattle.fips204.specs.Acceptance.{hinted}
+use Rattle.fips204.specs.Keys.{PublicParts, PrivateParts, key_pair}
+use Rattle.fips204.specs.SigningInputs.{seeds, t1_shifted, mask_seed}
+use Rattle.fips204.specs.Acceptance.{w1_prime}
 use Rattle.fips204.specs.ParameterSets.{ParameterSet, set_44, set_65, set_87, is_parameter_set, public_key_length, private_key_length, signature_length}
-use Rattle.fips204.specs.Signing.{first_answer, mask_seed, limit, rejected, signed, commitment, hint_bit, w_minus_cs2, sign}
+use Rattle.fips204.specs.Signing.{first_answer, limit, rejected, signed, commitment, w_minus_cs2, sign}
 use Rattle.std.specs.Prelude.{replicate, nat_eq, get_or, option_map}
 use Rattle.std.specs.List.{range_with_len, flat_map}
 use Rattle.fips204.specs.declared.types.pre_hash.TheConstants.{SHA2_224, SHA2_256, SHA2_384, SHA2_512, SHA2_512_224, SHA2_512_256, SHA3_224, SHA3_256, SHA3_384, SHA3_512, SHAKE_128, SHAKE_256}
 use Rattle.fips204.specs.Framing.{plain, hashed, framed, represented, representative, hashes, digest_length, pre_hash_fault}
 use Rattle.fips204.specs.Constants.{hash_oid}
-use Rattle.fips204.specs.Refusals.{input_fault, sign_input}
+use Rattle.fips204.specs.Refusals.{generated, input_fault, sign_input}
 use Rattle.fips204.specs.SchemeLaws.{framing}
 
 -- Worked values of the parameter sets, and of the order of attempts.
@@ -122,11 +123,16 @@ no_conditions : (input_fault (framed (replicate 256 0)) ≡ None) × (input_faul
 no_conditions = (refl, refl)
 
 -- a refusal stands before what is signed, which else is mu
-signed_inputs : (H G : List ℕ → List ℕ) (sk : PrivateParts) (rnd : List ℕ) → (sign_input set_44 H G sk rnd (plain [] (replicate 256 0)) ≡ Err SignCtx)
-    × (sign_input set_44 H G sk rnd (hashed [] [] []) ≡ Err OidEmpty)
-    × (sign_input set_44 H G sk rnd (plain (3 ∷ []) (1 ∷ 2 ∷ [])) ≡ sign set_44 H G sk (take 64 (H (sk.tr ++ 0 ∷ 2 ∷ 1 ∷ 2 ∷ 3 ∷ []))) rnd)
+no_parts : PrivateParts
+no_parts = record { rho = []; key = []; tr = []; s1 = []; s2 = []; t0 = [] }
+
+refused_inputs : (sign_input set_44 (λ x. x) (λ x. x) no_parts [] (plain [] (replicate 256 0)) ≡ Err SignCtx) × (sign_input set_44 (λ x. x) (λ x. x) no_parts [] (hashed [] [] []) ≡ Err OidEmpty)
 unfolding pre_hash_fault
-signed_inputs H G sk rnd = (refl, refl, refl)
+refused_inputs = (refl, refl)
+
+signed_inputs : (H G : List ℕ → List ℕ) (sk : PrivateParts) (rnd : List ℕ)
+    → sign_input set_44 H G sk rnd (plain (3 ∷ []) (1 ∷ 2 ∷ [])) ≡ sign set_44 H G sk (take 64 (H (sk.tr ++ 0 ∷ 2 ∷ 1 ∷ 2 ∷ 3 ∷ []))) rnd
+signed_inputs H G sk rnd = refl
 
 digest_before_identifier : input_fault (hashed (replicate 32 0) [] (hash_oid 0x01)) ≡ None
 unfolding pre_hash_fault digest_length hashes
@@ -138,10 +144,15 @@ digest_before_identifier = refl
 seeds_of_sets : (seeds set_44 (λ x. x) (9 ∷ []) ≡ 9 ∷ 4 ∷ 4 ∷ []) × (seeds set_65 (λ x. x) (9 ∷ []) ≡ 9 ∷ 6 ∷ 5 ∷ []) × (seeds set_87 (λ x. x) (9 ∷ []) ≡ 9 ∷ 8 ∷ 7 ∷ [])
 seeds_of_sets = (refl, refl, refl)
 
+-- both keys, where they are the answer
+keys_of : Result (PublicParts × PrivateParts) Fault → Option (PublicParts × PrivateParts)
+keys_of (Ok keys) = Some keys
+keys_of (Err fault) = None
+
 -- so rho of set 65 begins with xi and the bytes 6 and 5, where H gives back its input
-seeds_begin : option_map {U = List ℕ} (λ pair. take 4 pair.0.rho) (key_generation set_65 (λ input. input ++ replicate 1024 0) (λ _. replicate 1024 0) (9 ∷ []))
+seeds_begin : option_map {U = List ℕ} (λ pair. take 4 pair.0.rho) (keys_of (generated set_65 (λ input. input ++ replicate 1024 0) (λ _. replicate 1024 0) (9 ∷ [])))
     ≡ Some (9 ∷ 6 ∷ 5 ∷ 0 ∷ [])
-unfolding key_generation small_vectors key_pair sampled_matrix all_present matrix_entry kept_triples triple first_256 small_vector small_polynomial kept_half_bytes
+unfolding keys_of generated small_vectors key_pair sampled_matrix all_present matrix_entry kept_triples triple first_256 small_vector small_polynomial kept_half_bytes
 seeds_begin = refl
 
 -- a stream whose front over the 34 bytes of the seeds is 0, 1, .. to 127, and over any other input its bytes 0 and 64 in turn: over rho'
@@ -150,22 +161,22 @@ numbered : List ℕ → List ℕ
 numbered input = if nat_eq (length input) 34 then range_with_len 0 128 else flat_map (λ _. get_or input 0 0 ∷ get_or input 64 0 ∷ []) (range_with_len 0 512)
 
 -- rho is bytes 0 to 31 of the seeds, and K bytes 96 to 127
-seeds_of_keys : option_map {U = List ℕ × List ℕ × List ℕ} (λ pair. (pair.0.rho, pair.1.rho, pair.1.key)) (key_generation set_44 numbered (λ _. replicate 1024 0) (replicate 32 9))
+seeds_of_keys : option_map {U = List ℕ × List ℕ × List ℕ} (λ pair. (pair.0.rho, pair.1.rho, pair.1.key)) (keys_of (generated set_44 numbered (λ _. replicate 1024 0) (replicate 32 9)))
     ≡ Some (range_with_len 0 32, range_with_len 0 32, range_with_len 96 32)
-unfolding numbered key_generation small_vectors key_pair sampled_matrix all_present matrix_entry kept_triples triple first_256 small_vector small_polynomial kept_half_bytes
+unfolding numbered keys_of generated small_vectors key_pair sampled_matrix all_present matrix_entry kept_triples triple first_256 small_vector small_polynomial kept_half_bytes
 seeds_of_keys = refl
 
 -- rho' is bytes 32 to 95, so its first byte 32 has the half bytes 0 and 2, which are the coefficients 2 and 0; then stand the numbers 0 to 3 of s1,
 -- which are the coefficients 2 to -1, and 4 to 7 of s2, which are -2 and 2 to 0
-seeds_of_vectors : option_map {U = List (List ℤ) × List (List ℤ)} (λ pair. (map (λ w. take 3 w.0) pair.1.s1, map (λ w. take 3 w.0) pair.1.s2)) (key_generation set_44 numbered (λ _. replicate 1024 0) (replicate 32 9))
+seeds_of_vectors : option_map {U = List (List ℤ) × List (List ℤ)} (λ pair. (map (λ w. take 3 w.0) pair.1.s1, map (λ w. take 3 w.0) pair.1.s2)) (keys_of (generated set_44 numbered (λ _. replicate 1024 0) (replicate 32 9)))
     ≡ Some (map (λ x. pos 2 ∷ pos 0 ∷ x ∷ []) (pos 2 ∷ pos 1 ∷ pos 0 ∷ negsuc 0 ∷ []), map (λ x. pos 2 ∷ pos 0 ∷ x ∷ []) (negsuc 1 ∷ pos 2 ∷ pos 1 ∷ pos 0 ∷ []))
-unfolding numbered key_generation small_vectors key_pair sampled_matrix all_present matrix_entry kept_triples triple first_256 small_vector small_polynomial kept_half_bytes
+unfolding numbered keys_of generated small_vectors key_pair sampled_matrix all_present matrix_entry kept_triples triple first_256 small_vector small_polynomial kept_half_bytes
 seeds_of_vectors = refl
 
 -- the same at set 65: s1 has numbers 0 to 4, and s2 has 5 to 10, of which 9 and 10 give no coefficient
-seeds_of_65 : option_map {U = List ℤ × List ℤ} (λ pair. (map (λ w. get_or w.0 2 (pos 0)) pair.1.s1, map (λ w. get_or w.0 2 (pos 0)) pair.1.s2)) (key_generation set_65 numbered (λ _. replicate 1024 0) (replicate 32 9))
+seeds_of_65 : option_map {U = List ℤ × List ℤ} (λ pair. (map (λ w. get_or w.0 2 (pos 0)) pair.1.s1, map (λ w. get_or w.0 2 (pos 0)) pair.1.s2)) (keys_of (generated set_65 numbered (λ _. replicate 1024 0) (replicate 32 9)))
     ≡ Some (pos 4 ∷ pos 3 ∷ pos 2 ∷ pos 1 ∷ pos 0 ∷ [], negsuc 0 ∷ negsuc 1 ∷ negsuc 2 ∷ negsuc 3 ∷ pos 4 ∷ pos 4 ∷ [])
-unfolding numbered key_generation small_vectors key_pair sampled_matrix all_present matrix_entry kept_triples triple first_256 small_vector small_polynomial kept_half_bytes
+unfolding numbered keys_of generated small_vectors key_pair sampled_matrix all_present matrix_entry kept_triples triple first_256 small_vector small_polynomial kept_half_bytes
 seeds_of_65 = refl
 
 -- mu hashes tr before M', and keeps 64 bytes; a message, and a digest after its OID, are framed first; mu itself stays
@@ -189,38 +200,26 @@ commitments : (commitment set_44 (λ x. x) (7 ∷ []) (record { 0 = replicate 25
 unfolding commitment packed bits_to_bytes bits integer_to_bits bits_to_integer field bit_length
 commitments = (refl, refl, refl)
 
--- a hint tells whether v and v + t have other high bits: from gamma2 to one more, and back by -1; not from one less, from one more, or
--- where t is 0; at the last multiple of 2 gamma2 the bits go back to 0, which q - 1 has too
-hint_bits_44 : map (λ (x : ℕ × ℕ). hint_bit 95232 x.0 x.1) ((95232, 1) ∷ (95233, 8380416) ∷ (8285184, 1) ∷ (95231, 1) ∷ (95233, 1) ∷ (95232, 0) ∷ (8380416, 1) ∷ (0, 8380416) ∷ [])
-    ≡ pos 1 ∷ pos 1 ∷ pos 1 ∷ pos 0 ∷ pos 0 ∷ pos 0 ∷ pos 0 ∷ pos 0 ∷ []
-unfolding decompose
-hint_bits_44 = refl
-
-hint_bits_65_87 : map (λ (x : ℕ × ℕ). hint_bit 261888 x.0 x.1) ((261888, 1) ∷ (261889, 8380416) ∷ (8118528, 1) ∷ (261887, 1) ∷ (261889, 1) ∷ (261888, 0) ∷ (8380416, 1) ∷ (0, 8380416) ∷ [])
-    ≡ pos 1 ∷ pos 1 ∷ pos 1 ∷ pos 0 ∷ pos 0 ∷ pos 0 ∷ pos 0 ∷ pos 0 ∷ []
-unfolding decompose
-hint_bits_65_87 = refl
-
 -- 1023 2^13 is q - 1
 shifted_high_part : (t1_shifted (record { 0 = pos 3 ∷ [] } ∷ record { 0 = pos 1 ∷ pos 1023 ∷ [] } ∷ []) 1 0 ≡ 8192)
     × (t1_shifted (record { 0 = pos 3 ∷ [] } ∷ record { 0 = pos 1 ∷ pos 1023 ∷ [] } ∷ []) 1 1 ≡ 8380416)
 shifted_high_part = (refl, refl)
 
--- a one at place 2 of polynomial 1: there a w of 0 goes down past 0 to 43, and one of 1 up to 1; elsewhere high bits are 0
-hint_at_one_place : map (λ w. take 4 w.0) (hinted set_44 (polynomial_of (λ _. pos 0) ∷ polynomial_of (λ n. if nat_eq n 2 then pos 1 else pos 0) ∷ []) (λ r n. 0))
+-- without columns w = A z - c t1 2^13 is 0 where c is 0, and 1 where c is 1 and t1 is 1023; a one at place 2 of polynomial 1: there a w of 0 goes down past 0 to 43, and one of 1 up to 1; elsewhere high bits are 0
+hint_at_one_place : map (λ w. take 4 w.0) (w1_prime (record set_44 { l = 0 }) [] (replicate 4 (polynomial_of (λ _. pos 1023))) [] (polynomial_of (λ _. pos 0) ∷ polynomial_of (λ n. if nat_eq n 2 then pos 1 else pos 0) ∷ []) (record { 0 = [] }))
     ≡ replicate 4 (pos 0) ∷ (pos 0 ∷ pos 0 ∷ pos 43 ∷ pos 0 ∷ []) ∷ replicate 4 (pos 0) ∷ replicate 4 (pos 0) ∷ []
-unfolding vector_of polynomial_of is_one use_hint decompose
+unfolding w1_prime vector_of polynomial_of row_product product shifted sum_below is_one use_hint decompose
 hint_at_one_place = refl
 
-hint_above_zero : map (λ w. take 4 w.0) (hinted set_44 (polynomial_of (λ _. pos 0) ∷ polynomial_of (λ n. if nat_eq n 2 then pos 1 else pos 0) ∷ []) (λ r n. 1))
+hint_above_zero : map (λ w. take 4 w.0) (w1_prime (record set_44 { l = 0 }) [] (replicate 4 (polynomial_of (λ _. pos 1023))) [] (polynomial_of (λ _. pos 0) ∷ polynomial_of (λ n. if nat_eq n 2 then pos 1 else pos 0) ∷ []) (record { 0 = pos 1 ∷ [] }))
     ≡ replicate 4 (pos 0) ∷ (pos 0 ∷ pos 0 ∷ pos 1 ∷ pos 0 ∷ []) ∷ replicate 4 (pos 0) ∷ replicate 4 (pos 0) ∷ []
-unfolding vector_of polynomial_of is_one use_hint decompose
+unfolding w1_prime vector_of polynomial_of row_product product shifted sum_below is_one use_hint decompose
 hint_above_zero = refl
 
 -- as many polynomials as rows
-rows_of_hinted : length (hinted set_65 [] (λ r n. 0)) ≡ 6
-unfolding vector_of
-rows_of_hinted = refl
+rows_of_w1_prime : length (w1_prime set_65 [] [] [] [] (record { 0 = [] })) ≡ 6
+unfolding w1_prime vector_of
+rows_of_w1_prime = refl
 
 -- the constant polynomial x
 constant : ℤ → R

@@ -1,6 +1,7 @@
 -- Worked values of one attempt of signing.
-use Rattle.std.proofs.Common.{◌≡◌, ℕ, ℤ, pos, negsuc, [], ◌∷◌, Bool, true, false, refl, map, take, length, nat_eq}
+use Rattle.std.proofs.Common.{◌≡◌, ℕ, ℤ, List, pos, negsuc, [], ◌∷◌, Bool, true, false, refl, map, take, length, nat_eq}
 use Rattle.std.specs.Prelude.{if◌then◌else◌}
+use Rattle.std.specs.List.{flat_map}
 use Rattle.fips204_base.specs.declared.types.R.{R}
 use Rattle.fips204_base.specs.Residues.{sum_below, centred}
 use Rattle.fips204_base.specs.Rounding.{decompose}
@@ -42,6 +43,27 @@ low_bits_of_constants = refl
 ct0_of_constants : map (λ w. take 2 w.0) (ct0 (toy 178 80) (parts (pos 0) (pos 0) (pos 7)) (one (pos 2))) ≡ (pos 14 ∷ pos 0 ∷ []) ∷ []
 unfolding toy one parts ct0 vector_of polynomial_of product shifted sum_below
 ct0_of_constants = refl
+
+-- the first coefficients of a hint, where w is w, s2 and t0 are constants, and the challenge is 1
+hints : ParameterSet → ℕ → ℤ → ℤ → List (List ℤ)
+hints p w s2 t0 = map (λ h. take 1 h.0) (hint_vector p (parts (pos 0) s2 t0) (λ r n. w) (one (pos 1)))
+
+-- a hint tells whether v = w - c s2 and v + c t0 have other high bits: from gamma2 to one more, and back by -1; not from one less, from
+-- one more, or where t0 is 0; at the last multiple of 2 gamma2 the bits go back to 0, which q - 1 has too
+hints_44 : flat_map (λ (x : ℕ × ℤ). hints (toy 178 80) x.0 (pos 0) x.1) ((95232, pos 1) ∷ (95233, negsuc 0) ∷ (8285184, pos 1) ∷ (95231, pos 1) ∷ (95233, pos 1) ∷ (95232, pos 0) ∷ (8380416, pos 1) ∷ (0, negsuc 0) ∷ [])
+    ≡ map (λ h. h ∷ []) (pos 1 ∷ pos 1 ∷ pos 1 ∷ pos 0 ∷ pos 0 ∷ pos 0 ∷ pos 0 ∷ pos 0 ∷ [])
+unfolding hints toy one parts hint_vector vector_of polynomial_of product shifted sum_below decompose
+hints_44 = refl
+
+hints_65_87 : flat_map (λ (x : ℕ × ℤ). hints (record (toy 178 80) { gamma2 = 261888 }) x.0 (pos 0) x.1) ((261888, pos 1) ∷ (261889, negsuc 0) ∷ (8118528, pos 1) ∷ (261887, pos 1) ∷ (261889, pos 1) ∷ (261888, pos 0) ∷ (8380416, pos 1) ∷ (0, negsuc 0) ∷ [])
+    ≡ map (λ h. h ∷ []) (pos 1 ∷ pos 1 ∷ pos 1 ∷ pos 0 ∷ pos 0 ∷ pos 0 ∷ pos 0 ∷ pos 0 ∷ [])
+unfolding hints toy one parts hint_vector vector_of polynomial_of product shifted sum_below decompose
+hints_65_87 = refl
+
+-- v is 95232, and then 95233
+hint_after_part : (hints (toy 178 80) 95235 (pos 3) (pos 1) ≡ (pos 1 ∷ []) ∷ []) × (hints (toy 178 80) 95230 (negsuc 2) (pos 1) ≡ (pos 0 ∷ []) ∷ [])
+unfolding hints toy one parts hint_vector vector_of polynomial_of product shifted sum_below decompose
+hint_after_part = (refl, refl)
 
 -- the norm of z is below 178 less 78
 norm_of_z : (checks 178 80 (pos 1) (pos 0) (pos 0) (pos 98) 0 ≡ true) × (checks 178 80 (pos 1) (pos 0) (pos 0) (pos 99) 0 ≡ false)

@@ -15,13 +15,11 @@ use Rattle.fips204.specs.Keys.{PublicParts}
 abbrev pub AreShifted : ℕ → List R → List R → Type 0
 AreShifted k t1 v = (r n : ℕ) → r < k → n < 256 → vector_coefficients v r n ≡ 8192 * vector_coefficients t1 r n % 8380417
 
--- UseHint(h, w), coefficient by coefficient
-abbrev pub hinted : ParameterSet → List R → (ℕ → ℕ → ℕ) → List R
-hinted p h w = vector_of p.k (λ r n. pos (use_hint p.gamma2 (is_one (slice_index_or h r record { 0 = [] }) n) (w r n)))
-
--- w1' = UseHint(h, A z - c t1 2^13)
+-- w1' = UseHint(h, A z - c t1 2^13), coefficient by coefficient
 unfoldable pub w1_prime : ParameterSet → List (List T) → List R → List R → List R → R → List R
-w1_prime p a t1 z h c = hinted p h (λ r. minus (matrix_product p.l a (vector_coefficients z) r) (product (coefficients c.0) (λ n. 8192 * vector_coefficients t1 r n % 8380417)))
+w1_prime p a t1 z h c = vector_of p.k (λ r n.
+    let w = minus (matrix_product p.l a (vector_coefficients z) r) (product (coefficients c.0) (λ n. 8192 * vector_coefficients t1 r n % 8380417)) n in
+    pos (use_hint p.gamma2 (is_one (slice_index_or h r record { 0 = [] }) n) w))
 
 -- what a signature fixes under a matrix and t1, whatever was signed: parts, with a small z, a challenge, and the bytes of w1'
 pub record Opens (p : ParameterSet) (H : List ℕ → List ℕ) (a : List (List T)) (t1 : List R) (signature c_tilde w1 : List ℕ) : Type 0 where

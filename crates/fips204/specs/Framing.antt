@@ -1,5 +1,5 @@
 -- What is signed, its hash mu, and the conditions on a digest (FIPS 204, Algorithms 2 to 5, 7 and 8, section 5.4).
-use Rattle.std.specs.Prelude.{ℕ, List, ◌∷◌, ◌++◌, length, take, ◌+◌, [], Bool, false, ◌&&◌, not, nat_eq, nat_lt, nat_le, bytes_eq, find, Option, Some, None, option_map, slice_index, if◌then◌else◌}
+use Rattle.std.specs.Prelude.{ℕ, List, ◌∷◌, ◌++◌, length, take, ◌+◌, [], ◌&&◌, not, nat_eq, nat_lt, nat_le, bytes_eq, find, Option, Some, None, option_map, unwrap_or, slice_index, if◌then◌else◌}
 use Rattle.fips204_base.specs.declared.fault.Fault.{Fault}
 use Rattle.fips204_base.specs.declared.fault.Fault.TheVariants.{OidEmpty, OidNotDer, DigestTooLong, DigestLength}
 
@@ -35,11 +35,6 @@ unfoldable pub digest_length : List ℕ → Option ℕ
 digest_length oid = option_map (λ hash. hash.1)
     (find (λ hash. bytes_eq oid (0x06 ∷ 0x09 ∷ 0x60 ∷ 0x86 ∷ 0x48 ∷ 0x01 ∷ 0x65 ∷ 0x03 ∷ 0x04 ∷ 0x02 ∷ hash.0 ∷ [])) hashes)
 
--- whether a length is wanted and is another one
-abbrev pub differs : Option ℕ → ℕ → Bool
-differs None n = false
-differs (Some wanted) n = not (nat_eq n wanted)
-
 -- the first condition that the digest and the OID break, or none; an OID in DER has at least three bytes, the first 06, and the
 -- second below 128 and the number of bytes after it
 unfoldable pub pre_hash_fault : List ℕ → List ℕ → Option Fault
@@ -48,5 +43,5 @@ pre_hash_fault digest oid =
     else if not (nat_le 3 (length oid) && nat_eq (slice_index oid 0) 0x06 && nat_lt (slice_index oid 1) 128
     && nat_eq (slice_index oid 1 + 2) (length oid)) then Some OidNotDer
     else if nat_lt 1024 (length digest) then Some DigestTooLong
-    else if differs (digest_length oid) (length digest) then Some DigestLength
+    else if not (nat_eq (length digest) (unwrap_or (digest_length oid) (length digest))) then Some DigestLength
     else None

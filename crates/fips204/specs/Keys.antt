@@ -1,8 +1,8 @@
 -- Keys as values, and key generation (FIPS 204, sections 3.3 and 7.2, Algorithm 6), over streams H and G.
-use Rattle.std.specs.Prelude.{◌≡◌, ℕ, List, take, length, nat_eq, if◌then◌else◌, Result, MatchResult, ◌≢◌, ◌↔◌, [], ◌∷◌, ◌++◌, pos, drop, Bool, IsTrue, Option, Some, None, option_map, option_and_then}
+use Rattle.std.specs.Prelude.{◌≡◌, ℕ, List, take, length, nat_eq, if◌then◌else◌, Result, MatchResult, ◌≢◌, ◌↔◌, pos, Bool, IsTrue, Some, None}
 use Rattle.fips204_base.specs.Encodings.{public_key_bytes, IsPrivateKey}
 use Rattle.fips204_base.specs.Rounding.{power2round}
-use Rattle.fips204_base.specs.Sampling.{sampled_matrix, small_vectors}
+use Rattle.fips204_base.specs.Sampling.{sampled_matrix}
 use Rattle.fips204_base.specs.Transforms.{plus}
 use Rattle.fips204_base.specs.Vectors.{IsVector, vector_coefficients, matrix_product, vector_of}
 use Rattle.fips204_base.specs.declared.fault.Fault.{Fault}
@@ -82,16 +82,6 @@ key_pair p H rho key a s1 s2 =
     let tr = take 64 (H (public_key_bytes rho t1)) in
     (record { rho = rho; tr = tr; t1 = t1 }, record { rho = rho; key = key; tr = tr; s1 = s1; s2 = s2; t0 = low_part p a s1 s2 })
 
--- ML-DSA.KeyGen_internal (Algorithm 6): H over xi, byte k and byte l gives rho of 32 bytes, rho' of 64 and K of 32; none where a
--- sampler gives none
-unfoldable pub key_generation : ParameterSet → (List ℕ → List ℕ) → (List ℕ → List ℕ) → List ℕ → Option (PublicParts × PrivateParts)
-key_generation p H G xi =
-    let seeds = H (xi ++ p.k ∷ p.l ∷ []) in
-    let rho = take 32 seeds in
-    let rho' = take 64 (drop 32 seeds) in
-    let key = take 32 (drop 96 seeds) in
-    option_and_then (λ a. option_map (λ small. key_pair p H rho key a small.0 small.1) (small_vectors p.eta H rho' p.k p.l)) (sampled_matrix G rho p.k p.l)
-
 -- a whole private key: rejection sampling gives its matrix, and its t0 comes of A s1 + s2 by power2round
 pub record IsWhole (p : ParameterSet) (G : List ℕ → List ℕ) (sk : PrivateParts) : Type 0 where
   pub matrix : List (List T)
@@ -102,7 +92,3 @@ pub record IsWhole (p : ParameterSet) (G : List ℕ → List ℕ) (sk : PrivateP
 abbrev pub TellsWhole : ParameterSet → (List ℕ → List ℕ) → PrivateParts → Result Bool Fault → Type 0
 TellsWhole p G sk answer = MatchResult answer (λ whole. (sampled_matrix G sk.rho p.k p.l ≢ None) × (IsTrue whole ↔ IsWhole p G sk))
     (λ fault. (sampled_matrix G sk.rho p.k p.l ≡ None) × (fault ≡ SamplingLimit))
-
--- the public key of a private key: its rho and tr, and the high part of A s1 + s2; none where the matrix is none
-unfoldable pub public_key_of : ParameterSet → (List ℕ → List ℕ) → PrivateParts → Option PublicParts
-public_key_of p G sk = option_map (λ a. record { rho = sk.rho; tr = sk.tr; t1 = high_part p a sk.s1 sk.s2 }) (sampled_matrix G sk.rho p.k p.l)

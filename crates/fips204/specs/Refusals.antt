@@ -1,9 +1,10 @@
 -- Whole calls, with their refusals in order (FIPS 204, Algorithms 1 to 5, 7 and 8).
-use Rattle.std.specs.Prelude.{◌≡◌, ◌⊎◌, ℕ, List, length, nat_lt, Option, Some, None, Result, Err, IfErr, ok_or, Bool, true, false, replicate, if◌then◌else◌}
+use Rattle.std.specs.Prelude.{◌≡◌, ◌⊎◌, ℕ, List, [], ◌∷◌, ◌++◌, length, take, drop, nat_lt, Option, Some, None, option_map, option_and_then, Result, Err, IfErr, ok_or, Bool, true, false, replicate, if◌then◌else◌}
+use Rattle.fips204_base.specs.Sampling.{sampled_matrix, small_vectors}
 use Rattle.fips204_base.specs.declared.fault.Fault.{Fault}
 use Rattle.fips204_base.specs.declared.fault.Fault.TheVariants.{SignCtx, HashCtx, SamplingLimit, TooManyAttempts}
 use Rattle.fips204.specs.ParameterSets.{ParameterSet}
-use Rattle.fips204.specs.Keys.{PublicParts, PrivateParts, key_generation, public_key_of}
+use Rattle.fips204.specs.Keys.{PublicParts, PrivateParts, high_part, key_pair}
 use Rattle.fips204.specs.Framing.{Input, plain, hashed, framed, represented, representative, pre_hash_fault}
 use Rattle.fips204.specs.Signing.{sign}
 use Rattle.fips204.specs.Acceptance.{Verifies}
@@ -21,13 +22,19 @@ input_fault (hashed digest context oid) = if nat_lt 255 (length context) then So
 input_fault (framed m) = None
 input_fault (represented mu) = None
 
--- ML-DSA.KeyGen (Algorithm 1) from the seed xi
-abbrev pub generated : ParameterSet → (List ℕ → List ℕ) → (List ℕ → List ℕ) → List ℕ → Result (PublicParts × PrivateParts) Fault
-generated p H G xi = ok_or (key_generation p H G xi) SamplingLimit
+-- ML-DSA.KeyGen (Algorithms 1 and 6) from the seed xi: H over xi, byte k and byte l gives rho of 32 bytes, rho' of 64 and K of 32; a
+-- refusal where a sampler gives none
+unfoldable pub generated : ParameterSet → (List ℕ → List ℕ) → (List ℕ → List ℕ) → List ℕ → Result (PublicParts × PrivateParts) Fault
+generated p H G xi =
+    let seeds = H (xi ++ p.k ∷ p.l ∷ []) in
+    let rho = take 32 seeds in
+    let rho' = take 64 (drop 32 seeds) in
+    let key = take 32 (drop 96 seeds) in
+    ok_or (option_and_then (λ a. option_map (λ small. key_pair p H rho key a small.0 small.1) (small_vectors p.eta H rho' p.k p.l)) (sampled_matrix G rho p.k p.l)) SamplingLimit
 
--- the public key of a private key
-abbrev pub derived : ParameterSet → (List ℕ → List ℕ) → PrivateParts → Result PublicParts Fault
-derived p G sk = ok_or (public_key_of p G sk) SamplingLimit
+-- the public key of a private key: its rho and tr, and the high part of A s1 + s2; a refusal where there is no matrix
+unfoldable pub derived : ParameterSet → (List ℕ → List ℕ) → PrivateParts → Result PublicParts Fault
+derived p G sk = ok_or (option_map (λ a. record { rho = sk.rho; tr = sk.tr; t1 = high_part p a sk.s1 sk.s2 }) (sampled_matrix G sk.rho p.k p.l)) SamplingLimit
 
 -- signing an input from rnd: ML-DSA.Sign (Algorithm 2) of a message, HashML-DSA.Sign (Algorithm 4) of a digest,
 -- ML-DSA.Sign_internal (Algorithm 7) of M'

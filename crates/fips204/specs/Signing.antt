@@ -1,5 +1,5 @@
 -- Signing (FIPS 204, Algorithm 7): the body of its loop (lines 11 to 32), and the first of 814 attempts that is not rejected.
-use Rattle.std.specs.Prelude.{ℕ, ℤ, ◌+◌, ◌-◌, ◌*◌, ◌%◌, List, ◌++◌, pos, Bool, ◌&&◌, nat_lt, nat_le, length, take, Option, Some, None, if◌then◌else◌, [], ◌∷◌, map, Result, Ok, Err}
+use Rattle.std.specs.Prelude.{ℕ, ◌+◌, ◌-◌, ◌*◌, ◌%◌, List, ◌++◌, pos, Bool, ◌&&◌, nat_lt, nat_le, length, take, Option, Some, None, if◌then◌else◌, [], ◌∷◌, map, unwrap_or, option_map, Result, Ok, Err}
 use Rattle.std.specs.List.{range_with_len}
 use Rattle.fips204_base.specs.Encodings.{all_ones, signature_bytes, w1_bytes}
 use Rattle.fips204_base.specs.Residues.{centred, vector_norm, coefficients}
@@ -24,10 +24,6 @@ pub data Attempt : Type 0 where
 unfoldable pub commitment : ParameterSet → (List ℕ → List ℕ) → List ℕ → List R → List ℕ
 commitment p H mu w1 = take (commitment_length p) (H (mu ++ w1_bytes p.gamma2 w1))
 
--- w1, the high bits of w
-unfoldable pub high_vector : ParameterSet → (ℕ → ℕ → ℕ) → List R
-high_vector p w = vector_of p.k (λ r n. pos (high_bits p.gamma2 (w r n)))
-
 -- z = y + c s1, centred
 unfoldable pub response : ParameterSet → PrivateParts → List R → R → List R
 response p sk y c = vector_of p.l (λ r n. centred (pos (plus (vector_coefficients y r) (product (coefficients c.0) (vector_coefficients sk.s1 r)) n)))
@@ -44,13 +40,12 @@ low_vector p sk w c = vector_of p.k (λ r n. low_bits p.gamma2 (w_minus_cs2 sk.s
 unfoldable pub ct0 : ParameterSet → PrivateParts → R → List R
 ct0 p sk c = vector_of p.k (λ r n. pos (product (coefficients c.0) (vector_coefficients sk.t0 r) n))
 
--- MakeHint(0 - t, v + t) at one place, as a coefficient
-abbrev pub hint_bit : ℕ → ℕ → ℕ → ℤ
-hint_bit gamma2 v t = if make_hint gamma2 (8380416 * t % 8380417) ((v + t) % 8380417) then pos 1 else pos 0
-
--- h = MakeHint(-c t0, w - c s2 + c t0)
+-- h = MakeHint(-t, v + t), coefficient by coefficient, where v = w - c s2 and t = c t0
 unfoldable pub hint_vector : ParameterSet → PrivateParts → (ℕ → ℕ → ℕ) → R → List R
-hint_vector p sk w c = vector_of p.k (λ r n. hint_bit p.gamma2 (w_minus_cs2 sk.s2 w c r n) (product (coefficients c.0) (vector_coefficients sk.t0 r) n))
+hint_vector p sk w c = vector_of p.k (λ r n.
+    let v = w_minus_cs2 sk.s2 w c r n in
+    let t = product (coefficients c.0) (vector_coefficients sk.t0 r) n in
+    if make_hint p.gamma2 (8380416 * t % 8380417) ((v + t) % 8380417) then pos 1 else pos 0)
 
 -- whether an attempt is kept: the tests of lines 23 and 28
 unfoldable pub passes_checks : ParameterSet → PrivateParts → List R → (ℕ → ℕ → ℕ) → R → Bool
@@ -66,12 +61,13 @@ checked_attempt p sk y w c_tilde None = limit
 checked_attempt p sk y w c_tilde (Some c) =
     if passes_checks p sk y w c then signed (signature_bytes p.gamma1 p.omega c_tilde (response p sk y c) (hint_vector p sk w c)) else rejected
 
--- the attempt at counter kappa, with the matrix a and the seed rho'' of masks
+-- the attempt at counter kappa, with the matrix a and the seed rho'' of masks; w1 are the high bits of w = A y
 unfoldable pub attempt : ParameterSet → (List ℕ → List ℕ) → List (List T) → PrivateParts → List ℕ → List ℕ → ℕ → Attempt
 attempt p H a sk mu rho'' kappa =
     let y = mask p.gamma1 H rho'' p.l kappa in
     let w = matrix_product p.l a (vector_coefficients y) in
-    let c_tilde = commitment p H mu (high_vector p w) in
+    let w1 = vector_of p.k (λ r n. pos (high_bits p.gamma2 (w r n))) in
+    let c_tilde = commitment p H mu w1 in
     checked_attempt p sk y w c_tilde (challenge p.tau (H c_tilde))
 
 -- the answer of the first attempt that isn't rejected
@@ -81,19 +77,13 @@ first_answer (limit ∷ later) = Err SamplingLimit
 first_answer (rejected ∷ later) = first_answer later
 first_answer (signed signature ∷ later) = Ok signature
 
--- rho'', the seed of the masks
-abbrev pub mask_seed : (List ℕ → List ℕ) → PrivateParts → List ℕ → List ℕ → List ℕ
-mask_seed H sk rnd mu = take 64 (H (sk.key ++ rnd ++ mu))
-
--- signing with the matrix a: the first of 814 attempts (Appendix C) that isn't rejected; attempt n has kappa = n l
+-- signing with the matrix a: the first of 814 attempts (Appendix C) that isn't rejected; attempt n has kappa = n l, and rho'' is the
+-- seed of the masks
 unfoldable pub sign_with : ParameterSet → (List ℕ → List ℕ) → List (List T) → PrivateParts → List ℕ → List ℕ → Result (List ℕ) Fault
-sign_with p H a sk mu rnd = first_answer (map (λ n. attempt p H a sk mu (mask_seed H sk rnd mu) (n * p.l)) (range_with_len 0 814))
+sign_with p H a sk mu rnd =
+    let rho'' = take 64 (H (sk.key ++ rnd ++ mu)) in
+    first_answer (map (λ n. attempt p H a sk mu rho'' (n * p.l)) (range_with_len 0 814))
 
--- the same where the matrix is there, or else a refusal
-unfoldable pub sign_if_matrix : ParameterSet → (List ℕ → List ℕ) → Option (List (List T)) → PrivateParts → List ℕ → List ℕ → Result (List ℕ) Fault
-sign_if_matrix p H None sk mu rnd = Err SamplingLimit
-sign_if_matrix p H (Some a) sk mu rnd = sign_with p H a sk mu rnd
-
--- ML-DSA.Sign_internal (Algorithm 7) from mu and rnd, with a plain key
+-- ML-DSA.Sign_internal (Algorithm 7) from mu and rnd, with a plain key: with the matrix of its seed, or a refusal where there is none
 unfoldable pub sign : ParameterSet → (List ℕ → List ℕ) → (List ℕ → List ℕ) → PrivateParts → List ℕ → List ℕ → Result (List ℕ) Fault
-sign p H G sk mu rnd = sign_if_matrix p H (sampled_matrix G sk.rho p.k p.l) sk mu rnd
+sign p H G sk mu rnd = unwrap_or (option_map (λ a. sign_with p H a sk mu rnd) (sampled_matrix G sk.rho p.k p.l)) (Err SamplingLimit)

@@ -1,9 +1,10 @@
 -- What private functions of signing take and answer, and parts of definitions: cited by no public clause; nobody has to believe it.
-use Rattle.std.specs.Prelude.{◌+◌, ◌-◌, ◌*◌, ◌%◌, ◌<◌, ◌≤◌, ℕ, List, [], ◌∷◌, ◌++◌, length, take, slice_index, Bool, ◌&&◌, nat_eq, nat_lt, nat_le, if◌then◌else◌, Option, Some, None, Result, Ok, Err}
-use Rattle.fips204_base.specs.Encodings.{IsSignature, public_key_bytes}
+use Rattle.std.specs.Prelude.{◌+◌, ◌-◌, ◌*◌, ◌%◌, ◌<◌, ◌≤◌, ℕ, ℤ, pos, List, [], ◌∷◌, ◌++◌, length, take, slice_index, slice_index_or, Bool, ◌&&◌, nat_eq, nat_lt, nat_le, if◌then◌else◌, Option, Some, None, Result, Ok, Err}
+use Rattle.fips204_base.specs.Encodings.{IsSignature, is_one, public_key_bytes}
 use Rattle.fips204_base.specs.Residues.{vector_norm, coefficients}
+use Rattle.fips204_base.specs.Rounding.{high_bits, make_hint, use_hint}
 use Rattle.fips204_base.specs.Transforms.{product, plus}
-use Rattle.fips204_base.specs.Vectors.{PolynomialWithin, VectorWithin, AreSameModQ, IsVector, vector_coefficients}
+use Rattle.fips204_base.specs.Vectors.{PolynomialWithin, VectorWithin, AreSameModQ, IsVector, vector_coefficients, vector_of}
 use Rattle.fips204_base.specs.declared.fault.Fault.{Fault}
 use Rattle.fips204_base.specs.declared.fault.Fault.TheVariants.{SamplingLimit, SignCtx, HashCtx}
 use Rattle.fips204_base.specs.declared.types.R.{R}
@@ -64,6 +65,22 @@ digest_fault digest context oid = if nat_lt 255 (length context) then Some HashC
 -- at least three bytes, the first 06, and the second below 128 and the number of bytes after it
 abbrev pub is_der : List ℕ → Bool
 is_der oid = nat_le 3 (length oid) && nat_eq (slice_index oid 0) 0x06 && nat_lt (slice_index oid 1) 128 && nat_eq (slice_index oid 1 + 2) (length oid)
+
+-- w1, the high bits of w
+abbrev pub high_vector : ParameterSet → (ℕ → ℕ → ℕ) → List R
+high_vector p w = vector_of p.k (λ r n. pos (high_bits p.gamma2 (w r n)))
+
+-- MakeHint(0 - t, v + t) at one place, as a coefficient
+abbrev pub hint_bit : ℕ → ℕ → ℕ → ℤ
+hint_bit gamma2 v t = if make_hint gamma2 (8380416 * t % 8380417) ((v + t) % 8380417) then pos 1 else pos 0
+
+-- rho'', the seed of the masks
+abbrev pub mask_seed : (List ℕ → List ℕ) → PrivateParts → List ℕ → List ℕ → List ℕ
+mask_seed H sk rnd mu = take 64 (H (sk.key ++ rnd ++ mu))
+
+-- UseHint(h, w), coefficient by coefficient
+abbrev pub hinted : ParameterSet → List R → (ℕ → ℕ → ℕ) → List R
+hinted p h w = vector_of p.k (λ r n. pos (use_hint p.gamma2 (is_one (slice_index_or h r record { 0 = [] }) n) (w r n)))
 
 -- the seeds of both keys: H over xi, byte k and byte l
 abbrev pub seeds : ParameterSet → (List ℕ → List ℕ) → List ℕ → List ℕ

@@ -10,10 +10,10 @@ ghost use Rattle.fips204_base.specs.Residues.{residue, coefficients};
 ghost use Rattle.fips204_base.specs.Transforms.{minus, product};
 ghost use Rattle.fips204_base.specs.Rounding.{IsGamma2, high_values, use_hint};
 ghost use Rattle.fips204_base.specs.declared.types.R.{R};
-ghost use Rattle.fips204.specs.Acceptance.{AreShifted, Accepts, Verifies, hinted};
+ghost use Rattle.fips204.specs.Acceptance.{AreShifted, Accepts, Verifies};
 ghost use Rattle.fips204.specs.ParameterSets.{commitment_length};
 ghost use Rattle.fips204.specs.Signing.{commitment};
-ghost use Rattle.fips204.specs.SigningInputs.{HasShortParts, IsHighPart};
+ghost use Rattle.fips204.specs.SigningInputs.{HasShortParts, IsHighPart, hinted};
 ghost use Rattle.fips204.specs.Sets.{HasSizes, set_of};
 
 use super::commitment::commitment;

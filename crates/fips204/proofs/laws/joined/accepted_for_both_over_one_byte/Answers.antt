@@ -1,4 +1,4 @@
-use Rattle.std.proofs.Common.{◌≡◌, ℕ, List, refl, rules}
+use Rattle.std.proofs.Common.{◌≡◌, ℕ, List, refl}
 use Rattle.std.specs.Prelude.{replicate}
 use Rattle.fips204.specs.Framing.{plain}
 use Rattle.fips204.specs.ParameterSets.{set_44}

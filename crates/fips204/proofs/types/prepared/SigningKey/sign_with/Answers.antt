@@ -1,6 +1,6 @@
 use Rattle.std.proofs.Common.{rules, ◌≡◌, ◌≤◌, ◌+◌, ◌*◌, ◌∙◌, ◌++◌, ℕ, List, [], take, append-nil, append_assoc, ap, sym, arith, Err}
 use Rattle.fips204_base.specs.declared.fault.Fault.TheVariants.{SamplingLimit}
-use Rattle.fips204.specs.Signing.{attempt, mask_seed}
+use Rattle.fips204.specs.Signing.{attempt}
 use Rattle.fips204.specs.Keys.{PrivateParts}
 use Rattle.fips204.specs.Prepared.{PreparedPrivate}
 use Rattle.fips204.specs.Sets.{set_of}
@@ -8,6 +8,7 @@ use Rattle.fips204.proofs.ParameterSets.{limits}
 use Rattle.fips204.proofs.Signing.{counter_fits, answered-fault, one_more, sign_with-signed, sign_with-limit, sign_with-none}
 use Rattle.fips204.proofs.types.prepared.SigningKey.sign_with.Given.{Over}
 use Rattle.fips204.proofs.types.prepared.SigningKey.sign_with.Goals as goal
+use Rattle.fips204.specs.SigningInputs.{mask_seed}
 use Rattle.fips204.proofs.types.prepared.SigningKey.sign_with.Goals.{After-hash-mask_seed}
 
 seed-is : (g : Over) (c : After-hash-mask_seed g) → c.hash-mask_seed.result ≡ mask_seed g.H.Xof.front c.args.self.now.parts c.args.rnd.now c.args.mu.now
