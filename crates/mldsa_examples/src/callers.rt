@@ -67,6 +67,7 @@ pub fn decoded_at_44<H: Xof, G: Xof>(
 }
 
 /// Makes both keys of a seed at set 65. It returns no error but `SamplingLimit`.
+#[tactic(auto, unfolding(fips204::specs::Refusals::generated))]
 pub fn made_at_65<H: Xof, G: Xof>(
     xi: &[u8; 32],
 ) -> Result<(ml_dsa_65::PublicKey<H, G>, ml_dsa_65::PrivateKey<H, G>), Fault>

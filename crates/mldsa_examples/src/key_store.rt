@@ -95,6 +95,7 @@ fn has_bytes<H: Xof, G: Xof>(key: &PublicKey<H, G>, bytes: &[u8; PK_LEN]) -> boo
 }
 
 /// The public key of a private key if the file is its file, or the first error.
+#[tactic(auto, unfolding(fips204::specs::Refusals::derived))]
 pub fn checked_public<H: Xof, G: Xof>(
     owner: &PrivateKey<H, G>,
     file: &[u8],
