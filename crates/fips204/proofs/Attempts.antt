@@ -17,10 +17,10 @@ use Rattle.fips204_base.proofs.Products.{row_below}
 use Rattle.fips204_base.proofs.Rounding.{high_bits_below}
 use Rattle.fips204_base.proofs.Masks.{mask-range}
 use Rattle.fips204_base.proofs.Vectors.{vector_of-ext, vector_of-range, vector-within}
-use Rattle.fips204.specs.Signing.{attempt, commitment, hint_vector, passes_checks, checked_attempt, low_vector}
+use Rattle.fips204.specs.Signing.{attempt, commitment, hint_vector, passes_checks, low_vector}
 use Rattle.fips204.specs.Keys.{PrivateParts}
 use Rattle.fips204.specs.ParameterSets.{ParameterSet, commitment_length}
-use Rattle.fips204.specs.SigningInputs.{attempt_answer, scaled, high_vector, hint_bit}
+use Rattle.fips204.specs.SigningInputs.{attempt_answer, scaled, high_vector, hint_bit, checked_attempt}
 use Rattle.fips204.proofs.ParameterSets.{rounding-size}
 use Rattle.fips204_base.specs.Network.{plain_matrix}
 
@@ -61,7 +61,6 @@ passes_checks-agree p sk y v w c e = rw (low_vector-agree p sk v w c e, hint_vec
 -- the checks take of w the coefficients of k polynomials
 pub checked_attempt-same : (p : ParameterSet) (sk : PrivateParts) (y : List R) (v w : ℕ → ℕ → ℕ) (c_tilde : List ℕ) (t : Option R) → Agree p.k v w
     → checked_attempt p sk y v c_tilde t ≡ checked_attempt p sk y w c_tilde t
-unfolding checked_attempt
 checked_attempt-same p sk y v w c_tilde None e = refl
 checked_attempt-same p sk y v w c_tilde (Some c) e = rw (passes_checks-agree p sk y v w c e, hint_vector-agree p sk v w c e) refl
 
@@ -124,5 +123,5 @@ attempt-is p H a sk mu rho'' kappa k l y w w1 c_tilde rows columns masked produc
 
 -- an attempt without a challenge is a refusal
 pub checked_attempt-limit : (p : ParameterSet) (sk : PrivateParts) (y : List R) (w : ℕ → ℕ → ℕ) (c_tilde : List ℕ) (t : Option R) → t ≡ None → attempt_answer (checked_attempt p sk y w c_tilde t) ≡ Err SamplingLimit
-unfolding checked_attempt attempt_answer
+unfolding attempt_answer
 checked_attempt-limit p sk y w c_tilde t e = rw e refl

@@ -13,13 +13,13 @@ use Rattle.fips204_base.specs.Encodings.{signature_bytes, w1_bytes, all_ones}
 use Rattle.fips204_base.specs.Vectors.{vector_coefficients, matrix_product, IsVector}
 use Rattle.fips204.specs.ParameterSets.{ParameterSet, is_parameter_set, commitment_length}
 use Rattle.fips204.specs.Keys.{PrivateParts, ArePrivateParts, IsWhole, high_part, low_part}
-use Rattle.fips204.specs.Signing.{Attempt, limit, rejected, signed, response, low_vector, ct0, hint_vector, passes_checks, commitment, checked_attempt, attempt, w_minus_cs2, first_answer, sign_with, sign}
+use Rattle.fips204.specs.Signing.{Attempt, limit, rejected, signed, response, low_vector, ct0, hint_vector, passes_checks, commitment, attempt, w_minus_cs2, first_answer, sign_with, sign}
 use Rattle.fips204.proofs.ParameterSets.{and_out, AreSetNumbers, set_numbers}
 use Rattle.fips204.proofs.KeptHints.{IsKept, hinted_is_high}
 use Rattle.std.proofs.lemmas.List.{length-take-le}
 use Rattle.fips204.specs.Acceptance.{Accepts, Verifies}
 use Rattle.fips204.proofs.RejectionChecks.{centred-range, hint-range}
-use Rattle.fips204.specs.SigningInputs.{scaled, y_plus_cs1, high_vector, mask_seed}
+use Rattle.fips204.specs.SigningInputs.{scaled, y_plus_cs1, high_vector, mask_seed, checked_attempt}
 
 -- What signing answers is the signature of an attempt that was kept.
 
@@ -79,7 +79,6 @@ not_limit x e = cc
 
 judged_signed : (p : ParameterSet) (sk : PrivateParts) (y : List R) (w : ℕ → ℕ → ℕ) (c_tilde : List ℕ) (o : Option R) (signature : List ℕ) → checked_attempt p sk y w c_tilde o ≡ signed signature
     → GivesSignature p sk y w c_tilde o signature
-unfolding checked_attempt
 judged_signed p sk y w c_tilde None signature e = absurd (not_limit signature e)
 judged_signed p sk y w c_tilde (Some c) signature e = elim (cases_Bool (passes_checks p sk y w c)) [
   | inl t ↦ record {

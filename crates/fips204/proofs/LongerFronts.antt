@@ -18,10 +18,10 @@ use Rattle.fips204_base.specs.Sampling.{sampled_matrix, challenge, mask}
 use Rattle.fips204_base.proofs.LongerFronts.{prefix-take, prefix-part, matrix_entry-longer, small_polynomial-longer, challenge-longer, sampled_matrix-longer, small_vector-longer, mask-longer}
 use Rattle.fips204.specs.ParameterSets.{ParameterSet, is_parameter_set, commitment_length}
 use Rattle.fips204.specs.Keys.{PublicParts, PrivateParts, high_part, key_pair}
-use Rattle.fips204.specs.SigningInputs.{key_hash, high_vector, mask_seed}
+use Rattle.fips204.specs.SigningInputs.{key_hash, high_vector, mask_seed, checked_attempt}
 use Rattle.fips204.proofs.KeyGeneration.{key_pair_if_all, key_pair_of_seed, generated-by_parts}
 use Rattle.fips204.specs.Framing.{Input, plain, hashed, framed, represented, frame, representative}
-use Rattle.fips204.specs.Signing.{Attempt, limit, rejected, signed, commitment, checked_attempt, attempt, first_answer, sign_with, sign}
+use Rattle.fips204.specs.Signing.{Attempt, limit, rejected, signed, commitment, attempt, first_answer, sign_with, sign}
 use Rattle.fips204.specs.Acceptance.{Verifies}
 use Rattle.fips204.specs.Refusals.{generated, derived, refused_or, input_fault, sign_input, VerifiesInput}
 use Rattle.fips204.specs.LongerFronts.{CounterFrontsArePrefixes, SamplesStay, Stays, AnswersStay, IsDecided, sampled, malformed, YesAndNoStay, AcceptanceStays, LongerFrontsKeep}
@@ -110,7 +110,6 @@ module _ (H G H' G' : List ℕ → List ℕ) (first : ArePrefixes H H') (second 
 
   checked_stays : (p : ParameterSet) (sk : PrivateParts) (y : List R) (w : ℕ → ℕ → ℕ) (c_tilde : List ℕ) (c longer : Option R) → ((x : R) → c ≡ Some x → longer ≡ Some x)
       → (checked_attempt p sk y w c_tilde c ≡ limit) ⊎ (checked_attempt p sk y w c_tilde longer ≡ checked_attempt p sk y w c_tilde c)
-  unfolding checked_attempt
   checked_stays p sk y w c_tilde None longer same = inl refl
   checked_stays p sk y w c_tilde (Some c) longer same = inr (ap (checked_attempt p sk y w c_tilde) (same c refl))
 

@@ -18,11 +18,11 @@ use Rattle.fips204_base.proofs.PlainTransforms.{multiple-same}
 use Rattle.fips204_base.proofs.Vectors.{vector_of-ext, vector_of-range}
 use Rattle.fips204_base.specs.Encodings.{signature_bytes, all_ones}
 use Rattle.fips204.specs.declared.types.Params.{Params}
-use Rattle.fips204.specs.Signing.{response, low_vector, ct0, hint_vector, passes_checks, checked_attempt, w_minus_cs2}
+use Rattle.fips204.specs.Signing.{response, low_vector, ct0, hint_vector, passes_checks, w_minus_cs2}
 use Rattle.fips204.specs.Keys.{PrivateParts}
 use Rattle.fips204.specs.ParameterSets.{ParameterSet, commitment_length, signature_length}
 use Rattle.fips204.specs.Sets.{set_of}
-use Rattle.fips204.specs.SigningInputs.{attempt_answer, scaled, y_plus_cs1, hint_bit}
+use Rattle.fips204.specs.SigningInputs.{attempt_answer, scaled, y_plus_cs1, hint_bit, checked_attempt}
 use Rattle.fips204.proofs.ChallengeProducts.{norm_of_place}
 
 -- Sums, norms and hints of an attempt's vectors.
@@ -105,12 +105,12 @@ and-fourth : (a b c d : Bool) → true ≡ a → true ≡ b → true ≡ c → (
 and-fourth a b c d e f h = rw (sym e, sym f, sym h) refl
 
 rejected : (p : ParameterSet) (sk : PrivateParts) (y : List R) (w : ℕ → ℕ → ℕ) (c_tilde : List ℕ) (c : R) → passes_checks p sk y w c ≡ false → Ok None ≡ attempt_answer (checked_attempt p sk y w c_tilde (Some c))
-unfolding checked_attempt attempt_answer
+unfolding attempt_answer
 rejected p sk y w c_tilde c e = rw e refl
 
 signed : (p : ParameterSet) (sk : PrivateParts) (y : List R) (w : ℕ → ℕ → ℕ) (c_tilde : List ℕ) (c : R) → passes_checks p sk y w c ≡ true
     → Ok (Some (signature_bytes p.gamma1 p.omega c_tilde (response p sk y c) (hint_vector p sk w c))) ≡ attempt_answer (checked_attempt p sk y w c_tilde (Some c))
-unfolding checked_attempt attempt_answer
+unfolding attempt_answer
 signed p sk y w c_tilde c e = rw e refl
 
 -- an attempt is rejected at the first test that fails, and kept where none does

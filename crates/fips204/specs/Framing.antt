@@ -36,7 +36,7 @@ digest_length oid = option_map (λ hash. hash.1)
     (find (λ hash. bytes_eq oid (0x06 ∷ 0x09 ∷ 0x60 ∷ 0x86 ∷ 0x48 ∷ 0x01 ∷ 0x65 ∷ 0x03 ∷ 0x04 ∷ 0x02 ∷ hash.0 ∷ [])) hashes)
 
 -- the first condition that the digest and the OID break, or none; an OID in DER has at least three bytes, the first 06, and the
--- second below 128 and the number of bytes after it
+-- second below 128 and the number of bytes after it; under the OID of one of the twelve hashes a digest has the length of that
 unfoldable pub pre_hash_fault : List ℕ → List ℕ → Option Fault
 pre_hash_fault digest oid =
     if nat_eq (length oid) 0 then Some OidEmpty

@@ -1,5 +1,5 @@
 -- Signing (FIPS 204, Algorithm 7): the body of its loop (lines 11 to 32), and the first of 814 attempts that is not rejected.
-use Rattle.std.specs.Prelude.{ℕ, ◌+◌, ◌-◌, ◌*◌, ◌%◌, List, ◌++◌, pos, Bool, ◌&&◌, nat_lt, nat_le, length, take, Option, Some, None, if◌then◌else◌, [], ◌∷◌, map, unwrap_or, option_map, Result, Ok, Err}
+use Rattle.std.specs.Prelude.{ℕ, ◌+◌, ◌-◌, ◌*◌, ◌%◌, List, ◌++◌, pos, Bool, ◌&&◌, nat_lt, nat_le, length, take, if◌then◌else◌, [], ◌∷◌, map, unwrap_or, option_map, Result, Ok, Err}
 use Rattle.std.specs.List.{range_with_len}
 use Rattle.fips204_base.specs.Encodings.{all_ones, signature_bytes, w1_bytes}
 use Rattle.fips204_base.specs.Residues.{centred, vector_norm, coefficients}
@@ -55,12 +55,6 @@ passes_checks p sk y w c =
     && nat_lt (vector_norm (ct0 p sk c)) p.gamma2
     && nat_le (length (all_ones (hint_vector p sk w c))) p.omega
 
--- what a challenge makes of an attempt with mask y, whose A y is w
-unfoldable pub checked_attempt : ParameterSet → PrivateParts → List R → (ℕ → ℕ → ℕ) → List ℕ → Option R → Attempt
-checked_attempt p sk y w c_tilde None = limit
-checked_attempt p sk y w c_tilde (Some c) =
-    if passes_checks p sk y w c then signed (signature_bytes p.gamma1 p.omega c_tilde (response p sk y c) (hint_vector p sk w c)) else rejected
-
 -- the attempt at counter kappa, with the matrix a and the seed rho'' of masks; w1 are the high bits of w = A y
 unfoldable pub attempt : ParameterSet → (List ℕ → List ℕ) → List (List T) → PrivateParts → List ℕ → List ℕ → ℕ → Attempt
 attempt p H a sk mu rho'' kappa =
@@ -68,7 +62,10 @@ attempt p H a sk mu rho'' kappa =
     let w = matrix_product p.l a (vector_coefficients y) in
     let w1 = vector_of p.k (λ r n. pos (high_bits p.gamma2 (w r n))) in
     let c_tilde = commitment p H mu w1 in
-    checked_attempt p sk y w c_tilde (challenge p.tau (H c_tilde))
+    unwrap_or
+    (option_map (λ c. if passes_checks p sk y w c then signed (signature_bytes p.gamma1 p.omega c_tilde (response p sk y c) (hint_vector p sk w c)) else rejected)
+    (challenge p.tau (H c_tilde)))
+    limit
 
 -- the answer of the first attempt that isn't rejected
 unfoldable pub first_answer : List Attempt → Result (List ℕ) Fault

@@ -1,6 +1,6 @@
 -- What private functions of signing take and answer, and parts of definitions: cited by no public clause; nobody has to believe it.
-use Rattle.std.specs.Prelude.{◌+◌, ◌-◌, ◌*◌, ◌%◌, ◌<◌, ◌≤◌, ℕ, ℤ, pos, List, [], ◌∷◌, ◌++◌, length, take, slice_index, slice_index_or, Bool, ◌&&◌, nat_eq, nat_lt, nat_le, if◌then◌else◌, Option, Some, None, Result, Ok, Err}
-use Rattle.fips204_base.specs.Encodings.{IsSignature, is_one, public_key_bytes}
+use Rattle.std.specs.Prelude.{◌+◌, ◌-◌, ◌*◌, ◌%◌, ◌<◌, ◌≤◌, ℕ, ℤ, pos, List, [], ◌∷◌, ◌++◌, length, take, slice_index, slice_index_or, Bool, ◌&&◌, nat_eq, nat_lt, nat_le, if◌then◌else◌, Option, Some, None, option_map, unwrap_or, Result, Ok, Err}
+use Rattle.fips204_base.specs.Encodings.{IsSignature, signature_bytes, is_one, public_key_bytes}
 use Rattle.fips204_base.specs.Residues.{vector_norm, coefficients}
 use Rattle.fips204_base.specs.Rounding.{high_bits, make_hint, use_hint}
 use Rattle.fips204_base.specs.Transforms.{product, plus}
@@ -13,7 +13,7 @@ use Rattle.fips204.specs.Keys.{PrivateParts}
 use Rattle.fips204.specs.ParameterSets.{ParameterSet, commitment_length}
 use Rattle.fips204.specs.Refusals.{refused_or, input_fault}
 use Rattle.fips204.specs.Sets.{HasSizes, set_of}
-use Rattle.fips204.specs.Signing.{Attempt, limit, rejected, signed}
+use Rattle.fips204.specs.Signing.{Attempt, limit, rejected, signed, response, hint_vector, passes_checks}
 use Rattle.fips204.specs.declared.types.Params.{Params}
 use Rattle.fips204.specs.declared.types.prepared.KeyTransforms.{KeyTransforms}
 
@@ -69,6 +69,11 @@ is_der oid = nat_le 3 (length oid) && nat_eq (slice_index oid 0) 0x06 && nat_lt 
 -- w1, the high bits of w
 abbrev pub high_vector : ParameterSet → (ℕ → ℕ → ℕ) → List R
 high_vector p w = vector_of p.k (λ r n. pos (high_bits p.gamma2 (w r n)))
+
+-- what a challenge makes of an attempt with mask y, whose A y is w
+abbrev pub checked_attempt : ParameterSet → PrivateParts → List R → (ℕ → ℕ → ℕ) → List ℕ → Option R → Attempt
+checked_attempt p sk y w c_tilde challenge =
+    unwrap_or (option_map (λ c. if passes_checks p sk y w c then signed (signature_bytes p.gamma1 p.omega c_tilde (response p sk y c) (hint_vector p sk w c)) else rejected) challenge) limit
 
 -- MakeHint(0 - t, v + t) at one place, as a coefficient
 abbrev pub hint_bit : ℕ → ℕ → ℕ → ℤ

@@ -7,8 +7,7 @@ ghost use Rattle.fips204_base.specs.Encodings.{all_ones};
 ghost use Rattle.fips204_base.specs.Vectors.{VectorWithin, vector_coefficients, vector_of};
 ghost use Rattle.fips204_base.specs.Transforms.{minus, plus};
 ghost use Rattle.fips204_base.specs.Rounding.{IsGamma2, low_bits};
-ghost use Rattle.fips204.specs.Signing.{checked_attempt};
-ghost use Rattle.fips204.specs.SigningInputs.{AreCheckInputs, attempt_answer, hint_bit};
+ghost use Rattle.fips204.specs.SigningInputs.{AreCheckInputs, attempt_answer, hint_bit, checked_attempt};
 ghost use Rattle.fips204.specs.Sets.{set_of};
 
 use crate::types::{Params, R, R0, SigningKey};

@@ -5,8 +5,8 @@ use Rattle.fips204_base.specs.Sampling.{challenge, mask}
 use Rattle.fips204_base.specs.Vectors.{entry, VectorWithin, matrix_product, vector_coefficients, vector_of}
 use Rattle.fips204_base.specs.Rounding.{high_bits}
 use Rattle.fips204_base.proofs.Sampled.{some_of_ok, none_of_err}
-use Rattle.fips204.specs.Signing.{attempt, checked_attempt}
-use Rattle.fips204.specs.SigningInputs.{attempt_answer}
+use Rattle.fips204.specs.Signing.{attempt}
+use Rattle.fips204.specs.SigningInputs.{attempt_answer, checked_attempt}
 use Rattle.fips204.specs.Prepared.{PreparedPrivate}
 use Rattle.fips204.specs.Sets.{set_of}
 use Rattle.fips204.proofs.Attempts.{attempt-is, checked_attempt-limit, mask-within, high-range}
