@@ -1,5 +1,5 @@
 -- An append-only ledger, for an example: each entry signs the hash of the entry before it, and what is recorded.
-use Rattle.std.specs.Prelude.{◌≡◌, ◌⊎◌, ◌<◌, ℕ, ◌+◌, ◌-◌, List, [], ◌∷◌, ◌++◌, length, replicate, slice_index_or, nat_eq, if◌then◌else◌, Result, Ok, Err, MatchResult}
+use Rattle.std.specs.Prelude.{◌≡◌, ◌⊎◌, ◌<◌, ℕ, ◌-◌, List, [], ◌∷◌, ◌++◌, length, replicate, slice_index_or, nat_eq, if◌then◌else◌, Result, Ok, Err, MatchResult}
 use Rattle.sha2.specs.Sha256.{sha256}
 use Rattle.fips204_base.specs.declared.fault.Fault.{Fault}
 use Rattle.fips204.specs.Keys.{PublicParts, PrivateParts, IsWhole}
