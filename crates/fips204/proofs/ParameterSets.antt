@@ -307,14 +307,6 @@ matrix-shape p K L t rows_are columns_are =
     let few_columns : L ≤ 7 = omega (arith, columns_are, all.few_columns) in
     (matrix_room K L few_rows few_columns, (few_rows, few_columns))
 
--- and so of a set
-pub set-shape : (p : ParameterSet) (K L : ℕ) → IsTrue (is_parameter_set p) → K ≡ p.k → L ≡ p.l → (K * (L * 1024) < 9223372036854775808) × (L * 1024 < 9223372036854775808) × (K ≤ 8) × (L ≤ 7)
-set-shape p K L t rows_are columns_are =
-    let all = set_numbers p t in
-    let few_rows : K ≤ 8 = omega (arith, rows_are, all.rows) in
-    let few_columns : L ≤ 7 = omega (arith, columns_are, all.columns) in
-    (matrix_room K L few_rows few_columns, omega (arith, few_columns), few_rows, few_columns)
-
 -- coefficients of s1 and s2 are small
 pub eta_of_rows-small : (k : ℕ) → eta_of_rows k ≤ 8380416
 eta_of_rows-small k = elim (cases_Bool (nat_eq k 6)) [

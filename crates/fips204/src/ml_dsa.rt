@@ -17,5 +17,5 @@ pub(crate) use framing::{digest_mu, message_mu};
 pub use key_generation::{key_gen, key_gen_internal, private_to_public_key};
 pub use signing::{MAX_SIGN_ATTEMPTS, sign_internal};
 pub use verification::verify_internal;
-pub(crate) use verification::{t1_shifted, verify_prepared};
+pub(crate) use verification::{verify_prepared, write_shifted_transforms};
 pub(crate) use whole::{is_pair, is_whole};

@@ -3,6 +3,7 @@
 
 ghost use Rattle.std.specs.Prelude.{◌≡◌, ◌≤◌, ◌↔◌, ◌∷◌, [], length, map, take, false, true, Err, IsTrue, IfOk, IfErr};
 ghost use Rattle.fips204.specs.Keys.{PublicParts, IsPublicKeyOf};
+ghost use Rattle.fips204.specs.Prepared.{prepared_public};
 ghost use Rattle.fips204.specs.Refusals.{VerifiesMessage};
 ghost use Rattle.mldsa_lines.specs.Lines.{AllFit, IsInputFault, StopsAt};
 ghost use Rattle.mldsa_engine.specs.ProgramText.{named_set, two_bytes, wanted_lines, entry_lines, input_lines, lines_of_input, hex_text, Generates, Signs, Checks, Answers, Executes};
@@ -239,7 +240,22 @@ where
         ensures faults { IfErr result (λ fault. IsInputFault fault) }
     {
         let key = Self::decode(key);
-        Self::judge_entries(alloc, &key.prepare(), context, count, input)
+        let mut prepared = Err(Fault::SamplingLimit);
+        Self::write_prepared(&key, &mut prepared);
+        Self::judge_entries(alloc, &prepared, context, count, input)
+    }
+
+    /// Prepares a public key in the caller's place.
+    ///
+    /// Not inlined, so that the prepared key stands in the stack beside the entries once.
+    #[inline(never)]
+    fn write_prepared(
+        key: &PublicKey<K, L, H, G>,
+        prepared: &mut Result<PreparedPublicKey<K, L, H>, Fault>,
+    )
+        ensures { prepared.new ≡ prepared_public S.set G.front key.now }
+    {
+        *prepared = key.prepare();
     }
 
     /// Judges the entries by a prepared key: reads the two lines of an entry, and keeps of it the verdict alone.

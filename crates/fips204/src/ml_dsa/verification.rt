@@ -53,7 +53,7 @@ pub fn verify_internal<
         Err(_) => false,
         Ok(()) => {
             // t1 2^d, in the place of z
-            v_hat.write_transforms(&t1_shifted(&pk.t1));
+            write_shifted_transforms(&pk.t1, &mut v_hat);
             is_committed::<K, LAMBDA_DIV4, H>(p, mu, &c_tilde, &h, &c, &mut az, &v_hat)
         }
     }
@@ -158,8 +158,20 @@ fn write_hinted<const K: usize>(p: &Params, h: &[R; K], w: &mut [R; K])
     );
 }
 
+/// Writes the transforms of `t1 2^d`.
+///
+/// Not inlined, so that `t1 2^d` itself leaves the stack before they are used.
+#[inline(never)]
+pub(crate) fn write_shifted_transforms<const K: usize>(t1: &[R; K], out: &mut Transforms)
+    requires few { K ≤ 8 }
+    requires part { IsHighPart K t1.now }
+    ensures { AreShifted K t1.now out.new }
+{
+    out.write_transforms(&t1_shifted(t1));
+}
+
 /// `t1 2^d`, with coefficients from 0 to `q - 1`.
-pub(crate) fn t1_shifted<const K: usize>(t1: &[R; K]) -> [R; K]
+fn t1_shifted<const K: usize>(t1: &[R; K]) -> [R; K]
     requires { IsHighPart K t1.now }
     ensures values { AreShifted K t1.now result }
     ensures range { VectorWithin K 8380416 result }

@@ -2,20 +2,7 @@ use Rattle.std.proofs.Common.{refl, ◌≡◌, ◌∙◌, ap, sym, subst, Ok, So
 use Rattle.fips204.specs.Keys.{PublicParts}
 use Rattle.fips204.specs.Prepared.{PreparedPublic, prepared_public}
 use Rattle.fips204_base.specs.Sampling.{sampled_matrix}
-use Rattle.fips204.proofs.ParameterSets.{set-shape}
 use Rattle.fips204.proofs.types.PublicKey.prepare.Goals as goal
-
-pub write_expanded_a-requires : goal.write_expanded_a-requires
-write_expanded_a-requires g c =
-    let sizes = g.met.S.SignatureSizes.sizes in
-    let shape = set-shape g.S.Set.set g.row.K g.row.L g.S.Set.known sizes.rows sizes.columns in
-    (search rules, (search rules, (shape.2, shape.3)))
-
-pub write_transforms-requires : goal.write_transforms-requires
-write_transforms-requires g c =
-    let sizes = g.met.S.SignatureSizes.sizes in
-    let shape = set-shape g.S.Set.set g.row.K g.row.L g.S.Set.known sizes.rows sizes.columns in
-    (search rules, (shape.2, c.t1_shifted.ensures.range))
 
 pub returns : goal.returns
 returns g c =
@@ -26,4 +13,4 @@ returns g c =
     let at_set : sampled_matrix g.G.Xof.front c.self.inside.rho p.k p.l ≡ Some c.write_expanded_a.new.matrix = rw (sizes.rows, sizes.columns) at there in
     let same : c.self.inside.rho ≡ c.args.self.now.rho = ap (λ (k : PublicParts). k.rho) c.self.view_is in
     let entry = rw same at at_set in
-    subst (λ (pk : PublicParts). Ok (let made : PreparedPublic = record { parts = pk; matrix = c.write_expanded_a.new.matrix } in made) ≡ prepared_public p g.G.Xof.front c.args.self.now) (sym c.self.view_is) (rw entry refl)
+    rw (c.for_one_stream.ensures, entry) refl
