@@ -394,27 +394,20 @@ where
     pub fn prepare(&self) -> Result<PreparedPublicKey<K, L, H>, Fault>
         ensures { result ≡ prepared_public S.set G.front self.now }
     {
+        let rho = self.rho;
         let mut pk = PreparedPublicKey {
-            key: self.for_one_stream(),
+            key: PublicKey {
+                rho,
+                tr: self.tr,
+                t1: self.t1,
+                streams: PhantomData,
+            },
             a_hat: [[T0; L]; K],
             t1_hat: Transforms::zeros(),
         };
-        write_expanded_a::<K, L, G>(&self.rho, &mut pk.a_hat)?;
+        write_expanded_a::<K, L, G>(&rho, &mut pk.a_hat)?;
         ml_dsa::write_shifted_transforms(&self.t1, &mut pk.t1_hat);
         Ok(pk)
-    }
-
-    /// The key without its second stream, which is of no use once the matrix is there.
-    #[inline(never)]
-    fn for_one_stream(&self) -> PublicKey<K, L, H, ()>
-        ensures { result ≡ self.now }
-    {
-        PublicKey {
-            rho: self.rho,
-            tr: self.tr,
-            t1: self.t1,
-            streams: PhantomData,
-        }
     }
 }
 

@@ -1,4 +1,4 @@
-use Rattle.std.proofs.Common.{refl, ◌≡◌, ◌∙◌, ap, sym, subst, Ok, Some, rules}
+use Rattle.std.proofs.Common.{refl, ◌≡◌, ◌∙◌, ap, sym, subst, Ok, Some}
 use Rattle.fips204.specs.Keys.{PublicParts}
 use Rattle.fips204.specs.Prepared.{PreparedPublic, prepared_public}
 use Rattle.fips204_base.specs.Sampling.{sampled_matrix}
@@ -13,4 +13,4 @@ returns g c =
     let at_set : sampled_matrix g.G.Xof.front c.self.inside.rho p.k p.l ≡ Some c.write_expanded_a.new.matrix = rw (sizes.rows, sizes.columns) at there in
     let same : c.self.inside.rho ≡ c.args.self.now.rho = ap (λ (k : PublicParts). k.rho) c.self.view_is in
     let entry = rw same at at_set in
-    rw (c.for_one_stream.ensures, entry) refl
+    subst (λ (pk : PublicParts). Ok (let made : PreparedPublic = record { parts = pk; matrix = c.write_expanded_a.new.matrix } in made) ≡ prepared_public p g.G.Xof.front c.args.self.now) (sym c.self.view_is) (rw entry refl)
