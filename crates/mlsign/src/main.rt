@@ -3,9 +3,8 @@
 //! The exit status is 0 for done or a valid signature, 1 for an invalid one, and 2 for anything else.
 #![tactic(auto)]
 
-use std::io::IsTerminal;
 use std::process::ExitCode;
 
 fn main(rt: HostRuntime) -> ExitCode {
-    mlsign_program::run(&rt, rt.stderr().is_terminal())
+    mlsign_program::run(&rt)
 }

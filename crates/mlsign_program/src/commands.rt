@@ -3,22 +3,28 @@
 
 ghost use Rattle.std.specs.Prelude.{◌≡◌, IfOk, false};
 
-use crate::files::{Output, read_key, read_start};
-use crate::progress::{Progress, Source};
+use crate::files::{Output, read_key, read_start, write_files};
+use crate::progress::Progress;
 use anyhow::{Context, Error, bail};
+use clap::ArgMatches;
+use either::Either;
 use mlsign_engine::{CommandFault, Marked};
 use mlsign_files::Algorithm;
 use mlsign_files::pem::Kind;
 use std::fs::{File, OpenFile};
-use std::io;
+use std::io::{self, IsTerminal, Stdin};
 use std::random::RandomSource;
-use std::rt::Files;
 
 /// A message that is read.
-type Message<'a, R: Files + Input> = Marked<Progress<'a, Source<R::File, R::Reader>, R>>;
+type Message<'a> = Marked<Progress<'a, Either<File, Stdin>>>;
+
+/// The word of a call that has this name.
+fn word<'a>(words: &ArgMatches<'a>, name: &str) -> Result<&'a str, Error> {
+    words.get_str(name).context("a word is missing")
+}
 
 /// Random bytes of the system.
-fn random<R: RandomSource>(rt: &R) -> Result<[u8; 32], Error> {
+fn random(rt: &HostRuntime) -> Result<[u8; 32], Error> {
     let mut bytes = [0; 32];
     rt.fill_bytes(&mut bytes)
         .context("the system gave no random bytes")?;
@@ -26,16 +32,18 @@ fn random<R: RandomSource>(rt: &R) -> Result<[u8; 32], Error> {
 }
 
 /// Makes a pair of keys and writes both files, or neither.
-pub(crate) fn keygen<R: Files + RandomSource + AllocGlobal>(
-    rt: &R,
-    algorithm: Algorithm,
-    private: &str,
-    public: &str,
-    force: bool,
-) -> Result<(), Error> {
+pub(crate) fn keygen(rt: &HostRuntime, words: &ArgMatches<'_>) -> Result<(), Error> {
+    let (private, public) = (word(words, "private")?, word(words, "public")?);
+    let force = words.get_flag("force");
     if private == public {
         bail!("{private}: the private and the public key cannot have the same file");
     }
+    let algorithm = match word(words, "set")? {
+        "44" => Algorithm::MlDsa44,
+        "65" => Algorithm::MlDsa65,
+        "87" => Algorithm::MlDsa87,
+        set => bail!("{set}: no such set"),
+    };
     let keys = mlsign_engine::keygen(rt.alloc(), algorithm, &random(rt)?)?;
     let private = Output {
         path: private,
@@ -49,119 +57,74 @@ pub(crate) fn keygen<R: Files + RandomSource + AllocGlobal>(
         private: false,
         force,
     };
-    put_both(rt, private, public)
-}
-
-/// Puts two files in their places, or neither.
-fn put_both<R: Files + RandomSource + AllocGlobal>(
-    rt: &R,
-    first: Output<'_>,
-    second: Output<'_>,
-) -> Result<(), Error> {
-    let first = first.write(rt)?;
-    let second = match second.write(rt) {
-        Ok(second) => second,
-        Err(error) => {
-            first.discard(rt);
-            return Err(error);
-        }
-    };
-    if let Err(error) = first.put(rt) {
-        second.discard(rt);
-        return Err(error);
-    }
-    second.put(rt)
+    write_files(rt, &[private, public])
 }
 
 /// Writes a file that is no private key.
-fn write<R: Files + RandomSource + AllocGlobal>(
-    rt: &R,
-    path: &str,
-    bytes: &[u8],
-) -> Result<(), Error> {
+fn write(rt: &HostRuntime, path: &str, bytes: &[u8]) -> Result<(), Error> {
     let output = Output {
         path,
         bytes,
         private: false,
         force: false,
     };
-    output.write(rt)?.put(rt)
+    write_files(rt, &[output])
 }
 
 /// Writes the public key of a private one.
-pub(crate) fn public<R: Files + RandomSource + AllocGlobal>(
-    rt: &R,
-    private: &str,
-    public: &str,
-) -> Result<(), Error> {
+pub(crate) fn public(rt: &HostRuntime, words: &ArgMatches<'_>) -> Result<(), Error> {
+    let private = word(words, "private")?;
     let text = read_key(rt, private)?;
     let key = mlsign_engine::public(rt.alloc(), text.as_slice()).context(private)?;
-    write(rt, public, key.as_slice())
+    write(rt, word(words, "public")?, key.as_slice())
 }
 
-/// Opens a message: a file, or standard input under the name `-`.
-fn open<'a, R: Files + Input + Eprint>(
-    rt: &'a R,
-    at_terminal: bool,
-    path: &str,
-) -> io::Result<Message<'a, R>>
+/// Opens a message: a file, or standard input under the name `-`. A file has a bar if standard error is a terminal.
+fn open<'a>(rt: &'a HostRuntime, path: &str) -> io::Result<Message<'a>>
     ensures unmarked { IfOk result (λ input. input.failed ≡ false) }
 {
     if path == "-" {
-        return Ok(Marked::new(Progress::new(rt, Source::Standard(rt.reader()), None)));
+        return Ok(Marked::new(Progress::new(rt, Either::Right(rt.stdin()), None)));
     }
     let file = File::open(rt, path)?;
-    let size = if at_terminal {
+    let size = if rt.stderr().is_terminal() {
         Some(file.metadata()?.len())
     } else {
         None
     };
-    Ok(Marked::new(Progress::new(rt, Source::File(file), size)))
+    Ok(Marked::new(Progress::new(rt, Either::Left(file), size)))
 }
 
 /// Signs a message.
-pub(crate) fn sign<R: Files + Input + Eprint + RandomSource + AllocGlobal>(
-    rt: &R,
-    at_terminal: bool,
-    private: &str,
-    context: &str,
-    deterministic: bool,
-    out: &str,
-    message: &str,
-) -> Result<(), Error> {
+pub(crate) fn sign(rt: &HostRuntime, words: &ArgMatches<'_>) -> Result<(), Error> {
+    let (private, message) = (word(words, "private")?, word(words, "message")?);
     let key = read_key(rt, private)?;
-    let random = if deterministic { [0; 32] } else { random(rt)? };
-    let mut input = open(rt, at_terminal, message).context(message)?;
-    let signature = mlsign_engine::sign(
-        rt.alloc(),
-        key.as_slice(),
-        &random,
-        context.as_bytes(),
-        &mut input,
-    );
-    write(rt, out, named(signature, private, message)?.as_slice())
+    let random = if words.get_flag("deterministic") {
+        [0; 32]
+    } else {
+        random(rt)?
+    };
+    let context = word(words, "context")?.as_bytes();
+    let mut input = open(rt, message).context(message)?;
+    let signature = mlsign_engine::sign(rt.alloc(), key.as_slice(), &random, context, &mut input);
+    let signature = named(signature, private, message)?;
+    write(rt, word(words, "out")?, signature.as_slice())
 }
 
-/// Whether a signature of a message is valid.
-pub(crate) fn verify<R: Files + Input + Eprint + AllocGlobal>(
-    rt: &R,
-    at_terminal: bool,
-    public: &str,
-    context: &str,
-    signature: &str,
-    message: &str,
-) -> Result<bool, Error> {
+/// Whether a signature of a message is valid, which is printed if it is.
+pub(crate) fn verify(rt: &HostRuntime, words: &ArgMatches<'_>) -> Result<bool, Error> {
+    let (public, message) = (word(words, "public")?, word(words, "message")?);
     let key = read_key(rt, public)?;
-    let signature = read_start(rt, signature)?;
-    let mut input = open(rt, at_terminal, message).context(message)?;
-    let valid = mlsign_engine::verify(
-        rt.alloc(),
-        key.as_slice(),
-        signature.as_slice(),
-        context.as_bytes(),
-        &mut input,
-    );
-    named(valid, public, message)
+    let signature = read_start(rt, word(words, "signature")?)?;
+    let context = word(words, "context")?.as_bytes();
+    let mut input = open(rt, message).context(message)?;
+    let (alloc, signature) = (rt.alloc(), signature.as_slice());
+    let valid = mlsign_engine::verify(alloc, key.as_slice(), signature, context, &mut input);
+    let valid = named(valid, public, message)?;
+    if valid {
+        rt.println("valid").context("standard output")?;
+    }
+    Ok(valid)
 }
 
 /// An answer, or its fault with the name of the file that it is about.
@@ -175,7 +138,8 @@ fn named<T>(answer: Result<T, CommandFault>, key: &str, message: &str) -> Result
 }
 
 /// Prints what the file of a key is.
-pub(crate) fn show<R: Files + Print + AllocGlobal>(rt: &R, file: &str) -> Result<(), Error> {
+pub(crate) fn show(rt: &HostRuntime, words: &ArgMatches<'_>) -> Result<(), Error> {
+    let file = word(words, "file")?;
     let text = read_key(rt, file)?;
     let shown = mlsign_engine::show(rt.alloc(), text.as_slice()).context(file)?;
     let kind = match shown.kind {

@@ -9,36 +9,20 @@ const LARGE: u64 = 16_777_216;
 /// A full bar.
 const BAR: &str = "##################################################";
 
-/// Where a message comes from.
-#[derive(Drop)]
-pub(crate) enum Source<F, S> {
-    File(F),
-    Standard(S),
-}
-
-impl<F: Read, S: Read> Read for Source<F, S> {
-    fn read(&mut self, room: &mut [u8]) -> io::Result<usize> {
-        match self {
-            Source::File(file) => file.read(room),
-            Source::Standard(input) => input.read(room),
-        }
-    }
-}
-
 /// A reader that shows on standard error how much of a large file was read, and wipes that at its end.
 #[derive(Drop)]
-pub(crate) struct Progress<'a, I, R> {
+pub(crate) struct Progress<'a, I> {
     reader: I,
-    rt: &'a R,
+    rt: &'a HostRuntime,
     /// How many bytes the file has, if a bar is to be shown.
     size: Option<u64>,
     read: u64,
     shown: Option<usize>,
 }
 
-impl<'a, I, R: Eprint> Progress<'a, I, R> {
+impl<'a, I> Progress<'a, I> {
     /// A reader of a file of this size, with a bar if the size is known and large.
-    pub(crate) fn new(rt: &'a R, reader: I, size: Option<u64>) -> Progress<'a, I, R> {
+    pub(crate) fn new(rt: &'a HostRuntime, reader: I, size: Option<u64>) -> Progress<'a, I> {
         Progress {
             reader,
             rt,
@@ -70,7 +54,7 @@ impl<'a, I, R: Eprint> Progress<'a, I, R> {
     }
 }
 
-impl<I: Read, R: Eprint> Read for Progress<'_, I, R> {
+impl<I: Read> Read for Progress<'_, I> {
     fn read(&mut self, room: &mut [u8]) -> io::Result<usize> {
         let count = self.reader.read(room)?;
         self.show(count);

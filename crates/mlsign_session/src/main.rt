@@ -9,7 +9,7 @@ use mlsign_program::answer;
 fn answer_line(rt: &HostRuntime, line: &str) -> Result<()> {
     let words: Vec<&str> = line.split(' ').collect(rt.alloc())?;
     println!(rt; "> {line}")?;
-    match answer(rt, words.as_slice(), false) {
+    match answer(rt, words.as_slice()) {
         Ok(true) => println!(rt; "0")?,
         Ok(false) => println!(rt; "1")?,
         Err(error) => println!(rt; "2: {error:#}")?,
