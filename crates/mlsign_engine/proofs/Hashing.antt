@@ -1,6 +1,7 @@
 -- A message that is hashed as it is read.
-use Rattle.std.proofs.Common.{◌≡◌, ℕ, List, [], ◌∷◌, ◌++◌, length, take, Option, Some, None, refl, sym, ap, subst, ◌∙◌, append_assoc}
+use Rattle.std.proofs.Common.{◌≡◌, ℕ, List, [], ◌∷◌, ◌++◌, length, take, Option, sym, ap, subst, ◌∙◌, append_assoc}
 use Rattle.std.proofs.lemmas.List.{append-nil, take_at}
+use Rattle.std.proofs.KnownBytes.{Consumes-nil, Consumes-trans}
 use Rattle.std.specs.Io.KnownBytes.{Consumes, IsAtEnd}
 use Rattle.shake.specs.Pieces.{Holds}
 use Rattle.shake.specs.Shake.{shake}
@@ -15,23 +16,13 @@ pub record IsTaken (old new : Option (List ℕ)) (tr context : List ℕ) (hasher
   pub consumed : Consumes old new given
   pub held : Holds hasher (tr ++ framed given context)
 
-consumes_none : (known : Option (List ℕ)) → Consumes known known []
-consumes_none None = tt
-consumes_none (Some xs) = refl
-
-consumes_more : (a b c : Option (List ℕ)) (x y : List ℕ) → Consumes a b x → Consumes b c y → Consumes a c (x ++ y)
-consumes_more None b c x y p q = tt
-consumes_more (Some xs) None c x y p q = absurd p
-consumes_more (Some xs) (Some ys) None x y p q = absurd q
-consumes_more (Some xs) (Some ys) (Some zs) x y p q = p ∙ ap (λ (z : List ℕ). x ++ z) q ∙ sym (append_assoc x y zs)
-
 framed_more : (tr context given piece : List ℕ) → (tr ++ framed given context) ++ piece ≡ tr ++ framed (given ++ piece) context
 framed_more tr context given piece =
     append_assoc tr (framed given context) piece ∙ ap (λ (z : List ℕ). tr ++ 0 ∷ length context ∷ z) (append_assoc context given piece)
 
 -- before the first piece
 pub taken_none : (known : Option (List ℕ)) (tr context : List ℕ) (hasher : Shake 136) → Holds hasher (tr ++ framed [] context) → IsTaken known known tr context hasher
-taken_none known tr context hasher held = record { given = []; consumed = consumes_none known; held = held }
+taken_none known tr context hasher held = record { given = []; consumed = Consumes-nil known; held = held }
 
 -- after one more
 pub taken_more : (a b c : Option (List ℕ)) (tr context piece : List ℕ) (before after : Shake 136) → IsTaken a b tr context before → Consumes b c piece
@@ -39,12 +30,12 @@ pub taken_more : (a b c : Option (List ℕ)) (tr context piece : List ℕ) (befo
 taken_more a b c tr context piece before after so_far consumed updates =
     record {
       given = so_far.given ++ piece;
-      consumed = consumes_more a b c so_far.given piece so_far.consumed consumed;
+      consumed = Consumes-trans a b c so_far.given piece so_far.consumed consumed;
       held = subst (λ (m : List ℕ). Holds after m) (framed_more tr context so_far.given piece) (updates (tr ++ framed so_far.given context) so_far.held);
     }
 
 consumes_last : (a b c : Option (List ℕ)) (x y : List ℕ) → Consumes a b x → Consumes b c y → y ≡ [] → Consumes a c x
-consumes_last a b c x y p q none = subst (λ (z : List ℕ). Consumes a c z) (append-nil x) (consumes_more a b c x [] p (subst (λ (z : List ℕ). Consumes b c z) none q))
+consumes_last a b c x y p q none = subst (λ (z : List ℕ). Consumes a c z) (append-nil x) (Consumes-trans a b c x [] p (subst (λ (z : List ℕ). Consumes b c z) none q))
 
 -- at the end of the message
 pub taken_all : (a b c : Option (List ℕ)) (tr context piece : List ℕ) (hasher : Shake 136) (mu : List ℕ) → IsTaken a b tr context hasher → Consumes b c piece → piece ≡ []

@@ -1,9 +1,10 @@
 -- What the commands answer, by the files that they are given and the message that is read.
 use Rattle.std.specs.Prelude.{◌≡◌, ◌↔◌, ◌⊎◌, ℕ, List, length, take, Bool, IsTrue, Result, Ok, Err}
 use Rattle.fips204.specs.Encodings.{public_key_bytes, private_key_bytes}
-use Rattle.fips204.specs.Keys.{PublicParts, PrivateParts, IsPublicKeyOf, IsPrivateKeyOf, IsWhole}
+use Rattle.fips204.specs.Completeness.{IsPair}
+use Rattle.fips204.specs.Keys.{PublicParts, PrivateParts, IsPublicKeyOf, IsPrivateKeyOf}
 use Rattle.fips204.specs.ParameterSets.{ParameterSet, set_44, set_65, set_87, signature_length}
-use Rattle.fips204.specs.Refusals.{generated, derived, sign_message, VerifiesMessage}
+use Rattle.fips204.specs.Refusals.{generated, sign_message, VerifiesMessage}
 use Rattle.fips204_shake.specs.Fronts.{shake256_front, shake128_front}
 use Rattle.mlsign_files.specs.Keys.{IsPublicFile, IsPrivateFile, PrivateParts as FileParts, Seed, Expanded, Both}
 use Rattle.mlsign_files.specs.Pem.{IsPem}
@@ -73,17 +74,17 @@ abbrev pub expanded_bytes : ParameterSet → PrivateParts → List ℕ
 expanded_bytes p sk = private_key_bytes p.eta sk.rho sk.key sk.tr sk.s1 sk.s2 sk.t0
 
 -- these keys are what a private key in a file stands for: what its seed generates, whose bytes an expanded key beside it is; or
--- what an expanded key alone decodes to, with the hash of the public key's bytes in it
+-- what an expanded key alone decodes to
 abbrev pub StandsFor : ParameterSet → FileParts → PublicParts → PrivateParts → Type 0
 StandsFor p (Seed seed) pk sk = generated p shake256_front shake128_front seed ≡ Ok (pk, sk)
-StandsFor p (Expanded expanded) pk sk = IsPrivateKeyOf p.eta p.k p.l expanded sk × (sk.tr ≡ take 64 (shake256_front (public_key_bytes pk.rho pk.t1)))
+StandsFor p (Expanded expanded) pk sk = IsPrivateKeyOf p.eta p.k p.l expanded sk
 StandsFor p (Both seed expanded) pk sk = (generated p shake256_front shake128_front seed ≡ Ok (pk, sk)) × (expanded ≡ expanded_bytes p sk)
 
--- these keys are those of a file, and consistent: the private one is whole, and the public one derived of it
+-- these keys are those of a file, and consistent: the private one is whole, the public one is derived of it, and both have the hash
+-- of the public key's bytes
 pub record HasKeys (p : ParameterSet) (parts : FileParts) (pk : PublicParts) (sk : PrivateParts) : Type 0 where
   pub stands : StandsFor p parts pk sk
-  pub whole : IsWhole p shake128_front sk
-  pub derives : derived p shake128_front sk ≡ Ok pk
+  pub pair : IsPair p shake256_front shake128_front pk sk
 
 -- `sign`: the file has a consistent private key, and these bytes are its signature of the message, over these random bytes, which
 -- the public key accepts
@@ -97,20 +98,19 @@ pub record Signs (private random context message signature : List ℕ) : Type 0 
   pub signed : sign_message (set_of algorithm) shake256_front shake128_front sk random message context ≡ Ok signature
   pub accepted : IsValid (set_of algorithm) pk signature context message
 
--- `keygen`: the texts have both keys of a seed; that of the private one has the seed
-pub record Generates (algorithm : Algorithm) (seed private public : List ℕ) : Type 0 where
-  pub pk : PublicParts
-  pub sk : PrivateParts
-  pub keys : generated (set_of algorithm) shake256_front shake128_front seed ≡ Ok (pk, sk)
-  pub private_text : IsPrivateText private algorithm (Seed seed)
-  pub public_text : IsPublicText public algorithm (public_key_bytes pk.rho pk.t1)
-
 -- a file's private key is consistent, and its public key has these bytes
 pub record HasPublicBytes (p : ParameterSet) (parts : FileParts) (bytes : List ℕ) : Type 0 where
   pub pk : PublicParts
   pub sk : PrivateParts
   pub keys : HasKeys p parts pk sk
   pub is : bytes ≡ public_key_bytes pk.rho pk.t1
+
+-- `keygen`: the texts have both keys of a seed; that of the private one has the seed
+pub record Generates (algorithm : Algorithm) (seed private public : List ℕ) : Type 0 where
+  pub bytes : List ℕ
+  pub keys : HasPublicBytes (set_of algorithm) (Seed seed) bytes
+  pub private_text : IsPrivateText private algorithm (Seed seed)
+  pub public_text : IsPublicText public algorithm bytes
 
 -- the text of a file has a public key with these bytes, or a consistent private key whose public key has them
 abbrev pub HasPublicKey : Kind → List ℕ → Algorithm → List ℕ → Type 0

@@ -1,5 +1,5 @@
 -- What private functions state of each other: cited by no public clause; nobody has to believe it.
-use Rattle.std.specs.Prelude.{◌≡◌, ◌↔◌, ◌≤◌, ◌*◌, ℕ, List, Option, Bool, IsTrue, Ok, length}
+use Rattle.std.specs.Prelude.{◌≡◌, ◌↔◌, ◌≤◌, ◌*◌, ℕ, List, Option, Bool, IsTrue, Ok}
 use Rattle.fips204.specs.Keys.{PublicParts, PrivateParts, IsPublicKeyOf}
 use Rattle.fips204.specs.ParameterSets.{ParameterSet}
 use Rattle.fips204_shake.specs.Fronts.{shake256_front, shake128_front}
@@ -7,7 +7,7 @@ use Rattle.mlsign_engine.specs.Messages.{GivesAll}
 use Rattle.mlsign_engine.specs.declared.fault.CommandFault.{CommandFault}
 use Rattle.mlsign_engine.specs.declared.fault.CommandFault.TheVariants.{Key, Inconsistent, Library, Context, Memory, Message}
 use Rattle.mlsign_engine.specs.Commands.{IsValid, HasKeys}
-use Rattle.mlsign_files.specs.Keys.{PrivateParts as FileParts, Seed, Expanded, Both}
+use Rattle.mlsign_files.specs.Keys.{PrivateParts as FileParts}
 use Rattle.fips204.specs.Refusals.{sign_message}
 
 -- a matrix, keys and signatures are no larger than those of the largest set
@@ -22,12 +22,6 @@ pub record JudgesAt (p : ParameterSet) (bytes signature context : List ℕ) (old
   pub key : PublicParts
   pub decoded : IsPublicKeyOf shake256_front p.k bytes key
   pub answer : IsTrue valid ↔ IsValid p key signature context message
-
--- the seed of a file's private key has 32 bytes, and its expanded key so many
-abbrev pub HasLengths : ℕ → FileParts → Type 0
-HasLengths size (Seed seed) = length seed ≡ 32
-HasLengths size (Expanded expanded) = length expanded ≡ size
-HasLengths size (Both seed expanded) = (length seed ≡ 32) × (length expanded ≡ size)
 
 -- a private key, with the public key that belongs to it, is that of a file
 abbrev pub HasPrivate : ParameterSet → FileParts → PrivateParts → Type 0

@@ -6,14 +6,13 @@ ghost use Rattle.fips204.specs.Acceptance.{Verifies};
 ghost use Rattle.fips204.specs.Keys.{IsPublicKeyOf};
 ghost use Rattle.fips204_shake.specs.Fronts.{shake256_front, shake128_front};
 ghost use Rattle.mlsign_engine.specs.Commands.{HasPublicBytes};
-ghost use Rattle.mlsign_engine.specs.InnerSteps.{AreSmall, HasLengths, JudgesAt, HasPrivate, SignsAt, IsSigningFault};
-ghost use Rattle.mlsign_files.specs.Keys.{Seed, Expanded, Both, private_parts};
+ghost use Rattle.mlsign_engine.specs.InnerSteps.{AreSmall, JudgesAt, HasPrivate, SignsAt, IsSigningFault};
+ghost use Rattle.mlsign_files.specs.Keys.{Seed, Expanded, Both, HasPrivateSizes, private_parts};
 
 use crate::fault::CommandFault;
 use crate::message::message_mu;
 use fips204::sets::{HasSet, KeySizes, Matrix, Set, SignatureSizes};
 use fips204::traits::{DummyRng, KeyGen, SerDes, Signer};
-use fips204::xof::hash;
 use fips204::{laws, types};
 use fips204_shake::streams::{Shake128Stream, Shake256Stream};
 use mldsa_lines::Marked;
@@ -106,32 +105,31 @@ where
 
     /// Signs the message that is read with a private key of a file, over these random bytes.
     pub(crate) fn sign<I: Read>(
+        alloc: Global,
         parts: FileKey<'_>,
         random: &[u8; 32],
         context: &[u8],
         input: &mut Marked<I>,
-    ) -> Result<[u8; SIG_LEN], CommandFault>
+    ) -> Result<Vec<u8>, CommandFault>
         requires unmarked { input.old.failed ≡ false }
-        requires parts { HasLengths SK_LEN (private_parts parts) }
+        requires parts { HasPrivateSizes SK_LEN (private_parts parts) }
         requires short { length context.now ≤ 255 }
         requires small { AreSmall K L PK_LEN SK_LEN SIG_LEN }
-        ensures signed { IfOk result (SignsAt S.set (private_parts parts.entry) random.now context.now
-            (I.remaining input.old.device) (I.remaining input.new.device)) }
+        ensures signed { IfOk result (λ signature. SignsAt S.set (private_parts parts.entry) random.now context.now
+            (I.remaining input.old.device) (I.remaining input.new.device) signature.items) }
         ensures faults { IfErr result IsSigningFault }
     {
         laws::signed_is_accepted();
         let key = Self::private(parts)?;
         let mu = message_mu(key.tr(), context, input)?;
         let mut generator = DummyRng { bytes: *random };
-        match key.sign_mu(&mut generator, &mu, true) {
-            Ok(signature) => Ok(signature),
-            Err(fault) => Err(CommandFault::Library(fault)),
-        }
+        let signature = key.sign_mu(&mut generator, &mu, true)?;
+        Ok(Vec::from_slice(alloc, &signature)?)
     }
 
     /// The bytes of the public key that belongs to a private key of a file, if that is consistent.
     pub(crate) fn public(alloc: Global, parts: FileKey<'_>) -> Result<Vec<u8>, CommandFault>
-        requires parts { HasLengths SK_LEN (private_parts parts) }
+        requires parts { HasPrivateSizes SK_LEN (private_parts parts) }
         requires small { AreSmall K L PK_LEN SK_LEN SIG_LEN }
         ensures made { IfOk result (λ bytes. HasPublicBytes S.set (private_parts parts.entry) bytes.items) }
         ensures size { IfOk result (λ bytes. length bytes.items ≡ PK_LEN) }
@@ -144,7 +142,7 @@ where
 
     /// The private key of a file, if it is consistent.
     fn private(parts: FileKey<'_>) -> Result<PrivateKey<K, L>, CommandFault>
-        requires parts { HasLengths SK_LEN (private_parts parts) }
+        requires parts { HasPrivateSizes SK_LEN (private_parts parts) }
         requires small { AreSmall K L PK_LEN SK_LEN SIG_LEN }
         ensures keys { IfOk result (HasPrivate S.set (private_parts parts.entry)) }
         ensures faults { IfErr result IsSigningFault }
@@ -177,17 +175,10 @@ where
         ensures keys { IfOk result (HasPrivate S.set (Expanded expanded.now)) }
         ensures faults { IfErr result IsSigningFault }
     {
-        let private = match PrivateKey::<K, L>::try_from_bytes(array_of(expanded)) {
-            Ok(private) => private,
-            Err(_) => return Err(CommandFault::Inconsistent),
-        };
-        let whole = private.is_whole()?;
-        if !whole {
+        let Ok(private) = PrivateKey::<K, L>::try_from_bytes(array_of(expanded)) else {
             return Err(CommandFault::Inconsistent);
-        }
-        let public = private.get_public_key()?;
-        let hash: [u8; 64] = hash::<Shake256Stream, 64>(&[&public.into_bytes()]);
-        if hash != *private.tr() {
+        };
+        if !private.is_pair()? {
             return Err(CommandFault::Inconsistent);
         }
         Ok(private)
@@ -201,8 +192,7 @@ where
         ensures keys { IfOk result (HasPrivate S.set (Both seed.now expanded.now)) }
         ensures faults { IfErr result IsSigningFault }
     {
-        laws::signed_is_accepted();
-        let (_public, private) = KG::<K, L>::keygen_from_seed(&array_of(seed))?;
+        let private = Self::from_seed(seed)?;
         let bytes = private.into_bytes();
         if bytes.as_slice() != expanded {
             return Err(CommandFault::Inconsistent);

@@ -1,8 +1,10 @@
 //! Why a command ends without an answer.
 #![tactic(auto)]
 
+ghost use Rattle.std.specs.Prelude.{◌≡◌};
+ghost use Rattle.mlsign_engine.specs.declared.fault.CommandFault.TheVariants.{Key, Library, Memory};
+
 use fips204::Fault;
-use mldsa_lines::RunFault;
 use mlsign_files::FileFault;
 use std::alloc::AllocError;
 use thiserror::Error;
@@ -32,9 +34,6 @@ pub enum CommandFault {
 }
 
 impl From<FileFault> for CommandFault {
-    ghost use Rattle.std.specs.Prelude.{◌≡◌};
-    ghost use Rattle.mlsign_engine.specs.declared.fault.CommandFault.TheVariants.{Key};
-
     ghost from_gives = { λ fault e. e ≡ Key fault };
 
     fn from(fault: FileFault) -> CommandFault {
@@ -42,21 +41,7 @@ impl From<FileFault> for CommandFault {
     }
 }
 
-impl From<RunFault> for CommandFault {
-    ghost use Rattle.std.specs.Prelude.{◌≡◌};
-    ghost use Rattle.mlsign_engine.specs.declared.fault.CommandFault.TheVariants.{Message};
-
-    ghost from_gives = { λ _ e. e ≡ Message };
-
-    fn from(_: RunFault) -> CommandFault {
-        CommandFault::Message
-    }
-}
-
 impl From<Fault> for CommandFault {
-    ghost use Rattle.std.specs.Prelude.{◌≡◌};
-    ghost use Rattle.mlsign_engine.specs.declared.fault.CommandFault.TheVariants.{Library};
-
     ghost from_gives = { λ fault e. e ≡ Library fault };
 
     fn from(fault: Fault) -> CommandFault {
@@ -65,9 +50,6 @@ impl From<Fault> for CommandFault {
 }
 
 impl From<AllocError> for CommandFault {
-    ghost use Rattle.std.specs.Prelude.{◌≡◌};
-    ghost use Rattle.mlsign_engine.specs.declared.fault.CommandFault.TheVariants.{Memory};
-
     ghost from_gives = { λ _ e. e ≡ Memory };
 
     fn from(_: AllocError) -> CommandFault {

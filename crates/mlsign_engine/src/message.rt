@@ -57,7 +57,9 @@ pub(crate) fn message_mu<I: Read>(
     let mut hasher = begun(tr, context);
     let mut piece = [0; PIECE];
     for _ in 0..u64::MAX {
-        let count = input.read(&mut piece)?;
+        let Ok(count) = input.read(&mut piece) else {
+            return Err(CommandFault::Message);
+        };
         if count == 0 {
             return Ok(finished(hasher));
         }

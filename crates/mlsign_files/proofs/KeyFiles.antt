@@ -10,15 +10,15 @@ use Rattle.mlsign_files.specs.declared.fault.FileFault.{FileFault}
 use Rattle.mlsign_files.specs.declared.fault.FileFault.TheVariants.{Element, Version, KeyLength}
 use Rattle.mlsign_files.specs.Der.{element, length_bytes, octet_string, bit_string, small_integer, integer_tag, bit_string_tag, octet_string_tag, sequence_tag, context_tag_0}
 use Rattle.mlsign_files.specs.Keys.{identifier, algorithm_identifier, public_length, seed_length, private_length, subject_public_key_info, PrivateParts, Seed, Expanded, Both, private_choice, HasPrivateSizes, one_asymmetric_key, IsPublicFile, IsPrivateFile}
-use Rattle.mlsign_files.specs.Reading.{◌>>=◌, sized_at, algorithm_of, algorithm_at, whole_bytes_of, public_at, seed_at, expanded_at, both_at, choice_at, version_at, private_at, whole_at}
-use Rattle.mlsign_files.proofs.Elements.{AreBytes, bind_ok, chosen, ok_is, met, same_bytes, element_found, element_again, whole_found, whole_again}
+use Rattle.mlsign_files.specs.Reading.{◌>>=◌, sized_at, algorithm_of, algorithm_at, whole_bytes_of, public_at, string_at, both_at, choice_at, version_at, private_at}
+use Rattle.mlsign_files.proofs.Elements.{bind_ok, chosen, ok_is, met, same_bytes, element_found, element_again, whole_found, whole_again}
 
 -- ---- sizes
 
 length_of_length : (n : ℕ) → length (length_bytes n) ≤ 3
 length_of_length n = grind (arith, nat_tests)
 
-length_of_element : (tag : ℕ) (contents : List ℕ) → length (element tag contents) ≤ length contents + 4
+pub length_of_element : (tag : ℕ) (contents : List ℕ) → length (element tag contents) ≤ length contents + 4
 length_of_element tag contents = omega (arith, length-append (length_bytes (length contents)) contents, length_of_length (length contents))
 
 sized_found : (wanted : ℕ) (bytes sized : List ℕ) → sized_at wanted bytes ≡ Ok sized → (bytes ≡ sized) × (length bytes ≡ wanted)
@@ -46,21 +46,13 @@ algorithm_of_again : (algorithm : Algorithm) → algorithm_of (identifier algori
 unfolding algorithm_of
 algorithm_of_again algorithm = grind arith
 
--- bytes that begin with a text, and are bytes behind it
-pub record Takes (bytes text rest : List ℕ) : Type 0 where
-  pub parts : bytes ≡ text ++ rest
-  pub behind : AreBytes rest
-
-algorithm_found : (bytes : List ℕ) (x : Algorithm × List ℕ) → AreBytes bytes → algorithm_at bytes ≡ Ok x → Takes bytes (algorithm_identifier x.0) x.1
+algorithm_found : (bytes : List ℕ) (x : Algorithm × List ℕ) → algorithm_at bytes ≡ Ok x → bytes ≡ algorithm_identifier x.0 ++ x.1
 unfolding algorithm_at
-algorithm_found bytes x all e =
+algorithm_found bytes x e =
     let a = bind_ok _ _ x e in
     let b = bind_ok _ _ x a.2 in
-    let f = element_found sequence_tag bytes a.0 all a.1 in
-    let is : a.0.0 ≡ identifier b.0 = algorithm_of_found a.0.0 b.0 b.1 in
-    let here : Takes bytes (algorithm_identifier b.0) a.0.1 =
-    record { parts = f.parts ∙ ap (λ (z : List ℕ). element sequence_tag z ++ a.0.1) is; behind = f.behind } in
-    subst (λ (y : Algorithm × List ℕ). Takes bytes (algorithm_identifier y.0) y.1) (ok_is (b.0, a.0.1) x b.2) here
+    element_found sequence_tag bytes a.0 a.1 ∙ ap (λ (z : List ℕ). element sequence_tag z ++ a.0.1) (algorithm_of_found a.0.0 b.0 b.1)
+    ∙ ap (λ (y : Algorithm × List ℕ). algorithm_identifier y.0 ++ y.1) (ok_is (b.0, a.0.1) x b.2)
 
 identifier_small : (algorithm : Algorithm) → length (identifier algorithm) ≡ 11
 identifier_small algorithm = grind arith
@@ -82,31 +74,31 @@ whole_bytes_found (unused ∷ rest) bytes e =
     let none : unused ≡ 0 = eqb-true _ _ m.0 in
     ap (λ (k : ℕ). k ∷ rest) none ∙ ap (λ (z : List ℕ). 0 ∷ z) m.1
 
-pub public_found : (der : List ℕ) (x : Algorithm × List ℕ) → AreBytes der → public_at der ≡ Ok x → IsPublicFile der x.0 x.1
+pub public_found : (der : List ℕ) (x : Algorithm × List ℕ) → public_at der ≡ Ok x → IsPublicFile der x.0 x.1
 unfolding public_at subject_public_key_info
-public_found der x all e =
+public_found der x e =
     let a = bind_ok _ _ x e in
     let b = bind_ok _ _ x a.2 in
     let c = bind_ok _ _ x b.2 in
     let d = bind_ok _ _ x c.2 in
     let f = bind_ok _ _ x d.2 in
-    let info = whole_found sequence_tag der a.0 all a.1 in
-    let algorithm = algorithm_found a.0 b.0 info.inside b.1 in
-    let bits = whole_found bit_string_tag b.0.1 c.0 algorithm.behind c.1 in
+    let info = whole_found sequence_tag der a.0 a.1 in
+    let algorithm = algorithm_found a.0 b.0 b.1 in
+    let bits = whole_found bit_string_tag b.0.1 c.0 c.1 in
     let bytes : c.0 ≡ 0 ∷ d.0 = whole_bytes_found c.0 d.0 d.1 in
     let sized = sized_found (public_length b.0.0) d.0 f.0 f.1 in
     let here : IsPublicFile der b.0.0 d.0 =
     record {
       size = sized.1;
-      is = info.is ∙ ap (λ (z : List ℕ). element sequence_tag z) (algorithm.parts
-          ∙ ap (λ (z : List ℕ). algorithm_identifier b.0.0 ++ z) (bits.is ∙ ap (λ (z : List ℕ). element bit_string_tag z) bytes));
+      is = info ∙ ap (λ (z : List ℕ). element sequence_tag z) (algorithm
+          ∙ ap (λ (z : List ℕ). algorithm_identifier b.0.0 ++ z) (bits ∙ ap (λ (z : List ℕ). element bit_string_tag z) bytes));
     } in
     subst (λ (y : Algorithm × List ℕ). IsPublicFile der y.0 y.1) (ok_is (b.0.0, f.0) x f.2) (subst (λ (y : List ℕ). IsPublicFile der b.0.0 y) sized.0 here)
 
 public_small : (algorithm : Algorithm) → public_length algorithm ≤ 4896
 public_small algorithm = grind arith
 
-length_of_algorithm : (algorithm : Algorithm) → length (algorithm_identifier algorithm) ≤ 15
+pub length_of_algorithm : (algorithm : Algorithm) → length (algorithm_identifier algorithm) ≤ 15
 length_of_algorithm algorithm = omega (arith, identifier_small algorithm, length_of_element sequence_tag (identifier algorithm))
 
 pub public_info_small : (algorithm : Algorithm) (bytes : List ℕ) → length bytes ≡ public_length algorithm
@@ -135,88 +127,87 @@ public_again algorithm bytes size =
 -- ---- private keys
 
 pub record IsChoice (bytes : List ℕ) (algorithm : Algorithm) (parts : PrivateParts) : Type 0 where
-  pub sizes : HasPrivateSizes algorithm parts
+  pub sizes : HasPrivateSizes (private_length algorithm) parts
   pub is : bytes ≡ private_choice parts
 
--- one string, of a wanted size
-string_found : (tag size : ℕ) (make : List ℕ → PrivateParts) (bytes : List ℕ) (parts : PrivateParts) → AreBytes bytes
-    → (whole_at tag bytes >>= λ contents. sized_at size contents >>= λ string. Ok (make string)) ≡ Ok parts
-    → (string : List ℕ) × (make string ≡ parts) × (length string ≡ size) × (bytes ≡ element tag string)
-string_found tag size make bytes parts all e =
-    let a = bind_ok _ _ parts e in
-    let b = bind_ok _ _ parts a.2 in
-    let sized = sized_found size a.0 b.0 b.1 in
-    (a.0, ap make sized.0 ∙ ok_is (make b.0) parts b.2, sized.1, (whole_found tag bytes a.0 all a.1).is)
+string_found : (tag size : ℕ) (bytes string : List ℕ) → string_at tag size bytes ≡ Ok string
+    → (length string ≡ size) × (bytes ≡ element tag string)
+unfolding string_at
+string_found tag size bytes string e =
+    let a = bind_ok _ _ string e in
+    let sized = sized_found size a.0 string a.2 in
+    subst (λ (z : List ℕ). (length z ≡ size) × (bytes ≡ element tag z)) sized.0 (sized.1, whole_found tag bytes a.0 a.1)
 
-both_found : (algorithm : Algorithm) (bytes : List ℕ) (parts : PrivateParts) → AreBytes bytes → both_at algorithm bytes ≡ Ok parts
+string_again : (tag size : ℕ) (string : List ℕ) → length string ≡ size → size < 65536 → string_at tag size (element tag string) ≡ Ok string
+unfolding string_at
+string_again tag size string is small = rw (whole_again tag string (omega arith), sized_again size string is) refl
+
+both_found : (algorithm : Algorithm) (bytes : List ℕ) (parts : PrivateParts) → both_at algorithm bytes ≡ Ok parts
     → IsChoice bytes algorithm parts
 unfolding both_at private_choice
-both_found algorithm bytes parts all e =
+both_found algorithm bytes parts e =
     let a = bind_ok _ _ parts e in
     let b = bind_ok _ _ parts a.2 in
     let c = bind_ok _ _ parts b.2 in
     let d = bind_ok _ _ parts c.2 in
-    let f = bind_ok _ _ parts d.2 in
-    let whole = whole_found sequence_tag bytes a.0 all a.1 in
-    let first = element_found octet_string_tag a.0 b.0 whole.inside b.1 in
+    let whole = whole_found sequence_tag bytes a.0 a.1 in
+    let first = element_found octet_string_tag a.0 b.0 b.1 in
     let seed = sized_found seed_length b.0.0 c.0 c.1 in
-    let second = whole_found octet_string_tag b.0.1 d.0 first.behind d.1 in
-    let expanded = sized_found (private_length algorithm) d.0 f.0 f.1 in
+    let expanded = string_found octet_string_tag (private_length algorithm) b.0.1 d.0 d.1 in
     let here : IsChoice bytes algorithm (Both b.0.0 d.0) =
     record {
-      sizes = (seed.1, expanded.1);
-      is = whole.is ∙ ap (λ (z : List ℕ). element sequence_tag z) (first.parts ∙ ap (λ (z : List ℕ). octet_string b.0.0 ++ z) second.is);
+      sizes = (seed.1, expanded.0);
+      is = whole ∙ ap (λ (z : List ℕ). element sequence_tag z) (first ∙ ap (λ (z : List ℕ). octet_string b.0.0 ++ z) expanded.1);
     } in
-    subst (IsChoice bytes algorithm)
-    (ap (λ (z : List ℕ). Both z d.0) seed.0 ∙ ap (λ (z : List ℕ). Both c.0 z) expanded.0 ∙ ok_is (Both c.0 f.0) parts f.2) here
+    subst (IsChoice bytes algorithm) (ap (λ (z : List ℕ). Both z d.0) seed.0 ∙ ok_is (Both c.0 d.0) parts d.2) here
 
-choice_found : (algorithm : Algorithm) (bytes : List ℕ) (parts : PrivateParts) → AreBytes bytes → choice_at algorithm bytes ≡ Ok parts
+choice_found : (algorithm : Algorithm) (bytes : List ℕ) (parts : PrivateParts) → choice_at algorithm bytes ≡ Ok parts
     → IsChoice bytes algorithm parts
-unfolding choice_at private_choice seed_at expanded_at
-choice_found algorithm [] parts all e = absurd cc
-choice_found algorithm (tag ∷ rest) parts all e =
+unfolding choice_at private_choice
+choice_found algorithm [] parts e = absurd cc
+choice_found algorithm (tag ∷ rest) parts e =
     elim (chosen (eqb tag context_tag_0) _ _ _ e) [
       | inl is ↦
-          let s = string_found context_tag_0 seed_length Seed (tag ∷ rest) parts all is.1 in
-          subst (IsChoice (tag ∷ rest) algorithm) s.1 (record { sizes = s.2; is = s.3 })
+          let a = bind_ok _ _ parts is.1 in
+          let s = string_found context_tag_0 seed_length (tag ∷ rest) a.0 a.1 in
+          subst (IsChoice (tag ∷ rest) algorithm) (ok_is (Seed a.0) parts a.2) (record { sizes = s.0; is = s.1 })
       | inr other ↦
           elim (chosen (eqb tag octet_string_tag) _ _ _ other.1) [
             | inl is ↦
-                let s = string_found octet_string_tag (private_length algorithm) Expanded (tag ∷ rest) parts all is.1 in
-                subst (IsChoice (tag ∷ rest) algorithm) s.1 (record { sizes = s.2; is = s.3 })
-            | inr is ↦ both_found algorithm (tag ∷ rest) parts all is.1
+                let a = bind_ok _ _ parts is.1 in
+                let s = string_found octet_string_tag (private_length algorithm) (tag ∷ rest) a.0 a.1 in
+                subst (IsChoice (tag ∷ rest) algorithm) (ok_is (Expanded a.0) parts a.2) (record { sizes = s.0; is = s.1 })
+            | inr is ↦ both_found algorithm (tag ∷ rest) parts is.1
           ]
     ]
 
-version_found : (bytes rest : List ℕ) → AreBytes bytes → version_at bytes ≡ Ok rest → Takes bytes (small_integer 0) rest
+version_found : (bytes rest : List ℕ) → version_at bytes ≡ Ok rest → bytes ≡ small_integer 0 ++ rest
 unfolding version_at
-version_found bytes rest all e =
+version_found bytes rest e =
     let a = bind_ok _ _ rest e in
-    let f = element_found integer_tag bytes a.0 all a.1 in
     let m = met (bytes_eq a.0.0 (0 ∷ [])) Version a.0.1 rest a.2 in
-    let here : Takes bytes (small_integer 0) a.0.1 =
-    record { parts = f.parts ∙ ap (λ (z : List ℕ). element integer_tag z ++ a.0.1) (same_bytes a.0.0 (0 ∷ []) m.0); behind = f.behind } in
-    subst (λ (y : List ℕ). Takes bytes (small_integer 0) y) m.1 here
+    element_found integer_tag bytes a.0 a.1 ∙ ap (λ (z : List ℕ). element integer_tag z ++ a.0.1) (same_bytes a.0.0 (0 ∷ []) m.0)
+    ∙ ap (λ (z : List ℕ). small_integer 0 ++ z) m.1
 
-pub private_found : (der : List ℕ) (x : Algorithm × PrivateParts) → AreBytes der → private_at der ≡ Ok x → IsPrivateFile der x.0 x.1
+pub private_found : (der : List ℕ) (x : Algorithm × PrivateParts) → private_at der ≡ Ok x → IsPrivateFile der x.0 x.1
 unfolding private_at one_asymmetric_key
-private_found der x all e =
+private_found der x e =
     let a = bind_ok _ _ x e in
     let b = bind_ok _ _ x a.2 in
     let c = bind_ok _ _ x b.2 in
     let d = bind_ok _ _ x c.2 in
     let f = bind_ok _ _ x d.2 in
-    let info = whole_found sequence_tag der a.0 all a.1 in
-    let version = version_found a.0 b.0 info.inside b.1 in
-    let algorithm = algorithm_found b.0 c.0 version.behind c.1 in
-    let contents = whole_found octet_string_tag c.0.1 d.0 algorithm.behind d.1 in
-    let choice = choice_found c.0.0 d.0 f.0 contents.inside f.1 in
+    let info = whole_found sequence_tag der a.0 a.1 in
+    let version = version_found a.0 b.0 b.1 in
+    let algorithm = algorithm_found b.0 c.0 c.1 in
+    let contents = whole_found octet_string_tag c.0.1 d.0 d.1 in
+    let choice = choice_found c.0.0 d.0 f.0 f.1 in
     let here : IsPrivateFile der c.0.0 f.0 =
     record {
       sizes = choice.sizes;
-      is = info.is ∙ ap (λ (z : List ℕ). element sequence_tag z) (version.parts
-          ∙ ap (λ (z : List ℕ). small_integer 0 ++ z) (algorithm.parts
-          ∙ ap (λ (z : List ℕ). algorithm_identifier c.0.0 ++ z) (contents.is
+      is = info ∙ ap (λ (z : List ℕ). element sequence_tag z) (version
+          ∙ ap (λ (z : List ℕ). small_integer 0 ++ z) (algorithm
+          ∙ ap (λ (z : List ℕ). algorithm_identifier c.0.0 ++ z) (contents
           ∙ ap (λ (z : List ℕ). octet_string z) choice.is)));
     } in
     subst (λ (y : Algorithm × PrivateParts). IsPrivateFile der y.0 y.1) (ok_is (c.0.0, f.0) x f.2) here
@@ -224,48 +215,46 @@ private_found der x all e =
 private_small : (algorithm : Algorithm) → private_length algorithm ≤ 4896
 private_small algorithm = grind arith
 
-pub choice_small : (algorithm : Algorithm) (parts : PrivateParts) → HasPrivateSizes algorithm parts → length (private_choice parts) < 65000
+pub both_small : (algorithm : Algorithm) (seed expanded : List ℕ) → length seed ≡ seed_length → length expanded ≡ private_length algorithm
+    → length (octet_string seed ++ octet_string expanded) < 64000
+both_small algorithm seed expanded first second =
+    omega (
+      arith,
+      private_small algorithm,
+      length_of_element octet_string_tag seed,
+      length_of_element octet_string_tag expanded,
+      length-append (octet_string seed) (octet_string expanded),
+    )
+
+pub choice_small : (algorithm : Algorithm) (parts : PrivateParts) → HasPrivateSizes (private_length algorithm) parts → length (private_choice parts) < 65000
 unfolding private_choice
 choice_small algorithm (Seed seed) sizes = omega (arith, length_of_element context_tag_0 seed)
 choice_small algorithm (Expanded expanded) sizes = omega (arith, length_of_element octet_string_tag expanded, private_small algorithm)
 choice_small algorithm (Both seed expanded) sizes =
     omega (
       arith,
-      private_small algorithm,
-      length_of_element octet_string_tag seed,
-      length_of_element octet_string_tag expanded,
-      length-append (octet_string seed) (octet_string expanded),
+      both_small algorithm seed expanded sizes.0 sizes.1,
       length_of_element sequence_tag (octet_string seed ++ octet_string expanded),
     )
 
-choice_again : (algorithm : Algorithm) (parts : PrivateParts) → HasPrivateSizes algorithm parts → choice_at algorithm (private_choice parts) ≡ Ok parts
-unfolding choice_at private_choice seed_at expanded_at both_at
-choice_again algorithm (Seed seed) sizes =
-    rw (whole_again context_tag_0 seed (omega arith), sized_again seed_length seed sizes) refl
+choice_again : (algorithm : Algorithm) (parts : PrivateParts) → HasPrivateSizes (private_length algorithm) parts → choice_at algorithm (private_choice parts) ≡ Ok parts
+unfolding choice_at private_choice both_at
+choice_again algorithm (Seed seed) sizes = rw (string_again context_tag_0 seed_length seed sizes (omega arith)) refl
 choice_again algorithm (Expanded expanded) sizes =
-    rw (whole_again octet_string_tag expanded (omega (arith, private_small algorithm)), sized_again (private_length algorithm) expanded sizes) refl
+    rw (string_again octet_string_tag (private_length algorithm) expanded sizes (omega (arith, private_small algorithm))) refl
 choice_again algorithm (Both seed expanded) sizes =
-    let outer : length (octet_string seed ++ octet_string expanded) < 65536 =
-    omega (
-      arith,
-      private_small algorithm,
-      length_of_element octet_string_tag seed,
-      length_of_element octet_string_tag expanded,
-      length-append (octet_string seed) (octet_string expanded),
-    ) in
     rw (
-      whole_again sequence_tag (octet_string seed ++ octet_string expanded) outer,
+      whole_again sequence_tag (octet_string seed ++ octet_string expanded) (omega (arith, both_small algorithm seed expanded sizes.0 sizes.1)),
       element_again octet_string_tag seed (octet_string expanded) (omega arith),
       sized_again seed_length seed sizes.0,
-      whole_again octet_string_tag expanded (omega (arith, private_small algorithm)),
-      sized_again (private_length algorithm) expanded sizes.1,
+      string_again octet_string_tag (private_length algorithm) expanded sizes.1 (omega (arith, private_small algorithm)),
     ) refl
 
 version_again : (rest : List ℕ) → version_at (small_integer 0 ++ rest) ≡ Ok rest
 unfolding version_at
 version_again rest = rw (element_again integer_tag (0 ∷ []) rest (omega arith)) refl
 
-pub private_info_small : (algorithm : Algorithm) (parts : PrivateParts) → HasPrivateSizes algorithm parts
+private_info_small : (algorithm : Algorithm) (parts : PrivateParts) → HasPrivateSizes (private_length algorithm) parts
     → length (small_integer 0 ++ (algorithm_identifier algorithm ++ octet_string (private_choice parts))) < 65536
 private_info_small algorithm parts sizes =
     omega (
@@ -277,7 +266,7 @@ private_info_small algorithm parts sizes =
       length-append (small_integer 0) (algorithm_identifier algorithm ++ octet_string (private_choice parts)),
     )
 
-pub private_again : (algorithm : Algorithm) (parts : PrivateParts) → HasPrivateSizes algorithm parts
+pub private_again : (algorithm : Algorithm) (parts : PrivateParts) → HasPrivateSizes (private_length algorithm) parts
     → private_at (one_asymmetric_key algorithm parts) ≡ Ok (algorithm, parts)
 unfolding private_at one_asymmetric_key
 private_again algorithm parts sizes =

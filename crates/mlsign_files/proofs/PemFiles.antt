@@ -1,5 +1,5 @@
 -- A text that is read spells what is read, and the bytes that a text spells are read.
-use Rattle.std.proofs.Common.{◌≡◌, ℕ, Bool, true, cond, not, IfOk, Vec, Global, inl, inr, List, [], ◌∷◌, ◌++◌, length, take, drop, Result, Ok, Err, refl, sym, ap, ◌∙◌}
+use Rattle.std.proofs.Common.{◌≡◌, ℕ, Bool, true, false, cond, not, IfOk, Vec, Global, inl, inr, List, [], ◌∷◌, ◌++◌, length, take, drop, Result, Ok, Err, codes, refl, sym, ap, ◌∙◌}
 use Rattle.std.specs.Str.{bytes_eq}
 use Rattle.std.specs.List.{position_or_len, filter, AllPass}
 use Rattle.std.proofs.lemmas.List.{take-append-drop, take_at, drop_at}
@@ -9,12 +9,13 @@ use Rattle.base64.specs.GeneralPurpose.{encode_of, decode_of, IsBytes}
 use Rattle.base64.specs.Engines.{standard}
 use Rattle.base64.proofs.EngineFacts.{decode_of-encode_of}
 use Rattle.mlsign_files.specs.declared.fault.FileFault.{FileFault}
+use Rattle.mlsign_files.specs.declared.fault.FileFault.TheVariants.{NotPem, OtherKind, CutShort, Trailing, Text}
 use Rattle.mlsign_files.specs.declared.pem.Kind.{Kind}
 use Rattle.mlsign_files.specs.declared.pem.LineEnd.{LineEnd}
 use Rattle.mlsign_files.specs.declared.pem.LineEnd.TheVariants.{Lf, CrLf}
 use Rattle.mlsign_files.specs.Pem.{begin_line, line_end, wrapped, closing, pem, IsPem}
 use Rattle.mlsign_files.specs.Reading.{◌>>=◌}
-use Rattle.mlsign_files.specs.PemReading.{begins, begun_fault, ended_at, opened_at, is_dash, closed_at, is_in_line, unwrapped_at, decoded_as, pem_at}
+use Rattle.mlsign_files.specs.PemReading.{begins, ended_at, opened_at, is_dash, closed_at, is_in_line, unwrapped_at, decoded_as, pem_at}
 use Rattle.mlsign_files.proofs.Elements.{chosen, ok_is, met, same_bytes}
 use Rattle.mlsign_files.proofs.Texts.{wrapped_kept, wrapped_pass, encoded_passes, first_place}
 
@@ -41,20 +42,29 @@ ended_found rest x e =
           ]
     ]
 
+-- a choice of three faults
+refused : {A : Type 0} (a b : Bool) (x y z : FileFault) (w : A) → cond a (Err x) (cond b (Err y) (Err z)) ≡ Ok w → ⊥
+refused true b x y z w e = cc
+refused false true x y z w e = cc
+refused false false x y z w e = cc
+
 opened_found : (kind : Kind) (text : List ℕ) (x : LineEnd × List ℕ) → opened_at kind text ≡ Ok x → text ≡ begin_line kind ++ (line_end x.0 ++ x.1)
 unfolding opened_at
 opened_found kind text x e =
     elim (chosen (begins (begin_line kind) text) _ _ _ e) [
       | inl is ↦ begun (begin_line kind) text is.0 ∙ ap (λ (z : List ℕ). begin_line kind ++ z) (ended_found _ x is.1)
-      | inr other ↦ absurd (cc other.1)
+      | inr other ↦ absurd (refused (begins text (begin_line kind)) (begins (codes "-----BEGIN ") text) CutShort OtherKind NotPem x other.1)
     ]
 
 closed_found : (last text body : List ℕ) → closed_at last text ≡ Ok body → text ≡ body ++ last
 unfolding closed_at
 closed_found last text body e =
     let dash = position_or_len is_dash text in
-    let m = met (bytes_eq (drop dash text) last) _ _ body e in
-    sym (take-append-drop dash text) ∙ ap (λ (z : List ℕ). take dash text ++ z) (same_bytes _ _ m.0) ∙ ap (λ (z : List ℕ). z ++ last) m.1
+    elim (chosen (bytes_eq (drop dash text) last) _ _ _ e) [
+      | inl is ↦
+          sym (take-append-drop dash text) ∙ ap (λ (z : List ℕ). take dash text ++ z) (same_bytes _ _ is.0) ∙ ap (λ (z : List ℕ). z ++ last) (ok_is _ body is.1)
+      | inr other ↦ absurd (refused (begins (drop dash text) last) (begins last (drop dash text)) CutShort Trailing Text body other.1)
+    ]
 
 unwrapped_found : (ending text symbols : List ℕ) → unwrapped_at ending text ≡ Ok symbols → text ≡ wrapped ending symbols
 unfolding unwrapped_at
@@ -71,9 +81,11 @@ ended_again CrLf rest = refl
 opened_again : (kind : Kind) (ending : LineEnd) (rest : List ℕ) → opened_at kind (begin_line kind ++ (line_end ending ++ rest)) ≡ Ok (ending, rest)
 unfolding opened_at
 opened_again kind ending rest =
-    ap (λ (b : Bool). cond b (ended_at (drop (length (begin_line kind)) (begin_line kind ++ (line_end ending ++ rest))))
-    (Err (begun_fault (begin_line kind) (begin_line kind ++ (line_end ending ++ rest))))) (begun_again (begin_line kind) (line_end ending ++ rest))
-    ∙ ap ended_at (drop_at (begin_line kind) (line_end ending ++ rest) (length (begin_line kind)) refl) ∙ ended_again ending rest
+    rw (
+      begun_again (begin_line kind) (line_end ending ++ rest),
+      drop_at (begin_line kind) (line_end ending ++ rest) (length (begin_line kind)) refl,
+      ended_again ending rest,
+    ) refl
 
 closed_again : (tail body : List ℕ) → AllPass (λ x. not (is_dash x)) body → closed_at (45 ∷ tail) (body ++ 45 ∷ tail) ≡ Ok body
 unfolding closed_at

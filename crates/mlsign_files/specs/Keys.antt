@@ -56,11 +56,11 @@ private_choice (Seed seed) = element context_tag_0 seed
 private_choice (Expanded expanded) = octet_string expanded
 private_choice (Both seed expanded) = sequence (octet_string seed ++ octet_string expanded)
 
--- the sizes of its strings
-abbrev pub HasPrivateSizes : Algorithm → PrivateParts → Type 0
-HasPrivateSizes algorithm (Seed seed) = length seed ≡ seed_length
-HasPrivateSizes algorithm (Expanded expanded) = length expanded ≡ private_length algorithm
-HasPrivateSizes algorithm (Both seed expanded) = (length seed ≡ seed_length) × (length expanded ≡ private_length algorithm)
+-- the sizes of its strings; the expanded key has so many bytes
+abbrev pub HasPrivateSizes : ℕ → PrivateParts → Type 0
+HasPrivateSizes size (Seed seed) = length seed ≡ seed_length
+HasPrivateSizes size (Expanded expanded) = length expanded ≡ size
+HasPrivateSizes size (Both seed expanded) = (length seed ≡ seed_length) × (length expanded ≡ size)
 
 -- OneAsymmetricKey ::= SEQUENCE { version INTEGER, privateKeyAlgorithm AlgorithmIdentifier, privateKey OCTET STRING }, of version 0
 unfoldable pub one_asymmetric_key : Algorithm → PrivateParts → List ℕ
@@ -74,5 +74,5 @@ pub record IsPublicFile (der : List ℕ) (algorithm : Algorithm) (bytes : List �
 
 -- the bytes are the file of this private key
 pub record IsPrivateFile (der : List ℕ) (algorithm : Algorithm) (parts : PrivateParts) : Type 0 where
-  pub sizes : HasPrivateSizes algorithm parts
+  pub sizes : HasPrivateSizes (private_length algorithm) parts
   pub is : der ≡ one_asymmetric_key algorithm parts

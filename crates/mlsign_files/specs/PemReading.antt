@@ -26,13 +26,6 @@ GivesOrFails view (Err fault) read = FailsLike fault read
 abbrev pub begins : List ℕ → List ℕ → Bool
 begins front text = bytes_eq front (take (length front) text)
 
--- why a text does not begin with the wanted first line
-unfoldable pub begun_fault : List ℕ → List ℕ → FileFault
-begun_fault first text =
-    if begins text first then CutShort
-    else if begins (codes "-----BEGIN ") text then OtherKind
-    else NotPem
-
 -- the end of the first line, and the text after it
 abbrev pub ended_at : List ℕ → Result (LineEnd × List ℕ) FileFault
 ended_at rest =
@@ -41,27 +34,26 @@ ended_at rest =
     else if begins rest (line_end CrLf) then Err CutShort
     else Err Text
 
+-- the same after the wanted first line
 unfoldable pub opened_at : Kind → List ℕ → Result (LineEnd × List ℕ) FileFault
 opened_at kind text =
     if begins (begin_line kind) text then ended_at (drop (length (begin_line kind)) text)
-    else Err (begun_fault (begin_line kind) text)
-
--- why the text from the first dash on is not the wanted last line
-unfoldable pub closed_fault : List ℕ → List ℕ → FileFault
-closed_fault last text =
-    if begins text last then CutShort
-    else if begins last text then Trailing
-    else Text
+    else if begins text (begin_line kind) then Err CutShort
+    else if begins (codes "-----BEGIN ") text then Err OtherKind
+    else Err NotPem
 
 -- a dash
 abbrev pub is_dash : ℕ → Bool
 is_dash byte = byte == 45
 
--- the text before the last line
+-- the text before the last line, which begins with the first dash
 unfoldable pub closed_at : List ℕ → List ℕ → Result (List ℕ) FileFault
 closed_at last text =
     let dash = position_or_len is_dash text in
-    if bytes_eq (drop dash text) last then Ok (take dash text) else Err (closed_fault last (drop dash text))
+    if bytes_eq (drop dash text) last then Ok (take dash text)
+    else if begins (drop dash text) last then Err CutShort
+    else if begins last (drop dash text) then Err Trailing
+    else Err Text
 
 -- a character that is no line end
 abbrev pub is_in_line : ℕ → Bool

@@ -1,7 +1,7 @@
 -- Reading an element or a key from left to right: its value, or the first fault.
 use Rattle.std.specs.Prelude.{◌≡◌, ℕ, ◌+◌, ◌*◌, List, [], ◌∷◌, length, take, drop, Result, Ok, Err, nat_lt, ◌==◌, if◌then◌else◌}
 use Rattle.std.specs.Str.{bytes_eq}
-use Rattle.mlsign_files.specs.Der.{integer_tag, bit_string_tag, octet_string_tag, sequence_tag, context_tag_0}
+use Rattle.mlsign_files.specs.Der.{length_bytes, integer_tag, bit_string_tag, octet_string_tag, sequence_tag, context_tag_0}
 use Rattle.mlsign_files.specs.Keys.{PrivateParts, Seed, Expanded, Both, identifier, public_length, seed_length, private_length}
 use Rattle.mlsign_files.specs.declared.algorithm.Algorithm.{Algorithm}
 use Rattle.mlsign_files.specs.declared.algorithm.Algorithm.TheVariants.{MlDsa44, MlDsa65, MlDsa87}
@@ -18,15 +18,19 @@ abbrev pub Gives : {X Y : Type 0} → (X → Y) → Result X FileFault → Resul
 Gives view (Ok x) read = read ≡ Ok (view x)
 Gives view (Err fault) read = read ≡ Err fault
 
+-- a length that these bytes are to spell in its one form, and the bytes after it
+abbrev pub spelled_at : ℕ → List ℕ → List ℕ → Result (ℕ × List ℕ) FileFault
+spelled_at n spelling rest = if bytes_eq (length_bytes n) spelling then Ok (n, rest) else Err Element
+
 -- a length of one byte or of two behind its first
 abbrev pub one_byte_at : List ℕ → Result (ℕ × List ℕ) FileFault
 one_byte_at [] = Err Short
-one_byte_at (size ∷ rest) = if nat_lt size 128 then Err Element else Ok (size, rest)
+one_byte_at (size ∷ rest) = spelled_at size (129 ∷ size ∷ []) rest
 
 abbrev pub two_bytes_at : List ℕ → Result (ℕ × List ℕ) FileFault
 two_bytes_at [] = Err Short
 two_bytes_at (high ∷ []) = Err Short
-two_bytes_at (high ∷ low ∷ rest) = if high == 0 then Err Element else Ok (256 * high + low, rest)
+two_bytes_at (high ∷ low ∷ rest) = spelled_at (256 * high + low) (130 ∷ high ∷ low ∷ []) rest
 
 -- a length, and the bytes after it
 unfoldable pub length_at : List ℕ → Result (ℕ × List ℕ) FileFault
@@ -63,6 +67,10 @@ whole_at tag bytes = do
 abbrev pub sized_at : ℕ → List ℕ → Result (List ℕ) FileFault
 sized_at wanted bytes = if length bytes == wanted then Ok bytes else Err KeyLength
 
+-- the contents of an element with this tag, where they are to be so many and nothing may follow
+unfoldable pub string_at : ℕ → ℕ → List ℕ → Result (List ℕ) FileFault
+string_at tag size bytes = whole_at tag bytes >>= sized_at size
+
 -- the contents of an AlgorithmIdentifier
 unfoldable pub algorithm_of : List ℕ → Result Algorithm FileFault
 algorithm_of contents =
@@ -92,33 +100,20 @@ public_at der = do
   sized ← sized_at (public_length algorithm.0) bytes
   Ok (algorithm.0, sized)
 
--- the three forms of a private key
-unfoldable pub seed_at : List ℕ → Result PrivateParts FileFault
-seed_at bytes = do
-  contents ← whole_at context_tag_0 bytes
-  seed ← sized_at seed_length contents
-  Ok (Seed seed)
-
-unfoldable pub expanded_at : Algorithm → List ℕ → Result PrivateParts FileFault
-expanded_at algorithm bytes = do
-  contents ← whole_at octet_string_tag bytes
-  expanded ← sized_at (private_length algorithm) contents
-  Ok (Expanded expanded)
-
+-- the three forms of a private key, by their tags
 unfoldable pub both_at : Algorithm → List ℕ → Result PrivateParts FileFault
 both_at algorithm bytes = do
   contents ← whole_at sequence_tag bytes
   first ← element_at octet_string_tag contents
   seed ← sized_at seed_length first.0
-  second ← whole_at octet_string_tag first.1
-  expanded ← sized_at (private_length algorithm) second
+  expanded ← string_at octet_string_tag (private_length algorithm) first.1
   Ok (Both seed expanded)
 
 unfoldable pub choice_at : Algorithm → List ℕ → Result PrivateParts FileFault
 choice_at algorithm [] = Err Short
 choice_at algorithm (tag ∷ rest) =
-    if tag == context_tag_0 then seed_at (tag ∷ rest)
-    else if tag == octet_string_tag then expanded_at algorithm (tag ∷ rest)
+    if tag == context_tag_0 then string_at context_tag_0 seed_length (tag ∷ rest) >>= (λ seed. Ok (Seed seed))
+    else if tag == octet_string_tag then string_at octet_string_tag (private_length algorithm) (tag ∷ rest) >>= (λ expanded. Ok (Expanded expanded))
     else both_at algorithm (tag ∷ rest)
 
 -- the version of a OneAsymmetricKey, and the bytes after it

@@ -2,7 +2,7 @@
 #![tactic(auto)]
 
 ghost use Rattle.std.specs.Prelude.{◌≡◌};
-ghost use Rattle.mlsign_files.specs.Keys.{public_length, private_length};
+ghost use Rattle.mlsign_files.specs.Keys.{identifier, public_length, private_length};
 
 /// A parameter set of ML-DSA, which is the algorithm of a key.
 #[derive(Debug, Clone, Copy, PartialEq, Eq)]
@@ -13,6 +13,17 @@ pub enum Algorithm {
 }
 
 impl Algorithm {
+    /// Its object identifier in DER.
+    pub(crate) fn identifier(self) -> &'static [u8]
+        ensures { result.now ≡ identifier self }
+    {
+        match self {
+            Algorithm::MlDsa44 => &[6, 9, 96, 134, 72, 1, 101, 3, 4, 3, 17],
+            Algorithm::MlDsa65 => &[6, 9, 96, 134, 72, 1, 101, 3, 4, 3, 18],
+            Algorithm::MlDsa87 => &[6, 9, 96, 134, 72, 1, 101, 3, 4, 3, 19],
+        }
+    }
+
     /// How many bytes a public key has.
     pub fn public_length(self) -> usize
         ensures { result ≡ public_length self }

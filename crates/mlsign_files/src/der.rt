@@ -1,12 +1,13 @@
 //! The elements of DER.
 #![tactic(auto)]
 
-ghost use Rattle.std.specs.Prelude.{◌≡◌, ◌<◌, ◌++◌, ◌∷◌, ℕ, List, length, OnOk};
+ghost use Rattle.std.specs.Prelude.{◌≡◌, ◌<◌, ◌++◌, ◌∷◌, ℕ, List, length, IfOk, OnOk};
+ghost use Rattle.std.specs.List.{flat_map};
 ghost use Rattle.mlsign_files.specs.Der.{length_bytes, element};
-ghost use Rattle.mlsign_files.specs.Reading.{Gives, one_byte_at, two_bytes_at, length_at, element_at, whole_at};
+ghost use Rattle.mlsign_files.specs.Reading.{Gives, length_at, element_at, whole_at};
 
 use crate::fault::FileFault;
-use std::alloc::AllocError;
+use std::alloc::{AllocError, Global};
 
 pub(crate) const INTEGER: u8 = 2;
 
@@ -18,50 +19,20 @@ pub(crate) const SEQUENCE: u8 = 48;
 /// The tag `[0]` of a string under IMPLICIT tags.
 pub(crate) const CONTEXT_0: u8 = 128;
 
-/// The length of one byte that follows a 129, and what follows it.
-fn one_byte(bytes: &[u8]) -> Result<(usize, &[u8]), FileFault>
-    ensures { Gives (λ x. (x.0, x.1.now)) result (one_byte_at bytes.now) }
-{
-    let [size, rest @ ..] = bytes else {
-        return Err(FileFault::Short);
-    };
-    if *size < 128 {
-        return Err(FileFault::Element);
-    }
-    Ok((*size as usize, rest))
-}
-
-/// The length of two bytes that follows a 130, and what follows it.
-fn two_bytes(bytes: &[u8]) -> Result<(usize, &[u8]), FileFault>
-    ensures { Gives (λ x. (x.0, x.1.now)) result (two_bytes_at bytes.now) }
-{
-    let [high, low, rest @ ..] = bytes else {
-        return Err(FileFault::Short);
-    };
-    if *high == 0 {
-        return Err(FileFault::Element);
-    }
-    Ok((256 * *high as usize + *low as usize, rest))
-}
-
 /// The length that the bytes begin with, and what follows it.
 #[tactic(auto, unfolding(crate::specs::Reading::length_at))]
 fn length(bytes: &[u8]) -> Result<(usize, &[u8]), FileFault>
     ensures { Gives (λ x. (x.0, x.1.now)) result (length_at bytes.now) }
 {
-    let [first, rest @ ..] = bytes else {
-        return Err(FileFault::Short);
-    };
-    if *first < 128 {
-        return Ok((*first as usize, rest));
+    match bytes {
+        [] | [129] | [130] | [130, _] => Err(FileFault::Short),
+        [size, rest @ ..] if *size < 128 => Ok((*size as usize, rest)),
+        [129, size, rest @ ..] if *size >= 128 => Ok((*size as usize, rest)),
+        [130, high, low, rest @ ..] if *high > 0 => {
+            Ok((256 * *high as usize + *low as usize, rest))
+        }
+        _ => Err(FileFault::Element),
     }
-    if *first == 129 {
-        return one_byte(rest);
-    }
-    if *first == 130 {
-        return two_bytes(rest);
-    }
-    Err(FileFault::Element)
 }
 
 /// The contents of the element with this tag that the bytes begin with, and what follows it.
@@ -109,13 +80,18 @@ fn put_length(out: &mut Vec<u8>, size: usize) -> Result<(), AllocError>
     Ok(())
 }
 
-/// Adds an element with this tag and these contents to bytes of DER.
-pub(crate) fn put_element(out: &mut Vec<u8>, tag: u8, contents: &[u8]) -> Result<(), AllocError>
-    requires { length contents.now < 65536 }
-    ensures { OnOk result (out.new.items ≡ out.old.items ++ element tag contents.now) }
+/// The element with this tag whose contents are these parts, joined.
+pub(crate) fn written(alloc: Global, tag: u8, parts: &[&[u8]]) -> Result<Vec<u8>, AllocError>
+    requires { length (flat_map (λ part. part.now) parts.now) < 65536 }
+    ensures { IfOk result (λ der. der.items ≡ element tag (flat_map (λ part. part.now) parts.now)) }
 {
-    out.push(tag)?;
-    put_length(out, contents.len())?;
-    out.extend_from_slice(contents)?;
-    Ok(())
+    let mut contents = Vec::new(alloc);
+    for part in parts {
+        contents.extend_from_slice(part)?;
+    }
+    let mut der = Vec::new(alloc);
+    der.push(tag)?;
+    put_length(&mut der, contents.len())?;
+    der.extend_from_slice(contents.as_slice())?;
+    Ok(der)
 }

@@ -2,12 +2,12 @@
 #![tactic(auto)]
 
 ghost use Rattle.std.specs.Prelude.{◌≡◌, ◌≤◌, ◌++◌, ◌∷◌, ◌<◌, ℕ, List, [], length, Ok, IfOk, OnOk};
-ghost use Rattle.std.specs.List.{position, position_or_len, filter};
+ghost use Rattle.std.specs.List.{position, position_or_len};
 ghost use Rattle.base64.specs.GeneralPurpose.{encode_of, decode_of, IsBytes};
 ghost use Rattle.base64.specs.Engines.{standard};
 ghost use Rattle.mlsign_files.specs.Pem.{begin_line, line_end, wrapped, closing, pem, IsPem};
-ghost use Rattle.mlsign_files.specs.PemReading.{GivesOrFails, begun_fault, ended_at, opened_at, closed_fault, is_dash};
-ghost use Rattle.mlsign_files.specs.PemReading.{closed_at, is_in_line, unwrapped_at, decoded_as, pem_at};
+ghost use Rattle.mlsign_files.specs.PemReading.{GivesOrFails, ended_at, opened_at, is_dash};
+ghost use Rattle.mlsign_files.specs.PemReading.{closed_at, unwrapped_at, decoded_as, pem_at};
 ghost use Rattle.mlsign_files.specs.Reading.{Gives};
 ghost use Rattle.mlsign_files.specs.declared.pem.LineEnd.TheVariants.{Lf};
 
@@ -69,20 +69,6 @@ impl LineEnd {
     }
 }
 
-/// Why the text does not begin with this first line.
-#[tactic(auto, unfolding(crate::specs::PemReading::begun_fault))]
-fn begun_fault(first: &[u8], text: &[u8]) -> FileFault
-    ensures { result ≡ begun_fault first.now text.now }
-{
-    if first.starts_with(text) {
-        return FileFault::CutShort;
-    }
-    if text.starts_with(b"-----BEGIN ") {
-        return FileFault::OtherKind;
-    }
-    FileFault::NotPem
-}
-
 /// How the first line ends, and the text after it.
 fn ended(rest: &[u8]) -> Result<(LineEnd, &[u8]), FileFault>
     ensures { Gives (λ x. (x.0, x.1.now)) result (ended_at rest.now) }
@@ -100,29 +86,21 @@ fn ended(rest: &[u8]) -> Result<(LineEnd, &[u8]), FileFault>
 }
 
 /// How the lines end, and the text after the first one.
-#[tactic(auto, unfolding(crate::specs::PemReading::opened_at, crate::specs::PemReading::begun_fault))]
+#[tactic(auto, unfolding(crate::specs::PemReading::opened_at))]
 fn opened(kind: Kind, text: &[u8]) -> Result<(LineEnd, &[u8]), FileFault>
     ensures { Gives (λ x. (x.0, x.1.now)) result (opened_at kind text.now) }
 {
     let first = kind.begin_line();
-    if !text.starts_with(first) {
-        return Err(begun_fault(first, text));
+    if text.starts_with(first) {
+        return ended(&text[first.len()..]);
     }
-    ended(&text[first.len()..])
-}
-
-/// Why the text, from its first dash on, is not this last line.
-#[tactic(auto, unfolding(crate::specs::PemReading::closed_fault))]
-fn closed_fault(last: &[u8], text: &[u8]) -> FileFault
-    ensures { result ≡ closed_fault last.now text.now }
-{
-    if last.starts_with(text) {
-        return FileFault::CutShort;
+    if first.starts_with(text) {
+        return Err(FileFault::CutShort);
     }
-    if text.starts_with(last) {
-        return FileFault::Trailing;
+    if text.starts_with(b"-----BEGIN ") {
+        return Err(FileFault::OtherKind);
     }
-    FileFault::Text
+    Err(FileFault::NotPem)
 }
 
 /// The place of the first dash.
@@ -150,10 +128,16 @@ fn closed<'a>(last: &[u8], text: &'a [u8]) -> Result<&'a [u8], FileFault>
     ensures { Gives (λ x. x.now) result (closed_at last.now text.now) }
 {
     let (body, rest) = text.split_at(first_dash(text));
-    if rest != last {
-        return Err(closed_fault(last, rest));
+    if rest == last {
+        return Ok(body);
     }
-    Ok(body)
+    if last.starts_with(rest) {
+        return Err(FileFault::CutShort);
+    }
+    if rest.starts_with(last) {
+        return Err(FileFault::Trailing);
+    }
+    Err(FileFault::Text)
 }
 
 /// Adds the lines of a text, each of 64 characters but for the last.
@@ -170,22 +154,16 @@ fn put_wrapped(out: &mut Vec<u8>, ending: &[u8], text: &[u8]) -> Result<(), Allo
     Ok(())
 }
 
-/// The characters of a text that are no line ends.
-fn without_ends(alloc: Global, text: &[u8]) -> Result<Vec<u8>, AllocError>
-    ensures { IfOk result (λ kept. kept.items ≡ filter is_in_line text.now) }
-{
-    text.iter()
-        .copied()
-        .filter(|byte| *byte != b'\n' && *byte != b'\r')
-        .collect(alloc)
-}
-
 /// The characters of lines that end so.
 #[tactic(auto, unfolding(crate::specs::PemReading::unwrapped_at))]
 fn unwrapped(alloc: Global, ending: &[u8], text: &[u8]) -> Result<Vec<u8>, FileFault>
     ensures { GivesOrFails (λ x. x.items) result (unwrapped_at ending.now text.now) }
 {
-    let symbols = without_ends(alloc, text)?;
+    let symbols: Vec<u8> = text
+        .iter()
+        .copied()
+        .filter(|byte| *byte != b'\n' && *byte != b'\r')
+        .collect(alloc)?;
     let mut again = Vec::new(alloc);
     put_wrapped(&mut again, ending, symbols.as_slice())?;
     if again.as_slice() != text {

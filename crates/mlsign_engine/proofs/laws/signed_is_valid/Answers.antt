@@ -2,7 +2,4 @@ use Rattle.mlsign_engine.proofs.Keys.{published_valid, signed_valid}
 use Rattle.mlsign_engine.proofs.laws.signed_is_valid.Goals as goal
 
 pub returns : goal.returns
-returns c = record {
-  published = published_valid c.signed_is_accepted.ensures;
-  generated = signed_valid c.signed_is_accepted.ensures;
-}
+returns c = record { published = published_valid; generated = signed_valid }

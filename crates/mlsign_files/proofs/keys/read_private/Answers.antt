@@ -1,4 +1,3 @@
-use Rattle.std.proofs.Common.{arith}
 use Rattle.mlsign_files.specs.Keys.{IsPrivateFile}
 use Rattle.mlsign_files.proofs.Elements.{gives_found, gives_only}
 use Rattle.mlsign_files.proofs.KeyFiles.{private_found, private_of_file}
@@ -6,8 +5,7 @@ use Rattle.mlsign_files.proofs.keys.read_private.Goals as goal
 
 pub returns-clause-found : goal.returns-clause-found
 returns-clause-found c =
-    gives_found _ c.asymmetric_key.result _ (λ y. IsPrivateFile c.args.der.now y.0 y.1) c.asymmetric_key.ensures
-    (λ y e. private_found c.args.der.now y (λ i. omega (arith, c.type_inv.der i)) e)
+    gives_found _ c.asymmetric_key.result _ (λ y. IsPrivateFile c.args.der.now y.0 y.1) c.asymmetric_key.ensures (private_found c.args.der.now)
 
 pub returns-clause-only : goal.returns-clause-only
 returns-clause-only c = λ algorithm parts file.

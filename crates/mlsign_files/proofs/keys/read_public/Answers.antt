@@ -1,4 +1,3 @@
-use Rattle.std.proofs.Common.{arith}
 use Rattle.mlsign_files.specs.Keys.{IsPublicFile}
 use Rattle.mlsign_files.proofs.Elements.{gives_found, gives_only}
 use Rattle.mlsign_files.proofs.KeyFiles.{public_found, public_of_file}
@@ -6,8 +5,7 @@ use Rattle.mlsign_files.proofs.keys.read_public.Goals as goal
 
 pub returns-clause-found : goal.returns-clause-found
 returns-clause-found c =
-    gives_found _ c.public_key_info.result _ (λ y. IsPublicFile c.args.der.now y.0 y.1) c.public_key_info.ensures
-    (λ y e. public_found c.args.der.now y (λ i. omega (arith, c.type_inv.der i)) e)
+    gives_found _ c.public_key_info.result _ (λ y. IsPublicFile c.args.der.now y.0 y.1) c.public_key_info.ensures (public_found c.args.der.now)
 
 pub returns-clause-only : goal.returns-clause-only
 returns-clause-only c = λ algorithm bytes file.

@@ -1,6 +1,5 @@
 use Rattle.std.proofs.Common.{rules, List, ℕ, ◌≡◌, length, refl, ap, ◌∙◌}
 use Rattle.fips204.specs.Framing.{framed, message_hash}
-use Rattle.fips204.specs.Keys.{ArePrivateParts}
 use Rattle.fips204.specs.Signing.{sign}
 use Rattle.fips204.specs.declared.traits.DummyRng.{DummyRng}
 use Rattle.fips204_shake.specs.Fronts.{shake256_front, shake128_front}
@@ -8,21 +7,16 @@ use Rattle.mlsign_files.specs.Keys.{private_parts}
 use Rattle.mlsign_engine.proofs.Keys.{drawn, signs_at}
 use Rattle.mlsign_engine.proofs.at_set.AtSet.sign.Goals as goal
 
-pub returns-in-Ok : goal.returns-in-Ok
-returns-in-Ok g c =
+pub returns-clause-signed : goal.returns-clause-signed
+returns-clause-signed g c =
     let p = g.S.Set.set in
-    let sizes = g.met.S.SignatureSizes.sizes in
     let key = c.in_ok-key.key in
-    let range : ArePrivateParts p.k p.l key = rw (← sizes.rows, ← sizes.columns) c.tr.ensures.parts in
     let hashed = c.in_ok-mu.ensures.hashed in
     let hash : c.in_ok-mu.mu ≡ message_hash shake256_front key.tr (framed hashed.0 c.args.context.now) =
     hashed.2 ∙ ap (λ (tr : List ℕ). message_hash shake256_front tr (framed hashed.0 c.args.context.now)) c.tr.ensures.hash in
     let before : DummyRng = record { bytes = c.args.random.now } in
-    let signed = drawn c.args.random.now before c.sign_mu.new.rng (sign p shake256_front shake128_front key c.in_ok-mu.mu) c.in-Ok.signature
-    c.in-Ok.ensures.answer refl in
-    let size : length c.in-Ok.signature ≡ g.row.SIG_LEN = search rules in
-    record {
-      signed = signs_at p c.signed_is_accepted.ensures g.S.Set.known (private_parts c.args.parts) key c.args.random.now c.args.context.now hashed.0
-          c.in-Ok.signature c.in_ok-mu.mu _ _ range c.in_ok-key.ensures.keys c.requires.short hashed.1 hash signed (size ∙ sizes.signature);
-      faults = tt;
-    }
+    let signed = drawn c.args.random.now before c.sign_mu.new.rng (sign p shake256_front shake128_front key c.in_ok-mu.mu) c.in_ok-signature.signature
+    c.in_ok-signature.ensures.answer refl in
+    let size : length c.in_ok-signature.signature ≡ g.row.SIG_LEN = search rules in
+    rw c.in_ok-from_slice.ensures.items (signs_at p c.signed_is_accepted.ensures g.S.Set.known (private_parts c.args.parts) key c.args.random.now c.args.context.now hashed.0
+    c.in_ok-signature.signature c.in_ok-mu.mu _ _ c.in_ok-key.ensures.keys c.requires.short hashed.1 hash signed (size ∙ g.met.S.SignatureSizes.sizes.signature))
