@@ -25,9 +25,7 @@ set_of MlDsa87 = set_87
 
 -- reading a public key out of the text of a file: the key, or the first fault
 abbrev pub public_text_at : List ℕ → Result (Algorithm × List ℕ) FileFault
-public_text_at text = do
-  der ← pem_at Public text
-  public_at der
+public_text_at text = pem_at Public text >>= public_at
 
 -- the text of a file has this public key
 pub record IsPublicText (text : List ℕ) (algorithm : Algorithm) (bytes : List ℕ) : Type 0 where
@@ -49,19 +47,9 @@ pub record Judges (public signature context message : List ℕ) (valid : Bool) :
   pub decoded : IsPublicKeyOf shake256_front (set_of algorithm).k bytes key
   pub answer : IsTrue valid ↔ IsValid (set_of algorithm) key signature context message
 
--- a fault of a public key's file is the first one in its text, unless memory ran out
-abbrev pub IsPublicFault : List ℕ → FileFault → Type 0
-IsPublicFault text fault = FailsLike fault (public_text_at text)
-
 -- reading a private key out of the text of a file: the key, or the first fault
 abbrev pub private_text_at : List ℕ → Result (Algorithm × FileParts) FileFault
-private_text_at text = do
-  der ← pem_at Private text
-  private_at der
-
--- a fault of a private key's file is the first one in its text, unless memory ran out
-abbrev pub IsPrivateFault : List ℕ → FileFault → Type 0
-IsPrivateFault text fault = FailsLike fault (private_text_at text)
+private_text_at text = pem_at Private text >>= private_at
 
 -- the text of a file has this private key
 pub record IsPrivateText (text : List ℕ) (algorithm : Algorithm) (parts : FileParts) : Type 0 where
@@ -130,7 +118,7 @@ Shows text kind algorithm hash = (bytes : List ℕ) × HasPublicKey kind text al
 -- a fault of a key's file of either kind: of a public key's, or, where the file has another kind, of a private key's
 abbrev pub IsKeyFault : List ℕ → FileFault → Type 0
 IsKeyFault text fault =
-    (IsPublicFault text fault × ¬ (fault ≡ OtherKind)) ⊎ ((public_text_at text ≡ Err OtherKind) × IsPrivateFault text fault)
+    (FailsLike fault (public_text_at text) × ¬ (fault ≡ OtherKind)) ⊎ ((public_text_at text ≡ Err OtherKind) × FailsLike fault (private_text_at text))
 
 -- what `sign` wrote with a private file, `verify` accepts with the public file that `public` made of it
 abbrev pub PublishedIsValid : Type 0

@@ -3,11 +3,11 @@
 
 ghost use Rattle.std.specs.Prelude.{◌≡◌, ◌<◌, ◌≤◌, ◌↔◌, ℕ, List, length, Err, IfOk, IfErr, false};
 ghost use Rattle.mlsign_files.specs.Keys.{HasPrivateSizes, private_length, private_parts, public_length};
-ghost use Rattle.mlsign_files.specs.PemReading.{GivesOrFails};
+ghost use Rattle.mlsign_files.specs.PemReading.{FailsLike, GivesOrFails};
 ghost use Rattle.mlsign_files.specs.declared.fault.FileFault.{FileFault};
 ghost use Rattle.mlsign_files.specs.declared.pem.Kind.TheVariants.{Private};
 ghost use Rattle.mlsign_engine.specs.Commands.{Generates, Publishes, Shows, Signs, Judges, IsPublicText, HasPublicBytes, HasPublicKey};
-ghost use Rattle.mlsign_engine.specs.Commands.{public_text_at, set_of, IsPublicFault, IsPrivateFault, IsKeyFault};
+ghost use Rattle.mlsign_engine.specs.Commands.{public_text_at, private_text_at, set_of, IsKeyFault};
 ghost use Rattle.mlsign_engine.specs.InnerSteps.{IsSigningFault, SignsAt};
 ghost use Rattle.mlsign_engine.specs.Messages.{GivesAll};
 
@@ -72,7 +72,7 @@ pub fn keygen(
 /// `Library` or `Memory` where they arise.
 pub fn public(alloc: Global, private: &[u8]) -> Result<Vec<u8>, CommandFault>
     ensures published { IfOk result (λ public. Publishes private.now public.items) }
-    ensures key { (fault : FileFault) → result ≡ Err (CommandFault.Key fault) → IsPrivateFault private.now fault }
+    ensures key { (fault : FileFault) → result ≡ Err (CommandFault.Key fault) → FailsLike fault (private_text_at private.now) }
 {
     let (algorithm, bytes) = public_bytes(alloc, private)?;
     Ok(public_text(alloc, algorithm, bytes.as_slice())?)
@@ -111,7 +111,7 @@ pub fn sign<I: Read>(
         × GivesAll (I.remaining input.old.device) (I.remaining input.new.device) message
         × Signs private.now random.now context.now message signature.items) }
     ensures context { (result ≡ Err CommandFault.Context) ↔ (255 < length context.now) }
-    ensures key { (fault : FileFault) → result ≡ Err (CommandFault.Key fault) → IsPrivateFault private.now fault }
+    ensures key { (fault : FileFault) → result ≡ Err (CommandFault.Key fault) → FailsLike fault (private_text_at private.now) }
 {
     if context.len() > LONGEST {
         return Err(CommandFault::Context);
@@ -161,7 +161,7 @@ pub fn verify<I: Read>(
         × GivesAll (I.remaining input.old.device) (I.remaining input.new.device) message
         × Judges public.now signature.now context.now message valid) }
     ensures context { (result ≡ Err CommandFault.Context) ↔ (255 < length context.now) }
-    ensures key { (fault : FileFault) → result ≡ Err (CommandFault.Key fault) → IsPublicFault public.now fault }
+    ensures key { (fault : FileFault) → result ≡ Err (CommandFault.Key fault) → FailsLike fault (public_text_at public.now) }
 {
     if context.len() > LONGEST {
         return Err(CommandFault::Context);
@@ -197,7 +197,7 @@ fn public_text(alloc: Global, algorithm: Algorithm, bytes: &[u8]) -> Result<Vec<
 fn public_bytes(alloc: Global, private: &[u8]) -> Result<(Algorithm, Vec<u8>), CommandFault>
     ensures found { IfOk result (λ x. HasPublicKey Private private.now x.0 x.1.items) }
     ensures size { IfOk result (λ x. length x.1.items ≡ public_length x.0) }
-    ensures key { (fault : FileFault) → result ≡ Err (CommandFault.Key fault) → IsPrivateFault private.now fault }
+    ensures key { (fault : FileFault) → result ≡ Err (CommandFault.Key fault) → FailsLike fault (private_text_at private.now) }
 {
     let der = pem::decode(alloc, Kind::Private, private)?;
     let (algorithm, key) = read_private(der.as_slice())?;

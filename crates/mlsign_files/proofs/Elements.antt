@@ -149,12 +149,11 @@ contents_again contents rest =
 pub element_again : (tag : ℕ) (contents rest : List ℕ) → length contents < 65536 → element_at tag (element tag contents ++ rest) ≡ Ok (contents, rest)
 unfolding element_at
 element_again tag contents rest small =
-    ap (λ (tagged : Result (List ℕ) FileFault). tagged >>= λ after. length_at after >>= λ size. contents_at size.0 size.1)
-    (tagged_again tag ((length_bytes (length contents) ++ contents) ++ rest))
-    ∙ ap (λ (after : List ℕ). length_at after >>= λ size. contents_at size.0 size.1) (append_assoc (length_bytes (length contents)) contents rest)
-    ∙ ap (λ (sized : Result (ℕ × List ℕ) FileFault). sized >>= λ size. contents_at size.0 size.1)
-    (length_again (length contents) (contents ++ rest) small)
-    ∙ contents_again contents rest
+    rw (
+      tagged_again tag ((length_bytes (length contents) ++ contents) ++ rest),
+      append_assoc (length_bytes (length contents)) contents rest,
+      length_again (length contents) (contents ++ rest) small,
+    ) (contents_again contents rest)
 
 -- ---- elements that nothing follows
 
@@ -172,4 +171,4 @@ unfolding whole_at
 whole_again tag contents small =
     let again : element_at tag (element tag contents) ≡ Ok (contents, []) =
     ap (λ (z : List ℕ). element_at tag z) (sym (append-nil (element tag contents))) ∙ element_again tag contents [] small in
-    ap (λ (read : Result (List ℕ × List ℕ) FileFault). read >>= λ x. cond (eqb (length x.1) 0) (Ok x.0) (Err Behind)) again
+    rw again refl

@@ -1,16 +1,15 @@
 -- A key that is read is the key that the file has, and the key of a file is read.
-use Rattle.std.proofs.Common.{◌≡◌, ℕ, ◌+◌, ◌<◌, ◌≤◌, eqb, inl, inr, List, [], ◌∷◌, ◌++◌, length, Result, Ok, refl, ap, subst, ◌∙◌, arith}
+use Rattle.std.proofs.Common.{◌≡◌, ℕ, ◌+◌, ◌<◌, ◌≤◌, eqb, inl, inr, List, [], ◌∷◌, ◌++◌, length, Ok, refl, ap, subst, ◌∙◌, arith}
 use Rattle.std.specs.Str.{bytes_eq}
 use Rattle.std.proofs.lemmas.Bool.{eqb-true}
 use Rattle.std.proofs.lemmas.Bool.Decides.{nat_tests}
 use Rattle.std.proofs.lemmas.List.{length-append}
 use Rattle.mlsign_files.specs.declared.algorithm.Algorithm.{Algorithm}
 use Rattle.mlsign_files.specs.declared.algorithm.Algorithm.TheVariants.{MlDsa44, MlDsa65}
-use Rattle.mlsign_files.specs.declared.fault.FileFault.{FileFault}
 use Rattle.mlsign_files.specs.declared.fault.FileFault.TheVariants.{Element, Version, KeyLength}
 use Rattle.mlsign_files.specs.Der.{element, length_bytes, octet_string, bit_string, small_integer, integer_tag, bit_string_tag, octet_string_tag, sequence_tag, context_tag_0}
 use Rattle.mlsign_files.specs.Keys.{identifier, algorithm_identifier, public_length, seed_length, private_length, subject_public_key_info, PrivateParts, Seed, Expanded, Both, private_choice, HasPrivateSizes, one_asymmetric_key, IsPublicFile, IsPrivateFile}
-use Rattle.mlsign_files.specs.Reading.{◌>>=◌, sized_at, algorithm_of, algorithm_at, whole_bytes_of, public_at, string_at, both_at, choice_at, version_at, private_at}
+use Rattle.mlsign_files.specs.Reading.{sized_at, algorithm_of, algorithm_at, whole_bytes_of, public_at, string_at, both_at, choice_at, version_at, private_at}
 use Rattle.mlsign_files.proofs.Elements.{bind_ok, chosen, ok_is, met, same_bytes, element_found, element_again, whole_found, whole_again}
 
 -- ---- sizes
@@ -20,6 +19,10 @@ length_of_length n = grind (arith, nat_tests)
 
 pub length_of_element : (tag : ℕ) (contents : List ℕ) → length (element tag contents) ≤ length contents + 4
 length_of_element tag contents = omega (arith, length-append (length_bytes (length contents)) contents, length_of_length (length contents))
+
+length_of_two : (one other : ℕ) (first second : List ℕ) → length (element one first ++ element other second) ≤ length first + (length second + 8)
+length_of_two one other first second =
+    omega (arith, length_of_element one first, length_of_element other second, length-append (element one first) (element other second))
 
 sized_found : (wanted : ℕ) (bytes sized : List ℕ) → sized_at wanted bytes ≡ Ok sized → (bytes ≡ sized) × (length bytes ≡ wanted)
 sized_found wanted bytes sized e =
@@ -60,9 +63,7 @@ identifier_small algorithm = grind arith
 algorithm_again : (algorithm : Algorithm) (rest : List ℕ) → algorithm_at (algorithm_identifier algorithm ++ rest) ≡ Ok (algorithm, rest)
 unfolding algorithm_at
 algorithm_again algorithm rest =
-    ap (λ (read : Result (List ℕ × List ℕ) FileFault). read >>= λ found. algorithm_of found.0 >>= λ algorithm. Ok (algorithm, found.1))
-    (element_again sequence_tag (identifier algorithm) rest (omega (arith, identifier_small algorithm)))
-    ∙ ap (λ (read : Result Algorithm FileFault). read >>= λ algorithm. Ok (algorithm, rest)) (algorithm_of_again algorithm)
+    rw (element_again sequence_tag (identifier algorithm) rest (omega (arith, identifier_small algorithm)), algorithm_of_again algorithm) refl
 
 -- ---- public keys
 
@@ -104,13 +105,7 @@ length_of_algorithm algorithm = omega (arith, identifier_small algorithm, length
 pub public_info_small : (algorithm : Algorithm) (bytes : List ℕ) → length bytes ≡ public_length algorithm
     → length (algorithm_identifier algorithm ++ bit_string bytes) < 65536
 public_info_small algorithm bytes size =
-    omega (
-      arith,
-      public_small algorithm,
-      length_of_algorithm algorithm,
-      length_of_element bit_string_tag (0 ∷ bytes),
-      length-append (algorithm_identifier algorithm) (bit_string bytes),
-    )
+    omega (arith, public_small algorithm, identifier_small algorithm, length_of_two sequence_tag bit_string_tag (identifier algorithm) (0 ∷ bytes))
 
 pub public_again : (algorithm : Algorithm) (bytes : List ℕ) → length bytes ≡ public_length algorithm
     → public_at (subject_public_key_info algorithm bytes) ≡ Ok (algorithm, bytes)
@@ -218,24 +213,14 @@ private_small algorithm = grind arith
 pub both_small : (algorithm : Algorithm) (seed expanded : List ℕ) → length seed ≡ seed_length → length expanded ≡ private_length algorithm
     → length (octet_string seed ++ octet_string expanded) < 64000
 both_small algorithm seed expanded first second =
-    omega (
-      arith,
-      private_small algorithm,
-      length_of_element octet_string_tag seed,
-      length_of_element octet_string_tag expanded,
-      length-append (octet_string seed) (octet_string expanded),
-    )
+    omega (arith, private_small algorithm, length_of_two octet_string_tag octet_string_tag seed expanded)
 
 pub choice_small : (algorithm : Algorithm) (parts : PrivateParts) → HasPrivateSizes (private_length algorithm) parts → length (private_choice parts) < 65000
 unfolding private_choice
 choice_small algorithm (Seed seed) sizes = omega (arith, length_of_element context_tag_0 seed)
 choice_small algorithm (Expanded expanded) sizes = omega (arith, length_of_element octet_string_tag expanded, private_small algorithm)
 choice_small algorithm (Both seed expanded) sizes =
-    omega (
-      arith,
-      both_small algorithm seed expanded sizes.0 sizes.1,
-      length_of_element sequence_tag (octet_string seed ++ octet_string expanded),
-    )
+    omega (arith, both_small algorithm seed expanded sizes.0 sizes.1, length_of_element sequence_tag (octet_string seed ++ octet_string expanded))
 
 choice_again : (algorithm : Algorithm) (parts : PrivateParts) → HasPrivateSizes (private_length algorithm) parts → choice_at algorithm (private_choice parts) ≡ Ok parts
 unfolding choice_at private_choice both_at
@@ -260,10 +245,8 @@ private_info_small algorithm parts sizes =
     omega (
       arith,
       choice_small algorithm parts sizes,
-      length_of_algorithm algorithm,
-      length_of_element octet_string_tag (private_choice parts),
-      length-append (algorithm_identifier algorithm) (octet_string (private_choice parts)),
-      length-append (small_integer 0) (algorithm_identifier algorithm ++ octet_string (private_choice parts)),
+      identifier_small algorithm,
+      length_of_two sequence_tag octet_string_tag (identifier algorithm) (private_choice parts),
     )
 
 pub private_again : (algorithm : Algorithm) (parts : PrivateParts) → HasPrivateSizes (private_length algorithm) parts

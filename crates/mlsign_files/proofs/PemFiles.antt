@@ -5,7 +5,7 @@ use Rattle.std.specs.List.{position_or_len, filter, AllPass}
 use Rattle.std.proofs.lemmas.List.{take-append-drop, take_at, drop_at}
 use Rattle.std.proofs.lemmas.List.Sums.{AllPass-from_list_all}
 use Rattle.std.proofs.lemmas.Slice.Eq.{bytes_eq-Decides}
-use Rattle.base64.specs.GeneralPurpose.{encode_of, decode_of, IsBytes}
+use Rattle.base64.specs.GeneralPurpose.{encode_of, IsBytes}
 use Rattle.base64.specs.Engines.{standard}
 use Rattle.base64.proofs.EngineFacts.{decode_of-encode_of}
 use Rattle.mlsign_files.specs.declared.fault.FileFault.{FileFault}
@@ -14,8 +14,7 @@ use Rattle.mlsign_files.specs.declared.pem.Kind.{Kind}
 use Rattle.mlsign_files.specs.declared.pem.LineEnd.{LineEnd}
 use Rattle.mlsign_files.specs.declared.pem.LineEnd.TheVariants.{Lf, CrLf}
 use Rattle.mlsign_files.specs.Pem.{begin_line, line_end, wrapped, closing, pem, IsPem}
-use Rattle.mlsign_files.specs.Reading.{◌>>=◌}
-use Rattle.mlsign_files.specs.PemReading.{begins, ended_at, opened_at, is_dash, closed_at, is_in_line, unwrapped_at, decoded_as, pem_at}
+use Rattle.mlsign_files.specs.PemReading.{begins, ended_at, opened_at, is_dash, closed_at, is_in_line, unwrapped_at, pem_at}
 use Rattle.mlsign_files.proofs.Elements.{chosen, ok_is, met, same_bytes}
 use Rattle.mlsign_files.proofs.Texts.{wrapped_kept, wrapped_pass, encoded_passes, first_place}
 
@@ -116,13 +115,12 @@ pem_again kind ending der bytes =
     let plain : AllPass is_in_line symbols = encoded_passes is_in_line der refl refl refl in
     let no_dash : AllPass (λ x. not (is_dash x)) body =
     wrapped_pass (λ x. not (is_dash x)) (line_end ending) symbols (no_dash_in_ending ending) (encoded_passes (λ x. not (is_dash x)) der refl refl refl) in
-    ap (λ (read : Result (LineEnd × List ℕ) FileFault). read >>= λ opened. closed_at (closing kind opened.0) opened.1 >>= λ body.
-    unwrapped_at (line_end opened.0) body >>= λ symbols. decoded_as (decode_of standard symbols)) (opened_again kind ending (body ++ closing kind ending))
-    ∙ ap (λ (read : Result (List ℕ) FileFault). read >>= λ body. unwrapped_at (line_end ending) body >>= λ symbols. decoded_as (decode_of standard symbols))
-    (closed_again (drop 1 (closing kind ending)) body no_dash)
-    ∙ ap (λ (read : Result (List ℕ) FileFault). read >>= λ symbols. decoded_as (decode_of standard symbols))
-    (unwrapped_again (line_end ending) symbols (ending_dropped ending) plain)
-    ∙ ap decoded_as (decode_of-encode_of standard der refl bytes)
+    rw (
+      opened_again kind ending (body ++ closing kind ending),
+      closed_again (drop 1 (closing kind ending)) body no_dash,
+      unwrapped_again (line_end ending) symbols (ending_dropped ending) plain,
+      decode_of-encode_of standard der refl bytes,
+    ) refl
 
 pub pem_of_text : (text : List ℕ) (kind : Kind) (der : List ℕ) → IsPem text kind der → pem_at kind text ≡ Ok der
 pem_of_text text kind der is = ap (pem_at kind) is.is ∙ pem_again kind is.ending der is.bytes

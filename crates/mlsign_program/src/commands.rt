@@ -57,7 +57,8 @@ pub(crate) fn keygen(rt: &HostRuntime, words: &ArgMatches<'_>) -> Result<(), Err
         private: false,
         force,
     };
-    write_files(rt, &[private, public])
+    // The last one is put in its place first: a link fails where a rename does not.
+    write_files(rt, &[public, private])
 }
 
 /// Writes a file that is no private key.

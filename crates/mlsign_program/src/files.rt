@@ -43,8 +43,8 @@ pub(crate) struct Output<'a> {
     pub force: bool,
 }
 
-/// Writes these files, or none of them: each beside its place, and when all others are in theirs, into it. A device or a pipe is
-/// written where it is.
+/// Writes these files, or none of them: all are written beside their places, and then put into them, the last one first. A device
+/// or a pipe is written where it is.
 pub(crate) fn write_files(rt: &HostRuntime, outputs: &[Output<'_>]) -> Result<(), Error> {
     let [output, others @ ..] = outputs else {
         return Ok(());
