@@ -73,16 +73,12 @@ impl LineEnd {
 fn ended(rest: &[u8]) -> Result<(LineEnd, &[u8]), FileFault>
     ensures { Gives (λ x. (x.0, x.1.now)) result (ended_at rest.now) }
 {
-    if rest.starts_with(b"\n") {
-        return Ok((LineEnd::Lf, &rest[1..]));
+    match rest {
+        [b'\n', rest @ ..] => Ok((LineEnd::Lf, rest)),
+        [b'\r', b'\n', rest @ ..] => Ok((LineEnd::CrLf, rest)),
+        [] | [b'\r'] => Err(FileFault::CutShort),
+        _ => Err(FileFault::Text),
     }
-    if rest.starts_with(b"\r\n") {
-        return Ok((LineEnd::CrLf, &rest[2..]));
-    }
-    if b"\r\n".as_slice().starts_with(rest) {
-        return Err(FileFault::CutShort);
-    }
-    Err(FileFault::Text)
 }
 
 /// How the lines end, and the text after the first one.
