@@ -1,4 +1,4 @@
-use Rattle.std.proofs.Common.{Ok}
+use Rattle.std.proofs.Common.{Ok, rules}
 use Rattle.fips204.specs.Keys.{DecodesPrivate}
 use Rattle.mlsign_engine.proofs.at_set.AtSet.from_expanded.Goals as goal
 
@@ -9,4 +9,4 @@ returns g c =
     let decoded : DecodesPrivate p.eta p.k p.l c.args.expanded.now (Ok c.in-Ok.private) =
     rw (← sizes.rows, ← sizes.columns, ← c.array_of.ensures) c.in-Ok.ensures in
     let tells = c.in_ok-is_pair.ensures in
-    record { keys = (tells.0, record { stands = decoded; pair = tells.2.0 c.if-not-branch.false }); faults = tt }
+    record { keys = (tells.0, record { stands = decoded; pair = tells.2.0 (search rules) }); faults = tt }
