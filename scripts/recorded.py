@@ -2,7 +2,8 @@
 
 Fronts have 4096 bytes. For speed the values of `product` and `inverse_transform` at all 256 places are computed at once, by the sums of
 their definitions; nothing else is replaced. Verifying is a relation: evaluated is what it asks for, w1' of the parts of the signature and
-the hash of mu and w1'; the parts are cut here, the hint by Algorithm 21.
+the hash of mu and w1'; the parts are cut here, the hint by Algorithm 21. Beside these: the public key that is derived of the private
+one, prepared keys, the set of its own numbers, and the fronts of the streams of this repository.
 """
 import hashlib
 import operator
@@ -14,7 +15,8 @@ from evaluate import Function, Parser, Record, ap, key, listed, now
 ROWS = [line.split("\t") for line in pathlib.Path(__file__).with_name("run-definitions.tsv").read_text(encoding="utf-8").splitlines() if line and line[0] != "#"]
 # what is evaluated, and the definitions that tables stand in for
 TEXTS = """generated public_key_bytes private_key_bytes sign_input unpacked sampled_matrix challenge representative w1_bytes w1_prime
-c_tilde_length set_44 set_65 set_87"""
+c_tilde_length set_44 set_65 set_87 derived prepared_private prepared_public sign_prepared public_of_prepared IsWholePrepared set_of
+sha256_front sha256_long_front sha512_front sha512_long_front IsPrefix"""
 TABULATED = ("product", "inverse_transform")
 
 Q = 8380417
@@ -60,7 +62,7 @@ def sha256(xs):
 
 
 def hashes(program, row):
-    """The hashes of both keys and the signature of a row, and whether the signature is accepted."""
+    """The hashes of both keys and the signature of a row, and whether the signature is accepted and the rest holds."""
     name, seed, random, context, message = row[:5]
     seed, random, context, message = (tuple(bytes.fromhex(part)) for part in (seed, random, context, message))
     shake256 = Function(lambda xs: tuple(hashlib.shake_256(bytes(listed(xs))).digest(4096)), 1, (), "H")
@@ -77,7 +79,32 @@ def hashes(program, row):
     public = said("public_key_bytes pk.rho pk.t1", pk=pk)
     private = said("private_key_bytes p.eta sk", sk=sk)
     signature = listed(now(said("sign_input p H G sk rnd (plain message context)", sk=sk).parts[0]))
-    return [sha256(part) for part in (public, private, signature)], verified(said, pk, signature)
+    return [sha256(part) for part in (public, private, signature)], verified(said, pk, signature) and others(said, pk, sk, signature) and fronts(said, message)
+
+
+def others(said, pk, sk, signature):
+    """Whether derived and prepared keys are right, and the set is that of its own numbers."""
+    prepared, public = said("prepared_private p G sk", sk=sk).parts[0], said("prepared_public p G pk", pk=pk).parts[0]
+    known = dict(pk=pk, sk=sk, prepared=prepared, public=public, signature=signature)
+    return all(said(text, **known) for text in (
+        "derived p G sk ≡ Ok pk", "sign_prepared p H prepared rnd (plain message context) ≡ Ok signature", "IsWholePrepared p prepared",
+        "public_of_prepared p prepared ≡ public", "set_of p ≡ p",
+    ))
+
+
+def fronts(said, message):
+    """Whether the streams of this repository have the blocks that `hashlib` gives, and the shorter are prefixes of the longer."""
+    def blocks(hash_, count):
+        seed = hash_(bytes(message)).digest()
+        return tuple(b"".join(hash_(seed + i.to_bytes(4, "little")).digest() for i in range(count)))
+
+    known = (("sha256", hashlib.sha256, 128, 512), ("sha512", hashlib.sha512, 64, 256))
+    return all(
+        listed(now(said(f"{name}_front message"))) == blocks(hash_, count) and listed(now(said(f"{name}_long_front message"))) == blocks(hash_, longer)
+        and said(f"IsPrefix ({name}_front message) ({name}_long_front message)") and not said(f"IsPrefix ({name}_long_front message) ({name}_front message)")
+        and not said(f"IsPrefix (1 ∷ {name}_front message) ({name}_long_front message)")
+        for name, hash_, count, longer in known
+    )
 
 
 def verified(said, pk, signature):
