@@ -1,4 +1,4 @@
--- What is given by its transforms, as the plain polynomials that contracts see.
+-- What is given by its transforms, as the plain polynomials that contracts see: cited by no public clause; nobody has to believe it.
 use Rattle.std.specs.Prelude.{ℕ, ℤ, List, [], pos, ◌*◌, ◌%◌}
 use Rattle.fips204_base.specs.Residues.{coefficients, residue, from_mont, sum_below}
 use Rattle.fips204_base.specs.Transforms.{inverse_transform}
