@@ -36,7 +36,8 @@ fn answer_process(rt: &HostRuntime) -> Result<bool, Error> {
 
 /// Answers these words: false for an invalid signature, and true for everything else that was done.
 pub fn answer<S: AsStr>(rt: &HostRuntime, words: &[S]) -> Result<bool, Error> {
-    let matches = match mlsign(rt.alloc())?.try_get_matches_from(words) {
+    let command = mlsign(rt.alloc()).map_err(io::Error::from)?;
+    let matches = match command.try_get_matches_from(words) {
         Ok(matches) => matches,
         Err(error) if error.use_stderr() => {
             return Err(Error::msg(in_a_line(rt.alloc(), &error)?));
