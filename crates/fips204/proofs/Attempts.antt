@@ -21,7 +21,7 @@ use Rattle.fips204.specs.Signing.{attempt, commitment_hash, hint_vector, passes_
 use Rattle.fips204.specs.ParameterSets.{ParameterSet, c_tilde_length}
 use Rattle.fips204.specs.SigningInputs.{attempt_answer, scaled, high_vector, hint_bit, checked_attempt}
 use Rattle.fips204.proofs.ParameterSets.{rounding-size}
-use Rattle.fips204_base.specs.Network.{VectorWithin}
+use Rattle.fips204_base.specs.Bounds.{VectorWithin}
 
 -- ---- vectors of the same coefficients
 

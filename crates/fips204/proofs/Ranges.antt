@@ -9,7 +9,8 @@ use Rattle.std.proofs.lemmas.List.Elements.{All-nil, All-cons}
 use mir.Val.{Val}
 use denote.Array.{each, in_array}
 use denote.Shadow.{shadow}
-use Rattle.fips204_base.specs.Network.{sign_of, challenge_picks, PolynomialWithin}
+use Rattle.fips204_base.specs.Network.{sign_of, challenge_picks}
+use Rattle.fips204_base.specs.Bounds.{PolynomialWithin}
 use Rattle.fips204_base.specs.declared.types.R.{R}
 use Rattle.fips204_base.specs.contracts.types.R.{the_row}
 use Rattle.std.specs.Prelude.{nat_eq, nat_lt}

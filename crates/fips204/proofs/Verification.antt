@@ -13,7 +13,7 @@ use Rattle.fips204_base.specs.Sampling.{challenge, sampled_matrix}
 use Rattle.fips204_base.specs.Encodings.{PublicParts, IsSignature, is_one, w1_bytes}
 use Rattle.fips204_base.specs.Packing.{PolynomialInRange}
 use Rattle.fips204_base.specs.Vectors.{coefficient_of, IsVector, vector_coefficients, matrix_product, vector_of}
-use Rattle.fips204_base.specs.Network.{VectorWithin}
+use Rattle.fips204_base.specs.Bounds.{VectorWithin}
 use Rattle.fips204_base.specs.Transforms.{product, minus}
 use Rattle.fips204_base.specs.Rounding.{use_hint, high_bits, low_bits, high_count}
 use Rattle.fips204_base.proofs.Rounding.{high_bits_below}

@@ -16,7 +16,7 @@ use Rattle.fips204.specs.Acceptance.{w1_prime}
 use Rattle.fips204.specs.ParameterSets.{ParameterSet, set_44, set_65, set_87, public_key_length, private_key_length, signature_length}
 use Rattle.fips204.specs.Rows.{is_parameter_set}
 use Rattle.fips204.specs.Signing.{first_answer, unsampled, rejected, signed, commitment_hash, w_minus_cs2, sign}
-use Rattle.std.specs.Prelude.{replicate, nat_eq, get_or, option_map}
+use Rattle.std.specs.Prelude.{◌/◌, ◌^◌, replicate, nat_eq, get_or, option_map}
 use Rattle.std.specs.List.{range_with_len, flat_map}
 use Rattle.fips204.specs.declared.types.pre_hash.TheConstants.{SHA2_224, SHA2_256, SHA2_384, SHA2_512, SHA2_512_224, SHA2_512_256, SHA3_224, SHA3_256, SHA3_384, SHA3_512, SHAKE_128, SHAKE_256}
 use Rattle.fips204.specs.Framing.{plain, hashed, framed, represented, representative, hashes, digest_length, pre_hash_fault}
@@ -41,6 +41,12 @@ public_key_lengths = refl
 signature_lengths : map signature_length sets ≡ 2420 ∷ 3309 ∷ 4627 ∷ []
 unfolding sets bit_length
 signature_lengths = refl
+
+-- Table 1: lambda; gamma1 is 2^17 or 2^19, and gamma2 (q - 1) / 88 or (q - 1) / 32
+columns_of_sets : map (λ p. p.lambda ∷ p.gamma1 ∷ p.gamma2 ∷ []) sets
+    ≡ (128 ∷ 2 ^ 17 ∷ 8380416 / 88 ∷ []) ∷ (192 ∷ 2 ^ 19 ∷ 8380416 / 32 ∷ []) ∷ (256 ∷ 2 ^ 19 ∷ 8380416 / 32 ∷ []) ∷ []
+unfolding sets
+columns_of_sets = refl
 
 betas : map (λ p. p.tau * p.eta) sets ≡ map (λ p. p.beta) sets
 unfolding sets

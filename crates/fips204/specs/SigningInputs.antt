@@ -5,7 +5,7 @@ use Rattle.fips204_base.specs.Residues.{vector_norm, coefficients}
 use Rattle.fips204_base.specs.Rounding.{high_bits, make_hint, use_hint}
 use Rattle.fips204_base.specs.Transforms.{product, plus}
 use Rattle.fips204_base.specs.Vectors.{AreSameModQ, IsVector, vector_coefficients, vector_of}
-use Rattle.fips204_base.specs.Network.{PolynomialWithin, VectorWithin}
+use Rattle.fips204_base.specs.Bounds.{PolynomialWithin, VectorWithin}
 use Rattle.fips204_base.specs.declared.fault.Fault.{Fault}
 use Rattle.fips204_base.specs.declared.fault.Fault.TheVariants.{SamplingLimit, SignCtx, HashCtx}
 use Rattle.fips204_base.specs.declared.types.R.{R}

@@ -1,6 +1,7 @@
 -- What is given by its transforms: the plain polynomials, and what steps over the transforms make of them.
 use Rattle.std.proofs.Common.{◌≡◌, ℕ, ◌<◌, ◌≤◌, ◌+◌, ◌*◌, ◌%◌, ◌^◌, ℤ, pos, List, [], get_or, arith, ap, sym, refl, ◌∙◌}
-use Rattle.fips204_base.specs.Network.{plain_row, plain_matrix, inverse_root, row_product, vector_residues}
+use Rattle.fips204_base.specs.Network.{plain_row, plain_matrix, inverse_root, row_product}
+use Rattle.fips204_base.specs.Bounds.{vector_residues}
 use Rattle.fips204_base.specs.Residues.{residue, coefficients, from_mont, IsCongruent}
 use Rattle.fips204_base.specs.Transforms.{transform, inverse_transform, pointwise, product, minus}
 use Rattle.fips204_base.specs.Lanes.{lane}

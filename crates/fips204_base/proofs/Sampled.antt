@@ -6,7 +6,8 @@ use Rattle.std.specs.declared.option.Option.{Option}
 use Rattle.std.specs.List.{range_with_len, All, cons_option}
 use Rattle.std.proofs.lemmas.List.{take_all, take_more_set, length-take-le}
 use Rattle.std.proofs.lemmas.List.FromFn.{map-range_with_len_more}
-use Rattle.fips204_base.specs.Network.{three_bytes, sampled_entry, sampled_row, triple, kept_triples, half_bytes, kept_half_bytes, small_vector, ValuesWithin, TransformsWithin}
+use Rattle.fips204_base.specs.Network.{three_bytes, sampled_entry, sampled_row, triple, kept_triples, half_bytes, kept_half_bytes, small_vector}
+use Rattle.fips204_base.specs.Bounds.{ValuesWithin, TransformsWithin}
 use Rattle.fips204_base.specs.declared.fault.Fault.{Fault}
 use Rattle.fips204_base.specs.declared.fault.Fault.TheVariants.{SamplingLimit}
 use Rattle.fips204_base.specs.Sampling.{all_present, first_256, coefficient_from_half_byte, matrix_entry, sampled_matrix, small_polynomial, small_vectors}

@@ -8,7 +8,7 @@ use Rattle.std.proofs.lemmas.List.FromFn.{get_or-map-range_with_len, length-map-
 use Rattle.fips204_base.specs.declared.types.R.{R}
 use Rattle.fips204_base.specs.Packing.{PolynomialInRange}
 use Rattle.fips204_base.specs.Vectors.{coefficient_of, IsVector, polynomial_of, vector_of}
-use Rattle.fips204_base.specs.Network.{VectorWithin}
+use Rattle.fips204_base.specs.Bounds.{VectorWithin}
 
 -- Lists that a loop writes row by row.
 

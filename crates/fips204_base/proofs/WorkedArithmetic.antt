@@ -1,12 +1,13 @@
 -- Worked values of residues, products, transforms, norms and rounding.
 use Rattle.std.proofs.Common.{◌≡◌, pos, negsuc, [], ◌∷◌, refl, cond, rules, ◌++◌, if◌then◌else◌, map, true, false, ◌*◌, ◌+◌, ◌-◌, ◌%◌, ◌^◌}
 use Rattle.std.proofs.Math.Dec.{eqb}
-use Rattle.fips204_base.specs.Residues.{residue, coefficients, sum_below, centred, norm, vector_norm, centred_modulo, IsMontgomery}
+use Rattle.fips204_base.specs.Residues.{residue, from_mont, coefficients, sum_below, centred, norm, vector_norm, centred_modulo, IsMontgomery}
 use Rattle.fips204_base.specs.Transforms.{bit_reversed, zeta_at, transform, inverse_transform, product, plus, minus, pointwise}
-use Rattle.fips204_base.specs.Vectors.{matrix_product}
+use Rattle.fips204_base.specs.Vectors.{coefficient_at, coefficient_of, matrix_product}
 use Rattle.std.specs.Prelude.{replicate, nat_eq}
 use Rattle.std.specs.List.{range_with_len, flat_map}
 use Rattle.fips204_base.specs.Packing.{polynomial_bytes, bits_to_bytes, bits, integer_to_bits, bits_to_integer, bit_length}
+use Rattle.fips204_base.specs.Lanes.{lane, lane_at}
 use Rattle.fips204_base.specs.Rounding.{power2round, decompose, make_hint, use_hint, high_count}
 
 -- Worked values of the definitions of residues, products and transforms.
@@ -113,8 +114,8 @@ decompose_edge_65_87 : map (decompose 261888) (8118528 ∷ 8118529 ∷ 8380416 �
 unfolding decompose
 decompose_edge_65_87 = refl
 
-high_values_of_sets : map high_count (95232 ∷ 261888 ∷ []) ≡ 44 ∷ 16 ∷ []
-high_values_of_sets = refl
+high_counts_of_sets : map high_count (95232 ∷ 261888 ∷ []) ≡ 44 ∷ 16 ∷ []
+high_counts_of_sets = refl
 
 -- at 0 a hint goes down, past 0 to the last value; above 0 up; at the last value from above back to 0
 use_hint_at_zero : (use_hint 95232 true 0 ∷ use_hint 261888 true 0 ∷ use_hint 95232 true 1 ∷ use_hint 95232 false 0 ∷ use_hint 95232 true 8285184 ∷ []) ≡ 43 ∷ 15 ∷ 1 ∷ 0 ∷ 0 ∷ []
@@ -145,3 +146,28 @@ sums_reduced = (refl, refl, refl)
 largest_norm : vector_norm (record { 0 = pos 3 ∷ [] } ∷ record { 0 = negsuc 6 ∷ [] } ∷ record { 0 = [] } ∷ []) ≡ 7
 unfolding centred
 largest_norm = refl
+
+norms_of_zeros : (norm (pos 0 ∷ []) ≡ 0) × (vector_norm (record { 0 = pos 0 ∷ [] } ∷ []) ≡ 0)
+unfolding centred
+norms_of_zeros = (refl, refl)
+
+-- the transform sums places 0 to 255, at points that are reduced
+transform_at_its_ends : (transform (λ j. if nat_eq j 255 then 1 else 0) 0 ≡ 7648983) × (transform (λ j. if nat_eq j 256 then 1 else 0) 0 ≡ 0)
+    × (transform (λ j. if nat_eq j 1 then 1 else 0) 1 ≡ 8378664)
+unfolding transform bit_reversed sum_below
+transform_at_its_ends = (refl, refl, refl)
+
+-- 4193792 is 2^32 modulo q
+montgomery_form_of_one : from_mont 4193792 ≡ 1
+montgomery_form_of_one = refl
+
+-- coefficients and lanes by place; those that are not there are 0
+by_place : (coefficient_at (pos 5 ∷ pos 7 ∷ []) 1 ≡ pos 7) × (coefficient_at [] 3 ≡ pos 0) × (lane (pos 5 ∷ pos 7 ∷ []) 1 ≡ pos 7) × (lane [] 3 ≡ pos 0)
+    × (coefficient_of (record { 0 = [] } ∷ record { 0 = pos 5 ∷ pos 7 ∷ [] } ∷ []) 1 1 ≡ pos 7)
+    × (lane_at (λ xs. xs) 1 [] ((pos 5 ∷ []) ∷ (pos 6 ∷ negsuc 6 ∷ []) ∷ []) 1 ≡ negsuc 6)
+by_place = (refl, refl, refl, refl, refl, refl)
+
+-- the largest number of 32 bits
+widest : bit_length 4294967295 ≡ 32
+unfolding bit_length
+widest = refl

@@ -142,3 +142,17 @@ block_of_a_stream = refl
 blocks_of_a_stream : counter_blocks (λ x. x) (7 ∷ []) 2 ≡ 7 ∷ 0 ∷ 0 ∷ 0 ∷ 0 ∷ 7 ∷ 1 ∷ 0 ∷ 0 ∷ 0 ∷ []
 unfolding counter_blocks counter_block
 blocks_of_a_stream = refl
+
+-- a coefficient of a bound a of 1 is packed by its distance from b, too
+packed_from_minus_one : polynomial_bytes (pos 1) (pos 1) (pos 1 ∷ pos 0 ∷ negsuc 0 ∷ pos 1 ∷ []) ≡ 36 ∷ []
+unfolding bits_to_bytes bits integer_to_bits bits_to_integer polynomial_bytes bit_length
+packed_from_minus_one = refl
+
+unpacked_from_minus_one : take 4 (unpacked 1 1 (36 ∷ [])).0 ≡ pos 1 ∷ pos 0 ∷ negsuc 0 ∷ pos 1 ∷ []
+unfolding bits integer_to_bits bits_to_integer unpacked bit_length
+unpacked_from_minus_one = refl
+
+-- a one behind place 255 is none
+one_behind_the_end : all_ones (record { 0 = replicate 256 (pos 0) ++ pos 1 ∷ [] } ∷ []) ≡ []
+unfolding all_ones is_one
+one_behind_the_end = refl

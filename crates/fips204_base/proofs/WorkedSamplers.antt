@@ -126,3 +126,27 @@ challenge_of_two = refl
 mask_begins_with_rho : map (λ w. take 2 w.0) (mask 131072 (λ seed. seed ++ replicate 573 0xFF) (5 ∷ []) 1 513) ≡ (negsuc 260 ∷ negsuc 131007 ∷ []) ∷ []
 unfolding mask polynomial_of unpacked bits integer_to_bits bits_to_integer bit_length
 mask_begins_with_rho = refl
+
+-- no more than 256 are taken
+first_of_more : option_map length (first_256 (replicate 257 (pos 7))) ≡ Some 256
+unfolding first_256
+first_of_more = refl
+
+-- no eta but 2 and 4 has coefficients
+half_bytes_of_other_eta : (coefficient_from_half_byte 1 0 ≡ None) × (coefficient_from_half_byte 3 0 ≡ None)
+half_bytes_of_other_eta = (refl, refl)
+
+sign_that_is_missing : signed_sum (3 ∷ []) [] 3 ≡ pos 0
+unfolding signed_sum
+sign_that_is_missing = refl
+
+-- at 253 and 254 the pick is 0 again, so that the first coefficients move; twelve bytes have three for picks
+challenge_of_zeros : option_map (λ c. take 2 c.0 ++ drop 253 c.0) (challenge 3 (replicate 12 0)) ≡ Some (pos 1 ∷ pos 0 ∷ pos 0 ∷ pos 1 ∷ pos 1 ∷ [])
+unfolding challenge picks places moved signed_sum polynomial_of bits integer_to_bits
+challenge_of_zeros = refl
+
+-- 254 is a pick for 254, and 5 twice moves what 254 has put there
+challenge_at_its_start : (option_map (λ c. drop 254 c.0) (challenge 2 (replicate 8 0 ++ 254 ∷ 1 ∷ replicate 6 0)) ≡ Some (pos 1 ∷ pos 0 ∷ []))
+    × (option_map (λ c. drop 254 c.0) (challenge 2 (replicate 8 0 ++ 5 ∷ 5 ∷ replicate 6 0)) ≡ Some (pos 0 ∷ pos 1 ∷ []))
+unfolding challenge picks places moved signed_sum polynomial_of bits integer_to_bits
+challenge_at_its_start = (refl, refl)

@@ -7,6 +7,7 @@ pub mod Vectors
 pub mod Rounding
 pub mod Lanes
 pub mod PlainTransforms
+pub mod Bounds
 pub mod Network
 pub mod Packing
 pub mod Encodings

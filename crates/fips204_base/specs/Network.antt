@@ -1,14 +1,15 @@
--- Butterflies, layers and lanes by place, what a sampler's loop keeps, bounds, and parts of definitions: cited by no public clause; nobody has to believe it.
-use Rattle.std.specs.Prelude.{◌≡◌, ℕ, ◌+◌, ◌*◌, ◌-◌, ◌/◌, ◌%◌, ◌^◌, ◌<◌, ◌≤◌, ◌≤ℤ◌, ◌⊎◌, ℤ, pos, ◌-ℤ◌, neg_ℤ, nat_abs, List, [], ◌∷◌, slice_index, slice_index_or, ◌++◌, take, drop, length, map, filter_map, flat_map, Option, Some, None, Result, MatchResult, nat_eq, nat_lt, int_lt, if◌then◌else◌}
+-- Butterflies, layers and lanes by place, what a sampler's loop keeps, and parts of definitions: cited by no public clause, but of functions marked internal; nobody has to believe it.
+use Rattle.std.specs.Prelude.{◌≡◌, ℕ, ◌+◌, ◌*◌, ◌-◌, ◌/◌, ◌%◌, ◌^◌, ◌<◌, ◌≤◌, ℤ, pos, ◌-ℤ◌, neg_ℤ, nat_abs, List, [], ◌∷◌, slice_index, slice_index_or, ◌++◌, take, drop, length, map, filter_map, flat_map, Option, Some, None, Result, MatchResult, nat_eq, nat_lt, int_lt, if◌then◌else◌}
 use Rattle.std.specs.Int.{w16, to_le_bytes}
 use Rattle.std.specs.List.{All, filter, range_with_len}
 use Rattle.fips204_base.specs.Encodings.{is_one, all_ones}
+use Rattle.fips204_base.specs.Bounds.{vector_residues}
 use Rattle.fips204_base.specs.Lanes.{lane, lane_at}
 use Rattle.fips204_base.specs.Packing.{bits, width, unpacked}
 use Rattle.fips204_base.specs.Residues.{residue, sum_below, centred_modulo, coefficients, IsCongruent}
 use Rattle.fips204_base.specs.Sampling.{all_present, coefficient_from_three_bytes, coefficient_from_half_byte, matrix_entry, picks, sampled_matrix, small_polynomial}
 use Rattle.fips204_base.specs.Transforms.{bit_reversed, zeta_at, inverse_transform, minus, product}
-use Rattle.fips204_base.specs.Vectors.{coefficient_at, coefficient_of, vector_coefficients, matrix_product}
+use Rattle.fips204_base.specs.Vectors.{vector_coefficients, matrix_product}
 use Rattle.fips204_base.specs.declared.fault.Fault.{Fault}
 use Rattle.fips204_base.specs.declared.fault.Fault.TheVariants.{SamplingLimit}
 use Rattle.fips204_base.specs.declared.types.R.{R}
@@ -59,18 +60,6 @@ EachPair Pair width a b x y = (j : ℕ) → j < width → Pair (lane a j) (lane 
 abbrev pub EachLaneOfRow : {V : Type 0} → ((ℕ → ℤ) → (ℕ → ℤ) → Type 0) → (V → List ℤ) → ℕ → List V → List V → Type 0
 EachLaneOfRow {V} Changed lanes width before after = (j : ℕ) (d : V) → j < width → Changed (lane_at lanes j d before) (lane_at lanes j d after)
 
--- the residues of a vector of transforms, by row and place
-abbrev pub vector_residues : List T → ℕ → ℕ → ℕ
-vector_residues v i = coefficients (slice_index_or v i record { 0 = [] }).0
-
--- value j of the product of a matrix's row of transforms with a vector, of l transforms each
-abbrev pub row_value : ℕ → List T → List T → ℕ → ℕ
-row_value l row u j = sum_below l (λ k. vector_residues row k j * vector_residues u k j) % 8380417
-
--- the first k of t are the products of the matrix's rows with a vector, of l transforms each
-abbrev pub AreRowProducts : ℕ → ℕ → List (List T) → List T → List T → Type 0
-AreRowProducts k l a u t = (i j : ℕ) → i < k → j < 256 → vector_residues t i j ≡ row_value l (slice_index_or a i []) u j
-
 -- the residues of a matrix of transforms, by row, column and place
 abbrev pub matrix_residues : List (List T) → ℕ → ℕ → ℕ → ℕ
 matrix_residues a i = vector_residues (slice_index_or a i [])
@@ -78,32 +67,6 @@ matrix_residues a i = vector_residues (slice_index_or a i [])
 -- the first count of the new values are the first `kept` of the old ones and then those given, as many as have room among 256
 abbrev pub AreKept : List ℤ → ℕ → List ℤ → List ℤ → ℕ → Type 0
 AreKept old kept given new count = take count new ≡ take 256 (take kept old ++ given)
-
--- ---- bounds, and what a step promises
-
--- eta at the parameter sets (FIPS 204, Table 1)
-abbrev pub IsEta : ℤ → Type 0
-IsEta eta = (eta ≡ pos 2) ⊎ (eta ≡ pos 4)
-
--- every number has an absolute value of at most m
-abbrev pub ValuesWithin : ℕ → List ℤ → Type 0
-ValuesWithin m w = All (λ x. nat_abs x ≤ m) w
-
--- each of the 256 coefficients of a polynomial has an absolute value of at most m
-abbrev pub PolynomialWithin : ℕ → List ℤ → Type 0
-PolynomialWithin m w = (n : ℕ) → n < 256 → nat_abs (coefficient_at w n) ≤ m
-
--- every coefficient of the k polynomials of a vector has an absolute value of at most m
-abbrev pub VectorWithin : ℕ → ℕ → List R → Type 0
-VectorWithin k m v = (r n : ℕ) → r < k → n < 256 → nat_abs (coefficient_of v r n) ≤ m
-
--- every coefficient of the k polynomials of a vector is from 0 to q - 1
-abbrev pub IsResidueVector : ℕ → List R → Type 0
-IsResidueVector k v = (r n : ℕ) → r < k → n < 256 → (pos 0 ≤ℤ coefficient_of v r n) × (coefficient_of v r n ≤ℤ pos 8380416)
-
--- every value of a vector of transforms has an absolute value of at most m
-abbrev pub TransformsWithin : ℕ → List T → Type 0
-TransformsWithin m v = All (λ t. ValuesWithin m t.0) v
 
 -- a step that samples the matrix of rho: it refuses where there is none, and else P holds of the matrix
 abbrev pub OnSampled : (List ℕ → List ℕ) → List ℕ → ℕ → ℕ → Result (Unit {0}) Fault → (List (List T) → Type 0) → Type 0

@@ -1,10 +1,10 @@
--- What is given by its transforms, as the plain polynomials that contracts see.
+-- What is given by its transforms, as the plain polynomials that contracts see: cited by no public clause; nobody has to believe it.
 use Rattle.std.specs.Prelude.{ℕ, ℤ, List, [], pos, ◌*◌, ◌%◌}
 use Rattle.fips204_base.specs.Residues.{coefficients, residue, from_mont, sum_below}
 use Rattle.fips204_base.specs.Transforms.{inverse_transform}
 use Rattle.fips204_base.specs.Lanes.{lane, residues}
 use Rattle.fips204_base.specs.Vectors.{polynomial_of, vector_of}
-use Rattle.fips204_base.specs.Network.{vector_residues}
+use Rattle.fips204_base.specs.Bounds.{vector_residues}
 use Rattle.fips204_base.specs.declared.types.R.{R}
 use Rattle.fips204_base.specs.declared.types.T.{T}
 

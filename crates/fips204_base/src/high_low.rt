@@ -4,7 +4,7 @@
 ghost use Rattle.std.specs.Prelude.{◌≡◌, ◌⊎◌, ◌<◌, ◌≤◌, ◌+◌, ◌-◌, ◌*◌, ◌/◌, ℤ, pos, ◌≤ℤ◌, nat_abs, int_lt};
 ghost use Rattle.fips204_base.specs.Residues.{residue};
 ghost use Rattle.fips204_base.specs.Vectors.{vector_coefficients, vector_of};
-ghost use Rattle.fips204_base.specs.Network.{IsResidueVector};
+ghost use Rattle.fips204_base.specs.Bounds.{IsResidueVector};
 ghost use Rattle.fips204_base.specs.Rounding.{IsGamma2, power2round, high_bits, low_bits, make_hint, high_count, use_hint};
 
 use crate::D;

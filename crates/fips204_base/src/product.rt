@@ -7,7 +7,7 @@ ghost use Rattle.fips204_base.specs.Lanes.{lane};
 ghost use Rattle.fips204_base.specs.Residues.{coefficients};
 ghost use Rattle.fips204_base.specs.Transforms.{minus, product};
 ghost use Rattle.fips204_base.specs.Vectors.{coefficient_at, coefficient_of, AreSameModQ, vector_coefficients, vector_of};
-ghost use Rattle.fips204_base.specs.Network.{PolynomialWithin, VectorWithin};
+ghost use Rattle.fips204_base.specs.Bounds.{PolynomialWithin, VectorWithin};
 ghost use Rattle.fips204_base.specs.declared.types.R.{R};
 
 mod matrix;
@@ -112,7 +112,7 @@ pub struct Factor {
 
 impl Model for Factor {
     ghost use Rattle.fips204_base.specs.declared.types.R.{R};
-    ghost use Rattle.fips204_base.specs.Network.{PolynomialWithin};
+    ghost use Rattle.fips204_base.specs.Bounds.{PolynomialWithin};
     ghost use Rattle.fips204_base.specs.PlainTransforms.{plain_factor};
 
     ghost Value = { R };

@@ -3,7 +3,8 @@
 
 ghost use Rattle.std.specs.Prelude.{◌≡◌, ◌≤◌, ◌<◌, ◌+◌, ◌*◌, ◌%◌, pos, nat_abs, take, drop, IfOk};
 ghost use Rattle.fips204_base.specs.Vectors.{vector_of};
-ghost use Rattle.fips204_base.specs.Network.{IsResidueVector, VectorWithin, OnSampled};
+ghost use Rattle.fips204_base.specs.Network.{OnSampled};
+ghost use Rattle.fips204_base.specs.Bounds.{IsResidueVector, VectorWithin};
 ghost use Rattle.fips204_base.specs.Residues.{residue};
 ghost use Rattle.fips204.specs.Keys.{key_vector};
 ghost use Rattle.fips204.specs.ParameterSets.{public_key_length};

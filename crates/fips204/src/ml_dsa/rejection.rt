@@ -5,7 +5,7 @@ ghost use Rattle.std.specs.Prelude.{◌≡◌, ◌<◌, ◌≤◌, ◌+◌, ◌*
 ghost use Rattle.fips204_base.specs.Residues.{centred, vector_norm, residue};
 ghost use Rattle.fips204_base.specs.Encodings.{all_ones};
 ghost use Rattle.fips204_base.specs.Vectors.{vector_coefficients, vector_of};
-ghost use Rattle.fips204_base.specs.Network.{VectorWithin};
+ghost use Rattle.fips204_base.specs.Bounds.{VectorWithin};
 ghost use Rattle.fips204_base.specs.Transforms.{minus, plus};
 ghost use Rattle.fips204_base.specs.Rounding.{IsGamma2, low_bits};
 ghost use Rattle.fips204.specs.SigningInputs.{AreCheckInputs, attempt_answer, hint_bit, checked_attempt};

@@ -6,7 +6,7 @@ ghost use Rattle.std.specs.List.{All};
 ghost use Rattle.fips204_base.specs.Sampling.{challenge};
 ghost use Rattle.fips204_base.specs.Packing.{PolynomialInRange};
 ghost use Rattle.fips204_base.specs.Vectors.{IsVector, vector_coefficients};
-ghost use Rattle.fips204_base.specs.Network.{PolynomialWithin, VectorWithin};
+ghost use Rattle.fips204_base.specs.Bounds.{PolynomialWithin, VectorWithin};
 ghost use Rattle.fips204_base.specs.Residues.{residue, coefficients};
 ghost use Rattle.fips204_base.specs.Transforms.{minus, product};
 ghost use Rattle.fips204_base.specs.Rounding.{IsGamma2, high_count, use_hint};

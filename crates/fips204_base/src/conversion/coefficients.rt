@@ -3,7 +3,7 @@
 
 ghost use Rattle.std.specs.Prelude.{◌≡◌, ◌<◌, nat_abs, slice_index};
 ghost use Rattle.fips204_base.specs.Sampling.{coefficient_from_three_bytes, coefficient_from_half_byte};
-ghost use Rattle.fips204_base.specs.Network.{IsEta};
+ghost use Rattle.fips204_base.specs.Bounds.{IsEta};
 
 use crate::Q;
 

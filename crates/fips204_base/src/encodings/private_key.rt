@@ -3,7 +3,7 @@
 
 ghost use Rattle.std.specs.Prelude.{◌≡◌, ◌≤◌, ◌+◌, ◌*◌, pos, nat_abs, length, take, drop, MatchResult, ◌-ℤ◌};
 ghost use Rattle.fips204_base.specs.Encodings.{PrivateParts, IsPrivateKeyOf, private_key_bytes};
-ghost use Rattle.fips204_base.specs.Network.{IsEta};
+ghost use Rattle.fips204_base.specs.Bounds.{IsEta};
 ghost use Rattle.fips204_base.specs.Packing.{width};
 ghost use Rattle.fips204_base.specs.Vectors.{VectorInRange};
 

@@ -4,7 +4,8 @@
 ghost use Rattle.std.specs.Prelude.{◌≡◌, ◌≤◌, ◌+◌, ◌⊎◌, length, nat_abs, ok_or, IfOk, IfErr, Some, None};
 ghost use Rattle.std.specs.List.{flat_map};
 ghost use Rattle.fips204_base.specs.Sampling.{small_polynomial, small_vectors};
-ghost use Rattle.fips204_base.specs.Network.{AreKept, kept_half_bytes, small_vector, IsEta};
+ghost use Rattle.fips204_base.specs.Network.{AreKept, kept_half_bytes, small_vector};
+ghost use Rattle.fips204_base.specs.Bounds.{IsEta};
 
 use crate::conversion::coeff_from_half_byte;
 use crate::fault::Fault;

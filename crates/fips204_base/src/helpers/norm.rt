@@ -3,7 +3,7 @@
 
 ghost use Rattle.std.specs.Prelude.{◌≡◌, ◌<◌, ◌≤◌, ℕ, pos, nat_abs};
 ghost use Rattle.fips204_base.specs.Vectors.{coefficient_at};
-ghost use Rattle.fips204_base.specs.Network.{VectorWithin};
+ghost use Rattle.fips204_base.specs.Bounds.{VectorWithin};
 ghost use Rattle.fips204_base.specs.Residues.{norm, vector_norm};
 
 use crate::helpers::reduce::center_mod;

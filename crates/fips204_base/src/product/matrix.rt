@@ -2,7 +2,8 @@
 #![tactic(auto)]
 
 ghost use Rattle.std.specs.Prelude.{◌≡◌, ◌≢◌, ◌<◌, ◌≤◌, ℕ, [], pos, nat_abs, slice_index_or};
-ghost use Rattle.fips204_base.specs.Network.{plain_row, row_product, TransformsWithin, VectorWithin, OnSampled};
+ghost use Rattle.fips204_base.specs.Network.{plain_row, row_product, OnSampled};
+ghost use Rattle.fips204_base.specs.Bounds.{TransformsWithin, VectorWithin};
 ghost use Rattle.fips204_base.specs.Lanes.{lane};
 ghost use Rattle.fips204_base.specs.PlainTransforms.{lanes_value};
 ghost use Rattle.fips204_base.specs.Residues.{residue};

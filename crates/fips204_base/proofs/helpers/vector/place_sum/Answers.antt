@@ -4,7 +4,7 @@ use Rattle.std.specs.Int.{w32, w64}
 use mir.Val.{SFits}
 use Rattle.std.proofs.lemmas.Int.{ints, to_z-of_z, fits_signed_from_abs}
 use Rattle.fips204_base.specs.Residues.{residue, sum_below}
-use Rattle.fips204_base.specs.Network.{vector_residues}
+use Rattle.fips204_base.specs.Bounds.{vector_residues}
 use Rattle.fips204_base.proofs.Residues.{residue_sum_more, size_sum_more, size_at}
 use Rattle.fips204_base.proofs.helpers.vector.place_sum.Goals as goal
 

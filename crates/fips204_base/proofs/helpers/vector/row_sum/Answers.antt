@@ -1,7 +1,7 @@
 use Rattle.std.proofs.Common.{ℕ, ◌≡◌, ◌<◌, ◌≤◌, ◌*◌, ◌%◌, ◌∙◌, arith, rules, ap, length, length-set, pos, get_or, to_z, of_z, w32}
 use Rattle.std.specs.Prelude.{nat_abs}
 use Rattle.fips204_base.specs.Residues.{residue}
-use Rattle.fips204_base.specs.Network.{row_value, vector_residues}
+use Rattle.fips204_base.specs.Bounds.{row_value, vector_residues}
 use Rattle.fips204_base.specs.PlainTransforms.{lanes_value}
 use Rattle.fips204_base.proofs.Residues.{sum_equal}
 use Rattle.fips204_base.proofs.Vectors.{row_written}

@@ -1,7 +1,7 @@
 use Rattle.std.proofs.Common.{ℕ, ℤ, ◌≡◌, ◌<◌, ◌≤◌, ◌*◌, ◌%◌, get_or, length}
 use Rattle.std.specs.Prelude.{nat_abs}
 use Rattle.fips204_base.specs.Residues.{coefficients, sum_below}
-use Rattle.fips204_base.specs.Network.{vector_residues}
+use Rattle.fips204_base.specs.Bounds.{vector_residues}
 use Rattle.fips204_base.proofs.helpers.vector.row_sum.Given as goal
 
 abbrev pub invariant-loop-j : goal.invariant-loop-j

@@ -2,7 +2,7 @@ use Rattle.std.proofs.Common.{ℕ, ◌≡◌, ◌<◌, ◌≤◌, length}
 use Rattle.std.specs.Prelude.{nat_abs}
 use Rattle.fips204_base.specs.Residues.{residue}
 use Rattle.fips204_base.specs.Lanes.{lane}
-use Rattle.fips204_base.specs.Network.{vector_residues}
+use Rattle.fips204_base.specs.Bounds.{vector_residues}
 use Rattle.fips204_base.proofs.helpers.vector.values_at.Given as goal
 
 abbrev pub invariant-loop-k : goal.invariant-loop-k

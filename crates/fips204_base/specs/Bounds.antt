@@ -1,0 +1,43 @@
+-- Ranges of numbers, polynomials and vectors, and products of transforms, in clauses of this crate's own functions; no call of `fips204` reaches them.
+use Rattle.std.specs.Prelude.{◌≡◌, ℕ, ◌*◌, ◌%◌, ◌<◌, ◌≤◌, ◌≤ℤ◌, ◌⊎◌, ℤ, pos, nat_abs, List, [], slice_index_or}
+use Rattle.std.specs.List.{All}
+use Rattle.fips204_base.specs.Residues.{coefficients, sum_below}
+use Rattle.fips204_base.specs.Vectors.{coefficient_at, coefficient_of}
+use Rattle.fips204_base.specs.declared.types.R.{R}
+use Rattle.fips204_base.specs.declared.types.T.{T}
+
+-- eta at the parameter sets (FIPS 204, Table 1)
+abbrev pub IsEta : ℤ → Type 0
+IsEta eta = (eta ≡ pos 2) ⊎ (eta ≡ pos 4)
+
+-- every number has an absolute value of at most m
+abbrev pub ValuesWithin : ℕ → List ℤ → Type 0
+ValuesWithin m w = All (λ x. nat_abs x ≤ m) w
+
+-- each of the 256 coefficients of a polynomial has an absolute value of at most m
+abbrev pub PolynomialWithin : ℕ → List ℤ → Type 0
+PolynomialWithin m w = (n : ℕ) → n < 256 → nat_abs (coefficient_at w n) ≤ m
+
+-- every coefficient of the k polynomials of a vector has an absolute value of at most m
+abbrev pub VectorWithin : ℕ → ℕ → List R → Type 0
+VectorWithin k m v = (r n : ℕ) → r < k → n < 256 → nat_abs (coefficient_of v r n) ≤ m
+
+-- every coefficient of the k polynomials of a vector is from 0 to q - 1
+abbrev pub IsResidueVector : ℕ → List R → Type 0
+IsResidueVector k v = (r n : ℕ) → r < k → n < 256 → (pos 0 ≤ℤ coefficient_of v r n) × (coefficient_of v r n ≤ℤ pos 8380416)
+
+-- every value of a vector of transforms has an absolute value of at most m
+abbrev pub TransformsWithin : ℕ → List T → Type 0
+TransformsWithin m v = All (λ t. ValuesWithin m t.0) v
+
+-- the residues of a vector of transforms, by row and place
+abbrev pub vector_residues : List T → ℕ → ℕ → ℕ
+vector_residues v i = coefficients (slice_index_or v i record { 0 = [] }).0
+
+-- value j of the product of a matrix's row of transforms with a vector, of l transforms each
+abbrev pub row_value : ℕ → List T → List T → ℕ → ℕ
+row_value l row u j = sum_below l (λ k. vector_residues row k j * vector_residues u k j) % 8380417
+
+-- the first k of t are the products of the matrix's rows with a vector, of l transforms each
+abbrev pub AreRowProducts : ℕ → ℕ → List (List T) → List T → List T → Type 0
+AreRowProducts k l a u t = (i j : ℕ) → i < k → j < 256 → vector_residues t i j ≡ row_value l (slice_index_or a i []) u j
