@@ -20,8 +20,7 @@ AcceptedIfWhole {P} {S} whole derives accepts answer = (pk : P) (signature : S) 
 abbrev pub DecodesAlone : {K B : Type 0} → (B → Result K Fault → Type 0) → B → K → Type 0
 DecodesAlone {K} {B} decodes bytes key = (answer : Result K Fault) → decodes bytes answer → answer ≡ Ok key
 
--- two keys are a pair: the private one is in range and whole, the public one is derived of it, and each is the one key that
--- its bytes decode to
+-- two keys are a pair: the private one is in range and whole, the public one is derived of it, and each is all that its bytes decode to
 pub record IsPair (p : ParameterSet) (H G : XOF) (pk : PublicParts) (sk : PrivateParts) : Type 0 where
   pub parts : ArePrivateParts p.eta p.k p.l sk
   pub whole : IsWhole p G sk

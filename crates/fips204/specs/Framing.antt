@@ -15,8 +15,7 @@ pub data Input : Type 0 where
 abbrev pub frame : ℕ → Bytes → Bytes → Bytes
 frame mode context text = mode ∷ length context ∷ context ++ text
 
--- mu, the message representative (line 6 of Algorithm 7): the first 64 bytes of H over tr and M'; a message is framed in mode 0,
--- and the OID with the digest in mode 1
+-- mu, the message representative (Algorithm 7, line 6): the first 64 bytes of H over tr and M', of mode 0 for a message, 1 for a digest
 abbrev pub representative : XOF → Bytes → Input → Bytes
 representative H tr (plain message context) = take 64 (H (tr ++ frame 0 context message))
 representative H tr (hashed digest context oid) = take 64 (H (tr ++ frame 1 context (oid ++ digest)))

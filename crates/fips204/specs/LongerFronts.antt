@@ -13,8 +13,7 @@ use Rattle.fips204.specs.Framing.{Input}
 use Rattle.fips204.specs.Refusals.{generated, derived, input_fault, sign_input, VerifiesInput}
 use Rattle.fips204.specs.Prepared.{prepared_private, prepared_public}
 
--- fronts in counter mode are prefixes of those with more blocks, so those of each two streams of the library that differ in
--- length alone
+-- fronts in counter mode are prefixes of those with more blocks; so are those of the library's streams that differ in length alone
 pub record CounterFrontsArePrefixes : Type 0 where
   pub blocks : (hash : Bytes → Bytes) (seed : Bytes) (n m : ℕ) → n ≤ m → IsPrefix (counter_blocks hash seed n) (counter_blocks hash seed m)
   pub sha256 : ArePrefixes sha256_front sha256_long_front
@@ -58,8 +57,7 @@ pub record AcceptanceStays (p : ParameterSet) (H G H' G' : XOF) : Type 0 where
       → YesAndNoStay (IsVerdictDecided p H G pk signature ⊎ (input_fault input ≢ None)) (VerifiesInput p H G pk signature input) (VerifiesInput p H' G' pk signature input)
   pub decoded : (bytes : Bytes) (pk : PublicParts) → IsPublicKeyOf H p.k bytes pk → IsPublicKeyOf H' p.k bytes pk
 
--- where each front of H and G is a prefix of the matching front of H' and G': samples stay, and at each of the three sets
--- answers stay
+-- where each front of H and G is a prefix of that of H' and G', samples stay, and at each of the three sets so do answers
 abbrev pub LongerFrontsKeep : XOF → XOF → XOF → XOF → Type 0
 LongerFrontsKeep H G H' G' =
     ArePrefixes H H' → ArePrefixes G G'

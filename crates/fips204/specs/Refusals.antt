@@ -16,8 +16,7 @@ abbrev pub refused_or : {A : Type 0} → Option Fault → Result A Fault → Res
 refused_or None answer = answer
 refused_or (Some fault) answer = Err fault
 
--- the first condition that an input breaks, or none: a context of at most 255 bytes, and then the conditions on digest and OID;
--- M' and mu have none
+-- the first condition that an input breaks, or none: a context of at most 255 bytes, then those on digest and OID; M' and mu have none
 abbrev pub input_fault : Input → Option Fault
 input_fault (plain message context) = if nat_lt 255 (length context) then Some SignCtx else None
 input_fault (hashed digest context oid) = if nat_lt 255 (length context) then Some HashCtx else pre_hash_fault digest oid
@@ -38,8 +37,7 @@ generated p H G xi =
 unfoldable pub derived : ParameterSet → XOF → PrivateParts → Result PublicParts Fault
 derived p G sk = ok_or (option_map (λ a. record { rho = sk.rho; tr = sk.tr; t1 = high_part p a sk.s1 sk.s2 }) (sampled_matrix G sk.rho p.k p.l)) SamplingLimit
 
--- signing an input from rnd: ML-DSA.Sign (Algorithm 2) of a message, HashML-DSA.Sign (Algorithm 4) of a digest,
--- ML-DSA.Sign_internal (Algorithm 7) of M'
+-- signing from rnd: ML-DSA.Sign (Algorithm 2) of a message, HashML-DSA.Sign (4) of a digest, ML-DSA.Sign_internal (7) of M'
 abbrev pub sign_input : ParameterSet → XOF → XOF → PrivateParts → Bytes → Input → Result Bytes Fault
 sign_input p H G sk rnd input = refused_or (input_fault input) (sign p H G sk (representative H sk.tr input) rnd)
 

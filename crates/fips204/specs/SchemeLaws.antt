@@ -93,8 +93,7 @@ SignatureFixesOne =
     (p : ParameterSet) (H G : XOF) (pk : PublicParts) (signature w1 other : Bytes) → IsSet p
     → Fixes p H G pk signature w1 → Fixes p H G pk signature other → w1 ≡ other
 
--- under a key two M' name a collision: of the two M', after tr, in mu; or of the two mu, before the w1 that the signature fixes, in
--- c_tilde
+-- under a key two M' name a collision: of tr || M' in mu, or of mu || w1 in c_tilde, for the w1 that the signature fixes
 pub record NamesCollision (p : ParameterSet) (H G : XOF) (pk : PublicParts) (signature m n : Bytes) : Type 0 where
   pub w1 : Bytes
   pub fixed : Fixes p H G pk signature w1
@@ -113,8 +112,7 @@ SignatureBindsInput =
     (p : ParameterSet) (H G : XOF) (pk : PublicParts) (x y : Input) (m n signature : Bytes) → IsSet p
     → AreFramedAlike x y m n → x ≢ y → VerifiesInput p H G pk signature x → VerifiesInput p H G pk signature y → NamesCollision p H G pk signature m n
 
--- under two keys with these bytes two M' name a collision: of the bytes in tr; of the two M', each after its tr, in mu; or of the two
--- mu, each before the w1 that the signature fixes under its key, in c_tilde
+-- under two keys two M' name a collision: of the keys' bytes in tr, of tr || M' in mu, or of mu || w1 in c_tilde, each key's own tr and w1
 pub record NamesKeyCollision (p : ParameterSet) (H G : XOF) (bytes others : Bytes) (pk other : PublicParts) (signature m n : Bytes) : Type 0 where
   pub w1 : Bytes
   pub fixed : Fixes p H G pk signature w1

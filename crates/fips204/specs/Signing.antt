@@ -74,8 +74,7 @@ first_answer (unsampled ∷ later) = Err SamplingLimit
 first_answer (rejected ∷ later) = first_answer later
 first_answer (signed signature ∷ later) = Ok signature
 
--- signing with the matrix a: the first of 814 attempts (Appendix C) that isn't rejected; attempt n has kappa = n l, and rho'' is the
--- seed of the masks
+-- signing with the matrix a: the first of 814 attempts (Appendix C) that isn't rejected; attempt n has kappa = n l
 unfoldable pub sign_with : ParameterSet → XOF → List (List T) → PrivateParts → Bytes → Bytes → Result Bytes Fault
 sign_with p H a sk mu rnd =
     let rho'' = take 64 (H (sk.key ++ rnd ++ mu)) in

@@ -15,8 +15,7 @@ is_one w n = int_lt (pos 0) (slice_index_or w.0 n (pos 0))
 unfoldable pub all_ones : List R → List ℕ
 all_ones h = flat_map (λ w. filter (is_one w) (range_with_len 0 256)) h
 
--- HintBitPack (Algorithm 20): the places of all ones, zeros up to byte omega, and for each polynomial how many ones there are up to
--- its end
+-- HintBitPack (Algorithm 20): the places of all ones, zeros up to byte omega, and the number of ones up to the end of each polynomial
 abbrev pub hint_bytes : ℕ → List R → Bytes
 hint_bytes omega h =
     all_ones h ++ replicate (omega - length (all_ones h)) 0 ++ map (λ i. length (all_ones (take (i + 1) h))) (range_with_len 0 (length h))
@@ -65,8 +64,7 @@ pub record IsPublicKeyOf (H : XOF) (k : ℕ) (bytes : Bytes) (pk : PublicParts) 
   pub encoding : public_key_bytes pk.rho pk.t1 ≡ bytes
   pub tr : pk.tr ≡ take 64 (H bytes)
 
--- a private key: the seed of its matrix, the seed K of its masks, the hash of the public key's bytes, its two small
--- vectors, and the low part of its vector t
+-- a private key: the seeds of its matrix and (K) of its masks, the hash of the public key's bytes, s1, s2, and the low part of its t
 pub record PrivateParts : Type 0 where
   pub rho : Bytes
   pub key : Bytes
@@ -97,8 +95,7 @@ pub record IsPrivateKeyOf (eta k l : ℕ) (bytes : Bytes) (sk : PrivateParts) : 
 abbrev pub signature_bytes : ℕ → ℕ → Bytes → List R → List R → Bytes
 signature_bytes gamma1 omega c_tilde z h = c_tilde ++ vector_bytes (gamma1 - 1) gamma1 z ++ hint_bytes omega h
 
--- sigDecode (Algorithm 27): the parts whose encoding the bytes are: c_tilde of so many bytes, z of l polynomials,
--- and a hint of k polynomials and at most omega ones
+-- sigDecode (Algorithm 27): the parts that have these bytes: c_tilde of n bytes, z of l polynomials, a hint of k with at most omega ones
 pub record IsSignature (gamma1 omega k l n : ℕ) (bytes c_tilde : Bytes) (z h : List R) : Type 0 where
   pub c_tilde_size : length c_tilde ≡ n
   pub response : IsVector l (gamma1 - 1) gamma1 z

@@ -34,8 +34,7 @@ make_hint gamma2 z r = not (nat_eq (high_bits gamma2 r) (high_bits gamma2 ((r + 
 abbrev pub high_count : ℕ → ℕ
 high_count gamma2 = 8380416 / (2 * gamma2)
 
--- UseHint (Algorithm 40): without a hint r1 of (r1, r0); with one r1 goes one up where r0 > 0 and else one down, modulo the number
--- of values
+-- UseHint (Algorithm 40): r1 of (r1, r0) without a hint; with one it goes up by 1 where r0 > 0, else down by 1, modulo the count of values
 unfoldable pub use_hint : ℕ → Bool → ℕ → ℕ
 use_hint gamma2 hint r =
     let parts = decompose gamma2 r in

@@ -38,23 +38,20 @@ matrix_entry front =
     let triple = λ (p : ℕ). coefficient_from_three_bytes (slice_index front (3 * p)) (slice_index front (3 * p + 1)) (slice_index front (3 * p + 2)) in
     option_map (λ values. record { 0 = values }) (first_256 (filter_map triple (range_with_len 0 (length front / 4))))
 
--- ExpandA (Algorithm 32): k rows of l entries, or none where an entry is none; the entry at row r and column s is sampled from G
--- over rho, its column and its row, a byte each
+-- ExpandA (Algorithm 32): k rows of l entries, that at row r and column s from G over rho and the bytes s and r; or none where one is none
 unfoldable pub sampled_matrix : XOF → Bytes → ℕ → ℕ → Option (List (List T))
 sampled_matrix G rho k l =
     all_present (map (λ r. all_present (map (λ s. matrix_entry (G (rho ++ s ∷ r ∷ []))) (range_with_len 0 l))) (range_with_len 0 k))
 
 -- ---- Small polynomials (Algorithms 31 and 33)
 
--- RejBoundedPoly (Algorithm 31): the first 256 coefficients of the half bytes, the low half of a byte first, of the first bytes, a
--- quarter of the front, or none
+-- RejBoundedPoly (Algorithm 31): the first 256 coefficients of half bytes, a byte's low one first, of the front's first quarter; or none
 unfoldable pub small_polynomial : ℕ → Bytes → Option R
 small_polynomial eta front =
     let half_bytes = flat_map (λ byte. byte % 16 ∷ byte / 16 ∷ []) (take (length front / 4) front) in
     option_map (λ values. record { 0 = values }) (first_256 (filter_map (coefficient_from_half_byte eta) half_bytes))
 
--- ExpandS (Algorithm 33): s1 of l polynomials, with the numbers from 0 on, and s2 of k, with those from l on, each polynomial
--- from H(rho', number in two bytes); or none where one is none
+-- ExpandS (Algorithm 33): s1, polynomials 0 to l - 1, and s2, l to l + k - 1, that at r from H(rho', r in two bytes); or none
 unfoldable pub small_vectors : ℕ → XOF → Bytes → ℕ → ℕ → Option (List R × List R)
 small_vectors eta H rho k l =
     let vector = λ (first count : ℕ). all_present (map (λ r. small_polynomial eta (H (rho ++ to_le_bytes w16 r))) (range_with_len first count)) in
@@ -67,8 +64,7 @@ unfoldable pub picks : ℕ → Bytes → List ℕ
 picks i [] = []
 picks i (byte ∷ bytes) = (if nat_le byte i then byte ∷ [] else []) ++ picks (if nat_le byte i then i + 1 else i) bytes
 
--- the place that a coefficient comes to, from its place before i on: wherever a later number picks that place, the
--- coefficient moves to the place of that number
+-- where the coefficient at `place` before i comes to: each later number that picks the place it is at moves it to the number's own place
 unfoldable pub moved : ℕ → ℕ → List ℕ → ℕ
 moved i place [] = place
 moved i place (pick ∷ later) = moved (i + 1) (if nat_eq pick place then i else place) later
@@ -95,7 +91,6 @@ challenge tau front =
 
 -- ---- The mask (Algorithm 34)
 
--- ExpandMask (Algorithm 34): l polynomials, the one at r from H(rho'', kappa + r in two bytes); with c bits a coefficient, 18 or 20,
--- the first 32 c bytes are read
+-- ExpandMask (Algorithm 34): l polynomials, that at r from the first bits of H(rho'', kappa + r in two bytes), 18 or 20 a coefficient
 unfoldable pub mask : ℕ → XOF → Bytes → ℕ → ℕ → List R
 mask gamma1 H rho l kappa = map (λ r. unpacked (gamma1 - 1) gamma1 (H (rho ++ to_le_bytes w16 (kappa + r)))) (range_with_len 0 l)
