@@ -62,10 +62,8 @@ attempt p H a sk mu rho'' kappa =
     let w = matrix_product p.l a (vector_coefficients y) in
     let w1 = vector_of p.k (λ r n. pos (high_bits p.gamma2 (w r n))) in
     let c_tilde = commitment_hash p H mu w1 in
-    unwrap_or
-    (option_map (λ c. if passes_checks p sk y w c then signed (signature_bytes p.gamma1 p.omega c_tilde (response p sk y c) (hint_vector p sk w c)) else rejected)
-    (challenge p.tau (H c_tilde)))
-    unsampled
+    let checked = λ (c : R). if passes_checks p sk y w c then signed (signature_bytes p.gamma1 p.omega c_tilde (response p sk y c) (hint_vector p sk w c)) else rejected in
+    unwrap_or (option_map checked (challenge p.tau (H c_tilde))) unsampled
 
 -- the answer of the first attempt that isn't rejected
 unfoldable pub first_answer : List Attempt → Result Bytes Fault
