@@ -19,8 +19,7 @@ use Rattle.fips204.specs.Signing.{first_answer, unsampled, rejected, signed, com
 use Rattle.std.specs.Prelude.{◌/◌, ◌^◌, replicate, nat_eq, get_or, option_map}
 use Rattle.std.specs.List.{range_with_len, flat_map}
 use Rattle.fips204.specs.declared.types.pre_hash.TheConstants.{SHA2_224, SHA2_256, SHA2_384, SHA2_512, SHA2_512_224, SHA2_512_256, SHA3_224, SHA3_256, SHA3_384, SHA3_512, SHAKE_128, SHAKE_256}
-use Rattle.fips204.specs.Framing.{plain, hashed, framed, represented, representative, hashes, digest_length, pre_hash_fault}
-use Rattle.fips204.specs.Constants.{hash_oid}
+use Rattle.fips204.specs.Framing.{plain, hashed, framed, represented, representative, hash_oid, hashes, digest_length, pre_hash_fault}
 use Rattle.fips204.specs.Refusals.{generated, input_fault, sign_input}
 use Rattle.fips204.specs.SchemeLaws.{framing}
 

@@ -1,7 +1,6 @@
 -- The public constants, by their values (FIPS 204, Tables 1 and 2, section 5.4 and Appendices B and C).
-use Rattle.std.specs.Prelude.{◌≡◌, ℕ, ◌*◌, ◌%◌, ◌^◌, pos, nat_abs, [], ◌∷◌, map, replicate}
+use Rattle.std.specs.Prelude.{◌≡◌, ℕ, ◌*◌, ◌%◌, ◌^◌, pos, nat_abs, map, replicate}
 use Rattle.std.specs.List.{range_with_len}
-use Rattle.fips204_base.specs.Streams.{Bytes}
 use Rattle.fips204_base.specs.Transforms.{bit_reversed}
 use Rattle.fips204_base.specs.declared.TheConstants.{Q, ZETA, D}
 use Rattle.fips204_base.specs.declared.types.TheConstants.{R0, T0}
@@ -11,11 +10,8 @@ use Rattle.fips204.specs.declared.ml_dsa_44.TheConstants as lengths_44
 use Rattle.fips204.specs.declared.ml_dsa_65.TheConstants as lengths_65
 use Rattle.fips204.specs.declared.ml_dsa_87.TheConstants as lengths_87
 use Rattle.fips204.specs.declared.types.pre_hash.TheConstants as hash
+use Rattle.fips204.specs.Framing.{hash_oid}
 use Rattle.fips204.specs.ParameterSets.{set_44, set_65, set_87, public_key_length, private_key_length, signature_length}
-
--- the OID 2.16.840.1.101.3.4.2.n in DER
-abbrev pub hash_oid : ℕ → Bytes
-hash_oid n = 0x06 ∷ 0x09 ∷ 0x60 ∷ 0x86 ∷ 0x48 ∷ 0x01 ∷ 0x65 ∷ 0x03 ∷ 0x04 ∷ 0x02 ∷ n ∷ []
 
 -- the modulus, the root of unity and its powers, the zeros, the limits, and the identifiers of the hashes
 pub record ConstantsStand : Type 0 where

@@ -30,10 +30,13 @@ hashes =
     ∷ (0x07, 28) ∷ (0x08, 32) ∷ (0x09, 48) ∷ (0x0A, 64)
     ∷ (0x0B, 32) ∷ (0x0C, 64) ∷ []
 
--- how many bytes the digest has, where the OID is that of one of these hashes: 2.16.840.1.101.3.4.2 and the last byte, in DER
+-- the OID 2.16.840.1.101.3.4.2.n in DER
+abbrev pub hash_oid : ℕ → Bytes
+hash_oid n = 0x06 ∷ 0x09 ∷ 0x60 ∷ 0x86 ∷ 0x48 ∷ 0x01 ∷ 0x65 ∷ 0x03 ∷ 0x04 ∷ 0x02 ∷ n ∷ []
+
+-- how many bytes the digest has, where the OID is that of one of these hashes
 unfoldable pub digest_length : Bytes → Option ℕ
-digest_length oid = option_map (λ hash. hash.1)
-    (find (λ hash. bytes_eq oid (0x06 ∷ 0x09 ∷ 0x60 ∷ 0x86 ∷ 0x48 ∷ 0x01 ∷ 0x65 ∷ 0x03 ∷ 0x04 ∷ 0x02 ∷ hash.0 ∷ [])) hashes)
+digest_length oid = option_map (λ hash. hash.1) (find (λ hash. bytes_eq oid (hash_oid hash.0)) hashes)
 
 -- the first condition that the digest and the OID break, or none; an OID in DER has at least three bytes, the first 06, and the
 -- second below 128 and the number of bytes after it; under the OID of one of the twelve hashes a digest has the length of that
