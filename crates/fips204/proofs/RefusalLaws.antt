@@ -10,7 +10,7 @@ use Rattle.fips204.specs.ParameterSets.{ParameterSet}
 use Rattle.fips204_base.specs.Encodings.{PrivateParts}
 use Rattle.fips204.specs.Signing.{Attempt, unsampled, rejected, signed, attempt, first_answer, sign_with, sign}
 use Rattle.fips204.specs.Framing.{Input, representative}
-use Rattle.fips204.specs.RefusalLaws.{RefusesOnly}
+use Rattle.fips204.specs.SchemeLaws.{RefusesOnly}
 use Rattle.fips204.specs.SigningInputs.{mask_seed}
 use Rattle.fips204.proofs.KeyGeneration.{key_pair_of_seed, generated-by_parts}
 use Rattle.fips204.specs.Refusals.{derived, refused_or, input_fault, sign_input, OnlySamplingLimit, IsSigningLimit}

@@ -11,7 +11,6 @@ pub mod Refusals
 pub mod Prepared
 pub mod SchemeLaws
 pub mod Completeness
-pub mod RefusalLaws
 pub mod LongerFronts
 pub use Rattle.fips204_base.specs.FrontLengths
 pub use Rattle.fips204_base.specs.Residues

@@ -1,7 +1,7 @@
--- What rounding, hints, challenges and spellings promise to signing and verifying (FIPS 204, sections 2.3 and 7.4), and what a
--- framed message and a signature determine (Algorithms 2 to 5 and 8).
-use Rattle.std.specs.Prelude.{◌≡◌, ◌⊎◌, ◌<◌, ◌≤◌, ℕ, ◌+◌, ◌-◌, ◌*◌, ◌%◌, List, pos, ◌-ℤ◌, nat_abs, true, false, length, Some, ◌≢◌, ◌++◌, take, None, IsTrue, Option, Bool}
-use Rattle.fips204_base.specs.Encodings.{PublicParts, IsPublicKeyOf, IsSignature, Spells, all_ones, hint_bytes}
+-- What rounding, hints, challenges and spellings promise (FIPS 204, sections 2.3 and 7.4), what M' and a signature determine, and which
+-- refusals there are (Algorithms 1 to 5 and 8).
+use Rattle.std.specs.Prelude.{◌≡◌, ◌⊎◌, ◌<◌, ◌≤◌, ℕ, ◌+◌, ◌-◌, ◌*◌, ◌%◌, List, pos, ◌-ℤ◌, nat_abs, true, false, length, Some, ◌≢◌, ◌++◌, take, None, IsTrue, Option, Bool, IfErr}
+use Rattle.fips204_base.specs.Encodings.{PublicParts, PrivateParts, IsPublicKeyOf, IsSignature, Spells, all_ones, hint_bytes}
 use Rattle.fips204_base.specs.Packing.{width}
 use Rattle.fips204_base.specs.Residues.{centred, norm, coefficients}
 use Rattle.fips204_base.specs.Rounding.{IsGamma2, high_bits, low_bits, make_hint, use_hint}
@@ -14,7 +14,8 @@ use Rattle.fips204_base.specs.declared.types.T.{T}
 use Rattle.fips204.specs.Acceptance.{Opens}
 use Rattle.fips204.specs.Framing.{Input, framed, plain, hashed, represented, frame, representative}
 use Rattle.fips204.specs.ParameterSets.{ParameterSet, c_tilde_length, IsSet}
-use Rattle.fips204.specs.Refusals.{input_fault, VerifiesInput}
+use Rattle.fips204.specs.Prepared.{prepared_private, prepared_public}
+use Rattle.fips204.specs.Refusals.{generated, derived, input_fault, sign_input, VerifiesInput, OnlySamplingLimit, IsSigningLimit}
 
 -- with the hint of z the high bits of r become those of r + z, where z is at most gamma2 in absolute value
 abbrev pub HintGivesHighBits : Type 0
@@ -143,3 +144,12 @@ OtherHintCollides =
     (p : ParameterSet) (H G : XOF) (pk : PublicParts) (input : Input) (first second : Bytes) → IsSet p → first ≢ second
     → take (c_tilde_length p + 32 * width (pos (p.gamma1 - 1)) (pos p.gamma1) * p.l) first ≡ take (c_tilde_length p + 32 * width (pos (p.gamma1 - 1)) (pos p.gamma1) * p.l) second
     → VerifiesInput p H G pk first input → VerifiesInput p H G pk second input → NamesHintCollision p H G pk (representative H pk.tr input) first second
+
+-- making, deriving and preparing keys refuse at a sampler's limit alone; signing also where every attempt is rejected, and for the
+-- condition that its input breaks, which M' and mu never do
+pub record RefusesOnly (p : ParameterSet) (H G : XOF) : Type 0 where
+  pub pairs : (xi : Bytes) → OnlySamplingLimit (generated p H G xi)
+  pub derived_keys : (sk : PrivateParts) → OnlySamplingLimit (derived p G sk)
+  pub private_keys : (sk : PrivateParts) → OnlySamplingLimit (prepared_private p G sk)
+  pub public_keys : (pk : PublicParts) → OnlySamplingLimit (prepared_public p G pk)
+  pub inputs : (sk : PrivateParts) (rnd : Bytes) (input : Input) → IfErr (sign_input p H G sk rnd input) (λ fault. (input_fault input ≡ Some fault) ⊎ IsSigningLimit fault)
