@@ -7,8 +7,7 @@ use Rattle.fips204_base.specs.declared.types.R.{R}
 use Rattle.fips204_base.specs.declared.types.T.{T}
 use Rattle.fips204_base.specs.Sampling.{challenge, mask}
 use Rattle.fips204_base.specs.Encodings.{PrivateParts, w1_bytes}
-use Rattle.fips204_base.specs.Packing.{PolynomialInRange}
-use Rattle.fips204_base.specs.Vectors.{coefficient_of, vector_coefficients, matrix_product, vector_of}
+use Rattle.fips204_base.specs.Vectors.{vector_coefficients, matrix_product, vector_of}
 use Rattle.fips204_base.specs.Transforms.{minus}
 use Rattle.fips204_base.specs.Residues.{residue}
 use Rattle.fips204_base.specs.Rounding.{high_bits, high_count, low_bits}
@@ -21,7 +20,7 @@ use Rattle.fips204.specs.Signing.{attempt, commitment_hash, hint_vector, passes_
 use Rattle.fips204.specs.ParameterSets.{ParameterSet, c_tilde_length}
 use Rattle.fips204.specs.SigningInputs.{attempt_answer, scaled, high_vector, hint_bit, checked_attempt}
 use Rattle.fips204.proofs.ParameterSets.{rounding-size}
-use Rattle.fips204_base.specs.Bounds.{VectorWithin}
+use Rattle.fips204_base.specs.Bounds.{VectorWithin, PolynomialInRange, coefficient_of}
 
 -- ---- vectors of the same coefficients
 

@@ -5,7 +5,8 @@ use Rattle.std.proofs.lemmas.Bool.{cases_lt, le-leb, lt-leb}
 use Rattle.fips204_base.specs.Network.{product_difference, plain_matrix, row_product}
 use Rattle.fips204_base.specs.declared.types.R.{R}
 use Rattle.fips204_base.specs.declared.types.T.{T}
-use Rattle.fips204_base.specs.Vectors.{coefficient_of, vector_coefficients, matrix_product, vector_of, IsVector}
+use Rattle.fips204_base.specs.Vectors.{vector_coefficients, matrix_product, vector_of, IsVector}
+use Rattle.fips204_base.specs.Bounds.{coefficient_of}
 use Rattle.fips204_base.specs.Residues.{centred, vector_norm, IsCongruent, residue, coefficients}
 use Rattle.fips204_base.specs.Transforms.{product, plus, minus}
 use Rattle.fips204_base.specs.Rounding.{power2round, high_bits, low_bits, make_hint, use_hint}

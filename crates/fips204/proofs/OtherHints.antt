@@ -12,7 +12,8 @@ use Rattle.fips204_base.specs.Encodings.{is_one, vector_bytes, hint_bytes, signa
 use Rattle.fips204_base.specs.Packing.{width}
 use Rattle.fips204_base.specs.Rounding.{use_hint, high_bits, low_bits, high_count}
 use Rattle.fips204_base.specs.Sampling.{challenge}
-use Rattle.fips204_base.specs.Vectors.{coefficient_of, IsVector}
+use Rattle.fips204_base.specs.Vectors.{IsVector}
+use Rattle.fips204_base.specs.Bounds.{coefficient_of}
 use Rattle.fips204_base.proofs.Bits.{cut}
 use Rattle.fips204_base.proofs.EncodedParts.{same_vector}
 use Rattle.fips204_base.proofs.Rounding.{high_bits_below}

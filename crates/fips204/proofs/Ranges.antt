@@ -10,7 +10,7 @@ use mir.Val.{Val}
 use denote.Array.{each, in_array}
 use denote.Shadow.{shadow}
 use Rattle.fips204_base.specs.Network.{sign_of, challenge_picks}
-use Rattle.fips204_base.specs.Bounds.{PolynomialWithin}
+use Rattle.fips204_base.specs.Bounds.{PolynomialWithin, coefficient_at, coefficient_of}
 use Rattle.fips204_base.specs.declared.types.R.{R}
 use Rattle.fips204_base.specs.contracts.types.R.{the_row}
 use Rattle.std.specs.Prelude.{nat_eq, nat_lt}
@@ -18,7 +18,7 @@ use Rattle.std.proofs.lemmas.Bool.{cases_Bool, cases_lt, eqb-true, lt-ltb, le-lt
 use Rattle.std.proofs.lemmas.Int.{ints}
 use Rattle.std.proofs.lemmas.Option.{none-some}
 use Rattle.fips204_base.specs.Packing.{bits}
-use Rattle.fips204_base.specs.Vectors.{coefficient_at, coefficient_of, polynomial_of, vector_of}
+use Rattle.fips204_base.specs.Vectors.{polynomial_of, vector_of}
 use Rattle.fips204_base.specs.Sampling.{signed_sum, challenge}
 use Rattle.fips204_base.proofs.Challenges.{challenge_places, challenge_places-apart, length-challenge_places, sum-elsewhere}
 use Rattle.fips204_base.proofs.Vectors.{polynomial_of-at, vector_of-same}

@@ -6,8 +6,10 @@ use Rattle.std.proofs.lemmas.Bool.{cases_lt, le-leb, lt-leb}
 use Rattle.std.proofs.lemmas.Int.{ints}
 use Rattle.fips204_base.specs.declared.types.R.{R}
 use Rattle.fips204_base.specs.Residues.{centred, vector_norm, residue, coefficients}
-use Rattle.fips204_base.specs.Packing.{PolynomialInRange, width}
-use Rattle.fips204_base.specs.Vectors.{coefficient_of, vector_of, IsVector, vector_coefficients, AreSameModQ}
+use Rattle.fips204_base.specs.Packing.{width}
+use Rattle.fips204_base.specs.Bounds.{PolynomialInRange, coefficient_of}
+use Rattle.fips204_base.specs.Vectors.{vector_of, IsVector, vector_coefficients}
+use Rattle.fips204_base.specs.Network.{AreSameModQ}
 use Rattle.fips204_base.specs.Transforms.{product, plus, minus}
 use Rattle.fips204_base.specs.Rounding.{low_bits, make_hint}
 use Rattle.fips204_base.proofs.Reductions.{centred_is}

@@ -11,9 +11,8 @@ use Rattle.fips204_base.specs.declared.types.T.{T}
 use Rattle.fips204_base.specs.Residues.{vector_norm, residue, coefficients}
 use Rattle.fips204_base.specs.Sampling.{challenge, sampled_matrix}
 use Rattle.fips204_base.specs.Encodings.{PublicParts, IsSignature, is_one, w1_bytes}
-use Rattle.fips204_base.specs.Packing.{PolynomialInRange}
-use Rattle.fips204_base.specs.Vectors.{coefficient_of, IsVector, vector_coefficients, matrix_product, vector_of}
-use Rattle.fips204_base.specs.Bounds.{VectorWithin}
+use Rattle.fips204_base.specs.Vectors.{IsVector, vector_coefficients, matrix_product, vector_of}
+use Rattle.fips204_base.specs.Bounds.{VectorWithin, PolynomialInRange, coefficient_of}
 use Rattle.fips204_base.specs.Transforms.{product, minus}
 use Rattle.fips204_base.specs.Rounding.{use_hint, high_bits, low_bits, high_count}
 use Rattle.fips204_base.proofs.Rounding.{high_bits_below}
@@ -21,8 +20,8 @@ use Rattle.fips204_base.proofs.Products.{product_same}
 use Rattle.fips204_base.proofs.Residues.{congruent_of, congruent_refl, residue_below}
 use Rattle.fips204_base.proofs.Vectors.{vector_of-ext, vector_of-range, vector-within}
 use Rattle.fips204_base.proofs.EncodedParts.{same_signature}
-use Rattle.fips204.specs.Acceptance.{AreShifted, w1_prime, Accepts, Verifies}
-use Rattle.fips204.specs.SigningInputs.{HasShortParts, t1_shifted, hinted}
+use Rattle.fips204.specs.Acceptance.{w1_prime, Accepts, Verifies}
+use Rattle.fips204.specs.SigningInputs.{HasShortParts, t1_shifted, hinted, AreShifted}
 use Rattle.fips204.specs.Signing.{commitment_hash}
 use Rattle.fips204.specs.declared.types.Params.{Params}
 use Rattle.fips204.specs.ParameterSets.{ParameterSet, c_tilde_length}

@@ -11,10 +11,6 @@ use Rattle.fips204_base.specs.Sampling.{sampled_matrix, challenge}
 use Rattle.fips204_base.specs.Streams.{Bytes, XOF}
 use Rattle.fips204.specs.ParameterSets.{ParameterSet, c_tilde_length}
 
--- the first k polynomials of v are those of t1 2^13, modulo q
-abbrev pub AreShifted : ℕ → List R → List R → Type 0
-AreShifted k t1 v = (r n : ℕ) → r < k → n < 256 → vector_coefficients v r n ≡ 8192 * vector_coefficients t1 r n % 8380417
-
 -- w1' = UseHint(h, A z - c t1 2^13), coefficient by coefficient
 unfoldable pub w1_prime : ParameterSet → List (List T) → List R → List R → List R → R → List R
 w1_prime p a t1 z h c = vector_of p.k (λ r n.

@@ -1,10 +1,11 @@
 -- What private functions of signing take and answer, and parts of definitions: cited by no public clause; nobody has to believe it.
-use Rattle.std.specs.Prelude.{◌+◌, ◌-◌, ◌*◌, ◌%◌, ◌<◌, ◌≤◌, ℕ, List, [], ◌∷◌, ◌++◌, length, take, slice_index, Bool, ◌&&◌, nat_eq, nat_lt, nat_le, if◌then◌else◌, Option, Some, None, Result, Ok, Err, ℤ, pos, slice_index_or, option_map, unwrap_or}
+use Rattle.std.specs.Prelude.{◌≡◌, ◌+◌, ◌-◌, ◌*◌, ◌%◌, ◌<◌, ◌≤◌, ℕ, List, [], ◌∷◌, ◌++◌, length, take, slice_index, Bool, ◌&&◌, nat_eq, nat_lt, nat_le, if◌then◌else◌, Option, Some, None, Result, Ok, Err, ℤ, pos, slice_index_or, option_map, unwrap_or}
 use Rattle.fips204_base.specs.Encodings.{PrivateParts, IsSignature, public_key_bytes, signature_bytes, is_one}
 use Rattle.fips204_base.specs.Residues.{vector_norm, coefficients}
 use Rattle.fips204_base.specs.Rounding.{high_bits, make_hint, use_hint}
 use Rattle.fips204_base.specs.Transforms.{product, plus}
-use Rattle.fips204_base.specs.Vectors.{AreSameModQ, IsVector, vector_coefficients, vector_of}
+use Rattle.fips204_base.specs.Vectors.{IsVector, vector_coefficients, vector_of}
+use Rattle.fips204_base.specs.Network.{AreSameModQ}
 use Rattle.fips204_base.specs.Bounds.{PolynomialWithin, VectorWithin}
 use Rattle.fips204_base.specs.declared.fault.Fault.{Fault}
 use Rattle.fips204_base.specs.declared.fault.Fault.TheVariants.{SamplingLimit, SignCtx, HashCtx}
@@ -22,6 +23,10 @@ pub record AreKeyTransforms (k l : ℕ) (sk : PrivateParts) (t : KeyTransforms) 
   pub first : AreSameModQ l t.s1_hat sk.s1
   pub second : AreSameModQ k t.s2_hat sk.s2
   pub low : AreSameModQ k t.t0_hat sk.t0
+
+-- what multiplies is t1 2^13, of k polynomials
+abbrev pub AreShifted : ℕ → List R → List R → Type 0
+AreShifted k t1 v = (r n : ℕ) → r < k → n < 256 → vector_coefficients v r n ≡ 8192 * vector_coefficients t1 r n % 8380417
 
 -- what an attempt takes beside the key: a set whose sizes the call has, and a counter of its masks that leaves room for one of
 -- each row

@@ -4,9 +4,9 @@ use Rattle.std.specs.List.{All}
 use Rattle.std.proofs.lemmas.Int.{ints}
 use Rattle.std.proofs.lemmas.List.Elements.{All-head, All-tail}
 use Rattle.fips204_base.specs.declared.types.R.{R}
-use Rattle.fips204_base.specs.Encodings.{IsGamma1, PrivateParts, public_key_bytes, IsPrivateKeyOf, vector_bytes, IsSignature, private_key_bytes, signature_bytes, Spells, hint_bytes}
-use Rattle.fips204_base.specs.Bounds.{IsEta}
-use Rattle.fips204_base.specs.Packing.{PolynomialInRange, polynomial_bytes, Bounds, bit_length, width}
+use Rattle.fips204_base.specs.Encodings.{PrivateParts, public_key_bytes, IsPrivateKeyOf, vector_bytes, IsSignature, private_key_bytes, signature_bytes, Spells, hint_bytes}
+use Rattle.fips204_base.specs.Bounds.{IsEta, IsGamma1, PolynomialInRange, Bounds}
+use Rattle.fips204_base.specs.Packing.{polynomial_bytes, bit_length, width}
 use Rattle.fips204_base.proofs.Bits.{cut}
 use Rattle.fips204_base.proofs.Packing.{length-polynomial_bytes, same_polynomial}
 use Rattle.std.proofs.lemmas.List.{take_all, take_at, drop_at}

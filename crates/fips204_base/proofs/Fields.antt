@@ -10,7 +10,8 @@ use Rattle.std.proofs.lemmas.List.Sums.{sum_by-cons}
 use Rattle.std.proofs.lemmas.List.Elements.{All-map, All-weaker, All-push, All-nil, All-cons, All-head, All-tail}
 use Rattle.std.proofs.lemmas.Nat.{leading_length}
 use Rattle.std.proofs.Math.Nat.{pow-succ', pow-le-pow_right}
-use Rattle.fips204_base.specs.Packing.{Bounds, PolynomialInRange, bit_length, bits, integer_to_bits, width}
+use Rattle.fips204_base.specs.Packing.{bit_length, bits, integer_to_bits, width}
+use Rattle.fips204_base.specs.Bounds.{Bounds, PolynomialInRange}
 use Rattle.fips204_base.specs.Network.{Packs, coefficient, field}
 use Rattle.fips204_base.proofs.Bits.{digits-zero}
 

@@ -9,7 +9,7 @@ use Rattle.std.proofs.lemmas.Bool.{cases_lt, cases_Bool}
 use Rattle.fips204_base.specs.Network.{ones_below, ones, running_totals}
 use Rattle.fips204_base.specs.declared.types.R.{R}
 use Rattle.fips204_base.specs.Encodings.{is_one, all_ones, hint_bytes, Spells}
-use Rattle.fips204_base.specs.Packing.{PolynomialInRange}
+use Rattle.fips204_base.specs.Bounds.{PolynomialInRange}
 use Rattle.std.proofs.lemmas.List.Concat.{flat_map-append}
 use Rattle.std.proofs.lemmas.Grind.{same_number_lists}
 use Rattle.fips204_base.specs.declared.types.TheConstants.{R0}

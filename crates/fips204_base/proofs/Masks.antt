@@ -8,7 +8,8 @@ use Rattle.std.proofs.Math.Seq.{take-add}
 use Rattle.std.proofs.lemmas.Nat.{mul-le}
 use Rattle.fips204_base.proofs.Bits.{length-digits}
 use Rattle.fips204_base.proofs.Vectors.{length-polynomial_of, polynomial_of-at, polynomial_of-same}
-use Rattle.fips204_base.specs.Packing.{integer_to_bits, bits, bits_to_integer, width, PolynomialInRange, bit_length, unpacked}
+use Rattle.fips204_base.specs.Packing.{integer_to_bits, bits, bits_to_integer, width, bit_length, unpacked}
+use Rattle.fips204_base.specs.Bounds.{PolynomialInRange}
 use Rattle.fips204_base.specs.Vectors.{polynomial_of, IsVector}
 use Rattle.fips204_base.specs.Sampling.{mask}
 use Rattle.fips204_base.proofs.Packing.{field_at, field_small, bits_below}

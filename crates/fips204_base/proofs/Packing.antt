@@ -9,7 +9,8 @@ use Rattle.std.proofs.lemmas.List.FromFn.{fill_by_all, length-map-range_with_len
 use Rattle.std.proofs.lemmas.Nat.{pow_pos}
 use Rattle.std.proofs.Math.Seq.{take-add, drop-append-add}
 use Rattle.std.proofs.Math.Nat.{pow-succ'}
-use Rattle.fips204_base.specs.Packing.{bits, bits_to_bytes, bits_to_integer, integer_to_bits, Bounds, PolynomialInRange, polynomial_bytes, unpacked, width}
+use Rattle.fips204_base.specs.Packing.{bits, bits_to_bytes, bits_to_integer, integer_to_bits, polynomial_bytes, unpacked, width}
+use Rattle.fips204_base.specs.Bounds.{Bounds, PolynomialInRange}
 use Rattle.fips204_base.specs.declared.types.R.{R}
 use Rattle.fips204_base.specs.Network.{Packs, coefficient, field}
 use Rattle.fips204_base.proofs.Bits.{digits-zero, digits-suc, length-digits, same_numbers}

@@ -1,12 +1,12 @@
 -- What is given by its transforms: the plain polynomials, and what steps over the transforms make of them.
 use Rattle.std.proofs.Common.{◌≡◌, ℕ, ◌<◌, ◌≤◌, ◌+◌, ◌*◌, ◌%◌, ◌^◌, ℤ, pos, List, [], get_or, arith, ap, sym, refl, ◌∙◌}
-use Rattle.fips204_base.specs.Network.{plain_row, plain_matrix, inverse_root, row_product}
-use Rattle.fips204_base.specs.Bounds.{vector_residues}
-use Rattle.fips204_base.specs.Residues.{residue, coefficients, from_mont, IsCongruent}
+use Rattle.fips204_base.specs.Network.{plain_row, plain_matrix, inverse_root, row_product, AreSameModQ}
+use Rattle.fips204_base.specs.Bounds.{vector_residues, coefficient_of}
+use Rattle.fips204_base.specs.Residues.{residue, coefficients, IsCongruent}
 use Rattle.fips204_base.specs.Transforms.{transform, inverse_transform, pointwise, product, minus}
 use Rattle.fips204_base.specs.Lanes.{lane}
-use Rattle.fips204_base.specs.Vectors.{coefficient_of, vector_coefficients, matrix_product, AreSameModQ}
-use Rattle.fips204_base.specs.PlainTransforms.{lane_values, plain_vector, factor_values, plain_factor, lanes_value}
+use Rattle.fips204_base.specs.Vectors.{vector_coefficients, matrix_product}
+use Rattle.fips204_base.specs.PlainTransforms.{lane_values, plain_vector, factor_values, plain_factor, lanes_value, from_mont}
 use Rattle.fips204_base.specs.declared.types.R.{R}
 use Rattle.fips204_base.specs.declared.types.T.{T}
 use Rattle.fips204_base.proofs.Residues.{congruent_of, congruent_sym, congruent_trans, congruent_mod, congruent_refl, congruent_add, congruent_mul, congruent_equal, congruent_equal_mod, residue_below, sum_equal, sum_below-times}

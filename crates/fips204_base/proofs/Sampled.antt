@@ -7,7 +7,7 @@ use Rattle.std.specs.List.{range_with_len, All, cons_option}
 use Rattle.std.proofs.lemmas.List.{take_all, take_more_set, length-take-le}
 use Rattle.std.proofs.lemmas.List.FromFn.{map-range_with_len_more}
 use Rattle.fips204_base.specs.Network.{three_bytes, sampled_entry, sampled_row, triple, kept_triples, half_bytes, kept_half_bytes, small_vector}
-use Rattle.fips204_base.specs.Bounds.{ValuesWithin, TransformsWithin}
+use Rattle.fips204_base.specs.Bounds.{ValuesWithin, TransformsWithin, PolynomialInRange}
 use Rattle.fips204_base.specs.declared.fault.Fault.{Fault}
 use Rattle.fips204_base.specs.declared.fault.Fault.TheVariants.{SamplingLimit}
 use Rattle.fips204_base.specs.Sampling.{all_present, first_256, coefficient_from_half_byte, matrix_entry, sampled_matrix, small_polynomial, small_vectors}
@@ -18,7 +18,6 @@ use Rattle.std.proofs.lemmas.List.Elements.{All-nil, All-cons, All-take}
 use Rattle.fips204_base.specs.declared.types.T.{T}
 use Rattle.std.specs.Int.{w16, to_le_bytes}
 use Rattle.fips204_base.specs.declared.types.R.{R}
-use Rattle.fips204_base.specs.Packing.{PolynomialInRange}
 use Rattle.fips204_base.specs.Vectors.{MatrixWithin, IsVector}
 
 -- Lists of values that may be none, each made in turn.

@@ -12,7 +12,8 @@ use Rattle.fips204_base.specs.declared.types.R.{R}
 use Rattle.fips204_base.specs.Encodings.{vector_bytes}
 use Rattle.fips204_base.specs.Vectors.{IsVector}
 use Rattle.fips204_base.proofs.Packing.{Unpacks, length-polynomial_bytes}
-use Rattle.fips204_base.specs.Packing.{Bounds, PolynomialInRange, polynomial_bytes, width}
+use Rattle.fips204_base.specs.Packing.{polynomial_bytes, width}
+use Rattle.fips204_base.specs.Bounds.{Bounds, PolynomialInRange}
 use Rattle.fips204_base.specs.Network.{coefficient, field}
 
 -- A list of bytes that is written or read piece by piece.

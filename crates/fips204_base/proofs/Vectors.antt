@@ -6,9 +6,8 @@ use Rattle.std.proofs.lemmas.List.{ext_get_or}
 use Rattle.std.proofs.lemmas.List.Elements.{All-from_get_or}
 use Rattle.std.proofs.lemmas.List.FromFn.{get_or-map-range_with_len, length-map-range_with_len}
 use Rattle.fips204_base.specs.declared.types.R.{R}
-use Rattle.fips204_base.specs.Packing.{PolynomialInRange}
-use Rattle.fips204_base.specs.Vectors.{coefficient_of, IsVector, polynomial_of, vector_of}
-use Rattle.fips204_base.specs.Bounds.{VectorWithin}
+use Rattle.fips204_base.specs.Vectors.{IsVector, polynomial_of, vector_of}
+use Rattle.fips204_base.specs.Bounds.{VectorWithin, PolynomialInRange, coefficient_of}
 
 -- Lists that a loop writes row by row.
 

@@ -1,9 +1,11 @@
 -- Worked values of residues, products, transforms, norms and rounding.
 use Rattle.std.proofs.Common.{◌≡◌, pos, negsuc, [], ◌∷◌, refl, cond, rules, ◌++◌, if◌then◌else◌, map, true, false, ◌*◌, ◌+◌, ◌-◌, ◌%◌, ◌^◌}
 use Rattle.std.proofs.Math.Dec.{eqb}
-use Rattle.fips204_base.specs.Residues.{residue, from_mont, coefficients, sum_below, centred, norm, vector_norm, centred_modulo, IsMontgomery}
+use Rattle.fips204_base.specs.Residues.{residue, coefficients, sum_below, centred, norm, vector_norm, centred_modulo}
+use Rattle.fips204_base.specs.PlainTransforms.{from_mont}
 use Rattle.fips204_base.specs.Transforms.{bit_reversed, zeta_at, transform, inverse_transform, product, plus, minus, pointwise}
-use Rattle.fips204_base.specs.Vectors.{coefficient_at, coefficient_of, matrix_product}
+use Rattle.fips204_base.specs.Vectors.{matrix_product}
+use Rattle.fips204_base.specs.Bounds.{coefficient_at, coefficient_of, IsMontgomery}
 use Rattle.std.specs.Prelude.{replicate, nat_eq}
 use Rattle.std.specs.List.{range_with_len, flat_map}
 use Rattle.fips204_base.specs.Packing.{polynomial_bytes, bits_to_bytes, bits, integer_to_bits, bits_to_integer, bit_length}

@@ -1,14 +1,38 @@
--- Ranges of numbers, polynomials and vectors, and products of transforms, in clauses of this crate's own functions; no call of `fips204` reaches them.
-use Rattle.std.specs.Prelude.{◌≡◌, ℕ, ◌*◌, ◌%◌, ◌<◌, ◌≤◌, ◌≤ℤ◌, ◌⊎◌, ℤ, pos, nat_abs, List, [], slice_index_or}
+-- Ranges of numbers, polynomials and vectors, lanes, and products, in clauses of this crate's own functions; no call of `fips204` reaches them.
+use Rattle.std.specs.Prelude.{◌≡◌, ℕ, ◌*◌, ◌%◌, ◌<◌, ◌≤◌, ◌≤ℤ◌, ◌<ℤ◌, ◌+ℤ◌, ◌-ℤ◌, ◌*ℤ◌, ◌⊎◌, ℤ, pos, nat_abs, List, [], slice_index_or}
 use Rattle.std.specs.List.{All}
 use Rattle.fips204_base.specs.Residues.{coefficients, sum_below}
-use Rattle.fips204_base.specs.Vectors.{coefficient_at, coefficient_of}
+use Rattle.fips204_base.specs.Lanes.{lane}
 use Rattle.fips204_base.specs.declared.types.R.{R}
 use Rattle.fips204_base.specs.declared.types.T.{T}
 
 -- eta at the parameter sets (FIPS 204, Table 1)
 abbrev pub IsEta : ℤ → Type 0
 IsEta eta = (eta ≡ pos 2) ⊎ (eta ≡ pos 4)
+
+-- gamma1 at the parameter sets (FIPS 204, Table 1)
+abbrev pub IsGamma1 : ℤ → Type 0
+IsGamma1 gamma1 = (gamma1 ≡ pos 131072) ⊎ (gamma1 ≡ pos 524288)
+
+-- the a and b that packing takes
+abbrev pub Bounds : ℤ → ℤ → Type 0
+Bounds a b = (pos 0 ≤ℤ a) × (a ≤ℤ pos 1048575) × (pos 1 ≤ℤ b) × (b ≤ℤ pos 1048575)
+
+-- every coefficient is from lo to hi
+abbrev pub PolynomialInRange : ℤ → ℤ → List ℤ → Type 0
+PolynomialInRange lo hi w = All (λ x. (lo ≤ℤ x) × (x ≤ℤ hi)) w
+
+-- every coefficient of a vector's polynomials is from lo to hi
+abbrev pub VectorInRange : ℤ → ℤ → List R → Type 0
+VectorInRange lo hi v = All (λ w. PolynomialInRange lo hi w.0) v
+
+-- coefficient n of a polynomial
+abbrev pub coefficient_at : List ℤ → ℕ → ℤ
+coefficient_at w n = slice_index_or w n (pos 0)
+
+-- coefficient n of polynomial r of a vector
+abbrev pub coefficient_of : List R → ℕ → ℕ → ℤ
+coefficient_of v r = coefficient_at (slice_index_or v r record { 0 = [] }).0
 
 -- every number has an absolute value of at most m
 abbrev pub ValuesWithin : ℕ → List ℤ → Type 0
@@ -29,6 +53,17 @@ IsResidueVector k v = (r n : ℕ) → r < k → n < 256 → (pos 0 ≤ℤ coeffi
 -- every value of a vector of transforms has an absolute value of at most m
 abbrev pub TransformsWithin : ℕ → List T → Type 0
 TransformsWithin m v = All (λ t. ValuesWithin m t.0) v
+
+-- each lane of a value is in a relation to that lane of another one
+abbrev pub EachLane : (ℤ → ℤ → Type 0) → ℕ → List ℤ → List ℤ → Type 0
+EachLane Related width xs ys = (j : ℕ) → j < width → Related (lane xs j) (lane ys j)
+
+-- MontgomeryReduce (Algorithm 49): a is 2^32 r and a multiple of q by a number of 32 bits with its sign
+pub record IsMontgomery (a r : ℤ) : Type 0 where
+  pub factor : ℤ
+  pub sum : a ≡ pos 4294967296 *ℤ r +ℤ factor *ℤ pos 8380417
+  pub low : (pos 0 -ℤ pos 2147483648) ≤ℤ factor
+  pub high : factor <ℤ pos 2147483648
 
 -- the residues of a vector of transforms, by row and place
 abbrev pub vector_residues : List T → ℕ → ℕ → ℕ

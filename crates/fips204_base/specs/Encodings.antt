@@ -1,5 +1,5 @@
 -- Hints, keys and signatures as bytes (FIPS 204, Algorithms 20 to 28).
-use Rattle.std.specs.Prelude.{◌≡◌, ◌≤◌, ◌+◌, ◌-◌, ℕ, List, ◌++◌, Bool, pos, length, map, take, replicate, slice_index_or, int_lt, ◌⊎◌, ℤ}
+use Rattle.std.specs.Prelude.{◌≡◌, ◌≤◌, ◌+◌, ◌-◌, ℕ, List, ◌++◌, Bool, pos, length, map, take, replicate, slice_index_or, int_lt}
 use Rattle.std.specs.List.{filter, flat_map, range_with_len}
 use Rattle.fips204_base.specs.Packing.{polynomial_bytes}
 use Rattle.fips204_base.specs.Rounding.{high_count}
@@ -27,10 +27,6 @@ pub record Spells (omega k : ℕ) (h : List R) (bytes : Bytes) : Type 0 where
   pub spelling : hint_bytes omega h ≡ bytes
 
 -- ---- Keys and signatures (Algorithms 22 to 28)
-
--- gamma1 at the parameter sets (FIPS 204, Table 1)
-abbrev pub IsGamma1 : ℤ → Type 0
-IsGamma1 gamma1 = (gamma1 ≡ pos 131072) ⊎ (gamma1 ≡ pos 524288)
 
 -- the polynomials of a vector one after another, with coefficients from -a to b:
 --   part            a             b             bits          bytes that decode

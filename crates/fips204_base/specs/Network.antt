@@ -1,6 +1,6 @@
 -- Butterflies, layers and lanes by place, what a sampler's loop keeps, and parts of definitions: cited by no public clause, but of functions marked internal; nobody has to believe it.
-use Rattle.std.specs.Prelude.{◌≡◌, ℕ, ◌+◌, ◌*◌, ◌-◌, ◌/◌, ◌%◌, ◌^◌, ◌<◌, ◌≤◌, ℤ, pos, ◌-ℤ◌, neg_ℤ, nat_abs, List, [], ◌∷◌, slice_index, slice_index_or, ◌++◌, take, drop, length, map, filter_map, flat_map, Option, Some, None, Result, MatchResult, nat_eq, nat_lt, int_lt, if◌then◌else◌}
-use Rattle.std.specs.Int.{w16, to_le_bytes}
+use Rattle.std.specs.Prelude.{◌≡◌, ℕ, ◌+◌, ◌*◌, ◌-◌, ◌/◌, ◌%◌, ◌^◌, ◌<◌, ◌≤◌, ℤ, pos, ◌-ℤ◌, neg_ℤ, nat_abs, List, [], ◌∷◌, slice_index, slice_index_or, ◌++◌, take, drop, length, map, filter_map, flat_map, Option, Some, None, Result, MatchResult, nat_eq, nat_lt, int_lt, if◌then◌else◌, FitsSigned}
+use Rattle.std.specs.Int.{w16, w32, to_le_bytes}
 use Rattle.std.specs.List.{All, filter, range_with_len}
 use Rattle.fips204_base.specs.Encodings.{is_one, all_ones}
 use Rattle.fips204_base.specs.Bounds.{vector_residues}
@@ -52,6 +52,11 @@ IsInverseLayer count len before after = (b j : ℕ) → b < count → j < len �
     IsCongruent (after (2 * len * b + j)) (before (2 * len * b + j) + before (2 * len * b + j + len))
     × IsCongruent (after (2 * len * b + j + len)) (8380416 * (zeta_at (2 * count - 1 - b) * (before (2 * len * b + j) + 8380416 * before (2 * len * b + j + len))))
 
+-- eight lanes, each a number of 32 bits
+pub record AreEight (xs : List ℤ) : Type 0 where
+  pub eight : length xs ≡ 8
+  pub fits : (j : ℕ) → j < 8 → FitsSigned w32 (lane xs j)
+
 -- lane by lane, x and y are a pair that is made of a and b
 abbrev pub EachPair : (ℤ → ℤ → ℤ → ℤ → Type 0) → ℕ → List ℤ → List ℤ → List ℤ → List ℤ → Type 0
 EachPair Pair width a b x y = (j : ℕ) → j < width → Pair (lane a j) (lane b j) (lane x j) (lane y j)
@@ -59,6 +64,10 @@ EachPair Pair width a b x y = (j : ℕ) → j < width → Pair (lane a j) (lane 
 -- lane by lane, a row is changed by place
 abbrev pub EachLaneOfRow : {V : Type 0} → ((ℕ → ℤ) → (ℕ → ℤ) → Type 0) → (V → List ℤ) → ℕ → List V → List V → Type 0
 EachLaneOfRow {V} Changed lanes width before after = (j : ℕ) (d : V) → j < width → Changed (lane_at lanes j d before) (lane_at lanes j d after)
+
+-- two vectors are the same modulo q in their first k polynomials
+abbrev pub AreSameModQ : ℕ → List R → List R → Type 0
+AreSameModQ k v w = (r n : ℕ) → r < k → n < 256 → vector_coefficients v r n ≡ vector_coefficients w r n
 
 -- the residues of a matrix of transforms, by row, column and place
 abbrev pub matrix_residues : List (List T) → ℕ → ℕ → ℕ → ℕ

@@ -1,6 +1,6 @@
 -- Bits, fields and bytes (FIPS 204, Algorithms 9 to 13 and 16 to 19).
-use Rattle.std.specs.Prelude.{◌*◌, ◌/◌, ◌%◌, ◌+◌, ◌^◌, ℕ, zero, suc, List, [], ◌∷◌, ℤ, pos, ◌+ℤ◌, ◌-ℤ◌, ◌≤ℤ◌, nat_abs, length, map, take, drop, count_by, nat_le, if◌then◌else◌, int_lt}
-use Rattle.std.specs.List.{All, flat_map, range_with_len}
+use Rattle.std.specs.Prelude.{◌*◌, ◌/◌, ◌%◌, ◌+◌, ◌^◌, ℕ, zero, suc, List, [], ◌∷◌, ℤ, pos, ◌+ℤ◌, ◌-ℤ◌, nat_abs, length, map, take, drop, count_by, nat_le, if◌then◌else◌, int_lt}
+use Rattle.std.specs.List.{flat_map, range_with_len}
 use Rattle.fips204_base.specs.Streams.{Bytes}
 use Rattle.fips204_base.specs.declared.types.R.{R}
 
@@ -29,14 +29,6 @@ bit_length n = count_by (λ k. nat_le (2 ^ k) n) (range_with_len 0 32)
 -- how many bits the field of a coefficient from -a to b has (Algorithms 16 and 17)
 abbrev pub width : ℤ → ℤ → ℕ
 width a b = bit_length (nat_abs (a +ℤ b))
-
--- every coefficient is from lo to hi
-abbrev pub PolynomialInRange : ℤ → ℤ → List ℤ → Type 0
-PolynomialInRange lo hi w = All (λ x. (lo ≤ℤ x) × (x ≤ℤ hi)) w
-
--- the a and b that packing takes
-abbrev pub Bounds : ℤ → ℤ → Type 0
-Bounds a b = (pos 0 ≤ℤ a) × (a ≤ℤ pos 1048575) × (pos 1 ≤ℤ b) × (b ≤ℤ pos 1048575)
 
 -- SimpleBitPack and BitPack (Algorithms 16 and 17): the bytes of a polynomial with coefficients from -a to b; the field of a coefficient
 -- is its distance from b, but where a is 0 the coefficient itself

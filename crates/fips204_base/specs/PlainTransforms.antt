@@ -1,6 +1,6 @@
 -- What is given by its transforms, as the plain polynomials that contracts see: cited by no public clause; nobody has to believe it.
 use Rattle.std.specs.Prelude.{ℕ, ℤ, List, [], pos, ◌*◌, ◌%◌}
-use Rattle.fips204_base.specs.Residues.{coefficients, residue, from_mont, sum_below}
+use Rattle.fips204_base.specs.Residues.{coefficients, residue, sum_below}
 use Rattle.fips204_base.specs.Transforms.{inverse_transform}
 use Rattle.fips204_base.specs.Lanes.{lane, residues}
 use Rattle.fips204_base.specs.Vectors.{polynomial_of, vector_of}
@@ -15,6 +15,10 @@ lane_values w r = residues (λ xs. xs) r [] w
 -- the eight polynomials whose transforms are the lanes
 abbrev pub plain_vector : List (List ℤ) → List R
 plain_vector w = vector_of 8 (λ r n. pos (inverse_transform (lane_values w r) n))
+
+-- the residue whose Montgomery form is x: 8265825 * 2^32 is 1 modulo q
+abbrev pub from_mont : ℕ → ℕ
+from_mont x = 8265825 * x % 8380417
 
 -- the transform that has these values in Montgomery form, by place
 abbrev pub factor_values : List ℤ → ℕ → ℕ

@@ -1,27 +1,14 @@
 -- Vectors and matrices of polynomials, and bounds on their coefficients (FIPS 204, sections 2.3 to 2.5).
-use Rattle.std.specs.Prelude.{◌≡◌, ◌≤◌, ◌<◌, ◌≤ℤ◌, ℕ, List, [], ℤ, pos, nat_abs, slice_index_or, ◌%◌, ◌-ℤ◌, length, map}
+use Rattle.std.specs.Prelude.{◌≡◌, ◌≤◌, ◌≤ℤ◌, ℕ, List, [], ℤ, pos, nat_abs, slice_index_or, ◌%◌, ◌-ℤ◌, length, map}
 use Rattle.std.specs.List.{All, range_with_len}
-use Rattle.fips204_base.specs.Packing.{PolynomialInRange}
 use Rattle.fips204_base.specs.Residues.{coefficients, sum_below}
 use Rattle.fips204_base.specs.Transforms.{product, inverse_transform}
 use Rattle.fips204_base.specs.declared.types.R.{R}
 use Rattle.fips204_base.specs.declared.types.T.{T}
 
--- coefficient n of a polynomial
-abbrev pub coefficient_at : List ℤ → ℕ → ℤ
-coefficient_at w n = slice_index_or w n (pos 0)
-
--- coefficient n of polynomial r of a vector
-abbrev pub coefficient_of : List R → ℕ → ℕ → ℤ
-coefficient_of v r = coefficient_at (slice_index_or v r record { 0 = [] }).0
-
 -- every value of a matrix of transforms has an absolute value of at most m
 abbrev pub MatrixWithin : ℕ → List (List T) → Type 0
 MatrixWithin m a = All (λ row. All (λ t. All (λ x. nat_abs x ≤ m) t.0) row) a
-
--- every coefficient of a vector's polynomials is from lo to hi
-abbrev pub VectorInRange : ℤ → ℤ → List R → Type 0
-VectorInRange lo hi v = All (λ w. PolynomialInRange lo hi w.0) v
 
 -- a vector of so many polynomials, with coefficients from -a to b
 pub record IsVector (count a b : ℕ) (v : List R) : Type 0 where
@@ -46,7 +33,3 @@ polynomial_of f = record { 0 = map f (range_with_len 0 256) }
 -- the vector of k polynomials whose coefficient n of polynomial r is f r n
 unfoldable pub vector_of : ℕ → (ℕ → ℕ → ℤ) → List R
 vector_of k f = map (λ r. polynomial_of (f r)) (range_with_len 0 k)
-
--- two vectors are the same modulo q in their first k polynomials
-abbrev pub AreSameModQ : ℕ → List R → List R → Type 0
-AreSameModQ k v w = (r n : ℕ) → r < k → n < 256 → vector_coefficients v r n ≡ vector_coefficients w r n

@@ -4,7 +4,8 @@
 
 ghost use Rattle.std.specs.Prelude.{◌≡◌, ◌<◌, ◌≤◌, ◌+◌, ◌*◌, ◌%◌, ◌^◌, ℤ, pos, ◌-ℤ◌, ◌≤ℤ◌, ◌<ℤ◌, nat_abs, length, map, MatchOption};
 ghost use Rattle.std.specs.List.{All, Any};
-ghost use Rattle.fips204_base.specs.Packing.{Bounds, PolynomialInRange, polynomial_bytes, unpacked, width};
+ghost use Rattle.fips204_base.specs.Packing.{polynomial_bytes, unpacked, width};
+ghost use Rattle.fips204_base.specs.Bounds.{Bounds, PolynomialInRange};
 ghost use Rattle.fips204_base.specs.Network.{Packs, coefficient, field};
 
 mod coefficients;

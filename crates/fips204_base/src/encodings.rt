@@ -4,7 +4,7 @@
 ghost use Rattle.std.specs.Prelude.{◌≡◌, ◌+◌, ◌*◌, pos, length};
 ghost use Rattle.std.specs.List.{All};
 ghost use Rattle.fips204_base.specs.Encodings.{public_key_bytes};
-ghost use Rattle.fips204_base.specs.Vectors.{VectorInRange};
+ghost use Rattle.fips204_base.specs.Bounds.{VectorInRange};
 
 mod private_key;
 mod signature;

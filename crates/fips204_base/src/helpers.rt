@@ -2,7 +2,8 @@
 #![tactic(auto)]
 
 ghost use Rattle.std.specs.Prelude.{◌≡◌, ◌↔◌, ℤ, pos, ◌-ℤ◌, ◌≤ℤ◌, nat_abs, IsTrue};
-ghost use Rattle.fips204_base.specs.Packing.{PolynomialInRange, bit_length};
+ghost use Rattle.fips204_base.specs.Packing.{bit_length};
+ghost use Rattle.fips204_base.specs.Bounds.{PolynomialInRange};
 
 pub mod count;
 pub mod norm;

@@ -3,8 +3,10 @@
 
 ghost use Rattle.std.specs.Prelude.{◌≡◌, ℕ, ◌<◌, ◌≤◌, ◌+◌, ◌*◌, ◌%◌, ◌≢◌, pos, ◌*ℤ◌, nat_abs};
 ghost use Rattle.std.specs.Int.{int_rem_euclid, int_div_euclid};
-ghost use Rattle.fips204_base.specs.Residues.{residue, from_mont, IsCongruent};
-ghost use Rattle.fips204_base.specs.Lanes.{lane, EachLane};
+ghost use Rattle.fips204_base.specs.Residues.{residue, IsCongruent};
+ghost use Rattle.fips204_base.specs.PlainTransforms.{from_mont};
+ghost use Rattle.fips204_base.specs.Lanes.{lane};
+ghost use Rattle.fips204_base.specs.Bounds.{EachLane};
 
 use crate::Q;
 use crate::helpers::count::Count;
@@ -21,7 +23,7 @@ pub struct Lanes {
 
 impl Model for Lanes {
     ghost use Rattle.std.specs.Prelude.{List, ℤ};
-    ghost use Rattle.fips204_base.specs.Lanes.{AreEight};
+    ghost use Rattle.fips204_base.specs.Network.{AreEight};
 
     ghost Value = { List ℤ };
 

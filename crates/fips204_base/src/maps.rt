@@ -6,7 +6,8 @@
 #![tactic(auto)]
 
 ghost use Rattle.std.specs.Prelude.{◌≡◌, ◌<◌, ℕ, ℤ, length};
-ghost use Rattle.fips204_base.specs.Vectors.{coefficient_at, coefficient_of, vector_of};
+ghost use Rattle.fips204_base.specs.Vectors.{vector_of};
+ghost use Rattle.fips204_base.specs.Bounds.{coefficient_at, coefficient_of};
 
 use crate::types::R;
 

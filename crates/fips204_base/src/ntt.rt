@@ -2,7 +2,7 @@
 #![tactic(auto)]
 
 ghost use Rattle.std.specs.Prelude.{◌≡◌, ℕ, ◌<◌, ◌≤◌, ◌+◌, ◌*◌, ◌-◌, ◌^◌, nat_abs, length};
-ghost use Rattle.fips204_base.specs.Lanes.{lane, lane_at, LanesWithin, RowsWithin, IsTransform, AreTransforms, IsInverse, AreInverses};
+ghost use Rattle.fips204_base.specs.Lanes.{lane, lane_at, LanesWithin, RowsWithin, IsTransform, IsInverse, EachRow};
 ghost use Rattle.fips204_base.specs.Network.{EachPair, EachLaneOfRow, IsButterfly, IsInverseButterfly, IsBlock, AreBlocks};
 
 pub use crate::helpers::Residue;
@@ -14,7 +14,7 @@ pub use crate::lanes::Lanes;
 pub fn ntt<V: Residue, const KL: usize>(w: &[[V; 256]; KL], meter: &mut V::Meter) -> [[V; 256]; KL]
     requires room { (V.products meter.old + 1024 * KL < 2 ^ 64) × (V.sums meter.old + 2048 * KL < 2 ^ 64) }
     requires range { RowsWithin V.lanes V.width KL 8380416 w.now }
-    ensures values { AreTransforms V.lanes V.width KL w.now result }
+    ensures values { EachRow (IsTransform V.lanes V.width) KL w.now result }
     ensures small { RowsWithin V.lanes V.width KL 8380416 result }
     ensures products { V.products meter.new ≡ V.products meter.old + 1024 * KL }
     ensures sums { V.sums meter.new ≡ V.sums meter.old + 2048 * KL }
@@ -35,7 +35,7 @@ pub fn inv_ntt<V: Residue, const KL: usize>(
 ) -> [[V; 256]; KL]
     requires room { (V.products meter.old + 1024 * KL < 2 ^ 64) × (V.sums meter.old + 2048 * KL < 2 ^ 64) }
     requires range { RowsWithin V.lanes V.width KL 8380416 w_hat.now }
-    ensures values { AreInverses V.lanes V.width KL w_hat.now result }
+    ensures values { EachRow (IsInverse V.lanes V.width) KL w_hat.now result }
     ensures products { V.products meter.new ≡ V.products meter.old + 1024 * KL }
     ensures sums { V.sums meter.new ≡ V.sums meter.old + 2048 * KL }
 {

@@ -6,8 +6,9 @@ ghost use Rattle.std.specs.Prelude.{◌≡◌, ◌≢◌, ◌<◌, ◌≤◌, �
 ghost use Rattle.fips204_base.specs.Lanes.{lane};
 ghost use Rattle.fips204_base.specs.Residues.{coefficients};
 ghost use Rattle.fips204_base.specs.Transforms.{minus, product};
-ghost use Rattle.fips204_base.specs.Vectors.{coefficient_at, coefficient_of, AreSameModQ, vector_coefficients, vector_of};
-ghost use Rattle.fips204_base.specs.Bounds.{PolynomialWithin, VectorWithin};
+ghost use Rattle.fips204_base.specs.Vectors.{vector_coefficients, vector_of};
+ghost use Rattle.fips204_base.specs.Network.{AreSameModQ};
+ghost use Rattle.fips204_base.specs.Bounds.{PolynomialWithin, VectorWithin, coefficient_at, coefficient_of};
 ghost use Rattle.fips204_base.specs.declared.types.R.{R};
 
 mod matrix;

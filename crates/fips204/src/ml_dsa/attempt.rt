@@ -2,8 +2,8 @@
 #![tactic(auto)]
 
 ghost use Rattle.std.specs.Prelude.{◌≡◌, ◌≤◌, ◌<◌, ℕ, pos, nat_abs};
-ghost use Rattle.fips204_base.specs.Vectors.{coefficient_of, MatrixWithin, matrix_product, vector_coefficients, vector_of};
-ghost use Rattle.fips204_base.specs.Bounds.{VectorWithin};
+ghost use Rattle.fips204_base.specs.Vectors.{MatrixWithin, matrix_product, vector_coefficients, vector_of};
+ghost use Rattle.fips204_base.specs.Bounds.{VectorWithin, coefficient_of};
 ghost use Rattle.fips204_base.specs.Residues.{residue};
 ghost use Rattle.fips204_base.specs.Rounding.{IsGamma2, high_bits};
 ghost use Rattle.fips204.specs.Signing.{attempt};

@@ -3,7 +3,7 @@
 
 ghost use Rattle.std.specs.Prelude.{◌≡◌, ◌-◌, pos, nat_abs};
 ghost use Rattle.std.specs.List.{All};
-ghost use Rattle.fips204_base.specs.Packing.{PolynomialInRange};
+ghost use Rattle.fips204_base.specs.Bounds.{PolynomialInRange};
 ghost use Rattle.fips204_base.specs.Rounding.{high_count};
 ghost use Rattle.fips204.specs.Signing.{commitment_hash};
 ghost use Rattle.fips204.specs.ParameterSets.{c_tilde_length};

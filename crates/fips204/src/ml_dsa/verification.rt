@@ -4,17 +4,16 @@
 ghost use Rattle.std.specs.Prelude.{◌≡◌, ◌≤◌, ◌<◌, ◌⊎◌, ◌-◌, ◌*◌, ◌%◌, ◌≤ℤ◌, ◌↔◌, ℕ, List, pos, nat_abs, IsTrue, Some, int_lt, IfSome, MatchOption};
 ghost use Rattle.std.specs.List.{All};
 ghost use Rattle.fips204_base.specs.Sampling.{challenge};
-ghost use Rattle.fips204_base.specs.Packing.{PolynomialInRange};
 ghost use Rattle.fips204_base.specs.Vectors.{IsVector, vector_coefficients};
-ghost use Rattle.fips204_base.specs.Bounds.{PolynomialWithin, VectorWithin};
+ghost use Rattle.fips204_base.specs.Bounds.{PolynomialWithin, VectorWithin, PolynomialInRange};
 ghost use Rattle.fips204_base.specs.Residues.{residue, coefficients};
 ghost use Rattle.fips204_base.specs.Transforms.{minus, product};
 ghost use Rattle.fips204_base.specs.Rounding.{IsGamma2, high_count, use_hint};
 ghost use Rattle.fips204_base.specs.declared.types.R.{R};
-ghost use Rattle.fips204.specs.Acceptance.{AreShifted, Accepts, Verifies};
+ghost use Rattle.fips204.specs.Acceptance.{Accepts, Verifies};
 ghost use Rattle.fips204.specs.ParameterSets.{c_tilde_length};
 ghost use Rattle.fips204.specs.Signing.{commitment_hash};
-ghost use Rattle.fips204.specs.SigningInputs.{HasShortParts, IsHighPart, hinted};
+ghost use Rattle.fips204.specs.SigningInputs.{HasShortParts, IsHighPart, hinted, AreShifted};
 ghost use Rattle.fips204.specs.Sets.{HasSizes, set_of};
 
 use super::commitment_hash::commitment_hash;

@@ -91,7 +91,7 @@ pub struct PreparedPublicKey<const K: usize, const L: usize, H> {
 
 impl<const K: usize, const L: usize, H> Model for PreparedPublicKey<K, L, H> {
     ghost use Rattle.fips204_base.specs.Vectors.{MatrixWithin};
-    ghost use Rattle.fips204.specs.Acceptance.{AreShifted};
+    ghost use Rattle.fips204.specs.SigningInputs.{AreShifted};
     ghost use Rattle.fips204.specs.Prepared.{PreparedPublic};
 
     ghost Value = { PreparedPublic };

@@ -4,8 +4,7 @@
 ghost use Rattle.std.specs.Prelude.{◌≡◌, ◌<◌, ◌≤◌, ◌+◌, ◌≤ℤ◌, List, pos, nat_abs, length, take, drop, ◌++◌, MatchOption};
 ghost use Rattle.fips204_base.specs.Encodings.{Spells, all_ones, hint_bytes};
 ghost use Rattle.fips204_base.specs.Network.{ones};
-ghost use Rattle.fips204_base.specs.Packing.{PolynomialInRange};
-ghost use Rattle.fips204_base.specs.Vectors.{VectorInRange};
+ghost use Rattle.fips204_base.specs.Bounds.{PolynomialInRange, VectorInRange};
 
 use crate::types::{R, R0};
 

@@ -3,9 +3,8 @@
 
 ghost use Rattle.std.specs.Prelude.{◌≡◌, ◌≤◌, ◌+◌, ◌*◌, pos, nat_abs, length, take, drop, MatchResult, ◌-ℤ◌};
 ghost use Rattle.fips204_base.specs.Encodings.{PrivateParts, IsPrivateKeyOf, private_key_bytes};
-ghost use Rattle.fips204_base.specs.Bounds.{IsEta};
+ghost use Rattle.fips204_base.specs.Bounds.{IsEta, VectorInRange};
 ghost use Rattle.fips204_base.specs.Packing.{width};
-ghost use Rattle.fips204_base.specs.Vectors.{VectorInRange};
 
 use super::vectors::{polynomial_size, unpack_short_vector, unpack_vector, write_packed_vector};
 use crate::fault::Fault;

@@ -2,10 +2,10 @@
 #![tactic(auto)]
 
 ghost use Rattle.std.specs.Prelude.{◌≡◌, ◌<◌, ◌≤◌, ◌+◌, ◌-◌, ◌*◌, ℕ, ℤ, List, pos, nat_abs, ◌-ℤ◌, ◌≤ℤ◌, length, MatchOption};
-ghost use Rattle.fips204_base.specs.Encodings.{IsGamma1, IsSignature, signature_bytes, w1_bytes, all_ones};
+ghost use Rattle.fips204_base.specs.Encodings.{IsSignature, signature_bytes, w1_bytes, all_ones};
+ghost use Rattle.fips204_base.specs.Bounds.{IsGamma1, VectorInRange};
 ghost use Rattle.fips204_base.specs.Packing.{width};
 ghost use Rattle.fips204_base.specs.Rounding.{IsGamma2, high_count};
-ghost use Rattle.fips204_base.specs.Vectors.{VectorInRange};
 
 use super::vectors::{polynomial_size, unpack_vector, write_packed_vector};
 use crate::conversion::{hint_bit_pack, hint_bit_unpack};

@@ -3,8 +3,9 @@
 
 ghost use Rattle.std.specs.Prelude.{◌≡◌, ◌≤◌, ◌+◌, ◌*◌, ◌^◌, ℤ, List, pos, nat_abs, ◌+ℤ◌, ◌-ℤ◌, length, MatchOption};
 ghost use Rattle.fips204_base.specs.Encodings.{vector_bytes};
-ghost use Rattle.fips204_base.specs.Packing.{Bounds, PolynomialInRange, polynomial_bytes, width};
-ghost use Rattle.fips204_base.specs.Vectors.{IsVector, VectorInRange};
+ghost use Rattle.fips204_base.specs.Packing.{polynomial_bytes, width};
+ghost use Rattle.fips204_base.specs.Bounds.{Bounds, PolynomialInRange, VectorInRange};
+ghost use Rattle.fips204_base.specs.Vectors.{IsVector};
 
 use crate::conversion::{bit_unpack_by_range, field_width, write_packed_by_range};
 use crate::helpers::is_in_range;

@@ -3,7 +3,7 @@
 
 ghost use Rattle.std.specs.Prelude.{◌≡◌, ◌≤◌, ◌+◌, ◌++◌, nat_abs};
 ghost use Rattle.std.specs.Int.{w16, to_le_bytes};
-ghost use Rattle.fips204_base.specs.Encodings.{IsGamma1};
+ghost use Rattle.fips204_base.specs.Bounds.{IsGamma1};
 ghost use Rattle.fips204_base.specs.Sampling.{mask};
 ghost use Rattle.fips204_base.specs.Network.{mask_polynomial};
 

@@ -2,8 +2,7 @@
 #![tactic(auto)]
 
 ghost use Rattle.std.specs.Prelude.{◌≡◌, ◌<◌, ◌≤◌, ℕ, pos, nat_abs};
-ghost use Rattle.fips204_base.specs.Vectors.{coefficient_at};
-ghost use Rattle.fips204_base.specs.Bounds.{VectorWithin};
+ghost use Rattle.fips204_base.specs.Bounds.{VectorWithin, coefficient_at};
 ghost use Rattle.fips204_base.specs.Residues.{norm, vector_norm};
 
 use crate::helpers::reduce::center_mod;

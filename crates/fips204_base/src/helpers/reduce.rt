@@ -3,7 +3,8 @@
 
 ghost use Rattle.std.specs.Prelude.{◌≡◌, ◌<◌, ◌≤◌, ◌+◌, ◌*◌, ◌/◌, ◌%◌, ℤ, pos, ◌-ℤ◌, ◌*ℤ◌, ◌≤ℤ◌, nat_abs};
 ghost use Rattle.std.specs.Int.{int_rem_euclid};
-ghost use Rattle.fips204_base.specs.Residues.{residue, IsCongruent, centred, IsMontgomery};
+ghost use Rattle.fips204_base.specs.Residues.{residue, IsCongruent, centred};
+ghost use Rattle.fips204_base.specs.Bounds.{IsMontgomery};
 
 use crate::Q;
 

@@ -4,7 +4,8 @@
 ghost use Rattle.std.specs.Prelude.{◌≡◌, ℕ, ◌<◌, ◌≤◌, ◌+◌, ◌*◌, ◌%◌, ◌^◌, List, ℤ, pos, ◌+ℤ◌, ◌-ℤ◌, ◌≤ℤ◌, nat_abs};
 ghost use Rattle.fips204_base.specs.Residues.{residue, IsCongruent};
 ghost use Rattle.fips204_base.specs.Transforms.{zeta_at};
-ghost use Rattle.fips204_base.specs.Lanes.{lane, EachLane};
+ghost use Rattle.fips204_base.specs.Lanes.{lane};
+ghost use Rattle.fips204_base.specs.Bounds.{EachLane};
 
 use crate::Q;
 use crate::helpers::count::Count;

@@ -5,8 +5,8 @@ ghost use Rattle.std.specs.Prelude.{◌≡◌, ◌≤◌, ◌<◌, ◌*◌, ◌%
 ghost use Rattle.fips204_base.specs.Residues.{residue, coefficients};
 ghost use Rattle.fips204_base.specs.Lanes.{lane};
 ghost use Rattle.fips204_base.specs.PlainTransforms.{lanes_value};
-ghost use Rattle.fips204_base.specs.Vectors.{coefficient_of, MatrixWithin};
-ghost use Rattle.fips204_base.specs.Bounds.{vector_residues, row_value, AreRowProducts, VectorWithin, ValuesWithin, TransformsWithin};
+ghost use Rattle.fips204_base.specs.Vectors.{MatrixWithin};
+ghost use Rattle.fips204_base.specs.Bounds.{vector_residues, row_value, AreRowProducts, VectorWithin, ValuesWithin, TransformsWithin, coefficient_of};
 
 use crate::helpers::reduce::{partial_reduce64, wide_product};
 use crate::maps::{map, zip_vectors};

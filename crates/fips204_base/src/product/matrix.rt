@@ -3,11 +3,11 @@
 
 ghost use Rattle.std.specs.Prelude.{◌≡◌, ◌≢◌, ◌<◌, ◌≤◌, ℕ, [], pos, nat_abs, slice_index_or};
 ghost use Rattle.fips204_base.specs.Network.{plain_row, row_product, OnSampled};
-ghost use Rattle.fips204_base.specs.Bounds.{TransformsWithin, VectorWithin};
+ghost use Rattle.fips204_base.specs.Bounds.{TransformsWithin, VectorWithin, coefficient_of};
 ghost use Rattle.fips204_base.specs.Lanes.{lane};
 ghost use Rattle.fips204_base.specs.PlainTransforms.{lanes_value};
 ghost use Rattle.fips204_base.specs.Residues.{residue};
-ghost use Rattle.fips204_base.specs.Vectors.{coefficient_of, MatrixWithin, matrix_product, vector_coefficients};
+ghost use Rattle.fips204_base.specs.Vectors.{MatrixWithin, matrix_product, vector_coefficients};
 
 use super::Transforms;
 use crate::fault::Fault;

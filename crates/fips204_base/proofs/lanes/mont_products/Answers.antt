@@ -10,7 +10,8 @@ use mir.Syntax.{cast, signed}
 use borrow.Table.Row.{s_int}
 use borrow.Rule.Simd.Lanes.{Asks1, act1}
 use Rattle.fips204_base.specs.Residues.{residue, IsCongruent}
-use Rattle.fips204_base.specs.Lanes.{lane, AreEight}
+use Rattle.fips204_base.specs.Lanes.{lane}
+use Rattle.fips204_base.specs.Network.{AreEight}
 use Rattle.fips204_base.proofs.Residues.{congruent_trans, residue_mul, montgomery_congruent}
 use Rattle.fips204_base.proofs.LaneProducts.{Taken, taken, taken_is, lower_half, upper_half, high_half_fits, joined_halves, same_word, row, row_is, read_at, read_length, narrowed, taken_wide, taken_read}
 use Rattle.fips204_base.proofs.lanes.mont_products.Goals as goal

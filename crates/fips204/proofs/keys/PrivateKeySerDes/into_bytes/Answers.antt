@@ -1,6 +1,6 @@
 use Rattle.std.proofs.Common.{rules, subst, w32, pos, ◌-ℤ◌, ℤ}
 use Rattle.std.proofs.lemmas.Int.{to_z-of_z}
-use Rattle.fips204_base.specs.Vectors.{VectorInRange}
+use Rattle.fips204_base.specs.Bounds.{VectorInRange}
 use Rattle.fips204.specs.Sets.{HasKeySizes, set_of}
 use Rattle.fips204.proofs.ParameterSets.{limits, known-set, private_key-size, parts_at_set, eta-some}
 use Rattle.fips204.proofs.keys.PrivateKeySerDes.into_bytes.Goals as goal

@@ -1,7 +1,7 @@
 use Rattle.std.proofs.Common.{rules, ◌≡◌, ◌∙◌, sym, subst, true≢false}
 use Rattle.fips204_base.specs.Vectors.{vector_coefficients, matrix_product}
 use Rattle.fips204_base.proofs.PlainTransforms.{matrix-same}
-use Rattle.fips204.specs.Acceptance.{AreShifted}
+use Rattle.fips204.specs.SigningInputs.{AreShifted}
 use Rattle.fips204.specs.Prepared.{PreparedPublic}
 use Rattle.fips204.proofs.Verification.{commitment-decides}
 use Rattle.fips204.proofs.ml_dsa.verification.verify_prepared.Goals as goal

@@ -1,6 +1,7 @@
 use Rattle.std.proofs.Common.{rules, ◌≡◌, pos, nat_abs, to_z, of_z, w32}
 use Rattle.std.specs.Prelude.{int_lt}
-use Rattle.fips204_base.specs.Vectors.{coefficient_of, vector_coefficients}
+use Rattle.fips204_base.specs.Vectors.{vector_coefficients}
+use Rattle.fips204_base.specs.Bounds.{coefficient_of}
 use Rattle.fips204_base.specs.Rounding.{use_hint}
 use Rattle.fips204.specs.Sets.{set_of}
 use Rattle.fips204.proofs.ParameterSets.{limits, rounding-size}

@@ -1,7 +1,7 @@
 use Rattle.std.proofs.Common.{ℕ, ◌≡◌, ◌<◌, ◌+◌, ◌≤◌, get_or, take, length, pos}
 use Rattle.std.specs.List.{All}
 use Rattle.fips204_base.specs.Encodings.{all_ones}
-use Rattle.fips204_base.specs.Packing.{PolynomialInRange}
+use Rattle.fips204_base.specs.Bounds.{PolynomialInRange}
 use Rattle.fips204_base.proofs.HintSpelling.{before}
 use Rattle.fips204_base.proofs.conversion.hints.hint_bit_unpack.Given as goal
 

@@ -5,7 +5,8 @@ use Rattle.std.specs.List.{All, Any}
 use Rattle.std.proofs.lemmas.Int.{to_z-of_z}
 use Rattle.std.proofs.lemmas.List.Elements.{All-from_get_or}
 use Rattle.fips204_base.specs.declared.types.R.{R}
-use Rattle.fips204_base.specs.Packing.{Bounds, unpacked, width}
+use Rattle.fips204_base.specs.Packing.{unpacked, width}
+use Rattle.fips204_base.specs.Bounds.{Bounds}
 use Rattle.fips204_base.proofs.Packing.{Unpacks, unpacks, unpacks_bytes}
 use Rattle.fips204_base.proofs.VectorBytes.{none_above, unpacked_range}
 use Rattle.fips204_base.proofs.encodings.vectors.unpack_polynomial.Goals as goal

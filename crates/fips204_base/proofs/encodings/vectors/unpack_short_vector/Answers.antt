@@ -7,7 +7,8 @@ use Rattle.std.proofs.Math.Seq.{take-add}
 use Rattle.std.proofs.lemmas.Grind.{common_steps}
 use Rattle.fips204_base.specs.declared.types.R.{R}
 use Rattle.fips204_base.specs.declared.types.TheConstants.{R0}
-use Rattle.fips204_base.specs.Packing.{PolynomialInRange, polynomial_bytes, width}
+use Rattle.fips204_base.specs.Packing.{polynomial_bytes, width}
+use Rattle.fips204_base.specs.Bounds.{PolynomialInRange}
 use Rattle.fips204_base.proofs.VectorBytes.{vector_stored, vector_piece, bytes_at_integers, vector_at_integers, range_at_integers}
 use Rattle.fips204_base.proofs.encodings.vectors.unpack_short_vector.Goals as goal
 

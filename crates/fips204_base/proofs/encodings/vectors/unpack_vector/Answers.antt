@@ -6,7 +6,8 @@ use Rattle.std.proofs.lemmas.List.{take_all, take_more_set}
 use Rattle.std.proofs.lemmas.List.Elements.{All-push}
 use Rattle.std.proofs.Math.Seq.{take-add}
 use Rattle.fips204_base.specs.declared.types.R.{R}
-use Rattle.fips204_base.specs.Packing.{PolynomialInRange, polynomial_bytes, width}
+use Rattle.fips204_base.specs.Packing.{polynomial_bytes, width}
+use Rattle.fips204_base.specs.Bounds.{PolynomialInRange}
 use Rattle.fips204_base.proofs.VectorBytes.{piece-within, vector_stored, bytes_at_integers, vector_at_integers}
 use Rattle.fips204_base.proofs.encodings.vectors.unpack_vector.Goals as goal
 

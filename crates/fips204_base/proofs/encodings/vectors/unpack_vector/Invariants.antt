@@ -1,6 +1,7 @@
 use Rattle.std.proofs.Common.{◌≡◌, ◌*◌, ◌-ℤ◌, pos, take, length}
 use Rattle.std.specs.List.{All, flat_map}
-use Rattle.fips204_base.specs.Packing.{PolynomialInRange, polynomial_bytes}
+use Rattle.fips204_base.specs.Packing.{polynomial_bytes}
+use Rattle.fips204_base.specs.Bounds.{PolynomialInRange}
 use Rattle.fips204_base.proofs.encodings.vectors.unpack_vector.Given as goal
 
 abbrev pub invariant-loop-i : goal.invariant-loop-i

@@ -4,7 +4,7 @@ use mir.Val.{SFits}
 use mir.Syntax.{add, signed}
 use borrow.Table.Row.{s_int}
 use borrow.Rule.Simd.Lanes.{Asks2, act2}
-use Rattle.fips204_base.specs.Lanes.{AreEight}
+use Rattle.fips204_base.specs.Network.{AreEight}
 use Rattle.fips204_base.proofs.LaneRows.{range_fits, sum_asked, sum_given, lanes_asked, lanes_given, lanes_fit, length-lanes}
 use Rattle.fips204_base.proofs.lanes.LanesResidue.add.Goals as goal
 

@@ -4,7 +4,8 @@ use Rattle.std.specs.Int.{w32}
 use Rattle.std.proofs.lemmas.Int.{ints, fits_signed_from_abs}
 use mir.Val.{SFits}
 use Rattle.fips204_base.specs.Residues.{residue}
-use Rattle.fips204_base.specs.Lanes.{lane, AreEight}
+use Rattle.fips204_base.specs.Lanes.{lane}
+use Rattle.fips204_base.specs.Network.{AreEight}
 use Rattle.fips204_base.proofs.Residues.{residue_multiple}
 use Rattle.fips204_base.proofs.LaneReductions.{reduced, quotient, reduced_small, reduced_is, reduced_row, reduced_row_is, word_at, word_length}
 use Rattle.fips204_base.proofs.lanes.LanesResidue.reduce.Goals as goal

@@ -1,8 +1,9 @@
 use Rattle.std.proofs.Common.{ℕ, ℤ, ◌≡◌, ◌<◌, ◌≤◌, ◌*◌, ◌%◌, List, length, get_or}
 use Rattle.std.specs.Prelude.{nat_abs}
-use Rattle.fips204_base.specs.Residues.{residue, from_mont}
+use Rattle.fips204_base.specs.Residues.{residue}
+use Rattle.fips204_base.specs.PlainTransforms.{from_mont}
 use Rattle.fips204_base.specs.Lanes.{lane}
-use Rattle.fips204_base.specs.Vectors.{coefficient_at}
+use Rattle.fips204_base.specs.Bounds.{coefficient_at}
 use Rattle.fips204_base.proofs.product.Transforms.write_multiple.Given as goal
 
 abbrev pub invariant-loop-n : goal.invariant-loop-n

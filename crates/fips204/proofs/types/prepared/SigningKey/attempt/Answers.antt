@@ -2,8 +2,8 @@ use Rattle.std.proofs.Common.{rules, ℕ, ◌<◌, ◌≡◌, ◌∙◌, ap, sym
 use Rattle.std.proofs.lemmas.Int.{to_z-of_z}
 use Rattle.fips204_base.specs.declared.fault.Fault.TheVariants.{SamplingLimit}
 use Rattle.fips204_base.specs.Sampling.{challenge, mask}
-use Rattle.fips204_base.specs.Vectors.{coefficient_of, matrix_product, vector_coefficients, vector_of}
-use Rattle.fips204_base.specs.Bounds.{VectorWithin}
+use Rattle.fips204_base.specs.Vectors.{matrix_product, vector_coefficients, vector_of}
+use Rattle.fips204_base.specs.Bounds.{VectorWithin, coefficient_of}
 use Rattle.fips204_base.specs.Rounding.{high_bits}
 use Rattle.fips204_base.proofs.Sampled.{some_of_ok, none_of_err}
 use Rattle.fips204.specs.Signing.{attempt}
