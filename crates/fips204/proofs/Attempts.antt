@@ -18,7 +18,7 @@ use Rattle.fips204_base.proofs.Masks.{mask-range}
 use Rattle.fips204_base.proofs.Vectors.{vector_of-ext, vector_of-range, vector-within}
 use Rattle.fips204.specs.Signing.{attempt, commitment_hash, hint_vector, passes_checks, low_vector}
 use Rattle.fips204.specs.ParameterSets.{ParameterSet, c_tilde_length}
-use Rattle.fips204.specs.SigningInputs.{attempt_answer, scaled, high_vector, hint_bit, checked_attempt}
+use Rattle.fips204.specs.SigningInputs.{scaled, high_vector, hint_bit, checked_attempt}
 use Rattle.fips204.proofs.ParameterSets.{rounding-size}
 use Rattle.fips204_base.specs.Bounds.{VectorWithin, PolynomialInRange, coefficient_of}
 
@@ -120,6 +120,5 @@ attempt-is p H a sk mu rho'' kappa k l y w w1 c_tilde rows columns masked produc
     (high_vector-is p (vector_coefficients w) w1 k rows high) committed
 
 -- an attempt without a challenge is a refusal
-pub checked_attempt-limit : (p : ParameterSet) (sk : PrivateParts) (y : List R) (w : ℕ → ℕ → ℕ) (c_tilde : List ℕ) (t : Option R) → t ≡ None → attempt_answer (checked_attempt p sk y w c_tilde t) ≡ Err SamplingLimit
-unfolding attempt_answer
+pub checked_attempt-limit : (p : ParameterSet) (sk : PrivateParts) (y : List R) (w : ℕ → ℕ → ℕ) (c_tilde : List ℕ) (t : Option R) → t ≡ None → checked_attempt p sk y w c_tilde t ≡ Err SamplingLimit
 checked_attempt-limit p sk y w c_tilde t e = rw e refl

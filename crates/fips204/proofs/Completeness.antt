@@ -1,9 +1,10 @@
 -- What signing answers is the signature of a kept attempt, and it is accepted.
-use Rattle.std.proofs.Common.{◌≡◌, ◌⊎◌, inl, inr, ◌+◌, ◌-◌, ◌*◌, ℕ, zero, suc, List, [], ◌∷◌, IsTrue, ◌&&◌, nat_lt, nat_le, length, map, Some, None, Ok, refl, ap, sym, ◌∙◌, ◌<◌, ◌≤◌, ◌++◌, pos, arith}
+use Rattle.std.proofs.Common.{◌≡◌, ◌⊎◌, inl, inr, ◌+◌, ◌-◌, ◌*◌, ℕ, zero, suc, List, [], ◌∷◌, IsTrue, ◌&&◌, nat_lt, nat_le, length, map, Some, None, Result, Ok, refl, ap, sym, ◌∙◌, ◌<◌, ◌≤◌, ◌++◌, pos, arith}
 use Rattle.std.specs.Prelude.{option_map, unwrap_or, Err}
 use Rattle.std.specs.declared.option.Option.{Option}
 use Rattle.std.specs.List.{range_with_len}
 use Rattle.std.proofs.lemmas.Bool.{cases_Bool, ltb-true, leb-true}
+use Rattle.fips204_base.specs.declared.fault.Fault.{Fault}
 use Rattle.fips204_base.specs.declared.fault.Fault.TheVariants.{SamplingLimit}
 use Rattle.fips204_base.specs.declared.types.R.{R}
 use Rattle.fips204_base.specs.declared.types.T.{T}
@@ -13,7 +14,7 @@ use Rattle.fips204_base.specs.Encodings.{PrivateParts, ArePrivateParts, signatur
 use Rattle.fips204_base.specs.Vectors.{vector_coefficients, matrix_product, IsVector}
 use Rattle.fips204.specs.ParameterSets.{ParameterSet, c_tilde_length, IsSet}
 use Rattle.fips204.specs.Keys.{IsWhole, high_part, low_part}
-use Rattle.fips204.specs.Signing.{Attempt, unsampled, rejected, signed, response, low_vector, ct0, hint_vector, passes_checks, commitment_hash, attempt, w_minus_cs2, first_answer, sign_with, sign}
+use Rattle.fips204.specs.Signing.{response, low_vector, ct0, hint_vector, passes_checks, commitment_hash, attempt, w_minus_cs2, first_answer, sign_with, sign}
 use Rattle.fips204.proofs.ParameterSets.{and_out, AreSetNumbers, set_numbers}
 use Rattle.fips204.proofs.KeptHints.{IsKept, hinted_is_high}
 use Rattle.std.proofs.lemmas.List.{length-take-le}
@@ -25,17 +26,18 @@ use Rattle.fips204.specs.SigningInputs.{scaled, y_plus_cs1, high_vector, mask_se
 
 -- ---- the attempt that was signed
 
-signed_or_later : (this : Attempt) (later : List Attempt) (signature : List ℕ) → first_answer (this ∷ later) ≡ Ok signature → (this ≡ signed signature) ⊎ (first_answer later ≡ Ok signature)
+signed_or_later : (this : Result (Option (List ℕ)) Fault) (later : List (Result (Option (List ℕ)) Fault)) (signature : List ℕ) → first_answer (this ∷ later) ≡ Ok signature
+    → (this ≡ Ok (Some signature)) ⊎ (first_answer later ≡ Ok signature)
 unfolding first_answer
-signed_or_later unsampled later signature e = absurd cc
-signed_or_later rejected later signature e = inr e
-signed_or_later (signed bytes) later signature e = let same : bytes ≡ signature = cc in inl (ap signed same)
+signed_or_later (Err fault) later signature e = absurd cc
+signed_or_later (Ok None) later signature e = inr e
+signed_or_later (Ok (Some bytes)) later signature e = let same : bytes ≡ signature = cc in inl (ap (λ s. Ok (Some s)) same)
 
 none_signed : (signature : List ℕ) → first_answer [] ≡ Ok signature → ⊥
 unfolding first_answer
 none_signed signature e = cc
 
-some_signed : (f : ℕ → Attempt) (a count : ℕ) (signature : List ℕ) → first_answer (map f (range_with_len a count)) ≡ Ok signature → (n : ℕ) × (f n ≡ signed signature)
+some_signed : (f : ℕ → Result (Option (List ℕ)) Fault) (a count : ℕ) (signature : List ℕ) → first_answer (map f (range_with_len a count)) ≡ Ok signature → (n : ℕ) × (f n ≡ Ok (Some signature))
 some_signed f a zero signature e = absurd (none_signed signature e)
 some_signed f a (suc count) signature e = elim (signed_or_later (f a) (map f (range_with_len (a + 1) count)) signature e) [
   | inl here ↦ (a, here)
@@ -68,16 +70,16 @@ pub record GivesSignature (p : ParameterSet) (sk : PrivateParts) (y : List R) (w
   pub tests : IsKept p sk y w c
   pub bytes : signature_bytes p.gamma1 p.omega c_tilde (response p sk y c) (hint_vector p sk w c) ≡ signature
 
-signed_bytes : (x y : List ℕ) → signed x ≡ signed y → x ≡ y
+signed_bytes : (x y : List ℕ) → Path (Result (Option (List ℕ)) Fault) (Ok (Some x)) (Ok (Some y)) → x ≡ y
 signed_bytes x y e = cc
 
-not_signed : (x : List ℕ) → rejected ≡ signed x → ⊥
+not_signed : (x : List ℕ) → Path (Result (Option (List ℕ)) Fault) (Ok None) (Ok (Some x)) → ⊥
 not_signed x e = cc
 
-not_limit : (x : List ℕ) → unsampled ≡ signed x → ⊥
+not_limit : (x : List ℕ) → Path (Result (Option (List ℕ)) Fault) (Err SamplingLimit) (Ok (Some x)) → ⊥
 not_limit x e = cc
 
-judged_signed : (p : ParameterSet) (sk : PrivateParts) (y : List R) (w : ℕ → ℕ → ℕ) (c_tilde : List ℕ) (o : Option R) (signature : List ℕ) → checked_attempt p sk y w c_tilde o ≡ signed signature
+judged_signed : (p : ParameterSet) (sk : PrivateParts) (y : List R) (w : ℕ → ℕ → ℕ) (c_tilde : List ℕ) (o : Option R) (signature : List ℕ) → checked_attempt p sk y w c_tilde o ≡ Ok (Some signature)
     → GivesSignature p sk y w c_tilde o signature
 judged_signed p sk y w c_tilde None signature e = absurd (not_limit signature e)
 judged_signed p sk y w c_tilde (Some c) signature e = elim (cases_Bool (passes_checks p sk y w c)) [
@@ -98,7 +100,7 @@ pub record WasSigned (p : ParameterSet) (H : List ℕ → List ℕ) (a : List (L
   pub gives : GivesSignature p sk y (matrix_product p.l a (vector_coefficients y)) (commitment_hash p H mu (high_vector p (matrix_product p.l a (vector_coefficients y))))
       (challenge p.tau (H (commitment_hash p H mu (high_vector p (matrix_product p.l a (vector_coefficients y)))))) signature
 
-attempt_signed : (p : ParameterSet) (H : List ℕ → List ℕ) (a : List (List T)) (sk : PrivateParts) (mu seed signature : List ℕ) (kappa : ℕ) → attempt p H a sk mu seed kappa ≡ signed signature
+attempt_signed : (p : ParameterSet) (H : List ℕ → List ℕ) (a : List (List T)) (sk : PrivateParts) (mu seed signature : List ℕ) (kappa : ℕ) → attempt p H a sk mu seed kappa ≡ Ok (Some signature)
     → WasSigned p H a sk mu signature
 unfolding attempt
 attempt_signed p H a sk mu seed signature kappa e =

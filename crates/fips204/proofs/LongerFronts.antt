@@ -1,6 +1,6 @@
 -- Answers stay where the fronts are prefixes of longer ones.
 use Rattle.std.proofs.Common.{◌≡◌, ◌≢◌, ℕ, ◌+◌, ◌-◌, ◌*◌, ◌≤◌, ◌⊎◌, inl, inr, List, [], ◌∷◌, ◌++◌, length, take, drop, map, refl, ap, sym, subst, ◌∙◌, arith, Some, None, ok_or, append_assoc}
-use Rattle.std.specs.Prelude.{option_map, unwrap_or, Err}
+use Rattle.std.specs.Prelude.{option_map, unwrap_or, Ok, Err}
 use Rattle.std.specs.declared.option.Option.{Option}
 use Rattle.std.specs.declared.result.Result.{Result}
 use Rattle.std.specs.List.{range_with_len}
@@ -21,7 +21,7 @@ use Rattle.fips204.specs.Keys.{high_part, key_pair}
 use Rattle.fips204.specs.SigningInputs.{key_hash, high_vector, mask_seed, checked_attempt}
 use Rattle.fips204.proofs.KeyGeneration.{key_pair_if_all, key_pair_of_seed, generated-by_parts}
 use Rattle.fips204.specs.Framing.{Input, plain, hashed, framed, represented, frame, representative}
-use Rattle.fips204.specs.Signing.{Attempt, unsampled, rejected, signed, commitment_hash, attempt, first_answer, sign_with, sign}
+use Rattle.fips204.specs.Signing.{commitment_hash, attempt, first_answer, sign_with, sign}
 use Rattle.fips204.specs.Acceptance.{Verifies}
 use Rattle.fips204.specs.Refusals.{generated, derived, refused_or, input_fault, sign_input, VerifiesInput}
 use Rattle.fips204.specs.LongerFronts.{CounterFrontsArePrefixes, SamplesStay, Stays, AnswersStay, IsVerdictDecided, sampled, malformed, YesAndNoStay, AcceptanceStays, LongerFrontsKeep}
@@ -109,12 +109,12 @@ module _ (H G H' G' : List ℕ → List ℕ) (first : ArePrefixes H H') (second 
   commitment-longer p mu w1 t = hash-longer (c_tilde_length p) (mu ++ w1_bytes p.gamma2 w1) (omega (arith, (set_numbers p t).short))
 
   checked_stays : (p : ParameterSet) (sk : PrivateParts) (y : List R) (w : ℕ → ℕ → ℕ) (c_tilde : List ℕ) (c longer : Option R) → ((x : R) → c ≡ Some x → longer ≡ Some x)
-      → (checked_attempt p sk y w c_tilde c ≡ unsampled) ⊎ (checked_attempt p sk y w c_tilde longer ≡ checked_attempt p sk y w c_tilde c)
+      → (checked_attempt p sk y w c_tilde c ≡ Err SamplingLimit) ⊎ (checked_attempt p sk y w c_tilde longer ≡ checked_attempt p sk y w c_tilde c)
   checked_stays p sk y w c_tilde None longer same = inl refl
   checked_stays p sk y w c_tilde (Some c) longer same = inr (ap (checked_attempt p sk y w c_tilde) (same c refl))
 
   attempt-longer : (p : ParameterSet) (a : List (List T)) (sk : PrivateParts) (mu rho : List ℕ) (kappa : ℕ) → IsSet p
-      → (attempt p H a sk mu rho kappa ≡ unsampled) ⊎ (attempt p H' a sk mu rho kappa ≡ attempt p H a sk mu rho kappa)
+      → (attempt p H a sk mu rho kappa ≡ Err SamplingLimit) ⊎ (attempt p H' a sk mu rho kappa ≡ attempt p H a sk mu rho kappa)
   unfolding attempt
   attempt-longer p a sk mu rho kappa t =
       let y = mask p.gamma1 H rho p.l kappa in
@@ -125,13 +125,13 @@ module _ (H G H' G' : List ℕ → List ℕ) (first : ArePrefixes H H') (second 
       rw (masks, committed)
       (checked_stays p sk y w c_tilde (challenge p.tau (H c_tilde)) (challenge p.tau (H' c_tilde)) (λ c there. challenge-longer p.tau (H c_tilde) (H' c_tilde) c (first c_tilde) (enough c_tilde) there))
 
-  next_stays : (x : Attempt) (later longer : List Attempt) → Stays (first_answer later) (first_answer longer) → Stays (first_answer (x ∷ later)) (first_answer (x ∷ longer))
+  next_stays : (x : Result (Option (List ℕ)) Fault) (later longer : List (Result (Option (List ℕ)) Fault)) → Stays (first_answer later) (first_answer longer) → Stays (first_answer (x ∷ later)) (first_answer (x ∷ longer))
   unfolding first_answer
-  next_stays unsampled later longer stays not = absurd (not refl)
-  next_stays rejected later longer stays not = stays not
-  next_stays (signed signature) later longer stays not = refl
+  next_stays (Err fault) later longer stays not = refl
+  next_stays (Ok None) later longer stays not = stays not
+  next_stays (Ok (Some signature)) later longer stays not = refl
 
-  first_stays : (f g : ℕ → Attempt) (ns : List ℕ) → ((n : ℕ) → (f n ≡ unsampled) ⊎ (g n ≡ f n)) → Stays (first_answer (map f ns)) (first_answer (map g ns))
+  first_stays : (f g : ℕ → Result (Option (List ℕ)) Fault) (ns : List ℕ) → ((n : ℕ) → (f n ≡ Err SamplingLimit) ⊎ (g n ≡ f n)) → Stays (first_answer (map f ns)) (first_answer (map g ns))
   unfolding first_answer
   first_stays f g [] each not = refl
   first_stays f g (n ∷ ns) each not = elim (each n) [

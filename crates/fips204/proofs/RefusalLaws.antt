@@ -8,30 +8,41 @@ use Rattle.fips204_base.specs.declared.types.T.{T}
 use Rattle.fips204_base.specs.Sampling.{sampled_matrix}
 use Rattle.fips204.specs.ParameterSets.{ParameterSet}
 use Rattle.fips204_base.specs.Encodings.{PrivateParts}
-use Rattle.fips204.specs.Signing.{Attempt, unsampled, rejected, signed, attempt, first_answer, sign_with, sign}
+use Rattle.fips204.specs.Signing.{attempt, first_answer, sign_with, sign}
 use Rattle.fips204.specs.Framing.{Input, representative}
 use Rattle.fips204.specs.SchemeLaws.{RefusesOnly}
-use Rattle.fips204.specs.SigningInputs.{mask_seed}
+use Rattle.fips204.specs.SigningInputs.{IsSigningLimit, mask_seed}
 use Rattle.fips204.proofs.KeyGeneration.{key_pair_of_seed, generated-by_parts}
-use Rattle.fips204.specs.Refusals.{derived, refused_or, input_fault, sign_input, OnlySamplingLimit, IsSigningLimit}
+use Rattle.fips204.specs.Refusals.{derived, refused_or, input_fault, sign_input, OnlySamplingLimit}
 
 -- a value, or a limit where there is none
 limited : {A : Type 0} (o : Option A) → OnlySamplingLimit (ok_or o SamplingLimit)
 limited None = refl
 limited (Some x) = search rules
 
-first_refuses : (attempts : List Attempt) → IfErr (first_answer attempts) (λ fault. IsSigningLimit fault)
+next_refuses : (this : Result (Option (List ℕ)) Fault) (later : List (Result (Option (List ℕ)) Fault)) → OnlySamplingLimit this → IfErr (first_answer later) (λ fault. IsSigningLimit fault)
+    → IfErr (first_answer (this ∷ later)) (λ fault. IsSigningLimit fault)
 unfolding first_answer
-first_refuses [] = inr refl
-first_refuses (unsampled ∷ later) = inl refl
-first_refuses (rejected ∷ later) = first_refuses later
-first_refuses (signed signature ∷ later) = search rules
+next_refuses (Err fault) later limit rest = inl limit
+next_refuses (Ok None) later limit rest = rest
+next_refuses (Ok (Some signature)) later limit rest = search rules
+
+first_refuses : (f : ℕ → Result (Option (List ℕ)) Fault) (ns : List ℕ) → ((n : ℕ) → OnlySamplingLimit (f n)) → IfErr (first_answer (map f ns)) (λ fault. IsSigningLimit fault)
+unfolding first_answer
+first_refuses f [] limits = inr refl
+first_refuses f (n ∷ ns) limits = next_refuses (f n) (map f ns) (limits n) (first_refuses f ns limits)
+
+attempt_refuses : (p : ParameterSet) (H : List ℕ → List ℕ) (a : List (List T)) (sk : PrivateParts) (mu seed : List ℕ) (kappa : ℕ) → OnlySamplingLimit (attempt p H a sk mu seed kappa)
+unfolding attempt
+attempt_refuses p H a sk mu seed kappa = limited _
 
 with_matrix : (p : ParameterSet) (H : List ℕ → List ℕ) (matrix : Option (List (List T))) (sk : PrivateParts) (mu rnd : List ℕ)
     → IfErr (unwrap_or (option_map (λ a. sign_with p H a sk mu rnd) matrix) (Err SamplingLimit)) (λ fault. IsSigningLimit fault)
 unfolding sign_with
 with_matrix p H None sk mu rnd = inl refl
-with_matrix p H (Some a) sk mu rnd = first_refuses (map (λ n. attempt p H a sk mu (mask_seed H sk rnd mu) (n * p.l)) (range_with_len 0 814))
+with_matrix p H (Some a) sk mu rnd =
+    let seed = mask_seed H sk rnd mu in
+    first_refuses (λ n. attempt p H a sk mu seed (n * p.l)) (range_with_len 0 814) (λ n. attempt_refuses p H a sk mu seed (n * p.l))
 
 signing_refuses : (p : ParameterSet) (H G : List ℕ → List ℕ) (sk : PrivateParts) (mu rnd : List ℕ) → IfErr (sign p H G sk mu rnd) (λ fault. IsSigningLimit fault)
 unfolding sign

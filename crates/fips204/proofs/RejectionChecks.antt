@@ -23,7 +23,7 @@ use Rattle.fips204.specs.declared.types.Params.{Params}
 use Rattle.fips204.specs.Signing.{response, low_vector, ct0, hint_vector, passes_checks, w_minus_cs2}
 use Rattle.fips204.specs.ParameterSets.{ParameterSet, c_tilde_length, signature_length}
 use Rattle.fips204.specs.Sets.{set_of}
-use Rattle.fips204.specs.SigningInputs.{attempt_answer, scaled, y_plus_cs1, hint_bit, checked_attempt}
+use Rattle.fips204.specs.SigningInputs.{scaled, y_plus_cs1, hint_bit, checked_attempt}
 use Rattle.fips204.proofs.ChallengeProducts.{norm_of_place}
 
 -- Sums, norms and hints of an attempt's vectors.
@@ -105,26 +105,24 @@ and-third a b c d e f h = rw (sym e, sym f, sym h) refl
 and-fourth : (a b c d : Bool) → true ≡ a → true ≡ b → true ≡ c → (a && b && c && d) ≡ d
 and-fourth a b c d e f h = rw (sym e, sym f, sym h) refl
 
-rejected : (p : ParameterSet) (sk : PrivateParts) (y : List R) (w : ℕ → ℕ → ℕ) (c_tilde : List ℕ) (c : R) → passes_checks p sk y w c ≡ false → Ok None ≡ attempt_answer (checked_attempt p sk y w c_tilde (Some c))
-unfolding attempt_answer
+rejected : (p : ParameterSet) (sk : PrivateParts) (y : List R) (w : ℕ → ℕ → ℕ) (c_tilde : List ℕ) (c : R) → passes_checks p sk y w c ≡ false → Ok None ≡ checked_attempt p sk y w c_tilde (Some c)
 rejected p sk y w c_tilde c e = rw e refl
 
 signed : (p : ParameterSet) (sk : PrivateParts) (y : List R) (w : ℕ → ℕ → ℕ) (c_tilde : List ℕ) (c : R) → passes_checks p sk y w c ≡ true
-    → Ok (Some (signature_bytes p.gamma1 p.omega c_tilde (response p sk y c) (hint_vector p sk w c))) ≡ attempt_answer (checked_attempt p sk y w c_tilde (Some c))
-unfolding attempt_answer
+    → Ok (Some (signature_bytes p.gamma1 p.omega c_tilde (response p sk y c) (hint_vector p sk w c))) ≡ checked_attempt p sk y w c_tilde (Some c)
 signed p sk y w c_tilde c e = rw e refl
 
 -- an attempt is rejected at the first test that fails, and kept where none does
 pub rejected-first : (p : ParameterSet) (sk : PrivateParts) (y : List R) (w : ℕ → ℕ → ℕ) (c_tilde : List ℕ) (c : R)
     → false ≡ nat_lt (vector_norm (response p sk y c)) (p.gamma1 - p.beta)
-    → Ok None ≡ attempt_answer (checked_attempt p sk y w c_tilde (Some c))
+    → Ok None ≡ checked_attempt p sk y w c_tilde (Some c)
 unfolding passes_checks
 rejected-first p sk y w c_tilde c e = rejected p sk y w c_tilde c (and-first _ _ _ _ e)
 
 pub rejected-second : (p : ParameterSet) (sk : PrivateParts) (y : List R) (w : ℕ → ℕ → ℕ) (c_tilde : List ℕ) (c : R)
     → true ≡ nat_lt (vector_norm (response p sk y c)) (p.gamma1 - p.beta)
     → false ≡ nat_lt (vector_norm (low_vector p sk w c)) (p.gamma2 - p.beta)
-    → Ok None ≡ attempt_answer (checked_attempt p sk y w c_tilde (Some c))
+    → Ok None ≡ checked_attempt p sk y w c_tilde (Some c)
 unfolding passes_checks
 rejected-second p sk y w c_tilde c e f = rejected p sk y w c_tilde c (and-second _ _ _ _ e f)
 
@@ -132,7 +130,7 @@ pub rejected-third : (p : ParameterSet) (sk : PrivateParts) (y : List R) (w : �
     → true ≡ nat_lt (vector_norm (response p sk y c)) (p.gamma1 - p.beta)
     → true ≡ nat_lt (vector_norm (low_vector p sk w c)) (p.gamma2 - p.beta)
     → false ≡ nat_lt (vector_norm (ct0 p sk c)) p.gamma2
-    → Ok None ≡ attempt_answer (checked_attempt p sk y w c_tilde (Some c))
+    → Ok None ≡ checked_attempt p sk y w c_tilde (Some c)
 unfolding passes_checks
 rejected-third p sk y w c_tilde c e f h = rejected p sk y w c_tilde c (and-third _ _ _ _ e f h)
 
@@ -141,7 +139,7 @@ pub rejected-fourth : (p : ParameterSet) (sk : PrivateParts) (y : List R) (w : �
     → true ≡ nat_lt (vector_norm (low_vector p sk w c)) (p.gamma2 - p.beta)
     → true ≡ nat_lt (vector_norm (ct0 p sk c)) p.gamma2
     → p.omega < length (all_ones (hint_vector p sk w c))
-    → Ok None ≡ attempt_answer (checked_attempt p sk y w c_tilde (Some c))
+    → Ok None ≡ checked_attempt p sk y w c_tilde (Some c)
 unfolding passes_checks
 rejected-fourth p sk y w c_tilde c e f h many = rejected p sk y w c_tilde c (and-fourth _ _ _ _ e f h ∙ lt-leb _ _ many)
 
@@ -150,7 +148,7 @@ pub kept : (p : ParameterSet) (sk : PrivateParts) (y : List R) (w : ℕ → ℕ 
     → true ≡ nat_lt (vector_norm (low_vector p sk w c)) (p.gamma2 - p.beta)
     → true ≡ nat_lt (vector_norm (ct0 p sk c)) p.gamma2
     → length (all_ones (hint_vector p sk w c)) ≤ p.omega
-    → Ok (Some (signature_bytes p.gamma1 p.omega c_tilde (response p sk y c) (hint_vector p sk w c))) ≡ attempt_answer (checked_attempt p sk y w c_tilde (Some c))
+    → Ok (Some (signature_bytes p.gamma1 p.omega c_tilde (response p sk y c) (hint_vector p sk w c))) ≡ checked_attempt p sk y w c_tilde (Some c)
 unfolding passes_checks
 kept p sk y w c_tilde c e f h few = signed p sk y w c_tilde c (and-fourth _ _ _ _ e f h ∙ le-leb _ _ few)
 

@@ -15,7 +15,7 @@ use Rattle.fips204.specs.SigningInputs.{seed_front, t1_shifted, mask_seed}
 use Rattle.fips204.specs.Acceptance.{w1_prime}
 use Rattle.fips204.specs.ParameterSets.{ParameterSet, set_44, set_65, set_87, public_key_length, private_key_length, signature_length}
 use Rattle.fips204.specs.Rows.{is_parameter_set}
-use Rattle.fips204.specs.Signing.{first_answer, unsampled, rejected, signed, commitment_hash, w_minus_cs2, sign}
+use Rattle.fips204.specs.Signing.{first_answer, commitment_hash, w_minus_cs2, sign}
 use Rattle.std.specs.Prelude.{◌/◌, ◌^◌, replicate, nat_eq, get_or, option_map}
 use Rattle.std.specs.List.{range_with_len, flat_map}
 use Rattle.fips204.specs.declared.types.pre_hash.TheConstants.{SHA2_224, SHA2_256, SHA2_384, SHA2_512, SHA2_512_224, SHA2_512_256, SHA3_224, SHA3_256, SHA3_384, SHA3_512, SHAKE_128, SHAKE_256}
@@ -56,15 +56,15 @@ unfolding sets
 rows = refl
 
 -- the first attempt that isn't rejected decides, also where it is past its limit
-first_signed : first_answer (rejected ∷ rejected ∷ signed (1 ∷ []) ∷ signed (2 ∷ []) ∷ []) ≡ Ok (1 ∷ [])
+first_signed : first_answer (Ok None ∷ Ok None ∷ Ok (Some (1 ∷ [])) ∷ Ok (Some (2 ∷ [])) ∷ []) ≡ Ok (1 ∷ [])
 unfolding first_answer
 first_signed = refl
 
-first_limit : first_answer (rejected ∷ unsampled ∷ signed (2 ∷ []) ∷ []) ≡ Err SamplingLimit
+first_limit : first_answer (Ok None ∷ Err SamplingLimit ∷ Ok (Some (2 ∷ [])) ∷ []) ≡ Err SamplingLimit
 unfolding first_answer
 first_limit = refl
 
-none_left : first_answer (rejected ∷ rejected ∷ []) ≡ Err TooManyAttempts
+none_left : first_answer (Ok None ∷ Ok None ∷ []) ≡ Err TooManyAttempts
 unfolding first_answer
 none_left = refl
 

@@ -1,5 +1,5 @@
 -- Acceptance (FIPS 204, Algorithm 8).
-use Rattle.std.specs.Prelude.{◌≡◌, ◌<◌, ℕ, ◌-◌, ◌*◌, ◌%◌, List, ◌++◌, take, pos, Some, slice_index_or, []}
+use Rattle.std.specs.Prelude.{◌≡◌, ◌<◌, ◌-◌, ◌*◌, ◌%◌, List, ◌++◌, take, pos, Some, slice_index_or, []}
 use Rattle.fips204_base.specs.declared.types.R.{R}
 use Rattle.fips204_base.specs.declared.types.T.{T}
 use Rattle.fips204_base.specs.Residues.{vector_norm, coefficients}

@@ -1,5 +1,5 @@
 -- The public constants, by their values (FIPS 204, Tables 1 and 2, section 5.4 and Appendices B and C).
-use Rattle.std.specs.Prelude.{◌≡◌, ℕ, ◌*◌, ◌%◌, ◌^◌, pos, nat_abs, map, replicate}
+use Rattle.std.specs.Prelude.{◌≡◌, ◌*◌, ◌%◌, ◌^◌, pos, nat_abs, map, replicate}
 use Rattle.std.specs.List.{range_with_len}
 use Rattle.fips204_base.specs.Transforms.{bit_reversed}
 use Rattle.fips204_base.specs.declared.TheConstants.{Q, ZETA, D}

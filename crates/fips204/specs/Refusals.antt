@@ -4,7 +4,7 @@ use Rattle.fips204_base.specs.Encodings.{PublicParts, PrivateParts}
 use Rattle.fips204_base.specs.Sampling.{sampled_matrix, small_vectors}
 use Rattle.fips204_base.specs.Streams.{Bytes, XOF}
 use Rattle.fips204_base.specs.declared.fault.Fault.{Fault}
-use Rattle.fips204_base.specs.declared.fault.Fault.TheVariants.{SignCtx, HashCtx, SamplingLimit, TooManyAttempts}
+use Rattle.fips204_base.specs.declared.fault.Fault.TheVariants.{SignCtx, HashCtx, SamplingLimit}
 use Rattle.fips204.specs.ParameterSets.{ParameterSet}
 use Rattle.fips204.specs.Keys.{high_part, key_pair}
 use Rattle.fips204.specs.Framing.{Input, plain, hashed, pre_hash_fault, framed, represented, representative}
@@ -48,10 +48,6 @@ VerifiesInput p H G pk signature input = (input_fault input ≡ None) × Verifie
 -- an answer's one refusal is that a sampler reached its limit
 abbrev pub OnlySamplingLimit : {A : Type 0} → Result A Fault → Type 0
 OnlySamplingLimit answer = IfErr answer (λ fault. fault ≡ SamplingLimit)
-
--- the refusals of signing beside those of its input: a sampler reached its limit, or every attempt was rejected
-abbrev pub IsSigningLimit : Fault → Type 0
-IsSigningLimit fault = (fault ≡ SamplingLimit) ⊎ (fault ≡ TooManyAttempts)
 
 -- what a call answers that asks a generator once, for 32 bytes: the answer over bytes that it gave, or the refusal where it
 -- refused; gives and refuses are what the generator states of such a call, from before to after

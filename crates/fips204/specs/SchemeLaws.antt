@@ -9,13 +9,14 @@ use Rattle.fips204_base.specs.Sampling.{challenge, sampled_matrix}
 use Rattle.fips204_base.specs.Streams.{Bytes, XOF}
 use Rattle.fips204_base.specs.Transforms.{product}
 use Rattle.fips204_base.specs.Vectors.{IsVector, polynomial_of}
+use Rattle.fips204_base.specs.declared.fault.Fault.TheVariants.{SamplingLimit, TooManyAttempts}
 use Rattle.fips204_base.specs.declared.types.R.{R}
 use Rattle.fips204_base.specs.declared.types.T.{T}
 use Rattle.fips204.specs.Acceptance.{Opens}
 use Rattle.fips204.specs.Framing.{Input, framed, plain, hashed, represented, frame, representative}
 use Rattle.fips204.specs.ParameterSets.{ParameterSet, c_tilde_length, IsSet}
 use Rattle.fips204.specs.Prepared.{prepared_private, prepared_public}
-use Rattle.fips204.specs.Refusals.{generated, derived, input_fault, sign_input, VerifiesInput, OnlySamplingLimit, IsSigningLimit}
+use Rattle.fips204.specs.Refusals.{generated, derived, input_fault, sign_input, VerifiesInput, OnlySamplingLimit}
 
 -- with the hint of z the high bits of r become those of r + z, where z is at most gamma2 in absolute value
 abbrev pub HintGivesHighBits : Type 0
@@ -152,4 +153,5 @@ pub record RefusesOnly (p : ParameterSet) (H G : XOF) : Type 0 where
   pub derived_keys : (sk : PrivateParts) → OnlySamplingLimit (derived p G sk)
   pub private_keys : (sk : PrivateParts) → OnlySamplingLimit (prepared_private p G sk)
   pub public_keys : (pk : PublicParts) → OnlySamplingLimit (prepared_public p G pk)
-  pub inputs : (sk : PrivateParts) (rnd : Bytes) (input : Input) → IfErr (sign_input p H G sk rnd input) (λ fault. (input_fault input ≡ Some fault) ⊎ IsSigningLimit fault)
+  pub inputs : (sk : PrivateParts) (rnd : Bytes) (input : Input)
+      → IfErr (sign_input p H G sk rnd input) (λ fault. (input_fault input ≡ Some fault) ⊎ ((fault ≡ SamplingLimit) ⊎ (fault ≡ TooManyAttempts)))

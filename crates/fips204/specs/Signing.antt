@@ -1,5 +1,5 @@
 -- Signing (FIPS 204, Algorithm 7): the body of its loop (lines 11 to 32), and the first of 814 attempts that is not rejected.
-use Rattle.std.specs.Prelude.{ℕ, ◌+◌, ◌-◌, ◌*◌, ◌%◌, List, ◌++◌, pos, Bool, ◌&&◌, nat_lt, nat_le, length, take, if◌then◌else◌, [], ◌∷◌, map, unwrap_or, option_map, Result, Ok, Err}
+use Rattle.std.specs.Prelude.{ℕ, ◌+◌, ◌-◌, ◌*◌, ◌%◌, List, ◌++◌, pos, Bool, ◌&&◌, nat_lt, nat_le, length, take, if◌then◌else◌, [], ◌∷◌, map, unwrap_or, option_map, ok_or, Option, Some, None, Result, Ok, Err}
 use Rattle.std.specs.List.{range_with_len}
 use Rattle.fips204_base.specs.Encodings.{PrivateParts, all_ones, signature_bytes, w1_bytes}
 use Rattle.fips204_base.specs.Residues.{centred, vector_norm, coefficients}
@@ -13,12 +13,6 @@ use Rattle.fips204_base.specs.declared.fault.Fault.TheVariants.{TooManyAttempts,
 use Rattle.fips204_base.specs.declared.types.R.{R}
 use Rattle.fips204_base.specs.declared.types.T.{T}
 use Rattle.fips204.specs.ParameterSets.{ParameterSet, c_tilde_length}
-
--- what an attempt comes to: the challenge is past its limit, the attempt is rejected, or it gives a signature
-pub data Attempt : Type 0 where
-  unsampled : Attempt
-  rejected : Attempt
-  signed : Bytes → Attempt
 
 -- c_tilde of a vector w1: the first lambda / 4 bytes of H over mu and the bytes of w1
 unfoldable pub commitment_hash : ParameterSet → XOF → Bytes → List R → Bytes
@@ -55,22 +49,23 @@ passes_checks p sk y w c =
     && nat_lt (vector_norm (ct0 p sk c)) p.gamma2
     && nat_le (length (all_ones (hint_vector p sk w c))) p.omega
 
--- the attempt at counter kappa, with the matrix a and the seed rho'' of masks; w1 are the high bits of w = A y
-unfoldable pub attempt : ParameterSet → XOF → List (List T) → PrivateParts → Bytes → Bytes → ℕ → Attempt
+-- the attempt at counter kappa, with the matrix a and the seed rho'' of masks: a signature, or none where it is rejected, or a refusal
+-- where there is no challenge; w1 are the high bits of w = A y
+unfoldable pub attempt : ParameterSet → XOF → List (List T) → PrivateParts → Bytes → Bytes → ℕ → Result (Option Bytes) Fault
 attempt p H a sk mu rho'' kappa =
     let y = mask p.gamma1 H rho'' p.l kappa in
     let w = matrix_product p.l a (vector_coefficients y) in
     let w1 = vector_of p.k (λ r n. pos (high_bits p.gamma2 (w r n))) in
     let c_tilde = commitment_hash p H mu w1 in
-    let checked = λ (c : R). if passes_checks p sk y w c then signed (signature_bytes p.gamma1 p.omega c_tilde (response p sk y c) (hint_vector p sk w c)) else rejected in
-    unwrap_or (option_map checked (challenge p.tau (H c_tilde))) unsampled
+    let checked = λ (c : R). if passes_checks p sk y w c then Some (signature_bytes p.gamma1 p.omega c_tilde (response p sk y c) (hint_vector p sk w c)) else None in
+    ok_or (option_map checked (challenge p.tau (H c_tilde))) SamplingLimit
 
 -- the answer of the first attempt that isn't rejected
-unfoldable pub first_answer : List Attempt → Result Bytes Fault
+unfoldable pub first_answer : List (Result (Option Bytes) Fault) → Result Bytes Fault
 first_answer [] = Err TooManyAttempts
-first_answer (unsampled ∷ later) = Err SamplingLimit
-first_answer (rejected ∷ later) = first_answer later
-first_answer (signed signature ∷ later) = Ok signature
+first_answer (Err fault ∷ later) = Err fault
+first_answer (Ok None ∷ later) = first_answer later
+first_answer (Ok (Some signature) ∷ later) = Ok signature
 
 -- signing with the matrix a: the first of 814 attempts (Appendix C) that isn't rejected; attempt n has kappa = n l
 unfoldable pub sign_with : ParameterSet → XOF → List (List T) → PrivateParts → Bytes → Bytes → Result Bytes Fault

@@ -1,5 +1,5 @@
 -- What private functions of signing take and answer, and parts of definitions: cited by no public clause; nobody has to believe it.
-use Rattle.std.specs.Prelude.{◌≡◌, ◌+◌, ◌-◌, ◌*◌, ◌%◌, ◌<◌, ◌≤◌, ℕ, List, [], ◌∷◌, ◌++◌, length, take, slice_index, Bool, ◌&&◌, nat_eq, nat_lt, nat_le, if◌then◌else◌, Option, Some, None, Result, Ok, Err, ℤ, pos, slice_index_or, option_map, unwrap_or}
+use Rattle.std.specs.Prelude.{◌≡◌, ◌⊎◌, ◌+◌, ◌-◌, ◌*◌, ◌%◌, ◌<◌, ◌≤◌, ℕ, List, [], ◌∷◌, ◌++◌, length, take, slice_index, Bool, ◌&&◌, nat_eq, nat_lt, nat_le, if◌then◌else◌, Option, Some, None, Result, Ok, ℤ, pos, slice_index_or, option_map, ok_or}
 use Rattle.fips204_base.specs.Encodings.{PrivateParts, IsSignature, public_key_bytes, signature_bytes, is_one}
 use Rattle.fips204_base.specs.Residues.{vector_norm, coefficients}
 use Rattle.fips204_base.specs.Rounding.{high_bits, make_hint, use_hint}
@@ -8,13 +8,13 @@ use Rattle.fips204_base.specs.Vectors.{IsVector, vector_coefficients, vector_of}
 use Rattle.fips204_base.specs.Network.{AreSameModQ}
 use Rattle.fips204_base.specs.Bounds.{PolynomialWithin, VectorWithin}
 use Rattle.fips204_base.specs.declared.fault.Fault.{Fault}
-use Rattle.fips204_base.specs.declared.fault.Fault.TheVariants.{SamplingLimit, SignCtx, HashCtx}
+use Rattle.fips204_base.specs.declared.fault.Fault.TheVariants.{SamplingLimit, SignCtx, HashCtx, TooManyAttempts}
 use Rattle.fips204_base.specs.declared.types.R.{R}
 use Rattle.fips204.specs.Framing.{Input, pre_hash_fault, representative}
 use Rattle.fips204.specs.ParameterSets.{ParameterSet, c_tilde_length}
 use Rattle.fips204.specs.Refusals.{refused_or, input_fault}
 use Rattle.fips204.specs.Sets.{HasSizes, set_of}
-use Rattle.fips204.specs.Signing.{Attempt, unsampled, rejected, signed, response, hint_vector, passes_checks}
+use Rattle.fips204.specs.Signing.{response, hint_vector, passes_checks}
 use Rattle.fips204.specs.declared.types.Params.{Params}
 use Rattle.fips204.specs.declared.types.prepared.KeyTransforms.{KeyTransforms}
 
@@ -42,12 +42,6 @@ pub record AreCheckInputs (p : Params) (k l n s : ℕ) (y w : List R) (c : R) : 
   pub product : VectorWithin k 8380416 w
   pub challenge : PolynomialWithin 8380416 c.0
 
--- an attempt as an answer: a refusal, none where it is rejected, or its signature
-unfoldable pub attempt_answer : Attempt → Result (Option (List ℕ)) Fault
-attempt_answer unsampled = Err SamplingLimit
-attempt_answer rejected = Ok None
-attempt_answer (signed signature) = Ok (Some signature)
-
 -- mu of an input under a key's hash tr, or the refusal
 abbrev pub input_hash : (List ℕ → List ℕ) → List ℕ → Input → Result (List ℕ) Fault
 input_hash H tr input = refused_or (input_fault input) (Ok (representative H tr input))
@@ -67,6 +61,10 @@ message_fault context = if nat_lt 255 (length context) then Some SignCtx else No
 abbrev pub digest_fault : List ℕ → List ℕ → List ℕ → Option Fault
 digest_fault digest context oid = if nat_lt 255 (length context) then Some HashCtx else pre_hash_fault digest oid
 
+-- the refusals of signing beside those of its input: a sampler reached its limit, or every attempt was rejected
+abbrev pub IsSigningLimit : Fault → Type 0
+IsSigningLimit fault = (fault ≡ SamplingLimit) ⊎ (fault ≡ TooManyAttempts)
+
 -- at least three bytes, the first 06, and the second below 128 and the number of bytes after it
 abbrev pub has_oid_form : List ℕ → Bool
 has_oid_form oid = nat_le 3 (length oid) && nat_eq (slice_index oid 0) 0x06 && nat_lt (slice_index oid 1) 128 && nat_eq (slice_index oid 1 + 2) (length oid)
@@ -76,9 +74,9 @@ abbrev pub high_vector : ParameterSet → (ℕ → ℕ → ℕ) → List R
 high_vector p w = vector_of p.k (λ r n. pos (high_bits p.gamma2 (w r n)))
 
 -- what a challenge makes of an attempt with mask y, whose A y is w
-abbrev pub checked_attempt : ParameterSet → PrivateParts → List R → (ℕ → ℕ → ℕ) → List ℕ → Option R → Attempt
+abbrev pub checked_attempt : ParameterSet → PrivateParts → List R → (ℕ → ℕ → ℕ) → List ℕ → Option R → Result (Option (List ℕ)) Fault
 checked_attempt p sk y w c_tilde challenge =
-    unwrap_or (option_map (λ c. if passes_checks p sk y w c then signed (signature_bytes p.gamma1 p.omega c_tilde (response p sk y c) (hint_vector p sk w c)) else rejected) challenge) unsampled
+    ok_or (option_map (λ c. if passes_checks p sk y w c then Some (signature_bytes p.gamma1 p.omega c_tilde (response p sk y c) (hint_vector p sk w c)) else None) challenge) SamplingLimit
 
 -- MakeHint(0 - t, v + t) at one place, as a coefficient
 abbrev pub hint_bit : ℕ → ℕ → ℕ → ℤ

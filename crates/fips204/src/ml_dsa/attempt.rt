@@ -7,7 +7,7 @@ ghost use Rattle.fips204_base.specs.Bounds.{VectorWithin, coefficient_of};
 ghost use Rattle.fips204_base.specs.Residues.{residue};
 ghost use Rattle.fips204_base.specs.Rounding.{IsGamma2, high_bits};
 ghost use Rattle.fips204.specs.Signing.{attempt};
-ghost use Rattle.fips204.specs.SigningInputs.{AreAttemptInputs, attempt_answer};
+ghost use Rattle.fips204.specs.SigningInputs.{AreAttemptInputs};
 ghost use Rattle.fips204.specs.Sets.{set_of};
 
 use super::commitment_hash::commitment_hash;
@@ -33,7 +33,7 @@ impl<'a, const K: usize, const L: usize, H: Xof, G> SigningKey<'a, K, L, H, G> {
     ) -> Result<Option<[u8; SIG_LEN]>, Fault>
         requires inputs { AreAttemptInputs p.now K L LAMBDA_DIV4 SIG_LEN kappa }
         ensures { result
-            ≡ attempt_answer (attempt (set_of p.now) H.front self.now.matrix self.now.parts mu.now mask_seed.now kappa) }
+            ≡ attempt (set_of p.now) H.front self.now.matrix self.now.parts mu.now mask_seed.now kappa }
     {
         // y = ExpandMask(rho'', kappa)
         let y = expand_mask::<L, H>(p.gamma1, mask_seed, kappa);

@@ -8,7 +8,7 @@ ghost use Rattle.fips204_base.specs.Vectors.{vector_coefficients, vector_of};
 ghost use Rattle.fips204_base.specs.Bounds.{VectorWithin};
 ghost use Rattle.fips204_base.specs.Transforms.{minus, plus};
 ghost use Rattle.fips204_base.specs.Rounding.{IsGamma2, low_bits};
-ghost use Rattle.fips204.specs.SigningInputs.{AreCheckInputs, attempt_answer, hint_bit, checked_attempt};
+ghost use Rattle.fips204.specs.SigningInputs.{AreCheckInputs, hint_bit, checked_attempt};
 ghost use Rattle.fips204.specs.Sets.{set_of};
 
 use crate::types::{Params, R, R0, SigningKey};
@@ -34,7 +34,7 @@ impl<'a, const K: usize, const L: usize, H, G> SigningKey<'a, K, L, H, G> {
     ) -> Option<[u8; SIG_LEN]>
         requires inputs { AreCheckInputs p.now K L LAMBDA_DIV4 SIG_LEN y.now w.now c.now }
         ensures { Ok result
-            ≡ attempt_answer (checked_attempt (set_of p.now) self.now.parts y.now (vector_coefficients w.now) c_tilde.now (Some c.now)) }
+            ≡ checked_attempt (set_of p.now) self.now.parts y.now (vector_coefficients w.now) c_tilde.now (Some c.now) }
     {
         // c_hat = NTT(c)
         let c_hat = Factor::of(c);

@@ -7,7 +7,7 @@ use Rattle.fips204_base.specs.Bounds.{VectorWithin, coefficient_of}
 use Rattle.fips204_base.specs.Rounding.{high_bits}
 use Rattle.fips204_base.proofs.Sampled.{some_of_ok, none_of_err}
 use Rattle.fips204.specs.Signing.{attempt}
-use Rattle.fips204.specs.SigningInputs.{attempt_answer, checked_attempt}
+use Rattle.fips204.specs.SigningInputs.{checked_attempt}
 use Rattle.fips204.specs.Prepared.{PreparedPrivate}
 use Rattle.fips204.specs.Sets.{set_of}
 use Rattle.fips204.proofs.Attempts.{attempt-is, checked_attempt-limit, mask-within, high-range}
@@ -69,7 +69,7 @@ returns-in_err-c g c =
     let none = (none_of_err (challenge (nat_abs p.tau) front) c.in_err-c.field-0.0 sampled).0 in
     let refused : c.from_residual.result ≡ Err SamplingLimit = search rules in
     refused
-    ∙ sym (ap attempt_answer (whole g (goal.at.returns-in_err-c g c).After-commitment_hash-c_tilde) ∙ checked_attempt-limit (set_of p) c.args.self.now.parts c.expand_mask-y.result (vector_coefficients c.write_matrix_product.new.out) c.commitment_hash-c_tilde.result _ none)
+    ∙ sym (whole g (goal.at.returns-in_err-c g c).After-commitment_hash-c_tilde ∙ checked_attempt-limit (set_of p) c.args.self.now.parts c.expand_mask-y.result (vector_coefficients c.write_matrix_product.new.out) c.commitment_hash-c_tilde.result _ none)
 
 pub rejection_checks-requires : goal.rejection_checks-requires
 rejection_checks-requires g c =
@@ -96,4 +96,4 @@ returns g c =
     let sampled : Ok c.in_ok-c.c ≡ ok_or (challenge (nat_abs p.tau) front) SamplingLimit = rw (to_z-of_z w32 p.tau (search rules)) at c.in_ok-c.ensures in
     let there = some_of_ok (challenge (nat_abs p.tau) front) c.in_ok-c.c sampled in
     c.rejection_checks.ensures
-    ∙ sym (ap attempt_answer (whole g (goal.at.returns g c).After-commitment_hash-c_tilde ∙ ap (checked_attempt (set_of p) c.args.self.now.parts c.expand_mask-y.result (vector_coefficients c.write_matrix_product.new.out) c.commitment_hash-c_tilde.result) there))
+    ∙ sym (whole g (goal.at.returns g c).After-commitment_hash-c_tilde ∙ ap (checked_attempt (set_of p) c.args.self.now.parts c.expand_mask-y.result (vector_coefficients c.write_matrix_product.new.out) c.commitment_hash-c_tilde.result) there)

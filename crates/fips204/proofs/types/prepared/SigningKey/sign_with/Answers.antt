@@ -1,11 +1,9 @@
-use Rattle.std.proofs.Common.{rules, ◌≡◌, ◌≤◌, ◌+◌, ◌*◌, ◌∙◌, ◌++◌, ℕ, List, [], take, append-nil, append_assoc, ap, sym, arith, Err}
-use Rattle.fips204_base.specs.declared.fault.Fault.TheVariants.{SamplingLimit}
-use Rattle.fips204.specs.Signing.{attempt}
+use Rattle.std.proofs.Common.{rules, ◌≡◌, ◌≤◌, ◌+◌, ◌∙◌, ◌++◌, ℕ, List, [], take, append-nil, append_assoc, ap, sym, arith, Err}
 use Rattle.fips204_base.specs.Encodings.{PrivateParts}
 use Rattle.fips204.specs.Prepared.{PreparedPrivate}
 use Rattle.fips204.specs.Sets.{set_of}
 use Rattle.fips204.proofs.ParameterSets.{limits}
-use Rattle.fips204.proofs.Signing.{counter_fits, answered-fault, one_more, sign_with-signed, sign_with-limit, sign_with-none}
+use Rattle.fips204.proofs.Signing.{counter_fits, one_more, sign_with-signed, sign_with-limit, sign_with-none}
 use Rattle.fips204.proofs.types.prepared.SigningKey.sign_with.Given.{Over}
 use Rattle.fips204.proofs.types.prepared.SigningKey.sign_with.Goals as goal
 use Rattle.fips204.specs.SigningInputs.{mask_seed}
@@ -26,8 +24,7 @@ loop-n-init g c =
 pub returns-in_err-signature : goal.returns-in_err-signature
 returns-in_err-signature g c =
     let p = set_of c.args.p.now in
-    let fault = answered-fault (attempt p g.H.Xof.front c.args.self.now.matrix c.args.self.now.parts c.args.mu.now c.hash-mask_seed.result (c.loop-n.n * g.row.L)) c.in_err-signature.field-0.0 c.in_err-signature.ensures in
-    let refused : c.from_residual.result ≡ Err SamplingLimit = search rules in
+    let refused : c.from_residual.result ≡ Err c.in_err-signature.field-0.0 = search rules in
     refused ∙ sym (sign_with-limit p g.H.Xof.front c.args.self.now.matrix c.args.self.now.parts c.args.mu.now c.args.rnd.now c.hash-mask_seed.result g.row.L c.loop-n.n c.in_err-signature.field-0.0
     (seed-is g (goal.at.returns-in_err-signature g c).After-hash-mask_seed) c.requires.sizes.columns c.loop-n-test.true c.loop-n.invariant.1.1 c.in_err-signature.ensures)
 
