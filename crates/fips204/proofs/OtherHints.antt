@@ -3,7 +3,7 @@ use Rattle.std.proofs.Common.{◌≡◌, ◌≢◌, ◌<◌, ◌≤◌, ◌⊎�
 use Rattle.std.specs.Prelude.{int_lt}
 use Rattle.std.proofs.lemmas.Bool.{cases_Bool}
 use Rattle.std.proofs.lemmas.Int.{ints}
-use Rattle.std.proofs.lemmas.List.{take_at}
+use Rattle.std.proofs.lemmas.List.{take_at, append_cancel_left}
 use Rattle.std.proofs.lemmas.Nat.{mod_below}
 use Rattle.fips204_base.specs.Network.{product_difference}
 use Rattle.fips204_base.specs.declared.types.R.{R}
@@ -19,7 +19,6 @@ use Rattle.fips204_base.proofs.EncodedParts.{same_vector}
 use Rattle.fips204_base.proofs.Rounding.{high_bits_below}
 use Rattle.fips204_base.proofs.VectorBytes.{vector-length}
 use Rattle.fips204_base.proofs.Vectors.{vector_of-entry, vector_of-same, vector_of-range}
-use Rattle.std.proofs.lemmas.List.{append_cancel_left}
 use Rattle.fips204.specs.Acceptance.{w1_prime}
 use Rattle.fips204.specs.Framing.{representative}
 use Rattle.fips204.specs.SigningInputs.{t1_shifted, hinted}

@@ -80,9 +80,8 @@ signed_sum [] sign_bits n = pos 0
 signed_sum (place ∷ later) [] n = pos 0
 signed_sum (place ∷ later) (bit ∷ sign_bits) n = (if nat_eq place n then (if nat_eq bit 1 then neg_ℤ (pos 1) else pos 1) else pos 0) +ℤ signed_sum later sign_bits n
 
--- SampleInBall (Algorithm 29): the sum over i from 256 - tau to 255 of sign_i X^place(i), or none where a pick is missing; the
--- picks are from the bytes after the first eight, a quarter as many as the front has, and sign_i is that of bit i + tau - 256 of
--- the first eight bytes
+-- SampleInBall (Algorithm 29): the sum over i from 256 - tau to 255 of sign_i X^place(i), or none where a pick is missing; picks are from
+-- the bytes after the first eight, a quarter as many as the front has, and sign_i is that of bit i + tau - 256 of the first eight
 unfoldable pub challenge : ℕ → Bytes → Option R
 challenge tau front =
     let picked = take tau (picks (256 - tau) (take (length front / 4) (drop 8 front))) in
