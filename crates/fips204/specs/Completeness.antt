@@ -33,9 +33,8 @@ abbrev pub TellsPair : ParameterSet → XOF → XOF → PrivateParts → Result 
 TellsPair p H G sk answer = MatchResult answer (λ yes. (pk : PublicParts) × (derived p G sk ≡ Ok pk) × (IsTrue yes ↔ IsPair p H G pk sk))
     (λ fault. derived p G sk ≡ Err fault)
 
--- at each of the three sets and over any two streams: what a whole private key signs is accepted by the public key that is
--- derived of it; where its tr is the hash of that key's bytes, the two are a pair; and keys that a seed generates are a pair, whose
--- public key accepts what the private one signs
+-- at each of the three sets, over any two streams: what a whole private key signs is accepted by the public key derived of it, and they are
+-- a pair where tr is the hash of that key's bytes; and keys that a seed generates are a pair, whose public key accepts what is signed
 abbrev pub SignedIsAccepted : Type 0
 SignedIsAccepted =
     (p : ParameterSet) (H G : XOF) (pk : PublicParts) (sk : PrivateParts) → IsSet p

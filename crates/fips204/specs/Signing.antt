@@ -49,8 +49,7 @@ passes_checks p sk y w c =
     && nat_lt (vector_norm (ct0 p sk c)) p.gamma2
     && nat_le (length (all_ones (hint_vector p sk w c))) p.omega
 
--- the attempt at counter kappa, with the matrix a and the seed rho'' of masks: a signature, or none where it is rejected, or a refusal
--- where there is no challenge; w1 are the high bits of w = A y
+-- the attempt at counter kappa, with matrix a and the masks' seed rho'': a signature, none if rejected, a refusal if there is no challenge
 unfoldable pub attempt : ParameterSet → XOF → List (List T) → PrivateParts → Bytes → Bytes → ℕ → Result (Option Bytes) Fault
 attempt p H a sk mu rho'' kappa =
     let y = mask p.gamma1 H rho'' p.l kappa in
