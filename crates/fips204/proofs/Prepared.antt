@@ -7,35 +7,33 @@ use Rattle.fips204_base.specs.declared.fault.Fault.TheVariants.{SamplingLimit}
 use Rattle.fips204_base.specs.declared.types.T.{T}
 use Rattle.fips204_base.specs.Sampling.{sampled_matrix}
 use Rattle.fips204.specs.Acceptance.{Accepts, Verifies}
-use Rattle.fips204.specs.Completeness.{AcceptedIfWhole}
 use Rattle.fips204.specs.Framing.{Input, plain, represented, representative}
 use Rattle.fips204_base.specs.Encodings.{PublicParts, PrivateParts, ArePrivateParts}
 use Rattle.fips204.specs.Keys.{IsWhole, high_part, low_part}
 use Rattle.fips204.specs.ParameterSets.{ParameterSet, IsSet}
-use Rattle.fips204.specs.Prepared.{PreparedPrivate, PreparedPublic, prepared_private, prepared_public, public_of_prepared, sign_prepared, IsWholePrepared, VerifiesPrepared, IsEachSigned, IsEachJudged, PreparedAnswersAsPlain}
+use Rattle.fips204.specs.Prepared.{PreparedPrivate, PreparedPublic, prepared_private, prepared_public, public_of_prepared, sign_prepared, IsWholePrepared, VerifiesPrepared, IsEachSigned, IsEachJudged, AcceptedIfWholePrepared, PreparedAnswersAsPlain}
 use Rattle.fips204.specs.Refusals.{refused_or, input_fault, sign_input, VerifiesInput, derived}
 use Rattle.fips204.specs.SigningInputs.{input_hash}
 use Rattle.fips204.specs.Signing.{sign, sign_with}
 use Rattle.fips204.proofs.Completeness.{accepts_signed_with}
-use Rattle.fips204.proofs.RefusedCalls.{accepted_input, same_some, same_ok}
+use Rattle.fips204.proofs.RefusedCalls.{given_input, same_some, same_ok}
 
 -- ---- what is signed is accepted
 
 pub hash_accepted : (p : ParameterSet) (H : List ℕ → List ℕ) (K L : ℕ) (sk : PreparedPrivate) (mu rnd : List ℕ) (answer : Result (List ℕ) Fault) → IsSet p
     → ((x : List ℕ) → 4096 ≤ length (H x)) → K ≡ p.k → L ≡ p.l → ArePrivateParts p.eta K L sk.parts → answer ≡ sign_prepared p H sk rnd (represented mu)
-    → AcceptedIfWhole (IsWholePrepared p sk) (Ok (public_of_prepared p sk)) (λ pk signature. VerifiesPrepared p H pk signature (represented mu)) answer
+    → AcceptedIfWholePrepared p sk (λ pk signature. VerifiesPrepared p H pk signature (represented mu)) answer
 hash_accepted p H K L sk mu rnd answer known law rows columns parts same =
-    λ pk signature whole derives e.
-    subst (λ k. VerifiesPrepared p H k signature (represented mu)) (same_ok (public_of_prepared p sk) pk derives)
-    (refl, accepts_signed_with p H sk.matrix sk.parts mu rnd signature known (rw (rows, columns) at parts) whole law (sym same ∙ e))
+    λ signature whole e. (refl, accepts_signed_with p H sk.matrix sk.parts mu rnd signature known (rw (rows, columns) at parts) whole law (sym same ∙ e))
 
 -- and so is what is signed of an input
 pub input_accepted_prepared : (p : ParameterSet) (H : List ℕ → List ℕ) (sk : PreparedPrivate) (input : Input) (mu : List ℕ) (answer : Result (List ℕ) Fault) → Ok mu ≡ input_hash H sk.parts.tr input
-    → AcceptedIfWhole (IsWholePrepared p sk) (Ok (public_of_prepared p sk)) (λ pk signature. VerifiesPrepared p H pk signature (represented mu)) answer
-    → AcceptedIfWhole (IsWholePrepared p sk) (Ok (public_of_prepared p sk)) (λ pk signature. VerifiesPrepared p H pk signature input) answer
+    → AcceptedIfWholePrepared p sk (λ pk signature. VerifiesPrepared p H pk signature (represented mu)) answer
+    → AcceptedIfWholePrepared p sk (λ pk signature. VerifiesPrepared p H pk signature input) answer
 input_accepted_prepared p H sk input mu answer e accepted =
-    accepted_input H sk.parts.tr mu input (IsWholePrepared p sk) (Ok (public_of_prepared p sk)) (λ pk. pk.parts.tr) (λ pk m signature. Accepts p H pk.matrix pk.parts.t1 m signature) answer
-    (λ pk derives. ap (λ (k : PreparedPublic). k.parts.tr) (same_ok (public_of_prepared p sk) pk derives)) e accepted
+    λ signature whole made.
+    let given = given_input H sk.parts.tr sk.parts.tr mu input refl e in
+    (given.0, subst (λ m. Accepts p H sk.matrix (high_part p sk.matrix sk.parts.s1 sk.parts.s2) m signature) given.1 (accepted signature whole made).1)
 
 -- ---- a prepared key answers as its plain key
 

@@ -14,7 +14,7 @@ AcceptsSigned p H G pk sk = (rnd signature : Bytes) (input : Input) → sign_inp
 
 -- what a signing call answers is accepted: where the private key is whole, by the public key that is derived of it
 abbrev pub AcceptedIfWhole : {P S : Type 0} → Type 0 → Result P Fault → (P → S → Type 0) → Result S Fault → Type 0
-AcceptedIfWhole {P} {S} is_whole public_key verifies answer = (pk : P) (signature : S) → is_whole → public_key ≡ Ok pk → answer ≡ Ok signature → verifies pk signature
+AcceptedIfWhole {P} {S} whole derives accepts answer = (pk : P) (signature : S) → whole → derives ≡ Ok pk → answer ≡ Ok signature → accepts pk signature
 
 -- decoding a key's bytes answers that key and nothing else
 abbrev pub DecodesAlone : {K B : Type 0} → (B → Result K Fault → Type 0) → B → K → Type 0

@@ -53,6 +53,10 @@ IsWholePrepared p sk = sk.parts.t0 ≡ low_part p sk.matrix sk.parts.s1 sk.parts
 abbrev pub public_of_prepared : ParameterSet → PreparedPrivate → PreparedPublic
 public_of_prepared p sk = record { parts = record { rho = sk.parts.rho; tr = sk.parts.tr; t1 = high_part p sk.matrix sk.parts.s1 sk.parts.s2 }; matrix = sk.matrix }
 
+-- what a signing call answers with a whole prepared key is accepted by the public key that belongs to it
+abbrev pub AcceptedIfWholePrepared : ParameterSet → PreparedPrivate → (PreparedPublic → Bytes → Type 0) → Result Bytes Fault → Type 0
+AcceptedIfWholePrepared p sk accepts answer = (signature : Bytes) → IsWholePrepared p sk → answer ≡ Ok signature → accepts (public_of_prepared p sk) signature
+
 -- a prepared key answers as its plain key: over an input, and lists of messages; it is whole if and only if the plain key is; and
 -- preparing a derived public key gives the public key that belongs to it
 pub record PreparedAnswersAsPlain (p : ParameterSet) (H G : XOF) : Type 0 where
