@@ -25,8 +25,8 @@ module _ (x y : List ℤ) (ix : AreEight x) (iy : AreEight y) (low : (j : ℕ) �
 
 pub overflow_sub-result : goal.overflow_sub-result
 overflow_sub-result c =
-    let x = c.self.inside.lanes in
-    let y = c.other.inside.lanes in
+    let x = c.self.inside.0 in
+    let y = c.other.inside.0 in
     let ix = c.self.invariant in
     let iy = c.other.invariant in
     let low = rw (sym c.self.view_is, sym c.other.view_is) at c.requires.low in
@@ -35,8 +35,8 @@ overflow_sub-result c =
 
 pub invariant_of-result : goal.invariant_of-result
 invariant_of-result c =
-    let x = c.self.inside.lanes in
-    let y = c.other.inside.lanes in
+    let x = c.self.inside.0 in
+    let y = c.other.inside.0 in
     let ix = c.self.invariant in
     let iy = c.other.invariant in
     let low = rw (sym c.self.view_is, sym c.other.view_is) at c.requires.low in
@@ -50,8 +50,8 @@ invariant_of-result c =
 
 pub returns-clause-value : goal.returns-clause-value
 returns-clause-value c =
-    let x = c.self.inside.lanes in
-    let y = c.other.inside.lanes in
+    let x = c.self.inside.0 in
+    let y = c.other.inside.0 in
     let ix = c.self.invariant in
     let iy = c.other.invariant in
     let low = rw (sym c.self.view_is, sym c.other.view_is) at c.requires.low in
