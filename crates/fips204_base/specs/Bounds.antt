@@ -1,5 +1,5 @@
--- Ranges of numbers, polynomials and vectors, and products of transforms, in clauses of this crate's own functions; no call of `fips204` reaches them.
-use Rattle.std.specs.Prelude.{◌≡◌, ℕ, ◌*◌, ◌%◌, ◌<◌, ◌≤◌, ◌≤ℤ◌, ◌⊎◌, ℤ, pos, nat_abs, List, [], slice_index_or}
+-- Ranges of numbers, polynomials and vectors, products of transforms, and answers of decoders, in clauses of this crate's own functions; no call of `fips204` reaches them.
+use Rattle.std.specs.Prelude.{◌≡◌, ℕ, ◌*◌, ◌%◌, ◌<◌, ◌≤◌, ◌≤ℤ◌, ◌⊎◌, ℤ, pos, nat_abs, List, [], slice_index_or, Option, MatchOption}
 use Rattle.std.specs.List.{All}
 use Rattle.fips204_base.specs.Residues.{coefficients, sum_below}
 use Rattle.fips204_base.specs.Vectors.{coefficient_at, coefficient_of}
@@ -9,6 +9,10 @@ use Rattle.fips204_base.specs.declared.types.T.{T}
 -- eta at the parameter sets (FIPS 204, Table 1)
 abbrev pub IsEta : ℤ → Type 0
 IsEta eta = (eta ≡ pos 2) ⊎ (eta ≡ pos 4)
+
+-- an answer that P holds of, or none where P holds of nothing
+abbrev pub Finds : {A : Type 0} → (A → Type 0) → Option A → Type 0
+Finds {A} P answer = MatchOption answer ((x : A) → P x → ⊥) P
 
 -- every number has an absolute value of at most m
 abbrev pub ValuesWithin : ℕ → List ℤ → Type 0

@@ -71,7 +71,8 @@ impl Transforms {
     #[inline(never)]
     pub fn write_plain<const N: usize>(&mut self, out: &mut [R; N])
         requires { N ≤ 8 }
-        ensures values { (r n : ℕ) → r < N → n < 256 → coefficient_of out.new r n ≡ pos (vector_coefficients self.old r n) }
+        ensures values { (r n : ℕ) → r < N → n < 256
+            → coefficient_of out.new r n ≡ pos (vector_coefficients self.old r n) }
         ensures whole { out.new ≡ vector_of N (λ r n. pos (vector_coefficients self.old r n)) }
         ensures range { VectorWithin N 8380416 out.new }
     {

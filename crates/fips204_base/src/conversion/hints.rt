@@ -2,6 +2,7 @@
 #![tactic(auto)]
 
 ghost use Rattle.std.specs.Prelude.{◌≡◌, ◌<◌, ◌≤◌, ◌+◌, ◌≤ℤ◌, List, pos, nat_abs, length, take, drop, ◌++◌, MatchOption};
+ghost use Rattle.fips204_base.specs.Bounds.{Finds};
 ghost use Rattle.fips204_base.specs.Encodings.{Spells, all_ones, hint_bytes};
 ghost use Rattle.fips204_base.specs.Network.{ones};
 ghost use Rattle.fips204_base.specs.Packing.{PolynomialInRange};
@@ -36,7 +37,7 @@ pub fn hint_bit_unpack<const K: usize>(omega: i32, y: &[u8]) -> Option<[R; K]>
     requires some { pos 1 ≤ℤ omega }
     requires sizes { nat_abs omega + K < 256 }
     requires room { length y.now ≡ nat_abs omega + K }
-    ensures { MatchOption result ((h : List R) → Spells (nat_abs omega) K h y.now → ⊥) (λ h. Spells (nat_abs omega) K h y.now) }
+    ensures { Finds (λ h. Spells (nat_abs omega) K h y.now) result }
 {
     let limit = omega as usize;
     let mut h = [R0; K];

@@ -28,7 +28,8 @@ pub fn sig_decode<const K: usize, const L: usize, const LAMBDA_DIV4: usize, cons
     requires hint_size { nat_abs omega + K < 256 }
     requires size { SIG_LEN ≡ LAMBDA_DIV4 + 32 * width (gamma1 -ℤ pos 1) gamma1 * L + (nat_abs omega + K) }
     ensures { MatchOption result
-        ((c_tilde : List ℕ) (z h : List R) → IsSignature (nat_abs gamma1) (nat_abs omega) K L LAMBDA_DIV4 sigma.now c_tilde z h → ⊥)
+        ((c_tilde : List ℕ) (z h : List R)
+        → IsSignature (nat_abs gamma1) (nat_abs omega) K L LAMBDA_DIV4 sigma.now c_tilde z h → ⊥)
         (λ parts. IsSignature (nat_abs gamma1) (nat_abs omega) K L LAMBDA_DIV4 sigma.now parts.0 parts.1 parts.2) }
 {
     let bytes: &[u8] = sigma;

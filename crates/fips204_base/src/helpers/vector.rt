@@ -17,7 +17,8 @@ use crate::types::{R, T, T0};
 pub fn add_vector_ntt<const K: usize>(v: &[R; K], w: &[R; K]) -> [R; K]
     requires v { VectorWithin K 1073741823 v.now }
     requires w { VectorWithin K 1073741823 w.now }
-    ensures { (r n : ℕ) → r < K → n < 256 → coefficient_of result r n ≡ coefficient_of v.now r n +ℤ coefficient_of w.now r n }
+    ensures { (r n : ℕ) → r < K → n < 256
+        → coefficient_of result r n ≡ coefficient_of v.now r n +ℤ coefficient_of w.now r n }
 {
     zip_vectors(
         v,
@@ -33,7 +34,8 @@ pub fn add_vector_ntt<const K: usize>(v: &[R; K], w: &[R; K]) -> [R; K]
 /// absolute value, for values of an absolute value of at most 67000000.
 pub fn to_mont<const L: usize>(v: &[T; L]) -> [T; L]
     requires { TransformsWithin 67000000 v.now }
-    ensures values { (i j : ℕ) → i < L → j < 256 → vector_residues result i j ≡ 4294967296 * vector_residues v.now i j % 8380417 }
+    ensures values { (i j : ℕ) → i < L → j < 256
+        → vector_residues result i j ≡ 4294967296 * vector_residues v.now i j % 8380417 }
     ensures small { TransformsWithin 8380416 result }
 {
     let mut out = [T0; L];

@@ -28,7 +28,7 @@ returns-in_err-s1 g c =
     let refused : c.from_residual.result ≡ Err KeyRange = search rules in
     let given = rw (none, E) at c.unpack_short_vector.ensures in
     let first = c.split_at-2.ensures.front ∙ ap (take (c.polynomial_size-size.result * g.row.L)) c.split_at.ensures.back in
-    rw refused (refl, λ key s. given key.s1 s.parts.s1 (private_key-first _ _ _ _ _ _ s (ap (λ w. w * g.row.L) natural) ∙ sym first))
+    rw refused (refl, λ key s. given key.s1 (s.parts.s1, private_key-first _ _ _ _ _ _ s (ap (λ w. w * g.row.L) natural) ∙ sym first))
 
 pub returns-in_err-s2 : goal.returns-in_err-s2
 returns-in_err-s2 g c =
@@ -39,7 +39,7 @@ returns-in_err-s2 g c =
     let refused : c.from_residual-in_err-s2.result ≡ Err KeyRange = search rules in
     let given = rw (none, E) at c.unpack_short_vector-2.ensures in
     let second = c.split_at-3.ensures.front ∙ ap (take (c.polynomial_size-size.result * g.row.K)) (c.split_at-2.ensures.back ∙ ap (drop (c.polynomial_size-size.result * g.row.L)) c.split_at.ensures.back) in
-    rw refused (refl, λ key s. given key.s2 s.parts.s2 (private_key-second _ _ _ _ _ _ _ s (ap (λ w. w * g.row.L) natural) (ap (λ w. w * g.row.K) natural) ∙ sym second))
+    rw refused (refl, λ key s. given key.s2 (s.parts.s2, private_key-second _ _ _ _ _ _ _ s (ap (λ w. w * g.row.L) natural) (ap (λ w. w * g.row.K) natural) ∙ sym second))
 
 pub returns : goal.returns
 returns g c =
