@@ -16,22 +16,16 @@ pub fn mont_reduce(a: i64) -> i32
     ensures congruent { IsCongruent (4294967296 * residue result) (residue a) }
     ensures small { nat_abs result ≤ 8380416 }
 {
-    let factor = signed_factor(low_word(a));
+    let factor = signed_factor(a);
     high_word(a - wide_product(factor, Q))
 }
 
-/// The lowest 32 bits.
-fn low_word(a: i64) -> u32
-    ensures { int_rem_euclid a (pos 4294967296) ≡ pos result }
+/// The signed word whose product with `q` has the lowest 32 bits of `a`; 58728449 is the inverse of `q` modulo
+/// `2^32`.
+fn signed_factor(a: i64) -> i32
+    ensures { int_rem_euclid (result *ℤ pos 8380417) (pos 4294967296) ≡ int_rem_euclid a (pos 4294967296) }
 {
-    (a.cast_unsigned() % 4294967296) as u32
-}
-
-/// The signed word whose product with `q` has the lowest 32 bits `low`; 58728449 is the inverse of
-/// `q` modulo `2^32`.
-fn signed_factor(low: u32) -> i32
-    ensures { int_rem_euclid (result *ℤ pos 8380417) (pos 4294967296) ≡ pos low }
-{
+    let low = (a.cast_unsigned() % 4294967296) as u32;
     low.wrapping_mul(58728449).cast_signed()
 }
 

@@ -81,24 +81,13 @@ fn row_sum<const L: usize>(row: &[T; L], u: &[T; L]) -> T
 {
     let mut out = [0; 256];
     for j in 0..256 {
-        out[j] = place_sum(row, &values_at(u, j), j);
+        let mut values = [0; 8];
+        for k in 0..L {
+            values[k] = u[k].0[j];
+        }
+        out[j] = place_sum(row, &values, j);
     }
     T(out)
-}
-
-/// The values of the transforms at one place.
-fn values_at<const L: usize>(u: &[T; L], j: usize) -> [i32; 8]
-    requires columns { L ≤ 7 }
-    requires vector { TransformsWithin 8380416 u.now }
-    requires place { j < 256 }
-    ensures values { (k : ℕ) → k < L → coefficients result k ≡ vector_residues u.now k j }
-    ensures small { (k : ℕ) → k < 8 → nat_abs (lane result k) ≤ 8380416 }
-{
-    let mut out = [0; 8];
-    for k in 0..L {
-        out[k] = u[k].0[j];
-    }
-    out
 }
 
 /// The sum of the products of a row of the matrix at one place with as many numbers, modulo `q` and below `q` in
