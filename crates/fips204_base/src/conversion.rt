@@ -2,9 +2,10 @@
 //! coefficients asks for.
 #![tactic(auto)]
 
-ghost use Rattle.std.specs.Prelude.{◌≡◌, ◌<◌, ◌≤◌, ◌+◌, ◌*◌, ◌%◌, ◌^◌, ℤ, pos, ◌-ℤ◌, ◌≤ℤ◌, ◌<ℤ◌, nat_abs, length, map, MatchOption};
-ghost use Rattle.std.specs.List.{All, Any};
-ghost use Rattle.fips204_base.specs.Packing.{Bounds, PolynomialInRange, polynomial_bytes, unpacked, width};
+ghost use Rattle.std.specs.Prelude.{◌≡◌, ◌<◌, ◌≤◌, ◌+◌, ◌*◌, ◌%◌, ◌^◌, ℤ, pos, ◌-ℤ◌, ◌≤ℤ◌, length, map};
+ghost use Rattle.std.specs.List.{All};
+ghost use Rattle.fips204_base.specs.Bounds.{IsUnpacked};
+ghost use Rattle.fips204_base.specs.Packing.{Bounds, PolynomialInRange, polynomial_bytes, width};
 ghost use Rattle.fips204_base.specs.Network.{Packs, coefficient, field};
 
 mod coefficients;
@@ -178,9 +179,7 @@ fn write_unpacked_group(v: &[u8], a: i32, b: i32, out: &mut [i32])
 pub fn simple_bit_unpack(v: &[u8], b: i32) -> Option<R>
     requires bounds { Bounds (pos 0) b }
     requires room { length v.now ≡ 32 * width (pos 0) b }
-    ensures { MatchOption result
-        (Any (λ x. b <ℤ x) (unpacked 0 (nat_abs b) v.now).0)
-        (λ w. (w ≡ unpacked 0 (nat_abs b) v.now) × PolynomialInRange (pos 0) b w.0) }
+    ensures { IsUnpacked (pos 0) b v.now result }
 {
     bit_unpack(v, 0, b)
 }
@@ -194,9 +193,7 @@ pub fn simple_bit_unpack(v: &[u8], b: i32) -> Option<R>
 pub fn bit_unpack(v: &[u8], a: i32, b: i32) -> Option<R>
     requires bounds { Bounds a b }
     requires room { length v.now ≡ 32 * width a b }
-    ensures { MatchOption result
-        ((a ≡ pos 0) × Any (λ x. b <ℤ x) (unpacked (nat_abs a) (nat_abs b) v.now).0)
-        (λ w. (w ≡ unpacked (nat_abs a) (nat_abs b) v.now) × (a ≡ pos 0 → PolynomialInRange (pos 0) b w.0)) }
+    ensures { IsUnpacked a b v.now result }
 {
     let c = field_width(a, b) as usize;
     let mut out = [0i32; 256];
@@ -214,9 +211,7 @@ pub fn bit_unpack(v: &[u8], a: i32, b: i32) -> Option<R>
 pub(crate) fn bit_unpack_by_range(v: &[u8], a: i32, b: i32) -> Option<R>
     requires bounds { Bounds a b }
     requires room { length v.now ≡ 32 * width a b }
-    ensures { MatchOption result
-        ((a ≡ pos 0) × Any (λ x. b <ℤ x) (unpacked (nat_abs a) (nat_abs b) v.now).0)
-        (λ w. (w ≡ unpacked (nat_abs a) (nat_abs b) v.now) × (a ≡ pos 0 → PolynomialInRange (pos 0) b w.0)) }
+    ensures { IsUnpacked a b v.now result }
 {
     match (a, b) {
         (131071, 131072) => bit_unpack(v, 131071, 131072),

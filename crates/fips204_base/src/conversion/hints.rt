@@ -1,7 +1,7 @@
 //! The encoding of hints.
 #![tactic(auto)]
 
-ghost use Rattle.std.specs.Prelude.{◌≡◌, ◌<◌, ◌≤◌, ◌+◌, ◌≤ℤ◌, List, pos, nat_abs, length, take, drop, ◌++◌, MatchOption};
+ghost use Rattle.std.specs.Prelude.{◌≡◌, ◌<◌, ◌≤◌, ◌+◌, ◌≤ℤ◌, pos, nat_abs, length, take, drop, ◌++◌, MatchOption};
 ghost use Rattle.fips204_base.specs.Bounds.{Finds};
 ghost use Rattle.fips204_base.specs.Encodings.{Spells, all_ones, hint_bytes};
 ghost use Rattle.fips204_base.specs.Network.{ones};

@@ -1,7 +1,7 @@
 //! Vectors as bytes, one polynomial after another.
 #![tactic(auto)]
 
-ghost use Rattle.std.specs.Prelude.{◌≡◌, ◌≤◌, ◌+◌, ◌*◌, ◌^◌, ℤ, List, pos, nat_abs, ◌+ℤ◌, ◌-ℤ◌, length, MatchOption};
+ghost use Rattle.std.specs.Prelude.{◌≡◌, ◌≤◌, ◌+◌, ◌*◌, ◌^◌, pos, nat_abs, ◌+ℤ◌, ◌-ℤ◌, length};
 ghost use Rattle.fips204_base.specs.Bounds.{Finds};
 ghost use Rattle.fips204_base.specs.Encodings.{vector_bytes};
 ghost use Rattle.fips204_base.specs.Packing.{Bounds, PolynomialInRange, polynomial_bytes, width};

@@ -1,7 +1,7 @@
 //! The matrix, as it is sampled from the stream in the place of SHAKE128.
 #![tactic(auto)]
 
-ghost use Rattle.std.specs.Prelude.{◌≡◌, ◌≤◌, ◌<◌, ◌/◌, ℕ, length, ok_or, IfOk};
+ghost use Rattle.std.specs.Prelude.{◌≡◌, ◌≤◌, ◌<◌, ◌/◌, length, ok_or, IfOk};
 ghost use Rattle.std.specs.List.{flat_map};
 ghost use Rattle.fips204_base.specs.Network.{AreKept, WritesSampled, sampled_row, kept_triples, OnSampled};
 ghost use Rattle.fips204_base.specs.Sampling.{matrix_entry, sampled_matrix};
