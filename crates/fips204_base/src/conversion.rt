@@ -61,11 +61,8 @@ fn coefficient_of(field: u32, a: i32, b: i32) -> i32
     requires below { field < 2 ^ 21 }
     ensures { result ≡ coefficient a b field }
 {
-    if a > 0 {
-        b - field as i32
-    } else {
-        field as i32
-    }
+    let value = field as i32;
+    if a > 0 { b - value } else { value }
 }
 
 /// `SimpleBitPack` (Algorithm 16): writes each coefficient in as many bits as `b` has.

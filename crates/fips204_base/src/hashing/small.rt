@@ -74,11 +74,8 @@ fn write_small_polynomials<const N: usize, H: Xof>(
     ensures { WritesSampled (small_vector (nat_abs eta) H.front rho.now first N) result polynomials.new }
 {
     for r in 0..N {
-        let number = (first + r) as u16;
-        polynomials[r] = rej_bounded_poly::<H>(
-            eta,
-            &[rho.as_slice(), number.to_le_bytes().as_slice()],
-        )?;
+        let number = ((first + r) as u16).to_le_bytes();
+        polynomials[r] = rej_bounded_poly::<H>(eta, &[rho.as_slice(), number.as_slice()])?;
     }
     Ok(())
 }
