@@ -67,8 +67,7 @@ fn coefficient_of(field: u32, a: i32, b: i32) -> i32
 
 /// `SimpleBitPack` (Algorithm 16): writes each coefficient in as many bits as `b` has.
 ///
-/// Coefficients are in `[0, b]`, `b` is from 1 to `2^20 - 1`, and `out` has exactly
-/// `32 * bit_length(b)` bytes.
+/// Coefficients are in `[0, b]`, `b` is from 1 to `2^20 - 1`, and `out` has exactly `32 * bit_length(b)` bytes.
 pub fn simple_bit_pack(w: &R, b: i32, out: &mut [u8])
     requires bounds { Bounds (pos 0) b }
     requires range { PolynomialInRange (pos 0) b w.now.0 }
@@ -104,12 +103,10 @@ fn write_packed_group(w: &[i32], a: i32, b: i32, out: &mut [u8])
     }
 }
 
-/// `BitPack` (Algorithm 17): writes the fields of coefficients in `[-a, b]`, each of as many bits
-/// as `a + b` has. The field of a coefficient is its distance from `b`, and where `a` is 0 the
-/// coefficient itself.
+/// `BitPack` (Algorithm 17): writes the fields of coefficients in `[-a, b]`, each of as many bits as `a + b` has.
+/// The field of a coefficient is its distance from `b`, and where `a` is 0 the coefficient itself.
 ///
-/// `a` is from 0 and `b` from 1 to `2^20 - 1`, and `out` has exactly `32 * bit_length(a + b)`
-/// bytes.
+/// `a` is from 0 and `b` from 1 to `2^20 - 1`, and `out` has exactly `32 * bit_length(a + b)` bytes.
 #[inline(always)]
 pub fn bit_pack(w: &R, a: i32, b: i32, out: &mut [u8])
     requires bounds { Bounds a b }
@@ -181,9 +178,8 @@ pub fn simple_bit_unpack(v: &[u8], b: i32) -> Option<R>
     bit_unpack(v, 0, b)
 }
 
-/// `BitUnpack` (Algorithm 19): the polynomial whose fields stand in `v`, each of as many bits as
-/// `a + b` has. `None` where `a` is 0 and a field is above `b`; where `a` is above 0 a coefficient
-/// may come out below `-a`.
+/// `BitUnpack` (Algorithm 19): the polynomial whose fields stand in `v`, each of as many bits as `a + b` has. `None`
+/// where `a` is 0 and a field is above `b`; where `a` is above 0 a coefficient may come out below `-a`.
 ///
 /// `a` is from 0 and `b` from 1 to `2^20 - 1`, and `v` has exactly `32 * bit_length(a + b)` bytes.
 #[inline(always)]

@@ -139,8 +139,7 @@ impl Factor {
     }
 }
 
-/// Coefficient `n` of each polynomial, with 0 where there is none. Coefficients are below `q` in absolute
-/// value.
+/// Coefficient `n` of each polynomial, with 0 where there is none. Coefficients are below `q` in absolute value.
 #[inline(always)]
 fn lanes_of<const N: usize>(v: &[R; N], n: usize) -> Lanes
     requires few { N ≤ 8 }

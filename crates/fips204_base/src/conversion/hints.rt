@@ -10,8 +10,7 @@ ghost use Rattle.fips204_base.specs.Vectors.{VectorInRange};
 
 use crate::types::{R, R0};
 
-/// The polynomial with ones at `places` and zeros elsewhere, or `None` where the places do not
-/// strictly rise.
+/// The polynomial with ones at `places` and zeros elsewhere, or `None` where the places do not strictly rise.
 fn polynomial_of(places: &[u8]) -> Option<R>
     ensures { MatchOption result
         ((w : R) → places.now ≡ ones w → ⊥)

@@ -63,8 +63,7 @@ fn folded(a: i64) -> i64
     a - (a >> 23) * i64::from(Q)
 }
 
-/// A number congruent to `a` and below `q` in absolute value, for `a` below `2^31 - 2^22` in
-/// absolute value.
+/// A number congruent to `a` and below `q` in absolute value, for `a` below `2^31 - 2^22` in absolute value.
 pub fn partial_reduce32(a: i32) -> i32
     requires { nat_abs a < 2143289344 }
     ensures congruent { residue result ≡ residue a }
@@ -93,8 +92,7 @@ pub fn full_reduce32(a: i32) -> i32
     if near < 0 { near + Q } else { near }
 }
 
-/// `m` modulo `q`, from `-(q - 1) / 2` to `(q - 1) / 2`, for `m` below `2^31 - 2^22` in absolute
-/// value.
+/// `m` modulo `q`, from `-(q - 1) / 2` to `(q - 1) / 2`, for `m` below `2^31 - 2^22` in absolute value.
 #[tactic(auto, using(crate::proofs::Reductions::centred_is))]
 pub fn center_mod(m: i32) -> i32
     requires { nat_abs m < 2143289344 }

@@ -63,8 +63,7 @@ pub trait Residue: Copy {
         ensures products_up { products meter.new ≡ products meter.old + 1 }
         ensures sums_same { sums meter.new ≡ sums meter.old };
 
-    /// A value congruent and below `q` in absolute value, for one below `2^31 - 2^22` in absolute
-    /// value.
+    /// A value congruent and below `q` in absolute value, for one below `2^31 - 2^22` in absolute value.
     fn reduce(self) -> Self
         requires range { (j : ℕ) → j < width → nat_abs (lane (lanes self) j) < 2143289344 }
         ensures value { EachLane (λ x y. residue y ≡ residue x) width (lanes self) (lanes result) }
