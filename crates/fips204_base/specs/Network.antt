@@ -69,8 +69,8 @@ abbrev pub AreZipped : (ℤ → ℤ → ℤ → Type 0) → ℕ → List R → L
 AreZipped Made k v w out = (r n : ℕ) → r < k → n < 256 → Made (coefficient_of v r n) (coefficient_of w r n) (coefficient_of out r n)
 
 -- where what is made at each place is that of a function of the place, the vector is the one of this function
-abbrev pub IsWhole : (ℕ → ℕ → ℤ → Type 0) → ℕ → List R → Type 0
-IsWhole Made k out = (g : ℕ → ℕ → ℤ) → ((r n : ℕ) (y : ℤ) → r < k → n < 256 → Made r n y → y ≡ g r n) → out ≡ vector_of k g
+abbrev pub IsDeterminedBy : (ℕ → ℕ → ℤ → Type 0) → ℕ → List R → Type 0
+IsDeterminedBy Made k out = (g : ℕ → ℕ → ℤ) → ((r n : ℕ) (y : ℤ) → r < k → n < 256 → Made r n y → y ≡ g r n) → out ≡ vector_of k g
 
 -- the residues of a matrix of transforms, by row, column and place
 abbrev pub matrix_residues : List (List T) → ℕ → ℕ → ℕ → ℕ

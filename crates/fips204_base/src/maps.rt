@@ -6,7 +6,7 @@
 #![tactic(auto)]
 
 ghost use Rattle.std.specs.Prelude.{◌≡◌, ◌<◌, ℕ, length};
-ghost use Rattle.fips204_base.specs.Network.{AreZipped, IsWhole};
+ghost use Rattle.fips204_base.specs.Network.{AreZipped, IsDeterminedBy};
 ghost use Rattle.fips204_base.specs.Vectors.{coefficient_at, coefficient_of};
 
 use crate::types::R;
@@ -52,7 +52,7 @@ pub fn write_zip<F: Fn(i32, i32) -> i32>(v: &mut [i32; 256], w: &[i32; 256], f: 
 pub fn map_vector<const K: usize, F: Fn(i32) -> i32>(v: &[R; K], f: F) -> [R; K]
     requires { (r n : ℕ) → r < K → n < 256 → F.pre f (coefficient_of v.now r n) }
     ensures values { (r n : ℕ) → r < K → n < 256 → F.post f (coefficient_of v.now r n) (coefficient_of result r n) }
-    ensures whole { IsWhole (λ r n. F.post f (coefficient_of v.now r n)) K result }
+    ensures whole { IsDeterminedBy (λ r n. F.post f (coefficient_of v.now r n)) K result }
 {
     let mut out = *v;
     write_map_vector(&mut out, f);
@@ -64,7 +64,7 @@ pub fn map_vector<const K: usize, F: Fn(i32) -> i32>(v: &[R; K], f: F) -> [R; K]
 pub fn zip_vectors<const K: usize, F: Fn(i32, i32) -> i32>(v: &[R; K], w: &[R; K], f: F) -> [R; K]
     requires { (r n : ℕ) → r < K → n < 256 → F.pre f (coefficient_of v.now r n) (coefficient_of w.now r n) }
     ensures values { AreZipped (F.post f) K v.now w.now result }
-    ensures whole { IsWhole (λ r n. F.post f (coefficient_of v.now r n) (coefficient_of w.now r n)) K result }
+    ensures whole { IsDeterminedBy (λ r n. F.post f (coefficient_of v.now r n) (coefficient_of w.now r n)) K result }
 {
     let mut out = *v;
     write_zip_vectors(&mut out, w, f);
@@ -76,7 +76,7 @@ pub fn zip_vectors<const K: usize, F: Fn(i32, i32) -> i32>(v: &[R; K], w: &[R; K
 pub fn write_map_vector<const K: usize, F: Fn(i32) -> i32>(v: &mut [R; K], f: F)
     requires { (r n : ℕ) → r < K → n < 256 → F.pre f (coefficient_of v.old r n) }
     ensures values { (r n : ℕ) → r < K → n < 256 → F.post f (coefficient_of v.old r n) (coefficient_of v.new r n) }
-    ensures whole { IsWhole (λ r n. F.post f (coefficient_of v.old r n)) K v.new }
+    ensures whole { IsDeterminedBy (λ r n. F.post f (coefficient_of v.old r n)) K v.new }
 {
     for r in 0..K {
         write_map(&mut v[r].0, &f);
@@ -88,7 +88,7 @@ pub fn write_map_vector<const K: usize, F: Fn(i32) -> i32>(v: &mut [R; K], f: F)
 pub fn write_zip_vectors<const K: usize, F: Fn(i32, i32) -> i32>(v: &mut [R; K], w: &[R; K], f: F)
     requires { (r n : ℕ) → r < K → n < 256 → F.pre f (coefficient_of v.old r n) (coefficient_of w.now r n) }
     ensures values { AreZipped (F.post f) K v.old w.now v.new }
-    ensures whole { IsWhole (λ r n. F.post f (coefficient_of v.old r n) (coefficient_of w.now r n)) K v.new }
+    ensures whole { IsDeterminedBy (λ r n. F.post f (coefficient_of v.old r n) (coefficient_of w.now r n)) K v.new }
 {
     for r in 0..K {
         write_zip(&mut v[r].0, &w[r].0, &f);

@@ -23,7 +23,7 @@ known c =
     let high = c.decompose-high.ensures.high in
     let low = c.decompose-high.ensures.low in
     let count = c.high_count-last.ensures in
-    let set : (nat_abs c.args.gamma2 ≡ 95232) ⊎ (nat_abs c.args.gamma2 ≡ 261888) = elim c.requires.set [ | inl e ↦ inl (ap nat_abs e) | inr e ↦ inr (ap nat_abs e) ] in
+    let set : (nat_abs c.args.gamma2 ≡ 95232) ⊎ (nat_abs c.args.gamma2 ≡ 261888) = elim c.requires.set [ inl e ↦ inl (ap nat_abs e) | inr e ↦ inr (ap nat_abs e) ] in
     record {
       high_is = rw (G, R) at high;
       low_is = rw (G, R) at low;
