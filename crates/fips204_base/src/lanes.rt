@@ -40,13 +40,6 @@ impl Lanes {
         Lanes(i32x8::from_array([a, b, c, d, e, f, g, h]))
     }
 
-    /// Eight zeros.
-    pub(crate) fn zeros() -> Lanes
-        ensures { (j : ℕ) → lane result j ≡ pos 0 }
-    {
-        Lanes::from_array([0; 8])
-    }
-
     /// The array whose entry `i` is lane `i`.
     pub fn to_array(self) -> [i32; 8]
         ensures { result ≡ self }

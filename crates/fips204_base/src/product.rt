@@ -48,7 +48,7 @@ impl Transforms {
         ensures { (r n : ℕ) → r < 8 → n < 256 → vector_coefficients result r n ≡ 0 }
     {
         Transforms {
-            values: [Lanes::zeros(); 256],
+            values: [Lanes::from_array([0; 8]); 256],
         }
     }
 
