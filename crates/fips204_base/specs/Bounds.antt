@@ -1,8 +1,10 @@
--- Ranges of numbers, polynomials and vectors, lanes, and products, in clauses of this crate's own functions; no call of `fips204` reaches them.
-use Rattle.std.specs.Prelude.{◌≡◌, ℕ, ◌*◌, ◌%◌, ◌<◌, ◌≤◌, ◌≤ℤ◌, ◌<ℤ◌, ◌+ℤ◌, ◌-ℤ◌, ◌*ℤ◌, ◌⊎◌, ℤ, pos, nat_abs, List, [], slice_index_or}
-use Rattle.std.specs.List.{All}
+-- Ranges of numbers, polynomials and vectors, lanes, products, and answers of decoders, in clauses of this crate's own functions; no call of `fips204` reaches them.
+use Rattle.std.specs.Prelude.{◌≡◌, ℕ, ◌*◌, ◌%◌, ◌<◌, ◌≤◌, ◌≤ℤ◌, ◌<ℤ◌, ◌+ℤ◌, ◌-ℤ◌, ◌*ℤ◌, ◌⊎◌, ℤ, pos, nat_abs, List, [], slice_index_or, Option, MatchOption}
+use Rattle.std.specs.List.{All, Any}
+use Rattle.fips204_base.specs.Packing.{unpacked}
 use Rattle.fips204_base.specs.Residues.{coefficients, sum_below}
 use Rattle.fips204_base.specs.Lanes.{lane}
+use Rattle.fips204_base.specs.Streams.{Bytes}
 use Rattle.fips204_base.specs.declared.types.R.{R}
 use Rattle.fips204_base.specs.declared.types.T.{T}
 
@@ -33,6 +35,16 @@ coefficient_at w n = slice_index_or w n (pos 0)
 -- coefficient n of polynomial r of a vector
 abbrev pub coefficient_of : List R → ℕ → ℕ → ℤ
 coefficient_of v r = coefficient_at (slice_index_or v r record { 0 = [] }).0
+
+-- an answer that P holds of, or none where P holds of nothing
+abbrev pub Finds : {A : Type 0} → (A → Type 0) → Option A → Type 0
+Finds {A} P answer = MatchOption answer ((x : A) → P x → ⊥) P
+
+-- BitUnpack's answer: none where a is 0 and a field is above b, and else the polynomial that the bytes hold
+abbrev pub IsUnpacked : ℤ → ℤ → Bytes → Option R → Type 0
+IsUnpacked a b bytes answer = MatchOption answer
+    ((a ≡ pos 0) × Any (λ x. b <ℤ x) (unpacked (nat_abs a) (nat_abs b) bytes).0)
+    (λ w. (w ≡ unpacked (nat_abs a) (nat_abs b) bytes) × (a ≡ pos 0 → PolynomialInRange (pos 0) b w.0))
 
 -- every number has an absolute value of at most m
 abbrev pub ValuesWithin : ℕ → List ℤ → Type 0

@@ -3,13 +3,13 @@ use Rattle.std.specs.Prelude.{◌≡◌, ℕ, ◌+◌, ◌*◌, ◌-◌, ◌/◌
 use Rattle.std.specs.Int.{w16, w32, to_le_bytes}
 use Rattle.std.specs.List.{All, filter, range_with_len}
 use Rattle.fips204_base.specs.Encodings.{is_one, all_ones}
-use Rattle.fips204_base.specs.Bounds.{vector_residues}
+use Rattle.fips204_base.specs.Bounds.{vector_residues, coefficient_of}
 use Rattle.fips204_base.specs.Lanes.{lane, lane_at}
 use Rattle.fips204_base.specs.Packing.{bits, width, unpacked}
 use Rattle.fips204_base.specs.Residues.{residue, sum_below, centred_modulo, coefficients, IsCongruent}
 use Rattle.fips204_base.specs.Sampling.{all_present, coefficient_from_three_bytes, coefficient_from_half_byte, matrix_entry, picks, sampled_matrix, small_polynomial}
 use Rattle.fips204_base.specs.Transforms.{bit_reversed, zeta_at, inverse_transform, minus, product}
-use Rattle.fips204_base.specs.Vectors.{vector_coefficients, matrix_product}
+use Rattle.fips204_base.specs.Vectors.{vector_coefficients, vector_of, matrix_product}
 use Rattle.fips204_base.specs.declared.fault.Fault.{Fault}
 use Rattle.fips204_base.specs.declared.fault.Fault.TheVariants.{SamplingLimit}
 use Rattle.fips204_base.specs.declared.types.R.{R}
@@ -58,8 +58,12 @@ pub record AreEight (xs : List ℤ) : Type 0 where
   pub fits : (j : ℕ) → j < 8 → FitsSigned w32 (lane xs j)
 
 -- lane by lane, x and y are a pair that is made of a and b
-abbrev pub EachPair : (ℤ → ℤ → ℤ → ℤ → Type 0) → ℕ → List ℤ → List ℤ → List ℤ → List ℤ → Type 0
-EachPair Pair width a b x y = (j : ℕ) → j < width → Pair (lane a j) (lane b j) (lane x j) (lane y j)
+abbrev pub EachPair : {V : Type 0} → (ℤ → ℤ → ℤ → ℤ → Type 0) → (V → List ℤ) → ℕ → V → V → V → V → Type 0
+EachPair Pair lanes width a b x y = (j : ℕ) → j < width → Pair (lane (lanes a) j) (lane (lanes b) j) (lane (lanes x) j) (lane (lanes y) j)
+
+-- every lane of the values of a row from place start on has an absolute value of at most m
+abbrev pub LanesWithinFrom : {V : Type 0} → ℕ → (V → List ℤ) → ℕ → ℕ → List V → Type 0
+LanesWithinFrom {V} start lanes width m w = (p j : ℕ) (d : V) → start ≤ p → p < 256 → j < width → nat_abs (lane_at lanes j d w p) ≤ m
 
 -- lane by lane, a row is changed by place
 abbrev pub EachLaneOfRow : {V : Type 0} → ((ℕ → ℤ) → (ℕ → ℤ) → Type 0) → (V → List ℤ) → ℕ → List V → List V → Type 0
@@ -69,6 +73,14 @@ EachLaneOfRow {V} Changed lanes width before after = (j : ℕ) (d : V) → j < w
 abbrev pub AreSameModQ : ℕ → List R → List R → Type 0
 AreSameModQ k v w = (r n : ℕ) → r < k → n < 256 → vector_coefficients v r n ≡ vector_coefficients w r n
 
+-- coefficient by coefficient, the first k polynomials of a vector are made of those of two others
+abbrev pub AreZipped : (ℤ → ℤ → ℤ → Type 0) → ℕ → List R → List R → List R → Type 0
+AreZipped Made k v w out = (r n : ℕ) → r < k → n < 256 → Made (coefficient_of v r n) (coefficient_of w r n) (coefficient_of out r n)
+
+-- where what is made at each place is that of a function of the place, the vector is the one of this function
+abbrev pub IsDeterminedBy : (ℕ → ℕ → ℤ → Type 0) → ℕ → List R → Type 0
+IsDeterminedBy Made k out = (g : ℕ → ℕ → ℤ) → ((r n : ℕ) (y : ℤ) → r < k → n < 256 → Made r n y → y ≡ g r n) → out ≡ vector_of k g
+
 -- the residues of a matrix of transforms, by row, column and place
 abbrev pub matrix_residues : List (List T) → ℕ → ℕ → ℕ → ℕ
 matrix_residues a i = vector_residues (slice_index_or a i [])
@@ -76,6 +88,10 @@ matrix_residues a i = vector_residues (slice_index_or a i [])
 -- the first count of the new values are the first `kept` of the old ones and then those given, as many as have room among 256
 abbrev pub AreKept : List ℤ → ℕ → List ℤ → List ℤ → ℕ → Type 0
 AreKept old kept given new count = take count new ≡ take 256 (take kept old ++ given)
+
+-- a step that writes what is sampled: it refuses where there is none
+abbrev pub WritesSampled : {A : Type 0} → Option A → Result (Unit {0}) Fault → A → Type 0
+WritesSampled sampled result new = MatchResult result (λ _. sampled ≡ Some new) (λ fault. (sampled ≡ None) × (fault ≡ SamplingLimit))
 
 -- a step that samples the matrix of rho: it refuses where there is none, and else P holds of the matrix
 abbrev pub OnSampled : (List ℕ → List ℕ) → List ℕ → ℕ → ℕ → Result (Unit {0}) Fault → (List (List T) → Type 0) → Type 0

@@ -2,10 +2,10 @@
 //! coefficients asks for.
 #![tactic(auto)]
 
-ghost use Rattle.std.specs.Prelude.{◌≡◌, ◌<◌, ◌≤◌, ◌+◌, ◌*◌, ◌%◌, ◌^◌, ℤ, pos, ◌-ℤ◌, ◌≤ℤ◌, ◌<ℤ◌, nat_abs, length, map, MatchOption};
-ghost use Rattle.std.specs.List.{All, Any};
-ghost use Rattle.fips204_base.specs.Packing.{polynomial_bytes, unpacked, width};
-ghost use Rattle.fips204_base.specs.Bounds.{Bounds, PolynomialInRange};
+ghost use Rattle.std.specs.Prelude.{◌≡◌, ◌<◌, ◌≤◌, ◌+◌, ◌*◌, ◌%◌, ◌^◌, ℤ, pos, ◌-ℤ◌, ◌≤ℤ◌, length, map};
+ghost use Rattle.std.specs.List.{All};
+ghost use Rattle.fips204_base.specs.Packing.{polynomial_bytes, width};
+ghost use Rattle.fips204_base.specs.Bounds.{Bounds, PolynomialInRange, IsUnpacked};
 ghost use Rattle.fips204_base.specs.Network.{Packs, coefficient, field};
 
 mod coefficients;
@@ -61,17 +61,13 @@ fn coefficient_of(field: u32, a: i32, b: i32) -> i32
     requires below { field < 2 ^ 21 }
     ensures { result ≡ coefficient a b field }
 {
-    if a > 0 {
-        b - field as i32
-    } else {
-        field as i32
-    }
+    let value = field as i32;
+    if a > 0 { b - value } else { value }
 }
 
 /// `SimpleBitPack` (Algorithm 16): writes each coefficient in as many bits as `b` has.
 ///
-/// Coefficients are in `[0, b]`, `b` is from 1 to `2^20 - 1`, and `out` has exactly
-/// `32 * bit_length(b)` bytes.
+/// Coefficients are in `[0, b]`, `b` is from 1 to `2^20 - 1`, and `out` has exactly `32 * bit_length(b)` bytes.
 pub fn simple_bit_pack(w: &R, b: i32, out: &mut [u8])
     requires bounds { Bounds (pos 0) b }
     requires range { PolynomialInRange (pos 0) b w.now.0 }
@@ -107,12 +103,10 @@ fn write_packed_group(w: &[i32], a: i32, b: i32, out: &mut [u8])
     }
 }
 
-/// `BitPack` (Algorithm 17): writes the fields of coefficients in `[-a, b]`, each of as many bits
-/// as `a + b` has. The field of a coefficient is its distance from `b`, and where `a` is 0 the
-/// coefficient itself.
+/// `BitPack` (Algorithm 17): writes the fields of coefficients in `[-a, b]`, each of as many bits as `a + b` has.
+/// The field of a coefficient is its distance from `b`, and where `a` is 0 the coefficient itself.
 ///
-/// `a` is from 0 and `b` from 1 to `2^20 - 1`, and `out` has exactly `32 * bit_length(a + b)`
-/// bytes.
+/// `a` is from 0 and `b` from 1 to `2^20 - 1`, and `out` has exactly `32 * bit_length(a + b)` bytes.
 #[inline(always)]
 pub fn bit_pack(w: &R, a: i32, b: i32, out: &mut [u8])
     requires bounds { Bounds a b }
@@ -179,25 +173,20 @@ fn write_unpacked_group(v: &[u8], a: i32, b: i32, out: &mut [i32])
 pub fn simple_bit_unpack(v: &[u8], b: i32) -> Option<R>
     requires bounds { Bounds (pos 0) b }
     requires room { length v.now ≡ 32 * width (pos 0) b }
-    ensures { MatchOption result
-        (Any (λ x. b <ℤ x) (unpacked 0 (nat_abs b) v.now).0)
-        (λ w. (w ≡ unpacked 0 (nat_abs b) v.now) × PolynomialInRange (pos 0) b w.0) }
+    ensures { IsUnpacked (pos 0) b v.now result }
 {
     bit_unpack(v, 0, b)
 }
 
-/// `BitUnpack` (Algorithm 19): the polynomial whose fields stand in `v`, each of as many bits as
-/// `a + b` has. `None` where `a` is 0 and a field is above `b`; where `a` is above 0 a coefficient
-/// may come out below `-a`.
+/// `BitUnpack` (Algorithm 19): the polynomial whose fields stand in `v`, each of as many bits as `a + b` has. `None`
+/// where `a` is 0 and a field is above `b`; where `a` is above 0 a coefficient may come out below `-a`.
 ///
 /// `a` is from 0 and `b` from 1 to `2^20 - 1`, and `v` has exactly `32 * bit_length(a + b)` bytes.
 #[inline(always)]
 pub fn bit_unpack(v: &[u8], a: i32, b: i32) -> Option<R>
     requires bounds { Bounds a b }
     requires room { length v.now ≡ 32 * width a b }
-    ensures { MatchOption result
-        ((a ≡ pos 0) × Any (λ x. b <ℤ x) (unpacked (nat_abs a) (nat_abs b) v.now).0)
-        (λ w. (w ≡ unpacked (nat_abs a) (nat_abs b) v.now) × (a ≡ pos 0 → PolynomialInRange (pos 0) b w.0)) }
+    ensures { IsUnpacked a b v.now result }
 {
     let c = field_width(a, b) as usize;
     let mut out = [0i32; 256];
@@ -215,9 +204,7 @@ pub fn bit_unpack(v: &[u8], a: i32, b: i32) -> Option<R>
 pub(crate) fn bit_unpack_by_range(v: &[u8], a: i32, b: i32) -> Option<R>
     requires bounds { Bounds a b }
     requires room { length v.now ≡ 32 * width a b }
-    ensures { MatchOption result
-        ((a ≡ pos 0) × Any (λ x. b <ℤ x) (unpacked (nat_abs a) (nat_abs b) v.now).0)
-        (λ w. (w ≡ unpacked (nat_abs a) (nat_abs b) v.now) × (a ≡ pos 0 → PolynomialInRange (pos 0) b w.0)) }
+    ensures { IsUnpacked a b v.now result }
 {
     match (a, b) {
         (131071, 131072) => bit_unpack(v, 131071, 131072),

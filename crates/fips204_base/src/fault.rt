@@ -24,8 +24,7 @@ pub enum Fault {
     OidNotDer,
     /// The digest of pre-hash signing has more than 1024 bytes.
     DigestTooLong,
-    /// The digest does not match the output length of the hash function that a known object identifier
-    /// names.
+    /// The digest does not match the output length of the hash function that a known object identifier names.
     DigestLength,
     /// The generator failed in pre-hash signing.
     HashRng,

@@ -1,5 +1,4 @@
-//! Samplers: the matrix, the secret vectors, the challenge and the mask from streams (FIPS 204,
-//! section 7.3).
+//! Samplers: the matrix, the secret vectors, the challenge and the mask from streams (FIPS 204, section 7.3).
 #![tactic(auto)]
 
 ghost use Rattle.std.specs.Prelude.{◌≤◌, option_to_list};

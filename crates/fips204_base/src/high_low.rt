@@ -140,31 +140,20 @@ pub fn make_hint(gamma2: i32, z: Zq, r: Zq) -> bool
     high_bits(gamma2, r) != high_bits(gamma2, r + z)
 }
 
-/// `UseHint` (FIPS 204, Algorithm 40): the high bits of `r`, which a hint moves by one, up where the
-/// low bits are above 0 and else down, and round at the ends. `h` is 0 or 1, and the conditions of
-/// `decompose` hold.
+/// `UseHint` (FIPS 204, Algorithm 40): the high bits of `r`, which a hint moves by one, up where the low bits are
+/// above 0 and else down, and round at the ends. `h` is 0 or 1, and the conditions of `decompose` hold.
 pub fn use_hint(gamma2: i32, h: Zq, r: Zq) -> Zq
     requires set { IsGamma2 gamma2 }
     requires hint { (h ≡ pos 0) ⊎ (h ≡ pos 1) }
     requires range { nat_abs r < 2143289344 }
     ensures { result ≡ pos (use_hint (nat_abs gamma2) (int_lt (pos 0) h) (residue r)) }
 {
-    use_hint_residue(gamma2 as u32, h > 0, full_reduce32(r) as u32)
-}
-
-/// `use_hint` of a residue.
-#[tactic(auto, using(crate::proofs::Rounding::hinted, crate::proofs::Rounding::high_bits_below))]
-fn use_hint_residue(gamma2: u32, hint: bool, r: u32) -> Zq
-    requires set { (gamma2 ≡ 95232) ⊎ (gamma2 ≡ 261888) }
-    requires range { r < 8380417 }
-    ensures { result ≡ pos (use_hint gamma2 hint r) }
-{
     // (r1, r0) = Decompose(r), m = (q - 1) / (2 gamma2)
-    let (high, low) = decompose_residue(gamma2, r);
-    if !hint {
+    let (high, low) = decompose(gamma2, r);
+    if h == 0 {
         return high;
     }
-    let last = high_count(gamma2) - 1;
+    let last = high_count(gamma2 as u32) - 1;
     if low > 0 {
         // h = 1 and r0 > 0: (r1 + 1) mod m
         if high == last { 0 } else { high + 1 }

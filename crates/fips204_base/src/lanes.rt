@@ -17,9 +17,7 @@ use std::simd::{i32x8, i64x8};
 
 /// Eight `i32` lanes. Contracts see the list of them.
 #[derive(Clone, Copy)]
-pub struct Lanes {
-    lanes: i32x8,
-}
+pub struct Lanes(i32x8);
 
 impl Model for Lanes {
     ghost use Rattle.std.specs.Prelude.{List, ℤ};
@@ -27,11 +25,11 @@ impl Model for Lanes {
 
     ghost Value = { List ℤ };
 
-    ghost view = { λ x. x.lanes };
+    ghost view = { λ x. x.0 };
 
-    ghost invariant = { λ x. AreEight x.lanes };
+    ghost invariant = { λ x. AreEight x.0 };
 
-    ghost inverse = { λ xs. record { lanes = xs } };
+    ghost inverse = { λ xs. record { 0 = xs } };
 }
 
 impl Lanes {
@@ -41,23 +39,14 @@ impl Lanes {
     {
         // a proof knows the range of each entry once it is read
         let [a, b, c, d, e, f, g, h] = entries;
-        Lanes {
-            lanes: i32x8::from_array([a, b, c, d, e, f, g, h]),
-        }
-    }
-
-    /// Eight zeros.
-    pub(crate) fn zeros() -> Lanes
-        ensures { (j : ℕ) → lane result j ≡ pos 0 }
-    {
-        Lanes::from_array([0; 8])
+        Lanes(i32x8::from_array([a, b, c, d, e, f, g, h]))
     }
 
     /// The array whose entry `i` is lane `i`.
     pub fn to_array(self) -> [i32; 8]
         ensures { result ≡ self }
     {
-        self.lanes.to_array()
+        self.0.to_array()
     }
 
     /// The lanes with `x` in lane `r`.
@@ -106,16 +95,12 @@ impl Residue for Lanes {
 
     fn add(self, other: Lanes, meter: &mut Count) -> Lanes {
         meter.sums += 1;
-        Lanes {
-            lanes: self.lanes.strict_add(other.lanes),
-        }
+        Lanes(self.0.strict_add(other.0))
     }
 
     fn sub(self, other: Lanes, meter: &mut Count) -> Lanes {
         meter.sums += 1;
-        Lanes {
-            lanes: self.lanes.strict_sub(other.lanes),
-        }
+        Lanes(self.0.strict_sub(other.0))
     }
 
     fn mul_zeta(self, m: usize, meter: &mut Count) -> Lanes {
@@ -129,10 +114,8 @@ impl Residue for Lanes {
     }
 
     fn reduce(self) -> Lanes {
-        let near = (self.lanes + i32x8::splat(1 << 22)) >> i32x8::splat(23);
-        Lanes {
-            lanes: self.lanes - near * i32x8::splat(Q),
-        }
+        let near = (self.0 + i32x8::splat(1 << 22)) >> i32x8::splat(23);
+        Lanes(self.0 - near * i32x8::splat(Q))
     }
 
     fn finish(self) -> Lanes {
@@ -154,12 +137,10 @@ fn mont_products(x: Lanes, factor: i32) -> Lanes
     let both = i64x8::splat(factor_words(factor));
     let word = i64x8::splat(32);
     // t = the low word of x factor q^-1, and x factor - t q is a multiple of 2^32
-    let low = x.lanes * (both >> word).cast::<i32>();
-    let wide = x.lanes.cast::<i64>() * ((both << word) >> word);
+    let low = x.0 * (both >> word).cast::<i32>();
+    let wide = x.0.cast::<i64>() * ((both << word) >> word);
     let whole = wide - low.cast::<i64>() * i64x8::splat(8380417);
-    Lanes {
-        lanes: (whole >> word).cast::<i32>(),
-    }
+    Lanes((whole >> word).cast::<i32>())
 }
 
 /// The number of 64 bits whose low word has the bits of `factor`, and whose high word gives the lowest 32 bits of
@@ -179,7 +160,5 @@ fn raised(x: Lanes) -> Lanes
     requires { (j : ℕ) → j < 8 → nat_abs (lane x j) ≤ 8380416 }
     ensures { EachLane (λ x y. y ≡ pos (residue x)) 8 x result }
 {
-    Lanes {
-        lanes: x.lanes - (x.lanes >> i32x8::splat(31)) * i32x8::splat(Q),
-    }
+    Lanes(x.0 - (x.0 >> i32x8::splat(31)) * i32x8::splat(Q))
 }

@@ -5,9 +5,9 @@
 //! a function of the place, the vector is the one of this function.
 #![tactic(auto)]
 
-ghost use Rattle.std.specs.Prelude.{◌≡◌, ◌<◌, ℕ, ℤ, length};
-ghost use Rattle.fips204_base.specs.Vectors.{vector_of};
+ghost use Rattle.std.specs.Prelude.{◌≡◌, ◌<◌, ℕ, length};
 ghost use Rattle.fips204_base.specs.Bounds.{coefficient_at, coefficient_of};
+ghost use Rattle.fips204_base.specs.Network.{AreZipped, IsDeterminedBy};
 
 use crate::types::R;
 
@@ -38,7 +38,8 @@ pub fn write_map<F: Fn(i32) -> i32>(w: &mut [i32; 256], f: F)
 #[inline(always)]
 pub fn write_zip<F: Fn(i32, i32) -> i32>(v: &mut [i32; 256], w: &[i32; 256], f: F)
     requires { (n : ℕ) → n < 256 → F.pre f (coefficient_at v.old n) (coefficient_at w.now n) }
-    ensures values { (n : ℕ) → n < 256 → F.post f (coefficient_at v.old n) (coefficient_at w.now n) (coefficient_at v.new n) }
+    ensures values { (n : ℕ) → n < 256
+        → F.post f (coefficient_at v.old n) (coefficient_at w.now n) (coefficient_at v.new n) }
     ensures places { length v.new ≡ 256 }
 {
     for n in 0..256 {
@@ -51,9 +52,7 @@ pub fn write_zip<F: Fn(i32, i32) -> i32>(v: &mut [i32; 256], w: &[i32; 256], f: 
 pub fn map_vector<const K: usize, F: Fn(i32) -> i32>(v: &[R; K], f: F) -> [R; K]
     requires { (r n : ℕ) → r < K → n < 256 → F.pre f (coefficient_of v.now r n) }
     ensures values { (r n : ℕ) → r < K → n < 256 → F.post f (coefficient_of v.now r n) (coefficient_of result r n) }
-    ensures whole { (g : ℕ → ℕ → ℤ)
-        → ((r n : ℕ) (y : ℤ) → r < K → n < 256 → F.post f (coefficient_of v.now r n) y → y ≡ g r n)
-        → result ≡ vector_of K g }
+    ensures whole { IsDeterminedBy (λ r n. F.post f (coefficient_of v.now r n)) K result }
 {
     let mut out = *v;
     write_map_vector(&mut out, f);
@@ -64,10 +63,8 @@ pub fn map_vector<const K: usize, F: Fn(i32) -> i32>(v: &[R; K], f: F) -> [R; K]
 #[inline(always)]
 pub fn zip_vectors<const K: usize, F: Fn(i32, i32) -> i32>(v: &[R; K], w: &[R; K], f: F) -> [R; K]
     requires { (r n : ℕ) → r < K → n < 256 → F.pre f (coefficient_of v.now r n) (coefficient_of w.now r n) }
-    ensures values { (r n : ℕ) → r < K → n < 256 → F.post f (coefficient_of v.now r n) (coefficient_of w.now r n) (coefficient_of result r n) }
-    ensures whole { (g : ℕ → ℕ → ℤ)
-        → ((r n : ℕ) (y : ℤ) → r < K → n < 256 → F.post f (coefficient_of v.now r n) (coefficient_of w.now r n) y → y ≡ g r n)
-        → result ≡ vector_of K g }
+    ensures values { AreZipped (F.post f) K v.now w.now result }
+    ensures whole { IsDeterminedBy (λ r n. F.post f (coefficient_of v.now r n) (coefficient_of w.now r n)) K result }
 {
     let mut out = *v;
     write_zip_vectors(&mut out, w, f);
@@ -79,9 +76,7 @@ pub fn zip_vectors<const K: usize, F: Fn(i32, i32) -> i32>(v: &[R; K], w: &[R; K
 pub fn write_map_vector<const K: usize, F: Fn(i32) -> i32>(v: &mut [R; K], f: F)
     requires { (r n : ℕ) → r < K → n < 256 → F.pre f (coefficient_of v.old r n) }
     ensures values { (r n : ℕ) → r < K → n < 256 → F.post f (coefficient_of v.old r n) (coefficient_of v.new r n) }
-    ensures whole { (g : ℕ → ℕ → ℤ)
-        → ((r n : ℕ) (y : ℤ) → r < K → n < 256 → F.post f (coefficient_of v.old r n) y → y ≡ g r n)
-        → v.new ≡ vector_of K g }
+    ensures whole { IsDeterminedBy (λ r n. F.post f (coefficient_of v.old r n)) K v.new }
 {
     for r in 0..K {
         write_map(&mut v[r].0, &f);
@@ -92,10 +87,8 @@ pub fn write_map_vector<const K: usize, F: Fn(i32) -> i32>(v: &mut [R; K], f: F)
 #[inline(always)]
 pub fn write_zip_vectors<const K: usize, F: Fn(i32, i32) -> i32>(v: &mut [R; K], w: &[R; K], f: F)
     requires { (r n : ℕ) → r < K → n < 256 → F.pre f (coefficient_of v.old r n) (coefficient_of w.now r n) }
-    ensures values { (r n : ℕ) → r < K → n < 256 → F.post f (coefficient_of v.old r n) (coefficient_of w.now r n) (coefficient_of v.new r n) }
-    ensures whole { (g : ℕ → ℕ → ℤ)
-        → ((r n : ℕ) (y : ℤ) → r < K → n < 256 → F.post f (coefficient_of v.old r n) (coefficient_of w.now r n) y → y ≡ g r n)
-        → v.new ≡ vector_of K g }
+    ensures values { AreZipped (F.post f) K v.old w.now v.new }
+    ensures whole { IsDeterminedBy (λ r n. F.post f (coefficient_of v.old r n) (coefficient_of w.now r n)) K v.new }
 {
     for r in 0..K {
         write_zip(&mut v[r].0, &w[r].0, &f);

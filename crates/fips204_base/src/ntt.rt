@@ -2,8 +2,8 @@
 #![tactic(auto)]
 
 ghost use Rattle.std.specs.Prelude.{◌≡◌, ℕ, ◌<◌, ◌≤◌, ◌+◌, ◌*◌, ◌-◌, ◌^◌, nat_abs, length};
-ghost use Rattle.fips204_base.specs.Lanes.{lane, lane_at, LanesWithin, RowsWithin, IsTransform, IsInverse, EachRow};
-ghost use Rattle.fips204_base.specs.Network.{EachPair, EachLaneOfRow, IsButterfly, IsInverseButterfly, IsBlock, AreBlocks};
+ghost use Rattle.fips204_base.specs.Lanes.{lane, LanesWithin, RowsWithin, IsTransform, IsInverse, EachRow};
+ghost use Rattle.fips204_base.specs.Network.{EachPair, EachLaneOfRow, IsButterfly, IsInverseButterfly, IsBlock, AreBlocks, LanesWithinFrom};
 
 pub use crate::helpers::Residue;
 pub use crate::lanes::Lanes;
@@ -96,7 +96,7 @@ fn write_block<V: Residue>(
     requires place { m < 256 }
     requires inside { start + 2 * len ≤ 256 }
     requires room { (V.products meter.old + len < 2 ^ 64) × (V.sums meter.old + 2 * len < 2 ^ 64) }
-    requires fits { (p j : ℕ) (d : V) → start ≤ p → p < 256 → j < V.width → nat_abs (lane_at V.lanes j d w.old p) ≤ 2139103231 }
+    requires fits { LanesWithinFrom start V.lanes V.width 2139103231 w.old }
     ensures values { EachLaneOfRow (IsBlock (IsButterfly m) start len) V.lanes V.width w.old w.new }
     ensures products { V.products meter.new ≡ V.products meter.old + len }
     ensures sums { V.sums meter.new ≡ V.sums meter.old + 2 * len }
@@ -114,7 +114,7 @@ fn butterfly<V: Residue>(a: V, b: V, m: usize, meter: &mut V::Meter) -> (V, V)
     requires place { m < 256 }
     requires room { (V.products meter.old + 1 < 2 ^ 64) × (V.sums meter.old + 2 < 2 ^ 64) }
     requires fits { (j : ℕ) → j < V.width → nat_abs (lane (V.lanes a) j) ≤ 2139103231 }
-    ensures values { EachPair (IsButterfly m) V.width (V.lanes a) (V.lanes b) (V.lanes result.0) (V.lanes result.1) }
+    ensures values { EachPair (IsButterfly m) V.lanes V.width a b result.0 result.1 }
     ensures products { V.products meter.new ≡ V.products meter.old + 1 }
     ensures sums { V.sums meter.new ≡ V.sums meter.old + 2 }
 {
@@ -153,7 +153,8 @@ fn write_inv_layer<V: Residue>(w: &mut [V; 256], count: usize, len: usize, meter
     requires whole { count * len ≡ 128 }
     requires room { (V.products meter.old + 128 < 2 ^ 64) × (V.sums meter.old + 256 < 2 ^ 64) }
     requires fits { LanesWithin V.lanes V.width 1073741823 w.old }
-    ensures values { EachLaneOfRow (AreBlocks (λ b. IsInverseButterfly (2 * count - 1 - b)) count len) V.lanes V.width w.old w.new }
+    ensures values { EachLaneOfRow (AreBlocks (λ b. IsInverseButterfly (2 * count - 1 - b)) count len)
+        V.lanes V.width w.old w.new }
     ensures products { V.products meter.new ≡ V.products meter.old + 128 }
     ensures sums { V.sums meter.new ≡ V.sums meter.old + 256 }
     ensures size { length w.new ≡ 256 }
@@ -176,7 +177,7 @@ fn write_inv_block<V: Residue>(
     requires place { m < 256 }
     requires inside { start + 2 * len ≤ 256 }
     requires room { (V.products meter.old + len < 2 ^ 64) × (V.sums meter.old + 2 * len < 2 ^ 64) }
-    requires fits { (p j : ℕ) (d : V) → start ≤ p → p < 256 → j < V.width → nat_abs (lane_at V.lanes j d w.old p) ≤ 1073741823 }
+    requires fits { LanesWithinFrom start V.lanes V.width 1073741823 w.old }
     ensures values { EachLaneOfRow (IsBlock (IsInverseButterfly m) start len) V.lanes V.width w.old w.new }
     ensures products { V.products meter.new ≡ V.products meter.old + len }
     ensures sums { V.sums meter.new ≡ V.sums meter.old + 2 * len }
@@ -193,8 +194,9 @@ fn write_inv_block<V: Residue>(
 fn inv_butterfly<V: Residue>(a: V, b: V, m: usize, meter: &mut V::Meter) -> (V, V)
     requires place { m < 256 }
     requires room { (V.products meter.old + 1 < 2 ^ 64) × (V.sums meter.old + 2 < 2 ^ 64) }
-    requires fits { (j : ℕ) → j < V.width → (nat_abs (lane (V.lanes a) j) ≤ 1073741823) × (nat_abs (lane (V.lanes b) j) ≤ 1073741823) }
-    ensures values { EachPair (IsInverseButterfly m) V.width (V.lanes a) (V.lanes b) (V.lanes result.0) (V.lanes result.1) }
+    requires fits { (j : ℕ) → j < V.width
+        → (nat_abs (lane (V.lanes a) j) ≤ 1073741823) × (nat_abs (lane (V.lanes b) j) ≤ 1073741823) }
+    ensures values { EachPair (IsInverseButterfly m) V.lanes V.width a b result.0 result.1 }
     ensures products { V.products meter.new ≡ V.products meter.old + 1 }
     ensures sums { V.sums meter.new ≡ V.sums meter.old + 2 }
 {

@@ -49,7 +49,7 @@ impl Transforms {
         ensures { (r n : ℕ) → r < 8 → n < 256 → vector_coefficients result r n ≡ 0 }
     {
         Transforms {
-            values: [Lanes::zeros(); 256],
+            values: [Lanes::from_array([0; 8]); 256],
         }
     }
 
@@ -72,7 +72,8 @@ impl Transforms {
     #[inline(never)]
     pub fn write_plain<const N: usize>(&mut self, out: &mut [R; N])
         requires { N ≤ 8 }
-        ensures values { (r n : ℕ) → r < N → n < 256 → coefficient_of out.new r n ≡ pos (vector_coefficients self.old r n) }
+        ensures values { (r n : ℕ) → r < N → n < 256
+            → coefficient_of out.new r n ≡ pos (vector_coefficients self.old r n) }
         ensures whole { out.new ≡ vector_of N (λ r n. pos (vector_coefficients self.old r n)) }
         ensures range { VectorWithin N 8380416 out.new }
     {
@@ -139,8 +140,7 @@ impl Factor {
     }
 }
 
-/// Coefficient `n` of each polynomial, with 0 where there is none. Coefficients are below `q` in absolute
-/// value.
+/// Coefficient `n` of each polynomial, with 0 where there is none. Coefficients are below `q` in absolute value.
 #[inline(always)]
 fn lanes_of<const N: usize>(v: &[R; N], n: usize) -> Lanes
     requires few { N ≤ 8 }

@@ -15,16 +15,11 @@ pub fn coeff_from_three_bytes(bytes: [u8; 3]) -> Option<i32>
     let [low, middle, high] = bytes;
     // z = 2^16 b2 + 2^8 b1 + b0, where b2 has lost its top bit
     let value = low as u32 + 256 * middle as u32 + 65536 * (high % 128) as u32;
-    if value < Q as u32 {
-        Some(value as i32)
-    } else {
-        None
-    }
+    (value < Q as u32).then_some(value as i32)
 }
 
-/// `CoeffFromHalfByte` (Algorithm 15): the coefficient in `[-eta, eta]` of a half byte `b`, which
-/// is below 16; `eta` is 2 or 4. `None` where `b` is 15 at `eta` 2, and where it is above 8 at
-/// `eta` 4.
+/// `CoeffFromHalfByte` (Algorithm 15): the coefficient in `[-eta, eta]` of a half byte `b`, which is below 16; `eta`
+/// is 2 or 4. `None` where `b` is 15 at `eta` 2, and where it is above 8 at `eta` 4.
 pub fn coeff_from_half_byte(eta: i32, b: u8) -> Option<i32>
     requires set { IsEta eta }
     requires half { b < 16 }

@@ -1,15 +1,14 @@
 //! The encoding of hints.
 #![tactic(auto)]
 
-ghost use Rattle.std.specs.Prelude.{◌≡◌, ◌<◌, ◌≤◌, ◌+◌, ◌≤ℤ◌, List, pos, nat_abs, length, take, drop, ◌++◌, MatchOption};
+ghost use Rattle.std.specs.Prelude.{◌≡◌, ◌<◌, ◌≤◌, ◌+◌, ◌≤ℤ◌, pos, nat_abs, length, take, drop, ◌++◌, MatchOption};
+ghost use Rattle.fips204_base.specs.Bounds.{Finds, PolynomialInRange, VectorInRange};
 ghost use Rattle.fips204_base.specs.Encodings.{Spells, all_ones, hint_bytes};
 ghost use Rattle.fips204_base.specs.Network.{ones};
-ghost use Rattle.fips204_base.specs.Bounds.{PolynomialInRange, VectorInRange};
 
 use crate::types::{R, R0};
 
-/// The polynomial with ones at `places` and zeros elsewhere, or `None` where the places do not
-/// strictly rise.
+/// The polynomial with ones at `places` and zeros elsewhere, or `None` where the places do not strictly rise.
 fn polynomial_of(places: &[u8]) -> Option<R>
     ensures { MatchOption result
         ((w : R) → places.now ≡ ones w → ⊥)
@@ -35,7 +34,7 @@ pub fn hint_bit_unpack<const K: usize>(omega: i32, y: &[u8]) -> Option<[R; K]>
     requires some { pos 1 ≤ℤ omega }
     requires sizes { nat_abs omega + K < 256 }
     requires room { length y.now ≡ nat_abs omega + K }
-    ensures { MatchOption result ((h : List R) → Spells (nat_abs omega) K h y.now → ⊥) (λ h. Spells (nat_abs omega) K h y.now) }
+    ensures { Finds (λ h. Spells (nat_abs omega) K h y.now) result }
 {
     let limit = omega as usize;
     let mut h = [R0; K];

@@ -39,14 +39,8 @@ pub fn sk_decode<const K: usize, const L: usize, const SK_LEN: usize>(
     // lines 2 to 10: s1[i], s2[i] = BitUnpack(_, eta, eta), t0[i] = BitUnpack(w_i, 2^(d - 1) - 1, 2^(d - 1))
     let s1 = unpack_short_vector(first, eta).ok_or(Fault::KeyRange)?;
     let s2 = unpack_short_vector(second, eta).ok_or(Fault::KeyRange)?;
-    Ok((
-        part(seeds, 0),
-        part(seeds, 32),
-        part(seeds, 64),
-        s1,
-        s2,
-        unpack_vector(low, 4095, 4096),
-    ))
+    let t0 = unpack_vector(low, 4095, 4096);
+    Ok((part(seeds, 0), part(seeds, 32), part(seeds, 64), s1, s2, t0))
 }
 
 /// `skEncode` (Algorithm 24): encodes a private key from its parts: rho, K, tr, then s1 and s2 with

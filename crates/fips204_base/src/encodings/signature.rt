@@ -15,9 +15,8 @@ use crate::types::R;
 /// `sigDecode` (Algorithm 27): the parts of a signature, `c_tilde`, `z` and the hint, or `None` where
 /// its last `omega + K` bytes encode no hint. Coefficients of `z` are in `[1 - gamma1, gamma1]`.
 ///
-/// `gamma1` is 131072 or 524288, `omega` is at least 1, `omega + K` is below 256, and `SIG_LEN` is
-/// the length of the parts: `LAMBDA_DIV4`, 576 (640 at the larger `gamma1`) for each of the `L`
-/// polynomials of `z`, and `omega + K`.
+/// `gamma1` is 131072 or 524288, `omega` is at least 1, `omega + K` is below 256, and `SIG_LEN` is the length of the
+/// parts: `LAMBDA_DIV4`, 576 (640 at the larger `gamma1`) for each of the `L` polynomials of `z`, and `omega + K`.
 pub fn sig_decode<const K: usize, const L: usize, const LAMBDA_DIV4: usize, const SIG_LEN: usize>(
     gamma1: i32,
     omega: i32,
@@ -28,7 +27,8 @@ pub fn sig_decode<const K: usize, const L: usize, const LAMBDA_DIV4: usize, cons
     requires hint_size { nat_abs omega + K < 256 }
     requires size { SIG_LEN ≡ LAMBDA_DIV4 + 32 * width (gamma1 -ℤ pos 1) gamma1 * L + (nat_abs omega + K) }
     ensures { MatchOption result
-        ((c_tilde : List ℕ) (z h : List R) → IsSignature (nat_abs gamma1) (nat_abs omega) K L LAMBDA_DIV4 sigma.now c_tilde z h → ⊥)
+        ((c_tilde : List ℕ) (z h : List R)
+        → IsSignature (nat_abs gamma1) (nat_abs omega) K L LAMBDA_DIV4 sigma.now c_tilde z h → ⊥)
         (λ parts. IsSignature (nat_abs gamma1) (nat_abs omega) K L LAMBDA_DIV4 sigma.now parts.0 parts.1 parts.2) }
 {
     let bytes: &[u8] = sigma;
@@ -41,8 +41,7 @@ pub fn sig_decode<const K: usize, const L: usize, const LAMBDA_DIV4: usize, cons
 }
 
 /// `sigEncode` (Algorithm 26): encodes a signature from its parts: `c_tilde`, then `z` with coefficients in
-/// `[1 - gamma1, gamma1]`, then the hint `h`, whose coefficients are 0 or 1, with at most `omega` ones in
-/// all.
+/// `[1 - gamma1, gamma1]`, then the hint `h`, whose coefficients are 0 or 1, with at most `omega` ones in all.
 ///
 /// `gamma1` is 131072 or 524288, `omega` is at least 1, `omega + K` is below 256, and `SIG_LEN` is as for
 /// `sig_decode`.

@@ -1,10 +1,10 @@
 //! Vectors as bytes, one polynomial after another.
 #![tactic(auto)]
 
-ghost use Rattle.std.specs.Prelude.{◌≡◌, ◌≤◌, ◌+◌, ◌*◌, ◌^◌, ℤ, List, pos, nat_abs, ◌+ℤ◌, ◌-ℤ◌, length, MatchOption};
+ghost use Rattle.std.specs.Prelude.{◌≡◌, ◌≤◌, ◌+◌, ◌*◌, ◌^◌, pos, nat_abs, ◌+ℤ◌, ◌-ℤ◌, length};
+ghost use Rattle.fips204_base.specs.Bounds.{Finds, Bounds, PolynomialInRange, VectorInRange};
 ghost use Rattle.fips204_base.specs.Encodings.{vector_bytes};
 ghost use Rattle.fips204_base.specs.Packing.{polynomial_bytes, width};
-ghost use Rattle.fips204_base.specs.Bounds.{Bounds, PolynomialInRange, VectorInRange};
 ghost use Rattle.fips204_base.specs.Vectors.{IsVector};
 
 use crate::conversion::{bit_unpack_by_range, field_width, write_packed_by_range};
@@ -71,9 +71,8 @@ pub fn unpack_vector<const N: usize>(bytes: &[u8], a: i32, b: i32) -> [R; N]
 pub fn unpack_short_polynomial(bytes: &[u8], eta: i32) -> Option<R>
     requires bounds { Bounds eta eta }
     requires room { length bytes.now ≡ 32 * width eta eta }
-    ensures { MatchOption result
-        ((w : List ℤ) → PolynomialInRange (pos 0 -ℤ eta) eta w → length w ≡ 256 → polynomial_bytes eta eta w ≡ bytes.now → ⊥)
-        (λ w. PolynomialInRange (pos 0 -ℤ eta) eta w.0 × (length w.0 ≡ 256) × (polynomial_bytes eta eta w.0 ≡ bytes.now)) }
+    ensures { Finds (λ w. PolynomialInRange (pos 0 -ℤ eta) eta w.0
+        × (length w.0 ≡ 256) × (polynomial_bytes eta eta w.0 ≡ bytes.now)) result }
 {
     let w = bit_unpack_by_range(bytes, eta, eta)?;
     if is_in_range(&w, eta, eta) {
@@ -88,9 +87,8 @@ pub fn unpack_short_polynomial(bytes: &[u8], eta: i32) -> Option<R>
 pub fn unpack_short_vector<const N: usize>(bytes: &[u8], eta: i32) -> Option<[R; N]>
     requires bounds { Bounds eta eta }
     requires room { length bytes.now ≡ 32 * width eta eta * N }
-    ensures { MatchOption result
-        ((v : List R) → IsVector N (nat_abs eta) (nat_abs eta) v → vector_bytes (nat_abs eta) (nat_abs eta) v ≡ bytes.now → ⊥)
-        (λ v. IsVector N (nat_abs eta) (nat_abs eta) v × (vector_bytes (nat_abs eta) (nat_abs eta) v ≡ bytes.now)) }
+    ensures { Finds (λ v. IsVector N (nat_abs eta) (nat_abs eta) v
+        × (vector_bytes (nat_abs eta) (nat_abs eta) v ≡ bytes.now)) result }
 {
     let size = polynomial_size(eta, eta);
     let mut v = [R0; N];

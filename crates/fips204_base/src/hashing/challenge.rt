@@ -15,11 +15,8 @@ fn sign_at(bytes: &[u8; 8], k: usize) -> i32
     requires { k < 64 }
     ensures { result ≡ sign_of (slice_index (bits 8 bytes.now) k) }
 {
-    if (bytes[k / 8] >> (k % 8)) % 2 == 1 {
-        -1
-    } else {
-        1
-    }
+    let bit = (bytes[k / 8] >> (k % 8)) % 2;
+    if bit == 1 { -1 } else { 1 }
 }
 
 /// `SampleInBall` (Algorithm 29): a polynomial in which `tau` coefficients are 1 or -1 and the others zero.

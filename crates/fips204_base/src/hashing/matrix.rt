@@ -1,9 +1,9 @@
 //! The matrix, as it is sampled from the stream in the place of SHAKE128.
 #![tactic(auto)]
 
-ghost use Rattle.std.specs.Prelude.{◌≡◌, ◌≤◌, ◌<◌, ◌/◌, ℕ, None, Some, length, ok_or, IfOk, IfErr};
+ghost use Rattle.std.specs.Prelude.{◌≡◌, ◌≤◌, ◌<◌, ◌/◌, length, ok_or, IfOk};
 ghost use Rattle.std.specs.List.{flat_map};
-ghost use Rattle.fips204_base.specs.Network.{AreKept, sampled_row, kept_triples, OnSampled};
+ghost use Rattle.fips204_base.specs.Network.{AreKept, WritesSampled, sampled_row, kept_triples, OnSampled};
 ghost use Rattle.fips204_base.specs.Sampling.{matrix_entry, sampled_matrix};
 ghost use Rattle.fips204_base.specs.Vectors.{MatrixWithin};
 
@@ -96,8 +96,7 @@ pub(crate) fn write_expanded_row<const L: usize, G: Xof>(
     row: &mut [T; L],
 ) -> Result<(), Fault>
     requires shape { (r < 8) × (L ≤ 7) }
-    ensures refused { IfErr result (λ fault. (sampled_row G.front rho.now L r ≡ None) × (fault ≡ Fault.SamplingLimit)) }
-    ensures values { IfOk result (λ _. sampled_row G.front rho.now L r ≡ Some row.new) }
+    ensures { WritesSampled (sampled_row G.front rho.now L r) result row.new }
 {
     for s in 0..L {
         row[s] = rej_ntt_poly::<G>(&[rho.as_slice(), &[s as u8], &[r as u8]])?;

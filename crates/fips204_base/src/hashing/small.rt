@@ -4,7 +4,7 @@
 ghost use Rattle.std.specs.Prelude.{◌≡◌, ◌≤◌, ◌+◌, ◌⊎◌, length, nat_abs, ok_or, IfOk, IfErr, Some, None};
 ghost use Rattle.std.specs.List.{flat_map};
 ghost use Rattle.fips204_base.specs.Sampling.{small_polynomial, small_vectors};
-ghost use Rattle.fips204_base.specs.Network.{AreKept, kept_half_bytes, small_vector};
+ghost use Rattle.fips204_base.specs.Network.{AreKept, WritesSampled, kept_half_bytes, small_vector};
 ghost use Rattle.fips204_base.specs.Bounds.{IsEta};
 
 use crate::conversion::coeff_from_half_byte;
@@ -19,7 +19,8 @@ fn write_kept_half_bytes(eta: i32, piece: &[u8], values: &mut [i32; 256], kept: 
     requires eta { IsEta eta }
     requires room { kept ≤ 256 }
     ensures count { result ≤ 256 }
-    ensures kept { AreKept values.old kept (kept_half_bytes (nat_abs eta) piece.now (length piece.now)) values.new result }
+    ensures kept { AreKept values.old kept (kept_half_bytes (nat_abs eta) piece.now (length piece.now))
+        values.new result }
 {
     let mut count = kept;
     for byte in piece {
@@ -36,7 +37,8 @@ fn write_kept_half_bytes(eta: i32, piece: &[u8], values: &mut [i32; 256], kept: 
 /// the front give fewer than 256 coefficients.
 pub fn rej_bounded_poly<H: Xof>(eta: i32, parts: &[&[u8]]) -> Result<R, Fault>
     requires eta { IsEta eta }
-    ensures { result ≡ ok_or (small_polynomial (nat_abs eta) (H.front (flat_map (λ part. part.now) parts.now))) Fault.SamplingLimit }
+    ensures { result
+        ≡ ok_or (small_polynomial (nat_abs eta) (H.front (flat_map (λ part. part.now) parts.now))) Fault.SamplingLimit }
 {
     // ctx = H.Absorb(rho)
     let mut reader = H::open(parts);
@@ -69,15 +71,11 @@ fn write_small_polynomials<const N: usize, H: Xof>(
 ) -> Result<(), Fault>
     requires eta { IsEta eta }
     requires numbers { first + N ≤ 65536 }
-    ensures refused { IfErr result (λ fault. (small_vector (nat_abs eta) H.front rho.now first N ≡ None) × (fault ≡ Fault.SamplingLimit)) }
-    ensures values { IfOk result (λ _. small_vector (nat_abs eta) H.front rho.now first N ≡ Some polynomials.new) }
+    ensures { WritesSampled (small_vector (nat_abs eta) H.front rho.now first N) result polynomials.new }
 {
     for r in 0..N {
-        let number = (first + r) as u16;
-        polynomials[r] = rej_bounded_poly::<H>(
-            eta,
-            &[rho.as_slice(), number.to_le_bytes().as_slice()],
-        )?;
+        let number = ((first + r) as u16).to_le_bytes();
+        polynomials[r] = rej_bounded_poly::<H>(eta, &[rho.as_slice(), number.as_slice()])?;
     }
     Ok(())
 }

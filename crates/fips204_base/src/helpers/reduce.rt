@@ -17,22 +17,16 @@ pub fn mont_reduce(a: i64) -> i32
     ensures congruent { IsCongruent (4294967296 * residue result) (residue a) }
     ensures small { nat_abs result ≤ 8380416 }
 {
-    let factor = signed_factor(low_word(a));
+    let factor = signed_factor(a);
     high_word(a - wide_product(factor, Q))
 }
 
-/// The lowest 32 bits.
-fn low_word(a: i64) -> u32
-    ensures { int_rem_euclid a (pos 4294967296) ≡ pos result }
+/// The signed word whose product with `q` has the lowest 32 bits of `a`; 58728449 is the inverse of `q` modulo
+/// `2^32`.
+fn signed_factor(a: i64) -> i32
+    ensures { int_rem_euclid (result *ℤ pos 8380417) (pos 4294967296) ≡ int_rem_euclid a (pos 4294967296) }
 {
-    (a.cast_unsigned() % 4294967296) as u32
-}
-
-/// The signed word whose product with `q` has the lowest 32 bits `low`; 58728449 is the inverse of
-/// `q` modulo `2^32`.
-fn signed_factor(low: u32) -> i32
-    ensures { int_rem_euclid (result *ℤ pos 8380417) (pos 4294967296) ≡ pos low }
-{
+    let low = (a.cast_unsigned() % 4294967296) as u32;
     low.wrapping_mul(58728449).cast_signed()
 }
 
@@ -70,8 +64,7 @@ fn folded(a: i64) -> i64
     a - (a >> 23) * i64::from(Q)
 }
 
-/// A number congruent to `a` and below `q` in absolute value, for `a` below `2^31 - 2^22` in
-/// absolute value.
+/// A number congruent to `a` and below `q` in absolute value, for `a` below `2^31 - 2^22` in absolute value.
 pub fn partial_reduce32(a: i32) -> i32
     requires { nat_abs a < 2143289344 }
     ensures congruent { residue result ≡ residue a }
@@ -100,8 +93,7 @@ pub fn full_reduce32(a: i32) -> i32
     if near < 0 { near + Q } else { near }
 }
 
-/// `m` modulo `q`, from `-(q - 1) / 2` to `(q - 1) / 2`, for `m` below `2^31 - 2^22` in absolute
-/// value.
+/// `m` modulo `q`, from `-(q - 1) / 2` to `(q - 1) / 2`, for `m` below `2^31 - 2^22` in absolute value.
 #[tactic(auto, using(crate::proofs::Reductions::centred_is))]
 pub fn center_mod(m: i32) -> i32
     requires { nat_abs m < 2143289344 }

@@ -1,7 +1,8 @@
 //! The values that the butterflies work on.
 #![tactic(auto)]
 
-ghost use Rattle.std.specs.Prelude.{◌≡◌, ℕ, ◌<◌, ◌≤◌, ◌+◌, ◌*◌, ◌%◌, ◌^◌, List, ℤ, pos, ◌+ℤ◌, ◌-ℤ◌, ◌≤ℤ◌, nat_abs};
+ghost use Rattle.std.specs.Prelude.{◌≡◌, ℕ, ◌<◌, ◌≤◌, ◌+◌, ◌*◌, ◌%◌, ◌^◌, List, ℤ, pos, ◌+ℤ◌, ◌-ℤ◌, nat_abs, FitsSigned};
+ghost use Rattle.std.specs.Int.{w32};
 ghost use Rattle.fips204_base.specs.Residues.{residue, IsCongruent};
 ghost use Rattle.fips204_base.specs.Transforms.{zeta_at};
 ghost use Rattle.fips204_base.specs.Lanes.{lane};
@@ -30,8 +31,7 @@ pub trait Residue: Copy {
     /// The sum, where it fits `i32` in each lane.
     fn add(self, other: Self, meter: &mut Self::Meter) -> Self
         requires room { sums meter.old + 1 < 2 ^ 64 }
-        requires low { (j : ℕ) → j < width → (pos 0 -ℤ pos 2147483648) ≤ℤ (lane (lanes self) j +ℤ lane (lanes other) j) }
-        requires high { (j : ℕ) → j < width → (lane (lanes self) j +ℤ lane (lanes other) j) ≤ℤ pos 2147483647 }
+        requires fits { (j : ℕ) → j < width → FitsSigned w32 (lane (lanes self) j +ℤ lane (lanes other) j) }
         ensures value { (j : ℕ) → j < width → lane (lanes result) j ≡ lane (lanes self) j +ℤ lane (lanes other) j }
         ensures products_same { products meter.new ≡ products meter.old }
         ensures sums_up { sums meter.new ≡ sums meter.old + 1 };
@@ -39,8 +39,7 @@ pub trait Residue: Copy {
     /// The difference, where it fits `i32` in each lane.
     fn sub(self, other: Self, meter: &mut Self::Meter) -> Self
         requires room { sums meter.old + 1 < 2 ^ 64 }
-        requires low { (j : ℕ) → j < width → (pos 0 -ℤ pos 2147483648) ≤ℤ (lane (lanes self) j -ℤ lane (lanes other) j) }
-        requires high { (j : ℕ) → j < width → (lane (lanes self) j -ℤ lane (lanes other) j) ≤ℤ pos 2147483647 }
+        requires fits { (j : ℕ) → j < width → FitsSigned w32 (lane (lanes self) j -ℤ lane (lanes other) j) }
         ensures value { (j : ℕ) → j < width → lane (lanes result) j ≡ lane (lanes self) j -ℤ lane (lanes other) j }
         ensures products_same { products meter.new ≡ products meter.old }
         ensures sums_up { sums meter.new ≡ sums meter.old + 1 };
@@ -65,8 +64,7 @@ pub trait Residue: Copy {
         ensures products_up { products meter.new ≡ products meter.old + 1 }
         ensures sums_same { sums meter.new ≡ sums meter.old };
 
-    /// A value congruent and below `q` in absolute value, for one below `2^31 - 2^22` in absolute
-    /// value.
+    /// A value congruent and below `q` in absolute value, for one below `2^31 - 2^22` in absolute value.
     fn reduce(self) -> Self
         requires range { (j : ℕ) → j < width → nat_abs (lane (lanes self) j) < 2143289344 }
         ensures value { EachLane (λ x y. residue y ≡ residue x) width (lanes self) (lanes result) }

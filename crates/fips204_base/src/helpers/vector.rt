@@ -17,7 +17,8 @@ use crate::types::{R, T, T0};
 pub fn add_vector_ntt<const K: usize>(v: &[R; K], w: &[R; K]) -> [R; K]
     requires v { VectorWithin K 1073741823 v.now }
     requires w { VectorWithin K 1073741823 w.now }
-    ensures { (r n : ℕ) → r < K → n < 256 → coefficient_of result r n ≡ coefficient_of v.now r n +ℤ coefficient_of w.now r n }
+    ensures { (r n : ℕ) → r < K → n < 256
+        → coefficient_of result r n ≡ coefficient_of v.now r n +ℤ coefficient_of w.now r n }
 {
     zip_vectors(
         v,
@@ -33,7 +34,8 @@ pub fn add_vector_ntt<const K: usize>(v: &[R; K], w: &[R; K]) -> [R; K]
 /// absolute value, for values of an absolute value of at most 67000000.
 pub fn to_mont<const L: usize>(v: &[T; L]) -> [T; L]
     requires { TransformsWithin 67000000 v.now }
-    ensures values { (i j : ℕ) → i < L → j < 256 → vector_residues result i j ≡ 4294967296 * vector_residues v.now i j % 8380417 }
+    ensures values { (i j : ℕ) → i < L → j < 256
+        → vector_residues result i j ≡ 4294967296 * vector_residues v.now i j % 8380417 }
     ensures small { TransformsWithin 8380416 result }
 {
     let mut out = [T0; L];
@@ -79,24 +81,13 @@ fn row_sum<const L: usize>(row: &[T; L], u: &[T; L]) -> T
 {
     let mut out = [0; 256];
     for j in 0..256 {
-        out[j] = place_sum(row, &values_at(u, j), j);
+        let mut values = [0; 8];
+        for k in 0..L {
+            values[k] = u[k].0[j];
+        }
+        out[j] = place_sum(row, &values, j);
     }
     T(out)
-}
-
-/// The values of the transforms at one place.
-fn values_at<const L: usize>(u: &[T; L], j: usize) -> [i32; 8]
-    requires columns { L ≤ 7 }
-    requires vector { TransformsWithin 8380416 u.now }
-    requires place { j < 256 }
-    ensures values { (k : ℕ) → k < L → coefficients result k ≡ vector_residues u.now k j }
-    ensures small { (k : ℕ) → k < 8 → nat_abs (lane result k) ≤ 8380416 }
-{
-    let mut out = [0; 8];
-    for k in 0..L {
-        out[k] = u[k].0[j];
-    }
-    out
 }
 
 /// The sum of the products of a row of the matrix at one place with as many numbers, modulo `q` and below `q` in

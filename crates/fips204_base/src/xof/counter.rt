@@ -3,7 +3,7 @@
 
 ghost use Rattle.std.specs.Prelude.{◌≡◌, ◌≤◌, ◌<◌, ◌*◌, ◌++◌, ℕ, List, length, min, take, drop};
 ghost use Rattle.std.specs.List.{flat_map};
-ghost use Rattle.fips204_base.specs.Streams.{counter_block, counter_blocks};
+ghost use Rattle.fips204_base.specs.Streams.{counter_blocks};
 
 use crate::xof::XofReader;
 use sha2::Digest;
@@ -60,13 +60,6 @@ pub(crate) fn digest_of_parts<D: Digest>(parts: &[&[u8]]) -> D::Output
     hasher.finalize()
 }
 
-/// Block `number` of the stream.
-fn block<H: BlockHash<N>, const N: usize>(seed: &[u8; N], number: u32) -> [u8; N]
-    ensures { result ≡ counter_block H.hash seed.now number }
-{
-    H::digest(&[seed.as_slice(), number.to_le_bytes().as_slice()])
-}
-
 /// Copies from `source` as many bytes as `out` takes, and returns how many.
 fn write_run(source: &[u8], out: &mut [u8]) -> usize
     ensures count { result ≡ min (length source.now) (length out.old) }
@@ -104,7 +97,7 @@ impl<H: BlockHash<N>, const N: usize> BlockReader<H, N> {
         ensures dropped { self.new ≡ drop result self.old }
     {
         if self.given == N {
-            self.block = block::<H, N>(&self.seed, self.next);
+            self.block = H::digest(&[self.seed.as_slice(), self.next.to_le_bytes().as_slice()]);
             self.next += 1;
             self.given = 0;
         }

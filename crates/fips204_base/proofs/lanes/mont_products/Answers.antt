@@ -79,16 +79,16 @@ pub overflow_cast-whole : goal.overflow_cast-whole
 overflow_cast-whole c = Each1-all _ (λ (a : ℕ). search rules) _
 
 pub overflow_cast-result : goal.overflow_cast-result
-overflow_cast-result c = asked c.x.inside.lanes c.x.invariant c.args.factor c.factor_words-both.result c.ranges.factor c.requires c.factor_words-both.type_inv c.factor_words-both.ensures.low c.factor_words-both.ensures.high
+overflow_cast-result c = asked c.x.inside.0 c.x.invariant c.args.factor c.factor_words-both.result c.ranges.factor c.requires c.factor_words-both.type_inv c.factor_words-both.ensures.low c.factor_words-both.ensures.high
 
 pub invariant_of-result : goal.invariant_of-result
 invariant_of-result c = record {
-  eight = eight c.x.inside.lanes c.x.invariant c.args.factor c.factor_words-both.result c.ranges.factor c.requires c.factor_words-both.type_inv c.factor_words-both.ensures.low c.factor_words-both.ensures.high;
-  fits = fit c.x.inside.lanes c.x.invariant c.args.factor c.factor_words-both.result c.ranges.factor c.requires c.factor_words-both.type_inv c.factor_words-both.ensures.low c.factor_words-both.ensures.high;
+  eight = eight c.x.inside.0 c.x.invariant c.args.factor c.factor_words-both.result c.ranges.factor c.requires c.factor_words-both.type_inv c.factor_words-both.ensures.low c.factor_words-both.ensures.high;
+  fits = fit c.x.inside.0 c.x.invariant c.args.factor c.factor_words-both.result c.ranges.factor c.requires c.factor_words-both.type_inv c.factor_words-both.ensures.low c.factor_words-both.ensures.high;
 }
 
 pub returns-clause-congruent : goal.returns-clause-congruent
-returns-clause-congruent c = rw (sym c.x.view_is) (congruent c.x.inside.lanes c.x.invariant c.args.factor c.factor_words-both.result c.ranges.factor c.requires c.factor_words-both.type_inv c.factor_words-both.ensures.low c.factor_words-both.ensures.high)
+returns-clause-congruent c = rw (sym c.x.view_is) (congruent c.x.inside.0 c.x.invariant c.args.factor c.factor_words-both.result c.ranges.factor c.requires c.factor_words-both.type_inv c.factor_words-both.ensures.low c.factor_words-both.ensures.high)
 
 pub returns-clause-small : goal.returns-clause-small
-returns-clause-small c = small c.x.inside.lanes c.x.invariant c.args.factor c.factor_words-both.result c.ranges.factor c.requires c.factor_words-both.type_inv c.factor_words-both.ensures.low c.factor_words-both.ensures.high
+returns-clause-small c = small c.x.inside.0 c.x.invariant c.args.factor c.factor_words-both.result c.ranges.factor c.requires c.factor_words-both.type_inv c.factor_words-both.ensures.low c.factor_words-both.ensures.high

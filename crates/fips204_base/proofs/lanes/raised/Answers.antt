@@ -22,7 +22,7 @@ module _ (x : List ℤ) (ix : AreEight x) (bound : (j : ℕ) → j < 8 → nat_a
 
 pub invariant_of-result : goal.invariant_of-result
 invariant_of-result c =
-    let x = c.x.inside.lanes in
+    let x = c.x.inside.0 in
     let bound = rw (sym c.x.view_is) at c.requires in
     record {
       eight = ap (λ (l : List ℕ). length (map (to_z w32) l)) (whole x c.x.invariant bound) ∙ (word_length raised x ∙ c.x.invariant.eight);
@@ -30,4 +30,4 @@ invariant_of-result c =
     }
 
 pub returns : goal.returns
-returns c = rw (sym c.x.view_is) (at c.x.inside.lanes c.x.invariant (rw (sym c.x.view_is) at c.requires))
+returns c = rw (sym c.x.view_is) (at c.x.inside.0 c.x.invariant (rw (sym c.x.view_is) at c.requires))

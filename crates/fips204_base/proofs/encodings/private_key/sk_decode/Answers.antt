@@ -10,8 +10,8 @@ use Rattle.fips204_base.proofs.encodings.private_key.sk_decode.Goals as goal
 pub unpack_short_vector-requires-2 : goal.unpack_short_vector-requires-2
 unpack_short_vector-requires-2 g c = search rules
 
-pub unpack_vector-requires : goal.unpack_vector-requires
-unpack_vector-requires g c =
+pub unpack_vector-t0-requires : goal.unpack_vector-t0-requires
+unpack_vector-t0-requires g c =
     let E = to_z-of_z w32 c.args.eta c.ranges.eta in
     let size : c.polynomial_size-size.result ≡ 32 * width c.args.eta c.args.eta = let e = c.polynomial_size-size.ensures.size in rw E at e in
     let a = ap (λ s. s * g.row.L) size in
@@ -28,7 +28,7 @@ returns-in_err-s1 g c =
     let refused : c.from_residual.result ≡ Err KeyRange = search rules in
     let given = rw (none, E) at c.unpack_short_vector.ensures in
     let first = c.split_at-2.ensures.front ∙ ap (take (c.polynomial_size-size.result * g.row.L)) c.split_at.ensures.back in
-    rw refused (refl, λ key s. given key.s1 s.parts.s1 (private_key-first _ _ _ _ _ _ s (ap (λ w. w * g.row.L) natural) ∙ sym first))
+    rw refused (refl, λ key s. given key.s1 (s.parts.s1, private_key-first _ _ _ _ _ _ s (ap (λ w. w * g.row.L) natural) ∙ sym first))
 
 pub returns-in_err-s2 : goal.returns-in_err-s2
 returns-in_err-s2 g c =
@@ -39,7 +39,7 @@ returns-in_err-s2 g c =
     let refused : c.from_residual-in_err-s2.result ≡ Err KeyRange = search rules in
     let given = rw (none, E) at c.unpack_short_vector-2.ensures in
     let second = c.split_at-3.ensures.front ∙ ap (take (c.polynomial_size-size.result * g.row.K)) (c.split_at-2.ensures.back ∙ ap (drop (c.polynomial_size-size.result * g.row.L)) c.split_at.ensures.back) in
-    rw refused (refl, λ key s. given key.s2 s.parts.s2 (private_key-second _ _ _ _ _ _ _ s (ap (λ w. w * g.row.L) natural) (ap (λ w. w * g.row.K) natural) ∙ sym second))
+    rw refused (refl, λ key s. given key.s2 (s.parts.s2, private_key-second _ _ _ _ _ _ _ s (ap (λ w. w * g.row.L) natural) (ap (λ w. w * g.row.K) natural) ∙ sym second))
 
 pub returns : goal.returns
 returns g c =
@@ -69,8 +69,8 @@ returns g c =
     let one = same_bounds g.row.L _ _ (nat_abs c.args.eta) (nat_abs c.args.eta) c.in_ok-s1.s1 first n n s1.0 s1.1 in
     let two = same_bounds g.row.K _ _ (nat_abs c.args.eta) (nat_abs c.args.eta) c.in_ok-s2.s2 second n n s2.0 s2.1 in
     private_key-of_parts (nat_abs c.args.eta) g.row.K g.row.L c.args.sk.now c.part.result.now c.part-2.result.now c.part-3.result.now first second low
-    c.in_ok-s1.s1 c.in_ok-s2.s2 c.unpack_vector.result cut
+    c.in_ok-s1.s1 c.in_ok-s2.s2 c.unpack_vector-t0.result cut
     (ap length rho ∙ length-take-le 32 (drop 0 seeds) (omega (arith, long)))
     (ap length key ∙ length-take-le 32 (drop 32 seeds) (simp length-drop (omega (arith, long))))
     (ap length tr ∙ length-take-le 64 (drop 64 seeds) (simp length-drop (omega (arith, long))))
-    one.0 two.0 c.unpack_vector.ensures.vector one.1 two.1 c.unpack_vector.ensures.same_bytes
+    one.0 two.0 c.unpack_vector-t0.ensures.vector one.1 two.1 c.unpack_vector-t0.ensures.same_bytes

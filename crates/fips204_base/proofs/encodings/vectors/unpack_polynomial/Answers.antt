@@ -1,27 +1,27 @@
-use Rattle.std.proofs.Common.{◌≡◌, ◌<◌, ◌*◌, ◌^◌, ℕ, ℤ, pos, nat_abs, ◌+ℤ◌, ◌-ℤ◌, ◌<ℤ◌, List, length, refl, sym, rules, w32}
-use Rattle.std.specs.Prelude.{Option, None, Some, MatchOption}
+use Rattle.std.proofs.Common.{◌≡◌, ◌<◌, ◌*◌, ◌^◌, ℕ, ℤ, pos, nat_abs, ◌+ℤ◌, ◌-ℤ◌, List, length, refl, sym, rules, w32}
+use Rattle.std.specs.Prelude.{Option, None, Some}
 use Rattle.std.specs.Option.{IsSome}
-use Rattle.std.specs.List.{All, Any}
+use Rattle.std.specs.List.{All}
 use Rattle.std.proofs.lemmas.Int.{to_z-of_z}
 use Rattle.std.proofs.lemmas.List.Elements.{All-from_get_or}
 use Rattle.fips204_base.specs.declared.types.R.{R}
 use Rattle.fips204_base.specs.Packing.{unpacked, width}
-use Rattle.fips204_base.specs.Bounds.{Bounds}
+use Rattle.fips204_base.specs.Bounds.{Bounds, IsUnpacked}
 use Rattle.fips204_base.proofs.Packing.{Unpacks, unpacks, unpacks_bytes}
 use Rattle.fips204_base.proofs.VectorBytes.{none_above, unpacked_range}
 use Rattle.fips204_base.proofs.encodings.vectors.unpack_polynomial.Goals as goal
 
-no_refusal : (a b : ℤ) (bytes : List ℕ) (o : Option R) (P : R → Type 0) → Bounds a b → pos (2 ^ width a b) ≡ a +ℤ b +ℤ pos 1 → length bytes ≡ 32 * width a b → All (λ byte. byte < 256) bytes
-    → MatchOption o ((a ≡ pos 0) × Any (λ x. b <ℤ x) (unpacked (nat_abs a) (nat_abs b) bytes).0) P → IsSome o
-no_refusal a b bytes None P bounds whole room small above =
+no_refusal : (a b : ℤ) (bytes : List ℕ) (o : Option R) → Bounds a b → pos (2 ^ width a b) ≡ a +ℤ b +ℤ pos 1 → length bytes ≡ 32 * width a b → All (λ byte. byte < 256) bytes
+    → IsUnpacked a b bytes o → IsSome o
+no_refusal a b bytes None bounds whole room small above =
     let w = unpacked (nat_abs a) (nat_abs b) bytes in
     absurd (none_above (pos 0 -ℤ a) b w.0 (unpacked_range a b bytes w.0 bounds whole (unpacks a b bytes w bounds room small refl)) above.1)
-no_refusal a b bytes (Some w) P bounds whole room small done = search rules
+no_refusal a b bytes (Some w) bounds whole room small done = search rules
 
 pub unwrap-requires : goal.unwrap-requires
 unwrap-requires c =
     let small = All-from_get_or (λ (x : ℕ). x < 256) c.args.bytes.now 0 (λ i h. (c.type_inv.bytes i).fits) in
-    no_refusal c.args.a c.args.b c.args.bytes.now c.bit_unpack_by_range.result _ c.requires.bounds c.requires.whole c.requires.room small
+    no_refusal c.args.a c.args.b c.args.bytes.now c.bit_unpack_by_range.result c.requires.bounds c.requires.whole c.requires.room small
     (rw (to_z-of_z w32 c.args.a c.ranges.a, to_z-of_z w32 c.args.b c.ranges.b) at c.bit_unpack_by_range.ensures)
 
 fields : (c : goal.After-unwrap) → Unpacks c.args.a c.args.b c.args.bytes.now c.unwrap.result.0

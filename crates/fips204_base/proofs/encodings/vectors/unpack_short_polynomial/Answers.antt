@@ -20,11 +20,11 @@ returns-then-is_in_range c =
     ((rw E at t).0 refl, u.count, sym (unpacks_bytes c.args.eta c.args.eta c.args.bytes.now c.in_ok-w.w.0 u))
 
 pub returns-else-is_in_range : goal.returns-else-is_in_range
-returns-else-is_in_range c = λ w range count same.
+returns-else-is_in_range c = λ w found.
     let E = to_z-of_z w32 c.args.eta c.ranges.eta in
     let u = unpacked (goal.at.returns-else-is_in_range c).After-is_in_range in
-    let other : Unpacks c.args.eta c.args.eta c.args.bytes.now w = subst (λ b. Unpacks c.args.eta c.args.eta b w) same (bytes_unpack c.args.eta c.args.eta w c.requires.bounds range count) in
-    let once = unpacks_once c.args.eta c.args.eta c.args.bytes.now w c.in_ok-w.w.0 other u in
+    let other : Unpacks c.args.eta c.args.eta c.args.bytes.now w.0 = subst (λ b. Unpacks c.args.eta c.args.eta b w.0) found.2 (bytes_unpack c.args.eta c.args.eta w.0 c.requires.bounds found.0 found.1) in
+    let once = unpacks_once c.args.eta c.args.eta c.args.bytes.now w.0 c.in_ok-w.w.0 other u in
     let t = c.if-is_in_range.ensures in
-    let both : false ≡ true = (rw E at t).1 (subst (λ l. PolynomialInRange (pos 0 -ℤ c.args.eta) c.args.eta l) once range) in
+    let both : false ≡ true = (rw E at t).1 (subst (λ l. PolynomialInRange (pos 0 -ℤ c.args.eta) c.args.eta l) once found.0) in
     search (rules, both)

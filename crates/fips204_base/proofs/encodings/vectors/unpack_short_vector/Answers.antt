@@ -18,19 +18,20 @@ loop-i-init g c = grind (arith, common_steps)
 pub returns-in_err-v : goal.returns-in_err-v
 returns-in_err-v g c =
     let none : c.from_residual.result ≡ None = search rules in
-    rw none (λ v vector same.
+    rw none (λ v found.
+    let vector = found.0 in
     let E = to_z-of_z w32 c.args.eta c.ranges.eta in
     let e = c.polynomial_size-size.ensures.size in
     let size_is = rw E at e in
     let place = c.loop-i-test.true in
     let range = range_at_integers c.args.eta c.args.eta v c.requires.bounds vector.range in
-    let bytes = sym (bytes_at_integers c.args.eta c.args.eta v c.requires.bounds) ∙ same in
+    let bytes = sym (bytes_at_integers c.args.eta c.args.eta v c.requires.bounds) ∙ found.1 in
     let piece = vector_piece c.args.eta c.args.eta v c.args.bytes.now c.polynomial_size-size.result c.loop-i.i R0 vector.places size_is bytes (omega (arith, place, vector.rows)) in
     let refused = c.in_err-v.ensures in
     let at = c.polynomial_size-size.result * c.loop-i.i in
     let width_is : at + c.polynomial_size-size.result - at ≡ c.polynomial_size-size.result = omega arith in
     let inside : c.loop-i.i < length v = omega (arith, place, vector.rows) in
-    (rw E at refused) (get_or v c.loop-i.i R0).0 (range c.loop-i.i R0 inside) (vector.places c.loop-i.i R0 inside) (sym piece ∙ ap (λ n. take n (drop at c.args.bytes.now)) (sym width_is)))
+    (rw E at refused) (get_or v c.loop-i.i R0) (range c.loop-i.i R0 inside, vector.places c.loop-i.i R0 inside, sym piece ∙ ap (λ n. take n (drop at c.args.bytes.now)) (sym width_is)))
 
 pub loop-i-preserved : goal.loop-i-preserved
 loop-i-preserved g c =

@@ -12,14 +12,14 @@ loop-r-init g c = (c.told-matrix, present_nil)
 pub returns-in_err-write_expanded_row-clause-values : goal.returns-in_err-write_expanded_row-clause-values
 returns-in_err-write_expanded_row-clause-values g c =
     let refused : c.from_residual.result ≡ Err SamplingLimit = search rules in
-    let none = c.in_err-write_expanded_row.ensures.refused.0 in
+    let none = c.in_err-write_expanded_row.ensures.0 in
     rw refused (matrix-refused {A = Unit {0}} g.G.Xof.front c.args.rho.now g.row.K g.row.L c.loop-r.r {result = Err SamplingLimit} c.loop-r-test.true none refl)
 
 pub loop-r-preserved : goal.loop-r-preserved
 loop-r-preserved g c =
     let row = sampled_row g.G.Xof.front c.args.rho.now g.row.L in (
       length-set _ _ _ ∙ c.loop-r.invariant.0,
-      present_next row 0 c.loop-r.r c.loop-r.r c.loop-r.matrix _ (omega arith) (omega (arith, c.loop-r.invariant.0, c.loop-r-test.true)) c.loop-r.invariant.1 c.in_ok-write_expanded_row.ensures.values,
+      present_next row 0 c.loop-r.r c.loop-r.r c.loop-r.matrix _ (omega arith) (omega (arith, c.loop-r.invariant.0, c.loop-r-test.true)) c.loop-r.invariant.1 c.in_ok-write_expanded_row.ensures,
     )
 
 pub returns-clause-values : goal.returns-clause-values

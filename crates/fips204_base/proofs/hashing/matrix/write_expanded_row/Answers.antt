@@ -7,8 +7,8 @@ use Rattle.fips204_base.proofs.hashing.matrix.write_expanded_row.Goals as goal
 pub loop-s-init : goal.loop-s-init
 loop-s-init g c = (c.told-row, present_nil)
 
-pub returns-in_err-row-clause-refused : goal.returns-in_err-row-clause-refused
-returns-in_err-row-clause-refused g c =
+pub returns-in_err-row : goal.returns-in_err-row
+returns-in_err-row g c =
     let coefficient_of = sampled_entry g.G.Xof.front c.args.rho.now c.args.r in
     let same : c.as_slice.result.now ≡ c.args.rho.now = search rules in
     let fault = none_of_err _ c.in_err-row.field-0.0 c.in_err-row.ensures in
@@ -27,7 +27,7 @@ loop-s-preserved g c =
       present_next coefficient_of 0 c.loop-s.s c.loop-s.s c.loop-s.row c.in_ok-row.field-0 (omega arith) (omega (arith, c.loop-s.invariant.0, c.loop-s-test.true)) c.loop-s.invariant.1 here,
     )
 
-pub returns-clause-values : goal.returns-clause-values
-returns-clause-values g c =
+pub returns : goal.returns
+returns g c =
     present_whole (sampled_entry g.G.Xof.front c.args.rho.now c.args.r) 0 g.row.L c.loop-s.s c.loop-s.row
     (omega (arith, c.loop-s-test.false, c.loop-s.auto.s-end)) c.loop-s.invariant.0 c.loop-s.invariant.1

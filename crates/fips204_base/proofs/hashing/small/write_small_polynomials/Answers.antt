@@ -10,9 +10,9 @@ use Rattle.fips204_base.proofs.hashing.small.write_small_polynomials.Goals as go
 pub loop-r-init : goal.loop-r-init
 loop-r-init g c = (c.told-polynomials, present_nil)
 
-pub returns-in_err-polynomials-clause-refused : goal.returns-in_err-polynomials-clause-refused
+pub returns-in_err-polynomials : goal.returns-in_err-polynomials
 unfolding small_vector
-returns-in_err-polynomials-clause-refused g c =
+returns-in_err-polynomials g c =
     let polynomial = λ (r : ℕ). small_polynomial (nat_abs c.args.eta) (g.H.Xof.front (c.args.rho.now ++ to_le_bytes w16 r)) in
     let eta : to_z w32 (of_z w32 c.args.eta) ≡ c.args.eta = search rules in
     let seed : c.as_slice.result.now ≡ c.args.rho.now = search rules in
@@ -37,9 +37,9 @@ loop-r-preserved g c =
       present_next polynomial c.args.first c.loop-r.r (c.args.first + c.loop-r.r) c.loop-r.polynomials c.in_ok-polynomials.field-0 refl (omega (arith, c.loop-r.invariant.0, c.loop-r-test.true)) c.loop-r.invariant.1 here,
     )
 
-pub returns-clause-values : goal.returns-clause-values
+pub returns : goal.returns
 unfolding small_vector
-returns-clause-values g c =
+returns g c =
     let polynomial = λ (r : ℕ). small_polynomial (nat_abs c.args.eta) (g.H.Xof.front (c.args.rho.now ++ to_le_bytes w16 r)) in
     let eta : to_z w32 (of_z w32 c.args.eta) ≡ c.args.eta = search rules in
     present_whole polynomial c.args.first g.row.N c.loop-r.r c.loop-r.polynomials

@@ -1,9 +1,11 @@
-use Rattle.std.proofs.Common.{ℕ, ◌≡◌, ◌<◌, ◌≤◌, ◌*◌, ◌%◌, ◌∙◌, arith, rules, ap, length, length-set, pos, get_or, to_z, of_z, w32}
+use Rattle.std.proofs.Common.{ℕ, ◌≡◌, ◌<◌, ◌≤◌, ◌*◌, ◌%◌, ◌∙◌, [], arith, rules, ap, sym, subst, length, length-set, pos, get_or, get_or-set_same, get_or-set_other, to_z, of_z, w32, inl, inr}
+use Rattle.std.proofs.lemmas.Bool.{cases_eq}
 use Rattle.std.specs.Prelude.{nat_abs}
 use Rattle.fips204_base.specs.Residues.{residue}
 use Rattle.fips204_base.specs.Bounds.{row_value, vector_residues}
 use Rattle.fips204_base.specs.PlainTransforms.{lanes_value}
-use Rattle.fips204_base.proofs.Residues.{sum_equal}
+use Rattle.std.proofs.lemmas.Int.{to_z-of_z, fits_signed_from_abs}
+use Rattle.fips204_base.proofs.Residues.{size_at, sum_equal}
 use Rattle.fips204_base.proofs.Vectors.{row_written}
 use Rattle.fips204_base.proofs.helpers.vector.row_sum.Goals as goal
 
@@ -16,12 +18,32 @@ loop-j-preserved g c =
     let inside : j < length out = omega (arith, c.loop-j-test.true, c.loop-j.invariant.size) in
     let value = to_z w32 (of_z w32 c.place_sum.result) in
     let read : value ≡ c.place_sum.result = search rules in
-    let gathered : lanes_value g.row.L row c.values_at.result j ≡ row_value g.row.L row u j =
-    ap (λ (n : ℕ). n % 8380417) (sum_equal g.row.L (λ k. vector_residues row k j * residue (get_or c.values_at.result k (pos 0))) (λ k. vector_residues row k j * vector_residues u k j) (λ k h. ap (λ (n : ℕ). vector_residues row k j * n) (c.values_at.ensures.values k h))) in
+    let gathered : lanes_value g.row.L row c.loop-k.values j ≡ row_value g.row.L row u j =
+    ap (λ (n : ℕ). n % 8380417) (sum_equal g.row.L (λ k. vector_residues row k j * residue (get_or c.loop-k.values k (pos 0))) (λ k. vector_residues row k j * vector_residues u k j) (λ k h. ap (λ (n : ℕ). vector_residues row k j * n) (c.loop-k.invariant.values k (omega (arith, h, c.loop-k-test.false, c.loop-k.auto.k-end))))) in
     record {
       size = length-set _ _ _ ∙ c.loop-j.invariant.size;
       values = row_written (λ p x. residue x ≡ row_value g.row.L row u p) out j value (pos 0)
           inside c.loop-j.invariant.values (ap residue read ∙ c.place_sum.ensures.value ∙ gathered);
       small = λ p d. row_written (λ _ x. nat_abs x ≤ 8380416) out j value d
           inside (λ r h. c.loop-j.invariant.small r d h) (rw read c.place_sum.ensures.small) p;
+    }
+
+pub loop-k-preserved : goal.loop-k-preserved
+loop-k-preserved g c =
+    let values = c.loop-k.values in
+    let k = c.loop-k.k in
+    let j = c.loop-j.j in
+    let u = c.args.u.now in
+    let x = get_or (get_or u k record { 0 = [] }).0 j (pos 0) in
+    let value = to_z w32 (of_z w32 x) in
+    let within = size_at 8380416 (get_or u k record { 0 = [] }).0 j (c.requires.vector k record { 0 = [] } (omega (arith, c.loop-k-test.true, c.told-u))) in
+    let read : value ≡ x = to_z-of_z w32 x (fits_signed_from_abs w32 x (omega (arith, within))) in
+    let inside : k < length values = omega (arith, c.loop-k-test.true, c.requires.columns, c.loop-k.invariant.size) in
+    record {
+      size = length-set _ _ _ ∙ c.loop-k.invariant.size;
+      values = row_written (λ i y. residue y ≡ vector_residues u i j) values k value (pos 0) inside c.loop-k.invariant.values (ap residue read);
+      small = λ i h. elim (cases_eq i k) [
+        | inl here ↦ rw here (subst (λ y. nat_abs y ≤ 8380416) (sym (get_or-set_same values k value (pos 0) inside ∙ read)) within)
+        | inr other ↦ subst (λ y. nat_abs y ≤ 8380416) (sym (get_or-set_other values k i value (pos 0) other)) (c.loop-k.invariant.small i h)
+      ];
     }

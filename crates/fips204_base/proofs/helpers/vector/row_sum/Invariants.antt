@@ -1,6 +1,7 @@
 use Rattle.std.proofs.Common.{ℕ, ℤ, ◌≡◌, ◌<◌, ◌≤◌, ◌*◌, ◌%◌, get_or, length}
 use Rattle.std.specs.Prelude.{nat_abs}
-use Rattle.fips204_base.specs.Residues.{coefficients, sum_below}
+use Rattle.fips204_base.specs.Lanes.{lane}
+use Rattle.fips204_base.specs.Residues.{residue, coefficients, sum_below}
 use Rattle.fips204_base.specs.Bounds.{vector_residues}
 use Rattle.fips204_base.proofs.helpers.vector.row_sum.Given as goal
 
@@ -9,4 +10,11 @@ invariant-loop-j g l = record {
   size : length l.out ≡ 256;
   values : (p : ℕ) → p < l.j → coefficients l.out p ≡ sum_below g.row.L (λ k. vector_residues l.row k p * vector_residues l.u k p) % 8380417;
   small : (p : ℕ) (d : ℤ) → p < l.j → nat_abs (get_or l.out p d) ≤ 8380416;
+}
+
+abbrev pub invariant-loop-k : goal.invariant-loop-k
+invariant-loop-k g l = record {
+  size : length l.values ≡ 8;
+  values : (k : ℕ) → k < l.k → residue (lane l.values k) ≡ vector_residues l.u k l.j;
+  small : (k : ℕ) → k < 8 → nat_abs (lane l.values k) ≤ 8380416;
 }

@@ -3,4 +3,4 @@ use Rattle.fips204_base.proofs.LaneRows.{readback}
 use Rattle.fips204_base.proofs.lanes.Lanes.to_array.Goals as goal
 
 pub returns : goal.returns
-returns c = readback c.self.inside.lanes (λ j h. c.self.invariant.fits j (omega (arith, h, c.self.invariant.eight))) ∙ c.self.view_is
+returns c = readback c.self.inside.0 (λ j h. c.self.invariant.fits j (omega (arith, h, c.self.invariant.eight))) ∙ c.self.view_is

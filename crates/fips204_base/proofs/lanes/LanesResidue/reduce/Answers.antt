@@ -25,7 +25,7 @@ module _ (x : List ℤ) (ix : AreEight x) (bound : (j : ℕ) → j < 8 → nat_a
 
 pub invariant_of-result : goal.invariant_of-result
 invariant_of-result c =
-    let x = c.self.inside.lanes in
+    let x = c.self.inside.0 in
     let bound = rw (sym c.self.view_is) at c.requires.range in
     record {
       eight = ap (λ (l : List ℕ). length (map (to_z w32) l)) (whole x c.self.invariant bound) ∙ (word_length reduced x ∙ c.self.invariant.eight);
@@ -36,8 +36,8 @@ pub returns-clause-value : goal.returns-clause-value
 returns-clause-value c =
     let bound = rw (sym c.self.view_is) at c.requires.range in
     rw (sym c.self.view_is) (λ j h.
-    let x = lane c.self.inside.lanes j in
-    subst (λ z. residue z ≡ residue x) (sym (at c.self.inside.lanes c.self.invariant bound j h)) (residue_multiple (x -ℤ quotient x *ℤ pos 8380417) x (neg_ℤ (quotient x)) (omega (arith, ints))))
+    let x = lane c.self.inside.0 j in
+    subst (λ z. residue z ≡ residue x) (sym (at c.self.inside.0 c.self.invariant bound j h)) (residue_multiple (x -ℤ quotient x *ℤ pos 8380417) x (neg_ℤ (quotient x)) (omega (arith, ints))))
 
 pub returns-clause-small : goal.returns-clause-small
-returns-clause-small c = small c.self.inside.lanes c.self.invariant (rw (sym c.self.view_is) at c.requires.range)
+returns-clause-small c = small c.self.inside.0 c.self.invariant (rw (sym c.self.view_is) at c.requires.range)

@@ -1,16 +1,15 @@
-use Rattle.std.proofs.Common.{ℕ, ℤ, List, ◌≡◌, ◌<◌, ◌-ℤ◌, ◌≤ℤ◌, ◌∙◌, pos, get_or, length, arith, sym}
+use Rattle.std.proofs.Common.{ℕ, ℤ, List, ◌≡◌, ◌<◌, ◌-ℤ◌, ◌∙◌, pos, get_or, length, arith, sym}
 use Rattle.std.specs.Int.{w32}
 use mir.Val.{SFits}
 use mir.Syntax.{sub, signed}
 use borrow.Table.Row.{s_int}
 use borrow.Rule.Simd.Lanes.{Asks2, act2}
 use Rattle.fips204_base.specs.Network.{AreEight}
-use Rattle.fips204_base.proofs.LaneRows.{range_fits, difference_asked, difference_given, lanes_asked, lanes_given, lanes_fit, length-lanes}
+use Rattle.fips204_base.proofs.LaneRows.{difference_asked, difference_given, lanes_asked, lanes_given, lanes_fit, length-lanes}
 use Rattle.fips204_base.proofs.lanes.LanesResidue.sub.Goals as goal
 
 -- what the lemmas on two rows of lanes ask, of two values and the bound on their lanes
-module _ (x y : List ℤ) (ix : AreEight x) (iy : AreEight y) (low : (j : ℕ) → j < 8 → (pos 0 -ℤ pos 2147483648) ≤ℤ (get_or x j (pos 0) -ℤ get_or y j (pos 0)))
-    (high : (j : ℕ) → j < 8 → (get_or x j (pos 0) -ℤ get_or y j (pos 0)) ≤ℤ pos 2147483647) where
+module _ (x y : List ℤ) (ix : AreEight x) (iy : AreEight y) (fits : (j : ℕ) → j < 8 → SFits w32 (get_or x j (pos 0) -ℤ get_or y j (pos 0))) where
   same : length x ≡ length y
   same = ix.eight ∙ sym iy.eight
 
@@ -21,41 +20,38 @@ module _ (x y : List ℤ) (ix : AreEight x) (iy : AreEight y) (low : (j : ℕ) �
   second j h = iy.fits j (omega (arith, h, ix.eight))
 
   both : (j : ℕ) → j < length x → SFits w32 (get_or x j (pos 0) -ℤ get_or y j (pos 0))
-  both j h = let l : j < 8 = omega (arith, h, ix.eight) in range_fits _ (low j l) (high j l)
+  both j h = fits j (omega (arith, h, ix.eight))
 
 pub overflow_sub-result : goal.overflow_sub-result
 overflow_sub-result c =
-    let x = c.self.inside.lanes in
-    let y = c.other.inside.lanes in
+    let x = c.self.inside.0 in
+    let y = c.other.inside.0 in
     let ix = c.self.invariant in
     let iy = c.other.invariant in
-    let low = rw (sym c.self.view_is, sym c.other.view_is) at c.requires.low in
-    let high = rw (sym c.self.view_is, sym c.other.view_is) at c.requires.high in
-    lanes_asked ◌-ℤ◌ (Asks2 (sub signed) (s_int w32) (s_int w32)) (act2 (sub signed) (s_int w32) (s_int w32) (s_int w32)) difference_asked difference_given x y (same x y ix iy low high) (first x y ix iy low high) (second x y ix iy low high) (both x y ix iy low high)
+    let fits = rw (sym c.self.view_is, sym c.other.view_is) at c.requires.fits in
+    lanes_asked ◌-ℤ◌ (Asks2 (sub signed) (s_int w32) (s_int w32)) (act2 (sub signed) (s_int w32) (s_int w32) (s_int w32)) difference_asked difference_given x y (same x y ix iy fits) (first x y ix iy fits) (second x y ix iy fits) (both x y ix iy fits)
 
 pub invariant_of-result : goal.invariant_of-result
 invariant_of-result c =
-    let x = c.self.inside.lanes in
-    let y = c.other.inside.lanes in
+    let x = c.self.inside.0 in
+    let y = c.other.inside.0 in
     let ix = c.self.invariant in
     let iy = c.other.invariant in
-    let low = rw (sym c.self.view_is, sym c.other.view_is) at c.requires.low in
-    let high = rw (sym c.self.view_is, sym c.other.view_is) at c.requires.high in
+    let fits = rw (sym c.self.view_is, sym c.other.view_is) at c.requires.fits in
     let A = Asks2 (sub signed) (s_int w32) (s_int w32) in
     let a = act2 (sub signed) (s_int w32) (s_int w32) (s_int w32) in
     record {
-      eight = length-lanes ◌-ℤ◌ A a difference_asked difference_given x y (same x y ix iy low high) ∙ ix.eight;
-      fits = λ j h. lanes_fit ◌-ℤ◌ A a difference_asked difference_given x y (same x y ix iy low high) (first x y ix iy low high) (second x y ix iy low high) (both x y ix iy low high) j (omega (arith, h, ix.eight));
+      eight = length-lanes ◌-ℤ◌ A a difference_asked difference_given x y (same x y ix iy fits) ∙ ix.eight;
+      fits = λ j h. lanes_fit ◌-ℤ◌ A a difference_asked difference_given x y (same x y ix iy fits) (first x y ix iy fits) (second x y ix iy fits) (both x y ix iy fits) j (omega (arith, h, ix.eight));
     }
 
 pub returns-clause-value : goal.returns-clause-value
 returns-clause-value c =
-    let x = c.self.inside.lanes in
-    let y = c.other.inside.lanes in
+    let x = c.self.inside.0 in
+    let y = c.other.inside.0 in
     let ix = c.self.invariant in
     let iy = c.other.invariant in
-    let low = rw (sym c.self.view_is, sym c.other.view_is) at c.requires.low in
-    let high = rw (sym c.self.view_is, sym c.other.view_is) at c.requires.high in
+    let fits = rw (sym c.self.view_is, sym c.other.view_is) at c.requires.fits in
     let A = Asks2 (sub signed) (s_int w32) (s_int w32) in
     let a = act2 (sub signed) (s_int w32) (s_int w32) (s_int w32) in
-    rw (sym c.self.view_is, sym c.other.view_is) (λ j h. lanes_given ◌-ℤ◌ A a difference_asked difference_given x y (same x y ix iy low high) (first x y ix iy low high) (second x y ix iy low high) (both x y ix iy low high) j (omega (arith, h, ix.eight)))
+    rw (sym c.self.view_is, sym c.other.view_is) (λ j h. lanes_given ◌-ℤ◌ A a difference_asked difference_given x y (same x y ix iy fits) (first x y ix iy fits) (second x y ix iy fits) (both x y ix iy fits) j (omega (arith, h, ix.eight)))

@@ -10,11 +10,11 @@ use Rattle.fips204_base.proofs.product.matrix.write_sampled_product.Goals as goa
 pub returns-in_err-write_expanded_row : goal.returns-in_err-write_expanded_row
 returns-in_err-write_expanded_row g c =
     let refused : c.from_residual.result ≡ Err SamplingLimit = search rules in
-    rw refused (matrix-refused {A = Unit {0}} g.G.Xof.front c.args.rho.now g.row.K g.row.L c.loop-r.r {result = Err SamplingLimit} c.loop-r-test.true c.in_err-write_expanded_row.ensures.refused.0 refl)
+    rw refused (matrix-refused {A = Unit {0}} g.G.Xof.front c.args.rho.now g.row.K g.row.L c.loop-r.r {result = Err SamplingLimit} c.loop-r-test.true c.in_err-write_expanded_row.ensures.0 refl)
 
 pub write_row_product-requires : goal.write_row_product-requires
 write_row_product-requires g c =
-    (omega (arith, c.requires.shape.1), ((omega (arith, c.loop-r-test.true, c.requires.shape.0), c.requires.shape.1), row-within g.G.Xof.front c.args.rho.now g.row.L c.loop-r.r c.write_expanded_row.new.row c.in_ok-write_expanded_row.ensures.values))
+    (omega (arith, c.requires.shape.1), ((omega (arith, c.loop-r-test.true, c.requires.shape.0), c.requires.shape.1), row-within g.G.Xof.front c.args.rho.now g.row.L c.loop-r.r c.write_expanded_row.new.row c.in_ok-write_expanded_row.ensures))
 
 pub loop-r-preserved : goal.loop-r-preserved
 loop-r-preserved g c = record {
@@ -25,7 +25,7 @@ loop-r-preserved g c = record {
         (known.0, known.1, λ n l. c.write_row_product.ensures.kept i n other (omega (arith, before, c.loop-r-test.true, c.requires.shape.0)) l ∙ known.2 n l)
     | no now ↦
         let here : i ≡ c.loop-r.r = omega (arith, h, now) in
-        rw here (c.write_expanded_row.new.row, c.in_ok-write_expanded_row.ensures.values, c.write_row_product.ensures.product)
+        rw here (c.write_expanded_row.new.row, c.in_ok-write_expanded_row.ensures, c.write_row_product.ensures.product)
   ];
 }
 

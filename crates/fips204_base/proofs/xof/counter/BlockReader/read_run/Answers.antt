@@ -1,5 +1,6 @@
-use Rattle.std.proofs.Common.{◌++◌, ◌*◌, ◌<◌, ◌≤◌, drop, ap, arith, length-drop}
+use Rattle.std.proofs.Common.{◌≡◌, ◌++◌, ◌*◌, ◌<◌, ◌≤◌, drop, ap, arith, rules, length-drop}
 use Rattle.std.proofs.lemmas.List.{take_rest}
+use Rattle.fips204_base.specs.Streams.{counter_block}
 use Rattle.fips204_base.proofs.CounterStreams.{InHand, InHand-made, InHand-size, InHand-few, IsRun, InHand-run}
 use Rattle.fips204_base.proofs.xof.counter.BlockReader.read_run.Given.{Over}
 use Rattle.fips204_base.proofs.xof.counter.BlockReader.read_run.Goals as goal
@@ -8,8 +9,11 @@ use Rattle.fips204_base.proofs.xof.counter.BlockReader.read_run.Goals.{then-self
 in_hand : (g : Over) (c : After-write_run-count g) →
     InHand g.H.BlockHash.hash g.row.N g.met.H.BlockHash.digest_size c.if-self.self-inside.seed c.if-self.self-inside.blocks c.args.self.now
     c.if-self.self-inside.next c.if-self.self-inside.block c.if-self.self-inside.given
+unfolding counter_block
 in_hand g c = elim c.if-self.branch [
-  | then-self w ↦ rw (w.self-inside-is, w.block-self-inside.ensures)
+  | then-self w ↦
+      let made : w.digest-self-inside.result ≡ counter_block g.H.BlockHash.hash c.self.inside.seed c.self.inside.next = search rules in
+      rw (w.self-inside-is, made)
       (InHand-made g.H.BlockHash.hash g.row.N g.met.H.BlockHash.digest_size c.self.inside.seed c.self.inside.blocks c.args.self.now
       c.self.inside.next c.self.inside.block c.self.inside.given (omega arith) w.if-self.true (c.self.invariant.0, c.self.invariant.1, c.self.told2, c.self.view_is))
   | else-self w ↦ rw w.self-inside-is (c.self.invariant.0, c.self.invariant.1, c.self.told2, c.self.view_is)
