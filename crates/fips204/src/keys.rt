@@ -2,7 +2,7 @@
 #![tactic(auto)]
 
 ghost use Rattle.std.specs.Prelude.{◌≡◌, ◌↔◌, IsTrue, MatchResult};
-ghost use Rattle.fips204.specs.Completeness.{TellsPair, AcceptedIfWhole};
+ghost use Rattle.fips204.specs.Completeness.{TellsPair, AcceptedIfWholePlain};
 ghost use Rattle.fips204.specs.Framing.{framed, represented};
 ghost use Rattle.fips204.specs.Keys.{IsWhole, TellsWhole, DecodesPrivate};
 ghost use Rattle.fips204.specs.Prepared.{prepared_private, prepared_public};
@@ -258,8 +258,7 @@ where
     /// Signs the hash `mu` of a framed message with the random bytes `rnd` (Algorithm 7 from line 7 on).
     fn sign_hash(&self, mu: &[u8; 64], rnd: &[u8; 32]) -> Result<[u8; SIG_LEN], Fault>
         ensures answer { result ≡ sign_input S.set H.front G.front self.now rnd.now (represented mu.now) }
-        ensures accepted { AcceptedIfWhole (IsWhole S.set G.front self.now) (derived S.set G.front self.now)
-            (λ pk signature. VerifiesInput S.set H.front G.front pk signature (represented mu.now)) result }
+        ensures accepted { AcceptedIfWholePlain S.set H.front G.front self.now (represented mu.now) result }
     {
         let p = sized_params::<S, K, L, LAMBDA_DIV4, SIG_LEN>();
         ml_dsa::sign_internal::<K, L, LAMBDA_DIV4, SIG_LEN, H, G>(&p, self, mu, rnd)
@@ -278,8 +277,7 @@ where
     ) -> Result<[u8; SIG_LEN], Fault>
         ensures answer { DrawsIf hedged R.gives R.refuses rng.old rng.new Fault.InternalRng
             (λ rnd. sign_input S.set H.front G.front self.now rnd (framed m.now)) result }
-        ensures accepted { AcceptedIfWhole (IsWhole S.set G.front self.now) (derived S.set G.front self.now)
-            (λ pk signature. VerifiesInput S.set H.front G.front pk signature (framed m.now)) result }
+        ensures accepted { AcceptedIfWholePlain S.set H.front G.front self.now (framed m.now) result }
     {
         self.sign_mu(rng, &ml_dsa::mu::<H>(&[&self.tr, m]), hedged)
     }
@@ -294,8 +292,7 @@ where
     ) -> Result<[u8; SIG_LEN], Fault>
         ensures answer { DrawsIf hedged R.gives R.refuses rng.old rng.new Fault.InternalRng
             (λ rnd. sign_input S.set H.front G.front self.now rnd (represented mu.now)) result }
-        ensures accepted { AcceptedIfWhole (IsWhole S.set G.front self.now) (derived S.set G.front self.now)
-            (λ pk signature. VerifiesInput S.set H.front G.front pk signature (represented mu.now)) result }
+        ensures accepted { AcceptedIfWholePlain S.set H.front G.front self.now (represented mu.now) result }
     {
         self.sign_hash(mu, &draw_if(hedged, rng)?)
     }

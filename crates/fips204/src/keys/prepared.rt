@@ -41,7 +41,7 @@ where
     /// Signs the hash `mu` of a framed message with the random bytes `rnd`.
     fn sign_hash(&self, mu: &[u8; 64], rnd: &[u8; 32]) -> Result<[u8; SIG_LEN], Fault>
         ensures answer { result ≡ sign_prepared S.set H.front self.now rnd.now (represented mu.now) }
-        ensures accepted { AcceptedIfWholePrepared S.set self.now (λ pk signature. VerifiesPrepared S.set H.front pk signature (represented mu.now)) result }
+        ensures accepted { AcceptedIfWholePrepared S.set H.front self.now (represented mu.now) result }
     {
         let p = sized_params::<S, K, L, LAMBDA_DIV4, SIG_LEN>();
         let key = SigningKey {
@@ -61,8 +61,7 @@ where
     ) -> Result<[u8; SIG_LEN], Fault>
         ensures answer { DrawsUnless (input_fault (plain message.now ctx.now)) R.gives R.refuses rng.old rng.new Fault.SignRng
             (λ rnd. sign_prepared S.set H.front self.now rnd (plain message.now ctx.now)) result }
-        ensures accepted { AcceptedIfWholePrepared S.set self.now
-            (λ pk signature. VerifiesPrepared S.set H.front pk signature (plain message.now ctx.now)) result }
+        ensures accepted { AcceptedIfWholePrepared S.set H.front self.now (plain message.now ctx.now) result }
     {
         let mu = ml_dsa::message_mu::<H>(&self.key.tr, message, ctx)?;
         self.sign_hash(&mu, &draw(rng, Fault::SignRng)?)
@@ -76,8 +75,7 @@ where
         ctx: &[u8],
     ) -> Result<[u8; SIG_LEN], Fault>
         ensures answer { result ≡ sign_prepared S.set H.front self.now seed.now (plain message.now ctx.now) }
-        ensures accepted { AcceptedIfWholePrepared S.set self.now
-            (λ pk signature. VerifiesPrepared S.set H.front pk signature (plain message.now ctx.now)) result }
+        ensures accepted { AcceptedIfWholePrepared S.set H.front self.now (plain message.now ctx.now) result }
     {
         self.try_sign_with_rng(&mut DummyRng { bytes: *seed }, message, ctx)
     }
@@ -92,8 +90,7 @@ where
     ) -> Result<[u8; SIG_LEN], Fault>
         ensures answer { DrawsUnless (input_fault (hashed hash.now ctx.now hash_oid.now)) R.gives R.refuses rng.old rng.new Fault.HashRng
             (λ rnd. sign_prepared S.set H.front self.now rnd (hashed hash.now ctx.now hash_oid.now)) result }
-        ensures accepted { AcceptedIfWholePrepared S.set self.now
-            (λ pk signature. VerifiesPrepared S.set H.front pk signature (hashed hash.now ctx.now hash_oid.now)) result }
+        ensures accepted { AcceptedIfWholePrepared S.set H.front self.now (hashed hash.now ctx.now hash_oid.now) result }
     {
         let mu = ml_dsa::digest_mu::<H>(&self.key.tr, hash, ctx, hash_oid)?;
         self.sign_hash(&mu, &draw(rng, Fault::HashRng)?)
@@ -108,8 +105,7 @@ where
         hash_oid: &[u8],
     ) -> Result<[u8; SIG_LEN], Fault>
         ensures answer { result ≡ sign_prepared S.set H.front self.now seed.now (hashed hash.now ctx.now hash_oid.now) }
-        ensures accepted { AcceptedIfWholePrepared S.set self.now
-            (λ pk signature. VerifiesPrepared S.set H.front pk signature (hashed hash.now ctx.now hash_oid.now)) result }
+        ensures accepted { AcceptedIfWholePrepared S.set H.front self.now (hashed hash.now ctx.now hash_oid.now) result }
     {
         self.try_hash_sign_with_rng(&mut DummyRng { bytes: *seed }, hash, ctx, hash_oid)
     }
@@ -123,8 +119,7 @@ where
     ) -> Result<[u8; SIG_LEN], Fault>
         ensures answer { DrawsIf hedged R.gives R.refuses rng.old rng.new Fault.InternalRng
             (λ rnd. sign_prepared S.set H.front self.now rnd (framed m.now)) result }
-        ensures accepted { AcceptedIfWholePrepared S.set self.now
-            (λ pk signature. VerifiesPrepared S.set H.front pk signature (framed m.now)) result }
+        ensures accepted { AcceptedIfWholePrepared S.set H.front self.now (framed m.now) result }
     {
         self.sign_mu(rng, &ml_dsa::mu::<H>(&[&self.key.tr, m]), hedged)
     }
@@ -138,7 +133,7 @@ where
     ) -> Result<[u8; SIG_LEN], Fault>
         ensures answer { DrawsIf hedged R.gives R.refuses rng.old rng.new Fault.InternalRng
             (λ rnd. sign_prepared S.set H.front self.now rnd (represented mu.now)) result }
-        ensures accepted { AcceptedIfWholePrepared S.set self.now (λ pk signature. VerifiesPrepared S.set H.front pk signature (represented mu.now)) result }
+        ensures accepted { AcceptedIfWholePrepared S.set H.front self.now (represented mu.now) result }
     {
         self.sign_hash(mu, &draw_if(hedged, rng)?)
     }
