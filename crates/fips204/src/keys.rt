@@ -43,13 +43,9 @@ impl<
 > KeyGen for KG<K, L, H, G>
 where
     Matrix<K, L>: HasSet<Set = S>,
-    S: Set<
-        CommitmentHash = [u8; LAMBDA_DIV4],
-        Signature = [u8; SIG_LEN],
-        PublicKey = [u8; PK_LEN],
-        PrivateKey = [u8; SK_LEN],
-    >,
-    S: SignatureSizes<K, L, LAMBDA_DIV4, SIG_LEN> + KeySizes<K, L, PK_LEN, SK_LEN>,
+    S: Set<CommitmentHash = [u8; LAMBDA_DIV4], Signature = [u8; SIG_LEN]>
+        + SignatureSizes<K, L, LAMBDA_DIV4, SIG_LEN>,
+    S: Set<PublicKey = [u8; PK_LEN], PrivateKey = [u8; SK_LEN]> + KeySizes<K, L, PK_LEN, SK_LEN>,
 {
     type PublicKey = PublicKey<K, L, H, G>;
 
@@ -83,13 +79,9 @@ impl<
 > Scheme for KG<K, L, H, G>
 where
     Matrix<K, L>: HasSet<Set = S>,
-    S: Set<
-        CommitmentHash = [u8; LAMBDA_DIV4],
-        Signature = [u8; SIG_LEN],
-        PublicKey = [u8; PK_LEN],
-        PrivateKey = [u8; SK_LEN],
-    >,
-    S: SignatureSizes<K, L, LAMBDA_DIV4, SIG_LEN> + KeySizes<K, L, PK_LEN, SK_LEN>,
+    S: Set<CommitmentHash = [u8; LAMBDA_DIV4], Signature = [u8; SIG_LEN]>
+        + SignatureSizes<K, L, LAMBDA_DIV4, SIG_LEN>,
+    S: Set<PublicKey = [u8; PK_LEN], PrivateKey = [u8; SK_LEN]> + KeySizes<K, L, PK_LEN, SK_LEN>,
 {
     type Public = PublicKey<K, L, H, G>;
 
@@ -121,16 +113,11 @@ where
     }
 }
 
-impl<
-    S,
-    const K: usize,
-    const L: usize,
-    const LAMBDA_DIV4: usize,
-    const SIG_LEN: usize,
+impl<S, const K: usize, const L: usize, const LAMBDA_DIV4: usize, const SIG_LEN: usize, H, G> Signer
+    for PrivateKey<K, L, H, G>
+where
     H: Xof,
     G: Xof,
-> Signer for PrivateKey<K, L, H, G>
-where
     Matrix<K, L>: HasSet<Set = S>,
     S: Set<CommitmentHash = [u8; LAMBDA_DIV4], Signature = [u8; SIG_LEN]>
         + SignatureSizes<K, L, LAMBDA_DIV4, SIG_LEN>,
@@ -196,12 +183,10 @@ impl<
     const L: usize,
     const LAMBDA_DIV4: usize,
     const SIG_LEN: usize,
-    H,
-    G,
-> Verifier for PublicKey<K, L, H, G>
-where
     H: Xof,
     G: Xof,
+> Verifier for PublicKey<K, L, H, G>
+where
     Matrix<K, L>: HasSet<Set = S>,
     S: Set<CommitmentHash = [u8; LAMBDA_DIV4], Signature = [u8; SIG_LEN]>
         + SignatureSizes<K, L, LAMBDA_DIV4, SIG_LEN>,
@@ -418,8 +403,6 @@ where
 impl<S, const K: usize, const L: usize, const PK_LEN: usize, const SK_LEN: usize, H, G> SerDes
     for PrivateKey<K, L, H, G>
 where
-    H: Xof,
-    G: Xof,
     Matrix<K, L>: HasSet<Set = S>,
     S: Set<PublicKey = [u8; PK_LEN], PrivateKey = [u8; SK_LEN]> + KeySizes<K, L, PK_LEN, SK_LEN>,
 {
@@ -455,11 +438,9 @@ where
     }
 }
 
-impl<S, const K: usize, const L: usize, const PK_LEN: usize, const SK_LEN: usize, H, G> SerDes
+impl<S, const K: usize, const L: usize, const PK_LEN: usize, const SK_LEN: usize, H: Xof, G> SerDes
     for PublicKey<K, L, H, G>
 where
-    H: Xof,
-    G: Xof,
     Matrix<K, L>: HasSet<Set = S>,
     S: Set<PublicKey = [u8; PK_LEN], PrivateKey = [u8; SK_LEN]> + KeySizes<K, L, PK_LEN, SK_LEN>,
 {
