@@ -1,8 +1,9 @@
 -- What private functions of signing take and answer, and parts of definitions: cited by no public clause; nobody has to believe it.
-use Rattle.std.specs.Prelude.{◌+◌, ◌-◌, ◌*◌, ◌%◌, ◌<◌, ◌≤◌, ℕ, List, [], ◌∷◌, ◌++◌, length, take, slice_index, Bool, ◌&&◌, nat_eq, nat_lt, nat_le, if◌then◌else◌, Option, Some, None, Result, Ok, Err, ℤ, pos, slice_index_or, option_map, unwrap_or}
+use Rattle.std.specs.Prelude.{◌≡◌, ◌+◌, ◌-◌, ◌*◌, ◌%◌, ◌<◌, ◌≤◌, ℕ, List, [], ◌∷◌, ◌++◌, length, take, slice_index, Bool, ◌&&◌, nat_eq, nat_lt, nat_le, if◌then◌else◌, Option, Some, None, Result, Ok, Err, ℤ, pos, slice_index_or, option_map, unwrap_or}
 use Rattle.fips204_base.specs.Encodings.{PrivateParts, IsSignature, public_key_bytes, signature_bytes, is_one}
 use Rattle.fips204_base.specs.Residues.{vector_norm, coefficients}
 use Rattle.fips204_base.specs.Rounding.{high_bits, make_hint, use_hint}
+use Rattle.fips204_base.specs.Sampling.{challenge}
 use Rattle.fips204_base.specs.Transforms.{product, plus}
 use Rattle.fips204_base.specs.Vectors.{AreSameModQ, IsVector, vector_coefficients, vector_of}
 use Rattle.fips204_base.specs.Bounds.{PolynomialWithin, VectorWithin}
@@ -47,10 +48,11 @@ attempt_answer (signed signature) = Ok (Some signature)
 abbrev pub input_hash : (List ℕ → List ℕ) → List ℕ → Input → Result (List ℕ) Fault
 input_hash H tr input = refused_or (input_fault input) (Ok (representative H tr input))
 
--- the signature has these parts, and the norm of z is small
-pub record HasShortParts (p : ParameterSet) (signature c_tilde : List ℕ) (z h : List R) : Type 0 where
+-- the signature has these parts, the norm of z is small, and c is the challenge
+pub record OpensTo (p : ParameterSet) (H : List ℕ → List ℕ) (signature c_tilde : List ℕ) (z h : List R) (c : R) : Type 0 where
   pub parts : IsSignature p.gamma1 p.omega p.k p.l (c_tilde_length p) signature c_tilde z h
   pub norm : vector_norm z < p.gamma1 - p.beta
+  pub sampled : challenge p.tau (H c_tilde) ≡ Some c
 
 -- ---- parts of definitions, by themselves
 

@@ -59,8 +59,8 @@ where
         message: &[u8],
         ctx: &[u8],
     ) -> Result<[u8; SIG_LEN], Fault>
-        ensures answer { DrawsUnless (input_fault (plain message.now ctx.now)) R.gives R.refuses rng.old rng.new Fault.SignRng
-            (λ rnd. sign_prepared S.set H.front self.now rnd (plain message.now ctx.now)) result }
+        ensures answer { DrawsUnless (input_fault (plain message.now ctx.now)) R.gives R.refuses rng.old rng.new
+            Fault.SignRng (λ rnd. sign_prepared S.set H.front self.now rnd (plain message.now ctx.now)) result }
         ensures accepted { AcceptedIfWholePrepared S.set H.front self.now (plain message.now ctx.now) result }
     {
         let mu = ml_dsa::message_mu::<H>(&self.key.tr, message, ctx)?;
@@ -88,8 +88,8 @@ where
         ctx: &[u8],
         hash_oid: &[u8],
     ) -> Result<[u8; SIG_LEN], Fault>
-        ensures answer { DrawsUnless (input_fault (hashed hash.now ctx.now hash_oid.now)) R.gives R.refuses rng.old rng.new Fault.HashRng
-            (λ rnd. sign_prepared S.set H.front self.now rnd (hashed hash.now ctx.now hash_oid.now)) result }
+        ensures answer { let input = hashed hash.now ctx.now hash_oid.now in DrawsUnless (input_fault input)
+            R.gives R.refuses rng.old rng.new Fault.HashRng (λ rnd. sign_prepared S.set H.front self.now rnd input) result }
         ensures accepted { AcceptedIfWholePrepared S.set H.front self.now (hashed hash.now ctx.now hash_oid.now) result }
     {
         let mu = ml_dsa::digest_mu::<H>(&self.key.tr, hash, ctx, hash_oid)?;
@@ -223,7 +223,8 @@ where
     )
         requires signatures { length signatures.now ≡ length messages.now }
         requires room { length out.old ≡ length messages.now }
-        ensures { IsEachJudged (λ message signature. VerifiesPrepared S.set H.front self.now signature (plain message ctx.now))
+        ensures { IsEachJudged
+            (λ message signature. VerifiesPrepared S.set H.front self.now signature (plain message ctx.now))
             (map (λ m. m.now) messages.now) signatures.now out.new }
     {
         for i in 0..messages.len() {

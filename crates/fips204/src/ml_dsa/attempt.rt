@@ -32,8 +32,8 @@ impl<'a, const K: usize, const L: usize, H: Xof, G> SigningKey<'a, K, L, H, G> {
         kappa: u16,
     ) -> Result<Option<[u8; SIG_LEN]>, Fault>
         requires inputs { AreAttemptInputs p.now K L LAMBDA_DIV4 SIG_LEN kappa }
-        ensures { result
-            ≡ attempt_answer (attempt (set_of p.now) H.front self.now.matrix self.now.parts mu.now mask_seed.now kappa) }
+        ensures { result ≡ attempt_answer
+            (attempt (set_of p.now) H.front self.now.matrix self.now.parts mu.now mask_seed.now kappa) }
     {
         // y = ExpandMask(rho'', kappa)
         let y = expand_mask::<L, H>(p.gamma1, mask_seed, kappa);

@@ -33,8 +33,8 @@ impl<'a, const K: usize, const L: usize, H, G> SigningKey<'a, K, L, H, G> {
         c: &R,
     ) -> Option<[u8; SIG_LEN]>
         requires inputs { AreCheckInputs p.now K L LAMBDA_DIV4 SIG_LEN y.now w.now c.now }
-        ensures { Ok result
-            ≡ attempt_answer (checked_attempt (set_of p.now) self.now.parts y.now (vector_coefficients w.now) c_tilde.now (Some c.now)) }
+        ensures { Ok result ≡ attempt_answer (checked_attempt (set_of p.now) self.now.parts y.now
+            (vector_coefficients w.now) c_tilde.now (Some c.now)) }
     {
         // c_hat = NTT(c)
         let c_hat = Factor::of(c);
@@ -87,8 +87,8 @@ pub(crate) fn has_norm_below<const N: usize>(v: &[R; N], bound: i32) -> bool
 fn write_centred_sum<const L: usize>(z: &mut [R; L], y: &[R; L])
     requires mask { VectorWithin L 524288 y.now }
     requires product { VectorWithin L 8380416 z.old }
-    ensures value { z.new
-        ≡ vector_of L (λ r n. centred (pos (plus (vector_coefficients y.now r) (vector_coefficients z.old r) n))) }
+    ensures value { z.new ≡ vector_of L (λ r n.
+        centred (pos (plus (vector_coefficients y.now r) (vector_coefficients z.old r) n))) }
     ensures range { VectorWithin L 8380416 z.new }
 {
     write_zip_vectors(
@@ -144,8 +144,8 @@ fn hint<const K: usize>(gamma2: i32, v: &[R; K], t: &[R; K]) -> [R; K]
     requires set { IsGamma2 gamma2 }
     requires v { VectorWithin K 8380416 v.now }
     requires t { VectorWithin K 8380416 t.now }
-    ensures { result
-        ≡ vector_of K (λ r n. hint_bit (nat_abs gamma2) (vector_coefficients v.now r n) (vector_coefficients t.now r n)) }
+    ensures { result ≡ vector_of K (λ r n.
+        hint_bit (nat_abs gamma2) (vector_coefficients v.now r n) (vector_coefficients t.now r n)) }
 {
     zip_vectors(
         v,

@@ -7,8 +7,9 @@
 //! not refused.
 #![tactic(auto)]
 
-ghost use Rattle.std.specs.Prelude.{◌≡◌, MatchResult, Some, None};
+ghost use Rattle.std.specs.Prelude.{◌≡◌};
 ghost use Rattle.fips204.specs.Framing.{digest_length, pre_hash_fault};
+ghost use Rattle.fips204.specs.Refusals.{refused_or};
 ghost use Rattle.fips204.specs.SigningInputs.{has_oid_form};
 
 use fips204_base::Fault;
@@ -97,7 +98,7 @@ fn has_der_form(oid: &[u8]) -> bool
 /// length of its hash function.
 #[tactic(auto, unfolding(crate::specs::Framing::pre_hash_fault))]
 pub fn check_pre_hash(hash: &[u8], oid: &[u8]) -> Result<(), Fault>
-    ensures { MatchResult result (λ _. pre_hash_fault hash.now oid.now ≡ None) (λ fault. pre_hash_fault hash.now oid.now ≡ Some fault) }
+    ensures { result ≡ refused_or (pre_hash_fault hash.now oid.now) (Ok tt) }
 {
     if oid.is_empty() {
         return Err(Fault::OidEmpty);
