@@ -88,8 +88,8 @@ where
         ctx: &[u8],
         hash_oid: &[u8],
     ) -> Result<[u8; SIG_LEN], Fault>
-        ensures answer { let input = hashed hash.now ctx.now hash_oid.now in DrawsUnless (input_fault input)
-            R.gives R.refuses rng.old rng.new Fault.HashRng (λ rnd. sign_prepared S.set H.front self.now rnd input) result }
+        ensures answer { let input = hashed hash.now ctx.now hash_oid.now in DrawsUnless (input_fault input) R.gives
+            R.refuses rng.old rng.new Fault.HashRng (λ rnd. sign_prepared S.set H.front self.now rnd input) result }
         ensures accepted { AcceptedIfWholePrepared S.set H.front self.now (hashed hash.now ctx.now hash_oid.now) result }
     {
         let mu = ml_dsa::digest_mu::<H>(&self.key.tr, hash, ctx, hash_oid)?;
@@ -189,7 +189,8 @@ where
         ctx: &[u8],
         hash_oid: &[u8],
     ) -> bool
-        ensures { IsTrue result ↔ VerifiesPrepared S.set H.front self.now signature.now (hashed hash.now ctx.now hash_oid.now) }
+        ensures { IsTrue result
+            ↔ VerifiesPrepared S.set H.front self.now signature.now (hashed hash.now ctx.now hash_oid.now) }
     {
         match ml_dsa::digest_mu::<H>(&self.key.tr, hash, ctx, hash_oid) {
             Ok(mu) => self.verify_mu(&mu, signature),

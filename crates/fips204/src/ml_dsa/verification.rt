@@ -97,8 +97,9 @@ fn is_committed<const K: usize, const LAMBDA_DIV4: usize, H: Xof>(
     requires size { LAMBDA_DIV4 ≡ c_tilde_length (set_of p.now) }
     requires hint { IsVector K 0 1 h.now }
     requires challenge { PolynomialWithin 8380416 c.now.0 }
-    ensures { IsTrue result ↔ (c_tilde.now ≡ commitment_hash (set_of p.now) H.front mu.now (hinted (set_of p.now) h.now
-        (λ r. minus (vector_coefficients az.old r) (product (coefficients c.now.0) (vector_coefficients t1_hat.now r))))) }
+    ensures { IsTrue result ↔ (c_tilde.now ≡ commitment_hash (set_of p.now) H.front mu.now
+        (hinted (set_of p.now) h.now (λ r. minus (vector_coefficients az.old r)
+        (product (coefficients c.now.0) (vector_coefficients t1_hat.now r))))) }
 {
     // w'_approx = A z - c t1 2^d
     az.subtract_multiple(&Factor::of(c), t1_hat);
