@@ -8,9 +8,9 @@ use Rattle.fips204_base.specs.Transforms.{product, plus}
 use Rattle.fips204_base.specs.Vectors.{AreSameModQ, IsVector, vector_coefficients, vector_of}
 use Rattle.fips204_base.specs.Bounds.{PolynomialWithin, VectorWithin}
 use Rattle.fips204_base.specs.declared.fault.Fault.{Fault}
-use Rattle.fips204_base.specs.declared.fault.Fault.TheVariants.{SamplingLimit, SignCtx, HashCtx}
+use Rattle.fips204_base.specs.declared.fault.Fault.TheVariants.{SamplingLimit}
 use Rattle.fips204_base.specs.declared.types.R.{R}
-use Rattle.fips204.specs.Framing.{Input, pre_hash_fault, representative}
+use Rattle.fips204.specs.Framing.{Input, representative}
 use Rattle.fips204.specs.ParameterSets.{ParameterSet, c_tilde_length}
 use Rattle.fips204.specs.Refusals.{refused_or, input_fault}
 use Rattle.fips204.specs.Sets.{HasSizes, set_of}
@@ -55,14 +55,6 @@ pub record OpensTo (p : ParameterSet) (H : List ℕ → List ℕ) (signature c_t
   pub sampled : challenge p.tau (H c_tilde) ≡ Some c
 
 -- ---- parts of definitions, by themselves
-
--- what refuses to sign a message before the random bytes are drawn
-abbrev pub message_fault : List ℕ → Option Fault
-message_fault context = if nat_lt 255 (length context) then Some SignCtx else None
-
--- and what refuses to sign a digest
-abbrev pub digest_fault : List ℕ → List ℕ → List ℕ → Option Fault
-digest_fault digest context oid = if nat_lt 255 (length context) then Some HashCtx else pre_hash_fault digest oid
 
 -- at least three bytes, the first 06, and the second below 128 and the number of bytes after it
 abbrev pub has_oid_form : List ℕ → Bool

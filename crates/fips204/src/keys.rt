@@ -12,7 +12,7 @@ ghost use Rattle.fips204_base.specs.Encodings.{ArePrivateParts, IsPublicKeyOf, p
 mod prepared;
 
 use crate::ml_dsa;
-use crate::sets::{HasSet, KeySizes, Matrix, Set, SignatureSizes, sized_params};
+use crate::sets::{HasSet, KeySizes, Matrix, Set, SignatureSizes};
 use crate::traits::{
     CryptoRngCore, DummyRng, KeyGen, Scheme, SerDes, Signer, Verifier, draw, draw_if,
 };
@@ -139,7 +139,7 @@ where
         ctx: &[u8],
     ) -> Result<[u8; SIG_LEN], Fault> {
         let mu = ml_dsa::message_mu::<H>(&self.tr, message, ctx)?;
-        self.sign_hash(&mu, &draw(rng, Fault::SignRng)?)
+        self.sign_mu_with_seed(&mu, &draw(rng, Fault::SignRng)?)
     }
 
     fn try_sign_with_seed(
@@ -159,7 +159,7 @@ where
         hash_oid: &[u8],
     ) -> Result<[u8; SIG_LEN], Fault> {
         let mu = ml_dsa::digest_mu::<H>(&self.tr, hash, ctx, hash_oid)?;
-        self.sign_hash(&mu, &draw(rng, Fault::HashRng)?)
+        self.sign_mu_with_seed(&mu, &draw(rng, Fault::HashRng)?)
     }
 
     fn try_hash_sign_with_seed(
@@ -240,13 +240,12 @@ where
         &self.tr
     }
 
-    /// Signs the hash `mu` of a framed message with the random bytes `rnd` (Algorithm 7 from line 7 on).
-    fn sign_hash(&self, mu: &[u8; 64], rnd: &[u8; 32]) -> Result<[u8; SIG_LEN], Fault>
-        ensures answer { result ≡ sign_input S.set H.front G.front self.now rnd.now (represented mu.now) }
+    /// Signs the hash `mu` of a framed message with the random bytes `seed` (Algorithm 7 from line 7 on).
+    fn sign_mu_with_seed(&self, mu: &[u8; 64], seed: &[u8; 32]) -> Result<[u8; SIG_LEN], Fault>
+        ensures answer { result ≡ sign_input S.set H.front G.front self.now seed.now (represented mu.now) }
         ensures accepted { AcceptedIfWholePlain S.set H.front G.front self.now (represented mu.now) result }
     {
-        let p = sized_params::<S, K, L, LAMBDA_DIV4, SIG_LEN>();
-        ml_dsa::sign_internal::<K, L, LAMBDA_DIV4, SIG_LEN, H, G>(&p, self, mu, rnd)
+        ml_dsa::sign_internal::<K, L, LAMBDA_DIV4, SIG_LEN, H, G>(&S::params(), self, mu, seed)
     }
 
     /// Signs a framed message `m` (Algorithm 7). The 32 random bytes are zeros without `hedged`; with it they
@@ -279,7 +278,7 @@ where
             (λ rnd. sign_input S.set H.front G.front self.now rnd (represented mu.now)) result }
         ensures accepted { AcceptedIfWholePlain S.set H.front G.front self.now (represented mu.now) result }
     {
-        self.sign_hash(mu, &draw_if(hedged, rng)?)
+        self.sign_mu_with_seed(mu, &draw_if(hedged, rng)?)
     }
 
     /// Tells whether the key is whole: whether its t0 is the low part of `A s1 + s2` (Algorithm 6, lines 5
@@ -370,8 +369,7 @@ where
     pub fn verify_mu(&self, mu: &[u8; 64], sig: &[u8; SIG_LEN]) -> bool
         ensures { IsTrue result ↔ VerifiesInput S.set H.front G.front self.now sig.now (represented mu.now) }
     {
-        let p = sized_params::<S, K, L, LAMBDA_DIV4, SIG_LEN>();
-        ml_dsa::verify_internal::<K, L, LAMBDA_DIV4, SIG_LEN, H, G>(&p, self, mu, sig)
+        ml_dsa::verify_internal::<K, L, LAMBDA_DIV4, SIG_LEN, H, G>(&S::params(), self, mu, sig)
     }
 
     /// Samples the matrix once, for many verifications.

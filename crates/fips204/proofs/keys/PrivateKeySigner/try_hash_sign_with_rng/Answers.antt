@@ -5,7 +5,7 @@ use Rattle.fips204.proofs.keys.PrivateKeySigner.try_hash_sign_with_rng.Goals as 
 
 pub returns-clause-accepted : goal.returns-clause-accepted
 returns-clause-accepted g c =
-    input_accepted g.S.Set.set g.H.Xof.front g.G.Xof.front c.args.self.now (hashed c.args.hash.now c.args.ctx.now c.args.hash_oid.now) c.in_ok-mu.mu c.sign_hash.result (search rules) c.sign_hash.ensures.accepted
+    input_accepted g.S.Set.set g.H.Xof.front g.G.Xof.front c.args.self.now (hashed c.args.hash.now c.args.ctx.now c.args.hash_oid.now) c.in_ok-mu.mu c.sign_mu_with_seed.result (search rules) c.sign_mu_with_seed.ensures.accepted
 
 pub returns-clause-answer : goal.returns-clause-answer
 returns-clause-answer g c = search rules

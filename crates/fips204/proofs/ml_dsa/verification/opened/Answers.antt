@@ -23,7 +23,7 @@ sig_decode-requires g c =
     let some = limits p (search rules) in
     let ones : nat_abs p.omega + g.row.K < 256 = rw c.requires.sizes.rows some.hint_size in
     let size = c.requires.sizes.signature ∙ signature-size p.gamma1 (c_tilde_length (set_of p)) p.k p.l (nat_abs p.omega) some.mask in
-    (search rules, (search rules, (search rules, (search rules, (rw M some.mask, (rw O some.some_ones, (rw O ones, rw (M, O, c.requires.sizes.rows, c.requires.sizes.columns, c.requires.sizes.c_tilde_size) size)))))))
+    (search rules, (search rules, (search rules, (search rules, (rw M some.mask, (rw O some.some_ones, (rw O ones, rw (M, O, c.requires.sizes.rows, c.requires.sizes.columns, c.requires.sizes.c_tilde) size)))))))
 
 pub has_norm_below-requires : goal.has_norm_below-requires
 has_norm_below-requires g c =
@@ -49,7 +49,7 @@ decoded g c =
     let p = c.args.p.now in
     let M : to_z w32 (of_z w32 p.gamma1) ≡ p.gamma1 = search rules in
     let O : to_z w32 (of_z w32 p.omega) ≡ p.omega = search rules in
-    rw (M, O, c.requires.sizes.rows, c.requires.sizes.columns, c.requires.sizes.c_tilde_size) at c.in_ok-c_tilde.ensures
+    rw (M, O, c.requires.sizes.rows, c.requires.sizes.columns, c.requires.sizes.c_tilde) at c.in_ok-c_tilde.ensures
 
 bound-is : (g : Over) (c : After-has_norm_below g) → nat_abs (to_z w32 (of_z w32 c.z_bound.result)) ≡ (set_of c.args.p.now).gamma1 - (set_of c.args.p.now).beta
 bound-is g c = ap nat_abs (to_z-of_z w32 c.z_bound.result (search rules) ∙ c.z_bound.ensures)
