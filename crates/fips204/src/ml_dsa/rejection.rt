@@ -1,7 +1,7 @@
 //! The rejection checks of an attempt of signing (FIPS 204, Algorithm 7, lines 18 to 32).
 #![tactic(auto)]
 
-ghost use Rattle.std.specs.Prelude.{◌≡◌, ◌<◌, ◌≤◌, ◌+◌, ◌*◌, ◌%◌, ℕ, List, pos, nat_abs, nat_lt, ◌≤ℤ◌, Ok, Some, length};
+ghost use Rattle.std.specs.Prelude.{◌≡◌, ◌<◌, ◌≤◌, ◌+◌, ◌*◌, ◌%◌, ℕ, pos, nat_abs, nat_lt, ◌≤ℤ◌, Ok, Some, length};
 ghost use Rattle.fips204_base.specs.Residues.{centred, vector_norm, residue};
 ghost use Rattle.fips204_base.specs.Encodings.{all_ones};
 ghost use Rattle.fips204_base.specs.Vectors.{vector_coefficients, vector_of};
