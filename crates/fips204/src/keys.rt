@@ -426,8 +426,7 @@ where
 
     /// Decodes a private key. Its t0 and `tr` are not checked: `is_whole` checks t0, and `is_pair` both.
     ///
-    /// Errors: `Fault::KeyRange` if a coefficient of s1 or s2 is out of range, so that its field is above `2
-    /// eta`.
+    /// Errors: `Fault::KeyRange` if a coefficient of s1 or s2 is out of range, so that its field is above `2 eta`.
     ///
     /// Not inlined, so that what decoding needs leaves the stack before the key is used.
     #[inline(never)]

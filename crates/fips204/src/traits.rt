@@ -250,8 +250,7 @@ pub trait Scheme {
     fn keygen(xi: &[u8; 32]) -> Result<(Self::Public, Self::Private), Fault>
         ensures { result ≡ generated xi.now };
 
-    /// Signs a message under a context with the random bytes `rnd`. Errors as for
-    /// `Signer::try_sign_with_seed`.
+    /// Signs a message under a context with the random bytes `rnd`. Errors as for `Signer::try_sign_with_seed`.
     fn sign(
         sk: &Self::Private,
         rnd: &[u8; 32],
@@ -268,8 +267,7 @@ pub trait Scheme {
             → signs sk rnd (plain message.now ctx.now) ≡ Ok signature.now → IsTrue result };
 }
 
-/// Makes a key pair, signs with it and verifies the signature. Returns true or the first error, and never
-/// false.
+/// Makes a key pair, signs with it and verifies the signature. Returns true or the first error, and never false.
 pub fn pairwise_check<S: Scheme>(
     xi: &[u8; 32],
     rnd: &[u8; 32],
@@ -286,8 +284,7 @@ pub fn pairwise_check<S: Scheme>(
     Ok(S::verify(&pk, message, &signature, ctx))
 }
 
-/// Keys that are encoded as byte arrays of a fixed length and decoded from them (FIPS 204, Algorithms 22 to
-/// 25).
+/// Keys that are encoded as byte arrays of a fixed length and decoded from them (FIPS 204, Algorithms 22 to 25).
 pub trait SerDes: Sized {
     /// The byte array.
     type ByteArray;

@@ -92,10 +92,9 @@ fn has_der_form(oid: &[u8]) -> bool
 
 /// Checks a digest and the object identifier of its hash function before they are signed or verified.
 ///
-/// Errors, in this order: `Fault::OidEmpty` if the identifier is empty; `Fault::OidNotDer` if it is not a
-/// valid DER object identifier; `Fault::DigestTooLong` if the digest has more than 1024 bytes;
-/// `Fault::DigestLength` if the identifier is one of the twelve and the digest does not have the output
-/// length of its hash function.
+/// Errors, in this order: `Fault::OidEmpty` if the identifier is empty; `Fault::OidNotDer` if it is not a valid DER
+/// object identifier; `Fault::DigestTooLong` if the digest has more than 1024 bytes; `Fault::DigestLength` if the
+/// identifier is one of the twelve and the digest does not have the output length of its hash function.
 #[tactic(auto, unfolding(crate::specs::Framing::pre_hash_fault))]
 pub fn check_pre_hash(hash: &[u8], oid: &[u8]) -> Result<(), Fault>
     ensures { result ≡ refused_or (pre_hash_fault hash.now oid.now) (Ok tt) }
