@@ -22,14 +22,13 @@ use Rattle.fips204.proofs.RefusedCalls.{given_input, same_some, same_ok}
 
 pub hash_accepted : (p : ParameterSet) (H : List ℕ → List ℕ) (K L : ℕ) (sk : PreparedPrivate) (mu rnd : List ℕ) (answer : Result (List ℕ) Fault) → IsSet p
     → ((x : List ℕ) → 4096 ≤ length (H x)) → K ≡ p.k → L ≡ p.l → ArePrivateParts p.eta K L sk.parts → answer ≡ sign_prepared p H sk rnd (represented mu)
-    → AcceptedIfWholePrepared p sk (λ pk signature. VerifiesPrepared p H pk signature (represented mu)) answer
+    → AcceptedIfWholePrepared p H sk (represented mu) answer
 hash_accepted p H K L sk mu rnd answer known law rows columns parts same =
     λ signature whole e. (refl, accepts_signed_with p H sk.matrix sk.parts mu rnd signature known (rw (rows, columns) at parts) whole law (sym same ∙ e))
 
 -- and so is what is signed of an input
 pub input_accepted_prepared : (p : ParameterSet) (H : List ℕ → List ℕ) (sk : PreparedPrivate) (input : Input) (mu : List ℕ) (answer : Result (List ℕ) Fault) → Ok mu ≡ input_hash H sk.parts.tr input
-    → AcceptedIfWholePrepared p sk (λ pk signature. VerifiesPrepared p H pk signature (represented mu)) answer
-    → AcceptedIfWholePrepared p sk (λ pk signature. VerifiesPrepared p H pk signature input) answer
+    → AcceptedIfWholePrepared p H sk (represented mu) answer → AcceptedIfWholePrepared p H sk input answer
 input_accepted_prepared p H sk input mu answer e accepted =
     λ signature whole made.
     let given = given_input H sk.parts.tr sk.parts.tr mu input refl e in

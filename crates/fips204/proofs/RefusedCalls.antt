@@ -3,7 +3,6 @@ use Rattle.std.proofs.Common.{Result, ◌≡◌, ◌≤◌, ◌↔◌, inl, inr,
 use Rattle.std.specs.Prelude.{nat_lt, if◌then◌else◌}
 use Rattle.std.proofs.lemmas.Bool.{ltb-false}
 use Rattle.fips204_base.specs.declared.fault.Fault.{Fault}
-use Rattle.fips204.specs.Completeness.{AcceptedIfWhole}
 use Rattle.fips204.specs.Framing.{Input, represented, representative}
 use Rattle.fips204.specs.Refusals.{refused_or, input_fault, DrawsUnless}
 use Rattle.fips204.specs.SigningInputs.{input_hash}
@@ -60,16 +59,6 @@ signed_input H tr own input signs accepts signature same law made =
     let mu = representative H tr input in
     let both = not_refused (input_fault input) (signs mu) signature made in
     (both.0, subst (λ t. accepts (representative H t input)) same (law mu both.1))
-
--- the same of an answer over mu of an input, and of every key that may verify it
-pub accepted_input : {P : Type 0} (H : List ℕ → List ℕ) (tr mu : List ℕ) (input : Input) (whole : Type 0) (derives : Result P Fault) (own : P → List ℕ) (accepts : P → List ℕ → List ℕ → Type 0)
-    (answer : Result (List ℕ) Fault) → ((pk : P) → derives ≡ Ok pk → tr ≡ own pk) → Ok mu ≡ input_hash H tr input
-    → AcceptedIfWhole whole derives (λ pk signature. (input_fault (represented mu) ≡ None) × accepts pk mu signature) answer
-    → AcceptedIfWhole whole derives (λ pk signature. (input_fault input ≡ None) × accepts pk (representative H (own pk) input) signature) answer
-accepted_input H tr mu input whole derives own accepts answer hashes e accepted =
-    λ pk signature w d made.
-    let given = given_input H tr (own pk) mu input (hashes pk d) e in
-    (given.0, subst (λ m. accepts pk m signature) given.1 (accepted pk signature w d made).1)
 
 -- a call that draws from a generator which gives a request for 32 bytes these bytes, and no others, answers as over them
 pub drawn_seed : {S A : Type 0} (fault : Option Fault) (gives : S → ℕ → List ℕ → S → Type 0) (refuses : S → ℕ → S → Type 0) (before after : S) (refusal : Fault) (seed : List ℕ)

@@ -1,18 +1,21 @@
 -- What the keys of a seed sign is accepted, and what a whole private key signs.
-use Rattle.std.proofs.Common.{◌≡◌, ◌≤◌, ℕ, nat_abs, List, sym, ◌∙◌, length, Result, Ok, Err, rules}
+use Rattle.std.proofs.Common.{◌≡◌, ◌≤◌, ℕ, nat_abs, List, sym, subst, ◌∙◌, length, Result, Ok, Err, rules}
 use Rattle.std.specs.Prelude.{IfOk, MatchResult}
 use Rattle.fips204_base.specs.Encodings.{PublicParts, PrivateParts, ArePrivateParts, IsPublicKeyOf, public_key_bytes, private_key_bytes}
 use Rattle.fips204_base.specs.declared.fault.Fault.{Fault}
+use Rattle.fips204.specs.Acceptance.{Verifies}
 use Rattle.fips204.specs.ParameterSets.{ParameterSet, IsSet}
 use Rattle.fips204.specs.Keys.{DecodesPrivate, IsWhole}
 use Rattle.fips204.specs.declared.types.Params.{Params}
 use Rattle.fips204.specs.Sets.{set_of}
 use Rattle.fips204.specs.Signing.{sign}
+use Rattle.fips204.specs.SigningInputs.{input_hash}
 use Rattle.fips204.specs.Framing.{Input, represented}
 use Rattle.fips204.specs.Refusals.{generated, derived, sign_input, VerifiesInput}
-use Rattle.fips204.specs.Completeness.{AcceptedIfWhole, AcceptsSigned, SignedIsAccepted, DecodesAlone}
+use Rattle.fips204.specs.Completeness.{AcceptedIfWholePlain, AcceptsSigned, SignedIsAccepted, DecodesAlone}
 use Rattle.fips204.proofs.ParameterSets.{IsKnown, known-set}
-use Rattle.fips204.proofs.WholeKeys.{generated_pair, generated_parts, accepts_signed, pair_of_whole, public_alone, private_alone}
+use Rattle.fips204.proofs.RefusedCalls.{given_input}
+use Rattle.fips204.proofs.WholeKeys.{generated_pair, generated_parts, accepts_signed, derived_hash, pair_of_whole, public_alone, private_alone}
 
 pub signed_is_accepted : SignedIsAccepted
 signed_is_accepted p H G pk sk row law = (
@@ -52,6 +55,14 @@ key_accepts p H G K L sk pk known law rows columns parts whole derives =
 
 pub hash_accepted : (p : Params) (H G : List ℕ → List ℕ) (K L : ℕ) (sk : PrivateParts) (mu rnd : List ℕ) (answer : Result (List ℕ) Fault) → IsKnown p
     → ((x : List ℕ) → 4096 ≤ length (H x)) → K ≡ p.k → L ≡ p.l → ArePrivateParts (nat_abs p.eta) K L sk → answer ≡ sign (set_of p) H G sk mu rnd
-    → AcceptedIfWhole (IsWhole (set_of p) G sk) (derived (set_of p) G sk) (λ pk signature. VerifiesInput (set_of p) H G pk signature (represented mu)) answer
+    → AcceptedIfWholePlain (set_of p) H G sk (represented mu) answer
 hash_accepted p H G K L sk mu rnd answer known law rows columns parts same =
     λ pk signature whole derives e. key_accepts p H G K L sk pk known law rows columns parts whole derives rnd signature (represented mu) (sym same ∙ e)
+
+-- and so is what is signed of an input
+pub input_accepted : (p : ParameterSet) (H G : List ℕ → List ℕ) (sk : PrivateParts) (input : Input) (mu : List ℕ) (answer : Result (List ℕ) Fault) → Ok mu ≡ input_hash H sk.tr input
+    → AcceptedIfWholePlain p H G sk (represented mu) answer → AcceptedIfWholePlain p H G sk input answer
+input_accepted p H G sk input mu answer e accepted =
+    λ pk signature whole derives made.
+    let given = given_input H sk.tr pk.tr mu input (derived_hash p G sk pk derives) e in
+    (given.0, subst (λ m. Verifies p H G pk m signature) given.1 (accepted pk signature whole derives made).1)

@@ -21,7 +21,7 @@ use Rattle.fips204_base.proofs.Residues.{congruent_of, congruent_refl, residue_b
 use Rattle.fips204_base.proofs.Vectors.{vector_of-ext, vector_of-range, vector-within}
 use Rattle.fips204_base.proofs.EncodedParts.{same_signature}
 use Rattle.fips204.specs.Acceptance.{w1_prime, Accepts, Verifies}
-use Rattle.fips204.specs.SigningInputs.{HasShortParts, t1_shifted, hinted, AreShifted}
+use Rattle.fips204.specs.SigningInputs.{t1_shifted, hinted, AreShifted, OpensTo}
 use Rattle.fips204.specs.Signing.{commitment_hash}
 use Rattle.fips204.specs.declared.types.Params.{Params}
 use Rattle.fips204.specs.ParameterSets.{ParameterSet, c_tilde_length}
@@ -124,10 +124,10 @@ decided p H a t1 z h w1 mu c_tilde ball c answer b w both = (
 abbrev pub Gives : ParameterSet → (List ℕ → List ℕ) → List (List T) → List R → List ℕ → List ℕ → List R → List R → Type 0
 Gives p H a t1 mu c_tilde z h = (c : R) × (challenge p.tau (H c_tilde) ≡ Some c) × (c_tilde ≡ commitment_hash p H mu (w1_prime p a t1 z h c))
 
-pub accepts-in : (p : ParameterSet) (H : List ℕ → List ℕ) (a : List (List T)) (t1 : List R) (mu sig c_tilde : List ℕ) (z h : List R)
-    → HasShortParts p sig c_tilde z h → Gives p H a t1 mu c_tilde z h → Accepts p H a t1 mu sig
+pub accepts-in : (p : ParameterSet) (H : List ℕ → List ℕ) (a : List (List T)) (t1 : List R) (mu sig c_tilde : List ℕ) (z h : List R) (c : R)
+    → OpensTo p H sig c_tilde z h c → Gives p H a t1 mu c_tilde z h → Accepts p H a t1 mu sig
 unfolding commitment_hash
-accepts-in p H a t1 mu sig c_tilde z h parts x = record {
+accepts-in p H a t1 mu sig c_tilde z h c parts x = record {
   c_tilde = c_tilde;
   w1 = w1_bytes p.gamma2 (w1_prime p a t1 z h x.0);
   opened = record { z = z; h = h; parts = parts.parts; norm = parts.norm; c = x.0; sampled = x.1; recomputed = refl };
@@ -135,16 +135,16 @@ accepts-in p H a t1 mu sig c_tilde z h parts x = record {
 }
 
 -- a signature has no other parts
-pub same_norm : (p : ParameterSet) (sig c_tilde c_tilde' : List ℕ) (z z' h h' : List R) → 1 ≤ p.gamma1 → p.gamma1 ≤ 1048575
-    → IsSignature p.gamma1 p.omega p.k p.l (c_tilde_length p) sig c_tilde z h → HasShortParts p sig c_tilde' z' h' → vector_norm z < p.gamma1 - p.beta
-same_norm p sig c_tilde c_tilde' z z' h h' low high parts v =
+pub same_norm : (p : ParameterSet) (H : List ℕ → List ℕ) (sig c_tilde c_tilde' : List ℕ) (z z' h h' : List R) (c : R) → 1 ≤ p.gamma1 → p.gamma1 ≤ 1048575
+    → IsSignature p.gamma1 p.omega p.k p.l (c_tilde_length p) sig c_tilde z h → OpensTo p H sig c_tilde' z' h' c → vector_norm z < p.gamma1 - p.beta
+same_norm p H sig c_tilde c_tilde' z z' h h' c low high parts v =
     let same = same_signature p.gamma1 p.omega p.k p.l (c_tilde_length p) sig c_tilde' c_tilde z' z h' h low high v.parts parts in
     subst (λ (z : List R). vector_norm z < p.gamma1 - p.beta) same.1 v.norm
 
-pub accepts-out : (p : ParameterSet) (H : List ℕ → List ℕ) (a : List (List T)) (t1 : List R) (mu sig c_tilde : List ℕ) (z h : List R) → 1 ≤ p.gamma1 → p.gamma1 ≤ 1048575
-    → HasShortParts p sig c_tilde z h → Accepts p H a t1 mu sig → Gives p H a t1 mu c_tilde z h
+pub accepts-out : (p : ParameterSet) (H : List ℕ → List ℕ) (a : List (List T)) (t1 : List R) (mu sig c_tilde : List ℕ) (z h : List R) (c : R) → 1 ≤ p.gamma1 → p.gamma1 ≤ 1048575
+    → OpensTo p H sig c_tilde z h c → Accepts p H a t1 mu sig → Gives p H a t1 mu c_tilde z h
 unfolding commitment_hash
-accepts-out p H a t1 mu sig c_tilde z h low high parts v =
+accepts-out p H a t1 mu sig c_tilde z h c low high parts v =
     let o = v.opened in
     let same = same_signature p.gamma1 p.omega p.k p.l (c_tilde_length p) sig v.c_tilde c_tilde o.z z o.h h low high o.parts parts.parts in
     let ball = subst (λ (x : List ℕ). challenge p.tau (H x) ≡ Some o.c) same.0 o.sampled in
@@ -152,24 +152,31 @@ accepts-out p H a t1 mu sig c_tilde z h low high parts v =
     let value = sym same.0 ∙ v.same ∙ ap hash (o.recomputed ∙ ap (λ (z : List R). w1_bytes p.gamma2 (w1_prime p a t1 z o.h o.c)) same.1 ∙ ap (λ (h : List R). w1_bytes p.gamma2 (w1_prime p a t1 z h o.c)) same.2) in
     (o.c, ball, value)
 
+-- a signature without such parts is not accepted
+pub unopened : (p : ParameterSet) (H : List ℕ → List ℕ) (a : List (List T)) (t1 : List R) (mu sig : List ℕ)
+    → ((c_tilde : List ℕ) (z h : List R) (c : R) → OpensTo p H sig c_tilde z h c → ⊥) → Accepts p H a t1 mu sig → ⊥
+unopened p H a t1 mu sig none v =
+    let o = v.opened in
+    none v.c_tilde o.z o.h o.c record { parts = o.parts; norm = o.norm; sampled = o.sampled }
+
 -- with the parts at hand acceptance is what they give
-pub accepts-by_parts : (p : Params) (H : List ℕ → List ℕ) (a : List (List T)) (t1 : List R) (mu sig c_tilde : List ℕ) (z h : List R) (answer : Bool) → IsKnown p
-    → HasShortParts (set_of p) sig c_tilde z h → (IsTrue answer ↔ Gives (set_of p) H a t1 mu c_tilde z h) → IsTrue answer ↔ Accepts (set_of p) H a t1 mu sig
-accepts-by_parts p H a t1 mu sig c_tilde z h answer known parts both =
+pub accepts-by_parts : (p : Params) (H : List ℕ → List ℕ) (a : List (List T)) (t1 : List R) (mu sig c_tilde : List ℕ) (z h : List R) (c : R) (answer : Bool) → IsKnown p
+    → OpensTo (set_of p) H sig c_tilde z h c → (IsTrue answer ↔ Gives (set_of p) H a t1 mu c_tilde z h) → IsTrue answer ↔ Accepts (set_of p) H a t1 mu sig
+accepts-by_parts p H a t1 mu sig c_tilde z h c answer known parts both =
     let sizes = mask-size p.gamma1 (limits p known).mask in (
-      λ t. accepts-in (set_of p) H a t1 mu sig c_tilde z h parts (both.0 t),
-      λ v. both.1 (accepts-out (set_of p) H a t1 mu sig c_tilde z h sizes.0 (omega (arith, sizes.1)) parts v),
+      λ t. accepts-in (set_of p) H a t1 mu sig c_tilde z h c parts (both.0 t),
+      λ v. both.1 (accepts-out (set_of p) H a t1 mu sig c_tilde z h c sizes.0 (omega (arith, sizes.1)) parts v),
     )
 
 -- with the challenge, A z and t1 2^13 at hand, the commitment hash decides
 pub commitment-decides : (p : Params) (H : List ℕ → List ℕ) (a : List (List T)) (t1 : List R) (mu sig c_tilde : List ℕ) (z h : List R) (c : R) (az u : List R) (k l : ℕ) (answer : Bool) → IsKnown p → k ≡ p.k → l ≡ p.l
-    → HasShortParts (set_of p) sig c_tilde z h → challenge (nat_abs p.tau) (H c_tilde) ≡ Some c
+    → OpensTo (set_of p) H sig c_tilde z h c
     → ((r n : ℕ) → r < k → n < 256 → vector_coefficients az r n ≡ matrix_product l a (vector_coefficients z) r n) → AreShifted k t1 u
     → (IsTrue answer ↔ (c_tilde ≡ commitment_hash (set_of p) H mu (hinted (set_of p) h (λ r. minus (vector_coefficients az r) (product (coefficients c.0) (vector_coefficients u r))))))
     → IsTrue answer ↔ Accepts (set_of p) H a t1 mu sig
-commitment-decides p H a t1 mu sig c_tilde z h c az u k l answer known rows columns parts ball made shifted verdict =
-    accepts-by_parts p H a t1 mu sig c_tilde z h answer known parts
-    (decided (set_of p) H a t1 z h (hinted (set_of p) h (λ r. minus (vector_coefficients az r) (product (coefficients c.0) (vector_coefficients u r)))) mu c_tilde (challenge (nat_abs p.tau) (H c_tilde)) c answer ball
+commitment-decides p H a t1 mu sig c_tilde z h c az u k l answer known rows columns parts made shifted verdict =
+    accepts-by_parts p H a t1 mu sig c_tilde z h c answer known parts
+    (decided (set_of p) H a t1 z h (hinted (set_of p) h (λ r. minus (vector_coefficients az r) (product (coefficients c.0) (vector_coefficients u r)))) mu c_tilde (challenge (nat_abs p.tau) (H c_tilde)) c answer parts.sampled
     (w1_prime-is (set_of p) a t1 z h az u c k l rows columns made shifted) verdict)
 
 -- with the matrix at hand acceptance is that of the plain key

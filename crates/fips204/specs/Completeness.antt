@@ -16,6 +16,10 @@ AcceptsSigned p H G pk sk = (rnd signature : Bytes) (input : Input) → sign_inp
 abbrev pub AcceptedIfWhole : {P S : Type 0} → Type 0 → Result P Fault → (P → S → Type 0) → Result S Fault → Type 0
 AcceptedIfWhole {P} {S} whole derives accepts answer = (pk : P) (signature : S) → whole → derives ≡ Ok pk → answer ≡ Ok signature → accepts pk signature
 
+-- the same of signing an input with a plain key
+abbrev pub AcceptedIfWholePlain : ParameterSet → XOF → XOF → PrivateParts → Input → Result Bytes Fault → Type 0
+AcceptedIfWholePlain p H G sk input answer = AcceptedIfWhole (IsWhole p G sk) (derived p G sk) (λ pk signature. VerifiesInput p H G pk signature input) answer
+
 -- decoding a key's bytes answers that key and nothing else
 abbrev pub DecodesAlone : {K B : Type 0} → (B → Result K Fault → Type 0) → B → K → Type 0
 DecodesAlone {K} {B} decodes bytes key = (answer : Result K Fault) → decodes bytes answer → answer ≡ Ok key

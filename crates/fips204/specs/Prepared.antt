@@ -53,9 +53,9 @@ IsWholePrepared p sk = sk.parts.t0 ≡ low_part p sk.matrix sk.parts.s1 sk.parts
 abbrev pub public_of_prepared : ParameterSet → PreparedPrivate → PreparedPublic
 public_of_prepared p sk = record { parts = record { rho = sk.parts.rho; tr = sk.parts.tr; t1 = high_part p sk.matrix sk.parts.s1 sk.parts.s2 }; matrix = sk.matrix }
 
--- what a signing call answers with a whole prepared key is accepted by the public key that belongs to it
-abbrev pub AcceptedIfWholePrepared : ParameterSet → PreparedPrivate → (PreparedPublic → Bytes → Type 0) → Result Bytes Fault → Type 0
-AcceptedIfWholePrepared p sk accepts answer = (signature : Bytes) → IsWholePrepared p sk → answer ≡ Ok signature → accepts (public_of_prepared p sk) signature
+-- what signing an input answers with a whole prepared key is accepted by the public key that belongs to it
+abbrev pub AcceptedIfWholePrepared : ParameterSet → XOF → PreparedPrivate → Input → Result Bytes Fault → Type 0
+AcceptedIfWholePrepared p H sk input answer = (signature : Bytes) → IsWholePrepared p sk → answer ≡ Ok signature → VerifiesPrepared p H (public_of_prepared p sk) signature input
 
 -- a prepared key answers as its plain key: over an input, and lists of messages; it is whole if and only if the plain key is; and
 -- preparing a derived public key gives the public key that belongs to it

@@ -22,7 +22,7 @@ set_of p =
 pub record HasSizes (p : ParameterSet) (k l n s : ℕ) : Type 0 where
   pub rows : k ≡ p.k
   pub columns : l ≡ p.l
-  pub c_tilde_size : n ≡ c_tilde_length p
+  pub c_tilde : n ≡ c_tilde_length p
   pub signature : s ≡ signature_length p
 
 -- k rows and l columns, and the bytes of a public and of a private key, are those of the set

@@ -3,14 +3,15 @@ use Rattle.std.specs.Prelude.{◌≡◌, ◌⊎◌, ◌+◌, ◌-◌, ◌*◌, �
 use Rattle.fips204_base.specs.Encodings.{PrivateParts, IsSignature, public_key_bytes, signature_bytes, is_one}
 use Rattle.fips204_base.specs.Residues.{vector_norm, coefficients}
 use Rattle.fips204_base.specs.Rounding.{high_bits, make_hint, use_hint}
+use Rattle.fips204_base.specs.Sampling.{challenge}
 use Rattle.fips204_base.specs.Transforms.{product, plus}
 use Rattle.fips204_base.specs.Vectors.{IsVector, vector_coefficients, vector_of}
 use Rattle.fips204_base.specs.Network.{AreSameModQ}
 use Rattle.fips204_base.specs.Bounds.{PolynomialWithin, VectorWithin}
 use Rattle.fips204_base.specs.declared.fault.Fault.{Fault}
-use Rattle.fips204_base.specs.declared.fault.Fault.TheVariants.{SamplingLimit, SignCtx, HashCtx, TooManyAttempts}
+use Rattle.fips204_base.specs.declared.fault.Fault.TheVariants.{SamplingLimit, TooManyAttempts}
 use Rattle.fips204_base.specs.declared.types.R.{R}
-use Rattle.fips204.specs.Framing.{Input, pre_hash_fault, representative}
+use Rattle.fips204.specs.Framing.{Input, representative}
 use Rattle.fips204.specs.ParameterSets.{ParameterSet, c_tilde_length}
 use Rattle.fips204.specs.Refusals.{refused_or, input_fault}
 use Rattle.fips204.specs.Sets.{HasSizes, set_of}
@@ -46,20 +47,13 @@ pub record AreCheckInputs (p : Params) (k l n s : ℕ) (y w : List R) (c : R) : 
 abbrev pub input_hash : (List ℕ → List ℕ) → List ℕ → Input → Result (List ℕ) Fault
 input_hash H tr input = refused_or (input_fault input) (Ok (representative H tr input))
 
--- the signature has these parts, and the norm of z is small
-pub record HasShortParts (p : ParameterSet) (signature c_tilde : List ℕ) (z h : List R) : Type 0 where
+-- the signature has these parts, the norm of z is small, and c is the challenge
+pub record OpensTo (p : ParameterSet) (H : List ℕ → List ℕ) (signature c_tilde : List ℕ) (z h : List R) (c : R) : Type 0 where
   pub parts : IsSignature p.gamma1 p.omega p.k p.l (c_tilde_length p) signature c_tilde z h
   pub norm : vector_norm z < p.gamma1 - p.beta
+  pub sampled : challenge p.tau (H c_tilde) ≡ Some c
 
 -- ---- parts of definitions, by themselves
-
--- what refuses to sign a message before the random bytes are drawn
-abbrev pub message_fault : List ℕ → Option Fault
-message_fault context = if nat_lt 255 (length context) then Some SignCtx else None
-
--- and what refuses to sign a digest
-abbrev pub digest_fault : List ℕ → List ℕ → List ℕ → Option Fault
-digest_fault digest context oid = if nat_lt 255 (length context) then Some HashCtx else pre_hash_fault digest oid
 
 -- the refusals of signing beside those of its input: a sampler reached its limit, or every attempt was rejected
 abbrev pub IsSigningLimit : Fault → Type 0

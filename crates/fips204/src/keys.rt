@@ -2,7 +2,7 @@
 #![tactic(auto)]
 
 ghost use Rattle.std.specs.Prelude.{◌≡◌, ◌↔◌, IsTrue, MatchResult};
-ghost use Rattle.fips204.specs.Completeness.{TellsPair, AcceptedIfWhole};
+ghost use Rattle.fips204.specs.Completeness.{TellsPair, AcceptedIfWholePlain};
 ghost use Rattle.fips204.specs.Framing.{framed, represented};
 ghost use Rattle.fips204.specs.Keys.{IsWhole, TellsWhole, DecodesPrivate};
 ghost use Rattle.fips204.specs.Prepared.{prepared_private, prepared_public};
@@ -12,7 +12,7 @@ ghost use Rattle.fips204_base.specs.Encodings.{ArePrivateParts, IsPublicKeyOf, p
 mod prepared;
 
 use crate::ml_dsa;
-use crate::sets::{HasSet, KeySizes, Matrix, Set, SignatureSizes, sized_params};
+use crate::sets::{HasSet, KeySizes, Matrix, Set, SignatureSizes};
 use crate::traits::{
     CryptoRngCore, DummyRng, KeyGen, Scheme, SerDes, Signer, Verifier, draw, draw_if,
 };
@@ -43,13 +43,9 @@ impl<
 > KeyGen for KG<K, L, H, G>
 where
     Matrix<K, L>: HasSet<Set = S>,
-    S: Set<
-        CommitmentHash = [u8; LAMBDA_DIV4],
-        Signature = [u8; SIG_LEN],
-        PublicKey = [u8; PK_LEN],
-        PrivateKey = [u8; SK_LEN],
-    >,
-    S: SignatureSizes<K, L, LAMBDA_DIV4, SIG_LEN> + KeySizes<K, L, PK_LEN, SK_LEN>,
+    S: Set<CommitmentHash = [u8; LAMBDA_DIV4], Signature = [u8; SIG_LEN]>
+        + SignatureSizes<K, L, LAMBDA_DIV4, SIG_LEN>,
+    S: Set<PublicKey = [u8; PK_LEN], PrivateKey = [u8; SK_LEN]> + KeySizes<K, L, PK_LEN, SK_LEN>,
 {
     type PublicKey = PublicKey<K, L, H, G>;
 
@@ -83,13 +79,9 @@ impl<
 > Scheme for KG<K, L, H, G>
 where
     Matrix<K, L>: HasSet<Set = S>,
-    S: Set<
-        CommitmentHash = [u8; LAMBDA_DIV4],
-        Signature = [u8; SIG_LEN],
-        PublicKey = [u8; PK_LEN],
-        PrivateKey = [u8; SK_LEN],
-    >,
-    S: SignatureSizes<K, L, LAMBDA_DIV4, SIG_LEN> + KeySizes<K, L, PK_LEN, SK_LEN>,
+    S: Set<CommitmentHash = [u8; LAMBDA_DIV4], Signature = [u8; SIG_LEN]>
+        + SignatureSizes<K, L, LAMBDA_DIV4, SIG_LEN>,
+    S: Set<PublicKey = [u8; PK_LEN], PrivateKey = [u8; SK_LEN]> + KeySizes<K, L, PK_LEN, SK_LEN>,
 {
     type Public = PublicKey<K, L, H, G>;
 
@@ -121,16 +113,11 @@ where
     }
 }
 
-impl<
-    S,
-    const K: usize,
-    const L: usize,
-    const LAMBDA_DIV4: usize,
-    const SIG_LEN: usize,
+impl<S, const K: usize, const L: usize, const LAMBDA_DIV4: usize, const SIG_LEN: usize, H, G> Signer
+    for PrivateKey<K, L, H, G>
+where
     H: Xof,
     G: Xof,
-> Signer for PrivateKey<K, L, H, G>
-where
     Matrix<K, L>: HasSet<Set = S>,
     S: Set<CommitmentHash = [u8; LAMBDA_DIV4], Signature = [u8; SIG_LEN]>
         + SignatureSizes<K, L, LAMBDA_DIV4, SIG_LEN>,
@@ -152,7 +139,7 @@ where
         ctx: &[u8],
     ) -> Result<[u8; SIG_LEN], Fault> {
         let mu = ml_dsa::message_mu::<H>(&self.tr, message, ctx)?;
-        self.sign_hash(&mu, &draw(rng, Fault::SignRng)?)
+        self.sign_mu_with_seed(&mu, &draw(rng, Fault::SignRng)?)
     }
 
     fn try_sign_with_seed(
@@ -172,7 +159,7 @@ where
         hash_oid: &[u8],
     ) -> Result<[u8; SIG_LEN], Fault> {
         let mu = ml_dsa::digest_mu::<H>(&self.tr, hash, ctx, hash_oid)?;
-        self.sign_hash(&mu, &draw(rng, Fault::HashRng)?)
+        self.sign_mu_with_seed(&mu, &draw(rng, Fault::HashRng)?)
     }
 
     fn try_hash_sign_with_seed(
@@ -196,12 +183,10 @@ impl<
     const L: usize,
     const LAMBDA_DIV4: usize,
     const SIG_LEN: usize,
-    H,
-    G,
-> Verifier for PublicKey<K, L, H, G>
-where
     H: Xof,
     G: Xof,
+> Verifier for PublicKey<K, L, H, G>
+where
     Matrix<K, L>: HasSet<Set = S>,
     S: Set<CommitmentHash = [u8; LAMBDA_DIV4], Signature = [u8; SIG_LEN]>
         + SignatureSizes<K, L, LAMBDA_DIV4, SIG_LEN>,
@@ -255,14 +240,12 @@ where
         &self.tr
     }
 
-    /// Signs the hash `mu` of a framed message with the random bytes `rnd` (Algorithm 7 from line 7 on).
-    fn sign_hash(&self, mu: &[u8; 64], rnd: &[u8; 32]) -> Result<[u8; SIG_LEN], Fault>
-        ensures answer { result ≡ sign_input S.set H.front G.front self.now rnd.now (represented mu.now) }
-        ensures accepted { AcceptedIfWhole (IsWhole S.set G.front self.now) (derived S.set G.front self.now)
-            (λ pk signature. VerifiesInput S.set H.front G.front pk signature (represented mu.now)) result }
+    /// Signs the hash `mu` of a framed message with the random bytes `seed` (Algorithm 7 from line 7 on).
+    fn sign_mu_with_seed(&self, mu: &[u8; 64], seed: &[u8; 32]) -> Result<[u8; SIG_LEN], Fault>
+        ensures answer { result ≡ sign_input S.set H.front G.front self.now seed.now (represented mu.now) }
+        ensures accepted { AcceptedIfWholePlain S.set H.front G.front self.now (represented mu.now) result }
     {
-        let p = sized_params::<S, K, L, LAMBDA_DIV4, SIG_LEN>();
-        ml_dsa::sign_internal::<K, L, LAMBDA_DIV4, SIG_LEN, H, G>(&p, self, mu, rnd)
+        ml_dsa::sign_internal::<K, L, LAMBDA_DIV4, SIG_LEN, H, G>(&S::params(), self, mu, seed)
     }
 
     /// Signs a framed message `m` (Algorithm 7). The 32 random bytes are zeros without `hedged`; with it they
@@ -278,8 +261,7 @@ where
     ) -> Result<[u8; SIG_LEN], Fault>
         ensures answer { DrawsIf hedged R.gives R.refuses rng.old rng.new Fault.InternalRng
             (λ rnd. sign_input S.set H.front G.front self.now rnd (framed m.now)) result }
-        ensures accepted { AcceptedIfWhole (IsWhole S.set G.front self.now) (derived S.set G.front self.now)
-            (λ pk signature. VerifiesInput S.set H.front G.front pk signature (framed m.now)) result }
+        ensures accepted { AcceptedIfWholePlain S.set H.front G.front self.now (framed m.now) result }
     {
         self.sign_mu(rng, &ml_dsa::mu::<H>(&[&self.tr, m]), hedged)
     }
@@ -294,10 +276,9 @@ where
     ) -> Result<[u8; SIG_LEN], Fault>
         ensures answer { DrawsIf hedged R.gives R.refuses rng.old rng.new Fault.InternalRng
             (λ rnd. sign_input S.set H.front G.front self.now rnd (represented mu.now)) result }
-        ensures accepted { AcceptedIfWhole (IsWhole S.set G.front self.now) (derived S.set G.front self.now)
-            (λ pk signature. VerifiesInput S.set H.front G.front pk signature (represented mu.now)) result }
+        ensures accepted { AcceptedIfWholePlain S.set H.front G.front self.now (represented mu.now) result }
     {
-        self.sign_hash(mu, &draw_if(hedged, rng)?)
+        self.sign_mu_with_seed(mu, &draw_if(hedged, rng)?)
     }
 
     /// Tells whether the key is whole: whether its t0 is the low part of `A s1 + s2` (Algorithm 6, lines 5
@@ -388,8 +369,7 @@ where
     pub fn verify_mu(&self, mu: &[u8; 64], sig: &[u8; SIG_LEN]) -> bool
         ensures { IsTrue result ↔ VerifiesInput S.set H.front G.front self.now sig.now (represented mu.now) }
     {
-        let p = sized_params::<S, K, L, LAMBDA_DIV4, SIG_LEN>();
-        ml_dsa::verify_internal::<K, L, LAMBDA_DIV4, SIG_LEN, H, G>(&p, self, mu, sig)
+        ml_dsa::verify_internal::<K, L, LAMBDA_DIV4, SIG_LEN, H, G>(&S::params(), self, mu, sig)
     }
 
     /// Samples the matrix once, for many verifications.
@@ -421,8 +401,6 @@ where
 impl<S, const K: usize, const L: usize, const PK_LEN: usize, const SK_LEN: usize, H, G> SerDes
     for PrivateKey<K, L, H, G>
 where
-    H: Xof,
-    G: Xof,
     Matrix<K, L>: HasSet<Set = S>,
     S: Set<PublicKey = [u8; PK_LEN], PrivateKey = [u8; SK_LEN]> + KeySizes<K, L, PK_LEN, SK_LEN>,
 {
@@ -448,8 +426,7 @@ where
 
     /// Decodes a private key. Its t0 and `tr` are not checked: `is_whole` checks t0, and `is_pair` both.
     ///
-    /// Errors: `Fault::KeyRange` if a coefficient of s1 or s2 is out of range, so that its field is above `2
-    /// eta`.
+    /// Errors: `Fault::KeyRange` if a coefficient of s1 or s2 is out of range, so that its field is above `2 eta`.
     ///
     /// Not inlined, so that what decoding needs leaves the stack before the key is used.
     #[inline(never)]
@@ -458,11 +435,9 @@ where
     }
 }
 
-impl<S, const K: usize, const L: usize, const PK_LEN: usize, const SK_LEN: usize, H, G> SerDes
+impl<S, const K: usize, const L: usize, const PK_LEN: usize, const SK_LEN: usize, H: Xof, G> SerDes
     for PublicKey<K, L, H, G>
 where
-    H: Xof,
-    G: Xof,
     Matrix<K, L>: HasSet<Set = S>,
     S: Set<PublicKey = [u8; PK_LEN], PrivateKey = [u8; SK_LEN]> + KeySizes<K, L, PK_LEN, SK_LEN>,
 {

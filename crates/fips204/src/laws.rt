@@ -1,8 +1,7 @@
 //! Laws about the definitions, for proofs in a crate of your own. A call of one of these functions computes
 //! nothing: it states the law.
 //!
-//! In the laws of transforms (FIPS 204, section 2.5) polynomials are functions from an index to a residue
-//! modulo `q`.
+//! In the laws of transforms (FIPS 204, section 2.5) polynomials are functions from an index to a residue modulo `q`.
 #![tactic(auto)]
 
 ghost use Rattle.fips204_base.specs.Transforms.{ProductOfTransforms, InverseOfTransform};
@@ -97,24 +96,21 @@ pub fn binding()
     ensures hints { OtherHintCollides }
 {}
 
-/// A signature made with a whole private key verifies under the public key derived from it. The key pair of a
-/// seed is such a pair: the private key is whole, the public key is the derived one, and each is the only key
-/// that its bytes decode to. This holds for messages, digests and the hashes of the hooks, and for any random
-/// bytes.
+/// A signature made with a whole private key verifies under the public key derived from it. The key pair of a seed is
+/// such a pair: the private key is whole, the public key is the derived one, and each is the only key that its bytes
+/// decode to. This holds for messages, digests and the hashes of the hooks, and for any random bytes.
 pub fn signed_is_accepted()
     ensures { SignedIsAccepted }
 {}
 
-/// Keys in range with the same bytes are the same key: two private keys, and two public keys with the same
-/// `tr`.
+/// Keys in range with the same bytes are the same key: two private keys, and two public keys with the same `tr`.
 pub fn key_bytes()
     ensures { (p : ParameterSet) → IsSet p → BytesTellKeys p }
 {}
 
-/// A prepared key signs and verifies as the key that it was prepared from does: messages, digests, the hashes
-/// of the hooks, and each entry of `sign_each` and `verify_each`. It is whole if and only if the plain key
-/// is. If a public key is derived from the plain key, preparing it gives the public key that belongs to the
-/// prepared one.
+/// A prepared key signs and verifies as the key that it was prepared from does: messages, digests, the hashes of the
+/// hooks, and each entry of `sign_each` and `verify_each`. It is whole if and only if the plain key is. If a public key
+/// is derived from the plain key, preparing it gives the public key that belongs to the prepared one.
 pub fn prepared_keys()
     ensures { (p : ParameterSet) (H G : List ℕ → List ℕ) → PreparedAnswersAsPlain p H G }
 {}
@@ -126,23 +122,20 @@ pub fn refusals()
     ensures { (p : ParameterSet) (H G : List ℕ → List ℕ) → RefusesOnly p H G }
 {}
 
-/// Fewer blocks of a stream in counter mode are a prefix of more. So the fronts of `Sha256Ctr` are prefixes
-/// of those of `Sha256CtrLong`, those of `Sha512Ctr` prefixes of those of `Sha512CtrLong`, and likewise for
-/// streams of your own.
+/// Fewer blocks of a stream in counter mode are a prefix of more. So the fronts of `Sha256Ctr` are prefixes of those of
+/// `Sha256CtrLong`, those of `Sha512Ctr` prefixes of those of `Sha512CtrLong`, and likewise for streams of your own.
 pub fn counter_fronts()
     ensures { CounterFrontsArePrefixes }
 {}
 
-/// Longer fronts keep results. If each front of `H` is a prefix of the matching front of `LongerH`, and each
-/// front of `G` of that of `LongerG`, then a matrix or an entry of it, a small polynomial or a challenge that
-/// the first pair samples is also sampled by the second. So these stay: a key pair, a derived public key, a
-/// prepared key, a signature, the error `TooManyAttempts`, a true of a verifying call, and its false where
-/// the matrix of the key and the challenge of the signature exist, where the bytes spell no hint, where `z`
-/// is too large, or where a condition on context, object identifier and digest is broken. This holds for
-/// messages, digests and the hashes of the hooks.
+/// Longer fronts keep results. If each front of `H` is a prefix of the matching front of `LongerH`, and each front of
+/// `G` of that of `LongerG`, then a matrix or an entry of it, a small polynomial or a challenge that the first pair
+/// samples is also sampled by the second. So these stay: a key pair, a derived public key, a prepared key, a signature,
+/// the error `TooManyAttempts`, a true of a verifying call, and its false where the matrix of the key and the challenge
+/// of the signature exist, where the bytes spell no hint, where `z` is too large, or where a condition on context,
+/// object identifier and digest is broken. This holds for messages, digests and the hashes of the hooks.
 ///
-/// Only the error `SamplingLimit`, and the false of a verifying call that comes from a reached limit, may
-/// change.
+/// Only the error `SamplingLimit`, and the false of a verifying call that comes from a reached limit, may change.
 pub fn longer_front<H: Xof, G: Xof, LongerH: Xof, LongerG: Xof>()
     ensures { LongerFrontsKeep H.front G.front LongerH.front LongerG.front }
 {}

@@ -1,8 +1,7 @@
 //! ML-DSA-44 (FIPS 204, Table 1).
 #![tactic(auto)]
 
-ghost use Rattle.std.specs.Prelude.{refl};
-ghost use Rattle.std.proofs.Common.{inl};
+ghost use Rattle.std.proofs.Common.{inl, refl};
 ghost use Rattle.std.proofs.lemmas.Bool.{leb-true};
 ghost use Rattle.fips204_base.specs.Packing.{bit_length};
 ghost use Rattle.fips204.specs.ParameterSets.{set_44};
@@ -83,7 +82,7 @@ impl Set for MlDsa44 {
 }
 
 impl SignatureSizes<K, L, LAMBDA_DIV4, SIG_LEN> for MlDsa44 {
-    ghost sizes = { record { rows = refl; columns = refl; c_tilde_size = refl; signature = unfold bit_length in refl } };
+    ghost sizes = { record { rows = refl; columns = refl; c_tilde = refl; signature = unfold bit_length in refl } };
 
     ghost small = { (leb-true _ _ refl, leb-true _ _ refl, leb-true _ _ refl, leb-true _ _ refl) };
 }

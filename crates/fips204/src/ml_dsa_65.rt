@@ -1,8 +1,7 @@
 //! ML-DSA-65 (FIPS 204, Table 1).
 #![tactic(auto)]
 
-ghost use Rattle.std.specs.Prelude.{refl};
-ghost use Rattle.std.proofs.Common.{inl, inr};
+ghost use Rattle.std.proofs.Common.{inl, inr, refl};
 ghost use Rattle.std.proofs.lemmas.Bool.{leb-true};
 ghost use Rattle.fips204_base.specs.Packing.{bit_length};
 ghost use Rattle.fips204.specs.ParameterSets.{set_65};
@@ -83,7 +82,7 @@ impl Set for MlDsa65 {
 }
 
 impl SignatureSizes<K, L, LAMBDA_DIV4, SIG_LEN> for MlDsa65 {
-    ghost sizes = { record { rows = refl; columns = refl; c_tilde_size = refl; signature = unfold bit_length in refl } };
+    ghost sizes = { record { rows = refl; columns = refl; c_tilde = refl; signature = unfold bit_length in refl } };
 
     ghost small = { (leb-true _ _ refl, leb-true _ _ refl, leb-true _ _ refl, leb-true _ _ refl) };
 }

@@ -57,20 +57,6 @@ pub trait KeySizes<const K: usize, const L: usize, const PK_LEN: usize, const SK
     ghost small_keys: { (PK_LEN ≤ 2592) × (SK_LEN ≤ 4896) };
 }
 
-/// The numbers of a set with these sizes.
-pub(crate) fn sized_params<
-    S: SignatureSizes<K, L, LAMBDA_DIV4, SIG_LEN>,
-    const K: usize,
-    const L: usize,
-    const LAMBDA_DIV4: usize,
-    const SIG_LEN: usize,
->() -> Params
-    ensures row { set_of result ≡ S.set }
-    ensures sizes { HasSizes (set_of result) K L LAMBDA_DIV4 SIG_LEN }
-{
-    S::params()
-}
-
 /// A matrix of `K` rows and `L` columns, which determines the set of a key type.
 pub struct Matrix<const K: usize, const L: usize>;
 

@@ -100,18 +100,18 @@ pub trait KeyGen {
         rng: &mut R,
     ) -> Result<(Self::PublicKey, Self::PrivateKey), Fault>
         ensures answer { Draws R.gives R.refuses rng.old rng.new KeyGenRng generated result }
-        ensures pair { IfOk result (λ keys. Self.PrivateKey.whole keys.1 × (Self.PrivateKey.derives keys.1 ≡ Ok keys.0)) }
-        ensures stored { IfOk result (λ keys. DecodesAlone Self.PublicKey.decodes (Self.PublicKey.bytes_of keys.0) keys.0
-            × DecodesAlone Self.PrivateKey.decodes (Self.PrivateKey.bytes_of keys.1) keys.1) };
+        ensures pair { IfOk result (λ (pk, sk). Self.PrivateKey.whole sk × (Self.PrivateKey.derives sk ≡ Ok pk)) }
+        ensures stored { IfOk result (λ (pk, sk). DecodesAlone Self.PublicKey.decodes (Self.PublicKey.bytes_of pk) pk
+            × DecodesAlone Self.PrivateKey.decodes (Self.PrivateKey.bytes_of sk) sk) };
 
     /// Makes the key pair of a seed (Algorithm 6).
     ///
     /// Errors: `Fault::SamplingLimit` if rejection sampling reaches its limit.
     fn keygen_from_seed(xi: &[u8; 32]) -> Result<(Self::PublicKey, Self::PrivateKey), Fault>
         ensures answer { result ≡ generated xi.now }
-        ensures pair { IfOk result (λ keys. Self.PrivateKey.whole keys.1 × (Self.PrivateKey.derives keys.1 ≡ Ok keys.0)) }
-        ensures stored { IfOk result (λ keys. DecodesAlone Self.PublicKey.decodes (Self.PublicKey.bytes_of keys.0) keys.0
-            × DecodesAlone Self.PrivateKey.decodes (Self.PrivateKey.bytes_of keys.1) keys.1) };
+        ensures pair { IfOk result (λ (pk, sk). Self.PrivateKey.whole sk × (Self.PrivateKey.derives sk ≡ Ok pk)) }
+        ensures stored { IfOk result (λ (pk, sk). DecodesAlone Self.PublicKey.decodes (Self.PublicKey.bytes_of pk) pk
+            × DecodesAlone Self.PrivateKey.decodes (Self.PrivateKey.bytes_of sk) sk) };
 }
 
 /// Signing (FIPS 204, Algorithms 2 and 4).
@@ -175,8 +175,8 @@ pub trait Signer {
         ctx: &[u8],
         hash_oid: &[u8],
     ) -> Result<Self::Signature, Fault>
-        ensures answer { DrawsUnless (input_fault (hashed hash.now ctx.now hash_oid.now)) R.gives R.refuses rng.old rng.new HashRng
-            (λ rnd. signs self.now rnd (hashed hash.now ctx.now hash_oid.now)) result }
+        ensures answer { DrawsUnless (input_fault (hashed hash.now ctx.now hash_oid.now)) R.gives R.refuses
+            rng.old rng.new HashRng (λ rnd. signs self.now rnd (hashed hash.now ctx.now hash_oid.now)) result }
         ensures accepted { AcceptedIfWhole (whole self.now) (derives self.now)
             (λ pk signature. Self.PublicKey.accepts pk signature (hashed hash.now ctx.now hash_oid.now)) result };
 
@@ -250,8 +250,7 @@ pub trait Scheme {
     fn keygen(xi: &[u8; 32]) -> Result<(Self::Public, Self::Private), Fault>
         ensures { result ≡ generated xi.now };
 
-    /// Signs a message under a context with the random bytes `rnd`. Errors as for
-    /// `Signer::try_sign_with_seed`.
+    /// Signs a message under a context with the random bytes `rnd`. Errors as for `Signer::try_sign_with_seed`.
     fn sign(
         sk: &Self::Private,
         rnd: &[u8; 32],
@@ -264,12 +263,11 @@ pub trait Scheme {
     /// returned for the same message and context with the private key of the pair that `keygen` returned.
     fn verify(pk: &Self::Public, message: &[u8], signature: &Self::Signature, ctx: &[u8]) -> bool
         ensures answer { IsTrue result ↔ accepts pk.now signature.now (plain message.now ctx.now) }
-        ensures signed_is_accepted { (xi rnd : List ℕ) (sk : Self.Private)
-            → generated xi ≡ Ok (pk.now, sk) → signs sk rnd (plain message.now ctx.now) ≡ Ok signature.now → IsTrue result };
+        ensures signed_is_accepted { (xi rnd : List ℕ) (sk : Self.Private) → generated xi ≡ Ok (pk.now, sk)
+            → signs sk rnd (plain message.now ctx.now) ≡ Ok signature.now → IsTrue result };
 }
 
-/// Makes a key pair, signs with it and verifies the signature. Returns true or the first error, and never
-/// false.
+/// Makes a key pair, signs with it and verifies the signature. Returns true or the first error, and never false.
 pub fn pairwise_check<S: Scheme>(
     xi: &[u8; 32],
     rnd: &[u8; 32],
@@ -277,7 +275,8 @@ pub fn pairwise_check<S: Scheme>(
     ctx: &[u8],
 ) -> Result<bool, Fault>
     ensures { MatchResult (S.generated xi.now)
-        (λ pair. MatchResult (S.signs pair.1 rnd.now (plain message.now ctx.now)) (λ _. result ≡ Ok true) (λ fault. result ≡ Err fault))
+        (λ (_, sk). MatchResult (S.signs sk rnd.now (plain message.now ctx.now))
+        (λ _. result ≡ Ok true) (λ fault. result ≡ Err fault))
         (λ fault. result ≡ Err fault) }
 {
     let (pk, sk) = S::keygen(xi)?;
@@ -285,8 +284,7 @@ pub fn pairwise_check<S: Scheme>(
     Ok(S::verify(&pk, message, &signature, ctx))
 }
 
-/// Keys that are encoded as byte arrays of a fixed length and decoded from them (FIPS 204, Algorithms 22 to
-/// 25).
+/// Keys that are encoded as byte arrays of a fixed length and decoded from them (FIPS 204, Algorithms 22 to 25).
 pub trait SerDes: Sized {
     /// The byte array.
     type ByteArray;
@@ -307,6 +305,6 @@ pub trait SerDes: Sized {
     fn try_from_bytes(ba: Self::ByteArray) -> Result<Self, Fault>
         ensures { decodes ba result };
 
-    // A value that bytes decode to has these bytes.
-    ghost restored: { (bytes : Self.ByteArray) (value : Self) → decodes bytes (Ok value) → bytes_of value ≡ bytes };
+    // A key that bytes decode to has these bytes.
+    ghost restored: { (bytes : Self.ByteArray) (key : Self) → decodes bytes (Ok key) → bytes_of key ≡ bytes };
 }

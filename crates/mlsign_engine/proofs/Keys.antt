@@ -11,8 +11,7 @@ use Rattle.fips204.specs.Signing.{sign}
 use Rattle.fips204.specs.Encodings.{PublicParts, PrivateParts, ArePrivateParts, IsPublicKeyOf, IsPrivateKeyOf, public_key_bytes, private_key_bytes}
 use Rattle.fips204.specs.Completeness.{SignedIsAccepted, AcceptsSigned}
 use Rattle.fips204.specs.ParameterSets.{ParameterSet, signature_length, IsSet}
-use Rattle.fips204.specs.Refusals.{generated, derived, Draws, sign_input}
-use Rattle.fips204.specs.SigningInputs.{message_fault}
+use Rattle.fips204.specs.Refusals.{generated, derived, Draws, input_fault, sign_input}
 use Rattle.fips204_shake.specs.Fronts.{shake256_front, shake128_front, length-shake256_front}
 use Rattle.mlsign_files.specs.Keys.{PrivateParts as FileParts, Seed, Expanded, Both}
 use Rattle.mlsign_files.specs.declared.algorithm.Algorithm.{Algorithm}
@@ -52,8 +51,8 @@ pub drawn : (random : List ℕ) (before after : DummyRng) (answer : List ℕ →
 drawn random before after answer signature (inl d) is = ap answer (sym (d.1.1 ∙ is)) ∙ sym d.3
 drawn random before after answer signature (inr d) is = absurd (d.0.0 refl)
 
-short_context : (context : List ℕ) → length context ≤ 255 → message_fault context ≡ None
-short_context context short =
+short_context : (message context : List ℕ) → length context ≤ 255 → input_fault (plain message context) ≡ None
+short_context message context short =
     let test : ltb 255 (length context) ≡ false = le-ltb _ _ short in rw test refl
 
 -- what a key of a file signed
@@ -67,7 +66,7 @@ signs_at p law known parts sk random context message signature mu old new has sh
     let accepts : AcceptsSigned p shake256_front shake128_front has.0 sk =
     ((law p shake256_front shake128_front has.0 sk known long_fronts).0 keys.pair.parts keys.pair.whole keys.pair.derives).0 in
     let signed_message : sign_input p shake256_front shake128_front sk random (plain message context) ≡ Ok signature =
-    rw (short_context context short) (ap (λ (z : List ℕ). sign p shake256_front shake128_front sk z random) (sym hash) ∙ signed) in
+    rw (short_context message context short) (ap (λ (z : List ℕ). sign p shake256_front shake128_front sk z random) (sym hash) ∙ signed) in
     record {
       message = message;
       given = given;

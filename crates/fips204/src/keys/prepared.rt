@@ -10,7 +10,7 @@ ghost use Rattle.fips204.specs.Prepared.{sign_prepared, AcceptedIfWholePrepared,
 ghost use Rattle.fips204.specs.Refusals.{input_fault, DrawsIf, DrawsUnless};
 
 use crate::ml_dsa;
-use crate::sets::{HasSet, Matrix, Set, SignatureSizes, sized_params};
+use crate::sets::{HasSet, Matrix, Set, SignatureSizes};
 use crate::traits::{CryptoRngCore, DummyRng, draw, draw_if};
 use crate::types::{PreparedPrivateKey, PreparedPublicKey, SigningKey};
 use fips204_base::Fault;
@@ -38,18 +38,17 @@ where
         &self.key.tr
     }
 
-    /// Signs the hash `mu` of a framed message with the random bytes `rnd`.
-    fn sign_hash(&self, mu: &[u8; 64], rnd: &[u8; 32]) -> Result<[u8; SIG_LEN], Fault>
-        ensures answer { result ≡ sign_prepared S.set H.front self.now rnd.now (represented mu.now) }
-        ensures accepted { AcceptedIfWholePrepared S.set self.now (λ pk signature. VerifiesPrepared S.set H.front pk signature (represented mu.now)) result }
+    /// Signs the hash `mu` of a framed message with the random bytes `seed`.
+    fn sign_mu_with_seed(&self, mu: &[u8; 64], seed: &[u8; 32]) -> Result<[u8; SIG_LEN], Fault>
+        ensures answer { result ≡ sign_prepared S.set H.front self.now seed.now (represented mu.now) }
+        ensures accepted { AcceptedIfWholePrepared S.set H.front self.now (represented mu.now) result }
     {
-        let p = sized_params::<S, K, L, LAMBDA_DIV4, SIG_LEN>();
         let key = SigningKey {
             key: &self.key,
             a_hat: &self.a_hat,
             transforms: &self.transforms,
         };
-        key.sign_with::<LAMBDA_DIV4, SIG_LEN>(&p, mu, rnd)
+        key.sign_with::<LAMBDA_DIV4, SIG_LEN>(&S::params(), mu, seed)
     }
 
     /// Signs (Algorithm 2), as `Signer::try_sign_with_rng`.
@@ -59,13 +58,12 @@ where
         message: &[u8],
         ctx: &[u8],
     ) -> Result<[u8; SIG_LEN], Fault>
-        ensures answer { DrawsUnless (input_fault (plain message.now ctx.now)) R.gives R.refuses rng.old rng.new Fault.SignRng
-            (λ rnd. sign_prepared S.set H.front self.now rnd (plain message.now ctx.now)) result }
-        ensures accepted { AcceptedIfWholePrepared S.set self.now
-            (λ pk signature. VerifiesPrepared S.set H.front pk signature (plain message.now ctx.now)) result }
+        ensures answer { DrawsUnless (input_fault (plain message.now ctx.now)) R.gives R.refuses rng.old rng.new
+            Fault.SignRng (λ rnd. sign_prepared S.set H.front self.now rnd (plain message.now ctx.now)) result }
+        ensures accepted { AcceptedIfWholePrepared S.set H.front self.now (plain message.now ctx.now) result }
     {
         let mu = ml_dsa::message_mu::<H>(&self.key.tr, message, ctx)?;
-        self.sign_hash(&mu, &draw(rng, Fault::SignRng)?)
+        self.sign_mu_with_seed(&mu, &draw(rng, Fault::SignRng)?)
     }
 
     /// Signs (Algorithm 2), as `Signer::try_sign_with_seed`.
@@ -76,8 +74,7 @@ where
         ctx: &[u8],
     ) -> Result<[u8; SIG_LEN], Fault>
         ensures answer { result ≡ sign_prepared S.set H.front self.now seed.now (plain message.now ctx.now) }
-        ensures accepted { AcceptedIfWholePrepared S.set self.now
-            (λ pk signature. VerifiesPrepared S.set H.front pk signature (plain message.now ctx.now)) result }
+        ensures accepted { AcceptedIfWholePrepared S.set H.front self.now (plain message.now ctx.now) result }
     {
         self.try_sign_with_rng(&mut DummyRng { bytes: *seed }, message, ctx)
     }
@@ -90,13 +87,12 @@ where
         ctx: &[u8],
         hash_oid: &[u8],
     ) -> Result<[u8; SIG_LEN], Fault>
-        ensures answer { DrawsUnless (input_fault (hashed hash.now ctx.now hash_oid.now)) R.gives R.refuses rng.old rng.new Fault.HashRng
-            (λ rnd. sign_prepared S.set H.front self.now rnd (hashed hash.now ctx.now hash_oid.now)) result }
-        ensures accepted { AcceptedIfWholePrepared S.set self.now
-            (λ pk signature. VerifiesPrepared S.set H.front pk signature (hashed hash.now ctx.now hash_oid.now)) result }
+        ensures answer { let input = hashed hash.now ctx.now hash_oid.now in DrawsUnless (input_fault input) R.gives
+            R.refuses rng.old rng.new Fault.HashRng (λ rnd. sign_prepared S.set H.front self.now rnd input) result }
+        ensures accepted { AcceptedIfWholePrepared S.set H.front self.now (hashed hash.now ctx.now hash_oid.now) result }
     {
         let mu = ml_dsa::digest_mu::<H>(&self.key.tr, hash, ctx, hash_oid)?;
-        self.sign_hash(&mu, &draw(rng, Fault::HashRng)?)
+        self.sign_mu_with_seed(&mu, &draw(rng, Fault::HashRng)?)
     }
 
     /// Signs a digest (Algorithm 4), as `Signer::try_hash_sign_with_seed`.
@@ -108,8 +104,7 @@ where
         hash_oid: &[u8],
     ) -> Result<[u8; SIG_LEN], Fault>
         ensures answer { result ≡ sign_prepared S.set H.front self.now seed.now (hashed hash.now ctx.now hash_oid.now) }
-        ensures accepted { AcceptedIfWholePrepared S.set self.now
-            (λ pk signature. VerifiesPrepared S.set H.front pk signature (hashed hash.now ctx.now hash_oid.now)) result }
+        ensures accepted { AcceptedIfWholePrepared S.set H.front self.now (hashed hash.now ctx.now hash_oid.now) result }
     {
         self.try_hash_sign_with_rng(&mut DummyRng { bytes: *seed }, hash, ctx, hash_oid)
     }
@@ -123,8 +118,7 @@ where
     ) -> Result<[u8; SIG_LEN], Fault>
         ensures answer { DrawsIf hedged R.gives R.refuses rng.old rng.new Fault.InternalRng
             (λ rnd. sign_prepared S.set H.front self.now rnd (framed m.now)) result }
-        ensures accepted { AcceptedIfWholePrepared S.set self.now
-            (λ pk signature. VerifiesPrepared S.set H.front pk signature (framed m.now)) result }
+        ensures accepted { AcceptedIfWholePrepared S.set H.front self.now (framed m.now) result }
     {
         self.sign_mu(rng, &ml_dsa::mu::<H>(&[&self.key.tr, m]), hedged)
     }
@@ -138,9 +132,9 @@ where
     ) -> Result<[u8; SIG_LEN], Fault>
         ensures answer { DrawsIf hedged R.gives R.refuses rng.old rng.new Fault.InternalRng
             (λ rnd. sign_prepared S.set H.front self.now rnd (represented mu.now)) result }
-        ensures accepted { AcceptedIfWholePrepared S.set self.now (λ pk signature. VerifiesPrepared S.set H.front pk signature (represented mu.now)) result }
+        ensures accepted { AcceptedIfWholePrepared S.set H.front self.now (represented mu.now) result }
     {
-        self.sign_hash(mu, &draw_if(hedged, rng)?)
+        self.sign_mu_with_seed(mu, &draw_if(hedged, rng)?)
     }
 
     /// Signs each message with its own 32 random bytes, under one context: `out[i]` becomes the result of
@@ -194,7 +188,8 @@ where
         ctx: &[u8],
         hash_oid: &[u8],
     ) -> bool
-        ensures { IsTrue result ↔ VerifiesPrepared S.set H.front self.now signature.now (hashed hash.now ctx.now hash_oid.now) }
+        ensures { IsTrue result
+            ↔ VerifiesPrepared S.set H.front self.now signature.now (hashed hash.now ctx.now hash_oid.now) }
     {
         match ml_dsa::digest_mu::<H>(&self.key.tr, hash, ctx, hash_oid) {
             Ok(mu) => self.verify_mu(&mu, signature),
@@ -213,8 +208,7 @@ where
     pub fn verify_mu(&self, mu: &[u8; 64], sig: &[u8; SIG_LEN]) -> bool
         ensures { IsTrue result ↔ VerifiesPrepared S.set H.front self.now sig.now (represented mu.now) }
     {
-        let p = sized_params::<S, K, L, LAMBDA_DIV4, SIG_LEN>();
-        ml_dsa::verify_prepared::<K, L, LAMBDA_DIV4, SIG_LEN, H>(&p, self, mu, sig)
+        ml_dsa::verify_prepared::<K, L, LAMBDA_DIV4, SIG_LEN, H>(&S::params(), self, mu, sig)
     }
 
     /// Verifies each signature with its message, under one context: `out[i]` becomes the result of `verify`
@@ -228,7 +222,8 @@ where
     )
         requires signatures { length signatures.now ≡ length messages.now }
         requires room { length out.old ≡ length messages.now }
-        ensures { IsEachJudged (λ message signature. VerifiesPrepared S.set H.front self.now signature (plain message ctx.now))
+        ensures { IsEachJudged
+            (λ message signature. VerifiesPrepared S.set H.front self.now signature (plain message ctx.now))
             (map (λ m. m.now) messages.now) signatures.now out.new }
     {
         for i in 0..messages.len() {

@@ -34,23 +34,17 @@ use crate::types::{ML_DSA_44, ML_DSA_65, ML_DSA_87, Params};
 use crate::xof::{Fill, Sha256Ctr, Sha256CtrLong, Sha512Ctr, Sha512CtrLong, Xof};
 use fips204_base::Fault;
 
-/// The public key that is derived from the private key of a seed. It is the public key of the seed, and deriving
-/// adds no error.
-pub(crate) fn derived_of_seed<H: Xof, G: Xof>(xi: &[u8; 32]) -> Result<PublicKey<H, G>, Fault>
-    ensures { MatchResult (generated set_44 H.front G.front xi.now) (λ pair. result ≡ Ok pair.0) (λ fault. result ≡ Err fault) }
+/// The public key that is derived from the private key of a seed, and whether that private key is whole. It is the
+/// public key of the seed, the private key is whole, and neither call adds an error.
+pub(crate) fn pair_of_seed<H: Xof, G: Xof>(xi: &[u8; 32]) -> Result<(PublicKey<H, G>, bool), Fault>
+    ensures { MatchResult (generated set_44 H.front G.front xi.now) (λ (pk, _). result ≡ Ok (pk, true))
+        (λ fault. result ≡ Err fault) }
 {
     signed_is_accepted();
     let (_, private) = key_gen_internal::<4, 4, PK_LEN, H, G>(&ML_DSA_44, xi)?;
-    private.get_public_key()
-}
-
-/// Whether the private key of a seed is whole. It is, and asking adds no error.
-pub(crate) fn whole_of_seed<H: Xof, G: Xof>(xi: &[u8; 32]) -> Result<bool, Fault>
-    ensures { MatchResult (generated set_44 H.front G.front xi.now) (λ _. result ≡ Ok true) (λ fault. result ≡ Err fault) }
-{
-    signed_is_accepted();
-    let (_, private) = key_gen_internal::<4, 4, PK_LEN, H, G>(&ML_DSA_44, xi)?;
-    private.is_whole()
+    let derived = private.get_public_key()?;
+    let whole = private.is_whole()?;
+    Ok((derived, whole))
 }
 
 /// Whether the derived public key of a whole private key, prepared, accepts what the private key signs, prepared.
@@ -165,7 +159,8 @@ pub(crate) fn accepted_under_both<H: Xof, G: Xof>(
 
 /// Two messages under contexts that are short enough are the same where their framed messages are.
 pub(crate) fn one_message()
-    ensures { (m n c d : List ℕ) → input_fault (plain m c) ≡ None → input_fault (plain n d) ≡ None → frame 0 c m ≡ frame 0 d n → (m ≡ n) × (c ≡ d) }
+    ensures { (m n c d : List ℕ) → input_fault (plain m c) ≡ None → input_fault (plain n d) ≡ None
+        → frame 0 c m ≡ frame 0 d n → (m ≡ n) × (c ≡ d) }
 {
     framing();
 }
@@ -190,8 +185,10 @@ pub(crate) fn one_hint()
 
 /// A verdict over the streams in counter mode that is decided stays over the longer ones.
 pub(crate) fn decided_verdict()
-    ensures { (pk : PublicParts) (input : Input) (signature : List ℕ) → IsVerdictDecided set_44 sha256_front sha512_front pk signature
-        → VerifiesInput set_44 sha256_long_front sha512_long_front pk signature input → VerifiesInput set_44 sha256_front sha512_front pk signature input }
+    ensures { (pk : PublicParts) (input : Input) (signature : List ℕ)
+        → IsVerdictDecided set_44 sha256_front sha512_front pk signature
+        → VerifiesInput set_44 sha256_long_front sha512_long_front pk signature input
+        → VerifiesInput set_44 sha256_front sha512_front pk signature input }
 {
     counter_fronts();
     longer_front::<Sha256Ctr, Sha512Ctr, Sha256CtrLong, Sha512CtrLong>();
@@ -199,7 +196,8 @@ pub(crate) fn decided_verdict()
 
 /// Two blocks of any stream in counter mode are a prefix of five.
 pub(crate) fn two_blocks_of_five()
-    ensures { (hash : List ℕ → List ℕ) (seed : List ℕ) → IsPrefix (counter_blocks hash seed 2) (counter_blocks hash seed 5) }
+    ensures { (hash : List ℕ → List ℕ) (seed : List ℕ)
+        → IsPrefix (counter_blocks hash seed 2) (counter_blocks hash seed 5) }
 {
     counter_fronts();
 }
@@ -219,7 +217,8 @@ pub(crate) fn second_verdict<H: Xof>(
     signatures: &[[u8; SIG_LEN]; 2],
     ctx: &[u8],
 ) -> bool
-    ensures { IsTrue result ↔ VerifiesPrepared set_44 H.front key.now (slice_index_or signatures.now 1 []) (plain second.now ctx.now) }
+    ensures { IsTrue result
+        ↔ VerifiesPrepared set_44 H.front key.now (slice_index_or signatures.now 1 []) (plain second.now ctx.now) }
 {
     let mut answers = [false; 2];
     key.verify_each(&[first, second], signatures, ctx, &mut answers);
@@ -228,7 +227,8 @@ pub(crate) fn second_verdict<H: Xof>(
 
 /// The table of the butterflies, place by place.
 pub(crate) fn powers_by_place()
-    ensures { (m : ℕ) → m < 256 → slice_index_or ZETA_TABLE_MONT m (pos 0) ≡ pos (1753 ^ bit_reversed m % 8380417 * 4294967296 % 8380417) }
+    ensures { (m : ℕ) → m < 256
+        → slice_index_or ZETA_TABLE_MONT m (pos 0) ≡ pos (1753 ^ bit_reversed m % 8380417 * 4294967296 % 8380417) }
 {
     constants();
 }
@@ -236,7 +236,8 @@ pub(crate) fn powers_by_place()
 /// The last coefficient of a product, and of a polynomial, by way of transforms.
 pub(crate) fn last_by_transforms()
     ensures product { (a b : ℕ → ℕ) → inverse_transform (pointwise (transform a) (transform b)) 255 ≡ product a b 255 }
-    ensures back { (w : ℕ → ℕ) → (inverse_transform (transform w) 255 ≡ w 255 % 8380417) × (transform (inverse_transform w) 255 ≡ w 255 % 8380417) }
+    ensures back { (w : ℕ → ℕ) → (inverse_transform (transform w) 255 ≡ w 255 % 8380417)
+        × (transform (inverse_transform w) 255 ≡ w 255 % 8380417) }
 {
     product_of_transforms();
     inverse_of_transform();
@@ -246,9 +247,10 @@ pub(crate) fn last_by_transforms()
 pub(crate) fn rounding_of_44()
     ensures hint { (z r : ℕ) → r < 8380417 → z < 8380417 → nat_abs (centred (pos z)) ≤ 95232
         → use_hint 95232 (make_hint 95232 z r) r ≡ high_bits 95232 ((r + z) % 8380417) }
-    ensures near { (r : ℕ) → r < 8380417 → nat_abs (centred (pos r -ℤ pos (use_hint 95232 true r * (2 * 95232)))) ≤ 2 * 95232 + 1 }
-    ensures same { (r s : ℕ) → r < 8380417 → s < 8380417 → nat_abs (centred (pos s)) ≤ 78 → nat_abs (low_bits 95232 r) + 78 < 95232
-        → high_bits 95232 ((r + s) % 8380417) ≡ high_bits 95232 r }
+    ensures near { (r : ℕ) → r < 8380417
+        → nat_abs (centred (pos r -ℤ pos (use_hint 95232 true r * (2 * 95232)))) ≤ 2 * 95232 + 1 }
+    ensures same { (r s : ℕ) → r < 8380417 → s < 8380417 → nat_abs (centred (pos s)) ≤ 78
+        → nat_abs (low_bits 95232 r) + 78 < 95232 → high_bits 95232 ((r + s) % 8380417) ≡ high_bits 95232 r }
 {
     use_hint_of_make_hint();
     use_hint_distance();

@@ -1,8 +1,8 @@
 //! One attempt of signing: the body of the loop of FIPS 204, Algorithm 7.
 #![tactic(auto)]
 
-ghost use Rattle.std.specs.Prelude.{◌≡◌, ◌≤◌, ◌<◌, ℕ, pos, nat_abs};
-ghost use Rattle.fips204_base.specs.Vectors.{MatrixWithin, matrix_product, vector_coefficients, vector_of};
+ghost use Rattle.std.specs.Prelude.{◌≡◌, ◌≤◌, ◌<◌, pos, nat_abs};
+ghost use Rattle.fips204_base.specs.Vectors.{vector_coefficients, vector_of};
 ghost use Rattle.fips204_base.specs.Bounds.{VectorWithin, coefficient_of};
 ghost use Rattle.fips204_base.specs.Residues.{residue};
 ghost use Rattle.fips204_base.specs.Rounding.{IsGamma2, high_bits};

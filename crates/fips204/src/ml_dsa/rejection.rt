@@ -1,7 +1,7 @@
 //! The rejection checks of an attempt of signing (FIPS 204, Algorithm 7, lines 18 to 32).
 #![tactic(auto)]
 
-ghost use Rattle.std.specs.Prelude.{◌≡◌, ◌<◌, ◌≤◌, ◌+◌, ◌*◌, ◌%◌, ℕ, List, pos, nat_abs, nat_lt, ◌≤ℤ◌, Ok, Some, length};
+ghost use Rattle.std.specs.Prelude.{◌≡◌, ◌<◌, ◌≤◌, ◌+◌, ◌*◌, ◌%◌, ℕ, pos, nat_abs, nat_lt, ◌≤ℤ◌, Ok, Some, length};
 ghost use Rattle.fips204_base.specs.Residues.{centred, vector_norm, residue};
 ghost use Rattle.fips204_base.specs.Encodings.{all_ones};
 ghost use Rattle.fips204_base.specs.Vectors.{vector_coefficients, vector_of};
@@ -87,8 +87,8 @@ pub(crate) fn has_norm_below<const N: usize>(v: &[R; N], bound: i32) -> bool
 fn write_centred_sum<const L: usize>(z: &mut [R; L], y: &[R; L])
     requires mask { VectorWithin L 524288 y.now }
     requires product { VectorWithin L 8380416 z.old }
-    ensures value { z.new
-        ≡ vector_of L (λ r n. centred (pos (plus (vector_coefficients y.now r) (vector_coefficients z.old r) n))) }
+    ensures value { z.new ≡ vector_of L (λ r n.
+        centred (pos (plus (vector_coefficients y.now r) (vector_coefficients z.old r) n))) }
     ensures range { VectorWithin L 8380416 z.new }
 {
     write_zip_vectors(
@@ -144,8 +144,8 @@ fn hint<const K: usize>(gamma2: i32, v: &[R; K], t: &[R; K]) -> [R; K]
     requires set { IsGamma2 gamma2 }
     requires v { VectorWithin K 8380416 v.now }
     requires t { VectorWithin K 8380416 t.now }
-    ensures { result
-        ≡ vector_of K (λ r n. hint_bit (nat_abs gamma2) (vector_coefficients v.now r n) (vector_coefficients t.now r n)) }
+    ensures { result ≡ vector_of K (λ r n.
+        hint_bit (nat_abs gamma2) (vector_coefficients v.now r n) (vector_coefficients t.now r n)) }
 {
     zip_vectors(
         v,

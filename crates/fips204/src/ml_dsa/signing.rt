@@ -2,10 +2,8 @@
 #![tactic(auto)]
 
 ghost use Rattle.std.specs.Prelude.{◌≡◌, ◌≤◌};
-ghost use Rattle.fips204.specs.Completeness.{AcceptedIfWhole};
+ghost use Rattle.fips204.specs.Completeness.{AcceptedIfWholePlain};
 ghost use Rattle.fips204.specs.Framing.{represented};
-ghost use Rattle.fips204.specs.Keys.{IsWhole};
-ghost use Rattle.fips204.specs.Refusals.{derived, VerifiesInput};
 ghost use Rattle.fips204.specs.SigningInputs.{AreKeyTransforms};
 ghost use Rattle.fips204.specs.Sets.{HasSizes, set_of};
 ghost use Rattle.fips204.specs.Signing.{sign, sign_with};
@@ -41,8 +39,7 @@ pub fn sign_internal<
 ) -> Result<[u8; SIG_LEN], Fault>
     requires sizes { HasSizes (set_of p.now) K L LAMBDA_DIV4 SIG_LEN }
     ensures answer { result ≡ sign (set_of p.now) H.front G.front sk.now mu.now rnd.now }
-    ensures accepted { AcceptedIfWhole (IsWhole (set_of p.now) G.front sk.now) (derived (set_of p.now) G.front sk.now)
-        (λ pk signature. VerifiesInput (set_of p.now) H.front G.front pk signature (represented mu.now)) result }
+    ensures accepted { AcceptedIfWholePlain (set_of p.now) H.front G.front sk.now (represented mu.now) result }
 {
     prove!(K <= 8 && L <= 7);
     // A = ExpandA(rho)

@@ -1,9 +1,8 @@
 //! Verifying a signature (FIPS 204, Algorithm 8).
 #![tactic(auto)]
 
-ghost use Rattle.std.specs.Prelude.{◌≡◌, ◌≤◌, ◌<◌, ◌⊎◌, ◌-◌, ◌*◌, ◌%◌, ◌≤ℤ◌, ◌↔◌, ℕ, List, pos, nat_abs, IsTrue, Some, int_lt, IfSome, MatchOption};
+ghost use Rattle.std.specs.Prelude.{◌≡◌, ◌≤◌, ◌<◌, ◌⊎◌, ◌-◌, ◌*◌, ◌%◌, ◌≤ℤ◌, ◌↔◌, ℕ, List, pos, nat_abs, IsTrue, int_lt, IfSome, MatchOption};
 ghost use Rattle.std.specs.List.{All};
-ghost use Rattle.fips204_base.specs.Sampling.{challenge};
 ghost use Rattle.fips204_base.specs.Vectors.{IsVector, vector_coefficients};
 ghost use Rattle.fips204_base.specs.Bounds.{PolynomialWithin, VectorWithin, PolynomialInRange};
 ghost use Rattle.fips204_base.specs.Residues.{residue, coefficients};
@@ -13,7 +12,7 @@ ghost use Rattle.fips204_base.specs.declared.types.R.{R};
 ghost use Rattle.fips204.specs.Acceptance.{Accepts, Verifies};
 ghost use Rattle.fips204.specs.ParameterSets.{c_tilde_length};
 ghost use Rattle.fips204.specs.Signing.{commitment_hash};
-ghost use Rattle.fips204.specs.SigningInputs.{HasShortParts, IsHighPart, hinted, AreShifted};
+ghost use Rattle.fips204.specs.SigningInputs.{IsHighPart, hinted, AreShifted, OpensTo};
 ghost use Rattle.fips204.specs.Sets.{HasSizes, set_of};
 
 use super::commitment_hash::commitment_hash;
@@ -97,8 +96,9 @@ fn is_committed<const K: usize, const LAMBDA_DIV4: usize, H: Xof>(
     requires size { LAMBDA_DIV4 ≡ c_tilde_length (set_of p.now) }
     requires hint { IsVector K 0 1 h.now }
     requires challenge { PolynomialWithin 8380416 c.now.0 }
-    ensures { IsTrue result ↔ (c_tilde.now ≡ commitment_hash (set_of p.now) H.front mu.now (hinted (set_of p.now) h.now (λ r.
-        minus (vector_coefficients az.old r) (product (coefficients c.now.0) (vector_coefficients t1_hat.now r))))) }
+    ensures { IsTrue result ↔ (c_tilde.now ≡ commitment_hash (set_of p.now) H.front mu.now
+        (hinted (set_of p.now) h.now (λ r. minus (vector_coefficients az.old r)
+        (product (coefficients c.now.0) (vector_coefficients t1_hat.now r))))) }
 {
     // w'_approx = A z - c t1 2^d
     az.subtract_multiple(&Factor::of(c), t1_hat);
@@ -119,10 +119,11 @@ fn opened<const K: usize, const L: usize, const LAMBDA_DIV4: usize, const SIG_LE
     sig: &[u8; SIG_LEN],
 ) -> Option<([u8; LAMBDA_DIV4], [R; L], [R; K], R)>
     requires sizes { HasSizes (set_of p.now) K L LAMBDA_DIV4 SIG_LEN }
-    ensures within { IfSome result (λ parts. ((K ≤ 8) × (L ≤ 7)) × VectorWithin L 8380416 parts.1 × PolynomialWithin 8380416 parts.3.0) }
+    ensures within { IfSome result (λ parts. ((K ≤ 8) × (L ≤ 7))
+        × VectorWithin L 8380416 parts.1 × PolynomialWithin 8380416 parts.3.0) }
     ensures parts { MatchOption result
-        ((c_tilde : List ℕ) (z h : List R) (c : R) → HasShortParts (set_of p.now) sig.now c_tilde z h → challenge (nat_abs p.now.tau) (H.front c_tilde) ≡ Some c → ⊥)
-        (λ parts. HasShortParts (set_of p.now) sig.now parts.0 parts.1 parts.2 × (challenge (nat_abs p.now.tau) (H.front parts.0) ≡ Some parts.3)) }
+        ((c_tilde : List ℕ) (z h : List R) (c : R) → OpensTo (set_of p.now) H.front sig.now c_tilde z h c → ⊥)
+        (λ parts. OpensTo (set_of p.now) H.front sig.now parts.0 parts.1 parts.2 parts.3) }
 {
     // (c_tilde, z, h) = sigDecode(sigma)
     let (c_tilde, z, h) = sig_decode::<K, L, LAMBDA_DIV4, SIG_LEN>(p.gamma1, p.omega, sig)?;

@@ -1,7 +1,7 @@
 //! Whether a private key is whole (FIPS 204, Algorithm 6, lines 3 to 6), and half of a pair.
 #![tactic(auto)]
 
-ghost use Rattle.std.specs.Prelude.{◌≡◌, ◌↔◌, IsTrue};
+ghost use Rattle.std.specs.Prelude.{◌≡◌};
 ghost use Rattle.fips204.specs.Completeness.{TellsPair};
 ghost use Rattle.fips204.specs.Keys.{TellsWhole};
 ghost use Rattle.fips204.specs.ParameterSets.{public_key_length};

@@ -7,8 +7,9 @@
 //! not refused.
 #![tactic(auto)]
 
-ghost use Rattle.std.specs.Prelude.{◌≡◌, MatchResult, Some, None};
+ghost use Rattle.std.specs.Prelude.{◌≡◌};
 ghost use Rattle.fips204.specs.Framing.{digest_length, pre_hash_fault};
+ghost use Rattle.fips204.specs.Refusals.{refused_or};
 ghost use Rattle.fips204.specs.SigningInputs.{has_oid_form};
 
 use fips204_base::Fault;
@@ -17,64 +18,40 @@ use fips204_base::Fault;
 pub const MAX_PREHASH_LEN: usize = 1024;
 
 /// SHA-224, with a digest of 28 bytes.
-pub const SHA2_224: [u8; 11] = [
-    0x06, 0x09, 0x60, 0x86, 0x48, 0x01, 0x65, 0x03, 0x04, 0x02, 0x04,
-];
+pub const SHA2_224: [u8; 11] = *b"\x06\x09\x60\x86\x48\x01\x65\x03\x04\x02\x04";
 
 /// SHA-256, with a digest of 32 bytes.
-pub const SHA2_256: [u8; 11] = [
-    0x06, 0x09, 0x60, 0x86, 0x48, 0x01, 0x65, 0x03, 0x04, 0x02, 0x01,
-];
+pub const SHA2_256: [u8; 11] = *b"\x06\x09\x60\x86\x48\x01\x65\x03\x04\x02\x01";
 
 /// SHA-384, with a digest of 48 bytes.
-pub const SHA2_384: [u8; 11] = [
-    0x06, 0x09, 0x60, 0x86, 0x48, 0x01, 0x65, 0x03, 0x04, 0x02, 0x02,
-];
+pub const SHA2_384: [u8; 11] = *b"\x06\x09\x60\x86\x48\x01\x65\x03\x04\x02\x02";
 
 /// SHA-512, with a digest of 64 bytes.
-pub const SHA2_512: [u8; 11] = [
-    0x06, 0x09, 0x60, 0x86, 0x48, 0x01, 0x65, 0x03, 0x04, 0x02, 0x03,
-];
+pub const SHA2_512: [u8; 11] = *b"\x06\x09\x60\x86\x48\x01\x65\x03\x04\x02\x03";
 
 /// SHA-512/224, with a digest of 28 bytes.
-pub const SHA2_512_224: [u8; 11] = [
-    0x06, 0x09, 0x60, 0x86, 0x48, 0x01, 0x65, 0x03, 0x04, 0x02, 0x05,
-];
+pub const SHA2_512_224: [u8; 11] = *b"\x06\x09\x60\x86\x48\x01\x65\x03\x04\x02\x05";
 
 /// SHA-512/256, with a digest of 32 bytes.
-pub const SHA2_512_256: [u8; 11] = [
-    0x06, 0x09, 0x60, 0x86, 0x48, 0x01, 0x65, 0x03, 0x04, 0x02, 0x06,
-];
+pub const SHA2_512_256: [u8; 11] = *b"\x06\x09\x60\x86\x48\x01\x65\x03\x04\x02\x06";
 
 /// SHA3-224, with a digest of 28 bytes.
-pub const SHA3_224: [u8; 11] = [
-    0x06, 0x09, 0x60, 0x86, 0x48, 0x01, 0x65, 0x03, 0x04, 0x02, 0x07,
-];
+pub const SHA3_224: [u8; 11] = *b"\x06\x09\x60\x86\x48\x01\x65\x03\x04\x02\x07";
 
 /// SHA3-256, with a digest of 32 bytes.
-pub const SHA3_256: [u8; 11] = [
-    0x06, 0x09, 0x60, 0x86, 0x48, 0x01, 0x65, 0x03, 0x04, 0x02, 0x08,
-];
+pub const SHA3_256: [u8; 11] = *b"\x06\x09\x60\x86\x48\x01\x65\x03\x04\x02\x08";
 
 /// SHA3-384, with a digest of 48 bytes.
-pub const SHA3_384: [u8; 11] = [
-    0x06, 0x09, 0x60, 0x86, 0x48, 0x01, 0x65, 0x03, 0x04, 0x02, 0x09,
-];
+pub const SHA3_384: [u8; 11] = *b"\x06\x09\x60\x86\x48\x01\x65\x03\x04\x02\x09";
 
 /// SHA3-512, with a digest of 64 bytes.
-pub const SHA3_512: [u8; 11] = [
-    0x06, 0x09, 0x60, 0x86, 0x48, 0x01, 0x65, 0x03, 0x04, 0x02, 0x0A,
-];
+pub const SHA3_512: [u8; 11] = *b"\x06\x09\x60\x86\x48\x01\x65\x03\x04\x02\x0A";
 
 /// SHAKE128, with a digest of 32 bytes.
-pub const SHAKE_128: [u8; 11] = [
-    0x06, 0x09, 0x60, 0x86, 0x48, 0x01, 0x65, 0x03, 0x04, 0x02, 0x0B,
-];
+pub const SHAKE_128: [u8; 11] = *b"\x06\x09\x60\x86\x48\x01\x65\x03\x04\x02\x0B";
 
 /// SHAKE256, with a digest of 64 bytes.
-pub const SHAKE_256: [u8; 11] = [
-    0x06, 0x09, 0x60, 0x86, 0x48, 0x01, 0x65, 0x03, 0x04, 0x02, 0x0C,
-];
+pub const SHAKE_256: [u8; 11] = *b"\x06\x09\x60\x86\x48\x01\x65\x03\x04\x02\x0C";
 
 /// The twelve hash functions by the last byte of the identifier, with the lengths of their digests in bytes.
 const DIGEST_LENS: [([u8; 11], usize); 12] = [
@@ -115,13 +92,12 @@ fn has_der_form(oid: &[u8]) -> bool
 
 /// Checks a digest and the object identifier of its hash function before they are signed or verified.
 ///
-/// Errors, in this order: `Fault::OidEmpty` if the identifier is empty; `Fault::OidNotDer` if it is not a
-/// valid DER object identifier; `Fault::DigestTooLong` if the digest has more than 1024 bytes;
-/// `Fault::DigestLength` if the identifier is one of the twelve and the digest does not have the output
-/// length of its hash function.
+/// Errors, in this order: `Fault::OidEmpty` if the identifier is empty; `Fault::OidNotDer` if it is not a valid DER
+/// object identifier; `Fault::DigestTooLong` if the digest has more than 1024 bytes; `Fault::DigestLength` if the
+/// identifier is one of the twelve and the digest does not have the output length of its hash function.
 #[tactic(auto, unfolding(crate::specs::Framing::pre_hash_fault))]
 pub fn check_pre_hash(hash: &[u8], oid: &[u8]) -> Result<(), Fault>
-    ensures { MatchResult result (λ _. pre_hash_fault hash.now oid.now ≡ None) (λ fault. pre_hash_fault hash.now oid.now ≡ Some fault) }
+    ensures { result ≡ refused_or (pre_hash_fault hash.now oid.now) (Ok tt) }
 {
     if oid.is_empty() {
         return Err(Fault::OidEmpty);

@@ -32,8 +32,7 @@ impl KeyTransforms {
 /// A private key of a set with a matrix of `K` rows and `L` columns, over the stream `H`, with its matrix and
 /// the transforms of its vectors.
 ///
-/// Contracts see it as the private key's parts and the matrix, whose entries are the transforms of the plain
-/// matrix.
+/// Contracts see it as the private key's parts and the matrix, whose entries are the transforms of the plain matrix.
 #[derive(Drop)]
 pub struct PreparedPrivateKey<const K: usize, const L: usize, H> {
     pub(crate) key: PrivateKey<K, L, H, ()>,
@@ -80,8 +79,7 @@ impl<'a, const K: usize, const L: usize, H, G> Model for SigningKey<'a, K, L, H,
 /// A public key of a set with a matrix of `K` rows and `L` columns, over the stream `H`, with its matrix and the
 /// transforms of `t1 2^d`.
 ///
-/// Contracts see it as the public key's parts and the matrix, whose entries are the transforms of the plain
-/// matrix.
+/// Contracts see it as the public key's parts and the matrix, whose entries are the transforms of the plain matrix.
 #[derive(Drop)]
 pub struct PreparedPublicKey<const K: usize, const L: usize, H> {
     pub(crate) key: PublicKey<K, L, H, ()>,

@@ -1,19 +1,11 @@
-use Rattle.std.proofs.Common.{rules, List, ℕ}
-use Rattle.fips204.specs.Acceptance.{Verifies}
+use Rattle.std.proofs.Common.{rules}
 use Rattle.fips204.specs.Framing.{plain}
-use Rattle.fips204_base.specs.Encodings.{PublicParts}
-use Rattle.fips204.specs.Keys.{IsWhole}
-use Rattle.fips204.specs.Refusals.{derived}
-use Rattle.fips204.proofs.RefusedCalls.{accepted_input}
-use Rattle.fips204.proofs.WholeKeys.{derived_hash}
+use Rattle.fips204.proofs.SeedKeys.{input_accepted}
 use Rattle.fips204.proofs.keys.PrivateKeySigner.try_sign_with_rng.Goals as goal
 
 pub returns-clause-accepted : goal.returns-clause-accepted
 returns-clause-accepted g c =
-    let p = g.S.Set.set in
-    let sk = c.args.self.now in
-    accepted_input g.H.Xof.front sk.tr c.in_ok-mu.mu (plain c.args.message.now c.args.ctx.now) (IsWhole p g.G.Xof.front sk) (derived p g.G.Xof.front sk) (λ (pk : PublicParts). pk.tr)
-    (λ (pk : PublicParts) (mu signature : List ℕ). Verifies p g.H.Xof.front g.G.Xof.front pk mu signature) c.sign_hash.result (λ pk d. derived_hash p g.G.Xof.front sk pk d) (search rules) c.sign_hash.ensures.accepted
+    input_accepted g.S.Set.set g.H.Xof.front g.G.Xof.front c.args.self.now (plain c.args.message.now c.args.ctx.now) c.in_ok-mu.mu c.sign_mu_with_seed.result (search rules) c.sign_mu_with_seed.ensures.accepted
 
 pub returns-clause-answer : goal.returns-clause-answer
 returns-clause-answer g c = search rules

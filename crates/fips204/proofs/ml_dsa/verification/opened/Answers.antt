@@ -23,7 +23,7 @@ sig_decode-requires g c =
     let some = limits p (search rules) in
     let ones : nat_abs p.omega + g.row.K < 256 = rw c.requires.sizes.rows some.hint_size in
     let size = c.requires.sizes.signature ∙ signature-size p.gamma1 (c_tilde_length (set_of p)) p.k p.l (nat_abs p.omega) some.mask in
-    (search rules, (search rules, (search rules, (search rules, (rw M some.mask, (rw O some.some_ones, (rw O ones, rw (M, O, c.requires.sizes.rows, c.requires.sizes.columns, c.requires.sizes.c_tilde_size) size)))))))
+    (search rules, (search rules, (search rules, (search rules, (rw M some.mask, (rw O some.some_ones, (rw O ones, rw (M, O, c.requires.sizes.rows, c.requires.sizes.columns, c.requires.sizes.c_tilde) size)))))))
 
 pub has_norm_below-requires : goal.has_norm_below-requires
 has_norm_below-requires g c =
@@ -49,7 +49,7 @@ decoded g c =
     let p = c.args.p.now in
     let M : to_z w32 (of_z w32 p.gamma1) ≡ p.gamma1 = search rules in
     let O : to_z w32 (of_z w32 p.omega) ≡ p.omega = search rules in
-    rw (M, O, c.requires.sizes.rows, c.requires.sizes.columns, c.requires.sizes.c_tilde_size) at c.in_ok-c_tilde.ensures
+    rw (M, O, c.requires.sizes.rows, c.requires.sizes.columns, c.requires.sizes.c_tilde) at c.in_ok-c_tilde.ensures
 
 bound-is : (g : Over) (c : After-has_norm_below g) → nat_abs (to_z w32 (of_z w32 c.z_bound.result)) ≡ (set_of c.args.p.now).gamma1 - (set_of c.args.p.now).beta
 bound-is g c = ap nat_abs (to_z-of_z w32 c.z_bound.result (search rules) ∙ c.z_bound.ensures)
@@ -60,7 +60,7 @@ returns-then-not-has_norm_below-clause-parts g c =
     let k = (goal.at.returns-then-not-has_norm_below-clause-parts g c).After-has_norm_below in
     let sizes = mask-size c.args.p.now.gamma1 (limits c.args.p.now (search rules)).mask in
     let test = rw (bound-is g k) at c.has_norm_below.ensures in
-    λ c_tilde z h ball found there. absurd (true≢false (sym (test ∙ lt-ltb _ _ (same_norm p c.args.sig.now c.in_ok-c_tilde.c_tilde c_tilde c.in_ok-c_tilde.z z c.in_ok-c_tilde.h h
+    λ c_tilde z h ball found. absurd (true≢false (sym (test ∙ lt-ltb _ _ (same_norm p g.H.Xof.front c.args.sig.now c.in_ok-c_tilde.c_tilde c_tilde c.in_ok-c_tilde.z z c.in_ok-c_tilde.h h ball
     sizes.0 (omega (arith, sizes.1)) (decoded g k) found)) ∙ c.if-not-has_norm_below.true))
 
 pub returns-in-Err-clause-parts : goal.returns-in-Err-clause-parts
@@ -72,10 +72,10 @@ returns-in-Err-clause-parts g c =
     let sizes = mask-size p.gamma1 (limits p (search rules)).mask in
     let fault = none_of_err (challenge (nat_abs (to_z w32 (of_z w32 p.tau))) (front c.in_ok-c_tilde.c_tilde)) c.in-Err.field-0 c.in-Err.ensures in
     let here : challenge (nat_abs p.tau) (front c.in_ok-c_tilde.c_tilde) ≡ None = rw T at fault.0 in
-    λ c_tilde z h ball found there.
+    λ c_tilde z h ball found.
     let same = same_signature (nat_abs p.gamma1) (nat_abs p.omega) p.k p.l (c_tilde_length (set_of p)) c.args.sig.now c.in_ok-c_tilde.c_tilde c_tilde c.in_ok-c_tilde.z z c.in_ok-c_tilde.h h
     sizes.0 (omega (arith, sizes.1)) (decoded g k) found.parts in
-    absurd (none-some ball (sym here ∙ ap (λ (x : List ℕ). challenge (nat_abs p.tau) (front x)) same.0 ∙ there))
+    absurd (none-some ball (sym here ∙ ap (λ (x : List ℕ). challenge (nat_abs p.tau) (front x)) same.0 ∙ found.sampled))
 
 pub returns-in-Ok-clause-parts : goal.returns-in-Ok-clause-parts
 returns-in-Ok-clause-parts g c =
@@ -84,7 +84,7 @@ returns-in-Ok-clause-parts g c =
     let front = g.H.Xof.front in
     let T : to_z w32 (of_z w32 p.tau) ≡ p.tau = search rules in
     let ball = some_of_ok (challenge (nat_abs (to_z w32 (of_z w32 p.tau))) (front c.in_ok-c_tilde.c_tilde)) c.in-Ok.c c.in-Ok.ensures in
-    (record { parts = decoded g k; norm = ltb-true _ _ (sym (rw (bound-is g k) at c.has_norm_below.ensures) ∙ c.if-not-has_norm_below.false) }, rw T at ball)
+    record { parts = decoded g k; norm = ltb-true _ _ (sym (rw (bound-is g k) at c.has_norm_below.ensures) ∙ c.if-not-has_norm_below.false); sampled = rw T at ball }
 
 pub returns-in-Ok-clause-within : goal.returns-in-Ok-clause-within
 returns-in-Ok-clause-within g c =

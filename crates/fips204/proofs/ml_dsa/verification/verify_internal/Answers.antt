@@ -1,10 +1,13 @@
-use Rattle.std.proofs.Common.{rules, ◌≡◌, ◌∙◌, Some, ap}
+use Rattle.std.proofs.Common.{rules, ◌≡◌, ◌∙◌, Some, ap, sym, true≢false}
 use Rattle.fips204_base.specs.Sampling.{sampled_matrix}
 use Rattle.fips204_base.proofs.PlainTransforms.{matrix-same}
 use Rattle.fips204_base.specs.Encodings.{PublicParts}
 use Rattle.fips204.specs.Sets.{set_of}
-use Rattle.fips204.proofs.Verification.{commitment-decides, verifies-with}
+use Rattle.fips204.proofs.Verification.{commitment-decides, unopened, verifies-with}
 use Rattle.fips204.proofs.ml_dsa.verification.verify_internal.Goals as goal
+
+pub returns-in_default : goal.returns-in_default
+returns-in_default g c = (λ t. absurd (true≢false (sym t)), λ v. absurd (unopened _ _ _ _ _ _ c.in_default.ensures.parts v.accepted))
 
 pub returns-in-Ok : goal.returns-in-Ok
 returns-in-Ok g c =
@@ -16,7 +19,7 @@ returns-in-Ok g c =
     let matrix : sampled_matrix g.G.Xof.front c.args.pk.now.rho p.k p.l ≡ Some sampled.0 = rw (rho, c.requires.sizes.rows, c.requires.sizes.columns) at there in
     let z = c.in-Some.parts.1 in
     let decided = commitment-decides p g.H.Xof.front sampled.0 c.pk.inside.t1 c.args.mu.now c.args.sig.now c.in-Some.parts.0 z c.in-Some.parts.2 c.in-Some.parts.3 c.write_sampled_product.new.out c.write_shifted_transforms.new.out g.row.K g.row.L c.is_committed.result
-    (search rules) c.requires.sizes.rows c.requires.sizes.columns c.in-Some.ensures.parts.0 c.in-Some.ensures.parts.1
+    (search rules) c.requires.sizes.rows c.requires.sizes.columns c.in-Some.ensures.parts
     (λ r n h l. sampled.2 r n h l ∙ matrix-same g.row.L sampled.0 c.write_transforms.new.self z r n c.write_transforms.ensures l)
     c.write_shifted_transforms.ensures c.is_committed.ensures in
     verifies-with (set_of p) g.H.Xof.front g.G.Xof.front c.args.pk.now c.args.mu.now c.args.sig.now sampled.0 c.is_committed.result matrix (rw t1 at decided)

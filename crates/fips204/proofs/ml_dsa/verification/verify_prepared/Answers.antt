@@ -3,16 +3,11 @@ use Rattle.fips204_base.specs.Vectors.{vector_coefficients, matrix_product}
 use Rattle.fips204_base.proofs.PlainTransforms.{matrix-same}
 use Rattle.fips204.specs.SigningInputs.{AreShifted}
 use Rattle.fips204.specs.Prepared.{PreparedPublic}
-use Rattle.fips204.proofs.Verification.{commitment-decides}
+use Rattle.fips204.proofs.Verification.{commitment-decides, unopened}
 use Rattle.fips204.proofs.ml_dsa.verification.verify_prepared.Goals as goal
 
 pub returns-in_default : goal.returns-in_default
-returns-in_default g c = (
-  λ t. absurd (true≢false (sym t)),
-  λ v.
-      let o = v.opened in
-      absurd (c.in_default.ensures.parts v.c_tilde o.z o.h o.c (record { parts = o.parts; norm = o.norm }) o.sampled),
-)
+returns-in_default g c = (λ t. absurd (true≢false (sym t)), λ v. absurd (unopened _ _ _ _ _ _ c.in_default.ensures.parts v))
 
 pub returns : goal.returns
 returns g c =
@@ -20,7 +15,7 @@ returns g c =
     let z = c.in-Some.parts.1 in
     let shifted : AreShifted g.row.K c.args.pk.now.parts.t1 c.pk.inside.t1_hat = subst (λ (k : PreparedPublic). AreShifted g.row.K k.parts.t1 c.pk.inside.t1_hat) c.pk.view_is c.pk.invariant.1 in
     commitment-decides p g.H.Xof.front c.args.pk.now.matrix c.args.pk.now.parts.t1 c.args.mu.now c.args.sig.now c.in-Some.parts.0 z c.in-Some.parts.2 c.in-Some.parts.3 c.multiply_by.new.self c.pk.inside.t1_hat g.row.K g.row.L c.is_committed.result
-    (search rules) c.requires.sizes.rows c.requires.sizes.columns c.in-Some.ensures.parts.0 c.in-Some.ensures.parts.1
+    (search rules) c.requires.sizes.rows c.requires.sizes.columns c.in-Some.ensures.parts
     (λ r n h l. subst (λ (k : PreparedPublic). vector_coefficients c.multiply_by.new.self r n ≡ matrix_product g.row.L k.matrix (vector_coefficients z) r n) c.pk.view_is
     (c.multiply_by.ensures r n h l ∙ matrix-same g.row.L c.pk.inside.a_hat c.write_transforms.new.self z r n c.write_transforms.ensures l))
     shifted c.is_committed.ensures

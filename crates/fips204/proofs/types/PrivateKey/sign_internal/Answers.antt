@@ -1,12 +1,8 @@
 use Rattle.std.proofs.Common.{rules, ◌≡◌, List, ℕ, Ok, ap, subst}
-use Rattle.fips204.specs.Acceptance.{Verifies}
 use Rattle.fips204_base.specs.declared.fault.Fault.TheVariants.{InternalRng}
 use Rattle.fips204.specs.Framing.{framed, represented, representative}
-use Rattle.fips204_base.specs.Encodings.{PublicParts}
-use Rattle.fips204.specs.Keys.{IsWhole}
-use Rattle.fips204.specs.Refusals.{derived, sign_input, DrawsIf}
-use Rattle.fips204.proofs.RefusedCalls.{accepted_input}
-use Rattle.fips204.proofs.WholeKeys.{derived_hash}
+use Rattle.fips204.specs.Refusals.{sign_input, DrawsIf}
+use Rattle.fips204.proofs.SeedKeys.{input_accepted}
 use Rattle.fips204.proofs.types.PrivateKey.sign_internal.Goals as goal
 
 pub returns-clause-answer : goal.returns-clause-answer
@@ -16,8 +12,5 @@ returns-clause-answer g c =
 
 pub returns-clause-accepted : goal.returns-clause-accepted
 returns-clause-accepted g c =
-    let p = g.S.Set.set in
-    let sk = c.args.self.now in
-    let mu : c.mu.result ≡ representative g.H.Xof.front sk.tr (framed c.args.m.now) = search rules in
-    accepted_input g.H.Xof.front sk.tr c.mu.result (framed c.args.m.now) (IsWhole p g.G.Xof.front sk) (derived p g.G.Xof.front sk) (λ (pk : PublicParts). pk.tr)
-    (λ (pk : PublicParts) (mu signature : List ℕ). Verifies p g.H.Xof.front g.G.Xof.front pk mu signature) c.sign_mu.result (λ pk d. derived_hash p g.G.Xof.front sk pk d) (ap Ok mu) c.sign_mu.ensures.accepted
+    let mu : c.mu.result ≡ representative g.H.Xof.front c.args.self.now.tr (framed c.args.m.now) = search rules in
+    input_accepted g.S.Set.set g.H.Xof.front g.G.Xof.front c.args.self.now (framed c.args.m.now) c.mu.result c.sign_mu.result (ap Ok mu) c.sign_mu.ensures.accepted

@@ -5,4 +5,4 @@ use Rattle.fips204.proofs.types.prepared.PreparedPrivateKey.try_hash_sign_with_r
 
 pub returns-clause-accepted : goal.returns-clause-accepted
 returns-clause-accepted g c =
-    input_accepted_prepared g.S.Set.set g.H.Xof.front c.args.self.now (hashed c.args.hash.now c.args.ctx.now c.args.hash_oid.now) c.in_ok-mu.mu c.sign_hash.result (search rules) c.sign_hash.ensures.accepted
+    input_accepted_prepared g.S.Set.set g.H.Xof.front c.args.self.now (hashed c.args.hash.now c.args.ctx.now c.args.hash_oid.now) c.in_ok-mu.mu c.sign_mu_with_seed.result (search rules) c.sign_mu_with_seed.ensures.accepted

@@ -5,7 +5,7 @@ use Rattle.fips204.proofs.types.prepared.PreparedPrivateKey.try_sign_with_rng.Go
 
 pub returns-clause-accepted : goal.returns-clause-accepted
 returns-clause-accepted g c =
-    input_accepted_prepared g.S.Set.set g.H.Xof.front c.args.self.now (plain c.args.message.now c.args.ctx.now) c.in_ok-mu.mu c.sign_hash.result (search rules) c.sign_hash.ensures.accepted
+    input_accepted_prepared g.S.Set.set g.H.Xof.front c.args.self.now (plain c.args.message.now c.args.ctx.now) c.in_ok-mu.mu c.sign_mu_with_seed.result (search rules) c.sign_mu_with_seed.ensures.accepted
 
 pub returns-clause-answer : goal.returns-clause-answer
 returns-clause-answer g c = search rules

@@ -1,7 +1,13 @@
-use Rattle.std.proofs.Common.{refl}
+use Rattle.std.proofs.Common.{rules, refl}
+use Rattle.fips204.specs.Sets.{HasSizes, set_of}
 use Rattle.fips204.proofs.types.prepared.PreparedPublicKey.verify_mu.Goals as goal
+
+pub verify_prepared-requires : goal.verify_prepared-requires
+verify_prepared-requires g c =
+    let sizes : HasSizes (set_of c.params.result) g.row.K g.row.L g.row.LAMBDA_DIV4 g.row.SIG_LEN = rw c.params.ensures g.met.S.SignatureSizes.sizes in
+    search rules
 
 pub returns : goal.returns
 returns g c =
-    let verdict = rw c.sized_params-p.ensures.row at c.verify_prepared.ensures in
+    let verdict = rw c.params.ensures at c.verify_prepared.ensures in
     (λ t. (refl, verdict.0 t), λ v. verdict.1 v.1)

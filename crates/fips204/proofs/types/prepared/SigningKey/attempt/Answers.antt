@@ -54,7 +54,7 @@ pub commitment_hash-c_tilde-requires : goal.commitment_hash-c_tilde-requires
 commitment_hash-c_tilde-requires g c =
     let p = c.args.p.now in
     let w1 : c.high_vector-w1.result ≡ vector_of g.row.K (λ r n. pos (high_bits (nat_abs p.gamma2) (vector_coefficients c.write_matrix_product.new.out r n))) = rw (to_z-of_z w32 p.gamma2 (search rules)) at c.high_vector-w1.ensures in
-    (omega (arith, c.requires.inputs.sizes.rows, (limits c.args.p.now (search rules)).few_rows), (search rules, (c.requires.inputs.sizes.rows, (c.requires.inputs.sizes.c_tilde_size, high-range p.gamma2 g.row.K c.write_matrix_product.new.out c.high_vector-w1.result (limits p (search rules)).rounding w1))))
+    (omega (arith, c.requires.inputs.sizes.rows, (limits c.args.p.now (search rules)).few_rows), (search rules, (c.requires.inputs.sizes.rows, (c.requires.inputs.sizes.c_tilde, high-range p.gamma2 g.row.K c.write_matrix_product.new.out c.high_vector-w1.result (limits p (search rules)).rounding w1))))
 
 pub sample_in_ball-requires : goal.sample_in_ball-requires
 sample_in_ball-requires g c =

@@ -159,7 +159,7 @@ sig_encode-requires g c =
                 (
                   rw (omega_is, c.requires.inputs.sizes.rows) known.hint_size,
                   (
-                    rw (gamma1, omega_is) (signature_size p _ _ _ _ known.mask c.requires.inputs.sizes.rows c.requires.inputs.sizes.columns c.requires.inputs.sizes.c_tilde_size c.requires.inputs.sizes.signature),
+                    rw (gamma1, omega_is) (signature_size p _ _ _ _ known.mask c.requires.inputs.sizes.rows c.requires.inputs.sizes.columns c.requires.inputs.sizes.c_tilde c.requires.inputs.sizes.signature),
                     (
                       rw gamma1 (response-range p.gamma1 (nat_abs p.gamma1 - nat_abs p.beta) g.row.L (λ r n. pos (y_plus_cs1 c.self.inside.key.now.s1 c.args.y.now c.args.c.now r n)) c.write_centred_sum.new.z known.mask (omega arith) sum (ltb-true _ _ (sym test))),
                       (rw hint (hint-range g.row.K (nat_abs p.gamma2) (vector_coefficients c.write_difference.new.v) (vector_coefficients c.write_plain-3.new.out)).range, rw c.number_of_ones.ensures at c.if-number_of_ones-p.false),
