@@ -383,14 +383,12 @@ where
     {
         let rho = self.rho;
         let mut pk = PreparedPublicKey {
-            key: PublicKey {
-                rho,
-                tr: self.tr,
-                t1: self.t1,
-                streams: PhantomData,
-            },
+            rho,
+            tr: self.tr,
+            t1: self.t1,
             a_hat: [[T0; L]; K],
             t1_hat: Transforms::zeros(),
+            stream: PhantomData,
         };
         write_expanded_a::<K, L, G>(&rho, &mut pk.a_hat)?;
         ml_dsa::write_shifted_transforms(&self.t1, &mut pk.t1_hat);

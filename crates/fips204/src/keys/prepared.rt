@@ -174,7 +174,7 @@ where
     pub fn verify(&self, message: &[u8], signature: &[u8; SIG_LEN], ctx: &[u8]) -> bool
         ensures { IsTrue result ↔ VerifiesPrepared S.set H.front self.now signature.now (plain message.now ctx.now) }
     {
-        match ml_dsa::message_mu::<H>(&self.key.tr, message, ctx) {
+        match ml_dsa::message_mu::<H>(&self.tr, message, ctx) {
             Ok(mu) => self.verify_mu(&mu, signature),
             Err(_) => false,
         }
@@ -191,7 +191,7 @@ where
         ensures { IsTrue result
             ↔ VerifiesPrepared S.set H.front self.now signature.now (hashed hash.now ctx.now hash_oid.now) }
     {
-        match ml_dsa::digest_mu::<H>(&self.key.tr, hash, ctx, hash_oid) {
+        match ml_dsa::digest_mu::<H>(&self.tr, hash, ctx, hash_oid) {
             Ok(mu) => self.verify_mu(&mu, signature),
             Err(_) => false,
         }
@@ -201,7 +201,7 @@ where
     pub fn verify_internal(&self, m: &[u8], sig: &[u8; SIG_LEN]) -> bool
         ensures { IsTrue result ↔ VerifiesPrepared S.set H.front self.now sig.now (framed m.now) }
     {
-        self.verify_mu(&ml_dsa::mu::<H>(&[&self.key.tr, m]), sig)
+        self.verify_mu(&ml_dsa::mu::<H>(&[&self.tr, m]), sig)
     }
 
     /// Verifies the hash `mu` of a framed message, as `PublicKey::verify_mu`.

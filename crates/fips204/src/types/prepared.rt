@@ -6,9 +6,9 @@ ghost use Rattle.std.specs.Prelude.{◌≡◌};
 ghost use Rattle.fips204_base.specs.Vectors.{MatrixWithin};
 ghost use Rattle.fips204_base.specs.Encodings.{ArePublicParts};
 
-use super::{PrivateKey, PublicKey, T};
+use super::{PrivateKey, R, T};
 use fips204_base::product::Transforms;
-use std::marker::Model;
+use std::marker::{Model, PhantomData};
 
 /// The transforms of a private key's vectors (FIPS 204, Algorithm 7, lines 2 to 4).
 #[derive(Drop)]
@@ -82,21 +82,27 @@ impl<'a, const K: usize, const L: usize, H, G> Model for SigningKey<'a, K, L, H,
 /// Contracts see it as the public key's parts and the matrix, whose entries are the transforms of the plain matrix.
 #[derive(Drop)]
 pub struct PreparedPublicKey<const K: usize, const L: usize, H> {
-    pub(crate) key: PublicKey<K, L, H, ()>,
+    // The plain key's parts, one by one: a whole key would first be put together in the stack beside this one.
+    pub(crate) rho: [u8; 32],
+    pub(crate) tr: [u8; 64],
+    pub(crate) t1: [R; K],
     pub(crate) a_hat: [[T; L]; K],
     pub(crate) t1_hat: Transforms,
+    pub(crate) stream: PhantomData<H>,
 }
 
 impl<const K: usize, const L: usize, H> Model for PreparedPublicKey<K, L, H> {
     ghost use Rattle.fips204_base.specs.Vectors.{MatrixWithin};
     ghost use Rattle.fips204.specs.SigningInputs.{AreShifted};
+    ghost use Rattle.fips204_base.specs.Encodings.{ArePublicParts};
     ghost use Rattle.fips204.specs.Prepared.{PreparedPublic};
 
     ghost Value = { PreparedPublic };
 
-    ghost view = { λ pk. record { parts = pk.key; matrix = pk.a_hat } };
+    ghost view = { λ pk. record { parts = record { rho = pk.rho; tr = pk.tr; t1 = pk.t1 }; matrix = pk.a_hat } };
 
-    ghost invariant = { λ pk. MatrixWithin 8380416 pk.a_hat × AreShifted K pk.key.t1 pk.t1_hat };
+    ghost invariant = { λ pk. ArePublicParts K record { rho = pk.rho; tr = pk.tr; t1 = pk.t1 }
+        × MatrixWithin 8380416 pk.a_hat × AreShifted K pk.t1 pk.t1_hat };
 }
 
 impl<const K: usize, const L: usize, H> PreparedPublicKey<K, L, H> {
@@ -106,6 +112,6 @@ impl<const K: usize, const L: usize, H> PreparedPublicKey<K, L, H> {
         ensures matrix { MatrixWithin 8380416 self.now.matrix }
         ensures parts { ArePublicParts K self.now.parts }
     {
-        self.key.tr()
+        &self.tr
     }
 }

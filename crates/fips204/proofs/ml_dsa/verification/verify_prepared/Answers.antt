@@ -13,7 +13,7 @@ pub returns : goal.returns
 returns g c =
     let p = c.args.p.now in
     let z = c.in-Some.parts.1 in
-    let shifted : AreShifted g.row.K c.args.pk.now.parts.t1 c.pk.inside.t1_hat = subst (λ (k : PreparedPublic). AreShifted g.row.K k.parts.t1 c.pk.inside.t1_hat) c.pk.view_is c.pk.invariant.1 in
+    let shifted : AreShifted g.row.K c.args.pk.now.parts.t1 c.pk.inside.t1_hat = subst (λ (k : PreparedPublic). AreShifted g.row.K k.parts.t1 c.pk.inside.t1_hat) c.pk.view_is c.pk.invariant.2 in
     commitment-decides p g.H.Xof.front c.args.pk.now.matrix c.args.pk.now.parts.t1 c.args.mu.now c.args.sig.now c.in-Some.parts.0 z c.in-Some.parts.2 c.in-Some.parts.3 c.multiply_by.new.self c.pk.inside.t1_hat g.row.K g.row.L c.is_committed.result
     (search rules) c.requires.sizes.rows c.requires.sizes.columns c.in-Some.ensures.parts
     (λ r n h l. subst (λ (k : PreparedPublic). vector_coefficients c.multiply_by.new.self r n ≡ matrix_product g.row.L k.matrix (vector_coefficients z) r n) c.pk.view_is
