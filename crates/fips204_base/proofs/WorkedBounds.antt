@@ -1,10 +1,10 @@
 -- Worked values of ranges, of relations between vectors, and of rows of transforms and of lanes: each holds at its edges, and not past them.
-use Rattle.std.proofs.Common.{◌≡◌, ◌+◌, ◌*◌, ◌%◌, ◌^◌, ◌<◌, ◌≤◌, ◌≤ℤ◌, ◌-ℤ◌, ℕ, ℤ, List, [], ◌∷◌, ◌++◌, pos, negsuc, length, inl, inr, refl, arith, sym, subst, ◌∙◌}
-use Rattle.std.specs.Prelude.{nat_abs, replicate, slice_index_or, FitsSigned}
+use Rattle.std.proofs.Common.{◌≡◌, ◌+◌, ◌*◌, ◌%◌, ◌^◌, ◌<◌, ◌≤◌, ◌≤ℤ◌, ◌-ℤ◌, ℕ, ℤ, List, [], ◌∷◌, ◌++◌, pos, negsuc, length, inl, inr, refl, arith, sym, subst}
+use Rattle.std.specs.Prelude.{nat_abs, replicate, FitsSigned}
 use Rattle.std.specs.Int.{w32}
 use Rattle.std.specs.List.{All}
 use Rattle.std.proofs.lemmas.Int.{ints}
-use Rattle.std.proofs.lemmas.List.{get_or-replicate, get_or_append_left, length-replicate}
+use Rattle.std.proofs.lemmas.List.{get_or-replicate, length-replicate}
 use Rattle.std.proofs.lemmas.List.Elements.{All-replicate}
 use Rattle.fips204_base.specs.declared.types.R.{R}
 use Rattle.fips204_base.specs.declared.types.T.{T}
@@ -19,10 +19,7 @@ use Rattle.fips204_base.specs.Vectors.{MatrixWithin, VectorInRange, IsVector, Ar
 use Rattle.fips204_base.proofs.Residues.{sum_zero}
 use Rattle.fips204_base.proofs.PlainTransforms.{inverse_of_zeros}
 use Rattle.fips204_base.proofs.LaneRows.{range_fits}
-
--- each of the first 256 of 257 values
-padded : {A : Type 0} (x y d : A) (n : ℕ) → n < 256 → slice_index_or (replicate 256 x ++ y ∷ []) n d ≡ x
-padded x y d n h = get_or_append_left (replicate 256 x) (y ∷ []) d n (subst (λ m. n < m) (sym (length-replicate 256 x)) h) ∙ get_or-replicate 256 n x d h
+use Rattle.fips204_base.proofs.Vectors.{get_or-padded}
 
 -- ---- Numbers of the sets
 
@@ -71,7 +68,7 @@ vectors_in_range = (All-replicate (λ (w : R). PolynomialInRange (negsuc 1) (pos
 
 -- a coefficient at place 256 doesn't count, and one at place 255 does
 polynomials : PolynomialWithin 1 (replicate 256 (negsuc 0) ++ pos 2 ∷ []) × (PolynomialWithin 1 (replicate 255 (pos 0) ++ pos 2 ∷ []) → ⊥)
-polynomials = (λ n h. subst (λ x. nat_abs x ≤ 1) (sym (padded (negsuc 0) (pos 2) (pos 0) n h)) (omega arith), λ within. let last : 2 ≤ 1 = within 255 (omega arith) in omega (arith, last))
+polynomials = (λ n h. subst (λ x. nat_abs x ≤ 1) (sym (get_or-padded (negsuc 0) (pos 2) (pos 0) n h)) (omega arith), λ within. let last : 2 ≤ 1 = within 255 (omega arith) in omega (arith, last))
 
 -- nor does a polynomial at row 1 of a vector of one
 vectors : VectorWithin 1 1 (record { 0 = replicate 256 (negsuc 0) ++ pos 2 ∷ [] } ∷ record { 0 = pos 2 ∷ [] } ∷ [])
@@ -82,8 +79,8 @@ vectors = (λ r n h l. let first : r ≡ 0 = omega (arith, h) in rw first (polyn
 residues_at_ends : IsResidueVector 1 (record { 0 = replicate 256 (pos 8380416) ++ negsuc 0 ∷ [] } ∷ record { 0 = negsuc 0 ∷ [] } ∷ [])
     × IsResidueVector 1 (record { 0 = replicate 256 (pos 0) ++ negsuc 0 ∷ [] } ∷ [])
 residues_at_ends = (
-  λ r n h l. let first : r ≡ 0 = omega (arith, h) in rw (first, padded (pos 8380416) (negsuc 0) (pos 0) n l) (omega arith, omega arith),
-  λ r n h l. let first : r ≡ 0 = omega (arith, h) in rw (first, padded (pos 0) (negsuc 0) (pos 0) n l) (omega arith, omega arith),
+  λ r n h l. let first : r ≡ 0 = omega (arith, h) in rw (first, get_or-padded (pos 8380416) (negsuc 0) (pos 0) n l) (omega arith, omega arith),
+  λ r n h l. let first : r ≡ 0 = omega (arith, h) in rw (first, get_or-padded (pos 0) (negsuc 0) (pos 0) n l) (omega arith, omega arith),
 )
 
 past_residues : (IsResidueVector 1 (record { 0 = replicate 255 (pos 0) ++ negsuc 0 ∷ [] } ∷ []) → ⊥) × (IsResidueVector 1 (record { 0 = pos 0 ∷ pos 8380417 ∷ [] } ∷ []) → ⊥)
@@ -96,20 +93,20 @@ past_residues = (
 same_modulo_q : AreSameModQ 1 (record { 0 = replicate 256 (pos 8380416) } ∷ []) (record { 0 = replicate 256 (negsuc 0) ++ pos 1 ∷ [] } ∷ record { 0 = pos 1 ∷ [] } ∷ [])
     × (AreSameModQ 1 [] (record { 0 = replicate 255 (pos 0) ++ pos 1 ∷ [] } ∷ []) → ⊥)
 same_modulo_q = (
-  λ r n h l. let first : r ≡ 0 = omega (arith, h) in rw (first, padded (negsuc 0) (pos 1) (pos 0) n l, get_or-replicate 256 n (pos 8380416) (pos 0) l) refl,
+  λ r n h l. let first : r ≡ 0 = omega (arith, h) in rw (first, get_or-padded (negsuc 0) (pos 1) (pos 0) n l, get_or-replicate 256 n (pos 8380416) (pos 0) l) refl,
   λ same. let last : 0 ≡ 1 = same 0 255 (omega arith) (omega arith) in omega (arith, last),
 )
 
 -- a vector of equal coefficients
-constant : (count a b : ℕ) (x : ℤ) → (pos 0 -ℤ pos a) ≤ℤ x → x ≤ℤ pos b → IsVector count a b (replicate count record { 0 = replicate 256 x })
-constant count a b x low high = record {
+pub constant_vector : (count a b : ℕ) (x : ℤ) → (pos 0 -ℤ pos a) ≤ℤ x → x ≤ℤ pos b → IsVector count a b (replicate count record { 0 = replicate 256 x })
+constant_vector count a b x low high = record {
   rows = length-replicate count record { 0 = replicate 256 x };
   places = All-replicate (λ (w : R). length w.0 ≡ 256) count record { 0 = replicate 256 x } (length-replicate 256 x);
   range = All-replicate (λ (w : R). All (λ y. ((pos 0 -ℤ pos a) ≤ℤ y) × (y ≤ℤ pos b)) w.0) count record { 0 = replicate 256 x } (All-replicate (λ y. ((pos 0 -ℤ pos a) ≤ℤ y) × (y ≤ℤ pos b)) 256 x (low, high));
 }
 
 vectors_of_ends : IsVector 1 2 3 (record { 0 = replicate 256 (negsuc 1) } ∷ []) × IsVector 1 2 3 (record { 0 = replicate 256 (pos 3) } ∷ [])
-vectors_of_ends = (constant 1 2 3 (negsuc 1) (omega arith) (omega arith), constant 1 2 3 (pos 3) (omega arith) (omega arith))
+vectors_of_ends = (constant_vector 1 2 3 (negsuc 1) (omega arith) (omega arith), constant_vector 1 2 3 (pos 3) (omega arith) (omega arith))
 
 -- too few polynomials, too few coefficients, and one out of range
 no_vectors : (IsVector 2 2 3 (record { 0 = replicate 256 (pos 0) } ∷ []) → ⊥) × (IsVector 1 2 3 (record { 0 = pos 0 ∷ [] } ∷ []) → ⊥)
@@ -138,7 +135,7 @@ row_products : AreRowProducts 1 1 ((record { 0 = replicate 256 (pos 2) } ∷ [])
 unfolding sum_below
 row_products = (
   λ i j h l. let first : i ≡ 0 = omega (arith, h) in
-      rw (first, padded (negsuc 1) (pos 5) (pos 0) j l, get_or-replicate 256 j (pos 2) (pos 0) l, get_or-replicate 256 j (negsuc 0) (pos 0) l) refl,
+      rw (first, get_or-padded (negsuc 1) (pos 5) (pos 0) j l, get_or-replicate 256 j (pos 2) (pos 0) l, get_or-replicate 256 j (negsuc 0) (pos 0) l) refl,
   λ all. let last : 1 ≡ 0 = all 0 255 (omega arith) (omega arith) in omega (arith, last),
 )
 
@@ -163,7 +160,7 @@ each_lane j h = let first : j ≡ 0 = omega (arith, h) in rw first (omega arith)
 -- rows of 256 values of a lane, and of one more; other lanes don't count
 lanes_within : LanesWithin (λ xs. xs) 1 2 (replicate 256 (negsuc 1 ∷ pos 9 ∷ []) ++ (pos 3 ∷ []) ∷ []) × (LanesWithin (λ xs. xs) 1 2 (replicate 255 [] ++ (pos 3 ∷ []) ∷ []) → ⊥)
 lanes_within = (
-  λ i j d h l. let first : j ≡ 0 = omega (arith, l) in rw (first, padded (negsuc 1 ∷ pos 9 ∷ []) (pos 3 ∷ []) d i h) (omega arith),
+  λ i j d h l. let first : j ≡ 0 = omega (arith, l) in rw (first, get_or-padded (negsuc 1 ∷ pos 9 ∷ []) (pos 3 ∷ []) d i h) (omega arith),
   λ all. let last : 3 ≤ 2 = all 255 0 [] (omega arith) (omega arith) in omega (arith, last),
 )
 
@@ -175,28 +172,33 @@ transform_of_zeros : (w : ℕ → ℕ) (i : ℕ) → ((j : ℕ) → j < 256 → 
 unfolding transform
 transform_of_zeros w i zeros = (sum_zero 256 (λ j. w j * (1753 ^ (2 * bit_reversed i + 1) % 8380417) ^ j) (λ j h. record { same = rw (zeros j h) (omega arith) })).same
 
-zero_lane : (d : List ℤ) (i : ℕ) → i < 256 → residues (λ xs. xs) 0 d (replicate 256 (pos 0 ∷ pos 1 ∷ [])) i ≡ 0
-zero_lane d i h = rw (get_or-replicate 256 i (pos 0 ∷ pos 1 ∷ []) d h) refl
+zero_lane : (d : List ℤ) (i : ℕ) → i < 256 → residues (λ xs. xs) 0 d (replicate 256 (pos 8380417 ∷ pos 1 ∷ [])) i ≡ 0
+zero_lane d i h = rw (get_or-replicate 256 i (pos 8380417 ∷ pos 1 ∷ []) d h) refl
 
 zero_lane_padded : (d : List ℤ) (i : ℕ) → i < 256 → lane_at (λ xs. xs) 0 d (replicate 256 (pos 0 ∷ []) ++ (pos 1 ∷ []) ∷ []) i ≡ pos 0
-zero_lane_padded d i h = rw (padded (pos 0 ∷ []) (pos 1 ∷ []) d i h) refl
+zero_lane_padded d i h = rw (get_or-padded (pos 0 ∷ []) (pos 1 ∷ []) d i h) refl
 
-transformed : IsTransform (λ xs. xs) 1 (replicate 256 (pos 0 ∷ pos 1 ∷ [])) (replicate 256 (pos 0 ∷ []) ++ (pos 1 ∷ []) ∷ [])
-    × (IsTransform (λ xs. xs) 1 (replicate 256 (pos 0 ∷ pos 1 ∷ [])) (replicate 255 (pos 0 ∷ []) ++ (pos 1 ∷ []) ∷ []) → ⊥)
+transformed : IsTransform (λ xs. xs) 1 (replicate 256 (pos 8380417 ∷ pos 1 ∷ [])) (replicate 256 (pos 0 ∷ []) ++ (pos 1 ∷ []) ∷ [])
+    × (IsTransform (λ xs. xs) 1 (replicate 256 (pos 8380417 ∷ pos 1 ∷ [])) (replicate 255 (pos 0 ∷ []) ++ (pos 1 ∷ []) ∷ []) → ⊥)
 transformed = (
-  λ i j d h l. let first : j ≡ 0 = omega (arith, l) in rw (first, zero_lane_padded d i h, transform_of_zeros (residues (λ xs. xs) 0 d (replicate 256 (pos 0 ∷ pos 1 ∷ []))) i (zero_lane d)) record { same = refl },
-  λ all. let last = (all 255 0 [] (omega arith) (omega arith)).same in omega (arith, last, transform_of_zeros (residues (λ xs. xs) 0 [] (replicate 256 (pos 0 ∷ pos 1 ∷ []))) 255 (zero_lane [])),
+  λ i j d h l. let first : j ≡ 0 = omega (arith, l) in rw (first, zero_lane_padded d i h, transform_of_zeros (residues (λ xs. xs) 0 d (replicate 256 (pos 8380417 ∷ pos 1 ∷ []))) i (zero_lane d)) record { same = refl },
+  λ all. let last = (all 255 0 [] (omega arith) (omega arith)).same in omega (arith, last, transform_of_zeros (residues (λ xs. xs) 0 [] (replicate 256 (pos 8380417 ∷ pos 1 ∷ []))) 255 (zero_lane [])),
 )
 
-rows_transformed : AreTransforms (λ xs. xs) 1 1 (replicate 256 (pos 0 ∷ pos 1 ∷ []) ∷ []) ((replicate 256 (pos 0 ∷ []) ++ (pos 1 ∷ []) ∷ []) ∷ replicate 256 (pos 1 ∷ []) ∷ [])
+rows_transformed : AreTransforms (λ xs. xs) 1 1 (replicate 256 (pos 8380417 ∷ pos 1 ∷ []) ∷ []) ((replicate 256 (pos 0 ∷ []) ++ (pos 1 ∷ []) ∷ []) ∷ replicate 256 (pos 1 ∷ []) ∷ [])
 rows_transformed row d h = let first : row ≡ 0 = omega (arith, h) in rw first transformed.0
 
-inverted : IsInverse (λ xs. xs) 1 (replicate 256 (pos 0 ∷ pos 1 ∷ [])) (replicate 256 (pos 0 ∷ []) ++ (pos 1 ∷ []) ∷ [])
-    × (IsInverse (λ xs. xs) 1 (replicate 256 (pos 0 ∷ pos 1 ∷ [])) (replicate 255 (pos 0 ∷ []) ++ (pos 1 ∷ []) ∷ []) → ⊥)
+-- the transform of 1 is 1 at each place, but not the other way round
+not_transformed : AreTransforms (λ xs. xs) 1 1 (replicate 256 (pos 1 ∷ []) ∷ []) (((pos 1 ∷ []) ∷ replicate 255 (pos 0 ∷ [])) ∷ []) → ⊥
+unfolding transform bit_reversed sum_below
+not_transformed all = omega (arith, (all 0 [] (omega arith) 0 0 [] (omega arith) (omega arith)).same)
+
+inverted : IsInverse (λ xs. xs) 1 (replicate 256 (pos 8380417 ∷ pos 1 ∷ [])) (replicate 256 (pos 0 ∷ []) ++ (pos 1 ∷ []) ∷ [])
+    × (IsInverse (λ xs. xs) 1 (replicate 256 (pos 8380417 ∷ pos 1 ∷ [])) (replicate 255 (pos 0 ∷ []) ++ (pos 1 ∷ []) ∷ []) → ⊥)
 inverted = (
-  λ i j d h l. let first : j ≡ 0 = omega (arith, l) in rw (first, zero_lane_padded d i h, inverse_of_zeros (residues (λ xs. xs) 0 d (replicate 256 (pos 0 ∷ pos 1 ∷ []))) i (zero_lane d)) refl,
-  λ all. let last = all 255 0 [] (omega arith) (omega arith) in omega (arith, ints, last, inverse_of_zeros (residues (λ xs. xs) 0 [] (replicate 256 (pos 0 ∷ pos 1 ∷ []))) 255 (zero_lane [])),
+  λ i j d h l. let first : j ≡ 0 = omega (arith, l) in rw (first, zero_lane_padded d i h, inverse_of_zeros (residues (λ xs. xs) 0 d (replicate 256 (pos 8380417 ∷ pos 1 ∷ []))) i (zero_lane d)) refl,
+  λ all. let last = all 255 0 [] (omega arith) (omega arith) in omega (arith, ints, last, inverse_of_zeros (residues (λ xs. xs) 0 [] (replicate 256 (pos 8380417 ∷ pos 1 ∷ []))) 255 (zero_lane [])),
 )
 
-rows_inverted : AreInverses (λ xs. xs) 1 1 (replicate 256 (pos 0 ∷ pos 1 ∷ []) ∷ []) ((replicate 256 (pos 0 ∷ []) ++ (pos 1 ∷ []) ∷ []) ∷ replicate 256 (pos 1 ∷ []) ∷ [])
+rows_inverted : AreInverses (λ xs. xs) 1 1 (replicate 256 (pos 8380417 ∷ pos 1 ∷ []) ∷ []) ((replicate 256 (pos 0 ∷ []) ++ (pos 1 ∷ []) ∷ []) ∷ replicate 256 (pos 1 ∷ []) ∷ [])
 rows_inverted row d h = let first : row ≡ 0 = omega (arith, h) in rw first inverted.0
