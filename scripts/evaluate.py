@@ -2,17 +2,22 @@
 library's functions on numbers, lists and options, which stand here by their names.
 
 Numbers and integers are numbers of Python, lists are tuples, and `map` gives a list whose elements are made when they are asked for; so
-are the fields of records, the parts of pairs and what `let` binds. Types, records of facts and propositions are passed over.
+are the fields of records, the parts of pairs and what `let` binds. A proposition that can be decided is a truth value: what it states of
+all numbers is tried at each one below a bound, and a record of facts is true if each of them is. Types and other propositions are passed
+over.
 """
+import functools
 import hashlib
 import re
 
 from specs import files
 
 TOKEN = re.compile(r'\s*(?:("[^"]*")|(0x[0-9A-Fa-f]+|\d+)|([^\W\d][\w\']*)|(\.(?=\w)|[+\-*≤<]ℤ|\+\+|&&|\|\||\S))')
-LEVELS = [("≡",), ("||",), ("&&",), ("<", "≤", "<ℤ", "≤ℤ"), ("∷", "++"), ("+", "-", "+ℤ", "-ℤ"), ("*", "/", "%", "*ℤ"), ("^",)]
-RIGHT = {"∷", "++", "^", "&&", "||"}
+LEVELS = [("→",), ("↔",), ("⊎",), ("×",), ("≡", "≢"), ("||",), ("&&",), ("<", "≤", "<ℤ", "≤ℤ"), ("∷", "++"), ("+", "-", "+ℤ", "-ℤ")]
+LEVELS += [("*", "/", "%", "*ℤ"), ("^",)]
+RIGHT = {"∷", "++", "^", "&&", "||", "→", "⊎", "×"}
 OPERATOR = {
+    "→": "(not {} or {})", "↔": "({} == {})", "⊎": "({} or {})", "×": "({} and {})", "≢": "(not same({}, {}))",
     "≡": "same({}, {})", "||": "({} or {})", "&&": "({} and {})", "<": "({} < {})", "≤": "({} <= {})", "<ℤ": "({} < {})", "≤ℤ": "({} <= {})",
     "∷": "(({},) + listed({}))", "++": "(listed({}) + listed({}))", "+": "({} + {})", "-": "less({}, {})", "+ℤ": "({} + {})",
     "-ℤ": "({} - {})", "*": "({} * {})", "*ℤ": "({} * {})", "/": "over({}, {})", "%": "modulo({}, {})", "^": "({} ** {})",
@@ -20,7 +25,7 @@ OPERATOR = {
 
 
 class Unparsed(Exception):
-    """A text that is no plain definition: a type, a proposition or a proof."""
+    """A text that is no plain definition: a type, a proposition that cannot be decided, or a proof."""
 
 
 def tokens(text):
@@ -36,8 +41,8 @@ def tokens(text):
 
 
 class Parser:
-    """A parser of terms: trees of tuples, whose first part is `number`, `text`, `name`, `apply`, `binary`, `if`, `let`, `lambda`, `record`,
-    `pair`, `field` or `list`."""
+    """A parser of terms: trees of tuples, whose first part is `number`, `text`, `name`, `apply`, `binary`, `if`, `let`, `lambda`, `all`,
+    `record`, `pair`, `field` or `list`."""
 
     def __init__(self, text):
         self.tokens, self.place = tokens(text), 0
@@ -64,6 +69,8 @@ class Parser:
     def term(self, level=0):
         if self.peek() == "λ":
             return self.function()
+        if level == 0 and self.quantified():
+            return self.all()
         if self.peek() == "let":
             self.take()
             name = self.take()
@@ -88,6 +95,26 @@ class Parser:
             sign = self.take()
             left = ("binary", sign, left, self.term(level if sign in RIGHT else level + 1))
         return left
+
+    def quantified(self):
+        """Whether names with their type stand here, as `(i j : ℕ)`."""
+        ahead = 1
+        while self.peek() == "(" and self.place + ahead < len(self.tokens) and self.tokens[self.place + ahead][0] == "name":
+            ahead += 1
+        return ahead > 1 and self.peek(ahead) == ":"
+
+    def all(self):
+        self.take("(")
+        names, words = [], []
+        while self.peek() != ":":
+            names.append(self.take())
+        self.take(":")
+        while self.peek() != ")":
+            words.append(self.take())
+        self.take(")")
+        if not self.quantified():
+            self.take("→")
+        return ("all", names, " ".join(words), self.term())
 
     def function(self):
         self.take("λ")
@@ -141,6 +168,8 @@ class Parser:
         elif word == "[":
             self.take("]")
             tree = ("list",)
+        elif word == "⊥":
+            tree = ("name", word)
         elif word == "(":
             parts = [self.term()]
             while self.peek() == ",":
@@ -369,6 +398,10 @@ LIBRARY = {
     "count_by": (2, lambda f, xs: sum(1 for x in listed(xs) if ap(f, x))),
     "range_with_len": (2, lambda first, count: tuple(range(first, first + count))),
     "replicate": (2, lambda n, x: (x,) * n),
+    "All": (2, lambda f, xs: all(ap(f, x) for x in listed(xs))),
+    "IsTrue": (1, lambda b: b),
+    "IfErr": (2, lambda x, f: x.name == "Ok" or ap(f, x.parts[0])),
+    "FitsSigned": (2, lambda width, x: -(2 ** (8 * width - 1)) <= whole(x) < 2 ** (8 * width - 1)),
     "slice_index": (2, lambda xs, n: element(xs, n, 0)),
     "slice_index_or": (3, element),
     "get_or": (3, element),
@@ -382,7 +415,7 @@ LIBRARY = {
     "sha256": (1, lambda xs: tuple(hashlib.sha256(bytes(listed(xs))).digest())),
     "sha512": (1, lambda xs: tuple(hashlib.sha512(bytes(listed(xs))).digest())),
 }
-CONSTANTS = {"zero": 0, "true": True, "false": False, "w16": 2, "w32": 4, "None": NOTHING}
+CONSTANTS = {"zero": 0, "true": True, "false": False, "⊥": False, "w16": 2, "w32": 4, "None": NOTHING}
 CONSTRUCTORS = {"Some": 1, "Ok": 1, "Err": 1, "None": 0}
 FAULTS = ("KeyGenRng", "SignCtx", "SignRng", "HashCtx", "OidEmpty", "OidNotDer", "DigestTooLong", "DigestLength", "HashRng", "InternalRng", "TooManyAttempts", "KeyRange", "SamplingLimit")
 CONSTRUCTORS.update({name: 0 for name in FAULTS})
@@ -391,8 +424,26 @@ CONSTRUCTORS.update({name: 0 for name in FAULTS})
 # ---- From definitions to functions
 
 
+def facts(definition):
+    """A record of facts as one equation: its parameters, and the conjunction of its fields."""
+    head, *lines = definition.text.split("\n  pub ")
+    trees = []
+    for line in lines:
+        parser = Parser(line.split(" : ", 1)[1])
+        trees.append(parser.term())
+        if parser.peek():
+            raise Unparsed(parser.peek())
+    whole = trees.pop()
+    while trees:
+        whole = ("binary", "×", trees.pop(), whole)
+    parameters = [name for names in re.findall(r"\(([\w' ]+) : ", head) for name in names.split()]
+    return [([("name", name) for name in parameters], whole)]
+
+
 def clauses(definition):
     """The equations of a definition: the trees of their patterns and of their right sides; none where it states a type."""
+    if definition.kind == "record":
+        return facts(definition)
     if definition.kind:
         return []
     found, here = [], None
@@ -426,6 +477,8 @@ class Program:
     def __init__(self, all_files):
         self.space = dict(globals())
         self.arity, self.trees, self.made = {}, {}, dict(CONSTRUCTORS)
+        # functions from numbers to numbers, whose values are kept
+        self.numeric = {definition.name for file in all_files for definition in file.definitions if definition.lines[0].endswith(f"{definition.name} : ℕ → ℕ")}
         for name, (arity, code) in LIBRARY.items():
             self.arity[name] = arity
             self.space[mangled(name)] = code
@@ -445,8 +498,13 @@ class Program:
                 if trees:
                     self.trees[definition.name] = trees
                     self.arity[definition.name] = len(trees[0][0])
-        for name in list(self.trees):
-            self.define(name, self.trees[name])
+        known = None
+        while known != len(self.trees):
+            known = len(self.trees)
+            for name in list(self.trees):
+                self.define(name, self.trees[name])
+                if name not in self.trees:
+                    self.arity.pop(name)
 
     def define(self, name, trees):
         """Makes the function of a name anew from these equations."""
@@ -457,6 +515,11 @@ class Program:
             self.trees.pop(name, None)
             return
         exec(compile(source, name, "exec"), self.space)
+        if name in self.numeric:
+            self.space[mangled(name)] = functools.cache(self.space[mangled(name)])
+        for other in self.numeric:
+            if mangled(other) in self.space:
+                self.space[mangled(other)].cache_clear()
 
     def source(self, name, trees):
         arity = self.arity[name]
@@ -528,6 +591,8 @@ class Program:
             inside = {**scope, **{name: False for name in tree[1]}}
             names = ", ".join(f"v_{clean(name)}" if name != "_" else f"unused{place}" for place, name in enumerate(tree[1]))
             return f"Function(lambda {names}: {self.code(tree[2], inside)}, {len(tree[1])})"
+        if kind == "all":
+            return self.every(tree, scope)
         if kind == "field":
             return f"{self.code(tree[1], scope)}.get({tree[2]!r})"
         if kind == "pair":
@@ -552,6 +617,28 @@ class Program:
                 rest = given[self.arity[word] :]
                 return f"ap({direct}, {', '.join(rest)})" if rest else direct
         return f"ap({self.code(head, scope)}, {', '.join(given)})"
+
+    def every(self, tree, scope):
+        """The code of a proposition on all numbers below bounds. Of an open type V one value is tried: it is what a list gives past its end."""
+        kinds, premises, loops, inside = {}, [], "", dict(scope)
+        while tree[0] == "all" or tree[:2] == ("binary", "→"):
+            if tree[0] == "all":
+                kinds.update(dict.fromkeys(tree[1], tree[2]))
+            else:
+                premises.append(tree[2])
+            tree = tree[3]
+        for name, kind in kinds.items():
+            bound = next((premise for premise in premises if premise[0] == "binary" and premise[1] in ("<", "≤") and premise[2] == ("name", name)), None)
+            if kind == "ℕ" and bound:
+                premises.remove(bound)
+                loops += f" for v_{clean(name)} in range({self.code(bound[3], inside)}{' + 1' if bound[1] == '≤' else ''})"
+            elif re.fullmatch(r"(List )*V", kind):
+                loops += f" for v_{clean(name)} in ((),)"
+            else:
+                raise Unparsed(kind)
+            inside[name] = False
+        tests = "".join(f" if {self.code(premise, inside)}" for premise in premises)
+        return f"all({self.code(tree, inside)}{loops}{tests})"
 
     def name(self, word, scope):
         if word in scope:

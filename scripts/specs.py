@@ -34,7 +34,7 @@ class File:
                 comment = []
             elif line.startswith("--"):
                 comment.append(line)
-            elif line.startswith((" ", "}")):
+            elif line.startswith((" ", "}", ")")):
                 if here:
                     here.lines.append(line)
             else:

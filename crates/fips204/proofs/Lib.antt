@@ -19,6 +19,7 @@ mod OtherHints
 mod LongerFronts
 mod Worked
 mod WorkedAttempts
+mod WorkedRelations
 -- what users may cite
 pub mod Callers
 pub mod Prepared

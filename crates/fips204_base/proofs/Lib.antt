@@ -25,6 +25,7 @@ pub mod CounterStreams
 pub mod Vectors
 pub mod PlainTransforms
 mod WorkedArithmetic
+mod WorkedBounds
 mod WorkedBytes
 mod WorkedEncodings
 mod WorkedSamplers

@@ -18,7 +18,7 @@ use Rattle.fips204_base.proofs.Vectors.{vector_of-entry, polynomial_of-at}
 inverse_reduced : (v : ℕ → ℕ) (j : ℕ) → inverse_transform v j % 8380417 ≡ inverse_transform v j
 inverse_reduced v j = omega (arith, inverse_below v j)
 
-inverse_of_zeros : (v : ℕ → ℕ) (j : ℕ) → ((i : ℕ) → i < 256 → v i ≡ 0) → inverse_transform v j ≡ 0
+pub inverse_of_zeros : (v : ℕ → ℕ) (j : ℕ) → ((i : ℕ) → i < 256 → v i ≡ 0) → inverse_transform v j ≡ 0
 unfolding inverse_transform inverse_root
 inverse_of_zeros v j h = inverse_same v (λ i. 0) (λ i p. congruent_of (h i p)) j ∙ none
   where

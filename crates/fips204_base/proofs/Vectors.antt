@@ -1,8 +1,8 @@
 -- Vectors that are given by their coefficients, and lists that a loop writes polynomial by polynomial.
-use Rattle.std.proofs.Common.{◌≡◌, ℕ, ◌<◌, ◌≤◌, ◌+◌, List, length, get_or, set, get_or-set_same, get_or-set_other, arith, sym, subst, ◌∙◌, ◌≤ℤ◌, ◌-ℤ◌, ℤ, pos, ap, []}
+use Rattle.std.proofs.Common.{◌≡◌, ℕ, ◌<◌, ◌≤◌, ◌+◌, List, length, get_or, set, get_or-set_same, get_or-set_other, arith, sym, subst, ◌∙◌, ◌≤ℤ◌, ◌-ℤ◌, ℤ, pos, ap, [], ◌∷◌, ◌++◌, replicate}
 use native.Mathlib.Decide.{dec_lt}
 use Rattle.std.proofs.lemmas.Int.{ints}
-use Rattle.std.proofs.lemmas.List.{ext_get_or}
+use Rattle.std.proofs.lemmas.List.{ext_get_or, get_or_append_left, get_or-replicate, length-replicate}
 use Rattle.std.proofs.lemmas.List.Elements.{All-from_get_or}
 use Rattle.std.proofs.lemmas.List.FromFn.{get_or-map-range_with_len, length-map-range_with_len}
 use Rattle.fips204_base.specs.declared.types.R.{R}
@@ -23,6 +23,10 @@ row_written Q out row x d p before now r h = elim (dec_lt r row) [
 pub rows_ahead : {A : Type 0} (first out : List A) (row : ℕ) (x : A) → ((r : ℕ) (d : A) → row ≤ r → get_or out r d ≡ get_or first r d) →
     (r : ℕ) (d : A) → row + 1 ≤ r → get_or (set out row x) r d ≡ get_or first r d
 rows_ahead first out row x rest r d h = get_or-set_other out row r x d (omega (arith, h)) ∙ rest r d (omega (arith, h))
+
+-- each of the first 256 of 257 values
+pub get_or-padded : {A : Type 0} (x y d : A) (n : ℕ) → n < 256 → get_or (replicate 256 x ++ y ∷ []) n d ≡ x
+get_or-padded x y d n h = get_or_append_left (replicate 256 x) (y ∷ []) d n (subst (λ m. n < m) (sym (length-replicate 256 x)) h) ∙ get_or-replicate 256 n x d h
 
 -- Vectors that are given by their coefficients.
 

@@ -14,8 +14,8 @@ use Rattle.fips204_base.specs.Rounding.{power2round, decompose, make_hint, use_h
 
 -- Worked values of the definitions of residues, products and transforms.
 
-residues : (residue (negsuc 0) ≡ 8380416) × (residue (pos 8380417) ≡ 0) × (residue (negsuc 8380416) ≡ 0)
-residues = (refl, refl, refl)
+residues_of_ends : (residue (negsuc 0) ≡ 8380416) × (residue (pos 8380417) ≡ 0) × (residue (negsuc 8380416) ≡ 0)
+residues_of_ends = (refl, refl, refl)
 
 centres : (centred (pos 4190208) ≡ pos 4190208) × (centred (pos 4190209) ≡ negsuc 4190207) × (centred (negsuc 0) ≡ negsuc 0)
 unfolding centred
