@@ -5,7 +5,7 @@ use Rattle.std.proofs.lemmas.List.{get_or-replicate}
 use Rattle.fips204_base.specs.declared.fault.Fault.TheVariants.{TooManyAttempts, SamplingLimit}
 use Rattle.fips204_base.specs.Packing.{bit_length}
 use Rattle.fips204_base.proofs.Vectors.{get_or-padded}
-use Rattle.fips204.specs.Acceptance.{AreShifted}
+use Rattle.fips204.specs.SigningInputs.{AreShifted}
 use Rattle.fips204.specs.Framing.{plain, framed, represented}
 use Rattle.fips204.specs.LongerFronts.{YesAndNoStay}
 use Rattle.fips204.specs.ParameterSets.{set_44, set_65, set_87, IsSet}

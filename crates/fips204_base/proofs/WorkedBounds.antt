@@ -8,14 +8,13 @@ use Rattle.std.proofs.lemmas.List.{get_or-replicate, length-replicate}
 use Rattle.std.proofs.lemmas.List.Elements.{All-replicate}
 use Rattle.fips204_base.specs.declared.types.R.{R}
 use Rattle.fips204_base.specs.declared.types.T.{T}
-use Rattle.fips204_base.specs.Bounds.{IsEta, ValuesWithin, PolynomialWithin, VectorWithin, IsResidueVector, TransformsWithin, vector_residues, row_value, AreRowProducts}
-use Rattle.fips204_base.specs.Encodings.{IsGamma1}
-use Rattle.fips204_base.specs.Lanes.{lane_at, residues, AreEight, EachLane, LanesWithin, RowsWithin, IsTransform, AreTransforms, IsInverse, AreInverses}
-use Rattle.fips204_base.specs.Packing.{PolynomialInRange, Bounds}
+use Rattle.fips204_base.specs.Bounds.{IsEta, ValuesWithin, PolynomialWithin, VectorWithin, IsResidueVector, TransformsWithin, vector_residues, row_value, AreRowProducts, IsGamma1, EachLane, PolynomialInRange, Bounds, VectorInRange}
+use Rattle.fips204_base.specs.Lanes.{lane_at, residues, LanesWithin, RowsWithin, IsTransform, AreTransforms, IsInverse, AreInverses}
+use Rattle.fips204_base.specs.Network.{AreEight, AreSameModQ}
 use Rattle.fips204_base.specs.Residues.{sum_below, IsCongruent}
 use Rattle.fips204_base.specs.Rounding.{IsGamma2}
 use Rattle.fips204_base.specs.Transforms.{transform, bit_reversed}
-use Rattle.fips204_base.specs.Vectors.{MatrixWithin, VectorInRange, IsVector, AreSameModQ}
+use Rattle.fips204_base.specs.Vectors.{MatrixWithin, IsVector}
 use Rattle.fips204_base.proofs.Residues.{sum_zero}
 use Rattle.fips204_base.proofs.PlainTransforms.{inverse_of_zeros}
 use Rattle.fips204_base.proofs.LaneRows.{range_fits}
