@@ -9,7 +9,7 @@ use Rattle.std.proofs.lemmas.List.Elements.{All-replicate}
 use Rattle.fips204_base.specs.declared.types.R.{R}
 use Rattle.fips204_base.specs.declared.types.T.{T}
 use Rattle.fips204_base.specs.Bounds.{IsEta, ValuesWithin, PolynomialWithin, VectorWithin, IsResidueVector, TransformsWithin, vector_residues, row_value, AreRowProducts, IsGamma1, EachLane, PolynomialInRange, Bounds, VectorInRange}
-use Rattle.fips204_base.specs.Lanes.{lane_at, residues, LanesWithin, RowsWithin, IsTransform, AreTransforms, IsInverse, AreInverses}
+use Rattle.fips204_base.specs.Lanes.{lane_at, residues, LanesWithin, RowsWithin, IsTransform, IsInverse, EachRow}
 use Rattle.fips204_base.specs.Network.{AreEight, AreSameModQ}
 use Rattle.fips204_base.specs.Residues.{sum_below, IsCongruent}
 use Rattle.fips204_base.specs.Rounding.{IsGamma2}
@@ -17,7 +17,6 @@ use Rattle.fips204_base.specs.Transforms.{transform, bit_reversed}
 use Rattle.fips204_base.specs.Vectors.{MatrixWithin, IsVector}
 use Rattle.fips204_base.proofs.Residues.{sum_zero}
 use Rattle.fips204_base.proofs.PlainTransforms.{inverse_of_zeros}
-use Rattle.fips204_base.proofs.LaneRows.{range_fits}
 use Rattle.fips204_base.proofs.Vectors.{get_or-padded}
 
 -- ---- Numbers of the sets
@@ -144,10 +143,11 @@ lanes_by_value : residues (λ xs. xs) 1 [] ((pos 5 ∷ []) ∷ (pos 6 ∷ negsuc
 lanes_by_value = refl
 
 eight : AreEight (replicate 8 (pos 2147483647)) × AreEight (replicate 8 (negsuc 2147483647))
-eight = (
-  record { eight = refl; fits = λ j h. subst (FitsSigned w32) (sym (get_or-replicate 8 j (pos 2147483647) (pos 0) h)) (range_fits (pos 2147483647) (omega arith) (omega arith)) },
-  record { eight = refl; fits = λ j h. subst (FitsSigned w32) (sym (get_or-replicate 8 j (negsuc 2147483647) (pos 0) h)) (range_fits (negsuc 2147483647) (omega arith) (omega arith)) },
-)
+eight =
+    let highest : FitsSigned w32 (pos 2147483647) = record { sfits = omega arith } in
+    let lowest : FitsSigned w32 (negsuc 2147483647) = record { sfits = omega arith } in
+    (record { eight = refl; fits = λ j h. subst (FitsSigned w32) (sym (get_or-replicate 8 j (pos 2147483647) (pos 0) h)) highest },
+    record { eight = refl; fits = λ j h. subst (FitsSigned w32) (sym (get_or-replicate 8 j (negsuc 2147483647) (pos 0) h)) lowest })
 
 not_eight : (AreEight (replicate 7 (pos 0)) → ⊥) × (AreEight (replicate 7 (pos 0) ++ pos 2147483648 ∷ []) → ⊥)
 not_eight = (λ e. omega (arith, e.eight), λ e. let last : FitsSigned w32 (pos 2147483648) = e.fits 7 (omega arith) in omega (arith, last.sfits))
@@ -184,11 +184,11 @@ transformed = (
   λ all. let last = (all 255 0 [] (omega arith) (omega arith)).same in omega (arith, last, transform_of_zeros (residues (λ xs. xs) 0 [] (replicate 256 (pos 8380417 ∷ pos 1 ∷ []))) 255 (zero_lane [])),
 )
 
-rows_transformed : AreTransforms (λ xs. xs) 1 1 (replicate 256 (pos 8380417 ∷ pos 1 ∷ []) ∷ []) ((replicate 256 (pos 0 ∷ []) ++ (pos 1 ∷ []) ∷ []) ∷ replicate 256 (pos 1 ∷ []) ∷ [])
+rows_transformed : EachRow (IsTransform (λ xs. xs) 1) 1 (replicate 256 (pos 8380417 ∷ pos 1 ∷ []) ∷ []) ((replicate 256 (pos 0 ∷ []) ++ (pos 1 ∷ []) ∷ []) ∷ replicate 256 (pos 1 ∷ []) ∷ [])
 rows_transformed row d h = let first : row ≡ 0 = omega (arith, h) in rw first transformed.0
 
 -- the transform of 1 is 1 at each place, but not the other way round
-not_transformed : AreTransforms (λ xs. xs) 1 1 (replicate 256 (pos 1 ∷ []) ∷ []) (((pos 1 ∷ []) ∷ replicate 255 (pos 0 ∷ [])) ∷ []) → ⊥
+not_transformed : EachRow (IsTransform (λ xs. xs) 1) 1 (replicate 256 (pos 1 ∷ []) ∷ []) (((pos 1 ∷ []) ∷ replicate 255 (pos 0 ∷ [])) ∷ []) → ⊥
 unfolding transform bit_reversed sum_below
 not_transformed all = omega (arith, (all 0 [] (omega arith) 0 0 [] (omega arith) (omega arith)).same)
 
@@ -199,5 +199,5 @@ inverted = (
   λ all. let last = all 255 0 [] (omega arith) (omega arith) in omega (arith, ints, last, inverse_of_zeros (residues (λ xs. xs) 0 [] (replicate 256 (pos 8380417 ∷ pos 1 ∷ []))) 255 (zero_lane [])),
 )
 
-rows_inverted : AreInverses (λ xs. xs) 1 1 (replicate 256 (pos 8380417 ∷ pos 1 ∷ []) ∷ []) ((replicate 256 (pos 0 ∷ []) ++ (pos 1 ∷ []) ∷ []) ∷ replicate 256 (pos 1 ∷ []) ∷ [])
+rows_inverted : EachRow (IsInverse (λ xs. xs) 1) 1 (replicate 256 (pos 8380417 ∷ pos 1 ∷ []) ∷ []) ((replicate 256 (pos 0 ∷ []) ++ (pos 1 ∷ []) ∷ []) ∷ replicate 256 (pos 1 ∷ []) ∷ [])
 rows_inverted row d h = let first : row ≡ 0 = omega (arith, h) in rw first inverted.0

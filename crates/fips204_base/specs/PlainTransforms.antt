@@ -1,6 +1,7 @@
 -- What is given by its transforms, as the plain polynomials that contracts see: cited by no public clause; nobody has to believe it.
 use Rattle.std.specs.Prelude.{ℕ, ℤ, List, [], pos, ◌*◌, ◌%◌}
 use Rattle.fips204_base.specs.Residues.{coefficients, residue, sum_below}
+use Rattle.fips204_base.specs.Transforms.{inverse_transform}
 use Rattle.fips204_base.specs.Lanes.{lane, residues}
 use Rattle.fips204_base.specs.Vectors.{polynomial_of, vector_of}
 use Rattle.fips204_base.specs.Bounds.{vector_residues}
