@@ -73,8 +73,6 @@ high_bits-other g r k p is other = ap (λ d. d.0) (decompose_other g r k p is ot
 pub low_bits-other : (g r k : ℕ) → 0 < g → k ≡ (r + g - 1) / (2 * g) → k * (2 * g) ≢ 8380416 → low_bits g r ≡ pos r -ℤ pos (k * (2 * g))
 low_bits-other g r k p is other = ap (λ d. d.1) (decompose_other g r k p is other)
 
-pub ruleset decomposed = (high_bits-edge, low_bits-edge, high_bits-other, low_bits-other)
-
 -- high bits are below their number of values
 pub high_bits_below : (g r : ℕ) → (g ≡ 95232) ⊎ (g ≡ 261888) → r < 8380417 → high_bits g r < high_count g
 high_bits_below g r (inl is) h = rw is (below_44 r h)

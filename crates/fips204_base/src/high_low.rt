@@ -70,27 +70,17 @@ pub fn decompose(gamma2: i32, r: Zq) -> (Zq, Zq)
     ensures high { result.0 ≡ pos (high_bits (nat_abs gamma2) (residue r)) }
     ensures low { result.1 ≡ low_bits (nat_abs gamma2) (residue r) }
 {
-    decompose_residue(gamma2 as u32, full_reduce32(r) as u32)
-}
-
-/// `decompose` of a residue.
-#[tactic(auto, using(crate::proofs::Rounding::decomposed))]
-fn decompose_residue(gamma2: u32, r: u32) -> (Zq, Zq)
-    requires set { (gamma2 ≡ 95232) ⊎ (gamma2 ≡ 261888) }
-    requires range { r < 8380417 }
-    ensures high { result.0 ≡ pos (high_bits gamma2 r) }
-    ensures low { result.1 ≡ low_bits gamma2 r }
-{
-    // r0 = r mod± (2 gamma2)
-    let quotient = nearest_quotient(gamma2, r);
+    // r+ = r mod q, r0 = r+ mod± (2 gamma2)
+    let residue = full_reduce32(r);
+    let quotient = nearest_quotient(gamma2 as u32, residue as u32) as i32;
     let multiple = quotient * (2 * gamma2);
-    let low = r as i32 - multiple as i32;
+    let low = residue - multiple;
     if multiple == 8380416 {
-        // r - r0 = q - 1: r1 = 0, r0 = r0 - 1
+        // r+ - r0 = q - 1: r1 = 0, r0 = r0 - 1
         (0, low - 1)
     } else {
-        // r1 = (r - r0) / (2 gamma2)
-        (quotient as i32, low)
+        // r1 = (r+ - r0) / (2 gamma2)
+        (quotient, low)
     }
 }
 
