@@ -2,7 +2,7 @@
 use Rattle.std.proofs.Common.{◌≡◌, ◌≤◌, ℕ, List, [], ◌∷◌, ◌++◌, length, true, false, true≢false, Ok, Err, inl, inr, refl, arith, ap, pos}
 use Rattle.std.specs.Prelude.{replicate, slice_index}
 use Rattle.std.proofs.lemmas.List.{get_or-replicate}
-use Rattle.fips204_base.specs.declared.fault.Fault.TheVariants.{TooManyAttempts, SamplingLimit}
+use Rattle.fips204_base.specs.declared.fault.Fault.TheVariants.{SamplingLimit}
 use Rattle.fips204_base.specs.Packing.{bit_length}
 use Rattle.fips204_base.proofs.Vectors.{get_or-padded}
 use Rattle.fips204.specs.SigningInputs.{AreShifted}
@@ -10,7 +10,6 @@ use Rattle.fips204.specs.Framing.{plain, framed, represented}
 use Rattle.fips204.specs.LongerFronts.{YesAndNoStay}
 use Rattle.fips204.specs.ParameterSets.{set_44, set_65, set_87, IsSet}
 use Rattle.fips204.specs.Prepared.{IsEachSigned, IsEachJudged}
-use Rattle.fips204.specs.Refusals.{IsSigningLimit}
 use Rattle.fips204.specs.SchemeLaws.{Collide, AreFramedAlike}
 use Rattle.fips204.specs.Sets.{HasSizes, HasKeySizes}
 
@@ -20,11 +19,11 @@ three_sets = (inl refl, inr (inl refl), inr (inr refl))
 -- Table 2, and lambda / 4
 sizes_of_65 : HasSizes set_65 6 5 48 3309 × HasKeySizes set_65 6 5 1952 4032
 unfolding bit_length
-sizes_of_65 = (record { rows = refl; columns = refl; c_tilde_size = refl; signature = refl }, record { rows = refl; columns = refl; public_key = refl; private_key = refl })
+sizes_of_65 = (record { rows = refl; columns = refl; c_tilde = refl; signature = refl }, record { rows = refl; columns = refl; public_key = refl; private_key = refl })
 
 other_sizes : (HasSizes set_65 5 5 48 3309 → ⊥) × (HasSizes set_65 6 6 48 3309 → ⊥) × (HasSizes set_65 6 5 49 3309 → ⊥) × (HasSizes set_65 6 5 48 3308 → ⊥)
 unfolding bit_length
-other_sizes = (λ s. omega (arith, s.rows), λ s. omega (arith, s.columns), λ s. omega (arith, s.c_tilde_size), λ s. omega (arith, s.signature))
+other_sizes = (λ s. omega (arith, s.rows), λ s. omega (arith, s.columns), λ s. omega (arith, s.c_tilde), λ s. omega (arith, s.signature))
 
 other_key_sizes : (HasKeySizes set_65 5 5 1952 4032 → ⊥) × (HasKeySizes set_65 6 6 1952 4032 → ⊥) × (HasKeySizes set_65 6 5 1951 4032 → ⊥) × (HasKeySizes set_65 6 5 1952 4033 → ⊥)
 unfolding bit_length
@@ -59,9 +58,6 @@ not_each_judged : (IsEachJudged (λ message signature. length message ≤ length
 not_each_judged = (λ j. omega (arith, j.0), λ j. omega (arith, j.1), λ j. let wrong : 1 ≤ 0 = (j.2 0 (omega arith)).0 refl in omega (arith, wrong))
 
 -- ---- What laws ask
-
-signing_limits : IsSigningLimit SamplingLimit × IsSigningLimit TooManyAttempts
-signing_limits = (inl refl, inr refl)
 
 -- a yes that goes, and a no that goes though it was decided
 changed_verdicts : (YesAndNoStay (true ≡ false) (true ≡ true) (true ≡ false) → ⊥) × (YesAndNoStay (true ≡ true) (true ≡ false) (true ≡ true) → ⊥)
