@@ -10,7 +10,7 @@ use Rattle.fips204_base.specs.Residues.{sum_below}
 use Rattle.fips204_base.specs.Transforms.{product}
 use Rattle.fips204_base.specs.Vectors.{matrix_product, polynomial_of, vector_of}
 use Rattle.fips204_base.specs.declared.types.R.{R}
-use Rattle.fips204.specs.Keys.{key_pair}
+use Rattle.fips204.specs.Keys.{key_pair, high_part}
 use Rattle.fips204.specs.SigningInputs.{seed_front, t1_shifted, mask_seed}
 use Rattle.fips204.specs.Acceptance.{w1_prime}
 use Rattle.fips204.specs.ParameterSets.{ParameterSet, set_44, set_65, set_87, public_key_length, private_key_length, signature_length}
@@ -21,7 +21,8 @@ use Rattle.std.specs.List.{range_with_len, flat_map}
 use Rattle.fips204.specs.declared.types.pre_hash.TheConstants.{SHA2_224, SHA2_256, SHA2_384, SHA2_512, SHA2_512_224, SHA2_512_256, SHA3_224, SHA3_256, SHA3_384, SHA3_512, SHAKE_128, SHAKE_256}
 use Rattle.fips204.specs.Framing.{plain, hashed, framed, represented, representative, hashes, digest_length, pre_hash_fault}
 use Rattle.fips204.specs.Constants.{hash_oid}
-use Rattle.fips204.specs.Refusals.{generated, input_fault, sign_input}
+use Rattle.fips204.specs.Refusals.{generated, derived, input_fault, sign_input}
+use Rattle.fips204.specs.Prepared.{public_of_prepared}
 use Rattle.fips204.specs.SchemeLaws.{framing}
 
 -- Worked values of the parameter sets, and of the order of attempts.
@@ -236,3 +237,9 @@ constant x = polynomial_of (λ n. if nat_eq n 0 then x else pos 0)
 challenge_times_part : w_minus_cs2 (constant (pos 5) ∷ []) (λ r n. 3) (constant (pos 2)) 0 0 ≡ 8380410
 unfolding constant polynomial_of product sum_below
 challenge_times_part = refl
+
+-- t1 is the high part of A s1 + s2: with one row and no column that of s2, where 8192 has 1
+high_parts_of_s2 : (derived (record set_44 { k = 1; l = 0 }) (λ _. []) (record no_parts { rho = 7 ∷ []; tr = 8 ∷ []; s2 = constant (pos 8192) ∷ [] }) ≡ Ok record { rho = 7 ∷ []; tr = 8 ∷ []; t1 = constant (pos 1) ∷ [] })
+    × ((public_of_prepared (record set_44 { k = 1; l = 0 }) record { parts = record no_parts { rho = 7 ∷ []; tr = 8 ∷ []; s2 = constant (pos 8192) ∷ [] }; matrix = [] ∷ [] }).parts ≡ record { rho = 7 ∷ []; tr = 8 ∷ []; t1 = constant (pos 1) ∷ [] })
+unfolding no_parts constant derived sampled_matrix all_present high_part vector_of polynomial_of matrix_product sum_below
+high_parts_of_s2 = (refl, refl)
