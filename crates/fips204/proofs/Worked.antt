@@ -10,17 +10,18 @@ use Rattle.fips204_base.specs.Residues.{sum_below}
 use Rattle.fips204_base.specs.Transforms.{product}
 use Rattle.fips204_base.specs.Vectors.{matrix_product, polynomial_of, vector_of}
 use Rattle.fips204_base.specs.declared.types.R.{R}
-use Rattle.fips204.specs.Keys.{key_pair}
+use Rattle.fips204.specs.Keys.{key_pair, high_part}
 use Rattle.fips204.specs.SigningInputs.{seed_front, t1_shifted, mask_seed}
 use Rattle.fips204.specs.Acceptance.{w1_prime}
 use Rattle.fips204.specs.ParameterSets.{ParameterSet, set_44, set_65, set_87, public_key_length, private_key_length, signature_length}
 use Rattle.fips204.specs.Rows.{is_parameter_set}
-use Rattle.fips204.specs.Signing.{first_answer, commitment_hash, w_minus_cs2, sign}
+use Rattle.fips204.specs.Signing.{first_answer, commitment_hash, w_minus_cs2, sign, sign_with}
 use Rattle.std.specs.Prelude.{◌/◌, ◌^◌, replicate, nat_eq, get_or, option_map}
 use Rattle.std.specs.List.{range_with_len, flat_map}
 use Rattle.fips204.specs.declared.types.pre_hash.TheConstants.{SHA2_224, SHA2_256, SHA2_384, SHA2_512, SHA2_512_224, SHA2_512_256, SHA3_224, SHA3_256, SHA3_384, SHA3_512, SHAKE_128, SHAKE_256}
 use Rattle.fips204.specs.Framing.{plain, hashed, framed, represented, representative, hash_oid, hashes, digest_length, pre_hash_fault}
-use Rattle.fips204.specs.Refusals.{generated, input_fault, sign_input}
+use Rattle.fips204.specs.Refusals.{generated, input_fault, sign_input, derived}
+use Rattle.fips204.specs.Prepared.{public_of_prepared}
 use Rattle.fips204.specs.SchemeLaws.{framing}
 
 -- Worked values of the parameter sets, and of the order of attempts.
@@ -235,3 +236,18 @@ constant x = polynomial_of (λ n. if nat_eq n 0 then x else pos 0)
 challenge_times_part : w_minus_cs2 (constant (pos 5) ∷ []) (λ r n. 3) (constant (pos 2)) 0 0 ≡ 8380410
 unfolding constant polynomial_of product sum_below
 challenge_times_part = refl
+
+-- t1 is the high part of A s1 + s2: with one row and no column that of s2, where 8192 has 1
+high_parts_of_s2 : (derived (record set_44 { k = 1; l = 0 }) (λ _. []) (record no_parts { rho = 7 ∷ []; tr = 8 ∷ []; s2 = constant (pos 8192) ∷ [] }) ≡ Ok record { rho = 7 ∷ []; tr = 8 ∷ []; t1 = constant (pos 1) ∷ [] })
+    × ((public_of_prepared (record set_44 { k = 1; l = 0 }) record { parts = record no_parts { rho = 7 ∷ []; tr = 8 ∷ []; s2 = constant (pos 8192) ∷ [] }; matrix = [] ∷ [] }).parts ≡ record { rho = 7 ∷ []; tr = 8 ∷ []; t1 = constant (pos 1) ∷ [] })
+unfolding no_parts constant derived sampled_matrix all_present high_part vector_of polynomial_of matrix_product sum_below
+high_parts_of_s2 = (refl, refl)
+
+-- the matrix has as many columns as the set: without any no entry is sampled, so a G without output is no limit
+one_small_polynomial : option_map {U = ℕ} (λ pair. length pair.1.s2) (keys_of (generated (record set_44 { k = 1; l = 0 }) (λ _. replicate 1024 0) (λ _. []) [])) ≡ Some 1
+unfolding small_vectors key_pair sampled_matrix all_present matrix_entry first_256 small_polynomial keys_of generated
+one_small_polynomial = refl
+
+signed_without_columns : sign (record set_44 { tau = 0; k = 1; l = 0 }) (λ _. []) (λ _. []) no_parts [] [] ≡ sign_with (record set_44 { tau = 0; k = 1; l = 0 }) (λ _. []) ([] ∷ []) no_parts [] []
+unfolding sign sampled_matrix all_present
+signed_without_columns = refl

@@ -57,8 +57,7 @@ public_of_prepared p sk = record { parts = record { rho = sk.parts.rho; tr = sk.
 abbrev pub AcceptedIfWholePrepared : ParameterSet → XOF → PreparedPrivate → Input → Result Bytes Fault → Type 0
 AcceptedIfWholePrepared p H sk input answer = (signature : Bytes) → IsWholePrepared p sk → answer ≡ Ok signature → VerifiesPrepared p H (public_of_prepared p sk) signature input
 
--- a prepared key answers as its plain key: over an input, and lists of messages; it is whole if and only if the plain key is; and
--- preparing a derived public key gives the public key that belongs to it
+-- a prepared key answers as its plain key, is whole if and only if that is, and its public key is the derived one, prepared
 pub record PreparedAnswersAsPlain (p : ParameterSet) (H G : XOF) : Type 0 where
   pub sign_inputs : (sk : PrivateParts) (prepared : PreparedPrivate) (rnd : Bytes) (input : Input) → prepared_private p G sk ≡ Ok prepared
       → sign_prepared p H prepared rnd input ≡ sign_input p H G sk rnd input

@@ -23,8 +23,7 @@ input_fault (hashed digest context oid) = if nat_lt 255 (length context) then So
 input_fault (framed m) = None
 input_fault (represented mu) = None
 
--- ML-DSA.KeyGen (Algorithms 1 and 6) from the seed xi: H over xi, byte k and byte l gives rho of 32 bytes, rho' of 64 and K of 32; a
--- refusal where a sampler gives none
+-- ML-DSA.KeyGen (Algorithms 1 and 6) from the seed xi: H over xi, byte k and byte l gives rho, rho' and K; a refusal where a sampler gives none
 unfoldable pub generated : ParameterSet → XOF → XOF → Bytes → Result (PublicParts × PrivateParts) Fault
 generated p H G xi =
     let seeds = H (xi ++ p.k ∷ p.l ∷ []) in

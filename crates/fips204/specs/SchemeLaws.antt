@@ -1,5 +1,4 @@
--- What rounding, hints, challenges and spellings promise (FIPS 204, sections 2.3 and 7.4), what M' and a signature determine, and which
--- refusals there are (Algorithms 1 to 5 and 8).
+-- What rounding, hints, challenges and spellings promise, what M' and a signature determine, and which refusals there are (FIPS 204, 2.3, 5, 6, 7.4).
 use Rattle.std.specs.Prelude.{◌≡◌, ◌⊎◌, ◌<◌, ◌≤◌, ℕ, ◌+◌, ◌-◌, ◌*◌, ◌%◌, List, pos, ◌-ℤ◌, nat_abs, true, false, length, Some, ◌≢◌, ◌++◌, take, None, IsTrue, Option, Bool, IfErr}
 use Rattle.fips204_base.specs.Encodings.{PublicParts, PrivateParts, IsPublicKeyOf, IsSignature, Spells, all_ones, hint_bytes}
 use Rattle.fips204_base.specs.Packing.{width}
@@ -146,8 +145,7 @@ OtherHintCollides =
     → take (c_tilde_length p + 32 * width (pos (p.gamma1 - 1)) (pos p.gamma1) * p.l) first ≡ take (c_tilde_length p + 32 * width (pos (p.gamma1 - 1)) (pos p.gamma1) * p.l) second
     → VerifiesInput p H G pk first input → VerifiesInput p H G pk second input → NamesHintCollision p H G pk (representative H pk.tr input) first second
 
--- making, deriving and preparing keys refuse at a sampler's limit alone; signing also where every attempt is rejected, and for the
--- condition that its input breaks, which M' and mu never do
+-- making, deriving and preparing keys refuse at a sampler's limit alone; signing also where its input breaks a condition or no attempt passes
 pub record RefusesOnly (p : ParameterSet) (H G : XOF) : Type 0 where
   pub pairs : (xi : Bytes) → OnlySamplingLimit (generated p H G xi)
   pub derived_keys : (sk : PrivateParts) → OnlySamplingLimit (derived p G sk)
