@@ -145,9 +145,10 @@ lanes_by_value = refl
 eight : AreEight (replicate 8 (pos 2147483647)) × AreEight (replicate 8 (negsuc 2147483647))
 eight =
     let highest : FitsSigned w32 (pos 2147483647) = record { sfits = omega arith } in
-    let lowest : FitsSigned w32 (negsuc 2147483647) = record { sfits = omega arith } in
-    (record { eight = refl; fits = λ j h. subst (FitsSigned w32) (sym (get_or-replicate 8 j (pos 2147483647) (pos 0) h)) highest },
-    record { eight = refl; fits = λ j h. subst (FitsSigned w32) (sym (get_or-replicate 8 j (negsuc 2147483647) (pos 0) h)) lowest })
+    let lowest : FitsSigned w32 (negsuc 2147483647) = record { sfits = omega arith } in (
+      record { eight = refl; fits = λ j h. subst (FitsSigned w32) (sym (get_or-replicate 8 j (pos 2147483647) (pos 0) h)) highest },
+      record { eight = refl; fits = λ j h. subst (FitsSigned w32) (sym (get_or-replicate 8 j (negsuc 2147483647) (pos 0) h)) lowest },
+    )
 
 not_eight : (AreEight (replicate 7 (pos 0)) → ⊥) × (AreEight (replicate 7 (pos 0) ++ pos 2147483648 ∷ []) → ⊥)
 not_eight = (λ e. omega (arith, e.eight), λ e. let last : FitsSigned w32 (pos 2147483648) = e.fits 7 (omega arith) in omega (arith, last.sfits))
