@@ -6,7 +6,8 @@ ghost use Rattle.mlsign_files.specs.Keys.{HasPrivateSizes, private_length, priva
 ghost use Rattle.mlsign_files.specs.PemReading.{FailsLike, GivesOrFails};
 ghost use Rattle.mlsign_files.specs.declared.fault.FileFault.{FileFault};
 ghost use Rattle.mlsign_files.specs.declared.pem.Kind.TheVariants.{Private};
-ghost use Rattle.mlsign_engine.specs.Commands.{Generates, Publishes, Shows, Signs, Judges, IsPublicText, HasPublicBytes, HasPublicKey, public_text_at, private_text_at, set_of, IsKeyFault};
+ghost use Rattle.mlsign_engine.specs.Commands.{Generates, Publishes, Shows, Signs, Judges, IsPublicText, HasPublicBytes, HasPublicKey};
+ghost use Rattle.mlsign_engine.specs.Commands.{public_text_at, private_text_at, set_of, IsKeyFault};
 ghost use Rattle.mlsign_engine.specs.InnerSteps.{IsSigningFault, SignsAt};
 ghost use Rattle.mlsign_engine.specs.Messages.{GivesAll};
 

@@ -3,7 +3,8 @@
 
 ghost use Rattle.std.specs.Prelude.{◌≡◌, ℕ, List, Ok, length, IfOk};
 ghost use Rattle.mlsign_files.specs.declared.algorithm.Algorithm.{Algorithm};
-ghost use Rattle.mlsign_files.specs.Keys.{PrivateParts, private_parts, private_choice, HasPrivateSizes, IsPublicFile, IsPrivateFile, public_length, private_length};
+ghost use Rattle.mlsign_files.specs.Keys.{PrivateParts, private_parts, private_choice, HasPrivateSizes};
+ghost use Rattle.mlsign_files.specs.Keys.{IsPublicFile, IsPrivateFile, public_length, private_length};
 ghost use Rattle.mlsign_files.specs.Reading.{Gives, sized_at, string_at, algorithm_of, algorithm_at, public_at, choice_at, private_at};
 
 use crate::algorithm::Algorithm;
