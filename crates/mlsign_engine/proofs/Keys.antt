@@ -8,7 +8,7 @@ use Rattle.fips204.specs.fault.Fault.TheVariants.{InternalRng}
 use Rattle.fips204.specs.declared.traits.DummyRng.{DummyRng}
 use Rattle.fips204.specs.Framing.{plain, representative}
 use Rattle.fips204.specs.Signing.{sign}
-use Rattle.fips204.specs.Encodings.{PublicParts, PrivateParts, ArePrivateParts, IsPublicKeyOf, IsPrivateKeyOf, public_key_bytes, private_key_bytes}
+use Rattle.fips204.specs.Encodings.{PublicParts, PrivateParts, IsPublicKeyOf, IsPrivateKeyOf, public_key_bytes, private_key_bytes}
 use Rattle.fips204.specs.Completeness.{SignedIsAccepted, AcceptsSigned}
 use Rattle.fips204.specs.ParameterSets.{ParameterSet, signature_length, IsSet}
 use Rattle.fips204.specs.Refusals.{generated, derived, Draws, input_fault, sign_input}

@@ -1,6 +1,5 @@
 use Rattle.std.proofs.Common.{rules, List, ℕ, ◌≡◌, length, refl, ap, ◌∙◌}
 use Rattle.fips204.specs.Framing.{plain, represented, representative}
-use Rattle.fips204.specs.Encodings.{ArePrivateParts}
 use Rattle.fips204.specs.Refusals.{sign_input}
 use Rattle.fips204.specs.declared.traits.DummyRng.{DummyRng}
 use Rattle.fips204_shake.specs.Fronts.{shake256_front, shake128_front}
