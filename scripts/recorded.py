@@ -92,6 +92,21 @@ def others(said, pk, sk, signature):
     ))
 
 
+def attempts_stand(program):
+    """Whether signing takes attempts 0 to 813 and no other: over zero bytes the one coefficient that y has everywhere is gamma1, which is
+    rejected, but in one attempt y is 0. The set has one column and no row, and a challenge without signs."""
+    sk = Record({"rho": (), "key": (), "tr": (), "s1": (), "s2": (), "t0": ()})
+    zero = sum(131072 << 18 * place for place in PLACES).to_bytes(576, "little")
+
+    def refuses(kept):
+        seed = bytes(64) + kept.to_bytes(2, "little")
+        program.space.update(v_sk=sk, v_H=Function(lambda xs: tuple(zero if bytes(listed(xs)) == seed else bytes(576)), 1, (), "H"))
+        text = "sign_with (record set_44 { tau = 0; k = 0; l = 1 }) H [] sk [] [] ≡ Err TooManyAttempts"
+        return program.evaluated(Parser(text).term(), ("H", "sk"))
+
+    return [refuses(kept) for kept in (0, 813, 814)] == [False, False, True]
+
+
 def fronts(said, message):
     """Whether the streams of this repository have the blocks that `hashlib` gives, and the shorter are prefixes of the longer."""
     def blocks(hash_, count):
