@@ -1,10 +1,18 @@
 /* mldsa.h - ML-DSA (FIPS 204) at the parameter sets 44, 65 and 87, over SHAKE
  *
- * The declarations of libmldsa_c.a, whose code is proved: each call answers what FIPS 204 says, reads and writes nothing
- * but the arrays that it is given, and ends. docs/SPEC.md says what that rests on.
+ * Read an answer as 0 or not 0. verify answers 0 (MLDSA_YES) if the signature is accepted, and every other answer is a
+ * rejection, that of a wrong length too. The one right test is
  *
- * An array is a pointer and, right after it, its length in bytes. No length is an error of the program: a wrong one is
- * answered by MLDSA_WRONG_LENGTH. The arrays that a call writes are those without const; they come last. They are
+ *     if (mldsa65_verify(..) == MLDSA_YES)
+ *         .. accepted ..
+ *
+ * and likewise for is_whole and is_pair. A compiler that knows how warns where an answer is not used.
+ *
+ * These are the declarations of libmldsa_c.a, whose code is proved: each call answers what FIPS 204 says, reads and writes
+ * nothing but the arrays that it is given, and ends. docs/SPEC.md says what that rests on.
+ *
+ * An array is a pointer and, right after it, its length in bytes. A wrong length is safe: the call answers
+ * MLDSA_WRONG_LENGTH and writes nothing. The arrays that a call writes are those without const; they come last. They are
  * written only if the answer is MLDSA_DONE, and are as they were after every other one.
  *
  * The caller owes, and nothing checks:
@@ -18,25 +26,34 @@
  * The calls keep no state, allocate nothing, call nothing but memcpy, memmove and memset, and may run in any number of threads.
  * They leave secrets on the stack below the caller's frame, and are not claimed to run in constant time.
  *
- * A set's calls are these, with its number in the name (mldsa44_keygen, mldsa65_keygen, mldsa87_keygen):
+ * A set's calls are these, with its number in the name (mldsa44_keygen, mldsa65_keygen, mldsa87_keygen). Behind each stand
+ * the answers that it has beside 0 and MLDSA_WRONG_LENGTH. MLDSA_SAMPLING_LIMIT stands for inputs that nobody knows.
  *
  *  keygen              writes the key pair of a seed of MLDSA_SEED_LEN bytes. Whoever has the seed has the key.
- *  sign                signs a message under a context of at most 255 bytes. random has MLDSA_RANDOM_LEN bytes; zeros
- *                      give the deterministic variant of the standard.
- *  verify              MLDSA_YES if the public key accepts the signature of the message under the context, else MLDSA_NO
- *                      (also if the context has more than 255 bytes).
+ *                      [MLDSA_SAMPLING_LIMIT]
+ *  sign                signs a message under a context of at most 255 bytes, with the hash tr that the private key keeps.
+ *                      random has MLDSA_RANDOM_LEN bytes; zeros give the deterministic variant of the standard.
+ *                      [MLDSA_KEY_RANGE, MLDSA_CONTEXT_TOO_LONG, MLDSA_SAMPLING_LIMIT, MLDSA_TOO_MANY_ATTEMPTS]
+ *  verify              whether the public key accepts the signature of the message under the context. A context of more
+ *                      than 255 bytes is not accepted. [MLDSA_NO]
  *  hash_sign           signs the digest of a message that a hash function made. oid is the function's object identifier
- *  hash_verify         in DER, as 06 09 60 86 48 01 65 03 04 02 01 for SHA-256; the digest of one of the twelve functions
- *                      that FIPS 204 names must have that function's length, and any other at most 1024 bytes.
- *  sign_mu             signs a message of any size that was hashed beforehand: mu, of MLDSA_MU_LEN bytes, are the first 64
- *  verify_mu           bytes of SHAKE256 over tr, 00, the context's length as a byte, the context and the message, where tr
- *                      are the first 64 bytes of SHAKE256 over the public key. The signature is that of sign.
- *  public_key          writes the public key that belongs to a private one.
- *  check_private_key   whether the bytes are a private key at all: MLDSA_DONE or MLDSA_KEY_RANGE. Each call with a private
- *                      key checks that too.
- *  is_whole            MLDSA_YES if the part t0 of a private key belongs to its parts s1 and s2, else MLDSA_NO. keygen makes
- *                      no other keys. The key's hash tr of the public key is not looked at: to know that a key from
- *                      elsewhere works, verify a signature of it under the public key that public_key writes.
+ *  hash_verify         in DER, as MLDSA_OID_SHA2_256; the digest of one of the twelve functions that FIPS 204 names must have
+ *                      that function's length, and any other at most 1024 bytes. [hash_sign: MLDSA_KEY_RANGE,
+ *                      MLDSA_HASH_CONTEXT_TOO_LONG, MLDSA_OID_EMPTY, MLDSA_OID_NOT_DER, MLDSA_DIGEST_TOO_LONG,
+ *                      MLDSA_DIGEST_LENGTH, MLDSA_SAMPLING_LIMIT, MLDSA_TOO_MANY_ATTEMPTS; hash_verify: MLDSA_NO]
+ *  mu_begin            begins a message in pieces, under a context, for a public key that verifies it or for a private key
+ *  mu_begin_private    that signs it (under the tr that this keeps): writes a state of MLDSA_STATE_LEN bytes. Then
+ *                      mldsa_mu_update adds pieces, and mldsa_mu_finish writes mu. [MLDSA_CONTEXT_TOO_LONG]
+ *  sign_mu             signs a message of which this is mu, of MLDSA_MU_LEN bytes: the first 64 bytes of SHAKE256 over tr, 00,
+ *  verify_mu           the context's length as a byte, the context and the message, where tr are the first 64 bytes of
+ *                      SHAKE256 over the public key. The signature is that of sign, if the private key keeps this tr.
+ *                      [sign_mu: MLDSA_KEY_RANGE, MLDSA_SAMPLING_LIMIT, MLDSA_TOO_MANY_ATTEMPTS; verify_mu: MLDSA_NO]
+ *  public_key          writes the public key that belongs to a private one. [MLDSA_KEY_RANGE, MLDSA_SAMPLING_LIMIT]
+ *  check_private_key   whether the bytes are a private key at all, which each call with a private key checks too.
+ *                      [MLDSA_KEY_RANGE]
+ *  is_pair             whether a private key from elsewhere works: whether what it signs is accepted under the public key
+ *                      that public_key writes. keygen makes no other keys. [MLDSA_NO, MLDSA_KEY_RANGE, MLDSA_SAMPLING_LIMIT]
+ *  is_whole            the same without a look at tr: whether the part t0 of the key belongs to its parts s1 and s2. [as is_pair]
  */
 #ifndef MLDSA_H
 #define MLDSA_H
@@ -46,6 +63,20 @@
 
 #ifdef __cplusplus
 extern "C" {
+#endif
+
+/* The version of this header; mldsa_version answers that of the library, as 65536 * major + 256 * minor + patch. What this
+ * header of 0.2 declares stays as it is in every 0.2: versions differ in what is added. */
+#define MLDSA_VERSION 0x000200
+#define MLDSA_VERSION_TEXT "0.2.0"
+
+/* The answer of a call is to be looked at. */
+#if (defined(__cplusplus) && __cplusplus >= 201703L) || (defined(__STDC_VERSION__) && __STDC_VERSION__ >= 202311L)
+#define MLDSA_ANSWERS [[nodiscard]]
+#elif defined(__GNUC__)
+#define MLDSA_ANSWERS __attribute__((warn_unused_result))
+#else
+#define MLDSA_ANSWERS
 #endif
 
 /* What a call answers. mldsa_text has a text for each. */
@@ -62,15 +93,33 @@ enum mldsa_status {
     MLDSA_DIGEST_LENGTH = 10,         /* hash_sign: the digest has not the length of the function's digests */
     MLDSA_TOO_MANY_ATTEMPTS = 13,     /* signing: all 814 attempts were rejected, as with a key that is not whole */
     MLDSA_KEY_RANGE = 14,             /* the bytes are no private key */
-    MLDSA_SAMPLING_LIMIT = 15         /* rejection sampling reached its limit; no such input is known */
+    MLDSA_SAMPLING_LIMIT = 15,        /* rejection sampling reached its limit; no such input is known */
+    MLDSA_BROKEN_STATE = 16           /* mldsa_mu_update, mldsa_mu_finish: no call has written this state */
 };
 
 #define MLDSA_SEED_LEN 32
 #define MLDSA_RANDOM_LEN 32
 #define MLDSA_MU_LEN 64
+#define MLDSA_STATE_LEN 337
 
 /* A pointer for an array of length 0. */
 #define MLDSA_NOTHING ((const uint8_t *)"")
+
+/* The object identifiers of the twelve hash functions that FIPS 204 names, each an argument oid: MLDSA_OID_SHA2_256, MLDSA_OID_LEN. */
+#define MLDSA_OID_LEN 11
+#define MLDSA_OID(n) ((const uint8_t *)"\x06\x09\x60\x86\x48\x01\x65\x03\x04\x02" n)
+#define MLDSA_OID_SHA2_256 MLDSA_OID("\x01")
+#define MLDSA_OID_SHA2_384 MLDSA_OID("\x02")
+#define MLDSA_OID_SHA2_512 MLDSA_OID("\x03")
+#define MLDSA_OID_SHA2_224 MLDSA_OID("\x04")
+#define MLDSA_OID_SHA2_512_224 MLDSA_OID("\x05")
+#define MLDSA_OID_SHA2_512_256 MLDSA_OID("\x06")
+#define MLDSA_OID_SHA3_224 MLDSA_OID("\x07")
+#define MLDSA_OID_SHA3_256 MLDSA_OID("\x08")
+#define MLDSA_OID_SHA3_384 MLDSA_OID("\x09")
+#define MLDSA_OID_SHA3_512 MLDSA_OID("\x0a")
+#define MLDSA_OID_SHAKE128 MLDSA_OID("\x0b")
+#define MLDSA_OID_SHAKE256 MLDSA_OID("\x0c")
 
 /* ML-DSA-44. */
 
@@ -78,35 +127,54 @@ enum mldsa_status {
 #define MLDSA44_PRIVATE_KEY_LEN 2560
 #define MLDSA44_SIGNATURE_LEN 2420
 
-#define MLDSA44_STACK_KEYGEN 112640
-#define MLDSA44_STACK_SIGN 180224
-#define MLDSA44_STACK_VERIFY 93184
+#define MLDSA44_STACK_KEYGEN 120832
+#define MLDSA44_STACK_SIGN 181248
+#define MLDSA44_STACK_VERIFY 96256
 #define MLDSA44_STACK_PUBLIC_KEY 133120
 #define MLDSA44_STACK_CHECK 95232
 #define MLDSA44_STACK_WHOLE 117760
+#define MLDSA44_STACK_PAIR 121856
 
+MLDSA_ANSWERS
 uint32_t mldsa44_keygen(const uint8_t *seed, size_t seed_len, uint8_t *public_key, size_t public_key_len,
                         uint8_t *private_key, size_t private_key_len);
+MLDSA_ANSWERS
 uint32_t mldsa44_sign(const uint8_t *private_key, size_t private_key_len, const uint8_t *message, size_t message_len,
                       const uint8_t *context, size_t context_len, const uint8_t *random, size_t random_len,
                       uint8_t *signature, size_t signature_len);
+MLDSA_ANSWERS
 uint32_t mldsa44_verify(const uint8_t *public_key, size_t public_key_len, const uint8_t *message, size_t message_len,
                         const uint8_t *context, size_t context_len, const uint8_t *signature, size_t signature_len);
+MLDSA_ANSWERS
 uint32_t mldsa44_hash_sign(const uint8_t *private_key, size_t private_key_len,
                            const uint8_t *digest, size_t digest_len, const uint8_t *context, size_t context_len,
                            const uint8_t *oid, size_t oid_len, const uint8_t *random, size_t random_len,
                            uint8_t *signature, size_t signature_len);
+MLDSA_ANSWERS
 uint32_t mldsa44_hash_verify(const uint8_t *public_key, size_t public_key_len,
                              const uint8_t *digest, size_t digest_len, const uint8_t *context, size_t context_len,
                              const uint8_t *oid, size_t oid_len, const uint8_t *signature, size_t signature_len);
+MLDSA_ANSWERS
 uint32_t mldsa44_sign_mu(const uint8_t *private_key, size_t private_key_len, const uint8_t *mu, size_t mu_len,
                          const uint8_t *random, size_t random_len, uint8_t *signature, size_t signature_len);
+MLDSA_ANSWERS
 uint32_t mldsa44_verify_mu(const uint8_t *public_key, size_t public_key_len, const uint8_t *mu, size_t mu_len,
                            const uint8_t *signature, size_t signature_len);
+MLDSA_ANSWERS
 uint32_t mldsa44_public_key(const uint8_t *private_key, size_t private_key_len,
                             uint8_t *public_key, size_t public_key_len);
+MLDSA_ANSWERS
 uint32_t mldsa44_check_private_key(const uint8_t *private_key, size_t private_key_len);
+MLDSA_ANSWERS
 uint32_t mldsa44_is_whole(const uint8_t *private_key, size_t private_key_len);
+MLDSA_ANSWERS
+uint32_t mldsa44_is_pair(const uint8_t *private_key, size_t private_key_len);
+MLDSA_ANSWERS
+uint32_t mldsa44_mu_begin(const uint8_t *public_key, size_t public_key_len, const uint8_t *context, size_t context_len,
+                          uint8_t *state, size_t state_len);
+MLDSA_ANSWERS
+uint32_t mldsa44_mu_begin_private(const uint8_t *private_key, size_t private_key_len,
+                                  const uint8_t *context, size_t context_len, uint8_t *state, size_t state_len);
 
 /* ML-DSA-65. */
 
@@ -114,35 +182,54 @@ uint32_t mldsa44_is_whole(const uint8_t *private_key, size_t private_key_len);
 #define MLDSA65_PRIVATE_KEY_LEN 4032
 #define MLDSA65_SIGNATURE_LEN 3309
 
-#define MLDSA65_STACK_KEYGEN 150528
-#define MLDSA65_STACK_SIGN 236544
-#define MLDSA65_STACK_VERIFY 113664
-#define MLDSA65_STACK_PUBLIC_KEY 184320
+#define MLDSA65_STACK_KEYGEN 164864
+#define MLDSA65_STACK_SIGN 238592
+#define MLDSA65_STACK_VERIFY 122880
+#define MLDSA65_STACK_PUBLIC_KEY 185344
 #define MLDSA65_STACK_CHECK 128000
 #define MLDSA65_STACK_WHOLE 161792
+#define MLDSA65_STACK_PAIR 166912
 
+MLDSA_ANSWERS
 uint32_t mldsa65_keygen(const uint8_t *seed, size_t seed_len, uint8_t *public_key, size_t public_key_len,
                         uint8_t *private_key, size_t private_key_len);
+MLDSA_ANSWERS
 uint32_t mldsa65_sign(const uint8_t *private_key, size_t private_key_len, const uint8_t *message, size_t message_len,
                       const uint8_t *context, size_t context_len, const uint8_t *random, size_t random_len,
                       uint8_t *signature, size_t signature_len);
+MLDSA_ANSWERS
 uint32_t mldsa65_verify(const uint8_t *public_key, size_t public_key_len, const uint8_t *message, size_t message_len,
                         const uint8_t *context, size_t context_len, const uint8_t *signature, size_t signature_len);
+MLDSA_ANSWERS
 uint32_t mldsa65_hash_sign(const uint8_t *private_key, size_t private_key_len,
                            const uint8_t *digest, size_t digest_len, const uint8_t *context, size_t context_len,
                            const uint8_t *oid, size_t oid_len, const uint8_t *random, size_t random_len,
                            uint8_t *signature, size_t signature_len);
+MLDSA_ANSWERS
 uint32_t mldsa65_hash_verify(const uint8_t *public_key, size_t public_key_len,
                              const uint8_t *digest, size_t digest_len, const uint8_t *context, size_t context_len,
                              const uint8_t *oid, size_t oid_len, const uint8_t *signature, size_t signature_len);
+MLDSA_ANSWERS
 uint32_t mldsa65_sign_mu(const uint8_t *private_key, size_t private_key_len, const uint8_t *mu, size_t mu_len,
                          const uint8_t *random, size_t random_len, uint8_t *signature, size_t signature_len);
+MLDSA_ANSWERS
 uint32_t mldsa65_verify_mu(const uint8_t *public_key, size_t public_key_len, const uint8_t *mu, size_t mu_len,
                            const uint8_t *signature, size_t signature_len);
+MLDSA_ANSWERS
 uint32_t mldsa65_public_key(const uint8_t *private_key, size_t private_key_len,
                             uint8_t *public_key, size_t public_key_len);
+MLDSA_ANSWERS
 uint32_t mldsa65_check_private_key(const uint8_t *private_key, size_t private_key_len);
+MLDSA_ANSWERS
 uint32_t mldsa65_is_whole(const uint8_t *private_key, size_t private_key_len);
+MLDSA_ANSWERS
+uint32_t mldsa65_is_pair(const uint8_t *private_key, size_t private_key_len);
+MLDSA_ANSWERS
+uint32_t mldsa65_mu_begin(const uint8_t *public_key, size_t public_key_len, const uint8_t *context, size_t context_len,
+                          uint8_t *state, size_t state_len);
+MLDSA_ANSWERS
+uint32_t mldsa65_mu_begin_private(const uint8_t *private_key, size_t private_key_len,
+                                  const uint8_t *context, size_t context_len, uint8_t *state, size_t state_len);
 
 /* ML-DSA-87. */
 
@@ -150,45 +237,81 @@ uint32_t mldsa65_is_whole(const uint8_t *private_key, size_t private_key_len);
 #define MLDSA87_PRIVATE_KEY_LEN 4896
 #define MLDSA87_SIGNATURE_LEN 4627
 
-#define MLDSA87_STACK_KEYGEN 194560
-#define MLDSA87_STACK_SIGN 319488
-#define MLDSA87_STACK_VERIFY 161792
-#define MLDSA87_STACK_PUBLIC_KEY 253952
+#define MLDSA87_STACK_KEYGEN 216064
+#define MLDSA87_STACK_SIGN 320512
+#define MLDSA87_STACK_VERIFY 176128
+#define MLDSA87_STACK_PUBLIC_KEY 262144
 #define MLDSA87_STACK_CHECK 178176
 #define MLDSA87_STACK_WHOLE 223232
+#define MLDSA87_STACK_PAIR 232448
 
+MLDSA_ANSWERS
 uint32_t mldsa87_keygen(const uint8_t *seed, size_t seed_len, uint8_t *public_key, size_t public_key_len,
                         uint8_t *private_key, size_t private_key_len);
+MLDSA_ANSWERS
 uint32_t mldsa87_sign(const uint8_t *private_key, size_t private_key_len, const uint8_t *message, size_t message_len,
                       const uint8_t *context, size_t context_len, const uint8_t *random, size_t random_len,
                       uint8_t *signature, size_t signature_len);
+MLDSA_ANSWERS
 uint32_t mldsa87_verify(const uint8_t *public_key, size_t public_key_len, const uint8_t *message, size_t message_len,
                         const uint8_t *context, size_t context_len, const uint8_t *signature, size_t signature_len);
+MLDSA_ANSWERS
 uint32_t mldsa87_hash_sign(const uint8_t *private_key, size_t private_key_len,
                            const uint8_t *digest, size_t digest_len, const uint8_t *context, size_t context_len,
                            const uint8_t *oid, size_t oid_len, const uint8_t *random, size_t random_len,
                            uint8_t *signature, size_t signature_len);
+MLDSA_ANSWERS
 uint32_t mldsa87_hash_verify(const uint8_t *public_key, size_t public_key_len,
                              const uint8_t *digest, size_t digest_len, const uint8_t *context, size_t context_len,
                              const uint8_t *oid, size_t oid_len, const uint8_t *signature, size_t signature_len);
+MLDSA_ANSWERS
 uint32_t mldsa87_sign_mu(const uint8_t *private_key, size_t private_key_len, const uint8_t *mu, size_t mu_len,
                          const uint8_t *random, size_t random_len, uint8_t *signature, size_t signature_len);
+MLDSA_ANSWERS
 uint32_t mldsa87_verify_mu(const uint8_t *public_key, size_t public_key_len, const uint8_t *mu, size_t mu_len,
                            const uint8_t *signature, size_t signature_len);
+MLDSA_ANSWERS
 uint32_t mldsa87_public_key(const uint8_t *private_key, size_t private_key_len,
                             uint8_t *public_key, size_t public_key_len);
+MLDSA_ANSWERS
 uint32_t mldsa87_check_private_key(const uint8_t *private_key, size_t private_key_len);
+MLDSA_ANSWERS
 uint32_t mldsa87_is_whole(const uint8_t *private_key, size_t private_key_len);
+MLDSA_ANSWERS
+uint32_t mldsa87_is_pair(const uint8_t *private_key, size_t private_key_len);
+MLDSA_ANSWERS
+uint32_t mldsa87_mu_begin(const uint8_t *public_key, size_t public_key_len, const uint8_t *context, size_t context_len,
+                          uint8_t *state, size_t state_len);
+MLDSA_ANSWERS
+uint32_t mldsa87_mu_begin_private(const uint8_t *private_key, size_t private_key_len,
+                                  const uint8_t *context, size_t context_len, uint8_t *state, size_t state_len);
 
-/* The same for every set: whether a digest and the object identifier of its hash function can be signed: MLDSA_DONE, or
+/* The same for every set.
+ *
+ * Pieces of a message: mldsa_mu_update adds one to the message of a state that mu_begin or mu_begin_private wrote, and
+ * mldsa_mu_finish writes mu of it, of MLDSA_MU_LEN bytes; the state stays as it is, so that more can be added. A state is no
+ * secret beyond its message, and may be copied. Any bytes are safe in it: bytes that no call wrote are answered by
+ * MLDSA_BROKEN_STATE, or give mu of something. */
+#define MLDSA_STACK_MU 3072
+MLDSA_ANSWERS
+uint32_t mldsa_mu_update(const uint8_t *piece, size_t piece_len, uint8_t *state, size_t state_len);
+MLDSA_ANSWERS
+uint32_t mldsa_mu_finish(const uint8_t *state, size_t state_len, uint8_t *mu, size_t mu_len);
+
+/* The version of the library. */
+MLDSA_ANSWERS
+uint32_t mldsa_version(void);
+
+/* Whether a digest and the object identifier of its hash function can be signed: MLDSA_DONE, or
  * what hash_sign would answer of them. Takes next to no time, so ask before you draw random bytes. */
+MLDSA_ANSWERS
 uint32_t mldsa_check_pre_hash(const uint8_t *digest, size_t digest_len, const uint8_t *oid, size_t oid_len);
 
 /* The text of an answer. */
 static inline const char *mldsa_text(uint32_t status)
 {
     switch (status) {
-    case MLDSA_DONE: return "done";
+    case MLDSA_DONE: return "no error (of a question: yes)";
     case MLDSA_NO: return "no";
     case MLDSA_WRONG_LENGTH: return "an array has the wrong length";
     case MLDSA_CONTEXT_TOO_LONG: return "ML-DSA.Sign: ctx too long";
@@ -200,6 +323,7 @@ static inline const char *mldsa_text(uint32_t status)
     case MLDSA_TOO_MANY_ATTEMPTS: return "ML-DSA.Sign: too many attempts";
     case MLDSA_KEY_RANGE: return "Alg 25: s1 or s2 out of range";
     case MLDSA_SAMPLING_LIMIT: return "sampling limit reached";
+    case MLDSA_BROKEN_STATE: return "the state of a message in pieces is broken";
     default: return "no answer of this library";
     }
 }

@@ -13,7 +13,7 @@ import re
 from specs import files
 
 TOKEN = re.compile(r'\s*(?:("[^"]*")|(0x[0-9A-Fa-f]+|\d+)|([^\W\d][\w\']*)|(\.(?=\w)|[+\-*≤<]ℤ|\+\+|&&|\|\||\S))')
-LEVELS = [("→",), ("↔",), ("⊎",), ("×",), ("≡", "≢"), ("||",), ("&&",), ("<", "≤", "<ℤ", "≤ℤ"), ("∷", "++"), ("+", "-", "+ℤ", "-ℤ")]
+LEVELS = [("→",), ("↔",), ("⊎",), ("×",), ("≡", "≢"), ("||",), ("&&",), ("<", "≤", "<ℤ", "≤ℤ"), ("∷", "++"), ("+", "-", "+ℤ", "-ℤ", "⊕")]
 LEVELS += [("*", "/", "%", "*ℤ"), ("^",)]
 RIGHT = {"∷", "++", "^", "&&", "||", "→", "⊎", "×"}
 OPERATOR = {
@@ -21,6 +21,7 @@ OPERATOR = {
     "≡": "same({}, {})", "||": "({} or {})", "&&": "({} and {})", "<": "({} < {})", "≤": "({} <= {})", "<ℤ": "({} < {})", "≤ℤ": "({} <= {})",
     "∷": "(({},) + listed({}))", "++": "(listed({}) + listed({}))", "+": "({} + {})", "-": "less({}, {})", "+ℤ": "({} + {})",
     "-ℤ": "({} - {})", "*": "({} * {})", "*ℤ": "({} * {})", "/": "over({}, {})", "%": "modulo({}, {})", "^": "({} ** {})",
+    "⊕": "({} ^ {})",
 }
 
 
@@ -367,6 +368,15 @@ def folded(f, start, xs):
     return start
 
 
+def put(xs, place, x):
+    return tuple(x if at == place else other for at, other in enumerate(listed(xs)))
+
+
+def rotated(width, x, count):
+    count %= 8 * width
+    return (x << count | x >> (8 * width - count)) % 2 ** (8 * width)
+
+
 def found(f, xs):
     return next((some(x) for x in listed(xs) if ap(f, x)), NOTHING)
 
@@ -411,11 +421,18 @@ LIBRARY = {
     "ok_or": (2, lambda x, fault: Made("Ok", x.parts) if x.name == "Some" else Made("Err", (fault,))),
     "unwrap_or": (2, lambda x, other: x.parts[0] if x.name == "Some" else other),
     "to_le_bytes": (2, lambda width, n: tuple((n % 2 ** (8 * width)).to_bytes(width, "little"))),
+    "from_le_bytes": (2, lambda width, xs: int.from_bytes(bytes(listed(xs)), "little")),
+    "div_ceil": (2, lambda a, b: -(-a // b)),
+    "slice_set": (3, put),
+    "bit_and": (2, lambda a, b: a & b),
+    "bit_xor": (2, lambda a, b: a ^ b),
+    "bit_not": (2, lambda width, a: 2 ** (8 * width) - 1 - a),
+    "rotate_left": (3, rotated),
     "codes": (1, lambda text: tuple(text.encode())),
     "sha256": (1, lambda xs: tuple(hashlib.sha256(bytes(listed(xs))).digest())),
     "sha512": (1, lambda xs: tuple(hashlib.sha512(bytes(listed(xs))).digest())),
 }
-CONSTANTS = {"zero": 0, "true": True, "false": False, "⊥": False, "w16": 2, "w32": 4, "None": NOTHING}
+CONSTANTS = {"zero": 0, "true": True, "false": False, "⊥": False, "w16": 2, "w32": 4, "w64": 8, "None": NOTHING}
 CONSTRUCTORS = {"Some": 1, "Ok": 1, "Err": 1, "None": 0}
 FAULTS = ("KeyGenRng", "SignCtx", "SignRng", "HashCtx", "OidEmpty", "OidNotDer", "DigestTooLong", "DigestLength", "HashRng", "InternalRng", "TooManyAttempts", "KeyRange", "SamplingLimit")
 CONSTRUCTORS.update({name: 0 for name in FAULTS})
@@ -671,5 +688,6 @@ def mangled(name):
     return f"d_{clean(name)}"
 
 
-def program():
-    return Program(files())
+def program(*crates):
+    """The definitions of these crates, or of both libraries."""
+    return Program(files(crates) if crates else files())

@@ -1,6 +1,6 @@
 """Keys, signatures and verdicts by the definitions of specs/, over SHAKE256 and SHAKE128, for what `run-definitions.tsv` records.
 
-Fronts have 4096 bytes. For speed the values of `product` and `inverse_transform` at all 256 places are computed at once, by the sums of
+Fronts have 4096 bytes, and are those of `hashlib`, to which `sponge_stands` compares the definitions of `crates/shake`. For speed the values of `product` and `inverse_transform` at all 256 places are computed at once, by the sums of
 their definitions; nothing else is replaced. Verifying is a relation: evaluated is what it asks for, w1' of the parts of the signature and
 the hash of mu and w1'; the parts are cut here, the hint by Algorithm 21. Beside these: the public key that is derived of the private
 one, prepared keys, the set of its own numbers, and the fronts of the streams of this repository.
@@ -63,23 +63,24 @@ def sha256(xs):
 
 def hashes(program, row):
     """The hashes of both keys and the signature of a row, and whether the signature is accepted and the rest holds."""
-    name, seed, random, context, message = row[:5]
-    seed, random, context, message = (tuple(bytes.fromhex(part)) for part in (seed, random, context, message))
+    name, seed, random, context, text = row[:5]
+    seed, random, context, text, oid = (tuple(bytes.fromhex(part)) for part in (seed, random, context, text, "".join(row[8:])))
     shake256 = Function(lambda xs: tuple(hashlib.shake_256(bytes(listed(xs))).digest(4096)), 1, (), "H")
     shake128 = Function(lambda xs: tuple(hashlib.shake_128(bytes(listed(xs))).digest(4096)), 1, (), "G")
-    program.space.update(v_p=program.value(f"set_{name}"), v_H=shake256, v_G=shake128, v_xi=seed, v_rnd=random, v_context=context, v_message=message)
+    program.space.update(v_p=program.value(f"set_{name}"), v_H=shake256, v_G=shake128, v_xi=seed, v_rnd=random, v_context=context, v_text=text, v_oid=oid)
+    program.space["v_input"] = program.evaluated(Parser("hashed text context oid" if oid else "plain text context").term(), ("text", "context", "oid"))
 
     def said(text, **more):
         program.space.update({f"v_{word}": value for word, value in more.items()})
-        scope = ("p", "H", "G", "xi", "rnd", "context", "message", *more)
+        scope = ("p", "H", "G", "xi", "rnd", "text", "input", *more)
         return program.evaluated(Parser(text).term(), scope)
 
     pair = said("generated p H G xi").parts[0]
     pk, sk = pair.get("0"), pair.get("1")
     public = said("public_key_bytes pk.rho pk.t1", pk=pk)
     private = said("private_key_bytes p.eta sk", sk=sk)
-    signature = listed(now(said("sign_input p H G sk rnd (plain message context)", sk=sk).parts[0]))
-    return [sha256(part) for part in (public, private, signature)], verified(said, pk, signature) and others(said, pk, sk, signature) and fronts(said, message)
+    signature = listed(now(said("sign_input p H G sk rnd input", sk=sk).parts[0]))
+    return [sha256(part) for part in (public, private, signature)], verified(said, pk, signature) and others(said, pk, sk, signature) and fronts(said, text)
 
 
 def others(said, pk, sk, signature):
@@ -87,9 +88,22 @@ def others(said, pk, sk, signature):
     prepared, public = said("prepared_private p G sk", sk=sk).parts[0], said("prepared_public p G pk", pk=pk).parts[0]
     known = dict(pk=pk, sk=sk, prepared=prepared, public=public, signature=signature)
     return all(said(text, **known) for text in (
-        "derived p G sk ≡ Ok pk", "sign_prepared p H prepared rnd (plain message context) ≡ Ok signature", "IsWholePrepared p prepared",
+        "derived p G sk ≡ Ok pk", "sign_prepared p H prepared rnd input ≡ Ok signature", "IsWholePrepared p prepared",
         "public_of_prepared p prepared ≡ public", "set_of p ≡ p",
     ))
+
+
+def sponge_stands():
+    """Whether the definitions of `crates/shake` give the bytes of `hashlib`, for messages and outputs about the ends of blocks."""
+    program = evaluate.program("shake")
+    cases = [(size, 40) for size in (0, 1, 7, 8, 34, 66)] + [(size, 1) for size in (135, 136, 137, 167, 168, 169, 271, 272, 273, 336, 337)]
+    cases += [(34, size) for size in (0, 1, 135, 136, 137, 167, 168, 169, 272, 505)]
+    for size, wanted in cases:
+        message = bytes((73 * place + 5 * size) % 256 for place in range(size))
+        for name, hash_ in (("shake128", hashlib.shake_128), ("shake256", hashlib.shake_256)):
+            if bytes(listed(program.value(name, tuple(message), wanted))) != hash_(message).digest(wanted):
+                return False
+    return True
 
 
 def attempts_stand(program):
@@ -107,17 +121,17 @@ def attempts_stand(program):
     return [refuses(kept) for kept in (0, 813, 814)] == [False, False, True]
 
 
-def fronts(said, message):
+def fronts(said, text):
     """Whether the streams of this repository have the blocks that `hashlib` gives, and the shorter are prefixes of the longer."""
     def blocks(hash_, count):
-        seed = hash_(bytes(message)).digest()
+        seed = hash_(bytes(text)).digest()
         return tuple(b"".join(hash_(seed + i.to_bytes(4, "little")).digest() for i in range(count)))
 
     known = (("sha256", hashlib.sha256, 128, 512), ("sha512", hashlib.sha512, 64, 256))
     return all(
-        listed(now(said(f"{name}_front message"))) == blocks(hash_, count) and listed(now(said(f"{name}_long_front message"))) == blocks(hash_, longer)
-        and said(f"IsPrefix ({name}_front message) ({name}_long_front message)") and not said(f"IsPrefix ({name}_long_front message) ({name}_front message)")
-        and not said(f"IsPrefix (1 ∷ {name}_front message) ({name}_long_front message)")
+        listed(now(said(f"{name}_front text"))) == blocks(hash_, count) and listed(now(said(f"{name}_long_front text"))) == blocks(hash_, longer)
+        and said(f"IsPrefix ({name}_front text) ({name}_long_front text)") and not said(f"IsPrefix ({name}_long_front text) ({name}_front text)")
+        and not said(f"IsPrefix (1 ∷ {name}_front text) ({name}_long_front text)")
         for name, hash_, count, longer in known
     )
 
@@ -131,5 +145,5 @@ def verified(said, pk, signature):
     ends = (0, *hint[omega:])
     h = tuple(Record({"0": tuple(int(place in hint[start:end]) for place in PLACES)}) for start, end in zip(ends, ends[1:]))
     a, c = said("sampled_matrix G pk.rho p.k p.l", pk=pk).parts[0], said("challenge p.tau (H c_tilde)", c_tilde=c_tilde).parts[0]
-    mu = said("representative H pk.tr (plain message context)", pk=pk)
+    mu = said("representative H pk.tr input", pk=pk)
     return listed(said("take (c_tilde_length p) (H (mu ++ w1_bytes p.gamma2 (w1_prime p a pk.t1 z h c)))", pk=pk, mu=mu, a=a, z=z, h=h, c=c)) == c_tilde

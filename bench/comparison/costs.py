@@ -22,19 +22,33 @@ def said(*command):
         return ""
 
 
-def machine():
+def machine(cpu="x86-64-v2"):
     """Gives lines that name the day, the versions and the kind of machine."""
     with open("/proc/cpuinfo", encoding="ascii") as it:
-        cpu = it.read()
-    model = re.search(r"model name\s*: (.*)", cpu)
+        processor = it.read()
+    model = re.search(r"model name\s*: (.*)", processor)
     crates = sorted(it for it in os.listdir(REGISTRY) if re.match(r"(sha2|rand_core|zeroize)-\d", it))
     changed = " with changes" if said("git", "-C", TOP, "status", "--porcelain", "--", "crates") else ""
     return [
         f"{time.strftime('%Y-%m-%d')}, commit {said('git', '-C', TOP, 'rev-parse', '--short', 'HEAD')}{changed} by {said('rt', 'version')}, beside fips204 0.5.0 by",
-        f"{said('rustc', '-V')} (release, x86-64-v2) over {', '.join(crates)}; {said('valgrind', '--version')}.",
+        f"{said('rustc', '-V')} (release, {cpu}) over {', '.join(crates)}; {said('valgrind', '--version')}.",
         f"{os.cpu_count()} processors, {model[1] if model else platform.machine()}, "
-        f"{'with' if 'sha_ni' in cpu else 'without'} instructions for SHA; load {os.getloadavg()[0]:.1f} at the start.",
+        f"{'with' if 'sha_ni' in processor else 'without'} instructions for SHA; load {os.getloadavg()[0]:.1f} at the start.",
     ]
+
+
+def put_section(heading, lines):
+    """Puts a section into bench/table.md, in the place of the one of that heading, or else before the ratios."""
+    with open(TABLE, encoding="utf-8") as it:
+        parts = re.split(r"^(?=## )", it.read(), flags=re.M)
+    made = "\n".join([heading, "", *lines]) + "\n\n"
+    heads = [part.partition("\n")[0] for part in parts]
+    if heading in heads:
+        parts[heads.index(heading)] = made
+    else:
+        parts.insert(heads.index(HEADING), made)
+    with open(TABLE, "w", encoding="utf-8") as it:
+        it.write("".join(parts).rstrip("\n") + "\n")
 
 
 def cases(sets):
@@ -144,11 +158,8 @@ def table(programs, sets, runs, room, lines):
     for name, words, data, short in cases(sets):
         pairs = row(programs, words, data, short, runs, room)
         print(f"| {name} | {' | '.join(f'{ours:.4g} / {rust:.4g} = {ours / rust:.2f}' for ours, rust in pairs)} |", flush=True)
-        ratios.append(f"| {name} | {' | '.join(f'{ours / rust:.2f}' for ours, rust in pairs)} |\n")
+        ratios.append(f"| {name} | {' | '.join(f'{ours / rust:.2f}' for ours, rust in pairs)} |")
     if lines:
-        with open(TABLE, encoding="utf-8") as it:
-            before = it.read().split(HEADING)[0].rstrip("\n")
         columns = [it.split(",")[0] for it in COLUMNS]
-        head = f"| {' | '.join(columns)} |\n|---{'|---' * (len(columns) - 1)}|\n"
-        with open(TABLE, "w", encoding="utf-8") as it:
-            it.write(f"{before}\n\n{HEADING}\n\nRatios of ours to the Rust, as `bench/against-rust` prints them. {' '.join(lines)}\n\n{head}{''.join(ratios)}")
+        head = [f"| {' | '.join(columns)} |", "|---" * len(columns) + "|"]
+        put_section(HEADING, [f"Ratios of ours to the Rust, as `bench/against-rust` prints them. {' '.join(lines)}", "", *head, *ratios])

@@ -4,11 +4,14 @@ import os
 import pathlib
 import re
 import shutil
+import statistics
 import subprocess
 import sys
 import textwrap
+import time
 
 from comparison.build import REGISTRY, TOP, lay_out_sources, source
+from comparison.costs import machine, put_section
 
 # The tests of fips204 0.5.0 and its page by their SHA-256: the files, and the modules of tests that its sources have.
 TESTS = {
@@ -90,16 +93,16 @@ def lay_out(folder, room):
     return place
 
 
-def archive():
-    """The folder of the static library, which is built first."""
-    done = subprocess.run([f"{TOP}/scripts/archive"], capture_output=True, text=True, check=False)
+def archive(cpu):
+    """The folder of the static library for a processor, which is built first."""
+    done = subprocess.run([f"{TOP}/scripts/archive", cpu], capture_output=True, text=True, check=False)
     if done.returncode:
         sys.exit(done.stdout + done.stderr)
     return os.path.dirname(done.stdout.strip())
 
 
-def cargo(place, *words):
-    environment = dict(os.environ, MLDSA_C_DIR=archive())
+def cargo(place, cpu, *words):
+    environment = dict(os.environ, MLDSA_C_DIR=archive(cpu), RUSTFLAGS=f"-C target-cpu={cpu}")
     return subprocess.run(["cargo", *words], cwd=place, env=environment, capture_output=True, text=True, check=False)
 
 
@@ -130,7 +133,7 @@ def tests(folder, room, long):
     if long:
         rows.append(("accumulated.rs, 10,000 pairs and signatures a set", ["--release", "--test", "accumulated"]))
     for name, words in rows:
-        done = cargo(place, "test", "--offline", "-p", "fips204", *words)
+        done = cargo(place, "x86-64-v2", "test", "--offline", "-p", "fips204", *words)
         row = results(done)
         if done.returncode and not row[1]:
             row[1] = 1
@@ -147,34 +150,49 @@ def tests(folder, room, long):
     return total[1]
 
 
-def openssl(runs):
-    """Median nanoseconds of the three calls of a set in OpenSSL, by python's cryptography, or None where it is not there."""
+def openssl():
+    """The version of the OpenSSL in Python's `cryptography`, and its module of ML-DSA, or none where it has none."""
     try:
         from cryptography.hazmat.backends.openssl import backend
         from cryptography.hazmat.primitives.asymmetric import mldsa
     except ImportError:
-        return None, {}
-    import statistics
-    import time
+        return None, None
+    return backend.openssl_version_text(), mldsa
 
-    def median(call, cases):
-        taken = []
-        for case in cases:
-            start = time.perf_counter_ns()
-            call(*case)
-            taken.append(time.perf_counter_ns() - start)
-        return statistics.median(taken)
 
-    found = {}
-    for number in ("44", "65", "87"):
-        make = getattr(mldsa, f"MLDSA{number}PrivateKey").from_seed_bytes
-        texts = [it.to_bytes(32, "little") for it in range(runs)]
-        key = make(bytes(32))
-        public = key.public_key()
-        found[number, "keygen"] = median(make, [(it,) for it in texts])
-        found[number, "sign"] = median(key.sign, [(it,) for it in texts])
-        found[number, "verify"] = median(public.verify, [(key.sign(it), it) for it in texts])
-    return backend.openssl_version_text(), found
+def timed(call, *given):
+    start = time.perf_counter_ns()
+    value = call(*given)
+    return value, time.perf_counter_ns() - start
+
+
+def by_openssl(mldsa, number, lines):
+    """The nanoseconds of the three calls in OpenSSL, on the inputs of these lines: seed, public key, message, signature."""
+    private_type, public_type = getattr(mldsa, f"MLDSA{number}PrivateKey"), getattr(mldsa, f"MLDSA{number}PublicKey")
+    taken = []
+    for line in lines:
+        seed, public, message, signature = map(bytes.fromhex, line.split()[:4])
+        key, keygen = timed(private_type.from_seed_bytes, seed)
+        if key.public_key().public_bytes_raw() != public:
+            sys.exit(f"OpenSSL makes another public key of the seed {seed.hex()}")
+        taken.append((keygen, timed(key.sign, message)[1], timed(public_type.from_public_bytes(public).verify, signature, message)[1]))
+    return taken
+
+
+def times(program, number, runs):
+    """The median microseconds of the three calls: the original, ours, and OpenSSL where it is there. They take turns: the first
+    two at each input, OpenSSL after every twentieth."""
+    mldsa, taken = openssl()[1], [[[], [], []] for _ in CALLS]
+    for first in range(0, runs, 20):
+        words = [program, number, str(first), str(min(20, runs - first))]
+        lines = subprocess.run(words, capture_output=True, text=True, check=True).stdout.splitlines()
+        theirs = by_openssl(mldsa, number, lines) if mldsa else [()] * len(lines)
+        for line, other in zip(lines, theirs):
+            own = list(map(int, line.split()[4:]))
+            for call in range(len(CALLS)):
+                for who, value in enumerate([*own[2 * call:2 * call + 2], *other[call:call + 1]]):
+                    taken[call][who].append(value / 1000)
+    return [[statistics.median(it) if it else None for it in call] for call in taken]
 
 
 def instructions(program, number, call, which, room):
@@ -182,29 +200,39 @@ def instructions(program, number, call, which, room):
     counts = []
     for count in ("20", "0"):
         out = f"{room}/calls"
-        words = ["valgrind", "--tool=callgrind", f"--callgrind-out-file={out}", program, count, number, call, which]
+        words = ["valgrind", "--tool=callgrind", f"--callgrind-out-file={out}", program, number, call, which, count]
         subprocess.run(words, capture_output=True, check=True)
         counts.append(int(re.search(r"^(?:summary|totals): (\d+)", pathlib.Path(out).read_text(errors="replace"), re.M)[1]))
     return (counts[0] - counts[1]) / 20
 
 
-def costs(folder, room, runs):
+def costs(folder, room, runs, cpu, write):
     """Prints the table of what the three calls cost at each set: the original, our crate, and OpenSSL."""
-    names = missing() + ([] if shutil.which("valgrind") else ["valgrind"])
+    counted = cpu == "x86-64-v2"
+    names = missing() + (["valgrind"] if counted and not shutil.which("valgrind") else [])
     if names:
         sys.exit(f"missing: {', '.join(names)}")
     place = lay_out(folder, room)
-    done = cargo(place, "build", "--offline", "--release", "-p", "costs")
+    done = cargo(place, cpu, "build", "--offline", "--release", "-p", "costs")
     if done.returncode:
         sys.exit(done.stderr)
     program = f"{place}/target/release/costs"
-    times = subprocess.run([program, str(runs)], capture_output=True, text=True, check=True).stdout.splitlines()
-    version, theirs = openssl(runs)
-    print(f"Medians of {runs} calls on the same inputs, in turns, with equal results; OpenSSL: {version}, through Python.\n")
-    print("| set | call | microseconds: original | ours | ours / original | OpenSSL | millions of instructions: original | ours | ours / original |")
-    print("|---|---|---|---|---|---|---|---|---|")
-    for number, call, original, ours in map(str.split, times):
-        counts = [instructions(program, number, call, which, room) for which in ("original", "ours")]
-        other = f"{theirs[number, call] / 1000:.0f}" if theirs else "-"
-        print(f"| {number} | {call} | {int(original) / 1000:.0f} | {int(ours) / 1000:.0f} | {int(ours) / int(original):.2f} | {other} "
-              f"| {counts[0] / 1e6:.3f} | {counts[1] / 1e6:.3f} | {counts[1] / counts[0]:.2f} |", flush=True)
+    version = openssl()[0]
+    other = f"{version}, through Python, which chooses its own random bytes in signing" if version else "not there, or older than 3.5"
+    lines = ["Through `rust/fips204`, as `bench/against-rust FOLDER --calls` prints them; original is the Rust crate fips204 0.5.0 over `sha3`."]
+    lines[0] += f" {' '.join(machine(cpu))} Medians of {runs} calls, which take turns. OpenSSL: {other}."
+    lines.append("")
+    head = ["set", "call", "microseconds: original", "ours", "ours / original", "OpenSSL"]
+    head += ["millions of instructions: original", "ours", "ours / original"] if counted else []
+    lines += [f"| {' | '.join(head)} |", "|---" * len(head) + "|"]
+    print("\n".join(lines), flush=True)
+    for number in ("44", "65", "87"):
+        for call, (original, ours, theirs) in zip(CALLS, times(program, number, runs)):
+            cells = [number, call, f"{original:.0f}", f"{ours:.0f}", f"{ours / original:.2f}", f"{theirs:.0f}" if theirs else "-"]
+            if counted:
+                counts = [instructions(program, number, call, which, room) for which in ("original", "ours")]
+                cells += [f"{counts[0] / 1e6:.3f}", f"{counts[1] / 1e6:.3f}", f"{counts[1] / counts[0]:.2f}"]
+            lines.append(f"| {' | '.join(cells)} |")
+            print(lines[-1], flush=True)
+    if write:
+        put_section(f"## Calls over SHAKE, built for {cpu}", lines)

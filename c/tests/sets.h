@@ -14,7 +14,7 @@ typedef const uint8_t *in;
 struct set {
     int number;
     size_t public_key_len, private_key_len, signature_len;
-    size_t stack_keygen, stack_sign, stack_verify, stack_public_key, stack_check, stack_whole;
+    size_t stack_keygen, stack_sign, stack_verify, stack_public_key, stack_check, stack_whole, stack_pair;
     uint32_t (*keygen)(in, size_t, uint8_t *, size_t, uint8_t *, size_t);
     uint32_t (*sign)(in, size_t, in, size_t, in, size_t, in, size_t, uint8_t *, size_t);
     uint32_t (*verify)(in, size_t, in, size_t, in, size_t, in, size_t);
@@ -25,21 +25,25 @@ struct set {
     uint32_t (*public_key)(in, size_t, uint8_t *, size_t);
     uint32_t (*check_private_key)(in, size_t);
     uint32_t (*is_whole)(in, size_t);
+    uint32_t (*is_pair)(in, size_t);
+    uint32_t (*mu_begin)(in, size_t, in, size_t, uint8_t *, size_t);
+    uint32_t (*mu_begin_private)(in, size_t, in, size_t, uint8_t *, size_t);
 };
 
 #define SET(N)                                                                                                 \
     {                                                                                                          \
         N, MLDSA##N##_PUBLIC_KEY_LEN, MLDSA##N##_PRIVATE_KEY_LEN, MLDSA##N##_SIGNATURE_LEN,                    \
             MLDSA##N##_STACK_KEYGEN, MLDSA##N##_STACK_SIGN, MLDSA##N##_STACK_VERIFY,                           \
-            MLDSA##N##_STACK_PUBLIC_KEY, MLDSA##N##_STACK_CHECK, MLDSA##N##_STACK_WHOLE, mldsa##N##_keygen,    \
-            mldsa##N##_sign, mldsa##N##_verify, mldsa##N##_hash_sign, mldsa##N##_hash_verify,                  \
-            mldsa##N##_sign_mu, mldsa##N##_verify_mu, mldsa##N##_public_key, mldsa##N##_check_private_key,     \
-            mldsa##N##_is_whole                                                                                \
+            MLDSA##N##_STACK_PUBLIC_KEY, MLDSA##N##_STACK_CHECK, MLDSA##N##_STACK_WHOLE,                       \
+            MLDSA##N##_STACK_PAIR, mldsa##N##_keygen, mldsa##N##_sign, mldsa##N##_verify,                      \
+            mldsa##N##_hash_sign, mldsa##N##_hash_verify, mldsa##N##_sign_mu, mldsa##N##_verify_mu,            \
+            mldsa##N##_public_key, mldsa##N##_check_private_key, mldsa##N##_is_whole, mldsa##N##_is_pair,      \
+            mldsa##N##_mu_begin, mldsa##N##_mu_begin_private                                                   \
     }
 static const struct set SETS[3] = {SET(44), SET(65), SET(87)};
 
-/* The object identifier of SHA-256. */
-static const uint8_t SHA256_OID[11] = {0x06, 0x09, 0x60, 0x86, 0x48, 0x01, 0x65, 0x03, 0x04, 0x02, 0x01};
+/* The object identifier of SHA-256, written out; the header has it as MLDSA_OID_SHA2_256. */
+static const uint8_t SHA256_OID[11] __attribute__((unused)) = {0x06, 0x09, 0x60, 0x86, 0x48, 0x01, 0x65, 0x03, 0x04, 0x02, 0x01};
 
 static int failures __attribute__((unused));
 /* Counts an answer that is another one than wanted. */

@@ -29,6 +29,14 @@ static void verify_mu(void) { answer = s->verify_mu(public_key, s->public_key_le
 static void derive(void) { answer = s->public_key(private_key, s->private_key_len, public_key, s->public_key_len); }
 static void check(void) { answer = s->check_private_key(private_key, s->private_key_len); }
 static void whole(void) { answer = s->is_whole(private_key, s->private_key_len); }
+static void pair(void) { answer = s->is_pair(private_key, s->private_key_len); }
+static void pieces(void)
+{
+    static uint8_t state[MLDSA_STATE_LEN];
+    answer = s->mu_begin(public_key, s->public_key_len, seed, 9, state, sizeof state)
+        + s->mu_begin_private(private_key, s->private_key_len, seed, 9, state, sizeof state)
+        + mldsa_mu_update(seed, 64, state, sizeof state) + mldsa_mu_finish(state, sizeof state, seed, 64);
+}
 static void nothing(void) { answer = 0; }
 
 /* Runs a call on the last `size` bytes of the room, whose pages below are taken away if `tight`, and gives how many bytes of
@@ -54,17 +62,18 @@ static size_t used(void (*run)(void), size_t size, int tight)
 
 int main(int count, char **words)
 {
-    static const struct { const char *name; void (*run)(void); } CALLS[10] = {
+    static const struct { const char *name; void (*run)(void); } CALLS[12] = {
         {"KEYGEN", keygen}, {"SIGN", sign}, {"SIGN", hash_sign}, {"SIGN", sign_mu}, {"VERIFY", verify_mu},
-        {"VERIFY", hash_verify}, {"VERIFY", verify}, {"PUBLIC_KEY", derive}, {"CHECK", check}, {"WHOLE", whole}};
+        {"VERIFY", hash_verify}, {"VERIFY", verify}, {"PUBLIC_KEY", derive}, {"CHECK", check}, {"WHOLE", whole}, {"PAIR", pair}, {"MU", pieces}};
     int measure = count > 1 && strcmp(words[1], "measure") == 0;
     size_t own;
     room = mmap(NULL, ROOM, PROT_READ | PROT_WRITE, MAP_PRIVATE | MAP_ANONYMOUS, -1, 0);
     own = used(nothing, ROOM, 0);
     for (s = SETS; s < SETS + 3; s++)
-        for (int i = 0; i < 10; i++) {
-            const size_t stated[10] = {s->stack_keygen, s->stack_sign, s->stack_sign, s->stack_sign, s->stack_verify,
-                                       s->stack_verify, s->stack_verify, s->stack_public_key, s->stack_check, s->stack_whole};
+        for (int i = 0; i < 12; i++) {
+            const size_t stated[12] = {s->stack_keygen, s->stack_sign, s->stack_sign, s->stack_sign, s->stack_verify,
+                                       s->stack_verify, s->stack_verify, s->stack_public_key, s->stack_check, s->stack_whole,
+                                       s->stack_pair, MLDSA_STACK_MU};
             size_t took;
             /* What is verified was signed by the call of its name. */
             if (CALLS[i].run == verify)

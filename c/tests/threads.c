@@ -31,8 +31,12 @@ int main(void)
 {
     struct work works[4] = {{&SETS[0], 0, 0}, {&SETS[1], 1, 0}, {&SETS[2], 2, 0}, {&SETS[2], 3, 0}};
     pthread_t threads[4];
+    pthread_attr_t stack;
+    /* As the header asks for: what signing needs, beside what this program and the thread itself take. */
+    WANT(pthread_attr_init(&stack), 0);
+    WANT(pthread_attr_setstacksize(&stack, MLDSA87_STACK_SIGN + (64 << 10)), 0);
     for (int i = 0; i < 4; i++)
-        WANT(pthread_create(&threads[i], NULL, rounds, &works[i]), 0);
+        WANT(pthread_create(&threads[i], &stack, rounds, &works[i]), 0);
     for (int i = 0; i < 4; i++) {
         WANT(pthread_join(threads[i], NULL), 0);
         WANT(works[i].good, ROUNDS);

@@ -1,26 +1,8 @@
 -- The parts of an attempt of signing, and what it depends on.
 use Rattle.std.proofs.Common.{◌++◌, take, ◌≡◌, ◌<◌, ◌-◌, ◌%◌, ◌⊎◌, inl, inr, ℕ, List, ℤ, pos, nat_abs, ap, sym, ◌∙◌, refl, arith, Option, Some, None, Err}
-use Rattle.std.specs.List.{All}
-use Rattle.std.proofs.lemmas.Int.{ints}
-use Rattle.fips204_base.specs.declared.fault.Fault.TheVariants.{SamplingLimit}
-use Rattle.fips204_base.specs.declared.types.R.{R}
-use Rattle.fips204_base.specs.declared.types.T.{T}
-use Rattle.fips204_base.specs.Sampling.{challenge, mask}
-use Rattle.fips204_base.specs.Encodings.{PrivateParts, w1_bytes}
-use Rattle.fips204_base.specs.Vectors.{vector_coefficients, matrix_product, vector_of}
-use Rattle.fips204_base.specs.Transforms.{minus}
-use Rattle.fips204_base.specs.Residues.{residue}
-use Rattle.fips204_base.specs.Rounding.{high_bits, high_count, low_bits}
-use Rattle.fips204_base.proofs.Residues.{residue_below}
-use Rattle.fips204_base.proofs.PlainTransforms.{matrix_below}
-use Rattle.fips204_base.proofs.Rounding.{high_bits_below}
+use Rattle.fips204.proofs.Names.{All, ints, SamplingLimit, R, T, challenge, mask, PrivateParts, w1_bytes, vector_coefficients, matrix_product, vector_of, minus, residue, high_bits, high_count, low_bits, residue_below, matrix_below, high_bits_below, vector_of-ext, vector_of-range, vector-within, attempt, commitment_hash, hint_vector, passes_checks, low_vector, ParameterSet, c_tilde_length, scaled, high_vector, hint_bit, checked_attempt, VectorWithin, PolynomialInRange, coefficient_of}
 use Rattle.fips204_base.proofs.Masks.{mask-range}
-use Rattle.fips204_base.proofs.Vectors.{vector_of-ext, vector_of-range, vector-within}
-use Rattle.fips204.specs.Signing.{attempt, commitment_hash, hint_vector, passes_checks, low_vector}
-use Rattle.fips204.specs.ParameterSets.{ParameterSet, c_tilde_length}
-use Rattle.fips204.specs.SigningInputs.{scaled, high_vector, hint_bit, checked_attempt}
 use Rattle.fips204.proofs.ParameterSets.{rounding-size}
-use Rattle.fips204_base.specs.Bounds.{VectorWithin, PolynomialInRange, coefficient_of}
 
 -- ---- vectors of the same coefficients
 

@@ -1,19 +1,6 @@
 -- What one signature fixes: one w1 under a key, and one message and one key unless it names a collision.
-use Rattle.std.proofs.Common.{◌≡◌, ◌≤◌, ℕ, List, ◌++◌, length, take, Bool, true, false, Some, None, refl, sym, ap, subst, ◌∙◌, arith, true≢false, ◌≢◌, ◌⊎◌, inl, inr, Decides}
-use Rattle.std.specs.Prelude.{bytes_eq}
-use Rattle.std.proofs.lemmas.List.{append_cancel_left, append_cancel_right, length-take-le}
-use Rattle.std.proofs.lemmas.Option.{none-some}
-use Rattle.std.proofs.lemmas.Slice.Eq.{bytes_eq-Decides}
-use Rattle.fips204_base.specs.declared.types.R.{R}
-use Rattle.fips204_base.specs.declared.types.T.{T}
-use Rattle.fips204_base.specs.Encodings.{PublicParts, w1_bytes}
-use Rattle.fips204_base.specs.Sampling.{challenge}
-use Rattle.fips204_base.proofs.EncodedParts.{same_signature}
-use Rattle.fips204.specs.ParameterSets.{ParameterSet, c_tilde_length, IsSet}
-use Rattle.fips204.specs.Acceptance.{Opens, Verifies, w1_prime}
-use Rattle.fips204.specs.Framing.{Input, plain, hashed, framed, represented, representative}
-use Rattle.fips204.specs.SchemeLaws.{Collide, Fixes, SignatureFixesOne, SignatureBindsInput, NamesKeyCollision, SignatureBindsKey, has_context, framing, AreFramedAlike}
-use Rattle.fips204.specs.Refusals.{input_fault, VerifiesInput}
+use Rattle.std.proofs.Common.{◌≡◌, ◌≤◌, ℕ, List, ◌++◌, length, take, Bool, true, false, Some, None, refl, sym, ap, subst, ◌∙◌, arith, true≢false, ◌≢◌, ◌⊎◌, inl, inr, Decides, bytes_eq}
+use Rattle.fips204.proofs.Names.{append_cancel_left, append_cancel_right, length-take-le, none-some, bytes_eq-Decides, R, T, PublicParts, w1_bytes, challenge, same_signature, ParameterSet, c_tilde_length, IsSet, Opens, Verifies, w1_prime, Input, plain, hashed, framed, represented, representative, Collide, Fixes, SignatureFixesOne, SignatureBindsInput, NamesKeyCollision, SignatureBindsKey, has_context, framing, AreFramedAlike, input_fault, VerifiesInput}
 use Rattle.fips204.proofs.Framing.{same_input}
 use Rattle.fips204.proofs.ParameterSets.{set_numbers}
 use Rattle.fips204.proofs.RefusedCalls.{same_some}

@@ -1,22 +1,6 @@
 -- A product with a challenge is small, coefficient by coefficient and in its norm.
-use Rattle.std.proofs.Common.{◌≡◌, ◌≢◌, ◌⊎◌, inl, inr, ◌<◌, ◌≤◌, ◌+◌, ◌-◌, ◌*◌, ◌%◌, ℕ, List, [], ◌∷◌, pos, ◌+ℤ◌, get_or, length, take, Some, suc, refl, ap, sym, subst, ◌∙◌, arith, if◌then◌else◌, zero, ℤ, nat_abs}
-use Rattle.std.specs.Prelude.{nat_eq, max, fold}
-use Rattle.std.proofs.lemmas.Bool.{cases_Bool, cases_lt, ne_eqb, eq-eqb, lt-ltb, le-ltb, le-leb, lt-leb}
-use Rattle.fips204_base.specs.Network.{sign_of, shifted}
-use Rattle.fips204_base.specs.declared.types.R.{R}
-use Rattle.fips204_base.specs.Sampling.{signed_sum, challenge}
-use Rattle.fips204_base.specs.Packing.{bits}
-use Rattle.fips204_base.specs.Transforms.{product}
-use Rattle.fips204_base.specs.Residues.{IsCongruent, residue, coefficients, sum_below, centred, norm, vector_norm}
-use Rattle.fips204_base.specs.Vectors.{polynomial_of, vector_of}
-use Rattle.fips204_base.proofs.Challenges.{challenge_places, length-challenge_places}
-use Rattle.fips204_base.proofs.Reductions.{centred_is, residue-again}
-use Rattle.fips204_base.proofs.Residues.{residue_add, residue_below, congruent_refl, congruent_of, congruent_sym, congruent_trans, congruent_mod, congruent_mul, sum_same, sum_equal, sum_zero, sum_one, sum_add}
-use Rattle.fips204_base.proofs.Vectors.{polynomial_of-at, length-polynomial_of, length-vector_of, vector_of-row, vector_of-at}
-use Rattle.std.proofs.Math.Nat.{le-max_left, le-max_right, max-le}
-use Rattle.std.proofs.lemmas.Int.{ints}
-use Rattle.std.proofs.lemmas.List.{get_or_past}
-use Rattle.fips204.specs.SchemeLaws.{ChallengeProductIsSmall}
+use Rattle.std.proofs.Common.{◌≡◌, ◌≢◌, ◌⊎◌, inl, inr, ◌<◌, ◌≤◌, ◌+◌, ◌-◌, ◌*◌, ◌%◌, ℕ, List, [], ◌∷◌, pos, ◌+ℤ◌, get_or, length, take, Some, suc, refl, ap, sym, subst, ◌∙◌, arith, if◌then◌else◌, zero, ℤ, nat_abs, nat_eq, max, fold}
+use Rattle.fips204.proofs.Names.{cases_Bool, cases_lt, ne_eqb, eq-eqb, lt-ltb, le-ltb, le-leb, lt-leb, sign_of, shifted, R, signed_sum, challenge, bits, product, IsCongruent, residue, coefficients, sum_below, centred, norm, vector_norm, polynomial_of, vector_of, challenge_places, length-challenge_places, centred_is, residue-again, residue_add, residue_below, congruent_refl, congruent_of, congruent_sym, congruent_trans, congruent_mod, congruent_mul, sum_same, sum_equal, sum_zero, sum_one, sum_add, polynomial_of-at, length-polynomial_of, length-vector_of, vector_of-row, vector_of-at, le-max_left, le-max_right, max-le, ints, get_or_past, ChallengeProductIsSmall}
 use Rattle.fips204.proofs.Ranges.{challenge-sum}
 
 -- A product with a challenge is small: each of its coefficients is a sum of at most tau coefficients, each with a sign.

@@ -1,26 +1,10 @@
 -- What signing answers is the signature of a kept attempt, and it is accepted.
-use Rattle.std.proofs.Common.{◌≡◌, ◌⊎◌, inl, inr, ◌+◌, ◌-◌, ◌*◌, ℕ, zero, suc, List, [], ◌∷◌, IsTrue, ◌&&◌, nat_lt, nat_le, length, map, Some, None, Result, Ok, refl, ap, sym, ◌∙◌, ◌<◌, ◌≤◌, ◌++◌, pos, arith}
-use Rattle.std.specs.Prelude.{option_map, unwrap_or, Err}
+use Rattle.std.proofs.Common.{◌≡◌, ◌⊎◌, inl, inr, ◌+◌, ◌-◌, ◌*◌, ℕ, zero, suc, List, [], ◌∷◌, IsTrue, ◌&&◌, nat_lt, nat_le, length, map, Some, None, Result, Ok, refl, ap, sym, ◌∙◌, ◌<◌, ◌≤◌, ◌++◌, pos, arith, option_map, unwrap_or, Err}
+use Rattle.fips204.proofs.Names.{range_with_len, cases_Bool, ltb-true, leb-true, Fault, SamplingLimit, R, T, vector_norm, challenge, mask, sampled_matrix, PrivateParts, ArePrivateParts, signature_bytes, w1_bytes, all_ones, vector_coefficients, matrix_product, IsVector, ParameterSet, c_tilde_length, IsSet, IsWhole, high_part, low_part, response, low_vector, ct0, hint_vector, passes_checks, commitment_hash, attempt, w_minus_cs2, first_answer, sign_with, sign, length-take-le, Accepts, Verifies, scaled, y_plus_cs1, high_vector, mask_seed, checked_attempt}
 use Rattle.std.specs.declared.option.Option.{Option}
-use Rattle.std.specs.List.{range_with_len}
-use Rattle.std.proofs.lemmas.Bool.{cases_Bool, ltb-true, leb-true}
-use Rattle.fips204_base.specs.declared.fault.Fault.{Fault}
-use Rattle.fips204_base.specs.declared.fault.Fault.TheVariants.{SamplingLimit}
-use Rattle.fips204_base.specs.declared.types.R.{R}
-use Rattle.fips204_base.specs.declared.types.T.{T}
-use Rattle.fips204_base.specs.Residues.{vector_norm}
-use Rattle.fips204_base.specs.Sampling.{challenge, mask, sampled_matrix}
-use Rattle.fips204_base.specs.Encodings.{PrivateParts, ArePrivateParts, signature_bytes, w1_bytes, all_ones}
-use Rattle.fips204_base.specs.Vectors.{vector_coefficients, matrix_product, IsVector}
-use Rattle.fips204.specs.ParameterSets.{ParameterSet, c_tilde_length, IsSet}
-use Rattle.fips204.specs.Keys.{IsWhole, high_part, low_part}
-use Rattle.fips204.specs.Signing.{response, low_vector, ct0, hint_vector, passes_checks, commitment_hash, attempt, w_minus_cs2, first_answer, sign_with, sign}
 use Rattle.fips204.proofs.ParameterSets.{and_out, AreSetNumbers, set_numbers}
 use Rattle.fips204.proofs.KeptHints.{IsKept, hinted_is_high}
-use Rattle.std.proofs.lemmas.List.{length-take-le}
-use Rattle.fips204.specs.Acceptance.{Accepts, Verifies}
-use Rattle.fips204.proofs.RejectionChecks.{centred-range, hint-range}
-use Rattle.fips204.specs.SigningInputs.{scaled, y_plus_cs1, high_vector, mask_seed, checked_attempt}
+use Rattle.fips204.proofs.RejectionChecks.{centred-range, hint-vector}
 
 -- What signing answers is the signature of an attempt that was kept.
 
@@ -138,7 +122,7 @@ response_range p sk y c norm = centred-range p.gamma1 (p.gamma1 - p.beta) p.l (�
 
 hint_range : (p : ParameterSet) (sk : PrivateParts) (w : ℕ → ℕ → ℕ) (c : R) → IsVector p.k 0 1 (hint_vector p sk w c)
 unfolding hint_vector
-hint_range p sk w c = hint-range p.k p.gamma2 (w_minus_cs2 sk.s2 w c) (λ r. scaled c (vector_coefficients sk.t0) r)
+hint_range p sk w c = hint-vector p.k p.gamma2 (w_minus_cs2 sk.s2 w c) (λ r. scaled c (vector_coefficients sk.t0) r)
 
 -- ---- acceptance
 

@@ -1,12 +1,7 @@
 -- A framed message determines what was framed.
-use Rattle.std.proofs.Common.{◌≡◌, ◌+◌, ℕ, List, [], ◌∷◌, ◌++◌, length, get_or, Bool, true, false, not, ◌&&◌, nat_eq, nat_lt, nat_le, IsTrue, if◌then◌else◌, Option, Some, None, refl, sym, ap, arith, true≢false, eqb-true}
-use Rattle.std.specs.Prelude.{unwrap_or}
-use Rattle.fips204_base.specs.declared.fault.Fault.{Fault}
-use Rattle.fips204_base.specs.declared.fault.Fault.TheVariants.{OidEmpty, OidNotDer, DigestTooLong, DigestLength, HashCtx}
+use Rattle.std.proofs.Common.{◌≡◌, ◌+◌, ℕ, List, [], ◌∷◌, ◌++◌, length, get_or, Bool, true, false, not, ◌&&◌, nat_eq, nat_lt, nat_le, IsTrue, if◌then◌else◌, Option, Some, None, refl, sym, ap, arith, true≢false, eqb-true, unwrap_or}
+use Rattle.fips204.proofs.Names.{Fault, OidEmpty, OidNotDer, DigestTooLong, DigestLength, HashCtx, plain, hashed, framed, represented, frame, digest_length, pre_hash_fault, has_oid_form, FramingIsOneToOne}
 use Rattle.fips204.proofs.Spellings.{same_parts}
-use Rattle.fips204.specs.Framing.{plain, hashed, framed, represented, frame, digest_length, pre_hash_fault}
-use Rattle.fips204.specs.SigningInputs.{has_oid_form}
-use Rattle.fips204.specs.SchemeLaws.{FramingIsOneToOne}
 use Rattle.fips204.proofs.ParameterSets.{and_out}
 use Rattle.fips204.proofs.RefusedCalls.{same_some, passed, short_context}
 

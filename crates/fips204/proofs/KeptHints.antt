@@ -1,33 +1,13 @@
 -- Where an attempt is kept, its hint gives the high bits of w back to the vector that verifying computes.
-use Rattle.std.proofs.Common.{◌≡◌, ◌<◌, ◌+◌, ◌-◌, ◌*◌, ◌%◌, ℕ, List, ℤ, pos, negsuc, ◌+ℤ◌, ◌-ℤ◌, inl, inr, ap, sym, ◌∙◌, arith, ◌≤◌, [], get_or, length, nat_abs, Bool, true, false, Some, refl, subst, if◌then◌else◌}
-use Rattle.std.proofs.lemmas.Int.{ints}
-use Rattle.std.proofs.lemmas.Bool.{cases_lt, le-leb, lt-leb}
-use Rattle.fips204_base.specs.Network.{product_difference, plain_matrix, row_product}
-use Rattle.fips204_base.specs.declared.types.R.{R}
-use Rattle.fips204_base.specs.declared.types.T.{T}
-use Rattle.fips204_base.specs.Vectors.{vector_coefficients, matrix_product, vector_of, IsVector}
-use Rattle.fips204_base.specs.Bounds.{coefficient_of}
-use Rattle.fips204_base.specs.Residues.{centred, vector_norm, IsCongruent, residue, coefficients}
-use Rattle.fips204_base.specs.Transforms.{product, plus, minus}
-use Rattle.fips204_base.specs.Rounding.{power2round, high_bits, low_bits, make_hint, use_hint}
-use Rattle.fips204_base.proofs.Residues.{residue_add, residue_below, congruent_refl, congruent_of, congruent_sym, congruent_trans, congruent_mod, sum_equal}
-use Rattle.fips204_base.proofs.Products.{product_same, product_plus, row_of_multiple, row_of_sum, product_below}
-use Rattle.fips204_base.proofs.PlainTransforms.{matrix_below}
-use Rattle.fips204_base.proofs.Rounding.{power2round_back, low_bits_near}
-use Rattle.fips204_base.proofs.Vectors.{vector_of-ext, vector_of-entry, vector_of-at, vector-within}
-use Rattle.fips204.specs.ParameterSets.{ParameterSet}
-use Rattle.fips204.specs.Keys.{key_vector, high_part, low_part}
-use Rattle.fips204.specs.Signing.{response, w_minus_cs2, low_vector, ct0, hint_vector}
-use Rattle.fips204.specs.Acceptance.{w1_prime}
-use Rattle.std.specs.Prelude.{int_lt}
-use Rattle.fips204_base.specs.Sampling.{challenge}
-use Rattle.fips204_base.specs.Encodings.{PrivateParts, is_one, all_ones}
-use Rattle.fips204_base.proofs.Reductions.{centred_is}
-use Rattle.fips204_base.proofs.RoundingLaws.{IsGamma, use_hint_of_make_hint, high_bits_stay}
+use Rattle.std.proofs.Common.{◌≡◌, ◌<◌, ◌+◌, ◌-◌, ◌*◌, ◌%◌, ℕ, List, ℤ, pos, negsuc, ◌+ℤ◌, ◌-ℤ◌, inl, inr, ap, sym, ◌∙◌, arith, ◌≤◌, [], get_or, length, nat_abs, Bool, true, false, Some, refl, subst, if◌then◌else◌, int_lt}
+use Rattle.fips204.proofs.Names.{ints, cases_lt, le-leb, lt-leb, plain_matrix, row_product, R, T, vector_coefficients, matrix_product, vector_of, IsVector, coefficient_of, centred, vector_norm, IsCongruent, residue, coefficients, product, plus, minus, power2round, high_bits, low_bits, make_hint, use_hint, residue_add, residue_below, congruent_refl, congruent_of, congruent_sym, congruent_trans, congruent_mod, sum_equal, product_same, product_plus, row_of_multiple, row_of_sum, product_below, matrix_below, power2round_back, low_bits_near, vector_of-ext, vector_of-entry, vector_of-at, vector-within, ParameterSet, key_vector, high_part, low_part, response, w_minus_cs2, low_vector, ct0, hint_vector, w1_prime, challenge, PrivateParts, is_one, all_ones, centred_is, IsGamma, use_hint_of_make_hint, high_bits_stay, scaled, t1_shifted, high_vector}
 use Rattle.fips204.proofs.ChallengeProducts.{Near, near_same, near_turned, near_challenge_product, norm_of_place, near_of_centred, centred_of_near}
 use Rattle.fips204.proofs.RejectionChecks.{centred-own}
 use Rattle.fips204.proofs.ParameterSets.{AreSetNumbers}
-use Rattle.fips204.specs.SigningInputs.{scaled, t1_shifted, high_vector}
+
+-- coefficient n of polynomial r of A z - c t, where A is the plain matrix and z a vector of l polynomials
+abbrev pub product_difference : ℕ → List (List T) → List R → R → (ℕ → ℕ → ℕ) → ℕ → ℕ → ℕ
+product_difference l a z c t r = minus (matrix_product l a (vector_coefficients z) r) (product (coefficients c.0) (t r))
 
 -- The vector that verifying computes is the one whose high bits signing hinted at: A z - c t1 2^13 = w - c s2 + c t0.
 

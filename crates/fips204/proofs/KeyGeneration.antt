@@ -1,37 +1,14 @@
 -- The vector t = A s1 + s2 of a pair of keys, and what key generation and derivation answer.
-use Rattle.std.proofs.Common.{◌≡◌, ◌<◌, ◌≤◌, ◌+◌, ◌-◌, ◌%◌, ℕ, ℤ, List, pos, ap, ◌∙◌, arith, ◌⊎◌, inl, inr, refl, sym, Some, None, Ok, Err, take, drop, Bool, IsTrue, ◌≢◌, ◌↔◌}
-use Rattle.std.proofs.lemmas.Option.{none-some}
+use Rattle.std.proofs.Common.{◌≡◌, ◌<◌, ◌≤◌, ◌+◌, ◌-◌, ◌%◌, ℕ, ℤ, List, pos, ap, ◌∙◌, arith, ◌⊎◌, inl, inr, refl, sym, Some, None, Ok, Err, take, drop, Bool, IsTrue, ◌≢◌, ◌↔◌, ok_or, option_map, option_and_then}
+use Rattle.fips204.proofs.Names.{none-some, ints, R, T, residue, power2round, IsVector, vector_coefficients, vector_of, matrix_product, power2round_high, power2round_low, vector_of-ext, vector_of-entry, vector_of-range, PublicParts, PrivateParts, IsWhole, key_vector, high_part, low_part, key_pair, seed_front, key_hash, ParameterSet, drop-take, take-take, SamplingLimit, sampled_matrix, small_vectors, small_vector, generated, derived}
 use Rattle.fips204.proofs.RefusedCalls.{same_some}
-use Rattle.std.proofs.lemmas.Int.{ints}
-use Rattle.fips204_base.specs.declared.types.R.{R}
-use Rattle.fips204_base.specs.declared.types.T.{T}
-use Rattle.fips204_base.specs.Transforms.{plus}
-use Rattle.fips204_base.specs.Residues.{residue}
-use Rattle.fips204_base.specs.Rounding.{power2round}
-use Rattle.fips204_base.specs.Vectors.{IsVector, vector_coefficients, vector_of, matrix_product}
-use Rattle.fips204_base.proofs.Rounding.{power2round_high, power2round_low}
-use Rattle.fips204_base.proofs.Vectors.{vector_of-ext, vector_of-entry, vector_of-range}
-use Rattle.fips204_base.specs.Encodings.{PublicParts, PrivateParts}
-use Rattle.fips204.specs.Keys.{IsWhole, key_vector, high_part, low_part, key_pair}
-use Rattle.fips204.specs.SigningInputs.{seed_front, key_hash}
-use Rattle.fips204.specs.ParameterSets.{ParameterSet}
-use Rattle.std.specs.Prelude.{ok_or, option_map, option_and_then}
-use Rattle.std.proofs.lemmas.List.{drop-take, take-take}
 use Rattle.std.specs.declared.option.Option.{Option}
-use Rattle.fips204_base.specs.declared.fault.Fault.TheVariants.{SamplingLimit}
-use Rattle.fips204_base.specs.Sampling.{sampled_matrix, small_vectors}
-use Rattle.fips204_base.specs.Network.{small_vector}
-use Rattle.fips204.specs.Refusals.{generated, derived}
 
 -- The vector t = A s1 + s2 of a pair of keys, and its parts.
 
 -- coefficients of t are residues
-abbrev pub IsKeyVector : ParameterSet → List (List T) → List R → List R → List R → Type 0
+abbrev IsKeyVector : ParameterSet → List (List T) → List R → List R → List R → Type 0
 IsKeyVector p a s1 s2 t = t ≡ vector_of p.k (λ r n. pos (key_vector p.l a s1 s2 r n))
-
-pub key_vector-is : (p : ParameterSet) (a : List (List T)) (s1 s2 t : List R) (k l : ℕ) → k ≡ p.k → l ≡ p.l
-    → t ≡ vector_of k (λ r n. pos (plus (matrix_product l a (vector_coefficients s1) r) (vector_coefficients s2 r) n)) → IsKeyVector p a s1 s2 t
-key_vector-is p a s1 s2 t k l rows columns e = e ∙ rw (rows, columns) refl
 
 key_vector-below : (p : ParameterSet) (a : List (List T)) (s1 s2 : List R) (r n : ℕ) → key_vector p.l a s1 s2 r n < 8380417
 key_vector-below p a s1 s2 r n = omega arith
@@ -43,19 +20,16 @@ read_back p a s1 s2 t r n e h q =
     own : (x : ℕ) → x < 8380417 → x % 8380417 ≡ x
     own x h = omega (arith, h)
 
--- the high parts of t are its high part
-pub high_part-is : (p : ParameterSet) (a : List (List T)) (s1 s2 t t1 : List R) (k : ℕ) → k ≡ p.k → IsKeyVector p a s1 s2 t
-    → t1 ≡ vector_of k (λ r n. pos (power2round (vector_coefficients t r n)).0) → t1 ≡ high_part p a s1 s2
-unfolding high_part
-high_part-is p a s1 s2 t t1 k rows e high =
-    high ∙ rw rows (vector_of-ext p.k _ _ (λ r n h q. ap (λ x. pos (power2round x).0) (read_back p a s1 s2 t r n e h q)))
-
--- and the low ones its low part
-pub low_part-is : (p : ParameterSet) (a : List (List T)) (s1 s2 t t0 : List R) (k : ℕ) → k ≡ p.k → IsKeyVector p a s1 s2 t
-    → t0 ≡ vector_of k (λ r n. (power2round (vector_coefficients t r n)).1) → t0 ≡ low_part p a s1 s2
-unfolding low_part
-low_part-is p a s1 s2 t t0 k rows e low =
-    low ∙ rw rows (vector_of-ext p.k _ _ (λ r n h q. ap (λ x. (power2round x).1) (read_back p a s1 s2 t r n e h q)))
+-- the high parts of t are its high part, and the low ones its low part
+pub key_parts-are : (p : ParameterSet) (a : List (List T)) (s1 s2 t t1 t0 : List R) (k l : ℕ) → k ≡ p.k → l ≡ p.l → t ≡ vector_of k (λ r n. pos (key_vector l a s1 s2 r n))
+    → t1 ≡ vector_of k (λ r n. pos (power2round (vector_coefficients t r n)).0) → t0 ≡ vector_of k (λ r n. (power2round (vector_coefficients t r n)).1)
+    → (t1 ≡ high_part p a s1 s2) × (t0 ≡ low_part p a s1 s2)
+unfolding high_part low_part
+key_parts-are p a s1 s2 t t1 t0 k l rows columns e high low =
+    let whole : IsKeyVector p a s1 s2 t = e ∙ rw (rows, columns) refl in (
+      high ∙ rw rows (vector_of-ext p.k _ _ (λ r n h q. ap (λ x. pos (power2round x).0) (read_back p a s1 s2 t r n whole h q))),
+      low ∙ rw rows (vector_of-ext p.k _ _ (λ r n h q. ap (λ x. (power2round x).1) (read_back p a s1 s2 t r n whole h q))),
+    )
 
 pub high_part-range : (p : ParameterSet) (a : List (List T)) (s1 s2 : List R) → IsVector p.k 0 1023 (high_part p a s1 s2)
 unfolding high_part
@@ -72,34 +46,28 @@ low_part-range p a s1 s2 =
 
 -- What key generation and derivation answer.
 
--- the matrix by other names of its rows and columns
-matrix_of : (G : List ℕ → List ℕ) (rho : List ℕ) (k l m n : ℕ) (o : Option (List (List T))) → k ≡ m → l ≡ n → sampled_matrix G rho k l ≡ o → sampled_matrix G rho m n ≡ o
-matrix_of G rho k l m n o rows columns e = rw (rows, columns) at e
-
-pub derived-none : (p : ParameterSet) (G : List ℕ → List ℕ) (sk : PrivateParts) (k l : ℕ) → k ≡ p.k → l ≡ p.l → sampled_matrix G sk.rho k l ≡ None → derived p G sk ≡ Err SamplingLimit
+pub derived-none : (p : ParameterSet) (G : List ℕ → List ℕ) (sk : PrivateParts) → sampled_matrix G sk.rho p.k p.l ≡ None → derived p G sk ≡ Err SamplingLimit
 unfolding derived
-derived-none p G sk k l rows columns e =
-    let none = matrix_of G sk.rho k l p.k p.l None rows columns e in
-    rw none refl
+derived-none p G sk none = rw none refl
 
-pub derived-some : (p : ParameterSet) (G : List ℕ → List ℕ) (sk : PrivateParts) (k l : ℕ) (a : List (List T)) (t1 : List R) → k ≡ p.k → l ≡ p.l → sampled_matrix G sk.rho k l ≡ Some a
+pub derived-some : (p : ParameterSet) (G : List ℕ → List ℕ) (sk : PrivateParts) (a : List (List T)) (t1 : List R) → sampled_matrix G sk.rho p.k p.l ≡ Some a
     → t1 ≡ high_part p a sk.s1 sk.s2 → derived p G sk ≡ Ok (record { rho = sk.rho; tr = sk.tr; t1 = t1 })
 unfolding derived
-derived-some p G sk k l a t1 rows columns e high =
-    let there = matrix_of G sk.rho k l p.k p.l (Some a) rows columns e in
-    rw (there, high) refl
+derived-some p G sk a t1 there high = rw (there, high) refl
+
+-- t0 is that of the matrix of rho exactly where the key is whole
+pub low_of_whole : (p : ParameterSet) (G : List ℕ → List ℕ) (sk : PrivateParts) (a : List (List T)) (low : List R) → sampled_matrix G sk.rho p.k p.l ≡ Some a → low ≡ low_part p a sk.s1 sk.s2
+    → IsWhole p G sk → sk.t0 ≡ low
+low_of_whole p G sk a low there is whole =
+    whole.low ∙ ap (λ m. low_part p m sk.s1 sk.s2) (same_some whole.matrix a (sym whole.sampled ∙ there)) ∙ sym is
 
 -- whether t0 is the low part tells whether the key is whole
-pub tells_whole : (p : ParameterSet) (G : List ℕ → List ℕ) (sk : PrivateParts) (k l : ℕ) (a : List (List T)) (low : List R) (answer : Bool) → k ≡ p.k → l ≡ p.l → sampled_matrix G sk.rho k l ≡ Some a
+pub tells_whole : (p : ParameterSet) (G : List ℕ → List ℕ) (sk : PrivateParts) (a : List (List T)) (low : List R) (answer : Bool) → sampled_matrix G sk.rho p.k p.l ≡ Some a
     → low ≡ low_part p a sk.s1 sk.s2 → IsTrue answer ↔ (sk.t0 ≡ low) → (sampled_matrix G sk.rho p.k p.l ≢ None) × (IsTrue answer ↔ IsWhole p G sk)
-tells_whole p G sk k l a low answer rows columns e is both =
-    let there = matrix_of G sk.rho k l p.k p.l (Some a) rows columns e in (
-      λ none. none-some a (sym none ∙ there),
-      (
-        λ t. record { matrix = a; sampled = there; low = both.0 t ∙ is },
-        λ whole. both.1 (whole.low ∙ ap (λ m. low_part p m sk.s1 sk.s2) (same_some whole.matrix a (sym whole.sampled ∙ there)) ∙ sym is),
-      ),
-    )
+tells_whole p G sk a low answer there is both = (
+  λ none. none-some a (sym none ∙ there),
+  (λ t. record { matrix = a; sampled = there; low = both.0 t ∙ is }, λ whole. both.1 (low_of_whole p G sk a low there is whole)),
+)
 
 -- ---- key generation
 
@@ -107,7 +75,7 @@ tells_whole p G sk k l a low answer rows columns e is both =
 pub record AreSampled (p : ParameterSet) (H G : List ℕ → List ℕ) (k l : ℕ) (rho rho' : List ℕ) (a : Option (List (List T))) (s1 s2 : Option (List R)) : Type 0 where
   pub rows : k ≡ p.k
   pub columns : l ≡ p.l
-  pub matrix : sampled_matrix G rho k l ≡ a
+  pub matrix : sampled_matrix G rho p.k p.l ≡ a
   pub first : small_vector p.eta H rho' 0 l ≡ s1
   pub second : small_vector p.eta H rho' l k ≡ s2
 
@@ -162,10 +130,9 @@ generated-by_parts p H G xi =
 generated-is : (p : ParameterSet) (H G : List ℕ → List ℕ) (xi rho rho' key : List ℕ) (k l : ℕ) (a : Option (List (List T))) (s1 s2 : Option (List R))
     → AreSeeds p H xi rho rho' key → AreSampled p H G k l rho rho' a s1 s2 → generated p H G xi ≡ ok_or (key_pair_if_all p H rho key a s1 s2) SamplingLimit
 generated-is p H G xi rho rho' key k l a s1 s2 from given =
-    let matrix = rw (given.rows, given.columns) at given.matrix in
     let first = rw given.columns at given.first in
     let second = rw (given.rows, given.columns) at given.second in
-    generated-by_parts p H G xi ∙ rw (sym from.matrix, sym from.vectors, sym from.masks) (rw (matrix, first, second) refl)
+    generated-by_parts p H G xi ∙ rw (sym from.matrix, sym from.vectors, sym from.masks) (rw (given.matrix, first, second) refl)
 
 no_pair : (p : ParameterSet) (H : List ℕ → List ℕ) (rho key : List ℕ) (a : Option (List (List T))) (s1 s2 : Option (List R)) → (a ≡ None) ⊎ ((s1 ≡ None) ⊎ (s2 ≡ None)) → key_pair_if_all p H rho key a s1 s2 ≡ None
 unfolding key_pair_if_all

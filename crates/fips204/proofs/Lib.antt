@@ -1,3 +1,4 @@
+mod Names
 mod ParameterSets
 mod Ranges
 mod KeyGeneration

@@ -1,29 +1,12 @@
 -- Answers stay where the fronts are prefixes of longer ones.
-use Rattle.std.proofs.Common.{◌≡◌, ◌≢◌, ℕ, ◌+◌, ◌-◌, ◌*◌, ◌≤◌, ◌⊎◌, inl, inr, List, [], ◌∷◌, ◌++◌, length, take, drop, map, refl, ap, sym, subst, ◌∙◌, arith, Some, None, ok_or, append_assoc}
-use Rattle.std.specs.Prelude.{option_map, unwrap_or, Ok, Err}
+use Rattle.std.proofs.Common.{◌≡◌, ◌≢◌, ℕ, ◌+◌, ◌-◌, ◌*◌, ◌≤◌, ◌⊎◌, inl, inr, List, [], ◌∷◌, ◌++◌, length, take, drop, map, refl, ap, sym, subst, ◌∙◌, arith, Some, None, ok_or, append_assoc, option_map, unwrap_or, Ok, Err}
+use Rattle.fips204.proofs.Names.{range_with_len, take_at, none-some, Fault, SamplingLimit, R, T, vector_coefficients, matrix_product, PublicParts, PrivateParts, w1_bytes, public_key_bytes, vector_bytes, IsSignature, hint_bytes, sampled_matrix, challenge, mask, ParameterSet, c_tilde_length, IsSet, high_part, key_pair, key_hash, high_vector, mask_seed, checked_attempt, Input, plain, hashed, framed, represented, frame, representative, commitment_hash, attempt, first_answer, sign_with, sign, Verifies, generated, derived, refused_or, input_fault, sign_input, VerifiesInput}
 use Rattle.std.specs.declared.option.Option.{Option}
 use Rattle.std.specs.declared.result.Result.{Result}
-use Rattle.std.specs.List.{range_with_len}
-use Rattle.std.proofs.lemmas.List.{take_at}
-use Rattle.std.proofs.lemmas.Option.{none-some}
-use Rattle.fips204_base.specs.declared.fault.Fault.{Fault}
-use Rattle.fips204_base.specs.declared.fault.Fault.TheVariants.{SamplingLimit}
-use Rattle.fips204_base.specs.declared.types.R.{R}
-use Rattle.fips204_base.specs.declared.types.T.{T}
 use Rattle.fips204_base.specs.FrontLengths.{counter_blocks-prefix}
 use Rattle.fips204_base.specs.Streams.{ArePrefixes}
-use Rattle.fips204_base.specs.Vectors.{vector_coefficients, matrix_product}
-use Rattle.fips204_base.specs.Encodings.{PublicParts, PrivateParts, w1_bytes, public_key_bytes, vector_bytes, IsSignature, hint_bytes}
-use Rattle.fips204_base.specs.Sampling.{sampled_matrix, challenge, mask}
 use Rattle.fips204_base.proofs.LongerFronts.{prefix-take, prefix-part, matrix_entry-longer, small_polynomial-longer, challenge-longer, sampled_matrix-longer, small_vector-longer, mask-longer}
-use Rattle.fips204.specs.ParameterSets.{ParameterSet, c_tilde_length, IsSet}
-use Rattle.fips204.specs.Keys.{high_part, key_pair}
-use Rattle.fips204.specs.SigningInputs.{key_hash, high_vector, mask_seed, checked_attempt}
 use Rattle.fips204.proofs.KeyGeneration.{key_pair_if_all, key_pair_of_seed, generated-by_parts}
-use Rattle.fips204.specs.Framing.{Input, plain, hashed, framed, represented, frame, representative}
-use Rattle.fips204.specs.Signing.{commitment_hash, attempt, first_answer, sign_with, sign}
-use Rattle.fips204.specs.Acceptance.{Verifies}
-use Rattle.fips204.specs.Refusals.{generated, derived, refused_or, input_fault, sign_input, VerifiesInput}
 use Rattle.fips204.specs.LongerFronts.{CounterFrontsArePrefixes, SamplesStay, Stays, AnswersStay, IsVerdictDecided, sampled, malformed, YesAndNoStay, AcceptanceStays, LongerFrontsKeep}
 use Rattle.fips204.proofs.ParameterSets.{set_numbers}
 
@@ -194,21 +177,14 @@ module _ (H G H' G' : List ℕ → List ℕ) (first : ArePrefixes H H') (second 
   verifies-longer p pk mu signature t v =
       let accepted = v.accepted in
       let opened = accepted.opened in
+      let there = challenge-longer p.tau (H accepted.c_tilde) (H' accepted.c_tilde) opened.c (first accepted.c_tilde) (enough accepted.c_tilde) opened.sampled in
       record {
         a = v.a;
         matrix = sampled_matrix-longer G G' pk.rho p.k p.l v.a second v.matrix;
         accepted = record {
           c_tilde = accepted.c_tilde;
           w1 = accepted.w1;
-          opened = record {
-            z = opened.z;
-            h = opened.h;
-            parts = opened.parts;
-            norm = opened.norm;
-            c = opened.c;
-            sampled = challenge-longer p.tau (H accepted.c_tilde) (H' accepted.c_tilde) opened.c (first accepted.c_tilde) (enough accepted.c_tilde) opened.sampled;
-            recomputed = opened.recomputed;
-          };
+          opened = record { z = opened.z; h = opened.h; parts = opened.parts; norm = opened.norm; c = opened.c; sampled = there; recomputed = opened.recomputed };
           same = accepted.same ∙ sym (hash-longer (c_tilde_length p) (mu ++ accepted.w1) (omega (arith, (set_numbers p t).short)));
         };
       }
@@ -232,15 +208,7 @@ module _ (H G H' G' : List ℕ → List ℕ) (first : ArePrefixes H H') (second 
         accepted = record {
           c_tilde = accepted.c_tilde;
           w1 = accepted.w1;
-          opened = record {
-            z = opened.z;
-            h = opened.h;
-            parts = opened.parts;
-            norm = opened.norm;
-            c = opened.c;
-            sampled = here ∙ challenges;
-            recomputed = opened.recomputed;
-          };
+          opened = record { z = opened.z; h = opened.h; parts = opened.parts; norm = opened.norm; c = opened.c; sampled = here ∙ challenges; recomputed = opened.recomputed };
           same = accepted.same ∙ hash-longer (c_tilde_length p) (mu ++ accepted.w1) (omega (arith, (set_numbers p t).short));
         };
       }

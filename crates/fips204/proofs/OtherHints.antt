@@ -1,30 +1,10 @@
 -- Two signatures that differ in their hints alone fix two w1.
-use Rattle.std.proofs.Common.{◌≡◌, ◌≢◌, ◌<◌, ◌≤◌, ◌⊎◌, ◌+◌, ◌-◌, ◌*◌, ◌%◌, ℕ, ℤ, List, [], ◌++◌, pos, negsuc, length, take, get_or, Bool, true, false, Some, inl, inr, refl, ap, sym, ◌∙◌, arith, true≢false, length-append}
-use Rattle.std.specs.Prelude.{int_lt}
-use Rattle.std.proofs.lemmas.Bool.{cases_Bool}
-use Rattle.std.proofs.lemmas.Int.{ints}
-use Rattle.std.proofs.lemmas.List.{take_at, append_cancel_left}
-use Rattle.std.proofs.lemmas.Nat.{mod_below}
-use Rattle.fips204_base.specs.Network.{product_difference}
-use Rattle.fips204_base.specs.declared.types.R.{R}
-use Rattle.fips204_base.specs.declared.types.T.{T}
-use Rattle.fips204_base.specs.Encodings.{is_one, vector_bytes, hint_bytes, signature_bytes, w1_bytes, IsSignature}
-use Rattle.fips204_base.specs.Packing.{width}
-use Rattle.fips204_base.specs.Rounding.{use_hint, high_bits, low_bits, high_count}
-use Rattle.fips204_base.specs.Sampling.{challenge}
-use Rattle.fips204_base.specs.Vectors.{IsVector}
-use Rattle.fips204_base.specs.Bounds.{coefficient_of}
+use Rattle.std.proofs.Common.{◌≡◌, ◌≢◌, ◌<◌, ◌≤◌, ◌⊎◌, ◌+◌, ◌-◌, ◌*◌, ◌%◌, ℕ, ℤ, List, [], ◌++◌, pos, negsuc, length, take, get_or, Bool, true, false, Some, inl, inr, refl, ap, sym, ◌∙◌, arith, true≢false, length-append, int_lt}
+use Rattle.fips204.proofs.Names.{cases_Bool, ints, take_at, append_cancel_left, mod_below, R, T, is_one, vector_bytes, hint_bytes, signature_bytes, w1_bytes, IsSignature, width, use_hint, high_bits, low_bits, high_count, challenge, IsVector, coefficient_of, same_vector, high_bits_below, vector_of-entry, vector_of-same, vector_of-range, w1_prime, representative, t1_shifted, hinted, ParameterSet, c_tilde_length, OtherHintCollides}
 use Rattle.fips204_base.proofs.Bits.{cut}
-use Rattle.fips204_base.proofs.EncodedParts.{same_vector}
-use Rattle.fips204_base.proofs.Rounding.{high_bits_below}
 use Rattle.fips204_base.proofs.VectorBytes.{vector-length}
-use Rattle.fips204_base.proofs.Vectors.{vector_of-entry, vector_of-same, vector_of-range}
-use Rattle.fips204.specs.Acceptance.{w1_prime}
-use Rattle.fips204.specs.Framing.{representative}
-use Rattle.fips204.specs.SigningInputs.{t1_shifted, hinted}
-use Rattle.fips204.specs.ParameterSets.{ParameterSet, c_tilde_length}
-use Rattle.fips204.specs.SchemeLaws.{OtherHintCollides}
 use Rattle.fips204.proofs.Binding.{fixed_by}
+use Rattle.fips204.proofs.KeptHints.{product_difference}
 use Rattle.fips204.proofs.ParameterSets.{set_numbers}
 use Rattle.fips204.proofs.Verification.{use_hint-below, hint-bit}
 

@@ -1,21 +1,7 @@
 -- The three parameter sets: their numbers, what these have in common, and the lengths that follow.
-use Rattle.std.proofs.Common.{rules, subst, ◌≡◌, ◌⊎◌, inl, inr, ℕ, ℤ, pos, negsuc, nat_abs, Bool, true, false, ◌&&◌, ◌||◌, IsTrue, refl, ap, sym, true≢false, eqb-true, ◌≤◌, ◌*◌, arith, ◌<◌, ◌+◌, ◌-◌, ◌/◌, ◌-ℤ◌, ◌≤ℤ◌, List, ◌∙◌, Some}
-use Rattle.std.specs.Prelude.{int_le, nat_eq, if◌then◌else◌}
-use Rattle.fips204.specs.declared.types.Params.{Params}
-use Rattle.fips204.specs.ParameterSets.{ParameterSet, set_44, set_65, set_87, c_tilde_length, IsSet}
+use Rattle.std.proofs.Common.{rules, subst, ◌≡◌, ◌⊎◌, inl, inr, ℕ, ℤ, pos, negsuc, nat_abs, Bool, true, false, ◌&&◌, ◌||◌, IsTrue, refl, ap, sym, true≢false, eqb-true, ◌≤◌, ◌*◌, arith, ◌<◌, ◌+◌, ◌-◌, ◌/◌, ◌-ℤ◌, ◌≤ℤ◌, List, ◌∙◌, Some, int_le, nat_eq, if◌then◌else◌}
+use Rattle.fips204.proofs.Names.{Params, ParameterSet, set_44, set_65, set_87, c_tilde_length, IsSet, PrivateParts, ArePrivateParts, IsGamma, HasSizes, set_of, ints, mul-le, width, bit_length, high_count, response_width, eta_width, R, small_vector, IsVector, small_vector-range}
 use Rattle.fips204.specs.Rows.{same_parameters, is_parameter_set, parameter_set, are_parameters}
-use Rattle.fips204_base.specs.Encodings.{PrivateParts, ArePrivateParts}
-use Rattle.fips204_base.proofs.RoundingLaws.{IsGamma}
-use Rattle.fips204.specs.Sets.{set_of}
-use Rattle.std.proofs.lemmas.Int.{ints}
-use Rattle.std.proofs.lemmas.Nat.{mul-le}
-use Rattle.fips204_base.specs.Packing.{width, bit_length}
-use Rattle.fips204_base.specs.Rounding.{high_count}
-use Rattle.fips204_base.proofs.EncodedParts.{response_width, eta_width}
-use Rattle.fips204_base.specs.declared.types.R.{R}
-use Rattle.fips204_base.specs.Network.{small_vector}
-use Rattle.fips204_base.specs.Vectors.{IsVector}
-use Rattle.fips204_base.proofs.Sampled.{small_vector-range}
 
 -- The rows of the parameter sets.
 
@@ -164,8 +150,8 @@ pub record Limits (p : Params) : Type 0 where
   pub few_columns : p.l ≤ 7
   pub some_ones : pos 1 ≤ℤ p.omega
   pub hint_size : nat_abs p.omega + p.k < 256
-  pub z_bound : p.gamma1 -ℤ p.beta ≡ pos (nat_abs p.gamma1 - nat_abs p.beta)
-  pub r0_bound : p.gamma2 -ℤ p.beta ≡ pos (nat_abs p.gamma2 - nat_abs p.beta)
+  pub z_room : nat_abs p.beta ≤ nat_abs p.gamma1
+  pub r0_room : nat_abs p.beta ≤ nat_abs p.gamma2
   pub eta : (p.eta ≡ pos 2) ⊎ (p.eta ≡ pos 4)
   pub small_low : nat_abs p.gamma2 ≤ 261888
 
@@ -187,8 +173,8 @@ limits_of p row n s = record {
   few_columns = rw n.l_is s.columns.1;
   some_ones = rw n.omega_is (omega (arith, ints, s.ones));
   hint_size = rw (n.omega_is, n.k_is) s.ones.1;
-  z_bound = rw (n.gamma1_is, n.beta_is) (omega (arith, ints, s.gamma1, s.small_beta));
-  r0_bound = rw (n.gamma2_is, n.beta_is) (omega (arith, ints, s.gamma2, s.small_beta));
+  z_room = rw (n.gamma1_is, n.beta_is) (omega (arith, s.gamma1, s.small_beta));
+  r0_room = rw (n.gamma2_is, n.beta_is) (omega (arith, s.gamma2, s.small_beta));
   eta = rw n.eta_is (signed row.eta 2 4 s.small);
   small_low = rw n.gamma2_is (omega (arith, s.gamma2));
 }
@@ -199,13 +185,6 @@ limits p t = elim (rows p.tau p.lambda p.gamma1 p.gamma2 p.k p.l p.eta p.beta p.
   | inr (inl n) ↦ limits_of p set_65 n numbers_65
   | inr (inr n) ↦ limits_of p set_87 n numbers_87
 ]
-
--- a set's vectors fit eight lanes
-pub rows-few : (k : ℕ) (p : Params) → IsKnown p → k ≡ p.k → k ≤ 8
-rows-few k p t e = omega (arith, e, (limits p t).few_rows)
-
-pub columns-few : (l : ℕ) (p : Params) → IsKnown p → l ≡ p.l → l ≤ 8
-columns-few l p t e = omega (arith, e, (limits p t).few_columns)
 
 -- the numbers of a row make a set
 pub known-set : (p : Params) → IsKnown p → IsSet (set_of p)
@@ -243,13 +222,22 @@ rounding-some gamma2 (inr e) = rw e (omega (arith, ints))
 pub matrix_room : (k l : ℕ) → k ≤ 8 → l ≤ 7 → k * (l * 1024) < 9223372036854775808
 matrix_room k l h m = let bound = mul-le k (l * 1024) 8 7168 h (omega (arith, m)) in omega (arith, bound)
 
--- the length of a signature, as its decoder has it
-lengths : (n k l a w : ℕ) → n + 32 * (l * w) + a + k ≡ n + 32 * w * l + (a + k)
-lengths n k l a w = omega arith
+-- what a signature's encoder and decoder ask of the lengths
+pub record IsSignatureShape (gamma1 ones : ℤ) (k l n size : ℕ) : Type 0 where
+  pub set : (gamma1 ≡ pos 131072) ⊎ (gamma1 ≡ pos 524288)
+  pub some : pos 1 ≤ℤ ones
+  pub hint_size : nat_abs ones + k < 256
+  pub whole : size ≡ n + 32 * width (gamma1 -ℤ pos 1) gamma1 * l + (nat_abs ones + k)
 
-pub signature-size : (gamma1 : ℤ) (n k l a : ℕ) → (gamma1 ≡ pos 131072) ⊎ (gamma1 ≡ pos 524288)
-    → n + 32 * (l * width (pos (nat_abs gamma1 - 1)) (pos (nat_abs gamma1))) + a + k ≡ n + 32 * width (gamma1 -ℤ pos 1) gamma1 * l + (a + k)
-signature-size gamma1 n k l a set = rw (response_width gamma1 set) (lengths n k l a (width (pos (nat_abs gamma1 - 1)) (pos (nat_abs gamma1))))
+pub signature-shape : (p : Params) (gamma1 ones : ℤ) (k l n size : ℕ) → IsKnown p → HasSizes (set_of p) k l n size → gamma1 ≡ p.gamma1 → ones ≡ p.omega → IsSignatureShape gamma1 ones k l n size
+signature-shape p gamma1 ones k l n size known sizes m o =
+    let some = limits p known in
+    record {
+      set = rw m some.mask;
+      some = rw o some.some_ones;
+      hint_size = rw (o, sizes.rows) some.hint_size;
+      whole = sizes.signature ∙ rw (m, o, sizes.rows, sizes.columns, sizes.c_tilde, response_width p.gamma1 some.mask) (omega arith);
+    }
 
 pub mask-size : (gamma1 : ℤ) → (gamma1 ≡ pos 131072) ⊎ (gamma1 ≡ pos 524288) → (1 ≤ nat_abs gamma1) × (nat_abs gamma1 ≤ 524288)
 mask-size gamma1 (inl e) = rw e (omega arith, omega arith)

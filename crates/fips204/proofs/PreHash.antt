@@ -1,8 +1,6 @@
 -- A table of OIDs with the lengths of their hashes' digests, gone through from the front.
-use Rattle.std.proofs.Common.{◌≡◌, ◌<◌, ◌≤◌, ◌+◌, ℕ, List, [], ◌∷◌, Bool, true, false, cond, length, get_or, drop, map, Option, Some, None, refl, ap, ◌∙◌}
-use Rattle.std.specs.Prelude.{bytes_eq, find, option_map}
-use Rattle.std.proofs.lemmas.List.{drop_more, drop_all}
-use Rattle.fips204.specs.Framing.{hash_oid, hashes, digest_length}
+use Rattle.std.proofs.Common.{◌≡◌, ◌<◌, ◌≤◌, ◌+◌, ℕ, List, [], ◌∷◌, Bool, true, false, cond, length, get_or, drop, map, Option, Some, None, refl, ap, ◌∙◌, bytes_eq, find, option_map}
+use Rattle.fips204.proofs.Names.{drop_more, drop_all, hash_oid, hashes, digest_length}
 
 -- the length of the first that has this OID
 unfoldable pub length_in : List ℕ → List (List ℕ × ℕ) → Option ℕ

@@ -1,20 +1,7 @@
 -- Keys with their matrix: what is signed with one is accepted, and each answers as its plain key.
-use Rattle.std.proofs.Common.{◌≡◌, ◌≤◌, ℕ, List, [], Bool, refl, sym, ap, subst, ◌∙◌, length, get_or, Result, Ok, Some, None}
-use Rattle.std.specs.Prelude.{◌↔◌, ok_or, option_map, unwrap_or, Err}
+use Rattle.std.proofs.Common.{◌≡◌, ◌≤◌, ℕ, List, [], Bool, refl, sym, ap, subst, ◌∙◌, length, get_or, Result, Ok, Some, None, ◌↔◌, ok_or, option_map, unwrap_or, Err}
+use Rattle.fips204.proofs.Names.{Fault, SamplingLimit, T, sampled_matrix, Accepts, Verifies, Input, plain, represented, representative, PublicParts, PrivateParts, ArePrivateParts, IsWhole, high_part, low_part, ParameterSet, IsSet, PreparedPrivate, PreparedPublic, prepared_private, prepared_public, public_of_prepared, sign_prepared, IsWholePrepared, VerifiesPrepared, IsEachSigned, IsEachJudged, AcceptedIfWholePrepared, PreparedAnswersAsPlain, refused_or, input_fault, sign_input, VerifiesInput, derived, input_hash, sign, sign_with}
 use Rattle.std.specs.declared.option.Option.{Option}
-use Rattle.fips204_base.specs.declared.fault.Fault.{Fault}
-use Rattle.fips204_base.specs.declared.fault.Fault.TheVariants.{SamplingLimit}
-use Rattle.fips204_base.specs.declared.types.T.{T}
-use Rattle.fips204_base.specs.Sampling.{sampled_matrix}
-use Rattle.fips204.specs.Acceptance.{Accepts, Verifies}
-use Rattle.fips204.specs.Framing.{Input, plain, represented, representative}
-use Rattle.fips204_base.specs.Encodings.{PublicParts, PrivateParts, ArePrivateParts}
-use Rattle.fips204.specs.Keys.{IsWhole, high_part, low_part}
-use Rattle.fips204.specs.ParameterSets.{ParameterSet, IsSet}
-use Rattle.fips204.specs.Prepared.{PreparedPrivate, PreparedPublic, prepared_private, prepared_public, public_of_prepared, sign_prepared, IsWholePrepared, VerifiesPrepared, IsEachSigned, IsEachJudged, AcceptedIfWholePrepared, PreparedAnswersAsPlain}
-use Rattle.fips204.specs.Refusals.{refused_or, input_fault, sign_input, VerifiesInput, derived}
-use Rattle.fips204.specs.SigningInputs.{input_hash}
-use Rattle.fips204.specs.Signing.{sign, sign_with}
 use Rattle.fips204.proofs.Completeness.{accepts_signed_with}
 use Rattle.fips204.proofs.RefusedCalls.{given_input, same_some, same_ok}
 

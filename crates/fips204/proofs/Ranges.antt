@@ -1,43 +1,10 @@
 -- The ranges of what is sampled or given by a type.
-use Rattle.std.proofs.Common.{◌≡◌, ℕ, List, [], ◌∷◌, length, ◌<◌, ◌≤◌, suc, ℤ, nat_abs, get_or, take, sym, subst, ◌∙◌, arith, Some, Bool, true, false, inl, inr, refl, ap, Decides}
+use Rattle.std.proofs.Common.{◌≡◌, ℕ, List, [], ◌∷◌, length, ◌<◌, ◌≤◌, suc, ℤ, nat_abs, get_or, take, sym, subst, ◌∙◌, arith, Some, Bool, true, false, inl, inr, refl, ap, Decides, nat_eq, nat_lt}
+use Rattle.fips204.proofs.Names.{slice_eq-Decides, sign_of, challenge_picks, PolynomialWithin, coefficient_at, R, cases_Bool, cases_lt, lt-ltb, le-ltb, ints, none-some, bits, polynomial_of, signed_sum, challenge, challenge_places, challenge_places-apart, length-challenge_places, sum-elsewhere, polynomial_of-at}
 use lib.Pointwise.{pointwise}
 use Rattle.std.specs.Ordering.{int_eq}
 use Rattle.std.proofs.lemmas.Bool.Decides.{Decides-int_eq}
-use Rattle.std.proofs.lemmas.Slice.Eq.{slice_eq-Decides}
-use Rattle.std.specs.List.{All}
-use Rattle.std.proofs.lemmas.List.Elements.{All-nil, All-cons}
-use mir.Val.{Val}
-use denote.Array.{each, in_array}
-use denote.Shadow.{shadow}
-use Rattle.fips204_base.specs.Network.{sign_of, challenge_picks}
-use Rattle.fips204_base.specs.Bounds.{PolynomialWithin, coefficient_at, coefficient_of}
-use Rattle.fips204_base.specs.declared.types.R.{R}
-use Rattle.fips204_base.specs.contracts.types.R.{the_row}
-use Rattle.std.specs.Prelude.{nat_eq, nat_lt}
-use Rattle.std.proofs.lemmas.Bool.{cases_Bool, cases_lt, eqb-true, lt-ltb, le-ltb}
-use Rattle.std.proofs.lemmas.Int.{ints}
-use Rattle.std.proofs.lemmas.Option.{none-some}
-use Rattle.fips204_base.specs.Packing.{bits}
-use Rattle.fips204_base.specs.Vectors.{polynomial_of, vector_of}
-use Rattle.fips204_base.specs.Sampling.{signed_sum, challenge}
-use Rattle.fips204_base.proofs.Challenges.{challenge_places, challenge_places-apart, length-challenge_places, sum-elsewhere}
-use Rattle.fips204_base.proofs.Vectors.{polynomial_of-at, vector_of-same}
-
--- What the type of an array of polynomials says of its rows.
-
-each_whole : (v : List R) (words : List Val) → shadow (each the_row.Denot the_row.own_val v words) → All (λ w. length w.0 ≡ 256) v
-each_whole [] words h = All-nil (λ (w : R). length w.0 ≡ 256)
-each_whole (w ∷ v) [] h = absurd h
-each_whole (w ∷ v) (word ∷ words) h = All-cons (λ (w : R). length w.0 ≡ 256) w v h.0.1.1.0.1.0.1 (each_whole v words h.1)
-
--- each row of an array has 256 places; `typed` is the `type_inv` of the call that gave it
-pub whole_rows : (k : ℕ) (v : List R) (typed : (words : List Val) × shadow (in_array the_row.Denot the_row.own_val k v words)) → All (λ w. length w.0 ≡ 256) v
-whole_rows k v typed = each_whole v typed.1.0 typed.1.1.1
-
--- a vector that a call gave, by its coefficients
-pub whole_vector : (k : ℕ) (f : ℕ → ℕ → ℤ) (v : List R) → length v ≡ k → (words : List Val) × shadow (in_array the_row.Denot the_row.own_val k v words)
-    → ((r n : ℕ) → r < k → n < 256 → coefficient_of v r n ≡ f r n) → v ≡ vector_of k f
-whole_vector k f v rows typed at = vector_of-same k f v rows (λ r h. whole_rows k v typed r record { 0 = [] } (omega (arith, h, rows))) at
+use Rattle.std.proofs.lemmas.Bool.{eqb-true}
 
 -- The range of a challenge: ones, minus ones and zeros.
 

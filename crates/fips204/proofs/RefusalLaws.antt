@@ -1,19 +1,7 @@
 -- Which refusals whole calls have.
-use Rattle.std.proofs.Common.{◌≡◌, ◌⊎◌, inl, inr, ℕ, ◌*◌, List, [], ◌∷◌, map, Option, Some, None, Result, Ok, Err, refl, rules}
-use Rattle.std.specs.Prelude.{IfErr, ok_or, option_map, unwrap_or}
-use Rattle.std.specs.List.{range_with_len}
-use Rattle.fips204_base.specs.declared.fault.Fault.{Fault}
-use Rattle.fips204_base.specs.declared.fault.Fault.TheVariants.{SamplingLimit}
-use Rattle.fips204_base.specs.declared.types.T.{T}
-use Rattle.fips204_base.specs.Sampling.{sampled_matrix}
-use Rattle.fips204.specs.ParameterSets.{ParameterSet}
-use Rattle.fips204_base.specs.Encodings.{PrivateParts}
-use Rattle.fips204.specs.Signing.{attempt, first_answer, sign_with, sign}
-use Rattle.fips204.specs.Framing.{Input, representative}
-use Rattle.fips204.specs.SchemeLaws.{RefusesOnly}
-use Rattle.fips204.specs.SigningInputs.{IsSigningLimit, mask_seed}
+use Rattle.std.proofs.Common.{◌≡◌, ◌⊎◌, inl, inr, ℕ, ◌*◌, List, [], ◌∷◌, map, Option, Some, None, Result, Ok, Err, refl, rules, IfErr, ok_or, option_map, unwrap_or}
+use Rattle.fips204.proofs.Names.{range_with_len, Fault, SamplingLimit, T, sampled_matrix, ParameterSet, PrivateParts, attempt, first_answer, sign_with, sign, Input, representative, RefusesOnly, IsSigningLimit, mask_seed, derived, refused_or, input_fault, sign_input, OnlySamplingLimit}
 use Rattle.fips204.proofs.KeyGeneration.{key_pair_of_seed, generated-by_parts}
-use Rattle.fips204.specs.Refusals.{derived, refused_or, input_fault, sign_input, OnlySamplingLimit}
 
 -- a value, or a limit where there is none
 limited : {A : Type 0} (o : Option A) → OnlySamplingLimit (ok_or o SamplingLimit)

@@ -1,11 +1,6 @@
 -- Answers and refusals of whole calls.
-use Rattle.std.proofs.Common.{Result, ◌≡◌, ◌≤◌, ◌↔◌, inl, inr, ℕ, List, length, Bool, true, false, IsTrue, Option, Some, None, Ok, Err, refl, sym, ap, ◌∙◌, subst}
-use Rattle.std.specs.Prelude.{nat_lt, if◌then◌else◌}
-use Rattle.std.proofs.lemmas.Bool.{ltb-false}
-use Rattle.fips204_base.specs.declared.fault.Fault.{Fault}
-use Rattle.fips204.specs.Framing.{Input, represented, representative}
-use Rattle.fips204.specs.Refusals.{refused_or, input_fault, DrawsUnless}
-use Rattle.fips204.specs.SigningInputs.{input_hash}
+use Rattle.std.proofs.Common.{Result, ◌≡◌, ◌≤◌, ◌↔◌, inl, inr, ℕ, List, length, Bool, true, false, IsTrue, Option, Some, None, Ok, Err, refl, sym, ap, ◌∙◌, subst, nat_lt, if◌then◌else◌}
+use Rattle.fips204.proofs.Names.{ltb-false, Fault, Input, represented, representative, refused_or, input_fault, DrawsUnless, input_hash}
 
 -- two values are the same where the options that hold them are
 pub same_some : {A : Type 0} (x y : A) → Some x ≡ Some y → x ≡ y

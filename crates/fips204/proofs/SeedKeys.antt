@@ -1,18 +1,6 @@
 -- What the keys of a seed sign is accepted, and what a whole private key signs.
-use Rattle.std.proofs.Common.{◌≡◌, ◌≤◌, ℕ, nat_abs, List, sym, subst, ◌∙◌, length, Result, Ok, Err, rules}
-use Rattle.std.specs.Prelude.{IfOk, MatchResult}
-use Rattle.fips204_base.specs.Encodings.{PublicParts, PrivateParts, ArePrivateParts, IsPublicKeyOf, public_key_bytes, private_key_bytes}
-use Rattle.fips204_base.specs.declared.fault.Fault.{Fault}
-use Rattle.fips204.specs.Acceptance.{Verifies}
-use Rattle.fips204.specs.ParameterSets.{ParameterSet, IsSet}
-use Rattle.fips204.specs.Keys.{DecodesPrivate, IsWhole}
-use Rattle.fips204.specs.declared.types.Params.{Params}
-use Rattle.fips204.specs.Sets.{set_of}
-use Rattle.fips204.specs.Signing.{sign}
-use Rattle.fips204.specs.SigningInputs.{input_hash}
-use Rattle.fips204.specs.Framing.{Input, represented}
-use Rattle.fips204.specs.Refusals.{generated, derived, sign_input, VerifiesInput}
-use Rattle.fips204.specs.Completeness.{AcceptedIfWholePlain, AcceptsSigned, SignedIsAccepted, DecodesAlone}
+use Rattle.std.proofs.Common.{◌≡◌, ◌≤◌, ℕ, nat_abs, List, sym, subst, ◌∙◌, length, Result, Ok, Err, rules, IfOk, MatchResult}
+use Rattle.fips204.proofs.Names.{PublicParts, PrivateParts, ArePrivateParts, IsPublicKeyOf, public_key_bytes, private_key_bytes, Fault, Verifies, ParameterSet, IsSet, DecodesPrivate, IsWhole, Params, set_of, sign, input_hash, Input, represented, generated, derived, sign_input, VerifiesInput, AcceptedIfWholePlain, AcceptsSigned, SignedIsAccepted, DecodesAlone}
 use Rattle.fips204.proofs.ParameterSets.{IsKnown, known-set}
 use Rattle.fips204.proofs.RefusedCalls.{given_input}
 use Rattle.fips204.proofs.WholeKeys.{generated_pair, generated_parts, accepts_signed, derived_hash, pair_of_whole, public_alone, private_alone}

@@ -1,33 +1,10 @@
 -- Verifying: w1' as a vector, and what a signature's parts have to keep.
-use Rattle.std.proofs.Common.{◌≡◌, ◌<◌, ◌≤◌, ◌⊎◌, ◌+◌, ◌-◌, ◌*◌, ◌%◌, ℕ, List, [], pos, nat_abs, get_or, length, ap, sym, subst, ◌∙◌, arith, Bool, Some, true, false, inl, inr, refl, IsTrue, ℤ, zero, suc, negsuc, ◌≤ℤ◌, ◌++◌, take}
-use Rattle.std.specs.Prelude.{int_lt, ◌↔◌}
+use Rattle.std.proofs.Common.{◌≡◌, ◌<◌, ◌≤◌, ◌⊎◌, ◌+◌, ◌-◌, ◌*◌, ◌%◌, ℕ, List, [], pos, nat_abs, get_or, length, ap, sym, subst, ◌∙◌, arith, Bool, Some, true, false, inl, inr, refl, IsTrue, ℤ, zero, suc, negsuc, ◌≤ℤ◌, ◌++◌, take, int_lt, ◌↔◌}
+use Rattle.fips204.proofs.Names.{All, cases_Bool, ints, mod_below, R, T, vector_norm, residue, coefficients, challenge, sampled_matrix, PublicParts, IsSignature, is_one, w1_bytes, IsVector, vector_coefficients, matrix_product, vector_of, VectorWithin, PolynomialInRange, coefficient_of, product, minus, use_hint, high_bits, low_bits, high_count, high_bits_below, product_same, congruent_of, congruent_refl, residue_below, vector_of-ext, vector_of-range, vector-within, same_signature, w1_prime, Accepts, Verifies, t1_shifted, hinted, AreShifted, OpensTo, commitment_hash, Params, ParameterSet, c_tilde_length, HasSizes, set_of}
 use Rattle.std.specs.declared.option.Option.{Option}
-use Rattle.std.specs.List.{All}
-use Rattle.std.proofs.lemmas.Bool.{cases_Bool}
-use Rattle.std.proofs.lemmas.Int.{ints}
-use Rattle.std.proofs.lemmas.Nat.{mod_below}
-use Rattle.fips204_base.specs.declared.types.R.{R}
-use Rattle.fips204_base.specs.declared.types.T.{T}
-use Rattle.fips204_base.specs.Residues.{vector_norm, residue, coefficients}
-use Rattle.fips204_base.specs.Sampling.{challenge, sampled_matrix}
-use Rattle.fips204_base.specs.Encodings.{PublicParts, IsSignature, is_one, w1_bytes}
-use Rattle.fips204_base.specs.Vectors.{IsVector, vector_coefficients, matrix_product, vector_of}
-use Rattle.fips204_base.specs.Bounds.{VectorWithin, PolynomialInRange, coefficient_of}
-use Rattle.fips204_base.specs.Transforms.{product, minus}
-use Rattle.fips204_base.specs.Rounding.{use_hint, high_bits, low_bits, high_count}
-use Rattle.fips204_base.proofs.Rounding.{high_bits_below}
-use Rattle.fips204_base.proofs.Products.{product_same}
-use Rattle.fips204_base.proofs.Residues.{congruent_of, congruent_refl, residue_below}
-use Rattle.fips204_base.proofs.Vectors.{vector_of-ext, vector_of-range, vector-within}
-use Rattle.fips204_base.proofs.EncodedParts.{same_signature}
-use Rattle.fips204.specs.Acceptance.{w1_prime, Accepts, Verifies}
-use Rattle.fips204.specs.SigningInputs.{t1_shifted, hinted, AreShifted, OpensTo}
-use Rattle.fips204.specs.Signing.{commitment_hash}
-use Rattle.fips204.specs.declared.types.Params.{Params}
-use Rattle.fips204.specs.ParameterSets.{ParameterSet, c_tilde_length}
-use Rattle.fips204.specs.Sets.{set_of}
 use Rattle.fips204.proofs.ParameterSets.{IsKnown, limits, mask-size}
 use Rattle.fips204.proofs.RefusedCalls.{same_some}
+use prog.Memory.{up}
 
 -- ---- w1'
 
@@ -108,6 +85,19 @@ pub response-within : (gamma1 l : ℕ) (z : List R) → gamma1 ≤ 524288 → Is
 response-within gamma1 l z h vector = vector-within l (gamma1 - 1) gamma1 524288 z (omega (arith, h)) h vector
 
 -- ---- the parts of a signature
+
+-- they fit the memory, each at a multiple of four bytes
+up_near : (x : ℕ) → up 4 x ≤ x + 3
+up_near x = omega arith
+
+pub opened_room : (p : Params) (k l n size : ℕ) → IsKnown p → HasSizes (set_of p) k l n size → up 4 (up 4 (up 4 (up 4 (0 + n * 1) + l * 1024) + k * 1024) + 1024) < 9223372036854775808
+opened_room p k l n size known sizes =
+    let some = limits p known in
+    let first = up_near (0 + n * 1) in
+    let second = up_near (up 4 (0 + n * 1) + l * 1024) in
+    let third = up_near (up 4 (up 4 (0 + n * 1) + l * 1024) + k * 1024) in
+    let last = up_near (up 4 (up 4 (up 4 (0 + n * 1) + l * 1024) + k * 1024) + 1024) in
+    omega (arith, first, second, third, last, some.few_rows, some.few_columns, some.short, sizes.rows, sizes.columns, sizes.c_tilde)
 
 -- with the challenge and w1' at hand the commitment hash decides
 pub decided : (p : ParameterSet) (H : List ℕ → List ℕ) (a : List (List T)) (t1 z h w1 : List R) (mu c_tilde : List ℕ) (ball : Option R) (c : R) (answer : Bool)

@@ -1,31 +1,11 @@
 -- Keys by their bytes, generated pairs, and what a whole private key signs.
-use Rattle.std.proofs.Common.{◌≡◌, ◌-◌, ℕ, List, length, take, drop, IsTrue, Bool, Some, None, Result, Ok, Err, refl, ap, sym, subst, ◌∙◌, arith, length-drop, ◌≤◌}
-use Rattle.std.specs.Prelude.{option_map, ok_or, ◌↔◌, MatchResult}
-use Rattle.std.specs.List.{All}
+use Rattle.std.proofs.Common.{◌≡◌, ◌-◌, ℕ, List, length, take, drop, IsTrue, Bool, true, ◌&&◌, Some, None, Result, Ok, Err, refl, ap, sym, subst, ◌∙◌, arith, length-drop, ◌≤◌, option_map, ok_or, ◌↔◌, MatchResult}
+use Rattle.fips204.proofs.Names.{All, length-take-le, none-some, R, T, PublicParts, PrivateParts, ArePublicParts, ArePrivateParts, IsPublicKeyOf, IsPrivateKeyOf, public_key_bytes, private_key_bytes, sampled_matrix, small_vector, IsVector, small_vector-range, some_of_ok, ParameterSet, IsSet, DecodesPrivate, IsWhole, high_part, low_part, key_pair, sign, Verifies, derived, generated, AcceptsSigned, IsPair, TellsPair, DecodesAlone, BytesTellKeys, Fault, SamplingLimit, same_private_key, IsT1, same_parts, IsHighPart, seed_front, key_hash}
 use Rattle.std.specs.declared.option.Option.{Option}
-use Rattle.std.proofs.lemmas.List.{length-take-le}
-use Rattle.std.proofs.lemmas.Option.{none-some}
-use Rattle.fips204_base.specs.declared.types.R.{R}
-use Rattle.fips204_base.specs.declared.types.T.{T}
-use Rattle.fips204_base.specs.Encodings.{PublicParts, PrivateParts, ArePublicParts, ArePrivateParts, IsPublicKeyOf, IsPrivateKeyOf, public_key_bytes, private_key_bytes}
-use Rattle.fips204_base.specs.Sampling.{sampled_matrix}
-use Rattle.fips204_base.specs.Network.{small_vector}
-use Rattle.fips204_base.specs.Vectors.{IsVector}
-use Rattle.fips204_base.proofs.Sampled.{small_vector-range, some_of_ok}
-use Rattle.fips204.specs.ParameterSets.{ParameterSet, IsSet}
-use Rattle.fips204.specs.Keys.{DecodesPrivate, IsWhole, high_part, low_part, key_pair}
-use Rattle.fips204.specs.Signing.{sign}
-use Rattle.fips204.specs.Acceptance.{Verifies}
 use Rattle.fips204.proofs.Completeness.{completeness}
-use Rattle.fips204.proofs.KeyGeneration.{high_part-range, low_part-range, key_pair_if_all, key_pair_of_seed, generated-by_parts}
+use Rattle.fips204.proofs.KeyGeneration.{derived-some, low_of_whole, high_part-range, low_part-range, key_pair_if_all, key_pair_of_seed, generated-by_parts}
 use Rattle.fips204.proofs.RefusedCalls.{same_some, signed_input, same_ok}
-use Rattle.fips204.proofs.ParameterSets.{set_numbers}
-use Rattle.fips204.specs.Refusals.{derived, generated}
-use Rattle.fips204.specs.Completeness.{AcceptsSigned, IsPair, DecodesAlone, BytesTellKeys}
-use Rattle.fips204_base.specs.declared.fault.Fault.{Fault}
-use Rattle.fips204_base.specs.declared.fault.Fault.TheVariants.{SamplingLimit}
-use Rattle.fips204_base.proofs.EncodedParts.{same_private_key, IsT1, same_parts}
-use Rattle.fips204.specs.SigningInputs.{IsHighPart, seed_front, key_hash}
+use Rattle.fips204.proofs.ParameterSets.{and_out, set_numbers}
 
 -- ---- keys by their bytes
 
@@ -60,9 +40,7 @@ bytes_tell_keys p row = record {
 -- ---- a private key and its public key
 
 pub derived_of_whole : (p : ParameterSet) (G : List ℕ → List ℕ) (sk : PrivateParts) → (whole : IsWhole p G sk) → derived p G sk ≡ Ok record { rho = sk.rho; tr = sk.tr; t1 = high_part p whole.matrix sk.s1 sk.s2 }
-unfolding derived
-derived_of_whole p G sk whole =
-    ap (λ o. ok_or (option_map (λ a. let pk : PublicParts = record { rho = sk.rho; tr = sk.tr; t1 = high_part p a sk.s1 sk.s2 } in pk) o) SamplingLimit) whole.sampled
+derived_of_whole p G sk whole = derived-some p G sk whole.matrix (high_part p whole.matrix sk.s1 sk.s2) whole.sampled refl
 
 -- ---- what a whole private key signs is accepted
 
@@ -120,13 +98,25 @@ pair_of_whole p H G pk sk row parts whole derives hash =
       private_decoded = λ other. (λ d. one_private_key p bytes other sk row d held, λ e. subst (λ (k : PrivateParts). IsPrivateKeyOf p.eta p.k p.l bytes k) (sym e) held);
     }
 
--- with a whole private key at hand its tr decides
-pub pair_by_hash : (p : ParameterSet) (H G : List ℕ → List ℕ) (pk : PublicParts) (sk : PrivateParts) (own : Bool) → IsSet p
-    → ArePrivateParts p.eta p.k p.l sk → IsWhole p G sk → derived p G sk ≡ Ok pk → (IsTrue own ↔ (sk.tr ≡ key_hash H pk.rho pk.t1)) → IsTrue own ↔ IsPair p H G pk sk
-pair_by_hash p H G pk sk own row parts whole derives both = (
-  λ t. pair_of_whole p H G pk sk row parts whole derives (both.0 t),
-  λ pair. both.1 (derived_hash p G sk pk derives ∙ ((pair.public_decoded pk).1 refl).tr),
-)
+-- t0 and tr tell whether a private key and the public key that is derived of it are a pair
+pub tells_pair : (p : ParameterSet) (H G : List ℕ → List ℕ) (sk : PrivateParts) (a : List (List T)) (t1 t0 : List R) (tr : List ℕ) (whole own : Bool) → IsSet p
+    → ArePrivateParts p.eta p.k p.l sk → sampled_matrix G sk.rho p.k p.l ≡ Some a → t1 ≡ high_part p a sk.s1 sk.s2 → t0 ≡ low_part p a sk.s1 sk.s2 → tr ≡ key_hash H sk.rho t1
+    → (IsTrue whole ↔ (sk.t0 ≡ t0)) → (IsTrue own ↔ (sk.tr ≡ tr)) → TellsPair p H G sk (Ok (whole && own))
+tells_pair p H G sk a t1 t0 tr whole own row parts there high low hash same_low same_hash =
+    let pk : PublicParts = record { rho = sk.rho; tr = sk.tr; t1 = t1 } in
+    let derives : derived p G sk ≡ Ok pk = derived-some p G sk a t1 there high in (
+      pk,
+      derives,
+      (
+        λ t.
+            let both = and_out whole own t in
+            pair_of_whole p H G pk sk row parts record { matrix = a; sampled = there; low = same_low.0 both.0 ∙ low } derives (same_hash.0 both.1 ∙ hash),
+        λ pair.
+            let is_whole : whole ≡ true = same_low.1 (low_of_whole p G sk a t0 there low pair.whole) in
+            let is_own : own ≡ true = same_hash.1 (((pair.public_decoded pk).1 refl).tr ∙ sym hash) in
+            rw (is_whole, is_own) refl,
+      ),
+    )
 
 -- ---- key generation
 

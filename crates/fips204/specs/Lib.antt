@@ -6,6 +6,7 @@ pub mod Rows
 pub mod Signing
 pub mod Acceptance
 pub mod Framing
+pub mod Inputs
 pub mod Constants
 pub mod Refusals
 pub mod Prepared
@@ -19,7 +20,8 @@ pub use Rattle.fips204_base.specs.Lanes
 pub use Rattle.fips204_base.specs.Encodings
 pub use Rattle.fips204_base.specs.Faults
 pub use Rattle.fips204_base.specs.Transforms
-pub use Rattle.fips204_base.specs.Network
+pub use Rattle.fips204_base.specs.PlainTransforms
+pub use Rattle.fips204_base.specs.SamplerSteps
 pub use Rattle.fips204_base.specs.Packing
 pub use Rattle.fips204_base.specs.Vectors
 pub use Rattle.fips204_base.specs.Rounding

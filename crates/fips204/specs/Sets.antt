@@ -1,7 +1,9 @@
 -- The parameter sets as values of the program (FIPS 204, Tables 1 and 2).
 use Rattle.std.specs.Prelude.{◌≡◌, ℕ, nat_abs}
+use Rattle.fips204.specs.declared.sets.SetName.{SetName}
+use Rattle.fips204.specs.declared.sets.SetName.TheVariants.{MlDsa44, MlDsa65, MlDsa87}
 use Rattle.fips204.specs.declared.types.Params.{Params}
-use Rattle.fips204.specs.ParameterSets.{ParameterSet, c_tilde_length, signature_length, public_key_length, private_key_length}
+use Rattle.fips204.specs.ParameterSets.{ParameterSet, set_44, set_65, set_87, c_tilde_length, signature_length, public_key_length, private_key_length}
 
 -- the set of a value
 abbrev pub set_of : Params → ParameterSet
@@ -17,6 +19,12 @@ set_of p =
       beta = nat_abs p.beta;
       omega = nat_abs p.omega;
     }
+
+-- the set of a name
+abbrev pub named_set : SetName → ParameterSet
+named_set MlDsa44 = set_44
+named_set MlDsa65 = set_65
+named_set MlDsa87 = set_87
 
 -- k rows and l columns, n bytes of c_tilde and s bytes of a signature are those of the set
 pub record HasSizes (p : ParameterSet) (k l n s : ℕ) : Type 0 where

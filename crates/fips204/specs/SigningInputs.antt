@@ -6,7 +6,7 @@ use Rattle.fips204_base.specs.Rounding.{high_bits, make_hint, use_hint}
 use Rattle.fips204_base.specs.Sampling.{challenge}
 use Rattle.fips204_base.specs.Transforms.{product, plus}
 use Rattle.fips204_base.specs.Vectors.{IsVector, vector_coefficients, vector_of}
-use Rattle.fips204_base.specs.Network.{AreSameModQ}
+use Rattle.fips204_base.specs.PlainTransforms.{AreSameModQ}
 use Rattle.fips204_base.specs.Bounds.{PolynomialWithin, VectorWithin}
 use Rattle.fips204_base.specs.declared.fault.Fault.{Fault}
 use Rattle.fips204_base.specs.declared.fault.Fault.TheVariants.{SamplingLimit, TooManyAttempts}
@@ -39,9 +39,17 @@ pub record AreAttemptInputs (p : Params) (k l n s : ℕ) (kappa : ℕ) : Type 0 
 -- w = A y and a challenge c with coefficients below q in absolute value
 pub record AreCheckInputs (p : Params) (k l n s : ℕ) (y w : List R) (c : R) : Type 0 where
   pub sizes : HasSizes (set_of p) k l n s
+  pub some_rows : 1 ≤ k
+  pub few_rows : k ≤ 8
+  pub some_columns : 1 ≤ l
+  pub few_columns : l ≤ 7
   pub mask : VectorWithin l 524288 y
   pub product : VectorWithin k 8380416 w
   pub challenge : PolynomialWithin 8380416 c.0
+
+-- what is multiplied by d is multiplied by c
+abbrev pub IsFactorOf : R → R → Type 0
+IsFactorOf d c = (j : ℕ) → j < 256 → coefficients d.0 j ≡ coefficients c.0 j
 
 -- mu of an input under a key's hash tr, or the refusal
 abbrev pub input_hash : (List ℕ → List ℕ) → List ℕ → Input → Result (List ℕ) Fault
@@ -103,6 +111,10 @@ IsHighPart k t1 = IsVector k 0 1023 t1
 -- c v
 abbrev pub scaled : R → (ℕ → ℕ → ℕ) → ℕ → ℕ → ℕ
 scaled c v r = product (coefficients c.0) (v r)
+
+-- the first k polynomials of c v, as a vector
+abbrev pub multiple : ℕ → R → List R → List R
+multiple k c v = vector_of k (λ r n. pos (scaled c (vector_coefficients v) r n))
 
 -- y + c s1
 abbrev pub y_plus_cs1 : List R → List R → R → ℕ → ℕ → ℕ

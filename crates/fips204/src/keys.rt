@@ -1,16 +1,19 @@
-//! The calls of the keys of every parameter set.
+//! The calls of the keys of every parameter set: making a pair, signing, verifying, and keys as bytes. A call that signs
+//! or verifies is a line over `sign_input`, `sign_drawn` or `accepts_input`.
 #![tactic(auto)]
 
 ghost use Rattle.std.specs.Prelude.{◌≡◌, ◌↔◌, IsTrue, MatchResult};
 ghost use Rattle.fips204.specs.Completeness.{TellsPair, AcceptedIfWholePlain};
 ghost use Rattle.fips204.specs.Framing.{framed, represented};
+ghost use Rattle.fips204.specs.Inputs.{input_of};
 ghost use Rattle.fips204.specs.Keys.{IsWhole, TellsWhole, DecodesPrivate};
 ghost use Rattle.fips204.specs.Prepared.{prepared_private, prepared_public};
-ghost use Rattle.fips204.specs.Refusals.{generated, derived, DrawsIf, sign_input, VerifiesInput};
+ghost use Rattle.fips204.specs.Refusals.{generated, derived, DrawsIf, DrawsUnless, input_fault, sign_input, VerifiesInput};
 ghost use Rattle.fips204_base.specs.Encodings.{ArePrivateParts, IsPublicKeyOf, public_key_bytes, private_key_bytes};
 
 mod prepared;
 
+use crate::input::Input;
 use crate::ml_dsa;
 use crate::sets::{HasSet, KeySizes, Matrix, Set, SignatureSizes};
 use crate::traits::{
@@ -138,8 +141,7 @@ where
         message: &[u8],
         ctx: &[u8],
     ) -> Result<[u8; SIG_LEN], Fault> {
-        let mu = ml_dsa::message_mu::<H>(&self.tr, message, ctx)?;
-        self.sign_mu_with_seed(&mu, &draw(rng, Fault::SignRng)?)
+        self.sign_drawn(rng, &Input::Message(message, ctx), Fault::SignRng)
     }
 
     fn try_sign_with_seed(
@@ -158,8 +160,7 @@ where
         ctx: &[u8],
         hash_oid: &[u8],
     ) -> Result<[u8; SIG_LEN], Fault> {
-        let mu = ml_dsa::digest_mu::<H>(&self.tr, hash, ctx, hash_oid)?;
-        self.sign_mu_with_seed(&mu, &draw(rng, Fault::HashRng)?)
+        self.sign_drawn(rng, &Input::Digest(hash, ctx, hash_oid), Fault::HashRng)
     }
 
     fn try_hash_sign_with_seed(
@@ -196,10 +197,7 @@ where
     ghost accepts = { VerifiesInput S.set H.front G.front };
 
     fn verify(&self, message: &[u8], signature: &[u8; SIG_LEN], ctx: &[u8]) -> bool {
-        match ml_dsa::message_mu::<H>(&self.tr, message, ctx) {
-            Ok(mu) => self.verify_mu(&mu, signature),
-            Err(_) => false,
-        }
+        self.accepts_input(&Input::Message(message, ctx), signature)
     }
 
     fn hash_verify(
@@ -209,10 +207,7 @@ where
         ctx: &[u8],
         hash_oid: &[u8],
     ) -> bool {
-        match ml_dsa::digest_mu::<H>(&self.tr, hash, ctx, hash_oid) {
-            Ok(mu) => self.verify_mu(&mu, signature),
-            Err(_) => false,
-        }
+        self.accepts_input(&Input::Digest(hash, ctx, hash_oid), signature)
     }
 }
 
@@ -241,11 +236,42 @@ where
     }
 
     /// Signs the hash `mu` of a framed message with the random bytes `seed` (Algorithm 7 from line 7 on).
+    ///
+    /// Not inlined, so that the matrix is in the stack only while the key signs.
+    #[inline(never)]
     fn sign_mu_with_seed(&self, mu: &[u8; 64], seed: &[u8; 32]) -> Result<[u8; SIG_LEN], Fault>
         ensures answer { result ≡ sign_input S.set H.front G.front self.now seed.now (represented mu.now) }
         ensures accepted { AcceptedIfWholePlain S.set H.front G.front self.now (represented mu.now) result }
     {
         ml_dsa::sign_internal::<K, L, LAMBDA_DIV4, SIG_LEN, H, G>(&S::params(), self, mu, seed)
+    }
+
+    /// Signs an input with the random bytes `seed`; 32 zeros give the deterministic variant.
+    ///
+    /// Errors: those of the input, as the calls of `Signer` say; then `Fault::SamplingLimit` and
+    /// `Fault::TooManyAttempts` as for `Signer::try_sign_with_seed`.
+    pub fn sign_input(&self, seed: &[u8; 32], input: &Input<'_>) -> Result<[u8; SIG_LEN], Fault>
+        ensures answer { result ≡ sign_input S.set H.front G.front self.now seed.now (input_of input.now) }
+        ensures accepted { AcceptedIfWholePlain S.set H.front G.front self.now (input_of input.now) result }
+    {
+        let mu = ml_dsa::mu_of::<H>(&self.tr, input)?;
+        self.sign_mu_with_seed(&mu, seed)
+    }
+
+    /// Signs an input with 32 random bytes of the generator, which is asked once, and not for an input that is
+    /// refused. Returns `refusal` if the generator fails.
+    fn sign_drawn<R: CryptoRngCore>(
+        &self,
+        rng: &mut R,
+        input: &Input<'_>,
+        refusal: Fault,
+    ) -> Result<[u8; SIG_LEN], Fault>
+        ensures answer { DrawsUnless (input_fault (input_of input.now)) R.gives R.refuses rng.old rng.new refusal
+            (λ rnd. sign_input S.set H.front G.front self.now rnd (input_of input.now)) result }
+        ensures accepted { AcceptedIfWholePlain S.set H.front G.front self.now (input_of input.now) result }
+    {
+        let mu = ml_dsa::mu_of::<H>(&self.tr, input)?;
+        self.sign_mu_with_seed(&mu, &draw(rng, refusal)?)
     }
 
     /// Signs a framed message `m` (Algorithm 7). The 32 random bytes are zeros without `hedged`; with it they
@@ -263,7 +289,7 @@ where
             (λ rnd. sign_input S.set H.front G.front self.now rnd (framed m.now)) result }
         ensures accepted { AcceptedIfWholePlain S.set H.front G.front self.now (framed m.now) result }
     {
-        self.sign_mu(rng, &ml_dsa::mu::<H>(&[&self.tr, m]), hedged)
+        self.sign_input(&draw_if(hedged, rng)?, &Input::Framed(m))
     }
 
     /// Signs the hash `mu` of a framed message (Algorithm 7 from line 7 on). Random bytes and errors are
@@ -278,7 +304,7 @@ where
             (λ rnd. sign_input S.set H.front G.front self.now rnd (represented mu.now)) result }
         ensures accepted { AcceptedIfWholePlain S.set H.front G.front self.now (represented mu.now) result }
     {
-        self.sign_mu_with_seed(mu, &draw_if(hedged, rng)?)
+        self.sign_input(&draw_if(hedged, rng)?, &Input::Mu(mu))
     }
 
     /// Tells whether the key is whole: whether its t0 is the low part of `A s1 + s2` (Algorithm 6, lines 5
@@ -358,11 +384,21 @@ where
     S: Set<CommitmentHash = [u8; LAMBDA_DIV4], Signature = [u8; SIG_LEN]>
         + SignatureSizes<K, L, LAMBDA_DIV4, SIG_LEN>,
 {
+    /// Verifies the signature of an input. Returns false if the input is refused.
+    pub fn accepts_input(&self, input: &Input<'_>, signature: &[u8; SIG_LEN]) -> bool
+        ensures { IsTrue result ↔ VerifiesInput S.set H.front G.front self.now signature.now (input_of input.now) }
+    {
+        match ml_dsa::mu_of::<H>(&self.tr, input) {
+            Ok(mu) => self.verify_mu(&mu, signature),
+            Err(_) => false,
+        }
+    }
+
     /// Verifies the signature of a framed message `m` (Algorithm 8).
     pub fn verify_internal(&self, m: &[u8], sig: &[u8; SIG_LEN]) -> bool
         ensures { IsTrue result ↔ VerifiesInput S.set H.front G.front self.now sig.now (framed m.now) }
     {
-        self.verify_mu(&ml_dsa::mu::<H>(&[&self.tr, m]), sig)
+        self.accepts_input(&Input::Framed(m), sig)
     }
 
     /// Verifies the signature of the hash `mu` of a framed message (Algorithm 8, with mu given).

@@ -13,8 +13,9 @@ mod whole;
 
 pub use decoding::{expand_private, expand_public};
 pub use framing::mu;
-pub(crate) use framing::{digest_mu, message_mu};
+pub(crate) use framing::mu_of;
 pub use key_generation::{key_gen, key_gen_internal, private_to_public_key};
+pub(crate) use signing::SigningKey;
 pub use signing::{MAX_SIGN_ATTEMPTS, sign_internal};
 pub use verification::verify_internal;
 pub(crate) use verification::{verify_prepared, write_shifted_transforms};

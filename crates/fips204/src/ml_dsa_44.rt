@@ -23,10 +23,10 @@ pub const PK_LEN: usize = 1312;
 pub const SIG_LEN: usize = 2420;
 
 /// The number of rows of the matrix (FIPS 204, Table 1).
-const K: usize = 4;
+pub(crate) const K: usize = 4;
 
 /// The number of columns of the matrix (FIPS 204, Table 1).
-const L: usize = 4;
+pub(crate) const L: usize = 4;
 
 /// The number of bytes of `c_tilde`: `lambda / 4`.
 const LAMBDA_DIV4: usize = 32;

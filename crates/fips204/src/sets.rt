@@ -1,11 +1,61 @@
-//! The parameter sets (FIPS 204, Tables 1 and 2): each is a type that implements `Set`.
+//! The parameter sets (FIPS 204, Tables 1 and 2): their names, with the lengths of keys and signatures, and the types
+//! that implement `Set`.
 #![tactic(auto)]
 
 ghost use Rattle.std.specs.Prelude.{◌≡◌, ◌≤◌, ◌*◌};
-ghost use Rattle.fips204.specs.ParameterSets.{ParameterSet, IsSet};
-ghost use Rattle.fips204.specs.Sets.{HasKeySizes, HasSizes, set_of};
+ghost use Rattle.fips204.specs.ParameterSets.{ParameterSet, IsSet, public_key_length, private_key_length, signature_length};
+ghost use Rattle.fips204.specs.Sets.{HasKeySizes, HasSizes, set_of, named_set};
 
 use crate::types::Params;
+use crate::{ml_dsa_44, ml_dsa_65, ml_dsa_87};
+
+/// A parameter set by its name. Contracts see it as its row of the tables.
+#[derive(Debug, Clone, Copy, PartialEq, Eq)]
+pub enum SetName {
+    /// ML-DSA-44.
+    MlDsa44,
+    /// ML-DSA-65.
+    MlDsa65,
+    /// ML-DSA-87.
+    MlDsa87,
+}
+
+impl SetName {
+    /// The number of bytes of a public key.
+    pub fn public_key_len(self) -> usize
+        ensures { result ≡ public_key_length (named_set self) }
+    {
+        match self {
+            SetName::MlDsa44 => ml_dsa_44::PK_LEN,
+            SetName::MlDsa65 => ml_dsa_65::PK_LEN,
+            SetName::MlDsa87 => ml_dsa_87::PK_LEN,
+        }
+    }
+
+    /// The number of bytes of a private key.
+    #[tactic(auto, unfolding(fips204_base::specs::Packing::bit_length))]
+    pub fn private_key_len(self) -> usize
+        ensures { result ≡ private_key_length (named_set self) }
+    {
+        match self {
+            SetName::MlDsa44 => ml_dsa_44::SK_LEN,
+            SetName::MlDsa65 => ml_dsa_65::SK_LEN,
+            SetName::MlDsa87 => ml_dsa_87::SK_LEN,
+        }
+    }
+
+    /// The number of bytes of a signature.
+    #[tactic(auto, unfolding(fips204_base::specs::Packing::bit_length))]
+    pub fn signature_len(self) -> usize
+        ensures { result ≡ signature_length (named_set self) }
+    {
+        match self {
+            SetName::MlDsa44 => ml_dsa_44::SIG_LEN,
+            SetName::MlDsa65 => ml_dsa_65::SIG_LEN,
+            SetName::MlDsa87 => ml_dsa_87::SIG_LEN,
+        }
+    }
+}
 
 /// A parameter set: its numbers, and the byte arrays of its keys and signatures.
 pub trait Set {

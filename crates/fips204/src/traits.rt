@@ -1,4 +1,5 @@
-//! Traits that every parameter set implements.
+//! Generators of random bytes, and the traits that every parameter set implements: making keys, signing, verifying, and
+//! keys as bytes.
 #![tactic(auto)]
 
 ghost use Rattle.std.specs.Prelude.{◌≡◌, ◌≢◌, ◌↔◌, ℕ, List, length, Result, Ok, Err, true, IfOk, IsTrue, MatchResult};

@@ -9,7 +9,7 @@ pub mod pre_hash;
 mod prepared;
 
 pub use fips204_base::types::{R, R0, T, T0, Zq};
-pub(crate) use prepared::{KeyTransforms, SigningKey};
+pub(crate) use prepared::KeyTransforms;
 pub use prepared::{PreparedPrivateKey, PreparedPublicKey};
 use std::alloc::AllocError;
 use std::marker::{Model, PhantomData};
@@ -40,17 +40,17 @@ pub struct Params {
 
 impl Params {
     /// The exclusive bound on the norm of z: `gamma1 - beta`.
-    pub(crate) fn z_bound(&self) -> i32
-        ensures { result ≡ pos (nat_abs self.now.gamma1 - nat_abs self.now.beta) }
+    pub(crate) fn z_bound(&self) -> u32
+        ensures { result ≡ nat_abs self.now.gamma1 - nat_abs self.now.beta }
     {
-        self.gamma1 - self.beta
+        self.gamma1.unsigned_abs() - self.beta.unsigned_abs()
     }
 
     /// The exclusive bound on the norm of r0: `gamma2 - beta`.
-    pub(crate) fn r0_bound(&self) -> i32
-        ensures { result ≡ pos (nat_abs self.now.gamma2 - nat_abs self.now.beta) }
+    pub(crate) fn r0_bound(&self) -> u32
+        ensures { result ≡ nat_abs self.now.gamma2 - nat_abs self.now.beta }
     {
-        self.gamma2 - self.beta
+        self.gamma2.unsigned_abs() - self.beta.unsigned_abs()
     }
 }
 

@@ -6,6 +6,8 @@ use Rattle.std.proofs.lemmas.List.Elements.{All-head, All-tail}
 use Rattle.std.proofs.lemmas.Nat.{pow_pos, pow-add, shl_below, shr_below, mul-add-lt, mod_below, shr_split, mul-le}
 use Rattle.std.proofs.Math.Nat.{pow-succ', pow-le-pow_right}
 use Rattle.fips204_base.specs.Packing.{integer_to_bits, bits}
+use Rattle.std.proofs.lemmas.Int.{ints}
+use Rattle.std.proofs.lemmas.Grind.{common_steps}
 
 pub digits-zero : (x : ℕ) → integer_to_bits zero x ≡ []
 unfolding integer_to_bits
@@ -20,10 +22,7 @@ twice f x = omega arith
 
 -- digits above digits
 pub digits_join : (h c m x f : ℕ) → m ≡ h + c → x < 2 ^ h → integer_to_bits m (x + f * 2 ^ h) ≡ integer_to_bits h x ++ integer_to_bits c f
-digits_join zero c m x f e l =
-    let n : x + f * 2 ^ 0 ≡ f = omega arith in
-    let k : m ≡ c = omega arith in
-    rw (n, k, digits-zero x) refl
+digits_join zero c m x f e l = grind (arith, ints, common_steps, digits-zero)
 digits_join (suc h) c m x f e l =
     let k : m ≡ suc (h + c) = omega arith in
     let p : 2 ^ suc h ≡ 2 * 2 ^ h = pow-succ' 2 h in
@@ -78,10 +77,7 @@ pub give_below : (s have word : ℕ) → s ≤ have → word < 2 ^ have → word
 give_below s have word l k = let n : have - s + s ≡ have = omega arith in shr_below word (have - s) s (rw n k)
 
 pub low_small : (c n : ℕ) → c ≤ 21 → n % 2 ^ c < 2097152
-low_small c n h =
-    let l = mod_below n (2 ^ c) (pow_pos c) in
-    let m : 2 ^ c ≤ 2 ^ 21 = pow-le-pow_right (omega arith) {i = c} {j = 21} h in
-    omega (arith, l, m)
+low_small c n h = grind (arith, ints, common_steps, mod_below, pow_pos, pow-le-pow_right)
 
 -- of eight fields of c bits, a whole byte that is taken has a place
 pub place_within : (c i at have n : ℕ) → 8 * at + have ≡ c * (i + 1) → i < 8 → 8 ≤ have → n ≡ c → at < n

@@ -3,22 +3,27 @@ use Rattle.std.proofs.Common.{◌≡◌, ℕ, zero, suc, ◌+◌, ◌*◌, ◌%�
 use Rattle.std.specs.Prelude.{◌≢◌, nat_eq, nat_le, nat_lt}
 use Rattle.std.specs.Int.{w32}
 use Rattle.std.proofs.lemmas.Bool.Decides.{nat_tests}
-use Rattle.fips204_base.specs.Network.{sign_of, challenge_picks}
+use Rattle.fips204_base.specs.SamplerSteps.{sign_of}
 use Rattle.fips204_base.specs.Sampling.{picks, moved, places, signed_sum, challenge}
 use Rattle.std.proofs.Math.Nat.{pow-succ', div-div-eq-div-mul}
 use Rattle.fips204_base.specs.Packing.{bits, integer_to_bits}
 use Rattle.fips204_base.proofs.Bits.{digits-suc}
 use Rattle.fips204_base.proofs.Packing.{digits_at, length-bits}
 use Rattle.std.proofs.lemmas.Int.{ints}
-use Rattle.std.proofs.lemmas.Bool.{cases_Bool, cases_lt, eqb-true, eqb-false, leb-true, ne_eqb, eq-eqb, lt-ltb, le-ltb, cases_eq}
+use Rattle.std.proofs.lemmas.Bool.{cases_Bool, cases_lt, eqb-true, eqb-false, leb-true, ne_eqb, lt-ltb, le-ltb, cases_eq}
 use Rattle.std.proofs.lemmas.Option.{none-some}
 use Rattle.std.proofs.lemmas.List.{get_or-set_same, get_or-set_other, get_or-replicate, length-map, take_more, take_all, take-append-le}
 use Rattle.fips204_base.specs.declared.types.R.{R}
 use Rattle.fips204_base.specs.Vectors.{polynomial_of}
-use Rattle.fips204_base.proofs.Vectors.{polynomial_of-at, polynomial_of-same}
+use Rattle.fips204_base.proofs.Vectors.{polynomial_of-same}
 use Rattle.std.specs.List.{All}
 use Rattle.std.proofs.lemmas.List.Elements.{All-append, All-cons, All-map, All-nil, All-tail}
 use Rattle.std.proofs.Math.Seq.{take-add}
+use Rattle.std.proofs.lemmas.Grind.{common_steps}
+
+-- the picks of 256 - tau to 255 from the bytes after the first eight, a quarter as many as the front has
+unfoldable pub challenge_picks : ℕ → List ℕ → List ℕ
+challenge_picks tau front = take tau (picks (256 - tau) (take (length front / 4) (drop 8 front)))
 
 -- One bit of bytes.
 
@@ -44,10 +49,7 @@ pub sign-clear : (bit : ℕ) → bit ≢ 1 → pos 1 ≡ sign_of bit
 sign-clear bit n = let t : nat_eq bit 1 ≡ false = grind (arith, nat_tests) in rw t refl
 
 sign-fits : (bit : ℕ) → to_z w32 (of_z w32 (sign_of bit)) ≡ sign_of bit
-sign-fits bit = elim (nat_eq bit 1) as (λ t. to_z w32 (of_z w32 (if t then negsuc 0 else pos 1)) ≡ (if t then negsuc 0 else pos 1)) [
-  | true ↦ refl
-  | false ↦ refl
-]
+sign-fits bit = grind (arith, ints, common_steps)
 
 pub sign-read : (bit : ℕ) (x : ℤ) → x ≡ sign_of bit → to_z w32 (of_z w32 x) ≡ x
 sign-read bit x e = rw e (sign-fits bit)
@@ -61,33 +63,13 @@ abbrev pub moved_once : ℕ → ℕ → ℕ → ℕ
 moved_once i pick place = if nat_eq pick place then i else place
 
 pub moved_once-below : (i pick place : ℕ) → place < i → moved_once i pick place < i + 1
-moved_once-below i pick place h = elim (cases_Bool (nat_eq pick place)) [
-  | inl here ↦ rw here (omega arith)
-  | inr not ↦ rw not (omega (arith, h))
-]
+moved_once-below i pick place h = grind (arith, ints, common_steps, cases_Bool)
 
 moved_once-other : (i pick place : ℕ) → place < i → moved_once i pick place ≡ pick → ⊥
-moved_once-other i pick place h e = elim (cases_Bool (nat_eq pick place)) [
-  | inl here ↦ let same = eqb-true pick place here in let to : i ≡ pick = rw here at e in omega (arith, h, same, to)
-  | inr not ↦ let other = eqb-false pick place not in let to : place ≡ pick = rw not at e in other (sym to)
-]
+moved_once-other i pick place h e = grind (arith, ints, common_steps, cases_Bool, eqb-true, eqb-false)
 
 moved_once-apart : (i pick a b : ℕ) → a < i → b < i → (a ≡ b → ⊥) → moved_once i pick a ≡ moved_once i pick b → ⊥
-moved_once-apart i pick a b h k apart e = elim (cases_Bool (nat_eq pick a)) [
-  | inl here ↦ elim (cases_Bool (nat_eq pick b)) [
-    | inl there ↦ apart (sym (eqb-true pick a here) ∙ eqb-true pick b there)
-    | inr not ↦ let to : i ≡ b = rw (here, not) at e in omega (arith, k, to)
-  ]
-  | inr not ↦ elim (cases_Bool (nat_eq pick b)) [
-    | inl there ↦ let to : a ≡ i = rw (not, there) at e in omega (arith, h, to)
-    | inr nor ↦ let to : a ≡ b = rw (not, nor) at e in apart to
-  ]
-]
-
-moved-below : (later : List ℕ) (i place : ℕ) → place < i → moved i place later < i + length later
-unfolding moved
-moved-below [] i place h = omega (arith, h)
-moved-below (pick ∷ later) i place h = let more = moved-below later (i + 1) (moved_once i pick place) (moved_once-below i pick place h) in omega (arith, more)
+moved_once-apart i pick a b h k apart e = grind (arith, ints, common_steps, cases_Bool, eqb-true)
 
 moved-apart : (later : List ℕ) (i a b : ℕ) → a < i → b < i → (a ≡ b → ⊥) → moved i a later ≡ moved i b later → ⊥
 unfolding moved
@@ -109,12 +91,6 @@ pub length-places : (ps : List ℕ) (i : ℕ) → length (places i ps) ≡ lengt
 unfolding places
 length-places [] i = refl
 length-places (pick ∷ ps) i = ap suc (length-places ps (i + 1))
-
-pub places-below : (ps : List ℕ) (i k : ℕ) → AreWithin i ps → k < length ps → get_or (places i ps) k 0 < i + length ps
-unfolding places
-places-below [] i k within h = absurd (omega (arith, h))
-places-below (pick ∷ ps) i zero within h = let here = moved-below ps (i + 1) pick (omega (arith, first-within i pick ps within)) in omega (arith, here)
-places-below (pick ∷ ps) i (suc k) within h = let later = places-below ps (i + 1) k (later-within i pick ps within) (omega (arith, h)) in omega (arith, later)
 
 -- a coefficient that was there before i ends at none of the places of later ones
 fresh : (ps : List ℕ) (i place k : ℕ) → place < i → AreWithin i ps → k < length ps → get_or (places i ps) k 0 ≡ moved i place ps → ⊥
@@ -148,12 +124,6 @@ picks-within (byte ∷ bytes) i = elim (cases_Bool (nat_le byte i)) [
 
 -- ---- the sum
 
-plus_zero : (x : ℤ) → x +ℤ pos 0 ≡ x
-plus_zero x = omega (arith, ints)
-
-zero_plus : (x : ℤ) → pos 0 +ℤ x ≡ x
-zero_plus x = omega (arith, ints)
-
 pub sum-elsewhere : (ps sign_bits : List ℕ) (n : ℕ) → ((k : ℕ) → k < length ps → get_or ps k 0 ≡ n → ⊥) → signed_sum ps sign_bits n ≡ pos 0
 unfolding signed_sum
 sum-elsewhere [] sign_bits n other = refl
@@ -163,20 +133,6 @@ sum-elsewhere (place ∷ ps) (bit ∷ sign_bits) n other =
     let rest = sum-elsewhere ps sign_bits n (λ k h. other (suc k) (omega (arith, h))) in
     rw (not, rest) refl
 
-pub sum-at_place : (ps sign_bits : List ℕ) (k : ℕ) → ((i j : ℕ) → i < j → j < length ps → get_or ps i 0 ≡ get_or ps j 0 → ⊥) → k < length ps → length ps ≤ length sign_bits
-    → signed_sum ps sign_bits (get_or ps k 0) ≡ sign_of (get_or sign_bits k 0)
-unfolding signed_sum
-sum-at_place [] sign_bits k apart h enough = absurd (omega (arith, h))
-sum-at_place (place ∷ ps) [] k apart h enough = absurd (omega (arith, enough))
-sum-at_place (place ∷ ps) (bit ∷ sign_bits) zero apart h enough =
-    let here : nat_eq place place ≡ true = eq-eqb place place refl in
-    let rest = sum-elsewhere ps sign_bits place (λ k l e. apart 0 (suc k) (omega arith) (omega (arith, l)) (sym e)) in
-    rw (here, rest) (plus_zero (sign_of bit))
-sum-at_place (place ∷ ps) (bit ∷ sign_bits) (suc k) apart h enough =
-    let not : nat_eq place (get_or ps k 0) ≡ false = ne_eqb place (get_or ps k 0) (apart 0 (suc k) (omega arith) (omega (arith, h))) in
-    let rest = sum-at_place ps sign_bits k (λ i j l m. apart (suc i) (suc j) (omega (arith, l)) (omega (arith, m))) (omega (arith, h)) (omega (arith, enough)) in
-    rw (not, rest) (zero_plus (sign_of (get_or sign_bits k 0)))
-
 -- ---- the challenge
 
 -- the places of a challenge's coefficients
@@ -184,10 +140,7 @@ abbrev pub challenge_places : ℕ → List ℕ → List ℕ
 challenge_places tau front = places (256 - tau) (challenge_picks tau front)
 
 taken-within : (i n : ℕ) (ps : List ℕ) → AreWithin i ps → AreWithin i (take n ps)
-taken-within i n ps within k h =
-    let short = length-take n ps in
-    let inside : k < n = omega (arith, h, short) in
-    rw (get_or-take n ps k 0 inside) (within k (omega (arith, h, short)))
+taken-within i n ps within k h = grind (arith, ints, common_steps, length-take, get_or-take)
 
 at_most : (tau : ℕ) (front : List ℕ) → length (challenge_picks tau front) ≤ tau
 unfolding challenge_picks
@@ -219,36 +172,9 @@ length-challenge_picks tau front c e = (whole tau front c e).0
 pub length-challenge_places : (tau : ℕ) (front : List ℕ) (c : R) → challenge tau front ≡ Some c → length (challenge_places tau front) ≡ tau
 length-challenge_places tau front c e = length-places (challenge_picks tau front) (256 - tau) ∙ (whole tau front c e).0
 
-pub challenge_places-below : (tau : ℕ) (front : List ℕ) (c : R) (k : ℕ) → tau ≤ 256 → challenge tau front ≡ Some c → k < tau → get_or (challenge_places tau front) k 0 < 256
-challenge_places-below tau front c k room e h =
-    let w = whole tau front c e in
-    let below = places-below (challenge_picks tau front) (256 - tau) k w.1 (omega (arith, h, w.0)) in
-    omega (arith, below, w.0, room)
-
 -- no two are the same
 pub challenge_places-apart : (tau : ℕ) (front : List ℕ) (c : R) (j k : ℕ) → challenge tau front ≡ Some c → j < k → k < tau → get_or (challenge_places tau front) j 0 ≡ get_or (challenge_places tau front) k 0 → ⊥
 challenge_places-apart tau front c j k e l h = let w = whole tau front c e in places-apart (challenge_picks tau front) (256 - tau) j k w.1 l (omega (arith, h, w.0))
-
--- the coefficient at place k is the sign of bit k
-pub challenge-at_place : (tau : ℕ) (front : List ℕ) (c : R) (k : ℕ) → tau ≤ 64 → 8 ≤ length front → challenge tau front ≡ Some c → k < tau
-    → get_or c.0 (get_or (challenge_places tau front) k 0) (pos 0) ≡ sign_of (get_or (bits 8 (take 8 front)) k 0)
-challenge-at_place tau front c k few enough e h =
-    let w = whole tau front c e in
-    let long = length-challenge_places tau front c e in
-    let sixty_four : length (bits 8 (take 8 front)) ≡ 8 * length (take 8 front) = length-bits 8 (take 8 front) in
-    let eight : length (take 8 front) ≡ 8 = length-take-le 8 front enough in
-    ap (λ (w : R). get_or w.0 (get_or (challenge_places tau front) k 0) (pos 0)) w.2
-    ∙ polynomial_of-at (signed_sum (challenge_places tau front) (bits 8 (take 8 front))) (get_or (challenge_places tau front) k 0) (challenge_places-below tau front c k (omega (arith, few)) e h)
-    ∙ sum-at_place (challenge_places tau front) (bits 8 (take 8 front)) k (λ i j l m. challenge_places-apart tau front c i j e l (omega (arith, m, long))) (omega (arith, h, long)) (omega (arith, long, sixty_four, eight, few))
-
--- and 0 at every other
-pub challenge-elsewhere : (tau : ℕ) (front : List ℕ) (c : R) (n : ℕ) → challenge tau front ≡ Some c → n < 256 → ((k : ℕ) → k < tau → get_or (challenge_places tau front) k 0 ≡ n → ⊥) → get_or c.0 n (pos 0) ≡ pos 0
-challenge-elsewhere tau front c n e h other =
-    let w = whole tau front c e in
-    let long = length-challenge_places tau front c e in
-    ap (λ (w : R). get_or w.0 n (pos 0)) w.2
-    ∙ polynomial_of-at (signed_sum (challenge_places tau front) (bits 8 (take 8 front))) n h
-    ∙ sum-elsewhere (challenge_places tau front) (bits 8 (take 8 front)) n (λ k l. other k (omega (arith, l, long)))
 
 -- The picks of a challenge and the places that they lead to, one pick after another.
 
@@ -282,9 +208,8 @@ pub places-push : (i pick j : ℕ) (before : List ℕ) → i + length before ≡
 unfolding places moved
 places-push i pick j [] e = refl
 places-push i pick j (p ∷ before) e =
-    let here = moved-push (i + 1) p pick j before (omega (arith, e)) in
     let rest = places-push (i + 1) pick j before (omega (arith, e)) in
-    rw (here, rest) refl
+    grind (arith, ints, common_steps, rest, moved-push)
 
 moved_below : (ps : List ℕ) (i j : ℕ) → All (λ p. p < i) ps → All (λ p. p < i + 1) (map (moved_once i j) ps)
 moved_below ps i j h = All-map (λ p. p < i + 1) (moved_once i j) ps (λ k d l. moved_once-below i j (get_or ps k d) (h k d l))
@@ -403,16 +328,11 @@ picks-no_byte i byte l = let t : nat_le byte i ≡ false = search (rules, nat_te
 
 pub picked-more : (first n i byte : ℕ) (bytes : List ℕ) → n < length bytes → byte ≡ get_or bytes n 0 → i ≡ first + length (picks first (take n bytes)) → byte ≤ i
     → picks first (take (n + 1) bytes) ≡ picks first (take n bytes) ++ byte ∷ []
-picked-more first n i byte bytes l e k m =
-    let more : take (n + 1) bytes ≡ take n bytes ++ byte ∷ [] = take_more bytes n 0 l ∙ ap (λ b. take n bytes ++ b ∷ []) (sym e) in
-    ap (picks first) more ∙ picks-append first (take n bytes) (byte ∷ []) ∙ ap (λ i. picks first (take n bytes) ++ picks i (byte ∷ [])) (sym k) ∙ ap (λ l. picks first (take n bytes) ++ l) (picks-byte i byte m)
+picked-more first n i byte bytes l e k m = grind (arith, ints, common_steps, take_more, picks-append, picks-byte)
 
 pub picked-same : (first n i byte : ℕ) (bytes : List ℕ) → n < length bytes → byte ≡ get_or bytes n 0 → i ≡ first + length (picks first (take n bytes)) → i < byte
     → picks first (take (n + 1) bytes) ≡ picks first (take n bytes)
-picked-same first n i byte bytes l e k m =
-    let more : take (n + 1) bytes ≡ take n bytes ++ byte ∷ [] = take_more bytes n 0 l ∙ ap (λ b. take n bytes ++ b ∷ []) (sym e) in
-    ap (picks first) more ∙ picks-append first (take n bytes) (byte ∷ []) ∙ ap (λ i. picks first (take n bytes) ++ picks i (byte ∷ [])) (sym k)
-    ∙ ap (λ l. picks first (take n bytes) ++ l) (picks-no_byte i byte m) ∙ append-nil (picks first (take n bytes))
+picked-same first n i byte bytes l e k m = grind (arith, ints, common_steps, take_more, picks-append, picks-no_byte, append-nil)
 
 -- the whole challenge
 
@@ -439,11 +359,7 @@ challenge-full tau n front c l m k =
 pub challenge-few : (tau i : ℕ) (front : List ℕ) (c : List ℤ) → tau ≤ 64 → i < 256
     → Placed (256 - tau) (bits 8 (take 8 front)) (picks (256 - tau) (take (length front / 4) (drop 8 front))) c i → challenge tau front ≡ None
 unfolding challenge challenge_picks
-challenge-few tau i front c l m k =
-    let picked = picks (256 - tau) (take (length front / 4) (drop 8 front)) in
-    let few : length (take tau picked) < tau = omega (arith, length-take tau picked, k.next, l, m) in
-    let t : nat_lt (length (take tau picked)) tau ≡ true = lt-ltb (length (take tau picked)) tau few in
-    rw t refl
+challenge-few tau i front c l m k = grind (arith, ints, common_steps, picked, length-take, lt-ltb)
 
 -- the byte after the first eight and n more
 pub byte_after : (front out rest : List ℕ) (n : ℕ) → out ≡ take 1 rest → rest ≡ drop (8 + n) front → get_or out 0 0 ≡ get_or (drop 8 front) n 0
@@ -469,7 +385,4 @@ challenge-more first n i byte front signs c x size l first_eight most read h m s
 pub challenge-same : (first n i byte : ℕ) (front : List ℕ) (c : List ℤ) → 4096 ≤ length front → n < length front / 4 → byte ≡ get_or (drop 8 front) n 0 → i < byte
     → Placed first (bits 8 (take 8 front)) (picks first (take n (drop 8 front))) c i
     → Placed first (bits 8 (take 8 front)) (picks first (take (n + 1) (drop 8 front))) c i
-challenge-same first n i byte front c size l read m k =
-    let room : n < length (drop 8 front) = simp length-drop (omega (arith, size, l)) in
-    let same = picked-same first n i byte (drop 8 front) room read k.next m in
-    rw same k
+challenge-same first n i byte front c size l read m k = grind (arith, ints, common_steps, length-drop, picked-same)

@@ -6,6 +6,8 @@ use Rattle.std.proofs.Math.Seq.{take-add}
 use borrow.Rule.Slice.PartMut.{put_mid, post_of}
 use Rattle.fips204_base.specs.Streams.{counter_block, counter_blocks}
 use Rattle.fips204_base.specs.FrontLengths.{length-counter_block, length-counter_blocks}
+use Rattle.std.proofs.lemmas.Int.{ints}
+use Rattle.std.proofs.lemmas.Grind.{common_steps}
 
 -- a hash whose digests have `size` bytes
 module _ (hash : List ℕ → List ℕ) (size : ℕ) (sized : (message : List ℕ) → length (hash message) ≡ size) (seed : List ℕ) where
@@ -115,21 +117,4 @@ pub filled_more : (out whole left part tail rest : List ℕ) (filled count : ℕ
     (filled + count ≤ length (put_mid filled (length out - filled) out part))
     × (take (filled + count) (put_mid filled (length out - filled) out part) ≡ take (filled + count) whole)
     × (rest ≡ drop (filled + count) whole)
-filled_more out whole left part tail rest filled count f n room size before at written dropped =
-    let front = length-take-le filled out f in
-    let k : ℕ = length out - filled in
-    let after : List ℕ = post_of filled k out in
-    let in_left : count ≤ length (drop filled whole) = rw (length-drop filled whole) (omega (arith, n, room)) in
-    let in_part : count ≤ length part = omega (arith, size, n) in
-    let length_now = length-append (take filled out) (part ++ after) in
-    let length_part = length-append part after in
-    let given : take count part ≡ take count (drop filled whole) =
-    rw (written, at) (take_at (take count (drop filled whole)) tail count (length-take-le count (drop filled whole) in_left)) in (
-      omega (arith, length_now, length_part, front, in_part),
-      take-add filled count (put_mid filled k out part)
-          ∙ ap (λ l. l ++ take count (drop filled (put_mid filled k out part))) (take_at (take filled out) (part ++ after) filled front ∙ before)
-          ∙ ap (λ l. take filled whole ++ take count l) (drop_at (take filled out) (part ++ after) filled front)
-          ∙ ap (λ l. take filled whole ++ l) (take-append-le count part after in_part ∙ given)
-          ∙ sym (take-add filled count whole),
-      dropped ∙ ap (drop count) at ∙ drop-drop count filled whole,
-    )
+filled_more out whole left part tail rest filled count f n room size before at written dropped = grind (arith, ints, common_steps, length-take-le, post_of, length-drop, length-append, take_at, take-add, drop_at, take-append-le, drop-drop)

@@ -12,8 +12,9 @@ use Rattle.std.proofs.lemmas.Nat.{leading_length}
 use Rattle.std.proofs.Math.Nat.{pow-succ', pow-le-pow_right}
 use Rattle.fips204_base.specs.Packing.{bit_length, bits, integer_to_bits, width}
 use Rattle.fips204_base.specs.Bounds.{Bounds, PolynomialInRange}
-use Rattle.fips204_base.specs.Network.{Packs, coefficient, field}
+use Rattle.fips204_base.specs.EncodingSteps.{Packs, coefficient, field}
 use Rattle.fips204_base.proofs.Bits.{digits-zero}
+use Rattle.std.proofs.lemmas.Grind.{common_steps}
 
 -- the powers of two that are at most a number of c digits, counted from 2 ^ s on
 
@@ -82,10 +83,7 @@ pub width-some : (a b : ℤ) → Bounds a b → 1 ≤ width a b
 width-some a b bounds = bit_length-some (nat_abs (a +ℤ b)) (omega (arith, ints, bounds)) (omega (arith, ints, bounds))
 
 pub width-below : (a b : ℤ) (n : ℕ) → Bounds a b → n ≤ nat_abs (a +ℤ b) → n < 2 ^ width a b
-width-below a b n bounds h =
-    let s : nat_abs (a +ℤ b) < 2 ^ 32 = omega (arith, ints, bounds) in
-    let l = bit_length-below (nat_abs (a +ℤ b)) s in
-    omega (arith, l)
+width-below a b n bounds h = grind (arith, ints, common_steps, bit_length-below)
 
 -- the coefficient is that of a field of so many bits
 abbrev pub HasField : ℤ → ℤ → ℤ → Type 0
@@ -106,13 +104,7 @@ field-coefficient a b f = grind (arith, ints)
 -- the coefficient of a field is stored after the ones before it
 pub stored : (a b : ℤ) (f at : ℕ) (out : List ℤ) (z : ℤ) → at < length out → z ≡ coefficient a b f → f < 2 ^ width a b → All (HasField a b) (take at out)
     → (map (field a b) (take (at + 1) (set out at z)) ≡ map (field a b) (take at out) ++ f ∷ []) × All (HasField a b) (take (at + 1) (set out at z))
-stored a b f at out z room e small before =
-    let more : take (at + 1) (set out at z) ≡ take at out ++ z ∷ [] = take_more_set out at z room in
-    let back : field a b z ≡ f = ap (field a b) e ∙ field-coefficient a b f in
-    let here : HasField a b z = rw back (small, sym e) in (
-      ap (map (field a b)) more ∙ map_push (field a b) (take at out) z ∙ ap (λ n. map (field a b) (take at out) ++ n ∷ []) back,
-      rw more (All-push (HasField a b) (take at out) z before here),
-    )
+stored a b f at out z room e small before = grind (arith, ints, common_steps, take_more_set, field-coefficient, map_push, All-push)
 
 pub fields_fit : (a b : ℤ) (w : List ℤ) → Bounds a b → PolynomialInRange (pos 0 -ℤ a) b w → All (λ f. f < 2 ^ width a b) (map (field a b) w)
 fields_fit a b w bounds range =

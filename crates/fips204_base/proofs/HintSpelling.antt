@@ -1,20 +1,24 @@
 -- The places of ones, and what the spelling of a hint says piece by piece: each hint has one, and bytes spell at most one.
-use Rattle.std.proofs.Common.{ℕ, ℤ, pos, zero, suc, ◌+◌, ◌-◌, ◌<◌, ◌≤◌, ◌≤ℤ◌, ◌≡◌, List, [], ◌∷◌, ◌++◌, Bool, true, false, get_or, set, length, take, drop, refl, ap, sym, ◌∙◌, arith, append-nil, append_assoc, length-append, cond, inl, inr, int_lt, add-one, add-zero, get_or-take, get_or-drop, length-drop}
+use Rattle.std.proofs.Common.{map, ℕ, ℤ, pos, zero, suc, ◌+◌, ◌-◌, ◌<◌, ◌≤◌, ◌≤ℤ◌, ◌≡◌, List, [], ◌∷◌, ◌++◌, Bool, true, false, get_or, set, length, take, drop, refl, ap, sym, ◌∙◌, arith, append-nil, append_assoc, length-append, cond, inl, inr, int_lt, add-one, add-zero, get_or-take, get_or-drop, length-drop}
 use Rattle.std.specs.List.{All, filter, range_with_len}
 use Rattle.std.specs.Prelude.{replicate}
 use Rattle.std.proofs.lemmas.List.{take_more_set, drop-set-lt, drop-drop, map-id, get_or-set_same, get_or-set_other, get_or_append_left, get_or_at, get_or-replicate, get_or_past, length-replicate, take_at, drop_at, take_more, take_all, take-append-drop, drop-take, take-take, take-set-le, get_or-append_right, length-take-le, length-map, same_from_push, ext_get_or}
 use Rattle.std.proofs.lemmas.List.FromFn.{filter_of_map_range_with_len_more, get_or-map-range_with_len, length-range_with_len}
 use Rattle.std.proofs.lemmas.List.Elements.{All-set, All-replicate, All-nil, All-push, All-weaker, All-get_or, All-same}
 use Rattle.std.proofs.lemmas.Bool.{cases_lt, cases_Bool}
-use Rattle.fips204_base.specs.Network.{ones_below, ones, running_totals}
+use Rattle.fips204_base.specs.EncodingSteps.{ones_below, ones}
 use Rattle.fips204_base.specs.declared.types.R.{R}
 use Rattle.fips204_base.specs.Encodings.{is_one, all_ones, hint_bytes, Spells}
 use Rattle.fips204_base.specs.Bounds.{PolynomialInRange}
 use Rattle.std.proofs.lemmas.List.Concat.{flat_map-append}
-use Rattle.std.proofs.lemmas.Grind.{same_number_lists}
+use Rattle.std.proofs.lemmas.Grind.{same_number_lists, common_steps}
 use Rattle.fips204_base.specs.declared.types.TheConstants.{R0}
 use Rattle.std.proofs.lemmas.Int.{ints}
 use Rattle.fips204_base.specs.Vectors.{IsVector}
+
+-- for each polynomial of a hint, how many ones there are up to its end
+abbrev pub running_totals : List R → List ℕ
+running_totals h = map (λ i. length (all_ones (take (i + 1) h))) (range_with_len 0 (length h))
 
 -- The places of the ones of a polynomial.
 
@@ -41,10 +45,7 @@ pub ones-within : (w : R) (n : ℕ) → All (λ place. place < n) (ones_below w 
 ones-within w zero = rw (ones-none w) (All-nil (λ (place : ℕ). place < 0))
 ones-within w (suc n) =
     let before = All-weaker (λ (place : ℕ). place < n) (λ (place : ℕ). place < suc n) (λ place h. omega arith) (ones_below w n) (ones-within w n) in
-    elim (cases_Bool (is_one w n)) [
-      | inl here ↦ rw (ones-keep w n here) (All-push (λ (place : ℕ). place < suc n) (ones_below w n) n before (omega arith))
-      | inr not ↦ rw (ones-skip w n not) before
-    ]
+    grind (arith, ints, common_steps, before, cases_Bool, ones-keep, All-push, ones-skip)
 
 -- they strictly rise
 pub ones-rise : (w : R) (n k : ℕ) → k + 1 < length (ones_below w n) → get_or (ones_below w n) k 0 < get_or (ones_below w n) (k + 1) 0
@@ -66,11 +67,7 @@ ones-rise w (suc n) k h = elim (cases_Bool (is_one w n)) [
 ]
 
 pub rising : (places : List ℕ) (w : R) (k : ℕ) → 0 < k → k < length places → places ≡ ones w → get_or places (k - 1) 0 < get_or places k 0
-rising places w k some inside e =
-    let n : k - 1 + 1 ≡ k = omega arith in
-    let size : length places ≡ length (ones_below w 256) = ap length e in
-    let h : get_or (ones_below w 256) (k - 1) 0 < get_or (ones_below w 256) (k - 1 + 1) 0 = ones-rise w 256 (k - 1) (omega (arith, size)) in
-    rw e (rw n at h)
+rising places w k some inside e = grind (arith, ints, common_steps, ones-rise)
 
 -- none from m on
 ones-rest : (w : R) (m d : ℕ) → ((j : ℕ) → m ≤ j → is_one w j ≡ false) → ones_below w (m + d) ≡ ones_below w m
@@ -108,8 +105,7 @@ same_ones : (v w : R) (n : ℕ) → ((j : ℕ) → j < n → is_one v j ≡ is_o
 same_ones v w zero h = ones-none v ∙ sym (ones-none w)
 same_ones v w (suc n) h =
     let before = same_ones v w n (λ j k. h j (omega arith)) in
-    let here = h n (omega arith) in
-    ones-more v n ∙ ap (λ b. ones_below v n ++ cond b (n ∷ []) []) here ∙ ap (λ l. l ++ cond (is_one w n) (n ∷ []) []) before ∙ sym (ones-more w n)
+    grind (arith, ints, common_steps, before, ones-more)
 
 -- a one is set past all the others
 pub ones-set : (row : List ℤ) (p : ℕ) → length row ≡ 256 → p < 256 → ((j : ℕ) → p ≤ j → get_or row j (pos 0) ≡ pos 0)
@@ -184,9 +180,7 @@ running_total : (h : List R) (i : ℕ) → i < length h → get_or (running_tota
 running_total h i l = get_or-map-range_with_len (λ i. length (all_ones (take (i + 1) h))) 0 (length h) i i 0 l (omega arith)
 
 length-front : (o : ℕ) (h : List R) → length (all_ones h) ≤ o → length (all_ones h ++ replicate (o - length (all_ones h)) 0) ≡ o
-length-front o h few =
-    let zeros = length-replicate {A = ℕ} (o - length (all_ones h)) 0 in
-    length-append (all_ones h) (replicate (o - length (all_ones h)) 0) ∙ omega (arith, zeros)
+length-front o h few = grind (arith, ints, common_steps, length-replicate, length-append)
 
 pub pieces : (o k : ℕ) (h : List R) (y : List ℕ) → Spells o k h y → Pieces o h y
 pieces o k h y s =
@@ -305,36 +299,17 @@ take_join m n y l =
 -- one polynomial more is read
 pub one_more : (h : List R) (y : List ℕ) (i index end : ℕ) (w : R) → i < length h → index ≤ end → take index y ≡ all_ones (take i h)
     → take (end - index) (drop index y) ≡ ones w → take end y ≡ all_ones (take (i + 1) (set h i w))
-one_more h y i index end w l le so_far here =
-    take_join index end y le ∙ ap (λ x. x ++ take (end - index) (drop index y)) so_far ∙ ap (λ x. all_ones (take i h) ++ x) (here ∙ sym (all_ones-one w))
-    ∙ sym (all_ones-append (take i h) (w ∷ [])) ∙ ap all_ones (sym (take_more_set h i w l))
+one_more h y i index end w l le so_far here = grind (arith, ints, common_steps, take_join, all_ones-one, all_ones-append, take_more_set)
 
 pub totals_more : (h : List R) (y : List ℕ) (o i end : ℕ) (w : R) → i < length h → o + i < length y → end ≡ get_or y (o + i) 0 → end ≤ length y → take end y ≡ all_ones (take (i + 1) (set h i w))
     → ((k : ℕ) → k < i → get_or y (o + k) 0 ≡ length (all_ones (take (k + 1) h)))
     → (k : ℕ) → k < i + 1 → get_or y (o + k) 0 ≡ length (all_ones (take (k + 1) (set h i w)))
-totals_more h y o i end w size l e le whole so_far k kl = elim (cases_lt k i) [
-  | inl less ↦ so_far k less ∙ ap (λ x. length (all_ones x)) (sym (take-set-le (k + 1) h i w (omega (arith, less))))
-  | inr more ↦
-      let n : k ≡ i = omega (arith, more, kl) in
-      rw n (sym e ∙ sym (length-take-le end y le) ∙ ap length whole)
-]
+totals_more h y o i end w size l e le whole so_far k kl = grind (arith, ints, common_steps, cases_lt, take-set-le, length-take-le)
 
 pub gathered : (h : List R) (y : List ℕ) (o index : ℕ) → index ≤ o → length y ≡ o + length h → take index y ≡ all_ones h
     → ((k : ℕ) → k < length h → get_or y (o + k) 0 ≡ length (all_ones (take (k + 1) h)))
     → ((j : ℕ) → index ≤ j → j < o → get_or y j 0 ≡ 0) → Pieces o h y
-gathered h y o index few size places totals zeros =
-    let n : length (all_ones h) ≡ index = sym (ap length places) ∙ length-take-le index y (omega arith) in
-    let tail : take (o - index) (drop index y) ≡ replicate (o - index) 0 =
-    let ld = length-drop index y in
-    let lt : length (take (o - index) (drop index y)) ≡ o - index = length-take-le (o - index) (drop index y) (omega (arith, ld)) in
-    same_number_lists (take (o - index) (drop index y)) (replicate (o - index) 0) (lt ∙ sym (length-replicate (o - index) 0))
-    (λ k l. get_or-take (o - index) (drop index y) k 0 (omega (arith, lt, l)) ∙ get_or-drop index y k 0 ∙ zeros (index + k) (omega arith) (omega (arith, lt, l))
-    ∙ sym (get_or-replicate (o - index) k 0 0 (omega (arith, lt, l)))) in
-    record {
-      few = omega (arith, n);
-      places = take_join index o y few ∙ ap (λ x. x ++ take (o - index) (drop index y)) places ∙ ap (λ x. all_ones h ++ x) (tail ∙ ap (λ k. replicate (o - k) 0) (sym n));
-      totals = totals;
-    }
+gathered h y o index few size places totals zeros = grind (arith, ints, common_steps, length-take-le, length-drop, same_number_lists, length-replicate, get_or-take, get_or-drop, get_or-replicate, take_join)
 
 -- the places of one polynomial more are written, and then its total
 pub written : (h : List R) (y z : List ℕ) (o i index end : ℕ) (d : R) → i < length h → o + i < length z → end ≤ o
@@ -367,17 +342,10 @@ written h y z o i index end d l room few places at more new rest totals zeros =
 -- ---- the places of ones tell the polynomial
 
 not_longer : (xs ys : List ℕ) (n : ℕ) → All (λ place. place < n) ys → ys ≡ xs ++ n ∷ [] → ⊥
-not_longer xs ys n h e =
-    let all : All (λ place. place < n) (xs ++ n ∷ []) = All-same (λ (place : ℕ). place < n) (xs ++ n ∷ []) ys (sym e) h in
-    let last = get_or_at xs n [] 0 (length xs) refl in
-    let l = All-get_or (λ (place : ℕ). place < n) (xs ++ n ∷ []) (length xs) 0 (simp length-append (omega arith)) all in
-    omega (arith, last, l)
+not_longer xs ys n h e = grind (arith, ints, common_steps, All-same, get_or_at, All-get_or, length-append)
 
 one_place_more : (v w : R) (n j : ℕ) → j < suc n → ((k : ℕ) → k < n → is_one v k ≡ is_one w k) → is_one v n ≡ is_one w n → is_one v j ≡ is_one w j
-one_place_more v w n j l before here = elim (cases_lt j n) [
-  | inl less ↦ before j less
-  | inr last ↦ let e : j ≡ n = omega (arith, l, last) in rw e here
-]
+one_place_more v w n j l before here = grind (arith, ints, common_steps, cases_lt)
 
 same_tests : (v w : R) (n : ℕ) → ones_below v n ≡ ones_below w n → (j : ℕ) → j < n → is_one v j ≡ is_one w j
 same_tests v w zero e j l = absurd (omega arith)

@@ -1,31 +1,33 @@
 -- Products in Montgomery form of each lane with one factor.
-use Rattle.std.proofs.Common.{◌≡◌, ℕ, zero, suc, ◌<◌, ◌≤◌, ◌+◌, ◌*◌, ◌-◌, ◌/◌, ◌%◌, ℤ, pos, negsuc, ◌+ℤ◌, ◌-ℤ◌, ◌*ℤ◌, neg_ℤ, List, [], ◌∷◌, map, length, get_or, arith, ap, refl, ◌∙◌, to_z, of_z, lit<}
+use Rattle.std.proofs.Common.{◌≡◌, ℕ, zero, suc, ◌<◌, ◌≤◌, ◌+◌, ◌*◌, ◌-◌, ◌/◌, ◌%◌, ℤ, pos, negsuc, ◌+ℤ◌, ◌-ℤ◌, ◌*ℤ◌, neg_ℤ, List, [], ◌∷◌, map, length, get_or, arith, ap, sym, refl, ◌∙◌, to_z, of_z, lit<}
 use Rattle.std.specs.Prelude.{nat_abs, unsigned_abs, replicate}
 use Rattle.std.specs.Int.{int_rem_euclid, int_div_euclid, int_wrap, w32, w64}
-use Rattle.std.proofs.lemmas.Int.{ints, to_z-of_z, to_z_pos, wrapping_mul_is, wrapping_sub-bits, int_wrap_fits, SFits-int_wrap, fits_signed_from_abs}
+use Rattle.std.proofs.lemmas.Int.{ints, to_z-of_z, of_z-to_z, to_z_pos, wrapping_mul_is, wrapping_sub-bits, int_wrap_fits, SFits-int_wrap, fits_signed_from_abs}
 use lib.Signed.{shr_z, mag}
 use borrow.Author.Differences.{up, down, product_is}
-use lib.Lanes.{zip2, Each1}
-use mir.Syntax.{wrap_sub, wrap_mul, shr, cast, signed}
+use lib.Lanes.{zip2}
+use mir.Syntax.{wrap_sub, wrap_mul, shl, shr, cast, signed}
 use mir.Val.{SFits}
 use borrow.Table.Row.{s_int}
-use borrow.Rule.Simd.Lanes.{Asks1, act1, act2}
-use Rattle.fips204_base.proofs.Residues.{product_bound, wider}
+use borrow.Rule.Simd.Lanes.{act1, act2}
+use Rattle.fips204_base.proofs.Residues.{product_bound, product_fits, wider}
 
 -- ---- one lane
--- what the code computes from the number x, with the factor as bits of 64 and of 32
+-- the lowest 32 bits of 64, with their sign
+abbrev pub lowered : ℕ → ℕ
+lowered n = act2 (shr signed) (s_int w64) (s_int w64) (s_int w64) (act2 shl (s_int w64) (s_int w64) (s_int w64) n 32) 32
+
+-- what the code computes from a lane, with the factor and its companion as bits
 abbrev pub taken : ℕ → ℕ → ℤ → ℕ
 taken F G x =
-    act2 (shr signed) (s_int w64) (s_int w64) (s_int w64)
-    (act2 wrap_sub (s_int w64) (s_int w64) (s_int w64)
+    act2 wrap_sub (s_int w64) (s_int w64) (s_int w64)
     (act2 wrap_mul (s_int w64) (s_int w64) (s_int w64) (act1 (cast signed signed w64) (s_int w32) (s_int w64) (of_z w32 x)) F)
-    (act2 wrap_mul (s_int w64) (s_int w64) (s_int w64) (act1 (cast signed signed w64) (s_int w32) (s_int w64) (act2 wrap_mul (s_int w32) (s_int w32) (s_int w32) (of_z w32 x) G)) 8380417))
-    32
+    (act2 wrap_mul (s_int w64) (s_int w64) (s_int w64) (lowered (act2 wrap_mul (s_int w64) (s_int w64) (s_int w64) (act1 (cast signed signed w64) (s_int w32) (s_int w64) (of_z w32 x)) G)) 8380417)
 
--- the number with these bits is the product, reduced
+-- the number with these bits is 2^32 times the product, reduced
 pub record Taken (x f : ℤ) (n : ℕ) : Type 0 where
   pub value : ℤ
-  pub is : n ≡ of_z w64 value
+  pub is : n ≡ of_z w64 (pos 4294967296 *ℤ value)
   pub small : nat_abs value ≤ 8380416
   pub low : ℤ
   pub sum : x *ℤ f ≡ pos 4294967296 *ℤ value +ℤ low *ℤ pos 8380417
@@ -37,10 +39,6 @@ wrap_is z = refl
 wrapped : (z : ℤ) → (m : ℤ) × (int_wrap w32 z ≡ z +ℤ m *ℤ pos 4294967296)
 wrapped (pos n) = (neg_ℤ (pos ((n + 2147483648) / 4294967296)), wrap_is (pos n) ∙ grind (arith, ints))
 wrapped (negsuc n) = (pos ((n + 2147483648) / 4294967296), wrap_is (negsuc n) ∙ grind (arith, ints))
-
-shr_exact : (y s : ℤ) → y ≡ pos 4294967296 *ℤ s → shr_z y 4294967296 ≡ s
-shr_exact (pos n) s e = omega (arith, ints, e)
-shr_exact (negsuc n) s e = omega (arith, ints, e)
 
 -- x (h q) where h q is f and a multiple of 2^32
 spread : (x f h k : ℤ) → h *ℤ pos 8380417 ≡ f +ℤ k *ℤ pos 4294967296 → x *ℤ h *ℤ pos 8380417 ≡ x *ℤ f +ℤ x *ℤ k *ℤ pos 4294967296
@@ -57,45 +55,13 @@ times_q : (t : ℤ) → SFits w32 t → (SFits w64 (t *ℤ pos 8380417)) × (nat
 times_q (pos n) f = (fits_signed_from_abs w64 _ (omega (arith, ints, f.sfits)), omega (arith, ints, f.sfits))
 times_q (negsuc n) f = (fits_signed_from_abs w64 _ (omega (arith, ints, f.sfits)), omega (arith, ints, f.sfits))
 
-pub taken_is : (x f h k : ℤ) (F G : ℕ) → SFits w32 x → SFits w32 f → SFits w32 h → nat_abs f ≤ 8380416 → h *ℤ pos 8380417 ≡ f +ℤ k *ℤ pos 4294967296
-    → F ≡ of_z w64 f → G ≡ of_z w32 h → Taken x f (taken F G x)
-taken_is x f h k F G fx ff fh bound e eF eG =
-    let nt : ℕ = of_z w32 x * of_z w32 h % 4294967296 in
-    let t : ℤ = to_z w32 nt in
-    let et : t ≡ int_wrap w32 (x *ℤ h) = wrapping_mul_is w32 x h fx fh in
-    let ft : SFits w32 t = rw et (SFits-int_wrap w32 (x *ℤ h)) in
-    let m = wrapped (x *ℤ h) in
-    let big = product_bound x f fx bound in
-    let fit1 : SFits w64 (x *ℤ f) = fits_signed_from_abs w64 _ (omega (arith, big)) in
-    let tq = times_q t ft in
-    let n1 : ℕ = of_z w64 x * of_z w64 f % 18446744073709551616 in
-    let n2 : ℕ = of_z w64 t * 8380417 % 18446744073709551616 in
-    let e1 : to_z w64 n1 ≡ x *ℤ f = wrapping_mul_is w64 x f (wider x fx) (wider f ff) ∙ int_wrap_fits w64 _ fit1 in
-    let e2 : to_z w64 n2 ≡ t *ℤ pos 8380417 = wrapping_mul_is w64 t (pos 8380417) (wider t ft) (record { sfits = lit< tt }) ∙ int_wrap_fits w64 _ tq.0 in
-    let d : ℤ = x *ℤ f -ℤ t *ℤ pos 8380417 in
-    let fit3 : SFits w64 d = fits_signed_from_abs w64 _ (omega (arith, ints, big, tq.1)) in
-    let e3 : to_z w64 ((n1 + (18446744073709551616 - n2)) % 18446744073709551616) ≡ d =
-    wrapping_sub-bits w64 n1 n2 (omega arith) (omega arith) ∙ (ap (λ (z : ℤ). int_wrap w64 z) (ap (λ (z : ℤ). z -ℤ to_z w64 n2) e1 ∙ ap (λ (z : ℤ). x *ℤ f -ℤ z) e2) ∙ int_wrap_fits w64 d fit3) in
-    let r : ℤ = neg_ℤ (x *ℤ k +ℤ m.0 *ℤ pos 8380417) in
-    let all = spread x f h k e in
-    let whole : d ≡ pos 4294967296 *ℤ r = omega (arith, ints, et, m.1, all) in
-    let back : to_z w32 (of_z w32 x) ≡ x = to_z-of_z w32 x fx in
-    record {
-      value = r;
-      is = rw (eF, eG, back, e3) (ap (of_z w64) (shr_exact d r whole));
-      small = omega (arith, ints, big, tq.1, whole);
-      low = t;
-      sum = omega (arith, ints, whole);
-    }
-
 -- ---- the two halves of a number of 64 bits
-low_word : (p h : ℤ) (u : ℕ) → SFits w32 h → u < 4294967296 → p ≡ h *ℤ pos 4294967296 +ℤ pos u → of_z w64 p % 4294967296 ≡ u
-low_word (pos m) h u fh l e = omega (arith, ints, e, fh.sfits)
-low_word (negsuc m) (pos a) u fh l e = absurd (omega (arith, ints, e))
-low_word (negsuc m) (negsuc a) u fh l e = let f = fh.sfits in omega (arith, ints, e, f)
-
 raised_word : (b u : ℕ) → b % 4294967296 ≡ u → b * 4294967296 % 18446744073709551616 ≡ u * 4294967296
 raised_word b u e = omega (arith, e)
+
+low_word : (p : ℤ) (u : ℕ) → SFits w64 p → int_rem_euclid p (pos 4294967296) ≡ pos u → of_z w64 p % 4294967296 ≡ u
+low_word (pos m) u fp e = omega (arith, ints, e, fp.sfits)
+low_word (negsuc m) u fp e = let f = fp.sfits in omega (arith, ints, e, f)
 
 signed_word : (f : ℤ) (u : ℕ) → SFits w32 f → int_rem_euclid f (pos 4294967296) ≡ pos u → shr_z (to_z w64 (u * 4294967296)) 4294967296 ≡ f
 signed_word (pos n) u ff e =
@@ -114,22 +80,22 @@ remainder : (f : ℤ) → (u : ℕ) × (int_rem_euclid f (pos 4294967296) ≡ po
 remainder (pos n) = (n % 4294967296, refl, omega arith)
 remainder (negsuc n) = (4294967295 - n % 4294967296, refl, omega arith)
 
-pub lower_half : (p f h : ℤ) → SFits w32 f → SFits w32 h → p ≡ h *ℤ pos 4294967296 +ℤ int_rem_euclid f (pos 4294967296)
-    → of_z w64 (shr_z (to_z w64 (of_z w64 p * 4294967296 % 18446744073709551616)) 4294967296) ≡ of_z w64 f
-lower_half p f h ff fh e =
+-- the bits of the number of 32 bits that has the low half of p
+pub lowered_is : (p f : ℤ) → SFits w64 p → SFits w32 f → int_rem_euclid p (pos 4294967296) ≡ int_rem_euclid f (pos 4294967296) → lowered (of_z w64 p) ≡ of_z w64 f
+lowered_is p f fp ff e =
     let u = remainder f in
-    let low = low_word p h u.0 fh u.2 (rw u.1 at e) in
+    let low = low_word p u.0 fp (e ∙ u.1) in
     ap (λ (n : ℕ). of_z w64 (shr_z (to_z w64 n) 4294967296)) (raised_word (of_z w64 p) u.0 low) ∙ ap (of_z w64) (signed_word f u.0 ff u.1)
 
 high_word : (p h : ℤ) (u : ℕ) → u < 4294967296 → p ≡ h *ℤ pos 4294967296 +ℤ pos u → shr_z p 4294967296 ≡ h
 high_word (pos m) h u l e = omega (arith, ints, e)
 high_word (negsuc m) h u l e = omega (arith, ints, e)
 
-pub upper_half : (p f h : ℤ) → SFits w64 p → SFits w32 h → p ≡ h *ℤ pos 4294967296 +ℤ int_rem_euclid f (pos 4294967296)
-    → of_z w32 (to_z w64 (of_z w64 (shr_z (to_z w64 (of_z w64 p)) 4294967296))) ≡ of_z w32 h
-upper_half p f h fp fh e =
+pub upper_half : (p f h : ℤ) → SFits w64 p → p ≡ h *ℤ pos 4294967296 +ℤ int_rem_euclid f (pos 4294967296)
+    → of_z w64 (shr_z (to_z w64 (of_z w64 p)) 4294967296) ≡ of_z w64 h
+upper_half p f h fp e =
     let u = remainder f in
-    rw (to_z-of_z w64 p fp, high_word p h u.0 u.2 (rw u.1 at e), to_z-of_z w64 h (wider h fh)) refl
+    rw (to_z-of_z w64 p fp, high_word p h u.0 u.2 (rw u.1 at e)) refl
 
 divided : (z : ℤ) → z ≡ int_rem_euclid z (pos 4294967296) +ℤ int_div_euclid z (pos 4294967296) *ℤ pos 4294967296
 divided (pos n) = omega (arith, ints)
@@ -152,49 +118,104 @@ same_word x y e =
     let b = divided y in
     (int_div_euclid x (pos 4294967296) -ℤ int_div_euclid y (pos 4294967296), omega (arith, ints, a, b, e))
 
+-- a number that differs by a multiple of 2^32 has the same low half
+same_low : (x y k : ℤ) → x ≡ y +ℤ k *ℤ pos 4294967296 → int_rem_euclid y (pos 4294967296) ≡ int_rem_euclid x (pos 4294967296)
+same_low x y k e =
+    let a = divided x in
+    let b = divided y in
+    let u = remainder x in
+    let v = remainder y in
+    omega (arith, ints, e, a, b, u.1, u.2, v.1, v.2)
+
+high_of_multiple : (r : ℤ) → int_div_euclid (pos 4294967296 *ℤ r) (pos 4294967296) ≡ r
+high_of_multiple r =
+    let a = divided (pos 4294967296 *ℤ r) in
+    let u = remainder (pos 4294967296 *ℤ r) in
+    omega (arith, ints, a, u.1, u.2)
+
+-- the difference is a multiple of 2^32
+whole_is : (xf xh xk t m : ℤ) → xh *ℤ pos 8380417 ≡ xf +ℤ xk *ℤ pos 4294967296 → t ≡ xh +ℤ m *ℤ pos 4294967296
+    → xf -ℤ t *ℤ pos 8380417 ≡ pos 4294967296 *ℤ neg_ℤ (xk +ℤ m *ℤ pos 8380417)
+whole_is xf xh xk t m all e = omega (arith, ints, all, e)
+
+whole_small : (xf tq r : ℤ) → nat_abs xf ≤ 17996806323437568 → nat_abs tq ≤ 17996808470921216 → xf -ℤ tq ≡ pos 4294967296 *ℤ r → nat_abs r ≤ 8380416
+whole_small xf tq r a b e = omega (arith, ints, a, b, e)
+
+whole_sum : (xf tq r : ℤ) → xf -ℤ tq ≡ pos 4294967296 *ℤ r → xf ≡ pos 4294967296 *ℤ r +ℤ tq
+whole_sum xf tq r e = omega (arith, ints, e)
+
+whole_fits : (xf tq : ℤ) → nat_abs xf ≤ 17996806323437568 → nat_abs tq ≤ 17996808470921216 → SFits w64 (xf -ℤ tq)
+whole_fits xf tq a b = fits_signed_from_abs w64 _ (omega (arith, ints, a, b))
+
+pub taken_is : (x f h k : ℤ) (F G : ℕ) → SFits w32 x → SFits w32 f → SFits w32 h → nat_abs f ≤ 8380416 → h *ℤ pos 8380417 ≡ f +ℤ k *ℤ pos 4294967296
+    → F ≡ of_z w64 f → G ≡ of_z w64 h → Taken x f (taken F G x)
+taken_is x f h k F G fx ff fh bound e eF eG =
+    let t : ℤ = int_wrap w32 (x *ℤ h) in
+    let ft : SFits w32 t = SFits-int_wrap w32 (x *ℤ h) in
+    let m = wrapped (x *ℤ h) in
+    let big = product_bound x f fx bound in
+    let fit1 : SFits w64 (x *ℤ f) = fits_signed_from_abs w64 _ (omega (arith, big)) in
+    let fit0 : SFits w64 (x *ℤ h) = product_fits x h fx fh in
+    let tq = times_q t ft in
+    let n0 : ℕ = of_z w64 x * of_z w64 h % 18446744073709551616 in
+    let n1 : ℕ = of_z w64 x * of_z w64 f % 18446744073709551616 in
+    let n2 : ℕ = of_z w64 t * 8380417 % 18446744073709551616 in
+    let e0 : to_z w64 n0 ≡ x *ℤ h = wrapping_mul_is w64 x h (wider x fx) (wider h fh) ∙ int_wrap_fits w64 _ fit0 in
+    let bits0 : n0 ≡ of_z w64 (x *ℤ h) = sym (of_z-to_z w64 n0 (omega arith)) ∙ ap (of_z w64) e0 in
+    let low : lowered n0 ≡ of_z w64 t = ap lowered bits0 ∙ lowered_is (x *ℤ h) t fit0 ft (same_low t (x *ℤ h) m.0 m.1) in
+    let e1 : to_z w64 n1 ≡ x *ℤ f = wrapping_mul_is w64 x f (wider x fx) (wider f ff) ∙ int_wrap_fits w64 _ fit1 in
+    let e2 : to_z w64 n2 ≡ t *ℤ pos 8380417 = wrapping_mul_is w64 t (pos 8380417) (wider t ft) (record { sfits = lit< tt }) ∙ int_wrap_fits w64 _ tq.0 in
+    let d : ℤ = x *ℤ f -ℤ t *ℤ pos 8380417 in
+    let fit3 : SFits w64 d = whole_fits (x *ℤ f) (t *ℤ pos 8380417) big tq.1 in
+    let n3 : ℕ = (n1 + (18446744073709551616 - n2)) % 18446744073709551616 in
+    let e3 : to_z w64 n3 ≡ d =
+    wrapping_sub-bits w64 n1 n2 (omega arith) (omega arith) ∙ (ap (λ (z : ℤ). int_wrap w64 z) (ap (λ (z : ℤ). z -ℤ to_z w64 n2) e1 ∙ ap (λ (z : ℤ). x *ℤ f -ℤ z) e2) ∙ int_wrap_fits w64 d fit3) in
+    let r : ℤ = neg_ℤ (x *ℤ k +ℤ m.0 *ℤ pos 8380417) in
+    let all = spread x f h k e in
+    let whole : d ≡ pos 4294967296 *ℤ r = whole_is (x *ℤ f) (x *ℤ h) (x *ℤ k) t m.0 all m.1 in
+    let bits3 : n3 ≡ of_z w64 (pos 4294967296 *ℤ r) = sym (of_z-to_z w64 n3 (omega arith)) ∙ ap (of_z w64) (e3 ∙ whole) in
+    let back : to_z w32 (of_z w32 x) ≡ x = to_z-of_z w32 x fx in
+    record {
+      value = r;
+      is = rw (eF, eG, back, low) bits3;
+      small = whole_small (x *ℤ f) (t *ℤ pos 8380417) r big tq.1 whole;
+      low = t;
+      sum = whole_sum (x *ℤ f) (t *ℤ pos 8380417) r whole;
+    }
+
 -- ---- all lanes
--- what a clause says the code returns
+abbrev pub lows : ℕ → List ℕ → List ℕ
+lows n l = zip2 (act2 (shr signed) (s_int w64) (s_int w64) (s_int w64)) (zip2 (act2 shl (s_int w64) (s_int w64) (s_int w64)) l (replicate n 32)) (replicate n 32)
+
+abbrev pub wides : List ℤ → List ℕ
+wides xs = map (act1 (cast signed signed w64) (s_int w32) (s_int w64)) (map (of_z w32) xs)
+
+-- what a clause says the code computes
 abbrev pub row : ℕ → ℕ → ℕ → List ℤ → List ℕ
 row n F G xs =
-    zip2 (act2 (shr signed) (s_int w64) (s_int w64) (s_int w64))
-    (zip2 (act2 wrap_sub (s_int w64) (s_int w64) (s_int w64))
-    (zip2 (act2 wrap_mul (s_int w64) (s_int w64) (s_int w64)) (map (act1 (cast signed signed w64) (s_int w32) (s_int w64)) (map (of_z w32) xs)) (replicate n F))
-    (zip2 (act2 wrap_mul (s_int w64) (s_int w64) (s_int w64)) (map (act1 (cast signed signed w64) (s_int w32) (s_int w64)) (zip2 (act2 wrap_mul (s_int w32) (s_int w32) (s_int w32)) (map (of_z w32) xs) (replicate n G))) (replicate n 8380417)))
-    (replicate n 32)
+    zip2 (act2 wrap_sub (s_int w64) (s_int w64) (s_int w64))
+    (zip2 (act2 wrap_mul (s_int w64) (s_int w64) (s_int w64)) (wides xs) (replicate n F))
+    (zip2 (act2 wrap_mul (s_int w64) (s_int w64) (s_int w64)) (lows n (zip2 (act2 wrap_mul (s_int w64) (s_int w64) (s_int w64)) (wides xs) (replicate n G))) (replicate n 8380417))
 
 pub row_is : (n F G : ℕ) (xs : List ℤ) → length xs ≡ n → row n F G xs ≡ map (taken F G) xs
 row_is n F G [] e = refl
 row_is zero F G (x ∷ xs) e = absurd (omega (arith, e))
 row_is (suc n) F G (x ∷ xs) e = ap (λ l. taken F G x ∷ l) (row_is n F G xs (omega (arith, e)))
 
--- the number that a lane is read as
-abbrev pub read : ℕ → ℤ
-read n = to_z w32 (act1 (cast signed signed w32) (s_int w64) (s_int w32) n)
-
--- where each number fits, each lane may be narrowed
-pub narrowed : (g : ℤ → ℕ) (xs : List ℤ) → ((j : ℕ) → j < length xs → SFits w32 (to_z w64 (g (get_or xs j (pos 0))))) → Each1 (Asks1 (cast signed signed w32) (s_int w64)) (map g xs)
-narrowed g [] f = tt
-narrowed g (x ∷ xs) f = (f zero (omega arith), narrowed g xs (λ j h. f (suc j) (omega (arith, h))))
-
-pub read_at : (g : ℤ → ℕ) (xs : List ℤ) (j : ℕ) → j < length xs → get_or (map (to_z w32) (map (act1 (cast signed signed w32) (s_int w64) (s_int w32)) (map g xs))) j (pos 0) ≡ read (g (get_or xs j (pos 0)))
+pub read_at : (g : ℤ → ℕ) (ps : List ℤ) (j : ℕ) → j < length ps → get_or (map (to_z w64) (map g ps)) j (pos 0) ≡ to_z w64 (g (get_or ps j (pos 0)))
 read_at g [] j h = absurd (omega (arith, h))
-read_at g (x ∷ xs) zero h = refl
-read_at g (x ∷ xs) (suc j) h = read_at g xs j (omega (arith, h))
+read_at g (p ∷ ps) zero h = refl
+read_at g (p ∷ ps) (suc j) h = read_at g ps j (omega (arith, h))
 
-pub read_length : (g : ℤ → ℕ) (xs : List ℤ) → length (map (to_z w32) (map (act1 (cast signed signed w32) (s_int w64) (s_int w32)) (map g xs))) ≡ length xs
-read_length g [] = refl
-read_length g (x ∷ xs) = ap suc (read_length g xs)
-
--- a product that was taken, read
-pub taken_wide : (x f : ℤ) (n : ℕ) → Taken x f n → SFits w32 (to_z w64 n)
-taken_wide x f n t =
+pub taken_fits : (x f : ℤ) (n : ℕ) → Taken x f n → SFits w64 (to_z w64 n)
+taken_fits x f n t =
     let small = t.small in
-    let fit : SFits w64 t.value = fits_signed_from_abs w64 _ (omega (arith, small)) in
-    rw (t.is, to_z-of_z w64 t.value fit) (fits_signed_from_abs w32 _ (omega (arith, small)))
+    let fit : SFits w64 (pos 4294967296 *ℤ t.value) = fits_signed_from_abs w64 _ (omega (arith, ints, small)) in
+    rw (t.is, to_z-of_z w64 (pos 4294967296 *ℤ t.value) fit) fit
 
-pub taken_read : (x f : ℤ) (n : ℕ) (t : Taken x f n) → read n ≡ t.value
-taken_read x f n t =
+-- the high half of a product that was taken
+pub taken_high : (x f : ℤ) (n : ℕ) (t : Taken x f n) → int_div_euclid (to_z w64 n) (pos 4294967296) ≡ t.value
+taken_high x f n t =
     let small = t.small in
-    let fit : SFits w64 t.value = fits_signed_from_abs w64 _ (omega (arith, small)) in
-    let fit32 : SFits w32 t.value = fits_signed_from_abs w32 _ (omega (arith, small)) in
-    rw (t.is, to_z-of_z w64 t.value fit) (to_z-of_z w32 t.value fit32)
+    let fit : SFits w64 (pos 4294967296 *ℤ t.value) = fits_signed_from_abs w64 _ (omega (arith, ints, small)) in
+    rw (t.is, to_z-of_z w64 (pos 4294967296 *ℤ t.value) fit) (high_of_multiple t.value)

@@ -1,12 +1,15 @@
 -- Blocks and layers of butterflies, so far as a loop over them has come.
-use Rattle.std.proofs.Common.{◌≡◌, ℕ, zero, suc, ◌<◌, ◌≤◌, ◌+◌, ◌*◌, ◌-◌, List, ℤ, length, get_or, set, length-set, get_or-set_same, get_or-set_other, arith, ap, subst, refl, ◌∙◌, ◌⊎◌, inl, inr}
+use Rattle.std.proofs.Common.{◌≡◌, ℕ, zero, suc, ◌<◌, ◌≤◌, ◌+◌, ◌*◌, ◌-◌, List, ℤ, length, get_or, set, length-set, get_or-set_same, get_or-set_other, arith, ap, ◌∙◌, ◌⊎◌, inl, inr}
 use Rattle.std.specs.Prelude.{nat_abs}
 use Rattle.std.proofs.lemmas.List.{get_or_default}
 use Rattle.std.proofs.lemmas.Nat.{mul-le}
 use native.Mathlib.Decide.{dec_lt}
 use Rattle.fips204_base.specs.Residues.{residue}
 use Rattle.fips204_base.specs.Lanes.{lane, lane_at}
-use Rattle.fips204_base.specs.Network.{IsButterfly, IsInverseButterfly, IsBlock, AreBlocks, IsLayer, IsInverseLayer}
+use Rattle.fips204_base.specs.Network.{IsButterfly, IsInverseButterfly, IsBlock, AreBlocks}
+use Rattle.fips204_base.proofs.Network.{IsLayer, IsInverseLayer}
+use Rattle.std.proofs.lemmas.Int.{ints}
+use Rattle.std.proofs.lemmas.Grind.{common_steps}
 
 -- ---- a block: the first n of its pairs are done
 pub record Part (Pair : ℤ → ℤ → ℤ → ℤ → Type 0) (start len n : ℕ) (before after : ℕ → ℤ) : Type 0 where
@@ -14,25 +17,15 @@ pub record Part (Pair : ℤ → ℤ → ℤ → ℤ → Type 0) (start len n : �
   pub rest : (p : ℕ) → ((k : ℕ) → k < n → ¬ (p ≡ start + k)) → ((k : ℕ) → k < n → ¬ (p ≡ start + k + len)) → after p ≡ before p
 
 pub part_whole : (Pair : ℤ → ℤ → ℤ → ℤ → Type 0) (start len : ℕ) (before after : ℕ → ℤ) → Part Pair start len len before after → IsBlock Pair start len before after
-part_whole Pair start len before after part = record {
-  pairs = part.pairs;
-  below = λ p h. part.rest p (λ k q e. absurd (omega arith)) (λ k q e. absurd (omega arith));
-  above = λ p h. part.rest p (λ k q e. absurd (omega arith)) (λ k q e. absurd (omega arith));
-}
+part_whole Pair start len before after part = grind (arith, ints, common_steps)
 
 pub part_none : (Pair : ℤ → ℤ → ℤ → ℤ → Type 0) (start len : ℕ) (before : ℕ → ℤ) → Part Pair start len 0 before before
-part_none Pair start len before = record {
-  pairs = λ k h. absurd (omega arith);
-  rest = λ p f g. refl;
-}
+part_none Pair start len before = grind (arith, ints, common_steps)
 
 -- the places of the pairs that are still to come hold what they held
 pub part_ahead : (Pair : ℤ → ℤ → ℤ → ℤ → Type 0) (start len n : ℕ) (before after : ℕ → ℤ) → n < len → Part Pair start len n before after →
     (after (start + n) ≡ before (start + n)) × (after (start + n + len) ≡ before (start + n + len))
-part_ahead Pair start len n before after r part = (
-  part.rest (start + n) (λ k q e. absurd (omega arith)) (λ k q e. absurd (omega arith)),
-  part.rest (start + n + len) (λ k q e. absurd (omega arith)) (λ k q e. absurd (omega arith)),
-)
+part_ahead Pair start len n before after r part = grind (arith, ints, common_steps)
 
 -- one pair more
 pub part_more : (Pair : ℤ → ℤ → ℤ → ℤ → Type 0) (start len n : ℕ) (x y : ℤ) (first before after : ℕ → ℤ) → n < len → Part Pair start len n first before →
@@ -73,10 +66,7 @@ pub record SoFar (Pair : ℕ → ℤ → ℤ → ℤ → ℤ → Type 0) (len do
   pub rest : (p : ℕ) → 2 * len * done ≤ p → after p ≡ before p
 
 pub layer_none : (Pair : ℕ → ℤ → ℤ → ℤ → ℤ → Type 0) (len : ℕ) (before : ℕ → ℤ) → SoFar Pair len 0 before before
-layer_none Pair len before = record {
-  pairs = λ b k h. absurd (omega arith);
-  rest = λ p h. refl;
-}
+layer_none Pair len before = grind (arith, ints, common_steps)
 
 -- block c ends where block b begins, or before
 blocks_apart : (len b c : ℕ) → c < b → 2 * len * c + 2 * len ≤ 2 * len * b
@@ -102,17 +92,7 @@ layer_sums count len b old new e f h = h ∙ rw e (omega (arith, f))
 
 pub layer_more : (Pair : ℕ → ℤ → ℤ → ℤ → ℤ → Type 0) (len b start : ℕ) (first before after : ℕ → ℤ) → start ≡ 2 * len * b → IsBlock (Pair b) start len before after →
     SoFar Pair len b first before → SoFar Pair len (b + 1) first after
-layer_more Pair len b start first before after e block done =
-    let this = subst (λ t. IsBlock (Pair b) t len before after) e block in
-    record {
-      pairs = λ c k h q. elim (dec_lt c b) [
-        | yes r ↦ (let apart = blocks_apart len b c r in
-            rw (this.below (2 * len * c + k) (omega arith), this.below (2 * len * c + k + len) (omega arith)) (done.pairs c k r q))
-        | no r ↦ (let f : c ≡ b = omega arith in
-            rw f (rw (done.rest (2 * len * b + k) (omega arith), done.rest (2 * len * b + k + len) (omega arith)) at (this.pairs k q)))
-      ];
-      rest = λ p h. this.above p (omega arith) ∙ done.rest p (omega arith);
-    }
+layer_more Pair len b start first before after e block done = grind (arith, ints, common_steps, dec_lt, blocks_apart)
 
 pub layer_whole : (Pair : ℕ → ℤ → ℤ → ℤ → ℤ → Type 0) (count len : ℕ) (before after : ℕ → ℤ) → SoFar Pair len count before after → AreBlocks Pair count len before after
 layer_whole Pair count len before after done b k h q = done.pairs b k h q
@@ -172,10 +152,7 @@ inverse_layer_sizes count len bound before after e blocks least h =
 -- ---- one value of a row is changed: what the values before it have, and it, all have then; and the others stay
 pub one_changed : {V : Type 0} (P : ℕ → ℤ → Type 0) (lanes : V → List ℤ) (j n : ℕ) (d x : V) (w : List V) → n < length w →
     ((p : ℕ) → p < n → P p (lane_at lanes j d w p)) → P n (lane (lanes x) j) → (p : ℕ) → p < n + 1 → P p (lane_at lanes j d (set w n x) p)
-one_changed P lanes j n d x w inside before here p h = elim (dec_lt p n) [
-  | yes q ↦ rw (get_or-set_other w n p x d (λ e. omega (arith, e, q))) (before p q)
-  | no q ↦ (let e : p ≡ n = omega arith in rw (e, get_or-set_same w n x d inside) here)
-]
+one_changed P lanes j n d x w inside before here p h = grind (arith, ints, common_steps, dec_lt, get_or-set_other, get_or-set_same)
 
 pub others_stay : {V : Type 0} (lanes : V → List ℤ) (j n : ℕ) (d x : V) (w : List V) (p : ℕ) → n + 1 ≤ p → lane_at lanes j d (set w n x) p ≡ lane_at lanes j d w p
 others_stay lanes j n d x w p h = ap (λ v. lane (lanes v) j) (get_or-set_other w n p x d (λ e. omega (arith, e, h)))

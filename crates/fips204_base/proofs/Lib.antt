@@ -5,6 +5,7 @@ pub mod Network
 pub mod LaneRows
 pub mod LaneReductions
 pub mod LaneProducts
+pub mod LanePairs
 pub mod Layers
 pub mod Transforms
 pub mod Products
@@ -13,6 +14,7 @@ pub mod RoundingLaws
 pub mod HintSpelling
 pub mod Sampling
 pub mod Sampled
+pub mod FourAtATime
 pub mod LongerFronts
 pub mod Masks
 pub mod Challenges

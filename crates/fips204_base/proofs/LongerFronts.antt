@@ -1,21 +1,23 @@
 -- What samplers give over a front they give over each longer one that it is a prefix of.
-use Rattle.std.proofs.Common.{◌≡◌, ℕ, ◌+◌, ◌-◌, ◌*◌, ◌/◌, ◌<◌, ◌≤◌, ◌⊎◌, inl, inr, List, [], ◌∷◌, ◌++◌, length, take, drop, get_or, map, refl, ap, sym, ◌∙◌, arith, length-take, get_or-take, Some, None}
+use Rattle.std.proofs.Common.{◌≡◌, ℕ, ◌+◌, ◌*◌, ◌/◌, ◌<◌, ◌≤◌, ◌⊎◌, inl, inr, List, [], ◌∷◌, ◌++◌, length, take, drop, get_or, map, refl, ap, sym, ◌∙◌, arith, length-take, get_or-take, Some, None}
 use Rattle.std.specs.Prelude.{option_map, option_and_then, filter_map}
 use Rattle.std.specs.declared.option.Option.{Option}
-use Rattle.std.specs.Int.{w16, to_le_bytes}
+use Rattle.std.specs.Int.{to_le_bytes}
 use Rattle.std.specs.List.{range_with_len}
 use Rattle.std.proofs.lemmas.List.{take-take, drop-take}
 use Rattle.std.proofs.lemmas.Option.{none-some}
 use Rattle.fips204_base.specs.declared.types.R.{R}
 use Rattle.fips204_base.specs.declared.types.T.{T}
 use Rattle.fips204_base.specs.Streams.{IsPrefix, ArePrefixes}
-use Rattle.fips204_base.specs.Sampling.{first_256, all_present, matrix_entry, sampled_matrix, small_polynomial, coefficient_from_half_byte, picks, challenge, mask}
-use Rattle.fips204_base.specs.Packing.{bit_length, unpacked}
+use Rattle.fips204_base.specs.Sampling.{first_256, all_present, matrix_entry, sampled_matrix, small_polynomial, coefficient_from_half_byte, challenge, mask}
+use Rattle.fips204_base.specs.Packing.{bit_length}
 use Rattle.fips204_base.proofs.Sampling.{given_joined, kept_triples-beyond, kept_half_bytes-beyond, first_256-beyond}
 use Rattle.fips204_base.proofs.Sampled.{whole_entry, whole_polynomial}
-use Rattle.fips204_base.proofs.Challenges.{picks-beyond, length-challenge_picks}
-use Rattle.fips204_base.specs.Network.{mask_polynomial, mask_width, triple, kept_triples, half_bytes, kept_half_bytes, small_vector, challenge_picks}
+use Rattle.fips204_base.proofs.Challenges.{picks-beyond, length-challenge_picks, challenge_picks}
+use Rattle.fips204_base.specs.SamplerSteps.{mask_width, triple, kept_triples, half_bytes, kept_half_bytes, small_vector}
 use Rattle.fips204_base.proofs.Masks.{mask-is, map_same}
+use Rattle.std.proofs.lemmas.Int.{ints}
+use Rattle.std.proofs.lemmas.Grind.{common_steps}
 
 -- ---- bytes of a prefix
 
@@ -35,11 +37,7 @@ prefix-at xs ys k e l = sym (get_or-take (length xs) ys k 0 l) ∙ ap (λ zs. ge
 
 triple-longer : (xs ys : List ℕ) (p : ℕ) → IsPrefix xs ys → 3 * p + 2 < length xs → triple ys p ≡ triple xs p
 unfolding triple
-triple-longer xs ys p e l =
-    let a = prefix-at xs ys (3 * p) e (omega (arith, l)) in
-    let b = prefix-at xs ys (3 * p + 1) e (omega (arith, l)) in
-    let c = prefix-at xs ys (3 * p + 2) e l in
-    rw (a, b, c) refl
+triple-longer xs ys p e l = grind (arith, ints, common_steps, prefix-at)
 
 kept_triples-longer : (xs ys : List ℕ) (n : ℕ) → IsPrefix xs ys → 3 * n ≤ length xs → kept_triples ys n ≡ kept_triples xs n
 unfolding kept_triples
@@ -78,18 +76,7 @@ small_polynomial-longer eta xs ys w e there =
 
 pub challenge-longer : (tau : ℕ) (xs ys : List ℕ) (c : R) → IsPrefix xs ys → 4096 ≤ length xs → challenge tau xs ≡ Some c → challenge tau ys ≡ Some c
 unfolding challenge challenge_picks
-challenge-longer tau xs ys c e enough there =
-    let n : ℕ = length xs / 4 in
-    let signs : take 8 ys ≡ take 8 xs = prefix-take xs ys 8 e (omega (arith, enough)) in
-    let bytes : take (length xs / 4) (drop 8 ys) ≡ take (length xs / 4) (drop 8 xs) = prefix-part xs ys 8 (length xs / 4) e (omega (arith, enough)) in
-    let picked = picks (256 - tau) (take (length xs / 4) (drop 8 xs)) in
-    let size : length (take tau picked) ≡ tau = length-challenge_picks tau xs c there in
-    let at_least : tau ≤ length picked = omega (arith, size, length-take tau picked) in
-    let early : tau ≤ length (picks (256 - tau) (take (length xs / 4) (drop 8 ys))) = rw bytes at_least in
-    let same : take tau (picks (256 - tau) (take (length ys / 4) (drop 8 ys))) ≡ take tau picked =
-    picks-beyond tau (256 - tau) (length xs / 4) (length ys / 4) (drop 8 ys) (omega (arith, prefix-length xs ys e)) early
-    ∙ ap (λ l. take tau (picks (256 - tau) l)) bytes in
-    rw (same, signs) there
+challenge-longer tau xs ys c e enough there = grind (arith, ints, common_steps, prefix-take, prefix-part, length-challenge_picks, length-take, picks-beyond, prefix-length)
 
 -- ---- lists of samples
 
@@ -109,18 +96,11 @@ all_present-longer f g (x ∷ xs) vs same e =
 
 pub sampled_matrix-longer : (G G' : List ℕ → List ℕ) (rho : List ℕ) (k l : ℕ) (a : List (List T)) → ArePrefixes G G' → sampled_matrix G rho k l ≡ Some a → sampled_matrix G' rho k l ≡ Some a
 unfolding sampled_matrix
-sampled_matrix-longer G G' rho k l a e there =
-    let coefficient_of = λ (F : List ℕ → List ℕ) (r s : ℕ). matrix_entry (F (rho ++ s ∷ r ∷ [])) in
-    let row = λ (F : List ℕ → List ℕ) (r : ℕ). all_present (map (coefficient_of F r) (range_with_len 0 l)) in
-    all_present-longer (row G) (row G') (range_with_len 0 k) a
-    (λ r v here. all_present-longer (coefficient_of G r) (coefficient_of G' r) (range_with_len 0 l) v (λ s t. matrix_entry-longer (G (rho ++ s ∷ r ∷ [])) (G' (rho ++ s ∷ r ∷ [])) t (e (rho ++ s ∷ r ∷ []))) here) there
+sampled_matrix-longer G G' rho k l a e there = grind (arith, ints, common_steps, all_present-longer, matrix_entry-longer)
 
 pub small_vector-longer : (eta : ℕ) (H H' : List ℕ → List ℕ) (rho : List ℕ) (first count : ℕ) (v : List R) → ArePrefixes H H' → small_vector eta H rho first count ≡ Some v → small_vector eta H' rho first count ≡ Some v
 unfolding small_vector
-small_vector-longer eta H H' rho first count v e there =
-    let small = λ (F : List ℕ → List ℕ) (r : ℕ). small_polynomial eta (F (rho ++ to_le_bytes w16 r)) in
-    all_present-longer (small H) (small H') (range_with_len first count) v
-    (λ r w. small_polynomial-longer eta (H (rho ++ to_le_bytes w16 r)) (H' (rho ++ to_le_bytes w16 r)) w (e (rho ++ to_le_bytes w16 r))) there
+small_vector-longer eta H H' rho first count v e there = grind (arith, ints, common_steps, to_le_bytes, all_present-longer, small_polynomial-longer)
 
 -- ---- the mask
 
@@ -131,7 +111,4 @@ mask_bytes gamma1 (inr e) = rw e (omega arith)
 
 pub mask-longer : (gamma1 : ℕ) (H H' : List ℕ → List ℕ) (rho : List ℕ) (l kappa : ℕ) → (gamma1 ≡ 131072) ⊎ (gamma1 ≡ 524288) → ArePrefixes H H'
     → ((input : List ℕ) → 4096 ≤ length (H input)) → mask gamma1 H' rho l kappa ≡ mask gamma1 H rho l kappa
-mask-longer gamma1 H H' rho l kappa set e enough =
-    mask-is gamma1 H' rho l kappa ∙ map_same (λ r. mask_polynomial gamma1 (H' (rho ++ to_le_bytes w16 (kappa + r)))) (λ r. mask_polynomial gamma1 (H (rho ++ to_le_bytes w16 (kappa + r)))) (range_with_len 0 l)
-    (λ r. let input = rho ++ to_le_bytes w16 (kappa + r) in
-    ap (unpacked (gamma1 - 1) gamma1) (prefix-take (H input) (H' input) (32 * mask_width gamma1) (e input) (omega (arith, mask_bytes gamma1 set, enough input)))) ∙ sym (mask-is gamma1 H rho l kappa)
+mask-longer gamma1 H H' rho l kappa set e enough = grind (arith, ints, common_steps, mask-is, map_same, to_le_bytes, prefix-take, mask_bytes)

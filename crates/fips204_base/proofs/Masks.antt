@@ -1,5 +1,5 @@
 -- The polynomials of the mask, as they are read and unpacked.
-use Rattle.std.proofs.Common.{zero, suc, [], ◌∷◌, ◌≡◌, ◌<◌, ◌*◌, ℕ, List, ℤ, pos, get_or, length, take, drop, map, ap, sym, ◌∙◌, arith, ◌+◌, ◌≤◌, ◌≤ℤ◌, ◌++◌, length-take, ◌-◌, ◌-ℤ◌, ◌⊎◌, inl, inr, nat_abs, refl}
+use Rattle.std.proofs.Common.{zero, suc, [], ◌∷◌, ◌≡◌, ◌<◌, ◌*◌, ℕ, List, ℤ, pos, get_or, length, take, drop, map, ap, sym, ◌∙◌, arith, ◌+◌, ◌≤◌, ◌≤ℤ◌, ◌++◌, length-take, ◌-◌, ◌-ℤ◌, ◌⊎◌, inl, inr, nat_abs, refl, set, length-set, to_z, of_z}
 use Rattle.std.specs.List.{range_with_len}
 use Rattle.std.proofs.lemmas.List.{take_all, take_at, drop_at, take-take, drop-take}
 use Rattle.std.proofs.lemmas.List.Elements.{All-map}
@@ -7,15 +7,17 @@ use Rattle.std.proofs.lemmas.List.FromFn.{length-map-range_with_len}
 use Rattle.std.proofs.Math.Seq.{take-add}
 use Rattle.std.proofs.lemmas.Nat.{mul-le}
 use Rattle.fips204_base.proofs.Bits.{length-digits}
-use Rattle.fips204_base.proofs.Vectors.{length-polynomial_of, polynomial_of-at, polynomial_of-same}
+use Rattle.fips204_base.proofs.Vectors.{length-polynomial_of, polynomial_of-at, polynomial_of-same, row_written}
 use Rattle.fips204_base.specs.Packing.{integer_to_bits, bits, bits_to_integer, width, bit_length, unpacked}
 use Rattle.fips204_base.specs.Bounds.{PolynomialInRange}
 use Rattle.fips204_base.specs.Vectors.{polynomial_of, IsVector}
 use Rattle.fips204_base.specs.Sampling.{mask}
 use Rattle.fips204_base.proofs.Packing.{field_at, field_small, bits_below}
-use Rattle.std.specs.Int.{w16, to_le_bytes}
+use Rattle.std.specs.Int.{w16, w32, to_le_bytes}
 use Rattle.std.proofs.lemmas.Int.{ints}
-use Rattle.fips204_base.specs.Network.{mask_polynomial, mask_width, coefficient}
+use Rattle.fips204_base.specs.SamplerSteps.{mask_polynomial, mask_width}
+use Rattle.fips204_base.specs.EncodingSteps.{coefficient}
+use Rattle.std.proofs.lemmas.Grind.{common_steps}
 
 -- What is unpacked are the first 32 c bytes, with c bits a coefficient.
 
@@ -61,21 +63,59 @@ map_same f g (x ∷ xs) same = rw (same x, map_same f g xs same) refl
 pub mask-is : (gamma1 : ℕ) (H : List ℕ → List ℕ) (rho : List ℕ) (l kappa : ℕ)
     → mask gamma1 H rho l kappa ≡ map (λ r. mask_polynomial gamma1 (H (rho ++ to_le_bytes w16 (kappa + r)))) (range_with_len 0 l)
 unfolding mask
-mask-is gamma1 H rho l kappa =
-    map_same (λ r. unpacked (gamma1 - 1) gamma1 (H (rho ++ to_le_bytes w16 (kappa + r)))) (λ r. mask_polynomial gamma1 (H (rho ++ to_le_bytes w16 (kappa + r)))) (range_with_len 0 l)
-    (λ r. sym (unpacked-take (gamma1 - 1) gamma1 (H (rho ++ to_le_bytes w16 (kappa + r)))))
+mask-is gamma1 H rho l kappa = grind (arith, ints, common_steps, map_same, to_le_bytes, unpacked-take)
 
 -- the two ranges of the mask
+
+pub less_read : (gamma1 : ℤ) → (gamma1 ≡ pos 131072) ⊎ (gamma1 ≡ pos 524288) → to_z w32 (of_z w32 (gamma1 -ℤ pos 1)) ≡ gamma1 -ℤ pos 1
+less_read gamma1 (inl e) = rw e refl
+less_read gamma1 (inr e) = rw e refl
 
 pub mask_width-is : (gamma1 : ℤ) → (gamma1 ≡ pos 131072) ⊎ (gamma1 ≡ pos 524288) → width (gamma1 -ℤ pos 1) gamma1 ≡ mask_width (nat_abs gamma1)
 mask_width-is gamma1 (inl e) = rw e refl
 mask_width-is gamma1 (inr e) = rw e refl
 
--- what is read is as much as is there for it
-pub as_long : (out rest : List ℕ) (m n : ℕ) → out ≡ take m rest → length out ≡ n → out ≡ take n rest
-as_long out rest m n e l =
-    let short : n ≤ m = omega (arith, l, ap length e, length-take m rest) in
-    sym (take_all n out (omega (arith, l))) ∙ ap (take n) e ∙ take-take n m rest short
+-- 640 bytes are enough
+pub mask_size-within : (gamma1 : ℤ) → (gamma1 ≡ pos 131072) ⊎ (gamma1 ≡ pos 524288) → 32 * mask_width (nat_abs gamma1) ≤ 640
+unfolding bit_length
+mask_size-within gamma1 (inl e) = rw e (omega arith)
+mask_size-within gamma1 (inr e) = rw e (omega arith)
+
+-- three rows more
+pub three_rows : {A : Type 0} (Q : ℕ → A → Type 0) (out : List A) (r l : ℕ) (w x y : A) → length out ≡ l → r + 3 ≤ l
+    → ((k : ℕ) (d : A) → k < r → Q k (get_or out k d)) → Q r w → Q (r + 1) x → Q (r + 2) y
+    → (length (set (set (set out r w) (r + 1) x) (r + 2) y) ≡ l) × ((k : ℕ) (d : A) → k < r + 3 → Q k (get_or (set (set (set out r w) (r + 1) x) (r + 2) y) k d))
+three_rows Q out r l w x y size place before qw qx qy =
+    let one = set out r w in
+    let two = set one (r + 1) x in
+    let size_1 = length-set out r w ∙ size in
+    let size_2 = length-set one (r + 1) x ∙ size_1 in (
+      length-set two (r + 2) y ∙ size_2,
+      λ k d h.
+          let after_1 = row_written Q out r w d (omega (arith, size, place)) (λ n m. before n d m) qw in
+          let after_2 = row_written Q one (r + 1) x d (omega (arith, size_1, place)) after_1 qx in
+          row_written Q two (r + 2) y d (omega (arith, size_2, place)) (λ n m. after_2 n (omega (arith, m))) qy k (omega (arith, h)),
+    )
+
+-- and four
+pub four_rows : {A : Type 0} (Q : ℕ → A → Type 0) (out : List A) (r l : ℕ) (w x y z : A) → length out ≡ l → r + 4 ≤ l
+    → ((k : ℕ) (d : A) → k < r → Q k (get_or out k d)) → Q r w → Q (r + 1) x → Q (r + 2) y → Q (r + 3) z
+    → (length (set (set (set (set out r w) (r + 1) x) (r + 2) y) (r + 3) z) ≡ l)
+    × ((k : ℕ) (d : A) → k < r + 4 → Q k (get_or (set (set (set (set out r w) (r + 1) x) (r + 2) y) (r + 3) z) k d))
+four_rows Q out r l w x y z size place before qw qx qy qz =
+    let three = set (set (set out r w) (r + 1) x) (r + 2) y in
+    let written = three_rows Q out r l w x y size (omega (arith, place)) before qw qx qy in (
+      length-set three (r + 3) z ∙ written.0,
+      λ k d h. row_written Q three (r + 3) z d (omega (arith, written.0, place)) (λ n m. written.1 n d m) qz k (omega (arith, h)),
+    )
+
+-- the bytes of a polynomial are read
+pub mask_polynomial-read : (gamma1 m : ℕ) {front rest out : List ℕ} → rest ≡ front → out ≡ take m rest → length out ≡ 32 * mask_width gamma1
+    → mask_polynomial gamma1 out ≡ mask_polynomial gamma1 front
+mask_polynomial-read gamma1 m {front} {rest} {out} same read size =
+    let n = 32 * mask_width gamma1 in
+    let short : n ≤ m = omega (arith, size, ap length read, length-take m rest) in
+    ap (unpacked (gamma1 - 1) gamma1) (ap (take n) (read ∙ ap (take m) same) ∙ take-take n m front short)
 
 -- the range of the mask
 

@@ -1,14 +1,27 @@
 -- The network of butterflies is the transform forwards, and backwards the inverse transform.
-use Rattle.std.proofs.Common.{Bool, true, eqb, ◌/◌, ◌-◌, ◌≡◌, ℕ, ◌<◌, ◌+◌, ◌*◌, ◌^◌, ◌%◌, arith, ap, sym, refl, subst, ◌∙◌, add-zero}
+use Rattle.std.proofs.Common.{Bool, true, eqb, ◌/◌, ◌-◌, ◌≡◌, ℕ, ◌<◌, ◌+◌, ◌*◌, ◌^◌, ◌%◌, arith, sym, refl, subst, ◌∙◌, add-zero}
 use Rattle.std.proofs.lemmas.Nat.{pow-add}
 use Rattle.std.proofs.Math.Nat.{pow-zero}
 use Rattle.std.proofs.lemmas.Bool.{eqb-true}
 use native.Mathlib.Decide.{dec_lt}
 use Rattle.fips204_base.specs.Residues.{sum_below, IsCongruent}
 use Rattle.fips204_base.specs.Transforms.{zeta_at, transform, inverse_transform}
-use Rattle.fips204_base.specs.Network.{IsLayer, IsInverseLayer, root, inverse_root}
 use Rattle.fips204_base.proofs.Residues.{congruent_refl, congruent_of, congruent_sym, congruent_trans, congruent_mod, congruent_add, congruent_mul, sum_same, sum_equal, sum_add, sum_below-plus, sum_below-one, sum_below-times}
-use Rattle.fips204_base.proofs.Roots.{first_half, second_half, both, both_first, both_second, all_below, at_index, inverse_first_half, inverse_second_half}
+use Rattle.fips204_base.proofs.Roots.{root, inverse_root, first_half, second_half, both, both_first, both_second, all_below, at_index, inverse_first_half, inverse_second_half}
+use Rattle.std.proofs.lemmas.Int.{ints}
+use Rattle.std.proofs.lemmas.Grind.{common_steps}
+
+-- a layer in residues: count blocks of 2 * len coefficients; block b multiplies by zeta_at (count + b)
+abbrev pub IsLayer : ℕ → ℕ → (ℕ → ℕ) → (ℕ → ℕ) → Type 0
+IsLayer count len before after = (b j : ℕ) → b < count → j < len →
+    IsCongruent (after (2 * len * b + j)) (before (2 * len * b + j) + zeta_at (count + b) * before (2 * len * b + j + len))
+    × IsCongruent (after (2 * len * b + j + len)) (before (2 * len * b + j) + 8380416 * (zeta_at (count + b) * before (2 * len * b + j + len)))
+
+-- the same backwards: block b multiplies the differences by minus zeta_at (2 * count - 1 - b)
+abbrev pub IsInverseLayer : ℕ → ℕ → (ℕ → ℕ) → (ℕ → ℕ) → Type 0
+IsInverseLayer count len before after = (b j : ℕ) → b < count → j < len →
+    IsCongruent (after (2 * len * b + j)) (before (2 * len * b + j) + before (2 * len * b + j + len))
+    × IsCongruent (after (2 * len * b + j + len)) (8380416 * (zeta_at (2 * count - 1 - b) * (before (2 * len * b + j) + 8380416 * before (2 * len * b + j + len))))
 
 -- The network forwards is the transform.
 
@@ -49,9 +62,7 @@ KeepsValues count n first w = (b k : ℕ) → b < count → k < n →
 
 whole_block : (w : ℕ → ℕ) (start i : ℕ) → start ≡ 0 → IsCongruent (block_value 256 start w (root i)) (transform w i)
 unfolding block_value transform root
-whole_block w start i e =
-    congruent_trans (congruent_of (sum_equal 256 (λ j. w (start + j) * root i ^ j) (λ j. w j * root i ^ j) (λ j p. ap (λ t. w t * root i ^ j) (omega arith))))
-    (congruent_sym (congruent_mod (sum_below 256 (λ j. w j * root i ^ j))))
+whole_block w start i e = grind (arith, ints, common_steps, congruent_trans, congruent_of, sum_equal, congruent_sym, congruent_mod)
 
 pub values_start : (w : ℕ → ℕ) → KeepsValues 1 256 w w
 values_start w b k p q = whole_block w (256 * b) (256 * b + k) (omega arith)
@@ -164,10 +175,7 @@ sums_start w b j p q =
 -- two blocks of leaves
 two_blocks : (len n start j : ℕ) (v : ℕ → ℕ) → n ≡ len + len → leaf_sum n start v j ≡ leaf_sum len start v j + leaf_sum len (start + len) v j
 unfolding leaf_sum
-two_blocks len n start j v e = rw e (sum_below-plus len len (λ k. v (start + k) * inverse_root (start + k) ^ j)
-    ∙ ap (λ t. sum_below len (λ k. v (start + k) * inverse_root (start + k) ^ j) + t)
-    (sum_equal len (λ k. v (start + (len + k)) * inverse_root (start + (len + k)) ^ j) (λ k. v (start + len + k) * inverse_root (start + len + k) ^ j)
-    (λ k p. ap (λ i. v i * inverse_root i ^ j) (omega arith))))
+two_blocks len n start j v e = grind (arith, ints, common_steps, sum_below-plus, sum_equal)
 
 -- where all leaves of a block have the power y
 leaves_scaled : (len start y j : ℕ) (v : ℕ → ℕ) → ((k : ℕ) → k < len → IsCongruent (inverse_root (start + k) ^ len) y) → IsCongruent (leaf_sum len start v (j + len)) (y * leaf_sum len start v j)
@@ -238,9 +246,7 @@ sums_next s count len first w v p ec el layer held =
 
 whole_sum : (v : ℕ → ℕ) (start j : ℕ) → start ≡ 0 → IsCongruent (8347681 * leaf_sum 256 start v j) (inverse_transform v j)
 unfolding leaf_sum inverse_transform inverse_root
-whole_sum v start j e =
-    congruent_trans (congruent_of (ap (λ t. 8347681 * t) (sum_equal 256 (λ k. v (start + k) * inverse_root (start + k) ^ j) (λ k. v k * inverse_root k ^ j) (λ k p. ap (λ i. v i * inverse_root i ^ j) (omega arith)))))
-    (congruent_sym (congruent_mod (8347681 * sum_below 256 (λ k. v k * inverse_root k ^ j))))
+whole_sum v start j e = grind (arith, ints, common_steps, congruent_trans, congruent_of, sum_equal, congruent_sym, congruent_mod)
 
 pub sums_end : (first w : ℕ → ℕ) → HoldsSums 1 256 first w → (j : ℕ) → j < 256 → IsCongruent (8347681 * w j) (inverse_transform first j)
 sums_end first w held j p =

@@ -12,9 +12,10 @@ use Rattle.std.proofs.Math.Nat.{pow-succ'}
 use Rattle.fips204_base.specs.Packing.{bits, bits_to_bytes, bits_to_integer, integer_to_bits, polynomial_bytes, unpacked, width}
 use Rattle.fips204_base.specs.Bounds.{Bounds, PolynomialInRange}
 use Rattle.fips204_base.specs.declared.types.R.{R}
-use Rattle.fips204_base.specs.Network.{Packs, coefficient, field}
+use Rattle.fips204_base.specs.EncodingSteps.{Packs, coefficient, field}
 use Rattle.fips204_base.proofs.Bits.{digits-zero, digits-suc, length-digits, same_numbers}
 use Rattle.fips204_base.proofs.Fields.{coefficient-field, field-coefficient, fields_fit}
+use Rattle.std.proofs.lemmas.Grind.{common_steps}
 
 -- Bytes determine the fields that they pack, and fields the bytes.
 
@@ -39,11 +40,8 @@ pub digits_of_integer : (w : ℕ) (digits : List ℕ) → length digits ≡ w �
 digits_of_integer w [] e h = ap (λ n. integer_to_bits n (bits_to_integer [])) (sym e) ∙ digits-zero (bits_to_integer [])
 digits_of_integer zero (digit ∷ higher) e h = absurd (omega (arith, e))
 digits_of_integer (suc w) (digit ∷ higher) e h =
-    let here = All-head (λ (d : ℕ). d < 2) digit higher h in
     let rest = digits_of_integer w higher (omega (arith, e)) (All-tail (λ (d : ℕ). d < 2) digit higher h) in
-    let low : (digit + 2 * bits_to_integer higher) % 2 ≡ digit = omega (arith, here) in
-    let high : (digit + 2 * bits_to_integer higher) / 2 ≡ bits_to_integer higher = omega (arith, here) in
-    ap (integer_to_bits (suc w)) (integer-cons digit higher) ∙ digits-suc w (digit + 2 * bits_to_integer higher) ∙ rw (low, high, rest) refl
+    grind (arith, ints, common_steps, rest, All-head, integer-cons, digits-suc)
 
 pub length-bits : (w : ℕ) (xs : List ℕ) → length (bits w xs) ≡ w * length xs
 unfolding bits
@@ -57,9 +55,7 @@ drop_front n m xs ys e = ap (λ k. drop (k + m) (xs ++ ys)) (sym e) ∙ drop-app
 pub digits_at : (w k : ℕ) (xs : List ℕ) → k < length xs → take w (drop (w * k) (bits w xs)) ≡ integer_to_bits w (get_or xs k 0)
 unfolding bits
 digits_at w k [] h = absurd (omega arith)
-digits_at w zero (x ∷ xs) h =
-    let none : w * 0 ≡ 0 = omega arith in
-    rw none (take_at (integer_to_bits w x) (bits w xs) w (length-digits w x))
+digits_at w zero (x ∷ xs) h = grind (arith, ints, common_steps, take_at, length-digits)
 digits_at w (suc k) (x ∷ xs) h =
     let more : w * suc k ≡ w + w * k = omega arith in
     rw (more, drop_front w (w * k) (integer_to_bits w x) (bits w xs) (length-digits w x)) (digits_at w k xs (omega (arith, h)))
@@ -90,14 +86,8 @@ bits_of_fields : (c : ℕ) (all : List ℕ) (s n : ℕ) → c * (s + n) ≤ leng
 unfolding bits
 bits_of_fields c all s zero h d = let none : c * 0 ≡ 0 = omega arith in rw none refl
 bits_of_fields c all s (suc n) h d =
-    let here : integer_to_bits c (field_at c all s) ≡ take c (drop (c * s) all) =
-    digits_of_integer c (take c (drop (c * s) all)) (simp (length-take, length-drop) (omega (arith, h))) (All-take (λ (x : ℕ). x < 2) c (drop (c * s) all) (All-drop (λ (x : ℕ). x < 2) (c * s) all d)) in
     let rest = bits_of_fields c all (s + 1) n (omega (arith, h)) d in
-    let later : c * (s + 1) ≡ c * s + c = omega arith in
-    let count : c * suc n ≡ c + c * n = omega arith in
-    let cut : take (c * suc n) (drop (c * s) all) ≡ take c (drop (c * s) all) ++ take (c * n) (drop (c * (s + 1)) all) =
-    ap (λ k. take k (drop (c * s) all)) count ∙ take-add c (c * n) (drop (c * s) all) ∙ ap (λ l. take c (drop (c * s) all) ++ take (c * n) l) (drop-drop c (c * s) all ∙ ap (λ k. drop k all) (sym later)) in
-    ap (λ l. l ++ bits c (map (field_at c all) (range_with_len (s + 1) n))) here ∙ ap (λ l. take c (drop (c * s) all) ++ l) rest ∙ sym cut
+    grind (arith, ints, common_steps, rest, digits_of_integer, length-take, length-drop, All-take, All-drop, take-add, drop-drop)
 
 pub is_packed : (c : ℕ) (bytes fields : List ℕ) → Packs c bytes fields → bytes ≡ bits_to_bytes (bits c fields)
 is_packed c bytes fields p = sym (bytes_of_bits bytes p.small_bytes) ∙ ap bits_to_bytes p.same_bits
@@ -110,14 +100,11 @@ pub integer_small : (w : ℕ) (digits : List ℕ) → length digits ≤ w → Al
 integer_small w [] h d = rw integer-nil (pow_pos w)
 integer_small zero (x ∷ xs) h d = absurd (omega (arith, h))
 integer_small (suc w) (x ∷ xs) h d =
-    let here = All-head (λ (y : ℕ). y < 2) x xs d in
     let rest = integer_small w xs (omega (arith, h)) (All-tail (λ (y : ℕ). y < 2) x xs d) in
-    rw integer-cons (omega (arith, here, rest, pow-succ' 2 w))
+    grind (arith, ints, common_steps, rest, All-head, integer-cons, pow-succ')
 
 pub field_small : (c : ℕ) (all : List ℕ) (i : ℕ) → All (λ digit. digit < 2) all → field_at c all i < 2 ^ c
-field_small c all i d =
-    let short : length (take c (drop (c * i) all)) ≤ c = simp length-take (omega arith) in
-    integer_small c (take c (drop (c * i) all)) short (All-take (λ (x : ℕ). x < 2) c (drop (c * i) all) (All-drop (λ (x : ℕ). x < 2) (c * i) all d))
+field_small c all i d = grind (arith, ints, common_steps, length-take, integer_small, All-take, All-drop)
 
 pub length-packed : (c n : ℕ) (fields : List ℕ) → c * length fields ≡ 8 * n → length (bits_to_bytes (bits c fields)) ≡ n
 length-packed c n fields e =
@@ -144,11 +131,7 @@ packs_none c = record { same_bits = refl; small_bytes = All-nil (λ (byte : ℕ)
 
 pub packs_joined : (c : ℕ) (bytes more fields others : List ℕ) → Packs c bytes fields → Packs c more others → Packs c (bytes ++ more) (fields ++ others)
 unfolding bits
-packs_joined c bytes more fields others p q = record {
-  same_bits = rw (flat_map-append (integer_to_bits 8) bytes more, flat_map-append (integer_to_bits c) fields others, p.same_bits, q.same_bits) refl;
-  small_bytes = All-append (λ (byte : ℕ). byte < 256) bytes more p.small_bytes q.small_bytes;
-  small_fields = All-append (λ (f : ℕ). f < 2 ^ c) fields others p.small_fields q.small_fields;
-}
+packs_joined c bytes more fields others p q = grind (arith, ints, common_steps, flat_map-append, All-append)
 
 pub same_fields : (c : ℕ) (bytes fields others : List ℕ) → length fields ≡ length others → Packs c bytes fields → Packs c bytes others → fields ≡ others
 same_fields c bytes fields others n p q = same_numbers c fields others n p.small_fields q.small_fields (sym p.same_bits ∙ q.same_bits)
@@ -170,9 +153,8 @@ eighths c = omega arith
 coefficients_again : (a b : ℤ) (w : List ℤ) → All (λ x. coefficient a b (field a b x) ≡ x) w → map (coefficient a b) (map (field a b) w) ≡ w
 coefficients_again a b [] h = refl
 coefficients_again a b (x ∷ w) h =
-    let head = All-head (λ (y : ℤ). coefficient a b (field a b y) ≡ y) x w h in
     let tail = coefficients_again a b w (All-tail (λ (y : ℤ). coefficient a b (field a b y) ≡ y) x w h) in
-    cc
+    grind (arith, ints, common_steps, tail, All-head)
 
 in_range_again : (a b : ℤ) (w : List ℤ) → Bounds a b → PolynomialInRange (pos 0 -ℤ a) b w → All (λ x. coefficient a b (field a b x) ≡ x) w
 in_range_again a b w bounds range =
@@ -214,9 +196,7 @@ same_polynomial a b v w bounds p q n m e =
 -- The polynomial that bytes hold is the one that they unpack to.
 
 field_at-packs : (c : ℕ) (bytes fields : List ℕ) (n : ℕ) → Packs c bytes fields → n < length fields → field_at c (bits 8 bytes) n ≡ get_or fields n 0
-field_at-packs c bytes fields n p h =
-    ap (λ l. bits_to_integer (take c (drop (c * n) l))) p.same_bits ∙ ap bits_to_integer (digits_at c n fields h)
-    ∙ integer_of_digits c (get_or fields n 0) (All-get_or (λ (f : ℕ). f < 2 ^ c) fields n 0 h p.small_fields)
+field_at-packs c bytes fields n p h = grind (arith, ints, common_steps, digits_at, integer_of_digits, All-get_or)
 
 unpacked-unpacks : (a b : ℕ) (bytes : List ℕ) (w : R) → Unpacks (pos a) (pos b) bytes w.0 → unpacked a b bytes ≡ w
 unfolding unpacked coefficient
@@ -260,10 +240,7 @@ unpacks-unpacked a b bytes room small =
 
 -- the same with the bounds as integers
 pub is_unpacked : (a b : ℤ) (bytes : List ℕ) (w : R) → Bounds a b → Unpacks a b bytes w.0 → w ≡ unpacked (nat_abs a) (nat_abs b) bytes
-is_unpacked a b bytes w bounds u =
-    let p : a ≡ pos (nat_abs a) = omega (arith, ints, bounds) in
-    let q : b ≡ pos (nat_abs b) = omega (arith, ints, bounds) in
-    sym (unpacked-unpacks (nat_abs a) (nat_abs b) bytes w (subst (λ m. Unpacks (pos (nat_abs a)) m bytes w.0) q (subst (λ m. Unpacks m b bytes w.0) p u)))
+is_unpacked a b bytes w bounds u = grind (arith, ints, common_steps, unpacked-unpacks)
 
 pub unpacks : (a b : ℤ) (bytes : List ℕ) (w : R) → Bounds a b → length bytes ≡ 32 * width a b → All (λ byte. byte < 256) bytes → w ≡ unpacked (nat_abs a) (nat_abs b) bytes → Unpacks a b bytes w.0
 unpacks a b bytes w bounds room small e =

@@ -1,18 +1,24 @@
 -- What is given by its transforms: the plain polynomials, and what steps over the transforms make of them.
 use Rattle.std.proofs.Common.{◌≡◌, ℕ, ◌<◌, ◌≤◌, ◌+◌, ◌*◌, ◌%◌, ◌^◌, ℤ, pos, List, [], get_or, arith, ap, sym, refl, ◌∙◌}
-use Rattle.fips204_base.specs.Network.{plain_row, plain_matrix, inverse_root, row_product, AreSameModQ}
+use Rattle.fips204_base.proofs.Roots.{inverse_root}
 use Rattle.fips204_base.specs.Bounds.{vector_residues, coefficient_of}
 use Rattle.fips204_base.specs.Residues.{residue, coefficients, IsCongruent}
 use Rattle.fips204_base.specs.Transforms.{transform, inverse_transform, pointwise, product, minus}
 use Rattle.fips204_base.specs.Lanes.{lane}
 use Rattle.fips204_base.specs.Vectors.{vector_coefficients, matrix_product}
-use Rattle.fips204_base.specs.PlainTransforms.{lane_values, plain_vector, factor_values, plain_factor, lanes_value, from_mont}
+use Rattle.fips204_base.specs.PlainTransforms.{lane_values, plain_vector, factor_values, plain_factor, lanes_value, from_mont, plain_row, row_product, AreSameModQ}
 use Rattle.fips204_base.specs.declared.types.R.{R}
 use Rattle.fips204_base.specs.declared.types.T.{T}
 use Rattle.fips204_base.proofs.Residues.{congruent_of, congruent_sym, congruent_trans, congruent_mod, congruent_refl, congruent_add, congruent_mul, congruent_equal, congruent_equal_mod, residue_below, sum_equal, sum_below-times}
 use Rattle.fips204_base.proofs.Transforms.{inverse_of_transform, transform_of_inverse}
 use Rattle.fips204_base.proofs.Products.{transform_same, transform_below, transform_of_minus, inverse_same, inverse_below, product_same, product_of_products, row_of_products, row_below}
 use Rattle.fips204_base.proofs.Vectors.{vector_of-entry, polynomial_of-at}
+use Rattle.std.proofs.lemmas.Int.{ints}
+use Rattle.std.proofs.lemmas.Grind.{common_steps}
+
+-- the plain matrix of a matrix of transforms, by row, column and place
+abbrev pub plain_matrix : List (List T) → ℕ → ℕ → ℕ → ℕ
+plain_matrix a i = plain_row (get_or a i [])
 
 -- ---- the inverse transform
 inverse_reduced : (v : ℕ → ℕ) (j : ℕ) → inverse_transform v j % 8380417 ≡ inverse_transform v j
@@ -126,7 +132,4 @@ multiple-same c d v w k r n e f h l =
 pub matrix-same : (k : ℕ) (a : List (List T)) (v w : List R) (r n : ℕ) → AreSameModQ k v w → n < 256
     → matrix_product k a (vector_coefficients v) r n ≡ matrix_product k a (vector_coefficients w) r n
 unfolding matrix_product
-matrix-same k a v w r n f l =
-    let m = plain_matrix a r in
-    ap (λ (x : ℕ). x % 8380417) (sum_equal k (λ j. product (m j) (vector_coefficients v j) n) (λ j. product (m j) (vector_coefficients w j) n) (λ j h.
-    product_same (m j) (vector_coefficients v j) (m j) (vector_coefficients w j) (λ i p. congruent_refl (m j i)) (λ i p. congruent_of (f j i h p)) n l))
+matrix-same k a v w r n f l = grind (arith, ints, common_steps, sum_equal, product_same, congruent_refl, congruent_of)

@@ -1,15 +1,20 @@
 -- The transform of a product is the product of the transforms, and the laws of the ring follow.
 use Rattle.std.proofs.Common.{◌≡◌, ℕ, ◌<◌, ◌%◌, ◌≤◌, ◌+◌, ◌*◌, ◌^◌, ◌-◌, arith, ap, sym, ◌∙◌}
+use Rattle.std.specs.Prelude.{nat_lt, if◌then◌else◌}
 use Rattle.std.proofs.lemmas.Nat.{pow-add}
 use Rattle.std.proofs.lemmas.Bool.{lt-ltb, le-ltb}
 use Rattle.fips204_base.specs.Residues.{sum_below, IsCongruent}
 use Rattle.fips204_base.specs.Transforms.{transform, inverse_transform, product, plus, minus, pointwise, InverseOfTransform}
-use Rattle.fips204_base.specs.Network.{root, inverse_root, shifted, row_product}
+use Rattle.fips204_base.specs.PlainTransforms.{row_product}
 use Rattle.fips204_base.proofs.Residues.{congruent_refl, congruent_of, congruent_sym, congruent_trans, congruent_mod, congruent_add, congruent_mul, sum_same, sum_equal, sum_below-swap, sum_below-plus, sum_below-times, sum_below-times_right, congruent_equal_mod, congruent_equal, sum_add}
-use Rattle.fips204_base.proofs.Roots.{root_turn}
+use Rattle.fips204_base.proofs.Roots.{root, inverse_root, root_turn}
 use Rattle.fips204_base.proofs.Transforms.{value_at, transform_value, inverse_of_transform, transform_of_inverse}
+use Rattle.std.proofs.lemmas.Int.{ints}
+use Rattle.std.proofs.lemmas.Grind.{common_steps}
 
--- The transform of a product is the product of the transforms, and the laws of the product follow.
+-- coefficient n of X^i b, where X^256 is minus one
+unfoldable pub shifted : (ℕ → ℕ) → ℕ → ℕ → ℕ
+shifted b i n = if nat_lt n i then 8380416 * b (256 + n - i) else b (n - i)
 
 shifted-low : (b : ℕ → ℕ) (i n : ℕ) → n < i → shifted b i n ≡ 8380416 * b (256 + n - i)
 unfolding shifted
@@ -134,9 +139,7 @@ product_of_transforms a b n p =
 
 -- ---- the ring laws
 pub product_same : (a b c d : ℕ → ℕ) → ((j : ℕ) → j < 256 → IsCongruent (a j) (c j)) → ((j : ℕ) → j < 256 → IsCongruent (b j) (d j)) → (n : ℕ) → n < 256 → product a b n ≡ product c d n
-product_same a b c d e f = by_transforms_exactly a b c d (λ i p.
-    congruent_trans (transform_of_product a b i p)
-    (congruent_trans (congruent_mul (congruent_of (transform_same a c e i)) (congruent_of (transform_same b d f i))) (congruent_sym (transform_of_product c d i p))))
+product_same a b c d e f = grind (arith, ints, common_steps, by_transforms_exactly, congruent_trans, transform_of_product, congruent_mul, congruent_of, transform_same, congruent_sym)
 
 pub transform_of_plus : (a b : ℕ → ℕ) (i : ℕ) → IsCongruent (transform (plus a b) i) (transform a i + transform b i)
 transform_of_plus a b i =
@@ -219,9 +222,7 @@ row_of_sum l a s t n p =
 
 row_same : (l : ℕ) (p : ℕ → ℕ) (v t s : ℕ → ℕ → ℕ) → ((j : ℕ) → j < 256 → p j ≡ sum_below l (λ k. v k j * t k j) % 8380417) →
     ((k : ℕ) → k < l → (j : ℕ) → j < 256 → t k j ≡ transform (s k) j) → (j : ℕ) → j < 256 → IsCongruent (p j) (sum_below l (λ k. v k j * transform (s k) j))
-row_same l p v t s h g j q =
-    congruent_trans (congruent_of (h j q)) (congruent_trans (congruent_mod (sum_below l (λ k. v k j * t k j)))
-    (congruent_of (sum_equal l (λ k. v k j * t k j) (λ k. v k j * transform (s k) j) (λ k r. ap (λ x. v k j * x) (g k r j q)))))
+row_same l p v t s h g j q = grind (arith, ints, common_steps, congruent_trans, congruent_of, congruent_mod, sum_equal)
 
 products_same : (p x y a b : ℕ → ℕ) → ((j : ℕ) → j < 256 → p j ≡ pointwise x y j) → ((j : ℕ) → j < 256 → x j ≡ transform a j) → ((j : ℕ) → j < 256 → y j ≡ transform b j) →
     (j : ℕ) → j < 256 → IsCongruent (p j) (pointwise (transform a) (transform b) j)
@@ -256,7 +257,4 @@ product_of_products p x y a b h f g n q =
 
 -- ---- the same for whole lists
 pub inverse_of_transforms : InverseOfTransform
-inverse_of_transforms w n p = (
-  sym (inverse_residue (transform w) n (w n) (congruent_sym (inverse_of_transform w n p))),
-  sym (transform_residue (inverse_transform w) n (w n) (congruent_sym (transform_of_inverse w n p))),
-)
+inverse_of_transforms w n p = grind (arith, ints, common_steps, inverse_residue, congruent_sym, inverse_of_transform, transform_residue, transform_of_inverse)

@@ -4,8 +4,15 @@ use Rattle.std.proofs.lemmas.Bool.{eqb-true}
 use native.Mathlib.Decide.{dec_lt}
 use Rattle.fips204_base.specs.Residues.{IsCongruent, sum_below}
 use Rattle.fips204_base.specs.Transforms.{bit_reversed, zeta_at}
-use Rattle.fips204_base.specs.Network.{root, inverse_root}
 use Rattle.fips204_base.proofs.Residues.{congruent_of, congruent_sym, congruent_trans, congruent_mod, congruent_pow, sum_same, sum_powers}
+
+-- the point at which value i of a transform is taken
+unfoldable pub root : ℕ → ℕ
+root i = 1753 ^ (2 * bit_reversed i + 1) % 8380417
+
+-- the inverse of that point; 1753^512 is 1 modulo q
+unfoldable pub inverse_root : ℕ → ℕ
+inverse_root i = 1753 ^ (512 - (2 * bit_reversed i + 1)) % 8380417
 
 -- Facts of every number below a bound, shown by a test that computes each of them.
 

@@ -3,10 +3,14 @@ use Rattle.std.proofs.Common.{◌≡◌, ◌≢◌, ℕ, ◌<◌, ◌≤◌, ◌
 use Rattle.std.proofs.lemmas.Int.{ints}
 use Rattle.std.proofs.lemmas.Nat.{div-mul-add, mod-mul-add, div-add-mod', mod_below}
 use Rattle.std.proofs.lemmas.Bool.{cases_lt, le-leb, lt-leb, eq-eqb, ne_eqb, cases_eq}
-use Rattle.fips204_base.specs.Network.{nearest_multiple}
 use Rattle.fips204_base.specs.Residues.{centred_modulo}
 use Rattle.fips204_base.specs.Rounding.{power2round, decompose, high_bits, low_bits, high_count, use_hint}
 use Rattle.std.specs.Prelude.{◌⊎◌, ◌<ℤ◌, ◌≤ℤ◌, int_lt}
+use Rattle.std.proofs.lemmas.Grind.{common_steps}
+
+-- r - r0, where r0 is r centred modulo 2 gamma2: the multiple of 2 gamma2 that is nearest to r
+abbrev pub nearest_multiple : ℕ → ℕ → ℕ
+nearest_multiple gamma2 r = nat_abs (pos r -ℤ centred_modulo (2 * gamma2) r)
 
 -- the two reciprocals: 1488 * 11275 is 2^24 - 16, and 4092 * 1025 is 2^22 - 4
 pub reciprocal_95232 : (r : ℕ) → r < 8380417 → ((r + 127) / 128 * 11275 + 8388608) / 16777216 ≡ (r + 95231) / 190464
@@ -20,14 +24,10 @@ half g = omega arith
 
 -- a number that is at most g above a multiple, or less than g below it
 rounds_down : (g a s : ℕ) → 0 < g → s ≤ g → (a * (2 * g) + s + g - 1) / (2 * g) ≡ a
-rounds_down g a s p h =
-    let e : a * (2 * g) + s + g - 1 ≡ a * (2 * g) + (s + g - 1) = omega arith in
-    rw e (div-mul-add a (2 * g) (s + g - 1) (omega arith))
+rounds_down g a s p h = grind (arith, ints, common_steps, div-mul-add)
 
 rounds_up : (g a s : ℕ) → g < s → s < 2 * g → (a * (2 * g) + s + g - 1) / (2 * g) ≡ a + 1
-rounds_up g a s p h =
-    let e : a * (2 * g) + s + g - 1 ≡ (a + 1) * (2 * g) + (s - g - 1) = omega arith in
-    rw e (div-mul-add (a + 1) (2 * g) (s - g - 1) (omega arith))
+rounds_up g a s p h = grind (arith, ints, common_steps, div-mul-add)
 
 -- what is left of r is centred
 pub centred_modulo-is : (g r : ℕ) → 0 < g → centred_modulo (2 * g) r ≡ pos r -ℤ pos ((r + g - 1) / (2 * g) * (2 * g))
@@ -48,9 +48,7 @@ nearest_multiple-is : (g r : ℕ) → 0 < g → nearest_multiple g r ≡ (r + g 
 nearest_multiple-is g r p = rw (centred_modulo-is g r p) (omega (arith, ints))
 
 quotient-times : (k g : ℕ) → 0 < g → k * (2 * g) / (2 * g) ≡ k
-quotient-times k g p =
-    let e : k * (2 * g) ≡ k * (2 * g) + 0 = omega arith in
-    rw e (div-mul-add k (2 * g) 0 (omega arith))
+quotient-times k g p = grind (arith, ints, common_steps, div-mul-add)
 
 -- Decompose, where k is the nearest quotient: at the edge, where the multiple is q - 1, and elsewhere
 decompose_edge : (g r k : ℕ) → 0 < g → k ≡ (r + g - 1) / (2 * g) → k * (2 * g) ≡ 8380416 → decompose g r ≡ (0, pos r -ℤ pos (k * (2 * g)) -ℤ pos 1)
@@ -124,10 +122,7 @@ pub ruleset hinted = (use_hint-none, use_hint-up, use_hint-up_round, use_hint-do
 
 -- the nearest quotient: r is at most g above its multiple, and less than g below it
 nearest : (g r k : ℕ) → 0 < g → k ≡ (r + g - 1) / (2 * g) → (k * (2 * g) < r + g) × (r ≤ k * (2 * g) + g)
-nearest g r k p is =
-    let parts : (r + g - 1) / (2 * g) * (2 * g) + (r + g - 1) % (2 * g) ≡ r + g - 1 = div-add-mod' (r + g - 1) (2 * g) in
-    let below : (r + g - 1) % (2 * g) < 2 * g = mod_below (r + g - 1) (2 * g) (omega arith) in
-    rw is (omega arith, omega arith)
+nearest g r k p is = grind (arith, ints, common_steps, div-add-mod', mod_below)
 
 -- where r stands: within g below q, with high bits 0; or near the multiple of its high bits
 pub record IsLast (g r : ℕ) : Type 0 where
@@ -161,10 +156,7 @@ decompose_sides g r p =
 
 -- low bits are at most g in absolute value
 pub low_bits_near : (g r : ℕ) → 0 < g → r < 8380417 → nat_abs (low_bits g r) ≤ g
-low_bits_near g r p h = elim (decompose_sides g r p) [
-  | inl last ↦ rw last.low (omega (arith, ints, last.near))
-  | inr near ↦ rw near.low (omega (arith, ints, near.above, near.below))
-]
+low_bits_near g r p h = grind (arith, ints, common_steps, decompose_sides, above)
 
 -- Power2Round: r1 is at most 1023, r0 is from -4095 to 4096, and they give r back
 pub power2round_high : (r : ℕ) → r < 8380417 → (power2round r).0 ≤ 1023

@@ -1,5 +1,5 @@
 -- Laws of high bits and hints: UseHint at what MakeHint gives, how far UseHint leaves a residue, and sums that keep high bits.
-use Rattle.std.proofs.Common.{◌≡◌, ◌≢◌, ℕ, ◌<◌, ◌≤◌, ◌+◌, ◌-◌, ◌*◌, ◌%◌, pos, negsuc, ◌-ℤ◌, nat_abs, true, false, arith, refl, inl, inr, ap, subst}
+use Rattle.std.proofs.Common.{◌≡◌, ◌≢◌, ℕ, ◌<◌, ◌≤◌, ◌+◌, ◌-◌, ◌*◌, ◌%◌, pos, ◌-ℤ◌, nat_abs, true, false, arith, refl, inl, inr, ap, subst}
 use Rattle.std.specs.Prelude.{Bool, ◌⊎◌, ◌<ℤ◌, ◌≤ℤ◌}
 use Rattle.std.proofs.lemmas.Int.{ints, by_lt_z}
 use Rattle.std.proofs.lemmas.Nat.{mod_below}
@@ -9,6 +9,7 @@ use Rattle.fips204_base.specs.Rounding.{IsGamma2, high_bits, low_bits, high_coun
 use Rattle.fips204_base.proofs.Reductions.{centred-modulo, centred_is}
 use Rattle.fips204_base.proofs.Residues.{residue_below}
 use Rattle.fips204_base.proofs.Rounding.{decompose_sides, high_bits_below, above, not_above}
+use Rattle.std.proofs.lemmas.Grind.{common_steps}
 
 -- gamma2 at the parameter sets, as a natural number
 abbrev pub IsGamma : ℕ → Type 0
@@ -25,52 +26,23 @@ IsNearZero n z = (z ≤ n) ⊎ (8380417 ≤ z + n)
 -- where r + z has other high bits than r, they are one further on, round the end, or one further back
 high_bits-up : (g : ℕ) → IsGamma g → (r z : ℕ) → r < 8380417 → z < 8380417 → IsNearZero g z → pos 0 <ℤ low_bits g r
     → high_bits g r ≢ high_bits g ((r + z) % 8380417) → (high_bits g r + 1) % high_count g ≡ high_bits g ((r + z) % 8380417)
-high_bits-up g (inl is) = rw is (λ r z below small near low differs.
-    let s = (r + z) % 8380417 in
-    let r_fits = high_bits_below 95232 r (inl refl) below in
-    let s_fits = high_bits_below 95232 s (inl refl) (omega arith) in
-    omega (arith, ints, decompose_sides 95232 r (omega arith), decompose_sides 95232 s (omega arith)))
-high_bits-up g (inr is) = rw is (λ r z below small near low differs.
-    let s = (r + z) % 8380417 in
-    let r_fits = high_bits_below 261888 r (inr refl) below in
-    let s_fits = high_bits_below 261888 s (inr refl) (omega arith) in
-    omega (arith, ints, decompose_sides 261888 r (omega arith), decompose_sides 261888 s (omega arith)))
+high_bits-up g (inl is) = grind (arith, ints, common_steps, high_bits_below, decompose_sides)
+high_bits-up g (inr is) = grind (arith, ints, common_steps, high_bits_below, decompose_sides)
 
 high_bits-down : (g : ℕ) → IsGamma g → (r z : ℕ) → r < 8380417 → z < 8380417 → IsNearZero g z → low_bits g r ≤ℤ pos 0
     → high_bits g r ≢ high_bits g ((r + z) % 8380417)
     → (high_bits g r + (high_count g - 1)) % high_count g ≡ high_bits g ((r + z) % 8380417)
-high_bits-down g (inl is) = rw is (λ r z below small near low differs.
-    let s = (r + z) % 8380417 in
-    let r_fits = high_bits_below 95232 r (inl refl) below in
-    let s_fits = high_bits_below 95232 s (inl refl) (omega arith) in
-    omega (arith, ints, decompose_sides 95232 r (omega arith), decompose_sides 95232 s (omega arith)))
-high_bits-down g (inr is) = rw is (λ r z below small near low differs.
-    let s = (r + z) % 8380417 in
-    let r_fits = high_bits_below 261888 r (inr refl) below in
-    let s_fits = high_bits_below 261888 s (inr refl) (omega arith) in
-    omega (arith, ints, decompose_sides 261888 r (omega arith), decompose_sides 261888 s (omega arith)))
+high_bits-down g (inl is) = grind (arith, ints, common_steps, high_bits_below, decompose_sides)
+high_bits-down g (inr is) = grind (arith, ints, common_steps, high_bits_below, decompose_sides)
 
 -- a residue whose centred value is at most g in absolute value
 near_zero : (g z : ℕ) → z < 8380417 → nat_abs (centred (pos z)) ≤ g → IsNearZero g z
-near_zero g z small near = elim (cases_lt 4190208 (z % 8380417)) [
-  | inl far ↦
-      let e = rw (centred_is (pos z), lt-leb (z % 8380417) 4190208 far) at near in
-      inr (omega (arith, ints, e))
-  | inr least ↦
-      let e = rw (centred_is (pos z), le-leb (z % 8380417) 4190208 least) at near in
-      inl (omega (arith, ints, e))
-]
+near_zero g z small near = grind (arith, ints, common_steps, cases_lt, centred_is, lt-leb, le-leb)
 
 hint_moves : (g z r : ℕ) → IsGamma g → r < 8380417 → z < 8380417 → IsNearZero g z
     → use_hint g (make_hint g z r) r ≡ high_bits g ((r + z) % 8380417)
 unfolding use_hint
-hint_moves g z r set below small near = elim (cases_eq (high_bits g r) (high_bits g ((r + z) % 8380417))) [
-  | inl same ↦ rw (eq-eqb (high_bits g r) (high_bits g ((r + z) % 8380417)) same) same
-  | inr differs ↦ rw (ne_eqb (high_bits g r) (high_bits g ((r + z) % 8380417)) differs)
-      (by_lt_z (pos 0) (low_bits g r)
-      (λ up. rw (above (low_bits g r) up) (high_bits-up g set r z below small near up differs))
-      (λ down. rw (not_above (low_bits g r) down) (high_bits-down g set r z below small near down differs)))
-]
+hint_moves g z r set below small near = grind (arith, ints, common_steps, cases_eq, eq-eqb, ne_eqb, by_lt_z, above, high_bits-up, not_above, high_bits-down)
 
 pub use_hint_of_make_hint : (g z r : ℕ) → IsGamma g → r < 8380417 → z < 8380417 → nat_abs (centred (pos z)) ≤ g
     → use_hint g (make_hint g z r) r ≡ high_bits g ((r + z) % 8380417)
@@ -78,48 +50,26 @@ use_hint_of_make_hint g z r set below small near = hint_moves g z r set below sm
 
 -- a number at most n from 0 or from q has a centred value of at most n
 size_near : (x n : ℕ) → x < 8380417 → n ≤ 4190208 → (n < x → 8380417 ≤ x + n) → nat_abs (centred_modulo 8380417 x) ≤ n
-size_near x n small few near = elim (cases_lt n x) [
-  | inl far ↦ let high = near far in rw (lt-leb (x % 8380417) 4190208 (omega (arith, high))) (omega (arith, ints, high))
-  | inr least ↦ rw (le-leb (x % 8380417) 4190208 (omega arith)) (omega (arith, ints))
-]
+size_near x n small few near = grind (arith, ints, common_steps, cases_lt, lt-leb, le-leb)
 
 difference : (a b : ℕ) → a < 8380417 → b < 8380417 → (residue (pos a -ℤ pos b) + b ≡ a) ⊎ (residue (pos a -ℤ pos b) + b ≡ a + 8380417)
-difference a b p q = elim (cases_lt a b) [
-  | inl less ↦
-      let e : pos a -ℤ pos b ≡ negsuc (b - a - 1) = omega (arith, ints) in
-      rw e (inr (omega arith))
-  | inr least ↦
-      let e : pos a -ℤ pos b ≡ pos (a - b) = omega (arith, ints) in
-      rw e (inl (omega arith))
-]
+difference a b p q = grind (arith, ints, common_steps, cases_lt)
 
 far_none : (g : ℕ) → IsGamma g → (r u x : ℕ) → r < 8380417 → u ≡ high_bits g r
     → (x + u * (2 * g) ≡ r) ⊎ (x + u * (2 * g) ≡ r + 8380417) → x < 8380417 → g < x → 8380417 ≤ x + g
-far_none g (inl is) = rw is (λ r u x below moved where_x small far.
-    let fits = high_bits_below 95232 r (inl refl) below in
-    omega (arith, ints, decompose_sides 95232 r (omega arith)))
-far_none g (inr is) = rw is (λ r u x below moved where_x small far.
-    let fits = high_bits_below 261888 r (inr refl) below in
-    omega (arith, ints, decompose_sides 261888 r (omega arith)))
+far_none g (inl is) = grind (arith, ints, common_steps, high_bits_below, decompose_sides)
+far_none g (inr is) = grind (arith, ints, common_steps, high_bits_below, decompose_sides)
 
 far_up : (g : ℕ) → IsGamma g → (r u x : ℕ) → r < 8380417 → pos 0 <ℤ low_bits g r → u ≡ (high_bits g r + 1) % high_count g
     → (x + u * (2 * g) ≡ r) ⊎ (x + u * (2 * g) ≡ r + 8380417) → x < 8380417 → 2 * g + 1 < x → 8380417 ≤ x + (2 * g + 1)
-far_up g (inl is) = rw is (λ r u x below low moved where_x small far.
-    let fits = high_bits_below 95232 r (inl refl) below in
-    omega (arith, ints, decompose_sides 95232 r (omega arith)))
-far_up g (inr is) = rw is (λ r u x below low moved where_x small far.
-    let fits = high_bits_below 261888 r (inr refl) below in
-    omega (arith, ints, decompose_sides 261888 r (omega arith)))
+far_up g (inl is) = grind (arith, ints, common_steps, high_bits_below, decompose_sides)
+far_up g (inr is) = grind (arith, ints, common_steps, high_bits_below, decompose_sides)
 
 far_down : (g : ℕ) → IsGamma g → (r u x : ℕ) → r < 8380417 → low_bits g r ≤ℤ pos 0
     → u ≡ (high_bits g r + (high_count g - 1)) % high_count g
     → (x + u * (2 * g) ≡ r) ⊎ (x + u * (2 * g) ≡ r + 8380417) → x < 8380417 → 2 * g + 1 < x → 8380417 ≤ x + (2 * g + 1)
-far_down g (inl is) = rw is (λ r u x below low moved where_x small far.
-    let fits = high_bits_below 95232 r (inl refl) below in
-    omega (arith, ints, decompose_sides 95232 r (omega arith)))
-far_down g (inr is) = rw is (λ r u x below low moved where_x small far.
-    let fits = high_bits_below 261888 r (inr refl) below in
-    omega (arith, ints, decompose_sides 261888 r (omega arith)))
+far_down g (inl is) = grind (arith, ints, common_steps, high_bits_below, decompose_sides)
+far_down g (inr is) = grind (arith, ints, common_steps, high_bits_below, decompose_sides)
 
 use_hint-moved_up : (g r : ℕ) → pos 0 <ℤ low_bits g r → use_hint g true r ≡ (high_bits g r + 1) % high_count g
 unfolding use_hint
@@ -137,18 +87,14 @@ use_hint-unmoved g r = refl
 moved_few : (g r : ℕ) (hint : Bool) → 0 < high_count g → high_bits g r < high_count g → use_hint g hint r < high_count g
 unfolding use_hint
 moved_few g r false some few = few
-moved_few g r true some few = by_lt_z (pos 0) (low_bits g r)
-    (λ up. rw (above (low_bits g r) up) (mod_below (high_bits g r + 1) (high_count g) some))
-    (λ down. rw (not_above (low_bits g r) down) (mod_below (high_bits g r + (high_count g - 1)) (high_count g) some))
+moved_few g r true some few = grind (arith, ints, common_steps, by_lt_z, above, mod_below, not_above)
 
 times_below : (g : ℕ) → IsGamma g → (u : ℕ) → u < high_count g → u * (2 * g) < 8380417
 times_below g (inl is) = rw is (λ u few. omega (arith, few))
 times_below g (inr is) = rw is (λ u few. omega (arith, few))
 
 moved_below : (g r : ℕ) (hint : Bool) → IsGamma g → r < 8380417 → use_hint g hint r * (2 * g) < 8380417
-moved_below g r hint set below =
-    let few = high_bits_below g r set below in
-    times_below g set (use_hint g hint r) (moved_few g r hint (omega (arith, few)) few)
+moved_below g r hint set below = grind (arith, ints, common_steps, high_bits_below, times_below, moved_few)
 
 -- r less its high bits, moved by no hint, times 2 gamma2 is at most gamma2 in size, and moved by a hint at most 2 gamma2 + 1
 pub use_hint_distance_none : (g r : ℕ) → IsGamma g → r < 8380417
@@ -176,16 +122,8 @@ use_hint_distance_hint g r set below =
 
 high_bits-stay : (g : ℕ) → IsGamma g → (r s beta : ℕ) → r < 8380417 → s < 8380417 → IsNearZero beta s → nat_abs (low_bits g r) + beta < g
     → high_bits g ((r + s) % 8380417) ≡ high_bits g r
-high_bits-stay g (inl is) = rw is (λ r s beta below small near room.
-    let sum = (r + s) % 8380417 in
-    let r_fits = high_bits_below 95232 r (inl refl) below in
-    let sum_fits = high_bits_below 95232 sum (inl refl) (omega arith) in
-    omega (arith, ints, decompose_sides 95232 r (omega arith), decompose_sides 95232 sum (omega arith)))
-high_bits-stay g (inr is) = rw is (λ r s beta below small near room.
-    let sum = (r + s) % 8380417 in
-    let r_fits = high_bits_below 261888 r (inr refl) below in
-    let sum_fits = high_bits_below 261888 sum (inr refl) (omega arith) in
-    omega (arith, ints, decompose_sides 261888 r (omega arith), decompose_sides 261888 sum (omega arith)))
+high_bits-stay g (inl is) = grind (arith, ints, common_steps, high_bits_below, decompose_sides)
+high_bits-stay g (inr is) = grind (arith, ints, common_steps, high_bits_below, decompose_sides)
 
 -- a sum with a small number keeps the high bits, where the low bits leave it room
 pub high_bits_stay : (g r s beta : ℕ) → IsGamma g → r < 8380417 → s < 8380417 → nat_abs (centred (pos s)) ≤ beta

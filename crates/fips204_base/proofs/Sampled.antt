@@ -1,12 +1,11 @@
 -- What is sampled: vectors and matrices of values that are all there, and the ranges of small polynomials.
-use Rattle.std.proofs.Common.{◌≡◌, ℕ, ◌+◌, ◌<◌, List, [], ◌∷◌, ◌++◌, map, take, set, length, refl, ap, sym, ◌∙◌, Some, None, Ok, Err, ok_or, ◌≤ℤ◌, ◌*◌, ◌/◌, zero, suc, ℤ, pos, get_or, subst, arith, true, false, inl, inr, nat_lt, add-zero, ◌⊎◌, ◌-ℤ◌}
-use Rattle.std.specs.Prelude.{option_map, option_and_then, filter_map, IfSome, IfErr, if◌then◌else◌}
-use Rattle.std.specs.declared.result.Result.{Result}
+use Rattle.std.proofs.Common.{◌%◌, ◌≡◌, ℕ, ◌+◌, ◌<◌, List, [], ◌∷◌, ◌++◌, map, take, set, length, refl, ap, sym, ◌∙◌, Some, None, Ok, Err, ok_or, ◌≤ℤ◌, ◌*◌, ◌/◌, zero, suc, ℤ, pos, get_or, subst, arith, true, false, inl, inr, nat_lt, add-zero, ◌⊎◌, ◌-ℤ◌}
+use Rattle.std.specs.Prelude.{option_map, option_and_then, filter_map, IfSome, if◌then◌else◌}
 use Rattle.std.specs.declared.option.Option.{Option}
 use Rattle.std.specs.List.{range_with_len, All, cons_option}
 use Rattle.std.proofs.lemmas.List.{take_all, take_more_set, length-take-le}
 use Rattle.std.proofs.lemmas.List.FromFn.{map-range_with_len_more}
-use Rattle.fips204_base.specs.Network.{three_bytes, sampled_entry, sampled_row, triple, kept_triples, half_bytes, kept_half_bytes, small_vector}
+use Rattle.fips204_base.specs.SamplerSteps.{sampled_row, triple, kept_triples, half_bytes, kept_half_bytes, small_vector}
 use Rattle.fips204_base.specs.Bounds.{ValuesWithin, TransformsWithin, PolynomialInRange}
 use Rattle.fips204_base.specs.declared.fault.Fault.{Fault}
 use Rattle.fips204_base.specs.declared.fault.Fault.TheVariants.{SamplingLimit}
@@ -16,9 +15,14 @@ use Rattle.std.proofs.lemmas.Int.{ints}
 use Rattle.std.proofs.lemmas.Option.{none-some}
 use Rattle.std.proofs.lemmas.List.Elements.{All-nil, All-cons, All-take}
 use Rattle.fips204_base.specs.declared.types.T.{T}
-use Rattle.std.specs.Int.{w16, to_le_bytes}
+use Rattle.std.specs.Int.{to_le_bytes}
 use Rattle.fips204_base.specs.declared.types.R.{R}
 use Rattle.fips204_base.specs.Vectors.{MatrixWithin, IsVector}
+use Rattle.std.proofs.lemmas.Grind.{common_steps}
+
+-- the number of three bytes, the lowest first, without the top bit of the last
+abbrev pub three_bytes : ℕ → ℕ → ℕ → ℕ
+three_bytes b0 b1 b2 = b0 + 256 * b1 + 65536 * (b2 % 128)
 
 -- Lists of values that may be none, each made in turn.
 
@@ -162,10 +166,7 @@ first_kept P kept values all e = elim (cases_lt (length kept) 256) [
 -- ---- the matrix's entries are 256 residues
 
 residue_or_none : (n : ℕ) → IfSome (if nat_lt n 8380417 then Some (pos n) else None) (λ x. (pos 0 ≤ℤ x) × (x ≤ℤ pos 8380416))
-residue_or_none n = elim (cases_lt n 8380417) [
-  | inl below ↦ let test : nat_lt n 8380417 ≡ true = lt-ltb n 8380417 below in rw test (omega (arith, ints), omega (arith, ints, below))
-  | inr above ↦ let test : nat_lt n 8380417 ≡ false = le-ltb n 8380417 above in rw test tt
-]
+residue_or_none n = grind (arith, ints, common_steps, cases_lt, lt-ltb, le-ltb)
 
 triple_residue : (front : List ℕ) (p : ℕ) → IfSome (triple front p) (λ x. (pos 0 ≤ℤ x) × (x ≤ℤ pos 8380416))
 unfolding triple
@@ -185,39 +186,21 @@ matrix_entry-residues front t e =
 residues-within : (xs : List ℤ) → All (λ x. (pos 0 ≤ℤ x) × (x ≤ℤ pos 8380416)) xs → ValuesWithin 8380416 xs
 residues-within xs h i d l = let b = h i d l in omega (arith, ints, b)
 
--- where a row is none, the matrix is, and a caller answers by its fault
-pub matrix-refused : {A : Type 0} (G : List ℕ → List ℕ) (rho : List ℕ) (k l r : ℕ) {result : Result A Fault} → r < k → sampled_row G rho l r ≡ None
-    → result ≡ Err SamplingLimit → IfErr result (λ fault. (sampled_matrix G rho k l ≡ None) × (fault ≡ SamplingLimit))
-unfolding sampled_matrix
-matrix-refused G rho k l r h none refused = rw refused (all_present-none (sampled_row G rho l) 0 k r r h (omega arith) none, refl)
-
 -- a row that is sampled is below q
 pub row-within : (G : List ℕ → List ℕ) (rho : List ℕ) (l r : ℕ) (row : List T) → sampled_row G rho l r ≡ Some row → TransformsWithin 8380416 row
-row-within G rho l r row e s f m =
-    let values = all_present-at (sampled_entry G rho r) 0 l row e in
-    let column : s < l = omega (arith, m, values.0) in
-    let there : sampled_entry G rho r s ≡ Some (get_or row s f) = ap (sampled_entry G rho r) (sym (from_zero s)) ∙ values.1 s f column in
-    residues-within (get_or row s f).0 (matrix_entry-residues (G (rho ++ s ∷ r ∷ [])) (get_or row s f) there).1
+row-within G rho l r row e s f m = grind (arith, ints, common_steps, all_present-at, from_zero, residues-within, matrix_entry-residues)
 
 -- and so is a matrix
 pub matrix-within : (G : List ℕ → List ℕ) (rho : List ℕ) (k l : ℕ) (a : List (List T)) → sampled_matrix G rho k l ≡ Some a → MatrixWithin 8380416 a
 unfolding sampled_matrix
-matrix-within G rho k l a e r d h =
-    let rows = all_present-at (sampled_row G rho l) 0 k a e in
-    row-within G rho l r (get_or a r d) (ap (sampled_row G rho l) (sym (from_zero r)) ∙ rows.1 r d (omega (arith, h, rows.0)))
+matrix-within G rho k l a e r d h = grind (arith, ints, common_steps, all_present-at, row-within, from_zero)
 
 -- The range of small polynomials.
 
 -- a coefficient from a half byte is from -eta to eta
 small_or_none : (eta b : ℕ) → (eta ≡ 2) ⊎ (eta ≡ 4) → IfSome (coefficient_from_half_byte eta b) (λ x. ((pos 0 -ℤ pos eta) ≤ℤ x) × (x ≤ℤ pos eta))
-small_or_none eta b (inl e) = rw e (elim (cases_lt b 15) [
-  | inl l ↦ let t : nat_lt b 15 ≡ true = lt-ltb b 15 l in rw t (omega (arith, ints), omega (arith, ints))
-  | inr g ↦ let t : nat_lt b 15 ≡ false = le-ltb b 15 g in rw t tt
-])
-small_or_none eta b (inr e) = rw e (elim (cases_lt b 9) [
-  | inl l ↦ let t : nat_lt b 9 ≡ true = lt-ltb b 9 l in rw t (omega (arith, ints, l), omega (arith, ints))
-  | inr g ↦ let t : nat_lt b 9 ≡ false = le-ltb b 9 g in rw t tt
-])
+small_or_none eta b (inl e) = grind (arith, ints, common_steps, cases_lt, lt-ltb, le-ltb)
+small_or_none eta b (inr e) = grind (arith, ints, common_steps, cases_lt, lt-ltb, le-ltb)
 
 pub whole_polynomial : (kept : List ℤ) (o : Option (List ℤ)) (w : R) → first_256 kept ≡ o → option_map (λ values. let w : R = record { 0 = values } in w) o ≡ Some w → first_256 kept ≡ Some w.0
 whole_polynomial kept None w e m = absurd (none-some w m)
@@ -235,11 +218,7 @@ small_polynomial-range eta front w set e =
 
 pub small_vector-range : (eta : ℕ) (H : List ℕ → List ℕ) (rho : List ℕ) (first count : ℕ) (v : List R) → (eta ≡ 2) ⊎ (eta ≡ 4) → small_vector eta H rho first count ≡ Some v → IsVector count eta eta v
 unfolding small_vector
-small_vector-range eta H rho first count v set e =
-    let values = all_present-at (λ r. small_polynomial eta (H (rho ++ to_le_bytes w16 r))) first count v e in
-    let each : (k : ℕ) (d : R) → k < length v → (length (get_or v k d).0 ≡ 256) × PolynomialInRange (pos 0 -ℤ pos eta) (pos eta) (get_or v k d).0 =
-    λ k d l. small_polynomial-range eta (H (rho ++ to_le_bytes w16 (first + k))) (get_or v k d) set (values.1 k d (omega (arith, l, values.0))) in
-    record { rows = values.0; places = λ k d l. (each k d l).0; range = λ k d l. (each k d l).1 }
+small_vector-range eta H rho first count v set e = grind (arith, ints, common_steps, all_present-at, to_le_bytes, small_polynomial-range)
 
 -- ---- both small vectors
 

@@ -7,10 +7,11 @@ use Rattle.std.proofs.lemmas.List.Elements.{filter_map-append}
 use Rattle.std.proofs.lemmas.List.FromFn.{map-range_with_len_more}
 use Rattle.std.proofs.lemmas.Bool.{cases_lt, le-ltb, lt-ltb}
 use Rattle.fips204_base.specs.Sampling.{first_256, coefficient_from_half_byte, coefficient_from_three_bytes, small_polynomial, matrix_entry}
-use Rattle.fips204_base.specs.Network.{half_bytes, kept_half_bytes, triple, kept_triples}
+use Rattle.fips204_base.specs.SamplerSteps.{half_bytes, kept_half_bytes, triple, kept_triples}
 use Rattle.std.specs.Prelude.{option_to_list, slice_index}
-use Rattle.std.proofs.lemmas.Grind.{flat_map-append}
+use Rattle.std.proofs.lemmas.Grind.{flat_map-append, common_steps}
 use Rattle.std.proofs.Math.Seq.{take-add}
+use Rattle.std.proofs.lemmas.Int.{ints}
 
 -- What a sampler keeps: the places written so far, and the first 256 coefficients of all that were given.
 
@@ -142,28 +143,18 @@ two_kept : (f : ℕ → Option ℤ) (a b : ℕ) → filter_map f (a ∷ b ∷ []
 two_kept f a b = both (f a) (f b)
 
 given-append : (eta : ℕ) (xs ys : List ℕ) → filter_map (coefficient_from_half_byte eta) (half_bytes (xs ++ ys)) ≡ filter_map (coefficient_from_half_byte eta) (half_bytes xs) ++ filter_map (coefficient_from_half_byte eta) (half_bytes ys)
-given-append eta xs ys =
-    ap (filter_map (coefficient_from_half_byte eta)) (flat_map-append (λ byte. byte % 16 ∷ byte / 16 ∷ []) xs ys)
-    ∙ filter_map-append (coefficient_from_half_byte eta) (half_bytes xs) (half_bytes ys)
+given-append eta xs ys = grind (arith, ints, common_steps, flat_map-append, filter_map-append)
 
 -- one more byte
 pub kept_half_bytes-more : (eta : ℕ) (front : List ℕ) (n byte : ℕ) → n < length front → byte ≡ get_or front n 0
     → kept_half_bytes eta front (n + 1) ≡ (kept_half_bytes eta front n ++ option_to_list (coefficient_from_half_byte eta (byte % 16))) ++ option_to_list (coefficient_from_half_byte eta (byte / 16))
 unfolding kept_half_bytes
-kept_half_bytes-more eta front n byte l e =
-    let f = coefficient_from_half_byte eta in
-    let more : take (n + 1) front ≡ take n front ++ byte ∷ [] = take_more front n 0 l ∙ ap (λ b. take n front ++ b ∷ []) (sym e) in
-    ap (λ l. filter_map f (half_bytes l)) more ∙ given-append eta (take n front) (byte ∷ [])
-    ∙ ap (λ l. kept_half_bytes eta front n ++ l) (two_kept f (byte % 16) (byte / 16))
-    ∙ sym (append_assoc (kept_half_bytes eta front n) (option_to_list (f (byte % 16))) (option_to_list (f (byte / 16))))
+kept_half_bytes-more eta front n byte l e = grind (arith, ints, common_steps, take_more, given-append, two_kept, append_assoc)
 
 -- another piece
 pub kept_half_bytes-joined : (eta : ℕ) (front : List ℕ) (n m : ℕ) → kept_half_bytes eta front (n + m) ≡ kept_half_bytes eta front n ++ kept_half_bytes eta (take m (drop n front)) m
 unfolding kept_half_bytes
-kept_half_bytes-joined eta front n m =
-    let f = coefficient_from_half_byte eta in
-    ap (λ l. filter_map f (half_bytes l)) (take-add n m front) ∙ given-append eta (take n front) (take m (drop n front))
-    ∙ ap (λ l. kept_half_bytes eta front n ++ filter_map f (half_bytes l)) (sym (take-take m m (drop n front) (omega arith)))
+kept_half_bytes-joined eta front n m = grind (arith, ints, common_steps, take-add, given-append, take-take)
 
 -- what more bytes give comes behind
 pub kept_half_bytes-beyond : (eta : ℕ) (front : List ℕ) (n m : ℕ) → n ≤ m → (later : List ℤ) × (kept_half_bytes eta front m ≡ kept_half_bytes eta front n ++ later)
@@ -204,13 +195,7 @@ triple-at front p = refl
 -- triple p of a piece that begins at triple n
 triple-piece : (front : List ℕ) (n m p : ℕ) → p < m → triple front (n + p) ≡ triple (take (3 * m) (drop (3 * n) front)) p
 unfolding triple
-triple-piece front n m p h =
-    let at : (k i : ℕ) → k < 3 * m → i ≡ 3 * n + k → get_or (take (3 * m) (drop (3 * n) front)) k 0 ≡ get_or front i 0 =
-    λ k i l e. get_or-take (3 * m) (drop (3 * n) front) k 0 l ∙ get_or-drop (3 * n) front k 0 ∙ ap (λ i. get_or front i 0) (sym e) in
-    let a = at (3 * p) (3 * (n + p)) (omega arith) (omega arith) in
-    let b = at (3 * p + 1) (3 * (n + p) + 1) (omega arith) (omega arith) in
-    let c = at (3 * p + 2) (3 * (n + p) + 2) (omega arith) (omega arith) in
-    rw (a, b, c) refl
+triple-piece front n m p h = grind (arith, ints, common_steps, get_or-take, get_or-drop)
 
 pub kept_triples-joined : (front : List ℕ) (n m : ℕ) → kept_triples front (n + m) ≡ kept_triples front n ++ kept_triples (take (3 * m) (drop (3 * n) front)) m
 unfolding kept_triples

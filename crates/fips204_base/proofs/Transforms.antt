@@ -4,9 +4,8 @@ use Rattle.std.proofs.lemmas.Nat.{pow-add, mul-pow}
 use native.Mathlib.Decide.{dec_lt}
 use Rattle.fips204_base.specs.Residues.{sum_below, IsCongruent}
 use Rattle.fips204_base.specs.Transforms.{bit_reversed, transform, inverse_transform}
-use Rattle.fips204_base.specs.Network.{root, inverse_root}
+use Rattle.fips204_base.proofs.Roots.{root, inverse_root, root_inverse, sum_reversed, sum_turned, geometric, bit_reversed_below, bit_reversed_twice}
 use Rattle.fips204_base.proofs.Residues.{congruent_refl, congruent_of, congruent_trans, congruent_mod, congruent_mul, congruent_pow, sum_same, sum_equal, sum_below-times, sum_below-times_right, sum_weighed, pow_mul, one_pow}
-use Rattle.fips204_base.proofs.Roots.{root_inverse, sum_reversed, sum_turned, geometric, bit_reversed_below, bit_reversed_twice}
 
 -- ---- the sum over the roots of a power
 odd_power : (b d : ℕ) → IsCongruent ((1753 ^ (2 * b + 1) % 8380417) ^ d) (1753 ^ d * (1753 ^ (2 * d)) ^ b)

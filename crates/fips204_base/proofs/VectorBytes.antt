@@ -1,12 +1,13 @@
 -- Lists of bytes that are written or read piece by piece, and the bytes of a vector.
-use Rattle.std.proofs.Common.{◌≡◌, ℕ, ◌+◌, ◌-◌, ◌≤◌, List, ◌++◌, length, take, drop, ap, sym, ◌∙◌, arith, length-append, length-take, length-drop, ◌*◌, ◌^◌, ◌<◌, [], ◌∷◌, ℤ, pos, ◌+ℤ◌, ◌-ℤ◌, ◌≤ℤ◌, ◌<ℤ◌, nat_abs, append_assoc, set, get_or, map, subst}
+use Rattle.std.proofs.Common.{◌≡◌, ℕ, ◌+◌, ◌-◌, ◌≤◌, List, ◌++◌, length, take, drop, ap, sym, ◌∙◌, arith, length-append, length-take, length-drop, length-set, ◌*◌, ◌^◌, ◌<◌, [], ◌∷◌, ℤ, pos, ◌+ℤ◌, ◌-ℤ◌, ◌≤ℤ◌, ◌<ℤ◌, nat_abs, append_assoc, set, get_or, map, subst}
 use Rattle.std.proofs.lemmas.List.{take_all, take_at, take_more, take_more_set, drop_at, take-append-drop, length-take-le, flat_map_more}
 use Rattle.std.proofs.lemmas.Slice.{take-put_mid}
 use borrow.Rule.Slice.PartMut.{put_mid}
 use Rattle.std.specs.List.{All, Any, flat_map}
 use Rattle.std.proofs.lemmas.Int.{ints}
-use Rattle.std.proofs.lemmas.List.Elements.{All-take, All-head, All-tail, All-nil, All-cons}
+use Rattle.std.proofs.lemmas.List.Elements.{All-push, All-take, All-head, All-tail, All-nil, All-cons}
 use Rattle.std.proofs.lemmas.Nat.{mul-le}
+use Rattle.std.proofs.Math.Seq.{take-add}
 use Rattle.std.proofs.lemmas.List.Concat.{flat_map-append}
 use Rattle.fips204_base.specs.declared.types.R.{R}
 use Rattle.fips204_base.specs.Encodings.{vector_bytes}
@@ -14,7 +15,8 @@ use Rattle.fips204_base.specs.Vectors.{IsVector}
 use Rattle.fips204_base.proofs.Packing.{Unpacks, length-polynomial_bytes}
 use Rattle.fips204_base.specs.Packing.{polynomial_bytes, width}
 use Rattle.fips204_base.specs.Bounds.{Bounds, PolynomialInRange}
-use Rattle.fips204_base.specs.Network.{coefficient, field}
+use Rattle.fips204_base.specs.EncodingSteps.{coefficient, field}
+use Rattle.std.proofs.lemmas.Grind.{common_steps}
 
 -- A list of bytes that is written or read piece by piece.
 
@@ -28,42 +30,7 @@ put_piece a k n xs ys front e h same before =
 
 -- the last piece is written after the front
 pub put_last : (a k : ℕ) (xs ys front : List ℕ) → length ys ≡ k → a + k ≡ length xs → take a xs ≡ front → put_mid a k xs ys ≡ front ++ ys
-put_last a k xs ys front e h before =
-    let size = length-put_mid a k xs ys e (omega (arith, h)) in
-    sym (take_all (a + k) (put_mid a k xs ys) (omega (arith, size, h))) ∙ put_piece a k (a + k) xs ys front e (omega (arith, h)) (omega arith) before
-
--- of n bytes the first a are written
-pub record Written (a n : ℕ) (front xs : List ℕ) : Type 0 where
-  pub before : take a xs ≡ front
-  pub size : length xs ≡ n
-  pub inside : a ≤ n
-
-pub room_within : (a k n : ℕ) (front xs : List ℕ) → Written a n front xs → a + k ≤ n → length (take k (drop a xs)) ≡ k
-room_within a k n front xs w h = simp (length-take, length-drop) (omega (arith, w.size, h))
-
-pub room_left : (a n : ℕ) (front xs : List ℕ) → Written a n front xs → length (take (length xs - a) (drop a xs)) ≡ n - a
-room_left a n front xs w = simp (length-take, length-drop) (omega (arith, w.size, w.inside))
-
--- the first piece, one more, and the last
-pub written_first : (a n : ℕ) (xs p : List ℕ) → length xs ≡ n → a ≤ n → length p ≡ a → Written a n p (p ++ drop a xs)
-written_first a n xs p size inside e = record {
-  before = take_at p (drop a xs) a e;
-  size = simp (length-append, length-drop) (omega (arith, size, inside, e));
-  inside = inside;
-}
-
-pub written_more : (a k b n : ℕ) (front xs p : List ℕ) → Written a n front xs → a + k ≡ b → b ≤ n → length p ≡ length (take k (drop a xs)) → Written b n (front ++ p) (put_mid a k xs p)
-written_more a k b n front xs p w end inside e =
-    let long = e ∙ room_within a k n front xs w (omega (arith, end, inside)) in
-    let within : a + k ≤ length xs = omega (arith, end, inside, w.size) in
-    record {
-      before = put_piece a k b xs p front long within (sym end) w.before;
-      size = length-put_mid a k xs p long within ∙ w.size;
-      inside = inside;
-    }
-
-pub written_last : (a n : ℕ) (front xs p : List ℕ) → Written a n front xs → length p ≡ length (take (length xs - a) (drop a xs)) → put_mid a (length xs - a) xs p ≡ front ++ p
-written_last a n front xs p w e = put_last a (length xs - a) xs p front (e ∙ simp (length-take, length-drop) (omega arith)) (omega (arith, w.size, w.inside)) w.before
+put_last a k xs ys front e h before = grind (arith, ints, common_steps, length-put_mid, take_all, put_piece)
 
 -- The bytes of a vector, polynomial by polynomial.
 
@@ -91,9 +58,7 @@ none_above a b w range h = let within = range h.0 h.1 h.2 in omega (arith, ints,
 
 -- piece i of n pieces of one size ends within them
 pub piece-within : (size i n len : ℕ) → len ≡ size * n → i < n → size * i + size ≤ len
-piece-within size i n len all h =
-    let l = mul-le size (i + 1) size n (omega arith) (omega arith) in
-    omega (arith, l, all)
+piece-within size i n len all h = grind (arith, ints, common_steps, mul-le)
 
 -- one polynomial more
 pub vector_more : (f : R → List ℕ) (v : List R) (i : ℕ) (d : R) → i < length v → flat_map f (take (i + 1) v) ≡ flat_map f (take i v) ++ f (get_or v i d)
@@ -104,31 +69,47 @@ vector_stored f v i w l = ap (flat_map f) (take_more_set v i w l) ∙ sym (flat_
 
 -- the bounds as natural numbers
 pub bytes_at_integers : (a b : ℤ) (v : List R) → Bounds a b → vector_bytes (nat_abs a) (nat_abs b) v ≡ flat_map (λ w. polynomial_bytes a b w.0) v
-bytes_at_integers a b v bounds =
-    let p : pos (nat_abs a) ≡ a = omega (arith, ints, bounds) in
-    let q : pos (nat_abs b) ≡ b = omega (arith, ints, bounds) in
-    ap (λ m. flat_map (λ (w : R). polynomial_bytes m (pos (nat_abs b)) w.0) v) p ∙ ap (λ m. flat_map (λ (w : R). polynomial_bytes a m w.0) v) q
+bytes_at_integers a b v bounds = grind (arith, ints, common_steps)
 
 pub vector_at_integers : (n : ℕ) (a b : ℤ) (v : List R) → Bounds a b → length v ≡ n → All (λ w. length w.0 ≡ 256) v → All (λ w. PolynomialInRange (pos 0 -ℤ a) b w.0) v
     → IsVector n (nat_abs a) (nat_abs b) v
-vector_at_integers n a b v bounds count places range =
-    let p : a ≡ pos (nat_abs a) = omega (arith, ints, bounds) in
-    let q : b ≡ pos (nat_abs b) = omega (arith, ints, bounds) in
-    record {
-      rows = count;
-      places = places;
-      range = subst (λ m. All (λ (w : R). PolynomialInRange (pos 0 -ℤ m) (pos (nat_abs b)) w.0) v) p (subst (λ m. All (λ (w : R). PolynomialInRange (pos 0 -ℤ a) m w.0) v) q range);
-    }
+vector_at_integers n a b v bounds count places range = grind (arith, ints, common_steps)
 
 pub same_bounds : (n a b c d : ℕ) (v : List R) (bytes : List ℕ) → a ≡ c → b ≡ d → IsVector n a b v → vector_bytes a b v ≡ bytes → IsVector n c d v × (vector_bytes c d v ≡ bytes)
 same_bounds n a b c d v bytes p q vector packed =
     subst (λ m. IsVector n c m v × (vector_bytes c m v ≡ bytes)) q (subst (λ m. IsVector n m b v × (vector_bytes m b v ≡ bytes)) p (vector, packed))
 
+-- the first i polynomials of n are read from the bytes, `size` for each
+pub record IsRead (n : ℕ) (a b : ℤ) (size i : ℕ) (bytes : List ℕ) (v : List R) : Type 0 where
+  pub count : length v ≡ n
+  pub read : flat_map (λ w. polynomial_bytes a b w.0) (take i v) ≡ take (size * i) bytes
+  pub range : All (λ w. PolynomialInRange (pos 0 -ℤ a) b w.0) (take i v)
+  pub places : All (λ w. length w.0 ≡ 256) (take i v)
+
+-- one polynomial more is read
+pub read_more : {n : ℕ} {a b : ℤ} {size i : ℕ} {bytes : List ℕ} {v : List R} (w : R) → IsRead n a b size i bytes v → i < n
+    → polynomial_bytes a b w.0 ≡ take (size * i + size - size * i) (drop (size * i) bytes) → PolynomialInRange (pos 0 -ℤ a) b w.0 → length w.0 ≡ 256 → IsRead n a b size (i + 1) bytes (set v i w)
+read_more {n} {a} {b} {size} {i} {bytes} {v} w before h here range places =
+    let room : i < length v = omega (arith, h, before.count) in
+    let more = take_more_set v i w room in
+    let next : size * i + (size * i + size - size * i) ≡ size * (i + 1) = omega arith in
+    record {
+      count = length-set v i w ∙ before.count;
+      read = vector_stored (λ w. polynomial_bytes a b w.0) v i w room ∙ rw (before.read, here) (sym (take-add (size * i) (size * i + size - size * i) bytes) ∙ ap (λ n. take n bytes) next);
+      range = rw more (All-push (λ (w : R). PolynomialInRange (pos 0 -ℤ a) b w.0) (take i v) w before.range range);
+      places = rw more (All-push (λ (w : R). length w.0 ≡ 256) (take i v) w before.places places);
+    }
+
+-- all are read
+pub read_all : (n : ℕ) (a b : ℤ) (size i : ℕ) (bytes : List ℕ) (v : List R) → Bounds a b → IsRead n a b size i bytes v → i ≡ n → size ≡ 32 * width a b → length bytes ≡ 32 * width a b * n
+    → IsVector n (nat_abs a) (nat_abs b) v × (vector_bytes (nat_abs a) (nat_abs b) v ≡ bytes)
+read_all n a b size i bytes v bounds r done each room =
+    let all : take i v ≡ v = take_all i v (omega (arith, done, r.count)) in
+    let whole : take (size * i) bytes ≡ bytes = take_all _ bytes (rw (done, each) (omega (arith, room))) in
+    (vector_at_integers n a b v bounds r.count (rw all at r.places) (rw all at r.range), bytes_at_integers a b v bounds ∙ (rw (all, whole) at r.read))
+
 pub range_at_integers : (a b : ℤ) (v : List R) → Bounds a b → All (λ w. PolynomialInRange (pos 0 -ℤ pos (nat_abs a)) (pos (nat_abs b)) w.0) v → All (λ w. PolynomialInRange (pos 0 -ℤ a) b w.0) v
-range_at_integers a b v bounds range =
-    let p : pos (nat_abs a) ≡ a = omega (arith, ints, bounds) in
-    let q : pos (nat_abs b) ≡ b = omega (arith, ints, bounds) in
-    subst (λ m. All (λ (w : R). PolynomialInRange (pos 0 -ℤ m) b w.0) v) p (subst (λ m. All (λ (w : R). PolynomialInRange (pos 0 -ℤ pos (nat_abs a)) m w.0) v) q range)
+range_at_integers a b v bounds range = grind (arith, ints, common_steps)
 
 length-vector : (a b : ℤ) (v : List R) → All (λ w. length w.0 ≡ 256) v → length (flat_map (λ w. polynomial_bytes a b w.0) v) ≡ 32 * width a b * length v
 length-vector a b [] h = omega arith

@@ -8,16 +8,14 @@ use Rattle.std.proofs.lemmas.List.FromFn.{get_or-map-range_with_len, length-map-
 use Rattle.fips204_base.specs.declared.types.R.{R}
 use Rattle.fips204_base.specs.Vectors.{IsVector, polynomial_of, vector_of}
 use Rattle.fips204_base.specs.Bounds.{VectorWithin, PolynomialInRange, coefficient_of}
+use Rattle.std.proofs.lemmas.Grind.{common_steps}
 
 -- Lists that a loop writes row by row.
 
 -- one row more of which Q holds
 pub row_written : {A : Type 0} (Q : ℕ → A → Type 0) (out : List A) (row : ℕ) (x d : A) → row < length out →
     ((r : ℕ) → r < row → Q r (get_or out r d)) → Q row x → (r : ℕ) → r < row + 1 → Q r (get_or (set out row x) r d)
-row_written Q out row x d p before now r h = elim (dec_lt r row) [
-  | yes q ↦ subst (Q r) (sym (get_or-set_other out row r x d (omega (arith, q)))) (before r q)
-  | no q ↦ (let e : r ≡ row = omega arith in rw e (subst (Q row) (sym (get_or-set_same out row x d p)) now))
-]
+row_written Q out row x d p before now r h = grind (arith, ints, common_steps, dec_lt, get_or-set_other, get_or-set_same)
 
 -- the rows behind it stay
 pub rows_ahead : {A : Type 0} (first out : List A) (row : ℕ) (x : A) → ((r : ℕ) (d : A) → row ≤ r → get_or out r d ≡ get_or first r d) →
@@ -94,8 +92,4 @@ vector_of-ext k f g same =
 
 -- coefficients from -a to b are at most m in absolute value
 pub vector-within : (k a b m : ℕ) (v : List R) → a ≤ m → b ≤ m → IsVector k a b v → VectorWithin k m v
-vector-within k a b m v low high is r n h l =
-    let empty : R = record { 0 = [] } in
-    let inside : r < length v = omega (arith, h, is.rows) in
-    let range = is.range r empty inside n (pos 0) (omega (arith, l, is.places r empty inside)) in
-    omega (arith, ints, low, high, range.0, range.1)
+vector-within k a b m v low high is r n h l = grind (arith, ints, common_steps)

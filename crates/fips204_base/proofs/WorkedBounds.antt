@@ -10,7 +10,8 @@ use Rattle.fips204_base.specs.declared.types.R.{R}
 use Rattle.fips204_base.specs.declared.types.T.{T}
 use Rattle.fips204_base.specs.Bounds.{IsEta, ValuesWithin, PolynomialWithin, VectorWithin, IsResidueVector, TransformsWithin, vector_residues, row_value, AreRowProducts, IsGamma1, EachLane, PolynomialInRange, Bounds, VectorInRange}
 use Rattle.fips204_base.specs.Lanes.{lane_at, residues, LanesWithin, RowsWithin, IsTransform, IsInverse, EachRow}
-use Rattle.fips204_base.specs.Network.{AreEight, AreSameModQ}
+use Rattle.fips204_base.specs.Network.{AreEight}
+use Rattle.fips204_base.specs.PlainTransforms.{AreSameModQ}
 use Rattle.fips204_base.specs.Residues.{sum_below, IsCongruent}
 use Rattle.fips204_base.specs.Rounding.{IsGamma2}
 use Rattle.fips204_base.specs.Transforms.{transform, bit_reversed}

@@ -9,6 +9,9 @@ pub mod Lanes
 pub mod PlainTransforms
 pub mod Bounds
 pub mod Network
+pub mod SamplerSteps
+pub mod EncodingSteps
+pub mod Maps
 pub mod Packing
 pub mod Encodings
 pub mod Sampling

@@ -1,9 +1,9 @@
 -- What is given by its transforms, as the plain polynomials that contracts see: cited by no public clause; nobody has to believe it.
-use Rattle.std.specs.Prelude.{ℕ, ℤ, List, [], pos, ◌*◌, ◌%◌}
+use Rattle.std.specs.Prelude.{◌≡◌, ℕ, ℤ, List, [], pos, ◌*◌, ◌%◌, ◌<◌}
 use Rattle.fips204_base.specs.Residues.{coefficients, residue, sum_below}
-use Rattle.fips204_base.specs.Transforms.{inverse_transform}
+use Rattle.fips204_base.specs.Transforms.{inverse_transform, product}
 use Rattle.fips204_base.specs.Lanes.{lane, residues}
-use Rattle.fips204_base.specs.Vectors.{polynomial_of, vector_of}
+use Rattle.fips204_base.specs.Vectors.{polynomial_of, vector_of, vector_coefficients}
 use Rattle.fips204_base.specs.Bounds.{vector_residues}
 use Rattle.fips204_base.specs.declared.types.R.{R}
 use Rattle.fips204_base.specs.declared.types.T.{T}
@@ -31,3 +31,15 @@ plain_factor w = polynomial_of (λ n. pos (inverse_transform (factor_values w) n
 -- the sum of the products of a row of l transforms at place n with as many lanes
 abbrev pub lanes_value : ℕ → List T → List ℤ → ℕ → ℕ
 lanes_value l row u n = sum_below l (λ k. vector_residues row k n * residue (lane u k)) % 8380417
+
+-- two vectors are the same modulo q in their first k polynomials
+abbrev pub AreSameModQ : ℕ → List R → List R → Type 0
+AreSameModQ k v w = (r n : ℕ) → r < k → n < 256 → vector_coefficients v r n ≡ vector_coefficients w r n
+
+-- coefficient n of the product of a matrix's row with a vector, of l polynomials each
+unfoldable pub row_product : ℕ → (ℕ → ℕ → ℕ) → (ℕ → ℕ → ℕ) → ℕ → ℕ
+row_product l row v n = sum_below l (λ k. product (row k) (v k) n) % 8380417
+
+-- the plain row of a row of transforms, by column and place
+abbrev pub plain_row : List T → ℕ → ℕ → ℕ
+plain_row row k = inverse_transform (vector_residues row k)

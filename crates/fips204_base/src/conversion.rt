@@ -6,7 +6,7 @@ ghost use Rattle.std.specs.Prelude.{◌≡◌, ◌<◌, ◌≤◌, ◌+◌, ◌*
 ghost use Rattle.std.specs.List.{All};
 ghost use Rattle.fips204_base.specs.Packing.{polynomial_bytes, width};
 ghost use Rattle.fips204_base.specs.Bounds.{Bounds, PolynomialInRange, IsUnpacked};
-ghost use Rattle.fips204_base.specs.Network.{Packs, coefficient, field};
+ghost use Rattle.fips204_base.specs.EncodingSteps.{Packs, coefficient, field};
 
 mod coefficients;
 mod hints;
@@ -44,7 +44,7 @@ fn low(word: u32, c: u32) -> u32
 }
 
 /// The field of a coefficient.
-#[tactic(auto, using(std::proofs::lemmas::Int::ints), unfolding(crate::specs::Network::field))]
+#[tactic(auto, using(std::proofs::lemmas::Int::ints), unfolding(crate::specs::EncodingSteps::field))]
 fn field_of(x: i32, a: i32, b: i32) -> u32
     requires bounds { Bounds a b }
     requires range { ((pos 0 -ℤ a) ≤ℤ x) × (x ≤ℤ b) }
@@ -55,7 +55,7 @@ fn field_of(x: i32, a: i32, b: i32) -> u32
 }
 
 /// The coefficient of a field.
-#[tactic(auto, using(std::proofs::lemmas::Int::ints), unfolding(crate::specs::Network::coefficient))]
+#[tactic(auto, using(std::proofs::lemmas::Int::ints), unfolding(crate::specs::EncodingSteps::coefficient))]
 fn coefficient_of(field: u32, a: i32, b: i32) -> i32
     requires bounds { Bounds a b }
     requires below { field < 2 ^ 21 }

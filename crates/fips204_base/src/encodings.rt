@@ -25,11 +25,11 @@ pub fn pk_encode<const K: usize, const PK_LEN: usize>(rho: &[u8; 32], t1: &[R; K
     ensures { result ≡ public_key_bytes rho.now t1.now }
 {
     let mut pk = [0u8; PK_LEN];
-    let bytes = &mut pk[..];
+    let (seed, vector) = pk.split_at_mut(32);
     // line 1: pk = rho
-    bytes[..32].copy_from_slice(rho);
+    seed.copy_from_slice(rho);
     // lines 2 to 4: pk = pk || SimpleBitPack(t1[i], 2^(bitlen(q - 1) - d) - 1)
-    write_packed_vector(t1, 0, 1023, &mut bytes[32..]);
+    write_packed_vector(t1, 0, 1023, vector);
     pk
 }
 

@@ -1,19 +1,28 @@
 //! Samplers: the matrix, the secret vectors, the challenge and the mask from streams (FIPS 204, section 7.3).
 #![tactic(auto)]
 
-ghost use Rattle.std.specs.Prelude.{◌≤◌, option_to_list};
-ghost use Rattle.fips204_base.specs.Network.{AreKept};
+ghost use Rattle.std.specs.Prelude.{◌≡◌, ◌≤◌, ◌++◌, option_to_list};
+ghost use Rattle.std.specs.Int.{w16, to_le_bytes};
+ghost use Rattle.fips204_base.specs.SamplerSteps.{AreKept};
 
 mod challenge;
 mod mask;
 mod matrix;
 mod small;
 
+use crate::xof::Xof;
 pub use challenge::sample_in_ball;
 pub use mask::expand_mask;
-pub(crate) use matrix::write_expanded_row;
+pub(crate) use matrix::write_next_row;
 pub use matrix::{expand_a, rej_ntt_poly, write_expanded_a};
 pub use small::{expand_s, rej_bounded_poly, write_expanded_s};
+
+/// Opens the reader of the stream over `rho` and `number` in two bytes.
+fn open_numbered<H: Xof>(rho: &[u8; 64], number: u16) -> H::Reader
+    ensures { H.Reader.rest result ≡ H.front (rho.now ++ to_le_bytes w16 number) }
+{
+    H::open(&[rho.as_slice(), number.to_le_bytes().as_slice()])
+}
 
 /// Puts a coefficient, if there is one, at place `kept` of `values`, if there is room, and returns how many
 /// there are then.

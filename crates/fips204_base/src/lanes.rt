@@ -1,8 +1,8 @@
 //! Eight values for the butterflies side by side in lanes, which go through each step at once.
 #![tactic(auto)]
 
-ghost use Rattle.std.specs.Prelude.{◌≡◌, ℕ, ◌<◌, ◌≤◌, ◌+◌, ◌*◌, ◌%◌, ◌≢◌, pos, ◌*ℤ◌, nat_abs};
-ghost use Rattle.std.specs.Int.{int_rem_euclid, int_div_euclid};
+ghost use Rattle.std.specs.Prelude.{◌≡◌, ℕ, ◌<◌, ◌≤◌, ◌+◌, ◌*◌, ◌%◌, ◌≢◌, pos, ◌*ℤ◌, nat_abs, FitsSigned};
+ghost use Rattle.std.specs.Int.{int_rem_euclid, int_div_euclid, w32, w64};
 ghost use Rattle.fips204_base.specs.Residues.{residue, IsCongruent};
 ghost use Rattle.fips204_base.specs.PlainTransforms.{from_mont};
 ghost use Rattle.fips204_base.specs.Lanes.{lane};
@@ -13,7 +13,7 @@ use crate::helpers::count::Count;
 use crate::helpers::residue::Residue;
 use crate::helpers::zeta_table::zeta_mont;
 use std::marker::Model;
-use std::simd::{i32x8, i64x8};
+use std::simd::{i32x4, i32x8, i64x4};
 
 /// Eight `i32` lanes. Contracts see the list of them.
 #[derive(Clone, Copy)]
@@ -55,9 +55,9 @@ impl Lanes {
         ensures lane { lane result r ≡ x }
         ensures others { (j : ℕ) → j ≢ r → lane result j ≡ lane self j }
     {
-        let mut entries = self.to_array();
-        entries[r] = x;
-        Lanes::from_array(entries)
+        let places = i32x8::from_array([0, 1, 2, 3, 4, 5, 6, 7]);
+        let at = places.simd_eq(i32x8::splat(r as i32));
+        Lanes(at.select(i32x8::splat(x), self.0))
     }
 
     /// Each lane times a factor in Montgomery form, modulo `q` and below `q` in absolute value, as the factor is.
@@ -125,22 +125,45 @@ impl Residue for Lanes {
 }
 
 /// Each lane times the factor and the inverse of `2^32` modulo `q`, below `q` in absolute value.
-///
-/// The factor and its product with the inverse of `q` come as one number of 64 bits in each lane, of which
-/// both halves are used: so the compiler still knows, where a loop keeps the lanes, that the factor has 32
-/// bits, and a lane's wide product is one instruction and not three.
 fn mont_products(x: Lanes, factor: i32) -> Lanes
     requires { nat_abs factor ≤ 8380416 }
     ensures congruent { EachLane (λ x y. IsCongruent (4294967296 * residue y) (residue x * residue factor)) 8 x result }
     ensures small { (j : ℕ) → j < 8 → nat_abs (lane result j) ≤ 8380416 }
 {
-    let both = i64x8::splat(factor_words(factor));
-    let word = i64x8::splat(32);
+    let low = wide_products(x.0.extract::<0, 4>(), factor);
+    let high = wide_products(x.0.extract::<4, 4>(), factor);
+    Lanes(low.shuffle(high, [1, 3, 5, 7, 9, 11, 13, 15]))
+}
+
+/// Those products of four lanes, each of them the high half of 64 bits: the odd lanes.
+///
+/// A wide product of numbers of 32 bits is one instruction. The factor and its product with the inverse of `q` come as
+/// one number of 64 bits, of which both halves are used: so the compiler still knows, where a loop keeps them, that each
+/// has 32 bits.
+#[inline(always)]
+fn wide_products(x: i32x4, factor: i32) -> i32x8
+    requires fits { (j : ℕ) → j < 4 → FitsSigned w32 (lane x j) }
+    requires factor { nat_abs factor ≤ 8380416 }
+    ensures congruent { (j : ℕ) → j < 4 →
+        IsCongruent (4294967296 * residue (lane result (2 * j + 1))) (residue (lane x j) * residue factor) }
+    ensures small { (j : ℕ) → j < 4 → nat_abs (lane result (2 * j + 1)) ≤ 8380416 }
+{
+    let both = i64x4::splat(factor_words(factor));
+    let word = i64x4::splat(32);
+    let wide = x.cast::<i64>();
     // t = the low word of x factor q^-1, and x factor - t q is a multiple of 2^32
-    let low = x.0 * (both >> word).cast::<i32>();
-    let wide = x.0.cast::<i64>() * ((both << word) >> word);
-    let whole = wide - low.cast::<i64>() * i64x8::splat(8380417);
-    Lanes((whole >> word).cast::<i32>())
+    let low = ((wide * (both >> word)) << word) >> word;
+    let whole = wide * ((both << word) >> word) - low * i64x4::splat(8380417);
+    halves(whole)
+}
+
+/// Numbers of 64 bits as their halves, of which the high ones are the odd lanes.
+#[inline(always)]
+fn halves(x: i64x4) -> i32x8
+    requires { (j : ℕ) → j < 4 → FitsSigned w64 (lane x j) }
+    ensures { (j : ℕ) → j < 4 → lane result (2 * j + 1) ≡ int_div_euclid (lane x j) (pos 4294967296) }
+{
+    i32x8::from_le_bytes(x.to_le_bytes())
 }
 
 /// The number of 64 bits whose low word has the bits of `factor`, and whose high word gives the lowest 32 bits of

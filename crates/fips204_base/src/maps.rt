@@ -7,7 +7,7 @@
 
 ghost use Rattle.std.specs.Prelude.{◌≡◌, ◌<◌, ℕ, length};
 ghost use Rattle.fips204_base.specs.Bounds.{coefficient_at, coefficient_of};
-ghost use Rattle.fips204_base.specs.Network.{AreZipped, IsDeterminedBy};
+ghost use Rattle.fips204_base.specs.Maps.{AreZipped, IsDeterminedBy};
 
 use crate::types::R;
 

@@ -68,8 +68,27 @@ pub(crate) fn write_ntt<V: Residue>(w: &mut [V; 256], meter: &mut V::Meter)
     }
 }
 
-/// One layer: `count` blocks of `2 * len` values.
+/// One layer: `count` blocks of `2 * len` values. Compiled with constants where blocks are short and many.
 fn write_layer<V: Residue>(w: &mut [V; 256], count: usize, len: usize, meter: &mut V::Meter)
+    requires whole { count * len ≡ 128 }
+    requires room { (V.products meter.old + 128 < 2 ^ 64) × (V.sums meter.old + 256 < 2 ^ 64) }
+    requires fits { LanesWithin V.lanes V.width 2139103231 w.old }
+    ensures values { EachLaneOfRow (AreBlocks (λ b. IsButterfly (count + b)) count len) V.lanes V.width w.old w.new }
+    ensures products { V.products meter.new ≡ V.products meter.old + 128 }
+    ensures sums { V.sums meter.new ≡ V.sums meter.old + 256 }
+    ensures size { length w.new ≡ 256 }
+{
+    match len {
+        1 => write_blocks(w, count, 1, meter),
+        2 => write_blocks(w, count, 2, meter),
+        4 => write_blocks(w, count, 4, meter),
+        _ => write_blocks(w, count, len, meter),
+    }
+}
+
+/// The blocks of one layer.
+#[inline(always)]
+fn write_blocks<V: Residue>(w: &mut [V; 256], count: usize, len: usize, meter: &mut V::Meter)
     requires whole { count * len ≡ 128 }
     requires room { (V.products meter.old + 128 < 2 ^ 64) × (V.sums meter.old + 256 < 2 ^ 64) }
     requires fits { LanesWithin V.lanes V.width 2139103231 w.old }
@@ -86,6 +105,7 @@ fn write_layer<V: Residue>(w: &mut [V; 256], count: usize, len: usize, meter: &m
 }
 
 /// The butterflies of one block, in place.
+#[inline(always)]
 fn write_block<V: Residue>(
     w: &mut [V; 256],
     start: usize,
@@ -148,8 +168,28 @@ pub(crate) fn write_inv_ntt<V: Residue>(w: &mut [V; 256], meter: &mut V::Meter)
     }
 }
 
-/// One layer backwards: `count` blocks of `2 * len` values.
+/// One layer backwards: `count` blocks of `2 * len` values. Compiled with constants where blocks are short and many.
 fn write_inv_layer<V: Residue>(w: &mut [V; 256], count: usize, len: usize, meter: &mut V::Meter)
+    requires whole { count * len ≡ 128 }
+    requires room { (V.products meter.old + 128 < 2 ^ 64) × (V.sums meter.old + 256 < 2 ^ 64) }
+    requires fits { LanesWithin V.lanes V.width 1073741823 w.old }
+    ensures values { EachLaneOfRow (AreBlocks (λ b. IsInverseButterfly (2 * count - 1 - b)) count len)
+        V.lanes V.width w.old w.new }
+    ensures products { V.products meter.new ≡ V.products meter.old + 128 }
+    ensures sums { V.sums meter.new ≡ V.sums meter.old + 256 }
+    ensures size { length w.new ≡ 256 }
+{
+    match len {
+        1 => write_inv_blocks(w, count, 1, meter),
+        2 => write_inv_blocks(w, count, 2, meter),
+        4 => write_inv_blocks(w, count, 4, meter),
+        _ => write_inv_blocks(w, count, len, meter),
+    }
+}
+
+/// The blocks of one layer backwards.
+#[inline(always)]
+fn write_inv_blocks<V: Residue>(w: &mut [V; 256], count: usize, len: usize, meter: &mut V::Meter)
     requires whole { count * len ≡ 128 }
     requires room { (V.products meter.old + 128 < 2 ^ 64) × (V.sums meter.old + 256 < 2 ^ 64) }
     requires fits { LanesWithin V.lanes V.width 1073741823 w.old }
@@ -167,6 +207,7 @@ fn write_inv_layer<V: Residue>(w: &mut [V; 256], count: usize, len: usize, meter
 }
 
 /// The butterflies of one block backwards, in place.
+#[inline(always)]
 fn write_inv_block<V: Residue>(
     w: &mut [V; 256],
     start: usize,

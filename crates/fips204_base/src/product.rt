@@ -7,7 +7,7 @@ ghost use Rattle.fips204_base.specs.Lanes.{lane};
 ghost use Rattle.fips204_base.specs.Residues.{coefficients};
 ghost use Rattle.fips204_base.specs.Transforms.{minus, product};
 ghost use Rattle.fips204_base.specs.Vectors.{vector_coefficients, vector_of};
-ghost use Rattle.fips204_base.specs.Network.{AreSameModQ};
+ghost use Rattle.fips204_base.specs.PlainTransforms.{AreSameModQ};
 ghost use Rattle.fips204_base.specs.Bounds.{PolynomialWithin, VectorWithin, coefficient_at, coefficient_of};
 ghost use Rattle.fips204_base.specs.declared.types.R.{R};
 

@@ -1,7 +1,7 @@
 //! Byte streams, in place of SHAKE256 and SHAKE128.
 #![tactic(auto)]
 
-ghost use Rattle.std.specs.Prelude.{◌≡◌, ◌≤◌, ℕ, List, length, take, drop, replicate};
+ghost use Rattle.std.specs.Prelude.{◌≡◌, ◌≤◌, ◌⊎◌, ℕ, List, length, take, drop, replicate};
 ghost use Rattle.std.specs.List.{flat_map};
 ghost use Rattle.std.proofs.Common.{rules};
 
@@ -30,6 +30,41 @@ pub trait XofReader: Drop {
         requires { length out.old ≤ length (rest self.old) }
         ensures given { out.new ≡ take (length out.old) (rest self.old) }
         ensures dropped { rest self.new ≡ drop (length out.old) (rest self.old) };
+
+    /// Fills the outputs with the next bytes of four readers, as `read` of each does. The outputs are of one length, and each
+    /// reader has as many bytes left; or the fourth is empty, where only three are wanted.
+    ///
+    /// A stream may have a body of its own, which makes the bytes of the four side by side.
+    fn read_four(
+        a: &mut Self,
+        b: &mut Self,
+        c: &mut Self,
+        d: &mut Self,
+        to_a: &mut [u8],
+        to_b: &mut [u8],
+        to_c: &mut [u8],
+        to_d: &mut [u8],
+    )
+        requires lengths { (length to_b.old ≡ length to_a.old) × (length to_c.old ≡ length to_a.old)
+            × ((length to_d.old ≡ length to_a.old) ⊎ (length to_d.old ≡ 0)) }
+        requires first { length to_a.old ≤ length (rest a.old) }
+        requires second { length to_b.old ≤ length (rest b.old) }
+        requires third { length to_c.old ≤ length (rest c.old) }
+        requires fourth { length to_d.old ≤ length (rest d.old) }
+        ensures first { to_a.new ≡ take (length to_a.old) (rest a.old) }
+        ensures first_left { rest a.new ≡ drop (length to_a.old) (rest a.old) }
+        ensures second { to_b.new ≡ take (length to_b.old) (rest b.old) }
+        ensures second_left { rest b.new ≡ drop (length to_b.old) (rest b.old) }
+        ensures third { to_c.new ≡ take (length to_c.old) (rest c.old) }
+        ensures third_left { rest c.new ≡ drop (length to_c.old) (rest c.old) }
+        ensures fourth { to_d.new ≡ take (length to_d.old) (rest d.old) }
+        ensures fourth_left { rest d.new ≡ drop (length to_d.old) (rest d.old) }
+    {
+        a.read(to_a);
+        b.read(to_b);
+        c.read(to_c);
+        d.read(to_d);
+    }
 }
 
 /// A stream, in place of SHAKE256 or SHAKE128 (FIPS 204, section 3.7): the input determines a front of

@@ -1,7 +1,19 @@
 //! ML-DSA of FIPS 204: the library `fips204` over SHAKE256 and SHAKE128.
 //!
+//! `keygen`, `sign`, `verify`, `public_key`, `check_private_key`, `is_whole` and `is_pair` take the parameter set as an
+//! argument, and keys and signatures as slices. From `crates/mldsa_examples/src/over_bytes.rt`:
+//!
+//! ```rust
+//!     keygen(SET, seed, &mut public_key, &mut private_key)?;
+//! ..
+//!     let input = Input::Message(message, b"a page of documentation");
+//!     sign(SET, private_key, random, &input, &mut signature)?;
+//! ..
+//!     verify(SET, public_key, &input, signature)
+//! ```
+//!
 //! The modules `ml_dsa_44`, `ml_dsa_65` and `ml_dsa_87` have the key types of a set over these two XOFs: `KG`, `PublicKey`,
-//! `PrivateKey`, and the prepared (expanded) ones. The calls are those of the traits of `fips204`:
+//! `PrivateKey`, and the prepared (expanded) ones. Their calls are those of the traits of `fips204`:
 //!
 //! | to | call |
 //! |---|---|
@@ -15,12 +27,16 @@
 //! | use a key many times | `private.prepare()?`, `public.prepare()?`, and the same calls |
 #![tactic(auto)]
 
+mod calls;
 pub mod ml_dsa_44;
 pub mod ml_dsa_65;
 pub mod ml_dsa_87;
+pub mod pieces;
 pub mod streams;
 
+pub use calls::{check_private_key, is_pair, is_whole, keygen, public_key, sign, verify};
 pub use fips204::{
     Fault, MAX_PREHASH_LEN, MAX_SIGN_ATTEMPTS, RngError, check_pre_hash, fault, laws, pre_hash,
     traits, xof,
 };
+pub use fips204_bytes::{Array, Input, Refusal, SetName};

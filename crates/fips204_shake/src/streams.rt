@@ -60,6 +60,32 @@ impl<const R: usize> XofReader for SpongeReader<R> {
         self.output.read(out);
         self.left -= out.len();
     }
+
+    fn read_four(
+        a: &mut SpongeReader<R>,
+        b: &mut SpongeReader<R>,
+        c: &mut SpongeReader<R>,
+        d: &mut SpongeReader<R>,
+        to_a: &mut [u8],
+        to_b: &mut [u8],
+        to_c: &mut [u8],
+        to_d: &mut [u8],
+    ) {
+        ShakeReader::read_four(
+            &mut a.output,
+            &mut b.output,
+            &mut c.output,
+            &mut d.output,
+            to_a,
+            to_b,
+            to_c,
+            to_d,
+        );
+        a.left -= to_a.len();
+        b.left -= to_b.len();
+        c.left -= to_c.len();
+        d.left -= to_d.len();
+    }
 }
 
 /// SHAKE256, the function H of the standard.

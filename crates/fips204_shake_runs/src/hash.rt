@@ -1,8 +1,11 @@
 //! SHAKE128 and SHAKE256 beside Python's hashlib.
 #![tactic(auto)]
 
+ghost use Rattle.std.specs.Prelude.{◌<◌};
+ghost use Rattle.shake.specs.State.{IsRate};
+
 use sha2::{Digest, Sha256};
-use shake::{Shake, Shake128, Shake256};
+use shake::{Shake, Shake128, Shake256, ShakeReader, f1600, f1600_four};
 
 /// The lengths of the messages.
 const LENGTHS: [usize; 9] = [0, 1, 135, 136, 137, 167, 168, 169, 1000];
@@ -203,4 +206,197 @@ fn digests_in_one_call(rt: HostRuntime) {
         [first, short(&[&bytes])],
         [OF_SHAKE128[8][3], OF_SHAKE256[8][3]]
     );
+}
+
+/// The first four lanes after one permutation: those of SHAKE128, SHAKE256, SHA3-256 and SHA3-512 of the empty message, as
+/// hashlib gives them.
+static PERMUTED: [[u64; 4]; 4] = [
+    [
+        0x7d828fe8a42b9c7f,
+        0x3e85057650456061,
+        0x88bceff693803bd7,
+        0x26ef66faac6e1aeb,
+    ],
+    [
+        0x138da80b2bddb946,
+        0x24eb3e74eb3f3b23,
+        0x821bb862ea52cd3f,
+        0x2f76d56e64270cb5,
+    ],
+    [
+        0x66d71ebff8c6ffa7,
+        0x62d661a05647c151,
+        0xfa493be44dff80f5,
+        0x4a43f8804b0ad882,
+    ],
+    [
+        0xc59a3aa2cc739fa6,
+        0x6e755a18dc67b5c8,
+        0x5958e24f1682c997,
+        0xa6805c47c1dcd1e0,
+    ],
+];
+
+/// The state of one block: its padding begins with `first` and ends in lane `last`.
+fn padded(first: u64, last: usize) -> [u64; 25]
+    requires { last < 25 }
+{
+    let mut state = [0; 25];
+    state[0] = first;
+    state[last] = 1 << 63;
+    state
+}
+
+/// The first four lanes.
+fn begin(state: &[u64; 25]) -> [u64; 4] {
+    [state[0], state[1], state[2], state[3]]
+}
+
+/// Four states that differ, side by side and one by one.
+#[test]
+fn permutations_of_four_states(rt: HostRuntime) {
+    let mut a = padded(0x1f, 20);
+    let mut b = padded(0x1f, 16);
+    let mut c = padded(0x06, 16);
+    let mut d = padded(0x06, 8);
+    let mut one = d;
+    f1600(&mut one);
+    f1600_four(&mut a, &mut b, &mut c, &mut d);
+    assert_eq!(rt; [begin(&a), begin(&b), begin(&c), begin(&d)], PERMUTED);
+    assert!(rt; one == d);
+}
+
+/// The first 168 bytes of output for four messages of different lengths.
+fn digests_of_four<const R: usize>(message: &[u8; 1000]) -> [u64; 4]
+    requires { IsRate R }
+{
+    let mut a = [0u8; 168];
+    let mut b = [0u8; 168];
+    let mut c = [0u8; 168];
+    let mut d = [0u8; 168];
+    Shake::<R>::digest_four(
+        &[],
+        &message[..135],
+        &message[..168],
+        message,
+        &mut a,
+        &mut b,
+        &mut c,
+        &mut d,
+    );
+    [short(&[&a]), short(&[&b]), short(&[&c]), short(&[&d])]
+}
+
+/// Four digests at once.
+#[test]
+fn digests_side_by_side(rt: HostRuntime) {
+    let message = message();
+    let [a, b, c, d] = [
+        OF_SHAKE128[0],
+        OF_SHAKE128[2],
+        OF_SHAKE128[6],
+        OF_SHAKE128[8],
+    ];
+    assert_eq!(rt; digests_of_four::<168>(&message), [a[2], b[2], c[2], d[2]]);
+    let [a, b, c, d] = [
+        OF_SHAKE256[0],
+        OF_SHAKE256[2],
+        OF_SHAKE256[6],
+        OF_SHAKE256[8],
+    ];
+    assert_eq!(rt; digests_of_four::<136>(&message), [a[2], b[2], c[2], d[2]]);
+}
+
+/// The first 4096 bytes of four readers: some of each alone, so that their blocks begin at different places, then 1000 and then
+/// 31 bytes of all four, and then the rest of each alone.
+fn read_in_turns<const R: usize>(message: &[u8; 1000]) -> [u64; 4]
+    requires { IsRate R }
+{
+    let mut a = Shake::<R>::reader(&[]);
+    let mut b = Shake::<R>::reader(&message[..135]);
+    let mut c = Shake::<R>::reader(&message[..168]);
+    let mut d = Shake::<R>::reader(message);
+    let mut a_first = [0u8; 1];
+    let mut a_next = [0u8; 1000];
+    let mut a_third = [0u8; 31];
+    let mut a_last = [0u8; 3064];
+    let mut b_first = [0u8; 136];
+    let mut b_next = [0u8; 1000];
+    let mut b_third = [0u8; 31];
+    let mut b_last = [0u8; 2929];
+    let mut c_next = [0u8; 1000];
+    let mut c_third = [0u8; 31];
+    let mut c_last = [0u8; 3065];
+    let mut d_first = [0u8; 300];
+    let mut d_next = [0u8; 1000];
+    let mut d_third = [0u8; 31];
+    let mut d_last = [0u8; 2765];
+    a.read(&mut a_first);
+    b.read(&mut b_first);
+    d.read(&mut d_first);
+    ShakeReader::<R>::read_four(
+        &mut a,
+        &mut b,
+        &mut c,
+        &mut d,
+        &mut a_next,
+        &mut b_next,
+        &mut c_next,
+        &mut d_next,
+    );
+    ShakeReader::<R>::read_four(
+        &mut a,
+        &mut b,
+        &mut c,
+        &mut d,
+        &mut a_third,
+        &mut b_third,
+        &mut c_third,
+        &mut d_third,
+    );
+    a.read(&mut a_last);
+    b.read(&mut b_last);
+    c.read(&mut c_last);
+    d.read(&mut d_last);
+    [
+        short(&[
+            a_first.as_slice(),
+            a_next.as_slice(),
+            a_third.as_slice(),
+            a_last.as_slice(),
+        ]),
+        short(&[
+            b_first.as_slice(),
+            b_next.as_slice(),
+            b_third.as_slice(),
+            b_last.as_slice(),
+        ]),
+        short(&[c_next.as_slice(), c_third.as_slice(), c_last.as_slice()]),
+        short(&[
+            d_first.as_slice(),
+            d_next.as_slice(),
+            d_third.as_slice(),
+            d_last.as_slice(),
+        ]),
+    ]
+}
+
+/// Readers that are read alone and by fours.
+#[test]
+fn readers_side_by_side(rt: HostRuntime) {
+    let message = message();
+    let [a, b, c, d] = [
+        OF_SHAKE128[0],
+        OF_SHAKE128[2],
+        OF_SHAKE128[6],
+        OF_SHAKE128[8],
+    ];
+    assert_eq!(rt; read_in_turns::<168>(&message), [a[3], b[3], c[3], d[3]]);
+    let [a, b, c, d] = [
+        OF_SHAKE256[0],
+        OF_SHAKE256[2],
+        OF_SHAKE256[6],
+        OF_SHAKE256[8],
+    ];
+    assert_eq!(rt; read_in_turns::<136>(&message), [a[3], b[3], c[3], d[3]]);
 }

@@ -1,29 +1,19 @@
--- With the keys of one call of keygen, verifying accepts what signing wrote.
-use Rattle.std.proofs.Common.{◌≡◌, ◌≢◌, ℕ, Bool, true, false, IsTrue, List, Result, Ok, Err, refl, sym, ap, ◌∙◌, arith, subst}
-use Rattle.std.specs.Prelude.{◌↔◌, MatchBool, MatchResult}
+-- The arrays that one call of keygen wrote belong together, since the bytes do.
+use Rattle.std.proofs.Common.{◌≡◌, ◌≢◌, ℕ, Bool, true, false, List, length, nat_eq, Result, Ok, Err, refl, ap, ◌∙◌, arith, subst, inl, inr}
+use Rattle.std.proofs.lemmas.Bool.Decides.{eqb_tells}
+use Rattle.std.specs.Prelude.{◌⊎◌, ⊤}
 use Rattle.fips204_base.specs.declared.fault.Fault.{Fault}
 use Rattle.fips204_base.specs.declared.fault.Fault.TheVariants.{KeyGenRng, SignCtx, SignRng, HashCtx, OidEmpty, OidNotDer, DigestTooLong, DigestLength, HashRng, InternalRng, TooManyAttempts, KeyRange, SamplingLimit}
-use Rattle.fips204.specs.Completeness.{SignedIsAccepted, IsPair}
-use Rattle.fips204.specs.Framing.{plain, hashed, represented}
-use Rattle.fips204_base.specs.Encodings.{PublicParts, PrivateParts, IsPrivateKeyOf, IsPublicKeyOf, private_key_bytes}
-use Rattle.fips204.specs.Keys.{DecodesPrivate, IsWhole, TellsWhole}
+use Rattle.fips204.specs.Framing.{Input, represented}
 use Rattle.fips204.specs.ParameterSets.{ParameterSet, IsSet}
-use Rattle.fips204.specs.Refusals.{generated, derived, sign_input, VerifiesInput}
+use Rattle.fips204_bytes.specs.Bytes as bytes
+use Rattle.fips204_bytes.specs.Pairs as pairs
+use Rattle.fips204_bytes.specs.declared.refusal.Refusal.{Refusal}
+use Rattle.fips204_bytes.specs.declared.refusal.Refusal.TheVariants.{Length, Library}
 use Rattle.fips204_shake.specs.Fronts.{shake256_front, shake128_front, length-shake256_front}
-use Rattle.mldsa_c.specs.Calls.{bytes_of_public, WritesPair, Generates, WritesPublic, TellsPrivate, TellsWholeness, WritesSignature, TellsVerdict}
-use Rattle.mldsa_c.specs.Pairs.{PairsAcceptWritten, PairsBelong}
-use Rattle.mldsa_c.specs.Statuses.{status_of, verdict_status, Leaves, Writes}
-
--- a choice whose other side is refuted
-chosen : {P Q : Type 0} (b : Bool) → MatchBool b P Q → ¬ Q → P
-chosen true p never = p
-chosen false q never = absurd (never q)
-
--- an answer whose refusals are refuted
-answered : {A E : Type 0} (r : Result A E) (P : A → Type 0) (Q : E → Type 0) → MatchResult r P Q → ((e : E) → ¬ (Q e))
-    → (a : A) × (r ≡ Ok a) × P a
-answered (Ok a) P Q p never = (a, refl, p)
-answered (Err e) P Q q never = absurd (never e q)
+use Rattle.mldsa_c.specs.Calls.{Done, IfSized, Signs, Judges}
+use Rattle.mldsa_c.specs.Pairs.{PairsBelong}
+use Rattle.mldsa_c.specs.Statuses.{status_of, done_status, answer_status}
 
 -- no fault has the status of success
 not_done : (fault : Fault) → ¬ (0 ≡ status_of fault)
@@ -41,132 +31,50 @@ not_done TooManyAttempts = λ e. absurd cc
 not_done KeyRange = λ e. absurd cc
 not_done SamplingLimit = λ e. absurd cc
 
--- nor is success the status of a wrong length
-not_two : (n : ℕ) → n ≡ 0 → ¬ (n ≡ 2)
-not_two n done wrong = absurd cc
+-- nor has a refusal
+done : (answer : Result ⊤ Refusal) → 0 ≡ done_status answer → answer ≡ Ok tt
+done (Ok tt) e = refl
+done (Err (Length which)) e = absurd cc
+done (Err (Library fault)) e = absurd (not_done fault e)
 
--- a true answer is the status 0
-yes : (answer : Bool) → IsTrue answer → verdict_status (Ok answer) ≡ 0
-yes true t = refl
-yes false t = absurd cc
+-- what a call that is done answers over bytes
+does : (says : Result ⊤ Refusal → Type 0) → Done says 0 → says (Ok tt)
+does says (answer, answered, is) = subst says (done answer is) answered
 
--- what keygen leaves, where it is done
-made : (p : ParameterSet) (seed public public' private private' : List ℕ) (status : ℕ) → status ≡ 0
-    → Generates p seed public public' private private' status
-    → (pair : PublicParts × PrivateParts) × (generated p shake256_front shake128_front seed ≡ Ok pair)
-    × ((public' ≡ bytes_of_public pair.0) × (private' ≡ private_key_bytes p.eta pair.1) × (status ≡ 0))
-made p seed public public' private private' status zero done =
-    let pair : WritesPair p seed public public' private private' status = chosen _ done (λ (_, (_, two)). not_two status zero two) in
-    answered _ _ _ pair (λ e (_, (_, is)). not_done e (sym zero ∙ is))
+-- an array that isn't refused has its length
+sized : (wanted : ℕ) (bytes : List ℕ) {P Q : Type 0} → IfSized wanted bytes P Q → ¬ Q → P
+sized wanted bytes {P} {Q} both never = case_of (eqb_tells (length bytes) wanted)
+  where
+    case_of : ((nat_eq (length bytes) wanted ≡ true) × (length bytes ≡ wanted)) ⊎ ((nat_eq (length bytes) wanted ≡ false) × (length bytes ≢ wanted)) → P
+    case_of (inl (_, same)) = both.0 same
+    case_of (inr (_, differ)) = absurd (never (both.1 differ))
 
--- what a signing call leaves, where it is done: a signature by the key that its bytes spell
-decoded_by : (p : ParameterSet) (key : List ℕ) (signs : PrivateParts → Result (List ℕ) Fault) (old signature : List ℕ) (status : ℕ) (decoded : Result PrivateParts Fault)
-    → status ≡ 0 → DecodesPrivate p.eta p.k p.l key decoded
-    → MatchResult decoded (λ sk. Writes (λ s. s) (signs sk) old signature status) (λ fault. Leaves (status_of fault) old signature status)
-    → (sk : PrivateParts) × IsPrivateKeyOf p.eta p.k p.l key sk × (signs sk ≡ Ok signature)
-decoded_by p key signs old signature status (Ok sk) zero decodes writes =
-    let answer : (s : List ℕ) × (signs sk ≡ Ok s) × ((signature ≡ s) × (status ≡ 0)) = answered _ _ _ writes (λ e (_, is). not_done e (sym zero ∙ is)) in
-    let (s, signed, (same, _)) = answer in
-    (sk, decodes, signed ∙ ap Ok (sym same))
-decoded_by p key signs old signature status (Err fault) zero decodes (_, is) = absurd (not_done fault (sym zero ∙ is))
+-- a status that isn't 2 is of no refused length
+fits : (answer : Result ⊤ Refusal) (status : ℕ) → status ≡ done_status answer → status ≢ 2 → pairs.Fits answer
+fits answer status is not_wrong which refused = not_wrong (is ∙ ap done_status refused)
 
-signed_by : (p : ParameterSet) (key : List ℕ) (signs : PrivateParts → Result (List ℕ) Fault) (old signature : List ℕ) (status : ℕ) (fits : Bool) → status ≡ 0
-    → MatchBool fits (WritesSignature p key signs old signature status) (Leaves 2 old signature status)
-    → (sk : PrivateParts) × IsPrivateKeyOf p.eta p.k p.l key sk × (signs sk ≡ Ok signature)
-signed_by p key signs old signature status fits zero done =
-    let writes : WritesSignature p key signs old signature status = chosen _ done (λ (_, two). not_two status zero two) in
-    let (decoded, decodes, with) = writes in
-    decoded_by p key signs old signature status decoded zero decodes with
+told_fits : (answer : Result Bool Refusal) (status : ℕ) → status ≡ answer_status answer → status ≢ 2 → pairs.Fits answer
+told_fits answer status is not_wrong which refused = not_wrong (is ∙ ap answer_status refused)
 
--- a verifying call says yes, where each key with these bytes accepts
-judged_yes : (p : ParameterSet) (key : List ℕ) (accepts : PublicParts → Type 0) (status : ℕ) (fits : Bool)
-    → MatchBool fits (TellsVerdict p key accepts status) (status ≡ 2) → status ≢ 2
-    → ((pk : PublicParts) → IsPublicKeyOf shake256_front p.k key pk → accepts pk) → status ≡ 0
-judged_yes p key accepts status fits judged not_wrong all =
-    let told : TellsVerdict p key accepts status = chosen _ judged not_wrong in
-    let (pk, is_key, (verdict, tells, is_status)) = told in
-    is_status ∙ yes verdict (tells.1 (all pk is_key))
+signed : (p : ParameterSet) (key : List ℕ) (input : Input) (random old new : List ℕ) → Signs p key input random old new 0
+    → bytes.Signs p shake256_front shake128_front key random input old new (Ok tt)
+signed p key input random old new signs =
+    does (bytes.Signs p shake256_front shake128_front key random input old new) (sized 32 random signs (λ (_, two). absurd cc))
 
--- a pair's bytes: what the private key signs, where the pair's public key accepts it, is judged yes
-pair_yes : (p : ParameterSet) (pk : PublicParts) (sk : PrivateParts) (public private : List ℕ) → IsPair p shake256_front shake128_front pk sk
-    → public ≡ bytes_of_public pk → private ≡ private_key_bytes p.eta sk
-    → (signs : PrivateParts → Result (List ℕ) Fault) (accepts : List ℕ → PublicParts → Type 0) → ((signature : List ℕ) → signs sk ≡ Ok signature → accepts signature pk)
-    → (old signature : List ℕ) (fits fits' : Bool) (status : ℕ)
-    → MatchBool fits (WritesSignature p private signs old signature 0) (Leaves 2 old signature 0)
-    → MatchBool fits' (TellsVerdict p public (accepts signature) status) (status ≡ 2) → status ≢ 2 → status ≡ 0
-pair_yes p pk sk public private pair is_public is_private signs accepts complete old signature fits fits' status signing judged not_wrong =
-    let (other, is_decoded, is_signed) = signed_by p private signs old signature 0 fits refl signing in
-    let same_private : other ≡ sk = (pair.private_decoded other).0 (subst (λ bytes. IsPrivateKeyOf p.eta p.k p.l bytes other) is_private is_decoded) in
-    let accepted : accepts signature pk = complete signature (subst (λ key. signs key ≡ Ok signature) same_private is_signed) in
-    judged_yes p public (accepts signature) status fits' judged not_wrong
-    (λ decoded is_key.
-    let same_public : decoded ≡ pk = (pair.public_decoded decoded).0 (subst (λ bytes. IsPublicKeyOf shake256_front p.k bytes decoded) is_public is_key) in
-    subst (λ key. accepts signature key) (sym same_public) accepted)
-
-pub accepts_written : (p : ParameterSet) → IsSet p → SignedIsAccepted → PairsAcceptWritten p
-accepts_written p known law seed public public' private private' keys =
-    let (pair, generated, (is_public, is_private, _)) = made p seed public public' private private' 0 refl keys in
-    let both = (law p shake256_front shake128_front pair.0 pair.1 known (λ x. omega (arith, length-shake256_front x))).1 seed generated in
+pub belong : pairs.PairsBelong → (p : ParameterSet) → IsSet p → PairsBelong p
+belong law p known seed public public' private private' keys =
+    let pair = law p shake256_front shake128_front known (λ x. omega (arith, length-shake256_front x)) seed public public' private private'
+    (does (bytes.Generates p shake256_front shake128_front seed public public' private private') (sized 32 seed keys (λ (_, _, two). absurd cc))) in
+    let yes : (input : Input) (random old signature : List ℕ) (status : ℕ) → Signs p private' input random old signature 0 → Judges p public' input signature status → status ≢ 2 → status ≡ 0 =
+    λ input random old signature status signs (answer, judges, is) not_wrong.
+    is ∙ ap answer_status (pair.accepted random input old signature answer (signed p private' input random old signature signs) judges (told_fits answer status is not_wrong)) in
     record {
-      messages = λ message context random old signature status.
-          pair_yes p pair.0 pair.1 public' private' both.0 is_public is_private
-          (λ sk. sign_input p shake256_front shake128_front sk random (plain message context))
-          (λ signature pk. VerifiesInput p shake256_front shake128_front pk signature (plain message context))
-          (λ signature signed. both.1 random signature (plain message context) signed)
-          old signature _ _ status;
-      digests = λ digest context oid random old signature status.
-          pair_yes p pair.0 pair.1 public' private' both.0 is_public is_private
-          (λ sk. sign_input p shake256_front shake128_front sk random (hashed digest context oid))
-          (λ signature pk. VerifiesInput p shake256_front shake128_front pk signature (hashed digest context oid))
-          (λ signature signed. both.1 random signature (hashed digest context oid) signed)
-          old signature _ _ status;
-      hashes = λ mu random old signature status.
-          pair_yes p pair.0 pair.1 public' private' both.0 is_public is_private
-          (λ sk. sign_input p shake256_front shake128_front sk random (represented mu))
-          (λ signature pk. VerifiesInput p shake256_front shake128_front pk signature (represented mu))
-          (λ signature signed. both.1 random signature (represented mu) signed)
-          old signature _ _ status;
-    }
-
--- what is done with a private key that is the only one with its bytes
-with_only : (p : ParameterSet) (key : List ℕ) (sk : PrivateParts) (uses : PrivateParts → Type 0) (refuses : Fault → Type 0) (decoded : Result PrivateParts Fault)
-    → ((other : PrivateParts) → IsPrivateKeyOf p.eta p.k p.l key other ↔ (other ≡ sk))
-    → DecodesPrivate p.eta p.k p.l key decoded → MatchResult decoded uses refuses → uses sk
-with_only p key sk uses refuses (Ok other) only decodes used = subst uses ((only other).0 decodes) used
-with_only p key sk uses refuses (Err fault) only (_, none) refused = absurd (none sk ((only sk).1 refl))
-
--- an answer about a whole key is yes
-whole_yes : (p : ParameterSet) (sk : PrivateParts) (answer : Result Bool Fault) → IsWhole p shake128_front sk → TellsWhole p shake128_front sk answer
-    → verdict_status answer ≡ 0
-whole_yes p sk (Ok whole) is_whole (_, tells) = yes whole (tells.1 is_whole)
-whole_yes p sk (Err fault) is_whole (none, _) = let e = sym is_whole.sampled ∙ none in absurd cc
-
--- what is written of a public key that there is
-derived_done : (answer : Result PublicParts Fault) (pk : PublicParts) (old new : List ℕ) (status : ℕ) → answer ≡ Ok pk
-    → Writes bytes_of_public answer old new status → (new ≡ bytes_of_public pk) × (status ≡ 0)
-derived_done answer pk old new status is = subst (λ it. Writes bytes_of_public it old new status) is
-
-pub belong : (p : ParameterSet) → IsSet p → SignedIsAccepted → PairsBelong p
-belong p known law seed public public' private private' keys =
-    let (pair, generated, (is_public, is_private, _)) = made p seed public public' private private' 0 refl keys in
-    let both = (law p shake256_front shake128_front pair.0 pair.1 known (λ x. omega (arith, length-shake256_front x))).1 seed generated in
-    let only : (other : PrivateParts) → IsPrivateKeyOf p.eta p.k p.l private' other ↔ (other ≡ pair.1) =
-    subst (λ bytes. (other : PrivateParts) → IsPrivateKeyOf p.eta p.k p.l bytes other ↔ (other ≡ pair.1)) (sym is_private) both.0.private_decoded in
-    record {
-      checked = λ status checks not_wrong.
-          let told : TellsPrivate p private' status = chosen _ checks not_wrong in
-          let (decoded, decodes, matches) = told in
-          with_only p private' pair.1 (λ sk. status ≡ 0) (λ fault. status ≡ status_of fault) decoded only decodes matches;
-      whole = λ status checks not_wrong.
-          let told : TellsWholeness p private' status = chosen _ checks not_wrong in
-          let (decoded, decodes, matches) = told in
-          let (answer, tells, is) = with_only p private' pair.1 (λ sk. (answer : Result Bool Fault) × TellsWhole p shake128_front sk answer × (status ≡ verdict_status answer))
-          (λ fault. status ≡ status_of fault) decoded only decodes matches in
-          is ∙ whole_yes p pair.1 answer both.0.whole tells;
-      derived = λ old new status derives not_wrong.
-          let writes : WritesPublic p private' old new status = chosen _ derives (λ (_, two). not_wrong two) in
-          let (decoded, decodes, matches) = writes in
-          let (same, done) = derived_done (derived p shake128_front pair.1) pair.0 old new status both.0.derives
-          (with_only p private' pair.1 (λ sk. Writes bytes_of_public (derived p shake128_front sk) old new status) (λ fault. Leaves (status_of fault) old new status) decoded only decodes matches) in
-          (same ∙ sym is_public, done);
+      inputs = yes;
+      hashes = λ mu random old signature status signs judges not_wrong.
+          yes (represented mu) random old signature status (sized 64 mu signs (λ (_, two). absurd cc)) (sized 64 mu judges not_wrong) not_wrong;
+      checked = λ status (answer, checks, is) not_wrong. is ∙ ap done_status (pair.checked answer checks (fits answer status is not_wrong));
+      whole = λ status (answer, checks, is) not_wrong. is ∙ ap answer_status (pair.whole answer checks (told_fits answer status is not_wrong));
+      derived = λ old new status (answer, derives, is) not_wrong.
+          let (same, ok) = pair.derived old new answer derives (fits answer status is not_wrong) in
+          (same, is ∙ ap done_status ok);
     }

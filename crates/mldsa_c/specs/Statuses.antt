@@ -1,7 +1,9 @@
 -- The numbers that the exported calls answer: 0 says done or yes, 1 says no, and 2 that an array has the wrong length.
-use Rattle.std.specs.Prelude.{◌≡◌, ℕ, Bool, true, false, List, Result, Ok, Err, MatchResult}
+use Rattle.std.specs.Prelude.{ℕ, Bool, true, false, Result, Ok, Err, ⊤}
 use Rattle.fips204_base.specs.declared.fault.Fault.{Fault}
 use Rattle.fips204_base.specs.declared.fault.Fault.TheVariants.{KeyGenRng, SignCtx, SignRng, HashCtx, OidEmpty, OidNotDer, DigestTooLong, DigestLength, HashRng, InternalRng, TooManyAttempts, KeyRange, SamplingLimit}
+use Rattle.fips204_bytes.specs.declared.refusal.Refusal.{Refusal}
+use Rattle.fips204_bytes.specs.declared.refusal.Refusal.TheVariants.{Length, Library}
 
 -- the status of each fault
 abbrev pub status_of : Fault → ℕ
@@ -19,17 +21,16 @@ status_of TooManyAttempts = 13
 status_of KeyRange = 14
 status_of SamplingLimit = 15
 
--- the status of an answer to a question
-abbrev pub verdict_status : Result Bool Fault → ℕ
-verdict_status (Ok true) = 0
-verdict_status (Ok false) = 1
-verdict_status (Err fault) = status_of fault
+-- the status of a refusal, of a call that writes, and of a question
+abbrev pub refusal_status : Refusal → ℕ
+refusal_status (Length which) = 2
+refusal_status (Library fault) = status_of fault
 
--- an array that would be written is as it was
-abbrev pub Leaves : ℕ → List ℕ → List ℕ → ℕ → Type 0
-Leaves why old new status = (new ≡ old) × (status ≡ why)
+abbrev pub done_status : Result ⊤ Refusal → ℕ
+done_status (Ok done) = 0
+done_status (Err refusal) = refusal_status refusal
 
--- an array is written: it has the bytes of the answer, and the call is done; or it is as it was, and the status says why
-abbrev pub Writes : {A : Type 0} → (A → List ℕ) → Result A Fault → List ℕ → List ℕ → ℕ → Type 0
-Writes bytes_of answer old new status =
-    MatchResult answer (λ value. (new ≡ bytes_of value) × (status ≡ 0)) (λ fault. Leaves (status_of fault) old new status)
+abbrev pub answer_status : Result Bool Refusal → ℕ
+answer_status (Ok true) = 0
+answer_status (Ok false) = 1
+answer_status (Err refusal) = refusal_status refusal

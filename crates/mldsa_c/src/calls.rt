@@ -1,24 +1,78 @@
-//! The calls of one parameter set, with arrays of any length: those with a private key in `keys` and `signing`, those
-//! with a public key in `verifying`.
-//!
-//! A call looks at the lengths, and the function that it then calls does the work, outside its frame.
+//! The calls with a seed, random bytes or a `mu` of any length.
 #![tactic(auto)]
 
-mod keys;
-mod signing;
-mod verifying;
+ghost use Rattle.fips204.specs.Inputs.{input_of};
+ghost use Rattle.fips204.specs.Sets.{named_set};
+ghost use Rattle.mldsa_c.specs.Calls.{Generates, Signs, SignsMu, Judges, JudgesMu};
 
-use fips204::types::{KG, PrivateKey, PublicKey};
-use fips204_shake::streams::{Shake128Stream, Shake256Stream};
+use crate::statuses::{WRONG_LENGTH, status, verdict_status};
+use fips204_shake::{Input, SetName};
 
-/// The calls of the set whose matrix has `K` rows and `L` columns.
-pub(crate) struct Calls<const K: usize, const L: usize>;
+/// Makes the key pair of a seed.
+#[inline(always)]
+pub(crate) fn keygen(
+    set: SetName,
+    seed: &[u8],
+    public_key: &mut [u8],
+    private_key: &mut [u8],
+) -> u32
+    ensures { Generates (named_set set) seed.now public_key.old public_key.new private_key.old private_key.new result }
+{
+    let Some(seed) = seed.as_array::<32>() else {
+        return WRONG_LENGTH;
+    };
+    status(fips204_shake::keygen(set, seed, public_key, private_key))
+}
 
-/// Key generation of a set, over SHAKE.
-type Pair<const K: usize, const L: usize> = KG<K, L, Shake256Stream, Shake128Stream>;
+/// Signs an input.
+#[inline(always)]
+pub(crate) fn sign(
+    set: SetName,
+    private_key: &[u8],
+    input: &Input<'_>,
+    random: &[u8],
+    signature: &mut [u8],
+) -> u32
+    ensures { Signs (named_set set) private_key.now (input_of input.now) random.now signature.old signature.new result }
+{
+    let Some(random) = random.as_array::<32>() else {
+        return WRONG_LENGTH;
+    };
+    status(fips204_shake::sign(set, private_key, random, input, signature))
+}
 
-/// A private key of a set, over SHAKE.
-type Private<const K: usize, const L: usize> = PrivateKey<K, L, Shake256Stream, Shake128Stream>;
+/// Signs the hash `mu` of a framed message.
+#[inline(always)]
+pub(crate) fn sign_mu(
+    set: SetName,
+    private_key: &[u8],
+    mu: &[u8],
+    random: &[u8],
+    signature: &mut [u8],
+) -> u32
+    ensures { SignsMu (named_set set) private_key.now mu.now random.now signature.old signature.new result }
+{
+    let Some(mu) = mu.as_array::<64>() else {
+        return WRONG_LENGTH;
+    };
+    sign(set, private_key, &Input::Mu(mu), random, signature)
+}
 
-/// A public key of a set, over SHAKE.
-type Public<const K: usize, const L: usize> = PublicKey<K, L, Shake256Stream, Shake128Stream>;
+/// Tells whether a public key accepts the signature of an input.
+#[inline(always)]
+pub(crate) fn verify(set: SetName, public_key: &[u8], input: &Input<'_>, signature: &[u8]) -> u32
+    ensures { Judges (named_set set) public_key.now (input_of input.now) signature.now result }
+{
+    verdict_status(fips204_shake::verify(set, public_key, input, signature))
+}
+
+/// Tells whether a public key accepts the signature of the hash `mu` of a framed message.
+#[inline(always)]
+pub(crate) fn verify_mu(set: SetName, public_key: &[u8], mu: &[u8], signature: &[u8]) -> u32
+    ensures { JudgesMu (named_set set) public_key.now mu.now signature.now result }
+{
+    let Some(signed) = mu.as_array::<64>() else {
+        return WRONG_LENGTH;
+    };
+    verify(set, public_key, &Input::Mu(signed), signature)
+}

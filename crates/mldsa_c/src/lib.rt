@@ -1,14 +1,14 @@
-//! ML-DSA (FIPS 204) for C: the calls of `fips204_shake`, once for each parameter set.
+//! ML-DSA (FIPS 204) for C: the calls of `fips204_bytes` over SHAKE, once for each parameter set.
 //!
 //! No export has a `requires`: every array may have any length, and a wrong one is answered by the status 2. An array
 //! that a call writes is as it was after every status but 0. `c/mldsa.h` declares the exports and says what they answer.
 #![tactic(auto)]
 
-mod arrays;
 mod calls;
 pub mod laws;
 mod ml_dsa_44;
 mod ml_dsa_65;
 mod ml_dsa_87;
+mod pieces;
 mod pre_hash;
 mod statuses;

@@ -1,17 +1,24 @@
 //! The exports of ML-DSA-44.
 #![tactic(auto)]
 
+ghost use Rattle.fips204.specs.Framing.{plain, hashed};
 ghost use Rattle.fips204.specs.ParameterSets.{set_44};
-ghost use Rattle.mldsa_c.specs.Calls.{Generates, SignsMessage, JudgesMessage, SignsDigest, JudgesDigest, SignsMu, JudgesMu, Derives, Checks, ChecksWholeness};
+ghost use Rattle.mldsa_c.specs.Calls.{Generates, Signs, Judges, SignsMu, JudgesMu, Derives, Checks, ChecksWholeness, ChecksPair};
+ghost use Rattle.mldsa_c.specs.Pieces.{Begins};
+ghost use Rattle.fips204_bytes.specs.Mu.{tr_of_private, tr_of_public};
+ghost use Rattle.fips204_shake.specs.Fronts.{shake256_front};
+ghost use Rattle.fips204.specs.ParameterSets.{public_key_length, private_key_length};
 
-use crate::calls::Calls;
+use crate::statuses::{status, verdict_status};
+use crate::{calls, pieces};
+use fips204_shake::{Input, SetName};
 
 /// Makes the key pair of a seed of 32 bytes.
 #[unsafe(no_mangle)]
 pub extern "C" fn mldsa44_keygen(seed: &[u8], public_key: &mut [u8], private_key: &mut [u8]) -> u32
     ensures { Generates set_44 seed.now public_key.old public_key.new private_key.old private_key.new result }
 {
-    Calls::<4, 4>::keygen(seed, public_key, private_key)
+    calls::keygen(SetName::MlDsa44, seed, public_key, private_key)
 }
 
 /// Signs a message under a context, from 32 random bytes.
@@ -23,9 +30,10 @@ pub extern "C" fn mldsa44_sign(
     random: &[u8],
     signature: &mut [u8],
 ) -> u32
-    ensures { SignsMessage set_44 private_key.now message.now context.now random.now signature.old signature.new result }
+    ensures { Signs set_44 private_key.now (plain message.now context.now) random.now signature.old signature.new result }
 {
-    Calls::<4, 4>::sign(private_key, message, context, random, signature)
+    let input = Input::Message(message, context);
+    calls::sign(SetName::MlDsa44, private_key, &input, random, signature)
 }
 
 /// Tells whether a public key accepts the signature of a message under a context.
@@ -36,9 +44,10 @@ pub extern "C" fn mldsa44_verify(
     context: &[u8],
     signature: &[u8],
 ) -> u32
-    ensures { JudgesMessage set_44 public_key.now message.now context.now signature.now result }
+    ensures { Judges set_44 public_key.now (plain message.now context.now) signature.now result }
 {
-    Calls::<4, 4>::verify(public_key, message, context, signature)
+    let signed = Input::Message(message, context);
+    calls::verify(SetName::MlDsa44, public_key, &signed, signature)
 }
 
 /// Signs a digest under a context, from 32 random bytes; `oid` names its hash function.
@@ -51,9 +60,10 @@ pub extern "C" fn mldsa44_hash_sign(
     random: &[u8],
     signature: &mut [u8],
 ) -> u32
-    ensures { SignsDigest set_44 private_key.now digest.now context.now oid.now random.now signature.old signature.new result }
+    ensures { Signs set_44 private_key.now (hashed digest.now context.now oid.now) random.now signature.old signature.new result }
 {
-    Calls::<4, 4>::hash_sign(private_key, digest, context, oid, random, signature)
+    let input = Input::Digest(digest, context, oid);
+    calls::sign(SetName::MlDsa44, private_key, &input, random, signature)
 }
 
 /// Tells whether a public key accepts the signature of a digest under a context; `oid` names its hash function.
@@ -65,9 +75,10 @@ pub extern "C" fn mldsa44_hash_verify(
     oid: &[u8],
     signature: &[u8],
 ) -> u32
-    ensures { JudgesDigest set_44 public_key.now digest.now context.now oid.now signature.now result }
+    ensures { Judges set_44 public_key.now (hashed digest.now context.now oid.now) signature.now result }
 {
-    Calls::<4, 4>::hash_verify(public_key, digest, context, oid, signature)
+    let signed = Input::Digest(digest, context, oid);
+    calls::verify(SetName::MlDsa44, public_key, &signed, signature)
 }
 
 /// Signs the hash `mu` of a framed message, which has 64 bytes, from 32 random bytes.
@@ -80,7 +91,7 @@ pub extern "C" fn mldsa44_sign_mu(
 ) -> u32
     ensures { SignsMu set_44 private_key.now mu.now random.now signature.old signature.new result }
 {
-    Calls::<4, 4>::sign_mu(private_key, mu, random, signature)
+    calls::sign_mu(SetName::MlDsa44, private_key, mu, random, signature)
 }
 
 /// Tells whether a public key accepts the signature of the hash `mu` of a framed message.
@@ -88,7 +99,7 @@ pub extern "C" fn mldsa44_sign_mu(
 pub extern "C" fn mldsa44_verify_mu(public_key: &[u8], mu: &[u8], signature: &[u8]) -> u32
     ensures { JudgesMu set_44 public_key.now mu.now signature.now result }
 {
-    Calls::<4, 4>::verify_mu(public_key, mu, signature)
+    calls::verify_mu(SetName::MlDsa44, public_key, mu, signature)
 }
 
 /// Computes the public key of a private one.
@@ -96,7 +107,7 @@ pub extern "C" fn mldsa44_verify_mu(public_key: &[u8], mu: &[u8], signature: &[u
 pub extern "C" fn mldsa44_public_key(private_key: &[u8], public_key: &mut [u8]) -> u32
     ensures { Derives set_44 private_key.now public_key.old public_key.new result }
 {
-    Calls::<4, 4>::public_key(private_key, public_key)
+    status(fips204_shake::public_key(SetName::MlDsa44, private_key, public_key))
 }
 
 /// Tells whether bytes are a private key.
@@ -104,7 +115,7 @@ pub extern "C" fn mldsa44_public_key(private_key: &[u8], public_key: &mut [u8]) 
 pub extern "C" fn mldsa44_check_private_key(private_key: &[u8]) -> u32
     ensures { Checks set_44 private_key.now result }
 {
-    Calls::<4, 4>::check_private_key(private_key)
+    status(fips204_shake::check_private_key(SetName::MlDsa44, private_key))
 }
 
 /// Tells whether a private key is whole.
@@ -112,5 +123,33 @@ pub extern "C" fn mldsa44_check_private_key(private_key: &[u8]) -> u32
 pub extern "C" fn mldsa44_is_whole(private_key: &[u8]) -> u32
     ensures { ChecksWholeness set_44 private_key.now result }
 {
-    Calls::<4, 4>::is_whole(private_key)
+    verdict_status(fips204_shake::is_whole(SetName::MlDsa44, private_key))
+}
+
+/// Tells whether a private key and the public key that belongs to it are a pair.
+#[unsafe(no_mangle)]
+pub extern "C" fn mldsa44_is_pair(private_key: &[u8]) -> u32
+    ensures { ChecksPair set_44 private_key.now result }
+{
+    verdict_status(fips204_shake::is_pair(SetName::MlDsa44, private_key))
+}
+
+/// Begins a message in pieces that a public key is to verify, under a context.
+#[unsafe(no_mangle)]
+pub extern "C" fn mldsa44_mu_begin(public_key: &[u8], context: &[u8], state: &mut [u8]) -> u32
+    ensures { Begins (public_key_length set_44) public_key.now (tr_of_public shake256_front public_key.now) context.now state.old state.new result }
+{
+    pieces::begin(SetName::MlDsa44, public_key, context, state)
+}
+
+/// Begins a message in pieces that a private key is to sign, under a context.
+#[unsafe(no_mangle)]
+pub extern "C" fn mldsa44_mu_begin_private(
+    private_key: &[u8],
+    context: &[u8],
+    state: &mut [u8],
+) -> u32
+    ensures { Begins (private_key_length set_44) private_key.now (tr_of_private private_key.now) context.now state.old state.new result }
+{
+    pieces::begin_private(SetName::MlDsa44, private_key, context, state)
 }

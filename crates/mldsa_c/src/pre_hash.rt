@@ -1,6 +1,7 @@
-//! The export that all sets share.
+//! Exports that all sets share.
 #![tactic(auto)]
 
+ghost use Rattle.std.specs.Prelude.{◌≡◌};
 ghost use Rattle.mldsa_c.specs.Calls.{ChecksPreHash};
 
 use crate::statuses::{DONE, status_of};
@@ -15,4 +16,12 @@ pub extern "C" fn mldsa_check_pre_hash(digest: &[u8], oid: &[u8]) -> u32
         Ok(()) => DONE,
         Err(fault) => status_of(fault),
     }
+}
+
+/// The version of the library: 65536 times the first number, 256 times the second, and the third.
+#[unsafe(no_mangle)]
+pub extern "C" fn mldsa_version() -> u32
+    ensures { result ≡ 512 }
+{
+    512
 }

@@ -2,9 +2,9 @@
 #![tactic(auto)]
 
 ghost use Rattle.std.specs.Prelude.{◌≡◌};
-ghost use Rattle.mldsa_c.specs.Statuses.{status_of, verdict_status};
+ghost use Rattle.mldsa_c.specs.Statuses.{status_of, refusal_status, done_status, answer_status};
 
-use fips204::Fault;
+use fips204_bytes::{Fault, Refusal};
 
 /// Done; of a question: yes.
 pub(crate) const DONE: u32 = 0;
@@ -14,6 +14,9 @@ const NO: u32 = 1;
 
 /// An array has the wrong length.
 pub(crate) const WRONG_LENGTH: u32 = 2;
+
+/// No state has these bytes.
+pub(crate) const BROKEN_STATE: u32 = 16;
 
 /// The status of a fault.
 pub(crate) fn status_of(fault: Fault) -> u32
@@ -36,13 +39,33 @@ pub(crate) fn status_of(fault: Fault) -> u32
     }
 }
 
+/// The status of a refusal.
+pub(crate) fn status_of_refusal(refusal: Refusal) -> u32
+    ensures { result ≡ refusal_status refusal }
+{
+    match refusal {
+        Refusal::Length(_) => WRONG_LENGTH,
+        Refusal::Library(fault) => status_of(fault),
+    }
+}
+
+/// The status of a call that writes.
+pub(crate) fn status(answer: Result<(), Refusal>) -> u32
+    ensures { result ≡ done_status answer }
+{
+    match answer {
+        Ok(()) => DONE,
+        Err(refusal) => status_of_refusal(refusal),
+    }
+}
+
 /// The status of an answer to a question.
-pub(crate) fn verdict_status(answer: Result<bool, Fault>) -> u32
-    ensures { result ≡ verdict_status answer }
+pub(crate) fn verdict_status(answer: Result<bool, Refusal>) -> u32
+    ensures { result ≡ answer_status answer }
 {
     match answer {
         Ok(true) => DONE,
         Ok(false) => NO,
-        Err(fault) => status_of(fault),
+        Err(refusal) => status_of_refusal(refusal),
     }
 }

@@ -5,8 +5,8 @@ use Rattle.mldsa_engine.specs.declared.call.Streams.{Streams}
 use Rattle.mldsa_engine.specs.declared.call.Streams.TheVariants.{Sha2, Fill00, Fill55, FillFf}
 use Rattle.mldsa_engine.specs.declared.call.Task.{Task}
 use Rattle.mldsa_engine.specs.declared.call.Task.TheVariants.{Id, Keygen, Sign, Verify, Check, Batch}
-use Rattle.mldsa_engine.specs.declared.call.SetName.{SetName}
-use Rattle.mldsa_engine.specs.declared.call.SetName.TheVariants.{MlDsa44, MlDsa65, MlDsa87}
+use Rattle.fips204.specs.declared.sets.SetName.{SetName}
+use Rattle.fips204.specs.declared.sets.SetName.TheVariants.{MlDsa44, MlDsa65, MlDsa87}
 
 -- the word that names the streams
 abbrev pub streams_word : Streams → List ℕ

@@ -7,7 +7,8 @@ use Rattle.fips204.specs.fault.Fault.{Fault}
 use Rattle.fips204.specs.Encodings.{PublicParts, IsPublicKeyOf, public_key_bytes, private_key_bytes}
 use Rattle.fips204.specs.Faults.{words}
 use Rattle.fips204.specs.Keys.{DecodesPrivate}
-use Rattle.fips204.specs.ParameterSets.{ParameterSet, set_44, set_65, set_87, public_key_length, private_key_length, signature_length}
+use Rattle.fips204.specs.ParameterSets.{ParameterSet, public_key_length, private_key_length, signature_length}
+use Rattle.fips204.specs.Sets.{named_set}
 use Rattle.fips204.specs.Refusals.{generated, sign_input, VerifiesInput}
 use Rattle.fips204.specs.Framing.{plain}
 use Rattle.mldsa_engine.specs.Calls.{first_stream, second_stream, AreCall, AreNoCall}
@@ -17,14 +18,7 @@ use Rattle.mldsa_lines.specs.declared.fault.RunFault.{RunFault}
 use Rattle.mldsa_lines.specs.declared.fault.RunFault.TheVariants.{Usage, Write}
 use Rattle.mldsa_engine.specs.declared.call.Task.{Task}
 use Rattle.mldsa_engine.specs.declared.call.Task.TheVariants.{Id, Keygen, Sign, Verify, Check, Batch}
-use Rattle.mldsa_engine.specs.declared.call.SetName.{SetName}
-use Rattle.mldsa_engine.specs.declared.call.SetName.TheVariants.{MlDsa44, MlDsa65, MlDsa87}
-
--- the parameters of a set
-abbrev pub named_set : SetName → ParameterSet
-named_set MlDsa44 = set_44
-named_set MlDsa65 = set_65
-named_set MlDsa87 = set_87
+use Rattle.fips204.specs.declared.sets.SetName.{SetName}
 
 -- the lines that a command wants of every input: a number of bytes each, or any number of them
 abbrev pub wanted_lines : Task → ParameterSet → List (Option ℕ)

@@ -6,18 +6,20 @@ ghost use Rattle.fips204.specs.Encodings.{PublicParts, IsPublicKeyOf};
 ghost use Rattle.fips204.specs.Refusals.{VerifiesInput};
 ghost use Rattle.fips204.specs.Framing.{plain};
 ghost use Rattle.fips204.specs.Prepared.{prepared_public};
+ghost use Rattle.fips204.specs.Sets.{named_set};
 ghost use Rattle.mldsa_lines.specs.Lines.{AllFit, IsInputFault, StopsAt};
-ghost use Rattle.mldsa_engine.specs.ProgramText.{named_set, two_bytes, wanted_lines, entry_lines, input_lines, lines_of_input, hex_text, Generates, Signs, Checks, Answers, Executes};
+ghost use Rattle.mldsa_engine.specs.ProgramText.{two_bytes, wanted_lines, entry_lines, input_lines, lines_of_input, hex_text, Generates, Signs, Checks, Answers, Executes};
 ghost use Rattle.mldsa_engine.specs.InnerSteps.{AcceptsIfPrepared, JudgesEntries, JudgesByKey};
 
 mod writing;
 
-use crate::call::{SetName, Task};
-use fips204::Fault;
+use crate::call::Task;
 use fips204::sets::{HasSet, KeySizes, Matrix, Set, SignatureSizes};
 use fips204::traits::{KeyGen, SerDes, Signer, Verifier, pairwise_check};
 use fips204::types::{KG, PreparedPublicKey, PrivateKey, PublicKey};
-use fips204::xof::Xof;
+use fips204::xof::{Xof, hash};
+use fips204::{Fault, SetName};
+use fips204_bytes::array_of;
 use mldsa_lines::lines::read_lines;
 use mldsa_lines::{Marked, RunFault};
 use std::alloc::Global;
@@ -125,7 +127,7 @@ where
     {
         match task {
             Task::Id => Self::identify(alloc, lines[0].as_slice()),
-            Task::Keygen => Self::make_keys(alloc, &array_of(lines[0].as_slice())),
+            Task::Keygen => Self::keygen(alloc, &array_of(lines[0].as_slice())),
             Task::Sign => {
                 let [key, seed, context, message] = fields(lines);
                 Self::sign(alloc, key, &array_of(seed), context, message)
@@ -145,19 +147,16 @@ where
     /// A public key and its hash, as lines of hex.
     #[inline(never)]
     fn identify(alloc: Global, key: &[u8]) -> Result<Output, RunFault>
-        requires key { length key.now ≡ PK_LEN }
         ensures given { IfOk result (λ output. (output.text.items ≡ hex_text (key.now ∷ take 64 (H.front key.now) ∷ []))
             × (output.success ≡ true)) }
         ensures memory { IfErr result (λ fault. fault ≡ RunFault.Memory) }
     {
-        let key = PublicKey::<K, L, H, G>::try_from_bytes(array_of(key)).unwrap();
-        let tr = *key.tr();
-        two_lines(alloc, &key.into_bytes(), &tr)
+        two_lines(alloc, key, &hash::<H, 64>(&[key]))
     }
 
     /// The keys of a seed, as lines of hex, or the refusal.
     #[inline(never)]
-    fn make_keys(alloc: Global, seed: &[u8; 32]) -> Result<Output, RunFault>
+    fn keygen(alloc: Global, seed: &[u8; 32]) -> Result<Output, RunFault>
         ensures given { IfOk result (λ output. Generates S.set H.front G.front seed.now output.text.items output.success) }
         ensures memory { IfErr result (λ fault. fault ≡ RunFault.Memory) }
     {
@@ -336,14 +335,4 @@ fn number_of(bytes: &[u8]) -> usize
     ensures most { result ≤ 65535 }
 {
     usize::from(bytes[0]) * 256 + usize::from(bytes[1])
-}
-
-/// Bytes of a known number as an array.
-fn array_of<const N: usize>(bytes: &[u8]) -> [u8; N]
-    requires { length bytes.now ≡ N }
-    ensures { result ≡ bytes.now }
-{
-    let mut array = [0; N];
-    array.copy_from_slice(bytes);
-    array
 }

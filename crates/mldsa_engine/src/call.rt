@@ -4,6 +4,8 @@
 ghost use Rattle.std.specs.Prelude.{◌≡◌, ℕ, List, [], ◌∷◌, Some, None, map, string_bytes, IfSome, IfNone};
 ghost use Rattle.mldsa_engine.specs.Calls.{streams_word, task_word, set_word, call_words, AreNoCall};
 
+use fips204::SetName;
+
 /// The streams of a run: what stands for `H` and for `G`.
 #[derive(Debug, Clone, Copy, PartialEq, Eq)]
 pub enum Streams {
@@ -32,17 +34,6 @@ pub enum Task {
     Check,
     /// Prints for each of many signatures whether it is accepted.
     Batch,
-}
-
-/// A parameter set of FIPS 204.
-#[derive(Debug, Clone, Copy, PartialEq, Eq)]
-pub enum SetName {
-    /// ML-DSA-44.
-    MlDsa44,
-    /// ML-DSA-65.
-    MlDsa65,
-    /// ML-DSA-87.
-    MlDsa87,
 }
 
 /// The streams that a word names.

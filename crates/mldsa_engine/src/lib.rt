@@ -12,7 +12,8 @@ pub mod call;
 pub mod process;
 
 use answers::{Output, execute};
-pub use call::{SetName, Streams, Task};
+pub use call::{Streams, Task};
+pub use fips204::SetName;
 use fips204::xof::{Fill, Sha256Ctr, Sha512Ctr, Xof};
 pub use mldsa_lines::{Bytewise, Marked, RunFault, output};
 use std::alloc::Global;

@@ -7,6 +7,8 @@ pub mod key_store;
 pub mod ledger;
 pub mod licence;
 pub mod manifest;
+#[cfg(test)]
+mod over_bytes;
 pub mod pieces;
 #[cfg(test)]
 mod tests;

@@ -1,5 +1,5 @@
-//! Two streams of one's own, as docs/STREAMS.md shows them: a hash in counter mode, and a front that a
-//! function fills.
+//! Streams of one's own, as docs/STREAMS.md shows them: a hash in counter mode, a front that a function fills, and a reader that
+//! wraps another.
 #![tactic(auto)]
 
 ghost use Rattle.std.specs.Prelude.{◌≡◌};
@@ -12,6 +12,7 @@ use super::toy_hash::{digest, state_of};
 use fips204::ml_dsa_44::KG;
 use fips204::traits::pairwise_check;
 use fips204::xof::{BlockHash, BlockReader, FrontReader, Xof, XofReader};
+use std::marker::Model;
 
 /// The toy hash, with digests of four bytes.
 pub struct Toy;
@@ -84,6 +85,79 @@ impl Xof for ToySpread {
     }
 }
 
+/// A reader with a `read_four` of its own, which passes it on.
+#[derive(Drop)]
+pub struct WideReader {
+    front: FrontReader<4096>,
+}
+
+impl Model for WideReader {
+    ghost use Rattle.std.specs.Prelude.{ℕ, List};
+
+    ghost Value = { List ℕ };
+
+    ghost view = { λ reader. reader.front };
+}
+
+impl XofReader for WideReader {
+    ghost rest = { λ bytes. bytes };
+
+    fn left(&self) -> usize {
+        self.front.left()
+    }
+
+    fn read(&mut self, out: &mut [u8]) {
+        self.front.read(out);
+    }
+
+    fn read_four(
+        a: &mut WideReader,
+        b: &mut WideReader,
+        c: &mut WideReader,
+        d: &mut WideReader,
+        to_a: &mut [u8],
+        to_b: &mut [u8],
+        to_c: &mut [u8],
+        to_d: &mut [u8],
+    ) {
+        FrontReader::<4096>::read_four(
+            &mut a.front,
+            &mut b.front,
+            &mut c.front,
+            &mut d.front,
+            to_a,
+            to_b,
+            to_c,
+            to_d,
+        );
+    }
+}
+
+/// The bytes of `ToySpread`, by a reader that wraps another.
+pub struct ToyWide;
+
+impl Xof for ToyWide {
+    type Reader = WideReader;
+
+    const FRONT: usize = 4096;
+
+    ghost FRONT = { 4096 };
+
+    ghost front = { spread_front };
+
+    ghost front_size = { length-spread_front };
+
+    ghost front_least = { Prim.search rules };
+
+    ghost front_most = { Prim.search rules };
+
+    fn open(parts: &[&[u8]]) -> WideReader {
+        WideReader {
+            front: FrontReader::new(filled(parts)),
+        }
+    }
+}
+
 /// The first 4096 bytes of a stream over the joined parts.
 fn front_of<H: Xof>(parts: &[&[u8]]) -> [u8; 4096] {
     let mut front = [0u8; 4096];
@@ -108,7 +182,8 @@ fn toy_fronts(rt: HostRuntime) {
     let of_ctr = has_ends::<ToyCtr>(first, last);
     let first = *b"\xb0\x6d\x29\xe6\xa2\x5f\x1b\xd8\x95\x51\x0e\xca\x87\x43\x00\xbc";
     let last = *b"\xbc\x78\x35\xf1\xae\x6a\x27\xe3";
-    assert!(rt; [of_ctr, has_ends::<ToySpread>(first, last)] == [true; 2]);
+    let of_spread = has_ends::<ToySpread>(first, last);
+    assert!(rt; [of_ctr, of_spread, has_ends::<ToyWide>(first, last)] == [true; 3]);
 }
 
 /// A pair over the toy streams signs, and the signature is accepted.
@@ -116,5 +191,37 @@ fn toy_fronts(rt: HostRuntime) {
 fn toy_signatures(rt: HostRuntime) {
     let one = pairwise_check::<KG<ToyCtr, ToyCtr>>(&[1; 32], &[2; 32], b"a message", b"");
     let two = pairwise_check::<KG<ToyCtr, ToySpread>>(&[1; 32], &[2; 32], b"a message", b"");
-    assert!(rt; [one, two] == [Ok(true); 2]);
+    let three = pairwise_check::<KG<ToyWide, ToyWide>>(&[1; 32], &[2; 32], b"a message", b"");
+    assert!(rt; [one, two, three] == [Ok(true); 3]);
+}
+
+/// The first 4096 bytes of a stream over each of four inputs, read at once.
+fn fronts_at_once<H: Xof>(a: &[u8], b: &[u8], c: &[u8], d: &[u8]) -> [[u8; 4096]; 4] {
+    let mut of_a = [0u8; 4096];
+    let mut of_b = [0u8; 4096];
+    let mut of_c = [0u8; 4096];
+    let mut of_d = [0u8; 4096];
+    H::Reader::read_four(
+        &mut H::open(&[a]),
+        &mut H::open(&[b]),
+        &mut H::open(&[c]),
+        &mut H::open(&[d]),
+        &mut of_a,
+        &mut of_b,
+        &mut of_c,
+        &mut of_d,
+    );
+    [of_a, of_b, of_c, of_d]
+}
+
+/// Four fronts that are read at once are as each is alone.
+#[test]
+fn toy_fours(rt: HostRuntime) {
+    let at_once = fronts_at_once::<ToyWide>(b"a", b"b", b"c", b"abc");
+    let first = [front_of::<ToyWide>(&[b"a"]), front_of::<ToyWide>(&[b"b"])];
+    let last = [front_of::<ToyWide>(&[b"c"]), front_of::<ToyWide>(&[b"abc"])];
+    assert!(rt; at_once[0] == first[0]);
+    assert!(rt; at_once[1] == first[1]);
+    assert!(rt; at_once[2] == last[0]);
+    assert!(rt; at_once[3] == last[1]);
 }

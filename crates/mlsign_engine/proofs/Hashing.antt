@@ -1,6 +1,6 @@
--- A message that is hashed as it is read.
-use Rattle.std.proofs.Common.{◌≡◌, ℕ, List, [], ◌∷◌, ◌++◌, length, take, Option, sym, ap, subst, ◌∙◌, append_assoc}
-use Rattle.std.proofs.lemmas.List.{append-nil, take_at}
+-- A message that is hashed as it is given.
+use Rattle.std.proofs.Common.{◌≡◌, ℕ, ◌+◌, ◌≤◌, ◌<◌, List, [], ◌∷◌, ◌++◌, length, take, Option, Some, refl, sym, ap, subst, ◌∙◌, append_assoc, arith, inr}
+use Rattle.std.proofs.lemmas.List.{append-nil, take_at, length-append, length-take}
 use Rattle.std.proofs.KnownBytes.{Consumes-nil, Consumes-trans}
 use Rattle.std.specs.Io.KnownBytes.{Consumes, IsAtEnd}
 use Rattle.shake.specs.Pieces.{Holds}
@@ -8,42 +8,61 @@ use Rattle.shake.specs.Shake.{shake}
 use Rattle.shake.specs.declared.sponge.Shake.{Shake}
 use Rattle.fips204.specs.Framing.{plain, frame, representative}
 use Rattle.fips204_shake.specs.Fronts.{shake256_front}
-use Rattle.mlsign_engine.specs.Messages.{GivesAll}
+use Rattle.mlsign_engine.specs.Messages.{GivesPiece, Gave, nothing, piece, GivesAll}
 
--- a reader gave these bytes of a message, and the hasher has taken them behind what frames them
-pub record IsTaken (old new : Option (List ℕ)) (tr context : List ℕ) (hasher : Shake 136) : Type 0 where
+-- a source gave these bytes of a message, in so many pieces at most, and the hasher has taken them behind what frames them
+pub record IsTaken {S : Type 0} (gives : S → Option ℕ → List ℕ → S → Type 0) (remaining : S → Option (List ℕ)) (old new : S) (tr context : List ℕ) (hasher : Shake 136) (pieces : ℕ) : Type 0 where
   pub given : List ℕ
-  pub consumed : Consumes old new given
+  pub gave : Gave gives old given new
+  pub many : pieces ≤ length given
+  pub consumed : Consumes (remaining old) (remaining new) given
   pub held : Holds hasher (tr ++ frame 0 context given)
 
-framed_more : (tr context given piece : List ℕ) → (tr ++ frame 0 context given) ++ piece ≡ tr ++ frame 0 context (given ++ piece)
-framed_more tr context given piece =
-    append_assoc tr (frame 0 context given) piece ∙ ap (λ (z : List ℕ). tr ++ 0 ∷ length context ∷ z) (append_assoc context given piece)
+framed_more : (tr context given more : List ℕ) → (tr ++ frame 0 context given) ++ more ≡ tr ++ frame 0 context (given ++ more)
+framed_more tr context given more =
+    append_assoc tr (frame 0 context given) more ∙ ap (λ (z : List ℕ). tr ++ 0 ∷ length context ∷ z) (append_assoc context given more)
 
 -- before the first piece
-pub taken_none : (known : Option (List ℕ)) (tr context : List ℕ) (hasher : Shake 136) → Holds hasher (tr ++ frame 0 context []) → IsTaken known known tr context hasher
-taken_none known tr context hasher held = record { given = []; consumed = Consumes-nil known; held = held }
+pub taken_none : {S : Type 0} (gives : S → Option ℕ → List ℕ → S → Type 0) (remaining : S → Option (List ℕ)) (old : S) (tr context : List ℕ) (hasher : Shake 136)
+    → Holds hasher (tr ++ frame 0 context []) → IsTaken gives remaining old old tr context hasher 0
+taken_none gives remaining old tr context hasher held =
+    record { given = []; gave = nothing; many = omega arith; consumed = Consumes-nil (remaining old); held = held }
+
+longer : (given room : List ℕ) (count pieces : ℕ) → pieces ≤ length given → 0 < count → count ≤ length room → pieces + 1 ≤ length (given ++ take count room)
+longer given room count pieces many some fits = omega (arith, length-append given (take count room), length-take count room)
 
 -- after one more
-pub taken_more : (a b c : Option (List ℕ)) (tr context piece : List ℕ) (before after : Shake 136) → IsTaken a b tr context before → Consumes b c piece
-    → ((m : List ℕ) → Holds before m → Holds after (m ++ piece)) → IsTaken a c tr context after
-taken_more a b c tr context piece before after so_far consumed updates =
+pub taken_more : {S : Type 0} (gives : S → Option ℕ → List ℕ → S → Type 0) (remaining : S → Option (List ℕ)) (old mid new : S) (tr context room : List ℕ) (count pieces : ℕ)
+    (before after : Shake 136) → IsTaken gives remaining old mid tr context before pieces → gives mid (Some count) room new
+    → GivesPiece (remaining mid) (remaining new) (Some count) room → 0 < count
+    → ((m : List ℕ) → Holds before m → Holds after (m ++ take count room)) → IsTaken gives remaining old new tr context after (pieces + 1)
+taken_more gives remaining old mid new tr context room count pieces before after so_far call given some updates =
     record {
-      given = so_far.given ++ piece;
-      consumed = Consumes-trans a b c so_far.given piece so_far.consumed consumed;
-      held = subst (λ (m : List ℕ). Holds after m) (framed_more tr context so_far.given piece) (updates (tr ++ frame 0 context so_far.given) so_far.held);
+      given = so_far.given ++ take count room;
+      gave = piece so_far.given mid new count room so_far.gave call;
+      many = longer so_far.given room count pieces so_far.many some given.0;
+      consumed = Consumes-trans (remaining old) (remaining mid) (remaining new) so_far.given (take count room) so_far.consumed given.1;
+      held = subst (λ (m : List ℕ). Holds after m) (framed_more tr context so_far.given (take count room)) (updates (tr ++ frame 0 context so_far.given) so_far.held);
     }
 
-consumes_last : (a b c : Option (List ℕ)) (x y : List ℕ) → Consumes a b x → Consumes b c y → y ≡ [] → Consumes a c x
-consumes_last a b c x y p q none = subst (λ (z : List ℕ). Consumes a c z) (append-nil x) (Consumes-trans a b c x [] p (subst (λ (z : List ℕ). Consumes b c z) none q))
-
 -- at the end of the message
-pub taken_all : (a b c : Option (List ℕ)) (tr context piece : List ℕ) (hasher : Shake 136) (mu : List ℕ) → IsTaken a b tr context hasher → Consumes b c piece → piece ≡ []
-    → IsAtEnd c → ((m : List ℕ) → Holds hasher m → mu ≡ take 64 (shake256_front m))
-    → (message : List ℕ) × GivesAll a c message × (mu ≡ representative shake256_front tr (plain message context))
-taken_all a b c tr context piece hasher mu so_far consumed none ended hash = (
+pub taken_all : {S : Type 0} (gives : S → Option ℕ → List ℕ → S → Type 0) (remaining : S → Option (List ℕ)) (old mid new : S) (tr context room : List ℕ) (pieces : ℕ)
+    (hasher : Shake 136) (mu : List ℕ) → IsTaken gives remaining old mid tr context hasher pieces → gives mid (Some 0) room new
+    → GivesPiece (remaining mid) (remaining new) (Some 0) room → 0 < length room
+    → ((m : List ℕ) → Holds hasher m → mu ≡ take 64 (shake256_front m))
+    → (message : List ℕ) × GivesAll gives remaining old new message × (mu ≡ representative shake256_front tr (plain message context))
+taken_all gives remaining old mid new tr context room pieces hasher mu so_far call given some hash = (
   so_far.given,
-  record { taken = consumes_last a b c so_far.given piece so_far.consumed consumed none; ended = ended },
+  record {
+    last = mid;
+    room = room;
+    gave = so_far.gave;
+    nothing = call;
+    some = some;
+    taken = subst (Consumes (remaining old) (remaining new)) (append-nil so_far.given)
+        (Consumes-trans (remaining old) (remaining mid) (remaining new) so_far.given [] so_far.consumed given.1);
+    ended = given.2 refl some;
+  },
   hash (tr ++ frame 0 context so_far.given) so_far.held,
 )
 

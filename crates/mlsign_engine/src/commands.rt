@@ -1,27 +1,29 @@
 //! The commands, over the texts of files of keys.
 #![tactic(auto)]
 
-ghost use Rattle.std.specs.Prelude.{◌≡◌, ◌<◌, ◌≤◌, ◌↔◌, ℕ, List, length, Err, IfOk, IfErr, false};
+ghost use Rattle.std.specs.Prelude.{◌≡◌, ◌<◌, ◌≤◌, ◌↔◌, ℕ, List, length, IfOk, IfErr};
+ghost use Rattle.fips204.specs.Sets.{named_set};
 ghost use Rattle.mlsign_files.specs.Keys.{HasPrivateSizes, private_length, private_parts, public_length};
-ghost use Rattle.mlsign_files.specs.PemReading.{FailsLike, GivesOrFails};
-ghost use Rattle.mlsign_files.specs.declared.fault.FileFault.{FileFault};
+ghost use Rattle.mlsign_files.specs.PemReading.{GivesOrFails};
 ghost use Rattle.mlsign_files.specs.declared.pem.Kind.TheVariants.{Private};
 ghost use Rattle.mlsign_engine.specs.Commands.{Generates, Publishes, Shows, Signs, Judges, IsPublicText, HasPublicBytes, HasPublicKey};
-ghost use Rattle.mlsign_engine.specs.Commands.{public_text_at, private_text_at, set_of, IsKeyFault};
-ghost use Rattle.mlsign_engine.specs.InnerSteps.{IsSigningFault, SignsAt};
+ghost use Rattle.mlsign_engine.specs.Commands.{public_text_at, FailsToGenerate, FailsPrivate, FailsToShow, FailsToSign, FailsToJudge};
+ghost use Rattle.mlsign_engine.specs.InnerSteps.{HasNoKeysOrMemory};
 ghost use Rattle.mlsign_engine.specs.Messages.{GivesAll};
 
-use crate::at_set::AtSet;
 use crate::fault::CommandFault;
+use crate::keys::{private_key, tr_of};
+use crate::message::message_mu;
+use crate::source::Source;
+use fips204::laws;
 use fips204::xof::hash;
+use fips204_shake::Input;
 use fips204_shake::streams::Shake256Stream;
-use mldsa_lines::Marked;
 use mlsign_files::pem::{self, Kind};
 use mlsign_files::{
-    Algorithm, FileFault, PrivateKey, read_private, read_public, write_private, write_public,
+    FileFault, PrivateKey, SetName, read_private, read_public, write_private, write_public,
 };
 use std::alloc::{AllocError, Global};
-use std::io::Read;
 
 /// The most bytes of a context.
 const LONGEST: usize = 255;
@@ -41,7 +43,7 @@ pub struct Shown {
     /// Whether it has a public or a private key.
     pub kind: Kind,
     /// The parameter set of the key.
-    pub algorithm: Algorithm,
+    pub algorithm: SetName,
     /// The hash of the public key, which FIPS 204 calls `tr`: SHAKE256 of its bytes. That of a private key is the same as
     /// that of its public key.
     pub hash: [u8; 64],
@@ -50,16 +52,14 @@ pub struct Shown {
 /// Makes the key pair of a seed, which is proved to be consistent, and writes its files.
 ///
 /// Errors: `Library` if rejection sampling reaches its limit; `Memory`.
-pub fn keygen(
-    alloc: Global,
-    algorithm: Algorithm,
-    seed: &[u8; 32],
-) -> Result<KeyTexts, CommandFault>
-    ensures { IfOk result (λ texts. Generates algorithm seed.now texts.private.items texts.public.items) }
+pub fn keygen(alloc: Global, algorithm: SetName, seed: &[u8; 32]) -> Result<KeyTexts, CommandFault>
+    ensures generated { IfOk result (λ texts. Generates algorithm seed.now texts.private.items texts.public.items) }
+    ensures fault { IfErr result (FailsToGenerate algorithm seed.now) }
 {
+    laws::signed_is_accepted();
     let key = PrivateKey::Seed(seed.as_slice());
     let private = write_private(alloc, algorithm, key)?;
-    let public = bytes_at(alloc, algorithm, key)?;
+    let public = public_key(alloc, algorithm, key)?;
     Ok(KeyTexts {
         private: pem::encode(alloc, Kind::Private, private.as_slice())?,
         public: public_text(alloc, algorithm, public.as_slice())?,
@@ -72,9 +72,9 @@ pub fn keygen(
 /// `Library` or `Memory` where they arise.
 pub fn public(alloc: Global, private: &[u8]) -> Result<Vec<u8>, CommandFault>
     ensures published { IfOk result (λ public. Publishes private.now public.items) }
-    ensures key { (fault : FileFault) → result ≡ Err (CommandFault.Key fault) → FailsLike fault (private_text_at private.now) }
+    ensures fault { IfErr result (FailsPrivate private.now) }
 {
-    let (algorithm, bytes) = public_bytes(alloc, private)?;
+    let (algorithm, bytes) = public_of_private(alloc, private)?;
     Ok(public_text(alloc, algorithm, bytes.as_slice())?)
 }
 
@@ -83,7 +83,7 @@ pub fn public(alloc: Global, private: &[u8]) -> Result<Vec<u8>, CommandFault>
 /// Errors: `Key` if the text has no key; of a private key also those of `public`.
 pub fn show(alloc: Global, text: &[u8]) -> Result<Shown, CommandFault>
     ensures shown { IfOk result (λ shown. Shows text.now shown.kind shown.algorithm shown.hash) }
-    ensures key { (fault : FileFault) → result ≡ Err (CommandFault.Key fault) → IsKeyFault text.now fault }
+    ensures fault { IfErr result (FailsToShow text.now) }
 {
     let (kind, algorithm, bytes) = key_of(alloc, text)?;
     Ok(Shown {
@@ -94,88 +94,120 @@ pub fn show(alloc: Global, text: &[u8]) -> Result<Shown, CommandFault>
 }
 
 /// Signs a message under a context with the private key in this text, over these random bytes: 32 zeros give the deterministic
-/// variant. The message is all that the reader gives, and is not kept. The key is first checked to be consistent.
+/// variant. The message is all that the source gives, and is not kept. The key is first checked to be consistent.
 ///
 /// Errors, in this order: `Context` if the context has more than 255 bytes; `Key` if the text has no private key;
-/// `Inconsistent` if its parts do not belong together; `Message` if the reader fails; and `Library` or `Memory` where they
+/// `Inconsistent` if its parts do not belong together; `Message` if the source fails; and `Library` or `Memory` where they
 /// arise.
-pub fn sign<I: Read>(
+pub fn sign<I: Source>(
     alloc: Global,
     private: &[u8],
     random: &[u8; 32],
     context: &[u8],
-    input: &mut Marked<I>,
+    input: &mut I,
 ) -> Result<Vec<u8>, CommandFault>
-    requires unmarked { input.old.failed ≡ false }
     ensures signed { IfOk result (λ signature. (message : List ℕ)
-        × GivesAll (I.remaining input.old.device) (I.remaining input.new.device) message
+        × GivesAll I.gives I.remaining input.old input.new message
         × Signs private.now random.now context.now message signature.items) }
     ensures context { (result ≡ Err CommandFault.Context) ↔ (255 < length context.now) }
-    ensures key { (fault : FileFault) → result ≡ Err (CommandFault.Key fault) → FailsLike fault (private_text_at private.now) }
+    ensures fault { IfErr result (FailsToSign I.gives I.remaining input.old input.new private.now random.now context.now) }
 {
+    laws::signed_is_accepted();
     if context.len() > LONGEST {
         return Err(CommandFault::Context);
     }
     let der = pem::decode(alloc, Kind::Private, private)?;
     let (algorithm, key) = read_private(der.as_slice())?;
-    sign_with(alloc, algorithm, key, random, context, input)
-}
-
-/// Signs a message with a private key of this algorithm.
-fn sign_with<I: Read>(
-    alloc: Global,
-    algorithm: Algorithm,
-    key: PrivateKey<'_>,
-    random: &[u8; 32],
-    context: &[u8],
-    input: &mut Marked<I>,
-) -> Result<Vec<u8>, CommandFault>
-    requires unmarked { input.old.failed ≡ false }
-    requires sizes { HasPrivateSizes (private_length algorithm) (private_parts key) }
-    requires short { length context.now ≤ 255 }
-    ensures signed { IfOk result (λ signature. SignsAt (set_of algorithm) (private_parts key.entry) random.now context.now
-        (I.remaining input.old.device) (I.remaining input.new.device) signature.items) }
-    ensures faults { IfErr result IsSigningFault }
-{
-    match algorithm {
-        Algorithm::MlDsa44 => AtSet::<4, 4>::sign(alloc, key, random, context, input),
-        Algorithm::MlDsa65 => AtSet::<6, 5>::sign(alloc, key, random, context, input),
-        Algorithm::MlDsa87 => AtSet::<8, 7>::sign(alloc, key, random, context, input),
-    }
+    let key = private_key(alloc, algorithm, key)?;
+    let key = key.as_slice();
+    let tr = tr_of(key);
+    let mu = message_mu(&tr, context, input)?;
+    let mut signature = vec![in alloc; 0; algorithm.signature_len()]?;
+    fips204_shake::sign(
+        algorithm,
+        key,
+        random,
+        &Input::Mu(&mu),
+        signature.as_mut_slice(),
+    )?;
+    Ok(signature)
 }
 
 /// Whether the public key in this text accepts these bytes as a signature of a message under a context. The message is all that
-/// the reader gives, and is not kept.
+/// the source gives, and is not kept.
 ///
 /// Errors, in this order: `Context` if the context has more than 255 bytes; `Key` if the text has no public key; `Message` if
-/// the reader fails.
-pub fn verify<I: Read>(
+/// the source fails.
+pub fn verify<I: Source>(
     alloc: Global,
     public: &[u8],
     signature: &[u8],
     context: &[u8],
-    input: &mut Marked<I>,
+    input: &mut I,
 ) -> Result<bool, CommandFault>
-    requires unmarked { input.old.failed ≡ false }
     ensures judged { IfOk result (λ valid. (message : List ℕ)
-        × GivesAll (I.remaining input.old.device) (I.remaining input.new.device) message
+        × GivesAll I.gives I.remaining input.old input.new message
         × Judges public.now signature.now context.now message valid) }
     ensures context { (result ≡ Err CommandFault.Context) ↔ (255 < length context.now) }
-    ensures key { (fault : FileFault) → result ≡ Err (CommandFault.Key fault) → FailsLike fault (public_text_at public.now) }
+    ensures fault { IfErr result (FailsToJudge I.gives input.old input.new public.now context.now) }
 {
+    laws::key_bytes();
     if context.len() > LONGEST {
         return Err(CommandFault::Context);
     }
-    let (algorithm, key) = public_key(alloc, public)?;
-    match algorithm {
-        Algorithm::MlDsa44 => AtSet::<4, 4>::judge(key.as_slice(), signature, context, input),
-        Algorithm::MlDsa65 => AtSet::<6, 5>::judge(key.as_slice(), signature, context, input),
-        Algorithm::MlDsa87 => AtSet::<8, 7>::judge(key.as_slice(), signature, context, input),
+    let der = pem::decode(alloc, Kind::Public, public)?;
+    let (algorithm, key) = read_public(der.as_slice())?;
+    let tr = hash::<Shake256Stream, 64>(&[key]);
+    let mu = message_mu(&tr, context, input)?;
+    let input = Input::Mu(&mu);
+    match fips204_shake::verify(algorithm, key, &input, signature) {
+        Ok(valid) => Ok(valid),
+        // The signature has another length.
+        Err(_) => Ok(false),
     }
 }
 
+/// The text of the public key with these bytes.
+fn public_text(alloc: Global, algorithm: SetName, bytes: &[u8]) -> Result<Vec<u8>, AllocError>
+    requires { length bytes.now ≡ public_length algorithm }
+    ensures { IfOk result (λ text. IsPublicText text.items algorithm bytes.now) }
+{
+    let der = write_public(alloc, algorithm, bytes)?;
+    pem::encode(alloc, Kind::Public, der.as_slice())
+}
+
+/// The public key that belongs to the private key of a file.
+fn public_key(
+    alloc: Global,
+    algorithm: SetName,
+    key: PrivateKey<'_>,
+) -> Result<Vec<u8>, CommandFault>
+    requires sizes { HasPrivateSizes (private_length algorithm) (private_parts key) }
+    ensures made { IfOk result (λ bytes. HasPublicBytes (named_set algorithm) (private_parts key.entry) bytes.items) }
+    ensures size { IfOk result (λ bytes. length bytes.items ≡ public_length algorithm) }
+    ensures fault { IfErr result (HasNoKeysOrMemory (named_set algorithm) (private_parts key.entry)) }
+{
+    let private = private_key(alloc, algorithm, key)?;
+    let private = private.as_slice();
+    let mut public = vec![in alloc; 0; algorithm.public_key_len()]?;
+    let bytes = public.as_mut_slice();
+    fips204_shake::public_key(algorithm, private, bytes).unwrap();
+    Ok(public)
+}
+
+/// The algorithm of the private key in this text, and the bytes of its public key.
+fn public_of_private(alloc: Global, private: &[u8]) -> Result<(SetName, Vec<u8>), CommandFault>
+    ensures found { IfOk result (λ x. HasPublicKey Private private.now x.0 x.1.items) }
+    ensures size { IfOk result (λ x. length x.1.items ≡ public_length x.0) }
+    ensures fault { IfErr result (FailsPrivate private.now) }
+{
+    let der = pem::decode(alloc, Kind::Private, private)?;
+    let (set, key) = read_private(der.as_slice())?;
+    Ok((set, public_key(alloc, set, key)?))
+}
+
 /// The public key that the text of a file has.
-fn public_key(alloc: Global, text: &[u8]) -> Result<(Algorithm, Vec<u8>), FileFault>
+fn public_of_text(alloc: Global, text: &[u8]) -> Result<(SetName, Vec<u8>), FileFault>
     ensures found { IfOk result (λ x. IsPublicText text.now x.0 x.1.items) }
     ensures exact { GivesOrFails (λ x. (x.0, x.1.items)) result (public_text_at text.now) }
 {
@@ -184,56 +216,18 @@ fn public_key(alloc: Global, text: &[u8]) -> Result<(Algorithm, Vec<u8>), FileFa
     Ok((algorithm, Vec::from_slice(alloc, bytes)?))
 }
 
-/// The text of the public key with these bytes.
-fn public_text(alloc: Global, algorithm: Algorithm, bytes: &[u8]) -> Result<Vec<u8>, AllocError>
-    requires { length bytes.now ≡ public_length algorithm }
-    ensures { IfOk result (λ text. IsPublicText text.items algorithm bytes.now) }
-{
-    let der = write_public(alloc, algorithm, bytes)?;
-    pem::encode(alloc, Kind::Public, der.as_slice())
-}
-
-/// The algorithm of the private key in this text, and the bytes of its public key.
-fn public_bytes(alloc: Global, private: &[u8]) -> Result<(Algorithm, Vec<u8>), CommandFault>
-    ensures found { IfOk result (λ x. HasPublicKey Private private.now x.0 x.1.items) }
-    ensures size { IfOk result (λ x. length x.1.items ≡ public_length x.0) }
-    ensures key { (fault : FileFault) → result ≡ Err (CommandFault.Key fault) → FailsLike fault (private_text_at private.now) }
-{
-    let der = pem::decode(alloc, Kind::Private, private)?;
-    let (algorithm, key) = read_private(der.as_slice())?;
-    Ok((algorithm, bytes_at(alloc, algorithm, key)?))
-}
-
-/// The bytes of the public key that belongs to a private key of this algorithm.
-fn bytes_at(
-    alloc: Global,
-    algorithm: Algorithm,
-    key: PrivateKey<'_>,
-) -> Result<Vec<u8>, CommandFault>
-    requires sizes { HasPrivateSizes (private_length algorithm) (private_parts key) }
-    ensures made { IfOk result (λ bytes. HasPublicBytes (set_of algorithm) (private_parts key.entry) bytes.items) }
-    ensures size { IfOk result (λ bytes. length bytes.items ≡ public_length algorithm) }
-    ensures faults { IfErr result IsSigningFault }
-{
-    match algorithm {
-        Algorithm::MlDsa44 => AtSet::<4, 4>::public(alloc, key),
-        Algorithm::MlDsa65 => AtSet::<6, 5>::public(alloc, key),
-        Algorithm::MlDsa87 => AtSet::<8, 7>::public(alloc, key),
-    }
-}
-
 /// The kind of the key in this text, its algorithm, and the bytes of the public key.
-fn key_of(alloc: Global, text: &[u8]) -> Result<(Kind, Algorithm, Vec<u8>), CommandFault>
+fn key_of(alloc: Global, text: &[u8]) -> Result<(Kind, SetName, Vec<u8>), CommandFault>
     ensures found { IfOk result (λ x. HasPublicKey x.0 text.now x.1 x.2.items) }
-    ensures key { (fault : FileFault) → result ≡ Err (CommandFault.Key fault) → IsKeyFault text.now fault }
+    ensures fault { IfErr result (FailsToShow text.now) }
 {
-    match public_key(alloc, text) {
+    match public_of_text(alloc, text) {
         Ok((algorithm, bytes)) => Ok((Kind::Public, algorithm, bytes)),
         Err(fault) => {
             if fault != FileFault::OtherKind {
                 return Err(CommandFault::Key(fault));
             }
-            let (algorithm, bytes) = public_bytes(alloc, text)?;
+            let (algorithm, bytes) = public_of_private(alloc, text)?;
             Ok((Kind::Private, algorithm, bytes))
         }
     }

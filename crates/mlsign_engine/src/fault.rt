@@ -2,9 +2,10 @@
 #![tactic(auto)]
 
 ghost use Rattle.std.specs.Prelude.{◌≡◌};
-ghost use Rattle.mlsign_engine.specs.declared.fault.CommandFault.TheVariants.{Key, Library, Memory};
+ghost use Rattle.mlsign_engine.specs.Commands.{fault_of};
+ghost use Rattle.mlsign_engine.specs.declared.fault.CommandFault.TheVariants.{Key, Memory};
 
-use fips204::Fault;
+use fips204_shake::{Fault, Refusal};
 use mlsign_files::FileFault;
 use std::alloc::AllocError;
 use thiserror::Error;
@@ -41,11 +42,15 @@ impl From<FileFault> for CommandFault {
     }
 }
 
-impl From<Fault> for CommandFault {
-    ghost from_gives = { λ fault e. e ≡ Library fault };
+impl From<Refusal> for CommandFault {
+    ghost from_gives = { λ refusal e. e ≡ fault_of refusal };
 
-    fn from(fault: Fault) -> CommandFault {
-        CommandFault::Library(fault)
+    fn from(refusal: Refusal) -> CommandFault {
+        match refusal {
+            Refusal::Library(fault) => CommandFault::Library(fault),
+            // No key here has another length than its set's.
+            Refusal::Length(_) => CommandFault::Inconsistent,
+        }
     }
 }
 

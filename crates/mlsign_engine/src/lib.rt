@@ -1,12 +1,13 @@
-//! The commands of `mlsign` as a library, generic over the reader of a message.
+//! The commands of `mlsign` as a library, generic over the source of a message.
 #![tactic(auto)]
 
-mod at_set;
 mod commands;
 mod fault;
+mod keys;
 pub mod laws;
 mod message;
+mod source;
 
 pub use commands::{KeyTexts, Shown, keygen, public, show, sign, verify};
 pub use fault::CommandFault;
-pub use mldsa_lines::Marked;
+pub use source::Source;

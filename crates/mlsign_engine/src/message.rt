@@ -1,16 +1,15 @@
 //! The hash of a message of any size, read piece by piece.
 #![tactic(auto)]
 
-ghost use Rattle.std.specs.Prelude.{◌≡◌, ◌≤◌, ◌++◌, ℕ, List, [], length, take, false, IfOk, IfErr};
+ghost use Rattle.std.specs.Prelude.{◌≡◌, ◌≤◌, ◌++◌, ℕ, List, [], length, take, IfOk, IfErr};
 ghost use Rattle.shake.specs.Pieces.{Holds};
 ghost use Rattle.fips204.specs.Framing.{plain, frame, representative};
 ghost use Rattle.fips204_shake.specs.Fronts.{shake256_front};
-ghost use Rattle.mlsign_engine.specs.Messages.{GivesAll};
+ghost use Rattle.mlsign_engine.specs.Messages.{GivesAll, FailsToGive};
 
 use crate::fault::CommandFault;
-use mldsa_lines::Marked;
+use crate::source::Source;
 use shake::Shake256;
-use std::io::Read;
 
 /// How many bytes of a message are asked for at once.
 const PIECE: usize = 65536;
@@ -39,25 +38,24 @@ fn finished(hasher: Shake256) -> [u8; 64]
 }
 
 /// The hash mu of a message under a key's `tr` and a context (FIPS 204, Algorithms 2 and 7, line 6). The message is all that the
-/// reader gives, piece by piece, and is not kept.
+/// source gives, piece by piece, and is not kept.
 ///
-/// Errors: `Message` if the reader fails, or gives more than 2^64 - 1 pieces.
-pub(crate) fn message_mu<I: Read>(
+/// Errors: `Message` if the source fails, or gives more than 2^64 - 1 pieces.
+pub(crate) fn message_mu<I: Source>(
     tr: &[u8; 64],
     context: &[u8],
-    input: &mut Marked<I>,
+    input: &mut I,
 ) -> Result<[u8; 64], CommandFault>
-    requires unmarked { input.old.failed ≡ false }
     requires short { length context.now ≤ 255 }
     ensures hashed { IfOk result (λ mu. (message : List ℕ)
-        × GivesAll (I.remaining input.old.device) (I.remaining input.new.device) message
+        × GivesAll I.gives I.remaining input.old input.new message
         × (mu ≡ representative shake256_front tr.now (plain message context.now))) }
-    ensures fault { IfErr result (λ fault. fault ≡ CommandFault.Message) }
+    ensures fault { IfErr result (λ fault. (fault ≡ CommandFault.Message) × FailsToGive I.gives input.old input.new) }
 {
     let mut hasher = begun(tr, context);
     let mut piece = [0; PIECE];
-    for _ in 0..u64::MAX {
-        let Ok(count) = input.read(&mut piece) else {
+    for _count in 0..u64::MAX {
+        let Some(count) = input.give(&mut piece) else {
             return Err(CommandFault::Message);
         };
         if count == 0 {

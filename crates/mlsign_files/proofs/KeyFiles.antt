@@ -4,8 +4,9 @@ use Rattle.std.specs.Str.{bytes_eq}
 use Rattle.std.proofs.lemmas.Bool.{eqb-true}
 use Rattle.std.proofs.lemmas.Bool.Decides.{nat_tests}
 use Rattle.std.proofs.lemmas.List.{length-append}
-use Rattle.mlsign_files.specs.declared.algorithm.Algorithm.{Algorithm}
-use Rattle.mlsign_files.specs.declared.algorithm.Algorithm.TheVariants.{MlDsa44, MlDsa65}
+use Rattle.fips204.specs.declared.sets.SetName.{SetName}
+use Rattle.fips204.specs.declared.sets.SetName.TheVariants.{MlDsa44, MlDsa65, MlDsa87}
+use Rattle.fips204.specs.Packing.{bit_length}
 use Rattle.mlsign_files.specs.declared.fault.FileFault.TheVariants.{Element, Version, KeyLength}
 use Rattle.mlsign_files.specs.Der.{element, length_bytes, octet_string, bit_string, small_integer, integer_tag, bit_string_tag, octet_string_tag, sequence_tag, context_tag_0}
 use Rattle.mlsign_files.specs.Keys.{identifier, algorithm_identifier, public_length, seed_length, private_length, subject_public_key_info, PrivateParts, Seed, Expanded, Both, private_choice, HasPrivateSizes, one_asymmetric_key, IsPublicFile, IsPrivateFile}
@@ -33,7 +34,7 @@ sized_again wanted bytes e = grind (arith, nat_tests)
 
 -- ---- algorithms
 
-algorithm_of_found : (contents : List ℕ) (algorithm : Algorithm) → algorithm_of contents ≡ Ok algorithm → contents ≡ identifier algorithm
+algorithm_of_found : (contents : List ℕ) (algorithm : SetName) → algorithm_of contents ≡ Ok algorithm → contents ≡ identifier algorithm
 unfolding algorithm_of
 algorithm_of_found contents algorithm e =
     elim (chosen (bytes_eq contents (identifier MlDsa44)) _ _ _ e) [
@@ -45,22 +46,22 @@ algorithm_of_found contents algorithm e =
           ]
     ]
 
-algorithm_of_again : (algorithm : Algorithm) → algorithm_of (identifier algorithm) ≡ Ok algorithm
+algorithm_of_again : (algorithm : SetName) → algorithm_of (identifier algorithm) ≡ Ok algorithm
 unfolding algorithm_of
 algorithm_of_again algorithm = grind arith
 
-algorithm_found : (bytes : List ℕ) (x : Algorithm × List ℕ) → algorithm_at bytes ≡ Ok x → bytes ≡ algorithm_identifier x.0 ++ x.1
+algorithm_found : (bytes : List ℕ) (x : SetName × List ℕ) → algorithm_at bytes ≡ Ok x → bytes ≡ algorithm_identifier x.0 ++ x.1
 unfolding algorithm_at
 algorithm_found bytes x e =
     let a = bind_ok _ _ x e in
     let b = bind_ok _ _ x a.2 in
     element_found sequence_tag bytes a.0 a.1 ∙ ap (λ (z : List ℕ). element sequence_tag z ++ a.0.1) (algorithm_of_found a.0.0 b.0 b.1)
-    ∙ ap (λ (y : Algorithm × List ℕ). algorithm_identifier y.0 ++ y.1) (ok_is (b.0, a.0.1) x b.2)
+    ∙ ap (λ (y : SetName × List ℕ). algorithm_identifier y.0 ++ y.1) (ok_is (b.0, a.0.1) x b.2)
 
-identifier_small : (algorithm : Algorithm) → length (identifier algorithm) ≡ 11
+identifier_small : (algorithm : SetName) → length (identifier algorithm) ≡ 11
 identifier_small algorithm = grind arith
 
-algorithm_again : (algorithm : Algorithm) (rest : List ℕ) → algorithm_at (algorithm_identifier algorithm ++ rest) ≡ Ok (algorithm, rest)
+algorithm_again : (algorithm : SetName) (rest : List ℕ) → algorithm_at (algorithm_identifier algorithm ++ rest) ≡ Ok (algorithm, rest)
 unfolding algorithm_at
 algorithm_again algorithm rest =
     rw (element_again sequence_tag (identifier algorithm) rest (omega (arith, identifier_small algorithm)), algorithm_of_again algorithm) refl
@@ -75,7 +76,7 @@ whole_bytes_found (unused ∷ rest) bytes e =
     let none : unused ≡ 0 = eqb-true _ _ m.0 in
     ap (λ (k : ℕ). k ∷ rest) none ∙ ap (λ (z : List ℕ). 0 ∷ z) m.1
 
-pub public_found : (der : List ℕ) (x : Algorithm × List ℕ) → public_at der ≡ Ok x → IsPublicFile der x.0 x.1
+pub public_found : (der : List ℕ) (x : SetName × List ℕ) → public_at der ≡ Ok x → IsPublicFile der x.0 x.1
 unfolding public_at subject_public_key_info
 public_found der x e =
     let a = bind_ok _ _ x e in
@@ -94,20 +95,20 @@ public_found der x e =
       is = info ∙ ap (λ (z : List ℕ). element sequence_tag z) (algorithm
           ∙ ap (λ (z : List ℕ). algorithm_identifier b.0.0 ++ z) (bits ∙ ap (λ (z : List ℕ). element bit_string_tag z) bytes));
     } in
-    subst (λ (y : Algorithm × List ℕ). IsPublicFile der y.0 y.1) (ok_is (b.0.0, f.0) x f.2) (subst (λ (y : List ℕ). IsPublicFile der b.0.0 y) sized.0 here)
+    subst (λ (y : SetName × List ℕ). IsPublicFile der y.0 y.1) (ok_is (b.0.0, f.0) x f.2) (subst (λ (y : List ℕ). IsPublicFile der b.0.0 y) sized.0 here)
 
-public_small : (algorithm : Algorithm) → public_length algorithm ≤ 4896
+pub public_small : (algorithm : SetName) → public_length algorithm ≤ 4896
 public_small algorithm = grind arith
 
-pub length_of_algorithm : (algorithm : Algorithm) → length (algorithm_identifier algorithm) ≤ 15
+pub length_of_algorithm : (algorithm : SetName) → length (algorithm_identifier algorithm) ≤ 15
 length_of_algorithm algorithm = omega (arith, identifier_small algorithm, length_of_element sequence_tag (identifier algorithm))
 
-pub public_info_small : (algorithm : Algorithm) (bytes : List ℕ) → length bytes ≡ public_length algorithm
+pub public_info_small : (algorithm : SetName) (bytes : List ℕ) → length bytes ≡ public_length algorithm
     → length (algorithm_identifier algorithm ++ bit_string bytes) < 65536
 public_info_small algorithm bytes size =
     omega (arith, public_small algorithm, identifier_small algorithm, length_of_two sequence_tag bit_string_tag (identifier algorithm) (0 ∷ bytes))
 
-pub public_again : (algorithm : Algorithm) (bytes : List ℕ) → length bytes ≡ public_length algorithm
+pub public_again : (algorithm : SetName) (bytes : List ℕ) → length bytes ≡ public_length algorithm
     → public_at (subject_public_key_info algorithm bytes) ≡ Ok (algorithm, bytes)
 unfolding public_at subject_public_key_info whole_bytes_of
 public_again algorithm bytes size =
@@ -121,7 +122,7 @@ public_again algorithm bytes size =
 
 -- ---- private keys
 
-pub record IsChoice (bytes : List ℕ) (algorithm : Algorithm) (parts : PrivateParts) : Type 0 where
+pub record IsChoice (bytes : List ℕ) (algorithm : SetName) (parts : PrivateParts) : Type 0 where
   pub sizes : HasPrivateSizes (private_length algorithm) parts
   pub is : bytes ≡ private_choice parts
 
@@ -137,7 +138,7 @@ string_again : (tag size : ℕ) (string : List ℕ) → length string ≡ size �
 unfolding string_at
 string_again tag size string is small = rw (whole_again tag string (omega arith), sized_again size string is) refl
 
-both_found : (algorithm : Algorithm) (bytes : List ℕ) (parts : PrivateParts) → both_at algorithm bytes ≡ Ok parts
+both_found : (algorithm : SetName) (bytes : List ℕ) (parts : PrivateParts) → both_at algorithm bytes ≡ Ok parts
     → IsChoice bytes algorithm parts
 unfolding both_at private_choice
 both_found algorithm bytes parts e =
@@ -156,7 +157,7 @@ both_found algorithm bytes parts e =
     } in
     subst (IsChoice bytes algorithm) (ap (λ (z : List ℕ). Both z d.0) seed.0 ∙ ok_is (Both c.0 d.0) parts d.2) here
 
-choice_found : (algorithm : Algorithm) (bytes : List ℕ) (parts : PrivateParts) → choice_at algorithm bytes ≡ Ok parts
+choice_found : (algorithm : SetName) (bytes : List ℕ) (parts : PrivateParts) → choice_at algorithm bytes ≡ Ok parts
     → IsChoice bytes algorithm parts
 unfolding choice_at private_choice
 choice_found algorithm [] parts e = absurd cc
@@ -184,7 +185,7 @@ version_found bytes rest e =
     element_found integer_tag bytes a.0 a.1 ∙ ap (λ (z : List ℕ). element integer_tag z ++ a.0.1) (same_bytes a.0.0 (0 ∷ []) m.0)
     ∙ ap (λ (z : List ℕ). small_integer 0 ++ z) m.1
 
-pub private_found : (der : List ℕ) (x : Algorithm × PrivateParts) → private_at der ≡ Ok x → IsPrivateFile der x.0 x.1
+pub private_found : (der : List ℕ) (x : SetName × PrivateParts) → private_at der ≡ Ok x → IsPrivateFile der x.0 x.1
 unfolding private_at one_asymmetric_key
 private_found der x e =
     let a = bind_ok _ _ x e in
@@ -205,24 +206,27 @@ private_found der x e =
           ∙ ap (λ (z : List ℕ). algorithm_identifier c.0.0 ++ z) (contents
           ∙ ap (λ (z : List ℕ). octet_string z) choice.is)));
     } in
-    subst (λ (y : Algorithm × PrivateParts). IsPrivateFile der y.0 y.1) (ok_is (c.0.0, f.0) x f.2) here
+    subst (λ (y : SetName × PrivateParts). IsPrivateFile der y.0 y.1) (ok_is (c.0.0, f.0) x f.2) here
 
-private_small : (algorithm : Algorithm) → private_length algorithm ≤ 4896
-private_small algorithm = grind arith
+pub private_small : (algorithm : SetName) → private_length algorithm ≤ 4896
+unfolding bit_length
+private_small MlDsa44 = omega arith
+private_small MlDsa65 = omega arith
+private_small MlDsa87 = omega arith
 
-pub both_small : (algorithm : Algorithm) (seed expanded : List ℕ) → length seed ≡ seed_length → length expanded ≡ private_length algorithm
+pub both_small : (algorithm : SetName) (seed expanded : List ℕ) → length seed ≡ seed_length → length expanded ≡ private_length algorithm
     → length (octet_string seed ++ octet_string expanded) < 64000
 both_small algorithm seed expanded first second =
     omega (arith, private_small algorithm, length_of_two octet_string_tag octet_string_tag seed expanded)
 
-pub choice_small : (algorithm : Algorithm) (parts : PrivateParts) → HasPrivateSizes (private_length algorithm) parts → length (private_choice parts) < 65000
+pub choice_small : (algorithm : SetName) (parts : PrivateParts) → HasPrivateSizes (private_length algorithm) parts → length (private_choice parts) < 65000
 unfolding private_choice
 choice_small algorithm (Seed seed) sizes = omega (arith, length_of_element context_tag_0 seed)
 choice_small algorithm (Expanded expanded) sizes = omega (arith, length_of_element octet_string_tag expanded, private_small algorithm)
 choice_small algorithm (Both seed expanded) sizes =
     omega (arith, both_small algorithm seed expanded sizes.0 sizes.1, length_of_element sequence_tag (octet_string seed ++ octet_string expanded))
 
-choice_again : (algorithm : Algorithm) (parts : PrivateParts) → HasPrivateSizes (private_length algorithm) parts → choice_at algorithm (private_choice parts) ≡ Ok parts
+choice_again : (algorithm : SetName) (parts : PrivateParts) → HasPrivateSizes (private_length algorithm) parts → choice_at algorithm (private_choice parts) ≡ Ok parts
 unfolding choice_at private_choice both_at
 choice_again algorithm (Seed seed) sizes = rw (string_again context_tag_0 seed_length seed sizes (omega arith)) refl
 choice_again algorithm (Expanded expanded) sizes =
@@ -239,7 +243,7 @@ version_again : (rest : List ℕ) → version_at (small_integer 0 ++ rest) ≡ O
 unfolding version_at
 version_again rest = rw (element_again integer_tag (0 ∷ []) rest (omega arith)) refl
 
-private_info_small : (algorithm : Algorithm) (parts : PrivateParts) → HasPrivateSizes (private_length algorithm) parts
+private_info_small : (algorithm : SetName) (parts : PrivateParts) → HasPrivateSizes (private_length algorithm) parts
     → length (small_integer 0 ++ (algorithm_identifier algorithm ++ octet_string (private_choice parts))) < 65536
 private_info_small algorithm parts sizes =
     omega (
@@ -249,7 +253,7 @@ private_info_small algorithm parts sizes =
       length_of_two sequence_tag octet_string_tag (identifier algorithm) (private_choice parts),
     )
 
-pub private_again : (algorithm : Algorithm) (parts : PrivateParts) → HasPrivateSizes (private_length algorithm) parts
+pub private_again : (algorithm : SetName) (parts : PrivateParts) → HasPrivateSizes (private_length algorithm) parts
     → private_at (one_asymmetric_key algorithm parts) ≡ Ok (algorithm, parts)
 unfolding private_at one_asymmetric_key
 private_again algorithm parts sizes =
@@ -262,8 +266,8 @@ private_again algorithm parts sizes =
       choice_again algorithm parts sizes,
     ) refl
 
-pub public_of_file : (der : List ℕ) (algorithm : Algorithm) (bytes : List ℕ) → IsPublicFile der algorithm bytes → public_at der ≡ Ok (algorithm, bytes)
+pub public_of_file : (der : List ℕ) (algorithm : SetName) (bytes : List ℕ) → IsPublicFile der algorithm bytes → public_at der ≡ Ok (algorithm, bytes)
 public_of_file der algorithm bytes file = ap public_at file.is ∙ public_again algorithm bytes file.size
 
-pub private_of_file : (der : List ℕ) (algorithm : Algorithm) (parts : PrivateParts) → IsPrivateFile der algorithm parts → private_at der ≡ Ok (algorithm, parts)
+pub private_of_file : (der : List ℕ) (algorithm : SetName) (parts : PrivateParts) → IsPrivateFile der algorithm parts → private_at der ≡ Ok (algorithm, parts)
 private_of_file der algorithm parts file = ap private_at file.is ∙ private_again algorithm parts file.sizes

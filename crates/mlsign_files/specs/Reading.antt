@@ -3,8 +3,8 @@ use Rattle.std.specs.Prelude.{◌≡◌, ℕ, ◌+◌, ◌*◌, List, [], ◌∷
 use Rattle.std.specs.Str.{bytes_eq}
 use Rattle.mlsign_files.specs.Der.{length_bytes, integer_tag, bit_string_tag, octet_string_tag, sequence_tag, context_tag_0}
 use Rattle.mlsign_files.specs.Keys.{PrivateParts, Seed, Expanded, Both, identifier, public_length, seed_length, private_length}
-use Rattle.mlsign_files.specs.declared.algorithm.Algorithm.{Algorithm}
-use Rattle.mlsign_files.specs.declared.algorithm.Algorithm.TheVariants.{MlDsa44, MlDsa65, MlDsa87}
+use Rattle.fips204.specs.declared.sets.SetName.{SetName}
+use Rattle.fips204.specs.declared.sets.SetName.TheVariants.{MlDsa44, MlDsa65, MlDsa87}
 use Rattle.mlsign_files.specs.declared.fault.FileFault.{FileFault}
 use Rattle.mlsign_files.specs.declared.fault.FileFault.TheVariants.{Short, Behind, Element, Version, OtherAlgorithm, KeyLength}
 
@@ -72,7 +72,7 @@ unfoldable pub string_at : ℕ → ℕ → List ℕ → Result (List ℕ) FileFa
 string_at tag size bytes = whole_at tag bytes >>= sized_at size
 
 -- the contents of an AlgorithmIdentifier
-unfoldable pub algorithm_of : List ℕ → Result Algorithm FileFault
+unfoldable pub algorithm_of : List ℕ → Result SetName FileFault
 algorithm_of contents =
     if bytes_eq contents (identifier MlDsa44) then Ok MlDsa44
     else if bytes_eq contents (identifier MlDsa65) then Ok MlDsa65
@@ -80,7 +80,7 @@ algorithm_of contents =
     else Err OtherAlgorithm
 
 -- an AlgorithmIdentifier, and the bytes after it
-unfoldable pub algorithm_at : List ℕ → Result (Algorithm × List ℕ) FileFault
+unfoldable pub algorithm_at : List ℕ → Result (SetName × List ℕ) FileFault
 algorithm_at bytes = do
   found ← element_at sequence_tag bytes
   algorithm ← algorithm_of found.0
@@ -91,7 +91,7 @@ unfoldable pub whole_bytes_of : List ℕ → Result (List ℕ) FileFault
 whole_bytes_of [] = Err Element
 whole_bytes_of (unused ∷ bytes) = if unused == 0 then Ok bytes else Err Element
 
-unfoldable pub public_at : List ℕ → Result (Algorithm × List ℕ) FileFault
+unfoldable pub public_at : List ℕ → Result (SetName × List ℕ) FileFault
 public_at der = do
   info ← whole_at sequence_tag der
   algorithm ← algorithm_at info
@@ -101,7 +101,7 @@ public_at der = do
   Ok (algorithm.0, sized)
 
 -- the three forms of a private key, by their tags
-unfoldable pub both_at : Algorithm → List ℕ → Result PrivateParts FileFault
+unfoldable pub both_at : SetName → List ℕ → Result PrivateParts FileFault
 both_at algorithm bytes = do
   contents ← whole_at sequence_tag bytes
   first ← element_at octet_string_tag contents
@@ -109,7 +109,7 @@ both_at algorithm bytes = do
   expanded ← string_at octet_string_tag (private_length algorithm) first.1
   Ok (Both seed expanded)
 
-unfoldable pub choice_at : Algorithm → List ℕ → Result PrivateParts FileFault
+unfoldable pub choice_at : SetName → List ℕ → Result PrivateParts FileFault
 choice_at algorithm [] = Err Short
 choice_at algorithm (tag ∷ rest) =
     if tag == context_tag_0 then string_at context_tag_0 seed_length (tag ∷ rest) >>= (λ seed. Ok (Seed seed))
@@ -122,7 +122,7 @@ version_at bytes = do
   version ← element_at integer_tag bytes
   if bytes_eq version.0 (0 ∷ []) then Ok version.1 else Err Version
 
-unfoldable pub private_at : List ℕ → Result (Algorithm × PrivateParts) FileFault
+unfoldable pub private_at : List ℕ → Result (SetName × PrivateParts) FileFault
 private_at der = do
   info ← whole_at sequence_tag der
   rest ← version_at info

@@ -2,14 +2,14 @@
 #![tactic(auto)]
 
 ghost use Rattle.std.specs.Prelude.{◌≡◌, ℕ, List, Ok, length, IfOk};
-ghost use Rattle.mlsign_files.specs.declared.algorithm.Algorithm.{Algorithm};
+ghost use Rattle.fips204.specs.declared.sets.SetName.{SetName};
 ghost use Rattle.mlsign_files.specs.Keys.{PrivateParts, private_parts, private_choice, HasPrivateSizes};
-ghost use Rattle.mlsign_files.specs.Keys.{IsPublicFile, IsPrivateFile, public_length, private_length};
+ghost use Rattle.mlsign_files.specs.Keys.{IsPublicFile, IsPrivateFile, identifier, public_length, private_length};
 ghost use Rattle.mlsign_files.specs.Reading.{Gives, sized_at, string_at, algorithm_of, algorithm_at, public_at, choice_at, private_at};
 
-use crate::algorithm::Algorithm;
 use crate::der::{BIT_STRING, CONTEXT_0, INTEGER, OCTET_STRING, SEQUENCE, element, whole, written};
 use crate::fault::FileFault;
+use fips204::SetName;
 use std::alloc::{AllocError, Global};
 
 /// How many bytes a seed has.
@@ -26,26 +26,37 @@ pub enum PrivateKey<'a> {
     Both { seed: &'a [u8], expanded: &'a [u8] },
 }
 
+/// The object identifier of an algorithm in DER.
+fn identifier(algorithm: SetName) -> &'static [u8]
+    ensures { result.now ≡ identifier algorithm }
+{
+    match algorithm {
+        SetName::MlDsa44 => &[6, 9, 96, 134, 72, 1, 101, 3, 4, 3, 17],
+        SetName::MlDsa65 => &[6, 9, 96, 134, 72, 1, 101, 3, 4, 3, 18],
+        SetName::MlDsa87 => &[6, 9, 96, 134, 72, 1, 101, 3, 4, 3, 19],
+    }
+}
+
 /// The algorithm of an AlgorithmIdentifier with these contents.
 #[tactic(auto, unfolding(crate::specs::Reading::algorithm_of))]
-fn algorithm_with(contents: &[u8]) -> Result<Algorithm, FileFault>
+fn algorithm_with(contents: &[u8]) -> Result<SetName, FileFault>
     ensures { result ≡ algorithm_of contents.now }
 {
-    if contents == Algorithm::MlDsa44.identifier() {
-        return Ok(Algorithm::MlDsa44);
+    if contents == identifier(SetName::MlDsa44) {
+        return Ok(SetName::MlDsa44);
     }
-    if contents == Algorithm::MlDsa65.identifier() {
-        return Ok(Algorithm::MlDsa65);
+    if contents == identifier(SetName::MlDsa65) {
+        return Ok(SetName::MlDsa65);
     }
-    if contents == Algorithm::MlDsa87.identifier() {
-        return Ok(Algorithm::MlDsa87);
+    if contents == identifier(SetName::MlDsa87) {
+        return Ok(SetName::MlDsa87);
     }
     Err(FileFault::OtherAlgorithm)
 }
 
 /// The algorithm that the bytes begin with, and what follows it.
 #[tactic(auto, unfolding(crate::specs::Reading::algorithm_at))]
-fn algorithm(bytes: &[u8]) -> Result<(Algorithm, &[u8]), FileFault>
+fn algorithm(bytes: &[u8]) -> Result<(SetName, &[u8]), FileFault>
     ensures { Gives (λ x. (x.0, x.1.now)) result (algorithm_at bytes.now) }
 {
     let (contents, rest) = element(SEQUENCE, bytes)?;
@@ -73,7 +84,7 @@ fn string(tag: u8, size: usize, bytes: &[u8]) -> Result<&[u8], FileFault>
 
 /// The algorithm and the bytes of a SubjectPublicKeyInfo.
 #[tactic(auto, unfolding(crate::specs::Reading::public_at, crate::specs::Reading::whole_bytes_of))]
-fn public_key_info(der: &[u8]) -> Result<(Algorithm, &[u8]), FileFault>
+fn public_key_info(der: &[u8]) -> Result<(SetName, &[u8]), FileFault>
     ensures { Gives (λ x. (x.0, x.1.now)) result (public_at der.now) }
 {
     let info = whole(SEQUENCE, der)?;
@@ -81,18 +92,18 @@ fn public_key_info(der: &[u8]) -> Result<(Algorithm, &[u8]), FileFault>
     let [0, bytes @ ..] = whole(BIT_STRING, rest)? else {
         return Err(FileFault::Element);
     };
-    Ok((algorithm, sized(algorithm.public_length(), bytes)?))
+    Ok((algorithm, sized(algorithm.public_key_len(), bytes)?))
 }
 
 /// The public key of a file in DER: a SubjectPublicKeyInfo (RFC 9881, section 4).
 ///
 /// Errors: the first fault from its beginning, and never `Memory`.
-pub fn read_public(der: &[u8]) -> Result<(Algorithm, &[u8]), FileFault>
+pub fn read_public(der: &[u8]) -> Result<(SetName, &[u8]), FileFault>
     // What is read is what the file has.
     ensures found { IfOk result (λ x. IsPublicFile der.now x.0 x.1.now) }
     // The key of a file is read.
-    ensures only { (algorithm : Algorithm) (bytes : List ℕ) → IsPublicFile der.now algorithm bytes
-        → Gives {Y = Algorithm × List ℕ} (λ x. (x.0, x.1.now)) result (Ok (algorithm, bytes)) }
+    ensures only { (algorithm : SetName) (bytes : List ℕ) → IsPublicFile der.now algorithm bytes
+        → Gives {Y = SetName × List ℕ} (λ x. (x.0, x.1.now)) result (Ok (algorithm, bytes)) }
     // Which fault it is.
     ensures exact { Gives (λ x. (x.0, x.1.now)) result (public_at der.now) }
 {
@@ -101,10 +112,10 @@ pub fn read_public(der: &[u8]) -> Result<(Algorithm, &[u8]), FileFault>
 
 /// The private key of an ML-DSA-PrivateKey, in one of its three forms.
 #[tactic(auto, unfolding(crate::specs::Reading::choice_at, crate::specs::Reading::both_at))]
-fn choice(algorithm: Algorithm, bytes: &[u8]) -> Result<PrivateKey<'_>, FileFault>
+fn choice(algorithm: SetName, bytes: &[u8]) -> Result<PrivateKey<'_>, FileFault>
     ensures { Gives private_parts result (choice_at algorithm bytes.now) }
 {
-    let size = algorithm.private_length();
+    let size = algorithm.private_key_len();
     match bytes {
         [] => Err(FileFault::Short),
         [CONTEXT_0, ..] => Ok(PrivateKey::Seed(string(CONTEXT_0, SEED_LENGTH, bytes)?)),
@@ -120,7 +131,7 @@ fn choice(algorithm: Algorithm, bytes: &[u8]) -> Result<PrivateKey<'_>, FileFaul
 
 /// The algorithm and the private key of a OneAsymmetricKey.
 #[tactic(auto, unfolding(crate::specs::Reading::private_at, crate::specs::Reading::version_at))]
-fn asymmetric_key(der: &[u8]) -> Result<(Algorithm, PrivateKey<'_>), FileFault>
+fn asymmetric_key(der: &[u8]) -> Result<(SetName, PrivateKey<'_>), FileFault>
     ensures { Gives (λ x. (x.0, private_parts x.1)) result (private_at der.now) }
 {
     let info = whole(SEQUENCE, der)?;
@@ -136,12 +147,12 @@ fn asymmetric_key(der: &[u8]) -> Result<(Algorithm, PrivateKey<'_>), FileFault>
 /// 9881, section 6). Whether a seed gives the expanded key beside it is not asked.
 ///
 /// Errors: the first fault from its beginning, and never `Memory`.
-pub fn read_private(der: &[u8]) -> Result<(Algorithm, PrivateKey<'_>), FileFault>
+pub fn read_private(der: &[u8]) -> Result<(SetName, PrivateKey<'_>), FileFault>
     // What is read is what the file has.
     ensures found { IfOk result (λ x. IsPrivateFile der.now x.0 (private_parts x.1)) }
     // The key of a file is read.
-    ensures only { (algorithm : Algorithm) (parts : PrivateParts) → IsPrivateFile der.now algorithm parts
-        → Gives {Y = Algorithm × PrivateParts} (λ x. (x.0, private_parts x.1)) result (Ok (algorithm, parts)) }
+    ensures only { (algorithm : SetName) (parts : PrivateParts) → IsPrivateFile der.now algorithm parts
+        → Gives {Y = SetName × PrivateParts} (λ x. (x.0, private_parts x.1)) result (Ok (algorithm, parts)) }
     // Which fault it is.
     ensures exact { Gives (λ x. (x.0, private_parts x.1)) result (private_at der.now) }
 {
@@ -150,24 +161,20 @@ pub fn read_private(der: &[u8]) -> Result<(Algorithm, PrivateKey<'_>), FileFault
 
 /// The file of a public key in DER: a SubjectPublicKeyInfo (RFC 9881, section 4).
 #[tactic(auto, using(crate::proofs::KeyFiles::public_info_small), unfolding(crate::specs::Keys::subject_public_key_info))]
-pub fn write_public(
-    alloc: Global,
-    algorithm: Algorithm,
-    bytes: &[u8],
-) -> Result<Vec<u8>, AllocError>
+pub fn write_public(alloc: Global, algorithm: SetName, bytes: &[u8]) -> Result<Vec<u8>, AllocError>
     requires { length bytes.now ≡ public_length algorithm }
     ensures { IfOk result (λ der. IsPublicFile der.items algorithm bytes.now) }
 {
-    let algorithm = written(alloc, SEQUENCE, &[algorithm.identifier()])?;
+    let algorithm = written(alloc, SEQUENCE, &[identifier(algorithm)])?;
     let bits = written(alloc, BIT_STRING, &[&[0], bytes])?;
     written(alloc, SEQUENCE, &[algorithm.as_slice(), bits.as_slice()])
 }
 
 /// An ML-DSA-PrivateKey.
-#[tactic(auto, using(crate::proofs::KeyFiles::both_small), unfolding(crate::specs::Keys::private_choice))]
+#[tactic(auto, unfolding(crate::specs::Keys::private_choice))]
 fn written_choice(
     alloc: Global,
-    algorithm: Algorithm,
+    algorithm: SetName,
     key: PrivateKey<'_>,
 ) -> Result<Vec<u8>, AllocError>
     requires { HasPrivateSizes (private_length algorithm) (private_parts key) }
@@ -188,7 +195,7 @@ fn written_choice(
 #[tactic(auto, unfolding(crate::specs::Keys::one_asymmetric_key))]
 pub fn write_private(
     alloc: Global,
-    algorithm: Algorithm,
+    algorithm: SetName,
     key: PrivateKey<'_>,
 ) -> Result<Vec<u8>, AllocError>
     requires { HasPrivateSizes (private_length algorithm) (private_parts key) }
@@ -196,7 +203,7 @@ pub fn write_private(
 {
     let choice = written_choice(alloc, algorithm, key)?;
     let version = written(alloc, INTEGER, &[&[0]])?;
-    let identifier = written(alloc, SEQUENCE, &[algorithm.identifier()])?;
+    let identifier = written(alloc, SEQUENCE, &[identifier(algorithm)])?;
     let key = written(alloc, OCTET_STRING, &[choice.as_slice()])?;
     let parts = [version.as_slice(), identifier.as_slice(), key.as_slice()];
     written(alloc, SEQUENCE, &parts)

@@ -1,12 +1,11 @@
 //! Keys in files: DER as RFC 9881 has it, in the text of RFC 7468.
 #![tactic(auto)]
 
-mod algorithm;
 mod der;
 mod fault;
 mod keys;
 pub mod pem;
 
-pub use algorithm::Algorithm;
 pub use fault::FileFault;
+pub use fips204::SetName;
 pub use keys::{PrivateKey, SEED_LENGTH, read_private, read_public, write_private, write_public};

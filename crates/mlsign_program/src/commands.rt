@@ -1,25 +1,37 @@
 //! The commands over files.
 #![tactic(auto)]
 
-ghost use Rattle.std.specs.Prelude.{◌≡◌, IfOk, false};
+ghost use Rattle.std.specs.Prelude.{◌≡◌, ℕ, List, IfOk, replicate, codes, Ok};
+ghost use Rattle.mlsign_engine.specs.Commands.{Judges, Signs};
+ghost use Rattle.mlsign_engine.specs.Messages.{GivesAll};
+ghost use Rattle.mlsign_program.specs.declared.places.Content.TheVariants.{Signature};
+ghost use Rattle.mlsign_program.specs.Outputs.{HasWord, HasFlag, context_of, GeneratesAt};
 
-use crate::files::{Output, read_key, read_start, write_files};
+use crate::files::{note_readable, read_key, read_start};
+use crate::hints::hint;
+use crate::places::{Content, FileId, Output, Target, write_pair};
 use crate::progress::Progress;
+use crate::text::printable;
 use anyhow::{Context, Error, bail};
+use base64::engine::general_purpose::STANDARD_NO_PAD;
 use clap::ArgMatches;
 use either::Either;
-use mlsign_engine::{CommandFault, Marked};
-use mlsign_files::Algorithm;
-use mlsign_files::pem::Kind;
+use mlsign_engine::{CommandFault, KeyTexts, Source};
+use mlsign_files::SetName;
+use mlsign_files::pem::{self, Kind};
+use sha2::{Digest, Sha256};
+use std::alloc::Global;
 use std::fs::{File, OpenFile};
 use std::io::{self, IsTerminal, Stdin};
 use std::random::RandomSource;
 
 /// A message that is read.
-type Message<'a> = Marked<Progress<'a, Either<File, Stdin>>>;
+type Message<'a> = Progress<'a, Either<File, Stdin>>;
 
 /// The word of a call that has this name.
-fn word<'a>(words: &ArgMatches<'a>, name: &str) -> Result<&'a str, Error> {
+fn word<'a>(words: &ArgMatches<'a>, name: &str) -> Result<&'a str, Error>
+    ensures { IfOk result (λ text. HasWord words.now name.now text.now) }
+{
     words.get_str(name).context("a word is missing")
 }
 
@@ -31,129 +43,339 @@ fn random(rt: &HostRuntime) -> Result<[u8; 32], Error> {
     Ok(bytes)
 }
 
-/// Makes a pair of keys and writes both files, or neither.
-pub(crate) fn keygen(rt: &HostRuntime, words: &ArgMatches<'_>) -> Result<(), Error> {
-    let (private, public) = (word(words, "private")?, word(words, "public")?);
-    let force = words.get_flag("force");
-    if private == public {
-        bail!("{private}: the private and the public key cannot have the same file");
-    }
-    let algorithm = match word(words, "set")? {
-        "44" => Algorithm::MlDsa44,
-        "65" => Algorithm::MlDsa65,
-        "87" => Algorithm::MlDsa87,
-        set => bail!("{set}: no such set"),
-    };
-    let keys = mlsign_engine::keygen(rt.alloc(), algorithm, &random(rt)?)?;
-    let private = Output {
-        path: private,
-        bytes: keys.private.as_slice(),
-        private: true,
-        force,
-    };
-    let public = Output {
-        path: public,
-        bytes: keys.public.as_slice(),
-        private: false,
-        force,
-    };
-    // The last one is put in its place first: a link fails where a rename does not.
-    write_files(rt, &[public, private])
+/// The file that the word with this name says, for this.
+fn target<'a>(words: &ArgMatches<'a>, name: &str, content: Content) -> Result<Target<'a>, Error>
+    ensures named { IfOk result (λ target. HasWord words.now name.now target.path.now) }
+    ensures content { IfOk result (λ target. target.content ≡ content) }
+{
+    Ok(Target {
+        path: word(words, name)?,
+        content,
+        force: words.get_flag("force"),
+    })
 }
 
-/// Writes a file that is no private key.
-fn write(rt: &HostRuntime, path: &str, bytes: &[u8]) -> Result<(), Error> {
-    let output = Output {
-        path,
-        bytes,
-        private: false,
-        force: false,
+/// Makes a pair of keys and writes both files, or neither.
+pub(crate) fn keygen(rt: &HostRuntime, words: &ArgMatches<'_>) -> Result<(), Error> {
+    let private = target(words, "private", Content::PrivateKey)?;
+    let public = target(words, "public", Content::PublicKey)?;
+    let private = Output::find(rt, private, None)?;
+    let public = Output::find(rt, public, None)?;
+    if private.is_same(&public) {
+        let path = word(words, "private")?;
+        bail!("{path}: the private and the public key cannot have the same file");
+    }
+    let keys = make_keys(rt.alloc(), words, &random(rt)?)?;
+    write_pair(rt, &public, &private, &keys)
+}
+
+/// Makes the pair of keys of this seed at the set that the words say.
+fn make_keys(alloc: Global, words: &ArgMatches<'_>, seed: &[u8; 32]) -> Result<KeyTexts, Error>
+    ensures { IfOk result (λ keys. GeneratesAt words.now seed.now keys.private.items keys.public.items) }
+{
+    let algorithm = match word(words, "set")? {
+        "44" => SetName::MlDsa44,
+        "65" => SetName::MlDsa65,
+        "87" => SetName::MlDsa87,
+        set => bail!("{set}: no such set"),
     };
-    write_files(rt, &[output])
+    Ok(mlsign_engine::keygen(alloc, algorithm, seed)?)
 }
 
 /// Writes the public key of a private one.
 pub(crate) fn public(rt: &HostRuntime, words: &ArgMatches<'_>) -> Result<(), Error> {
     let private = word(words, "private")?;
+    let output = Output::find(rt, target(words, "public", Content::PublicKey)?, None)?;
     let text = read_key(rt, private)?;
-    let key = mlsign_engine::public(rt.alloc(), text.as_slice()).context(private)?;
-    write(rt, word(words, "public")?, key.as_slice())
+    let text = text.as_slice();
+    let key = Named::key(private, text, Kind::Private).name(mlsign_engine::public(
+        rt.alloc(),
+        text,
+    ))?;
+    output.write(rt, key.as_slice())?;
+    note_readable(rt, private);
+    Ok(())
 }
 
-/// Opens a message: a file, or standard input under the name `-`. A file has a bar if standard error is a terminal.
-fn open<'a>(rt: &'a HostRuntime, path: &str) -> io::Result<Message<'a>>
-    ensures unmarked { IfOk result (λ input. input.failed ≡ false) }
-{
-    if path == "-" {
-        return Ok(Marked::new(Progress::new(rt, Either::Right(rt.stdin()), None)));
+/// Whether the call has more than one message.
+fn has_several(words: &ArgMatches<'_>) -> bool {
+    match words.get_strs("message") {
+        Some(messages) => messages.len() > 1,
+        None => false,
     }
-    let file = File::open(rt, path)?;
-    let size = if rt.stderr().is_terminal() {
-        Some(file.metadata()?.len())
-    } else {
-        None
+}
+
+/// Opens a message: a file, or standard input under the name `-`. A bar is shown if standard error is a terminal, unless the call
+/// says `--quiet`.
+fn open<'a>(
+    rt: &'a HostRuntime,
+    words: &ArgMatches<'_>,
+    path: &str,
+) -> Result<(Message<'a>, Option<FileId>), Error> {
+    let shows = rt.stderr().is_terminal() && !words.get_flag("quiet");
+    if path == "-" {
+        let input = Progress::new(rt, Either::Right(rt.stdin()), shows, None);
+        return Ok((input, None));
+    }
+    let file = File::open(rt, path).context(path)?;
+    let found = file.metadata().context(path)?;
+    if found.is_dir() {
+        bail!("{path}: it is a directory");
+    }
+    let size = found.is_file().then_some(found.len());
+    let input = Progress::new(rt, Either::Left(file), shows, size);
+    Ok((input, Some(FileId::of(&found))))
+}
+
+/// The file that belongs to a message: the one that the word with this name says, or else the message's name and `.sig`.
+fn signature_path(
+    alloc: Global,
+    words: &ArgMatches<'_>,
+    name: &str,
+    message: &str,
+) -> Result<String, Error> {
+    let path = match words.get_str(name) {
+        Some(_) if has_several(words) => bail!("--{name} is for one message"),
+        Some(path) => String::from_str(alloc, path),
+        None if message == "-" => bail!("--{name} has to name the signature of standard input"),
+        None => Ok(format!(in alloc; "{message}.sig")?),
     };
-    Ok(Marked::new(Progress::new(rt, Either::Left(file), size)))
+    Ok(path.map_err(io::Error::from)?)
+}
+
+/// Signs messages. Nothing is signed if a signature cannot go to its place.
+pub(crate) fn sign(rt: &HostRuntime, words: &ArgMatches<'_>) -> Result<(), Error> {
+    let private = word(words, "private")?;
+    let key = read_key(rt, private)?;
+    let key = Named::key(private, key.as_slice(), Kind::Private);
+    let messages = words.get_strs("message").context("a word is missing")?;
+    if messages.len() > 1 {
+        for message in messages {
+            let path = signature_path(rt.alloc(), words, "out", message)?;
+            let _ = Output::find(rt, signature_at(words, path.as_str()), None)?;
+        }
+    }
+    for message in messages {
+        sign_message(rt, words, &key, message)?;
+    }
+    note_readable(rt, private);
+    Ok(())
+}
+
+/// The file of a signature.
+fn signature_at<'a>(words: &ArgMatches<'_>, path: &'a str) -> Target<'a>
+    ensures path { result.path ≡ path.entry }
+    ensures content { result.content ≡ Signature }
+{
+    Target {
+        path,
+        content: Content::Signature,
+        force: words.get_flag("force"),
+    }
 }
 
 /// Signs a message.
-pub(crate) fn sign(rt: &HostRuntime, words: &ArgMatches<'_>) -> Result<(), Error> {
-    let (private, message) = (word(words, "private")?, word(words, "message")?);
-    let key = read_key(rt, private)?;
-    let random = if words.get_flag("deterministic") {
-        [0; 32]
-    } else {
-        random(rt)?
-    };
-    let context = word(words, "context")?.as_bytes();
-    let mut input = open(rt, message).context(message)?;
-    let signature = mlsign_engine::sign(rt.alloc(), key.as_slice(), &random, context, &mut input);
-    let signature = named(signature, private, message)?;
-    write(rt, word(words, "out")?, signature.as_slice())
+fn sign_message(
+    rt: &HostRuntime,
+    words: &ArgMatches<'_>,
+    key: &Named<'_>,
+    message: &str,
+) -> Result<(), Error> {
+    let (mut input, id) = open(rt, words, message)?;
+    let path = signature_path(rt.alloc(), words, "out", message)?;
+    let output = Output::find(rt, signature_at(words, path.as_str()), id)?;
+    let random = random_of(rt, words)?;
+    let signature = sign_input(rt.alloc(), words, key.text, &random, &mut input);
+    let signature = key.with(message).name(signature)?;
+    output.write(rt, signature.as_slice())
 }
 
-/// Whether a signature of a message is valid, which is printed if it is.
-pub(crate) fn verify(rt: &HostRuntime, words: &ArgMatches<'_>) -> Result<bool, Error> {
-    let (public, message) = (word(words, "public")?, word(words, "message")?);
-    let key = read_key(rt, public)?;
-    let signature = read_start(rt, word(words, "signature")?)?;
-    let context = word(words, "context")?.as_bytes();
-    let mut input = open(rt, message).context(message)?;
-    let (alloc, signature) = (rt.alloc(), signature.as_slice());
-    let valid = mlsign_engine::verify(alloc, key.as_slice(), signature, context, &mut input);
-    let valid = named(valid, public, message)?;
-    if valid {
-        rt.println("valid").context("standard output")?;
+/// The random bytes of a signature: zeros for a deterministic one.
+fn random_of(rt: &HostRuntime, words: &ArgMatches<'_>) -> Result<[u8; 32], Error>
+    ensures { IfOk result (λ bytes. HasFlag words.now (codes "deterministic") → bytes ≡ replicate 32 0) }
+{
+    if words.get_flag("deterministic") {
+        return Ok([0; 32]);
     }
+    random(rt)
+}
+
+/// The context that the words say.
+fn context<'a>(words: &ArgMatches<'a>) -> &'a [u8]
+    ensures { result.now ≡ context_of words.now }
+{
+    words.get_str("context").unwrap_or("").as_bytes()
+}
+
+/// Signs what is read, under the context that the words say.
+fn sign_input<I: Source>(
+    alloc: Global,
+    words: &ArgMatches<'_>,
+    key: &[u8],
+    random: &[u8; 32],
+    input: &mut I,
+) -> Result<Vec<u8>, CommandFault>
+    ensures signed { IfOk result (λ signature. (message : List ℕ)
+        × GivesAll I.gives I.remaining input.old input.new message
+        × Signs key.now random.now (context_of words.now) message signature.items) }
+{
+    mlsign_engine::sign(alloc, key, random, context(words), input)
+}
+
+/// Whether the signatures of all messages are valid. Which are, and the fingerprint of the key, goes to standard output unless the
+/// call says `--quiet`, and which are not to standard error.
+pub(crate) fn verify(rt: &HostRuntime, words: &ArgMatches<'_>) -> Result<bool, Error> {
+    let public = word(words, "public")?;
+    let key = read_key(rt, public)?;
+    let key = Named::key(public, key.as_slice(), Kind::Public);
+    let messages = words.get_strs("message").context("a word is missing")?;
+    let (mut all, mut any) = (true, false);
+    for message in messages {
+        let valid = verify_message(rt, words, &key, message)?;
+        all = all && valid;
+        any = any || valid;
+    }
+    if any && !words.get_flag("quiet") {
+        let fingerprint = fingerprint_of(rt.alloc(), key.text)?;
+        println!(rt; "key: {fingerprint}").context("standard output")?;
+    }
+    Ok(all)
+}
+
+/// Whether the signature of a message is valid.
+fn verify_message(
+    rt: &HostRuntime,
+    words: &ArgMatches<'_>,
+    key: &Named<'_>,
+    message: &str,
+) -> Result<bool, Error>
+    ensures judged { IfOk result (λ valid. (signature bytes : List ℕ)
+        × Judges key.now.text.now signature (context_of words.now) bytes valid) }
+{
+    let path = signature_path(rt.alloc(), words, "signature", message)?;
+    let signature = read_start(rt, path.as_str())?;
+    let signature = signature.as_slice();
+    let (mut input, _) = open(rt, words, message)?;
+    let valid = mlsign_engine::verify(rt.alloc(), key.text, signature, context(words), &mut input);
+    let valid = key.with(message).name(valid)?;
+    say(rt, words, key, message, valid, signature.len())?;
     Ok(valid)
 }
 
-/// An answer, or its fault with the name of the file that it is about.
-fn named<T>(answer: Result<T, CommandFault>, key: &str, message: &str) -> Result<T, Error> {
-    match answer {
-        Ok(value) => Ok(value),
-        Err(CommandFault::Message) => Err(CommandFault::Message).context(message),
-        Err(CommandFault::Context) => Err(Error::from(CommandFault::Context)),
-        Err(fault) => Err(fault).context(key),
+/// Says whether a signature of so many bytes is valid.
+fn say(
+    rt: &HostRuntime,
+    words: &ArgMatches<'_>,
+    key: &Named<'_>,
+    message: &str,
+    valid: bool,
+    size: usize,
+) -> Result<(), Error> {
+    let mut front = String::new(rt.alloc());
+    if has_several(words) {
+        let message = printable(rt.alloc(), message).map_err(io::Error::from)?;
+        front = format!(in rt.alloc(); "{message}: ")?;
     }
+    if valid {
+        if !words.get_flag("quiet") {
+            println!(rt; "{front}valid").context("standard output")?;
+        }
+        return Ok(());
+    }
+    let algorithm = mlsign_engine::show(rt.alloc(), key.text)?.algorithm;
+    let (wanted, set) = (algorithm.signature_len(), name_of(algorithm));
+    let _ = if size == wanted {
+        rt.eprintln(format_args!("mlsign: {front}the signature is invalid"))
+    } else {
+        rt.eprintln(format_args!(
+            "mlsign: {front}the signature is invalid: it has not the {wanted} bytes of {set}"
+        ))
+    };
+    Ok(())
 }
 
 /// Prints what the file of a key is.
 pub(crate) fn show(rt: &HostRuntime, words: &ArgMatches<'_>) -> Result<(), Error> {
     let file = word(words, "file")?;
     let text = read_key(rt, file)?;
-    let shown = mlsign_engine::show(rt.alloc(), text.as_slice()).context(file)?;
-    let kind = match shown.kind {
-        Kind::Public => "public key",
-        Kind::Private => "private key",
+    let key = Named::key(file, text.as_slice(), Kind::Public);
+    let shown = key.name(mlsign_engine::show(rt.alloc(), key.text))?;
+    let (kind, fingerprint) = match shown.kind {
+        Kind::Public => ("public key", fingerprint_of(rt.alloc(), key.text)),
+        Kind::Private => ("private key", private_fingerprint(rt.alloc(), key.text)),
     };
-    let set = match shown.algorithm {
-        Algorithm::MlDsa44 => "ML-DSA-44",
-        Algorithm::MlDsa65 => "ML-DSA-65",
-        Algorithm::MlDsa87 => "ML-DSA-87",
-    };
+    let fingerprint = key.name(fingerprint)?;
+    let set = name_of(shown.algorithm);
     let hash = hex::encode(rt.alloc(), &shown.hash).map_err(io::Error::from)?;
-    println!(rt; "kind: {kind}\nset: {set}\nhash of the public key: {hash}").context(
-        "standard output",
-    )
+    println!(rt;
+        "kind: {kind}\nset: {set}\nfingerprint: {fingerprint}\nhash of the public key: {hash}"
+    ).context("standard output")
+}
+
+/// The fingerprint of the public key in this text: `SHA256:` and SHA-256 of its DER, in base64 without padding.
+fn fingerprint_of(alloc: Global, public: &[u8]) -> Result<String, CommandFault> {
+    let der = pem::decode(alloc, Kind::Public, public)?;
+    let mut text = String::from_str(alloc, "SHA256:")?;
+    let digest = Sha256::digest(der.as_slice());
+    text.push_str(STANDARD_NO_PAD.encode(alloc, digest.as_slice())?.as_str())?;
+    Ok(text)
+}
+
+/// The fingerprint of the public key that belongs to the private key in this text.
+fn private_fingerprint(alloc: Global, private: &[u8]) -> Result<String, CommandFault> {
+    let public = mlsign_engine::public(alloc, private)?;
+    fingerprint_of(alloc, public.as_slice())
+}
+
+/// The name of a set.
+fn name_of(algorithm: SetName) -> &'static str {
+    match algorithm {
+        SetName::MlDsa44 => "ML-DSA-44",
+        SetName::MlDsa65 => "ML-DSA-65",
+        SetName::MlDsa87 => "ML-DSA-87",
+    }
+}
+
+/// A key's file, and the message that it is used for, which an error may be about.
+#[derive(Debug, Clone, Copy)]
+struct Named<'a> {
+    path: &'a str,
+    text: &'a [u8],
+    kind: Kind,
+    message: &'a str,
+}
+
+impl<'a> Named<'a> {
+    /// The file of a key of this kind, with its text.
+    fn key(path: &'a str, text: &'a [u8], kind: Kind) -> Named<'a>
+        ensures { result.text ≡ text.entry }
+    {
+        Named {
+            path,
+            text,
+            kind,
+            message: "",
+        }
+    }
+
+    /// The same, for a message.
+    fn with(&self, message: &'a str) -> Named<'a> {
+        Named { message, ..*self }
+    }
+
+    /// An answer, or its fault with the name of the file that it is about.
+    fn name<T>(&self, answer: Result<T, CommandFault>) -> Result<T, Error>
+        ensures { IfOk result (λ value. answer ≡ Ok value) }
+    {
+        match answer {
+            Ok(value) => Ok(value),
+            Err(CommandFault::Message) => Err(CommandFault::Message).context(self.message),
+            Err(CommandFault::Context) => Err(Error::from(CommandFault::Context)),
+            Err(CommandFault::Key(fault)) => match hint(self.text, self.kind) {
+                Some(hint) => Err(Error::msg(hint).context(self.path)),
+                None => Err(CommandFault::Key(fault)).context(self.path),
+            },
+            Err(fault) => Err(fault).context(self.path),
+        }
+    }
 }

@@ -3,8 +3,11 @@
 
 mod commands;
 mod files;
+mod hints;
+mod places;
 mod process;
 mod progress;
+mod text;
 mod words;
 
-pub use process::{answer, run};
+pub use process::{answer, line_of, run};

@@ -1,47 +1,85 @@
 //! A run, from the words of its process to its exit status.
 #![tactic(auto)]
 
+ghost use Rattle.std.specs.Prelude.{◌≡◌};
+ghost use Rattle.mlsign_program.specs.Outputs.{status_of};
+
 use crate::commands;
+use crate::text::printable;
 use crate::words::mlsign;
 use anyhow::{Context, Error, bail};
-use std::alloc::Global;
+use std::alloc::{AllocError, Global};
 use std::convert::AsStr;
+use std::env::Env;
+use std::io::ErrorKind;
 use std::process::ExitCode;
 use std::{env, io};
 
-/// Runs the call that the words of the process make. The exit status is 0 if it was done, or the signature is valid; 1 if the
+/// Runs the call that the words of the process make. The exit status is 0 if it was done, or all signatures are valid; 1 if a
 /// signature is invalid; and 2 for anything else. In these two cases a line on standard error says which.
 pub fn run(rt: &HostRuntime) -> ExitCode {
-    match answer_process(rt) {
-        Ok(true) => ExitCode::from(0),
-        Ok(false) => {
-            let _ = rt.eprintln("mlsign: the signature is invalid");
-            ExitCode::from(1)
-        }
+    let answer = answer_process(rt);
+    match &answer {
+        Ok(_) => {}
         Err(error) => {
-            let _ = rt.eprintln(format_args!("mlsign: {error:#}"));
-            ExitCode::from(2)
+            let _ = match line_of(rt.alloc(), error) {
+                Ok(line) => rt.eprintln(format_args!("mlsign: {line}")),
+                Err(_) => rt.eprintln("mlsign: out of memory"),
+            };
         }
     }
+    ExitCode::from(status(&answer))
+}
+
+/// The exit status of an answer.
+fn status(answer: &Result<bool, Error>) -> u8
+    ensures { result ≡ status_of answer.now }
+{
+    match answer {
+        Ok(true) => 0,
+        Ok(false) => 1,
+        Err(_) => 2,
+    }
+}
+
+/// The text of an error, on one line.
+pub fn line_of(alloc: Global, error: &Error) -> Result<String, AllocError> {
+    let text = format!(in alloc; "{error:#}")?;
+    printable(alloc, text.as_str())
 }
 
 /// Answers the words of the process after the program's name.
 fn answer_process(rt: &HostRuntime) -> Result<bool, Error> {
-    let mut words = Vec::new(rt.alloc());
-    for word in env::args(rt)?.skip(1) {
-        words.push(word).map_err(io::Error::from)?;
-    }
+    let words = match env::args(rt) {
+        Err(error) if error.kind() == ErrorKind::InvalidData => return Err(unreadable(rt)?),
+        words => words?,
+    };
+    let words: Vec<String> = words.skip(1).collect(rt.alloc()).map_err(io::Error::from)?;
     answer(rt, words.as_slice())
 }
 
-/// Answers these words: false for an invalid signature, and true for everything else that was done.
+/// Names the first word of the process that is not UTF-8.
+fn unreadable(rt: &HostRuntime) -> Result<Error, Error> {
+    let mut room = [0; 4096];
+    for place in 0..usize::MAX {
+        let Ok(size) = rt.arg(place, &mut room) else {
+            break;
+        };
+        let word = &room[..size];
+        if str::from_utf8(word).is_err() {
+            let word = format!(in rt.alloc(); "{}: a word that is not UTF-8", word.escape_ascii());
+            return Ok(Error::msg(word.map_err(io::Error::from)?));
+        }
+    }
+    Ok(Error::msg("a word is not UTF-8"))
+}
+
+/// Answers these words: false for an invalid signature, of which standard error says, and true for everything else that was done.
 pub fn answer<S: AsStr>(rt: &HostRuntime, words: &[S]) -> Result<bool, Error> {
     let command = mlsign(rt.alloc()).map_err(io::Error::from)?;
     let matches = match command.try_get_matches_from(words) {
         Ok(matches) => matches,
-        Err(error) if error.use_stderr() => {
-            return Err(Error::msg(in_a_line(rt.alloc(), &error)?));
-        }
+        Err(error) if error.use_stderr() => return Err(wrong_words(rt.alloc(), words, &error)?),
         Err(error) => {
             error.print(rt).context("standard output")?;
             return Ok(true);
@@ -58,7 +96,22 @@ pub fn answer<S: AsStr>(rt: &HostRuntime, words: &[S]) -> Result<bool, Error> {
     Ok(true)
 }
 
-/// What is wrong with the words of a call: the lines of an error before the first empty one, joined.
+/// What is wrong with the words of a call, which are shown as printable ones.
+fn wrong_words<S: AsStr>(alloc: Global, words: &[S], error: &clap::Error) -> io::Result<Error> {
+    let mut shown = Vec::new(alloc);
+    for word in words {
+        shown.push(printable(alloc, word.as_str())?)?;
+    }
+    let mut line = in_a_line(alloc, error)?;
+    let parsed = mlsign(alloc)?.try_get_matches_from(shown.as_slice());
+    if let Err(error) = &parsed {
+        line = in_a_line(alloc, error)?;
+    }
+    drop(parsed);
+    Ok(Error::msg(format!(in alloc; "{line}; try mlsign --help")?))
+}
+
+/// The text of an error about words: the lines of an error before the first empty one, joined.
 fn in_a_line(alloc: Global, error: &clap::Error) -> io::Result<String> {
     let text = error.to_string(alloc)?;
     let mut joined = String::new(alloc);

@@ -5,9 +5,10 @@ use crate::recorded::{
     SIGNATURE_65, SIGNATURE_87,
 };
 use base64::engine::general_purpose::STANDARD;
-use mlsign_engine::{CommandFault, Marked, keygen, public, show, sign, verify};
+use fips204_shake::Fault;
+use mlsign_engine::{CommandFault, keygen, public, show, sign, verify};
 use mlsign_files::pem::{self, Kind};
-use mlsign_files::{Algorithm, FileFault, PrivateKey, write_private};
+use mlsign_files::{FileFault, PrivateKey, SetName, write_private};
 use sha2::{Digest, Sha256};
 use std::alloc::Global;
 use std::test::*;
@@ -36,7 +37,7 @@ fn answer(
     let Ok(signature) = STANDARD.decode(alloc, signature) else {
         return Err(CommandFault::Message);
     };
-    let mut input = Marked::new(message);
+    let mut input = message;
     verify(alloc, public, signature.as_slice(), context, &mut input)
 }
 
@@ -86,7 +87,7 @@ fn faults(rt: HostRuntime) {
 
 /// Whether the signature of an empty message under the empty context, over 32 zeros, has this SHA-256.
 fn has_hash(alloc: Global, private: &[u8], text: &str) -> Result<bool, Fail> {
-    let mut input = Marked::new(b"".as_slice());
+    let mut input = b"".as_slice();
     let signature = sign(alloc, private, &[0; 32], b"", &mut input)?;
     let hash = Sha256::digest(signature.as_slice());
     let wanted = hex::decode(alloc, text)?;
@@ -121,14 +122,14 @@ fn signatures_of_a_model(rt: HostRuntime) -> Result<(), Fail> {
 fn keys_of_openssl(rt: HostRuntime) -> Result<(), Fail> {
     let alloc = rt.alloc();
     for (algorithm, private, public) in [
-        (Algorithm::MlDsa44, PRIVATE_44, PUBLIC_44),
-        (Algorithm::MlDsa65, PRIVATE_65, PUBLIC_65),
-        (Algorithm::MlDsa87, PRIVATE_87, PUBLIC_87),
+        (SetName::MlDsa44, PRIVATE_44, PUBLIC_44),
+        (SetName::MlDsa65, PRIVATE_65, PUBLIC_65),
+        (SetName::MlDsa87, PRIVATE_87, PUBLIC_87),
     ] {
         let keys = keygen(alloc, algorithm, &SEED)?;
         assert!(rt; keys.private.as_slice() == private);
         assert!(rt; keys.public.as_slice() == public);
-        let mut input = Marked::new(b"message".as_slice());
+        let mut input = b"message".as_slice();
         let signature = sign(
             alloc,
             keys.private.as_slice(),
@@ -136,7 +137,7 @@ fn keys_of_openssl(rt: HostRuntime) -> Result<(), Fail> {
             b"context",
             &mut input,
         )?;
-        let mut input = Marked::new(b"message".as_slice());
+        let mut input = b"message".as_slice();
         let valid = verify(alloc, public, signature.as_slice(), b"context", &mut input)?;
         assert!(rt; valid);
     }
@@ -146,13 +147,14 @@ fn keys_of_openssl(rt: HostRuntime) -> Result<(), Fail> {
 /// What `sign` answers with the file of this private key of ML-DSA-44.
 fn fault_of(alloc: Global, der: &[u8]) -> Result<bool, CommandFault> {
     let text = pem::encode(alloc, Kind::Private, der)?;
-    let mut input = Marked::new(b"".as_slice());
+    let mut input = b"".as_slice();
     let signature = sign(alloc, text.as_slice(), &[0; 32], b"", &mut input)?;
     Ok(signature.is_empty())
 }
 
 /// A seed beside an expanded key that is not its own, and an expanded key that is not whole.
 #[test]
+#[tactic(auto, unfolding(fips204_base::specs::Packing::bit_length))]
 fn inconsistent_keys(rt: HostRuntime) -> Result<(), Fail> {
     let alloc = rt.alloc();
     let expanded = [0; 2560];
@@ -160,12 +162,12 @@ fn inconsistent_keys(rt: HostRuntime) -> Result<(), Fail> {
         seed: &[0; 32],
         expanded: &expanded,
     };
-    let der = write_private(alloc, Algorithm::MlDsa44, both)?;
+    let der = write_private(alloc, SetName::MlDsa44, both)?;
     assert_eq!(rt;
         fault_of(alloc, der.as_slice()),
         Err(CommandFault::Inconsistent)
     );
-    let der = write_private(alloc, Algorithm::MlDsa44, PrivateKey::Expanded(&expanded))?;
+    let der = write_private(alloc, SetName::MlDsa44, PrivateKey::Expanded(&expanded))?;
     assert_eq!(rt;
         fault_of(alloc, der.as_slice()),
         Err(CommandFault::Inconsistent)
@@ -187,12 +189,35 @@ fn public_keys_of_openssl(rt: HostRuntime) -> Result<(), Fail> {
     Ok(())
 }
 
+/// The sentence of each fault; those of a file are its own.
+#[test]
+fn sentences(rt: HostRuntime) -> Result<(), Fail> {
+    for (fault, sentence) in [
+        (CommandFault::Key(FileFault::CutShort), "it is cut short"),
+        (
+            CommandFault::Inconsistent,
+            "the private key is not consistent",
+        ),
+        (
+            CommandFault::Library(Fault::TooManyAttempts),
+            "ML-DSA.Sign: too many attempts",
+        ),
+        (CommandFault::Context, "the context has more than 255 bytes"),
+        (CommandFault::Memory, "out of memory"),
+        (CommandFault::Message, "the message was not read"),
+    ] {
+        let text = format!(in rt.alloc(); "{fault}")?;
+        assert_eq!(rt; text.as_str(), sentence);
+    }
+    Ok(())
+}
+
 /// Whether this key of either kind is shown as such, of this set, with this hash of its public key.
 fn is_shown(
     alloc: Global,
     text: &[u8],
     kind: Kind,
-    algorithm: Algorithm,
+    algorithm: SetName,
     hash: &str,
 ) -> Result<bool, Fail> {
     let shown = show(alloc, text)?;
@@ -208,9 +233,9 @@ fn is_shown(
 #[test]
 fn recorded_keys(rt: HostRuntime) -> Result<(), Fail> {
     for (algorithm, private, public, hash) in [
-        (Algorithm::MlDsa44, PRIVATE_44, PUBLIC_44, HASH_44),
-        (Algorithm::MlDsa65, PRIVATE_65, PUBLIC_65, HASH_65),
-        (Algorithm::MlDsa87, PRIVATE_87, PUBLIC_87, HASH_87),
+        (SetName::MlDsa44, PRIVATE_44, PUBLIC_44, HASH_44),
+        (SetName::MlDsa65, PRIVATE_65, PUBLIC_65, HASH_65),
+        (SetName::MlDsa87, PRIVATE_87, PUBLIC_87, HASH_87),
     ] {
         let alloc = rt.alloc();
         assert!(rt; is_shown(alloc, public, Kind::Public, algorithm, hash)?);

@@ -3,7 +3,7 @@
 use crate::recorded::{PRIVATE_44, PRIVATE_65, PRIVATE_87, PUBLIC_44, PUBLIC_65, PUBLIC_87, SEED};
 use mlsign_files::pem::{self, Kind};
 use mlsign_files::{
-    Algorithm, FileFault, PrivateKey, read_private, read_public, write_private, write_public,
+    FileFault, PrivateKey, SetName, read_private, read_public, write_private, write_public,
 };
 use std::alloc::Global;
 use std::test::*;
@@ -36,7 +36,7 @@ fn fault_of(alloc: Global, kind: Kind, text: &[u8]) -> Option<FileFault> {
 }
 
 /// What a private key's text has, and the text that is written of it.
-fn again(alloc: Global, text: &[u8]) -> Result<(Algorithm, bool, Vec<u8>), FileFault> {
+fn again(alloc: Global, text: &[u8]) -> Result<(SetName, bool, Vec<u8>), FileFault> {
     let der = pem::decode(alloc, Kind::Private, text)?;
     let (algorithm, key) = read_private(der.as_slice())?;
     let PrivateKey::Seed(seed) = key else {
@@ -49,7 +49,7 @@ fn again(alloc: Global, text: &[u8]) -> Result<(Algorithm, bool, Vec<u8>), FileF
 }
 
 /// The file of a private key that is the recorded seed.
-fn seed_file(alloc: Global, algorithm: Algorithm) -> Result<Vec<u8>, FileFault> {
+fn seed_file(alloc: Global, algorithm: SetName) -> Result<Vec<u8>, FileFault> {
     Ok(write_private(alloc, algorithm, PrivateKey::Seed(&SEED))?)
 }
 
@@ -65,9 +65,9 @@ fn public_again(alloc: Global, text: &[u8]) -> Result<Vec<u8>, FileFault> {
 #[test]
 fn seeds_of_openssl(rt: HostRuntime) {
     for (text, wanted) in [
-        (PRIVATE_44, Algorithm::MlDsa44),
-        (PRIVATE_65, Algorithm::MlDsa65),
-        (PRIVATE_87, Algorithm::MlDsa87),
+        (PRIVATE_44, SetName::MlDsa44),
+        (PRIVATE_65, SetName::MlDsa65),
+        (PRIVATE_87, SetName::MlDsa87),
     ] {
         let (algorithm, is_seed, written) = again(rt.alloc(), text).expect(&rt, "a key");
         assert!(rt; algorithm == wanted);
@@ -105,6 +105,7 @@ fn joined(alloc: Global, parts: &[&[u8]]) -> Result<Vec<u8>, FileFault> {
 
 /// A private key in both forms, and an expanded one: each is written as the model wrote it, and read as it was.
 #[test]
+#[tactic(auto, unfolding(fips204_base::specs::Packing::bit_length))]
 fn other_forms(rt: HostRuntime) -> Result<(), Fail> {
     let key = [7; 4896];
     let (small, large) = (&key[..2560], &key[..]);
@@ -116,11 +117,11 @@ fn other_forms(rt: HostRuntime) -> Result<(), Fail> {
         rt.alloc(),
         &[&BEFORE_SEED_44, &SEED, &BEFORE_EXPANDED_44, small],
     )?;
-    let written = write_private(rt.alloc(), Algorithm::MlDsa44, both)?;
+    let written = write_private(rt.alloc(), SetName::MlDsa44, both)?;
     assert!(rt; written.as_slice() == wanted.as_slice());
     assert!(rt; is_both(written.as_slice(), small));
     let wanted = joined(rt.alloc(), &[&BEFORE_EXPANDED_87, large])?;
-    let written = write_private(rt.alloc(), Algorithm::MlDsa87, PrivateKey::Expanded(large))?;
+    let written = write_private(rt.alloc(), SetName::MlDsa87, PrivateKey::Expanded(large))?;
     assert!(rt; written.as_slice() == wanted.as_slice());
     assert!(rt; is_expanded(written.as_slice(), large));
     Ok(())
@@ -129,7 +130,7 @@ fn other_forms(rt: HostRuntime) -> Result<(), Fail> {
 /// The file has the recorded seed and this expanded key of ML-DSA-44.
 fn is_both(der: &[u8], wanted: &[u8]) -> bool {
     match read_private(der) {
-        Ok((Algorithm::MlDsa44, PrivateKey::Both { seed, expanded })) => {
+        Ok((SetName::MlDsa44, PrivateKey::Both { seed, expanded })) => {
             seed == SEED.as_slice() && expanded == wanted
         }
         _ => false,
@@ -139,7 +140,7 @@ fn is_both(der: &[u8], wanted: &[u8]) -> bool {
 /// The file has this expanded key of ML-DSA-87.
 fn is_expanded(der: &[u8], wanted: &[u8]) -> bool {
     match read_private(der) {
-        Ok((Algorithm::MlDsa87, PrivateKey::Expanded(expanded))) => expanded == wanted,
+        Ok((SetName::MlDsa87, PrivateKey::Expanded(expanded))) => expanded == wanted,
         _ => false,
     }
 }

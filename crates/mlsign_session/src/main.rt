@@ -3,7 +3,7 @@
 #![tactic(auto)]
 
 use anyhow::Result;
-use mlsign_program::answer;
+use mlsign_program::{answer, line_of};
 
 /// Answers the words of a line.
 fn answer_line(rt: &HostRuntime, line: &str) -> Result<()> {
@@ -12,7 +12,7 @@ fn answer_line(rt: &HostRuntime, line: &str) -> Result<()> {
     match answer(rt, words.as_slice()) {
         Ok(true) => println!(rt; "0")?,
         Ok(false) => println!(rt; "1")?,
-        Err(error) => println!(rt; "2: {error:#}")?,
+        Err(error) => println!(rt; "2: {}", line_of(rt.alloc(), &error)?)?,
     }
     Ok(())
 }

@@ -68,7 +68,7 @@ length-padding (suc (suc q)) = omega (arith, length-append {A = ℕ} (replicate 
 set_at : (xs zs : List ℕ) (u x y : ℕ) → length xs ≡ u → slice_set (xs ++ x ∷ zs) u y ≡ xs ++ y ∷ zs
 set_at xs zs u x y e = rw (← e) (set-append_seam xs x zs y)
 
-get_at : (xs zs : List ℕ) (u x : ℕ) → length xs ≡ u → get_or (xs ++ x ∷ zs) u 0 ≡ x
+pub get_at : (xs zs : List ℕ) (u x : ℕ) → length xs ≡ u → get_or (xs ++ x ∷ zs) u 0 ≡ x
 get_at [] zs u x e = rw (← e) refl
 get_at (y ∷ xs) zs u x e = rw (← e) (get_at xs zs (length xs) x refl)
 

@@ -3,3 +3,4 @@ pub mod Shake
 pub mod State
 pub mod Lengths
 pub mod Pieces
+pub mod Four

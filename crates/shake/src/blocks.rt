@@ -1,7 +1,7 @@
 //! Blocks of bytes, into and out of a state.
 #![tactic(auto)]
 
-ghost use Rattle.std.specs.Prelude.{◌≡◌, ◌<◌, ◌≤◌, ◌+◌, ◌*◌, ◌-◌, ◌%◌, ◌++◌, length, min, take, drop};
+ghost use Rattle.std.specs.Prelude.{◌≡◌, ◌<◌, ◌≤◌, ◌+◌, ◌*◌, ◌-◌, ◌%◌, ◌^◌, ◌++◌, ℕ, length, min, take, drop, slice_index};
 ghost use Rattle.shake.specs.Shake.{bytes, block_lane, add_block, padding};
 
 /// Copies from `source` as many bytes as `out` takes, and answers how many.
@@ -49,7 +49,8 @@ pub(crate) fn add_block(state: &mut [u64; 25], block: &[u8])
 pub(crate) fn write_block(state: &[u64; 25], block: &mut [u8])
     requires size { length block.old ≤ 200 }
     requires whole { length block.old % 8 ≡ 0 }
-    ensures { block.new ≡ take (length block.old) (bytes state.now) }
+    ensures written { block.new ≡ take (length block.old) (bytes state.now) }
+    ensures words { (i : ℕ) → slice_index state.now i < 2 ^ 64 }
 {
     for index in 0..block.len() / 8 {
         let at = 8 * index;

@@ -2,8 +2,10 @@
 #![tactic(auto)]
 
 mod blocks;
+mod four;
 mod permutation;
 mod sponge;
 
+pub use four::f1600_four;
 pub use permutation::f1600;
 pub use sponge::{Shake, Shake128, Shake128Reader, Shake256, Shake256Reader, ShakeReader};

@@ -5,7 +5,7 @@ ghost use Rattle.std.specs.Prelude.{◌≡◌};
 ghost use Rattle.shake.specs.Keccak.{round, keccak_f};
 
 /// The constants of iota.
-const ROUND_CONSTANTS: [u64; 24] = [
+pub(crate) const ROUND_CONSTANTS: [u64; 24] = [
     0x0000000000000001,
     0x0000000000008082,
     0x800000000000808a,
@@ -129,36 +129,13 @@ fn round(a: &[u64; 25], constant: u64) -> [u64; 25]
     ]
 }
 
-/// The permutation Keccak-f[1600] of the 25 lanes of a state, lane (x, y) at place `x + 5 * y`. The rounds stand one after the
-/// other, so that no lane changes its place between two of them.
-#[tactic(auto, unfolding(crate::specs::Keccak::rounds))]
+/// The permutation Keccak-f[1600] of the 25 lanes of a state, lane (x, y) at place `x + 5 * y`.
 pub fn f1600(state: &mut [u64; 25])
     ensures { state.new ≡ keccak_f state.old }
 {
     let mut a = *state;
-    a = round(&a, ROUND_CONSTANTS[0]);
-    a = round(&a, ROUND_CONSTANTS[1]);
-    a = round(&a, ROUND_CONSTANTS[2]);
-    a = round(&a, ROUND_CONSTANTS[3]);
-    a = round(&a, ROUND_CONSTANTS[4]);
-    a = round(&a, ROUND_CONSTANTS[5]);
-    a = round(&a, ROUND_CONSTANTS[6]);
-    a = round(&a, ROUND_CONSTANTS[7]);
-    a = round(&a, ROUND_CONSTANTS[8]);
-    a = round(&a, ROUND_CONSTANTS[9]);
-    a = round(&a, ROUND_CONSTANTS[10]);
-    a = round(&a, ROUND_CONSTANTS[11]);
-    a = round(&a, ROUND_CONSTANTS[12]);
-    a = round(&a, ROUND_CONSTANTS[13]);
-    a = round(&a, ROUND_CONSTANTS[14]);
-    a = round(&a, ROUND_CONSTANTS[15]);
-    a = round(&a, ROUND_CONSTANTS[16]);
-    a = round(&a, ROUND_CONSTANTS[17]);
-    a = round(&a, ROUND_CONSTANTS[18]);
-    a = round(&a, ROUND_CONSTANTS[19]);
-    a = round(&a, ROUND_CONSTANTS[20]);
-    a = round(&a, ROUND_CONSTANTS[21]);
-    a = round(&a, ROUND_CONSTANTS[22]);
-    a = round(&a, ROUND_CONSTANTS[23]);
+    for index in 0..24 {
+        a = round(&a, ROUND_CONSTANTS[index]);
+    }
     *state = a;
 }

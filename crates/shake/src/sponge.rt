@@ -1,11 +1,13 @@
 //! SHAKE128 and SHAKE256 (FIPS 202, section 6.2), piece by piece.
 #![tactic(auto)]
 
-ghost use Rattle.std.specs.Prelude.{◌≡◌, ◌<◌, ◌≤◌, ◌+◌, ◌++◌, ℕ, List, [], length, take};
-ghost use Rattle.shake.specs.Shake.{shake};
-ghost use Rattle.shake.specs.State.{IsRate};
+ghost use Rattle.std.specs.Prelude.{◌≡◌, ◌<◌, ◌≤◌, ◌+◌, ◌++◌, ◌⊎◌, ℕ, List, [], length, take, MatchOption};
+ghost use Rattle.shake.specs.Keccak.{keccak_f};
+ghost use Rattle.shake.specs.Shake.{bytes, shake};
+ghost use Rattle.shake.specs.State.{IsRate, IsSaved, next_bytes, saved_used};
 
 use crate::blocks::{add_block, pad, write_block, write_run};
+use crate::four::f1600_four;
 use crate::permutation::f1600;
 
 /// SHAKE with blocks of `R` bytes, which takes its message piece by piece. Contracts say by `Holds hasher m` that the message
@@ -96,15 +98,79 @@ impl<const R: usize> Shake<R> {
         }
     }
 
+    /// Writes the hasher as bytes, from which `restore` makes it again: 200 of its lanes, `R` of its block, and one that counts.
+    pub fn save(&self, out: &mut [u8])
+        requires size { length out.old ≡ 201 + R }
+        ensures { (m : List ℕ) → Holds self.now m
+            → IsSaved R out.new m }
+    {
+        let (lanes, rest) = out.split_at_mut(200);
+        let (block, count) = rest.split_at_mut(R);
+        write_block(&self.lanes, lanes);
+        block.copy_from_slice(&self.block);
+        count.copy_from_slice(&[self.used as u8]);
+    }
+
+    /// The hasher of these bytes, or none if no hasher has them: if their last one is not below `R`.
+    pub fn restore(saved: &[u8]) -> Option<Shake<R>>
+        requires rate { IsRate R }
+        requires size { length saved.now ≡ 201 + R }
+        ensures { MatchOption result (R ≤ saved_used R saved.now)
+            (λ hasher. (saved_used R saved.now < R) × ((m : List ℕ) → IsSaved R saved.now m → Holds hasher m)) }
+    {
+        let (front, rest) = saved.split_at(200);
+        let used = rest[R] as usize;
+        if used >= R {
+            return None;
+        }
+        let mut lanes = [0u64; 25];
+        add_block(&mut lanes, front);
+        let mut block = [0u8; R];
+        block.copy_from_slice(&rest[..R]);
+        Some(Shake { lanes, block, used })
+    }
+
     /// Fills `out` with the first bytes of output for the message `input`.
     pub fn digest_xof(input: &[u8], out: &mut [u8])
         requires { IsRate R }
         ensures { out.new ≡ shake R input.now (length out.old) }
     {
+        let mut reader = Shake::<R>::reader(input);
+        reader.read(out);
+    }
+
+    /// A reader of the output for the message `input`.
+    pub fn reader(input: &[u8]) -> ShakeReader<R>
+        requires { IsRate R }
+        ensures { (d : ℕ) → next result d ≡ shake R input.now d }
+    {
         let mut hasher = Shake::<R>::new();
         hasher.update(input);
-        let mut reader = hasher.finalize_xof();
-        reader.read(out);
+        hasher.finalize_xof()
+    }
+
+    /// Fills four outputs with the first bytes of output for four messages, as `digest_xof` of each does, side by side.
+    pub fn digest_four<const N: usize>(
+        a: &[u8],
+        b: &[u8],
+        c: &[u8],
+        d: &[u8],
+        to_a: &mut [u8; N],
+        to_b: &mut [u8; N],
+        to_c: &mut [u8; N],
+        to_d: &mut [u8; N],
+    )
+        requires { IsRate R }
+        ensures first { to_a.new ≡ shake R a.now N }
+        ensures second { to_b.new ≡ shake R b.now N }
+        ensures third { to_c.new ≡ shake R c.now N }
+        ensures fourth { to_d.new ≡ shake R d.now N }
+    {
+        let mut a = Shake::<R>::reader(a);
+        let mut b = Shake::<R>::reader(b);
+        let mut c = Shake::<R>::reader(c);
+        let mut d = Shake::<R>::reader(d);
+        ShakeReader::<R>::read_four(&mut a, &mut b, &mut c, &mut d, to_a, to_b, to_c, to_d);
     }
 }
 
@@ -150,5 +216,83 @@ impl<const R: usize> ShakeReader<R> {
         let count = write_run(&block[self.given..], out);
         self.given += count;
         count
+    }
+
+    /// Fills the outputs with the next bytes of four readers, as `read` of each does. The outputs are of one length; or the fourth
+    /// is empty, where only three are wanted. Blocks that begin together are made side by side.
+    pub fn read_four(
+        a: &mut ShakeReader<R>,
+        b: &mut ShakeReader<R>,
+        c: &mut ShakeReader<R>,
+        d: &mut ShakeReader<R>,
+        to_a: &mut [u8],
+        to_b: &mut [u8],
+        to_c: &mut [u8],
+        to_d: &mut [u8],
+    )
+        requires lengths { (length to_b.old ≡ length to_a.old) × (length to_c.old ≡ length to_a.old)
+            × ((length to_d.old ≡ length to_a.old) ⊎ (length to_d.old ≡ 0)) }
+        ensures first { to_a.new ≡ next a.old (length to_a.old) }
+        ensures first_left { (n : ℕ) → next a.old (length to_a.old + n) ≡ to_a.new ++ next a.new n }
+        ensures second { to_b.new ≡ next b.old (length to_b.old) }
+        ensures second_left { (n : ℕ) → next b.old (length to_b.old + n) ≡ to_b.new ++ next b.new n }
+        ensures third { to_c.new ≡ next c.old (length to_c.old) }
+        ensures third_left { (n : ℕ) → next c.old (length to_c.old + n) ≡ to_c.new ++ next c.new n }
+        ensures fourth { to_d.new ≡ next d.old (length to_d.old) }
+        ensures fourth_left { (n : ℕ) → next d.old (length to_d.old + n) ≡ to_d.new ++ next d.new n }
+    {
+        let mut filled = 0;
+        while filled < to_a.len() {
+            let end = filled + R.min(to_a.len() - filled);
+            ShakeReader::<R>::refill_four(a, b, c, d);
+            a.read(&mut to_a[filled..end]);
+            b.read(&mut to_b[filled..end]);
+            c.read(&mut to_c[filled..end]);
+            let start = filled.min(to_d.len());
+            let stop = end.min(to_d.len());
+            d.read(&mut to_d[start..stop]);
+            filled = end;
+        }
+    }
+
+    /// Makes the next blocks of four readers side by side, where the first three have given their last ones. The fourth one's is
+    /// dropped if it has not. What a reader gives next stays the same.
+    fn refill_four(
+        a: &mut ShakeReader<R>,
+        b: &mut ShakeReader<R>,
+        c: &mut ShakeReader<R>,
+        d: &mut ShakeReader<R>,
+    )
+        ensures first { (n : ℕ) → next a.new n ≡ next a.old n }
+        ensures second { (n : ℕ) → next b.new n ≡ next b.old n }
+        ensures third { (n : ℕ) → next c.new n ≡ next c.old n }
+        ensures fourth { (n : ℕ) → next d.new n ≡ next d.old n }
+    {
+        if a.given == R && b.given == R && c.given == R {
+            let mut fourth = d.lanes;
+            f1600_four(&mut a.lanes, &mut b.lanes, &mut c.lanes, &mut fourth);
+            a.begin_block();
+            b.begin_block();
+            c.begin_block();
+            d.begin_if_given(&fourth);
+        }
+    }
+
+    /// Takes the block of the lanes in hand, which were permuted.
+    fn begin_block(&mut self)
+        ensures { (n : ℕ) → next self.new n ≡ next_bytes R self.old.lanes (take R (bytes self.old.lanes)) 0 n }
+    {
+        write_block(&self.lanes, &mut self.block);
+        self.given = 0;
+    }
+    /// Takes the next block of `lanes`, its own lanes after a permutation, if the last one is given.
+    fn begin_if_given(&mut self, lanes: &[u64; 25])
+        requires { lanes.now ≡ keccak_f self.old.lanes }
+        ensures { (n : ℕ) → next self.new n ≡ next self.old n }
+    {
+        if self.given == R {
+            self.lanes = *lanes;
+            self.begin_block();
+        }
     }
 }

@@ -3,11 +3,13 @@
 #![deny(missing_docs)]
 
 mod library;
+mod pieces;
 pub mod pre_hash;
 mod set;
 pub mod traits;
 mod wiped;
 
+pub use pieces::MessageHasher;
 #[cfg(feature = "rand_core")]
 pub use rand_core::{CryptoRng, Error as RngError, RngCore};
 

@@ -19,6 +19,7 @@ pub(crate) fn error(status: u32) -> &'static str {
         13 => "ML-DSA.Sign: too many attempts",
         14 => "Alg 25: s1 or s2 out of range",
         15 => "sampling limit reached",
+        16 => "the state of a message in pieces is broken",
         _ => "no answer of this library",
     }
 }
@@ -76,6 +77,9 @@ macro_rules! calls_of_a_set {
             public_key(private_key) => (public_key);
             check_private_key(private_key) => ();
             is_whole(private_key) => ();
+            is_pair(private_key) => ();
+            mu_begin(public_key, context) => (state);
+            mu_begin_private(private_key, context) => (state);
         }
     };
 }
@@ -95,4 +99,7 @@ pub(crate) mod set_87 {
 calls! {
     "mldsa_":
     check_pre_hash(digest, oid) => ();
+    mu_update(piece) => (state);
+    mu_finish(state) => (mu);
+    version() => ();
 }

@@ -5,6 +5,7 @@
 macro_rules! parameter_set {
     ($calls:ident, $pk_len:literal, $sk_len:literal, $sig_len:literal) => {
         use crate::library::{self, answer, $calls as calls};
+        use crate::pieces::MessageHasher;
         use crate::traits::{CryptoRngCore, KeyGen, SerDes, Signer, Verifier};
         use crate::wiped::Wiped;
 
@@ -88,6 +89,62 @@ macro_rules! parameter_set {
                 }
             }
 
+            /// Whether the key works: whether what it signs verifies under the public key that `get_public_key` returns,
+            /// also after that was stored. So it is for every key of key generation.
+            ///
+            /// # Errors
+            /// Rejection sampling reached its limit, for which no key is known.
+            pub fn is_pair(&self) -> Result<bool, &'static str> {
+                match calls::is_pair(&self.0.0) {
+                    library::NO => Ok(false),
+                    status => answer(status, true),
+                }
+            }
+
+            /// Begins a message in pieces, which `try_sign_mu_with_rng` then signs.
+            ///
+            /// # Errors
+            /// The context has more than 255 bytes.
+            pub fn message_hasher(&self, ctx: &[u8]) -> Result<MessageHasher, &'static str> {
+                MessageHasher::begun(|state| calls::mu_begin_private(&self.0.0, ctx, state))
+            }
+
+            /// Signs the hash `mu` of a message, with random bytes of the operating system's generator.
+            ///
+            /// # Errors
+            /// The generator failed, or all 814 attempts were rejected.
+            #[cfg(feature = "default-rng")]
+            pub fn try_sign_mu(&self, mu: &[u8; 64]) -> Result<[u8; SIG_LEN], &'static str> {
+                self.try_sign_mu_with_rng(&mut crate::traits::SystemRng, mu)
+            }
+
+            /// Signs the hash `mu` of a message, with 32 bytes of a generator, which is asked once.
+            ///
+            /// # Errors
+            /// The generator failed, or all 814 attempts were rejected.
+            pub fn try_sign_mu_with_rng(
+                &self,
+                rng: &mut impl CryptoRngCore,
+                mu: &[u8; 64],
+            ) -> Result<[u8; SIG_LEN], &'static str> {
+                let random = draw(rng, "ML-DSA.Sign_internal: random number generator failed")?;
+                self.try_sign_mu_with_seed(&random.0, mu)
+            }
+
+            /// Signs the hash `mu` of a message, with these random bytes. 32 zeros give the deterministic variant.
+            ///
+            /// # Errors
+            /// All 814 attempts were rejected.
+            pub fn try_sign_mu_with_seed(
+                &self,
+                seed: &[u8; 32],
+                mu: &[u8; 64],
+            ) -> Result<[u8; SIG_LEN], &'static str> {
+                let mut signature = [0; SIG_LEN];
+                let status = calls::sign_mu(&self.0.0, mu, seed, &mut signature);
+                answer(status, signature)
+            }
+
             /// Signs the hash `mu` of a framed message (Algorithm 7 from line 7 on): with random bytes of the generator, or
             /// without `hedged` with 32 zeros.
             ///
@@ -104,15 +161,20 @@ macro_rules! parameter_set {
                 if hedged {
                     random = draw(rng, "ML-DSA.Sign_internal: random number generator failed")?;
                 }
-                let mut signature = [0; SIG_LEN];
-                let status = calls::sign_mu(&self.0.0, mu, &random.0, &mut signature);
-                answer(status, signature)
+                self.try_sign_mu_with_seed(&random.0, mu)
             }
         }
 
-        #[cfg(feature = "acvp-internal")]
         impl PublicKey {
-            /// Whether the key accepts the signature of the hash `mu` of a framed message (Algorithm 8, with mu given).
+            /// Begins a message in pieces, which `verify_mu` then verifies.
+            ///
+            /// # Errors
+            /// The context has more than 255 bytes.
+            pub fn message_hasher(&self, ctx: &[u8]) -> Result<MessageHasher, &'static str> {
+                MessageHasher::begun(|state| calls::mu_begin(&self.0.0, ctx, state))
+            }
+
+            /// Whether the key accepts the signature of the hash `mu` of a message (Algorithm 8, with mu given).
             #[must_use]
             pub fn verify_mu(&self, mu: &[u8; 64], sig: &[u8; SIG_LEN]) -> bool {
                 calls::verify_mu(&self.0.0, mu, sig) == library::DONE

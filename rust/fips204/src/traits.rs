@@ -59,7 +59,7 @@ macro_rules! generator {
 
 /// The operating system's generator.
 #[cfg(feature = "default-rng")]
-struct SystemRng;
+pub(crate) struct SystemRng;
 
 generator! {
     #[cfg(feature = "default-rng")]

@@ -88,6 +88,7 @@ macro_rules! interface {
                 public.clone().into_bytes()
             );
             assert_eq!(private.is_whole(), Ok(true));
+            assert_eq!(private.is_pair(), Ok(true));
 
             // So is a signature.
             let drawn = private.try_sign_with_rng(&mut rng, b"m", b"c").unwrap();
@@ -111,6 +112,35 @@ macro_rules! interface {
             assert!(!public.hash_verify(&digest, &hashed, b"c", &pre_hash::SHA3_256));
             assert!(!public.verify(&digest, &hashed, b"c"));
             assert_eq!(rng.asked, [32, 32, 32]);
+
+            // A message in pieces has the signature of the whole one, however it is cut.
+            let message: [u8; 300] = core::array::from_fn(|i| i as u8);
+            let whole = private.try_sign_with_seed(&[9; 32], &message, b"c").unwrap();
+            for cut in [0, 1, 60, 61, 100, 299, 300] {
+                let mut hasher = private.message_hasher(b"c").unwrap();
+                let mut verifier = public.message_hasher(b"c").unwrap();
+                hasher.update(&message[..cut]);
+                hasher.update(&message[cut..]);
+                verifier.update(&message);
+                let mu = hasher.finalize();
+                assert_eq!(mu, verifier.finalize());
+                assert_eq!(private.try_sign_mu_with_seed(&[9; 32], &mu).unwrap(), whole);
+                assert!(public.verify_mu(&mu, &whole));
+                assert!(!public.verify_mu(&mu, &drawn));
+            }
+            let mut asked_once = Counted::new(Some(9));
+            let mu = private.message_hasher(b"c").unwrap().finalize();
+            assert_eq!(
+                private.try_sign_mu_with_rng(&mut asked_once, &mu),
+                private.try_sign_with_seed(&[9; 32], b"", b"c")
+            );
+            assert_eq!(asked_once.asked, [32]);
+            for begun in [
+                private.message_hasher(&[0; 256]),
+                public.message_hasher(&[0; 256]),
+            ] {
+                assert_eq!(begun.err(), Some("ML-DSA.Sign: ctx too long"));
+            }
 
             // A generator that fails has its own error at each call.
             let mut failing = Counted::new(None);
@@ -184,6 +214,10 @@ macro_rules! interface {
                 PrivateKey::try_from_bytes(bytes).unwrap().into_bytes(),
                 bytes
             );
+            bytes[64] ^= 1;
+            let other_hash = PrivateKey::try_from_bytes(bytes).unwrap();
+            assert_eq!(other_hash.is_whole(), Ok(true));
+            assert_eq!(other_hash.is_pair(), Ok(false));
             bytes[$set::SK_LEN - 1] ^= 1;
             assert_eq!(
                 PrivateKey::try_from_bytes(bytes).unwrap().is_whole(),

@@ -1,8 +1,9 @@
 //! What key generation, signing and verifying cost in both crates.
 //!
-//! `costs N` prints for each set the median nanoseconds of N calls, the crates in turn over the same inputs, and compares what
-//! they answer: SET CALL ORIGINAL OURS. `costs N SET CALL original|ours` makes N calls alone, to be counted by callgrind
-//! (N of 0 makes what the calls need, and no call).
+//! `costs SET FIRST N` makes the calls of the N inputs from number FIRST on, the crates in turn, and compares what they answer.
+//! It prints a line for each: the seed, the public key, the message, the signature, and then the nanoseconds of each call, of the
+//! original and of ours. `costs SET CALL original|ours N` makes N calls alone, to be counted by callgrind (N of 0 makes what the
+//! calls need, and no call).
 
 use std::time::Instant;
 
@@ -21,32 +22,33 @@ fn timed<T>(times: &mut Vec<u128>, call: impl FnOnce() -> T) -> T {
     value
 }
 
-fn median(times: &mut [u128]) -> u128 {
-    times.sort_unstable();
-    times[times.len() / 2]
+fn hex(bytes: &[u8]) -> String {
+    bytes.iter().map(|byte| format!("{byte:02x}")).collect()
 }
 
-/// Both crates in turn, with results compared.
+/// Both crates in turn, with results compared. One call of each kind goes before, untimed.
 macro_rules! in_turn {
-    ($number:literal, $set:ident, $count:expr) => {{
+    ($set:ident, $first:expr, $count:expr) => {{
         use fips204::traits::{KeyGen as _, SerDes as _, Signer as _, Verifier as _};
         use original::traits::{KeyGen as _, SerDes as _, Signer as _, Verifier as _};
-        let mut times: [[Vec<u128>; 2]; 3] = Default::default();
-        let [[keygen, keygen_ours], [sign, sign_ours], [verify, verify_ours]] = &mut times;
-        for i in 0..$count {
-            let (public, private) = timed(keygen, || original::$set::KG::keygen_from_seed(&bytes(i)));
-            let (public_ours, private_ours) = timed(keygen_ours, || fips204::$set::KG::keygen_from_seed(&bytes(i)));
+        for round in 0..=$count {
+            let i = $first + round.saturating_sub(1);
+            let mut times = vec![];
             let message = bytes(1_000_000 + i);
-            let signature = timed(sign, || private.try_sign_with_seed(&bytes(i), &message, b"").unwrap());
-            let signature_ours = timed(sign_ours, || private_ours.try_sign_with_seed(&bytes(i), &message, b"").unwrap());
+            let (public, private) = timed(&mut times, || original::$set::KG::keygen_from_seed(&bytes(i)));
+            let (public_ours, private_ours) = timed(&mut times, || fips204::$set::KG::keygen_from_seed(&bytes(i)));
+            let signature = timed(&mut times, || private.try_sign_with_seed(&bytes(i), &message, b"").unwrap());
+            let signature_ours = timed(&mut times, || private_ours.try_sign_with_seed(&bytes(i), &message, b"").unwrap());
             assert_eq!(signature, signature_ours);
-            assert!(timed(verify, || public.verify(&message, &signature, b"")));
-            assert!(timed(verify_ours, || public_ours.verify(&message, &signature, b"")));
-            assert_eq!(public.into_bytes(), public_ours.into_bytes());
+            assert!(timed(&mut times, || public.verify(&message, &signature, b"")));
+            assert!(timed(&mut times, || public_ours.verify(&message, &signature, b"")));
+            let public = public.into_bytes();
+            assert_eq!(public, public_ours.into_bytes());
             assert_eq!(private.into_bytes(), private_ours.into_bytes());
-        }
-        for (call, [original, ours]) in ["keygen", "sign", "verify"].iter().zip(&mut times) {
-            println!("{} {call} {} {}", $number, median(original), median(ours));
+            if round > 0 {
+                let taken: Vec<_> = times.iter().map(u128::to_string).collect();
+                println!("{} {} {} {} {}", hex(&bytes(i)), hex(&public), hex(&message), hex(&signature), taken.join(" "));
+            }
         }
     }};
 }
@@ -71,28 +73,23 @@ macro_rules! alone {
     }};
 }
 
-macro_rules! alone_in {
-    ($crate_name:ident, $words:expr, $count:expr) => {
-        match $words[1].as_str() {
-            "44" => alone!($crate_name, ml_dsa_44, $count, $words[2].as_str()),
-            "65" => alone!($crate_name, ml_dsa_65, $count, $words[2].as_str()),
-            "87" => alone!($crate_name, ml_dsa_87, $count, $words[2].as_str()),
-            _ => panic!("no such set"),
+macro_rules! at_set {
+    ($set:ident, $words:expr) => {{
+        let number = |at: usize| -> usize { $words[at].parse().expect("a number") };
+        match $words.len() {
+            3 => in_turn!($set, number(1), number(2)),
+            _ if $words[2] == "original" => alone!(original, $set, number(3), $words[1].as_str()),
+            _ => alone!(fips204, $set, number(3), $words[1].as_str()),
         }
-    };
+    }};
 }
 
 fn main() {
     let words: Vec<String> = std::env::args().skip(1).collect();
-    let count = words[0].parse().expect("the first word is a number");
-    match words.get(3).map(String::as_str) {
-        None => {
-            in_turn!(44, ml_dsa_44, count);
-            in_turn!(65, ml_dsa_65, count);
-            in_turn!(87, ml_dsa_87, count);
-        }
-        Some("original") => alone_in!(original, words, count),
-        Some("ours") => alone_in!(fips204, words, count),
-        _ => panic!("the last word is original or ours"),
+    match words[0].as_str() {
+        "44" => at_set!(ml_dsa_44, words),
+        "65" => at_set!(ml_dsa_65, words),
+        "87" => at_set!(ml_dsa_87, words),
+        _ => panic!("no such set"),
     }
 }

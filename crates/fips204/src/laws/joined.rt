@@ -27,7 +27,7 @@ use super::{
 };
 use crate::ml_dsa::key_gen_internal;
 use crate::ml_dsa_44::{
-    PK_LEN, PreparedPrivateKey, PreparedPublicKey, PrivateKey, PublicKey, SIG_LEN,
+    K, L, PK_LEN, PreparedPrivateKey, PreparedPublicKey, PrivateKey, PublicKey, SIG_LEN,
 };
 use crate::traits::{KeyGen, SerDes, Signer, Verifier};
 use crate::types::{ML_DSA_44, ML_DSA_65, ML_DSA_87, Params};
@@ -41,7 +41,7 @@ pub(crate) fn pair_of_seed<H: Xof, G: Xof>(xi: &[u8; 32]) -> Result<(PublicKey<H
         (λ fault. result ≡ Err fault) }
 {
     signed_is_accepted();
-    let (_, private) = key_gen_internal::<4, 4, PK_LEN, H, G>(&ML_DSA_44, xi)?;
+    let (_, private) = key_gen_internal::<K, L, PK_LEN, H, G>(&ML_DSA_44, xi)?;
     let derived = private.get_public_key()?;
     let whole = private.is_whole()?;
     Ok((derived, whole))
@@ -75,7 +75,7 @@ pub(crate) fn stored_pair_accepts<H: Xof, G: Xof>(
     ensures { IfOk result (λ answer. answer ≡ true) }
 {
     signed_is_accepted();
-    let (public, private) = key_gen_internal::<4, 4, PK_LEN, H, G>(&ML_DSA_44, xi)?;
+    let (public, private) = key_gen_internal::<K, L, PK_LEN, H, G>(&ML_DSA_44, xi)?;
     let public = PublicKey::<H, G>::try_from_bytes(public.into_bytes())?;
     let private = PrivateKey::<H, G>::try_from_bytes(private.into_bytes())?;
     let signature = private.try_sign_with_seed(rnd, message, ctx)?;

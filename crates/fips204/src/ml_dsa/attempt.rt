@@ -11,7 +11,8 @@ ghost use Rattle.fips204.specs.SigningInputs.{AreAttemptInputs};
 ghost use Rattle.fips204.specs.Sets.{set_of};
 
 use super::commitment_hash::commitment_hash;
-use crate::types::{Params, R, R0, SigningKey, T};
+use super::signing::SigningKey;
+use crate::types::{Params, R, R0};
 use fips204_base::Fault;
 use fips204_base::hashing::{expand_mask, sample_in_ball};
 use fips204_base::high_low::high_bits;

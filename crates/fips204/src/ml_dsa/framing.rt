@@ -1,11 +1,12 @@
-//! What is signed: the hash of a message or a digest under a context (FIPS 204, Algorithms 2 to 5).
+//! The hash of what is signed (FIPS 204, Algorithms 2 to 5, 7 and 8).
 #![tactic(auto)]
 
 ghost use Rattle.std.specs.Prelude.{◌≡◌, ◌<◌, length, take, IfSome, IfNone};
 ghost use Rattle.std.specs.List.{flat_map};
-ghost use Rattle.fips204.specs.Framing.{plain, hashed};
+ghost use Rattle.fips204.specs.Inputs.{input_of};
 ghost use Rattle.fips204.specs.SigningInputs.{input_hash};
 
+use crate::input::Input;
 use crate::types::pre_hash::check_pre_hash;
 use fips204_base::Fault;
 use fips204_base::xof::{Xof, hash};
@@ -18,34 +19,26 @@ pub fn mu<H: Xof>(parts: &[&[u8]]) -> [u8; 64]
     hash::<H, 64>(parts)
 }
 
-/// The hash `mu` of a message and a context.
+/// The hash `mu` of an input, under the hash `tr` of the public key.
 ///
-/// Errors: `Fault::SignCtx` if the context has more than 255 bytes.
-pub(crate) fn message_mu<'a, H: Xof>(
-    tr: &'a [u8; 64],
-    message: &'a [u8],
-    ctx: &'a [u8],
-) -> Result<[u8; 64], Fault>
-    ensures { result ≡ input_hash H.front tr.now (plain message.now ctx.now) }
+/// Errors: for a message `Fault::SignCtx` if the context has more than 255 bytes. For a digest, in this order:
+/// `Fault::HashCtx` if the context has more than 255 bytes; those of `check_pre_hash`.
+pub(crate) fn mu_of<'a, H: Xof>(tr: &'a [u8; 64], input: &Input<'a>) -> Result<[u8; 64], Fault>
+    ensures { result ≡ input_hash H.front tr.now (input_of input.now) }
 {
-    let length = context_length(ctx).ok_or(Fault::SignCtx)?;
-    Ok(mu::<H>(&[tr.as_slice(), &[0, length], ctx, message]))
-}
-
-/// The hash `mu` of a digest, a context and the object identifier of the hash function.
-///
-/// Errors, in this order: `Fault::HashCtx` if the context has more than 255 bytes; those of `check_pre_hash`.
-pub(crate) fn digest_mu<'a, H: Xof>(
-    tr: &'a [u8; 64],
-    hash: &'a [u8],
-    ctx: &'a [u8],
-    hash_oid: &'a [u8],
-) -> Result<[u8; 64], Fault>
-    ensures { result ≡ input_hash H.front tr.now (hashed hash.now ctx.now hash_oid.now) }
-{
-    let length = context_length(ctx).ok_or(Fault::HashCtx)?;
-    check_pre_hash(hash, hash_oid)?;
-    Ok(mu::<H>(&[tr.as_slice(), &[1, length], ctx, hash_oid, hash]))
+    match *input {
+        Input::Message(message, context) => {
+            let length = context_length(context).ok_or(Fault::SignCtx)?;
+            Ok(mu::<H>(&[tr.as_slice(), &[0, length], context, message]))
+        }
+        Input::Digest(digest, context, oid) => {
+            let length = context_length(context).ok_or(Fault::HashCtx)?;
+            check_pre_hash(digest, oid)?;
+            Ok(mu::<H>(&[tr.as_slice(), &[1, length], context, oid, digest]))
+        }
+        Input::Framed(m) => Ok(mu::<H>(&[tr.as_slice(), m])),
+        Input::Mu(mu) => Ok(*mu),
+    }
 }
 
 /// The byte of a context's length, which a context of at most 255 bytes has.

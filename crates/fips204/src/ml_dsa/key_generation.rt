@@ -2,11 +2,11 @@
 #![tactic(auto)]
 
 ghost use Rattle.std.specs.Prelude.{◌≡◌, ◌≤◌, ◌<◌, ◌+◌, ◌*◌, ◌%◌, pos, nat_abs, take, drop, IfOk};
-ghost use Rattle.fips204_base.specs.Vectors.{vector_of};
-ghost use Rattle.fips204_base.specs.Network.{OnSampled};
+ghost use Rattle.fips204_base.specs.Vectors.{IsVector, vector_of};
+ghost use Rattle.fips204_base.specs.SamplerSteps.{OnSampled};
 ghost use Rattle.fips204_base.specs.Bounds.{IsResidueVector, VectorWithin};
 ghost use Rattle.fips204_base.specs.Residues.{residue};
-ghost use Rattle.fips204.specs.Keys.{key_vector};
+ghost use Rattle.fips204.specs.Keys.{high_part, key_vector, low_part};
 ghost use Rattle.fips204.specs.ParameterSets.{public_key_length};
 ghost use Rattle.fips204.specs.Refusals.{generated, derived, Draws};
 ghost use Rattle.fips204.specs.Sets.{set_of};
@@ -39,8 +39,8 @@ pub fn key_gen_internal<const K: usize, const L: usize, const PK_LEN: usize, H: 
 {
     // (rho, rho', K) = H(xi || k || l)
     let seeds = hash::<H, 128>(&[xi.as_slice(), &[p.k as u8], &[p.l as u8]]);
-    let rho: [u8; 32] = part(&seeds, 0);
-    let rho_prime: [u8; 64] = part(&seeds, 32);
+    let rho: [u8; 32] = seed_at(&seeds, 0);
+    let rho_prime: [u8; 64] = seed_at(&seeds, 32);
     // both keys, of which each part is written in its place
     let mut public = PublicKey {
         rho,
@@ -50,7 +50,7 @@ pub fn key_gen_internal<const K: usize, const L: usize, const PK_LEN: usize, H: 
     };
     let mut private = PrivateKey {
         rho,
-        cap_k: part(&seeds, 96),
+        cap_k: seed_at(&seeds, 96),
         tr: [0; 64],
         s1: [R0; L],
         s2: [R0; K],
@@ -59,10 +59,15 @@ pub fn key_gen_internal<const K: usize, const L: usize, const PK_LEN: usize, H: 
     };
     // (s1, s2) = ExpandS(rho')
     write_expanded_s::<K, L, H>(p.eta, &rho_prime, &mut private.s1, &mut private.s2)?;
-    // A = ExpandA(rho), t = A s1 + s2
-    write_key_vector::<K, L, G>(&rho, &private.s1, &private.s2, &mut private.t0)?;
-    // (t1, t0) = Power2Round(t)
-    write_power2round(&mut private.t0, &mut public.t1);
+    // A = ExpandA(rho), t = A s1 + s2, (t1, t0) = Power2Round(t)
+    write_key_parts::<K, L, G>(
+        p,
+        &rho,
+        &private.s1,
+        &private.s2,
+        &mut public.t1,
+        &mut private.t0,
+    )?;
     // tr = H(pkEncode(rho, t1))
     let pk: [u8; PK_LEN] = pk_encode(&rho, &public.t1);
     public.tr = hash::<H, 64>(&[pk.as_slice()]);
@@ -71,17 +76,45 @@ pub fn key_gen_internal<const K: usize, const L: usize, const PK_LEN: usize, H: 
 }
 
 /// The `N` bytes from `at` on.
-fn part<const N: usize>(bytes: &[u8; 128], at: usize) -> [u8; N]
+fn seed_at<const N: usize>(bytes: &[u8; 128], at: usize) -> [u8; N]
     requires { at + N ≤ 128 }
     ensures { result ≡ take N (drop at bytes.now) }
 {
     *bytes[at..].first_chunk::<N>().unwrap()
 }
 
+/// Writes the high part `t1` and the low part `t0` of `A s1 + s2` (Algorithm 6, lines 3 to 6) for the matrix of
+/// `rho`. Coefficients of `s1` and `s2` are in `[-eta, eta]`, and `K` and `L` are those of the set.
+///
+/// Errors: `Fault::SamplingLimit` if the matrix reaches its limit.
+pub(super) fn write_key_parts<const K: usize, const L: usize, G: Xof>(
+    p: &Params,
+    rho: &[u8; 32],
+    s1: &[R; L],
+    s2: &[R; K],
+    t1: &mut [R; K],
+    t0: &mut [R; K],
+) -> Result<(), Fault>
+    requires rows { K ≡ p.now.k }
+    requires columns { L ≡ p.now.l }
+    requires first { IsVector L (nat_abs p.now.eta) (nat_abs p.now.eta) s1.now }
+    requires second { IsVector K (nat_abs p.now.eta) (nat_abs p.now.eta) s2.now }
+    ensures values { OnSampled G.front rho.now p.now.k p.now.l result (λ a.
+        (t1.new ≡ high_part (set_of p.now) a s1.now s2.now) × (t0.new ≡ low_part (set_of p.now) a s1.now s2.now)) }
+    ensures high { IfOk result (λ _. IsVector K 0 1023 t1.new) }
+    ensures low { IfOk result (λ _. IsVector K 4095 4096 t0.new) }
+{
+    // A = ExpandA(rho), t = A s1 + s2
+    write_key_vector::<K, L, G>(rho, s1, s2, t0)?;
+    // (t1, t0) = Power2Round(t)
+    write_power2round(t0, t1);
+    Ok(())
+}
+
 /// Writes `t = A s1 + s2` (Algorithm 6, lines 3 and 5) for the matrix of `rho`, with coefficients from 0 to
 /// `q - 1`. Those of `s1` and `s2` are below `q` in absolute value, and `K` and `L` are those of a set. Refuses
 /// with `Fault::SamplingLimit` where the matrix passes its limit.
-pub(super) fn write_key_vector<const K: usize, const L: usize, G: Xof>(
+fn write_key_vector<const K: usize, const L: usize, G: Xof>(
     rho: &[u8; 32],
     s1: &[R; L],
     s2: &[R; K],
@@ -140,12 +173,8 @@ pub fn private_to_public_key<const K: usize, const L: usize, H, G: Xof>(
     requires columns { L ≡ p.now.l }
     ensures { result ≡ derived (set_of p.now) G.front sk.now }
 {
-    // A = ExpandA(rho), t = A s1 + s2
-    let mut t = [R0; K];
-    write_key_vector::<K, L, G>(&sk.rho, &sk.s1, &sk.s2, &mut t)?;
-    // (t1, _) = Power2Round(t)
     let mut t1 = [R0; K];
-    write_power2round(&mut t, &mut t1);
+    write_key_parts::<K, L, G>(p, &sk.rho, &sk.s1, &sk.s2, &mut t1, &mut [R0; K])?;
     Ok(PublicKey {
         rho: sk.rho,
         tr: sk.tr,

@@ -1,17 +1,20 @@
 //! The rejection checks of an attempt of signing (FIPS 204, Algorithm 7, lines 18 to 32).
 #![tactic(auto)]
 
-ghost use Rattle.std.specs.Prelude.{◌≡◌, ◌<◌, ◌≤◌, ◌+◌, ◌*◌, ◌%◌, ℕ, pos, nat_abs, nat_lt, ◌≤ℤ◌, Ok, Some, length};
+ghost use Rattle.std.specs.Prelude.{◌≡◌, ◌<◌, ◌≤◌, ◌+◌, ◌-◌, ◌*◌, ◌%◌, ℕ, List, pos, nat_abs, nat_lt, Ok, Some, length};
+ghost use Rattle.fips204_base.specs.declared.types.R.{R};
+ghost use Rattle.fips204_base.specs.PlainTransforms.{AreSameModQ};
 ghost use Rattle.fips204_base.specs.Residues.{centred, vector_norm, residue};
 ghost use Rattle.fips204_base.specs.Encodings.{all_ones};
 ghost use Rattle.fips204_base.specs.Vectors.{vector_coefficients, vector_of};
 ghost use Rattle.fips204_base.specs.Bounds.{VectorWithin};
 ghost use Rattle.fips204_base.specs.Transforms.{minus, plus};
 ghost use Rattle.fips204_base.specs.Rounding.{IsGamma2, low_bits};
-ghost use Rattle.fips204.specs.SigningInputs.{AreCheckInputs, hint_bit, checked_attempt};
+ghost use Rattle.fips204.specs.SigningInputs.{AreCheckInputs, IsFactorOf, hint_bit, checked_attempt, multiple};
 ghost use Rattle.fips204.specs.Sets.{set_of};
 
-use crate::types::{Params, R, R0, SigningKey};
+use super::signing::SigningKey;
+use crate::types::{Params, R, R0};
 use fips204_base::encodings::sig_encode;
 use fips204_base::helpers::{center_mod, difference, infinity_norm};
 use fips204_base::high_low::{low_bits, make_hint};
@@ -38,28 +41,25 @@ impl<'a, const K: usize, const L: usize, H, G> SigningKey<'a, K, L, H, G> {
     {
         // c_hat = NTT(c)
         let c_hat = Factor::of(c);
-        let mut product = Transforms::zeros();
+        let mut room = Transforms::zeros();
         // z = y + c s1, with a norm below gamma1 - beta
         let mut z = [R0; L];
-        product.write_multiple(&c_hat, &self.transforms.s1_hat);
-        product.write_plain(&mut z);
+        write_product(&c_hat, &self.transforms.s1_hat, &mut room, &mut z);
         write_centred_sum(&mut z, y);
         if !has_norm_below(&z, p.z_bound()) {
             return None;
         }
         // r0 = LowBits(w - c s2), with a norm below gamma2 - beta
         let mut v = [R0; K];
-        product.write_multiple(&c_hat, &self.transforms.s2_hat);
-        product.write_plain(&mut v);
+        write_product(&c_hat, &self.transforms.s2_hat, &mut room, &mut v);
         write_difference(w, &mut v);
         if !has_norm_below(&low_vector(p.gamma2, &v), p.r0_bound()) {
             return None;
         }
         // c t0, with a norm below gamma2
         let mut ct0 = [R0; K];
-        product.write_multiple(&c_hat, &self.transforms.t0_hat);
-        product.write_plain(&mut ct0);
-        if !has_norm_below(&ct0, p.gamma2) {
+        write_product(&c_hat, &self.transforms.t0_hat, &mut room, &mut ct0);
+        if !has_norm_below(&ct0, p.gamma2 as u32) {
             return None;
         }
         // h = MakeHint(-c t0, w - c s2 + c t0), with at most omega ones
@@ -72,15 +72,31 @@ impl<'a, const K: usize, const L: usize, H, G> SigningKey<'a, K, L, H, G> {
     }
 }
 
+/// Writes `c v`, with coefficients from 0 to `q - 1`: `c_hat` and `v_hat` are what `c` and `v` are multiplied as.
+/// Uses `room` up.
+#[inline(always)]
+fn write_product<const N: usize>(
+    c_hat: &Factor,
+    v_hat: &Transforms,
+    room: &mut Transforms,
+    out: &mut [R; N],
+)
+    requires { N ≤ 8 }
+    ensures value { (c : R) (v : List R) → IsFactorOf c_hat.now c → AreSameModQ N v_hat.now v → out.new ≡ multiple N c v }
+    ensures range { VectorWithin N 8380416 out.new }
+{
+    room.write_multiple(c_hat, v_hat);
+    room.write_plain(out);
+}
+
 /// Whether the norm of a vector of at least one polynomial is below an exclusive bound. Coefficients are
 /// below `q` in absolute value.
-pub(crate) fn has_norm_below<const N: usize>(v: &[R; N], bound: i32) -> bool
+pub(crate) fn has_norm_below<const N: usize>(v: &[R; N], bound: u32) -> bool
     requires rows { 1 ≤ N }
     requires range { VectorWithin N 8380416 v.now }
-    requires bound { pos 0 ≤ℤ bound }
-    ensures { result ≡ nat_lt (vector_norm v.now) (nat_abs bound) }
+    ensures { result ≡ nat_lt (vector_norm v.now) bound }
 {
-    infinity_norm(v) < bound
+    (infinity_norm(v) as u32) < bound
 }
 
 /// Adds `y` to `z`, centred. Coefficients of `y` are at most 524288, and those of `z` below `q`, in absolute value.

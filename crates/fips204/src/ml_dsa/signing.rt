@@ -8,13 +8,34 @@ ghost use Rattle.fips204.specs.SigningInputs.{AreKeyTransforms};
 ghost use Rattle.fips204.specs.Sets.{HasSizes, set_of};
 ghost use Rattle.fips204.specs.Signing.{sign, sign_with};
 
-use crate::types::{KeyTransforms, Params, PrivateKey, SigningKey, T0};
+use crate::types::{KeyTransforms, Params, PrivateKey, T, T0};
 use fips204_base::Fault;
 use fips204_base::hashing::write_expanded_a;
 use fips204_base::xof::{Xof, hash};
+use std::marker::Model;
 
 /// How many attempts signing makes (FIPS 204, Appendix C).
 pub const MAX_SIGN_ATTEMPTS: u16 = 814;
+
+/// A private key with its matrix and the transforms of its vectors, from wherever each comes.
+#[derive(Drop)]
+pub(crate) struct SigningKey<'a, const K: usize, const L: usize, H, G> {
+    pub(crate) key: &'a PrivateKey<K, L, H, G>,
+    pub(crate) a_hat: &'a [[T; L]; K],
+    pub(crate) transforms: &'a KeyTransforms,
+}
+
+impl<'a, const K: usize, const L: usize, H, G> Model for SigningKey<'a, K, L, H, G> {
+    ghost use Rattle.fips204_base.specs.Vectors.{MatrixWithin};
+    ghost use Rattle.fips204.specs.SigningInputs.{AreKeyTransforms};
+    ghost use Rattle.fips204.specs.Prepared.{PreparedPrivate};
+
+    ghost Value = { PreparedPrivate };
+
+    ghost view = { λ sk. record { parts = sk.key.now; matrix = sk.a_hat.now } };
+
+    ghost invariant = { λ sk. MatrixWithin 8380416 sk.a_hat.now × AreKeyTransforms K L sk.key.now sk.transforms.now };
+}
 
 /// `ML-DSA.Sign_internal` (Algorithm 7) from `mu` and `rnd`: returns the signature of the first of 814
 /// attempts that is not rejected. If the key is whole, that signature verifies.

@@ -40,10 +40,10 @@ pub fn verify_internal<
     requires sizes { HasSizes (set_of p.now) K L LAMBDA_DIV4 SIG_LEN }
     ensures { IsTrue result ↔ Verifies (set_of p.now) H.front G.front pk.now mu.now sig.now }
 {
-    let Some(parts) = opened::<K, L, LAMBDA_DIV4, SIG_LEN, H>(p, sig) else {
+    let Some(parts) = open_signature::<K, L, LAMBDA_DIV4, SIG_LEN, H>(p, sig) else {
         return false;
     };
-    let (c_tilde, z, h, c) = parts;
+    let Opened { c_tilde, z, h, c } = parts;
     // A = ExpandA(rho), A z
     let mut v_hat = Transforms::zeros();
     v_hat.write_transforms(&z);
@@ -69,10 +69,10 @@ pub(crate) fn verify_prepared<
     requires sizes { HasSizes (set_of p.now) K L LAMBDA_DIV4 SIG_LEN }
     ensures { IsTrue result ↔ Accepts (set_of p.now) H.front pk.now.matrix pk.now.parts.t1 mu.now sig.now }
 {
-    let Some(parts) = opened::<K, L, LAMBDA_DIV4, SIG_LEN, H>(p, sig) else {
+    let Some(parts) = open_signature::<K, L, LAMBDA_DIV4, SIG_LEN, H>(p, sig) else {
         return false;
     };
-    let (c_tilde, z, h, c) = parts;
+    let Opened { c_tilde, z, h, c } = parts;
     // A z
     let mut az = Transforms::zeros();
     az.write_transforms(&z);
@@ -110,20 +110,32 @@ fn is_committed<const K: usize, const LAMBDA_DIV4: usize, H: Xof>(
     *c_tilde == commitment_hash::<K, LAMBDA_DIV4, H>(p, mu, &w)
 }
 
-/// The parts `c_tilde`, `z` and `h` of a signature and its challenge (lines 2 to 8), or `None` where its last
-/// bytes spell no hint, the norm of `z` is not below gamma1 - beta, or the challenge passes its limit. Coefficients
-/// of `z` and of the challenge are below `q` in absolute value.
+/// The parts of a signature, and its challenge. Taken apart before they are used: a reference to one of them would keep
+/// all in the stack.
+struct Opened<const K: usize, const L: usize, const LAMBDA_DIV4: usize> {
+    c_tilde: [u8; LAMBDA_DIV4],
+    z: [R; L],
+    h: [R; K],
+    c: R,
+}
+
+/// What a signature opens to (lines 2 to 8), or `None` where its last bytes spell no hint, the norm of `z` is not
+/// below gamma1 - beta, or the challenge passes its limit. Coefficients of `z` and of the challenge are below `q` in
+/// absolute value.
 #[inline(always)]
-fn opened<const K: usize, const L: usize, const LAMBDA_DIV4: usize, const SIG_LEN: usize, H: Xof>(
-    p: &Params,
-    sig: &[u8; SIG_LEN],
-) -> Option<([u8; LAMBDA_DIV4], [R; L], [R; K], R)>
+fn open_signature<
+    const K: usize,
+    const L: usize,
+    const LAMBDA_DIV4: usize,
+    const SIG_LEN: usize,
+    H: Xof,
+>(p: &Params, sig: &[u8; SIG_LEN]) -> Option<Opened<K, L, LAMBDA_DIV4>>
     requires sizes { HasSizes (set_of p.now) K L LAMBDA_DIV4 SIG_LEN }
     ensures within { IfSome result (λ parts. ((K ≤ 8) × (L ≤ 7))
-        × VectorWithin L 8380416 parts.1 × PolynomialWithin 8380416 parts.3.0) }
+        × VectorWithin L 8380416 parts.z × PolynomialWithin 8380416 parts.c.0) }
     ensures parts { MatchOption result
         ((c_tilde : List ℕ) (z h : List R) (c : R) → OpensTo (set_of p.now) H.front sig.now c_tilde z h c → ⊥)
-        (λ parts. OpensTo (set_of p.now) H.front sig.now parts.0 parts.1 parts.2 parts.3) }
+        (λ parts. OpensTo (set_of p.now) H.front sig.now parts.c_tilde parts.z parts.h parts.c) }
 {
     // (c_tilde, z, h) = sigDecode(sigma)
     let (c_tilde, z, h) = sig_decode::<K, L, LAMBDA_DIV4, SIG_LEN>(p.gamma1, p.omega, sig)?;
@@ -134,7 +146,7 @@ fn opened<const K: usize, const L: usize, const LAMBDA_DIV4: usize, const SIG_LE
     // c = SampleInBall(c_tilde)
     match sample_in_ball::<H>(p.tau, &c_tilde) {
         Err(_) => None,
-        Ok(c) => Some((c_tilde, z, h, c)),
+        Ok(c) => Some(Opened { c_tilde, z, h, c }),
     }
 }
 

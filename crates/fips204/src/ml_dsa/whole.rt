@@ -7,11 +7,10 @@ ghost use Rattle.fips204.specs.Keys.{TellsWhole};
 ghost use Rattle.fips204.specs.ParameterSets.{public_key_length};
 ghost use Rattle.fips204.specs.Sets.{set_of};
 
-use super::key_generation::{private_to_public_key, write_key_vector};
+use super::key_generation::write_key_parts;
 use crate::types::{Params, PrivateKey, R0};
 use fips204_base::Fault;
 use fips204_base::encodings::pk_encode;
-use fips204_base::high_low::write_power2round;
 use fips204_base::xof::{Xof, hash};
 
 /// Tells whether t0 of a private key is the low part of `A s1 + s2`.
@@ -25,12 +24,9 @@ pub(crate) fn is_whole<const K: usize, const L: usize, H, G: Xof>(
     requires columns { L ≡ p.now.l }
     ensures { TellsWhole (set_of p.now) G.front sk.now result }
 {
-    // A = ExpandA(rho), t = A s1 + s2
-    let mut t = [R0; K];
-    write_key_vector::<K, L, G>(&sk.rho, &sk.s1, &sk.s2, &mut t)?;
-    // (_, t0) = Power2Round(t)
-    write_power2round(&mut t, &mut [R0; K]);
-    Ok(sk.t0 == t)
+    let mut t0 = [R0; K];
+    write_key_parts::<K, L, G>(p, &sk.rho, &sk.s1, &sk.s2, &mut [R0; K], &mut t0)?;
+    Ok(sk.t0 == t0)
 }
 
 /// Tells whether a private key and the public key derived from it are a pair: whether the private key is whole,
@@ -48,11 +44,13 @@ pub(crate) fn is_pair<const K: usize, const L: usize, const PK_LEN: usize, H: Xo
     requires size { PK_LEN ≡ public_key_length (set_of p.now) }
     ensures { TellsPair (set_of p.now) H.front G.front sk.now result }
 {
-    let public = private_to_public_key::<K, L, H, G>(p, sk)?;
-    let whole = is_whole::<K, L, H, G>(p, sk)?;
+    let mut t1 = [R0; K];
+    let mut t0 = [R0; K];
+    write_key_parts::<K, L, G>(p, &sk.rho, &sk.s1, &sk.s2, &mut t1, &mut t0)?;
     // tr = H(pkEncode(rho, t1))
-    let pk: [u8; PK_LEN] = pk_encode(&public.rho, &public.t1);
+    let pk: [u8; PK_LEN] = pk_encode(&sk.rho, &t1);
     let tr = hash::<H, 64>(&[pk.as_slice()]);
+    let whole = sk.t0 == t0;
     let own = sk.tr == tr;
     Ok(whole && own)
 }

@@ -56,26 +56,6 @@ impl<const K: usize, const L: usize, H> Model for PreparedPrivateKey<K, L, H> {
         × AreKeyTransforms K L sk.key sk.transforms };
 }
 
-/// A private key with its matrix and the transforms of its vectors, from wherever each comes.
-#[derive(Drop)]
-pub(crate) struct SigningKey<'a, const K: usize, const L: usize, H, G> {
-    pub(crate) key: &'a PrivateKey<K, L, H, G>,
-    pub(crate) a_hat: &'a [[T; L]; K],
-    pub(crate) transforms: &'a KeyTransforms,
-}
-
-impl<'a, const K: usize, const L: usize, H, G> Model for SigningKey<'a, K, L, H, G> {
-    ghost use Rattle.fips204_base.specs.Vectors.{MatrixWithin};
-    ghost use Rattle.fips204.specs.SigningInputs.{AreKeyTransforms};
-    ghost use Rattle.fips204.specs.Prepared.{PreparedPrivate};
-
-    ghost Value = { PreparedPrivate };
-
-    ghost view = { λ sk. record { parts = sk.key.now; matrix = sk.a_hat.now } };
-
-    ghost invariant = { λ sk. MatrixWithin 8380416 sk.a_hat.now × AreKeyTransforms K L sk.key.now sk.transforms.now };
-}
-
 /// A public key of a set with a matrix of `K` rows and `L` columns, over the stream `H`, with its matrix and the
 /// transforms of `t1 2^d`.
 ///

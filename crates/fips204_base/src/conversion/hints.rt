@@ -4,7 +4,7 @@
 ghost use Rattle.std.specs.Prelude.{◌≡◌, ◌<◌, ◌≤◌, ◌+◌, ◌≤ℤ◌, pos, nat_abs, length, take, drop, ◌++◌, MatchOption};
 ghost use Rattle.fips204_base.specs.Bounds.{Finds, PolynomialInRange, VectorInRange};
 ghost use Rattle.fips204_base.specs.Encodings.{Spells, all_ones, hint_bytes};
-ghost use Rattle.fips204_base.specs.Network.{ones};
+ghost use Rattle.fips204_base.specs.EncodingSteps.{ones};
 
 use crate::types::{R, R0};
 

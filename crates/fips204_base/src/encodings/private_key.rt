@@ -65,20 +65,22 @@ pub fn sk_encode<const K: usize, const L: usize, const SK_LEN: usize>(
         record { rho = rho.now; key = k.now; tr = tr.now; s1 = s1.now; s2 = s2.now; t0 = t0.now } }
 {
     let size = polynomial_size(eta, eta);
-    let second = 128 + size * L;
-    let low = second + size * K;
     let mut sk = [0u8; SK_LEN];
-    let bytes = &mut sk[..];
+    let (matrix_seed, rest) = sk.split_at_mut(32);
+    let (mask_seed, rest) = rest.split_at_mut(32);
+    let (hash, rest) = rest.split_at_mut(64);
+    let (first, rest) = rest.split_at_mut(size * L);
+    let (second, low) = rest.split_at_mut(size * K);
     // line 1: sk = rho || K || tr
-    bytes[..32].copy_from_slice(rho);
-    bytes[32..64].copy_from_slice(k);
-    bytes[64..128].copy_from_slice(tr);
+    matrix_seed.copy_from_slice(rho);
+    mask_seed.copy_from_slice(k);
+    hash.copy_from_slice(tr);
     // lines 2 to 4: sk = sk || BitPack(s1[i], eta, eta)
-    write_packed_vector(s1, eta, eta, &mut bytes[128..second]);
+    write_packed_vector(s1, eta, eta, first);
     // lines 5 to 7: sk = sk || BitPack(s2[i], eta, eta)
-    write_packed_vector(s2, eta, eta, &mut bytes[second..low]);
+    write_packed_vector(s2, eta, eta, second);
     // lines 8 to 10: sk = sk || BitPack(t0[i], 2^(d - 1) - 1, 2^(d - 1))
-    write_packed_vector(t0, 4095, 4096, &mut bytes[low..]);
+    write_packed_vector(t0, 4095, 4096, low);
     sk
 }
 

@@ -61,15 +61,15 @@ pub fn sig_encode<const K: usize, const L: usize, const LAMBDA_DIV4: usize, cons
     requires few { length (all_ones h.now) ≤ nat_abs omega }
     ensures { result ≡ signature_bytes (nat_abs gamma1) (nat_abs omega) c_tilde.now z.now h.now }
 {
-    let hint = LAMBDA_DIV4 + polynomial_size(gamma1 - 1, gamma1) * L;
     let mut sigma = [0u8; SIG_LEN];
-    let bytes = &mut sigma[..];
+    let (challenge, rest) = sigma.split_at_mut(LAMBDA_DIV4);
+    let (response, hint) = rest.split_at_mut(polynomial_size(gamma1 - 1, gamma1) * L);
     // line 1: sigma = c_tilde
-    bytes[..LAMBDA_DIV4].copy_from_slice(c_tilde);
+    challenge.copy_from_slice(c_tilde);
     // lines 2 to 4: sigma = sigma || BitPack(z[i], gamma1 - 1, gamma1)
-    write_packed_vector(z, gamma1 - 1, gamma1, &mut bytes[LAMBDA_DIV4..hint]);
+    write_packed_vector(z, gamma1 - 1, gamma1, response);
     // line 5: sigma = sigma || HintBitPack(h)
-    hint_bit_pack(omega, h, &mut bytes[hint..]);
+    hint_bit_pack(omega, h, hint);
     sigma
 }
 

@@ -2,7 +2,7 @@
 #![tactic(auto)]
 
 ghost use Rattle.std.specs.Prelude.{◌≡◌, ◌<◌, ◌≤ℤ◌, pos, nat_abs, ok_or, slice_index};
-ghost use Rattle.fips204_base.specs.Network.{sign_of};
+ghost use Rattle.fips204_base.specs.SamplerSteps.{sign_of};
 ghost use Rattle.fips204_base.specs.Sampling.{challenge};
 ghost use Rattle.fips204_base.specs.Packing.{bits};
 

@@ -1,9 +1,9 @@
 //! The matrix, as it is sampled from the stream in the place of SHAKE128.
 #![tactic(auto)]
 
-ghost use Rattle.std.specs.Prelude.{◌≡◌, ◌≤◌, ◌<◌, ◌/◌, length, ok_or, IfOk};
+ghost use Rattle.std.specs.Prelude.{◌≡◌, ◌≤◌, ◌<◌, ◌+◌, ◌*◌, ◌/◌, ◌%◌, ◌++◌, ◌∷◌, [], length, ok_or, IfOk, MatchResult};
 ghost use Rattle.std.specs.List.{flat_map};
-ghost use Rattle.fips204_base.specs.Network.{AreKept, WritesSampled, sampled_row, kept_triples, OnSampled};
+ghost use Rattle.fips204_base.specs.SamplerSteps.{AreKept, AreAhead, WritesFourEntries, numbered_entry, sampled_row, kept_triples, OnSampled, WritesSampled};
 ghost use Rattle.fips204_base.specs.Sampling.{matrix_entry, sampled_matrix};
 ghost use Rattle.fips204_base.specs.Vectors.{MatrixWithin};
 
@@ -37,25 +37,103 @@ pub fn rej_ntt_poly<G: Xof>(parts: &[&[u8]]) -> Result<T, Fault>
 {
     // ctx = G.Absorb(rho)
     let mut reader = G::open(parts);
-    let mut values = [0i32; 256];
-    let mut count = 0;
+    let mut first = [0u8; 768];
+    reader.read(&mut first);
+    let mut entry = T0;
+    write_entry::<G>(&first, &mut reader, &mut entry)?;
+    Ok(entry)
+}
+
+/// Writes the matrix entry of a front whose first 256 triples, which every entry takes, are in `first`. `reader` gives the
+/// others.
+fn write_entry<G: Xof>(
+    first: &[u8; 768],
+    reader: &mut G::Reader,
+    entry: &mut T,
+) -> Result<(), Fault>
+    requires { 768 + length (G.Reader.rest reader.old) ≡ G.FRONT }
+    ensures { WritesSampled (matrix_entry (first.now ++ G.Reader.rest reader.old)) result entry.new }
+{
+    // a[j] = CoeffFromThreeBytes(s[0], s[1], s[2]), kept unless it is none
+    let mut count = write_kept_triples(first, &mut entry.0, 0);
     let limit = G::FRONT / 4;
-    let mut tried = 0;
-    while tried < limit {
-        // s = the next 64 triples, or as many as are wanted or left; in place of G.Squeeze(ctx, 3)
-        let wanted = (256 - count).min(64);
+    let mut tried = 256;
+    while count < 256 {
+        if tried == limit {
+            return Err(Fault::SamplingLimit);
+        }
+        // s = the next 8 triples, or as many as are wanted or left; in place of G.Squeeze(ctx, 3)
+        let wanted = (256 - count).min(8);
         let triples = (limit - tried).min(wanted);
-        let mut room = [0u8; 192];
+        let mut room = [0u8; 24];
         let piece = &mut room[..3 * triples];
         reader.read(piece);
-        // a[j] = CoeffFromThreeBytes(s[0], s[1], s[2]), kept unless it is none
-        count = write_kept_triples(piece, &mut values, count);
-        if count == 256 {
-            return Ok(T(values));
-        }
+        count = write_kept_triples(piece, &mut entry.0, count);
         tried += triples;
     }
-    Err(Fault::SamplingLimit)
+    Ok(())
+}
+
+/// Opens the reader of entry `n`, where entries are numbered row by row.
+fn open_entry<const L: usize, G: Xof>(rho: &[u8; 32], n: usize) -> G::Reader
+    requires shape { (0 < L) × (L ≤ 7) }
+    requires place { n < 8 * L }
+    ensures { G.Reader.rest result ≡ G.front (rho.now ++ (n % L) ∷ (n / L) ∷ []) }
+{
+    G::open(&[rho.as_slice(), &[(n % L) as u8], &[(n / L) as u8]])
+}
+
+/// Writes four entries, from number `first` on, whose bytes are read side by side.
+fn write_four_entries<const L: usize, G: Xof>(
+    rho: &[u8; 32],
+    first: usize,
+    entries: &mut [T; 4],
+) -> Result<(), Fault>
+    requires shape { (0 < L) × (L ≤ 7) }
+    requires place { first + 4 ≤ 8 * L }
+    ensures { WritesFourEntries G.front rho.now L first result entries.new }
+{
+    let mut a = open_entry::<L, G>(rho, first);
+    let mut b = open_entry::<L, G>(rho, first + 1);
+    let mut c = open_entry::<L, G>(rho, first + 2);
+    let mut d = open_entry::<L, G>(rho, first + 3);
+    let mut of_a = [0u8; 768];
+    let mut of_b = [0u8; 768];
+    let mut of_c = [0u8; 768];
+    let mut of_d = [0u8; 768];
+    G::Reader::read_four(
+        &mut a, &mut b, &mut c, &mut d, &mut of_a, &mut of_b, &mut of_c, &mut of_d,
+    );
+    write_entry::<G>(&of_a, &mut a, &mut entries[0])?;
+    write_entry::<G>(&of_b, &mut b, &mut entries[1])?;
+    write_entry::<G>(&of_c, &mut c, &mut entries[2])?;
+    write_entry::<G>(&of_d, &mut d, &mut entries[3])?;
+    Ok(())
+}
+
+/// Writes entry `n`, which is one of the four in `ahead` or begins the next four. Where fewer are left it is made alone.
+fn write_next_entry<const K: usize, const L: usize, G: Xof>(
+    rho: &[u8; 32],
+    n: usize,
+    ahead: &mut [T; 4],
+    entry: &mut T,
+) -> Result<(), Fault>
+    requires shape { (K ≤ 8) × (L ≤ 7) }
+    requires place { n < K * L }
+    requires ahead { AreAhead G.front rho.now L (K * L) n ahead.old }
+    ensures { MatchResult result
+        (λ _. (numbered_entry G.front rho.now L n ≡ Some entry.new) × AreAhead G.front rho.now L (K * L) (n + 1) ahead.new)
+        (λ fault. (sampled_matrix G.front rho.now K L ≡ None) × (fault ≡ Fault.SamplingLimit)) }
+{
+    if n / 4 * 4 + 4 > K * L {
+        *entry = rej_ntt_poly::<G>(&[rho.as_slice(), &[(n % L) as u8], &[(n / L) as u8]])?;
+        return Ok(());
+    }
+    if n % 4 == 0 {
+        write_four_entries::<L, G>(rho, n, ahead)?;
+    }
+    *entry = ahead[n % 4];
+    Ok(())
 }
 
 /// `ExpandA` (Algorithm 32): the matrix of transforms, with the entry at row `r` and column `s` from `rho`,
@@ -83,23 +161,30 @@ pub fn write_expanded_a<const K: usize, const L: usize, G: Xof>(
     ensures values { OnSampled G.front rho.now K L result (λ a. matrix.new ≡ a) }
     ensures range { IfOk result (λ _. MatrixWithin 8380416 matrix.new) }
 {
+    let mut ahead = [T0; 4];
     for r in 0..K {
-        write_expanded_row::<L, G>(rho, r, &mut matrix[r])?;
+        write_next_row::<K, L, G>(rho, r, &mut ahead, &mut matrix[r])?;
     }
     Ok(())
 }
 
-/// Writes row `r` of the matrix (Algorithm 32, lines 2 to 5).
-pub(crate) fn write_expanded_row<const L: usize, G: Xof>(
+/// Writes row `r` of the matrix (Algorithm 32, lines 2 to 5). Its entries are made four at a time, so that the next row's first
+/// ones may be in `ahead` then.
+pub(crate) fn write_next_row<const K: usize, const L: usize, G: Xof>(
     rho: &[u8; 32],
     r: usize,
+    ahead: &mut [T; 4],
     row: &mut [T; L],
 ) -> Result<(), Fault>
-    requires shape { (r < 8) × (L ≤ 7) }
-    ensures { WritesSampled (sampled_row G.front rho.now L r) result row.new }
+    requires shape { (K ≤ 8) × (L ≤ 7) }
+    requires place { r < K }
+    requires ahead { AreAhead G.front rho.now L (K * L) (r * L) ahead.old }
+    ensures { MatchResult result
+        (λ _. (sampled_row G.front rho.now L r ≡ Some row.new) × AreAhead G.front rho.now L (K * L) ((r + 1) * L) ahead.new)
+        (λ fault. (sampled_matrix G.front rho.now K L ≡ None) × (fault ≡ Fault.SamplingLimit)) }
 {
     for s in 0..L {
-        row[s] = rej_ntt_poly::<G>(&[rho.as_slice(), &[s as u8], &[r as u8]])?;
+        write_next_entry::<K, L, G>(rho, r * L + s, ahead, &mut row[s])?;
     }
     Ok(())
 }

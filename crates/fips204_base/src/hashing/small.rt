@@ -1,15 +1,15 @@
 //! Small polynomials, from the stream in the place of SHAKE256.
 #![tactic(auto)]
 
-ghost use Rattle.std.specs.Prelude.{◌≡◌, ◌≤◌, ◌+◌, ◌⊎◌, length, nat_abs, ok_or, IfOk, IfErr, Some, None};
+ghost use Rattle.std.specs.Prelude.{◌≡◌, ◌≤◌, ◌+◌, ◌++◌, ◌⊎◌, length, nat_abs, ok_or, IfOk, IfErr, MatchResult, Some, None};
 ghost use Rattle.std.specs.List.{flat_map};
 ghost use Rattle.fips204_base.specs.Sampling.{small_polynomial, small_vectors};
-ghost use Rattle.fips204_base.specs.Network.{AreKept, WritesSampled, kept_half_bytes, small_vector};
+ghost use Rattle.fips204_base.specs.SamplerSteps.{AreKept, AreSmall, WritesSampled, kept_half_bytes, small_vector};
 ghost use Rattle.fips204_base.specs.Bounds.{IsEta};
 
 use crate::conversion::coeff_from_half_byte;
 use crate::fault::Fault;
-use crate::hashing::write_kept;
+use crate::hashing::{open_numbered, write_kept};
 use crate::types::{R, R0};
 use crate::xof::{Xof, XofReader};
 
@@ -42,24 +42,42 @@ pub fn rej_bounded_poly<H: Xof>(eta: i32, parts: &[&[u8]]) -> Result<R, Fault>
 {
     // ctx = H.Absorb(rho)
     let mut reader = H::open(parts);
-    let mut values = [0i32; 256];
-    let mut count = 0;
+    let mut first = [0u8; 192];
+    reader.read(&mut first);
+    let mut polynomial = R0;
+    write_polynomial::<H>(eta, &first, &mut reader, &mut polynomial)?;
+    Ok(polynomial)
+}
+
+/// Writes the small polynomial of a front whose first 192 bytes are in `first`: few take less, and those of eta 4 more. `reader`
+/// gives the others.
+fn write_polynomial<H: Xof>(
+    eta: i32,
+    first: &[u8; 192],
+    reader: &mut H::Reader,
+    polynomial: &mut R,
+) -> Result<(), Fault>
+    requires eta { IsEta eta }
+    requires front { 192 + length (H.Reader.rest reader.old) ≡ H.FRONT }
+    ensures { WritesSampled (small_polynomial (nat_abs eta) (first.now ++ H.Reader.rest reader.old)) result polynomial.new }
+{
+    // a[j] = CoeffFromHalfByte(z mod 16, eta), then that of z / 16, each kept unless it is none
+    let mut count = write_kept_half_bytes(eta, first, &mut polynomial.0, 0);
     let limit = H::FRONT / 4;
-    let mut tried = 0;
-    while tried < limit {
+    let mut tried = 192;
+    while count < 256 {
+        if tried == limit {
+            return Err(Fault::SamplingLimit);
+        }
         // z = the next 64 bytes, or as many as are left; in place of H.Squeeze(ctx, 1)
         let bytes = (limit - tried).min(64);
         let mut room = [0u8; 64];
         let piece = &mut room[..bytes];
         reader.read(piece);
-        // a[j] = CoeffFromHalfByte(z mod 16, eta), then that of z / 16, each kept unless it is none
-        count = write_kept_half_bytes(eta, piece, &mut values, count);
-        if count == 256 {
-            return Ok(R(values));
-        }
+        count = write_kept_half_bytes(eta, piece, &mut polynomial.0, count);
         tried += bytes;
     }
-    Err(Fault::SamplingLimit)
+    Ok(())
 }
 
 /// Writes `N` small polynomials, the one at `r` from `rho` and the number `first + r` in two bytes.
@@ -73,10 +91,51 @@ fn write_small_polynomials<const N: usize, H: Xof>(
     requires numbers { first + N ≤ 65536 }
     ensures { WritesSampled (small_vector (nat_abs eta) H.front rho.now first N) result polynomials.new }
 {
-    for r in 0..N {
-        let number = ((first + r) as u16).to_le_bytes();
-        polynomials[r] = rej_bounded_poly::<H>(eta, &[rho.as_slice(), number.as_slice()])?;
+    let mut r = 0;
+    while r < N {
+        if r + 4 <= N {
+            write_four_polynomials::<N, H>(eta, rho, first, r, polynomials)?;
+            r += 4;
+        } else {
+            let number = ((first + r) as u16).to_le_bytes();
+            polynomials[r] = rej_bounded_poly::<H>(eta, &[rho.as_slice(), number.as_slice()])?;
+            r += 1;
+        }
     }
+    Ok(())
+}
+
+/// Writes small polynomials `r` to `r + 3`, whose bytes are read side by side.
+fn write_four_polynomials<const N: usize, H: Xof>(
+    eta: i32,
+    rho: &[u8; 64],
+    first: usize,
+    r: usize,
+    polynomials: &mut [R; N],
+) -> Result<(), Fault>
+    requires eta { IsEta eta }
+    requires numbers { first + N ≤ 65536 }
+    requires place { r + 4 ≤ N }
+    requires before { AreSmall (nat_abs eta) H.front rho.now first r polynomials.old }
+    ensures { MatchResult result
+        (λ _. (length polynomials.new ≡ N) × AreSmall (nat_abs eta) H.front rho.now first (r + 4) polynomials.new)
+        (λ fault. (small_vector (nat_abs eta) H.front rho.now first N ≡ None) × (fault ≡ Fault.SamplingLimit)) }
+{
+    let mut a = open_numbered::<H>(rho, (first + r) as u16);
+    let mut b = open_numbered::<H>(rho, (first + (r + 1)) as u16);
+    let mut c = open_numbered::<H>(rho, (first + (r + 2)) as u16);
+    let mut d = open_numbered::<H>(rho, (first + (r + 3)) as u16);
+    let mut of_a = [0u8; 192];
+    let mut of_b = [0u8; 192];
+    let mut of_c = [0u8; 192];
+    let mut of_d = [0u8; 192];
+    H::Reader::read_four(
+        &mut a, &mut b, &mut c, &mut d, &mut of_a, &mut of_b, &mut of_c, &mut of_d,
+    );
+    write_polynomial::<H>(eta, &of_a, &mut a, &mut polynomials[r])?;
+    write_polynomial::<H>(eta, &of_b, &mut b, &mut polynomials[r + 1])?;
+    write_polynomial::<H>(eta, &of_c, &mut c, &mut polynomials[r + 2])?;
+    write_polynomial::<H>(eta, &of_d, &mut d, &mut polynomials[r + 3])?;
     Ok(())
 }
 

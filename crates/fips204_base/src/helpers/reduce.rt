@@ -55,6 +55,15 @@ pub fn partial_reduce64(a: i64) -> i32
     partial_reduce32(folded(folded(folded(a))) as i32)
 }
 
+/// `partial_reduce64` of a sum of at most seven products of numbers below `q`.
+pub(crate) fn reduce_sum(a: i64) -> i32
+    requires { nat_abs a ≤ 491619606331392 }
+    ensures congruent { residue result ≡ residue a }
+    ensures small { nat_abs result ≤ 8380416 }
+{
+    partial_reduce32(folded(folded(a)) as i32)
+}
+
 /// A number congruent to `a` and smaller about a thousand times; `2^23` is 8191 modulo `q`.
 fn folded(a: i64) -> i64
     requires { nat_abs a ≤ 287762808832000000 }

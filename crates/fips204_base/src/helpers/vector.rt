@@ -8,7 +8,7 @@ ghost use Rattle.fips204_base.specs.PlainTransforms.{lanes_value};
 ghost use Rattle.fips204_base.specs.Vectors.{MatrixWithin};
 ghost use Rattle.fips204_base.specs.Bounds.{vector_residues, row_value, AreRowProducts, VectorWithin, ValuesWithin, TransformsWithin, coefficient_of};
 
-use crate::helpers::reduce::{partial_reduce64, wide_product};
+use crate::helpers::reduce::{partial_reduce64, reduce_sum, wide_product};
 use crate::maps::{map, zip_vectors};
 use crate::types::{R, T, T0};
 
@@ -105,5 +105,5 @@ pub(crate) fn place_sum<const L: usize>(row: &[T; L], u: &[i32; 8], j: usize) ->
     for k in 0..L {
         sum += wide_product(row[k].0[j], u[k]);
     }
-    partial_reduce64(sum)
+    reduce_sum(sum)
 }

@@ -2,7 +2,8 @@
 #![tactic(auto)]
 
 ghost use Rattle.std.specs.Prelude.{◌≡◌, ◌≢◌, ◌<◌, ◌≤◌, ℕ, [], pos, nat_abs, slice_index_or};
-ghost use Rattle.fips204_base.specs.Network.{plain_row, row_product, OnSampled};
+ghost use Rattle.fips204_base.specs.PlainTransforms.{plain_row, row_product};
+ghost use Rattle.fips204_base.specs.SamplerSteps.{OnSampled};
 ghost use Rattle.fips204_base.specs.Bounds.{TransformsWithin, VectorWithin, coefficient_of};
 ghost use Rattle.fips204_base.specs.Lanes.{lane};
 ghost use Rattle.fips204_base.specs.PlainTransforms.{lanes_value};
@@ -11,7 +12,7 @@ ghost use Rattle.fips204_base.specs.Vectors.{MatrixWithin, matrix_product, vecto
 
 use super::Transforms;
 use crate::fault::Fault;
-use crate::hashing::write_expanded_row;
+use crate::hashing::write_next_row;
 use crate::helpers::vector::place_sum;
 use crate::lanes::Lanes;
 use crate::types::{R, T, T0};
@@ -54,8 +55,9 @@ pub fn write_sampled_product<const K: usize, const L: usize, G: Xof>(
         → vector_coefficients out.new r n ≡ matrix_product L a (vector_coefficients v.now) r n) }
 {
     let mut row = [T0; L];
+    let mut ahead = [T0; 4];
     for r in 0..K {
-        write_expanded_row::<L, G>(rho, r, &mut row)?;
+        write_next_row::<K, L, G>(rho, r, &mut ahead, &mut row)?;
         out.write_row_product(r, &row, v);
     }
     Ok(())

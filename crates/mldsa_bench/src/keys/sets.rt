@@ -13,38 +13,25 @@ use fips204::ml_dsa_44::{self, MlDsa44};
 use fips204::ml_dsa_65::{self, MlDsa65};
 use fips204::ml_dsa_87::{self, MlDsa87};
 use fips204::sets::{HasSet, KeySizes, Matrix, Set, SignatureSizes};
-use fips204::traits::{CryptoRngCore, DummyRng, KeyGen, SerDes, Signer, Verifier};
+use fips204::traits::{CryptoRngCore, KeyGen, SerDes, Signer, Verifier};
 use fips204::types::{KG, PreparedPrivateKey, PreparedPublicKey, PrivateKey, PublicKey};
 use fips204::xof::{Fill, Xof};
-use fips204::{Fault, ml_dsa};
+use fips204::{Fault, Input, ml_dsa};
 use std::alloc::Global;
 use std::fmt::Debug;
 use std::process::Abort;
 use std::test::Fail;
 
-/// What is signed, and what a signature is judged of.
-#[derive(Clone, Copy)]
-pub enum Text<'a> {
-    /// A message and its context.
-    Message(&'a [u8], &'a [u8]),
-    /// A digest, its context and the identifier of its hash.
-    Digest(&'a [u8], &'a [u8], &'a [u8]),
-    /// A framed message, for a hook.
-    Framed(&'a [u8]),
-    /// The hash of a framed message, for a hook.
-    Hash(&'a [u8; 64]),
-}
-
 /// A public key and a private key, plain or prepared.
 pub trait Keys<S> {
-    /// Signs with these random bytes; a hook draws them from a generator that returns them.
-    fn seeded(&self, seed: &[u8; 32], text: &Text) -> Result<S, Fault>;
+    /// Signs with these random bytes, M' and mu by `sign_input`.
+    fn seeded(&self, seed: &[u8; 32], input: &Input) -> Result<S, Fault>;
 
     /// Signs with random bytes of a generator; a hook that is not hedged draws none.
-    fn drawn<R: CryptoRngCore>(&self, rng: &mut R, hedged: bool, text: &Text) -> Result<S, Fault>;
+    fn drawn<R: CryptoRngCore>(&self, rng: &mut R, hedged: bool, input: &Input) -> Result<S, Fault>;
 
     /// Whether a signature is accepted.
-    fn accepts(&self, text: &Text, signature: &S) -> bool;
+    fn accepts(&self, input: &Input, signature: &S) -> bool;
 }
 
 type Signed<const SIG_LEN: usize> = Result<[u8; SIG_LEN], Fault>;
@@ -70,29 +57,31 @@ where
     S: Set<CommitmentHash = [u8; LAMBDA_DIV4], Signature = [u8; SIG_LEN]>
         + SignatureSizes<K, L, LAMBDA_DIV4, SIG_LEN>,
 {
-    fn seeded(&self, seed: &[u8; 32], text: &Text) -> Signed<SIG_LEN> {
-        match *text {
-            Text::Message(message, ctx) => self.1.try_sign_with_seed(seed, message, ctx),
-            Text::Digest(hash, ctx, oid) => { self.1.try_hash_sign_with_seed(seed, hash, ctx, oid) }
-            _ => self.drawn(&mut DummyRng { bytes: *seed }, true, text),
+    fn seeded(&self, seed: &[u8; 32], input: &Input) -> Signed<SIG_LEN> {
+        match *input {
+            Input::Message(message, ctx) => self.1.try_sign_with_seed(seed, message, ctx),
+            Input::Digest(hash, ctx, oid) => {
+                self.1.try_hash_sign_with_seed(seed, hash, ctx, oid)
+            }
+            _ => self.1.sign_input(seed, input),
         }
     }
 
-    fn drawn<R: CryptoRngCore>(&self, rng: &mut R, hedged: bool, text: &Text) -> Signed<SIG_LEN> {
-        match *text {
-            Text::Message(message, ctx) => self.1.try_sign_with_rng(rng, message, ctx),
-            Text::Digest(hash, ctx, oid) => self.1.try_hash_sign_with_rng(rng, hash, ctx, oid),
-            Text::Framed(m) => self.1.sign_internal(rng, m, hedged),
-            Text::Hash(mu) => self.1.sign_mu(rng, mu, hedged),
+    fn drawn<R: CryptoRngCore>(&self, rng: &mut R, hedged: bool, input: &Input) -> Signed<SIG_LEN> {
+        match *input {
+            Input::Message(message, ctx) => self.1.try_sign_with_rng(rng, message, ctx),
+            Input::Digest(hash, ctx, oid) => self.1.try_hash_sign_with_rng(rng, hash, ctx, oid),
+            Input::Framed(m) => self.1.sign_internal(rng, m, hedged),
+            Input::Mu(mu) => self.1.sign_mu(rng, mu, hedged),
         }
     }
 
-    fn accepts(&self, text: &Text, signature: &[u8; SIG_LEN]) -> bool {
-        match *text {
-            Text::Message(message, ctx) => self.0.verify(message, signature, ctx),
-            Text::Digest(hash, ctx, oid) => self.0.hash_verify(hash, signature, ctx, oid),
-            Text::Framed(m) => self.0.verify_internal(m, signature),
-            Text::Hash(mu) => self.0.verify_mu(mu, signature),
+    fn accepts(&self, input: &Input, signature: &[u8; SIG_LEN]) -> bool {
+        match *input {
+            Input::Message(message, ctx) => self.0.verify(message, signature, ctx),
+            Input::Digest(hash, ctx, oid) => self.0.hash_verify(hash, signature, ctx, oid),
+            Input::Framed(m) => self.0.verify_internal(m, signature),
+            Input::Mu(mu) => self.0.verify_mu(mu, signature),
         }
     }
 }
@@ -110,29 +99,31 @@ where
     S: Set<CommitmentHash = [u8; LAMBDA_DIV4], Signature = [u8; SIG_LEN]>
         + SignatureSizes<K, L, LAMBDA_DIV4, SIG_LEN>,
 {
-    fn seeded(&self, seed: &[u8; 32], text: &Text) -> Signed<SIG_LEN> {
-        match *text {
-            Text::Message(message, ctx) => self.1.try_sign_with_seed(seed, message, ctx),
-            Text::Digest(hash, ctx, oid) => { self.1.try_hash_sign_with_seed(seed, hash, ctx, oid) }
-            _ => self.drawn(&mut DummyRng { bytes: *seed }, true, text),
+    fn seeded(&self, seed: &[u8; 32], input: &Input) -> Signed<SIG_LEN> {
+        match *input {
+            Input::Message(message, ctx) => self.1.try_sign_with_seed(seed, message, ctx),
+            Input::Digest(hash, ctx, oid) => {
+                self.1.try_hash_sign_with_seed(seed, hash, ctx, oid)
+            }
+            _ => self.1.sign_input(seed, input),
         }
     }
 
-    fn drawn<R: CryptoRngCore>(&self, rng: &mut R, hedged: bool, text: &Text) -> Signed<SIG_LEN> {
-        match *text {
-            Text::Message(message, ctx) => self.1.try_sign_with_rng(rng, message, ctx),
-            Text::Digest(hash, ctx, oid) => self.1.try_hash_sign_with_rng(rng, hash, ctx, oid),
-            Text::Framed(m) => self.1.sign_internal(rng, m, hedged),
-            Text::Hash(mu) => self.1.sign_mu(rng, mu, hedged),
+    fn drawn<R: CryptoRngCore>(&self, rng: &mut R, hedged: bool, input: &Input) -> Signed<SIG_LEN> {
+        match *input {
+            Input::Message(message, ctx) => self.1.try_sign_with_rng(rng, message, ctx),
+            Input::Digest(hash, ctx, oid) => self.1.try_hash_sign_with_rng(rng, hash, ctx, oid),
+            Input::Framed(m) => self.1.sign_internal(rng, m, hedged),
+            Input::Mu(mu) => self.1.sign_mu(rng, mu, hedged),
         }
     }
 
-    fn accepts(&self, text: &Text, signature: &[u8; SIG_LEN]) -> bool {
-        match *text {
-            Text::Message(message, ctx) => self.0.verify(message, signature, ctx),
-            Text::Digest(hash, ctx, oid) => self.0.hash_verify(hash, signature, ctx, oid),
-            Text::Framed(m) => self.0.verify_internal(m, signature),
-            Text::Hash(mu) => self.0.verify_mu(mu, signature),
+    fn accepts(&self, input: &Input, signature: &[u8; SIG_LEN]) -> bool {
+        match *input {
+            Input::Message(message, ctx) => self.0.verify(message, signature, ctx),
+            Input::Digest(hash, ctx, oid) => self.0.hash_verify(hash, signature, ctx, oid),
+            Input::Framed(m) => self.0.verify_internal(m, signature),
+            Input::Mu(mu) => self.0.verify_mu(mu, signature),
         }
     }
 }

@@ -1,72 +1,73 @@
 //! Every call that signs or verifies over constant streams, at each set, with plain and with prepared keys.
 #![tactic(auto)]
 
-use crate::keys::sets::{Keys, Suite, TestSet, Text, at_each_set, is_same};
+use crate::keys::sets::{Keys, Suite, TestSet, at_each_set, is_same};
 use crate::signatures::digests::REFUSED_DIGESTS;
 use crate::signatures::drawing::RefusesAt;
 use fips204::Fault::{self, HashCtx, SignCtx};
+use fips204::Input;
 use fips204::pre_hash::{SHA2_256, SHA2_512};
 use fips204::xof::Fill;
 use std::test::Fail;
 
 /// What has the signature over constant streams, whatever is signed; and what is neither signed nor accepted for its
 /// context, and why.
-static TEXTS: [(Text, Option<Fault>); 20] = [
-    (Text::Message(b"", &[]), None),
-    (Text::Message(b"abc", &[]), None),
-    (Text::Message(b"abc", &[1; 255]), None),
-    (Text::Message(b"another", &[]), None),
-    (Text::Message(b"another", &[1; 255]), None),
-    (Text::Digest(&[5; 32], &[], &SHA2_256), None),
-    (Text::Digest(&[9; 32], &[], &SHA2_256), None),
-    (Text::Digest(&[9; 32], &[1; 255], &SHA2_256), None),
-    (Text::Digest(&[9; 64], &[], &SHA2_512), None),
-    (Text::Framed(b"abc"), None),
-    (Text::Hash(&[0; 64]), None),
-    (Text::Hash(&[9; 64]), None),
-    (Text::Message(b"abc", &[0; 256]), Some(SignCtx)),
-    (Text::Message(b"abc", &[0; 257]), Some(SignCtx)),
-    (Text::Message(b"abc", &[1; 256]), Some(SignCtx)),
-    (Text::Digest(&[0; 32], &[0; 256], &[]), Some(HashCtx)),
-    (Text::Digest(&[0; 32], &[0; 256], &SHA2_256), Some(HashCtx)),
-    (Text::Digest(&[0; 32], &[1; 256], &SHA2_256), Some(HashCtx)),
-    (Text::Digest(&[5; 32], &[0; 256], &SHA2_256), Some(HashCtx)),
-    (Text::Digest(&[9; 32], &[1; 256], &SHA2_256), Some(HashCtx)),
+static INPUTS: [(Input, Option<Fault>); 20] = [
+    (Input::Message(b"", &[]), None),
+    (Input::Message(b"abc", &[]), None),
+    (Input::Message(b"abc", &[1; 255]), None),
+    (Input::Message(b"another", &[]), None),
+    (Input::Message(b"another", &[1; 255]), None),
+    (Input::Digest(&[5; 32], &[], &SHA2_256), None),
+    (Input::Digest(&[9; 32], &[], &SHA2_256), None),
+    (Input::Digest(&[9; 32], &[1; 255], &SHA2_256), None),
+    (Input::Digest(&[9; 64], &[], &SHA2_512), None),
+    (Input::Framed(b"abc"), None),
+    (Input::Mu(&[0; 64]), None),
+    (Input::Mu(&[9; 64]), None),
+    (Input::Message(b"abc", &[0; 256]), Some(SignCtx)),
+    (Input::Message(b"abc", &[0; 257]), Some(SignCtx)),
+    (Input::Message(b"abc", &[1; 256]), Some(SignCtx)),
+    (Input::Digest(&[0; 32], &[0; 256], &[]), Some(HashCtx)),
+    (Input::Digest(&[0; 32], &[0; 256], &SHA2_256), Some(HashCtx)),
+    (Input::Digest(&[0; 32], &[1; 256], &SHA2_256), Some(HashCtx)),
+    (Input::Digest(&[5; 32], &[0; 256], &SHA2_256), Some(HashCtx)),
+    (Input::Digest(&[9; 32], &[1; 256], &SHA2_256), Some(HashCtx)),
 ];
 
-/// Whether each call that signs a text gives this signature, with random bytes that are given and with drawn ones, and
+/// Whether each call that signs an input gives this signature, with random bytes that are given and with drawn ones, and
 /// it is accepted; or all refuse so, ask no generator, and it is not accepted. A hook that is not hedged draws none.
 fn answers<S: PartialEq + Drop, K: Keys<S>>(
     keys: &K,
-    (text, fault): (&Text, Option<Fault>),
+    (input, fault): (&Input, Option<Fault>),
     signature: &S,
 ) -> bool {
-    let (wanted, call, draws) = match (fault, text) {
+    let (wanted, call, draws) = match (fault, input) {
         (Some(fault), _) => (Err(fault), 0, 0),
-        (None, Text::Framed(_) | Text::Hash(_)) => (Ok(true), 255, 1),
+        (None, Input::Framed(_) | Input::Mu(_)) => (Ok(true), 255, 1),
         _ => (Ok(true), 255, 2),
     };
     let mut rng = RefusesAt::new(call, true);
     let signed = [
-        is_same(keys.seeded(&[0; 32], text), signature),
-        is_same(keys.seeded(&[7; 32], text), signature),
-        is_same(keys.drawn(&mut rng, true, text), signature),
-        is_same(keys.drawn(&mut rng, false, text), signature),
+        is_same(keys.seeded(&[0; 32], input), signature),
+        is_same(keys.seeded(&[7; 32], input), signature),
+        is_same(keys.drawn(&mut rng, true, input), signature),
+        is_same(keys.drawn(&mut rng, false, input), signature),
     ];
-    let accepted = keys.accepts(text, signature);
+    let accepted = keys.accepts(input, signature);
     signed == [wanted; 4] && accepted == fault.is_none() && rng.asked == draws
 }
 
-/// The first text, and else the first refused digest, that is not answered so: the table and the row.
+/// The first input, and else the first refused digest, that is not answered so: the table and the row.
 fn first_wrong<S: PartialEq + Drop, K: Keys<S>>(keys: &K, signature: &S) -> Option<(u8, usize)> {
-    for (row, (text, fault)) in TEXTS.iter().enumerate() {
-        if !answers(keys, (text, *fault), signature) {
+    for (row, (input, fault)) in INPUTS.iter().enumerate() {
+        if !answers(keys, (input, *fault), signature) {
             return Some((0, row));
         }
     }
     for (row, (digest, oid, fault)) in REFUSED_DIGESTS.iter().enumerate() {
-        let text = Text::Digest(digest, &[], oid);
-        if !answers(keys, (&text, Some(*fault)), signature) {
+        let input = Input::Digest(digest, &[], oid);
+        if !answers(keys, (&input, Some(*fault)), signature) {
             return Some((1, row));
         }
     }

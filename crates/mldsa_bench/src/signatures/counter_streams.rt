@@ -2,15 +2,13 @@
 //! and a digest are framed.
 #![tactic(auto)]
 
-use crate::keys::sets::{
-    Keys, MESSAGES, PairCall, SEEDS, Suite, TestSet, Text, at_each_set, change,
-};
+use crate::keys::sets::{Keys, MESSAGES, PairCall, SEEDS, Suite, TestSet, at_each_set, change};
 use crate::signatures::drawing::{Listed, RefusesAt};
 use crate::values::{has_text, recorded};
-use fips204::Fault;
 use fips204::pre_hash::SHA2_256;
 use fips204::traits::DummyRng;
 use fips204::xof::{Sha256Ctr, Sha256CtrLong, Sha512Ctr, Sha512CtrLong};
+use fips204::{Fault, Input};
 use sha2::{Digest, Sha256};
 use std::alloc::Global;
 use std::test::Fail;
@@ -42,28 +40,28 @@ const DRAWN: [[&str; 2]; 3] = [
 /// under another context, and with another bit in byte 100.
 fn sign_so<S: TestSet, K: Keys<S::Signature>>(
     keys: &K,
-    text: &Text,
+    input: &Input,
     signature: &S::Signature,
 ) -> [bool; 6] {
     let mut spoiled = *signature;
     change(S::bytes(&mut spoiled), 100, 1);
     [
-        keys.seeded(&[0; 32], text) == Ok(*signature),
-        keys.drawn(&mut DummyRng { bytes: [0; 32] }, true, text) == Ok(*signature),
-        keys.accepts(text, signature),
-        keys.accepts(&Text::Message(&[1], &[]), signature),
-        keys.accepts(&Text::Message(&[0], &[0]), signature),
-        keys.accepts(text, &spoiled),
+        keys.seeded(&[0; 32], input) == Ok(*signature),
+        keys.drawn(&mut DummyRng { bytes: [0; 32] }, true, input) == Ok(*signature),
+        keys.accepts(input, signature),
+        keys.accepts(&Input::Message(&[1], &[]), signature),
+        keys.accepts(&Input::Message(&[0], &[0]), signature),
+        keys.accepts(input, &spoiled),
     ]
 }
 
-/// The signature of a text with 32 bytes 00, and what plain and prepared keys answer of it.
-fn signed<S: TestSet>(text: &Text) -> Result<(S::Signature, [[bool; 6]; 2]), Fault> {
+/// The signature of an input with 32 bytes 00, and what plain and prepared keys answer of it.
+fn signed<S: TestSet>(input: &Input) -> Result<(S::Signature, [[bool; 6]; 2]), Fault> {
     let keys = S::pair(&[0; 32])?;
     let prepared = S::prepared(&keys)?;
-    let signature = keys.seeded(&[0; 32], text)?;
-    let plain = sign_so::<S, S::Plain>(&keys, text, &signature);
-    let prepared = sign_so::<S, S::Prepared>(&prepared, text, &signature);
+    let signature = keys.seeded(&[0; 32], input)?;
+    let plain = sign_so::<S, S::Plain>(&keys, input, &signature);
+    let prepared = sign_so::<S, S::Prepared>(&prepared, input, &signature);
     Ok((signature, [plain, prepared]))
 }
 
@@ -84,8 +82,8 @@ impl Suite for Bytes {
     fn at<S: TestSet>(&self, number: usize) -> Result<Self::Answer, Fail> {
         let (alloc, recorded) = (self.0, recorded(number));
         let pairs = have_pairs::<S>(alloc, recorded)?;
-        let (mut message, first) = signed::<S>(&Text::Message(&[0], &[]))?;
-        let digest = Text::Digest(&[0; 32], &[], &SHA2_256);
+        let (mut message, first) = signed::<S>(&Input::Message(&[0], &[]))?;
+        let digest = Input::Digest(&[0; 32], &[], &SHA2_256);
         let (mut digest, second) = signed::<S>(&digest)?;
         let hash = Sha256::digest(S::bytes(&mut digest));
         let message = has_text(alloc, S::bytes(&mut message), recorded[2])?;
@@ -113,7 +111,7 @@ fn signs_next<S: TestSet, K: Keys<S::Signature>>(
     rng: &mut Listed,
     text: Option<&str>,
 ) -> Result<bool, Fail> {
-    match (keys.drawn(rng, true, &Text::Message(&[0], &[])), text) {
+    match (keys.drawn(rng, true, &Input::Message(&[0], &[])), text) {
         (Ok(mut signature), Some(text)) => {
             let hash = Sha256::digest(S::bytes(&mut signature));
             Ok(has_text(alloc, hash.as_slice(), text)?)
@@ -198,9 +196,9 @@ fn single_calls<S: TestSet>(
     let mut signatures = Vec::new(alloc);
     let mut verdicts = [false; 5];
     for i in 0..count.min(5) {
-        let text = Text::Message(MESSAGES[i], b"context");
-        let signature = keys.seeded(&SEEDS[i], &text)?;
-        verdicts[i] = keys.accepts(&text, &signature);
+        let input = Input::Message(MESSAGES[i], b"context");
+        let signature = keys.seeded(&SEEDS[i], &input)?;
+        verdicts[i] = keys.accepts(&input, &signature);
         signatures.push(signature)?;
     }
     Ok((signatures, verdicts))
@@ -263,19 +261,22 @@ fn many_messages_of_each_set(rt: HostRuntime) -> Result<(), Fail> {
     Ok(())
 }
 
-/// Whether a text and its framing have one signature, with one call of the generator; whether each accepts it of the
-/// other; and of the third text.
+/// Whether an input and its framing have one signature, with one call of the generator; whether each accepts it of the
+/// other; and of the third input.
 fn is_framed<S: PartialEq + Drop, K: Keys<S>>(
     keys: &K,
-    text: &Text,
-    framed: &Text,
-    other: &Text,
+    input: &Input,
+    framed: &Input,
+    other: &Input,
 ) -> Result<[bool; 5], Fault> {
     let mut rng = RefusesAt::new(1, false);
-    let signature = keys.seeded(&[7; 32], text)?;
+    let signature = keys.seeded(&[7; 32], input)?;
     let drawn = keys.drawn(&mut rng, true, framed)?;
     let (same, one) = (signature == drawn, rng.asked == 1);
-    let (first, second) = (keys.accepts(framed, &signature), keys.accepts(text, &drawn));
+    let (first, second) = (
+        keys.accepts(framed, &signature),
+        keys.accepts(input, &drawn),
+    );
     Ok([same, one, first, second, keys.accepts(other, &drawn)])
 }
 
@@ -283,11 +284,11 @@ fn is_framed<S: PartialEq + Drop, K: Keys<S>>(
 fn are_framed<S: PartialEq + Drop, K: Keys<S>>(keys: &K) -> [Result<[bool; 5], Fault>; 2] {
     let mut framed = [9u8; 47];
     framed[..15].copy_from_slice(b"\x01\x02ab\x06\x09\x60\x86\x48\x01\x65\x03\x04\x02\x01");
-    let message = Text::Message(b"c", b"ab");
-    let digest = Text::Digest(&[9; 32], b"ab", &SHA2_256);
+    let message = Input::Message(b"c", b"ab");
+    let digest = Input::Digest(&[9; 32], b"ab", &SHA2_256);
     [
-        is_framed(keys, &message, &Text::Framed(b"\x00\x02abc"), &digest),
-        is_framed(keys, &digest, &Text::Framed(&framed), &message),
+        is_framed(keys, &message, &Input::Framed(b"\x00\x02abc"), &digest),
+        is_framed(keys, &digest, &Input::Framed(&framed), &message),
     ]
 }
 

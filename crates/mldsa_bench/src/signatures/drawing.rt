@@ -4,11 +4,11 @@
 
 ghost use Rattle.std.specs.Prelude.{◌≡◌};
 
-use crate::keys::sets::{Keys, PairCall, Suite, TestSet, Text, at_each_set, is_same};
+use crate::keys::sets::{Keys, PairCall, Suite, TestSet, at_each_set, is_same};
 use fips204::pre_hash::SHA2_256;
 use fips204::traits::{CryptoRngCore, DummyRng};
 use fips204::xof::Fill;
-use fips204::{Fault, RngError};
+use fips204::{Fault, Input, RngError};
 use std::test::Fail;
 
 /// A generator that refuses at one call, counted from 0, and every call that asks for another number of
@@ -89,26 +89,29 @@ impl CryptoRngCore for Listed<'_> {
 }
 
 /// What is signed with drawn bytes, and the refusal that stands for the generator's.
-static DRAWN: [(Text, Fault); 6] = [
-    (Text::Message(b"abc", &[]), Fault::SignRng),
-    (Text::Message(b"abc", &[1; 255]), Fault::SignRng),
-    (Text::Digest(&[0; 32], &[], &SHA2_256), Fault::HashRng),
-    (Text::Digest(&[0; 32], &[1; 255], &SHA2_256), Fault::HashRng),
-    (Text::Framed(b"abc"), Fault::InternalRng),
-    (Text::Hash(&[0; 64]), Fault::InternalRng),
+static DRAWN: [(Input, Fault); 6] = [
+    (Input::Message(b"abc", &[]), Fault::SignRng),
+    (Input::Message(b"abc", &[1; 255]), Fault::SignRng),
+    (Input::Digest(&[0; 32], &[], &SHA2_256), Fault::HashRng),
+    (
+        Input::Digest(&[0; 32], &[1; 255], &SHA2_256),
+        Fault::HashRng,
+    ),
+    (Input::Framed(b"abc"), Fault::InternalRng),
+    (Input::Mu(&[0; 64]), Fault::InternalRng),
 ];
 
 fn is_wanted(answer: Result<bool, Fault>, refused: bool, fault: Fault) -> bool {
     answer == if refused { Err(fault) } else { Ok(true) }
 }
 
-/// Whether four signatures of each text are made, but for the one whose generator refuses, each of one call of the
+/// Whether four signatures of each input are made, but for the one whose generator refuses, each of one call of the
 /// generator, which is handed zeros.
 fn draws<S: PartialEq + Drop, K: Keys<S>>(keys: &K, signature: &S, refusing: RefusesAt) -> bool {
-    for (text, fault) in &DRAWN {
+    for (input, fault) in &DRAWN {
         let mut rng = refusing;
         for number in 0..4u8 {
-            let answer = is_same(keys.drawn(&mut rng, true, text), signature);
+            let answer = is_same(keys.drawn(&mut rng, true, input), signature);
             if !is_wanted(answer, number == refusing.call, *fault) {
                 return false;
             }

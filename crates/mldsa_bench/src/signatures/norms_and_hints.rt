@@ -3,9 +3,9 @@
 #![tactic(auto)]
 
 use crate::arithmetic::hint_parts::{part_of, rising};
-use crate::keys::sets::{Constant44, Keys, TestSet, Text};
+use crate::keys::sets::{Constant44, Keys, TestSet};
 use crate::values::constant_streams::{signature_44, signature_65};
-use fips204::Fault;
+use fips204::{Fault, Input};
 
 /// What is accepted of the signature of set 44 with another first field of z.
 fn with_first_field(field: u32) -> Result<[bool; 2], Fault> {
@@ -25,16 +25,16 @@ fn with_hint(places: &[u8], counts: [u8; 4]) -> Result<[bool; 2], Fault> {
 }
 
 /// A short message under the empty context.
-pub fn short<'a>() -> Text<'a> {
-    Text::Message(b"abc", &[])
+pub fn short<'a>() -> Input<'a> {
+    Input::Message(b"abc", &[])
 }
 
 /// Whether the plain public key over constant streams accepts a signature, and whether the prepared one.
 pub fn accepted<S: TestSet>(bytes: &S::Signature) -> Result<[bool; 2], Fault> {
-    let text = &short();
+    let input = &short();
     let (keys, _) = S::constant()?;
     let prepared = S::prepared(&keys)?;
-    Ok([keys.accepts(text, bytes), prepared.accepts(text, bytes)])
+    Ok([keys.accepts(input, bytes), prepared.accepts(input, bytes)])
 }
 
 /// The first field of z: 78 is rejected, 79 and 262065 accepted, 262066 rejected, by plain and prepared public keys.

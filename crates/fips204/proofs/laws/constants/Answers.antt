@@ -1,7 +1,5 @@
 use Rattle.std.proofs.Common.{refl}
-use Rattle.fips204_base.specs.Packing.{bit_length}
-use Rattle.fips204_base.specs.Residues.{sum_below}
-use Rattle.fips204_base.specs.Transforms.{bit_reversed}
+use Rattle.fips204.proofs.Names.{bit_length, sum_below, bit_reversed}
 use Rattle.fips204.proofs.laws.constants.Goals as goal
 
 pub returns-clause-values : goal.returns-clause-values

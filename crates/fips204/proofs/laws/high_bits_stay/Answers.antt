@@ -1,4 +1,4 @@
-use Rattle.fips204_base.proofs.RoundingLaws.{natural_gamma, high_bits_stay}
+use Rattle.fips204.proofs.Names.{natural_gamma, high_bits_stay}
 use Rattle.fips204.proofs.laws.high_bits_stay.Goals as goal
 
 pub returns : goal.returns

@@ -1,4 +1,4 @@
-use Rattle.fips204_base.proofs.HintSpelling.{one_hint, one_spelling, spelling_exists}
+use Rattle.fips204.proofs.Names.{one_hint, one_spelling, spelling_exists}
 use Rattle.fips204.proofs.laws.hint_spelling.Goals as goal
 
 pub returns : goal.returns

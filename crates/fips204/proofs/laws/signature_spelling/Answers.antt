@@ -1,5 +1,5 @@
 use Rattle.std.proofs.Common.{sym, ◌∙◌}
-use Rattle.fips204_base.proofs.EncodedParts.{same_signature}
+use Rattle.fips204.proofs.Names.{same_signature}
 use Rattle.fips204.proofs.laws.signature_spelling.Goals as goal
 
 pub returns : goal.returns

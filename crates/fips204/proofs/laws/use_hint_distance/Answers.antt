@@ -1,4 +1,4 @@
-use Rattle.fips204_base.proofs.RoundingLaws.{natural_gamma, use_hint_distance_none, use_hint_distance_hint}
+use Rattle.fips204.proofs.Names.{natural_gamma, use_hint_distance_none, use_hint_distance_hint}
 use Rattle.fips204.proofs.laws.use_hint_distance.Goals as goal
 
 pub returns : goal.returns

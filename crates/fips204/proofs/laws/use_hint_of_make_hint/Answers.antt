@@ -1,4 +1,4 @@
-use Rattle.fips204_base.proofs.RoundingLaws.{natural_gamma, use_hint_of_make_hint}
+use Rattle.fips204.proofs.Names.{natural_gamma, use_hint_of_make_hint}
 use Rattle.fips204.proofs.laws.use_hint_of_make_hint.Goals as goal
 
 pub returns : goal.returns

@@ -1,3 +1,4 @@
+use Rattle.std.proofs.lemmas.Grind.{common_steps}
 use Rattle.std.proofs.Common.{rules, arith, ℤ, pos, ◌≡◌, ◌+◌, ◌*◌, ◌-◌, ◌≤◌, ◌∙◌, ◌<ℤ◌, refl, subst, ap, length, length-take, length-drop, take, w32, to_z, of_z}
 use Rattle.std.proofs.lemmas.Bool.{iff_false}
 use Rattle.std.proofs.lemmas.Int.{to_z-of_z, ints}
@@ -7,7 +8,7 @@ use Rattle.std.proofs.Math.Seq.{take-add}
 use Rattle.std.specs.List.{Any}
 use Rattle.fips204_base.specs.declared.types.R.{R}
 use Rattle.fips204_base.specs.Packing.{width}
-use Rattle.fips204_base.specs.Network.{coefficient, field}
+use Rattle.fips204_base.specs.EncodingSteps.{coefficient, field}
 use Rattle.fips204_base.proofs.Fields.{one_above}
 use Rattle.fips204_base.proofs.Packing.{Unpacks, is_unpacked, packs_none, packs_joined}
 use Rattle.fips204_base.proofs.VectorBytes.{length-put_mid, put_piece}
@@ -15,13 +16,7 @@ use Rattle.fips204_base.proofs.conversion.bit_unpack.Goals as goal
 use Rattle.fips204_base.proofs.conversion.bit_unpack.Goals.{After-loop-i, else-a-eq0-via-then-a-eq0+else-not-is_in_range, else-a-eq0-via-else-a-eq0}
 
 pub loop-i-init : goal.loop-i-init
-loop-i-init c =
-    let none : c.field_width-c.result * 0 ≡ 0 = omega arith in
-    record {
-      long = refl;
-      so_far = rw none (packs_none c.field_width-c.result);
-      coefficients = λ k d h. absurd (omega arith);
-    }
+loop-i-init c = grind (arith, ints, common_steps, packs_none)
 
 pub loop-i-preserved : goal.loop-i-preserved
 loop-i-preserved c =

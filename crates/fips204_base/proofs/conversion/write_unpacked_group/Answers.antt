@@ -1,10 +1,11 @@
-use Rattle.std.proofs.Common.{rules, arith, ℕ, ◌≡◌, ◌<◌, ◌^◌, ◌∙◌, map, length, take, get_or, refl, sym, length-set, w32, to_z, of_z, SFits}
-use Rattle.std.proofs.lemmas.Int.{to_z-of_z}
+use Rattle.std.proofs.lemmas.Grind.{common_steps}
+use Rattle.std.proofs.Common.{rules, arith, ℕ, ◌≡◌, ◌<◌, ◌^◌, ◌∙◌, map, length, take, get_or, sym, length-set, w32, to_z, of_z, SFits}
+use Rattle.std.proofs.lemmas.Int.{to_z-of_z, ints}
 use Rattle.std.proofs.lemmas.List.{take_more}
 use Rattle.std.proofs.lemmas.List.Elements.{All-from_get_or}
 use Rattle.std.proofs.lemmas.Nat.{mod_below, pow_pos}
 use Rattle.fips204_base.specs.Packing.{width, bits}
-use Rattle.fips204_base.specs.Network.{Packs, field, coefficient}
+use Rattle.fips204_base.specs.EncodingSteps.{Packs, field, coefficient}
 use Rattle.fips204_base.proofs.Bits.{digits-zero, bits-nil, put_bits, put_below, put_fits, give_bits, give_below, low_small, byte_within}
 use Rattle.fips204_base.proofs.Fields.{stored, group_finished}
 use Rattle.fips204_base.proofs.conversion.write_unpacked_group.Goals as goal
@@ -12,14 +13,7 @@ use Rattle.fips204_base.proofs.conversion.write_unpacked_group.Goals.{After-loop
 use Rattle.std.specs.List.{All}
 
 pub loop-i-init : goal.loop-i-init
-loop-i-init c = record {
-  long = search rules;
-  few = omega arith;
-  word = omega arith;
-  bits_done = omega arith;
-  so_far = rw (digits-zero 0, bits-nil 8, bits-nil c.field_width-c.result) refl;
-  fields = λ k d h. absurd (omega arith);
-}
+loop-i-init c = grind (arith, ints, common_steps, digits-zero, bits-nil)
 
 pub bounds-v-at : goal.bounds-v-at
 bounds-v-at c = byte_within c.field_width-c.result c.loop-i.i c.loop-have.at c.loop-have.have (length c.args.v.now) c.loop-have.invariant.bits_done (omega arith) (omega arith) (search rules)

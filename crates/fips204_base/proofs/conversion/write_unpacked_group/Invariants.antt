@@ -1,7 +1,7 @@
 use Rattle.std.proofs.Common.{◌≡◌, ◌<◌, ◌+◌, ◌*◌, ◌-◌, ◌^◌, ◌++◌, take, length, map}
 use Rattle.std.specs.List.{All}
 use Rattle.fips204_base.specs.Packing.{bits, integer_to_bits}
-use Rattle.fips204_base.specs.Network.{field}
+use Rattle.fips204_base.specs.EncodingSteps.{field}
 use Rattle.fips204_base.proofs.Fields.{HasField}
 use Rattle.fips204_base.proofs.conversion.write_unpacked_group.Given as goal
 

@@ -1,4 +1,5 @@
-use Rattle.std.proofs.Common.{ℕ, ℤ, ◌≡◌, ◌≢◌, ◌<◌, ◌+◌, ◌-◌, ◌*◌, ◌/◌, ◌*ℤ◌, ◌∙◌, inl, inr, pos, arith, ap, sym, w32, to_z, of_z}
+use Rattle.std.proofs.lemmas.Grind.{common_steps}
+use Rattle.std.proofs.Common.{ℕ, ℤ, ◌≡◌, ◌<◌, ◌+◌, ◌-◌, ◌*◌, ◌/◌, ◌*ℤ◌, inl, inr, pos, arith, w32, to_z, of_z}
 use Rattle.std.specs.Prelude.{nat_abs}
 use Rattle.std.proofs.lemmas.Int.{ints, to_z-of_z}
 use Rattle.fips204_base.specs.Residues.{residue}
@@ -22,11 +23,7 @@ residue_is : (c : After-nearest_quotient-quotient) → c.full_reduce32-residue.r
 residue_is c = let e = c.full_reduce32-residue.ensures in rw (to_z-of_z w32 c.args.r c.ranges.r) at e
 
 quotient_is : (c : After-nearest_quotient-quotient) → c.nearest_quotient-quotient.result ≡ (residue c.args.r + nat_abs c.args.gamma2 - 1) / (2 * nat_abs c.args.gamma2)
-quotient_is c =
-    let e = c.nearest_quotient-quotient.ensures in
-    let below = residue_below c.args.r in
-    let read : nat_abs (to_z w32 (of_z w32 (pos (residue c.args.r)))) ≡ residue c.args.r = omega (arith, ints, below) in
-    rw (to_z-of_z w32 c.args.gamma2 c.ranges.gamma2, residue_is c, read) at e
+quotient_is c = grind (arith, ints, common_steps, residue_below, to_z-of_z, residue_is)
 
 known : (c : After-nearest_quotient-quotient)
     → (to_z w32 c.nearest_quotient-quotient.result *ℤ to_z w32 (of_z w32 (pos 2 *ℤ to_z w32 (of_z w32 c.args.gamma2))) ≡ pos (c.nearest_quotient-quotient.result * (2 * nat_abs c.args.gamma2)))
@@ -35,35 +32,16 @@ known c = multiple c.args.gamma2 (residue c.args.r) _ c.requires.set (residue_be
 
 pub returns-then-multiple-eq8380416-clause-high : goal.returns-then-multiple-eq8380416-clause-high
 returns-then-multiple-eq8380416-clause-high c =
-    let at = (goal.at.returns-then-multiple-eq8380416-clause-high c).After-nearest_quotient-quotient in
-    let m = known at in
-    let equal = rw m.0 at c.if-multiple-eq8380416.true in
-    let edge : c.nearest_quotient-quotient.result * (2 * nat_abs c.args.gamma2) ≡ 8380416 = omega (arith, ints, equal, m.1) in
-    ap pos (sym (high_bits-edge (nat_abs c.args.gamma2) (residue c.args.r) _ (some c.args.gamma2 c.requires.set) (quotient_is at) edge))
+    grind (arith, ints, common_steps, After-nearest_quotient-quotient, known, high_bits-edge, some, quotient_is)
 
 pub returns-then-multiple-eq8380416-clause-low : goal.returns-then-multiple-eq8380416-clause-low
 returns-then-multiple-eq8380416-clause-low c =
-    let at = (goal.at.returns-then-multiple-eq8380416-clause-low c).After-nearest_quotient-quotient in
-    let m = known at in
-    let equal = rw m.0 at c.if-multiple-eq8380416.true in
-    let edge : c.nearest_quotient-quotient.result * (2 * nat_abs c.args.gamma2) ≡ 8380416 = omega (arith, ints, equal, m.1) in
-    let low = low_bits-edge (nat_abs c.args.gamma2) (residue c.args.r) _ (some c.args.gamma2 c.requires.set) (quotient_is at) edge in
-    let below = residue_below c.args.r in
-    rw (low, residue_is at, m.0) (omega (arith, ints, below, edge))
+    grind (arith, ints, common_steps, After-nearest_quotient-quotient, known, low_bits-edge, some, quotient_is, residue_below, residue_is)
 
 pub returns-else-multiple-eq8380416-clause-high : goal.returns-else-multiple-eq8380416-clause-high
 returns-else-multiple-eq8380416-clause-high c =
-    let at = (goal.at.returns-else-multiple-eq8380416-clause-high c).After-nearest_quotient-quotient in
-    let m = known at in
-    let other : c.nearest_quotient-quotient.result * (2 * nat_abs c.args.gamma2) ≢ 8380416 = λ e. c.if-multiple-eq8380416.false (ap (of_z w32) (m.0 ∙ ap pos e)) in
-    let high = high_bits-other (nat_abs c.args.gamma2) (residue c.args.r) _ (some c.args.gamma2 c.requires.set) (quotient_is at) other in
-    rw high (omega (arith, ints, m.2))
+    grind (arith, ints, common_steps, After-nearest_quotient-quotient, known, high_bits-other, some, quotient_is)
 
 pub returns-else-multiple-eq8380416-clause-low : goal.returns-else-multiple-eq8380416-clause-low
 returns-else-multiple-eq8380416-clause-low c =
-    let at = (goal.at.returns-else-multiple-eq8380416-clause-low c).After-nearest_quotient-quotient in
-    let m = known at in
-    let other : c.nearest_quotient-quotient.result * (2 * nat_abs c.args.gamma2) ≢ 8380416 = λ e. c.if-multiple-eq8380416.false (ap (of_z w32) (m.0 ∙ ap pos e)) in
-    let low = low_bits-other (nat_abs c.args.gamma2) (residue c.args.r) _ (some c.args.gamma2 c.requires.set) (quotient_is at) other in
-    let below = residue_below c.args.r in
-    rw (low, residue_is at, m.0) (omega (arith, ints, below, m.1))
+    grind (arith, ints, common_steps, After-nearest_quotient-quotient, known, low_bits-other, some, quotient_is, residue_below, residue_is)

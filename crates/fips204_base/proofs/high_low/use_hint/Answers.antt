@@ -1,4 +1,5 @@
-use Rattle.std.proofs.Common.{ℤ, ◌≡◌, ◌<◌, ◌⊎◌, inl, inr, pos, true, arith, ap, refl, w32, of_z}
+use Rattle.std.proofs.lemmas.Grind.{common_steps}
+use Rattle.std.proofs.Common.{ℤ, ◌≡◌, ◌<◌, pos, true, arith}
 use Rattle.std.specs.Prelude.{nat_abs, int_lt}
 use Rattle.std.proofs.lemmas.Int.{ints, to_z-of_z}
 use Rattle.fips204_base.specs.Residues.{residue}
@@ -17,29 +18,10 @@ record Hinted (gamma2 h r high low count : ℤ) : Type 0 where
   hint : int_lt (pos 0) h ≡ true
 
 known : (c : After-high_count-last) → Hinted c.args.gamma2 c.args.h c.args.r c.decompose-high.result.0 c.decompose-high.result.1 c.high_count-last.result
-known c =
-    let G = to_z-of_z w32 c.args.gamma2 c.ranges.gamma2 in
-    let R = to_z-of_z w32 c.args.r c.ranges.r in
-    let high = c.decompose-high.ensures.high in
-    let low = c.decompose-high.ensures.low in
-    let count = c.high_count-last.ensures in
-    let set : (nat_abs c.args.gamma2 ≡ 95232) ⊎ (nat_abs c.args.gamma2 ≡ 261888) = elim c.requires.set [ inl e ↦ inl (ap nat_abs e) | inr e ↦ inr (ap nat_abs e) ] in
-    record {
-      high_is = rw (G, R) at high;
-      low_is = rw (G, R) at low;
-      below = high_bits_below (nat_abs c.args.gamma2) (residue c.args.r) set (residue_below c.args.r);
-      count_is = rw G at count;
-      hint = elim c.requires.hint [
-        | inl none ↦ absurd (c.if-h-eq0.false (ap (of_z w32) none))
-        | inr one ↦ rw one refl
-      ];
-    }
+known c = grind (arith, ints, common_steps, to_z-of_z, high_bits_below, residue_below)
 
 pub returns-then-h-eq0 : goal.returns-then-h-eq0
-returns-then-h-eq0 c =
-    let high = c.decompose-high.ensures.high in
-    let is = rw (to_z-of_z w32 c.args.gamma2 c.ranges.gamma2, to_z-of_z w32 c.args.r c.ranges.r) at high in
-    grind (arith, ints, hinted, is)
+returns-then-h-eq0 c = grind (arith, ints, common_steps, to_z-of_z, hinted)
 
 pub returns-else-high-last : goal.returns-else-high-last
 returns-else-high-last c = let k = known (goal.at.returns-else-high-last c).After-high_count-last in grind (arith, ints, hinted, k)

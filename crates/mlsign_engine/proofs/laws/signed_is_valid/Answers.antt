@@ -1,4 +1,4 @@
-use Rattle.mlsign_engine.proofs.Keys.{published_valid, signed_valid}
+use Rattle.mlsign_engine.proofs.KeyPairs.{published_valid, signed_valid}
 use Rattle.mlsign_engine.proofs.laws.signed_is_valid.Goals as goal
 
 pub returns : goal.returns

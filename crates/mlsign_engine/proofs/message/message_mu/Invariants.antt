@@ -1,9 +1,5 @@
-use Rattle.std.proofs.Common.{◌≡◌, false}
 use Rattle.mlsign_engine.proofs.Hashing.{IsTaken}
 use Rattle.mlsign_engine.proofs.message.message_mu.Given as goal
 
-abbrev pub invariant-loop : goal.invariant-loop
-invariant-loop g l = record {
-  unmarked : l.input.failed ≡ false;
-  taken : IsTaken (g.I.Read.remaining l.fn.input.device) (g.I.Read.remaining l.input.device) l.tr l.context l.hasher;
-}
+abbrev pub invariant-loop-count : goal.invariant-loop-count
+invariant-loop-count g l = IsTaken g.I.Source.gives g.I.Source.remaining l.fn.input l.input l.tr l.context l.hasher l._count

@@ -17,5 +17,7 @@ loop-index-preserved c = record {
 pub returns : goal.returns
 returns c =
     let all : 8 * c.loop-index.index ≡ length c.args.block.now = omega arith in
-    sym (take_all (length c.args.block.now) c.loop-index.block (omega (arith, c.loop-index.invariant.size)))
-    ∙ rw all at c.loop-index.invariant.written
+    record {
+      written = sym (take_all (length c.args.block.now) c.loop-index.block (omega (arith, c.loop-index.invariant.size))) ∙ rw all at c.loop-index.invariant.written;
+      words = c.fits-state;
+    }

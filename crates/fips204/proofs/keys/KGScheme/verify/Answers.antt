@@ -1,5 +1,5 @@
 use Rattle.std.proofs.Common.{arith}
-use Rattle.fips204.specs.Framing.{plain}
+use Rattle.fips204.proofs.Names.{plain}
 use Rattle.fips204.proofs.SeedKeys.{seed_accepts}
 use Rattle.fips204.proofs.keys.KGScheme.verify.Goals as goal
 

@@ -1,7 +1,5 @@
 use Rattle.std.proofs.Common.{rules, subst, w32, pos, ◌-ℤ◌, ℤ}
-use Rattle.std.proofs.lemmas.Int.{to_z-of_z}
-use Rattle.fips204_base.specs.Bounds.{VectorInRange}
-use Rattle.fips204.specs.Sets.{HasKeySizes, set_of}
+use Rattle.fips204.proofs.Names.{to_z-of_z, VectorInRange, HasKeySizes, set_of}
 use Rattle.fips204.proofs.ParameterSets.{limits, known-set, private_key-size, parts_at_set, eta-some}
 use Rattle.fips204.proofs.keys.PrivateKeySerDes.into_bytes.Goals as goal
 
@@ -13,25 +11,10 @@ sk_encode-requires g c =
     let set = (limits p p.known).eta in
     let eta = eta-some p p.known in
     let parts = parts_at_set (set_of p) _ _ _ (known-set p p.known) sizes.rows c.self.invariant in
-    rw E (
-      search rules,
-      (
-        search rules,
-        (
-          search rules,
-          (
-            set,
-            (
-              private_key-size p.eta _ _ p.k p.l _ set sizes.rows sizes.columns sizes.private_key,
-              (
-                subst (λ (x : ℤ). VectorInRange (pos 0 -ℤ x) x c.self.inside.s1) eta parts.s1.range,
-                (subst (λ (x : ℤ). VectorInRange (pos 0 -ℤ x) x c.self.inside.s2) eta parts.s2.range, parts.t0.range),
-              ),
-            ),
-          ),
-        ),
-      ),
-    )
+    let size = private_key-size p.eta _ _ p.k p.l _ set sizes.rows sizes.columns sizes.private_key in
+    let first = subst (λ (x : ℤ). VectorInRange (pos 0 -ℤ x) x c.self.inside.s1) eta parts.s1.range in
+    let second = subst (λ (x : ℤ). VectorInRange (pos 0 -ℤ x) x c.self.inside.s2) eta parts.s2.range in
+    rw E (search rules, (search rules, (search rules, (set, (size, (first, (second, parts.t0.range)))))))
 
 pub returns : goal.returns
 returns g c = search rules

@@ -1,7 +1,5 @@
-use Rattle.std.proofs.Common.{◌≡◌, ℕ, List, refl, inl}
-use Rattle.std.specs.Prelude.{replicate}
-use Rattle.fips204.specs.Framing.{plain}
-use Rattle.fips204.specs.ParameterSets.{set_44}
+use Rattle.std.proofs.Common.{◌≡◌, ℕ, List, refl, inl, replicate}
+use Rattle.fips204.proofs.Names.{plain, set_44}
 use Rattle.fips204.proofs.laws.joined.accepted_for_both_over_one_byte.Goals as goal
 
 pub returns-then-verify : goal.returns-then-verify

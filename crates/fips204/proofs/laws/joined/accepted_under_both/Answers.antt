@@ -1,7 +1,5 @@
 use Rattle.std.proofs.Common.{◌≤◌, ◌∙◌, ℕ, List, length, inl, inr, refl, ap, sym, arith, rules}
-use Rattle.fips204_base.specs.Encodings.{PublicParts, IsPublicKeyOf, public_key_bytes}
-use Rattle.fips204.specs.Framing.{plain}
-use Rattle.fips204.specs.ParameterSets.{set_44}
+use Rattle.fips204.proofs.Names.{PublicParts, IsPublicKeyOf, public_key_bytes, plain, set_44}
 use Rattle.fips204.proofs.laws.joined.accepted_under_both.Goals as goal
 
 pub returns-then-verify : goal.returns-then-verify

@@ -1,5 +1,5 @@
 use Rattle.std.proofs.Common.{inl, refl}
-use Rattle.fips204.specs.ParameterSets.{set_44}
+use Rattle.fips204.proofs.Names.{set_44}
 use Rattle.fips204.proofs.laws.joined.decided_verdict.Goals as goal
 
 pub returns : goal.returns

@@ -1,5 +1,5 @@
 use Rattle.std.proofs.Common.{◌≡◌, Some, ap, refl}
-use Rattle.fips204.specs.Framing.{plain}
+use Rattle.fips204.proofs.Names.{plain}
 use Rattle.fips204.proofs.laws.joined.one_message.Goals as goal
 
 pub returns : goal.returns

@@ -1,7 +1,5 @@
 use Rattle.std.proofs.Common.{◌≡◌, ◌≤◌, ℕ, List, length, Ok, refl, inl, arith, rules}
-use Rattle.fips204.specs.Completeness.{IsPair}
-use Rattle.fips204.specs.ParameterSets.{set_44}
-use Rattle.fips204.specs.Refusals.{generated}
+use Rattle.fips204.proofs.Names.{IsPair, set_44, generated}
 use Rattle.fips204.proofs.laws.joined.pair_of_seed.Given.{Over}
 use Rattle.fips204.proofs.laws.joined.pair_of_seed.Goals.{After-get_public_key}
 use Rattle.fips204.proofs.laws.joined.pair_of_seed.Goals as goal

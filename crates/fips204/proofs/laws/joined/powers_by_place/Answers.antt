@@ -1,7 +1,6 @@
-use Rattle.std.proofs.Common.{◌*◌, ◌%◌, ◌^◌, ℤ, List, pos, ap, ◌∙◌, arith}
-use Rattle.std.specs.Prelude.{slice_index_or}
+use Rattle.std.proofs.Common.{◌*◌, ◌%◌, ◌^◌, ℤ, List, pos, ap, ◌∙◌, arith, slice_index_or}
+use Rattle.fips204.proofs.Names.{bit_reversed}
 use Rattle.std.proofs.lemmas.List.FromFn.{get_or-map-range_with_len}
-use Rattle.fips204_base.specs.Transforms.{bit_reversed}
 use Rattle.fips204.proofs.laws.joined.powers_by_place.Goals as goal
 
 pub returns : goal.returns

@@ -1,7 +1,5 @@
 use Rattle.std.proofs.Common.{◌≡◌, Ok, rules}
-use Rattle.fips204.specs.ParameterSets.{set_44}
-use Rattle.fips204.specs.Prepared.{prepared_private, prepared_public}
-use Rattle.fips204.specs.Refusals.{derived}
+use Rattle.fips204.proofs.Names.{set_44, prepared_private, prepared_public, derived}
 use Rattle.fips204.proofs.laws.joined.prepared_accepts.Goals as goal
 
 pub returns : goal.returns

@@ -1,8 +1,5 @@
 use Rattle.std.proofs.Common.{◌≡◌, ◌≤◌, ℕ, List, length, Ok, refl, inl, arith, rules}
-use Rattle.fips204_base.specs.Encodings.{IsPublicKeyOf, IsPrivateKeyOf, public_key_bytes, private_key_bytes}
-use Rattle.fips204.specs.Framing.{plain}
-use Rattle.fips204.specs.ParameterSets.{set_44}
-use Rattle.fips204.specs.Refusals.{generated, sign_input, VerifiesInput}
+use Rattle.fips204.proofs.Names.{IsPublicKeyOf, IsPrivateKeyOf, public_key_bytes, private_key_bytes, plain, set_44, generated, sign_input, VerifiesInput}
 use Rattle.fips204.proofs.laws.joined.stored_pair_accepts.Goals as goal
 
 pub returns : goal.returns

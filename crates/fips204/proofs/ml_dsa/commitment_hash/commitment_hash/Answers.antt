@@ -1,8 +1,6 @@
 use Rattle.std.proofs.Common.{rules, ◌≡◌, ◌≤◌, ◌∙◌, ◌*◌, ◌++◌, refl, sym, take, nat_abs, to_z, of_z, w32, arith}
-use Rattle.std.proofs.lemmas.List.{length-take-le}
-use Rattle.fips204_base.specs.Encodings.{w1_bytes}
+use Rattle.fips204.proofs.Names.{length-take-le, w1_bytes, set_of}
 use Rattle.fips204.proofs.ParameterSets.{limits, high_part-few}
-use Rattle.fips204.specs.Sets.{set_of}
 use Rattle.fips204.proofs.Attempts.{commitment-is}
 use Rattle.fips204.proofs.ml_dsa.commitment_hash.commitment_hash.Given.{Over}
 use Rattle.fips204.proofs.ml_dsa.commitment_hash.commitment_hash.Goals as goal

@@ -1,5 +1,5 @@
 use Rattle.std.proofs.Common.{rules, w32}
-use Rattle.std.proofs.lemmas.Int.{to_z-of_z}
+use Rattle.fips204.proofs.Names.{to_z-of_z}
 use Rattle.fips204.proofs.ParameterSets.{limits, private_key-size, parts_by_rows}
 use Rattle.fips204.proofs.ml_dsa.decoding.expand_private.Goals as goal
 

@@ -1,6 +1,5 @@
 use Rattle.std.proofs.Common.{◌∙◌, ap, pos}
-use Rattle.fips204_base.proofs.PlainTransforms.{matrix-same}
-use Rattle.fips204.specs.Keys.{key_vector}
+use Rattle.fips204.proofs.Names.{matrix-same, key_vector}
 use Rattle.fips204.proofs.KeyGeneration.{key_sum}
 use Rattle.fips204.proofs.ml_dsa.key_generation.write_key_vector.Goals as goal
 

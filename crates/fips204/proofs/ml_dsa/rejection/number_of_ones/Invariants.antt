@@ -1,6 +1,5 @@
 use Rattle.std.proofs.Common.{◌≡◌, ◌≤◌, ◌+◌, ◌*◌, length, take}
-use Rattle.fips204_base.specs.Encodings.{all_ones}
-use Rattle.fips204_base.specs.Network.{ones_below}
+use Rattle.fips204.proofs.Names.{all_ones, ones_below}
 use Rattle.fips204.proofs.ml_dsa.rejection.number_of_ones.Given as goal
 
 abbrev pub invariant-loop-row : goal.invariant-loop-row

@@ -1,8 +1,5 @@
 use Rattle.std.proofs.Common.{rules, ◌≡◌, ◌∙◌, ap, sym, subst, arith, Err, Some, None}
-use Rattle.fips204_base.specs.Encodings.{PrivateParts, ArePrivateParts}
-use Rattle.fips204_base.specs.Sampling.{sampled_matrix}
-use Rattle.fips204_base.specs.declared.fault.Fault.TheVariants.{SamplingLimit}
-use Rattle.fips204.specs.Sets.{set_of}
+use Rattle.fips204.proofs.Names.{PrivateParts, ArePrivateParts, sampled_matrix, SamplingLimit, set_of}
 use Rattle.fips204.proofs.ParameterSets.{limits, known-set, parts_at_set}
 use Rattle.fips204.proofs.SeedKeys.{hash_accepted}
 use Rattle.fips204.proofs.Signing.{sign-by_matrix, sign-no_matrix}

@@ -1,7 +1,5 @@
-use Rattle.std.proofs.Common.{rules, arith, ◌≡◌, IsTrue}
-use Rattle.std.specs.Prelude.{◌↔◌}
-use Rattle.fips204.specs.Signing.{commitment_hash}
-use Rattle.fips204.specs.Sets.{set_of}
+use Rattle.std.proofs.Common.{rules, arith, ◌≡◌, IsTrue, ◌↔◌}
+use Rattle.fips204.proofs.Names.{commitment_hash, set_of}
 use Rattle.fips204.proofs.ParameterSets.{limits}
 use Rattle.fips204.proofs.Verification.{hinted-written}
 use Rattle.fips204.proofs.ml_dsa.verification.is_committed.Goals as goal

@@ -1,9 +1,5 @@
-use Rattle.std.proofs.Common.{rules, ◌≡◌, pos, nat_abs, to_z, of_z, w32}
-use Rattle.std.specs.Prelude.{int_lt}
-use Rattle.fips204_base.specs.Vectors.{vector_coefficients}
-use Rattle.fips204_base.specs.Bounds.{coefficient_of}
-use Rattle.fips204_base.specs.Rounding.{use_hint}
-use Rattle.fips204.specs.Sets.{set_of}
+use Rattle.std.proofs.Common.{rules, ◌≡◌, pos, nat_abs, to_z, of_z, w32, int_lt}
+use Rattle.fips204.proofs.Names.{vector_coefficients, coefficient_of, use_hint, set_of}
 use Rattle.fips204.proofs.ParameterSets.{limits, rounding-size}
 use Rattle.fips204.proofs.Verification.{hint-bit, hinted-is, hinted-range}
 use Rattle.fips204.proofs.ml_dsa.verification.write_hinted.Goals as goal

@@ -1,22 +1,10 @@
-use Rattle.std.proofs.Common.{rules, ◌-ℤ◌, arith, w32}
-use mir.Val.{SFits}
-use Rattle.std.proofs.lemmas.Int.{to_z-of_z, fits_signed_from_abs}
+use Rattle.std.proofs.Common.{rules, ◌≡◌, nat_abs}
 use Rattle.fips204.proofs.ParameterSets.{limits}
 use Rattle.fips204.proofs.types.Params.r0_bound.Goals as goal
-use Rattle.fips204.proofs.types.Params.r0_bound.Goals.{Start}
-
-fits : (c : Start) → SFits w32 (c.args.self.now.gamma2 -ℤ c.args.self.now.beta)
-fits c =
-    let p = c.args.self.now in
-    let known = limits p (search rules) in
-    rw known.r0_bound (fits_signed_from_abs w32 _ (omega (arith, known.small_low)))
 
 pub overflow_sub-result : goal.overflow_sub-result
 overflow_sub-result c =
     let p = c.args.self.now in
-    rw (to_z-of_z w32 p.gamma2 (search rules), to_z-of_z w32 p.beta (search rules)) (fits (goal.at.overflow_sub-result c).Start)
-
-pub returns : goal.returns
-returns c =
-    let p = c.args.self.now in
-    rw (to_z-of_z w32 p.gamma2 (search rules), to_z-of_z w32 p.beta (search rules), to_z-of_z w32 (p.gamma2 -ℤ p.beta) (fits (goal.at.returns c).Start)) (limits p (search rules)).r0_bound
+    let gamma2 : c.unsigned_abs.result ≡ nat_abs p.gamma2 = search rules in
+    let beta : c.unsigned_abs-2.result ≡ nat_abs p.beta = search rules in
+    rw (gamma2, beta) (limits p (search rules)).r0_room

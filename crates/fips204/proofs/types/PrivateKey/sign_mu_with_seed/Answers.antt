@@ -1,5 +1,5 @@
 use Rattle.std.proofs.Common.{rules}
-use Rattle.fips204.specs.Sets.{HasSizes, set_of}
+use Rattle.fips204.proofs.Names.{HasSizes, set_of}
 use Rattle.fips204.proofs.types.PrivateKey.sign_mu_with_seed.Goals as goal
 
 pub sign_internal-requires : goal.sign_internal-requires

@@ -1,5 +1,5 @@
 use Rattle.std.proofs.Common.{subst}
-use Rattle.fips204_base.specs.Encodings.{PrivateParts, ArePrivateParts}
+use Rattle.fips204.proofs.Names.{PrivateParts, ArePrivateParts}
 use Rattle.fips204.proofs.ParameterSets.{parts_at_set}
 use Rattle.fips204.proofs.types.PrivateKey.tr.Goals as goal
 

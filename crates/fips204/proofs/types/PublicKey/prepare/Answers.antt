@@ -1,7 +1,5 @@
 use Rattle.std.proofs.Common.{refl, ◌≡◌, ◌∙◌, ap, sym, subst, Ok, Some}
-use Rattle.fips204_base.specs.Encodings.{PublicParts}
-use Rattle.fips204.specs.Prepared.{PreparedPublic, prepared_public}
-use Rattle.fips204_base.specs.Sampling.{sampled_matrix}
+use Rattle.fips204.proofs.Names.{PublicParts, PreparedPublic, prepared_public, sampled_matrix}
 use Rattle.fips204.proofs.types.PublicKey.prepare.Goals as goal
 
 pub returns : goal.returns

@@ -1,5 +1,5 @@
 use Rattle.std.proofs.Common.{rules, refl}
-use Rattle.fips204.specs.Sets.{HasSizes, set_of}
+use Rattle.fips204.proofs.Names.{HasSizes, set_of}
 use Rattle.fips204.proofs.types.PublicKey.verify_mu.Goals as goal
 
 pub verify_internal-requires : goal.verify_internal-requires

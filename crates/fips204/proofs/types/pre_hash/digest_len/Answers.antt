@@ -1,6 +1,5 @@
-use Rattle.std.proofs.Common.{◌∙◌, sym, ap, rules, []}
-use Rattle.std.specs.Prelude.{bytes_eq}
-use Rattle.fips204.specs.Framing.{hashes}
+use Rattle.std.proofs.Common.{◌∙◌, sym, ap, rules, [], bytes_eq}
+use Rattle.fips204.proofs.Names.{hashes}
 use Rattle.fips204.proofs.PreHash.{digest_length_in, other_at, this_at, none_left, with_oids}
 use Rattle.fips204.proofs.types.pre_hash.digest_len.Goals as goal
 

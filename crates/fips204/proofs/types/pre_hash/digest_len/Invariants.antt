@@ -1,5 +1,5 @@
 use Rattle.std.proofs.Common.{◌≡◌, drop}
-use Rattle.fips204.specs.Framing.{digest_length}
+use Rattle.fips204.proofs.Names.{digest_length}
 use Rattle.fips204.proofs.PreHash.{length_in}
 use Rattle.fips204.proofs.types.pre_hash.digest_len.Given as goal
 

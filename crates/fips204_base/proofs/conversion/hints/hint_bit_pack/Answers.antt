@@ -1,20 +1,16 @@
+use Rattle.std.proofs.lemmas.Grind.{common_steps}
 use Rattle.std.proofs.Common.{rules, arith, ◌≡◌, ◌+◌, nat_abs, take, [], ◌∙◌, ap, sym, length, w32, to_z, of_z}
-use Rattle.std.proofs.lemmas.Int.{to_z-of_z}
+use Rattle.std.proofs.lemmas.Int.{to_z-of_z, ints}
 use Rattle.std.proofs.lemmas.List.{take_all}
 use Rattle.fips204_base.specs.Encodings.{all_ones}
 use Rattle.fips204_base.proofs.HintSpelling.{all_ones-none, total_more, total_le, written, gathered, spelling}
 use Rattle.fips204_base.proofs.conversion.hints.hint_bit_pack.Goals as goal
 
 pub write_places-index-requires : goal.write_places-index-requires
-write_places-index-requires g c =
-    let more = total_more c.args.h.now c.loop-i.i record { 0 = [] } (omega arith) in
-    let le = total_le c.args.h.now (c.loop-i.i + 1) in
-    omega (arith, more, le)
+write_places-index-requires g c = grind (arith, ints, common_steps, total_more, total_le)
 
 pub loop-i-init : goal.loop-i-init
-loop-i-init g c =
-    let none = ap length all_ones-none in
-    record { at = omega (arith, none); places = sym all_ones-none; totals = search rules; zeros = search rules }
+loop-i-init g c = grind (arith, ints, common_steps, all_ones-none)
 
 pub loop-i-preserved : goal.loop-i-preserved
 loop-i-preserved g c =

@@ -1,5 +1,6 @@
+use Rattle.std.proofs.lemmas.Grind.{common_steps}
 use Rattle.std.proofs.Common.{rules, arith, ◌≡◌, ◌<◌, ◌+◌, pos, nat_abs, length, take, get_or, ◌∙◌, ap, sym, refl, length-set, w32, to_z, of_z, add-one, None}
-use Rattle.std.proofs.lemmas.Int.{to_z-of_z}
+use Rattle.std.proofs.lemmas.Int.{to_z-of_z, ints}
 use Rattle.std.proofs.lemmas.List.{take_more_set, take_all, length-replicate}
 use Rattle.std.proofs.lemmas.List.Elements.{All-push}
 use Rattle.fips204_base.specs.declared.types.R.{R}
@@ -31,15 +32,7 @@ returns-in_err-h g c =
     c.in_err-h.ensures (get_or h c.loop-i.i R0) (rw c.loop-i.invariant.at (piece _ h c.args.y.now c.loop-i.i (pieces _ _ h c.args.y.now S) (omega (arith, n)))))
 
 pub loop-i-init : goal.loop-i-init
-loop-i-init g c = record {
-  count = length-replicate _ _;
-  at = refl;
-  few = omega arith;
-  places = sym all_ones-none;
-  totals = search rules;
-  sizes = search rules;
-  bits = search rules;
-}
+loop-i-init g c = grind (arith, ints, common_steps, length-replicate, all_ones-none)
 
 pub loop-i-preserved : goal.loop-i-preserved
 loop-i-preserved g c =

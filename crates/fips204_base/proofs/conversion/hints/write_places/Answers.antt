@@ -1,20 +1,14 @@
-use Rattle.std.proofs.Common.{rules, arith, ◌≡◌, ◌+◌, pos, true, false, length, take, get_or, ◌++◌, ◌∙◌, ap, sym, refl, length-set, w32, SFits, add-one, append-nil}
-use Rattle.std.proofs.lemmas.Int.{to_z-of_z}
+use Rattle.std.proofs.lemmas.Grind.{common_steps}
+use Rattle.std.proofs.Common.{rules, arith, ◌≡◌, ◌+◌, pos, true, false, length, get_or, ◌∙◌, ap, length-set, w32, SFits, add-one, append-nil}
+use Rattle.std.proofs.lemmas.Int.{to_z-of_z, ints}
 use Rattle.fips204_base.specs.Encodings.{is_one}
-use Rattle.fips204_base.specs.Network.{ones_below}
+use Rattle.fips204_base.specs.EncodingSteps.{ones_below}
 use Rattle.fips204_base.proofs.HintSpelling.{ones-none, ones-room, is_one-test, placed, ones-skip}
 use Rattle.fips204_base.proofs.conversion.hints.write_places.Goals as goal
 use Rattle.fips204_base.proofs.conversion.hints.write_places.Goals.{then-w-j-gt0, else-w-j-gt0}
 
 pub loop-j-init : goal.loop-j-init
-loop-j-init c =
-    let none = ones-none c.args.w.now in
-    record {
-      size = refl;
-      end = let l = ap length none in omega (arith, l);
-      places = sym (ap (λ l. take c.args.from c.args.y.now ++ l) none ∙ append-nil (take c.args.from c.args.y.now));
-      rest = refl;
-    }
+loop-j-init c = grind (arith, ints, common_steps, ones-none, append-nil)
 
 pub bounds-y-at : goal.bounds-y-at
 bounds-y-at c =

@@ -1,6 +1,7 @@
-use Rattle.std.proofs.Common.{◌≡◌, ◌*◌, ◌^◌, ◌++◌, ◌∙◌, Some, None, Err, pos, ap, refl, sym, arith, rules, nat_abs, length, take, drop, w32, length-drop}
+use Rattle.std.proofs.lemmas.Grind.{common_steps}
+use Rattle.std.proofs.Common.{◌≡◌, ◌*◌, ◌++◌, ◌∙◌, Some, None, Err, ap, refl, sym, arith, rules, nat_abs, length, take, drop, w32, length-drop}
 use Rattle.std.proofs.lemmas.Int.{ints, to_z-of_z}
-use Rattle.std.proofs.lemmas.List.{take-append-drop, length-take-le}
+use Rattle.std.proofs.lemmas.List.{length-take-le}
 use Rattle.fips204_base.specs.Packing.{width}
 use Rattle.fips204_base.specs.declared.fault.Fault.TheVariants.{KeyRange}
 use Rattle.fips204_base.proofs.EncodedParts.{width_4095_4096, eta_width, three_seeds, private_key-of_parts, private_key-first, private_key-second}
@@ -11,13 +12,7 @@ pub unpack_short_vector-requires-2 : goal.unpack_short_vector-requires-2
 unpack_short_vector-requires-2 g c = search rules
 
 pub unpack_vector-t0-requires : goal.unpack_vector-t0-requires
-unpack_vector-t0-requires g c =
-    let E = to_z-of_z w32 c.args.eta c.ranges.eta in
-    let size : c.polynomial_size-size.result ≡ 32 * width c.args.eta c.args.eta = let e = c.polynomial_size-size.ensures.size in rw E at e in
-    let a = ap (λ s. s * g.row.L) size in
-    let b = ap (λ s. s * g.row.K) size in
-    let room : length c.split_at-3.result.1.now ≡ 32 * 13 * g.row.K = omega (arith, a, b, c.requires.size, c.told-sk, c.split_at.ensures.back_len, c.split_at-2.ensures.back_len, c.split_at-3.ensures.back_len) in
-    (search rules, ((omega (arith, ints), omega (arith, ints), omega (arith, ints), omega (arith, ints)), (ap (λ n. pos (2 ^ n)) width_4095_4096, room ∙ ap (λ n. 32 * n * g.row.K) (sym width_4095_4096))))
+unpack_vector-t0-requires g c = grind (arith, ints, common_steps, to_z-of_z, width_4095_4096)
 
 pub returns-in_err-s1 : goal.returns-in_err-s1
 returns-in_err-s1 g c =
@@ -45,22 +40,17 @@ pub returns : goal.returns
 returns g c =
     let E = to_z-of_z w32 c.args.eta c.ranges.eta in
     let seeds = c.split_at.result.0.now in
-    let vectors = c.split_at.result.1.now in
     let first = c.split_at-2.result.0.now in
-    let rest = c.split_at-2.result.1.now in
     let second = c.split_at-3.result.0.now in
     let low = c.split_at-3.result.1.now in
-    let a = c.polynomial_size-size.result * g.row.L in
-    let b = c.polynomial_size-size.result * g.row.K in
     let rho : c.part.result.now ≡ take 32 (drop 0 seeds) = c.part.ensures in
     let key : c.part-2.result.now ≡ take 32 (drop 32 seeds) = c.part-2.ensures in
     let tr : c.part-3.result.now ≡ take 64 (drop 64 seeds) = c.part-3.ensures in
     let long : length seeds ≡ 128 = c.split_at.ensures.front_len in
-    let ends : second ++ low ≡ rest = ap (λ l. l ++ low) c.split_at-3.ensures.front ∙ ap (λ l. take b rest ++ l) c.split_at-3.ensures.back ∙ take-append-drop b rest in
-    let all : first ++ (second ++ low) ≡ vectors = ap (λ l. first ++ l) ends ∙ ap (λ l. l ++ rest) c.split_at-2.ensures.front ∙ ap (λ l. take a vectors ++ l) c.split_at-2.ensures.back ∙ take-append-drop a vectors in
     let front : c.part.result.now ++ c.part-2.result.now ++ c.part-3.result.now ≡ seeds = rw (rho, key, tr) (three_seeds seeds long) in
+    let tail = c.split_at-2.ensures.by_index.0 ∙ ap (λ l. first ++ l) c.split_at-3.ensures.by_index.0 in
     let cut : c.args.sk.now ≡ (c.part.result.now ++ c.part-2.result.now ++ c.part-3.result.now) ++ (first ++ (second ++ low)) =
-    sym (ap (λ l. l ++ (first ++ (second ++ low))) front ∙ ap (λ l. seeds ++ l) all ∙ ap (λ l. l ++ vectors) c.split_at.ensures.front ∙ ap (λ l. take 128 c.args.sk.now ++ l) c.split_at.ensures.back ∙ take-append-drop 128 c.args.sk.now) in
+    c.split_at.ensures.by_index.0 ∙ ap (λ l. seeds ++ l) tail ∙ ap (λ l. l ++ (first ++ (second ++ low))) (sym front) in
     let n = ap nat_abs E in
     let first_there : c.unpack_short_vector.result ≡ Some c.in_ok-s1.s1 = search rules in
     let second_there : c.unpack_short_vector-2.result ≡ Some c.in_ok-s2.s2 = search rules in

@@ -1,8 +1,8 @@
-use Rattle.std.proofs.Common.{◌≡◌, ◌+◌, ◌*◌, ◌-◌, ◌≤◌, ◌++◌, ◌∙◌, ◌-ℤ◌, pos, ap, sym, subst, arith, rules, nat_abs, length, take, drop, w32, to_z, of_z, length-drop, None}
-use Rattle.std.proofs.lemmas.Int.{ints, to_z-of_z}
+use Rattle.std.proofs.Common.{◌≡◌, ◌+◌, ◌*◌, ◌-◌, ◌≤◌, ◌++◌, ◌∙◌, ap, sym, subst, arith, rules, nat_abs, length, take, drop, w32, to_z, of_z, length-drop, None}
+use Rattle.std.proofs.lemmas.Int.{to_z-of_z}
 use Rattle.std.proofs.lemmas.List.{drop-drop, take-append-drop, take_all, length-take-le}
 use Rattle.fips204_base.specs.Encodings.{Spells}
-use Rattle.fips204_base.proofs.EncodedParts.{whole_response, response_bounds, response_least, response_width, signature-of_parts, signature-hint}
+use Rattle.fips204_base.proofs.EncodedParts.{whole_response, response_bounds, response_least, response_width, less_one, signature-of_parts, signature-hint}
 use Rattle.fips204_base.proofs.VectorBytes.{same_bounds}
 use Rattle.fips204_base.proofs.encodings.signature.sig_decode.Goals as goal
 
@@ -12,7 +12,7 @@ hint_bit_unpack-requires g c = search rules
 pub unpack_vector-requires : goal.unpack_vector-requires
 unpack_vector-requires g c =
     let G = to_z-of_z w32 c.args.gamma1 c.ranges.gamma1 in
-    let L : to_z w32 (of_z w32 (to_z w32 (of_z w32 c.args.gamma1) -ℤ pos 1)) ≡ c.args.gamma1 -ℤ pos 1 = omega (arith, ints, c.requires.set) in
+    let L = less_one c.args.gamma1 c.requires.set in
     let size = c.polynomial_size.ensures.size in
     let room = c.split_at.ensures.front_len ∙ ap (λ s. s * g.row.L) size in
     (search rules, (rw (L, G) (response_bounds c.args.gamma1 c.requires.set), (rw (L, G) (whole_response c.args.gamma1 c.requires.set), room)))
@@ -24,7 +24,7 @@ returns-in_err-h g c =
     let n = g.row.LAMBDA_DIV4 in
     let G = to_z-of_z w32 c.args.gamma1 c.ranges.gamma1 in
     let O = to_z-of_z w32 c.args.omega c.ranges.omega in
-    let L : to_z w32 (of_z w32 (to_z w32 (of_z w32 c.args.gamma1) -ℤ pos 1)) ≡ c.args.gamma1 -ℤ pos 1 = omega (arith, ints, c.requires.set) in
+    let L = less_one c.args.gamma1 c.requires.set in
     let size = c.polynomial_size.ensures.size in
     let natural = (rw (L, G) at size) ∙ ap (λ w. 32 * w) (response_width c.args.gamma1 c.requires.set) in
     let part = signature-hint _ _ _ _ _ (n + c.polynomial_size.result * g.row.L) c.args.sigma.now c_tilde z h s (ap (λ s. n + s * g.row.L) natural) in
@@ -36,20 +36,17 @@ returns-in_err-h g c =
 pub returns : goal.returns
 returns g c =
     let n = g.row.LAMBDA_DIV4 in
-    let k = c.polynomial_size.result * g.row.L in
     let sigma = c.args.sigma.now in
     let response = c.split_at.result.0.now in
     let hint = c.split_at.result.1.now in
     let G = to_z-of_z w32 c.args.gamma1 c.ranges.gamma1 in
     let O = to_z-of_z w32 c.args.omega c.ranges.omega in
-    let L : to_z w32 (of_z w32 (to_z w32 (of_z w32 c.args.gamma1) -ℤ pos 1)) ≡ c.args.gamma1 -ℤ pos 1 = omega (arith, ints, c.requires.set) in
+    let L = less_one c.args.gamma1 c.requires.set in
     let first : c.unwrap-c_tilde.result.now ≡ take g.row.LAMBDA_DIV4 c.args.sigma.now = search rules in
     let inside : g.row.LAMBDA_DIV4 ≤ length c.args.sigma.now = omega (arith, c.requires.size, c.told-sigma) in
     let whole : take (length sigma - n) (drop n sigma) ≡ drop n sigma = take_all _ _ (simp length-drop (omega arith)) in
-    let joined : response ++ hint ≡ drop n sigma =
-    ap (λ l. l ++ hint) c.split_at.ensures.front ∙ ap (λ l. take k (take (length sigma - n) (drop n sigma)) ++ l) c.split_at.ensures.back ∙ take-append-drop k (take (length sigma - n) (drop n sigma)) ∙ whole in
     let cut : sigma ≡ c.unwrap-c_tilde.result.now ++ (response ++ hint) =
-    sym (ap (λ l. l ++ (response ++ hint)) first ∙ ap (λ l. take n sigma ++ l) joined ∙ take-append-drop n sigma) in
+    sym (ap (λ l. l ++ (response ++ hint)) first ∙ ap (λ l. take n sigma ++ l) (sym c.split_at.ensures.by_index.0 ∙ whole) ∙ take-append-drop n sigma) in
     let vector = same_bounds g.row.L _ _ (nat_abs c.args.gamma1 - 1) (nat_abs c.args.gamma1) c.unpack_vector.result response (ap nat_abs L ∙ response_least c.args.gamma1 c.requires.set) (ap nat_abs G)
     c.unpack_vector.ensures.vector c.unpack_vector.ensures.same_bytes in
     signature-of_parts (nat_abs c.args.gamma1) (nat_abs c.args.omega) g.row.K g.row.L n sigma c.unwrap-c_tilde.result.now response hint c.unpack_vector.result c.in_ok-h.h cut

@@ -1,10 +1,13 @@
-use Rattle.std.proofs.Common.{◌≡◌, ℕ, ◌+◌, ◌<◌, ◌++◌, length, get_or, nat_abs}
-use Rattle.std.specs.Int.{w16, to_le_bytes}
-use Rattle.fips204_base.specs.declared.types.R.{R}
+use Rattle.std.proofs.Common.{◌≡◌, ◌≤◌, ◌-◌, length, nat_abs}
+use Rattle.fips204_base.specs.SamplerSteps.{AreMasked}
 use Rattle.fips204_base.proofs.hashing.mask.expand_mask.Given as goal
-use Rattle.fips204_base.specs.Network.{mask_polynomial}
 
 abbrev pub invariant-loop-r : goal.invariant-loop-r
-invariant-loop-r g l =
-    (length l.polynomials ≡ g.row.L)
-    × ((k : ℕ) (d : R) → k < l.r → get_or l.polynomials k d ≡ mask_polynomial (nat_abs l.gamma1) (g.H.Xof.front (l.rho ++ to_le_bytes w16 (l.mu + k))))
+invariant-loop-r g l = record {
+  within : l.r ≤ g.row.L;
+  size : length l.polynomials ≡ g.row.L;
+  masked : AreMasked (nat_abs l.gamma1) g.H.Xof.front l.rho l.mu l.r l.polynomials;
+}
+
+abbrev pub decreases-loop-r : goal.decreases-loop-r
+decreases-loop-r g l = g.row.L - l.r

@@ -1,25 +1,19 @@
-use Rattle.std.proofs.Common.{◌≡◌, ◌∙◌, Err, arith, rules, refl, sym, subst, length-set}
-use Rattle.fips204_base.specs.Network.{sampled_row}
+use Rattle.std.proofs.Common.{◌∙◌, refl, arith, sym, subst, length-set}
+use Rattle.fips204_base.specs.SamplerSteps.{sampled_row}
 use Rattle.fips204_base.specs.Vectors.{MatrixWithin}
-use Rattle.fips204_base.specs.declared.fault.Fault.TheVariants.{SamplingLimit}
 use Rattle.fips204_base.specs.Sampling.{sampled_matrix}
-use Rattle.fips204_base.proofs.Sampled.{matrix-refused, matrix-within, present_nil, present_next, present_whole}
+use Rattle.fips204_base.proofs.Sampled.{matrix-within, present_nil, present_next, present_whole}
 use Rattle.fips204_base.proofs.hashing.matrix.write_expanded_a.Goals as goal
 
 pub loop-r-init : goal.loop-r-init
-loop-r-init g c = (c.told-matrix, present_nil)
-
-pub returns-in_err-write_expanded_row-clause-values : goal.returns-in_err-write_expanded_row-clause-values
-returns-in_err-write_expanded_row-clause-values g c =
-    let refused : c.from_residual.result ≡ Err SamplingLimit = search rules in
-    let none = c.in_err-write_expanded_row.ensures.0 in
-    rw refused (matrix-refused {A = Unit {0}} g.G.Xof.front c.args.rho.now g.row.K g.row.L c.loop-r.r {result = Err SamplingLimit} c.loop-r-test.true none refl)
+loop-r-init g c = (c.told-matrix, present_nil, λ j d within four h. absurd (within (omega arith)))
 
 pub loop-r-preserved : goal.loop-r-preserved
 loop-r-preserved g c =
     let row = sampled_row g.G.Xof.front c.args.rho.now g.row.L in (
       length-set _ _ _ ∙ c.loop-r.invariant.0,
-      present_next row 0 c.loop-r.r c.loop-r.r c.loop-r.matrix _ (omega arith) (omega (arith, c.loop-r.invariant.0, c.loop-r-test.true)) c.loop-r.invariant.1 c.in_ok-write_expanded_row.ensures,
+      present_next row 0 c.loop-r.r c.loop-r.r c.loop-r.matrix _ (omega arith) (omega (arith, c.loop-r.invariant.0, c.loop-r-test.true)) c.loop-r.invariant.1 c.in_ok-write_next_row.ensures.0,
+      c.in_ok-write_next_row.ensures.1,
     )
 
 pub returns-clause-values : goal.returns-clause-values

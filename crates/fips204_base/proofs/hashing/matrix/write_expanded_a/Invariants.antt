@@ -1,6 +1,6 @@
-use Rattle.std.proofs.Common.{◌≡◌, length, map, take, Some}
+use Rattle.std.proofs.Common.{◌≡◌, ◌*◌, length, map, take, Some}
 use Rattle.std.specs.List.{range_with_len}
-use Rattle.fips204_base.specs.Network.{sampled_row}
+use Rattle.fips204_base.specs.SamplerSteps.{AreAhead, sampled_row}
 use Rattle.fips204_base.specs.Sampling.{all_present}
 use Rattle.fips204_base.proofs.hashing.matrix.write_expanded_a.Given as goal
 
@@ -8,3 +8,4 @@ abbrev pub invariant-loop-r : goal.invariant-loop-r
 invariant-loop-r g l =
     (length l.matrix ≡ g.row.K)
     × (all_present (map (sampled_row g.G.Xof.front l.rho g.row.L) (range_with_len 0 l.r)) ≡ Some (take l.r l.matrix))
+    × AreAhead g.G.Xof.front l.rho g.row.L (g.row.K * g.row.L) (l.r * g.row.L) l.ahead

@@ -2,7 +2,7 @@ use Rattle.std.proofs.Common.{◌≡◌, ◌∙◌, ◌+◌, ◌/◌, ◌%◌, �
 use Rattle.std.specs.Prelude.{option_to_list}
 use Rattle.std.specs.Int.{w32}
 use Rattle.fips204_base.specs.Sampling.{coefficient_from_half_byte}
-use Rattle.fips204_base.specs.Network.{kept_half_bytes}
+use Rattle.fips204_base.specs.SamplerSteps.{kept_half_bytes}
 use Rattle.fips204_base.proofs.Sampling.{keeps_there, keeps_joined, kept_half_bytes-zero, kept_half_bytes-more}
 use Rattle.fips204_base.proofs.hashing.small.write_kept_half_bytes.Goals as goal
 

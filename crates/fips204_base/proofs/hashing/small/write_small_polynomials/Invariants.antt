@@ -1,10 +1,13 @@
-use Rattle.std.proofs.Common.{◌≡◌, ◌++◌, length, map, take, nat_abs, Some}
-use Rattle.std.specs.Int.{w16, to_le_bytes}
-use Rattle.std.specs.List.{range_with_len}
-use Rattle.fips204_base.specs.Sampling.{small_polynomial, all_present}
+use Rattle.std.proofs.Common.{◌≡◌, ◌≤◌, ◌-◌, length, nat_abs}
+use Rattle.fips204_base.specs.SamplerSteps.{AreSmall}
 use Rattle.fips204_base.proofs.hashing.small.write_small_polynomials.Given as goal
 
 abbrev pub invariant-loop-r : goal.invariant-loop-r
-invariant-loop-r g l =
-    (length l.polynomials ≡ g.row.N)
-    × (all_present (map (λ r. small_polynomial (nat_abs l.eta) (g.H.Xof.front (l.rho ++ to_le_bytes w16 r))) (range_with_len l.first l.r)) ≡ Some (take l.r l.polynomials))
+invariant-loop-r g l = record {
+  within : l.r ≤ g.row.N;
+  size : length l.polynomials ≡ g.row.N;
+  small : AreSmall (nat_abs l.eta) g.H.Xof.front l.rho l.first l.r l.polynomials;
+}
+
+abbrev pub decreases-loop-r : goal.decreases-loop-r
+decreases-loop-r g l = g.row.N - l.r

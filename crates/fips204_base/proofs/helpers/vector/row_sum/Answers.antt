@@ -1,10 +1,11 @@
-use Rattle.std.proofs.Common.{ℕ, ◌≡◌, ◌<◌, ◌≤◌, ◌*◌, ◌%◌, ◌∙◌, [], arith, rules, ap, sym, subst, length, length-set, pos, get_or, get_or-set_same, get_or-set_other, to_z, of_z, w32, inl, inr}
+use Rattle.std.proofs.lemmas.Grind.{common_steps}
+use Rattle.std.proofs.Common.{ℕ, ◌≡◌, ◌<◌, ◌≤◌, ◌*◌, ◌%◌, ◌∙◌, arith, rules, ap, length, length-set, pos, get_or, get_or-set_same, get_or-set_other, to_z, of_z, w32}
 use Rattle.std.proofs.lemmas.Bool.{cases_eq}
 use Rattle.std.specs.Prelude.{nat_abs}
 use Rattle.fips204_base.specs.Residues.{residue}
 use Rattle.fips204_base.specs.Bounds.{row_value, vector_residues}
 use Rattle.fips204_base.specs.PlainTransforms.{lanes_value}
-use Rattle.std.proofs.lemmas.Int.{to_z-of_z, fits_signed_from_abs}
+use Rattle.std.proofs.lemmas.Int.{to_z-of_z, fits_signed_from_abs, ints}
 use Rattle.fips204_base.proofs.Residues.{size_at, sum_equal}
 use Rattle.fips204_base.proofs.Vectors.{row_written}
 use Rattle.fips204_base.proofs.helpers.vector.row_sum.Goals as goal
@@ -30,20 +31,4 @@ loop-j-preserved g c =
 
 pub loop-k-preserved : goal.loop-k-preserved
 loop-k-preserved g c =
-    let values = c.loop-k.values in
-    let k = c.loop-k.k in
-    let j = c.loop-j.j in
-    let u = c.args.u.now in
-    let x = get_or (get_or u k record { 0 = [] }).0 j (pos 0) in
-    let value = to_z w32 (of_z w32 x) in
-    let within = size_at 8380416 (get_or u k record { 0 = [] }).0 j (c.requires.vector k record { 0 = [] } (omega (arith, c.loop-k-test.true, c.told-u))) in
-    let read : value ≡ x = to_z-of_z w32 x (fits_signed_from_abs w32 x (omega (arith, within))) in
-    let inside : k < length values = omega (arith, c.loop-k-test.true, c.requires.columns, c.loop-k.invariant.size) in
-    record {
-      size = length-set _ _ _ ∙ c.loop-k.invariant.size;
-      values = row_written (λ i y. residue y ≡ vector_residues u i j) values k value (pos 0) inside c.loop-k.invariant.values (ap residue read);
-      small = λ i h. elim (cases_eq i k) [
-        | inl here ↦ rw here (subst (λ y. nat_abs y ≤ 8380416) (sym (get_or-set_same values k value (pos 0) inside ∙ read)) within)
-        | inr other ↦ subst (λ y. nat_abs y ≤ 8380416) (sym (get_or-set_other values k i value (pos 0) other)) (c.loop-k.invariant.small i h)
-      ];
-    }
+    grind (arith, ints, common_steps, size_at, to_z-of_z, fits_signed_from_abs, length-set, row_written, cases_eq, get_or-set_same, get_or-set_other)

@@ -1,20 +1,18 @@
-use Rattle.std.proofs.Common.{◌≡◌, ◌≢◌, ℕ, ◌<◌, ◌∙◌, [], Err, arith, rules, refl}
+use Rattle.std.proofs.Common.{◌≡◌, ◌≢◌, ℕ, ◌<◌, ◌∙◌, [], arith}
 use native.Mathlib.Decide.{dec_lt}
-use Rattle.fips204_base.specs.Network.{sampled_row, plain_row, row_product}
-use Rattle.fips204_base.specs.declared.fault.Fault.TheVariants.{SamplingLimit}
+use Rattle.fips204_base.specs.SamplerSteps.{sampled_row}
+use Rattle.fips204_base.specs.PlainTransforms.{plain_row, row_product}
 use Rattle.fips204_base.specs.Sampling.{sampled_matrix}
 use Rattle.fips204_base.specs.Vectors.{vector_coefficients, matrix_product}
-use Rattle.fips204_base.proofs.Sampled.{matrix-refused, all_present-each, row-within}
+use Rattle.fips204_base.proofs.Sampled.{all_present-each, row-within}
 use Rattle.fips204_base.proofs.product.matrix.write_sampled_product.Goals as goal
 
-pub returns-in_err-write_expanded_row : goal.returns-in_err-write_expanded_row
-returns-in_err-write_expanded_row g c =
-    let refused : c.from_residual.result ≡ Err SamplingLimit = search rules in
-    rw refused (matrix-refused {A = Unit {0}} g.G.Xof.front c.args.rho.now g.row.K g.row.L c.loop-r.r {result = Err SamplingLimit} c.loop-r-test.true c.in_err-write_expanded_row.ensures.0 refl)
+pub loop-r-init : goal.loop-r-init
+loop-r-init g c = record { values = λ i h. absurd (omega (arith, h)); ahead = λ j d within four h. absurd (within (omega arith)) }
 
 pub write_row_product-requires : goal.write_row_product-requires
 write_row_product-requires g c =
-    (omega (arith, c.requires.shape.1), ((omega (arith, c.loop-r-test.true, c.requires.shape.0), c.requires.shape.1), row-within g.G.Xof.front c.args.rho.now g.row.L c.loop-r.r c.write_expanded_row.new.row c.in_ok-write_expanded_row.ensures))
+    (omega (arith, c.requires.shape.1), ((omega (arith, c.loop-r-test.true, c.requires.shape.0), c.requires.shape.1), row-within g.G.Xof.front c.args.rho.now g.row.L c.loop-r.r c.write_next_row.new.row c.in_ok-write_next_row.ensures.0))
 
 pub loop-r-preserved : goal.loop-r-preserved
 loop-r-preserved g c = record {
@@ -25,8 +23,9 @@ loop-r-preserved g c = record {
         (known.0, known.1, λ n l. c.write_row_product.ensures.kept i n other (omega (arith, before, c.loop-r-test.true, c.requires.shape.0)) l ∙ known.2 n l)
     | no now ↦
         let here : i ≡ c.loop-r.r = omega (arith, h, now) in
-        rw here (c.write_expanded_row.new.row, c.in_ok-write_expanded_row.ensures, c.write_row_product.ensures.product)
+        rw here (c.write_next_row.new.row, c.in_ok-write_next_row.ensures.0, c.write_row_product.ensures.product)
   ];
+  ahead = c.in_ok-write_next_row.ensures.1;
 }
 
 pub returns : goal.returns

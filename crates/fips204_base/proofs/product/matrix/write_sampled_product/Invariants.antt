@@ -1,5 +1,6 @@
-use Rattle.std.proofs.Common.{ℕ, ◌≡◌, ◌<◌, List, Some}
-use Rattle.fips204_base.specs.Network.{sampled_row, plain_row, row_product}
+use Rattle.std.proofs.Common.{ℕ, ◌≡◌, ◌<◌, ◌*◌, List, Some}
+use Rattle.fips204_base.specs.SamplerSteps.{AreAhead, sampled_row}
+use Rattle.fips204_base.specs.PlainTransforms.{plain_row, row_product}
 use Rattle.fips204_base.specs.declared.types.T.{T}
 use Rattle.fips204_base.specs.Vectors.{vector_coefficients}
 use Rattle.fips204_base.proofs.product.matrix.write_sampled_product.Given as goal
@@ -8,4 +9,5 @@ abbrev pub invariant-loop-r : goal.invariant-loop-r
 invariant-loop-r g l = record {
   values : (i : ℕ) → i < l.r → (row : List T) × (sampled_row g.G.Xof.front l.rho g.row.L i ≡ Some row)
       × ((n : ℕ) → n < 256 → vector_coefficients l.out i n ≡ row_product g.row.L (plain_row row) (vector_coefficients l.v) n);
+  ahead : AreAhead g.G.Xof.front l.rho g.row.L (g.row.K * g.row.L) (l.r * g.row.L) l.ahead;
 }

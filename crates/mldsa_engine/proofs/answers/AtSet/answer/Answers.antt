@@ -21,7 +21,7 @@ returns-in-Keygen-clause-given g c =
     (λ output. output.success) g.H.Xof.front g.G.Xof.front Keygen g.S.Set.set (Some 32)
     (Generates g.S.Set.set g.H.Xof.front g.G.Xof.front) c.args.lines.now _ _ _
     (λ a output answer told. (a, refl, told)) fit c.index-lines-0-in-Keygen.is
-    (c.array_of.ensures ∙ c.as_slice-in-Keygen.ensures.value) c.make_keys.ensures.given)
+    (c.array_of.ensures ∙ c.as_slice-in-Keygen.ensures.value) c.keygen.ensures.given)
 
 pub returns-in-Sign-clause-given : goal.returns-in-Sign-clause-given
 returns-in-Sign-clause-given g c =
@@ -49,13 +49,6 @@ returns-in-Check-clause-given g c =
     g.G.Xof.front Check p (Some 32) (Some 32) None None (Checks p g.H.Xof.front g.G.Xof.front) _ c.fields-in-Check.result _ _ _ _
     (λ x y z w output answer told. (x, y, z, w, refl, told)) fit c.fields-in-Check.ensures c.array_of-in-Check.ensures
     c.array_of-in-Check-2.ensures c.check.ensures.given)
-
-pub identify-requires : goal.identify-requires
-identify-requires g c =
-    record {
-      key = ap length c.as_slice.ensures.value ∙ ap (λ line. length line.items) c.index-lines-0.is ∙ fits_at (λ line. line.items)
-          (wanted_lines Id g.S.Set.set) c.args.lines.now 0 _ (rw c.in-Id.is at c.requires.fit) refl ∙ sym g.met.S.KeySizes.key_sizes.public_key;
-    }
 
 pub array_of-requires-in-Sign : goal.array_of-requires-in-Sign
 array_of-requires-in-Sign g c =

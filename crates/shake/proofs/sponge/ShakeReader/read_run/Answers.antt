@@ -13,7 +13,7 @@ in_hand g c d =
     let s = c.args.self.now in
     let size : length s.block ≡ g.row.R = search rules in
     elim c.if-self.branch [
-      | then-self w ↦ rw (w.self-is, w.write_block.ensures, w.f1600.ensures, size)
+      | then-self w ↦ rw (w.self-is, w.write_block.ensures.written, w.f1600.ensures, size)
           (next_bytes-made g.row.R s.rate.0 s.rate.1 s.lanes s.block s.given (omega (arith, size, w.if-self.true)) d)
       | else-self w ↦ rw w.self-is refl
     ]

@@ -1,10 +1,5 @@
 use Rattle.std.proofs.Common.{rules, arith, ◌≡◌, ◌∙◌, ℕ, List, [], ap, sym, map, get_or, Result, Err, Bor}
-use Rattle.fips204_base.specs.declared.fault.Fault.{Fault}
-use Rattle.fips204_base.specs.declared.fault.Fault.TheVariants.{SamplingLimit}
-use Rattle.std.proofs.lemmas.List.{get_or-map, length-map}
-use Rattle.fips204.specs.Framing.{plain}
-use Rattle.fips204.specs.Prepared.{sign_prepared}
-use Rattle.fips204_base.proofs.Vectors.{row_written}
+use Rattle.fips204.proofs.Names.{Fault, SamplingLimit, get_or-map, length-map, plain, sign_prepared, row_written}
 use Rattle.fips204.proofs.types.prepared.PreparedPrivateKey.sign_each.Goals as goal
 
 pub loop-i-preserved : goal.loop-i-preserved

@@ -1,7 +1,5 @@
 use Rattle.std.proofs.Common.{◌≡◌, ◌<◌, ℕ, [], length, map, get_or, Err}
-use Rattle.fips204_base.specs.declared.fault.Fault.TheVariants.{SamplingLimit}
-use Rattle.fips204.specs.Framing.{plain}
-use Rattle.fips204.specs.Prepared.{sign_prepared}
+use Rattle.fips204.proofs.Names.{SamplingLimit, plain, sign_prepared}
 use Rattle.fips204.proofs.types.prepared.PreparedPrivateKey.sign_each.Given as goal
 
 abbrev pub invariant-loop-i : goal.invariant-loop-i

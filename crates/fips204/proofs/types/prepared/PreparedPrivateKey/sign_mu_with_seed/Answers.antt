@@ -1,7 +1,5 @@
 use Rattle.std.proofs.Common.{rules, arith, ap, subst}
-use Rattle.fips204_base.specs.Encodings.{PrivateParts, ArePrivateParts}
-use Rattle.fips204.specs.Prepared.{PreparedPrivate}
-use Rattle.fips204.specs.Sets.{HasSizes, set_of}
+use Rattle.fips204.proofs.Names.{PrivateParts, ArePrivateParts, PreparedPrivate, HasSizes, set_of}
 use Rattle.fips204.proofs.ParameterSets.{parts_at_set}
 use Rattle.fips204.proofs.Prepared.{hash_accepted}
 use Rattle.fips204.proofs.types.prepared.PreparedPrivateKey.sign_mu_with_seed.Goals as goal

@@ -1,6 +1,5 @@
 use Rattle.std.proofs.Common.{subst, ap}
-use Rattle.fips204_base.specs.Encodings.{PrivateParts, ArePrivateParts}
-use Rattle.fips204.specs.Prepared.{PreparedPrivate}
+use Rattle.fips204.proofs.Names.{PrivateParts, ArePrivateParts, PreparedPrivate}
 use Rattle.fips204.proofs.ParameterSets.{parts_at_set}
 use Rattle.fips204.proofs.types.prepared.PreparedPrivateKey.tr.Goals as goal
 

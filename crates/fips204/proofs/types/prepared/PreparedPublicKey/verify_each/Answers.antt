@@ -1,9 +1,5 @@
-use Rattle.std.proofs.Common.{rules, arith, ◌≡◌, ◌∙◌, ℕ, List, [], sym, subst, map, get_or, Bool, false, IsTrue, Bor}
-use Rattle.std.specs.Prelude.{◌↔◌}
-use Rattle.std.proofs.lemmas.List.{get_or-map, get_or_default, length-map}
-use Rattle.fips204.specs.Framing.{plain}
-use Rattle.fips204.specs.Prepared.{VerifiesPrepared}
-use Rattle.fips204_base.proofs.Vectors.{row_written}
+use Rattle.std.proofs.Common.{rules, arith, ◌≡◌, ◌∙◌, ℕ, List, [], sym, subst, map, get_or, Bool, false, IsTrue, Bor, ◌↔◌}
+use Rattle.fips204.proofs.Names.{get_or-map, get_or_default, length-map, plain, VerifiesPrepared, row_written}
 use Rattle.fips204.proofs.types.prepared.PreparedPublicKey.verify_each.Goals as goal
 
 pub loop-i-preserved : goal.loop-i-preserved

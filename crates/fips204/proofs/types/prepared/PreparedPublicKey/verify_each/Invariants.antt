@@ -1,7 +1,5 @@
-use Rattle.std.proofs.Common.{◌≡◌, ◌<◌, ℕ, [], length, map, get_or, false, IsTrue}
-use Rattle.std.specs.Prelude.{◌↔◌}
-use Rattle.fips204.specs.Framing.{plain}
-use Rattle.fips204.specs.Prepared.{VerifiesPrepared}
+use Rattle.std.proofs.Common.{◌≡◌, ◌<◌, ℕ, [], length, map, get_or, false, IsTrue, ◌↔◌}
+use Rattle.fips204.proofs.Names.{plain, VerifiesPrepared}
 use Rattle.fips204.proofs.types.prepared.PreparedPublicKey.verify_each.Given as goal
 
 abbrev pub invariant-loop-i : goal.invariant-loop-i

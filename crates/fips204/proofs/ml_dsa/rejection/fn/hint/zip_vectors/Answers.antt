@@ -1,6 +1,5 @@
-use Rattle.std.proofs.Common.{rules, pos, true, false, ◌+ℤ◌, ◌-ℤ◌, w32}
-use Rattle.std.specs.Prelude.{nat_abs}
-use Rattle.std.proofs.lemmas.Int.{to_z-of_z}
+use Rattle.std.proofs.Common.{rules, pos, true, false, ◌+ℤ◌, ◌-ℤ◌, w32, nat_abs}
+use Rattle.fips204.proofs.Names.{to_z-of_z}
 use Rattle.fips204.proofs.RejectionChecks.{hint_bit-is}
 use Rattle.fips204.proofs.ml_dsa.rejection.fn.hint.zip_vectors.Goals as goal
 

@@ -1,5 +1,5 @@
 use Rattle.std.proofs.Common.{rules, ◌∙◌, w32}
-use Rattle.std.proofs.lemmas.Int.{to_z-of_z}
+use Rattle.fips204.proofs.Names.{to_z-of_z}
 use Rattle.fips204.proofs.RejectionChecks.{low_bits-small}
 use Rattle.fips204.proofs.ml_dsa.rejection.fn.low_vector.map_vector.Goals as goal
 

@@ -1,0 +1,26 @@
+// The times of calls of js/out: prints SET CALL wasm MICROSECONDS, the median of 301 calls.
+import { load } from "../../js/out/mldsa.js";
+
+const ROUNDS = 301;
+const sets = await load();
+for (const number of [44, 65, 87]) {
+    const set = sets[`mlDsa${number}`];
+    const taken = { keygen: [], sign: [], verify: [] };
+    const timed = (name, call) => {
+        const start = performance.now();
+        const result = call();
+        taken[name].push(1000 * (performance.now() - start));
+        return result;
+    };
+    for (let round = 0; round < ROUNDS; round++) {
+        const seed = Uint8Array.from({ length: 32 }, (_, i) => [round & 255, round >> 8][i] ?? 0);
+        const { publicKey, privateKey } = timed("keygen", () => set.keygen(seed));
+        const signature = timed("sign", () => set.sign(privateKey, seed, { random: new Uint8Array(32) }));
+        if (!timed("verify", () => set.verify(publicKey, seed, signature))) {
+            throw new Error("a signature was not accepted");
+        }
+    }
+    for (const name in taken) {
+        console.log(number, name, "wasm", Math.round(taken[name].sort((a, b) => a - b)[ROUNDS >> 1]));
+    }
+}

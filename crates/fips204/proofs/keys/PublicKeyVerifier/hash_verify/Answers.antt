@@ -1,9 +1,0 @@
-use Rattle.std.proofs.Common.{rules, refl, List, ℕ}
-use Rattle.fips204.specs.Acceptance.{Verifies}
-use Rattle.fips204.specs.Framing.{hashed}
-use Rattle.fips204.proofs.RefusedCalls.{verified_input}
-use Rattle.fips204.proofs.keys.PublicKeyVerifier.hash_verify.Goals as goal
-
-pub returns-in-Ok : goal.returns-in-Ok
-returns-in-Ok g c =
-    verified_input g.H.Xof.front c.args.self.now.tr c.args.self.now.tr c.in-Ok.mu (hashed c.args.hash.now c.args.ctx.now c.args.hash_oid.now) (λ (mu : List ℕ). Verifies g.S.Set.set g.H.Xof.front g.G.Xof.front c.args.self.now mu c.args.signature.now) c.verify_mu.result refl (search rules) c.verify_mu.ensures

@@ -1,0 +1,100 @@
+-- What is sampled four at a time: fronts that are read in two parts, and entries that are made ahead.
+use Rattle.std.proofs.Common.{◌≡◌, ℕ, ◌+◌, ◌*◌, ◌/◌, ◌%◌, ◌<◌, ◌≤◌, List, [], ◌∷◌, ◌++◌, map, take, drop, set, get_or, length, refl, ap, sym, ◌∙◌, Some, None, ok_or, zero, suc, arith, add-zero, length-drop}
+use Rattle.std.specs.Prelude.{MatchResult}
+use Rattle.std.specs.declared.result.Result.{Result}
+use Rattle.std.specs.declared.option.Option.{Option}
+use Rattle.std.specs.List.{range_with_len}
+use Rattle.std.proofs.lemmas.List.{take-append-drop}
+use Rattle.std.proofs.lemmas.Nat.{div-mul-add, mod-mul-add, div_below, mod_below}
+use Rattle.fips204_base.specs.SamplerSteps.{AreAhead, AreSmall, numbered_entry, sampled_entry, sampled_row, small_vector}
+use Rattle.fips204_base.specs.Sampling.{all_present, sampled_matrix, small_polynomial}
+use Rattle.fips204_base.specs.declared.fault.Fault.{Fault}
+use Rattle.fips204_base.specs.declared.fault.Fault.TheVariants.{SamplingLimit}
+use Rattle.fips204_base.specs.declared.types.R.{R}
+use Rattle.fips204_base.specs.declared.types.T.{T}
+use Rattle.std.specs.Int.{w16, to_le_bytes}
+use Rattle.fips204_base.proofs.Sampled.{all_present-none}
+
+-- ---- a front that is read in two parts
+
+pub parts_joined : {front reader piece rest : List ℕ} (n : ℕ) → reader ≡ front → piece ≡ take n reader → rest ≡ drop n reader → piece ++ rest ≡ front
+parts_joined {front} {reader} {piece} {rest} n same first later = rw (first, later) (take-append-drop n reader ∙ same)
+
+-- what is made of it, where it is said of the parts
+pub of_parts : {A : Type 0} {front reader piece rest : List ℕ} {made : A} (make : List ℕ → A) (n : ℕ) → reader ≡ front → piece ≡ take n reader → rest ≡ drop n reader
+    → make (piece ++ rest) ≡ made → make front ≡ made
+of_parts make n same first later e = ap make (sym (parts_joined n same first later)) ∙ e
+
+pub parts_whole : {front reader rest : List ℕ} (n size : ℕ) → reader ≡ front → rest ≡ drop n reader → length front ≡ size → n ≤ size → n + length rest ≡ size
+parts_whole {front} {reader} {rest} n size same later long enough = omega (arith, ap length later, length-drop n reader, ap length same, long, enough)
+
+-- ---- what is said of a value that may be none
+
+pub sampled_or_none : {A Q : Type 0} {P : A → Type 0} (o : Option A) {result : Result A Fault} → result ≡ ok_or o SamplingLimit → ((x : A) → o ≡ Some x → P x) → (o ≡ None → Q)
+    → MatchResult result P (λ fault. Q × (fault ≡ SamplingLimit))
+sampled_or_none None e some none = rw e (none refl, refl)
+sampled_or_none (Some x) e some none = rw e (some x refl)
+
+-- each of the values is there
+pub present_each : {A : Type 0} (f : ℕ → Option A) (a n : ℕ) (xs : List A) → length xs ≡ n → ((k : ℕ) (d : A) → k < n → f (a + k) ≡ Some (get_or xs k d))
+    → all_present (map f (range_with_len a n)) ≡ Some xs
+unfolding all_present
+present_each f a zero [] size each = refl
+present_each f a zero (x ∷ xs) size each = absurd (omega (arith, size))
+present_each f a (suc n) [] size each = absurd (omega (arith, size))
+present_each f a (suc n) (x ∷ xs) size each =
+    let here : f a ≡ Some x = ap f (sym (add-zero a)) ∙ each 0 x (omega arith) in
+    let later = present_each f (a + 1) n xs (omega (arith, size)) (λ k d h. (let e : a + 1 + k ≡ a + suc k = omega arith in ap f e) ∙ each (suc k) d (omega (arith, h))) in
+    rw (here, later) refl
+
+-- ---- four values
+
+pub below_four : (P : ℕ → Type 0) → P 0 → P 1 → P 2 → P 3 → (j : ℕ) → j < 4 → P j
+below_four P p0 p1 p2 p3 zero h = p0
+below_four P p0 p1 p2 p3 (suc zero) h = p1
+below_four P p0 p1 p2 p3 (suc (suc zero)) h = p2
+below_four P p0 p1 p2 p3 (suc (suc (suc zero))) h = p3
+below_four P p0 p1 p2 p3 (suc (suc (suc (suc n)))) h = absurd (omega arith)
+
+-- four values are written
+pub four_written : {A : Type 0} (f : ℕ → Option A) (n : ℕ) (xs : List A) (a b c d : A) → length xs ≡ 4 → f n ≡ Some a → f (n + 1) ≡ Some b → f (n + 2) ≡ Some c → f (n + 3) ≡ Some d
+    → (j : ℕ) (e : A) → j < 4 → f (n + j) ≡ Some (get_or (set (set (set (set xs 0 a) 1 b) 2 c) 3 d) j e)
+four_written {A} f n (w ∷ x ∷ y ∷ z ∷ []) a b c d size fa fb fc fd j e h =
+    below_four (λ j. f (n + j) ≡ Some (get_or (a ∷ b ∷ c ∷ d ∷ []) j e)) (ap f (add-zero n) ∙ fa) fb fc fd j h
+four_written f n [] a b c d size fa fb fc fd j e h = absurd (omega arith)
+four_written f n (w ∷ []) a b c d size fa fb fc fd j e h = absurd (omega arith)
+four_written f n (w ∷ x ∷ []) a b c d size fa fb fc fd j e h = absurd (omega arith)
+four_written f n (w ∷ x ∷ y ∷ []) a b c d size fa fb fc fd j e h = absurd (omega arith)
+four_written f n (w ∷ x ∷ y ∷ z ∷ v ∷ xs) a b c d size fa fb fc fd j e h = absurd (omega arith)
+
+-- ---- numbers of entries
+
+-- an entry of the matrix is none, and so is the matrix
+pub matrix-none : (G : List ℕ → List ℕ) (rho : List ℕ) (k l n : ℕ) → 0 < l → n < k * l → numbered_entry G rho l n ≡ None → sampled_matrix G rho k l ≡ None
+unfolding sampled_matrix
+matrix-none G rho k l n some place e =
+    let row = all_present-none (sampled_entry G rho (n / l)) 0 l (n % l) (n % l) (mod_below n l some) (omega arith) e in
+    all_present-none (sampled_row G rho l) 0 k (n / l) (n / l) (div_below n l k some place) (omega arith) row
+
+-- where a place is within, there are columns
+pub some_columns : (k l n : ℕ) → n < k * l → 0 < l
+some_columns k zero n h = absurd (omega (arith, h))
+some_columns k (suc l) n h = omega arith
+
+pub entry-numbered : (G : List ℕ → List ℕ) (rho : List ℕ) (l r s : ℕ) → s < l → numbered_entry G rho l (r * l + s) ≡ sampled_entry G rho r s
+entry-numbered G rho l r s h = rw (div-mul-add r l s h, mod-mul-add r l s h) refl
+
+-- no other entry of the four is ahead where fewer than four are left
+pub ahead-last : (G : List ℕ → List ℕ) (rho : List ℕ) (l count n : ℕ) (ahead : List T) → count < n / 4 * 4 + 4 → AreAhead G rho l count (n + 1) ahead
+ahead-last G rho l count n ahead e j d within four h = absurd (omega (arith, e, four, within))
+
+-- ---- small polynomials
+
+pub small_vector-none : (eta : ℕ) (H : List ℕ → List ℕ) (rho : List ℕ) (first n r : ℕ) → r < n → small_polynomial eta (H (rho ++ to_le_bytes w16 (first + r))) ≡ None → small_vector eta H rho first n ≡ None
+unfolding small_vector
+small_vector-none eta H rho first n r h none = all_present-none (λ r. small_polynomial eta (H (rho ++ to_le_bytes w16 r))) first n r (first + r) h refl none
+
+pub small_vector-each : (eta : ℕ) (H : List ℕ → List ℕ) (rho : List ℕ) (first n : ℕ) (polynomials : List R) → length polynomials ≡ n → AreSmall eta H rho first n polynomials
+    → small_vector eta H rho first n ≡ Some polynomials
+unfolding small_vector
+small_vector-each eta H rho first n polynomials size each = present_each (λ r. small_polynomial eta (H (rho ++ to_le_bytes w16 r))) first n polynomials size each

@@ -1,0 +1,23 @@
+//! What follows for programs from the contracts of the calls. A law computes nothing.
+#![tactic(auto)]
+
+ghost use Rattle.fips204.specs.ParameterSets.{ParameterSet};
+ghost use Rattle.fips204_base.specs.Streams.{XOF};
+ghost use Rattle.fips204_bytes.specs.Mu.{MuStandsForInput};
+ghost use Rattle.fips204_bytes.specs.Pairs.{PairsBelong};
+
+use fips204::laws::signed_is_accepted;
+
+/// The keys that one call of `keygen` wrote belong together: unless a length is wrong, `verify` says yes to what `sign`
+/// wrote, `check_private_key`, `is_whole` and `is_pair` say yes, and `public_key` writes the public key.
+pub fn pair_accepts_written()
+    ensures { PairsBelong }
+{
+    signed_is_accepted();
+}
+
+/// Signing the hash mu of an input that breaks no condition is signing that input, where mu is made with the `tr` in the
+/// private key's bytes; and verifying it is verifying that input, where mu is made with the hash of the public key's bytes.
+pub fn mu_stands_for_input()
+    ensures { (p : ParameterSet) (H G : XOF) → MuStandsForInput p H G }
+{}

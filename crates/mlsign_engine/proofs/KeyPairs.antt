@@ -1,0 +1,327 @@
+-- The keys of a file are a pair, and what they sign is valid for the public key's file.
+use Rattle.std.proofs.Common.{◌≡◌, ℕ, ◌<◌, ◌≤◌, List, [], ◌∷◌, ◌++◌, length, take, drop, Bool, true, false, not, ltb, nat_eq, Result, Ok, Err, refl, sym, ap, subst, ◌∙◌, append_assoc, arith, IsTrue, inl, inr, ◌↔◌, Option, None, rules}
+use Rattle.std.proofs.lemmas.Bool.{le-ltb, not-false, eq-eqb, eqb-true}
+use Rattle.std.proofs.lemmas.List.{take_at, drop_at, length-append}
+use Rattle.std.specs.Prelude.{MatchBool, MatchResult, ⊤}
+use Rattle.std.specs.Str.{bytes_eq}
+use Rattle.std.proofs.lemmas.Slice.Eq.{bytes_eq-Decides}
+use Rattle.fips204.specs.fault.Fault.{Fault}
+use Rattle.fips204.specs.Framing.{plain, represented, representative}
+use Rattle.fips204.specs.Keys.{DecodesPrivate}
+use Rattle.fips204.specs.Encodings.{PublicParts, PrivateParts, ArePrivateParts, IsPublicKeyOf, IsPrivateKeyOf, public_key_bytes, private_key_bytes, vector_bytes}
+use Rattle.fips204.specs.Acceptance.{Verifies}
+use Rattle.fips204.specs.Completeness.{SignedIsAccepted, AcceptsSigned, IsPair, TellsPair, BytesTellKeys}
+use Rattle.fips204.specs.ParameterSets.{ParameterSet, public_key_length, private_key_length, signature_length, IsSet}
+use Rattle.fips204.specs.Refusals.{generated, derived, input_fault, sign_input, VerifiesInput}
+use Rattle.fips204.specs.Signing.{sign}
+use Rattle.fips204.specs.Sets.{named_set}
+use Rattle.fips204.specs.declared.sets.SetName.{SetName}
+use Rattle.fips204.specs.declared.sets.SetName.TheVariants.{MlDsa44, MlDsa65, MlDsa87}
+use Rattle.fips204_bytes.specs.Bytes as bytes
+use Rattle.fips204_bytes.specs.declared.refusal.Array.{Array}
+use Rattle.fips204_bytes.specs.declared.refusal.Array.TheVariants.{Signature}
+use Rattle.fips204_bytes.specs.declared.refusal.Refusal.{Refusal}
+use Rattle.fips204_bytes.specs.declared.refusal.Refusal.TheVariants as refusal
+use Rattle.fips204_shake.specs.Fronts.{shake256_front, shake128_front, length-shake256_front}
+use Rattle.mlsign_files.specs.Keys.{PrivateParts as FileParts, Seed, Expanded, Both}
+use Rattle.mlsign_files.specs.declared.pem.Kind.TheVariants.{Public, Private}
+use Rattle.mlsign_files.proofs.Elements.{ok_is}
+use Rattle.mlsign_files.proofs.PemFiles.{pem_of_text}
+use Rattle.mlsign_files.proofs.KeyFiles.{public_of_file, private_of_file}
+use Rattle.mlsign_engine.specs.Commands.{HasKeys, HasNoKeys, IsRefused, FailsToGenerate, IsValid, HasPublicBytes, IsPublicText, IsPrivateText, Signs, Judges, PublishedIsValid, SignedIsValid, public_text_at, private_text_at}
+use Rattle.mlsign_engine.specs.InnerSteps.{HasPrivateBytes, HasNoKeysOrMemory}
+use Rattle.mlsign_engine.specs.declared.fault.CommandFault.TheVariants.{Key, Inconsistent, Library, Context, Memory, Message}
+use Rattle.mlsign_engine.specs.declared.fault.CommandFault.{CommandFault}
+
+long_fronts : (x : List ℕ) → 4096 ≤ length (shake256_front x)
+long_fronts x = omega (arith, length-shake256_front x)
+
+pub known_set : (set : SetName) → IsSet (named_set set)
+known_set MlDsa44 = inl refl
+known_set MlDsa65 = inr (inl refl)
+known_set MlDsa87 = inr (inr refl)
+
+-- what a seed generates is a pair
+pub keys_of_seed : (p : ParameterSet) (law : SignedIsAccepted) → IsSet p → (seed : List ℕ) (pk : PublicParts) (sk : PrivateParts)
+    → generated p shake256_front shake128_front seed ≡ Ok (pk, sk) → HasKeys p (Seed seed) pk sk
+keys_of_seed p law known seed pk sk made =
+    record { stands = made; pair = ((law p shake256_front shake128_front pk sk known long_fronts).1 seed made).0 }
+
+-- bytes that a test does not tell apart
+pub not_different : (a b : List ℕ) (r : Bool) → r ≡ not (bytes_eq a b) → r ≡ false → a ≡ b
+not_different a b r is other = (bytes_eq-Decides a b).0 (not-false _ (sym is ∙ other))
+
+short_context : (message context : List ℕ) → length context ≤ 255 → input_fault (plain message context) ≡ None
+short_context message context short =
+    let test : ltb 255 (length context) ≡ false = le-ltb _ _ short in rw test refl
+
+-- an answer of the library is one
+library_is : {A : Type 0} (x y : A) (r : Result A Fault) → r ≡ Ok x → r ≡ Ok y → x ≡ y
+library_is x y r first second = cc
+
+made_or_refused : {A : Type 0} (x : A) (fault : Fault) (r : Result A Fault) → r ≡ Ok x → r ≡ Err fault → ⊥
+made_or_refused x fault r made refused = cc
+
+-- ---- what the calls over bytes answer, where arrays have their lengths
+
+pub sized : {X : Type 0} (Y : Type 0) (wanted : ℕ) (array : List ℕ) → length array ≡ wanted → MatchBool (nat_eq (length array) wanted) X Y → X
+sized {X} Y wanted array is told = subst (λ (b : Bool). MatchBool b X Y) (eq-eqb _ _ is) told
+
+-- a refusal of the library, of which this is so
+abbrev pub RefusedBy : (Fault → Type 0) → Refusal → Type 0
+RefusedBy P why = (fault : Fault) × (why ≡ refusal.Library fault) × P fault
+
+-- keygen writes the keys of a seed
+pub seed_written : (p : ParameterSet) (law : SignedIsAccepted) → IsSet p → (seed public public' private private' : List ℕ) (answer : Result ⊤ Refusal)
+    → length public ≡ public_key_length p → length private ≡ private_key_length p → length private' ≡ private_key_length p
+    → bytes.Generates p shake256_front shake128_front seed public public' private private' answer
+    → MatchResult answer (λ _. HasPrivateBytes p (Seed seed) private') (RefusedBy (IsRefused p (Seed seed)))
+seed_written p law known seed public public' private private' answer first second size told =
+    case_of (generated p shake256_front shake128_front seed) refl (sized _ _ private second (sized _ _ public first told))
+  where
+    case_of : (made : Result (PublicParts × PrivateParts) Fault) → generated p shake256_front shake128_front seed ≡ made
+        → MatchResult made (λ pair. (public' ≡ bytes.bytes_of_public pair.0) × (private' ≡ private_key_bytes p.eta pair.1) × (answer ≡ Ok tt))
+        (λ fault. (public' ≡ public) × bytes.Leaves private private' answer (refusal.Library fault))
+        → MatchResult answer (λ _. HasPrivateBytes p (Seed seed) private') (RefusedBy (IsRefused p (Seed seed)))
+    case_of (Ok (pk, sk)) is (_, same, done) = rw done (record { pk = pk; sk = sk; keys = keys_of_seed p law known seed pk sk is; is = same; size = size })
+    case_of (Err fault) is (_, (_, failed)) = rw failed (fault, refl, is)
+
+-- the keys of a seed whose private one has the bytes beside it, and that has others
+pub keys_of_both : (p : ParameterSet) (seed expanded private : List ℕ) → HasPrivateBytes p (Seed seed) private → private ≡ expanded
+    → HasPrivateBytes p (Both seed expanded) private
+keys_of_both p seed expanded private has same =
+    record { pk = has.pk; sk = has.sk; keys = record { stands = (has.keys.stands, sym same ∙ has.is); pair = has.keys.pair }; is = has.is; size = has.size }
+
+pub others_beside : (p : ParameterSet) (seed expanded private : List ℕ) → HasPrivateBytes p (Seed seed) private → ¬ (private ≡ expanded)
+    → HasNoKeys p (Both seed expanded) Inconsistent
+others_beside p seed expanded private has differ = (
+  λ pk sk keys.
+      let same = library_is (has.pk, has.sk) (pk, sk) _ has.keys.stands keys.stands.0 in
+      differ (has.is ∙ ap (λ (pair : PublicParts × PrivateParts). private_key_bytes p.eta pair.1) same ∙ sym keys.stands.1),
+  λ fault refused. made_or_refused (has.pk, has.sk) fault _ has.keys.stands refused,
+)
+
+-- the key of a seed is consistent, or refused
+pub generating_fails : (algorithm : SetName) (law : SignedIsAccepted) (seed : List ℕ) (fault : CommandFault)
+    → HasNoKeysOrMemory (named_set algorithm) (Seed seed) fault → FailsToGenerate algorithm seed fault
+generating_fails algorithm law seed (Key fault) fails = fails
+generating_fails algorithm law seed (Library fault) fails = fails
+generating_fails algorithm law seed Context fails = fails
+generating_fails algorithm law seed Memory fails = fails
+generating_fails algorithm law seed Message fails = fails
+generating_fails algorithm law seed Inconsistent (none, taken) =
+    case_of (generated (named_set algorithm) shake256_front shake128_front seed) refl
+  where
+    case_of : (made : Result (PublicParts × PrivateParts) Fault) → generated (named_set algorithm) shake256_front shake128_front seed ≡ made → ⊥
+    case_of (Ok (pk, sk)) is = none pk sk (keys_of_seed (named_set algorithm) law (known_set algorithm) seed pk sk is)
+    case_of (Err fault) is = taken fault is
+
+one_private : (p : ParameterSet) (law : BytesTellKeys p) (key : List ℕ) (a b : PrivateParts)
+    → IsPrivateKeyOf p.eta p.k p.l key a → IsPrivateKeyOf p.eta p.k p.l key b → a ≡ b
+one_private p law key a b first second = law.private_keys a b first.parts second.parts (first.encoding ∙ sym second.encoding)
+
+-- an expanded key that decodes is one of a pair, or of none
+no_pair : (p : ParameterSet) (law : BytesTellKeys p) (expanded : List ℕ) (pk : PublicParts) (sk : PrivateParts)
+    → IsPrivateKeyOf p.eta p.k p.l expanded sk → derived p shake128_front sk ≡ Ok pk → ¬ (IsPair p shake256_front shake128_front pk sk)
+    → HasNoKeys p (Expanded expanded) Inconsistent
+no_pair p law expanded pk sk is derives never = (
+  λ pk' sk' keys.
+      let same : sk' ≡ sk = one_private p law expanded sk' sk keys.stands is in
+      let key : pk' ≡ pk = library_is pk' pk _ (ap (derived p shake128_front) (sym same) ∙ keys.pair.derives) derives in
+      never (subst (λ (k : PublicParts). IsPair p shake256_front shake128_front k sk) key
+      (subst (λ (s : PrivateParts). IsPair p shake256_front shake128_front pk' s) same keys.pair)),
+  λ fault (sk', is', refused).
+      made_or_refused pk fault _ derives (ap (derived p shake128_front) (one_private p law expanded sk sk' is is') ∙ refused),
+)
+
+pub not_a_pair : (p : ParameterSet) (law : BytesTellKeys p) (expanded : List ℕ) (answer : Result Bool Refusal) → length expanded ≡ private_key_length p
+    → bytes.ChecksPair p shake256_front shake128_front expanded answer → answer ≡ Ok false → HasNoKeys p (Expanded expanded) Inconsistent
+not_a_pair p law expanded answer size told answered = case_of (sized _ _ expanded size told)
+  where
+    case_of : bytes.WithPrivate p expanded (λ sk. (told : Result Bool Fault) × TellsPair p shake256_front shake128_front sk told × bytes.Tells told answer) (λ why. answer ≡ Err why)
+        → HasNoKeys p (Expanded expanded) Inconsistent
+    case_of (Ok sk, is, (Ok true, _, done)) = absurd cc
+    case_of (Ok sk, is, (Ok false, (pk, derives, tells), done)) = no_pair p law expanded pk sk is derives (λ pair. let yes = tells.1 pair in cc)
+    case_of (Ok sk, is, (Err fault, _, failed)) = absurd cc
+    case_of (Err fault, _, failed) = absurd cc
+
+-- ---- what is done with the bytes of a file's private key
+
+decodes_own : (p : ParameterSet) (pk : PublicParts) (sk : PrivateParts) → IsPair p shake256_front shake128_front pk sk → (decoded : Result PrivateParts Fault)
+    → DecodesPrivate p.eta p.k p.l (private_key_bytes p.eta sk) decoded → decoded ≡ Ok sk
+decodes_own p pk sk pair (Ok other) is = ap Ok ((pair.private_decoded other).0 is)
+decodes_own p pk sk pair (Err fault) (_, none) = absurd (none sk ((pair.private_decoded sk).1 refl))
+
+-- what is said of the key that the bytes decode to is said of that one
+uses_own : (p : ParameterSet) (parts : FileParts) (key : List ℕ) (has : HasPrivateBytes p parts key) (uses : PrivateParts → Type 0) (refuses : Refusal → Type 0)
+    → bytes.WithPrivate p key uses refuses → uses has.sk
+uses_own p parts key has uses refuses (decoded, decodes, told) =
+    let own = decodes_own p has.pk has.sk has.keys.pair decoded (subst (λ (z : List ℕ). DecodesPrivate p.eta p.k p.l z decoded) has.is decodes) in
+    subst (λ (d : Result PrivateParts Fault). MatchResult d uses (λ fault. refuses (refusal.Library fault))) own told
+
+tr_of_bytes : (eta k l : ℕ) (sk : PrivateParts) → ArePrivateParts eta k l sk → take 64 (drop 64 (private_key_bytes eta sk)) ≡ sk.tr
+tr_of_bytes eta k l sk parts =
+    let front = sk.rho ++ sk.key in
+    let one = vector_bytes eta eta sk.s1 in
+    let two = vector_bytes eta eta sk.s2 in
+    let three = vector_bytes 4095 4096 sk.t0 in
+    let size : length front ≡ 64 = omega (arith, length-append sk.rho sk.key, parts.rho, parts.key) in
+    let joined : private_key_bytes eta sk ≡ front ++ (sk.tr ++ (one ++ (two ++ three))) =
+    append_assoc ((front ++ sk.tr) ++ one) two three ∙ append_assoc (front ++ sk.tr) one (two ++ three) ∙ append_assoc front sk.tr (one ++ (two ++ three)) in
+    ap (λ (z : List ℕ). take 64 (drop 64 z)) joined ∙ ap (take 64) (drop_at front (sk.tr ++ (one ++ (two ++ three))) 64 size)
+    ∙ take_at sk.tr (one ++ (two ++ three)) 64 parts.tr
+
+-- signing the hash of a message signs the message
+same_input : (p : ParameterSet) (parts : FileParts) (key random context message mu : List ℕ) (has : HasPrivateBytes p parts key) → length context ≤ 255
+    → mu ≡ representative shake256_front (take 64 (drop 64 key)) (plain message context)
+    → sign_input p shake256_front shake128_front has.sk random (represented mu) ≡ sign_input p shake256_front shake128_front has.sk random (plain message context)
+same_input p parts key random context message mu has short hashed =
+    let tr = ap (λ (z : List ℕ). take 64 (drop 64 z)) has.is ∙ tr_of_bytes p.eta p.k p.l has.sk has.keys.pair.parts in
+    let hash : mu ≡ representative shake256_front has.sk.tr (plain message context) =
+    hashed ∙ ap (λ (z : List ℕ). representative shake256_front z (plain message context)) tr in
+    rw (short_context message context short) (ap (λ (z : List ℕ). sign p shake256_front shake128_front has.sk z random) hash)
+
+-- the signature is that of the message, and valid
+pub record IsSigned (p : ParameterSet) (parts : FileParts) (random context message signature : List ℕ) : Type 0 where
+  pub pk : PublicParts
+  pub sk : PrivateParts
+  pub keys : HasKeys p parts pk sk
+  pub signed : sign_input p shake256_front shake128_front sk random (plain message context) ≡ Ok signature
+  pub accepted : IsValid p pk signature context message
+
+abbrev pub CannotSign : ParameterSet → FileParts → List ℕ → List ℕ → List ℕ → Fault → Type 0
+CannotSign p parts random context message fault = (pk : PublicParts) × (sk : PrivateParts) × HasKeys p parts pk sk
+    × (sign_input p shake256_front shake128_front sk random (plain message context) ≡ Err fault)
+
+pub signature_written : (p : ParameterSet) (law : SignedIsAccepted) → IsSet p → (parts : FileParts) (key random context message mu old new : List ℕ) (answer : Result ⊤ Refusal)
+    → HasPrivateBytes p parts key → length old ≡ signature_length p → length new ≡ signature_length p
+    → length context ≤ 255 → mu ≡ representative shake256_front (take 64 (drop 64 key)) (plain message context)
+    → bytes.Signs p shake256_front shake128_front key random (represented mu) old new answer
+    → MatchResult answer (λ _. IsSigned p parts random context message new) (RefusedBy (CannotSign p parts random context message))
+signature_written p law known parts key random context message mu old new answer has second size short hashed told =
+    case_of (sign_input p shake256_front shake128_front has.sk random (represented mu)) (sym (same_input p parts key random context message mu has short hashed))
+    (uses_own p parts key has (λ sk. bytes.Writes (λ signature. signature) (sign_input p shake256_front shake128_front sk random (represented mu)) old new answer)
+    (bytes.Leaves old new answer) (sized _ _ old second (sized _ _ key has.size told)))
+  where
+    case_of : (made : Result (List ℕ) Fault) → sign_input p shake256_front shake128_front has.sk random (plain message context) ≡ made
+        → bytes.Writes (λ signature. signature) made old new answer
+        → MatchResult answer (λ _. IsSigned p parts random context message new) (RefusedBy (CannotSign p parts random context message))
+    case_of (Ok signature) is (same, done) =
+        let pair = has.keys.pair in
+        let signed = is ∙ ap Ok (sym same) in
+        let accepts : AcceptsSigned p shake256_front shake128_front has.pk has.sk =
+        ((law p shake256_front shake128_front has.pk has.sk known long_fronts).0 pair.parts pair.whole pair.derives).0 in
+        rw done (record { pk = has.pk; sk = has.sk; keys = has.keys; signed = signed; accepted = (size, accepts random new (plain message context) signed) })
+    case_of (Err fault) is (_, failed) = rw failed (fault, refl, (has.pk, has.sk, has.keys, is))
+
+-- the library's fault is not that of a long context
+pub other_fault : {A : Type 0} (r : Result A CommandFault) (fault : Fault) (context : List ℕ) → r ≡ Err (Library fault) → length context ≤ 255
+    → (r ≡ Err Context) ↔ (255 < length context)
+other_fault r fault context is short = (λ e. absurd cc, λ long. absurd (omega (arith, long, short)))
+
+pub signs_of : (algorithm : SetName) (parts : FileParts) (private random context message signature : List ℕ) → IsPrivateText private algorithm parts
+    → IsSigned (named_set algorithm) parts random context message signature → Signs private random context message signature
+signs_of algorithm parts private random context message signature text is = record {
+  algorithm = algorithm;
+  parts = parts;
+  text = text;
+  pk = is.pk;
+  sk = is.sk;
+  keys = is.keys;
+  signed = is.signed;
+  accepted = is.accepted;
+}
+
+-- the public key of a file's private one is written
+pub public_written : (p : ParameterSet) (parts : FileParts) (key old new : List ℕ) (answer : Result ⊤ Refusal)
+    → HasPrivateBytes p parts key → length old ≡ public_key_length p
+    → bytes.Derives p shake128_front key old new answer → HasPublicBytes p parts new × (answer ≡ Ok tt)
+public_written p parts key old new answer has second told =
+    let derives : bytes.Writes bytes.bytes_of_public (derived p shake128_front has.sk) old new answer =
+    uses_own p parts key has (λ sk. bytes.Writes bytes.bytes_of_public (derived p shake128_front sk) old new answer) (bytes.Leaves old new answer)
+    (sized _ _ old second (sized _ _ key has.size told)) in
+    let done : (new ≡ bytes.bytes_of_public has.pk) × (answer ≡ Ok tt) = rw has.keys.pair.derives at derives in
+    (record { pk = has.pk; sk = has.sk; keys = has.keys; is = done.0 }, done.1)
+
+-- ---- what is accepted by the public key that has these bytes
+
+abbrev pub IsValidUnder : ParameterSet → List ℕ → List ℕ → List ℕ → List ℕ → Type 0
+IsValidUnder p key signature context message = (pk : PublicParts) × IsPublicKeyOf shake256_front p.k key pk × IsValid p pk signature context message
+
+pub verdict_told : (p : ParameterSet) (law : BytesTellKeys p) (key signature context message mu : List ℕ) (answer : Result Bool Refusal)
+    → length key ≡ public_key_length p → length context ≤ 255
+    → mu ≡ representative shake256_front (take 64 (shake256_front key)) (plain message context)
+    → bytes.Judges p shake256_front shake128_front key (represented mu) signature answer
+    → MatchResult answer (λ valid. IsTrue valid ↔ IsValidUnder p key signature context message) (λ _. ¬ (IsValidUnder p key signature context message))
+verdict_told p law key signature context message mu answer size short hashed told =
+    case_of (nat_eq (length signature) (signature_length p)) refl (sized _ _ key size told)
+  where
+    one_public_key : (a b : PublicParts) → IsPublicKeyOf shake256_front p.k key a → IsPublicKeyOf shake256_front p.k key b → a ≡ b
+    one_public_key a b first second = law.public_keys a b first.parts second.parts (first.tr ∙ sym second.tr) (first.encoding ∙ sym second.encoding)
+
+    same_verdict : (pk : PublicParts) → IsPublicKeyOf shake256_front p.k key pk
+        → VerifiesInput p shake256_front shake128_front pk signature (represented mu) ↔ VerifiesInput p shake256_front shake128_front pk signature (plain message context)
+    same_verdict pk is =
+        let hash : mu ≡ representative shake256_front pk.tr (plain message context) =
+        hashed ∙ ap (λ (z : List ℕ). representative shake256_front z (plain message context)) (sym is.tr) in (
+          λ accepted. (short_context message context short, subst (λ (z : List ℕ). Verifies p shake256_front shake128_front pk z signature) hash accepted.1),
+          λ accepted. (refl, subst (λ (z : List ℕ). Verifies p shake256_front shake128_front pk z signature) (sym hash) accepted.1),
+        )
+
+    case_of : (fits : Bool) → nat_eq (length signature) (signature_length p) ≡ fits
+        → MatchBool fits (bytes.TellsVerdict p shake256_front shake128_front key (represented mu) signature answer) (answer ≡ Err (refusal.Length Signature))
+        → MatchResult answer (λ valid. IsTrue valid ↔ IsValidUnder p key signature context message) (λ _. ¬ (IsValidUnder p key signature context message))
+    case_of true fits (pk, is, (verdict, tells, done)) = rw done (
+      λ yes. (pk, is, (eqb-true _ _ fits, (same_verdict pk is).0 (tells.0 yes))),
+      λ (other, is', (_, accepted)).
+          tells.1 ((same_verdict pk is).1 (subst (λ (k : PublicParts). VerifiesInput p shake256_front shake128_front k signature (plain message context)) (one_public_key other pk is' is) accepted)),
+    )
+    case_of false fits failed = rw failed (λ (_, _, (size, _)). let true_is = eq-eqb _ _ size in cc)
+
+-- ---- what keygen wrote, sign reads, and verify reads
+
+read_public : (text : List ℕ) (x : SetName × List ℕ) → IsPublicText text x.0 x.1 → public_text_at text ≡ Ok x
+read_public text x has = rw (pem_of_text text Public has.der has.spelled) (public_of_file has.der x.0 x.1 has.file)
+
+read_private : (text : List ℕ) (x : SetName × FileParts) → IsPrivateText text x.0 x.1 → private_text_at text ≡ Ok x
+read_private text x has = rw (pem_of_text text Private has.der has.spelled) (private_of_file has.der x.0 x.1 has.file)
+
+-- what a public key accepts is valid for the text that has its bytes
+judged_valid : (algorithm : SetName) (pk : PublicParts) (public signature context message : List ℕ) (valid : Bool)
+    → IsPublicKeyOf shake256_front (named_set algorithm).k (public_key_bytes pk.rho pk.t1) pk
+    → IsPublicText public algorithm (public_key_bytes pk.rho pk.t1) → Judges public signature context message valid
+    → IsValid (named_set algorithm) pk signature context message → IsTrue valid
+judged_valid algorithm pk public signature context message valid decoded text judges accepted =
+    let key : List ℕ = public_key_bytes pk.rho pk.t1 in
+    let e = ok_is _ _ (sym (read_public public (judges.algorithm, judges.bytes) judges.text) ∙ read_public public (algorithm, key) text) in
+    (subst (λ (x : SetName × List ℕ). IsTrue valid ↔ IsValidUnder (named_set x.0) x.1 signature context message) e judges.answer).1 (pk, decoded, accepted)
+
+-- a file has one public key
+one_public : (p : ParameterSet) (parts : FileParts) (x y : PublicParts) (a b : PrivateParts) → HasKeys p parts x a → HasKeys p parts y b → x ≡ y
+one_public p (Seed seed) x y a b first second = ap (λ (z : PublicParts × PrivateParts). z.0) (library_is (x, a) (y, b) _ first.stands second.stands)
+one_public p (Both seed expanded) x y a b first second =
+    ap (λ (z : PublicParts × PrivateParts). z.0) (library_is (x, a) (y, b) _ first.stands.0 second.stands.0)
+one_public p (Expanded expanded) x y a b first second =
+    let moved : IsPrivateKeyOf p.eta p.k p.l (private_key_bytes p.eta b) a =
+    subst (λ (bytes : List ℕ). IsPrivateKeyOf p.eta p.k p.l bytes a) (sym second.stands.encoding) first.stands in
+    let same : a ≡ b = (second.pair.private_decoded a).0 moved in
+    library_is x y _ first.pair.derives (ap (derived p shake128_front) same ∙ second.pair.derives)
+
+pub published_valid : PublishedIsValid
+published_valid private public random context message signature valid published signs judges =
+    let algorithm = published.0 in
+    let parts = published.2.0 in
+    let made = published.2.2 in
+    let e = ok_is _ _ (sym (read_private private (signs.algorithm, signs.parts) signs.text) ∙ read_private private (algorithm, parts) published.2.1) in
+    let moved : HasKeys (named_set algorithm) parts signs.pk signs.sk × IsValid (named_set algorithm) signs.pk signature context message =
+    subst (λ (x : SetName × FileParts). HasKeys (named_set x.0) x.1 signs.pk signs.sk × IsValid (named_set x.0) signs.pk signature context message) e
+    (signs.keys, signs.accepted) in
+    let same : signs.pk ≡ made.pk = one_public (named_set algorithm) parts signs.pk made.pk signs.sk made.sk moved.0 made.keys in
+    judged_valid algorithm made.pk public signature context message valid ((made.keys.pair.public_decoded made.pk).1 refl)
+    (subst (λ (bytes : List ℕ). IsPublicText public algorithm bytes) made.is published.3) judges
+    (subst (λ (pk : PublicParts). IsValid (named_set algorithm) pk signature context message) same moved.1)
+
+pub signed_valid : SignedIsValid
+signed_valid algorithm seed private public random context message signature valid made signs judges =
+    published_valid private public random context message signature valid
+    (algorithm, made.bytes, (Seed seed, made.private_text, made.keys), made.public_text) signs judges

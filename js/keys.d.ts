@@ -1,0 +1,10 @@
+/** Why a file is no public key. `message` is a sentence about "it", the file. */
+export class KeyFileError extends Error {
+    readonly name: "KeyFileError";
+}
+
+/**
+ * Reads a public key as `mlsign` and OpenSSL write it, PEM of a SubjectPublicKeyInfo (RFC 9881, RFC 7468): the bytes of the file, or
+ * its text. Throws a `KeyFileError` for anything else.
+ */
+export function readPublicKey(file: Uint8Array | string): { set: 44 | 65 | 87; publicKey: Uint8Array };

@@ -1,0 +1,85 @@
+/** A call that the library refused. `message` has the text of the status, as `mldsa_text` of c/mldsa.h gives it. */
+export class MlDsaError extends Error {
+    readonly name: "MlDsaError";
+    /** 2, or 4 to 16: MLDSA_WRONG_LENGTH and so on in c/mldsa.h. */
+    readonly status: number;
+}
+
+/** Whether this engine can run the library: whether it has 64-bit WebAssembly memories. */
+export function isSupported(): boolean;
+
+/** Object identifiers of hash functions in DER, as `hashSign` and `hashVerify` take them. */
+export const oids: Readonly<
+    Record<
+        | "SHA-224" | "SHA-256" | "SHA-384" | "SHA-512" | "SHA-512/224" | "SHA-512/256"
+        | "SHA3-224" | "SHA3-256" | "SHA3-384" | "SHA3-512" | "SHAKE128" | "SHAKE256",
+        Uint8Array
+    >
+>;
+
+export interface KeyPair {
+    publicKey: Uint8Array;
+    privateKey: Uint8Array;
+}
+
+export interface Context {
+    /** What the signature is for, at most 255 bytes; by default empty. A signature is valid under its context only. */
+    context?: Uint8Array;
+}
+
+export interface Random {
+    /** 32 secret bytes, used once; by default drawn from `crypto.getRandomValues`. Zeros sign deterministically. */
+    random?: Uint8Array;
+}
+
+/** A message that is hashed in pieces. */
+export interface MessageHasher {
+    /** Adds the next piece, of any length, and gives the hasher itself. */
+    update(piece: Uint8Array): MessageHasher;
+    /** The `mu` of all pieces so far. More may follow. */
+    mu(): Uint8Array;
+}
+
+/**
+ * A parameter set of FIPS 204. Each call throws a `TypeError` for an argument that is no `Uint8Array`, and an `MlDsaError`
+ * for an array of the wrong length and where it says so. Calls are synchronous, and wipe the module's memory when they end;
+ * the arrays that you pass and those that you get are yours to wipe.
+ */
+export interface MlDsa {
+    /** `ML-DSA-44`, `ML-DSA-65` or `ML-DSA-87`. */
+    readonly name: string;
+    /** The lengths of arrays, in bytes. */
+    readonly lengths: Readonly<Record<"seed" | "random" | "mu" | "publicKey" | "privateKey" | "signature", number>>;
+    /** Makes the key pair of a seed of 32 bytes, or of one that `crypto.getRandomValues` draws. */
+    keygen(seed?: Uint8Array): KeyPair;
+    /** The public key that belongs to a private one. */
+    publicKey(privateKey: Uint8Array): Uint8Array;
+    /** Signs a message. Throws for a context that is too long, and for a private key that is none. */
+    sign(privateKey: Uint8Array, message: Uint8Array, options?: Context & Random): Uint8Array;
+    /** Whether the public key accepts the signature of the message under the context. */
+    verify(publicKey: Uint8Array, message: Uint8Array, signature: Uint8Array, options?: Context): boolean;
+    /** Signs the digest of a message that a hash function made, whose object identifier is `oid`. */
+    hashSign(privateKey: Uint8Array, digest: Uint8Array, oid: Uint8Array, options?: Context & Random): Uint8Array;
+    /** Whether the public key accepts the signature of the digest under the context. */
+    hashVerify(publicKey: Uint8Array, digest: Uint8Array, oid: Uint8Array, signature: Uint8Array, options?: Context): boolean;
+    /** Begins a message in pieces that `verifyMu` is to judge. Throws for a context that is too long. */
+    messageHasher(publicKey: Uint8Array, options?: Context): MessageHasher;
+    /** Begins a message in pieces that `signMu` is to sign, by the hash `tr` that the private key keeps. */
+    messageHasherOfPrivate(privateKey: Uint8Array, options?: Context): MessageHasher;
+    /** Signs the message with this `mu` of 64 bytes (FIPS 204, Algorithm 7, line 6), which a `MessageHasher` gives. */
+    signMu(privateKey: Uint8Array, mu: Uint8Array, options?: Random): Uint8Array;
+    /** Whether the public key accepts the signature of the message with this `mu`. */
+    verifyMu(publicKey: Uint8Array, mu: Uint8Array, signature: Uint8Array): boolean;
+    /** Throws unless the bytes are a private key. Each call with a private key asks that too. */
+    checkPrivateKey(privateKey: Uint8Array): void;
+    /** Whether a private key from elsewhere works: whether what it signs is accepted under the key that `publicKey` gives. */
+    isPair(privateKey: Uint8Array): boolean;
+    /** The same without a look at its hash `tr`: whether its part t0 belongs to its parts s1 and s2. */
+    isWhole(privateKey: Uint8Array): boolean;
+}
+
+/**
+ * Loads the WebAssembly module and gives the three parameter sets: from a URL, from its bytes, or compiled already; by default
+ * from `mldsa.wasm` beside this file. Throws an `Error` where the engine has no 64-bit memories.
+ */
+export function load(source?: string | URL | BufferSource | WebAssembly.Module): Promise<Readonly<Record<"mlDsa44" | "mlDsa65" | "mlDsa87", MlDsa>>>;

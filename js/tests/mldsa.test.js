@@ -1,0 +1,365 @@
+// The calls, over the package of js/out.
+import assert from "node:assert/strict";
+import { readFileSync } from "node:fs";
+import test from "node:test";
+import * as all from "../out/mldsa.js";
+import { readPublicKey } from "../out/keys.js";
+import { SEED, hex, ofOpenssl, sha256, shake, text, utf8 } from "./shared.js";
+
+const { MlDsaError, isSupported, load, oids } = all;
+const place = new URL("../out/mldsa.wasm", import.meta.url);
+const code = readFileSync(place);
+const sets = await load();
+const ZEROS = new Uint8Array(32);
+const of = (number) => sets[`mlDsa${number}`];
+const refused = (status) => (error) => error instanceof MlDsaError && error.status === status && error.message === TEXTS[status];
+
+/** The texts and numbers of the header. */
+const header = text("c/mldsa.h");
+const numbers = Object.fromEntries([...header.matchAll(/(MLDSA_\w+) = (\d+)/g)].map(([, name, number]) => [name, Number(number)]));
+const TEXTS = Object.fromEntries([...header.matchAll(/case (MLDSA_\w+): return "(.*)";/g)].map(([, name, words]) => [numbers[name], words]));
+
+test("72 recorded keys and signatures, and those of digests", () => {
+    const rows = text("scripts/run-definitions.tsv").split("\n").filter((line) => line && line[0] !== "#").map((line) => line.split("\t"));
+    assert.equal(rows.filter((row) => row.length === 8).length, 72);
+    for (const [number, ...fields] of rows) {
+        const set = of(number);
+        const [seed, random, context, message] = fields.slice(0, 4).map(hex);
+        const { publicKey, privateKey } = set.keygen(seed);
+        const oid = fields[7] === undefined ? undefined : hex(fields[7]);
+        const signature = oid ? set.hashSign(privateKey, message, oid, { context, random }) : set.sign(privateKey, message, { context, random });
+        assert.deepEqual([publicKey, privateKey, signature].map(sha256), fields.slice(4, 7));
+        assert.equal(oid ? set.hashVerify(publicKey, message, oid, signature, { context }) : set.verify(publicKey, message, signature, { context }), true);
+        assert.deepEqual(set.publicKey(privateKey), publicKey);
+        assert.equal(set.isWhole(privateKey), true);
+        assert.equal(set.isPair(privateKey), true);
+        set.checkPrivateKey(privateKey);
+    }
+});
+
+/** C2SP's CCTV, "accumulated": the SHAKE128 of 100 public keys and signatures. */
+const ACCUMULATED = {
+    44: "d51148e1f9f4fa1a723a6cf42e25f2a99eb5c1b378b3d2dbbd561b1203beeae4",
+    65: "8358a1843220194417cadbc2651295cd8fc65125b5a5c1a239a16dc8b57ca199",
+    87: "8c3ad714777622b8f21ce31bb35f71394f23bc0fcf3c78ace5d608990f3b061b",
+};
+for (const number in ACCUMULATED) {
+    test(`the published value of 100 keys and signatures of ML-DSA-${number}`, () => {
+        const set = of(number);
+        const seeds = shake("shake128", "", 3200);
+        const parts = [];
+        for (let at = 0; at < 3200; at += 32) {
+            const { publicKey, privateKey } = set.keygen(seeds.subarray(at, at + 32));
+            const signature = set.sign(privateKey, utf8(""), { random: ZEROS });
+            assert.equal(set.verify(publicKey, utf8(""), signature), true);
+            parts.push(publicKey, signature);
+        }
+        assert.equal(Buffer.from(shake("shake128", Buffer.concat(parts), 32)).toString("hex"), ACCUMULATED[number]);
+    });
+}
+
+test("keys and signatures of OpenSSL", () => {
+    for (const number of [44, 65, 87]) {
+        const { pem, signature } = ofOpenssl(number);
+        const read = readPublicKey(pem);
+        assert.equal(read.set, number);
+        assert.deepEqual(of(number).keygen(SEED).publicKey, read.publicKey);
+        assert.equal(of(number).verify(read.publicKey, utf8("message"), signature, { context: utf8("context") }), true);
+        assert.equal(of(number).verify(read.publicKey, utf8("message"), signature), false);
+        assert.equal(of(number).verify(read.publicKey, utf8("massage"), signature, { context: utf8("context") }), false);
+    }
+});
+
+test("lengths and texts are those of the header", () => {
+    for (const number of [44, 65, 87]) {
+        const { publicKey, privateKey, signature, seed, random, mu } = of(number).lengths;
+        for (const [name, length] of Object.entries({ PUBLIC_KEY: publicKey, PRIVATE_KEY: privateKey, SIGNATURE: signature })) {
+            assert.equal(length, Number(header.match(new RegExp(`#define MLDSA${number}_${name}_LEN (\\d+)`))[1]));
+        }
+        for (const [name, length] of Object.entries({ SEED: seed, RANDOM: random, MU: mu })) {
+            assert.equal(length, Number(header.match(new RegExp(`#define MLDSA_${name}_LEN (\\d+)`))[1]));
+        }
+    }
+    for (const status in TEXTS) {
+        if (status > 1) {
+            assert.equal(new MlDsaError(Number(status)).message, TEXTS[status]);
+        }
+    }
+    assert.equal(Object.keys(TEXTS).length, 13);
+});
+
+test("each array of a wrong length is refused", () => {
+    for (const number of [44, 65, 87]) {
+        const set = of(number);
+        const { publicKey, privateKey } = set.keygen(SEED);
+        const mu = new Uint8Array(64);
+        const signature = set.signMu(privateKey, mu);
+        const message = utf8("m");
+        const digest = new Uint8Array(32);
+        const oid = oids["SHA-256"];
+        const wrong = (array) => [array.subarray(1), new Uint8Array([...array, 0]), new Uint8Array(0)];
+        const calls = [
+            ...wrong(SEED).map((it) => () => set.keygen(it)),
+            ...wrong(privateKey).flatMap((it) => [
+                () => set.publicKey(it), () => set.sign(it, message), () => set.hashSign(it, digest, oid), () => set.signMu(it, mu),
+                () => set.checkPrivateKey(it), () => set.isWhole(it),
+            ]),
+            ...wrong(publicKey).flatMap((it) => [
+                () => set.verify(it, message, signature), () => set.hashVerify(it, digest, oid, signature), () => set.verifyMu(it, mu, signature),
+            ]),
+            ...wrong(signature).flatMap((it) => [
+                () => set.verify(publicKey, message, it), () => set.hashVerify(publicKey, digest, oid, it), () => set.verifyMu(publicKey, mu, it),
+            ]),
+            ...wrong(mu).flatMap((it) => [() => set.signMu(privateKey, it), () => set.verifyMu(publicKey, it, signature)]),
+            ...wrong(ZEROS).flatMap((it) => [
+                () => set.sign(privateKey, message, { random: it }), () => set.hashSign(privateKey, digest, oid, { random: it }),
+                () => set.signMu(privateKey, mu, { random: it }),
+            ]),
+        ];
+        for (const call of calls) {
+            assert.throws(call, refused(2));
+        }
+    }
+});
+
+test("what signing refuses otherwise", () => {
+    for (const number of [44, 65, 87]) {
+        const set = of(number);
+        const { publicKey, privateKey } = set.keygen(SEED);
+        const digest = new Uint8Array(32);
+        const oid = oids["SHA-256"];
+        const context = new Uint8Array(256);
+        const signature = set.sign(privateKey, digest);
+        assert.throws(() => set.sign(privateKey, digest, { context }), refused(4));
+        assert.equal(set.verify(publicKey, digest, signature, { context }), false);
+        assert.throws(() => set.hashSign(privateKey, digest, oid, { context }), refused(6));
+        assert.throws(() => set.hashSign(privateKey, digest, new Uint8Array(0)), refused(7));
+        assert.throws(() => set.hashSign(privateKey, digest, oid.subarray(1)), refused(8));
+        assert.throws(() => set.hashSign(privateKey, new Uint8Array(1025), new Uint8Array([6, 1, 42])), refused(9));
+        assert.throws(() => set.hashSign(privateKey, digest.subarray(1), oid), refused(10));
+        const damaged = privateKey.slice();
+        damaged[128] = 255; // a coefficient of s1 above eta
+        assert.throws(() => set.sign(damaged, digest), refused(14));
+        assert.throws(() => set.publicKey(damaged), refused(14));
+        assert.throws(() => set.checkPrivateKey(damaged), refused(14));
+        const other = privateKey.slice();
+        other[other.length - 1] ^= 1; // of t0
+        assert.equal(set.isWhole(other), false);
+    }
+});
+
+test("what is no Uint8Array is refused", () => {
+    const { publicKey, privateKey } = sets.mlDsa44.keygen(SEED);
+    const wrong = ["text", [1, 2], null, new Uint16Array(4), new ArrayBuffer(4)];
+    for (const it of wrong) {
+        assert.throws(() => sets.mlDsa44.keygen(it), TypeError);
+        assert.throws(() => sets.mlDsa44.sign(privateKey, it), TypeError);
+        assert.throws(() => sets.mlDsa44.sign(privateKey, ZEROS, { context: it }), TypeError);
+        assert.throws(() => sets.mlDsa44.verify(publicKey, ZEROS, it), TypeError);
+    }
+    assert.throws(() => sets.mlDsa44.verify(publicKey, ZEROS), TypeError);
+});
+
+test("each changed signature, message and key is rejected", () => {
+    const set = sets.mlDsa65;
+    const { publicKey, privateKey } = set.keygen(SEED);
+    const message = utf8("a message");
+    const signature = set.sign(privateKey, message);
+    for (const array of [publicKey, message, signature]) {
+        for (let bit = 0; bit < 8 * array.length; bit += array === message ? 1 : 997) {
+            array[bit >> 3] ^= 1 << (bit & 7);
+            assert.equal(set.verify(publicKey, message, signature), false);
+            array[bit >> 3] ^= 1 << (bit & 7);
+        }
+    }
+    assert.equal(set.verify(publicKey, message, signature), true);
+});
+
+test("digests of each hash function", () => {
+    const sizes = { "SHA-224": 28, "SHA-256": 32, "SHA-384": 48, "SHA-512": 64, "SHA-512/224": 28, "SHA-512/256": 32, "SHA3-224": 28, "SHA3-256": 32, "SHA3-384": 48, "SHA3-512": 64, SHAKE128: 32, SHAKE256: 64 };
+    assert.deepEqual(Object.keys(oids).sort(), Object.keys(sizes).sort());
+    const set = sets.mlDsa44;
+    const { publicKey, privateKey } = set.keygen(SEED);
+    for (const [name, size] of Object.entries(sizes)) {
+        const digest = shake("shake256", name, size);
+        const signature = set.hashSign(privateKey, digest, oids[name], { context: utf8(name) });
+        assert.equal(set.hashVerify(publicKey, digest, oids[name], signature, { context: utf8(name) }), true);
+        assert.equal(set.hashVerify(publicKey, digest, oids[name], signature), false);
+        assert.equal(set.verify(publicKey, digest, signature, { context: utf8(name) }), false);
+        assert.throws(() => set.hashSign(privateKey, new Uint8Array(size + 1), oids[name]), refused(10));
+        // M' of FIPS 204, Algorithm 4.
+        const tr = shake("shake256", publicKey, 64);
+        const mu = shake("shake256", Buffer.concat([tr, Buffer.from([1, name.length]), utf8(name), oids[name], digest]), 64);
+        assert.equal(set.verifyMu(publicKey, mu, signature), true);
+    }
+});
+
+test("a message that was hashed beforehand", () => {
+    for (const number of [44, 65, 87]) {
+        const set = of(number);
+        const { publicKey, privateKey } = set.keygen(SEED);
+        const context = utf8("context");
+        const mu = shake("shake256", Buffer.concat([shake("shake256", publicKey, 64), Buffer.from([0, context.length]), context, utf8("message")]), 64);
+        const signature = set.signMu(privateKey, mu, { random: ZEROS });
+        assert.deepEqual(signature, set.sign(privateKey, utf8("message"), { context, random: ZEROS }));
+        assert.equal(set.verifyMu(publicKey, mu, signature), true);
+        mu[63] ^= 1;
+        assert.equal(set.verifyMu(publicKey, mu, signature), false);
+    }
+});
+
+test("a message in pieces", () => {
+    for (const number of [44, 65, 87]) {
+        const set = of(number);
+        const { publicKey, privateKey } = set.keygen(SEED);
+        const context = utf8("context");
+        const message = shake("shake256", "pieces", 1000);
+        const signature = set.sign(privateKey, message, { context, random: ZEROS });
+        for (const cut of [0, 1, 60, 136, 999, 1000]) {
+            const hasher = set.messageHasher(publicKey, { context }).update(message.subarray(0, cut));
+            hasher.mu();
+            const mu = hasher.update(message.subarray(cut)).mu();
+            assert.deepEqual(set.messageHasherOfPrivate(privateKey, { context }).update(message.subarray(0, cut)).update(message.subarray(cut)).mu(), mu);
+            assert.deepEqual(mu, shake("shake256", Buffer.concat([shake("shake256", publicKey, 64), Buffer.from([0, 7]), context, message]), 64));
+            assert.deepEqual(set.signMu(privateKey, mu, { random: ZEROS }), signature);
+            assert.equal(set.verifyMu(publicKey, mu, signature), true);
+        }
+        assert.throws(() => set.messageHasher(publicKey, { context: new Uint8Array(256) }), refused(4));
+        assert.throws(() => set.messageHasher(publicKey.subarray(1)), refused(2));
+        assert.throws(() => set.messageHasher(publicKey).update("text"), TypeError);
+        assert.equal(set.isPair(privateKey), true);
+        privateKey[64] ^= 1; // of tr
+        assert.deepEqual([set.isWhole(privateKey), set.isPair(privateKey)], [true, false]);
+    }
+});
+
+test("where none is given, random bytes are drawn, used and wiped", (t) => {
+    const seen = [];
+    const draw = crypto.getRandomValues.bind(crypto);
+    t.mock.method(crypto, "getRandomValues", (array) => {
+        draw(array);
+        seen.push([array, array.slice()]);
+        return array;
+    });
+    const set = sets.mlDsa44;
+    const pair = set.keygen();
+    assert.deepEqual(set.keygen(seen[0][1]), pair);
+    const signature = set.sign(pair.privateKey, utf8("m"));
+    assert.deepEqual(set.sign(pair.privateKey, utf8("m"), { random: seen[1][1] }), signature);
+    set.hashSign(pair.privateKey, new Uint8Array(32), oids["SHA-256"]);
+    set.signMu(pair.privateKey, new Uint8Array(64));
+    assert.equal(seen.length, 4);
+    for (const [array, was] of seen) {
+        assert.equal(was.length, 32);
+        assert.notDeepEqual(was, ZEROS);
+        assert.deepEqual(array, ZEROS);
+    }
+    assert.throws(() => set.sign(pair.privateKey, utf8("m"), { context: new Uint8Array(256) }), refused(4));
+    assert.deepEqual(seen[4][0], ZEROS);
+});
+
+test("each call leaves the memory as it was at first", async (t) => {
+    const instances = [];
+    const instantiate = WebAssembly.instantiate;
+    t.mock.method(WebAssembly, "instantiate", async (...words) => {
+        const instance = await instantiate.call(WebAssembly, ...words);
+        instances.push(instance);
+        return instance;
+    });
+    const { mlDsa87 } = await load(code);
+    const { memory, __heap_base, mldsa87_keygen } = instances[0].exports;
+    const first = Buffer.from(memory.buffer.slice(0));
+    const isClean = () => {
+        const now = Buffer.from(memory.buffer);
+        return now.subarray(0, first.length).equals(first) && now.subarray(first.length).every((byte) => byte === 0);
+    };
+    const { publicKey, privateKey } = mlDsa87.keygen(SEED);
+    assert.ok(isClean());
+    const signature = mlDsa87.sign(privateKey, new Uint8Array(300000));
+    assert.ok(memory.buffer.byteLength > first.length);
+    assert.ok(isClean());
+    assert.equal(mlDsa87.verify(publicKey, new Uint8Array(300000), signature), true);
+    assert.ok(isClean());
+    assert.throws(() => mlDsa87.sign(privateKey, signature, { context: new Uint8Array(256) }), refused(4));
+    assert.ok(isClean());
+    mlDsa87.isWhole(privateKey);
+    assert.ok(isClean());
+    // The module itself leaves something.
+    const base = __heap_base.value;
+    mldsa87_keygen(base, 32n, base + 64n, 2592n, base + 4096n, 4896n);
+    assert.ok(!isClean());
+});
+
+test("each call leaves an eighth of the module's stack untouched", async () => {
+    const { exports } = await WebAssembly.instantiate(await WebAssembly.compile(code), {});
+    const base = exports.__heap_base.value;
+    const memory = new Uint8Array(exports.memory.buffer);
+    const size = memory.findIndex((byte) => byte !== 0); // constants follow the stack
+    assert.equal(size, 512 << 10);
+    const [seed, pk, sk, oid] = [[base, 32n], [base + 1024n, 2592n], [base + 4096n, 4896n], [base + 64n, 11n]];
+    const signature = [base + 10240n, 4627n];
+    memory.set(oids["SHA-256"], Number(oid[0]));
+    const calls = { keygen: [seed, pk, sk], hash_sign: [sk, seed, seed, oid, seed, signature], hash_verify: [pk, seed, seed, oid, signature], public_key: [sk, pk], is_whole: [sk] };
+    for (const [name, words] of Object.entries(calls)) {
+        memory.fill(0xa5, 0, size);
+        assert.equal(exports[`mldsa87_${name}`](...words.flat()), 0);
+        const used = size - memory.findIndex((byte) => byte !== 0xa5);
+        assert.ok(used > 100000 && 9 * used <= 8 * size, `${name} uses ${used}`);
+    }
+});
+
+test("long messages", () => {
+    const set = sets.mlDsa44;
+    const { publicKey, privateKey } = set.keygen(SEED);
+    const message = shake("shake256", "long", 5 << 20);
+    const signature = set.sign(privateKey, message, { random: ZEROS });
+    const mu = shake("shake256", Buffer.concat([shake("shake256", publicKey, 64), Buffer.from([0, 0]), message]), 64);
+    assert.deepEqual(set.signMu(privateKey, mu, { random: ZEROS }), signature);
+    assert.equal(set.verify(publicKey, message, signature), true);
+    message[message.length - 1] ^= 1;
+    assert.equal(set.verify(publicKey, message, signature), false);
+});
+
+test("a set's calls do not disturb another's", () => {
+    const pairs = [44, 65, 87].map((number) => [of(number), of(number).keygen(SEED)]);
+    const signatures = pairs.map(([set, { privateKey }]) => set.sign(privateKey, SEED, { random: ZEROS }));
+    pairs.forEach(([set, { publicKey, privateKey }], i) => {
+        assert.deepEqual(set.sign(privateKey, SEED, { random: ZEROS }), signatures[i]);
+        assert.equal(set.verify(publicKey, SEED, signatures[i]), true);
+    });
+});
+
+test("loads from a URL, its text, bytes and a module", async () => {
+    const wanted = sets.mlDsa44.keygen(SEED);
+    const module = await WebAssembly.compile(code);
+    for (const source of [undefined, place, place.href, code, new Uint8Array(code), new Uint8Array(code).buffer, module]) {
+        assert.deepEqual((await load(source)).mlDsa44.keygen(SEED), wanted);
+    }
+    await assert.rejects(load(new URL("absent.wasm", place)), { code: "ENOENT" });
+    await assert.rejects(load(new Uint8Array([0, 1, 2])), WebAssembly.CompileError);
+});
+
+test("without 64-bit memories loading says so", async (t) => {
+    assert.equal(isSupported(), true);
+    t.mock.method(WebAssembly, "validate", () => false);
+    assert.equal(isSupported(), false);
+    await assert.rejects(load(code), /no 64-bit WebAssembly memories/);
+});
+
+test("the module takes nothing from its host, and has each call of the header", async () => {
+    const module = await WebAssembly.compile(code);
+    assert.deepEqual(WebAssembly.Module.imports(module), []);
+    const names = WebAssembly.Module.exports(module).map(({ name }) => name);
+    const declared = [...header.matchAll(/^uint32_t (\w+)\(/gm)].map(([, name]) => name);
+    assert.deepEqual(names.filter((name) => name.startsWith("mldsa")).sort(), declared.sort());
+});
+
+test("the types declare what there is", () => {
+    const types = text("js/mldsa.d.ts");
+    const exported = [...types.matchAll(/^export (?:class|function|const) (\w+)/gm)].map(([, name]) => name);
+    assert.deepEqual(exported.sort(), Object.keys(all).sort());
+    const inside = types.match(/export interface MlDsa \{(.*?)^\}/ms)[1];
+    const calls = [...inside.matchAll(/^ {4}(\w+)\(/gm)].map(([, name]) => name);
+    const prototype = Object.getPrototypeOf(sets.mlDsa44);
+    assert.deepEqual(calls.sort(), Object.getOwnPropertyNames(prototype).filter((name) => name !== "constructor").sort());
+});

@@ -1,0 +1,22 @@
+// What the tests share: recorded values of the repository.
+import { createHash } from "node:crypto";
+import { readFileSync } from "node:fs";
+
+const top = new URL("../../", import.meta.url);
+export const text = (name) => readFileSync(new URL(name, top), "utf8");
+export const hex = (digits) => new Uint8Array(Buffer.from(digits, "hex"));
+export const sha256 = (bytes) => createHash("sha256").update(bytes).digest("hex");
+export const shake = (name, bytes, length) => new Uint8Array(createHash(name, { outputLength: length }).update(bytes).digest());
+export const utf8 = (words) => new TextEncoder().encode(words);
+
+/** Keys and signatures that OpenSSL 4.0.0 wrote: the public key of the seed 00 01 .. 1F as PEM, and its signature of `message` under
+ * the context `context`. */
+export function ofOpenssl(number) {
+    const source = text("crates/mlsign_runs/src/recorded.rt");
+    const found = (name) => source.match(new RegExp(`pub static ${name}_${number}: &(?:\\[u8\\]|str) = b?"\\\\\\n(.*?)";`, "s"))[1];
+    const lines = (name) => found(name).replace(/\\\n */g, "").replace(/^ */gm, "");
+    return { pem: lines("PUBLIC").replaceAll("\\n", "\n"), signature: new Uint8Array(Buffer.from(lines("SIGNATURE").replaceAll("\\n", ""), "base64")) };
+}
+
+/** The numbers from 0 to 31. */
+export const SEED = Uint8Array.from({ length: 32 }, (_, i) => i);

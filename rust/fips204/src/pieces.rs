@@ -1,0 +1,70 @@
+//! Messages that come in pieces.
+
+use crate::library;
+use crate::wiped::Wiped;
+
+const STATE_LEN: usize = 337;
+
+/// Hashes a message in pieces to `mu`, which `try_sign_mu` signs and `verify_mu` verifies as `try_sign` and `verify` do the
+/// whole message. It is begun by `message_hasher` of a key. With the feature `default-rng` it is an `io::Write`.
+///
+/// ```
+/// # #[cfg(all(feature = "ml-dsa-65", feature = "default-rng"))] {
+/// use fips204::ml_dsa_65;
+/// use fips204::traits::Signer;
+///
+/// let (public, private) = ml_dsa_65::try_keygen()?;
+/// let signature = private.try_sign(b"a long message", b"a context")?;
+///
+/// let mut hasher = public.message_hasher(b"a context")?;
+/// hasher.update(b"a long ");
+/// hasher.update(b"message");
+/// assert!(public.verify_mu(&hasher.finalize(), &signature));
+/// # }
+/// # Ok::<(), &'static str>(())
+/// ```
+#[derive(Clone)]
+pub struct MessageHasher(Wiped<STATE_LEN>);
+
+impl MessageHasher {
+    /// A hasher whose state a call of the library writes.
+    pub(crate) fn begun(begin: impl FnOnce(&mut [u8]) -> u32) -> Result<Self, &'static str> {
+        let mut state = Wiped([0; STATE_LEN]);
+        let status = begin(&mut state.0);
+        library::answer(status, Self(state))
+    }
+
+    /// Adds a piece to the end of the message.
+    pub fn update(&mut self, piece: &[u8]) {
+        // The state was written by the library, which answers no other status for such a one.
+        let status = library::mu_update(piece, &mut self.0.0);
+        debug_assert_eq!(status, library::DONE);
+    }
+
+    /// The hash `mu` of the message.
+    #[must_use]
+    pub fn finalize(self) -> [u8; 64] {
+        let mut mu = [0; 64];
+        let status = library::mu_finish(&self.0.0, &mut mu);
+        debug_assert_eq!(status, library::DONE);
+        mu
+    }
+}
+
+impl core::fmt::Debug for MessageHasher {
+    fn fmt(&self, f: &mut core::fmt::Formatter<'_>) -> core::fmt::Result {
+        f.debug_struct("MessageHasher").finish_non_exhaustive()
+    }
+}
+
+#[cfg(feature = "default-rng")]
+impl std::io::Write for MessageHasher {
+    fn write(&mut self, piece: &[u8]) -> std::io::Result<usize> {
+        self.update(piece);
+        Ok(piece.len())
+    }
+
+    fn flush(&mut self) -> std::io::Result<()> {
+        Ok(())
+    }
+}

@@ -1,0 +1,114 @@
+// Stands before the C library of a program, for scripts/mlsign-program: counts the program's calls of the system, and refuses or
+// interrupts one. Of the environment:
+//
+//     STATED_BYTES    getentropy gives the bytes 0, 1, 2 .. where 32 are wanted
+//     CALLS           a file that gets the name of each call, a line each
+//     REFUSED_CALL    which call is refused, from 1 on
+//     REFUSED_ERROR   the error that it gives
+//     REFUSED_ON      also every later call that changes a file or a folder is refused
+//     REFUSED_SIGNAL  the call raises this signal in place of giving an error
+//     RACED           a file that another program makes just before this one gives its name to another
+#define _GNU_SOURCE
+#include <dirent.h>
+#include <dlfcn.h>
+#include <errno.h>
+#include <fcntl.h>
+#include <signal.h>
+#include <stdarg.h>
+#include <stdlib.h>
+#include <string.h>
+#include <sys/stat.h>
+#include <sys/syscall.h>
+#include <sys/types.h>
+#include <unistd.h>
+
+static long count;
+
+static int refused(const char *name, int changes) {
+    const char *calls = getenv("CALLS"), *which = getenv("REFUSED_CALL"), *number = getenv("REFUSED_SIGNAL");
+    ++count;
+    if (calls) {
+        int fd = syscall(SYS_openat, AT_FDCWD, calls, O_WRONLY | O_CREAT | O_APPEND, 0600);
+        syscall(SYS_write, fd, name, strlen(name));
+        syscall(SYS_write, fd, "\n", 1);
+        syscall(SYS_close, fd);
+    }
+    if (!which || !(count == atol(which) || (getenv("REFUSED_ON") && count > atol(which) && changes)))
+        return 0;
+    if (number) {
+        signal(atoi(number), SIG_DFL);
+        raise(atoi(number));
+    }
+    errno = atoi(getenv("REFUSED_ERROR"));
+    return 1;
+}
+
+#define REAL(name) ((__typeof__(&name))dlsym(RTLD_NEXT, #name))
+
+static int opened(int folder, const char *path, int flags, va_list rest) {
+    int mode = flags & O_CREAT ? va_arg(rest, int) : 0;
+    if (refused(flags & O_CREAT ? "create" : "open", flags & O_CREAT))
+        return -1;
+    return syscall(SYS_openat, folder, path, flags, mode);
+}
+
+int open(const char *path, int flags, ...) {
+    va_list rest;
+    va_start(rest, flags);
+    int fd = opened(AT_FDCWD, path, flags, rest);
+    va_end(rest);
+    return fd;
+}
+
+int openat(int folder, const char *path, int flags, ...) {
+    va_list rest;
+    va_start(rest, flags);
+    int fd = opened(folder, path, flags, rest);
+    va_end(rest);
+    return fd;
+}
+
+ssize_t read(int fd, void *room, size_t size) { return refused("read", 0) ? -1 : syscall(SYS_read, fd, room, size); }
+
+// What is written to standard error says how the run ended, so that passes.
+ssize_t write(int fd, const void *bytes, size_t size) {
+    return fd != 2 && refused("write", 1) ? -1 : syscall(SYS_write, fd, bytes, size);
+}
+
+int fsync(int fd) { return refused("fsync", 1) ? -1 : syscall(SYS_fsync, fd); }
+
+static void race(const char *path) {
+    const char *raced = getenv("RACED");
+    if (raced && !strcmp(raced, path))
+        syscall(SYS_close, syscall(SYS_openat, AT_FDCWD, path, O_WRONLY | O_CREAT | O_EXCL, 0600));
+}
+
+int link(const char *from, const char *to) {
+    race(to);
+    return refused("link", 1) ? -1 : REAL(link)(from, to);
+}
+
+int rename(const char *from, const char *to) {
+    race(to);
+    return refused("rename", 1) ? -1 : REAL(rename)(from, to);
+}
+
+int unlink(const char *path) { return refused("unlink", 1) ? -1 : REAL(unlink)(path); }
+
+char *realpath(const char *path, char *room) { return refused("realpath", 0) ? NULL : REAL(realpath)(path, room); }
+
+ssize_t getdents64(int fd, void *room, size_t size) { return refused("getdents64", 0) ? -1 : syscall(SYS_getdents64, fd, room, size); }
+
+int statx(int folder, const char *path, int flags, unsigned mask, struct statx *found) {
+    return refused("statx", 0) ? -1 : REAL(statx)(folder, path, flags, mask, found);
+}
+
+int getentropy(void *room, size_t size) {
+    if (refused("getentropy", 0))
+        return -1;
+    if (!getenv("STATED_BYTES") || size != 32)
+        return REAL(getentropy)(room, size);
+    for (size_t place = 0; place < size; ++place)
+        ((unsigned char *)room)[place] = place;
+    return 0;
+}
