@@ -26,6 +26,7 @@ pub mod EncodedParts
 pub mod CounterStreams
 pub mod Vectors
 pub mod PlainTransforms
+mod Names
 mod WorkedArithmetic
 mod WorkedBounds
 mod WorkedBytes

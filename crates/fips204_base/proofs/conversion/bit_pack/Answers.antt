@@ -1,11 +1,6 @@
 use Rattle.std.proofs.Common.{arith, ◌≡◌, ◌+◌, ◌*◌, ◌-◌, ◌≤◌, ◌∙◌, refl, ap, length, length-take, length-drop, take, drop, w32, to_z, of_z}
-use Rattle.std.proofs.lemmas.Int.{to_z-of_z, ints}
-use Rattle.std.proofs.lemmas.List.{map-append, take_all}
+use Rattle.fips204_base.proofs.Names.{to_z-of_z, ints, map-append, take_all, common_steps, field, polynomial_bytes-is, is_packed, packs_none, packs_joined, length-put_mid, put_piece, piece-within}
 use Rattle.std.proofs.Math.Seq.{take-add}
-use Rattle.std.proofs.lemmas.Grind.{common_steps}
-use Rattle.fips204_base.specs.EncodingSteps.{field}
-use Rattle.fips204_base.proofs.Packing.{polynomial_bytes-is, is_packed, packs_none, packs_joined}
-use Rattle.fips204_base.proofs.VectorBytes.{length-put_mid, put_piece, piece-within}
 use Rattle.fips204_base.proofs.conversion.bit_pack.Goals as goal
 
 pub loop-i-init : goal.loop-i-init

@@ -1,5 +1,5 @@
 use Rattle.std.proofs.Common.{◌≡◌, ◌*◌, take, length, map}
-use Rattle.fips204_base.specs.EncodingSteps.{Packs, field}
+use Rattle.fips204_base.proofs.Names.{Packs, field}
 use Rattle.fips204_base.proofs.conversion.bit_pack.Given as goal
 
 abbrev pub invariant-loop-i : goal.invariant-loop-i

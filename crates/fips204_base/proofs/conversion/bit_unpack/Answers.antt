@@ -1,17 +1,6 @@
-use Rattle.std.proofs.lemmas.Grind.{common_steps}
+use Rattle.fips204_base.proofs.Names.{common_steps, iff_false, to_z-of_z, ints, map-append, take_all, All-append, Any, R, width, coefficient, field, one_above, Unpacks, is_unpacked, packs_none, packs_joined, length-put_mid, put_piece}
 use Rattle.std.proofs.Common.{rules, arith, ℤ, pos, ◌≡◌, ◌+◌, ◌*◌, ◌-◌, ◌≤◌, ◌∙◌, ◌<ℤ◌, refl, subst, ap, length, length-take, length-drop, take, w32, to_z, of_z}
-use Rattle.std.proofs.lemmas.Bool.{iff_false}
-use Rattle.std.proofs.lemmas.Int.{to_z-of_z, ints}
-use Rattle.std.proofs.lemmas.List.{map-append, take_all}
-use Rattle.std.proofs.lemmas.List.Elements.{All-append}
 use Rattle.std.proofs.Math.Seq.{take-add}
-use Rattle.std.specs.List.{Any}
-use Rattle.fips204_base.specs.declared.types.R.{R}
-use Rattle.fips204_base.specs.Packing.{width}
-use Rattle.fips204_base.specs.EncodingSteps.{coefficient, field}
-use Rattle.fips204_base.proofs.Fields.{one_above}
-use Rattle.fips204_base.proofs.Packing.{Unpacks, is_unpacked, packs_none, packs_joined}
-use Rattle.fips204_base.proofs.VectorBytes.{length-put_mid, put_piece}
 use Rattle.fips204_base.proofs.conversion.bit_unpack.Goals as goal
 use Rattle.fips204_base.proofs.conversion.bit_unpack.Goals.{After-loop-i, else-a-eq0-via-then-a-eq0+else-not-is_in_range, else-a-eq0-via-else-a-eq0}
 

@@ -1,6 +1,5 @@
 use Rattle.std.proofs.Common.{◌≡◌, ◌*◌, take, length, map}
-use Rattle.std.specs.List.{All}
-use Rattle.fips204_base.specs.EncodingSteps.{Packs, coefficient, field}
+use Rattle.fips204_base.proofs.Names.{All, Packs, coefficient, field}
 use Rattle.fips204_base.proofs.conversion.bit_unpack.Given as goal
 
 abbrev pub invariant-loop-i : goal.invariant-loop-i

@@ -1,6 +1,5 @@
 use Rattle.std.proofs.Common.{arith}
-use Rattle.std.proofs.lemmas.Int.{ints}
-use Rattle.fips204_base.proofs.Fields.{width-below}
+use Rattle.fips204_base.proofs.Names.{ints, width-below}
 use Rattle.fips204_base.proofs.conversion.field_of.Goals as goal
 
 pub returns-then-a-gt0-clause-below : goal.returns-then-a-gt0-clause-below

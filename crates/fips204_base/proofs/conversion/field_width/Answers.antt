@@ -1,7 +1,5 @@
 use Rattle.std.proofs.Common.{arith, ap, ◌∙◌, ◌≡◌, ◌+ℤ◌, to_z, of_z, w32, nat_abs}
-use Rattle.std.proofs.lemmas.Int.{ints}
-use Rattle.fips204_base.specs.Packing.{width, bit_length}
-use Rattle.fips204_base.proofs.Fields.{width-le, width-some}
+use Rattle.fips204_base.proofs.Names.{ints, width, bit_length, width-le, width-some}
 use Rattle.fips204_base.proofs.conversion.field_width.Goals as goal
 
 sum_width : (c : goal.After-bit_length) → c.bit_length.result ≡ width c.args.a c.args.b

@@ -1,5 +1,5 @@
 use Rattle.std.proofs.Common.{◌∙◌, ap, bit_and, ◌-◌}
-use Rattle.std.proofs.lemmas.Nat.{one_shl, and_mask}
+use Rattle.fips204_base.proofs.Names.{one_shl, and_mask}
 use Rattle.fips204_base.proofs.conversion.low.Goals as goal
 
 pub returns : goal.returns

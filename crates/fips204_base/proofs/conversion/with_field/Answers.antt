@@ -1,5 +1,5 @@
 use Rattle.std.proofs.Common.{◌≡◌, ◌*◌, ◌%◌, ◌^◌, arith, bit_or, ◌∙◌, ap}
-use Rattle.std.proofs.lemmas.Nat.{or_shifted}
+use Rattle.fips204_base.proofs.Names.{or_shifted}
 use Rattle.fips204_base.proofs.conversion.with_field.Goals as goal
 
 pub returns : goal.returns

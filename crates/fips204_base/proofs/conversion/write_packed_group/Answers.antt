@@ -1,11 +1,6 @@
-use Rattle.std.proofs.lemmas.Grind.{common_steps}
+use Rattle.fips204_base.proofs.Names.{common_steps, to_z-of_z, ints, map_more, take_more_set, take_all, and_mask, fields_fit, All-nil, All-push}
 use Rattle.std.proofs.Common.{arith, ℕ, ◌≡◌, ◌<◌, ◌%◌, ◌^◌, length, take, bit_and, ◌∙◌, length-set, append-nil, SFits}
-use Rattle.std.proofs.lemmas.Int.{to_z-of_z, ints}
-use Rattle.std.proofs.lemmas.List.{map_more, take_more_set, take_all}
-use Rattle.std.proofs.lemmas.Nat.{and_mask}
 use Rattle.fips204_base.proofs.Bits.{digits-zero, bits-nil, put_bits, put_below, put_fits, give_bits, give_below, place_within}
-use Rattle.fips204_base.proofs.Fields.{fields_fit}
-use Rattle.std.proofs.lemmas.List.Elements.{All-nil, All-push}
 use Rattle.fips204_base.proofs.conversion.write_packed_group.Goals as goal
 
 pub loop-x-init : goal.loop-x-init

@@ -1,16 +1,8 @@
-use Rattle.std.proofs.lemmas.Grind.{common_steps}
+use Rattle.fips204_base.proofs.Names.{common_steps, to_z-of_z, ints, take_more, All-from_get_or, mod_below, pow_pos, width, bits, Packs, field, coefficient, stored, group_finished, All}
 use Rattle.std.proofs.Common.{rules, arith, ℕ, ◌≡◌, ◌<◌, ◌^◌, ◌∙◌, map, length, take, get_or, sym, length-set, w32, to_z, of_z, SFits}
-use Rattle.std.proofs.lemmas.Int.{to_z-of_z, ints}
-use Rattle.std.proofs.lemmas.List.{take_more}
-use Rattle.std.proofs.lemmas.List.Elements.{All-from_get_or}
-use Rattle.std.proofs.lemmas.Nat.{mod_below, pow_pos}
-use Rattle.fips204_base.specs.Packing.{width, bits}
-use Rattle.fips204_base.specs.EncodingSteps.{Packs, field, coefficient}
 use Rattle.fips204_base.proofs.Bits.{digits-zero, bits-nil, put_bits, put_below, put_fits, give_bits, give_below, low_small, byte_within}
-use Rattle.fips204_base.proofs.Fields.{stored, group_finished}
 use Rattle.fips204_base.proofs.conversion.write_unpacked_group.Goals as goal
 use Rattle.fips204_base.proofs.conversion.write_unpacked_group.Goals.{After-loop-i}
-use Rattle.std.specs.List.{All}
 
 pub loop-i-init : goal.loop-i-init
 loop-i-init c = grind (arith, ints, common_steps, digits-zero, bits-nil)

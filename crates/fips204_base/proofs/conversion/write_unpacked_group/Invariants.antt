@@ -1,8 +1,5 @@
 use Rattle.std.proofs.Common.{◌≡◌, ◌<◌, ◌+◌, ◌*◌, ◌-◌, ◌^◌, ◌++◌, take, length, map}
-use Rattle.std.specs.List.{All}
-use Rattle.fips204_base.specs.Packing.{bits, integer_to_bits}
-use Rattle.fips204_base.specs.EncodingSteps.{field}
-use Rattle.fips204_base.proofs.Fields.{HasField}
+use Rattle.fips204_base.proofs.Names.{All, bits, integer_to_bits, field, HasField}
 use Rattle.fips204_base.proofs.conversion.write_unpacked_group.Given as goal
 
 abbrev pub invariant-loop-i : goal.invariant-loop-i

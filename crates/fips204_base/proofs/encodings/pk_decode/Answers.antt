@@ -1,5 +1,5 @@
 use Rattle.std.proofs.Common.{◌≡◌, ◌++◌, ◌∙◌, ap, sym, arith, rules, length, take, drop}
-use Rattle.std.proofs.lemmas.List.{take-append-drop, length-take-le}
+use Rattle.fips204_base.proofs.Names.{take-append-drop, length-take-le}
 use Rattle.fips204_base.proofs.encodings.pk_decode.Goals as goal
 
 pub returns-clause-same_bytes : goal.returns-clause-same_bytes

@@ -1,7 +1,5 @@
 use Rattle.std.proofs.Common.{◌≡◌, sym, arith, rules, take, append-nil, to_z, of_z}
-use Rattle.std.specs.Prelude.{option_to_list}
-use Rattle.std.specs.Int.{w32}
-use Rattle.fips204_base.proofs.Sampling.{keeps_there, keeps_more, keeps_full}
+use Rattle.fips204_base.proofs.Names.{option_to_list, w32, keeps_there, keeps_more, keeps_full}
 use Rattle.fips204_base.proofs.hashing.write_kept.Goals as goal
 
 pub returns-in-Some-clause-kept : goal.returns-in-Some-clause-kept

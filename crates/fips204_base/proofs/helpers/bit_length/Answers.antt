@@ -1,6 +1,5 @@
 use Rattle.std.proofs.Common.{arith, ◌≡◌, ◌<◌, ◌^◌, nat_abs, to_z, of_z, w32}
-use Rattle.std.proofs.lemmas.Int.{ints}
-use Rattle.fips204_base.proofs.Fields.{bit_length-leading}
+use Rattle.fips204_base.proofs.Names.{ints, bit_length-leading}
 use Rattle.fips204_base.proofs.helpers.bit_length.Goals as goal
 
 pub returns : goal.returns

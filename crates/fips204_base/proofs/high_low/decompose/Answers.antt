@@ -1,10 +1,6 @@
-use Rattle.std.proofs.lemmas.Grind.{common_steps}
+use Rattle.fips204_base.proofs.Names.{common_steps, nat_abs, ints, to_z-of_z, residue, residue_below}
 use Rattle.std.proofs.Common.{ℕ, ℤ, ◌≡◌, ◌<◌, ◌+◌, ◌-◌, ◌*◌, ◌/◌, ◌*ℤ◌, inl, inr, pos, arith, w32, to_z, of_z}
-use Rattle.std.specs.Prelude.{nat_abs}
-use Rattle.std.proofs.lemmas.Int.{ints, to_z-of_z}
-use Rattle.fips204_base.specs.Residues.{residue}
 use Rattle.fips204_base.specs.Rounding.{IsGamma2}
-use Rattle.fips204_base.proofs.Residues.{residue_below}
 use Rattle.fips204_base.proofs.Rounding.{high_bits-edge, low_bits-edge, high_bits-other, low_bits-other}
 use Rattle.fips204_base.proofs.high_low.decompose.Goals as goal
 use Rattle.fips204_base.proofs.high_low.decompose.Goals.{After-nearest_quotient-quotient}

@@ -1,10 +1,6 @@
-use Rattle.std.proofs.lemmas.Grind.{common_steps}
+use Rattle.fips204_base.proofs.Names.{common_steps, nat_abs, int_lt, ints, to_z-of_z, residue, residue_below}
 use Rattle.std.proofs.Common.{ℤ, ◌≡◌, ◌<◌, pos, true, arith}
-use Rattle.std.specs.Prelude.{nat_abs, int_lt}
-use Rattle.std.proofs.lemmas.Int.{ints, to_z-of_z}
-use Rattle.fips204_base.specs.Residues.{residue}
 use Rattle.fips204_base.specs.Rounding.{high_bits, low_bits, high_count}
-use Rattle.fips204_base.proofs.Residues.{residue_below}
 use Rattle.fips204_base.proofs.Rounding.{high_bits_below, hinted}
 use Rattle.fips204_base.proofs.high_low.use_hint.Goals as goal
 use Rattle.fips204_base.proofs.high_low.use_hint.Goals.{After-high_count-last}

@@ -1,10 +1,5 @@
 use Rattle.std.proofs.Common.{◌≡◌, ℕ, zero, suc, ◌<◌, ◌≤◌, ◌+◌, ◌*◌, ◌++◌, ℤ, get_or, length, arith, rules, refl, ap, sym, subst, ◌∙◌, to_z, of_z, List, [], ◌∷◌, map}
-use Rattle.std.specs.Prelude.{nat_abs}
-use Rattle.std.specs.Int.{w32}
-use Rattle.std.proofs.lemmas.Int.{to_z-of_z, fits_signed_from_abs}
-use mir.Val.{SFits}
-use Rattle.fips204_base.specs.Residues.{residue, IsCongruent}
-use Rattle.fips204_base.specs.Lanes.{lane}
+use Rattle.fips204_base.proofs.Names.{nat_abs, w32, to_z-of_z, fits_signed_from_abs, SFits, residue, IsCongruent, lane}
 use Rattle.fips204_base.proofs.lanes.mont_products.Goals as goal
 
 -- what is picked of two vectors

@@ -1,12 +1,5 @@
 use Rattle.std.proofs.Common.{ℕ, ℤ, ◌≡◌, ◌<◌, ◌≤◌, ◌∙◌, pos, get_or, length, arith, sym, ap, subst, to_z, List, map}
-use Rattle.std.specs.Prelude.{nat_abs}
-use Rattle.std.specs.Int.{w32}
-use Rattle.std.proofs.lemmas.Int.{fits_signed_from_abs}
-use mir.Val.{SFits}
-use Rattle.fips204_base.specs.Residues.{residue}
-use Rattle.fips204_base.specs.Lanes.{lane}
-use Rattle.fips204_base.specs.Network.{AreEight}
-use Rattle.fips204_base.proofs.Residues.{residue_below}
+use Rattle.fips204_base.proofs.Names.{nat_abs, w32, fits_signed_from_abs, SFits, residue, lane, AreEight, residue_below}
 use Rattle.fips204_base.proofs.LaneReductions.{raised, raised_is, raised_row, raised_row_is, word_at, word_length}
 use Rattle.fips204_base.proofs.lanes.raised.Goals as goal
 

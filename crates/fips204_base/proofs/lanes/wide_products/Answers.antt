@@ -1,13 +1,6 @@
 use Rattle.std.proofs.Common.{ℕ, ℤ, ◌≡◌, ◌<◌, ◌≤◌, ◌*◌, ◌+◌, ◌*ℤ◌, ◌∙◌, pos, get_or, length, arith, rules, ap, refl, subst, sym, to_z, of_z, List, map}
-use Rattle.std.specs.Prelude.{nat_abs}
-use Rattle.std.specs.Int.{w32, w64, int_rem_euclid, int_div_euclid}
-use Rattle.std.proofs.lemmas.Int.{to_z-of_z, fits_signed_from_abs}
+use Rattle.fips204_base.proofs.Names.{nat_abs, w32, w64, int_rem_euclid, int_div_euclid, to_z-of_z, fits_signed_from_abs, SFits, residue, IsCongruent, lane, congruent_trans, residue_mul, montgomery_congruent, read_one}
 use lib.Signed.{shr_z, mag}
-use mir.Val.{SFits}
-use Rattle.fips204_base.specs.Residues.{residue, IsCongruent}
-use Rattle.fips204_base.specs.Lanes.{lane}
-use Rattle.fips204_base.proofs.Residues.{congruent_trans, residue_mul, montgomery_congruent}
-use Rattle.fips204_base.proofs.LaneRows.{read_one}
 use Rattle.fips204_base.proofs.LaneProducts.{Taken, taken, taken_is, lowered, lowered_is, upper_half, high_half_fits, joined_halves, same_word, row, row_is, read_at, taken_high, taken_fits}
 use Rattle.fips204_base.proofs.lanes.wide_products.Goals as goal
 

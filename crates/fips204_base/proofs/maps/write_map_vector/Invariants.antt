@@ -1,5 +1,5 @@
 use Rattle.std.proofs.Common.{ℕ, ◌≡◌, ◌≤◌, ◌<◌, length, get_or, []}
-use Rattle.fips204_base.specs.Bounds.{coefficient_of}
+use Rattle.fips204_base.proofs.Names.{coefficient_of}
 use Rattle.fips204_base.proofs.maps.write_map_vector.Given as goal
 
 abbrev pub invariant-loop-r : goal.invariant-loop-r

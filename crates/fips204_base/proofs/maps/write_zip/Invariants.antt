@@ -1,5 +1,5 @@
 use Rattle.std.proofs.Common.{ℕ, ◌≡◌, ◌≤◌, ◌<◌, length}
-use Rattle.fips204_base.specs.Bounds.{coefficient_at}
+use Rattle.fips204_base.proofs.Names.{coefficient_at}
 use Rattle.fips204_base.proofs.maps.write_zip.Given as goal
 
 abbrev pub invariant-loop-n : goal.invariant-loop-n

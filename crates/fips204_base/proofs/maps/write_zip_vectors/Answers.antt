@@ -1,5 +1,5 @@
 use Rattle.std.proofs.Common.{◌≡◌, arith}
-use Rattle.fips204_base.proofs.Vectors.{vector_of-same}
+use Rattle.fips204_base.proofs.Names.{vector_of-same}
 use Rattle.fips204_base.proofs.maps.write_zip_vectors.Goals as goal
 
 pub returns-clause-whole : goal.returns-clause-whole

@@ -1,6 +1,5 @@
 use Rattle.std.proofs.Common.{arith}
-use Rattle.std.proofs.lemmas.Int.{ints}
-use Rattle.fips204_base.proofs.Residues.{congruent_refl, congruent_trans, congruent_mul, residue_add, residue_sub}
+use Rattle.fips204_base.proofs.Names.{ints, congruent_refl, congruent_trans, congruent_mul, residue_add, residue_sub}
 use Rattle.fips204_base.proofs.ntt.inv_butterfly.Goals as goal
 
 pub returns-clause-values : goal.returns-clause-values

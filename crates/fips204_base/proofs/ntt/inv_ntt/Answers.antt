@@ -1,7 +1,5 @@
 use Rattle.std.proofs.Common.{[], get_or, length-set, ◌∙◌, arith, rules}
-use Rattle.std.proofs.lemmas.List.{get_or_default}
-use Rattle.fips204_base.specs.Lanes.{IsInverse}
-use Rattle.fips204_base.proofs.Vectors.{row_written, rows_ahead}
+use Rattle.fips204_base.proofs.Names.{get_or_default, IsInverse, row_written, rows_ahead}
 use Rattle.fips204_base.proofs.ntt.inv_ntt.Goals as goal
 
 pub write_inv_ntt-requires : goal.write_inv_ntt-requires

@@ -1,5 +1,5 @@
 use Rattle.std.proofs.Common.{◌≡◌, ℕ, ◌<◌, ◌≤◌, ◌+◌, ◌*◌, get_or, length}
-use Rattle.fips204_base.specs.Lanes.{IsInverse}
+use Rattle.fips204_base.proofs.Names.{IsInverse}
 use Rattle.fips204_base.proofs.ntt.inv_ntt.Given as goal
 
 abbrev pub invariant-loop-row : goal.invariant-loop-row

@@ -1,7 +1,5 @@
 use Rattle.std.proofs.Common.{arith, ◌+◌, length-set, ◌∙◌, ◌≡◌, subst}
-use Rattle.fips204_base.specs.Lanes.{lane_at}
-use Rattle.fips204_base.specs.Network.{IsButterfly}
-use Rattle.fips204_base.proofs.Layers.{Part, part_none, part_ahead, part_step, part_whole}
+use Rattle.fips204_base.proofs.Names.{lane_at, IsButterfly, Part, part_none, part_ahead, part_step, part_whole}
 use Rattle.fips204_base.proofs.ntt.write_block.Goals as goal
 
 pub butterfly-x-requires : goal.butterfly-x-requires

@@ -1,7 +1,5 @@
 use Rattle.std.proofs.Common.{◌≡◌, ℕ, ◌<◌, ◌+◌, ◌*◌, length}
-use Rattle.fips204_base.specs.Lanes.{lane_at}
-use Rattle.fips204_base.specs.Network.{IsButterfly}
-use Rattle.fips204_base.proofs.Layers.{Part}
+use Rattle.fips204_base.proofs.Names.{lane_at, IsButterfly, Part}
 use Rattle.fips204_base.proofs.ntt.write_block.Given as goal
 
 abbrev pub invariant-loop-k : goal.invariant-loop-k

@@ -1,7 +1,5 @@
 use Rattle.std.proofs.Common.{arith, ◌+◌, length-set, ◌∙◌, ◌≡◌, subst}
-use Rattle.fips204_base.specs.Lanes.{lane_at}
-use Rattle.fips204_base.specs.Network.{IsInverseButterfly}
-use Rattle.fips204_base.proofs.Layers.{Part, part_none, part_ahead, part_step, part_whole}
+use Rattle.fips204_base.proofs.Names.{lane_at, IsInverseButterfly, Part, part_none, part_ahead, part_step, part_whole}
 use Rattle.fips204_base.proofs.ntt.write_inv_block.Goals as goal
 
 pub inv_butterfly-x-requires : goal.inv_butterfly-x-requires

@@ -1,7 +1,5 @@
 use Rattle.std.proofs.Common.{arith, ◌≡◌, ◌-◌, ◌*◌, subst, rules}
-use Rattle.fips204_base.specs.Lanes.{lane_at}
-use Rattle.fips204_base.specs.Network.{IsInverseButterfly}
-use Rattle.fips204_base.proofs.Layers.{SoFar, layer_none, layer_more, layer_whole, block_fits, count_below, layer_products, layer_sums}
+use Rattle.fips204_base.proofs.Names.{lane_at, IsInverseButterfly, SoFar, layer_none, layer_more, layer_whole, block_fits, count_below, layer_products, layer_sums}
 use Rattle.fips204_base.proofs.ntt.write_inv_blocks.Goals as goal
 
 pub write_inv_block-requires : goal.write_inv_block-requires

@@ -1,7 +1,5 @@
 use Rattle.std.proofs.Common.{◌≡◌, ℕ, ◌<◌, ◌+◌, ◌-◌, ◌*◌, length}
-use Rattle.fips204_base.specs.Lanes.{lane_at}
-use Rattle.fips204_base.specs.Network.{IsInverseButterfly}
-use Rattle.fips204_base.proofs.Layers.{SoFar}
+use Rattle.fips204_base.proofs.Names.{lane_at, IsInverseButterfly, SoFar}
 use Rattle.fips204_base.proofs.ntt.write_inv_blocks.Given as goal
 
 abbrev pub invariant-loop-b : goal.invariant-loop-b

@@ -1,10 +1,5 @@
 use Rattle.std.proofs.Common.{arith, ap, pos, length, length-set, ◌∙◌, ◌<◌, ◌%◌, ◌≡◌, ◌*◌, ◌^◌, ◌-◌, subst, rules}
-use Rattle.std.proofs.lemmas.List.{get_or_default}
-use Rattle.fips204_base.specs.Residues.{residue}
-use Rattle.fips204_base.specs.Transforms.{inverse_transform}
-use Rattle.fips204_base.specs.Lanes.{lane, lane_at, residues}
-use Rattle.fips204_base.proofs.Network.{layer_shape, halved, HoldsSums, sums_start, sums_next, sums_end}
-use Rattle.fips204_base.proofs.Layers.{inverse_layer_of_blocks, inverse_layer_sizes, count_below, factor_positive, one_changed, others_stay}
+use Rattle.fips204_base.proofs.Names.{get_or_default, residue, inverse_transform, lane, lane_at, residues, layer_shape, halved, HoldsSums, sums_start, sums_next, sums_end, inverse_layer_of_blocks, inverse_layer_sizes, count_below, factor_positive, one_changed, others_stay}
 use Rattle.fips204_base.proofs.Products.{inverse_residue}
 use Rattle.fips204_base.proofs.ntt.write_inv_ntt.Goals as goal
 

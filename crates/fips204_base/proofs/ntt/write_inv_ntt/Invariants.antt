@@ -1,9 +1,5 @@
 use Rattle.std.proofs.Common.{◌≡◌, ℕ, ◌<◌, ◌≤◌, ◌+◌, ◌-◌, ◌*◌, ◌/◌, ◌^◌, pos, length}
-use Rattle.std.specs.Prelude.{nat_abs}
-use Rattle.fips204_base.specs.Residues.{IsCongruent}
-use Rattle.fips204_base.specs.Transforms.{inverse_transform}
-use Rattle.fips204_base.specs.Lanes.{lane_at, residues}
-use Rattle.fips204_base.proofs.Network.{HoldsSums}
+use Rattle.fips204_base.proofs.Names.{nat_abs, IsCongruent, inverse_transform, lane_at, residues, HoldsSums}
 use Rattle.fips204_base.proofs.ntt.write_inv_ntt.Given as goal
 
 abbrev pub invariant-loop-s : goal.invariant-loop-s

@@ -1,13 +1,5 @@
 use Rattle.std.proofs.Common.{arith, ap, length, length-set, ◌∙◌, ◌<◌, ◌≤◌, ◌≡◌, ◌*◌, ◌^◌, ◌-◌, ◌+◌, subst, rules}
-use Rattle.std.specs.Prelude.{nat_abs}
-use Rattle.std.proofs.lemmas.List.{get_or_default}
-use Rattle.fips204_base.specs.Residues.{residue, IsCongruent}
-use Rattle.fips204_base.specs.Transforms.{transform}
-use Rattle.std.proofs.lemmas.Nat.{pow_below}
-use Rattle.fips204_base.specs.Lanes.{lane, lane_at, residues}
-use Rattle.fips204_base.proofs.Network.{KeepsValues, values_start, values_next, values_end, layer_shape, halved}
-use Rattle.fips204_base.proofs.Layers.{layer_of_blocks, layer_sizes, one_changed, others_stay}
-use Rattle.fips204_base.proofs.Residues.{congruent_of, congruent_trans}
+use Rattle.fips204_base.proofs.Names.{nat_abs, get_or_default, residue, IsCongruent, transform, pow_below, lane, lane_at, residues, KeepsValues, values_start, values_next, values_end, layer_shape, halved, layer_of_blocks, layer_sizes, one_changed, others_stay, congruent_of, congruent_trans}
 use Rattle.fips204_base.proofs.ntt.write_ntt.Goals as goal
 
 pub write_layer-requires : goal.write_layer-requires

@@ -1,9 +1,5 @@
 use Rattle.std.proofs.Common.{◌≡◌, ℕ, ◌<◌, ◌≤◌, ◌+◌, ◌-◌, ◌*◌, ◌/◌, ◌^◌, length}
-use Rattle.std.specs.Prelude.{nat_abs}
-use Rattle.fips204_base.specs.Residues.{IsCongruent}
-use Rattle.fips204_base.specs.Transforms.{transform}
-use Rattle.fips204_base.specs.Lanes.{lane_at, residues}
-use Rattle.fips204_base.proofs.Network.{KeepsValues}
+use Rattle.fips204_base.proofs.Names.{nat_abs, IsCongruent, transform, lane_at, residues, KeepsValues}
 use Rattle.fips204_base.proofs.ntt.write_ntt.Given as goal
 
 abbrev pub invariant-loop-s : goal.invariant-loop-s

@@ -1,7 +1,5 @@
 use Rattle.std.proofs.Common.{ℕ, ◌≡◌, ◌<◌, ◌≤◌, length}
-use Rattle.std.specs.Prelude.{nat_abs}
-use Rattle.fips204_base.specs.Lanes.{lane}
-use Rattle.fips204_base.specs.Bounds.{coefficient_of}
+use Rattle.fips204_base.proofs.Names.{nat_abs, lane, coefficient_of}
 use Rattle.fips204_base.proofs.product.lanes_of.Given as goal
 
 abbrev pub invariant-loop-r : goal.invariant-loop-r

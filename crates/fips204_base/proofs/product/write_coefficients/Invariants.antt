@@ -1,7 +1,5 @@
 use Rattle.std.proofs.Common.{ℕ, ◌≡◌, ◌≢◌, ◌<◌, length, get_or}
-use Rattle.fips204_base.specs.Lanes.{lane}
-use Rattle.fips204_base.specs.Bounds.{coefficient_of}
-use Rattle.fips204_base.specs.declared.types.R.{R}
+use Rattle.fips204_base.proofs.Names.{lane, coefficient_of, R}
 use Rattle.fips204_base.proofs.product.write_coefficients.Given as goal
 
 abbrev pub invariant-loop-r : goal.invariant-loop-r

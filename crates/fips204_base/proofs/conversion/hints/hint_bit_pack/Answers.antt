@@ -1,9 +1,5 @@
-use Rattle.std.proofs.lemmas.Grind.{common_steps}
+use Rattle.fips204_base.proofs.Names.{common_steps, to_z-of_z, ints, take_all, all_ones, all_ones-none, total_more, total_le, written, gathered, spelling}
 use Rattle.std.proofs.Common.{rules, arith, ◌≡◌, ◌+◌, nat_abs, take, [], ◌∙◌, ap, sym, length, w32, to_z, of_z}
-use Rattle.std.proofs.lemmas.Int.{to_z-of_z, ints}
-use Rattle.std.proofs.lemmas.List.{take_all}
-use Rattle.fips204_base.specs.Encodings.{all_ones}
-use Rattle.fips204_base.proofs.HintSpelling.{all_ones-none, total_more, total_le, written, gathered, spelling}
 use Rattle.fips204_base.proofs.conversion.hints.hint_bit_pack.Goals as goal
 
 pub write_places-index-requires : goal.write_places-index-requires

@@ -1,5 +1,5 @@
 use Rattle.std.proofs.Common.{ℕ, ◌≡◌, ◌<◌, ◌+◌, ◌≤◌, get_or, take, length}
-use Rattle.fips204_base.specs.Encodings.{all_ones}
+use Rattle.fips204_base.proofs.Names.{all_ones}
 use Rattle.fips204_base.proofs.conversion.hints.hint_bit_pack.Given as goal
 
 abbrev pub invariant-loop-i : goal.invariant-loop-i

@@ -1,13 +1,6 @@
-use Rattle.std.proofs.lemmas.Grind.{common_steps}
+use Rattle.fips204_base.proofs.Names.{common_steps, to_z-of_z, ints, take_more_set, take_all, length-replicate, All-push, R, PolynomialInRange, all_ones, Spells, all_ones-none, before, pieces, totals_rise, piece, zero_rest, one_more, totals_more, gathered, spelling}
 use Rattle.std.proofs.Common.{rules, arith, ◌≡◌, ◌<◌, ◌+◌, pos, nat_abs, length, take, get_or, ◌∙◌, ap, sym, refl, length-set, w32, to_z, of_z, add-one, None}
-use Rattle.std.proofs.lemmas.Int.{to_z-of_z, ints}
-use Rattle.std.proofs.lemmas.List.{take_more_set, take_all, length-replicate}
-use Rattle.std.proofs.lemmas.List.Elements.{All-push}
-use Rattle.fips204_base.specs.declared.types.R.{R}
 use Rattle.fips204_base.specs.declared.types.TheConstants.{R0}
-use Rattle.fips204_base.specs.Bounds.{PolynomialInRange}
-use Rattle.fips204_base.specs.Encodings.{all_ones, Spells}
-use Rattle.fips204_base.proofs.HintSpelling.{all_ones-none, before, pieces, totals_rise, piece, zero_rest, one_more, totals_more, gathered, spelling}
 use Rattle.fips204_base.proofs.conversion.hints.hint_bit_unpack.Goals as goal
 use Rattle.fips204_base.proofs.conversion.hints.hint_bit_unpack.Goals.{then-end-index-via-then-end-index, then-end-index-via-else-end-index+then-end-limit}
 

@@ -1,8 +1,5 @@
 use Rattle.std.proofs.Common.{ℕ, ◌≡◌, ◌<◌, ◌+◌, ◌≤◌, get_or, take, length, pos}
-use Rattle.std.specs.List.{All}
-use Rattle.fips204_base.specs.Encodings.{all_ones}
-use Rattle.fips204_base.specs.Bounds.{PolynomialInRange}
-use Rattle.fips204_base.proofs.HintSpelling.{before}
+use Rattle.fips204_base.proofs.Names.{All, all_ones, PolynomialInRange, before}
 use Rattle.fips204_base.proofs.conversion.hints.hint_bit_unpack.Given as goal
 
 abbrev pub invariant-loop-i : goal.invariant-loop-i

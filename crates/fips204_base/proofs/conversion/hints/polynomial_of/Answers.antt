@@ -1,8 +1,5 @@
-use Rattle.std.proofs.lemmas.Grind.{common_steps}
-use Rattle.std.proofs.lemmas.Int.{ints}
+use Rattle.fips204_base.proofs.Names.{common_steps, ints, take_more, get_or-set_other, zero_at, zero_bits, bits-set, ones-zeros, ones-set, rising}
 use Rattle.std.proofs.Common.{rules, arith, sym, length-set}
-use Rattle.std.proofs.lemmas.List.{take_more, get_or-set_other}
-use Rattle.fips204_base.proofs.HintSpelling.{zero_at, zero_bits, bits-set, ones-zeros, ones-set, rising}
 use Rattle.fips204_base.proofs.conversion.hints.polynomial_of.Goals as goal
 use Rattle.fips204_base.proofs.conversion.hints.polynomial_of.Goals.{else-k-gt0-via-then-k-gt0+else-places-k, else-k-gt0-via-else-k-gt0}
 

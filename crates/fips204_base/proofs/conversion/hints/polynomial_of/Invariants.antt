@@ -1,7 +1,5 @@
 use Rattle.std.proofs.Common.{ℕ, ◌≡◌, ◌<◌, ◌-◌, get_or, take, length, pos}
-use Rattle.fips204_base.specs.declared.types.R.{R}
-use Rattle.fips204_base.specs.EncodingSteps.{ones}
-use Rattle.fips204_base.specs.Bounds.{PolynomialInRange}
+use Rattle.fips204_base.proofs.Names.{R, ones, PolynomialInRange}
 use Rattle.fips204_base.proofs.conversion.hints.polynomial_of.Given as goal
 
 abbrev pub invariant-loop-k : goal.invariant-loop-k

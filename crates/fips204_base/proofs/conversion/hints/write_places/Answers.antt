@@ -1,9 +1,6 @@
-use Rattle.std.proofs.lemmas.Grind.{common_steps}
+use Rattle.fips204_base.proofs.Names.{common_steps, to_z-of_z, ints, is_one, ones_below, ones-none, ones-room, is_one-test, ones-skip}
 use Rattle.std.proofs.Common.{rules, arith, ◌≡◌, ◌+◌, pos, true, false, length, get_or, ◌∙◌, ap, length-set, w32, SFits, add-one, append-nil}
-use Rattle.std.proofs.lemmas.Int.{to_z-of_z, ints}
-use Rattle.fips204_base.specs.Encodings.{is_one}
-use Rattle.fips204_base.specs.EncodingSteps.{ones_below}
-use Rattle.fips204_base.proofs.HintSpelling.{ones-none, ones-room, is_one-test, placed, ones-skip}
+use Rattle.fips204_base.proofs.HintSpelling.{placed}
 use Rattle.fips204_base.proofs.conversion.hints.write_places.Goals as goal
 use Rattle.fips204_base.proofs.conversion.hints.write_places.Goals.{then-w-j-gt0, else-w-j-gt0}
 

@@ -1,5 +1,5 @@
 use Rattle.std.proofs.Common.{◌≡◌, ◌+◌, ◌++◌, take, drop, length}
-use Rattle.fips204_base.specs.EncodingSteps.{ones_below}
+use Rattle.fips204_base.proofs.Names.{ones_below}
 use Rattle.fips204_base.proofs.conversion.hints.write_places.Given as goal
 
 abbrev pub invariant-loop-j : goal.invariant-loop-j

@@ -1,11 +1,5 @@
-use Rattle.std.proofs.lemmas.Grind.{common_steps}
+use Rattle.fips204_base.proofs.Names.{common_steps, ints, to_z-of_z, length-take-le, width, KeyRange, width_4095_4096, eta_width, three_seeds, private_key-of_parts, private_key-first, private_key-second, same_bounds}
 use Rattle.std.proofs.Common.{◌≡◌, ◌*◌, ◌++◌, ◌∙◌, Some, None, Err, ap, refl, sym, arith, rules, nat_abs, length, take, drop, w32, length-drop}
-use Rattle.std.proofs.lemmas.Int.{ints, to_z-of_z}
-use Rattle.std.proofs.lemmas.List.{length-take-le}
-use Rattle.fips204_base.specs.Packing.{width}
-use Rattle.fips204_base.specs.declared.fault.Fault.TheVariants.{KeyRange}
-use Rattle.fips204_base.proofs.EncodedParts.{width_4095_4096, eta_width, three_seeds, private_key-of_parts, private_key-first, private_key-second}
-use Rattle.fips204_base.proofs.VectorBytes.{same_bounds}
 use Rattle.fips204_base.proofs.encodings.private_key.sk_decode.Goals as goal
 
 pub unpack_short_vector-requires-2 : goal.unpack_short_vector-requires-2

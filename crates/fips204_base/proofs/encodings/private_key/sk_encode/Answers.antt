@@ -1,6 +1,5 @@
 use Rattle.std.proofs.Common.{◌≡◌, ◌*◌, ◌∙◌, ap, append_assoc, arith, length, rules, sym, w32}
-use Rattle.std.proofs.lemmas.Int.{ints, to_z-of_z}
-use Rattle.fips204_base.proofs.EncodedParts.{eta_bounds, width_4095_4096}
+use Rattle.fips204_base.proofs.Names.{ints, to_z-of_z, eta_bounds, width_4095_4096}
 use Rattle.fips204_base.proofs.encodings.private_key.sk_encode.Goals as goal
 
 pub write_packed_vector-requires : goal.write_packed_vector-requires

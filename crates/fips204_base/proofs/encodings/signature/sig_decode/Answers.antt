@@ -1,9 +1,5 @@
 use Rattle.std.proofs.Common.{◌≡◌, ◌+◌, ◌*◌, ◌-◌, ◌≤◌, ◌++◌, ◌∙◌, ap, sym, subst, arith, rules, nat_abs, length, take, drop, w32, to_z, of_z, length-drop, None}
-use Rattle.std.proofs.lemmas.Int.{to_z-of_z}
-use Rattle.std.proofs.lemmas.List.{drop-drop, take-append-drop, take_all, length-take-le}
-use Rattle.fips204_base.specs.Encodings.{Spells}
-use Rattle.fips204_base.proofs.EncodedParts.{whole_response, response_bounds, response_least, response_width, less_one, signature-of_parts, signature-hint}
-use Rattle.fips204_base.proofs.VectorBytes.{same_bounds}
+use Rattle.fips204_base.proofs.Names.{to_z-of_z, drop-drop, take-append-drop, take_all, length-take-le, Spells, whole_response, response_bounds, response_least, response_width, less_one, signature-of_parts, signature-hint, same_bounds}
 use Rattle.fips204_base.proofs.encodings.signature.sig_decode.Goals as goal
 
 pub hint_bit_unpack-requires : goal.hint_bit_unpack-requires

@@ -1,6 +1,5 @@
 use Rattle.std.proofs.Common.{◌≡◌, ◌+◌, ◌*◌, ◌∙◌, ap, append_assoc, arith, length, nat_abs, rules, w32}
-use Rattle.std.proofs.lemmas.Int.{to_z-of_z}
-use Rattle.fips204_base.proofs.EncodedParts.{response_bounds, response_least, less_one}
+use Rattle.fips204_base.proofs.Names.{to_z-of_z, response_bounds, response_least, less_one}
 use Rattle.fips204_base.proofs.encodings.signature.sig_encode.Goals as goal
 
 pub write_packed_vector-requires : goal.write_packed_vector-requires

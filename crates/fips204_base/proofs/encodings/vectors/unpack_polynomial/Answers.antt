@@ -1,14 +1,6 @@
 use Rattle.std.proofs.Common.{◌≡◌, ◌<◌, ◌*◌, ◌^◌, ℕ, ℤ, pos, nat_abs, ◌+ℤ◌, ◌-ℤ◌, List, length, refl, sym, rules, w32}
-use Rattle.std.specs.Prelude.{Option, None, Some}
+use Rattle.fips204_base.proofs.Names.{Option, None, Some, All, to_z-of_z, All-from_get_or, R, unpacked, width, Bounds, IsUnpacked, Unpacks, unpacks, unpacks_bytes, none_above, unpacked_range}
 use Rattle.std.specs.Option.{IsSome}
-use Rattle.std.specs.List.{All}
-use Rattle.std.proofs.lemmas.Int.{to_z-of_z}
-use Rattle.std.proofs.lemmas.List.Elements.{All-from_get_or}
-use Rattle.fips204_base.specs.declared.types.R.{R}
-use Rattle.fips204_base.specs.Packing.{unpacked, width}
-use Rattle.fips204_base.specs.Bounds.{Bounds, IsUnpacked}
-use Rattle.fips204_base.proofs.Packing.{Unpacks, unpacks, unpacks_bytes}
-use Rattle.fips204_base.proofs.VectorBytes.{none_above, unpacked_range}
 use Rattle.fips204_base.proofs.encodings.vectors.unpack_polynomial.Goals as goal
 
 no_refusal : (a b : ℤ) (bytes : List ℕ) (o : Option R) → Bounds a b → pos (2 ^ width a b) ≡ a +ℤ b +ℤ pos 1 → length bytes ≡ 32 * width a b → All (λ byte. byte < 256) bytes

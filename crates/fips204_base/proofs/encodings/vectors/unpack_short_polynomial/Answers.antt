@@ -1,8 +1,5 @@
 use Rattle.std.proofs.Common.{◌≡◌, ◌<◌, ℕ, rules, true, false, refl, sym, subst, pos, ◌-ℤ◌, w32}
-use Rattle.std.proofs.lemmas.Int.{to_z-of_z}
-use Rattle.std.proofs.lemmas.List.Elements.{All-from_get_or}
-use Rattle.fips204_base.specs.Bounds.{PolynomialInRange}
-use Rattle.fips204_base.proofs.Packing.{Unpacks, unpacks, unpacks_bytes, bytes_unpack, unpacks_once}
+use Rattle.fips204_base.proofs.Names.{to_z-of_z, All-from_get_or, PolynomialInRange, Unpacks, unpacks, unpacks_bytes, bytes_unpack, unpacks_once}
 use Rattle.fips204_base.proofs.encodings.vectors.unpack_short_polynomial.Goals as goal
 use Rattle.fips204_base.proofs.encodings.vectors.unpack_short_polynomial.Goals.{After-is_in_range}
 

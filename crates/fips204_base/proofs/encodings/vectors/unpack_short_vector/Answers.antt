@@ -1,8 +1,6 @@
 use Rattle.std.proofs.Common.{◌≡◌, ◌+◌, ◌*◌, ◌-◌, ◌<◌, ◌∙◌, ap, sym, arith, length, take, drop, get_or, w32, None, rules}
-use Rattle.std.proofs.lemmas.Int.{to_z-of_z}
-use Rattle.std.proofs.lemmas.Grind.{common_steps}
+use Rattle.fips204_base.proofs.Names.{to_z-of_z, common_steps, vector_piece, bytes_at_integers, range_at_integers, read_more, read_all}
 use Rattle.fips204_base.specs.declared.types.TheConstants.{R0}
-use Rattle.fips204_base.proofs.VectorBytes.{vector_piece, bytes_at_integers, range_at_integers, read_more, read_all}
 use Rattle.fips204_base.proofs.encodings.vectors.unpack_short_vector.Goals as goal
 
 pub loop-i-init : goal.loop-i-init

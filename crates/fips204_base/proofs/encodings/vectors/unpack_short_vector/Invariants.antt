@@ -1,4 +1,4 @@
-use Rattle.fips204_base.proofs.VectorBytes.{IsRead}
+use Rattle.fips204_base.proofs.Names.{IsRead}
 use Rattle.fips204_base.proofs.encodings.vectors.unpack_short_vector.Given as goal
 
 abbrev pub invariant-loop-i : goal.invariant-loop-i

@@ -1,7 +1,5 @@
 use Rattle.std.proofs.Common.{◌*◌, ◌∙◌, ap, sym, arith, length, w32, rules}
-use Rattle.std.proofs.lemmas.Grind.{common_steps}
-use Rattle.std.proofs.lemmas.Int.{to_z-of_z}
-use Rattle.fips204_base.proofs.VectorBytes.{piece-within, read_more, read_all}
+use Rattle.fips204_base.proofs.Names.{common_steps, to_z-of_z, piece-within, read_more, read_all}
 use Rattle.fips204_base.proofs.encodings.vectors.unpack_vector.Goals as goal
 
 pub overflow_add-at : goal.overflow_add-at

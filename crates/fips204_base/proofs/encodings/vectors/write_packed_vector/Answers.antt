@@ -1,8 +1,5 @@
-use Rattle.std.proofs.lemmas.Grind.{common_steps}
+use Rattle.fips204_base.proofs.Names.{common_steps, to_z-of_z, ints, take_all, length-put_mid, put_piece, piece-within, vector_more, bytes_at_integers}
 use Rattle.std.proofs.Common.{arith, length-take, length-drop, rules}
-use Rattle.std.proofs.lemmas.Int.{to_z-of_z, ints}
-use Rattle.std.proofs.lemmas.List.{take_all}
-use Rattle.fips204_base.proofs.VectorBytes.{length-put_mid, put_piece, piece-within, vector_more, bytes_at_integers}
 use Rattle.fips204_base.proofs.encodings.vectors.write_packed_vector.Goals as goal
 
 pub overflow_add-at : goal.overflow_add-at

@@ -1,6 +1,5 @@
 use Rattle.std.proofs.Common.{◌≡◌, ◌*◌, take, length}
-use Rattle.std.specs.List.{flat_map}
-use Rattle.fips204_base.specs.Packing.{polynomial_bytes}
+use Rattle.fips204_base.proofs.Names.{flat_map, polynomial_bytes}
 use Rattle.fips204_base.proofs.encodings.vectors.write_packed_vector.Given as goal
 
 abbrev pub invariant-loop-i : goal.invariant-loop-i

@@ -1,9 +1,5 @@
 use Rattle.std.proofs.Common.{◌≡◌, ◌∙◌, ◌+◌, ◌-◌, ◌/◌, ◌≤◌, pos, nat_abs, ap, refl, arith, rules, take, drop, get_or, length, drop-drop, append-nil, to_z, of_z}
-use Rattle.std.specs.Int.{w32}
-use Rattle.std.proofs.lemmas.Int.{ints}
-use Rattle.fips204_base.specs.Sampling.{picks}
-use Rattle.fips204_base.specs.Packing.{bits}
-use Rattle.fips204_base.proofs.Challenges.{Placed, placed_none, picks-nil, byte_after, challenge-more, challenge-same, challenge-full, challenge-few, sign-read}
+use Rattle.fips204_base.proofs.Names.{w32, ints, picks, bits, Placed, placed_none, picks-nil, byte_after, challenge-more, challenge-same, challenge-full, challenge-few, sign-read}
 use Rattle.fips204_base.proofs.hashing.challenge.sample_in_ball.Goals as goal
 use Rattle.fips204_base.proofs.hashing.challenge.sample_in_ball.Goals.{then-pick-i+else-i-eq256, else-pick-i}
 

@@ -1,7 +1,5 @@
 use Rattle.std.proofs.Common.{◌≡◌, ◌<◌, ◌+◌, take, drop}
-use Rattle.fips204_base.specs.Sampling.{picks}
-use Rattle.fips204_base.specs.Packing.{bits}
-use Rattle.fips204_base.proofs.Challenges.{Placed}
+use Rattle.fips204_base.proofs.Names.{picks, bits, Placed}
 use Rattle.fips204_base.proofs.hashing.challenge.sample_in_ball.Given as goal
 
 abbrev pub invariant-loop-byte : goal.invariant-loop-byte

@@ -1,5 +1,5 @@
 use Rattle.std.proofs.Common.{◌∙◌, sym, arith}
-use Rattle.fips204_base.proofs.Challenges.{bit_at, sign-set, sign-clear}
+use Rattle.fips204_base.proofs.Names.{bit_at, sign-set, sign-clear}
 use Rattle.fips204_base.proofs.hashing.challenge.sign_at.Goals as goal
 
 pub returns-then-bit-eq1 : goal.returns-then-bit-eq1

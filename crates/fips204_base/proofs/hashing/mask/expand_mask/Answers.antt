@@ -1,10 +1,7 @@
 use Rattle.std.proofs.Common.{ℕ, ◌≡◌, ◌+◌, ◌<◌, ◌++◌, [], get_or, nat_abs, sym, ◌∙◌, to_z, of_z, arith, rules}
-use Rattle.std.specs.Int.{w16, w32, to_le_bytes}
+use Rattle.fips204_base.proofs.Names.{w16, w32, to_le_bytes, R, mask-is, mask_polynomial}
 use Rattle.std.proofs.lemmas.List.FromFn.{fill_by_all}
-use Rattle.fips204_base.specs.declared.types.R.{R}
-use Rattle.fips204_base.proofs.Masks.{mask-is}
 use Rattle.fips204_base.proofs.hashing.mask.expand_mask.Goals as goal
-use Rattle.fips204_base.specs.SamplerSteps.{mask_polynomial}
 
 pub loop-r-preserved-then-r : goal.loop-r-preserved-then-r
 loop-r-preserved-then-r g c = record {

@@ -1,5 +1,5 @@
 use Rattle.std.proofs.Common.{◌≡◌, ◌≤◌, ◌-◌, length, nat_abs}
-use Rattle.fips204_base.specs.SamplerSteps.{AreMasked}
+use Rattle.fips204_base.proofs.Names.{AreMasked}
 use Rattle.fips204_base.proofs.hashing.mask.expand_mask.Given as goal
 
 abbrev pub invariant-loop-r : goal.invariant-loop-r

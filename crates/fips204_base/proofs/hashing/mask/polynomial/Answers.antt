@@ -1,6 +1,5 @@
 use Rattle.std.proofs.Common.{◌≡◌, ◌∙◌, length, nat_abs, to_z, of_z, rules}
-use Rattle.std.specs.Int.{w32}
-use Rattle.fips204_base.proofs.Masks.{mask_polynomial-read}
+use Rattle.fips204_base.proofs.Names.{w32, mask_polynomial-read}
 use Rattle.fips204_base.proofs.hashing.mask.polynomial.Goals as goal
 
 pub polynomial_of-requires-clause-size : goal.polynomial_of-requires-clause-size

@@ -1,9 +1,5 @@
 use Rattle.std.proofs.Common.{◌≡◌, ◌∙◌, pos, nat_abs, ◌-ℤ◌, to_z, of_z, ◌-◌, sym, ap, arith, rules}
-use Rattle.std.proofs.lemmas.List.{take_all}
-use Rattle.std.specs.Int.{w32}
-use Rattle.fips204_base.specs.Packing.{unpacked}
-use Rattle.fips204_base.proofs.Masks.{less_read}
-use Rattle.fips204_base.proofs.EncodedParts.{response_least}
+use Rattle.fips204_base.proofs.Names.{take_all, w32, unpacked, less_read, response_least}
 use Rattle.fips204_base.proofs.hashing.mask.polynomial_of.Goals as goal
 
 pub returns : goal.returns

@@ -1,6 +1,5 @@
 use Rattle.std.proofs.Common.{◌≡◌, ◌∙◌, ◌*◌, to_z, of_z, ap, arith, rules}
-use Rattle.std.specs.Int.{w32}
-use Rattle.fips204_base.proofs.Masks.{less_read, mask_size-within, mask_width-is}
+use Rattle.fips204_base.proofs.Names.{w32, less_read, mask_size-within, mask_width-is}
 use Rattle.fips204_base.proofs.hashing.mask.size_of_polynomial.Goals as goal
 
 pub returns-clause-size : goal.returns-clause-size

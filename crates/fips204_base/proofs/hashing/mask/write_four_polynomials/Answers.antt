@@ -1,8 +1,5 @@
 use Rattle.std.proofs.Common.{◌≡◌, ◌∙◌, ◌+◌, ◌++◌, ℕ, length, nat_abs, subst, to_z, of_z, arith, rules}
-use Rattle.std.specs.Int.{w16, w32, to_le_bytes}
-use Rattle.fips204_base.specs.SamplerSteps.{mask_polynomial}
-use Rattle.fips204_base.specs.declared.types.R.{R}
-use Rattle.fips204_base.proofs.Masks.{four_rows, three_rows, mask_polynomial-read}
+use Rattle.fips204_base.proofs.Names.{w16, w32, to_le_bytes, mask_polynomial, R, four_rows, three_rows, mask_polynomial-read}
 use Rattle.fips204_base.proofs.hashing.mask.write_four_polynomials.Goals.{then-r, else-r}
 use Rattle.fips204_base.proofs.hashing.mask.write_four_polynomials.Goals as goal
 

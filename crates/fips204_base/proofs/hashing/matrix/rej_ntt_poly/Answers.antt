@@ -1,8 +1,5 @@
 use Rattle.std.proofs.Common.{◌≡◌, Err, refl, arith, rules}
-use Rattle.std.specs.List.{flat_map}
-use Rattle.fips204_base.specs.Sampling.{matrix_entry}
-use Rattle.fips204_base.specs.declared.fault.Fault.TheVariants.{SamplingLimit}
-use Rattle.fips204_base.proofs.FourAtATime.{of_parts, parts_whole}
+use Rattle.fips204_base.proofs.Names.{flat_map, matrix_entry, SamplingLimit, of_parts, parts_whole}
 use Rattle.fips204_base.proofs.hashing.matrix.rej_ntt_poly.Goals as goal
 
 pub write_entry-requires : goal.write_entry-requires

@@ -1,7 +1,5 @@
 use Rattle.std.proofs.Common.{ℕ, ℤ, ◌≡◌, ◌∙◌, ◌+◌, ◌*◌, ◌/◌, ◌++◌, List, ◌≤◌, ap, sym, refl, arith, rules, take, drop, length, drop-drop, length-append}
-use Rattle.std.proofs.lemmas.List.{take_at, drop_at}
-use Rattle.fips204_base.specs.SamplerSteps.{kept_triples}
-use Rattle.fips204_base.proofs.Sampling.{Keeps, keeps_none, keeps_joined, kept_triples-zero, kept_triples-joined, entry-full, entry-few}
+use Rattle.fips204_base.proofs.Names.{take_at, drop_at, kept_triples, Keeps, keeps_none, keeps_joined, kept_triples-zero, kept_triples-joined, entry-full, entry-few}
 use Rattle.fips204_base.proofs.hashing.matrix.write_entry.Goals as goal
 
 -- what is kept after another piece

@@ -1,6 +1,5 @@
 use Rattle.std.proofs.Common.{◌≡◌, ◌≤◌, ◌-◌, ◌*◌, ◌++◌, drop}
-use Rattle.fips204_base.specs.SamplerSteps.{kept_triples}
-use Rattle.fips204_base.proofs.Sampling.{Keeps}
+use Rattle.fips204_base.proofs.Names.{kept_triples, Keeps}
 use Rattle.fips204_base.proofs.hashing.matrix.write_entry.Given as goal
 
 abbrev pub invariant-loop-count : goal.invariant-loop-count

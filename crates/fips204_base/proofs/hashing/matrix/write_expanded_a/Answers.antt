@@ -1,8 +1,5 @@
 use Rattle.std.proofs.Common.{◌∙◌, refl, arith, sym, subst, length-set}
-use Rattle.fips204_base.specs.SamplerSteps.{sampled_row}
-use Rattle.fips204_base.specs.Vectors.{MatrixWithin}
-use Rattle.fips204_base.specs.Sampling.{sampled_matrix}
-use Rattle.fips204_base.proofs.Sampled.{matrix-within, present_nil, present_next, present_whole}
+use Rattle.fips204_base.proofs.Names.{sampled_row, MatrixWithin, sampled_matrix, matrix-within, present_nil, present_next, present_whole}
 use Rattle.fips204_base.proofs.hashing.matrix.write_expanded_a.Goals as goal
 
 pub loop-r-init : goal.loop-r-init

@@ -1,8 +1,5 @@
 use Rattle.std.proofs.Common.{◌≡◌, ◌∙◌, ◌+◌, ℕ, List, Err, ap, refl, arith, rules, drop, length, add-zero}
-use Rattle.fips204_base.specs.SamplerSteps.{numbered_entry}
-use Rattle.fips204_base.specs.Sampling.{matrix_entry}
-use Rattle.fips204_base.specs.declared.fault.Fault.TheVariants.{SamplingLimit}
-use Rattle.fips204_base.proofs.FourAtATime.{of_parts, parts_whole, four_written}
+use Rattle.fips204_base.proofs.Names.{numbered_entry, matrix_entry, SamplingLimit, of_parts, parts_whole, four_written}
 use Rattle.fips204_base.proofs.hashing.matrix.write_four_entries.Given.{Over}
 use Rattle.fips204_base.proofs.hashing.matrix.write_four_entries.Goals as goal
 

@@ -1,7 +1,5 @@
 use Rattle.std.proofs.Common.{◌≡◌, ◌∙◌, ◌+◌, ◌++◌, ap, sym, take, append_assoc, append-nil}
-use Rattle.std.specs.Prelude.{option_to_list}
-use Rattle.fips204_base.specs.SamplerSteps.{kept_triples, triple}
-use Rattle.fips204_base.proofs.Sampling.{keeps_there, keeps_joined, kept_triples-zero, kept_triples-more, triple-at}
+use Rattle.fips204_base.proofs.Names.{option_to_list, kept_triples, triple, keeps_there, keeps_joined, kept_triples-zero, kept_triples-more, triple-at}
 use Rattle.fips204_base.proofs.hashing.matrix.write_kept_triples.Goals as goal
 
 pub loop-p-init : goal.loop-p-init

@@ -1,6 +1,5 @@
 use Rattle.std.proofs.Common.{◌++◌, take}
-use Rattle.fips204_base.specs.SamplerSteps.{kept_triples}
-use Rattle.fips204_base.proofs.Sampling.{Keeps}
+use Rattle.fips204_base.proofs.Names.{kept_triples, Keeps}
 use Rattle.fips204_base.proofs.hashing.matrix.write_kept_triples.Given as goal
 
 abbrev pub invariant-loop-p : goal.invariant-loop-p

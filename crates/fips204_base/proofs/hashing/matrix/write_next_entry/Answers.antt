@@ -1,8 +1,5 @@
 use Rattle.std.proofs.Common.{◌≡◌, ◌+◌, ◌*◌, ◌<◌, Err, refl, arith, rules}
-use Rattle.fips204_base.specs.SamplerSteps.{numbered_entry}
-use Rattle.fips204_base.specs.declared.fault.Fault.TheVariants.{SamplingLimit}
-use Rattle.fips204_base.proofs.Sampled.{some_of_ok, none_of_err}
-use Rattle.fips204_base.proofs.FourAtATime.{ahead-last, matrix-none, some_columns}
+use Rattle.fips204_base.proofs.Names.{numbered_entry, SamplingLimit, some_of_ok, none_of_err, ahead-last, matrix-none, some_columns}
 use Rattle.fips204_base.proofs.hashing.matrix.write_next_entry.Goals as goal
 
 pub returns-then-n : goal.returns-then-n

@@ -1,7 +1,5 @@
 use Rattle.std.proofs.Common.{◌≡◌, ◌∙◌, ◌+◌, ◌*◌, sym, subst, arith, length-set, add-zero, Some}
-use Rattle.fips204_base.specs.SamplerSteps.{AreAhead, sampled_entry}
-use Rattle.fips204_base.proofs.Sampled.{present_nil, present_next}
-use Rattle.fips204_base.proofs.FourAtATime.{entry-numbered}
+use Rattle.fips204_base.proofs.Names.{AreAhead, sampled_entry, present_nil, present_next, entry-numbered}
 use Rattle.fips204_base.proofs.hashing.matrix.write_next_row.Goals as goal
 
 pub loop-s-init : goal.loop-s-init

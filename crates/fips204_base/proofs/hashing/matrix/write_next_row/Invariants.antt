@@ -1,7 +1,5 @@
 use Rattle.std.proofs.Common.{◌≡◌, ◌*◌, ◌+◌, length, map, take, Some}
-use Rattle.std.specs.List.{range_with_len}
-use Rattle.fips204_base.specs.SamplerSteps.{AreAhead, sampled_entry}
-use Rattle.fips204_base.specs.Sampling.{all_present}
+use Rattle.fips204_base.proofs.Names.{range_with_len, AreAhead, sampled_entry, all_present}
 use Rattle.fips204_base.proofs.hashing.matrix.write_next_row.Given as goal
 
 abbrev pub invariant-loop-s : goal.invariant-loop-s

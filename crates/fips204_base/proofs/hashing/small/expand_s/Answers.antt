@@ -1,6 +1,5 @@
 use Rattle.std.proofs.Common.{nat_abs, w32, refl, rules}
-use Rattle.std.proofs.lemmas.Int.{to_z-of_z}
-use Rattle.fips204_base.proofs.Sampled.{vectors_some, vectors_none}
+use Rattle.fips204_base.proofs.Names.{to_z-of_z, vectors_some, vectors_none}
 use Rattle.fips204_base.proofs.hashing.small.expand_s.Goals as goal
 
 pub returns-in_err-write_expanded_s : goal.returns-in_err-write_expanded_s

@@ -1,9 +1,5 @@
 use Rattle.std.proofs.Common.{◌≡◌, Err, refl, arith, rules, nat_abs, to_z, of_z}
-use Rattle.std.specs.Int.{w32}
-use Rattle.std.specs.List.{flat_map}
-use Rattle.fips204_base.specs.Sampling.{small_polynomial}
-use Rattle.fips204_base.specs.declared.fault.Fault.TheVariants.{SamplingLimit}
-use Rattle.fips204_base.proofs.FourAtATime.{of_parts, parts_whole}
+use Rattle.fips204_base.proofs.Names.{w32, flat_map, small_polynomial, SamplingLimit, of_parts, parts_whole}
 use Rattle.fips204_base.proofs.hashing.small.rej_bounded_poly.Goals as goal
 
 pub write_polynomial-requires-clause-front : goal.write_polynomial-requires-clause-front

@@ -1,10 +1,5 @@
 use Rattle.std.proofs.Common.{◌≡◌, ◌+◌, ◌++◌, ℕ, List, Err, Some, refl, arith, rules, drop, length, nat_abs, to_z, of_z}
-use Rattle.std.specs.Int.{w16, w32, to_le_bytes}
-use Rattle.fips204_base.specs.Sampling.{small_polynomial}
-use Rattle.fips204_base.specs.declared.fault.Fault.TheVariants.{SamplingLimit}
-use Rattle.fips204_base.specs.declared.types.R.{R}
-use Rattle.fips204_base.proofs.FourAtATime.{of_parts, parts_whole, small_vector-none}
-use Rattle.fips204_base.proofs.Masks.{four_rows}
+use Rattle.fips204_base.proofs.Names.{w16, w32, to_le_bytes, small_polynomial, SamplingLimit, R, of_parts, parts_whole, small_vector-none, four_rows}
 use Rattle.fips204_base.proofs.hashing.small.write_four_polynomials.Given.{Over}
 use Rattle.fips204_base.proofs.hashing.small.write_four_polynomials.Goals as goal
 

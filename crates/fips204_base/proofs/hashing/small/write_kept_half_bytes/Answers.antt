@@ -1,9 +1,5 @@
 use Rattle.std.proofs.Common.{◌≡◌, ◌∙◌, ◌+◌, ◌/◌, ◌%◌, ◌++◌, ap, sym, refl, arith, take, get_or, append_assoc, append-nil, nat_abs, to_z, of_z}
-use Rattle.std.specs.Prelude.{option_to_list}
-use Rattle.std.specs.Int.{w32}
-use Rattle.fips204_base.specs.Sampling.{coefficient_from_half_byte}
-use Rattle.fips204_base.specs.SamplerSteps.{kept_half_bytes}
-use Rattle.fips204_base.proofs.Sampling.{keeps_there, keeps_joined, kept_half_bytes-zero, kept_half_bytes-more}
+use Rattle.fips204_base.proofs.Names.{option_to_list, w32, coefficient_from_half_byte, kept_half_bytes, keeps_there, keeps_joined, kept_half_bytes-zero, kept_half_bytes-more}
 use Rattle.fips204_base.proofs.hashing.small.write_kept_half_bytes.Goals as goal
 
 pub loop-byte-init : goal.loop-byte-init

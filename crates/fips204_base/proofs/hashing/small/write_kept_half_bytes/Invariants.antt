@@ -1,6 +1,5 @@
 use Rattle.std.proofs.Common.{◌++◌, take, nat_abs}
-use Rattle.fips204_base.specs.SamplerSteps.{kept_half_bytes}
-use Rattle.fips204_base.proofs.Sampling.{Keeps}
+use Rattle.fips204_base.proofs.Names.{kept_half_bytes, Keeps}
 use Rattle.fips204_base.proofs.hashing.small.write_kept_half_bytes.Given as goal
 
 abbrev pub invariant-loop-byte : goal.invariant-loop-byte

@@ -1,8 +1,5 @@
 use Rattle.std.proofs.Common.{ℕ, ℤ, ◌≡◌, ◌∙◌, ◌+◌, ◌/◌, ◌≤◌, ◌++◌, List, ap, sym, refl, arith, rules, take, drop, nat_abs, length, drop-drop, length-append, to_z, of_z}
-use Rattle.std.specs.Int.{w32}
-use Rattle.std.proofs.lemmas.List.{take_at, drop_at}
-use Rattle.fips204_base.specs.SamplerSteps.{kept_half_bytes}
-use Rattle.fips204_base.proofs.Sampling.{Keeps, keeps_none, keeps_joined, kept_half_bytes-zero, kept_half_bytes-joined, polynomial-full, polynomial-few}
+use Rattle.fips204_base.proofs.Names.{w32, take_at, drop_at, kept_half_bytes, Keeps, keeps_none, keeps_joined, kept_half_bytes-zero, kept_half_bytes-joined, polynomial-full, polynomial-few}
 use Rattle.fips204_base.proofs.hashing.small.write_polynomial.Goals as goal
 
 -- what is kept after another piece

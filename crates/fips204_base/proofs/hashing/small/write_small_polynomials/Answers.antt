@@ -1,10 +1,5 @@
 use Rattle.std.proofs.Common.{◌≡◌, ◌+◌, ◌++◌, [], refl, arith, rules, append-nil, nat_abs, to_z, of_z, None, Err}
-use Rattle.std.specs.Int.{w16, w32, to_le_bytes}
-use Rattle.fips204_base.specs.declared.fault.Fault.TheVariants.{SamplingLimit}
-use Rattle.fips204_base.specs.SamplerSteps.{AreSmall}
-use Rattle.fips204_base.specs.Sampling.{small_polynomial}
-use Rattle.fips204_base.proofs.FourAtATime.{small_vector-none, small_vector-each}
-use Rattle.fips204_base.proofs.Sampled.{none_of_err}
+use Rattle.fips204_base.proofs.Names.{w16, w32, to_le_bytes, SamplingLimit, AreSmall, small_polynomial, small_vector-none, small_vector-each, none_of_err}
 use Rattle.fips204_base.proofs.hashing.small.write_small_polynomials.Goals as goal
 
 pub returns-in_err-polynomials : goal.returns-in_err-polynomials

@@ -1,5 +1,5 @@
 use Rattle.std.proofs.Common.{◌≡◌, ◌≤◌, ◌-◌, length, nat_abs}
-use Rattle.fips204_base.specs.SamplerSteps.{AreSmall}
+use Rattle.fips204_base.proofs.Names.{AreSmall}
 use Rattle.fips204_base.proofs.hashing.small.write_small_polynomials.Given as goal
 
 abbrev pub invariant-loop-r : goal.invariant-loop-r

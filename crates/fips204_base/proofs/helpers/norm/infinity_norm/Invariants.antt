@@ -1,5 +1,5 @@
 use Rattle.std.proofs.Common.{◌≡◌, take, pos}
-use Rattle.fips204_base.specs.Residues.{vector_norm}
+use Rattle.fips204_base.proofs.Names.{vector_norm}
 use Rattle.fips204_base.proofs.helpers.norm.infinity_norm.Given as goal
 
 abbrev pub invariant-loop-polynomial : goal.invariant-loop-polynomial

@@ -1,5 +1,5 @@
 use Rattle.std.proofs.Common.{◌≡◌, take, pos}
-use Rattle.fips204_base.specs.Residues.{norm}
+use Rattle.fips204_base.proofs.Names.{norm}
 use Rattle.fips204_base.proofs.helpers.norm.norm.Given as goal
 
 abbrev pub invariant-loop-x : goal.invariant-loop-x

@@ -1,5 +1,5 @@
 use Rattle.std.proofs.Common.{arith}
-use Rattle.std.proofs.lemmas.Grind.{common_steps}
+use Rattle.fips204_base.proofs.Names.{common_steps}
 use Rattle.fips204_base.proofs.helpers.reduce.folded.Goals as goal
 
 pub returns-clause-congruent : goal.returns-clause-congruent

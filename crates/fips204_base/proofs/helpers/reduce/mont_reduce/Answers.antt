@@ -1,7 +1,5 @@
 use Rattle.std.proofs.Common.{arith, rules, to_z, of_z}
-use Rattle.std.specs.Int.{w32}
-use Rattle.std.proofs.lemmas.Int.{ints}
-use Rattle.fips204_base.proofs.Residues.{montgomery_congruent}
+use Rattle.fips204_base.proofs.Names.{w32, ints, montgomery_congruent}
 use Rattle.fips204_base.proofs.helpers.reduce.mont_reduce.Goals as goal
 
 pub returns-clause-value : goal.returns-clause-value

@@ -1,5 +1,5 @@
 use Rattle.std.proofs.Common.{arith}
-use Rattle.std.proofs.lemmas.Int.{ints}
+use Rattle.fips204_base.proofs.Names.{ints}
 use Rattle.fips204_base.proofs.helpers.reduce.partial_reduce32.Goals as goal
 
 pub returns-clause-congruent : goal.returns-clause-congruent

@@ -1,7 +1,5 @@
 use Rattle.std.proofs.Common.{◌≡◌, ◌∙◌, ◌*ℤ◌}
-use Rattle.std.specs.Int.{w32, w64}
-use Rattle.std.proofs.lemmas.Int.{to_z-of_z}
-use Rattle.fips204_base.proofs.Residues.{product_fits, wider}
+use Rattle.fips204_base.proofs.Names.{w32, w64, to_z-of_z, product_fits, wider}
 use Rattle.fips204_base.proofs.helpers.reduce.wide_product.Goals as goal
 
 pub returns : goal.returns

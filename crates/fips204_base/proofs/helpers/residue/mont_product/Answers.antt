@@ -1,7 +1,5 @@
 use Rattle.std.proofs.Common.{◌≡◌, ◌*ℤ◌, arith, to_z, of_z}
-use Rattle.std.specs.Int.{w32, w64}
-use Rattle.std.proofs.lemmas.Int.{ints, to_z-of_z}
-use Rattle.fips204_base.proofs.Residues.{congruent_trans, product_bound, residue_mul}
+use Rattle.fips204_base.proofs.Names.{w32, w64, ints, to_z-of_z, congruent_trans, product_bound, residue_mul}
 use Rattle.fips204_base.proofs.helpers.residue.mont_product.Goals as goal
 
 pub mont_reduce-requires : goal.mont_reduce-requires

@@ -1,7 +1,5 @@
 use Rattle.std.proofs.Common.{ℕ, [], ◌≡◌, ◌<◌, ◌*◌, ◌%◌, get_or, length}
-use Rattle.fips204_base.specs.declared.types.T.{T}
-use Rattle.fips204_base.specs.Residues.{sum_below}
-use Rattle.fips204_base.specs.Bounds.{vector_residues, ValuesWithin}
+use Rattle.fips204_base.proofs.Names.{T, sum_below, vector_residues, ValuesWithin}
 use Rattle.fips204_base.proofs.helpers.vector.mat_vec_mul.Given as goal
 
 abbrev pub invariant-loop-i : goal.invariant-loop-i

@@ -1,11 +1,5 @@
 use Rattle.std.proofs.Common.{ℕ, arith, refl, ◌≡◌, ◌≤◌, ◌*◌, ap, ◌∙◌, ℤ, pos, ◌+ℤ◌, ◌*ℤ◌, to_z, of_z, get_or, []}
-use Rattle.std.specs.Prelude.{nat_abs}
-use Rattle.std.specs.Int.{w32, w64}
-use mir.Val.{SFits}
-use Rattle.std.proofs.lemmas.Int.{ints, to_z-of_z, fits_signed_from_abs}
-use Rattle.fips204_base.specs.Residues.{residue, sum_below}
-use Rattle.fips204_base.specs.Bounds.{vector_residues}
-use Rattle.fips204_base.proofs.Residues.{residue_sum_more, size_sum_more, size_at}
+use Rattle.fips204_base.proofs.Names.{nat_abs, w32, w64, SFits, ints, to_z-of_z, fits_signed_from_abs, residue, sum_below, vector_residues, residue_sum_more, size_sum_more, size_at}
 use Rattle.fips204_base.proofs.helpers.vector.place_sum.Goals as goal
 
 -- a product of two small numbers, added

@@ -1,7 +1,5 @@
 use Rattle.std.proofs.Common.{◌≡◌, ◌≤◌, ◌*◌}
-use Rattle.std.specs.Prelude.{nat_abs}
-use Rattle.fips204_base.specs.Residues.{residue}
-use Rattle.fips204_base.specs.PlainTransforms.{lanes_value}
+use Rattle.fips204_base.proofs.Names.{nat_abs, residue, lanes_value}
 use Rattle.fips204_base.proofs.helpers.vector.place_sum.Given as goal
 
 abbrev pub invariant-loop-k : goal.invariant-loop-k

@@ -1,13 +1,5 @@
-use Rattle.std.proofs.lemmas.Grind.{common_steps}
+use Rattle.fips204_base.proofs.Names.{common_steps, cases_eq, nat_abs, residue, row_value, vector_residues, lanes_value, to_z-of_z, fits_signed_from_abs, ints, size_at, sum_equal, row_written}
 use Rattle.std.proofs.Common.{ℕ, ◌≡◌, ◌<◌, ◌≤◌, ◌*◌, ◌%◌, ◌∙◌, arith, rules, ap, length, length-set, pos, get_or, get_or-set_same, get_or-set_other, to_z, of_z, w32}
-use Rattle.std.proofs.lemmas.Bool.{cases_eq}
-use Rattle.std.specs.Prelude.{nat_abs}
-use Rattle.fips204_base.specs.Residues.{residue}
-use Rattle.fips204_base.specs.Bounds.{row_value, vector_residues}
-use Rattle.fips204_base.specs.PlainTransforms.{lanes_value}
-use Rattle.std.proofs.lemmas.Int.{to_z-of_z, fits_signed_from_abs, ints}
-use Rattle.fips204_base.proofs.Residues.{size_at, sum_equal}
-use Rattle.fips204_base.proofs.Vectors.{row_written}
 use Rattle.fips204_base.proofs.helpers.vector.row_sum.Goals as goal
 
 pub loop-j-preserved : goal.loop-j-preserved

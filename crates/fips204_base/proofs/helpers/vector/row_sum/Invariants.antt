@@ -1,8 +1,5 @@
 use Rattle.std.proofs.Common.{ℕ, ℤ, ◌≡◌, ◌<◌, ◌≤◌, ◌*◌, ◌%◌, get_or, length}
-use Rattle.std.specs.Prelude.{nat_abs}
-use Rattle.fips204_base.specs.Lanes.{lane}
-use Rattle.fips204_base.specs.Residues.{residue, coefficients, sum_below}
-use Rattle.fips204_base.specs.Bounds.{vector_residues}
+use Rattle.fips204_base.proofs.Names.{nat_abs, lane, residue, coefficients, sum_below, vector_residues}
 use Rattle.fips204_base.proofs.helpers.vector.row_sum.Given as goal
 
 abbrev pub invariant-loop-j : goal.invariant-loop-j

@@ -1,6 +1,5 @@
 use Rattle.std.proofs.Common.{ℕ, ◌≡◌, ◌<◌, ◌*◌, ◌%◌, get_or, length}
-use Rattle.fips204_base.specs.declared.types.T.{T}
-use Rattle.fips204_base.specs.Bounds.{vector_residues, ValuesWithin}
+use Rattle.fips204_base.proofs.Names.{T, vector_residues, ValuesWithin}
 use Rattle.fips204_base.proofs.helpers.vector.to_mont.Given as goal
 
 abbrev pub invariant-loop-i : goal.invariant-loop-i

@@ -1,7 +1,5 @@
 use Rattle.std.proofs.Common.{◌<◌, ◌≡◌, ℕ, pos, get_or, length, rules}
-use Rattle.std.specs.Int.{w32}
-use mir.Val.{SFits}
-use Rattle.fips204_base.proofs.LaneRows.{eight_read, eight_stored}
+use Rattle.fips204_base.proofs.Names.{w32, SFits, eight_read, eight_stored}
 use Rattle.fips204_base.proofs.lanes.Lanes.from_array.Goals as goal
 
 eight : (c : goal.After-h-1) → length c.args.entries ≡ 8

@@ -1,11 +1,5 @@
 use Rattle.std.proofs.Common.{◌≡◌, arith, to_z, of_z}
-use Rattle.std.specs.Int.{w32}
-use Rattle.std.proofs.lemmas.Int.{to_z-of_z}
-use Rattle.fips204_base.specs.Residues.{residue}
-use Rattle.fips204_base.specs.PlainTransforms.{from_mont}
-use Rattle.fips204_base.specs.Lanes.{lane}
-use Rattle.fips204_base.proofs.Residues.{residue_below}
-use Rattle.fips204_base.proofs.Reductions.{factor_taken}
+use Rattle.fips204_base.proofs.Names.{w32, to_z-of_z, residue, from_mont, lane, residue_below, factor_taken}
 use Rattle.fips204_base.proofs.lanes.Lanes.times.Goals as goal
 
 pub returns-clause-value : goal.returns-clause-value

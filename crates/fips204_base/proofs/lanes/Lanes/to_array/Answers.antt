@@ -1,5 +1,5 @@
 use Rattle.std.proofs.Common.{◌∙◌, arith}
-use Rattle.fips204_base.proofs.LaneRows.{readback}
+use Rattle.fips204_base.proofs.Names.{readback}
 use Rattle.fips204_base.proofs.lanes.Lanes.to_array.Goals as goal
 
 pub returns : goal.returns

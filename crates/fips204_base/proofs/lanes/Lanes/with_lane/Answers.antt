@@ -1,11 +1,7 @@
 use Rattle.std.proofs.Common.{◌≡◌, ℕ, ℤ, ◌<◌, ◌∙◌, pos, get_or, map, List, arith, subst, sym, refl, to_z, of_z, Bool, true, false}
-use Rattle.std.specs.Int.{w32}
-use Rattle.std.proofs.lemmas.Int.{to_z-of_z}
-use Rattle.std.proofs.lemmas.Bool.{eqb-true, eqb-false}
+use Rattle.fips204_base.proofs.Names.{w32, to_z-of_z, eqb-true, eqb-false, SFits, AreEight, all_fit, placed_at, placed_other, length-placed}
 use lib.Dec.{eqb}
-use mir.Val.{SFits}
-use Rattle.fips204_base.specs.Network.{AreEight}
-use Rattle.fips204_base.proofs.LaneRows.{all_fit, placed, placed_at, placed_other, length-placed}
+use Rattle.fips204_base.proofs.LaneRows.{placed}
 use Rattle.fips204_base.proofs.lanes.Lanes.with_lane.Goals as goal
 
 module _ (xs : List ℤ) (i : AreEight xs) (r : ℕ) (x : ℤ) (within : r < 8) (fit : SFits w32 x) where

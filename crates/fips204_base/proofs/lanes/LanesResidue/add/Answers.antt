@@ -1,11 +1,8 @@
 use Rattle.std.proofs.Common.{ℕ, ℤ, List, ◌≡◌, ◌<◌, ◌+ℤ◌, ◌∙◌, pos, get_or, length, arith, sym}
-use Rattle.std.specs.Int.{w32}
-use mir.Val.{SFits}
+use Rattle.fips204_base.proofs.Names.{w32, SFits, AreEight, sum_asked, sum_given, lanes_asked, lanes_given, lanes_fit, length-lanes}
 use mir.Syntax.{add, signed}
 use borrow.Table.Row.{s_int}
 use borrow.Rule.Simd.Lanes.{Asks2, act2}
-use Rattle.fips204_base.specs.Network.{AreEight}
-use Rattle.fips204_base.proofs.LaneRows.{sum_asked, sum_given, lanes_asked, lanes_given, lanes_fit, length-lanes}
 use Rattle.fips204_base.proofs.lanes.LanesResidue.add.Goals as goal
 
 -- what the lemmas on two rows of lanes ask, of two values and the bound on their lanes

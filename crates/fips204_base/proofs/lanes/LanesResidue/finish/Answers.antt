@@ -1,8 +1,5 @@
 use Rattle.std.proofs.Common.{◌≡◌, ◌*◌, ◌%◌, pos, arith, ap, refl, ◌∙◌}
-use Rattle.fips204_base.specs.Residues.{residue, IsCongruent}
-use Rattle.fips204_base.specs.Lanes.{lane}
-use Rattle.fips204_base.proofs.Residues.{residue_below}
-use Rattle.fips204_base.proofs.Reductions.{factor_taken}
+use Rattle.fips204_base.proofs.Names.{residue, IsCongruent, lane, residue_below, factor_taken}
 use Rattle.fips204_base.proofs.lanes.LanesResidue.finish.Goals as goal
 
 pub returns : goal.returns

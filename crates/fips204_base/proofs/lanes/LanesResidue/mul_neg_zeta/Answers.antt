@@ -1,10 +1,5 @@
 use Rattle.std.proofs.Common.{◌≡◌, ◌*◌, to_z, of_z, neg_ℤ, pos, ◌-ℤ◌, arith, ◌∙◌, ap}
-use Rattle.std.specs.Int.{w32}
-use Rattle.std.proofs.lemmas.Int.{ints}
-use Rattle.fips204_base.specs.Lanes.{lane}
-use Rattle.fips204_base.specs.Transforms.{zeta_at}
-use Rattle.fips204_base.proofs.Residues.{congruent_of, congruent_trans}
-use Rattle.fips204_base.proofs.Reductions.{minus_factor_is, factor_taken}
+use Rattle.fips204_base.proofs.Names.{w32, ints, lane, zeta_at, congruent_of, congruent_trans, minus_factor_is, factor_taken}
 use Rattle.fips204_base.proofs.lanes.LanesResidue.mul_neg_zeta.Goals as goal
 
 pub returns-clause-value : goal.returns-clause-value

@@ -1,12 +1,5 @@
 use Rattle.std.proofs.Common.{ℕ, ℤ, ◌≡◌, ◌<◌, ◌≤◌, ◌∙◌, ◌-ℤ◌, ◌*ℤ◌, neg_ℤ, pos, get_or, length, arith, sym, ap, subst, to_z, List, map}
-use Rattle.std.specs.Prelude.{nat_abs}
-use Rattle.std.specs.Int.{w32}
-use Rattle.std.proofs.lemmas.Int.{ints, fits_signed_from_abs}
-use mir.Val.{SFits}
-use Rattle.fips204_base.specs.Residues.{residue}
-use Rattle.fips204_base.specs.Lanes.{lane}
-use Rattle.fips204_base.specs.Network.{AreEight}
-use Rattle.fips204_base.proofs.Residues.{residue_multiple}
+use Rattle.fips204_base.proofs.Names.{nat_abs, w32, ints, fits_signed_from_abs, SFits, residue, lane, AreEight, residue_multiple}
 use Rattle.fips204_base.proofs.LaneReductions.{reduced, quotient, reduced_small, reduced_is, reduced_row, reduced_row_is, word_at, word_length}
 use Rattle.fips204_base.proofs.lanes.LanesResidue.reduce.Goals as goal
 

@@ -1,7 +1,5 @@
 use Rattle.std.proofs.Common.{pos, arith}
-use Rattle.fips204_base.specs.Residues.{coefficients}
-use Rattle.fips204_base.proofs.Residues.{residue_below, congruent_of, congruent_trans}
-use Rattle.fips204_base.proofs.PlainTransforms.{factor-transformed, back_from_mont}
+use Rattle.fips204_base.proofs.Names.{coefficients, residue_below, congruent_of, congruent_trans, factor-transformed, back_from_mont}
 use Rattle.fips204_base.proofs.product.Factor.of.Goals as goal
 
 pub returns : goal.returns

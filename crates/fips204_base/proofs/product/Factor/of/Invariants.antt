@@ -1,7 +1,5 @@
 use Rattle.std.proofs.Common.{ℕ, ◌≡◌, ◌<◌, ◌≤◌, ◌*◌, ◌%◌, length}
-use Rattle.std.specs.Prelude.{nat_abs}
-use Rattle.fips204_base.specs.Residues.{residue}
-use Rattle.fips204_base.specs.Bounds.{coefficient_at}
+use Rattle.fips204_base.proofs.Names.{nat_abs, residue, coefficient_at}
 use Rattle.fips204_base.proofs.product.Factor.of.Given as goal
 
 abbrev pub invariant-loop-n : goal.invariant-loop-n

@@ -1,7 +1,5 @@
 use Rattle.std.proofs.Common.{arith, sym, [], get_or}
-use Rattle.fips204_base.specs.PlainTransforms.{row_product}
-use Rattle.fips204_base.specs.Vectors.{matrix_product}
-use Rattle.fips204_base.proofs.PlainTransforms.{plain-row}
+use Rattle.fips204_base.proofs.Names.{row_product, matrix_product, plain-row}
 use Rattle.fips204_base.proofs.product.Transforms.multiply_by.Goals as goal
 
 pub returns : goal.returns

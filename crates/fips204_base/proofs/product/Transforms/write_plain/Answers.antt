@@ -1,11 +1,6 @@
 use Rattle.std.proofs.Common.{◌<◌, ◌≤◌, ◌∙◌, ℤ, List, [], pos, arith, ap, sym, subst}
-use Rattle.std.specs.Prelude.{nat_abs}
-use Rattle.fips204_base.specs.Lanes.{residues}
-use Rattle.fips204_base.specs.PlainTransforms.{lane_values}
+use Rattle.fips204_base.proofs.Names.{nat_abs, residues, lane_values, vector_coefficients, vector_of-same, plain-at}
 use Rattle.fips204_base.proofs.Products.{inverse_below}
-use Rattle.fips204_base.specs.Vectors.{vector_coefficients}
-use Rattle.fips204_base.proofs.Vectors.{vector_of-same}
-use Rattle.fips204_base.proofs.PlainTransforms.{plain-at}
 use Rattle.fips204_base.proofs.product.Transforms.write_plain.Goals as goal
 
 pub invariant_of-self : goal.invariant_of-self

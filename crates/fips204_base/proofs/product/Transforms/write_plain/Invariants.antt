@@ -1,7 +1,5 @@
 use Rattle.std.proofs.Common.{ℕ, ℤ, ◌≡◌, ◌<◌, List, get_or, length}
-use Rattle.fips204_base.specs.Lanes.{lane}
-use Rattle.fips204_base.specs.Bounds.{coefficient_of}
-use Rattle.fips204_base.specs.declared.types.R.{R}
+use Rattle.fips204_base.proofs.Names.{lane, coefficient_of, R}
 use Rattle.fips204_base.proofs.product.Transforms.write_plain.Given as goal
 
 abbrev pub invariant-loop-n : goal.invariant-loop-n

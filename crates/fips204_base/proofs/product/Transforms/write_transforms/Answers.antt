@@ -1,9 +1,5 @@
 use Rattle.std.proofs.Common.{◌<◌, arith, ap, []}
-use Rattle.fips204_base.specs.Residues.{residue}
-use Rattle.fips204_base.specs.PlainTransforms.{lane_values}
-use Rattle.fips204_base.specs.Vectors.{vector_coefficients}
-use Rattle.fips204_base.proofs.PlainTransforms.{plain-transformed}
-use Rattle.fips204_base.proofs.Residues.{residue_below}
+use Rattle.fips204_base.proofs.Names.{residue, lane_values, vector_coefficients, plain-transformed, residue_below}
 use Rattle.fips204_base.proofs.product.Transforms.write_transforms.Goals as goal
 
 pub returns : goal.returns

@@ -1,7 +1,5 @@
 use Rattle.std.proofs.Common.{ℕ, ℤ, ◌≡◌, ◌<◌, ◌≤◌, List, length, get_or}
-use Rattle.std.specs.Prelude.{nat_abs}
-use Rattle.fips204_base.specs.Lanes.{lane}
-use Rattle.fips204_base.specs.Bounds.{coefficient_of}
+use Rattle.fips204_base.proofs.Names.{nat_abs, lane, coefficient_of}
 use Rattle.fips204_base.proofs.product.Transforms.write_transforms.Given as goal
 
 abbrev pub invariant-loop-n : goal.invariant-loop-n

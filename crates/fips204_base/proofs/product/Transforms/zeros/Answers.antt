@@ -1,9 +1,5 @@
 use Rattle.std.proofs.Common.{ℕ, ◌<◌, ◌≤◌, ◌≡◌, ℤ, List, [], pos, arith, ap, sym, subst, ◌∙◌}
-use Rattle.std.specs.Prelude.{nat_abs, replicate}
-use Rattle.std.proofs.lemmas.List.{get_or-replicate}
-use Rattle.fips204_base.specs.Residues.{residue}
-use Rattle.fips204_base.specs.Lanes.{lane}
-use Rattle.fips204_base.proofs.PlainTransforms.{plain-zeros}
+use Rattle.fips204_base.proofs.Names.{nat_abs, replicate, get_or-replicate, residue, lane, plain-zeros}
 use Rattle.fips204_base.proofs.product.Transforms.zeros.Goals as goal
 use Rattle.fips204_base.proofs.product.Transforms.zeros.Goals.{After-from_array}
 

@@ -1,8 +1,5 @@
 use Rattle.std.proofs.Common.{ℕ, ◌≡◌, ◌<◌, ◌≤◌, [], length, get_or}
-use Rattle.std.specs.Prelude.{nat_abs}
-use Rattle.fips204_base.specs.Residues.{residue}
-use Rattle.fips204_base.specs.Lanes.{lane}
-use Rattle.fips204_base.specs.PlainTransforms.{lanes_value}
+use Rattle.fips204_base.proofs.Names.{nat_abs, residue, lane, lanes_value}
 use Rattle.fips204_base.proofs.product.matrix.sums_at.Given as goal
 
 abbrev pub invariant-loop-r : goal.invariant-loop-r

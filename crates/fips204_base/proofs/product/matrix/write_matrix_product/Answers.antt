@@ -1,5 +1,5 @@
 use Rattle.std.proofs.Common.{◌∙◌, ap, pos}
-use Rattle.fips204_base.proofs.PlainTransforms.{matrix-same}
+use Rattle.fips204_base.proofs.Names.{matrix-same}
 use Rattle.fips204_base.proofs.product.matrix.write_matrix_product.Goals as goal
 
 pub returns-clause-values : goal.returns-clause-values

@@ -1,10 +1,6 @@
 use Rattle.std.proofs.Common.{◌≡◌, ◌≢◌, ℕ, ◌<◌, ◌∙◌, [], arith}
 use native.Mathlib.Decide.{dec_lt}
-use Rattle.fips204_base.specs.SamplerSteps.{sampled_row}
-use Rattle.fips204_base.specs.PlainTransforms.{plain_row, row_product}
-use Rattle.fips204_base.specs.Sampling.{sampled_matrix}
-use Rattle.fips204_base.specs.Vectors.{vector_coefficients, matrix_product}
-use Rattle.fips204_base.proofs.Sampled.{all_present-each, row-within}
+use Rattle.fips204_base.proofs.Names.{sampled_row, plain_row, row_product, sampled_matrix, vector_coefficients, matrix_product, all_present-each, row-within}
 use Rattle.fips204_base.proofs.product.matrix.write_sampled_product.Goals as goal
 
 pub loop-r-init : goal.loop-r-init

@@ -1,8 +1,5 @@
 use Rattle.std.proofs.Common.{ℕ, ◌≡◌, ◌<◌, ◌*◌, List, Some}
-use Rattle.fips204_base.specs.SamplerSteps.{AreAhead, sampled_row}
-use Rattle.fips204_base.specs.PlainTransforms.{plain_row, row_product}
-use Rattle.fips204_base.specs.declared.types.T.{T}
-use Rattle.fips204_base.specs.Vectors.{vector_coefficients}
+use Rattle.fips204_base.proofs.Names.{AreAhead, sampled_row, plain_row, row_product, T, vector_coefficients}
 use Rattle.fips204_base.proofs.product.matrix.write_sampled_product.Given as goal
 
 abbrev pub invariant-loop-r : goal.invariant-loop-r

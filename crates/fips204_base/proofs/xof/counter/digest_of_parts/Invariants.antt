@@ -1,5 +1,5 @@
 use Rattle.std.proofs.Common.{take}
-use Rattle.std.specs.List.{flat_map}
+use Rattle.fips204_base.proofs.Names.{flat_map}
 use Rattle.fips204_base.proofs.xof.counter.digest_of_parts.Given as goal
 
 abbrev pub invariant-loop-part : goal.invariant-loop-part

@@ -1,10 +1,5 @@
 use Rattle.std.proofs.Common.{◌≡◌, ◌*◌, to_z, of_z, neg_ℤ, pos, ◌-ℤ◌, arith, ◌∙◌, ap}
-use Rattle.std.specs.Int.{w32}
-use Rattle.std.proofs.lemmas.Int.{ints, to_z-of_z}
-use Rattle.fips204_base.specs.Residues.{residue, IsCongruent}
-use Rattle.fips204_base.specs.Transforms.{zeta_at}
-use Rattle.fips204_base.proofs.Residues.{congruent_of, congruent_trans}
-use Rattle.fips204_base.proofs.Reductions.{only_lane, minus_factor_is, factor_taken}
+use Rattle.fips204_base.proofs.Names.{w32, ints, to_z-of_z, residue, IsCongruent, zeta_at, congruent_of, congruent_trans, only_lane, minus_factor_is, factor_taken}
 use Rattle.fips204_base.proofs.helpers.residue.I32Residue.mul_neg_zeta.Goals as goal
 
 pub returns-clause-value : goal.returns-clause-value

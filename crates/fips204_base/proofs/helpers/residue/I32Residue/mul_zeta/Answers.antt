@@ -1,9 +1,5 @@
 use Rattle.std.proofs.Common.{◌≡◌, ◌*◌, to_z, of_z, rules}
-use Rattle.std.specs.Int.{w32}
-use Rattle.std.proofs.lemmas.Int.{to_z-of_z}
-use Rattle.fips204_base.specs.Residues.{residue, IsCongruent}
-use Rattle.fips204_base.specs.Transforms.{zeta_at}
-use Rattle.fips204_base.proofs.Reductions.{only_lane, factor_is, factor_taken}
+use Rattle.fips204_base.proofs.Names.{w32, to_z-of_z, residue, IsCongruent, zeta_at, only_lane, factor_is, factor_taken}
 use Rattle.fips204_base.proofs.helpers.residue.I32Residue.mul_zeta.Goals as goal
 
 pub returns-clause-value : goal.returns-clause-value

@@ -1,7 +1,6 @@
 use Rattle.std.proofs.Common.{◌≡◌, ◌++◌, ◌*◌, ◌<◌, ◌≤◌, drop, ap, arith, rules, length-drop}
-use Rattle.std.proofs.lemmas.List.{take_rest}
+use Rattle.fips204_base.proofs.Names.{take_rest, InHand, InHand-made, InHand-size, InHand-few, IsRun, InHand-run}
 use Rattle.fips204_base.specs.Streams.{counter_block}
-use Rattle.fips204_base.proofs.CounterStreams.{InHand, InHand-made, InHand-size, InHand-few, IsRun, InHand-run}
 use Rattle.fips204_base.proofs.xof.counter.BlockReader.read_run.Given.{Over}
 use Rattle.fips204_base.proofs.xof.counter.BlockReader.read_run.Goals as goal
 use Rattle.fips204_base.proofs.xof.counter.BlockReader.read_run.Goals.{then-self, else-self, After-write_run-count}

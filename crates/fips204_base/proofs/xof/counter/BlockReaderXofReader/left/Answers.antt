@@ -1,4 +1,4 @@
-use Rattle.fips204_base.proofs.CounterStreams.{InHand-left}
+use Rattle.fips204_base.proofs.Names.{InHand-left}
 use Rattle.fips204_base.proofs.xof.counter.BlockReaderXofReader.left.Goals as goal
 
 pub returns : goal.returns

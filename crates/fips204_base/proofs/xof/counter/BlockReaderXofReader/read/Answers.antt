@@ -1,6 +1,5 @@
 use Rattle.std.proofs.Common.{length-drop, arith}
-use Rattle.std.proofs.lemmas.List.{take_rest}
-use Rattle.fips204_base.proofs.CounterStreams.{filled_more}
+use Rattle.fips204_base.proofs.Names.{take_rest, filled_more}
 use Rattle.fips204_base.proofs.xof.counter.BlockReaderXofReader.read.Goals as goal
 
 pub loop-filled-preserved : goal.loop-filled-preserved
