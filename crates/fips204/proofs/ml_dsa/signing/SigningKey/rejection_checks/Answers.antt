@@ -16,15 +16,15 @@ first : (g : Over) (c : After-has_norm_below g) → c.has_norm_below.result ≡ 
 first g c = rw (response-here g c, c.z_bound.ensures) at c.has_norm_below.ensures
 
 -- v is w - c s2, and what the test of its low bits says
-difference-here : (g : Over) (c : After-has_norm_below-2 g) → IsDifference g.row.K c.self.inside.key.now (vector_coefficients c.args.w.old) c.args.c.now c.write_difference.new.w
+difference-here : (g : Over) (c : After-has_norm_below-2 g) → IsDifference g.row.K c.self.inside.key.now (vector_coefficients c.args.w.now) c.args.c.now c.write_difference.new.w
 difference-here g c =
-    difference-is g.row.K c.self.inside.key.now (vector_coefficients c.args.w.old) c.args.c.now c.write_product-2.new.out c.write_difference.new.w
+    difference-is g.row.K c.self.inside.key.now (vector_coefficients c.args.w.now) c.args.c.now c.write_product-2.new.out c.write_difference.new.w
     (c.write_product-2.ensures.value c.args.c.now c.self.inside.key.now.s2 c.of-c_hat.ensures c.self.invariant.1.second) c.write_difference.ensures.values
 
-second : (g : Over) (c : After-has_norm_below-2 g) → c.has_norm_below-2.result ≡ nat_lt (vector_norm (low_vector (set_of c.args.p.now) c.self.inside.key.now (vector_coefficients c.args.w.old) c.args.c.now)) (nat_abs c.args.p.now.gamma2 - nat_abs c.args.p.now.beta)
+second : (g : Over) (c : After-has_norm_below-2 g) → c.has_norm_below-2.result ≡ nat_lt (vector_norm (low_vector (set_of c.args.p.now) c.self.inside.key.now (vector_coefficients c.args.w.now) c.args.c.now)) (nat_abs c.args.p.now.gamma2 - nat_abs c.args.p.now.beta)
 second g c =
     let p = c.args.p.now in
-    let low = (rw (to_z-of_z w32 p.gamma2 (search rules)) at c.write_low_vector.ensures.value) ∙ low-is (set_of p) c.self.inside.key.now (vector_coefficients c.args.w.old) c.args.c.now _ g.row.K c.requires.inputs.sizes.rows (difference-here g c) in
+    let low = (rw (to_z-of_z w32 p.gamma2 (search rules)) at c.write_low_vector.ensures.value) ∙ low-is (set_of p) c.self.inside.key.now (vector_coefficients c.args.w.now) c.args.c.now _ g.row.K c.requires.inputs.sizes.rows (difference-here g c) in
     rw (low, c.r0_bound.ensures) at c.has_norm_below-2.ensures
 
 -- c t0, and what the test of its norm says
@@ -35,11 +35,11 @@ third g c =
     rw (t, to_z-of_z w32 c.args.p.now.gamma2 (search rules)) at c.has_norm_below-3.ensures
 
 -- the hint, and how many ones it has
-hint-here : (g : Over) (c : After-number_of_ones g) → c.write_hint.new.t ≡ hint_vector (set_of c.args.p.now) c.self.inside.key.now (vector_coefficients c.args.w.old) c.args.c.now
+hint-here : (g : Over) (c : After-number_of_ones g) → c.write_hint.new.t ≡ hint_vector (set_of c.args.p.now) c.self.inside.key.now (vector_coefficients c.args.w.now) c.args.c.now
 hint-here g c =
     let p = c.args.p.now in
-    hint-is (set_of p) c.self.inside.key.now (vector_coefficients c.args.w.old) c.args.c.now c.write_difference.new.w c.write_product-3.new.out _ g.row.K c.requires.inputs.sizes.rows
-    (difference-is g.row.K c.self.inside.key.now (vector_coefficients c.args.w.old) c.args.c.now c.write_product-2.new.out c.write_difference.new.w
+    hint-is (set_of p) c.self.inside.key.now (vector_coefficients c.args.w.now) c.args.c.now c.write_difference.new.w c.write_product-3.new.out _ g.row.K c.requires.inputs.sizes.rows
+    (difference-is g.row.K c.self.inside.key.now (vector_coefficients c.args.w.now) c.args.c.now c.write_product-2.new.out c.write_difference.new.w
     (c.write_product-2.ensures.value c.args.c.now c.self.inside.key.now.s2 c.of-c_hat.ensures c.self.invariant.1.second) c.write_difference.ensures.values)
     (c.write_product-3.ensures.value c.args.c.now c.self.inside.key.now.t0 c.of-c_hat.ensures c.self.invariant.1.low) (rw (to_z-of_z w32 p.gamma2 (search rules)) at c.write_hint.ensures)
 
@@ -59,19 +59,19 @@ overflow_cast-p-2 g c = omega (arith, ints, (limits c.args.p.now (search rules))
 pub returns-then-not-has_norm_below : goal.returns-then-not-has_norm_below
 returns-then-not-has_norm_below g c =
     let at = goal.at.returns-then-not-has_norm_below g c in
-    rw (sym c.self.view_is) (by_tests (set_of c.args.p.now) c.self.inside.key.now c.args.y.now (vector_coefficients c.args.w.old) c.args.c_tilde.now c.args.c.now
+    rw (sym c.self.view_is) (by_tests (set_of c.args.p.now) c.self.inside.key.now c.args.y.now (vector_coefficients c.args.w.now) c.args.c_tilde.now c.args.c.now
     (sym c.if-not-has_norm_below.true ∙ first g at.After-has_norm_below) refl refl refl)
 
 pub returns-then-not-has_norm_below-2 : goal.returns-then-not-has_norm_below-2
 returns-then-not-has_norm_below-2 g c =
     let at = goal.at.returns-then-not-has_norm_below-2 g c in
-    rw (sym c.self.view_is) (by_tests (set_of c.args.p.now) c.self.inside.key.now c.args.y.now (vector_coefficients c.args.w.old) c.args.c_tilde.now c.args.c.now
+    rw (sym c.self.view_is) (by_tests (set_of c.args.p.now) c.self.inside.key.now c.args.y.now (vector_coefficients c.args.w.now) c.args.c_tilde.now c.args.c.now
     (sym c.if-not-has_norm_below.false ∙ first g at.After-has_norm_below) (sym c.if-not-has_norm_below-2.true ∙ second g at.After-has_norm_below-2) refl refl)
 
 pub returns-then-not-has_norm_below-3 : goal.returns-then-not-has_norm_below-3
 returns-then-not-has_norm_below-3 g c =
     let at = goal.at.returns-then-not-has_norm_below-3 g c in
-    rw (sym c.self.view_is) (by_tests (set_of c.args.p.now) c.self.inside.key.now c.args.y.now (vector_coefficients c.args.w.old) c.args.c_tilde.now c.args.c.now
+    rw (sym c.self.view_is) (by_tests (set_of c.args.p.now) c.self.inside.key.now c.args.y.now (vector_coefficients c.args.w.now) c.args.c_tilde.now c.args.c.now
     (sym c.if-not-has_norm_below.false ∙ first g at.After-has_norm_below) (sym c.if-not-has_norm_below-2.false ∙ second g at.After-has_norm_below-2)
     (sym c.if-not-has_norm_below-3.true ∙ third g at.After-has_norm_below-3) refl)
 
@@ -79,7 +79,7 @@ pub returns-then-number_of_ones-p : goal.returns-then-number_of_ones-p
 returns-then-number_of_ones-p g c =
     let at = goal.at.returns-then-number_of_ones-p g c in
     let count = c.number_of_ones.ensures ∙ ap (λ h. length (all_ones h)) (hint-here g at.After-number_of_ones) in
-    rw (sym c.self.view_is) (by_tests (set_of c.args.p.now) c.self.inside.key.now c.args.y.now (vector_coefficients c.args.w.old) c.args.c_tilde.now c.args.c.now
+    rw (sym c.self.view_is) (by_tests (set_of c.args.p.now) c.self.inside.key.now c.args.y.now (vector_coefficients c.args.w.now) c.args.c_tilde.now c.args.c.now
     (sym c.if-not-has_norm_below.false ∙ first g at.After-has_norm_below) (sym c.if-not-has_norm_below-2.false ∙ second g at.After-has_norm_below-2)
     (sym c.if-not-has_norm_below-3.false ∙ third g at.After-has_norm_below-3) (sym (lt-leb _ _ (rw (to_z-of_z w32 c.args.p.now.omega (search rules), count) at c.if-number_of_ones-p.true))))
 
@@ -101,6 +101,6 @@ returns g c =
     let hint = hint-here g at.After-number_of_ones in
     let count = c.number_of_ones.ensures ∙ ap (λ h. length (all_ones h)) hint in
     rw (sym c.self.view_is) (ap (λ s. Ok (Some s)) (rw (to_z-of_z w32 c.args.p.now.gamma1 (search rules), omega_is, response-here g at.After-has_norm_below, hint) at c.sig_encode.ensures)
-    ∙ by_tests (set_of c.args.p.now) c.self.inside.key.now c.args.y.now (vector_coefficients c.args.w.old) c.args.c_tilde.now c.args.c.now
+    ∙ by_tests (set_of c.args.p.now) c.self.inside.key.now c.args.y.now (vector_coefficients c.args.w.now) c.args.c_tilde.now c.args.c.now
     (sym c.if-not-has_norm_below.false ∙ first g at.After-has_norm_below) (sym c.if-not-has_norm_below-2.false ∙ second g at.After-has_norm_below-2)
     (sym c.if-not-has_norm_below-3.false ∙ third g at.After-has_norm_below-3) (sym (le-leb _ _ (rw (omega_is, count) at c.if-number_of_ones-p.false))))
