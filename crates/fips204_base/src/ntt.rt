@@ -68,7 +68,7 @@ pub(crate) fn write_ntt<V: Residue>(w: &mut [V; 256], meter: &mut V::Meter)
     }
 }
 
-/// One layer: `count` blocks of `2 * len` values. Compiled with constants where blocks are short and many.
+/// One layer: `count` blocks of `2 * len` values. Each layer is compiled with its constants.
 fn write_layer<V: Residue>(w: &mut [V; 256], count: usize, len: usize, meter: &mut V::Meter)
     requires whole { count * len ≡ 128 }
     requires room { (V.products meter.old + 128 < 2 ^ 64) × (V.sums meter.old + 256 < 2 ^ 64) }
@@ -79,9 +79,14 @@ fn write_layer<V: Residue>(w: &mut [V; 256], count: usize, len: usize, meter: &m
     ensures size { length w.new ≡ 256 }
 {
     match len {
-        1 => write_blocks(w, count, 1, meter),
-        2 => write_blocks(w, count, 2, meter),
-        4 => write_blocks(w, count, 4, meter),
+        1 => write_blocks(w, 128, 1, meter),
+        2 => write_blocks(w, 64, 2, meter),
+        4 => write_blocks(w, 32, 4, meter),
+        8 => write_blocks(w, 16, 8, meter),
+        16 => write_blocks(w, 8, 16, meter),
+        32 => write_blocks(w, 4, 32, meter),
+        64 => write_blocks(w, 2, 64, meter),
+        128 => write_blocks(w, 1, 128, meter),
         _ => write_blocks(w, count, len, meter),
     }
 }

@@ -68,6 +68,28 @@ impl Transforms {
         write_ntt(&mut self.values, &mut Count::new());
     }
 
+    /// Becomes `v`, as by `write_transforms`, and returns `c` as what vectors are multiplied by. Both take one run of the
+    /// network, with `c` in the last lane. Coefficients are below `q` in absolute value.
+    #[inline(never)]
+    pub fn write_transforms_and_factor<const N: usize>(&mut self, v: &[R; N], c: &R) -> Factor
+        requires few { N ≤ 7 }
+        requires range { VectorWithin N 8380416 v.now }
+        requires factor { PolynomialWithin 8380416 c.now.0 }
+        ensures vector { AreSameModQ N self.new v.now }
+        ensures factor { (n : ℕ) → n < 256 → coefficients result.0 n ≡ coefficients c.now.0 n }
+    {
+        for n in 0..256usize {
+            self.values[n] = lanes_of(v, n).with_lane(7, c.0[n]);
+        }
+        let mut meter = Count::new();
+        write_ntt(&mut self.values, &mut meter);
+        let mut values = [0; 256];
+        for i in 0..256usize {
+            values[i] = value_to_mont(self.values[i].to_array()[7]);
+        }
+        Factor { values }
+    }
+
     /// Writes the polynomials (Algorithm 42), with coefficients from 0 to `q - 1`, and is used up by it.
     #[inline(never)]
     pub fn write_plain<const N: usize>(&mut self, out: &mut [R; N])

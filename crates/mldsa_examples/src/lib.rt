@@ -12,9 +12,7 @@ mod over_bytes;
 pub mod pieces;
 #[cfg(test)]
 mod tests;
-#[cfg(test)]
-mod toy_hash;
-#[cfg(test)]
-mod toy_stream;
+pub mod toy_hash;
+pub mod toy_stream;
 #[cfg(test)]
 mod using;

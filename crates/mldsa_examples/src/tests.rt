@@ -7,6 +7,7 @@ mod ledger;
 mod licence;
 mod manifest;
 mod pieces;
+mod toy_stream;
 
 use fips204::Fault;
 use fips204::ml_dsa_44::{KG, PrivateKey, PublicKey};

@@ -16,7 +16,7 @@ use crate::types::{Params, R, R0};
 use fips204_base::Fault;
 use fips204_base::hashing::{expand_mask, sample_in_ball};
 use fips204_base::high_low::high_bits;
-use fips204_base::maps::map_vector;
+use fips204_base::maps::write_zip_vectors;
 use fips204_base::product::write_matrix_product;
 use fips204_base::xof::Xof;
 
@@ -42,27 +42,29 @@ impl<'a, const K: usize, const L: usize, H: Xof, G> SigningKey<'a, K, L, H, G> {
         let mut w = [R0; K];
         write_matrix_product(self.a_hat, &y, &mut w);
         // w1 = HighBits(w)
-        let w1 = high_vector(p.gamma2, &w);
+        let mut w1 = [R0; K];
+        write_high_vector(p.gamma2, &w, &mut w1);
         // c_tilde = H(mu || w1Encode(w1))
         let c_tilde = commitment_hash::<K, LAMBDA_DIV4, H>(p, mu, &w1);
         // c = SampleInBall(c_tilde)
         let c = sample_in_ball::<H>(p.tau, &c_tilde)?;
-        Ok(self.rejection_checks(p, &y, &w, &c_tilde, &c))
+        Ok(self.rejection_checks(p, &y, &mut w, &mut w1, &c_tilde, &c))
     }
 }
 
-/// `HighBits` of each coefficient of a vector. `gamma2` is 95232 or 261888, and coefficients are below
-/// `q` in absolute value.
-fn high_vector<const K: usize>(gamma2: i32, w: &[R; K]) -> [R; K]
+/// Writes `HighBits` of each coefficient of `w`. `gamma2` is 95232 or 261888, and coefficients are below `q` in absolute
+/// value.
+fn write_high_vector<const K: usize>(gamma2: i32, w: &[R; K], out: &mut [R; K])
     requires set { IsGamma2 gamma2 }
     requires range { VectorWithin K 8380416 w.now }
-    ensures { result ≡ vector_of K (λ r n. pos (high_bits (nat_abs gamma2) (vector_coefficients w.now r n))) }
+    ensures { out.new ≡ vector_of K (λ r n. pos (high_bits (nat_abs gamma2) (vector_coefficients w.now r n))) }
 {
-    map_vector(
+    write_zip_vectors(
+        out,
         w,
-        |x|
+        |_, x|
             requires { IsGamma2 gamma2 × (nat_abs x ≤ 8380416) }
             ensures { result ≡ pos (high_bits (nat_abs gamma2) (residue x)) }
         { high_bits(gamma2, x) },
-    )
+    );
 }

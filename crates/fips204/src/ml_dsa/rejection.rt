@@ -18,7 +18,7 @@ use crate::types::{Params, R, R0};
 use fips204_base::encodings::sig_encode;
 use fips204_base::helpers::{center_mod, difference, infinity_norm};
 use fips204_base::high_low::{low_bits, make_hint};
-use fips204_base::maps::{map_vector, write_zip_vectors, zip_vectors};
+use fips204_base::maps::write_zip_vectors;
 use fips204_base::product::{Factor, Transforms};
 
 impl<'a, const K: usize, const L: usize, H, G> SigningKey<'a, K, L, H, G> {
@@ -26,18 +26,20 @@ impl<'a, const K: usize, const L: usize, H, G> SigningKey<'a, K, L, H, G> {
     /// checks rejects it.
     ///
     /// Coefficients of `y` are in `[1 - gamma1, gamma1]`, those of `w` and `c` below `q` in absolute value.
-    /// `K` and `L` are those of the set, and `LAMBDA_DIV4` and `SIG_LEN` its lengths.
+    /// `K` and `L` are those of the set, and `LAMBDA_DIV4` and `SIG_LEN` its lengths. Uses `w` and `rows` up, so that no
+    /// further vector is in the stack.
     pub(crate) fn rejection_checks<const LAMBDA_DIV4: usize, const SIG_LEN: usize>(
         &self,
         p: &Params,
         y: &[R; L],
-        w: &[R; K],
+        w: &mut [R; K],
+        rows: &mut [R; K],
         c_tilde: &[u8; LAMBDA_DIV4],
         c: &R,
     ) -> Option<[u8; SIG_LEN]>
-        requires inputs { AreCheckInputs p.now K L LAMBDA_DIV4 SIG_LEN y.now w.now c.now }
+        requires inputs { AreCheckInputs p.now K L LAMBDA_DIV4 SIG_LEN y.now w.old c.now }
         ensures { Ok result
-            ≡ checked_attempt (set_of p.now) self.now.parts y.now (vector_coefficients w.now) c_tilde.now (Some c.now) }
+            ≡ checked_attempt (set_of p.now) self.now.parts y.now (vector_coefficients w.old) c_tilde.now (Some c.now) }
     {
         // c_hat = NTT(c)
         let c_hat = Factor::of(c);
@@ -50,25 +52,24 @@ impl<'a, const K: usize, const L: usize, H, G> SigningKey<'a, K, L, H, G> {
             return None;
         }
         // r0 = LowBits(w - c s2), with a norm below gamma2 - beta
-        let mut v = [R0; K];
-        write_product(&c_hat, &self.transforms.s2_hat, &mut room, &mut v);
-        write_difference(w, &mut v);
-        if !has_norm_below(&low_vector(p.gamma2, &v), p.r0_bound()) {
+        write_product(&c_hat, &self.transforms.s2_hat, &mut room, rows);
+        write_difference(w, rows);
+        write_low_vector(p.gamma2, w, rows);
+        if !has_norm_below(rows, p.r0_bound()) {
             return None;
         }
         // c t0, with a norm below gamma2
-        let mut ct0 = [R0; K];
-        write_product(&c_hat, &self.transforms.t0_hat, &mut room, &mut ct0);
-        if !has_norm_below(&ct0, p.gamma2 as u32) {
+        write_product(&c_hat, &self.transforms.t0_hat, &mut room, rows);
+        if !has_norm_below(rows, p.gamma2 as u32) {
             return None;
         }
         // h = MakeHint(-c t0, w - c s2 + c t0), with at most omega ones
-        let h = hint(p.gamma2, &v, &ct0);
-        if number_of_ones(&h) > p.omega as usize {
+        write_hint(p.gamma2, w, rows);
+        if number_of_ones(rows) > p.omega as usize {
             return None;
         }
         // sigEncode(c_tilde, z, h)
-        Some(sig_encode(p.gamma1, p.omega, c_tilde, &z, &h))
+        Some(sig_encode(p.gamma1, p.omega, c_tilde, &z, rows))
     }
 }
 
@@ -118,59 +119,60 @@ fn write_centred_sum<const L: usize>(z: &mut [R; L], y: &[R; L])
     );
 }
 
-/// Makes `w - v` of `v`, below `q` in absolute value, as coefficients of both are.
-fn write_difference<const K: usize>(w: &[R; K], v: &mut [R; K])
-    requires w { VectorWithin K 8380416 w.now }
-    requires product { VectorWithin K 8380416 v.old }
+/// Takes `v` from `w`, which stays below `q` in absolute value, as coefficients of both are.
+fn write_difference<const K: usize>(w: &mut [R; K], v: &[R; K])
+    requires w { VectorWithin K 8380416 w.old }
+    requires product { VectorWithin K 8380416 v.now }
     ensures values { (r n : ℕ) → r < K → n < 256
-        → vector_coefficients v.new r n ≡ minus (vector_coefficients w.now r) (vector_coefficients v.old r) n }
-    ensures range { VectorWithin K 8380416 v.new }
+        → vector_coefficients w.new r n ≡ minus (vector_coefficients w.old r) (vector_coefficients v.now r) n }
+    ensures range { VectorWithin K 8380416 w.new }
 {
     write_zip_vectors(
-        v,
         w,
-        |product, x|
-            requires { (nat_abs product ≤ 8380416) × (nat_abs x ≤ 8380416) }
+        v,
+        |x, product|
+            requires { (nat_abs x ≤ 8380416) × (nat_abs product ≤ 8380416) }
             ensures value { residue result ≡ (residue x + 8380416 * residue product) % 8380417 }
             ensures small { nat_abs result ≤ 8380416 }
         { difference(x, product) },
     );
 }
 
-/// `LowBits` of each coefficient of a vector whose coefficients are below `q` in absolute value.
-fn low_vector<const K: usize>(gamma2: i32, v: &[R; K]) -> [R; K]
+/// Writes `LowBits` of each coefficient of `v`, which are below `q` in absolute value.
+fn write_low_vector<const K: usize>(gamma2: i32, v: &[R; K], out: &mut [R; K])
     requires set { IsGamma2 gamma2 }
     requires range { VectorWithin K 8380416 v.now }
-    ensures value { result ≡ vector_of K (λ r n. low_bits (nat_abs gamma2) (vector_coefficients v.now r n)) }
-    ensures range { VectorWithin K 8380416 result }
+    ensures value { out.new ≡ vector_of K (λ r n. low_bits (nat_abs gamma2) (vector_coefficients v.now r n)) }
+    ensures range { VectorWithin K 8380416 out.new }
 {
-    map_vector(
+    write_zip_vectors(
+        out,
         v,
-        |x|
+        |_, x|
             requires { IsGamma2 gamma2 × (nat_abs x ≤ 8380416) }
             ensures value { result ≡ low_bits (nat_abs gamma2) (residue x) }
             ensures small { nat_abs result ≤ 8380416 }
         { low_bits(gamma2, x) },
-    )
+    );
 }
 
-/// The hint of `v = w - c s2` and `t = c t0`: `MakeHint` of `-t` and `v + t` at each coefficient.
+/// Writes the hint of `v = w - c s2` and `t = c t0` over `t`: `MakeHint` of `-t` and `v + t` at each coefficient.
 /// `gamma2` is 95232 or 261888, and coefficients are below `q` in absolute value.
-fn hint<const K: usize>(gamma2: i32, v: &[R; K], t: &[R; K]) -> [R; K]
+fn write_hint<const K: usize>(gamma2: i32, v: &[R; K], t: &mut [R; K])
     requires set { IsGamma2 gamma2 }
     requires v { VectorWithin K 8380416 v.now }
-    requires t { VectorWithin K 8380416 t.now }
-    ensures { result ≡ vector_of K (λ r n.
-        hint_bit (nat_abs gamma2) (vector_coefficients v.now r n) (vector_coefficients t.now r n)) }
+    requires t { VectorWithin K 8380416 t.old }
+    ensures { t.new ≡ vector_of K (λ r n.
+        hint_bit (nat_abs gamma2) (vector_coefficients v.now r n) (vector_coefficients t.old r n)) }
 {
-    zip_vectors(
-        v,
+    write_zip_vectors(
         t,
-        |x, t|
+        v,
+        |t, x|
             requires { IsGamma2 gamma2 × (nat_abs x ≤ 8380416) × (nat_abs t ≤ 8380416) }
             ensures { result ≡ hint_bit (nat_abs gamma2) (residue x) (residue t) }
         { if make_hint(gamma2, -t, x + t) { 1 } else { 0 } },
-    )
+    );
 }
 
 /// How many ones a hint has. `K` is at most 8.

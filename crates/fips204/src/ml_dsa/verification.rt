@@ -12,7 +12,7 @@ ghost use Rattle.fips204_base.specs.declared.types.R.{R};
 ghost use Rattle.fips204.specs.Acceptance.{Accepts, Verifies};
 ghost use Rattle.fips204.specs.ParameterSets.{c_tilde_length};
 ghost use Rattle.fips204.specs.Signing.{commitment_hash};
-ghost use Rattle.fips204.specs.SigningInputs.{IsHighPart, hinted, AreShifted, OpensTo};
+ghost use Rattle.fips204.specs.SigningInputs.{IsFactorOf, IsHighPart, hinted, AreShifted, OpensTo};
 ghost use Rattle.fips204.specs.Sets.{HasSizes, set_of};
 
 use super::commitment_hash::commitment_hash;
@@ -44,16 +44,16 @@ pub fn verify_internal<
         return false;
     };
     let Opened { c_tilde, z, h, c } = parts;
-    // A = ExpandA(rho), A z
+    // NTT(c), A = ExpandA(rho), A z
     let mut v_hat = Transforms::zeros();
-    v_hat.write_transforms(&z);
+    let c_hat = v_hat.write_transforms_and_factor(&z, &c);
     let mut az = Transforms::zeros();
     match write_sampled_product::<K, L, G>(&pk.rho, &v_hat, &mut az) {
         Err(_) => false,
         Ok(()) => {
             // t1 2^d, in the place of z
             write_shifted_transforms(&pk.t1, &mut v_hat);
-            is_committed::<K, LAMBDA_DIV4, H>(p, mu, &c_tilde, &h, &c, &mut az, &v_hat)
+            is_committed::<K, LAMBDA_DIV4, H>(p, mu, &c_tilde, &h, &c_hat, &mut az, &v_hat)
         }
     }
 }
@@ -73,35 +73,34 @@ pub(crate) fn verify_prepared<
         return false;
     };
     let Opened { c_tilde, z, h, c } = parts;
-    // A z
+    // NTT(c), A z
     let mut az = Transforms::zeros();
-    az.write_transforms(&z);
+    let c_hat = az.write_transforms_and_factor(&z, &c);
     az.multiply_by(&pk.a_hat);
-    is_committed::<K, LAMBDA_DIV4, H>(p, mu, &c_tilde, &h, &c, &mut az, &pk.t1_hat)
+    is_committed::<K, LAMBDA_DIV4, H>(p, mu, &c_tilde, &h, &c_hat, &mut az, &pk.t1_hat)
 }
 
 /// Whether `c_tilde` commits to `mu` and `w1' = UseHint(h, A z - c t1 2^d)` (lines 9 to 13). Uses `A z` up.
 ///
-/// Coefficients of `c` are below `q` in absolute value, those of `h` 0 or 1. `K` is that of the set.
+/// `c_hat` and `t1_hat` are what `c` and `t1 2^d` are multiplied as. Coefficients of `h` are 0 or 1, and `K` is that of the set.
 fn is_committed<const K: usize, const LAMBDA_DIV4: usize, H: Xof>(
     p: &Params,
     mu: &[u8; 64],
     c_tilde: &[u8; LAMBDA_DIV4],
     h: &[R; K],
-    c: &R,
+    c_hat: &Factor,
     az: &mut Transforms,
     t1_hat: &Transforms,
 ) -> bool
     requires rows { K ≡ p.now.k }
     requires size { LAMBDA_DIV4 ≡ c_tilde_length (set_of p.now) }
     requires hint { IsVector K 0 1 h.now }
-    requires challenge { PolynomialWithin 8380416 c.now.0 }
-    ensures { IsTrue result ↔ (c_tilde.now ≡ commitment_hash (set_of p.now) H.front mu.now
+    ensures { (c : R) → IsFactorOf c_hat.now c → (IsTrue result ↔ (c_tilde.now ≡ commitment_hash (set_of p.now) H.front mu.now
         (hinted (set_of p.now) h.now (λ r. minus (vector_coefficients az.old r)
-        (product (coefficients c.now.0) (vector_coefficients t1_hat.now r))))) }
+        (product (coefficients c.0) (vector_coefficients t1_hat.now r)))))) }
 {
     // w'_approx = A z - c t1 2^d
-    az.subtract_multiple(&Factor::of(c), t1_hat);
+    az.subtract_multiple(c_hat, t1_hat);
     let mut w = [R0; K];
     az.write_plain(&mut w);
     // w1' = UseHint(h, w'_approx)

@@ -20,6 +20,6 @@ returns-in-Ok g c =
     let z = c.in-Some.parts.z in
     let decided = commitment-decides p g.H.Xof.front sampled.0 c.pk.inside.t1 c.args.mu.now c.args.sig.now c.in-Some.parts.c_tilde z c.in-Some.parts.h c.in-Some.parts.c c.write_sampled_product.new.out c.write_shifted_transforms.new.out g.row.K g.row.L c.is_committed.result
     (search rules) c.requires.sizes.rows c.requires.sizes.columns c.in-Some.ensures.parts
-    (λ r n h l. sampled.2 r n h l ∙ matrix-same g.row.L sampled.0 c.write_transforms.new.self z r n c.write_transforms.ensures l)
-    c.write_shifted_transforms.ensures c.is_committed.ensures in
+    (λ r n h l. sampled.2 r n h l ∙ matrix-same g.row.L sampled.0 c.write_transforms_and_factor-c_hat.new.self z r n c.write_transforms_and_factor-c_hat.ensures.vector l)
+    c.write_shifted_transforms.ensures (c.is_committed.ensures c.in-Some.parts.c c.write_transforms_and_factor-c_hat.ensures.factor) in
     verifies-with (set_of p) g.H.Xof.front g.G.Xof.front c.args.pk.now c.args.mu.now c.args.sig.now sampled.0 c.is_committed.result matrix (rw t1 at decided)

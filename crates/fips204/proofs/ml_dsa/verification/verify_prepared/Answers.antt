@@ -17,5 +17,5 @@ returns g c =
     commitment-decides p g.H.Xof.front c.args.pk.now.matrix c.args.pk.now.parts.t1 c.args.mu.now c.args.sig.now c.in-Some.parts.c_tilde z c.in-Some.parts.h c.in-Some.parts.c c.multiply_by.new.self c.pk.inside.t1_hat g.row.K g.row.L c.is_committed.result
     (search rules) c.requires.sizes.rows c.requires.sizes.columns c.in-Some.ensures.parts
     (λ r n h l. subst (λ (k : PreparedPublic). vector_coefficients c.multiply_by.new.self r n ≡ matrix_product g.row.L k.matrix (vector_coefficients z) r n) c.pk.view_is
-    (c.multiply_by.ensures r n h l ∙ matrix-same g.row.L c.pk.inside.a_hat c.write_transforms.new.self z r n c.write_transforms.ensures l))
-    shifted c.is_committed.ensures
+    (c.multiply_by.ensures r n h l ∙ matrix-same g.row.L c.pk.inside.a_hat c.write_transforms_and_factor-c_hat.new.self z r n c.write_transforms_and_factor-c_hat.ensures.vector l))
+    shifted (c.is_committed.ensures c.in-Some.parts.c c.write_transforms_and_factor-c_hat.ensures.factor)

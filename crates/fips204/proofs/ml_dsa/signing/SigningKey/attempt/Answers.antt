@@ -19,10 +19,10 @@ whole : (g : Over) (c : After-commitment_hash-c_tilde g) → attempt (set_of c.a
 whole g c =
     let p = c.args.p.now in
     let y : c.expand_mask-y.result ≡ mask (nat_abs p.gamma1) g.H.Xof.front c.args.mask_seed.now g.row.L c.args.kappa = rw (to_z-of_z w32 p.gamma1 (search rules)) at c.expand_mask-y.ensures in
-    let w1 : c.high_vector-w1.result ≡ vector_of g.row.K (λ r n. pos (high_bits (nat_abs p.gamma2) (vector_coefficients c.write_matrix_product.new.out r n))) = rw (to_z-of_z w32 p.gamma2 (search rules)) at c.high_vector-w1.ensures in
+    let w1 : c.write_high_vector.new.out ≡ vector_of g.row.K (λ r n. pos (high_bits (nat_abs p.gamma2) (vector_coefficients c.write_matrix_product.new.out r n))) = rw (to_z-of_z w32 p.gamma2 (search rules)) at c.write_high_vector.ensures in
     let values = subst (λ (k : PreparedPrivate). (r n : ℕ) → r < g.row.K → n < 256 → coefficient_of c.write_matrix_product.new.out r n ≡ pos (matrix_product g.row.L k.matrix (vector_coefficients c.expand_mask-y.result) r n)) c.self.view_is c.write_matrix_product.ensures.values in
     attempt-is (set_of p) g.H.Xof.front c.args.self.now.matrix c.args.self.now.parts c.args.mu.now c.args.mask_seed.now c.args.kappa g.row.K g.row.L c.expand_mask-y.result c.write_matrix_product.new.out
-    c.high_vector-w1.result c.commitment_hash-c_tilde.result c.requires.inputs.sizes.rows c.requires.inputs.sizes.columns y values w1 c.commitment_hash-c_tilde.ensures
+    c.write_high_vector.new.out c.commitment_hash-c_tilde.result c.requires.inputs.sizes.rows c.requires.inputs.sizes.columns y values w1 c.commitment_hash-c_tilde.ensures
 
 pub expand_mask-y-requires : goal.expand_mask-y-requires
 expand_mask-y-requires g c =
@@ -35,16 +35,16 @@ write_matrix_product-requires g c =
     let few = (matrix-shape c.args.p.now g.row.K g.row.L (search rules) c.requires.inputs.sizes.rows c.requires.inputs.sizes.columns).1 in
     (search rules, (search rules, (search rules, (search rules, (few, (c.self.invariant.0, λ r n h l. (let x = mask r n h l in omega (arith, x))))))))
 
-pub high_vector-w1-requires : goal.high_vector-w1-requires
-high_vector-w1-requires g c =
+pub write_high_vector-requires : goal.write_high_vector-requires
+write_high_vector-requires g c =
     let p = c.args.p.now in
     rw (to_z-of_z w32 p.gamma2 (search rules)) (omega (arith, c.requires.inputs.sizes.rows, (limits c.args.p.now (search rules)).few_rows), ((limits p (search rules)).rounding, c.write_matrix_product.ensures.range))
 
 pub commitment_hash-c_tilde-requires : goal.commitment_hash-c_tilde-requires
 commitment_hash-c_tilde-requires g c =
     let p = c.args.p.now in
-    let w1 : c.high_vector-w1.result ≡ vector_of g.row.K (λ r n. pos (high_bits (nat_abs p.gamma2) (vector_coefficients c.write_matrix_product.new.out r n))) = rw (to_z-of_z w32 p.gamma2 (search rules)) at c.high_vector-w1.ensures in
-    (omega (arith, c.requires.inputs.sizes.rows, (limits c.args.p.now (search rules)).few_rows), (search rules, (c.requires.inputs.sizes.rows, (c.requires.inputs.sizes.c_tilde, high-range p.gamma2 g.row.K c.write_matrix_product.new.out c.high_vector-w1.result (limits p (search rules)).rounding w1))))
+    let w1 : c.write_high_vector.new.out ≡ vector_of g.row.K (λ r n. pos (high_bits (nat_abs p.gamma2) (vector_coefficients c.write_matrix_product.new.out r n))) = rw (to_z-of_z w32 p.gamma2 (search rules)) at c.write_high_vector.ensures in
+    (omega (arith, c.requires.inputs.sizes.rows, (limits c.args.p.now (search rules)).few_rows), (search rules, (c.requires.inputs.sizes.rows, (c.requires.inputs.sizes.c_tilde, high-range p.gamma2 g.row.K c.write_matrix_product.new.out c.write_high_vector.new.out (limits p (search rules)).rounding w1))))
 
 pub sample_in_ball-requires : goal.sample_in_ball-requires
 sample_in_ball-requires g c =

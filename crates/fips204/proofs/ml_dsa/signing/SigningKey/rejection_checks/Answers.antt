@@ -16,15 +16,15 @@ first : (g : Over) (c : After-has_norm_below g) → c.has_norm_below.result ≡ 
 first g c = rw (response-here g c, c.z_bound.ensures) at c.has_norm_below.ensures
 
 -- v is w - c s2, and what the test of its low bits says
-difference-here : (g : Over) (c : After-has_norm_below-2 g) → IsDifference g.row.K c.self.inside.key.now (vector_coefficients c.args.w.now) c.args.c.now c.write_difference.new.v
+difference-here : (g : Over) (c : After-has_norm_below-2 g) → IsDifference g.row.K c.self.inside.key.now (vector_coefficients c.args.w.now) c.args.c.now c.write_difference.new.w
 difference-here g c =
-    difference-is g.row.K c.self.inside.key.now (vector_coefficients c.args.w.now) c.args.c.now c.write_product-2.new.out c.write_difference.new.v
+    difference-is g.row.K c.self.inside.key.now (vector_coefficients c.args.w.now) c.args.c.now c.write_product-2.new.out c.write_difference.new.w
     (c.write_product-2.ensures.value c.args.c.now c.self.inside.key.now.s2 c.of-c_hat.ensures c.self.invariant.1.second) c.write_difference.ensures.values
 
 second : (g : Over) (c : After-has_norm_below-2 g) → c.has_norm_below-2.result ≡ nat_lt (vector_norm (low_vector (set_of c.args.p.now) c.self.inside.key.now (vector_coefficients c.args.w.now) c.args.c.now)) (nat_abs c.args.p.now.gamma2 - nat_abs c.args.p.now.beta)
 second g c =
     let p = c.args.p.now in
-    let low = (rw (to_z-of_z w32 p.gamma2 (search rules)) at c.low_vector.ensures.value) ∙ low-is (set_of p) c.self.inside.key.now (vector_coefficients c.args.w.now) c.args.c.now _ g.row.K c.requires.inputs.sizes.rows (difference-here g c) in
+    let low = (rw (to_z-of_z w32 p.gamma2 (search rules)) at c.write_low_vector.ensures.value) ∙ low-is (set_of p) c.self.inside.key.now (vector_coefficients c.args.w.now) c.args.c.now _ g.row.K c.requires.inputs.sizes.rows (difference-here g c) in
     rw (low, c.r0_bound.ensures) at c.has_norm_below-2.ensures
 
 -- c t0, and what the test of its norm says
@@ -35,22 +35,22 @@ third g c =
     rw (t, to_z-of_z w32 c.args.p.now.gamma2 (search rules)) at c.has_norm_below-3.ensures
 
 -- the hint, and how many ones it has
-hint-here : (g : Over) (c : After-number_of_ones g) → c.hint-h.result ≡ hint_vector (set_of c.args.p.now) c.self.inside.key.now (vector_coefficients c.args.w.now) c.args.c.now
+hint-here : (g : Over) (c : After-number_of_ones g) → c.write_hint.new.t ≡ hint_vector (set_of c.args.p.now) c.self.inside.key.now (vector_coefficients c.args.w.now) c.args.c.now
 hint-here g c =
     let p = c.args.p.now in
-    hint-is (set_of p) c.self.inside.key.now (vector_coefficients c.args.w.now) c.args.c.now c.write_difference.new.v c.write_product-3.new.out _ g.row.K c.requires.inputs.sizes.rows
-    (difference-is g.row.K c.self.inside.key.now (vector_coefficients c.args.w.now) c.args.c.now c.write_product-2.new.out c.write_difference.new.v
+    hint-is (set_of p) c.self.inside.key.now (vector_coefficients c.args.w.now) c.args.c.now c.write_difference.new.w c.write_product-3.new.out _ g.row.K c.requires.inputs.sizes.rows
+    (difference-is g.row.K c.self.inside.key.now (vector_coefficients c.args.w.now) c.args.c.now c.write_product-2.new.out c.write_difference.new.w
     (c.write_product-2.ensures.value c.args.c.now c.self.inside.key.now.s2 c.of-c_hat.ensures c.self.invariant.1.second) c.write_difference.ensures.values)
-    (c.write_product-3.ensures.value c.args.c.now c.self.inside.key.now.t0 c.of-c_hat.ensures c.self.invariant.1.low) (rw (to_z-of_z w32 p.gamma2 (search rules)) at c.hint-h.ensures)
+    (c.write_product-3.ensures.value c.args.c.now c.self.inside.key.now.t0 c.of-c_hat.ensures c.self.invariant.1.low) (rw (to_z-of_z w32 p.gamma2 (search rules)) at c.write_hint.ensures)
 
-pub low_vector-requires : goal.low_vector-requires
-low_vector-requires g c = (search rules, (rw (to_z-of_z w32 c.args.p.now.gamma2 (search rules)) (limits c.args.p.now (search rules)).rounding, c.write_difference.ensures.range))
+pub write_low_vector-requires : goal.write_low_vector-requires
+write_low_vector-requires g c = (search rules, (rw (to_z-of_z w32 c.args.p.now.gamma2 (search rules)) (limits c.args.p.now (search rules)).rounding, c.write_difference.ensures.range))
 
 pub overflow_cast-p : goal.overflow_cast-p
 overflow_cast-p g c = omega (arith, ints, rounding-some c.args.p.now.gamma2 (limits c.args.p.now (search rules)).rounding)
 
-pub hint-h-requires : goal.hint-h-requires
-hint-h-requires g c =
+pub write_hint-requires : goal.write_hint-requires
+write_hint-requires g c =
     (search rules, (rw (to_z-of_z w32 c.args.p.now.gamma2 (search rules)) (limits c.args.p.now (search rules)).rounding, (c.write_difference.ensures.range, c.write_product-3.ensures.range)))
 
 pub overflow_cast-p-2 : goal.overflow_cast-p-2
@@ -92,7 +92,7 @@ sig_encode-requires g c =
     let test = sym c.if-not-has_norm_below.false ∙ (rw c.z_bound.ensures at c.has_norm_below.ensures) in
     let response = response-range p _ _ _ _ _ (search rules) gamma1 (response-here g at.After-has_norm_below) test in
     let few = rw c.number_of_ones.ensures at c.if-number_of_ones-p.false in
-    (search rules, (search rules, (search rules, (search rules, (shape.set, (shape.some, (shape.hint_size, (shape.whole, (response, (hint-range _ _ _ _ _ c.hint-h.ensures, few))))))))))
+    (search rules, (search rules, (search rules, (search rules, (shape.set, (shape.some, (shape.hint_size, (shape.whole, (response, (hint-range _ _ _ _ _ c.write_hint.ensures, few))))))))))
 
 pub returns : goal.returns
 returns g c =
