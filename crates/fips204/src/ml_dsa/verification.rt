@@ -42,10 +42,12 @@ pub fn verify_internal<
 {
     let mut z = [R0; L];
     let mut h = [R0; K];
-    let opened = open_signature::<K, L, LAMBDA_DIV4, SIG_LEN, H>(p, sig, &mut z, &mut h);
-    let Some((c_tilde, c)) = opened else {
+    let Some(parts) =
+        open_signature::<K, L, LAMBDA_DIV4, SIG_LEN, H>(p, sig, &mut z, &mut h)
+    else {
         return false;
     };
+    let (c_tilde, c) = parts;
     // NTT(c), A = ExpandA(rho), A z
     let mut v_hat = Transforms::zeros();
     let c_hat = v_hat.write_transforms_and_factor(&z, &c);
@@ -73,10 +75,12 @@ pub(crate) fn verify_prepared<
 {
     let mut z = [R0; L];
     let mut h = [R0; K];
-    let opened = open_signature::<K, L, LAMBDA_DIV4, SIG_LEN, H>(p, sig, &mut z, &mut h);
-    let Some((c_tilde, c)) = opened else {
+    let Some(parts) =
+        open_signature::<K, L, LAMBDA_DIV4, SIG_LEN, H>(p, sig, &mut z, &mut h)
+    else {
         return false;
     };
+    let (c_tilde, c) = parts;
     // NTT(c), A z
     let mut az = Transforms::zeros();
     let c_hat = az.write_transforms_and_factor(&z, &c);

@@ -1,4 +1,4 @@
-use Rattle.fips204_base.proofs.Names.{common_steps, to_z-of_z, ints, take_more_set, take_all, length-replicate, All-push, R, PolynomialInRange, all_ones, Spells, all_ones-none, before, pieces, totals_rise, piece, zero_rest, one_more, totals_more, gathered, spelling}
+use Rattle.fips204_base.proofs.Names.{common_steps, to_z-of_z, ints, take_more_set, take_all, All-push, R, PolynomialInRange, all_ones, Spells, all_ones-none, before, pieces, totals_rise, piece, zero_rest, one_more, totals_more, gathered, spelling}
 use Rattle.std.proofs.Common.{rules, arith, ◌≡◌, ◌<◌, ◌+◌, pos, nat_abs, length, take, get_or, ◌∙◌, ap, sym, refl, length-set, w32, to_z, of_z, add-one, None}
 use Rattle.fips204_base.specs.declared.types.TheConstants.{R0}
 use Rattle.fips204_base.proofs.conversion.hints.write_unpacked_hint.Goals as goal
