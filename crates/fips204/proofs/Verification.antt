@@ -4,7 +4,6 @@ use Rattle.fips204.proofs.Names.{All, cases_Bool, ints, mod_below, R, T, vector_
 use Rattle.std.specs.declared.option.Option.{Option}
 use Rattle.fips204.proofs.ParameterSets.{IsKnown, limits, mask-size}
 use Rattle.fips204.proofs.RefusedCalls.{same_some}
-use prog.Memory.{up}
 
 -- ---- w1'
 
@@ -85,19 +84,6 @@ pub response-within : (gamma1 l : ℕ) (z : List R) → gamma1 ≤ 524288 → Is
 response-within gamma1 l z h vector = vector-within l (gamma1 - 1) gamma1 524288 z (omega (arith, h)) h vector
 
 -- ---- the parts of a signature
-
--- they fit the memory, each at a multiple of four bytes
-up_near : (x : ℕ) → up 4 x ≤ x + 3
-up_near x = omega arith
-
-pub opened_room : (p : Params) (k l n size : ℕ) → IsKnown p → HasSizes (set_of p) k l n size → up 4 (up 4 (up 4 (up 4 (0 + n * 1) + l * 1024) + k * 1024) + 1024) < 9223372036854775808
-opened_room p k l n size known sizes =
-    let some = limits p known in
-    let first = up_near (0 + n * 1) in
-    let second = up_near (up 4 (0 + n * 1) + l * 1024) in
-    let third = up_near (up 4 (up 4 (0 + n * 1) + l * 1024) + k * 1024) in
-    let last = up_near (up 4 (up 4 (up 4 (0 + n * 1) + l * 1024) + k * 1024) + 1024) in
-    omega (arith, first, second, third, last, some.few_rows, some.few_columns, some.short, sizes.rows, sizes.columns, sizes.c_tilde)
 
 -- with the challenge and w1' at hand the commitment hash decides
 pub decided : (p : ParameterSet) (H : List ℕ → List ℕ) (a : List (List T)) (t1 z h w1 : List R) (mu c_tilde : List ℕ) (ball : Option R) (c : R) (answer : Bool)

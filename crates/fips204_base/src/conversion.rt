@@ -14,6 +14,7 @@ mod hints;
 use crate::helpers::{bit_length, is_in_range};
 use crate::types::R;
 pub use coefficients::{coeff_from_half_byte, coeff_from_three_bytes};
+pub(crate) use hints::write_unpacked_hint;
 pub use hints::{hint_bit_pack, hint_bit_unpack};
 
 /// How many bits the fields of coefficients in `[-a, b]` have.

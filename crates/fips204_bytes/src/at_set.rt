@@ -1,6 +1,7 @@
 //! The calls at one parameter set.
 //!
-//! A call looks at the lengths, and the function that it then calls does the work, outside its frame.
+//! A call looks at the lengths, and the function that it then calls does the work, outside its frame. What is decoded is used
+//! by a reference: taken out it would be in the stack twice.
 #![tactic(auto)]
 
 ghost use Rattle.std.specs.Prelude.{◌≡◌, length};
@@ -77,10 +78,14 @@ where
         requires lengths { (length public_key.old ≡ PK_LEN) × (length private_key.old ≡ SK_LEN) }
         ensures { WritesPair S.set H.front G.front seed.now public_key.old public_key.new private_key.old private_key.new result }
     {
-        let (public, private) = KG::<K, L, H, G>::keygen_from_seed(seed)?;
-        public_key.copy_from_slice(&public.into_bytes());
-        private_key.copy_from_slice(&private.into_bytes());
-        Ok(())
+        match KG::<K, L, H, G>::keygen_from_seed(seed) {
+            Err(fault) => Err(Refusal::Library(fault)),
+            Ok((public, private)) => {
+                public_key.copy_from_slice(&public.into_bytes());
+                private_key.copy_from_slice(&private.into_bytes());
+                Ok(())
+            }
+        }
     }
 
     /// Signs an input from 32 random bytes.
@@ -111,9 +116,13 @@ where
         requires lengths { (length private_key.now ≡ SK_LEN) × (length signature.old ≡ SIG_LEN) }
         ensures { WritesSignature S.set H.front G.front private_key.now random.now (input_of input.now) signature.old signature.new result }
     {
-        let key = PrivateKey::<K, L, H, G>::try_from_bytes(array_of(private_key))?;
-        signature.copy_from_slice(&key.sign_input(random, input)?);
-        Ok(())
+        match &PrivateKey::<K, L, H, G>::try_from_bytes(array_of(private_key)) {
+            Err(fault) => Err(Refusal::Library(*fault)),
+            Ok(key) => {
+                signature.copy_from_slice(&key.sign_input(random, input)?);
+                Ok(())
+            }
+        }
     }
 
     /// Tells whether a public key accepts the signature of an input.
@@ -138,8 +147,10 @@ where
         requires lengths { (length public_key.now ≡ PK_LEN) × (length signature.now ≡ SIG_LEN) }
         ensures { TellsVerdict S.set H.front G.front public_key.now (input_of input.now) signature.now result }
     {
-        let key = PublicKey::<K, L, H, G>::try_from_bytes(array_of(public_key))?;
-        Ok(key.accepts_input(input, &array_of(signature)))
+        match &PublicKey::<K, L, H, G>::try_from_bytes(array_of(public_key)) {
+            Err(fault) => Err(Refusal::Library(*fault)),
+            Ok(key) => Ok(key.accepts_input(input, &array_of(signature))),
+        }
     }
 
     /// Computes the public key of a private one.
@@ -160,9 +171,13 @@ where
         requires lengths { (length private_key.now ≡ SK_LEN) × (length public_key.old ≡ PK_LEN) }
         ensures { WritesPublic S.set G.front private_key.now public_key.old public_key.new result }
     {
-        let key = PrivateKey::<K, L, H, G>::try_from_bytes(array_of(private_key))?;
-        public_key.copy_from_slice(&key.get_public_key()?.into_bytes());
-        Ok(())
+        match &PrivateKey::<K, L, H, G>::try_from_bytes(array_of(private_key)) {
+            Err(fault) => Err(Refusal::Library(*fault)),
+            Ok(key) => {
+                public_key.copy_from_slice(&key.get_public_key()?.into_bytes());
+                Ok(())
+            }
+        }
     }
 
     /// Does nothing if a private key has these bytes.
@@ -185,8 +200,10 @@ where
         if private_key.len() != SK_LEN {
             return Err(Refusal::Length(Array::PrivateKey));
         }
-        let key = PrivateKey::<K, L, H, G>::try_from_bytes(array_of(private_key))?;
-        Ok(key.is_whole()?)
+        match &PrivateKey::<K, L, H, G>::try_from_bytes(array_of(private_key)) {
+            Err(fault) => Err(Refusal::Library(*fault)),
+            Ok(key) => Ok(key.is_whole()?),
+        }
     }
 
     /// Tells whether a private key and the public key that belongs to it are a pair.
@@ -197,7 +214,9 @@ where
         if private_key.len() != SK_LEN {
             return Err(Refusal::Length(Array::PrivateKey));
         }
-        let key = PrivateKey::<K, L, H, G>::try_from_bytes(array_of(private_key))?;
-        Ok(key.is_pair()?)
+        match &PrivateKey::<K, L, H, G>::try_from_bytes(array_of(private_key)) {
+            Err(fault) => Err(Refusal::Library(*fault)),
+            Ok(key) => Ok(key.is_pair()?),
+        }
     }
 }

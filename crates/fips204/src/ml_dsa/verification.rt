@@ -19,7 +19,7 @@ use super::commitment_hash::commitment_hash;
 use super::rejection::has_norm_below;
 use crate::types::{Params, PreparedPublicKey, PublicKey, R, R0};
 use fips204_base::D;
-use fips204_base::encodings::sig_decode;
+use fips204_base::encodings::write_signature_parts;
 use fips204_base::hashing::sample_in_ball;
 use fips204_base::high_low::use_hint;
 use fips204_base::maps::{map_vector, write_zip_vectors};
@@ -40,10 +40,14 @@ pub fn verify_internal<
     requires sizes { HasSizes (set_of p.now) K L LAMBDA_DIV4 SIG_LEN }
     ensures { IsTrue result ↔ Verifies (set_of p.now) H.front G.front pk.now mu.now sig.now }
 {
-    let Some(parts) = open_signature::<K, L, LAMBDA_DIV4, SIG_LEN, H>(p, sig) else {
+    let mut z = [R0; L];
+    let mut h = [R0; K];
+    let Some(parts) =
+        open_signature::<K, L, LAMBDA_DIV4, SIG_LEN, H>(p, sig, &mut z, &mut h)
+    else {
         return false;
     };
-    let Opened { c_tilde, z, h, c } = parts;
+    let (c_tilde, c) = parts;
     // NTT(c), A = ExpandA(rho), A z
     let mut v_hat = Transforms::zeros();
     let c_hat = v_hat.write_transforms_and_factor(&z, &c);
@@ -69,10 +73,14 @@ pub(crate) fn verify_prepared<
     requires sizes { HasSizes (set_of p.now) K L LAMBDA_DIV4 SIG_LEN }
     ensures { IsTrue result ↔ Accepts (set_of p.now) H.front pk.now.matrix pk.now.parts.t1 mu.now sig.now }
 {
-    let Some(parts) = open_signature::<K, L, LAMBDA_DIV4, SIG_LEN, H>(p, sig) else {
+    let mut z = [R0; L];
+    let mut h = [R0; K];
+    let Some(parts) =
+        open_signature::<K, L, LAMBDA_DIV4, SIG_LEN, H>(p, sig, &mut z, &mut h)
+    else {
         return false;
     };
-    let Opened { c_tilde, z, h, c } = parts;
+    let (c_tilde, c) = parts;
     // NTT(c), A z
     let mut az = Transforms::zeros();
     let c_hat = az.write_transforms_and_factor(&z, &c);
@@ -109,43 +117,41 @@ fn is_committed<const K: usize, const LAMBDA_DIV4: usize, H: Xof>(
     *c_tilde == commitment_hash::<K, LAMBDA_DIV4, H>(p, mu, &w)
 }
 
-/// The parts of a signature, and its challenge. Taken apart before they are used: a reference to one of them would keep
-/// all in the stack.
-struct Opened<const K: usize, const L: usize, const LAMBDA_DIV4: usize> {
-    c_tilde: [u8; LAMBDA_DIV4],
-    z: [R; L],
-    h: [R; K],
-    c: R,
-}
-
-/// What a signature opens to (lines 2 to 8), or `None` where its last bytes spell no hint, the norm of `z` is not
-/// below gamma1 - beta, or the challenge passes its limit. Coefficients of `z` and of the challenge are below `q` in
-/// absolute value.
-#[inline(always)]
+/// Writes the vectors `z` and `h` that a signature opens to (lines 2 to 8), and returns its `c_tilde` and challenge, or `None`
+/// where its last bytes spell no hint, the norm of `z` is not below gamma1 - beta, or the challenge passes its limit.
+/// Coefficients of `z` and of the challenge are below `q` in absolute value.
+///
+/// Not inlined, so that what decoding needs leaves the stack before the parts are used.
+#[inline(never)]
 fn open_signature<
     const K: usize,
     const L: usize,
     const LAMBDA_DIV4: usize,
     const SIG_LEN: usize,
     H: Xof,
->(p: &Params, sig: &[u8; SIG_LEN]) -> Option<Opened<K, L, LAMBDA_DIV4>>
+>(
+    p: &Params,
+    sig: &[u8; SIG_LEN],
+    z: &mut [R; L],
+    h: &mut [R; K],
+) -> Option<([u8; LAMBDA_DIV4], R)>
     requires sizes { HasSizes (set_of p.now) K L LAMBDA_DIV4 SIG_LEN }
     ensures within { IfSome result (λ parts. ((K ≤ 8) × (L ≤ 7))
-        × VectorWithin L 8380416 parts.z × PolynomialWithin 8380416 parts.c.0) }
+        × VectorWithin L 8380416 z.new × PolynomialWithin 8380416 parts.1.0) }
     ensures parts { MatchOption result
         ((c_tilde : List ℕ) (z h : List R) (c : R) → OpensTo (set_of p.now) H.front sig.now c_tilde z h c → ⊥)
-        (λ parts. OpensTo (set_of p.now) H.front sig.now parts.c_tilde parts.z parts.h parts.c) }
+        (λ parts. OpensTo (set_of p.now) H.front sig.now parts.0 z.new h.new parts.1) }
 {
     // (c_tilde, z, h) = sigDecode(sigma)
-    let (c_tilde, z, h) = sig_decode::<K, L, LAMBDA_DIV4, SIG_LEN>(p.gamma1, p.omega, sig)?;
+    let c_tilde = write_signature_parts::<K, L, LAMBDA_DIV4, SIG_LEN>(p.gamma1, p.omega, sig, z, h)?;
     // ||z|| < gamma1 - beta
-    if !has_norm_below(&z, p.z_bound()) {
+    if !has_norm_below(z, p.z_bound()) {
         return None;
     }
     // c = SampleInBall(c_tilde)
     match sample_in_ball::<H>(p.tau, &c_tilde) {
         Err(_) => None,
-        Ok(c) => Some(Opened { c_tilde, z, h, c }),
+        Ok(c) => Some((c_tilde, c)),
     }
 }
 

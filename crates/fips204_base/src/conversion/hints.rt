@@ -1,7 +1,7 @@
 //! The encoding of hints.
 #![tactic(auto)]
 
-ghost use Rattle.std.specs.Prelude.{◌≡◌, ◌<◌, ◌≤◌, ◌+◌, ◌≤ℤ◌, pos, nat_abs, length, take, drop, ◌++◌, MatchOption};
+ghost use Rattle.std.specs.Prelude.{◌≡◌, ◌<◌, ◌≤◌, ◌+◌, ◌≤ℤ◌, List, pos, nat_abs, length, take, drop, ◌++◌, MatchOption};
 ghost use Rattle.fips204_base.specs.Bounds.{Finds, PolynomialInRange, VectorInRange};
 ghost use Rattle.fips204_base.specs.Encodings.{Spells, all_ones, hint_bytes};
 ghost use Rattle.fips204_base.specs.EncodingSteps.{ones};
@@ -36,8 +36,25 @@ pub fn hint_bit_unpack<const K: usize>(omega: i32, y: &[u8]) -> Option<[R; K]>
     requires room { length y.now ≡ nat_abs omega + K }
     ensures { Finds (λ h. Spells (nat_abs omega) K h y.now) result }
 {
-    let limit = omega as usize;
     let mut h = [R0; K];
+    write_unpacked_hint(omega, y, &mut h)?;
+    Some(h)
+}
+
+/// `hint_bit_unpack`, written into the caller's place. Where `y` encodes no hint, part of one may be written.
+pub(crate) fn write_unpacked_hint<const K: usize>(
+    omega: i32,
+    y: &[u8],
+    h: &mut [R; K],
+) -> Option<()>
+    requires some { pos 1 ≤ℤ omega }
+    requires sizes { nat_abs omega + K < 256 }
+    requires room { length y.now ≡ nat_abs omega + K }
+    ensures { MatchOption result
+        ((h : List R) → Spells (nat_abs omega) K h y.now → ⊥)
+        (λ _. Spells (nat_abs omega) K h.new y.now) }
+{
+    let limit = omega as usize;
     let mut index = 0usize;
     for i in 0..K {
         let end = y[limit + i] as usize;
@@ -54,7 +71,7 @@ pub fn hint_bit_unpack<const K: usize>(omega: i32, y: &[u8]) -> Option<[R; K]>
             return None;
         }
     }
-    Some(h)
+    Some(())
 }
 
 /// Writes the places of the ones from `from` on, and answers where they end.

@@ -7,10 +7,10 @@ ghost use Rattle.fips204_base.specs.Bounds.{IsGamma1, VectorInRange};
 ghost use Rattle.fips204_base.specs.Packing.{width};
 ghost use Rattle.fips204_base.specs.Rounding.{IsGamma2, high_count};
 
-use super::vectors::{polynomial_size, unpack_vector, write_packed_vector};
-use crate::conversion::{hint_bit_pack, hint_bit_unpack};
+use super::vectors::{polynomial_size, write_packed_vector, write_unpacked_vector};
+use crate::conversion::{hint_bit_pack, write_unpacked_hint};
 use crate::high_low::high_count;
-use crate::types::R;
+use crate::types::{R, R0};
 
 /// `sigDecode` (Algorithm 27): the parts of a signature, `c_tilde`, `z` and the hint, or `None` where
 /// its last `omega + K` bytes encode no hint. Coefficients of `z` are in `[1 - gamma1, gamma1]`.
@@ -31,13 +31,44 @@ pub fn sig_decode<const K: usize, const L: usize, const LAMBDA_DIV4: usize, cons
         → IsSignature (nat_abs gamma1) (nat_abs omega) K L LAMBDA_DIV4 sigma.now c_tilde z h → ⊥)
         (λ parts. IsSignature (nat_abs gamma1) (nat_abs omega) K L LAMBDA_DIV4 sigma.now parts.0 parts.1 parts.2) }
 {
+    let mut z = [R0; L];
+    let mut h = [R0; K];
+    let c_tilde = write_signature_parts(gamma1, omega, sigma, &mut z, &mut h)?;
+    Some((c_tilde, z, h))
+}
+
+/// `sig_decode`, with `z` and the hint written into the caller's places; where there are none, part of them may be written.
+/// Internal: serves the crate `fips204` alone.
+pub fn write_signature_parts<
+    const K: usize,
+    const L: usize,
+    const LAMBDA_DIV4: usize,
+    const SIG_LEN: usize,
+>(
+    gamma1: i32,
+    omega: i32,
+    sigma: &[u8; SIG_LEN],
+    z: &mut [R; L],
+    h: &mut [R; K],
+) -> Option<[u8; LAMBDA_DIV4]>
+    requires set { IsGamma1 gamma1 }
+    requires some { pos 1 ≤ℤ omega }
+    requires hint_size { nat_abs omega + K < 256 }
+    requires size { SIG_LEN ≡ LAMBDA_DIV4 + 32 * width (gamma1 -ℤ pos 1) gamma1 * L + (nat_abs omega + K) }
+    ensures { MatchOption result
+        ((c_tilde : List ℕ) (z h : List R)
+        → IsSignature (nat_abs gamma1) (nat_abs omega) K L LAMBDA_DIV4 sigma.now c_tilde z h → ⊥)
+        (λ c_tilde. IsSignature (nat_abs gamma1) (nat_abs omega) K L LAMBDA_DIV4 sigma.now c_tilde z.new h.new) }
+{
     let bytes: &[u8] = sigma;
     // line 1: (c_tilde, x, y) = sigma
     let c_tilde = bytes.first_chunk::<LAMBDA_DIV4>().unwrap();
     let (response, hint) = bytes[LAMBDA_DIV4..].split_at(polynomial_size(gamma1 - 1, gamma1) * L);
-    // line 5: h = HintBitUnpack(y); lines 2 to 4: z[i] = BitUnpack(x_i, gamma1 - 1, gamma1)
-    let h = hint_bit_unpack(omega, hint)?;
-    Some((*c_tilde, unpack_vector(response, gamma1 - 1, gamma1), h))
+    // line 5: h = HintBitUnpack(y)
+    write_unpacked_hint(omega, hint, h)?;
+    // lines 2 to 4: z[i] = BitUnpack(x_i, gamma1 - 1, gamma1)
+    write_unpacked_vector(response, gamma1 - 1, gamma1, z);
+    Some(*c_tilde)
 }
 
 /// `sigEncode` (Algorithm 26): encodes a signature from its parts: `c_tilde`, then `z` with coefficients in

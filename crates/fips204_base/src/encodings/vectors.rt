@@ -57,13 +57,25 @@ pub fn unpack_vector<const N: usize>(bytes: &[u8], a: i32, b: i32) -> [R; N]
     ensures vector { IsVector N (nat_abs a) (nat_abs b) result }
     ensures same_bytes { vector_bytes (nat_abs a) (nat_abs b) result ≡ bytes.now }
 {
-    let size = polynomial_size(a, b);
     let mut v = [R0; N];
+    write_unpacked_vector(bytes, a, b, &mut v);
+    v
+}
+
+/// `unpack_vector`, written into the caller's place.
+#[inline(always)]
+pub fn write_unpacked_vector<const N: usize>(bytes: &[u8], a: i32, b: i32, v: &mut [R; N])
+    requires bounds { Bounds a b }
+    requires whole { pos (2 ^ width a b) ≡ a +ℤ b +ℤ pos 1 }
+    requires room { length bytes.now ≡ 32 * width a b * N }
+    ensures vector { IsVector N (nat_abs a) (nat_abs b) v.new }
+    ensures same_bytes { vector_bytes (nat_abs a) (nat_abs b) v.new ≡ bytes.now }
+{
+    let size = polynomial_size(a, b);
     for i in 0..N {
         let at = size * i;
         v[i] = unpack_polynomial(&bytes[at..at + size], a, b);
     }
-    v
 }
 
 /// The polynomial with coefficients in `[-eta, eta]` whose bytes these are, or `None` where a field

@@ -1,6 +1,6 @@
 use Rattle.std.proofs.Common.{ℕ, ◌≡◌, ◌<◌, ◌+◌, ◌≤◌, get_or, take, length, pos}
 use Rattle.fips204_base.proofs.Names.{All, all_ones, PolynomialInRange, before}
-use Rattle.fips204_base.proofs.conversion.hints.hint_bit_unpack.Given as goal
+use Rattle.fips204_base.proofs.conversion.hints.write_unpacked_hint.Given as goal
 
 abbrev pub invariant-loop-i : goal.invariant-loop-i
 invariant-loop-i g l = record {

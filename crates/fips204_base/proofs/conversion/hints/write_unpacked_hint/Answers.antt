@@ -1,8 +1,8 @@
-use Rattle.fips204_base.proofs.Names.{common_steps, to_z-of_z, ints, take_more_set, take_all, length-replicate, All-push, R, PolynomialInRange, all_ones, Spells, all_ones-none, before, pieces, totals_rise, piece, zero_rest, one_more, totals_more, gathered, spelling}
+use Rattle.fips204_base.proofs.Names.{common_steps, to_z-of_z, ints, take_more_set, take_all, All-push, R, PolynomialInRange, all_ones, Spells, all_ones-none, before, pieces, totals_rise, piece, zero_rest, one_more, totals_more, gathered, spelling}
 use Rattle.std.proofs.Common.{rules, arith, ◌≡◌, ◌<◌, ◌+◌, pos, nat_abs, length, take, get_or, ◌∙◌, ap, sym, refl, length-set, w32, to_z, of_z, add-one, None}
 use Rattle.fips204_base.specs.declared.types.TheConstants.{R0}
-use Rattle.fips204_base.proofs.conversion.hints.hint_bit_unpack.Goals as goal
-use Rattle.fips204_base.proofs.conversion.hints.hint_bit_unpack.Goals.{then-end-index-via-then-end-index, then-end-index-via-else-end-index+then-end-limit}
+use Rattle.fips204_base.proofs.conversion.hints.write_unpacked_hint.Goals as goal
+use Rattle.fips204_base.proofs.conversion.hints.write_unpacked_hint.Goals.{then-end-index-via-then-end-index, then-end-index-via-else-end-index+then-end-limit}
 
 pub returns-then-end-index : goal.returns-then-end-index
 returns-then-end-index g c = λ h s.
@@ -25,7 +25,7 @@ returns-in_err-h g c =
     c.in_err-h.ensures (get_or h c.loop-i.i R0) (rw c.loop-i.invariant.at (piece _ h c.args.y.now c.loop-i.i (pieces _ _ h c.args.y.now S) (omega (arith, n)))))
 
 pub loop-i-init : goal.loop-i-init
-loop-i-init g c = grind (arith, ints, common_steps, length-replicate, all_ones-none)
+loop-i-init g c = grind (arith, ints, common_steps, all_ones-none, c.told-h)
 
 pub loop-i-preserved : goal.loop-i-preserved
 loop-i-preserved g c =

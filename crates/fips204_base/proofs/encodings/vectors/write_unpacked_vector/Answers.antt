@@ -1,6 +1,6 @@
 use Rattle.std.proofs.Common.{◌*◌, ◌∙◌, ap, sym, arith, length, w32, rules}
 use Rattle.fips204_base.proofs.Names.{common_steps, to_z-of_z, piece-within, read_more, read_all}
-use Rattle.fips204_base.proofs.encodings.vectors.unpack_vector.Goals as goal
+use Rattle.fips204_base.proofs.encodings.vectors.write_unpacked_vector.Goals as goal
 
 pub overflow_add-at : goal.overflow_add-at
 overflow_add-at g c = search rules
@@ -29,4 +29,4 @@ pub overflow_mul-at : goal.overflow_mul-at
 overflow_mul-at g c = grind arith
 
 pub loop-i-init : goal.loop-i-init
-loop-i-init g c = grind (arith, common_steps)
+loop-i-init g c = grind (arith, common_steps, c.told-v)

@@ -1,20 +1,20 @@
 use Rattle.std.proofs.Common.{◌≡◌, ◌+◌, ◌*◌, ◌-◌, ◌≤◌, ◌++◌, ◌∙◌, ap, sym, subst, arith, rules, nat_abs, length, take, drop, w32, to_z, of_z, length-drop, None}
 use Rattle.fips204_base.proofs.Names.{to_z-of_z, drop-drop, take-append-drop, take_all, length-take-le, Spells, whole_response, response_bounds, response_least, response_width, less_one, signature-of_parts, signature-hint, same_bounds}
-use Rattle.fips204_base.proofs.encodings.signature.sig_decode.Goals as goal
+use Rattle.fips204_base.proofs.encodings.signature.write_signature_parts.Goals as goal
 
-pub hint_bit_unpack-requires : goal.hint_bit_unpack-requires
-hint_bit_unpack-requires g c = search rules
+pub write_unpacked_hint-requires : goal.write_unpacked_hint-requires
+write_unpacked_hint-requires g c = search rules
 
-pub unpack_vector-requires : goal.unpack_vector-requires
-unpack_vector-requires g c =
+pub write_unpacked_vector-requires : goal.write_unpacked_vector-requires
+write_unpacked_vector-requires g c =
     let G = to_z-of_z w32 c.args.gamma1 c.ranges.gamma1 in
     let L = less_one c.args.gamma1 c.requires.set in
     let size = c.polynomial_size.ensures.size in
     let room = c.split_at.ensures.front_len ∙ ap (λ s. s * g.row.L) size in
     (search rules, (rw (L, G) (response_bounds c.args.gamma1 c.requires.set), (rw (L, G) (whole_response c.args.gamma1 c.requires.set), room)))
 
-pub returns-in_err-h : goal.returns-in_err-h
-returns-in_err-h g c =
+pub returns-in_err-write_unpacked_hint : goal.returns-in_err-write_unpacked_hint
+returns-in_err-write_unpacked_hint g c =
     let none : c.from_residual.result ≡ None = search rules in
     rw none (λ c_tilde z h s.
     let n = g.row.LAMBDA_DIV4 in
@@ -27,7 +27,7 @@ returns-in_err-h g c =
     let whole : take (length c.args.sigma.now - n) (drop n c.args.sigma.now) ≡ drop n c.args.sigma.now = take_all _ _ (simp length-drop (omega arith)) in
     let rest : c.split_at.result.1.now ≡ drop (n + c.polynomial_size.result * g.row.L) c.args.sigma.now =
     c.split_at.ensures.back ∙ ap (drop (c.polynomial_size.result * g.row.L)) whole ∙ drop-drop (c.polynomial_size.result * g.row.L) n c.args.sigma.now in
-    c.in_err-h.ensures h (subst (λ y. Spells (nat_abs (to_z w32 (of_z w32 c.args.omega))) g.row.K h y) (sym rest) (subst (λ o. Spells (nat_abs o) g.row.K h (drop (n + c.polynomial_size.result * g.row.L) c.args.sigma.now)) (sym O) part)))
+    c.in_err-write_unpacked_hint.ensures h (subst (λ y. Spells (nat_abs (to_z w32 (of_z w32 c.args.omega))) g.row.K h y) (sym rest) (subst (λ o. Spells (nat_abs o) g.row.K h (drop (n + c.polynomial_size.result * g.row.L) c.args.sigma.now)) (sym O) part)))
 
 pub returns : goal.returns
 returns g c =
@@ -43,10 +43,10 @@ returns g c =
     let whole : take (length sigma - n) (drop n sigma) ≡ drop n sigma = take_all _ _ (simp length-drop (omega arith)) in
     let cut : sigma ≡ c.unwrap-c_tilde.result.now ++ (response ++ hint) =
     sym (ap (λ l. l ++ (response ++ hint)) first ∙ ap (λ l. take n sigma ++ l) (sym c.split_at.ensures.by_index.0 ∙ whole) ∙ take-append-drop n sigma) in
-    let vector = same_bounds g.row.L _ _ (nat_abs c.args.gamma1 - 1) (nat_abs c.args.gamma1) c.unpack_vector.result response (ap nat_abs L ∙ response_least c.args.gamma1 c.requires.set) (ap nat_abs G)
-    c.unpack_vector.ensures.vector c.unpack_vector.ensures.same_bytes in
-    signature-of_parts (nat_abs c.args.gamma1) (nat_abs c.args.omega) g.row.K g.row.L n sigma c.unwrap-c_tilde.result.now response hint c.unpack_vector.result c.in_ok-h.h cut
-    (ap length first ∙ length-take-le n sigma inside) vector.0 vector.1 (subst (λ o. Spells (nat_abs o) g.row.K c.in_ok-h.h hint) O c.in_ok-h.ensures)
+    let vector = same_bounds g.row.L _ _ (nat_abs c.args.gamma1 - 1) (nat_abs c.args.gamma1) c.write_unpacked_vector.new.v response (ap nat_abs L ∙ response_least c.args.gamma1 c.requires.set) (ap nat_abs G)
+    c.write_unpacked_vector.ensures.vector c.write_unpacked_vector.ensures.same_bytes in
+    signature-of_parts (nat_abs c.args.gamma1) (nat_abs c.args.omega) g.row.K g.row.L n sigma c.unwrap-c_tilde.result.now response hint c.write_unpacked_vector.new.v c.write_unpacked_hint.new.h cut
+    (ap length first ∙ length-take-le n sigma inside) vector.0 vector.1 (subst (λ o. Spells (nat_abs o) g.row.K c.write_unpacked_hint.new.h hint) O c.in_ok-write_unpacked_hint.ensures)
 
 pub overflow_mul-polynomial_size : goal.overflow_mul-polynomial_size
 overflow_mul-polynomial_size g c = grind arith
