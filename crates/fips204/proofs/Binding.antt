@@ -1,6 +1,6 @@
 -- What one signature fixes: one w1 under a key, and one message and one key unless it names a collision.
 use Rattle.std.proofs.Common.{◌≡◌, ◌≤◌, ℕ, List, ◌++◌, length, take, Bool, true, false, Some, None, refl, sym, ap, subst, ◌∙◌, arith, true≢false, ◌≢◌, ◌⊎◌, inl, inr, Decides, bytes_eq}
-use Rattle.fips204.proofs.Names.{append_cancel_left, append_cancel_right, length-take-le, none-some, bytes_eq-Decides, R, T, PublicParts, w1_bytes, challenge, same_signature, ParameterSet, c_tilde_length, IsSet, Opens, Verifies, w1_prime, Input, plain, hashed, framed, represented, representative, Collide, Fixes, SignatureFixesOne, SignatureBindsInput, NamesKeyCollision, SignatureBindsKey, has_context, framing, AreFramedAlike, input_fault, VerifiesInput}
+use Rattle.fips204.proofs.Names.{append_cancel_left, append_cancel_right, length-take-le, none-some, bytes_eq-Decides, R, T, PublicParts, w1_bytes, challenge, same_signature, ParameterSet, c_tilde_length, IsSet, Opens, Verifies, w1_prime, Input, plain, hashed, framed, represented, representative, Collide, Fixes, SignatureFixesOne, SignatureBindsHash, SignatureBindsInput, NamesKeyCollision, SignatureBindsKey, has_context, framing, AreFramedAlike, input_fault, VerifiesInput}
 use Rattle.fips204.proofs.Framing.{same_input}
 use Rattle.fips204.proofs.ParameterSets.{set_numbers}
 use Rattle.fips204.proofs.RefusedCalls.{same_some}
@@ -105,6 +105,24 @@ signature_binds_input p H G pk x y m n signature row alike differ accepted other
         | inl e ↦ inl record { differ = λ d. differ (same_framed x y m n alike accepted.0 other_accepted.0 (append_cancel_left pk.tr m n d)); same = e }
         | inr other ↦ inr record { differ = λ d. other (append_cancel_right mu nu w1 d); same = hash }
       ];
+    }
+
+pub signature_binds_hash : SignatureBindsHash
+signature_binds_hash p H G pk x y signature row differ accepted other_accepted =
+    let mu = representative H pk.tr x in
+    let nu = representative H pk.tr y in
+    let first = accepted.1 in
+    let second = other_accepted.1 in
+    let w1 = first.accepted.w1 in
+    let fixed = fixed_by p H G pk mu signature first in
+    let one = signature_fixes_one p H G pk signature w1 second.accepted.w1 row fixed (fixed_by p H G pk nu signature second) in
+    record {
+      w1 = w1;
+      fixed = fixed;
+      collide = record {
+        differ = λ d. differ (append_cancel_right mu nu w1 d);
+        same = same_hash p H G pk pk mu nu signature row first second ∙ ap (λ v. take (c_tilde_length p) (H (nu ++ v))) (sym one);
+      };
     }
 
 -- ---- one signature under two keys

@@ -11,7 +11,7 @@ pub use Rattle.fips204.specs.ParameterSets.{IsSet, ParameterSet, c_tilde_length,
 pub use Rattle.fips204.specs.Prepared.{AcceptedIfWholePrepared, IsEachJudged, IsEachSigned, IsWholePrepared, PreparedAnswersAsPlain, PreparedPrivate, PreparedPublic, VerifiesPrepared, prepared_private, prepared_public, public_of_prepared, sign_prepared}
 unfoldable pub use Rattle.fips204.specs.Refusals.{derived, generated}
 pub use Rattle.fips204.specs.Refusals.{DrawsUnless, OnlySamplingLimit, VerifiesInput, input_fault, refused_or, sign_input}
-pub use Rattle.fips204.specs.SchemeLaws.{AreFramedAlike, ChallengeProductIsSmall, Collide, Fixes, FramingIsOneToOne, NamesKeyCollision, OtherHintCollides, RefusesOnly, SignatureBindsInput, SignatureBindsKey, SignatureFixesOne, framing, has_context}
+pub use Rattle.fips204.specs.SchemeLaws.{AreFramedAlike, ChallengeProductIsSmall, Collide, Fixes, FramingIsOneToOne, NamesKeyCollision, OtherHintCollides, PackingIsUndone, RefusesOnly, SignatureBindsHash, SignatureBindsInput, SignatureBindsKey, SignatureFixesOne, framing, has_context}
 pub use Rattle.fips204.specs.Sets.{HasKeySizes, HasSizes, set_of}
 unfoldable pub use Rattle.fips204.specs.Signing.{attempt, commitment_hash, ct0, first_answer, hint_vector, low_vector, passes_checks, response, sign, sign_with}
 pub use Rattle.fips204.specs.Signing.{w_minus_cs2}

@@ -1,5 +1,5 @@
 -- The three parameter sets: their numbers, what these have in common, and the lengths that follow.
-use Rattle.std.proofs.Common.{rules, subst, ◌≡◌, ◌⊎◌, inl, inr, ℕ, ℤ, pos, negsuc, nat_abs, Bool, true, false, ◌&&◌, ◌||◌, IsTrue, refl, ap, sym, true≢false, eqb-true, ◌≤◌, ◌*◌, arith, ◌<◌, ◌+◌, ◌-◌, ◌/◌, ◌-ℤ◌, ◌≤ℤ◌, List, ◌∙◌, Some, int_le, nat_eq, if◌then◌else◌}
+use Rattle.std.proofs.Common.{rules, subst, ◌≡◌, ◌≢◌, ◌⊎◌, inl, inr, ℕ, ℤ, pos, negsuc, nat_abs, Bool, true, false, ◌&&◌, ◌||◌, IsTrue, refl, ap, sym, true≢false, eqb-true, ◌≤◌, ◌*◌, arith, ◌<◌, ◌+◌, ◌-◌, ◌/◌, ◌-ℤ◌, ◌≤ℤ◌, List, ◌∙◌, Some, int_le, nat_eq, if◌then◌else◌}
 use Rattle.fips204.proofs.Names.{Params, ParameterSet, set_44, set_65, set_87, c_tilde_length, IsSet, PrivateParts, ArePrivateParts, IsGamma, HasSizes, set_of, ints, mul-le, width, bit_length, high_count, response_width, eta_width, R, small_vector, IsVector, small_vector-range}
 use Rattle.fips204.specs.Rows.{same_parameters, is_parameter_set, parameter_set, are_parameters}
 
@@ -196,17 +196,19 @@ known-set p t = elim (rows p.tau p.lambda p.gamma1 p.gamma2 p.k p.l p.eta p.beta
 
 -- ---- the bytes of a high part
 
-size_few : (gamma2 bound : ℤ) (k n : ℕ) → gamma2 ≡ bound → k ≡ n → 32 * width (pos 0) (pos (high_count (nat_abs bound) - 1)) * n ≤ 1024
-    → 32 * width (pos 0) (pos (high_count (nat_abs gamma2) - 1)) * k ≤ 1024
-size_few gamma2 bound k n e f few = rw (e, f) few
+bytes_of_high_part : ℤ → ℕ → ℕ
+bytes_of_high_part gamma2 k = 32 * width (pos 0) (pos (high_count (nat_abs gamma2) - 1)) * k
 
--- they are at most 1024
-pub high_part-few : (p : Params) → IsKnown p → 32 * width (pos 0) (pos (high_count (nat_abs p.gamma2) - 1)) * p.k ≤ 1024
-unfolding bit_length
-high_part-few p t = elim (rows p.tau p.lambda p.gamma1 p.gamma2 p.k p.l p.eta p.beta p.omega t) [
-  | inl n ↦ size_few p.gamma2 (pos 95232) p.k 4 n.gamma2_is n.k_is (omega arith)
-  | inr (inl n) ↦ size_few p.gamma2 (pos 261888) p.k 6 n.gamma2_is n.k_is (omega arith)
-  | inr (inr n) ↦ size_few p.gamma2 (pos 261888) p.k 8 n.gamma2_is n.k_is (omega arith)
+size_at : (gamma2 bound : ℤ) (k rows : ℕ) → gamma2 ≡ bound → k ≡ rows → bytes_of_high_part gamma2 k ≡ bytes_of_high_part bound rows
+size_at gamma2 bound k rows e f = rw (e, f) refl
+
+-- they are 1024 where the matrix has eight rows, and else 768
+pub high_part-size : (p : Params) → IsKnown p → (p.k ≡ 8 → 32 * width (pos 0) (pos (high_count (nat_abs p.gamma2) - 1)) * p.k ≡ 1024) × (p.k ≢ 8 → 32 * width (pos 0) (pos (high_count (nat_abs p.gamma2) - 1)) * p.k ≡ 768)
+unfolding bit_length bytes_of_high_part
+high_part-size p t = elim (rows p.tau p.lambda p.gamma1 p.gamma2 p.k p.l p.eta p.beta p.omega t) [
+  | inl n ↦ (λ e. absurd (omega (arith, e, n.k_is)), λ other. size_at p.gamma2 (pos 95232) p.k 4 n.gamma2_is n.k_is)
+  | inr (inl n) ↦ (λ e. absurd (omega (arith, e, n.k_is)), λ other. size_at p.gamma2 (pos 261888) p.k 6 n.gamma2_is n.k_is)
+  | inr (inr n) ↦ (λ e. size_at p.gamma2 (pos 261888) p.k 8 n.gamma2_is n.k_is, λ other. absurd (other n.k_is))
 ]
 
 -- gamma2 without its sign

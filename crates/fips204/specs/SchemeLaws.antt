@@ -1,7 +1,9 @@
--- What rounding, hints, challenges and spellings promise, what M' and a signature determine, and which refusals there are (FIPS 204, 2.3, 5, 6, 7.4).
+-- What rounding, hints, challenges, packing and spellings promise, what M' and a signature determine, and which refusals there are (FIPS 204, 2.3, 5, 6, 7.1, 7.4).
 use Rattle.std.specs.Prelude.{◌≡◌, ◌⊎◌, ◌<◌, ◌≤◌, ℕ, ◌+◌, ◌-◌, ◌*◌, ◌%◌, List, pos, ◌-ℤ◌, nat_abs, true, false, length, Some, ◌≢◌, ◌++◌, take, None, IsTrue, Option, Bool, IfErr}
+use Rattle.std.specs.List.{All}
 use Rattle.fips204_base.specs.Encodings.{PublicParts, PrivateParts, IsPublicKeyOf, IsSignature, Spells, all_ones, hint_bytes}
-use Rattle.fips204_base.specs.Packing.{width}
+use Rattle.fips204_base.specs.Bounds.{PolynomialInRange}
+use Rattle.fips204_base.specs.Packing.{width, polynomial_bytes, unpacked}
 use Rattle.fips204_base.specs.Residues.{centred, norm, coefficients}
 use Rattle.fips204_base.specs.Rounding.{IsGamma2, high_bits, low_bits, make_hint, use_hint}
 use Rattle.fips204_base.specs.Sampling.{challenge, sampled_matrix}
@@ -41,6 +43,12 @@ abbrev pub ChallengeProductIsSmall : Type 0
 ChallengeProductIsSmall =
     (tau eta : ℕ) (front : Bytes) (c s : R) → challenge tau front ≡ Some c → norm s.0 ≤ eta
     → norm (polynomial_of (λ n. pos (product (coefficients c.0) (coefficients s.0) n))).0 ≤ tau * eta
+
+-- packing and unpacking undo each other, with coefficients from -a to b: a polynomial in range is the one that its bytes hold, and bytes, as
+-- many as a polynomial has, are those of the polynomial that they hold
+pub record PackingIsUndone (a b : ℕ) : Type 0 where
+  pub polynomials : (w : R) → length w.0 ≡ 256 → PolynomialInRange (pos 0 -ℤ pos a) (pos b) w.0 → unpacked a b (polynomial_bytes (pos a) (pos b) w.0) ≡ w
+  pub bytes : (v : Bytes) → length v ≡ 32 * width (pos a) (pos b) → All (λ byte. byte < 256) v → polynomial_bytes (pos a) (pos b) (unpacked a b v).0 ≡ v
 
 -- c_tilde, z and h determine the bytes of a signature, and these determine c_tilde, z and h
 abbrev pub SignatureHasOneSpelling : Type 0
@@ -112,6 +120,19 @@ abbrev pub SignatureBindsInput : Type 0
 SignatureBindsInput =
     (p : ParameterSet) (H G : XOF) (pk : PublicParts) (x y : Input) (m n signature : Bytes) → IsSet p
     → AreFramedAlike x y m n → x ≢ y → VerifiesInput p H G pk signature x → VerifiesInput p H G pk signature y → NamesCollision p H G pk signature m n
+
+-- under a key two values of mu, of whatever input, name a collision in c_tilde, each before the w1 that the signature fixes
+pub record NamesHashCollision (p : ParameterSet) (H G : XOF) (pk : PublicParts) (signature mu nu : Bytes) : Type 0 where
+  pub w1 : Bytes
+  pub fixed : Fixes p H G pk signature w1
+  pub collide : Collide H (c_tilde_length p) (mu ++ w1) (nu ++ w1)
+
+-- one signature that a key accepts for two different values of mu, each given or that of an input, names a collision of these
+abbrev pub SignatureBindsHash : Type 0
+SignatureBindsHash =
+    (p : ParameterSet) (H G : XOF) (pk : PublicParts) (x y : Input) (signature : Bytes) → IsSet p
+    → representative H pk.tr x ≢ representative H pk.tr y → VerifiesInput p H G pk signature x → VerifiesInput p H G pk signature y
+    → NamesHashCollision p H G pk signature (representative H pk.tr x) (representative H pk.tr y)
 
 -- under two keys two M' name a collision: of the keys' bytes in tr, of tr || M' in mu, or of mu || w1 in c_tilde, each key's own tr and w1
 pub record NamesKeyCollision (p : ParameterSet) (H G : XOF) (bytes others : Bytes) (pk other : PublicParts) (signature m n : Bytes) : Type 0 where

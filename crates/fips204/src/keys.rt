@@ -3,12 +3,14 @@
 #![tactic(auto)]
 
 ghost use Rattle.std.specs.Prelude.{◌≡◌, ◌↔◌, IsTrue, MatchResult};
+ghost use Rattle.std.proofs.Common.{ap};
 ghost use Rattle.fips204.specs.Completeness.{TellsPair, AcceptedIfWholePlain};
-ghost use Rattle.fips204.specs.Framing.{framed, represented};
+ghost use Rattle.fips204.specs.Framing.{framed, represented, representative};
 ghost use Rattle.fips204.specs.Inputs.{input_of};
 ghost use Rattle.fips204.specs.Keys.{IsWhole, TellsWhole, DecodesPrivate};
 ghost use Rattle.fips204.specs.Prepared.{prepared_private, prepared_public};
-ghost use Rattle.fips204.specs.Refusals.{generated, derived, DrawsIf, DrawsUnless, input_fault, sign_input, VerifiesInput};
+ghost use Rattle.fips204.specs.Refusals.{generated, derived, DrawsIf, DrawsUnless, input_fault, refused_or, sign_input, VerifiesInput};
+ghost use Rattle.fips204.specs.Signing.{sign};
 ghost use Rattle.fips204_base.specs.Encodings.{ArePrivateParts, IsPublicKeyOf, public_key_bytes, private_key_bytes};
 
 mod prepared;
@@ -135,6 +137,9 @@ where
 
     ghost whole = { IsWhole S.set G.front };
 
+    ghost refused = { λ key rnd input fault broken.
+        ap (λ first. refused_or first (sign S.set H.front G.front key (representative H.front key.tr input) rnd)) broken };
+
     fn try_sign_with_rng<R: CryptoRngCore>(
         &self,
         rng: &mut R,
@@ -195,6 +200,8 @@ where
     type Signature = [u8; SIG_LEN];
 
     ghost accepts = { VerifiesInput S.set H.front G.front };
+
+    ghost unbroken = { λ key signature input accepted. accepted.0 };
 
     fn verify(&self, message: &[u8], signature: &[u8; SIG_LEN], ctx: &[u8]) -> bool {
         self.accepts_input(&Input::Message(message, ctx), signature)
@@ -481,7 +488,7 @@ where
 
     ghost decodes = { λ bytes answer. MatchResult answer (λ key. IsPublicKeyOf H.front K bytes key) (λ _. ⊥) };
 
-    ghost restored = { λ bytes key decoded. decoded.encoding };
+    ghost restored = { λ bytes key read. read.encoding };
 
     fn into_bytes(self) -> [u8; PK_LEN] {
         pk_encode(&self.rho, &self.t1)

@@ -8,13 +8,16 @@ ghost use Rattle.fips204_base.specs.Transforms.{ProductOfTransforms, InverseOfTr
 ghost use Rattle.fips204.specs.Completeness.{SignedIsAccepted, BytesTellKeys};
 ghost use Rattle.fips204.specs.Constants.{ConstantsStand, LengthsStand};
 ghost use Rattle.fips204.specs.LongerFronts.{CounterFrontsArePrefixes, LongerFrontsKeep};
-ghost use Rattle.fips204.specs.SchemeLaws.{FramingIsOneToOne, SignatureFixesOne, SignatureBindsInput, SignatureBindsKey, OtherHintCollides, HintGivesHighBits, HintStaysNear, HighBitsStay, ChallengeProductIsSmall, SignatureHasOneSpelling, HintHasOneSpelling, RefusesOnly};
+ghost use Rattle.fips204.specs.SchemeLaws.{FramingIsOneToOne, SignatureFixesOne, SignatureBindsInput, SignatureBindsHash, SignatureBindsKey, OtherHintCollides, HintGivesHighBits, HintStaysNear, HighBitsStay, ChallengeProductIsSmall, PackingIsUndone, SignatureHasOneSpelling, HintHasOneSpelling, RefusesOnly};
 ghost use Rattle.fips204.specs.Prepared.{PreparedAnswersAsPlain};
-ghost use Rattle.fips204.specs.ParameterSets.{ParameterSet, IsSet};
-ghost use Rattle.std.specs.Prelude.{ℕ, List};
+ghost use Rattle.fips204.specs.ParameterSets.{ParameterSet, IsSet, set_44, set_65, set_87};
+ghost use Rattle.fips204.specs.Sets.{set_of};
+ghost use Rattle.std.specs.Prelude.{◌≡◌, ◌≤◌, ℕ, List, length};
 
 mod joined;
+mod parts;
 
+use crate::types::{ML_DSA_44, ML_DSA_65, ML_DSA_87, Params};
 use crate::xof::Xof;
 
 /// The public constants have the standard's values: the modulus and the root of unity, whose powers are the
@@ -22,6 +25,19 @@ use crate::xof::Xof;
 pub fn constants()
     ensures values { ConstantsStand }
     ensures lengths { LengthsStand }
+{}
+
+/// The numbers of `ML_DSA_44`, `ML_DSA_65` and `ML_DSA_87`, in this order: each has the row of its name (FIPS 204,
+/// Table 1). A clause of `constants` cannot name them.
+pub fn rows() -> (Params, Params, Params)
+    ensures { (set_of result.0 ≡ set_44) × (set_of result.1 ≡ set_65) × (set_of result.2 ≡ set_87) }
+{
+    (ML_DSA_44, ML_DSA_65, ML_DSA_87)
+}
+
+/// The numbers of a `Params` are those of one of the three sets, as the other laws ask.
+pub fn known_set(p: &Params)
+    ensures { IsSet (set_of p.now) }
 {}
 
 /// The inverse transform of the product of two transforms, value by value, is the product of the two
@@ -59,6 +75,12 @@ pub fn challenge_product_bound()
     ensures { ChallengeProductIsSmall }
 {}
 
+/// Packing and unpacking undo each other, for coefficients in `[-a, b]`: a polynomial in this range is the one that its bytes
+/// hold, and bytes, as many as a polynomial has, are those of the polynomial that they hold, in range or not.
+pub fn packing()
+    ensures { (a b : ℕ) → a ≤ 1048575 → 1 ≤ b → b ≤ 1048575 → PackingIsUndone a b }
+{}
+
 /// Two signatures with the same `c_tilde`, response and hint are the same bytes, and bytes decode to one `c_tilde`,
 /// one response and one hint.
 pub fn signature_spelling()
@@ -80,7 +102,8 @@ pub fn framing()
 /// A signature fixes one encoded `w1` under a key, whatever was signed. One signature for two inputs gives a
 /// collision of `H`: if a public key accepts one signature for two inputs that differ, both messages or digests, or
 /// both framed messages, either the framed messages collide in the 64 bytes of mu, or the two values of mu, each
-/// followed by this `w1`, collide in the bytes of `c_tilde`.
+/// followed by this `w1`, collide in the bytes of `c_tilde`. Two different values of mu, each given or that of an input,
+/// collide so too.
 ///
 /// One signature under two keys gives a collision too: if two keys that were decoded from bytes accept one
 /// signature of such inputs, they are the same key and it is the same input; or the bytes of the keys collide
@@ -92,6 +115,7 @@ pub fn framing()
 pub fn binding()
     ensures fixed { SignatureFixesOne }
     ensures inputs { SignatureBindsInput }
+    ensures hashes { SignatureBindsHash }
     ensures keys { SignatureBindsKey }
     ensures hints { OtherHintCollides }
 {}
@@ -138,4 +162,10 @@ pub fn counter_fronts()
 /// Only the error `SamplingLimit`, and the false of a verifying call that comes from a reached limit, may change.
 pub fn longer_front<H: Xof, G: Xof, LongerH: Xof, LongerG: Xof>()
     ensures { LongerFrontsKeep H.front G.front LongerH.front LongerG.front }
+{}
+
+/// The same for any functions that give fronts, the shorter ones of `H` at least 4096 bytes long: `LongerH` and `LongerG`
+/// may give as many bytes as one likes.
+pub fn longer_functions()
+    ensures { (H G LongerH LongerG : List ℕ → List ℕ) → ((x : List ℕ) → 4096 ≤ length (H x)) → LongerFrontsKeep H G LongerH LongerG }
 {}

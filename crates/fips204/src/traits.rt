@@ -2,7 +2,7 @@
 //! keys as bytes.
 #![tactic(auto)]
 
-ghost use Rattle.std.specs.Prelude.{◌≡◌, ◌≢◌, ◌↔◌, ℕ, List, length, Result, Ok, Err, true, IfOk, IsTrue, MatchResult};
+ghost use Rattle.std.specs.Prelude.{◌≡◌, ◌≢◌, ◌↔◌, ℕ, List, length, Result, Ok, Err, Some, None, true, IfOk, IsTrue, MatchResult};
 ghost use Rattle.fips204_base.specs.declared.fault.Fault.{Fault};
 ghost use Rattle.fips204_base.specs.declared.fault.Fault.TheVariants.{KeyGenRng, SignRng, HashRng, InternalRng};
 ghost use Rattle.fips204.specs.Completeness.{AcceptedIfWhole, DecodesAlone};
@@ -201,6 +201,9 @@ pub trait Signer {
     /// Errors: `Fault::SamplingLimit` if rejection sampling of the matrix reaches its limit.
     fn get_public_key(&self) -> Result<Self::PublicKey, Fault>
         ensures { result ≡ derives self.now };
+
+    // An input that breaks a condition is refused, with the error of the first that it breaks.
+    ghost refused: { (key : Self) (rnd : List ℕ) (input : Input) (fault : Fault) → input_fault input ≡ Some fault → signs key rnd input ≡ Err fault };
 }
 
 /// Verifying (FIPS 204, Algorithms 3 and 5).
@@ -225,6 +228,9 @@ pub trait Verifier {
         hash_oid: &[u8],
     ) -> bool
         ensures { IsTrue result ↔ accepts self.now signature.now (hashed hash.now ctx.now hash_oid.now) };
+
+    // An input that breaks a condition is accepted by no key.
+    ghost unbroken: { (key : Self) (signature : Self.Signature) (input : Input) → accepts key signature input → input_fault input ≡ None };
 }
 
 /// A signature scheme: every signature that a pair makes verifies under the public key of that pair.
@@ -268,7 +274,8 @@ pub trait Scheme {
             → signs sk rnd (plain message.now ctx.now) ≡ Ok signature.now → IsTrue result };
 }
 
-/// Makes a key pair, signs with it and verifies the signature. Returns true or the first error, and never false.
+/// Makes a key pair, signs with it and verifies the signature. Returns true or the first error, and never false. Where it
+/// returns true, the public key accepts the signature.
 pub fn pairwise_check<S: Scheme>(
     xi: &[u8; 32],
     rnd: &[u8; 32],
@@ -276,8 +283,8 @@ pub fn pairwise_check<S: Scheme>(
     ctx: &[u8],
 ) -> Result<bool, Fault>
     ensures { MatchResult (S.generated xi.now)
-        (λ (_, sk). MatchResult (S.signs sk rnd.now (plain message.now ctx.now))
-        (λ _. result ≡ Ok true) (λ fault. result ≡ Err fault))
+        (λ (pk, sk). MatchResult (S.signs sk rnd.now (plain message.now ctx.now))
+        (λ signature. (result ≡ Ok true) × S.accepts pk signature (plain message.now ctx.now)) (λ fault. result ≡ Err fault))
         (λ fault. result ≡ Err fault) }
 {
     let (pk, sk) = S::keygen(xi)?;

@@ -1,8 +1,10 @@
 //! Polynomials, and keys as values.
 #![tactic(auto)]
 
-ghost use Rattle.std.specs.Prelude.{◌≡◌, ◌-◌, ⊤, pos, nat_abs, IsTrue};
+ghost use Rattle.std.specs.Prelude.{◌≡◌, ◌≤◌, ◌-◌, ◌*◌, ⊤, pos, nat_abs, IsTrue};
 ghost use Rattle.fips204_base.specs.Encodings.{ArePublicParts};
+ghost use Rattle.fips204_base.specs.Packing.{width};
+ghost use Rattle.fips204_base.specs.Rounding.{high_count};
 ghost use Rattle.fips204.specs.Rows.{are_parameters};
 
 pub mod pre_hash;
@@ -44,6 +46,14 @@ impl Params {
         ensures { result ≡ nat_abs self.now.gamma1 - nat_abs self.now.beta }
     {
         self.gamma1.unsigned_abs() - self.beta.unsigned_abs()
+    }
+
+    /// The number of bytes of `w1`: 768, 768 and 1024 at the three sets.
+    pub(crate) fn w1_len(&self) -> usize
+        ensures size { result ≡ 32 * width (pos 0) (pos (high_count (nat_abs self.now.gamma2) - 1)) * self.now.k }
+        ensures few { result ≤ 1024 }
+    {
+        if self.k == 8 { 1024 } else { 768 }
     }
 
     /// The exclusive bound on the norm of r0: `gamma2 - beta`.

@@ -1,38 +1,40 @@
 //! What a caller gets of a call by a law. No code calls these functions: they show what the laws must say.
 #![tactic(auto)]
 
-ghost use Rattle.std.specs.Prelude.{◌≡◌, ◌≢◌, ◌↔◌, ◌<◌, ◌≤◌, ◌+◌, ◌*◌, ◌%◌, ◌^◌, ℕ, pos, ◌-ℤ◌, nat_abs, List, [], true, Some, None, Ok, Err, IfOk, IsTrue, MatchResult, replicate, slice_index_or};
-ghost use Rattle.fips204_base.specs.Encodings.{PublicParts, IsSignature, Spells};
+ghost use Rattle.std.specs.Prelude.{◌≡◌, ◌≢◌, ◌↔◌, ◌<◌, ◌≤◌, ◌+◌, ◌*◌, ◌%◌, ◌^◌, ◌++◌, ℕ, pos, ◌-ℤ◌, nat_abs, length, List, [], true, false, Some, None, Ok, Err, IfOk, IfSome, IsTrue, MatchResult, replicate, slice_index_or};
+ghost use Rattle.fips204_base.specs.Bounds.{PolynomialInRange};
+ghost use Rattle.fips204_base.specs.Encodings.{PublicParts, IsSignature, Spells, all_ones, hint_bytes};
 ghost use Rattle.fips204_base.specs.Residues.{centred, coefficients, norm};
 ghost use Rattle.fips204_base.specs.Rounding.{high_bits, low_bits, make_hint, use_hint};
 ghost use Rattle.fips204_base.specs.Sampling.{challenge};
 ghost use Rattle.fips204_base.specs.Streams.{counter_blocks, sha256_front, sha256_long_front, sha512_front, sha512_long_front, IsPrefix};
 ghost use Rattle.fips204_base.specs.Transforms.{bit_reversed, inverse_transform, pointwise, product, transform};
-ghost use Rattle.fips204_base.specs.Vectors.{polynomial_of};
+ghost use Rattle.fips204_base.specs.Vectors.{IsVector, polynomial_of};
 ghost use Rattle.fips204_base.specs.declared.helpers.zeta_table.TheConstants.{ZETA_TABLE_MONT};
 ghost use Rattle.fips204_base.specs.declared.types.R.{R};
-ghost use Rattle.fips204.specs.Framing.{plain, Input, frame};
+ghost use Rattle.fips204.specs.Framing.{plain, hashed, Input, frame};
 ghost use Rattle.fips204.specs.Keys.{IsWhole};
 ghost use Rattle.fips204.specs.LongerFronts.{IsVerdictDecided};
-ghost use Rattle.fips204.specs.ParameterSets.{set_44, set_65, set_87};
+ghost use Rattle.fips204.specs.ParameterSets.{set_44};
 ghost use Rattle.fips204.specs.Prepared.{sign_prepared, VerifiesPrepared};
 ghost use Rattle.fips204.specs.Refusals.{generated, input_fault, VerifiesInput};
 ghost use Rattle.fips204.specs.SchemeLaws.{NamesCollision, NamesKeyCollision};
-ghost use Rattle.fips204.specs.Sets.{set_of};
 
 use super::{
     binding, challenge_product_bound, constants, counter_fronts, framing, high_bits_stay,
-    hint_spelling, inverse_of_transform, longer_front, prepared_keys, product_of_transforms,
-    signature_spelling, signed_is_accepted, use_hint_distance, use_hint_of_make_hint,
+    hint_spelling, inverse_of_transform, longer_front, packing, prepared_keys,
+    product_of_transforms, signature_spelling, signed_is_accepted, use_hint_distance,
+    use_hint_of_make_hint,
 };
 use crate::ml_dsa::key_gen_internal;
 use crate::ml_dsa_44::{
     K, L, PK_LEN, PreparedPrivateKey, PreparedPublicKey, PrivateKey, PublicKey, SIG_LEN,
 };
-use crate::traits::{KeyGen, SerDes, Signer, Verifier};
-use crate::types::{ML_DSA_44, ML_DSA_65, ML_DSA_87, Params};
+use crate::traits::{CryptoRngCore, KeyGen, SerDes, Signer, Verifier};
+use crate::types::{ML_DSA_44, R};
 use crate::xof::{Fill, Sha256Ctr, Sha256CtrLong, Sha512Ctr, Sha512CtrLong, Xof};
 use fips204_base::Fault;
+use fips204_base::conversion::{bit_pack, bit_unpack, simple_bit_pack, simple_bit_unpack};
 
 /// The public key that is derived from the private key of a seed, and whether that private key is whole. It is the
 /// public key of the seed, the private key is whole, and neither call adds an error.
@@ -106,6 +108,122 @@ where
     Ok(public.verify(message, &signature, ctx))
 }
 
+/// The same with keys that a generator's bytes made, and with a digest that is signed with such bytes too.
+pub(crate) fn drawn_keys_accept<
+    K,
+    R: CryptoRngCore,
+    const PK: usize,
+    const SK: usize,
+    const SIG: usize,
+>(rng: &mut R, digest: &[u8], ctx: &[u8], oid: &[u8]) -> Result<bool, Fault>
+where
+    K: KeyGen,
+    K::PublicKey: SerDes<ByteArray = [u8; PK]> + Drop,
+    K::PrivateKey: SerDes<ByteArray = [u8; SK]> + Signer<Signature = [u8; SIG]> + Drop,
+    ensures { IfOk result (λ answer. answer ≡ true) }
+{
+    let (public, private) = K::try_keygen_with_rng(rng)?;
+    let public = K::PublicKey::try_from_bytes(public.into_bytes())?;
+    let private = K::PrivateKey::try_from_bytes(private.into_bytes())?;
+    let signature = private.try_hash_sign_with_rng(rng, digest, ctx, oid)?;
+    Ok(public.hash_verify(digest, &signature, ctx, oid))
+}
+
+/// Whether the public key that belongs to a whole private key of any kind accepts its signature of a digest. It does, if
+/// there is no error.
+pub(crate) fn derived_accepts_digest<K: Signer>(
+    key: &K,
+    rnd: &[u8; 32],
+    digest: &[u8],
+    ctx: &[u8],
+    oid: &[u8],
+) -> Result<bool, Fault>
+where
+    K::PublicKey: Drop,
+    K::Signature: Drop,
+    requires { K.whole key.now }
+    ensures { IfOk result (λ answer. answer ≡ true) }
+{
+    let public = key.get_public_key()?;
+    let signature = key.try_hash_sign_with_seed(rnd, digest, ctx, oid)?;
+    Ok(public.hash_verify(digest, &signature, ctx, oid))
+}
+
+/// The same of a message that is signed with a generator's bytes.
+pub(crate) fn derived_accepts_drawn<K: Signer, R: CryptoRngCore>(
+    key: &K,
+    rng: &mut R,
+    message: &[u8],
+    ctx: &[u8],
+) -> Result<bool, Fault>
+where
+    K::PublicKey: Drop,
+    K::Signature: Drop,
+    requires { K.whole key.now }
+    ensures { IfOk result (λ answer. answer ≡ true) }
+{
+    let public = key.get_public_key()?;
+    let signature = key.try_sign_with_rng(rng, message, ctx)?;
+    Ok(public.verify(message, &signature, ctx))
+}
+
+/// Signs under a context that is too long, with a key of any kind: refused for that, whatever the key is.
+pub(crate) fn long_context_refused<K: Signer>(
+    key: &K,
+    rnd: &[u8; 32],
+    message: &[u8],
+    ctx: &[u8],
+) -> Result<K::Signature, Fault>
+    requires { 255 < length ctx.now }
+    ensures { result ≡ Err Fault.SignCtx }
+{
+    key.try_sign_with_seed(rnd, message, ctx)
+}
+
+/// Verifies under a context that is too long, with a key of any kind: no, whatever the key and the signature are.
+pub(crate) fn long_context_rejected<K: Verifier>(
+    key: &K,
+    message: &[u8],
+    signature: &K::Signature,
+    ctx: &[u8],
+) -> bool
+    requires { 255 < length ctx.now }
+    ensures { result ≡ false }
+{
+    key.verify(message, signature, ctx)
+}
+
+/// Bytes of a key of any kind, decoded and encoded again.
+pub(crate) fn encoded_again<K: SerDes + Drop>(bytes: K::ByteArray) -> Result<K::ByteArray, Fault>
+where
+    K::ByteArray: Drop,
+    ensures { IfOk result (λ again. again ≡ bytes) }
+{
+    Ok(K::try_from_bytes(bytes)?.into_bytes())
+}
+
+/// Coefficients, packed and unpacked: they are as they were.
+pub(crate) fn packed_and_unpacked(w: [i32; 256]) -> Option<R>
+    requires { PolynomialInRange (pos 0 -ℤ pos 2) (pos 2) w }
+    ensures { result ≡ Some record { 0 = w } }
+{
+    packing();
+    let mut bytes = [0u8; 96];
+    bit_pack(&R(w), 2, 2, &mut bytes);
+    bit_unpack(&bytes, 2, 2)
+}
+
+/// Bytes, unpacked and packed: they are as they were.
+pub(crate) fn unpacked_and_packed(bytes: &[u8; 320]) -> Option<[u8; 320]>
+    ensures { IfSome result (λ again. again ≡ bytes.now) }
+{
+    packing();
+    let w = simple_bit_unpack(bytes, 1023)?;
+    let mut again = [0u8; 320];
+    simple_bit_pack(&w, 1023, &mut again);
+    Some(again)
+}
+
 /// The second of two messages, signed by `sign_each`.
 pub(crate) fn second_of_two<H: Xof>(
     key: &PreparedPrivateKey<H>,
@@ -157,26 +275,32 @@ pub(crate) fn accepted_under_both<H: Xof, G: Xof>(
     Ok(first.verify(message, signature, ctx) && second.verify(message, signature, ctx))
 }
 
-/// Two messages under contexts that are short enough are the same where their framed messages are.
+/// Two messages or digests that break no condition are the same, part by part, where their framed messages are; and no
+/// message is framed as a digest is.
 pub(crate) fn one_message()
-    ensures { (m n c d : List ℕ) → input_fault (plain m c) ≡ None → input_fault (plain n d) ≡ None
+    ensures messages { (m n c d : List ℕ) → input_fault (plain m c) ≡ None → input_fault (plain n d) ≡ None
         → frame 0 c m ≡ frame 0 d n → (m ≡ n) × (c ≡ d) }
+    ensures digests { (h i c d o p : List ℕ) → input_fault (hashed h c o) ≡ None → input_fault (hashed i d p) ≡ None
+        → frame 1 c (o ++ h) ≡ frame 1 d (p ++ i) → (h ≡ i) × (c ≡ d) × (o ≡ p) }
+    ensures kinds { (m h c d o : List ℕ) → input_fault (plain m c) ≡ None → input_fault (hashed h d o) ≡ None
+        → frame 0 c m ≢ frame 1 d (o ++ h) }
 {
     framing();
 }
 
-/// Parts have one spelling as a signature of set 44, and bytes have one c_tilde and one hint.
+/// Parts have one spelling as a signature of set 44, and bytes have one c_tilde, one z and one hint.
 pub(crate) fn one_signature()
     ensures bytes { (first second c_tilde : List ℕ) (z h : List R) → IsSignature 131072 80 4 4 32 first c_tilde z h
         → IsSignature 131072 80 4 4 32 second c_tilde z h → first ≡ second }
     ensures parts { (bytes c_tilde other : List ℕ) (z h y g : List R) → IsSignature 131072 80 4 4 32 bytes c_tilde z h
-        → IsSignature 131072 80 4 4 32 bytes other y g → (c_tilde ≡ other) × (h ≡ g) }
+        → IsSignature 131072 80 4 4 32 bytes other y g → (c_tilde ≡ other) × (z ≡ y) × (h ≡ g) }
 {
     signature_spelling();
 }
 
-/// A hint of set 44 has one spelling, and bytes spell one hint.
+/// A hint of set 44 has a spelling, and one alone, and bytes spell one hint.
 pub(crate) fn one_hint()
+    ensures spelled { (h : List R) → IsVector 4 0 1 h → length (all_ones h) ≤ 80 → Spells 80 4 h (hint_bytes 80 h) }
     ensures bytes { (first second : List ℕ) (h : List R) → Spells 80 4 h first → Spells 80 4 h second → first ≡ second }
     ensures hints { (bytes : List ℕ) (h g : List R) → Spells 80 4 h bytes → Spells 80 4 g bytes → h ≡ g }
 {
@@ -200,13 +324,6 @@ pub(crate) fn two_blocks_of_five()
         → IsPrefix (counter_blocks hash seed 2) (counter_blocks hash seed 5) }
 {
     counter_fronts();
-}
-
-/// The rows of the three sets, each under its name. A clause of `constants` cannot name them.
-pub(crate) fn named_rows() -> (Params, Params, Params)
-    ensures { (set_of result.0 ≡ set_44) × (set_of result.1 ≡ set_65) × (set_of result.2 ≡ set_87) }
-{
-    (ML_DSA_44, ML_DSA_65, ML_DSA_87)
 }
 
 /// Whether the second of two signatures is accepted, by `verify_each`.
@@ -247,6 +364,7 @@ pub(crate) fn last_by_transforms()
 pub(crate) fn rounding_of_44()
     ensures hint { (z r : ℕ) → r < 8380417 → z < 8380417 → nat_abs (centred (pos z)) ≤ 95232
         → use_hint 95232 (make_hint 95232 z r) r ≡ high_bits 95232 ((r + z) % 8380417) }
+    ensures without { (r : ℕ) → r < 8380417 → nat_abs (centred (pos r -ℤ pos (use_hint 95232 false r * (2 * 95232)))) ≤ 95232 }
     ensures near { (r : ℕ) → r < 8380417
         → nat_abs (centred (pos r -ℤ pos (use_hint 95232 true r * (2 * 95232)))) ≤ 2 * 95232 + 1 }
     ensures same { (r s : ℕ) → r < 8380417 → s < 8380417 → nat_abs (centred (pos s)) ≤ 78

@@ -10,7 +10,7 @@ ghost use Rattle.fips204.specs.ParameterSets.{c_tilde_length};
 ghost use Rattle.fips204.specs.Sets.{set_of};
 
 use crate::types::{Params, R};
-use fips204_base::encodings::{w1_encode, w1_size};
+use fips204_base::encodings::w1_encode;
 use fips204_base::xof::{Xof, hash};
 
 /// `c_tilde` of `w1`: the first `lambda / 4` bytes of `H` over `mu` and the bytes of `w1`, whose
@@ -26,7 +26,7 @@ pub(crate) fn commitment_hash<const K: usize, const LAMBDA_DIV4: usize, H: Xof>(
     ensures { result ≡ commitment_hash (set_of p.now) H.front mu.now w1.now }
 {
     let mut room = [0u8; 1024];
-    let bytes = &mut room[..w1_size(p.gamma2) * K];
+    let bytes = &mut room[..p.w1_len()];
     w1_encode(p.gamma2, w1, bytes);
     hash::<H, LAMBDA_DIV4>(&[mu.as_slice(), bytes])
 }

@@ -117,11 +117,3 @@ pub fn w1_encode<const K: usize>(gamma2: i32, w1: &[R; K], out: &mut [u8])
     // w1_tilde = w1_tilde || SimpleBitPack(w1[i], (q - 1) / (2 gamma2) - 1)
     write_packed_vector(w1, 0, high_count(gamma2 as u32) - 1, out);
 }
-
-/// How many bytes `w1_encode` writes for each polynomial. Internal: serves the crate `fips204` alone.
-pub fn w1_size(gamma2: i32) -> usize
-    requires { IsGamma2 gamma2 }
-    ensures { result ≡ 32 * width (pos 0) (pos (high_count (nat_abs gamma2) - 1)) }
-{
-    polynomial_size(0, high_count(gamma2 as u32) - 1)
-}

@@ -6,5 +6,4 @@ returns-clause-bytes c = λ first second c_tilde z h. (c.signature_spelling.ensu
 
 pub returns-clause-parts : goal.returns-clause-parts
 returns-clause-parts c = λ bytes c_tilde other z h y g one two.
-    let same = (c.signature_spelling.ensures 131072 80 4 4 32 bytes bytes c_tilde other z h y g).1 (omega arith) (omega arith) one two in
-    (same.0, same.2)
+    (c.signature_spelling.ensures 131072 80 4 4 32 bytes bytes c_tilde other z h y g).1 (omega arith) (omega arith) one two

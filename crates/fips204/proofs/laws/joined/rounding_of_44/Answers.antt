@@ -9,3 +9,6 @@ returns-clause-near c = λ r below. (c.use_hint_distance.ensures 95232 r (inl re
 
 pub returns-clause-same : goal.returns-clause-same
 returns-clause-same c = λ r s. c.high_bits_stay.ensures 95232 r s 78 (inl refl)
+
+pub returns-clause-without : goal.returns-clause-without
+returns-clause-without c = λ r below. (c.use_hint_distance.ensures 95232 r (inl refl) below).0
