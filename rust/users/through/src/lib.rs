@@ -5,6 +5,11 @@ use fips204::traits::Signer;
 use rand_core::{CryptoRng, RngCore};
 use zeroize::ZeroizeOnDrop;
 
+/// Both traits of a generator, as `rand_core` has them from 0.6.4 on.
+pub trait CryptoRngCore: CryptoRng + RngCore {}
+
+impl<R: CryptoRng + RngCore> CryptoRngCore for R {}
+
 /// A key that signs under one context alone.
 pub struct Bound(pub PrivateKey, pub &'static [u8]);
 
@@ -14,7 +19,7 @@ impl Signer for Bound {
 
     fn try_sign_with_rng(
         &self,
-        rng: &mut (impl RngCore + CryptoRng),
+        rng: &mut impl CryptoRngCore,
         message: &[u8],
         ctx: &[u8],
     ) -> Result<[u8; SIG_LEN], &'static str> {
@@ -26,7 +31,7 @@ impl Signer for Bound {
 
     fn try_hash_sign_with_rng(
         &self,
-        _rng: &mut (impl RngCore + CryptoRng),
+        _rng: &mut impl CryptoRngCore,
         _hash: &[u8],
         _ctx: &[u8],
         _hash_oid: &[u8],
