@@ -6,7 +6,8 @@
  *     if (mldsa65_verify(..) == MLDSA_YES)
  *         .. accepted ..
  *
- * and likewise for is_whole and is_pair. A compiler that knows how warns where an answer is not used.
+ * and likewise for is_whole and is_pair. A pointer is never null, also where its length is 0: for an empty array pass
+ * MLDSA_NOTHING, 0. gcc and clang warn where an answer is not used, and of a null pointer that they see.
  *
  * These are the declarations of libmldsa_c.a, whose code is proved: each call answers what FIPS 204 says, reads and writes
  * nothing but the arrays that it is given, and ends. docs/SPEC.md says what that rests on.
@@ -16,8 +17,7 @@
  * written only if the answer is MLDSA_DONE, and are as they were after every other one.
  *
  * The caller owes, and nothing checks:
- *  - a pointer is not null, also where the length is 0 (pass MLDSA_NOTHING, 0), and points to as many bytes as its length
- *    says;
+ *  - a pointer is not null, and points to as many bytes as its length says;
  *  - an array that is written overlaps no other array of the call, and nobody else touches it meanwhile. Arrays that are
  *    read may overlap, and may be read by others at the same time;
  *  - the thread has as many bytes of stack left as MLDSA*_STACK_* says (ask for them where you start a thread);
@@ -65,16 +65,28 @@
 extern "C" {
 #endif
 
-/* The version of this header; mldsa_version answers that of the library, as 65536 * major + 256 * minor + patch. What this
- * header of 0.2 declares stays as it is in every 0.2: versions differ in what is added. */
+/* The version of this header; mldsa_version answers that of the library, as 65536 * major + 256 * minor + patch.
+ *
+ * A program that was compiled with this header runs with every library of the same major and minor number whose patch is as high
+ * or higher. In all of them the calls that this header declares have the same names, parameters and lengths (_LEN), take and write
+ * the same keys and signatures, and answer the same numbers. What a higher one may add are calls, and answers for what only these
+ * take. Another minor number may change any of that; keys and signatures are those of FIPS 204 in every version.
+ *
+ * In every version may change: the stack that a call needs (_STACK_), so take the header that came with the library; the texts of
+ * mldsa_text; and the bytes inside a state, which only the library that began it can go on with. */
 #define MLDSA_VERSION 0x000200
 #define MLDSA_VERSION_TEXT "0.2.0"
 
-/* The answer of a call is to be looked at. */
+/* No pointer is null, and the answer of a call is to be looked at. */
+#if defined(__GNUC__)
+#define MLDSA_POINTERS __attribute__((nonnull))
+#else
+#define MLDSA_POINTERS
+#endif
 #if (defined(__cplusplus) && __cplusplus >= 201703L) || (defined(__STDC_VERSION__) && __STDC_VERSION__ >= 202311L)
-#define MLDSA_ANSWERS [[nodiscard]]
+#define MLDSA_ANSWERS [[nodiscard]] MLDSA_POINTERS
 #elif defined(__GNUC__)
-#define MLDSA_ANSWERS __attribute__((warn_unused_result))
+#define MLDSA_ANSWERS __attribute__((warn_unused_result)) MLDSA_POINTERS
 #else
 #define MLDSA_ANSWERS
 #endif

@@ -75,7 +75,7 @@ def lengths(name, header):
 
 
 def cases(found, header=HEADER):
-    """The arrays and calls of c/tests/levels.c."""
+    """The arrays and calls of c/tests/levels.c and c/tests/edges.c."""
     text, names = header.read_text(encoding="utf-8"), []
     for it in found:
         if it.arrays() is None:
@@ -90,9 +90,10 @@ def cases(found, header=HEADER):
     for it in found:
         given = ", ".join(f"a[ARRAY_{name}].at, a[ARRAY_{name}].len" for name, _ in it.arrays())
         lines.append(f"static uint32_t call_{it.name}(struct array *a) {{ (void)a; return {it.name}({given}); }}\n")
-    lines += ["struct export { const char *name; int set; uint32_t (*call)(struct array *); int count, arrays[ARRAYS]; };\n"]
+    lines += ["struct export { const char *name; int set; uint32_t (*call)(struct array *); int count, arrays[ARRAYS], written[ARRAYS]; };\n"]
     lines += ["static const struct export CALLS[EXPORTS] = {\n"]
     for it in found:
         number, used = re.match(r"mldsa(\d*)", it.name)[1] or "0", [f"ARRAY_{name}" for name, _ in it.arrays()]
-        lines.append(f'    {{"{it.name}", {number}, call_{it.name}, {len(used)}, {{{", ".join(used) or "0"}}}}},\n')
+        written = ", ".join(str(int(it)) for _, it in it.arrays()) or "0"
+        lines.append(f'    {{"{it.name}", {number}, call_{it.name}, {len(used)}, {{{", ".join(used) or "0"}}}, {{{written}}}}},\n')
     return "".join([*lines, "};\n"])

@@ -7,23 +7,8 @@
  *
  * cases.h, which c/test makes of mldsa.h, has each array that a call takes, and each call. A case fills the arrays with random
  * bytes and makes the calls in the order of mldsa.h, so that what one writes is what the next reads. */
-#include "sets.h"
+#include "arrays.h"
 #include "mldsa_x86_64.h"
-
-struct array {
-    size_t len;
-    uint8_t *at;
-};
-#include "cases.h"
-
-static uint64_t state;
-static uint64_t draw(void)
-{
-    state ^= state << 13;
-    state ^= state >> 7;
-    state ^= state << 17;
-    return state;
-}
 
 /* What a case has in its arrays. */
 static struct array first[ARRAYS], second[ARRAYS], first_changed[ARRAYS], second_changed[ARRAYS];
@@ -43,24 +28,15 @@ static void copy(struct array *to, const struct array *from)
     }
 }
 
-/* Random bytes, and lengths that fit: of some arrays the set's, of others any. */
+/* Random bytes, and lengths that fit. */
 static void fill(struct array *pool, int which)
 {
-    static const uint8_t lengths_of_digests[] = {32, 48, 64};
     for (int i = 0; i < ARRAYS; i++) {
-        pool[i].len = KINDS[i].lengths[which] ? KINDS[i].lengths[which] : draw() % 256;
+        pool[i].len = length_of(i, which);
         for (size_t k = 0; k < ROOM; k++)
             pool[i].at[k] = (uint8_t)draw();
     }
-#ifdef ARRAY_oid
-    /* SHA-256, SHA-384 or SHA-512, and a digest of its length. */
-    pool[ARRAY_oid].len = 11;
-    memcpy(pool[ARRAY_oid].at, SHA256_OID, 11);
-    pool[ARRAY_oid].at[10] = (uint8_t)(1 + draw() % 3);
-    pool[ARRAY_digest].len = lengths_of_digests[pool[ARRAY_oid].at[10] - 1];
-#else
-    (void)lengths_of_digests;
-#endif
+    fit_oid(pool);
 }
 
 /* Makes an array that the call takes a byte longer or shorter, or changes a bit of it. */

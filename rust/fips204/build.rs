@@ -1,9 +1,11 @@
 //! Links libmldsa_c.a: that of the folder `MLDSA_C_DIR`, or else what `scripts/archive` of this repository made for the
-//! target, or what `rt lib` made in `crates/mldsa_c`.
+//! target, or what `rt lib` made in `crates/mldsa_c`. Where it is not there, the build ends with a sentence that says so.
 use std::{
     env,
     path::{Path, PathBuf},
 };
+
+const ARCHIVE: &str = "libmldsa_c.a";
 
 /// The folder of the target's library; on x86-64 the newer one of the library with the code of both levels, and of the plain one.
 fn built(top: &Path) -> PathBuf {
@@ -16,14 +18,11 @@ fn built(top: &Path) -> PathBuf {
         top.join("crates/mldsa_c/out"),
     );
     for folder in [&both, &plain] {
-        println!(
-            "cargo:rerun-if-changed={}",
-            folder.join("libmldsa_c.a").display()
-        );
+        println!("cargo:rerun-if-changed={}", folder.join(ARCHIVE).display());
     }
     let made = |folder: &Path| {
         folder
-            .join("libmldsa_c.a")
+            .join(ARCHIVE)
             .metadata()
             .and_then(|it| it.modified())
             .ok()
@@ -35,17 +34,60 @@ fn built(top: &Path) -> PathBuf {
     }
 }
 
+/// The workspace that is built: the nearest folder above the target folder that has a lock file.
+fn workspace() -> Option<PathBuf> {
+    let out = PathBuf::from(env::var_os("OUT_DIR")?);
+    let found = out.ancestors().find(|it| it.join("Cargo.lock").is_file());
+    found.map(Path::to_owned)
+}
+
+/// The folder of the library, or why there is none.
+fn folder() -> Result<PathBuf, String> {
+    let top = PathBuf::from(env!("CARGO_MANIFEST_DIR")).join("../..");
+    let Some(given) = env::var_os("MLDSA_C_DIR").map(PathBuf::from) else {
+        let folder = built(&top);
+        if folder.join(ARCHIVE).is_file() {
+            return Ok(folder);
+        }
+        let script = top.join("scripts/archive");
+        return Err(match script.canonicalize() {
+            Ok(script) => format!(
+                "the static library is not built yet: run {}, or name the folder of {ARCHIVE} by MLDSA_C_DIR",
+                script.display()
+            ),
+            Err(_) => format!(
+                "the static library is not there: name the folder of {ARCHIVE} by MLDSA_C_DIR"
+            ),
+        });
+    };
+    let folder = match workspace() {
+        _ if given.is_absolute() => given,
+        Some(top) => top.join(given),
+        None => {
+            return Err(format!(
+                "MLDSA_C_DIR is {}, and the target folder is in no workspace: give it as an absolute path",
+                given.display()
+            ));
+        }
+    };
+    if folder.join(ARCHIVE).is_file() {
+        Ok(folder)
+    } else {
+        Err(format!(
+            "MLDSA_C_DIR names {}, where no {ARCHIVE} is",
+            folder.display()
+        ))
+    }
+}
+
 fn main() {
     println!("cargo:rerun-if-env-changed=MLDSA_C_DIR");
-    let top = PathBuf::from(env!("CARGO_MANIFEST_DIR")).join("../..");
-    let folder = env::var_os("MLDSA_C_DIR").map_or_else(|| built(&top), PathBuf::from);
-    let archive = folder.join("libmldsa_c.a");
-    println!("cargo:rerun-if-changed={}", archive.display());
-    assert!(
-        archive.is_file(),
-        "{} is not there: run `scripts/archive`, or name its folder by MLDSA_C_DIR",
-        archive.display()
-    );
-    println!("cargo:rustc-link-search=native={}", folder.display());
-    println!("cargo:rustc-link-lib=static=mldsa_c");
+    match folder() {
+        Ok(folder) => {
+            println!("cargo:rerun-if-changed={}", folder.join(ARCHIVE).display());
+            println!("cargo:rustc-link-search=native={}", folder.display());
+            println!("cargo:rustc-link-lib=static=mldsa_c");
+        }
+        Err(why) => println!("cargo::error={why}"),
+    }
 }

@@ -103,3 +103,22 @@ calls! {
     mu_finish(state) => (mu);
     version() => ();
 }
+
+#[cfg(test)]
+mod tests {
+    extern crate std;
+
+    /// The library is of the same major and minor version as this crate.
+    #[test]
+    fn version_of_the_library() {
+        let version = super::version();
+        assert_eq!(
+            std::format!("{}.{}", version >> 16, version >> 8 & 255),
+            concat!(
+                env!("CARGO_PKG_VERSION_MAJOR"),
+                ".",
+                env!("CARGO_PKG_VERSION_MINOR")
+            )
+        );
+    }
+}

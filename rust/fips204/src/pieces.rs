@@ -1,7 +1,7 @@
 //! Messages that come in pieces.
 
 use crate::library;
-use crate::wiped::Wiped;
+use crate::wiped::{Wiped, shows_nothing};
 
 const STATE_LEN: usize = 337;
 
@@ -28,6 +28,7 @@ pub struct MessageHasher(Wiped<STATE_LEN>);
 
 impl MessageHasher {
     /// A hasher whose state a call of the library writes.
+    #[allow(dead_code)] // no set may be chosen
     pub(crate) fn begun(begin: impl FnOnce(&mut [u8]) -> u32) -> Result<Self, &'static str> {
         let mut state = Wiped([0; STATE_LEN]);
         let status = begin(&mut state.0);
@@ -35,6 +36,21 @@ impl MessageHasher {
     }
 
     /// Adds a piece to the end of the message.
+    ///
+    /// ```
+    /// # #[cfg(feature = "ml-dsa-65")] {
+    /// # use fips204::{ml_dsa_65::KG, traits::KeyGen};
+    /// # let (public, _) = KG::keygen_from_seed(&[7; 32]);
+    /// let mut cut = public.message_hasher(b"a context")?;
+    /// cut.update(b"a long ");
+    /// cut.update(b"message");
+    ///
+    /// let mut whole = public.message_hasher(b"a context")?;
+    /// whole.update(b"a long message");
+    /// assert_eq!(cut.finalize(), whole.finalize());
+    /// # }
+    /// # Ok::<(), &'static str>(())
+    /// ```
     pub fn update(&mut self, piece: &[u8]) {
         // The state was written by the library, which answers no other status for such a one.
         let status = library::mu_update(piece, &mut self.0.0);
@@ -42,6 +58,19 @@ impl MessageHasher {
     }
 
     /// The hash `mu` of the message.
+    ///
+    /// ```
+    /// # #[cfg(feature = "ml-dsa-65")] {
+    /// # use fips204::{ml_dsa_65::KG, traits::KeyGen};
+    /// # let (public, _) = KG::keygen_from_seed(&[7; 32]);
+    /// let mut hasher = public.message_hasher(b"a context")?;
+    /// let of_nothing = hasher.clone().finalize();
+    /// hasher.update(b"a message");
+    /// let mu: [u8; 64] = hasher.finalize();
+    /// assert_ne!(mu, of_nothing);
+    /// # }
+    /// # Ok::<(), &'static str>(())
+    /// ```
     #[must_use]
     pub fn finalize(self) -> [u8; 64] {
         let mut mu = [0; 64];
@@ -51,11 +80,7 @@ impl MessageHasher {
     }
 }
 
-impl core::fmt::Debug for MessageHasher {
-    fn fmt(&self, f: &mut core::fmt::Formatter<'_>) -> core::fmt::Result {
-        f.debug_struct("MessageHasher").finish_non_exhaustive()
-    }
-}
+shows_nothing!(MessageHasher);
 
 #[cfg(feature = "default-rng")]
 impl std::io::Write for MessageHasher {

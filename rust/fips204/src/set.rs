@@ -1,13 +1,14 @@
 //! What every parameter set has.
 
-/// The items of a set's module: the calls of the library, and the lengths of a public key, a private key and a signature.
+/// The items of a set's module: its name, the calls of the library, and the lengths of a public key, a private key and a signature.
 #[cfg(any(feature = "ml-dsa-44", feature = "ml-dsa-65", feature = "ml-dsa-87"))]
 macro_rules! parameter_set {
-    ($calls:ident, $pk_len:literal, $sk_len:literal, $sig_len:literal) => {
+    ($name:literal, $calls:ident, $pk_len:literal, $sk_len:literal, $sig_len:literal) => {
         use crate::library::{self, answer, $calls as calls};
         use crate::pieces::MessageHasher;
         use crate::traits::{CryptoRngCore, KeyGen, SerDes, Signer, Verifier};
-        use crate::wiped::Wiped;
+        use crate::wiped::{Wiped, shows_nothing};
+        use crate::{CryptoRng, RngCore};
 
         /// The number of bytes of a private key.
         pub const SK_LEN: usize = $sk_len;
@@ -17,6 +18,7 @@ macro_rules! parameter_set {
         pub const SIG_LEN: usize = $sig_len;
 
         /// Key generation.
+        #[derive(Debug)]
         pub struct KG();
 
         /// A private key, which is wiped when it is dropped.
@@ -27,10 +29,19 @@ macro_rules! parameter_set {
         #[derive(Clone)]
         pub struct PublicKey(Wiped<PK_LEN>);
 
+        shows_nothing!(PrivateKey);
+        shows_nothing!(PublicKey);
+
         /// Makes a key pair from 32 bytes of the operating system's generator.
         ///
         /// # Errors
         /// The generator failed.
+        ///
+        /// ```
+        #[doc = concat!("let (public, private) = fips204::", $name, "::try_keygen()?;")]
+        /// # let _ = (public, private);
+        /// # Ok::<(), &'static str>(())
+        /// ```
         #[cfg(feature = "default-rng")]
         pub fn try_keygen() -> Result<(PublicKey, PrivateKey), &'static str> {
             KG::try_keygen()
@@ -40,8 +51,16 @@ macro_rules! parameter_set {
         ///
         /// # Errors
         /// The generator failed.
+        ///
+        /// ```
+        /// # fn example(your_generator: &mut (impl fips204::RngCore + fips204::CryptoRng)) -> Result<(), &'static str> {
+        #[doc = concat!("let (public, private) = fips204::", $name, "::try_keygen_with_rng(your_generator)?;")]
+        /// # let _ = (public, private);
+        /// # Ok(())
+        /// # }
+        /// ```
         pub fn try_keygen_with_rng(
-            rng: &mut impl CryptoRngCore,
+            rng: &mut (impl RngCore + CryptoRng),
         ) -> Result<(PublicKey, PrivateKey), &'static str> {
             KG::try_keygen_with_rng(rng)
         }
@@ -61,7 +80,7 @@ macro_rules! parameter_set {
             type PrivateKey = PrivateKey;
 
             fn try_keygen_with_rng(
-                rng: &mut impl CryptoRngCore,
+                rng: &mut (impl RngCore + CryptoRng),
             ) -> Result<(PublicKey, PrivateKey), &'static str> {
                 let xi = draw(rng, "KeyGen: Random number generator failed")?;
                 Ok(KG::keygen_from_seed(&xi.0))
@@ -82,6 +101,19 @@ macro_rules! parameter_set {
             ///
             /// # Errors
             /// Rejection sampling reached its limit, for which no key is known.
+            ///
+            /// ```
+            #[doc = concat!("use fips204::", $name, "::{KG, PrivateKey, SK_LEN};")]
+            /// use fips204::traits::{KeyGen, SerDes};
+            ///
+            /// let (_, private) = KG::keygen_from_seed(&[7; 32]); // a seed is secret, and random
+            /// assert_eq!(private.is_whole(), Ok(true));
+            ///
+            /// let mut bytes = private.into_bytes();
+            /// bytes[SK_LEN - 1] ^= 1;
+            /// assert_eq!(PrivateKey::try_from_bytes(bytes)?.is_whole(), Ok(false));
+            /// # Ok::<(), &'static str>(())
+            /// ```
             pub fn is_whole(&self) -> Result<bool, &'static str> {
                 match calls::is_whole(&self.0.0) {
                     library::NO => Ok(false),
@@ -94,6 +126,18 @@ macro_rules! parameter_set {
             ///
             /// # Errors
             /// Rejection sampling reached its limit, for which no key is known.
+            ///
+            /// ```
+            #[doc = concat!("use fips204::", $name, "::{KG, PrivateKey};")]
+            /// use fips204::traits::{KeyGen, SerDes};
+            ///
+            /// let (_, private) = KG::keygen_from_seed(&[7; 32]); // a seed is secret, and random
+            ///
+            /// let mut bytes = private.into_bytes();
+            /// bytes[64] ^= 1; // of the hash of the public key
+            /// assert_eq!(PrivateKey::try_from_bytes(bytes)?.is_pair(), Ok(false));
+            /// # Ok::<(), &'static str>(())
+            /// ```
             pub fn is_pair(&self) -> Result<bool, &'static str> {
                 match calls::is_pair(&self.0.0) {
                     library::NO => Ok(false),
@@ -105,6 +149,20 @@ macro_rules! parameter_set {
             ///
             /// # Errors
             /// The context has more than 255 bytes.
+            ///
+            /// ```
+            #[doc = concat!("use fips204::", $name, "::KG;")]
+            /// use fips204::traits::{KeyGen, Signer};
+            ///
+            /// let (public, private) = KG::keygen_from_seed(&[7; 32]); // a seed is secret, and random
+            /// let mut hasher = private.message_hasher(b"a context")?;
+            /// hasher.update(b"a long ");
+            /// hasher.update(b"message");
+            /// let signature = private.try_sign_mu_with_seed(&[0; 32], &hasher.finalize())?;
+            /// assert_eq!(signature, private.try_sign_with_seed(&[0; 32], b"a long message", b"a context")?);
+            /// # let _ = public;
+            /// # Ok::<(), &'static str>(())
+            /// ```
             pub fn message_hasher(&self, ctx: &[u8]) -> Result<MessageHasher, &'static str> {
                 MessageHasher::begun(|state| calls::mu_begin_private(&self.0.0, ctx, state))
             }
@@ -112,19 +170,45 @@ macro_rules! parameter_set {
             /// Signs the hash `mu` of a message, with random bytes of the operating system's generator.
             ///
             /// # Errors
-            /// The generator failed, or all 814 attempts were rejected.
+            /// The generator failed; all 814 attempts were rejected, as with a damaged key; or rejection sampling reached its
+            /// limit, for which no key is known.
+            ///
+            /// ```
+            #[doc = concat!("use fips204::", $name, "::try_keygen;")]
+            ///
+            /// let (public, private) = try_keygen()?;
+            /// let mut hasher = private.message_hasher(b"a context")?;
+            /// hasher.update(b"a message");
+            /// let mu = hasher.finalize();
+            /// let signature = private.try_sign_mu(&mu)?;
+            /// assert!(public.verify_mu(&mu, &signature));
+            /// # Ok::<(), &'static str>(())
+            /// ```
             #[cfg(feature = "default-rng")]
             pub fn try_sign_mu(&self, mu: &[u8; 64]) -> Result<[u8; SIG_LEN], &'static str> {
-                self.try_sign_mu_with_rng(&mut crate::traits::SystemRng, mu)
+                self.try_sign_mu_with_rng(&mut crate::rng::SystemRng, mu)
             }
 
             /// Signs the hash `mu` of a message, with 32 bytes of a generator, which is asked once.
             ///
             /// # Errors
-            /// The generator failed, or all 814 attempts were rejected.
+            /// The generator failed; all 814 attempts were rejected, as with a damaged key; or rejection sampling reached its
+            /// limit, for which no key is known.
+            ///
+            /// ```
+            /// # use fips204::{CryptoRng, RngCore};
+            #[doc = concat!("use fips204::", $name, "::PrivateKey;")]
+            ///
+            /// # fn example(private: &PrivateKey, your_generator: &mut (impl RngCore + CryptoRng)) -> Result<(), &'static str> {
+            /// let mu = private.message_hasher(b"a context")?.finalize(); // of the empty message
+            /// let signature = private.try_sign_mu_with_rng(your_generator, &mu)?;
+            /// # let _ = signature;
+            /// # Ok(())
+            /// # }
+            /// ```
             pub fn try_sign_mu_with_rng(
                 &self,
-                rng: &mut impl CryptoRngCore,
+                rng: &mut (impl RngCore + CryptoRng),
                 mu: &[u8; 64],
             ) -> Result<[u8; SIG_LEN], &'static str> {
                 let random = draw(rng, "ML-DSA.Sign_internal: random number generator failed")?;
@@ -134,7 +218,19 @@ macro_rules! parameter_set {
             /// Signs the hash `mu` of a message, with these random bytes. 32 zeros give the deterministic variant.
             ///
             /// # Errors
-            /// All 814 attempts were rejected.
+            /// All 814 attempts were rejected, as with a damaged key; or rejection sampling reached its limit, for which no key
+            /// is known.
+            ///
+            /// ```
+            #[doc = concat!("use fips204::", $name, "::KG;")]
+            /// use fips204::traits::{KeyGen, Signer};
+            ///
+            /// let (public, private) = KG::keygen_from_seed(&[7; 32]); // a seed is secret, and random
+            /// let mu = public.message_hasher(b"a context")?.finalize(); // of the empty message
+            /// let signature = private.try_sign_mu_with_seed(&[0; 32], &mu)?;
+            /// assert_eq!(signature, private.try_sign_with_seed(&[0; 32], b"", b"a context")?);
+            /// # Ok::<(), &'static str>(())
+            /// ```
             pub fn try_sign_mu_with_seed(
                 &self,
                 seed: &[u8; 32],
@@ -149,11 +245,22 @@ macro_rules! parameter_set {
             /// without `hedged` with 32 zeros.
             ///
             /// # Errors
-            /// The generator failed, or all 814 attempts were rejected.
+            /// Those of `try_sign_mu_with_rng`.
+            ///
+            /// ```
+            #[doc = concat!("use fips204::", $name, "::KG;")]
+            /// use fips204::{FillRng, traits::KeyGen};
+            ///
+            /// let (public, private) = KG::keygen_from_seed(&[7; 32]); // a seed is secret, and random
+            /// let mut unasked = FillRng(|_: &mut [u8]| false);
+            /// let signature = private.sign_mu(&mut unasked, &[1; 64], false)?;
+            /// assert!(public.verify_mu(&[1; 64], &signature));
+            /// # Ok::<(), &'static str>(())
+            /// ```
             #[cfg(feature = "acvp-internal")]
             pub fn sign_mu(
                 &self,
-                rng: &mut impl CryptoRngCore,
+                rng: &mut (impl RngCore + CryptoRng),
                 mu: &[u8; 64],
                 hedged: bool,
             ) -> Result<[u8; SIG_LEN], &'static str> {
@@ -170,11 +277,37 @@ macro_rules! parameter_set {
             ///
             /// # Errors
             /// The context has more than 255 bytes.
+            ///
+            /// ```
+            #[doc = concat!("use fips204::", $name, "::KG;")]
+            /// use fips204::traits::{KeyGen, Signer};
+            ///
+            /// let (public, private) = KG::keygen_from_seed(&[7; 32]); // a seed is secret, and random
+            /// let signature = private.try_sign_with_seed(&[0; 32], b"a long message", b"a context")?;
+            /// let mut hasher = public.message_hasher(b"a context")?;
+            /// hasher.update(b"a long ");
+            /// hasher.update(b"message");
+            /// assert!(public.verify_mu(&hasher.finalize(), &signature));
+            /// # Ok::<(), &'static str>(())
+            /// ```
             pub fn message_hasher(&self, ctx: &[u8]) -> Result<MessageHasher, &'static str> {
                 MessageHasher::begun(|state| calls::mu_begin(&self.0.0, ctx, state))
             }
 
             /// Whether the key accepts the signature of the hash `mu` of a message (Algorithm 8, with mu given).
+            ///
+            /// ```
+            #[doc = concat!("use fips204::", $name, "::KG;")]
+            /// use fips204::traits::KeyGen;
+            ///
+            /// let (public, private) = KG::keygen_from_seed(&[7; 32]); // a seed is secret, and random
+            /// let mu = public.message_hasher(b"a context")?.finalize(); // of the empty message
+            /// let mut signature = private.try_sign_mu_with_seed(&[0; 32], &mu)?;
+            /// assert!(public.verify_mu(&mu, &signature));
+            /// signature[0] ^= 1;
+            /// assert!(!public.verify_mu(&mu, &signature));
+            /// # Ok::<(), &'static str>(())
+            /// ```
             #[must_use]
             pub fn verify_mu(&self, mu: &[u8; 64], sig: &[u8; SIG_LEN]) -> bool {
                 calls::verify_mu(&self.0.0, mu, sig) == library::DONE
@@ -187,7 +320,7 @@ macro_rules! parameter_set {
 
             fn try_sign_with_rng(
                 &self,
-                rng: &mut impl CryptoRngCore,
+                rng: &mut (impl RngCore + CryptoRng),
                 message: &[u8],
                 ctx: &[u8],
             ) -> Result<[u8; SIG_LEN], &'static str> {
@@ -211,7 +344,7 @@ macro_rules! parameter_set {
 
             fn try_hash_sign_with_rng(
                 &self,
-                rng: &mut impl CryptoRngCore,
+                rng: &mut (impl RngCore + CryptoRng),
                 hash: &[u8],
                 ctx: &[u8],
                 hash_oid: &[u8],

@@ -1,84 +1,20 @@
 //! The traits of keys and of key generation.
 
-use crate::wiped::Wiped;
-
-#[cfg(feature = "rand_core")]
-pub use rand_core::CryptoRngCore;
-
-/// A generator of random bytes that is fit for cryptography. (With the feature `rand_core` it is that crate's.)
-#[cfg(not(feature = "rand_core"))]
-pub trait CryptoRngCore {
-    /// The error of a generator.
-    type Error;
-
-    /// Fills `dest` with random bytes.
-    ///
-    /// # Errors
-    /// The generator failed.
-    fn try_fill_bytes(&mut self, dest: &mut [u8]) -> Result<(), Self::Error>;
-}
-
-/// Declares a generator that is asked by `try_fill_bytes` alone, of the trait that this build has.
-macro_rules! generator {
-    ($(#[$attribute:meta])* $name:ty: |$own:ident, $out:ident| $fill:block) => {
-        $(#[$attribute])*
-        #[cfg(not(feature = "rand_core"))]
-        impl CryptoRngCore for $name {
-            type Error = ();
-            fn try_fill_bytes(&mut self, $out: &mut [u8]) -> Result<(), ()> {
-                let $own = self;
-                if $fill { Ok(()) } else { Err(()) }
-            }
-        }
-
-        $(#[$attribute])*
-        #[cfg(feature = "rand_core")]
-        impl rand_core::CryptoRng for $name {}
-
-        $(#[$attribute])*
-        #[cfg(feature = "rand_core")]
-        impl rand_core::RngCore for $name {
-            fn next_u32(&mut self) -> u32 {
-                rand_core::impls::next_u32_via_fill(self)
-            }
-            fn next_u64(&mut self) -> u64 {
-                rand_core::impls::next_u64_via_fill(self)
-            }
-            fn fill_bytes(&mut self, dest: &mut [u8]) {
-                self.try_fill_bytes(dest).expect("the generator failed");
-            }
-            fn try_fill_bytes(&mut self, $out: &mut [u8]) -> Result<(), rand_core::Error> {
-                const FAILED: core::num::NonZeroU32 =
-                    core::num::NonZeroU32::new(rand_core::Error::CUSTOM_START).unwrap();
-                let $own = self;
-                if $fill { Ok(()) } else { Err(FAILED.into()) }
-            }
-        }
-    };
-}
-
-/// The operating system's generator.
+#[allow(unused_imports)] // no set may be chosen
+pub(crate) use crate::rng::CryptoRngCore;
 #[cfg(feature = "default-rng")]
-pub(crate) struct SystemRng;
+pub(crate) use crate::rng::SystemRng;
+use crate::{CryptoRng, FillRng, RngCore};
 
-generator! {
-    #[cfg(feature = "default-rng")]
-    SystemRng: |_own, out| {
-        use std::io::Read;
-        std::fs::File::open("/dev/urandom").and_then(|mut device| device.read_exact(out)).is_ok()
-    }
-}
-
-/// A generator that gives 32 bytes, to whoever asks for 32.
-struct Fixed(Wiped<32>);
-
-generator! {
-    Fixed: |own, out| {
-        out.len() == own.0.0.len() && {
-            out.copy_from_slice(&own.0.0);
-            true
+/// A generator that gives these bytes, to whoever asks for as many.
+fn fixed(seed: &[u8; 32]) -> impl RngCore + CryptoRng {
+    FillRng(move |out: &mut [u8]| {
+        let fits = out.len() == seed.len();
+        if fits {
+            out.copy_from_slice(seed);
         }
-    }
+        fits
+    })
 }
 
 /// Key generation (FIPS 204, Algorithm 1).
@@ -93,6 +29,16 @@ pub trait KeyGen {
     ///
     /// # Errors
     /// The generator failed.
+    ///
+    /// ```
+    /// # #[cfg(all(feature = "ml-dsa-65", feature = "default-rng"))] {
+    /// use fips204::{ml_dsa_65, traits::KeyGen}; // or ml_dsa_44, ml_dsa_87
+    ///
+    /// let (public, private) = ml_dsa_65::KG::try_keygen()?;
+    /// # let _ = (public, private);
+    /// # }
+    /// # Ok::<(), &'static str>(())
+    /// ```
     #[cfg(feature = "default-rng")]
     fn try_keygen() -> Result<(Self::PublicKey, Self::PrivateKey), &'static str> {
         Self::try_keygen_with_rng(&mut SystemRng)
@@ -102,11 +48,39 @@ pub trait KeyGen {
     ///
     /// # Errors
     /// The generator failed.
+    ///
+    /// ```
+    /// # #[cfg(feature = "ml-dsa-65")] {
+    /// # use fips204::{CryptoRng, RngCore};
+    /// use fips204::{ml_dsa_65, traits::KeyGen};
+    ///
+    /// # fn example(your_generator: &mut (impl RngCore + CryptoRng)) -> Result<(), &'static str> {
+    /// let (public, private) = ml_dsa_65::KG::try_keygen_with_rng(your_generator)?;
+    /// # let _ = (public, private);
+    /// # Ok(())
+    /// # }
+    /// # }
+    /// # Ok::<(), &'static str>(())
+    /// ```
     fn try_keygen_with_rng(
-        rng: &mut impl CryptoRngCore,
+        rng: &mut (impl RngCore + CryptoRng),
     ) -> Result<(Self::PublicKey, Self::PrivateKey), &'static str>;
 
     /// Makes the key pair of a seed (Algorithm 6). Whoever has the seed has the private key.
+    ///
+    /// ```
+    /// # #[cfg(feature = "ml-dsa-65")] {
+    /// use fips204::ml_dsa_65::KG;
+    /// use fips204::traits::{KeyGen, SerDes};
+    ///
+    /// let seed = [7; 32]; // a seed is secret, and random
+    /// let (public, private) = KG::keygen_from_seed(&seed);
+    /// let (again, _) = KG::keygen_from_seed(&seed);
+    /// assert_eq!(public.into_bytes(), again.into_bytes());
+    /// # let _ = private;
+    /// # }
+    /// # Ok::<(), &'static str>(())
+    /// ```
     #[must_use]
     fn keygen_from_seed(xi: &[u8; 32]) -> (Self::PublicKey, Self::PrivateKey);
 }
@@ -123,6 +97,18 @@ pub trait Signer {
     ///
     /// # Errors
     /// As `try_sign_with_rng`.
+    ///
+    /// ```
+    /// # #[cfg(all(feature = "ml-dsa-65", feature = "default-rng"))] {
+    /// use fips204::ml_dsa_65;
+    /// use fips204::traits::{Signer, Verifier};
+    ///
+    /// let (public, private) = ml_dsa_65::try_keygen()?;
+    /// let signature = private.try_sign(b"a message", b"a context")?;
+    /// assert!(public.verify(b"a message", &signature, b"a context"));
+    /// # }
+    /// # Ok::<(), &'static str>(())
+    /// ```
     #[cfg(feature = "default-rng")]
     fn try_sign(&self, message: &[u8], ctx: &[u8]) -> Result<Self::Signature, &'static str> {
         self.try_sign_with_rng(&mut SystemRng, message, ctx)
@@ -132,10 +118,24 @@ pub trait Signer {
     ///
     /// # Errors
     /// In this order: the context has more than 255 bytes (the generator is then not asked); the generator failed; all 814
-    /// attempts were rejected, as it is with a damaged key.
+    /// attempts were rejected, as with a damaged key, or rejection sampling reached its limit, for which no key is known.
+    ///
+    /// ```
+    /// # #[cfg(feature = "ml-dsa-65")] {
+    /// # use fips204::{CryptoRng, RngCore};
+    /// use fips204::{ml_dsa_65, traits::Signer};
+    ///
+    /// # fn example(private: &ml_dsa_65::PrivateKey, your_generator: &mut (impl RngCore + CryptoRng)) -> Result<(), &'static str> {
+    /// let signature = private.try_sign_with_rng(your_generator, b"a message", b"a context")?;
+    /// # let _ = signature;
+    /// # Ok(())
+    /// # }
+    /// # }
+    /// # Ok::<(), &'static str>(())
+    /// ```
     fn try_sign_with_rng(
         &self,
-        rng: &mut impl CryptoRngCore,
+        rng: &mut (impl RngCore + CryptoRng),
         message: &[u8],
         ctx: &[u8],
     ) -> Result<Self::Signature, &'static str>;
@@ -144,19 +144,48 @@ pub trait Signer {
     ///
     /// # Errors
     /// Those of `try_sign_with_rng`, without a generator's.
+    ///
+    /// ```
+    /// # #[cfg(feature = "ml-dsa-65")] {
+    /// use fips204::ml_dsa_65::KG;
+    /// use fips204::traits::{KeyGen, Signer};
+    ///
+    /// let (public, private) = KG::keygen_from_seed(&[7; 32]); // a seed is secret, and random
+    /// let signature = private.try_sign_with_seed(&[0; 32], b"a message", b"a context")?;
+    /// assert_eq!(signature, private.try_sign_with_seed(&[0; 32], b"a message", b"a context")?);
+    ///
+    /// let refused = private.try_sign_with_seed(&[0; 32], b"a message", &[0; 256]);
+    /// assert_eq!(refused, Err("ML-DSA.Sign: ctx too long"));
+    /// # let _ = public;
+    /// # }
+    /// # Ok::<(), &'static str>(())
+    /// ```
     fn try_sign_with_seed(
         &self,
         seed: &[u8; 32],
         message: &[u8],
         ctx: &[u8],
     ) -> Result<Self::Signature, &'static str> {
-        self.try_sign_with_rng(&mut Fixed(Wiped(*seed)), message, ctx)
+        self.try_sign_with_rng(&mut fixed(seed), message, ctx)
     }
 
     /// Signs a digest under a context, with random bytes of the operating system's generator.
     ///
     /// # Errors
     /// As `try_hash_sign_with_rng`.
+    ///
+    /// ```
+    /// # #[cfg(all(feature = "ml-dsa-65", feature = "default-rng"))] {
+    /// use fips204::traits::{Signer, Verifier};
+    /// use fips204::{ml_dsa_65, pre_hash};
+    ///
+    /// let digest = [5; 32]; // stands for the SHA-256 of a message
+    /// let (public, private) = ml_dsa_65::try_keygen()?;
+    /// let signature = private.try_hash_sign(&digest, b"a context", &pre_hash::SHA2_256)?;
+    /// assert!(public.hash_verify(&digest, &signature, b"a context", &pre_hash::SHA2_256));
+    /// # }
+    /// # Ok::<(), &'static str>(())
+    /// ```
     #[cfg(feature = "default-rng")]
     fn try_hash_sign(
         &self,
@@ -174,10 +203,25 @@ pub trait Signer {
     /// # Errors
     /// In this order: the context has more than 255 bytes, the identifier is empty or not in DER, the digest has more than
     /// 1024 bytes or another length than the function's (in these cases the generator is not asked); the generator failed; all
-    /// 814 attempts were rejected.
+    /// 814 attempts were rejected, or rejection sampling reached its limit, for which no key is known.
+    ///
+    /// ```
+    /// # #[cfg(feature = "ml-dsa-65")] {
+    /// # use fips204::{CryptoRng, RngCore};
+    /// use fips204::{ml_dsa_65, pre_hash, traits::Signer};
+    ///
+    /// # fn example(private: &ml_dsa_65::PrivateKey, your_generator: &mut (impl RngCore + CryptoRng)) -> Result<(), &'static str> {
+    /// let digest = [5; 32]; // stands for the SHA-256 of a message
+    /// let signature = private.try_hash_sign_with_rng(your_generator, &digest, b"", &pre_hash::SHA2_256)?;
+    /// # let _ = signature;
+    /// # Ok(())
+    /// # }
+    /// # }
+    /// # Ok::<(), &'static str>(())
+    /// ```
     fn try_hash_sign_with_rng(
         &self,
-        rng: &mut impl CryptoRngCore,
+        rng: &mut (impl RngCore + CryptoRng),
         hash: &[u8],
         ctx: &[u8],
         hash_oid: &[u8],
@@ -187,6 +231,22 @@ pub trait Signer {
     ///
     /// # Errors
     /// Those of `try_hash_sign_with_rng`, without a generator's.
+    ///
+    /// ```
+    /// # #[cfg(feature = "ml-dsa-65")] {
+    /// use fips204::traits::{KeyGen, Signer};
+    /// use fips204::{ml_dsa_65::KG, pre_hash};
+    ///
+    /// let digest = [5; 32]; // stands for the SHA-256 of a message
+    /// let (public, private) = KG::keygen_from_seed(&[7; 32]); // a seed is secret, and random
+    /// let signature = private.try_hash_sign_with_seed(&[0; 32], &digest, b"", &pre_hash::SHA2_256)?;
+    ///
+    /// let refused = private.try_hash_sign_with_seed(&[0; 32], b"a message", b"", &pre_hash::SHA2_256);
+    /// assert_eq!(refused, Err("HashML-DSA.Sign: digest length does not match the OID"));
+    /// # let _ = (public, signature);
+    /// # }
+    /// # Ok::<(), &'static str>(())
+    /// ```
     fn try_hash_sign_with_seed(
         &self,
         seed: &[u8; 32],
@@ -194,10 +254,21 @@ pub trait Signer {
         ctx: &[u8],
         hash_oid: &[u8],
     ) -> Result<Self::Signature, &'static str> {
-        self.try_hash_sign_with_rng(&mut Fixed(Wiped(*seed)), hash, ctx, hash_oid)
+        self.try_hash_sign_with_rng(&mut fixed(seed), hash, ctx, hash_oid)
     }
 
     /// The public key that belongs to the private one.
+    ///
+    /// ```
+    /// # #[cfg(feature = "ml-dsa-65")] {
+    /// use fips204::ml_dsa_65::KG;
+    /// use fips204::traits::{KeyGen, SerDes, Signer};
+    ///
+    /// let (public, private) = KG::keygen_from_seed(&[7; 32]); // a seed is secret, and random
+    /// assert_eq!(private.get_public_key().into_bytes(), public.into_bytes());
+    /// # }
+    /// # Ok::<(), &'static str>(())
+    /// ```
     #[must_use]
     fn get_public_key(&self) -> Self::PublicKey;
 }
@@ -208,11 +279,38 @@ pub trait Verifier {
     type Signature;
 
     /// Whether the key accepts the signature of a message under a context. False for a context of more than 255 bytes.
+    ///
+    /// ```
+    /// # #[cfg(feature = "ml-dsa-65")] {
+    /// use fips204::ml_dsa_65::KG;
+    /// use fips204::traits::{KeyGen, Signer, Verifier};
+    ///
+    /// let (public, private) = KG::keygen_from_seed(&[7; 32]); // a seed is secret, and random
+    /// let signature = private.try_sign_with_seed(&[0; 32], b"a message", b"a context")?;
+    /// assert!(public.verify(b"a message", &signature, b"a context"));
+    /// assert!(!public.verify(b"another message", &signature, b"a context"));
+    /// # }
+    /// # Ok::<(), &'static str>(())
+    /// ```
     #[must_use]
     fn verify(&self, message: &[u8], signature: &Self::Signature, ctx: &[u8]) -> bool;
 
     /// Whether the key accepts the signature of a digest under a context. False where signing would refuse context, identifier
     /// or digest.
+    ///
+    /// ```
+    /// # #[cfg(feature = "ml-dsa-65")] {
+    /// use fips204::traits::{KeyGen, Signer, Verifier};
+    /// use fips204::{ml_dsa_65::KG, pre_hash};
+    ///
+    /// let digest = [5; 32]; // stands for the SHA-256 of a message
+    /// let (public, private) = KG::keygen_from_seed(&[7; 32]); // a seed is secret, and random
+    /// let signature = private.try_hash_sign_with_seed(&[0; 32], &digest, b"", &pre_hash::SHA2_256)?;
+    /// assert!(public.hash_verify(&digest, &signature, b"", &pre_hash::SHA2_256));
+    /// assert!(!public.hash_verify(&digest, &signature, b"", &pre_hash::SHA3_256));
+    /// # }
+    /// # Ok::<(), &'static str>(())
+    /// ```
     #[must_use]
     fn hash_verify(
         &self,
@@ -229,12 +327,38 @@ pub trait SerDes {
     type ByteArray;
 
     /// The bytes of the key.
+    ///
+    /// ```
+    /// # #[cfg(feature = "ml-dsa-65")] {
+    /// use fips204::ml_dsa_65::{KG, PK_LEN};
+    /// use fips204::traits::{KeyGen, SerDes};
+    ///
+    /// let (public, _) = KG::keygen_from_seed(&[7; 32]); // a seed is secret, and random
+    /// let stored: [u8; PK_LEN] = public.into_bytes();
+    /// # let _ = stored;
+    /// # }
+    /// # Ok::<(), &'static str>(())
+    /// ```
     fn into_bytes(self) -> Self::ByteArray;
 
     /// The key that has these bytes.
     ///
     /// # Errors
     /// No private key has them. (Every array of the right length is a public key.)
+    ///
+    /// ```
+    /// # #[cfg(feature = "ml-dsa-65")] {
+    /// use fips204::ml_dsa_65::{PrivateKey, PublicKey, PK_LEN, SK_LEN};
+    /// use fips204::traits::SerDes;
+    ///
+    /// assert!(PublicKey::try_from_bytes([0xFF; PK_LEN]).is_ok());
+    /// assert_eq!(
+    ///     PrivateKey::try_from_bytes([0xFF; SK_LEN]).err(),
+    ///     Some("Alg 25: s1 or s2 out of range")
+    /// );
+    /// # }
+    /// # Ok::<(), &'static str>(())
+    /// ```
     fn try_from_bytes(ba: Self::ByteArray) -> Result<Self, &'static str>
     where
         Self: Sized;

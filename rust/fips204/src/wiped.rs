@@ -7,8 +7,9 @@ use core::sync::atomic::{Ordering, compiler_fence};
 #[derive(Clone)]
 pub(crate) struct Wiped<const N: usize>(pub(crate) [u8; N]);
 
-impl<const N: usize> Drop for Wiped<N> {
-    fn drop(&mut self) {
+impl<const N: usize> Wiped<N> {
+    /// Overwrites the array with zeros.
+    pub(crate) fn wipe(&mut self) {
         for byte in &mut self.0 {
             // SAFETY: the reference may be written.
             unsafe { core::ptr::write_volatile(byte, 0) }
@@ -16,6 +17,35 @@ impl<const N: usize> Drop for Wiped<N> {
         compiler_fence(Ordering::SeqCst);
     }
 }
+
+impl<const N: usize> Drop for Wiped<N> {
+    fn drop(&mut self) {
+        self.wipe();
+    }
+}
+
+/// For a type over a `Wiped`: `Debug`, which shows none of its bytes, and the traits of `zeroize`.
+macro_rules! shows_nothing {
+    ($name:ident) => {
+        /// Shows none of the bytes.
+        impl core::fmt::Debug for $name {
+            fn fmt(&self, f: &mut core::fmt::Formatter<'_>) -> core::fmt::Result {
+                f.debug_struct(stringify!($name)).finish_non_exhaustive()
+            }
+        }
+
+        #[cfg(feature = "zeroize")]
+        impl zeroize::Zeroize for $name {
+            fn zeroize(&mut self) {
+                self.0.wipe();
+            }
+        }
+
+        #[cfg(feature = "zeroize")]
+        impl zeroize::ZeroizeOnDrop for $name {}
+    };
+}
+pub(crate) use shows_nothing;
 
 #[cfg(test)]
 mod tests {

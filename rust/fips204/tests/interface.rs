@@ -1,7 +1,8 @@
 //! What this crate does itself: it draws random bytes, orders errors, and turns a status into an error.
 
 use fips204::pre_hash;
-use fips204::traits::{CryptoRngCore, KeyGen, SerDes, Signer, Verifier};
+use fips204::traits::{KeyGen, SerDes, Signer, Verifier};
+use fips204::{CryptoRng, FillRng, RngCore};
 
 /// A generator that gives a byte over and over, or fails, and counts how often it was asked.
 struct Counted {
@@ -23,19 +24,9 @@ impl Counted {
     }
 }
 
-#[cfg(not(feature = "rand_core"))]
-impl CryptoRngCore for Counted {
-    type Error = ();
-    fn try_fill_bytes(&mut self, dest: &mut [u8]) -> Result<(), ()> {
-        if self.fill(dest) { Ok(()) } else { Err(()) }
-    }
-}
+impl CryptoRng for Counted {}
 
-#[cfg(feature = "rand_core")]
-impl fips204::CryptoRng for Counted {}
-
-#[cfg(feature = "rand_core")]
-impl fips204::RngCore for Counted {
+impl RngCore for Counted {
     fn next_u32(&mut self) -> u32 {
         unimplemented!()
     }
@@ -57,7 +48,7 @@ impl fips204::RngCore for Counted {
 /// Signs by each call that draws, and returns the errors.
 fn drawing_errors<K: Signer>(
     key: &K,
-    rng: &mut impl CryptoRngCore,
+    rng: &mut (impl RngCore + CryptoRng),
     ctx: &[u8],
     digest: &[u8],
     oid: &[u8],
@@ -115,7 +106,9 @@ macro_rules! interface {
 
             // A message in pieces has the signature of the whole one, however it is cut.
             let message: [u8; 300] = core::array::from_fn(|i| i as u8);
-            let whole = private.try_sign_with_seed(&[9; 32], &message, b"c").unwrap();
+            let whole = private
+                .try_sign_with_seed(&[9; 32], &message, b"c")
+                .unwrap();
             for cut in [0, 1, 60, 61, 100, 299, 300] {
                 let mut hasher = private.message_hasher(b"c").unwrap();
                 let mut verifier = public.message_hasher(b"c").unwrap();
@@ -229,6 +222,27 @@ macro_rules! interface {
                 Some("Alg 25: s1 or s2 out of range")
             );
 
+            // Nothing of a key or a message is shown.
+            let mut hasher = public.message_hasher(b"c").unwrap();
+            hasher.update(b"m");
+            assert_eq!(
+                format!("{private:?} {public:?} {hasher:?} {:?}", KG()),
+                "PrivateKey { .. } PublicKey { .. } MessageHasher { .. } KG"
+            );
+
+            #[cfg(feature = "zeroize")]
+            {
+                use zeroize::{Zeroize, ZeroizeOnDrop};
+                fn is_wiped<T: Zeroize + ZeroizeOnDrop>(mut value: T) -> T {
+                    value.zeroize();
+                    value
+                }
+                assert_eq!(is_wiped(private.clone()).into_bytes(), [0; $set::SK_LEN]);
+                assert_eq!(is_wiped(public.clone()).into_bytes(), [0; $set::PK_LEN]);
+                let mu = hasher.clone().finalize();
+                assert_ne!(is_wiped(hasher).finalize(), mu);
+            }
+
             #[cfg(feature = "default-rng")]
             {
                 let (public, private) = $set::try_keygen().unwrap();
@@ -270,3 +284,22 @@ macro_rules! interface {
 interface!(set_44, ml_dsa_44, "ml-dsa-44");
 interface!(set_65, ml_dsa_65, "ml-dsa-65");
 interface!(set_87, ml_dsa_87, "ml-dsa-87");
+
+/// A generator of one function is asked for what is wanted, and fails where the function does.
+#[test]
+fn generator_of_one_function() {
+    let mut asked = vec![];
+    let mut rng = FillRng(|out: &mut [u8]| {
+        asked.push(out.len());
+        out.fill(3);
+        asked.len() < 4
+    });
+    let mut out = [0; 5];
+    assert!(rng.try_fill_bytes(&mut out).is_ok());
+    assert_eq!(out, [3; 5]);
+    assert_eq!(rng.next_u32(), 0x0303_0303);
+    assert_eq!(rng.next_u64(), 0x0303_0303_0303_0303);
+    assert!(rng.try_fill_bytes(&mut out).is_err());
+    assert_eq!(format!("{rng:?}"), "FillRng { .. }");
+    assert_eq!(asked, [5, 4, 8, 5]);
+}

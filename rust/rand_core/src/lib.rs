@@ -1,4 +1,4 @@
-//! What fips204 names of `rand_core` 0.6, with the same signatures and no code that draws anything. For tests alone.
+//! What corkaife-fips204 names of `rand_core` 0.6, with the same signatures and no code that draws anything. For tests alone.
 #![no_std]
 
 use core::num::NonZeroU32;
@@ -35,18 +35,6 @@ pub trait RngCore {
 
 /// A generator that is fit for cryptography.
 pub trait CryptoRng {}
-
-/// Both in one trait.
-pub trait CryptoRngCore: CryptoRng + RngCore {
-    /// The generator as an object.
-    fn as_rngcore(&mut self) -> &mut dyn RngCore;
-}
-
-impl<G: CryptoRng + RngCore> CryptoRngCore for G {
-    fn as_rngcore(&mut self) -> &mut dyn RngCore {
-        self
-    }
-}
 
 /// Numbers from bytes.
 pub mod impls {

@@ -1,0 +1,69 @@
+/* What a program of 0.2.0 was compiled with: names, parameters, lengths and numbers. Within 0.2 no line of this is changed. */
+#include "mldsa.h"
+
+#include <stdio.h>
+#include <string.h>
+
+#define IS(name, value) _Static_assert((name) == (value), #name " is another number")
+#define HAS(name, ...) _Static_assert(_Generic(&name, uint32_t (*)(__VA_ARGS__): 1, default: 0), #name " takes something else")
+#define IN const uint8_t *, size_t
+#define OUT uint8_t *, size_t
+
+IS(MLDSA_DONE, 0);
+IS(MLDSA_YES, 0);
+IS(MLDSA_NO, 1);
+IS(MLDSA_WRONG_LENGTH, 2);
+IS(MLDSA_CONTEXT_TOO_LONG, 4);
+IS(MLDSA_HASH_CONTEXT_TOO_LONG, 6);
+IS(MLDSA_OID_EMPTY, 7);
+IS(MLDSA_OID_NOT_DER, 8);
+IS(MLDSA_DIGEST_TOO_LONG, 9);
+IS(MLDSA_DIGEST_LENGTH, 10);
+IS(MLDSA_TOO_MANY_ATTEMPTS, 13);
+IS(MLDSA_KEY_RANGE, 14);
+IS(MLDSA_SAMPLING_LIMIT, 15);
+IS(MLDSA_BROKEN_STATE, 16);
+
+IS(MLDSA_SEED_LEN, 32);
+IS(MLDSA_RANDOM_LEN, 32);
+IS(MLDSA_MU_LEN, 64);
+IS(MLDSA_STATE_LEN, 337);
+IS(MLDSA_OID_LEN, 11);
+
+#define SET(n, public_key, private_key, signature)                                                             \
+    IS(MLDSA##n##_PUBLIC_KEY_LEN, public_key);                                                                 \
+    IS(MLDSA##n##_PRIVATE_KEY_LEN, private_key);                                                               \
+    IS(MLDSA##n##_SIGNATURE_LEN, signature);                                                                   \
+    HAS(mldsa##n##_keygen, IN, OUT, OUT);                                                                      \
+    HAS(mldsa##n##_sign, IN, IN, IN, IN, OUT);                                                                 \
+    HAS(mldsa##n##_verify, IN, IN, IN, IN);                                                                    \
+    HAS(mldsa##n##_hash_sign, IN, IN, IN, IN, IN, OUT);                                                        \
+    HAS(mldsa##n##_hash_verify, IN, IN, IN, IN, IN);                                                           \
+    HAS(mldsa##n##_sign_mu, IN, IN, IN, OUT);                                                                  \
+    HAS(mldsa##n##_verify_mu, IN, IN, IN);                                                                     \
+    HAS(mldsa##n##_public_key, IN, OUT);                                                                       \
+    HAS(mldsa##n##_check_private_key, IN);                                                                     \
+    HAS(mldsa##n##_is_whole, IN);                                                                              \
+    HAS(mldsa##n##_is_pair, IN);                                                                               \
+    HAS(mldsa##n##_mu_begin, IN, IN, OUT);                                                                     \
+    HAS(mldsa##n##_mu_begin_private, IN, IN, OUT)
+SET(44, 1312, 2560, 2420);
+SET(65, 1952, 4032, 3309);
+SET(87, 2592, 4896, 4627);
+HAS(mldsa_mu_update, IN, OUT);
+HAS(mldsa_mu_finish, IN, OUT);
+HAS(mldsa_check_pre_hash, IN, IN);
+HAS(mldsa_version, void);
+
+IS(MLDSA_VERSION >> 8, 2);
+
+int main(void)
+{
+    char text[32];
+    snprintf(text, sizeof text, "%d.%d.%d", MLDSA_VERSION >> 16, MLDSA_VERSION >> 8 & 255, MLDSA_VERSION & 255);
+    if (strcmp(text, MLDSA_VERSION_TEXT) || mldsa_version() != MLDSA_VERSION) {
+        printf("%s, %s and %u differ\n", text, MLDSA_VERSION_TEXT, mldsa_version());
+        return 1;
+    }
+    return 0;
+}

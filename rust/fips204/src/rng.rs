@@ -1,0 +1,99 @@
+//! Generators of random bytes.
+
+use crate::{CryptoRng, RngCore, RngError};
+use core::num::NonZeroU32;
+
+/// Both traits of a generator in one bound. It has no name outside: `rand_core` has a trait of this name from 0.6.4 on, and whoever
+/// imports all of that and all of `traits` would have two.
+#[allow(dead_code)] // no set may be chosen
+pub trait CryptoRngCore: RngCore + CryptoRng {}
+
+impl<R: RngCore + CryptoRng + ?Sized> CryptoRngCore for R {}
+
+/// A generator that is one function, for a source of random bytes that has no type of `rand_core`. The function fills a slice and
+/// says whether it could; it has to be fit for cryptography.
+///
+/// ```
+/// # #[cfg(feature = "ml-dsa-65")] {
+/// use fips204::{FillRng, ml_dsa_65};
+///
+/// /// Stands for a call of your device's driver.
+/// fn device_fill(out: &mut [u8]) -> Result<(), ()> {
+///     # out.fill(7);
+///     Ok(())
+/// }
+///
+/// let mut rng = FillRng(|out: &mut [u8]| device_fill(out).is_ok());
+/// let (public, private) = ml_dsa_65::try_keygen_with_rng(&mut rng)?;
+/// # let _ = (public, private);
+/// # }
+/// # Ok::<(), &'static str>(())
+/// ```
+pub struct FillRng<F>(pub F);
+
+impl<F: FnMut(&mut [u8]) -> bool> RngCore for FillRng<F> {
+    fn next_u32(&mut self) -> u32 {
+        rand_core::impls::next_u32_via_fill(self)
+    }
+
+    fn next_u64(&mut self) -> u64 {
+        rand_core::impls::next_u64_via_fill(self)
+    }
+
+    fn fill_bytes(&mut self, dest: &mut [u8]) {
+        self.try_fill_bytes(dest).expect("the generator failed");
+    }
+
+    fn try_fill_bytes(&mut self, dest: &mut [u8]) -> Result<(), RngError> {
+        const FAILED: NonZeroU32 = NonZeroU32::new(RngError::CUSTOM_START).unwrap();
+        if (self.0)(dest) {
+            Ok(())
+        } else {
+            Err(FAILED.into())
+        }
+    }
+}
+
+impl<F: FnMut(&mut [u8]) -> bool> CryptoRng for FillRng<F> {}
+
+impl<F> core::fmt::Debug for FillRng<F> {
+    fn fmt(&self, f: &mut core::fmt::Formatter<'_>) -> core::fmt::Result {
+        f.debug_struct("FillRng").finish_non_exhaustive()
+    }
+}
+
+/// The operating system's generator.
+#[cfg(feature = "default-rng")]
+pub(crate) struct SystemRng;
+
+#[cfg(feature = "default-rng")]
+impl SystemRng {
+    fn filled(out: &mut [u8]) -> bool {
+        use std::io::Read;
+        std::fs::File::open("/dev/urandom")
+            .and_then(|mut device| device.read_exact(out))
+            .is_ok()
+    }
+}
+
+#[cfg(feature = "default-rng")]
+impl RngCore for SystemRng {
+    fn next_u32(&mut self) -> u32 {
+        FillRng(Self::filled).next_u32()
+    }
+
+    fn next_u64(&mut self) -> u64 {
+        FillRng(Self::filled).next_u64()
+    }
+
+    fn fill_bytes(&mut self, dest: &mut [u8]) {
+        FillRng(Self::filled).fill_bytes(dest);
+    }
+
+    fn try_fill_bytes(&mut self, dest: &mut [u8]) -> Result<(), RngError> {
+        FillRng(Self::filled).try_fill_bytes(dest)
+    }
+}
+
+#[cfg(feature = "default-rng")]
+impl CryptoRng for SystemRng {}
