@@ -9,6 +9,14 @@ const ARCHIVE: &str = "libmldsa_c.a";
 
 /// The folder of the target's library; on x86-64 the newer one of the library with the code of both levels, and of the plain one.
 fn built(top: &Path) -> PathBuf {
+    // A packed crate has the library of each target inside.
+    let target = env::var("TARGET").expect("cargo names the target");
+    let packed = Path::new(env!("CARGO_MANIFEST_DIR"))
+        .join("lib")
+        .join(target);
+    if packed.is_dir() {
+        return packed;
+    }
     let arch = env::var("CARGO_CFG_TARGET_ARCH").expect("cargo names the target");
     if arch != "x86_64" {
         return top.join("out/archive").join(arch);

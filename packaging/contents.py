@@ -1,0 +1,225 @@
+"""What is in the archives and packages."""
+import datetime
+import email.utils
+import json
+import pathlib
+import re
+import subprocess
+import sys
+
+import completions
+import manual
+import pack
+
+TOP = pathlib.Path(__file__).resolve().parent.parent
+HERE = TOP / "packaging"
+sys.path.insert(0, str(TOP / "scripts"))
+
+import exports  # noqa: E402
+
+# The systems of the archives: how each is named, its Debian name, the folder of its libraries there, and Rust's name of it.
+X86, ARM = "x86_64", "aarch64"
+TRIPLES = {X86: "x86_64-unknown-linux-gnu", ARM: "aarch64-unknown-linux-gnu"}
+MULTIARCH = "x86_64-linux-gnu"
+PAGES = ("CHANGELOG.md", "LICENSE", "README.md", "SECURITY.md")
+
+
+def command(*words, **more):
+    """Runs a command, ends where it fails, and gives what it printed."""
+    done = subprocess.run(list(map(str, words)), stdout=subprocess.PIPE, stderr=subprocess.STDOUT, text=True, check=False, **more)
+    if done.returncode:
+        sys.exit(f"failed: {' '.join(map(str, words))}\n{done.stdout}")
+    return done.stdout
+
+
+def text(name):
+    return (TOP / name).read_text(encoding="utf-8")
+
+
+class Facts:
+    """What all parts of a release share: the version, the commit with its time, and the names of the calls."""
+
+    def __init__(self):
+        self.version = re.search(r'^#define MLDSA_VERSION_TEXT "(.*)"$', text("c/mldsa.h"), re.M)[1]
+        self.major, self.minor, self.patch = map(int, self.version.split("."))
+        self.commit, seconds, self.maintainer = command("git", "log", "-1", "--format=%H%n%ct%n%an <%ae>", cwd=TOP).strip().split("\n")
+        self.time = int(seconds)
+        when = datetime.datetime.fromtimestamp(self.time, datetime.timezone.utc)
+        self.day, self.mail_time = f"{when:%Y-%m-%d}", email.utils.format_datetime(when)
+        self.abi = self.major
+        self.calls = [it.name for it in exports.exports()]
+
+    def differing(self, said_by_program):
+        """The places that have another version."""
+        number = f"0x{self.major:02x}{self.minor:02x}{self.patch:02x}"
+        places = (
+            ("c/mldsa.h", r"^#define MLDSA_VERSION (\w+)$", number),
+            ("CHANGELOG.md", r"\A# .*?^## (\d[\d.]*)", self.version),
+            ("README.md", r"^\*\*Status\.\*\* (\d+\.\d+)", f"{self.major}.{self.minor}"),
+            ("js/package.json", r'"version": "(.*?)"', self.version),
+        )
+        said = [(place, re.search(pattern, text(place), re.M | re.S), wanted) for place, pattern, wanted in places]
+        said.append(("mlsign --version", re.match(r"mlsign (.*)", said_by_program), self.version))
+        return [f"{place} has {found and found[1]}, and not {wanted}" for place, found, wanted in said if not found or found[1] != wanted]
+
+    def filled(self, name, **more):
+        """A file of this folder with its marks filled in."""
+        marks = {"VERSION": self.version, "MAJOR": self.major, "MINOR": self.minor, "ABI": self.abi, **more}
+        found = re.sub(r"@(\w+)@", lambda it: str(marks[it[1]]), (HERE / name).read_text(encoding="utf-8"))
+        return found
+
+
+def exported(facts):
+    """The calls that the shared library shows."""
+    return [*facts.calls, "mldsa_x86_64_level"]
+
+
+def shared_object(facts, archive, room, compiler):
+    """The shared library of an archive: its file, in a folder."""
+    names = "".join(f"        {name};\n" for name in exported(facts))
+    script = f"MLDSA_{facts.major}.{facts.minor} {{\n    global:\n{names}    local:\n        *;\n}};\n"
+    (room / "exports.map").write_text(script, encoding="utf-8")
+    made = room / f"libmldsa.so.{facts.abi}"
+    # No start-up code: there is nothing to start.
+    words = ["-shared", "-nostartfiles", "-s", f"-Wl,-soname,{made.name}", "-Wl,--version-script=exports.map", "-Wl,--build-id=sha1"]
+    hard = [f"-Wl,-z,{it}" for it in ("relro", "now", "noexecstack", "defs", "text")] + ["-Wl,--gc-sections"]
+    command(compiler, *words, *hard, "-o", made.name, "-Wl,--whole-archive", archive, "-Wl,--no-whole-archive", cwd=room)
+    return made
+
+
+def weak_places(file, names=None):
+    """What a program or shared library lacks of what `checksec` lists and can be had by linking; and the names that it shows beside those given."""
+    said = command("readelf", "-hldWS", file)
+    found = []
+    if not re.search(r"Type: +DYN", said):
+        found.append("it is not position-independent")
+    if "GNU_RELRO" not in said:
+        found.append("no RELRO")
+    if not re.search(r"BIND_NOW|Flags:.*\bNOW\b", said):
+        found.append("not bound at its start (no NOW)")
+    if not re.search(r"GNU_STACK +\S+ +\S+ +\S+ +\S+ +\S+ +RW +", said):
+        found.append("its stack is executable")
+    found += [f"it has {word}" for word in ("RPATH", "RUNPATH", "TEXTREL") if f"({word})" in said]
+    if re.search(r"LOAD.* RWE ", said):
+        found.append("a segment can be written and executed")
+    if re.search(r"\] \.(symtab|debug\w*) ", said):
+        found.append("it is not stripped")
+    if names is not None:
+        symbols = [line.split() for line in command("readelf", "-W", "--dyn-syms", file).splitlines()]
+        shown = {it[7].split("@")[0] for it in symbols if len(it) > 7 and it[4] in ("GLOBAL", "WEAK") and it[6] not in ("UND", "ABS", "Ndx")}
+        if shown != set(names):
+            found.append(f"it shows other names: {', '.join(sorted(shown ^ set(names)))}")
+    return found
+
+
+def needs_libc(file):
+    """The newest version of the C library that a file needs."""
+    found = [tuple(map(int, it.split("."))) for it in re.findall(r"GLIBC_([\d.]+)", command("readelf", "-VW", file))]
+    return ".".join(map(str, max(found, default=(2, 2, 5))))
+
+
+def development(tree, facts, folder, header="include", x86=True, prefix="${pcfiledir}/../..", up="../../.."):
+    """What a compiler needs beside the libraries, in a folder for libraries."""
+    tree.take(f"{header}/mldsa.h", TOP / "c/mldsa.h")
+    if x86:
+        tree.take(f"{header}/mldsa_x86_64.h", TOP / "c/mldsa_x86_64.h")
+    where = folder.removeprefix("usr/")
+    tree.put(f"{folder}/pkgconfig/mldsa.pc", facts.filled("mldsa.pc", PREFIX=prefix, LIBDIR=where))
+    for name in ("mldsa-config.cmake", "mldsa-config-version.cmake"):
+        tree.put(f"{folder}/cmake/mldsa/{name}", facts.filled(name, UP=up))
+
+
+def manual_of_library(tree, facts, folder, compressed=False):
+    """Section 3 of the manual."""
+    pages, links = manual.library(facts.version, facts.day)
+    ending = ".gz" if compressed else ""
+    for name, page in pages.items():
+        tree.put(f"{folder}/{name}{ending}", pack.gzipped(page.encode()) if compressed else page)
+    for name, to in links.items():
+        tree.link(f"{folder}/{name}{ending}", f"{to}{ending}")
+
+
+def of_program(tree, facts, program, top="", compressed=False):
+    """The program, its page and its completions."""
+    tree.take(f"{top}bin/mlsign", program, program=True)
+    page = manual.program("mlsign", facts.version, facts.day)
+    tree.put(f"{top}share/man/man1/mlsign.1{'.gz' if compressed else ''}", pack.gzipped(page.encode()) if compressed else page)
+
+    def asked(*words):
+        return command(program, *words)
+
+    for path, made in completions.FILES.items():
+        # Debian's zsh and fish look there too.
+        place = path.replace("site-functions", "vendor-completions") if compressed else path
+        tree.put(f"{top}{place}", made(asked))
+
+
+def archive_x86(facts, library, shared, program, provenance):
+    """The archive for Linux on x86-64."""
+    tree = pack.Tree()
+    tree.take("lib/libmldsa.a", library)
+    tree.take(f"lib/{shared.name}", shared)
+    tree.link("lib/libmldsa.so", shared.name)
+    development(tree, facts, "lib")
+    manual_of_library(tree, facts, "share/man/man3")
+    of_program(tree, facts, program)
+    documents(tree, provenance)
+    tree.take("share/doc/mldsa/sign_file.c", TOP / "c/sign_file.c")
+    marks = {
+        "SYSTEM": "Linux on x86-64, with AVX2 where the processor has it", "LIBRARIES": f"libmldsa.a and {shared.name}",
+        "PROGRAM": "    bin/        mlsign, which signs and verifies files\n", "COMPLETIONS": ", completions for bash, zsh and fish",
+    }
+    tree.put("README", facts.filled("README", **marks))
+    tree.take("install", TOP / "scripts/install", program=True)
+    return tree
+
+
+def archive_arm(facts, library, provenance):
+    """The archive for Linux on 64-bit ARM."""
+    tree = pack.Tree()
+    tree.take("lib/libmldsa.a", library)
+    development(tree, facts, "lib", x86=False)
+    manual_of_library(tree, facts, "share/man/man3")
+    for name in [name for name in tree.paths() if "mldsa_x86_64" in name]:
+        tree.files.pop(name, None)
+    documents(tree, provenance)
+    tree.take("share/doc/mldsa/sign_file.c", TOP / "c/sign_file.c")
+    marks = {"SYSTEM": "Linux on 64-bit ARM", "LIBRARIES": "libmldsa.a", "PROGRAM": "", "COMPLETIONS": ""}
+    tree.put("README", facts.filled("README", **marks))
+    tree.take("install", TOP / "scripts/install", program=True)
+    return tree
+
+
+def documents(tree, provenance, folder="share/doc/mldsa"):
+    for name in PAGES:
+        tree.take(f"{folder}/{name}", TOP / name)
+    tree.put(f"{folder}/PROVENANCE", provenance)
+
+
+def crate(facts, libraries, provenance):
+    """The Rust crate with the library of each target in it: its name with its version, and what it holds."""
+    manifest = text("rust/fips204/Cargo.toml")
+    package = manifest.partition("[package]")[2]
+    name, version = (re.search(rf'^{field} = "(.*)"$', package, re.M)[1] for field in ("name", "version"))
+    tree = pack.Tree()
+    for path in command("git", "ls-files", "-z", "rust/fips204", cwd=TOP).split("\0"):
+        if path:
+            tree.take(path.removeprefix("rust/fips204/"), TOP / path)
+    for system, library in libraries.items():
+        tree.take(f"lib/{TRIPLES[system]}/libmldsa_c.a", library)
+    tree.take("LICENSE", TOP / "LICENSE")
+    tree.put("PROVENANCE", provenance)
+    return f"{name}-{version}", tree
+
+
+def npm(facts, folder, provenance):
+    """The package for JavaScript, as `npm pack` would make it."""
+    described = json.loads((folder / "package.json").read_text(encoding="utf-8"))
+    tree = pack.Tree()
+    for name in ["package.json", *described["files"]]:
+        tree.take(name, folder / name)
+    # Its code begins with the module beside it, and not in the folder in which js/build makes it.
+    tree.put("README.md", text("js/README.md").replace('"./out/mldsa.js"', f'"{described["name"]}"'))
+    tree.take("LICENSE", TOP / "LICENSE")
+    tree.put("PROVENANCE", provenance)
+    return f"{described['name']}-{described['version']}", tree
