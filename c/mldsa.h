@@ -94,8 +94,8 @@ extern "C" {
 /* What a call answers. mldsa_text has a text for each. */
 enum mldsa_status {
     MLDSA_DONE = 0,                   /* done, and the arrays are written */
-    MLDSA_YES = 0,                    /* of a question: yes */
-    MLDSA_NO = 1,                     /* of a question: no */
+    MLDSA_YES = 0,                    /* the answer to a question is yes */
+    MLDSA_NO = 1,                     /* the answer to a question is no */
     MLDSA_WRONG_LENGTH = 2,           /* an array has the wrong length */
     MLDSA_CONTEXT_TOO_LONG = 4,       /* sign: the context has more than 255 bytes */
     MLDSA_HASH_CONTEXT_TOO_LONG = 6,  /* hash_sign: the context has more than 255 bytes */
@@ -323,7 +323,7 @@ uint32_t mldsa_check_pre_hash(const uint8_t *digest, size_t digest_len, const ui
 static inline const char *mldsa_text(uint32_t status)
 {
     switch (status) {
-    case MLDSA_DONE: return "no error (of a question: yes)";
+    case MLDSA_DONE: return "no error, or the answer yes";
     case MLDSA_NO: return "no";
     case MLDSA_WRONG_LENGTH: return "an array has the wrong length";
     case MLDSA_CONTEXT_TOO_LONG: return "ML-DSA.Sign: ctx too long";

@@ -1,4 +1,4 @@
-"""The manual pages: section 1 from docs/NAME.1.md, section 3 from the comments of c/mldsa.h and c/mldsa_x86_64.h."""
+"""The manual pages: section 1 from man/NAME.1.md, section 3 from the comments of c/mldsa.h and c/mldsa_x86_64.h."""
 import pathlib
 import re
 import sys
@@ -84,8 +84,8 @@ def row(cells, heads, placeholders):
     return f".TP\n{marked(cells[0], placeholders)}\n{text}\n"
 
 
-def program(name, version, date, folder=TOP / "docs"):
-    """The page of a program, made of docs/NAME.1.md."""
+def program(name, version, date, folder=TOP / "man"):
+    """The page of a program, made of man/NAME.1.md."""
     lines = (folder / f"{name}.1.md").read_text(encoding="utf-8").splitlines()
     start = lines.index("## SYNOPSIS")
     after = next(place for place in range(start + 1, len(lines)) if lines[place].startswith("## "))
