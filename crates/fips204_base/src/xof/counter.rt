@@ -49,7 +49,8 @@ impl<H: BlockHash<N>, const N: usize> Model for BlockReader<H, N> {
     ghost invariant = { λ r. (r.given ≤ N) × (r.next ≤ r.blocks) × (r.blocks * N ≤ 1048576) };
 }
 
-/// The digest of the joined parts.
+/// The digest of the joined parts. Inlined, so that it is compiled for the lengths of a block's parts.
+#[inline(always)]
 pub(crate) fn digest_of_parts<D: Digest>(parts: &[&[u8]]) -> D::Output
     ensures { D.digest_of (flat_map (λ part. part.now) parts.now) result }
 {
@@ -88,6 +89,7 @@ impl<H: BlockHash<N>, const N: usize> BlockReader<H, N> {
     }
 
     /// Fills the front of `out` with bytes of one block, and returns how many these are.
+    #[inline(always)]
     fn read_run(&mut self, out: &mut [u8]) -> usize
         requires wanted { 0 < length out.old }
         requires enough { length out.old ≤ length self.old }
@@ -116,6 +118,8 @@ impl<H: BlockHash<N>, const N: usize> XofReader for BlockReader<H, N> {
         N - self.given + (self.blocks - self.next) as usize * N
     }
 
+    // Not inlined: where the digest has one place, the lengths of its parts are constants.
+    #[inline(never)]
     fn read(&mut self, out: &mut [u8]) {
         let mut filled = 0;
         while filled < out.len() {

@@ -19,6 +19,7 @@ impl BlockHash<32> for Sha256 {
 
     ghost digest_size = { length-sha256 };
 
+    #[inline(always)]
     fn digest(parts: &[&[u8]]) -> [u8; 32] {
         digest_of_parts::<Sha256>(parts)
     }
@@ -29,6 +30,7 @@ impl BlockHash<64> for Sha512 {
 
     ghost digest_size = { length-sha512 };
 
+    #[inline(always)]
     fn digest(parts: &[&[u8]]) -> [u8; 64] {
         digest_of_parts::<Sha512>(parts)
     }
