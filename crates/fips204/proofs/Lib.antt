@@ -3,6 +3,7 @@ mod ParameterSets
 mod Ranges
 mod KeyGeneration
 mod WholeKeys
+mod MatrixBytes
 mod SeedKeys
 mod RejectionChecks
 mod ChallengeProducts

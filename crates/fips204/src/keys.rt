@@ -12,6 +12,7 @@ ghost use Rattle.fips204.specs.Refusals.{generated, derived, DrawsIf, DrawsUnles
 ghost use Rattle.fips204_base.specs.Encodings.{ArePrivateParts, IsPublicKeyOf, public_key_bytes, private_key_bytes};
 
 mod prepared;
+mod prepared_bytes;
 
 use crate::input::Input;
 use crate::ml_dsa;
