@@ -14,6 +14,7 @@ mod Attempts
 mod Verification
 mod PreHash
 mod RefusedCalls
+mod PreparedBytes
 mod RefusalLaws
 mod Framing
 mod Binding

@@ -1,12 +1,12 @@
 -- Prepared keys as bytes: the plain key's bytes, the hash tr behind a public one, and the matrix. FIPS 204 has no such encoding.
-use Rattle.std.specs.Prelude.{◌≡◌, ◌≤ℤ◌, ◌+◌, ◌*◌, ℕ, ℤ, pos, nat_abs, List, ◌++◌, length, Option, MatchOption}
+use Rattle.std.specs.Prelude.{◌≡◌, ◌↔◌, ◌≤ℤ◌, ◌+◌, ◌*◌, ℕ, ℤ, pos, nat_abs, List, ◌++◌, length, Option, MatchOption, Ok}
 use Rattle.std.specs.List.{All, flat_map}
 use Rattle.std.specs.Int.{w32, to_le_bytes}
-use Rattle.fips204_base.specs.Encodings.{ArePublicParts, ArePrivateParts, public_key_bytes, private_key_bytes}
-use Rattle.fips204_base.specs.Streams.{Bytes}
+use Rattle.fips204_base.specs.Encodings.{PublicParts, PrivateParts, ArePublicParts, ArePrivateParts, public_key_bytes, private_key_bytes}
+use Rattle.fips204_base.specs.Streams.{Bytes, XOF}
 use Rattle.fips204_base.specs.declared.types.T.{T}
 use Rattle.fips204.specs.ParameterSets.{ParameterSet, public_key_length, private_key_length}
-use Rattle.fips204.specs.Prepared.{PreparedPublic, PreparedPrivate}
+use Rattle.fips204.specs.Prepared.{PreparedPublic, PreparedPrivate, prepared_public, prepared_private}
 
 -- the values of a transform, of a row and of a matrix, one after another, each in four bytes, the lowest first
 abbrev pub entry_bytes : T → Bytes
@@ -57,3 +57,10 @@ pub record IsPreparedPrivateOf (eta k l : ℕ) (bytes : Bytes) (sk : PreparedPri
   pub parts : ArePrivateParts eta k l sk.parts
   pub matrix : IsMatrix k l sk.matrix
   pub encoding : prepared_private_bytes eta sk ≡ bytes
+
+-- what is read from the bytes of a key that was prepared is that key and nothing else
+pub record PreparedThroughBytes (p : ParameterSet) (G : XOF) : Type 0 where
+  pub public_keys : (pk : PublicParts) (prepared other : PreparedPublic) → ArePublicParts p.k pk → prepared_public p G pk ≡ Ok prepared
+      → IsPreparedPublicOf p.k p.l (prepared_public_bytes prepared) other ↔ (other ≡ prepared)
+  pub private_keys : (sk : PrivateParts) (prepared other : PreparedPrivate) → ArePrivateParts p.eta p.k p.l sk → prepared_private p G sk ≡ Ok prepared
+      → IsPreparedPrivateOf p.eta p.k p.l (prepared_private_bytes p.eta prepared) other ↔ (other ≡ prepared)
