@@ -54,6 +54,15 @@
  *  is_pair             whether a private key from elsewhere works: whether what it signs is accepted under the public key
  *                      that public_key writes. keygen makes no other keys. [MLDSA_NO, MLDSA_KEY_RANGE, MLDSA_SAMPLING_LIMIT]
  *  is_whole            the same without a look at tr: whether the part t0 of the key belongs to its parts s1 and s2. [as is_pair]
+ *  prepare_public_key  writes a prepared key, with which verifying takes less than half of the time: the bytes of the key, and of
+ *  prepare_private_key what is computed of them alone. [prepare_public_key: MLDSA_SAMPLING_LIMIT; prepare_private_key:
+ *                      MLDSA_KEY_RANGE, MLDSA_SAMPLING_LIMIT]
+ *  verify_prepared     what verify, hash_verify, verify_mu, sign, hash_sign and sign_mu answer with the key that was prepared.
+ *  hash_verify_prepared   A prepared key is as long as the key is used and no format for files: it is not checked whether its parts
+ *  verify_mu_prepared  belong together. Any bytes are safe in it, but other bytes than the call has written may accept what nobody
+ *  sign_prepared       signed, and may tell the private key by what they sign: keep a prepared public key where nobody can
+ *  hash_sign_prepared  change it, and a prepared private key as secret as the private key. [as the call without _prepared, but
+ *  sign_mu_prepared    MLDSA_NOT_PREPARED in place of MLDSA_KEY_RANGE, and for the verifying ones too]
  */
 #ifndef MLDSA_H
 #define MLDSA_H
@@ -94,7 +103,8 @@ enum mldsa_status {
     MLDSA_TOO_MANY_ATTEMPTS = 13,     /* signing: all 814 attempts were rejected, as with a key that is not whole */
     MLDSA_KEY_RANGE = 14,             /* the bytes are no private key */
     MLDSA_SAMPLING_LIMIT = 15,        /* rejection sampling reached its limit; no such input is known */
-    MLDSA_BROKEN_STATE = 16           /* mldsa_mu_update, mldsa_mu_finish: no call has written this state */
+    MLDSA_BROKEN_STATE = 16,          /* mldsa_mu_update, mldsa_mu_finish: no call has written this state */
+    MLDSA_NOT_PREPARED = 17           /* no call has written this prepared key */
 };
 
 #define MLDSA_SEED_LEN 32
@@ -126,6 +136,8 @@ enum mldsa_status {
 #define MLDSA44_PUBLIC_KEY_LEN 1312
 #define MLDSA44_PRIVATE_KEY_LEN 2560
 #define MLDSA44_SIGNATURE_LEN 2420
+#define MLDSA44_PREPARED_PUBLIC_KEY_LEN 17760
+#define MLDSA44_PREPARED_PRIVATE_KEY_LEN 18944
 
 #define MLDSA44_STACK_KEYGEN 120832
 #define MLDSA44_STACK_SIGN 181248
@@ -134,6 +146,10 @@ enum mldsa_status {
 #define MLDSA44_STACK_CHECK 95232
 #define MLDSA44_STACK_WHOLE 117760
 #define MLDSA44_STACK_PAIR 121856
+#define MLDSA44_STACK_PREPARE_PUBLIC_KEY 400000
+#define MLDSA44_STACK_VERIFY_PREPARED 400000
+#define MLDSA44_STACK_PREPARE_PRIVATE_KEY 400000
+#define MLDSA44_STACK_SIGN_PREPARED 400000
 
 MLDSA_ANSWERS
 uint32_t mldsa44_keygen(const uint8_t *seed, size_t seed_len, uint8_t *public_key, size_t public_key_len,
@@ -175,12 +191,44 @@ uint32_t mldsa44_mu_begin(const uint8_t *public_key, size_t public_key_len, cons
 MLDSA_ANSWERS
 uint32_t mldsa44_mu_begin_private(const uint8_t *private_key, size_t private_key_len,
                                   const uint8_t *context, size_t context_len, uint8_t *state, size_t state_len);
+MLDSA_ANSWERS
+uint32_t mldsa44_prepare_public_key(const uint8_t *public_key, size_t public_key_len,
+                                    uint8_t *prepared_public_key, size_t prepared_public_key_len);
+MLDSA_ANSWERS
+uint32_t mldsa44_verify_prepared(const uint8_t *prepared_public_key, size_t prepared_public_key_len,
+                                 const uint8_t *message, size_t message_len, const uint8_t *context, size_t context_len,
+                                 const uint8_t *signature, size_t signature_len);
+MLDSA_ANSWERS
+uint32_t mldsa44_hash_verify_prepared(const uint8_t *prepared_public_key, size_t prepared_public_key_len,
+                                      const uint8_t *digest, size_t digest_len, const uint8_t *context, size_t context_len,
+                                      const uint8_t *oid, size_t oid_len, const uint8_t *signature, size_t signature_len);
+MLDSA_ANSWERS
+uint32_t mldsa44_verify_mu_prepared(const uint8_t *prepared_public_key, size_t prepared_public_key_len,
+                                    const uint8_t *mu, size_t mu_len, const uint8_t *signature, size_t signature_len);
+MLDSA_ANSWERS
+uint32_t mldsa44_prepare_private_key(const uint8_t *private_key, size_t private_key_len,
+                                     uint8_t *prepared_private_key, size_t prepared_private_key_len);
+MLDSA_ANSWERS
+uint32_t mldsa44_sign_prepared(const uint8_t *prepared_private_key, size_t prepared_private_key_len,
+                               const uint8_t *message, size_t message_len, const uint8_t *context, size_t context_len,
+                               const uint8_t *random, size_t random_len, uint8_t *signature, size_t signature_len);
+MLDSA_ANSWERS
+uint32_t mldsa44_hash_sign_prepared(const uint8_t *prepared_private_key, size_t prepared_private_key_len,
+                                    const uint8_t *digest, size_t digest_len, const uint8_t *context, size_t context_len,
+                                    const uint8_t *oid, size_t oid_len, const uint8_t *random, size_t random_len,
+                                    uint8_t *signature, size_t signature_len);
+MLDSA_ANSWERS
+uint32_t mldsa44_sign_mu_prepared(const uint8_t *prepared_private_key, size_t prepared_private_key_len,
+                                  const uint8_t *mu, size_t mu_len, const uint8_t *random, size_t random_len,
+                                  uint8_t *signature, size_t signature_len);
 
 /* ML-DSA-65. */
 
 #define MLDSA65_PUBLIC_KEY_LEN 1952
 #define MLDSA65_PRIVATE_KEY_LEN 4032
 #define MLDSA65_SIGNATURE_LEN 3309
+#define MLDSA65_PREPARED_PUBLIC_KEY_LEN 32736
+#define MLDSA65_PREPARED_PRIVATE_KEY_LEN 34752
 
 #define MLDSA65_STACK_KEYGEN 164864
 #define MLDSA65_STACK_SIGN 238592
@@ -189,6 +237,10 @@ uint32_t mldsa44_mu_begin_private(const uint8_t *private_key, size_t private_key
 #define MLDSA65_STACK_CHECK 128000
 #define MLDSA65_STACK_WHOLE 161792
 #define MLDSA65_STACK_PAIR 166912
+#define MLDSA65_STACK_PREPARE_PUBLIC_KEY 400000
+#define MLDSA65_STACK_VERIFY_PREPARED 400000
+#define MLDSA65_STACK_PREPARE_PRIVATE_KEY 400000
+#define MLDSA65_STACK_SIGN_PREPARED 400000
 
 MLDSA_ANSWERS
 uint32_t mldsa65_keygen(const uint8_t *seed, size_t seed_len, uint8_t *public_key, size_t public_key_len,
@@ -230,12 +282,44 @@ uint32_t mldsa65_mu_begin(const uint8_t *public_key, size_t public_key_len, cons
 MLDSA_ANSWERS
 uint32_t mldsa65_mu_begin_private(const uint8_t *private_key, size_t private_key_len,
                                   const uint8_t *context, size_t context_len, uint8_t *state, size_t state_len);
+MLDSA_ANSWERS
+uint32_t mldsa65_prepare_public_key(const uint8_t *public_key, size_t public_key_len,
+                                    uint8_t *prepared_public_key, size_t prepared_public_key_len);
+MLDSA_ANSWERS
+uint32_t mldsa65_verify_prepared(const uint8_t *prepared_public_key, size_t prepared_public_key_len,
+                                 const uint8_t *message, size_t message_len, const uint8_t *context, size_t context_len,
+                                 const uint8_t *signature, size_t signature_len);
+MLDSA_ANSWERS
+uint32_t mldsa65_hash_verify_prepared(const uint8_t *prepared_public_key, size_t prepared_public_key_len,
+                                      const uint8_t *digest, size_t digest_len, const uint8_t *context, size_t context_len,
+                                      const uint8_t *oid, size_t oid_len, const uint8_t *signature, size_t signature_len);
+MLDSA_ANSWERS
+uint32_t mldsa65_verify_mu_prepared(const uint8_t *prepared_public_key, size_t prepared_public_key_len,
+                                    const uint8_t *mu, size_t mu_len, const uint8_t *signature, size_t signature_len);
+MLDSA_ANSWERS
+uint32_t mldsa65_prepare_private_key(const uint8_t *private_key, size_t private_key_len,
+                                     uint8_t *prepared_private_key, size_t prepared_private_key_len);
+MLDSA_ANSWERS
+uint32_t mldsa65_sign_prepared(const uint8_t *prepared_private_key, size_t prepared_private_key_len,
+                               const uint8_t *message, size_t message_len, const uint8_t *context, size_t context_len,
+                               const uint8_t *random, size_t random_len, uint8_t *signature, size_t signature_len);
+MLDSA_ANSWERS
+uint32_t mldsa65_hash_sign_prepared(const uint8_t *prepared_private_key, size_t prepared_private_key_len,
+                                    const uint8_t *digest, size_t digest_len, const uint8_t *context, size_t context_len,
+                                    const uint8_t *oid, size_t oid_len, const uint8_t *random, size_t random_len,
+                                    uint8_t *signature, size_t signature_len);
+MLDSA_ANSWERS
+uint32_t mldsa65_sign_mu_prepared(const uint8_t *prepared_private_key, size_t prepared_private_key_len,
+                                  const uint8_t *mu, size_t mu_len, const uint8_t *random, size_t random_len,
+                                  uint8_t *signature, size_t signature_len);
 
 /* ML-DSA-87. */
 
 #define MLDSA87_PUBLIC_KEY_LEN 2592
 #define MLDSA87_PRIVATE_KEY_LEN 4896
 #define MLDSA87_SIGNATURE_LEN 4627
+#define MLDSA87_PREPARED_PUBLIC_KEY_LEN 60000
+#define MLDSA87_PREPARED_PRIVATE_KEY_LEN 62240
 
 #define MLDSA87_STACK_KEYGEN 216064
 #define MLDSA87_STACK_SIGN 320512
@@ -244,6 +328,10 @@ uint32_t mldsa65_mu_begin_private(const uint8_t *private_key, size_t private_key
 #define MLDSA87_STACK_CHECK 178176
 #define MLDSA87_STACK_WHOLE 223232
 #define MLDSA87_STACK_PAIR 232448
+#define MLDSA87_STACK_PREPARE_PUBLIC_KEY 400000
+#define MLDSA87_STACK_VERIFY_PREPARED 400000
+#define MLDSA87_STACK_PREPARE_PRIVATE_KEY 400000
+#define MLDSA87_STACK_SIGN_PREPARED 400000
 
 MLDSA_ANSWERS
 uint32_t mldsa87_keygen(const uint8_t *seed, size_t seed_len, uint8_t *public_key, size_t public_key_len,
@@ -285,6 +373,36 @@ uint32_t mldsa87_mu_begin(const uint8_t *public_key, size_t public_key_len, cons
 MLDSA_ANSWERS
 uint32_t mldsa87_mu_begin_private(const uint8_t *private_key, size_t private_key_len,
                                   const uint8_t *context, size_t context_len, uint8_t *state, size_t state_len);
+MLDSA_ANSWERS
+uint32_t mldsa87_prepare_public_key(const uint8_t *public_key, size_t public_key_len,
+                                    uint8_t *prepared_public_key, size_t prepared_public_key_len);
+MLDSA_ANSWERS
+uint32_t mldsa87_verify_prepared(const uint8_t *prepared_public_key, size_t prepared_public_key_len,
+                                 const uint8_t *message, size_t message_len, const uint8_t *context, size_t context_len,
+                                 const uint8_t *signature, size_t signature_len);
+MLDSA_ANSWERS
+uint32_t mldsa87_hash_verify_prepared(const uint8_t *prepared_public_key, size_t prepared_public_key_len,
+                                      const uint8_t *digest, size_t digest_len, const uint8_t *context, size_t context_len,
+                                      const uint8_t *oid, size_t oid_len, const uint8_t *signature, size_t signature_len);
+MLDSA_ANSWERS
+uint32_t mldsa87_verify_mu_prepared(const uint8_t *prepared_public_key, size_t prepared_public_key_len,
+                                    const uint8_t *mu, size_t mu_len, const uint8_t *signature, size_t signature_len);
+MLDSA_ANSWERS
+uint32_t mldsa87_prepare_private_key(const uint8_t *private_key, size_t private_key_len,
+                                     uint8_t *prepared_private_key, size_t prepared_private_key_len);
+MLDSA_ANSWERS
+uint32_t mldsa87_sign_prepared(const uint8_t *prepared_private_key, size_t prepared_private_key_len,
+                               const uint8_t *message, size_t message_len, const uint8_t *context, size_t context_len,
+                               const uint8_t *random, size_t random_len, uint8_t *signature, size_t signature_len);
+MLDSA_ANSWERS
+uint32_t mldsa87_hash_sign_prepared(const uint8_t *prepared_private_key, size_t prepared_private_key_len,
+                                    const uint8_t *digest, size_t digest_len, const uint8_t *context, size_t context_len,
+                                    const uint8_t *oid, size_t oid_len, const uint8_t *random, size_t random_len,
+                                    uint8_t *signature, size_t signature_len);
+MLDSA_ANSWERS
+uint32_t mldsa87_sign_mu_prepared(const uint8_t *prepared_private_key, size_t prepared_private_key_len,
+                                  const uint8_t *mu, size_t mu_len, const uint8_t *random, size_t random_len,
+                                  uint8_t *signature, size_t signature_len);
 
 /* The same for every set.
  *
@@ -324,6 +442,7 @@ static inline const char *mldsa_text(uint32_t status)
     case MLDSA_KEY_RANGE: return "Alg 25: s1 or s2 out of range";
     case MLDSA_SAMPLING_LIMIT: return "sampling limit reached";
     case MLDSA_BROKEN_STATE: return "the state of a message in pieces is broken";
+    case MLDSA_NOT_PREPARED: return "no call has written this prepared key";
     default: return "no answer of this library";
     }
 }

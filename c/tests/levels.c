@@ -31,7 +31,7 @@ static struct array first[ARRAYS], second[ARRAYS], first_changed[ARRAYS], second
 static void make_room(struct array *pool)
 {
     for (int i = 0; i < ARRAYS; i++)
-        if (!(pool[i].at = calloc(1, ROOM)))
+        if (!(pool[i].at = calloc(1, KINDS[i].room)))
             exit(2);
 }
 
@@ -39,7 +39,7 @@ static void copy(struct array *to, const struct array *from)
 {
     for (int i = 0; i < ARRAYS; i++) {
         to[i].len = from[i].len;
-        memcpy(to[i].at, from[i].at, ROOM);
+        memcpy(to[i].at, from[i].at, KINDS[i].room);
     }
 }
 
@@ -49,7 +49,7 @@ static void fill(struct array *pool, int which)
     static const uint8_t lengths_of_digests[] = {32, 48, 64};
     for (int i = 0; i < ARRAYS; i++) {
         pool[i].len = KINDS[i].lengths[which] ? KINDS[i].lengths[which] : draw() % 256;
-        for (size_t k = 0; k < ROOM; k++)
+        for (size_t k = 0; k < KINDS[i].room; k++)
             pool[i].at[k] = (uint8_t)draw();
     }
 #ifdef ARRAY_oid
@@ -92,7 +92,7 @@ static uint32_t call_at(int level, const struct export *call, struct array *one,
         failures++;
     }
     for (int i = 0; i < ARRAYS; i++)
-        if (memcmp(one[i].at, other[i].at, ROOM)) {
+        if (memcmp(one[i].at, other[i].at, KINDS[i].room)) {
             printf("%s%s: %s differs\n", call->name, how, KINDS[i].name);
             failures++;
         }

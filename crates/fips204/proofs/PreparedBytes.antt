@@ -1,5 +1,5 @@
 -- The bytes of prepared keys tell the keys.
-use Rattle.std.proofs.Common.{◌≡◌, ◌∙◌, ◌+◌, ◌*◌, ◌^◌, ◌<◌, ℕ, ℤ, pos, nat_abs, List, [], ◌∷◌, ◌++◌, length, take, drop, get_or, map, ap, sym, subst, arith, refl, w32, append_assoc, Ok, Some, ◌↔◌}
+use Rattle.std.proofs.Common.{◌≡◌, ◌∙◌, ◌+◌, ◌*◌, ◌^◌, ◌<◌, ℕ, ℤ, pos, nat_abs, List, [], ◌∷◌, ◌++◌, length, take, drop, get_or, map, ap, sym, subst, arith, refl, w32, append_assoc, length-append, Ok, Some, ◌↔◌}
 use Rattle.std.proofs.lemmas.Int.{ints}
 use Rattle.std.proofs.lemmas.List.{take_at, drop_at}
 use Rattle.std.proofs.lemmas.List.Elements.{All-head, All-tail}
@@ -9,7 +9,8 @@ use Rattle.std.specs.List.{All, flat_map, range_with_len}
 use Rattle.fips204_base.proofs.Sampled.{all_present-at, matrix_entry-residues}
 use Rattle.fips204_base.specs.Sampling.{all_present, matrix_entry}
 use Rattle.fips204.specs.PreparedBytes.{entry_bytes, row_bytes, matrix_bytes, IsEntry, IsRow, IsMatrix, prepared_public_bytes, prepared_private_bytes, IsPreparedPublicOf, IsPreparedPrivateOf, PreparedThroughBytes}
-use Rattle.fips204.proofs.MatrixBytes.{IsValue, value_bytes, length-value, length-entry, length-row, length-public, length-private, public_matrix, private_matrix, private_key_at}
+use Rattle.fips204.specs.ParameterSets.{private_key_length}
+use Rattle.fips204.proofs.MatrixBytes.{IsValue, value_bytes, length-value, length-entry, length-row, length-matrix, length-public, length-private_at, length-private, public_matrix, private_matrix, private_key_at}
 use Rattle.fips204.proofs.Names.{T, ParameterSet, IsSet, PublicParts, PrivateParts, ArePublicParts, ArePrivateParts, PreparedPublic, PreparedPrivate, prepared_public, prepared_private, public_key_bytes, private_key_bytes, sampled_matrix}
 use Rattle.fips204.proofs.Prepared.{private_parts, public_parts}
 use Rattle.fips204.proofs.WholeKeys.{one_public_key, bytes_tell_keys}
@@ -96,25 +97,48 @@ one_private p bytes sk other known one two =
     same_private sk.parts other.parts sk.matrix other.matrix ((bytes_tell_keys p known).private_keys sk.parts other.parts one.parts two.parts key)
     (one_matrix p.k p.l sk.matrix other.matrix one.matrix two.matrix matrix)
 
+-- a key that was prepared is what its bytes say
+own_public : (p : ParameterSet) (G : List ℕ → List ℕ) (pk : PublicParts) (prepared : PreparedPublic) → ArePublicParts p.k pk → prepared_public p G pk ≡ Ok prepared
+    → IsPreparedPublicOf p.k p.l (prepared_public_bytes prepared) prepared
+own_public p G pk prepared are made =
+    let is = public_parts (sampled_matrix G pk.rho p.k p.l) pk prepared made in
+    record {
+      parts = subst (λ (k : PublicParts). ArePublicParts p.k k) is.0 are;
+      matrix = sampled_is_matrix G pk.rho p.k p.l prepared.matrix is.1;
+      encoding = refl;
+    }
+
+own_private : (p : ParameterSet) (G : List ℕ → List ℕ) (sk : PrivateParts) (prepared : PreparedPrivate) → ArePrivateParts p.eta p.k p.l sk → prepared_private p G sk ≡ Ok prepared
+    → IsPreparedPrivateOf p.eta p.k p.l (prepared_private_bytes p.eta prepared) prepared
+own_private p G sk prepared are made =
+    let is = private_parts (sampled_matrix G sk.rho p.k p.l) sk prepared made in
+    record {
+      parts = subst (λ (k : PrivateParts). ArePrivateParts p.eta p.k p.l k) is.0 are;
+      matrix = sampled_is_matrix G sk.rho p.k p.l prepared.matrix is.1;
+      encoding = refl;
+    }
+
 pub prepared_through_bytes : (p : ParameterSet) (G : List ℕ → List ℕ) → IsSet p → PreparedThroughBytes p G
 prepared_through_bytes p G known = record {
+  public_length = λ pk prepared are made.
+      let own = own_public p G pk prepared are made in
+      let key = length-public p.k prepared.parts own.parts in
+      let matrix = length-matrix p.k p.l prepared.matrix own.matrix in
+      length-append (public_key_bytes prepared.parts.rho prepared.parts.t1 ++ prepared.parts.tr) (matrix_bytes prepared.matrix)
+      ∙ ap (λ n. n + length (matrix_bytes prepared.matrix)) (length-append (public_key_bytes prepared.parts.rho prepared.parts.t1) prepared.parts.tr)
+      ∙ omega (arith, key, own.parts.tr, matrix);
+  private_length = λ sk prepared are made.
+      let own = own_private p G sk prepared are made in
+      let key = length-private_at p p.k p.l (private_key_length p) prepared.parts refl refl refl own.parts in
+      let matrix = length-matrix p.k p.l prepared.matrix own.matrix in
+      length-append (private_key_bytes p.eta prepared.parts) (matrix_bytes prepared.matrix) ∙ omega (arith, sym key, matrix);
   public_keys = λ pk prepared other are made.
-      let is = public_parts (sampled_matrix G pk.rho p.k p.l) pk prepared made in
-      let own : IsPreparedPublicOf p.k p.l (prepared_public_bytes prepared) prepared = record {
-        parts = subst (λ (k : PublicParts). ArePublicParts p.k k) is.0 are;
-        matrix = sampled_is_matrix G pk.rho p.k p.l prepared.matrix is.1;
-        encoding = refl;
-      } in (
+      let own = own_public p G pk prepared are made in (
         λ read. one_public p.k p.l (prepared_public_bytes prepared) other prepared read own,
         λ same. subst (λ (k : PreparedPublic). IsPreparedPublicOf p.k p.l (prepared_public_bytes prepared) k) (sym same) own,
       );
   private_keys = λ sk prepared other are made.
-      let is = private_parts (sampled_matrix G sk.rho p.k p.l) sk prepared made in
-      let own : IsPreparedPrivateOf p.eta p.k p.l (prepared_private_bytes p.eta prepared) prepared = record {
-        parts = subst (λ (k : PrivateParts). ArePrivateParts p.eta p.k p.l k) is.0 are;
-        matrix = sampled_is_matrix G sk.rho p.k p.l prepared.matrix is.1;
-        encoding = refl;
-      } in (
+      let own = own_private p G sk prepared are made in (
         λ read. one_private p (prepared_private_bytes p.eta prepared) other prepared known read own,
         λ same. subst (λ (k : PreparedPrivate). IsPreparedPrivateOf p.eta p.k p.l (prepared_private_bytes p.eta prepared) k) (sym same) own,
       );

@@ -58,8 +58,12 @@ pub record IsPreparedPrivateOf (eta k l : ℕ) (bytes : Bytes) (sk : PreparedPri
   pub matrix : IsMatrix k l sk.matrix
   pub encoding : prepared_private_bytes eta sk ≡ bytes
 
--- what is read from the bytes of a key that was prepared is that key and nothing else
+-- the bytes of a key that was prepared have the set's length, and what is read from them is that key and nothing else
 pub record PreparedThroughBytes (p : ParameterSet) (G : XOF) : Type 0 where
+  pub public_length : (pk : PublicParts) (prepared : PreparedPublic) → ArePublicParts p.k pk → prepared_public p G pk ≡ Ok prepared
+      → length (prepared_public_bytes prepared) ≡ prepared_public_length p
+  pub private_length : (sk : PrivateParts) (prepared : PreparedPrivate) → ArePrivateParts p.eta p.k p.l sk → prepared_private p G sk ≡ Ok prepared
+      → length (prepared_private_bytes p.eta prepared) ≡ prepared_private_length p
   pub public_keys : (pk : PublicParts) (prepared other : PreparedPublic) → ArePublicParts p.k pk → prepared_public p G pk ≡ Ok prepared
       → IsPreparedPublicOf p.k p.l (prepared_public_bytes prepared) other ↔ (other ≡ prepared)
   pub private_keys : (sk : PrivateParts) (prepared other : PreparedPrivate) → ArePrivateParts p.eta p.k p.l sk → prepared_private p G sk ≡ Ok prepared

@@ -117,7 +117,8 @@ pub fn prepared_keys()
     ensures { (p : ParameterSet) (H G : List ℕ → List ℕ) → PreparedAnswersAsPlain p H G }
 {}
 
-/// The bytes of a key that was prepared tell it: what is read from them is that key and nothing else.
+/// The bytes of a key that was prepared have the length of the set's prepared keys, and they tell it: what is read from them
+/// is that key and nothing else.
 pub fn prepared_bytes()
     ensures { (p : ParameterSet) (G : XOF) → IsSet p → PreparedThroughBytes p G }
 {}
