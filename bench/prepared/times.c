@@ -21,28 +21,12 @@ static int by_size(const void *a, const void *b)
     return (x > y) - (x < y);
 }
 
-struct prepared {
-    size_t public_len, private_len;
-    uint32_t (*prepare_public_key)(in, size_t, uint8_t *, size_t);
-    uint32_t (*prepare_private_key)(in, size_t, uint8_t *, size_t);
-    uint32_t (*sign)(in, size_t, in, size_t, in, size_t, in, size_t, uint8_t *, size_t);
-    uint32_t (*verify)(in, size_t, in, size_t, in, size_t, in, size_t);
-};
-#define PREPARED(N)                                                                                                       \
-    {                                                                                                                     \
-        MLDSA##N##_PREPARED_PUBLIC_KEY_LEN, MLDSA##N##_PREPARED_PRIVATE_KEY_LEN, mldsa##N##_prepare_public_key,           \
-            mldsa##N##_prepare_private_key, mldsa##N##_sign_prepared, mldsa##N##_verify_prepared                          \
-    }
-static const struct prepared KEYS[3] = {PREPARED(44), PREPARED(65), PREPARED(87)};
-
 int main(void)
 {
     static const char *const NAMES[CALLS] = {"prepare_public_key", "prepare_private_key", "sign", "sign_prepared", "verify", "verify_prepared"};
     static uint8_t public_key[LONGEST_KEY], private_key[LONGEST_KEY], signature[LONGEST_SIGNATURE];
-    static uint8_t checks[MLDSA87_PREPARED_PUBLIC_KEY_LEN], signs[MLDSA87_PREPARED_PRIVATE_KEY_LEN];
-    for (int i = 0; i < 3; i++) {
-        const struct set *s = &SETS[i];
-        const struct prepared *p = &KEYS[i];
+    static uint8_t checks[LONGEST_PREPARED_KEY], signs[LONGEST_PREPARED_KEY];
+    for (const struct set *s = SETS; s < SETS + 3; s++) {
         for (int round = 0; round < ROUNDS; round++)
             for (int level = 2; level <= 3; level++) {
                 uint8_t seed[32] = {(uint8_t)round, (uint8_t)(round >> 8)}, random_bytes[32] = {0};
@@ -50,17 +34,17 @@ int main(void)
                 WANT(mldsa_x86_64_level(level), level);
                 WANT(s->keygen(seed, 32, public_key, s->public_key_len, private_key, s->private_key_len), MLDSA_DONE);
                 at[0] = now();
-                WANT(p->prepare_public_key(public_key, s->public_key_len, checks, p->public_len), MLDSA_DONE);
+                WANT(s->prepare_public_key(public_key, s->public_key_len, checks, s->prepared_public_key_len), MLDSA_DONE);
                 at[1] = now();
-                WANT(p->prepare_private_key(private_key, s->private_key_len, signs, p->private_len), MLDSA_DONE);
+                WANT(s->prepare_private_key(private_key, s->private_key_len, signs, s->prepared_private_key_len), MLDSA_DONE);
                 at[2] = now();
                 WANT(s->sign(private_key, s->private_key_len, seed, 32, seed, 0, random_bytes, 32, signature, s->signature_len), MLDSA_DONE);
                 at[3] = now();
-                WANT(p->sign(signs, p->private_len, seed, 32, seed, 0, random_bytes, 32, signature, s->signature_len), MLDSA_DONE);
+                WANT(s->sign_prepared(signs, s->prepared_private_key_len, seed, 32, seed, 0, random_bytes, 32, signature, s->signature_len), MLDSA_DONE);
                 at[4] = now();
                 WANT(s->verify(public_key, s->public_key_len, seed, 32, seed, 0, signature, s->signature_len), MLDSA_YES);
                 at[5] = now();
-                WANT(p->verify(checks, p->public_len, seed, 32, seed, 0, signature, s->signature_len), MLDSA_YES);
+                WANT(s->verify_prepared(checks, s->prepared_public_key_len, seed, 32, seed, 0, signature, s->signature_len), MLDSA_YES);
                 at[6] = now();
                 for (int call = 0; call < CALLS; call++)
                     taken[call][level - 2][round] = at[call + 1] - at[call];
