@@ -54,15 +54,17 @@
  *  is_pair             whether a private key from elsewhere works: whether what it signs is accepted under the public key
  *                      that public_key writes. keygen makes no other keys. [MLDSA_NO, MLDSA_KEY_RANGE, MLDSA_SAMPLING_LIMIT]
  *  is_whole            the same without a look at tr: whether the part t0 of the key belongs to its parts s1 and s2. [as is_pair]
- *  prepare_public_key  writes a prepared key, with which verifying takes less than half of the time: the bytes of the key, and of
- *  prepare_private_key what is computed of them alone. [prepare_public_key: MLDSA_SAMPLING_LIMIT; prepare_private_key:
- *                      MLDSA_KEY_RANGE, MLDSA_SAMPLING_LIMIT]
- *  verify_prepared     what verify, hash_verify, verify_mu, sign, hash_sign and sign_mu answer with the key that was prepared.
- *  hash_verify_prepared   A prepared key is as long as the key is used and no format for files: it is not checked whether its parts
- *  verify_mu_prepared  belong together. Any bytes are safe in it, but other bytes than the call has written may accept what nobody
- *  sign_prepared       signed, and may tell the private key by what they sign: keep a prepared public key where nobody can
- *  hash_sign_prepared  change it, and a prepared private key as secret as the private key. [as the call without _prepared, but
- *  sign_mu_prepared    MLDSA_NOT_PREPARED in place of MLDSA_KEY_RANGE, and for the verifying ones too]
+ *  prepare_public_key  writes a prepared key, of MLDSA*_PREPARED_PUBLIC_KEY_LEN or MLDSA*_PREPARED_PRIVATE_KEY_LEN bytes: the
+ *  prepare_private_key bytes of the key, and behind them what each call would compute of them anew. [MLDSA_SAMPLING_LIMIT;
+ *                      prepare_private_key: MLDSA_KEY_RANGE too]
+ *  verify_prepared, hash_verify_prepared, verify_mu_prepared, sign_prepared, hash_sign_prepared, sign_mu_prepared
+ *                      answer with a prepared key what the calls without _prepared answer with the key that it was made of, and
+ *                      take less time. Any bytes are safe in a prepared key: such as no call could have written are answered by
+ *                      MLDSA_NOT_PREPARED, others by some verdict or signature. But nothing checks that its parts belong
+ *                      together. Keep a prepared public key where nobody can change it, since a changed one may accept what
+ *                      nobody signed; and a prepared private key as secret as the private key, and where nobody can change it,
+ *                      since what a changed one signs may tell the key. [as the calls without _prepared, but
+ *                      MLDSA_NOT_PREPARED, of verifying too, and not MLDSA_KEY_RANGE]
  */
 #ifndef MLDSA_H
 #define MLDSA_H
@@ -195,17 +197,6 @@ MLDSA_ANSWERS
 uint32_t mldsa44_prepare_public_key(const uint8_t *public_key, size_t public_key_len,
                                     uint8_t *prepared_public_key, size_t prepared_public_key_len);
 MLDSA_ANSWERS
-uint32_t mldsa44_verify_prepared(const uint8_t *prepared_public_key, size_t prepared_public_key_len,
-                                 const uint8_t *message, size_t message_len, const uint8_t *context, size_t context_len,
-                                 const uint8_t *signature, size_t signature_len);
-MLDSA_ANSWERS
-uint32_t mldsa44_hash_verify_prepared(const uint8_t *prepared_public_key, size_t prepared_public_key_len,
-                                      const uint8_t *digest, size_t digest_len, const uint8_t *context, size_t context_len,
-                                      const uint8_t *oid, size_t oid_len, const uint8_t *signature, size_t signature_len);
-MLDSA_ANSWERS
-uint32_t mldsa44_verify_mu_prepared(const uint8_t *prepared_public_key, size_t prepared_public_key_len,
-                                    const uint8_t *mu, size_t mu_len, const uint8_t *signature, size_t signature_len);
-MLDSA_ANSWERS
 uint32_t mldsa44_prepare_private_key(const uint8_t *private_key, size_t private_key_len,
                                      uint8_t *prepared_private_key, size_t prepared_private_key_len);
 MLDSA_ANSWERS
@@ -213,14 +204,25 @@ uint32_t mldsa44_sign_prepared(const uint8_t *prepared_private_key, size_t prepa
                                const uint8_t *message, size_t message_len, const uint8_t *context, size_t context_len,
                                const uint8_t *random, size_t random_len, uint8_t *signature, size_t signature_len);
 MLDSA_ANSWERS
+uint32_t mldsa44_verify_prepared(const uint8_t *prepared_public_key, size_t prepared_public_key_len,
+                                 const uint8_t *message, size_t message_len, const uint8_t *context, size_t context_len,
+                                 const uint8_t *signature, size_t signature_len);
+MLDSA_ANSWERS
 uint32_t mldsa44_hash_sign_prepared(const uint8_t *prepared_private_key, size_t prepared_private_key_len,
                                     const uint8_t *digest, size_t digest_len, const uint8_t *context, size_t context_len,
                                     const uint8_t *oid, size_t oid_len, const uint8_t *random, size_t random_len,
                                     uint8_t *signature, size_t signature_len);
 MLDSA_ANSWERS
+uint32_t mldsa44_hash_verify_prepared(const uint8_t *prepared_public_key, size_t prepared_public_key_len,
+                                      const uint8_t *digest, size_t digest_len, const uint8_t *context, size_t context_len,
+                                      const uint8_t *oid, size_t oid_len, const uint8_t *signature, size_t signature_len);
+MLDSA_ANSWERS
 uint32_t mldsa44_sign_mu_prepared(const uint8_t *prepared_private_key, size_t prepared_private_key_len,
                                   const uint8_t *mu, size_t mu_len, const uint8_t *random, size_t random_len,
                                   uint8_t *signature, size_t signature_len);
+MLDSA_ANSWERS
+uint32_t mldsa44_verify_mu_prepared(const uint8_t *prepared_public_key, size_t prepared_public_key_len,
+                                    const uint8_t *mu, size_t mu_len, const uint8_t *signature, size_t signature_len);
 
 /* ML-DSA-65. */
 
@@ -286,17 +288,6 @@ MLDSA_ANSWERS
 uint32_t mldsa65_prepare_public_key(const uint8_t *public_key, size_t public_key_len,
                                     uint8_t *prepared_public_key, size_t prepared_public_key_len);
 MLDSA_ANSWERS
-uint32_t mldsa65_verify_prepared(const uint8_t *prepared_public_key, size_t prepared_public_key_len,
-                                 const uint8_t *message, size_t message_len, const uint8_t *context, size_t context_len,
-                                 const uint8_t *signature, size_t signature_len);
-MLDSA_ANSWERS
-uint32_t mldsa65_hash_verify_prepared(const uint8_t *prepared_public_key, size_t prepared_public_key_len,
-                                      const uint8_t *digest, size_t digest_len, const uint8_t *context, size_t context_len,
-                                      const uint8_t *oid, size_t oid_len, const uint8_t *signature, size_t signature_len);
-MLDSA_ANSWERS
-uint32_t mldsa65_verify_mu_prepared(const uint8_t *prepared_public_key, size_t prepared_public_key_len,
-                                    const uint8_t *mu, size_t mu_len, const uint8_t *signature, size_t signature_len);
-MLDSA_ANSWERS
 uint32_t mldsa65_prepare_private_key(const uint8_t *private_key, size_t private_key_len,
                                      uint8_t *prepared_private_key, size_t prepared_private_key_len);
 MLDSA_ANSWERS
@@ -304,14 +295,25 @@ uint32_t mldsa65_sign_prepared(const uint8_t *prepared_private_key, size_t prepa
                                const uint8_t *message, size_t message_len, const uint8_t *context, size_t context_len,
                                const uint8_t *random, size_t random_len, uint8_t *signature, size_t signature_len);
 MLDSA_ANSWERS
+uint32_t mldsa65_verify_prepared(const uint8_t *prepared_public_key, size_t prepared_public_key_len,
+                                 const uint8_t *message, size_t message_len, const uint8_t *context, size_t context_len,
+                                 const uint8_t *signature, size_t signature_len);
+MLDSA_ANSWERS
 uint32_t mldsa65_hash_sign_prepared(const uint8_t *prepared_private_key, size_t prepared_private_key_len,
                                     const uint8_t *digest, size_t digest_len, const uint8_t *context, size_t context_len,
                                     const uint8_t *oid, size_t oid_len, const uint8_t *random, size_t random_len,
                                     uint8_t *signature, size_t signature_len);
 MLDSA_ANSWERS
+uint32_t mldsa65_hash_verify_prepared(const uint8_t *prepared_public_key, size_t prepared_public_key_len,
+                                      const uint8_t *digest, size_t digest_len, const uint8_t *context, size_t context_len,
+                                      const uint8_t *oid, size_t oid_len, const uint8_t *signature, size_t signature_len);
+MLDSA_ANSWERS
 uint32_t mldsa65_sign_mu_prepared(const uint8_t *prepared_private_key, size_t prepared_private_key_len,
                                   const uint8_t *mu, size_t mu_len, const uint8_t *random, size_t random_len,
                                   uint8_t *signature, size_t signature_len);
+MLDSA_ANSWERS
+uint32_t mldsa65_verify_mu_prepared(const uint8_t *prepared_public_key, size_t prepared_public_key_len,
+                                    const uint8_t *mu, size_t mu_len, const uint8_t *signature, size_t signature_len);
 
 /* ML-DSA-87. */
 
@@ -377,17 +379,6 @@ MLDSA_ANSWERS
 uint32_t mldsa87_prepare_public_key(const uint8_t *public_key, size_t public_key_len,
                                     uint8_t *prepared_public_key, size_t prepared_public_key_len);
 MLDSA_ANSWERS
-uint32_t mldsa87_verify_prepared(const uint8_t *prepared_public_key, size_t prepared_public_key_len,
-                                 const uint8_t *message, size_t message_len, const uint8_t *context, size_t context_len,
-                                 const uint8_t *signature, size_t signature_len);
-MLDSA_ANSWERS
-uint32_t mldsa87_hash_verify_prepared(const uint8_t *prepared_public_key, size_t prepared_public_key_len,
-                                      const uint8_t *digest, size_t digest_len, const uint8_t *context, size_t context_len,
-                                      const uint8_t *oid, size_t oid_len, const uint8_t *signature, size_t signature_len);
-MLDSA_ANSWERS
-uint32_t mldsa87_verify_mu_prepared(const uint8_t *prepared_public_key, size_t prepared_public_key_len,
-                                    const uint8_t *mu, size_t mu_len, const uint8_t *signature, size_t signature_len);
-MLDSA_ANSWERS
 uint32_t mldsa87_prepare_private_key(const uint8_t *private_key, size_t private_key_len,
                                      uint8_t *prepared_private_key, size_t prepared_private_key_len);
 MLDSA_ANSWERS
@@ -395,14 +386,25 @@ uint32_t mldsa87_sign_prepared(const uint8_t *prepared_private_key, size_t prepa
                                const uint8_t *message, size_t message_len, const uint8_t *context, size_t context_len,
                                const uint8_t *random, size_t random_len, uint8_t *signature, size_t signature_len);
 MLDSA_ANSWERS
+uint32_t mldsa87_verify_prepared(const uint8_t *prepared_public_key, size_t prepared_public_key_len,
+                                 const uint8_t *message, size_t message_len, const uint8_t *context, size_t context_len,
+                                 const uint8_t *signature, size_t signature_len);
+MLDSA_ANSWERS
 uint32_t mldsa87_hash_sign_prepared(const uint8_t *prepared_private_key, size_t prepared_private_key_len,
                                     const uint8_t *digest, size_t digest_len, const uint8_t *context, size_t context_len,
                                     const uint8_t *oid, size_t oid_len, const uint8_t *random, size_t random_len,
                                     uint8_t *signature, size_t signature_len);
 MLDSA_ANSWERS
+uint32_t mldsa87_hash_verify_prepared(const uint8_t *prepared_public_key, size_t prepared_public_key_len,
+                                      const uint8_t *digest, size_t digest_len, const uint8_t *context, size_t context_len,
+                                      const uint8_t *oid, size_t oid_len, const uint8_t *signature, size_t signature_len);
+MLDSA_ANSWERS
 uint32_t mldsa87_sign_mu_prepared(const uint8_t *prepared_private_key, size_t prepared_private_key_len,
                                   const uint8_t *mu, size_t mu_len, const uint8_t *random, size_t random_len,
                                   uint8_t *signature, size_t signature_len);
+MLDSA_ANSWERS
+uint32_t mldsa87_verify_mu_prepared(const uint8_t *prepared_public_key, size_t prepared_public_key_len,
+                                    const uint8_t *mu, size_t mu_len, const uint8_t *signature, size_t signature_len);
 
 /* The same for every set.
  *
