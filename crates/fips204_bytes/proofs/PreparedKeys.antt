@@ -24,13 +24,13 @@ chosen true p never = (refl, p)
 chosen false q never = absurd (never q)
 
 -- a choice whose test is known
-taken : {P Q : Type 0} (b : Bool) → b ≡ true → MatchBool b P Q → P
-taken true is p = p
-taken false is q = absurd cc
+taken : {P : Type 0} (Q : Type 0) (b : Bool) → b ≡ true → MatchBool b P Q → P
+taken Q true is p = p
+taken Q false is q = absurd cc
 
-given : {P Q : Type 0} (b : Bool) → b ≡ true → P → MatchBool b P Q
-given true is p = p
-given false is p = absurd cc
+given : {P : Type 0} (Q : Type 0) (b : Bool) → b ≡ true → P → MatchBool b P Q
+given Q true is p = p
+given Q false is p = absurd cc
 
 -- what is done with the prepared key that alone has its bytes
 with_only : {A : Type 0} (has uses : A → Type 0) (refuses : Refusal → Type 0) (key : A) → has key → ((other : A) → has other → other ≡ key) → WithPrepared has uses refuses → uses key
@@ -55,7 +55,7 @@ prepared_stands_for_plain p H G through as_plain = record {
       let (pk, is_key, written) = writes in
       let (ready, made_of, same) = made prepared_public_bytes (prepared_public p G pk) old prepared written in
       let long : length prepared ≡ prepared_public_length p = ap length same ∙ through.public_length pk ready is_key.parts made_of in
-      let judged = taken (nat_eq (length prepared) (prepared_public_length p)) (eq-eqb (length prepared) (prepared_public_length p) long) judges in
+      let judged = taken _ (nat_eq (length prepared) (prepared_public_length p)) (eq-eqb (length prepared) (prepared_public_length p) long) judges in
       let only = λ (other : PreparedPublic). subst (λ (bytes : List ℕ). IsPreparedPublicOf p.k p.l bytes other ↔ (other ≡ ready)) (sym same) (through.public_keys pk ready other is_key.parts made_of) in
       let tells : TellsPreparedVerdict p H prepared input signature answer → TellsVerdict p H G key input signature answer =
       λ told.
@@ -63,21 +63,21 @@ prepared_stands_for_plain p H G through as_plain = record {
       (λ other. (verdict : Bool) × (IsTrue verdict ↔ VerifiesPrepared p H other signature input) × (answer ≡ Ok verdict)) (λ why. answer ≡ Err why) ready ((only ready).1 refl) (λ other. (only other).0) told in
       let plain = as_plain.verify_inputs pk ready signature input made_of in
       (pk, is_key, (verdict, (λ yes. plain.0 (is.0 yes), λ accepts. is.1 (plain.1 accepts)), answers)) in
-      given (nat_eq (length key) (public_key_length p)) sized (fitting (answer ≡ Err (Length Signature)) (nat_eq (length signature) (signature_length p)) tells judged);
+      given (answer ≡ Err (Length PublicKey)) (nat_eq (length key) (public_key_length p)) sized (fitting (answer ≡ Err (Length Signature)) (nat_eq (length signature) (signature_length p)) tells judged);
   signed = λ key old prepared rnd input before after answer prepares signs.
       let (sized, rest) = chosen (nat_eq (length key) (private_key_length p)) prepares (unrefused old prepared (Length PrivateKey)) in
       let (_, writes) = chosen (nat_eq (length old) (prepared_private_length p)) rest (unrefused old prepared (Length PreparedPrivateKey)) in
       let (sk, is_key, written) = used p key _ _ writes (unrefused old prepared) in
       let (ready, made_of, same) = made (λ ready. prepared_private_bytes p.eta ready) (prepared_private p G sk) old prepared written in
       let long : length prepared ≡ prepared_private_length p = ap length same ∙ through.private_length sk ready is_key.parts made_of in
-      let signed = taken (nat_eq (length prepared) (prepared_private_length p)) (eq-eqb (length prepared) (prepared_private_length p) long) signs in
+      let signed = taken _ (nat_eq (length prepared) (prepared_private_length p)) (eq-eqb (length prepared) (prepared_private_length p) long) signs in
       let only = λ (other : PreparedPrivate). subst (λ (bytes : List ℕ). IsPreparedPrivateOf p.eta p.k p.l bytes other ↔ (other ≡ ready)) (sym same) (through.private_keys sk ready other is_key.parts made_of) in
       let makes : WritesPreparedSignature p H prepared rnd input before after answer → WritesSignature p H G key rnd input before after answer =
       λ told.
       let put = with_only (IsPreparedPrivateOf p.eta p.k p.l prepared) (λ other. Writes (λ signature. signature) (sign_prepared p H other rnd input) before after answer) (Leaves before after answer)
       ready ((only ready).1 refl) (λ other. (only other).0) told in
       (Ok sk, is_key, subst (λ result. Writes (λ signature. signature) result before after answer) (as_plain.sign_inputs sk ready rnd input made_of) put) in
-      given (nat_eq (length key) (private_key_length p)) sized (fitting (Leaves before after answer (Length Signature)) (nat_eq (length before) (signature_length p)) makes signed);
+      given (Leaves before after answer (Length PrivateKey)) (nat_eq (length key) (private_key_length p)) sized (fitting (Leaves before after answer (Length Signature)) (nat_eq (length before) (signature_length p)) makes signed);
 }
   where
     -- what is done with the private key, where it isn't refused
