@@ -54,6 +54,17 @@
  *  is_pair             whether a private key from elsewhere works: whether what it signs is accepted under the public key
  *                      that public_key writes. keygen makes no other keys. [MLDSA_NO, MLDSA_KEY_RANGE, MLDSA_SAMPLING_LIMIT]
  *  is_whole            the same without a look at tr: whether the part t0 of the key belongs to its parts s1 and s2. [as is_pair]
+ *  prepare_public_key  writes a prepared key, of MLDSA*_PREPARED_PUBLIC_KEY_LEN or MLDSA*_PREPARED_PRIVATE_KEY_LEN bytes: the
+ *  prepare_private_key bytes of the key, and behind them what each call would compute of them anew. [MLDSA_SAMPLING_LIMIT;
+ *                      prepare_private_key: MLDSA_KEY_RANGE too]
+ *  verify_prepared, hash_verify_prepared, verify_mu_prepared, sign_prepared, hash_sign_prepared, sign_mu_prepared
+ *                      answer with a prepared key what the calls without _prepared answer with the key that it was made of, and
+ *                      take less time. Any bytes are safe in a prepared key: such as no call could have written are answered by
+ *                      MLDSA_NOT_PREPARED, others by some verdict or signature. But nothing checks that its parts belong
+ *                      together. Keep a prepared public key where nobody can change it, since a changed one may accept what
+ *                      nobody signed; and a prepared private key as secret as the private key, and where nobody can change it,
+ *                      since what a changed one signs may tell the key. [as the calls without _prepared, but
+ *                      MLDSA_NOT_PREPARED, of verifying too, and not MLDSA_KEY_RANGE]
  */
 #ifndef MLDSA_H
 #define MLDSA_H
@@ -106,7 +117,8 @@ enum mldsa_status {
     MLDSA_TOO_MANY_ATTEMPTS = 13,     /* signing: all 814 attempts were rejected, as with a key that is not whole */
     MLDSA_KEY_RANGE = 14,             /* the bytes are no private key */
     MLDSA_SAMPLING_LIMIT = 15,        /* rejection sampling reached its limit; no such input is known */
-    MLDSA_BROKEN_STATE = 16           /* mldsa_mu_update, mldsa_mu_finish: no call has written this state */
+    MLDSA_BROKEN_STATE = 16,          /* mldsa_mu_update, mldsa_mu_finish: no call has written this state */
+    MLDSA_NOT_PREPARED = 17           /* no call has written this prepared key */
 };
 
 #define MLDSA_SEED_LEN 32
@@ -138,6 +150,8 @@ enum mldsa_status {
 #define MLDSA44_PUBLIC_KEY_LEN 1312
 #define MLDSA44_PRIVATE_KEY_LEN 2560
 #define MLDSA44_SIGNATURE_LEN 2420
+#define MLDSA44_PREPARED_PUBLIC_KEY_LEN 17760
+#define MLDSA44_PREPARED_PRIVATE_KEY_LEN 18944
 
 #define MLDSA44_STACK_KEYGEN 120832
 #define MLDSA44_STACK_SIGN 181248
@@ -146,6 +160,10 @@ enum mldsa_status {
 #define MLDSA44_STACK_CHECK 95232
 #define MLDSA44_STACK_WHOLE 117760
 #define MLDSA44_STACK_PAIR 121856
+#define MLDSA44_STACK_PREPARE_PUBLIC_KEY 132096
+#define MLDSA44_STACK_VERIFY_PREPARED 141312
+#define MLDSA44_STACK_PREPARE_PRIVATE_KEY 242688
+#define MLDSA44_STACK_SIGN_PREPARED 325632
 
 MLDSA_ANSWERS
 uint32_t mldsa44_keygen(const uint8_t *seed, size_t seed_len, uint8_t *public_key, size_t public_key_len,
@@ -187,12 +205,44 @@ uint32_t mldsa44_mu_begin(const uint8_t *public_key, size_t public_key_len, cons
 MLDSA_ANSWERS
 uint32_t mldsa44_mu_begin_private(const uint8_t *private_key, size_t private_key_len,
                                   const uint8_t *context, size_t context_len, uint8_t *state, size_t state_len);
+MLDSA_ANSWERS
+uint32_t mldsa44_prepare_public_key(const uint8_t *public_key, size_t public_key_len,
+                                    uint8_t *prepared_public_key, size_t prepared_public_key_len);
+MLDSA_ANSWERS
+uint32_t mldsa44_prepare_private_key(const uint8_t *private_key, size_t private_key_len,
+                                     uint8_t *prepared_private_key, size_t prepared_private_key_len);
+MLDSA_ANSWERS
+uint32_t mldsa44_sign_prepared(const uint8_t *prepared_private_key, size_t prepared_private_key_len,
+                               const uint8_t *message, size_t message_len, const uint8_t *context, size_t context_len,
+                               const uint8_t *random, size_t random_len, uint8_t *signature, size_t signature_len);
+MLDSA_ANSWERS
+uint32_t mldsa44_verify_prepared(const uint8_t *prepared_public_key, size_t prepared_public_key_len,
+                                 const uint8_t *message, size_t message_len, const uint8_t *context, size_t context_len,
+                                 const uint8_t *signature, size_t signature_len);
+MLDSA_ANSWERS
+uint32_t mldsa44_hash_sign_prepared(const uint8_t *prepared_private_key, size_t prepared_private_key_len,
+                                    const uint8_t *digest, size_t digest_len, const uint8_t *context, size_t context_len,
+                                    const uint8_t *oid, size_t oid_len, const uint8_t *random, size_t random_len,
+                                    uint8_t *signature, size_t signature_len);
+MLDSA_ANSWERS
+uint32_t mldsa44_hash_verify_prepared(const uint8_t *prepared_public_key, size_t prepared_public_key_len,
+                                      const uint8_t *digest, size_t digest_len, const uint8_t *context, size_t context_len,
+                                      const uint8_t *oid, size_t oid_len, const uint8_t *signature, size_t signature_len);
+MLDSA_ANSWERS
+uint32_t mldsa44_sign_mu_prepared(const uint8_t *prepared_private_key, size_t prepared_private_key_len,
+                                  const uint8_t *mu, size_t mu_len, const uint8_t *random, size_t random_len,
+                                  uint8_t *signature, size_t signature_len);
+MLDSA_ANSWERS
+uint32_t mldsa44_verify_mu_prepared(const uint8_t *prepared_public_key, size_t prepared_public_key_len,
+                                    const uint8_t *mu, size_t mu_len, const uint8_t *signature, size_t signature_len);
 
 /* ML-DSA-65. */
 
 #define MLDSA65_PUBLIC_KEY_LEN 1952
 #define MLDSA65_PRIVATE_KEY_LEN 4032
 #define MLDSA65_SIGNATURE_LEN 3309
+#define MLDSA65_PREPARED_PUBLIC_KEY_LEN 32736
+#define MLDSA65_PREPARED_PRIVATE_KEY_LEN 34752
 
 #define MLDSA65_STACK_KEYGEN 164864
 #define MLDSA65_STACK_SIGN 238592
@@ -201,6 +251,10 @@ uint32_t mldsa44_mu_begin_private(const uint8_t *private_key, size_t private_key
 #define MLDSA65_STACK_CHECK 128000
 #define MLDSA65_STACK_WHOLE 161792
 #define MLDSA65_STACK_PAIR 166912
+#define MLDSA65_STACK_PREPARE_PUBLIC_KEY 199680
+#define MLDSA65_STACK_VERIFY_PREPARED 211968
+#define MLDSA65_STACK_PREPARE_PRIVATE_KEY 330752
+#define MLDSA65_STACK_SIGN_PREPARED 440320
 
 MLDSA_ANSWERS
 uint32_t mldsa65_keygen(const uint8_t *seed, size_t seed_len, uint8_t *public_key, size_t public_key_len,
@@ -242,12 +296,44 @@ uint32_t mldsa65_mu_begin(const uint8_t *public_key, size_t public_key_len, cons
 MLDSA_ANSWERS
 uint32_t mldsa65_mu_begin_private(const uint8_t *private_key, size_t private_key_len,
                                   const uint8_t *context, size_t context_len, uint8_t *state, size_t state_len);
+MLDSA_ANSWERS
+uint32_t mldsa65_prepare_public_key(const uint8_t *public_key, size_t public_key_len,
+                                    uint8_t *prepared_public_key, size_t prepared_public_key_len);
+MLDSA_ANSWERS
+uint32_t mldsa65_prepare_private_key(const uint8_t *private_key, size_t private_key_len,
+                                     uint8_t *prepared_private_key, size_t prepared_private_key_len);
+MLDSA_ANSWERS
+uint32_t mldsa65_sign_prepared(const uint8_t *prepared_private_key, size_t prepared_private_key_len,
+                               const uint8_t *message, size_t message_len, const uint8_t *context, size_t context_len,
+                               const uint8_t *random, size_t random_len, uint8_t *signature, size_t signature_len);
+MLDSA_ANSWERS
+uint32_t mldsa65_verify_prepared(const uint8_t *prepared_public_key, size_t prepared_public_key_len,
+                                 const uint8_t *message, size_t message_len, const uint8_t *context, size_t context_len,
+                                 const uint8_t *signature, size_t signature_len);
+MLDSA_ANSWERS
+uint32_t mldsa65_hash_sign_prepared(const uint8_t *prepared_private_key, size_t prepared_private_key_len,
+                                    const uint8_t *digest, size_t digest_len, const uint8_t *context, size_t context_len,
+                                    const uint8_t *oid, size_t oid_len, const uint8_t *random, size_t random_len,
+                                    uint8_t *signature, size_t signature_len);
+MLDSA_ANSWERS
+uint32_t mldsa65_hash_verify_prepared(const uint8_t *prepared_public_key, size_t prepared_public_key_len,
+                                      const uint8_t *digest, size_t digest_len, const uint8_t *context, size_t context_len,
+                                      const uint8_t *oid, size_t oid_len, const uint8_t *signature, size_t signature_len);
+MLDSA_ANSWERS
+uint32_t mldsa65_sign_mu_prepared(const uint8_t *prepared_private_key, size_t prepared_private_key_len,
+                                  const uint8_t *mu, size_t mu_len, const uint8_t *random, size_t random_len,
+                                  uint8_t *signature, size_t signature_len);
+MLDSA_ANSWERS
+uint32_t mldsa65_verify_mu_prepared(const uint8_t *prepared_public_key, size_t prepared_public_key_len,
+                                    const uint8_t *mu, size_t mu_len, const uint8_t *signature, size_t signature_len);
 
 /* ML-DSA-87. */
 
 #define MLDSA87_PUBLIC_KEY_LEN 2592
 #define MLDSA87_PRIVATE_KEY_LEN 4896
 #define MLDSA87_SIGNATURE_LEN 4627
+#define MLDSA87_PREPARED_PUBLIC_KEY_LEN 60000
+#define MLDSA87_PREPARED_PRIVATE_KEY_LEN 62240
 
 #define MLDSA87_STACK_KEYGEN 216064
 #define MLDSA87_STACK_SIGN 320512
@@ -256,6 +342,10 @@ uint32_t mldsa65_mu_begin_private(const uint8_t *private_key, size_t private_key
 #define MLDSA87_STACK_CHECK 178176
 #define MLDSA87_STACK_WHOLE 223232
 #define MLDSA87_STACK_PAIR 232448
+#define MLDSA87_STACK_PREPARE_PUBLIC_KEY 311296
+#define MLDSA87_STACK_VERIFY_PREPARED 325632
+#define MLDSA87_STACK_PREPARE_PRIVATE_KEY 461824
+#define MLDSA87_STACK_SIGN_PREPARED 622592
 
 MLDSA_ANSWERS
 uint32_t mldsa87_keygen(const uint8_t *seed, size_t seed_len, uint8_t *public_key, size_t public_key_len,
@@ -297,6 +387,36 @@ uint32_t mldsa87_mu_begin(const uint8_t *public_key, size_t public_key_len, cons
 MLDSA_ANSWERS
 uint32_t mldsa87_mu_begin_private(const uint8_t *private_key, size_t private_key_len,
                                   const uint8_t *context, size_t context_len, uint8_t *state, size_t state_len);
+MLDSA_ANSWERS
+uint32_t mldsa87_prepare_public_key(const uint8_t *public_key, size_t public_key_len,
+                                    uint8_t *prepared_public_key, size_t prepared_public_key_len);
+MLDSA_ANSWERS
+uint32_t mldsa87_prepare_private_key(const uint8_t *private_key, size_t private_key_len,
+                                     uint8_t *prepared_private_key, size_t prepared_private_key_len);
+MLDSA_ANSWERS
+uint32_t mldsa87_sign_prepared(const uint8_t *prepared_private_key, size_t prepared_private_key_len,
+                               const uint8_t *message, size_t message_len, const uint8_t *context, size_t context_len,
+                               const uint8_t *random, size_t random_len, uint8_t *signature, size_t signature_len);
+MLDSA_ANSWERS
+uint32_t mldsa87_verify_prepared(const uint8_t *prepared_public_key, size_t prepared_public_key_len,
+                                 const uint8_t *message, size_t message_len, const uint8_t *context, size_t context_len,
+                                 const uint8_t *signature, size_t signature_len);
+MLDSA_ANSWERS
+uint32_t mldsa87_hash_sign_prepared(const uint8_t *prepared_private_key, size_t prepared_private_key_len,
+                                    const uint8_t *digest, size_t digest_len, const uint8_t *context, size_t context_len,
+                                    const uint8_t *oid, size_t oid_len, const uint8_t *random, size_t random_len,
+                                    uint8_t *signature, size_t signature_len);
+MLDSA_ANSWERS
+uint32_t mldsa87_hash_verify_prepared(const uint8_t *prepared_public_key, size_t prepared_public_key_len,
+                                      const uint8_t *digest, size_t digest_len, const uint8_t *context, size_t context_len,
+                                      const uint8_t *oid, size_t oid_len, const uint8_t *signature, size_t signature_len);
+MLDSA_ANSWERS
+uint32_t mldsa87_sign_mu_prepared(const uint8_t *prepared_private_key, size_t prepared_private_key_len,
+                                  const uint8_t *mu, size_t mu_len, const uint8_t *random, size_t random_len,
+                                  uint8_t *signature, size_t signature_len);
+MLDSA_ANSWERS
+uint32_t mldsa87_verify_mu_prepared(const uint8_t *prepared_public_key, size_t prepared_public_key_len,
+                                    const uint8_t *mu, size_t mu_len, const uint8_t *signature, size_t signature_len);
 
 /* The same for every set.
  *
@@ -336,6 +456,7 @@ static inline const char *mldsa_text(uint32_t status)
     case MLDSA_KEY_RANGE: return "Alg 25: s1 or s2 out of range";
     case MLDSA_SAMPLING_LIMIT: return "sampling limit reached";
     case MLDSA_BROKEN_STATE: return "the state of a message in pieces is broken";
+    case MLDSA_NOT_PREPARED: return "no call has written this prepared key";
     default: return "no answer of this library";
     }
 }

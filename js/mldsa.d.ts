@@ -1,7 +1,7 @@
 /** A call that the library refused. `message` has the text of the status, as `mldsa_text` of c/mldsa.h gives it. */
 export class MlDsaError extends Error {
     readonly name: "MlDsaError";
-    /** 2, or 4 to 16: MLDSA_WRONG_LENGTH and so on in c/mldsa.h. */
+    /** 2, or 4 to 17: MLDSA_WRONG_LENGTH and so on in c/mldsa.h. */
     readonly status: number;
 }
 

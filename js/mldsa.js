@@ -28,6 +28,7 @@ const TEXTS = {
     14: "Alg 25: s1 or s2 out of range",
     15: "sampling limit reached",
     16: "the state of a message in pieces is broken",
+    17: "no call has written this prepared key",
 };
 
 const NO_MEMORY64 =

@@ -82,11 +82,12 @@ def cases(found, header=HEADER):
             sys.exit(f"mldsa.h: {it.name} takes something else than arrays and their lengths: write how c/tests/levels.c calls it")
         names += [name for name, _ in it.arrays() if name not in names]
     sizes = {name: lengths(name, text) for name in names}
-    room = max(512, *(length + 1 for it in sizes.values() for length in it))
-    lines = [f"enum {{ ARRAYS = {len(names)}, EXPORTS = {len(found)}, ROOM = {room} }};\n"]
+    rooms = {name: max(512, *(length + 1 for length in it)) for name, it in sizes.items()}
+    lines = [f"enum {{ ARRAYS = {len(names)}, EXPORTS = {len(found)} }};\n"]
     lines += [f"#define ARRAY_{name} {place}\n" for place, name in enumerate(names)]
-    lines += ["static const struct { const char *name; size_t lengths[3]; } KINDS[ARRAYS] = {\n"]
-    lines += [f'    {{"{name}", {{{", ".join(map(str, sizes[name]))}}}}},\n' for name in names] + ["};\n"]
+    lines += [f"enum {{ ROOM = {max(rooms.values())} }};\n"]
+    lines += ["static const struct { const char *name; size_t lengths[3], room; } KINDS[ARRAYS] = {\n"]
+    lines += [f'    {{"{name}", {{{", ".join(map(str, sizes[name]))}}}, {rooms[name]}}},\n' for name in names] + ["};\n"]
     for it in found:
         given = ", ".join(f"a[ARRAY_{name}].at, a[ARRAY_{name}].len" for name, _ in it.arrays())
         lines.append(f"static uint32_t call_{it.name}(struct array *a) {{ (void)a; return {it.name}({given}); }}\n")

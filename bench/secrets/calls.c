@@ -13,7 +13,7 @@ enum { ROUNDS = 4, MESSAGE = 300, RHO = 32, TR = 64, TR_LEN = 64 };
 #define PUBLIC(array, length) VALGRIND_MAKE_MEM_DEFINED(array, length)
 
 static uint8_t seed[32], random_bytes[32], public_key[LONGEST_KEY], private_key[LONGEST_KEY], signature[LONGEST_SIGNATURE];
-static uint8_t message[MESSAGE], digest[32], mu[64];
+static uint8_t message[MESSAGE], digest[32], mu[64], prepared[LONGEST_PREPARED_KEY];
 
 /* Answers are public. */
 static void done(const char *call, uint32_t status)
@@ -59,6 +59,15 @@ int main(int count, char **words)
         done("sign_mu", s->sign_mu(private_key, sk, mu, 64, random_bytes, 32, signature, sig));
         PUBLIC(signature, sig);
         done("verify_mu", s->verify_mu(public_key, pk, mu, 64, signature, sig));
+        done("prepare_private_key", s->prepare_private_key(private_key, sk, prepared, s->prepared_private_key_len));
+        /* The matrix follows from rho. */
+        PUBLIC(prepared + sk, s->prepared_private_key_len - sk);
+        done("sign_prepared", s->sign_prepared(prepared, s->prepared_private_key_len, message, MESSAGE, digest, 9, random_bytes, 32, signature, sig));
+        PUBLIC(signature, sig);
+        done("hash_sign_prepared", s->hash_sign_prepared(prepared, s->prepared_private_key_len, digest, 32, message, 9, SHA256_OID, 11, random_bytes, 32, signature, sig));
+        PUBLIC(signature, sig);
+        done("sign_mu_prepared", s->sign_mu_prepared(prepared, s->prepared_private_key_len, mu, 64, random_bytes, 32, signature, sig));
+        PUBLIC(signature, sig);
     }
     return 0;
 }

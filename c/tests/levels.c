@@ -16,7 +16,7 @@ static struct array first[ARRAYS], second[ARRAYS], first_changed[ARRAYS], second
 static void make_room(struct array *pool)
 {
     for (int i = 0; i < ARRAYS; i++)
-        if (!(pool[i].at = calloc(1, ROOM)))
+        if (!(pool[i].at = calloc(1, KINDS[i].room)))
             exit(2);
 }
 
@@ -24,7 +24,7 @@ static void copy(struct array *to, const struct array *from)
 {
     for (int i = 0; i < ARRAYS; i++) {
         to[i].len = from[i].len;
-        memcpy(to[i].at, from[i].at, ROOM);
+        memcpy(to[i].at, from[i].at, KINDS[i].room);
     }
 }
 
@@ -33,7 +33,7 @@ static void fill(struct array *pool, int which)
 {
     for (int i = 0; i < ARRAYS; i++) {
         pool[i].len = length_of(i, which);
-        for (size_t k = 0; k < ROOM; k++)
+        for (size_t k = 0; k < KINDS[i].room; k++)
             pool[i].at[k] = (uint8_t)draw();
     }
     fit_oid(pool);
@@ -68,7 +68,7 @@ static uint32_t call_at(int level, const struct export *call, struct array *one,
         failures++;
     }
     for (int i = 0; i < ARRAYS; i++)
-        if (memcmp(one[i].at, other[i].at, ROOM)) {
+        if (memcmp(one[i].at, other[i].at, KINDS[i].room)) {
             printf("%s%s: %s differs\n", call->name, how, KINDS[i].name);
             failures++;
         }

@@ -9,6 +9,7 @@
 #include <string.h>
 
 enum { LONGEST_KEY = MLDSA87_PRIVATE_KEY_LEN, LONGEST_SIGNATURE = MLDSA87_SIGNATURE_LEN };
+enum { LONGEST_PREPARED_KEY = MLDSA87_PREPARED_PRIVATE_KEY_LEN };
 
 typedef const uint8_t *in;
 struct set {
@@ -28,6 +29,16 @@ struct set {
     uint32_t (*is_pair)(in, size_t);
     uint32_t (*mu_begin)(in, size_t, in, size_t, uint8_t *, size_t);
     uint32_t (*mu_begin_private)(in, size_t, in, size_t, uint8_t *, size_t);
+    size_t prepared_public_key_len, prepared_private_key_len;
+    size_t stack_prepare_public_key, stack_verify_prepared, stack_prepare_private_key, stack_sign_prepared;
+    uint32_t (*prepare_public_key)(in, size_t, uint8_t *, size_t);
+    uint32_t (*verify_prepared)(in, size_t, in, size_t, in, size_t, in, size_t);
+    uint32_t (*hash_verify_prepared)(in, size_t, in, size_t, in, size_t, in, size_t, in, size_t);
+    uint32_t (*verify_mu_prepared)(in, size_t, in, size_t, in, size_t);
+    uint32_t (*prepare_private_key)(in, size_t, uint8_t *, size_t);
+    uint32_t (*sign_prepared)(in, size_t, in, size_t, in, size_t, in, size_t, uint8_t *, size_t);
+    uint32_t (*hash_sign_prepared)(in, size_t, in, size_t, in, size_t, in, size_t, in, size_t, uint8_t *, size_t);
+    uint32_t (*sign_mu_prepared)(in, size_t, in, size_t, in, size_t, uint8_t *, size_t);
 };
 
 #define SET(N)                                                                                                 \
@@ -38,7 +49,12 @@ struct set {
             MLDSA##N##_STACK_PAIR, mldsa##N##_keygen, mldsa##N##_sign, mldsa##N##_verify,                      \
             mldsa##N##_hash_sign, mldsa##N##_hash_verify, mldsa##N##_sign_mu, mldsa##N##_verify_mu,            \
             mldsa##N##_public_key, mldsa##N##_check_private_key, mldsa##N##_is_whole, mldsa##N##_is_pair,      \
-            mldsa##N##_mu_begin, mldsa##N##_mu_begin_private                                                   \
+            mldsa##N##_mu_begin, mldsa##N##_mu_begin_private, MLDSA##N##_PREPARED_PUBLIC_KEY_LEN,              \
+            MLDSA##N##_PREPARED_PRIVATE_KEY_LEN, MLDSA##N##_STACK_PREPARE_PUBLIC_KEY,                          \
+            MLDSA##N##_STACK_VERIFY_PREPARED, MLDSA##N##_STACK_PREPARE_PRIVATE_KEY,                            \
+            MLDSA##N##_STACK_SIGN_PREPARED, mldsa##N##_prepare_public_key, mldsa##N##_verify_prepared,         \
+            mldsa##N##_hash_verify_prepared, mldsa##N##_verify_mu_prepared, mldsa##N##_prepare_private_key,    \
+            mldsa##N##_sign_prepared, mldsa##N##_hash_sign_prepared, mldsa##N##_sign_mu_prepared               \
     }
 static const struct set SETS[3] = {SET(44), SET(65), SET(87)};
 

@@ -12,6 +12,7 @@ static uint8_t *room;
 static void (*chosen)(void);
 static const struct set *s;
 static uint8_t public_key[LONGEST_KEY], private_key[LONGEST_KEY], signature[LONGEST_SIGNATURE], seed[64];
+static uint8_t checks[LONGEST_PREPARED_KEY], signs[LONGEST_PREPARED_KEY];
 static uint32_t answer;
 
 static void keygen(void) { answer = s->keygen(seed, 32, public_key, s->public_key_len, private_key, s->private_key_len); }
@@ -37,6 +38,38 @@ static void pieces(void)
     answer = s->mu_begin(public_key, s->public_key_len, seed, 9, state, sizeof state)
         + s->mu_begin_private(private_key, s->private_key_len, seed, 9, state, sizeof state)
         + mldsa_mu_update(seed, 64, state, sizeof state) + mldsa_mu_finish(state, sizeof state, seed, 64);
+}
+static void prepare_public(void)
+{
+    answer = s->prepare_public_key(public_key, s->public_key_len, checks, s->prepared_public_key_len);
+}
+static void prepare_private(void)
+{
+    answer = s->prepare_private_key(private_key, s->private_key_len, signs, s->prepared_private_key_len);
+}
+static void sign_prepared(void)
+{
+    answer = s->sign_prepared(signs, s->prepared_private_key_len, seed, 32, seed, 9, seed, 32, signature, s->signature_len);
+}
+static void verify_prepared(void)
+{
+    answer = s->verify_prepared(checks, s->prepared_public_key_len, seed, 32, seed, 9, signature, s->signature_len);
+}
+static void hash_sign_prepared(void)
+{
+    answer = s->hash_sign_prepared(signs, s->prepared_private_key_len, seed, 32, seed, 9, SHA256_OID, 11, seed, 32, signature, s->signature_len);
+}
+static void hash_verify_prepared(void)
+{
+    answer = s->hash_verify_prepared(checks, s->prepared_public_key_len, seed, 32, seed, 9, SHA256_OID, 11, signature, s->signature_len);
+}
+static void sign_mu_prepared(void)
+{
+    answer = s->sign_mu_prepared(signs, s->prepared_private_key_len, seed, 64, seed, 32, signature, s->signature_len);
+}
+static void verify_mu_prepared(void)
+{
+    answer = s->verify_mu_prepared(checks, s->prepared_public_key_len, seed, 64, signature, s->signature_len);
 }
 static void nothing(void) { answer = 0; }
 
@@ -70,9 +103,13 @@ static size_t used(void (*run)(void), size_t size, int tight)
 
 int main(int count, char **words)
 {
-    static const struct { const char *name; void (*run)(void); } CALLS[12] = {
+    static const struct { const char *name; void (*run)(void); } CALLS[] = {
         {"KEYGEN", keygen}, {"SIGN", sign}, {"SIGN", hash_sign}, {"SIGN", sign_mu}, {"VERIFY", verify_mu},
-        {"VERIFY", hash_verify}, {"VERIFY", verify}, {"PUBLIC_KEY", derive}, {"CHECK", check}, {"WHOLE", whole}, {"PAIR", pair}, {"MU", pieces}};
+        {"VERIFY", hash_verify}, {"VERIFY", verify}, {"PUBLIC_KEY", derive}, {"CHECK", check}, {"WHOLE", whole}, {"PAIR", pair},
+        {"PREPARE_PUBLIC_KEY", prepare_public}, {"PREPARE_PRIVATE_KEY", prepare_private}, {"SIGN_PREPARED", sign_prepared},
+        {"VERIFY_PREPARED", verify_prepared}, {"SIGN_PREPARED", hash_sign_prepared}, {"VERIFY_PREPARED", hash_verify_prepared},
+        {"SIGN_PREPARED", sign_mu_prepared}, {"VERIFY_PREPARED", verify_mu_prepared}, {"MU", pieces}};
+    enum { COUNT = sizeof CALLS / sizeof *CALLS };
     int measure = count > 1 && strcmp(words[1], "measure") == 0;
     struct sigaction action;
     size_t own;
@@ -84,10 +121,12 @@ int main(int count, char **words)
     room = mmap(NULL, ROOM, PROT_READ | PROT_WRITE, MAP_PRIVATE | MAP_ANONYMOUS, -1, 0);
     own = used(nothing, ROOM, 0);
     for (s = SETS; s < SETS + 3; s++)
-        for (int i = 0; i < 12; i++) {
-            const size_t stated[12] = {s->stack_keygen, s->stack_sign, s->stack_sign, s->stack_sign, s->stack_verify,
+        for (int i = 0; i < COUNT; i++) {
+            const size_t stated[COUNT] = {s->stack_keygen, s->stack_sign, s->stack_sign, s->stack_sign, s->stack_verify,
                                        s->stack_verify, s->stack_verify, s->stack_public_key, s->stack_check, s->stack_whole,
-                                       s->stack_pair, MLDSA_STACK_MU};
+                                       s->stack_pair, s->stack_prepare_public_key, s->stack_prepare_private_key, s->stack_sign_prepared,
+                                       s->stack_verify_prepared, s->stack_sign_prepared, s->stack_verify_prepared, s->stack_sign_prepared,
+                                       s->stack_verify_prepared, MLDSA_STACK_MU};
             size_t took;
             /* What is verified was signed by the call of its name. */
             if (CALLS[i].run == verify)

@@ -3,6 +3,7 @@ mod ParameterSets
 mod Ranges
 mod KeyGeneration
 mod WholeKeys
+mod MatrixBytes
 mod SeedKeys
 mod RejectionChecks
 mod ChallengeProducts
@@ -13,6 +14,7 @@ mod Attempts
 mod Verification
 mod PreHash
 mod RefusedCalls
+mod PreparedBytes
 mod RefusalLaws
 mod Framing
 mod Binding

@@ -24,14 +24,14 @@ input_accepted_prepared p H sk input mu answer e accepted =
 -- ---- a prepared key answers as its plain key
 
 -- what was prepared is the key with the matrix of its seed
-private_parts : (matrix : Option (List (List T))) (sk : PrivateParts) (prepared : PreparedPrivate) → ok_or (option_map (λ a. record { parts = sk; matrix = a }) matrix) SamplingLimit ≡ Ok prepared
+pub private_parts : (matrix : Option (List (List T))) (sk : PrivateParts) (prepared : PreparedPrivate) → ok_or (option_map (λ a. record { parts = sk; matrix = a }) matrix) SamplingLimit ≡ Ok prepared
     → (sk ≡ prepared.parts) × (matrix ≡ Some prepared.matrix)
 private_parts None sk prepared e = absurd cc
 private_parts (Some a) sk prepared e =
     let same : Path PreparedPrivate record { parts = sk; matrix = a } prepared = cc in
     (ap (λ (k : PreparedPrivate). k.parts) same, ap (λ (k : PreparedPrivate). Some k.matrix) same)
 
-public_parts : (matrix : Option (List (List T))) (pk : PublicParts) (prepared : PreparedPublic) → ok_or (option_map (λ a. record { parts = pk; matrix = a }) matrix) SamplingLimit ≡ Ok prepared
+pub public_parts : (matrix : Option (List (List T))) (pk : PublicParts) (prepared : PreparedPublic) → ok_or (option_map (λ a. record { parts = pk; matrix = a }) matrix) SamplingLimit ≡ Ok prepared
     → (pk ≡ prepared.parts) × (matrix ≡ Some prepared.matrix)
 public_parts None pk prepared e = absurd cc
 public_parts (Some a) pk prepared e =

@@ -10,6 +10,7 @@ pub mod Inputs
 pub mod Constants
 pub mod Refusals
 pub mod Prepared
+pub mod PreparedBytes
 pub mod SchemeLaws
 pub mod Completeness
 pub mod LongerFronts

@@ -14,6 +14,7 @@ ghost use Rattle.fips204.specs.Signing.{sign};
 ghost use Rattle.fips204_base.specs.Encodings.{ArePrivateParts, IsPublicKeyOf, public_key_bytes, private_key_bytes};
 
 mod prepared;
+mod prepared_bytes;
 
 use crate::input::Input;
 use crate::ml_dsa;

@@ -10,6 +10,8 @@ ghost use Rattle.fips204.specs.Constants.{ConstantsStand, LengthsStand};
 ghost use Rattle.fips204.specs.LongerFronts.{CounterFrontsArePrefixes, LongerFrontsKeep};
 ghost use Rattle.fips204.specs.SchemeLaws.{FramingIsOneToOne, SignatureFixesOne, SignatureBindsInput, SignatureBindsHash, SignatureBindsKey, OtherHintCollides, HintGivesHighBits, HintStaysNear, HighBitsStay, ChallengeProductIsSmall, PackingIsUndone, SignatureHasOneSpelling, HintHasOneSpelling, RefusesOnly};
 ghost use Rattle.fips204.specs.Prepared.{PreparedAnswersAsPlain};
+ghost use Rattle.fips204.specs.PreparedBytes.{PreparedThroughBytes};
+ghost use Rattle.fips204_base.specs.Streams.{XOF};
 ghost use Rattle.fips204.specs.ParameterSets.{ParameterSet, IsSet, set_44, set_65, set_87};
 ghost use Rattle.fips204.specs.Sets.{set_of};
 ghost use Rattle.std.specs.Prelude.{◌≡◌, ◌≤◌, ℕ, List, length};
@@ -137,6 +139,12 @@ pub fn key_bytes()
 /// is derived from the plain key, preparing it gives the public key that belongs to the prepared one.
 pub fn prepared_keys()
     ensures { (p : ParameterSet) (H G : List ℕ → List ℕ) → PreparedAnswersAsPlain p H G }
+{}
+
+/// The bytes of a key that was prepared have the length of the set's prepared keys, and they tell it: what is read from them
+/// is that key and nothing else.
+pub fn prepared_bytes()
+    ensures { (p : ParameterSet) (G : XOF) → IsSet p → PreparedThroughBytes p G }
 {}
 
 /// Which errors the calls have. Making a key pair, deriving a public key and preparing a key return no error but

@@ -19,6 +19,13 @@ pub const SK_LEN: usize = 2560;
 /// The number of bytes of a public key (FIPS 204, Table 2).
 pub const PK_LEN: usize = 1312;
 
+/// The number of bytes of a prepared private key: those of the private key, and 1024 for each entry of the matrix.
+pub const PREPARED_SK_LEN: usize = 18_944;
+
+/// The number of bytes of a prepared public key: those of the public key, 64 of its hash, and 1024 for each entry of the
+/// matrix.
+pub const PREPARED_PK_LEN: usize = 17_760;
+
 /// The number of bytes of a signature (FIPS 204, Table 2).
 pub const SIG_LEN: usize = 2420;
 

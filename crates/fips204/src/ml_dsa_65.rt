@@ -19,6 +19,13 @@ pub const SK_LEN: usize = 4032;
 /// The number of bytes of a public key (FIPS 204, Table 2).
 pub const PK_LEN: usize = 1952;
 
+/// The number of bytes of a prepared private key: those of the private key, and 1024 for each entry of the matrix.
+pub const PREPARED_SK_LEN: usize = 34_752;
+
+/// The number of bytes of a prepared public key: those of the public key, 64 of its hash, and 1024 for each entry of the
+/// matrix.
+pub const PREPARED_PK_LEN: usize = 32_736;
+
 /// The number of bytes of a signature (FIPS 204, Table 2).
 pub const SIG_LEN: usize = 3309;
 

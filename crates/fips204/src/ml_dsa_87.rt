@@ -19,6 +19,13 @@ pub const SK_LEN: usize = 4896;
 /// The number of bytes of a public key (FIPS 204, Table 2).
 pub const PK_LEN: usize = 2592;
 
+/// The number of bytes of a prepared private key: those of the private key, and 1024 for each entry of the matrix.
+pub const PREPARED_SK_LEN: usize = 62_240;
+
+/// The number of bytes of a prepared public key: those of the public key, 64 of its hash, and 1024 for each entry of the
+/// matrix.
+pub const PREPARED_PK_LEN: usize = 60_000;
+
 /// The number of bytes of a signature (FIPS 204, Table 2).
 pub const SIG_LEN: usize = 4627;
 

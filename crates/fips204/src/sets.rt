@@ -4,6 +4,7 @@
 
 ghost use Rattle.std.specs.Prelude.{◌≡◌, ◌≤◌, ◌*◌};
 ghost use Rattle.fips204.specs.ParameterSets.{ParameterSet, IsSet, public_key_length, private_key_length, signature_length};
+ghost use Rattle.fips204.specs.PreparedBytes.{prepared_public_length, prepared_private_length};
 ghost use Rattle.fips204.specs.Sets.{HasKeySizes, HasSizes, set_of, named_set};
 
 use crate::types::Params;
@@ -41,6 +42,29 @@ impl SetName {
             SetName::MlDsa44 => ml_dsa_44::SK_LEN,
             SetName::MlDsa65 => ml_dsa_65::SK_LEN,
             SetName::MlDsa87 => ml_dsa_87::SK_LEN,
+        }
+    }
+
+    /// The number of bytes of a prepared public key.
+    pub fn prepared_public_key_len(self) -> usize
+        ensures { result ≡ prepared_public_length (named_set self) }
+    {
+        match self {
+            SetName::MlDsa44 => ml_dsa_44::PREPARED_PK_LEN,
+            SetName::MlDsa65 => ml_dsa_65::PREPARED_PK_LEN,
+            SetName::MlDsa87 => ml_dsa_87::PREPARED_PK_LEN,
+        }
+    }
+
+    /// The number of bytes of a prepared private key.
+    #[tactic(auto, unfolding(fips204_base::specs::Packing::bit_length))]
+    pub fn prepared_private_key_len(self) -> usize
+        ensures { result ≡ prepared_private_length (named_set self) }
+    {
+        match self {
+            SetName::MlDsa44 => ml_dsa_44::PREPARED_SK_LEN,
+            SetName::MlDsa65 => ml_dsa_65::PREPARED_SK_LEN,
+            SetName::MlDsa87 => ml_dsa_87::PREPARED_SK_LEN,
         }
     }
 

@@ -176,7 +176,7 @@ pub whole_entry : (kept : List ℤ) (o : Option (List ℤ)) (t : T) → first_25
 whole_entry kept None t e m = absurd (none-some t m)
 whole_entry kept (Some values) t e m = let made : T = record { 0 = values } in let whole : Some made ≡ Some t = m in let same : made ≡ t = cc in e ∙ ap (λ (t : T). Some t.0) same
 
-matrix_entry-residues : (front : List ℕ) (t : T) → matrix_entry front ≡ Some t → (length t.0 ≡ 256) × All (λ x. (pos 0 ≤ℤ x) × (x ≤ℤ pos 8380416)) t.0
+pub matrix_entry-residues : (front : List ℕ) (t : T) → matrix_entry front ≡ Some t → (length t.0 ≡ 256) × All (λ x. (pos 0 ≤ℤ x) × (x ≤ℤ pos 8380416)) t.0
 unfolding matrix_entry kept_triples triple
 matrix_entry-residues front t e =
     let P = λ (x : ℤ). (pos 0 ≤ℤ x) × (x ≤ℤ pos 8380416) in

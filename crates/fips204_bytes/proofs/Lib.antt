@@ -1,2 +1,3 @@
 mod Pairs
 mod Mu
+mod PreparedKeys

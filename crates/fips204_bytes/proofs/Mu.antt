@@ -30,7 +30,7 @@ tr_within p key sk is =
 
 -- ---- a part of an answer, exchanged
 
-fitting : {P P' : Type 0} (Q : Type 0) (b : Bool) → (P → P') → MatchBool b P Q → MatchBool b P' Q
+pub fitting : {P P' : Type 0} (Q : Type 0) (b : Bool) → (P → P') → MatchBool b P Q → MatchBool b P' Q
 fitting Q true f p = f p
 fitting Q false f q = q
 

@@ -20,12 +20,12 @@ chosen true p never = p
 chosen false q never = absurd (never q)
 
 -- an answer whose refusals are refuted
-answered : {A E : Type 0} (r : Result A E) (P : A → Type 0) (Q : E → Type 0) → MatchResult r P Q → ((e : E) → ¬ (Q e)) → (a : A) × (r ≡ Ok a) × P a
+pub answered : {A E : Type 0} (r : Result A E) (P : A → Type 0) (Q : E → Type 0) → MatchResult r P Q → ((e : E) → ¬ (Q e)) → (a : A) × (r ≡ Ok a) × P a
 answered (Ok a) P Q p never = (a, refl, p)
 answered (Err e) P Q q never = absurd (never e q)
 
 -- success is no refusal
-not_done : {A : Type 0} (a : A) (why : Refusal) → ¬ (Path (Result A Refusal) (Ok a) (Err why))
+pub not_done : {A : Type 0} (a : A) (why : Refusal) → ¬ (Path (Result A Refusal) (Ok a) (Err why))
 not_done a why e = absurd cc
 
 truth : (b : Bool) → IsTrue b → b ≡ true

@@ -1,3 +1,4 @@
 pub mod Bytes
 pub mod Pairs
 pub mod Mu
+pub mod Prepared

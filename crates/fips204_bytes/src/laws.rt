@@ -1,12 +1,13 @@
 //! What follows for programs from the contracts of the calls. A law computes nothing.
 #![tactic(auto)]
 
-ghost use Rattle.fips204.specs.ParameterSets.{ParameterSet};
+ghost use Rattle.fips204.specs.ParameterSets.{ParameterSet, IsSet};
 ghost use Rattle.fips204_base.specs.Streams.{XOF};
 ghost use Rattle.fips204_bytes.specs.Mu.{MuStandsForInput};
 ghost use Rattle.fips204_bytes.specs.Pairs.{PairsBelong};
+ghost use Rattle.fips204_bytes.specs.Prepared.{PreparedStandsForPlain};
 
-use fips204::laws::signed_is_accepted;
+use fips204::laws::{prepared_bytes, prepared_keys, signed_is_accepted};
 
 /// The keys that one call of `keygen` wrote belong together: unless a length is wrong, `verify` says yes to what `sign`
 /// wrote, `check_private_key`, `is_whole` and `is_pair` say yes, and `public_key` writes the public key.
@@ -21,3 +22,12 @@ pub fn pair_accepts_written()
 pub fn mu_stands_for_input()
     ensures { (p : ParameterSet) (H G : XOF) → MuStandsForInput p H G }
 {}
+
+/// With the bytes that preparing a key has written, verifying and signing answer what they answer with the key itself, for every
+/// input, every signature and all random bytes.
+pub fn prepared_stands_for_plain()
+    ensures { (p : ParameterSet) (H G : XOF) → IsSet p → PreparedStandsForPlain p H G }
+{
+    prepared_bytes();
+    prepared_keys();
+}

@@ -7,9 +7,11 @@
 ghost use Rattle.fips204.specs.Inputs.{input_of};
 ghost use Rattle.fips204.specs.Sets.{named_set};
 ghost use Rattle.fips204_bytes.specs.Bytes.{Generates, Signs, Judges, Derives, Checks, ChecksWholeness, ChecksPair};
+ghost use Rattle.fips204_bytes.specs.Prepared.{PreparesPublic, JudgesPrepared, PreparesPrivate, SignsPrepared};
 
 mod at_set;
 pub mod laws;
+mod prepared;
 mod refusal;
 mod slices;
 
@@ -133,5 +135,85 @@ pub fn is_pair<H: Xof, G: Xof>(set: SetName, private_key: &[u8]) -> Result<bool,
         SetName::MlDsa44 => At44::<H, G>::is_pair(private_key),
         SetName::MlDsa65 => At65::<H, G>::is_pair(private_key),
         SetName::MlDsa87 => At87::<H, G>::is_pair(private_key),
+    }
+}
+
+/// Prepares a public key for many verifications, and writes the bytes of the prepared key: those of the key, of its hash
+/// `tr`, and of its matrix.
+///
+/// Errors: `Fault::SamplingLimit` if rejection sampling reaches its limit.
+#[inline(always)]
+pub fn prepare_public_key<H: Xof, G: Xof>(
+    set: SetName,
+    public_key: &[u8],
+    prepared: &mut [u8],
+) -> Result<(), Refusal>
+    ensures { PreparesPublic (named_set set) H.front G.front public_key.now prepared.old prepared.new result }
+{
+    match set {
+        SetName::MlDsa44 => At44::<H, G>::prepare_public_key(public_key, prepared),
+        SetName::MlDsa65 => At65::<H, G>::prepare_public_key(public_key, prepared),
+        SetName::MlDsa87 => At87::<H, G>::prepare_public_key(public_key, prepared),
+    }
+}
+
+/// Tells whether a prepared public key accepts the signature of an input. With the bytes that `prepare_public_key` has written
+/// of a key it tells what `verify` tells with that key.
+///
+/// Errors: `Refusal::NotPrepared` if no prepared key has these bytes. Whether the matrix is that of the key is not checked.
+#[inline(always)]
+pub fn verify_prepared<H: Xof, G: Xof>(
+    set: SetName,
+    prepared: &[u8],
+    input: &Input<'_>,
+    signature: &[u8],
+) -> Result<bool, Refusal>
+    ensures { JudgesPrepared (named_set set) H.front prepared.now (input_of input.now) signature.now result }
+{
+    match set {
+        SetName::MlDsa44 => At44::<H, G>::verify_prepared(prepared, input, signature),
+        SetName::MlDsa65 => At65::<H, G>::verify_prepared(prepared, input, signature),
+        SetName::MlDsa87 => At87::<H, G>::verify_prepared(prepared, input, signature),
+    }
+}
+
+/// Prepares a private key for many signatures, and writes the bytes of the prepared key: those of the key and of its matrix.
+///
+/// Errors: `Fault::KeyRange` if no private key has these bytes; then `Fault::SamplingLimit` if rejection sampling reaches its
+/// limit.
+#[inline(always)]
+pub fn prepare_private_key<H: Xof, G: Xof>(
+    set: SetName,
+    private_key: &[u8],
+    prepared: &mut [u8],
+) -> Result<(), Refusal>
+    ensures { PreparesPrivate (named_set set) G.front private_key.now prepared.old prepared.new result }
+{
+    match set {
+        SetName::MlDsa44 => At44::<H, G>::prepare_private_key(private_key, prepared),
+        SetName::MlDsa65 => At65::<H, G>::prepare_private_key(private_key, prepared),
+        SetName::MlDsa87 => At87::<H, G>::prepare_private_key(private_key, prepared),
+    }
+}
+
+/// Signs an input with a prepared private key from 32 random bytes, and writes the signature; zeros give the deterministic
+/// variant. With the bytes that `prepare_private_key` has written of a key it writes what `sign` writes with that key.
+///
+/// Errors: `Refusal::NotPrepared` if no prepared key has these bytes; then those of `PreparedPrivateKey::sign_input`. Whether
+/// the matrix is that of the key is not checked.
+#[inline(always)]
+pub fn sign_prepared<H: Xof, G: Xof>(
+    set: SetName,
+    prepared: &[u8],
+    random: &[u8; 32],
+    input: &Input<'_>,
+    signature: &mut [u8],
+) -> Result<(), Refusal>
+    ensures { SignsPrepared (named_set set) H.front prepared.now random.now (input_of input.now) signature.old signature.new result }
+{
+    match set {
+        SetName::MlDsa44 => At44::<H, G>::sign_prepared(prepared, random, input, signature),
+        SetName::MlDsa65 => At65::<H, G>::sign_prepared(prepared, random, input, signature),
+        SetName::MlDsa87 => At87::<H, G>::sign_prepared(prepared, random, input, signature),
     }
 }

@@ -15,6 +15,10 @@ pub enum Array {
     PrivateKey,
     /// That of a signature.
     Signature,
+    /// That of a prepared public key.
+    PreparedPublicKey,
+    /// That of a prepared private key.
+    PreparedPrivateKey,
 }
 
 /// Why a call does nothing.
@@ -24,6 +28,8 @@ pub enum Refusal {
     Length(Array),
     /// The library's error.
     Library(Fault),
+    /// No prepared key has these bytes: a value of the matrix is `q` or more, or a coefficient of s1 or s2 is out of range.
+    NotPrepared,
 }
 
 impl From<Fault> for Refusal {

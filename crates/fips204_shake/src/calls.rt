@@ -7,6 +7,7 @@
 ghost use Rattle.fips204.specs.Inputs.{input_of};
 ghost use Rattle.fips204.specs.Sets.{named_set};
 ghost use Rattle.fips204_bytes.specs.Bytes.{Generates, Signs, Judges, Derives, Checks, ChecksWholeness, ChecksPair};
+ghost use Rattle.fips204_bytes.specs.Prepared.{PreparesPublic, JudgesPrepared, PreparesPrivate, SignsPrepared};
 ghost use Rattle.fips204_shake.specs.Fronts.{shake256_front, shake128_front};
 
 use crate::streams::{Shake128Stream, Shake256Stream};
@@ -88,4 +89,59 @@ pub fn is_pair(set: SetName, private_key: &[u8]) -> Result<bool, Refusal>
     ensures { ChecksPair (named_set set) shake256_front shake128_front private_key.now result }
 {
     fips204_bytes::is_pair::<Shake256Stream, Shake128Stream>(set, private_key)
+}
+
+/// Prepares a public key for many verifications, as `fips204_bytes::prepare_public_key`.
+#[inline(always)]
+pub fn prepare_public_key(
+    set: SetName,
+    public_key: &[u8],
+    prepared: &mut [u8],
+) -> Result<(), Refusal>
+    ensures { PreparesPublic (named_set set) shake256_front shake128_front public_key.now prepared.old prepared.new result }
+{
+    fips204_bytes::prepare_public_key::<Shake256Stream, Shake128Stream>(set, public_key, prepared)
+}
+
+/// Tells whether a prepared public key accepts the signature of an input, as `fips204_bytes::verify_prepared`.
+#[inline(always)]
+pub fn verify_prepared(
+    set: SetName,
+    prepared: &[u8],
+    input: &Input<'_>,
+    signature: &[u8],
+) -> Result<bool, Refusal>
+    ensures { JudgesPrepared (named_set set) shake256_front prepared.now (input_of input.now) signature.now result }
+{
+    fips204_bytes::verify_prepared::<Shake256Stream, Shake128Stream>(
+        set, prepared, input, signature,
+    )
+}
+
+/// Prepares a private key for many signatures, as `fips204_bytes::prepare_private_key`.
+#[inline(always)]
+pub fn prepare_private_key(
+    set: SetName,
+    private_key: &[u8],
+    prepared: &mut [u8],
+) -> Result<(), Refusal>
+    ensures { PreparesPrivate (named_set set) shake128_front private_key.now prepared.old prepared.new result }
+{
+    fips204_bytes::prepare_private_key::<Shake256Stream, Shake128Stream>(set, private_key, prepared)
+}
+
+/// Signs an input with a prepared private key, as `fips204_bytes::sign_prepared`.
+#[inline(always)]
+pub fn sign_prepared(
+    set: SetName,
+    prepared: &[u8],
+    random: &[u8; 32],
+    input: &Input<'_>,
+    signature: &mut [u8],
+) -> Result<(), Refusal>
+    ensures { SignsPrepared (named_set set) shake256_front prepared.now random.now (input_of input.now) signature.old signature.new result }
+{
+    fips204_bytes::sign_prepared::<Shake256Stream, Shake128Stream>(
+        set, prepared, random, input, signature,
+    )
 }

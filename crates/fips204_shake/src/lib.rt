@@ -34,7 +34,10 @@ pub mod ml_dsa_87;
 pub mod pieces;
 pub mod streams;
 
-pub use calls::{check_private_key, is_pair, is_whole, keygen, public_key, sign, verify};
+pub use calls::{
+    check_private_key, is_pair, is_whole, keygen, prepare_private_key, prepare_public_key,
+    public_key, sign, sign_prepared, verify, verify_prepared,
+};
 pub use fips204::{
     Fault, MAX_PREHASH_LEN, MAX_SIGN_ATTEMPTS, RngError, check_pre_hash, fault, laws, pre_hash,
     traits, xof,

@@ -7,7 +7,7 @@ ghost use Rattle.fips204_shake.specs.Fronts.{shake256_front, shake128_front};
 
 use crate::streams::{Shake128Stream, Shake256Stream};
 use fips204::ml_dsa_87;
-pub use fips204::ml_dsa_87::{PK_LEN, SIG_LEN, SK_LEN};
+pub use fips204::ml_dsa_87::{PK_LEN, PREPARED_PK_LEN, PREPARED_SK_LEN, SIG_LEN, SK_LEN};
 use fips204::traits::CryptoRngCore;
 use fips204_base::Fault;
 

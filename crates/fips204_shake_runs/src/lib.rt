@@ -6,6 +6,8 @@ mod accumulated;
 #[cfg(test)]
 mod hash;
 #[cfg(test)]
+mod prepared;
+#[cfg(test)]
 mod rows;
 #[cfg(test)]
 mod values;

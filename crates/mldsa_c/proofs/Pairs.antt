@@ -9,7 +9,7 @@ use Rattle.fips204.specs.ParameterSets.{ParameterSet, IsSet}
 use Rattle.fips204_bytes.specs.Bytes as bytes
 use Rattle.fips204_bytes.specs.Pairs as pairs
 use Rattle.fips204_bytes.specs.declared.refusal.Refusal.{Refusal}
-use Rattle.fips204_bytes.specs.declared.refusal.Refusal.TheVariants.{Length, Library}
+use Rattle.fips204_bytes.specs.declared.refusal.Refusal.TheVariants.{Length, Library, NotPrepared}
 use Rattle.fips204_shake.specs.Fronts.{shake256_front, shake128_front, length-shake256_front}
 use Rattle.mldsa_c.specs.Calls.{Done, IfSized, Signs, Judges}
 use Rattle.mldsa_c.specs.Pairs.{PairsBelong}
@@ -36,9 +36,10 @@ done : (answer : Result ⊤ Refusal) → 0 ≡ done_status answer → answer ≡
 done (Ok tt) e = refl
 done (Err (Length which)) e = absurd cc
 done (Err (Library fault)) e = absurd (not_done fault e)
+done (Err NotPrepared) e = absurd cc
 
 -- what a call that is done answers over bytes
-does : (says : Result ⊤ Refusal → Type 0) → Done says 0 → says (Ok tt)
+pub does : (says : Result ⊤ Refusal → Type 0) → Done says 0 → says (Ok tt)
 does says (answer, answered, is) = subst says (done answer is) answered
 
 -- an array that isn't refused has its length

@@ -3,7 +3,7 @@ use Rattle.std.specs.Prelude.{ℕ, Bool, true, false, Result, Ok, Err, ⊤}
 use Rattle.fips204_base.specs.declared.fault.Fault.{Fault}
 use Rattle.fips204_base.specs.declared.fault.Fault.TheVariants.{KeyGenRng, SignCtx, SignRng, HashCtx, OidEmpty, OidNotDer, DigestTooLong, DigestLength, HashRng, InternalRng, TooManyAttempts, KeyRange, SamplingLimit}
 use Rattle.fips204_bytes.specs.declared.refusal.Refusal.{Refusal}
-use Rattle.fips204_bytes.specs.declared.refusal.Refusal.TheVariants.{Length, Library}
+use Rattle.fips204_bytes.specs.declared.refusal.Refusal.TheVariants.{Length, Library, NotPrepared}
 
 -- the status of each fault
 abbrev pub status_of : Fault → ℕ
@@ -25,6 +25,7 @@ status_of SamplingLimit = 15
 abbrev pub refusal_status : Refusal → ℕ
 refusal_status (Length which) = 2
 refusal_status (Library fault) = status_of fault
+refusal_status NotPrepared = 17
 
 abbrev pub done_status : Result ⊤ Refusal → ℕ
 done_status (Ok done) = 0

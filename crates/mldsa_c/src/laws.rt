@@ -3,6 +3,7 @@
 
 ghost use Rattle.fips204.specs.ParameterSets.{set_44, set_65, set_87};
 ghost use Rattle.mldsa_c.specs.Pairs.{PairsBelong};
+ghost use Rattle.mldsa_c.specs.Prepared.{PreparedStandsForPlain};
 
 use fips204_bytes::laws;
 
@@ -14,4 +15,13 @@ pub fn pair_accepts_written()
     ensures set_87 { PairsBelong set_87 }
 {
     laws::pair_accepts_written();
+}
+
+/// With the bytes that preparing a key has written, each call answers what the call of its name answers with the key itself.
+pub fn prepared_stands_for_plain()
+    ensures set_44 { PreparedStandsForPlain set_44 }
+    ensures set_65 { PreparedStandsForPlain set_65 }
+    ensures set_87 { PreparedStandsForPlain set_87 }
+{
+    laws::prepared_stands_for_plain();
 }

@@ -11,4 +11,8 @@ mod ml_dsa_65;
 mod ml_dsa_87;
 mod pieces;
 mod pre_hash;
+mod prepared;
+mod prepared_44;
+mod prepared_65;
+mod prepared_87;
 mod statuses;

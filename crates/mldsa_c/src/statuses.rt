@@ -18,6 +18,9 @@ pub(crate) const WRONG_LENGTH: u32 = 2;
 /// No state has these bytes.
 pub(crate) const BROKEN_STATE: u32 = 16;
 
+/// No prepared key has these bytes.
+const NOT_PREPARED: u32 = 17;
+
 /// The status of a fault.
 pub(crate) fn status_of(fault: Fault) -> u32
     ensures { result ≡ status_of fault }
@@ -46,6 +49,7 @@ pub(crate) fn status_of_refusal(refusal: Refusal) -> u32
     match refusal {
         Refusal::Length(_) => WRONG_LENGTH,
         Refusal::Library(fault) => status_of(fault),
+        Refusal::NotPrepared => NOT_PREPARED,
     }
 }
 

@@ -27,6 +27,7 @@ use Rattle.mlsign_files.specs.declared.pem.Kind.TheVariants.{Public, Private}
 abbrev pub fault_of : Refusal → CommandFault
 fault_of (refusal.Library fault) = Library fault
 fault_of (refusal.Length which) = Inconsistent
+fault_of refusal.NotPrepared = Inconsistent
 
 -- reading a public key out of the text of a file: the key, or the first fault
 abbrev pub public_text_at : List ℕ → Result (SetName × List ℕ) FileFault

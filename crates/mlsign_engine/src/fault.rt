@@ -50,6 +50,8 @@ impl From<Refusal> for CommandFault {
             Refusal::Library(fault) => CommandFault::Library(fault),
             // No key here has another length than its set's.
             Refusal::Length(_) => CommandFault::Inconsistent,
+            // No call here takes a prepared key.
+            Refusal::NotPrepared => CommandFault::Inconsistent,
         }
     }
 }

@@ -20,6 +20,7 @@ pub(crate) fn error(status: u32) -> &'static str {
         14 => "Alg 25: s1 or s2 out of range",
         15 => "sampling limit reached",
         16 => "the state of a message in pieces is broken",
+        17 => "no call has written this prepared key",
         _ => "no answer of this library",
     }
 }
@@ -80,6 +81,14 @@ macro_rules! calls_of_a_set {
             is_pair(private_key) => ();
             mu_begin(public_key, context) => (state);
             mu_begin_private(private_key, context) => (state);
+            prepare_public_key(public_key) => (prepared_public_key);
+            verify_prepared(prepared_public_key, message, context, signature) => ();
+            hash_verify_prepared(prepared_public_key, digest, context, oid, signature) => ();
+            verify_mu_prepared(prepared_public_key, mu, signature) => ();
+            prepare_private_key(private_key) => (prepared_private_key);
+            sign_prepared(prepared_private_key, message, context, random) => (signature);
+            hash_sign_prepared(prepared_private_key, digest, context, oid, random) => (signature);
+            sign_mu_prepared(prepared_private_key, mu, random) => (signature);
         }
     };
 }

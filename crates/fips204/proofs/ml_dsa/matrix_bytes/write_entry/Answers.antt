@@ -1,0 +1,16 @@
+use Rattle.std.proofs.Common.{arith, refl, length-take, length-drop, rules}
+use Rattle.std.proofs.lemmas.Grind.{common_steps}
+use Rattle.std.proofs.lemmas.Int.{ints, to_z-of_z}
+use Rattle.std.proofs.lemmas.List.{take_all}
+use Rattle.fips204_base.proofs.VectorBytes.{length-put_mid, put_piece}
+use Rattle.fips204.proofs.MatrixBytes.{piece_more}
+use Rattle.fips204.proofs.ml_dsa.matrix_bytes.write_entry.Goals as goal
+
+pub loop-n-init : goal.loop-n-init
+loop-n-init c = record { size = refl; written = refl }
+
+pub loop-n-preserved : goal.loop-n-preserved
+loop-n-preserved c = grind (arith, ints, common_steps, to_z-of_z, length-take, length-drop, length-put_mid, put_piece, piece_more)
+
+pub returns : goal.returns
+returns c = grind (arith, ints, common_steps, take_all)

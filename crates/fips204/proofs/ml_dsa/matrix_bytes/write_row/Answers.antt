@@ -1,0 +1,15 @@
+use Rattle.std.proofs.Common.{arith, refl, length-take, length-drop, rules}
+use Rattle.std.proofs.lemmas.Grind.{common_steps}
+use Rattle.std.proofs.lemmas.List.{take_all}
+use Rattle.fips204_base.proofs.VectorBytes.{length-put_mid, put_piece, piece-within}
+use Rattle.fips204.proofs.MatrixBytes.{piece_more}
+use Rattle.fips204.proofs.ml_dsa.matrix_bytes.write_row.Goals as goal
+
+pub loop-s-init : goal.loop-s-init
+loop-s-init g c = grind (arith, common_steps)
+
+pub loop-s-preserved : goal.loop-s-preserved
+loop-s-preserved g c = grind (arith, common_steps, length-take, length-drop, length-put_mid, put_piece, piece-within, piece_more)
+
+pub returns : goal.returns
+returns g c = grind (arith, common_steps, take_all)

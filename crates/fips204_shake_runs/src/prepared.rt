@@ -1,0 +1,82 @@
+//! Prepared keys in the caller's bytes.
+#![tactic(auto)]
+
+use fips204_shake::{
+    Input, Refusal, SetName, keygen, ml_dsa_44, ml_dsa_65, ml_dsa_87, prepare_private_key,
+    prepare_public_key, sign, sign_prepared, verify_prepared,
+};
+use std::test::Fail;
+
+/// With the keys of one seed: whether the prepared key signs as the plain one does, whether its public key accepts that, whether
+/// it refuses another message, and whether bytes with words above `q` are no prepared keys.
+fn answers<
+    const PK: usize,
+    const SK: usize,
+    const SIG: usize,
+    const PREPARED_PK: usize,
+    const PREPARED_SK: usize,
+>(set: SetName) -> Result<[bool; 5], Refusal> {
+    let (mut public_key, mut private_key) = ([0; PK], [0; SK]);
+    keygen(set, &[3; 32], &mut public_key, &mut private_key)?;
+    let mut checks = [0; PREPARED_PK];
+    let mut signs = [0; PREPARED_SK];
+    prepare_public_key(set, &public_key, &mut checks)?;
+    prepare_private_key(set, &private_key, &mut signs)?;
+    let (mut plain, mut prepared) = ([0; SIG], [0; SIG]);
+    let input = Input::Message(b"a message", b"a context");
+    sign(set, &private_key, &[9; 32], &input, &mut plain)?;
+    sign_prepared(set, &signs, &[9; 32], &input, &mut prepared)?;
+    let other = Input::Message(b"another message", b"a context");
+    let refused = Err(Refusal::NotPrepared);
+    let broken = verify_prepared(set, &[0xff; PREPARED_PK], &input, &prepared);
+    Ok([
+        plain == prepared,
+        verify_prepared(set, &checks, &input, &prepared)?,
+        !verify_prepared(set, &checks, &other, &prepared)?,
+        broken == refused,
+        sign_prepared(set, &[0xff; PREPARED_SK], &[9; 32], &input, &mut plain)
+            == Err(Refusal::NotPrepared),
+    ])
+}
+
+/// Prepared keys of ML-DSA-44 answer as the plain ones.
+#[test]
+fn prepared_44(rt: HostRuntime) -> Result<(), Fail> {
+    let found = answers::<
+        { ml_dsa_44::PK_LEN },
+        { ml_dsa_44::SK_LEN },
+        { ml_dsa_44::SIG_LEN },
+        { ml_dsa_44::PREPARED_PK_LEN },
+        { ml_dsa_44::PREPARED_SK_LEN },
+    >(SetName::MlDsa44)?;
+    assert!(rt; found == [true; 5]);
+    Ok(())
+}
+
+/// Prepared keys of ML-DSA-65 answer as the plain ones.
+#[test]
+fn prepared_65(rt: HostRuntime) -> Result<(), Fail> {
+    let found = answers::<
+        { ml_dsa_65::PK_LEN },
+        { ml_dsa_65::SK_LEN },
+        { ml_dsa_65::SIG_LEN },
+        { ml_dsa_65::PREPARED_PK_LEN },
+        { ml_dsa_65::PREPARED_SK_LEN },
+    >(SetName::MlDsa65)?;
+    assert!(rt; found == [true; 5]);
+    Ok(())
+}
+
+/// Prepared keys of ML-DSA-87 answer as the plain ones.
+#[test]
+fn prepared_87(rt: HostRuntime) -> Result<(), Fail> {
+    let found = answers::<
+        { ml_dsa_87::PK_LEN },
+        { ml_dsa_87::SK_LEN },
+        { ml_dsa_87::SIG_LEN },
+        { ml_dsa_87::PREPARED_PK_LEN },
+        { ml_dsa_87::PREPARED_SK_LEN },
+    >(SetName::MlDsa87)?;
+    assert!(rt; found == [true; 5]);
+    Ok(())
+}

@@ -1,0 +1,134 @@
+//! The exports of ML-DSA-44 with prepared keys.
+#![tactic(auto)]
+
+ghost use Rattle.fips204.specs.Framing.{plain, hashed};
+ghost use Rattle.fips204.specs.ParameterSets.{set_44};
+ghost use Rattle.mldsa_c.specs.Prepared.{PreparesPublic, JudgesPrepared, JudgesMuPrepared, PreparesPrivate, SignsPrepared, SignsMuPrepared};
+
+use crate::prepared;
+use fips204_shake::{Input, SetName};
+
+/// Prepares a public key for many verifications.
+#[unsafe(no_mangle)]
+pub extern "C" fn mldsa44_prepare_public_key(
+    public_key: &[u8],
+    prepared_public_key: &mut [u8],
+) -> u32
+    ensures { PreparesPublic set_44 public_key.now prepared_public_key.old prepared_public_key.new result }
+{
+    prepared::prepare_public_key(SetName::MlDsa44, public_key, prepared_public_key)
+}
+
+/// Tells whether a prepared public key accepts the signature of a message under a context.
+#[unsafe(no_mangle)]
+pub extern "C" fn mldsa44_verify_prepared(
+    prepared_public_key: &[u8],
+    message: &[u8],
+    context: &[u8],
+    signature: &[u8],
+) -> u32
+    ensures { JudgesPrepared set_44 prepared_public_key.now (plain message.now context.now) signature.now result }
+{
+    let signed = Input::Message(message, context);
+    prepared::verify(SetName::MlDsa44, prepared_public_key, &signed, signature)
+}
+
+/// Tells whether a prepared public key accepts the signature of a digest under a context; `oid` names its hash function.
+#[unsafe(no_mangle)]
+pub extern "C" fn mldsa44_hash_verify_prepared(
+    prepared_public_key: &[u8],
+    digest: &[u8],
+    context: &[u8],
+    oid: &[u8],
+    signature: &[u8],
+) -> u32
+    ensures { JudgesPrepared set_44 prepared_public_key.now (hashed digest.now context.now oid.now) signature.now result }
+{
+    let signed = Input::Digest(digest, context, oid);
+    prepared::verify(SetName::MlDsa44, prepared_public_key, &signed, signature)
+}
+
+/// Tells whether a prepared public key accepts the signature of the hash `mu` of a framed message.
+#[unsafe(no_mangle)]
+pub extern "C" fn mldsa44_verify_mu_prepared(
+    prepared_public_key: &[u8],
+    mu: &[u8],
+    signature: &[u8],
+) -> u32
+    ensures { JudgesMuPrepared set_44 prepared_public_key.now mu.now signature.now result }
+{
+    prepared::verify_mu(SetName::MlDsa44, prepared_public_key, mu, signature)
+}
+
+/// Prepares a private key for many signatures.
+#[unsafe(no_mangle)]
+pub extern "C" fn mldsa44_prepare_private_key(
+    private_key: &[u8],
+    prepared_private_key: &mut [u8],
+) -> u32
+    ensures { PreparesPrivate set_44 private_key.now prepared_private_key.old prepared_private_key.new result }
+{
+    prepared::prepare_private_key(SetName::MlDsa44, private_key, prepared_private_key)
+}
+
+/// Signs a message under a context with a prepared private key, from 32 random bytes.
+#[unsafe(no_mangle)]
+pub extern "C" fn mldsa44_sign_prepared(
+    prepared_private_key: &[u8],
+    message: &[u8],
+    context: &[u8],
+    random: &[u8],
+    signature: &mut [u8],
+) -> u32
+    ensures { SignsPrepared set_44 prepared_private_key.now (plain message.now context.now) random.now signature.old signature.new result }
+{
+    let input = Input::Message(message, context);
+    prepared::sign(
+        SetName::MlDsa44,
+        prepared_private_key,
+        &input,
+        random,
+        signature,
+    )
+}
+
+/// Signs a digest under a context with a prepared private key, from 32 random bytes; `oid` names its hash function.
+#[unsafe(no_mangle)]
+pub extern "C" fn mldsa44_hash_sign_prepared(
+    prepared_private_key: &[u8],
+    digest: &[u8],
+    context: &[u8],
+    oid: &[u8],
+    random: &[u8],
+    signature: &mut [u8],
+) -> u32
+    ensures { SignsPrepared set_44 prepared_private_key.now (hashed digest.now context.now oid.now) random.now signature.old signature.new result }
+{
+    let input = Input::Digest(digest, context, oid);
+    prepared::sign(
+        SetName::MlDsa44,
+        prepared_private_key,
+        &input,
+        random,
+        signature,
+    )
+}
+
+/// Signs the hash `mu` of a framed message, which has 64 bytes, with a prepared private key, from 32 random bytes.
+#[unsafe(no_mangle)]
+pub extern "C" fn mldsa44_sign_mu_prepared(
+    prepared_private_key: &[u8],
+    mu: &[u8],
+    random: &[u8],
+    signature: &mut [u8],
+) -> u32
+    ensures { SignsMuPrepared set_44 prepared_private_key.now mu.now random.now signature.old signature.new result }
+{
+    prepared::sign_mu(
+        SetName::MlDsa44,
+        prepared_private_key,
+        mu,
+        random,
+        signature,
+    )
+}

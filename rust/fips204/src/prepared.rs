@@ -1,0 +1,170 @@
+//! Keys with their matrix, for many calls.
+
+/// The prepared keys of a parameter set, in the module of `parameter_set`: the calls of the library, and the lengths of a prepared
+/// public and a prepared private key.
+#[cfg(any(feature = "ml-dsa-44", feature = "ml-dsa-65", feature = "ml-dsa-87"))]
+macro_rules! prepared_keys {
+    ($calls:ident, $public_len:literal, $private_len:literal) => {
+        /// A public key with its matrix, which verifies in less than half of the time, and is wiped when it is dropped. Its calls
+        /// answer what those of the key answer that it was made of. It has some ten times the bytes of the key.
+        #[derive(Clone)]
+        pub struct PreparedPublicKey(Wiped<{ $public_len }>);
+
+        /// A private key with its matrix, which signs in less time, and is wiped when it is dropped. Its calls answer what those of
+        /// the key answer that it was made of. It has some ten times the bytes of the key.
+        #[derive(Clone)]
+        pub struct PreparedPrivateKey(Wiped<{ $private_len }>);
+
+        impl PublicKey {
+            /// Samples the matrix once, for many verifications.
+            ///
+            /// # Panics
+            /// Rejection sampling reached its limit, for which no key is known.
+            #[must_use]
+            pub fn prepare(&self) -> PreparedPublicKey {
+                let mut prepared = PreparedPublicKey(Wiped([0; $public_len]));
+                let status = calls::prepare_public_key(&self.0.0, &mut prepared.0.0);
+                answer(status, prepared).unwrap()
+            }
+        }
+
+        impl PrivateKey {
+            /// Samples the matrix once, for many signatures.
+            ///
+            /// # Panics
+            /// Rejection sampling reached its limit, for which no key is known.
+            #[must_use]
+            pub fn prepare(&self) -> PreparedPrivateKey {
+                let mut prepared = PreparedPrivateKey(Wiped([0; $private_len]));
+                let status = calls::prepare_private_key(&self.0.0, &mut prepared.0.0);
+                answer(status, prepared).unwrap()
+            }
+        }
+
+        impl PreparedPublicKey {
+            /// Whether the key accepts the signature of the hash `mu` of a message (Algorithm 8, with mu given).
+            #[must_use]
+            pub fn verify_mu(&self, mu: &[u8; 64], sig: &[u8; SIG_LEN]) -> bool {
+                calls::verify_mu_prepared(&self.0.0, mu, sig) == library::DONE
+            }
+        }
+
+        impl Verifier for PreparedPublicKey {
+            type Signature = [u8; SIG_LEN];
+
+            fn verify(&self, message: &[u8], signature: &[u8; SIG_LEN], ctx: &[u8]) -> bool {
+                calls::verify_prepared(&self.0.0, message, ctx, signature) == library::DONE
+            }
+
+            fn hash_verify(
+                &self,
+                hash: &[u8],
+                signature: &[u8; SIG_LEN],
+                ctx: &[u8],
+                hash_oid: &[u8],
+            ) -> bool {
+                calls::hash_verify_prepared(&self.0.0, hash, ctx, hash_oid, signature)
+                    == library::DONE
+            }
+        }
+
+        impl PreparedPrivateKey {
+            /// Signs the hash `mu` of a message, with 32 bytes of a generator, which is asked once.
+            ///
+            /// # Errors
+            /// The generator failed, or all 814 attempts were rejected.
+            pub fn try_sign_mu_with_rng(
+                &self,
+                rng: &mut impl CryptoRngCore,
+                mu: &[u8; 64],
+            ) -> Result<[u8; SIG_LEN], &'static str> {
+                let random = draw(rng, "ML-DSA.Sign_internal: random number generator failed")?;
+                self.try_sign_mu_with_seed(&random.0, mu)
+            }
+
+            /// Signs the hash `mu` of a message, with these random bytes. 32 zeros give the deterministic variant.
+            ///
+            /// # Errors
+            /// All 814 attempts were rejected.
+            pub fn try_sign_mu_with_seed(
+                &self,
+                seed: &[u8; 32],
+                mu: &[u8; 64],
+            ) -> Result<[u8; SIG_LEN], &'static str> {
+                let mut signature = [0; SIG_LEN];
+                let status = calls::sign_mu_prepared(&self.0.0, mu, seed, &mut signature);
+                answer(status, signature)
+            }
+        }
+
+        impl Signer for PreparedPrivateKey {
+            type Signature = [u8; SIG_LEN];
+            type PublicKey = PublicKey;
+
+            fn try_sign_with_rng(
+                &self,
+                rng: &mut impl CryptoRngCore,
+                message: &[u8],
+                ctx: &[u8],
+            ) -> Result<[u8; SIG_LEN], &'static str> {
+                if ctx.len() > 255 {
+                    return Err("ML-DSA.Sign: ctx too long");
+                }
+                let random = draw(rng, "ML-DSA.Sign: random number generator failed")?;
+                self.try_sign_with_seed(&random.0, message, ctx)
+            }
+
+            fn try_sign_with_seed(
+                &self,
+                seed: &[u8; 32],
+                message: &[u8],
+                ctx: &[u8],
+            ) -> Result<[u8; SIG_LEN], &'static str> {
+                let mut signature = [0; SIG_LEN];
+                let status = calls::sign_prepared(&self.0.0, message, ctx, seed, &mut signature);
+                answer(status, signature)
+            }
+
+            fn try_hash_sign_with_rng(
+                &self,
+                rng: &mut impl CryptoRngCore,
+                hash: &[u8],
+                ctx: &[u8],
+                hash_oid: &[u8],
+            ) -> Result<[u8; SIG_LEN], &'static str> {
+                if ctx.len() > 255 {
+                    return Err("HashML-DSA.Sign: ctx too long");
+                }
+                answer(library::check_pre_hash(hash, hash_oid), ())?;
+                let random = draw(rng, "HashML-DSA.Sign: random number generator failed")?;
+                self.try_hash_sign_with_seed(&random.0, hash, ctx, hash_oid)
+            }
+
+            fn try_hash_sign_with_seed(
+                &self,
+                seed: &[u8; 32],
+                hash: &[u8],
+                ctx: &[u8],
+                hash_oid: &[u8],
+            ) -> Result<[u8; SIG_LEN], &'static str> {
+                let mut signature = [0; SIG_LEN];
+                let key = &self.0.0;
+                let status =
+                    calls::hash_sign_prepared(key, hash, ctx, hash_oid, seed, &mut signature);
+                answer(status, signature)
+            }
+
+            /// # Panics
+            /// Rejection sampling reached its limit, for which no key is known.
+            fn get_public_key(&self) -> PublicKey {
+                // The bytes of the plain key come first.
+                let mut public = PublicKey(Wiped([0; PK_LEN]));
+                let status = calls::public_key(&self.0.0[..SK_LEN], &mut public.0.0);
+                answer(status, public).unwrap()
+            }
+        }
+    };
+}
+
+#[cfg(any(feature = "ml-dsa-44", feature = "ml-dsa-65", feature = "ml-dsa-87"))]
+pub(crate) use prepared_keys;
