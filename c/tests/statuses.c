@@ -164,8 +164,26 @@ static void hashes(const struct set *s)
     mu[0] ^= 1;
 }
 
+/* The header's identifiers: each ends in the number that the standard's list has, and takes digests of one length. */
+static void identifiers(void)
+{
+    static const uint8_t bytes[64] = {0};
+    const struct { const uint8_t *oid; uint8_t last; size_t digest_len; } NAMED[12] = {
+        {MLDSA_OID_SHA2_256, 1, 32}, {MLDSA_OID_SHA2_384, 2, 48}, {MLDSA_OID_SHA2_512, 3, 64}, {MLDSA_OID_SHA2_224, 4, 28},
+        {MLDSA_OID_SHA2_512_224, 5, 28}, {MLDSA_OID_SHA2_512_256, 6, 32}, {MLDSA_OID_SHA3_224, 7, 28}, {MLDSA_OID_SHA3_256, 8, 32},
+        {MLDSA_OID_SHA3_384, 9, 48}, {MLDSA_OID_SHA3_512, 10, 64}, {MLDSA_OID_SHAKE128, 11, 32}, {MLDSA_OID_SHAKE256, 12, 64}};
+    for (int i = 0; i < 12; i++) {
+        WANT(memcmp(NAMED[i].oid, SHA256_OID, MLDSA_OID_LEN - 1), 0);
+        WANT(NAMED[i].oid[MLDSA_OID_LEN - 1], NAMED[i].last);
+        for (size_t length = 0; length <= 64; length++)
+            WANT(mldsa_check_pre_hash(bytes, length, NAMED[i].oid, MLDSA_OID_LEN),
+                 length == NAMED[i].digest_len ? MLDSA_DONE : MLDSA_DIGEST_LENGTH);
+    }
+}
+
 int main(void)
 {
+    identifiers();
     for (int which = 0; which < 3; which++) {
         keys(&SETS[which], which);
         messages(&SETS[which]);
