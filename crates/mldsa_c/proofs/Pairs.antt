@@ -11,7 +11,7 @@ use Rattle.fips204_bytes.specs.Pairs as pairs
 use Rattle.fips204_bytes.specs.declared.refusal.Refusal.{Refusal}
 use Rattle.fips204_bytes.specs.declared.refusal.Refusal.TheVariants.{Length, Library, NotPrepared}
 use Rattle.fips204_shake.specs.Fronts.{shake256_front, shake128_front, length-shake256_front}
-use Rattle.mldsa_c.specs.Calls.{Done, IfSized, Signs, Judges}
+use Rattle.mldsa_c.specs.Calls.{Done, IfSized, SignAnswers, VerifyAnswers}
 use Rattle.mldsa_c.specs.Pairs.{PairsBelong}
 use Rattle.mldsa_c.specs.Statuses.{status_of, done_status, answer_status}
 
@@ -57,7 +57,7 @@ fits answer status is not_wrong which refused = not_wrong (is ∙ ap done_status
 told_fits : (answer : Result Bool Refusal) (status : ℕ) → status ≡ answer_status answer → status ≢ 2 → pairs.Fits answer
 told_fits answer status is not_wrong which refused = not_wrong (is ∙ ap answer_status refused)
 
-signed : (p : ParameterSet) (key : List ℕ) (input : Input) (random old new : List ℕ) → Signs p key input random old new 0
+signed : (p : ParameterSet) (key : List ℕ) (input : Input) (random old new : List ℕ) → SignAnswers p key input random old new 0
     → bytes.Signs p shake256_front shake128_front key random input old new (Ok tt)
 signed p key input random old new signs =
     does (bytes.Signs p shake256_front shake128_front key random input old new) (sized 32 random signs (λ (_, two). absurd cc))
@@ -66,7 +66,7 @@ pub belong : pairs.PairsBelong → (p : ParameterSet) → IsSet p → PairsBelon
 belong law p known seed public public' private private' keys =
     let pair = law p shake256_front shake128_front known (λ x. omega (arith, length-shake256_front x)) seed public public' private private'
     (does (bytes.Generates p shake256_front shake128_front seed public public' private private') (sized 32 seed keys (λ (_, _, two). absurd cc))) in
-    let yes : (input : Input) (random old signature : List ℕ) (status : ℕ) → Signs p private' input random old signature 0 → Judges p public' input signature status → status ≢ 2 → status ≡ 0 =
+    let yes : (input : Input) (random old signature : List ℕ) (status : ℕ) → SignAnswers p private' input random old signature 0 → VerifyAnswers p public' input signature status → status ≢ 2 → status ≡ 0 =
     λ input random old signature status signs (answer, judges, is) not_wrong.
     is ∙ ap answer_status (pair.accepted random input old signature answer (signed p private' input random old signature signs) judges (told_fits answer status is not_wrong)) in
     record {

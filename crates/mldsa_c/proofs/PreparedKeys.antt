@@ -4,16 +4,16 @@ use Rattle.fips204.specs.Framing.{Input, represented}
 use Rattle.fips204.specs.ParameterSets.{ParameterSet}
 use Rattle.fips204_bytes.specs.Prepared as bytes
 use Rattle.fips204_shake.specs.Fronts.{shake256_front, shake128_front}
-use Rattle.mldsa_c.specs.Calls.{Signs, Judges}
-use Rattle.mldsa_c.specs.Prepared.{PreparesPublic, PreparesPrivate, JudgesPrepared, SignsPrepared, PreparedStandsForPlain}
+use Rattle.mldsa_c.specs.Calls.{SignAnswers, VerifyAnswers}
+use Rattle.mldsa_c.specs.Prepared.{PreparePublicKeyAnswers, PreparePrivateKeyAnswers, VerifyPreparedAnswers, SignPreparedAnswers, PreparedStandsForPlain}
 use Rattle.mldsa_c.proofs.Pairs.{does}
 
 pub stands : (p : ParameterSet) → bytes.PreparedStandsForPlain p shake256_front shake128_front → PreparedStandsForPlain p
 stands p law =
-    let judged : (key old prepared : List ℕ) (input : Input) (signature : List ℕ) (status : ℕ) → PreparesPublic p key old prepared 0 → JudgesPrepared p prepared input signature status → Judges p key input signature status =
+    let judged : (key old prepared : List ℕ) (input : Input) (signature : List ℕ) (status : ℕ) → PreparePublicKeyAnswers p key old prepared 0 → VerifyPreparedAnswers p prepared input signature status → VerifyAnswers p key input signature status =
     λ key old prepared input signature status prepares (answer, judges, is).
     (answer, law.judged key old prepared input signature answer (does (bytes.PreparesPublic p shake256_front shake128_front key old prepared) prepares) judges, is) in
-    let signed : (key old prepared : List ℕ) (input : Input) (random before after : List ℕ) (status : ℕ) → PreparesPrivate p key old prepared 0 → SignsPrepared p prepared input random before after status → Signs p key input random before after status =
+    let signed : (key old prepared : List ℕ) (input : Input) (random before after : List ℕ) (status : ℕ) → PreparePrivateKeyAnswers p key old prepared 0 → SignPreparedAnswers p prepared input random before after status → SignAnswers p key input random before after status =
     λ key old prepared input random before after status prepares signs. (
       λ long.
           let (answer, writes, is) = signs.0 long in

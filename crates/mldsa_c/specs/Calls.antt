@@ -19,41 +19,41 @@ abbrev pub IfSized : ℕ → List ℕ → Type 0 → Type 0 → Type 0
 IfSized wanted bytes fits refuses = ((length bytes ≡ wanted) → fits) × ((length bytes ≢ wanted) → refuses)
 
 -- keygen, with a seed of 32 bytes
-abbrev pub Generates : ParameterSet → List ℕ → List ℕ → List ℕ → List ℕ → List ℕ → ℕ → Type 0
-Generates p seed public public' private private' status =
+abbrev pub KeygenAnswers : ParameterSet → List ℕ → List ℕ → List ℕ → List ℕ → List ℕ → ℕ → Type 0
+KeygenAnswers p seed public public' private private' status =
     IfSized 32 seed (Done (bytes.Generates p shake256_front shake128_front seed public public' private private') status)
     ((public' ≡ public) × (private' ≡ private) × (status ≡ 2))
 
 -- sign and hash_sign, with 32 random bytes
-abbrev pub Signs : ParameterSet → List ℕ → Input → List ℕ → List ℕ → List ℕ → ℕ → Type 0
-Signs p key input random old new status =
+abbrev pub SignAnswers : ParameterSet → List ℕ → Input → List ℕ → List ℕ → List ℕ → ℕ → Type 0
+SignAnswers p key input random old new status =
     IfSized 32 random (Done (bytes.Signs p shake256_front shake128_front key random input old new) status) ((new ≡ old) × (status ≡ 2))
 
 -- sign_mu, with 64 bytes of mu
-abbrev pub SignsMu : ParameterSet → List ℕ → List ℕ → List ℕ → List ℕ → List ℕ → ℕ → Type 0
-SignsMu p key mu random old new status = IfSized 64 mu (Signs p key (represented mu) random old new status) ((new ≡ old) × (status ≡ 2))
+abbrev pub SignMuAnswers : ParameterSet → List ℕ → List ℕ → List ℕ → List ℕ → List ℕ → ℕ → Type 0
+SignMuAnswers p key mu random old new status = IfSized 64 mu (SignAnswers p key (represented mu) random old new status) ((new ≡ old) × (status ≡ 2))
 
 -- verify and hash_verify
-abbrev pub Judges : ParameterSet → List ℕ → Input → List ℕ → ℕ → Type 0
-Judges p key input signature status = Told (bytes.Judges p shake256_front shake128_front key input signature) status
+abbrev pub VerifyAnswers : ParameterSet → List ℕ → Input → List ℕ → ℕ → Type 0
+VerifyAnswers p key input signature status = Told (bytes.Judges p shake256_front shake128_front key input signature) status
 
 -- verify_mu, with 64 bytes of mu
-abbrev pub JudgesMu : ParameterSet → List ℕ → List ℕ → List ℕ → ℕ → Type 0
-JudgesMu p key mu signature status = IfSized 64 mu (Judges p key (represented mu) signature status) (status ≡ 2)
+abbrev pub VerifyMuAnswers : ParameterSet → List ℕ → List ℕ → List ℕ → ℕ → Type 0
+VerifyMuAnswers p key mu signature status = IfSized 64 mu (VerifyAnswers p key (represented mu) signature status) (status ≡ 2)
 
 -- public_key, check_private_key, is_whole and is_pair
-abbrev pub Derives : ParameterSet → List ℕ → List ℕ → List ℕ → ℕ → Type 0
-Derives p key old new status = Done (bytes.Derives p shake128_front key old new) status
+abbrev pub PublicKeyAnswers : ParameterSet → List ℕ → List ℕ → List ℕ → ℕ → Type 0
+PublicKeyAnswers p key old new status = Done (bytes.Derives p shake128_front key old new) status
 
-abbrev pub Checks : ParameterSet → List ℕ → ℕ → Type 0
-Checks p key status = Done (bytes.Checks p key) status
+abbrev pub CheckPrivateKeyAnswers : ParameterSet → List ℕ → ℕ → Type 0
+CheckPrivateKeyAnswers p key status = Done (bytes.Checks p key) status
 
-abbrev pub ChecksWholeness : ParameterSet → List ℕ → ℕ → Type 0
-ChecksWholeness p key status = Told (bytes.ChecksWholeness p shake128_front key) status
+abbrev pub IsWholeAnswers : ParameterSet → List ℕ → ℕ → Type 0
+IsWholeAnswers p key status = Told (bytes.ChecksWholeness p shake128_front key) status
 
-abbrev pub ChecksPair : ParameterSet → List ℕ → ℕ → Type 0
-ChecksPair p key status = Told (bytes.ChecksPair p shake256_front shake128_front key) status
+abbrev pub IsPairAnswers : ParameterSet → List ℕ → ℕ → Type 0
+IsPairAnswers p key status = Told (bytes.ChecksPair p shake256_front shake128_front key) status
 
 -- check_pre_hash: the first condition that a digest and its object identifier break, or none
-abbrev pub ChecksPreHash : List ℕ → List ℕ → ℕ → Type 0
-ChecksPreHash digest oid status = MatchOption (pre_hash_fault digest oid) (status ≡ 0) (λ fault. status ≡ status_of fault)
+abbrev pub CheckPreHashAnswers : List ℕ → List ℕ → ℕ → Type 0
+CheckPreHashAnswers digest oid status = MatchOption (pre_hash_fault digest oid) (status ≡ 0) (λ fault. status ≡ status_of fault)

@@ -4,39 +4,39 @@ use Rattle.fips204.specs.Framing.{Input, represented}
 use Rattle.fips204.specs.ParameterSets.{ParameterSet}
 use Rattle.fips204_bytes.specs.Prepared as bytes
 use Rattle.fips204_shake.specs.Fronts.{shake256_front, shake128_front}
-use Rattle.mldsa_c.specs.Calls.{Done, Told, IfSized, Judges, JudgesMu, Signs, SignsMu}
+use Rattle.mldsa_c.specs.Calls.{Done, Told, IfSized, VerifyAnswers, VerifyMuAnswers, SignAnswers, SignMuAnswers}
 
 -- prepare_public_key and prepare_private_key
-abbrev pub PreparesPublic : ParameterSet → List ℕ → List ℕ → List ℕ → ℕ → Type 0
-PreparesPublic p key old new status = Done (bytes.PreparesPublic p shake256_front shake128_front key old new) status
+abbrev pub PreparePublicKeyAnswers : ParameterSet → List ℕ → List ℕ → List ℕ → ℕ → Type 0
+PreparePublicKeyAnswers p key old new status = Done (bytes.PreparesPublic p shake256_front shake128_front key old new) status
 
-abbrev pub PreparesPrivate : ParameterSet → List ℕ → List ℕ → List ℕ → ℕ → Type 0
-PreparesPrivate p key old new status = Done (bytes.PreparesPrivate p shake128_front key old new) status
+abbrev pub PreparePrivateKeyAnswers : ParameterSet → List ℕ → List ℕ → List ℕ → ℕ → Type 0
+PreparePrivateKeyAnswers p key old new status = Done (bytes.PreparesPrivate p shake128_front key old new) status
 
 -- verify_prepared and hash_verify_prepared
-abbrev pub JudgesPrepared : ParameterSet → List ℕ → Input → List ℕ → ℕ → Type 0
-JudgesPrepared p key input signature status = Told (bytes.JudgesPrepared p shake256_front key input signature) status
+abbrev pub VerifyPreparedAnswers : ParameterSet → List ℕ → Input → List ℕ → ℕ → Type 0
+VerifyPreparedAnswers p key input signature status = Told (bytes.JudgesPrepared p shake256_front key input signature) status
 
 -- verify_mu_prepared, with 64 bytes of mu
-abbrev pub JudgesMuPrepared : ParameterSet → List ℕ → List ℕ → List ℕ → ℕ → Type 0
-JudgesMuPrepared p key mu signature status = IfSized 64 mu (JudgesPrepared p key (represented mu) signature status) (status ≡ 2)
+abbrev pub VerifyMuPreparedAnswers : ParameterSet → List ℕ → List ℕ → List ℕ → ℕ → Type 0
+VerifyMuPreparedAnswers p key mu signature status = IfSized 64 mu (VerifyPreparedAnswers p key (represented mu) signature status) (status ≡ 2)
 
 -- sign_prepared and hash_sign_prepared, with 32 random bytes
-abbrev pub SignsPrepared : ParameterSet → List ℕ → Input → List ℕ → List ℕ → List ℕ → ℕ → Type 0
-SignsPrepared p key input random old new status =
+abbrev pub SignPreparedAnswers : ParameterSet → List ℕ → Input → List ℕ → List ℕ → List ℕ → ℕ → Type 0
+SignPreparedAnswers p key input random old new status =
     IfSized 32 random (Done (bytes.SignsPrepared p shake256_front key random input old new) status) ((new ≡ old) × (status ≡ 2))
 
 -- sign_mu_prepared, with 64 bytes of mu
-abbrev pub SignsMuPrepared : ParameterSet → List ℕ → List ℕ → List ℕ → List ℕ → List ℕ → ℕ → Type 0
-SignsMuPrepared p key mu random old new status = IfSized 64 mu (SignsPrepared p key (represented mu) random old new status) ((new ≡ old) × (status ≡ 2))
+abbrev pub SignMuPreparedAnswers : ParameterSet → List ℕ → List ℕ → List ℕ → List ℕ → List ℕ → ℕ → Type 0
+SignMuPreparedAnswers p key mu random old new status = IfSized 64 mu (SignPreparedAnswers p key (represented mu) random old new status) ((new ≡ old) × (status ≡ 2))
 
 -- with the bytes that preparing a key has written, each call answers what the call of its name answers with the key
 pub record PreparedStandsForPlain (p : ParameterSet) : Type 0 where
-  pub judged : (key old prepared : List ℕ) (input : Input) (signature : List ℕ) (status : ℕ) → PreparesPublic p key old prepared 0
-      → JudgesPrepared p prepared input signature status → Judges p key input signature status
-  pub judged_mu : (key old prepared mu signature : List ℕ) (status : ℕ) → PreparesPublic p key old prepared 0
-      → JudgesMuPrepared p prepared mu signature status → JudgesMu p key mu signature status
-  pub signed : (key old prepared : List ℕ) (input : Input) (random before after : List ℕ) (status : ℕ) → PreparesPrivate p key old prepared 0
-      → SignsPrepared p prepared input random before after status → Signs p key input random before after status
-  pub signed_mu : (key old prepared mu random before after : List ℕ) (status : ℕ) → PreparesPrivate p key old prepared 0
-      → SignsMuPrepared p prepared mu random before after status → SignsMu p key mu random before after status
+  pub judged : (key old prepared : List ℕ) (input : Input) (signature : List ℕ) (status : ℕ) → PreparePublicKeyAnswers p key old prepared 0
+      → VerifyPreparedAnswers p prepared input signature status → VerifyAnswers p key input signature status
+  pub judged_mu : (key old prepared mu signature : List ℕ) (status : ℕ) → PreparePublicKeyAnswers p key old prepared 0
+      → VerifyMuPreparedAnswers p prepared mu signature status → VerifyMuAnswers p key mu signature status
+  pub signed : (key old prepared : List ℕ) (input : Input) (random before after : List ℕ) (status : ℕ) → PreparePrivateKeyAnswers p key old prepared 0
+      → SignPreparedAnswers p prepared input random before after status → SignAnswers p key input random before after status
+  pub signed_mu : (key old prepared mu random before after : List ℕ) (status : ℕ) → PreparePrivateKeyAnswers p key old prepared 0
+      → SignMuPreparedAnswers p prepared mu random before after status → SignMuAnswers p key mu random before after status

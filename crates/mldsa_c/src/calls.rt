@@ -3,7 +3,7 @@
 
 ghost use Rattle.fips204.specs.Inputs.{input_of};
 ghost use Rattle.fips204.specs.Sets.{named_set};
-ghost use Rattle.mldsa_c.specs.Calls.{Generates, Signs, SignsMu, Judges, JudgesMu};
+ghost use Rattle.mldsa_c.specs.Calls.{KeygenAnswers, SignAnswers, SignMuAnswers, VerifyAnswers, VerifyMuAnswers};
 
 use crate::statuses::{WRONG_LENGTH, status, verdict_status};
 use fips204_shake::{Input, SetName};
@@ -16,7 +16,7 @@ pub(crate) fn keygen(
     public_key: &mut [u8],
     private_key: &mut [u8],
 ) -> u32
-    ensures { Generates (named_set set) seed.now public_key.old public_key.new private_key.old private_key.new result }
+    ensures { KeygenAnswers (named_set set) seed.now public_key.old public_key.new private_key.old private_key.new result }
 {
     let Some(seed) = seed.as_array::<32>() else {
         return WRONG_LENGTH;
@@ -33,7 +33,7 @@ pub(crate) fn sign(
     random: &[u8],
     signature: &mut [u8],
 ) -> u32
-    ensures { Signs (named_set set) private_key.now (input_of input.now) random.now signature.old signature.new result }
+    ensures { SignAnswers (named_set set) private_key.now (input_of input.now) random.now signature.old signature.new result }
 {
     let Some(random) = random.as_array::<32>() else {
         return WRONG_LENGTH;
@@ -50,7 +50,7 @@ pub(crate) fn sign_mu(
     random: &[u8],
     signature: &mut [u8],
 ) -> u32
-    ensures { SignsMu (named_set set) private_key.now mu.now random.now signature.old signature.new result }
+    ensures { SignMuAnswers (named_set set) private_key.now mu.now random.now signature.old signature.new result }
 {
     let Some(mu) = mu.as_array::<64>() else {
         return WRONG_LENGTH;
@@ -61,7 +61,7 @@ pub(crate) fn sign_mu(
 /// Tells whether a public key accepts the signature of an input.
 #[inline(always)]
 pub(crate) fn verify(set: SetName, public_key: &[u8], input: &Input<'_>, signature: &[u8]) -> u32
-    ensures { Judges (named_set set) public_key.now (input_of input.now) signature.now result }
+    ensures { VerifyAnswers (named_set set) public_key.now (input_of input.now) signature.now result }
 {
     verdict_status(fips204_shake::verify(set, public_key, input, signature))
 }
@@ -69,7 +69,7 @@ pub(crate) fn verify(set: SetName, public_key: &[u8], input: &Input<'_>, signatu
 /// Tells whether a public key accepts the signature of the hash `mu` of a framed message.
 #[inline(always)]
 pub(crate) fn verify_mu(set: SetName, public_key: &[u8], mu: &[u8], signature: &[u8]) -> u32
-    ensures { JudgesMu (named_set set) public_key.now mu.now signature.now result }
+    ensures { VerifyMuAnswers (named_set set) public_key.now mu.now signature.now result }
 {
     let Some(signed) = mu.as_array::<64>() else {
         return WRONG_LENGTH;

@@ -3,7 +3,7 @@
 
 ghost use Rattle.fips204.specs.Framing.{plain, hashed};
 ghost use Rattle.fips204.specs.ParameterSets.{set_65};
-ghost use Rattle.mldsa_c.specs.Calls.{Generates, Signs, Judges, SignsMu, JudgesMu, Derives, Checks, ChecksWholeness, ChecksPair};
+ghost use Rattle.mldsa_c.specs.Calls.{KeygenAnswers, SignAnswers, VerifyAnswers, SignMuAnswers, VerifyMuAnswers, PublicKeyAnswers, CheckPrivateKeyAnswers, IsWholeAnswers, IsPairAnswers};
 ghost use Rattle.mldsa_c.specs.Pieces.{Begins};
 ghost use Rattle.fips204_bytes.specs.Mu.{tr_of_private, tr_of_public};
 ghost use Rattle.fips204_shake.specs.Fronts.{shake256_front};
@@ -16,7 +16,7 @@ use fips204_shake::{Input, SetName};
 /// Makes the key pair of a seed of 32 bytes.
 #[unsafe(no_mangle)]
 pub extern "C" fn mldsa65_keygen(seed: &[u8], public_key: &mut [u8], private_key: &mut [u8]) -> u32
-    ensures { Generates set_65 seed.now public_key.old public_key.new private_key.old private_key.new result }
+    ensures { KeygenAnswers set_65 seed.now public_key.old public_key.new private_key.old private_key.new result }
 {
     calls::keygen(SetName::MlDsa65, seed, public_key, private_key)
 }
@@ -30,7 +30,7 @@ pub extern "C" fn mldsa65_sign(
     random: &[u8],
     signature: &mut [u8],
 ) -> u32
-    ensures { Signs set_65 private_key.now (plain message.now context.now) random.now signature.old signature.new result }
+    ensures { SignAnswers set_65 private_key.now (plain message.now context.now) random.now signature.old signature.new result }
 {
     let input = Input::Message(message, context);
     calls::sign(SetName::MlDsa65, private_key, &input, random, signature)
@@ -44,7 +44,7 @@ pub extern "C" fn mldsa65_verify(
     context: &[u8],
     signature: &[u8],
 ) -> u32
-    ensures { Judges set_65 public_key.now (plain message.now context.now) signature.now result }
+    ensures { VerifyAnswers set_65 public_key.now (plain message.now context.now) signature.now result }
 {
     let signed = Input::Message(message, context);
     calls::verify(SetName::MlDsa65, public_key, &signed, signature)
@@ -60,7 +60,7 @@ pub extern "C" fn mldsa65_hash_sign(
     random: &[u8],
     signature: &mut [u8],
 ) -> u32
-    ensures { Signs set_65 private_key.now (hashed digest.now context.now oid.now) random.now signature.old signature.new result }
+    ensures { SignAnswers set_65 private_key.now (hashed digest.now context.now oid.now) random.now signature.old signature.new result }
 {
     let input = Input::Digest(digest, context, oid);
     calls::sign(SetName::MlDsa65, private_key, &input, random, signature)
@@ -75,7 +75,7 @@ pub extern "C" fn mldsa65_hash_verify(
     oid: &[u8],
     signature: &[u8],
 ) -> u32
-    ensures { Judges set_65 public_key.now (hashed digest.now context.now oid.now) signature.now result }
+    ensures { VerifyAnswers set_65 public_key.now (hashed digest.now context.now oid.now) signature.now result }
 {
     let signed = Input::Digest(digest, context, oid);
     calls::verify(SetName::MlDsa65, public_key, &signed, signature)
@@ -89,7 +89,7 @@ pub extern "C" fn mldsa65_sign_mu(
     random: &[u8],
     signature: &mut [u8],
 ) -> u32
-    ensures { SignsMu set_65 private_key.now mu.now random.now signature.old signature.new result }
+    ensures { SignMuAnswers set_65 private_key.now mu.now random.now signature.old signature.new result }
 {
     calls::sign_mu(SetName::MlDsa65, private_key, mu, random, signature)
 }
@@ -97,7 +97,7 @@ pub extern "C" fn mldsa65_sign_mu(
 /// Tells whether a public key accepts the signature of the hash `mu` of a framed message.
 #[unsafe(no_mangle)]
 pub extern "C" fn mldsa65_verify_mu(public_key: &[u8], mu: &[u8], signature: &[u8]) -> u32
-    ensures { JudgesMu set_65 public_key.now mu.now signature.now result }
+    ensures { VerifyMuAnswers set_65 public_key.now mu.now signature.now result }
 {
     calls::verify_mu(SetName::MlDsa65, public_key, mu, signature)
 }
@@ -105,7 +105,7 @@ pub extern "C" fn mldsa65_verify_mu(public_key: &[u8], mu: &[u8], signature: &[u
 /// Computes the public key of a private one.
 #[unsafe(no_mangle)]
 pub extern "C" fn mldsa65_public_key(private_key: &[u8], public_key: &mut [u8]) -> u32
-    ensures { Derives set_65 private_key.now public_key.old public_key.new result }
+    ensures { PublicKeyAnswers set_65 private_key.now public_key.old public_key.new result }
 {
     status(fips204_shake::public_key(SetName::MlDsa65, private_key, public_key))
 }
@@ -113,7 +113,7 @@ pub extern "C" fn mldsa65_public_key(private_key: &[u8], public_key: &mut [u8]) 
 /// Tells whether bytes are a private key.
 #[unsafe(no_mangle)]
 pub extern "C" fn mldsa65_check_private_key(private_key: &[u8]) -> u32
-    ensures { Checks set_65 private_key.now result }
+    ensures { CheckPrivateKeyAnswers set_65 private_key.now result }
 {
     status(fips204_shake::check_private_key(SetName::MlDsa65, private_key))
 }
@@ -121,7 +121,7 @@ pub extern "C" fn mldsa65_check_private_key(private_key: &[u8]) -> u32
 /// Tells whether a private key is whole.
 #[unsafe(no_mangle)]
 pub extern "C" fn mldsa65_is_whole(private_key: &[u8]) -> u32
-    ensures { ChecksWholeness set_65 private_key.now result }
+    ensures { IsWholeAnswers set_65 private_key.now result }
 {
     verdict_status(fips204_shake::is_whole(SetName::MlDsa65, private_key))
 }
@@ -129,7 +129,7 @@ pub extern "C" fn mldsa65_is_whole(private_key: &[u8]) -> u32
 /// Tells whether a private key and the public key that belongs to it are a pair.
 #[unsafe(no_mangle)]
 pub extern "C" fn mldsa65_is_pair(private_key: &[u8]) -> u32
-    ensures { ChecksPair set_65 private_key.now result }
+    ensures { IsPairAnswers set_65 private_key.now result }
 {
     verdict_status(fips204_shake::is_pair(SetName::MlDsa65, private_key))
 }

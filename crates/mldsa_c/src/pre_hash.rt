@@ -2,7 +2,7 @@
 #![tactic(auto)]
 
 ghost use Rattle.std.specs.Prelude.{◌≡◌};
-ghost use Rattle.mldsa_c.specs.Calls.{ChecksPreHash};
+ghost use Rattle.mldsa_c.specs.Calls.{CheckPreHashAnswers};
 
 use crate::statuses::{DONE, status_of};
 use fips204::check_pre_hash;
@@ -10,7 +10,7 @@ use fips204::check_pre_hash;
 /// Tells whether a digest and the object identifier of its hash function can be signed.
 #[unsafe(no_mangle)]
 pub extern "C" fn mldsa_check_pre_hash(digest: &[u8], oid: &[u8]) -> u32
-    ensures { ChecksPreHash digest.now oid.now result }
+    ensures { CheckPreHashAnswers digest.now oid.now result }
 {
     match check_pre_hash(digest, oid) {
         Ok(()) => DONE,

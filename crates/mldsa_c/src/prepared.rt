@@ -3,7 +3,7 @@
 
 ghost use Rattle.fips204.specs.Inputs.{input_of};
 ghost use Rattle.fips204.specs.Sets.{named_set};
-ghost use Rattle.mldsa_c.specs.Prepared.{PreparesPublic, JudgesPrepared, JudgesMuPrepared, PreparesPrivate, SignsPrepared, SignsMuPrepared};
+ghost use Rattle.mldsa_c.specs.Prepared.{PreparePublicKeyAnswers, VerifyPreparedAnswers, VerifyMuPreparedAnswers, PreparePrivateKeyAnswers, SignPreparedAnswers, SignMuPreparedAnswers};
 
 use crate::statuses::{WRONG_LENGTH, status, verdict_status};
 use fips204_shake::{Input, SetName};
@@ -11,7 +11,7 @@ use fips204_shake::{Input, SetName};
 /// Prepares a public key.
 #[inline(always)]
 pub(crate) fn prepare_public_key(set: SetName, public_key: &[u8], prepared: &mut [u8]) -> u32
-    ensures { PreparesPublic (named_set set) public_key.now prepared.old prepared.new result }
+    ensures { PreparePublicKeyAnswers (named_set set) public_key.now prepared.old prepared.new result }
 {
     status(fips204_shake::prepare_public_key(set, public_key, prepared))
 }
@@ -19,7 +19,7 @@ pub(crate) fn prepare_public_key(set: SetName, public_key: &[u8], prepared: &mut
 /// Tells whether a prepared public key accepts the signature of an input.
 #[inline(always)]
 pub(crate) fn verify(set: SetName, prepared: &[u8], input: &Input<'_>, signature: &[u8]) -> u32
-    ensures { JudgesPrepared (named_set set) prepared.now (input_of input.now) signature.now result }
+    ensures { VerifyPreparedAnswers (named_set set) prepared.now (input_of input.now) signature.now result }
 {
     verdict_status(fips204_shake::verify_prepared(set, prepared, input, signature))
 }
@@ -27,7 +27,7 @@ pub(crate) fn verify(set: SetName, prepared: &[u8], input: &Input<'_>, signature
 /// Tells whether a prepared public key accepts the signature of the hash `mu` of a framed message.
 #[inline(always)]
 pub(crate) fn verify_mu(set: SetName, prepared: &[u8], mu: &[u8], signature: &[u8]) -> u32
-    ensures { JudgesMuPrepared (named_set set) prepared.now mu.now signature.now result }
+    ensures { VerifyMuPreparedAnswers (named_set set) prepared.now mu.now signature.now result }
 {
     let Some(signed) = mu.as_array::<64>() else {
         return WRONG_LENGTH;
@@ -38,7 +38,7 @@ pub(crate) fn verify_mu(set: SetName, prepared: &[u8], mu: &[u8], signature: &[u
 /// Prepares a private key.
 #[inline(always)]
 pub(crate) fn prepare_private_key(set: SetName, private_key: &[u8], prepared: &mut [u8]) -> u32
-    ensures { PreparesPrivate (named_set set) private_key.now prepared.old prepared.new result }
+    ensures { PreparePrivateKeyAnswers (named_set set) private_key.now prepared.old prepared.new result }
 {
     status(fips204_shake::prepare_private_key(set, private_key, prepared))
 }
@@ -52,7 +52,7 @@ pub(crate) fn sign(
     random: &[u8],
     signature: &mut [u8],
 ) -> u32
-    ensures { SignsPrepared (named_set set) prepared.now (input_of input.now) random.now signature.old signature.new result }
+    ensures { SignPreparedAnswers (named_set set) prepared.now (input_of input.now) random.now signature.old signature.new result }
 {
     let Some(random) = random.as_array::<32>() else {
         return WRONG_LENGTH;
@@ -69,7 +69,7 @@ pub(crate) fn sign_mu(
     random: &[u8],
     signature: &mut [u8],
 ) -> u32
-    ensures { SignsMuPrepared (named_set set) prepared.now mu.now random.now signature.old signature.new result }
+    ensures { SignMuPreparedAnswers (named_set set) prepared.now mu.now random.now signature.old signature.new result }
 {
     let Some(mu) = mu.as_array::<64>() else {
         return WRONG_LENGTH;

@@ -3,7 +3,7 @@
 
 ghost use Rattle.fips204.specs.Framing.{plain, hashed};
 ghost use Rattle.fips204.specs.ParameterSets.{set_65};
-ghost use Rattle.mldsa_c.specs.Prepared.{PreparesPublic, JudgesPrepared, JudgesMuPrepared, PreparesPrivate, SignsPrepared, SignsMuPrepared};
+ghost use Rattle.mldsa_c.specs.Prepared.{PreparePublicKeyAnswers, VerifyPreparedAnswers, VerifyMuPreparedAnswers, PreparePrivateKeyAnswers, SignPreparedAnswers, SignMuPreparedAnswers};
 
 use crate::prepared;
 use fips204_shake::{Input, SetName};
@@ -14,7 +14,7 @@ pub extern "C" fn mldsa65_prepare_public_key(
     public_key: &[u8],
     prepared_public_key: &mut [u8],
 ) -> u32
-    ensures { PreparesPublic set_65 public_key.now prepared_public_key.old prepared_public_key.new result }
+    ensures { PreparePublicKeyAnswers set_65 public_key.now prepared_public_key.old prepared_public_key.new result }
 {
     prepared::prepare_public_key(SetName::MlDsa65, public_key, prepared_public_key)
 }
@@ -27,7 +27,7 @@ pub extern "C" fn mldsa65_verify_prepared(
     context: &[u8],
     signature: &[u8],
 ) -> u32
-    ensures { JudgesPrepared set_65 prepared_public_key.now (plain message.now context.now) signature.now result }
+    ensures { VerifyPreparedAnswers set_65 prepared_public_key.now (plain message.now context.now) signature.now result }
 {
     let signed = Input::Message(message, context);
     prepared::verify(SetName::MlDsa65, prepared_public_key, &signed, signature)
@@ -42,7 +42,7 @@ pub extern "C" fn mldsa65_hash_verify_prepared(
     oid: &[u8],
     signature: &[u8],
 ) -> u32
-    ensures { JudgesPrepared set_65 prepared_public_key.now (hashed digest.now context.now oid.now) signature.now result }
+    ensures { VerifyPreparedAnswers set_65 prepared_public_key.now (hashed digest.now context.now oid.now) signature.now result }
 {
     let signed = Input::Digest(digest, context, oid);
     prepared::verify(SetName::MlDsa65, prepared_public_key, &signed, signature)
@@ -55,7 +55,7 @@ pub extern "C" fn mldsa65_verify_mu_prepared(
     mu: &[u8],
     signature: &[u8],
 ) -> u32
-    ensures { JudgesMuPrepared set_65 prepared_public_key.now mu.now signature.now result }
+    ensures { VerifyMuPreparedAnswers set_65 prepared_public_key.now mu.now signature.now result }
 {
     prepared::verify_mu(SetName::MlDsa65, prepared_public_key, mu, signature)
 }
@@ -66,7 +66,7 @@ pub extern "C" fn mldsa65_prepare_private_key(
     private_key: &[u8],
     prepared_private_key: &mut [u8],
 ) -> u32
-    ensures { PreparesPrivate set_65 private_key.now prepared_private_key.old prepared_private_key.new result }
+    ensures { PreparePrivateKeyAnswers set_65 private_key.now prepared_private_key.old prepared_private_key.new result }
 {
     prepared::prepare_private_key(SetName::MlDsa65, private_key, prepared_private_key)
 }
@@ -80,7 +80,7 @@ pub extern "C" fn mldsa65_sign_prepared(
     random: &[u8],
     signature: &mut [u8],
 ) -> u32
-    ensures { SignsPrepared set_65 prepared_private_key.now (plain message.now context.now) random.now signature.old signature.new result }
+    ensures { SignPreparedAnswers set_65 prepared_private_key.now (plain message.now context.now) random.now signature.old signature.new result }
 {
     let input = Input::Message(message, context);
     prepared::sign(
@@ -102,7 +102,7 @@ pub extern "C" fn mldsa65_hash_sign_prepared(
     random: &[u8],
     signature: &mut [u8],
 ) -> u32
-    ensures { SignsPrepared set_65 prepared_private_key.now (hashed digest.now context.now oid.now) random.now signature.old signature.new result }
+    ensures { SignPreparedAnswers set_65 prepared_private_key.now (hashed digest.now context.now oid.now) random.now signature.old signature.new result }
 {
     let input = Input::Digest(digest, context, oid);
     prepared::sign(
@@ -122,7 +122,7 @@ pub extern "C" fn mldsa65_sign_mu_prepared(
     random: &[u8],
     signature: &mut [u8],
 ) -> u32
-    ensures { SignsMuPrepared set_65 prepared_private_key.now mu.now random.now signature.old signature.new result }
+    ensures { SignMuPreparedAnswers set_65 prepared_private_key.now mu.now random.now signature.old signature.new result }
 {
     prepared::sign_mu(
         SetName::MlDsa65,

@@ -16,7 +16,7 @@ use Rattle.fips204.specs.Prepared.{PreparedPublic, prepared_public, PreparedAnsw
 use Rattle.fips204.specs.Refusals.{sign_input, VerifiesInput}
 use Rattle.fips204.specs.declared.types.T.{T}
 use Rattle.mldsa_lines.specs.Lines.{AllFit, TakesLines}
-use Rattle.mldsa_engine.specs.ProgramText.{text, answer_word, entry_lines, Refuses, Tells, Signs, AnswersEach, TellsAll, Judges}
+use Rattle.mldsa_engine.specs.ProgramText.{text, answer_word, entry_lines, Refuses, Tells, TellsSignature, AnswersEach, TellsAll, TellsVerdict}
 use Rattle.mldsa_engine.specs.InnerSteps.{AcceptsIfPrepared, JudgesEntries, JudgesByKey}
 use Rattle.mldsa_lines.proofs.LinesInSequence.{no_lines}
 use Rattle.mldsa_engine.proofs.Entries.{next_entry}
@@ -138,7 +138,7 @@ pub judges_told : {W E : Type 0} (output : W → List ℕ) (success : W → Bool
     (key signature context message : List ℕ) (answer : Bool) (result : Result W E)
     → ((pk : PublicParts) × IsPublicKeyOf H p.k key pk × (IsTrue answer ↔ VerifiesInput p H G pk signature (plain message context)))
     → IfOk result (λ it. (output it ≡ text (answer_word answer ∷ [])) × (success it ≡ answer))
-    → IfOk result (λ it. Judges p H G key signature context message (output it) (success it))
+    → IfOk result (λ it. TellsVerdict p H G key signature context message (output it) (success it))
 judges_told output success p H G key signature context message answer (Err fault) now told = told
 judges_told output success p H G key signature context message answer (Ok it) (pk, is, now) told = rw told.1 (pk, is, now, told.0)
 
@@ -149,6 +149,6 @@ pub signs_told : {W E : Type 0} (output : W → List ℕ) (success : W → Bool)
     → IfOk result (λ it. MatchResult decoded
     (λ sk. Tells (λ signature. signature ∷ []) (sign_input p H G sk seed (plain message context)) (output it) (success it))
     (λ fault. Refuses fault (output it) (success it)))
-    → IfOk result (λ it. Signs p H G key seed context message (output it) (success it))
+    → IfOk result (λ it. TellsSignature p H G key seed context message (output it) (success it))
 signs_told output success p H G key seed context message decoded (Err fault) decodes told = told
 signs_told output success p H G key seed context message decoded (Ok it) decodes told = (decoded, decodes, told)

@@ -87,14 +87,14 @@ TellsOfKey {K} decodes tells output answer = (decoded : Result K Fault) × decod
     × MatchResult decoded (λ key. tells key output answer) (λ fault. Refuses fault output answer)
 
 -- `keygen`: the public key and the private key of a seed
-abbrev pub Generates : ParameterSet → (List ℕ → List ℕ) → (List ℕ → List ℕ) → List ℕ → List ℕ → Bool → Type 0
-Generates p H G seed output answer =
+abbrev pub TellsKeys : ParameterSet → (List ℕ → List ℕ) → (List ℕ → List ℕ) → List ℕ → List ℕ → Bool → Type 0
+TellsKeys p H G seed output answer =
     Tells (λ keys. public_key_bytes keys.0.rho keys.0.t1 ∷ private_key_bytes p.eta keys.1 ∷ [])
     (generated p H G seed) output answer
 
 -- `sign`: the signature by the private key that has these bytes, or the refusal; that of the bytes stands first
-abbrev pub Signs : ParameterSet → (List ℕ → List ℕ) → (List ℕ → List ℕ) → List ℕ → List ℕ → List ℕ → List ℕ → List ℕ → Bool → Type 0
-Signs p H G key seed context message output answer =
+abbrev pub TellsSignature : ParameterSet → (List ℕ → List ℕ) → (List ℕ → List ℕ) → List ℕ → List ℕ → List ℕ → List ℕ → List ℕ → Bool → Type 0
+TellsSignature p H G key seed context message output answer =
     TellsOfKey (DecodesPrivate p.eta p.k p.l key) (λ sk. Tells (λ signature. signature ∷ []) (sign_input p H G sk seed (plain message context)))
     output answer
 
@@ -104,15 +104,15 @@ answer_word true = codes "yes"
 answer_word false = codes "no"
 
 -- `verify`: whether the public key that has these bytes accepts the signature
-abbrev pub Judges : ParameterSet → (List ℕ → List ℕ) → (List ℕ → List ℕ) → List ℕ → List ℕ → List ℕ → List ℕ → List ℕ → Bool → Type 0
-Judges p H G key signature context message output answer = (pk : PublicParts)
+abbrev pub TellsVerdict : ParameterSet → (List ℕ → List ℕ) → (List ℕ → List ℕ) → List ℕ → List ℕ → List ℕ → List ℕ → List ℕ → Bool → Type 0
+TellsVerdict p H G key signature context message output answer = (pk : PublicParts)
     × IsPublicKeyOf H p.k key pk
     × (IsTrue answer ↔ VerifiesInput p H G pk signature (plain message context))
     × (output ≡ text (answer_word answer ∷ []))
 
 -- `check`: yes where the seed's pair signs the message, which its public key then accepts, or the first refusal
-abbrev pub Checks : ParameterSet → (List ℕ → List ℕ) → (List ℕ → List ℕ) → List ℕ → List ℕ → List ℕ → List ℕ → List ℕ → Bool → Type 0
-Checks p H G xi rnd context message output answer =
+abbrev pub TellsCheck : ParameterSet → (List ℕ → List ℕ) → (List ℕ → List ℕ) → List ℕ → List ℕ → List ℕ → List ℕ → List ℕ → Bool → Type 0
+TellsCheck p H G xi rnd context message output answer =
     MatchResult (generated p H G xi)
     (λ keys. MatchResult (sign_input p H G keys.1 rnd (plain message context))
     (λ _. (output ≡ text (answer_word true ∷ [])) × (answer ≡ true))
@@ -130,8 +130,8 @@ abbrev pub TellsAll : List Bool → List ℕ → Bool → Type 0
 TellsAll answers output answer = (output ≡ text (map answer_word answers)) × (IsTrue answer ↔ All IsTrue answers)
 
 -- `batch`: whether the public key that has these bytes accepts each of the entries
-abbrev pub JudgesEach : ParameterSet → (List ℕ → List ℕ) → (List ℕ → List ℕ) → List ℕ → List ℕ → List (List ℕ) → List ℕ → Bool → Type 0
-JudgesEach p H G key context entries output answer = (pk : PublicParts) × IsPublicKeyOf H p.k key pk
+abbrev pub TellsVerdicts : ParameterSet → (List ℕ → List ℕ) → (List ℕ → List ℕ) → List ℕ → List ℕ → List (List ℕ) → List ℕ → Bool → Type 0
+TellsVerdicts p H G key context entries output answer = (pk : PublicParts) × IsPublicKeyOf H p.k key pk
     × ((answers : List Bool) × AnswersEach (λ signature message. VerifiesInput p H G pk signature (plain message context)) entries answers
     × TellsAll answers output answer)
 
@@ -141,17 +141,17 @@ abbrev pub Answers : (List ℕ → List ℕ) → (List ℕ → List ℕ) → Tas
 Answers H G Id p lines output answer = (key : List ℕ) × (lines ≡ key ∷ [])
     × (output ≡ hex_text (key ∷ take 64 (H key) ∷ [])) × (answer ≡ true)
 Answers H G Keygen p lines output answer = (seed : List ℕ) × (lines ≡ seed ∷ [])
-    × Generates p H G seed output answer
+    × TellsKeys p H G seed output answer
 Answers H G Sign p lines output answer = (key seed context message : List ℕ) × (lines ≡ key ∷ seed ∷ context ∷ message ∷ [])
-    × Signs p H G key seed context message output answer
+    × TellsSignature p H G key seed context message output answer
 Answers H G Verify p lines output answer = (key signature context message : List ℕ) × (lines ≡ key ∷ signature ∷ context ∷ message ∷ [])
-    × Judges p H G key signature context message output answer
+    × TellsVerdict p H G key signature context message output answer
 Answers H G Check p lines output answer = (xi rnd context message : List ℕ) × (lines ≡ xi ∷ rnd ∷ context ∷ message ∷ [])
-    × Checks p H G xi rnd context message output answer
+    × TellsCheck p H G xi rnd context message output answer
 Answers H G Batch p lines output answer = (key context count : List ℕ)
     × ((entries : List (List ℕ)) × (lines ≡ key ∷ context ∷ count ∷ entries)
     × (length entries ≡ 2 * two_bytes count)
-    × JudgesEach p H G key context entries output answer)
+    × TellsVerdicts p H G key context entries output answer)
 
 -- a command was carried out over the streams H and G: its reader gave the wanted lines and has left what follows them, and this is
 -- what the command writes and answers for them

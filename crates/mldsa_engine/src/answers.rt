@@ -8,7 +8,7 @@ ghost use Rattle.fips204.specs.Framing.{plain};
 ghost use Rattle.fips204.specs.Prepared.{prepared_public};
 ghost use Rattle.fips204.specs.Sets.{named_set};
 ghost use Rattle.mldsa_lines.specs.Lines.{AllFit, IsInputFault, StopsAt};
-ghost use Rattle.mldsa_engine.specs.ProgramText.{two_bytes, wanted_lines, entry_lines, input_lines, lines_of_input, hex_text, Generates, Signs, Checks, Answers, Executes};
+ghost use Rattle.mldsa_engine.specs.ProgramText.{two_bytes, wanted_lines, entry_lines, input_lines, lines_of_input, hex_text, TellsKeys, TellsSignature, TellsCheck, Answers, Executes};
 ghost use Rattle.mldsa_engine.specs.InnerSteps.{AcceptsIfPrepared, JudgesEntries, JudgesByKey};
 
 mod writing;
@@ -157,7 +157,7 @@ where
     /// The keys of a seed, as lines of hex, or the refusal.
     #[inline(never)]
     fn keygen(alloc: Global, seed: &[u8; 32]) -> Result<Output, RunFault>
-        ensures given { IfOk result (λ output. Generates S.set H.front G.front seed.now output.text.items output.success) }
+        ensures given { IfOk result (λ output. TellsKeys S.set H.front G.front seed.now output.text.items output.success) }
         ensures memory { IfErr result (λ fault. fault ≡ RunFault.Memory) }
     {
         match KG::<K, L, H, G>::keygen_from_seed(seed) {
@@ -177,7 +177,7 @@ where
         message: &[u8],
     ) -> Result<Output, RunFault>
         requires key { length key.now ≡ SK_LEN }
-        ensures given { IfOk result (λ output. Signs S.set H.front G.front
+        ensures given { IfOk result (λ output. TellsSignature S.set H.front G.front
             key.now seed.now context.now message.now output.text.items output.success) }
         ensures memory { IfErr result (λ fault. fault ≡ RunFault.Memory) }
     {
@@ -210,7 +210,7 @@ where
         context: &[u8],
         message: &[u8],
     ) -> Result<Output, RunFault>
-        ensures given { IfOk result (λ output. Checks S.set H.front G.front
+        ensures given { IfOk result (λ output. TellsCheck S.set H.front G.front
             xi.now rnd.now context.now message.now output.text.items output.success) }
         ensures memory { IfErr result (λ fault. fault ≡ RunFault.Memory) }
     {

@@ -1,7 +1,7 @@
 use Rattle.std.proofs.Common.{◌≡◌, ◌∷◌, [], take, length, true, Some, None, refl, ap, sym, arith, ◌∙◌}
 use Rattle.fips204.specs.ParameterSets.{public_key_length, private_key_length, signature_length}
 use Rattle.mldsa_engine.specs.declared.call.Task.TheVariants.{Id, Keygen, Sign, Verify, Check}
-use Rattle.mldsa_engine.specs.ProgramText.{wanted_lines, hex_text, Generates, Signs, Judges, Checks}
+use Rattle.mldsa_engine.specs.ProgramText.{wanted_lines, hex_text, TellsKeys, TellsSignature, TellsVerdict, TellsCheck}
 use Rattle.mldsa_engine.proofs.LineCounts.{fits_at, answers_one, answers_four}
 use Rattle.mldsa_engine.proofs.Verdicts.{judges_told}
 use Rattle.mldsa_engine.proofs.answers.AtSet.answer.Goals as goal
@@ -19,7 +19,7 @@ returns-in-Keygen-clause-given g c =
     let fit = rw c.in-Keygen.is at c.requires.fit in
     rw c.in-Keygen.is (answers_one (λ line. line.items) (λ output. output.text.items)
     (λ output. output.success) g.H.Xof.front g.G.Xof.front Keygen g.S.Set.set (Some 32)
-    (Generates g.S.Set.set g.H.Xof.front g.G.Xof.front) c.args.lines.now _ _ _
+    (TellsKeys g.S.Set.set g.H.Xof.front g.G.Xof.front) c.args.lines.now _ _ _
     (λ a output answer told. (a, refl, told)) fit c.index-lines-0-in-Keygen.is
     (c.array_of.ensures ∙ c.as_slice-in-Keygen.ensures.value) c.keygen.ensures.given)
 
@@ -28,7 +28,7 @@ returns-in-Sign-clause-given g c =
     let p = g.S.Set.set in
     let fit = rw c.in-Sign.is at c.requires.fit in
     rw c.in-Sign.is (answers_four (λ field. field.now) (λ output. output.text.items) (λ output. output.success) g.H.Xof.front g.G.Xof.front
-    Sign p (Some (private_key_length p)) (Some 32) None None (Signs p g.H.Xof.front g.G.Xof.front) _ c.fields.result _ _ _ _
+    Sign p (Some (private_key_length p)) (Some 32) None None (TellsSignature p g.H.Xof.front g.G.Xof.front) _ c.fields.result _ _ _ _
     (λ x y z w output answer told. (x, y, z, w, refl, told)) fit c.fields.ensures refl c.array_of-in-Sign.ensures c.sign.ensures.given)
 
 pub returns-in-Verify-clause-given : goal.returns-in-Verify-clause-given
@@ -36,7 +36,7 @@ returns-in-Verify-clause-given g c =
     let p = g.S.Set.set in
     let fit = rw c.in-Verify.is at c.requires.fit in
     rw c.in-Verify.is (answers_four (λ field. field.now) (λ output. output.text.items) (λ output. output.success) g.H.Xof.front
-    g.G.Xof.front Verify p (Some (public_key_length p)) (Some (signature_length p)) None None (Judges p g.H.Xof.front g.G.Xof.front) _
+    g.G.Xof.front Verify p (Some (public_key_length p)) (Some (signature_length p)) None None (TellsVerdict p g.H.Xof.front g.G.Xof.front) _
     c.fields-in-Verify.result _ _ _ _ (λ x y z w output answer told. (x, y, z, w, refl, told)) fit c.fields-in-Verify.ensures refl refl
     (judges_told (λ output. output.text.items) (λ output. output.success) p _ _ _ _ _ _ c.accepts.result _ c.accepts.ensures
     c.tell.ensures.given))
@@ -46,7 +46,7 @@ returns-in-Check-clause-given g c =
     let p = g.S.Set.set in
     let fit = rw c.in-Check.is at c.requires.fit in
     rw c.in-Check.is (answers_four (λ field. field.now) (λ output. output.text.items) (λ output. output.success) g.H.Xof.front
-    g.G.Xof.front Check p (Some 32) (Some 32) None None (Checks p g.H.Xof.front g.G.Xof.front) _ c.fields-in-Check.result _ _ _ _
+    g.G.Xof.front Check p (Some 32) (Some 32) None None (TellsCheck p g.H.Xof.front g.G.Xof.front) _ c.fields-in-Check.result _ _ _ _
     (λ x y z w output answer told. (x, y, z, w, refl, told)) fit c.fields-in-Check.ensures c.array_of-in-Check.ensures
     c.array_of-in-Check-2.ensures c.check.ensures.given)
 
