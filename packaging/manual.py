@@ -41,8 +41,8 @@ def marked(text, placeholders=()):
         else:
             words = re.sub(r"\b\w+\b", lambda it: f"\\fI{it[0]}\\fR" if it[0] in placeholders else it[0], plain(part))
             parts.append(words)
-    # A page of docs/ is a page of the manual here.
-    return re.sub(r"docs/(\w+)\.(\d)\.md", r"\1(\2)", "".join(parts))
+    # What is a page of this folder here is one of the manual there.
+    return re.sub(r"man/(\w+)\.(\d)\.md", r"\1(\2)", "".join(parts))
 
 
 def filled(text):
