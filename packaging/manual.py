@@ -41,8 +41,8 @@ def marked(text, placeholders=()):
         else:
             words = re.sub(r"\b\w+\b", lambda it: f"\\fI{it[0]}\\fR" if it[0] in placeholders else it[0], plain(part))
             parts.append(words)
-    # A page of docs/ is a page of the manual here.
-    return re.sub(r"docs/(\w+)\.(\d)\.md", r"\1(\2)", "".join(parts))
+    # What is a page of this folder here is one of the manual there.
+    return re.sub(r"man/(\w+)\.(\d)\.md", r"\1(\2)", "".join(parts))
 
 
 def filled(text):
@@ -204,20 +204,27 @@ class Family:
 def families(text):
     """The calls that a set has, as the first comment of the header tells them; and what of that comment is above and below them."""
     lines = comment_lines(re.match(r"/\*.*?\*/", text, re.S)[0])
+    known = {it.name.partition("_")[2] for it in exports.exports()}
+
+    def entry_of(line):
+        """The names that a line of the list begins with, and what stands behind them."""
+        begins = re.match(r" (\w+(?:, \w+)*)(?: +(\S.*))?$", line)
+        given = begins[1].split(", ") if begins else []
+        return (given, begins[2] or "") if given and set(given) <= known else None
+
     start = next(place for place, line in enumerate(lines) if line.startswith("A set's calls are these"))
-    first = next(place for place in range(start, len(lines)) if re.match(r" \w+ {2,}\S", lines[place]))
+    first = next(place for place in range(start, len(lines)) if entry_of(lines[place]))
     found, names, words = [], [], []
     for place in range(first, len(lines)):
-        line = lines[place]
-        entry = re.match(r" (\w+) {2,}(\S.*)", line)
+        line, entry = lines[place], entry_of(lines[place])
         if not entry and not line.startswith("     "):
             first_after = place
             break
         if entry and words and words[-1].endswith("]"):
             found.append(Family(names, " ".join(words)))
             names, words = [], []
-        names += [entry[1]] if entry else []
-        words.append(entry[2] if entry else line.strip())
+        names += entry[0] if entry else []
+        words += [it for it in [entry[1] if entry else line.strip()] if it]
     else:
         first_after = len(lines)
     found.append(Family(names, " ".join(words)))
@@ -321,16 +328,18 @@ def answers(family, text):
     known = {name: (value, words) for name, value, words in statuses(text)} if family.header == "mldsa.h" else {}
     said = {name for name in re.findall(r"MLDSA_[A-Z_]+", f"{family.answers} {family.text}") if name in known}
     said |= {name for name, (_, words) in known.items() if any(re.search(rf"\b{call}\b", words) for call in family.names)}
-    if "as is_pair" in family.answers:
+    if family.answers.startswith("as the calls "):
+        return f".SH RETURN VALUE\n{named('The answers are those of ' + family.answers.removeprefix('as ') + '.')}\n"
+    if family.answers == "as is_pair":
         said |= {"MLDSA_NO", "MLDSA_KEY_RANGE", "MLDSA_SAMPLING_LIMIT"}
     if not said:
         return ""
     said |= {"MLDSA_YES" if "MLDSA_NO" in said else "MLDSA_DONE", "MLDSA_WRONG_LENGTH"}
     if {"MLDSA_NO"} <= said and len(family.names) > 1:
         said.add("MLDSA_DONE")
-    which = f"\n.PP\nBy call: {named(family.answers)}.\n" if ":" in family.answers else ""
+    which = f".PP\n{named(f'By call: {family.answers}.')}\n" if ":" in family.answers else ""
     rows = "".join(f".TP\n\\fB{name}\\fR ({known[name][0]})\n{filled(plain(known[name][1]))}\n" for name in known if name in said)
-    return f".SH RETURN VALUE\n{rows}{which.lstrip()}"
+    return f".SH RETURN VALUE\n{rows}{which}"
 
 
 def overview(text, every, of_sets, singles_, version, date):

@@ -232,7 +232,7 @@ def in_terminal(room):
         raise Failed(f"mlsign wants {needed}")
     script = f'''. {top}/share/bash-completion/completions/mlsign
         complete -p mlsign
-        try() {{ COMP_WORDS=("$@"); COMP_CWORD=$(($# - 1)); _mlsign; echo "${{COMPREPLY[*]}}"; }}
+        try() {{ COMP_WORDS=("$@"); COMP_CWORD=$(($# - 1)); _mlsign; echo $(printf '%s\n' "${{COMPREPLY[@]}}" | sort); }}
         try mlsign ver; try mlsign sign --det; try mlsign keygen --set ""; try mlsign sign -k 44.p'''
     if not has("fish"):
         said = room.run("fish", "-c", f"source {top}/share/fish/vendor_completions.d/mlsign.fish; complete -C 'mlsign keygen --set '", cwd=folder)
