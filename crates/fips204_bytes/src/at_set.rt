@@ -1,7 +1,6 @@
 //! The calls at one parameter set.
 //!
-//! A call looks at the lengths, and the function that it then calls does the work, outside its frame. What is decoded is used
-//! by a reference: taken out it would be in the stack twice.
+//! A call looks at the lengths, and the function that it then calls does the work, outside its frame.
 #![tactic(auto)]
 
 ghost use Rattle.std.specs.Prelude.{◌≡◌, length};
