@@ -1,4 +1,5 @@
--- Whether numbers are those of a parameter set, as the type `Params` asks: cited by no public clause; nobody has to believe it.
+-- Whether numbers are those of a parameter set, as the type `Params` asks, so that literals can be tested. The law `known_set` says that such a value is one of
+-- the three (`IsSet`), and the law `rows` that each constant has the row of its name; with these two nobody has to believe this file.
 use Rattle.std.specs.Prelude.{ℕ, ℤ, pos, nat_abs, int_le, Bool, ◌&&◌, ◌||◌, nat_eq}
 use Rattle.fips204.specs.ParameterSets.{ParameterSet, set_44, set_65, set_87}
 
