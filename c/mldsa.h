@@ -161,9 +161,9 @@ enum mldsa_status {
 #define MLDSA44_STACK_WHOLE 117760
 #define MLDSA44_STACK_PAIR 121856
 #define MLDSA44_STACK_PREPARE_PUBLIC_KEY 132096
-#define MLDSA44_STACK_VERIFY_PREPARED 141312
+#define MLDSA44_STACK_VERIFY_PREPARED 142336
 #define MLDSA44_STACK_PREPARE_PRIVATE_KEY 242688
-#define MLDSA44_STACK_SIGN_PREPARED 325632
+#define MLDSA44_STACK_SIGN_PREPARED 307200
 
 MLDSA_ANSWERS
 uint32_t mldsa44_keygen(const uint8_t *seed, size_t seed_len, uint8_t *public_key, size_t public_key_len,
@@ -252,9 +252,9 @@ uint32_t mldsa44_verify_mu_prepared(const uint8_t *prepared_public_key, size_t p
 #define MLDSA65_STACK_WHOLE 161792
 #define MLDSA65_STACK_PAIR 166912
 #define MLDSA65_STACK_PREPARE_PUBLIC_KEY 199680
-#define MLDSA65_STACK_VERIFY_PREPARED 211968
+#define MLDSA65_STACK_VERIFY_PREPARED 212992
 #define MLDSA65_STACK_PREPARE_PRIVATE_KEY 330752
-#define MLDSA65_STACK_SIGN_PREPARED 440320
+#define MLDSA65_STACK_SIGN_PREPARED 408576
 
 MLDSA_ANSWERS
 uint32_t mldsa65_keygen(const uint8_t *seed, size_t seed_len, uint8_t *public_key, size_t public_key_len,
@@ -343,9 +343,9 @@ uint32_t mldsa65_verify_mu_prepared(const uint8_t *prepared_public_key, size_t p
 #define MLDSA87_STACK_WHOLE 223232
 #define MLDSA87_STACK_PAIR 232448
 #define MLDSA87_STACK_PREPARE_PUBLIC_KEY 311296
-#define MLDSA87_STACK_VERIFY_PREPARED 325632
+#define MLDSA87_STACK_VERIFY_PREPARED 327680
 #define MLDSA87_STACK_PREPARE_PRIVATE_KEY 461824
-#define MLDSA87_STACK_SIGN_PREPARED 622592
+#define MLDSA87_STACK_SIGN_PREPARED 580608
 
 MLDSA_ANSWERS
 uint32_t mldsa87_keygen(const uint8_t *seed, size_t seed_len, uint8_t *public_key, size_t public_key_len,
