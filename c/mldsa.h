@@ -84,7 +84,7 @@ extern "C" {
  * take. Another minor number may change any of that; keys and signatures are those of FIPS 204 in every version.
  *
  * In every version may change: the stack that a call needs (_STACK_), so take the header that came with the library; the texts of
- * mldsa_text; and the bytes inside a state, which only the library that began it can go on with. */
+ * mldsa_text; and the bytes inside a state and behind the key in a prepared key, which are for the library that wrote them. */
 #define MLDSA_VERSION 0x000200
 #define MLDSA_VERSION_TEXT "0.2.0"
 

@@ -23,6 +23,7 @@ IS(MLDSA_TOO_MANY_ATTEMPTS, 13);
 IS(MLDSA_KEY_RANGE, 14);
 IS(MLDSA_SAMPLING_LIMIT, 15);
 IS(MLDSA_BROKEN_STATE, 16);
+IS(MLDSA_NOT_PREPARED, 17);
 
 IS(MLDSA_SEED_LEN, 32);
 IS(MLDSA_RANDOM_LEN, 32);
@@ -30,10 +31,12 @@ IS(MLDSA_MU_LEN, 64);
 IS(MLDSA_STATE_LEN, 337);
 IS(MLDSA_OID_LEN, 11);
 
-#define SET(n, public_key, private_key, signature)                                                             \
+#define SET(n, public_key, private_key, signature, prepared_public_key, prepared_private_key)                  \
     IS(MLDSA##n##_PUBLIC_KEY_LEN, public_key);                                                                 \
     IS(MLDSA##n##_PRIVATE_KEY_LEN, private_key);                                                               \
     IS(MLDSA##n##_SIGNATURE_LEN, signature);                                                                   \
+    IS(MLDSA##n##_PREPARED_PUBLIC_KEY_LEN, prepared_public_key);                                               \
+    IS(MLDSA##n##_PREPARED_PRIVATE_KEY_LEN, prepared_private_key);                                             \
     HAS(mldsa##n##_keygen, IN, OUT, OUT);                                                                      \
     HAS(mldsa##n##_sign, IN, IN, IN, IN, OUT);                                                                 \
     HAS(mldsa##n##_verify, IN, IN, IN, IN);                                                                    \
@@ -46,10 +49,18 @@ IS(MLDSA_OID_LEN, 11);
     HAS(mldsa##n##_is_whole, IN);                                                                              \
     HAS(mldsa##n##_is_pair, IN);                                                                               \
     HAS(mldsa##n##_mu_begin, IN, IN, OUT);                                                                     \
-    HAS(mldsa##n##_mu_begin_private, IN, IN, OUT)
-SET(44, 1312, 2560, 2420);
-SET(65, 1952, 4032, 3309);
-SET(87, 2592, 4896, 4627);
+    HAS(mldsa##n##_mu_begin_private, IN, IN, OUT);                                                             \
+    HAS(mldsa##n##_prepare_public_key, IN, OUT);                                                               \
+    HAS(mldsa##n##_prepare_private_key, IN, OUT);                                                              \
+    HAS(mldsa##n##_sign_prepared, IN, IN, IN, IN, OUT);                                                        \
+    HAS(mldsa##n##_verify_prepared, IN, IN, IN, IN);                                                           \
+    HAS(mldsa##n##_hash_sign_prepared, IN, IN, IN, IN, IN, OUT);                                               \
+    HAS(mldsa##n##_hash_verify_prepared, IN, IN, IN, IN, IN);                                                  \
+    HAS(mldsa##n##_sign_mu_prepared, IN, IN, IN, OUT);                                                         \
+    HAS(mldsa##n##_verify_mu_prepared, IN, IN, IN)
+SET(44, 1312, 2560, 2420, 17760, 18944);
+SET(65, 1952, 4032, 3309, 32736, 34752);
+SET(87, 2592, 4896, 4627, 60000, 62240);
 HAS(mldsa_mu_update, IN, OUT);
 HAS(mldsa_mu_finish, IN, OUT);
 HAS(mldsa_check_pre_hash, IN, IN);

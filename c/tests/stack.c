@@ -73,9 +73,11 @@ static void verify_mu_prepared(void)
 }
 static void nothing(void) { answer = 0; }
 
-static void handle(int number)
+/* What the system puts on the stack begins with the description of the signal. It is asked for, so that `nothing` is seen to take
+ * all of that. */
+static void handle(int number, siginfo_t *description, void *context)
 {
-    (void)number;
+    (void)number, (void)description, (void)context;
     chosen();
 }
 
@@ -114,8 +116,8 @@ int main(int count, char **words)
     struct sigaction action;
     size_t own;
     memset(&action, 0, sizeof action);
-    action.sa_handler = handle;
-    action.sa_flags = SA_ONSTACK;
+    action.sa_sigaction = handle;
+    action.sa_flags = SA_ONSTACK | SA_SIGINFO;
     if (sigaction(SIGUSR1, &action, NULL))
         return 2;
     room = mmap(NULL, ROOM, PROT_READ | PROT_WRITE, MAP_PRIVATE | MAP_ANONYMOUS, -1, 0);

@@ -26,19 +26,19 @@ pub use rng::FillRng;
 #[cfg(feature = "ml-dsa-44")]
 pub mod ml_dsa_44 {
     crate::set::parameter_set!("ml_dsa_44", set_44, 1312, 2560, 2420);
-    crate::prepared::prepared_keys!(set_44, 17760, 18944);
+    crate::prepared::prepared_keys!("ml_dsa_44", set_44, 17760, 18944);
 }
 
 /// ML-DSA-65, of security category 3.
 #[cfg(feature = "ml-dsa-65")]
 pub mod ml_dsa_65 {
     crate::set::parameter_set!("ml_dsa_65", set_65, 1952, 4032, 3309);
-    crate::prepared::prepared_keys!(set_65, 32736, 34752);
+    crate::prepared::prepared_keys!("ml_dsa_65", set_65, 32736, 34752);
 }
 
 /// ML-DSA-87, of security category 5.
 #[cfg(feature = "ml-dsa-87")]
 pub mod ml_dsa_87 {
     crate::set::parameter_set!("ml_dsa_87", set_87, 2592, 4896, 4627);
-    crate::prepared::prepared_keys!(set_87, 60000, 62240);
+    crate::prepared::prepared_keys!("ml_dsa_87", set_87, 60000, 62240);
 }

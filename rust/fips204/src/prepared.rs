@@ -1,10 +1,10 @@
 //! Keys with their matrix, for many calls.
 
-/// The prepared keys of a parameter set, in the module of `parameter_set`: the calls of the library, and the lengths of a prepared
-/// public and a prepared private key.
+/// The prepared keys of a parameter set, in the module of `parameter_set`: the module's name, the calls of the library, and the
+/// lengths of a prepared public and a prepared private key.
 #[cfg(any(feature = "ml-dsa-44", feature = "ml-dsa-65", feature = "ml-dsa-87"))]
 macro_rules! prepared_keys {
-    ($calls:ident, $public_len:literal, $private_len:literal) => {
+    ($name:literal, $calls:ident, $public_len:literal, $private_len:literal) => {
         /// A public key with its matrix, which verifies in less than half of the time, and is wiped when it is dropped. Its calls
         /// answer what those of the key answer that it was made of. It has some ten times the bytes of the key.
         #[derive(Clone)]
@@ -15,11 +15,27 @@ macro_rules! prepared_keys {
         #[derive(Clone)]
         pub struct PreparedPrivateKey(Wiped<{ $private_len }>);
 
+        shows_nothing!(PreparedPublicKey);
+        shows_nothing!(PreparedPrivateKey);
+
         impl PublicKey {
             /// Samples the matrix once, for many verifications.
             ///
             /// # Panics
             /// Rejection sampling reached its limit, for which no key is known.
+            ///
+            /// ```
+            #[doc = concat!("use fips204::", $name, "::KG;")]
+            /// use fips204::traits::{KeyGen, Signer, Verifier};
+            ///
+            /// let (public, private) = KG::keygen_from_seed(&[7; 32]); // a seed is secret, and random
+            /// let prepared = public.prepare();
+            /// for message in [b"one", b"two"] {
+            ///     let signature = private.try_sign_with_seed(&[0; 32], message, b"")?;
+            ///     assert!(prepared.verify(message, &signature, b""));
+            /// }
+            /// # Ok::<(), &'static str>(())
+            /// ```
             #[must_use]
             pub fn prepare(&self) -> PreparedPublicKey {
                 let mut prepared = PreparedPublicKey(Wiped([0; $public_len]));
@@ -33,6 +49,19 @@ macro_rules! prepared_keys {
             ///
             /// # Panics
             /// Rejection sampling reached its limit, for which no key is known.
+            ///
+            /// ```
+            #[doc = concat!("use fips204::", $name, "::KG;")]
+            /// use fips204::traits::{KeyGen, Signer, Verifier};
+            ///
+            /// let (public, private) = KG::keygen_from_seed(&[7; 32]); // a seed is secret, and random
+            /// let prepared = private.prepare();
+            /// for message in [b"one", b"two"] {
+            ///     let signature = prepared.try_sign_with_seed(&[0; 32], message, b"")?;
+            ///     assert!(public.verify(message, &signature, b""));
+            /// }
+            /// # Ok::<(), &'static str>(())
+            /// ```
             #[must_use]
             pub fn prepare(&self) -> PreparedPrivateKey {
                 let mut prepared = PreparedPrivateKey(Wiped([0; $private_len]));
@@ -43,6 +72,20 @@ macro_rules! prepared_keys {
 
         impl PreparedPublicKey {
             /// Whether the key accepts the signature of the hash `mu` of a message (Algorithm 8, with mu given).
+            ///
+            /// ```
+            #[doc = concat!("use fips204::", $name, "::KG;")]
+            /// use fips204::traits::KeyGen;
+            ///
+            /// let (public, private) = KG::keygen_from_seed(&[7; 32]); // a seed is secret, and random
+            /// let mu = public.message_hasher(b"a context")?.finalize(); // of the empty message
+            /// let mut signature = private.try_sign_mu_with_seed(&[0; 32], &mu)?;
+            /// let prepared = public.prepare();
+            /// assert!(prepared.verify_mu(&mu, &signature));
+            /// signature[0] ^= 1;
+            /// assert!(!prepared.verify_mu(&mu, &signature));
+            /// # Ok::<(), &'static str>(())
+            /// ```
             #[must_use]
             pub fn verify_mu(&self, mu: &[u8; 64], sig: &[u8; SIG_LEN]) -> bool {
                 calls::verify_mu_prepared(&self.0.0, mu, sig) == library::DONE
@@ -72,10 +115,24 @@ macro_rules! prepared_keys {
             /// Signs the hash `mu` of a message, with 32 bytes of a generator, which is asked once.
             ///
             /// # Errors
-            /// The generator failed, or all 814 attempts were rejected.
+            /// The generator failed; all 814 attempts were rejected, as with a damaged key; or rejection sampling reached its
+            /// limit, for which no key is known.
+            ///
+            /// ```
+            /// # use fips204::{CryptoRng, RngCore};
+            #[doc = concat!("use fips204::", $name, "::PrivateKey;")]
+            ///
+            /// # fn example(private: &PrivateKey, your_generator: &mut (impl RngCore + CryptoRng)) -> Result<(), &'static str> {
+            /// let mu = private.message_hasher(b"a context")?.finalize(); // of the empty message
+            /// let prepared = private.prepare();
+            /// let signature = prepared.try_sign_mu_with_rng(your_generator, &mu)?;
+            /// # let _ = signature;
+            /// # Ok(())
+            /// # }
+            /// ```
             pub fn try_sign_mu_with_rng(
                 &self,
-                rng: &mut impl CryptoRngCore,
+                rng: &mut (impl RngCore + CryptoRng),
                 mu: &[u8; 64],
             ) -> Result<[u8; SIG_LEN], &'static str> {
                 let random = draw(rng, "ML-DSA.Sign_internal: random number generator failed")?;
@@ -85,7 +142,19 @@ macro_rules! prepared_keys {
             /// Signs the hash `mu` of a message, with these random bytes. 32 zeros give the deterministic variant.
             ///
             /// # Errors
-            /// All 814 attempts were rejected.
+            /// All 814 attempts were rejected, as with a damaged key; or rejection sampling reached its limit, for which no key
+            /// is known.
+            ///
+            /// ```
+            #[doc = concat!("use fips204::", $name, "::KG;")]
+            /// use fips204::traits::KeyGen;
+            ///
+            /// let (_, private) = KG::keygen_from_seed(&[7; 32]); // a seed is secret, and random
+            /// let mu = private.message_hasher(b"a context")?.finalize(); // of the empty message
+            /// let signature = private.prepare().try_sign_mu_with_seed(&[0; 32], &mu)?;
+            /// assert_eq!(signature, private.try_sign_mu_with_seed(&[0; 32], &mu)?);
+            /// # Ok::<(), &'static str>(())
+            /// ```
             pub fn try_sign_mu_with_seed(
                 &self,
                 seed: &[u8; 32],
@@ -103,7 +172,7 @@ macro_rules! prepared_keys {
 
             fn try_sign_with_rng(
                 &self,
-                rng: &mut impl CryptoRngCore,
+                rng: &mut (impl RngCore + CryptoRng),
                 message: &[u8],
                 ctx: &[u8],
             ) -> Result<[u8; SIG_LEN], &'static str> {
@@ -127,7 +196,7 @@ macro_rules! prepared_keys {
 
             fn try_hash_sign_with_rng(
                 &self,
-                rng: &mut impl CryptoRngCore,
+                rng: &mut (impl RngCore + CryptoRng),
                 hash: &[u8],
                 ctx: &[u8],
                 hash_oid: &[u8],

@@ -230,6 +230,11 @@ macro_rules! interface {
                 "PrivateKey { .. } PublicKey { .. } MessageHasher { .. } KG"
             );
 
+            assert_eq!(
+                format!("{:?} {:?}", private.prepare(), public.prepare()),
+                "PreparedPrivateKey { .. } PreparedPublicKey { .. }"
+            );
+
             #[cfg(feature = "zeroize")]
             {
                 use zeroize::{Zeroize, ZeroizeOnDrop};
@@ -241,6 +246,8 @@ macro_rules! interface {
                 assert_eq!(is_wiped(public.clone()).into_bytes(), [0; $set::PK_LEN]);
                 let mu = hasher.clone().finalize();
                 assert_ne!(is_wiped(hasher).finalize(), mu);
+                is_wiped(public.prepare());
+                is_wiped(private.prepare());
             }
 
             #[cfg(feature = "default-rng")]
