@@ -27,7 +27,7 @@ use Rattle.mlsign_files.specs.declared.pem.Kind.TheVariants.{Public, Private}
 use Rattle.mlsign_files.proofs.Elements.{ok_is}
 use Rattle.mlsign_files.proofs.PemFiles.{pem_of_text}
 use Rattle.mlsign_files.proofs.KeyFiles.{public_of_file, private_of_file}
-use Rattle.mlsign_engine.specs.Commands.{HasKeys, HasNoKeys, IsRefused, FailsToGenerate, IsValid, HasPublicBytes, IsPublicText, IsPrivateText, Signs, Judges, PublishedIsValid, SignedIsValid, public_text_at, private_text_at}
+use Rattle.mlsign_engine.specs.Commands.{HasKeys, HasNoKeys, IsRefused, FailsToGenerate, IsValid, HasPublicBytes, IsPublicText, IsPrivateText, SignsByText, JudgesByText, PublishedIsValid, SignedIsValid, public_text_at, private_text_at}
 use Rattle.mlsign_engine.specs.InnerSteps.{HasPrivateBytes, HasNoKeysOrMemory}
 use Rattle.mlsign_engine.specs.declared.fault.CommandFault.TheVariants.{Key, Inconsistent, Library, Context, Memory, Message, NoSeed, TwoParts}
 use Rattle.mlsign_engine.specs.declared.fault.CommandFault.{CommandFault}
@@ -221,7 +221,7 @@ pub other_fault : {A : Type 0} (r : Result A CommandFault) (fault : Fault) (cont
 other_fault r fault context is short = (λ e. absurd cc, λ long. absurd (omega (arith, long, short)))
 
 pub signs_of : (algorithm : SetName) (parts : FileParts) (private random context message signature : List ℕ) → IsPrivateText private algorithm parts
-    → IsSigned (named_set algorithm) parts random context message signature → Signs private random context message signature
+    → IsSigned (named_set algorithm) parts random context message signature → SignsByText private random context message signature
 signs_of algorithm parts private random context message signature text is = record {
   algorithm = algorithm;
   parts = parts;
@@ -290,7 +290,7 @@ read_private text x has = rw (pem_of_text text Private has.der has.spelled) (pri
 -- what a public key accepts is valid for the text that has its bytes
 judged_valid : (algorithm : SetName) (pk : PublicParts) (public signature context message : List ℕ) (valid : Bool)
     → IsPublicKeyOf shake256_front (named_set algorithm).k (public_key_bytes pk.rho pk.t1) pk
-    → IsPublicText public algorithm (public_key_bytes pk.rho pk.t1) → Judges public signature context message valid
+    → IsPublicText public algorithm (public_key_bytes pk.rho pk.t1) → JudgesByText public signature context message valid
     → IsValid (named_set algorithm) pk signature context message → IsTrue valid
 judged_valid algorithm pk public signature context message valid decoded text judges accepted =
     let key : List ℕ = public_key_bytes pk.rho pk.t1 in

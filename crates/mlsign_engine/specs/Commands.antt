@@ -47,7 +47,7 @@ IsValid p key signature context message =
     (length signature ≡ signature_length p) × VerifiesInput p shake256_front shake128_front key signature (plain message context)
 
 -- `verify`: the file has a public key, and the answer is whether the key with these bytes accepts the signature
-pub record Judges (public signature context message : List ℕ) (valid : Bool) : Type 0 where
+pub record JudgesByText (public signature context message : List ℕ) (valid : Bool) : Type 0 where
   pub algorithm : SetName
   pub bytes : List ℕ
   pub text : IsPublicText public algorithm bytes
@@ -120,7 +120,7 @@ FailsPrivate private fault = HasPrivateKey private (λ p parts. HasNoKeys p part
 
 -- `sign`: the file has a consistent private key, and these bytes are its signature of the message, over these random bytes, which
 -- the public key accepts
-pub record Signs (private random context message signature : List ℕ) : Type 0 where
+pub record SignsByText (private random context message signature : List ℕ) : Type 0 where
   pub algorithm : SetName
   pub parts : FileParts
   pub text : IsPrivateText private algorithm parts
@@ -157,7 +157,7 @@ pub record HasPublicBytes (p : ParameterSet) (parts : FileParts) (bytes : List �
   pub is : bytes ≡ public_key_bytes pk.rho pk.t1
 
 -- `keygen`: the files have both keys of a seed in this form; that of the private one has the seed
-pub record Generates (form : Form) (algorithm : SetName) (seed private public : List ℕ) : Type 0 where
+pub record MakesTexts (form : Form) (algorithm : SetName) (seed private public : List ℕ) : Type 0 where
   pub bytes : List ℕ
   pub keys : HasPublicBytes (named_set algorithm) (Seed seed) bytes
   pub private_file : IsPrivateIn form private algorithm (Seed seed)
@@ -198,11 +198,11 @@ FailsToShow text fault = FailsPrivate text fault
 abbrev pub PublishedIsValid : Type 0
 PublishedIsValid =
     (private public random context message signature : List ℕ) (valid : Bool)
-    → Publishes Pem private public → Signs private random context message signature → Judges public signature context message valid → IsTrue valid
+    → Publishes Pem private public → SignsByText private random context message signature → JudgesByText public signature context message valid → IsTrue valid
 
 -- the same of the two files that `keygen` wrote
 abbrev pub SignedIsValid : Type 0
 SignedIsValid =
     (algorithm : SetName) (seed private public random context message signature : List ℕ) (valid : Bool)
-    → Generates Pem algorithm seed private public → Signs private random context message signature → Judges public signature context message valid
+    → MakesTexts Pem algorithm seed private public → SignsByText private random context message signature → JudgesByText public signature context message valid
     → IsTrue valid

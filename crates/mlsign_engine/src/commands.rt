@@ -6,7 +6,7 @@ ghost use Rattle.fips204.specs.Sets.{named_set};
 ghost use Rattle.mlsign_files.specs.Keys.{HasPrivateSizes, private_length, private_parts, public_length};
 ghost use Rattle.mlsign_files.specs.PemReading.{GivesOrFails};
 ghost use Rattle.mlsign_files.specs.declared.pem.Kind.TheVariants.{Private};
-ghost use Rattle.mlsign_engine.specs.Commands.{Generates, Publishes, Shows, Signs, Judges, IsPublicText, HasPublicBytes, HasPublicKey};
+ghost use Rattle.mlsign_engine.specs.Commands.{MakesTexts, Publishes, Shows, SignsByText, JudgesByText, IsPublicText, HasPublicBytes, HasPublicKey};
 ghost use Rattle.mlsign_engine.specs.Commands.{public_text_at, FailsToGenerate, FailsPrivate, FailsToShow, FailsToSign, FailsToJudge};
 ghost use Rattle.mlsign_engine.specs.InnerSteps.{HasNoKeysOrMemory};
 ghost use Rattle.mlsign_engine.specs.Messages.{GivesAll};
@@ -57,7 +57,7 @@ pub fn keygen(
     algorithm: SetName,
     seed: &[u8; 32],
 ) -> Result<KeyFiles, CommandFault>
-    ensures generated { IfOk result (λ files. Generates form algorithm seed.now files.private.items files.public.items) }
+    ensures generated { IfOk result (λ files. MakesTexts form algorithm seed.now files.private.items files.public.items) }
     ensures fault { IfErr result (FailsToGenerate algorithm seed.now) }
 {
     laws::signed_is_accepted();
@@ -112,7 +112,7 @@ pub fn sign<I: Source>(
 ) -> Result<Vec<u8>, CommandFault>
     ensures signed { IfOk result (λ signature. (message : List ℕ)
         × GivesAll I.gives I.remaining input.old input.new message
-        × Signs private.now random.now context.now message signature.items) }
+        × SignsByText private.now random.now context.now message signature.items) }
     ensures context { (result ≡ Err CommandFault.Context) ↔ (255 < length context.now) }
     ensures fault { IfErr result (FailsToSign I.gives I.remaining input.old input.new private.now random.now context.now) }
 {
@@ -151,7 +151,7 @@ pub fn verify<I: Source>(
 ) -> Result<bool, CommandFault>
     ensures judged { IfOk result (λ valid. (message : List ℕ)
         × GivesAll I.gives I.remaining input.old input.new message
-        × Judges public.now signature.now context.now message valid) }
+        × JudgesByText public.now signature.now context.now message valid) }
     ensures context { (result ≡ Err CommandFault.Context) ↔ (255 < length context.now) }
     ensures fault { IfErr result (FailsToJudge I.gives input.old input.new public.now context.now) }
 {

@@ -4,7 +4,7 @@ use Rattle.clap.specs.Matches.{found_of, first_value, one_text}
 use Rattle.clap.specs.declared.parser.matches.ArgMatches.{ArgMatches}
 use Rattle.fips204.specs.ParameterSets.{signature_length}
 use Rattle.fips204.specs.Sets.{named_set}
-use Rattle.mlsign_engine.specs.Commands.{Generates, IsPrivateIn, IsPublicIn}
+use Rattle.mlsign_engine.specs.Commands.{MakesTexts, IsPrivateIn, IsPublicIn}
 use Rattle.mlsign_files.specs.Keys.{PrivateParts}
 use Rattle.fips204.specs.declared.sets.SetName.{SetName}
 use Rattle.fips204.specs.declared.sets.SetName.TheVariants.{MlDsa44, MlDsa65, MlDsa87}
@@ -56,7 +56,7 @@ pub record GeneratesAt (words : ArgMatches) (seed private public : List ℕ) : T
   pub der : HasFlag words (codes "der") → form ≡ Der
   pub pem : LacksFlag words (codes "der") → form ≡ Pem
   pub set : HasWord words (codes "set") (set_word algorithm)
-  pub keys : Generates form algorithm seed private public
+  pub keys : MakesTexts form algorithm seed private public
 
 -- a file may have these bytes, by what it is to have: a key in one of the forms, or a signature
 abbrev pub Holds : Content → List ℕ → Type 0

@@ -2,7 +2,7 @@
 #![tactic(auto)]
 
 ghost use Rattle.std.specs.Prelude.{◌≡◌, ℕ, List, IfOk, replicate, codes, Ok};
-ghost use Rattle.mlsign_engine.specs.Commands.{Judges, Signs};
+ghost use Rattle.mlsign_engine.specs.Commands.{JudgesByText, SignsByText};
 ghost use Rattle.mlsign_engine.specs.Messages.{GivesAll};
 ghost use Rattle.mlsign_program.specs.declared.places.Content.TheVariants.{Signature};
 ghost use Rattle.mlsign_engine.specs.Forms.{ConvertsPublic, ConvertsPrivate};
@@ -206,7 +206,7 @@ fn sign_input<I: Source>(
 ) -> Result<Vec<u8>, CommandFault>
     ensures signed { IfOk result (λ signature. (message : List ℕ)
         × GivesAll I.gives I.remaining input.old input.new message
-        × Signs key.now random.now (context_of words.now) message signature.items) }
+        × SignsByText key.now random.now (context_of words.now) message signature.items) }
 {
     mlsign_engine::sign(alloc, key, random, context(words), input)
 }
@@ -238,7 +238,7 @@ fn verify_message(
     message: &str,
 ) -> Result<bool, Error>
     ensures judged { IfOk result (λ valid. (signature bytes : List ℕ)
-        × Judges key.now.text.items signature (context_of words.now) bytes valid) }
+        × JudgesByText key.now.text.items signature (context_of words.now) bytes valid) }
 {
     let path = signature_path(rt.alloc(), words, "signature", message)?;
     let signature = read_start(rt, path.as_str())?;

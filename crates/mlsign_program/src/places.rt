@@ -2,7 +2,7 @@
 #![tactic(auto)]
 
 ghost use Rattle.std.specs.Prelude.{◌≡◌, ℕ, List, IfOk};
-ghost use Rattle.mlsign_engine.specs.Commands.{Generates};
+ghost use Rattle.mlsign_engine.specs.Commands.{MakesTexts};
 ghost use Rattle.fips204.specs.declared.sets.SetName.{SetName};
 ghost use Rattle.mlsign_engine.specs.declared.forms.Form.{Form};
 ghost use Rattle.mlsign_program.specs.declared.places.Content.TheVariants.{PrivateKey, PublicKey};
@@ -255,7 +255,7 @@ pub(crate) fn write_pair(
 ) -> Result<(), Error>
     requires public { public.now.target.content ≡ PublicKey }
     requires private { private.now.target.content ≡ PrivateKey }
-    requires keys { (form : Form) × (algorithm : SetName) × (seed : List ℕ) × Generates form algorithm seed keys.now.private.items keys.now.public.items }
+    requires keys { (form : Form) × (algorithm : SetName) × (seed : List ℕ) × MakesTexts form algorithm seed keys.now.private.items keys.now.public.items }
 {
     replace_pair(rt, public, private, keys)?;
     public.tell_left(rt);
@@ -272,7 +272,7 @@ fn replace_pair(
 ) -> Result<(), Error>
     requires public { public.now.target.content ≡ PublicKey }
     requires private { private.now.target.content ≡ PrivateKey }
-    requires keys { (form : Form) × (algorithm : SetName) × (seed : List ℕ) × Generates form algorithm seed keys.now.private.items keys.now.public.items }
+    requires keys { (form : Form) × (algorithm : SetName) × (seed : List ℕ) × MakesTexts form algorithm seed keys.now.private.items keys.now.public.items }
 {
     let (public_text, private_text) = (keys.public.as_slice(), keys.private.as_slice());
     let public_new = public.prepare(rt, public_text)?;

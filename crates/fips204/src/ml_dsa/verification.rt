@@ -42,9 +42,7 @@ pub fn verify_internal<
 {
     let mut z = [R0; L];
     let mut h = [R0; K];
-    let Some(parts) =
-        open_signature::<K, L, LAMBDA_DIV4, SIG_LEN, H>(p, sig, &mut z, &mut h)
-    else {
+    let Some(parts) = open_signature::<K, L, LAMBDA_DIV4, SIG_LEN, H>(p, sig, &mut z, &mut h) else {
         return false;
     };
     let (c_tilde, c) = parts;
@@ -75,9 +73,7 @@ pub(crate) fn verify_prepared<
 {
     let mut z = [R0; L];
     let mut h = [R0; K];
-    let Some(parts) =
-        open_signature::<K, L, LAMBDA_DIV4, SIG_LEN, H>(p, sig, &mut z, &mut h)
-    else {
+    let Some(parts) = open_signature::<K, L, LAMBDA_DIV4, SIG_LEN, H>(p, sig, &mut z, &mut h) else {
         return false;
     };
     let (c_tilde, c) = parts;
@@ -129,12 +125,7 @@ fn open_signature<
     const LAMBDA_DIV4: usize,
     const SIG_LEN: usize,
     H: Xof,
->(
-    p: &Params,
-    sig: &[u8; SIG_LEN],
-    z: &mut [R; L],
-    h: &mut [R; K],
-) -> Option<([u8; LAMBDA_DIV4], R)>
+>(p: &Params, sig: &[u8; SIG_LEN], z: &mut [R; L], h: &mut [R; K]) -> Option<([u8; LAMBDA_DIV4], R)>
     requires sizes { HasSizes (set_of p.now) K L LAMBDA_DIV4 SIG_LEN }
     ensures within { IfSome result (λ parts. ((K ≤ 8) × (L ≤ 7))
         × VectorWithin L 8380416 z.new × PolynomialWithin 8380416 parts.1.0) }
@@ -143,7 +134,9 @@ fn open_signature<
         (λ parts. OpensTo (set_of p.now) H.front sig.now parts.0 z.new h.new parts.1) }
 {
     // (c_tilde, z, h) = sigDecode(sigma)
-    let c_tilde = write_signature_parts::<K, L, LAMBDA_DIV4, SIG_LEN>(p.gamma1, p.omega, sig, z, h)?;
+    let c_tilde = write_signature_parts::<K, L, LAMBDA_DIV4, SIG_LEN>(
+        p.gamma1, p.omega, sig, z, h,
+    )?;
     // ||z|| < gamma1 - beta
     if !has_norm_below(z, p.z_bound()) {
         return None;
