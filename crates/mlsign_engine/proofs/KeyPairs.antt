@@ -1,5 +1,5 @@
 -- The keys of a file are a pair, and what they sign is valid for the public key's file.
-use Rattle.std.proofs.Common.{◌≡◌, ℕ, ◌<◌, ◌≤◌, List, [], ◌∷◌, ◌++◌, length, take, drop, Bool, true, false, not, ltb, nat_eq, Result, Ok, Err, refl, sym, ap, subst, ◌∙◌, append_assoc, arith, IsTrue, inl, inr, ◌↔◌, Option, None, rules}
+use Rattle.std.proofs.Common.{◌≡◌, ℕ, ◌<◌, ◌≤◌, List, ◌++◌, length, take, drop, Bool, true, false, not, ltb, nat_eq, Result, Ok, Err, refl, sym, ap, subst, ◌∙◌, append_assoc, arith, IsTrue, inl, inr, ◌↔◌, None}
 use Rattle.std.proofs.lemmas.Bool.{le-ltb, not-false, eq-eqb, eqb-true}
 use Rattle.std.proofs.lemmas.List.{take_at, drop_at, length-append}
 use Rattle.std.specs.Prelude.{MatchBool, MatchResult, ⊤}
@@ -18,7 +18,6 @@ use Rattle.fips204.specs.Sets.{named_set}
 use Rattle.fips204.specs.declared.sets.SetName.{SetName}
 use Rattle.fips204.specs.declared.sets.SetName.TheVariants.{MlDsa44, MlDsa65, MlDsa87}
 use Rattle.fips204_bytes.specs.Bytes as bytes
-use Rattle.fips204_bytes.specs.declared.refusal.Array.{Array}
 use Rattle.fips204_bytes.specs.declared.refusal.Array.TheVariants.{Signature}
 use Rattle.fips204_bytes.specs.declared.refusal.Refusal.{Refusal}
 use Rattle.fips204_bytes.specs.declared.refusal.Refusal.TheVariants as refusal
@@ -30,7 +29,7 @@ use Rattle.mlsign_files.proofs.PemFiles.{pem_of_text}
 use Rattle.mlsign_files.proofs.KeyFiles.{public_of_file, private_of_file}
 use Rattle.mlsign_engine.specs.Commands.{HasKeys, HasNoKeys, IsRefused, FailsToGenerate, IsValid, HasPublicBytes, IsPublicText, IsPrivateText, Signs, Judges, PublishedIsValid, SignedIsValid, public_text_at, private_text_at}
 use Rattle.mlsign_engine.specs.InnerSteps.{HasPrivateBytes, HasNoKeysOrMemory}
-use Rattle.mlsign_engine.specs.declared.fault.CommandFault.TheVariants.{Key, Inconsistent, Library, Context, Memory, Message}
+use Rattle.mlsign_engine.specs.declared.fault.CommandFault.TheVariants.{Key, Inconsistent, Library, Context, Memory, Message, NoSeed, TwoParts}
 use Rattle.mlsign_engine.specs.declared.fault.CommandFault.{CommandFault}
 
 long_fronts : (x : List ℕ) → 4096 ≤ length (shake256_front x)
@@ -109,6 +108,8 @@ generating_fails algorithm law seed (Library fault) fails = fails
 generating_fails algorithm law seed Context fails = fails
 generating_fails algorithm law seed Memory fails = fails
 generating_fails algorithm law seed Message fails = fails
+generating_fails algorithm law seed NoSeed fails = fails
+generating_fails algorithm law seed TwoParts fails = fails
 generating_fails algorithm law seed Inconsistent (none, taken) =
     case_of (generated (named_set algorithm) shake256_front shake128_front seed) refl
   where
@@ -280,10 +281,10 @@ verdict_told p law key signature context message mu answer size short hashed tol
 
 -- ---- what keygen wrote, sign reads, and verify reads
 
-read_public : (text : List ℕ) (x : SetName × List ℕ) → IsPublicText text x.0 x.1 → public_text_at text ≡ Ok x
+pub read_public : (text : List ℕ) (x : SetName × List ℕ) → IsPublicText text x.0 x.1 → public_text_at text ≡ Ok x
 read_public text x has = rw (pem_of_text text Public has.der has.spelled) (public_of_file has.der x.0 x.1 has.file)
 
-read_private : (text : List ℕ) (x : SetName × FileParts) → IsPrivateText text x.0 x.1 → private_text_at text ≡ Ok x
+pub read_private : (text : List ℕ) (x : SetName × FileParts) → IsPrivateText text x.0 x.1 → private_text_at text ≡ Ok x
 read_private text x has = rw (pem_of_text text Private has.der has.spelled) (private_of_file has.der x.0 x.1 has.file)
 
 -- what a public key accepts is valid for the text that has its bytes
@@ -324,4 +325,4 @@ published_valid private public random context message signature valid published 
 pub signed_valid : SignedIsValid
 signed_valid algorithm seed private public random context message signature valid made signs judges =
     published_valid private public random context message signature valid
-    (algorithm, made.bytes, (Seed seed, made.private_text, made.keys), made.public_text) signs judges
+    (algorithm, made.bytes, (Seed seed, made.private_file, made.keys), made.public_file) signs judges

@@ -1,2 +1,3 @@
 pub mod Hashing
 pub mod KeyPairs
+pub mod FormFiles

@@ -14,7 +14,9 @@ use Rattle.fips204_shake.specs.Fronts.{shake256_front, shake128_front}
 use Rattle.mlsign_engine.specs.Messages.{GivesAll, FailsToGive}
 use Rattle.mlsign_engine.specs.declared.fault.CommandFault.{CommandFault}
 use Rattle.mlsign_engine.specs.declared.fault.CommandFault.TheVariants.{Key, Inconsistent, Library, Context, Memory, Message}
-use Rattle.mlsign_files.specs.Keys.{IsPublicFile, IsPrivateFile, PrivateParts as FileParts, Seed, Expanded, Both}
+use Rattle.mlsign_engine.specs.declared.forms.Form.{Form}
+use Rattle.mlsign_engine.specs.declared.forms.Form.TheVariants.{Pem, Der, Raw}
+use Rattle.mlsign_files.specs.Keys.{IsPublicFile, IsPrivateFile, PrivateParts as FileParts, Seed, Expanded, Both, HasPrivateSizes, public_length, private_length}
 use Rattle.mlsign_files.specs.Pem.{IsPem}
 use Rattle.mlsign_files.specs.PemReading.{pem_at, FailsLike}
 use Rattle.mlsign_files.specs.Reading.{◌>>=◌, public_at, private_at}
@@ -60,6 +62,24 @@ pub record IsPrivateText (text : List ℕ) (algorithm : SetName) (parts : FilePa
   pub der : List ℕ
   pub spelled : IsPem text Private der
   pub file : IsPrivateFile der algorithm parts
+
+-- these bytes are this public key in this form: a text in the strict form, DER, or its raw bytes
+abbrev pub IsPublicIn : Form → List ℕ → SetName → List ℕ → Type 0
+IsPublicIn Pem file algorithm bytes = IsPublicText file algorithm bytes
+IsPublicIn Der file algorithm bytes = IsPublicFile file algorithm bytes
+IsPublicIn Raw file algorithm bytes = (length bytes ≡ public_length algorithm) × (file ≡ bytes)
+
+-- the raw bytes of a private key of one part
+abbrev pub IsRaw : FileParts → List ℕ → Type 0
+IsRaw (Seed seed) file = file ≡ seed
+IsRaw (Expanded expanded) file = file ≡ expanded
+IsRaw (Both seed expanded) file = ⊥
+
+-- these bytes are this private key in this form
+abbrev pub IsPrivateIn : Form → List ℕ → SetName → FileParts → Type 0
+IsPrivateIn Pem file algorithm parts = IsPrivateText file algorithm parts
+IsPrivateIn Der file algorithm parts = IsPrivateFile file algorithm parts
+IsPrivateIn Raw file algorithm parts = HasPrivateSizes (private_length algorithm) parts × IsRaw parts file
 
 -- these keys are what a private key in a file stands for: what its seed generates, whose bytes an expanded key beside it is; or
 -- what an expanded key alone decodes to
@@ -135,12 +155,12 @@ pub record HasPublicBytes (p : ParameterSet) (parts : FileParts) (bytes : List �
   pub keys : HasKeys p parts pk sk
   pub is : bytes ≡ public_key_bytes pk.rho pk.t1
 
--- `keygen`: the texts have both keys of a seed; that of the private one has the seed
-pub record Generates (algorithm : SetName) (seed private public : List ℕ) : Type 0 where
+-- `keygen`: the files have both keys of a seed in this form; that of the private one has the seed
+pub record Generates (form : Form) (algorithm : SetName) (seed private public : List ℕ) : Type 0 where
   pub bytes : List ℕ
   pub keys : HasPublicBytes (named_set algorithm) (Seed seed) bytes
-  pub private_text : IsPrivateText private algorithm (Seed seed)
-  pub public_text : IsPublicText public algorithm bytes
+  pub private_file : IsPrivateIn form private algorithm (Seed seed)
+  pub public_file : IsPublicIn form public algorithm bytes
 
 -- why `keygen` has no keys: the library's refusal; memory may run out of itself
 abbrev pub FailsToGenerate : SetName → List ℕ → CommandFault → Type 0
@@ -154,10 +174,10 @@ HasPublicKey Public text algorithm bytes = IsPublicText text algorithm bytes
 HasPublicKey Private text algorithm bytes =
     (parts : FileParts) × IsPrivateText text algorithm parts × HasPublicBytes (named_set algorithm) parts bytes
 
--- `public`: one file has a consistent private key, and the other its public key
-abbrev pub Publishes : List ℕ → List ℕ → Type 0
-Publishes private public =
-    (algorithm : SetName) × (bytes : List ℕ) × HasPublicKey Private private algorithm bytes × IsPublicText public algorithm bytes
+-- `public`: the text has a consistent private key, and the file its public key in this form
+abbrev pub Publishes : Form → List ℕ → List ℕ → Type 0
+Publishes form private public =
+    (algorithm : SetName) × (bytes : List ℕ) × HasPublicKey Private private algorithm bytes × IsPublicIn form public algorithm bytes
 
 -- `show`: the file has a key of this kind, and this is the hash of the public key's bytes
 abbrev pub Shows : List ℕ → Kind → SetName → List ℕ → Type 0
@@ -177,11 +197,11 @@ FailsToShow text fault = FailsPrivate text fault
 abbrev pub PublishedIsValid : Type 0
 PublishedIsValid =
     (private public random context message signature : List ℕ) (valid : Bool)
-    → Publishes private public → Signs private random context message signature → Judges public signature context message valid → IsTrue valid
+    → Publishes Pem private public → Signs private random context message signature → Judges public signature context message valid → IsTrue valid
 
 -- the same of the two files that `keygen` wrote
 abbrev pub SignedIsValid : Type 0
 SignedIsValid =
     (algorithm : SetName) (seed private public random context message signature : List ℕ) (valid : Bool)
-    → Generates algorithm seed private public → Signs private random context message signature → Judges public signature context message valid
+    → Generates Pem algorithm seed private public → Signs private random context message signature → Judges public signature context message valid
     → IsTrue valid

@@ -1,3 +1,4 @@
 pub mod Messages
 pub mod Commands
+pub mod Forms
 pub mod InnerSteps

@@ -12,6 +12,7 @@ ghost use Rattle.mlsign_engine.specs.InnerSteps.{HasNoKeysOrMemory};
 ghost use Rattle.mlsign_engine.specs.Messages.{GivesAll};
 
 use crate::fault::CommandFault;
+use crate::forms::{Form, private_file, public_file};
 use crate::keys::{private_key, tr_of};
 use crate::message::message_mu;
 use crate::source::Source;
@@ -20,17 +21,15 @@ use fips204::xof::hash;
 use fips204_shake::Input;
 use fips204_shake::streams::Shake256Stream;
 use mlsign_files::pem::{self, Kind};
-use mlsign_files::{
-    FileFault, PrivateKey, SetName, read_private, read_public, write_private, write_public,
-};
-use std::alloc::{AllocError, Global};
+use mlsign_files::{FileFault, PrivateKey, SetName, read_private, read_public};
+use std::alloc::Global;
 
 /// The most bytes of a context.
 const LONGEST: usize = 255;
 
-/// The texts of a pair of keys.
+/// The files of a pair of keys.
 #[derive(Debug, Drop)]
-pub struct KeyTexts {
+pub struct KeyFiles {
     /// The private key, as its seed.
     pub private: Vec<u8>,
     /// The public key.
@@ -49,33 +48,38 @@ pub struct Shown {
     pub hash: [u8; 64],
 }
 
-/// Makes the key pair of a seed, which is proved to be consistent, and writes its files.
+/// Makes the key pair of a seed, which is proved to be consistent, and its files in this form.
 ///
 /// Errors: `Library` if rejection sampling reaches its limit; `Memory`.
-pub fn keygen(alloc: Global, algorithm: SetName, seed: &[u8; 32]) -> Result<KeyTexts, CommandFault>
-    ensures generated { IfOk result (λ texts. Generates algorithm seed.now texts.private.items texts.public.items) }
+pub fn keygen(
+    alloc: Global,
+    form: Form,
+    algorithm: SetName,
+    seed: &[u8; 32],
+) -> Result<KeyFiles, CommandFault>
+    ensures generated { IfOk result (λ files. Generates form algorithm seed.now files.private.items files.public.items) }
     ensures fault { IfErr result (FailsToGenerate algorithm seed.now) }
 {
     laws::signed_is_accepted();
     let key = PrivateKey::Seed(seed.as_slice());
-    let private = write_private(alloc, algorithm, key)?;
+    let private = private_file(alloc, form, algorithm, key)?;
     let public = public_key(alloc, algorithm, key)?;
-    Ok(KeyTexts {
-        private: pem::encode(alloc, Kind::Private, private.as_slice())?,
-        public: public_text(alloc, algorithm, public.as_slice())?,
+    Ok(KeyFiles {
+        private,
+        public: public_file(alloc, form, algorithm, public.as_slice())?,
     })
 }
 
-/// The text of the public key that belongs to the private key in this text, which is first checked to be consistent.
+/// The file in this form of the public key that belongs to the private key in this text, which is first checked to be consistent.
 ///
 /// Errors, in this order: `Key` if the text has no private key; `Inconsistent` if its parts do not belong together; and
 /// `Library` or `Memory` where they arise.
-pub fn public(alloc: Global, private: &[u8]) -> Result<Vec<u8>, CommandFault>
-    ensures published { IfOk result (λ public. Publishes private.now public.items) }
+pub fn public(alloc: Global, form: Form, private: &[u8]) -> Result<Vec<u8>, CommandFault>
+    ensures published { IfOk result (λ public. Publishes form private.now public.items) }
     ensures fault { IfErr result (FailsPrivate private.now) }
 {
     let (algorithm, bytes) = public_of_private(alloc, private)?;
-    Ok(public_text(alloc, algorithm, bytes.as_slice())?)
+    Ok(public_file(alloc, form, algorithm, bytes.as_slice())?)
 }
 
 /// What the file with this text is. A private key is first checked to be consistent.
@@ -167,15 +171,6 @@ pub fn verify<I: Source>(
     }
 }
 
-/// The text of the public key with these bytes.
-fn public_text(alloc: Global, algorithm: SetName, bytes: &[u8]) -> Result<Vec<u8>, AllocError>
-    requires { length bytes.now ≡ public_length algorithm }
-    ensures { IfOk result (λ text. IsPublicText text.items algorithm bytes.now) }
-{
-    let der = write_public(alloc, algorithm, bytes)?;
-    pem::encode(alloc, Kind::Public, der.as_slice())
-}
-
 /// The public key that belongs to the private key of a file.
 fn public_key(
     alloc: Global,
@@ -207,7 +202,7 @@ fn public_of_private(alloc: Global, private: &[u8]) -> Result<(SetName, Vec<u8>)
 }
 
 /// The public key that the text of a file has.
-fn public_of_text(alloc: Global, text: &[u8]) -> Result<(SetName, Vec<u8>), FileFault>
+pub(crate) fn public_of_text(alloc: Global, text: &[u8]) -> Result<(SetName, Vec<u8>), FileFault>
     ensures found { IfOk result (λ x. IsPublicText text.now x.0 x.1.items) }
     ensures exact { GivesOrFails (λ x. (x.0, x.1.items)) result (public_text_at text.now) }
 {

@@ -32,6 +32,12 @@ pub enum CommandFault {
     /// The message could not be read.
     #[error("the message was not read")]
     Message,
+    /// A private key has no seed, and the seed is wanted.
+    #[error("it has no seed: its seed cannot be had of its expanded key")]
+    NoSeed,
+    /// A private key has a seed and an expanded key, and raw bytes are one of them.
+    #[error("it has a seed and an expanded key, and raw bytes are one of them")]
+    TwoParts,
 }
 
 impl From<FileFault> for CommandFault {

@@ -27,7 +27,7 @@ begun : (front text : List ℕ) → begins front text ≡ true → text ≡ fron
 begun front text e =
     sym (take-append-drop (length front) text) ∙ ap (λ (z : List ℕ). z ++ drop (length front) text) (sym (same_bytes front (take (length front) text) e))
 
-begun_again : (front rest : List ℕ) → begins front (front ++ rest) ≡ true
+pub begun_again : (front rest : List ℕ) → begins front (front ++ rest) ≡ true
 begun_again front rest = ap (λ (z : List ℕ). bytes_eq front z) (take_at front rest (length front) refl) ∙ same_again front
 
 ended_found : (rest : List ℕ) (x : LineEnd × List ℕ) → ended_at rest ≡ Ok x → rest ≡ line_end x.0 ++ x.1
@@ -103,7 +103,7 @@ ending_dropped : (ending : LineEnd) → filter is_in_line (line_end ending) ≡ 
 ending_dropped Lf = refl
 ending_dropped CrLf = refl
 
-no_dash_in_ending : (ending : LineEnd) → AllPass (λ x. not (is_dash x)) (line_end ending)
+pub no_dash_in_ending : (ending : LineEnd) → AllPass (λ x. not (is_dash x)) (line_end ending)
 no_dash_in_ending Lf = AllPass-from_list_all (λ x. not (is_dash x)) (line_end Lf) refl
 no_dash_in_ending CrLf = AllPass-from_list_all (λ x. not (is_dash x)) (line_end CrLf) refl
 

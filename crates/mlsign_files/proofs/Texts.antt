@@ -52,7 +52,7 @@ past_all p xs none =
 
 -- ---- tests of characters
 
-abbrev passes : (ℕ → Bool) → ℕ → Type 0
+abbrev pub passes : (ℕ → Bool) → ℕ → Type 0
 passes p x = p x ≡ true
 
 -- a test that all elements pass, passed by what a place has

@@ -3,3 +3,4 @@ pub mod Keys
 pub mod Pem
 pub mod Reading
 pub mod PemReading
+pub mod Lax

@@ -4,8 +4,10 @@
 mod der;
 mod fault;
 mod keys;
+mod lax;
 pub mod pem;
 
 pub use fault::FileFault;
 pub use fips204::SetName;
 pub use keys::{PrivateKey, SEED_LENGTH, read_private, read_public, write_private, write_public};
+pub use lax::{kind_of_text, strict_form};

@@ -1,13 +1,17 @@
 -- What the words of a call ask for, and what is written where.
-use Rattle.std.specs.Prelude.{◌≡◌, ℕ, List, [], length, Bool, Some, codes, unwrap_or, Result, Ok, Err, if◌then◌else◌}
+use Rattle.std.specs.Prelude.{◌≡◌, ℕ, List, [], length, Bool, Some, None, codes, unwrap_or, Result, Ok, Err, if◌then◌else◌}
 use Rattle.clap.specs.Matches.{found_of, first_value, one_text}
 use Rattle.clap.specs.declared.parser.matches.ArgMatches.{ArgMatches}
 use Rattle.fips204.specs.ParameterSets.{signature_length}
 use Rattle.fips204.specs.Sets.{named_set}
-use Rattle.mlsign_engine.specs.Commands.{Generates, IsPrivateText, IsPublicText}
+use Rattle.mlsign_engine.specs.Commands.{Generates, IsPrivateIn, IsPublicIn}
 use Rattle.mlsign_files.specs.Keys.{PrivateParts}
 use Rattle.fips204.specs.declared.sets.SetName.{SetName}
 use Rattle.fips204.specs.declared.sets.SetName.TheVariants.{MlDsa44, MlDsa65, MlDsa87}
+use Rattle.mlsign_engine.specs.declared.forms.Form.{Form}
+use Rattle.mlsign_engine.specs.declared.forms.Form.TheVariants.{Pem, Der, Raw}
+use Rattle.mlsign_engine.specs.declared.forms.Parts.{Parts}
+use Rattle.mlsign_engine.specs.declared.forms.Parts.TheVariants as part
 use Rattle.mlsign_program.specs.declared.places.Content.{Content}
 use Rattle.mlsign_program.specs.declared.places.Content.TheVariants.{PrivateKey, PublicKey, Signature}
 
@@ -19,6 +23,10 @@ HasWord words name text = first_value (found_of words) name ≡ Some text
 abbrev pub HasFlag : ArgMatches → List ℕ → Type 0
 HasFlag words name = one_text (found_of words) name ≡ Some (codes "true")
 
+-- a call has no such flag
+abbrev pub LacksFlag : ArgMatches → List ℕ → Type 0
+LacksFlag words name = one_text (found_of words) name ≡ Some (codes "false")
+
 -- the context of a call, by default empty
 abbrev pub context_of : ArgMatches → List ℕ
 context_of words = unwrap_or (first_value (found_of words) (codes "context")) []
@@ -29,15 +37,31 @@ set_word MlDsa44 = codes "44"
 set_word MlDsa65 = codes "65"
 set_word MlDsa87 = codes "87"
 
--- these are the texts of the keys of a seed at the set that a call says
-abbrev pub GeneratesAt : ArgMatches → List ℕ → List ℕ → List ℕ → Type 0
-GeneratesAt words seed private public =
-    (algorithm : SetName) × HasWord words (codes "set") (set_word algorithm) × Generates algorithm seed private public
+-- the word for a form
+abbrev pub form_word : Form → List ℕ
+form_word Pem = codes "pem"
+form_word Der = codes "der"
+form_word Raw = codes "raw"
 
--- a file may have these bytes, by what it is to have
+-- a call wants these parts of a private key
+abbrev pub IsPartsWord : ArgMatches → Parts → Type 0
+IsPartsWord words part.Kept = first_value (found_of words) (codes "parts") ≡ None
+IsPartsWord words part.Seed = HasWord words (codes "parts") (codes "seed")
+IsPartsWord words part.Expanded = HasWord words (codes "parts") (codes "expanded")
+
+-- these are the files of the keys of a seed at the set that a call says, in DER with its flag, and in PEM without
+pub record GeneratesAt (words : ArgMatches) (seed private public : List ℕ) : Type 0 where
+  pub form : Form
+  pub algorithm : SetName
+  pub der : HasFlag words (codes "der") → form ≡ Der
+  pub pem : LacksFlag words (codes "der") → form ≡ Pem
+  pub set : HasWord words (codes "set") (set_word algorithm)
+  pub keys : Generates form algorithm seed private public
+
+-- a file may have these bytes, by what it is to have: a key in one of the forms, or a signature
 abbrev pub Holds : Content → List ℕ → Type 0
-Holds PrivateKey text = (algorithm : SetName) × (parts : PrivateParts) × IsPrivateText text algorithm parts
-Holds PublicKey text = (algorithm : SetName) × (bytes : List ℕ) × IsPublicText text algorithm bytes
+Holds PrivateKey file = (form : Form) × (algorithm : SetName) × (parts : PrivateParts) × IsPrivateIn form file algorithm parts
+Holds PublicKey file = (form : Form) × (algorithm : SetName) × (bytes : List ℕ) × IsPublicIn form file algorithm bytes
 Holds Signature bytes = (algorithm : SetName) × (length bytes ≡ signature_length (named_set algorithm))
 
 -- the exit status of an answer: 0 for what was done, 1 for an invalid signature, 2 for an error

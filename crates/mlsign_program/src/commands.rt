@@ -5,10 +5,13 @@ ghost use Rattle.std.specs.Prelude.{◌≡◌, ℕ, List, IfOk, replicate, codes
 ghost use Rattle.mlsign_engine.specs.Commands.{Judges, Signs};
 ghost use Rattle.mlsign_engine.specs.Messages.{GivesAll};
 ghost use Rattle.mlsign_program.specs.declared.places.Content.TheVariants.{Signature};
-ghost use Rattle.mlsign_program.specs.Outputs.{HasWord, HasFlag, context_of, GeneratesAt};
+ghost use Rattle.mlsign_engine.specs.Forms.{ConvertsPublic, ConvertsPrivate};
+ghost use Rattle.mlsign_engine.specs.declared.forms.Form.{Form};
+ghost use Rattle.mlsign_engine.specs.declared.forms.Parts.{Parts};
+ghost use Rattle.mlsign_program.specs.Outputs.{HasWord, HasFlag, context_of, GeneratesAt, form_word, IsPartsWord};
 
-use crate::files::{note_readable, read_key, read_start};
-use crate::hints::hint;
+use crate::files::{note_readable, read_start};
+use crate::keyfile::{KeyFile, form, form_of, set_of, word};
 use crate::places::{Content, FileId, Output, Target, write_pair};
 use crate::progress::Progress;
 use crate::text::printable;
@@ -16,7 +19,7 @@ use anyhow::{Context, Error, bail};
 use base64::engine::general_purpose::STANDARD_NO_PAD;
 use clap::ArgMatches;
 use either::Either;
-use mlsign_engine::{CommandFault, KeyTexts, Source};
+use mlsign_engine::{CommandFault, Form, KeyFiles, Parts, Source};
 use mlsign_files::SetName;
 use mlsign_files::pem::{self, Kind};
 use sha2::{Digest, Sha256};
@@ -27,13 +30,6 @@ use std::random::RandomSource;
 
 /// A message that is read.
 type Message<'a> = Progress<'a, Either<File, Stdin>>;
-
-/// The word of a call that has this name.
-fn word<'a>(words: &ArgMatches<'a>, name: &str) -> Result<&'a str, Error>
-    ensures { IfOk result (λ text. HasWord words.now name.now text.now) }
-{
-    words.get_str(name).context("a word is missing")
-}
 
 /// Random bytes of the system.
 fn random(rt: &HostRuntime) -> Result<[u8; 32], Error> {
@@ -70,29 +66,20 @@ pub(crate) fn keygen(rt: &HostRuntime, words: &ArgMatches<'_>) -> Result<(), Err
 }
 
 /// Makes the pair of keys of this seed at the set that the words say.
-fn make_keys(alloc: Global, words: &ArgMatches<'_>, seed: &[u8; 32]) -> Result<KeyTexts, Error>
+fn make_keys(alloc: Global, words: &ArgMatches<'_>, seed: &[u8; 32]) -> Result<KeyFiles, Error>
     ensures { IfOk result (λ keys. GeneratesAt words.now seed.now keys.private.items keys.public.items) }
 {
-    let algorithm = match word(words, "set")? {
-        "44" => SetName::MlDsa44,
-        "65" => SetName::MlDsa65,
-        "87" => SetName::MlDsa87,
-        set => bail!("{set}: no such set"),
-    };
-    Ok(mlsign_engine::keygen(alloc, algorithm, seed)?)
+    let algorithm = set_of(word(words, "set")?)?;
+    Ok(mlsign_engine::keygen(alloc, form(words), algorithm, seed)?)
 }
 
 /// Writes the public key of a private one.
 pub(crate) fn public(rt: &HostRuntime, words: &ArgMatches<'_>) -> Result<(), Error> {
     let private = word(words, "private")?;
     let output = Output::find(rt, target(words, "public", Content::PublicKey)?, None)?;
-    let text = read_key(rt, private)?;
-    let text = text.as_slice();
-    let key = Named::key(private, text, Kind::Private).name(mlsign_engine::public(
-        rt.alloc(),
-        text,
-    ))?;
-    output.write(rt, key.as_slice())?;
+    let key = KeyFile::read(rt, words, private, Some(Kind::Private))?;
+    let public = mlsign_engine::public(rt.alloc(), form(words), key.text.as_slice());
+    output.write(rt, key.name(public)?.as_slice())?;
     note_readable(rt, private);
     Ok(())
 }
@@ -146,8 +133,7 @@ fn signature_path(
 /// Signs messages. Nothing is signed if a signature cannot go to its place.
 pub(crate) fn sign(rt: &HostRuntime, words: &ArgMatches<'_>) -> Result<(), Error> {
     let private = word(words, "private")?;
-    let key = read_key(rt, private)?;
-    let key = Named::key(private, key.as_slice(), Kind::Private);
+    let key = KeyFile::read(rt, words, private, Some(Kind::Private))?;
     let messages = words.get_strs("message").context("a word is missing")?;
     if messages.len() > 1 {
         for message in messages {
@@ -178,15 +164,18 @@ fn signature_at<'a>(words: &ArgMatches<'_>, path: &'a str) -> Target<'a>
 fn sign_message(
     rt: &HostRuntime,
     words: &ArgMatches<'_>,
-    key: &Named<'_>,
+    key: &KeyFile<'_>,
     message: &str,
 ) -> Result<(), Error> {
     let (mut input, id) = open(rt, words, message)?;
     let path = signature_path(rt.alloc(), words, "out", message)?;
     let output = Output::find(rt, signature_at(words, path.as_str()), id)?;
     let random = random_of(rt, words)?;
-    let signature = sign_input(rt.alloc(), words, key.text, &random, &mut input);
-    let signature = key.with(message).name(signature)?;
+    let text = key.text.as_slice();
+    let signature = match sign_input(rt.alloc(), words, text, &random, &mut input) {
+        Err(CommandFault::Message) => return Err(input.fault(message)),
+        signature => key.name(signature)?,
+    };
     output.write(rt, signature.as_slice())
 }
 
@@ -226,8 +215,7 @@ fn sign_input<I: Source>(
 /// call says `--quiet`, and which are not to standard error.
 pub(crate) fn verify(rt: &HostRuntime, words: &ArgMatches<'_>) -> Result<bool, Error> {
     let public = word(words, "public")?;
-    let key = read_key(rt, public)?;
-    let key = Named::key(public, key.as_slice(), Kind::Public);
+    let key = KeyFile::read(rt, words, public, Some(Kind::Public))?;
     let messages = words.get_strs("message").context("a word is missing")?;
     let (mut all, mut any) = (true, false);
     for message in messages {
@@ -236,7 +224,7 @@ pub(crate) fn verify(rt: &HostRuntime, words: &ArgMatches<'_>) -> Result<bool, E
         any = any || valid;
     }
     if any && !words.get_flag("quiet") {
-        let fingerprint = fingerprint_of(rt.alloc(), key.text)?;
+        let fingerprint = fingerprint_of(rt.alloc(), key.text.as_slice())?;
         println!(rt; "key: {fingerprint}").context("standard output")?;
     }
     Ok(all)
@@ -246,18 +234,22 @@ pub(crate) fn verify(rt: &HostRuntime, words: &ArgMatches<'_>) -> Result<bool, E
 fn verify_message(
     rt: &HostRuntime,
     words: &ArgMatches<'_>,
-    key: &Named<'_>,
+    key: &KeyFile<'_>,
     message: &str,
 ) -> Result<bool, Error>
     ensures judged { IfOk result (λ valid. (signature bytes : List ℕ)
-        × Judges key.now.text.now signature (context_of words.now) bytes valid) }
+        × Judges key.now.text.items signature (context_of words.now) bytes valid) }
 {
     let path = signature_path(rt.alloc(), words, "signature", message)?;
     let signature = read_start(rt, path.as_str())?;
     let signature = signature.as_slice();
     let (mut input, _) = open(rt, words, message)?;
-    let valid = mlsign_engine::verify(rt.alloc(), key.text, signature, context(words), &mut input);
-    let valid = key.with(message).name(valid)?;
+    let text = key.text.as_slice();
+    let context = context(words);
+    let valid = match mlsign_engine::verify(rt.alloc(), text, signature, context, &mut input) {
+        Err(CommandFault::Message) => return Err(input.fault(message)),
+        valid => key.name(valid)?,
+    };
     say(rt, words, key, message, valid, signature.len())?;
     Ok(valid)
 }
@@ -266,7 +258,7 @@ fn verify_message(
 fn say(
     rt: &HostRuntime,
     words: &ArgMatches<'_>,
-    key: &Named<'_>,
+    key: &KeyFile<'_>,
     message: &str,
     valid: bool,
     size: usize,
@@ -282,7 +274,7 @@ fn say(
         }
         return Ok(());
     }
-    let algorithm = mlsign_engine::show(rt.alloc(), key.text)?.algorithm;
+    let algorithm = mlsign_engine::show(rt.alloc(), key.text.as_slice())?.algorithm;
     let (wanted, set) = (algorithm.signature_len(), name_of(algorithm));
     let _ = if size == wanted {
         rt.eprintln(format_args!("mlsign: {front}the signature is invalid"))
@@ -297,12 +289,12 @@ fn say(
 /// Prints what the file of a key is.
 pub(crate) fn show(rt: &HostRuntime, words: &ArgMatches<'_>) -> Result<(), Error> {
     let file = word(words, "file")?;
-    let text = read_key(rt, file)?;
-    let key = Named::key(file, text.as_slice(), Kind::Public);
-    let shown = key.name(mlsign_engine::show(rt.alloc(), key.text))?;
+    let key = KeyFile::read(rt, words, file, None)?;
+    let text = key.text.as_slice();
+    let shown = key.name(mlsign_engine::show(rt.alloc(), text))?;
     let (kind, fingerprint) = match shown.kind {
-        Kind::Public => ("public key", fingerprint_of(rt.alloc(), key.text)),
-        Kind::Private => ("private key", private_fingerprint(rt.alloc(), key.text)),
+        Kind::Public => ("public key", fingerprint_of(rt.alloc(), text)),
+        Kind::Private => ("private key", private_fingerprint(rt.alloc(), text)),
     };
     let fingerprint = key.name(fingerprint)?;
     let set = name_of(shown.algorithm);
@@ -310,6 +302,57 @@ pub(crate) fn show(rt: &HostRuntime, words: &ArgMatches<'_>) -> Result<(), Error
     println!(rt;
         "kind: {kind}\nset: {set}\nfingerprint: {fingerprint}\nhash of the public key: {hash}"
     ).context("standard output")
+}
+
+/// Writes a key in another form.
+pub(crate) fn convert(rt: &HostRuntime, words: &ArgMatches<'_>) -> Result<(), Error> {
+    let path = word(words, "file")?;
+    let key = KeyFile::read_converted(rt, words, path)?;
+    match key.kind {
+        Kind::Public => {
+            let output = Output::find(rt, target(words, "out", Content::PublicKey)?, None)?;
+            output.write(rt, public_file(rt.alloc(), words, &key)?.as_slice())
+        }
+        Kind::Private => {
+            let output = Output::find(rt, target(words, "out", Content::PrivateKey)?, None)?;
+            output.write(rt, private_file(rt.alloc(), words, &key)?.as_slice())?;
+            note_readable(rt, path);
+            Ok(())
+        }
+    }
+}
+
+/// The file of a public key in the form that the words say.
+fn public_file(alloc: Global, words: &ArgMatches<'_>, key: &KeyFile<'_>) -> Result<Vec<u8>, Error>
+    ensures { IfOk result (λ file. (form : Form) × HasWord words.now (codes "to") (form_word form)
+        × ConvertsPublic form key.now.text.items file.items) }
+{
+    if words.get_str("parts").is_some() {
+        bail!("--parts is for private keys");
+    }
+    let file = mlsign_engine::convert_public(alloc, key.text.as_slice(), form_of(words, "to")?);
+    key.name(file.map_err(CommandFault::Key))
+}
+
+/// The file of a private key in the form that the words say, with the parts that they say.
+fn private_file(alloc: Global, words: &ArgMatches<'_>, key: &KeyFile<'_>) -> Result<Vec<u8>, Error>
+    ensures { IfOk result (λ file. (form : Form) × (parts : Parts) × HasWord words.now (codes "to") (form_word form)
+        × IsPartsWord words.now parts × ConvertsPrivate form parts key.now.text.items file.items) }
+{
+    let (form, parts) = (form_of(words, "to")?, parts(words)?);
+    key.name(mlsign_engine::convert_private(alloc, key.text.as_slice(), form, parts))
+}
+
+/// Which parts of a private key the words want.
+fn parts(words: &ArgMatches<'_>) -> Result<Parts, Error>
+    ensures { IfOk result (IsPartsWord words.now) }
+{
+    match words.get_str("parts") {
+        None => Ok(Parts::Kept),
+        Some("seed") => Ok(Parts::Seed),
+        Some("expanded") => Ok(Parts::Expanded),
+        Some(parts) => bail!("{parts}: no such parts"),
+    }
 }
 
 /// The fingerprint of the public key in this text: `SHA256:` and SHA-256 of its DER, in base64 without padding.
@@ -323,7 +366,7 @@ fn fingerprint_of(alloc: Global, public: &[u8]) -> Result<String, CommandFault> 
 
 /// The fingerprint of the public key that belongs to the private key in this text.
 fn private_fingerprint(alloc: Global, private: &[u8]) -> Result<String, CommandFault> {
-    let public = mlsign_engine::public(alloc, private)?;
+    let public = mlsign_engine::public(alloc, Form::Pem, private)?;
     fingerprint_of(alloc, public.as_slice())
 }
 
@@ -333,49 +376,5 @@ fn name_of(algorithm: SetName) -> &'static str {
         SetName::MlDsa44 => "ML-DSA-44",
         SetName::MlDsa65 => "ML-DSA-65",
         SetName::MlDsa87 => "ML-DSA-87",
-    }
-}
-
-/// A key's file, and the message that it is used for, which an error may be about.
-#[derive(Debug, Clone, Copy)]
-struct Named<'a> {
-    path: &'a str,
-    text: &'a [u8],
-    kind: Kind,
-    message: &'a str,
-}
-
-impl<'a> Named<'a> {
-    /// The file of a key of this kind, with its text.
-    fn key(path: &'a str, text: &'a [u8], kind: Kind) -> Named<'a>
-        ensures { result.text ≡ text.entry }
-    {
-        Named {
-            path,
-            text,
-            kind,
-            message: "",
-        }
-    }
-
-    /// The same, for a message.
-    fn with(&self, message: &'a str) -> Named<'a> {
-        Named { message, ..*self }
-    }
-
-    /// An answer, or its fault with the name of the file that it is about.
-    fn name<T>(&self, answer: Result<T, CommandFault>) -> Result<T, Error>
-        ensures { IfOk result (λ value. answer ≡ Ok value) }
-    {
-        match answer {
-            Ok(value) => Ok(value),
-            Err(CommandFault::Message) => Err(CommandFault::Message).context(self.message),
-            Err(CommandFault::Context) => Err(Error::from(CommandFault::Context)),
-            Err(CommandFault::Key(fault)) => match hint(self.text, self.kind) {
-                Some(hint) => Err(Error::msg(hint).context(self.path)),
-                None => Err(CommandFault::Key(fault)).context(self.path),
-            },
-            Err(fault) => Err(fault).context(self.path),
-        }
     }
 }

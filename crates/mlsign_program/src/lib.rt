@@ -4,6 +4,7 @@
 mod commands;
 mod files;
 mod hints;
+mod keyfile;
 mod places;
 mod process;
 mod progress;

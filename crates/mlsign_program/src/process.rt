@@ -91,6 +91,7 @@ pub fn answer<S: AsStr>(rt: &HostRuntime, words: &[S]) -> Result<bool, Error> {
         Some(("sign", words)) => commands::sign(rt, words)?,
         Some(("verify", words)) => return commands::verify(rt, words),
         Some(("show", words)) => commands::show(rt, words)?,
+        Some(("convert", words)) => commands::convert(rt, words)?,
         _ => bail!("no such command"),
     }
     Ok(true)

@@ -1,6 +1,8 @@
 //! A message that is read, with a line that says how far.
 #![tactic(auto)]
 
+use anyhow::Error;
+use mlsign_engine::CommandFault;
 use std::io::{self, Read};
 use std::time::Instant;
 
@@ -23,6 +25,8 @@ pub(crate) struct Progress<'a, I> {
     started: Option<Instant>,
     read: u64,
     shown: Option<u64>,
+    /// The number of the error by which the system refused to read.
+    failed: Option<i32>,
 }
 
 impl<'a, I> Progress<'a, I> {
@@ -41,7 +45,19 @@ impl<'a, I> Progress<'a, I> {
             started: if shows { Instant::now(rt).ok() } else { None },
             read: 0,
             shown: None,
+            failed: None,
         }
+    }
+
+    /// Why the message with this name was not read.
+    pub(crate) fn fault(&self, message: &str) -> Error {
+        match self.failed {
+            Some(number) => Error::from(io::Error::from_raw_os_error(number)).context(
+                "the message was not read",
+            ),
+            None => Error::from(CommandFault::Message),
+        }
+        .context(message)
     }
 
     /// Shows how far it is after so many more bytes, if that is not shown already, and wipes it after none.
@@ -105,8 +121,15 @@ impl<'a, I> Progress<'a, I> {
 
 impl<I: Read> Read for Progress<'_, I> {
     fn read(&mut self, room: &mut [u8]) -> io::Result<usize> {
-        let count = self.reader.read(room)?;
-        self.show(count);
-        Ok(count)
+        match self.reader.read(room) {
+            Ok(count) => {
+                self.show(count);
+                Ok(count)
+            }
+            Err(error) => {
+                self.failed = error.raw_os_error();
+                Err(error)
+            }
+        }
     }
 }

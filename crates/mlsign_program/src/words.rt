@@ -16,12 +16,13 @@ pub(crate) fn mlsign<'a>(alloc: Global) -> Result<Command<'a>, AllocError> {
         .subcommand(public(alloc)?)?
         .subcommand(sign(alloc)?)?
         .subcommand(verify(alloc)?)?
-        .subcommand(show(alloc)?)
+        .subcommand(show(alloc)?)?
+        .subcommand(convert(alloc)?)
 }
 
 fn keygen<'a>(alloc: Global) -> Result<Command<'a>, AllocError> {
     let set = arg!(in alloc; --set <SET> "The parameter set")
-        .value_parser(["44", "65", "87"].as_slice())
+        .value_parser(SETS.as_slice())
         .default_value("65");
     let private = arg!(in alloc; -k --private <FILE> "Where the private key goes");
     Command::new(alloc, "keygen")
@@ -29,6 +30,7 @@ fn keygen<'a>(alloc: Global) -> Result<Command<'a>, AllocError> {
         .arg(set)?
         .arg(private.required(true))?
         .arg(arg!(in alloc; -p --public <FILE> "Where the public key goes").required(true))?
+        .arg(der(alloc))?
         .arg(force(alloc))
 }
 
@@ -37,6 +39,7 @@ fn public<'a>(alloc: Global) -> Result<Command<'a>, AllocError> {
         .about("Writes the public key of a private one")
         .arg(arg!(in alloc; -k --private <FILE> "The private key").required(true))?
         .arg(arg!(in alloc; -p --public <FILE> "Where the public key goes").required(true))?
+        .arg(der(alloc))?
         .arg(force(alloc))
 }
 
@@ -46,6 +49,7 @@ fn sign<'a>(alloc: Global) -> Result<Command<'a>, AllocError> {
     Command::new(alloc, "sign")
         .about("Signs messages")
         .arg(arg!(in alloc; -k --private <FILE> "The private key").required(true))?
+        .arg(der(alloc))?
         .arg(context(alloc))?
         .arg(deterministic)?
         .arg(arg!(in alloc; -o --out <FILE> "Where the signature goes, if not to MESSAGE.sig"))?
@@ -58,6 +62,7 @@ fn verify<'a>(alloc: Global) -> Result<Command<'a>, AllocError> {
     Command::new(alloc, "verify")
         .about("Verifies signatures of messages")
         .arg(arg!(in alloc; -p --public <FILE> "The public key").required(true))?
+        .arg(der(alloc))?
         .arg(context(alloc))?
         .arg(arg!(in alloc; -s --signature <FILE> "The signature, if not MESSAGE.sig"))?
         .arg(quiet(alloc))?
@@ -67,13 +72,43 @@ fn verify<'a>(alloc: Global) -> Result<Command<'a>, AllocError> {
 fn show<'a>(alloc: Global) -> Result<Command<'a>, AllocError> {
     Command::new(alloc, "show")
         .about("Says what a key's file is: its kind, its set, the fingerprint of its public key")
+        .arg(der(alloc))?
         .arg(arg!(in alloc; file: <FILE> "The file of a key"))
 }
+
+fn convert<'a>(alloc: Global) -> Result<Command<'a>, AllocError> {
+    let from = arg!(in alloc; --from <FORM> "The form of the key that is read").default_value(
+        "pem",
+    );
+    let to = arg!(in alloc; --to <FORM> "The form of the key that is written").default_value("pem");
+    let set = arg!(in alloc; --set <SET> "The parameter set of raw bytes, if they are a seed");
+    let parts = arg!(in alloc; --parts <PARTS> "What is written of a private key, if not all");
+    Command::new(alloc, "convert")
+        .about("Writes a key in another form")
+        .arg(from.value_parser(FORMS.as_slice()))?
+        .arg(to.value_parser(FORMS.as_slice()))?
+        .arg(set.value_parser(SETS.as_slice()))?
+        .arg(parts.value_parser(["seed", "expanded"].as_slice()))?
+        .arg(arg!(in alloc; -o --out <FILE> "Where the key goes").required(true))?
+        .arg(force(alloc))?
+        .arg(arg!(in alloc; file: <FILE> "The file of a key"))
+}
+
+/// The words for parameter sets.
+const SETS: [&str; 3] = ["44", "65", "87"];
+
+/// The words for the forms of a key.
+const FORMS: [&str; 3] = ["pem", "der", "raw"];
 
 fn context<'a>(alloc: Global) -> Arg<'a> {
     arg!(in alloc; -c --context <TEXT> "What the message is signed for, at most 255 bytes")
         .default_value("")
         .hide_default_value(true)
+        .allow_hyphen_values(true)
+}
+
+fn der<'a>(alloc: Global) -> Arg<'a> {
+    arg!(in alloc; --der "Keys are in DER, and not in PEM")
 }
 
 fn force<'a>(alloc: Global) -> Arg<'a> {

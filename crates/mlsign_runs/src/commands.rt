@@ -6,7 +6,10 @@ use crate::recorded::{
 };
 use base64::engine::general_purpose::STANDARD;
 use fips204_shake::Fault;
-use mlsign_engine::{CommandFault, keygen, public, show, sign, verify};
+use mlsign_engine::{
+    CommandFault, Form, Parts, convert_private, convert_public, key_text, keygen, public, show,
+    sign, verify,
+};
 use mlsign_files::pem::{self, Kind};
 use mlsign_files::{FileFault, PrivateKey, SetName, write_private};
 use sha2::{Digest, Sha256};
@@ -126,7 +129,7 @@ fn keys_of_openssl(rt: HostRuntime) -> Result<(), Fail> {
         (SetName::MlDsa65, PRIVATE_65, PUBLIC_65),
         (SetName::MlDsa87, PRIVATE_87, PUBLIC_87),
     ] {
-        let keys = keygen(alloc, algorithm, &SEED)?;
+        let keys = keygen(alloc, Form::Pem, algorithm, &SEED)?;
         assert!(rt; keys.private.as_slice() == private);
         assert!(rt; keys.public.as_slice() == public);
         let mut input = b"message".as_slice();
@@ -183,7 +186,7 @@ fn public_keys_of_openssl(rt: HostRuntime) -> Result<(), Fail> {
         (PRIVATE_65, PUBLIC_65),
         (PRIVATE_87, PUBLIC_87),
     ] {
-        let text = public(rt.alloc(), private)?;
+        let text = public(rt.alloc(), Form::Pem, private)?;
         assert!(rt; text.as_slice() == wanted);
     }
     Ok(())
@@ -205,6 +208,14 @@ fn sentences(rt: HostRuntime) -> Result<(), Fail> {
         (CommandFault::Context, "the context has more than 255 bytes"),
         (CommandFault::Memory, "out of memory"),
         (CommandFault::Message, "the message was not read"),
+        (
+            CommandFault::NoSeed,
+            "it has no seed: its seed cannot be had of its expanded key",
+        ),
+        (
+            CommandFault::TwoParts,
+            "it has a seed and an expanded key, and raw bytes are one of them",
+        ),
     ] {
         let text = format!(in rt.alloc(); "{fault}")?;
         assert_eq!(rt; text.as_str(), sentence);
@@ -242,4 +253,86 @@ fn recorded_keys(rt: HostRuntime) -> Result<(), Fail> {
         assert!(rt; is_shown(alloc, private, Kind::Private, algorithm, hash)?);
     }
     Ok(())
+}
+
+/// The text of a public key from its file in this form, which is made of the recorded text.
+fn public_through(
+    alloc: Global,
+    form: Form,
+    set: SetName,
+    text: &[u8],
+) -> Result<Vec<u8>, FileFault> {
+    let file = convert_public(alloc, text, form)?;
+    key_text(alloc, form, set, Kind::Public, file.as_slice())
+}
+
+/// The same of a private key.
+fn private_through(
+    alloc: Global,
+    form: Form,
+    set: SetName,
+    text: &[u8],
+) -> Result<Vec<u8>, CommandFault> {
+    let file = convert_private(alloc, text, form, Parts::Kept)?;
+    Ok(key_text(alloc, form, set, Kind::Private, file.as_slice())?)
+}
+
+/// The recorded keys, through each form and back.
+#[test]
+fn keys_through_each_form(rt: HostRuntime) -> Result<(), Fail> {
+    for (set, private, public) in [
+        (SetName::MlDsa44, PRIVATE_44, PUBLIC_44),
+        (SetName::MlDsa65, PRIVATE_65, PUBLIC_65),
+        (SetName::MlDsa87, PRIVATE_87, PUBLIC_87),
+    ] {
+        for form in [Form::Pem, Form::Der, Form::Raw] {
+            let text = public_through(rt.alloc(), form, set, public)?;
+            assert!(rt; text.as_slice() == public);
+            let text = private_through(rt.alloc(), form, set, private)?;
+            assert!(rt; text.as_slice() == private);
+        }
+    }
+    Ok(())
+}
+
+/// A private key's seed and expanded key in raw bytes: the seed is the recorded one, and the expanded key makes the same public key.
+#[test]
+fn parts_of_a_private_key(rt: HostRuntime) -> Result<(), Fail> {
+    let alloc = rt.alloc();
+    let seed = convert_private(alloc, PRIVATE_44, Form::Raw, Parts::Seed)?;
+    assert!(rt; seed.as_slice() == SEED.as_slice());
+    let expanded = convert_private(alloc, PRIVATE_44, Form::Raw, Parts::Expanded)?;
+    let text = key_text(
+        alloc,
+        Form::Raw,
+        SetName::MlDsa44,
+        Kind::Private,
+        expanded.as_slice(),
+    )?;
+    assert!(rt; public(alloc, Form::Pem, text.as_slice())?.as_slice() == PUBLIC_44);
+    let none = convert_private(alloc, text.as_slice(), Form::Pem, Parts::Seed).err();
+    assert!(rt; none == Some(CommandFault::NoSeed));
+    Ok(())
+}
+
+/// Raw bytes of other lengths, and those of another set, are no key.
+#[test]
+fn raw_bytes_of_no_key(rt: HostRuntime) {
+    let alloc = rt.alloc();
+    let bytes = [0; 2592];
+    for (kind, size) in [
+        (Kind::Public, 0),
+        (Kind::Public, 1311),
+        (Kind::Public, 1313),
+        (Kind::Public, 1952),
+        (Kind::Private, 31),
+        (Kind::Private, 33),
+        (Kind::Private, 1312),
+        (Kind::Private, 2559),
+        (Kind::Private, 2561),
+    ] {
+        let bytes = bytes.get(..size).unwrap_or(&[]);
+        let text = key_text(alloc, Form::Raw, SetName::MlDsa44, kind, bytes);
+        assert!(rt; text.err() == Some(FileFault::KeyLength));
+    }
 }

@@ -1,4 +1,4 @@
-use Rattle.std.proofs.Common.{◌≡◌, Ok, Err, List, ℕ, length, ◌∙◌, ap, inr, rules, arith}
+use Rattle.std.proofs.Common.{◌≡◌, Err, List, ℕ, length, ◌∙◌, ap, inr, rules}
 use Rattle.std.proofs.lemmas.List.{take_at}
 use Rattle.fips204.specs.Framing.{plain, representative}
 use Rattle.fips204.specs.ParameterSets.{signature_length}

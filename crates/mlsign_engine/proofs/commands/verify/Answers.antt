@@ -1,4 +1,4 @@
-use Rattle.std.proofs.Common.{◌≡◌, Ok, List, ℕ, length, take, ◌∙◌, ap, rules}
+use Rattle.std.proofs.Common.{◌≡◌, List, ℕ, take, ◌∙◌, ap, rules}
 use Rattle.fips204.specs.Framing.{plain, representative}
 use Rattle.fips204.specs.Sets.{named_set}
 use Rattle.fips204_shake.specs.Fronts.{shake256_front}

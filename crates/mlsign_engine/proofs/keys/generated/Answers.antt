@@ -1,4 +1,4 @@
-use Rattle.std.proofs.Common.{◌≡◌, Ok, Err, length, ◌∙◌, rules, refl}
+use Rattle.std.proofs.Common.{◌≡◌, Err, length, ◌∙◌, rules}
 use Rattle.std.proofs.lemmas.List.{take_at}
 use Rattle.fips204.specs.Sets.{named_set}
 use Rattle.fips204.specs.ParameterSets.{public_key_length, private_key_length}

@@ -1,10 +1,10 @@
-use Rattle.std.proofs.Common.{arith}
+use Rattle.std.proofs.Common.{arith, rules}
 use Rattle.mlsign_engine.proofs.Hashing.{taken_none, taken_more}
 use Rattle.mlsign_engine.proofs.message.message_mu.Goals as goal
 
 pub loop-count-init : goal.loop-count-init
 loop-count-init g c =
-    taken_none g.I.Source.gives g.I.Source.remaining c.args.input.now c.args.tr.now c.args.context.now c.begun-hasher.result c.begun-hasher.ensures
+    taken_none g.I.Source.gives g.I.Source.remaining c.args.input.now c.args.tr.now c.args.context.now _ (search rules)
 
 pub loop-count-preserved : goal.loop-count-preserved
 loop-count-preserved g c =

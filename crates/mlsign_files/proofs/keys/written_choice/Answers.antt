@@ -1,7 +1,7 @@
-use Rattle.std.proofs.Common.{◌≡◌, length, arith, ◌∙◌, ap}
+use Rattle.std.proofs.Common.{◌≡◌, length, arith}
 use Rattle.std.proofs.lemmas.List.{append-nil}
 use Rattle.mlsign_files.specs.Der.{octet_string}
-use Rattle.mlsign_files.specs.Keys.{private_length, HasPrivateSizes, private_parts}
+use Rattle.mlsign_files.specs.Keys.{private_length}
 use Rattle.mlsign_files.proofs.KeyFiles.{private_small, both_small}
 use Rattle.mlsign_files.proofs.keys.written_choice.Goals as goal
 

@@ -1,0 +1,79 @@
+-- A text in the strict form stays as it is, but that its lines end in LF.
+use Rattle.std.proofs.Common.{◌≡◌, ℕ, not, List, [], ◌∷◌, ◌++◌, length, take, drop, refl, sym, ap, ◌∙◌, append_assoc}
+use Rattle.std.specs.List.{position_or_len, filter, AllPass}
+use Rattle.std.proofs.lemmas.List.{take_at, drop_at}
+use Rattle.std.proofs.lemmas.List.Elements.{filter-append, All-append}
+use Rattle.base64.specs.GeneralPurpose.{encode_of}
+use Rattle.base64.specs.Engines.{standard}
+use Rattle.mlsign_files.specs.declared.pem.Kind.{Kind}
+use Rattle.mlsign_files.specs.declared.pem.Kind.TheVariants.{Public, Private}
+use Rattle.mlsign_files.specs.declared.pem.LineEnd.{LineEnd}
+use Rattle.mlsign_files.specs.declared.pem.LineEnd.TheVariants.{Lf, CrLf}
+use Rattle.mlsign_files.specs.Pem.{begin_line, end_line, line_end, wrapped, closing, pem, IsPem}
+use Rattle.mlsign_files.specs.PemReading.{is_dash}
+use Rattle.mlsign_files.specs.Lax.{beginning, from_first, is_black, strict_closing, rewrapped, strict_form}
+use Rattle.mlsign_files.proofs.PemFiles.{begun_again, no_dash_in_ending}
+use Rattle.mlsign_files.proofs.Texts.{passes, wrapped_kept, wrapped_pass, encoded_passes, first_place}
+
+white_ending : (ending : LineEnd) → filter is_black (line_end ending) ≡ []
+white_ending Lf = refl
+white_ending CrLf = refl
+
+none_behind : (ending : LineEnd) → from_first beginning (line_end ending) ≡ []
+none_behind Lf = refl
+none_behind CrLf = refl
+
+-- the beginning of a text of this kind is that of a text
+from_beginning : (kind : Kind) (rest : List ℕ) → from_first beginning (begin_line kind ++ rest) ≡ begin_line kind ++ rest
+from_beginning Public rest = refl
+from_beginning Private rest = refl
+
+closing_again : (kind : Kind) (ending : LineEnd) → strict_closing kind (closing kind ending) ≡ closing kind Lf
+unfolding strict_closing
+closing_again kind ending =
+    rw (
+      begun_again (end_line kind) (line_end ending),
+      drop_at (end_line kind) (line_end ending) (length (end_line kind)) refl,
+      none_behind ending,
+    ) refl
+
+dash_first : (kind : Kind) (ending : LineEnd) → closing kind ending ≡ 45 ∷ drop 1 (closing kind ending)
+dash_first Public ending = refl
+dash_first Private ending = refl
+
+no_dash : (ending : LineEnd) (symbols : List ℕ) → AllPass (λ x. not (is_dash x)) symbols → AllPass (λ x. not (is_dash x)) (wrapped (line_end ending) symbols)
+no_dash ending symbols all = wrapped_pass (λ x. not (is_dash x)) (line_end ending) symbols (no_dash_in_ending ending) all
+
+pub strict_again : (kind : Kind) (ending : LineEnd) (der : List ℕ) → strict_form kind (pem kind ending der) ≡ pem kind Lf der
+unfolding strict_form rewrapped pem
+strict_again kind ending der =
+    let symbols : List ℕ = encode_of standard der in
+    let end : List ℕ = line_end ending in
+    let lines : List ℕ = wrapped end symbols in
+    let body : List ℕ = end ++ lines in
+    let last : List ℕ = closing kind ending in
+    let text : List ℕ = end ++ (lines ++ last) in
+    let joined : text ≡ body ++ last = sym (append_assoc end lines last) in
+    let dashless : AllPass (λ x. not (is_dash x)) body =
+    All-append (passes (λ x. not (is_dash x))) end lines (no_dash_in_ending ending) (no_dash ending symbols (encoded_passes (λ x. not (is_dash x)) der refl refl refl)) in
+    let at : position_or_len is_dash text ≡ length body =
+    ap (position_or_len is_dash) joined ∙ ap (λ (z : List ℕ). position_or_len is_dash (body ++ z)) (dash_first kind ending)
+    ∙ first_place is_dash body (drop 1 last) 45 dashless refl in
+    let front : take (length body) text ≡ body = ap (take (length body)) joined ∙ take_at body last (length body) refl in
+    let back : drop (length body) text ≡ last = ap (drop (length body)) joined ∙ drop_at body last (length body) refl in
+    let kept : filter is_black body ≡ symbols =
+    filter-append is_black end lines ∙ ap (λ (z : List ℕ). z ++ filter is_black lines) (white_ending ending)
+    ∙ wrapped_kept is_black end symbols (white_ending ending) (encoded_passes is_black der refl refl refl) in
+    rw (
+      from_beginning kind text,
+      begun_again (begin_line kind) text,
+      drop_at (begin_line kind) text (length (begin_line kind)) refl,
+      at,
+      front,
+      back,
+      kept,
+      closing_again kind ending,
+    ) refl
+
+pub strict_of_text : (kind : Kind) (text der : List ℕ) → IsPem text kind der → strict_form kind text ≡ pem kind Lf der
+strict_of_text kind text der is = ap (strict_form kind) is.is ∙ strict_again kind is.ending der
