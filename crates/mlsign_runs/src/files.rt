@@ -247,10 +247,10 @@ fn lines_of_others(rt: HostRuntime) -> Result<(), Fail> {
     let body = &PUBLIC_44[27..PUBLIC_44.len() - 25];
     for width in [1, 60, 63, 65, 76, 4000] {
         let mut text = Vec::from_slice(alloc, &PUBLIC_44[..27])?;
-        let mut place = 0;
+        let mut place: usize = 0;
         for byte in body.iter().copied().filter(|byte| *byte != b'\n') {
             text.push(byte)?;
-            place += 1;
+            place = usize::wrapping_add(place, 1);
             if place == width {
                 text.push(b'\n')?;
                 place = 0;
