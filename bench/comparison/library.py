@@ -129,7 +129,7 @@ def tests(folder, room, long):
         it.write('\n/// The examples.\n#[cfg(doctest)]\n#[doc = include_str!("../tests/examples.md")]\npub mod examples {}\n')
     total = [0, 0, 0]
     print("| tests | passed | failed | ignored |\n|---|---|---|---|", flush=True)
-    rows = [(name, ["--test", name.removesuffix(".rs")]) for name in sorted(files)] + [(f"{count} examples, and that of our page", ["--doc", "--", "examples (line", "README.md"])]
+    rows = [(name, ["--test", name.removesuffix(".rs")]) for name in sorted(files)] + [(f"{count} examples, and that of our page", ["--doc", "--", "examples", "README.md"])]
     if long:
         rows.append(("accumulated.rs, 10,000 pairs and signatures a set", ["--release", "--test", "accumulated"]))
     for name, words in rows:
