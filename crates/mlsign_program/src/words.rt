@@ -8,7 +8,7 @@ use std::alloc::{AllocError, Global};
 pub(crate) fn mlsign<'a>(alloc: Global) -> Result<Command<'a>, AllocError> {
     Command::new(alloc, "mlsign")
         .about("Signs and verifies files with ML-DSA (FIPS 204)")
-        .version("0.1.0")
+        .version("0.2.0")
         .bin_name("mlsign")?
         .no_binary_name(true)
         .subcommand_required(true)
