@@ -7,7 +7,9 @@ ghost use Rattle.std.proofs.Common.{rules};
 ghost use Rattle.shake.specs.Shake.{shake};
 ghost use Rattle.shake.specs.State.{IsRate};
 ghost use Rattle.fips204_shake.specs.Fronts.{shake256_front, shake128_front, length-shake256_front, length-shake128_front};
+ghost use Rattle.fips204_shake.specs.Unbounded.{OnlyLimitsDiffer};
 
+use fips204::laws::longer_functions;
 use fips204::xof::{Xof, XofReader};
 use shake::{Shake, ShakeReader};
 use std::marker::Model;
@@ -132,4 +134,14 @@ impl Xof for Shake128Stream {
     fn open(parts: &[&[u8]]) -> SpongeReader<168> {
         SpongeReader::open(parts)
     }
+}
+
+/// That the output of the streams ends changes nothing but the error which says so: a law, which computes nothing. The
+/// loops of FIPS 204 read as much of SHAKE256 and SHAKE128 as they need. What a call answers here, unless it is
+/// `Fault::SamplingLimit`, it answers over any longer part of that output too; so does verifying with a yes, and with a no
+/// where a matrix and a challenge are there, or where signature, context, identifier or digest are malformed.
+pub fn only_limits_differ()
+    ensures { OnlyLimitsDiffer }
+{
+    longer_functions();
 }

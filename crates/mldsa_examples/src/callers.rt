@@ -1,13 +1,14 @@
 //! Functions that call the library at one set, with clauses in the words of the definitions. They are proved by search;
-//! `accepts_what_it_signs` has a file with its answer, which is found without it in ten seconds.
+//! `accepts_what_it_signs` has a file with its answer, which is found without it in ten seconds, and the last two cite
+//! laws of traits.
 #![tactic(auto)]
 
-ghost use Rattle.std.specs.Prelude.{◌≡◌, ◌↔◌, [], true, Ok, IsTrue, IfOk};
+ghost use Rattle.std.specs.Prelude.{◌≡◌, ◌↔◌, ◌<◌, [], true, length, None, Ok, Err, IsTrue, IfOk};
 ghost use Rattle.fips204.specs.Completeness.{AcceptedIfWhole};
 ghost use Rattle.fips204.specs.Keys.{IsWhole, DecodesPrivate};
 ghost use Rattle.fips204.specs.ParameterSets.{set_44, set_65, set_87};
 ghost use Rattle.fips204.specs.Prepared.{prepared_private, prepared_public, IsWholePrepared, public_of_prepared, sign_prepared, VerifiesPrepared};
-ghost use Rattle.fips204.specs.Refusals.{generated, derived, OnlySamplingLimit, DrawsIf, sign_input, VerifiesInput};
+ghost use Rattle.fips204.specs.Refusals.{generated, derived, OnlySamplingLimit, DrawsIf, input_fault, sign_input, VerifiesInput};
 ghost use Rattle.fips204.specs.Signing.{sign};
 ghost use Rattle.fips204.specs.Framing.{plain, hashed, represented};
 ghost use Rattle.fips204_base.specs.Encodings.{public_key_bytes};
@@ -217,4 +218,29 @@ pub fn accepts_what_it_signs_prepared<H: Xof>(
 {
     let signature = sk.try_sign_with_seed(rnd, message, ctx)?;
     Ok(pk.verify(message, &signature, ctx))
+}
+
+/// Signs under a context with any key that signs. Every key refuses a context of more than 255 bytes, and with this error.
+pub fn signed_under<K: Signer>(
+    key: &K,
+    rnd: &[u8; 32],
+    message: &[u8],
+    ctx: &[u8],
+) -> Result<K::Signature, Fault>
+    ensures answer { result ≡ K.signs key.now rnd.now (plain message.now ctx.now) }
+    ensures refusal { 255 < length ctx.now → result ≡ Err Fault.SignCtx }
+{
+    key.try_sign_with_seed(rnd, message, ctx)
+}
+
+/// Whether any key that verifies accepts a signature of a message. Where it does, the context has at most 255 bytes.
+pub fn accepted_under<V: Verifier>(
+    key: &V,
+    message: &[u8],
+    signature: &V::Signature,
+    ctx: &[u8],
+) -> bool
+    ensures { IsTrue result → input_fault (plain message.now ctx.now) ≡ None }
+{
+    key.verify(message, signature, ctx)
 }
