@@ -10,7 +10,7 @@ from statistics import median
 from comparison.build import REGISTRY, TOP, lines_of
 
 sys.path.insert(0, f"{TOP}/scripts")
-import measured  # noqa: E402
+from measured import code as code_of_library  # noqa: E402
 
 ZEROS = bytes(32)
 TABLE = f"{TOP}/bench/table.md"
@@ -34,7 +34,7 @@ def machine(cpu="x86-64-v2"):
     crates = sorted(it for it in os.listdir(REGISTRY) if re.match(r"(sha2|rand_core|zeroize)-\d", it))
     changed = " with changes" if said("git", "-C", TOP, "status", "--porcelain", "--", "crates") else ""
     return [
-        f"{time.strftime('%Y-%m-%d')}, commit {said('git', '-C', TOP, 'rev-parse', '--short', 'HEAD')}{changed}, code {measured.code()}, by {said('rt', 'version')}, beside fips204 0.5.0 by",
+        f"{time.strftime('%Y-%m-%d')}, commit {said('git', '-C', TOP, 'rev-parse', '--short', 'HEAD')}{changed}, code {code_of_library()}, by {said('rt', 'version')}, beside fips204 0.5.0 by",
         f"{said('rustc', '-V')} (release, {cpu}) over {', '.join(crates)}; {said('valgrind', '--version')}.",
         f"{os.cpu_count()} processors, {model[1] if model else platform.machine()}, "
         f"{'with' if 'sha_ni' in processor else 'without'} instructions for SHA; load {os.getloadavg()[0]:.1f} at the start.",
