@@ -1,6 +1,8 @@
 //! Prepared keys in the caller's bytes.
 #![tactic(auto)]
 
+ghost use Rattle.std.specs.Prelude.{◌≤◌};
+
 use fips204_shake::{
     Input, Refusal, SetName, keygen, ml_dsa_44, ml_dsa_65, ml_dsa_87, prepare_private_key,
     prepare_public_key, sign, sign_prepared, verify_prepared,
@@ -15,7 +17,9 @@ fn answers<
     const SIG: usize,
     const PREPARED_PK: usize,
     const PREPARED_SK: usize,
->(set: SetName) -> Result<[bool; 5], Refusal> {
+>(set: SetName) -> Result<[bool; 5], Refusal>
+    requires sizes { (PK ≤ 65536) × (SK ≤ 65536) × (SIG ≤ 65536) × (PREPARED_PK ≤ 65536) × (PREPARED_SK ≤ 65536) }
+{
     let (mut public_key, mut private_key) = ([0; PK], [0; SK]);
     keygen(set, &[3; 32], &mut public_key, &mut private_key)?;
     let mut checks = [0; PREPARED_PK];
