@@ -85,7 +85,7 @@ test("lengths and texts are those of the header", () => {
             assert.equal(new MlDsaError(Number(status)).message, TEXTS[status]);
         }
     }
-    assert.equal(Object.keys(TEXTS).length, 13);
+    assert.equal(Object.keys(TEXTS).length, 14);
 });
 
 test("each array of a wrong length is refused", () => {
@@ -304,7 +304,7 @@ test("each call leaves an eighth of the module's stack untouched", async () => {
         memory.fill(0xa5, 0, size);
         assert.equal(exports[`mldsa87_${name}`](...words.flat()), 0);
         const used = size - memory.findIndex((byte) => byte !== 0xa5);
-        assert.ok(used > 100000 && 9 * used <= 8 * size, `${name} uses ${used}`);
+        assert.ok(used > 50000 && 9 * used <= 8 * size, `${name} uses ${used}`);
     }
 });
 
