@@ -31,6 +31,7 @@ mod calls;
 pub mod ml_dsa_44;
 pub mod ml_dsa_65;
 pub mod ml_dsa_87;
+mod names;
 pub mod pieces;
 pub mod streams;
 

@@ -8,7 +8,7 @@ ghost use Rattle.fips204_shake.specs.Fronts.{shake256_front, shake128_front};
 use crate::streams::{Shake128Stream, Shake256Stream};
 use fips204::ml_dsa_87;
 pub use fips204::ml_dsa_87::{PK_LEN, PREPARED_PK_LEN, PREPARED_SK_LEN, SIG_LEN, SK_LEN};
-use fips204::traits::CryptoRngCore;
+use fips204::traits::{CryptoRngCore, KeyGen};
 use fips204_base::Fault;
 
 /// Key generation.
@@ -31,5 +31,5 @@ pub type PreparedPrivateKey = ml_dsa_87::PreparedPrivateKey<Shake256Stream>;
 pub fn try_keygen_with_rng<R: CryptoRngCore>(rng: &mut R) -> Result<(PublicKey, PrivateKey), Fault>
     ensures { Draws R.gives R.refuses rng.old rng.new Fault.KeyGenRng (generated set_87 shake256_front shake128_front) result }
 {
-    ml_dsa_87::try_keygen_with_rng::<Shake256Stream, Shake128Stream, R>(rng)
+    KG::try_keygen_with_rng(rng)
 }

@@ -75,6 +75,7 @@ belong law p known seed public public' private private' keys =
           yes (represented mu) random old signature status (sized 64 mu signs (λ (_, two). absurd cc)) (sized 64 mu judges not_wrong) not_wrong;
       checked = λ status (answer, checks, is) not_wrong. is ∙ ap done_status (pair.checked answer checks (fits answer status is not_wrong));
       whole = λ status (answer, checks, is) not_wrong. is ∙ ap answer_status (pair.whole answer checks (told_fits answer status is not_wrong));
+      pair = λ status (answer, checks, is) not_wrong. is ∙ ap answer_status (pair.pair answer checks (told_fits answer status is not_wrong));
       derived = λ old new status (answer, derives, is) not_wrong.
           let (same, ok) = pair.derived old new answer derives (fits answer status is not_wrong) in
           (same, is ∙ ap done_status ok);

@@ -2,7 +2,7 @@
 use Rattle.std.specs.Prelude.{◌≡◌, ◌≢◌, ℕ, List}
 use Rattle.fips204.specs.Framing.{Input}
 use Rattle.fips204.specs.ParameterSets.{ParameterSet}
-use Rattle.mldsa_c.specs.Calls.{KeygenAnswers, PublicKeyAnswers, CheckPrivateKeyAnswers, IsWholeAnswers, SignAnswers, VerifyAnswers, SignMuAnswers, VerifyMuAnswers}
+use Rattle.mldsa_c.specs.Calls.{KeygenAnswers, PublicKeyAnswers, CheckPrivateKeyAnswers, IsWholeAnswers, IsPairAnswers, SignAnswers, VerifyAnswers, SignMuAnswers, VerifyMuAnswers}
 
 -- unless an array has the wrong length, a verifying call with the public key says yes to what the signing call of its name wrote
 -- with the private key, the calls that ask of the private key say yes, and the call that derives its public key writes this one
@@ -13,6 +13,7 @@ pub record BelongTogether (p : ParameterSet) (public private : List ℕ) : Type 
       → VerifyMuAnswers p public mu signature status → status ≢ 2 → status ≡ 0
   pub checked : (status : ℕ) → CheckPrivateKeyAnswers p private status → status ≢ 2 → status ≡ 0
   pub whole : (status : ℕ) → IsWholeAnswers p private status → status ≢ 2 → status ≡ 0
+  pub pair : (status : ℕ) → IsPairAnswers p private status → status ≢ 2 → status ≡ 0
   pub derived : (old new : List ℕ) (status : ℕ) → PublicKeyAnswers p private old new status → status ≢ 2 → (new ≡ public) × (status ≡ 0)
 
 -- the arrays that keygen wrote do so

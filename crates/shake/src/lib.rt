@@ -3,6 +3,7 @@
 
 mod blocks;
 mod four;
+mod names;
 mod permutation;
 mod sponge;
 

@@ -22,7 +22,7 @@ ghost use Rattle.fips204.specs.SchemeLaws.{NamesCollision, NamesKeyCollision};
 
 use super::{
     binding, challenge_product_bound, constants, counter_fronts, framing, high_bits_stay,
-    hint_spelling, inverse_of_transform, longer_front, packing, prepared_keys,
+    hint_spelling, inverse_of_transform, known_set, longer_front, packing, prepared_keys,
     product_of_transforms, signature_spelling, signed_is_accepted, use_hint_distance,
     use_hint_of_make_hint,
 };
@@ -31,7 +31,7 @@ use crate::ml_dsa_44::{
     K, L, PK_LEN, PreparedPrivateKey, PreparedPublicKey, PrivateKey, PublicKey, SIG_LEN,
 };
 use crate::traits::{CryptoRngCore, KeyGen, SerDes, Signer, Verifier};
-use crate::types::{ML_DSA_44, R};
+use crate::types::{ML_DSA_44, Params, R};
 use crate::xof::{Fill, Sha256Ctr, Sha256CtrLong, Sha512Ctr, Sha512CtrLong, Xof};
 use fips204_base::Fault;
 use fips204_base::conversion::{bit_pack, bit_unpack, simple_bit_pack, simple_bit_unpack};
@@ -340,6 +340,15 @@ pub(crate) fn second_verdict<H: Xof>(
     let mut answers = [false; 2];
     key.verify_each(&[first, second], signatures, ctx, &mut answers);
     answers[1]
+}
+
+/// How many columns a set with six rows has: its numbers are those of one of the three sets.
+pub(crate) fn columns_of_six_rows(p: &Params) -> usize
+    requires { p.now.k ≡ 6 }
+    ensures { result ≡ 5 }
+{
+    known_set(p);
+    p.l
 }
 
 /// The table of the butterflies, place by place.
