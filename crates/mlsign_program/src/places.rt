@@ -1,10 +1,13 @@
 //! Files that are written as a whole or not at all.
 #![tactic(auto)]
 
-ghost use Rattle.std.specs.Prelude.{◌≡◌, ℕ, List, IfOk};
+ghost use Rattle.std.specs.Prelude.{◌≡◌, ℕ, List, IfOk, IsTrue, true, false, length};
 ghost use Rattle.mlsign_engine.specs.Commands.{MakesTexts};
 ghost use Rattle.fips204.specs.declared.sets.SetName.{SetName};
 ghost use Rattle.mlsign_engine.specs.declared.forms.Form.{Form};
+ghost use Rattle.mlsign_files.specs.Keys.{IsPrivateFile, PrivateParts};
+ghost use Rattle.mlsign_files.specs.Lax.{kind_of_text};
+ghost use Rattle.mlsign_files.specs.declared.pem.Kind.TheVariants.{Private};
 ghost use Rattle.mlsign_program.specs.declared.places.Content.TheVariants.{PrivateKey, PublicKey};
 ghost use Rattle.mlsign_program.specs.Outputs.{Holds};
 
@@ -347,8 +350,11 @@ impl Target<'_> {
         Ok(())
     }
 
-    /// Whether a file with these bytes may be replaced without `force`.
-    fn may_replace(&self, bytes: &[u8]) -> bool {
+    /// Whether a file with these bytes may be replaced without `force`: never by a private key, and by a public one if it is empty.
+    fn may_replace(&self, bytes: &[u8]) -> bool
+        ensures private { self.now.content ≡ PrivateKey → result ≡ false }
+        ensures public { self.now.content ≡ PublicKey → IsTrue result → length bytes.now ≡ 0 }
+    {
         match self.content {
             Content::PrivateKey => false,
             Content::PublicKey => bytes.is_empty(),
@@ -358,7 +364,10 @@ impl Target<'_> {
 }
 
 /// Whether a file with these bytes is taken for a private key: its text says so, or it has one in DER.
-fn is_private_key(bytes: &[u8]) -> bool {
+fn is_private_key(bytes: &[u8]) -> bool
+    ensures text { kind_of_text bytes.now ≡ Private → result ≡ true }
+    ensures file { (algorithm : SetName) (parts : PrivateParts) → IsPrivateFile bytes.now algorithm parts → result ≡ true }
+{
     kind_of_text(bytes) == Kind::Private || read_private(bytes).is_ok()
 }
 
