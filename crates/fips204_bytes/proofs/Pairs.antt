@@ -15,7 +15,7 @@ use Rattle.fips204_bytes.specs.declared.refusal.Refusal.{Refusal}
 use Rattle.fips204_bytes.specs.declared.refusal.Refusal.TheVariants.{Length, Library}
 
 -- a choice whose other side is refuted
-chosen : {P Q : Type 0} (b : Bool) → MatchBool b P Q → ¬ Q → P
+pub chosen : {P Q : Type 0} (b : Bool) → MatchBool b P Q → ¬ Q → P
 chosen true p never = p
 chosen false q never = absurd (never q)
 
