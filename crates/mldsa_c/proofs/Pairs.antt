@@ -16,7 +16,7 @@ use Rattle.mldsa_c.specs.Pairs.{PairsBelong}
 use Rattle.mldsa_c.specs.Statuses.{status_of, done_status, answer_status}
 
 -- no fault has the status of success
-not_done : (fault : Fault) → ¬ (0 ≡ status_of fault)
+pub not_done : (fault : Fault) → ¬ (0 ≡ status_of fault)
 not_done KeyGenRng = λ e. absurd cc
 not_done SignCtx = λ e. absurd cc
 not_done SignRng = λ e. absurd cc
@@ -43,7 +43,7 @@ pub does : (says : Result ⊤ Refusal → Type 0) → Done says 0 → says (Ok t
 does says (answer, answered, is) = subst says (done answer is) answered
 
 -- an array that isn't refused has its length
-sized : (wanted : ℕ) (bytes : List ℕ) {P Q : Type 0} → IfSized wanted bytes P Q → ¬ Q → P
+pub sized : (wanted : ℕ) (bytes : List ℕ) {P Q : Type 0} → IfSized wanted bytes P Q → ¬ Q → P
 sized wanted bytes {P} {Q} both never = case_of (eqb_tells (length bytes) wanted)
   where
     case_of : ((nat_eq (length bytes) wanted ≡ true) × (length bytes ≡ wanted)) ⊎ ((nat_eq (length bytes) wanted ≡ false) × (length bytes ≢ wanted)) → P

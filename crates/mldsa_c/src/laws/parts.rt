@@ -2,13 +2,19 @@
 //! say.
 #![tactic(auto)]
 
-ghost use Rattle.std.specs.Prelude.{◌≡◌, ◌≢◌, ℕ, List};
-ghost use Rattle.fips204.specs.Framing.{Input};
+ghost use Rattle.std.specs.Prelude.{◌≡◌, ◌≢◌, ◌↔◌, ◌++◌, ℕ, List, None, drop, take};
+ghost use Rattle.fips204_base.specs.Encodings.{PublicParts, IsPublicKeyOf};
+ghost use Rattle.fips204.specs.Framing.{Input, plain, hashed, frame};
 ghost use Rattle.fips204.specs.ParameterSets.{set_44};
+ghost use Rattle.fips204.specs.Refusals.{input_fault};
+ghost use Rattle.fips204.specs.SchemeLaws.{Fixes};
+ghost use Rattle.fips204_shake.specs.Fronts.{shake256_front, shake128_front};
 ghost use Rattle.mldsa_c.specs.Calls.{KeygenAnswers, SignAnswers, VerifyAnswers, SignMuAnswers, VerifyMuAnswers, PublicKeyAnswers, CheckPrivateKeyAnswers, IsWholeAnswers, IsPairAnswers};
 ghost use Rattle.mldsa_c.specs.Prepared.{PreparePublicKeyAnswers, PreparePrivateKeyAnswers, VerifyPreparedAnswers, VerifyMuPreparedAnswers, SignPreparedAnswers, SignMuPreparedAnswers};
 
-use super::{pair_accepts_written, prepared_stands_for_plain};
+use super::{
+    mu_stands_for_input, pair_accepts_written, prepared_stands_for_plain, signature_binds_mu,
+};
 
 /// What is answered of the keys that one call of `keygen` wrote.
 pub(crate) fn pair_parts()
@@ -26,6 +32,27 @@ pub(crate) fn pair_parts()
         → PublicKeyAnswers set_44 sk old new status → status ≢ 2 → (new ≡ pk) × (status ≡ 0) }
 {
     pair_accepts_written();
+}
+
+/// What is answered of the mu of a message and of a digest.
+pub(crate) fn mu_parts()
+    ensures signed { (sk message context random old new : List ℕ) (status : ℕ) → input_fault (plain message context) ≡ None
+        → SignMuAnswers set_44 sk (take 64 (shake256_front (take 64 (drop 64 sk) ++ frame 0 context message))) random old new status
+        ↔ SignAnswers set_44 sk (plain message context) random old new status }
+    ensures judged { (pk digest context oid signature : List ℕ) (status : ℕ) → input_fault (hashed digest context oid) ≡ None
+        → VerifyMuAnswers set_44 pk (take 64 (shake256_front (take 64 (shake256_front pk) ++ frame 1 context (oid ++ digest)))) signature status
+        ↔ VerifyAnswers set_44 pk (hashed digest context oid) signature status }
+{
+    mu_stands_for_input();
+}
+
+/// The collision that one signature names for two values of mu, written out.
+pub(crate) fn mu_collision()
+    ensures { (key mu nu signature : List ℕ) → mu ≢ nu → VerifyMuAnswers set_44 key mu signature 0 → VerifyMuAnswers set_44 key nu signature 0
+        → (pk : PublicParts) × IsPublicKeyOf shake256_front 4 key pk × (w1 : List ℕ) × Fixes set_44 shake256_front shake128_front pk signature w1
+        × (mu ++ w1 ≢ nu ++ w1) × (take 32 (shake256_front (mu ++ w1)) ≡ take 32 (shake256_front (nu ++ w1))) }
+{
+    signature_binds_mu();
 }
 
 /// What is answered of the bytes that preparing a key wrote.

@@ -1,0 +1,66 @@
+-- Signing and verifying mu of a message or a digest, and one signature of two values of mu, since the calls over bytes do so.
+use Rattle.std.proofs.Common.{◌≡◌, ℕ, Bool, true, false, IsTrue, List, ◌++◌, length, take, Result, Ok, Err, refl, subst, arith}
+use Rattle.std.specs.Prelude.{◌↔◌, ⊤}
+use Rattle.std.proofs.lemmas.List.{length-take-le}
+use Rattle.fips204.specs.Framing.{Input, plain, hashed, framed, represented, frame, representative}
+use Rattle.fips204.specs.ParameterSets.{ParameterSet}
+use Rattle.fips204.specs.SchemeLaws.{has_context}
+use Rattle.fips204_bytes.specs.Bytes as bytes
+use Rattle.fips204_bytes.specs.Mu as mus
+use Rattle.fips204_bytes.specs.declared.refusal.Refusal.{Refusal}
+use Rattle.fips204_bytes.specs.declared.refusal.Refusal.TheVariants.{Length, Library, NotPrepared}
+use Rattle.fips204_shake.specs.Fronts.{shake256_front, shake128_front, length-shake256_front}
+use Rattle.mldsa_c.specs.Calls.{IfSized, SignAnswers, VerifyAnswers, VerifyMuAnswers}
+use Rattle.mldsa_c.specs.Mu.{MuStandsForInput, SignatureBindsMu}
+use Rattle.mldsa_c.specs.Statuses.{answer_status}
+use Rattle.mldsa_c.proofs.Pairs.{not_done, sized}
+
+-- mu of a message or a digest has 64 bytes
+cut : (x : List ℕ) → length (take 64 (shake256_front x)) ≡ 64
+cut x = length-take-le 64 (shake256_front x) (omega (arith, length-shake256_front x))
+
+long : (hash : List ℕ) (input : Input) → IsTrue (has_context input) → length (representative shake256_front hash input) ≡ 64
+long hash (plain message context) is = cut (hash ++ frame 0 context message)
+long hash (hashed digest context oid) is = cut (hash ++ frame 1 context (oid ++ digest))
+long hash (framed m) never = absurd cc
+long hash (represented mu) never = absurd cc
+
+-- an array of the right length makes no difference
+fitting : {P P' Q : Type 0} (wanted : ℕ) (bytes : List ℕ) → length bytes ≡ wanted → P ↔ P' → IfSized wanted bytes P Q ↔ P'
+fitting wanted bytes same both = (λ sized. both.0 (sized.0 same), λ done. (λ _. both.1 done, λ differ. absurd (differ same)))
+
+pub stands : (p : ParameterSet) → mus.MuStandsForInput p shake256_front shake128_front → MuStandsForInput p
+stands p law = record {
+  signed = λ key input random old new status context none.
+      let mu = representative shake256_front (mus.tr_of_private key) input in
+      let same = λ (answer : Result ⊤ Refusal). law.signed key random input old new answer none in
+      let both : SignAnswers p key (represented mu) random old new status ↔ SignAnswers p key input random old new status = (
+        λ signs. (λ fits. let (answer, writes, is) = signs.0 fits in (answer, (same answer).0 writes, is), signs.1),
+        λ signs. (λ fits. let (answer, writes, is) = signs.0 fits in (answer, (same answer).1 writes, is), signs.1),
+      ) in
+      fitting 64 mu (long (mus.tr_of_private key) input context) both;
+  judged = λ key input signature status context none.
+      let mu = representative shake256_front (mus.tr_of_public shake256_front key) input in
+      let same = λ (answer : Result Bool Refusal). law.judged key input signature answer none in
+      let both : VerifyAnswers p key (represented mu) signature status ↔ VerifyAnswers p key input signature status = (
+        λ (answer, judges, is). (answer, (same answer).0 judges, is),
+        λ (answer, judges, is). (answer, (same answer).1 judges, is),
+      ) in
+      fitting 64 mu (long (mus.tr_of_public shake256_front key) input context) both;
+}
+
+-- the status of yes is of no other answer
+yes : (answer : Result Bool Refusal) → 0 ≡ answer_status answer → answer ≡ Ok true
+yes (Ok true) e = refl
+yes (Ok false) e = absurd cc
+yes (Err (Length which)) e = absurd cc
+yes (Err (Library fault)) e = absurd (not_done fault e)
+yes (Err NotPrepared) e = absurd cc
+
+pub binds : (p : ParameterSet) → mus.SignatureBindsMu p shake256_front shake128_front → SignatureBindsMu p
+binds p law = λ key mu nu signature differ first second.
+    let accepted : (given : List ℕ) → VerifyMuAnswers p key given signature 0 → bytes.Judges p shake256_front shake128_front key (represented given) signature (Ok true) =
+    λ given judges.
+    let (answer, judged, is) = sized 64 given judges (λ two. absurd cc) in
+    subst (bytes.Judges p shake256_front shake128_front key (represented given) signature) (yes answer is) judged in
+    law key mu nu signature differ (accepted mu first) (accepted nu second)
