@@ -6,4 +6,5 @@ mod Saved
 pub mod Facts
 pub mod Rounds
 pub mod FourLanes
+pub mod Planes
 pub mod SideBySide

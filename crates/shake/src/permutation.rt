@@ -1,8 +1,8 @@
 //! Keccak-f[1600] (FIPS 202, section 3).
 #![tactic(auto)]
 
-ghost use Rattle.std.specs.Prelude.{◌≡◌};
-ghost use Rattle.shake.specs.Keccak.{round, keccak_f};
+ghost use Rattle.std.specs.Prelude.{◌≡◌, ◌<◌};
+ghost use Rattle.shake.specs.Keccak.{lane, plane, effects, theta, rho, pi, chi, round, keccak_f};
 
 /// The constants of iota.
 pub(crate) const ROUND_CONSTANTS: [u64; 24] = [
@@ -32,100 +32,100 @@ pub(crate) const ROUND_CONSTANTS: [u64; 24] = [
     0x8000000080008008,
 ];
 
-/// A round, in one piece: `c` and `d` of theta, the lanes `t` that theta leaves, the lanes `b` that rho and pi make of them,
-/// then chi and iota. The compiler makes each pair of shifts one rotation; calls of `rotate_left` would be 30 steps
-/// of the proof.
+/// The offsets of rho (table 2) modulo 64: that of lane (x, y) at place `x + 5 * y`.
+const OFFSETS: [u32; 25] = [
+    0, 1, 62, 28, 27, 36, 44, 6, 55, 20, 3, 10, 43, 25, 39, 41, 45, 15, 21, 8, 18, 2, 61, 56, 14,
+];
+
+/// What theta adds to each column.
 #[inline(always)]
-#[tactic(auto, unfolding(crate::specs::Keccak::theta, crate::specs::Keccak::rho, crate::specs::Keccak::pi, crate::specs::Keccak::chi, crate::specs::Keccak::iota))]
-fn round(a: &[u64; 25], constant: u64) -> [u64; 25]
-    ensures { result ≡ round a.now constant }
+pub(crate) fn effects(a: &[u64; 25]) -> [u64; 5]
+    ensures { result ≡ effects a.now }
 {
     let c0 = a[0] ^ a[5] ^ a[10] ^ a[15] ^ a[20];
     let c1 = a[1] ^ a[6] ^ a[11] ^ a[16] ^ a[21];
     let c2 = a[2] ^ a[7] ^ a[12] ^ a[17] ^ a[22];
     let c3 = a[3] ^ a[8] ^ a[13] ^ a[18] ^ a[23];
     let c4 = a[4] ^ a[9] ^ a[14] ^ a[19] ^ a[24];
-    let d0 = c4 ^ ((c1 << 1) | (c1 >> 63));
-    let d1 = c0 ^ ((c2 << 1) | (c2 >> 63));
-    let d2 = c1 ^ ((c3 << 1) | (c3 >> 63));
-    let d3 = c2 ^ ((c4 << 1) | (c4 >> 63));
-    let d4 = c3 ^ ((c0 << 1) | (c0 >> 63));
-    let t0 = a[0] ^ d0;
-    let t1 = a[6] ^ d1;
-    let t2 = a[12] ^ d2;
-    let t3 = a[18] ^ d3;
-    let t4 = a[24] ^ d4;
-    let t5 = a[3] ^ d3;
-    let t6 = a[9] ^ d4;
-    let t7 = a[10] ^ d0;
-    let t8 = a[16] ^ d1;
-    let t9 = a[22] ^ d2;
-    let t10 = a[1] ^ d1;
-    let t11 = a[7] ^ d2;
-    let t12 = a[13] ^ d3;
-    let t13 = a[19] ^ d4;
-    let t14 = a[20] ^ d0;
-    let t15 = a[4] ^ d4;
-    let t16 = a[5] ^ d0;
-    let t17 = a[11] ^ d1;
-    let t18 = a[17] ^ d2;
-    let t19 = a[23] ^ d3;
-    let t20 = a[2] ^ d2;
-    let t21 = a[8] ^ d3;
-    let t22 = a[14] ^ d4;
-    let t23 = a[15] ^ d0;
-    let t24 = a[21] ^ d1;
-    let b0 = (t0 << 0) | (t0 >> 0);
-    let b1 = (t1 << 44) | (t1 >> 20);
-    let b2 = (t2 << 43) | (t2 >> 21);
-    let b3 = (t3 << 21) | (t3 >> 43);
-    let b4 = (t4 << 14) | (t4 >> 50);
-    let b5 = (t5 << 28) | (t5 >> 36);
-    let b6 = (t6 << 20) | (t6 >> 44);
-    let b7 = (t7 << 3) | (t7 >> 61);
-    let b8 = (t8 << 45) | (t8 >> 19);
-    let b9 = (t9 << 61) | (t9 >> 3);
-    let b10 = (t10 << 1) | (t10 >> 63);
-    let b11 = (t11 << 6) | (t11 >> 58);
-    let b12 = (t12 << 25) | (t12 >> 39);
-    let b13 = (t13 << 8) | (t13 >> 56);
-    let b14 = (t14 << 18) | (t14 >> 46);
-    let b15 = (t15 << 27) | (t15 >> 37);
-    let b16 = (t16 << 36) | (t16 >> 28);
-    let b17 = (t17 << 10) | (t17 >> 54);
-    let b18 = (t18 << 15) | (t18 >> 49);
-    let b19 = (t19 << 56) | (t19 >> 8);
-    let b20 = (t20 << 62) | (t20 >> 2);
-    let b21 = (t21 << 55) | (t21 >> 9);
-    let b22 = (t22 << 39) | (t22 >> 25);
-    let b23 = (t23 << 41) | (t23 >> 23);
-    let b24 = (t24 << 2) | (t24 >> 62);
     [
-        b0 ^ (!b1 & b2) ^ constant,
+        c4 ^ c1.rotate_left(1),
+        c0 ^ c2.rotate_left(1),
+        c1 ^ c3.rotate_left(1),
+        c2 ^ c4.rotate_left(1),
+        c3 ^ c0.rotate_left(1),
+    ]
+}
+
+/// Lane (x, y) after theta, rho and pi. Theta adds `d` to the columns.
+#[inline(always)]
+fn moved_lane(a: &[u64; 25], d: &[u64; 5], x: usize, y: usize) -> u64
+    requires place { (x < 5) × (y < 5) }
+    requires effects { d.now ≡ effects a.now }
+    ensures { result ≡ lane (pi (rho (theta a.now))) x y }
+{
+    let column = (x + 3 * y) % 5;
+    let from = column + 5 * x;
+    (a[from] ^ d[column]).rotate_left(OFFSETS[from])
+}
+
+/// The lanes (0, y) to (4, y) after theta, rho, pi and chi. Theta adds `d` to the columns.
+#[inline(always)]
+pub(crate) fn plane(a: &[u64; 25], d: &[u64; 5], y: usize) -> [u64; 5]
+    requires place { y < 5 }
+    requires effects { d.now ≡ effects a.now }
+    ensures { result ≡ plane (chi (pi (rho (theta a.now)))) y }
+{
+    let b0 = moved_lane(a, d, 0, y);
+    let b1 = moved_lane(a, d, 1, y);
+    let b2 = moved_lane(a, d, 2, y);
+    let b3 = moved_lane(a, d, 3, y);
+    let b4 = moved_lane(a, d, 4, y);
+    [
+        b0 ^ (!b1 & b2),
         b1 ^ (!b2 & b3),
         b2 ^ (!b3 & b4),
         b3 ^ (!b4 & b0),
         b4 ^ (!b0 & b1),
-        b5 ^ (!b6 & b7),
-        b6 ^ (!b7 & b8),
-        b7 ^ (!b8 & b9),
-        b8 ^ (!b9 & b5),
-        b9 ^ (!b5 & b6),
-        b10 ^ (!b11 & b12),
-        b11 ^ (!b12 & b13),
-        b12 ^ (!b13 & b14),
-        b13 ^ (!b14 & b10),
-        b14 ^ (!b10 & b11),
-        b15 ^ (!b16 & b17),
-        b16 ^ (!b17 & b18),
-        b17 ^ (!b18 & b19),
-        b18 ^ (!b19 & b15),
-        b19 ^ (!b15 & b16),
-        b20 ^ (!b21 & b22),
-        b21 ^ (!b22 & b23),
-        b22 ^ (!b23 & b24),
-        b23 ^ (!b24 & b20),
-        b24 ^ (!b20 & b21),
+    ]
+}
+
+/// A round, plane by plane, so that few lanes are at hand at a time.
+#[inline(always)]
+pub(crate) fn round(a: &[u64; 25], constant: u64) -> [u64; 25]
+    ensures { result ≡ round a.now constant }
+{
+    let d = effects(a);
+    let [e0, e1, e2, e3, e4] = plane(a, &d, 0);
+    let [e5, e6, e7, e8, e9] = plane(a, &d, 1);
+    let [e10, e11, e12, e13, e14] = plane(a, &d, 2);
+    let [e15, e16, e17, e18, e19] = plane(a, &d, 3);
+    let [e20, e21, e22, e23, e24] = plane(a, &d, 4);
+    [
+        e0 ^ constant,
+        e1,
+        e2,
+        e3,
+        e4,
+        e5,
+        e6,
+        e7,
+        e8,
+        e9,
+        e10,
+        e11,
+        e12,
+        e13,
+        e14,
+        e15,
+        e16,
+        e17,
+        e18,
+        e19,
+        e20,
+        e21,
+        e22,
+        e23,
+        e24,
     ]
 }
 
@@ -134,8 +134,10 @@ pub fn f1600(state: &mut [u64; 25])
     ensures { state.new ≡ keccak_f state.old }
 {
     let mut a = *state;
-    for index in 0..24 {
-        a = round(&a, ROUND_CONSTANTS[index]);
+    // two rounds a turn, so that the lanes of the first go nowhere
+    for pair in 0..12 {
+        let b = round(&a, ROUND_CONSTANTS[2 * pair]);
+        a = round(&b, ROUND_CONSTANTS[2 * pair + 1]);
     }
     *state = a;
 }

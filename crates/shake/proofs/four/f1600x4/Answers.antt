@@ -1,19 +1,20 @@
-use Rattle.std.proofs.Common.{refl, sym, ap, ◌∙◌, slice_index}
+use Rattle.std.proofs.Common.{◌*◌, ◌+◌, refl, sym, ap, ◌∙◌, slice_index, List, ℕ}
 use Rattle.shake.specs.Four.{state_at}
 use Rattle.shake.specs.Keccak.{round, rounds, round_constants}
-use Rattle.shake.proofs.Rounds.{next_round}
+use Rattle.shake.proofs.Rounds.{next_rounds}
 use Rattle.shake.proofs.four.f1600x4.Goals as goal
 
-pub loop-index-init : goal.loop-index-init
+pub loop-pair-init : goal.loop-pair-init
 unfolding rounds
-loop-index-init c = record { four = c.requires; permuted = λ j h. refl }
+loop-pair-init c = record { four = c.requires; permuted = λ j h. refl }
 
-pub loop-index-preserved : goal.loop-index-preserved
-loop-index-preserved c =
-    let n = c.loop-index.index in
+pub loop-pair-preserved : goal.loop-pair-preserved
+loop-pair-preserved c =
+    let n = c.loop-pair.pair in
+    let both : List ℕ → List ℕ = λ s. round (round s (slice_index round_constants (2 * n))) (slice_index round_constants (2 * n + 1)) in
     record {
-      four = c.round4-a.ensures.four;
-      permuted = λ j h. c.round4-a.ensures.rounds j h
-          ∙ ap (λ s. round s (slice_index round_constants n)) (c.loop-index.invariant.permuted j h)
-          ∙ sym (next_round (state_at c.args.states.now j) n);
+      four = c.two_rounds.ensures.four;
+      permuted = λ j h. c.two_rounds.ensures.rounds j h
+          ∙ ap both (c.loop-pair.invariant.permuted j h)
+          ∙ sym (next_rounds (state_at c.args.states.now j) n);
     }

@@ -1,4 +1,4 @@
-use Rattle.std.proofs.Common.{rules, ◌≡◌, ◌<◌, ◌+◌, ℕ, take, drop, replicate, get_or, refl, ◌∙◌, arith}
+use Rattle.std.proofs.Common.{rules, ◌≡◌, ◌<◌, ◌+◌, take, drop, replicate, get_or, refl, ◌∙◌, arith}
 use Rattle.shake.specs.Shake.{add_block}
 use Rattle.shake.proofs.Saved.{restored}
 use Rattle.shake.proofs.sponge.Shake.restore.Goals as goal

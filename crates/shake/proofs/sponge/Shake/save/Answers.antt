@@ -1,4 +1,4 @@
-use Rattle.std.proofs.Common.{rules, ◌≡◌, ◌<◌, ◌^◌, ◌++◌, ℕ, List, [], length, take, ◌∷◌, get_or, sym, arith, ◌∙◌}
+use Rattle.std.proofs.Common.{rules, ◌≡◌, length, arith, ◌∙◌}
 use Rattle.std.proofs.lemmas.List.{take_all}
 use Rattle.shake.specs.Lengths.{length-bytes}
 use Rattle.shake.specs.Shake.{bytes}
