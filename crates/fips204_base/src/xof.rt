@@ -1,7 +1,7 @@
 //! Byte streams, in place of SHAKE256 and SHAKE128.
 #![tactic(auto)]
 
-ghost use Rattle.std.specs.Prelude.{◌≡◌, ◌≤◌, ◌⊎◌, ℕ, List, length, take, drop, replicate};
+ghost use Rattle.std.specs.Prelude.{◌≡◌, ◌≤◌, ◌/◌, ◌⊎◌, ℕ, List, length, take, drop, replicate};
 ghost use Rattle.std.specs.List.{flat_map};
 ghost use Rattle.std.proofs.Common.{rules};
 
@@ -68,9 +68,7 @@ pub trait XofReader: Drop {
 }
 
 /// A stream, in place of SHAKE256 or SHAKE128 (FIPS 204, section 3.7): the input determines a front of
-/// `FRONT` bytes. Rejection sampling reaches its limit at a quarter of `FRONT`, rounded down: that many
-/// triples for a matrix entry, that many bytes for a small polynomial, and that many for a challenge, not
-/// counting the eight bytes of its signs.
+/// `FRONT` bytes. Rejection sampling reaches its limit at a quarter of them (`sampling_limit`).
 pub trait Xof {
     type Reader: XofReader;
 
@@ -102,6 +100,17 @@ pub fn hash<H: Xof, const N: usize>(parts: &[&[u8]]) -> [u8; N]
     let mut reader = H::open(parts);
     reader.read(&mut out);
     out
+}
+
+/// The number of draws at which rejection sampling from a stream reaches its limit: triples for a matrix
+/// entry, bytes for a small polynomial, bytes for a challenge, not counting the eight of its signs. A quarter
+/// of `FRONT`, rounded down: from 1024 to 262144.
+pub fn sampling_limit<X: Xof>() -> usize
+    ensures quarter { result ≡ X.FRONT / 4 }
+    ensures least { 1024 ≤ result }
+    ensures most { result ≤ 262144 }
+{
+    X::FRONT / 4
 }
 
 /// The stream whose front is 4096 times the byte `B`, for every input.

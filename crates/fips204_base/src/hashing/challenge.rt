@@ -8,7 +8,7 @@ ghost use Rattle.fips204_base.specs.Packing.{bits};
 
 use crate::fault::Fault;
 use crate::types::R;
-use crate::xof::{Xof, XofReader};
+use crate::xof::{Xof, XofReader, sampling_limit};
 
 /// The sign that bit `k` of `bytes` stands for.
 fn sign_at(bytes: &[u8; 8], k: usize) -> i32
@@ -36,7 +36,8 @@ pub fn sample_in_ball<H: Xof>(tau: i32, rho: &[u8]) -> Result<R, Fault>
     let mut c = [0i32; 256];
     // i from 256 - tau to 255
     let mut i = first;
-    for _byte in 0..H::FRONT / 4 {
+    let limit = sampling_limit::<H>();
+    for _byte in 0..limit {
         // j = H.Squeeze(ctx, 1), rejected where j > i
         let mut byte = [0u8; 1];
         reader.read(&mut byte);

@@ -11,7 +11,7 @@ use crate::conversion::coeff_from_three_bytes;
 use crate::fault::Fault;
 use crate::hashing::write_kept;
 use crate::types::{T, T0};
-use crate::xof::{Xof, XofReader};
+use crate::xof::{Xof, XofReader, sampling_limit};
 
 /// Puts the coefficients that the triples of `piece` give into `values` from place `kept` on, as many as have
 /// room, and returns how many there are then.
@@ -56,7 +56,7 @@ fn write_entry<G: Xof>(
 {
     // a[j] = CoeffFromThreeBytes(s[0], s[1], s[2]), kept unless it is none
     let mut count = write_kept_triples(first, &mut entry.0, 0);
-    let limit = G::FRONT / 4;
+    let limit = sampling_limit::<G>();
     let mut tried = 256;
     while count < 256 {
         if tried == limit {

@@ -11,7 +11,7 @@ use crate::conversion::coeff_from_half_byte;
 use crate::fault::Fault;
 use crate::hashing::{open_numbered, write_kept};
 use crate::types::{R, R0};
-use crate::xof::{Xof, XofReader};
+use crate::xof::{Xof, XofReader, sampling_limit};
 
 /// Puts the coefficients that the half bytes of `piece` give into `values` from place `kept` on, as many as
 /// have room, and returns how many there are then.
@@ -63,7 +63,7 @@ fn write_polynomial<H: Xof>(
 {
     // a[j] = CoeffFromHalfByte(z mod 16, eta), then that of z / 16, each kept unless it is none
     let mut count = write_kept_half_bytes(eta, first, &mut polynomial.0, 0);
-    let limit = H::FRONT / 4;
+    let limit = sampling_limit::<H>();
     let mut tried = 192;
     while count < 256 {
         if tried == limit {

@@ -19,7 +19,7 @@ loop-count-init g c =
     let values = c.args.entry.now.0 in
     let none : Keeps values 0 (kept_triples front 0) = rw (kept_triples-zero front) (keeps_none values (search rules)) in
     let made = c.write_kept_triples-count in (
-      omega (arith, g.met.G.Xof.front_least),
+      omega (arith, c.sampling_limit-limit.ensures.least),
       sym (drop_at c.args.first.now rest 768 c.told-first),
       next_piece front c.args.first.now values made.new.values 0 made.result 0 256 none (sym (take_at c.args.first.now rest 768 c.told-first)) c.told-first made.array_long made.ensures.count made.ensures.kept,
     )
@@ -28,7 +28,7 @@ pub returns-then-tried-limit : goal.returns-then-tried-limit
 returns-then-tried-limit g c =
     let rest = g.G.Reader.XofReader.rest c.args.reader.now in
     let front = c.args.first.now ++ rest in
-    let end : c.loop-count.tried ≡ length front / 4 = omega (arith, c.if-tried-limit.true, c.requires, length-append c.args.first.now rest, c.told-first) in
+    let end : c.loop-count.tried ≡ length front / 4 = omega (arith, c.if-tried-limit.true, c.sampling_limit-limit.ensures.quarter, c.requires, length-append c.args.first.now rest, c.told-first) in
     let kept : Keeps c.loop-count.entry.0 c.loop-count.count (kept_triples front (length front / 4)) = rw end at c.loop-count.invariant.2 in
     (entry-few front c.loop-count.entry.0 c.loop-count.count c.loop-count-test.true kept, refl)
 
@@ -53,4 +53,4 @@ returns g c =
     let kept = c.loop-count.invariant.2 in
     let all : c.loop-count.count ≡ 256 = omega (arith, c.loop-count-test.false, kept.within) in
     let full : Keeps c.loop-count.entry.0 256 (kept_triples front c.loop-count.tried) = rw all at kept in
-    entry-full front c.loop-count.tried c.loop-count.entry.0 (omega (arith, c.loop-count.invariant.0, c.requires, length-append c.args.first.now rest, c.told-first)) full
+    entry-full front c.loop-count.tried c.loop-count.entry.0 (omega (arith, c.loop-count.invariant.0, c.sampling_limit-limit.ensures.quarter, c.requires, length-append c.args.first.now rest, c.told-first)) full

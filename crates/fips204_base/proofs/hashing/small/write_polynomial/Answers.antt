@@ -19,7 +19,7 @@ loop-count-init g c =
     let values = c.args.polynomial.now.0 in
     let none : Keeps values 0 (kept_half_bytes eta front 0) = rw (kept_half_bytes-zero eta front) (keeps_none values (search rules)) in
     let made = c.write_kept_half_bytes-count in (
-      omega (arith, g.met.H.Xof.front_least),
+      omega (arith, c.sampling_limit-limit.ensures.least),
       sym (drop_at c.args.first.now rest 192 c.told-first),
       next_piece eta front c.args.first.now values made.new.values 0 made.result 0 192 none (sym (take_at c.args.first.now rest 192 c.told-first)) c.told-first made.array_long made.ensures.count made.ensures.kept,
     )
@@ -29,7 +29,7 @@ returns-then-tried-limit g c =
     let eta : to_z w32 (of_z w32 c.args.eta) ≡ c.args.eta = search rules in
     let rest = g.H.Reader.XofReader.rest c.args.reader.now in
     let front = c.args.first.now ++ rest in
-    let end : c.loop-count.tried ≡ length front / 4 = omega (arith, c.if-tried-limit.true, c.requires.front, length-append c.args.first.now rest, c.told-first) in
+    let end : c.loop-count.tried ≡ length front / 4 = omega (arith, c.if-tried-limit.true, c.sampling_limit-limit.ensures.quarter, c.requires.front, length-append c.args.first.now rest, c.told-first) in
     let kept : Keeps c.loop-count.polynomial.0 c.loop-count.count (kept_half_bytes (nat_abs c.args.eta) front (length front / 4)) = rw (eta, end) at c.loop-count.invariant.2 in
     (polynomial-few (nat_abs c.args.eta) front c.loop-count.polynomial.0 c.loop-count.count c.loop-count-test.true kept, refl)
 
@@ -55,4 +55,4 @@ returns g c =
     let kept = c.loop-count.invariant.2 in
     let all : c.loop-count.count ≡ 256 = omega (arith, c.loop-count-test.false, kept.within) in
     let full : Keeps c.loop-count.polynomial.0 256 (kept_half_bytes (nat_abs c.args.eta) front c.loop-count.tried) = rw (eta, all) at kept in
-    polynomial-full (nat_abs c.args.eta) front c.loop-count.tried c.loop-count.polynomial.0 (omega (arith, c.loop-count.invariant.0, c.requires.front, length-append c.args.first.now rest, c.told-first)) full
+    polynomial-full (nat_abs c.args.eta) front c.loop-count.tried c.loop-count.polynomial.0 (omega (arith, c.loop-count.invariant.0, c.sampling_limit-limit.ensures.quarter, c.requires.front, length-append c.args.first.now rest, c.told-first)) full
