@@ -30,6 +30,7 @@ use crate::ml_dsa::key_gen_internal;
 use crate::ml_dsa_44::{
     K, L, PK_LEN, PreparedPrivateKey, PreparedPublicKey, PrivateKey, PublicKey, SIG_LEN,
 };
+use crate::sets::{KeySizes, SignatureSizes};
 use crate::traits::{CryptoRngCore, KeyGen, SerDes, Signer, Verifier};
 use crate::types::{ML_DSA_44, Params, R};
 use crate::xof::{Fill, Sha256Ctr, Sha256CtrLong, Sha512Ctr, Sha512CtrLong, Xof};
@@ -191,6 +192,39 @@ pub(crate) fn long_context_rejected<K: Verifier>(
     ensures { result ≡ false }
 {
     key.verify(message, signature, ctx)
+}
+
+/// The bytes of the matrix of any set, 1024 for each entry, and of a signature: at most those of the largest set.
+pub(crate) fn matrix_and_signature_len<
+    S,
+    const ROWS: usize,
+    const COLUMNS: usize,
+    const HASH: usize,
+    const SIG: usize,
+>() -> usize
+where
+    S: SignatureSizes<ROWS, COLUMNS, HASH, SIG>,
+    ensures exact { result ≡ ROWS * (COLUMNS * 1024) + SIG }
+    ensures shape { (ROWS ≤ 8) × (COLUMNS ≤ 7) }
+    ensures most { result ≤ 61971 }
+{
+    ROWS * (COLUMNS * 1024) + SIG
+}
+
+/// The bytes of both keys of any set: at most those of the largest set.
+pub(crate) fn key_pair_len<
+    S,
+    const ROWS: usize,
+    const COLUMNS: usize,
+    const PK: usize,
+    const SK: usize,
+>() -> usize
+where
+    S: KeySizes<ROWS, COLUMNS, PK, SK>,
+    ensures exact { result ≡ PK + SK }
+    ensures most { result ≤ 7488 }
+{
+    PK + SK
 }
 
 /// Bytes of a key of any kind, decoded and encoded again.
