@@ -1,13 +1,13 @@
 -- What a sampler keeps, piece by piece: coefficients from triples and from half bytes.
-use Rattle.std.proofs.Common.{◌≡◌, ℕ, ℤ, zero, suc, ◌+◌, ◌<◌, ◌≤◌, min, List, [], ◌∷◌, ◌++◌, length, take, set, refl, ap, sym, ◌∙◌, arith, Some, None, true, false, nat_lt, append_assoc, append-nil, length-append, length-take, length-set, add-zero, map, inl, inr, ◌-◌, ◌/◌, ◌%◌, drop, get_or, ◌*◌, get_or-drop, get_or-take}
+use Rattle.std.proofs.Common.{◌≡◌, ℕ, ℤ, zero, suc, ◌+◌, ◌<◌, ◌≤◌, min, List, [], ◌∷◌, ◌++◌, length, take, set, refl, ap, sym, ◌∙◌, arith, Some, None, true, false, nat_lt, append_assoc, append-nil, length-append, length-take, length-set, add-zero, map, inl, inr, ◌-◌, ◌/◌, ◌%◌, drop, get_or, ◌*◌, get_or-drop, get_or-take, pos, add-one, if◌then◌else◌}
 use Rattle.std.specs.declared.option.Option.{Option}
 use Rattle.std.specs.List.{filter_map, range_with_len, cons_option}
-use Rattle.std.proofs.lemmas.List.{take_all, take_at, take-append-le, take_more_set, take_more, take-take}
+use Rattle.std.proofs.lemmas.List.{set-get_or, get_or_append_left, take_all, take_at, take-append-le, take_more_set, take_more, take-take}
 use Rattle.std.proofs.lemmas.List.Elements.{filter_map-append}
 use Rattle.std.proofs.lemmas.List.FromFn.{map-range_with_len_more}
 use Rattle.std.proofs.lemmas.Bool.{cases_lt, le-ltb, lt-ltb}
 use Rattle.fips204_base.specs.Sampling.{first_256, coefficient_from_half_byte, coefficient_from_three_bytes, small_polynomial, matrix_entry}
-use Rattle.fips204_base.specs.SamplerSteps.{half_bytes, kept_half_bytes, triple, kept_triples}
+use Rattle.fips204_base.specs.SamplerSteps.{half_bytes, kept_half_bytes, triple, number, kept_triples}
 use Rattle.std.specs.Prelude.{option_to_list, slice_index}
 use Rattle.std.proofs.lemmas.Grind.{flat_map-append, common_steps}
 use Rattle.std.proofs.Math.Seq.{take-add}
@@ -206,6 +206,31 @@ pub kept_triples-beyond : (front : List ℕ) (n m : ℕ) → n ≤ m → (later 
 kept_triples-beyond front n m l =
     let e : n + (m - n) ≡ m = omega arith in
     (kept_triples (take (3 * (m - n)) (drop (3 * n) front)) (m - n), ap (kept_triples front) (sym e) ∙ kept_triples-joined front n (m - n))
+
+-- the number of a triple of a piece that begins at triple n
+pub number-piece : (front : List ℕ) (s n k p : ℕ) → s ≡ 3 * n → 3 * p + 3 ≤ k → number front (n + p) ≡ number (take k (drop s front)) p
+number-piece front s n k p e h = grind (arith, ints, common_steps, get_or-take, get_or-drop)
+
+-- the number of a triple of a piece that has others behind it
+pub number-front : (piece later : List ℕ) (p : ℕ) → 3 * p + 3 ≤ length piece → number (piece ++ later) p ≡ number piece p
+number-front piece later p h = grind (arith, ints, common_steps, get_or_append_left)
+
+-- each of the first n numbers is below q and is written: all are kept
+pub kept_numbers : (front : List ℕ) (values : List ℤ) (n : ℕ) → length values ≡ 256 → n ≤ 256
+    → ((p : ℕ) → p < n → (number front p < 8380417) × (get_or values p (pos 0) ≡ pos (number front p))) → Keeps values n (kept_triples front n)
+kept_numbers front values zero w l all = rw (kept_triples-zero front) (keeps_none values w)
+kept_numbers front values (suc n) w l all =
+    let before = kept_numbers front values n w (omega (arith, l)) (λ p h. all p (omega (arith, h))) in
+    let this = all n (omega arith) in
+    let x = get_or values n (pos 0) in
+    let some : triple front n ≡ Some (pos (number front n)) = triple-at front n ∙ ap (λ b. if b then Some (pos (number front n)) else None) (lt-ltb (number front n) 8380417 this.0) in
+    let one : option_to_list (triple front n) ≡ x ∷ [] = ap option_to_list some ∙ ap (λ y. y ∷ []) (sym this.1) in
+    let more : kept_triples front (n + 1) ≡ kept_triples front n ++ x ∷ [] = kept_triples-more front n ∙ ap (λ l. kept_triples front n ++ l) one in
+    let next : Keeps (set values n x) (n + 1) (kept_triples front n ++ x ∷ []) = keeps_more x before (omega (arith, l)) in
+    let same : set values n x ≡ values = set-get_or values n (pos 0) in
+    let there : Keeps values (n + 1) (kept_triples front n ++ x ∷ []) = rw same at next in
+    let whole : Keeps values (n + 1) (kept_triples front (n + 1)) = rw more there in
+    rw add-one at whole
 
 pub entry-full : (front : List ℕ) (n : ℕ) (values : List ℤ) → n ≤ length front / 4 → Keeps values 256 (kept_triples front n) → matrix_entry front ≡ Some record { 0 = values }
 unfolding matrix_entry kept_triples triple

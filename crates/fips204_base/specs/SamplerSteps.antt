@@ -26,6 +26,10 @@ OnSampled G rho k l result P = MatchResult result (λ _. (a : List (List T)) × 
 unfoldable pub triple : List ℕ → ℕ → Option ℤ
 triple front p = coefficient_from_three_bytes (slice_index front (3 * p)) (slice_index front (3 * p + 1)) (slice_index front (3 * p + 2))
 
+-- the number of triple p of a front, without its top bit: the coefficient that it gives, if it is below q
+abbrev pub number : List ℕ → ℕ → ℕ
+number front p = slice_index front (3 * p) + 256 * slice_index front (3 * p + 1) + 65536 * (slice_index front (3 * p + 2) % 128)
+
 -- the coefficients that the first n triples give
 unfoldable pub kept_triples : List ℕ → ℕ → List ℤ
 kept_triples front n = filter_map (triple front) (range_with_len 0 n)

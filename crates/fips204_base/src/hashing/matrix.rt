@@ -1,17 +1,19 @@
 //! The matrix, as it is sampled from the stream in the place of SHAKE128.
 #![tactic(auto)]
 
-ghost use Rattle.std.specs.Prelude.{◌≡◌, ◌≤◌, ◌<◌, ◌+◌, ◌*◌, ◌/◌, ◌%◌, ◌++◌, ◌∷◌, [], length, ok_or, IfOk, MatchResult};
-ghost use Rattle.std.specs.List.{flat_map};
-ghost use Rattle.fips204_base.specs.SamplerSteps.{AreKept, AreAhead, WritesFourEntries, numbered_entry, sampled_row, kept_triples, OnSampled, WritesSampled};
+ghost use Rattle.std.specs.Prelude.{◌≡◌, ◌≤◌, ◌<◌, ◌+◌, ◌*◌, ◌/◌, ◌%◌, ◌++◌, ◌∷◌, [], ℕ, ℤ, pos, ◌<ℤ◌, true, length, map, ok_or, slice_index, slice_index_or, IfOk, MatchResult};
+ghost use Rattle.std.specs.List.{flat_map, range_with_len};
+ghost use Rattle.fips204_base.specs.SamplerSteps.{AreKept, AreAhead, WritesFourEntries, numbered_entry, sampled_row, kept_triples, number, OnSampled, WritesSampled};
 ghost use Rattle.fips204_base.specs.Sampling.{matrix_entry, sampled_matrix};
 ghost use Rattle.fips204_base.specs.Vectors.{MatrixWithin};
 
+use crate::Q;
 use crate::conversion::coeff_from_three_bytes;
 use crate::fault::Fault;
 use crate::hashing::write_kept;
 use crate::types::{T, T0};
 use crate::xof::{Xof, XofReader, sampling_limit};
+use std::simd::{u8x16, u32x4};
 
 /// Puts the coefficients that the triples of `piece` give into `values` from place `kept` on, as many as have
 /// room, and returns how many there are then.
@@ -26,6 +28,73 @@ fn write_kept_triples(piece: &[u8], values: &mut [i32; 256], kept: usize) -> usi
         count = write_kept(coeff_from_three_bytes(triple), values, count);
     }
     count
+}
+
+/// The numbers of the four triples at the front of 16 bytes, without the top bit of each: those that CoeffFromThreeBytes
+/// (Algorithm 14) keeps where they are below `q`.
+#[inline(always)]
+fn four_numbers(bytes: u8x16) -> [i32; 4]
+    requires { (j : ℕ) → j < 16 → slice_index bytes j < 256 }
+    ensures { result ≡ map (λ p. pos (number bytes p)) (range_with_len 0 4) }
+{
+    let apart = bytes.shuffle(
+        u8x16::splat(0),
+        [0, 1, 2, 16, 3, 4, 5, 16, 6, 7, 8, 16, 9, 10, 11, 16],
+    );
+    let numbers = u32x4::from_le_bytes(apart) % u32x4::splat(1 << 23);
+    numbers.cast::<i32>().to_array()
+}
+
+/// Writes the numbers of four triples from number `first` on, which stand at the front of 16 bytes.
+#[inline(always)]
+fn write_four_numbers(bytes: &[u8], first: usize, values: &mut [i32; 256])
+    requires long { length bytes.now ≡ 16 }
+    requires room { first + 4 ≤ 256 }
+    ensures written { (j : ℕ) (d : ℤ) → j < 4 → slice_index_or values.new (first + j) d ≡ pos (number bytes.now j) }
+    ensures others { (p : ℕ) (d : ℤ) → p < first → slice_index_or values.new p d ≡ slice_index_or values.old p d }
+{
+    let [a, b, c, d] = four_numbers(u8x16::from_slice(bytes));
+    values[first] = a;
+    values[first + 1] = b;
+    values[first + 2] = c;
+    values[first + 3] = d;
+}
+
+/// Writes the numbers of 256 triples, without the top bit of each.
+fn write_numbers(triples: &[u8; 768], values: &mut [i32; 256])
+    ensures { (p : ℕ) (d : ℤ) → p < 256 → slice_index_or values.new p d ≡ pos (number triples.now p) }
+{
+    for n in 0..63 {
+        write_four_numbers(&triples[12 * n..12 * n + 16], 4 * n, values);
+    }
+    let mut last = [0u8; 16];
+    last[..12].copy_from_slice(&triples[756..]);
+    write_four_numbers(&last, 252, values);
+}
+
+/// Whether all are below `q`.
+fn are_below_q(values: &[i32; 256]) -> bool
+    ensures { result ≡ true → (p : ℕ) (d : ℤ) → p < 256 → slice_index_or values.now p d <ℤ pos 8380417 }
+{
+    let mut most = 0;
+    for p in 0..256 {
+        most = values[p].max(most);
+    }
+    most < Q
+}
+
+/// Puts the coefficients that 256 triples give into `values`, and returns how many there are. Mostly each triple gives one: so
+/// their numbers are written side by side first, and only where one is too large they are gone through one by one.
+fn write_first_triples(triples: &[u8; 768], values: &mut [i32; 256]) -> usize
+    ensures count { result ≤ 256 }
+    ensures kept { AreKept values.old 0 (kept_triples triples.now 256) values.new result }
+{
+    write_numbers(triples, values);
+    if are_below_q(values) {
+        256
+    } else {
+        write_kept_triples(triples, values, 0)
+    }
 }
 
 /// `RejNTTPoly` (Algorithm 30): a matrix entry from the concatenated `parts`.
@@ -55,7 +124,7 @@ fn write_entry<G: Xof>(
     ensures { WritesSampled (matrix_entry (first.now ++ G.Reader.rest reader.old)) result entry.new }
 {
     // a[j] = CoeffFromThreeBytes(s[0], s[1], s[2]), kept unless it is none
-    let mut count = write_kept_triples(first, &mut entry.0, 0);
+    let mut count = write_first_triples(first, &mut entry.0);
     let limit = sampling_limit::<G>();
     let mut tried = 256;
     while count < 256 {

@@ -18,10 +18,12 @@ loop-count-init g c =
     let front = c.args.first.now ++ rest in
     let values = c.args.entry.now.0 in
     let none : Keeps values 0 (kept_triples front 0) = rw (kept_triples-zero front) (keeps_none values (search rules)) in
-    let made = c.write_kept_triples-count in (
+    let made = c.write_first_triples-count in
+    let all : 256 ≡ length c.args.first.now / 3 = omega (arith, c.told-first) in
+    let kept = made.ensures.kept ∙ ap (λ n. take 256 (take 0 values ++ kept_triples c.args.first.now n)) all in (
       omega (arith, c.sampling_limit-limit.ensures.least),
       sym (drop_at c.args.first.now rest 768 c.told-first),
-      next_piece front c.args.first.now values made.new.values 0 made.result 0 256 none (sym (take_at c.args.first.now rest 768 c.told-first)) c.told-first made.array_long made.ensures.count made.ensures.kept,
+      next_piece front c.args.first.now values made.new.values 0 made.result 0 256 none (sym (take_at c.args.first.now rest 768 c.told-first)) c.told-first made.array_long made.ensures.count kept,
     )
 
 pub returns-then-tried-limit : goal.returns-then-tried-limit
@@ -37,7 +39,7 @@ loop-count-preserved g c =
     let l = c.loop-count in
     let front = c.args.first.now ++ g.G.Reader.XofReader.rest c.args.reader.now in
     let triples = c.min-triples.result in
-    let made = c.write_kept_triples-count-in-loop-count in
+    let made = c.write_kept_triples-count in
     let long : length c.read.new.out ≡ 3 * triples = search rules in
     let read : c.read.new.out ≡ take (3 * triples) (drop (3 * l.tried) front) = c.read.ensures.given ∙ ap (λ m. take m (g.G.Reader.XofReader.rest l.reader)) (sym c.read.auto.out ∙ long) ∙ ap (take (3 * triples)) l.invariant.1 in
     let e : 3 * l.tried + 3 * triples ≡ 3 * (l.tried + triples) = omega arith in (
