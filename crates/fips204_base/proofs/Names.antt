@@ -14,7 +14,7 @@ pub use Rattle.fips204_base.proofs.PlainTransforms.{back_from_mont, factor-trans
 pub use Rattle.fips204_base.proofs.Reductions.{factor_is, factor_taken, minus_factor_is, only_lane}
 pub use Rattle.fips204_base.proofs.Residues.{congruent_mul, congruent_of, congruent_refl, congruent_trans, montgomery_congruent, product_bound, product_fits, residue_add, residue_below, residue_mul, residue_multiple, residue_sub, residue_sum_more, size_at, size_sum_more, sum_equal, wider}
 pub use Rattle.fips204_base.proofs.Sampled.{all_present-each, matrix-within, none_of_err, present_next, present_nil, present_whole, row-within, some_of_ok, vectors_none, vectors_some}
-pub use Rattle.fips204_base.proofs.Sampling.{Keeps, entry-few, entry-full, keeps_full, keeps_joined, keeps_more, keeps_none, keeps_there, kept_half_bytes-joined, kept_half_bytes-more, kept_half_bytes-zero, kept_numbers, kept_triples-joined, kept_triples-more, kept_triples-zero, number-front, number-piece, polynomial-few, polynomial-full, triple-at}
+pub use Rattle.fips204_base.proofs.Sampling.{Keeps, entry-few, entry-full, keeps_counted, keeps_full, keeps_joined, keeps_more, keeps_none, keeps_there, kept_half_bytes-beyond, kept_half_bytes-joined, kept_half_bytes-more, kept_half_bytes-zero, kept_numbers, kept_triples-joined, kept_triples-more, kept_triples-zero, number-front, number-piece, polynomial-few, polynomial-full, triple-at}
 pub use Rattle.fips204_base.proofs.VectorBytes.{IsRead, bytes_at_integers, length-put_mid, none_above, piece-within, put_piece, range_at_integers, read_all, read_more, same_bounds, unpacked_range, vector_more, vector_piece}
 pub use Rattle.fips204_base.proofs.Vectors.{row_written, rows_ahead, vector_of-same}
 pub use Rattle.fips204_base.specs.Bounds.{Bounds, IsUnpacked, PolynomialInRange, ValuesWithin, coefficient_at, coefficient_of, row_value, vector_residues}

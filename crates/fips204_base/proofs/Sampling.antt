@@ -1,14 +1,16 @@
 -- What a sampler keeps, piece by piece: coefficients from triples and from half bytes.
 use Rattle.std.proofs.Common.{◌≡◌, ℕ, ℤ, zero, suc, ◌+◌, ◌<◌, ◌≤◌, min, List, [], ◌∷◌, ◌++◌, length, take, set, refl, ap, sym, ◌∙◌, arith, Some, None, true, false, nat_lt, append_assoc, append-nil, length-append, length-take, length-set, add-zero, map, inl, inr, ◌-◌, ◌/◌, ◌%◌, drop, get_or, ◌*◌, get_or-drop, get_or-take, pos, add-one, if◌then◌else◌}
 use Rattle.std.specs.declared.option.Option.{Option}
+use Rattle.std.specs.Option.{is_some, unwrap_or}
+use mir.Val.{bool_byte}
 use Rattle.std.specs.List.{filter_map, range_with_len, cons_option}
-use Rattle.std.proofs.lemmas.List.{set-get_or, get_or_append_left, take_all, take_at, take-append-le, take_more_set, take_more, take-take}
+use Rattle.std.proofs.lemmas.List.{set-get_or, get_or_append_left, take_all, take_at, take-append-le, take_more_set, take_more, take-take, take-set}
 use Rattle.std.proofs.lemmas.List.Elements.{filter_map-append}
 use Rattle.std.proofs.lemmas.List.FromFn.{map-range_with_len_more}
 use Rattle.std.proofs.lemmas.Bool.{cases_lt, le-ltb, lt-ltb}
 use Rattle.fips204_base.specs.Sampling.{first_256, coefficient_from_half_byte, coefficient_from_three_bytes, small_polynomial, matrix_entry}
 use Rattle.fips204_base.specs.SamplerSteps.{half_bytes, kept_half_bytes, triple, number, kept_triples}
-use Rattle.std.specs.Prelude.{option_to_list, slice_index}
+use Rattle.std.specs.Prelude.{option_to_list, slice_index, pos}
 use Rattle.std.proofs.lemmas.Grind.{flat_map-append, common_steps}
 use Rattle.std.proofs.Math.Seq.{take-add}
 use Rattle.std.proofs.lemmas.Int.{ints}
@@ -50,6 +52,12 @@ keeps_more {values} {count} {given} x k l =
       same = take_more_set values count x (omega (arith, k.whole)) ∙ ap (λ l. l ++ x ∷ []) (sym all)
           ∙ sym (take_all 256 (given ++ x ∷ []) (omega (arith, length-append given (x ∷ []), size)));
     }
+
+-- a value is written where there may be none, and counted where there is one
+pub keeps_counted : (values : List ℤ) (count : ℕ) (given : Option ℤ) → length values ≡ 256 → count < 256
+    → take (count + bool_byte (is_some given)) (set values count (unwrap_or given (pos 0))) ≡ take 256 (take count values ++ option_to_list given)
+keeps_counted values count None w l = ap (λ n. take n (set values count (pos 0))) (add-zero count) ∙ take-set values count (pos 0) ∙ (keeps_there values count w (omega (arith, l))).same ∙ ap (take 256) (sym (append-nil (take count values)))
+keeps_counted values count (Some x) w l = (keeps_more x (keeps_there values count w (omega (arith, l))) l).same
 
 -- what is given after 256 doesn't matter
 pub keeps_full : {values : List ℤ} {given : List ℤ} (more : List ℤ) → Keeps values 256 given → Keeps values 256 (given ++ more)

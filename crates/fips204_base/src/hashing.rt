@@ -25,17 +25,18 @@ fn open_numbered<H: Xof>(rho: &[u8; 64], number: u16) -> H::Reader
 }
 
 /// Puts a coefficient, if there is one, at place `kept` of `values`, if there is room, and returns how many
-/// there are then.
+/// there are then. Where there is none, 0 stands at that place until it is written again, so that no branch asks
+/// whether there is one: no processor could predict it.
+#[inline(always)]
 fn write_kept(coefficient: Option<i32>, values: &mut [i32; 256], kept: usize) -> usize
     requires room { kept ≤ 256 }
     ensures count { result ≤ 256 }
     ensures kept { AreKept values.old kept (option_to_list coefficient) values.new result }
 {
-    match coefficient {
-        Some(coefficient) if kept < 256 => {
-            values[kept] = coefficient;
-            kept + 1
-        }
-        _ => kept,
+    if kept < 256 {
+        values[kept] = coefficient.unwrap_or(0);
+        kept + usize::from(coefficient.is_some())
+    } else {
+        kept
     }
 }

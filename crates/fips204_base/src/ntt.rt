@@ -46,7 +46,9 @@ pub fn inv_ntt<V: Residue, const KL: usize>(
     out
 }
 
-/// The transform of one row, in place: eight layers, and a last reduction.
+/// The transform of one row, in place: eight layers, and a last reduction. Inlined, so that a meter that nobody reads costs
+/// nothing.
+#[inline(always)]
 pub(crate) fn write_ntt<V: Residue>(w: &mut [V; 256], meter: &mut V::Meter)
     requires room { (V.products meter.old + 1024 < 2 ^ 64) × (V.sums meter.old + 2048 < 2 ^ 64) }
     requires range { LanesWithin V.lanes V.width 8380416 w.old }
@@ -151,7 +153,8 @@ fn butterfly<V: Residue>(a: V, b: V, m: usize, meter: &mut V::Meter) -> (V, V)
 }
 
 /// The inverse transform of one row, in place: eight layers backwards, and the last factor. The sums
-/// of the layers reach `256 (q - 1)`, which fits `i32`.
+/// of the layers reach `256 (q - 1)`, which fits `i32`. Inlined as `write_ntt` is.
+#[inline(always)]
 pub(crate) fn write_inv_ntt<V: Residue>(w: &mut [V; 256], meter: &mut V::Meter)
     requires room { (V.products meter.old + 1024 < 2 ^ 64) × (V.sums meter.old + 2048 < 2 ^ 64) }
     requires range { LanesWithin V.lanes V.width 8380416 w.old }

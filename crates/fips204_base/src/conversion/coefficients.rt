@@ -20,16 +20,15 @@ pub fn coeff_from_three_bytes(bytes: [u8; 3]) -> Option<i32>
 
 /// `CoeffFromHalfByte` (Algorithm 15): the coefficient in `[-eta, eta]` of a half byte `b`, which is below 16; `eta`
 /// is 2 or 4. `None` where `b` is 15 at `eta` 2, and where it is above 8 at `eta` 4.
+#[inline(always)]
 pub fn coeff_from_half_byte(eta: i32, b: u8) -> Option<i32>
     requires set { IsEta eta }
     requires half { b < 16 }
     ensures { result ≡ coefficient_from_half_byte (nat_abs eta) b }
 {
-    if eta == 2 && b < 15 {
-        Some(2 - (b % 5) as i32)
-    } else if eta == 4 && b < 9 {
-        Some(4 - b as i32)
+    if eta == 2 {
+        (b < 15).then_some(2 - (b % 5) as i32)
     } else {
-        None
+        (b < 9).then_some(4 - b as i32)
     }
 }

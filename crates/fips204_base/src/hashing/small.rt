@@ -22,8 +22,28 @@ fn write_kept_half_bytes(eta: i32, piece: &[u8], values: &mut [i32; 256], kept: 
     ensures kept { AreKept values.old kept (kept_half_bytes (nat_abs eta) piece.now (length piece.now))
         values.new result }
 {
+    // compiled for each eta, so that no half byte asks which it is
+    if eta == 2 {
+        write_half_bytes_at(2, piece, values, kept)
+    } else {
+        write_half_bytes_at(4, piece, values, kept)
+    }
+}
+
+/// `write_kept_half_bytes` at an `eta` that is a constant where it is called.
+#[inline(always)]
+fn write_half_bytes_at(eta: i32, piece: &[u8], values: &mut [i32; 256], kept: usize) -> usize
+    requires eta { IsEta eta }
+    requires room { kept ≤ 256 }
+    ensures count { result ≤ 256 }
+    ensures kept { AreKept values.old kept (kept_half_bytes (nat_abs eta) piece.now (length piece.now))
+        values.new result }
+{
     let mut count = kept;
     for byte in piece {
+        if count == 256 {
+            return count;
+        }
         count = write_kept(coeff_from_half_byte(eta, *byte % 16), values, count);
         count = write_kept(coeff_from_half_byte(eta, *byte / 16), values, count);
     }
