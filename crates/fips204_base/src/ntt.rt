@@ -46,9 +46,7 @@ pub fn inv_ntt<V: Residue, const KL: usize>(
     out
 }
 
-/// The transform of one row, in place: eight layers, and a last reduction. Inlined, so that a meter that nobody reads costs
-/// nothing.
-#[inline(always)]
+/// The transform of one row, in place: eight layers, and a last reduction.
 pub(crate) fn write_ntt<V: Residue>(w: &mut [V; 256], meter: &mut V::Meter)
     requires room { (V.products meter.old + 1024 < 2 ^ 64) × (V.sums meter.old + 2048 < 2 ^ 64) }
     requires range { LanesWithin V.lanes V.width 8380416 w.old }
@@ -153,8 +151,7 @@ fn butterfly<V: Residue>(a: V, b: V, m: usize, meter: &mut V::Meter) -> (V, V)
 }
 
 /// The inverse transform of one row, in place: eight layers backwards, and the last factor. The sums
-/// of the layers reach `256 (q - 1)`, which fits `i32`. Inlined as `write_ntt` is.
-#[inline(always)]
+/// of the layers reach `256 (q - 1)`, which fits `i32`.
 pub(crate) fn write_inv_ntt<V: Residue>(w: &mut [V; 256], meter: &mut V::Meter)
     requires room { (V.products meter.old + 1024 < 2 ^ 64) × (V.sums meter.old + 2048 < 2 ^ 64) }
     requires range { LanesWithin V.lanes V.width 8380416 w.old }
