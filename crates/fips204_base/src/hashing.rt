@@ -25,10 +25,29 @@ fn open_numbered<H: Xof>(rho: &[u8; 64], number: u16) -> H::Reader
 }
 
 /// Puts a coefficient, if there is one, at place `kept` of `values`, if there is room, and returns how many
-/// there are then. Where there is none, 0 stands at that place until it is written again, so that no branch asks
-/// whether there is one: no processor could predict it.
-#[inline(always)]
+/// there are then.
 fn write_kept(coefficient: Option<i32>, values: &mut [i32; 256], kept: usize) -> usize
+    requires room { kept ≤ 256 }
+    ensures count { result ≤ 256 }
+    ensures kept { AreKept values.old kept (option_to_list coefficient) values.new result }
+{
+    match coefficient {
+        Some(coefficient) if kept < 256 => {
+            values[kept] = coefficient;
+            kept + 1
+        }
+        _ => kept,
+    }
+}
+
+/// As `write_kept`, with no branch on whether there is a coefficient, which no processor could predict, and which depends on a
+/// secret: where there is none, 0 stands at that place until it is written again.
+#[inline(always)]
+fn write_kept_without_branch(
+    coefficient: Option<i32>,
+    values: &mut [i32; 256],
+    kept: usize,
+) -> usize
     requires room { kept ≤ 256 }
     ensures count { result ≤ 256 }
     ensures kept { AreKept values.old kept (option_to_list coefficient) values.new result }

@@ -9,7 +9,7 @@ ghost use Rattle.fips204_base.specs.Bounds.{IsEta};
 
 use crate::conversion::coeff_from_half_byte;
 use crate::fault::Fault;
-use crate::hashing::{open_numbered, write_kept};
+use crate::hashing::{open_numbered, write_kept_without_branch};
 use crate::types::{R, R0};
 use crate::xof::{Xof, XofReader, sampling_limit};
 
@@ -44,8 +44,8 @@ fn write_half_bytes_at(eta: i32, piece: &[u8], values: &mut [i32; 256], kept: us
         if count == 256 {
             return count;
         }
-        count = write_kept(coeff_from_half_byte(eta, *byte % 16), values, count);
-        count = write_kept(coeff_from_half_byte(eta, *byte / 16), values, count);
+        count = write_kept_without_branch(coeff_from_half_byte(eta, *byte % 16), values, count);
+        count = write_kept_without_branch(coeff_from_half_byte(eta, *byte / 16), values, count);
     }
     count
 }
