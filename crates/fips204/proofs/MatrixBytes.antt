@@ -1,5 +1,5 @@
 -- Lists of bytes that are pieces of one size, and a matrix as such: rows, their entries, and the words of these.
-use Rattle.std.proofs.Common.{◌≡◌, ◌∙◌, ◌<◌, ◌≤◌, ◌≤ℤ◌, ◌+◌, ◌-◌, ◌*◌, ◌^◌, ℕ, ℤ, pos, nat_abs, List, [], ◌∷◌, ◌++◌, length, take, drop, get_or, set, ap, sym, arith, w32, length-append, length-set, length-take, append_assoc, refl, inl, inr}
+use Rattle.std.proofs.Common.{◌≡◌, ◌∙◌, ◌<◌, ◌≤◌, ◌≤ℤ◌, ◌+◌, ◌*◌, ◌^◌, ℕ, ℤ, pos, nat_abs, List, [], ◌∷◌, ◌++◌, length, take, drop, get_or, set, ap, sym, arith, w32, length-append, length-set, length-take, append_assoc, refl, inl, inr}
 use Rattle.std.proofs.lemmas.List.{take_all, take_at, take_more, take_more_set, drop_at, take-append-drop, length-take-le, flat_map_more, get_or-take, get_or-drop}
 use Rattle.std.proofs.lemmas.List.Elements.{All-push, All-take, All-head, All-tail, All-get_or}
 use Rattle.std.proofs.lemmas.List.Concat.{flat_map-append}

@@ -1,5 +1,5 @@
 -- The bytes of prepared keys tell the keys.
-use Rattle.std.proofs.Common.{◌≡◌, ◌∙◌, ◌+◌, ◌*◌, ◌^◌, ◌<◌, ℕ, ℤ, pos, nat_abs, List, [], ◌∷◌, ◌++◌, length, take, drop, get_or, map, ap, sym, subst, arith, refl, w32, append_assoc, length-append, Ok, Some, ◌↔◌}
+use Rattle.std.proofs.Common.{◌≡◌, ◌∙◌, ◌+◌, ◌*◌, ◌^◌, ◌<◌, ℕ, ℤ, nat_abs, List, [], ◌∷◌, ◌++◌, length, take, drop, get_or, map, ap, sym, subst, arith, refl, w32, append_assoc, length-append, Ok, Some}
 use Rattle.std.proofs.lemmas.Int.{ints}
 use Rattle.std.proofs.lemmas.List.{take_at, drop_at}
 use Rattle.std.proofs.lemmas.List.Elements.{All-head, All-tail}

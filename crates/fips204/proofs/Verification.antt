@@ -1,6 +1,6 @@
 -- Verifying: w1' as a vector, and what a signature's parts have to keep.
 use Rattle.std.proofs.Common.{◌≡◌, ◌<◌, ◌≤◌, ◌⊎◌, ◌+◌, ◌-◌, ◌*◌, ◌%◌, ℕ, List, [], pos, nat_abs, get_or, length, ap, sym, subst, ◌∙◌, arith, Bool, Some, true, false, inl, inr, refl, IsTrue, ℤ, zero, suc, negsuc, ◌≤ℤ◌, ◌++◌, take, int_lt, ◌↔◌}
-use Rattle.fips204.proofs.Names.{All, cases_Bool, ints, mod_below, R, T, vector_norm, residue, coefficients, challenge, sampled_matrix, PublicParts, IsSignature, is_one, w1_bytes, IsVector, vector_coefficients, matrix_product, vector_of, VectorWithin, PolynomialInRange, coefficient_of, product, minus, use_hint, high_bits, low_bits, high_count, high_bits_below, product_same, congruent_of, congruent_refl, residue_below, vector_of-ext, vector_of-range, vector-within, same_signature, w1_prime, Accepts, Verifies, t1_shifted, hinted, AreShifted, OpensTo, commitment_hash, Params, ParameterSet, c_tilde_length, HasSizes, set_of}
+use Rattle.fips204.proofs.Names.{All, cases_Bool, ints, mod_below, R, T, vector_norm, residue, coefficients, challenge, sampled_matrix, PublicParts, IsSignature, is_one, w1_bytes, IsVector, vector_coefficients, matrix_product, vector_of, VectorWithin, PolynomialInRange, coefficient_of, product, minus, use_hint, high_bits, low_bits, high_count, high_bits_below, product_same, congruent_of, congruent_refl, residue_below, vector_of-ext, vector_of-range, vector-within, same_signature, w1_prime, Accepts, Verifies, t1_shifted, hinted, AreShifted, OpensTo, commitment_hash, Params, ParameterSet, c_tilde_length, set_of}
 use Rattle.std.specs.declared.option.Option.{Option}
 use Rattle.fips204.proofs.ParameterSets.{IsKnown, limits, mask-size}
 use Rattle.fips204.proofs.RefusedCalls.{same_some}

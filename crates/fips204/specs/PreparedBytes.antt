@@ -1,5 +1,5 @@
 -- Prepared keys as bytes: the plain key's bytes, the hash tr behind a public one, and the matrix. FIPS 204 has no such encoding.
-use Rattle.std.specs.Prelude.{◌≡◌, ◌↔◌, ◌≤ℤ◌, ◌+◌, ◌*◌, ℕ, ℤ, pos, nat_abs, List, ◌++◌, length, Option, MatchOption, Ok}
+use Rattle.std.specs.Prelude.{◌≡◌, ◌↔◌, ◌≤ℤ◌, ◌+◌, ◌*◌, ℕ, pos, nat_abs, List, ◌++◌, length, Option, MatchOption, Ok}
 use Rattle.std.specs.List.{All, flat_map}
 use Rattle.std.specs.Int.{w32, to_le_bytes}
 use Rattle.fips204_base.specs.Encodings.{PublicParts, PrivateParts, ArePublicParts, ArePrivateParts, public_key_bytes, private_key_bytes}

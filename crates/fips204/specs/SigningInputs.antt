@@ -29,6 +29,10 @@ pub record AreKeyTransforms (k l : ℕ) (sk : PrivateParts) (t : KeyTransforms) 
 abbrev pub AreShifted : ℕ → List R → List R → Type 0
 AreShifted k t1 v = (r n : ℕ) → r < k → n < 256 → vector_coefficients v r n ≡ 8192 * vector_coefficients t1 r n % 8380417
 
+-- what multiplies has t1 2^13 from its polynomial 4 on
+abbrev pub AreShiftedFromFour : ℕ → List R → List R → Type 0
+AreShiftedFromFour k t1 v = (r n : ℕ) → r < k → n < 256 → vector_coefficients v (4 + r) n ≡ 8192 * vector_coefficients t1 r n % 8380417
+
 -- what an attempt takes beside the key: a set whose sizes the call has, and a counter of its masks that leaves room for one of
 -- each row
 pub record AreAttemptInputs (p : Params) (k l n s : ℕ) (kappa : ℕ) : Type 0 where

@@ -84,6 +84,19 @@ some_columns k (suc l) n h = omega arith
 pub entry-numbered : (G : List ℕ → List ℕ) (rho : List ℕ) (l r s : ℕ) → s < l → numbered_entry G rho l (r * l + s) ≡ sampled_entry G rho r s
 entry-numbered G rho l r s h = rw (div-mul-add r l s h, mod-mul-add r l s h) refl
 
+-- four entries that are a row
+pub row_of_four : (G : List ℕ → List ℕ) (rho : List ℕ) (l r : ℕ) (row : List T) → l ≡ 4 → length row ≡ 4 → ((j : ℕ) (d : T) → j < 4 → numbered_entry G rho l (r * l + j) ≡ Some (get_or row j d))
+    → sampled_row G rho l r ≡ Some row
+row_of_four G rho l r row four size each = present_each (sampled_entry G rho r) 0 l row (size ∙ sym four) (λ k d h.
+    let first : 0 + k ≡ k = omega arith in
+    ap (sampled_entry G rho r) first ∙ (sym (entry-numbered G rho l r k h) ∙ each k d (omega (arith, h, four))))
+
+-- after them no entry is ahead
+pub ahead-none : (G : List ℕ → List ℕ) (rho : List ℕ) (l count r : ℕ) (ahead : List T) → l ≡ 4 → AreAhead G rho l count (r * l) ahead
+ahead-none G rho l count r ahead four j d inside within h =
+    let none : r * l % 4 ≡ 0 = rw four (omega arith) in
+    absurd (inside none)
+
 -- no other entry of the four is ahead where fewer than four are left
 pub ahead-last : (G : List ℕ → List ℕ) (rho : List ℕ) (l count n : ℕ) (ahead : List T) → count < n / 4 * 4 + 4 → AreAhead G rho l count (n + 1) ahead
 ahead-last G rho l count n ahead e j d within four h = absurd (omega (arith, e, four, within))

@@ -57,9 +57,14 @@ plain-at w r n h l = ap residue (plain-entry w r n h l) ∙ inverse_reduced (lan
 plain-transform : (w : List (List ℤ)) (r : ℕ) → r < 8 → (i : ℕ) → i < 256 → lane_values w r i ≡ transform (vector_coefficients (plain_vector w) r) i
 plain-transform w r h i p = own (lane_values w r) (vector_coefficients (plain_vector w) r) (λ j q. plain-at w r j h q) i p (lane_below w r i)
 
+-- a polynomial whose lane is another one's
+pub plain-moved : (v w : List (List ℤ)) (r s n : ℕ) → r < 8 → s < 8 → n < 256 → ((i : ℕ) → i < 256 → lane (get_or w i []) r ≡ lane (get_or v i []) s)
+    → vector_coefficients (plain_vector w) r n ≡ vector_coefficients (plain_vector v) s n
+plain-moved v w r s n h k l same = plain-at w r n h l ∙ inverse_same (lane_values w r) (lane_values v s) (λ i p. congruent_of (ap residue (same i p))) n ∙ sym (plain-at v s n k l)
+
 -- a polynomial whose lane stays
 pub plain-same : (v w : List (List ℤ)) (r n : ℕ) → r < 8 → n < 256 → ((i : ℕ) → i < 256 → lane (get_or w i []) r ≡ lane (get_or v i []) r) → vector_coefficients (plain_vector w) r n ≡ vector_coefficients (plain_vector v) r n
-plain-same v w r n h l same = plain-at w r n h l ∙ inverse_same (lane_values w r) (lane_values v r) (λ i p. congruent_of (ap residue (same i p))) n ∙ sym (plain-at v r n h l)
+plain-same v w r n h l same = plain-moved v w r r n h h l same
 
 -- the zero vector
 pub plain-zeros : (w : List (List ℤ)) (r n : ℕ) → r < 8 → n < 256 → ((i : ℕ) → i < 256 → lane_values w r i ≡ 0) → vector_coefficients (plain_vector w) r n ≡ 0
@@ -91,9 +96,14 @@ plain-multiple : (c : List ℤ) (v : List (List ℤ)) (z : ℕ → ℕ) (r n : �
 plain-multiple c v z r n h l made =
     product_of_products z (factor_values c) (lane_values v r) (coefficients (plain_factor c).0) (vector_coefficients (plain_vector v) r) made (factor-transform c) (plain-transform v r h) n l
 
+-- in one place of a vector and in another
+pub plain-product-moved : (c : List ℤ) (v w : List (List ℤ)) (r s n : ℕ) → r < 8 → s < 8 → n < 256 → ((i : ℕ) → i < 256 → lane_values w s i ≡ factor_values c i * lane_values v r i % 8380417)
+    → vector_coefficients (plain_vector w) s n ≡ product (coefficients (plain_factor c).0) (vector_coefficients (plain_vector v) r) n
+plain-product-moved c v w r s n h k l made = plain-at w s n k l ∙ plain-multiple c v (lane_values w s) r n h l made
+
 pub plain-product : (c : List ℤ) (v w : List (List ℤ)) (r n : ℕ) → r < 8 → n < 256 → ((i : ℕ) → i < 256 → lane_values w r i ≡ factor_values c i * lane_values v r i % 8380417)
     → vector_coefficients (plain_vector w) r n ≡ product (coefficients (plain_factor c).0) (vector_coefficients (plain_vector v) r) n
-plain-product c v w r n h l made = plain-at w r n h l ∙ plain-multiple c v (lane_values w r) r n h l made
+plain-product c v w r n h l made = plain-product-moved c v w r r n h h l made
 
 pub plain-difference : (c : List ℤ) (v before after : List (List ℤ)) (r n : ℕ) → r < 8 → n < 256
     → ((i : ℕ) → i < 256 → lane_values after r i ≡ (lane_values before r i + 8380416 * (factor_values c i * lane_values v r i % 8380417)) % 8380417)

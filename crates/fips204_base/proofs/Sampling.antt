@@ -223,6 +223,18 @@ number-piece front s n k p e h = grind (arith, ints, common_steps, get_or-take, 
 pub number-front : (piece later : List ℕ) (p : ℕ) → 3 * p + 3 ≤ length piece → number (piece ++ later) p ≡ number piece p
 number-front piece later p h = grind (arith, ints, common_steps, get_or_append_left)
 
+-- one more triple, whose number is below q
+pub kept_triples-kept : (front : List ℕ) (p : ℕ) → number front p < 8380417 → kept_triples front (p + 1) ≡ kept_triples front p ++ pos (number front p) ∷ []
+kept_triples-kept front p h =
+    let some : triple front p ≡ Some (pos (number front p)) = triple-at front p ∙ ap (λ b. if b then Some (pos (number front p)) else None) (lt-ltb (number front p) 8380417 h) in
+    kept_triples-more front p ∙ ap (λ o. kept_triples front p ++ option_to_list o) some
+
+-- and one whose number is not
+pub kept_triples-left : (front : List ℕ) (p : ℕ) → 8380417 ≤ number front p → kept_triples front (p + 1) ≡ kept_triples front p
+kept_triples-left front p h =
+    let none : triple front p ≡ None = triple-at front p ∙ ap (λ b. if b then Some (pos (number front p)) else None) (le-ltb (number front p) 8380417 h) in
+    kept_triples-more front p ∙ ap (λ o. kept_triples front p ++ option_to_list o) none ∙ append-nil (kept_triples front p)
+
 -- each of the first n numbers is below q and is written: all are kept
 pub kept_numbers : (front : List ℕ) (values : List ℤ) (n : ℕ) → length values ≡ 256 → n ≤ 256
     → ((p : ℕ) → p < n → (number front p < 8380417) × (get_or values p (pos 0) ≡ pos (number front p))) → Keeps values n (kept_triples front n)
@@ -231,9 +243,7 @@ kept_numbers front values (suc n) w l all =
     let before = kept_numbers front values n w (omega (arith, l)) (λ p h. all p (omega (arith, h))) in
     let this = all n (omega arith) in
     let x = get_or values n (pos 0) in
-    let some : triple front n ≡ Some (pos (number front n)) = triple-at front n ∙ ap (λ b. if b then Some (pos (number front n)) else None) (lt-ltb (number front n) 8380417 this.0) in
-    let one : option_to_list (triple front n) ≡ x ∷ [] = ap option_to_list some ∙ ap (λ y. y ∷ []) (sym this.1) in
-    let more : kept_triples front (n + 1) ≡ kept_triples front n ++ x ∷ [] = kept_triples-more front n ∙ ap (λ l. kept_triples front n ++ l) one in
+    let more : kept_triples front (n + 1) ≡ kept_triples front n ++ x ∷ [] = kept_triples-kept front n this.0 ∙ ap (λ y. kept_triples front n ++ y ∷ []) (sym this.1) in
     let next : Keeps (set values n x) (n + 1) (kept_triples front n ++ x ∷ []) = keeps_more x before (omega (arith, l)) in
     let same : set values n x ≡ values = set-get_or values n (pos 0) in
     let there : Keeps values (n + 1) (kept_triples front n ++ x ∷ []) = rw same at next in

@@ -60,6 +60,24 @@ impl Lanes {
         Lanes(at.select(i32x8::splat(x), self.0))
     }
 
+    /// The first four lanes, and after them those of `other`.
+    pub(crate) fn beside(self, other: Lanes) -> Lanes
+        ensures first { (j : ℕ) → j < 4 → lane result j ≡ lane self j }
+        ensures second { (j : ℕ) → j < 4 → lane result (4 + j) ≡ lane other j }
+    {
+        let [a, b, c, d, _, _, _, _] = self.to_array();
+        let [e, f, g, h, _, _, _, _] = other.to_array();
+        Lanes::from_array([a, b, c, d, e, f, g, h])
+    }
+
+    /// The last four lanes, and after them the first four.
+    pub(crate) fn halves_exchanged(self) -> Lanes
+        ensures { (j : ℕ) → j < 8 → lane result j ≡ lane self ((4 + j) % 8) }
+    {
+        let [a, b, c, d, e, f, g, h] = self.to_array();
+        Lanes::from_array([e, f, g, h, a, b, c, d])
+    }
+
     /// Each lane times a factor in Montgomery form, modulo `q` and below `q` in absolute value, as the factor is.
     pub(crate) fn times(self, factor: i32) -> Lanes
         requires { nat_abs factor ≤ 8380416 }

@@ -2,7 +2,7 @@
 //! multiplied by. Internal: serves the crate `fips204` alone.
 #![tactic(auto)]
 
-ghost use Rattle.std.specs.Prelude.{◌≡◌, ◌≢◌, ◌<◌, ◌≤◌, ℕ, pos, length, nat_abs, slice_index_or};
+ghost use Rattle.std.specs.Prelude.{◌≡◌, ◌≢◌, ◌<◌, ◌≤◌, ◌+◌, ◌%◌, ℕ, pos, length, nat_abs, slice_index_or};
 ghost use Rattle.fips204_base.specs.Lanes.{lane};
 ghost use Rattle.fips204_base.specs.Residues.{coefficients};
 ghost use Rattle.fips204_base.specs.Transforms.{minus, product};
@@ -68,6 +68,37 @@ impl Transforms {
         write_ntt(&mut self.values, &mut Count::new());
     }
 
+    /// Becomes `v`, and from polynomial 4 on `u`, by one run of the network. Coefficients are below `q` in absolute value.
+    #[inline(never)]
+    pub fn write_transforms_of_two<const N: usize, const M: usize>(
+        &mut self,
+        v: &[R; N],
+        u: &[R; M],
+    )
+        requires few { (N ≤ 4) × (M ≤ 4) }
+        requires first_range { VectorWithin N 8380416 v.now }
+        requires second_range { VectorWithin M 8380416 u.now }
+        ensures first { AreSameModQ N self.new v.now }
+        ensures second { (r n : ℕ) → r < M → n < 256
+            → vector_coefficients self.new (4 + r) n ≡ vector_coefficients u.now r n }
+    {
+        for n in 0..256usize {
+            self.values[n] = lanes_of(v, n).beside(lanes_of(u, n));
+        }
+        let mut meter = Count::new();
+        write_ntt(&mut self.values, &mut meter);
+    }
+
+    /// Exchanges the first four polynomials and the last four.
+    pub fn exchange_halves(&mut self)
+        ensures { (r n : ℕ) → r < 8 → n < 256
+            → vector_coefficients self.new r n ≡ vector_coefficients self.old ((4 + r) % 8) n }
+    {
+        for n in 0..256usize {
+            self.values[n] = self.values[n].halves_exchanged();
+        }
+    }
+
     /// Becomes `v`, as by `write_transforms`, and returns `c` as what vectors are multiplied by. Both take one run of the
     /// network, with `c` in the last lane. Coefficients are below `q` in absolute value.
     #[inline(never)]
@@ -105,6 +136,27 @@ impl Transforms {
         }
     }
 
+    /// Writes the first polynomials into `v`, and those from polynomial 4 on into `u` (Algorithm 42), by one run of the network,
+    /// with coefficients from 0 to `q - 1`. Is used up by it.
+    #[inline(never)]
+    pub fn write_plain_of_two<const N: usize, const M: usize>(
+        &mut self,
+        v: &mut [R; N],
+        u: &mut [R; M],
+    )
+        requires few { (N ≤ 4) × (M ≤ 4) }
+        ensures first { v.new ≡ vector_of N (λ r n. pos (vector_coefficients self.old r n)) }
+        ensures second { u.new ≡ vector_of M (λ r n. pos (vector_coefficients self.old (4 + r) n)) }
+        ensures first_range { VectorWithin N 8380416 v.new }
+        ensures second_range { VectorWithin M 8380416 u.new }
+    {
+        write_inv_ntt(&mut self.values, &mut Count::new());
+        for n in 0..256usize {
+            write_coefficients(self.values[n], n, v);
+            write_coefficients(self.values[n].halves_exchanged(), n, u);
+        }
+    }
+
     /// Becomes `c v` (Algorithm 45 at each polynomial).
     pub fn write_multiple(&mut self, c: &Factor, v: &Transforms)
         ensures { (r n : ℕ) → r < 8 → n < 256
@@ -112,6 +164,18 @@ impl Transforms {
     {
         for n in 0..256usize {
             self.values[n] = v.values[n].times(c.values[n]);
+        }
+    }
+
+    /// Becomes `c v`, and from polynomial 4 on `c u`, in the first four polynomials of `v` and `u`.
+    pub fn write_multiples_of_two(&mut self, c: &Factor, v: &Transforms, u: &Transforms)
+        ensures first { (r n : ℕ) → r < 4 → n < 256 → vector_coefficients self.new r n
+            ≡ product (coefficients c.now.0) (vector_coefficients v.now r) n }
+        ensures second { (r n : ℕ) → r < 4 → n < 256 → vector_coefficients self.new (4 + r) n
+            ≡ product (coefficients c.now.0) (vector_coefficients u.now r) n }
+    {
+        for n in 0..256usize {
+            self.values[n] = v.values[n].beside(u.values[n]).times(c.values[n]);
         }
     }
 

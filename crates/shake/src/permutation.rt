@@ -134,7 +134,7 @@ pub fn f1600(state: &mut [u64; 25])
     ensures { state.new ≡ keccak_f state.old }
 {
     let mut a = *state;
-    // two rounds a turn, so that the lanes of the first go nowhere
+    // two rounds a turn, so that the state between them need not be stored
     for pair in 0..12 {
         let b = round(&a, ROUND_CONSTANTS[2 * pair]);
         a = round(&b, ROUND_CONSTANTS[2 * pair + 1]);

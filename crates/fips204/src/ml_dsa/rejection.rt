@@ -14,7 +14,7 @@ ghost use Rattle.fips204.specs.SigningInputs.{AreCheckInputs, IsFactorOf, hint_b
 ghost use Rattle.fips204.specs.Sets.{set_of};
 
 use super::signing::SigningKey;
-use crate::types::{Params, R, R0};
+use crate::types::{KeyTransforms, Params, R, R0};
 use fips204_base::encodings::sig_encode;
 use fips204_base::helpers::{center_mod, difference, infinity_norm};
 use fips204_base::high_low::{low_bits, make_hint};
@@ -46,13 +46,13 @@ impl<'a, const K: usize, const L: usize, H, G> SigningKey<'a, K, L, H, G> {
         let mut room = Transforms::zeros();
         // z = y + c s1, with a norm below gamma1 - beta
         let mut z = [R0; L];
-        write_product(&c_hat, &self.transforms.s1_hat, &mut room, &mut z);
+        write_first_product(&c_hat, self.transforms, &mut room, &mut z, rows);
         write_centred_sum(&mut z, y);
         if !has_norm_below(&z, p.z_bound()) {
             return None;
         }
         // r0 = LowBits(w - c s2), with a norm below gamma2 - beta
-        write_product(&c_hat, &self.transforms.s2_hat, &mut room, rows);
+        write_second_product::<K, L>(&c_hat, &self.transforms.s2_hat, &mut room, rows);
         write_difference(w, rows);
         write_low_vector(p.gamma2, w, rows);
         if !has_norm_below(rows, p.r0_bound()) {
@@ -70,6 +70,51 @@ impl<'a, const K: usize, const L: usize, H, G> SigningKey<'a, K, L, H, G> {
         }
         // sigEncode(c_tilde, z, h)
         Some(sig_encode(p.gamma1, p.omega, c_tilde, &z, rows))
+    }
+}
+
+/// Writes `c s1` into `z`. Where both vectors of the key have four polynomials at most, one run of the network makes `c s2` too,
+/// which `rows` has then. Uses `room` up.
+#[inline(always)]
+fn write_first_product<const K: usize, const L: usize>(
+    c_hat: &Factor,
+    key: &KeyTransforms,
+    room: &mut Transforms,
+    z: &mut [R; L],
+    rows: &mut [R; K],
+)
+    requires { L ≤ 7 }
+    ensures value { (c : R) (v : List R) → IsFactorOf c_hat.now c → AreSameModQ L key.now.s1_hat v → z.new ≡ multiple L c v }
+    ensures range { VectorWithin L 8380416 z.new }
+    ensures second { (c : R) (v : List R) → K ≤ 4 → L ≤ 4 → IsFactorOf c_hat.now c → AreSameModQ K key.now.s2_hat v
+        → rows.new ≡ multiple K c v }
+    ensures second_range { K ≤ 4 → L ≤ 4 → VectorWithin K 8380416 rows.new }
+{
+    if K > 4 || L > 4 {
+        write_product(c_hat, &key.s1_hat, room, z);
+    } else {
+        room.write_multiples_of_two(c_hat, &key.s1_hat, &key.s2_hat);
+        room.write_plain_of_two(z, rows);
+    }
+}
+
+/// Writes `c s2` into `rows`, after `write_first_product`: where that has written it, it stays. Uses `room` up.
+#[inline(always)]
+fn write_second_product<const K: usize, const L: usize>(
+    c_hat: &Factor,
+    s2_hat: &Transforms,
+    room: &mut Transforms,
+    rows: &mut [R; K],
+)
+    requires few { K ≤ 8 }
+    requires there { (c : R) (v : List R) → K ≤ 4 → L ≤ 4 → IsFactorOf c_hat.now c → AreSameModQ K s2_hat.now v
+        → rows.old ≡ multiple K c v }
+    requires there_range { K ≤ 4 → L ≤ 4 → VectorWithin K 8380416 rows.old }
+    ensures value { (c : R) (v : List R) → IsFactorOf c_hat.now c → AreSameModQ K s2_hat.now v → rows.new ≡ multiple K c v }
+    ensures range { VectorWithin K 8380416 rows.new }
+{
+    if K > 4 || L > 4 {
+        write_product(c_hat, s2_hat, room, rows);
     }
 }
 

@@ -5,6 +5,7 @@ ghost use Rattle.std.specs.Prelude.{◌≡◌, ◌≤◌, ◌<◌, ◌⊎◌, �
 ghost use Rattle.std.specs.List.{All};
 ghost use Rattle.fips204_base.specs.Vectors.{IsVector, vector_coefficients};
 ghost use Rattle.fips204_base.specs.Bounds.{PolynomialWithin, VectorWithin, PolynomialInRange};
+ghost use Rattle.fips204_base.specs.PlainTransforms.{AreSameModQ};
 ghost use Rattle.fips204_base.specs.Residues.{residue, coefficients};
 ghost use Rattle.fips204_base.specs.Transforms.{minus, product};
 ghost use Rattle.fips204_base.specs.Rounding.{IsGamma2, high_count, use_hint};
@@ -12,7 +13,7 @@ ghost use Rattle.fips204_base.specs.declared.types.R.{R};
 ghost use Rattle.fips204.specs.Acceptance.{Accepts, Verifies};
 ghost use Rattle.fips204.specs.ParameterSets.{c_tilde_length};
 ghost use Rattle.fips204.specs.Signing.{commitment_hash};
-ghost use Rattle.fips204.specs.SigningInputs.{IsFactorOf, IsHighPart, hinted, AreShifted, OpensTo};
+ghost use Rattle.fips204.specs.SigningInputs.{IsFactorOf, IsHighPart, hinted, AreShifted, AreShiftedFromFour, OpensTo};
 ghost use Rattle.fips204.specs.Sets.{HasSizes, set_of};
 
 use super::commitment_hash::commitment_hash;
@@ -46,15 +47,16 @@ pub fn verify_internal<
         return false;
     };
     let (c_tilde, c) = parts;
-    // NTT(c), A = ExpandA(rho), A z
+    // NTT(c), NTT(z)
     let mut v_hat = Transforms::zeros();
-    let c_hat = v_hat.write_transforms_and_factor(&z, &c);
+    let c_hat = write_first_transforms(&z, &c, &pk.t1, &mut v_hat);
+    // A = ExpandA(rho), A z
     let mut az = Transforms::zeros();
     match write_sampled_product::<K, L, G>(&pk.rho, &v_hat, &mut az) {
         Err(_) => false,
         Ok(()) => {
             // t1 2^d, in the place of z
-            write_shifted_transforms(&pk.t1, &mut v_hat);
+            put_shifted_first::<K, L>(&pk.t1, &mut v_hat);
             is_committed::<K, LAMBDA_DIV4, H>(p, mu, &c_tilde, &h, &c_hat, &mut az, &v_hat)
         }
     }
@@ -167,6 +169,47 @@ fn write_hinted<const K: usize>(p: &Params, h: &[R; K], w: &mut [R; K])
             ensures { result ≡ pos (use_hint (nat_abs gamma2) (int_lt (pos 0) h) (residue w)) }
         { use_hint(gamma2, h, w) },
     );
+}
+
+/// Writes the transforms of `z`, and returns `c` as what vectors are multiplied by. Where both vectors have four polynomials at
+/// most, one run of the network makes those of `t1 2^d` too, which come from polynomial 4 on then.
+///
+/// Coefficients of `z` and `c` are below `q` in absolute value. Not inlined, so that `t1 2^d` itself leaves the stack before
+/// they are used.
+#[inline(never)]
+fn write_first_transforms<const K: usize, const L: usize>(
+    z: &[R; L],
+    c: &R,
+    t1: &[R; K],
+    out: &mut Transforms,
+) -> Factor
+    requires few { L ≤ 7 }
+    requires z { VectorWithin L 8380416 z.now }
+    requires c { PolynomialWithin 8380416 c.now.0 }
+    requires t1 { IsHighPart K t1.now }
+    ensures z { AreSameModQ L out.new z.now }
+    ensures c { IsFactorOf result c.now }
+    ensures t1 { K ≤ 4 → L ≤ 4 → AreShiftedFromFour K t1.now out.new }
+{
+    if K > 4 || L > 4 {
+        return out.write_transforms_and_factor(z, c);
+    }
+    out.write_transforms_of_two(z, &t1_shifted(t1));
+    Factor::of(c)
+}
+
+/// Puts the transforms of `t1 2^d` in the place of those of `z`, after `write_first_transforms`.
+fn put_shifted_first<const K: usize, const L: usize>(t1: &[R; K], v: &mut Transforms)
+    requires few { K ≤ 8 }
+    requires part { IsHighPart K t1.now }
+    requires there { K ≤ 4 → L ≤ 4 → AreShiftedFromFour K t1.now v.old }
+    ensures { AreShifted K t1.now v.new }
+{
+    if K > 4 || L > 4 {
+        write_shifted_transforms(t1, v);
+    } else {
+        v.exchange_halves();
+    }
 }
 
 /// Writes the transforms of `t1 2^d`.

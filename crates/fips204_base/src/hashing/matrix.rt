@@ -84,17 +84,24 @@ fn are_below_q(values: &[i32; 256]) -> bool
 }
 
 /// Puts the coefficients that 256 triples give into `values`, and returns how many there are. Mostly each triple gives one: so
-/// their numbers are written side by side first, and only where one is too large they are gone through one by one.
+/// their numbers are written side by side first, and only where one is too large those that are not are moved to the front.
 fn write_first_triples(triples: &[u8; 768], values: &mut [i32; 256]) -> usize
     ensures count { result ≤ 256 }
     ensures kept { AreKept values.old 0 (kept_triples triples.now 256) values.new result }
 {
     write_numbers(triples, values);
     if are_below_q(values) {
-        256
-    } else {
-        write_kept_triples(triples, values, 0)
+        return 256;
     }
+    let mut count = 0;
+    for p in 0..256usize {
+        let number = values[p];
+        if number < Q {
+            values[count] = number;
+            count += 1;
+        }
+    }
+    count
 }
 
 /// `RejNTTPoly` (Algorithm 30): a matrix entry from the concatenated `parts`.
@@ -156,10 +163,11 @@ fn open_entry<const L: usize, G: Xof>(rho: &[u8; 32], n: usize) -> G::Reader
 fn write_four_entries<const L: usize, G: Xof>(
     rho: &[u8; 32],
     first: usize,
-    entries: &mut [T; 4],
+    entries: &mut [T],
 ) -> Result<(), Fault>
     requires shape { (0 < L) × (L ≤ 7) }
     requires place { first + 4 ≤ 8 * L }
+    requires four { length entries.old ≡ 4 }
     ensures { WritesFourEntries G.front rho.now L first result entries.new }
 {
     let mut a = open_entry::<L, G>(rho, first);
@@ -237,8 +245,8 @@ pub fn write_expanded_a<const K: usize, const L: usize, G: Xof>(
     Ok(())
 }
 
-/// Writes row `r` of the matrix (Algorithm 32, lines 2 to 5). Its entries are made four at a time, so that the next row's first
-/// ones may be in `ahead` then.
+/// Writes row `r` of the matrix (Algorithm 32, lines 2 to 5). Its entries are made four at a time, in their place where they are
+/// a row, and else so that the next row's first ones may be in `ahead` then.
 pub(crate) fn write_next_row<const K: usize, const L: usize, G: Xof>(
     rho: &[u8; 32],
     r: usize,
@@ -252,6 +260,10 @@ pub(crate) fn write_next_row<const K: usize, const L: usize, G: Xof>(
         (λ _. (sampled_row G.front rho.now L r ≡ Some row.new) × AreAhead G.front rho.now L (K * L) ((r + 1) * L) ahead.new)
         (λ fault. (sampled_matrix G.front rho.now K L ≡ None) × (fault ≡ Fault.SamplingLimit)) }
 {
+    if L == 4 {
+        write_four_entries::<L, G>(rho, r * L, row)?;
+        return Ok(());
+    }
     for s in 0..L {
         write_next_entry::<K, L, G>(rho, r * L + s, ahead, &mut row[s])?;
     }

@@ -1,9 +1,7 @@
-use Rattle.std.proofs.Common.{arith, refl, rules, ◌≡◌, ◌∙◌, ◌*◌, ℕ, pos, nat_abs, to_z, w32, take, drop, ap, sym, length, List, ℤ}
+use Rattle.std.proofs.Common.{arith, refl, rules, ◌≡◌, ◌∙◌, ◌*◌, pos, to_z, w32, take, drop, ap}
 use Rattle.std.proofs.lemmas.Int.{ints}
 use Rattle.std.specs.Int.{to_le_bytes}
-use Rattle.fips204.proofs.Names.{T}
-use Rattle.fips204.specs.PreparedBytes.{IsEntry, entry_bytes}
-use Rattle.fips204.proofs.MatrixBytes.{Reads, IsValue, value_bytes, length-value, reads_more, reads_all, unread, no_value}
+use Rattle.fips204.proofs.MatrixBytes.{IsValue, value_bytes, length-value, reads_more, reads_all, unread, no_value}
 use Rattle.fips204.proofs.ml_dsa.matrix_bytes.read_entry.Goals as goal
 
 pub loop-n-init : goal.loop-n-init

@@ -1,4 +1,4 @@
-use Rattle.std.proofs.Common.{arith, refl, rules, ◌≡◌, ◌∙◌, ◌+◌, ◌-◌, ◌*◌, ℕ, [], None, take, drop, ap, sym}
+use Rattle.std.proofs.Common.{arith, refl, rules, ◌≡◌, ◌+◌, ◌-◌, ◌*◌, [], None}
 use Rattle.fips204.specs.PreparedBytes.{IsRow, row_bytes}
 use Rattle.fips204.proofs.MatrixBytes.{length-row, reads_more, reads_all, unread}
 use Rattle.fips204.proofs.ml_dsa.matrix_bytes.read_matrix.Goals as goal

@@ -1,4 +1,4 @@
-use Rattle.std.proofs.Common.{arith, refl, rules, ◌≡◌, ◌∙◌, ◌+◌, ◌-◌, ◌*◌, ℕ, None, take, drop, ap, sym}
+use Rattle.std.proofs.Common.{arith, refl, rules, ◌≡◌, ◌+◌, ◌-◌, ◌*◌, None}
 use Rattle.fips204_base.specs.declared.types.TheConstants.{T0}
 use Rattle.fips204.specs.PreparedBytes.{IsEntry, entry_bytes}
 use Rattle.fips204.proofs.MatrixBytes.{length-entry, reads_more, reads_all, unread}

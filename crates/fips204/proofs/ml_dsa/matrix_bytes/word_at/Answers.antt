@@ -1,6 +1,5 @@
-use Rattle.std.proofs.Common.{rules, ◌≡◌, ◌*◌, length, take, drop, w32, ap, arith, length-take, length-drop}
+use Rattle.std.proofs.Common.{rules, ◌≡◌, ◌*◌, length, take, drop, arith, length-take, length-drop}
 use Rattle.std.proofs.lemmas.Nat.{le_bytes_4}
-use Rattle.std.specs.Int.{from_le_bytes}
 use Rattle.fips204.proofs.MatrixBytes.{small_piece}
 use Rattle.fips204.proofs.ml_dsa.matrix_bytes.word_at.Goals as goal
 

@@ -1,4 +1,4 @@
-use Rattle.std.proofs.Common.{arith, refl, length-take, length-drop, rules}
+use Rattle.std.proofs.Common.{arith, length-take, length-drop}
 use Rattle.std.proofs.lemmas.Grind.{common_steps}
 use Rattle.std.proofs.lemmas.List.{take_all}
 use Rattle.fips204_base.proofs.VectorBytes.{length-put_mid, put_piece, piece-within}

@@ -46,7 +46,7 @@ returns-in_err-write_entry-4 g c =
 pub returns : goal.returns
 returns g c =
     let read = c.read_four.ensures in
-    four_written (numbered_entry g.G.Xof.front c.args.rho.now g.row.L) c.args.first c.args.entries.now _ _ _ _ c.told-entries
+    four_written (numbered_entry g.G.Xof.front c.args.rho.now g.row.L) c.args.first c.args.entries.now _ _ _ _ c.requires.four
     (of_parts matrix_entry 768 c.open_entry-a.ensures read.first read.first_left c.in_ok-write_entry.ensures)
     (of_parts matrix_entry 768 c.open_entry-b.ensures read.second read.second_left c.in_ok-write_entry-2.ensures)
     (of_parts matrix_entry 768 c.open_entry-c.ensures read.third read.third_left c.in_ok-write_entry-3.ensures)

@@ -1,5 +1,5 @@
-use Rattle.std.proofs.Common.{◌≡◌, ◌∙◌, ◌+◌, ◌*◌, sym, subst, arith, length-set, add-zero, Some}
-use Rattle.fips204_base.proofs.Names.{AreAhead, sampled_entry, present_nil, present_next, entry-numbered}
+use Rattle.std.proofs.Common.{◌≡◌, ◌∙◌, ◌+◌, ◌*◌, ◌<◌, Err, sym, subst, arith, rules, refl, length-set, add-zero, Some}
+use Rattle.fips204_base.proofs.Names.{AreAhead, SamplingLimit, sampled_entry, present_nil, present_next, entry-numbered, row_of_four, ahead-none, matrix-none}
 use Rattle.fips204_base.proofs.hashing.matrix.write_next_row.Goals as goal
 
 pub loop-s-init : goal.loop-s-init
@@ -23,3 +23,20 @@ loop-s-preserved g c =
       present_next entry_of 0 s s c.loop-s.row entry (omega arith) (omega (arith, c.loop-s.invariant.0, c.loop-s-test.true)) c.loop-s.invariant.1 here,
       subst (λ n. AreAhead G c.args.rho.now L (g.row.K * L) n c.write_next_entry.new.ahead) more c.in_ok-write_next_entry.ensures.1,
     )
+
+pub returns-then-this-eq4 : goal.returns-then-this-eq4
+returns-then-this-eq4 g c =
+    let G = g.G.Xof.front in
+    let rho = c.args.rho.now in
+    let four : g.row.L ≡ 4 = omega (arith, c.if-this-eq4.true) in (
+      row_of_four G rho g.row.L c.args.r c.write_four_entries.new.entries four (search rules) c.in_ok-write_four_entries.ensures,
+      ahead-none G rho g.row.L (g.row.K * g.row.L) (c.args.r + 1) c.args.ahead.now four,
+    )
+
+pub returns-in_err-write_four_entries : goal.returns-in_err-write_four_entries
+returns-in_err-write_four_entries g c =
+    let refused : c.from_residual.result ≡ Err SamplingLimit = search rules in
+    let none = c.in_err-write_four_entries.ensures.0 in
+    let four : g.row.L ≡ 4 = omega (arith, c.if-this-eq4.true) in
+    let place : c.args.r * g.row.L + none.0 < g.row.K * g.row.L = let j = none.1 in rw four (omega (arith, j, c.requires.place)) in
+    rw refused (matrix-none g.G.Xof.front c.args.rho.now g.row.K g.row.L (c.args.r * g.row.L + none.0) (omega (arith, four)) place none.2, refl)

@@ -1,4 +1,4 @@
-use Rattle.std.proofs.Common.{◌≡◌, ◌≤◌, ◌-◌, ◌+◌, ◌*◌, ◌∙◌, [], ◌∷◌, ap, sym, inl, inr, pos, slice_index_or, arith}
+use Rattle.std.proofs.Common.{◌≡◌, ◌-◌, ◌+◌, ◌*◌, ◌∙◌, [], ◌∷◌, ap, sym, inl, inr, pos, slice_index_or, arith}
 use Rattle.std.proofs.lemmas.Bool.{cases_lt}
 use Rattle.fips204_base.specs.SamplerSteps.{number}
 use Rattle.fips204_base.proofs.Names.{number-front, number-piece}

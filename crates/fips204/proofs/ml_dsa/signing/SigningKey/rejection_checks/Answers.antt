@@ -9,8 +9,8 @@ use Rattle.fips204.proofs.ml_dsa.signing.SigningKey.rejection_checks.Goals.{Afte
 -- z is y + c s1, and what the test of its norm says
 response-here : (g : Over) (c : After-has_norm_below g) → c.write_centred_sum.new.z ≡ response (set_of c.args.p.now) c.self.inside.key.now c.args.y.now c.args.c.now
 response-here g c =
-    response-is (set_of c.args.p.now) c.self.inside.key.now c.args.y.now c.write_product.new.out c.write_centred_sum.new.z c.args.c.now g.row.L c.requires.inputs.sizes.columns
-    (c.write_product.ensures.value c.args.c.now c.self.inside.key.now.s1 c.of-c_hat.ensures c.self.invariant.1.first) c.write_centred_sum.ensures.value
+    response-is (set_of c.args.p.now) c.self.inside.key.now c.args.y.now c.write_first_product.new.z c.write_centred_sum.new.z c.args.c.now g.row.L c.requires.inputs.sizes.columns
+    (c.write_first_product.ensures.value c.args.c.now c.self.inside.key.now.s1 c.of-c_hat.ensures c.self.invariant.1.first) c.write_centred_sum.ensures.value
 
 first : (g : Over) (c : After-has_norm_below g) → c.has_norm_below.result ≡ nat_lt (vector_norm (response (set_of c.args.p.now) c.self.inside.key.now c.args.y.now c.args.c.now)) (nat_abs c.args.p.now.gamma1 - nat_abs c.args.p.now.beta)
 first g c = rw (response-here g c, c.z_bound.ensures) at c.has_norm_below.ensures
@@ -18,8 +18,8 @@ first g c = rw (response-here g c, c.z_bound.ensures) at c.has_norm_below.ensure
 -- v is w - c s2, and what the test of its low bits says
 difference-here : (g : Over) (c : After-has_norm_below-2 g) → IsDifference g.row.K c.self.inside.key.now (vector_coefficients c.args.w.now) c.args.c.now c.write_difference.new.w
 difference-here g c =
-    difference-is g.row.K c.self.inside.key.now (vector_coefficients c.args.w.now) c.args.c.now c.write_product-2.new.out c.write_difference.new.w
-    (c.write_product-2.ensures.value c.args.c.now c.self.inside.key.now.s2 c.of-c_hat.ensures c.self.invariant.1.second) c.write_difference.ensures.values
+    difference-is g.row.K c.self.inside.key.now (vector_coefficients c.args.w.now) c.args.c.now c.write_second_product.new.rows c.write_difference.new.w
+    (c.write_second_product.ensures.value c.args.c.now c.self.inside.key.now.s2 c.of-c_hat.ensures c.self.invariant.1.second) c.write_difference.ensures.values
 
 second : (g : Over) (c : After-has_norm_below-2 g) → c.has_norm_below-2.result ≡ nat_lt (vector_norm (low_vector (set_of c.args.p.now) c.self.inside.key.now (vector_coefficients c.args.w.now) c.args.c.now)) (nat_abs c.args.p.now.gamma2 - nat_abs c.args.p.now.beta)
 second g c =
@@ -31,17 +31,17 @@ second g c =
 third : (g : Over) (c : After-has_norm_below-3 g) → c.has_norm_below-3.result ≡ nat_lt (vector_norm (ct0 (set_of c.args.p.now) c.self.inside.key.now c.args.c.now)) (nat_abs c.args.p.now.gamma2)
 third g c =
     let t = ct0-is (set_of c.args.p.now) c.self.inside.key.now c.args.c.now _ g.row.K c.requires.inputs.sizes.rows
-    (c.write_product-3.ensures.value c.args.c.now c.self.inside.key.now.t0 c.of-c_hat.ensures c.self.invariant.1.low) in
+    (c.write_product.ensures.value c.args.c.now c.self.inside.key.now.t0 c.of-c_hat.ensures c.self.invariant.1.low) in
     rw (t, to_z-of_z w32 c.args.p.now.gamma2 (search rules)) at c.has_norm_below-3.ensures
 
 -- the hint, and how many ones it has
 hint-here : (g : Over) (c : After-number_of_ones g) → c.write_hint.new.t ≡ hint_vector (set_of c.args.p.now) c.self.inside.key.now (vector_coefficients c.args.w.now) c.args.c.now
 hint-here g c =
     let p = c.args.p.now in
-    hint-is (set_of p) c.self.inside.key.now (vector_coefficients c.args.w.now) c.args.c.now c.write_difference.new.w c.write_product-3.new.out _ g.row.K c.requires.inputs.sizes.rows
-    (difference-is g.row.K c.self.inside.key.now (vector_coefficients c.args.w.now) c.args.c.now c.write_product-2.new.out c.write_difference.new.w
-    (c.write_product-2.ensures.value c.args.c.now c.self.inside.key.now.s2 c.of-c_hat.ensures c.self.invariant.1.second) c.write_difference.ensures.values)
-    (c.write_product-3.ensures.value c.args.c.now c.self.inside.key.now.t0 c.of-c_hat.ensures c.self.invariant.1.low) (rw (to_z-of_z w32 p.gamma2 (search rules)) at c.write_hint.ensures)
+    hint-is (set_of p) c.self.inside.key.now (vector_coefficients c.args.w.now) c.args.c.now c.write_difference.new.w c.write_product.new.out _ g.row.K c.requires.inputs.sizes.rows
+    (difference-is g.row.K c.self.inside.key.now (vector_coefficients c.args.w.now) c.args.c.now c.write_second_product.new.rows c.write_difference.new.w
+    (c.write_second_product.ensures.value c.args.c.now c.self.inside.key.now.s2 c.of-c_hat.ensures c.self.invariant.1.second) c.write_difference.ensures.values)
+    (c.write_product.ensures.value c.args.c.now c.self.inside.key.now.t0 c.of-c_hat.ensures c.self.invariant.1.low) (rw (to_z-of_z w32 p.gamma2 (search rules)) at c.write_hint.ensures)
 
 pub write_low_vector-requires : goal.write_low_vector-requires
 write_low_vector-requires g c = (search rules, (rw (to_z-of_z w32 c.args.p.now.gamma2 (search rules)) (limits c.args.p.now (search rules)).rounding, c.write_difference.ensures.range))
@@ -51,7 +51,7 @@ overflow_cast-p g c = omega (arith, ints, rounding-some c.args.p.now.gamma2 (lim
 
 pub write_hint-requires : goal.write_hint-requires
 write_hint-requires g c =
-    (search rules, (rw (to_z-of_z w32 c.args.p.now.gamma2 (search rules)) (limits c.args.p.now (search rules)).rounding, (c.write_difference.ensures.range, c.write_product-3.ensures.range)))
+    (search rules, (rw (to_z-of_z w32 c.args.p.now.gamma2 (search rules)) (limits c.args.p.now (search rules)).rounding, (c.write_difference.ensures.range, c.write_product.ensures.range)))
 
 pub overflow_cast-p-2 : goal.overflow_cast-p-2
 overflow_cast-p-2 g c = omega (arith, ints, (limits c.args.p.now (search rules)).some_ones)
