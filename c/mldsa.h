@@ -51,16 +51,20 @@
  *  public_key          writes the public key that belongs to a private one. [MLDSA_KEY_RANGE, MLDSA_SAMPLING_LIMIT]
  *  check_private_key   whether the bytes are a private key at all, which each call with a private key checks too.
  *                      [MLDSA_KEY_RANGE]
- *  is_pair             whether a private key from elsewhere works: whether what it signs is accepted under the public key
- *                      that public_key writes. keygen makes no other keys. [MLDSA_NO, MLDSA_KEY_RANGE, MLDSA_SAMPLING_LIMIT]
+ *  is_pair             whether the parts of a private key from elsewhere belong together. After a yes, whatever it signs is
+ *                      accepted under the public key that public_key writes; keygen makes no other keys. After a no its t0 or tr
+ *                      is not its own, and what it signs may be accepted or not. [MLDSA_NO, MLDSA_KEY_RANGE,
+ *                      MLDSA_SAMPLING_LIMIT]
  *  is_whole            the same without a look at tr: whether the part t0 of the key belongs to its parts s1 and s2. [as is_pair]
  *  prepare_public_key  writes a prepared key, of MLDSA*_PREPARED_PUBLIC_KEY_LEN or MLDSA*_PREPARED_PRIVATE_KEY_LEN bytes: the
  *  prepare_private_key bytes of the key, and behind them what each call would compute of them anew. [MLDSA_SAMPLING_LIMIT;
  *                      prepare_private_key: MLDSA_KEY_RANGE too]
  *  verify_prepared, hash_verify_prepared, verify_mu_prepared, sign_prepared, hash_sign_prepared, sign_mu_prepared
  *                      answer with a prepared key what the calls without _prepared answer with the key that it was made of, and
- *                      take less time. Any bytes are safe in a prepared key: such as no call could have written are answered by
- *                      MLDSA_NOT_PREPARED, others by some verdict or signature. But nothing checks that its parts belong
+ *                      take less time. Any bytes are safe in a prepared key. MLDSA_NOT_PREPARED is the answer where a value of
+ *                      its matrix is 8380417 or more, or, in a private key, a coefficient of s1 or s2 is out of range.
+ *                      Every other array of the right length gets a verdict or a signature, one whose matrix or tr is another
+ *                      key's too, which no call writes: that means nothing, since nothing checks that its parts belong
  *                      together. Keep a prepared public key where nobody can change it, since a changed one may accept what
  *                      nobody signed; and a prepared private key as secret as the private key, and where nobody can change it,
  *                      since what a changed one signs may tell the key. [as the calls without _prepared, but
@@ -118,13 +122,27 @@ enum mldsa_status {
     MLDSA_KEY_RANGE = 14,             /* the bytes are no private key */
     MLDSA_SAMPLING_LIMIT = 15,        /* rejection sampling reached its limit; no such input is known */
     MLDSA_BROKEN_STATE = 16,          /* mldsa_mu_update, mldsa_mu_finish: no call has written this state */
-    MLDSA_NOT_PREPARED = 17           /* no call has written this prepared key */
+    MLDSA_NOT_PREPARED = 17           /* a value of this prepared key is out of range, so no call has written it */
 };
 
 #define MLDSA_SEED_LEN 32
 #define MLDSA_RANDOM_LEN 32
 #define MLDSA_MU_LEN 64
 #define MLDSA_STATE_LEN 337
+
+/* The stack that each call of a set needs, in bytes:
+ *
+ *  MLDSA*_STACK_KEYGEN               keygen
+ *  MLDSA*_STACK_SIGN                 sign, hash_sign, sign_mu
+ *  MLDSA*_STACK_VERIFY               verify, hash_verify, verify_mu
+ *  MLDSA*_STACK_PUBLIC_KEY           public_key
+ *  MLDSA*_STACK_CHECK                check_private_key
+ *  MLDSA*_STACK_WHOLE, _PAIR         is_whole, is_pair
+ *  MLDSA*_STACK_PREPARE_PUBLIC_KEY   prepare_public_key, and _PREPARE_PRIVATE_KEY prepare_private_key
+ *  MLDSA*_STACK_SIGN_PREPARED        sign_prepared, hash_sign_prepared, sign_mu_prepared
+ *  MLDSA*_STACK_VERIFY_PREPARED      verify_prepared, hash_verify_prepared, verify_mu_prepared
+ *  MLDSA_STACK_MU                    mu_begin, mu_begin_private, mldsa_mu_update, mldsa_mu_finish
+ */
 
 /* A pointer for an array of length 0. */
 #define MLDSA_NOTHING ((const uint8_t *)"")
@@ -153,17 +171,17 @@ enum mldsa_status {
 #define MLDSA44_PREPARED_PUBLIC_KEY_LEN 17760
 #define MLDSA44_PREPARED_PRIVATE_KEY_LEN 18944
 
-#define MLDSA44_STACK_KEYGEN 120832
-#define MLDSA44_STACK_SIGN 148480
-#define MLDSA44_STACK_VERIFY 61440
+#define MLDSA44_STACK_KEYGEN 116736
+#define MLDSA44_STACK_SIGN 138240
+#define MLDSA44_STACK_VERIFY 58368
 #define MLDSA44_STACK_PUBLIC_KEY 133120
 #define MLDSA44_STACK_CHECK 95232
 #define MLDSA44_STACK_WHOLE 117760
 #define MLDSA44_STACK_PAIR 121856
-#define MLDSA44_STACK_PREPARE_PUBLIC_KEY 132096
-#define MLDSA44_STACK_VERIFY_PREPARED 141312
-#define MLDSA44_STACK_PREPARE_PRIVATE_KEY 242688
-#define MLDSA44_STACK_SIGN_PREPARED 307200
+#define MLDSA44_STACK_PREPARE_PUBLIC_KEY 51200
+#define MLDSA44_STACK_VERIFY_PREPARED 58368
+#define MLDSA44_STACK_PREPARE_PRIVATE_KEY 108544
+#define MLDSA44_STACK_SIGN_PREPARED 135168
 
 MLDSA_ANSWERS
 uint32_t mldsa44_keygen(const uint8_t *seed, size_t seed_len, uint8_t *public_key, size_t public_key_len,
@@ -244,17 +262,17 @@ uint32_t mldsa44_verify_mu_prepared(const uint8_t *prepared_public_key, size_t p
 #define MLDSA65_PREPARED_PUBLIC_KEY_LEN 32736
 #define MLDSA65_PREPARED_PRIVATE_KEY_LEN 34752
 
-#define MLDSA65_STACK_KEYGEN 164864
-#define MLDSA65_STACK_SIGN 189440
-#define MLDSA65_STACK_VERIFY 73728
+#define MLDSA65_STACK_KEYGEN 158720
+#define MLDSA65_STACK_SIGN 179200
+#define MLDSA65_STACK_VERIFY 72704
 #define MLDSA65_STACK_PUBLIC_KEY 185344
 #define MLDSA65_STACK_CHECK 128000
 #define MLDSA65_STACK_WHOLE 161792
 #define MLDSA65_STACK_PAIR 166912
-#define MLDSA65_STACK_PREPARE_PUBLIC_KEY 199680
-#define MLDSA65_STACK_VERIFY_PREPARED 207872
-#define MLDSA65_STACK_PREPARE_PRIVATE_KEY 330752
-#define MLDSA65_STACK_SIGN_PREPARED 408576
+#define MLDSA65_STACK_PREPARE_PUBLIC_KEY 82944
+#define MLDSA65_STACK_VERIFY_PREPARED 70656
+#define MLDSA65_STACK_PREPARE_PRIVATE_KEY 147456
+#define MLDSA65_STACK_SIGN_PREPARED 176128
 
 MLDSA_ANSWERS
 uint32_t mldsa65_keygen(const uint8_t *seed, size_t seed_len, uint8_t *public_key, size_t public_key_len,
@@ -335,17 +353,17 @@ uint32_t mldsa65_verify_mu_prepared(const uint8_t *prepared_public_key, size_t p
 #define MLDSA87_PREPARED_PUBLIC_KEY_LEN 60000
 #define MLDSA87_PREPARED_PRIVATE_KEY_LEN 62240
 
-#define MLDSA87_STACK_KEYGEN 216064
-#define MLDSA87_STACK_SIGN 256000
+#define MLDSA87_STACK_KEYGEN 210944
+#define MLDSA87_STACK_SIGN 245760
 #define MLDSA87_STACK_VERIFY 87040
 #define MLDSA87_STACK_PUBLIC_KEY 262144
 #define MLDSA87_STACK_CHECK 178176
 #define MLDSA87_STACK_WHOLE 223232
 #define MLDSA87_STACK_PAIR 232448
-#define MLDSA87_STACK_PREPARE_PUBLIC_KEY 311296
-#define MLDSA87_STACK_VERIFY_PREPARED 318464
-#define MLDSA87_STACK_PREPARE_PRIVATE_KEY 461824
-#define MLDSA87_STACK_SIGN_PREPARED 580608
+#define MLDSA87_STACK_PREPARE_PUBLIC_KEY 125952
+#define MLDSA87_STACK_VERIFY_PREPARED 86016
+#define MLDSA87_STACK_PREPARE_PRIVATE_KEY 204800
+#define MLDSA87_STACK_SIGN_PREPARED 240640
 
 MLDSA_ANSWERS
 uint32_t mldsa87_keygen(const uint8_t *seed, size_t seed_len, uint8_t *public_key, size_t public_key_len,
@@ -424,7 +442,7 @@ uint32_t mldsa87_verify_mu_prepared(const uint8_t *prepared_public_key, size_t p
  * mldsa_mu_finish writes mu of it, of MLDSA_MU_LEN bytes; the state stays as it is, so that more can be added. A state is no
  * secret beyond its message, and may be copied. Any bytes are safe in it: bytes that no call wrote are answered by
  * MLDSA_BROKEN_STATE, or give mu of something. */
-#define MLDSA_STACK_MU 3072
+#define MLDSA_STACK_MU 3328
 MLDSA_ANSWERS
 uint32_t mldsa_mu_update(const uint8_t *piece, size_t piece_len, uint8_t *state, size_t state_len);
 MLDSA_ANSWERS

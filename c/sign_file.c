@@ -17,20 +17,29 @@ static int draw(uint8_t *out, size_t length)
     return got == length;
 }
 
-/* The bytes of a file, or NULL. */
+/* The bytes of a file, or NULL where not all of them can be read. */
 static uint8_t *read_file(const char *name, size_t *length)
 {
     FILE *file = fopen(name, "rb");
-    uint8_t *bytes = NULL;
-    size_t room = 1 << 16, got;
+    uint8_t *bytes = NULL, *more;
+    size_t room = 1 << 16;
     *length = 0;
-    while (file && (bytes = realloc(bytes, room)) && (got = fread(bytes + *length, 1, room - *length, file)) > 0) {
-        *length += got;
-        room = *length == room ? 2 * room : room;
+    while (file && (more = realloc(bytes, room))) {
+        bytes = more;
+        *length += fread(bytes + *length, 1, room - *length, file);
+        if (*length < room)
+            break;
+        room *= 2;
+    }
+    /* A short read is the end of the file or an error; a full one is followed by another. */
+    if (file && feof(file) && !ferror(file)) {
+        fclose(file);
+        return bytes;
     }
     if (file)
         fclose(file);
-    return bytes;
+    free(bytes);
+    return NULL;
 }
 
 int main(int count, char **words)
@@ -38,10 +47,19 @@ int main(int count, char **words)
     static uint8_t public_key[MLDSA65_PUBLIC_KEY_LEN], private_key[MLDSA65_PRIVATE_KEY_LEN];
     static uint8_t signature[MLDSA65_SIGNATURE_LEN], seed[MLDSA_SEED_LEN], random[MLDSA_RANDOM_LEN];
     size_t length;
-    uint8_t *message = count == 2 ? read_file(words[1], &length) : NULL;
+    uint8_t *message;
     uint32_t status;
-    if (!message || !draw(seed, sizeof seed) || !draw(random, sizeof random)) {
+    if (count != 2) {
         fprintf(stderr, "usage: sign_file FILE\n");
+        return 2;
+    }
+    message = read_file(words[1], &length);
+    if (!message) {
+        fprintf(stderr, "%s: not read\n", words[1]);
+        return 2;
+    }
+    if (!draw(seed, sizeof seed) || !draw(random, sizeof random)) {
+        fprintf(stderr, "no random bytes\n");
         return 2;
     }
     status = mldsa65_keygen(seed, sizeof seed, public_key, sizeof public_key, private_key, sizeof private_key);

@@ -4,7 +4,13 @@ export class KeyFileError extends Error {
 }
 
 /**
- * Reads a public key as `mlsign` and OpenSSL write it, PEM of a SubjectPublicKeyInfo (RFC 9881, RFC 7468): the bytes of the file, or
- * its text. Throws a `KeyFileError` for anything else.
+ * Reads a public key as `mlsign` and OpenSSL write it, PEM of a SubjectPublicKeyInfo (RFC 9881, RFC 7468): the bytes of
+ * the file, or its text. Throws a `KeyFileError` for anything else.
  */
 export function readPublicKey(file: Uint8Array | string): { set: 44 | 65 | 87; publicKey: Uint8Array };
+
+/**
+ * The fingerprint of a public key's file, as `mlsign show` prints it: `SHA256:` and the SHA-256 of its DER in base64.
+ * Throws as `readPublicKey` does, and an `Error` where there is no `crypto.subtle`, as in a page that came over http.
+ */
+export function fingerprint(file: Uint8Array | string): Promise<string>;

@@ -1,5 +1,7 @@
-// Public keys in files, as `mlsign` and OpenSSL write them: PEM in the strict form of RFC 7468, of a SubjectPublicKeyInfo in DER
-// (RFC 9881). What is read has one spelling: another text, however near, is refused, and by the sentences of `mlsign`.
+// Public keys in files, as `mlsign` and OpenSSL write them: PEM in the strict form of RFC 7468, of a
+// SubjectPublicKeyInfo in DER (RFC 9881). What is read has one spelling: another text, however near, is refused, and by
+// the sentences of `mlsign`.
+import { webCrypto } from "./engine.js";
 
 const BEGIN = "-----BEGIN PUBLIC KEY-----";
 const END = "-----END PUBLIC KEY-----";
@@ -43,7 +45,8 @@ function symbolsOf(text) {
     const dash = rest.includes("-") ? rest.indexOf("-") : rest.length;
     const last = rest.slice(dash);
     if (last !== END + ending) {
-        refuse((END + ending).startsWith(last) ? CUT : last.startsWith(END + ending) ? "more follows behind its end" : DAMAGED);
+        const isCut = (END + ending).startsWith(last);
+        refuse(isCut ? CUT : last.startsWith(END + ending) ? "more follows behind its end" : DAMAGED);
     }
     const lines = rest.slice(0, dash);
     const symbols = lines.replace(/[\r\n]/g, "");
@@ -65,7 +68,8 @@ function decoded(symbols) {
     return Uint8Array.from(binary, (character) => character.charCodeAt(0));
 }
 
-/** The contents of the element with this tag that the bytes begin with, and what follows it. A length has its one form. */
+/** The contents of the element with this tag that the bytes begin with, and what follows it. A length has its one
+ * form. */
 function element(tag, der) {
     if (der.length === 0) {
         refuse(DER_CUT);
@@ -100,10 +104,16 @@ function whole(tag, der) {
     return contents;
 }
 
-/** Reads a public key: the bytes of a PEM file, or its text. Gives the number of its set and the key's bytes, or throws a `KeyFileError`. */
+/** The DER in a file: its bytes or its text. */
+function derOf(file) {
+    const text = () => Array.from(file, (byte) => String.fromCharCode(byte)).join("");
+    return decoded(symbolsOf(typeof file === "string" ? file : text()));
+}
+
+/** Reads a public key: the bytes of a PEM file, or its text. Gives the number of its set and the key's bytes, or throws
+ * a `KeyFileError`. */
 export function readPublicKey(file) {
-    const text = typeof file === "string" ? file : Array.from(file, (byte) => String.fromCharCode(byte)).join("");
-    const [algorithm, rest] = element(SEQUENCE, whole(SEQUENCE, decoded(symbolsOf(text))));
+    const [algorithm, rest] = element(SEQUENCE, whole(SEQUENCE, derOf(file)));
     const [set, length] =
         (algorithm.length === 11 && IDENTIFIER.every((byte, i) => byte === algorithm[i]) && SETS[algorithm[10]]) ||
         refuse("its key is not one of ML-DSA-44, ML-DSA-65 or ML-DSA-87");
@@ -115,4 +125,15 @@ export function readPublicKey(file) {
         refuse("its key has a wrong length");
     }
     return { set, publicKey: bits.slice(1) };
+}
+
+/** The fingerprint of a public key's file: SHA-256 of its DER, as `mlsign show` prints it. */
+export async function fingerprint(file) {
+    readPublicKey(file);
+    const subtle = (await webCrypto())?.subtle;
+    if (!subtle) {
+        throw new Error("there is no crypto.subtle: pages have it from a file or over https");
+    }
+    const digest = new Uint8Array(await subtle.digest("SHA-256", derOf(file)));
+    return `SHA256:${btoa(String.fromCharCode(...digest)).replace(/=+$/, "")}`;
 }

@@ -1,14 +1,17 @@
-/** A call that the library refused. `message` has the text of the status, as `mldsa_text` of c/mldsa.h gives it. */
+/**
+ * A call that the library refused. `message` begins with the text of the status, as `mldsa_text` of c/mldsa.h gives it;
+ * where that is about an array, its name follows, its length, and the one that is wanted.
+ */
 export class MlDsaError extends Error {
     readonly name: "MlDsaError";
     /** 2, or 4 to 17: MLDSA_WRONG_LENGTH and so on in c/mldsa.h. */
     readonly status: number;
 }
 
-/** Whether this engine can run the library: whether it has 64-bit WebAssembly memories. */
+/** Whether this engine can run the library: whether its WebAssembly has what the module needs. */
 export function isSupported(): boolean;
 
-/** Object identifiers of hash functions in DER, as `hashSign` and `hashVerify` take them. */
+/** Object identifiers of hash functions in DER, as `hashSign` and `hashVerify` take them: a new array at each look. */
 export const oids: Readonly<
     Record<
         | "SHA-224" | "SHA-256" | "SHA-384" | "SHA-512" | "SHA-512/224" | "SHA-512/256"
@@ -34,16 +37,18 @@ export interface Random {
 
 /** A message that is hashed in pieces. */
 export interface MessageHasher {
-    /** Adds the next piece, of any length, and gives the hasher itself. */
+    /** Adds the next piece, of any length, and gives the hasher itself. Small ones are copied, and hashed together. */
     update(piece: Uint8Array): MessageHasher;
     /** The `mu` of all pieces so far. More may follow. */
     mu(): Uint8Array;
 }
 
 /**
- * A parameter set of FIPS 204. Each call throws a `TypeError` for an argument that is no `Uint8Array`, and an `MlDsaError`
- * for an array of the wrong length and where it says so. Calls are synchronous, and wipe the module's memory when they end;
- * the arrays that you pass and those that you get are yours to wipe.
+ * A parameter set of FIPS 204. Each call throws a `TypeError` for an argument that is no `Uint8Array`, for options that
+ * are no plain object or have another name, and for too many arguments; an `MlDsaError` for an array of a wrong length
+ * (but for a signature that is to be verified) and where it says so; and a `RangeError` for arrays that do not fit into
+ * the module's memory. Calls are synchronous, and wipe the module's memory when they end; the arrays that you pass and
+ * those that you get are yours to wipe.
  */
 export interface MlDsa {
     /** `ML-DSA-44`, `ML-DSA-65` or `ML-DSA-87`. */
@@ -56,12 +61,14 @@ export interface MlDsa {
     publicKey(privateKey: Uint8Array): Uint8Array;
     /** Signs a message. Throws for a context that is too long, and for a private key that is none. */
     sign(privateKey: Uint8Array, message: Uint8Array, options?: Context & Random): Uint8Array;
-    /** Whether the public key accepts the signature of the message under the context. */
+    /** Whether the public key accepts the signature of the message under the context; never one of another length. */
     verify(publicKey: Uint8Array, message: Uint8Array, signature: Uint8Array, options?: Context): boolean;
     /** Signs the digest of a message that a hash function made, whose object identifier is `oid`. */
     hashSign(privateKey: Uint8Array, digest: Uint8Array, oid: Uint8Array, options?: Context & Random): Uint8Array;
     /** Whether the public key accepts the signature of the digest under the context. */
-    hashVerify(publicKey: Uint8Array, digest: Uint8Array, oid: Uint8Array, signature: Uint8Array, options?: Context): boolean;
+    hashVerify(
+        publicKey: Uint8Array, digest: Uint8Array, oid: Uint8Array, signature: Uint8Array, options?: Context,
+    ): boolean;
     /** Begins a message in pieces that `verifyMu` is to judge. Throws for a context that is too long. */
     messageHasher(publicKey: Uint8Array, options?: Context): MessageHasher;
     /** Begins a message in pieces that `signMu` is to sign, by the hash `tr` that the private key keeps. */
@@ -72,14 +79,31 @@ export interface MlDsa {
     verifyMu(publicKey: Uint8Array, mu: Uint8Array, signature: Uint8Array): boolean;
     /** Throws unless the bytes are a private key. Each call with a private key asks that too. */
     checkPrivateKey(privateKey: Uint8Array): void;
-    /** Whether a private key from elsewhere works: whether what it signs is accepted under the key that `publicKey` gives. */
+    /** Whether a private key from elsewhere works: whether what it signs is accepted under what `publicKey` gives. */
     isPair(privateKey: Uint8Array): boolean;
     /** The same without a look at its hash `tr`: whether its part t0 belongs to its parts s1 and s2. */
     isWhole(privateKey: Uint8Array): boolean;
 }
 
+/** A compiled module, where the types of WebAssembly are known. */
+export type CompiledModule = typeof globalThis extends { WebAssembly: { Module: { prototype: infer Module } } }
+    ? Module & object
+    : object;
+
+/** Where the module is: a URL or the text of an absolute one, what `fetch` answers, the module's bytes, or itself. */
+export type Source =
+    | string
+    | { readonly href: string }
+    | { readonly ok: boolean; arrayBuffer(): Promise<ArrayBuffer> }
+    | ArrayBuffer
+    | Uint8Array
+    | CompiledModule;
+
 /**
- * Loads the WebAssembly module and gives the three parameter sets: from a URL, from its bytes, or compiled already; by default
- * from `mldsa.wasm` beside this file. Throws an `Error` where the engine has no 64-bit memories.
+ * Loads the WebAssembly module and gives the three parameter sets. By default `mldsa` reads `mldsa.wasm` beside its own
+ * file, or has it inside where it is packed for browsers, and `mldsa/inline` has it inside everywhere. Throws an
+ * `Error` where `isSupported` says no.
  */
-export function load(source?: string | URL | BufferSource | WebAssembly.Module): Promise<Readonly<Record<"mlDsa44" | "mlDsa65" | "mlDsa87", MlDsa>>>;
+export function load(
+    source?: Source | Promise<Source>,
+): Promise<Readonly<Record<"mlDsa44" | "mlDsa65" | "mlDsa87", MlDsa>>>;

@@ -1,6 +1,6 @@
 // The page verify.html: takes a file, a signature and a public key, and says whether the signature is valid.
-import { isSupported, load } from "./mldsa.js";
-import { KeyFileError, readPublicKey } from "./keys.js";
+import { isSupported, loader } from "./core.js";
+import { KeyFileError, fingerprint, readPublicKey } from "./keys.js";
 
 const SIGNATURE_LENGTHS = { 44: 2420, 65: 3309, 87: 4627 };
 const PARTS = ["message", "signature", "key"];
@@ -11,11 +11,29 @@ const LONGEST_KEY_FILE = 1 << 16;
 const given = {};
 const at = (id) => document.getElementById(id);
 
-/** Shows an answer: `kind` is valid, invalid, unknown or waiting. */
-function show(kind, headline, reason) {
+/** A file's name as an element that leaves the order of the text about it alone. In it what prints nothing, or turns a
+ * text round, is spelt out: a tab as \u{9}. */
+function named(file) {
+    const element = document.createElement("bdi");
+    const spelt = (character) => `\\u{${character.codePointAt(0).toString(16)}}`;
+    element.textContent = file.name.replace(/[\p{C}\p{Zl}\p{Zp}]|(?! )\s/gu, spelt);
+    return element;
+}
+
+/** Shows an answer: `kind` is valid, invalid, unknown or waiting; `reason` and `owner`, which says whose key it is, are
+ * texts and elements. */
+function show(kind, headline, reason, owner = []) {
     at("answer").className = kind;
     at("headline").textContent = headline;
-    at("reason").textContent = reason;
+    at("reason").replaceChildren(...reason);
+    at("owner").replaceChildren(...owner);
+    at("progress").hidden = true;
+}
+
+/** Shows how much of a file is read. */
+function showProgress(part) {
+    at("progress").hidden = false;
+    at("progress").value = part;
 }
 
 /** The bytes of a part of a file. */
@@ -23,10 +41,12 @@ async function bytesOf(file, from, to) {
     return new Uint8Array(await file.slice(from, to).arrayBuffer());
 }
 
-/** The set and the bytes of a public key's file, or null and why not. */
+/** The set, the bytes and the fingerprint of a public key's file, or null and why not. */
 async function keyOf(file) {
+    const content = await bytesOf(file, 0, LONGEST_KEY_FILE);
     try {
-        return [readPublicKey(await bytesOf(file, 0, LONGEST_KEY_FILE)), ""];
+        const key = readPublicKey(content);
+        return [{ ...key, mark: await fingerprint(content).catch((error) => `not known, since ${error.message}`) }, ""];
     } catch (error) {
         if (error instanceof KeyFileError) {
             return [null, error.message];
@@ -39,14 +59,20 @@ async function keyOf(file) {
 async function judge(library, { message, signature, key }, context, isStale) {
     const [read, fault] = await keyOf(key);
     if (!read) {
-        return ["unknown", "No answer", `${key.name} is not a public key that can be read: ${fault}.`];
+        return ["unknown", "No answer", [named(key), ` is not a public key that can be read: ${fault}.`]];
     }
-    const { set, publicKey } = read;
+    const { set, publicKey, mark } = read;
+    const owner = [
+        "The key in ", named(key), ` is one of ML-DSA-${set}, and its fingerprint is ${mark}. `,
+        "Whose it is, you know if you have this fingerprint from them.",
+    ];
     if (signature.size !== SIGNATURE_LENGTHS[set]) {
-        return ["invalid", "Not valid", `${signature.name} has ${signature.size} bytes. The key is one of ML-DSA-${set}, whose signatures have ${SIGNATURE_LENGTHS[set]}.`];
+        const wanted = `The key is one of ML-DSA-${set}, whose signatures have ${SIGNATURE_LENGTHS[set]}.`;
+        return ["invalid", "Not valid", [named(signature), ` has ${signature.size} bytes. ${wanted}`], owner];
     }
     if (context.length > 255) {
-        return ["invalid", "Not valid", `The context has ${context.length} bytes, and no signature has one of more than 255.`];
+        const fault = `The context has ${context.length} bytes, and no signature has one of more than 255.`;
+        return ["invalid", "Not valid", [fault], owner];
     }
     const signed = await bytesOf(signature);
     const mlDsa = (await library)[`mlDsa${set}`];
@@ -56,11 +82,16 @@ async function judge(library, { message, signature, key }, context, isStale) {
         if (isStale()) {
             return null;
         }
+        showProgress(Math.min(1, (from + PIECE) / message.size));
     }
+    const by = [" by the key in ", named(key), ` (ML-DSA-${set})`];
     if (mlDsa.verifyMu(publicKey, hasher.mu(), signed)) {
-        return ["valid", "Valid", `${signature.name} is a signature of ${message.name} by the owner of ${key.name} (ML-DSA-${set})${context.length ? ", under this context" : ""}.`];
+        const under = context.length ? ", under this context." : ".";
+        return ["valid", "Valid", [named(signature), " is a signature of ", named(message), ...by, under], owner];
     }
-    return ["invalid", "Not valid", `${signature.name} is not a signature of ${message.name}, as it is now, under ${key.name} (ML-DSA-${set}) and ${context.length ? "this context" : "the empty context"}.`];
+    const what = [named(signature), " is not a signature of ", named(message), ", as it is now,"];
+    const under = context.length ? " under this context." : " under the empty context.";
+    return ["invalid", "Not valid", [...what, ...by, under], owner];
 }
 
 /** How often an answer was begun. Only the newest is shown. */
@@ -70,30 +101,32 @@ let newest = 0;
 async function update(library) {
     const mine = ++newest;
     for (const part of PARTS) {
-        at(`${part}-name`).textContent = given[part] ? `${given[part].name}, ${given[part].size} bytes` : "";
+        at(`${part}-name`).replaceChildren(...(given[part] ? [named(given[part]), `, ${given[part].size} bytes`] : []));
     }
     const missing = PARTS.filter((part) => !given[part]);
     if (missing.length > 0) {
         const names = { message: "the file", signature: "its signature", key: "the public key" };
-        show("waiting", "Waiting", `Still needed: ${missing.map((part) => names[part]).join(", ")}.`);
+        show("waiting", "Waiting", [`Still needed: ${missing.map((part) => names[part]).join(", ")}.`]);
         return;
     }
-    show("waiting", "Checking", "The file is read.");
+    show("waiting", "Checking", ["The file is read."]);
     let answer;
     try {
         answer = await judge(library, given, new TextEncoder().encode(at("context").value), () => mine !== newest);
     } catch (error) {
-        answer = ["unknown", "No answer", `The check could not be made: ${error.message}.`];
+        answer = ["unknown", "No answer", [`The check could not be made: ${error.message}.`]];
     }
     if (mine === newest) {
         show(...answer);
     }
 }
 
-/** Which part each of three files is: the key by its first line, the signature by its length; null where that does not tell. */
+/** Which part each of three files is: the key by its first line, the signature by its length; null where that does not
+ * tell. */
 async function sorted(files) {
     const begin = "-----BEGIN ";
-    const firsts = await Promise.all(files.map(async (file) => new TextDecoder().decode(await bytesOf(file, 0, begin.length))));
+    const first = async (file) => new TextDecoder().decode(await bytesOf(file, 0, begin.length));
+    const firsts = await Promise.all(files.map(first));
     const keys = files.filter((_, i) => firsts[i] === begin);
     const others = files.filter((it) => !keys.includes(it));
     const signatures = others.filter((it) => Object.values(SIGNATURE_LENGTHS).includes(it.size));
@@ -110,30 +143,34 @@ async function takeThree(library, files) {
     try {
         found = await sorted(files);
     } catch (error) {
-        show("unknown", "No answer", `A file could not be read: ${error.message}.`);
+        show("unknown", "No answer", [`A file could not be read: ${error.message}.`]);
         return;
     }
     if (mine !== newest) {
         return;
     }
     if (!found) {
-        show("unknown", "No answer", "It is not clear which of the three is the key and which the signature. Put each into its place.");
+        const unclear = "It is not clear which of the three is the key and which the signature.";
+        show("unknown", "No answer", [`${unclear} Put each into its place.`]);
         return;
     }
     Object.assign(given, found);
     await update(library);
 }
 
-/** Makes the page do what it says. */
-export function start(source) {
+/** Makes the page do what it says, by a module in base64. */
+export function start(code) {
     if (!isSupported()) {
-        show("unknown", "No answer", "This browser cannot run the check: it has no 64-bit WebAssembly memories. Chrome and Edge have them from version 133, and Firefox from 134. Nothing was checked.");
+        show("unknown", "No answer", [
+            "This browser cannot run the check: its WebAssembly lacks bulk memory or sign extension. ",
+            "Chrome and Edge have them from version 85, Firefox from 90, Safari from 15. Nothing was checked.",
+        ]);
         for (const input of document.querySelectorAll("input")) {
             input.disabled = true;
         }
         return;
     }
-    const library = load(source);
+    const library = loader({ inside: code })();
     library.catch(() => {});
     for (const part of PARTS) {
         at(part).addEventListener("change", () => {
@@ -153,7 +190,7 @@ export function start(source) {
         } else if (files.length === 3) {
             takeThree(library, files);
         } else {
-            show("unknown", "No answer", "Drop all three files at once, or one onto its place.");
+            show("unknown", "No answer", ["Drop all three files at once, or one onto its place."]);
         }
     });
     update(library);

@@ -53,7 +53,7 @@ class Command:
 
     def __init__(self, name, about, help_):
         self.name, self.about = name, about
-        self.options = [Option(*it.groups()) for it in map(OPTION.match, help_.splitlines()) if it]
+        self.options = [Option(*line.groups()) for line in map(OPTION.match, help_.splitlines()) if line]
         self.takes_files = any(ARGUMENT.match(line) for line in help_.splitlines())
 
 
@@ -62,7 +62,7 @@ def commands(asked):
     top = asked("--help")
     listed = re.findall(r"^  (\w+) {2,}(.*)$", top.partition("Commands:\n")[2].partition("\n\n")[0], re.M)
     found = [Command(name, about, asked(name, "--help") if name != "help" else "") for name, about in listed]
-    if not found or any(not it.options for it in found if it.name != "help"):
+    if not found or any(not command.options for command in found if command.name != "help"):
         raise ValueError("the help of mlsign is not read here")
     return found, Command("", "", top).options
 
@@ -70,23 +70,24 @@ def commands(asked):
 def bash(asked):
     """The completion for bash."""
     found, top = commands(asked)
-    names = " ".join(it.name for it in found)
+    names = " ".join(command.name for command in found)
     takes, words = [], [f'help) words="{names}" ;;']
-    for it in found:
-        for option in it.options:
+    for command in found:
+        for option in command.options:
             if option.takes:
                 given = f'mapfile -t COMPREPLY < <(compgen -W "{" ".join(option.values)}" -- "$word")'
                 what = '_mlsign_files "$word"' if option.takes == "FILE" else given
-                takes.append(f"{'|'.join(f'{it.name}:{word}' for word in option.words())}) {what}; return ;;")
-        if it.options:
-            words.append(f'{it.name}) words="{" ".join(word for option in it.options for word in option.words())}" ;;')
-    files = "|".join(f"{it.name}" for it in found if it.takes_files)
+                cases = "|".join(f"{command.name}:{word}" for word in option.words())
+                takes.append(f"{cases}) {what}; return ;;")
+        if command.options:
+            listed = " ".join(word for option in command.options for word in option.words())
+            words.append(f'{command.name}) words="{listed}" ;;')
     return BASH.format(
         names=names,
-        top=" ".join(word for it in top for word in it.words()),
+        top=" ".join(word for option in top for word in option.words()),
         takes="\n".join(f"        {line}" for line in takes),
         words="\n".join(f"        {line}" for line in words),
-        files=files,
+        files="|".join(command.name for command in found if command.takes_files),
     )
 
 
@@ -109,14 +110,17 @@ def zsh(asked):
         head = f"'({' '.join(option.words())})'{{{','.join(option.words())}}}" if option.letter else f"--{option.name}"
         return f"{head}'[{about}]{what}'"
 
-    lines = ["#compdef mlsign", "# Completion of mlsign for zsh, made of its help.", "_mlsign() {", "    local -a commands=("]
-    lines += [f"        '{it.name}:{quoted(it.about)}'" for it in found] + ["    )"]
-    lines += ["    if ((CURRENT == 2)); then", "        _describe command commands", f"        _arguments {' '.join(map(argument, top))}"]
-    lines += ["        return", "    fi", "    local command=$words[2]", "    shift words", "    ((CURRENT--))", "    case $command in"]
-    for it in found:
-        if it.options:
-            arguments = [*map(argument, it.options), *(["'*:file:_files'"] if it.takes_files else [])]
-            lines.append(f"    {it.name}) _arguments -s {' '.join(arguments)} ;;")
+    lines = ["#compdef mlsign", "# Completion of mlsign for zsh, made of its help.", "_mlsign() {",
+             "    local -a commands=("]
+    lines += [f"        '{command.name}:{quoted(command.about)}'" for command in found] + ["    )"]
+    lines += ["    if ((CURRENT == 2)); then", "        _describe command commands",
+              f"        _arguments {' '.join(map(argument, top))}"]
+    lines += ["        return", "    fi", "    local command=$words[2]", "    shift words", "    ((CURRENT--))",
+              "    case $command in"]
+    for command in found:
+        if command.options:
+            arguments = [*map(argument, command.options), *(["'*:file:_files'"] if command.takes_files else [])]
+            lines.append(f"    {command.name}) _arguments -s {' '.join(arguments)} ;;")
     lines += ["    help) _describe command commands ;;", "    esac", "}", '_mlsign "$@"', ""]
     return "\n".join(lines)
 
@@ -124,21 +128,24 @@ def zsh(asked):
 def fish(asked):
     """The completion for fish."""
     found, top = commands(asked)
-    none, lines = "__fish_use_subcommand", ["# Completion of mlsign for fish, made of its help.", "complete -c mlsign -f"]
-    lines += [f"complete -c mlsign -n {none} -a {it.name} -d '{quoted(it.about)}'" for it in found]
+    none = "__fish_use_subcommand"
+    lines = ["# Completion of mlsign for fish, made of its help.", "complete -c mlsign -f"]
+    lines += [f"complete -c mlsign -n {none} -a {command.name} -d '{quoted(command.about)}'" for command in found]
 
-    def option(it, where):
-        letter, takes = f" -s {it.letter}" if it.letter else "", ""
-        if it.takes:
-            takes = " -r -F" if it.takes == "FILE" else f" -x -a '{' '.join(it.values)}'" if it.values else " -x"
-        return f"complete -c mlsign -n {where}{letter} -l {it.name}{takes} -d '{quoted(it.about)}'"
+    def line(option, where):
+        letter, takes = f" -s {option.letter}" if option.letter else "", ""
+        if option.takes:
+            values = f" -x -a '{' '.join(option.values)}'" if option.values else " -x"
+            takes = " -r -F" if option.takes == "FILE" else values
+        return f"complete -c mlsign -n {where}{letter} -l {option.name}{takes} -d '{quoted(option.about)}'"
 
-    lines += [option(it, none) for it in top]
-    for it in found:
-        where = f"'__fish_seen_subcommand_from {it.name}'"
-        lines += [option(one, where) for one in it.options]
-        lines += [f"complete -c mlsign -n {where} -F"] if it.takes_files else []
-        lines += [f"complete -c mlsign -n {where} -a '{' '.join(one.name for one in found)}'"] if it.name == "help" else []
+    lines += [line(option, none) for option in top]
+    for command in found:
+        where = f"'__fish_seen_subcommand_from {command.name}'"
+        lines += [line(option, where) for option in command.options]
+        lines += [f"complete -c mlsign -n {where} -F"] if command.takes_files else []
+        if command.name == "help":
+            lines.append(f"complete -c mlsign -n {where} -a '{' '.join(other.name for other in found)}'")
     return "\n".join([*lines, ""])
 
 

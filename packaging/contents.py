@@ -4,36 +4,21 @@ import email.utils
 import json
 import pathlib
 import re
-import subprocess
-import sys
 
 import completions
+import exports
 import manual
 import pack
+from common import TOP, command, text
 
-TOP = pathlib.Path(__file__).resolve().parent.parent
-HERE = TOP / "packaging"
-sys.path.insert(0, str(TOP / "scripts"))
+HERE = pathlib.Path(__file__).resolve().parent
 
-import exports  # noqa: E402
-
-# The systems of the archives: how each is named, its Debian name, the folder of its libraries there, and Rust's name of it.
+# The systems of the archives: how each is named, its Debian name, the folder of its libraries there, and Rust's name of
+# it.
 X86, ARM = "x86_64", "aarch64"
 TRIPLES = {X86: "x86_64-unknown-linux-gnu", ARM: "aarch64-unknown-linux-gnu"}
 MULTIARCH = "x86_64-linux-gnu"
 PAGES = ("CHANGELOG.md", "LICENSE", "README.md", "SECURITY.md")
-
-
-def command(*words, **more):
-    """Runs a command, ends where it fails, and gives what it printed."""
-    done = subprocess.run(list(map(str, words)), stdout=subprocess.PIPE, stderr=subprocess.STDOUT, text=True, check=False, **more)
-    if done.returncode:
-        sys.exit(f"failed: {' '.join(map(str, words))}\n{done.stdout}")
-    return done.stdout
-
-
-def text(name):
-    return (TOP / name).read_text(encoding="utf-8")
 
 
 class Facts:
@@ -42,12 +27,14 @@ class Facts:
     def __init__(self):
         self.version = re.search(r'^#define MLDSA_VERSION_TEXT "(.*)"$', text("c/mldsa.h"), re.M)[1]
         self.major, self.minor, self.patch = map(int, self.version.split("."))
-        self.commit, seconds, self.maintainer = command("git", "log", "-1", "--format=%H%n%ct%n%an <%ae>", cwd=TOP).strip().split("\n")
+        self.commit, seconds, self.maintainer = command("git", "log", "-1", "--format=%H%n%ct%n%an <%ae>",
+                                                        cwd=TOP).strip().split("\n")
         self.time = int(seconds)
         when = datetime.datetime.fromtimestamp(self.time, datetime.timezone.utc)
         self.day, self.mail_time = f"{when:%Y-%m-%d}", email.utils.format_datetime(when)
-        self.abi = self.major
-        self.calls = [it.name for it in exports.exports()]
+        # Before 1.0 a minor version may change calls, so both can be installed beside each other.
+        self.abi = self.major or f"{self.major}.{self.minor}"
+        self.calls = [export.name for export in exports.exports()]
 
     def differing(self, said_by_program):
         """The places that have another version."""
@@ -60,13 +47,13 @@ class Facts:
         )
         said = [(place, re.search(pattern, text(place), re.M | re.S), wanted) for place, pattern, wanted in places]
         said.append(("mlsign --version", re.match(r"mlsign (.*)", said_by_program), self.version))
-        return [f"{place} has {found and found[1]}, and not {wanted}" for place, found, wanted in said if not found or found[1] != wanted]
+        return [f"{place} has {found and found[1]}, and not {wanted}" for place, found, wanted in said if not found
+                or found[1] != wanted]
 
     def filled(self, name, **more):
         """A file of this folder with its marks filled in."""
         marks = {"VERSION": self.version, "MAJOR": self.major, "MINOR": self.minor, "ABI": self.abi, **more}
-        found = re.sub(r"@(\w+)@", lambda it: str(marks[it[1]]), (HERE / name).read_text(encoding="utf-8"))
-        return found
+        return re.sub(r"@(\w+)@", lambda mark: str(marks[mark[1]]), (HERE / name).read_text(encoding="utf-8"))
 
 
 def exported(facts):
@@ -81,14 +68,17 @@ def shared_object(facts, archive, room, compiler):
     (room / "exports.map").write_text(script, encoding="utf-8")
     made = room / f"libmldsa.so.{facts.abi}"
     # No start-up code: there is nothing to start.
-    words = ["-shared", "-nostartfiles", "-s", f"-Wl,-soname,{made.name}", "-Wl,--version-script=exports.map", "-Wl,--build-id=sha1"]
-    hard = [f"-Wl,-z,{it}" for it in ("relro", "now", "noexecstack", "defs", "text")] + ["-Wl,--gc-sections"]
-    command(compiler, *words, *hard, "-o", made.name, "-Wl,--whole-archive", archive, "-Wl,--no-whole-archive", cwd=room)
+    words = ["-shared", "-nostartfiles", "-s", f"-Wl,-soname,{made.name}", "-Wl,--version-script=exports.map",
+             "-Wl,--build-id=sha1"]
+    hard = [f"-Wl,-z,{word}" for word in ("relro", "now", "noexecstack", "defs", "text")] + ["-Wl,--gc-sections"]
+    command(compiler, *words, *hard, "-o", made.name, "-Wl,--whole-archive", archive, "-Wl,--no-whole-archive",
+            cwd=room)
     return made
 
 
 def weak_places(file, names=None):
-    """What a program or shared library lacks of what `checksec` lists and can be had by linking; and the names that it shows beside those given."""
+    """What a program or shared library lacks of what `checksec` lists and can be had by linking; and the names that it
+    shows beside those given."""
     said = command("readelf", "-hldWS", file)
     found = []
     if not re.search(r"Type: +DYN", said):
@@ -106,7 +96,9 @@ def weak_places(file, names=None):
         found.append("it is not stripped")
     if names is not None:
         symbols = [line.split() for line in command("readelf", "-W", "--dyn-syms", file).splitlines()]
-        shown = {it[7].split("@")[0] for it in symbols if len(it) > 7 and it[4] in ("GLOBAL", "WEAK") and it[6] not in ("UND", "ABS", "Ndx")}
+        known = [(bind, place, name) for *_, bind, _, place, name in (line[:8] for line in symbols if len(line) > 7)]
+        shown = {name.split("@")[0] for bind, place, name in known
+                 if bind in ("GLOBAL", "WEAK") and place not in ("UND", "ABS", "Ndx")}
         if shown != set(names):
             found.append(f"it shows other names: {', '.join(sorted(shown ^ set(names)))}")
     return found
@@ -114,7 +106,8 @@ def weak_places(file, names=None):
 
 def needs_libc(file):
     """The newest version of the C library that a file needs."""
-    found = [tuple(map(int, it.split("."))) for it in re.findall(r"GLIBC_([\d.]+)", command("readelf", "-VW", file))]
+    said = command("readelf", "-VW", file)
+    found = [tuple(map(int, version.split("."))) for version in re.findall(r"GLIBC_([\d.]+)", said)]
     return ".".join(map(str, max(found, default=(2, 2, 5))))
 
 
@@ -143,7 +136,8 @@ def of_program(tree, facts, program, top="", compressed=False):
     """The program, its page and its completions."""
     tree.take(f"{top}bin/mlsign", program, program=True)
     page = manual.program("mlsign", facts.version, facts.day)
-    tree.put(f"{top}share/man/man1/mlsign.1{'.gz' if compressed else ''}", pack.gzipped(page.encode()) if compressed else page)
+    tree.put(f"{top}share/man/man1/mlsign.1{'.gz' if compressed else ''}",
+             pack.gzipped(page.encode()) if compressed else page)
 
     def asked(*words):
         return command(program, *words)
@@ -167,7 +161,8 @@ def archive_x86(facts, library, shared, program, provenance):
     tree.take("share/doc/mldsa/sign_file.c", TOP / "c/sign_file.c")
     marks = {
         "SYSTEM": "Linux on x86-64, with AVX2 where the processor has it", "LIBRARIES": f"libmldsa.a and {shared.name}",
-        "PROGRAM": "    bin/        mlsign, which signs and verifies files\n", "COMPLETIONS": ", completions for bash, zsh and fish",
+        "PROGRAM": "    bin/        mlsign, which signs and verifies files\n",
+        "COMPLETIONS": ", completions for bash, zsh and fish",
     }
     tree.put("README", facts.filled("README", **marks))
     tree.take("install", TOP / "scripts/install", program=True)
@@ -187,6 +182,19 @@ def archive_arm(facts, library, provenance):
     marks = {"SYSTEM": "Linux on 64-bit ARM", "LIBRARIES": "libmldsa.a", "PROGRAM": "", "COMPLETIONS": ""}
     tree.put("README", facts.filled("README", **marks))
     tree.take("install", TOP / "scripts/install", program=True)
+    return tree
+
+
+def portable_c(source, provenance):
+    """The archive of portable C, made of the folder in which scripts/archive puts it."""
+    tree = pack.Tree()
+    tree.take("mldsa.c", source)
+    tree.take("mldsa_portable.h", source.with_name("mldsa_portable.h"))
+    for name in ("mldsa.h", "sign_file.c"):
+        tree.take(name, TOP / "c" / name)
+    tree.take("README.md", TOP / "c/portable/README.md")
+    tree.take("LICENSE", TOP / "LICENSE")
+    tree.put("PROVENANCE", provenance)
     return tree
 
 

@@ -2,8 +2,11 @@
 
 import contents
 import pack
+from common import TOP, text
 
 LIBRARY = f"usr/lib/{contents.MULTIARCH}"
+# Debian's amd64 has processors below x86-64-v2: this package installs on none of them.
+PROCESSOR = "sse4.2-support"
 LONG = """ ML-DSA is the signature scheme of FIPS 204, at the parameter sets 44, 65
  and 87. The code is proved to meet its contracts, to have no undefined
  behaviour, and to return; /usr/share/doc/{package}/PROVENANCE says by what.
@@ -32,9 +35,9 @@ License: Apache-2.0
 
 def copyright_text():
     """The file of licences, as Debian wants it."""
-    text = contents.text("LICENSE")
-    start = text.index("Permission is hereby granted")
-    inside = text[start:text.index("-" * 60, start)].strip()
+    licences = text("LICENSE")
+    start = licences.index("Permission is hereby granted")
+    inside = licences[start:licences.index("-" * 60, start)].strip()
     expat = "".join(f" {line}\n" if line.strip() else " .\n" for line in inside.splitlines())
     return COPYRIGHT.format(expat=expat)
 
@@ -47,11 +50,12 @@ def packages(facts, library, shared, program, provenance):
     def package(name, section, first, more, tree, **fields):
         tree.put(f"usr/share/doc/{name}/copyright", copyright_text())
         tree.put(f"usr/share/doc/{name}/changelog.Debian.gz", pack.gzipped(changes.encode()))
-        tree.put(f"usr/share/doc/{name}/changelog.gz", pack.gzipped((contents.TOP / "CHANGELOG.md").read_bytes()))
+        tree.put(f"usr/share/doc/{name}/changelog.gz", pack.gzipped((TOP / "CHANGELOG.md").read_bytes()))
         tree.put(f"usr/share/doc/{name}/PROVENANCE", provenance)
-        tree.put(f"usr/share/doc/{name}/README.md.gz", pack.gzipped((contents.TOP / "README.md").read_bytes()))
+        tree.put(f"usr/share/doc/{name}/README.md.gz", pack.gzipped((TOP / "README.md").read_bytes()))
         lines = {
-            "Package": name, "Source": "mldsa", "Version": version, "Architecture": "amd64", "Maintainer": facts.maintainer,
+            "Package": name, "Source": "mldsa", "Version": version, "Architecture": "amd64",
+            "Maintainer": facts.maintainer,
             "Installed-Size": (tree.size() + 1023) // 1024 + 8, **fields, "Section": section, "Priority": "optional",
         }
         control = pack.Tree()
@@ -61,7 +65,7 @@ def packages(facts, library, shared, program, provenance):
         if name.startswith("libmldsa") and not name.endswith("-dev"):
             control.put("shlibs", f"libmldsa {facts.abi} {name} (>= {facts.version})\n")
             node = f"MLDSA_{facts.major}.{facts.minor}"
-            names = "".join(f" {it}@{node} {facts.version}\n" for it in sorted([node, *contents.exported(facts)]))
+            names = "".join(f" {call}@{node} {facts.version}\n" for call in sorted([node, *contents.exported(facts)]))
             control.put("symbols", f"libmldsa.so.{facts.abi} {name} (>= {facts.version})\n{names}")
             control.put("triggers", "activate-noawait ldconfig\n")
         made[f"{name}_{version}_amd64.deb"] = pack.deb(control, tree, facts.time)
@@ -70,14 +74,15 @@ def packages(facts, library, shared, program, provenance):
     of_library.take(f"{LIBRARY}/{shared.name}", shared)
     name = f"libmldsa{facts.abi}"
     same = {"Multi-Arch": "same"}
-    package(name, "libs", "ML-DSA signatures (FIPS 204), shared library", "", of_library, Depends=f"libc6 (>= {contents.needs_libc(shared)})", **same)
+    package(name, "libs", "ML-DSA signatures (FIPS 204), shared library", "", of_library,
+            Depends=f"{PROCESSOR}, libc6 (>= {contents.needs_libc(shared)})", **same)
 
     to_develop = pack.Tree()
     to_develop.take(f"{LIBRARY}/libmldsa.a", library)
     to_develop.link(f"{LIBRARY}/libmldsa.so", shared.name)
     contents.development(to_develop, facts, LIBRARY, header="usr/include", prefix="/usr", up="../../../..")
     contents.manual_of_library(to_develop, facts, "usr/share/man/man3", compressed=True)
-    to_develop.take("usr/share/doc/libmldsa-dev/examples/sign_file.c", contents.TOP / "c/sign_file.c")
+    to_develop.take("usr/share/doc/libmldsa-dev/examples/sign_file.c", TOP / "c/sign_file.c")
     more = " .\n This package has the header, the static library, and the manual.\n"
     what = "ML-DSA signatures (FIPS 204), to compile programs"
     package("libmldsa-dev", "libdevel", what, more, to_develop, Depends=f"{name} (= {version})", **same)
@@ -85,5 +90,6 @@ def packages(facts, library, shared, program, provenance):
     of_program = pack.Tree()
     contents.of_program(of_program, facts, program, top="usr/", compressed=True)
     more = " .\n This package has mlsign, which signs and verifies files. OpenSSL reads and\n writes the same keys.\n"
-    package("mlsign", "utils", "sign and verify files with ML-DSA (FIPS 204)", more, of_program, Depends=f"libc6 (>= {contents.needs_libc(program)})")
+    package("mlsign", "utils", "sign and verify files with ML-DSA (FIPS 204)", more, of_program,
+            Depends=f"{PROCESSOR}, libc6 (>= {contents.needs_libc(program)})")
     return made

@@ -1,10 +1,14 @@
-"""Files that depend on nothing but what is put into them: tar archives and Debian packages without the time, the user or the folder
-of the run."""
+"""Files that depend on nothing but what is put into them: tar archives and Debian packages without the time, the user
+or the folder of the run."""
 import gzip
 import hashlib
 import io
-import lzma
+import os
+import pathlib
 import tarfile
+import tempfile
+
+from common import command
 
 FOLDERS_RIGHTS, FILE_RIGHTS, PROGRAM_RIGHTS = 0o755, 0o644, 0o755
 
@@ -74,15 +78,19 @@ def gzipped(content):
 
 
 def deb(control, data, time):
-    """A Debian package: an ar archive of a version, what dpkg reads, and the files."""
-    made = [b"!<arch>\n"]
-    for name, content in (
-        ("debian-binary", b"2.0\n"),
-        ("control.tar.xz", lzma.compress(tar(control, time, "./"), check=lzma.CHECK_CRC64)),
-        ("data.tar.xz", lzma.compress(tar(data, time, "./"), check=lzma.CHECK_CRC64)),
-    ):
-        made.append(f"{name:<16}{time:<12}{0:<6}{0:<6}{'100644':<8}{len(content):<10}`\n".encode() + content + b"\n" * (len(content) % 2))
-    return b"".join(made)
+    """A Debian package: what dpkg reads, and the files."""
+    with tempfile.TemporaryDirectory() as room:
+        folder = pathlib.Path(room) / "package"
+        data.write(folder)
+        control.write(folder / "DEBIAN")
+        for place in (folder, *folder.rglob("*")):
+            if place.is_dir():
+                place.chmod(FOLDERS_RIGHTS)
+            os.utime(place, (time, time), follow_symlinks=False)
+        made = pathlib.Path(room) / "made.deb"
+        words = ["dpkg-deb", "--root-owner-group", "-Zxz", "--threads-max=1", "--build", folder, made]
+        command(*words, env=os.environ | {"SOURCE_DATE_EPOCH": str(time)})
+        return made.read_bytes()
 
 
 def md5sums(tree):

@@ -1,5 +1,7 @@
-"""Tries each file of a release as someone would who has neither the kit nor the repository: in a fresh folder with a fresh HOME, a PATH of
-/usr/bin and /bin, and, where this may be done, with the folders of the repository and of the kit hidden."""
+"""Tries each file of a release as someone would who has neither the kit nor the repository: in a fresh folder with a
+fresh HOME, a PATH of /usr/bin and /bin, and, where this may be done, with the folders of the repository and of the kit
+hidden."""
+import functools
 import hashlib
 import os
 import pathlib
@@ -8,9 +10,11 @@ import shutil
 import subprocess
 import sys
 import tempfile
-import time
+import unittest
 
-TOP = pathlib.Path(__file__).resolve().parent.parent
+import testing
+from common import TOP, missing, recorded_rows
+
 HERE = TOP / "packaging/tries"
 ARM_ROOT = "/usr/aarch64-linux-gnu"
 
@@ -26,7 +30,7 @@ edition = "2021"
 {needs}"""
 
 
-class Failed(Exception):
+class Failed(AssertionError):
     """A try that did not end as it has to."""
 
 
@@ -44,42 +48,45 @@ def kit():
 class Room:
     """A folder in which commands run that see only what the system has and what was unpacked."""
 
-    def __init__(self, path, dist, version, said_version, short):
-        self.path, self.dist, self.hidden, self.version, self.said_version, self.short = path, path / "dist", [], version, said_version, short
-        self.node_flags, self.manifest = node_flags(), (TOP / "rust/fips204/Cargo.toml").read_text(encoding="utf-8")
+    def __init__(self, path, dist, facts, said_version, short):
+        self.path, self.dist, self.hidden = path, path / "dist", []
+        self.version, self.abi, self.said_version, self.short = facts.version, facts.abi, said_version, short
+        self.has_node, self.manifest = has_node(), (TOP / "rust/fips204/Cargo.toml").read_text(encoding="utf-8")
         self.home = path / "home"
         self.home.mkdir()
         shutil.copytree(dist, self.dist)
         self.front = self.hide()
-        # A row of recorded answers of ML-DSA-65, with a context and a message, and the sums of the keys and the signature.
-        rows = [line.split("\t") for line in (TOP / "scripts/run-definitions.tsv").read_text(encoding="utf-8").splitlines()]
-        self.row = next(it[1:8] for it in rows if it[0] == "65" and it[3] and it[4] and set(it[2]) != {"0"})
+        # A row of recorded answers of ML-DSA-65, with a context and a message, and the sums of the keys and the
+        # signature.
+        self.row = next(row[1:8] for row in recorded_rows()
+                        if row[0] == "65" and row[3] and row[4] and set(row[2]) != {"0"})
 
     def hide(self):
-        """The words before each command that put empty folders over the repository and the kit; none where that may not be done."""
-        folders = [str(it) for it in (TOP, kit()) if it]
-        mounts = " && ".join(f"mount -t tmpfs none '{it}'" for it in folders)
+        """The words before each command that put empty folders over the repository and the kit; none where that may not
+        be done."""
+        folders = [str(folder) for folder in (TOP, kit()) if folder]
+        mounts = " && ".join(f"mount -t tmpfs none '{folder}'" for folder in folders)
         front = ["unshare", "--mount", "sh", "-c", f'{mounts} && exec "$@"', "sh"]
-        if shutil.which("unshare") and subprocess.run([*front, "true"], capture_output=True, check=False).returncode == 0:
+        if shutil.which("unshare") and subprocess.run([*front, "true"], capture_output=True,
+                                                      check=False).returncode == 0:
             self.hidden = folders
             return front
         return []
 
     def run(self, *words, cwd=None, status=0, path="/usr/bin:/bin", **environment):
         """What a command prints; it has to end with a status."""
-        words, fresh = [str(it) for it in words], {"PATH": path, "HOME": self.home, "LC_ALL": "C.UTF-8"}
-        done = subprocess.run(
-            [*self.front, "env", "-i", *(f"{name}={value}" for name, value in {**fresh, **environment}.items()), *words],
-            cwd=cwd or self.path, stdin=subprocess.DEVNULL, stdout=subprocess.PIPE, stderr=subprocess.STDOUT, text=True, check=False,
-        )
+        given = {"PATH": path, "HOME": self.home, "LC_ALL": "C.UTF-8", **environment}
+        front = [*self.front, "env", "-i", *(f"{name}={value}" for name, value in given.items())]
+        done = subprocess.run([*front, *map(str, words)], cwd=cwd or self.path, stdin=subprocess.DEVNULL,
+                              stdout=subprocess.PIPE, stderr=subprocess.STDOUT, text=True, check=False)
         if done.returncode != status:
-            raise Failed(f"{' '.join(word[:200] for word in words)}: status {done.returncode}\n{done.stdout}")
+            raise Failed(f"{' '.join(str(word)[:200] for word in words)}: status {done.returncode}\n{done.stdout}")
         return done.stdout
 
     def answers(self, *words, **more):
         """Runs a program of answers, whose keys and signature have to have the recorded sums."""
         printed = self.run(*words, *self.row[:4], **more).split()
-        expect(words[0], [hashlib.sha256(bytes.fromhex(it)).hexdigest() for it in printed], self.row[4:7])
+        expect(words[0], [hashlib.sha256(bytes.fromhex(line)).hexdigest() for line in printed], self.row[4:7])
 
     def for_cargo(self):
         """The PATH and the variables with which cargo works, without a network."""
@@ -93,10 +100,10 @@ class Room:
             own.mkdir()
             if self.short or not self.fetched(found):
                 # The stand-ins that the tests of the repository use: there is no network in CI.
-                names = [it for it in ("rand_core", "zeroize") if (TOP / f"rust/{it}").is_dir()]
-                for it in names:
-                    shutil.copytree(TOP / f"rust/{it}", own / it)
-                places = "".join(f'{it} = {{ path = "{own}/{it}" }}\n' for it in names)
+                names = [name for name in ("rand_core", "zeroize") if (TOP / f"rust/{name}").is_dir()]
+                for name in names:
+                    shutil.copytree(TOP / f"rust/{name}", own / name)
+                places = "".join(f'{name} = {{ path = "{own}/{name}" }}\n' for name in names)
                 (own / "config.toml").write_text(f"[patch.crates-io]\n{places}", encoding="utf-8")
                 print(f"    cargo takes stand-ins for {' and '.join(names)} of the registry")
         return {**found, "CARGO_NET_OFFLINE": "true"}
@@ -106,11 +113,13 @@ class Room:
         folder = self.folder("fetch")
         (folder / "src").mkdir()
         (folder / "src/lib.rs").write_text("", encoding="utf-8")
-        wanted = re.findall(r'^(\w+) = (\{.*\}|".*")$', self.manifest.partition("[dependencies]\n")[2].partition("\n[")[0], re.M)
+        wanted = re.findall(r'^(\w+) = (\{.*\}|".*")$',
+                            self.manifest.partition("[dependencies]\n")[2].partition("\n[")[0], re.M)
         lines = "".join(f"{name} = {version}\n" for name, version in wanted).replace(", optional = true", "")
         (folder / "Cargo.toml").write_text(MANIFEST.format(name="fetch", needs=lines), encoding="utf-8")
         try:
-            self.run("cargo", "fetch", "--quiet", cwd=folder, **toolchain, **{it: os.environ[it] for it in NETWORK if it in os.environ})
+            self.run("cargo", "fetch", "--quiet", cwd=folder, **toolchain,
+                     **{name: os.environ[name] for name in NETWORK if name in os.environ})
         except Failed:
             return False
         return True
@@ -137,273 +146,303 @@ class Room:
         return next(folder.iterdir())
 
 
-def has(*tools):
-    return [it for it in tools if not shutil.which(it, path="/usr/bin:/bin")]
+def has_node():
+    """Whether there is a node that takes the package."""
+    return subprocess.run([TOP / "js/test", "--look"], capture_output=True, check=False).returncode == 0
 
 
-def in_c(room):
-    """C, static and shared, with pkg-config; the program says which calls it takes from where."""
-    top = room.unpacked("mldsa-*-x86_64-linux.tar.gz", "c")
-    folder = room.copied(room.folder("in-c"), "answers.c")
-    config = {"PKG_CONFIG_PATH": f"{top}/lib/pkgconfig"}
-    flags = room.run("pkg-config", "--cflags", "--libs", "mldsa", **config).split()
-    expect("the version of pkg-config", room.run("pkg-config", "--modversion", "mldsa", **config).strip(), room.version)
-    strict = ["-std=c11", "-Wall", "-Wextra", "-Werror"]
-    room.run("cc", *strict, "answers.c", *flags, f"-Wl,-rpath,{top}/lib", "-o", "shared", cwd=folder)
-    room.run("cc", *strict, "-static", "answers.c", *flags, "-o", "static", cwd=folder)
-    room.run("cc", *strict, "answers.c", f"-I{top}/include", f"{top}/lib/libmldsa.a", "-o", "with-the-archive", cwd=folder)
-    for name in ("shared", "static", "with-the-archive"):
-        room.answers(folder / name)
-    taken = re.findall(r"\(NEEDED\).*\[(libmldsa.*)\]", room.run("readelf", "-d", folder / "shared"))
-    expect("what the program is linked with", taken, [f"libmldsa.so.{room.version.split('.')[0]}"])
-    # A shared library elsewhere, found by the loader's own variable.
-    room.run("cc", "answers.c", *flags, "-o", "moved", cwd=folder)
-    room.answers(folder / "moved", LD_LIBRARY_PATH=f"{top}/lib")
-
-
-def in_cmake(room):
-    """C by CMake: find_package, with the shared and with the static target."""
-    top = room.unpacked("mldsa-*-x86_64-linux.tar.gz", "cmake")
-    folder = room.copied(room.folder("in-cmake"), "answers.c")
-    wanted = (HERE / "CMakeLists.txt").read_text(encoding="utf-8").replace("@VERSION@", room.version.rpartition(".")[0])
-    (folder / "CMakeLists.txt").write_text(wanted, encoding="utf-8")
-    room.run("cmake", "-S", ".", "-B", "build", f"-DCMAKE_PREFIX_PATH={top}", cwd=folder)
-    room.run("cmake", "--build", "build", cwd=folder)
-    for name in ("default", "shared", "static"):
-        room.answers(folder / f"build/answers_{name}")
-    # Another minor version is not taken for this one.
-    (folder / "CMakeLists.txt").write_text("cmake_minimum_required(VERSION 3.13)\nproject(x C)\nfind_package(mldsa 0.1 REQUIRED)\n", encoding="utf-8")
-    room.run("cmake", "-S", ".", "-B", "other", f"-DCMAKE_PREFIX_PATH={top}", cwd=folder, status=1)
-
-
-def in_python(room):
-    """Python's ctypes with the shared library."""
-    top = room.unpacked("mldsa-*-x86_64-linux.tar.gz", "python")
-    room.copied(room.path, "answers.py")
-    room.answers("python3", room.path / "answers.py", f"{top}/lib/libmldsa.so.{room.version.split('.')[0]}")
-
-
-def in_rust(room):
-    """Rust: a program over the packed crate, with cargo and no network."""
-    crate = room.unpacked("*.crate", "rust")
-    name = re.search(r'^name = "(.*)"$', (crate / "Cargo.toml").read_text(encoding="utf-8"), re.M)[1]
-    folder = room.folder("in-rust")
-    (folder / "src").mkdir()
-    (folder / "src/main.rs").write_text((HERE / "main.rs").read_text(encoding="utf-8"), encoding="utf-8")
-    needs = f'fips204 = {{ path = "{crate}", package = "{name}" }}\n'
-    (folder / "Cargo.toml").write_text(MANIFEST.format(name="answers", needs=needs), encoding="utf-8")
-    room.run("cargo", "build", "--quiet", cwd=folder, **room.for_cargo())
-    room.answers(folder / "target/debug/answers")
-
-
-def in_javascript(room):
-    """JavaScript: the package, installed by npm where it is there, and else unpacked."""
-    folder = room.copied(room.folder("in-javascript"), "answers.mjs")
-    package = room.only("mldsa-*.tgz")
-    if has("npm"):
-        (folder / "node_modules").mkdir()
-        room.run("tar", "-xzf", package, "-C", folder / "node_modules")
-        (folder / "node_modules/package").rename(folder / "node_modules/mldsa")
-    else:
-        room.run("npm", "install", "--offline", "--no-audit", "--no-fund", "--loglevel=error", package, cwd=folder)
-    sys.path.insert(0, str(TOP / "js"))
-    room.answers("node", *room.node_flags, "answers.mjs", cwd=folder)
-
-
-def in_terminal(room):
-    """mlsign signs and verifies a file, and the sums of the release; its page and its completions are found."""
-    top = room.unpacked("mldsa-*-x86_64-linux.tar.gz", "terminal")
-    folder = room.folder("in-terminal")
-    (folder / "notes").write_text("version 1.0\n", encoding="utf-8")
-    mlsign = top / "bin/mlsign"
-    for number in ("44", "65", "87"):
-        key, public = f"{number}.pem", f"{number}.pub"
-        room.run(mlsign, "keygen", "--set", number, "-k", key, "-p", public, cwd=folder)
-        room.run(mlsign, "sign", "-f", "-k", key, "notes", cwd=folder)
-        expect("mlsign verify", room.run(mlsign, "verify", "-p", public, "notes", cwd=folder).splitlines()[0], "valid")
-    (folder / "notes").write_text("version 1.1\n", encoding="utf-8")
-    room.run(mlsign, "verify", "-p", "87.pub", "notes", cwd=folder, status=1)
-    if (room.dist / "SHA256SUMS.sig").is_file():
-        expect("SHA256SUMS", room.run(mlsign, "verify", "-p", "release.pub", "SHA256SUMS", cwd=room.dist).splitlines()[0], "valid")
-    room.run("sha256sum", "--check", "--quiet", "SHA256SUMS", cwd=room.dist)
-    # Without the C library's loader looking at anything beside what every program has.
-    needed = re.findall(r"\(NEEDED\).*\[(.*)\]", room.run("readelf", "-d", mlsign))
-    if set(needed) - {"libc.so.6", "ld-linux-x86-64.so.2"}:
-        raise Failed(f"mlsign wants {needed}")
-    script = f'''. {top}/share/bash-completion/completions/mlsign
-        complete -p mlsign
-        try() {{ COMP_WORDS=("$@"); COMP_CWORD=$(($# - 1)); _mlsign; echo $(printf '%s\n' "${{COMPREPLY[@]}}" | sort); }}
-        try mlsign ver; try mlsign sign --det; try mlsign keygen --set ""; try mlsign sign -k 44.p'''
-    if not has("fish"):
-        said = room.run("fish", "-c", f"source {top}/share/fish/vendor_completions.d/mlsign.fish; complete -C 'mlsign keygen --set '", cwd=folder)
-        expect("the completions of fish", [line.split("\t")[0] for line in said.splitlines()], ["44", "65", "87"])
-    if not has("zsh"):
-        room.run("zsh", "-n", top / "share/zsh/site-functions/_mlsign")
-    wanted = ["complete -F _mlsign mlsign", "verify", "--deterministic", "44 65 87", "44.pem 44.pub"]
-    expect("the completions", room.run("bash", "-c", script, cwd=folder).splitlines(), wanted)
-
-
-def in_manual(room):
-    """Each page of the manual is found by its names, and is laid out without a warning."""
-    top = room.unpacked("mldsa-*-x86_64-linux.tar.gz", "manual")
-    if "sign and verify files" not in room.run("man", "-M", top / "share/man", "1", "mlsign"):
-        raise Failed("man mlsign shows no page")
-    for name in ("mldsa65_sign", "mldsa44_hash_verify", "mldsa_mu_finish", "mldsa"):
-        if "#include <mldsa.h>" not in room.run("man", "-M", top / "share/man", "3", name):
-            raise Failed(f"man {name} shows no page")
-    pages = sorted(it for it in (top / "share/man").rglob("*.[13]") if not it.is_symlink())
-    for page in pages:
-        said = room.run("sh", "-c", 'man --warnings -E UTF-8 -l "$1" 2>&1 > /dev/null', "sh", page)
-        expect(f"warnings on {page.name}", said, "")
-    if not has("mandoc"):
-        expect("mandoc", room.run("mandoc", "-T", "lint", "-W", "style", *pages), "")
-
-
-def in_readme(room):
-    """The lines of README under 'Getting it', in the folder of the files, but those that begin with sudo."""
-    page = (TOP / "README.md").read_text(encoding="utf-8").partition("## Getting it\n")[2].partition("\n## ")[0]
-    lines = [line.strip() for line in page.splitlines() if line.startswith("    ")]
-    skipped = {"sudo"} | ({"npm"} if has("npm") or room.node_flags is None else set()) | (set() if shutil.which("cargo") else {"cargo"})
-    run = [line for line in lines if line.split()[0] not in skipped] + ([] if has("man") else ["man -w mlsign mldsa65_sign"])
-    folder = room.path / "in-readme"
-    shutil.copytree(room.dist, folder)
-    said = room.run("sh", "-e", "-c", "\n".join(run), cwd=folder, **room.for_cargo())
-    for wanted in ("\nvalid\n", "\nverified: yes\n", ": OK\n"):
-        if wanted not in said:
-            raise Failed(f"the lines of README do not print {wanted!r}:\n{said}")
-    if "cargo" not in skipped and "fips204" not in (folder / "Cargo.toml").read_text(encoding="utf-8"):
-        raise Failed("cargo add has added nothing")
-    if "npm" not in skipped and not (folder / "node_modules/mldsa/mldsa.wasm").is_file():
-        raise Failed("npm has installed nothing")
-    for line in [line for line in lines if line not in run]:
-        print(f"    not run: {line}")
+def lacks(*tools):
+    return missing(*tools, path="/usr/bin:/bin")
 
 
 def all_paths(folder):
-    return sorted(str(it.relative_to(folder)) for it in folder.rglob("*"))
+    return sorted(str(path.relative_to(folder)) for path in folder.rglob("*"))
 
 
-def in_and_out(room):
-    """The archive is installed and taken out again, and nothing is left; a program finds what is installed."""
-    top = room.unpacked("mldsa-*-x86_64-linux.tar.gz", "install")
-    prefix = room.path / "a new folder/of several" / "levels"
-    room.run(top / "install", "--prefix", prefix)
-    expect("mlsign --version", room.run(prefix / "bin/mlsign", "--version").strip(), room.said_version)
-    missing = {it for it in all_paths(top) if not it.startswith(("install", "README"))} - set(all_paths(prefix))
-    expect("what is not installed", missing, set())
-    room.run(top / "install", "--prefix", prefix)
-    room.run(top / "install", "--prefix", prefix, "--uninstall")
-    expect("what is left", (room.path / "a new folder").exists(), False)
-    # From a checkout with its dist/.
-    checkout = room.path / "checkout"
-    (checkout / "scripts").mkdir(parents=True)
-    shutil.copy(TOP / "scripts/install", checkout / "scripts/install")
-    shutil.copytree(room.dist, checkout / "dist")
-    room.run(checkout / "scripts/install", "--prefix", prefix)
-    expect("what is installed from a checkout", (prefix / "bin/mlsign").is_file(), True)
-    room.run(checkout / "scripts/install", "--prefix", prefix, "--uninstall")
-    expect("what is left", (room.path / "a new folder").exists(), False)
-    # What was there before stays.
-    (prefix / "share/doc").mkdir(parents=True)
-    (prefix / "share/doc/mine").write_text("", encoding="utf-8")
-    room.run(top / "install", f"--prefix={prefix}")
-    room.run(top / "install", f"--prefix={prefix}", "--uninstall")
-    expect("what is left", all_paths(prefix), ["share", "share/doc", "share/doc/mine"])
-    room.run(top / "install", f"--prefix={prefix}", "--uninstall", status=1)
+def wants(*tools, short=True, own=lambda room: []):
+    """Makes a test of a try that wants these tools of the system, and what else of its own; one may be for long runs
+    alone."""
+    def decorated(attempt):
+        @functools.wraps(attempt)
+        def test(self):
+            lacking = lacks(*tools) + own(self.room)
+            if self.room.short and not short:
+                self.skipTest(f"this run is short: {self.shortDescription()}")
+            if lacking:
+                self.skipTest(f"there is no {', '.join(lacking)}: {self.shortDescription()}")
+            attempt(self, self.room)
+        return test
+    return decorated
 
 
-def in_debian(room):
-    """The Debian packages are put into a root of their own, a program is compiled there, and they are taken out again."""
-    root = room.folder("debian")
-    (root / "var/lib/dpkg").mkdir(parents=True)
-    for name in ("status", "available"):
-        (root / f"var/lib/dpkg/{name}").write_text("", encoding="utf-8")
-    for name in ("info", "updates", "triggers"):
-        (root / f"var/lib/dpkg/{name}").mkdir()
-    words = ["dpkg", f"--root={root}", "--force-depends", "--force-not-root", "--force-script-chrootless", f"--log={room.path}/dpkg.log"]
-    path = "/usr/sbin:/usr/bin:/sbin:/bin"
-    packages = sorted(room.dist.glob("*.deb"))
-    before = [it for it in all_paths(root) if not it.startswith("var")]
-    room.run(*words, "--install", *packages, path=path)
-    expect("mlsign --version", room.run(root / "usr/bin/mlsign", "--version").strip(), room.said_version)
-    folder = room.copied(room.folder("in-debian"), "answers.c")
-    library = root / "usr/lib/x86_64-linux-gnu"
-    flags = room.run("pkg-config", "--cflags", "--libs", "mldsa", PKG_CONFIG_PATH=f"{library}/pkgconfig", PKG_CONFIG_SYSROOT_DIR=root).split()
-    flags = flags if f"-I{root}/usr/include" in flags else [f"-I{root}/usr/include", f"-L{library}", "-lmldsa"]
-    room.run("cc", "answers.c", *flags, f"-L{library}", f"-Wl,-rpath,{library}", "-o", "shared", cwd=folder)
-    room.answers(folder / "shared")
-    for page in ("man1/mlsign.1.gz", "man3/mldsa65_verify.3.gz"):
-        if not room.run("man", "-l", root / "usr/share/man" / page).strip():
-            raise Failed(f"{page} is empty")
-    names = [it.name.split("_")[0] for it in packages]
-    room.run(*words, "--purge", *names, path=path)
-    expect("what is left", [it for it in all_paths(root) if not it.startswith("var")], before)
+def wants_cargo(_):
+    return missing("cargo")
 
 
-def in_lintian(room):
-    """lintian has no errors."""
-    # As another user, since lintian advises against root; it reads the packages and nothing else.
-    said = room.run("lintian", "--fail-on", "error", "--allow-root", *sorted(room.dist.glob("*.deb")), HOME=room.home)
-    for line in said.splitlines():
-        print(f"    {line}")
+def wants_node(room):
+    return [] if room.has_node else ["node from version 18"]
 
 
-def in_arm(room):
-    """C for 64-bit ARM, with its compiler, run by qemu."""
-    top = room.unpacked("mldsa-*-aarch64-linux.tar.gz", "arm")
-    folder = room.copied(room.folder("in-arm"), "answers.c")
-    flags = room.run("pkg-config", "--cflags", "--libs", "mldsa", PKG_CONFIG_PATH=f"{top}/lib/pkgconfig").split()
-    room.run("aarch64-linux-gnu-gcc", "-static", "answers.c", *flags, "-o", "static", cwd=folder)
-    room.answers("qemu-aarch64", folder / "static")
+class Tries(unittest.TestCase):
+    room: Room
 
+    @wants("cc", "pkg-config", "readelf")
+    def test_in_c(self, room):
+        """C, static and shared, with pkg-config; the program says which calls it takes from where."""
+        top = room.unpacked("mldsa-*-x86_64-linux.tar.gz", "c")
+        folder = room.copied(room.folder("in-c"), "answers.c")
+        config = {"PKG_CONFIG_PATH": f"{top}/lib/pkgconfig"}
+        flags = room.run("pkg-config", "--cflags", "--libs", "mldsa", **config).split()
+        expect("the version of pkg-config", room.run("pkg-config", "--modversion", "mldsa", **config).strip(),
+               room.version)
+        strict = ["-std=c11", "-Wall", "-Wextra", "-Werror"]
+        room.run("cc", *strict, "answers.c", *flags, f"-Wl,-rpath,{top}/lib", "-o", "shared", cwd=folder)
+        room.run("cc", *strict, "-static", "answers.c", *flags, "-o", "static", cwd=folder)
+        room.run("cc", *strict, "answers.c", f"-I{top}/include", f"{top}/lib/libmldsa.a", "-o", "with-the-archive",
+                 cwd=folder)
+        for name in ("shared", "static", "with-the-archive"):
+            room.answers(folder / name)
+        taken = re.findall(r"\(NEEDED\).*\[(libmldsa.*)\]", room.run("readelf", "-d", folder / "shared"))
+        expect("what the program is linked with", taken, [f"libmldsa.so.{room.abi}"])
+        # A shared library elsewhere, found by the loader's own variable.
+        room.run("cc", "answers.c", *flags, "-o", "moved", cwd=folder)
+        room.answers(folder / "moved", LD_LIBRARY_PATH=f"{top}/lib")
 
-# Each try, the tools of the system that it wants, and whether it belongs to the short half.
-TRIES = (
-    (in_readme, ("cc", "pkg-config", "tar"), True),
-    (in_c, ("cc", "pkg-config", "readelf"), True),
-    (in_cmake, ("cmake", "cc"), True),
-    (in_python, ("python3",), True),
-    (in_rust, (), True),
-    (in_javascript, ("node",), True),
-    (in_terminal, ("bash", "readelf"), True),
-    (in_manual, ("man",), True),
-    (in_and_out, (), True),
-    (in_debian, ("dpkg", "cc", "pkg-config"), True),
-    (in_lintian, ("lintian",), False),
-    (in_arm, ("aarch64-linux-gnu-gcc", "qemu-aarch64", "pkg-config"), True),
-)
+    @wants("cmake", "cc")
+    def test_in_cmake(self, room):
+        """C by CMake: find_package, with the shared and with the static target."""
+        top = room.unpacked("mldsa-*-x86_64-linux.tar.gz", "cmake")
+        folder = room.copied(room.folder("in-cmake"), "answers.c")
+        wanted = (HERE / "CMakeLists.txt").read_text(encoding="utf-8").replace("@VERSION@",
+                                                                               room.version.rpartition(".")[0])
+        (folder / "CMakeLists.txt").write_text(wanted, encoding="utf-8")
+        room.run("cmake", "-S", ".", "-B", "build", f"-DCMAKE_PREFIX_PATH={top}", cwd=folder)
+        room.run("cmake", "--build", "build", cwd=folder)
+        for name in ("default", "shared", "static"):
+            room.answers(folder / f"build/answers_{name}")
+        # Another minor version is not taken for this one.
+        other = "cmake_minimum_required(VERSION 3.13)\nproject(x C)\nfind_package(mldsa 0.1 REQUIRED)\n"
+        (folder / "CMakeLists.txt").write_text(other, encoding="utf-8")
+        room.run("cmake", "-S", ".", "-B", "other", f"-DCMAKE_PREFIX_PATH={top}", cwd=folder, status=1)
 
+    @wants("python3")
+    def test_in_python(self, room):
+        """Python's ctypes with the shared library."""
+        top = room.unpacked("mldsa-*-x86_64-linux.tar.gz", "python")
+        room.copied(room.path, "answers.py")
+        room.answers("python3", room.path / "answers.py", f"{top}/lib/libmldsa.so.{room.abi}")
 
-def node_flags():
-    """What node needs for 64-bit memories, or nothing where there is no node that has them."""
-    done = subprocess.run([TOP / "js/test", "--look"], capture_output=True, text=True, check=False)
-    if done.returncode:
-        return None
-    check = "process.exit(WebAssembly.validate(Buffer.from('0061736d010000000503010400', 'hex')) ? 0 : 1)"
-    return [] if subprocess.run(["node", "-e", check], capture_output=True, check=False).returncode == 0 else ["--experimental-wasm-memory64"]
+    @wants("python3")
+    def test_in_wheel(self, room):
+        """The package for Python, from its wheel."""
+        folder = room.folder("in-wheel")
+        room.run("python3", "-m", "zipfile", "-e", room.only("mldsa-*x86_64.whl"), folder)
+        room.copied(folder, "answers_package.py")
+        room.answers("python3", folder / "answers_package.py", PYTHONPATH=str(folder))
+
+    @wants("cc")
+    def test_in_portable_c(self, room):
+        """Portable C, compiled as its page says."""
+        top = room.unpacked("mldsa-*-c.tar.gz", "portable")
+        folder = room.copied(room.folder("in-portable-c"), "answers.c")
+        room.run("cc", "-std=c99", "-O1", "-c", top / "mldsa.c", f"-I{top}", cwd=folder)
+        room.run("cc", "-std=c11", "answers.c", "mldsa.o", f"-I{top}", "-o", "answers", cwd=folder)
+        room.answers(folder / "answers")
+
+    @wants(own=wants_cargo)
+    def test_in_rust(self, room):
+        """Rust: a program over the packed crate, with cargo and no network."""
+        crate = room.unpacked("*.crate", "rust")
+        name = re.search(r'^name = "(.*)"$', (crate / "Cargo.toml").read_text(encoding="utf-8"), re.M)[1]
+        folder = room.folder("in-rust")
+        (folder / "src").mkdir()
+        (folder / "src/main.rs").write_text((HERE / "main.rs").read_text(encoding="utf-8"), encoding="utf-8")
+        needs = f'fips204 = {{ path = "{crate}", package = "{name}" }}\n'
+        (folder / "Cargo.toml").write_text(MANIFEST.format(name="answers", needs=needs), encoding="utf-8")
+        room.run("cargo", "build", "--quiet", cwd=folder, **room.for_cargo())
+        room.answers(folder / "target/debug/answers")
+
+    @wants("node", own=wants_node)
+    def test_in_javascript(self, room):
+        """JavaScript: the package, installed by npm where it is there, and else unpacked."""
+        folder = room.copied(room.folder("in-javascript"), "answers.mjs")
+        package = room.only("mldsa-*.tgz")
+        if lacks("npm"):
+            (folder / "node_modules").mkdir()
+            room.run("tar", "-xzf", package, "-C", folder / "node_modules")
+            (folder / "node_modules/package").rename(folder / "node_modules/mldsa")
+        else:
+            room.run("npm", "install", "--offline", "--no-audit", "--no-fund", "--loglevel=error", package, cwd=folder)
+        sys.path.insert(0, str(TOP / "js"))
+        room.answers("node", "answers.mjs", cwd=folder)
+
+    @wants("bash", "readelf")
+    def test_in_terminal(self, room):
+        """mlsign signs and verifies a file, and the sums of the release; its page and its completions are found."""
+        top = room.unpacked("mldsa-*-x86_64-linux.tar.gz", "terminal")
+        folder = room.folder("in-terminal")
+        (folder / "notes").write_text("version 1.0\n", encoding="utf-8")
+        mlsign = top / "bin/mlsign"
+        for number in ("44", "65", "87"):
+            key, public = f"{number}.pem", f"{number}.pub"
+            room.run(mlsign, "keygen", "--set", number, "-k", key, "-p", public, cwd=folder)
+            room.run(mlsign, "sign", "-f", "-k", key, "notes", cwd=folder)
+            expect("mlsign verify", room.run(mlsign, "verify", "-p", public, "notes", cwd=folder).splitlines()[0],
+                   "valid")
+        (folder / "notes").write_text("version 1.1\n", encoding="utf-8")
+        room.run(mlsign, "verify", "-p", "87.pub", "notes", cwd=folder, status=1)
+        if (room.dist / "SHA256SUMS.sig").is_file():
+            expect("SHA256SUMS",
+                   room.run(mlsign, "verify", "-p", "release.pub", "SHA256SUMS", cwd=room.dist).splitlines()[0],
+                   "valid")
+        room.run("sha256sum", "--check", "--quiet", "SHA256SUMS", cwd=room.dist)
+        # Without the C library's loader looking at anything beside what every program has.
+        needed = re.findall(r"\(NEEDED\).*\[(.*)\]", room.run("readelf", "-d", mlsign))
+        if set(needed) - {"libc.so.6", "ld-linux-x86-64.so.2"}:
+            raise Failed(f"mlsign wants {needed}")
+        script = f'''. {top}/share/bash-completion/completions/mlsign
+            complete -p mlsign
+            try() {{ COMP_WORDS=("$@"); COMP_CWORD=$(($# - 1)); _mlsign; sorted "${{COMPREPLY[@]}}"; }}
+            sorted() {{ echo $(printf '%s\n' "$@" | sort); }}
+            try mlsign ver; try mlsign sign --det; try mlsign keygen --set ""; try mlsign sign -k 44.p'''
+        if not lacks("fish"):
+            script_of_fish = f"source {top}/share/fish/vendor_completions.d/mlsign.fish; " \
+                             "complete -C 'mlsign keygen --set '"
+            said = room.run("fish", "-c", script_of_fish, cwd=folder)
+            expect("the completions of fish", [line.split("\t")[0] for line in said.splitlines()], ["44", "65", "87"])
+        if not lacks("zsh"):
+            room.run("zsh", "-n", top / "share/zsh/site-functions/_mlsign")
+        wanted = ["complete -F _mlsign mlsign", "verify", "--deterministic", "44 65 87", "44.pem 44.pub"]
+        expect("the completions", room.run("bash", "-c", script, cwd=folder).splitlines(), wanted)
+
+    @wants("man")
+    def test_in_manual(self, room):
+        """Each page of the manual is found by its names, and is laid out without a warning."""
+        top = room.unpacked("mldsa-*-x86_64-linux.tar.gz", "manual")
+        if "sign and verify files" not in room.run("man", "-M", top / "share/man", "1", "mlsign"):
+            raise Failed("man mlsign shows no page")
+        for name in ("mldsa65_sign", "mldsa44_hash_verify", "mldsa_mu_finish", "mldsa"):
+            if "#include <mldsa.h>" not in room.run("man", "-M", top / "share/man", "3", name):
+                raise Failed(f"man {name} shows no page")
+        pages = sorted(page for page in (top / "share/man").rglob("*.[13]") if not page.is_symlink())
+        for page in pages:
+            said = room.run("sh", "-c", 'man --warnings -E UTF-8 -l "$1" 2>&1 > /dev/null', "sh", page)
+            expect(f"warnings on {page.name}", said, "")
+        if not lacks("mandoc"):
+            expect("mandoc", room.run("mandoc", "-T", "lint", "-W", "style", *pages), "")
+
+    @wants("cc", "pkg-config", "tar")
+    def test_in_readme(self, room):
+        """The lines of README under 'Getting it', in the folder of the files, but those that begin with sudo."""
+        page = (TOP / "README.md").read_text(encoding="utf-8").partition("## Getting it\n")[2].partition("\n## ")[0]
+        lines = [line.strip() for line in page.splitlines() if line.startswith("    ")]
+        no_npm = lacks("npm") or not room.has_node
+        skipped = {"sudo", *(["npm"] if no_npm else []), *missing("cargo")}
+        run = [line for line in lines if line.split()[0] not in skipped]
+        run += [] if lacks("man") else ["man -w mlsign mldsa65_sign"]
+        folder = room.path / "in-readme"
+        shutil.copytree(room.dist, folder)
+        said = room.run("sh", "-e", "-c", "\n".join(run), cwd=folder, **room.for_cargo())
+        for wanted in ("\nvalid\n", "\nverified: yes\n", ": OK\n"):
+            if wanted not in said:
+                raise Failed(f"the lines of README do not print {wanted!r}:\n{said}")
+        if "cargo" not in skipped and "fips204" not in (folder / "Cargo.toml").read_text(encoding="utf-8"):
+            raise Failed("cargo add has added nothing")
+        if "npm" not in skipped and not (folder / "node_modules/mldsa/mldsa.wasm").is_file():
+            raise Failed("npm has installed nothing")
+        for line in [line for line in lines if line not in run]:
+            print(f"    not run: {line}")
+
+    @wants()
+    def test_in_and_out(self, room):
+        """The archive is installed and taken out again, and nothing is left; a program finds what is installed."""
+        top = room.unpacked("mldsa-*-x86_64-linux.tar.gz", "install")
+        prefix = room.path / "a new folder/of several" / "levels"
+        room.run(top / "install", "--prefix", prefix)
+        expect("mlsign --version", room.run(prefix / "bin/mlsign", "--version").strip(), room.said_version)
+        made = {path for path in all_paths(top) if not path.startswith(("install", "README"))}
+        expect("what is not installed", made - set(all_paths(prefix)), set())
+        room.run(top / "install", "--prefix", prefix)
+        room.run(top / "install", "--prefix", prefix, "--uninstall")
+        expect("what is left", (room.path / "a new folder").exists(), False)
+        # From a checkout with its dist/.
+        checkout = room.path / "checkout"
+        (checkout / "scripts").mkdir(parents=True)
+        shutil.copy(TOP / "scripts/install", checkout / "scripts/install")
+        shutil.copytree(room.dist, checkout / "dist")
+        room.run(checkout / "scripts/install", "--prefix", prefix)
+        expect("what is installed from a checkout", (prefix / "bin/mlsign").is_file(), True)
+        room.run(checkout / "scripts/install", "--prefix", prefix, "--uninstall")
+        expect("what is left", (room.path / "a new folder").exists(), False)
+        # What was there before stays.
+        (prefix / "share/doc").mkdir(parents=True)
+        (prefix / "share/doc/mine").write_text("", encoding="utf-8")
+        room.run(top / "install", f"--prefix={prefix}")
+        room.run(top / "install", f"--prefix={prefix}", "--uninstall")
+        expect("what is left", all_paths(prefix), ["share", "share/doc", "share/doc/mine"])
+        room.run(top / "install", f"--prefix={prefix}", "--uninstall", status=1)
+
+    @wants("dpkg", "cc", "pkg-config")
+    def test_in_debian(self, room):
+        """The Debian packages go into a root of their own, a program is compiled there, and they go out again."""
+        root = room.folder("debian")
+        (root / "var/lib/dpkg").mkdir(parents=True)
+        for name in ("status", "available"):
+            (root / f"var/lib/dpkg/{name}").write_text("", encoding="utf-8")
+        for name in ("info", "updates", "triggers"):
+            (root / f"var/lib/dpkg/{name}").mkdir()
+        words = ["dpkg", f"--root={root}", "--force-depends", "--force-not-root", "--force-script-chrootless",
+                 f"--log={room.path}/dpkg.log"]
+        path = "/usr/sbin:/usr/bin:/sbin:/bin"
+
+        def own_paths():
+            return [name for name in all_paths(root) if not name.startswith("var")]
+
+        packages = sorted(room.dist.glob("*.deb"))
+        before = own_paths()
+        room.run(*words, "--install", *packages, path=path)
+        expect("mlsign --version", room.run(root / "usr/bin/mlsign", "--version").strip(), room.said_version)
+        folder = room.copied(room.folder("in-debian"), "answers.c")
+        library = root / "usr/lib/x86_64-linux-gnu"
+        flags = room.run("pkg-config", "--cflags", "--libs", "mldsa", PKG_CONFIG_PATH=f"{library}/pkgconfig",
+                         PKG_CONFIG_SYSROOT_DIR=root).split()
+        flags = flags if f"-I{root}/usr/include" in flags else [f"-I{root}/usr/include", f"-L{library}", "-lmldsa"]
+        room.run("cc", "answers.c", *flags, f"-L{library}", f"-Wl,-rpath,{library}", "-o", "shared", cwd=folder)
+        room.answers(folder / "shared")
+        for page in ("man1/mlsign.1.gz", "man3/mldsa65_verify.3.gz"):
+            if not room.run("man", "-l", root / "usr/share/man" / page).strip():
+                raise Failed(f"{page} is empty")
+        names = [package.name.split("_")[0] for package in packages]
+        room.run(*words, "--purge", *names, path=path)
+        expect("what is left", own_paths(), before)
+
+    @wants("lintian", short=False)
+    def test_in_lintian(self, room):
+        """lintian has no errors."""
+        # As another user, since lintian advises against root; it reads the packages and nothing else.
+        said = room.run("lintian", "--fail-on", "error", "--allow-root", *sorted(room.dist.glob("*.deb")),
+                        HOME=room.home)
+        for line in said.splitlines():
+            print(f"    {line}")
+
+    @wants("aarch64-linux-gnu-gcc", "qemu-aarch64", "pkg-config")
+    def test_in_arm(self, room):
+        """C for 64-bit ARM, with its compiler, run by qemu."""
+        top = room.unpacked("mldsa-*-aarch64-linux.tar.gz", "arm")
+        folder = room.copied(room.folder("in-arm"), "answers.c")
+        flags = room.run("pkg-config", "--cflags", "--libs", "mldsa", PKG_CONFIG_PATH=f"{top}/lib/pkgconfig").split()
+        room.run("aarch64-linux-gnu-gcc", "-static", "answers.c", *flags, "-o", "static", cwd=folder)
+        room.answers("qemu-aarch64", folder / "static")
 
 
 def run(facts, dist, said_version, short):
-    """Runs the tries, and gives the status. `said_version` is what `mlsign --version` prints, which a release has compared already."""
-    failed = 0
+    """Runs the tries, and gives the status. `said_version` is what `mlsign --version` prints, which a release has
+    compared already."""
     with tempfile.TemporaryDirectory(prefix="mldsa-try-") as path:
-        room = Room(pathlib.Path(path), dist, facts.version, said_version, short)
-        print(f"tried in {path}, with {' and '.join(room.hidden) + ' hidden' if room.hidden else 'nothing hidden: PATH and HOME alone are fresh'}")
-        for try_, tools, is_short in TRIES:
-            if short and not is_short:
-                continue
-            missing = has(*tools)
-            missing += ["cargo"] if try_ is in_rust and not shutil.which("cargo") else []
-            missing += ["node with 64-bit memories"] if try_ is in_javascript and room.node_flags is None else []
-            if missing:
-                print(f"NOT RUN, since there is no {', '.join(missing)}: {try_.__doc__.splitlines()[0]}")
-                continue
-            start = time.monotonic()
-            try:
-                try_(room)
-                print(f"passed in {time.monotonic() - start:.1f} s: {try_.__doc__.splitlines()[0]}", flush=True)
-            except (Failed, OSError, IndexError, StopIteration, ValueError) as fault:
-                failed += 1
-                print(f"FAILED: {try_.__doc__.splitlines()[0]}\n{type(fault).__name__}: {fault}", flush=True)
+        Tries.room = room = Room(pathlib.Path(path), dist, facts, said_version, short)
+        hidden = " and ".join(room.hidden)
+        what = f"{hidden} hidden" if hidden else "nothing hidden: PATH and HOME alone are fresh"
+        print(f"tried in {path}, with {what}", flush=True)
+        failed = testing.run(Tries)
     print(f"tries: {failed} failed")
     return 1 if failed else 0

@@ -1,10 +1,10 @@
-"""An evaluator of the definitions of specs/: each equation becomes a function of Python, and nothing is known beside the text but the
-library's functions on numbers, lists and options, which stand here by their names.
+"""An evaluator of the definitions of specs/: each equation becomes a function of Python, and nothing is known beside
+the text but the library's functions on numbers, lists and options, which stand here by their names.
 
-Numbers and integers are numbers of Python, lists are tuples, and `map` gives a list whose elements are made when they are asked for; so
-are the fields of records, the parts of pairs and what `let` binds. A proposition that can be decided is a truth value: what it states of
-all numbers is tried at each one below a bound, and a record of facts is true if each of them is. Types and other propositions are passed
-over.
+Numbers and integers are numbers of Python, lists are tuples, and `map` gives a list whose elements are made when they
+are asked for; so are the fields of records, the parts of pairs and what `let` binds. A proposition that can be decided
+is a truth value: what it states of all numbers is tried at each one below a bound, and a record of facts is true if
+each of them is, of the values that they determine. Types and other propositions are passed over.
 """
 import functools
 import hashlib
@@ -13,14 +13,44 @@ import re
 from specs import files
 
 TOKEN = re.compile(r'\s*(?:("[^"]*")|(0x[0-9A-Fa-f]+|\d+)|([^\W\d][\w\']*)|(\.(?=\w)|[+\-*≤<]ℤ|\+\+|&&|\|\||\S))')
-LEVELS = [("→",), ("↔",), ("⊎",), ("×",), ("≡", "≢"), ("||",), ("&&",), ("<", "≤", "<ℤ", "≤ℤ"), ("∷", "++"), ("+", "-", "+ℤ", "-ℤ", "⊕")]
+LEVELS = [
+    ("→",),
+    ("↔",),
+    ("⊎",),
+    ("×",),
+    ("≡", "≢"),
+    ("||",),
+    ("&&",),
+    ("<", "≤", "<ℤ", "≤ℤ"),
+    ("∷", "++"),
+    ("+", "-", "+ℤ", "-ℤ", "⊕"),
+]
 LEVELS += [("*", "/", "%", "*ℤ"), ("^",)]
 RIGHT = {"∷", "++", "^", "&&", "||", "→", "⊎", "×"}
 OPERATOR = {
-    "→": "(not {} or {})", "↔": "({} == {})", "⊎": "({} or {})", "×": "({} and {})", "≢": "(not same({}, {}))",
-    "≡": "same({}, {})", "||": "({} or {})", "&&": "({} and {})", "<": "({} < {})", "≤": "({} <= {})", "<ℤ": "({} < {})", "≤ℤ": "({} <= {})",
-    "∷": "(({},) + listed({}))", "++": "(listed({}) + listed({}))", "+": "({} + {})", "-": "less({}, {})", "+ℤ": "({} + {})",
-    "-ℤ": "({} - {})", "*": "({} * {})", "*ℤ": "({} * {})", "/": "over({}, {})", "%": "modulo({}, {})", "^": "({} ** {})",
+    "→": "(not {} or {})",
+    "↔": "({} == {})",
+    "⊎": "({} or {})",
+    "×": "({} and {})",
+    "≢": "(not same({}, {}))",
+    "≡": "same({}, {})",
+    "||": "({} or {})",
+    "&&": "({} and {})",
+    "<": "({} < {})",
+    "≤": "({} <= {})",
+    "<ℤ": "({} < {})",
+    "≤ℤ": "({} <= {})",
+    "∷": "(({},) + listed({}))",
+    "++": "(listed({}) + listed({}))",
+    "+": "({} + {})",
+    "-": "less({}, {})",
+    "+ℤ": "({} + {})",
+    "-ℤ": "({} - {})",
+    "*": "({} * {})",
+    "*ℤ": "({} * {})",
+    "/": "over({}, {})",
+    "%": "modulo({}, {})",
+    "^": "({} ** {})",
     "⊕": "({} ^ {})",
 }
 
@@ -42,8 +72,8 @@ def tokens(text):
 
 
 class Parser:
-    """A parser of terms: trees of tuples, whose first part is `number`, `text`, `name`, `apply`, `binary`, `if`, `let`, `lambda`, `all`,
-    `record`, `pair`, `field` or `list`."""
+    """A parser of terms: trees of tuples, whose first part is `number`, `text`, `name`, `apply`, `binary`, `if`, `let`,
+    `lambda`, `all`, `record`, `pair`, `field` or `list`."""
 
     def __init__(self, text):
         self.tokens, self.place = tokens(text), 0
@@ -100,7 +130,11 @@ class Parser:
     def quantified(self):
         """Whether names with their type stand here, as `(i j : ℕ)`."""
         ahead = 1
-        while self.peek() == "(" and self.place + ahead < len(self.tokens) and self.tokens[self.place + ahead][0] == "name":
+        while (
+            self.peek() == "("
+            and self.place + ahead < len(self.tokens)
+            and self.tokens[self.place + ahead][0] == "name"
+        ):
             ahead += 1
         return ahead > 1 and self.peek(ahead) == ":"
 
@@ -139,7 +173,11 @@ class Parser:
         while True:
             if self.peek() == "{":
                 self.skipped()
-            elif self.kind() in ("number", "text") or self.peek() in ("(", "[") or (self.kind() == "name" and self.peek() not in ("in", "then", "else")):
+            elif (
+                self.kind() in ("number", "text")
+                or self.peek() in ("(", "[")
+                or (self.kind() == "name" and self.peek() not in ("in", "then", "else"))
+            ):
                 arguments.append(self.atom())
             elif self.peek() == "λ":
                 arguments.append(self.function())
@@ -148,6 +186,7 @@ class Parser:
 
     def atom(self):
         kind, word = self.kind(), self.take()
+        tree: tuple
         if kind == "number":
             tree = ("number", int(word, 0))
         elif kind == "text":
@@ -181,7 +220,13 @@ class Parser:
             tree = parts[0] if len(parts) == 1 else ("pair", parts)
         else:
             raise Unparsed(word)
-        while self.peek() == "." and self.tokens[self.place][0] == "sign" and self.place + 1 < len(self.tokens) and self.tokens[self.place + 1][2] == self.tokens[self.place][2] + 1 and self.tokens[self.place][2] == self.end(self.place - 1):
+        while (
+            self.peek() == "."
+            and self.tokens[self.place][0] == "sign"
+            and self.place + 1 < len(self.tokens)
+            and self.tokens[self.place + 1][2] == self.tokens[self.place][2] + 1
+            and self.tokens[self.place][2] == self.end(self.place - 1)
+        ):
             self.take()
             tree = ("field", tree, self.take())
         return tree
@@ -434,38 +479,168 @@ LIBRARY = {
 }
 CONSTANTS = {"zero": 0, "true": True, "false": False, "⊥": False, "w16": 2, "w32": 4, "w64": 8, "None": NOTHING}
 CONSTRUCTORS = {"Some": 1, "Ok": 1, "Err": 1, "None": 0}
-FAULTS = ("KeyGenRng", "SignCtx", "SignRng", "HashCtx", "OidEmpty", "OidNotDer", "DigestTooLong", "DigestLength", "HashRng", "InternalRng", "TooManyAttempts", "KeyRange", "SamplingLimit")
+# Arguments of definitions that are computed when they are asked for, since where they are not, they need not have a
+# value that computes.
+LATER = {"refused_or": {1}}
+FAULTS = (
+    "KeyGenRng",
+    "SignCtx",
+    "SignRng",
+    "HashCtx",
+    "OidEmpty",
+    "OidNotDer",
+    "DigestTooLong",
+    "DigestLength",
+    "HashRng",
+    "InternalRng",
+    "TooManyAttempts",
+    "KeyRange",
+    "SamplingLimit",
+)
 CONSTRUCTORS.update({name: 0 for name in FAULTS})
 
 
 # ---- From definitions to functions
 
 
-def facts(definition):
-    """A record of facts as one equation: its parameters, and the conjunction of its fields."""
+def fields(definition):
+    """The parameters of a record of facts, and its fields as names and trees."""
     head, *lines = definition.text.split("\n  pub ")
-    trees = []
+    found = []
     for line in lines:
-        parser = Parser(line.split(" : ", 1)[1])
-        trees.append(parser.term())
+        name, _, text = line.partition(" : ")
+        parser = Parser(text)
+        found.append((name, parser.term()))
         if parser.peek():
             raise Unparsed(parser.peek())
+    return [name for names in re.findall(r"\(([\w' ]+) : ", head) for name in names.split()], found
+
+
+def facts(definition):
+    """A record of facts as one equation: its parameters, and the conjunction of its fields."""
+    parameters, found = fields(definition)
+    trees = [tree for _, tree in found]
     whole = trees.pop()
     while trees:
         whole = ("binary", "×", trees.pop(), whole)
-    parameters = [name for names in re.findall(r"\(([\w' ]+) : ", head) for name in names.split()]
     return [([("name", name) for name in parameters], whole)]
 
 
+def names_in(tree):
+    """Every name in a tree."""
+    if isinstance(tree, tuple) and len(tree) == 2 and tree[0] == "name":
+        return {tree[1]}
+    return {name for part in tree if isinstance(part, (tuple, list)) for name in names_in(part)}
+
+
+class Existence:
+    """A record of facts that states that values exist, as `z` and `h` of a signature: it holds if there are such
+    values. They are found from the facts that determine them: `x ≡ ..`, `.. ≡ Some x`, and other records; where a
+    record reads bytes (`readers`), the one candidate is what was read, and each fact is then asked of it."""
+
+    def __init__(self, program, name, parameters, found):
+        self.program, self.name, self.parameters, self.code = program, name, parameters, {}
+        self.values = [
+            name
+            for place, (name, _) in enumerate(found)
+            if any(name in names_in(tree) for _, tree in found[place + 1 :])
+        ]
+        self.facts = [tree for name, tree in found if name not in self.values]
+        self.uses = [names_in(tree) for tree in self.facts]
+
+    def is_determined(self):
+        """Whether each value stands in a fact that may determine it: an equation, or another record."""
+        determined = set()
+        for tree in self.facts:
+            if tree[0] == "apply":
+                determined |= {part[1] for part in tree[2] if part[0] == "name"}
+            elif tree[:2] == ("binary", "≡"):
+                for side in tree[2:]:
+                    part = side[2][0] if side[0] == "apply" and side[1] == ("name", "Some") else side
+                    determined |= {part[1]} if part[0] == "name" else set()
+        return determined.issuperset(self.values)
+
+    def truth(self, tree, known):
+        """The value of a tree whose names are known."""
+        names = list(known)
+        function = self.code.get((id(tree), *names))
+        if function is None:
+            arguments = ", ".join(f"v_{clean(name)}" for name in names)
+            source = f"lambda {arguments}: {self.program.code(tree, dict.fromkeys(names, False))}"
+            function = self.code[(id(tree), *names)] = eval(source, self.program.space)
+        return now(function(*(known[name] for name in names)))
+
+    def solved(self, known):
+        """The parameters and values by their names, where the facts hold, given some of the parameters; None where
+        there are no such values."""
+        unknown = {*self.parameters, *self.values} - {*known}
+        waiting = list(range(len(self.facts)))
+        while waiting:
+            left = []
+            for place in waiting:
+                open_names = self.uses[place] & unknown
+                bound = (
+                    self.bound(self.facts[place], known, open_names)
+                    if open_names
+                    else {}
+                    if self.truth(self.facts[place], known)
+                    else None
+                )
+                if bound is None:
+                    return None
+                if open_names and not bound:
+                    left.append(place)
+                known = {**known, **bound}
+                unknown -= {*bound}
+            if left == waiting:
+                raise Unparsed(f"the facts do not determine {', '.join(sorted(unknown))}")
+            waiting = left
+        return known
+
+    def read(self, given):
+        """The same where bytes are given, and the parameters that they spell are to be read of them."""
+        if self.name not in self.program.readers:
+            return self.solved(given)
+        given = {**given, **self.program.readers[self.name](self.program, given)}
+        return given if self.program.value(self.name, *(given[name] for name in self.parameters)) else None
+
+    def bound(self, tree, known, unknown):
+        """The unknown names that a fact determines, with their values; None where it can't hold, and nothing where it
+        determines none."""
+        if tree[0] == "apply" and tree[1][0] == "name" and tree[1][1] in self.program.exist:
+            other = self.program.exist[tree[1][1]]
+            plain = dict(zip(other.parameters, tree[2]))
+            if not all(it[0] == "name" for it in plain.values() if names_in(it) & unknown):
+                return {}
+            given = {name: self.truth(it, known) for name, it in plain.items() if not names_in(it) & unknown}
+            found = other.read(given)
+            return found and {it[1]: found[name] for name, it in plain.items() if it[0] == "name" and it[1] in unknown}
+        if tree[0] == "binary" and tree[1] == "≡":
+            for one, side in ((tree[2], tree[3]), (tree[3], tree[2])):
+                if names_in(side) & unknown:
+                    continue
+                if one[0] == "name":
+                    return {one[1]: self.truth(side, known)}
+                if one[0] == "apply" and one[1] == ("name", "Some") and one[2][0][0] == "name":
+                    value = self.truth(side, known)
+                    return {one[2][0][1]: value.parts[0]} if value.name == "Some" else None
+        return {}
+
+
 def clauses(definition):
-    """The equations of a definition: the trees of their patterns and of their right sides; none where it states a type."""
+    """The equations of a definition: the trees of their patterns and of their right sides; none where it states a
+    type."""
     if definition.kind == "record":
         return facts(definition)
     if definition.kind:
         return []
     found, here = [], None
     for line in definition.lines[0:]:
-        if line.startswith(definition.name + " ") and " = " in line + " " and not line.startswith(definition.name + " :"):
+        if (
+            line.startswith(definition.name + " ")
+            and " = " in line + " "
+            and not line.startswith(definition.name + " :")
+        ):
             here = [line]
             found.append(here)
         elif here is not None:
@@ -495,7 +670,12 @@ class Program:
         self.space = dict(globals())
         self.arity, self.trees, self.made = {}, {}, dict(CONSTRUCTORS)
         # functions from numbers to numbers, whose values are kept
-        self.numeric = {definition.name for file in all_files for definition in file.definitions if definition.lines[0].endswith(f"{definition.name} : ℕ → ℕ")}
+        self.numeric = {
+            definition.name
+            for file in all_files
+            for definition in file.definitions
+            if definition.lines[0].endswith(f"{definition.name} : ℕ → ℕ")
+        }
         for name, (arity, code) in LIBRARY.items():
             self.arity[name] = arity
             self.space[mangled(name)] = code
@@ -504,7 +684,9 @@ class Program:
                 if definition.kind == "data":
                     for line in definition.lines[1:]:
                         names, _, kind = line.partition(" : ")
-                        arrows = sum(len(part.split(" :")[0].split()) for part in re.findall(r"\(([^()]*:[^()]*)\)", kind)) or kind.count("→")
+                        arrows = sum(
+                            len(part.split(" :")[0].split()) for part in re.findall(r"\(([^()]*:[^()]*)\)", kind)
+                        ) or kind.count("→")
                         self.made[names.strip()] = arrows
         for file in all_files:
             for definition in file.definitions:
@@ -515,6 +697,19 @@ class Program:
                 if trees:
                     self.trees[definition.name] = trees
                     self.arity[definition.name] = len(trees[0][0])
+        # Records that state that values exist, and what reads the values of some from bytes.
+        self.exist, self.readers = {}, {}
+        for file in all_files:
+            for definition in file.definitions:
+                if definition.kind == "record" and definition.name in self.trees:
+                    record = Existence(self, definition.name, *fields(definition))
+                    if record.is_determined():
+                        self.exist[definition.name] = record
+                    if record.is_determined() and record.values:
+                        del self.trees[definition.name]
+                        self.space[mangled(definition.name)] = (
+                            lambda *given, record=record: record.solved(dict(zip(record.parameters, given))) is not None
+                        )
         known = None
         while known != len(self.trees):
             known = len(self.trees)
@@ -546,7 +741,8 @@ class Program:
             tests, binds = [], []
             for argument, pattern in zip(arguments, patterns):
                 self.match(argument, pattern, tests, binds)
-            scope = {name: False for name, _ in binds}
+            late = {patterns[place] for place in LATER.get(name, ())}
+            scope = {bound: ("name", bound) in late for bound, _ in binds}
             values = "".join(f"; v_{clean(bound)} = {value}" for bound, value in binds)
             lines.append(f"    if {' and '.join(tests) or 'True'}: pass{values}; return {self.code(tree, scope)}")
         lines.append("    raise TypeError('no equation')")
@@ -603,10 +799,13 @@ class Program:
         if kind == "if":
             return f"({self.code(tree[2], scope)} if {self.code(tree[1], scope)} else {self.code(tree[3], scope)})"
         if kind == "let":
-            return f"(lambda v_{clean(tree[1])}: {self.code(tree[3], {**scope, tree[1]: True})})({self.later(tree[2], scope)})"
+            inside = self.code(tree[3], {**scope, tree[1]: True})
+            return f"(lambda v_{clean(tree[1])}: {inside})({self.later(tree[2], scope)})"
         if kind == "lambda":
             inside = {**scope, **{name: False for name in tree[1]}}
-            names = ", ".join(f"v_{clean(name)}" if name != "_" else f"unused{place}" for place, name in enumerate(tree[1]))
+            names = ", ".join(
+                f"v_{clean(name)}" if name != "_" else f"unused{place}" for place, name in enumerate(tree[1])
+            )
             return f"Function(lambda {names}: {self.code(tree[2], inside)}, {len(tree[1])})"
         if kind == "all":
             return self.every(tree, scope)
@@ -622,7 +821,11 @@ class Program:
         if kind == "name":
             return self.name(tree[1], scope)
         head, arguments = tree[1], tree[2]
-        given = [self.code(argument, scope) for argument in arguments]
+        late = LATER.get(head[1], ()) if head[0] == "name" and head[1] not in scope else ()
+        given = [
+            self.later(argument, scope) if place in late else self.code(argument, scope)
+            for place, argument in enumerate(arguments)
+        ]
         if head[0] == "name" and head[1] not in scope:
             word = head[1]
             if word in self.made and self.made[word] == len(given):
@@ -636,7 +839,8 @@ class Program:
         return f"ap({self.code(head, scope)}, {', '.join(given)})"
 
     def every(self, tree, scope):
-        """The code of a proposition on all numbers below bounds. Of an open type V one value is tried: it is what a list gives past its end."""
+        """The code of a proposition on all numbers below bounds. Of an open type V one value is tried: it is what a
+        list gives past its end."""
         kinds, premises, loops, inside = {}, [], "", dict(scope)
         while tree[0] == "all" or tree[:2] == ("binary", "→"):
             if tree[0] == "all":
@@ -645,10 +849,19 @@ class Program:
                 premises.append(tree[2])
             tree = tree[3]
         for name, kind in kinds.items():
-            bound = next((premise for premise in premises if premise[0] == "binary" and premise[1] in ("<", "≤") and premise[2] == ("name", name)), None)
+            bound = next(
+                (
+                    premise
+                    for premise in premises
+                    if premise[0] == "binary" and premise[1] in ("<", "≤") and premise[2] == ("name", name)
+                ),
+                None,
+            )
             if kind == "ℕ" and bound:
                 premises.remove(bound)
-                loops += f" for v_{clean(name)} in range({self.code(bound[3], inside)}{' + 1' if bound[1] == '≤' else ''})"
+                loops += (
+                    f" for v_{clean(name)} in range({self.code(bound[3], inside)}{' + 1' if bound[1] == '≤' else ''})"
+                )
             elif re.fullmatch(r"(List )*V", kind):
                 loops += f" for v_{clean(name)} in ((),)"
             else:
@@ -665,11 +878,19 @@ class Program:
         if word in self.made:
             arity = self.made[word]
             names = ", ".join(f"x{place}" for place in range(arity))
-            return f"Function(lambda {names}: Made({word!r}, ({names},)), {arity}, (), {word!r})" if arity else f"Made({word!r}, ())"
+            return (
+                f"Function(lambda {names}: Made({word!r}, ({names},)), {arity}, (), {word!r})"
+                if arity
+                else f"Made({word!r}, ())"
+            )
         if word in self.arity:
             arity = self.arity[word]
             names = ", ".join(f"x{place}" for place in range(arity))
-            return f"Function(lambda {names}: {mangled(word)}({names}), {arity}, (), {word!r})" if arity else f"{mangled(word)}()"
+            return (
+                f"Function(lambda {names}: {mangled(word)}({names}), {arity}, (), {word!r})"
+                if arity
+                else f"{mangled(word)}()"
+            )
         raise Unparsed(word)
 
     def value(self, name, *arguments):

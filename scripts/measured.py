@@ -1,13 +1,20 @@
-"""The code that measured tables measure: a sum over the library's lines, so that a table can say which it was."""
+"""Measured tables: where they stand, and the code that they measure, as a sum over the library's lines by which a table
+can say which it was."""
+import datetime
 import hashlib
 import io
+import os
 import pathlib
+import re
 import subprocess
 import tarfile
+import tempfile
 
-TOP = pathlib.Path(__file__).resolve().parent.parent
+from common import TOP, archives, command, text
+
 # What a call from C, Rust or JavaScript runs.
 CRATES = ("fips204_base", "fips204", "fips204_bytes", "shake", "fips204_shake", "mldsa_c")
+TABLE = "bench/table.md"
 
 
 def summed(files):
@@ -21,8 +28,8 @@ def summed(files):
 
 def code():
     """The sum of the code as it is."""
-    files = [it for crate in CRATES for it in (TOP / "crates" / crate / "src").rglob("*.rt")]
-    return summed((str(it.relative_to(TOP)), it.read_bytes()) for it in files)
+    files = [file for crate in CRATES for file in (TOP / "crates" / crate / "src").rglob("*.rt")]
+    return summed((str(file.relative_to(TOP)), file.read_bytes()) for file in files)
 
 
 def code_of(commit):
@@ -34,5 +41,43 @@ def code_of(commit):
         return None
     if done.returncode:
         return None
-    with tarfile.open(fileobj=io.BytesIO(done.stdout)) as it:
-        return summed((member.name, it.extractfile(member).read()) for member in it if member.name.endswith(".rt"))
+    with tarfile.open(fileobj=io.BytesIO(done.stdout)) as archive:
+        files = [member for member in archive if member.name.endswith(".rt")]
+        return summed((member.name, archive.extractfile(member).read()) for member in files)
+
+
+def stamp():
+    """The day, the commit and the code that is measured."""
+    commit = command("git", "-C", TOP, "rev-parse", "--short=8", "HEAD").strip()
+    return f"{datetime.date.today()}, commit {commit}, code {code()}"
+
+
+def processor():
+    """The kind of this machine's processor."""
+    found = re.search(r"^model name\s*: (.*)$", pathlib.Path("/proc/cpuinfo").read_text(encoding="utf-8"), re.M)
+    return found[1] if found else os.uname().machine
+
+
+def load():
+    return f"{os.getloadavg()[0]:.1f}"
+
+
+def put_section(heading, body, behind):
+    """Puts a section into bench/table.md: in the place of the one of that heading, or else behind the last one whose
+    heading begins so."""
+    parts = re.split(r"(?m)^(?=## )", text(TABLE))
+    made = f"{heading}\n\n{body.rstrip()}\n\n"
+    places = [place for place, part in enumerate(parts) if part.startswith(f"{heading}\n")]
+    if places:
+        parts[places[0]] = made
+    else:
+        parts.insert(max(place for place, part in enumerate(parts) if part.startswith(behind)) + 1, made)
+    (TOP / TABLE).write_text("".join(parts).rstrip("\n") + "\n", encoding="utf-8")
+
+
+def times_in_c(source):
+    """What a program in C prints of times, over the library with the code of both levels: the fields of each line."""
+    archive, = archives("x86-64")
+    with tempfile.TemporaryDirectory() as room:
+        command("gcc", "-std=gnu11", "-O2", f"-I{TOP}/c", f"-I{TOP}/c/tests", source, archive, "-o", f"{room}/times")
+        return [line.split() for line in command(f"{room}/times").splitlines()]

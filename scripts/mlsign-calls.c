@@ -1,12 +1,13 @@
-// Stands before the C library of a program, for scripts/mlsign-program: counts the program's calls of the system, and refuses or
-// interrupts one. Of the environment:
+// Stands before the C library of a program, for scripts/mlsign-program and scripts/mlsign-edges: counts the program's calls of the
+// system, and refuses or interrupts one. Of the environment:
 //
 //     STATED_BYTES    getentropy gives the bytes 0, 1, 2 .. where 32 are wanted
 //     CALLS           a file that gets the name of each call, a line each
+//     NAMED_CALLS     a file that gets each call that changes or syncs something, with the files that it names
 //     REFUSED_CALL    which call is refused, from 1 on
 //     REFUSED_ERROR   the error that it gives
 //     REFUSED_ON      also every later call that changes a file or a folder is refused
-//     REFUSED_SIGNAL  the call raises this signal in place of giving an error
+//     REFUSED_SIGNAL  the call raises this signal in place of giving an error, and is made after it
 //     RACED           a file that another program makes just before this one gives its name to another
 #define _GNU_SOURCE
 #include <dirent.h>
@@ -15,14 +16,27 @@
 #include <fcntl.h>
 #include <signal.h>
 #include <stdarg.h>
+#include <stdio.h>
 #include <stdlib.h>
 #include <string.h>
+#include <sys/file.h>
 #include <sys/stat.h>
 #include <sys/syscall.h>
 #include <sys/types.h>
 #include <unistd.h>
 
 static long count;
+
+static void noted(const char *name, const char *first, const char *second) {
+    const char *calls = getenv("NAMED_CALLS");
+    if (!calls)
+        return;
+    char line[9000];
+    int size = snprintf(line, sizeof line, "%s\t%s\t%s\n", name, first, second);
+    int fd = syscall(SYS_openat, AT_FDCWD, calls, O_WRONLY | O_CREAT | O_APPEND, 0600);
+    syscall(SYS_write, fd, line, size);
+    syscall(SYS_close, fd);
+}
 
 static int refused(const char *name, int changes) {
     const char *calls = getenv("CALLS"), *which = getenv("REFUSED_CALL"), *number = getenv("REFUSED_SIGNAL");
@@ -38,6 +52,7 @@ static int refused(const char *name, int changes) {
     if (number) {
         signal(atoi(number), SIG_DFL);
         raise(atoi(number));
+        return 0;
     }
     errno = atoi(getenv("REFUSED_ERROR"));
     return 1;
@@ -49,6 +64,8 @@ static int opened(int folder, const char *path, int flags, va_list rest) {
     int mode = flags & O_CREAT ? va_arg(rest, int) : 0;
     if (refused(flags & O_CREAT ? "create" : "open", flags & O_CREAT))
         return -1;
+    if (flags & O_CREAT)
+        noted("create", path, "");
     return syscall(SYS_openat, folder, path, flags, mode);
 }
 
@@ -75,7 +92,16 @@ ssize_t write(int fd, const void *bytes, size_t size) {
     return fd != 2 && refused("write", 1) ? -1 : syscall(SYS_write, fd, bytes, size);
 }
 
-int fsync(int fd) { return refused("fsync", 1) ? -1 : syscall(SYS_fsync, fd); }
+int fsync(int fd) {
+    char link[64], path[4096];
+    snprintf(link, sizeof link, "/proc/self/fd/%d", fd);
+    ssize_t size = syscall(SYS_readlinkat, AT_FDCWD, link, path, sizeof path - 1);
+    path[size < 0 ? 0 : size] = 0;
+    noted("fsync", path, "");
+    return refused("fsync", 1) ? -1 : syscall(SYS_fsync, fd);
+}
+
+int flock(int fd, int how) { return refused("flock", 0) ? -1 : syscall(SYS_flock, fd, how); }
 
 static void race(const char *path) {
     const char *raced = getenv("RACED");
@@ -85,15 +111,20 @@ static void race(const char *path) {
 
 int link(const char *from, const char *to) {
     race(to);
+    noted("link", from, to);
     return refused("link", 1) ? -1 : REAL(link)(from, to);
 }
 
 int rename(const char *from, const char *to) {
     race(to);
+    noted("rename", from, to);
     return refused("rename", 1) ? -1 : REAL(rename)(from, to);
 }
 
-int unlink(const char *path) { return refused("unlink", 1) ? -1 : REAL(unlink)(path); }
+int unlink(const char *path) {
+    noted("unlink", path, "");
+    return refused("unlink", 1) ? -1 : REAL(unlink)(path);
+}
 
 char *realpath(const char *path, char *room) { return refused("realpath", 0) ? NULL : REAL(realpath)(path, room); }
 

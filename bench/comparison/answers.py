@@ -14,8 +14,9 @@ COLUMNS = ["set", "command", "cases", "equal", "done or `yes`", "`no`", "refusal
 
 
 def by_a_limit(case, ours, rust):
-    """Whether a limit on sampling decides, which the Rust hasn't: under constant bytes FF, where each sampler refuses every
-    byte, ours refuses by name, or accepts nothing, while the Rust has no answer, or needs no sampling for its own."""
+    """Whether a limit on sampling decides, which the Rust hasn't: under constant bytes FF, where each sampler refuses
+    every byte, ours refuses by name, or accepts nothing, while the Rust has no answer, or needs no sampling for its
+    own."""
     if case.words[0] != "fillff" or ours is None or ours[2]:
         return False
     if ours[:2] == (1, b"sampling limit reached\n"):
@@ -41,9 +42,10 @@ def shown(answer):
 def report(case, ours, rust):
     """Prints a case that differs, with its input as a file and both answers."""
     handle, path = tempfile.mkstemp(prefix="different-")
-    with os.fdopen(handle, "wb") as it:
-        it.write(case.data)
-    print(f"DIFFERENT: {' '.join(map(str, case.words))}, {'from a pipe' if case.piped else 'from a file'}, input in {path}")
+    with os.fdopen(handle, "wb") as file:
+        file.write(case.data)
+    origin = "from a pipe" if case.piped else "from a file"
+    print(f"DIFFERENT: {' '.join(map(str, case.words))}, {origin}, input in {path}")
     print(f"  ours: {shown(ours)}\n  Rust: {shown(rust)}", flush=True)
 
 

@@ -1,13 +1,15 @@
 """Lays the Rust crate out, builds both programs, and runs them."""
 import hashlib
 import os
+import pathlib
 import re
 import shutil
 import subprocess
 import sys
 import tempfile
 
-TOP = os.path.dirname(os.path.dirname(os.path.dirname(os.path.abspath(__file__))))
+from common import TOP, command, missing as missing_tools
+
 OURS = f"{TOP}/crates/mldsa/out/mldsa"
 REGISTRY = "/usr/share/cargo/registry"
 
@@ -26,27 +28,30 @@ SOURCES = {
 }
 
 
+def missing_crates(*names):
+    """Debian's packages of those of these crates that are not there."""
+    crates = os.listdir(REGISTRY) if os.path.isdir(REGISTRY) else []
+    return [f"librust-{name.replace('_', '-')}-dev" for name in names
+            if not any(crate.startswith(f"{name}-") for crate in crates)]
+
+
 def missing():
     """Gives the names of what has to be installed first."""
-    crates = os.listdir(REGISTRY) if os.path.isdir(REGISTRY) else []
-    names = [tool for tool in ("cargo", "rustc", "valgrind") if not shutil.which(tool)]
+    names = missing_tools("cargo", "rustc", "valgrind")
     names += ["time (GNU time as /usr/bin/time)"] if not os.access("/usr/bin/time", os.X_OK) else []
-    for crate in ("sha2", "rand_core", "zeroize", "zeroize_derive"):
-        if not any(it.startswith(f"{crate}-") for it in crates):
-            names.append(f"librust-{crate.replace('_', '-')}-dev")
-    return names
+    return names + missing_crates("sha2", "rand_core", "zeroize", "zeroize_derive")
 
 
 TEST_MODULE = re.compile(r"^( *)#\[cfg\(test\)\]\n\1mod tests \{\n.*?^\1\}\n", re.M | re.S)
 
 
 def source(folder, name):
-    """A file of the crate's sources: its code, which is what it was, and its module of tests or None where it has none."""
+    """A file of the crate's sources: its code, which is what it was, and its module of tests or None where it has
+    none."""
     path = f"{folder}/src/{name}"
     if not os.path.isfile(path):
         sys.exit(f"there is no src/{name} in {folder}")
-    with open(path, encoding="utf-8", newline="") as it:
-        text = it.read()
+    text = pathlib.Path(path).read_bytes().decode()
     found = TEST_MODULE.search(text)
     before, tests, after = (text[: found.start()], found[0], text[found.end() :]) if found else (text, None, "")
     # The empty lines between the code and its tests may go with the tests.
@@ -66,8 +71,7 @@ def lay_out_sources(folder, crate):
         text, target = source(folder, name)[0].encode(), f"{crate}/src/{name}"
         # A file that is there already keeps its time, so that nothing is built anew for it.
         if not os.path.isfile(target) or open(target, "rb").read() != text:
-            with open(target, "wb") as it:
-                it.write(text)
+            pathlib.Path(target).write_bytes(text)
 
 
 def lay_out(folder, room):
@@ -82,29 +86,25 @@ def built(folder, room, program):
     if names:
         sys.exit(f"missing: {', '.join(names)}")
     lay_out(folder, room)
-    done = subprocess.run(["cargo", "build", "--release", "--offline"], cwd=f"{room}/rust", capture_output=True, text=True, check=False)
-    if done.returncode:
-        sys.exit(f"cargo build failed:\n{done.stderr}")
+    command("cargo", "build", "--release", "--offline", cwd=f"{room}/rust")
     if program is None:
-        with open(f"{TOP}/examples/check-44", encoding="ascii") as it:
-            done = subprocess.run(["rt", "run", "--", "sha2", "check", "44"], cwd=f"{TOP}/crates/mldsa", stdin=it, capture_output=True, text=True, check=False)
-        if done.returncode:
-            sys.exit(f"rt run failed in crates/mldsa:\n{done.stdout}{done.stderr}")
+        with open(TOP / "examples/check-44", encoding="ascii") as file:
+            command("rt", "run", "--", "sha2", "check", "44", cwd=TOP / "crates/mldsa", stdin=file)
     return program or OURS, f"{room}/rust/target/release/driver"
 
 
-def run(command, data, piped, seconds):
+def run(words, data, piped, seconds):
     """Runs a command on these bytes, from a pipe or a file: its status and what it writes to both its outputs, or None
     where it has no answer in time."""
     try:
         if piped:
-            done = subprocess.run(command, input=data, capture_output=True, timeout=seconds, check=False)
+            done = subprocess.run(words, input=data, capture_output=True, timeout=seconds, check=False)
         else:
-            with tempfile.TemporaryFile() as it:
-                it.write(data)
-                it.flush()
-                it.seek(0)
-                done = subprocess.run(command, stdin=it, capture_output=True, timeout=seconds, check=False)
+            with tempfile.TemporaryFile() as file:
+                file.write(data)
+                file.flush()
+                file.seek(0)
+                done = subprocess.run(words, stdin=file, capture_output=True, timeout=seconds, check=False)
     except subprocess.TimeoutExpired:
         return None
     return done.returncode, done.stdout, done.stderr

@@ -1,11 +1,9 @@
 """The calls of our static library, and inputs for them."""
 import ctypes
 import os
-import shutil
-import subprocess
-import sys
 
-TOP = os.path.dirname(os.path.dirname(os.path.dirname(os.path.abspath(__file__))))
+from common import TOP, command, missing as missing_tools
+
 CRATE = f"{TOP}/crates/mldsa_c"
 # Bytes of a public key, a private key and a signature (FIPS 204, Table 2).
 LENGTHS = {"44": (1312, 2560, 2420), "65": (1952, 4032, 3309), "87": (2592, 4896, 4627)}
@@ -15,9 +13,9 @@ DONE, NO = 0, 1
 def missing(library):
     """Says what has to be installed for the library, and how."""
     names = []
-    if not (library or "").endswith(".so") and not shutil.which("cc"):
+    if not (library or "").endswith(".so") and missing_tools("cc"):
         names.append("a C compiler, to link the archive: apt-get install gcc")
-    if library is None and not shutil.which("rt"):
+    if library is None and missing_tools("rt"):
         names.append("rt, of the Rattle kit, or a library named by --library")
     if library is None and not os.path.isdir(CRATE):
         names.append("crates/mldsa_c, or a library named by --library")
@@ -27,16 +25,11 @@ def missing(library):
 def loaded(library, room):
     """The library, linked as a shared one if it is an archive. Without a name it is built."""
     if library is None:
-        done = subprocess.run(["rt", "lib"], cwd=CRATE, capture_output=True, text=True, check=False)
-        if done.returncode:
-            sys.exit(f"rt lib failed in crates/mldsa_c:\n{done.stdout}{done.stderr}")
+        command("rt", "lib", cwd=CRATE)
         library = f"{CRATE}/out/libmldsa_c.a"
     if library.endswith(".a"):
         shared = f"{room}/libmldsa_c.so"
-        done = subprocess.run(["cc", "-shared", "-o", shared, "-Wl,--whole-archive", library, "-Wl,--no-whole-archive"],
-                              capture_output=True, text=True, check=False)
-        if done.returncode:
-            sys.exit(f"linking failed:\n{done.stderr}")
+        command("cc", "-shared", "-o", shared, "-Wl,--whole-archive", library, "-Wl,--no-whole-archive")
         library = shared
     return ctypes.CDLL(os.path.abspath(library))
 
@@ -81,4 +74,5 @@ def changed(draw, text):
 def inputs(draw):
     """A seed, random bytes, a context and a message."""
     drawn = draw.choice([bytes(32), draw.randbytes(32)])
-    return draw.randbytes(32), drawn, draw.randbytes(draw.choice([0, 1, 7, 254, 255])), draw.randbytes(draw.randrange(400))
+    return draw.randbytes(32), drawn, draw.randbytes(draw.choice([0, 1, 7, 254,
+                                                                  255])), draw.randbytes(draw.randrange(400))

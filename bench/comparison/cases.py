@@ -135,7 +135,8 @@ def damaged_hint(signature, rng, parameters):
 
 
 def damaged(signature, rng, parameters):
-    """A signature with a bit changed anywhere, in c_tilde, or a coefficient of z at its border, or with another hint."""
+    """A signature with a bit changed anywhere, in c_tilde, or a coefficient of z at its border, or with another
+    hint."""
     _, _, _, c_tilde, columns, bits, _, _ = SIZES[parameters]
     kind = rng.random()
     if kind < 0.3:
@@ -175,7 +176,7 @@ def verify(rng, pool, parameters):
 def batch(rng, pool, parameters):
     """Up to nine entries under one key and context, some of them damaged, of another message, or of another key."""
     name, key, _, ctx, _ = rng.choice(pool.signed)
-    own = [it for it in pool.signed if it[:2] == (name, key) and it[3] == ctx]
+    own = [signed for signed in pool.signed if signed[:2] == (name, key) and signed[3] == ctx]
     count = rng.randrange(10)
     fields = [key, ctx, bytes([0, count])]
     for _ in range(count):
@@ -205,9 +206,9 @@ def malformed(lines, rng):
     line = lines[at]
     kind = rng.randrange(13)
     if kind == 0:
-        return b"".join(it + b"\n" for it in lines[:at])
+        return b"".join(line + b"\n" for line in lines[:at])
     if kind == 1:
-        return b"".join(it + b"\n" for it in lines)[: -rng.randrange(1, 4)]
+        return b"".join(line + b"\n" for line in lines)[: -rng.randrange(1, 4)]
     if kind == 2:
         lines[at] = b""
     elif kind == 3:
@@ -218,22 +219,23 @@ def malformed(lines, rng):
         lines[at] = line[1:] if rng.random() < 0.5 else line[2:]
     elif kind == 6:
         place = rng.randrange(len(line) + 1)
-        lines[at] = line[:place] + bytes([rng.choice([0, 9, 13, 32, 46, 47, 58, 64, 71, 96, 103, 120, 255])]) + line[place + 1 :]
+        lines[at] = line[:place] + bytes([rng.choice([0, 9, 13, 32, 46, 47, 58, 64, 71, 96, 103, 120,
+                                                      255])]) + line[place + 1 :]
     elif kind == 7:
         lines[at] = line + b"\r"
     elif kind == 8:
-        lines[at] = bytes(it ^ 32 if it > 64 and rng.random() < 0.5 else it for it in line)
+        lines[at] = bytes(letter ^ 32 if letter > 64 and rng.random() < 0.5 else letter for letter in line)
     elif kind == 9 and rng.random() < 0.1:
         lines[at] = b"0" * (LONGEST_LINE + rng.choice([-1, 0, 1, 2, 5000]))
     elif kind == 10:
-        return b"".join(it + b"\n" for it in lines) + rng.randbytes(rng.randrange(1, 50))
+        return b"".join(line + b"\n" for line in lines) + rng.randbytes(rng.randrange(1, 50))
     elif kind == 11:
-        data = b"".join(it + b"\n" for it in lines)
+        data = b"".join(line + b"\n" for line in lines)
         return data[: rng.randrange(len(data))]
     else:
         lines[rng.randrange(len(lines))] = b"0g"
         lines[at] = line[:-1]
-    return b"".join(it + b"\n" for it in lines)
+    return b"".join(line + b"\n" for line in lines)
 
 
 def other_words(words, rng):

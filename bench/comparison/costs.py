@@ -1,66 +1,42 @@
 """Measures what both programs cost."""
 import os
-import platform
+import pathlib
 import re
 import subprocess
-import sys
 import time
 from statistics import median
 
-from comparison.build import REGISTRY, TOP, lines_of
+import measured
+from common import TOP, printed
 
-sys.path.insert(0, f"{TOP}/scripts")
-from measured import code as code_of_library  # noqa: E402
+from comparison.build import REGISTRY, lines_of
 
 ZEROS = bytes(32)
-TABLE = f"{TOP}/bench/table.md"
 HEADING = "## Beside the Rust crate"
 COLUMNS = ["case", "instructions, millions", "memory, KB", "stack, KB", "from a file, ms", "from a pipe, ms"]
 
 
-def said(*command):
-    """What a command prints, or nothing where there is none."""
-    try:
-        return subprocess.run(command, capture_output=True, text=True, check=False).stdout.strip()
-    except OSError:
-        return ""
-
-
 def machine(cpu="x86-64-v2"):
     """Gives lines that name the day, the versions and the kind of machine."""
-    with open("/proc/cpuinfo", encoding="ascii") as it:
-        processor = it.read()
-    model = re.search(r"model name\s*: (.*)", processor)
-    crates = sorted(it for it in os.listdir(REGISTRY) if re.match(r"(sha2|rand_core|zeroize)-\d", it))
-    changed = " with changes" if said("git", "-C", TOP, "status", "--porcelain", "--", "crates") else ""
+    has_sha = "sha_ni" in pathlib.Path("/proc/cpuinfo").read_text(encoding="ascii")
+    crates = sorted(name for name in os.listdir(REGISTRY) if re.match(r"(sha2|rand_core|zeroize)-\d", name))
+    changed = " with changes" if printed("git", "-C", str(TOP), "status", "--porcelain", "--", "crates") else ""
+    stamp = measured.stamp().replace(", code", f"{changed}, code")
     return [
-        f"{time.strftime('%Y-%m-%d')}, commit {said('git', '-C', TOP, 'rev-parse', '--short', 'HEAD')}{changed}, code {code_of_library()}, by {said('rt', 'version')}, beside fips204 0.5.0 by",
-        f"{said('rustc', '-V')} (release, {cpu}) over {', '.join(crates)}; {said('valgrind', '--version')}.",
-        f"{os.cpu_count()} processors, {model[1] if model else platform.machine()}, "
-        f"{'with' if 'sha_ni' in processor else 'without'} instructions for SHA; load {os.getloadavg()[0]:.1f} at the start.",
+        f"{stamp}, by {printed('rt', 'version')}, beside fips204 0.5.0 by",
+        f"{printed('rustc', '-V')} (release, {cpu}) over {', '.join(crates)}; {printed('valgrind', '--version')}.",
+        f"{os.cpu_count()} processors, {measured.processor()}, {'with' if has_sha else 'without'} instructions for "
+        f"SHA; load {measured.load()} at the start.",
     ]
 
 
-def put_section(heading, lines):
-    """Puts a section into bench/table.md, in the place of the one of that heading, or else before the ratios."""
-    with open(TABLE, encoding="utf-8") as it:
-        parts = re.split(r"^(?=## )", it.read(), flags=re.M)
-    made = "\n".join([heading, "", *lines]) + "\n\n"
-    heads = [part.partition("\n")[0] for part in parts]
-    if heading in heads:
-        parts[heads.index(heading)] = made
-    else:
-        parts.insert(heads.index(HEADING), made)
-    with open(TABLE, "w", encoding="utf-8") as it:
-        it.write("".join(parts).rstrip("\n") + "\n")
-
-
 def cases(sets):
-    """Gives the name, the words and the bytes of each case, and those of its short form, in which it has the same stack."""
+    """Gives the name, the words and the bytes of each case, and those of its short form, in which it has the same
+    stack."""
     for streams in ("sha2", "fill55"):
         for parameters in sets:
-            with open(f"{TOP}/bench/inputs/{streams}-{parameters}", encoding="ascii") as it:
-                public, private, signature = map(bytes.fromhex, it.read().split())
+            inputs = (TOP / f"bench/inputs/{streams}-{parameters}").read_text(encoding="ascii")
+            public, private, signature = map(bytes.fromhex, inputs.split())
 
             def signs(message):
                 return lines_of([private, ZEROS, b"", message])
@@ -89,40 +65,41 @@ def cases(sets):
                 yield f"{streams} {name} {parameters}", [streams, command, parameters], data, short or data
 
 
-def measured(tool, command, path):
+def under(tool, command, path):
     """Runs a command under a tool, from a file."""
-    with open(path, "rb") as it:
-        subprocess.run([*tool, *command], stdin=it, capture_output=True, check=False)
+    with open(path, "rb") as file:
+        subprocess.run([*tool, *command], stdin=file, capture_output=True, check=False)
+
+
+def read(path):
+    return pathlib.Path(path).read_text(encoding="utf-8", errors="replace")
 
 
 def instructions(command, path, room):
     out = f"{room}/calls"
-    measured(["valgrind", "--tool=callgrind", f"--callgrind-out-file={out}"], command, path)
-    with open(out, encoding="utf-8", errors="replace") as it:
-        return int(re.search(r"^(?:summary|totals): (\d+)", it.read(), re.M)[1])
+    under(["valgrind", "--tool=callgrind", f"--callgrind-out-file={out}"], command, path)
+    return int(re.search(r"^(?:summary|totals): (\d+)", read(out), re.M)[1])
 
 
 def stack(command, path, room):
     out = f"{room}/stack"
-    measured(["valgrind", "--tool=massif", "--stacks=yes", "--heap=no", f"--massif-out-file={out}"], command, path)
-    with open(out, encoding="utf-8", errors="replace") as it:
-        return max(map(int, re.findall(r"^mem_stacks_B=(\d+)", it.read(), re.M)))
+    under(["valgrind", "--tool=massif", "--stacks=yes", "--heap=no", f"--massif-out-file={out}"], command, path)
+    return max(map(int, re.findall(r"^mem_stacks_B=(\d+)", read(out), re.M)))
 
 
 def memory(command, path, room):
     """The largest resident set, in bytes."""
     out = f"{room}/memory"
-    measured(["/usr/bin/time", "-f", "%M", "-o", out], command, path)
-    with open(out, encoding="ascii") as it:
-        return 1024 * int(it.read().split()[-1])
+    under(["/usr/bin/time", "-f", "%M", "-o", out], command, path)
+    return 1024 * int(read(out).split()[-1])
 
 
 def seconds(command, path, piped):
     """How long a run takes, from a file or from a pipe that `cat` fills."""
     feeder = subprocess.Popen(["cat", path], stdout=subprocess.PIPE) if piped else None
-    with open(path, "rb") as it:
+    with open(path, "rb") as file:
         start = time.perf_counter()
-        subprocess.run(command, stdin=feeder.stdout if feeder else it, stdout=subprocess.DEVNULL, check=False)
+        subprocess.run(command, stdin=feeder.stdout if feeder else file, stdout=subprocess.DEVNULL, check=False)
         taken = time.perf_counter() - start
     if feeder:
         feeder.stdout.close()
@@ -132,26 +109,25 @@ def seconds(command, path, piped):
 
 def times(commands, path, piped, runs):
     """The median time of each program, over runs that alternate."""
-    taken = [[], []]
+    taken: list[list[float]] = [[], []]
     for _ in range(runs):
         for which, command in enumerate(commands):
             taken[which].append(seconds(command, path, piped))
-    return [median(it) for it in taken]
+    return [median(values) for values in taken]
 
 
 def row(programs, words, data, short, runs, room):
     """The five pairs of figures of a case."""
     path, short_path = f"{room}/input", f"{room}/short"
     for name, content in ((path, data), (short_path, short)):
-        with open(name, "wb") as it:
-            it.write(content)
+        pathlib.Path(name).write_bytes(content)
     commands = [[program, *words] for program in programs]
     return [
-        [instructions(it, path, room) / 1e6 for it in commands],
-        [memory(it, path, room) / 1024 for it in commands],
-        [stack(it, short_path, room) / 1024 for it in commands],
-        [1000 * it for it in times(commands, path, False, runs)],
-        [1000 * it for it in times(commands, path, True, runs)],
+        [instructions(command, path, room) / 1e6 for command in commands],
+        [memory(command, path, room) / 1024 for command in commands],
+        [stack(command, short_path, room) / 1024 for command in commands],
+        [1000 * taken for taken in times(commands, path, False, runs)],
+        [1000 * taken for taken in times(commands, path, True, runs)],
     ]
 
 
@@ -161,9 +137,11 @@ def table(programs, sets, runs, room, lines):
     print(f"| {' | '.join(COLUMNS)} |\n|---{'|---' * (len(COLUMNS) - 1)}|", flush=True)
     for name, words, data, short in cases(sets):
         pairs = row(programs, words, data, short, runs, room)
-        print(f"| {name} | {' | '.join(f'{ours:.4g} / {rust:.4g} = {ours / rust:.2f}' for ours, rust in pairs)} |", flush=True)
+        print(f"| {name} | {' | '.join(f'{ours:.4g} / {rust:.4g} = {ours / rust:.2f}' for ours, rust in pairs)} |",
+              flush=True)
         ratios.append(f"| {name} | {' | '.join(f'{ours / rust:.2f}' for ours, rust in pairs)} |")
     if lines:
-        columns = [it.split(",")[0] for it in COLUMNS]
+        columns = [column.split(",")[0] for column in COLUMNS]
         head = [f"| {' | '.join(columns)} |", "|---" * len(columns) + "|"]
-        put_section(HEADING, [f"Ratios of ours to the Rust, as `bench/against-rust` prints them. {' '.join(lines)}", "", *head, *ratios])
+        said = f"Ratios of ours to the Rust, as `bench/against-rust` prints them. {' '.join(lines)}"
+        measured.put_section(HEADING, "\n".join([said, "", *head, *ratios]), "## ")

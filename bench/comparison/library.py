@@ -10,8 +10,11 @@ import sys
 import textwrap
 import time
 
-from comparison.build import REGISTRY, TOP, lay_out_sources, source
-from comparison.costs import machine, put_section
+import measured
+from common import SETS, TOP, archives, missing as missing_tools
+
+from comparison.build import lay_out_sources, missing_crates, source
+from comparison.costs import machine
 
 # The tests of fips204 0.5.0 and its page by their SHA-256: the files, and the modules of tests that its sources have.
 TESTS = {
@@ -34,9 +37,7 @@ CALLS = ("keygen", "sign", "verify")
 
 def missing():
     """Gives the names of what has to be installed first."""
-    crates = os.listdir(REGISTRY) if os.path.isdir(REGISTRY) else []
-    names = [tool for tool in ("cargo", "rustc", "rt") if not shutil.which(tool)]
-    return names + [f"librust-{it.replace('_', '-')}-dev" for it in CRATES if not any(name.startswith(f"{it}-") for name in crates)]
+    return missing_tools("cargo", "rustc", "rt") + missing_crates(*CRATES)
 
 
 def checked(path, text, wanted):
@@ -47,7 +48,8 @@ def checked(path, text, wanted):
 
 
 def original_tests(folder):
-    """The original's files of tests, by their names, and the tests of its modules, by the module, where they are there."""
+    """The original's files of tests, by their names, and the tests of its modules, by the module, where they are
+    there."""
     files = {}
     for name, wanted in TESTS.items():
         path = pathlib.Path(f"{folder}/tests/{name}")
@@ -59,11 +61,14 @@ def original_tests(folder):
 
 
 def smoke(body):
-    """The tests of the original's root, which it has in each set's module, as a file of tests. What they name of the crate's
-    inside, the module `types` and a constant, stands where they look for it."""
+    """The tests of the original's root, which it has in each set's module, as a file of tests. What they name of the
+    crate's inside, the module `types` and a constant, stands where they look for it."""
     body = textwrap.dedent(body)
     head = "mod types {\n    pub use fips204::pre_hash;\n}\nconst MAX_PREHASH_LEN: usize = 1024;\n"
-    return head + "".join(f"mod ml_dsa_{it} {{\n#[allow(unused_imports)]\nuse fips204::{{ml_dsa_{it}::*, traits::*}};\n{body}}}\n" for it in ("44", "65", "87"))
+    for number in SETS:
+        head += f"mod ml_dsa_{number} {{\n#[allow(unused_imports)]\n"
+        head += f"use fips204::{{ml_dsa_{number}::*, traits::*}};\n{body}}}\n"
+    return head
 
 
 def examples(folder):
@@ -93,23 +98,15 @@ def lay_out(folder, room):
     return place
 
 
-def archive(cpu):
-    """The folder of the static library for a processor, which is built first."""
-    done = subprocess.run([f"{TOP}/scripts/archive", cpu], capture_output=True, text=True, check=False)
-    if done.returncode:
-        sys.exit(done.stdout + done.stderr)
-    return os.path.dirname(done.stdout.strip())
-
-
 def cargo(place, cpu, *words):
-    environment = dict(os.environ, MLDSA_C_DIR=archive(cpu), RUSTFLAGS=f"-C target-cpu={cpu}")
+    environment = dict(os.environ, MLDSA_C_DIR=str(archives(cpu)[0].parent), RUSTFLAGS=f"-C target-cpu={cpu}")
     return subprocess.run(["cargo", *words], cwd=place, env=environment, capture_output=True, text=True, check=False)
 
 
 def results(done):
     """How many tests of a run passed, failed and were ignored."""
     found = re.findall(r"test result: \w+\. (\d+) passed; (\d+) failed; (\d+) ignored", done.stdout)
-    return [sum(int(it[which]) for it in found) for which in range(3)]
+    return [sum(map(int, counts)) for counts in zip(*found)] or [0, 0, 0]
 
 
 def tests(folder, room, long):
@@ -125,11 +122,14 @@ def tests(folder, room, long):
     for name, body in files.items():
         pathlib.Path(f"{place}/fips204/tests/{name}").write_text(body, encoding="utf-8")
     pathlib.Path(f"{place}/fips204/tests/examples.md").write_text(page, encoding="utf-8")
-    with open(f"{place}/fips204/src/lib.rs", "a", encoding="utf-8") as it:
-        it.write('\n/// The examples.\n#[cfg(doctest)]\n#[doc = include_str!("../tests/examples.md")]\npub mod examples {}\n')
+    with open(f"{place}/fips204/src/lib.rs", "a", encoding="utf-8") as file:
+        file.write('\n/// The examples.\n#[cfg(doctest)]\n#[doc = include_str!("../tests/examples.md")]\n')
+        file.write("pub mod examples {}\n")
     total = [0, 0, 0]
     print("| tests | passed | failed | ignored |\n|---|---|---|---|", flush=True)
-    rows = [(name, ["--test", name.removesuffix(".rs")]) for name in sorted(files)] + [(f"{count} examples, and that of our page", ["--doc", "--", "examples", "README.md"])]
+    rows = [(name, ["--test", name.removesuffix(".rs")])
+            for name in sorted(files)] + [(f"{count} examples, and that of our page",
+                                           ["--doc", "--", "examples", "README.md"])]
     if long:
         rows.append(("accumulated.rs, 10,000 pairs and signatures a set", ["--release", "--test", "accumulated"]))
     for name, words in rows:
@@ -146,7 +146,8 @@ def tests(folder, room, long):
         if name != "lib.rs":
             print(f"Not run: {body.count('#[test]')} of src/{name}, which call functions that are private there.")
     if len(modules) < len(MODULES):
-        print(f"Not run: the tests in {', '.join(f'src/{name}' for name in MODULES if name not in modules)}, which are not in this folder.")
+        lacking = ", ".join(f"src/{name}" for name in MODULES if name not in modules)
+        print(f"Not run: the tests in {lacking}, which are not in this folder.")
     return total[1]
 
 
@@ -167,7 +168,8 @@ def timed(call, *given):
 
 
 def by_openssl(mldsa, number, lines):
-    """The nanoseconds of the three calls in OpenSSL, on the inputs of these lines: seed, public key, message, signature."""
+    """The nanoseconds of the three calls in OpenSSL, on the inputs of these lines: seed, public key, message,
+    signature."""
     private_type, public_type = getattr(mldsa, f"MLDSA{number}PrivateKey"), getattr(mldsa, f"MLDSA{number}PublicKey")
     taken = []
     for line in lines:
@@ -175,13 +177,14 @@ def by_openssl(mldsa, number, lines):
         key, keygen = timed(private_type.from_seed_bytes, seed)
         if key.public_key().public_bytes_raw() != public:
             sys.exit(f"OpenSSL makes another public key of the seed {seed.hex()}")
-        taken.append((keygen, timed(key.sign, message)[1], timed(public_type.from_public_bytes(public).verify, signature, message)[1]))
+        taken.append((keygen, timed(key.sign, message)[1],
+                      timed(public_type.from_public_bytes(public).verify, signature, message)[1]))
     return taken
 
 
 def times(program, number, runs):
-    """The median microseconds of the three calls: the original, ours, and OpenSSL where it is there. They take turns: the first
-    two at each input, OpenSSL after every twentieth."""
+    """The median microseconds of the three calls: the original, ours, and OpenSSL where it is there. They take turns:
+    the first two at each input, OpenSSL after every twentieth."""
     mldsa, taken = openssl()[1], [[[], [], []] for _ in CALLS]
     for first in range(0, runs, 20):
         words = [program, number, str(first), str(min(20, runs - first))]
@@ -192,7 +195,7 @@ def times(program, number, runs):
             for call in range(len(CALLS)):
                 for who, value in enumerate([*own[2 * call:2 * call + 2], *other[call:call + 1]]):
                     taken[call][who].append(value / 1000)
-    return [[statistics.median(it) if it else None for it in call] for call in taken]
+    return [[statistics.median(values) if values else None for values in call] for call in taken]
 
 
 def instructions(program, number, call, which, room):
@@ -202,14 +205,15 @@ def instructions(program, number, call, which, room):
         out = f"{room}/calls"
         words = ["valgrind", "--tool=callgrind", f"--callgrind-out-file={out}", program, number, call, which, count]
         subprocess.run(words, capture_output=True, check=True)
-        counts.append(int(re.search(r"^(?:summary|totals): (\d+)", pathlib.Path(out).read_text(errors="replace"), re.M)[1]))
+        counts.append(int(re.search(r"^(?:summary|totals): (\d+)", pathlib.Path(out).read_text(errors="replace"),
+                                    re.M)[1]))
     return (counts[0] - counts[1]) / 20
 
 
 def costs(folder, room, runs, cpu, write):
     """Prints the table of what the three calls cost at each set: the original, our crate, and OpenSSL."""
     counted = cpu == "x86-64-v2"
-    names = missing() + (["valgrind"] if counted and not shutil.which("valgrind") else [])
+    names = missing() + (missing_tools("valgrind") if counted else [])
     if names:
         sys.exit(f"missing: {', '.join(names)}")
     place = lay_out(folder, room)
@@ -218,21 +222,27 @@ def costs(folder, room, runs, cpu, write):
         sys.exit(done.stderr)
     program = f"{place}/target/release/costs"
     version = openssl()[0]
-    other = f"{version}, through Python, which chooses its own random bytes in signing" if version else "not there, or older than 3.5"
-    lines = ["Through `rust/fips204`, as `bench/against-rust FOLDER --calls` prints them; original is the Rust crate fips204 0.5.0 over `sha3`."]
-    lines[0] += f" {' '.join(machine(cpu))} Medians of {runs} calls, which take turns. OpenSSL: {other}."
+    other = "not there, or older than 3.5"
+    if version:
+        other = f"{version}, through Python, which chooses its own random bytes in signing"
+    lines = [
+        "Through `rust/fips204`, as `bench/against-rust FOLDER --calls` prints them; original is the Rust crate "
+        f"fips204 0.5.0 over `sha3`. {' '.join(machine(cpu))} Medians of {runs} calls, which take turns. "
+        f"OpenSSL: {other}."
+    ]
     lines.append("")
     head = ["set", "call", "microseconds: original", "ours", "ours / original", "OpenSSL"]
     head += ["millions of instructions: original", "ours", "ours / original"] if counted else []
     lines += [f"| {' | '.join(head)} |", "|---" * len(head) + "|"]
     print("\n".join(lines), flush=True)
-    for number in ("44", "65", "87"):
+    for number in SETS:
         for call, (original, ours, theirs) in zip(CALLS, times(program, number, runs)):
-            cells = [number, call, f"{original:.0f}", f"{ours:.0f}", f"{ours / original:.2f}", f"{theirs:.0f}" if theirs else "-"]
+            cells = [number, call, f"{original:.0f}", f"{ours:.0f}", f"{ours / original:.2f}",
+                     f"{theirs:.0f}" if theirs else "-"]
             if counted:
                 counts = [instructions(program, number, call, which, room) for which in ("original", "ours")]
                 cells += [f"{counts[0] / 1e6:.3f}", f"{counts[1] / 1e6:.3f}", f"{counts[1] / counts[0]:.2f}"]
             lines.append(f"| {' | '.join(cells)} |")
             print(lines[-1], flush=True)
     if write:
-        put_section(f"## Calls over SHAKE, built for {cpu}", lines)
+        measured.put_section(f"## Calls over SHAKE, built for {cpu}", "\n".join(lines), "## Calls over SHAKE")

@@ -1,18 +1,21 @@
 """Records what the Rust answers to a fixed list of cases, for the test `rust_answers` of crates/mldsa_runs.
 
-A case is a number from 0 to 19 at a set. Its bytes follow from the number, as `case` says; the test says the same in its own
-words. Of each case a SHA-256 is kept, of the SHA-256 of each answer's output and status.
+A case is a number from 0 to 19 at a set. Its bytes follow from the number, as `case` says; the test says the same in
+its own words. Of each case a SHA-256 is kept, of the SHA-256 of each answer's output and status.
 """
 import hashlib
 import sys
 
-from comparison.build import TOP, lines_of, run
+from common import TOP
+
+from comparison.build import lines_of, run
 from comparison.cases import SIZES
 
-FILE = f"{TOP}/crates/mldsa_runs/src/program/rust_crate.rt"
-HEAD = """//! What the Rust crate fips204 0.5.0 returns in the cases of `program::rust_answers`, as `bench/against-rust --record` writes
-//! it: for each of 20 cases a SHA-256, of the SHA-256 of what is written and of the status, a byte, by `keygen`, `id`,
-//! `sign`, `verify`, `check` and `batch` in turn.
+FILE = TOP / "crates/mldsa_runs/src/program/rust_crate.rt"
+HEAD = """\
+//! What the Rust crate fips204 0.5.0 returns in the cases of `program::rust_answers`, as `bench/against-rust --record`
+//! writes it: for each of 20 cases a SHA-256, of the SHA-256 of what is written and of the status, a byte, by `keygen`,
+//! `id`, `sign`, `verify`, `check` and `batch` in turn.
 #![tactic(auto)]
 """
 
@@ -67,12 +70,12 @@ def write(driver):
         digests, signature, kinds = "", b"", {}
         for number in range(20):
             answers, signature = case(driver, parameters, number, signature)
-            digests += hashlib.sha256(b"".join(hashlib.sha256(it).digest() for it in answers)).hexdigest()
-            for it in answers:
-                kind = it[:-1].decode().strip() if len(it) < 200 else "hex"
+            digests += hashlib.sha256(b"".join(hashlib.sha256(answer).digest() for answer in answers)).hexdigest()
+            for answer in answers:
+                kind = answer[:-1].decode().strip() if len(answer) < 200 else "hex"
                 kinds[kind] = kinds.get(kind, 0) + 1
         print(f"{parameters}: {kinds}")
         lines = [digests[at : at + 128] for at in range(0, len(digests), 128)]
-        text += f"\n/// Set {parameters}, in hex.\npub const ANSWERS_{parameters}: &str = \"\\\n" + "\\\n".join(lines) + "\";\n"
-    with open(FILE, "w", encoding="utf-8") as it:
-        it.write(text)
+        text += f'\n/// Set {parameters}, in hex.\npub const ANSWERS_{parameters}: &str = "\\\n'
+        text += "\\\n".join(lines) + '";\n'
+    FILE.write_text(text, encoding="utf-8")

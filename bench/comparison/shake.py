@@ -1,26 +1,23 @@
 """Compares what the Rust crate answers over the crate sha3 with what our library over SHAKE answers."""
-import os
 import random
 import shutil
-import subprocess
 import sys
+
+from common import TOP, command
 
 from comparison import build, calls
 
 
 def missing(library):
     """Gives the names of what has to be installed first."""
-    crates = os.listdir(build.REGISTRY) if os.path.isdir(build.REGISTRY) else []
-    return calls.missing(library) + [f"librust-{it}-dev" for it in ("sha3", "keccak") if not any(name.startswith(f"{it}-") for name in crates)]
+    return calls.missing(library) + build.missing_crates("sha3", "keccak")
 
 
 def driver(folder, room):
     """Builds the Rust crate over the crate sha3, with the command line of `mldsa`."""
     build.lay_out(folder, room)
-    shutil.copytree(f"{build.TOP}/bench/shake", f"{room}/rust/sha3", dirs_exist_ok=True)
-    done = subprocess.run(["cargo", "build", "--release", "--offline"], cwd=f"{room}/rust", capture_output=True, text=True, check=False)
-    if done.returncode:
-        sys.exit(f"cargo build failed:\n{done.stderr}")
+    shutil.copytree(f"{TOP}/bench/shake", f"{room}/rust/sha3", dirs_exist_ok=True)
+    command("cargo", "build", "--release", "--offline", cwd=f"{room}/rust")
     return f"{room}/rust/target/release/driver"
 
 
@@ -49,7 +46,8 @@ def table(folder, room, library, sets, count, seed):
             equal[1] += rust("sign", number, private, drawn, context, message) == (0, [signature])
             for place, given in ((2, signature), (3, spoiled)):
                 good = ours.accepts(public, message, context, given)
-                equal[place] += good == (place == 2) and rust("verify", number, public, given, context, message)[0] == (0 if good else 1)
+                equal[place] += good == (place == 2) and rust("verify", number, public, given, context,
+                                                              message)[0] == (0 if good else 1)
         print(f"| {number} | {count} | {' | '.join(map(str, equal))} |", flush=True)
-        different += sum(count - it for it in equal)
+        different += sum(count - number for number in equal)
     return different

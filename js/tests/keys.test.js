@@ -1,7 +1,8 @@
 // Public keys in files.
 import assert from "node:assert/strict";
+import { createHash } from "node:crypto";
 import test from "node:test";
-import { KeyFileError, readPublicKey } from "../out/keys.js";
+import { KeyFileError, fingerprint, readPublicKey } from "../out/keys.js";
 import { SEED, ofOpenssl, utf8 } from "./shared.js";
 import { load } from "../out/mldsa.js";
 
@@ -65,7 +66,7 @@ test("why a file is refused", () => {
     const { publicKey: key } = sets.mlDsa44.keygen(SEED);
     const der = info(17, key);
     const text = pem(der);
-    const changed = (place, value) => pem(der.with(place, value));
+    const changed = (place, value) => pem(der.map((byte, i) => (i === place ? value : byte)));
     const rows = [
         ["", "it is cut short"],
         ["a message", "it is not in PEM: no line -----BEGIN comes first"],
@@ -97,5 +98,16 @@ test("why a file is refused", () => {
     ];
     for (const [file, message] of rows) {
         assert.throws(() => readPublicKey(file), says(message), message);
+    }
+});
+
+test("the fingerprint is that of the DER, as mlsign prints it", async () => {
+    for (const number of [44, 65, 87]) {
+        const { pem: text } = ofOpenssl(number);
+        const der = Buffer.from(text.split("\n").slice(1, -2).join(""), "base64");
+        const wanted = `SHA256:${createHash("sha256").update(der).digest("base64").replace(/=/g, "")}`;
+        assert.equal(await fingerprint(text), wanted);
+        assert.equal(await fingerprint(utf8(text)), wanted);
+        await assert.rejects(fingerprint(text.slice(1)), KeyFileError);
     }
 });

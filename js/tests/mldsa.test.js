@@ -1,7 +1,11 @@
 // The calls, over the package of js/out.
 import assert from "node:assert/strict";
+import { webcrypto } from "node:crypto";
 import { readFileSync } from "node:fs";
+import { spawnSync } from "node:child_process";
+import { fileURLToPath } from "node:url";
 import test from "node:test";
+import vm from "node:vm";
 import * as all from "../out/mldsa.js";
 import { readPublicKey } from "../out/keys.js";
 import { SEED, hex, ofOpenssl, sha256, shake, text, utf8 } from "./shared.js";
@@ -12,7 +16,19 @@ const code = readFileSync(place);
 const sets = await load();
 const ZEROS = new Uint8Array(32);
 const of = (number) => sets[`mlDsa${number}`];
-const refused = (status) => (error) => error instanceof MlDsaError && error.status === status && error.message === TEXTS[status];
+
+/** The sets over an instance of their own, and how often one of its exports was called. */
+async function withCounted(t, name) {
+    const instantiate = WebAssembly.instantiate;
+    let calls = 0;
+    t.mock.method(WebAssembly, "instantiate", async (...words) => {
+        const { exports } = await instantiate.call(WebAssembly, ...words);
+        return { exports: { ...exports, [name]: (...given) => ++calls && exports[name](...given) } };
+    });
+    return [await load(code), () => calls];
+}
+/** An error of a status, with its text and what follows that. */
+const refused = (status, detail) => (error) => error instanceof MlDsaError && error.status === status && error.message === TEXTS[status] + (detail ? `: ${detail}` : "");
 
 /** The texts and numbers of the header. */
 const header = text("c/mldsa.h");
@@ -20,7 +36,7 @@ const numbers = Object.fromEntries([...header.matchAll(/(MLDSA_\w+) = (\d+)/g)].
 const TEXTS = Object.fromEntries([...header.matchAll(/case (MLDSA_\w+): return "(.*)";/g)].map(([, name, words]) => [numbers[name], words]));
 
 test("72 recorded keys and signatures, and those of digests", () => {
-    const rows = text("scripts/run-definitions.tsv").split("\n").filter((line) => line && line[0] !== "#").map((line) => line.split("\t"));
+    const rows = text("vectors/recorded.tsv").split("\n").filter((line) => line && line[0] !== "#").map((line) => line.split("\t"));
     assert.equal(rows.filter((row) => row.length === 8).length, 72);
     for (const [number, ...fields] of rows) {
         const set = of(number);
@@ -88,36 +104,47 @@ test("lengths and texts are those of the header", () => {
     assert.equal(Object.keys(TEXTS).length, 14);
 });
 
-test("each array of a wrong length is refused", () => {
+test("each array of a wrong length is refused by its name, but a signature is not valid", () => {
     for (const number of [44, 65, 87]) {
         const set = of(number);
         const { publicKey, privateKey } = set.keygen(SEED);
         const mu = new Uint8Array(64);
-        const signature = set.signMu(privateKey, mu);
         const message = utf8("m");
         const digest = new Uint8Array(32);
         const oid = oids["SHA-256"];
+        const signature = set.signMu(privateKey, mu);
         const wrong = (array) => [array.subarray(1), new Uint8Array([...array, 0]), new Uint8Array(0)];
-        const calls = [
-            ...wrong(SEED).map((it) => () => set.keygen(it)),
-            ...wrong(privateKey).flatMap((it) => [
-                () => set.publicKey(it), () => set.sign(it, message), () => set.hashSign(it, digest, oid), () => set.signMu(it, mu),
-                () => set.checkPrivateKey(it), () => set.isWhole(it),
-            ]),
-            ...wrong(publicKey).flatMap((it) => [
-                () => set.verify(it, message, signature), () => set.hashVerify(it, digest, oid, signature), () => set.verifyMu(it, mu, signature),
-            ]),
-            ...wrong(signature).flatMap((it) => [
-                () => set.verify(publicKey, message, it), () => set.hashVerify(publicKey, digest, oid, it), () => set.verifyMu(publicKey, mu, it),
-            ]),
-            ...wrong(mu).flatMap((it) => [() => set.signMu(privateKey, it), () => set.verifyMu(publicKey, it, signature)]),
-            ...wrong(ZEROS).flatMap((it) => [
-                () => set.sign(privateKey, message, { random: it }), () => set.hashSign(privateKey, digest, oid, { random: it }),
-                () => set.signMu(privateKey, mu, { random: it }),
-            ]),
-        ];
-        for (const call of calls) {
-            assert.throws(call, refused(2));
+        const calls = {
+            seed: [SEED, (it) => set.keygen(it)],
+            privateKey: [
+                privateKey,
+                ...["publicKey", "checkPrivateKey", "isWhole", "isPair", "messageHasherOfPrivate"].map((call) => (it) => set[call](it)),
+                (it) => set.sign(it, message), (it) => set.hashSign(it, digest, oid), (it) => set.signMu(it, mu),
+            ],
+            publicKey: [
+                publicKey,
+                (it) => set.verify(it, message, signature), (it) => set.hashVerify(it, digest, oid, signature),
+                (it) => set.verifyMu(it, mu, signature), (it) => set.messageHasher(it),
+            ],
+            mu: [mu, (it) => set.signMu(privateKey, it), (it) => set.verifyMu(publicKey, it, signature)],
+            random: [
+                ZEROS,
+                (it) => set.sign(privateKey, message, { random: it }), (it) => set.hashSign(privateKey, digest, oid, { random: it }),
+                (it) => set.signMu(privateKey, mu, { random: it }),
+            ],
+        };
+        for (const [name, [array, ...made]] of Object.entries(calls)) {
+            for (const it of wrong(array)) {
+                for (const call of made) {
+                    assert.throws(() => call(it), refused(2, `${name} has ${it.length} bytes, and not ${array.length}`));
+                }
+            }
+        }
+        for (const it of wrong(signature)) {
+            assert.equal(set.verify(publicKey, message, it), false);
+            assert.equal(set.hashVerify(publicKey, digest, oid, it), false);
+            assert.equal(set.verifyMu(publicKey, mu, it), false);
+            assert.throws(() => set.verify(publicKey.subarray(1), message, it), refused(2, `publicKey has ${publicKey.length - 1} bytes, and not ${publicKey.length}`));
         }
     }
 });
@@ -130,13 +157,14 @@ test("what signing refuses otherwise", () => {
         const oid = oids["SHA-256"];
         const context = new Uint8Array(256);
         const signature = set.sign(privateKey, digest);
-        assert.throws(() => set.sign(privateKey, digest, { context }), refused(4));
+        const contextsLength = "context has 256 bytes, and at most 255 are allowed";
+        assert.throws(() => set.sign(privateKey, digest, { context }), refused(4, contextsLength));
         assert.equal(set.verify(publicKey, digest, signature, { context }), false);
-        assert.throws(() => set.hashSign(privateKey, digest, oid, { context }), refused(6));
-        assert.throws(() => set.hashSign(privateKey, digest, new Uint8Array(0)), refused(7));
-        assert.throws(() => set.hashSign(privateKey, digest, oid.subarray(1)), refused(8));
-        assert.throws(() => set.hashSign(privateKey, new Uint8Array(1025), new Uint8Array([6, 1, 42])), refused(9));
-        assert.throws(() => set.hashSign(privateKey, digest.subarray(1), oid), refused(10));
+        assert.throws(() => set.hashSign(privateKey, digest, oid, { context }), refused(6, contextsLength));
+        assert.throws(() => set.hashSign(privateKey, digest, new Uint8Array(0)), refused(7, "oid has 0 bytes"));
+        assert.throws(() => set.hashSign(privateKey, digest, oid.subarray(1)), refused(8, "oid has 10 bytes"));
+        assert.throws(() => set.hashSign(privateKey, new Uint8Array(1025), new Uint8Array([6, 1, 42])), refused(9, "digest has 1025 bytes, and at most 1024 are allowed"));
+        assert.throws(() => set.hashSign(privateKey, digest.subarray(1), oid), refused(10, "digest has 31 bytes"));
         const damaged = privateKey.slice();
         damaged[128] = 255; // a coefficient of s1 above eta
         assert.throws(() => set.sign(damaged, digest), refused(14));
@@ -150,7 +178,7 @@ test("what signing refuses otherwise", () => {
 
 test("what is no Uint8Array is refused", () => {
     const { publicKey, privateKey } = sets.mlDsa44.keygen(SEED);
-    const wrong = ["text", [1, 2], null, new Uint16Array(4), new ArrayBuffer(4)];
+    const wrong = ["text", [1, 2], null, new Uint16Array(4), new ArrayBuffer(4), new Uint8ClampedArray(32), { length: 32 }, Object.create(Uint8Array.prototype)];
     for (const it of wrong) {
         assert.throws(() => sets.mlDsa44.keygen(it), TypeError);
         assert.throws(() => sets.mlDsa44.sign(privateKey, it), TypeError);
@@ -158,6 +186,104 @@ test("what is no Uint8Array is refused", () => {
         assert.throws(() => sets.mlDsa44.verify(publicKey, ZEROS, it), TypeError);
     }
     assert.throws(() => sets.mlDsa44.verify(publicKey, ZEROS), TypeError);
+});
+
+/** Each call with its arrays, and the options that it has. */
+function everyCall(set) {
+    const { publicKey, privateKey } = set.keygen(SEED);
+    const [mu, digest, oid, message] = [new Uint8Array(64), new Uint8Array(32), oids["SHA-256"], utf8("m")];
+    const signature = set.signMu(privateKey, mu);
+    return {
+        keygen: [[SEED]],
+        publicKey: [[privateKey]],
+        sign: [[privateKey, message], "context", "random"],
+        verify: [[publicKey, message, signature], "context"],
+        hashSign: [[privateKey, digest, oid], "context", "random"],
+        hashVerify: [[publicKey, digest, oid, signature], "context"],
+        messageHasher: [[publicKey], "context"],
+        messageHasherOfPrivate: [[privateKey], "context"],
+        signMu: [[privateKey, mu], "random"],
+        verifyMu: [[publicKey, mu, signature]],
+        checkPrivateKey: [[privateKey]],
+        isPair: [[privateKey]],
+        isWhole: [[privateKey]],
+    };
+}
+
+test("options that are no plain object, or have another name, are refused by each call, and so are arguments too many", () => {
+    const set = sets.mlDsa44;
+    const calls = everyCall(set);
+    assert.deepEqual(Object.keys(calls).sort(), Object.getOwnPropertyNames(Object.getPrototypeOf(set)).filter((name) => name !== "constructor").sort());
+    const elsewhere = vm.runInNewContext("({})");
+    for (const [name, [arrays, ...names]] of Object.entries(calls)) {
+        const call = (...more) => set[name](...arrays, ...more);
+        call();
+        const wrong = [
+            utf8("test"), "test", null, 1, true, [], new Map(), () => {}, new (class Options {})(), new Date(0), JSON, new ArrayBuffer(4),
+            { ctx: ZEROS }, { contxt: ZEROS }, { context: ZEROS, Random: ZEROS }, { [Symbol("context")]: ZEROS }, { publicKey: ZEROS },
+            ...["context", "random"].filter((it) => !names.includes(it)).map((it) => ({ [it]: ZEROS })),
+        ];
+        for (const it of wrong) {
+            assert.throws(() => call(it), TypeError, name);
+        }
+        if (names.length === 0) {
+            assert.throws(() => call(undefined), { name: "TypeError", message: `${name} takes at most ${arrays.length} argument${arrays.length > 1 ? "s" : ""}, and was given ${arrays.length + 1}` });
+            assert.throws(() => call({}), TypeError);
+            continue;
+        }
+        assert.throws(() => call({ ctx: ZEROS }), { message: `${name} has no option ctx, but ${names.join(" and ")}` });
+        assert.throws(() => call(utf8("test")), { message: `the options of ${name} are not a plain object, as { ${names[0]} }` });
+        assert.throws(() => call({}, undefined), TypeError);
+        for (const it of [undefined, {}, Object.create(null), elsewhere, ...names.map((option) => ({ [option]: undefined }))]) {
+            call(it);
+        }
+    }
+    const hasher = set.messageHasher(set.keygen(SEED).publicKey);
+    assert.throws(() => hasher.update(ZEROS, ZEROS), TypeError);
+    assert.throws(() => hasher.mu(ZEROS), TypeError);
+});
+
+test("what Object.prototype has is no option", () => {
+    const set = sets.mlDsa44;
+    const { privateKey } = set.keygen(SEED);
+    const wanted = set.sign(privateKey, SEED, { random: ZEROS });
+    Object.prototype.context = utf8("context");
+    try {
+        assert.deepEqual(set.sign(privateKey, SEED, { random: ZEROS }), wanted);
+        assert.equal(set.verify(set.publicKey(privateKey), SEED, wanted), true);
+    } finally {
+        delete Object.prototype.context;
+    }
+});
+
+test("arrays of another realm, of shared memory and of a subclass are taken", () => {
+    const set = sets.mlDsa44;
+    const wanted = set.keygen(SEED);
+    const there = vm.runInNewContext("Uint8Array.from({ length: 32 }, (_, i) => i)");
+    const shared = new Uint8Array(new SharedArrayBuffer(32));
+    shared.set(SEED);
+    for (const it of [there, shared, Buffer.from(SEED)]) {
+        assert.deepEqual(set.keygen(it), wanted);
+    }
+});
+
+test("identifiers of hash functions cannot be changed", () => {
+    const was = oids["SHA-256"].slice();
+    oids["SHA-256"][10] = 3;
+    assert.deepEqual(oids["SHA-256"], was);
+    assert.throws(() => { oids["SHA-256"] = ZEROS; }, TypeError);
+    assert.throws(() => { oids.more = ZEROS; }, TypeError);
+});
+
+test("an array of 2 GiB and nearly so is not rounded", async () => {
+    // A digest is copied before its length is refused.
+    const { mlDsa44 } = await load(code);
+    const { publicKey, privateKey } = mlDsa44.keygen(SEED);
+    const signature = mlDsa44.signMu(privateKey, new Uint8Array(64));
+    assert.equal(mlDsa44.hashVerify(publicKey, new Uint8Array(2 ** 31 - 15), oids["SHA-256"], signature), false);
+    // What does not fit is refused, and the next call works.
+    assert.throws(() => mlDsa44.hashVerify(publicKey, new Uint8Array(2 ** 32 - 1), oids["SHA-256"], signature), /RangeError.*do not fit into the module's memory: 4\d{9} bytes/);
+    assert.equal(mlDsa44.verifyMu(publicKey, new Uint8Array(64), signature), true);
 });
 
 test("each changed signature, message and key is rejected", () => {
@@ -186,7 +312,7 @@ test("digests of each hash function", () => {
         assert.equal(set.hashVerify(publicKey, digest, oids[name], signature, { context: utf8(name) }), true);
         assert.equal(set.hashVerify(publicKey, digest, oids[name], signature), false);
         assert.equal(set.verify(publicKey, digest, signature, { context: utf8(name) }), false);
-        assert.throws(() => set.hashSign(privateKey, new Uint8Array(size + 1), oids[name]), refused(10));
+        assert.throws(() => set.hashSign(privateKey, new Uint8Array(size + 1), oids[name]), refused(10, `digest has ${size + 1} bytes`));
         // M' of FIPS 204, Algorithm 4.
         const tr = shake("shake256", publicKey, 64);
         const mu = shake("shake256", Buffer.concat([tr, Buffer.from([1, name.length]), utf8(name), oids[name], digest]), 64);
@@ -224,8 +350,7 @@ test("a message in pieces", () => {
             assert.deepEqual(set.signMu(privateKey, mu, { random: ZEROS }), signature);
             assert.equal(set.verifyMu(publicKey, mu, signature), true);
         }
-        assert.throws(() => set.messageHasher(publicKey, { context: new Uint8Array(256) }), refused(4));
-        assert.throws(() => set.messageHasher(publicKey.subarray(1)), refused(2));
+        assert.throws(() => set.messageHasher(publicKey, { context: new Uint8Array(256) }), refused(4, "context has 256 bytes, and at most 255 are allowed"));
         assert.throws(() => set.messageHasher(publicKey).update("text"), TypeError);
         assert.equal(set.isPair(privateKey), true);
         privateKey[64] ^= 1; // of tr
@@ -233,10 +358,40 @@ test("a message in pieces", () => {
     }
 });
 
+test("small pieces are hashed together", async (t) => {
+    const [counted, count] = await withCounted(t, "mldsa_mu_update");
+    const { publicKey } = counted.mlDsa65.keygen(SEED);
+    for (const size of [1, 64, 1000, 40000]) {
+        const before = count();
+        const hasher = counted.mlDsa65.messageHasher(publicKey);
+        const message = shake("shake256", "small pieces", 300000);
+        for (let at = 0; at < message.length; at += size) {
+            // A piece is copied: what its owner does with it afterwards changes nothing.
+            const piece = message.slice(at, at + size);
+            hasher.update(piece);
+            piece.fill(0);
+        }
+        assert.deepEqual(hasher.mu(), shake("shake256", Buffer.concat([shake("shake256", publicKey, 64), Buffer.from([0, 0]), message]), 64));
+        assert.ok(count() - before <= 8, `${count() - before} calls for 300000 bytes in pieces of ${size}`);
+    }
+    // Those of which several fit, and those of which none does.
+    const message = shake("shake256", "other pieces", 3000000);
+    const mu = shake("shake256", Buffer.concat([shake("shake256", publicKey, 64), Buffer.from([0, 0]), message]), 64);
+    for (const cuts of [[1], [65535], [65536], [65537], [1, 65536], [1, 65537], [65535, 65537, 65538], [100, 200, 1000000], [2999999]]) {
+        const hasher = counted.mlDsa65.messageHasher(publicKey);
+        [...cuts, message.length].reduce((from, to) => {
+            hasher.update(message.subarray(from, to));
+            return to;
+        }, 0);
+        assert.deepEqual(hasher.mu(), mu);
+        assert.deepEqual(hasher.mu(), mu);
+    }
+});
+
 test("where none is given, random bytes are drawn, used and wiped", (t) => {
     const seen = [];
-    const draw = crypto.getRandomValues.bind(crypto);
-    t.mock.method(crypto, "getRandomValues", (array) => {
+    const draw = webcrypto.getRandomValues.bind(webcrypto);
+    t.mock.method(webcrypto, "getRandomValues", (array) => {
         draw(array);
         seen.push([array, array.slice()]);
         return array;
@@ -254,7 +409,7 @@ test("where none is given, random bytes are drawn, used and wiped", (t) => {
         assert.notDeepEqual(was, ZEROS);
         assert.deepEqual(array, ZEROS);
     }
-    assert.throws(() => set.sign(pair.privateKey, utf8("m"), { context: new Uint8Array(256) }), refused(4));
+    assert.throws(() => set.sign(pair.privateKey, utf8("m"), { context: new Uint8Array(256) }), MlDsaError);
     assert.deepEqual(seen[4][0], ZEROS);
 });
 
@@ -280,7 +435,7 @@ test("each call leaves the memory as it was at first", async (t) => {
     assert.ok(isClean());
     assert.equal(mlDsa87.verify(publicKey, new Uint8Array(300000), signature), true);
     assert.ok(isClean());
-    assert.throws(() => mlDsa87.sign(privateKey, signature, { context: new Uint8Array(256) }), refused(4));
+    assert.throws(() => mlDsa87.sign(privateKey, signature, { context: new Uint8Array(256) }), MlDsaError);
     assert.ok(isClean());
     mlDsa87.isWhole(privateKey);
     assert.ok(isClean());
@@ -295,7 +450,7 @@ test("each call leaves an eighth of the module's stack untouched", async () => {
     const base = exports.__heap_base.value;
     const memory = new Uint8Array(exports.memory.buffer);
     const size = memory.findIndex((byte) => byte !== 0); // constants follow the stack
-    assert.equal(size, 512 << 10);
+    assert.equal(size, 320 << 10);
     const [seed, pk, sk, oid] = [[base, 32n], [base + 1024n, 2592n], [base + 4096n, 4896n], [base + 64n, 11n]];
     const signature = [base + 10240n, 4627n];
     memory.set(oids["SHA-256"], Number(oid[0]));
@@ -329,21 +484,42 @@ test("a set's calls do not disturb another's", () => {
     });
 });
 
-test("loads from a URL, its text, bytes and a module", async () => {
+test("loads from a URL, its text, bytes, a response and a module", async () => {
     const wanted = sets.mlDsa44.keygen(SEED);
     const module = await WebAssembly.compile(code);
-    for (const source of [undefined, place, place.href, code, new Uint8Array(code), new Uint8Array(code).buffer, module]) {
+    const response = () => new Response(code, { headers: { "content-type": "application/wasm" } });
+    const sources = [undefined, place, place.href, code, new Uint8Array(code), new Uint8Array(code).buffer, module, response(), Promise.resolve(response()), Promise.resolve(code)];
+    for (const source of sources) {
         assert.deepEqual((await load(source)).mlDsa44.keygen(SEED), wanted);
     }
     await assert.rejects(load(new URL("absent.wasm", place)), { code: "ENOENT" });
+    await assert.rejects(load(new Response("", { status: 404, statusText: "Not Found" })), /404 Not Found/);
     await assert.rejects(load(new Uint8Array([0, 1, 2])), WebAssembly.CompileError);
+    // A place that is not absolute is none: it would be beside this script, the page or the working folder.
+    await assert.rejects(load("mldsa.wasm"), TypeError);
+    await assert.rejects(load(null), TypeError);
+    await assert.rejects(load(code, {}), TypeError);
 });
 
-test("without 64-bit memories loading says so", async (t) => {
+test("where WebAssembly lacks something loading says so", async (t) => {
     assert.equal(isSupported(), true);
     t.mock.method(WebAssembly, "validate", () => false);
     assert.equal(isSupported(), false);
-    await assert.rejects(load(code), /no 64-bit WebAssembly memories/);
+    await assert.rejects(load(code), /no WebAssembly with bulk memory and sign extension/);
+});
+
+test("isSupported asks for what the module needs", (t) => {
+    const said = spawnSync("wasm-objdump", ["-d", fileURLToPath(place)], { encoding: "utf8", maxBuffer: 2 ** 28 });
+    if (said.error) {
+        t.skip("there is no wasm-objdump of wabt");
+        return;
+    }
+    const used = new Set([...said.stdout.matchAll(/\| +([a-z]\w+(?:\.\w+)*)(?!\w*\[)/g)].map(([, name]) => name));
+    const first = /^(block|loop|if|else|end|br|br_if|br_table|return|call|call_indirect|drop|select|unreachable|nop|(local|global)\.\w+|memory\.(size|grow)|[if](32|64)\.\w+)$/;
+    const later = [...used].filter((name) => !first.test(name) || /_sat_|extend(8|16|32)_s$/.test(name));
+    // What it needs beside the first version of WebAssembly is of the two groups of which the probe has one instruction each.
+    assert.deepEqual(later.filter((name) => !/^memory\.(copy|fill)$|^i(32|64)\.extend(8|16|32)_s$/.test(name)), []);
+    assert.ok(used.size > 50);
 });
 
 test("the module takes nothing from its host, and has each call of the header", async () => {

@@ -1,12 +1,16 @@
-// Tries js/out/verify.html in a browser without a window: node page.js BROWSER. Pictures go into js/out/pictures.
+// Tries js/out/verify.html, and the package in pages, in a browser without a window: node page.js BROWSER. Pictures go into
+// js/out/pictures.
 //
 // The browser is driven through its DevTools protocol, over a pipe: messages of JSON, each ended by a zero byte.
 import { spawn } from "node:child_process";
-import { mkdirSync, mkdtempSync, rmSync, writeFileSync } from "node:fs";
+import { createHash } from "node:crypto";
+import { copyFileSync, mkdirSync, mkdtempSync, readFileSync, rmSync, writeFileSync } from "node:fs";
+import { createServer } from "node:http";
 import { tmpdir } from "node:os";
 import { join } from "node:path";
 import { fileURLToPath, pathToFileURL } from "node:url";
 import { load } from "../out/mldsa.js";
+import { bundle, installed } from "./bundles.js";
 import { SEED, ofOpenssl } from "./shared.js";
 
 const out = fileURLToPath(new URL("../out/", import.meta.url));
@@ -50,8 +54,9 @@ class Browser {
     }
 
     async reload(file) {
-        await this.send("Page.navigate", { url: pathToFileURL(file).href });
-        await this.until(() => this.value("document.readyState === 'complete' && location.protocol === 'file:'"));
+        const url = file.startsWith("http:") ? file : pathToFileURL(file).href;
+        await this.send("Page.navigate", { url });
+        await this.until(() => this.value(`document.readyState === 'complete' && location.href === ${JSON.stringify(url)}`));
     }
 
     async value(expression) {
@@ -108,24 +113,29 @@ const write = (name, bytes) => {
 let failed = 0;
 const name = process.argv[2];
 
-/** Waits for the answer, and compares it. */
-async function answers(browser, what, kind, reason) {
-    const read = () => browser.value("[document.getElementById('answer').className, document.getElementById('headline').textContent, document.getElementById('reason').textContent]");
+/** Prints that a test passed, or what is wrong. */
+function note(what, isRight, said) {
+    failed += isRight ? 0 : 1;
+    console.log(`page, ${what}: ${isRight ? "passed" : "FAILED"}: ${said}`);
+}
+
+/** Waits for the answer, and compares it and what it says of the key. */
+async function answers(browser, what, kind, reason, owner = /^/) {
+    const read = () => browser.value("[document.getElementById('answer').className, ...['headline', 'reason', 'owner'].map((id) => document.getElementById(id).textContent)]");
     let now;
-    try {
-        await browser.until(async () => {
-            now = await read();
-            return now[0] === kind && reason.test(now[2]);
-        });
-        console.log(`page, ${what}: passed: ${now[1]}. ${now[2]}`);
-    } catch {
-        failed++;
-        console.log(`page, ${what}: FAILED: ${JSON.stringify(now)}, wanted ${kind} ${reason}`);
-    }
+    const isRight = await browser.until(async () => {
+        now = await read();
+        return now[0] === kind && reason.test(now[2]) && owner.test(now[3]);
+    }).then(() => true, () => false);
+    note(what, isRight, isRight ? `${now[1]}. ${now[2]} ${now[3]}` : `${JSON.stringify(now)}, wanted ${kind} ${reason} ${owner}`);
     await browser.picture(what.replaceAll(" ", "-"));
 }
 
-async function withMemory64() {
+/** The fingerprint of a public key in PEM. */
+const fingerprint = (pem) => `SHA256:${createHash("sha256").update(Buffer.from(pem.replace(/-----.*-----|\n/g, ""), "base64")).digest("base64").replace(/=*$/, "")}`;
+const exactly = (words) => new RegExp(words.replace(/[.+*?^$()[\]{}|\\]/g, "\\$&"));
+
+async function thePage() {
     const browser = new Browser(name);
     await browser.open(join(out, "verify.html"));
     console.log(`page, by ${(await browser.send("Browser.getVersion").catch(() => ({ product: name }))).product}`);
@@ -137,9 +147,10 @@ async function withMemory64() {
         const file = write(`notes-${number}.sig`, signature);
         await browser.reload(join(out, "verify.html"));
         await browser.drop("h1", [key, message, file]);
-        await answers(browser, `${number} without its context`, "invalid", /not a signature of notes, as it is now, .* and the empty context/);
+        const owner = exactly(`The key in release-${number}.pub is one of ML-DSA-${number}, and its fingerprint is ${fingerprint(pem)}.`);
+        await answers(browser, `${number} without its context`, "invalid", /not a signature of notes, as it is now, .* under the empty context/, owner);
         await browser.value("(() => { const it = document.getElementById('context'); it.value = 'context'; it.dispatchEvent(new Event('input')); })()");
-        await answers(browser, `${number} valid`, "valid", new RegExp(`notes-${number}.sig is a signature of notes .*ML-DSA-${number}.*under this context`));
+        await answers(browser, `${number} valid`, "valid", new RegExp(`notes-${number}.sig is a signature of notes .*ML-DSA-${number}.*under this context`), owner);
         await browser.drop("[data-part=message]", [write("changed", "massage")]);
         await answers(browser, `${number} with another file`, "invalid", /not a signature of changed/);
         await browser.choose("#message", message);
@@ -148,17 +159,31 @@ async function withMemory64() {
         await browser.drop("[data-part=signature]", [write("changed.sig", signature)]);
         await answers(browser, `${number} with a changed signature`, "invalid", /changed.sig is not a signature of notes/);
         await browser.drop("[data-part=signature]", [write("cut.sig", signature.subarray(1))]);
-        await answers(browser, `${number} with a cut signature`, "invalid", /cut.sig has \d+ bytes. .* whose signatures have \d+/);
+        await answers(browser, `${number} with a cut signature`, "invalid", /cut.sig has \d+ bytes. .* whose signatures have \d+/, owner);
         await browser.drop("[data-part=key]", [write("cut.pub", pem.slice(0, -2))]);
-        await answers(browser, `${number} with a cut key`, "unknown", /cut.pub is not a public key that can be read: it is cut short/);
+        await answers(browser, `${number} with a cut key`, "unknown", /cut.pub is not a public key that can be read: it is cut short/, /^$/);
     }
     // A file that is read in several pieces, signed by the recorded key.
     const { mlDsa65 } = await load();
     const long = new Uint8Array(3 * 2 ** 20 + 5).fill(7);
     const parts = [write("long.sig", mlDsa65.sign(mlDsa65.keygen(SEED).privateKey, long)), write("long", long), write("release.pub", ofOpenssl(65).pem)];
     await browser.reload(join(out, "verify.html"));
+    await browser.value("new MutationObserver(() => (globalThis.seen ??= []).push(document.getElementById('progress').value)).observe(document.getElementById('progress'), { attributes: true })");
     await browser.drop("h1", parts);
     await answers(browser, "a long file valid", "valid", /long.sig is a signature of long by/);
+    const seen = await browser.value("[...new Set(globalThis.seen)].filter((it) => it > 0)");
+    const isHidden = await browser.value("document.getElementById('progress').hidden");
+    note("progress", seen.length >= 2 && seen.every((it, i) => it > (seen[i - 1] ?? 0)) && seen.at(-1) === 1 && isHidden, seen.map((it) => it.toFixed(2)).join(" "));
+    // A name that would turn the sentence round, and one with characters that print nothing.
+    const names = { "\u202Evalid\tnotes\u200B": "\\u{202e}valid\\u{9}notes\\u{200b}", "\u2067\u05D0 is a signature of": "\\u{2067}\u05D0 is a signature of" };
+    for (const [given, shown] of Object.entries(names)) {
+        await browser.drop("[data-part=message]", [write(given, long)]);
+        await answers(browser, `a name with ${shown.slice(1, 6)}`, "valid", exactly(`long.sig is a signature of ${shown} by`));
+        const beside = await browser.value("document.getElementById('message-name').textContent");
+        note(`a name with ${shown.slice(1, 6)} beside its field`, beside === `${shown}, ${long.length} bytes`, beside);
+        const isolated = await browser.value("[...document.querySelectorAll('#reason bdi')].map((it) => it.textContent)[1]");
+        note(`a name with ${shown.slice(1, 6)} is apart`, isolated === shown, isolated);
+    }
     long[long.length - 1] ^= 1;
     await browser.drop("[data-part=message]", [write("long-changed", long)]);
     await answers(browser, "a long file changed in its last byte", "invalid", /not a signature of long-changed/);
@@ -169,19 +194,90 @@ async function withMemory64() {
     await browser.close();
 }
 
-/** What the page says where there are no 64-bit memories: the browser has them, so it is made to deny it. */
-async function withoutMemory64() {
+/** What the page says where WebAssembly lacks something: the browser has it, so it is made to deny it. */
+async function thePageWithout() {
     const browser = new Browser(name);
     await browser.open("/dev/null");
-    await browser.send("Page.addScriptToEvaluateOnNewDocument", { source: "const validate = WebAssembly.validate; WebAssembly.validate = (code) => code.length > 13 && validate(code);" });
+    await browser.send("Page.addScriptToEvaluateOnNewDocument", { source: "WebAssembly.validate = () => false;" });
     await browser.reload(join(out, "verify.html"));
-    await answers(browser, "without 64-bit memories", "unknown", /has no 64-bit WebAssembly memories.*Nothing was checked/);
+    await answers(browser, "without bulk memory", "unknown", /WebAssembly lacks bulk memory or sign extension.*Nothing was checked/);
     await browser.close();
 }
 
+/** A page that says whether it accepts what OpenSSL signed, once with its context and once without, and what it signs itself. */
+function program(entry, keys) {
+    const { pem, signature } = ofOpenssl(87);
+    return `
+        import { load } from "${entry}";
+        import { fingerprint, readPublicKey } from "${keys}";
+        const pem = ${JSON.stringify(pem)};
+        const key = readPublicKey(pem).publicKey;
+        const signature = Uint8Array.from(${JSON.stringify([...signature])});
+        const bytes = (words) => new TextEncoder().encode(words);
+        const frame = document.body.appendChild(document.createElement("iframe"));
+        load().then(async ({ mlDsa87 }) => {
+            const { publicKey, privateKey } = mlDsa87.keygen();
+            const own = mlDsa87.verify(publicKey, key, mlDsa87.sign(privateKey, new frame.contentWindow.Uint8Array(key)));
+            const answers = [mlDsa87.verify(key, bytes("message"), signature, { context: bytes("context") }), mlDsa87.verify(key, bytes("message"), signature), own];
+            document.title = [...answers, await fingerprint(pem)].join(" ");
+        }).catch((error) => { document.title = String(error); });
+    `;
+}
+
+/** The package in pages that a server has: its own files, and bundles. */
+async function inPages() {
+    installed(room);
+    const inside = program("mldsa/inline", "mldsa/keys");
+    const byName = program("mldsa", "mldsa/keys");
+    const pages = {
+        "the files themselves, by import": ["module", program("./mldsa.js", "./keys.js")],
+        "bundled for a browser": ["module", bundle(room, "esm.js", inside, "--platform=browser", "--format=esm")],
+        "bundled for a browser by the package's name": ["module", bundle(room, "name.js", byName, "--platform=browser", "--format=esm", "--minify")],
+        "bundled as a plain script": ["text/javascript", bundle(room, "iife.js", byName, "--platform=browser", "--format=iife")],
+        "bundled as a plain script, and made short": ["text/javascript", bundle(room, "short.js", inside, "--format=iife", "--minify")],
+    };
+    const types = { html: "text/html", js: "text/javascript", wasm: "application/wasm" };
+    const server = createServer(({ url }, response) => {
+        const name = decodeURIComponent(url.slice(1));
+        response.setHeader("content-type", types[name.split(".").at(-1)] ?? "text/plain");
+        response.setHeader("content-security-policy", "default-src 'self'; script-src 'self' 'wasm-unsafe-eval'");
+        try {
+            response.end(readFileSync(join(room, "served", name)));
+        } catch {
+            response.statusCode = 404;
+            response.end();
+        }
+    });
+    mkdirSync(join(room, "served"));
+    for (const file of ["mldsa.js", "core.js", "engine.js", "keys.js", "mldsa.wasm"]) {
+        copyFileSync(join(out, file), join(room, "served", file));
+    }
+    await new Promise((resolve) => server.listen(0, "127.0.0.1", resolve));
+    const browser = new Browser(name);
+    await browser.open("/dev/null");
+    const wanted = `true false true ${fingerprint(ofOpenssl(87).pem)}`;
+    let number = 0;
+    for (const [what, [type, made]] of Object.entries(pages)) {
+        if (made === null) {
+            console.log(`page, NOT RUN, since there is no esbuild: ${what}`);
+            continue;
+        }
+        const script = `page-${++number}.js`;
+        writeFileSync(join(room, "served", script), typeof made === "string" ? made : readFileSync(made.file));
+        writeFileSync(join(room, "served", `${number}.html`), `<!doctype html><meta charset="utf-8"><title></title><body><script type="${type}" src="${script}"></script></body>`);
+        await browser.reload(`http://127.0.0.1:${server.address().port}/${number}.html`);
+        await browser.until(() => browser.value("document.title !== ''")).catch(() => {});
+        const said = await browser.value("document.title");
+        note(what, said === wanted, said);
+    }
+    await browser.close();
+    server.close();
+}
+
 try {
-    await withMemory64();
-    await withoutMemory64();
+    await thePage();
+    await thePageWithout();
+    await inPages();
 } finally {
     rmSync(room, { recursive: true, force: true });
 }

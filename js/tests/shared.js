@@ -12,10 +12,8 @@ export const utf8 = (words) => new TextEncoder().encode(words);
 /** Keys and signatures that OpenSSL 4.0.0 wrote: the public key of the seed 00 01 .. 1F as PEM, and its signature of `message` under
  * the context `context`. */
 export function ofOpenssl(number) {
-    const source = text("crates/mlsign_runs/src/recorded.rt");
-    const found = (name) => source.match(new RegExp(`pub static ${name}_${number}: &(?:\\[u8\\]|str) = b?"\\\\\\n(.*?)";`, "s"))[1];
-    const lines = (name) => found(name).replace(/\\\n */g, "").replace(/^ */gm, "");
-    return { pem: lines("PUBLIC").replaceAll("\\n", "\n"), signature: new Uint8Array(Buffer.from(lines("SIGNATURE").replaceAll("\\n", ""), "base64")) };
+    const file = (name) => readFileSync(new URL(`crates/mlsign_session/data/${name}`, top));
+    return { pem: file(`public-${number}.pem`).toString(), signature: new Uint8Array(file(`signature-${number}`)) };
 }
 
 /** The numbers from 0 to 31. */

@@ -8,7 +8,7 @@ seed, random, context, message = map(bytes.fromhex, sys.argv[2:])
 
 def call(name, *arrays):
     """Calls with each array and its length."""
-    words = [it for array in arrays for it in (array, ctypes.c_size_t(len(array)))]
+    words = [word for array in arrays for word in (array, ctypes.c_size_t(len(array)))]
     return getattr(library, name)(*words)
 
 

@@ -1,3 +1,4 @@
+mod Parts
 mod Names
 mod ParameterSets
 mod Ranges
@@ -24,6 +25,5 @@ mod Worked
 mod WorkedAttempts
 mod WorkedRelations
 -- what users may cite
-pub mod Callers
 pub mod Prepared
 pub mod Spellings

@@ -7,9 +7,11 @@ use Rattle.std.proofs.lemmas.Int.{ints}
 use Rattle.std.proofs.lemmas.Nat.{from_le_bytes-to_le_bytes_4}
 use Rattle.std.proofs.Math.Seq.{take-add}
 use Rattle.std.specs.Int.{to_le_bytes, from_le_bytes}
+use Rattle.std.specs.Prelude.{Option, MatchOption, Some, None}
 use Rattle.std.specs.List.{All, flat_map}
 use Rattle.fips204_base.proofs.EncodedParts.{width_4095_4096}
 use Rattle.fips204_base.proofs.VectorBytes.{vector-length}
+use Rattle.fips204_base.specs.Bounds.{TransformsWithin}
 use Rattle.fips204_base.specs.Vectors.{MatrixWithin}
 use Rattle.fips204.specs.PreparedBytes.{entry_bytes, row_bytes, matrix_bytes, IsEntry, IsRow, IsMatrix, IsPreparedPublicOf, IsPreparedPrivateOf}
 use Rattle.fips204.specs.ParameterSets.{private_key_length}
@@ -113,6 +115,11 @@ no_value word bytes large small is x (low, high) same =
     omega (arith, ints, low, high, equal, large)
 
 -- values in range are within it
+pub row_within : (l : ℕ) (row : List T) → IsRow l row → TransformsWithin 8380416 row
+row_within l row (count, entries) s e m i f n =
+    let value = ((entries s e m).1 i f n) in
+    omega (arith, ints, value.0, value.1)
+
 pub matrix_within : (k l : ℕ) (a : List (List T)) → IsMatrix k l a → MatrixWithin 8380416 a
 matrix_within k l a (count, rows) r d h s e m i f n =
     let value = (((rows r d h).1 s e m).1 i f n) in
@@ -156,6 +163,32 @@ public_joined n bytes key tr matrix e f g =
 
 pub private_joined : (n : ℕ) (bytes key matrix : List ℕ) → key ≡ take n bytes → matrix ≡ drop n bytes → key ++ matrix ≡ bytes
 private_joined n bytes key matrix e f = rw (e, f) (take-append-drop n bytes)
+
+-- the prepared key with a matrix that was found in the bytes, or none where there is none
+pub public_found : {X : Type 0} (P : List (List T) → X → Type 0) (Q : PreparedPublic → X → Type 0) (k l n : ℕ) (bytes matrix : List ℕ) (parts : PublicParts) (answer : Option X) → n ≡ 32 + 320 * k
+    → ArePublicParts k parts → public_key_bytes parts.rho parts.t1 ≡ take n bytes → parts.tr ≡ take 64 (drop n bytes) → matrix ≡ drop 64 (drop n bytes)
+    → ((a : List (List T)) (x : X) → P a x → Q record { parts = parts; matrix = a } x)
+    → MatchOption answer ((b : List (List T)) → IsMatrix k l b → matrix_bytes b ≡ matrix → ⊥) (λ x. (a : List (List T)) × IsMatrix k l a × (matrix_bytes a ≡ matrix) × P a x)
+    → MatchOption answer ((pk : PreparedPublic) → IsPreparedPublicOf k l bytes pk → ⊥) (λ x. (pk : PreparedPublic) × IsPreparedPublicOf k l bytes pk × Q pk x)
+public_found P Q k l n bytes matrix parts None size are key tr rest carry none = λ pk is. none pk.matrix is.matrix (public_matrix k l n bytes pk size is ∙ sym rest)
+public_found P Q k l n bytes matrix parts (Some x) size are key tr rest carry (a, is, same, holds) = (
+  record { parts = parts; matrix = a },
+  record { parts = are; matrix = is; encoding = public_joined n bytes (public_key_bytes parts.rho parts.t1) parts.tr (matrix_bytes a) key tr (same ∙ rest) },
+  carry a x holds,
+)
+
+pub private_found : {X : Type 0} (P : List (List T) → X → Type 0) (Q : PreparedPrivate → X → Type 0) (eta k l n : ℕ) (bytes matrix : List ℕ) (parts : PrivateParts) (answer : Option X)
+    → ((sk : PrivateParts) → ArePrivateParts eta k l sk → n ≡ length (private_key_bytes eta sk))
+    → ArePrivateParts eta k l parts → private_key_bytes eta parts ≡ take n bytes → matrix ≡ drop n bytes
+    → ((a : List (List T)) (x : X) → P a x → Q record { parts = parts; matrix = a } x)
+    → MatchOption answer ((b : List (List T)) → IsMatrix k l b → matrix_bytes b ≡ matrix → ⊥) (λ x. (a : List (List T)) × IsMatrix k l a × (matrix_bytes a ≡ matrix) × P a x)
+    → MatchOption answer ((sk : PreparedPrivate) → IsPreparedPrivateOf eta k l bytes sk → ⊥) (λ x. (sk : PreparedPrivate) × IsPreparedPrivateOf eta k l bytes sk × Q sk x)
+private_found P Q eta k l n bytes matrix parts None long are key rest carry none = λ sk is. none sk.matrix is.matrix (private_matrix eta k l n bytes sk (long sk.parts is.parts) is ∙ sym rest)
+private_found P Q eta k l n bytes matrix parts (Some x) long are key rest carry (a, is, same, holds) = (
+  record { parts = parts; matrix = a },
+  record { parts = are; matrix = is; encoding = private_joined n bytes (private_key_bytes eta parts) (matrix_bytes a) key (same ∙ rest) },
+  carry a x holds,
+)
 
 -- the length of a private key of a set is that of its encoding
 pub length-private_at : (p : ParameterSet) (k l n : ℕ) (sk : PrivateParts) → k ≡ p.k → l ≡ p.l → n ≡ private_key_length p → ArePrivateParts p.eta k l sk → n ≡ length (private_key_bytes p.eta sk)

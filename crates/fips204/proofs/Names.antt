@@ -8,14 +8,15 @@ pub use Rattle.fips204.specs.Inputs.{input_of}
 unfoldable pub use Rattle.fips204.specs.Keys.{high_part, key_pair, low_part}
 pub use Rattle.fips204.specs.Keys.{DecodesPrivate, IsWhole, key_vector}
 pub use Rattle.fips204.specs.ParameterSets.{IsSet, ParameterSet, c_tilde_length, set_44, set_65, set_87}
-pub use Rattle.fips204.specs.Prepared.{AcceptedIfWholePrepared, IsEachJudged, IsEachSigned, IsWholePrepared, PreparedAnswersAsPlain, PreparedPrivate, PreparedPublic, VerifiesPrepared, prepared_private, prepared_public, public_of_prepared, sign_prepared}
+pub use Rattle.fips204.specs.Prepared.{IsEachJudged, IsEachSigned, IsWholePrepared, PreparedAnswersAsPlain, PreparedPrivate, PreparedPublic, VerifiesPrepared, prepared_private, prepared_public, public_of_prepared, sign_prepared}
 unfoldable pub use Rattle.fips204.specs.Refusals.{derived, generated}
 pub use Rattle.fips204.specs.Refusals.{DrawsUnless, OnlySamplingLimit, VerifiesInput, input_fault, refused_or, sign_input}
 pub use Rattle.fips204.specs.SchemeLaws.{AreFramedAlike, ChallengeProductIsSmall, Collide, Fixes, FramingIsOneToOne, NamesKeyCollision, OtherHintCollides, PackingIsUndone, RefusesOnly, SignatureBindsHash, SignatureBindsInput, SignatureBindsKey, SignatureFixesOne, framing, has_context}
 pub use Rattle.fips204.specs.Sets.{HasKeySizes, HasSizes, set_of}
 unfoldable pub use Rattle.fips204.specs.Signing.{attempt, commitment_hash, ct0, first_answer, hint_vector, low_vector, passes_checks, response, sign, sign_with}
 pub use Rattle.fips204.specs.Signing.{w_minus_cs2}
-pub use Rattle.fips204.specs.SigningInputs.{AreShifted, IsFactorOf, IsHighPart, IsSigningLimit, OpensTo, checked_attempt, has_oid_form, high_vector, hint_bit, hinted, input_hash, key_hash, mask_seed, multiple, scaled, seed_front, t1_shifted, y_plus_cs1}
+pub use Rattle.fips204.specs.SigningInputs.{AreShifted, IsFactorOf, IsHighPart, OpensTo, checked_attempt, has_oid_form, hint_bit, hinted, input_hash}
+pub use Rattle.fips204.proofs.Parts.{IsSigningLimit, high_vector, key_hash, mask_seed, scaled, seed_front, t1_shifted, y_plus_cs1}
 pub use Rattle.fips204.specs.declared.types.Params.{Params}
 unfoldable pub use Rattle.fips204_base.proofs.Challenges.{challenge_picks}
 pub use Rattle.fips204_base.proofs.Challenges.{challenge_places, challenge_places-apart, length-challenge_places, sum-elsewhere}
@@ -37,7 +38,7 @@ pub use Rattle.fips204_base.specs.Encodings.{ArePrivateParts, ArePublicParts, Is
 unfoldable pub use Rattle.fips204_base.specs.Packing.{bit_length, bits}
 pub use Rattle.fips204_base.specs.Packing.{width}
 unfoldable pub use Rattle.fips204_base.specs.PlainTransforms.{row_product}
-pub use Rattle.fips204_base.specs.PlainTransforms.{AreSameModQ}
+pub use Rattle.fips204_base.specs.PlainTransforms.{AreSameModQ, multiple}
 unfoldable pub use Rattle.fips204_base.specs.Residues.{centred, sum_below}
 pub use Rattle.fips204_base.specs.Residues.{IsCongruent, coefficients, norm, residue, vector_norm}
 unfoldable pub use Rattle.fips204_base.specs.Rounding.{use_hint}

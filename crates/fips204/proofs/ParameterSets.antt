@@ -231,14 +231,15 @@ pub record IsSignatureShape (gamma1 ones : ℤ) (k l n size : ℕ) : Type 0 wher
   pub hint_size : nat_abs ones + k < 256
   pub whole : size ≡ n + 32 * width (gamma1 -ℤ pos 1) gamma1 * l + (nat_abs ones + k)
 
-pub signature-shape : (p : Params) (gamma1 ones : ℤ) (k l n size : ℕ) → IsKnown p → HasSizes (set_of p) k l n size → gamma1 ≡ p.gamma1 → ones ≡ p.omega → IsSignatureShape gamma1 ones k l n size
-signature-shape p gamma1 ones k l n size known sizes m o =
+pub signature-shape : (p : Params) (gamma1 ones : ℤ) (k l n size : ℕ) → IsKnown p → HasSizes (set_of p) k l size → n ≡ c_tilde_length (set_of p)
+    → gamma1 ≡ p.gamma1 → ones ≡ p.omega → IsSignatureShape gamma1 ones k l n size
+signature-shape p gamma1 ones k l n size known sizes commitment m o =
     let some = limits p known in
     record {
       set = rw m some.mask;
       some = rw o some.some_ones;
       hint_size = rw (o, sizes.rows) some.hint_size;
-      whole = sizes.signature ∙ rw (m, o, sizes.rows, sizes.columns, sizes.c_tilde, response_width p.gamma1 some.mask) (omega arith);
+      whole = sizes.signature ∙ rw (m, o, sizes.rows, sizes.columns, commitment, response_width p.gamma1 some.mask) (omega arith);
     }
 
 pub mask-size : (gamma1 : ℤ) → (gamma1 ≡ pos 131072) ⊎ (gamma1 ≡ pos 524288) → (1 ≤ nat_abs gamma1) × (nat_abs gamma1 ≤ 524288)

@@ -1,25 +1,22 @@
 -- Keys with their matrix: what is signed with one is accepted, and each answers as its plain key.
 use Rattle.std.proofs.Common.{◌≡◌, ◌≤◌, ℕ, List, [], Bool, refl, sym, ap, subst, ◌∙◌, length, get_or, Result, Ok, Some, None, ◌↔◌, ok_or, option_map, unwrap_or, Err}
-use Rattle.fips204.proofs.Names.{Fault, SamplingLimit, T, sampled_matrix, Accepts, Verifies, Input, plain, represented, representative, PublicParts, PrivateParts, ArePrivateParts, IsWhole, high_part, low_part, ParameterSet, IsSet, PreparedPrivate, PreparedPublic, prepared_private, prepared_public, public_of_prepared, sign_prepared, IsWholePrepared, VerifiesPrepared, IsEachSigned, IsEachJudged, AcceptedIfWholePrepared, PreparedAnswersAsPlain, refused_or, input_fault, sign_input, VerifiesInput, derived, input_hash, sign, sign_with}
+use Rattle.fips204.proofs.Names.{Fault, SamplingLimit, T, sampled_matrix, Accepts, Verifies, Input, plain, representative, PublicParts, PrivateParts, ArePrivateParts, IsWhole, high_part, low_part, ParameterSet, IsSet, PreparedPrivate, PreparedPublic, prepared_private, prepared_public, public_of_prepared, sign_prepared, IsWholePrepared, VerifiesPrepared, IsEachSigned, IsEachJudged, PreparedAnswersAsPlain, refused_or, input_fault, sign_input, VerifiesInput, derived, sign, sign_with}
 use Rattle.std.specs.declared.option.Option.{Option}
+use Rattle.fips204.specs.Completeness.{AcceptedIfWhole}
 use Rattle.fips204.proofs.Completeness.{accepts_signed_with}
-use Rattle.fips204.proofs.RefusedCalls.{given_input, same_some, same_ok}
+use Rattle.fips204.proofs.RefusedCalls.{signed_input, same_some, same_ok}
 
 -- ---- what is signed is accepted
 
-pub hash_accepted : (p : ParameterSet) (H : List ℕ → List ℕ) (K L : ℕ) (sk : PreparedPrivate) (mu rnd : List ℕ) (answer : Result (List ℕ) Fault) → IsSet p
-    → ((x : List ℕ) → 4096 ≤ length (H x)) → K ≡ p.k → L ≡ p.l → ArePrivateParts p.eta K L sk.parts → answer ≡ sign_prepared p H sk rnd (represented mu)
-    → AcceptedIfWholePrepared p H sk (represented mu) answer
-hash_accepted p H K L sk mu rnd answer known law rows columns parts same =
-    λ signature whole e. (refl, accepts_signed_with p H sk.matrix sk.parts mu rnd signature known (rw (rows, columns) at parts) whole law (sym same ∙ e))
-
--- and so is what is signed of an input
-pub input_accepted_prepared : (p : ParameterSet) (H : List ℕ → List ℕ) (sk : PreparedPrivate) (input : Input) (mu : List ℕ) (answer : Result (List ℕ) Fault) → Ok mu ≡ input_hash H sk.parts.tr input
-    → AcceptedIfWholePrepared p H sk (represented mu) answer → AcceptedIfWholePrepared p H sk input answer
-input_accepted_prepared p H sk input mu answer e accepted =
-    λ signature whole made.
-    let given = given_input H sk.parts.tr sk.parts.tr mu input refl e in
-    (given.0, subst (λ m. Accepts p H sk.matrix (high_part p sk.matrix sk.parts.s1 sk.parts.s2) m signature) given.1 (accepted signature whole made).1)
+pub signed_accepted : (p : ParameterSet) (H : List ℕ → List ℕ) (K L : ℕ) (sk : PreparedPrivate) (rnd : List ℕ) (input : Input) (answer : Result (List ℕ) Fault) → IsSet p
+    → ((x : List ℕ) → 4096 ≤ length (H x)) → K ≡ p.k → L ≡ p.l → ArePrivateParts p.eta K L sk.parts → answer ≡ sign_prepared p H sk rnd input
+    → AcceptedIfWhole (IsWholePrepared p sk) (Ok (public_of_prepared p sk)) (λ pk signature. VerifiesPrepared p H pk signature input) answer
+signed_accepted p H K L sk rnd input answer known law rows columns parts same =
+    λ pk signature whole derives e.
+    let accepts = λ (mu : List ℕ). Accepts p H sk.matrix (high_part p sk.matrix sk.parts.s1 sk.parts.s2) mu signature in
+    let made = signed_input H sk.parts.tr sk.parts.tr input (λ mu. sign_with p H sk.matrix sk.parts mu rnd) accepts signature refl
+    (λ mu m. accepts_signed_with p H sk.matrix sk.parts mu rnd signature known (rw (rows, columns) at parts) whole law m) (sym same ∙ e) in
+    subst (λ (k : PreparedPublic). VerifiesPrepared p H k signature input) (same_ok (public_of_prepared p sk) pk derives) made
 
 -- ---- a prepared key answers as its plain key
 

@@ -1,5 +1,6 @@
 -- The bytes of prepared keys tell the keys.
-use Rattle.std.proofs.Common.{◌≡◌, ◌∙◌, ◌+◌, ◌*◌, ◌^◌, ◌<◌, ℕ, ℤ, nat_abs, List, [], ◌∷◌, ◌++◌, length, take, drop, get_or, map, ap, sym, subst, arith, refl, w32, append_assoc, length-append, Ok, Some}
+use Rattle.std.proofs.Common.{◌≡◌, ◌∙◌, ◌+◌, ◌*◌, ◌^◌, ◌<◌, ℕ, ℤ, nat_abs, List, [], ◌∷◌, ◌++◌, length, take, drop, get_or, map, ap, sym, subst, arith, refl, w32, append_assoc, length-append, Result, Ok, Err, Some}
+use Rattle.std.specs.Prelude.{MatchResult, ⊤}
 use Rattle.std.proofs.lemmas.Int.{ints}
 use Rattle.std.proofs.lemmas.List.{take_at, drop_at}
 use Rattle.std.proofs.lemmas.List.Elements.{All-head, All-tail}
@@ -11,7 +12,7 @@ use Rattle.fips204_base.specs.Sampling.{all_present, matrix_entry}
 use Rattle.fips204.specs.PreparedBytes.{entry_bytes, row_bytes, matrix_bytes, IsEntry, IsRow, IsMatrix, prepared_public_bytes, prepared_private_bytes, IsPreparedPublicOf, IsPreparedPrivateOf, PreparedThroughBytes}
 use Rattle.fips204.specs.ParameterSets.{private_key_length}
 use Rattle.fips204.proofs.MatrixBytes.{IsValue, value_bytes, length-value, length-entry, length-row, length-matrix, length-public, length-private_at, length-private, public_matrix, private_matrix, private_key_at}
-use Rattle.fips204.proofs.Names.{T, ParameterSet, IsSet, PublicParts, PrivateParts, ArePublicParts, ArePrivateParts, PreparedPublic, PreparedPrivate, prepared_public, prepared_private, public_key_bytes, private_key_bytes, sampled_matrix}
+use Rattle.fips204.proofs.Names.{Fault, T, ParameterSet, IsSet, PublicParts, PrivateParts, ArePublicParts, ArePrivateParts, PreparedPublic, PreparedPrivate, prepared_public, prepared_private, public_key_bytes, private_key_bytes, sampled_matrix}
 use Rattle.fips204.proofs.Prepared.{private_parts, public_parts}
 use Rattle.fips204.proofs.WholeKeys.{one_public_key, bytes_tell_keys}
 
@@ -117,6 +118,12 @@ own_private p G sk prepared are made =
       matrix = sampled_is_matrix G sk.rho p.k p.l prepared.matrix is.1;
       encoding = refl;
     }
+
+-- what is written, where the matrix was sampled
+pub written_private : (p : ParameterSet) (G : List ℕ → List ℕ) (sk : PrivateParts) (a : List (List T)) (old new : List ℕ) (answer : Result ⊤ Fault) → sampled_matrix G sk.rho p.k p.l ≡ Some a
+    → new ≡ private_key_bytes p.eta sk ++ matrix_bytes a → answer ≡ Ok tt
+    → MatchResult (prepared_private p G sk) (λ prepared. (new ≡ prepared_private_bytes p.eta prepared) × (answer ≡ Ok tt)) (λ fault. (new ≡ old) × (answer ≡ Err fault))
+written_private p G sk a old new answer there same done = rw there (same, done)
 
 pub prepared_through_bytes : (p : ParameterSet) (G : List ℕ → List ℕ) → IsSet p → PreparedThroughBytes p G
 prepared_through_bytes p G known = record {

@@ -78,19 +78,9 @@ by_tests p sk y w c_tilde c e f h i = rw (e, f, h, i) refl
 
 -- ---- the vectors of an attempt
 
--- what is written are the products of what is the same modulo q
-pub multiple-of : (d c : R) (out u v : List R) (f : ℕ → ℕ → ℕ) (k : ℕ) → IsFactorOf d c → AreSameModQ k u v
-    → ((r n : ℕ) → r < k → n < 256 → f r n ≡ scaled d (vector_coefficients u) r n)
-    → out ≡ vector_of k (λ r n. pos (f r n)) → out ≡ multiple k c v
-multiple-of d c out u v f k same equal made whole =
-    whole ∙ vector_of-ext k _ _ (λ r n h l. ap pos (made r n h l ∙ multiple-same d c u v k r n same equal h l))
-
--- which are in a vector that is used up
-pub multiple-is : (d c : R) (room out u v : List R) (k : ℕ) → k ≤ 8 → IsFactorOf d c → AreSameModQ k u v
-    → ((r n : ℕ) → r < 8 → n < 256 → vector_coefficients room r n ≡ scaled d (vector_coefficients u) r n)
-    → out ≡ vector_of k (λ r n. pos (vector_coefficients room r n)) → out ≡ multiple k c v
-multiple-is d c room out u v k few same equal made whole =
-    multiple-of d c out u v (vector_coefficients room) k same equal (λ r n h l. made r n (omega (arith, h, few)) l) whole
+-- the multiple of what is the same modulo q
+pub multiple-equal : (d c : R) (out u v : List R) (k : ℕ) → IsFactorOf d c → AreSameModQ k u v → out ≡ multiple k d u → out ≡ multiple k c v
+multiple-equal d c out u v k same equal is = is ∙ vector_of-ext k _ _ (λ r n h l. ap pos (multiple-same d c u v k r n same equal h l))
 
 -- its coefficients
 multiple-at : (k : ℕ) (c : R) (v out : List R) (r n : ℕ) → out ≡ multiple k c v → r < k → n < 256 → vector_coefficients out r n ≡ scaled c (vector_coefficients v) r n

@@ -11,7 +11,7 @@ use Rattle.fips204_base.specs.Transforms.{product}
 use Rattle.fips204_base.specs.Vectors.{matrix_product, polynomial_of, vector_of}
 use Rattle.fips204_base.specs.declared.types.R.{R}
 use Rattle.fips204.specs.Keys.{key_pair, high_part}
-use Rattle.fips204.specs.SigningInputs.{seed_front, t1_shifted, mask_seed}
+use Rattle.fips204.proofs.Parts.{seed_front, t1_shifted, mask_seed}
 use Rattle.fips204.specs.Acceptance.{w1_prime}
 use Rattle.fips204.specs.ParameterSets.{ParameterSet, set_44, set_65, set_87, public_key_length, private_key_length, signature_length}
 use Rattle.fips204.specs.Rows.{is_parameter_set}

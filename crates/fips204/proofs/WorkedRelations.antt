@@ -5,7 +5,7 @@ use Rattle.std.proofs.lemmas.List.{get_or-replicate}
 use Rattle.fips204_base.specs.declared.fault.Fault.TheVariants.{SamplingLimit}
 use Rattle.fips204_base.specs.Packing.{bit_length}
 use Rattle.fips204_base.proofs.Vectors.{get_or-padded}
-use Rattle.fips204.specs.SigningInputs.{AreShifted, AreShiftedFromFour}
+use Rattle.fips204.specs.SigningInputs.{AreShifted}
 use Rattle.fips204.specs.Framing.{plain, framed, represented}
 use Rattle.fips204.specs.LongerFronts.{YesAndNoStay}
 use Rattle.fips204.specs.ParameterSets.{set_44, set_65, set_87, IsSet}
@@ -16,14 +16,14 @@ use Rattle.fips204.specs.Sets.{HasSizes, HasKeySizes}
 three_sets : IsSet set_44 × IsSet set_65 × IsSet set_87
 three_sets = (inl refl, inr (inl refl), inr (inr refl))
 
--- Table 2, and lambda / 4
-sizes_of_65 : HasSizes set_65 6 5 48 3309 × HasKeySizes set_65 6 5 1952 4032
+-- Table 2
+sizes_of_65 : HasSizes set_65 6 5 3309 × HasKeySizes set_65 6 5 1952 4032
 unfolding bit_length
-sizes_of_65 = (record { rows = refl; columns = refl; c_tilde = refl; signature = refl }, record { rows = refl; columns = refl; public_key = refl; private_key = refl })
+sizes_of_65 = (record { rows = refl; columns = refl; signature = refl }, record { rows = refl; columns = refl; public_key = refl; private_key = refl })
 
-other_sizes : (HasSizes set_65 5 5 48 3309 → ⊥) × (HasSizes set_65 6 6 48 3309 → ⊥) × (HasSizes set_65 6 5 49 3309 → ⊥) × (HasSizes set_65 6 5 48 3308 → ⊥)
+other_sizes : (HasSizes set_65 5 5 3309 → ⊥) × (HasSizes set_65 6 6 3309 → ⊥) × (HasSizes set_65 6 5 3308 → ⊥)
 unfolding bit_length
-other_sizes = (λ s. omega (arith, s.rows), λ s. omega (arith, s.columns), λ s. omega (arith, s.c_tilde), λ s. omega (arith, s.signature))
+other_sizes = (λ s. omega (arith, s.rows), λ s. omega (arith, s.columns), λ s. omega (arith, s.signature))
 
 other_key_sizes : (HasKeySizes set_65 5 5 1952 4032 → ⊥) × (HasKeySizes set_65 6 6 1952 4032 → ⊥) × (HasKeySizes set_65 6 5 1951 4032 → ⊥) × (HasKeySizes set_65 6 5 1952 4033 → ⊥)
 unfolding bit_length
@@ -34,15 +34,6 @@ shifted_vectors : AreShifted 1 (record { 0 = replicate 256 (pos 1024) } ∷ []) 
     × (AreShifted 1 [] (record { 0 = replicate 255 (pos 0) ++ pos 1 ∷ [] } ∷ []) → ⊥)
 shifted_vectors = (
   λ r n h l. let first : r ≡ 0 = omega (arith, h) in rw (first, get_or-padded (pos 8191) (pos 5) (pos 0) n l, get_or-replicate 256 n (pos 1024) (pos 0) l) refl,
-  λ all. let last : 1 ≡ 0 = all 0 255 (omega arith) (omega arith) in omega (arith, last),
-)
-
--- after four others: 1 is 8192 there, and a zero is not 1
-after_four : AreShiftedFromFour 1 (record { 0 = replicate 256 (pos 1) } ∷ [])
-    (record { 0 = [] } ∷ record { 0 = [] } ∷ record { 0 = [] } ∷ record { 0 = [] } ∷ record { 0 = replicate 256 (pos 8192) } ∷ [])
-    × (AreShiftedFromFour 1 [] (record { 0 = [] } ∷ record { 0 = [] } ∷ record { 0 = [] } ∷ record { 0 = [] } ∷ record { 0 = replicate 256 (pos 1) } ∷ []) → ⊥)
-after_four = (
-  λ r n h l. let first : r ≡ 0 = omega (arith, h) in rw (first, get_or-replicate 256 n (pos 8192) (pos 0) l, get_or-replicate 256 n (pos 1) (pos 0) l) refl,
   λ all. let last : 1 ≡ 0 = all 0 255 (omega arith) (omega arith) in omega (arith, last),
 )
 

@@ -11,6 +11,7 @@ use Rattle.fips204.specs.Keys.{high_part, low_part, IsWhole}
 use Rattle.fips204.specs.Framing.{Input, plain, representative}
 use Rattle.fips204.specs.Signing.{sign_with}
 use Rattle.fips204.specs.Acceptance.{Accepts}
+use Rattle.fips204.specs.Completeness.{AcceptedIfWhole}
 use Rattle.fips204.specs.Refusals.{derived, sign_input, refused_or, input_fault, VerifiesInput}
 
 -- a key's parts and a matrix
@@ -55,7 +56,8 @@ public_of_prepared p sk = record { parts = record { rho = sk.parts.rho; tr = sk.
 
 -- what signing an input answers with a whole prepared key is accepted by the public key that belongs to it
 abbrev pub AcceptedIfWholePrepared : ParameterSet → XOF → PreparedPrivate → Input → Result Bytes Fault → Type 0
-AcceptedIfWholePrepared p H sk input answer = (signature : Bytes) → IsWholePrepared p sk → answer ≡ Ok signature → VerifiesPrepared p H (public_of_prepared p sk) signature input
+AcceptedIfWholePrepared p H sk input answer =
+    AcceptedIfWhole (IsWholePrepared p sk) (Ok (public_of_prepared p sk)) (λ pk signature. VerifiesPrepared p H pk signature input) answer
 
 -- a prepared key answers as its plain key, is whole if and only if that is, and its public key is the derived one, prepared
 pub record PreparedAnswersAsPlain (p : ParameterSet) (H G : XOF) : Type 0 where

@@ -3,7 +3,7 @@ use Rattle.std.specs.Prelude.{◌≡◌, ℕ, nat_abs}
 use Rattle.fips204.specs.declared.sets.SetName.{SetName}
 use Rattle.fips204.specs.declared.sets.SetName.TheVariants.{MlDsa44, MlDsa65, MlDsa87}
 use Rattle.fips204.specs.declared.types.Params.{Params}
-use Rattle.fips204.specs.ParameterSets.{ParameterSet, set_44, set_65, set_87, c_tilde_length, signature_length, public_key_length, private_key_length}
+use Rattle.fips204.specs.ParameterSets.{ParameterSet, set_44, set_65, set_87, signature_length, public_key_length, private_key_length}
 
 -- the set of a value
 abbrev pub set_of : Params → ParameterSet
@@ -26,11 +26,10 @@ named_set MlDsa44 = set_44
 named_set MlDsa65 = set_65
 named_set MlDsa87 = set_87
 
--- k rows and l columns, n bytes of c_tilde and s bytes of a signature are those of the set
-pub record HasSizes (p : ParameterSet) (k l n s : ℕ) : Type 0 where
+-- k rows and l columns, and s bytes of a signature, are those of the set
+pub record HasSizes (p : ParameterSet) (k l s : ℕ) : Type 0 where
   pub rows : k ≡ p.k
   pub columns : l ≡ p.l
-  pub c_tilde : n ≡ c_tilde_length p
   pub signature : s ≡ signature_length p
 
 -- k rows and l columns, and the bytes of a public and of a private key, are those of the set

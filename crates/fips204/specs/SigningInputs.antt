@@ -1,15 +1,15 @@
--- What private functions of signing take and answer, and parts of definitions: cited by no public clause; nobody has to believe it.
+-- What private functions of signing take and answer: cited by no public clause; nobody has to believe it.
 use Rattle.std.specs.Prelude.{◌≡◌, ◌⊎◌, ◌+◌, ◌-◌, ◌*◌, ◌%◌, ◌<◌, ◌≤◌, ℕ, List, [], ◌∷◌, ◌++◌, length, take, slice_index, Bool, ◌&&◌, nat_eq, nat_lt, nat_le, if◌then◌else◌, Option, Some, None, Result, Ok, ℤ, pos, slice_index_or, option_map, ok_or}
-use Rattle.fips204_base.specs.Encodings.{PrivateParts, IsSignature, public_key_bytes, signature_bytes, is_one}
+use Rattle.fips204_base.specs.Encodings.{PrivateParts, IsSignature, signature_bytes, is_one}
 use Rattle.fips204_base.specs.Residues.{vector_norm, coefficients}
-use Rattle.fips204_base.specs.Rounding.{high_bits, make_hint, use_hint}
+use Rattle.fips204_base.specs.Rounding.{make_hint, use_hint}
 use Rattle.fips204_base.specs.Sampling.{challenge}
-use Rattle.fips204_base.specs.Transforms.{product, plus}
+use Rattle.fips204_base.specs.Transforms.{product}
 use Rattle.fips204_base.specs.Vectors.{IsVector, vector_coefficients, vector_of}
 use Rattle.fips204_base.specs.PlainTransforms.{AreSameModQ}
 use Rattle.fips204_base.specs.Bounds.{PolynomialWithin, VectorWithin}
 use Rattle.fips204_base.specs.declared.fault.Fault.{Fault}
-use Rattle.fips204_base.specs.declared.fault.Fault.TheVariants.{SamplingLimit, TooManyAttempts}
+use Rattle.fips204_base.specs.declared.fault.Fault.TheVariants.{SamplingLimit}
 use Rattle.fips204_base.specs.declared.types.R.{R}
 use Rattle.fips204.specs.Framing.{Input, representative}
 use Rattle.fips204.specs.ParameterSets.{ParameterSet, c_tilde_length}
@@ -29,20 +29,17 @@ pub record AreKeyTransforms (k l : ℕ) (sk : PrivateParts) (t : KeyTransforms) 
 abbrev pub AreShifted : ℕ → List R → List R → Type 0
 AreShifted k t1 v = (r n : ℕ) → r < k → n < 256 → vector_coefficients v r n ≡ 8192 * vector_coefficients t1 r n % 8380417
 
--- what multiplies has t1 2^13 from its polynomial 4 on
-abbrev pub AreShiftedFromFour : ℕ → List R → List R → Type 0
-AreShiftedFromFour k t1 v = (r n : ℕ) → r < k → n < 256 → vector_coefficients v (4 + r) n ≡ 8192 * vector_coefficients t1 r n % 8380417
-
 -- what an attempt takes beside the key: a set whose sizes the call has, and a counter of its masks that leaves room for one of
 -- each row
-pub record AreAttemptInputs (p : Params) (k l n s : ℕ) (kappa : ℕ) : Type 0 where
-  pub sizes : HasSizes (set_of p) k l n s
+pub record AreAttemptInputs (p : Params) (k l s : ℕ) (kappa : ℕ) : Type 0 where
+  pub sizes : HasSizes (set_of p) k l s
   pub counter : kappa + l ≤ 65536
 
 -- what the checks of an attempt take beside the key: the sizes, a mask y with coefficients of at most 2^19 in absolute value, and
 -- w = A y and a challenge c with coefficients below q in absolute value
-pub record AreCheckInputs (p : Params) (k l n s : ℕ) (y w : List R) (c : R) : Type 0 where
-  pub sizes : HasSizes (set_of p) k l n s
+pub record AreCheckInputs (p : Params) (k l s : ℕ) (c_tilde : List ℕ) (y w : List R) (c : R) : Type 0 where
+  pub sizes : HasSizes (set_of p) k l s
+  pub commitment : length c_tilde ≡ c_tilde_length (set_of p)
   pub some_rows : 1 ≤ k
   pub few_rows : k ≤ 8
   pub some_columns : 1 ≤ l
@@ -65,19 +62,9 @@ pub record OpensTo (p : ParameterSet) (H : List ℕ → List ℕ) (signature c_t
   pub norm : vector_norm z < p.gamma1 - p.beta
   pub sampled : challenge p.tau (H c_tilde) ≡ Some c
 
--- ---- parts of definitions, by themselves
-
--- the refusals of signing beside those of its input: a sampler reached its limit, or every attempt was rejected
-abbrev pub IsSigningLimit : Fault → Type 0
-IsSigningLimit fault = (fault ≡ SamplingLimit) ⊎ (fault ≡ TooManyAttempts)
-
 -- at least three bytes, the first 06, and the second below 128 and the number of bytes after it
 abbrev pub has_oid_form : List ℕ → Bool
 has_oid_form oid = nat_le 3 (length oid) && nat_eq (slice_index oid 0) 0x06 && nat_lt (slice_index oid 1) 128 && nat_eq (slice_index oid 1 + 2) (length oid)
-
--- w1, the high bits of w
-abbrev pub high_vector : ParameterSet → (ℕ → ℕ → ℕ) → List R
-high_vector p w = vector_of p.k (λ r n. pos (high_bits p.gamma2 (w r n)))
 
 -- what a challenge makes of an attempt with mask y, whose A y is w
 abbrev pub checked_attempt : ParameterSet → PrivateParts → List R → (ℕ → ℕ → ℕ) → List ℕ → Option R → Result (Option (List ℕ)) Fault
@@ -88,38 +75,10 @@ checked_attempt p sk y w c_tilde challenge =
 abbrev pub hint_bit : ℕ → ℕ → ℕ → ℤ
 hint_bit gamma2 v t = if make_hint gamma2 (8380416 * t % 8380417) ((v + t) % 8380417) then pos 1 else pos 0
 
--- rho'', the seed of the masks
-abbrev pub mask_seed : (List ℕ → List ℕ) → PrivateParts → List ℕ → List ℕ → List ℕ
-mask_seed H sk rnd mu = take 64 (H (sk.key ++ rnd ++ mu))
-
 -- UseHint(h, w), coefficient by coefficient
 abbrev pub hinted : ParameterSet → List R → (ℕ → ℕ → ℕ) → List R
 hinted p h w = vector_of p.k (λ r n. pos (use_hint p.gamma2 (is_one (slice_index_or h r record { 0 = [] }) n) (w r n)))
 
--- the seeds of both keys: H over xi, byte k and byte l
-abbrev pub seed_front : ParameterSet → (List ℕ → List ℕ) → List ℕ → List ℕ
-seed_front p H xi = H (xi ++ p.k ∷ p.l ∷ [])
-
--- tr, the hash by H of the public key's bytes, 64 of its bytes
-abbrev pub key_hash : (List ℕ → List ℕ) → List ℕ → List R → List ℕ
-key_hash H rho t1 = take 64 (H (public_key_bytes rho t1))
-
--- t1 2^13
-abbrev pub t1_shifted : List R → ℕ → ℕ → ℕ
-t1_shifted t1 r n = 8192 * vector_coefficients t1 r n % 8380417
-
 -- t1, with k polynomials
 abbrev pub IsHighPart : ℕ → List R → Type 0
 IsHighPart k t1 = IsVector k 0 1023 t1
-
--- c v
-abbrev pub scaled : R → (ℕ → ℕ → ℕ) → ℕ → ℕ → ℕ
-scaled c v r = product (coefficients c.0) (v r)
-
--- the first k polynomials of c v, as a vector
-abbrev pub multiple : ℕ → R → List R → List R
-multiple k c v = vector_of k (λ r n. pos (scaled c (vector_coefficients v) r n))
-
--- y + c s1
-abbrev pub y_plus_cs1 : List R → List R → R → ℕ → ℕ → ℕ
-y_plus_cs1 s1 y c r = plus (vector_coefficients y r) (scaled c (vector_coefficients s1) r)

@@ -1,27 +1,26 @@
-//! The calls of the keys of every parameter set: making a pair, signing, verifying, and keys as bytes. A call that signs
-//! or verifies is a line over `sign_input`, `sign_drawn` or `accepts_input`.
+//! The calls of the keys of every parameter set: making a pair, signing, verifying, and keys as bytes. What signs is
+//! `sign_input` and what verifies `accepts_input`; the traits `Signer` and `Verifier` have the other calls, over these
+//! two.
 #![tactic(auto)]
 
 ghost use Rattle.std.specs.Prelude.{◌≡◌, ◌↔◌, IsTrue, MatchResult};
 ghost use Rattle.std.proofs.Common.{ap};
 ghost use Rattle.fips204.specs.Completeness.{TellsPair, AcceptedIfWholePlain};
 ghost use Rattle.fips204.specs.Framing.{framed, represented, representative};
-ghost use Rattle.fips204.specs.Inputs.{input_of};
 ghost use Rattle.fips204.specs.Keys.{IsWhole, TellsWhole, DecodesPrivate};
 ghost use Rattle.fips204.specs.Prepared.{prepared_private, prepared_public};
-ghost use Rattle.fips204.specs.Refusals.{generated, derived, DrawsIf, DrawsUnless, input_fault, refused_or, sign_input, VerifiesInput};
+ghost use Rattle.fips204.specs.Refusals.{generated, derived, DrawsIf, refused_or, sign_input, VerifiesInput};
 ghost use Rattle.fips204.specs.Signing.{sign};
 ghost use Rattle.fips204_base.specs.Encodings.{ArePrivateParts, IsPublicKeyOf, public_key_bytes, private_key_bytes};
 
 mod prepared;
 mod prepared_bytes;
+mod prepared_calls;
 
 use crate::input::Input;
 use crate::ml_dsa;
 use crate::sets::{HasSet, KeySizes, Matrix, Set, SignatureSizes};
-use crate::traits::{
-    CryptoRngCore, DummyRng, KeyGen, Scheme, SerDes, Signer, Verifier, draw, draw_if,
-};
+use crate::traits::{CryptoRngCore, KeyGen, Scheme, SerDes, Signer, Verifier, draw};
 use crate::types::{
     KG, KeyTransforms, PreparedPrivateKey, PreparedPublicKey, PrivateKey, PublicKey, T0,
 };
@@ -33,14 +32,13 @@ use fips204_base::xof::Xof;
 use std::marker::PhantomData;
 
 // Every head below says the same: `S` is the set that `Matrix<K, L>` names, and the arrays of `S` name the other sizes:
-// `LAMBDA_DIV4` bytes of c_tilde, `SIG_LEN` of a signature, `PK_LEN` and `SK_LEN` of the keys. That these are the set's
+// `SIG_LEN` bytes of a signature, `PK_LEN` and `SK_LEN` of the keys. That these are the set's
 // sizes in the standard's tables is the law of `SignatureSizes` and of `KeySizes`.
 
 impl<
     S,
     const K: usize,
     const L: usize,
-    const LAMBDA_DIV4: usize,
     const SIG_LEN: usize,
     const PK_LEN: usize,
     const SK_LEN: usize,
@@ -49,9 +47,8 @@ impl<
 > KeyGen for KG<K, L, H, G>
 where
     Matrix<K, L>: HasSet<Set = S>,
-    S: Set<CommitmentHash = [u8; LAMBDA_DIV4], Signature = [u8; SIG_LEN]>
-        + SignatureSizes<K, L, LAMBDA_DIV4, SIG_LEN>,
-    S: Set<PublicKey = [u8; PK_LEN], PrivateKey = [u8; SK_LEN]> + KeySizes<K, L, PK_LEN, SK_LEN>,
+    S: Set<Signature = [u8; SIG_LEN], PublicKey = [u8; PK_LEN], PrivateKey = [u8; SK_LEN]>,
+    S: SignatureSizes<K, L, SIG_LEN> + KeySizes<K, L, PK_LEN, SK_LEN>,
 {
     type PublicKey = PublicKey<K, L, H, G>;
 
@@ -76,7 +73,6 @@ impl<
     S,
     const K: usize,
     const L: usize,
-    const LAMBDA_DIV4: usize,
     const SIG_LEN: usize,
     const PK_LEN: usize,
     const SK_LEN: usize,
@@ -85,9 +81,8 @@ impl<
 > Scheme for KG<K, L, H, G>
 where
     Matrix<K, L>: HasSet<Set = S>,
-    S: Set<CommitmentHash = [u8; LAMBDA_DIV4], Signature = [u8; SIG_LEN]>
-        + SignatureSizes<K, L, LAMBDA_DIV4, SIG_LEN>,
-    S: Set<PublicKey = [u8; PK_LEN], PrivateKey = [u8; SK_LEN]> + KeySizes<K, L, PK_LEN, SK_LEN>,
+    S: Set<Signature = [u8; SIG_LEN], PublicKey = [u8; PK_LEN], PrivateKey = [u8; SK_LEN]>,
+    S: SignatureSizes<K, L, SIG_LEN> + KeySizes<K, L, PK_LEN, SK_LEN>,
 {
     type Public = PublicKey<K, L, H, G>;
 
@@ -119,14 +114,13 @@ where
     }
 }
 
-impl<S, const K: usize, const L: usize, const LAMBDA_DIV4: usize, const SIG_LEN: usize, H, G> Signer
+impl<S, const K: usize, const L: usize, const SIG_LEN: usize, H, G> Signer
     for PrivateKey<K, L, H, G>
 where
     H: Xof,
     G: Xof,
     Matrix<K, L>: HasSet<Set = S>,
-    S: Set<CommitmentHash = [u8; LAMBDA_DIV4], Signature = [u8; SIG_LEN]>
-        + SignatureSizes<K, L, LAMBDA_DIV4, SIG_LEN>,
+    S: Set<Signature = [u8; SIG_LEN]> + SignatureSizes<K, L, SIG_LEN>,
 {
     type Signature = [u8; SIG_LEN];
 
@@ -141,42 +135,9 @@ where
     ghost refused = { λ key rnd input fault broken.
         ap (λ first. refused_or first (sign S.set H.front G.front key (representative H.front key.tr input) rnd)) broken };
 
-    fn try_sign_with_rng<R: CryptoRngCore>(
-        &self,
-        rng: &mut R,
-        message: &[u8],
-        ctx: &[u8],
-    ) -> Result<[u8; SIG_LEN], Fault> {
-        self.sign_drawn(rng, &Input::Message(message, ctx), Fault::SignRng)
-    }
-
-    fn try_sign_with_seed(
-        &self,
-        seed: &[u8; 32],
-        message: &[u8],
-        ctx: &[u8],
-    ) -> Result<[u8; SIG_LEN], Fault> {
-        self.try_sign_with_rng(&mut DummyRng { bytes: *seed }, message, ctx)
-    }
-
-    fn try_hash_sign_with_rng<R: CryptoRngCore>(
-        &self,
-        rng: &mut R,
-        hash: &[u8],
-        ctx: &[u8],
-        hash_oid: &[u8],
-    ) -> Result<[u8; SIG_LEN], Fault> {
-        self.sign_drawn(rng, &Input::Digest(hash, ctx, hash_oid), Fault::HashRng)
-    }
-
-    fn try_hash_sign_with_seed(
-        &self,
-        seed: &[u8; 32],
-        hash: &[u8],
-        ctx: &[u8],
-        hash_oid: &[u8],
-    ) -> Result<[u8; SIG_LEN], Fault> {
-        self.try_hash_sign_with_rng(&mut DummyRng { bytes: *seed }, hash, ctx, hash_oid)
+    fn sign_input(&self, seed: &[u8; 32], input: &Input<'_>) -> Result<[u8; SIG_LEN], Fault> {
+        let mu = ml_dsa::mu_of::<H>(&self.tr, input)?;
+        self.sign_mu_with_seed(&mu, seed)
     }
 
     fn get_public_key(&self) -> Result<PublicKey<K, L, H, G>, Fault> {
@@ -184,19 +145,13 @@ where
     }
 }
 
-impl<
-    S,
-    const K: usize,
-    const L: usize,
-    const LAMBDA_DIV4: usize,
-    const SIG_LEN: usize,
+impl<S, const K: usize, const L: usize, const SIG_LEN: usize, H, G> Verifier
+    for PublicKey<K, L, H, G>
+where
     H: Xof,
     G: Xof,
-> Verifier for PublicKey<K, L, H, G>
-where
     Matrix<K, L>: HasSet<Set = S>,
-    S: Set<CommitmentHash = [u8; LAMBDA_DIV4], Signature = [u8; SIG_LEN]>
-        + SignatureSizes<K, L, LAMBDA_DIV4, SIG_LEN>,
+    S: Set<Signature = [u8; SIG_LEN]> + SignatureSizes<K, L, SIG_LEN>,
 {
     type Signature = [u8; SIG_LEN];
 
@@ -204,34 +159,22 @@ where
 
     ghost unbroken = { λ key signature input accepted. accepted.0 };
 
-    fn verify(&self, message: &[u8], signature: &[u8; SIG_LEN], ctx: &[u8]) -> bool {
-        self.accepts_input(&Input::Message(message, ctx), signature)
-    }
-
-    fn hash_verify(
-        &self,
-        hash: &[u8],
-        signature: &[u8; SIG_LEN],
-        ctx: &[u8],
-        hash_oid: &[u8],
-    ) -> bool {
-        self.accepts_input(&Input::Digest(hash, ctx, hash_oid), signature)
+    fn accepts_input(&self, input: &Input<'_>, signature: &[u8; SIG_LEN]) -> bool {
+        match ml_dsa::mu_of::<H>(&self.tr, input) {
+            Ok(mu) => {
+                ml_dsa::verify_internal::<K, L, SIG_LEN, H, G>(&S::params(), self, &mu, signature)
+            }
+            Err(_) => false,
+        }
     }
 }
 
-impl<
-    S,
-    const K: usize,
-    const L: usize,
-    const LAMBDA_DIV4: usize,
-    const SIG_LEN: usize,
+impl<S, const K: usize, const L: usize, const SIG_LEN: usize, H, G> PrivateKey<K, L, H, G>
+where
     H: Xof,
     G: Xof,
-> PrivateKey<K, L, H, G>
-where
     Matrix<K, L>: HasSet<Set = S>,
-    S: Set<CommitmentHash = [u8; LAMBDA_DIV4], Signature = [u8; SIG_LEN]>
-        + SignatureSizes<K, L, LAMBDA_DIV4, SIG_LEN>,
+    S: Set<Signature = [u8; SIG_LEN]> + SignatureSizes<K, L, SIG_LEN>,
 {
     /// The hash that the key keeps, which signing hashes before the message: the hash of the public key's bytes if
     /// the key comes from key generation, and the bytes that stood there if it comes from bytes. The key's parts are
@@ -251,35 +194,7 @@ where
         ensures answer { result ≡ sign_input S.set H.front G.front self.now seed.now (represented mu.now) }
         ensures accepted { AcceptedIfWholePlain S.set H.front G.front self.now (represented mu.now) result }
     {
-        ml_dsa::sign_internal::<K, L, LAMBDA_DIV4, SIG_LEN, H, G>(&S::params(), self, mu, seed)
-    }
-
-    /// Signs an input with the random bytes `seed`; 32 zeros give the deterministic variant.
-    ///
-    /// Errors: those of the input, as the calls of `Signer` say; then `Fault::SamplingLimit` and
-    /// `Fault::TooManyAttempts` as for `Signer::try_sign_with_seed`.
-    pub fn sign_input(&self, seed: &[u8; 32], input: &Input<'_>) -> Result<[u8; SIG_LEN], Fault>
-        ensures answer { result ≡ sign_input S.set H.front G.front self.now seed.now (input_of input.now) }
-        ensures accepted { AcceptedIfWholePlain S.set H.front G.front self.now (input_of input.now) result }
-    {
-        let mu = ml_dsa::mu_of::<H>(&self.tr, input)?;
-        self.sign_mu_with_seed(&mu, seed)
-    }
-
-    /// Signs an input with 32 random bytes of the generator, which is asked once, and not for an input that is
-    /// refused. Returns `refusal` if the generator fails.
-    fn sign_drawn<R: CryptoRngCore>(
-        &self,
-        rng: &mut R,
-        input: &Input<'_>,
-        refusal: Fault,
-    ) -> Result<[u8; SIG_LEN], Fault>
-        ensures answer { DrawsUnless (input_fault (input_of input.now)) R.gives R.refuses rng.old rng.new refusal
-            (λ rnd. sign_input S.set H.front G.front self.now rnd (input_of input.now)) result }
-        ensures accepted { AcceptedIfWholePlain S.set H.front G.front self.now (input_of input.now) result }
-    {
-        let mu = ml_dsa::mu_of::<H>(&self.tr, input)?;
-        self.sign_mu_with_seed(&mu, &draw(rng, refusal)?)
+        ml_dsa::sign_internal::<K, L, SIG_LEN, H, G>(&S::params(), self, mu, seed)
     }
 
     /// Signs a framed message `m` (Algorithm 7). The 32 random bytes are zeros without `hedged`; with it they
@@ -297,7 +212,7 @@ where
             (λ rnd. sign_input S.set H.front G.front self.now rnd (framed m.now)) result }
         ensures accepted { AcceptedIfWholePlain S.set H.front G.front self.now (framed m.now) result }
     {
-        self.sign_input(&draw_if(hedged, rng)?, &Input::Framed(m))
+        self.sign_input_with_rng(rng, &Input::Framed(m), hedged)
     }
 
     /// Signs the hash `mu` of a framed message (Algorithm 7 from line 7 on). Random bytes and errors are
@@ -312,7 +227,7 @@ where
             (λ rnd. sign_input S.set H.front G.front self.now rnd (represented mu.now)) result }
         ensures accepted { AcceptedIfWholePlain S.set H.front G.front self.now (represented mu.now) result }
     {
-        self.sign_input(&draw_if(hedged, rng)?, &Input::Mu(mu))
+        self.sign_input_with_rng(rng, &Input::Mu(mu), hedged)
     }
 
     /// Tells whether the key is whole: whether its t0 is the low part of `A s1 + s2` (Algorithm 6, lines 5
@@ -378,30 +293,13 @@ where
     }
 }
 
-impl<
-    S,
-    const K: usize,
-    const L: usize,
-    const LAMBDA_DIV4: usize,
-    const SIG_LEN: usize,
+impl<S, const K: usize, const L: usize, const SIG_LEN: usize, H, G> PublicKey<K, L, H, G>
+where
     H: Xof,
     G: Xof,
-> PublicKey<K, L, H, G>
-where
     Matrix<K, L>: HasSet<Set = S>,
-    S: Set<CommitmentHash = [u8; LAMBDA_DIV4], Signature = [u8; SIG_LEN]>
-        + SignatureSizes<K, L, LAMBDA_DIV4, SIG_LEN>,
+    S: Set<Signature = [u8; SIG_LEN]> + SignatureSizes<K, L, SIG_LEN>,
 {
-    /// Verifies the signature of an input. Returns false if the input is refused.
-    pub fn accepts_input(&self, input: &Input<'_>, signature: &[u8; SIG_LEN]) -> bool
-        ensures { IsTrue result ↔ VerifiesInput S.set H.front G.front self.now signature.now (input_of input.now) }
-    {
-        match ml_dsa::mu_of::<H>(&self.tr, input) {
-            Ok(mu) => self.verify_mu(&mu, signature),
-            Err(_) => false,
-        }
-    }
-
     /// Verifies the signature of a framed message `m` (Algorithm 8).
     pub fn verify_internal(&self, m: &[u8], sig: &[u8; SIG_LEN]) -> bool
         ensures { IsTrue result ↔ VerifiesInput S.set H.front G.front self.now sig.now (framed m.now) }
@@ -413,7 +311,7 @@ where
     pub fn verify_mu(&self, mu: &[u8; 64], sig: &[u8; SIG_LEN]) -> bool
         ensures { IsTrue result ↔ VerifiesInput S.set H.front G.front self.now sig.now (represented mu.now) }
     {
-        ml_dsa::verify_internal::<K, L, LAMBDA_DIV4, SIG_LEN, H, G>(&S::params(), self, mu, sig)
+        self.accepts_input(&Input::Mu(mu), sig)
     }
 
     /// Samples the matrix once, for many verifications.

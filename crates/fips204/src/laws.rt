@@ -8,16 +8,16 @@ ghost use Rattle.fips204_base.specs.Transforms.{ProductOfTransforms, InverseOfTr
 ghost use Rattle.fips204.specs.Completeness.{SignedIsAccepted, BytesTellKeys};
 ghost use Rattle.fips204.specs.Constants.{ConstantsStand, LengthsStand};
 ghost use Rattle.fips204.specs.LongerFronts.{CounterFrontsArePrefixes, LongerFrontsKeep};
-ghost use Rattle.fips204.specs.SchemeLaws.{FramingIsOneToOne, SignatureFixesOne, SignatureBindsInput, SignatureBindsHash, SignatureBindsKey, OtherHintCollides, HintGivesHighBits, HintStaysNear, HighBitsStay, ChallengeProductIsSmall, PackingIsUndone, SignatureHasOneSpelling, HintHasOneSpelling, RefusesOnly};
+ghost use Rattle.fips204.specs.SchemeLaws.{FramingIsOneToOne, SignatureFixesOne, SignatureBindsInput};
+ghost use Rattle.fips204.specs.SchemeLaws.{SignatureBindsHash, SignatureBindsKey, OtherHintCollides, HintGivesHighBits};
+ghost use Rattle.fips204.specs.SchemeLaws.{HintStaysNear, HighBitsStay, ChallengeProductIsSmall, PackingIsUndone};
+ghost use Rattle.fips204.specs.SchemeLaws.{SignatureHasOneSpelling, HintHasOneSpelling, RefusesOnly};
 ghost use Rattle.fips204.specs.Prepared.{PreparedAnswersAsPlain};
 ghost use Rattle.fips204.specs.PreparedBytes.{PreparedThroughBytes};
 ghost use Rattle.fips204_base.specs.Streams.{XOF};
 ghost use Rattle.fips204.specs.ParameterSets.{ParameterSet, IsSet, set_44, set_65, set_87};
 ghost use Rattle.fips204.specs.Sets.{set_of};
 ghost use Rattle.std.specs.Prelude.{◌≡◌, ◌≤◌, ℕ, List, length};
-
-mod joined;
-mod parts;
 
 use crate::types::{ML_DSA_44, ML_DSA_65, ML_DSA_87, Params};
 use crate::xof::Xof;
@@ -77,8 +77,8 @@ pub fn challenge_product_bound()
     ensures { ChallengeProductIsSmall }
 {}
 
-/// Packing and unpacking undo each other, for coefficients in `[-a, b]`: a polynomial in this range is the one that its bytes
-/// hold, and bytes, as many as a polynomial has, are those of the polynomial that they hold, in range or not.
+/// Packing and unpacking undo each other, for coefficients in `[-a, b]`: a polynomial in this range is the one that its
+/// bytes hold, and bytes, as many as a polynomial has, are those of the polynomial that they hold, in range or not.
 pub fn packing()
     ensures { (a b : ℕ) → a ≤ 1048575 → 1 ≤ b → b ≤ 1048575 → PackingIsUndone a b }
 {}
@@ -101,11 +101,10 @@ pub fn framing()
     ensures { FramingIsOneToOne }
 {}
 
-/// A signature fixes one encoded `w1` under a key, whatever was signed. One signature for two inputs gives a
-/// collision of `H`: if a public key accepts one signature for two inputs that differ, both messages or digests, or
-/// both framed messages, either the framed messages collide in the 64 bytes of mu, or the two values of mu, each
-/// followed by this `w1`, collide in the bytes of `c_tilde`. Two different values of mu, each given or that of an input,
-/// collide so too.
+/// A signature fixes one encoded `w1` under a key, whatever was signed. One signature for two inputs gives a collision
+/// of `H`: if a public key accepts one signature for two inputs that differ, both messages or digests, or both framed
+/// messages, either the framed messages collide in the 64 bytes of mu, or the two values of mu, each followed by this
+/// `w1`, collide in the bytes of `c_tilde`. Two different values of mu, each given or that of an input, collide so too.
 ///
 /// One signature under two keys gives a collision too: if two keys that were decoded from bytes accept one
 /// signature of such inputs, they are the same key and it is the same input; or the bytes of the keys collide
@@ -141,8 +140,8 @@ pub fn prepared_keys()
     ensures { (p : ParameterSet) (H G : List ℕ → List ℕ) → PreparedAnswersAsPlain p H G }
 {}
 
-/// The bytes of a key that was prepared have the length of the set's prepared keys, and they tell it: what is read from them
-/// is that key and nothing else.
+/// The bytes of a key that was prepared have the length of the set's prepared keys, and they tell it: what is read from
+/// them is that key and nothing else.
 pub fn prepared_bytes()
     ensures { (p : ParameterSet) (G : XOF) → IsSet p → PreparedThroughBytes p G }
 {}
@@ -172,8 +171,9 @@ pub fn longer_front<H: Xof, G: Xof, LongerH: Xof, LongerG: Xof>()
     ensures { LongerFrontsKeep H.front G.front LongerH.front LongerG.front }
 {}
 
-/// The same for any functions that give fronts, the shorter ones of `H` at least 4096 bytes long: `LongerH` and `LongerG`
-/// may give as many bytes as one likes.
+/// The same for any functions that give fronts, the shorter ones of `H` at least 4096 bytes long: `LongerH` and
+/// `LongerG` may give as many bytes as one likes.
 pub fn longer_functions()
-    ensures { (H G LongerH LongerG : List ℕ → List ℕ) → ((x : List ℕ) → 4096 ≤ length (H x)) → LongerFrontsKeep H G LongerH LongerG }
+    ensures { (H G LongerH LongerG : List ℕ → List ℕ) → ((x : List ℕ) → 4096 ≤ length (H x))
+        → LongerFrontsKeep H G LongerH LongerG }
 {}

@@ -22,8 +22,8 @@ pub const PK_LEN: usize = 2592;
 /// The number of bytes of a prepared private key: those of the private key, and 1024 for each entry of the matrix.
 pub const PREPARED_SK_LEN: usize = 62_240;
 
-/// The number of bytes of a prepared public key: those of the public key, 64 of its hash, and 1024 for each entry of the
-/// matrix.
+/// The number of bytes of a prepared public key: those of the public key, 64 of its hash, and 1024 for each entry of
+/// the matrix.
 pub const PREPARED_PK_LEN: usize = 60_000;
 
 /// The number of bytes of a signature (FIPS 204, Table 2).
@@ -34,9 +34,6 @@ const K: usize = 8;
 
 /// The number of columns of the matrix (FIPS 204, Table 1).
 const L: usize = 7;
-
-/// The number of bytes of `c_tilde`: `lambda / 4`.
-const LAMBDA_DIV4: usize = 64;
 
 /// A private key.
 pub type PrivateKey<H, G> = types::PrivateKey<K, L, H, G>;
@@ -71,8 +68,6 @@ impl HasSet for Matrix<K, L> {
 }
 
 impl Set for MlDsa87 {
-    type CommitmentHash = [u8; LAMBDA_DIV4];
-
     type Signature = [u8; SIG_LEN];
 
     type PublicKey = [u8; PK_LEN];
@@ -88,14 +83,19 @@ impl Set for MlDsa87 {
     }
 }
 
-impl SignatureSizes<K, L, LAMBDA_DIV4, SIG_LEN> for MlDsa87 {
-    ghost sizes = { record { rows = refl; columns = refl; c_tilde = refl; signature = unfold bit_length in refl } };
+impl SignatureSizes<K, L, SIG_LEN> for MlDsa87 {
+    ghost sizes = { record { rows = refl; columns = refl; signature = unfold bit_length in refl } };
 
     ghost small = { (leb-true _ _ refl, leb-true _ _ refl, leb-true _ _ refl, leb-true _ _ refl) };
 }
 
 impl KeySizes<K, L, PK_LEN, SK_LEN> for MlDsa87 {
-    ghost key_sizes = { record { rows = refl; columns = refl; public_key = refl; private_key = unfold bit_length in refl } };
+    ghost key_sizes = { record {
+      rows = refl;
+      columns = refl;
+      public_key = refl;
+      private_key = unfold bit_length in refl;
+    } };
 
     ghost small_keys = { (leb-true _ _ refl, leb-true _ _ refl) };
 }

@@ -3,7 +3,8 @@
 #![tactic(auto)]
 
 ghost use Rattle.std.specs.Prelude.{◌≡◌, ◌≤◌, ◌*◌};
-ghost use Rattle.fips204.specs.ParameterSets.{ParameterSet, IsSet, public_key_length, private_key_length, signature_length};
+ghost use Rattle.fips204.specs.ParameterSets.{ParameterSet, IsSet, public_key_length, private_key_length};
+ghost use Rattle.fips204.specs.ParameterSets.{signature_length};
 ghost use Rattle.fips204.specs.PreparedBytes.{prepared_public_length, prepared_private_length};
 ghost use Rattle.fips204.specs.Sets.{HasKeySizes, HasSizes, set_of, named_set};
 
@@ -83,9 +84,6 @@ impl SetName {
 
 /// A parameter set: its numbers, and the byte arrays of its keys and signatures.
 pub trait Set {
-    /// The array of `c_tilde`.
-    type CommitmentHash;
-
     /// The array of a signature.
     type Signature;
 
@@ -106,16 +104,10 @@ pub trait Set {
         ensures { set_of result ≡ set };
 }
 
-/// The sizes of a set's signatures: a matrix of `K` rows and `L` columns, `LAMBDA_DIV4` bytes of `c_tilde`, and
-/// `SIG_LEN` bytes in all.
-pub trait SignatureSizes<
-    const K: usize,
-    const L: usize,
-    const LAMBDA_DIV4: usize,
-    const SIG_LEN: usize,
->: Set {
+/// The sizes of a set's signatures: a matrix of `K` rows and `L` columns, and `SIG_LEN` bytes.
+pub trait SignatureSizes<const K: usize, const L: usize, const SIG_LEN: usize>: Set {
     // They are those of the set's row.
-    ghost sizes: { HasSizes Self.set K L LAMBDA_DIV4 SIG_LEN };
+    ghost sizes: { HasSizes Self.set K L SIG_LEN };
 
     // They are no larger than those of the largest set.
     ghost small: { (K ≤ 8) × (L ≤ 7) × (K * (L * 1024) ≤ 57344) × (SIG_LEN ≤ 4627) };

@@ -1,7 +1,7 @@
 //! Polynomials, and keys as values.
 #![tactic(auto)]
 
-ghost use Rattle.std.specs.Prelude.{◌≡◌, ◌≤◌, ◌-◌, ◌*◌, ⊤, pos, nat_abs, IsTrue};
+ghost use Rattle.std.specs.Prelude.{◌≡◌, ◌≤◌, ◌-◌, ◌*◌, ◌/◌, ⊤, pos, nat_abs, IsTrue};
 ghost use Rattle.fips204_base.specs.Encodings.{ArePublicParts};
 ghost use Rattle.fips204_base.specs.Packing.{width};
 ghost use Rattle.fips204_base.specs.Rounding.{high_count};
@@ -46,6 +46,14 @@ impl Params {
         ensures { result ≡ nat_abs self.now.gamma1 - nat_abs self.now.beta }
     {
         self.gamma1.unsigned_abs() - self.beta.unsigned_abs()
+    }
+
+    /// The number of bytes of `c_tilde`: `lambda / 4`.
+    pub(crate) fn c_tilde_len(&self) -> usize
+        ensures size { result ≡ self.now.lambda / 4 }
+        ensures few { result ≤ 64 }
+    {
+        self.lambda / 4
     }
 
     /// The number of bytes of `w1`: 768, 768 and 1024 at the three sets.

@@ -1,12 +1,12 @@
 -- What is sampled four at a time: fronts that are read in two parts, and entries that are made ahead.
-use Rattle.std.proofs.Common.{◌≡◌, ℕ, ◌+◌, ◌*◌, ◌/◌, ◌%◌, ◌<◌, ◌≤◌, List, [], ◌∷◌, ◌++◌, map, take, drop, set, get_or, length, refl, ap, sym, ◌∙◌, Some, None, ok_or, zero, suc, arith, add-zero, length-drop}
+use Rattle.std.proofs.Common.{◌≡◌, ℕ, ◌+◌, ◌*◌, ◌/◌, ◌%◌, ◌<◌, List, [], ◌∷◌, ◌++◌, map, take, drop, get_or, length, refl, ap, sym, ◌∙◌, Some, None, Ok, Err, ok_or, zero, suc, arith, add-zero, length-drop, length-append, length-take, ◌-◌}
 use Rattle.std.specs.Prelude.{MatchResult}
 use Rattle.std.specs.declared.result.Result.{Result}
 use Rattle.std.specs.declared.option.Option.{Option}
 use Rattle.std.specs.List.{range_with_len}
 use Rattle.std.proofs.lemmas.List.{take-append-drop}
 use Rattle.std.proofs.lemmas.Nat.{div-mul-add, mod-mul-add, div_below, mod_below}
-use Rattle.fips204_base.specs.SamplerSteps.{AreAhead, AreSmall, numbered_entry, sampled_entry, sampled_row, small_vector}
+use Rattle.fips204_base.specs.SamplerSteps.{AreAhead, numbered_entry, sampled_entry, sampled_row, small_vector}
 use Rattle.fips204_base.specs.Sampling.{all_present, sampled_matrix, small_polynomial}
 use Rattle.fips204_base.specs.declared.fault.Fault.{Fault}
 use Rattle.fips204_base.specs.declared.fault.Fault.TheVariants.{SamplingLimit}
@@ -25,10 +25,20 @@ pub of_parts : {A : Type 0} {front reader piece rest : List ℕ} {made : A} (mak
     → make (piece ++ rest) ≡ made → make front ≡ made
 of_parts make n same first later e = ap make (sym (parts_joined n same first later)) ∙ e
 
-pub parts_whole : {front reader rest : List ℕ} (n size : ℕ) → reader ≡ front → rest ≡ drop n reader → length front ≡ size → n ≤ size → n + length rest ≡ size
-parts_whole {front} {reader} {rest} n size same later long enough = omega (arith, ap length later, length-drop n reader, ap length same, long, enough)
+pub parts_long : {front reader piece rest : List ℕ} {size : ℕ} (n : ℕ) → reader ≡ front → piece ≡ take n reader → rest ≡ drop n reader → length front ≡ size
+    → length piece + length rest ≡ size
+parts_long {front} {reader} {piece} {rest} n same first later long = sym (length-append piece rest) ∙ ap length (parts_joined n same first later) ∙ long
+
+-- a place of a part of a list, among its places
+pub part_place : {A : Type 0} (from n j : ℕ) (xs : List A) → j < length (take (from + n - from) (drop from xs)) → from + j < length xs
+part_place from n j xs h = omega (arith, h, length-take (from + n - from) (drop from xs), length-drop from xs)
 
 -- ---- what is said of a value that may be none
+
+pub matched : {A E : Type 0} {P P' : A → Type 0} {Q Q' : E → Type 0} (result : Result A E) → MatchResult result P Q → ((x : A) → P x → P' x) → ((e : E) → Q e → Q' e)
+    → MatchResult result P' Q'
+matched (Ok x) m p q = p x m
+matched (Err e) m p q = q e m
 
 pub sampled_or_none : {A Q : Type 0} {P : A → Type 0} (o : Option A) {result : Result A Fault} → result ≡ ok_or o SamplingLimit → ((x : A) → o ≡ Some x → P x) → (o ≡ None → Q)
     → MatchResult result P (λ fault. Q × (fault ≡ SamplingLimit))
@@ -46,26 +56,6 @@ present_each f a (suc n) (x ∷ xs) size each =
     let here : f a ≡ Some x = ap f (sym (add-zero a)) ∙ each 0 x (omega arith) in
     let later = present_each f (a + 1) n xs (omega (arith, size)) (λ k d h. (let e : a + 1 + k ≡ a + suc k = omega arith in ap f e) ∙ each (suc k) d (omega (arith, h))) in
     rw (here, later) refl
-
--- ---- four values
-
-pub below_four : (P : ℕ → Type 0) → P 0 → P 1 → P 2 → P 3 → (j : ℕ) → j < 4 → P j
-below_four P p0 p1 p2 p3 zero h = p0
-below_four P p0 p1 p2 p3 (suc zero) h = p1
-below_four P p0 p1 p2 p3 (suc (suc zero)) h = p2
-below_four P p0 p1 p2 p3 (suc (suc (suc zero))) h = p3
-below_four P p0 p1 p2 p3 (suc (suc (suc (suc n)))) h = absurd (omega arith)
-
--- four values are written
-pub four_written : {A : Type 0} (f : ℕ → Option A) (n : ℕ) (xs : List A) (a b c d : A) → length xs ≡ 4 → f n ≡ Some a → f (n + 1) ≡ Some b → f (n + 2) ≡ Some c → f (n + 3) ≡ Some d
-    → (j : ℕ) (e : A) → j < 4 → f (n + j) ≡ Some (get_or (set (set (set (set xs 0 a) 1 b) 2 c) 3 d) j e)
-four_written {A} f n (w ∷ x ∷ y ∷ z ∷ []) a b c d size fa fb fc fd j e h =
-    below_four (λ j. f (n + j) ≡ Some (get_or (a ∷ b ∷ c ∷ d ∷ []) j e)) (ap f (add-zero n) ∙ fa) fb fc fd j h
-four_written f n [] a b c d size fa fb fc fd j e h = absurd (omega arith)
-four_written f n (w ∷ []) a b c d size fa fb fc fd j e h = absurd (omega arith)
-four_written f n (w ∷ x ∷ []) a b c d size fa fb fc fd j e h = absurd (omega arith)
-four_written f n (w ∷ x ∷ y ∷ []) a b c d size fa fb fc fd j e h = absurd (omega arith)
-four_written f n (w ∷ x ∷ y ∷ z ∷ v ∷ xs) a b c d size fa fb fc fd j e h = absurd (omega arith)
 
 -- ---- numbers of entries
 
@@ -107,7 +97,8 @@ pub small_vector-none : (eta : ℕ) (H : List ℕ → List ℕ) (rho : List ℕ)
 unfolding small_vector
 small_vector-none eta H rho first n r h none = all_present-none (λ r. small_polynomial eta (H (rho ++ to_le_bytes w16 r))) first n r (first + r) h refl none
 
-pub small_vector-each : (eta : ℕ) (H : List ℕ → List ℕ) (rho : List ℕ) (first n : ℕ) (polynomials : List R) → length polynomials ≡ n → AreSmall eta H rho first n polynomials
+pub small_vector-each : (eta : ℕ) (H : List ℕ → List ℕ) (rho : List ℕ) (first n : ℕ) (polynomials : List R) → length polynomials ≡ n
+    → ((k : ℕ) (d : R) → k < n → small_polynomial eta (H (rho ++ to_le_bytes w16 (first + k))) ≡ Some (get_or polynomials k d))
     → small_vector eta H rho first n ≡ Some polynomials
 unfolding small_vector
 small_vector-each eta H rho first n polynomials size each = present_each (λ r. small_polynomial eta (H (rho ++ to_le_bytes w16 r))) first n polynomials size each

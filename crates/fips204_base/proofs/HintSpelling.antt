@@ -163,9 +163,9 @@ placed w j from at y z here room at-is places rest =
 -- What the spelling of a hint says piece by piece.
 
 -- how many ones the bytes count before polynomial i
-abbrev pub before : ℕ → List ℕ → ℕ → ℕ
-before omega y zero = 0
-before omega y (suc i) = get_or y (omega + i) 0
+abbrev pub total_before : ℕ → List ℕ → ℕ → ℕ
+total_before omega y zero = 0
+total_before omega y (suc i) = get_or y (omega + i) 0
 
 -- the bytes of a spelling, as they are read: the first omega, and then each total
 pub record Pieces (omega : ℕ) (h : List R) (y : List ℕ) : Type 0 where
@@ -228,12 +228,12 @@ total_le h i =
     let l = ap length e ∙ length-append (all_ones (take i h)) (all_ones (drop i h)) in
     omega (arith, l)
 
-pub before_is : (o : ℕ) (h : List R) (y : List ℕ) (i : ℕ) → Pieces o h y → i ≤ length h → before o y i ≡ length (all_ones (take i h))
+pub before_is : (o : ℕ) (h : List R) (y : List ℕ) (i : ℕ) → Pieces o h y → i ≤ length h → total_before o y i ≡ length (all_ones (take i h))
 before_is o h y zero p l = sym (ap length all_ones-none)
 before_is o h y (suc i) p l = p.totals i (omega arith) ∙ ap (λ n. length (all_ones (take n h))) (add-one i)
 
 -- the totals rise up to omega
-pub totals_rise : (o : ℕ) (h : List R) (y : List ℕ) (i : ℕ) → Pieces o h y → i < length h → (before o y i ≤ get_or y (o + i) 0) × (get_or y (o + i) 0 ≤ o)
+pub totals_rise : (o : ℕ) (h : List R) (y : List ℕ) (i : ℕ) → Pieces o h y → i < length h → (total_before o y i ≤ get_or y (o + i) 0) × (get_or y (o + i) 0 ≤ o)
 totals_rise o h y i p l =
     let a = before_is o h y i p (omega arith) in
     let b = p.totals i l in
@@ -249,9 +249,9 @@ middle : (y a b c : List ℕ) (m n : ℕ) → y ≡ a ++ (b ++ c) → length a �
 middle y a b c m n e k l = ap (λ x. take n (drop m x)) e ∙ ap (take n) (drop_at a (b ++ c) m k) ∙ take_at b c n l
 
 -- the places of polynomial i
-pub piece : (o : ℕ) (h : List R) (y : List ℕ) (i : ℕ) → Pieces o h y → i < length h
-    → take (get_or y (o + i) 0 - before o y i) (drop (before o y i) y) ≡ ones (get_or h i R0)
-piece o h y i p l =
+pub places_of : (o : ℕ) (h : List R) (y : List ℕ) (i : ℕ) → Pieces o h y → i < length h
+    → take (get_or y (o + i) 0 - total_before o y i) (drop (total_before o y i) y) ≡ ones (get_or h i R0)
+places_of o h y i p l =
     let a = before_is o h y i p (omega arith) in
     let b = p.totals i l in
     let m = total_more h i R0 l in
@@ -261,16 +261,16 @@ piece o h y i p l =
     ∙ ap (λ x. x ++ drop o y) (p.places ∙ ap (λ x. x ++ replicate (o - length (all_ones h)) 0) all)
     ∙ regroup (all_ones (take i h)) (ones (get_or h i R0)) (all_ones (drop (i + 1) h)) (replicate (o - length (all_ones h)) 0) (drop o y) in
     middle y (all_ones (take i h)) (ones (get_or h i R0)) (all_ones (drop (i + 1) h) ++ (replicate (o - length (all_ones h)) 0 ++ drop o y))
-    (before o y i) (get_or y (o + i) 0 - before o y i) whole (sym a) (omega (arith, a, b, m))
+    (total_before o y i) (get_or y (o + i) 0 - total_before o y i) whole (sym a) (omega (arith, a, b, m))
 
 -- and they rise strictly
-pub piece_rises : (o : ℕ) (h : List R) (y : List ℕ) (i j : ℕ) → Pieces o h y → i < length h → before o y i ≤ j → j + 1 < get_or y (o + i) 0 → get_or y j 0 < get_or y (j + 1) 0
+pub piece_rises : (o : ℕ) (h : List R) (y : List ℕ) (i j : ℕ) → Pieces o h y → i < length h → total_before o y i ≤ j → j + 1 < get_or y (o + i) 0 → get_or y j 0 < get_or y (j + 1) 0
 piece_rises o h y i j p l low high =
-    let start = before o y i in
+    let start = total_before o y i in
     let count = get_or y (o + i) 0 - start in
     let m : start + (j - start) ≡ j = omega (arith, low) in
     let n : start + (j - start + 1) ≡ j + 1 = omega (arith, low) in
-    let places : take count (drop start y) ≡ ones_below (get_or h i R0) 256 = piece o h y i p l in
+    let places : take count (drop start y) ≡ ones_below (get_or h i R0) 256 = places_of o h y i p l in
     let at : (t : ℕ) → t < count → get_or (ones_below (get_or h i R0) 256) t 0 ≡ get_or y (start + t) 0 =
     λ t u. ap (λ b. get_or b t 0) (sym places) ∙ get_or-take count (drop start y) t 0 u ∙ get_or-drop start y t 0 in
     let long : get_or y (o + i) 0 ≡ start + length (ones_below (get_or h i R0) 256) = p.totals i l ∙ total_more h i R0 l ∙ ap (λ t. t + length (ones (get_or h i R0))) (sym (before_is o h y i p (omega arith))) in
@@ -280,9 +280,9 @@ piece_rises o h y i j p l low high =
     rw (first, second) at rises
 
 -- zeros after the last place
-pub zero_rest : (o : ℕ) (h : List R) (y : List ℕ) (k : ℕ) → Pieces o h y → before o y (length h) ≤ k → k < o → get_or y k 0 ≡ 0
+pub zero_rest : (o : ℕ) (h : List R) (y : List ℕ) (k : ℕ) → Pieces o h y → total_before o y (length h) ≤ k → k < o → get_or y k 0 ≡ 0
 zero_rest o h y k p l u =
-    let a : before o y (length h) ≡ length (all_ones h) = before_is o h y (length h) p (omega arith) ∙ ap (λ x. length (all_ones x)) (take_all (length h) h (omega arith)) in
+    let a : total_before o y (length h) ≡ length (all_ones h) = before_is o h y (length h) p (omega arith) ∙ ap (λ x. length (all_ones x)) (take_all (length h) h (omega arith)) in
     let f = p.few in
     sym (get_or-take o y k 0 u) ∙ ap (λ x. get_or x k 0) p.places
     ∙ get_or-append_right (all_ones h) (replicate (o - length (all_ones h)) 0) (length (all_ones h)) k 0 refl (omega (arith, a, l))
@@ -312,7 +312,7 @@ pub gathered : (h : List R) (y : List ℕ) (o index : ℕ) → index ≤ o → l
 gathered h y o index few size places totals zeros = grind (arith, ints, common_steps, length-take-le, length-drop, same_number_lists, length-replicate, get_or-take, get_or-drop, get_or-replicate, take_join)
 
 -- the places of one polynomial more are written, and then its total
-pub written : (h : List R) (y z : List ℕ) (o i index end : ℕ) (d : R) → i < length h → o + i < length z → end ≤ o
+pub places_written : (h : List R) (y z : List ℕ) (o i index end : ℕ) (d : R) → i < length h → o + i < length z → end ≤ o
     → take index y ≡ all_ones (take i h) → index ≡ length (all_ones (take i h)) → end ≡ index + length (ones (get_or h i d))
     → take end z ≡ take index y ++ ones (get_or h i d) → drop end z ≡ drop end y
     → ((k : ℕ) → k < i → get_or y (o + k) 0 ≡ length (all_ones (take (k + 1) h))) → ((j : ℕ) → index ≤ j → j < o → get_or y j 0 ≡ 0)
@@ -320,7 +320,7 @@ pub written : (h : List R) (y z : List ℕ) (o i index end : ℕ) (d : R) → i 
     × (take end (set z (o + i) end) ≡ all_ones (take (i + 1) h))
     × ((k : ℕ) → k < i + 1 → get_or (set z (o + i) end) (o + k) 0 ≡ length (all_ones (take (k + 1) h)))
     × ((j : ℕ) → end ≤ j → j < o → get_or (set z (o + i) end) j 0 ≡ 0)
-written h y z o i index end d l room few places at more new rest totals zeros =
+places_written h y z o i index end d l room few places at more new rest totals zeros =
     let total = total_more h i d l in
     let count : end ≡ length (all_ones (take (i + 1) h)) = omega (arith, at, more, total) in
     let same : (j : ℕ) → end ≤ j → get_or z j 0 ≡ get_or y j 0 = λ j le.
@@ -385,7 +385,7 @@ one_hint o k g h y s t =
     let n : length g ≡ length h = u.rows ∙ sym v.rows in
     ext_get_or R0 g h n (λ i l.
     let m : i < length h = omega (arith, n, l) in
-    ones-polynomial (get_or g i R0) (get_or h i R0) (u.places i R0 l) (v.places i R0 m) (u.range i R0 l) (v.range i R0 m) (sym (piece o g y i (pieces o k g y s) l) ∙ piece o h y i (pieces o k h y t) m))
+    ones-polynomial (get_or g i R0) (get_or h i R0) (u.places i R0 l) (v.places i R0 m) (u.range i R0 l) (v.range i R0 m) (sym (places_of o g y i (pieces o k g y s) l) ∙ places_of o h y i (pieces o k h y t) m))
 
 -- a hint with at most omega ones has a spelling, and no other
 pub spelling_exists : (o k : ℕ) (h : List R) → IsVector k 0 1 h → length (all_ones h) ≤ o → Spells o k h (hint_bytes o h)

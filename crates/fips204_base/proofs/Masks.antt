@@ -1,9 +1,10 @@
 -- The polynomials of the mask, as they are read and unpacked.
-use Rattle.std.proofs.Common.{zero, suc, [], ◌∷◌, ◌≡◌, ◌<◌, ◌*◌, ℕ, List, ℤ, pos, get_or, length, take, drop, map, ap, sym, ◌∙◌, arith, ◌+◌, ◌≤◌, ◌≤ℤ◌, ◌++◌, length-take, ◌-◌, ◌-ℤ◌, ◌⊎◌, inl, inr, nat_abs, refl, set, length-set, to_z, of_z}
+use Rattle.std.proofs.Common.{zero, suc, [], ◌∷◌, ◌≡◌, ◌<◌, ◌*◌, ℕ, List, ℤ, pos, get_or, length, take, drop, map, ap, sym, ◌∙◌, arith, ◌+◌, ◌≤◌, ◌≤ℤ◌, ◌++◌, ◌-◌, ◌-ℤ◌, ◌⊎◌, inl, inr, nat_abs, refl, set, length-set, to_z, of_z, Some}
 use Rattle.std.specs.List.{range_with_len}
 use Rattle.std.proofs.lemmas.List.{take_all, take_at, drop_at, take-take, drop-take}
 use Rattle.std.proofs.lemmas.List.Elements.{All-map}
-use Rattle.std.proofs.lemmas.List.FromFn.{length-map-range_with_len}
+use Rattle.std.proofs.lemmas.List.FromFn.{fill_by_all, length-map-range_with_len}
+use Rattle.std.proofs.lemmas.Option.{same_Some}
 use Rattle.std.proofs.Math.Seq.{take-add}
 use Rattle.std.proofs.lemmas.Nat.{mul-le}
 use Rattle.fips204_base.proofs.Bits.{length-digits}
@@ -18,6 +19,7 @@ use Rattle.std.proofs.lemmas.Int.{ints}
 use Rattle.fips204_base.specs.SamplerSteps.{mask_polynomial, mask_width}
 use Rattle.fips204_base.specs.EncodingSteps.{coefficient}
 use Rattle.std.proofs.lemmas.Grind.{common_steps}
+use Rattle.fips204_base.specs.declared.types.R.{R}
 
 -- What is unpacked are the first 32 c bytes, with c bits a coefficient.
 
@@ -65,6 +67,14 @@ pub mask-is : (gamma1 : ℕ) (H : List ℕ → List ℕ) (rho : List ℕ) (l kap
 unfolding mask
 mask-is gamma1 H rho l kappa = grind (arith, ints, common_steps, map_same, to_le_bytes, unpacked-take)
 
+-- the polynomials of the mask, each in its place
+pub mask-each : (gamma1 : ℕ) (H : List ℕ → List ℕ) (rho : List ℕ) (l kappa : ℕ) (v : List R) → length v ≡ l
+    → ((k : ℕ) (d : R) → k < l → Some (mask_polynomial gamma1 (H (rho ++ to_le_bytes w16 (kappa + k)))) ≡ Some (get_or v k d)) → v ≡ mask gamma1 H rho l kappa
+mask-each gamma1 H rho l kappa v size each =
+    let polynomial = λ (k : ℕ). mask_polynomial gamma1 (H (rho ++ to_le_bytes w16 (kappa + k))) in
+    let none : R = record { 0 = [] } in
+    fill_by_all polynomial v l none size (λ k h. sym (same_Some _ _ (each k none h))) ∙ sym (mask-is gamma1 H rho l kappa)
+
 -- the two ranges of the mask
 
 pub less_read : (gamma1 : ℤ) → (gamma1 ≡ pos 131072) ⊎ (gamma1 ≡ pos 524288) → to_z w32 (of_z w32 (gamma1 -ℤ pos 1)) ≡ gamma1 -ℤ pos 1
@@ -108,14 +118,6 @@ four_rows Q out r l w x y z size place before qw qx qy qz =
       length-set three (r + 3) z ∙ written.0,
       λ k d h. row_written Q three (r + 3) z d (omega (arith, written.0, place)) (λ n m. written.1 n d m) qz k (omega (arith, h)),
     )
-
--- the bytes of a polynomial are read
-pub mask_polynomial-read : (gamma1 m : ℕ) {front rest out : List ℕ} → rest ≡ front → out ≡ take m rest → length out ≡ 32 * mask_width gamma1
-    → mask_polynomial gamma1 out ≡ mask_polynomial gamma1 front
-mask_polynomial-read gamma1 m {front} {rest} {out} same read size =
-    let n = 32 * mask_width gamma1 in
-    let short : n ≤ m = omega (arith, size, ap length read, length-take m rest) in
-    ap (unpacked (gamma1 - 1) gamma1) (ap (take n) (read ∙ ap (take m) same) ∙ take-take n m front short)
 
 -- the range of the mask
 

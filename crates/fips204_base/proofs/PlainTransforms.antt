@@ -1,17 +1,17 @@
 -- What is given by its transforms: the plain polynomials, and what steps over the transforms make of them.
-use Rattle.std.proofs.Common.{◌≡◌, ℕ, ◌<◌, ◌≤◌, ◌+◌, ◌*◌, ◌%◌, ◌^◌, ℤ, pos, List, [], get_or, arith, ap, sym, refl, ◌∙◌}
+use Rattle.std.proofs.Common.{◌≡◌, ℕ, ◌<◌, ◌≤◌, ◌+◌, ◌*◌, ◌%◌, ◌^◌, ℤ, pos, List, [], get_or, arith, ap, sym, subst, refl, ◌∙◌, nat_abs}
 use Rattle.fips204_base.proofs.Roots.{inverse_root}
-use Rattle.fips204_base.specs.Bounds.{vector_residues, coefficient_of}
+use Rattle.fips204_base.specs.Bounds.{vector_residues, coefficient_of, VectorWithin}
 use Rattle.fips204_base.specs.Residues.{residue, coefficients, IsCongruent}
 use Rattle.fips204_base.specs.Transforms.{transform, inverse_transform, pointwise, product, minus}
 use Rattle.fips204_base.specs.Lanes.{lane}
 use Rattle.fips204_base.specs.Vectors.{vector_coefficients, matrix_product}
-use Rattle.fips204_base.specs.PlainTransforms.{lane_values, plain_vector, factor_values, plain_factor, lanes_value, from_mont, plain_row, row_product, AreSameModQ}
+use Rattle.fips204_base.specs.PlainTransforms.{lane_values, plain_vector, factor_values, plain_factor, lanes_value, from_mont, plain_row, row_product, AreSameModQ, multiple}
 use Rattle.fips204_base.specs.declared.types.R.{R}
 use Rattle.fips204_base.specs.declared.types.T.{T}
 use Rattle.fips204_base.proofs.Residues.{congruent_of, congruent_sym, congruent_trans, congruent_mod, congruent_refl, congruent_add, congruent_mul, congruent_equal, congruent_equal_mod, residue_below, sum_equal, sum_below-times}
 use Rattle.fips204_base.proofs.Transforms.{inverse_of_transform, transform_of_inverse}
-use Rattle.fips204_base.proofs.Products.{transform_same, transform_below, transform_of_minus, inverse_same, inverse_below, product_same, product_of_products, row_of_products, row_below}
+use Rattle.fips204_base.proofs.Products.{transform_same, transform_below, transform_of_minus, inverse_below, inverse_reduced, inverse_same, product_below, product_same, product_of_products, row_of_products, row_below}
 use Rattle.fips204_base.proofs.Vectors.{vector_of-entry, polynomial_of-at}
 use Rattle.std.proofs.lemmas.Int.{ints}
 use Rattle.std.proofs.lemmas.Grind.{common_steps}
@@ -21,9 +21,6 @@ abbrev pub plain_matrix : List (List T) → ℕ → ℕ → ℕ → ℕ
 plain_matrix a i = plain_row (get_or a i [])
 
 -- ---- the inverse transform
-inverse_reduced : (v : ℕ → ℕ) (j : ℕ) → inverse_transform v j % 8380417 ≡ inverse_transform v j
-inverse_reduced v j = omega (arith, inverse_below v j)
-
 pub inverse_of_zeros : (v : ℕ → ℕ) (j : ℕ) → ((i : ℕ) → i < 256 → v i ≡ 0) → inverse_transform v j ≡ 0
 unfolding inverse_transform inverse_root
 inverse_of_zeros v j h = inverse_same v (λ i. 0) (λ i p. congruent_of (h i p)) j ∙ none
@@ -37,7 +34,7 @@ inverse_of_minus a b n p =
     let y = inverse_transform b in
     inverse_same (minus a b) (transform (minus x y)) (λ j q.
     congruent_trans (congruent_mod (a j + 8380416 * b j)) (congruent_trans (congruent_add (congruent_sym (transform_of_inverse a j q)) (congruent_mul (congruent_refl 8380416) (congruent_sym (transform_of_inverse b j q)))) (congruent_sym (transform_of_minus x y j)))) n
-    ∙ (sym (inverse_reduced (transform (minus x y)) n) ∙ (congruent_equal_mod (inverse_of_transform (minus x y) n p) ∙ omega arith))
+    ∙ (inverse_reduced (transform (minus x y)) n ∙ (congruent_equal_mod (inverse_of_transform (minus x y) n p) ∙ omega arith))
 
 -- residues are the transform of their inverse transform
 own : (v a : ℕ → ℕ) → ((j : ℕ) → j < 256 → a j ≡ inverse_transform v j) → (i : ℕ) → i < 256 → v i < 8380417 → v i ≡ transform a i
@@ -52,19 +49,14 @@ plain-entry : (w : List (List ℤ)) (r n : ℕ) → r < 8 → n < 256 → coeffi
 plain-entry w r n h l = vector_of-entry 8 (λ r n. pos (inverse_transform (lane_values w r) n)) r n h l
 
 pub plain-at : (w : List (List ℤ)) (r n : ℕ) → r < 8 → n < 256 → vector_coefficients (plain_vector w) r n ≡ inverse_transform (lane_values w r) n
-plain-at w r n h l = ap residue (plain-entry w r n h l) ∙ inverse_reduced (lane_values w r) n
+plain-at w r n h l = ap residue (plain-entry w r n h l) ∙ sym (inverse_reduced (lane_values w r) n)
 
 plain-transform : (w : List (List ℤ)) (r : ℕ) → r < 8 → (i : ℕ) → i < 256 → lane_values w r i ≡ transform (vector_coefficients (plain_vector w) r) i
 plain-transform w r h i p = own (lane_values w r) (vector_coefficients (plain_vector w) r) (λ j q. plain-at w r j h q) i p (lane_below w r i)
 
--- a polynomial whose lane is another one's
-pub plain-moved : (v w : List (List ℤ)) (r s n : ℕ) → r < 8 → s < 8 → n < 256 → ((i : ℕ) → i < 256 → lane (get_or w i []) r ≡ lane (get_or v i []) s)
-    → vector_coefficients (plain_vector w) r n ≡ vector_coefficients (plain_vector v) s n
-plain-moved v w r s n h k l same = plain-at w r n h l ∙ inverse_same (lane_values w r) (lane_values v s) (λ i p. congruent_of (ap residue (same i p))) n ∙ sym (plain-at v s n k l)
-
 -- a polynomial whose lane stays
 pub plain-same : (v w : List (List ℤ)) (r n : ℕ) → r < 8 → n < 256 → ((i : ℕ) → i < 256 → lane (get_or w i []) r ≡ lane (get_or v i []) r) → vector_coefficients (plain_vector w) r n ≡ vector_coefficients (plain_vector v) r n
-plain-same v w r n h l same = plain-moved v w r r n h h l same
+plain-same v w r n h l same = plain-at w r n h l ∙ inverse_same (lane_values w r) (lane_values v r) (λ i p. congruent_of (ap residue (same i p))) n ∙ sym (plain-at v r n h l)
 
 -- the zero vector
 pub plain-zeros : (w : List (List ℤ)) (r n : ℕ) → r < 8 → n < 256 → ((i : ℕ) → i < 256 → lane_values w r i ≡ 0) → vector_coefficients (plain_vector w) r n ≡ 0
@@ -80,7 +72,7 @@ plain-transformed before after w r n h l made from below =
 
 -- ---- products
 factor-at : (c : List ℤ) (n : ℕ) → n < 256 → coefficients (plain_factor c).0 n ≡ inverse_transform (factor_values c) n
-factor-at c n l = ap residue (polynomial_of-at (λ n. pos (inverse_transform (factor_values c) n)) n l) ∙ inverse_reduced (factor_values c) n
+factor-at c n l = ap residue (polynomial_of-at (λ n. pos (inverse_transform (factor_values c) n)) n l) ∙ sym (inverse_reduced (factor_values c) n)
 
 factor-transform : (c : List ℤ) (i : ℕ) → i < 256 → factor_values c i ≡ transform (coefficients (plain_factor c).0) i
 factor-transform c i p = own (factor_values c) (coefficients (plain_factor c).0) (factor-at c) i p (omega arith)
@@ -91,19 +83,10 @@ factor-transformed c w made n l below =
     factor-at c n l ∙ inverse_same (factor_values c) (transform w) made n ∙ congruent_equal (inverse_of_transform w n l) (inverse_below (transform w) n) below
 
 -- the lanes of z are the products of the factor with those of v
-plain-multiple : (c : List ℤ) (v : List (List ℤ)) (z : ℕ → ℕ) (r n : ℕ) → r < 8 → n < 256 → ((i : ℕ) → i < 256 → z i ≡ factor_values c i * lane_values v r i % 8380417)
+pub plain-multiple : (c : List ℤ) (v : List (List ℤ)) (z : ℕ → ℕ) (r n : ℕ) → r < 8 → n < 256 → ((i : ℕ) → i < 256 → z i ≡ factor_values c i * lane_values v r i % 8380417)
     → inverse_transform z n ≡ product (coefficients (plain_factor c).0) (vector_coefficients (plain_vector v) r) n
 plain-multiple c v z r n h l made =
     product_of_products z (factor_values c) (lane_values v r) (coefficients (plain_factor c).0) (vector_coefficients (plain_vector v) r) made (factor-transform c) (plain-transform v r h) n l
-
--- in one place of a vector and in another
-pub plain-product-moved : (c : List ℤ) (v w : List (List ℤ)) (r s n : ℕ) → r < 8 → s < 8 → n < 256 → ((i : ℕ) → i < 256 → lane_values w s i ≡ factor_values c i * lane_values v r i % 8380417)
-    → vector_coefficients (plain_vector w) s n ≡ product (coefficients (plain_factor c).0) (vector_coefficients (plain_vector v) r) n
-plain-product-moved c v w r s n h k l made = plain-at w s n k l ∙ plain-multiple c v (lane_values w s) r n h l made
-
-pub plain-product : (c : List ℤ) (v w : List (List ℤ)) (r n : ℕ) → r < 8 → n < 256 → ((i : ℕ) → i < 256 → lane_values w r i ≡ factor_values c i * lane_values v r i % 8380417)
-    → vector_coefficients (plain_vector w) r n ≡ product (coefficients (plain_factor c).0) (vector_coefficients (plain_vector v) r) n
-plain-product c v w r n h l made = plain-product-moved c v w r r n h h l made
 
 pub plain-difference : (c : List ℤ) (v before after : List (List ℤ)) (r n : ℕ) → r < 8 → n < 256
     → ((i : ℕ) → i < 256 → lane_values after r i ≡ (lane_values before r i + 8380416 * (factor_values c i * lane_values v r i % 8380417)) % 8380417)
@@ -132,6 +115,12 @@ matrix_below l a v r n = rw (matrix-row l a v r n) (row_below l (plain_matrix a 
 -- Montgomery form and back
 pub back_from_mont : (x y : ℕ) → x ≡ 4294967296 * y % 8380417 → y < 8380417 → from_mont x ≡ y
 back_from_mont x y e h = omega (arith, e, h)
+
+-- a multiple as a vector
+pub multiple-within : (k : ℕ) (c : R) (v out : List R) → out ≡ multiple k c v → VectorWithin k 8380416 out
+multiple-within k c v out e r n h l =
+    let below = product_below (coefficients c.0) (vector_coefficients v r) n in
+    subst (λ x. nat_abs x ≤ 8380416) (sym (ap (λ w. coefficient_of w r n) e ∙ vector_of-entry k (λ r n. pos (product (coefficients c.0) (vector_coefficients v r) n)) r n h l)) (omega (arith, below))
 
 -- ---- what is the same modulo q has the same products
 pub multiple-same : (c d : R) (v w : List R) (k r n : ℕ) → ((j : ℕ) → j < 256 → coefficients c.0 j ≡ coefficients d.0 j) → AreSameModQ k v w → r < k → n < 256

@@ -99,7 +99,7 @@ pub inverse_below : (v : ℕ → ℕ) (j : ℕ) → inverse_transform v j < 8380
 unfolding inverse_transform inverse_root
 inverse_below v j = omega arith
 
-inverse_reduced : (v : ℕ → ℕ) (j : ℕ) → inverse_transform v j ≡ inverse_transform v j % 8380417
+pub inverse_reduced : (v : ℕ → ℕ) (j : ℕ) → inverse_transform v j ≡ inverse_transform v j % 8380417
 inverse_reduced v j = omega (arith, inverse_below v j)
 
 -- a number congruent to a value of the inverse transform, reduced

@@ -34,6 +34,9 @@ keeps_count {values} {count} {given} k =
     let long : min count 256 ≡ min 256 (length given) = ap (min count) (sym k.whole) ∙ sym (length-take count values) ∙ ap length k.same ∙ length-take 256 given in
     omega (arith, long, k.within)
 
+pub keeps_of : {values : List ℤ} {given : List ℤ} → length values ≡ 256 → values ≡ take 256 given → Keeps values 256 given
+keeps_of {values} whole same = record { within = omega arith; whole = whole; same = take_all 256 values (omega (arith, whole)) ∙ same }
+
 pub keeps_none : (values : List ℤ) → length values ≡ 256 → Keeps values 0 []
 keeps_none values w = record { within = omega arith; whole = w; same = refl }
 
@@ -76,6 +79,13 @@ keeps_joined {values} {new} {count} {n} {given} more k w m e = elim (cases_lt co
       let first : take 256 (take count values ++ more) ≡ take count values = take_at (take count values) more 256 (length-take count values ∙ omega (arith, k.whole, all)) in
       record { within = m; whole = w; same = e ∙ first ∙ k.same ∙ sym (take-append-le 256 given more (omega (arith, long, all))) }
 ]
+
+-- what is kept after another piece, where pieces are joined
+pub keeps_next : (values new given more joined : List ℤ) (count n : ℕ) → length values ≡ 256 → length new ≡ 256 → count ≤ 256 → n ≤ 256 → joined ≡ given ++ more
+    → take n new ≡ take 256 (take count values ++ more) → take count values ≡ take 256 given → take n new ≡ take 256 joined
+keeps_next values new given more joined count n whole w l m e written before =
+    let k : Keeps values count given = record { within = l; whole = whole; same = before } in
+    (keeps_joined more k w m written).same ∙ ap (take 256) (sym e)
 
 pub first_of_full : {values : List ℤ} {given : List ℤ} → Keeps values 256 given → first_256 given ≡ Some values
 unfolding first_256
@@ -163,6 +173,13 @@ kept_half_bytes-more eta front n byte l e = grind (arith, ints, common_steps, ta
 pub kept_half_bytes-joined : (eta : ℕ) (front : List ℕ) (n m : ℕ) → kept_half_bytes eta front (n + m) ≡ kept_half_bytes eta front n ++ kept_half_bytes eta (take m (drop n front)) m
 unfolding kept_half_bytes
 kept_half_bytes-joined eta front n m = grind (arith, ints, common_steps, take-add, given-append, take-take)
+
+-- where each draw is a byte
+pub kept_half_bytes-drawn : (eta : ℕ) (front : List ℕ) (n m : ℕ) → kept_half_bytes eta front (n + m) ≡ kept_half_bytes eta front n ++ kept_half_bytes eta (take (1 * m) (drop (1 * n) front)) m
+kept_half_bytes-drawn eta front n m =
+    let same : (k : ℕ) → k ≡ 1 * k = λ k. omega arith in
+    kept_half_bytes-joined eta front n m ∙ ap (λ k. kept_half_bytes eta front n ++ kept_half_bytes eta (take k (drop n front)) m) (same m)
+    ∙ ap (λ k. kept_half_bytes eta front n ++ kept_half_bytes eta (take (1 * m) (drop k front)) m) (same n)
 
 -- what more bytes give comes behind
 pub kept_half_bytes-beyond : (eta : ℕ) (front : List ℕ) (n m : ℕ) → n ≤ m → (later : List ℤ) × (kept_half_bytes eta front m ≡ kept_half_bytes eta front n ++ later)

@@ -1,5 +1,5 @@
 -- What is given by its transforms, as the plain polynomials that contracts see: cited by no public clause; nobody has to believe it.
-use Rattle.std.specs.Prelude.{◌≡◌, ℕ, ℤ, List, [], pos, ◌*◌, ◌%◌, ◌<◌}
+use Rattle.std.specs.Prelude.{◌≡◌, ℕ, ℤ, List, [], pos, ◌*◌, ◌%◌, ◌<◌, slice_index_or}
 use Rattle.fips204_base.specs.Residues.{coefficients, residue, sum_below}
 use Rattle.fips204_base.specs.Transforms.{inverse_transform, product}
 use Rattle.fips204_base.specs.Lanes.{lane, residues}
@@ -43,3 +43,17 @@ row_product l row v n = sum_below l (λ k. product (row k) (v k) n) % 8380417
 -- the plain row of a row of transforms, by column and place
 abbrev pub plain_row : List T → ℕ → ℕ → ℕ
 plain_row row k = inverse_transform (vector_residues row k)
+
+-- the first k polynomials of c v, as a vector with coefficients from 0 to q - 1
+abbrev pub multiple : ℕ → R → List R → List R
+multiple k c v = vector_of k (λ r n. pos (product (coefficients c.0) (vector_coefficients v r) n))
+
+-- a polynomial, and two vectors that it multiplies
+pub record Multiplied : Type 0 where
+  pub factor : R
+  pub first : List R
+  pub second : List R
+
+-- the coefficients of the first k polynomials of c v are in these lanes, by place
+abbrev pub HasMultiple : ℕ → (ℕ → ℕ) → R → List R → List (List ℤ) → Type 0
+HasMultiple k at c v lanes = (r n : ℕ) → r < k → n < 256 → lane (slice_index_or lanes n []) (at r) ≡ pos (product (coefficients c.0) (vector_coefficients v r) n)

@@ -17,6 +17,11 @@ AreKept old kept given new count = take count new ≡ take 256 (take kept old ++
 abbrev pub WritesSampled : {A : Type 0} → Option A → Result (Unit {0}) Fault → A → Type 0
 WritesSampled sampled result new = MatchResult result (λ _. sampled ≡ Some new) (λ fault. (sampled ≡ None) × (fault ≡ SamplingLimit))
 
+-- a step that writes the first n of the values f: it refuses where one of them is none
+abbrev pub WritesEach : {A : Type 0} → (ℕ → Option A) → ℕ → Result (Unit {0}) Fault → List A → Type 0
+WritesEach {A} f n result new = MatchResult result (λ _. (j : ℕ) (d : A) → j < n → f j ≡ Some (slice_index_or new j d))
+    (λ fault. ((j : ℕ) × (j < n) × (f j ≡ None)) × (fault ≡ SamplingLimit))
+
 -- a step that samples the matrix of rho: it refuses where there is none, and else P holds of the matrix
 abbrev pub OnSampled : (List ℕ → List ℕ) → List ℕ → ℕ → ℕ → Result (Unit {0}) Fault → (List (List T) → Type 0) → Type 0
 OnSampled G rho k l result P = MatchResult result (λ _. (a : List (List T)) × (sampled_matrix G rho k l ≡ Some a) × P a)
@@ -54,12 +59,6 @@ sampled_entry G rho r s = matrix_entry (G (rho ++ s ∷ r ∷ []))
 abbrev pub numbered_entry : (List ℕ → List ℕ) → List ℕ → ℕ → ℕ → Option T
 numbered_entry G rho l n = sampled_entry G rho (n / l) (n % l)
 
--- a step that writes the four entries from number `first` on: it refuses where one of them is none
-abbrev pub WritesFourEntries : (List ℕ → List ℕ) → List ℕ → ℕ → ℕ → Result (Unit {0}) Fault → List T → Type 0
-WritesFourEntries G rho l first result new = MatchResult result
-    (λ _. (j : ℕ) (d : T) → j < 4 → numbered_entry G rho l (first + j) ≡ Some (slice_index_or new j d))
-    (λ fault. ((j : ℕ) × (j < 4) × (numbered_entry G rho l (first + j) ≡ None)) × (fault ≡ SamplingLimit))
-
 -- where the four entries of which n is one but not the first are all among `count`, they are there
 abbrev pub AreAhead : (List ℕ → List ℕ) → List ℕ → ℕ → ℕ → ℕ → List T → Type 0
 AreAhead G rho l count n ahead = (j : ℕ) (d : T) → n % 4 ≢ 0 → 4 * (n / 4) + 4 ≤ count → j < 4
@@ -80,13 +79,3 @@ mask_width gamma1 = width (pos (gamma1 - 1)) (pos gamma1)
 -- a polynomial of the mask: the first 32 c bytes of a front, c bits a coefficient
 abbrev pub mask_polynomial : ℕ → List ℕ → R
 mask_polynomial gamma1 front = unpacked (gamma1 - 1) gamma1 (take (32 * mask_width gamma1) front)
-
--- the first n polynomials are those of the mask
-abbrev pub AreMasked : ℕ → (List ℕ → List ℕ) → List ℕ → ℕ → ℕ → List R → Type 0
-AreMasked gamma1 H rho mu n polynomials = (k : ℕ) (d : R) → k < n
-    → slice_index_or polynomials k d ≡ mask_polynomial gamma1 (H (rho ++ to_le_bytes w16 (mu + k)))
-
--- the first n small polynomials are those of the numbers from `first` on
-abbrev pub AreSmall : ℕ → (List ℕ → List ℕ) → List ℕ → ℕ → ℕ → List R → Type 0
-AreSmall eta H rho first n polynomials = (k : ℕ) (d : R) → k < n
-    → small_polynomial eta (H (rho ++ to_le_bytes w16 (first + k))) ≡ Some (slice_index_or polynomials k d)

@@ -12,7 +12,7 @@ mod vectors;
 
 use crate::types::R;
 pub use private_key::{sk_decode, sk_encode};
-pub use signature::{sig_decode, sig_encode, w1_encode, write_signature_parts};
+pub use signature::{sig_decode, sig_encode, w1_encode, write_signature, write_signature_parts};
 pub(crate) use vectors::polynomial_size;
 use vectors::{unpack_vector, write_packed_vector};
 

@@ -8,6 +8,7 @@ ghost use Rattle.fips204_base.specs.SamplerSteps.{AreKept};
 mod challenge;
 mod mask;
 mod matrix;
+mod sampler;
 mod small;
 
 use crate::xof::Xof;

@@ -2,12 +2,12 @@
 //! multiplied by. Internal: serves the crate `fips204` alone.
 #![tactic(auto)]
 
-ghost use Rattle.std.specs.Prelude.{◌≡◌, ◌≢◌, ◌<◌, ◌≤◌, ◌+◌, ◌%◌, ℕ, pos, length, nat_abs, slice_index_or};
+ghost use Rattle.std.specs.Prelude.{◌≡◌, ◌≢◌, ◌<◌, ◌≤◌, ◌+◌, ℕ, [], pos, length, nat_abs, slice_index_or};
 ghost use Rattle.fips204_base.specs.Lanes.{lane};
 ghost use Rattle.fips204_base.specs.Residues.{coefficients};
 ghost use Rattle.fips204_base.specs.Transforms.{minus, product};
 ghost use Rattle.fips204_base.specs.Vectors.{vector_coefficients, vector_of};
-ghost use Rattle.fips204_base.specs.PlainTransforms.{AreSameModQ};
+ghost use Rattle.fips204_base.specs.PlainTransforms.{AreSameModQ, HasMultiple, Multiplied, multiple};
 ghost use Rattle.fips204_base.specs.Bounds.{PolynomialWithin, VectorWithin, coefficient_at, coefficient_of};
 ghost use Rattle.fips204_base.specs.declared.types.R.{R};
 
@@ -68,37 +68,6 @@ impl Transforms {
         write_ntt(&mut self.values, &mut Count::new());
     }
 
-    /// Becomes `v`, and from polynomial 4 on `u`, by one run of the network. Coefficients are below `q` in absolute value.
-    #[inline(never)]
-    pub fn write_transforms_of_two<const N: usize, const M: usize>(
-        &mut self,
-        v: &[R; N],
-        u: &[R; M],
-    )
-        requires few { (N ≤ 4) × (M ≤ 4) }
-        requires first_range { VectorWithin N 8380416 v.now }
-        requires second_range { VectorWithin M 8380416 u.now }
-        ensures first { AreSameModQ N self.new v.now }
-        ensures second { (r n : ℕ) → r < M → n < 256
-            → vector_coefficients self.new (4 + r) n ≡ vector_coefficients u.now r n }
-    {
-        for n in 0..256usize {
-            self.values[n] = lanes_of(v, n).beside(lanes_of(u, n));
-        }
-        let mut meter = Count::new();
-        write_ntt(&mut self.values, &mut meter);
-    }
-
-    /// Exchanges the first four polynomials and the last four.
-    pub fn exchange_halves(&mut self)
-        ensures { (r n : ℕ) → r < 8 → n < 256
-            → vector_coefficients self.new r n ≡ vector_coefficients self.old ((4 + r) % 8) n }
-    {
-        for n in 0..256usize {
-            self.values[n] = self.values[n].halves_exchanged();
-        }
-    }
-
     /// Becomes `v`, as by `write_transforms`, and returns `c` as what vectors are multiplied by. Both take one run of the
     /// network, with `c` in the last lane. Coefficients are below `q` in absolute value.
     #[inline(never)]
@@ -131,52 +100,7 @@ impl Transforms {
         ensures range { VectorWithin N 8380416 out.new }
     {
         write_inv_ntt(&mut self.values, &mut Count::new());
-        for n in 0..256usize {
-            write_coefficients(self.values[n], n, out);
-        }
-    }
-
-    /// Writes the first polynomials into `v`, and those from polynomial 4 on into `u` (Algorithm 42), by one run of the network,
-    /// with coefficients from 0 to `q - 1`. Is used up by it.
-    #[inline(never)]
-    pub fn write_plain_of_two<const N: usize, const M: usize>(
-        &mut self,
-        v: &mut [R; N],
-        u: &mut [R; M],
-    )
-        requires few { (N ≤ 4) × (M ≤ 4) }
-        ensures first { v.new ≡ vector_of N (λ r n. pos (vector_coefficients self.old r n)) }
-        ensures second { u.new ≡ vector_of M (λ r n. pos (vector_coefficients self.old (4 + r) n)) }
-        ensures first_range { VectorWithin N 8380416 v.new }
-        ensures second_range { VectorWithin M 8380416 u.new }
-    {
-        write_inv_ntt(&mut self.values, &mut Count::new());
-        for n in 0..256usize {
-            write_coefficients(self.values[n], n, v);
-            write_coefficients(self.values[n].halves_exchanged(), n, u);
-        }
-    }
-
-    /// Becomes `c v` (Algorithm 45 at each polynomial).
-    pub fn write_multiple(&mut self, c: &Factor, v: &Transforms)
-        ensures { (r n : ℕ) → r < 8 → n < 256
-            → vector_coefficients self.new r n ≡ product (coefficients c.now.0) (vector_coefficients v.now r) n }
-    {
-        for n in 0..256usize {
-            self.values[n] = v.values[n].times(c.values[n]);
-        }
-    }
-
-    /// Becomes `c v`, and from polynomial 4 on `c u`, in the first four polynomials of `v` and `u`.
-    pub fn write_multiples_of_two(&mut self, c: &Factor, v: &Transforms, u: &Transforms)
-        ensures first { (r n : ℕ) → r < 4 → n < 256 → vector_coefficients self.new r n
-            ≡ product (coefficients c.now.0) (vector_coefficients v.now r) n }
-        ensures second { (r n : ℕ) → r < 4 → n < 256 → vector_coefficients self.new (4 + r) n
-            ≡ product (coefficients c.now.0) (vector_coefficients u.now r) n }
-    {
-        for n in 0..256usize {
-            self.values[n] = v.values[n].beside(u.values[n]).times(c.values[n]);
-        }
+        write_lanes(&self.values, out);
     }
 
     /// Takes `c v` away.
@@ -223,6 +147,134 @@ impl Factor {
             values[n] = value_to_mont(values[n]);
         }
         Factor { values }
+    }
+}
+
+/// The products of a polynomial with two vectors, one after the other, and then with other vectors, of at most eight polynomials
+/// each. Where the first has four at most, one run of the network makes its product and four polynomials of the second one.
+///
+/// Contracts see the polynomial and both vectors.
+#[derive(Drop)]
+pub struct Products<'a> {
+    factor: &'a Factor,
+    first: &'a Transforms,
+    second: &'a Transforms,
+    lanes: [Lanes; 256],
+    // whether the product with the second vector is in the last four lanes
+    has_second: bool,
+}
+
+impl<'a> Model for Products<'a> {
+    ghost use Rattle.std.specs.Prelude.{IsTrue, ◌+◌};
+    ghost use Rattle.fips204_base.specs.PlainTransforms.{HasMultiple, Multiplied};
+
+    ghost Value = { Multiplied };
+
+    ghost view = { λ p. record { factor = p.factor.now; first = p.first.now; second = p.second.now } };
+
+    ghost invariant = { λ p. IsTrue p.has_second → HasMultiple 4 (λ r. 4 + r) p.factor.now p.second.now p.lanes };
+}
+
+impl<'a> Products<'a> {
+    /// Those of `c` with `v` and `u`.
+    pub fn of(c: &'a Factor, v: &'a Transforms, u: &'a Transforms) -> Products<'a>
+        ensures { result ≡ record { factor = c.now; first = v.now; second = u.now } }
+    {
+        Products {
+            factor: c,
+            first: v,
+            second: u,
+            lanes: [Lanes::from_array([0; 8]); 256],
+            has_second: false,
+        }
+    }
+
+    /// Writes that with the first vector, with coefficients from 0 to `q - 1`.
+    pub fn write_first<const N: usize>(&mut self, out: &mut [R; N])
+        requires { N ≤ 8 }
+        ensures value { out.new ≡ multiple N self.old.factor self.old.first }
+        ensures range { VectorWithin N 8380416 out.new }
+        ensures kept { self.new ≡ self.old }
+    {
+        if N <= 4 {
+            write_multiples(self.factor, self.first, self.second, &mut self.lanes);
+            self.has_second = true;
+            write_lanes(&self.lanes, out);
+        } else {
+            let v = self.first;
+            self.write_other(v, out);
+        }
+    }
+
+    /// Writes that with the second vector, with coefficients from 0 to `q - 1`.
+    pub fn write_second<const N: usize>(&mut self, out: &mut [R; N])
+        requires { N ≤ 8 }
+        ensures value { out.new ≡ multiple N self.old.factor self.old.second }
+        ensures range { VectorWithin N 8380416 out.new }
+        ensures kept { self.new ≡ self.old }
+    {
+        if self.has_second && N <= 4 {
+            write_last_lanes(&self.lanes, out);
+        } else {
+            let v = self.second;
+            self.write_other(v, out);
+        }
+    }
+
+    /// Writes that with another vector, with coefficients from 0 to `q - 1`.
+    #[inline(never)]
+    pub fn write_other<const N: usize>(&mut self, v: &Transforms, out: &mut [R; N])
+        requires { N ≤ 8 }
+        ensures value { out.new ≡ multiple N self.old.factor v.now }
+        ensures range { VectorWithin N 8380416 out.new }
+        ensures kept { self.new ≡ self.old }
+    {
+        self.has_second = false;
+        write_multiple(self.factor, v, &mut self.lanes);
+        write_lanes(&self.lanes, out);
+    }
+}
+
+/// Writes `c v` (Algorithms 45 and 42 at each polynomial): lane `r` of value `n` is coefficient `n` of polynomial `r`.
+fn write_multiple(c: &Factor, v: &Transforms, out: &mut [Lanes; 256])
+    ensures { HasMultiple 8 (λ r. r) c.now v.now out.new }
+{
+    for n in 0..256usize {
+        out[n] = v.values[n].times(c.values[n]);
+    }
+    write_inv_ntt(out, &mut Count::new());
+}
+
+/// Writes `c v`, and from lane 4 on `c u`, in the first four polynomials of both.
+fn write_multiples(c: &Factor, v: &Transforms, u: &Transforms, out: &mut [Lanes; 256])
+    ensures first { HasMultiple 4 (λ r. r) c.now v.now out.new }
+    ensures second { HasMultiple 4 (λ r. 4 + r) c.now u.now out.new }
+{
+    for n in 0..256usize {
+        out[n] = v.values[n].beside(u.values[n]).times(c.values[n]);
+    }
+    write_inv_ntt(out, &mut Count::new());
+}
+
+/// Writes the polynomials whose coefficients are in the lanes.
+#[inline(always)]
+fn write_lanes<const N: usize>(lanes: &[Lanes; 256], out: &mut [R; N])
+    requires { N ≤ 8 }
+    ensures { out.new ≡ vector_of N (λ r n. lane (slice_index_or lanes.now n []) r) }
+{
+    for n in 0..256usize {
+        write_coefficients(lanes[n], n, out);
+    }
+}
+
+/// Writes the polynomials whose coefficients are in the last four lanes.
+#[inline(always)]
+fn write_last_lanes<const N: usize>(lanes: &[Lanes; 256], out: &mut [R; N])
+    requires { N ≤ 4 }
+    ensures { out.new ≡ vector_of N (λ r n. lane (slice_index_or lanes.now n []) (4 + r)) }
+{
+    for n in 0..256usize {
+        write_coefficients(lanes[n].halves_exchanged(), n, out);
     }
 }
 

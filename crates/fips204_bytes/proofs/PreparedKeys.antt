@@ -1,20 +1,17 @@
 -- The bytes of a prepared key stand for the key.
 use Rattle.std.proofs.Common.{◌≡◌, ◌∙◌, ℕ, Bool, true, false, IsTrue, List, length, nat_eq, Result, Ok, Err, Some, None, refl, sym, ap, subst, ◌↔◌}
-use Rattle.std.specs.Prelude.{MatchBool, MatchOption, MatchResult, Option, ⊤}
+use Rattle.std.specs.Prelude.{MatchBool, ⊤}
 use Rattle.std.proofs.lemmas.Bool.{eq-eqb}
-use Rattle.fips204_base.specs.Encodings.{PublicParts, PrivateParts, IsPublicKeyOf, IsPrivateKeyOf}
+use Rattle.fips204_base.specs.Encodings.{PrivateParts, IsPrivateKeyOf}
 use Rattle.fips204_base.specs.declared.fault.Fault.{Fault}
-use Rattle.fips204.specs.Framing.{Input}
-use Rattle.fips204.specs.Keys.{DecodesPrivate}
-use Rattle.fips204.specs.ParameterSets.{ParameterSet, IsSet, public_key_length, private_key_length, signature_length}
+use Rattle.fips204.specs.ParameterSets.{ParameterSet, public_key_length, private_key_length, signature_length}
 use Rattle.fips204.specs.Prepared.{PreparedPublic, PreparedPrivate, prepared_public, prepared_private, sign_prepared, VerifiesPrepared, PreparedAnswersAsPlain}
-use Rattle.fips204.specs.PreparedBytes.{Decodes, IsPreparedPublicOf, IsPreparedPrivateOf, prepared_public_bytes, prepared_private_bytes, prepared_public_length, prepared_private_length, PreparedThroughBytes}
-use Rattle.fips204.specs.Refusals.{sign_input, VerifiesInput}
+use Rattle.fips204.specs.PreparedBytes.{IsPreparedPublicOf, IsPreparedPrivateOf, prepared_public_bytes, prepared_private_bytes, prepared_public_length, prepared_private_length, PreparedThroughBytes}
 use Rattle.fips204_bytes.specs.Bytes.{Leaves, Writes, WithPrivate, WritesSignature, TellsVerdict}
-use Rattle.fips204_bytes.specs.Prepared.{WithPrepared, WritesPreparedPublic, WritesPreparedPrivate, TellsPreparedVerdict, WritesPreparedSignature, PreparedStandsForPlain}
+use Rattle.fips204_bytes.specs.Prepared.{WithPrepared, TellsPreparedVerdict, WritesPreparedSignature, PreparedStandsForPlain}
 use Rattle.fips204_bytes.specs.declared.refusal.Array.TheVariants.{PublicKey, PrivateKey, PreparedPublicKey, PreparedPrivateKey, Signature}
 use Rattle.fips204_bytes.specs.declared.refusal.Refusal.{Refusal}
-use Rattle.fips204_bytes.specs.declared.refusal.Refusal.TheVariants.{Length, Library, NotPrepared}
+use Rattle.fips204_bytes.specs.declared.refusal.Refusal.TheVariants.{Length, Library}
 use Rattle.fips204_bytes.proofs.Mu.{fitting}
 use Rattle.fips204_bytes.proofs.Pairs.{not_done, answered}
 

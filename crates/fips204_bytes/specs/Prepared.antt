@@ -1,10 +1,10 @@
 -- What the calls with prepared keys do with arrays of any length, over streams H and G. A last answer is what the call returns.
-use Rattle.std.specs.Prelude.{◌≡◌, ◌↔◌, Bool, IsTrue, length, Option, MatchOption, Result, Ok, Err, ⊤}
+use Rattle.std.specs.Prelude.{◌≡◌, ◌↔◌, Bool, IsTrue, Option, MatchOption, Result, Ok, Err, ⊤}
 use Rattle.fips204_base.specs.Encodings.{PublicParts, IsPublicKeyOf}
 use Rattle.fips204_base.specs.Streams.{Bytes, XOF}
 use Rattle.fips204.specs.Framing.{Input}
 use Rattle.fips204.specs.ParameterSets.{ParameterSet, public_key_length, private_key_length, signature_length}
-use Rattle.fips204.specs.Prepared.{PreparedPublic, PreparedPrivate, prepared_public, prepared_private, sign_prepared, VerifiesPrepared}
+use Rattle.fips204.specs.Prepared.{prepared_public, prepared_private, sign_prepared, VerifiesPrepared}
 use Rattle.fips204.specs.PreparedBytes.{Decodes, IsPreparedPublicOf, IsPreparedPrivateOf, prepared_public_bytes, prepared_private_bytes, prepared_public_length, prepared_private_length}
 use Rattle.fips204_bytes.specs.Bytes.{IfSized, Leaves, Writes, WithPrivate, Signs, Judges}
 use Rattle.fips204_bytes.specs.declared.refusal.Array.TheVariants.{PublicKey, PrivateKey, PreparedPublicKey, PreparedPrivateKey, Signature}

@@ -7,8 +7,6 @@ ghost use Rattle.fips204_bytes.specs.Mu.{MuStandsForInput, SignatureBindsMu};
 ghost use Rattle.fips204_bytes.specs.Pairs.{PairsBelong};
 ghost use Rattle.fips204_bytes.specs.Prepared.{PreparedStandsForPlain};
 
-mod parts;
-
 use fips204::laws::{binding, key_bytes, prepared_bytes, prepared_keys, signed_is_accepted};
 
 /// The keys that one call of `keygen` wrote belong together: unless a length is wrong, `verify` says yes to what `sign`

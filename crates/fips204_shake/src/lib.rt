@@ -1,16 +1,19 @@
 //! ML-DSA of FIPS 204: the library `fips204` over SHAKE256 and SHAKE128.
 //!
-//! `keygen`, `sign`, `verify`, `public_key`, `check_private_key`, `is_whole` and `is_pair` take the parameter set as an
-//! argument, and keys and signatures as slices. From `crates/mldsa_examples/src/over_bytes.rt`:
+//! `MlDsa44`, `MlDsa65` and `MlDsa87` have the calls of a set with keys and signatures as slices, and no type of a key: `keygen`,
+//! `sign`, `verify`, `public_key`, `check_private_key`, `is_whole`, `is_pair`, and those with prepared keys. From
+//! `crates/mldsa_examples/src/over_bytes.rt`:
 //!
 //! ```rust
-//!     keygen(SET, seed, &mut public_key, &mut private_key)?;
+//!     MlDsa65::keygen(seed, &mut public_key, &mut private_key)?;
 //! ..
 //!     let input = Input::Message(message, b"a page of documentation");
-//!     sign(SET, private_key, random, &input, &mut signature)?;
+//!     MlDsa65::sign(private_key, random, &input, &mut signature)?;
 //! ..
-//!     verify(SET, public_key, &input, signature)
+//!     MlDsa65::verify(public_key, &input, signature)
 //! ```
+//!
+//! Where the set is known only when the program runs, `MlDsa` has the same calls by its name: `MlDsa::sign(SetName::MlDsa65, ..)`.
 //!
 //! The modules `ml_dsa_44`, `ml_dsa_65` and `ml_dsa_87` have the key types of a set over these two XOFs: `KG`, `PublicKey`,
 //! `PrivateKey`, and the prepared (expanded) ones. Their calls are those of the traits of `fips204`:
@@ -27,20 +30,29 @@
 //! | use a key many times | `private.prepare()?`, `public.prepare()?`, and the same calls |
 #![tactic(auto)]
 
-mod calls;
+mod callers;
 pub mod ml_dsa_44;
 pub mod ml_dsa_65;
 pub mod ml_dsa_87;
-mod names;
 pub mod pieces;
 pub mod streams;
 
-pub use calls::{
-    check_private_key, is_pair, is_whole, keygen, prepare_private_key, prepare_public_key,
-    public_key, sign, sign_prepared, verify, verify_prepared,
-};
 pub use fips204::{
     Fault, MAX_PREHASH_LEN, MAX_SIGN_ATTEMPTS, RngError, check_pre_hash, fault, laws, pre_hash,
     traits, xof,
 };
 pub use fips204_bytes::{Array, Input, Refusal, SetName};
+use fips204_bytes::{ByName, Calls};
+use streams::{Shake128Stream, Shake256Stream};
+
+/// The calls of ML-DSA-44 over bytes.
+pub type MlDsa44 = Calls<4, 4, Shake256Stream, Shake128Stream>;
+
+/// The calls of ML-DSA-65 over bytes.
+pub type MlDsa65 = Calls<6, 5, Shake256Stream, Shake128Stream>;
+
+/// The calls of ML-DSA-87 over bytes.
+pub type MlDsa87 = Calls<8, 7, Shake256Stream, Shake128Stream>;
+
+/// The calls over bytes of a set by its name.
+pub type MlDsa = ByName<Shake256Stream, Shake128Stream>;

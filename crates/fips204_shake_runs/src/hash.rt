@@ -10,122 +10,41 @@ use shake::{Shake, Shake128, Shake256, ShakeReader, f1600, f1600_four};
 /// The lengths of the messages.
 const LENGTHS: [usize; 9] = [0, 1, 135, 136, 137, 167, 168, 169, 1000];
 
-/// Of a message of each length, the first eight bytes of the SHA-256 of 1, 32, 168 and 4096 bytes of SHAKE128, as
-/// hashlib gives them.
-static OF_SHAKE128: [[u64; 4]; 9] = [
-    [
-        0x620bfdaa346b088f,
-        0x0dfff16e27b94057,
-        0xb162b569f72ca793,
-        0x788a9e3f9c3c9d04,
-    ],
-    [
-        0x50e721e49c013f00,
-        0xbbab55e702208893,
-        0xf74e39de6e2eb7a6,
-        0xd92107822bbd95d7,
-    ],
-    [
-        0x951dcee3a7a4f3aa,
-        0xdc6035d7de53aeb0,
-        0xccb84545576f3949,
-        0xe8c856a95bb5beb8,
-    ],
-    [
-        0x27952171c7fcdf0d,
-        0xcc4fc291507f7777,
-        0xf871030a2bcfc164,
-        0xe16b957caf229e85,
-    ],
-    [
-        0x8ce86a6ae65d3692,
-        0xd9c5919ae2e430ad,
-        0x2db54bc4d897336f,
-        0x884a6bc2c1f0913d,
-    ],
-    [
-        0x9d277175737fb500,
-        0xcda4390511b43e27,
-        0x4213dcece9aa4d8a,
-        0x8059d166a1a56c6c,
-    ],
-    [
-        0xba5ec51d07a4ac0e,
-        0x8e257a4bfce487d9,
-        0x4eac009f0669454f,
-        0xa910808616d660fc,
-    ],
-    [
-        0x5ee0dd4d4840229f,
-        0x0e0167966ace0b97,
-        0xab2ae1ff7dd2ac24,
-        0x5873f69c411f7c49,
-    ],
-    [
-        0xa83dd0ccbffe39d0,
-        0xd1e43a46061b6eb2,
-        0x2c791b226d7e405c,
-        0x9619bdb5339d21ac,
-    ],
-];
+/// Of a message of each length, a line each, the first eight bytes of the SHA-256 of 1, 32, 168 and 4096 bytes of
+/// SHAKE128, as hashlib gives them.
+const OF_SHAKE128: &str = "\
+620bfdaa346b088f 0dfff16e27b94057 b162b569f72ca793 788a9e3f9c3c9d04
+50e721e49c013f00 bbab55e702208893 f74e39de6e2eb7a6 d92107822bbd95d7
+951dcee3a7a4f3aa dc6035d7de53aeb0 ccb84545576f3949 e8c856a95bb5beb8
+27952171c7fcdf0d cc4fc291507f7777 f871030a2bcfc164 e16b957caf229e85
+8ce86a6ae65d3692 d9c5919ae2e430ad 2db54bc4d897336f 884a6bc2c1f0913d
+9d277175737fb500 cda4390511b43e27 4213dcece9aa4d8a 8059d166a1a56c6c
+ba5ec51d07a4ac0e 8e257a4bfce487d9 4eac009f0669454f a910808616d660fc
+5ee0dd4d4840229f 0e0167966ace0b97 ab2ae1ff7dd2ac24 5873f69c411f7c49
+a83dd0ccbffe39d0 d1e43a46061b6eb2 2c791b226d7e405c 9619bdb5339d21ac";
 
 /// The same of SHAKE256.
-static OF_SHAKE256: [[u64; 4]; 9] = [
-    [
-        0xf67ab10ad4e4c531,
-        0x9e04f0752b264c18,
-        0x5321a6fa639f3e02,
-        0xfed7437a863da459,
-    ],
-    [
-        0xb7d25296e7bc6a6b,
-        0xa733a8d50f1b5ae3,
-        0xfed5b0b6f35c2c1b,
-        0xa0f680575abb41a2,
-    ],
-    [
-        0x36a9e7f1c95b82ff,
-        0x993910c091bbb526,
-        0x7574e635775b1fe5,
-        0x44738d22006de32a,
-    ],
-    [
-        0x9be3799f24592e94,
-        0xe26987a55edc0186,
-        0xc28c47010b7d32bf,
-        0xc41d2df430527b76,
-    ],
-    [
-        0x334359b90efed75d,
-        0xba72e6e3b8fc2605,
-        0xdabe0fbee3f94f4c,
-        0x169a36d21af861a1,
-    ],
-    [
-        0x7a4a4b50f5121ed5,
-        0xc4957710ed756ce9,
-        0x3366182d5547c3bb,
-        0x89d484613ceee5b9,
-    ],
-    [
-        0x1f184f101c67d585,
-        0xc58098cad98b0493,
-        0x7701a56e6479a74f,
-        0x4fb1b57811a77d4c,
-    ],
-    [
-        0xd16bd22f7196c0a7,
-        0xed5c1679ddce54c2,
-        0x447995cb4d798476,
-        0xf03c72f34efa6311,
-    ],
-    [
-        0x951dcee3a7a4f3aa,
-        0x5155d925b7324ab7,
-        0x46f6b9f62bb507f6,
-        0x88f480e0687ac188,
-    ],
-];
+const OF_SHAKE256: &str = "\
+f67ab10ad4e4c531 9e04f0752b264c18 5321a6fa639f3e02 fed7437a863da459
+b7d25296e7bc6a6b a733a8d50f1b5ae3 fed5b0b6f35c2c1b a0f680575abb41a2
+36a9e7f1c95b82ff 993910c091bbb526 7574e635775b1fe5 44738d22006de32a
+9be3799f24592e94 e26987a55edc0186 c28c47010b7d32bf c41d2df430527b76
+334359b90efed75d ba72e6e3b8fc2605 dabe0fbee3f94f4c 169a36d21af861a1
+7a4a4b50f5121ed5 c4957710ed756ce9 3366182d5547c3bb 89d484613ceee5b9
+1f184f101c67d585 c58098cad98b0493 7701a56e6479a74f 4fb1b57811a77d4c
+d16bd22f7196c0a7 ed5c1679ddce54c2 447995cb4d798476 f03c72f34efa6311
+951dcee3a7a4f3aa 5155d925b7324ab7 46f6b9f62bb507f6 88f480e0687ac188";
+
+/// The numbers of each line of a table, in hex.
+fn recorded<const N: usize>(table: &str) -> [[u64; 4]; N] {
+    let mut lines = [[0; 4]; N];
+    for (line, words) in lines.iter_mut().zip(table.lines()) {
+        for (number, word) in line.iter_mut().zip(words.split(' ')) {
+            *number = u64::from_str_radix(word, 16).unwrap_or(0);
+        }
+    }
+    lines
+}
 
 /// A message of 1000 bytes, whose byte `i` is `7 i + 3` modulo 251.
 fn message() -> [u8; 1000] {
@@ -180,7 +99,7 @@ fn shake128_of_each_length(rt: HostRuntime) {
     for i in 0..9 {
         given[i] = in_pieces(Shake128::new(), &message[..LENGTHS[i]]);
     }
-    assert_eq!(rt; given, OF_SHAKE128);
+    assert_eq!(rt; given, recorded(OF_SHAKE128));
 }
 
 /// SHAKE256 of the same messages.
@@ -191,7 +110,7 @@ fn shake256_of_each_length(rt: HostRuntime) {
     for i in 0..9 {
         given[i] = in_pieces(Shake256::new(), &message[..LENGTHS[i]]);
     }
-    assert_eq!(rt; given, OF_SHAKE256);
+    assert_eq!(rt; given, recorded(OF_SHAKE256));
 }
 
 /// The four outputs of a message in one call each.
@@ -202,40 +121,17 @@ fn digests_in_one_call(rt: HostRuntime) {
     Shake128::digest_xof(&message, &mut bytes);
     let first = short(&[&bytes]);
     Shake256::digest_xof(&message, &mut bytes);
-    assert_eq!(rt;
-        [first, short(&[&bytes])],
-        [OF_SHAKE128[8][3], OF_SHAKE256[8][3]]
-    );
+    let (shake128, shake256) = (recorded::<9>(OF_SHAKE128), recorded::<9>(OF_SHAKE256));
+    assert_eq!(rt; [first, short(&[&bytes])], [shake128[8][3], shake256[8][3]]);
 }
 
 /// The first four lanes after one permutation: those of SHAKE128, SHAKE256, SHA3-256 and SHA3-512 of the empty message, as
 /// hashlib gives them.
-static PERMUTED: [[u64; 4]; 4] = [
-    [
-        0x7d828fe8a42b9c7f,
-        0x3e85057650456061,
-        0x88bceff693803bd7,
-        0x26ef66faac6e1aeb,
-    ],
-    [
-        0x138da80b2bddb946,
-        0x24eb3e74eb3f3b23,
-        0x821bb862ea52cd3f,
-        0x2f76d56e64270cb5,
-    ],
-    [
-        0x66d71ebff8c6ffa7,
-        0x62d661a05647c151,
-        0xfa493be44dff80f5,
-        0x4a43f8804b0ad882,
-    ],
-    [
-        0xc59a3aa2cc739fa6,
-        0x6e755a18dc67b5c8,
-        0x5958e24f1682c997,
-        0xa6805c47c1dcd1e0,
-    ],
-];
+const PERMUTED: &str = "\
+7d828fe8a42b9c7f 3e85057650456061 88bceff693803bd7 26ef66faac6e1aeb
+138da80b2bddb946 24eb3e74eb3f3b23 821bb862ea52cd3f 2f76d56e64270cb5
+66d71ebff8c6ffa7 62d661a05647c151 fa493be44dff80f5 4a43f8804b0ad882
+c59a3aa2cc739fa6 6e755a18dc67b5c8 5958e24f1682c997 a6805c47c1dcd1e0";
 
 /// The state of one block: its padding begins with `first` and ends in lane `last`.
 fn padded(first: u64, last: usize) -> [u64; 25]
@@ -262,7 +158,10 @@ fn permutations_of_four_states(rt: HostRuntime) {
     let mut one = d;
     f1600(&mut one);
     f1600_four(&mut a, &mut b, &mut c, &mut d);
-    assert_eq!(rt; [begin(&a), begin(&b), begin(&c), begin(&d)], PERMUTED);
+    assert_eq!(rt;
+        [begin(&a), begin(&b), begin(&c), begin(&d)],
+        recorded(PERMUTED)
+    );
     assert!(rt; one == d);
 }
 
@@ -291,19 +190,9 @@ fn digests_of_four<const R: usize>(message: &[u8; 1000]) -> [u64; 4]
 #[test]
 fn digests_side_by_side(rt: HostRuntime) {
     let message = message();
-    let [a, b, c, d] = [
-        OF_SHAKE128[0],
-        OF_SHAKE128[2],
-        OF_SHAKE128[6],
-        OF_SHAKE128[8],
-    ];
+    let [a, _, b, _, _, _, c, _, d] = recorded::<9>(OF_SHAKE128);
     assert_eq!(rt; digests_of_four::<168>(&message), [a[2], b[2], c[2], d[2]]);
-    let [a, b, c, d] = [
-        OF_SHAKE256[0],
-        OF_SHAKE256[2],
-        OF_SHAKE256[6],
-        OF_SHAKE256[8],
-    ];
+    let [a, _, b, _, _, _, c, _, d] = recorded::<9>(OF_SHAKE256);
     assert_eq!(rt; digests_of_four::<136>(&message), [a[2], b[2], c[2], d[2]]);
 }
 
@@ -385,18 +274,8 @@ fn read_in_turns<const R: usize>(message: &[u8; 1000]) -> [u64; 4]
 #[test]
 fn readers_side_by_side(rt: HostRuntime) {
     let message = message();
-    let [a, b, c, d] = [
-        OF_SHAKE128[0],
-        OF_SHAKE128[2],
-        OF_SHAKE128[6],
-        OF_SHAKE128[8],
-    ];
+    let [a, _, b, _, _, _, c, _, d] = recorded::<9>(OF_SHAKE128);
     assert_eq!(rt; read_in_turns::<168>(&message), [a[3], b[3], c[3], d[3]]);
-    let [a, b, c, d] = [
-        OF_SHAKE256[0],
-        OF_SHAKE256[2],
-        OF_SHAKE256[6],
-        OF_SHAKE256[8],
-    ];
+    let [a, _, b, _, _, _, c, _, d] = recorded::<9>(OF_SHAKE256);
     assert_eq!(rt; read_in_turns::<136>(&message), [a[3], b[3], c[3], d[3]]);
 }

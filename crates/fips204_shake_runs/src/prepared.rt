@@ -3,10 +3,7 @@
 
 ghost use Rattle.std.specs.Prelude.{◌≤◌};
 
-use fips204_shake::{
-    Input, Refusal, SetName, keygen, ml_dsa_44, ml_dsa_65, ml_dsa_87, prepare_private_key,
-    prepare_public_key, sign, sign_prepared, verify_prepared,
-};
+use fips204_shake::{Input, MlDsa, Refusal, SetName, ml_dsa_44, ml_dsa_65, ml_dsa_87};
 use std::test::Fail;
 
 /// With the keys of one seed: whether the prepared key signs as the plain one does, whether its public key accepts that, whether
@@ -21,24 +18,24 @@ fn answers<
     requires sizes { (PK ≤ 65536) × (SK ≤ 65536) × (SIG ≤ 65536) × (PREPARED_PK ≤ 65536) × (PREPARED_SK ≤ 65536) }
 {
     let (mut public_key, mut private_key) = ([0; PK], [0; SK]);
-    keygen(set, &[3; 32], &mut public_key, &mut private_key)?;
+    MlDsa::keygen(set, &[3; 32], &mut public_key, &mut private_key)?;
     let mut checks = [0; PREPARED_PK];
     let mut signs = [0; PREPARED_SK];
-    prepare_public_key(set, &public_key, &mut checks)?;
-    prepare_private_key(set, &private_key, &mut signs)?;
+    MlDsa::prepare_public_key(set, &public_key, &mut checks)?;
+    MlDsa::prepare_private_key(set, &private_key, &mut signs)?;
     let (mut plain, mut prepared) = ([0; SIG], [0; SIG]);
     let input = Input::Message(b"a message", b"a context");
-    sign(set, &private_key, &[9; 32], &input, &mut plain)?;
-    sign_prepared(set, &signs, &[9; 32], &input, &mut prepared)?;
+    MlDsa::sign(set, &private_key, &[9; 32], &input, &mut plain)?;
+    MlDsa::sign_prepared(set, &signs, &[9; 32], &input, &mut prepared)?;
     let other = Input::Message(b"another message", b"a context");
     let refused = Err(Refusal::NotPrepared);
-    let broken = verify_prepared(set, &[0xff; PREPARED_PK], &input, &prepared);
+    let broken = MlDsa::verify_prepared(set, &[0xff; PREPARED_PK], &input, &prepared);
     Ok([
         plain == prepared,
-        verify_prepared(set, &checks, &input, &prepared)?,
-        !verify_prepared(set, &checks, &other, &prepared)?,
+        MlDsa::verify_prepared(set, &checks, &input, &prepared)?,
+        !MlDsa::verify_prepared(set, &checks, &other, &prepared)?,
         broken == refused,
-        sign_prepared(set, &[0xff; PREPARED_SK], &[9; 32], &input, &mut plain)
+        MlDsa::sign_prepared(set, &[0xff; PREPARED_SK], &[9; 32], &input, &mut plain)
             == Err(Refusal::NotPrepared),
     ])
 }

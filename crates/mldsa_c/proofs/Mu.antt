@@ -1,19 +1,19 @@
 -- Signing and verifying mu of a message or a digest, and one signature of two values of mu, since the calls over bytes do so.
-use Rattle.std.proofs.Common.{◌≡◌, ℕ, Bool, true, false, IsTrue, List, ◌++◌, length, take, Result, Ok, Err, refl, subst, arith}
+use Rattle.std.proofs.Common.{◌≡◌, ℕ, Bool, true, false, IsTrue, List, ◌++◌, length, take, None, Result, Ok, Err, refl, subst, arith}
 use Rattle.std.specs.Prelude.{◌↔◌, ⊤}
 use Rattle.std.proofs.lemmas.List.{length-take-le}
 use Rattle.fips204.specs.Framing.{Input, plain, hashed, framed, represented, frame, representative}
 use Rattle.fips204.specs.ParameterSets.{ParameterSet}
+use Rattle.fips204.specs.Refusals.{input_fault}
 use Rattle.fips204.specs.SchemeLaws.{has_context}
 use Rattle.fips204_bytes.specs.Bytes as bytes
 use Rattle.fips204_bytes.specs.Mu as mus
 use Rattle.fips204_bytes.specs.declared.refusal.Refusal.{Refusal}
 use Rattle.fips204_bytes.specs.declared.refusal.Refusal.TheVariants.{Length, Library, NotPrepared}
 use Rattle.fips204_shake.specs.Fronts.{shake256_front, shake128_front, length-shake256_front}
-use Rattle.mldsa_c.specs.Calls.{IfSized, SignAnswers, VerifyAnswers, VerifyMuAnswers}
-use Rattle.mldsa_c.specs.Mu.{MuStandsForInput, SignatureBindsMu}
+use Rattle.mldsa_c.specs.Calls.{IfSized, SignAnswers, SignMuAnswers, VerifyAnswers, VerifyMuAnswers}
 use Rattle.mldsa_c.specs.Statuses.{answer_status}
-use Rattle.mldsa_c.proofs.Pairs.{not_done, sized}
+use Rattle.mldsa_c.proofs.ByStatus.{not_done, sized}
 
 -- mu of a message or a digest has 64 bytes
 cut : (x : List ℕ) → length (take 64 (shake256_front x)) ≡ 64
@@ -29,25 +29,30 @@ long hash (represented mu) never = absurd cc
 fitting : {P P' Q : Type 0} (wanted : ℕ) (bytes : List ℕ) → length bytes ≡ wanted → P ↔ P' → IfSized wanted bytes P Q ↔ P'
 fitting wanted bytes same both = (λ sized. both.0 (sized.0 same), λ done. (λ _. both.1 done, λ differ. absurd (differ same)))
 
-pub stands : (p : ParameterSet) → mus.MuStandsForInput p shake256_front shake128_front → MuStandsForInput p
-stands p law = record {
-  signed = λ key input random old new status context none.
+module _ (p : ParameterSet) where
+  pub mu_signed : mus.MuStandsForInput p shake256_front shake128_front → (key : List ℕ) (input : Input) (random old new : List ℕ) (status : ℕ)
+      → IsTrue (has_context input) → input_fault input ≡ None
+      → SignMuAnswers p key (representative shake256_front (mus.tr_of_private key) input) random old new status ↔ SignAnswers p key input random old new status
+  mu_signed law key input random old new status context none =
       let mu = representative shake256_front (mus.tr_of_private key) input in
       let same = λ (answer : Result ⊤ Refusal). law.signed key random input old new answer none in
       let both : SignAnswers p key (represented mu) random old new status ↔ SignAnswers p key input random old new status = (
         λ signs. (λ fits. let (answer, writes, is) = signs.0 fits in (answer, (same answer).0 writes, is), signs.1),
         λ signs. (λ fits. let (answer, writes, is) = signs.0 fits in (answer, (same answer).1 writes, is), signs.1),
       ) in
-      fitting 64 mu (long (mus.tr_of_private key) input context) both;
-  judged = λ key input signature status context none.
+      fitting 64 mu (long (mus.tr_of_private key) input context) both
+
+  pub mu_judged : mus.MuStandsForInput p shake256_front shake128_front → (key : List ℕ) (input : Input) (signature : List ℕ) (status : ℕ)
+      → IsTrue (has_context input) → input_fault input ≡ None
+      → VerifyMuAnswers p key (representative shake256_front (mus.tr_of_public shake256_front key) input) signature status ↔ VerifyAnswers p key input signature status
+  mu_judged law key input signature status context none =
       let mu = representative shake256_front (mus.tr_of_public shake256_front key) input in
       let same = λ (answer : Result Bool Refusal). law.judged key input signature answer none in
       let both : VerifyAnswers p key (represented mu) signature status ↔ VerifyAnswers p key input signature status = (
         λ (answer, judges, is). (answer, (same answer).0 judges, is),
         λ (answer, judges, is). (answer, (same answer).1 judges, is),
       ) in
-      fitting 64 mu (long (mus.tr_of_public shake256_front key) input context) both;
-}
+      fitting 64 mu (long (mus.tr_of_public shake256_front key) input context) both
 
 -- the status of yes is of no other answer
 yes : (answer : Result Bool Refusal) → 0 ≡ answer_status answer → answer ≡ Ok true
@@ -57,10 +62,9 @@ yes (Err (Length which)) e = absurd cc
 yes (Err (Library fault)) e = absurd (not_done fault e)
 yes (Err NotPrepared) e = absurd cc
 
-pub binds : (p : ParameterSet) → mus.SignatureBindsMu p shake256_front shake128_front → SignatureBindsMu p
-binds p law = λ key mu nu signature differ first second.
-    let accepted : (given : List ℕ) → VerifyMuAnswers p key given signature 0 → bytes.Judges p shake256_front shake128_front key (represented given) signature (Ok true) =
-    λ given judges.
-    let (answer, judged, is) = sized 64 given judges (λ two. absurd cc) in
-    subst (bytes.Judges p shake256_front shake128_front key (represented given) signature) (yes answer is) judged in
-    law key mu nu signature differ (accepted mu first) (accepted nu second)
+-- a mu that is verified, over bytes
+pub verified : (p : ParameterSet) (key mu signature : List ℕ) → VerifyMuAnswers p key mu signature 0
+    → bytes.Judges p shake256_front shake128_front key (represented mu) signature (Ok true)
+verified p key mu signature judges =
+    let (answer, judged, is) = sized 64 mu judges (λ two. absurd cc) in
+    subst (bytes.Judges p shake256_front shake128_front key (represented mu) signature) (yes answer is) judged

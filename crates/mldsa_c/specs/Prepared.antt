@@ -4,7 +4,7 @@ use Rattle.fips204.specs.Framing.{Input, represented}
 use Rattle.fips204.specs.ParameterSets.{ParameterSet}
 use Rattle.fips204_bytes.specs.Prepared as bytes
 use Rattle.fips204_shake.specs.Fronts.{shake256_front, shake128_front}
-use Rattle.mldsa_c.specs.Calls.{Done, Told, IfSized, VerifyAnswers, VerifyMuAnswers, SignAnswers, SignMuAnswers}
+use Rattle.mldsa_c.specs.Calls.{Done, Told, IfSized}
 
 -- prepare_public_key and prepare_private_key
 abbrev pub PreparePublicKeyAnswers : ParameterSet → List ℕ → List ℕ → List ℕ → ℕ → Type 0
@@ -29,14 +29,3 @@ SignPreparedAnswers p key input random old new status =
 -- sign_mu_prepared, with 64 bytes of mu
 abbrev pub SignMuPreparedAnswers : ParameterSet → List ℕ → List ℕ → List ℕ → List ℕ → List ℕ → ℕ → Type 0
 SignMuPreparedAnswers p key mu random old new status = IfSized 64 mu (SignPreparedAnswers p key (represented mu) random old new status) ((new ≡ old) × (status ≡ 2))
-
--- with the bytes that preparing a key has written, each call answers what the call of its name answers with the key
-pub record PreparedStandsForPlain (p : ParameterSet) : Type 0 where
-  pub judged : (key old prepared : List ℕ) (input : Input) (signature : List ℕ) (status : ℕ) → PreparePublicKeyAnswers p key old prepared 0
-      → VerifyPreparedAnswers p prepared input signature status → VerifyAnswers p key input signature status
-  pub judged_mu : (key old prepared mu signature : List ℕ) (status : ℕ) → PreparePublicKeyAnswers p key old prepared 0
-      → VerifyMuPreparedAnswers p prepared mu signature status → VerifyMuAnswers p key mu signature status
-  pub signed : (key old prepared : List ℕ) (input : Input) (random before after : List ℕ) (status : ℕ) → PreparePrivateKeyAnswers p key old prepared 0
-      → SignPreparedAnswers p prepared input random before after status → SignAnswers p key input random before after status
-  pub signed_mu : (key old prepared mu random before after : List ℕ) (status : ℕ) → PreparePrivateKeyAnswers p key old prepared 0
-      → SignMuPreparedAnswers p prepared mu random before after status → SignMuAnswers p key mu random before after status

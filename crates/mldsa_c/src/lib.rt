@@ -4,14 +4,12 @@
 //! that a call writes is as it was after every status but 0. `c/mldsa.h` declares the exports and says what they answer.
 #![tactic(auto)]
 
-mod calls;
-pub mod laws;
+pub mod callers;
 mod ml_dsa_44;
 mod ml_dsa_65;
 mod ml_dsa_87;
 mod pieces;
 mod pre_hash;
-mod prepared;
 mod prepared_44;
 mod prepared_65;
 mod prepared_87;

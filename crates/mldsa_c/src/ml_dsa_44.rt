@@ -9,16 +9,17 @@ ghost use Rattle.fips204_bytes.specs.Mu.{tr_of_private, tr_of_public};
 ghost use Rattle.fips204_shake.specs.Fronts.{shake256_front};
 ghost use Rattle.fips204.specs.ParameterSets.{public_key_length, private_key_length};
 
-use crate::statuses::{status, verdict_status};
-use crate::{calls, pieces};
-use fips204_shake::{Input, SetName};
+use crate::pieces;
+use crate::statuses::{WRONG_LENGTH, array_of, status, verdict_status};
+use fips204_shake::{Input, MlDsa44, SetName};
 
 /// Makes the key pair of a seed of 32 bytes.
 #[unsafe(no_mangle)]
 pub extern "C" fn mldsa44_keygen(seed: &[u8], public_key: &mut [u8], private_key: &mut [u8]) -> u32
     ensures { KeygenAnswers set_44 seed.now public_key.old public_key.new private_key.old private_key.new result }
 {
-    calls::keygen(SetName::MlDsa44, seed, public_key, private_key)
+    let seed = array_of!(seed, 32);
+    status(MlDsa44::keygen(seed, public_key, private_key))
 }
 
 /// Signs a message under a context, from 32 random bytes.
@@ -32,8 +33,9 @@ pub extern "C" fn mldsa44_sign(
 ) -> u32
     ensures { SignAnswers set_44 private_key.now (plain message.now context.now) random.now signature.old signature.new result }
 {
+    let random = array_of!(random, 32);
     let input = Input::Message(message, context);
-    calls::sign(SetName::MlDsa44, private_key, &input, random, signature)
+    status(MlDsa44::sign(private_key, random, &input, signature))
 }
 
 /// Tells whether a public key accepts the signature of a message under a context.
@@ -47,7 +49,7 @@ pub extern "C" fn mldsa44_verify(
     ensures { VerifyAnswers set_44 public_key.now (plain message.now context.now) signature.now result }
 {
     let signed = Input::Message(message, context);
-    calls::verify(SetName::MlDsa44, public_key, &signed, signature)
+    verdict_status(MlDsa44::verify(public_key, &signed, signature))
 }
 
 /// Signs a digest under a context, from 32 random bytes; `oid` names its hash function.
@@ -62,8 +64,9 @@ pub extern "C" fn mldsa44_hash_sign(
 ) -> u32
     ensures { SignAnswers set_44 private_key.now (hashed digest.now context.now oid.now) random.now signature.old signature.new result }
 {
+    let random = array_of!(random, 32);
     let input = Input::Digest(digest, context, oid);
-    calls::sign(SetName::MlDsa44, private_key, &input, random, signature)
+    status(MlDsa44::sign(private_key, random, &input, signature))
 }
 
 /// Tells whether a public key accepts the signature of a digest under a context; `oid` names its hash function.
@@ -78,7 +81,7 @@ pub extern "C" fn mldsa44_hash_verify(
     ensures { VerifyAnswers set_44 public_key.now (hashed digest.now context.now oid.now) signature.now result }
 {
     let signed = Input::Digest(digest, context, oid);
-    calls::verify(SetName::MlDsa44, public_key, &signed, signature)
+    verdict_status(MlDsa44::verify(public_key, &signed, signature))
 }
 
 /// Signs the hash `mu` of a framed message, which has 64 bytes, from 32 random bytes.
@@ -91,7 +94,9 @@ pub extern "C" fn mldsa44_sign_mu(
 ) -> u32
     ensures { SignMuAnswers set_44 private_key.now mu.now random.now signature.old signature.new result }
 {
-    calls::sign_mu(SetName::MlDsa44, private_key, mu, random, signature)
+    let mu = array_of!(mu, 64);
+    let random = array_of!(random, 32);
+    status(MlDsa44::sign(private_key, random, &Input::Mu(mu), signature))
 }
 
 /// Tells whether a public key accepts the signature of the hash `mu` of a framed message.
@@ -99,7 +104,8 @@ pub extern "C" fn mldsa44_sign_mu(
 pub extern "C" fn mldsa44_verify_mu(public_key: &[u8], mu: &[u8], signature: &[u8]) -> u32
     ensures { VerifyMuAnswers set_44 public_key.now mu.now signature.now result }
 {
-    calls::verify_mu(SetName::MlDsa44, public_key, mu, signature)
+    let signed = array_of!(mu, 64);
+    verdict_status(MlDsa44::verify(public_key, &Input::Mu(signed), signature))
 }
 
 /// Computes the public key of a private one.
@@ -107,7 +113,7 @@ pub extern "C" fn mldsa44_verify_mu(public_key: &[u8], mu: &[u8], signature: &[u
 pub extern "C" fn mldsa44_public_key(private_key: &[u8], public_key: &mut [u8]) -> u32
     ensures { PublicKeyAnswers set_44 private_key.now public_key.old public_key.new result }
 {
-    status(fips204_shake::public_key(SetName::MlDsa44, private_key, public_key))
+    status(MlDsa44::public_key(private_key, public_key))
 }
 
 /// Tells whether bytes are a private key.
@@ -115,7 +121,7 @@ pub extern "C" fn mldsa44_public_key(private_key: &[u8], public_key: &mut [u8]) 
 pub extern "C" fn mldsa44_check_private_key(private_key: &[u8]) -> u32
     ensures { CheckPrivateKeyAnswers set_44 private_key.now result }
 {
-    status(fips204_shake::check_private_key(SetName::MlDsa44, private_key))
+    status(MlDsa44::check_private_key(private_key))
 }
 
 /// Tells whether a private key is whole.
@@ -123,7 +129,7 @@ pub extern "C" fn mldsa44_check_private_key(private_key: &[u8]) -> u32
 pub extern "C" fn mldsa44_is_whole(private_key: &[u8]) -> u32
     ensures { IsWholeAnswers set_44 private_key.now result }
 {
-    verdict_status(fips204_shake::is_whole(SetName::MlDsa44, private_key))
+    verdict_status(MlDsa44::is_whole(private_key))
 }
 
 /// Tells whether a private key and the public key that belongs to it are a pair.
@@ -131,7 +137,7 @@ pub extern "C" fn mldsa44_is_whole(private_key: &[u8]) -> u32
 pub extern "C" fn mldsa44_is_pair(private_key: &[u8]) -> u32
     ensures { IsPairAnswers set_44 private_key.now result }
 {
-    verdict_status(fips204_shake::is_pair(SetName::MlDsa44, private_key))
+    verdict_status(MlDsa44::is_pair(private_key))
 }
 
 /// Begins a message in pieces that a public key is to verify, under a context.

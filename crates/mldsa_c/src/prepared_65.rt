@@ -5,8 +5,8 @@ ghost use Rattle.fips204.specs.Framing.{plain, hashed};
 ghost use Rattle.fips204.specs.ParameterSets.{set_65};
 ghost use Rattle.mldsa_c.specs.Prepared.{PreparePublicKeyAnswers, VerifyPreparedAnswers, VerifyMuPreparedAnswers, PreparePrivateKeyAnswers, SignPreparedAnswers, SignMuPreparedAnswers};
 
-use crate::prepared;
-use fips204_shake::{Input, SetName};
+use crate::statuses::{WRONG_LENGTH, array_of, status, verdict_status};
+use fips204_shake::{Input, MlDsa65};
 
 /// Prepares a public key for many verifications.
 #[unsafe(no_mangle)]
@@ -16,7 +16,7 @@ pub extern "C" fn mldsa65_prepare_public_key(
 ) -> u32
     ensures { PreparePublicKeyAnswers set_65 public_key.now prepared_public_key.old prepared_public_key.new result }
 {
-    prepared::prepare_public_key(SetName::MlDsa65, public_key, prepared_public_key)
+    status(MlDsa65::prepare_public_key(public_key, prepared_public_key))
 }
 
 /// Tells whether a prepared public key accepts the signature of a message under a context.
@@ -30,7 +30,7 @@ pub extern "C" fn mldsa65_verify_prepared(
     ensures { VerifyPreparedAnswers set_65 prepared_public_key.now (plain message.now context.now) signature.now result }
 {
     let signed = Input::Message(message, context);
-    prepared::verify(SetName::MlDsa65, prepared_public_key, &signed, signature)
+    verdict_status(MlDsa65::verify_prepared(prepared_public_key, &signed, signature))
 }
 
 /// Tells whether a prepared public key accepts the signature of a digest under a context; `oid` names its hash function.
@@ -45,7 +45,7 @@ pub extern "C" fn mldsa65_hash_verify_prepared(
     ensures { VerifyPreparedAnswers set_65 prepared_public_key.now (hashed digest.now context.now oid.now) signature.now result }
 {
     let signed = Input::Digest(digest, context, oid);
-    prepared::verify(SetName::MlDsa65, prepared_public_key, &signed, signature)
+    verdict_status(MlDsa65::verify_prepared(prepared_public_key, &signed, signature))
 }
 
 /// Tells whether a prepared public key accepts the signature of the hash `mu` of a framed message.
@@ -57,7 +57,8 @@ pub extern "C" fn mldsa65_verify_mu_prepared(
 ) -> u32
     ensures { VerifyMuPreparedAnswers set_65 prepared_public_key.now mu.now signature.now result }
 {
-    prepared::verify_mu(SetName::MlDsa65, prepared_public_key, mu, signature)
+    let signed = array_of!(mu, 64);
+    verdict_status(MlDsa65::verify_prepared(prepared_public_key, &Input::Mu(signed), signature))
 }
 
 /// Prepares a private key for many signatures.
@@ -68,7 +69,7 @@ pub extern "C" fn mldsa65_prepare_private_key(
 ) -> u32
     ensures { PreparePrivateKeyAnswers set_65 private_key.now prepared_private_key.old prepared_private_key.new result }
 {
-    prepared::prepare_private_key(SetName::MlDsa65, private_key, prepared_private_key)
+    status(MlDsa65::prepare_private_key(private_key, prepared_private_key))
 }
 
 /// Signs a message under a context with a prepared private key, from 32 random bytes.
@@ -82,14 +83,9 @@ pub extern "C" fn mldsa65_sign_prepared(
 ) -> u32
     ensures { SignPreparedAnswers set_65 prepared_private_key.now (plain message.now context.now) random.now signature.old signature.new result }
 {
+    let random = array_of!(random, 32);
     let input = Input::Message(message, context);
-    prepared::sign(
-        SetName::MlDsa65,
-        prepared_private_key,
-        &input,
-        random,
-        signature,
-    )
+    status(MlDsa65::sign_prepared(prepared_private_key, random, &input, signature))
 }
 
 /// Signs a digest under a context with a prepared private key, from 32 random bytes; `oid` names its hash function.
@@ -104,14 +100,9 @@ pub extern "C" fn mldsa65_hash_sign_prepared(
 ) -> u32
     ensures { SignPreparedAnswers set_65 prepared_private_key.now (hashed digest.now context.now oid.now) random.now signature.old signature.new result }
 {
+    let random = array_of!(random, 32);
     let input = Input::Digest(digest, context, oid);
-    prepared::sign(
-        SetName::MlDsa65,
-        prepared_private_key,
-        &input,
-        random,
-        signature,
-    )
+    status(MlDsa65::sign_prepared(prepared_private_key, random, &input, signature))
 }
 
 /// Signs the hash `mu` of a framed message, which has 64 bytes, with a prepared private key, from 32 random bytes.
@@ -124,11 +115,7 @@ pub extern "C" fn mldsa65_sign_mu_prepared(
 ) -> u32
     ensures { SignMuPreparedAnswers set_65 prepared_private_key.now mu.now random.now signature.old signature.new result }
 {
-    prepared::sign_mu(
-        SetName::MlDsa65,
-        prepared_private_key,
-        mu,
-        random,
-        signature,
-    )
+    let mu = array_of!(mu, 64);
+    let random = array_of!(random, 32);
+    status(MlDsa65::sign_prepared(prepared_private_key, random, &Input::Mu(mu), signature))
 }

@@ -21,6 +21,18 @@ pub(crate) const BROKEN_STATE: u32 = 16;
 /// No prepared key has these bytes.
 const NOT_PREPARED: u32 = 17;
 
+/// A slice as an array of this length; the function around it returns `WRONG_LENGTH` for a slice of another.
+macro_rules! array_of {
+    ($slice:ident, $length:literal) => {
+        match $slice.as_array::<$length>() {
+            Some(array) => array,
+            None => return WRONG_LENGTH,
+        }
+    };
+}
+
+pub(crate) use array_of;
+
 /// The status of a fault.
 pub(crate) fn status_of(fault: Fault) -> u32
     ensures { result ≡ status_of fault }

@@ -78,6 +78,14 @@ answers_four now text success H G task p w x y z R lines fields other a b (Ok it
     let whole = four_counted now w x y z fields other (rw is fit) in
     rw (← is, whole, ← first, ← second) (means a b _ _ (text it) (success it) told)
 
+-- a command was carried out, by what it answers for all its lines
+pub executes_lines : {W E : Type 0} (text : W → List ℕ) (success : W → Bool) (H G : List ℕ → List ℕ) (task : Task) (p : ParameterSet)
+    (given left : Option (List ℕ)) (lines : List (List ℕ)) (result : Result W E) → TakesLines 1 (input_lines task p given) given left lines
+    → IfOk result (λ it. Answers H G task p lines (text it) (success it))
+    → IfOk result (λ it. Executes H G task p given left (text it) (success it))
+executes_lines text success H G task p given left lines (Err fault) taken told = told
+executes_lines text success H G task p given left lines (Ok it) taken told = (lines, taken, told)
+
 -- a batch was carried out, by what was told of its entries
 pub executes_batch : {V W E : Type 0} (items : V → List ℕ) (text : W → List ℕ) (success : W → Bool) (H G : List ℕ → List ℕ)
     (p : ParameterSet)

@@ -17,7 +17,7 @@ use crate::call::Task;
 use fips204::sets::{HasSet, KeySizes, Matrix, Set, SignatureSizes};
 use fips204::traits::{KeyGen, SerDes, Signer, Verifier, pairwise_check};
 use fips204::types::{KG, PreparedPublicKey, PrivateKey, PublicKey};
-use fips204::xof::{Xof, hash};
+use fips204::xof::Xof;
 use fips204::{Fault, SetName};
 use fips204_bytes::array_of;
 use mldsa_lines::lines::read_lines;
@@ -58,7 +58,6 @@ impl<
     S,
     const K: usize,
     const L: usize,
-    const LAMBDA_DIV4: usize,
     const SIG_LEN: usize,
     const PK_LEN: usize,
     const SK_LEN: usize,
@@ -67,13 +66,8 @@ impl<
 > AtSet<K, L, H, G>
 where
     Matrix<K, L>: HasSet<Set = S>,
-    S: Set<
-        CommitmentHash = [u8; LAMBDA_DIV4],
-        Signature = [u8; SIG_LEN],
-        PublicKey = [u8; PK_LEN],
-        PrivateKey = [u8; SK_LEN],
-    >,
-    S: SignatureSizes<K, L, LAMBDA_DIV4, SIG_LEN> + KeySizes<K, L, PK_LEN, SK_LEN>,
+    S: Set<Signature = [u8; SIG_LEN], PublicKey = [u8; PK_LEN], PrivateKey = [u8; SK_LEN]>,
+    S: SignatureSizes<K, L, SIG_LEN> + KeySizes<K, L, PK_LEN, SK_LEN>,
 {
     /// Reads the lines that a command wants, and carries it out.
     fn carry_out<I: Read>(
@@ -90,13 +84,27 @@ where
     {
         let (wanted, count) = Self::wanted(task);
         let lines = read_lines(alloc, 1, &wanted[..count], input)?;
+        let lines = lines.as_slice();
         match task {
+            Task::Id => Self::identify(alloc, lines[0].as_slice()),
+            Task::Keygen => Self::keygen(alloc, &array_of(lines[0].as_slice())),
+            Task::Sign => {
+                let [key, seed, context, message] = fields(lines);
+                Self::sign(alloc, key, &array_of(seed), context, message)
+            }
+            Task::Verify => {
+                let [key, signature, context, message] = fields(lines);
+                tell(alloc, Self::accepts(key, message, signature, context))
+            }
+            Task::Check => {
+                let [xi, rnd, context, message] = fields(lines);
+                Self::check(alloc, &array_of(xi), &array_of(rnd), context, message)
+            }
             Task::Batch => {
                 let count = number_of(lines[2].as_slice());
                 let (key, context) = (lines[0].as_slice(), lines[1].as_slice());
                 Self::judge_batch(alloc, key, context, count, input)
             }
-            _ => Self::answer(alloc, task, lines.as_slice()),
         }
     }
 
@@ -117,41 +125,17 @@ where
         }
     }
 
-    /// Carries out a command that reads no more than these lines.
-    fn answer(alloc: Global, task: Task, lines: &[Vec<u8>]) -> Result<Output, RunFault>
-        requires whole { ¬ (task ≡ Task.Batch) }
-        requires fit { AllFit (wanted_lines task S.set) (map (λ line. line.items) lines.now) }
-        ensures given { IfOk result (λ output. Answers H.front G.front task S.set
-            (map (λ line. line.items) lines.now) output.text.items output.success) }
-        ensures memory { IfErr result (λ fault. fault ≡ RunFault.Memory) }
-    {
-        match task {
-            Task::Id => Self::identify(alloc, lines[0].as_slice()),
-            Task::Keygen => Self::keygen(alloc, &array_of(lines[0].as_slice())),
-            Task::Sign => {
-                let [key, seed, context, message] = fields(lines);
-                Self::sign(alloc, key, &array_of(seed), context, message)
-            }
-            Task::Verify => {
-                let [key, signature, context, message] = fields(lines);
-                tell(alloc, Self::accepts(key, message, signature, context))
-            }
-            Task::Check => {
-                let [xi, rnd, context, message] = fields(lines);
-                Self::check(alloc, &array_of(xi), &array_of(rnd), context, message)
-            }
-            Task::Batch => unreachable!(),
-        }
-    }
-
-    /// A public key and its hash, as lines of hex.
+    /// The public key that has these bytes, and its hash, as lines of hex.
     #[inline(never)]
     fn identify(alloc: Global, key: &[u8]) -> Result<Output, RunFault>
+        requires key { length key.now ≡ PK_LEN }
         ensures given { IfOk result (λ output. (output.text.items ≡ hex_text (key.now ∷ take 64 (H.front key.now) ∷ []))
             × (output.success ≡ true)) }
         ensures memory { IfErr result (λ fault. fault ≡ RunFault.Memory) }
     {
-        two_lines(alloc, key, &hash::<H, 64>(&[key]))
+        let key = Self::decode(key);
+        let tr = *key.tr();
+        two_lines(alloc, &key.into_bytes(), &tr)
     }
 
     /// The keys of a seed, as lines of hex, or the refusal.

@@ -72,16 +72,7 @@ pub fn one_spelling()
 {}
 
 /// The file if the manifest is signed and lists it under this name, with its size and digest; else none.
-pub fn handed_out<
-    'a,
-    S,
-    const K: usize,
-    const L: usize,
-    const LAMBDA_DIV4: usize,
-    const SIG_LEN: usize,
-    H: Xof,
-    G: Xof,
->(
+pub fn handed_out<'a, S, const K: usize, const L: usize, const SIG_LEN: usize, H: Xof, G: Xof>(
     key: &PublicKey<K, L, H, G>,
     entries: &[Entry],
     signature: &[u8; SIG_LEN],
@@ -90,8 +81,7 @@ pub fn handed_out<
 ) -> Option<&'a [u8]>
 where
     Matrix<K, L>: HasSet<Set = S>,
-    S: Set<CommitmentHash = [u8; LAMBDA_DIV4], Signature = [u8; SIG_LEN]>
-        + SignatureSizes<K, L, LAMBDA_DIV4, SIG_LEN>,
+    S: Set<Signature = [u8; SIG_LEN]> + SignatureSizes<K, L, SIG_LEN>,
     ensures { MatchOption result
         (IsHandedOut S.set H.front G.front key.now CONTEXT.now SHA2_256 entries.now signature.now name.now file.now → ⊥)
         (λ given. (given.now ≡ file.now)

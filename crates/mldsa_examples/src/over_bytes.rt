@@ -2,16 +2,13 @@
 #![tactic(auto)]
 
 use fips204_shake::ml_dsa_65::{PK_LEN, SIG_LEN, SK_LEN};
-use fips204_shake::{Array, Fault, Input, Refusal, SetName, keygen, sign, verify};
+use fips204_shake::{Array, Fault, Input, MlDsa65, Refusal};
 use std::test::Fail;
-
-/// The parameter set.
-const SET: SetName = SetName::MlDsa65;
 
 /// Both keys of a seed, as bytes to store.
 fn stored(seed: &[u8; 32]) -> Result<([u8; PK_LEN], [u8; SK_LEN]), Refusal> {
     let (mut public_key, mut private_key) = ([0; PK_LEN], [0; SK_LEN]);
-    keygen(SET, seed, &mut public_key, &mut private_key)?;
+    MlDsa65::keygen(seed, &mut public_key, &mut private_key)?;
     Ok((public_key, private_key))
 }
 
@@ -19,14 +16,14 @@ fn stored(seed: &[u8; 32]) -> Result<([u8; PK_LEN], [u8; SK_LEN]), Refusal> {
 fn signed(private_key: &[u8], random: &[u8; 32], message: &[u8]) -> Result<[u8; SIG_LEN], Refusal> {
     let mut signature = [0; SIG_LEN];
     let input = Input::Message(message, b"a page of documentation");
-    sign(SET, private_key, random, &input, &mut signature)?;
+    MlDsa65::sign(private_key, random, &input, &mut signature)?;
     Ok(signature)
 }
 
 /// Whether a stored key accepts the signature of a message under a context.
 fn verified(public_key: &[u8], message: &[u8], signature: &[u8]) -> Result<bool, Refusal> {
     let input = Input::Message(message, b"a page of documentation");
-    verify(SET, public_key, &input, signature)
+    MlDsa65::verify(public_key, &input, signature)
 }
 
 /// A stored key accepts what the other signed, and no other message; a key that is cut off is refused for its length, and

@@ -12,10 +12,12 @@ use Rattle.mlsign_engine.specs.declared.forms.Parts.{Parts}
 use Rattle.mlsign_engine.specs.declared.forms.Parts.TheVariants as part
 use Rattle.mlsign_files.specs.Keys.{PrivateParts as FileParts, Seed, Expanded, Both}
 use Rattle.mlsign_files.specs.Lax.{strict_form}
+use Rattle.mlsign_files.specs.Pem.{pem}
 use Rattle.mlsign_files.specs.declared.fault.FileFault.{FileFault}
 use Rattle.mlsign_files.specs.declared.fault.FileFault.TheVariants.{KeyLength, Memory}
 use Rattle.mlsign_files.specs.declared.pem.Kind.{Kind}
 use Rattle.mlsign_files.specs.declared.pem.Kind.TheVariants.{Public, Private}
+use Rattle.mlsign_files.specs.declared.pem.LineEnd.TheVariants.{Lf}
 
 -- a text is read in the lax form, and other bytes as they are
 abbrev pub read_as : Form → Kind → List ℕ → List ℕ
@@ -41,10 +43,17 @@ abbrev pub ReadsAs : Form → SetName → Kind → List ℕ → List ℕ → Typ
 ReadsAs form set Public file text = (algorithm : SetName) (bytes : List ℕ) → IsPublicText text algorithm bytes ↔ HasPublic form set file algorithm bytes
 ReadsAs form set Private file text = (algorithm : SetName) (parts : FileParts) → IsPrivateText text algorithm parts ↔ HasPrivate form set file algorithm parts
 
+-- a text that stands for a file: its strict form, or the text of its DER, whether or not it has a key; so its first fault is the file's.
+-- Of raw bytes a text is made only where they are those of a key.
+abbrev pub IsTextOf : Form → Kind → List ℕ → List ℕ → Type 0
+IsTextOf Pem kind file text = text ≡ strict_form kind file
+IsTextOf Der kind file text = text ≡ pem kind Lf file
+IsTextOf Raw kind file text = Unit {0}
+
 -- why there is no such text: raw bytes are those of no key; memory may run out of itself
 abbrev pub FailsToRead : Form → SetName → Kind → List ℕ → FileFault → Type 0
-FailsToRead form set Public file KeyLength = (algorithm : SetName) (bytes : List ℕ) → ¬ (HasPublic form set file algorithm bytes)
-FailsToRead form set Private file KeyLength = (algorithm : SetName) (parts : FileParts) → ¬ (HasPrivate form set file algorithm parts)
+FailsToRead Raw set Public file KeyLength = (algorithm : SetName) (bytes : List ℕ) → ¬ (HasPublic Raw set file algorithm bytes)
+FailsToRead Raw set Private file KeyLength = (algorithm : SetName) (parts : FileParts) → ¬ (HasPrivate Raw set file algorithm parts)
 FailsToRead form set kind file Memory = Unit {0}
 FailsToRead form set kind file fault = ⊥
 

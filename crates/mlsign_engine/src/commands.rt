@@ -18,8 +18,8 @@ use crate::message::message_mu;
 use crate::source::Source;
 use fips204::laws;
 use fips204::xof::hash;
-use fips204_shake::Input;
 use fips204_shake::streams::Shake256Stream;
+use fips204_shake::{Input, MlDsa};
 use mlsign_files::pem::{self, Kind};
 use mlsign_files::{FileFault, PrivateKey, SetName, read_private, read_public};
 use std::alloc::Global;
@@ -127,7 +127,7 @@ pub fn sign<I: Source>(
     let tr = tr_of(key);
     let mu = message_mu(&tr, context, input)?;
     let mut signature = vec![in alloc; 0; algorithm.signature_len()]?;
-    fips204_shake::sign(
+    MlDsa::sign(
         algorithm,
         key,
         random,
@@ -164,7 +164,7 @@ pub fn verify<I: Source>(
     let tr = hash::<Shake256Stream, 64>(&[key]);
     let mu = message_mu(&tr, context, input)?;
     let input = Input::Mu(&mu);
-    match fips204_shake::verify(algorithm, key, &input, signature) {
+    match MlDsa::verify(algorithm, key, &input, signature) {
         Ok(valid) => Ok(valid),
         // The signature has another length.
         Err(_) => Ok(false),
@@ -186,7 +186,7 @@ fn public_key(
     let private = private.as_slice();
     let mut public = vec![in alloc; 0; algorithm.public_key_len()]?;
     let bytes = public.as_mut_slice();
-    fips204_shake::public_key(algorithm, private, bytes).unwrap();
+    MlDsa::public_key(algorithm, private, bytes).unwrap();
     Ok(public)
 }
 

@@ -5,7 +5,7 @@ ghost use Rattle.std.specs.Prelude.{◌≡◌, ◌⊎◌, ℕ, List, length, Som
 ghost use Rattle.mlsign_files.specs.Keys.{PrivateParts, HasPrivateSizes, private_length, private_parts, public_length};
 ghost use Rattle.mlsign_files.specs.PemReading.{FailsLike};
 ghost use Rattle.mlsign_engine.specs.Commands.{IsPublicText, IsPrivateText, IsPublicIn, IsPrivateIn, IsRaw, public_text_at};
-ghost use Rattle.mlsign_engine.specs.Forms.{ReadsAs, FailsToRead, parts_as, CanBe, FailsToChoose};
+ghost use Rattle.mlsign_engine.specs.Forms.{ReadsAs, IsTextOf, FailsToRead, parts_as, CanBe, FailsToChoose};
 ghost use Rattle.mlsign_engine.specs.Forms.{ConvertsPublic, ConvertsPrivate, FailsToConvert};
 ghost use Rattle.mlsign_engine.specs.InnerSteps.{HasNoRawKey};
 ghost use Rattle.mlsign_engine.specs.declared.forms.Form.TheVariants.{Raw};
@@ -45,7 +45,8 @@ pub enum Parts {
 /// The text of the key of this kind that a file has in this form, which the commands take. A text is read in the lax form of RFC 7468
 /// (`strict_form`). The set is that of raw bytes, which a seed does not tell.
 ///
-/// Errors: `KeyLength` if raw bytes are not as many as a key has; `Memory`. Whether the file has a key the commands say.
+/// Errors: `KeyLength` if raw bytes are not as many as a key has, and for no other form; `Memory`. Whether the file has a key the
+/// commands say: their first fault of the text is the file's.
 pub fn key_text(
     alloc: Global,
     form: Form,
@@ -55,6 +56,7 @@ pub fn key_text(
 ) -> Result<Vec<u8>, FileFault>
     // The text has the key that the file has.
     ensures read { IfOk result (λ text. ReadsAs form set kind file.now text.items) }
+    ensures text { IfOk result (λ text. IsTextOf form kind file.now text.items) }
     ensures fault { IfErr result (FailsToRead form set kind file.now) }
 {
     match form {

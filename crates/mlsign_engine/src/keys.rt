@@ -9,7 +9,7 @@ ghost use Rattle.mlsign_files.specs.Keys.{Seed, Expanded, HasPrivateSizes, priva
 use crate::fault::CommandFault;
 use fips204::laws;
 use fips204_bytes::array_of;
-use fips204_shake::{check_private_key, is_pair, keygen};
+use fips204_shake::MlDsa;
 use mlsign_files::{PrivateKey, SetName};
 use std::alloc::Global;
 
@@ -51,7 +51,7 @@ fn generated(alloc: Global, set: SetName, seed: &[u8]) -> Result<Vec<u8>, Comman
     let mut private = vec![in alloc; 0; set.private_key_len()]?;
     let first = public.as_mut_slice();
     let second = private.as_mut_slice();
-    keygen(set, &seed, first, second)?;
+    MlDsa::keygen(set, &seed, first, second)?;
     Ok(private)
 }
 
@@ -62,10 +62,10 @@ fn check_expanded(set: SetName, expanded: &[u8]) -> Result<(), CommandFault>
     ensures fault { IfErr result (HasNoKeysOrMemory (named_set set) (Expanded expanded.now)) }
 {
     laws::key_bytes();
-    if check_private_key(set, expanded).is_err() {
+    if MlDsa::check_private_key(set, expanded).is_err() {
         return Err(CommandFault::Inconsistent);
     }
-    if !is_pair(set, expanded)? {
+    if !MlDsa::is_pair(set, expanded)? {
         return Err(CommandFault::Inconsistent);
     }
     Ok(())

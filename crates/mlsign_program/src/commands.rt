@@ -2,7 +2,7 @@
 #![tactic(auto)]
 
 ghost use Rattle.std.specs.Prelude.{◌≡◌, ℕ, List, IfOk, replicate, codes, Ok};
-ghost use Rattle.mlsign_engine.specs.Commands.{JudgesByText, SignsByText};
+ghost use Rattle.mlsign_engine.specs.Commands.{SignsByText};
 ghost use Rattle.mlsign_engine.specs.Messages.{GivesAll};
 ghost use Rattle.mlsign_program.specs.declared.places.Content.TheVariants.{Signature};
 ghost use Rattle.mlsign_engine.specs.Forms.{ConvertsPublic, ConvertsPrivate};
@@ -10,7 +10,7 @@ ghost use Rattle.mlsign_engine.specs.declared.forms.Form.{Form};
 ghost use Rattle.mlsign_engine.specs.declared.forms.Parts.{Parts};
 ghost use Rattle.mlsign_program.specs.Outputs.{HasWord, HasFlag, context_of, GeneratesAt, form_word, IsPartsWord};
 
-use crate::files::{note_readable, read_start};
+use crate::files::{STANDARD, metadata, note_read};
 use crate::keyfile::{KeyFile, form, form_of, set_of, word};
 use crate::places::{Content, FileId, Output, Target, write_pair};
 use crate::progress::Progress;
@@ -55,8 +55,8 @@ fn target<'a>(words: &ArgMatches<'a>, name: &str, content: Content) -> Result<Ta
 pub(crate) fn keygen(rt: &HostRuntime, words: &ArgMatches<'_>) -> Result<(), Error> {
     let private = target(words, "private", Content::PrivateKey)?;
     let public = target(words, "public", Content::PublicKey)?;
-    let private = Output::find(rt, private, None)?;
-    let public = Output::find(rt, public, None)?;
+    let private = Output::find(rt, private, &[])?;
+    let public = Output::find(rt, public, &[])?;
     if private.is_same(&public) {
         let path = word(words, "private")?;
         bail!("{path}: the private and the public key cannot have the same file");
@@ -76,16 +76,16 @@ fn make_keys(alloc: Global, words: &ArgMatches<'_>, seed: &[u8; 32]) -> Result<K
 /// Writes the public key of a private one.
 pub(crate) fn public(rt: &HostRuntime, words: &ArgMatches<'_>) -> Result<(), Error> {
     let private = word(words, "private")?;
-    let output = Output::find(rt, target(words, "public", Content::PublicKey)?, None)?;
+    let output = Output::find(rt, target(words, "public", Content::PublicKey)?, &[])?;
     let key = KeyFile::read(rt, words, private, Some(Kind::Private))?;
     let public = mlsign_engine::public(rt.alloc(), form(words), key.text.as_slice());
     output.write(rt, key.name(public)?.as_slice())?;
-    note_readable(rt, private);
+    note_read(rt, private);
     Ok(())
 }
 
 /// Whether the call has more than one message.
-fn has_several(words: &ArgMatches<'_>) -> bool {
+pub(crate) fn has_several(words: &ArgMatches<'_>) -> bool {
     match words.get_strs("message") {
         Some(messages) => messages.len() > 1,
         None => false,
@@ -94,15 +94,14 @@ fn has_several(words: &ArgMatches<'_>) -> bool {
 
 /// Opens a message: a file, or standard input under the name `-`. A bar is shown if standard error is a terminal, unless the call
 /// says `--quiet`.
-fn open<'a>(
+pub(crate) fn open<'a>(
     rt: &'a HostRuntime,
     words: &ArgMatches<'_>,
     path: &str,
-) -> Result<(Message<'a>, Option<FileId>), Error> {
+) -> Result<Message<'a>, Error> {
     let shows = rt.stderr().is_terminal() && !words.get_flag("quiet");
-    if path == "-" {
-        let input = Progress::new(rt, Either::Right(rt.stdin()), shows, None);
-        return Ok((input, None));
+    if path == STANDARD {
+        return Ok(Progress::new(rt, Either::Right(rt.stdin()), shows, None));
     }
     let file = File::open(rt, path).context(path)?;
     let found = file.metadata().context(path)?;
@@ -110,12 +109,38 @@ fn open<'a>(
         bail!("{path}: it is a directory");
     }
     let size = found.is_file().then_some(found.len());
-    let input = Progress::new(rt, Either::Left(file), shows, size);
-    Ok((input, Some(FileId::of(&found))))
+    Ok(Progress::new(rt, Either::Left(file), shows, size))
+}
+
+/// An error if two names stand for one pipe or device, of which each byte can be read only once.
+pub(crate) fn check_apart(rt: &HostRuntime, one: &str, other: &str) -> Result<(), Error> {
+    if one == STANDARD && other == STANDARD {
+        bail!("{STANDARD}: standard input can be only one of the files");
+    }
+    let (Ok(first), Ok(second)) = (metadata(rt, one), metadata(rt, other)) else {
+        return Ok(());
+    };
+    if !first.is_file() && FileId::of(&first) == FileId::of(&second) {
+        bail!("{one}: it is {other} too, and can be only one of the files");
+    }
+    Ok(())
+}
+
+/// Which files these messages are, as far as the system tells: it may have no name for standard input.
+fn ids_of(rt: &HostRuntime, messages: &[&str]) -> Result<Vec<FileId>, Error> {
+    let mut ids = Vec::new(rt.alloc());
+    for message in messages {
+        match metadata(rt, message) {
+            Ok(found) => ids.push(FileId::of(&found)).map_err(io::Error::from)?,
+            Err(_) if *message == STANDARD => {}
+            Err(error) => return Err(error).context(*message),
+        }
+    }
+    Ok(ids)
 }
 
 /// The file that belongs to a message: the one that the word with this name says, or else the message's name and `.sig`.
-fn signature_path(
+pub(crate) fn signature_path(
     alloc: Global,
     words: &ArgMatches<'_>,
     name: &str,
@@ -124,7 +149,9 @@ fn signature_path(
     let path = match words.get_str(name) {
         Some(_) if has_several(words) => bail!("--{name} is for one message"),
         Some(path) => String::from_str(alloc, path),
-        None if message == "-" => bail!("--{name} has to name the signature of standard input"),
+        None if message == STANDARD => bail!(
+            "--{name} has to name the signature of standard input"
+        ),
         None => Ok(format!(in alloc; "{message}.sig")?),
     };
     Ok(path.map_err(io::Error::from)?)
@@ -133,18 +160,28 @@ fn signature_path(
 /// Signs messages. Nothing is signed if a signature cannot go to its place.
 pub(crate) fn sign(rt: &HostRuntime, words: &ArgMatches<'_>) -> Result<(), Error> {
     let private = word(words, "private")?;
-    let key = KeyFile::read(rt, words, private, Some(Kind::Private))?;
     let messages = words.get_strs("message").context("a word is missing")?;
-    if messages.len() > 1 {
-        for message in messages {
-            let path = signature_path(rt.alloc(), words, "out", message)?;
-            let _ = Output::find(rt, signature_at(words, path.as_str()), None)?;
+    let ids = ids_of(rt, messages)?;
+    let ids = ids.as_slice();
+    for id in ids_of(rt, &[private])? {
+        if ids.contains(&id) {
+            bail!("{private}: it is the message too, and a key is none");
         }
     }
     for message in messages {
-        sign_message(rt, words, &key, message)?;
+        check_apart(rt, private, message)?;
     }
-    note_readable(rt, private);
+    let key = KeyFile::read(rt, words, private, Some(Kind::Private))?;
+    if messages.len() > 1 {
+        for message in messages {
+            let path = signature_path(rt.alloc(), words, "out", message)?;
+            let _ = Output::find(rt, signature_at(words, path.as_str()), ids)?;
+        }
+    }
+    for message in messages {
+        sign_message(rt, words, &key, message, ids)?;
+    }
+    note_read(rt, private);
     Ok(())
 }
 
@@ -166,10 +203,11 @@ fn sign_message(
     words: &ArgMatches<'_>,
     key: &KeyFile<'_>,
     message: &str,
+    ids: &[FileId],
 ) -> Result<(), Error> {
-    let (mut input, id) = open(rt, words, message)?;
+    let mut input = open(rt, words, message)?;
     let path = signature_path(rt.alloc(), words, "out", message)?;
-    let output = Output::find(rt, signature_at(words, path.as_str()), id)?;
+    let output = Output::find(rt, signature_at(words, path.as_str()), ids)?;
     let random = random_of(rt, words)?;
     let text = key.text.as_slice();
     let signature = match sign_input(rt.alloc(), words, text, &random, &mut input) {
@@ -190,7 +228,7 @@ fn random_of(rt: &HostRuntime, words: &ArgMatches<'_>) -> Result<[u8; 32], Error
 }
 
 /// The context that the words say.
-fn context<'a>(words: &ArgMatches<'a>) -> &'a [u8]
+pub(crate) fn context<'a>(words: &ArgMatches<'a>) -> &'a [u8]
     ensures { result.now ≡ context_of words.now }
 {
     words.get_str("context").unwrap_or("").as_bytes()
@@ -209,81 +247,6 @@ fn sign_input<I: Source>(
         × SignsByText key.now random.now (context_of words.now) message signature.items) }
 {
     mlsign_engine::sign(alloc, key, random, context(words), input)
-}
-
-/// Whether the signatures of all messages are valid. Which are, and the fingerprint of the key, goes to standard output unless the
-/// call says `--quiet`, and which are not to standard error.
-pub(crate) fn verify(rt: &HostRuntime, words: &ArgMatches<'_>) -> Result<bool, Error> {
-    let public = word(words, "public")?;
-    let key = KeyFile::read(rt, words, public, Some(Kind::Public))?;
-    let messages = words.get_strs("message").context("a word is missing")?;
-    let (mut all, mut any) = (true, false);
-    for message in messages {
-        let valid = verify_message(rt, words, &key, message)?;
-        all = all && valid;
-        any = any || valid;
-    }
-    if any && !words.get_flag("quiet") {
-        let fingerprint = fingerprint_of(rt.alloc(), key.text.as_slice())?;
-        println!(rt; "key: {fingerprint}").context("standard output")?;
-    }
-    Ok(all)
-}
-
-/// Whether the signature of a message is valid.
-fn verify_message(
-    rt: &HostRuntime,
-    words: &ArgMatches<'_>,
-    key: &KeyFile<'_>,
-    message: &str,
-) -> Result<bool, Error>
-    ensures judged { IfOk result (λ valid. (signature bytes : List ℕ)
-        × JudgesByText key.now.text.items signature (context_of words.now) bytes valid) }
-{
-    let path = signature_path(rt.alloc(), words, "signature", message)?;
-    let signature = read_start(rt, path.as_str())?;
-    let signature = signature.as_slice();
-    let (mut input, _) = open(rt, words, message)?;
-    let text = key.text.as_slice();
-    let context = context(words);
-    let valid = match mlsign_engine::verify(rt.alloc(), text, signature, context, &mut input) {
-        Err(CommandFault::Message) => return Err(input.fault(message)),
-        valid => key.name(valid)?,
-    };
-    say(rt, words, key, message, valid, signature.len())?;
-    Ok(valid)
-}
-
-/// Says whether a signature of so many bytes is valid.
-fn say(
-    rt: &HostRuntime,
-    words: &ArgMatches<'_>,
-    key: &KeyFile<'_>,
-    message: &str,
-    valid: bool,
-    size: usize,
-) -> Result<(), Error> {
-    let mut front = String::new(rt.alloc());
-    if has_several(words) {
-        let message = printable(rt.alloc(), message).map_err(io::Error::from)?;
-        front = format!(in rt.alloc(); "{message}: ")?;
-    }
-    if valid {
-        if !words.get_flag("quiet") {
-            println!(rt; "{front}valid").context("standard output")?;
-        }
-        return Ok(());
-    }
-    let algorithm = mlsign_engine::show(rt.alloc(), key.text.as_slice())?.algorithm;
-    let (wanted, set) = (algorithm.signature_len(), name_of(algorithm));
-    let _ = if size == wanted {
-        rt.eprintln(format_args!("mlsign: {front}the signature is invalid"))
-    } else {
-        rt.eprintln(format_args!(
-            "mlsign: {front}the signature is invalid: it has not the {wanted} bytes of {set}"
-        ))
-    };
-    Ok(())
 }
 
 /// Prints what the file of a key is.
@@ -310,13 +273,13 @@ pub(crate) fn convert(rt: &HostRuntime, words: &ArgMatches<'_>) -> Result<(), Er
     let key = KeyFile::read_converted(rt, words, path)?;
     match key.kind {
         Kind::Public => {
-            let output = Output::find(rt, target(words, "out", Content::PublicKey)?, None)?;
+            let output = Output::find(rt, target(words, "out", Content::PublicKey)?, &[])?;
             output.write(rt, public_file(rt.alloc(), words, &key)?.as_slice())
         }
         Kind::Private => {
-            let output = Output::find(rt, target(words, "out", Content::PrivateKey)?, None)?;
+            let output = Output::find(rt, target(words, "out", Content::PrivateKey)?, &[])?;
             output.write(rt, private_file(rt.alloc(), words, &key)?.as_slice())?;
-            note_readable(rt, path);
+            note_read(rt, path);
             Ok(())
         }
     }
@@ -356,7 +319,7 @@ fn parts(words: &ArgMatches<'_>) -> Result<Parts, Error>
 }
 
 /// The fingerprint of the public key in this text: `SHA256:` and SHA-256 of its DER, in base64 without padding.
-fn fingerprint_of(alloc: Global, public: &[u8]) -> Result<String, CommandFault> {
+pub(crate) fn fingerprint_of(alloc: Global, public: &[u8]) -> Result<String, CommandFault> {
     let der = pem::decode(alloc, Kind::Public, public)?;
     let mut text = String::from_str(alloc, "SHA256:")?;
     let digest = Sha256::digest(der.as_slice());
@@ -371,7 +334,7 @@ fn private_fingerprint(alloc: Global, private: &[u8]) -> Result<String, CommandF
 }
 
 /// The name of a set.
-fn name_of(algorithm: SetName) -> &'static str {
+pub(crate) fn name_of(algorithm: SetName) -> &'static str {
     match algorithm {
         SetName::MlDsa44 => "ML-DSA-44",
         SetName::MlDsa65 => "ML-DSA-65",

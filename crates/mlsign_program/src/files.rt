@@ -3,8 +3,8 @@
 
 use crate::text::note;
 use anyhow::{Context, Error, bail};
-use std::fs::{self, File};
-use std::io::Read;
+use std::fs::{self, File, Metadata, OpenFile};
+use std::io::{self, Read};
 use std::os::unix::fs::MetadataExt;
 
 /// The most bytes that a key's file has. The longest, of both a seed and an expanded key, has 6880.
@@ -19,26 +19,76 @@ pub(crate) fn read_key(rt: &HostRuntime, path: &str) -> Result<Vec<u8>, Error> {
     Ok(text)
 }
 
-/// Notes that others can read a private key's file, if they can.
-pub(crate) fn note_readable(rt: &HostRuntime, path: &str) {
-    if let Ok(found) = fs::metadata(rt, path) {
-        if found.is_file() && found.mode() & 0o044 != 0 {
-            note(
-                rt,
-                path,
-                "can be read by others: `chmod 600` keeps it private",
-            );
-        }
+/// The name of standard input and output.
+pub(crate) const STANDARD: &str = "-";
+
+/// Standard input as a file, where the system has such names.
+const STANDARD_INPUT: &str = "/dev/stdin";
+
+/// What the system says of a file that is read.
+pub(crate) fn metadata(rt: &HostRuntime, path: &str) -> io::Result<Metadata> {
+    fs::metadata(
+        rt,
+        if path == STANDARD {
+            STANDARD_INPUT
+        } else {
+            path
+        },
+    )
+}
+
+/// Notes that others can read or write a private key's file that was read, if they can.
+pub(crate) fn note_read(rt: &HostRuntime, path: &str) {
+    if path == STANDARD {
+        note_open(rt, STANDARD_INPUT, "standard input");
+    } else {
+        note_open(rt, path, path);
     }
 }
 
-/// The bytes of a file, as far as they can matter: one more than a key or a signature has, if there are more.
+/// Notes that others can read or write a private key's file, if they can, by this name.
+pub(crate) fn note_open(rt: &HostRuntime, path: &str, name: &str) {
+    let Ok(found) = fs::metadata(rt, path) else {
+        return;
+    };
+    if !found.is_file() {
+        return;
+    }
+    let mode = found.mode();
+    if mode & 0o044 != 0 && mode & 0o022 != 0 {
+        note(
+            rt,
+            name,
+            "can be read and written by others: `chmod 600` keeps it private",
+        );
+    } else if mode & 0o044 != 0 {
+        note(
+            rt,
+            name,
+            "can be read by others: `chmod 600` keeps it private",
+        );
+    } else if mode & 0o022 != 0 {
+        note(
+            rt,
+            name,
+            "can be written by others: `chmod 600` keeps it whole",
+        );
+    }
+}
+
+/// The bytes of a file, or of standard input under the name `-`, as far as they can matter: one more than a key or a signature has, if
+/// there are more.
 pub(crate) fn read_start(rt: &HostRuntime, path: &str) -> Result<Vec<u8>, Error> {
     let mut bytes = Vec::new(rt.alloc());
-    File::open(rt, path)
-        .context(path)?
-        .take(LONGEST as u64 + 1)
-        .read_to_end(&mut bytes)
-        .context(path)?;
+    let most = LONGEST as u64 + 1;
+    if path == STANDARD {
+        rt.stdin().take(most).read_to_end(&mut bytes)
+    } else {
+        File::open(rt, path)
+            .context(path)?
+            .take(most)
+            .read_to_end(&mut bytes)
+    }
+    .context(path)?;
     Ok(bytes)
 }

@@ -2,7 +2,7 @@
 #![tactic(auto)]
 
 ghost use Rattle.std.specs.Prelude.{◌≡◌, ℕ, List, Ok, IfOk, codes};
-ghost use Rattle.mlsign_engine.specs.Forms.{ReadsAs};
+ghost use Rattle.mlsign_engine.specs.Forms.{ReadsAs, IsTextOf};
 ghost use Rattle.mlsign_engine.specs.declared.forms.Form.TheVariants.{Pem, Der};
 ghost use Rattle.mlsign_program.specs.Outputs.{HasWord, HasFlag, LacksFlag, form_word, set_word};
 
@@ -95,7 +95,8 @@ fn text_of(
     kind: Kind,
     bytes: &[u8],
 ) -> Result<Vec<u8>, Error>
-    ensures { IfOk result (λ text. ReadsAs form set kind bytes.now text.items) }
+    ensures read { IfOk result (λ text. ReadsAs form set kind bytes.now text.items) }
+    ensures text { IfOk result (λ text. IsTextOf form kind bytes.now text.items) }
 {
     match key_text(alloc, form, set, kind, bytes) {
         Ok(text) => Ok(text),
@@ -150,7 +151,12 @@ impl<'a> KeyFile<'a> {
         set: SetName,
         kind: Option<Kind>,
         bytes: Vec<u8>,
-    ) -> Result<KeyFile<'a>, Error> {
+    ) -> Result<KeyFile<'a>, Error>
+        // The text has the key of the bytes.
+        ensures bytes { IfOk result (λ file. file.bytes ≡ bytes) }
+        ensures read { IfOk result (λ file. ReadsAs file.form set file.kind file.bytes.items file.text.items) }
+        ensures text { IfOk result (λ file. IsTextOf file.form file.kind file.bytes.items file.text.items) }
+    {
         let kind = match kind {
             Some(kind) => kind,
             None => kind_of(form, set, bytes.as_slice()),

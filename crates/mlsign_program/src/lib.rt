@@ -5,10 +5,13 @@ mod commands;
 mod files;
 mod hints;
 mod keyfile;
+mod labels;
 mod places;
 mod process;
 mod progress;
+mod sums;
 mod text;
+mod verify;
 mod words;
 
 pub use process::{answer, line_of, run};

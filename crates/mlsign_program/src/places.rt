@@ -11,7 +11,8 @@ ghost use Rattle.mlsign_files.specs.declared.pem.Kind.TheVariants.{Private};
 ghost use Rattle.mlsign_program.specs.declared.places.Content.TheVariants.{PrivateKey, PublicKey};
 ghost use Rattle.mlsign_program.specs.Outputs.{Holds};
 
-use crate::files::read_start;
+use crate::files::{note_open, read_start};
+use crate::labels::{has_private_label, is_other_private_key};
 use crate::text::note;
 use anyhow::{Context, Error, bail};
 use mlsign_engine::KeyFiles;
@@ -20,7 +21,7 @@ use mlsign_files::{kind_of_text, read_private};
 use std::alloc::AllocError;
 use std::fs::{self, File, Metadata, OpenFile, OpenOptions};
 use std::io::{self, ErrorKind, Write};
-use std::os::unix::fs::{MetadataExt, OpenOptionsExt};
+use std::os::unix::fs::{FileTypeExt, MetadataExt, OpenOptionsExt};
 use std::random::RandomSource;
 
 /// What a file that is written has.
@@ -77,8 +78,10 @@ impl FileId {
 /// What is at the name of a file that is to be written.
 #[derive(Drop)]
 enum Place {
-    /// Standard output, a device or a pipe, which is written where it is.
-    Stream,
+    /// Standard output.
+    Standard,
+    /// A device or a pipe, which is written where it is.
+    Stream(FileId),
     /// Nothing.
     Free,
     /// A file that may be replaced, whose name behind all links this is.
@@ -93,16 +96,17 @@ pub(crate) struct Output<'a> {
 }
 
 impl<'a> Output<'a> {
-    /// Looks at what is there. An error if that may not be replaced: a directory, a read-only file, the message, a private key by
-    /// anything else, and without `force` all but a signature by another one and an empty file by what is no private key.
+    /// Looks at what is there. An error if that may not be replaced: a directory, a read-only file, a message, a private key by
+    /// anything else, and without `force` all but a signature by another one and an empty file by what is no private key. A private
+    /// key goes to a device or a pipe only with `force`, and never to another user's pipe.
     pub(crate) fn find(
         rt: &HostRuntime,
         target: Target<'a>,
-        message: Option<FileId>,
+        messages: &[FileId],
     ) -> Result<Output<'a>, Error>
         ensures { IfOk result (λ output. output.target ≡ target.entry) }
     {
-        let place = target.place(rt, message)?;
+        let place = target.place(rt, messages)?;
         Ok(Output { target, place })
     }
 
@@ -136,14 +140,15 @@ impl<'a> Output<'a> {
     fn replace(&self, rt: &HostRuntime, bytes: &[u8]) -> Result<(), Error>
         requires holds { Holds self.now.target.content bytes.now }
     {
-        let new = self.prepare(rt, bytes)?;
-        self.put(rt, new.as_ref(), bytes)
+        let mut new = self.prepare(rt, bytes)?;
+        self.keep(rt, new.as_mut())?;
+        self.put(rt, new.as_mut(), bytes)
     }
 
     /// Says which files were left here by runs that did not end.
     fn tell_left(&self, rt: &HostRuntime) {
         match self.place {
-            Place::Stream => {}
+            Place::Standard | Place::Stream(_) => {}
             _ => {
                 let _ = tell_left(rt, self.name());
             }
@@ -151,42 +156,67 @@ impl<'a> Output<'a> {
     }
 
     /// Writes the bytes into a new file beside the place. There is none for a stream.
-    fn prepare<'b>(&self, rt: &'b HostRuntime, bytes: &[u8]) -> Result<Option<Beside<'b>>, Error>
+    fn prepare<'b>(&self, rt: &'b HostRuntime, bytes: &[u8]) -> Result<Option<New<'b>>, Error>
         requires holds { Holds self.now.target.content bytes.now }
     {
-        if let Place::Stream = self.place {
-            return Ok(None);
+        match self.place {
+            Place::Standard | Place::Stream(_) => Ok(None),
+            _ => Ok(Some(self.beside(rt, bytes).context(self.target.path)?)),
         }
-        let path = self.target.path;
-        let name = name_beside(rt, self.name(), "new").context(path)?;
-        let mut file = self.create(rt, name.as_str()).context(path)?;
-        let new = Beside::new(rt, name);
-        file.write_all(bytes).context(path)?;
-        file.sync_all().context(path)?;
-        Ok(Some(new))
     }
 
-    /// Makes a file under a name that is not in use.
-    fn create(&self, rt: &HostRuntime, name: &str) -> io::Result<File> {
-        OpenOptions::new()
-            .write(true)
-            .create_new(true)
-            .mode(self.target.content.mode())
-            .open(rt, name)
-    }
-
-    /// Puts the new file into its place, or writes these bytes to a stream.
-    fn put(&self, rt: &HostRuntime, new: Option<&Beside<'_>>, bytes: &[u8]) -> Result<(), Error>
+    /// Writes the bytes into a new file beside the place.
+    fn beside<'b>(&self, rt: &'b HostRuntime, bytes: &[u8]) -> io::Result<New<'b>>
         requires holds { Holds self.now.target.content bytes.now }
     {
-        let done = match (&self.place, new) {
-            (Place::Free, Some(new)) => self.put_free(rt, new.name.as_str()),
-            (Place::Taken(name, _), Some(new)) => {
-                fs::rename(rt, new.name.as_str(), name.as_str())
+        let folder = open_folder(rt, self.name())?;
+        let name = name_beside(rt, self.name(), "new")?;
+        let mut file = create(rt, name.as_str(), self.target.content.mode())?;
+        let file_beside = Beside::new(rt, name);
+        file.write_all(bytes)?;
+        file.sync_all()?;
+        Ok(New {
+            file: file_beside,
+            folder,
+            kept: None,
+        })
+    }
+
+    /// Gives the file that is to be replaced a second name beside it.
+    fn keep<'b>(&self, rt: &'b HostRuntime, new: Option<&mut New<'b>>) -> Result<(), Error> {
+        match (&self.place, new) {
+            (Place::Taken(name, id), Some(new)) => {
+                let kept = kept(rt, name.as_str(), *id).context(self.target.path)?;
+                new.kept = Some(kept);
+                Ok(())
             }
-            _ => self.write_stream(rt, bytes),
+            _ => Ok(()),
+        }
+    }
+
+    /// Puts the new file into its place, or writes these bytes to a stream. After an error all is as it was.
+    fn put(&self, rt: &HostRuntime, new: Option<&mut New<'_>>, bytes: &[u8]) -> Result<(), Error>
+        requires holds { Holds self.now.target.content bytes.now }
+    {
+        let done = match new {
+            None => self.write_stream(rt, bytes),
+            Some(new) => self.put_file(rt, new),
         };
         done.context(self.target.path)
+    }
+
+    /// Puts the new file into its place, and syncs the folder, so that it stays there when the power fails.
+    fn put_file(&self, rt: &HostRuntime, new: &mut New<'_>) -> io::Result<()> {
+        let name = new.file.name.as_str();
+        match &self.place {
+            Place::Taken(place, _) => fs::rename(rt, name, place.as_str())?,
+            _ => self.put_free(rt, name)?,
+        }
+        let synced = sync(&new.folder);
+        if synced.is_err() {
+            self.undo(rt, new);
+        }
+        synced
     }
 
     /// Puts the new file where nothing is. A link is never made over a file, and a rename is. A file system without links gets an
@@ -197,7 +227,7 @@ impl<'a> Output<'a> {
             Err(error) if error.kind() != ErrorKind::AlreadyExists => {}
             done => return done,
         }
-        let _ = self.create(rt, path)?;
+        let _ = create(rt, path, self.target.content.mode())?;
         let done = fs::rename(rt, new, path);
         if done.is_err() {
             remove(rt, path);
@@ -207,31 +237,27 @@ impl<'a> Output<'a> {
 
     /// Writes to standard output, a device or a pipe.
     fn write_stream(&self, rt: &HostRuntime, bytes: &[u8]) -> io::Result<()> {
-        if self.target.path == "-" {
-            return rt.stdout().write_all(bytes);
-        }
-        OpenOptions::new()
-            .write(true)
-            .open(rt, self.target.path)?
-            .write_all(bytes)
-    }
-
-    /// Gives the file that is to be replaced a second name beside it. A file system without links gets the other name alone.
-    fn keep<'b>(&self, rt: &'b HostRuntime) -> Result<Option<Beside<'b>>, Error> {
-        let Place::Taken(name, _) = &self.place else {
-            return Ok(None);
+        let Place::Stream(id) = &self.place else {
+            rt.stdout().write_all(bytes)?;
+            if self.target.content == Content::PrivateKey {
+                note_open(rt, STANDARD_OUTPUT, "standard output");
+            }
+            return Ok(());
         };
-        let kept = name_beside(rt, name.as_str(), "old").context(self.target.path)?;
-        if fs::hard_link(rt, name.as_str(), kept.as_str()).is_err() {
-            fs::rename(rt, name.as_str(), kept.as_str()).context(self.target.path)?;
+        let mut file = OpenOptions::new().write(true).open(rt, self.target.path)?;
+        let opened = file.metadata()?;
+        if FileId::of(&opened) != *id {
+            return Err(changed());
         }
-        Ok(Some(Beside::new(rt, kept)))
+        if self.target.content == Content::PrivateKey && is_pipe_of_another(rt, &opened) {
+            return Err(of_another());
+        }
+        file.write_all(bytes)
     }
 
-    /// Undoes `keep`, and `put` if that was done.
-    fn undo(&self, rt: &HostRuntime, kept: Option<&mut Beside<'_>>, was_put: bool) {
-        let path = self.target.path;
-        match (&self.place, kept) {
+    /// Undoes `put`.
+    fn undo(&self, rt: &HostRuntime, new: &mut New<'_>) {
+        match (&self.place, &mut new.kept) {
             (Place::Taken(name, _), Some(kept)) => {
                 let done = fs::rename(rt, kept.name.as_str(), name.as_str());
                 kept.stays = done.is_err();
@@ -243,9 +269,84 @@ impl<'a> Output<'a> {
                     );
                 }
             }
-            (Place::Free, _) if was_put => remove(rt, path),
+            (Place::Free, _) => remove(rt, self.target.path),
             _ => {}
         }
+    }
+}
+
+/// A file that is put into its place.
+#[derive(Drop)]
+struct New<'a> {
+    /// It, beside its place.
+    file: Beside<'a>,
+    /// The folder of both.
+    folder: File,
+    /// The file that it replaces, under another name.
+    kept: Option<Beside<'a>>,
+}
+
+/// Standard output as a file, where the system has such names.
+const STANDARD_OUTPUT: &str = "/dev/stdout";
+
+/// Makes a file with these rights under a name that is not in use.
+fn create(rt: &HostRuntime, name: &str, mode: u32) -> io::Result<File> {
+    OpenOptions::new()
+        .write(true)
+        .create_new(true)
+        .mode(mode)
+        .open(rt, name)
+}
+
+/// The folder of a file.
+fn open_folder(rt: &HostRuntime, path: &str) -> io::Result<File> {
+    let (folder, _) = split(path);
+    File::open(rt, if folder.is_empty() { "." } else { folder })
+}
+
+/// Syncs a folder. There are file systems that cannot.
+fn sync(folder: &File) -> io::Result<()> {
+    match folder.sync_all() {
+        Err(error) if error.kind() == ErrorKind::InvalidInput => Ok(()),
+        done => done,
+    }
+}
+
+/// A second name beside this one for the file that was found under it. A file system without links gets a copy.
+fn kept<'a>(rt: &'a HostRuntime, name: &str, id: FileId) -> io::Result<Beside<'a>> {
+    if FileId::of(&fs::metadata(rt, name)?) != id {
+        return Err(changed());
+    }
+    let second = name_beside(rt, name, "old")?;
+    if fs::hard_link(rt, name, second.as_str()).is_ok() {
+        return Ok(Beside::new(rt, second));
+    }
+    let mut copy = create(rt, second.as_str(), 0o600)?;
+    let beside = Beside::new(rt, second);
+    io::copy(&mut File::open(rt, name)?, &mut copy)?;
+    copy.sync_all()?;
+    Ok(beside)
+}
+
+/// The error of a file that is not the one that was found.
+fn changed() -> io::Error {
+    io::Error::other("it was changed while this program ran")
+}
+
+/// The error of a pipe that is another user's.
+fn of_another() -> io::Error {
+    io::Error::other("it is a pipe of another user, which gets no private key")
+}
+
+/// Whether this is a pipe of another user, or of nobody knows whom.
+fn is_pipe_of_another(rt: &HostRuntime, found: &Metadata) -> bool {
+    if !found.file_type().is_fifo() {
+        return false;
+    }
+    // The system has no call here for the user of this process, whom its own entry belongs to.
+    match fs::metadata(rt, "/proc/self") {
+        Ok(own) => own.uid() != found.uid(),
+        Err(_) => true,
     }
 }
 
@@ -278,26 +379,36 @@ fn replace_pair(
     requires keys { (form : Form) × (algorithm : SetName) × (seed : List ℕ) × MakesTexts form algorithm seed keys.now.private.items keys.now.public.items }
 {
     let (public_text, private_text) = (keys.public.as_slice(), keys.private.as_slice());
-    let public_new = public.prepare(rt, public_text)?;
-    let private_new = private.prepare(rt, private_text)?;
-    let mut kept = public.keep(rt)?;
-    let mut done = public.put(rt, public_new.as_ref(), public_text);
-    let was_put = done.is_ok();
-    if was_put {
-        done = private.put(rt, private_new.as_ref(), private_text);
-    }
+    let mut public_new = public.prepare(rt, public_text)?;
+    let mut private_new = private.prepare(rt, private_text)?;
+    let _lock = lock(private_new.as_ref(), public_new.as_ref());
+    public.keep(rt, public_new.as_mut())?;
+    private.keep(rt, private_new.as_mut())?;
+    public.put(rt, public_new.as_mut(), public_text)?;
+    let done = private.put(rt, private_new.as_mut(), private_text);
     if done.is_err() {
-        public.undo(rt, kept.as_mut(), was_put);
+        if let Some(new) = public_new.as_mut() {
+            public.undo(rt, new);
+        }
     }
     done
 }
 
+/// Waits until no other run writes a pair in this folder, where the file system can tell: two at once could leave a key of each, or
+/// one could undo what the other has put there.
+fn lock(private: Option<&New<'_>>, public: Option<&New<'_>>) -> Option<File> {
+    let new = private.or(public)?;
+    let folder = new.folder.try_clone().ok()?;
+    let _ = folder.lock();
+    Some(folder)
+}
+
 impl Target<'_> {
     /// What is there, if that may be replaced.
-    fn place(&self, rt: &HostRuntime, message: Option<FileId>) -> Result<Place, Error> {
+    fn place(&self, rt: &HostRuntime, messages: &[FileId]) -> Result<Place, Error> {
         let path = self.path;
         if path == "-" {
-            return Ok(Place::Stream);
+            return Ok(Place::Standard);
         }
         let found = match fs::metadata(rt, path) {
             Ok(found) => found,
@@ -313,9 +424,10 @@ impl Target<'_> {
             bail!("{path}: it is a directory");
         }
         if !found.is_file() {
-            return Ok(Place::Stream);
+            self.check_stream(rt, &found)?;
+            return Ok(Place::Stream(FileId::of(&found)));
         }
-        self.check_replaced(rt, &found, message)?;
+        self.check_replaced(rt, &found, messages)?;
         let name = if fs::symlink_metadata(rt, path).context(path)?.is_symlink() {
             fs::canonicalize(rt, path).context(path)?.into_string()
         } else {
@@ -324,21 +436,38 @@ impl Target<'_> {
         Ok(Place::Taken(name, FileId::of(&found)))
     }
 
+    /// An error if the device or pipe that was found here gets no private key.
+    fn check_stream(&self, rt: &HostRuntime, found: &Metadata) -> Result<(), Error> {
+        let path = self.path;
+        if self.content != Content::PrivateKey {
+            return Ok(());
+        }
+        if !self.force {
+            bail!("{path}: it is no file, and only --force writes a private key to it");
+        }
+        if is_pipe_of_another(rt, found) {
+            return Err(of_another()).context(path);
+        }
+        Ok(())
+    }
+
     /// An error if the file that was found here may not be replaced.
     fn check_replaced(
         &self,
         rt: &HostRuntime,
         found: &Metadata,
-        message: Option<FileId>,
+        messages: &[FileId],
     ) -> Result<(), Error> {
         let path = self.path;
-        if message == Some(FileId::of(found)) {
+        if messages.contains(&FileId::of(found)) {
             bail!("{path}: it is the message, and is not replaced");
         }
         let start = read_start(rt, path)?;
         let start = start.as_slice();
-        if self.content != Content::PrivateKey && is_private_key(start) {
-            bail!("{path}: it has a private key, which is not replaced");
+        if self.content != Content::PrivateKey {
+            if is_private_key(start) || has_private_label(rt, path).context(path)? {
+                bail!("{path}: it has a private key, which is not replaced");
+            }
         }
         if !self.force && !self.may_replace(start) {
             bail!("{path}: it is there already, and only --force replaces it");
@@ -363,12 +492,14 @@ impl Target<'_> {
     }
 }
 
-/// Whether a file with these bytes is taken for a private key: its text says so, or it has one in DER.
+/// Whether a file with these bytes is taken for a private key: its text says so, or it has one in DER or in raw bytes.
 fn is_private_key(bytes: &[u8]) -> bool
     ensures text { kind_of_text bytes.now ≡ Private → result ≡ true }
     ensures file { (algorithm : SetName) (parts : PrivateParts) → IsPrivateFile bytes.now algorithm parts → result ≡ true }
 {
-    kind_of_text(bytes) == Kind::Private || read_private(bytes).is_ok()
+    kind_of_text(bytes) == Kind::Private
+        || read_private(bytes).is_ok()
+        || is_other_private_key(bytes)
 }
 
 /// Whether a file with these bytes is taken for a signature: it has a signature's length, and is no PEM.
@@ -456,7 +587,12 @@ fn tell_left(rt: &HostRuntime, path: &str) -> io::Result<()> {
     push_start(&mut start, last)?;
     let read = if folder.is_empty() { "." } else { folder };
     for entry in fs::read_dir(rt, read)? {
-        let entry = entry?;
+        let entry = match entry {
+            Ok(entry) => entry,
+            // A name that is no UTF-8 is none of these files.
+            Err(error) if error.kind() == ErrorKind::InvalidFilename => continue,
+            Err(error) => return Err(error),
+        };
         if is_left(entry.file_name(), start.as_str()) {
             let mut name = String::from_str(rt.alloc(), folder)?;
             name.push_str(entry.file_name())?;

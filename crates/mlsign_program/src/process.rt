@@ -6,6 +6,7 @@ ghost use Rattle.mlsign_program.specs.Outputs.{status_of};
 
 use crate::commands;
 use crate::text::printable;
+use crate::verify::verify;
 use crate::words::mlsign;
 use anyhow::{Context, Error, bail};
 use std::alloc::{AllocError, Global};
@@ -89,7 +90,7 @@ pub fn answer<S: AsStr>(rt: &HostRuntime, words: &[S]) -> Result<bool, Error> {
         Some(("keygen", words)) => commands::keygen(rt, words)?,
         Some(("public", words)) => commands::public(rt, words)?,
         Some(("sign", words)) => commands::sign(rt, words)?,
-        Some(("verify", words)) => return commands::verify(rt, words),
+        Some(("verify", words)) => return verify(rt, words),
         Some(("show", words)) => commands::show(rt, words)?,
         Some(("convert", words)) => commands::convert(rt, words)?,
         _ => bail!("no such command"),

@@ -1,7 +1,7 @@
 //! The words of a call.
 #![tactic(auto)]
 
-use clap::{Arg, Command, arg};
+use clap::{Arg, ArgAction, Command, arg};
 use std::alloc::{AllocError, Global};
 
 /// The command line of the program.
@@ -11,6 +11,7 @@ pub(crate) fn mlsign<'a>(alloc: Global) -> Result<Command<'a>, AllocError> {
         .version("0.2.0")
         .bin_name("mlsign")?
         .no_binary_name(true)
+        .after_help(STATUSES)
         .subcommand_required(true)
         .subcommand(keygen(alloc)?)?
         .subcommand(public(alloc)?)?
@@ -59,12 +60,21 @@ fn sign<'a>(alloc: Global) -> Result<Command<'a>, AllocError> {
 }
 
 fn verify<'a>(alloc: Global) -> Result<Command<'a>, AllocError> {
+    let public = arg!(in alloc; -p --public <FILE> "The public key; if given again, any of them");
+    let fingerprint =
+        arg!(in alloc; --fingerprint <TEXT> "Take only a public key with this fingerprint");
+    let sums = arg!(in alloc; --sums "The message is a list of sha256sum, whose files are checked");
+    let missing = arg!(in alloc; --"ignore-missing" "Leave out files of the list that are missing");
     Command::new(alloc, "verify")
         .about("Verifies signatures of messages")
-        .arg(arg!(in alloc; -p --public <FILE> "The public key").required(true))?
+        .after_help(STATUSES)
+        .arg(public.required(true).action(ArgAction::Append))?
+        .arg(fingerprint)?
         .arg(der(alloc))?
         .arg(context(alloc))?
         .arg(arg!(in alloc; -s --signature <FILE> "The signature, if not MESSAGE.sig"))?
+        .arg(sums)?
+        .arg(missing)?
         .arg(quiet(alloc))?
         .arg(messages(alloc))
 }
@@ -93,6 +103,10 @@ fn convert<'a>(alloc: Global) -> Result<Command<'a>, AllocError> {
         .arg(force(alloc))?
         .arg(arg!(in alloc; file: <FILE> "The file of a key"))
 }
+
+/// What the exit status says.
+const STATUSES: &str =
+    "Exit status: 0 if done, or all is valid; 1 if a signature or a sum is invalid; 2 for anything else";
 
 /// The words for parameter sets.
 const SETS: [&str; 3] = ["44", "65", "87"];

@@ -3,10 +3,10 @@ use Rattle.std.specs.Prelude.{◌≡◌, ◌<◌, ◌≤◌, ℕ, zero, suc, ◌
 use Rattle.std.specs.List.{flat_map}
 use Rattle.std.specs.Int.{w64, to_le_bytes, div_ceil}
 use Rattle.std.proofs.Common.{inl, inr, refl, ap, ◌∙◌, arith, length-append, slice_index}
-use Rattle.std.proofs.lemmas.List.{length-take-le, take_all}
+use Rattle.std.proofs.lemmas.List.{length-take-le}
 use Rattle.std.proofs.lemmas.Bool.{cases_lt}
 use Rattle.std.proofs.lemmas.Nat.{div-add-mod'}
-use Rattle.std.proofs.Math.Nat.{mul-div_cancel, mul-mod_left, mod-lt}
+use Rattle.std.proofs.Math.Nat.{mod-lt}
 use Rattle.shake.specs.Keccak.{chi, iota, round, rounds, round_constants, keccak_f}
 use Rattle.shake.specs.Shake.{bytes, squeezed, absorbed, message_state, shake}
 
@@ -44,18 +44,6 @@ length-absorbed rate p (suc n) = length-keccak_f _
 pub length-message_state : (rate : ℕ) (m : List ℕ) → length (message_state rate m) ≡ 25
 unfolding message_state
 length-message_state rate m = length-absorbed rate _ _
-
--- so many bytes as whole blocks have
-pub shake-blocks : (rate : ℕ) → 0 < rate → rate ≤ 200 → (m : List ℕ) (n : ℕ) → shake rate m (n * rate) ≡ squeezed rate (message_state rate m) n
-unfolding shake
-shake-blocks rate some small m n =
-    let count : div_ceil (n * rate) rate ≡ n = rw (mul-div_cancel n some, mul-mod_left n rate) (omega arith) in
-    let size = length-squeezed rate small (message_state rate m) (length-message_state rate m) n in
-    rw count (take_all (n * rate) (squeezed rate (message_state rate m) n) (omega (arith, size)))
-
-pub length-shake-blocks : (rate : ℕ) → 0 < rate → rate ≤ 200 → (m : List ℕ) (n : ℕ) → length (shake rate m (n * rate)) ≡ n * rate
-length-shake-blocks rate some small m n =
-    ap length (shake-blocks rate some small m n) ∙ length-squeezed rate small (message_state rate m) (length-message_state rate m) n
 
 -- enough blocks for d bytes
 pub ceil_enough : (rate d : ℕ) → 0 < rate → d ≤ div_ceil d rate * rate

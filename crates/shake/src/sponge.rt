@@ -285,6 +285,7 @@ impl<const R: usize> ShakeReader<R> {
         write_block(&self.lanes, &mut self.block);
         self.given = 0;
     }
+
     /// Takes the next block of `lanes`, its own lanes after a permutation, if the last one is given.
     fn begin_if_given(&mut self, lanes: &[u64; 25])
         requires { lanes.now ≡ keccak_f self.old.lanes }

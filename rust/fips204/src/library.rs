@@ -64,10 +64,11 @@ macro_rules! calls {
     };
 }
 
+/// Gives the calls of a set to a macro, behind a first word: `calls_of_a_set!(calls!("mldsa44_"))` declares them.
 macro_rules! calls_of_a_set {
-    ($prefix:literal) => {
-        calls! {
-            $prefix:
+    ($given_to:ident!($first:tt)) => {
+        $given_to! {
+            $first:
             keygen(seed) => (public_key, private_key);
             sign(private_key, message, context, random) => (signature);
             verify(public_key, message, context, signature) => ();
@@ -92,17 +93,18 @@ macro_rules! calls_of_a_set {
         }
     };
 }
+pub(crate) use calls_of_a_set;
 
 pub(crate) mod set_44 {
-    calls_of_a_set!("mldsa44_");
+    calls_of_a_set!(calls!("mldsa44_"));
 }
 
 pub(crate) mod set_65 {
-    calls_of_a_set!("mldsa65_");
+    calls_of_a_set!(calls!("mldsa65_"));
 }
 
 pub(crate) mod set_87 {
-    calls_of_a_set!("mldsa87_");
+    calls_of_a_set!(calls!("mldsa87_"));
 }
 
 calls! {

@@ -227,7 +227,7 @@ macro_rules! prepared_keys {
             /// Rejection sampling reached its limit, for which no key is known.
             fn get_public_key(&self) -> PublicKey {
                 // The bytes of the plain key come first.
-                let mut public = PublicKey(Wiped([0; PK_LEN]));
+                let mut public = set::PublicKey(Wiped([0; PK_LEN]));
                 let status = calls::public_key(&self.0.0[..SK_LEN], &mut public.0.0);
                 answer(status, public).unwrap()
             }

@@ -24,25 +24,25 @@ impl<const N: usize> Drop for Wiped<N> {
     }
 }
 
-/// For a type over a `Wiped`: `Debug`, which shows none of its bytes, and the traits of `zeroize`.
+/// For a type over a `Wiped`, which may be generic over lengths: `Debug`, which shows none of its bytes, and the traits of `zeroize`.
 macro_rules! shows_nothing {
-    ($name:ident) => {
+    ($name:ident $(<$($length:ident),+>)?) => {
         /// Shows none of the bytes.
-        impl core::fmt::Debug for $name {
+        impl $(<$(const $length: usize),+>)? core::fmt::Debug for $name $(<$($length),+>)? {
             fn fmt(&self, f: &mut core::fmt::Formatter<'_>) -> core::fmt::Result {
                 f.debug_struct(stringify!($name)).finish_non_exhaustive()
             }
         }
 
         #[cfg(feature = "zeroize")]
-        impl zeroize::Zeroize for $name {
+        impl $(<$(const $length: usize),+>)? zeroize::Zeroize for $name $(<$($length),+>)? {
             fn zeroize(&mut self) {
                 self.0.wipe();
             }
         }
 
         #[cfg(feature = "zeroize")]
-        impl zeroize::ZeroizeOnDrop for $name {}
+        impl $(<$(const $length: usize),+>)? zeroize::ZeroizeOnDrop for $name $(<$($length),+>)? {}
     };
 }
 pub(crate) use shows_nothing;

@@ -1,85 +1,109 @@
-//! The calls of the prepared keys of every parameter set: signing and verifying with the stored matrix, one message
-//! or many. Each returns what the plain key's call of the same name returns, in fewer steps: the matrix is sampled once,
+//! The calls of the prepared keys of every parameter set: those of the plain keys, which are the bodies of `Signer` and
+//! `Verifier`, and many messages in one call. Each returns what the plain key's call of the same name returns, in fewer steps: the matrix is sampled once,
 //! by `prepare`.
 #![tactic(auto)]
 
-ghost use Rattle.std.specs.Prelude.{◌≡◌, ◌↔◌, length, map, IsTrue};
+ghost use Rattle.std.specs.Prelude.{◌≡◌, ◌↔◌, length, map, Ok, IsTrue};
+ghost use Rattle.std.proofs.Common.{ap};
 ghost use Rattle.fips204_base.specs.Encodings.{ArePrivateParts};
 ghost use Rattle.fips204_base.specs.Vectors.{MatrixWithin};
-ghost use Rattle.fips204.specs.Framing.{plain, hashed, framed, represented};
-ghost use Rattle.fips204.specs.Inputs.{input_of};
-ghost use Rattle.fips204.specs.Prepared.{sign_prepared, AcceptedIfWholePrepared, IsEachSigned, IsEachJudged, VerifiesPrepared};
-ghost use Rattle.fips204.specs.Refusals.{input_fault, DrawsIf, DrawsUnless};
+ghost use Rattle.fips204.specs.Framing.{plain, hashed, framed, represented, representative};
+ghost use Rattle.fips204.specs.Prepared.{sign_prepared, public_of_prepared, IsWholePrepared, IsEachSigned};
+ghost use Rattle.fips204.specs.Prepared.{AcceptedIfWholePrepared, IsEachJudged, VerifiesPrepared};
+ghost use Rattle.fips204.specs.Refusals.{DrawsIf, DrawsUnless, input_fault, refused_or};
+ghost use Rattle.fips204.specs.Signing.{sign_with};
 
 use crate::input::Input;
 use crate::ml_dsa;
 use crate::sets::{HasSet, Matrix, Set, SignatureSizes};
-use crate::traits::{CryptoRngCore, DummyRng, draw, draw_if};
-use crate::types::{PreparedPrivateKey, PreparedPublicKey};
+use crate::traits::{CryptoRngCore, Signer, Verifier};
+use crate::types::{PreparedPrivateKey, PreparedPublicKey, R0};
 use fips204_base::Fault;
+use fips204_base::product::Transforms;
 use fips204_base::xof::Xof;
+use std::marker::PhantomData;
 
-impl<
-    S,
-    const K: usize,
-    const L: usize,
-    const LAMBDA_DIV4: usize,
-    const SIG_LEN: usize,
-    H: Xof,
-> PreparedPrivateKey<K, L, H>
+impl<S, const K: usize, const L: usize, const SIG_LEN: usize, H> Signer
+    for PreparedPrivateKey<K, L, H>
 where
+    H: Xof,
     Matrix<K, L>: HasSet<Set = S>,
-    S: Set<CommitmentHash = [u8; LAMBDA_DIV4], Signature = [u8; SIG_LEN]>
-        + SignatureSizes<K, L, LAMBDA_DIV4, SIG_LEN>,
+    S: Set<Signature = [u8; SIG_LEN]> + SignatureSizes<K, L, SIG_LEN>,
 {
-    /// The hash that the key keeps, which signing hashes before the message. The key's parts and its matrix are in range.
+    type Signature = [u8; SIG_LEN];
+
+    type PublicKey = PreparedPublicKey<K, L, H>;
+
+    ghost signs = { sign_prepared S.set H.front };
+
+    ghost derives = { λ key. Ok (public_of_prepared S.set key) };
+
+    ghost whole = { IsWholePrepared S.set };
+
+    ghost refused = { λ key rnd input fault broken.
+        ap (λ first. refused_or first (sign_with S.set H.front key.matrix key.parts (representative H.front key.parts.tr input) rnd)) broken };
+
+    fn sign_input(&self, seed: &[u8; 32], input: &Input<'_>) -> Result<[u8; SIG_LEN], Fault> {
+        let key = ml_dsa::SigningKey {
+            key: &self.key,
+            a_hat: &self.a_hat,
+            transforms: &self.transforms,
+        };
+        key.sign_input::<SIG_LEN>(&S::params(), input, seed)
+    }
+
+    /// The public key that belongs to the key, prepared too. Never returns an error.
+    fn get_public_key(&self) -> Result<PreparedPublicKey<K, L, H>, Fault> {
+        let plain = &self.key;
+        let mut pk = PreparedPublicKey {
+            rho: plain.rho,
+            tr: plain.tr,
+            t1: [R0; K],
+            a_hat: self.a_hat,
+            t1_hat: Transforms::zeros(),
+            stream: PhantomData,
+        };
+        ml_dsa::write_high_part(&S::params(), &self.a_hat, &plain.s1, &plain.s2, &mut pk.t1);
+        ml_dsa::write_shifted_transforms(&pk.t1, &mut pk.t1_hat);
+        Ok(pk)
+    }
+}
+
+impl<S, const K: usize, const L: usize, const SIG_LEN: usize, H> Verifier
+    for PreparedPublicKey<K, L, H>
+where
+    H: Xof,
+    Matrix<K, L>: HasSet<Set = S>,
+    S: Set<Signature = [u8; SIG_LEN]> + SignatureSizes<K, L, SIG_LEN>,
+{
+    type Signature = [u8; SIG_LEN];
+
+    ghost accepts = { VerifiesPrepared S.set H.front };
+
+    ghost unbroken = { λ key signature input accepted. accepted.0 };
+
+    fn accepts_input(&self, input: &Input<'_>, signature: &[u8; SIG_LEN]) -> bool {
+        match ml_dsa::mu_of::<H>(&self.tr, input) {
+            Ok(mu) => ml_dsa::verify_prepared::<K, L, H>(&S::params(), self, &mu, signature),
+            Err(_) => false,
+        }
+    }
+}
+
+impl<S, const K: usize, const L: usize, const SIG_LEN: usize, H> PreparedPrivateKey<K, L, H>
+where
+    H: Xof,
+    Matrix<K, L>: HasSet<Set = S>,
+    S: Set<Signature = [u8; SIG_LEN]> + SignatureSizes<K, L, SIG_LEN>,
+{
+    /// The hash that the key keeps, which signing hashes before the message. The key's parts and its matrix are in
+    /// range.
     pub fn tr(&self) -> &[u8; 64]
         ensures hash { result.now ≡ self.now.parts.tr }
         ensures matrix { MatrixWithin 8380416 self.now.matrix }
         ensures parts { ArePrivateParts S.set.eta K L self.now.parts }
     {
         &self.key.tr
-    }
-
-    /// Signs the hash `mu` of a framed message with the random bytes `seed` (Algorithm 7 from line 7 on).
-    fn sign_mu_with_seed(&self, mu: &[u8; 64], seed: &[u8; 32]) -> Result<[u8; SIG_LEN], Fault>
-        ensures answer { result ≡ sign_prepared S.set H.front self.now seed.now (represented mu.now) }
-        ensures accepted { AcceptedIfWholePrepared S.set H.front self.now (represented mu.now) result }
-    {
-        let key = ml_dsa::SigningKey {
-            key: &self.key,
-            a_hat: &self.a_hat,
-            transforms: &self.transforms,
-        };
-        key.sign_with::<LAMBDA_DIV4, SIG_LEN>(&S::params(), mu, seed)
-    }
-
-    /// Signs an input with the random bytes `seed`; 32 zeros give the deterministic variant.
-    ///
-    /// Errors: those of the input, as the calls for a message and for a digest say; then `Fault::SamplingLimit` if the
-    /// challenge reaches its limit, and `Fault::TooManyAttempts` if all 814 attempts are rejected.
-    pub fn sign_input(&self, seed: &[u8; 32], input: &Input<'_>) -> Result<[u8; SIG_LEN], Fault>
-        ensures answer { result ≡ sign_prepared S.set H.front self.now seed.now (input_of input.now) }
-        ensures accepted { AcceptedIfWholePrepared S.set H.front self.now (input_of input.now) result }
-    {
-        let mu = ml_dsa::mu_of::<H>(&self.key.tr, input)?;
-        self.sign_mu_with_seed(&mu, seed)
-    }
-
-    /// Signs an input with 32 random bytes of the generator, which is asked once, and not for an input that is
-    /// refused. Returns `refusal` if the generator fails.
-    fn sign_drawn<R: CryptoRngCore>(
-        &self,
-        rng: &mut R,
-        input: &Input<'_>,
-        refusal: Fault,
-    ) -> Result<[u8; SIG_LEN], Fault>
-        ensures answer { DrawsUnless (input_fault (input_of input.now)) R.gives R.refuses rng.old rng.new refusal
-            (λ rnd. sign_prepared S.set H.front self.now rnd (input_of input.now)) result }
-        ensures accepted { AcceptedIfWholePrepared S.set H.front self.now (input_of input.now) result }
-    {
-        let mu = ml_dsa::mu_of::<H>(&self.key.tr, input)?;
-        self.sign_mu_with_seed(&mu, &draw(rng, refusal)?)
     }
 
     /// Signs a message (Algorithm 2) with 32 random bytes of the generator, which is asked once:
@@ -97,7 +121,7 @@ where
             Fault.SignRng (λ rnd. sign_prepared S.set H.front self.now rnd (plain message.now ctx.now)) result }
         ensures accepted { AcceptedIfWholePrepared S.set H.front self.now (plain message.now ctx.now) result }
     {
-        self.sign_drawn(rng, &Input::Message(message, ctx), Fault::SignRng)
+        Signer::try_sign_with_rng(self, rng, message, ctx)
     }
 
     /// Signs a message (Algorithm 2) with the random bytes `seed`:
@@ -113,7 +137,7 @@ where
         ensures answer { result ≡ sign_prepared S.set H.front self.now seed.now (plain message.now ctx.now) }
         ensures accepted { AcceptedIfWholePrepared S.set H.front self.now (plain message.now ctx.now) result }
     {
-        self.try_sign_with_rng(&mut DummyRng { bytes: *seed }, message, ctx)
+        Signer::try_sign_with_seed(self, seed, message, ctx)
     }
 
     /// Signs a digest (Algorithm 4) with 32 random bytes of the generator, which is asked once. `hash_oid` is the DER
@@ -133,7 +157,7 @@ where
             R.refuses rng.old rng.new Fault.HashRng (λ rnd. sign_prepared S.set H.front self.now rnd input) result }
         ensures accepted { AcceptedIfWholePrepared S.set H.front self.now (hashed hash.now ctx.now hash_oid.now) result }
     {
-        self.sign_drawn(rng, &Input::Digest(hash, ctx, hash_oid), Fault::HashRng)
+        Signer::try_hash_sign_with_rng(self, rng, hash, ctx, hash_oid)
     }
 
     /// Signs a digest (Algorithm 4) with the random bytes `seed`:
@@ -151,7 +175,7 @@ where
         ensures answer { result ≡ sign_prepared S.set H.front self.now seed.now (hashed hash.now ctx.now hash_oid.now) }
         ensures accepted { AcceptedIfWholePrepared S.set H.front self.now (hashed hash.now ctx.now hash_oid.now) result }
     {
-        self.try_hash_sign_with_rng(&mut DummyRng { bytes: *seed }, hash, ctx, hash_oid)
+        Signer::try_hash_sign_with_seed(self, seed, hash, ctx, hash_oid)
     }
 
     /// Signs a framed message `m` (Algorithm 7). The 32 random bytes are zeros without `hedged`; with it they are
@@ -168,7 +192,7 @@ where
             (λ rnd. sign_prepared S.set H.front self.now rnd (framed m.now)) result }
         ensures accepted { AcceptedIfWholePrepared S.set H.front self.now (framed m.now) result }
     {
-        self.sign_input(&draw_if(hedged, rng)?, &Input::Framed(m))
+        self.sign_input_with_rng(rng, &Input::Framed(m), hedged)
     }
 
     /// Signs the hash `mu` of a framed message (Algorithm 7 from line 7 on): `key.sign_mu(&mut rng, &mu, true)?`.
@@ -183,7 +207,7 @@ where
             (λ rnd. sign_prepared S.set H.front self.now rnd (represented mu.now)) result }
         ensures accepted { AcceptedIfWholePrepared S.set H.front self.now (represented mu.now) result }
     {
-        self.sign_input(&draw_if(hedged, rng)?, &Input::Mu(mu))
+        self.sign_input_with_rng(rng, &Input::Mu(mu), hedged)
     }
 
     /// Signs each message with its own 32 random bytes, under one context: `out[i]` becomes the result of
@@ -207,35 +231,18 @@ where
     }
 }
 
-impl<
-    S,
-    const K: usize,
-    const L: usize,
-    const LAMBDA_DIV4: usize,
-    const SIG_LEN: usize,
-    H: Xof,
-> PreparedPublicKey<K, L, H>
+impl<S, const K: usize, const L: usize, const SIG_LEN: usize, H> PreparedPublicKey<K, L, H>
 where
+    H: Xof,
     Matrix<K, L>: HasSet<Set = S>,
-    S: Set<CommitmentHash = [u8; LAMBDA_DIV4], Signature = [u8; SIG_LEN]>
-        + SignatureSizes<K, L, LAMBDA_DIV4, SIG_LEN>,
+    S: Set<Signature = [u8; SIG_LEN]> + SignatureSizes<K, L, SIG_LEN>,
 {
-    /// Verifies the signature of an input. Returns false if the input is refused.
-    pub fn accepts_input(&self, input: &Input<'_>, signature: &[u8; SIG_LEN]) -> bool
-        ensures { IsTrue result ↔ VerifiesPrepared S.set H.front self.now signature.now (input_of input.now) }
-    {
-        match ml_dsa::mu_of::<H>(&self.tr, input) {
-            Ok(mu) => self.verify_mu(&mu, signature),
-            Err(_) => false,
-        }
-    }
-
     /// Verifies the signature of a message (Algorithm 3): `public.prepare()?.verify(b"message", &signature, b"context")`.
     /// Returns false if `ctx` has more than 255 bytes.
     pub fn verify(&self, message: &[u8], signature: &[u8; SIG_LEN], ctx: &[u8]) -> bool
         ensures { IsTrue result ↔ VerifiesPrepared S.set H.front self.now signature.now (plain message.now ctx.now) }
     {
-        self.accepts_input(&Input::Message(message, ctx), signature)
+        Verifier::verify(self, message, signature, ctx)
     }
 
     /// Verifies the signature of a digest (Algorithm 5): `key.hash_verify(&digest, &signature, b"context", &SHA2_256)`.
@@ -250,7 +257,7 @@ where
         ensures { IsTrue result
             ↔ VerifiesPrepared S.set H.front self.now signature.now (hashed hash.now ctx.now hash_oid.now) }
     {
-        self.accepts_input(&Input::Digest(hash, ctx, hash_oid), signature)
+        Verifier::hash_verify(self, hash, signature, ctx, hash_oid)
     }
 
     /// Verifies the signature of a framed message `m` (Algorithm 8): `key.verify_internal(&framed, &signature)`.
@@ -265,7 +272,7 @@ where
     pub fn verify_mu(&self, mu: &[u8; 64], sig: &[u8; SIG_LEN]) -> bool
         ensures { IsTrue result ↔ VerifiesPrepared S.set H.front self.now sig.now (represented mu.now) }
     {
-        ml_dsa::verify_prepared::<K, L, LAMBDA_DIV4, SIG_LEN, H>(&S::params(), self, mu, sig)
+        self.accepts_input(&Input::Mu(mu), sig)
     }
 
     /// Verifies each signature with its message, under one context: `out[i]` becomes the result of `verify`

@@ -1,9 +1,11 @@
-//! Prepared keys as bytes: those of the plain key, the hash `tr` behind a public one, and the matrix, row by row, each of its
-//! values a word of 32 bits, the lowest byte first. FIPS 204 has no such encoding.
+//! Prepared keys as bytes: those of the plain key, the hash `tr` behind a public one, and the matrix, row by row, each
+//! of its values a word of 32 bits, the lowest byte first. FIPS 204 has no such encoding.
 #![tactic(auto)]
 
 ghost use Rattle.std.specs.Prelude.{◌≡◌, length};
-ghost use Rattle.fips204.specs.PreparedBytes.{prepared_public_bytes, prepared_public_length, prepared_private_bytes, prepared_private_length, Decodes, IsPreparedPublicOf, IsPreparedPrivateOf};
+ghost use Rattle.fips204.specs.PreparedBytes.{prepared_public_bytes, prepared_public_length, prepared_private_bytes};
+ghost use Rattle.fips204.specs.PreparedBytes.{prepared_private_length, Decodes, IsPreparedPublicOf};
+ghost use Rattle.fips204.specs.PreparedBytes.{IsPreparedPrivateOf};
 
 use crate::ml_dsa::{self, read_matrix, write_matrix};
 use crate::sets::{HasSet, KeySizes, Matrix, Set};
@@ -24,8 +26,8 @@ where
     Matrix<K, L>: HasSet<Set = S>,
     S: Set<PublicKey = [u8; PK_LEN], PrivateKey = [u8; SK_LEN]> + KeySizes<K, L, PK_LEN, SK_LEN>,
 {
-    /// Writes the key as bytes, from which `read` makes it again: those of the public key, 64 of its hash `tr`, and 1024
-    /// for each entry of the matrix.
+    /// Writes the key as bytes, from which `read` makes it again: those of the public key, 64 of its hash `tr`, and
+    /// 1024 for each entry of the matrix.
     pub fn write(&self, out: &mut [u8])
         requires room { length out.old ≡ prepared_public_length S.set }
         ensures { out.new ≡ prepared_public_bytes self.now }
@@ -38,8 +40,8 @@ where
         write_matrix(&self.a_hat, matrix);
     }
 
-    /// The prepared key that has these bytes, or `None` if none has: if a value of the matrix is `q` or more. Whether the
-    /// matrix is that of the key's seed is not checked: other bytes than `write` has written may accept anything.
+    /// The prepared key that has these bytes, or `None` if none has: if a value of the matrix is `q` or more. Whether
+    /// the matrix is that of the key's seed is not checked: other bytes than `write` has written may accept anything.
     #[inline(never)]
     pub fn read(bytes: &[u8]) -> Option<PreparedPublicKey<K, L, H>>
         requires size { length bytes.now ≡ prepared_public_length S.set }
@@ -74,8 +76,8 @@ where
     Matrix<K, L>: HasSet<Set = S>,
     S: Set<PublicKey = [u8; PK_LEN], PrivateKey = [u8; SK_LEN]> + KeySizes<K, L, PK_LEN, SK_LEN>,
 {
-    /// Writes the key as bytes, from which `read` makes it again: those of the private key, and 1024 for each entry of the
-    /// matrix.
+    /// Writes the key as bytes, from which `read` makes it again: those of the private key, and 1024 for each entry of
+    /// the matrix.
     pub fn write(&self, out: &mut [u8])
         requires room { length out.old ≡ prepared_private_length S.set }
         ensures { out.new ≡ prepared_private_bytes S.set.eta self.now }
@@ -96,8 +98,8 @@ where
     }
 
     /// The prepared key that has these bytes, or `None` if none has: if a coefficient of s1 or s2 is out of range, or a
-    /// value of the matrix is `q` or more. Whether the matrix is that of the key's seed is not checked: with other bytes
-    /// than `write` has written, signatures may tell the key.
+    /// value of the matrix is `q` or more. Whether the matrix is that of the key's seed is not checked: with other
+    /// bytes than `write` has written, signatures may tell the key.
     #[inline(never)]
     pub fn read(bytes: &[u8]) -> Option<PreparedPrivateKey<K, L, H>>
         requires size { length bytes.now ≡ prepared_private_length S.set }

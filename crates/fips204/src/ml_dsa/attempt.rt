@@ -10,7 +10,7 @@ ghost use Rattle.fips204.specs.Signing.{attempt};
 ghost use Rattle.fips204.specs.SigningInputs.{AreAttemptInputs};
 ghost use Rattle.fips204.specs.Sets.{set_of};
 
-use super::commitment_hash::commitment_hash;
+use super::commitment_hash::write_commitment_hash;
 use super::signing::SigningKey;
 use crate::types::{Params, R, R0};
 use fips204_base::Fault;
@@ -22,17 +22,17 @@ use fips204_base::xof::Xof;
 
 impl<'a, const K: usize, const L: usize, H: Xof, G> SigningKey<'a, K, L, H, G> {
     /// The attempt at counter `kappa` with the seed `rho''` of the mask (lines 11 to 32): returns its signature,
-    /// or `None` if it is rejected. `K` and `L` are those of the set, and `LAMBDA_DIV4` and `SIG_LEN` its lengths.
+    /// or `None` if it is rejected. `K`, `L` and `SIG_LEN` are those of the set.
     ///
     /// Errors: `Fault::SamplingLimit` if its challenge reaches its limit.
-    pub(crate) fn attempt<const LAMBDA_DIV4: usize, const SIG_LEN: usize>(
+    pub(crate) fn attempt<const SIG_LEN: usize>(
         &self,
         p: &Params,
         mu: &[u8; 64],
         mask_seed: &[u8; 64],
         kappa: u16,
     ) -> Result<Option<[u8; SIG_LEN]>, Fault>
-        requires inputs { AreAttemptInputs p.now K L LAMBDA_DIV4 SIG_LEN kappa }
+        requires inputs { AreAttemptInputs p.now K L SIG_LEN kappa }
         ensures { result
             ≡ attempt (set_of p.now) H.front self.now.matrix self.now.parts mu.now mask_seed.now kappa }
     {
@@ -45,15 +45,17 @@ impl<'a, const K: usize, const L: usize, H: Xof, G> SigningKey<'a, K, L, H, G> {
         let mut w1 = [R0; K];
         write_high_vector(p.gamma2, &w, &mut w1);
         // c_tilde = H(mu || w1Encode(w1))
-        let c_tilde = commitment_hash::<K, LAMBDA_DIV4, H>(p, mu, &w1);
+        let mut room = [0u8; 64];
+        let c_tilde = &mut room[..p.c_tilde_len()];
+        write_commitment_hash::<K, H>(p, mu, &w1, c_tilde);
         // c = SampleInBall(c_tilde)
-        let c = sample_in_ball::<H>(p.tau, &c_tilde)?;
-        Ok(self.rejection_checks(p, &y, &mut w, &mut w1, &c_tilde, &c))
+        let c = sample_in_ball::<H>(p.tau, c_tilde)?;
+        Ok(self.rejection_checks(p, &y, &mut w, &mut w1, c_tilde, &c))
     }
 }
 
-/// Writes `HighBits` of each coefficient of `w`. `gamma2` is 95232 or 261888, and coefficients are below `q` in absolute
-/// value.
+/// Writes `HighBits` of each coefficient of `w`. `gamma2` is 95232 or 261888, and coefficients are below `q` in
+/// absolute value.
 fn write_high_vector<const K: usize>(gamma2: i32, w: &[R; K], out: &mut [R; K])
     requires set { IsGamma2 gamma2 }
     requires range { VectorWithin K 8380416 w.now }

@@ -1,9 +1,10 @@
 //! The hash of what is signed (FIPS 204, Algorithms 2 to 5, 7 and 8).
 #![tactic(auto)]
 
-ghost use Rattle.std.specs.Prelude.{◌≡◌, ◌<◌, length, take, IfSome, IfNone};
+ghost use Rattle.std.specs.Prelude.{◌≡◌, take, Ok};
 ghost use Rattle.std.specs.List.{flat_map};
 ghost use Rattle.fips204.specs.Inputs.{input_of};
+ghost use Rattle.fips204.specs.Refusals.{input_fault, refused_or};
 ghost use Rattle.fips204.specs.SigningInputs.{input_hash};
 
 use crate::input::Input;
@@ -19,32 +20,40 @@ pub fn mu<H: Xof>(parts: &[&[u8]]) -> [u8; 64]
     hash::<H, 64>(parts)
 }
 
-/// The hash `mu` of an input, under the hash `tr` of the public key.
+/// Checks the conditions on an input that is signed or verified.
 ///
 /// Errors: for a message `Fault::SignCtx` if the context has more than 255 bytes. For a digest, in this order:
 /// `Fault::HashCtx` if the context has more than 255 bytes; those of `check_pre_hash`.
-pub(crate) fn mu_of<'a, H: Xof>(tr: &'a [u8; 64], input: &Input<'a>) -> Result<[u8; 64], Fault>
-    ensures { result ≡ input_hash H.front tr.now (input_of input.now) }
+pub(crate) fn check_input(input: &Input<'_>) -> Result<(), Fault>
+    ensures { result ≡ refused_or (input_fault (input_of input.now)) (Ok tt) }
 {
     match *input {
-        Input::Message(message, context) => {
-            let length = context_length(context).ok_or(Fault::SignCtx)?;
-            Ok(mu::<H>(&[tr.as_slice(), &[0, length], context, message]))
-        }
-        Input::Digest(digest, context, oid) => {
-            let length = context_length(context).ok_or(Fault::HashCtx)?;
-            check_pre_hash(digest, oid)?;
-            Ok(mu::<H>(&[tr.as_slice(), &[1, length], context, oid, digest]))
-        }
-        Input::Framed(m) => Ok(mu::<H>(&[tr.as_slice(), m])),
-        Input::Mu(mu) => Ok(*mu),
+        Input::Message(_, context) if context.len() > 255 => Err(Fault::SignCtx),
+        Input::Digest(_, context, _) if context.len() > 255 => Err(Fault::HashCtx),
+        Input::Digest(digest, _, oid) => check_pre_hash(digest, oid),
+        _ => Ok(()),
     }
 }
 
-/// The byte of a context's length, which a context of at most 255 bytes has.
-fn context_length(ctx: &[u8]) -> Option<u8>
-    ensures short { IfSome result (λ size. size ≡ length ctx.now) }
-    ensures long { IfNone result (255 < length ctx.now) }
+/// The hash `mu` of an input, under the hash `tr` of the public key. Errors are those of `check_input`.
+pub(crate) fn mu_of<'a, H: Xof>(tr: &'a [u8; 64], input: &Input<'a>) -> Result<[u8; 64], Fault>
+    ensures { result ≡ input_hash H.front tr.now (input_of input.now) }
 {
-    u8::try_from(ctx.len()).ok()
+    check_input(input)?;
+    Ok(match *input {
+        Input::Message(message, context) => {
+            mu::<H>(&[tr.as_slice(), &[0, context.len() as u8], context, message])
+        }
+        Input::Digest(digest, context, oid) => {
+            mu::<H>(&[
+                tr.as_slice(),
+                &[1, context.len() as u8],
+                context,
+                oid,
+                digest,
+            ])
+        }
+        Input::Framed(m) => mu::<H>(&[tr.as_slice(), m]),
+        Input::Mu(mu) => *mu,
+    })
 }

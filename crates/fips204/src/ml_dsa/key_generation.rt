@@ -2,7 +2,8 @@
 #![tactic(auto)]
 
 ghost use Rattle.std.specs.Prelude.{◌≡◌, ◌≤◌, ◌<◌, ◌+◌, ◌*◌, ◌%◌, pos, nat_abs, take, drop, IfOk};
-ghost use Rattle.fips204_base.specs.Vectors.{IsVector, vector_of};
+ghost use Rattle.fips204_base.specs.Transforms.{plus};
+ghost use Rattle.fips204_base.specs.Vectors.{IsVector, MatrixWithin, vector_coefficients, vector_of};
 ghost use Rattle.fips204_base.specs.SamplerSteps.{OnSampled};
 ghost use Rattle.fips204_base.specs.Bounds.{IsResidueVector, VectorWithin};
 ghost use Rattle.fips204_base.specs.Residues.{residue};
@@ -12,14 +13,14 @@ ghost use Rattle.fips204.specs.Refusals.{generated, derived, Draws};
 ghost use Rattle.fips204.specs.Sets.{set_of};
 
 use crate::traits::{CryptoRngCore, draw};
-use crate::types::{Params, PrivateKey, PublicKey, R, R0};
+use crate::types::{Params, PrivateKey, PublicKey, R, R0, T};
 use fips204_base::Fault;
 use fips204_base::encodings::pk_encode;
 use fips204_base::hashing::write_expanded_s;
 use fips204_base::helpers::full_reduce32;
 use fips204_base::high_low::write_power2round;
 use fips204_base::maps::write_zip_vectors;
-use fips204_base::product::{Transforms, write_sampled_product};
+use fips204_base::product::{Transforms, write_matrix_product, write_sampled_product};
 use fips204_base::xof::{Xof, hash};
 use std::marker::PhantomData;
 
@@ -111,6 +112,29 @@ pub(super) fn write_key_parts<const K: usize, const L: usize, G: Xof>(
     Ok(())
 }
 
+/// Writes the high part of `A s1 + s2` with the matrix at hand. Coefficients of `s1` and `s2` are in `[-eta, eta]`, and
+/// `K` and `L` are those of the set.
+pub(crate) fn write_high_part<const K: usize, const L: usize>(
+    p: &Params,
+    a_hat: &[[T; L]; K],
+    s1: &[R; L],
+    s2: &[R; K],
+    t1: &mut [R; K],
+)
+    requires rows { K ≡ p.now.k }
+    requires columns { L ≡ p.now.l }
+    requires matrix { MatrixWithin 8380416 a_hat.now }
+    requires first { IsVector L (nat_abs p.now.eta) (nat_abs p.now.eta) s1.now }
+    requires second { IsVector K (nat_abs p.now.eta) (nat_abs p.now.eta) s2.now }
+    ensures value { t1.new ≡ high_part (set_of p.now) a_hat.now s1.now s2.now }
+    ensures range { IsVector K 0 1023 t1.new }
+{
+    let mut t = [R0; K];
+    write_matrix_product(a_hat, s1, &mut t);
+    write_sum(&mut t, s2);
+    write_power2round(&mut t, t1);
+}
+
 /// Writes `t = A s1 + s2` (Algorithm 6, lines 3 and 5) for the matrix of `rho`, with coefficients from 0 to
 /// `q - 1`. Those of `s1` and `s2` are below `q` in absolute value, and `K` and `L` are those of a set. Refuses
 /// with `Fault::SamplingLimit` where the matrix passes its limit.
@@ -132,15 +156,26 @@ fn write_key_vector<const K: usize, const L: usize, G: Xof>(
     let mut product = Transforms::zeros();
     write_sampled_product::<K, L, G>(rho, &s1_hat, &mut product)?;
     product.write_plain(t);
+    write_sum(t, s2);
+    Ok(())
+}
+
+/// Adds `v` to `t`, with results from 0 to `q - 1`. Coefficients of both are below `q` in absolute value.
+fn write_sum<const K: usize>(t: &mut [R; K], v: &[R; K])
+    requires first { VectorWithin K 8380416 t.old }
+    requires second { VectorWithin K 8380416 v.now }
+    ensures values { t.new ≡ vector_of K (λ r n.
+        pos (plus (vector_coefficients t.old r) (vector_coefficients v.now r) n)) }
+    ensures range { IsResidueVector K t.new }
+{
     write_zip_vectors(
         t,
-        s2,
+        v,
         |x, y|
             requires { (nat_abs x ≤ 8380416) × (nat_abs y ≤ 8380416) }
             ensures { result ≡ pos ((residue x + residue y) % 8380417) }
         { full_reduce32(x + y) },
     );
-    Ok(())
 }
 
 /// `ML-DSA.KeyGen` (Algorithm 1): a key pair from 32 bytes of the generator, which is asked once.
@@ -157,7 +192,8 @@ pub fn key_gen<
     requires rows { K ≡ p.now.k }
     requires columns { L ≡ p.now.l }
     requires size { PK_LEN ≡ public_key_length (set_of p.now) }
-    ensures { Draws R.gives R.refuses rng.old rng.new Fault.KeyGenRng (generated (set_of p.now) H.front G.front) result }
+    ensures { Draws R.gives R.refuses rng.old rng.new Fault.KeyGenRng
+        (generated (set_of p.now) H.front G.front) result }
 {
     key_gen_internal::<K, L, PK_LEN, H, G>(p, &draw(rng, Fault::KeyGenRng)?)
 }

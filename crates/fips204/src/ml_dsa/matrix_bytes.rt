@@ -1,13 +1,15 @@
 //! The matrix of a prepared key as bytes: its values row by row, each a word of 32 bits, the lowest byte first.
 #![tactic(auto)]
 
-ghost use Rattle.std.specs.Prelude.{◌≡◌, ◌<◌, ◌≤◌, ◌+◌, ◌*◌, List, length, take, drop, MatchOption};
+ghost use Rattle.std.specs.Prelude.{◌≡◌, ◌<◌, ◌≤◌, ◌+◌, ◌*◌, ℕ, List, length, take, drop, MatchOption};
 ghost use Rattle.std.specs.Int.{w32, to_le_bytes};
 ghost use Rattle.fips204_base.specs.declared.types.T.{T};
+ghost use Rattle.fips204_base.specs.Vectors.{matrix_product, vector_coefficients};
 ghost use Rattle.fips204.specs.PreparedBytes.{entry_bytes, row_bytes, matrix_bytes, IsEntry, IsRow, IsMatrix};
 
-use crate::types::T;
+use crate::types::{T, T0};
 use fips204_base::Q;
+use fips204_base::product::Transforms;
 
 /// Writes a matrix, 1024 bytes for each entry.
 pub(crate) fn write_matrix<const K: usize, const L: usize>(a: &[[T; L]; K], out: &mut [u8])
@@ -59,6 +61,45 @@ pub(crate) fn read_matrix<const K: usize, const L: usize>(
     for r in 0..K {
         let at = size * r;
         read_row(&bytes[at..at + size], &mut a[r])?;
+    }
+    Some(())
+}
+
+/// Writes `A v` for the matrix that has these bytes, with one row of it at a time, or answers `None` where a value is
+/// `q` or more; `out` may then have been written in part.
+pub(crate) fn write_read_product<const K: usize, const L: usize>(
+    bytes: &[u8],
+    v: &Transforms,
+    out: &mut Transforms,
+) -> Option<()>
+    requires few { (K ≤ 8) × (L ≤ 7) }
+    requires size { length bytes.now ≡ 1024 * L * K }
+    ensures { MatchOption result ((b : List (List T)) → IsMatrix K L b → matrix_bytes b ≡ bytes.now → ⊥)
+        (λ _. (a : List (List T)) × IsMatrix K L a × (matrix_bytes a ≡ bytes.now) × ((r n : ℕ) → r < K → n < 256
+        → vector_coefficients out.new r n ≡ matrix_product L a (vector_coefficients v.now) r n)) }
+{
+    let mut row = [T0; L];
+    let size = 1024 * L;
+    for r in 0..K {
+        let at = size * r;
+        read_row(&bytes[at..at + size], &mut row)?;
+        out.write_row_product(r, &row, v);
+    }
+    Some(())
+}
+
+/// Does nothing where a matrix has these bytes, or answers `None` where a value is `q` or more.
+pub(crate) fn check_matrix<const K: usize, const L: usize>(bytes: &[u8]) -> Option<()>
+    requires few { (K ≤ 8) × (L ≤ 7) }
+    requires size { length bytes.now ≡ 1024 * L * K }
+    ensures { MatchOption result ((b : List (List T)) → IsMatrix K L b → matrix_bytes b ≡ bytes.now → ⊥)
+        (λ _. (a : List (List T)) × IsMatrix K L a × (matrix_bytes a ≡ bytes.now)) }
+{
+    let mut row = [T0; L];
+    let size = 1024 * L;
+    for r in 0..K {
+        let at = size * r;
+        read_row(&bytes[at..at + size], &mut row)?;
     }
     Some(())
 }

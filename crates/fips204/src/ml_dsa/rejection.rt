@@ -1,65 +1,65 @@
 //! The rejection checks of an attempt of signing (FIPS 204, Algorithm 7, lines 18 to 32).
 #![tactic(auto)]
 
-ghost use Rattle.std.specs.Prelude.{◌≡◌, ◌<◌, ◌≤◌, ◌+◌, ◌-◌, ◌*◌, ◌%◌, ℕ, List, pos, nat_abs, nat_lt, Ok, Some, length};
-ghost use Rattle.fips204_base.specs.declared.types.R.{R};
-ghost use Rattle.fips204_base.specs.PlainTransforms.{AreSameModQ};
+ghost use Rattle.std.specs.Prelude.{◌≡◌, ◌<◌, ◌≤◌, ◌+◌, ◌-◌, ◌*◌, ◌%◌, ℕ, pos, nat_abs, nat_lt, Ok, Some, length};
 ghost use Rattle.fips204_base.specs.Residues.{centred, vector_norm, residue};
 ghost use Rattle.fips204_base.specs.Encodings.{all_ones};
 ghost use Rattle.fips204_base.specs.Vectors.{vector_coefficients, vector_of};
 ghost use Rattle.fips204_base.specs.Bounds.{VectorWithin};
 ghost use Rattle.fips204_base.specs.Transforms.{minus, plus};
 ghost use Rattle.fips204_base.specs.Rounding.{IsGamma2, low_bits};
-ghost use Rattle.fips204.specs.SigningInputs.{AreCheckInputs, IsFactorOf, hint_bit, checked_attempt, multiple};
+ghost use Rattle.fips204.specs.SigningInputs.{AreCheckInputs, hint_bit, checked_attempt};
 ghost use Rattle.fips204.specs.Sets.{set_of};
 
 use super::signing::SigningKey;
-use crate::types::{KeyTransforms, Params, R, R0};
-use fips204_base::encodings::sig_encode;
+use crate::types::{Params, R, R0};
+use fips204_base::encodings::write_signature;
 use fips204_base::helpers::{center_mod, difference, infinity_norm};
 use fips204_base::high_low::{low_bits, make_hint};
 use fips204_base::maps::write_zip_vectors;
-use fips204_base::product::{Factor, Transforms};
+use fips204_base::product::{Factor, Products};
 
 impl<'a, const K: usize, const L: usize, H, G> SigningKey<'a, K, L, H, G> {
     /// The signature of an attempt with mask `y`, `w = A y`, `c_tilde` and challenge, or `None` where one of the
     /// checks rejects it.
     ///
     /// Coefficients of `y` are in `[1 - gamma1, gamma1]`, those of `w` and `c` below `q` in absolute value.
-    /// `K` and `L` are those of the set, and `LAMBDA_DIV4` and `SIG_LEN` its lengths. Uses `w` and `rows` up, so that no
-    /// further vector is in the stack.
-    pub(crate) fn rejection_checks<const LAMBDA_DIV4: usize, const SIG_LEN: usize>(
+    /// `K`, `L`, `SIG_LEN` and the length of `c_tilde` are those of the set. Uses `w` and `rows` up, so that no
+    /// further vector is in the stack. Not inlined, so that what it needs leaves the stack before the next attempt.
+    #[inline(never)]
+    pub(crate) fn rejection_checks<const SIG_LEN: usize>(
         &self,
         p: &Params,
         y: &[R; L],
         w: &mut [R; K],
         rows: &mut [R; K],
-        c_tilde: &[u8; LAMBDA_DIV4],
+        c_tilde: &[u8],
         c: &R,
     ) -> Option<[u8; SIG_LEN]>
-        requires inputs { AreCheckInputs p.now K L LAMBDA_DIV4 SIG_LEN y.now w.old c.now }
+        requires inputs { AreCheckInputs p.now K L SIG_LEN c_tilde.now y.now w.old c.now }
         ensures { Ok result
             ≡ checked_attempt (set_of p.now) self.now.parts y.now (vector_coefficients w.old) c_tilde.now (Some c.now) }
     {
         // c_hat = NTT(c)
         let c_hat = Factor::of(c);
-        let mut room = Transforms::zeros();
+        let key = self.transforms;
+        let mut products = Products::of(&c_hat, &key.s1_hat, &key.s2_hat);
         // z = y + c s1, with a norm below gamma1 - beta
         let mut z = [R0; L];
-        write_first_product(&c_hat, self.transforms, &mut room, &mut z, rows);
+        products.write_first(&mut z);
         write_centred_sum(&mut z, y);
         if !has_norm_below(&z, p.z_bound()) {
             return None;
         }
         // r0 = LowBits(w - c s2), with a norm below gamma2 - beta
-        write_second_product::<K, L>(&c_hat, &self.transforms.s2_hat, &mut room, rows);
+        products.write_second(rows);
         write_difference(w, rows);
         write_low_vector(p.gamma2, w, rows);
         if !has_norm_below(rows, p.r0_bound()) {
             return None;
         }
         // c t0, with a norm below gamma2
-        write_product(&c_hat, &self.transforms.t0_hat, &mut room, rows);
+        products.write_other(&key.t0_hat, rows);
         if !has_norm_below(rows, p.gamma2 as u32) {
             return None;
         }
@@ -69,70 +69,10 @@ impl<'a, const K: usize, const L: usize, H, G> SigningKey<'a, K, L, H, G> {
             return None;
         }
         // sigEncode(c_tilde, z, h)
-        Some(sig_encode(p.gamma1, p.omega, c_tilde, &z, rows))
+        let mut signature = [0u8; SIG_LEN];
+        write_signature(p.gamma1, p.omega, c_tilde, &z, rows, &mut signature);
+        Some(signature)
     }
-}
-
-/// Writes `c s1` into `z`. Where both vectors of the key have four polynomials at most, one run of the network makes `c s2` too,
-/// which `rows` has then. Uses `room` up.
-#[inline(always)]
-fn write_first_product<const K: usize, const L: usize>(
-    c_hat: &Factor,
-    key: &KeyTransforms,
-    room: &mut Transforms,
-    z: &mut [R; L],
-    rows: &mut [R; K],
-)
-    requires { L ≤ 7 }
-    ensures value { (c : R) (v : List R) → IsFactorOf c_hat.now c → AreSameModQ L key.now.s1_hat v → z.new ≡ multiple L c v }
-    ensures range { VectorWithin L 8380416 z.new }
-    ensures second { (c : R) (v : List R) → K ≤ 4 → L ≤ 4 → IsFactorOf c_hat.now c → AreSameModQ K key.now.s2_hat v
-        → rows.new ≡ multiple K c v }
-    ensures second_range { K ≤ 4 → L ≤ 4 → VectorWithin K 8380416 rows.new }
-{
-    if K > 4 || L > 4 {
-        write_product(c_hat, &key.s1_hat, room, z);
-    } else {
-        room.write_multiples_of_two(c_hat, &key.s1_hat, &key.s2_hat);
-        room.write_plain_of_two(z, rows);
-    }
-}
-
-/// Writes `c s2` into `rows`, after `write_first_product`: where that has written it, it stays. Uses `room` up.
-#[inline(always)]
-fn write_second_product<const K: usize, const L: usize>(
-    c_hat: &Factor,
-    s2_hat: &Transforms,
-    room: &mut Transforms,
-    rows: &mut [R; K],
-)
-    requires few { K ≤ 8 }
-    requires there { (c : R) (v : List R) → K ≤ 4 → L ≤ 4 → IsFactorOf c_hat.now c → AreSameModQ K s2_hat.now v
-        → rows.old ≡ multiple K c v }
-    requires there_range { K ≤ 4 → L ≤ 4 → VectorWithin K 8380416 rows.old }
-    ensures value { (c : R) (v : List R) → IsFactorOf c_hat.now c → AreSameModQ K s2_hat.now v → rows.new ≡ multiple K c v }
-    ensures range { VectorWithin K 8380416 rows.new }
-{
-    if K > 4 || L > 4 {
-        write_product(c_hat, s2_hat, room, rows);
-    }
-}
-
-/// Writes `c v`, with coefficients from 0 to `q - 1`: `c_hat` and `v_hat` are what `c` and `v` are multiplied as.
-/// Uses `room` up.
-#[inline(always)]
-fn write_product<const N: usize>(
-    c_hat: &Factor,
-    v_hat: &Transforms,
-    room: &mut Transforms,
-    out: &mut [R; N],
-)
-    requires { N ≤ 8 }
-    ensures value { (c : R) (v : List R) → IsFactorOf c_hat.now c → AreSameModQ N v_hat.now v → out.new ≡ multiple N c v }
-    ensures range { VectorWithin N 8380416 out.new }
-{
-    room.write_multiple(c_hat, v_hat);
-    room.write_plain(out);
 }
 
 /// Whether the norm of a vector of at least one polynomial is below an exclusive bound. Coefficients are

@@ -4,10 +4,14 @@
 ghost use Rattle.std.specs.Prelude.{◌≡◌, ◌≤◌};
 ghost use Rattle.fips204.specs.Completeness.{AcceptedIfWholePlain};
 ghost use Rattle.fips204.specs.Framing.{represented};
+ghost use Rattle.fips204.specs.Inputs.{input_of};
+ghost use Rattle.fips204.specs.Prepared.{sign_prepared};
 ghost use Rattle.fips204.specs.SigningInputs.{AreKeyTransforms};
 ghost use Rattle.fips204.specs.Sets.{HasSizes, set_of};
 ghost use Rattle.fips204.specs.Signing.{sign, sign_with};
 
+use super::framing::mu_of;
+use crate::input::Input;
 use crate::types::{KeyTransforms, Params, PrivateKey, T, T0};
 use fips204_base::Fault;
 use fips204_base::hashing::write_expanded_a;
@@ -43,22 +47,15 @@ impl<'a, const K: usize, const L: usize, H, G> Model for SigningKey<'a, K, L, H,
 /// Errors: `Fault::SamplingLimit` if the matrix, or the challenge of an attempt before any that signs,
 /// reaches its limit; `Fault::TooManyAttempts` if all attempts are rejected.
 ///
-/// `K` and `L` are those of the set, and `LAMBDA_DIV4` and `SIG_LEN` its lengths.
+/// `K`, `L` and `SIG_LEN` are those of the set.
 #[tactic(auto, using(crate::proofs::ParameterSets::matrix_room))]
-pub fn sign_internal<
-    const K: usize,
-    const L: usize,
-    const LAMBDA_DIV4: usize,
-    const SIG_LEN: usize,
-    H: Xof,
-    G: Xof,
->(
+pub fn sign_internal<const K: usize, const L: usize, const SIG_LEN: usize, H: Xof, G: Xof>(
     p: &Params,
     sk: &PrivateKey<K, L, H, G>,
     mu: &[u8; 64],
     rnd: &[u8; 32],
 ) -> Result<[u8; SIG_LEN], Fault>
-    requires sizes { HasSizes (set_of p.now) K L LAMBDA_DIV4 SIG_LEN }
+    requires sizes { HasSizes (set_of p.now) K L SIG_LEN }
     ensures answer { result ≡ sign (set_of p.now) H.front G.front sk.now mu.now rnd.now }
     ensures accepted { AcceptedIfWholePlain (set_of p.now) H.front G.front sk.now (represented mu.now) result }
 {
@@ -73,7 +70,7 @@ pub fn sign_internal<
         a_hat: &a_hat,
         transforms: &transforms,
     };
-    key.sign_with::<LAMBDA_DIV4, SIG_LEN>(p, mu, rnd)
+    key.sign_with::<SIG_LEN>(p, mu, rnd)
 }
 
 impl<const K: usize, const L: usize, H, G> PrivateKey<K, L, H, G> {
@@ -89,14 +86,31 @@ impl<const K: usize, const L: usize, H, G> PrivateKey<K, L, H, G> {
 }
 
 impl<'a, const K: usize, const L: usize, H: Xof, G> SigningKey<'a, K, L, H, G> {
+    /// Signs an input with the random bytes `rnd`.
+    ///
+    /// Errors: those of the input; then those of `sign_with`.
+    pub(crate) fn sign_input<const SIG_LEN: usize>(
+        &self,
+        p: &Params,
+        input: &Input<'_>,
+        rnd: &[u8; 32],
+    ) -> Result<[u8; SIG_LEN], Fault>
+        requires sizes { HasSizes (set_of p.now) K L SIG_LEN }
+        ensures { result ≡ sign_prepared (set_of p.now) H.front self.now rnd.now (input_of input.now) }
+    {
+        let key = self.key;
+        let mu = mu_of::<H>(&key.tr, input)?;
+        self.sign_with::<SIG_LEN>(p, &mu, rnd)
+    }
+
     /// `sign_internal` with the matrix at hand (lines 7 to 33).
-    pub(crate) fn sign_with<const LAMBDA_DIV4: usize, const SIG_LEN: usize>(
+    pub(crate) fn sign_with<const SIG_LEN: usize>(
         &self,
         p: &Params,
         mu: &[u8; 64],
         rnd: &[u8; 32],
     ) -> Result<[u8; SIG_LEN], Fault>
-        requires sizes { HasSizes (set_of p.now) K L LAMBDA_DIV4 SIG_LEN }
+        requires sizes { HasSizes (set_of p.now) K L SIG_LEN }
         ensures { result ≡ sign_with (set_of p.now) H.front self.now.matrix self.now.parts mu.now rnd.now }
     {
         // rho'' = H(K || rnd || mu)
@@ -105,9 +119,7 @@ impl<'a, const K: usize, const L: usize, H: Xof, G> SigningKey<'a, K, L, H, G> {
         for n in 0..MAX_SIGN_ATTEMPTS {
             // kappa = n l
             let kappa = n * L as u16;
-            if let Some(signature) = self.attempt::<LAMBDA_DIV4, SIG_LEN>(
-                p, mu, &mask_seed, kappa,
-            )? {
+            if let Some(signature) = self.attempt::<SIG_LEN>(p, mu, &mask_seed, kappa)? {
                 return Ok(signature);
             }
         }

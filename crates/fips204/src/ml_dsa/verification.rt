@@ -1,7 +1,8 @@
 //! Verifying a signature (FIPS 204, Algorithm 8).
 #![tactic(auto)]
 
-ghost use Rattle.std.specs.Prelude.{◌≡◌, ◌≤◌, ◌<◌, ◌⊎◌, ◌-◌, ◌*◌, ◌%◌, ◌≤ℤ◌, ◌↔◌, ℕ, List, pos, nat_abs, IsTrue, int_lt, IfSome, MatchOption};
+ghost use Rattle.std.specs.Prelude.{◌≡◌, ◌≤◌, ◌<◌, ◌⊎◌, ◌-◌, ◌*◌, ◌%◌, ◌≤ℤ◌, ◌↔◌, ℕ, List, pos, nat_abs, IsTrue};
+ghost use Rattle.std.specs.Prelude.{int_lt, IfSome, MatchOption, length};
 ghost use Rattle.std.specs.List.{All};
 ghost use Rattle.fips204_base.specs.Vectors.{IsVector, vector_coefficients};
 ghost use Rattle.fips204_base.specs.Bounds.{PolynomialWithin, VectorWithin, PolynomialInRange};
@@ -10,13 +11,15 @@ ghost use Rattle.fips204_base.specs.Residues.{residue, coefficients};
 ghost use Rattle.fips204_base.specs.Transforms.{minus, product};
 ghost use Rattle.fips204_base.specs.Rounding.{IsGamma2, high_count, use_hint};
 ghost use Rattle.fips204_base.specs.declared.types.R.{R};
+ghost use Rattle.fips204_base.specs.declared.types.T.{T};
 ghost use Rattle.fips204.specs.Acceptance.{Accepts, Verifies};
-ghost use Rattle.fips204.specs.ParameterSets.{c_tilde_length};
+ghost use Rattle.fips204.specs.PreparedBytes.{IsMatrix, matrix_bytes};
 ghost use Rattle.fips204.specs.Signing.{commitment_hash};
-ghost use Rattle.fips204.specs.SigningInputs.{IsFactorOf, IsHighPart, hinted, AreShifted, AreShiftedFromFour, OpensTo};
+ghost use Rattle.fips204.specs.SigningInputs.{IsFactorOf, IsHighPart, hinted, AreShifted, OpensTo};
 ghost use Rattle.fips204.specs.Sets.{HasSizes, set_of};
 
-use super::commitment_hash::commitment_hash;
+use super::commitment_hash::write_commitment_hash;
+use super::matrix_bytes::{check_matrix, write_read_product};
 use super::rejection::has_norm_below;
 use crate::types::{Params, PreparedPublicKey, PublicKey, R, R0};
 use fips204_base::D;
@@ -29,53 +32,51 @@ use fips204_base::xof::Xof;
 
 /// `ML-DSA.Verify_internal` (Algorithm 8) from `mu`: returns true if and only if the signature is accepted.
 ///
-/// `K` and `L` are those of the set, and `LAMBDA_DIV4` and `SIG_LEN` its lengths.
-pub fn verify_internal<
-    const K: usize,
-    const L: usize,
-    const LAMBDA_DIV4: usize,
-    const SIG_LEN: usize,
-    H: Xof,
-    G: Xof,
->(p: &Params, pk: &PublicKey<K, L, H, G>, mu: &[u8; 64], sig: &[u8; SIG_LEN]) -> bool
-    requires sizes { HasSizes (set_of p.now) K L LAMBDA_DIV4 SIG_LEN }
+/// `K`, `L` and `SIG_LEN` are those of the set.
+pub fn verify_internal<const K: usize, const L: usize, const SIG_LEN: usize, H: Xof, G: Xof>(
+    p: &Params,
+    pk: &PublicKey<K, L, H, G>,
+    mu: &[u8; 64],
+    sig: &[u8; SIG_LEN],
+) -> bool
+    requires sizes { HasSizes (set_of p.now) K L SIG_LEN }
     ensures { IsTrue result ↔ Verifies (set_of p.now) H.front G.front pk.now mu.now sig.now }
 {
     let mut z = [R0; L];
     let mut h = [R0; K];
-    let Some(parts) = open_signature::<K, L, LAMBDA_DIV4, SIG_LEN, H>(p, sig, &mut z, &mut h) else {
+    let Some(parts) = open_signature::<K, L, H>(p, sig, &mut z, &mut h) else {
         return false;
     };
     let (c_tilde, c) = parts;
     // NTT(c), NTT(z)
-    let mut v_hat = Transforms::zeros();
-    let c_hat = write_first_transforms(&z, &c, &pk.t1, &mut v_hat);
+    let mut z_hat = Transforms::zeros();
+    let c_hat = z_hat.write_transforms_and_factor(&z, &c);
     // A = ExpandA(rho), A z
     let mut az = Transforms::zeros();
-    match write_sampled_product::<K, L, G>(&pk.rho, &v_hat, &mut az) {
+    match write_sampled_product::<K, L, G>(&pk.rho, &z_hat, &mut az) {
         Err(_) => false,
         Ok(()) => {
-            // t1 2^d, in the place of z
-            put_shifted_first::<K, L>(&pk.t1, &mut v_hat);
-            is_committed::<K, LAMBDA_DIV4, H>(p, mu, &c_tilde, &h, &c_hat, &mut az, &v_hat)
+            // NTT(t1 2^d), in the place of NTT(z)
+            let t1_hat = &mut z_hat;
+            write_shifted_transforms(&pk.t1, t1_hat);
+            is_committed::<K, H>(p, mu, c_tilde, &h, &c_hat, &mut az, t1_hat)
         }
     }
 }
 
 /// `verify_internal` with the matrix of a prepared key.
-pub(crate) fn verify_prepared<
-    const K: usize,
-    const L: usize,
-    const LAMBDA_DIV4: usize,
-    const SIG_LEN: usize,
-    H: Xof,
->(p: &Params, pk: &PreparedPublicKey<K, L, H>, mu: &[u8; 64], sig: &[u8; SIG_LEN]) -> bool
-    requires sizes { HasSizes (set_of p.now) K L LAMBDA_DIV4 SIG_LEN }
+pub(crate) fn verify_prepared<const K: usize, const L: usize, H: Xof>(
+    p: &Params,
+    pk: &PreparedPublicKey<K, L, H>,
+    mu: &[u8; 64],
+    sig: &[u8],
+) -> bool
+    requires sizes { HasSizes (set_of p.now) K L (length sig.now) }
     ensures { IsTrue result ↔ Accepts (set_of p.now) H.front pk.now.matrix pk.now.parts.t1 mu.now sig.now }
 {
     let mut z = [R0; L];
     let mut h = [R0; K];
-    let Some(parts) = open_signature::<K, L, LAMBDA_DIV4, SIG_LEN, H>(p, sig, &mut z, &mut h) else {
+    let Some(parts) = open_signature::<K, L, H>(p, sig, &mut z, &mut h) else {
         return false;
     };
     let (c_tilde, c) = parts;
@@ -83,25 +84,61 @@ pub(crate) fn verify_prepared<
     let mut az = Transforms::zeros();
     let c_hat = az.write_transforms_and_factor(&z, &c);
     az.multiply_by(&pk.a_hat);
-    is_committed::<K, LAMBDA_DIV4, H>(p, mu, &c_tilde, &h, &c_hat, &mut az, &pk.t1_hat)
+    is_committed::<K, H>(p, mu, c_tilde, &h, &c_hat, &mut az, &pk.t1_hat)
+}
+
+/// `verify_prepared` with the matrix that has these bytes, or `None` where a value is `q` or more. The matrix is read
+/// row by row.
+pub(crate) fn verify_by_bytes<const K: usize, const L: usize, H: Xof>(
+    p: &Params,
+    t1: &[R; K],
+    matrix: &[u8],
+    mu: &[u8; 64],
+    sig: &[u8],
+) -> Option<bool>
+    requires sizes { HasSizes (set_of p.now) K L (length sig.now) }
+    requires part { IsHighPart K t1.now }
+    requires room { length matrix.now ≡ 1024 * L * K }
+    ensures { MatchOption result ((b : List (List T)) → IsMatrix K L b → matrix_bytes b ≡ matrix.now → ⊥)
+        (λ yes. (a : List (List T)) × IsMatrix K L a × (matrix_bytes a ≡ matrix.now)
+        × (IsTrue yes ↔ Accepts (set_of p.now) H.front a t1.now mu.now sig.now)) }
+{
+    let mut z = [R0; L];
+    let mut h = [R0; K];
+    let Some(parts) = open_signature::<K, L, H>(p, sig, &mut z, &mut h) else {
+        check_matrix::<K, L>(matrix)?;
+        return Some(false);
+    };
+    let (c_tilde, c) = parts;
+    // NTT(c), NTT(z)
+    let mut z_hat = Transforms::zeros();
+    let c_hat = z_hat.write_transforms_and_factor(&z, &c);
+    // A z
+    let mut az = Transforms::zeros();
+    write_read_product::<K, L>(matrix, &z_hat, &mut az)?;
+    // NTT(t1 2^d), in the place of NTT(z)
+    let t1_hat = &mut z_hat;
+    write_shifted_transforms(t1, t1_hat);
+    Some(is_committed::<K, H>(p, mu, c_tilde, &h, &c_hat, &mut az, t1_hat))
 }
 
 /// Whether `c_tilde` commits to `mu` and `w1' = UseHint(h, A z - c t1 2^d)` (lines 9 to 13). Uses `A z` up.
 ///
-/// `c_hat` and `t1_hat` are what `c` and `t1 2^d` are multiplied as. Coefficients of `h` are 0 or 1, and `K` is that of the set.
-fn is_committed<const K: usize, const LAMBDA_DIV4: usize, H: Xof>(
+/// `c_hat` and `t1_hat` are what `c` and `t1 2^d` are multiplied as. Coefficients of `h` are 0 or 1, and `K` is that of
+/// the set.
+fn is_committed<const K: usize, H: Xof>(
     p: &Params,
     mu: &[u8; 64],
-    c_tilde: &[u8; LAMBDA_DIV4],
+    c_tilde: &[u8],
     h: &[R; K],
     c_hat: &Factor,
     az: &mut Transforms,
     t1_hat: &Transforms,
 ) -> bool
     requires rows { K ≡ p.now.k }
-    requires size { LAMBDA_DIV4 ≡ c_tilde_length (set_of p.now) }
     requires hint { IsVector K 0 1 h.now }
-    ensures { (c : R) → IsFactorOf c_hat.now c → (IsTrue result ↔ (c_tilde.now ≡ commitment_hash (set_of p.now) H.front mu.now
+    ensures { (c : R) → IsFactorOf c_hat.now c → (IsTrue result
+        ↔ (c_tilde.now ≡ commitment_hash (set_of p.now) H.front mu.now
         (hinted (set_of p.now) h.now (λ r. minus (vector_coefficients az.old r)
         (product (coefficients c.0) (vector_coefficients t1_hat.now r)))))) }
 {
@@ -112,39 +149,39 @@ fn is_committed<const K: usize, const LAMBDA_DIV4: usize, H: Xof>(
     // w1' = UseHint(h, w'_approx)
     write_hinted(p, h, &mut w);
     // c_tilde = H(mu || w1Encode(w1'))
-    *c_tilde == commitment_hash::<K, LAMBDA_DIV4, H>(p, mu, &w)
+    let mut room = [0u8; 64];
+    let recomputed = &mut room[..p.c_tilde_len()];
+    write_commitment_hash::<K, H>(p, mu, &w, recomputed);
+    *c_tilde == *recomputed
 }
 
-/// Writes the vectors `z` and `h` that a signature opens to (lines 2 to 8), and returns its `c_tilde` and challenge, or `None`
-/// where its last bytes spell no hint, the norm of `z` is not below gamma1 - beta, or the challenge passes its limit.
-/// Coefficients of `z` and of the challenge are below `q` in absolute value.
+/// Writes the vectors `z` and `h` that a signature opens to (lines 2 to 8), and returns its `c_tilde` and challenge, or
+/// `None` where its last bytes spell no hint, the norm of `z` is not below gamma1 - beta, or the challenge passes its
+/// limit. Coefficients of `z` and of the challenge are below `q` in absolute value.
 ///
 /// Not inlined, so that what decoding needs leaves the stack before the parts are used.
 #[inline(never)]
-fn open_signature<
-    const K: usize,
-    const L: usize,
-    const LAMBDA_DIV4: usize,
-    const SIG_LEN: usize,
-    H: Xof,
->(p: &Params, sig: &[u8; SIG_LEN], z: &mut [R; L], h: &mut [R; K]) -> Option<([u8; LAMBDA_DIV4], R)>
-    requires sizes { HasSizes (set_of p.now) K L LAMBDA_DIV4 SIG_LEN }
+fn open_signature<'a, const K: usize, const L: usize, H: Xof>(
+    p: &Params,
+    sig: &'a [u8],
+    z: &mut [R; L],
+    h: &mut [R; K],
+) -> Option<(&'a [u8], R)>
+    requires sizes { HasSizes (set_of p.now) K L (length sig.now) }
     ensures within { IfSome result (λ parts. ((K ≤ 8) × (L ≤ 7))
         × VectorWithin L 8380416 z.new × PolynomialWithin 8380416 parts.1.0) }
     ensures parts { MatchOption result
         ((c_tilde : List ℕ) (z h : List R) (c : R) → OpensTo (set_of p.now) H.front sig.now c_tilde z h c → ⊥)
-        (λ parts. OpensTo (set_of p.now) H.front sig.now parts.0 z.new h.new parts.1) }
+        (λ parts. OpensTo (set_of p.now) H.front sig.now parts.0.now z.new h.new parts.1) }
 {
     // (c_tilde, z, h) = sigDecode(sigma)
-    let c_tilde = write_signature_parts::<K, L, LAMBDA_DIV4, SIG_LEN>(
-        p.gamma1, p.omega, sig, z, h,
-    )?;
+    let c_tilde = write_signature_parts(p.gamma1, p.omega, p.c_tilde_len(), sig, z, h)?;
     // ||z|| < gamma1 - beta
     if !has_norm_below(z, p.z_bound()) {
         return None;
     }
     // c = SampleInBall(c_tilde)
-    match sample_in_ball::<H>(p.tau, &c_tilde) {
+    match sample_in_ball::<H>(p.tau, c_tilde) {
         Err(_) => None,
         Ok(c) => Some((c_tilde, c)),
     }
@@ -169,47 +206,6 @@ fn write_hinted<const K: usize>(p: &Params, h: &[R; K], w: &mut [R; K])
             ensures { result ≡ pos (use_hint (nat_abs gamma2) (int_lt (pos 0) h) (residue w)) }
         { use_hint(gamma2, h, w) },
     );
-}
-
-/// Writes the transforms of `z`, and returns `c` as what vectors are multiplied by. Where both vectors have four polynomials at
-/// most, one run of the network makes those of `t1 2^d` too, which come from polynomial 4 on then.
-///
-/// Coefficients of `z` and `c` are below `q` in absolute value. Not inlined, so that `t1 2^d` itself leaves the stack before
-/// they are used.
-#[inline(never)]
-fn write_first_transforms<const K: usize, const L: usize>(
-    z: &[R; L],
-    c: &R,
-    t1: &[R; K],
-    out: &mut Transforms,
-) -> Factor
-    requires few { L ≤ 7 }
-    requires z { VectorWithin L 8380416 z.now }
-    requires c { PolynomialWithin 8380416 c.now.0 }
-    requires t1 { IsHighPart K t1.now }
-    ensures z { AreSameModQ L out.new z.now }
-    ensures c { IsFactorOf result c.now }
-    ensures t1 { K ≤ 4 → L ≤ 4 → AreShiftedFromFour K t1.now out.new }
-{
-    if K > 4 || L > 4 {
-        return out.write_transforms_and_factor(z, c);
-    }
-    out.write_transforms_of_two(z, &t1_shifted(t1));
-    Factor::of(c)
-}
-
-/// Puts the transforms of `t1 2^d` in the place of those of `z`, after `write_first_transforms`.
-fn put_shifted_first<const K: usize, const L: usize>(t1: &[R; K], v: &mut Transforms)
-    requires few { K ≤ 8 }
-    requires part { IsHighPart K t1.now }
-    requires there { K ≤ 4 → L ≤ 4 → AreShiftedFromFour K t1.now v.old }
-    ensures { AreShifted K t1.now v.new }
-{
-    if K > 4 || L > 4 {
-        write_shifted_transforms(t1, v);
-    } else {
-        v.exchange_halves();
-    }
 }
 
 /// Writes the transforms of `t1 2^d`.

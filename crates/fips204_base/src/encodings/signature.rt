@@ -33,42 +33,37 @@ pub fn sig_decode<const K: usize, const L: usize, const LAMBDA_DIV4: usize, cons
 {
     let mut z = [R0; L];
     let mut h = [R0; K];
-    let c_tilde = write_signature_parts(gamma1, omega, sigma, &mut z, &mut h)?;
-    Some((c_tilde, z, h))
+    let c_tilde = write_signature_parts(gamma1, omega, LAMBDA_DIV4, sigma, &mut z, &mut h)?;
+    Some((*c_tilde.first_chunk::<LAMBDA_DIV4>().unwrap(), z, h))
 }
 
-/// `sig_decode`, with `z` and the hint written into the caller's places; where there are none, part of them may be written.
-/// Internal: serves the crate `fips204` alone.
-pub fn write_signature_parts<
-    const K: usize,
-    const L: usize,
-    const LAMBDA_DIV4: usize,
-    const SIG_LEN: usize,
->(
+/// `sig_decode` of a `c_tilde` of `size` bytes, with `z` and the hint written into the caller's places; where there are
+/// none, part of them may be written. Internal: serves the crate `fips204` alone.
+pub fn write_signature_parts<'a, const K: usize, const L: usize>(
     gamma1: i32,
     omega: i32,
-    sigma: &[u8; SIG_LEN],
+    size: usize,
+    sigma: &'a [u8],
     z: &mut [R; L],
     h: &mut [R; K],
-) -> Option<[u8; LAMBDA_DIV4]>
+) -> Option<&'a [u8]>
     requires set { IsGamma1 gamma1 }
     requires some { pos 1 ≤ℤ omega }
     requires hint_size { nat_abs omega + K < 256 }
-    requires size { SIG_LEN ≡ LAMBDA_DIV4 + 32 * width (gamma1 -ℤ pos 1) gamma1 * L + (nat_abs omega + K) }
+    requires size { length sigma.now ≡ size + 32 * width (gamma1 -ℤ pos 1) gamma1 * L + (nat_abs omega + K) }
     ensures { MatchOption result
         ((c_tilde : List ℕ) (z h : List R)
-        → IsSignature (nat_abs gamma1) (nat_abs omega) K L LAMBDA_DIV4 sigma.now c_tilde z h → ⊥)
-        (λ c_tilde. IsSignature (nat_abs gamma1) (nat_abs omega) K L LAMBDA_DIV4 sigma.now c_tilde z.new h.new) }
+        → IsSignature (nat_abs gamma1) (nat_abs omega) K L size sigma.now c_tilde z h → ⊥)
+        (λ c_tilde. IsSignature (nat_abs gamma1) (nat_abs omega) K L size sigma.now c_tilde.now z.new h.new) }
 {
-    let bytes: &[u8] = sigma;
     // line 1: (c_tilde, x, y) = sigma
-    let c_tilde = bytes.first_chunk::<LAMBDA_DIV4>().unwrap();
-    let (response, hint) = bytes[LAMBDA_DIV4..].split_at(polynomial_size(gamma1 - 1, gamma1) * L);
+    let (c_tilde, rest) = sigma.split_at(size);
+    let (response, hint) = rest.split_at(polynomial_size(gamma1 - 1, gamma1) * L);
     // line 5: h = HintBitUnpack(y)
     write_unpacked_hint(omega, hint, h)?;
     // lines 2 to 4: z[i] = BitUnpack(x_i, gamma1 - 1, gamma1)
     write_unpacked_vector(response, gamma1 - 1, gamma1, z);
-    Some(*c_tilde)
+    Some(c_tilde)
 }
 
 /// `sigEncode` (Algorithm 26): encodes a signature from its parts: `c_tilde`, then `z` with coefficients in
@@ -93,7 +88,29 @@ pub fn sig_encode<const K: usize, const L: usize, const LAMBDA_DIV4: usize, cons
     ensures { result ≡ signature_bytes (nat_abs gamma1) (nat_abs omega) c_tilde.now z.now h.now }
 {
     let mut sigma = [0u8; SIG_LEN];
-    let (challenge, rest) = sigma.split_at_mut(LAMBDA_DIV4);
+    write_signature(gamma1, omega, c_tilde, z, h, &mut sigma);
+    sigma
+}
+
+/// `sig_encode` into the caller's bytes, of a `c_tilde` of any size. Internal: serves the crate `fips204` alone.
+pub fn write_signature<const K: usize, const L: usize>(
+    gamma1: i32,
+    omega: i32,
+    c_tilde: &[u8],
+    z: &[R; L],
+    h: &[R; K],
+    sigma: &mut [u8],
+)
+    requires set { IsGamma1 gamma1 }
+    requires some { pos 1 ≤ℤ omega }
+    requires hint_size { nat_abs omega + K < 256 }
+    requires size { length sigma.old ≡ length c_tilde.now + 32 * width (gamma1 -ℤ pos 1) gamma1 * L + (nat_abs omega + K) }
+    requires range { VectorInRange (pos 0 -ℤ (gamma1 -ℤ pos 1)) gamma1 z.now }
+    requires bits { VectorInRange (pos 0) (pos 1) h.now }
+    requires few { length (all_ones h.now) ≤ nat_abs omega }
+    ensures { sigma.new ≡ signature_bytes (nat_abs gamma1) (nat_abs omega) c_tilde.now z.now h.now }
+{
+    let (challenge, rest) = sigma.split_at_mut(c_tilde.len());
     let (response, hint) = rest.split_at_mut(polynomial_size(gamma1 - 1, gamma1) * L);
     // line 1: sigma = c_tilde
     challenge.copy_from_slice(c_tilde);
@@ -101,7 +118,6 @@ pub fn sig_encode<const K: usize, const L: usize, const LAMBDA_DIV4: usize, cons
     write_packed_vector(z, gamma1 - 1, gamma1, response);
     // line 5: sigma = sigma || HintBitPack(h)
     hint_bit_pack(omega, h, hint);
-    sigma
 }
 
 /// `w1Encode` (Algorithm 28): writes the polynomials of `w1`, whose coefficients are high parts: in

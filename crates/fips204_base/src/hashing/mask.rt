@@ -1,17 +1,19 @@
 //! The mask, from the stream in the place of SHAKE256.
 #![tactic(auto)]
 
-ghost use Rattle.std.specs.Prelude.{◌≡◌, ◌≤◌, ◌+◌, ◌*◌, ◌++◌, length, min, nat_abs};
+ghost use Rattle.std.specs.Prelude.{◌≡◌, ◌≤◌, ◌<◌, ◌+◌, ◌*◌, ◌++◌, length, nat_abs, Some};
 ghost use Rattle.std.specs.Int.{w16, to_le_bytes};
 ghost use Rattle.fips204_base.specs.Bounds.{IsGamma1};
 ghost use Rattle.fips204_base.specs.Sampling.{mask};
-ghost use Rattle.fips204_base.specs.SamplerSteps.{AreMasked, mask_polynomial, mask_width};
+ghost use Rattle.fips204_base.specs.SamplerSteps.{mask_polynomial, mask_width};
 
 use crate::conversion::bit_unpack_by_range;
 use crate::encodings::polynomial_size;
+use crate::fault::Fault;
 use crate::hashing::open_numbered;
+use crate::hashing::sampler::Sampler;
 use crate::types::{R, R0};
-use crate::xof::{Xof, XofReader};
+use crate::xof::Xof;
 
 /// How many bytes a polynomial of the mask takes of its front.
 fn size_of_polynomial(gamma1: i32) -> usize
@@ -32,42 +34,38 @@ fn polynomial_of(gamma1: i32, bytes: &[u8]) -> R
     bit_unpack_by_range(bytes, gamma1 - 1, gamma1).unwrap()
 }
 
-/// Writes polynomials `r` to `r + 3` of the mask, whose bytes are read side by side, or the last three of all.
-fn write_four_polynomials<const L: usize, H: Xof>(
+/// The sampler of a mask, whose polynomials are from `rho` and a number in two bytes each.
+#[derive(Drop)]
+struct MaskPolynomials<'a> {
     gamma1: i32,
-    rho: &[u8; 64],
-    mu: u16,
-    r: usize,
-    polynomials: &mut [R; L],
-)
-    requires gamma1 { IsGamma1 gamma1 }
-    requires numbers { mu + L ≤ 65536 }
-    requires place { r + 3 ≤ L }
-    requires before { AreMasked (nat_abs gamma1) H.front rho.now mu r polynomials.old }
-    ensures size { length polynomials.new ≡ L }
-    ensures masked { AreMasked (nat_abs gamma1) H.front rho.now mu (min (r + 4) L) polynomials.new }
-{
-    let last = (r + 3).min(L - 1);
-    let mut a = open_numbered::<H>(rho, mu + r as u16);
-    let mut b = open_numbered::<H>(rho, mu + (r + 1) as u16);
-    let mut c = open_numbered::<H>(rho, mu + (r + 2) as u16);
-    let mut d = open_numbered::<H>(rho, mu + last as u16);
-    let size = size_of_polynomial(gamma1);
-    let fourth = if r + 3 < L { size } else { 0 };
-    let mut room_a = [0u8; 640];
-    let mut room_b = [0u8; 640];
-    let mut room_c = [0u8; 640];
-    let mut room_d = [0u8; 640];
-    let of_a = &mut room_a[..size];
-    let of_b = &mut room_b[..size];
-    let of_c = &mut room_c[..size];
-    let of_d = &mut room_d[..fourth];
-    H::Reader::read_four(&mut a, &mut b, &mut c, &mut d, of_a, of_b, of_c, of_d);
-    polynomials[r] = polynomial_of(gamma1, of_a);
-    polynomials[r + 1] = polynomial_of(gamma1, of_b);
-    polynomials[r + 2] = polynomial_of(gamma1, of_c);
-    if r + 3 < L {
-        polynomials[r + 3] = polynomial_of(gamma1, of_d);
+    rho: &'a [u8; 64],
+}
+
+impl<'a, H: Xof> Sampler<H> for MaskPolynomials<'a> {
+    type Value = R;
+
+    ghost is_sampler = { λ mask. IsGamma1 mask.gamma1 };
+
+    ghost has_number = { λ _ n. n < 65536 };
+
+    ghost seed = { λ mask n. mask.rho.now ++ to_le_bytes w16 n };
+
+    ghost size = { λ mask. 32 * mask_width (nat_abs mask.gamma1) };
+
+    ghost made = { λ mask front. Some (mask_polynomial (nat_abs mask.gamma1) front) };
+
+    fn size(&self) -> usize {
+        size_of_polynomial(self.gamma1)
+    }
+
+    fn open(&self, n: usize) -> H::Reader {
+        open_numbered::<H>(self.rho, n as u16)
+    }
+
+    fn write(&self, first: &[u8], _reader: &mut H::Reader, value: &mut R) -> Result<(), Fault> {
+        // v = H(rho || number, 32 c)
+        *value = polynomial_of(self.gamma1, first);
+        Ok(())
     }
 }
 
@@ -80,28 +78,7 @@ pub fn expand_mask<const L: usize, H: Xof>(gamma1: i32, rho: &[u8; 64], mu: u16)
     ensures { result ≡ mask (nat_abs gamma1) H.front rho.now L mu }
 {
     let mut polynomials = [R0; L];
-    let mut r = 0;
-    while r < L {
-        if r + 3 <= L {
-            write_four_polynomials::<L, H>(gamma1, rho, mu, r, &mut polynomials);
-            r = (r + 4).min(L);
-        } else {
-            polynomials[r] = polynomial::<H>(gamma1, rho, mu + r as u16);
-            r += 1;
-        }
-    }
+    let mask = MaskPolynomials { gamma1, rho };
+    Sampler::<H>::write_all(&mask, mu as usize, &mut polynomials).unwrap();
     polynomials
-}
-
-/// The polynomial of the mask from `rho` and `number` in two bytes.
-fn polynomial<H: Xof>(gamma1: i32, rho: &[u8; 64], number: u16) -> R
-    requires gamma1 { IsGamma1 gamma1 }
-    ensures { result ≡ mask_polynomial (nat_abs gamma1) (H.front (rho.now ++ to_le_bytes w16 number)) }
-{
-    // v = H(rho || number, 32 c)
-    let mut reader = open_numbered::<H>(rho, number);
-    let mut room = [0u8; 640];
-    let bytes = &mut room[..size_of_polynomial(gamma1)];
-    reader.read(bytes);
-    polynomial_of(gamma1, bytes)
 }

@@ -1,34 +1,20 @@
 //! The matrix, as it is sampled from the stream in the place of SHAKE128.
 #![tactic(auto)]
 
-ghost use Rattle.std.specs.Prelude.{◌≡◌, ◌≤◌, ◌<◌, ◌+◌, ◌*◌, ◌/◌, ◌%◌, ◌++◌, ◌∷◌, [], ℕ, ℤ, pos, ◌<ℤ◌, true, length, map, ok_or, slice_index, slice_index_or, IfOk, MatchResult};
+ghost use Rattle.std.specs.Prelude.{◌≡◌, ◌≤◌, ◌<◌, ◌+◌, ◌*◌, ◌/◌, ◌%◌, ◌++◌, ◌∷◌, [], ℕ, ℤ, pos, ◌<ℤ◌, true, length, map, ok_or, slice_index, slice_index_or, IfOk, MatchResult, ⊤};
 ghost use Rattle.std.specs.List.{flat_map, range_with_len};
-ghost use Rattle.fips204_base.specs.SamplerSteps.{AreKept, AreAhead, WritesFourEntries, numbered_entry, sampled_row, kept_triples, number, OnSampled, WritesSampled};
+ghost use Rattle.fips204_base.specs.SamplerSteps.{AreKept, AreAhead, numbered_entry, sampled_row, kept_triples, number, OnSampled, WritesSampled};
 ghost use Rattle.fips204_base.specs.Sampling.{matrix_entry, sampled_matrix};
 ghost use Rattle.fips204_base.specs.Vectors.{MatrixWithin};
 
 use crate::Q;
 use crate::conversion::coeff_from_three_bytes;
 use crate::fault::Fault;
+use crate::hashing::sampler::{Draws, Sampler};
 use crate::hashing::write_kept;
 use crate::types::{T, T0};
-use crate::xof::{Xof, XofReader, sampling_limit};
+use crate::xof::{Xof, XofReader};
 use std::simd::{u8x16, u32x4};
-
-/// Puts the coefficients that the triples of `piece` give into `values` from place `kept` on, as many as have
-/// room, and returns how many there are then.
-fn write_kept_triples(piece: &[u8], values: &mut [i32; 256], kept: usize) -> usize
-    requires room { kept ≤ 256 }
-    ensures count { result ≤ 256 }
-    ensures kept { AreKept values.old kept (kept_triples piece.now (length piece.now / 3)) values.new result }
-{
-    let mut count = kept;
-    for p in 0..piece.len() / 3 {
-        let triple = [piece[3 * p], piece[3 * p + 1], piece[3 * p + 2]];
-        count = write_kept(coeff_from_three_bytes(triple), values, count);
-    }
-    count
-}
 
 /// The numbers of the four triples at the front of 16 bytes, without the top bit of each: those that CoeffFromThreeBytes
 /// (Algorithm 14) keeps where they are below `q`.
@@ -61,14 +47,15 @@ fn write_four_numbers(bytes: &[u8], first: usize, values: &mut [i32; 256])
 }
 
 /// Writes the numbers of 256 triples, without the top bit of each.
-fn write_numbers(triples: &[u8; 768], values: &mut [i32; 256])
+fn write_numbers(triples: &[u8], values: &mut [i32; 256])
+    requires { length triples.now ≡ 768 }
     ensures { (p : ℕ) (d : ℤ) → p < 256 → slice_index_or values.new p d ≡ pos (number triples.now p) }
 {
     for n in 0..63 {
         write_four_numbers(&triples[12 * n..12 * n + 16], 4 * n, values);
     }
     let mut last = [0u8; 16];
-    last[..12].copy_from_slice(&triples[756..]);
+    last[..12].copy_from_slice(&triples[756..768]);
     write_four_numbers(&last, 252, values);
 }
 
@@ -85,7 +72,8 @@ fn are_below_q(values: &[i32; 256]) -> bool
 
 /// Puts the coefficients that 256 triples give into `values`, and returns how many there are. Mostly each triple gives one: so
 /// their numbers are written side by side first, and only where one is too large those that are not are moved to the front.
-fn write_first_triples(triples: &[u8; 768], values: &mut [i32; 256]) -> usize
+fn write_first_triples(triples: &[u8], values: &mut [i32; 256]) -> usize
+    requires { length triples.now ≡ 768 }
     ensures count { result ≤ 256 }
     ensures kept { AreKept values.old 0 (kept_triples triples.now 256) values.new result }
 {
@@ -104,6 +92,45 @@ fn write_first_triples(triples: &[u8; 768], values: &mut [i32; 256]) -> usize
     count
 }
 
+/// The draws of a matrix entry: triples of bytes.
+#[derive(Drop)]
+struct Triples;
+
+impl Draws for Triples {
+    ghost is_kind = { λ _. ⊤ };
+
+    ghost bytes = { λ _. 3 };
+
+    ghost first = { λ _. 256 };
+
+    ghost kept = { λ _. kept_triples };
+
+    fn bytes(&self) -> usize {
+        3
+    }
+
+    fn first(&self) -> usize {
+        256
+    }
+
+    fn wanted(&self, count: usize) -> usize {
+        (256 - count).min(8)
+    }
+
+    fn write_first(&self, draws: &[u8], values: &mut [i32; 256]) -> usize {
+        write_first_triples(draws, values)
+    }
+
+    fn write_kept(&self, n: usize, piece: &[u8], values: &mut [i32; 256], count: usize) -> usize {
+        let mut kept = count;
+        for p in 0..n {
+            let triple = [piece[3 * p], piece[3 * p + 1], piece[3 * p + 2]];
+            kept = write_kept(coeff_from_three_bytes(triple), values, kept);
+        }
+        kept
+    }
+}
+
 /// `RejNTTPoly` (Algorithm 30): a matrix entry from the concatenated `parts`.
 ///
 /// Errors: `SamplingLimit` if rejection sampling reaches its limit: if as many triples as a quarter of the
@@ -120,72 +147,46 @@ pub fn rej_ntt_poly<G: Xof>(parts: &[&[u8]]) -> Result<T, Fault>
     Ok(entry)
 }
 
-/// Writes the matrix entry of a front whose first 256 triples, which every entry takes, are in `first`. `reader` gives the
-/// others.
-fn write_entry<G: Xof>(
-    first: &[u8; 768],
-    reader: &mut G::Reader,
-    entry: &mut T,
-) -> Result<(), Fault>
-    requires { 768 + length (G.Reader.rest reader.old) ≡ G.FRONT }
+/// Writes the matrix entry of a front whose first 256 triples are in `first`. `reader` gives the others.
+fn write_entry<G: Xof>(first: &[u8], reader: &mut G::Reader, entry: &mut T) -> Result<(), Fault>
+    requires first { length first.now ≡ 768 }
+    requires front { length first.now + length (G.Reader.rest reader.old) ≡ G.FRONT }
     ensures { WritesSampled (matrix_entry (first.now ++ G.Reader.rest reader.old)) result entry.new }
 {
     // a[j] = CoeffFromThreeBytes(s[0], s[1], s[2]), kept unless it is none
-    let mut count = write_first_triples(first, &mut entry.0);
-    let limit = sampling_limit::<G>();
-    let mut tried = 256;
-    while count < 256 {
-        if tried == limit {
-            return Err(Fault::SamplingLimit);
-        }
-        // s = the next 8 triples, or as many as are wanted or left; in place of G.Squeeze(ctx, 3)
-        let wanted = (256 - count).min(8);
-        let triples = (limit - tried).min(wanted);
-        let mut room = [0u8; 24];
-        let piece = &mut room[..3 * triples];
-        reader.read(piece);
-        count = write_kept_triples(piece, &mut entry.0, count);
-        tried += triples;
+    Triples.fill::<G>(first, reader, &mut entry.0)
+}
+
+/// The sampler of a matrix with `L` entries in a row, numbered row by row.
+#[derive(Drop)]
+struct Entries<'a, const L: usize> {
+    rho: &'a [u8; 32],
+}
+
+impl<'a, const L: usize, G: Xof> Sampler<G> for Entries<'a, L> {
+    type Value = T;
+
+    ghost is_sampler = { λ _. (0 < L) × (L ≤ 7) };
+
+    ghost has_number = { λ _ n. n < 8 * L };
+
+    ghost seed = { λ entries n. entries.rho.now ++ (n % L) ∷ (n / L) ∷ [] };
+
+    ghost size = { λ _. 768 };
+
+    ghost made = { λ _. matrix_entry };
+
+    fn size(&self) -> usize {
+        768
     }
-    Ok(())
-}
 
-/// Opens the reader of entry `n`, where entries are numbered row by row.
-fn open_entry<const L: usize, G: Xof>(rho: &[u8; 32], n: usize) -> G::Reader
-    requires shape { (0 < L) × (L ≤ 7) }
-    requires place { n < 8 * L }
-    ensures { G.Reader.rest result ≡ G.front (rho.now ++ (n % L) ∷ (n / L) ∷ []) }
-{
-    G::open(&[rho.as_slice(), &[(n % L) as u8], &[(n / L) as u8]])
-}
+    fn open(&self, n: usize) -> G::Reader {
+        G::open(&[self.rho.as_slice(), &[(n % L) as u8], &[(n / L) as u8]])
+    }
 
-/// Writes four entries, from number `first` on, whose bytes are read side by side.
-fn write_four_entries<const L: usize, G: Xof>(
-    rho: &[u8; 32],
-    first: usize,
-    entries: &mut [T],
-) -> Result<(), Fault>
-    requires shape { (0 < L) × (L ≤ 7) }
-    requires place { first + 4 ≤ 8 * L }
-    requires four { length entries.old ≡ 4 }
-    ensures { WritesFourEntries G.front rho.now L first result entries.new }
-{
-    let mut a = open_entry::<L, G>(rho, first);
-    let mut b = open_entry::<L, G>(rho, first + 1);
-    let mut c = open_entry::<L, G>(rho, first + 2);
-    let mut d = open_entry::<L, G>(rho, first + 3);
-    let mut of_a = [0u8; 768];
-    let mut of_b = [0u8; 768];
-    let mut of_c = [0u8; 768];
-    let mut of_d = [0u8; 768];
-    G::Reader::read_four(
-        &mut a, &mut b, &mut c, &mut d, &mut of_a, &mut of_b, &mut of_c, &mut of_d,
-    );
-    write_entry::<G>(&of_a, &mut a, &mut entries[0])?;
-    write_entry::<G>(&of_b, &mut b, &mut entries[1])?;
-    write_entry::<G>(&of_c, &mut c, &mut entries[2])?;
-    write_entry::<G>(&of_d, &mut d, &mut entries[3])?;
-    Ok(())
+    fn write(&self, first: &[u8], reader: &mut G::Reader, value: &mut T) -> Result<(), Fault> {
+        write_entry::<G>(first, reader, value)
+    }
 }
 
 /// Writes entry `n`, which is one of the four in `ahead` or begins the next four. Where fewer are left it is made alone.
@@ -202,12 +203,12 @@ fn write_next_entry<const K: usize, const L: usize, G: Xof>(
         (λ _. (numbered_entry G.front rho.now L n ≡ Some entry.new) × AreAhead G.front rho.now L (K * L) (n + 1) ahead.new)
         (λ fault. (sampled_matrix G.front rho.now K L ≡ None) × (fault ≡ Fault.SamplingLimit)) }
 {
+    let entries = Entries::<L> { rho };
     if n / 4 * 4 + 4 > K * L {
-        *entry = rej_ntt_poly::<G>(&[rho.as_slice(), &[(n % L) as u8], &[(n / L) as u8]])?;
-        return Ok(());
+        return Sampler::<G>::write_one(&entries, n, entry);
     }
     if n % 4 == 0 {
-        write_four_entries::<L, G>(rho, n, ahead)?;
+        Sampler::<G>::write_four(&entries, n, ahead)?;
     }
     *entry = ahead[n % 4];
     Ok(())
@@ -261,7 +262,7 @@ pub(crate) fn write_next_row<const K: usize, const L: usize, G: Xof>(
         (λ fault. (sampled_matrix G.front rho.now K L ≡ None) × (fault ≡ Fault.SamplingLimit)) }
 {
     if L == 4 {
-        write_four_entries::<L, G>(rho, r * L, row)?;
+        Sampler::<G>::write_four(&Entries::<L> { rho }, r * L, row)?;
         return Ok(());
     }
     for s in 0..L {

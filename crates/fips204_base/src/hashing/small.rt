@@ -1,17 +1,19 @@
 //! Small polynomials, from the stream in the place of SHAKE256.
 #![tactic(auto)]
 
-ghost use Rattle.std.specs.Prelude.{◌≡◌, ◌≤◌, ◌+◌, ◌++◌, ◌⊎◌, length, nat_abs, ok_or, IfOk, IfErr, MatchResult, Some, None};
+ghost use Rattle.std.specs.Prelude.{◌≡◌, ◌≤◌, ◌<◌, ◌+◌, ◌++◌, ◌⊎◌, length, nat_abs, ok_or, IfOk, IfErr, Some, None};
+ghost use Rattle.std.specs.Int.{w16, to_le_bytes};
 ghost use Rattle.std.specs.List.{flat_map};
 ghost use Rattle.fips204_base.specs.Sampling.{small_polynomial, small_vectors};
-ghost use Rattle.fips204_base.specs.SamplerSteps.{AreKept, AreSmall, WritesSampled, kept_half_bytes, small_vector};
+ghost use Rattle.fips204_base.specs.SamplerSteps.{AreKept, WritesSampled, kept_half_bytes, small_vector};
 ghost use Rattle.fips204_base.specs.Bounds.{IsEta};
 
 use crate::conversion::coeff_from_half_byte;
 use crate::fault::Fault;
+use crate::hashing::sampler::{Draws, Sampler};
 use crate::hashing::{open_numbered, write_kept_without_branch};
 use crate::types::{R, R0};
-use crate::xof::{Xof, XofReader, sampling_limit};
+use crate::xof::{Xof, XofReader};
 
 /// Puts the coefficients that the half bytes of `piece` give into `values` from place `kept` on, as many as
 /// have room, and returns how many there are then.
@@ -50,6 +52,42 @@ fn write_half_bytes_at(eta: i32, piece: &[u8], values: &mut [i32; 256], kept: us
     count
 }
 
+/// The draws of a small polynomial: bytes, whose two halves give a coefficient each.
+#[derive(Drop)]
+struct HalfBytes {
+    eta: i32,
+}
+
+impl Draws for HalfBytes {
+    ghost is_kind = { λ draws. IsEta draws.eta };
+
+    ghost bytes = { λ _. 1 };
+
+    ghost first = { λ _. 192 };
+
+    ghost kept = { λ draws. kept_half_bytes (nat_abs draws.eta) };
+
+    fn bytes(&self) -> usize {
+        1
+    }
+
+    fn first(&self) -> usize {
+        192
+    }
+
+    fn wanted(&self, _count: usize) -> usize {
+        64
+    }
+
+    fn write_first(&self, draws: &[u8], values: &mut [i32; 256]) -> usize {
+        write_kept_half_bytes(self.eta, draws, values, 0)
+    }
+
+    fn write_kept(&self, _n: usize, piece: &[u8], values: &mut [i32; 256], count: usize) -> usize {
+        write_kept_half_bytes(self.eta, piece, values, count)
+    }
+}
+
 /// `RejBoundedPoly` (Algorithm 31): a polynomial with coefficients in `[-eta, eta]` from the concatenated
 /// `parts`. `eta` is 2 or 4.
 ///
@@ -69,94 +107,53 @@ pub fn rej_bounded_poly<H: Xof>(eta: i32, parts: &[&[u8]]) -> Result<R, Fault>
     Ok(polynomial)
 }
 
-/// Writes the small polynomial of a front whose first 192 bytes are in `first`: few take less, and those of eta 4 more. `reader`
-/// gives the others.
+/// Writes the small polynomial of a front whose first 192 bytes are in `first`. `reader` gives the others.
 fn write_polynomial<H: Xof>(
     eta: i32,
-    first: &[u8; 192],
+    first: &[u8],
     reader: &mut H::Reader,
     polynomial: &mut R,
 ) -> Result<(), Fault>
     requires eta { IsEta eta }
-    requires front { 192 + length (H.Reader.rest reader.old) ≡ H.FRONT }
+    requires first { length first.now ≡ 192 }
+    requires front { length first.now + length (H.Reader.rest reader.old) ≡ H.FRONT }
     ensures { WritesSampled (small_polynomial (nat_abs eta) (first.now ++ H.Reader.rest reader.old)) result polynomial.new }
 {
     // a[j] = CoeffFromHalfByte(z mod 16, eta), then that of z / 16, each kept unless it is none
-    let mut count = write_kept_half_bytes(eta, first, &mut polynomial.0, 0);
-    let limit = sampling_limit::<H>();
-    let mut tried = 192;
-    while count < 256 {
-        if tried == limit {
-            return Err(Fault::SamplingLimit);
-        }
-        // z = the next 64 bytes, or as many as are left; in place of H.Squeeze(ctx, 1)
-        let bytes = (limit - tried).min(64);
-        let mut room = [0u8; 64];
-        let piece = &mut room[..bytes];
-        reader.read(piece);
-        count = write_kept_half_bytes(eta, piece, &mut polynomial.0, count);
-        tried += bytes;
-    }
-    Ok(())
+    HalfBytes { eta }.fill::<H>(first, reader, &mut polynomial.0)
 }
 
-/// Writes `N` small polynomials, the one at `r` from `rho` and the number `first + r` in two bytes.
-fn write_small_polynomials<const N: usize, H: Xof>(
+/// The sampler of small polynomials, the one of each number from `rho` and the number in two bytes.
+#[derive(Drop)]
+struct SmallPolynomials<'a> {
     eta: i32,
-    rho: &[u8; 64],
-    first: usize,
-    polynomials: &mut [R; N],
-) -> Result<(), Fault>
-    requires eta { IsEta eta }
-    requires numbers { first + N ≤ 65536 }
-    ensures { WritesSampled (small_vector (nat_abs eta) H.front rho.now first N) result polynomials.new }
-{
-    let mut r = 0;
-    while r < N {
-        if r + 4 <= N {
-            write_four_polynomials::<N, H>(eta, rho, first, r, polynomials)?;
-            r += 4;
-        } else {
-            let number = ((first + r) as u16).to_le_bytes();
-            polynomials[r] = rej_bounded_poly::<H>(eta, &[rho.as_slice(), number.as_slice()])?;
-            r += 1;
-        }
-    }
-    Ok(())
+    rho: &'a [u8; 64],
 }
 
-/// Writes small polynomials `r` to `r + 3`, whose bytes are read side by side.
-fn write_four_polynomials<const N: usize, H: Xof>(
-    eta: i32,
-    rho: &[u8; 64],
-    first: usize,
-    r: usize,
-    polynomials: &mut [R; N],
-) -> Result<(), Fault>
-    requires eta { IsEta eta }
-    requires numbers { first + N ≤ 65536 }
-    requires place { r + 4 ≤ N }
-    requires before { AreSmall (nat_abs eta) H.front rho.now first r polynomials.old }
-    ensures { MatchResult result
-        (λ _. (length polynomials.new ≡ N) × AreSmall (nat_abs eta) H.front rho.now first (r + 4) polynomials.new)
-        (λ fault. (small_vector (nat_abs eta) H.front rho.now first N ≡ None) × (fault ≡ Fault.SamplingLimit)) }
-{
-    let mut a = open_numbered::<H>(rho, (first + r) as u16);
-    let mut b = open_numbered::<H>(rho, (first + (r + 1)) as u16);
-    let mut c = open_numbered::<H>(rho, (first + (r + 2)) as u16);
-    let mut d = open_numbered::<H>(rho, (first + (r + 3)) as u16);
-    let mut of_a = [0u8; 192];
-    let mut of_b = [0u8; 192];
-    let mut of_c = [0u8; 192];
-    let mut of_d = [0u8; 192];
-    H::Reader::read_four(
-        &mut a, &mut b, &mut c, &mut d, &mut of_a, &mut of_b, &mut of_c, &mut of_d,
-    );
-    write_polynomial::<H>(eta, &of_a, &mut a, &mut polynomials[r])?;
-    write_polynomial::<H>(eta, &of_b, &mut b, &mut polynomials[r + 1])?;
-    write_polynomial::<H>(eta, &of_c, &mut c, &mut polynomials[r + 2])?;
-    write_polynomial::<H>(eta, &of_d, &mut d, &mut polynomials[r + 3])?;
-    Ok(())
+impl<'a, H: Xof> Sampler<H> for SmallPolynomials<'a> {
+    type Value = R;
+
+    ghost is_sampler = { λ these. IsEta these.eta };
+
+    ghost has_number = { λ _ n. n < 65536 };
+
+    ghost seed = { λ these n. these.rho.now ++ to_le_bytes w16 n };
+
+    ghost size = { λ _. 192 };
+
+    ghost made = { λ these. small_polynomial (nat_abs these.eta) };
+
+    fn size(&self) -> usize {
+        192
+    }
+
+    fn open(&self, n: usize) -> H::Reader {
+        open_numbered::<H>(self.rho, n as u16)
+    }
+
+    fn write(&self, first: &[u8], reader: &mut H::Reader, value: &mut R) -> Result<(), Fault> {
+        write_polynomial::<H>(self.eta, first, reader, value)
+    }
 }
 
 /// `ExpandS` (Algorithm 33): the secret vectors s1 of `L` and s2 of `K` polynomials, with coefficients in
@@ -192,7 +189,8 @@ pub fn write_expanded_s<const K: usize, const L: usize, H: Xof>(
     ensures limit { IfErr result (λ fault. (fault ≡ Fault.SamplingLimit)
         × ((small_vector (nat_abs eta) H.front rho.now 0 L ≡ None) ⊎ (small_vector (nat_abs eta) H.front rho.now L K ≡ None))) }
 {
-    write_small_polynomials::<L, H>(eta, rho, 0, s1)?;
-    write_small_polynomials::<K, H>(eta, rho, L, s2)?;
+    let polynomials = SmallPolynomials { eta, rho };
+    Sampler::<H>::write_all(&polynomials, 0, s1)?;
+    Sampler::<H>::write_all(&polynomials, L, s2)?;
     Ok(())
 }

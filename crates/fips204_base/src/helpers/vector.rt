@@ -55,8 +55,8 @@ pub(crate) fn value_to_mont(x: i32) -> i32
 }
 
 /// The product of a matrix with a vector of transforms, value by value (FIPS 204, Algorithm 48): the
-/// sums of the products modulo `q`, below `q` in absolute value. The matrix has values from 0 to
-/// `q - 1`, the vector values of an absolute value of at most `q - 1`, and `L` is at most 7.
+/// sums of the products modulo `q`, below `q` in absolute value. The values of the matrix and of the vector are from
+/// `1 - q` to `q - 1`, and `L` is at most 7.
 pub fn mat_vec_mul<const K: usize, const L: usize>(a: &[[T; L]; K], u: &[T; L]) -> [T; K]
     requires columns { L ≤ 7 }
     requires matrix { MatrixWithin 8380416 a.now }

@@ -78,7 +78,7 @@ impl Transforms {
     }
 
     /// Polynomial `r` becomes the product of a row of the matrix with `v`; the others stay.
-    fn write_row_product<const L: usize>(&mut self, r: usize, row: &[T; L], v: &Transforms)
+    pub fn write_row_product<const L: usize>(&mut self, r: usize, row: &[T; L], v: &Transforms)
         requires shape { (r < 8) × (L ≤ 7) }
         requires row { TransformsWithin 8380416 row.now }
         ensures product { (n : ℕ) → n < 256

@@ -11,7 +11,7 @@ use fips204::helpers::{Count, add_vector_ntt, infinity_norm, mat_vec_mul, to_mon
 use fips204::ntt::{inv_ntt, ntt};
 use fips204::types::{R, R0, T};
 use fips204::xof::Fill;
-use fips204_base::product::{Factor, Transforms};
+use fips204_base::product::{Factor, Products, Transforms};
 use std::test::Fail;
 
 /// These numbers; those outside of `1 - q` to `q - 1` are cut to the nearer of these.
@@ -81,12 +81,11 @@ pub fn slow_product(a: &[i32; 256], b: &[i32; 256]) -> [i32; 256] {
 }
 
 fn product(a: &[i32; 256], b: &[i32; 256]) -> [i32; 256] {
+    let factor = Factor::of(&R(within(a)));
     let mut v = Transforms::zeros();
     v.write_transforms(&[R(within(b))]);
-    let mut product = Transforms::zeros();
-    product.write_multiple(&Factor::of(&R(within(a))), &v);
     let mut out = [R0];
-    product.write_plain(&mut out);
+    Products::of(&factor, &v, &v).write_other(&v, &mut out);
     out[0].0
 }
 

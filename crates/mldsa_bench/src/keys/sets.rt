@@ -43,19 +43,11 @@ type Prepared<const K: usize, const L: usize, H> = (
     PreparedPrivateKey<K, L, H>,
 );
 
-impl<
-    S,
-    const K: usize,
-    const L: usize,
-    const LAMBDA_DIV4: usize,
-    const SIG_LEN: usize,
-    H: Xof,
-    G: Xof,
-> Keys<[u8; SIG_LEN]> for Plain<K, L, H, G>
+impl<S, const K: usize, const L: usize, const SIG_LEN: usize, H: Xof, G: Xof> Keys<[u8; SIG_LEN]>
+    for Plain<K, L, H, G>
 where
     Matrix<K, L>: HasSet<Set = S>,
-    S: Set<CommitmentHash = [u8; LAMBDA_DIV4], Signature = [u8; SIG_LEN]>
-        + SignatureSizes<K, L, LAMBDA_DIV4, SIG_LEN>,
+    S: Set<Signature = [u8; SIG_LEN]> + SignatureSizes<K, L, SIG_LEN>,
 {
     fn seeded(&self, seed: &[u8; 32], input: &Input) -> Signed<SIG_LEN> {
         match *input {
@@ -86,18 +78,11 @@ where
     }
 }
 
-impl<
-    S,
-    const K: usize,
-    const L: usize,
-    const LAMBDA_DIV4: usize,
-    const SIG_LEN: usize,
-    H: Xof,
-> Keys<[u8; SIG_LEN]> for Prepared<K, L, H>
+impl<S, const K: usize, const L: usize, const SIG_LEN: usize, H: Xof> Keys<[u8; SIG_LEN]>
+    for Prepared<K, L, H>
 where
     Matrix<K, L>: HasSet<Set = S>,
-    S: Set<CommitmentHash = [u8; LAMBDA_DIV4], Signature = [u8; SIG_LEN]>
-        + SignatureSizes<K, L, LAMBDA_DIV4, SIG_LEN>,
+    S: Set<Signature = [u8; SIG_LEN]> + SignatureSizes<K, L, SIG_LEN>,
 {
     fn seeded(&self, seed: &[u8; 32], input: &Input) -> Signed<SIG_LEN> {
         match *input {
@@ -259,7 +244,6 @@ impl<
     S,
     const K: usize,
     const L: usize,
-    const LAMBDA_DIV4: usize,
     const SIG_LEN: usize,
     const PK_LEN: usize,
     const SK_LEN: usize,
@@ -268,8 +252,7 @@ impl<
 > TestSet for KG<K, L, H, G>
 where
     Matrix<K, L>: HasSet<Set = S>,
-    S: Set<CommitmentHash = [u8; LAMBDA_DIV4], Signature = [u8; SIG_LEN]>
-        + SignatureSizes<K, L, LAMBDA_DIV4, SIG_LEN>,
+    S: Set<Signature = [u8; SIG_LEN]> + SignatureSizes<K, L, SIG_LEN>,
     S: Set<PublicKey = [u8; PK_LEN], PrivateKey = [u8; SK_LEN]> + KeySizes<K, L, PK_LEN, SK_LEN>,
     S: Row<Plain<K, L, H, G>, SK_LEN>,
 {

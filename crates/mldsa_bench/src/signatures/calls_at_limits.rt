@@ -23,17 +23,42 @@ type LastTriple = Patterned<FourthTriples<0>>;
 /// The streams whose matrix entries keep one coefficient fewer.
 type PastLastTriple = Patterned<FourthTriples<12>>;
 
-/// Whether the pair of a seed is that over constant streams, and so the public key of the private one, and whether this
-/// comes back from its bytes and is whole; the refusals to prepare the public key and the private key; and whether
-/// plain and prepared keys sign as over constant streams, and accept that signature.
-pub type Answers = (
-    [Result<bool, Fault>; 3],
-    [Option<Fault>; 2],
-    [[Result<bool, Fault>; 2]; 2],
-);
+/// What the calls of a set return.
+#[derive(Clone, Copy, PartialEq, Debug)]
+pub struct Answers {
+    /// Whether the pair of a seed is that over constant streams.
+    pub pair: Result<bool, Fault>,
+    /// Whether the public key of the private one is.
+    pub derived: Result<bool, Fault>,
+    /// Whether the private key comes back from its bytes and is whole.
+    pub read: Result<bool, Fault>,
+    /// The refusals to prepare the public key and the private key.
+    pub unprepared: [Option<Fault>; 2],
+    /// Whether plain keys sign as over constant streams, and accept that signature.
+    pub plain: [Result<bool, Fault>; 2],
+    /// The same of prepared keys.
+    pub prepared: [Result<bool, Fault>; 2],
+}
 
 /// What keys over constant streams answer.
-pub const ALL: Answers = ([Ok(true); 3], [None; 2], [[Ok(true); 2]; 2]);
+pub const ALL: Answers = Answers {
+    pair: Ok(true),
+    derived: Ok(true),
+    read: Ok(true),
+    unprepared: [None; 2],
+    plain: [Ok(true); 2],
+    prepared: [Ok(true); 2],
+};
+
+/// What keys answer that have no matrix.
+const NO_MATRIX: Answers = Answers {
+    pair: LIMIT,
+    derived: LIMIT,
+    read: LIMIT,
+    unprepared: [Some(Fault::SamplingLimit); 2],
+    plain: [LIMIT, Ok(false)],
+    prepared: [LIMIT; 2],
+};
 
 const LIMIT: Result<bool, Fault> = Err(Fault::SamplingLimit);
 
@@ -58,12 +83,14 @@ impl Suite for Calls {
 
     fn at<S: TestSet>(&self, _number: usize) -> Result<Answers, Fail> {
         let (keys, signature) = S::constant()?;
-        let plain = signed(&keys, &signature);
-        let prepared = signed_prepared::<S>(&keys, &signature);
-        let pair = S::is_constant(S::pair(&[self.0; 32]));
-        let (refused, derived) = (S::refusals(&keys), S::derives_constant(&keys));
-        let read = is_same(S::read_again(keys, 0, 0), &[true; 2]);
-        Ok(([pair, derived, read], refused, [plain, prepared]))
+        Ok(Answers {
+            pair: S::is_constant(S::pair(&[self.0; 32])),
+            derived: S::derives_constant(&keys),
+            unprepared: S::refusals(&keys),
+            plain: signed(&keys, &signature),
+            prepared: signed_prepared::<S>(&keys, &signature),
+            read: is_same(S::read_again(keys, 0, 0), &[true; 2]),
+        })
     }
 }
 
@@ -78,8 +105,7 @@ fn calls_whose_matrix_ends_at_its_last_triple(rt: HostRuntime) -> Result<(), Fai
 /// verifying returns false.
 #[test]
 fn calls_whose_matrix_passes_its_limit(rt: HostRuntime) -> Result<(), Fail> {
-    let signatures = [[LIMIT, Ok(false)], [LIMIT; 2]];
-    let refused = [([LIMIT; 3], [Some(Fault::SamplingLimit); 2], signatures); 3];
+    let refused = [NO_MATRIX; 3];
     at_each_set::<Fill<0x55>, PastLastTriple, Calls>(&rt, &Calls(7), &refused)?;
     at_each_set::<Fill<0x55>, Fill<0xff>, Calls>(&rt, &Calls(7), &refused)?;
     at_each_set::<Fill<0x55>, Fill<0xff>, Calls>(&rt, &Calls(0), &refused)?;
@@ -102,9 +128,16 @@ fn commitment_of_ff() -> [u8; 2420] {
 fn challenges_that_pass_their_limit(rt: HostRuntime) -> Result<(), Fail> {
     let one = Calls(7).at::<KG<ByLength, Fill<0>>>(0)?;
     let answer = accepted::<KG<Fill<0xff>, Fill<0>>>(&commitment_of_ff())?;
-    let none = [[LIMIT, Ok(false)]; 2];
-    let pair = ([Ok(true); 3], [None; 2], none);
-    let no_pair = ([LIMIT, Ok(true), Ok(true)], [None; 2], none);
+    let none = [LIMIT, Ok(false)];
+    let pair = Answers {
+        plain: none,
+        prepared: none,
+        ..ALL
+    };
+    let no_pair = Answers {
+        pair: LIMIT,
+        ..pair
+    };
     assert_eq!(rt; (one, answer), (pair, [false; 2]));
     at_each_set::<Fill<0xff>, Fill<0>, Calls>(&rt, &Calls(0), &[no_pair; 3])
 }

@@ -29,7 +29,8 @@ fn goes(alloc: Global, call: [&str; 3], text: &str, output: &str) -> Result<(), 
     input.push_str("rest")?;
     for (pace, calls) in [(WHOLE, whole), (BY_BYTES, by_bytes)] {
         let told = told(alloc, [pace; 2], call, input.as_bytes(), written.as_bytes())?;
-        ensure(told == (Ok(answer), true, 4, calls), text)?;
+        let ended = told.answer == Ok(answer) && told.right;
+        ensure(ended && told.unread == 4 && told.calls == calls, text)?;
     }
     Ok(())
 }

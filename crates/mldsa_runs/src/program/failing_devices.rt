@@ -62,7 +62,8 @@ fn ends_so(alloc: Global, run: &Run, paces: [Pace; 2], cut: usize) -> Result<(),
     let puts = written.len().div_ceil(writer.most.max(1));
     let writes = puts.wrapping_add(usize::from(answer == Err(RunFault::Write)));
     let told = told(alloc, paces, run.call, input.as_bytes(), written)?;
-    if (told.0, told.1, told.2, told.3[1]) == (answer, true, unread, writes) {
+    let ended = told.answer == answer && told.right;
+    if ended && told.unread == unread && told.calls[1] == writes {
         return Ok(());
     }
     let ([_, command, _], fails) = (run.call, (reader.fails_at, writer.fails_at));

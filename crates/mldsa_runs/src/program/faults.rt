@@ -49,8 +49,11 @@ fn lines_of_one_character(rt: HostRuntime) -> Result<(), Fail> {
     ] {
         let mut bytes = vec![in rt.alloc(); character; count]?;
         bytes.extend_from_slice(end.as_bytes())?;
-        let (answer, same, unread, _) = told(rt.alloc(), [WHOLE; 2], call, bytes.as_slice(), b"")?;
-        assert_eq!(rt; (answer, same, unread), (Err(fault), true, left));
+        let told = told(rt.alloc(), [WHOLE; 2], call, bytes.as_slice(), b"")?;
+        assert_eq!(rt;
+            (told.answer, told.right, told.unread),
+            (Err(fault), true, left)
+        );
     }
     Ok(())
 }
@@ -82,10 +85,10 @@ fillff/keygen/87 | 0*64, | sampling limit reached, | 1
 fill55/sign/44 | f*5120,0*64,0*512,00, | Alg 25: s1 or s2 out of range, | 1
 fill55/sign/44 | 0*5120,0*64,0*512,00, | ML-DSA.Sign: ctx too long, | 1
 fill55/sign/44 | f*5120,0*64,0*512, | line 4: missing | 2
-fill55/sign/44 | private5,0*64,0*512,00, | Alg 25: s1 or s2 out of range, | 1
-fill55/sign/44 | private5,0*64,0*512, | line 4: missing | 2
-fill55/sign/44 | private4,0*64,0*512,00, | ML-DSA.Sign: ctx too long, | 1
-fill55/sign/44 | private4,0*64,,00, | good4, | 0
+fill55/sign/44 | key-out-of-range,0*64,0*512,00, | Alg 25: s1 or s2 out of range, | 1
+fill55/sign/44 | key-out-of-range,0*64,0*512, | line 4: missing | 2
+fill55/sign/44 | key-in-range,0*64,0*512,00, | ML-DSA.Sign: ctx too long, | 1
+fill55/sign/44 | key-in-range,0*64,,00, | signature-in-range, | 0
 fill55/check/44 | 0*64,0*64,,00, | yes, | 0
 fill00/check/44 | 0*64,0*64,,00, | ML-DSA.Sign: too many attempts, | 1
 fill55/check/44 | 0*64,0*64,0*512,00, | ML-DSA.Sign: ctx too long, | 1

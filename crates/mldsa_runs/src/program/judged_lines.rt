@@ -23,11 +23,12 @@ fn is_judged(
     // The end of the input takes a call.
     let reads = before.len().wrapping_add(line.len().max(1));
     let paces = [stopping(reads), BY_BYTES];
-    let (answer, same, _, calls) = told(alloc, paces, call, input.as_bytes(), b"")?;
-    let ended = (answer, same, calls) == (Err(fault), true, [reads, 0]);
-    ensure(ended, line)?;
-    let (answer, same, _, calls) = told(alloc, [WHOLE; 2], call, input.as_bytes(), b"")?;
-    ensure((answer, same, calls[1]) == (Err(fault), true, 0), line)
+    let at_once = told(alloc, paces, call, input.as_bytes(), b"")?;
+    let ended = at_once.answer == Err(fault) && at_once.right;
+    ensure(ended && at_once.calls == [reads, 0], line)?;
+    let whole = told(alloc, [WHOLE; 2], call, input.as_bytes(), b"")?;
+    let ended = whole.answer == Err(fault) && whole.right;
+    ensure(ended && whole.calls[1] == 0, line)
 }
 
 /// Fails unless each fault of each of these lines, which are good, ends a run before anything that follows is read:

@@ -7,9 +7,17 @@ use mldsa_engine::{Marked, RunFault, from_words};
 use std::alloc::{AllocError, Global};
 use std::test::Fail;
 
-/// What a run returned, whether it marked the device that its fault names and no other and, where this is compared,
-/// wrote what it should, how many bytes it left unread, and how often it called its reader and its writer.
-pub type Told = (Result<bool, RunFault>, bool, usize, [usize; 2]);
+/// What a run did.
+#[derive(Clone, Copy)]
+pub struct Ended {
+    pub answer: Result<bool, RunFault>,
+    /// Whether it marked the device that its fault names and no other and, where this is compared, wrote what it should.
+    pub right: bool,
+    /// How many bytes it left unread.
+    pub unread: usize,
+    /// How often it called its reader and its writer.
+    pub calls: [usize; 2],
+}
 
 /// A run of a call, which is its streams, its command and its set, on these bytes, with a reader and a writer of these
 /// paces; and what it wrote.
@@ -18,7 +26,7 @@ pub fn run_of(
     paces: [Pace; 2],
     call: [&str; 3],
     bytes: &[u8],
-) -> Result<(Told, Vec<u8>), AllocError> {
+) -> Result<(Ended, Vec<u8>), AllocError> {
     let mut words = Vec::new(alloc);
     for word in call {
         words.push(String::from_str(alloc, word)?)?;
@@ -29,10 +37,17 @@ pub fn run_of(
     let mut output = Marked::new(Drip { taken, pace });
     let answer = from_words(alloc, words.as_slice(), &mut input, &mut output);
     let read = input.failed() == (answer == Err(RunFault::Read));
-    let marked = read && output.failed() == (answer == Err(RunFault::Write));
+    let right = read && output.failed() == (answer == Err(RunFault::Write));
     let (reader, writer) = (input.into_device(), output.into_device());
     let calls = [reader.pace.calls, writer.pace.calls];
-    Ok(((answer, marked, reader.bytes.len(), calls), writer.taken))
+    let unread = reader.bytes.len();
+    let told = Ended {
+        answer,
+        right,
+        unread,
+        calls,
+    };
+    Ok((told, writer.taken))
 }
 
 /// A run beside what it should write.
@@ -42,9 +57,10 @@ pub fn told(
     call: [&str; 3],
     bytes: &[u8],
     written: &[u8],
-) -> Result<Told, AllocError> {
-    let ((answer, marked, unread, calls), taken) = run_of(alloc, paces, call, bytes)?;
-    Ok((answer, marked && taken.as_slice() == written, unread, calls))
+) -> Result<Ended, AllocError> {
+    let (mut told, taken) = run_of(alloc, paces, call, bytes)?;
+    told.right = told.right && taken.as_slice() == written;
+    Ok(told)
 }
 
 /// Fails with these words unless a statement holds.
@@ -68,13 +84,16 @@ pub fn goes(alloc: Global, case: &str) -> Result<(), Fail> {
     input.push_str(spelt(alloc, call, rest)?.as_str())?;
     let written = spelt(alloc, call, if status == "2" { "" } else { output })?;
     let (bytes, written) = (input.as_bytes(), written.as_bytes());
-    let (answer, same, left, _) = told(alloc, [WHOLE; 2], call, bytes, written)?;
-    let ended = match answer {
+    let told = told(alloc, [WHOLE; 2], call, bytes, written)?;
+    let ended = match told.answer {
         Ok(true) => status == "0",
         Ok(false) => status == "1",
         Err(fault) => status == "2" && format!(in alloc; "{fault}")?.as_str() == output,
     };
-    ensure(ended && same && end.wrapping_add(left) == input.len(), text)
+    ensure(
+        ended && told.right && end.wrapping_add(told.unread) == input.len(),
+        text,
+    )
 }
 
 /// Fails unless each of these cases, a line each, goes so.

@@ -24,7 +24,7 @@ fn run(alloc: Global, all: &mut Sha256, call: [&str; 3], input: String) -> Resul
     let (told, written) = run_of(alloc, [WHOLE; 2], call, input.as_str().as_bytes())?;
     let mut hasher = Sha256::new();
     hasher.update(written.as_slice());
-    hasher.update(&[status(told.0)]);
+    hasher.update(&[status(told.answer)]);
     all.update(&hasher.finalize());
     Ok(String::from_utf8_lossy(alloc, written.as_slice())?)
 }

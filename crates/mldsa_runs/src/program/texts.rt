@@ -44,11 +44,11 @@ fn constant(alloc: Global, set: &str, word: &str) -> Result<String, AllocError> 
             let signature = hex::encode(alloc, &signature_44())?;
             String::from_str(alloc, signature.get(..4838).unwrap_or(""))
         }
-        ("good4", _) => hex::encode(alloc, &signature_44_of_least_coefficient()),
-        ("private4" | "private5", _) => {
+        ("signature-in-range", _) => hex::encode(alloc, &signature_44_of_least_coefficient()),
+        ("key-in-range" | "key-out-of-range", _) => {
             // The first field of s1, of which 4 is the last in range.
             let mut key = private_44();
-            key[128] = if word == "private4" { 4 } else { 5 };
+            key[128] = if word == "key-in-range" { 4 } else { 5 };
             hex::encode(alloc, &key)
         }
         ("bad", _) => {

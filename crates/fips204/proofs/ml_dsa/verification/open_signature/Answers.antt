@@ -12,8 +12,8 @@ write_signature_parts-requires g c =
     let p = c.args.p.now in
     let M : to_z w32 (of_z w32 p.gamma1) ≡ p.gamma1 = search rules in
     let O : to_z w32 (of_z w32 p.omega) ≡ p.omega = search rules in
-    let shape = signature-shape p _ _ _ _ _ _ (search rules) c.requires.sizes M O in
-    (search rules, (search rules, (search rules, (search rules, (shape.set, (shape.some, (shape.hint_size, shape.whole)))))))
+    let shape = signature-shape p _ _ _ _ _ _ (search rules) c.requires.sizes c.c_tilde_len.ensures.size M O in
+    (search rules, (search rules, (shape.set, (shape.some, (shape.hint_size, shape.whole)))))
 
 pub has_norm_below-requires : goal.has_norm_below-requires
 has_norm_below-requires g c =
@@ -33,12 +33,12 @@ sample_in_ball-requires g c =
 
 -- the decoded parts, and what the test of the norm says
 decoded : (g : Over) (c : After-has_norm_below g)
-    → IsSignature (nat_abs c.args.p.now.gamma1) (nat_abs c.args.p.now.omega) c.args.p.now.k c.args.p.now.l (c_tilde_length (set_of c.args.p.now)) c.args.sig.now c.in_ok-c_tilde.c_tilde c.write_signature_parts.new.z c.write_signature_parts.new.h
+    → IsSignature (nat_abs c.args.p.now.gamma1) (nat_abs c.args.p.now.omega) c.args.p.now.k c.args.p.now.l (c_tilde_length (set_of c.args.p.now)) c.args.sig.now c.in_ok-c_tilde.c_tilde.now c.write_signature_parts.new.z c.write_signature_parts.new.h
 decoded g c =
     let p = c.args.p.now in
     let M : to_z w32 (of_z w32 p.gamma1) ≡ p.gamma1 = search rules in
     let O : to_z w32 (of_z w32 p.omega) ≡ p.omega = search rules in
-    rw (M, O, c.requires.sizes.rows, c.requires.sizes.columns, c.requires.sizes.c_tilde) at c.in_ok-c_tilde.ensures
+    rw (M, O, c.requires.sizes.rows, c.requires.sizes.columns, c.c_tilde_len.ensures.size) at c.in_ok-c_tilde.ensures
 
 pub returns-then-not-has_norm_below-clause-parts : goal.returns-then-not-has_norm_below-clause-parts
 returns-then-not-has_norm_below-clause-parts g c =
@@ -46,7 +46,7 @@ returns-then-not-has_norm_below-clause-parts g c =
     let k = (goal.at.returns-then-not-has_norm_below-clause-parts g c).After-has_norm_below in
     let sizes = mask-size c.args.p.now.gamma1 (limits c.args.p.now (search rules)).mask in
     let test = rw c.z_bound.ensures at c.has_norm_below.ensures in
-    λ c_tilde z h ball found. absurd (true≢false (sym (test ∙ lt-ltb _ _ (same_norm p g.H.Xof.front c.args.sig.now c.in_ok-c_tilde.c_tilde c_tilde c.write_signature_parts.new.z z c.write_signature_parts.new.h h ball
+    λ c_tilde z h ball found. absurd (true≢false (sym (test ∙ lt-ltb _ _ (same_norm p g.H.Xof.front c.args.sig.now c.in_ok-c_tilde.c_tilde.now c_tilde c.write_signature_parts.new.z z c.write_signature_parts.new.h h ball
     sizes.0 (omega (arith, sizes.1)) (decoded g k) found)) ∙ c.if-not-has_norm_below.true))
 
 pub returns-in-Err-clause-parts : goal.returns-in-Err-clause-parts
@@ -56,10 +56,10 @@ returns-in-Err-clause-parts g c =
     let front = g.H.Xof.front in
     let T : to_z w32 (of_z w32 p.tau) ≡ p.tau = search rules in
     let sizes = mask-size p.gamma1 (limits p (search rules)).mask in
-    let fault = none_of_err (challenge (nat_abs (to_z w32 (of_z w32 p.tau))) (front c.in_ok-c_tilde.c_tilde)) c.in-Err.field-0 c.in-Err.ensures in
-    let here : challenge (nat_abs p.tau) (front c.in_ok-c_tilde.c_tilde) ≡ None = rw T at fault.0 in
+    let fault = none_of_err (challenge (nat_abs (to_z w32 (of_z w32 p.tau))) (front c.in_ok-c_tilde.c_tilde.now)) c.in-Err.field-0 c.in-Err.ensures in
+    let here : challenge (nat_abs p.tau) (front c.in_ok-c_tilde.c_tilde.now) ≡ None = rw T at fault.0 in
     λ c_tilde z h ball found.
-    let same = same_signature (nat_abs p.gamma1) (nat_abs p.omega) p.k p.l (c_tilde_length (set_of p)) c.args.sig.now c.in_ok-c_tilde.c_tilde c_tilde c.write_signature_parts.new.z z c.write_signature_parts.new.h h
+    let same = same_signature (nat_abs p.gamma1) (nat_abs p.omega) p.k p.l (c_tilde_length (set_of p)) c.args.sig.now c.in_ok-c_tilde.c_tilde.now c_tilde c.write_signature_parts.new.z z c.write_signature_parts.new.h h
     sizes.0 (omega (arith, sizes.1)) (decoded g k) found.parts in
     absurd (none-some ball (sym here ∙ ap (λ (x : List ℕ). challenge (nat_abs p.tau) (front x)) same.0 ∙ found.sampled))
 
@@ -69,7 +69,7 @@ returns-in-Ok-clause-parts g c =
     let k = (goal.at.returns-in-Ok-clause-parts g c).After-has_norm_below in
     let front = g.H.Xof.front in
     let T : to_z w32 (of_z w32 p.tau) ≡ p.tau = search rules in
-    let ball = some_of_ok (challenge (nat_abs (to_z w32 (of_z w32 p.tau))) (front c.in_ok-c_tilde.c_tilde)) c.in-Ok.c c.in-Ok.ensures in
+    let ball = some_of_ok (challenge (nat_abs (to_z w32 (of_z w32 p.tau))) (front c.in_ok-c_tilde.c_tilde.now)) c.in-Ok.c c.in-Ok.ensures in
     record { parts = decoded g k; norm = ltb-true _ _ (sym (rw c.z_bound.ensures at c.has_norm_below.ensures) ∙ c.if-not-has_norm_below.false); sampled = rw T at ball }
 
 pub returns-in-Ok-clause-within : goal.returns-in-Ok-clause-within

@@ -7,7 +7,7 @@ use Rattle.fips204.proofs.ml_dsa.verification.verify_internal.Goals as goal
 pub open_signature-requires : goal.open_signature-requires
 open_signature-requires g c =
     let known = limits c.args.p.now (search rules) in
-    (search rules, (omega (arith, c.requires.sizes.columns, known.few_columns), (omega (arith, c.requires.sizes.rows, known.few_rows), (omega (arith, c.requires.sizes.c_tilde, known.short), c.requires.sizes))))
+    (omega (arith, c.requires.sizes.columns, known.few_columns), (omega (arith, c.requires.sizes.rows, known.few_rows), rw c.told-sig c.requires.sizes))
 
 pub returns-in_default : goal.returns-in_default
 returns-in_default g c = (λ t. absurd (true≢false (sym t)), λ v. absurd (unopened _ _ _ _ _ _ c.in_default.ensures.parts v.accepted))
@@ -21,8 +21,8 @@ returns-in-Ok g c =
     let there = sampled.1 in
     let matrix : sampled_matrix g.G.Xof.front c.args.pk.now.rho p.k p.l ≡ Some sampled.0 = rw (rho, c.requires.sizes.rows, c.requires.sizes.columns) at there in
     let z = c.open_signature.new.z in
-    let decided = commitment-decides p g.H.Xof.front sampled.0 c.pk.inside.t1 c.args.mu.now c.args.sig.now c.in-Some.parts.0 z c.open_signature.new.h c.in-Some.parts.1 c.write_sampled_product.new.out c.put_shifted_first.new.v g.row.K g.row.L c.is_committed.result
+    let decided = commitment-decides p g.H.Xof.front sampled.0 c.pk.inside.t1 c.args.mu.now c.args.sig.now c.in-Some.parts.0.now z c.open_signature.new.h c.in-Some.parts.1 c.write_sampled_product.new.out c.write_shifted_transforms.new.out g.row.K g.row.L c.is_committed.result
     (search rules) c.requires.sizes.rows c.requires.sizes.columns c.in-Some.ensures.parts
-    (λ r n h l. sampled.2 r n h l ∙ matrix-same g.row.L sampled.0 c.write_first_transforms-c_hat.new.out z r n c.write_first_transforms-c_hat.ensures.z l)
-    c.put_shifted_first.ensures (c.is_committed.ensures c.in-Some.parts.1 c.write_first_transforms-c_hat.ensures.c) in
+    (λ r n h l. sampled.2 r n h l ∙ matrix-same g.row.L sampled.0 c.write_transforms_and_factor-c_hat.new.self z r n c.write_transforms_and_factor-c_hat.ensures.vector l)
+    c.write_shifted_transforms.ensures (c.is_committed.ensures c.in-Some.parts.1 c.write_transforms_and_factor-c_hat.ensures.factor) in
     verifies-with (set_of p) g.H.Xof.front g.G.Xof.front c.args.pk.now c.args.mu.now c.args.sig.now sampled.0 c.is_committed.result matrix (rw t1 at decided)

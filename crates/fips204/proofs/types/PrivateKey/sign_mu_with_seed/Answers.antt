@@ -4,7 +4,7 @@ use Rattle.fips204.proofs.types.PrivateKey.sign_mu_with_seed.Goals as goal
 
 pub sign_internal-requires : goal.sign_internal-requires
 sign_internal-requires g c =
-    let sizes : HasSizes (set_of c.params.result) g.row.K g.row.L g.row.LAMBDA_DIV4 g.row.SIG_LEN = rw c.params.ensures g.met.S.SignatureSizes.sizes in
+    let sizes : HasSizes (set_of c.params.result) g.row.K g.row.L g.row.SIG_LEN = rw c.params.ensures g.met.S.SignatureSizes.sizes in
     search rules
 
 pub returns-clause-answer : goal.returns-clause-answer

@@ -1,4 +1,4 @@
-use Rattle.fips204_base.proofs.Names.{common_steps, to_z-of_z, ints, take_more_set, take_all, All-push, R, PolynomialInRange, all_ones, Spells, all_ones-none, before, pieces, totals_rise, piece, zero_rest, one_more, totals_more, gathered, spelling}
+use Rattle.fips204_base.proofs.Names.{common_steps, to_z-of_z, ints, take_more_set, take_all, All-push, R, PolynomialInRange, all_ones, Spells, all_ones-none, total_before, pieces, totals_rise, places_of, zero_rest, one_more, totals_more, gathered, spelling}
 use Rattle.std.proofs.Common.{rules, arith, ◌≡◌, ◌<◌, ◌+◌, pos, nat_abs, length, take, get_or, ◌∙◌, ap, sym, refl, length-set, w32, to_z, of_z, add-one, None}
 use Rattle.fips204_base.specs.declared.types.TheConstants.{R0}
 use Rattle.fips204_base.proofs.conversion.hints.write_unpacked_hint.Goals as goal
@@ -22,7 +22,7 @@ returns-in_err-h g c =
     let O = to_z-of_z w32 c.args.omega c.ranges.omega in
     let S : Spells (nat_abs (to_z w32 (of_z w32 c.args.omega))) g.row.K h c.args.y.now = rw O s in
     let n = S.hint.rows in
-    c.in_err-h.ensures (get_or h c.loop-i.i R0) (rw c.loop-i.invariant.at (piece _ h c.args.y.now c.loop-i.i (pieces _ _ h c.args.y.now S) (omega (arith, n)))))
+    c.in_err-h.ensures (get_or h c.loop-i.i R0) (rw c.loop-i.invariant.at (places_of _ h c.args.y.now c.loop-i.i (pieces _ _ h c.args.y.now S) (omega (arith, n)))))
 
 pub loop-i-init : goal.loop-i-init
 loop-i-init g c = grind (arith, ints, common_steps, all_ones-none, c.told-h)
@@ -35,7 +35,7 @@ loop-i-preserved g c =
     let more = take_more_set c.loop-i.h c.loop-i.i c.in_ok-h.field-0 inside in
     record {
       count = length-set c.loop-i.h c.loop-i.i c.in_ok-h.field-0 ∙ c.loop-i.invariant.count;
-      at = ap (before _ c.args.y.now) (sym (add-one c.loop-i.i));
+      at = ap (total_before _ c.args.y.now) (sym (add-one c.loop-i.i));
       few = c.if-end-limit.false;
       places = places;
       totals = totals_more c.loop-i.h c.args.y.now _ c.loop-i.i end c.in_ok-h.field-0 inside (search rules) refl (search rules) places c.loop-i.invariant.totals;

@@ -1,11 +1,9 @@
-use Rattle.std.proofs.Common.{◌≡◌, Err, refl, arith, rules}
-use Rattle.fips204_base.proofs.Names.{flat_map, matrix_entry, SamplingLimit, of_parts, parts_whole}
+use Rattle.std.proofs.Common.{◌≡◌, Err, refl, rules}
+use Rattle.fips204_base.proofs.Names.{matrix_entry, SamplingLimit, of_parts, parts_long}
 use Rattle.fips204_base.proofs.hashing.matrix.rej_ntt_poly.Goals as goal
 
-pub write_entry-requires : goal.write_entry-requires
-write_entry-requires g c =
-    let size = g.met.G.Xof.front_size (flat_map (λ part. part.now) c.args.parts.now) in
-    parts_whole 768 g.G.Xof.FRONT c.open-reader.ensures c.read.ensures.dropped size (omega (arith, g.met.G.Xof.front_least))
+pub write_entry-requires-clause-front : goal.write_entry-requires-clause-front
+write_entry-requires-clause-front g c = parts_long 768 c.open-reader.ensures c.read.ensures.given c.read.ensures.dropped (g.met.G.Xof.front_size _)
 
 pub returns-in_err-write_entry : goal.returns-in_err-write_entry
 returns-in_err-write_entry g c =

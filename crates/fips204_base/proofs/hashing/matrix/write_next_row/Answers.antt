@@ -29,14 +29,14 @@ returns-then-this-eq4 g c =
     let G = g.G.Xof.front in
     let rho = c.args.rho.now in
     let four : g.row.L ≡ 4 = omega (arith, c.if-this-eq4.true) in (
-      row_of_four G rho g.row.L c.args.r c.write_four_entries.new.entries four (search rules) c.in_ok-write_four_entries.ensures,
+      row_of_four G rho g.row.L c.args.r c.write_four.new.values four (search rules) (λ j d h. c.in_ok-write_four.ensures j d (omega (arith, h, four, c.told-row))),
       ahead-none G rho g.row.L (g.row.K * g.row.L) (c.args.r + 1) c.args.ahead.now four,
     )
 
-pub returns-in_err-write_four_entries : goal.returns-in_err-write_four_entries
-returns-in_err-write_four_entries g c =
+pub returns-in_err-write_four : goal.returns-in_err-write_four
+returns-in_err-write_four g c =
     let refused : c.from_residual.result ≡ Err SamplingLimit = search rules in
-    let none = c.in_err-write_four_entries.ensures.0 in
+    let none = c.in_err-write_four.ensures.0 in
     let four : g.row.L ≡ 4 = omega (arith, c.if-this-eq4.true) in
     let place : c.args.r * g.row.L + none.0 < g.row.K * g.row.L = let j = none.1 in rw four (omega (arith, j, c.requires.place)) in
     rw refused (matrix-none g.G.Xof.front c.args.rho.now g.row.K g.row.L (c.args.r * g.row.L + none.0) (omega (arith, four)) place none.2, refl)

@@ -1,11 +1,9 @@
-use Rattle.std.proofs.Common.{◌≡◌, Err, refl, arith, rules, nat_abs, to_z, of_z}
-use Rattle.fips204_base.proofs.Names.{w32, flat_map, small_polynomial, SamplingLimit, of_parts, parts_whole}
+use Rattle.std.proofs.Common.{◌≡◌, Err, refl, rules, nat_abs, to_z, of_z}
+use Rattle.fips204_base.proofs.Names.{w32, small_polynomial, SamplingLimit, of_parts, parts_long}
 use Rattle.fips204_base.proofs.hashing.small.rej_bounded_poly.Goals as goal
 
 pub write_polynomial-requires-clause-front : goal.write_polynomial-requires-clause-front
-write_polynomial-requires-clause-front g c =
-    let size = g.met.H.Xof.front_size (flat_map (λ part. part.now) c.args.parts.now) in
-    parts_whole 192 g.H.Xof.FRONT c.open-reader.ensures c.read.ensures.dropped size (omega (arith, g.met.H.Xof.front_least))
+write_polynomial-requires-clause-front g c = parts_long 192 c.open-reader.ensures c.read.ensures.given c.read.ensures.dropped (g.met.H.Xof.front_size _)
 
 pub returns-in_err-write_polynomial : goal.returns-in_err-write_polynomial
 returns-in_err-write_polynomial g c =

@@ -1,61 +1,87 @@
-use Rattle.std.proofs.Common.{rules, arith, length, refl, sym, ap, ◌∙◌}
-use Rattle.mldsa_lines.specs.Lines.{Stops}
-use Rattle.mldsa_engine.specs.declared.call.Task.TheVariants.{Batch}
-use Rattle.mldsa_engine.specs.ProgramText.{input_lines, wanted_lines}
-use Rattle.mldsa_engine.proofs.Entries.{stops_first}
-use Rattle.mldsa_engine.proofs.LineCounts.{executes_batch, batch_stops, counted, fits_at}
+use Rattle.std.proofs.Common.{◌≡◌, ◌∷◌, [], take, true, Some, None, refl}
+use Rattle.fips204.specs.ParameterSets.{public_key_length, private_key_length, signature_length}
+use Rattle.mldsa_engine.specs.declared.call.Task.TheVariants.{Id, Keygen, Sign, Verify, Check}
+use Rattle.mldsa_engine.specs.ProgramText.{hex_text, TellsKeys, TellsSignature, TellsVerdict, TellsCheck}
+use Rattle.mldsa_engine.proofs.LineCounts.{answers_one, answers_four, executes_lines, executes_batch, batch_stops}
+use Rattle.mldsa_engine.proofs.Verdicts.{judges_told}
 use Rattle.mldsa_engine.proofs.answers.AtSet.carry_out.Goals as goal
 
-pub returns-in_err-lines-clause-stops : goal.returns-in_err-lines-clause-stops
-returns-in_err-lines-clause-stops g c =
-    let given = g.I.Read.remaining c.args.input.now.device in
-    let bad : Stops 1 (input_lines c.args.task g.S.Set.set given) given
-    (g.I.Read.remaining c.read_lines.new.input.device) c.in_err-lines.field-0.0 =
-    stops_first _ _ _ _ _ (rw c.wanted-count.ensures.lines at c.in_err-lines.ensures.stops) in
-    search (rules, bad)
+pub returns-in-Id-clause-executed : goal.returns-in-Id-clause-executed
+returns-in-Id-clause-executed g c =
+    let p = g.S.Set.set in
+    let there = c.as_slice-lines.ensures.value in
+    let fit = rw (c.wanted-count.ensures.lines, c.in-Id.is) at c.in_ok-lines.ensures.fit in
+    let taken = rw (c.wanted-count.ensures.lines, c.in-Id.is) at c.in_ok-lines.ensures.taken in
+    rw c.in-Id.is (executes_lines (λ output. output.text.items) (λ output. output.success) g.H.Xof.front g.G.Xof.front Id p _ _ _
+    c.identify.result taken (answers_one (λ line. line.items) (λ output. output.text.items) (λ output. output.success) g.H.Xof.front g.G.Xof.front Id p
+    (Some (public_key_length p)) (λ key output answer. (output ≡ hex_text (key ∷ take 64 (g.H.Xof.front key) ∷ [])) × (answer ≡ true))
+    c.in_ok-lines.lines.items _ _ _ (λ a output answer told. (a, refl, told.0, told.1)) fit (rw there at c.index-lines-0.is)
+    c.as_slice.ensures.value c.identify.ensures.given))
 
-pub returns-in-Batch-clause-executed : goal.returns-in-Batch-clause-executed
-returns-in-Batch-clause-executed g c =
+pub returns-in-Keygen-clause-executed : goal.returns-in-Keygen-clause-executed
+returns-in-Keygen-clause-executed g c =
+    let p = g.S.Set.set in
+    let there = c.as_slice-lines.ensures.value in
+    let fit = rw (c.wanted-count.ensures.lines, c.in-Keygen.is) at c.in_ok-lines.ensures.fit in
+    let taken = rw (c.wanted-count.ensures.lines, c.in-Keygen.is) at c.in_ok-lines.ensures.taken in
+    rw c.in-Keygen.is (executes_lines (λ output. output.text.items) (λ output. output.success) g.H.Xof.front g.G.Xof.front Keygen p _ _ _
+    c.keygen.result taken (answers_one (λ line. line.items) (λ output. output.text.items) (λ output. output.success) g.H.Xof.front g.G.Xof.front Keygen p
+    (Some 32) (TellsKeys p g.H.Xof.front g.G.Xof.front) c.in_ok-lines.lines.items _ _ _ (λ a output answer told. (a, refl, told)) fit
+    (rw there at c.index-lines-0-in-Keygen.is) (rw c.as_slice-in-Keygen.ensures.value at c.array_of.ensures) c.keygen.ensures.given))
+
+pub returns-in-Sign-clause-executed : goal.returns-in-Sign-clause-executed
+returns-in-Sign-clause-executed g c =
+    let p = g.S.Set.set in
+    let there = c.as_slice-lines.ensures.value in
+    let fit = rw (c.wanted-count.ensures.lines, c.in-Sign.is) at c.in_ok-lines.ensures.fit in
+    let taken = rw (c.wanted-count.ensures.lines, c.in-Sign.is) at c.in_ok-lines.ensures.taken in
+    rw c.in-Sign.is (executes_lines (λ output. output.text.items) (λ output. output.success) g.H.Xof.front g.G.Xof.front Sign p _ _ _
+    c.sign.result taken (answers_four (λ field. field.now) (λ output. output.text.items) (λ output. output.success) g.H.Xof.front g.G.Xof.front Sign p
+    (Some (private_key_length p)) (Some 32) None None (TellsSignature p g.H.Xof.front g.G.Xof.front) _ c.fields.result _ _ _ _
+    (λ x y z w output answer told. (x, y, z, w, refl, told)) fit (rw there at c.fields.ensures) refl c.array_of-in-Sign.ensures
+    c.sign.ensures.given))
+
+pub returns-in-Verify-clause-executed : goal.returns-in-Verify-clause-executed
+returns-in-Verify-clause-executed g c =
+    let p = g.S.Set.set in
+    let there = c.as_slice-lines.ensures.value in
+    let fit = rw (c.wanted-count.ensures.lines, c.in-Verify.is) at c.in_ok-lines.ensures.fit in
+    let taken = rw (c.wanted-count.ensures.lines, c.in-Verify.is) at c.in_ok-lines.ensures.taken in
+    rw c.in-Verify.is (executes_lines (λ output. output.text.items) (λ output. output.success) g.H.Xof.front g.G.Xof.front Verify p _ _ _
+    c.tell.result taken (answers_four (λ field. field.now) (λ output. output.text.items) (λ output. output.success) g.H.Xof.front g.G.Xof.front Verify p
+    (Some (public_key_length p)) (Some (signature_length p)) None None (TellsVerdict p g.H.Xof.front g.G.Xof.front) _
+    c.fields-in-Verify.result _ _ _ _ (λ x y z w output answer told. (x, y, z, w, refl, told)) fit (rw there at c.fields-in-Verify.ensures)
+    refl refl (judges_told (λ output. output.text.items) (λ output. output.success) p _ _ _ _ _ _ c.accepts.result _ c.accepts.ensures
+    c.tell.ensures.given)))
+
+pub returns-in-Check-clause-executed : goal.returns-in-Check-clause-executed
+returns-in-Check-clause-executed g c =
+    let p = g.S.Set.set in
+    let there = c.as_slice-lines.ensures.value in
+    let fit = rw (c.wanted-count.ensures.lines, c.in-Check.is) at c.in_ok-lines.ensures.fit in
+    let taken = rw (c.wanted-count.ensures.lines, c.in-Check.is) at c.in_ok-lines.ensures.taken in
+    rw c.in-Check.is (executes_lines (λ output. output.text.items) (λ output. output.success) g.H.Xof.front g.G.Xof.front Check p _ _ _
+    c.check.result taken (answers_four (λ field. field.now) (λ output. output.text.items) (λ output. output.success) g.H.Xof.front g.G.Xof.front Check p
+    (Some 32) (Some 32) None None (TellsCheck p g.H.Xof.front g.G.Xof.front) _ c.fields-in-Check.result _ _ _ _
+    (λ x y z w output answer told. (x, y, z, w, refl, told)) fit (rw there at c.fields-in-Check.ensures) c.array_of-in-Check.ensures
+    c.array_of-in-Check-2.ensures c.check.ensures.given))
+
+pub returns-clause-executed : goal.returns-clause-executed
+returns-clause-executed g c =
+    let there = c.as_slice-lines.ensures.value in
     let fit = rw (c.wanted-count.ensures.lines, c.in-Batch.is) at c.in_ok-lines.ensures.fit in
     let taken = rw (c.wanted-count.ensures.lines, c.in-Batch.is) at c.in_ok-lines.ensures.taken in
     rw c.in-Batch.is (executes_batch (λ line. line.items) (λ output. output.text.items) (λ output. output.success) _ _ g.S.Set.set _ _ _
-    c.in_ok-lines.lines.items _ _ _ _ _ _ _ _ fit taken c.index-in-Batch.ensures c.index-in-Batch-2.ensures c.index.ensures
-    c.as_slice-key.ensures.value c.as_slice-context.ensures.value c.as_slice.ensures.value c.number_of-count.ensures.value
-    c.judge_batch.ensures.judged)
+    c.in_ok-lines.lines.items _ _ _ _ _ _ _ _ fit taken (rw there at c.index-lines-0-in-Batch.is) (rw there at c.index-lines-1.is)
+    (rw there at c.index-lines-2.is) c.as_slice-key.ensures.value c.as_slice-context.ensures.value c.as_slice-in-Batch.ensures.value
+    c.number_of-count.ensures.value c.judge_batch.ensures.judged)
 
-pub returns-in-Batch-clause-stops : goal.returns-in-Batch-clause-stops
-returns-in-Batch-clause-stops g c =
+pub returns-clause-stops : goal.returns-clause-stops
+returns-clause-stops g c =
+    let there = c.as_slice-lines.ensures.value in
     let fit = rw (c.wanted-count.ensures.lines, c.in-Batch.is) at c.in_ok-lines.ensures.fit in
     let taken = rw (c.wanted-count.ensures.lines, c.in-Batch.is) at c.in_ok-lines.ensures.taken in
     let sizes = g.met.S.SignatureSizes.sizes in
     rw c.in-Batch.is (batch_stops (λ line. line.items) g.S.Set.set _ _ _ c.in_ok-lines.lines.items _ _ _ _ _ _
-    fit taken c.index-in-Batch.ensures c.index-in-Batch-2.ensures c.index.ensures c.as_slice.ensures.value c.number_of-count.ensures.value
-    (rw sizes.signature at c.judge_batch.ensures.stops))
-
-pub index-requires : goal.index-requires
-index-requires g c =
-    let fit = rw (c.wanted-count.ensures.lines, c.in-Batch.is) at c.in_ok-lines.ensures.fit in
-    omega (arith, counted (λ line. line.items) (wanted_lines Batch g.S.Set.set) _ fit)
-
-pub index-requires-in-Batch : goal.index-requires-in-Batch
-index-requires-in-Batch g c =
-    let fit = rw (c.wanted-count.ensures.lines, c.in-Batch.is) at c.in_ok-lines.ensures.fit in
-    omega (arith, counted (λ line. line.items) (wanted_lines Batch g.S.Set.set) _ fit)
-
-pub index-requires-in-Batch-2 : goal.index-requires-in-Batch-2
-index-requires-in-Batch-2 g c =
-    let fit = rw (c.wanted-count.ensures.lines, c.in-Batch.is) at c.in_ok-lines.ensures.fit in
-    omega (arith, counted (λ line. line.items) (wanted_lines Batch g.S.Set.set) _ fit)
-
-pub number_of-count-requires : goal.number_of-count-requires
-number_of-count-requires g c =
-    let fit = rw (c.wanted-count.ensures.lines, c.in-Batch.is) at c.in_ok-lines.ensures.fit in
-    ap length c.as_slice.ensures.value ∙ ap (λ line. length line.items) c.index.ensures
-    ∙ fits_at (λ line. line.items) (wanted_lines Batch g.S.Set.set) c.in_ok-lines.lines.items 2 _ fit refl
-
-pub judge_batch-requires-clause-key : goal.judge_batch-requires-clause-key
-judge_batch-requires-clause-key g c =
-    let fit = rw (c.wanted-count.ensures.lines, c.in-Batch.is) at c.in_ok-lines.ensures.fit in
-    ap length c.as_slice-key.ensures.value ∙ ap (λ line. length line.items) c.index-in-Batch.ensures
-    ∙ fits_at (λ line. line.items) (wanted_lines Batch g.S.Set.set) c.in_ok-lines.lines.items 0 _ fit refl
-    ∙ sym g.met.S.KeySizes.key_sizes.public_key
+    fit taken (rw there at c.index-lines-0-in-Batch.is) (rw there at c.index-lines-1.is) (rw there at c.index-lines-2.is)
+    c.as_slice-in-Batch.ensures.value c.number_of-count.ensures.value (rw sizes.signature at c.judge_batch.ensures.stops))

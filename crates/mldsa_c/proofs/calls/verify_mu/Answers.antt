@@ -1,4 +1,0 @@
-use Rattle.mldsa_c.proofs.calls.verify_mu.Goals as goal
-
-pub returns : goal.returns
-returns c = (λ _. rw c.in-Some.ensures.cases.same at c.verify.ensures, λ differ. absurd (differ c.in-Some.ensures.cases.long))

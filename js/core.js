@@ -1,0 +1,473 @@
+// ML-DSA (FIPS 204) at the parameter sets 44, 65 and 87, over a WebAssembly module whose code is proved (docs/SPEC.md).
+// This file is ordinary JavaScript over it: it copies arrays into the module's memory and back, and is tested, not
+// proved. It says nothing of where the module is: that do mldsa.js and inline.js.
+import { isNode, ofNode, webCrypto } from "./engine.js";
+
+/** The lengths of a set's arrays in bytes. */
+const LENGTHS = {
+    44: { publicKey: 1312, privateKey: 2560, signature: 2420 },
+    65: { publicKey: 1952, privateKey: 4032, signature: 3309 },
+    87: { publicKey: 2592, privateKey: 4896, signature: 4627 },
+};
+const SEED_LENGTH = 32;
+const RANDOM_LENGTH = 32;
+const MU_LENGTH = 64;
+const STATE_LENGTH = 337;
+const LONGEST_CONTEXT = 255;
+/** Of a message in pieces so many bytes are gathered, and so many at most hashed by one call. */
+const GATHERED = 1 << 16;
+const AT_ONCE = 1 << 20;
+
+const DONE = 0;
+const NO = 1;
+const WRONG_LENGTH = 2;
+
+/** What a status means that is neither done, nor yes or no: the texts of c/mldsa.h. */
+const TEXTS = {
+    [WRONG_LENGTH]: "an array has the wrong length",
+    4: "ML-DSA.Sign: ctx too long",
+    6: "HashML-DSA.Sign: ctx too long",
+    7: "HashML-DSA.Sign: OID is empty",
+    8: "HashML-DSA.Sign: OID is not DER encoded",
+    9: "Hash of message is too long, should not be more than 1KiB",
+    10: "HashML-DSA.Sign: digest length does not match the OID",
+    13: "ML-DSA.Sign: too many attempts",
+    14: "Alg 25: s1 or s2 out of range",
+    15: "sampling limit reached",
+    16: "the state of a message in pieces is broken",
+    17: "no call has written this prepared key",
+};
+
+/** The array to which a status belongs, and the longest that it may be where that is one number. */
+const ABOUT = {
+    4: ["context", LONGEST_CONTEXT],
+    6: ["context", LONGEST_CONTEXT],
+    7: ["oid"],
+    8: ["oid"],
+    9: ["digest", 1024],
+    10: ["digest"],
+};
+
+const UNSUPPORTED =
+    "this engine has no WebAssembly with bulk memory and sign extension: " +
+    "Chrome and Edge have it from 85, Firefox from 90, Safari from 15, Node from 16";
+
+/** A call that the library refused. */
+export class MlDsaError extends Error {
+    constructor(status, detail) {
+        super((TEXTS[status] ?? "no answer of this library") + (detail === undefined ? "" : `: ${detail}`));
+        this.name = "MlDsaError";
+        this.status = status;
+    }
+}
+
+/** A module with what the library's has: a memory of 32 bits, 64-bit numbers, memory.fill and i64.extend8_s. */
+const PROBE = new Uint8Array([
+    0, 0x61, 0x73, 0x6d, 1, 0, 0, 0, 1, 4, 1, 0x60, 0, 0, 3, 2, 1, 0, 5, 3, 1, 0, 0,
+    10, 17, 1, 15, 0, 0x41, 0, 0x41, 0, 0x41, 0, 0xfc, 11, 0, 0x42, 0, 0xc2, 0x1a, 0x0b,
+]);
+
+/** Whether this engine can run the library. */
+export function isSupported() {
+    return typeof WebAssembly === "object" && typeof BigInt === "function" && WebAssembly.validate(PROBE);
+}
+
+/** The object identifiers of NIST's hash functions but for their last byte: 2.16.840.1.101.3.4.2. */
+const HASHES = [0x06, 0x09, 0x60, 0x86, 0x48, 0x01, 0x65, 0x03, 0x04, 0x02];
+
+/** Object identifiers of hash functions in DER, as `hashSign` and `hashVerify` take them: each time a new array. */
+export const oids = Object.freeze(
+    Object.defineProperties(
+        {},
+        Object.fromEntries(
+            [
+                ["SHA-224", 4], ["SHA-256", 1], ["SHA-384", 2], ["SHA-512", 3], ["SHA-512/224", 5], ["SHA-512/256", 6],
+                ["SHA3-224", 7], ["SHA3-256", 8], ["SHA3-384", 9], ["SHA3-512", 10], ["SHAKE128", 11], ["SHAKE256", 12],
+            ].map(([name, arc]) => [name, { enumerable: true, get: () => Uint8Array.of(...HASHES, arc) }]),
+        ),
+    ),
+);
+
+/** The module's memory and calls. Calls run one after the other, and each leaves the memory as it was at first. */
+class Library {
+    #exports;
+    #memory;
+    #heap;
+    #begin;
+    #constants;
+
+    constructor(instance, random) {
+        this.random = random;
+        this.#exports = instance.exports;
+        this.#memory = instance.exports.memory;
+        this.#heap = Number(instance.exports.__heap_base.value);
+        // Below the heap lie the stack, which is all zeros at first, and the module's constants.
+        const first = new Uint8Array(this.#memory.buffer, 0, this.#heap);
+        const begin = first.findIndex((byte) => byte !== 0);
+        this.#begin = begin < 0 ? this.#heap : begin;
+        this.#constants = first.slice(this.#begin);
+    }
+
+    /** Makes a call with arrays that it reads, and then those that it writes: of these the lengths, or the bytes that
+     * are there before. Gives its status and what it wrote. Each array lies above the module's own memory. */
+    call(name, read, written) {
+        const lengths = [...read, ...written].map((it) => (typeof it === "number" ? it : it.length));
+        const places = [];
+        let end = this.#heap;
+        for (const length of lengths) {
+            places.push(end);
+            end += 16 * Math.ceil(length / 16);
+        }
+        this.#reach(end);
+        const memory = new Uint8Array(this.#memory.buffer, 0, end);
+        try {
+            [...read, ...written].forEach((it, i) => typeof it === "number" || memory.set(it, places[i]));
+            const words = lengths.flatMap((length, i) => [BigInt(places[i]), BigInt(length)]);
+            const status = this.#exports[name](...words);
+            const ends = lengths.map((length, i) => places[i] + length);
+            return [status, ...written.map((_, i) => memory.slice(places[read.length + i], ends[read.length + i]))];
+        } finally {
+            // The stack has what the call computed.
+            memory.fill(0);
+            memory.set(this.#constants, this.#begin);
+        }
+    }
+
+    /** Grows the memory until it has so many bytes. */
+    #reach(bytes) {
+        const pages = Math.ceil((bytes - this.#memory.buffer.byteLength) / 65536);
+        if (pages > 0) {
+            try {
+                this.#memory.grow(pages);
+            } catch {
+                const how = "messageHasher takes long messages in pieces";
+                throw new RangeError(`the arrays do not fit into the module's memory: ${bytes} bytes; ${how}`);
+            }
+        }
+    }
+}
+
+const NOTHING = new Uint8Array(0);
+const tagOf = Object.getOwnPropertyDescriptor(Object.getPrototypeOf(Uint8Array.prototype), Symbol.toStringTag).get;
+
+/** The array, if it is one of bytes, of this realm or another, and has its length where it is to have one. */
+function bytes(name, value, length = value?.length) {
+    if (tagOf.call(value) !== "Uint8Array") {
+        throw new TypeError(`${name} is not a Uint8Array`);
+    }
+    if (value.length !== length) {
+        throw new MlDsaError(WRONG_LENGTH, `${name} has ${value.length} bytes, and not ${length}`);
+    }
+    return value;
+}
+
+/** Refuses more arguments than a call takes. */
+function atMost(call, words, count) {
+    if (words.length > count) {
+        const most = `${count} argument${count === 1 ? "" : "s"}`;
+        throw new TypeError(`${call} takes at most ${most}, and was given ${words.length}`);
+    }
+}
+
+/** Whether a value is an object as `{}` makes it, in this realm or another. */
+function isPlain(value) {
+    if (Object.prototype.toString.call(value) !== "[object Object]") {
+        return false;
+    }
+    const prototype = Object.getPrototypeOf(value);
+    return prototype === null || Object.getPrototypeOf(prototype) === null;
+}
+
+/** The options of a call, which stand behind its arrays: each has one of the names. */
+function optionsOf(call, words, arrays, ...names) {
+    atMost(call, words, arrays + 1);
+    const given = words[arrays];
+    const found = Object.create(null);
+    if (given === undefined) {
+        return found;
+    }
+    if (!isPlain(given)) {
+        throw new TypeError(`the options of ${call} are not a plain object, as { ${names[0]} }`);
+    }
+    for (const name of Reflect.ownKeys(given)) {
+        if (!names.includes(name)) {
+            throw new TypeError(`${call} has no option ${String(name)}, but ${names.join(" and ")}`);
+        }
+        found[name] = given[name];
+    }
+    return found;
+}
+
+/** What a call wrote, or an error about one of the arrays that it read. */
+function done([status, ...written], named = {}) {
+    if (status === DONE) {
+        return written;
+    }
+    const [name, most] = ABOUT[status] ?? [];
+    const limit = most === undefined ? "" : `, and at most ${most} are allowed`;
+    throw new MlDsaError(status, named[name] && `${name} has ${named[name].length} bytes${limit}`);
+}
+
+/** The answer to a question. */
+function answer([status]) {
+    if (status > NO) {
+        throw new MlDsaError(status);
+    }
+    return status === DONE;
+}
+
+/** A message that is hashed in pieces. Small ones are gathered, since each call has to wipe the module's memory. */
+class MessageHasher {
+    #library;
+    #state;
+    #gathered;
+    #held = 0;
+
+    constructor(library, state) {
+        this.#library = library;
+        this.#state = state;
+    }
+
+    update(piece) {
+        atMost("update", arguments, 1);
+        bytes("piece", piece);
+        if (this.#held + piece.length > GATHERED) {
+            this.#flush();
+        }
+        if (piece.length > GATHERED) {
+            this.#hash(piece);
+        } else {
+            this.#gathered ??= new Uint8Array(GATHERED);
+            this.#gathered.set(piece, this.#held);
+            this.#held += piece.length;
+        }
+        return this;
+    }
+
+    mu() {
+        atMost("mu", arguments, 0);
+        this.#flush();
+        return done(this.#library.call("mldsa_mu_finish", [this.#state], [MU_LENGTH]))[0];
+    }
+
+    /** Hashes what was gathered, and wipes it. */
+    #flush() {
+        if (this.#held > 0) {
+            const held = this.#gathered.subarray(0, this.#held);
+            this.#hash(held);
+            this.#held = 0;
+            held.fill(0);
+        }
+    }
+
+    #hash(piece) {
+        for (let at = 0; at < piece.length; at += AT_ONCE) {
+            const part = piece.subarray(at, at + AT_ONCE);
+            [this.#state] = done(this.#library.call("mldsa_mu_update", [part], [this.#state]));
+        }
+    }
+}
+
+/** The calls of a parameter set. */
+class MlDsa {
+    #library;
+    #prefix;
+
+    constructor(library, number) {
+        this.#library = library;
+        this.#prefix = `mldsa${number}_`;
+        this.name = `ML-DSA-${number}`;
+        this.lengths = Object.freeze({ seed: SEED_LENGTH, random: RANDOM_LENGTH, mu: MU_LENGTH, ...LENGTHS[number] });
+        Object.freeze(this);
+    }
+
+    #call(name, read, written = []) {
+        return this.#library.call(this.#prefix + name, read, written);
+    }
+
+    /** An array of a kind that has one length. */
+    #fixed(name, value) {
+        return bytes(name, value, this.lengths[name]);
+    }
+
+    /** Calls with random bytes: those that are given, or else some of the system's generator, which are wiped then. */
+    #withRandom(name, given, use) {
+        if (given !== undefined) {
+            return use(this.#fixed(name, given));
+        }
+        const drawn = this.#library.random(this.lengths[name]);
+        try {
+            return use(drawn);
+        } finally {
+            drawn.fill(0);
+        }
+    }
+
+    /** Signs with arrays that are named. */
+    #signed(name, read, random) {
+        return this.#withRandom("random", random, (drawn) => {
+            const answered = this.#call(name, [...Object.values(read), drawn], [this.lengths.signature]);
+            return done(answered, read)[0];
+        });
+    }
+
+    /** Whether a signature is accepted. One of another length is not, whatever the rest is. */
+    #accepts(name, read, signature) {
+        bytes("signature", signature);
+        return signature.length === this.lengths.signature && answer(this.#call(name, [...read, signature]));
+    }
+
+    keygen(seed) {
+        atMost("keygen", arguments, 1);
+        return this.#withRandom("seed", seed, (drawn) => {
+            const written = [this.lengths.publicKey, this.lengths.privateKey];
+            const [publicKey, privateKey] = done(this.#call("keygen", [drawn], written));
+            return { publicKey, privateKey };
+        });
+    }
+
+    publicKey(privateKey) {
+        atMost("publicKey", arguments, 1);
+        return done(this.#call("public_key", [this.#fixed("privateKey", privateKey)], [this.lengths.publicKey]))[0];
+    }
+
+    sign(privateKey, message) {
+        const { context = NOTHING, random } = optionsOf("sign", arguments, 2, "context", "random");
+        const key = this.#fixed("privateKey", privateKey);
+        const read = { privateKey: key, message: bytes("message", message), context: bytes("context", context) };
+        return this.#signed("sign", read, random);
+    }
+
+    verify(publicKey, message, signature) {
+        const { context = NOTHING } = optionsOf("verify", arguments, 3, "context");
+        const key = this.#fixed("publicKey", publicKey);
+        return this.#accepts("verify", [key, bytes("message", message), bytes("context", context)], signature);
+    }
+
+    hashSign(privateKey, digest, oid) {
+        const { context = NOTHING, random } = optionsOf("hashSign", arguments, 3, "context", "random");
+        const key = this.#fixed("privateKey", privateKey);
+        const hash = { digest: bytes("digest", digest), context: bytes("context", context), oid: bytes("oid", oid) };
+        return this.#signed("hash_sign", { privateKey: key, ...hash }, random);
+    }
+
+    hashVerify(publicKey, digest, oid, signature) {
+        const { context = NOTHING } = optionsOf("hashVerify", arguments, 4, "context");
+        const key = this.#fixed("publicKey", publicKey);
+        const hash = [bytes("digest", digest), bytes("context", context), bytes("oid", oid)];
+        return this.#accepts("hash_verify", [key, ...hash], signature);
+    }
+
+    messageHasher(publicKey) {
+        const { context = NOTHING } = optionsOf("messageHasher", arguments, 1, "context");
+        const read = { publicKey: this.#fixed("publicKey", publicKey), context: bytes("context", context) };
+        return this.#begun("mu_begin", read);
+    }
+
+    messageHasherOfPrivate(privateKey) {
+        const { context = NOTHING } = optionsOf("messageHasherOfPrivate", arguments, 1, "context");
+        const read = { privateKey: this.#fixed("privateKey", privateKey), context: bytes("context", context) };
+        return this.#begun("mu_begin_private", read);
+    }
+
+    #begun(name, read) {
+        return new MessageHasher(this.#library, done(this.#call(name, Object.values(read), [STATE_LENGTH]), read)[0]);
+    }
+
+    signMu(privateKey, mu) {
+        const { random } = optionsOf("signMu", arguments, 2, "random");
+        const read = { privateKey: this.#fixed("privateKey", privateKey), mu: this.#fixed("mu", mu) };
+        return this.#signed("sign_mu", read, random);
+    }
+
+    verifyMu(publicKey, mu, signature) {
+        atMost("verifyMu", arguments, 3);
+        return this.#accepts("verify_mu", [this.#fixed("publicKey", publicKey), this.#fixed("mu", mu)], signature);
+    }
+
+    checkPrivateKey(privateKey) {
+        atMost("checkPrivateKey", arguments, 1);
+        done(this.#call("check_private_key", [this.#fixed("privateKey", privateKey)]));
+    }
+
+    isPair(privateKey) {
+        atMost("isPair", arguments, 1);
+        return answer(this.#call("is_pair", [this.#fixed("privateKey", privateKey)]));
+    }
+
+    isWhole(privateKey) {
+        atMost("isWhole", arguments, 1);
+        return answer(this.#call("is_whole", [this.#fixed("privateKey", privateKey)]));
+    }
+}
+
+/** What draws so many random bytes. */
+async function generator() {
+    const found = await webCrypto();
+    return (length) => {
+        if (found === undefined) {
+            throw new Error("this engine has no crypto.getRandomValues: pass seed and random");
+        }
+        return found.getRandomValues(new Uint8Array(length));
+    };
+}
+
+/** The bytes that a URL names. Node's fetch reads no files. */
+async function bytesAt(url) {
+    if (url.protocol === "file:" && isNode) {
+        return (await ofNode("fs/promises")).readFile(url);
+    }
+    return ofResponse(await fetch(url.href));
+}
+
+function ofResponse(response) {
+    if (!response.ok) {
+        throw new Error(`${response.url}: ${response.status} ${response.statusText}`);
+    }
+    return response.arrayBuffer();
+}
+
+/** The module of what `load` was given: a URL or its text, a response, bytes, or a module. */
+async function moduleOf(source) {
+    if (Object.prototype.toString.call(source) === "[object WebAssembly.Module]") {
+        return source;
+    }
+    if (typeof source === "string" || typeof source?.href === "string") {
+        return WebAssembly.compile(await bytesAt(new URL(source, globalThis.location?.href)));
+    }
+    return WebAssembly.compile(typeof source?.arrayBuffer === "function" ? await ofResponse(source) : source);
+}
+
+/** The module that lies beside a script. Bundles have no place, or nothing beside it. */
+async function besideOf(script) {
+    const how = "a bundle takes mldsa/inline, or gives load the module's place or bytes";
+    if (script === undefined) {
+        throw new Error(`this script does not know where mldsa.wasm is: ${how}`);
+    }
+    try {
+        return await bytesAt(new URL("./mldsa.wasm", script));
+    } catch (error) {
+        throw new Error(`there is no mldsa.wasm beside this script: ${how} (${error.message})`);
+    }
+}
+
+/** The bytes of base64. */
+function ofBase64(text) {
+    return Uint8Array.from(atob(text), (character) => character.charCodeAt(0));
+}
+
+/** A function that loads the module, and gives the three parameter sets. By default it is what lies beside a script, or
+ * inside one in base64. */
+export function loader({ beside, inside }) {
+    const own = () => (inside === undefined ? besideOf(beside()) : ofBase64(inside));
+    return async function load(source) {
+        atMost("load", arguments, 1);
+        if (!isSupported()) {
+            throw new Error(UNSUPPORTED);
+        }
+        const module = await moduleOf(source === undefined ? await own() : await source);
+        const library = new Library(await WebAssembly.instantiate(module, {}), await generator());
+        const [mlDsa44, mlDsa65, mlDsa87] = [44, 65, 87].map((number) => new MlDsa(library, number));
+        return Object.freeze({ mlDsa44, mlDsa65, mlDsa87 });
+    };
+}

@@ -1,0 +1,160 @@
+// The package as programs see it: by name, by `import` and `require`, bundled by esbuild, and its types by tsc.
+import assert from "node:assert/strict";
+import { spawnSync } from "node:child_process";
+import { cpSync, mkdirSync, mkdtempSync, readFileSync, rmSync, writeFileSync } from "node:fs";
+import { tmpdir } from "node:os";
+import { dirname, join } from "node:path";
+import test, { after } from "node:test";
+import { fileURLToPath } from "node:url";
+import { bundle, installed } from "./bundles.js";
+import { SEED, ofOpenssl, text } from "./shared.js";
+
+const room = mkdtempSync(join(tmpdir(), "mldsa-package-"));
+after(() => rmSync(room, { recursive: true, force: true }));
+const { files, engines } = JSON.parse(text("js/package.json"));
+installed(room);
+
+/** Runs a program, and gives what it printed. */
+function ran(command, words, cwd = room) {
+    const { status, stdout, stderr, error } = spawnSync(command, words, { cwd, encoding: "utf8" });
+    assert.equal(error, undefined);
+    assert.equal(status, 0, stdout + stderr);
+    return stdout;
+}
+
+function node(name, source, ...flags) {
+    writeFileSync(join(room, name), source);
+    return ran(process.execPath, [...flags, name]).trim();
+}
+
+/** What a program does with the package: prints whether it accepts what OpenSSL signed, the same without its context,
+ * and what it signed itself. */
+const { pem, signature } = ofOpenssl(65);
+const BODY = `
+    const key = readPublicKey(${JSON.stringify(pem)}).publicKey;
+    const signature = Uint8Array.from(${JSON.stringify([...signature])});
+    const bytes = (words) => new TextEncoder().encode(words);
+    const answers = ({ mlDsa65 }) => {
+        const { publicKey, privateKey } = mlDsa65.keygen();
+        const own = mlDsa65.verify(publicKey, key, mlDsa65.sign(privateKey, key));
+        const [message, context] = [bytes("message"), bytes("context")];
+        return [mlDsa65.verify(key, message, signature, { context }), mlDsa65.verify(key, message, signature), own];
+    };
+    load().then((sets) => console.log(...answers(sets)));
+`;
+const WANTED = "true false true";
+const imported = (entry) => `import { load } from "${entry}";\nimport { readPublicKey } from "mldsa/keys";\n${BODY}`;
+const required = (entry) =>
+    `const { load } = require("${entry}");\nconst { readPublicKey } = require("mldsa/keys");\n${BODY}`;
+
+test("import and require, of the package and of the one with the module inside", () => {
+    for (const entry of ["mldsa", "mldsa/inline"]) {
+        assert.equal(node("program.mjs", imported(entry)), WANTED);
+        assert.equal(node("program.cjs", required(entry)), WANTED);
+        // As a test runner does that stands for a browser.
+        assert.equal(node("program.mjs", imported(entry), "--conditions=browser"), WANTED);
+    }
+    // The module has a name too.
+    const place = `
+        import { load } from "mldsa";
+        import { createRequire } from "node:module";
+        import { pathToFileURL } from "node:url";
+        const place = pathToFileURL(createRequire(import.meta.url).resolve("mldsa/mldsa.wasm"));
+        load(place).then((sets) => console.log(Object.keys(sets).join()));
+    `;
+    assert.equal(node("place.mjs", place), "mlDsa44,mlDsa65,mlDsa87");
+});
+
+test("each way shows the same, and what the types declare", () => {
+    const names = '["mldsa", "mldsa/inline", "mldsa/keys"]';
+    const printed = (which, found) => `
+        for (const name of ${which}) {
+            const names = Object.keys(${found}).filter((it) => it !== "default" && it !== "module.exports");
+            console.log(names.sort().join());
+        }
+    `;
+    const byImport = node("names.mjs", printed(names, "await import(name)"));
+    assert.equal(node("names.cjs", printed(names, "require(name)")), byImport);
+    // Names of a module for require are found by import too.
+    const files = printed('["mldsa", "inline", "keys"]', "await import(`./node_modules/mldsa/${name}.cjs`)");
+    assert.equal(node("cjs.mjs", files), byImport);
+    const [ofPackage, ofInline, ofKeys] = byImport.split("\n");
+    assert.equal(ofPackage, "MlDsaError,isSupported,load,oids");
+    assert.equal(ofInline, ofPackage);
+    for (const [name, shown] of [["mldsa", ofPackage], ["keys", ofKeys]]) {
+        const declared = [...text(`js/${name}.d.ts`).matchAll(/^export (?:class|function|const) (\w+)/gm)];
+        assert.equal(declared.map((found) => found[1]).sort().join(), shown);
+    }
+    assert.match(text("js/inline.d.ts"), /^export \* from "\.\/mldsa\.js";$/m);
+});
+
+test("package.json names what there is, and this node is one that it wants", () => {
+    const { exports } = JSON.parse(text("js/package.json"));
+    const named = JSON.stringify(exports).match(/"\.\/[\w.]+"(?!:)/g).map((it) => JSON.parse(it).slice(2));
+    assert.deepEqual([...new Set(named)].filter((name) => name !== "package.json" && !files.includes(name)), []);
+    assert.ok(Number(process.versions.node.split(".")[0]) >= Number(engines.node.slice(2)));
+});
+
+/** Bundles by esbuild, where it is there. */
+function bundled(t, name, source, ...flags) {
+    const made = bundle(room, name, source, ...flags);
+    if (made === null) {
+        t.skip("there is no esbuild");
+    }
+    return made;
+}
+
+test("bundled by esbuild for node, with the module inside", (t) => {
+    const [esm, cjs] = [["esm", "mjs", imported], ["cjs", "cjs", imported]];
+    const kinds = [esm, cjs, ["cjs", "cjs", required], ["iife", "js", imported]];
+    for (const [format, ending, source] of kinds) {
+        const made = bundled(t, `bundle.${ending}`, source("mldsa/inline"), "--platform=node", `--format=${format}`);
+        if (made === null) {
+            return;
+        }
+        assert.equal(made.said, "");
+        // Where there is nothing beside it.
+        const alone = mkdtempSync(join(room, "alone-"));
+        writeFileSync(join(alone, `bundle.${ending}`), readFileSync(made.file));
+        assert.equal(ran(process.execPath, [`bundle.${ending}`], alone).trim(), WANTED);
+    }
+});
+
+test("bundled for node without the module it is read beside the bundle, and else the error says what to do", (t) => {
+    const made = bundled(t, "beside.mjs", imported("mldsa"), "--platform=node", "--format=esm");
+    if (made === null) {
+        return;
+    }
+    const alone = mkdtempSync(join(room, "alone-"));
+    writeFileSync(join(alone, "beside.mjs"), readFileSync(made.file));
+    const { stderr, status } = spawnSync(process.execPath, ["beside.mjs"], { cwd: alone, encoding: "utf8" });
+    assert.equal(status, 1);
+    assert.match(stderr, /there is no mldsa\.wasm beside this script.*mldsa\/inline/);
+    writeFileSync(join(alone, "mldsa.wasm"), readFileSync(join(room, "node_modules/mldsa/mldsa.wasm")));
+    assert.equal(ran(process.execPath, ["beside.mjs"], alone).trim(), WANTED);
+    // A script that knows no place of its own.
+    const flags = ["--platform=node", "--format=cjs", "--log-level=error"];
+    const placeless = bundled(t, "placeless.cjs", imported("mldsa"), ...flags);
+    const run = spawnSync(process.execPath, [placeless.file], { encoding: "utf8" });
+    assert.match(run.stderr, /this script does not know where mldsa\.wasm is.*mldsa\/inline/);
+});
+
+test("types, with old and new ways of finding them, and without those of the DOM or of node", (t) => {
+    if (spawnSync("tsc", ["--version"]).error) {
+        t.skip("there is no tsc");
+        return;
+    }
+    const typed = join(room, "typed");
+    mkdirSync(typed);
+    cpSync(join(dirname(fileURLToPath(import.meta.url)), "types.ts"), join(typed, "types.ts"));
+    for (const lib of [["es2020"], ["es2020", "dom"]]) {
+        const kinds = [["node", "commonjs"], ["node16", "node16", "commonjs"], ["node16", "node16", "module"]];
+        for (const [moduleResolution, module, type] of kinds) {
+            const strict = { noEmit: true, strict: true, target: "es2020", types: [] };
+            const compilerOptions = { ...strict, lib, module, moduleResolution };
+            writeFileSync(join(typed, "tsconfig.json"), JSON.stringify({ compilerOptions, files: ["types.ts"] }));
+            writeFileSync(join(typed, "package.json"), JSON.stringify({ type }));
+            ran("tsc", ["-p", "."], typed);
+        }
+    }
+});

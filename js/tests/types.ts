@@ -1,0 +1,36 @@
+// Uses that have to be well typed, and below each mark one that must not be.
+import { MlDsaError, isSupported, load, oids } from "mldsa";
+import type { MlDsa, KeyPair, MessageHasher, Source } from "mldsa";
+import * as inline from "mldsa/inline";
+import { KeyFileError, fingerprint, readPublicKey } from "mldsa/keys";
+
+export async function uses(bytes: Uint8Array, source: Source): Promise<boolean> {
+    const { mlDsa44, mlDsa65, mlDsa87 } = await load();
+    const sets: MlDsa[] = [mlDsa44, mlDsa65, mlDsa87, (await inline.load(bytes)).mlDsa44, (await load(source)).mlDsa65];
+    const pair: KeyPair = sets[0].keygen();
+    const signature: Uint8Array = mlDsa44.sign(pair.privateKey, bytes, { context: bytes, random: bytes });
+    const hasher: MessageHasher = mlDsa44.messageHasher(pair.publicKey, { context: bytes }).update(bytes);
+    const mark: string = await fingerprint("text");
+    const { set, publicKey } = readPublicKey(bytes);
+    const which: 44 | 65 | 87 = set;
+    const error: Error = new KeyFileError(mark);
+    await load({ href: "https://localhost/mldsa.wasm" });
+    await load({ ok: true, arrayBuffer: async () => new ArrayBuffer(which) });
+
+    // @ts-expect-error: a context as bytes
+    mlDsa44.sign(pair.privateKey, bytes, bytes);
+    // @ts-expect-error: an option of another name
+    mlDsa44.verify(pair.publicKey, bytes, signature, { ctx: bytes });
+    // @ts-expect-error: verifying takes no random bytes
+    mlDsa44.verify(pair.publicKey, bytes, signature, { random: bytes });
+    // @ts-expect-error: an argument too many
+    mlDsa44.isPair(pair.privateKey, {});
+    // @ts-expect-error: no such function
+    oids["SHA-1"];
+    // @ts-expect-error: it is read only
+    oids["SHA-256"] = bytes;
+    // @ts-expect-error: no number is a place
+    await load(5);
+
+    return isSupported() && error instanceof MlDsaError && mlDsa44.verifyMu(publicKey, hasher.mu(), signature);
+}

@@ -1,0 +1,520 @@
+"""Keys, and what is done with them."""
+from __future__ import annotations
+
+import base64
+import ctypes
+import hashlib
+import os
+import secrets
+import threading
+from typing import (
+    TYPE_CHECKING, Any, ClassVar, Dict, Iterator, NoReturn, Optional, Protocol, Tuple, Type, TypeVar, Union,
+)
+
+from . import _files, _library
+from ._errors import InvalidSignature, KeyFileError, SigningError
+from ._interface import OIDS
+from ._library import DONE, MU, NO, RANDOM, SEED, SETS, STATE, ParameterSet
+
+if TYPE_CHECKING:
+    from _typeshed import ReadableBuffer as Buffer
+else:
+    Buffer = Union[bytes, bytearray, memoryview]
+
+
+class Readable(Protocol):
+    """A file that is open for reading bytes."""
+
+    def read(self, size: int, /) -> bytes:
+        """The next bytes, at most so many; none at the end."""
+
+
+File = Union[str, "os.PathLike[str]", Readable]
+_Private = TypeVar("_Private", bound="PrivateKey")
+_Public = TypeVar("_Public", bound="PublicKey")
+_LONGEST_CONTEXT = 255
+# How much of a file is read at a time.
+_PIECE = 1 << 20
+# What hashlib calls the hash functions that FIPS 204 names: how c/mldsa.h calls them, and how long a digest is.
+_HASHES: Dict[str, Tuple[str, int]] = {
+    "sha224": ("SHA2_224", 28), "sha256": ("SHA2_256", 32), "sha384": ("SHA2_384", 48), "sha512": ("SHA2_512", 64),
+    "sha512_224": ("SHA2_512_224", 28), "sha512_256": ("SHA2_512_256", 32), "sha3_224": ("SHA3_224", 28),
+    "sha3_256": ("SHA3_256", 32), "sha3_384": ("SHA3_384", 48), "sha3_512": ("SHA3_512", 64),
+    "shake_128": ("SHAKE128", 32), "shake_256": ("SHAKE256", 64),
+}
+
+
+def _bytes(what: str, given: Buffer) -> bytes:
+    """The bytes of a buffer, which is copied if it is no `bytes`."""
+    if type(given) is bytes:
+        return given
+    try:
+        return memoryview(given).tobytes()
+    except TypeError:
+        raise TypeError(f"{what} has to be bytes-like, and not {type(given).__name__}") from None
+
+
+def _sized(what: str, given: Buffer, size: int) -> bytes:
+    found = _bytes(what, given)
+    if len(found) != size:
+        raise ValueError(f"{what} has {len(found)} bytes, and not {size}")
+    return found
+
+
+def _context(given: Optional[Buffer]) -> bytes:
+    found = b"" if given is None else _bytes("the context", given)
+    if len(found) > _LONGEST_CONTEXT:
+        raise ValueError(f"the context has {len(found)} bytes, and may have {_LONGEST_CONTEXT} at most")
+    return found
+
+
+def _digest(given: Buffer, hash_name: str) -> Tuple[bytes, bytes]:
+    """A digest, and the object identifier of its hash function."""
+    if not isinstance(hash_name, str):
+        raise TypeError(f"the name of the hash function has to be str, and not {type(hash_name).__name__}")
+    if hash_name not in _HASHES:
+        raise ValueError(f"the hash function {hash_name!r} is none of {', '.join(_HASHES)}")
+    oid, size = _HASHES[hash_name]
+    return _sized(f"the digest of {hash_name}", given, size), OIDS[oid]
+
+
+def _done(status: int) -> None:
+    """Raises for an answer that no argument can cause."""
+    if status != DONE:
+        raise RuntimeError(f"mldsa: {_library.text(status)}")
+
+
+def _pieces(file: File) -> Iterator[bytes]:
+    """A file from where it stands to its end, in pieces."""
+    if isinstance(file, (str, os.PathLike)):
+        with open(file, "rb") as opened:
+            yield from _pieces(opened)
+        return
+    if not hasattr(file, "read"):
+        raise TypeError(f"a file is named by str or os.PathLike, or has read(), and is not {type(file).__name__}")
+    while True:
+        piece = file.read(_PIECE)
+        if piece is None:
+            raise BlockingIOError("the file has nothing to read yet")
+        if len(piece) == 0:
+            return
+        yield _bytes("what the file reads", piece)
+
+
+class _Unique:
+    """What is neither copied nor pickled."""
+
+    __slots__ = ()
+
+    def _refused(self) -> NoReturn:
+        raise TypeError(f"{type(self).__name__} is not copied or pickled")
+
+    def __reduce_ex__(self, protocol: Any) -> NoReturn:
+        self._refused()
+
+    def __copy__(self) -> NoReturn:
+        self._refused()
+
+    def __deepcopy__(self, memo: Any) -> NoReturn:
+        self._refused()
+
+
+class MessageHasher(_Unique):
+    """A message that comes in pieces. Its `mu` stands for it in `sign_mu` and `verify_mu`. Any thread may add to it."""
+
+    __slots__ = ("_state", "_lock")
+    _state: ctypes.Array[ctypes.c_char]
+    _lock: threading.Lock
+
+    def __init__(self) -> None:
+        raise TypeError("a MessageHasher is made by hasher() of a key")
+
+    @classmethod
+    def _begun(cls, call: _library.Call, key: bytes, context: bytes) -> MessageHasher:
+        made = object.__new__(cls)
+        made._state, made._lock = _library.room(STATE), threading.Lock()
+        _done(call(key, context, made._state))
+        return made
+
+    def update(self, piece: Buffer) -> None:
+        """Adds the next piece, of any length."""
+        given = _bytes("the piece", piece)
+        with self._lock:
+            _done(_library.mu_update(given, self._state))
+
+    def mu(self) -> bytes:
+        """The 64 bytes of all pieces so far. More may follow."""
+        made = _library.room(MU)
+        with self._lock:
+            _done(_library.mu_finish(self._state, made))
+        return made.raw
+
+    def copy(self) -> MessageHasher:
+        """Another hasher of the pieces so far."""
+        made = object.__new__(type(self))
+        made._lock = threading.Lock()
+        with self._lock:
+            made._state = _library.room(STATE)
+            ctypes.memmove(made._state, self._state, STATE)
+        return made
+
+    def _add(self, pieces: Iterator[bytes]) -> MessageHasher:
+        for piece in pieces:
+            self.update(piece)
+        return self
+
+
+class _Key:
+    """The bytes that calls take, plain or prepared (`_suffix`), and those of the plain key."""
+
+    __slots__ = ("_set", "_bytes", "_plain", "_suffix")
+    _set: ParameterSet
+    _bytes: bytes
+    _plain: bytes
+    _suffix: str
+    # Begins a message in pieces.
+    _BEGINS: ClassVar[str]
+
+    def _fill(self, set_: ParameterSet, plain: bytes, prepared: Optional[bytes] = None) -> None:
+        self._set, self._plain, self._bytes = set_, plain, plain if prepared is None else prepared
+        self._suffix = "" if prepared is None else "_prepared"
+
+    def _made(self, call: str, size: int) -> bytes:
+        """What a call makes of the plain key."""
+        made = _library.room(size)
+        _done(self._set.calls[call](self._plain, made))
+        return made.raw
+
+    def _asked(self, call: str, *arrays: _library.Array) -> int:
+        return self._set.calls[call + self._suffix](self._bytes, *arrays)
+
+    def hasher(self, context: Optional[Buffer] = None) -> MessageHasher:
+        """Begins a message in pieces, under a context."""
+        return MessageHasher._begun(self._set.calls[self._BEGINS], self._plain, _context(context))
+
+
+class _Signer(_Key):
+    """What signs. Each call may raise `SigningError`."""
+
+    __slots__ = ()
+    _BEGINS = "mu_begin_private"
+
+    def _signed(self, call: str, deterministic: bool, *arrays: bytes) -> bytes:
+        signature = _library.room(self._set.signature)
+        random = bytes(RANDOM) if deterministic else secrets.token_bytes(RANDOM)
+        status = self._asked(call, *arrays, random, signature)
+        if status != DONE:
+            raise SigningError(_library.text(status))
+        return signature.raw
+
+    def sign(self, data: Buffer, context: Optional[Buffer] = None, *, deterministic: bool = False) -> bytes:
+        """The signature of a message, which is valid under its context only: at most 255 bytes, by default none. Random
+        bytes of the system go into it; with `deterministic` none do, and the same message has the same signature."""
+        return self._signed("sign", deterministic, _bytes("the message", data), _context(context))
+
+    def sign_digest(
+        self, digest: Buffer, hash_name: str, context: Optional[Buffer] = None, *, deterministic: bool = False
+    ) -> bytes:
+        """The signature (HashML-DSA) of the digest that a hash function made, by its name in hashlib: `sha256`."""
+        given, oid = _digest(digest, hash_name)
+        return self._signed("hash_sign", deterministic, given, _context(context), oid)
+
+    def sign_file(self, file: File, context: Optional[Buffer] = None, *, deterministic: bool = False) -> bytes:
+        """The signature of what a file of any size holds, by its name or open for reading bytes."""
+        return self.sign_mu(self.hasher(context)._add(_pieces(file)).mu(), deterministic=deterministic)
+
+    def sign_mu(self, mu: Buffer, *, deterministic: bool = False) -> bytes:
+        """The signature of the message that has this `mu`, which a `MessageHasher` makes."""
+        return self._signed("sign_mu", deterministic, _sized("mu", mu, MU))
+
+
+class _Verifier(_Key):
+    """What verifies. Each call raises `InvalidSignature` if the signature is not accepted, and returns nothing."""
+
+    __slots__ = ()
+    _BEGINS = "mu_begin"
+
+    def _verified(self, call: str, signature: Buffer, *arrays: bytes) -> None:
+        given = _bytes("the signature", signature)
+        if len(given) != self._set.signature:
+            raise InvalidSignature(f"the signature has {len(given)} bytes, and not {self._set.signature}")
+        status = self._asked(call, *arrays, given)
+        if status == NO:
+            raise InvalidSignature("the signature is invalid")
+        _done(status)
+
+    def verify(self, signature: Buffer, data: Buffer, context: Optional[Buffer] = None) -> None:
+        """Returns if the signature is one of this message under this context."""
+        self._verified("verify", signature, _bytes("the message", data), _context(context))
+
+    def verify_digest(
+        self, signature: Buffer, digest: Buffer, hash_name: str, context: Optional[Buffer] = None
+    ) -> None:
+        """Returns if the signature (HashML-DSA) is one of this digest by the function with this name in hashlib."""
+        given, oid = _digest(digest, hash_name)
+        self._verified("hash_verify", signature, given, _context(context), oid)
+
+    def verify_file(self, signature: Buffer, file: File, context: Optional[Buffer] = None) -> None:
+        """Returns if the signature is one of what this file holds, by its name or open for reading bytes."""
+        self.verify_mu(signature, self.hasher(context)._add(_pieces(file)).mu())
+
+    def verify_mu(self, signature: Buffer, mu: Buffer) -> None:
+        """Returns if the signature is one of the message that has this `mu`, which a `MessageHasher` makes."""
+        self._verified("verify_mu", signature, _sized("mu", mu, MU))
+
+
+class PreparedPublicKey(_Verifier, _Unique):
+    """A public key that verifies many signatures faster."""
+
+    __slots__ = ()
+
+    def __init__(self) -> None:
+        raise TypeError("a PreparedPublicKey is made by prepare() of a public key")
+
+    def __repr__(self) -> str:
+        return f"<{type(self).__name__} of {self._set.name}, {_fingerprint(self._set, self._plain)}>"
+
+
+class PublicKey(_Verifier):
+    """A public key of any parameter set."""
+
+    __slots__ = ()
+    _SET: ClassVar[ParameterSet]
+
+    def __init__(self) -> None:
+        raise TypeError(f"a {type(self).__name__} is made by from_public_bytes()")
+
+    @classmethod
+    def from_public_bytes(cls: Type[_Public], data: Buffer) -> _Public:
+        """The key with these bytes, of FIPS 204. Any bytes of the right length are a key."""
+        made: _Public = object.__new__(cls)
+        made._fill(cls._SET, _sized("the public key", data, cls._SET.public_key))
+        return made
+
+    def public_bytes_raw(self) -> bytes:
+        """The bytes of FIPS 204."""
+        return self._plain
+
+    def to_der(self) -> bytes:
+        """A SubjectPublicKeyInfo (RFC 9881)."""
+        return _files.encode_public(self._set.number, self._plain)
+
+    def to_pem(self) -> bytes:
+        """The same in PEM, as `mlsign` and OpenSSL write it."""
+        return _files.encode_pem(_files.PUBLIC, self.to_der())
+
+    @property
+    def fingerprint(self) -> str:
+        """SHA-256 of the key's DER, as `mlsign show` prints it: compare it over another channel."""
+        return _fingerprint(self._set, self._plain)
+
+    def prepare(self) -> PreparedPublicKey:
+        """The key with what each call would compute of it anew."""
+        made: PreparedPublicKey = object.__new__(PreparedPublicKey)
+        made._fill(self._set, self._plain, self._made("prepare_public_key", self._set.prepared_public_key))
+        return made
+
+    def __eq__(self, other: object) -> bool:
+        if not isinstance(other, PublicKey):
+            return NotImplemented
+        return self._set is other._set and self._plain == other._plain
+
+    def __hash__(self) -> int:
+        return hash((self._set.number, self._plain))
+
+    def __repr__(self) -> str:
+        return f"<{type(self).__name__} {self.fingerprint}>"
+
+    def __reduce__(self) -> Tuple[Any, ...]:
+        return type(self).from_public_bytes, (self._plain,)
+
+    def __copy__(self: _Public) -> _Public:
+        return self
+
+    def __deepcopy__(self: _Public, memo: Any) -> _Public:
+        return self
+
+
+def _fingerprint(set_: ParameterSet, public: bytes) -> str:
+    digest = hashlib.sha256(_files.encode_public(set_.number, public)).digest()
+    return "SHA256:" + base64.b64encode(digest).decode().rstrip("=")
+
+
+class PreparedPrivateKey(_Signer, _Unique):
+    """A private key that signs many messages faster."""
+
+    __slots__ = ()
+
+    def __init__(self) -> None:
+        raise TypeError("a PreparedPrivateKey is made by prepare() of a private key")
+
+    def __repr__(self) -> str:
+        return f"<{type(self).__name__} of {self._set.name}>"
+
+
+class PrivateKey(_Signer, _Unique):
+    """A private key of any parameter set, which is consistent: what it signs its public key accepts."""
+
+    __slots__ = ("_seed", "_public")
+    _seed: Optional[bytes]
+    _public: bytes
+    _SET: ClassVar[ParameterSet]
+
+    def __init__(self) -> None:
+        raise TypeError(f"a {type(self).__name__} is made by generate(), from_seed_bytes() or from_expanded_bytes()")
+
+    @classmethod
+    def generate(cls: Type[_Private]) -> _Private:
+        """A new key, from a seed of the system's generator."""
+        return cls.from_seed_bytes(secrets.token_bytes(SEED))
+
+    @classmethod
+    def from_seed_bytes(cls: Type[_Private], data: Buffer) -> _Private:
+        """The key of a seed of 32 bytes, as `private_bytes_raw` gives it."""
+        made: _Private = object.__new__(cls)
+        made._seed = _sized("the seed", data, SEED)
+        public, private = _library.room(cls._SET.public_key), _library.room(cls._SET.private_key)
+        _done(cls._SET.calls["keygen"](made._seed, public, private))
+        made._fill(cls._SET, private.raw)
+        made._public = public.raw
+        return made
+
+    @classmethod
+    def from_expanded_bytes(cls: Type[_Private], data: Buffer) -> _Private:
+        """The key with these bytes of FIPS 204: a consistent private key, or ValueError. They don't tell its seed."""
+        made: _Private = object.__new__(cls)
+        made._seed = None
+        made._fill(cls._SET, _sized("the private key", data, cls._SET.private_key))
+        status = made._asked("is_pair")
+        if status in (NO, _library.KEY_RANGE):
+            raise ValueError("the private key is not consistent")
+        _done(status)
+        made._public = made._made("public_key", cls._SET.public_key)
+        return made
+
+    def public_key(self) -> PublicKey:
+        """The public key that belongs to it."""
+        return _PUBLIC[self._set.number].from_public_bytes(self._public)
+
+    def private_bytes_raw(self) -> bytes:
+        """The seed, of 32 bytes: all that has to be stored. ValueError if the key was made from its expanded bytes."""
+        if self._seed is None:
+            raise ValueError("it has no seed: its seed cannot be had of its expanded key")
+        return self._seed
+
+    def expanded_bytes(self) -> bytes:
+        """The private key of FIPS 204."""
+        return self._plain
+
+    def to_der(self, parts: Optional[str] = None) -> bytes:
+        """A OneAsymmetricKey (RFC 9881), not encrypted. `parts` is `seed`, `expanded` or `both`: by default the seed,
+        if the key has one."""
+        chosen = ("expanded" if self._seed is None else "seed") if parts is None else parts
+        if chosen not in ("seed", "expanded", "both"):
+            raise ValueError(f"parts is seed, expanded or both, and not {parts!r}")
+        seed = None if chosen == "expanded" else self.private_bytes_raw()
+        expanded = None if chosen == "seed" else self._plain
+        return _files.encode_private(_files.PrivateParts(self._set.number, seed, expanded))
+
+    def to_pem(self, parts: Optional[str] = None) -> bytes:
+        """The same in PEM, as `mlsign` and OpenSSL write it."""
+        return _files.encode_pem(_files.PRIVATE, self.to_der(parts))
+
+    def prepare(self) -> PreparedPrivateKey:
+        """The key with what each call would compute of it anew, as secret as the key."""
+        made: PreparedPrivateKey = object.__new__(PreparedPrivateKey)
+        made._fill(self._set, self._plain, self._made("prepare_private_key", self._set.prepared_private_key))
+        return made
+
+    def __repr__(self) -> str:
+        return f"<{type(self).__name__} with the public key {_fingerprint(self._set, self._public)}>"
+
+
+class MLDSA44PublicKey(PublicKey):
+    """A public key of ML-DSA-44."""
+
+    __slots__ = ()
+    _SET = SETS[44]
+
+
+class MLDSA65PublicKey(PublicKey):
+    """A public key of ML-DSA-65."""
+
+    __slots__ = ()
+    _SET = SETS[65]
+
+
+class MLDSA87PublicKey(PublicKey):
+    """A public key of ML-DSA-87."""
+
+    __slots__ = ()
+    _SET = SETS[87]
+
+
+class MLDSA44PrivateKey(PrivateKey):
+    """A private key of ML-DSA-44."""
+
+    __slots__ = ()
+    _SET = SETS[44]
+
+    def public_key(self) -> MLDSA44PublicKey:
+        """The public key that belongs to it."""
+        return MLDSA44PublicKey.from_public_bytes(self._public)
+
+
+class MLDSA65PrivateKey(PrivateKey):
+    """A private key of ML-DSA-65."""
+
+    __slots__ = ()
+    _SET = SETS[65]
+
+    def public_key(self) -> MLDSA65PublicKey:
+        """The public key that belongs to it."""
+        return MLDSA65PublicKey.from_public_bytes(self._public)
+
+
+class MLDSA87PrivateKey(PrivateKey):
+    """A private key of ML-DSA-87."""
+
+    __slots__ = ()
+    _SET = SETS[87]
+
+    def public_key(self) -> MLDSA87PublicKey:
+        """The public key that belongs to it."""
+        return MLDSA87PublicKey.from_public_bytes(self._public)
+
+
+_PRIVATE: Dict[int, Type[PrivateKey]] = {44: MLDSA44PrivateKey, 65: MLDSA65PrivateKey, 87: MLDSA87PrivateKey}
+_PUBLIC: Dict[int, Type[PublicKey]] = {44: MLDSA44PublicKey, 65: MLDSA65PublicKey, 87: MLDSA87PublicKey}
+
+
+def load_der_private_key(data: Buffer) -> PrivateKey:
+    """The private key of a file in DER, whatever its set: its seed, its expanded key, or both. `KeyFileError` if it is
+    none, or if its parts don't belong together."""
+    parts = _files.decode_private(_bytes("the file", data))
+    kind = _PRIVATE[parts.number]
+    try:
+        if parts.seed is None:
+            return kind.from_expanded_bytes(parts.expanded or b"")
+    except ValueError as error:
+        raise KeyFileError(str(error)) from None
+    made = kind.from_seed_bytes(parts.seed)
+    if parts.expanded is not None and not secrets.compare_digest(made.expanded_bytes(), parts.expanded):
+        raise KeyFileError("the private key is not consistent")
+    return made
+
+
+def load_pem_private_key(data: Buffer) -> PrivateKey:
+    """The private key of a file in PEM, which is not encrypted: as `load_der_private_key`."""
+    return load_der_private_key(_files.decode_pem(_files.PRIVATE, _bytes("the file", data)))
+
+
+def load_der_public_key(data: Buffer) -> PublicKey:
+    """The public key of a file in DER, whatever its set. `KeyFileError` if it is none."""
+    number, key = _files.decode_public(_bytes("the file", data))
+    return _PUBLIC[number].from_public_bytes(key)
+
+
+def load_pem_public_key(data: Buffer) -> PublicKey:
+    """The public key of a file in PEM: as `load_der_public_key`."""
+    return load_der_public_key(_files.decode_pem(_files.PUBLIC, _bytes("the file", data)))

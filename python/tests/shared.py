@@ -1,0 +1,55 @@
+"""What the tests share: the parameter sets, and recorded values of the repository."""
+import base64
+import contextlib
+import hashlib
+import os
+import pathlib
+import re
+import shlex
+import sys
+from unittest import mock
+
+TOP = pathlib.Path(__file__).resolve().parent.parent.parent
+sys.dont_write_bytecode = True
+sys.path[:0] = [str(TOP / "scripts"), str(TOP / "vectors")]
+
+import mldsa
+
+NUMBERS = (44, 65, 87)
+PRIVATE = {number: getattr(mldsa, f"MLDSA{number}PrivateKey") for number in NUMBERS}
+PUBLIC = {number: getattr(mldsa, f"MLDSA{number}PublicKey") for number in NUMBERS}
+# Bytes of a public key, a private key and a signature (FIPS 204, Table 2).
+LENGTHS = {44: (1312, 2560, 2420), 65: (1952, 4032, 3309), 87: (2592, 4896, 4627)}
+SEED = bytes(range(32))
+# The words that start this interpreter, which an emulator may run.
+PYTHON = shlex.split(os.environ.get("MLDSA_PYTHON", sys.executable))
+# A program `mlsign`, if there is one.
+MLSIGN = os.environ.get("MLDSA_MLSIGN", str(TOP / "crates/mlsign/out/mlsign"))
+
+
+def sha256(given):
+    return hashlib.sha256(given).hexdigest()
+
+
+def shake(given, length):
+    return hashlib.shake_256(given).digest(length)
+
+
+@contextlib.contextmanager
+def random(given):
+    """Has the system draw these bytes, which a signature has to ask for."""
+    with mock.patch("secrets.token_bytes", return_value=given) as drawn:
+        yield
+    drawn.assert_called_once_with(len(given))
+
+
+def of_openssl(number):
+    """What OpenSSL 4.0.0 wrote of the seed 00 01 .. 1f: a private key and its public key as PEM, and the signature of
+    `message` under the context `context`."""
+    source = (TOP / "crates/mlsign_runs/src/recorded.rt").read_text(encoding="utf-8")
+
+    def found(name):
+        text = re.search(rf'pub static {name}_{number}: &\[u8\] = b"\\\n(.*?)";', source, re.S)[1]
+        return re.sub(r"\\\n *", "", text).strip(" ").replace("\\n", "\n").encode()
+
+    return found("PRIVATE"), found("PUBLIC"), base64.b64decode(found("SIGNATURE"))

@@ -1,0 +1,81 @@
+"""Beside OpenSSL, through Python's `cryptography`."""
+import random
+import unittest
+
+from shared import NUMBERS, PRIVATE, PUBLIC
+
+import mldsa
+
+try:
+    from cryptography.exceptions import InvalidSignature
+    from cryptography.hazmat.primitives import serialization
+    from cryptography.hazmat.primitives.asymmetric import mldsa as theirs
+
+    MISSING = None
+except ImportError as error:
+    MISSING = f"{error}: Python's cryptography with ML-DSA, 48 or later"
+
+
+@unittest.skipIf(MISSING, MISSING)
+class BesideOpenssl(unittest.TestCase):
+    """Keys, signatures and files both ways."""
+
+    def setUp(self):
+        self.draw = random.Random(85)
+
+    def bytes(self, most):
+        return bytes(self.draw.randrange(256) for _ in range(self.draw.randrange(most + 1)))
+
+    def both(self, number):
+        seed = bytes(self.draw.randrange(256) for _ in range(32))
+        return PRIVATE[number].from_seed_bytes(seed), getattr(theirs, f"MLDSA{number}PrivateKey").from_seed_bytes(seed)
+
+    def test_signatures(self):
+        for number in NUMBERS:
+            for _ in range(40):
+                (ours, other), context, message = self.both(number), self.bytes(255), self.bytes(400)
+                self.assertEqual(ours.public_key().public_bytes_raw(), other.public_key().public_bytes_raw())
+                mine, yours = ours.sign(message, context), other.sign(message, context)
+                other.public_key().verify(mine, message, context)
+                ours.public_key().verify(yours, message, context)
+                ours.public_key().prepare().verify(yours, message, context)
+                with self.assertRaises(mldsa.InvalidSignature):
+                    ours.public_key().verify(yours, message + b"x", context)
+                with self.assertRaises(InvalidSignature):
+                    other.public_key().verify(mine, message + b"x", context)
+
+    def test_files(self):
+        none, kinds = serialization.NoEncryption(), serialization.PrivateFormat.PKCS8
+        for number in NUMBERS:
+            for form in ("pem", "der"):
+                ours, other = self.both(number)
+                private, public = (getattr(it, f"to_{form}")() for it in (ours, ours.public_key()))
+                encoding = getattr(serialization.Encoding, form.upper())
+                info = serialization.PublicFormat.SubjectPublicKeyInfo
+                self.assertEqual(other.private_bytes(encoding, kinds, none), private)
+                self.assertEqual(other.public_key().public_bytes(encoding, info), public)
+                there = getattr(serialization, f"load_{form}_private_key")(private, None)
+                self.assertEqual(there.private_bytes_raw(), ours.private_bytes_raw())
+                there = getattr(serialization, f"load_{form}_public_key")(public)
+                self.assertEqual(there.public_bytes_raw(), ours.public_key().public_bytes_raw())
+                here = getattr(mldsa, f"load_{form}_private_key")(private)
+                self.assertEqual(here.private_bytes_raw(), other.private_bytes_raw())
+                self.assertEqual(getattr(mldsa, f"load_{form}_public_key")(public), ours.public_key())
+
+    def test_encrypted_files_are_refused(self):
+        _, other = self.both(44)
+        secret = serialization.BestAvailableEncryption(b"word")
+        text = other.private_bytes(serialization.Encoding.PEM, serialization.PrivateFormat.PKCS8, secret)
+        with self.assertRaisesRegex(mldsa.KeyFileError, "another kind"):
+            mldsa.load_pem_private_key(text)
+
+    def test_the_same_names(self):
+        """What the classes there offer is here by the same name, but files, which have calls of their own."""
+        own = {"private_bytes", "public_bytes"}
+        for number in NUMBERS:
+            for kind, here in (
+                (f"MLDSA{number}PrivateKey", PRIVATE[number]),
+                (f"MLDSA{number}PublicKey", PUBLIC[number]),
+            ):
+                names = {it for it in vars(getattr(theirs, kind)) if not it.startswith("_")} - own - {"register"}
+                self.assertEqual({it for it in names if not hasattr(here, it)}, set())

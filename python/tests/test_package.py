@@ -1,0 +1,66 @@
+"""The package as it is installed, beside c/mldsa.h."""
+import base64
+import hashlib
+import importlib.metadata
+import pathlib
+import re
+import unittest
+
+import shared
+
+import exports
+import mldsa
+from mldsa import _library
+from mldsa._interface import VERSION
+
+HEADER = (shared.TOP / "c/mldsa.h").read_text(encoding="utf-8")
+
+
+class Package(unittest.TestCase):
+    """What it says of itself and of the library."""
+
+    def test_version(self):
+        wanted = re.search(r'^#define MLDSA_VERSION_TEXT "(.*)"$', HEADER, re.M)[1]
+        self.assertEqual([mldsa.__version__, importlib.metadata.version("mldsa")], [wanted, wanted])
+        self.assertEqual(_library._LIBRARY.mldsa_version(), VERSION)
+
+    def test_it_needs_nothing(self):
+        self.assertIsNone(importlib.metadata.requires("mldsa"))
+        self.assertTrue((pathlib.Path(mldsa.__file__).parent / "py.typed").is_file())
+
+    def test_record(self):
+        """Each installed file is the one that the wheel's list names, and there is no other."""
+        about, top = importlib.metadata.distribution("mldsa"), pathlib.Path(mldsa.__file__).parent
+        listed = {str(it): it.hash.value for it in about.files if it.hash is not None and it.parent.name == "mldsa"}
+        for name, value in listed.items():
+            digest = hashlib.sha256((top.parent / name).read_bytes()).digest()
+            self.assertEqual(base64.urlsafe_b64encode(digest).decode().rstrip("="), value, name)
+        self.assertEqual({f"mldsa/{it.name}" for it in top.iterdir() if it.is_file()}, set(listed))
+
+    def test_each_call_is_declared(self):
+        """With as many arguments as the header has, so that none is passed in 32 bits."""
+        for it in exports.exports():
+            if it.arrays() is not None:
+                function = getattr(_library._LIBRARY, it.name)
+                self.assertEqual(len(function.argtypes or ()), len(it.parameters), it.name)
+                self.assertEqual(function.restype.__name__, "c_uint", it.name)
+
+    def test_lengths(self):
+        for number, (public, private, signature) in shared.LENGTHS.items():
+            found = _library.SETS[number]
+            self.assertEqual((found.public_key, found.private_key, found.signature), (public, private, signature))
+
+    def test_names(self):
+        self.assertEqual(sorted(mldsa.__all__), mldsa.__all__)
+        for name in mldsa.__all__:
+            self.assertTrue(getattr(mldsa, name).__doc__, name)
+        for kind in (
+            *shared.PRIVATE.values(),
+            *shared.PUBLIC.values(),
+            mldsa.PreparedPrivateKey,
+            mldsa.PreparedPublicKey,
+            mldsa.MessageHasher,
+        ):
+            for name in dir(kind):
+                if not name.startswith("_"):
+                    self.assertTrue(getattr(kind, name).__doc__, f"{kind.__name__}.{name}")

@@ -1,0 +1,70 @@
+"""Each block of code on the page runs as it stands, and its types are right."""
+import os
+import pathlib
+import re
+import shutil
+import subprocess
+import tempfile
+import unittest
+
+from shared import PYTHON, TOP
+
+import mldsa
+
+BLOCKS = re.findall(r"^```python\n(.*?)^```$", (TOP / "python/README.md").read_text(encoding="utf-8"), re.M | re.S)
+
+# Uses of each kind of file and buffer.
+TYPES = """
+import io
+import pathlib
+from mldsa import MLDSA44PublicKey, MLDSA65PrivateKey, PrivateKey, PublicKey, load_pem_private_key
+
+key: PrivateKey = load_pem_private_key(bytearray())
+public: PublicKey = key.public_key()
+narrow: MLDSA44PublicKey = MLDSA44PublicKey.from_public_bytes(memoryview(b""))
+with open("file", "rb") as file:
+    signature: bytes = MLDSA65PrivateKey.generate().sign_file(file, context=b"context", deterministic=True)
+public.verify_file(signature, io.BytesIO())
+public.verify_file(signature, pathlib.Path("file"))
+public.prepare().verify_file(signature, "file")
+narrow.verify(bytearray(), memoryview(b""))
+"""
+
+
+class Page(unittest.TestCase):
+    """python/README.md."""
+
+    def test_blocks(self):
+        self.assertGreaterEqual(len(BLOCKS), 3)
+        for number, block in enumerate(BLOCKS):
+            with self.subTest(number=number), tempfile.TemporaryDirectory() as room:
+                done = subprocess.run(
+                    [*PYTHON, "-c", block], cwd=room, capture_output=True, text=True, check=False
+                )
+                self.assertEqual((done.returncode, done.stderr), (0, ""))
+                if number == 0:
+                    self.assertEqual(done.stdout, "the signature is invalid\n")
+
+    def test_types(self):
+        mypy = os.environ.get("MLDSA_MYPY") or shutil.which("mypy")
+        if not mypy:
+            self.skipTest("there is no mypy")
+        with tempfile.TemporaryDirectory() as room:
+            wrong = "from mldsa import MLDSA65PrivateKey\nMLDSA65PrivateKey.generate().sign('text')\n"
+            for number, block in enumerate([*BLOCKS, TYPES, wrong]):
+                file = pathlib.Path(room) / f"block{number}.py"
+                file.write_text(block, encoding="utf-8")
+                environment = {
+                    "PATH": "/usr/bin:/bin",
+                    "MYPYPATH": str(pathlib.Path(mldsa.__file__).parent.parent),
+                    "HOME": room,
+                }
+                done = subprocess.run(
+                    [mypy, "--strict", file.name],
+                    cwd=room,
+                    env=environment,
+                    capture_output=True,
+                    text=True,
+                    check=False,
+                )
+                self.assertEqual(done.returncode, int(block is wrong), done.stdout)

@@ -1,0 +1,68 @@
+"""What the scripts share: places of the repository, commands that have to succeed, the crates and their order, recorded
+values."""
+import pathlib
+import shutil
+import subprocess
+import sys
+
+TOP = pathlib.Path(__file__).resolve().parent.parent
+SETS = ("44", "65", "87")
+
+
+def text(name):
+    """A file of the repository."""
+    return (TOP / name).read_text(encoding="utf-8")
+
+
+def command(*words, stderr=subprocess.STDOUT, **more):
+    """Runs a command, ends where it fails, and gives what it printed."""
+    done = subprocess.run([str(word) for word in words], stdout=subprocess.PIPE, stderr=stderr, text=True,
+                          check=False, **more)
+    if done.returncode:
+        sys.exit(f"failed: {' '.join(map(str, words))}\n{done.stdout}{done.stderr or ''}")
+    return done.stdout
+
+
+def printed(*words):
+    """What a command prints, or nothing where there is no such command."""
+    try:
+        done = subprocess.run(words, stdout=subprocess.PIPE, stderr=subprocess.STDOUT, text=True, check=False)
+    except OSError:
+        return ""
+    return done.stdout.strip()
+
+
+def missing(*tools, path=None):
+    """Those of the tools that are not there."""
+    return [tool for tool in tools if not shutil.which(tool, path=path)]
+
+
+def archives(*processors):
+    """The static library for each of the processors, which is built first where it is not current."""
+    done = subprocess.run([TOP / "scripts/archive", *processors], stdout=subprocess.PIPE, text=True, check=False)
+    if done.returncode:
+        sys.exit(f"the library for {', '.join(processors)} was not built")
+    return [pathlib.Path(line) for line in done.stdout.splitlines()]
+
+
+def below(*names):
+    """These crates and those of the repository that they are built of, the lowest first."""
+    lines = [line.split(":") for line in text("crates.txt").splitlines() if ":" in line and line[0] != "#"]
+    needs, order = {name.split()[0]: others.split() for name, others in lines}, []
+
+    def visit(name):
+        for other in needs[name]:
+            if other in needs and other not in order:
+                visit(other)
+        if name not in order:
+            order.append(name)
+
+    for name in names:
+        visit(name)
+    return order
+
+
+def recorded_rows():
+    """The rows of vectors/recorded.tsv: set, seed, random bytes, context, message or digest; the SHA-256 of the public
+    key, of the private key and of the signature; of a digest the object identifier of its hash function."""
+    return [line.split("\t") for line in text("vectors/recorded.tsv").splitlines() if line and line[0] != "#"]

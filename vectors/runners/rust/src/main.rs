@@ -1,0 +1,92 @@
+//! Makes the calls that standard input asks for, a line each: the number of a set, the name of a call, and its arrays in hex, with a tab between.
+//! Prints a line for each: what was made in hex, with a tab between; yes or no; or the text of a refusal.
+
+use std::io::{self, BufRead, Write};
+
+const WRONG_LENGTH: &str = "an array has the wrong length";
+
+/// The bytes that a text of hex digits has.
+fn bytes(text: &str) -> Vec<u8> {
+    let pairs = (0..text.len() / 2).map(|i| &text[2 * i..2 * i + 2]);
+    pairs
+        .map(|pair| u8::from_str_radix(pair, 16).expect("hex digits"))
+        .collect()
+}
+
+fn hex(bytes: &[u8]) -> String {
+    bytes.iter().map(|byte| format!("{byte:02x}")).collect()
+}
+
+fn word(yes: bool) -> String {
+    String::from(if yes { "yes" } else { "no" })
+}
+
+/// An array of a fixed length.
+fn array<const LEN: usize>(bytes: &[u8]) -> Result<[u8; LEN], &'static str> {
+    bytes.try_into().map_err(|_| WRONG_LENGTH)
+}
+
+/// The calls of a parameter set.
+macro_rules! calls {
+    ($set:ident) => {
+        mod $set {
+            use crate::{array, hex, word};
+            use fips204::traits::{KeyGen, SerDes, Signer, Verifier};
+            use fips204::$set::{KG, PrivateKey, PublicKey};
+
+            pub fn answer(call: &str, a: &[Vec<u8>]) -> Result<String, &'static str> {
+                let private = || PrivateKey::try_from_bytes(array(&a[0])?);
+                let public = || PublicKey::try_from_bytes(array(&a[0])?);
+                Ok(match call {
+                    "keygen" => {
+                        let (public, private) = KG::keygen_from_seed(&array(&a[0])?);
+                        format!(
+                            "{}\t{}",
+                            hex(&public.into_bytes()),
+                            hex(&private.into_bytes())
+                        )
+                    }
+                    "sign" => hex(&private()?.try_sign_with_seed(&array(&a[3])?, &a[1], &a[2])?),
+                    "verify" => word(public()?.verify(&a[1], &array(&a[3])?, &a[2])),
+                    "hash_sign" => hex(&private()?.try_hash_sign_with_seed(
+                        &array(&a[4])?,
+                        &a[1],
+                        &a[2],
+                        &a[3],
+                    )?),
+                    "hash_verify" => {
+                        word(public()?.hash_verify(&a[1], &array(&a[4])?, &a[2], &a[3]))
+                    }
+                    "sign_mu" => {
+                        hex(&private()?.try_sign_mu_with_seed(&array(&a[2])?, &array(&a[1])?)?)
+                    }
+                    "verify_mu" => word(public()?.verify_mu(&array(&a[1])?, &array(&a[2])?)),
+                    _ => panic!("there is no call {call}"),
+                })
+            }
+        }
+    };
+}
+
+calls!(ml_dsa_44);
+calls!(ml_dsa_65);
+calls!(ml_dsa_87);
+
+fn main() -> io::Result<()> {
+    let mut out = io::stdout().lock();
+    for line in io::stdin().lock().lines() {
+        let line = line?;
+        let mut fields = line.split('\t');
+        let number = fields.next().unwrap_or_default();
+        let call = fields.next().unwrap_or_default();
+        let given: Vec<Vec<u8>> = fields.map(bytes).collect();
+        let answer = match number {
+            "44" => ml_dsa_44::answer(call, &given),
+            "65" => ml_dsa_65::answer(call, &given),
+            "87" => ml_dsa_87::answer(call, &given),
+            _ => panic!("there is no set {number}"),
+        };
+        writeln!(out, "{}", answer.unwrap_or_else(String::from))?;
+    }
+    Ok(())
+}
