@@ -338,6 +338,7 @@ class Tries(unittest.TestCase):
         lines = [line.strip() for line in page.splitlines() if line.startswith("    ")]
         no_npm = lacks("npm") or not room.has_node
         skipped = {"sudo", *(["npm"] if no_npm else []), *missing("cargo")}
+        expect("the lines of README that are not run", [it for it in lines if it.startswith("sudo")], lines[-1:])
         run = [line for line in lines if line.split()[0] not in skipped]
         run += [] if lacks("man") else ["man -w mlsign mldsa65_sign"]
         folder = room.path / "in-readme"
