@@ -538,9 +538,9 @@ class Existence:
     values. They are found from the facts that determine them: `x ≡ ..`, `.. ≡ Some x`, and other records; where a
     record reads bytes (`readers`), the one candidate is what was read, and each fact is then asked of it."""
 
-    def __init__(self, program, name, parameters, found):
-        self.program, self.name, self.parameters, self.code = program, name, parameters, {}
-        self.values = [
+    def __init__(self, program, name, parameters, found, values=()):
+        self.program, self.name, self.parameters, self.found, self.code = program, name, parameters, found, {}
+        self.values = values or [
             name
             for place, (name, _) in enumerate(found)
             if any(name in names_in(tree) for _, tree in found[place + 1 :])
@@ -707,9 +707,7 @@ class Program:
                         self.exist[definition.name] = record
                     if record.is_determined() and record.values:
                         del self.trees[definition.name]
-                        self.space[mangled(definition.name)] = (
-                            lambda *given, record=record: record.solved(dict(zip(record.parameters, given))) is not None
-                        )
+                        self.record(record)
         known = None
         while known != len(self.trees):
             known = len(self.trees)
@@ -717,6 +715,13 @@ class Program:
                 self.define(name, self.trees[name])
                 if name not in self.trees:
                     self.arity.pop(name)
+
+    def record(self, record):
+        """Makes the proposition anew that values exist of which the facts of this record hold."""
+        self.exist[record.name] = record
+        self.space[mangled(record.name)] = (
+            lambda *given: record.solved(dict(zip(record.parameters, given))) is not None
+        )
 
     def define(self, name, trees):
         """Makes the function of a name anew from these equations."""
