@@ -282,6 +282,10 @@ class Tries(unittest.TestCase):
         top = room.unpacked("mldsa-*-x86_64-linux.tar.gz", "terminal")
         folder = room.folder("in-terminal")
         (folder / "notes").write_text("version 1.0\n", encoding="utf-8")
+        page = (TOP / "README.md").read_text(encoding="utf-8").partition("## Using it\n")[2]
+        lines, said = re.search(r"((?:    \$ mlsign .*\n)+)    (.*)", page).groups()
+        printed = room.run("sh", "-e", "-c", lines.replace("$ ", ""), cwd=folder, path=f"{top}/bin:/usr/bin:/bin")
+        expect("the commands of README", printed.splitlines()[:1], [said])
         mlsign = top / "bin/mlsign"
         for number in ("44", "65", "87"):
             key, public = f"{number}.pem", f"{number}.pub"
@@ -338,6 +342,7 @@ class Tries(unittest.TestCase):
         lines = [line.strip() for line in page.splitlines() if line.startswith("    ")]
         no_npm = lacks("npm") or not room.has_node
         skipped = {"sudo", *(["npm"] if no_npm else []), *missing("cargo")}
+        expect("the lines of README that are not run", [it for it in lines if it.startswith("sudo")], lines[-1:])
         run = [line for line in lines if line.split()[0] not in skipped]
         run += [] if lacks("man") else ["man -w mlsign mldsa65_sign"]
         folder = room.path / "in-readme"
