@@ -23,10 +23,10 @@ def machine(cpu="x86-64-v2"):
     changed = " with changes" if printed("git", "-C", str(TOP), "status", "--porcelain", "--", "crates") else ""
     stamp = measured.stamp().replace(", code", f"{changed}, code")
     return [
-        f"{stamp}, by {printed('rt', 'version')}, beside fips204 0.5.0 by",
-        f"{printed('rustc', '-V')} (release, {cpu}) over {', '.join(crates)}; {printed('valgrind', '--version')}.",
-        f"{os.cpu_count()} processors, {measured.processor()}, {'with' if has_sha else 'without'} instructions for "
-        f"SHA; load {measured.load()} at the start.",
+        f"{stamp}, {printed('rt', 'version')};",
+        f"{printed('rustc', '-V')} (release, {cpu}), {', '.join(crates)}; {printed('valgrind', '--version')};",
+        f"{os.cpu_count()} processors, {measured.processor()}, {'with' if has_sha else 'without'} SHA instructions; "
+        f"load {measured.load()} at the start.",
     ]
 
 
@@ -143,5 +143,6 @@ def table(programs, sets, runs, room, lines):
     if lines:
         columns = [column.split(",")[0] for column in COLUMNS]
         head = [f"| {' | '.join(columns)} |", "|---" * len(columns) + "|"]
-        said = f"Ratios of ours to the Rust, as `bench/against-rust` prints them. {' '.join(lines)}"
+        said = "`bench/against-rust FOLDER`: `mldsa` divided by the same program over the Rust crate fips204 0.5.0. "
+        said += " ".join(lines)
         measured.put_section(HEADING, "\n".join([said, "", *head, *ratios]), "## ")
