@@ -133,16 +133,17 @@ def row(programs, words, data, short, runs, room):
 
 def table(programs, sets, runs, room, lines):
     """Prints the table of costs, and puts its ratios into bench/table.md below these lines, if there are any."""
-    ratios = []
+    ratios: dict[str, list[list[str]]] = {}
     print(f"| {' | '.join(COLUMNS)} |\n|---{'|---' * (len(COLUMNS) - 1)}|", flush=True)
     for name, words, data, short in cases(sets):
         pairs = row(programs, words, data, short, runs, room)
         print(f"| {name} | {' | '.join(f'{ours:.4g} / {rust:.4g} = {ours / rust:.2f}' for ours, rust in pairs)} |",
               flush=True)
-        ratios.append(f"| {name} | {' | '.join(f'{ours / rust:.2f}' for ours, rust in pairs)} |")
+        ratios.setdefault(name.rpartition(" ")[0], []).append([f"{ours / rust:.2f}" for ours, rust in pairs])
     if lines:
-        columns = [column.split(",")[0] for column in COLUMNS]
+        columns = [f"at {', '.join(sets)}", *(column.split(",")[0] for column in COLUMNS[1:])]
         head = [f"| {' | '.join(columns)} |", "|---" * len(columns) + "|"]
+        rows = [f"| {name} | {' | '.join(map(', '.join, zip(*of_sets)))} |" for name, of_sets in ratios.items()]
         said = "`bench/against-rust FOLDER`: `mldsa` divided by the same program over the Rust crate fips204 0.5.0. "
         said += " ".join(lines)
-        measured.put_section(HEADING, "\n".join([said, "", *head, *ratios]), "## ")
+        measured.put_section(HEADING, "\n".join([said, "", *head, *rows]), "## ")
