@@ -366,10 +366,12 @@ class Tries(unittest.TestCase):
         """The first signature of each page, by its lines and its code, in the folder of the files."""
         for name, (tools, place, wanted) in FIRST.items():
             page = (TOP / name / "README.md").read_text(encoding="utf-8").partition("## A first signature\n")[2]
-            lines = re.search(r"^(?:    .*\n)+|(?<=^~~~text\n).*?(?=^~~~$)", page, re.M | re.S)[0].split("\n")[:-1]
+            shown = re.search(r"^~~~text\n((?:.*\n)*?)~~~$|((?:^    .*\n)+)", page, re.M)
+            lines = (shown[1] or shown[2]).splitlines()
             lacking = lacks(*tools) if tools != ("cargo",) else missing(*tools)
-            if lacking:
-                print(f"    not run, since there is no {', '.join(lacking)}: the first signature of {name}/README.md")
+            if lacking or room.short and name == "c/portable":
+                why = f"there is no {', '.join(lacking)}" if lacking else "it compiles for a minute"
+                print(f"    not run, since {why}: the first signature of {name}/README.md")
                 continue
             folder = room.path / f"in-pages-{name.replace('/', '-')}"
             shutil.copytree(room.dist, folder)
