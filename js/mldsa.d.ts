@@ -1,6 +1,6 @@
 /**
- * A call that the library refused. `message` begins with the text of the status, as `mldsa_text` of c/mldsa.h gives it;
- * where that is about an array, its name follows, its length, and the one that is wanted.
+ * An error of the library. `message` begins with the text of the status, as `mldsa_text` of c/mldsa.h gives it; where
+ * that is about an array, its name follows, its length, and the one that is wanted.
  */
 export class MlDsaError extends Error {
     readonly name: "MlDsaError";
@@ -8,10 +8,18 @@ export class MlDsaError extends Error {
     readonly status: number;
 }
 
-/** Whether this engine can run the library: whether its WebAssembly has what the module needs. */
+/**
+ * Whether this engine can run the library: whether its WebAssembly has what the module needs.
+ * @example
+ * isSupported(); // true
+ */
 export function isSupported(): boolean;
 
-/** Object identifiers of hash functions in DER, as `hashSign` and `hashVerify` take them: a new array at each look. */
+/**
+ * Object identifiers of hash functions in DER, as `hashSign` and `hashVerify` take them: a new array at each look.
+ * @example
+ * oids["SHA-256"].length; // 11
+ */
 export const oids: Readonly<
     Record<
         | "SHA-224" | "SHA-256" | "SHA-384" | "SHA-512" | "SHA-512/224" | "SHA-512/256"
@@ -35,53 +43,135 @@ export interface Random {
     random?: Uint8Array;
 }
 
-/** A message that is hashed in pieces. */
+/** A message that is hashed in pieces. Both calls throw a `TypeError` for other arguments. */
 export interface MessageHasher {
-    /** Adds the next piece, of any length, and gives the hasher itself. Small ones are copied, and hashed together. */
+    /**
+     * Adds the next piece, of any length, and gives the hasher itself. Small ones are copied, and hashed together.
+     * @example
+     * mlDsa65.messageHasher(publicKey).update(message).update(message);
+     */
     update(piece: Uint8Array): MessageHasher;
-    /** The `mu` of all pieces so far. More may follow. */
+    /**
+     * The `mu` of all pieces so far, of 64 bytes. More may follow.
+     * @example
+     * mlDsa65.messageHasher(publicKey).update(message).mu().length; // 64
+     */
     mu(): Uint8Array;
 }
 
 /**
- * A parameter set of FIPS 204. Each call throws a `TypeError` for an argument that is no `Uint8Array`, for options that
- * are no plain object or have another name, and for too many arguments; an `MlDsaError` for an array of a wrong length
- * (but for a signature that is to be verified) and where it says so; and a `RangeError` for arrays that do not fit into
- * the module's memory. Calls are synchronous, and wipe the module's memory when they end; the arrays that you pass and
- * those that you get are yours to wipe.
+ * A parameter set of FIPS 204. Calls are synchronous, and wipe the module's memory when they end; the arrays that you
+ * pass and those that you get are yours to wipe. There are no prepared keys.
+ *
+ * Each call throws a `TypeError` for an argument that is no `Uint8Array`, for options that are no plain object or have
+ * another name, and for too many arguments; an `MlDsaError` with status 2 for an array of a wrong length, but not for a
+ * signature to be verified; and a `RangeError` for arrays that do not fit into the module's memory. Other errors stand
+ * at the calls. Status 13 (all 814 attempts were rejected) is that of a damaged private key; for 15 (sampling limit
+ * reached) no input is known.
  */
 export interface MlDsa {
     /** `ML-DSA-44`, `ML-DSA-65` or `ML-DSA-87`. */
     readonly name: string;
     /** The lengths of arrays, in bytes. */
     readonly lengths: Readonly<Record<"seed" | "random" | "mu" | "publicKey" | "privateKey" | "signature", number>>;
-    /** Makes the key pair of a seed of 32 bytes, or of one that `crypto.getRandomValues` draws. */
+    /**
+     * Makes the key pair of a seed of 32 bytes, or of one that `crypto.getRandomValues` draws (Algorithm 1).
+     * @example
+     * const { publicKey, privateKey } = mlDsa65.keygen();
+     * @throws `Error` without a seed where the engine has no `crypto.getRandomValues`.
+     */
     keygen(seed?: Uint8Array): KeyPair;
-    /** The public key that belongs to a private one. */
+    /**
+     * The public key that belongs to a private one.
+     * @example
+     * mlDsa65.publicKey(privateKey); // publicKey
+     * @throws `MlDsaError` 14 if the bytes are no private key.
+     */
     publicKey(privateKey: Uint8Array): Uint8Array;
-    /** Signs a message. Throws for a context that is too long, and for a private key that is none. */
+    /**
+     * Signs a message (Algorithm 2).
+     * @example
+     * const signature = mlDsa65.sign(privateKey, message, { context });
+     * @throws `MlDsaError` 4 if the context has more than 255 bytes, 14 if the bytes are no private key, 13 or 15;
+     * `Error` as of `keygen`, without `random`.
+     */
     sign(privateKey: Uint8Array, message: Uint8Array, options?: Context & Random): Uint8Array;
-    /** Whether the public key accepts the signature of the message under the context; never one of another length. */
+    /**
+     * Whether the public key accepts the signature of the message under the context (Algorithm 3): false too for a
+     * signature of another length, and for a context above 255 bytes.
+     * @example
+     * mlDsa65.verify(publicKey, message, signature, { context }); // true
+     */
     verify(publicKey: Uint8Array, message: Uint8Array, signature: Uint8Array, options?: Context): boolean;
-    /** Signs the digest of a message that a hash function made, whose object identifier is `oid`. */
+    /**
+     * Signs the digest of a message (HashML-DSA, Algorithm 4) by the hash function with the object identifier `oid`. Of
+     * the functions in `oids` a digest has its length, 32 bytes for SHAKE128 and 64 for SHAKE256; of others at most
+     * 1,024 bytes.
+     * @example
+     * const signature = mlDsa65.hashSign(privateKey, digest, oids["SHA-256"], { context });
+     * @throws `MlDsaError` 6 if the context has more than 255 bytes, 7 or 8 if `oid` is empty or not DER, 9 or 10 if
+     * the digest is too long or has another length, 14 if the bytes are no private key, 13 or 15; `Error` as of `sign`.
+     */
     hashSign(privateKey: Uint8Array, digest: Uint8Array, oid: Uint8Array, options?: Context & Random): Uint8Array;
-    /** Whether the public key accepts the signature of the digest under the context. */
+    /**
+     * Whether the public key accepts the signature of the digest under the context (Algorithm 5): false too where
+     * `hashSign` would throw for the digest, `oid` or the context.
+     * @example
+     * const own = mlDsa65.hashSign(privateKey, digest, oids["SHA-256"]);
+     * mlDsa65.hashVerify(publicKey, digest, oids["SHA-256"], own); // true
+     */
     hashVerify(
         publicKey: Uint8Array, digest: Uint8Array, oid: Uint8Array, signature: Uint8Array, options?: Context,
     ): boolean;
-    /** Begins a message in pieces that `verifyMu` is to judge. Throws for a context that is too long. */
+    /**
+     * Begins a message in pieces, whose `mu` is for `verifyMu`.
+     * @example
+     * const mu = mlDsa65.messageHasher(publicKey, { context }).update(message).mu();
+     * mlDsa65.verifyMu(publicKey, mu, signature); // true
+     * @throws `MlDsaError` 4 if the context has more than 255 bytes.
+     */
     messageHasher(publicKey: Uint8Array, options?: Context): MessageHasher;
-    /** Begins a message in pieces that `signMu` is to sign, by the hash `tr` that the private key keeps. */
+    /**
+     * Begins a message in pieces, whose `mu` is for `signMu`, by the hash `tr` that the private key keeps.
+     * @example
+     * const mu = mlDsa65.messageHasherOfPrivate(privateKey, { context }).update(message).mu();
+     * @throws `MlDsaError` 4 if the context has more than 255 bytes.
+     */
     messageHasherOfPrivate(privateKey: Uint8Array, options?: Context): MessageHasher;
-    /** Signs the message with this `mu` of 64 bytes (FIPS 204, Algorithm 7, line 6), which a `MessageHasher` gives. */
+    /**
+     * Signs the message with this `mu` of 64 bytes (FIPS 204, Algorithm 7, line 6), which a `MessageHasher` gives.
+     * @example
+     * const signature = mlDsa65.signMu(privateKey, mlDsa65.messageHasherOfPrivate(privateKey).update(message).mu());
+     * @throws `MlDsaError` 14 if the bytes are no private key, 13 or 15; `Error` as of `sign`.
+     */
     signMu(privateKey: Uint8Array, mu: Uint8Array, options?: Random): Uint8Array;
-    /** Whether the public key accepts the signature of the message with this `mu`. */
+    /**
+     * Whether the public key accepts the signature of the message with this `mu`.
+     * @example
+     * mlDsa65.verifyMu(publicKey, mlDsa65.messageHasher(publicKey).mu(), signature); // false
+     */
     verifyMu(publicKey: Uint8Array, mu: Uint8Array, signature: Uint8Array): boolean;
-    /** Throws unless the bytes are a private key. Each call with a private key asks that too. */
+    /**
+     * Throws unless the bytes are a private key, as each call with a private key does but `messageHasherOfPrivate`.
+     * @example
+     * mlDsa65.checkPrivateKey(privateKey);
+     * @throws `MlDsaError` 14.
+     */
     checkPrivateKey(privateKey: Uint8Array): void;
-    /** Whether a private key from elsewhere works: whether what it signs is accepted under what `publicKey` gives. */
+    /**
+     * Whether a private key from elsewhere is consistent: whether what it signs is accepted under what `publicKey`
+     * gives.
+     * @example
+     * mlDsa65.isPair(privateKey); // true
+     * @throws `MlDsaError` 14 if the bytes are no private key, or 15.
+     */
     isPair(privateKey: Uint8Array): boolean;
-    /** The same without a look at its hash `tr`: whether its part t0 belongs to its parts s1 and s2. */
+    /**
+     * The same without a look at its hash `tr`: whether its part t0 belongs to its parts s1 and s2.
+     * @example
+     * mlDsa65.isWhole(privateKey); // true
+     * @throws `MlDsaError` as of `isPair`.
+     */
     isWhole(privateKey: Uint8Array): boolean;
 }
 
@@ -90,7 +180,7 @@ export type CompiledModule = typeof globalThis extends { WebAssembly: { Module: 
     ? Module & object
     : object;
 
-/** Where the module is: a URL or the text of an absolute one, what `fetch` answers, the module's bytes, or itself. */
+/** Where the module is: a URL or the text of an absolute one, what `fetch` returns, the module's bytes, or itself. */
 export type Source =
     | string
     | { readonly href: string }
@@ -101,8 +191,10 @@ export type Source =
 
 /**
  * Loads the WebAssembly module and gives the three parameter sets. By default `mldsa` reads `mldsa.wasm` beside its own
- * file, or has it inside where it is packed for browsers, and `mldsa/inline` has it inside everywhere. Throws an
- * `Error` where `isSupported` says no.
+ * file, or has it inside where it is bundled for browsers, and `mldsa/inline` has it inside everywhere.
+ * @example
+ * const { mlDsa44, mlDsa65, mlDsa87 } = await load();
+ * @throws `Error` where `isSupported` is false, or the module is not found.
  */
 export function load(
     source?: Source | Promise<Source>,

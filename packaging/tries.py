@@ -19,6 +19,14 @@ HERE = TOP / "packaging/tries"
 ARM_ROOT = "/usr/aarch64-linux-gnu"
 
 
+# Of the first signature of a page: what it wants, where its code goes, and how it ends.
+FIRST: dict[str, tuple[tuple[str, ...], str, str]] = {
+    "c": (("cc",), "", "\nverified: yes\n"),
+    "c/portable": (("arm-linux-gnueabihf-gcc", "qemu-arm"), "", "\nverified: yes\n"),
+    "js": (("node", "npm"), "first.mjs", "\ntrue\n"),
+    "python": (("python3", "pip"), "first.py", "\nthe signature is invalid\n"),
+    "rust/fips204": (("cargo",), "src/main.rs", ""),
+}
 # What a network may want of the environment.
 NETWORK = ("SSL_CERT_FILE", "SSL_CERT_DIR", "http_proxy", "https_proxy", "HTTPS_PROXY", "no_proxy")
 MANIFEST = """[package]
@@ -357,6 +365,31 @@ class Tries(unittest.TestCase):
             raise Failed("npm has installed nothing")
         for line in [line for line in lines if line not in run]:
             print(f"    not run: {line}")
+
+    @wants("tar")
+    def test_in_pages(self, room):
+        """The first signature of each page, by its lines and its code, in the folder of the files."""
+        for name, (tools, place, wanted) in FIRST.items():
+            page = (TOP / name / "README.md").read_text(encoding="utf-8").partition("## A first signature\n")[2]
+            shown = re.search(r"^~~~text\n((?:.*\n)*?)~~~$|((?:^    .*\n)+)", page, re.M)
+            lines = (shown[1] or shown[2]).splitlines()
+            lacking = lacks(*tools) if tools != ("cargo",) else missing(*tools)
+            if lacking or room.short and name == "c/portable":
+                why = f"there is no {', '.join(lacking)}" if lacking else "it compiles for a minute"
+                print(f"    not run, since {why}: the first signature of {name}/README.md")
+                continue
+            folder = room.path / f"in-pages-{name.replace('/', '-')}"
+            shutil.copytree(room.dist, folder)
+            if place:
+                code = folder / "the-code"
+                said = re.search(r"^```\w+\n(.*?)^```$", page, re.M | re.S)[1].replace("./out/mldsa.js", "mldsa")
+                code.write_text(said, encoding="utf-8")
+                lines.insert(-1, f"cp {code} {place}")
+            # pip asks no registry, and puts the package into the folder that is HOME here.
+            more = {"PIP_NO_INDEX": "1", "PIP_USER": "1", "PIP_BREAK_SYSTEM_PACKAGES": "1"}
+            said = room.run("sh", "-e", "-c", "\n".join(lines), cwd=folder, **room.for_cargo(), **more)
+            if not said.endswith(wanted):
+                raise Failed(f"the lines of {name}/README.md do not print {wanted!r}:\n{said}")
 
     @wants()
     def test_in_and_out(self, room):

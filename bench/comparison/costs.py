@@ -23,10 +23,10 @@ def machine(cpu="x86-64-v2"):
     changed = " with changes" if printed("git", "-C", str(TOP), "status", "--porcelain", "--", "crates") else ""
     stamp = measured.stamp().replace(", code", f"{changed}, code")
     return [
-        f"{stamp}, by {printed('rt', 'version')}, beside fips204 0.5.0 by",
-        f"{printed('rustc', '-V')} (release, {cpu}) over {', '.join(crates)}; {printed('valgrind', '--version')}.",
-        f"{os.cpu_count()} processors, {measured.processor()}, {'with' if has_sha else 'without'} instructions for "
-        f"SHA; load {measured.load()} at the start.",
+        f"{stamp}, {printed('rt', 'version')};",
+        f"{printed('rustc', '-V')} (release, {cpu}), {', '.join(crates)}; {printed('valgrind', '--version')};",
+        f"{os.cpu_count()} processors, {measured.processor()}, {'with' if has_sha else 'without'} SHA instructions; "
+        f"load {measured.load()} at the start.",
     ]
 
 
@@ -133,15 +133,17 @@ def row(programs, words, data, short, runs, room):
 
 def table(programs, sets, runs, room, lines):
     """Prints the table of costs, and puts its ratios into bench/table.md below these lines, if there are any."""
-    ratios = []
+    ratios: dict[str, list[list[str]]] = {}
     print(f"| {' | '.join(COLUMNS)} |\n|---{'|---' * (len(COLUMNS) - 1)}|", flush=True)
     for name, words, data, short in cases(sets):
         pairs = row(programs, words, data, short, runs, room)
         print(f"| {name} | {' | '.join(f'{ours:.4g} / {rust:.4g} = {ours / rust:.2f}' for ours, rust in pairs)} |",
               flush=True)
-        ratios.append(f"| {name} | {' | '.join(f'{ours / rust:.2f}' for ours, rust in pairs)} |")
+        ratios.setdefault(name.rpartition(" ")[0], []).append([f"{ours / rust:.2f}" for ours, rust in pairs])
     if lines:
-        columns = [column.split(",")[0] for column in COLUMNS]
+        columns = [f"at {', '.join(sets)}", *(column.split(",")[0] for column in COLUMNS[1:])]
         head = [f"| {' | '.join(columns)} |", "|---" * len(columns) + "|"]
-        said = f"Ratios of ours to the Rust, as `bench/against-rust` prints them. {' '.join(lines)}"
-        measured.put_section(HEADING, "\n".join([said, "", *head, *ratios]), "## ")
+        rows = [f"| {name} | {' | '.join(map(', '.join, zip(*of_sets)))} |" for name, of_sets in ratios.items()]
+        said = "`bench/against-rust FOLDER`: `mldsa` divided by the same program over the Rust crate fips204 0.5.0. "
+        said += " ".join(lines)
+        measured.put_section(HEADING, "\n".join([said, "", *head, *rows]), "## ")

@@ -222,13 +222,10 @@ def costs(folder, room, runs, cpu, write):
         sys.exit(done.stderr)
     program = f"{place}/target/release/costs"
     version = openssl()[0]
-    other = "not there, or older than 3.5"
-    if version:
-        other = f"{version}, through Python, which chooses its own random bytes in signing"
+    other = f"{version} through Python, with random bytes of its own" if version else "no OpenSSL, or one before 3.5"
     lines = [
-        "Through `rust/fips204`, as `bench/against-rust FOLDER --calls` prints them; original is the Rust crate "
-        f"fips204 0.5.0 over `sha3`. {' '.join(machine(cpu))} Medians of {runs} calls, which take turns. "
-        f"OpenSSL: {other}."
+        "`bench/against-rust FOLDER --calls`: `rust/fips204` beside the original fips204 0.5.0 over `sha3`, medians of "
+        f"{runs} calls in turns; {other}. {' '.join(machine(cpu))}"
     ]
     lines.append("")
     head = ["set", "call", "microseconds: original", "ours", "ours / original", "OpenSSL"]

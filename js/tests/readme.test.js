@@ -1,11 +1,40 @@
-// The example of the README.
+// The example of the README, and those at each call in the types.
 import assert from "node:assert/strict";
 import test from "node:test";
-import { text } from "./shared.js";
+import * as keys from "../out/keys.js";
+import * as all from "../out/mldsa.js";
+import { ofOpenssl, sha256, text, utf8, hex } from "./shared.js";
 
 test("the example is a file, and prints that the signature is valid", async (t) => {
     assert.equal(text("js/README.md").match(/^```js\n(.*?)^```$/ms)[1], text("js/example.js"));
     const printed = t.mock.method(console, "log", () => {});
     await import("../example.js");
     assert.deepEqual(printed.mock.calls.map((call) => call.arguments), [[true]]);
+});
+
+/** Each call that a file of types declares, and the lines of its example. A line `CALL; // VALUE` says what it gives. */
+function examples(name) {
+    const call = /^ *\/\*\*\n((?: *\*.*\n)+?) *\*\/\n *(?:export (?:function|const) )?(\w+)[(:]/gm;
+    return [...text(name).matchAll(call)].map(([, comment, declared]) => {
+        const lines = comment.match(/@example\n((?: *\*(?! @).*\n)+)/)?.[1].replace(/^ *\* ?/gm, "");
+        return [declared, lines?.replace(/^(.*); \/\/ (.*)$/gm, "assert.deepEqual($1, $2);")];
+    });
+}
+
+test("each call in the types has an example, which runs", async () => {
+    const { mlDsa65 } = await all.load();
+    const pair = mlDsa65.keygen();
+    const [message, context, digest] = [utf8("a message"), utf8("a context"), hex(sha256(utf8("a message")))];
+    const signature = mlDsa65.sign(pair.privateKey, message, { context });
+    const names = { assert, ...all, ...keys, mlDsa65, ...pair, message, context, digest, signature, text: ofOpenssl(65).pem };
+    const found = [...examples("js/mldsa.d.ts"), ...examples("js/keys.d.ts")];
+    assert.deepEqual(found.filter(([, lines]) => lines === undefined).map(([call]) => call), []);
+    const methods = Object.getOwnPropertyNames(Object.getPrototypeOf(mlDsa65)).filter((it) => it !== "constructor");
+    for (const call of [...methods, "update", "mu", "load", "isSupported", "oids", "readPublicKey", "fingerprint"]) {
+        assert.ok(found.some(([declared]) => declared === call), `${call} has no example`);
+    }
+    const Run = (async () => {}).constructor;
+    for (const [call, lines] of found) {
+        await assert.doesNotReject(new Run(...Object.keys(names), `{ ${lines} }`)(...Object.values(names)), call);
+    }
 });

@@ -1,11 +1,13 @@
 """ML-DSA (FIPS 204) at the parameter sets 44, 65 and 87, by a library whose code is proved.
 
-    key = MLDSA65PrivateKey.generate()
-    signature = key.sign(b"a message", b"a context")
-    key.public_key().verify(signature, b"a message", b"a context")    # or raises InvalidSignature
+    >>> key = MLDSA65PrivateKey.generate()
+    >>> public = key.public_key()
+    >>> signature = key.sign(b"a message", b"a context")
+    >>> public.verify(signature, b"a message", b"a context")    # or raises InvalidSignature
 
-Arguments are any bytes-like objects. Another type is a TypeError; a key, digest or `mu` of a wrong length and a context
-of more than 255 bytes are a ValueError that says so.
+The examples of each call have this key, public key and signature. Arguments are any bytes-like objects. Another type is
+a TypeError; a wrong length a ValueError that names the argument and both lengths, but of a signature InvalidSignature.
+Each call may raise OSError where the thread has too little stack, and no other can be started.
 """
 from ._errors import InvalidSignature, KeyFileError, SigningError
 from ._interface import VERSION_TEXT as __version__

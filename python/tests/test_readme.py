@@ -1,4 +1,7 @@
-"""Each block of code on the page runs as it stands, and its types are right."""
+"""Each block of code on the page runs as it stands, and its types are right; each public call has an example that does;
+and the page has the stack that calls need."""
+import doctest
+import hashlib
 import os
 import pathlib
 import re
@@ -10,8 +13,10 @@ import unittest
 from shared import PYTHON, TOP
 
 import mldsa
+from mldsa import _interface, _keys
 
-BLOCKS = re.findall(r"^```python\n(.*?)^```$", (TOP / "python/README.md").read_text(encoding="utf-8"), re.M | re.S)
+PAGE = (TOP / "python/README.md").read_text(encoding="utf-8")
+BLOCKS = re.findall(r"^```python\n(.*?)^```$", PAGE, re.M | re.S)
 
 # Uses of each kind of file and buffer.
 TYPES = """
@@ -35,7 +40,7 @@ class Page(unittest.TestCase):
     """python/README.md."""
 
     def test_blocks(self):
-        self.assertGreaterEqual(len(BLOCKS), 3)
+        self.assertGreaterEqual(len(BLOCKS), 2)
         for number, block in enumerate(BLOCKS):
             with self.subTest(number=number), tempfile.TemporaryDirectory() as room:
                 done = subprocess.run(
@@ -68,3 +73,33 @@ class Page(unittest.TestCase):
                     check=False,
                 )
                 self.assertEqual(done.returncode, int(block is wrong), done.stdout)
+
+    def test_stack(self):
+        most = max(value for name, value in _interface.NUMBERS.items() if "_STACK_" in name)
+        self.assertIn(f"needs up to {-(-most // 1024)} KiB of stack", " ".join(PAGE.split()))
+
+
+class Docstrings(unittest.TestCase):
+    """The examples of docstrings."""
+
+    def test_examples(self):
+        key = mldsa.MLDSA65PrivateKey.generate()
+        names = {"hashlib": hashlib, "key": key, "public": key.public_key()}
+        names["signature"] = key.sign(b"a message", b"a context")
+        said, runner = [], doctest.DocTestRunner(verbose=False)
+        with tempfile.TemporaryDirectory() as room:
+            self.addCleanup(os.chdir, os.getcwd())
+            os.chdir(room)
+            pathlib.Path("notes").write_bytes(b"a message")
+            for module in (mldsa, _keys):
+                for test in doctest.DocTestFinder(recurse=module is _keys).find(module, extraglobs=names):
+                    runner.run(test, out=said.append)
+        self.assertEqual(runner.failures, 0, "".join(said))
+
+    def test_each(self):
+        kinds = (_keys.MessageHasher, _keys._Key, _keys._Signer, _keys._Verifier, _keys.PublicKey, _keys.PrivateKey)
+        calls = {f"{it.__name__}.{name}": call for it in kinds for name, call in vars(it).items() if name[0] != "_"}
+        calls.update({name: call for name, call in vars(_keys).items() if name.startswith("load_")})
+        self.assertGreater(len(calls), 30)
+        without = [name for name, call in calls.items() if ">>>" not in getattr(call, "__func__", call).__doc__]
+        self.assertEqual(without, [])
