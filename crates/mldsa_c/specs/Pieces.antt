@@ -3,7 +3,7 @@ use Rattle.std.specs.Prelude.{◌≡◌, ◌<◌, ◌≤◌, ℕ, List, [], ◌+
 use Rattle.fips204.specs.Framing.{plain, representative}
 use Rattle.fips204_shake.specs.Fronts.{shake256_front}
 use Rattle.fips204_shake.specs.Pieces.{HashesSaved}
-use Rattle.shake.specs.State.{saved_used}
+use Rattle.shake.specs.State.{CanBeSaved}
 use Rattle.mldsa_c.specs.Calls.{IfSized}
 
 -- an array is as it was
@@ -17,10 +17,10 @@ Begins wanted key tr context old new status =
     (((length context ≤ 255) → HashesSaved new tr context [] × (status ≡ 0)) × ((255 < length context) → Keeps old new status 4))
     (Keeps old new status 2)) (Keeps old new status 2)
 
--- a state that some hasher has is used; any other bytes are answered by 16
+-- a state whose last byte is from 1 to 136 is used; any other, as zeros, is answered by 16
 abbrev pub IfState : List ℕ → Type 0 → (ℕ → Type 0) → Type 0
 IfState state uses refuses =
-    IfSized 337 state (((saved_used 136 state < 136) → uses) × ((136 ≤ saved_used 136 state) → refuses 16)) (refuses 2)
+    IfSized 337 state ((CanBeSaved 136 state → uses) × (¬ (CanBeSaved 136 state) → refuses 16)) (refuses 2)
 
 -- mu_update: whatever part of a message the state had taken, it has taken the piece as well
 abbrev pub Updates : List ℕ → List ℕ → List ℕ → ℕ → Type 0
