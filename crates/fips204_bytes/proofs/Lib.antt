@@ -1,3 +1,6 @@
+mod Lengths
 mod Pairs
 mod Mu
+mod Binding
 mod PreparedKeys
+mod Errors

@@ -1,4 +1,4 @@
--- Signing and verifying mu of an input, and one signature of two values of mu.
+-- Signing and verifying mu of an input.
 use Rattle.std.proofs.Common.{◌≡◌, ℕ, Bool, true, false, IsTrue, List, ◌++◌, length, nat_eq, take, None, Result, Ok, Err, refl, sym, ap, subst, ◌∙◌, arith, length-append, append_assoc}
 use Rattle.std.specs.Prelude.{◌↔◌, MatchBool, ⊤}
 use Rattle.std.proofs.lemmas.List.{take_at, drop_at}
@@ -10,7 +10,7 @@ use Rattle.fips204.specs.ParameterSets.{ParameterSet, IsSet, public_key_length, 
 use Rattle.fips204.specs.Refusals.{input_fault, sign_input, VerifiesInput}
 use Rattle.fips204.specs.SchemeLaws.{SignatureBindsHash}
 use Rattle.fips204_bytes.specs.Bytes.{Leaves, WithPrivate, Writes, Signs, TellsVerdict, Judges}
-use Rattle.fips204_bytes.specs.Mu.{tr_of_private, tr_of_public, MuStandsForInput, SignatureBindsMu}
+use Rattle.fips204_bytes.specs.Mu.{tr_of_private, tr_of_public, MuStandsForInput}
 use Rattle.fips204_bytes.specs.declared.refusal.Array.TheVariants.{PublicKey, PrivateKey, Signature}
 use Rattle.fips204_bytes.specs.declared.refusal.Refusal.{Refusal}
 use Rattle.fips204_bytes.specs.declared.refusal.Refusal.TheVariants.{Length}
@@ -40,11 +40,6 @@ with_used : (p : ParameterSet) (key : List ℕ) (uses uses' : PrivateParts → T
     → ((sk : PrivateParts) → IsPrivateKeyOf p.eta p.k p.l key sk → uses sk → uses' sk) → WithPrivate p key uses refuses → WithPrivate p key uses' refuses
 with_used p key uses uses' refuses f (Ok sk, decodes, held) = (Ok sk, decodes, f sk decodes held)
 with_used p key uses uses' refuses f (Err fault, decodes, refused) = (Err fault, decodes, refused)
-
--- an answer of yes
-yes : (b : Bool) → Path (Result Bool Refusal) (Ok true) (Ok b) → IsTrue b
-yes true is = refl
-yes false is = absurd cc
 
 module _ (p : ParameterSet) (H G : List ℕ → List ℕ) where
   same_signature : (key random : List ℕ) (input : Input) (sk : PrivateParts) → input_fault input ≡ None → IsPrivateKeyOf p.eta p.k p.l key sk
@@ -87,18 +82,3 @@ module _ (p : ParameterSet) (H G : List ℕ → List ℕ) where
         let same = λ (pk : PublicParts) (is : IsPublicKeyOf H p.k key pk). same_verdict key input signature pk none is in
         (judged key mu input signature answer same, judged key input mu signature answer (λ pk is. ((same pk is).1, (same pk is).0)));
   }
-
-  -- the key of a verifying call that says yes
-  accepted : (key : List ℕ) (input : Input) (signature : List ℕ) → Judges p H G key input signature (Ok true)
-      → (pk : PublicParts) × IsPublicKeyOf H p.k key pk × VerifiesInput p H G pk signature input
-  accepted key input signature judges =
-      let told : TellsVerdict p H G key input signature (Ok true) = chosen _ (chosen _ judges (not_done true (Length PublicKey))) (not_done true (Length Signature)) in
-      let (pk, is, (verdict, tells, answers)) = told in
-      (pk, is, tells.0 (yes verdict answers))
-
-  pub signature_binds_mu : IsSet p → SignatureBindsHash → BytesTellKeys p → SignatureBindsMu p H G
-  signature_binds_mu known law tell = λ key mu nu signature differ first second.
-      let (pk, is, accepts) = accepted key (represented mu) signature first in
-      let (other, is_other, other_accepts) = accepted key (represented nu) signature second in
-      let same : other ≡ pk = tell.public_keys other pk is_other.parts is.parts (is_other.tr ∙ sym is.tr) (is_other.encoding ∙ sym is.encoding) in
-      (pk, is, law p H G pk (represented mu) (represented nu) signature known differ accepts (subst (λ k. VerifiesInput p H G k signature (represented nu)) same other_accepts))

@@ -1,4 +1,6 @@
 pub mod Bytes
 pub mod Pairs
 pub mod Mu
+pub mod Binding
 pub mod Prepared
+pub mod Errors

@@ -1,5 +1,5 @@
 -- What the exported calls on a message in pieces answer. A state is a hasher in 337 bytes, and a last status is the answer.
-use Rattle.std.specs.Prelude.{◌≡◌, ◌<◌, ◌≤◌, ℕ, List, [], ◌++◌, length}
+use Rattle.std.specs.Prelude.{◌≡◌, ◌<◌, ◌≤◌, ℕ, List, [], ◌∷◌, ◌++◌, length}
 use Rattle.fips204.specs.Framing.{plain, representative}
 use Rattle.fips204_shake.specs.Fronts.{shake256_front}
 use Rattle.fips204_shake.specs.Pieces.{HashesSaved}
@@ -32,3 +32,8 @@ abbrev pub Finishes : List ℕ → List ℕ → List ℕ → ℕ → Type 0
 Finishes state mu mu' status =
     IfSized 64 mu (IfState state (((tr context m : List ℕ) → HashesSaved state tr context m → mu' ≡ representative shake256_front tr (plain m context)) × (status ≡ 0))
     (Keeps mu mu' status)) (Keeps mu mu' status 2)
+
+-- mu_update of each of these pieces, one after another, makes the second state of the first one
+abbrev pub Takes : List ℕ → List (List ℕ) → List ℕ → Type 0
+Takes old [] new = new ≡ old
+Takes old (piece ∷ pieces) new = (between : List ℕ) × Updates old between piece 0 × Takes between pieces new

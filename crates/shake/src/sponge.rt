@@ -128,7 +128,11 @@ impl<const R: usize> Shake<R> {
         add_block(&mut lanes, front);
         let mut block = [0u8; R];
         block.copy_from_slice(&rest[..R]);
-        Some(Shake { lanes, block, used: count - 1 })
+        Some(Shake {
+            lanes,
+            block,
+            used: count - 1,
+        })
     }
 
     /// Fills `out` with the first bytes of output for the message `input`.
