@@ -4,3 +4,4 @@ mod Mu
 mod Binding
 mod PreparedKeys
 mod Errors
+mod KeyRange

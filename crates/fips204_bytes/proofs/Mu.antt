@@ -1,16 +1,16 @@
 -- Signing and verifying mu of an input.
-use Rattle.std.proofs.Common.{◌≡◌, ℕ, Bool, true, false, IsTrue, List, ◌++◌, length, nat_eq, take, None, Result, Ok, Err, refl, sym, ap, subst, ◌∙◌, arith, length-append, append_assoc}
+use Rattle.std.proofs.Common.{◌≡◌, ℕ, Bool, true, false, IsTrue, List, ◌++◌, length, nat_eq, take, Option, None, Some, Result, Ok, Err, refl, sym, ap, subst, ◌∙◌, arith, length-append, append_assoc}
 use Rattle.std.specs.Prelude.{◌↔◌, MatchBool, ⊤}
 use Rattle.std.proofs.lemmas.List.{take_at, drop_at}
 use Rattle.fips204_base.specs.Encodings.{PublicParts, PrivateParts, IsPrivateKeyOf, IsPublicKeyOf, vector_bytes}
 use Rattle.fips204.specs.Acceptance.{Verifies}
 use Rattle.fips204.specs.Completeness.{BytesTellKeys}
-use Rattle.fips204.specs.Framing.{Input, represented, representative}
+use Rattle.fips204.specs.Framing.{Input, plain, hashed, framed, represented, representative}
 use Rattle.fips204.specs.ParameterSets.{ParameterSet, IsSet, public_key_length, private_key_length, signature_length}
 use Rattle.fips204.specs.Refusals.{input_fault, sign_input, VerifiesInput}
-use Rattle.fips204.specs.SchemeLaws.{SignatureBindsHash}
+use Rattle.fips204.specs.SchemeLaws.{framing}
 use Rattle.fips204_bytes.specs.Bytes.{Leaves, WithPrivate, Writes, Signs, TellsVerdict, Judges}
-use Rattle.fips204_bytes.specs.Mu.{tr_of_private, tr_of_public, MuStandsForInput}
+use Rattle.fips204_bytes.specs.Mu.{tr_of_private, tr_of_public, MuStandsForInput, FramedStandsForInput}
 use Rattle.fips204_bytes.specs.declared.refusal.Array.TheVariants.{PublicKey, PrivateKey, Signature}
 use Rattle.fips204_bytes.specs.declared.refusal.Refusal.{Refusal}
 use Rattle.fips204_bytes.specs.declared.refusal.Refusal.TheVariants.{Length}
@@ -40,6 +40,9 @@ with_used : (p : ParameterSet) (key : List ℕ) (uses uses' : PrivateParts → T
     → ((sk : PrivateParts) → IsPrivateKeyOf p.eta p.k p.l key sk → uses sk → uses' sk) → WithPrivate p key uses refuses → WithPrivate p key uses' refuses
 with_used p key uses uses' refuses f (Ok sk, decodes, held) = (Ok sk, decodes, f sk decodes held)
 with_used p key uses uses' refuses f (Err fault, decodes, refused) = (Err fault, decodes, refused)
+
+some_same : {x y : List ℕ} → Path (Option (List ℕ)) (Some x) (Some y) → x ≡ y
+some_same is = cc
 
 module _ (p : ParameterSet) (H G : List ℕ → List ℕ) where
   same_signature : (key random : List ℕ) (input : Input) (sk : PrivateParts) → input_fault input ≡ None → IsPrivateKeyOf p.eta p.k p.l key sk
@@ -81,4 +84,25 @@ module _ (p : ParameterSet) (H G : List ℕ → List ℕ) where
         let mu = represented (representative H (tr_of_public H key) input) in
         let same = λ (pk : PublicParts) (is : IsPublicKeyOf H p.k key pk). same_verdict key input signature pk none is in
         (judged key mu input signature answer same, judged key input mu signature answer (λ pk is. ((same pk is).1, (same pk is).0)));
+  }
+
+  -- mu of M' is mu of the input
+  same_mu : (tr : List ℕ) (input : Input) (m : List ℕ) → framing input ≡ Some m → representative H tr (framed m) ≡ representative H tr input
+  same_mu tr (plain message context) m is = ap (λ (x : List ℕ). take 64 (H (tr ++ x))) (sym (some_same is))
+  same_mu tr (hashed digest context oid) m is = ap (λ (x : List ℕ). take 64 (H (tr ++ x))) (sym (some_same is))
+  same_mu tr (framed n) m is = ap (λ (x : List ℕ). take 64 (H (tr ++ x))) (sym (some_same is))
+  same_mu tr (represented mu) m is = absurd cc
+
+  pub framed_stands_for_input : FramedStandsForInput p H G
+  framed_stands_for_input = record {
+    signed = λ key random input m old new answer none is.
+        let same : (sk : PrivateParts) → IsPrivateKeyOf p.eta p.k p.l key sk → sign_input p H G sk random (framed m) ≡ sign_input p H G sk random input =
+        λ sk _. rw (none, same_mu sk.tr input m is) refl in
+        (signed key random (framed m) input old new answer same, signed key random input (framed m) old new answer (λ sk own. sym (same sk own)));
+    judged = λ key input m signature answer none is.
+        let there : (pk : PublicParts) → VerifiesInput p H G pk signature (framed m) → VerifiesInput p H G pk signature input =
+        λ pk (_, verifies). (none, subst (λ mu. Verifies p H G pk mu signature) (same_mu pk.tr input m is) verifies) in
+        let back : (pk : PublicParts) → VerifiesInput p H G pk signature input → VerifiesInput p H G pk signature (framed m) =
+        λ pk (_, verifies). (refl, subst (λ mu. Verifies p H G pk mu signature) (sym (same_mu pk.tr input m is)) verifies) in
+        (judged key (framed m) input signature answer (λ pk _. (there pk, back pk)), judged key input (framed m) signature answer (λ pk _. (back pk, there pk)));
   }

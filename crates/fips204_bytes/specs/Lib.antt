@@ -4,3 +4,4 @@ pub mod Mu
 pub mod Binding
 pub mod Prepared
 pub mod Errors
+pub mod KeyRange

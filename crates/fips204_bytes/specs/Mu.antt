@@ -1,9 +1,10 @@
--- What mu of an input stands for, under the bytes of a key.
-use Rattle.std.specs.Prelude.{◌≡◌, ◌↔◌, Bool, None, Result, ⊤, take, drop}
+-- What mu and M' of an input stand for, under the bytes of a key.
+use Rattle.std.specs.Prelude.{◌≡◌, ◌↔◌, Bool, None, Some, Result, ⊤, take, drop}
 use Rattle.fips204_base.specs.Streams.{Bytes, XOF}
-use Rattle.fips204.specs.Framing.{Input, represented, representative}
+use Rattle.fips204.specs.Framing.{Input, framed, represented, representative}
 use Rattle.fips204.specs.ParameterSets.{ParameterSet}
 use Rattle.fips204.specs.Refusals.{input_fault}
+use Rattle.fips204.specs.SchemeLaws.{framing}
 use Rattle.fips204_bytes.specs.Bytes.{Signs, Judges}
 use Rattle.fips204_bytes.specs.declared.refusal.Refusal.{Refusal}
 
@@ -20,3 +21,10 @@ pub record MuStandsForInput (p : ParameterSet) (H G : XOF) : Type 0 where
       → Signs p H G key random (represented (representative H (tr_of_private key) input)) old new answer ↔ Signs p H G key random input old new answer
   pub judged : (key : Bytes) (input : Input) (signature : Bytes) (answer : Result Bool Refusal) → input_fault input ≡ None
       → Judges p H G key (represented (representative H (tr_of_public H key) input)) signature answer ↔ Judges p H G key input signature answer
+
+-- and so are signing and verifying its M'
+pub record FramedStandsForInput (p : ParameterSet) (H G : XOF) : Type 0 where
+  pub signed : (key random : Bytes) (input : Input) (m old new : Bytes) (answer : Result ⊤ Refusal) → input_fault input ≡ None → framing input ≡ Some m
+      → Signs p H G key random (framed m) old new answer ↔ Signs p H G key random input old new answer
+  pub judged : (key : Bytes) (input : Input) (m signature : Bytes) (answer : Result Bool Refusal) → input_fault input ≡ None → framing input ≡ Some m
+      → Judges p H G key (framed m) signature answer ↔ Judges p H G key input signature answer

@@ -2,21 +2,26 @@
 //! here. No code calls them.
 #![tactic(auto)]
 
-ghost use Rattle.std.specs.Prelude.{◌≡◌, ◌≢◌, ◌≤◌, ◌↔◌, ◌⊎◌, ◌++◌, ⊤, Bool, List, None, Ok, Err, Result, true, drop, length, take};
+ghost use Rattle.std.specs.Prelude.{◌≡◌, ◌≢◌, ◌<◌, ◌≤◌, ◌+◌, ◌*◌, ◌-ℤ◌, ◌<ℤ◌, ℕ, pos, ◌↔◌, ◌⊎◌, ◌++◌, ⊤, Bool, List, None, Some, Ok, Err, Result, true, drop, length, take};
+ghost use Rattle.std.specs.List.{All, Any};
 ghost use Rattle.fips204_base.specs.Encodings.{PublicParts, IsPublicKeyOf};
+ghost use Rattle.fips204_base.specs.Packing.{unpacked, width};
+ghost use Rattle.fips204_base.specs.declared.fault.Fault.TheVariants.{KeyRange};
 ghost use Rattle.fips204_base.specs.Streams.{Bytes, XOF};
-ghost use Rattle.fips204.specs.Framing.{Input, represented, representative};
-ghost use Rattle.fips204.specs.ParameterSets.{ParameterSet, IsSet, c_tilde_length, public_key_length};
+ghost use Rattle.fips204.specs.Framing.{Input, framed, represented, representative};
+ghost use Rattle.fips204.specs.ParameterSets.{ParameterSet, IsSet, c_tilde_length, public_key_length, private_key_length};
 ghost use Rattle.fips204.specs.Refusals.{input_fault};
-ghost use Rattle.fips204.specs.SchemeLaws.{AreFramedAlike, Fixes, NamesCollision, NamesKeyCollision};
+ghost use Rattle.fips204.specs.SchemeLaws.{AreFramedAlike, Fixes, NamesCollision, NamesKeyCollision, framing};
 ghost use Rattle.fips204_bytes.specs.Bytes.{Generates, Signs, Judges, Derives, Checks, ChecksWholeness, ChecksPair};
+ghost use Rattle.fips204_bytes.specs.KeyRange.{HasFieldAbove};
 ghost use Rattle.fips204_bytes.specs.Pairs.{BelongTogether};
 ghost use Rattle.fips204_bytes.specs.Prepared.{PreparesPublic, JudgesPrepared, PreparesPrivate, SignsPrepared};
 ghost use Rattle.fips204_bytes.specs.declared.refusal.Refusal.{Refusal};
+ghost use Rattle.fips204_bytes.specs.declared.refusal.Refusal.TheVariants.{Library};
 
 use crate::laws::{
-    errors_leave_arrays, mu_stands_for_input, pair_accepts_written, prepared_stands_for_plain,
-    signature_binds,
+    errors_leave_arrays, framed_stands_for_input, key_range, mu_stands_for_input,
+    pair_accepts_written, prepared_stands_for_plain, signature_binds,
 };
 
 /// Which keys belong together, and what is answered of such keys.
@@ -38,14 +43,19 @@ pub(crate) fn pair_parts()
     pair_accepts_written();
 }
 
-/// What is answered of the mu of an input.
+/// What is answered of the mu and of the framed message of an input.
 pub(crate) fn mu_parts()
     ensures signed { (p : ParameterSet) (H G : XOF) (sk random : Bytes) (input : Input) (old new : Bytes) (answer : Result ⊤ Refusal) → input_fault input ≡ None
         → Signs p H G sk random (represented (representative H (take 64 (drop 64 sk)) input)) old new answer ↔ Signs p H G sk random input old new answer }
     ensures judged { (p : ParameterSet) (H G : XOF) (pk : Bytes) (input : Input) (signature : Bytes) (answer : Result Bool Refusal) → input_fault input ≡ None
         → Judges p H G pk (represented (representative H (take 64 (H pk)) input)) signature answer ↔ Judges p H G pk input signature answer }
+    ensures framed_signed { (p : ParameterSet) (H G : XOF) (sk random : Bytes) (input : Input) (m old new : Bytes) (answer : Result ⊤ Refusal)
+        → input_fault input ≡ None → framing input ≡ Some m → Signs p H G sk random (framed m) old new answer ↔ Signs p H G sk random input old new answer }
+    ensures framed_judged { (p : ParameterSet) (H G : XOF) (pk : Bytes) (input : Input) (m signature : Bytes) (answer : Result Bool Refusal)
+        → input_fault input ≡ None → framing input ≡ Some m → Judges p H G pk (framed m) signature answer ↔ Judges p H G pk input signature answer }
 {
     mu_stands_for_input();
+    framed_stands_for_input();
 }
 
 /// The collisions that one signature names.
@@ -85,4 +95,15 @@ pub(crate) fn arrays_after_errors()
         ⊎ (PreparesPublic p H G key old new (Err why) ⊎ PreparesPrivate p G key old new (Err why)) → new ≡ old }
 {
     errors_leave_arrays();
+}
+
+/// Which arrays of the right length no private key has: that of which a field of s1 or s2 is above 2 eta.
+pub(crate) fn range_parts()
+    ensures above { (p : ParameterSet) (key : Bytes) (answer : Result ⊤ Refusal) (i : ℕ) → IsSet p → All (λ byte. byte < 256) key → length key ≡ private_key_length p
+        → Checks p key answer → i < p.l + p.k → Any (λ x. x <ℤ (pos 0 -ℤ pos p.eta)) (unpacked p.eta p.eta (take (32 * width (pos p.eta) (pos p.eta))
+        (drop (128 + 32 * width (pos p.eta) (pos p.eta) * i) key))).0 → answer ≡ Err (Library KeyRange) }
+    ensures some { (p : ParameterSet) (key : Bytes) → IsSet p → All (λ byte. byte < 256) key
+        → length key ≡ private_key_length p → Checks p key (Err (Library KeyRange)) → HasFieldAbove p key }
+{
+    key_range();
 }

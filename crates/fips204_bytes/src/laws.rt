@@ -6,7 +6,8 @@ ghost use Rattle.fips204.specs.ParameterSets.{ParameterSet, IsSet};
 ghost use Rattle.fips204_base.specs.Streams.{Bytes, XOF};
 ghost use Rattle.fips204_bytes.specs.Binding.{SignatureBinds};
 ghost use Rattle.fips204_bytes.specs.Errors.{ErrorsLeave};
-ghost use Rattle.fips204_bytes.specs.Mu.{MuStandsForInput};
+ghost use Rattle.fips204_bytes.specs.KeyRange.{RangeIsOfFields};
+ghost use Rattle.fips204_bytes.specs.Mu.{MuStandsForInput, FramedStandsForInput};
 ghost use Rattle.fips204_bytes.specs.Pairs.{PairsBelong};
 ghost use Rattle.fips204_bytes.specs.Prepared.{PreparedStandsForPlain};
 
@@ -25,6 +26,12 @@ pub fn pair_accepts_written()
 /// private key's bytes; and verifying it is verifying that input, where mu is made with the hash of the public key's bytes.
 pub fn mu_stands_for_input()
     ensures { (p : ParameterSet) (H G : XOF) → MuStandsForInput p H G }
+{}
+
+/// Signing the framed message M' of an input that breaks no condition is signing that input, and verifying it is verifying
+/// that input.
+pub fn framed_stands_for_input()
+    ensures { (p : ParameterSet) (H G : XOF) → FramedStandsForInput p H G }
 {}
 
 /// One signature for two values of mu, for two inputs or under two keys gives a collision of `H`: if `verify` says yes to one
@@ -50,4 +57,10 @@ pub fn prepared_stands_for_plain()
 /// An array that a call would write is as it was after every error.
 pub fn errors_leave_arrays()
     ensures { (p : ParameterSet) (H G : XOF) → ErrorsLeave p H G }
+{}
+
+/// `check_private_key` answers `Fault::KeyRange` of an array of the right length if and only if a field of s1 or s2 in it is
+/// above 2 eta.
+pub fn key_range()
+    ensures { (p : ParameterSet) → IsSet p → RangeIsOfFields p }
 {}

@@ -14,11 +14,11 @@ ghost use Rattle.fips204_bytes.specs.Bytes.{Generates};
 ghost use Rattle.fips204_shake.specs.Fronts.{shake256_front, shake128_front};
 ghost use Rattle.shake.specs.Shake.{shake256, shake128};
 
+use crate::streams::only_limits_differ;
 use crate::{
     MAX_PREHASH_LEN, MAX_SIGN_ATTEMPTS, MlDsa, MlDsa44, MlDsa65, MlDsa87, ml_dsa_44, ml_dsa_65,
     ml_dsa_87,
 };
-use crate::streams::only_limits_differ;
 use fips204_base::Fault;
 use fips204_bytes::{Refusal, SetName};
 
