@@ -1,12 +1,11 @@
 -- One signature of which verifying says yes twice.
-use Rattle.std.proofs.Common.{◌≡◌, ◌≢◌, ◌≤◌, Bool, true, false, IsTrue, List, ℕ, length, Result, Ok, Err, refl, sym, ap, subst, inl, inr, ◌∙◌}
-use Rattle.std.specs.Prelude.{◌⊎◌}
-use Rattle.fips204_base.specs.Encodings.{PublicParts, IsPublicKeyOf, public_key_bytes}
+use Rattle.std.proofs.Common.{◌≡◌, Bool, true, false, IsTrue, List, ℕ, Result, Ok, refl, sym, ap, subst, inl, inr, ◌∙◌}
+use Rattle.fips204_base.specs.Encodings.{PublicParts, public_key_bytes}
 use Rattle.fips204.specs.Completeness.{BytesTellKeys}
 use Rattle.fips204.specs.Framing.{Input, represented}
 use Rattle.fips204.specs.ParameterSets.{ParameterSet, IsSet}
 use Rattle.fips204.specs.Refusals.{VerifiesInput}
-use Rattle.fips204.specs.SchemeLaws.{AreFramedAlike, NamesKeyCollision, SignatureBindsHash, SignatureBindsInput, SignatureBindsKey}
+use Rattle.fips204.specs.SchemeLaws.{SignatureBindsHash, SignatureBindsInput, SignatureBindsKey}
 use Rattle.fips204_bytes.specs.Binding.{OfKey, SignatureBinds}
 use Rattle.fips204_bytes.specs.Bytes.{TellsVerdict, Judges}
 use Rattle.fips204_bytes.specs.declared.refusal.Array.TheVariants.{PublicKey, Signature}

@@ -1,5 +1,5 @@
 -- What an error leaves of the arrays that a call writes.
-use Rattle.std.proofs.Common.{◌≡◌, Bool, true, false, List, ℕ, length, nat_eq, Option, Some, None, Result, Ok, Err}
+use Rattle.std.proofs.Common.{◌≡◌, Bool, true, false, List, ℕ, length, nat_eq, Some, None, Result, Ok, Err}
 use Rattle.std.specs.Prelude.{MatchBool, MatchResult, ⊤}
 use Rattle.fips204_base.specs.Encodings.{PublicParts, PrivateParts, private_key_bytes}
 use Rattle.fips204_base.specs.declared.fault.Fault.{Fault}

@@ -16,15 +16,14 @@ use Rattle.fips204_base.specs.declared.fault.Fault.{Fault}
 use Rattle.fips204_base.specs.declared.fault.Fault.TheVariants.{KeyRange}
 use Rattle.fips204_base.specs.declared.types.R.{R}
 use Rattle.fips204_base.proofs.EncodedParts.{private_key-first, private_key-of_parts, private_key-second, three_seeds, width_4095_4096}
-use Rattle.fips204_base.proofs.Packing.{Unpacks, bytes_unpack, is_unpacked, unpacks, unpacks_bytes}
+use Rattle.fips204_base.proofs.Packing.{bytes_unpack, is_unpacked, unpacks, unpacks_bytes}
 use Rattle.fips204_base.proofs.VectorBytes.{piece-within, unpacked_range, vector_piece}
 use Rattle.fips204.proofs.Spellings.{one_more}
-use Rattle.fips204.specs.ParameterSets.{ParameterSet, IsSet, set_44, set_65, set_87, private_key_length}
+use Rattle.fips204.specs.ParameterSets.{ParameterSet, IsSet, private_key_length}
 use Rattle.fips204_bytes.specs.Bytes.{Checks, WithPrivate}
-use Rattle.fips204_bytes.specs.KeyRange.{HasFieldAbove, RangeIsOfFields, small_polynomial_at}
-use Rattle.fips204_bytes.specs.declared.refusal.Array.TheVariants.{PrivateKey}
+use Rattle.fips204_bytes.specs.KeyRange.{HasFieldAbove, small_polynomial_at}
 use Rattle.fips204_bytes.specs.declared.refusal.Refusal.{Refusal}
-use Rattle.fips204_bytes.specs.declared.refusal.Refusal.TheVariants.{Length, Library}
+use Rattle.fips204_bytes.specs.declared.refusal.Refusal.TheVariants.{Library}
 use Rattle.fips204_bytes.proofs.Pairs.{not_done, taken}
 
 -- the polynomials that bytes hold, each in so many bytes

@@ -1,10 +1,10 @@
 -- How many bytes keys and signatures have.
-use Rattle.std.proofs.Common.{◌≡◌, ◌≤◌, ℕ, List, ◌++◌, length, take, pos, ◌+◌, ◌-◌, ◌*◌, ap, ◌∙◌, arith, length-append, sym}
+use Rattle.std.proofs.Common.{◌≡◌, ◌≤◌, ℕ, List, ◌++◌, length, take, ◌+◌, ◌-◌, ◌*◌, ap, ◌∙◌, arith, length-append, sym}
 use Rattle.std.proofs.lemmas.List.{length-replicate}
 use Rattle.std.proofs.lemmas.List.FromFn.{length-map-range_with_len}
 use Rattle.fips204_base.specs.declared.types.R.{R}
 use Rattle.fips204_base.specs.Encodings.{PublicParts, PrivateParts, ArePublicParts, ArePrivateParts, IsSignature, all_ones, hint_bytes, public_key_bytes, private_key_bytes, vector_bytes}
-use Rattle.fips204_base.specs.Packing.{bit_length, width}
+use Rattle.fips204_base.specs.Packing.{bit_length}
 use Rattle.fips204_base.proofs.EncodedParts.{width_4095_4096}
 use Rattle.fips204_base.proofs.VectorBytes.{vector-length}
 use Rattle.fips204.specs.ParameterSets.{ParameterSet, c_tilde_length, public_key_length, private_key_length, signature_length}

@@ -1,12 +1,11 @@
 -- Signing and verifying mu of an input.
-use Rattle.std.proofs.Common.{◌≡◌, ℕ, Bool, true, false, IsTrue, List, ◌++◌, length, nat_eq, take, Option, None, Some, Result, Ok, Err, refl, sym, ap, subst, ◌∙◌, arith, length-append, append_assoc}
+use Rattle.std.proofs.Common.{◌≡◌, ℕ, Bool, true, false, List, ◌++◌, length, nat_eq, take, Option, None, Some, Result, Ok, Err, refl, sym, ap, subst, ◌∙◌, arith, length-append, append_assoc}
 use Rattle.std.specs.Prelude.{◌↔◌, MatchBool, ⊤}
 use Rattle.std.proofs.lemmas.List.{take_at, drop_at}
 use Rattle.fips204_base.specs.Encodings.{PublicParts, PrivateParts, IsPrivateKeyOf, IsPublicKeyOf, vector_bytes}
 use Rattle.fips204.specs.Acceptance.{Verifies}
-use Rattle.fips204.specs.Completeness.{BytesTellKeys}
 use Rattle.fips204.specs.Framing.{Input, plain, hashed, framed, represented, representative}
-use Rattle.fips204.specs.ParameterSets.{ParameterSet, IsSet, public_key_length, private_key_length, signature_length}
+use Rattle.fips204.specs.ParameterSets.{ParameterSet, public_key_length, private_key_length, signature_length}
 use Rattle.fips204.specs.Refusals.{input_fault, sign_input, VerifiesInput}
 use Rattle.fips204.specs.SchemeLaws.{framing}
 use Rattle.fips204_bytes.specs.Bytes.{Leaves, WithPrivate, Writes, Signs, TellsVerdict, Judges}
@@ -14,7 +13,6 @@ use Rattle.fips204_bytes.specs.Mu.{tr_of_private, tr_of_public, MuStandsForInput
 use Rattle.fips204_bytes.specs.declared.refusal.Array.TheVariants.{PublicKey, PrivateKey, Signature}
 use Rattle.fips204_bytes.specs.declared.refusal.Refusal.{Refusal}
 use Rattle.fips204_bytes.specs.declared.refusal.Refusal.TheVariants.{Length}
-use Rattle.fips204_bytes.proofs.Pairs.{chosen, not_done}
 
 -- tr in the bytes of a key
 tr_within : (p : ParameterSet) (key : List ℕ) (sk : PrivateParts) → IsPrivateKeyOf p.eta p.k p.l key sk → tr_of_private key ≡ sk.tr

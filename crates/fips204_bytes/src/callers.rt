@@ -2,7 +2,7 @@
 //! here. No code calls them.
 #![tactic(auto)]
 
-ghost use Rattle.std.specs.Prelude.{◌≡◌, ◌≢◌, ◌<◌, ◌≤◌, ◌+◌, ◌*◌, ◌-ℤ◌, ◌<ℤ◌, ℕ, pos, ◌↔◌, ◌⊎◌, ◌++◌, ⊤, Bool, List, None, Some, Ok, Err, Result, true, drop, length, take};
+ghost use Rattle.std.specs.Prelude.{◌≡◌, ◌≢◌, ◌<◌, ◌≤◌, ◌+◌, ◌*◌, ◌-ℤ◌, ◌<ℤ◌, ℕ, pos, ◌↔◌, ◌⊎◌, ◌++◌, ⊤, Bool, None, Some, Ok, Err, Result, true, drop, length, take};
 ghost use Rattle.std.specs.List.{All, Any};
 ghost use Rattle.fips204_base.specs.Encodings.{PublicParts, IsPublicKeyOf};
 ghost use Rattle.fips204_base.specs.Packing.{unpacked, width};

@@ -1,5 +1,5 @@
 -- Signing and verifying mu of a message or a digest, since the calls over bytes do so.
-use Rattle.std.proofs.Common.{◌≡◌, ℕ, Bool, true, false, IsTrue, List, ◌++◌, length, take, None, Result, Ok, Err, refl, subst, arith}
+use Rattle.std.proofs.Common.{◌≡◌, ℕ, Bool, true, IsTrue, List, ◌++◌, length, take, None, Result, Ok, arith}
 use Rattle.std.specs.Prelude.{◌↔◌, ⊤}
 use Rattle.std.proofs.lemmas.List.{length-take-le}
 use Rattle.fips204.specs.Framing.{Input, plain, hashed, framed, represented, frame, representative}
