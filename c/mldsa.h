@@ -121,7 +121,7 @@ enum mldsa_status {
     MLDSA_TOO_MANY_ATTEMPTS = 13,     /* signing: all 814 attempts were rejected, as with a key that is not whole */
     MLDSA_KEY_RANGE = 14,             /* the bytes are no private key */
     MLDSA_SAMPLING_LIMIT = 15,        /* rejection sampling reached its limit; no such input is known */
-    MLDSA_BROKEN_STATE = 16,          /* mldsa_mu_update, mldsa_mu_finish: zeros, or another state that no call wrote */
+    MLDSA_BROKEN_STATE = 16,          /* mldsa_mu_update, mldsa_mu_finish: the last byte of the state is 0 or above 136 */
     MLDSA_NOT_PREPARED = 17           /* a value of this prepared key is out of range, so no call has written it */
 };
 
