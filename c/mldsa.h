@@ -121,7 +121,7 @@ enum mldsa_status {
     MLDSA_TOO_MANY_ATTEMPTS = 13,     /* signing: all 814 attempts were rejected, as with a key that is not whole */
     MLDSA_KEY_RANGE = 14,             /* the bytes are no private key */
     MLDSA_SAMPLING_LIMIT = 15,        /* rejection sampling reached its limit; no such input is known */
-    MLDSA_BROKEN_STATE = 16,          /* mldsa_mu_update, mldsa_mu_finish: no call has written this state */
+    MLDSA_BROKEN_STATE = 16,          /* mldsa_mu_update, mldsa_mu_finish: the last byte of the state is 0 or above 136 */
     MLDSA_NOT_PREPARED = 17           /* a value of this prepared key is out of range, so no call has written it */
 };
 
@@ -440,8 +440,8 @@ uint32_t mldsa87_verify_mu_prepared(const uint8_t *prepared_public_key, size_t p
  *
  * Pieces of a message: mldsa_mu_update adds one to the message of a state that mu_begin or mu_begin_private wrote, and
  * mldsa_mu_finish writes mu of it, of MLDSA_MU_LEN bytes; the state stays as it is, so that more can be added. A state is no
- * secret beyond its message, and may be copied. Any bytes are safe in it: bytes that no call wrote are answered by
- * MLDSA_BROKEN_STATE, or give mu of something. */
+ * secret beyond its message, and may be copied. Any bytes are safe in it. MLDSA_BROKEN_STATE is the answer where its last byte is
+ * 0, as in the zeros that a forgotten mu_begin leaves, or above 136, which no call writes; any other array gives mu of something. */
 #define MLDSA_STACK_MU 3328
 MLDSA_ANSWERS
 uint32_t mldsa_mu_update(const uint8_t *piece, size_t piece_len, uint8_t *state, size_t state_len);

@@ -97,6 +97,12 @@ static void refusals(const struct set *s)
     WANT(mldsa_mu_finish(state, STATE, mu, 64), MLDSA_BROKEN_STATE);
     for (size_t i = 0; i < sizeof state; i++)
         WANT(state[i], 0xA5);
+    /* What a forgotten mu_begin leaves. */
+    memset(state, 0, sizeof state);
+    WANT(mldsa_mu_update(message, LONGEST, state, STATE), MLDSA_BROKEN_STATE);
+    WANT(mldsa_mu_finish(state, STATE, mu, 64), MLDSA_BROKEN_STATE);
+    for (size_t i = 0; i < sizeof state; i++)
+        WANT(state[i], 0);
     WANT(s->mu_begin(public_key, pk, long_context, 255, state, STATE), MLDSA_DONE);
     WANT(mldsa_mu_finish(state, STATE, mu, 63), MLDSA_WRONG_LENGTH);
     WANT(mldsa_mu_finish(state, STATE, mu, 65), MLDSA_WRONG_LENGTH);
@@ -115,7 +121,7 @@ static void any_bytes(void)
         }
         state[STATE] = 0xA5;
         mu[64] = 0xA5;
-        wanted = state[STATE - 1] < 136 ? MLDSA_DONE : MLDSA_BROKEN_STATE;
+        wanted = state[STATE - 1] >= 1 && state[STATE - 1] <= 136 ? MLDSA_DONE : MLDSA_BROKEN_STATE;
         WANT(mldsa_mu_update(message, drawn >> 16 & 255, state, STATE), wanted);
         WANT(mldsa_mu_finish(state, STATE, mu, 64), wanted);
         WANT(state[STATE], 0xA5);

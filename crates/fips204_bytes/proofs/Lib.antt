@@ -1,3 +1,7 @@
+mod Lengths
 mod Pairs
 mod Mu
+mod Binding
 mod PreparedKeys
+mod Errors
+mod KeyRange

@@ -1,20 +1,18 @@
--- Signing and verifying mu of an input, and one signature of two values of mu.
-use Rattle.std.proofs.Common.{◌≡◌, ℕ, Bool, true, false, IsTrue, List, ◌++◌, length, nat_eq, take, None, Result, Ok, Err, refl, sym, ap, subst, ◌∙◌, arith, length-append, append_assoc}
+-- Signing and verifying mu of an input.
+use Rattle.std.proofs.Common.{◌≡◌, ℕ, Bool, true, false, List, ◌++◌, length, nat_eq, take, Option, None, Some, Result, Ok, Err, refl, sym, ap, subst, ◌∙◌, arith, length-append, append_assoc}
 use Rattle.std.specs.Prelude.{◌↔◌, MatchBool, ⊤}
 use Rattle.std.proofs.lemmas.List.{take_at, drop_at}
 use Rattle.fips204_base.specs.Encodings.{PublicParts, PrivateParts, IsPrivateKeyOf, IsPublicKeyOf, vector_bytes}
 use Rattle.fips204.specs.Acceptance.{Verifies}
-use Rattle.fips204.specs.Completeness.{BytesTellKeys}
-use Rattle.fips204.specs.Framing.{Input, represented, representative}
-use Rattle.fips204.specs.ParameterSets.{ParameterSet, IsSet, public_key_length, private_key_length, signature_length}
+use Rattle.fips204.specs.Framing.{Input, plain, hashed, framed, represented, representative}
+use Rattle.fips204.specs.ParameterSets.{ParameterSet, public_key_length, private_key_length, signature_length}
 use Rattle.fips204.specs.Refusals.{input_fault, sign_input, VerifiesInput}
-use Rattle.fips204.specs.SchemeLaws.{SignatureBindsHash}
+use Rattle.fips204.specs.SchemeLaws.{framing}
 use Rattle.fips204_bytes.specs.Bytes.{Leaves, WithPrivate, Writes, Signs, TellsVerdict, Judges}
-use Rattle.fips204_bytes.specs.Mu.{tr_of_private, tr_of_public, MuStandsForInput, SignatureBindsMu}
+use Rattle.fips204_bytes.specs.Mu.{tr_of_private, tr_of_public, MuStandsForInput, FramedStandsForInput}
 use Rattle.fips204_bytes.specs.declared.refusal.Array.TheVariants.{PublicKey, PrivateKey, Signature}
 use Rattle.fips204_bytes.specs.declared.refusal.Refusal.{Refusal}
 use Rattle.fips204_bytes.specs.declared.refusal.Refusal.TheVariants.{Length}
-use Rattle.fips204_bytes.proofs.Pairs.{chosen, not_done}
 
 -- tr in the bytes of a key
 tr_within : (p : ParameterSet) (key : List ℕ) (sk : PrivateParts) → IsPrivateKeyOf p.eta p.k p.l key sk → tr_of_private key ≡ sk.tr
@@ -41,10 +39,8 @@ with_used : (p : ParameterSet) (key : List ℕ) (uses uses' : PrivateParts → T
 with_used p key uses uses' refuses f (Ok sk, decodes, held) = (Ok sk, decodes, f sk decodes held)
 with_used p key uses uses' refuses f (Err fault, decodes, refused) = (Err fault, decodes, refused)
 
--- an answer of yes
-yes : (b : Bool) → Path (Result Bool Refusal) (Ok true) (Ok b) → IsTrue b
-yes true is = refl
-yes false is = absurd cc
+some_same : {x y : List ℕ} → Path (Option (List ℕ)) (Some x) (Some y) → x ≡ y
+some_same is = cc
 
 module _ (p : ParameterSet) (H G : List ℕ → List ℕ) where
   same_signature : (key random : List ℕ) (input : Input) (sk : PrivateParts) → input_fault input ≡ None → IsPrivateKeyOf p.eta p.k p.l key sk
@@ -88,17 +84,23 @@ module _ (p : ParameterSet) (H G : List ℕ → List ℕ) where
         (judged key mu input signature answer same, judged key input mu signature answer (λ pk is. ((same pk is).1, (same pk is).0)));
   }
 
-  -- the key of a verifying call that says yes
-  accepted : (key : List ℕ) (input : Input) (signature : List ℕ) → Judges p H G key input signature (Ok true)
-      → (pk : PublicParts) × IsPublicKeyOf H p.k key pk × VerifiesInput p H G pk signature input
-  accepted key input signature judges =
-      let told : TellsVerdict p H G key input signature (Ok true) = chosen _ (chosen _ judges (not_done true (Length PublicKey))) (not_done true (Length Signature)) in
-      let (pk, is, (verdict, tells, answers)) = told in
-      (pk, is, tells.0 (yes verdict answers))
+  -- mu of M' is mu of the input
+  same_mu : (tr : List ℕ) (input : Input) (m : List ℕ) → framing input ≡ Some m → representative H tr (framed m) ≡ representative H tr input
+  same_mu tr (plain message context) m is = ap (λ (x : List ℕ). take 64 (H (tr ++ x))) (sym (some_same is))
+  same_mu tr (hashed digest context oid) m is = ap (λ (x : List ℕ). take 64 (H (tr ++ x))) (sym (some_same is))
+  same_mu tr (framed n) m is = ap (λ (x : List ℕ). take 64 (H (tr ++ x))) (sym (some_same is))
+  same_mu tr (represented mu) m is = absurd cc
 
-  pub signature_binds_mu : IsSet p → SignatureBindsHash → BytesTellKeys p → SignatureBindsMu p H G
-  signature_binds_mu known law tell = λ key mu nu signature differ first second.
-      let (pk, is, accepts) = accepted key (represented mu) signature first in
-      let (other, is_other, other_accepts) = accepted key (represented nu) signature second in
-      let same : other ≡ pk = tell.public_keys other pk is_other.parts is.parts (is_other.tr ∙ sym is.tr) (is_other.encoding ∙ sym is.encoding) in
-      (pk, is, law p H G pk (represented mu) (represented nu) signature known differ accepts (subst (λ k. VerifiesInput p H G k signature (represented nu)) same other_accepts))
+  pub framed_stands_for_input : FramedStandsForInput p H G
+  framed_stands_for_input = record {
+    signed = λ key random input m old new answer none is.
+        let same : (sk : PrivateParts) → IsPrivateKeyOf p.eta p.k p.l key sk → sign_input p H G sk random (framed m) ≡ sign_input p H G sk random input =
+        λ sk _. rw (none, same_mu sk.tr input m is) refl in
+        (signed key random (framed m) input old new answer same, signed key random input (framed m) old new answer (λ sk own. sym (same sk own)));
+    judged = λ key input m signature answer none is.
+        let there : (pk : PublicParts) → VerifiesInput p H G pk signature (framed m) → VerifiesInput p H G pk signature input =
+        λ pk (_, verifies). (none, subst (λ mu. Verifies p H G pk mu signature) (same_mu pk.tr input m is) verifies) in
+        let back : (pk : PublicParts) → VerifiesInput p H G pk signature input → VerifiesInput p H G pk signature (framed m) =
+        λ pk (_, verifies). (refl, subst (λ mu. Verifies p H G pk mu signature) (sym (same_mu pk.tr input m is)) verifies) in
+        (judged key (framed m) input signature answer (λ pk _. (there pk, back pk)), judged key input (framed m) signature answer (λ pk _. (back pk, there pk)));
+  }

@@ -13,7 +13,7 @@ use Rattle.fips204_bytes.specs.declared.refusal.Array.TheVariants.{PublicKey, Pr
 use Rattle.fips204_bytes.specs.declared.refusal.Refusal.{Refusal}
 use Rattle.fips204_bytes.specs.declared.refusal.Refusal.TheVariants.{Length, Library}
 use Rattle.fips204_bytes.proofs.Mu.{fitting}
-use Rattle.fips204_bytes.proofs.Pairs.{not_done, answered}
+use Rattle.fips204_bytes.proofs.Pairs.{taken, not_done, answered}
 
 -- a choice whose other side is refuted, and its test
 chosen : {P Q : Type 0} (b : Bool) → MatchBool b P Q → ¬ Q → (b ≡ true) × P
@@ -21,10 +21,6 @@ chosen true p never = (refl, p)
 chosen false q never = absurd (never q)
 
 -- a choice whose test is known
-taken : {P : Type 0} (Q : Type 0) (b : Bool) → b ≡ true → MatchBool b P Q → P
-taken Q true is p = p
-taken Q false is q = absurd cc
-
 given : {P : Type 0} (Q : Type 0) (b : Bool) → b ≡ true → P → MatchBool b P Q
 given Q true is p = p
 given Q false is p = absurd cc

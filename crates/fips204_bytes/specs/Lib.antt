@@ -1,4 +1,7 @@
 pub mod Bytes
 pub mod Pairs
 pub mod Mu
+pub mod Binding
 pub mod Prepared
+pub mod Errors
+pub mod KeyRange

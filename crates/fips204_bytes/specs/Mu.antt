@@ -1,11 +1,10 @@
--- What mu of an input stands for, under the bytes of a key, and what one signature of two values of mu names.
-use Rattle.std.specs.Prelude.{◌≡◌, ◌≢◌, ◌↔◌, Bool, true, None, Result, Ok, ⊤, take, drop}
-use Rattle.fips204_base.specs.Encodings.{PublicParts, IsPublicKeyOf}
+-- What mu and M' of an input stand for, under the bytes of a key.
+use Rattle.std.specs.Prelude.{◌≡◌, ◌↔◌, Bool, None, Some, Result, ⊤, take, drop}
 use Rattle.fips204_base.specs.Streams.{Bytes, XOF}
-use Rattle.fips204.specs.Framing.{Input, represented, representative}
+use Rattle.fips204.specs.Framing.{Input, framed, represented, representative}
 use Rattle.fips204.specs.ParameterSets.{ParameterSet}
 use Rattle.fips204.specs.Refusals.{input_fault}
-use Rattle.fips204.specs.SchemeLaws.{NamesHashCollision}
+use Rattle.fips204.specs.SchemeLaws.{framing}
 use Rattle.fips204_bytes.specs.Bytes.{Signs, Judges}
 use Rattle.fips204_bytes.specs.declared.refusal.Refusal.{Refusal}
 
@@ -23,12 +22,9 @@ pub record MuStandsForInput (p : ParameterSet) (H G : XOF) : Type 0 where
   pub judged : (key : Bytes) (input : Input) (signature : Bytes) (answer : Result Bool Refusal) → input_fault input ≡ None
       → Judges p H G key (represented (representative H (tr_of_public H key) input)) signature answer ↔ Judges p H G key input signature answer
 
--- under the key that these bytes decode to, two values of mu name a collision
-abbrev pub NamesMuCollision : ParameterSet → XOF → XOF → Bytes → Bytes → Bytes → Bytes → Type 0
-NamesMuCollision p H G key signature mu nu = (pk : PublicParts) × IsPublicKeyOf H p.k key pk × NamesHashCollision p H G pk signature mu nu
-
--- one signature of which verifying says yes under one key for two different values of mu names a collision of these
-abbrev pub SignatureBindsMu : ParameterSet → XOF → XOF → Type 0
-SignatureBindsMu p H G =
-    (key mu nu signature : Bytes) → mu ≢ nu → Judges p H G key (represented mu) signature (Ok true) → Judges p H G key (represented nu) signature (Ok true)
-    → NamesMuCollision p H G key signature mu nu
+-- and so are signing and verifying its M'
+pub record FramedStandsForInput (p : ParameterSet) (H G : XOF) : Type 0 where
+  pub signed : (key random : Bytes) (input : Input) (m old new : Bytes) (answer : Result ⊤ Refusal) → input_fault input ≡ None → framing input ≡ Some m
+      → Signs p H G key random (framed m) old new answer ↔ Signs p H G key random input old new answer
+  pub judged : (key : Bytes) (input : Input) (m signature : Bytes) (answer : Result Bool Refusal) → input_fault input ≡ None → framing input ≡ Some m
+      → Judges p H G key (framed m) signature answer ↔ Judges p H G key input signature answer

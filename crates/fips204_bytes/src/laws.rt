@@ -1,18 +1,23 @@
 //! What follows for programs from the contracts of the calls. A law computes nothing.
 #![tactic(auto)]
 
+ghost use Rattle.std.specs.Prelude.{◌≤◌, length};
 ghost use Rattle.fips204.specs.ParameterSets.{ParameterSet, IsSet};
-ghost use Rattle.fips204_base.specs.Streams.{XOF};
-ghost use Rattle.fips204_bytes.specs.Mu.{MuStandsForInput, SignatureBindsMu};
+ghost use Rattle.fips204_base.specs.Streams.{Bytes, XOF};
+ghost use Rattle.fips204_bytes.specs.Binding.{SignatureBinds};
+ghost use Rattle.fips204_bytes.specs.Errors.{ErrorsLeave};
+ghost use Rattle.fips204_bytes.specs.KeyRange.{RangeIsOfFields};
+ghost use Rattle.fips204_bytes.specs.Mu.{MuStandsForInput, FramedStandsForInput};
 ghost use Rattle.fips204_bytes.specs.Pairs.{PairsBelong};
 ghost use Rattle.fips204_bytes.specs.Prepared.{PreparedStandsForPlain};
 
 use fips204::laws::{binding, key_bytes, prepared_bytes, prepared_keys, signed_is_accepted};
 
-/// The keys that one call of `keygen` wrote belong together: unless a length is wrong, `verify` says yes to what `sign`
-/// wrote, `check_private_key`, `is_whole` and `is_pair` say yes, and `public_key` writes the public key.
+/// The keys that one call of `keygen` wrote belong together, and so do a private key of which `is_pair` says yes and the
+/// public key that `public_key` wrote of it: `verify` says yes to what `sign` wrote, `check_private_key`, `is_whole` and
+/// `is_pair` say yes, and `public_key` writes the public key.
 pub fn pair_accepts_written()
-    ensures { PairsBelong }
+    ensures { (p : ParameterSet) (H G : XOF) → IsSet p → ((x : Bytes) → 4096 ≤ length (H x)) → PairsBelong p H G }
 {
     signed_is_accepted();
 }
@@ -23,11 +28,18 @@ pub fn mu_stands_for_input()
     ensures { (p : ParameterSet) (H G : XOF) → MuStandsForInput p H G }
 {}
 
-/// One signature for two values of mu gives a collision of `H`: if `verify` says yes to one signature under one public key for
-/// two different values of mu, then these, each followed by the `w1` that the signature fixes under the key that the public
-/// key's bytes decode to, collide in the bytes of `c_tilde`.
-pub fn signature_binds_mu()
-    ensures { (p : ParameterSet) (H G : XOF) → IsSet p → SignatureBindsMu p H G }
+/// Signing the framed message M' of an input that breaks no condition is signing that input, and verifying it is verifying
+/// that input.
+pub fn framed_stands_for_input()
+    ensures { (p : ParameterSet) (H G : XOF) → FramedStandsForInput p H G }
+{}
+
+/// One signature for two values of mu, for two inputs or under two keys gives a collision of `H`: if `verify` says yes to one
+/// signature under one public key for two different values of mu, or for two inputs that differ, both messages or digests, or
+/// both framed messages; or under two public keys, unless these and the inputs are the same. `laws::binding` of `fips204` says
+/// which inputs collide.
+pub fn signature_binds()
+    ensures { (p : ParameterSet) (H G : XOF) → IsSet p → SignatureBinds p H G }
 {
     binding();
     key_bytes();
@@ -41,3 +53,14 @@ pub fn prepared_stands_for_plain()
     prepared_bytes();
     prepared_keys();
 }
+
+/// An array that a call would write is as it was after every error.
+pub fn errors_leave_arrays()
+    ensures { (p : ParameterSet) (H G : XOF) → ErrorsLeave p H G }
+{}
+
+/// `check_private_key` answers `Fault::KeyRange` of an array of the right length if and only if a field of s1 or s2 in it is
+/// above 2 eta.
+pub fn key_range()
+    ensures { (p : ParameterSet) → IsSet p → RangeIsOfFields p }
+{}

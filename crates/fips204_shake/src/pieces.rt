@@ -6,7 +6,7 @@ ghost use Rattle.fips204.specs.Framing.{plain, representative};
 ghost use Rattle.fips204.specs.ParameterSets.{public_key_length, private_key_length};
 ghost use Rattle.fips204.specs.Sets.{named_set};
 ghost use Rattle.fips204_base.specs.declared.fault.Fault.TheVariants.{SignCtx};
-ghost use Rattle.shake.specs.State.{saved_used};
+ghost use Rattle.shake.specs.State.{CanBeSaved};
 ghost use Rattle.fips204_shake.specs.Fronts.{shake256_front};
 ghost use Rattle.fips204_bytes.specs.Mu.{tr_of_private, tr_of_public};
 ghost use Rattle.fips204_bytes.specs.declared.refusal.Array.TheVariants.{PublicKey, PrivateKey};
@@ -112,10 +112,10 @@ impl MessageHasher {
         self.hasher.save(out);
     }
 
-    /// The hasher of these bytes, or none if no hasher has them, which their last byte tells.
+    /// The hasher of these bytes, or none if no hasher has them: if their last byte is 0 or above 136.
     pub fn restore(saved: &[u8; SAVED_LEN]) -> Option<MessageHasher>
-        ensures { MatchOption result (136 ≤ saved_used 136 saved.now)
-            (λ hasher. (saved_used 136 saved.now < 136)
+        ensures { MatchOption result (¬ (CanBeSaved 136 saved.now))
+            (λ hasher. CanBeSaved 136 saved.now
             × ((tr context m : List ℕ) → HashesSaved saved.now tr context m → Hashes hasher tr context m)) }
     {
         let hasher = Shake256::restore(saved)?;

@@ -1,5 +1,5 @@
--- Signing and verifying mu of a message or a digest, and one signature of two values of mu, since the calls over bytes do so.
-use Rattle.std.proofs.Common.{◌≡◌, ℕ, Bool, true, false, IsTrue, List, ◌++◌, length, take, None, Result, Ok, Err, refl, subst, arith}
+-- Signing and verifying mu of a message or a digest, since the calls over bytes do so.
+use Rattle.std.proofs.Common.{◌≡◌, ℕ, Bool, true, IsTrue, List, ◌++◌, length, take, None, Result, Ok, arith}
 use Rattle.std.specs.Prelude.{◌↔◌, ⊤}
 use Rattle.std.proofs.lemmas.List.{length-take-le}
 use Rattle.fips204.specs.Framing.{Input, plain, hashed, framed, represented, frame, representative}
@@ -9,11 +9,9 @@ use Rattle.fips204.specs.SchemeLaws.{has_context}
 use Rattle.fips204_bytes.specs.Bytes as bytes
 use Rattle.fips204_bytes.specs.Mu as mus
 use Rattle.fips204_bytes.specs.declared.refusal.Refusal.{Refusal}
-use Rattle.fips204_bytes.specs.declared.refusal.Refusal.TheVariants.{Length, Library, NotPrepared}
 use Rattle.fips204_shake.specs.Fronts.{shake256_front, shake128_front, length-shake256_front}
 use Rattle.mldsa_c.specs.Calls.{IfSized, SignAnswers, SignMuAnswers, VerifyAnswers, VerifyMuAnswers}
-use Rattle.mldsa_c.specs.Statuses.{answer_status}
-use Rattle.mldsa_c.proofs.ByStatus.{not_done, sized}
+use Rattle.mldsa_c.proofs.ByStatus.{said, sized}
 
 -- mu of a message or a digest has 64 bytes
 cut : (x : List ℕ) → length (take 64 (shake256_front x)) ≡ 64
@@ -54,17 +52,11 @@ module _ (p : ParameterSet) where
       ) in
       fitting 64 mu (long (mus.tr_of_public shake256_front key) input context) both
 
--- the status of yes is of no other answer
-yes : (answer : Result Bool Refusal) → 0 ≡ answer_status answer → answer ≡ Ok true
-yes (Ok true) e = refl
-yes (Ok false) e = absurd cc
-yes (Err (Length which)) e = absurd cc
-yes (Err (Library fault)) e = absurd (not_done fault e)
-yes (Err NotPrepared) e = absurd cc
+-- what verifying says yes to, over bytes
+pub verified : (p : ParameterSet) (key : List ℕ) (input : Input) (signature : List ℕ) → VerifyAnswers p key input signature 0
+    → bytes.Judges p shake256_front shake128_front key input signature (Ok true)
+verified p key input signature = said (bytes.Judges p shake256_front shake128_front key input signature)
 
--- a mu that is verified, over bytes
-pub verified : (p : ParameterSet) (key mu signature : List ℕ) → VerifyMuAnswers p key mu signature 0
+pub verified_mu : (p : ParameterSet) (key mu signature : List ℕ) → VerifyMuAnswers p key mu signature 0
     → bytes.Judges p shake256_front shake128_front key (represented mu) signature (Ok true)
-verified p key mu signature judges =
-    let (answer, judged, is) = sized 64 mu judges (λ two. absurd cc) in
-    subst (bytes.Judges p shake256_front shake128_front key (represented mu) signature) (yes answer is) judged
+verified_mu p key mu signature judges = verified p key (represented mu) signature (sized 64 mu judges (λ two. absurd cc))

@@ -1,5 +1,5 @@
 -- What the exported calls answer: the statuses of the calls over bytes, over SHAKE256 and SHAKE128. A last status is the answer.
-use Rattle.std.specs.Prelude.{◌≡◌, ◌≢◌, ℕ, Bool, List, length, Result, MatchOption, ⊤}
+use Rattle.std.specs.Prelude.{◌≡◌, ◌≢◌, ◌⊎◌, ℕ, Bool, List, length, Result, MatchOption, ⊤}
 use Rattle.fips204.specs.Framing.{Input, pre_hash_fault, represented}
 use Rattle.fips204.specs.ParameterSets.{ParameterSet}
 use Rattle.fips204_bytes.specs.Bytes as bytes
@@ -57,3 +57,8 @@ IsPairAnswers p key status = Told (bytes.ChecksPair p shake256_front shake128_fr
 -- check_pre_hash: the first condition that a digest and its object identifier break, or none
 abbrev pub CheckPreHashAnswers : List ℕ → List ℕ → ℕ → Type 0
 CheckPreHashAnswers digest oid status = MatchOption (pre_hash_fault digest oid) (status ≡ 0) (λ fault. status ≡ status_of fault)
+
+-- one call of keygen wrote both keys; or is_pair says yes of the private one, of which public_key wrote the public one
+abbrev pub ArePair : ParameterSet → List ℕ → List ℕ → Type 0
+ArePair p public private =
+    ((seed old old' : List ℕ) × KeygenAnswers p seed old public old' private 0) ⊎ ((old : List ℕ) × IsPairAnswers p private 0 × PublicKeyAnswers p private old public 0)

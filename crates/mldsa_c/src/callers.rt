@@ -1,36 +1,36 @@
-//! A caller of the laws over bytes, which shows that they hold of what the exports answer. No code calls it.
+//! Callers of the laws over bytes, which show that they hold of what the exports answer, at each set. No code calls them.
 #![tactic(auto)]
 
-ghost use Rattle.std.specs.Prelude.{◌≡◌, ◌≢◌, ◌↔◌, ℕ, IsTrue, List, None};
-ghost use Rattle.fips204.specs.Framing.{Input, representative};
-ghost use Rattle.fips204.specs.ParameterSets.{ParameterSet, IsSet};
+ghost use Rattle.std.specs.Prelude.{◌≡◌, ◌≢◌, ◌<◌, ◌↔◌, ◌⊎◌, ℕ, IsTrue, List, None, Some, length, replicate};
+ghost use Rattle.std.specs.List.{concat};
+ghost use Rattle.fips204.specs.Framing.{Input, plain, pre_hash_fault, representative};
+ghost use Rattle.fips204.specs.ParameterSets.{ParameterSet, IsSet, public_key_length, private_key_length};
 ghost use Rattle.fips204.specs.Refusals.{input_fault};
-ghost use Rattle.fips204.specs.SchemeLaws.{has_context};
-ghost use Rattle.fips204_bytes.specs.Mu.{tr_of_private, tr_of_public, NamesMuCollision};
+ghost use Rattle.fips204.specs.SchemeLaws.{AreFramedAlike, NamesCollision, NamesHashCollision, NamesKeyCollision, has_context};
+ghost use Rattle.fips204_base.specs.declared.fault.Fault.TheVariants.{DigestLength};
+ghost use Rattle.fips204_bytes.specs.Binding.{OfKey};
+ghost use Rattle.fips204_bytes.specs.Mu.{tr_of_private, tr_of_public};
 ghost use Rattle.fips204_shake.specs.Fronts.{shake256_front, shake128_front};
-ghost use Rattle.mldsa_c.specs.Calls.{KeygenAnswers, SignAnswers, VerifyAnswers, SignMuAnswers, VerifyMuAnswers, PublicKeyAnswers, CheckPrivateKeyAnswers, IsWholeAnswers, IsPairAnswers};
+ghost use Rattle.fips204_shake.specs.Pieces.{HashesSaved};
+ghost use Rattle.mldsa_c.specs.Calls.{KeygenAnswers, SignAnswers, VerifyAnswers, SignMuAnswers, VerifyMuAnswers, PublicKeyAnswers, CheckPrivateKeyAnswers, IsWholeAnswers, IsPairAnswers, CheckPreHashAnswers, ArePair};
+ghost use Rattle.mldsa_c.specs.Pieces.{Begins, Updates, Finishes, Takes};
 ghost use Rattle.mldsa_c.specs.Prepared.{PreparePublicKeyAnswers, PreparePrivateKeyAnswers, VerifyPreparedAnswers, VerifyMuPreparedAnswers, SignPreparedAnswers, SignMuPreparedAnswers};
 
 use fips204_bytes::laws;
 
-/// What a program in C relies on beyond the clause of one export, at each set: the keys of one `keygen` belong together
-/// unless an array has the wrong length (2); the mu of a message or digest that breaks no condition stands for it; one
-/// signature of two values of mu names a collision; the bytes of a prepared key stand for the key.
+/// What a program in C relies on beyond the clause of one export: keys of one `keygen`, or of which `is_pair` says yes, belong
+/// together; the mu of a message or digest that breaks no condition stands for it; one signature for two values of mu, for two
+/// inputs or under two keys names a collision; the bytes of a prepared key stand for the key.
 pub fn laws_over_bytes()
-    ensures inputs { (p : ParameterSet) (seed p0 pk s0 sk : List ℕ) (input : Input) (random old signature : List ℕ) (status : ℕ) → IsSet p
-        → KeygenAnswers p seed p0 pk s0 sk 0 → SignAnswers p sk input random old signature 0
-        → VerifyAnswers p pk input signature status → status ≢ 2 → status ≡ 0 }
-    ensures hashes { (p : ParameterSet) (seed p0 pk s0 sk mu random old signature : List ℕ) (status : ℕ) → IsSet p
-        → KeygenAnswers p seed p0 pk s0 sk 0 → SignMuAnswers p sk mu random old signature 0
-        → VerifyMuAnswers p pk mu signature status → status ≢ 2 → status ≡ 0 }
-    ensures checked { (p : ParameterSet) (seed p0 pk s0 sk : List ℕ) (status : ℕ) → IsSet p → KeygenAnswers p seed p0 pk s0 sk 0
-        → CheckPrivateKeyAnswers p sk status → status ≢ 2 → status ≡ 0 }
-    ensures whole { (p : ParameterSet) (seed p0 pk s0 sk : List ℕ) (status : ℕ) → IsSet p → KeygenAnswers p seed p0 pk s0 sk 0
-        → IsWholeAnswers p sk status → status ≢ 2 → status ≡ 0 }
-    ensures pair { (p : ParameterSet) (seed p0 pk s0 sk : List ℕ) (status : ℕ) → IsSet p → KeygenAnswers p seed p0 pk s0 sk 0
-        → IsPairAnswers p sk status → status ≢ 2 → status ≡ 0 }
-    ensures derived { (p : ParameterSet) (seed p0 pk s0 sk old new : List ℕ) (status : ℕ) → IsSet p → KeygenAnswers p seed p0 pk s0 sk 0
-        → PublicKeyAnswers p sk old new status → status ≢ 2 → (new ≡ pk) × (status ≡ 0) }
+    ensures inputs { (p : ParameterSet) (pk sk : List ℕ) (input : Input) (random old signature : List ℕ) (status : ℕ) → IsSet p → ArePair p pk sk
+        → SignAnswers p sk input random old signature 0 → VerifyAnswers p pk input signature status → status ≡ 0 }
+    ensures hashes { (p : ParameterSet) (pk sk mu random old signature : List ℕ) (status : ℕ) → IsSet p → ArePair p pk sk
+        → SignMuAnswers p sk mu random old signature 0 → VerifyMuAnswers p pk mu signature status → status ≡ 0 }
+    ensures checked { (p : ParameterSet) (pk sk : List ℕ) (status : ℕ) → IsSet p → ArePair p pk sk → CheckPrivateKeyAnswers p sk status → status ≡ 0 }
+    ensures whole { (p : ParameterSet) (pk sk : List ℕ) (status : ℕ) → IsSet p → ArePair p pk sk → IsWholeAnswers p sk status → status ≡ 0 }
+    ensures pair { (p : ParameterSet) (pk sk : List ℕ) (status : ℕ) → IsSet p → ArePair p pk sk → IsPairAnswers p sk status → status ≡ 0 }
+    ensures derived { (p : ParameterSet) (pk sk old new : List ℕ) (status : ℕ) → IsSet p → ArePair p pk sk → length old ≡ public_key_length p
+        → PublicKeyAnswers p sk old new status → (new ≡ pk) × (status ≡ 0) }
     ensures mu_signed { (p : ParameterSet) (key : List ℕ) (input : Input) (random old new : List ℕ) (status : ℕ)
         → IsTrue (has_context input) → input_fault input ≡ None
         → SignMuAnswers p key (representative shake256_front (tr_of_private key) input) random old new status
@@ -40,7 +40,13 @@ pub fn laws_over_bytes()
         → VerifyMuAnswers p key (representative shake256_front (tr_of_public shake256_front key) input) signature status
         ↔ VerifyAnswers p key input signature status }
     ensures mu_bound { (p : ParameterSet) (key mu nu signature : List ℕ) → IsSet p → mu ≢ nu → VerifyMuAnswers p key mu signature 0
-        → VerifyMuAnswers p key nu signature 0 → NamesMuCollision p shake256_front shake128_front key signature mu nu }
+        → VerifyMuAnswers p key nu signature 0 → OfKey p shake256_front key (λ pk. NamesHashCollision p shake256_front shake128_front pk signature mu nu) }
+    ensures inputs_bound { (p : ParameterSet) (key : List ℕ) (x y : Input) (m n signature : List ℕ) → IsSet p → AreFramedAlike x y m n → x ≢ y
+        → VerifyAnswers p key x signature 0 → VerifyAnswers p key y signature 0
+        → OfKey p shake256_front key (λ pk. NamesCollision p shake256_front shake128_front pk signature m n) }
+    ensures keys_bound { (p : ParameterSet) (key other : List ℕ) (x y : Input) (m n signature : List ℕ) → IsSet p → AreFramedAlike x y m n
+        → VerifyAnswers p key x signature 0 → VerifyAnswers p other y signature 0 → ((key ≡ other) × (x ≡ y))
+        ⊎ OfKey p shake256_front key (λ pk. OfKey p shake256_front other (λ pk'. NamesKeyCollision p shake256_front shake128_front key other pk pk' signature m n)) }
     ensures prepared_judged { (p : ParameterSet) (key old prepared : List ℕ) (input : Input) (signature : List ℕ) (status : ℕ) → IsSet p
         → PreparePublicKeyAnswers p key old prepared 0 → VerifyPreparedAnswers p prepared input signature status
         → VerifyAnswers p key input signature status }
@@ -56,6 +62,41 @@ pub fn laws_over_bytes()
 {
     laws::pair_accepts_written();
     laws::mu_stands_for_input();
-    laws::signature_binds_mu();
+    laws::signature_binds();
     laws::prepared_stands_for_plain();
+}
+
+/// A message in pieces: signing or verifying the mu that `mldsa_mu_finish` writes is signing or verifying the joined pieces under
+/// the context; and a state of zeros, which no call writes, is refused.
+pub fn message_in_pieces()
+    ensures signed { (p : ParameterSet) (key context begun state taken none mu : List ℕ) (pieces : List (List ℕ)) (random old new : List ℕ) (status : ℕ)
+        → Begins (private_key_length p) key (tr_of_private key) context begun state 0 → Takes state pieces taken → Finishes taken none mu 0
+        → SignMuAnswers p key mu random old new status ↔ SignAnswers p key (plain (concat pieces) context) random old new status }
+    ensures judged { (p : ParameterSet) (key context begun state taken none mu : List ℕ) (pieces : List (List ℕ)) (signature : List ℕ) (status : ℕ)
+        → Begins (public_key_length p) key (tr_of_public shake256_front key) context begun state 0 → Takes state pieces taken → Finishes taken none mu 0
+        → VerifyMuAnswers p key mu signature status ↔ VerifyAnswers p key (plain (concat pieces) context) signature status }
+    ensures context { (wanted : ℕ) (key tr context old new : List ℕ) (status : ℕ) → Begins wanted key tr context old new status → length old ≡ 337
+        → length key ≡ wanted → 255 < length context → (new ≡ old) × (status ≡ 4) }
+    ensures zeros { (tr context m : List ℕ) → ¬ (HashesSaved (replicate 337 0) tr context m) }
+    ensures forgotten { (piece new mu mu' : List ℕ) (status : ℕ) → (Updates (replicate 337 0) new piece status → (new ≡ replicate 337 0) × (status ≡ 16))
+        × (length mu ≡ 64 → Finishes (replicate 337 0) mu mu' status → (mu' ≡ mu) × (status ≡ 16)) }
+{
+    laws::mu_stands_for_input();
+}
+
+/// An array that a call would write is as it was after every status but 0; and what a digest that can't be signed is answered by.
+pub fn arrays_after_errors()
+    ensures pairs { (p : ParameterSet) (seed v pk s sk : List ℕ) (status : ℕ) → status ≢ 0 → KeygenAnswers p seed v pk s sk status → (pk ≡ v) × (sk ≡ s) }
+    ensures signatures { (p : ParameterSet) (key : List ℕ) (input : Input) (random old new : List ℕ) (status : ℕ) → status ≢ 0
+        → SignAnswers p key input random old new status ⊎ SignPreparedAnswers p key input random old new status → new ≡ old }
+    ensures signatures_of_mu { (p : ParameterSet) (key mu random old new : List ℕ) (status : ℕ) → status ≢ 0
+        → SignMuAnswers p key mu random old new status ⊎ SignMuPreparedAnswers p key mu random old new status → new ≡ old }
+    ensures keys { (p : ParameterSet) (key old new : List ℕ) (status : ℕ) → status ≢ 0
+        → PublicKeyAnswers p key old new status ⊎ (PreparePublicKeyAnswers p key old new status ⊎ PreparePrivateKeyAnswers p key old new status) → new ≡ old }
+    ensures states { (wanted : ℕ) (key tr context piece old new : List ℕ) (status : ℕ) → status ≢ 0
+        → Begins wanted key tr context old new status ⊎ (Updates old new piece status ⊎ Finishes piece old new status) → new ≡ old }
+    ensures digests { (digest oid : List ℕ) (status : ℕ) → CheckPreHashAnswers digest oid status
+        → ((status ≡ 0) ↔ (pre_hash_fault digest oid ≡ None)) × (pre_hash_fault digest oid ≡ Some DigestLength → status ≡ 10) }
+{
+    laws::errors_leave_arrays();
 }

@@ -1,5 +1,5 @@
 -- A hasher as bytes, and of them again.
-use Rattle.std.proofs.Common.{◌≡◌, ℕ, zero, suc, ◌+◌, ◌*◌, ◌^◌, ◌<◌, List, [], ◌∷◌, ◌++◌, length, take, drop, map, replicate, slice_index, get_or, sym, refl, ◌∙◌, arith, length-append, append_assoc}
+use Rattle.std.proofs.Common.{◌≡◌, ℕ, zero, suc, ◌+◌, ◌-◌, ◌*◌, ◌^◌, ◌<◌, List, [], ◌∷◌, ◌++◌, length, take, drop, map, replicate, slice_index, get_or, sym, refl, ◌∙◌, arith, length-append, append_assoc}
 use Rattle.std.proofs.lemmas.List.{take_at, drop_at, get_or-append-add, get_or-take, get_or-replicate}
 use Rattle.std.proofs.lemmas.List.FromFn.{fill_by_all, length-map-range_with_len, get_or-map-range_with_len}
 use Rattle.std.proofs.lemmas.Nat.{from_le_bytes-to_le_bytes_8}
@@ -26,17 +26,18 @@ block_lane-bytes (x ∷ a) rest (suc i) below fits =
 
 -- what is written of a hasher
 pub is_saved : (rate used : ℕ) (lanes block m : List ℕ) → length lanes ≡ 25 → ((i : ℕ) → i < 25 → get_or lanes i 0 < 2 ^ 64) → length block ≡ rate → used < rate
-    → IsAbsorbed rate lanes block used m → IsSaved rate (bytes lanes ++ (block ++ used ∷ [])) m
+    → IsAbsorbed rate lanes block used m → IsSaved rate (bytes lanes ++ (block ++ (used + 1) ∷ [])) m
 unfolding saved_lanes
 is_saved rate used lanes block m size fits whole below held =
     let long : length (bytes lanes) ≡ 200 = omega (arith, length-bytes lanes, size) in
-    let counted : get_or (bytes lanes ++ (block ++ used ∷ [])) (200 + rate) 0 ≡ used =
-    rw (sym (append_assoc (bytes lanes) block (used ∷ []))) (get_at (bytes lanes ++ block) [] (200 + rate) used (omega (arith, length-append (bytes lanes) block, long, whole))) in
-    let kept : take rate (drop 200 (bytes lanes ++ (block ++ used ∷ []))) ≡ block =
-    rw (drop_at (bytes lanes) (block ++ used ∷ []) 200 long) (take_at block (used ∷ []) rate whole) in
-    let same : lanes ≡ map (block_lane (bytes lanes ++ (block ++ used ∷ []))) (range_with_len 0 25) =
-    fill_by_all (block_lane (bytes lanes ++ (block ++ used ∷ []))) lanes 25 0 size (λ i below. sym (block_lane-bytes lanes (block ++ used ∷ []) i (omega arith) (fits i below))) in
-    rw (counted, kept, ← same) (below, held)
+    let counted : get_or (bytes lanes ++ (block ++ (used + 1) ∷ [])) (200 + rate) 0 ≡ used + 1 =
+    rw (sym (append_assoc (bytes lanes) block ((used + 1) ∷ []))) (get_at (bytes lanes ++ block) [] (200 + rate) (used + 1) (omega (arith, length-append (bytes lanes) block, long, whole))) in
+    let kept : take rate (drop 200 (bytes lanes ++ (block ++ (used + 1) ∷ []))) ≡ block =
+    rw (drop_at (bytes lanes) (block ++ (used + 1) ∷ []) 200 long) (take_at block ((used + 1) ∷ []) rate whole) in
+    let same : lanes ≡ map (block_lane (bytes lanes ++ (block ++ (used + 1) ∷ []))) (range_with_len 0 25) =
+    fill_by_all (block_lane (bytes lanes ++ (block ++ (used + 1) ∷ []))) lanes 25 0 size (λ i below. sym (block_lane-bytes lanes (block ++ (used + 1) ∷ []) i (omega arith) (fits i below))) in
+    let left : used + 1 - 1 ≡ used = omega arith in
+    rw (counted, kept, left, ← same) ((omega arith, omega (arith, below)), held)
 
 -- a lane is that of the first 200 bytes
 block_lane-take : (saved : List ℕ) (i : ℕ) → i < 25 → block_lane (take 200 saved) i ≡ block_lane saved i
@@ -65,5 +66,5 @@ lanes_read saved =
 
 -- what is read of a saved hasher
 pub restored : (rate used : ℕ) (saved lanes block m : List ℕ) → lanes ≡ add_block (replicate 25 0) (take 200 saved) → block ≡ take rate (drop 200 saved)
-    → used ≡ get_or saved (200 + rate) 0 → IsSaved rate saved m → IsAbsorbed rate lanes block used m
+    → used ≡ get_or saved (200 + rate) 0 - 1 → IsSaved rate saved m → IsAbsorbed rate lanes block used m
 restored rate used saved lanes block m e f g (_, held) = rw (e ∙ lanes_read saved, f, g) held

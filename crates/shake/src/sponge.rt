@@ -4,7 +4,7 @@
 ghost use Rattle.std.specs.Prelude.{◌≡◌, ◌<◌, ◌≤◌, ◌+◌, ◌++◌, ◌⊎◌, ℕ, List, [], length, take, MatchOption};
 ghost use Rattle.shake.specs.Keccak.{keccak_f};
 ghost use Rattle.shake.specs.Shake.{bytes, shake};
-ghost use Rattle.shake.specs.State.{IsRate, IsSaved, next_bytes, saved_used};
+ghost use Rattle.shake.specs.State.{CanBeSaved, IsRate, IsSaved, next_bytes};
 
 use crate::blocks::{add_block, pad, write_block, write_run};
 use crate::four::f1600_four;
@@ -98,7 +98,8 @@ impl<const R: usize> Shake<R> {
         }
     }
 
-    /// Writes the hasher as bytes, from which `restore` makes it again: 200 of its lanes, `R` of its block, and one that counts.
+    /// Writes the hasher as bytes, from which `restore` makes it again: 200 of its lanes, `R` of its block, and one that is one
+    /// more than `used`, so that no hasher is saved as zeros.
     pub fn save(&self, out: &mut [u8])
         requires size { length out.old ≡ 201 + R }
         ensures { (m : List ℕ) → Holds self.now m
@@ -108,26 +109,30 @@ impl<const R: usize> Shake<R> {
         let (block, count) = rest.split_at_mut(R);
         write_block(&self.lanes, lanes);
         block.copy_from_slice(&self.block);
-        count.copy_from_slice(&[self.used as u8]);
+        count.copy_from_slice(&[self.used as u8 + 1]);
     }
 
-    /// The hasher of these bytes, or none if no hasher has them: if their last one is not below `R`.
+    /// The hasher of these bytes, or none if no hasher has them: if their last one is 0 or above `R`.
     pub fn restore(saved: &[u8]) -> Option<Shake<R>>
         requires rate { IsRate R }
         requires size { length saved.now ≡ 201 + R }
-        ensures { MatchOption result (R ≤ saved_used R saved.now)
-            (λ hasher. (saved_used R saved.now < R) × ((m : List ℕ) → IsSaved R saved.now m → Holds hasher m)) }
+        ensures { MatchOption result (¬ (CanBeSaved R saved.now))
+            (λ hasher. CanBeSaved R saved.now × ((m : List ℕ) → IsSaved R saved.now m → Holds hasher m)) }
     {
         let (front, rest) = saved.split_at(200);
-        let used = rest[R] as usize;
-        if used >= R {
+        let count = rest[R] as usize;
+        if count == 0 || count > R {
             return None;
         }
         let mut lanes = [0u64; 25];
         add_block(&mut lanes, front);
         let mut block = [0u8; R];
         block.copy_from_slice(&rest[..R]);
-        Some(Shake { lanes, block, used })
+        Some(Shake {
+            lanes,
+            block,
+            used: count - 1,
+        })
     }
 
     /// Fills `out` with the first bytes of output for the message `input`.

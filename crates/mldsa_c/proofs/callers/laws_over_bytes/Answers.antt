@@ -1,36 +1,33 @@
-use Rattle.std.proofs.Common.{ap, ◌∙◌}
+use Rattle.std.proofs.Common.{ap, ◌∙◌, arith}
 use Rattle.fips204.specs.Framing.{represented}
-use Rattle.fips204_shake.specs.Fronts.{shake256_front, shake128_front}
+use Rattle.fips204_shake.specs.Fronts.{shake256_front, shake128_front, length-shake256_front}
 use Rattle.mldsa_c.specs.Statuses.{done_status, answer_status}
-use Rattle.mldsa_c.proofs.Mu.{mu_signed, mu_judged, verified}
-use Rattle.mldsa_c.proofs.ByStatus.{made, accepted, sized, fits, told_fits}
+use Rattle.mldsa_c.proofs.Mu.{mu_signed, mu_judged, verified, verified_mu}
+use Rattle.mldsa_c.proofs.ByStatus.{belong, accepted, fits}
 use Rattle.mldsa_c.proofs.PreparedKeys as keys_prepared
 use Rattle.mldsa_c.proofs.callers.laws_over_bytes.Goals as goal
 
 pub returns-clause-inputs : goal.returns-clause-inputs
-returns-clause-inputs c = λ p seed p0 pk s0 sk input random old signature status known keys.
-    accepted p pk sk (made c.pair_accepts_written.ensures p known seed p0 pk s0 sk keys) input random old signature status
+returns-clause-inputs c = λ p pk sk input random old signature status known are.
+    accepted p pk sk (belong c.pair_accepts_written.ensures p known pk sk are) input random old signature status
 
 pub returns-clause-hashes : goal.returns-clause-hashes
-returns-clause-hashes c = λ p seed p0 pk s0 sk mu random old signature status known keys signs judges not_wrong.
-    accepted p pk sk (made c.pair_accepts_written.ensures p known seed p0 pk s0 sk keys) (represented mu) random old signature status
-    (sized 64 mu signs (λ (_, two). absurd cc)) (sized 64 mu judges not_wrong) not_wrong
+returns-clause-hashes c = λ p pk sk mu random old signature status known are signs judges.
+    let (long, signed) = fits 64 mu signs (λ (_, two). absurd cc) in
+    accepted p pk sk (belong c.pair_accepts_written.ensures p known pk sk are) (represented mu) random old signature status signed (judges.0 long)
 
 pub returns-clause-checked : goal.returns-clause-checked
-returns-clause-checked c = λ p seed p0 pk s0 sk status known keys (answer, checks, is) not_wrong.
-    is ∙ ap done_status ((made c.pair_accepts_written.ensures p known seed p0 pk s0 sk keys).checked answer checks (fits answer status is not_wrong))
+returns-clause-checked c = λ p pk sk status known are (answer, checks, is). is ∙ ap done_status ((belong c.pair_accepts_written.ensures p known pk sk are).checked answer checks)
 
 pub returns-clause-whole : goal.returns-clause-whole
-returns-clause-whole c = λ p seed p0 pk s0 sk status known keys (answer, checks, is) not_wrong.
-    is ∙ ap answer_status ((made c.pair_accepts_written.ensures p known seed p0 pk s0 sk keys).whole answer checks (told_fits answer status is not_wrong))
+returns-clause-whole c = λ p pk sk status known are (answer, checks, is). is ∙ ap answer_status ((belong c.pair_accepts_written.ensures p known pk sk are).whole answer checks)
 
 pub returns-clause-pair : goal.returns-clause-pair
-returns-clause-pair c = λ p seed p0 pk s0 sk status known keys (answer, checks, is) not_wrong.
-    is ∙ ap answer_status ((made c.pair_accepts_written.ensures p known seed p0 pk s0 sk keys).pair answer checks (told_fits answer status is not_wrong))
+returns-clause-pair c = λ p pk sk status known are (answer, checks, is). is ∙ ap answer_status ((belong c.pair_accepts_written.ensures p known pk sk are).pair answer checks)
 
 pub returns-clause-derived : goal.returns-clause-derived
-returns-clause-derived c = λ p seed p0 pk s0 sk old new status known keys (answer, derives, is) not_wrong.
-    let (same, ok) = (made c.pair_accepts_written.ensures p known seed p0 pk s0 sk keys).derived old new answer derives (fits answer status is not_wrong) in
+returns-clause-derived c = λ p pk sk old new status known are room (answer, derives, is).
+    let (same, ok) = (belong c.pair_accepts_written.ensures p known pk sk are).derived old new answer room derives in
     (same, is ∙ ap done_status ok)
 
 pub returns-clause-mu_signed : goal.returns-clause-mu_signed
@@ -41,7 +38,16 @@ returns-clause-mu_judged c = λ p. mu_judged p (c.mu_stands_for_input.ensures p 
 
 pub returns-clause-mu_bound : goal.returns-clause-mu_bound
 returns-clause-mu_bound c = λ p key mu nu signature known differ first second.
-    c.signature_binds_mu.ensures p shake256_front shake128_front known key mu nu signature differ (verified p key mu signature first) (verified p key nu signature second)
+    (c.signature_binds.ensures p shake256_front shake128_front known).hashes key mu nu signature differ (verified_mu p key mu signature first) (verified_mu p key nu signature second)
+
+pub returns-clause-inputs_bound : goal.returns-clause-inputs_bound
+returns-clause-inputs_bound c = λ p key x y m n signature known alike differ first second.
+    (c.signature_binds.ensures p shake256_front shake128_front known).inputs key x y m n signature alike differ (verified p key x signature first) (verified p key y signature second)
+
+pub returns-clause-keys_bound : goal.returns-clause-keys_bound
+returns-clause-keys_bound c = λ p key other x y m n signature known alike first second.
+    (c.signature_binds.ensures p shake256_front shake128_front known).keys key other x y m n signature (λ input. omega (arith, length-shake256_front input)) alike
+    (verified p key x signature first) (verified p other y signature second)
 
 pub returns-clause-prepared_judged : goal.returns-clause-prepared_judged
 returns-clause-prepared_judged c = λ p key old prepared input signature status known.
