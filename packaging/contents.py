@@ -13,10 +13,8 @@ from common import TOP, command, text
 
 HERE = pathlib.Path(__file__).resolve().parent
 
-# The systems of the archives: how each is named, its Debian name, the folder of its libraries there, and Rust's name of
-# it.
+# The systems of the archives, by the names that Rust too has for them, and the folder of Debian's libraries for one.
 X86, ARM = "x86_64", "aarch64"
-TRIPLES = {X86: "x86_64-unknown-linux-gnu", ARM: "aarch64-unknown-linux-gnu"}
 MULTIARCH = "x86_64-linux-gnu"
 PAGES = ("CHANGELOG.md", "LICENSE", "README.md", "SECURITY.md")
 
@@ -205,7 +203,7 @@ def documents(tree, provenance, folder="share/doc/mldsa"):
 
 
 def crate(facts, libraries, provenance):
-    """The Rust crate with the library of each target in it: its name with its version, and what it holds."""
+    """The Rust crate with the library of each processor in it: its name with its version, and what it holds."""
     manifest = text("rust/fips204/Cargo.toml")
     package = manifest.partition("[package]")[2]
     name, version = (re.search(rf'^{field} = "(.*)"$', package, re.M)[1] for field in ("name", "version"))
@@ -214,7 +212,7 @@ def crate(facts, libraries, provenance):
         if path:
             tree.take(path.removeprefix("rust/fips204/"), TOP / path)
     for system, library in libraries.items():
-        tree.take(f"lib/{TRIPLES[system]}/libmldsa_c.a", library)
+        tree.take(f"lib/{system}/libmldsa_c.a", library)
     tree.take("LICENSE", TOP / "LICENSE")
     tree.put("PROVENANCE", provenance)
     return f"{name}-{version}", tree

@@ -100,12 +100,12 @@ class Room:
             own.mkdir()
             if self.short or not self.fetched(found):
                 # The stand-ins that the tests of the repository use: there is no network in CI.
-                names = [name for name in ("rand_core", "zeroize") if (TOP / f"rust/{name}").is_dir()]
+                names = [name for name in ("rand_core", "signature", "zeroize") if (TOP / f"rust/{name}").is_dir()]
                 for name in names:
                     shutil.copytree(TOP / f"rust/{name}", own / name)
                 places = "".join(f'{name} = {{ path = "{own}/{name}" }}\n' for name in names)
                 (own / "config.toml").write_text(f"[patch.crates-io]\n{places}", encoding="utf-8")
-                print(f"    cargo takes stand-ins for {' and '.join(names)} of the registry")
+                print(f"    cargo takes stand-ins for {', '.join(names)} of the registry")
         return {**found, "CARGO_NET_OFFLINE": "true"}
 
     def fetched(self, toolchain):
