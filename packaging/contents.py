@@ -33,6 +33,9 @@ class Facts:
         # Before 1.0 a minor version may change calls, so both can be installed beside each other.
         self.abi = self.major or f"{self.major}.{self.minor}"
         self.calls = [export.name for export in exports.exports()]
+        self.publisher = dict(re.findall(r"^(\w+): *(.*?) *$", text("packaging/PUBLISHER"), re.M))
+        self.blanks = [name for name, said in self.publisher.items() if not said]
+        self.maintainer = self.publisher["contact"] or self.maintainer
 
     def differing(self, said_by_program):
         """The places that have another version."""
@@ -156,11 +159,11 @@ def archive_x86(facts, library, shared, program, provenance):
     manual_of_library(tree, facts, "share/man/man3")
     of_program(tree, facts, program)
     documents(tree, provenance)
-    tree.take("share/doc/mldsa/sign_file.c", TOP / "c/sign_file.c")
+    examples(tree, "share/doc/mldsa")
     marks = {
         "SYSTEM": "Linux on x86-64, with AVX2 where the processor has it", "LIBRARIES": f"libmldsa.a and {shared.name}",
         "PROGRAM": "    bin/        mlsign, which signs and verifies files\n",
-        "COMPLETIONS": ", completions for bash, zsh and fish",
+        "COMPLETIONS": ", completions for bash, zsh and fish", "TARGETS": "mldsa::shared, mldsa::static",
     }
     tree.put("README", facts.filled("README", **marks))
     tree.take("install", TOP / "scripts/install", program=True)
@@ -176,8 +179,9 @@ def archive_arm(facts, library, provenance):
     for name in [name for name in tree.paths() if "mldsa_x86_64" in name]:
         tree.files.pop(name, None)
     documents(tree, provenance)
-    tree.take("share/doc/mldsa/sign_file.c", TOP / "c/sign_file.c")
-    marks = {"SYSTEM": "Linux on 64-bit ARM", "LIBRARIES": "libmldsa.a", "PROGRAM": "", "COMPLETIONS": ""}
+    examples(tree, "share/doc/mldsa")
+    marks = {"SYSTEM": "Linux on 64-bit ARM", "LIBRARIES": "libmldsa.a", "PROGRAM": "", "COMPLETIONS": "",
+             "TARGETS": "mldsa::static"}
     tree.put("README", facts.filled("README", **marks))
     tree.take("install", TOP / "scripts/install", program=True)
     return tree
@@ -194,6 +198,12 @@ def portable_c(source, provenance):
     tree.take("LICENSE", TOP / "LICENSE")
     tree.put("PROVENANCE", provenance)
     return tree
+
+
+def examples(tree, folder):
+    """The example that signs a file, and one for each group of calls."""
+    for file in (TOP / "c/sign_file.c", *sorted((TOP / "c/examples").glob("*.c"))):
+        tree.take(f"{folder}/{file.name}", file)
 
 
 def documents(tree, provenance, folder="share/doc/mldsa"):
@@ -214,6 +224,9 @@ def crate(facts, libraries, provenance):
     for system, library in libraries.items():
         tree.take(f"lib/{system}/libmldsa_c.a", library)
     tree.take("LICENSE", TOP / "LICENSE")
+    # Who publishes it, if that is said.
+    links = [f'{field} = "{facts.publisher[field]}"\n' for field in ("homepage", "repository") if facts.publisher[field]]
+    tree.put("Cargo.toml", re.sub(r"(?<=^\[package\]\n)", lambda _: "".join(links), manifest, flags=re.M))
     tree.put("PROVENANCE", provenance)
     return f"{name}-{version}", tree
 
@@ -222,7 +235,9 @@ def npm(facts, folder, provenance):
     """The package for JavaScript, as `npm pack` would make it."""
     described = json.loads((folder / "package.json").read_text(encoding="utf-8"))
     tree = pack.Tree()
-    for name in ["package.json", *described["files"]]:
+    links = {field: facts.publisher[field] for field in ("homepage", "repository") if facts.publisher[field]}
+    tree.put("package.json", json.dumps(described | links, indent=2, ensure_ascii=False) + "\n")
+    for name in described["files"]:
         tree.take(name, folder / name)
     # Its code begins with the module beside it, and not in the folder in which js/build makes it.
     tree.put("README.md", text("js/README.md").replace('"./out/mldsa.js"', f'"{described["name"]}"'))
