@@ -51,6 +51,10 @@ class Facts:
         return [f"{place} has {found and found[1]}, and not {wanted}" for place, found, wanted in said if not found
                 or found[1] != wanted]
 
+    def links(self):
+        """What a manifest may say of who publishes."""
+        return {field: self.publisher[field] for field in ("homepage", "repository") if self.publisher[field]}
+
     def filled(self, name, **more):
         """A file of this folder with its marks filled in."""
         marks = {"VERSION": self.version, "MAJOR": self.major, "MINOR": self.minor, "ABI": self.abi, **more}
@@ -225,7 +229,7 @@ def crate(facts, libraries, provenance):
         tree.take(f"lib/{system}/libmldsa_c.a", library)
     tree.take("LICENSE", TOP / "LICENSE")
     # Who publishes it, if that is said.
-    links = [f'{field} = "{facts.publisher[field]}"\n' for field in ("homepage", "repository") if facts.publisher[field]]
+    links = [f'{field} = "{said}"\n' for field, said in facts.links().items()]
     tree.put("Cargo.toml", re.sub(r"(?<=^\[package\]\n)", lambda _: "".join(links), manifest, flags=re.M))
     tree.put("PROVENANCE", provenance)
     return f"{name}-{version}", tree
@@ -235,8 +239,7 @@ def npm(facts, folder, provenance):
     """The package for JavaScript, as `npm pack` would make it."""
     described = json.loads((folder / "package.json").read_text(encoding="utf-8"))
     tree = pack.Tree()
-    links = {field: facts.publisher[field] for field in ("homepage", "repository") if facts.publisher[field]}
-    tree.put("package.json", json.dumps(described | links, indent=2, ensure_ascii=False) + "\n")
+    tree.put("package.json", json.dumps(described | facts.links(), indent=2, ensure_ascii=False) + "\n")
     for name in described["files"]:
         tree.take(name, folder / name)
     # Its code begins with the module beside it, and not in the folder in which js/build makes it.

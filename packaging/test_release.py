@@ -14,7 +14,8 @@ RT = """#!/bin/sh
 echo 'rt was asked'
 exit 1
 """
-PUBLISHER = "homepage: https://a.example\nrepository: https://a.example/git\ncontact: A <a@a.example>\nflaws: a@a.example\n"
+PUBLISHER = "homepage: https://a.example\nrepository: https://a.example/git\ncontact: A <a@a.example>\n" \
+            "flaws: a@a.example\nfingerprint: https://b.example\n"
 
 
 class Refusals(unittest.TestCase):
@@ -36,8 +37,8 @@ class Refusals(unittest.TestCase):
 
     def command(self, *words, cwd=None):
         environment = os.environ | {"PATH": f"{self.tools}:{os.environ['PATH']}"}
-        done = subprocess.run([str(word) for word in words], cwd=cwd or self.clone, env=environment, text=True, check=False,
-                              stdout=subprocess.PIPE, stderr=subprocess.STDOUT)
+        done = subprocess.run([str(word) for word in words], cwd=cwd or self.clone, env=environment, text=True,
+                              check=False, stdout=subprocess.PIPE, stderr=subprocess.STDOUT)
         return done.returncode, done.stdout
 
     def commit(self):
@@ -52,7 +53,8 @@ class Refusals(unittest.TestCase):
         return file
 
     def test_blanks(self):
-        (self.clone / "packaging/PUBLISHER").write_text(PUBLISHER.replace("https://a.example\n", "\n"), encoding="utf-8")
+        without = PUBLISHER.replace("https://a.example\n", "\n")
+        (self.clone / "packaging/PUBLISHER").write_text(without, encoding="utf-8")
         self.commit()
         status, said = self.command("scripts/release")
         self.assertEqual((status, said), (1, "packaging/PUBLISHER has no homepage: whoever publishes fills it in\n"))
