@@ -383,6 +383,10 @@ class Tries(unittest.TestCase):
         room.run("sh", "-c", "sha256sum $(ls | grep -v SHA256SUMS | grep -v -- '-linux$') > SHA256SUMS", cwd=folder)
         room.run("sha256sum", "--check", "--quiet", "SHA256SUMS", cwd=folder)
         checked(1, "an archive and sums that were changed")
+        # Whoever builds anew compares with what was published, and not with the sums of the build.
+        again = (folder / "PROVENANCE").read_text(encoding="utf-8").partition("(cd dist && ")[2].partition(")")[0]
+        room.run("sh", "-c", again.replace("PUBLISHED", str(room.dist)), cwd=room.dist)
+        room.run("sh", "-c", again.replace("PUBLISHED", str(room.dist)), cwd=folder, status=1)
         # With a key of their own the fingerprint is another.
         room.run(room.mlsign, "keygen", "-k", "theirs.pem", "-f", "-p", "release.pub", cwd=folder)
         room.run(room.mlsign, "sign", "-f", "-k", "theirs.pem", "SHA256SUMS", cwd=folder)
@@ -456,6 +460,10 @@ class Tries(unittest.TestCase):
             return [name for name in all_paths(root) if not name.startswith("var")]
 
         packages = sorted(room.dist.glob("*.deb"))
+        # Debian's amd64 includes processors that can't run the code.
+        for package in packages:
+            needs = room.run("dpkg-deb", "--field", package, "Depends")
+            expect(f"{package.name} refuses old processors", "-dev" in package.name or "sse4.2-support" in needs, True)
         before = own_paths()
         room.run(*words, "--install", *packages, path=path)
         expect("mlsign --version", room.run(root / "usr/bin/mlsign", "--version").strip(), room.said_version)
