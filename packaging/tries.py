@@ -144,6 +144,10 @@ class Room:
         expect(pattern, len(found), 1)
         return found[0]
 
+    def fingerprint(self):
+        """The fingerprint of release.pub, as it would stand elsewhere."""
+        return re.search(r"\b[A-Za-z0-9+/]{43}\b", self.run(self.mlsign, "show", self.dist / "release.pub"))[0]
+
     def unpacked(self, pattern, name):
         """A tar archive of the release, unpacked into a folder of its own."""
         folder = self.folder(name)
@@ -351,8 +355,7 @@ class Tries(unittest.TestCase):
         page = (folder / "PROVENANCE").read_text(encoding="utf-8")
         page = page.partition("Check the files")[2].partition("What the")[0]
         *by_openssl, by_mlsign = [line.strip() for line in page.splitlines() if line.startswith("    ")]
-        shown = room.run(room.mlsign, "show", "release.pub", cwd=folder)
-        fingerprint = re.search(r"\b[A-Za-z0-9+/]{43}\b", shown)[0]
+        fingerprint = room.fingerprint()
         by_mlsign = by_mlsign.replace("FINGERPRINT", fingerprint)
         path = f"{room.mlsign.parent}:/usr/bin:/bin"
         checks = {"mlsign": [by_mlsign]}
@@ -394,16 +397,21 @@ class Tries(unittest.TestCase):
 
     @wants("cc", "pkg-config", "tar")
     def test_in_readme(self, room):
-        """The lines of README under 'Getting it', in the folder of the files, but those that begin with sudo."""
+        """The lines of README under 'Getting it', in the folder of the files, but those that begin with sudo; an mlsign
+        is there, and FINGERPRINT stands for the fingerprint of release.pub."""
         page = (TOP / "README.md").read_text(encoding="utf-8").partition("## Getting it\n")[2].partition("\n## ")[0]
-        lines = [line.strip() for line in page.splitlines() if line.startswith("    ")]
+        lines = [line.strip().replace("FINGERPRINT", room.fingerprint()) for line in page.splitlines()
+                 if line.startswith("    ")]
         no_npm = lacks("npm") or not room.has_node
-        skipped = {"sudo", *(["npm"] if no_npm else []), *missing("cargo")}
+        skipped = {"sudo", *(["npm"] if no_npm else []), *missing("cargo"),
+                   *(["openssl"] if openssl_version() < (3, 5) else [])}
         run = [line for line in lines if line.split()[0] not in skipped]
         run += [] if lacks("man") else ["man -w mlsign mldsa65_sign"]
         folder = room.path / "in-readme"
         shutil.copytree(room.dist, folder)
-        said = room.run("sh", "-e", "-c", "\n".join(run), cwd=folder, **room.for_cargo())
+        given = {"path": "/usr/bin:/bin", **room.for_cargo()}
+        given["path"] = f"{room.mlsign.parent}:{given['path']}"
+        said = room.run("sh", "-e", "-c", "\n".join(run), cwd=folder, **given)
         for wanted in ("\nvalid\n", "\nverified: yes\n", ": OK\n"):
             if wanted not in said:
                 raise Failed(f"the lines of README do not print {wanted!r}:\n{said}")
