@@ -146,7 +146,8 @@ class Room:
 
     def fingerprint(self):
         """The fingerprint of release.pub, as it would stand elsewhere."""
-        return re.search(r"\b[A-Za-z0-9+/]{43}\b", self.run(self.mlsign, "show", self.dist / "release.pub"))[0]
+        shown = self.run(self.mlsign, "show", self.dist / "release.pub")
+        return re.search(r"(?<![\w+/])[A-Za-z0-9+/]{43}(?![\w+/])", shown)[0]
 
     def unpacked(self, pattern, name):
         """A tar archive of the release, unpacked into a folder of its own."""
