@@ -212,8 +212,10 @@ def defined(header, name):
 def stack(family, header):
     """The section on the stack that a family's calls need, of the constants that stand beside their declarations."""
     rows: dict[tuple[str, str], list[str]] = {}
-    for name in family.names if family.of_set else ():
-        constant = re.search(rf"/\* stack: (\w+) \*/\n\w+ mldsa65_{name}\(", header)[1]
+    beside = {name: constant for constant, name in
+              re.findall(r"/\* stack: (\w+) \*/\n\w+ mldsa65_(\w+)\(", header)}
+    for name in [name for name in family.names if family.of_set and name in beside]:
+        constant = beside[name]
         at_sets = [constant.replace("65", number) for number in SETS] if "65" in constant else [constant]
         said = ", ".join(f"`{it}`" for it in dict.fromkeys(at_sets))
         rows.setdefault((said, ", ".join(defined(header, it) for it in dict.fromkeys(at_sets))), []).append(name)
