@@ -413,8 +413,8 @@ class Tries(unittest.TestCase):
         given = {"path": "/usr/bin:/bin", **room.for_cargo()}
         given["path"] = f"{room.mlsign.parent}:{given['path']}"
         said = room.run("sh", "-e", "-c", "\n".join(run), cwd=folder, **given)
-        for wanted in ("\nvalid\n", "\nverified: yes\n", ": OK\n"):
-            if wanted not in said:
+        for wanted in ("^(SHA256SUMS: )?valid$", "^verified: yes$", ": OK$"):
+            if not re.search(wanted, said, re.M):
                 raise Failed(f"the lines of README do not print {wanted!r}:\n{said}")
         if "cargo" not in skipped and "fips204" not in (folder / "Cargo.toml").read_text(encoding="utf-8"):
             raise Failed("cargo add has added nothing")
