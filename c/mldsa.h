@@ -7,7 +7,10 @@
  *         .. accepted ..
  *
  * and likewise for is_whole and is_pair. A pointer is never null, also where its length is 0: for an empty array pass
- * MLDSA_NOTHING, 0. gcc and clang warn where an answer is not used, and of a null pointer that they see.
+ * MLDSA_NOTHING, 0. An array may begin at any address: none has to be aligned. gcc and clang warn where an answer is not used;
+ * where they do not optimize, of a null pointer that they see, and gcc otherwise too, if its length is not 0; and gcc from 10 on
+ * of an array that is shorter than the length behind it says, as that of another set is. A test for null stays in a program,
+ * wherever it stands.
  *
  * These are the declarations of libmldsa_c.a, whose code is proved: each call answers what FIPS 204 says, reads and writes
  * nothing but the arrays that it is given, and ends. docs/SPEC.md says what that rests on.
@@ -25,6 +28,9 @@
  *
  * The calls keep no state, allocate nothing, call nothing but memcpy, memmove and memset, and may run in any number of threads.
  * They leave secrets on the stack below the caller's frame, and are not claimed to run in constant time.
+ *
+ * A program for each group of calls is among the examples and on the group's page of the manual: message.c, digest.c, pieces.c,
+ * keys.c and prepared.c.
  *
  * A set's calls are these, with its number in the name (mldsa44_keygen, mldsa65_keygen, mldsa87_keygen). Behind each stand
  * the answers that it has beside 0 and MLDSA_WRONG_LENGTH. MLDSA_SAMPLING_LIMIT stands for inputs that nobody knows.
@@ -92,8 +98,9 @@ extern "C" {
 #define MLDSA_VERSION 0x000200
 #define MLDSA_VERSION_TEXT "0.2.0"
 
-/* No pointer is null, and the answer of a call is to be looked at. */
-#if defined(__GNUC__)
+/* No pointer is null, and the answer of a call is to be looked at. A compiler that optimizes is not told the first, since it would
+ * leave out a program's own test for null behind a call. */
+#if defined(__GNUC__) && !defined(__OPTIMIZE__)
 #define MLDSA_POINTERS __attribute__((nonnull))
 #else
 #define MLDSA_POINTERS
@@ -105,6 +112,30 @@ extern "C" {
 #else
 #define MLDSA_ANSWERS
 #endif
+
+/* How many arrays a call reads and how many it then writes, each with its length behind it. */
+#define MLDSA_ARRAYS(read, written) MLDSA_READS_##read MLDSA_WRITES_##written##_BEHIND_##read
+#if defined(__GNUC__) && !defined(__clang__) && __GNUC__ >= 10
+#define MLDSA_ARRAY(how, pointer, length) __attribute__((access(how, pointer, length)))
+#else
+#define MLDSA_ARRAY(how, pointer, length)
+#endif
+#define MLDSA_READS_1 MLDSA_ARRAY(read_only, 1, 2)
+#define MLDSA_READS_2 MLDSA_READS_1 MLDSA_ARRAY(read_only, 3, 4)
+#define MLDSA_READS_3 MLDSA_READS_2 MLDSA_ARRAY(read_only, 5, 6)
+#define MLDSA_READS_4 MLDSA_READS_3 MLDSA_ARRAY(read_only, 7, 8)
+#define MLDSA_READS_5 MLDSA_READS_4 MLDSA_ARRAY(read_only, 9, 10)
+#define MLDSA_WRITES_0_BEHIND_1
+#define MLDSA_WRITES_0_BEHIND_2
+#define MLDSA_WRITES_0_BEHIND_3
+#define MLDSA_WRITES_0_BEHIND_4
+#define MLDSA_WRITES_0_BEHIND_5
+#define MLDSA_WRITES_1_BEHIND_1 MLDSA_ARRAY(write_only, 3, 4)
+#define MLDSA_WRITES_1_BEHIND_2 MLDSA_ARRAY(write_only, 5, 6)
+#define MLDSA_WRITES_1_BEHIND_3 MLDSA_ARRAY(write_only, 7, 8)
+#define MLDSA_WRITES_1_BEHIND_4 MLDSA_ARRAY(write_only, 9, 10)
+#define MLDSA_WRITES_1_BEHIND_5 MLDSA_ARRAY(write_only, 11, 12)
+#define MLDSA_WRITES_2_BEHIND_1 MLDSA_WRITES_1_BEHIND_1 MLDSA_ARRAY(write_only, 5, 6)
 
 /* What a call answers. mldsa_text has a text for each. */
 enum mldsa_status {
@@ -142,6 +173,13 @@ enum mldsa_status {
  *  MLDSA*_STACK_SIGN_PREPARED        sign_prepared, hash_sign_prepared, sign_mu_prepared
  *  MLDSA*_STACK_VERIFY_PREPARED      verify_prepared, hash_verify_prepared, verify_mu_prepared
  *  MLDSA_STACK_MU                    mu_begin, mu_begin_private, mldsa_mu_update, mldsa_mu_finish
+ *
+ * glibc gives a thread what `ulimit -s` says, mostly 8 MiB. musl gives it 128 KiB, on which keygen, sign and others end the program
+ * by SIGSEGV: there give a thread more when it is made, with these attributes.
+ *
+ *     pthread_attr_t attributes;
+ *     pthread_attr_init(&attributes);
+ *     pthread_attr_setstacksize(&attributes, MLDSA65_STACK_SIGN + 16384);
  */
 
 /* A pointer for an array of length 0. */
@@ -183,74 +221,74 @@ enum mldsa_status {
 #define MLDSA44_STACK_PREPARE_PRIVATE_KEY 108544
 #define MLDSA44_STACK_SIGN_PREPARED 135168
 
-MLDSA_ANSWERS
+MLDSA_ANSWERS MLDSA_ARRAYS(1, 2) /* stack: MLDSA44_STACK_KEYGEN */
 uint32_t mldsa44_keygen(const uint8_t *seed, size_t seed_len, uint8_t *public_key, size_t public_key_len,
                         uint8_t *private_key, size_t private_key_len);
-MLDSA_ANSWERS
+MLDSA_ANSWERS MLDSA_ARRAYS(4, 1) /* stack: MLDSA44_STACK_SIGN */
 uint32_t mldsa44_sign(const uint8_t *private_key, size_t private_key_len, const uint8_t *message, size_t message_len,
                       const uint8_t *context, size_t context_len, const uint8_t *random, size_t random_len,
                       uint8_t *signature, size_t signature_len);
-MLDSA_ANSWERS
+MLDSA_ANSWERS MLDSA_ARRAYS(4, 0) /* stack: MLDSA44_STACK_VERIFY */
 uint32_t mldsa44_verify(const uint8_t *public_key, size_t public_key_len, const uint8_t *message, size_t message_len,
                         const uint8_t *context, size_t context_len, const uint8_t *signature, size_t signature_len);
-MLDSA_ANSWERS
+MLDSA_ANSWERS MLDSA_ARRAYS(5, 1) /* stack: MLDSA44_STACK_SIGN */
 uint32_t mldsa44_hash_sign(const uint8_t *private_key, size_t private_key_len,
                            const uint8_t *digest, size_t digest_len, const uint8_t *context, size_t context_len,
                            const uint8_t *oid, size_t oid_len, const uint8_t *random, size_t random_len,
                            uint8_t *signature, size_t signature_len);
-MLDSA_ANSWERS
+MLDSA_ANSWERS MLDSA_ARRAYS(5, 0) /* stack: MLDSA44_STACK_VERIFY */
 uint32_t mldsa44_hash_verify(const uint8_t *public_key, size_t public_key_len,
                              const uint8_t *digest, size_t digest_len, const uint8_t *context, size_t context_len,
                              const uint8_t *oid, size_t oid_len, const uint8_t *signature, size_t signature_len);
-MLDSA_ANSWERS
+MLDSA_ANSWERS MLDSA_ARRAYS(3, 1) /* stack: MLDSA44_STACK_SIGN */
 uint32_t mldsa44_sign_mu(const uint8_t *private_key, size_t private_key_len, const uint8_t *mu, size_t mu_len,
                          const uint8_t *random, size_t random_len, uint8_t *signature, size_t signature_len);
-MLDSA_ANSWERS
+MLDSA_ANSWERS MLDSA_ARRAYS(3, 0) /* stack: MLDSA44_STACK_VERIFY */
 uint32_t mldsa44_verify_mu(const uint8_t *public_key, size_t public_key_len, const uint8_t *mu, size_t mu_len,
                            const uint8_t *signature, size_t signature_len);
-MLDSA_ANSWERS
+MLDSA_ANSWERS MLDSA_ARRAYS(1, 1) /* stack: MLDSA44_STACK_PUBLIC_KEY */
 uint32_t mldsa44_public_key(const uint8_t *private_key, size_t private_key_len,
                             uint8_t *public_key, size_t public_key_len);
-MLDSA_ANSWERS
+MLDSA_ANSWERS MLDSA_ARRAYS(1, 0) /* stack: MLDSA44_STACK_CHECK */
 uint32_t mldsa44_check_private_key(const uint8_t *private_key, size_t private_key_len);
-MLDSA_ANSWERS
+MLDSA_ANSWERS MLDSA_ARRAYS(1, 0) /* stack: MLDSA44_STACK_WHOLE */
 uint32_t mldsa44_is_whole(const uint8_t *private_key, size_t private_key_len);
-MLDSA_ANSWERS
+MLDSA_ANSWERS MLDSA_ARRAYS(1, 0) /* stack: MLDSA44_STACK_PAIR */
 uint32_t mldsa44_is_pair(const uint8_t *private_key, size_t private_key_len);
-MLDSA_ANSWERS
+MLDSA_ANSWERS MLDSA_ARRAYS(2, 1) /* stack: MLDSA_STACK_MU */
 uint32_t mldsa44_mu_begin(const uint8_t *public_key, size_t public_key_len, const uint8_t *context, size_t context_len,
                           uint8_t *state, size_t state_len);
-MLDSA_ANSWERS
+MLDSA_ANSWERS MLDSA_ARRAYS(2, 1) /* stack: MLDSA_STACK_MU */
 uint32_t mldsa44_mu_begin_private(const uint8_t *private_key, size_t private_key_len,
                                   const uint8_t *context, size_t context_len, uint8_t *state, size_t state_len);
-MLDSA_ANSWERS
+MLDSA_ANSWERS MLDSA_ARRAYS(1, 1) /* stack: MLDSA44_STACK_PREPARE_PUBLIC_KEY */
 uint32_t mldsa44_prepare_public_key(const uint8_t *public_key, size_t public_key_len,
                                     uint8_t *prepared_public_key, size_t prepared_public_key_len);
-MLDSA_ANSWERS
+MLDSA_ANSWERS MLDSA_ARRAYS(1, 1) /* stack: MLDSA44_STACK_PREPARE_PRIVATE_KEY */
 uint32_t mldsa44_prepare_private_key(const uint8_t *private_key, size_t private_key_len,
                                      uint8_t *prepared_private_key, size_t prepared_private_key_len);
-MLDSA_ANSWERS
+MLDSA_ANSWERS MLDSA_ARRAYS(4, 1) /* stack: MLDSA44_STACK_SIGN_PREPARED */
 uint32_t mldsa44_sign_prepared(const uint8_t *prepared_private_key, size_t prepared_private_key_len,
                                const uint8_t *message, size_t message_len, const uint8_t *context, size_t context_len,
                                const uint8_t *random, size_t random_len, uint8_t *signature, size_t signature_len);
-MLDSA_ANSWERS
+MLDSA_ANSWERS MLDSA_ARRAYS(4, 0) /* stack: MLDSA44_STACK_VERIFY_PREPARED */
 uint32_t mldsa44_verify_prepared(const uint8_t *prepared_public_key, size_t prepared_public_key_len,
                                  const uint8_t *message, size_t message_len, const uint8_t *context, size_t context_len,
                                  const uint8_t *signature, size_t signature_len);
-MLDSA_ANSWERS
+MLDSA_ANSWERS MLDSA_ARRAYS(5, 1) /* stack: MLDSA44_STACK_SIGN_PREPARED */
 uint32_t mldsa44_hash_sign_prepared(const uint8_t *prepared_private_key, size_t prepared_private_key_len,
                                     const uint8_t *digest, size_t digest_len, const uint8_t *context, size_t context_len,
                                     const uint8_t *oid, size_t oid_len, const uint8_t *random, size_t random_len,
                                     uint8_t *signature, size_t signature_len);
-MLDSA_ANSWERS
+MLDSA_ANSWERS MLDSA_ARRAYS(5, 0) /* stack: MLDSA44_STACK_VERIFY_PREPARED */
 uint32_t mldsa44_hash_verify_prepared(const uint8_t *prepared_public_key, size_t prepared_public_key_len,
                                       const uint8_t *digest, size_t digest_len, const uint8_t *context, size_t context_len,
                                       const uint8_t *oid, size_t oid_len, const uint8_t *signature, size_t signature_len);
-MLDSA_ANSWERS
+MLDSA_ANSWERS MLDSA_ARRAYS(3, 1) /* stack: MLDSA44_STACK_SIGN_PREPARED */
 uint32_t mldsa44_sign_mu_prepared(const uint8_t *prepared_private_key, size_t prepared_private_key_len,
                                   const uint8_t *mu, size_t mu_len, const uint8_t *random, size_t random_len,
                                   uint8_t *signature, size_t signature_len);
-MLDSA_ANSWERS
+MLDSA_ANSWERS MLDSA_ARRAYS(3, 0) /* stack: MLDSA44_STACK_VERIFY_PREPARED */
 uint32_t mldsa44_verify_mu_prepared(const uint8_t *prepared_public_key, size_t prepared_public_key_len,
                                     const uint8_t *mu, size_t mu_len, const uint8_t *signature, size_t signature_len);
 
@@ -274,74 +312,74 @@ uint32_t mldsa44_verify_mu_prepared(const uint8_t *prepared_public_key, size_t p
 #define MLDSA65_STACK_PREPARE_PRIVATE_KEY 147456
 #define MLDSA65_STACK_SIGN_PREPARED 176128
 
-MLDSA_ANSWERS
+MLDSA_ANSWERS MLDSA_ARRAYS(1, 2) /* stack: MLDSA65_STACK_KEYGEN */
 uint32_t mldsa65_keygen(const uint8_t *seed, size_t seed_len, uint8_t *public_key, size_t public_key_len,
                         uint8_t *private_key, size_t private_key_len);
-MLDSA_ANSWERS
+MLDSA_ANSWERS MLDSA_ARRAYS(4, 1) /* stack: MLDSA65_STACK_SIGN */
 uint32_t mldsa65_sign(const uint8_t *private_key, size_t private_key_len, const uint8_t *message, size_t message_len,
                       const uint8_t *context, size_t context_len, const uint8_t *random, size_t random_len,
                       uint8_t *signature, size_t signature_len);
-MLDSA_ANSWERS
+MLDSA_ANSWERS MLDSA_ARRAYS(4, 0) /* stack: MLDSA65_STACK_VERIFY */
 uint32_t mldsa65_verify(const uint8_t *public_key, size_t public_key_len, const uint8_t *message, size_t message_len,
                         const uint8_t *context, size_t context_len, const uint8_t *signature, size_t signature_len);
-MLDSA_ANSWERS
+MLDSA_ANSWERS MLDSA_ARRAYS(5, 1) /* stack: MLDSA65_STACK_SIGN */
 uint32_t mldsa65_hash_sign(const uint8_t *private_key, size_t private_key_len,
                            const uint8_t *digest, size_t digest_len, const uint8_t *context, size_t context_len,
                            const uint8_t *oid, size_t oid_len, const uint8_t *random, size_t random_len,
                            uint8_t *signature, size_t signature_len);
-MLDSA_ANSWERS
+MLDSA_ANSWERS MLDSA_ARRAYS(5, 0) /* stack: MLDSA65_STACK_VERIFY */
 uint32_t mldsa65_hash_verify(const uint8_t *public_key, size_t public_key_len,
                              const uint8_t *digest, size_t digest_len, const uint8_t *context, size_t context_len,
                              const uint8_t *oid, size_t oid_len, const uint8_t *signature, size_t signature_len);
-MLDSA_ANSWERS
+MLDSA_ANSWERS MLDSA_ARRAYS(3, 1) /* stack: MLDSA65_STACK_SIGN */
 uint32_t mldsa65_sign_mu(const uint8_t *private_key, size_t private_key_len, const uint8_t *mu, size_t mu_len,
                          const uint8_t *random, size_t random_len, uint8_t *signature, size_t signature_len);
-MLDSA_ANSWERS
+MLDSA_ANSWERS MLDSA_ARRAYS(3, 0) /* stack: MLDSA65_STACK_VERIFY */
 uint32_t mldsa65_verify_mu(const uint8_t *public_key, size_t public_key_len, const uint8_t *mu, size_t mu_len,
                            const uint8_t *signature, size_t signature_len);
-MLDSA_ANSWERS
+MLDSA_ANSWERS MLDSA_ARRAYS(1, 1) /* stack: MLDSA65_STACK_PUBLIC_KEY */
 uint32_t mldsa65_public_key(const uint8_t *private_key, size_t private_key_len,
                             uint8_t *public_key, size_t public_key_len);
-MLDSA_ANSWERS
+MLDSA_ANSWERS MLDSA_ARRAYS(1, 0) /* stack: MLDSA65_STACK_CHECK */
 uint32_t mldsa65_check_private_key(const uint8_t *private_key, size_t private_key_len);
-MLDSA_ANSWERS
+MLDSA_ANSWERS MLDSA_ARRAYS(1, 0) /* stack: MLDSA65_STACK_WHOLE */
 uint32_t mldsa65_is_whole(const uint8_t *private_key, size_t private_key_len);
-MLDSA_ANSWERS
+MLDSA_ANSWERS MLDSA_ARRAYS(1, 0) /* stack: MLDSA65_STACK_PAIR */
 uint32_t mldsa65_is_pair(const uint8_t *private_key, size_t private_key_len);
-MLDSA_ANSWERS
+MLDSA_ANSWERS MLDSA_ARRAYS(2, 1) /* stack: MLDSA_STACK_MU */
 uint32_t mldsa65_mu_begin(const uint8_t *public_key, size_t public_key_len, const uint8_t *context, size_t context_len,
                           uint8_t *state, size_t state_len);
-MLDSA_ANSWERS
+MLDSA_ANSWERS MLDSA_ARRAYS(2, 1) /* stack: MLDSA_STACK_MU */
 uint32_t mldsa65_mu_begin_private(const uint8_t *private_key, size_t private_key_len,
                                   const uint8_t *context, size_t context_len, uint8_t *state, size_t state_len);
-MLDSA_ANSWERS
+MLDSA_ANSWERS MLDSA_ARRAYS(1, 1) /* stack: MLDSA65_STACK_PREPARE_PUBLIC_KEY */
 uint32_t mldsa65_prepare_public_key(const uint8_t *public_key, size_t public_key_len,
                                     uint8_t *prepared_public_key, size_t prepared_public_key_len);
-MLDSA_ANSWERS
+MLDSA_ANSWERS MLDSA_ARRAYS(1, 1) /* stack: MLDSA65_STACK_PREPARE_PRIVATE_KEY */
 uint32_t mldsa65_prepare_private_key(const uint8_t *private_key, size_t private_key_len,
                                      uint8_t *prepared_private_key, size_t prepared_private_key_len);
-MLDSA_ANSWERS
+MLDSA_ANSWERS MLDSA_ARRAYS(4, 1) /* stack: MLDSA65_STACK_SIGN_PREPARED */
 uint32_t mldsa65_sign_prepared(const uint8_t *prepared_private_key, size_t prepared_private_key_len,
                                const uint8_t *message, size_t message_len, const uint8_t *context, size_t context_len,
                                const uint8_t *random, size_t random_len, uint8_t *signature, size_t signature_len);
-MLDSA_ANSWERS
+MLDSA_ANSWERS MLDSA_ARRAYS(4, 0) /* stack: MLDSA65_STACK_VERIFY_PREPARED */
 uint32_t mldsa65_verify_prepared(const uint8_t *prepared_public_key, size_t prepared_public_key_len,
                                  const uint8_t *message, size_t message_len, const uint8_t *context, size_t context_len,
                                  const uint8_t *signature, size_t signature_len);
-MLDSA_ANSWERS
+MLDSA_ANSWERS MLDSA_ARRAYS(5, 1) /* stack: MLDSA65_STACK_SIGN_PREPARED */
 uint32_t mldsa65_hash_sign_prepared(const uint8_t *prepared_private_key, size_t prepared_private_key_len,
                                     const uint8_t *digest, size_t digest_len, const uint8_t *context, size_t context_len,
                                     const uint8_t *oid, size_t oid_len, const uint8_t *random, size_t random_len,
                                     uint8_t *signature, size_t signature_len);
-MLDSA_ANSWERS
+MLDSA_ANSWERS MLDSA_ARRAYS(5, 0) /* stack: MLDSA65_STACK_VERIFY_PREPARED */
 uint32_t mldsa65_hash_verify_prepared(const uint8_t *prepared_public_key, size_t prepared_public_key_len,
                                       const uint8_t *digest, size_t digest_len, const uint8_t *context, size_t context_len,
                                       const uint8_t *oid, size_t oid_len, const uint8_t *signature, size_t signature_len);
-MLDSA_ANSWERS
+MLDSA_ANSWERS MLDSA_ARRAYS(3, 1) /* stack: MLDSA65_STACK_SIGN_PREPARED */
 uint32_t mldsa65_sign_mu_prepared(const uint8_t *prepared_private_key, size_t prepared_private_key_len,
                                   const uint8_t *mu, size_t mu_len, const uint8_t *random, size_t random_len,
                                   uint8_t *signature, size_t signature_len);
-MLDSA_ANSWERS
+MLDSA_ANSWERS MLDSA_ARRAYS(3, 0) /* stack: MLDSA65_STACK_VERIFY_PREPARED */
 uint32_t mldsa65_verify_mu_prepared(const uint8_t *prepared_public_key, size_t prepared_public_key_len,
                                     const uint8_t *mu, size_t mu_len, const uint8_t *signature, size_t signature_len);
 
@@ -365,74 +403,74 @@ uint32_t mldsa65_verify_mu_prepared(const uint8_t *prepared_public_key, size_t p
 #define MLDSA87_STACK_PREPARE_PRIVATE_KEY 204800
 #define MLDSA87_STACK_SIGN_PREPARED 240640
 
-MLDSA_ANSWERS
+MLDSA_ANSWERS MLDSA_ARRAYS(1, 2) /* stack: MLDSA87_STACK_KEYGEN */
 uint32_t mldsa87_keygen(const uint8_t *seed, size_t seed_len, uint8_t *public_key, size_t public_key_len,
                         uint8_t *private_key, size_t private_key_len);
-MLDSA_ANSWERS
+MLDSA_ANSWERS MLDSA_ARRAYS(4, 1) /* stack: MLDSA87_STACK_SIGN */
 uint32_t mldsa87_sign(const uint8_t *private_key, size_t private_key_len, const uint8_t *message, size_t message_len,
                       const uint8_t *context, size_t context_len, const uint8_t *random, size_t random_len,
                       uint8_t *signature, size_t signature_len);
-MLDSA_ANSWERS
+MLDSA_ANSWERS MLDSA_ARRAYS(4, 0) /* stack: MLDSA87_STACK_VERIFY */
 uint32_t mldsa87_verify(const uint8_t *public_key, size_t public_key_len, const uint8_t *message, size_t message_len,
                         const uint8_t *context, size_t context_len, const uint8_t *signature, size_t signature_len);
-MLDSA_ANSWERS
+MLDSA_ANSWERS MLDSA_ARRAYS(5, 1) /* stack: MLDSA87_STACK_SIGN */
 uint32_t mldsa87_hash_sign(const uint8_t *private_key, size_t private_key_len,
                            const uint8_t *digest, size_t digest_len, const uint8_t *context, size_t context_len,
                            const uint8_t *oid, size_t oid_len, const uint8_t *random, size_t random_len,
                            uint8_t *signature, size_t signature_len);
-MLDSA_ANSWERS
+MLDSA_ANSWERS MLDSA_ARRAYS(5, 0) /* stack: MLDSA87_STACK_VERIFY */
 uint32_t mldsa87_hash_verify(const uint8_t *public_key, size_t public_key_len,
                              const uint8_t *digest, size_t digest_len, const uint8_t *context, size_t context_len,
                              const uint8_t *oid, size_t oid_len, const uint8_t *signature, size_t signature_len);
-MLDSA_ANSWERS
+MLDSA_ANSWERS MLDSA_ARRAYS(3, 1) /* stack: MLDSA87_STACK_SIGN */
 uint32_t mldsa87_sign_mu(const uint8_t *private_key, size_t private_key_len, const uint8_t *mu, size_t mu_len,
                          const uint8_t *random, size_t random_len, uint8_t *signature, size_t signature_len);
-MLDSA_ANSWERS
+MLDSA_ANSWERS MLDSA_ARRAYS(3, 0) /* stack: MLDSA87_STACK_VERIFY */
 uint32_t mldsa87_verify_mu(const uint8_t *public_key, size_t public_key_len, const uint8_t *mu, size_t mu_len,
                            const uint8_t *signature, size_t signature_len);
-MLDSA_ANSWERS
+MLDSA_ANSWERS MLDSA_ARRAYS(1, 1) /* stack: MLDSA87_STACK_PUBLIC_KEY */
 uint32_t mldsa87_public_key(const uint8_t *private_key, size_t private_key_len,
                             uint8_t *public_key, size_t public_key_len);
-MLDSA_ANSWERS
+MLDSA_ANSWERS MLDSA_ARRAYS(1, 0) /* stack: MLDSA87_STACK_CHECK */
 uint32_t mldsa87_check_private_key(const uint8_t *private_key, size_t private_key_len);
-MLDSA_ANSWERS
+MLDSA_ANSWERS MLDSA_ARRAYS(1, 0) /* stack: MLDSA87_STACK_WHOLE */
 uint32_t mldsa87_is_whole(const uint8_t *private_key, size_t private_key_len);
-MLDSA_ANSWERS
+MLDSA_ANSWERS MLDSA_ARRAYS(1, 0) /* stack: MLDSA87_STACK_PAIR */
 uint32_t mldsa87_is_pair(const uint8_t *private_key, size_t private_key_len);
-MLDSA_ANSWERS
+MLDSA_ANSWERS MLDSA_ARRAYS(2, 1) /* stack: MLDSA_STACK_MU */
 uint32_t mldsa87_mu_begin(const uint8_t *public_key, size_t public_key_len, const uint8_t *context, size_t context_len,
                           uint8_t *state, size_t state_len);
-MLDSA_ANSWERS
+MLDSA_ANSWERS MLDSA_ARRAYS(2, 1) /* stack: MLDSA_STACK_MU */
 uint32_t mldsa87_mu_begin_private(const uint8_t *private_key, size_t private_key_len,
                                   const uint8_t *context, size_t context_len, uint8_t *state, size_t state_len);
-MLDSA_ANSWERS
+MLDSA_ANSWERS MLDSA_ARRAYS(1, 1) /* stack: MLDSA87_STACK_PREPARE_PUBLIC_KEY */
 uint32_t mldsa87_prepare_public_key(const uint8_t *public_key, size_t public_key_len,
                                     uint8_t *prepared_public_key, size_t prepared_public_key_len);
-MLDSA_ANSWERS
+MLDSA_ANSWERS MLDSA_ARRAYS(1, 1) /* stack: MLDSA87_STACK_PREPARE_PRIVATE_KEY */
 uint32_t mldsa87_prepare_private_key(const uint8_t *private_key, size_t private_key_len,
                                      uint8_t *prepared_private_key, size_t prepared_private_key_len);
-MLDSA_ANSWERS
+MLDSA_ANSWERS MLDSA_ARRAYS(4, 1) /* stack: MLDSA87_STACK_SIGN_PREPARED */
 uint32_t mldsa87_sign_prepared(const uint8_t *prepared_private_key, size_t prepared_private_key_len,
                                const uint8_t *message, size_t message_len, const uint8_t *context, size_t context_len,
                                const uint8_t *random, size_t random_len, uint8_t *signature, size_t signature_len);
-MLDSA_ANSWERS
+MLDSA_ANSWERS MLDSA_ARRAYS(4, 0) /* stack: MLDSA87_STACK_VERIFY_PREPARED */
 uint32_t mldsa87_verify_prepared(const uint8_t *prepared_public_key, size_t prepared_public_key_len,
                                  const uint8_t *message, size_t message_len, const uint8_t *context, size_t context_len,
                                  const uint8_t *signature, size_t signature_len);
-MLDSA_ANSWERS
+MLDSA_ANSWERS MLDSA_ARRAYS(5, 1) /* stack: MLDSA87_STACK_SIGN_PREPARED */
 uint32_t mldsa87_hash_sign_prepared(const uint8_t *prepared_private_key, size_t prepared_private_key_len,
                                     const uint8_t *digest, size_t digest_len, const uint8_t *context, size_t context_len,
                                     const uint8_t *oid, size_t oid_len, const uint8_t *random, size_t random_len,
                                     uint8_t *signature, size_t signature_len);
-MLDSA_ANSWERS
+MLDSA_ANSWERS MLDSA_ARRAYS(5, 0) /* stack: MLDSA87_STACK_VERIFY_PREPARED */
 uint32_t mldsa87_hash_verify_prepared(const uint8_t *prepared_public_key, size_t prepared_public_key_len,
                                       const uint8_t *digest, size_t digest_len, const uint8_t *context, size_t context_len,
                                       const uint8_t *oid, size_t oid_len, const uint8_t *signature, size_t signature_len);
-MLDSA_ANSWERS
+MLDSA_ANSWERS MLDSA_ARRAYS(3, 1) /* stack: MLDSA87_STACK_SIGN_PREPARED */
 uint32_t mldsa87_sign_mu_prepared(const uint8_t *prepared_private_key, size_t prepared_private_key_len,
                                   const uint8_t *mu, size_t mu_len, const uint8_t *random, size_t random_len,
                                   uint8_t *signature, size_t signature_len);
-MLDSA_ANSWERS
+MLDSA_ANSWERS MLDSA_ARRAYS(3, 0) /* stack: MLDSA87_STACK_VERIFY_PREPARED */
 uint32_t mldsa87_verify_mu_prepared(const uint8_t *prepared_public_key, size_t prepared_public_key_len,
                                     const uint8_t *mu, size_t mu_len, const uint8_t *signature, size_t signature_len);
 
@@ -443,9 +481,9 @@ uint32_t mldsa87_verify_mu_prepared(const uint8_t *prepared_public_key, size_t p
  * secret beyond its message, and may be copied. Any bytes are safe in it. MLDSA_BROKEN_STATE is the answer where its last byte is
  * 0, as in the zeros that a forgotten mu_begin leaves, or above 136, which no call writes; any other array gives mu of something. */
 #define MLDSA_STACK_MU 3328
-MLDSA_ANSWERS
+MLDSA_ANSWERS MLDSA_ARRAYS(1, 0) MLDSA_ARRAY(read_write, 3, 4)
 uint32_t mldsa_mu_update(const uint8_t *piece, size_t piece_len, uint8_t *state, size_t state_len);
-MLDSA_ANSWERS
+MLDSA_ANSWERS MLDSA_ARRAYS(1, 1)
 uint32_t mldsa_mu_finish(const uint8_t *state, size_t state_len, uint8_t *mu, size_t mu_len);
 
 /* The version of the library. */
@@ -453,8 +491,9 @@ MLDSA_ANSWERS
 uint32_t mldsa_version(void);
 
 /* Whether a digest and the object identifier of its hash function can be signed: MLDSA_DONE, or
- * what hash_sign would answer of them. Takes next to no time, so ask before you draw random bytes. */
-MLDSA_ANSWERS
+ * what hash_sign would answer of them. Takes next to no time, so ask before you draw random bytes.
+ * [MLDSA_OID_EMPTY, MLDSA_OID_NOT_DER, MLDSA_DIGEST_TOO_LONG, MLDSA_DIGEST_LENGTH] */
+MLDSA_ANSWERS MLDSA_ARRAYS(2, 0)
 uint32_t mldsa_check_pre_hash(const uint8_t *digest, size_t digest_len, const uint8_t *oid, size_t oid_len);
 
 /* The text of an answer. */

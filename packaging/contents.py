@@ -13,10 +13,8 @@ from common import TOP, command, text
 
 HERE = pathlib.Path(__file__).resolve().parent
 
-# The systems of the archives: how each is named, its Debian name, the folder of its libraries there, and Rust's name of
-# it.
+# The systems of the archives, by the names that Rust too has for them, and the folder of Debian's libraries for one.
 X86, ARM = "x86_64", "aarch64"
-TRIPLES = {X86: "x86_64-unknown-linux-gnu", ARM: "aarch64-unknown-linux-gnu"}
 MULTIARCH = "x86_64-linux-gnu"
 PAGES = ("CHANGELOG.md", "LICENSE", "README.md", "SECURITY.md")
 
@@ -35,6 +33,9 @@ class Facts:
         # Before 1.0 a minor version may change calls, so both can be installed beside each other.
         self.abi = self.major or f"{self.major}.{self.minor}"
         self.calls = [export.name for export in exports.exports()]
+        self.publisher = dict(re.findall(r"^(\w+): *(.*?) *$", text("packaging/PUBLISHER"), re.M))
+        self.blanks = [name for name, said in self.publisher.items() if not said]
+        self.maintainer = self.publisher["contact"] or self.maintainer
 
     def differing(self, said_by_program):
         """The places that have another version."""
@@ -49,6 +50,10 @@ class Facts:
         said.append(("mlsign --version", re.match(r"mlsign (.*)", said_by_program), self.version))
         return [f"{place} has {found and found[1]}, and not {wanted}" for place, found, wanted in said if not found
                 or found[1] != wanted]
+
+    def links(self):
+        """What a manifest may say of who publishes."""
+        return {field: self.publisher[field] for field in ("homepage", "repository") if self.publisher[field]}
 
     def filled(self, name, **more):
         """A file of this folder with its marks filled in."""
@@ -158,11 +163,11 @@ def archive_x86(facts, library, shared, program, provenance):
     manual_of_library(tree, facts, "share/man/man3")
     of_program(tree, facts, program)
     documents(tree, provenance)
-    tree.take("share/doc/mldsa/sign_file.c", TOP / "c/sign_file.c")
+    examples(tree, "share/doc/mldsa")
     marks = {
         "SYSTEM": "Linux on x86-64, with AVX2 where the processor has it", "LIBRARIES": f"libmldsa.a and {shared.name}",
         "PROGRAM": "    bin/        mlsign, which signs and verifies files\n",
-        "COMPLETIONS": ", completions for bash, zsh and fish",
+        "COMPLETIONS": ", completions for bash, zsh and fish", "TARGETS": "mldsa::shared, mldsa::static",
     }
     tree.put("README", facts.filled("README", **marks))
     tree.take("install", TOP / "scripts/install", program=True)
@@ -178,8 +183,9 @@ def archive_arm(facts, library, provenance):
     for name in [name for name in tree.paths() if "mldsa_x86_64" in name]:
         tree.files.pop(name, None)
     documents(tree, provenance)
-    tree.take("share/doc/mldsa/sign_file.c", TOP / "c/sign_file.c")
-    marks = {"SYSTEM": "Linux on 64-bit ARM", "LIBRARIES": "libmldsa.a", "PROGRAM": "", "COMPLETIONS": ""}
+    examples(tree, "share/doc/mldsa")
+    marks = {"SYSTEM": "Linux on 64-bit ARM", "LIBRARIES": "libmldsa.a", "PROGRAM": "", "COMPLETIONS": "",
+             "TARGETS": "mldsa::static"}
     tree.put("README", facts.filled("README", **marks))
     tree.take("install", TOP / "scripts/install", program=True)
     return tree
@@ -198,6 +204,12 @@ def portable_c(source, provenance):
     return tree
 
 
+def examples(tree, folder):
+    """The example that signs a file, and one for each group of calls."""
+    for file in (TOP / "c/sign_file.c", *sorted((TOP / "c/examples").glob("*.c"))):
+        tree.take(f"{folder}/{file.name}", file)
+
+
 def documents(tree, provenance, folder="share/doc/mldsa"):
     for name in PAGES:
         tree.take(f"{folder}/{name}", TOP / name)
@@ -205,7 +217,7 @@ def documents(tree, provenance, folder="share/doc/mldsa"):
 
 
 def crate(facts, libraries, provenance):
-    """The Rust crate with the library of each target in it: its name with its version, and what it holds."""
+    """The Rust crate with the library of each processor in it: its name with its version, and what it holds."""
     manifest = text("rust/fips204/Cargo.toml")
     package = manifest.partition("[package]")[2]
     name, version = (re.search(rf'^{field} = "(.*)"$', package, re.M)[1] for field in ("name", "version"))
@@ -214,8 +226,11 @@ def crate(facts, libraries, provenance):
         if path:
             tree.take(path.removeprefix("rust/fips204/"), TOP / path)
     for system, library in libraries.items():
-        tree.take(f"lib/{TRIPLES[system]}/libmldsa_c.a", library)
+        tree.take(f"lib/{system}/libmldsa_c.a", library)
     tree.take("LICENSE", TOP / "LICENSE")
+    # Who publishes it, if that is said.
+    links = [f'{field} = "{said}"\n' for field, said in facts.links().items()]
+    tree.put("Cargo.toml", re.sub(r"(?<=^\[package\]\n)", lambda _: "".join(links), manifest, flags=re.M))
     tree.put("PROVENANCE", provenance)
     return f"{name}-{version}", tree
 
@@ -224,7 +239,8 @@ def npm(facts, folder, provenance):
     """The package for JavaScript, as `npm pack` would make it."""
     described = json.loads((folder / "package.json").read_text(encoding="utf-8"))
     tree = pack.Tree()
-    for name in ["package.json", *described["files"]]:
+    tree.put("package.json", json.dumps(described | facts.links(), indent=2, ensure_ascii=False) + "\n")
+    for name in described["files"]:
         tree.take(name, folder / name)
     # Its code begins with the module beside it, and not in the folder in which js/build makes it.
     tree.put("README.md", text("js/README.md").replace('"./out/mldsa.js"', f'"{described["name"]}"'))

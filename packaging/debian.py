@@ -47,6 +47,8 @@ def packages(facts, library, shared, program, provenance):
     version, made = f"{facts.version}-1", {}
     changes = CHANGES.format(version=version, commit=facts.commit, maintainer=facts.maintainer, time=facts.mail_time)
 
+    homepage = {"Homepage": it for it in [facts.publisher["homepage"]] if it}
+
     def package(name, section, first, more, tree, **fields):
         tree.put(f"usr/share/doc/{name}/copyright", copyright_text())
         tree.put(f"usr/share/doc/{name}/changelog.Debian.gz", pack.gzipped(changes.encode()))
@@ -55,7 +57,7 @@ def packages(facts, library, shared, program, provenance):
         tree.put(f"usr/share/doc/{name}/README.md.gz", pack.gzipped((TOP / "README.md").read_bytes()))
         lines = {
             "Package": name, "Source": "mldsa", "Version": version, "Architecture": "amd64",
-            "Maintainer": facts.maintainer,
+            "Maintainer": facts.maintainer, **homepage,
             "Installed-Size": (tree.size() + 1023) // 1024 + 8, **fields, "Section": section, "Priority": "optional",
         }
         control = pack.Tree()
@@ -82,7 +84,7 @@ def packages(facts, library, shared, program, provenance):
     to_develop.link(f"{LIBRARY}/libmldsa.so", shared.name)
     contents.development(to_develop, facts, LIBRARY, header="usr/include", prefix="/usr", up="../../../..")
     contents.manual_of_library(to_develop, facts, "usr/share/man/man3", compressed=True)
-    to_develop.take("usr/share/doc/libmldsa-dev/examples/sign_file.c", TOP / "c/sign_file.c")
+    contents.examples(to_develop, "usr/share/doc/libmldsa-dev/examples")
     more = " .\n This package has the header, the static library, and the manual.\n"
     what = "ML-DSA signatures (FIPS 204), to compile programs"
     package("libmldsa-dev", "libdevel", what, more, to_develop, Depends=f"{name} (= {version})", **same)

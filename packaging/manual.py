@@ -12,11 +12,13 @@ import exports
 from common import SETS, text
 
 # A comment, and the declarations that stand right under it.
-CALL = r"(?:MLDSA_ANSWERS\n)?(?:uint32_t|int|static inline)[^;{]*\([^;{]*[;\n]\n?"
+CALL = r"(?:MLDSA_ANSWERS[^\n]*\n)?(?:uint32_t|int|static inline)[^;{]*\([^;{]*[;\n]\n?"
 COMMENTED = re.compile(rf"/\*((?:(?!\*/).)*)\*/\n((?:#define \w+ \d+\n)?(?:{CALL})+)", re.S)
 HEADER, HEADER_X86 = "mldsa.h", "mldsa_x86_64.h"
 FLAGS = "pkg-config --cflags --libs mldsa"
-LIBRARY = f"## LIBRARY\n\nML-DSA (`libmldsa`; `{FLAGS}`)\n\n"
+# What a program is told to link.
+CMAKE = "`find_package(mldsa)` with the target `mldsa::static`, or `mldsa::shared` where the shared library is there"
+LIBRARY = f"## LIBRARY\n\nML-DSA (`libmldsa`; `{FLAGS}`; CMake: {CMAKE})\n\n"
 
 
 class Maker:
@@ -93,11 +95,12 @@ def summary(said):
 
 
 class Family:
-    """Calls that one text describes: their names, the text, and the answers that the text names in brackets."""
+    """Calls that one text describes: their names, the text, and the answers that the text names in brackets. `stack` is
+    the constant of their stack, where a declaration has none of its own."""
 
-    def __init__(self, names, said, header=HEADER):
+    def __init__(self, names, said, header=HEADER, stack=None):
         found = re.search(r" ?\[([^]]*)\]$", said)
-        self.names, self.header = names, header
+        self.names, self.header, self.stack = names, header, stack
         self.text = said[:found.start()] if found else said
         self.answers = found[1] if found else ""
         # Whether each set has these calls, with its number in the name.
@@ -143,10 +146,10 @@ def families(header):
 def singles(source, header):
     """The calls that stand under comments of their own."""
     for comment, calls in COMMENTED.findall(source):
-        names = re.findall(r"\b(mldsa_\w+)\(", calls)
+        names, stack = re.findall(r"\b(mldsa_\w+)\(", calls), re.match(r"#define (MLDSA_STACK_\w+)", calls)
         if names:
             words = " ".join(" ".join(comment_lines(f"/*{comment}*/")).split())
-            yield Family(names, words.removeprefix("The same for every set. "), header)
+            yield Family(names, words.removeprefix("The same for every set. "), header, stack and stack[1])
 
 
 def statuses(header):
@@ -193,23 +196,57 @@ def calls_page(family, every, source):
     described = listed([(tags, named(family.text))]) if family.of_set else f"{named(family.text)}\n\n"
     sizes = lengths(family, source)
     sized = "## LENGTHS\n\nIn bytes, at the sets 44, 65 and 87:\n\n" + listed(sizes) if sizes else ""
+    sized += stack(family, source)
     others = sorted({other.page for other in every if other is not family} | {"mldsa"})
     return (f"## NAME\n\n{', '.join(names)} - {summary(family.text)}\n\n{LIBRARY}## SYNOPSIS\n\n"
-            f"{synopsis(family, source)}## DESCRIPTION\n\n{described}{sized}{answers(family, source)}"
+            f"{synopsis(family, source)}## DESCRIPTION\n\n{described}{sized}{answers(family, source)}{example(family)}"
             f"## SEE ALSO\n\n{', '.join(f'`{other}`(3)' for other in others)}\n")
+
+
+def defined(header, name):
+    """The number of a constant of the header, or none."""
+    found = re.search(rf"^#define {name} (\d+)", header, re.M)
+    return found and found[1]
+
+
+def stack(family, header):
+    """The section on the stack that a family's calls need, of the constants that stand beside their declarations."""
+    rows: dict[tuple[str, str], list[str]] = {}
+    beside = {name: constant for constant, name in
+              re.findall(r"/\* stack: (\w+) \*/\n\w+ mldsa65_(\w+)\(", header)}
+    for name in [name for name in family.names if family.of_set and name in beside]:
+        constant = beside[name]
+        at_sets = [constant.replace("65", number) for number in SETS] if "65" in constant else [constant]
+        said = ", ".join(f"`{it}`" for it in dict.fromkeys(at_sets))
+        rows.setdefault((said, ", ".join(defined(header, it) for it in dict.fromkeys(at_sets))), []).append(name)
+    if family.stack:
+        rows[f"`{family.stack}`", defined(header, family.stack)] = family.names
+    named_ = [(said, f"{numbers}{': ' + ', '.join(f'`{name}`' for name in names) if len(rows) > 1 else ''}")
+              for (said, numbers), names in rows.items()]
+    return "## STACK\n\nThe bytes of stack that a thread has to have left:\n\n" + listed(named_) if rows else ""
+
+
+def example(family):
+    """The section with the program of c/examples that makes a family's calls, whose first comment names them."""
+    for file in sorted((HERE.parent / "c/examples").glob("*.c")):
+        source = file.read_text(encoding="utf-8")
+        called = source.partition("/* ")[2].partition(":")[0]
+        if set(family.names) & set(called.replace("\n", " ").replace(",", " ").split()):
+            code = "".join(f"    {line}\n" if line else "\n" for line in source.splitlines())
+            return f"## EXAMPLE\n\n{code}\n"
+    return ""
 
 
 def lengths(family, header):
     """The arrays of a family's calls, each with its length at each set, or for all, or `any`."""
-    def number(name):
-        found = re.search(rf"^#define {name} (\d+)", header, re.M)
-        return found and found[1]
-
     found = {}
     for export in exports.exports() if family.header == HEADER else []:
         for array, _ in (export.arrays() or []) if export.name in family.calls("65") else []:
-            sizes = [number(f"MLDSA{at}_{array.upper()}_LEN") for at in SETS]
-            found[f"*{array}*"] = ", ".join(sizes) if all(sizes) else number(f"MLDSA_{array.upper()}_LEN") or "any"
+            sizes = [defined(header, f"MLDSA{at}_{array.upper()}_LEN") for at in SETS]
+            found[f"*{array}*"] = ", ".join(sizes) if all(sizes) else \
+                defined(header, f"MLDSA_{array.upper()}_LEN") or "any"
+            if array == "oid":
+                found["*oid*"] = f"any; {found['*oid*']} for a function that the standard names"
     return list(found.items())
 
 
@@ -241,6 +278,8 @@ def overview(every, header):
     calls = named(" ".join(line.strip() for line in intro).split(" Behind each stand")[0])
 
     pages = sorted(family.page for family in every)
+    table = comment_lines(re.search(r"/\* The stack that each call of a set needs.*?\*/", header, re.S)[0])
+    threads = table[next(place for place, line in enumerate(table) if line.startswith("glibc gives")):]
 
     def constants(pattern):
         return listed((f"`{name}`", value) for name, value in re.findall(rf"^#define ({pattern}) (\d+)", header, re.M))
@@ -252,6 +291,7 @@ def overview(every, header):
         f"## ANSWERS\n\n{listed((f'`{name}` ({value})', words) for name, value, words in statuses(header))}",
         f"## LENGTHS\n\nIn bytes:\n\n{constants(r'MLDSA[0-9]*_[A-Z0-9_]+_LEN')}",
         f"## STACK\n\nThe bytes of stack that a thread has to have left:\n\n{constants(r'MLDSA[0-9]*_STACK_[A-Z_]+')}",
+        f"{prose(threads)}",
         f"## SEE ALSO\n\n{', '.join(f'`{page}`(3)' for page in pages)}, `mlsign`(1)\n",
     ))
 

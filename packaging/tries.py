@@ -13,7 +13,7 @@ import tempfile
 import unittest
 
 import testing
-from common import TOP, missing, recorded_rows
+from common import TOP, command, missing, recorded_rows
 
 HERE = TOP / "packaging/tries"
 ARM_ROOT = "/usr/aarch64-linux-gnu"
@@ -56,9 +56,14 @@ def kit():
 class Room:
     """A folder in which commands run that see only what the system has and what was unpacked."""
 
-    def __init__(self, path, dist, facts, said_version, short):
+    def __init__(self, path, dist, facts, signer, short):
         self.path, self.dist, self.hidden = path, path / "dist", []
-        self.version, self.abi, self.said_version, self.short = facts.version, facts.abi, said_version, short
+        self.version, self.abi, self.short = facts.version, facts.abi, short
+        # Stands for an mlsign that somebody had before.
+        self.mlsign = path / "had-before/mlsign"
+        self.mlsign.parent.mkdir()
+        shutil.copy(signer, self.mlsign)
+        self.said_version = command(self.mlsign, "--version").strip()
         self.has_node, self.manifest = has_node(), (TOP / "rust/fips204/Cargo.toml").read_text(encoding="utf-8")
         self.home = path / "home"
         self.home.mkdir()
@@ -108,12 +113,12 @@ class Room:
             own.mkdir()
             if self.short or not self.fetched(found):
                 # The stand-ins that the tests of the repository use: there is no network in CI.
-                names = [name for name in ("rand_core", "zeroize") if (TOP / f"rust/{name}").is_dir()]
+                names = [name for name in ("rand_core", "signature", "zeroize") if (TOP / f"rust/{name}").is_dir()]
                 for name in names:
                     shutil.copytree(TOP / f"rust/{name}", own / name)
                 places = "".join(f'{name} = {{ path = "{own}/{name}" }}\n' for name in names)
                 (own / "config.toml").write_text(f"[patch.crates-io]\n{places}", encoding="utf-8")
-                print(f"    cargo takes stand-ins for {' and '.join(names)} of the registry")
+                print(f"    cargo takes stand-ins for {', '.join(names)} of the registry")
         return {**found, "CARGO_NET_OFFLINE": "true"}
 
     def fetched(self, toolchain):
@@ -147,6 +152,11 @@ class Room:
         expect(pattern, len(found), 1)
         return found[0]
 
+    def fingerprint(self):
+        """The fingerprint of release.pub, as it would stand elsewhere."""
+        shown = self.run(self.mlsign, "show", self.dist / "release.pub")
+        return re.search(r"(?<![\w+/])[A-Za-z0-9+/]{43}(?![\w+/])", shown)[0]
+
     def unpacked(self, pattern, name):
         """A tar archive of the release, unpacked into a folder of its own."""
         folder = self.folder(name)
@@ -157,6 +167,13 @@ class Room:
 def has_node():
     """Whether there is a node that takes the package."""
     return subprocess.run([TOP / "js/test", "--look"], capture_output=True, check=False).returncode == 0
+
+
+def openssl_version():
+    """The version of the openssl that every user has, as two numbers."""
+    said = subprocess.run(["/usr/bin/env", "-i", "PATH=/usr/bin:/bin", "sh", "-c", "openssl version"], text=True,
+                          capture_output=True, check=False).stdout
+    return tuple(map(int, re.findall(r"\d+", said)[:2]))
 
 
 def lacks(*tools):
@@ -343,21 +360,74 @@ class Tries(unittest.TestCase):
         if not lacks("mandoc"):
             expect("mandoc", room.run("mandoc", "-T", "lint", "-W", "style", *pages), "")
 
+    @wants("sha256sum", "tar")
+    def test_in_check(self, room):
+        """The check that PROVENANCE tells, by a program that was there before; and what it says of changed files."""
+        folder = room.path / "in-check"
+        shutil.copytree(room.dist, folder)
+        page = (folder / "PROVENANCE").read_text(encoding="utf-8")
+        page = page.partition("Check the files")[2].partition("What the")[0]
+        *by_openssl, by_mlsign = [line.strip() for line in page.splitlines() if line.startswith("    ")]
+        fingerprint = room.fingerprint()
+        by_mlsign = by_mlsign.replace("FINGERPRINT", fingerprint)
+        path = f"{room.mlsign.parent}:/usr/bin:/bin"
+        checks = {"mlsign": [by_mlsign]}
+        if openssl_version() >= (3, 5):
+            expect("the fingerprint", room.run("sh", "-c", by_openssl[0], cwd=folder).strip(), f"{fingerprint}=")
+            checks["openssl"] = by_openssl[1:]
+        else:
+            print(f"    not run, for want of OpenSSL 3.5: {'; '.join(by_openssl)}")
+
+        def checked(status, what):
+            for name, lines in checks.items():
+                said = room.run("sh", "-e", "-c", "\n".join(lines), cwd=folder, path=path, status=status)
+                print(f"    {what}, by {name}: {said.strip().splitlines()[-1]}")
+
+        # Whoever took one archive has no other.
+        archive = folder / f"mldsa-{room.version}-x86_64-linux.tar.gz"
+        for file in folder.glob("*.deb"):
+            file.unlink()
+        checked(0, "as it was made")
+        content = archive.read_bytes()
+        archive.write_bytes(content + b"\0")
+        checked(1, "an archive that was changed")
+        # An archive with a program that says yes to all, and sums to it, which nobody can sign.
+        program = folder / f"mldsa-{room.version}-x86_64-linux/bin/mlsign"
+        program.parent.mkdir(parents=True)
+        program.write_text(f"#!/bin/sh\necho valid\necho {fingerprint}\n", encoding="utf-8")
+        room.run("tar", "-czf", archive, program.parents[1].name, cwd=folder)
+        room.run("sh", "-c", "sha256sum $(ls | grep -v SHA256SUMS | grep -v -- '-linux$') > SHA256SUMS", cwd=folder)
+        room.run("sha256sum", "--check", "--quiet", "SHA256SUMS", cwd=folder)
+        checked(1, "an archive and sums that were changed")
+        # Whoever builds anew compares with what was published, and not with the sums of the build.
+        again = (folder / "PROVENANCE").read_text(encoding="utf-8").partition("(cd dist && ")[2].partition(")")[0]
+        room.run("sh", "-c", again.replace("PUBLISHED", str(room.dist)), cwd=room.dist)
+        room.run("sh", "-c", again.replace("PUBLISHED", str(room.dist)), cwd=folder, status=1)
+        # With a key of their own the fingerprint is another.
+        room.run(room.mlsign, "keygen", "-k", "theirs.pem", "-f", "-p", "release.pub", cwd=folder)
+        room.run(room.mlsign, "sign", "-f", "-k", "theirs.pem", "SHA256SUMS", cwd=folder)
+        room.run("sh", "-c", f"! {by_mlsign}", cwd=folder, path=path)
+
     @wants("cc", "pkg-config", "tar")
     def test_in_readme(self, room):
-        """The lines of README under 'Getting it', in the folder of the files, but those that begin with sudo."""
+        """The lines of README under 'Getting it', in the folder of the files, but those that begin with sudo; an mlsign
+        is there, and FINGERPRINT stands for the fingerprint of release.pub."""
         page = (TOP / "README.md").read_text(encoding="utf-8").partition("## Getting it\n")[2].partition("\n## ")[0]
-        lines = [line.strip() for line in page.splitlines() if line.startswith("    ")]
+        lines = [line.strip().replace("FINGERPRINT", room.fingerprint()) for line in page.splitlines()
+                 if line.startswith("    ")]
         no_npm = lacks("npm") or not room.has_node
-        skipped = {"sudo", *(["npm"] if no_npm else []), *missing("cargo")}
+        skipped = {"sudo", *(["npm"] if no_npm else []), *missing("cargo"),
+                    *(["openssl"] if openssl_version() < (3, 5) else [])}
         expect("the lines of README that are not run", [it for it in lines if it.startswith("sudo")], lines[-1:])
         run = [line for line in lines if line.split()[0] not in skipped]
         run += [] if lacks("man") else ["man -w mlsign mldsa65_sign"]
         folder = room.path / "in-readme"
         shutil.copytree(room.dist, folder)
-        said = room.run("sh", "-e", "-c", "\n".join(run), cwd=folder, **room.for_cargo())
-        for wanted in ("\nvalid\n", "\nverified: yes\n", ": OK\n"):
-            if wanted not in said:
+        given = {"path": "/usr/bin:/bin", **room.for_cargo()}
+        given["path"] = f"{room.mlsign.parent}:{given['path']}"
+        said = room.run("sh", "-e", "-c", "\n".join(run), cwd=folder, **given)
+        for wanted in ("^(SHA256SUMS: )?valid$", "^verified: yes$", ": OK$"):
+            if not re.search(wanted, said, re.M):
                 raise Failed(f"the lines of README do not print {wanted!r}:\n{said}")
         if "cargo" not in skipped and "fips204" not in (folder / "Cargo.toml").read_text(encoding="utf-8"):
             raise Failed("cargo add has added nothing")
@@ -437,6 +507,10 @@ class Tries(unittest.TestCase):
             return [name for name in all_paths(root) if not name.startswith("var")]
 
         packages = sorted(room.dist.glob("*.deb"))
+        # Debian's amd64 includes processors that can't run the code.
+        for package in packages:
+            needs = room.run("dpkg-deb", "--field", package, "Depends")
+            expect(f"{package.name} refuses old processors", "-dev" in package.name or "sse4.2-support" in needs, True)
         before = own_paths()
         room.run(*words, "--install", *packages, path=path)
         expect("mlsign --version", room.run(root / "usr/bin/mlsign", "--version").strip(), room.said_version)
@@ -473,11 +547,10 @@ class Tries(unittest.TestCase):
         room.answers("qemu-aarch64", folder / "static")
 
 
-def run(facts, dist, said_version, short):
-    """Runs the tries, and gives the status. `said_version` is what `mlsign --version` prints, which a release has
-    compared already."""
+def run(facts, dist, signer, short):
+    """Runs the tries, and gives the status. `signer` is the mlsign that signed the release."""
     with tempfile.TemporaryDirectory(prefix="mldsa-try-") as path:
-        Tries.room = room = Room(pathlib.Path(path), dist, facts, said_version, short)
+        Tries.room = room = Room(pathlib.Path(path), dist, facts, signer, short)
         hidden = " and ".join(room.hidden)
         what = f"{hidden} hidden" if hidden else "nothing hidden: PATH and HOME alone are fresh"
         print(f"tried in {path}, with {what}", flush=True)

@@ -1,5 +1,6 @@
 """What the scripts share: places of the repository, commands that have to succeed, the crates and their order, recorded
 values."""
+import hashlib
 import pathlib
 import shutil
 import subprocess
@@ -43,6 +44,18 @@ def archives(*processors):
     if done.returncode:
         sys.exit(f"the library for {', '.join(processors)} was not built")
     return [pathlib.Path(line) for line in done.stdout.splitlines()]
+
+
+def note_of(file):
+    """What stands beside a file that scripts/archive made: its sum, and by what and of which commit it was made."""
+    place = file.with_name(f"{file.name}.made")
+    lines = place.read_text(encoding="utf-8").splitlines() if place.is_file() else []
+    return {name: said.strip() for name, _, said in (line.partition(" ") for line in lines)}
+
+
+def sum_of(file):
+    """The SHA-256 of a file in hex."""
+    return hashlib.sha256(file.read_bytes()).hexdigest()
 
 
 def below(*names):

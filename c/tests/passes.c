@@ -19,8 +19,9 @@ static uintptr_t note(const char *name, int level, int count)
     return (uintptr_t)(10 * strlen(name) + (size_t)level);
 }
 
-/* The value of an argument: another one at each place. */
-#define VALUE(type, place) ((type)(uintptr_t)(101 + (place)))
+/* The value of an argument: another one at each place, which the compiler does not know, since it is no array's. */
+static volatile uintptr_t first = 101;
+#define VALUE(type, place) ((type)(first + (place)))
 #define NOTE(place, argument) noted.given[place] = (uintptr_t)(argument);
 
 #define STUB(result, name, parameters, notes, values, size)                                                    \

@@ -1,100 +1,71 @@
-//! Links libmldsa_c.a: that of the folder `MLDSA_C_DIR`, or else what `scripts/archive` of this repository made for the
-//! target, or what `rt lib` made in `crates/mldsa_c`. Where it is not there, the build ends with a sentence that says so.
+//! Links the static library: libmldsa_c.a, or libmldsa.a, in the folder `MLDSA_C_DIR`, or else in the package's `lib`, which has one
+//! for each processor. It looks nowhere else. Where none is, the build ends with a sentence that says so.
 use std::{
     env,
     path::{Path, PathBuf},
 };
 
-const ARCHIVE: &str = "libmldsa_c.a";
+/// The library's names, as `scripts/archive` of the repository makes it and as the archives of a release have it, and how rustc is
+/// told of each.
+const NAMES: [(&str, &str); 2] = [("libmldsa_c.a", "mldsa_c"), ("libmldsa.a", "mldsa")];
 
-/// The folder of the target's library; on x86-64 the newer one of the library with the code of both levels, and of the plain one.
-fn built(top: &Path) -> PathBuf {
-    // A packed crate has the library of each target inside.
-    let target = env::var("TARGET").expect("cargo names the target");
-    let packed = Path::new(env!("CARGO_MANIFEST_DIR"))
-        .join("lib")
-        .join(target);
-    if packed.is_dir() {
-        return packed;
-    }
-    let arch = env::var("CARGO_CFG_TARGET_ARCH").expect("cargo names the target");
-    if arch != "x86_64" {
-        return top.join("out/archive").join(arch);
-    }
-    let (both, plain) = (
-        top.join("out/archive/x86-64"),
-        top.join("crates/mldsa_c/out"),
-    );
-    for folder in [&both, &plain] {
-        println!("cargo:rerun-if-changed={}", folder.join(ARCHIVE).display());
-    }
-    let made = |folder: &Path| {
-        folder
-            .join(ARCHIVE)
-            .metadata()
-            .and_then(|it| it.modified())
-            .ok()
-    };
-    if made(&plain) > made(&both) {
-        plain
-    } else {
-        both
-    }
+/// What cargo says of the target.
+fn target(fact: &str) -> String {
+    env::var(format!("CARGO_CFG_TARGET_{fact}")).unwrap_or_default()
 }
 
-/// The workspace that is built: the nearest folder above the target folder that has a lock file.
-fn workspace() -> Option<PathBuf> {
-    let out = PathBuf::from(env::var_os("OUT_DIR")?);
-    let found = out.ancestors().find(|it| it.join("Cargo.lock").is_file());
-    found.map(Path::to_owned)
+/// The package's folder for the target: that of its processor, for Linux with whichever C library, since the library takes memcpy,
+/// memmove and memset alone of it.
+fn packed() -> Option<PathBuf> {
+    let facts = ["OS", "POINTER_WIDTH", "ENDIAN"].map(target);
+    let arch = target("ARCH");
+    let has_one = ["x86_64", "aarch64"].contains(&&arch[..]) && facts == ["linux", "64", "little"];
+    let package = PathBuf::from(env::var_os("CARGO_MANIFEST_DIR")?);
+    has_one.then(|| package.join("lib").join(arch))
 }
 
-/// The folder of the library, or why there is none.
-fn folder() -> Result<PathBuf, String> {
-    let top = PathBuf::from(env!("CARGO_MANIFEST_DIR")).join("../..");
+/// The library in a folder: its path, and its name for rustc.
+fn library(folder: &Path) -> Option<(PathBuf, &'static str)> {
+    let mut each = NAMES
+        .map(|(file, name)| (folder.join(file), name))
+        .into_iter();
+    each.find(|(path, _)| path.is_file())
+}
+
+/// The library, or why there is none.
+fn found() -> Result<(PathBuf, &'static str), String> {
+    const HOW: &str = "name the folder of libmldsa_c.a by MLDSA_C_DIR";
     let Some(given) = env::var_os("MLDSA_C_DIR").map(PathBuf::from) else {
-        let folder = built(&top);
-        if folder.join(ARCHIVE).is_file() {
-            return Ok(folder);
-        }
-        let script = top.join("scripts/archive");
-        return Err(match script.canonicalize() {
-            Ok(script) => format!(
-                "the static library is not built yet: run {}, or name the folder of {ARCHIVE} by MLDSA_C_DIR",
-                script.display()
-            ),
-            Err(_) => format!(
-                "the static library is not there: name the folder of {ARCHIVE} by MLDSA_C_DIR"
-            ),
-        });
-    };
-    let folder = match workspace() {
-        _ if given.is_absolute() => given,
-        Some(top) => top.join(given),
-        None => {
+        let Some(folder) = packed() else {
+            let (target, names) = (env::var("TARGET").unwrap_or_default(), "x86_64 and aarch64");
             return Err(format!(
-                "MLDSA_C_DIR is {}, and the target folder is in no workspace: give it as an absolute path",
-                given.display()
+                "there is no library for {target}, but for Linux on {names}: {HOW}"
             ));
-        }
+        };
+        let missing = format!(
+            "the static library is not there: scripts/archive of the repository builds it; or {HOW}"
+        );
+        return library(&folder).ok_or(missing);
     };
-    if folder.join(ARCHIVE).is_file() {
-        Ok(folder)
-    } else {
-        Err(format!(
-            "MLDSA_C_DIR names {}, where no {ARCHIVE} is",
-            folder.display()
-        ))
+    let name = given.display();
+    if !given.is_absolute() {
+        return Err(format!(
+            "MLDSA_C_DIR is {name}: give it as an absolute path, as cargo does of one in [env] with `relative = true`"
+        ));
     }
+    library(&given).ok_or(format!(
+        "MLDSA_C_DIR names {name}, where no libmldsa_c.a is"
+    ))
 }
 
 fn main() {
     println!("cargo:rerun-if-env-changed=MLDSA_C_DIR");
-    match folder() {
-        Ok(folder) => {
-            println!("cargo:rerun-if-changed={}", folder.join(ARCHIVE).display());
+    match found() {
+        Ok((path, name)) => {
+            let folder = path.parent().unwrap_or(Path::new("/"));
+            println!("cargo:rerun-if-changed={}", path.display());
             println!("cargo:rustc-link-search=native={}", folder.display());
-            println!("cargo:rustc-link-lib=static=mldsa_c");
+            println!("cargo:rustc-link-lib=static={name}");
         }
         Err(why) => println!("cargo::error={why}"),
     }

@@ -9,24 +9,49 @@
 #![cfg_attr(not(feature = "default-rng"), no_std)]
 #![deny(missing_docs, missing_debug_implementations)]
 
+#[cfg(feature = "alloc")]
+extern crate alloc;
+#[cfg(all(test, not(feature = "default-rng")))]
+extern crate std;
+
+mod error;
 mod library;
 mod pieces;
 pub mod pre_hash;
 mod prepared;
 mod rng;
 mod set;
+#[cfg(feature = "signature")]
+mod signatures;
 pub mod traits;
 mod wiped;
 
+pub use error::Error;
 pub use pieces::MessageHasher;
 pub use rand_core::{CryptoRng, Error as RngError, RngCore};
 pub use rng::FillRng;
+
+/// How many bytes of stack the calls of a [`MessageHasher`] take at most, and those that begin one.
+pub const STACK_MU: usize = 3_328;
 
 /// ML-DSA-44, of security category 2.
 #[cfg(feature = "ml-dsa-44")]
 pub mod ml_dsa_44 {
     crate::set::parameter_set!("ml_dsa_44", set_44, 1312, 2560, 2420);
     crate::prepared::prepared_keys!("ml_dsa_44", set_44, 17760, 18944);
+    crate::set::stack!(
+        KEYGEN: 116_736,
+        SIGN: 138_240,
+        VERIFY: 58_368,
+        PUBLIC_KEY: 133_120,
+        CHECK: 95_232,
+        WHOLE: 117_760,
+        PAIR: 121_856,
+        PREPARE_PUBLIC_KEY: 51_200,
+        VERIFY_PREPARED: 58_368,
+        PREPARE_PRIVATE_KEY: 108_544,
+        SIGN_PREPARED: 135_168,
+    );
 }
 
 /// ML-DSA-65, of security category 3.
@@ -34,6 +59,19 @@ pub mod ml_dsa_44 {
 pub mod ml_dsa_65 {
     crate::set::parameter_set!("ml_dsa_65", set_65, 1952, 4032, 3309);
     crate::prepared::prepared_keys!("ml_dsa_65", set_65, 32736, 34752);
+    crate::set::stack!(
+        KEYGEN: 158_720,
+        SIGN: 179_200,
+        VERIFY: 72_704,
+        PUBLIC_KEY: 185_344,
+        CHECK: 128_000,
+        WHOLE: 161_792,
+        PAIR: 166_912,
+        PREPARE_PUBLIC_KEY: 82_944,
+        VERIFY_PREPARED: 70_656,
+        PREPARE_PRIVATE_KEY: 147_456,
+        SIGN_PREPARED: 176_128,
+    );
 }
 
 /// ML-DSA-87, of security category 5.
@@ -41,4 +79,17 @@ pub mod ml_dsa_65 {
 pub mod ml_dsa_87 {
     crate::set::parameter_set!("ml_dsa_87", set_87, 2592, 4896, 4627);
     crate::prepared::prepared_keys!("ml_dsa_87", set_87, 60000, 62240);
+    crate::set::stack!(
+        KEYGEN: 210_944,
+        SIGN: 245_760,
+        VERIFY: 87_040,
+        PUBLIC_KEY: 262_144,
+        CHECK: 178_176,
+        WHOLE: 223_232,
+        PAIR: 232_448,
+        PREPARE_PUBLIC_KEY: 125_952,
+        VERIFY_PREPARED: 86_016,
+        PREPARE_PRIVATE_KEY: 204_800,
+        SIGN_PREPARED: 240_640,
+    );
 }

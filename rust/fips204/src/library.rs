@@ -6,6 +6,9 @@ pub(crate) const DONE: u32 = 0;
 /// Of a question: no.
 pub(crate) const NO: u32 = 1;
 
+/// The error of each call with a key or a hasher that `zeroize` wiped.
+pub(crate) const WIPED: &str = "the key or the hasher was wiped";
+
 /// The text of a status that is no success.
 pub(crate) fn error(status: u32) -> &'static str {
     match status {
@@ -25,12 +28,13 @@ pub(crate) fn error(status: u32) -> &'static str {
     }
 }
 
-/// The value where the call is done, and else the text of its status.
+/// The value where the call is done, and else the text of its status. Types have every length right but that of a value that was
+/// wiped, whose bytes no call is given.
 pub(crate) fn answer<T>(status: u32, value: T) -> Result<T, &'static str> {
-    if status == DONE {
-        Ok(value)
-    } else {
-        Err(error(status))
+    match status {
+        DONE => Ok(value),
+        2 => Err(WIPED),
+        _ => Err(error(status)),
     }
 }
 

@@ -1,5 +1,6 @@
 //! Messages that come in pieces.
 
+use crate::Error;
 use crate::library;
 use crate::wiped::{Wiped, shows_nothing};
 
@@ -29,13 +30,16 @@ pub struct MessageHasher(Wiped<STATE_LEN>);
 impl MessageHasher {
     /// A hasher whose state a call of the library writes.
     #[allow(dead_code)] // no set may be chosen
-    pub(crate) fn begun(begin: impl FnOnce(&mut [u8]) -> u32) -> Result<Self, &'static str> {
-        let mut state = Wiped([0; STATE_LEN]);
-        let status = begin(&mut state.0);
-        library::answer(status, Self(state))
+    pub(crate) fn begun(begin: impl FnOnce(&mut [u8]) -> u32) -> Result<Self, Error> {
+        let mut state = Wiped::zeros();
+        let status = begin(state.array_mut());
+        Ok(library::answer(status, Self(state))?)
     }
 
-    /// Adds a piece to the end of the message.
+    /// Adds a piece to the end of the message. Takes [`STACK_MU`](crate::STACK_MU) bytes of stack.
+    ///
+    /// # Panics
+    /// The hasher was wiped by `zeroize`.
     ///
     /// ```
     /// # #[cfg(feature = "ml-dsa-65")] {
@@ -52,12 +56,15 @@ impl MessageHasher {
     /// # Ok::<(), &'static str>(())
     /// ```
     pub fn update(&mut self, piece: &[u8]) {
-        // The state was written by the library, which answers no other status for such a one.
-        let status = library::mu_update(piece, &mut self.0.0);
-        debug_assert_eq!(status, library::DONE);
+        // The library wrote the state, and answers no other status for such a one.
+        let status = library::mu_update(piece, self.0.given_mut());
+        library::answer(status, ()).unwrap();
     }
 
-    /// The hash `mu` of the message.
+    /// The hash `mu` of the message. Takes [`STACK_MU`](crate::STACK_MU) bytes of stack.
+    ///
+    /// # Panics
+    /// The hasher was wiped by `zeroize`.
     ///
     /// ```
     /// # #[cfg(feature = "ml-dsa-65")] {
@@ -74,9 +81,8 @@ impl MessageHasher {
     #[must_use]
     pub fn finalize(self) -> [u8; 64] {
         let mut mu = [0; 64];
-        let status = library::mu_finish(&self.0.0, &mut mu);
-        debug_assert_eq!(status, library::DONE);
-        mu
+        let status = library::mu_finish(self.0.given(), &mut mu);
+        library::answer(status, mu).unwrap()
     }
 }
 
@@ -85,8 +91,8 @@ shows_nothing!(MessageHasher);
 #[cfg(feature = "default-rng")]
 impl std::io::Write for MessageHasher {
     fn write(&mut self, piece: &[u8]) -> std::io::Result<usize> {
-        self.update(piece);
-        Ok(piece.len())
+        let status = library::mu_update(piece, self.0.given_mut());
+        library::answer(status, piece.len()).map_err(std::io::Error::other)
     }
 
     fn flush(&mut self) -> std::io::Result<()> {

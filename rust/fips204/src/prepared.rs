@@ -6,23 +6,24 @@
 macro_rules! prepared_keys {
     ($name:literal, $calls:ident, $public_len:literal, $private_len:literal) => {
         /// A public key with its matrix, which verifies in less than half of the time, and is wiped when it is dropped. Its calls
-        /// answer what those of the key answer that it was made of. It has some ten times the bytes of the key.
+        /// answer what those of the key answer that it was made of. It has some ten times the bytes of the key, which are where those
+        /// of a private key are.
         #[derive(Clone)]
-        pub struct PreparedPublicKey(Wiped<{ $public_len }>);
+        pub struct PreparedPublicKey(Held<{ $public_len }>);
 
         /// A private key with its matrix, which signs in less time, and is wiped when it is dropped. Its calls answer what those of
         /// the key answer that it was made of. It has some ten times the bytes of the key.
         #[derive(Clone)]
-        pub struct PreparedPrivateKey(Wiped<{ $private_len }>);
+        pub struct PreparedPrivateKey(Held<{ $private_len }>);
 
         shows_nothing!(PreparedPublicKey);
         shows_nothing!(PreparedPrivateKey);
 
         impl PublicKey {
-            /// Samples the matrix once, for many verifications.
+            /// Samples the matrix once, for many verifications. Takes [`stack::PREPARE_PUBLIC_KEY`] bytes of stack.
             ///
             /// # Panics
-            /// Rejection sampling reached its limit, for which no key is known.
+            /// The key was wiped; or rejection sampling reached its limit, for which no key is known.
             ///
             /// ```
             #[doc = concat!("use fips204::", $name, "::KG;")]
@@ -38,17 +39,17 @@ macro_rules! prepared_keys {
             /// ```
             #[must_use]
             pub fn prepare(&self) -> PreparedPublicKey {
-                let mut prepared = PreparedPublicKey(Wiped([0; $public_len]));
-                let status = calls::prepare_public_key(&self.0.0, &mut prepared.0.0);
+                let mut prepared = PreparedPublicKey(held());
+                let status = calls::prepare_public_key(self.0.given(), prepared.0.array_mut());
                 answer(status, prepared).unwrap()
             }
         }
 
         impl PrivateKey {
-            /// Samples the matrix once, for many signatures.
+            /// Samples the matrix once, for many signatures. Takes [`stack::PREPARE_PRIVATE_KEY`] bytes of stack.
             ///
             /// # Panics
-            /// Rejection sampling reached its limit, for which no key is known.
+            /// The key was wiped; or rejection sampling reached its limit, for which no key is known.
             ///
             /// ```
             #[doc = concat!("use fips204::", $name, "::KG;")]
@@ -64,14 +65,54 @@ macro_rules! prepared_keys {
             /// ```
             #[must_use]
             pub fn prepare(&self) -> PreparedPrivateKey {
-                let mut prepared = PreparedPrivateKey(Wiped([0; $private_len]));
-                let status = calls::prepare_private_key(&self.0.0, &mut prepared.0.0);
+                let mut prepared = PreparedPrivateKey(held());
+                let status = calls::prepare_private_key(self.0.given(), prepared.0.array_mut());
                 answer(status, prepared).unwrap()
             }
         }
 
         impl PreparedPublicKey {
-            /// Whether the key accepts the signature of the hash `mu` of a message (Algorithm 8, with mu given).
+            /// The key that this one was made of. Its bytes come first in a prepared key.
+            ///
+            /// ```
+            #[doc = concat!("use fips204::", $name, "::KG;")]
+            /// use fips204::traits::KeyGen;
+            ///
+            /// let (public, private) = KG::keygen_from_seed(&[7; 32]); // a seed is secret, and random
+            /// assert_eq!(public.prepare().key().as_bytes(), public.as_bytes());
+            /// # let _ = (public, private);
+            /// ```
+            #[must_use]
+            pub fn key(&self) -> PublicKey {
+                let mut key = set::PublicKey(Wiped::zeros());
+                key.0.array_mut().copy_from_slice(&self.0.array()[..PK_LEN]);
+                key
+            }
+
+            /// Begins a message in pieces, as `message_hasher` of the key does. Takes [`STACK_MU`](crate::STACK_MU) bytes of stack.
+            ///
+            /// # Errors
+            /// The context has more than 255 bytes, or the key was wiped.
+            ///
+            /// ```
+            #[doc = concat!("use fips204::", $name, "::KG;")]
+            /// use fips204::traits::KeyGen;
+            ///
+            /// let (public, private) = KG::keygen_from_seed(&[7; 32]); // a seed is secret, and random
+            /// let mut hasher = public.prepare().message_hasher(b"a context")?;
+            /// hasher.update(b"a message");
+            /// let mut same = private.message_hasher(b"a context")?;
+            /// same.update(b"a message");
+            /// assert_eq!(hasher.finalize(), same.finalize());
+            /// # let _ = (public, private);
+            /// # Ok::<(), fips204::Error>(())
+            /// ```
+            pub fn message_hasher(&self, ctx: &[u8]) -> Result<MessageHasher, Error> {
+                MessageHasher::begun(|state| calls::mu_begin(self.0.front(PK_LEN), ctx, state))
+            }
+
+            /// Whether the key accepts the signature of the hash `mu` of a message (Algorithm 8, with mu given). False for a key that
+            /// was wiped. Takes [`stack::VERIFY_PREPARED`] bytes of stack.
             ///
             /// ```
             #[doc = concat!("use fips204::", $name, "::KG;")]
@@ -88,7 +129,7 @@ macro_rules! prepared_keys {
             /// ```
             #[must_use]
             pub fn verify_mu(&self, mu: &[u8; 64], sig: &[u8; SIG_LEN]) -> bool {
-                calls::verify_mu_prepared(&self.0.0, mu, sig) == library::DONE
+                calls::verify_mu_prepared(self.0.given(), mu, sig) == library::DONE
             }
         }
 
@@ -96,7 +137,7 @@ macro_rules! prepared_keys {
             type Signature = [u8; SIG_LEN];
 
             fn verify(&self, message: &[u8], signature: &[u8; SIG_LEN], ctx: &[u8]) -> bool {
-                calls::verify_prepared(&self.0.0, message, ctx, signature) == library::DONE
+                calls::verify_prepared(self.0.given(), message, ctx, signature) == library::DONE
             }
 
             fn hash_verify(
@@ -106,17 +147,79 @@ macro_rules! prepared_keys {
                 ctx: &[u8],
                 hash_oid: &[u8],
             ) -> bool {
-                calls::hash_verify_prepared(&self.0.0, hash, ctx, hash_oid, signature)
+                calls::hash_verify_prepared(self.0.given(), hash, ctx, hash_oid, signature)
                     == library::DONE
             }
         }
 
         impl PreparedPrivateKey {
-            /// Signs the hash `mu` of a message, with 32 bytes of a generator, which is asked once.
+            /// The key that this one was made of. Its bytes come first in a prepared key.
+            ///
+            /// ```
+            #[doc = concat!("use fips204::", $name, "::KG;")]
+            /// use fips204::traits::KeyGen;
+            ///
+            /// let (public, private) = KG::keygen_from_seed(&[7; 32]); // a seed is secret, and random
+            /// assert_eq!(private.prepare().key().as_bytes(), private.as_bytes());
+            /// # let _ = (public, private);
+            /// ```
+            #[must_use]
+            pub fn key(&self) -> PrivateKey {
+                let mut key = set::PrivateKey(held());
+                key.0.array_mut().copy_from_slice(&self.0.array()[..SK_LEN]);
+                key
+            }
+
+            /// Begins a message in pieces, as `message_hasher` of the key does. Takes [`STACK_MU`](crate::STACK_MU) bytes of stack.
             ///
             /// # Errors
-            /// The generator failed; all 814 attempts were rejected, as with a damaged key; or rejection sampling reached its
-            /// limit, for which no key is known.
+            /// The context has more than 255 bytes, or the key was wiped.
+            ///
+            /// ```
+            #[doc = concat!("use fips204::", $name, "::KG;")]
+            /// use fips204::traits::KeyGen;
+            ///
+            /// let (public, private) = KG::keygen_from_seed(&[7; 32]); // a seed is secret, and random
+            /// let mut hasher = private.prepare().message_hasher(b"a context")?;
+            /// hasher.update(b"a message");
+            /// let mut same = public.message_hasher(b"a context")?;
+            /// same.update(b"a message");
+            /// assert_eq!(hasher.finalize(), same.finalize());
+            /// # let _ = (public, private);
+            /// # Ok::<(), fips204::Error>(())
+            /// ```
+            pub fn message_hasher(&self, ctx: &[u8]) -> Result<MessageHasher, Error> {
+                MessageHasher::begun(|state| {
+                    calls::mu_begin_private(self.0.front(SK_LEN), ctx, state)
+                })
+            }
+
+            /// Signs the hash `mu` of a message, with random bytes of the operating system's generator. Takes
+            /// [`stack::SIGN_PREPARED`] bytes of stack.
+            ///
+            /// # Errors
+            /// The generator failed; the key was wiped; all 814 attempts were rejected, as with a damaged key; or rejection
+            /// sampling reached its limit, for which no key is known.
+            ///
+            /// ```
+            #[doc = concat!("let (public, private) = fips204::", $name, "::try_keygen()?;")]
+            /// let prepared = private.prepare();
+            /// let mu = prepared.message_hasher(b"a context")?.finalize(); // of the empty message
+            /// let signature = prepared.try_sign_mu(&mu)?;
+            /// assert!(public.verify_mu(&mu, &signature));
+            /// # Ok::<(), fips204::Error>(())
+            /// ```
+            #[cfg(feature = "default-rng")]
+            pub fn try_sign_mu(&self, mu: &[u8; 64]) -> Result<[u8; SIG_LEN], Error> {
+                self.try_sign_mu_with_rng(&mut crate::rng::SystemRng, mu)
+            }
+
+            /// Signs the hash `mu` of a message, with 32 bytes of a generator, which is asked once. Takes
+            /// [`stack::SIGN_PREPARED`] bytes of stack.
+            ///
+            /// # Errors
+            /// The generator failed; the key was wiped; all 814 attempts were rejected, as with a damaged key; or rejection
+            /// sampling reached its limit, for which no key is known.
             ///
             /// ```
             /// # use fips204::{CryptoRng, RngCore};
@@ -134,16 +237,18 @@ macro_rules! prepared_keys {
                 &self,
                 rng: &mut (impl RngCore + CryptoRng),
                 mu: &[u8; 64],
-            ) -> Result<[u8; SIG_LEN], &'static str> {
-                let random = draw(rng, "ML-DSA.Sign_internal: random number generator failed")?;
-                self.try_sign_mu_with_seed(&random.0, mu)
+            ) -> Result<[u8; SIG_LEN], Error> {
+                let mut random = Wiped::zeros();
+                draw(rng, &mut random, set::MU_REFUSAL)?;
+                self.try_sign_mu_with_seed(random.array(), mu)
             }
 
-            /// Signs the hash `mu` of a message, with these random bytes. 32 zeros give the deterministic variant.
+            /// Signs the hash `mu` of a message, with these random bytes. 32 zeros give the deterministic variant. Takes
+            /// [`stack::SIGN_PREPARED`] bytes of stack.
             ///
             /// # Errors
-            /// All 814 attempts were rejected, as with a damaged key; or rejection sampling reached its limit, for which no key
-            /// is known.
+            /// The key was wiped; all 814 attempts were rejected, as with a damaged key; or rejection sampling reached its
+            /// limit, for which no key is known.
             ///
             /// ```
             #[doc = concat!("use fips204::", $name, "::KG;")]
@@ -159,10 +264,10 @@ macro_rules! prepared_keys {
                 &self,
                 seed: &[u8; 32],
                 mu: &[u8; 64],
-            ) -> Result<[u8; SIG_LEN], &'static str> {
+            ) -> Result<[u8; SIG_LEN], Error> {
                 let mut signature = [0; SIG_LEN];
-                let status = calls::sign_mu_prepared(&self.0.0, mu, seed, &mut signature);
-                answer(status, signature)
+                let status = calls::sign_mu_prepared(self.0.given(), mu, seed, &mut signature);
+                Ok(answer(status, signature)?)
             }
         }
 
@@ -179,8 +284,13 @@ macro_rules! prepared_keys {
                 if ctx.len() > 255 {
                     return Err("ML-DSA.Sign: ctx too long");
                 }
-                let random = draw(rng, "ML-DSA.Sign: random number generator failed")?;
-                self.try_sign_with_seed(&random.0, message, ctx)
+                let mut random = Wiped::zeros();
+                draw(
+                    rng,
+                    &mut random,
+                    "ML-DSA.Sign: random number generator failed",
+                )?;
+                self.try_sign_with_seed(random.array(), message, ctx)
             }
 
             fn try_sign_with_seed(
@@ -190,7 +300,8 @@ macro_rules! prepared_keys {
                 ctx: &[u8],
             ) -> Result<[u8; SIG_LEN], &'static str> {
                 let mut signature = [0; SIG_LEN];
-                let status = calls::sign_prepared(&self.0.0, message, ctx, seed, &mut signature);
+                let status =
+                    calls::sign_prepared(self.0.given(), message, ctx, seed, &mut signature);
                 answer(status, signature)
             }
 
@@ -205,8 +316,13 @@ macro_rules! prepared_keys {
                     return Err("HashML-DSA.Sign: ctx too long");
                 }
                 answer(library::check_pre_hash(hash, hash_oid), ())?;
-                let random = draw(rng, "HashML-DSA.Sign: random number generator failed")?;
-                self.try_hash_sign_with_seed(&random.0, hash, ctx, hash_oid)
+                let mut random = Wiped::zeros();
+                draw(
+                    rng,
+                    &mut random,
+                    "HashML-DSA.Sign: random number generator failed",
+                )?;
+                self.try_hash_sign_with_seed(random.array(), hash, ctx, hash_oid)
             }
 
             fn try_hash_sign_with_seed(
@@ -217,18 +333,18 @@ macro_rules! prepared_keys {
                 hash_oid: &[u8],
             ) -> Result<[u8; SIG_LEN], &'static str> {
                 let mut signature = [0; SIG_LEN];
-                let key = &self.0.0;
+                let key = self.0.given();
                 let status =
                     calls::hash_sign_prepared(key, hash, ctx, hash_oid, seed, &mut signature);
                 answer(status, signature)
             }
 
             /// # Panics
-            /// Rejection sampling reached its limit, for which no key is known.
+            /// The key was wiped; or rejection sampling reached its limit, for which no key is known.
             fn get_public_key(&self) -> PublicKey {
                 // The bytes of the plain key come first.
-                let mut public = set::PublicKey(Wiped([0; PK_LEN]));
-                let status = calls::public_key(&self.0.0[..SK_LEN], &mut public.0.0);
+                let mut public = set::PublicKey(Wiped::zeros());
+                let status = calls::public_key(self.0.front(SK_LEN), public.0.array_mut());
                 answer(status, public).unwrap()
             }
         }

@@ -62,18 +62,41 @@ impl<F> core::fmt::Debug for FillRng<F> {
     }
 }
 
-/// The operating system's generator.
+/// The operating system's generator: the call `getrandom` of Linux, which waits until the system has gathered enough, and reads no
+/// file.
 #[cfg(feature = "default-rng")]
 pub(crate) struct SystemRng;
 
 #[cfg(feature = "default-rng")]
-impl SystemRng {
-    fn filled(out: &mut [u8]) -> bool {
-        use std::io::Read;
-        std::fs::File::open("/dev/urandom")
-            .and_then(|mut device| device.read_exact(out))
-            .is_ok()
+mod system {
+    unsafe extern "C" {
+        /// That of the C library, which is there with std.
+        pub(super) fn getrandom(out: *mut u8, len: usize, flags: u32) -> isize;
     }
+}
+
+#[cfg(feature = "default-rng")]
+impl SystemRng {
+    fn filled(mut out: &mut [u8]) -> bool {
+        while !out.is_empty() {
+            // SAFETY: the pointer is not null, and as many bytes may be written there.
+            let count = unsafe { system::getrandom(out.as_mut_ptr(), out.len(), 0) };
+            match usize::try_from(count) {
+                Ok(count) if count > 0 => out = &mut out[count..],
+                Ok(_) => return false,
+                // A signal came before any byte.
+                Err(_) if interrupted() => {}
+                Err(_) => return false,
+            }
+        }
+        true
+    }
+}
+
+/// Whether the last call failed since a signal came.
+#[cfg(feature = "default-rng")]
+fn interrupted() -> bool {
+    std::io::Error::last_os_error().kind() == std::io::ErrorKind::Interrupted
 }
 
 #[cfg(feature = "default-rng")]

@@ -4,8 +4,8 @@
 use crate::library::{self, answer, calls_of_a_set};
 use crate::pieces::MessageHasher;
 use crate::traits::{CryptoRngCore, SerDes, Signer, Verifier};
-use crate::wiped::{Wiped, shows_nothing};
-use crate::{CryptoRng, RngCore};
+use crate::wiped::{Held, Wiped, held, shows_nothing, wipe};
+use crate::{CryptoRng, Error, RngCore};
 
 /// A parameter set, by the lengths of a public key, a private key and a signature.
 #[derive(Debug)]
@@ -36,13 +36,17 @@ macro_rules! calls_of_module {
     };
 }
 
-/// A private key, which is wiped when it is dropped.
+/// A private key, which is wiped when it is dropped. With the feature `alloc` it is a pointer to its bytes, so that a move leaves no
+/// copy of them.
 #[derive(Clone)]
-pub struct PrivateKey<const PK: usize, const SK: usize, const SIG: usize>(pub(crate) Wiped<SK>);
+pub struct PrivateKey<const PK: usize, const SK: usize, const SIG: usize>(pub(crate) Held<SK>);
 
-/// A public key, which is wiped when it is dropped.
+/// A public key, which is wiped when it is dropped. Two are equal if they have the same bytes.
 #[derive(Clone)]
 pub struct PublicKey<const PK: usize, const SK: usize, const SIG: usize>(pub(crate) Wiped<PK>);
+
+/// The error where a generator fails of which a hash mu is signed.
+pub(crate) const MU_REFUSAL: &str = "ML-DSA.Sign_internal: random number generator failed";
 
 /// A pair of keys of a set.
 type Pair<const PK: usize, const SK: usize, const SIG: usize> =
@@ -51,14 +55,13 @@ type Pair<const PK: usize, const SK: usize, const SIG: usize> =
 shows_nothing!(PrivateKey<PK, SK, SIG>);
 shows_nothing!(PublicKey<PK, SK, SIG>);
 
-/// 32 bytes of a generator.
+/// Draws 32 bytes of a generator into their place.
 pub(crate) fn draw(
     rng: &mut impl CryptoRngCore,
+    bytes: &mut Wiped<32>,
     refusal: &'static str,
-) -> Result<Wiped<32>, &'static str> {
-    let mut bytes = Wiped([0; 32]);
-    rng.try_fill_bytes(&mut bytes.0).map_err(|_| refusal)?;
-    Ok(bytes)
+) -> Result<(), &'static str> {
+    rng.try_fill_bytes(bytes.array_mut()).map_err(|_| refusal)
 }
 
 /// The key pair of a seed.
@@ -68,20 +71,47 @@ pub(crate) fn keygen<const PK: usize, const SK: usize, const SIG: usize>(
 where
     Set<PK, SK, SIG>: Calls,
 {
-    let mut public = PublicKey(Wiped([0; PK]));
-    let mut private = PrivateKey(Wiped([0; SK]));
-    let status = Set::<PK, SK, SIG>::keygen(xi, &mut public.0.0, &mut private.0.0);
+    let mut public = PublicKey(Wiped::zeros());
+    let mut private = PrivateKey(held());
+    let status = Set::<PK, SK, SIG>::keygen(xi, public.0.array_mut(), private.0.array_mut());
     answer(status, (public, private))
+}
+
+/// The answer to a question of the library.
+pub(crate) fn yes(status: u32) -> Result<bool, Error> {
+    match status {
+        library::NO => Ok(false),
+        status => Ok(answer(status, true)?),
+    }
 }
 
 impl<const PK: usize, const SK: usize, const SIG: usize> PrivateKey<PK, SK, SIG>
 where
     Set<PK, SK, SIG>: Calls,
 {
-    /// Whether the key's part t0 belongs to its parts s1 and s2, as in every key of key generation.
+    /// The bytes of the key, where it keeps them.
+    ///
+    /// ```
+    /// # #[cfg(feature = "ml-dsa-65")] {
+    /// use fips204::ml_dsa_65::{KG, PrivateKey};
+    /// use fips204::traits::KeyGen;
+    ///
+    /// let (_, private) = KG::keygen_from_seed(&[7; 32]); // a seed is secret, and random
+    /// let same = PrivateKey::try_from(&private.as_bytes()[..])?;
+    /// assert_eq!(same.as_bytes(), private.as_bytes());
+    /// # }
+    /// # Ok::<(), fips204::Error>(())
+    /// ```
+    #[must_use]
+    pub fn as_bytes(&self) -> &[u8; SK] {
+        self.0.array()
+    }
+
+    /// Whether the key's part t0 belongs to its parts s1 and s2, as in every key of key generation. Takes `stack::WHOLE` bytes of
+    /// stack.
     ///
     /// # Errors
-    /// Rejection sampling reached its limit, for which no key is known.
+    /// The key was wiped; or rejection sampling reached its limit, for which no key is known.
     ///
     /// ```
     /// # #[cfg(feature = "ml-dsa-65")] {
@@ -97,18 +127,15 @@ where
     /// # }
     /// # Ok::<(), &'static str>(())
     /// ```
-    pub fn is_whole(&self) -> Result<bool, &'static str> {
-        match Set::<PK, SK, SIG>::is_whole(&self.0.0) {
-            library::NO => Ok(false),
-            status => answer(status, true),
-        }
+    pub fn is_whole(&self) -> Result<bool, Error> {
+        yes(Set::<PK, SK, SIG>::is_whole(self.0.given()))
     }
 
     /// Whether the key works: whether what it signs verifies under the public key that `get_public_key` returns,
-    /// also after that was stored. So it is for every key of key generation.
+    /// also after that was stored. So it is for every key of key generation. Takes `stack::PAIR` bytes of stack.
     ///
     /// # Errors
-    /// Rejection sampling reached its limit, for which no key is known.
+    /// The key was wiped; or rejection sampling reached its limit, for which no key is known.
     ///
     /// ```
     /// # #[cfg(feature = "ml-dsa-65")] {
@@ -123,17 +150,14 @@ where
     /// # }
     /// # Ok::<(), &'static str>(())
     /// ```
-    pub fn is_pair(&self) -> Result<bool, &'static str> {
-        match Set::<PK, SK, SIG>::is_pair(&self.0.0) {
-            library::NO => Ok(false),
-            status => answer(status, true),
-        }
+    pub fn is_pair(&self) -> Result<bool, Error> {
+        yes(Set::<PK, SK, SIG>::is_pair(self.0.given()))
     }
 
-    /// Begins a message in pieces, which `try_sign_mu_with_rng` then signs.
+    /// Begins a message in pieces, which `try_sign_mu_with_rng` then signs. Takes [`STACK_MU`](crate::STACK_MU) bytes of stack.
     ///
     /// # Errors
-    /// The context has more than 255 bytes.
+    /// The context has more than 255 bytes, or the key was wiped.
     ///
     /// ```
     /// # #[cfg(feature = "ml-dsa-65")] {
@@ -150,15 +174,18 @@ where
     /// # }
     /// # Ok::<(), &'static str>(())
     /// ```
-    pub fn message_hasher(&self, ctx: &[u8]) -> Result<MessageHasher, &'static str> {
-        MessageHasher::begun(|state| Set::<PK, SK, SIG>::mu_begin_private(&self.0.0, ctx, state))
+    pub fn message_hasher(&self, ctx: &[u8]) -> Result<MessageHasher, Error> {
+        MessageHasher::begun(|state| {
+            Set::<PK, SK, SIG>::mu_begin_private(self.0.given(), ctx, state)
+        })
     }
 
-    /// Signs the hash `mu` of a message, with random bytes of the operating system's generator.
+    /// Signs the hash `mu` of a message, with random bytes of the operating system's generator. Takes `stack::SIGN` bytes of
+    /// stack.
     ///
     /// # Errors
-    /// The generator failed; all 814 attempts were rejected, as with a damaged key; or rejection sampling reached its
-    /// limit, for which no key is known.
+    /// The generator failed; the key was wiped; all 814 attempts were rejected, as with a damaged key; or rejection sampling
+    /// reached its limit, for which no key is known.
     ///
     /// ```
     /// # #[cfg(all(feature = "ml-dsa-65", feature = "default-rng"))] {
@@ -174,15 +201,15 @@ where
     /// # Ok::<(), &'static str>(())
     /// ```
     #[cfg(feature = "default-rng")]
-    pub fn try_sign_mu(&self, mu: &[u8; 64]) -> Result<[u8; SIG], &'static str> {
+    pub fn try_sign_mu(&self, mu: &[u8; 64]) -> Result<[u8; SIG], Error> {
         self.try_sign_mu_with_rng(&mut crate::rng::SystemRng, mu)
     }
 
-    /// Signs the hash `mu` of a message, with 32 bytes of a generator, which is asked once.
+    /// Signs the hash `mu` of a message, with 32 bytes of a generator, which is asked once. Takes `stack::SIGN` bytes of stack.
     ///
     /// # Errors
-    /// The generator failed; all 814 attempts were rejected, as with a damaged key; or rejection sampling reached its
-    /// limit, for which no key is known.
+    /// The generator failed; the key was wiped; all 814 attempts were rejected, as with a damaged key; or rejection sampling
+    /// reached its limit, for which no key is known.
     ///
     /// ```
     /// # #[cfg(feature = "ml-dsa-65")] {
@@ -201,16 +228,18 @@ where
         &self,
         rng: &mut (impl RngCore + CryptoRng),
         mu: &[u8; 64],
-    ) -> Result<[u8; SIG], &'static str> {
-        let random = draw(rng, "ML-DSA.Sign_internal: random number generator failed")?;
-        self.try_sign_mu_with_seed(&random.0, mu)
+    ) -> Result<[u8; SIG], Error> {
+        let mut random = Wiped::zeros();
+        draw(rng, &mut random, MU_REFUSAL)?;
+        self.try_sign_mu_with_seed(random.array(), mu)
     }
 
-    /// Signs the hash `mu` of a message, with these random bytes. 32 zeros give the deterministic variant.
+    /// Signs the hash `mu` of a message, with these random bytes. 32 zeros give the deterministic variant. Takes `stack::SIGN`
+    /// bytes of stack.
     ///
     /// # Errors
-    /// All 814 attempts were rejected, as with a damaged key; or rejection sampling reached its limit, for which no key
-    /// is known.
+    /// The key was wiped; all 814 attempts were rejected, as with a damaged key; or rejection sampling reached its limit, for
+    /// which no key is known.
     ///
     /// ```
     /// # #[cfg(feature = "ml-dsa-65")] {
@@ -228,14 +257,14 @@ where
         &self,
         seed: &[u8; 32],
         mu: &[u8; 64],
-    ) -> Result<[u8; SIG], &'static str> {
+    ) -> Result<[u8; SIG], Error> {
         let mut signature = [0; SIG];
-        let status = Set::<PK, SK, SIG>::sign_mu(&self.0.0, mu, seed, &mut signature);
-        answer(status, signature)
+        let status = Set::<PK, SK, SIG>::sign_mu(self.0.given(), mu, seed, &mut signature);
+        Ok(answer(status, signature)?)
     }
 
     /// Signs the hash `mu` of a framed message (Algorithm 7 from line 7 on): with random bytes of the generator, or
-    /// without `hedged` with 32 zeros.
+    /// without `hedged` with 32 zeros. Takes `stack::SIGN` bytes of stack.
     ///
     /// # Errors
     /// Those of `try_sign_mu_with_rng`.
@@ -259,11 +288,47 @@ where
         mu: &[u8; 64],
         hedged: bool,
     ) -> Result<[u8; SIG], &'static str> {
-        let mut random = Wiped([0; 32]);
+        let mut random = Wiped::zeros();
         if hedged {
-            random = draw(rng, "ML-DSA.Sign_internal: random number generator failed")?;
+            draw(rng, &mut random, MU_REFUSAL)?;
         }
-        self.try_sign_mu_with_seed(&random.0, mu)
+        Ok(self.try_sign_mu_with_seed(random.array(), mu)?)
+    }
+}
+
+impl<const PK: usize, const SK: usize, const SIG: usize> PublicKey<PK, SK, SIG> {
+    /// The bytes of the key, where it keeps them.
+    ///
+    /// ```
+    /// # #[cfg(feature = "ml-dsa-65")] {
+    /// use fips204::ml_dsa_65::{KG, PublicKey};
+    /// use fips204::traits::KeyGen;
+    ///
+    /// let (public, _) = KG::keygen_from_seed(&[7; 32]); // a seed is secret, and random
+    /// assert_eq!(PublicKey::try_from(&public.as_bytes()[..])?, public);
+    /// # }
+    /// # Ok::<(), fips204::Error>(())
+    /// ```
+    #[must_use]
+    pub fn as_bytes(&self) -> &[u8; PK] {
+        self.0.array()
+    }
+
+    /// A copy of the bytes of the key, which stays.
+    ///
+    /// ```
+    /// # #[cfg(feature = "ml-dsa-65")] {
+    /// use fips204::ml_dsa_65::KG;
+    /// use fips204::traits::{KeyGen, SerDes};
+    ///
+    /// let (public, _) = KG::keygen_from_seed(&[7; 32]); // a seed is secret, and random
+    /// let stored = public.to_bytes();
+    /// assert_eq!(stored, public.into_bytes());
+    /// # }
+    /// ```
+    #[must_use]
+    pub fn to_bytes(&self) -> [u8; PK] {
+        *self.0.array()
     }
 }
 
@@ -271,10 +336,10 @@ impl<const PK: usize, const SK: usize, const SIG: usize> PublicKey<PK, SK, SIG>
 where
     Set<PK, SK, SIG>: Calls,
 {
-    /// Begins a message in pieces, which `verify_mu` then verifies.
+    /// Begins a message in pieces, which `verify_mu` then verifies. Takes [`STACK_MU`](crate::STACK_MU) bytes of stack.
     ///
     /// # Errors
-    /// The context has more than 255 bytes.
+    /// The context has more than 255 bytes, or the key was wiped.
     ///
     /// ```
     /// # #[cfg(feature = "ml-dsa-65")] {
@@ -290,11 +355,12 @@ where
     /// # }
     /// # Ok::<(), &'static str>(())
     /// ```
-    pub fn message_hasher(&self, ctx: &[u8]) -> Result<MessageHasher, &'static str> {
-        MessageHasher::begun(|state| Set::<PK, SK, SIG>::mu_begin(&self.0.0, ctx, state))
+    pub fn message_hasher(&self, ctx: &[u8]) -> Result<MessageHasher, Error> {
+        MessageHasher::begun(|state| Set::<PK, SK, SIG>::mu_begin(self.0.given(), ctx, state))
     }
 
-    /// Whether the key accepts the signature of the hash `mu` of a message (Algorithm 8, with mu given).
+    /// Whether the key accepts the signature of the hash `mu` of a message (Algorithm 8, with mu given). False for a key that was
+    /// wiped. Takes `stack::VERIFY` bytes of stack.
     ///
     /// ```
     /// # #[cfg(feature = "ml-dsa-65")] {
@@ -312,7 +378,7 @@ where
     /// ```
     #[must_use]
     pub fn verify_mu(&self, mu: &[u8; 64], sig: &[u8; SIG]) -> bool {
-        Set::<PK, SK, SIG>::verify_mu(&self.0.0, mu, sig) == library::DONE
+        Set::<PK, SK, SIG>::verify_mu(self.0.given(), mu, sig) == library::DONE
     }
 }
 
@@ -332,8 +398,13 @@ where
         if ctx.len() > 255 {
             return Err("ML-DSA.Sign: ctx too long");
         }
-        let random = draw(rng, "ML-DSA.Sign: random number generator failed")?;
-        self.try_sign_with_seed(&random.0, message, ctx)
+        let mut random = Wiped::zeros();
+        draw(
+            rng,
+            &mut random,
+            "ML-DSA.Sign: random number generator failed",
+        )?;
+        self.try_sign_with_seed(random.array(), message, ctx)
     }
 
     fn try_sign_with_seed(
@@ -343,7 +414,7 @@ where
         ctx: &[u8],
     ) -> Result<[u8; SIG], &'static str> {
         let mut signature = [0; SIG];
-        let status = Set::<PK, SK, SIG>::sign(&self.0.0, message, ctx, seed, &mut signature);
+        let status = Set::<PK, SK, SIG>::sign(self.0.given(), message, ctx, seed, &mut signature);
         answer(status, signature)
     }
 
@@ -358,8 +429,13 @@ where
             return Err("HashML-DSA.Sign: ctx too long");
         }
         answer(library::check_pre_hash(hash, hash_oid), ())?;
-        let random = draw(rng, "HashML-DSA.Sign: random number generator failed")?;
-        self.try_hash_sign_with_seed(&random.0, hash, ctx, hash_oid)
+        let mut random = Wiped::zeros();
+        draw(
+            rng,
+            &mut random,
+            "HashML-DSA.Sign: random number generator failed",
+        )?;
+        self.try_hash_sign_with_seed(random.array(), hash, ctx, hash_oid)
     }
 
     fn try_hash_sign_with_seed(
@@ -370,16 +446,22 @@ where
         hash_oid: &[u8],
     ) -> Result<[u8; SIG], &'static str> {
         let mut signature = [0; SIG];
-        let status =
-            Set::<PK, SK, SIG>::hash_sign(&self.0.0, hash, ctx, hash_oid, seed, &mut signature);
+        let status = Set::<PK, SK, SIG>::hash_sign(
+            self.0.given(),
+            hash,
+            ctx,
+            hash_oid,
+            seed,
+            &mut signature,
+        );
         answer(status, signature)
     }
 
     /// # Panics
-    /// Rejection sampling reached its limit, for which no key is known.
+    /// The key was wiped; or rejection sampling reached its limit, for which no key is known.
     fn get_public_key(&self) -> PublicKey<PK, SK, SIG> {
-        let mut public = PublicKey(Wiped([0; PK]));
-        let status = Set::<PK, SK, SIG>::public_key(&self.0.0, &mut public.0.0);
+        let mut public = PublicKey(Wiped::zeros());
+        let status = Set::<PK, SK, SIG>::public_key(self.0.given(), public.0.array_mut());
         answer(status, public).unwrap()
     }
 }
@@ -391,11 +473,12 @@ where
     type Signature = [u8; SIG];
 
     fn verify(&self, message: &[u8], signature: &[u8; SIG], ctx: &[u8]) -> bool {
-        Set::<PK, SK, SIG>::verify(&self.0.0, message, ctx, signature) == library::DONE
+        Set::<PK, SK, SIG>::verify(self.0.given(), message, ctx, signature) == library::DONE
     }
 
     fn hash_verify(&self, hash: &[u8], signature: &[u8; SIG], ctx: &[u8], hash_oid: &[u8]) -> bool {
-        Set::<PK, SK, SIG>::hash_verify(&self.0.0, hash, ctx, hash_oid, signature) == library::DONE
+        Set::<PK, SK, SIG>::hash_verify(self.0.given(), hash, ctx, hash_oid, signature)
+            == library::DONE
     }
 }
 
@@ -406,12 +489,14 @@ where
     type ByteArray = [u8; SK];
 
     fn into_bytes(self) -> [u8; SK] {
-        self.0.0
+        *self.0.array()
     }
 
-    fn try_from_bytes(ba: [u8; SK]) -> Result<Self, &'static str> {
-        let key = PrivateKey(Wiped(ba));
-        answer(Set::<PK, SK, SIG>::check_private_key(&key.0.0), key)
+    fn try_from_bytes(mut ba: [u8; SK]) -> Result<Self, &'static str> {
+        let mut key = PrivateKey(held());
+        key.0.array_mut().copy_from_slice(&ba);
+        wipe(&mut ba);
+        answer(Set::<PK, SK, SIG>::check_private_key(key.0.given()), key)
     }
 }
 
@@ -419,11 +504,63 @@ impl<const PK: usize, const SK: usize, const SIG: usize> SerDes for PublicKey<PK
     type ByteArray = [u8; PK];
 
     fn into_bytes(self) -> [u8; PK] {
-        self.0.0
+        *self.0.array()
     }
 
     fn try_from_bytes(ba: [u8; PK]) -> Result<Self, &'static str> {
-        Ok(PublicKey(Wiped(ba)))
+        let mut key = PublicKey(Wiped::zeros());
+        key.0.array_mut().copy_from_slice(&ba);
+        Ok(key)
+    }
+}
+
+/// Fails with an array of another length, and with one that is no private key, as `try_from_bytes` does. The bytes are copied once,
+/// to where the key keeps them.
+impl<const PK: usize, const SK: usize, const SIG: usize> TryFrom<&[u8]> for PrivateKey<PK, SK, SIG>
+where
+    Set<PK, SK, SIG>: Calls,
+{
+    type Error = Error;
+
+    fn try_from(bytes: &[u8]) -> Result<Self, Error> {
+        let bytes: &[u8; SK] = bytes.try_into().map_err(|_| library::error(2))?;
+        let mut key = PrivateKey(held());
+        key.0.array_mut().copy_from_slice(bytes);
+        let status = Set::<PK, SK, SIG>::check_private_key(key.0.given());
+        Ok(answer(status, key)?)
+    }
+}
+
+/// Fails with an array of another length alone.
+impl<const PK: usize, const SK: usize, const SIG: usize> TryFrom<&[u8]> for PublicKey<PK, SK, SIG> {
+    type Error = Error;
+
+    fn try_from(bytes: &[u8]) -> Result<Self, Error> {
+        let bytes: &[u8; PK] = bytes.try_into().map_err(|_| library::error(2))?;
+        Ok(PublicKey::try_from_bytes(*bytes)?)
+    }
+}
+
+/// The bytes of the key.
+impl<const PK: usize, const SK: usize, const SIG: usize> AsRef<[u8]> for PublicKey<PK, SK, SIG> {
+    fn as_ref(&self) -> &[u8] {
+        self.0.array()
+    }
+}
+
+impl<const PK: usize, const SK: usize, const SIG: usize> PartialEq for PublicKey<PK, SK, SIG> {
+    fn eq(&self, other: &Self) -> bool {
+        self.0.given() == other.0.given()
+    }
+}
+
+impl<const PK: usize, const SK: usize, const SIG: usize> Eq for PublicKey<PK, SK, SIG> {}
+
+impl<const PK: usize, const SK: usize, const SIG: usize> core::hash::Hash
+    for PublicKey<PK, SK, SIG>
+{
+    fn hash<H: core::hash::Hasher>(&self, state: &mut H) {
+        self.0.given().hash(state);
     }
 }
 
@@ -432,10 +569,11 @@ impl<const PK: usize, const SK: usize, const SIG: usize> SerDes for PublicKey<PK
 macro_rules! parameter_set {
     ($name:literal, $calls:ident, $pk_len:literal, $sk_len:literal, $sig_len:literal) => {
         use crate::library::{self, $calls as calls, answer, calls_of_a_set};
+        use crate::pieces::MessageHasher;
         use crate::set::{self, calls_of_module, draw};
         use crate::traits::{KeyGen, Signer, Verifier};
-        use crate::wiped::{Wiped, shows_nothing};
-        use crate::{CryptoRng, RngCore};
+        use crate::wiped::{Held, Wiped, held, shows_nothing};
+        use crate::{CryptoRng, Error, RngCore};
 
         /// The number of bytes of a private key.
         pub const SK_LEN: usize = $sk_len;
@@ -450,16 +588,23 @@ macro_rules! parameter_set {
         /// A public key, which is wiped when it is dropped.
         pub type PublicKey = set::PublicKey<PK_LEN, SK_LEN, SIG_LEN>;
 
+        /// A signature, for the traits of `signature`; all other calls take and return its array.
+        #[cfg(feature = "signature")]
+        pub type Signature = crate::signatures::Signature<SIG_LEN>;
+
         calls_of_a_set!(calls_of_module!($calls));
 
         /// Key generation.
         #[derive(Debug)]
         pub struct KG();
 
-        /// Makes a key pair from 32 bytes of the operating system's generator.
+        /// Makes a key pair from 32 bytes of the operating system's generator. Takes [`stack::KEYGEN`] bytes of stack.
         ///
         /// # Errors
         /// The generator failed.
+        ///
+        /// # Panics
+        /// Rejection sampling reached its limit, for which no seed is known.
         ///
         /// ```
         #[doc = concat!("let (public, private) = fips204::", $name, "::try_keygen()?;")]
@@ -471,10 +616,13 @@ macro_rules! parameter_set {
             KG::try_keygen()
         }
 
-        /// Makes a key pair from 32 bytes of a generator, which is asked once.
+        /// Makes a key pair from 32 bytes of a generator, which is asked once. Takes [`stack::KEYGEN`] bytes of stack.
         ///
         /// # Errors
         /// The generator failed.
+        ///
+        /// # Panics
+        /// Rejection sampling reached its limit, for which no seed is known.
         ///
         /// ```
         /// # fn example(your_generator: &mut (impl fips204::RngCore + fips204::CryptoRng)) -> Result<(), &'static str> {
@@ -496,8 +644,9 @@ macro_rules! parameter_set {
             fn try_keygen_with_rng(
                 rng: &mut (impl RngCore + CryptoRng),
             ) -> Result<(PublicKey, PrivateKey), &'static str> {
-                let xi = draw(rng, "KeyGen: Random number generator failed")?;
-                Ok(KG::keygen_from_seed(&xi.0))
+                let mut xi = Wiped::zeros();
+                draw(rng, &mut xi, "KeyGen: Random number generator failed")?;
+                Ok(KG::keygen_from_seed(xi.array()))
             }
 
             /// # Panics
@@ -509,5 +658,21 @@ macro_rules! parameter_set {
     };
 }
 
+/// The stack that the calls of a set take, as a module of its own.
 #[cfg(any(feature = "ml-dsa-44", feature = "ml-dsa-65", feature = "ml-dsa-87"))]
-pub(crate) use {calls_of_module, parameter_set};
+macro_rules! stack {
+    ($($call:ident: $bytes:literal,)*) => {
+        /// How many bytes of stack the library's calls take at most, on x86-64 and on 64-bit ARM, as `mldsa.h` says for C. Give a
+        /// thread this, and what your own functions take; and 64 KiB for those of this crate, of which a program that is compiled
+        /// with `--release` needs a part.
+        pub mod stack {
+            $(
+                #[doc = concat!("The figure that `mldsa.h` calls `_STACK_", stringify!($call), "`, in bytes.")]
+                pub const $call: usize = $bytes;
+            )*
+        }
+    };
+}
+
+#[cfg(any(feature = "ml-dsa-44", feature = "ml-dsa-65", feature = "ml-dsa-87"))]
+pub(crate) use {calls_of_module, parameter_set, stack};

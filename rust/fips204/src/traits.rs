@@ -1,4 +1,8 @@
 //! The traits of keys and of key generation.
+//!
+//! A call with a key that `zeroize` wiped fails with `the key or the hasher was wiped`, and verifies nothing. What a call takes of
+//! the stack is in the module `stack` of each set, as `ml_dsa_65::stack`; with a prepared key `SIGN` and `VERIFY` are `SIGN_PREPARED`
+//! and `VERIFY_PREPARED`. Keys are `Send` and `Sync`: any number of threads may use one at the same time.
 
 #[allow(unused_imports)] // no set may be chosen
 pub(crate) use crate::rng::CryptoRngCore;
@@ -25,10 +29,13 @@ pub trait KeyGen {
     /// The private key of a pair.
     type PrivateKey;
 
-    /// Makes a key pair from 32 bytes of the operating system's generator.
+    /// Makes a key pair from 32 bytes of the operating system's generator. Takes `stack::KEYGEN` bytes of stack.
     ///
     /// # Errors
     /// The generator failed.
+    ///
+    /// # Panics
+    /// Rejection sampling reached its limit, for which no seed is known.
     ///
     /// ```
     /// # #[cfg(all(feature = "ml-dsa-65", feature = "default-rng"))] {
@@ -44,10 +51,13 @@ pub trait KeyGen {
         Self::try_keygen_with_rng(&mut SystemRng)
     }
 
-    /// Makes a key pair from 32 bytes of a generator, which is asked once.
+    /// Makes a key pair from 32 bytes of a generator, which is asked once. Takes `stack::KEYGEN` bytes of stack.
     ///
     /// # Errors
     /// The generator failed.
+    ///
+    /// # Panics
+    /// Rejection sampling reached its limit, for which no seed is known.
     ///
     /// ```
     /// # #[cfg(feature = "ml-dsa-65")] {
@@ -66,7 +76,10 @@ pub trait KeyGen {
         rng: &mut (impl RngCore + CryptoRng),
     ) -> Result<(Self::PublicKey, Self::PrivateKey), &'static str>;
 
-    /// Makes the key pair of a seed (Algorithm 6). Whoever has the seed has the private key.
+    /// Makes the key pair of a seed (Algorithm 6). Whoever has the seed has the private key. Takes `stack::KEYGEN` bytes of stack.
+    ///
+    /// # Panics
+    /// Rejection sampling reached its limit, for which no seed is known.
     ///
     /// ```
     /// # #[cfg(feature = "ml-dsa-65")] {
@@ -93,7 +106,7 @@ pub trait Signer {
     /// The public key that belongs to the private one.
     type PublicKey;
 
-    /// Signs a message under a context, with random bytes of the operating system's generator.
+    /// Signs a message under a context, with random bytes of the operating system's generator. Takes `stack::SIGN` bytes of stack.
     ///
     /// # Errors
     /// As `try_sign_with_rng`.
@@ -114,7 +127,7 @@ pub trait Signer {
         self.try_sign_with_rng(&mut SystemRng, message, ctx)
     }
 
-    /// Signs a message under a context, with 32 bytes of a generator, which is asked once.
+    /// Signs a message under a context, with 32 bytes of a generator, which is asked once. Takes `stack::SIGN` bytes of stack.
     ///
     /// # Errors
     /// In this order: the context has more than 255 bytes (the generator is then not asked); the generator failed; all 814
@@ -140,7 +153,8 @@ pub trait Signer {
         ctx: &[u8],
     ) -> Result<Self::Signature, &'static str>;
 
-    /// Signs a message under a context, with these random bytes. 32 zeros give the deterministic variant.
+    /// Signs a message under a context, with these random bytes. 32 zeros give the deterministic variant. Takes `stack::SIGN` bytes
+    /// of stack.
     ///
     /// # Errors
     /// Those of `try_sign_with_rng`, without a generator's.
@@ -169,7 +183,7 @@ pub trait Signer {
         self.try_sign_with_rng(&mut fixed(seed), message, ctx)
     }
 
-    /// Signs a digest under a context, with random bytes of the operating system's generator.
+    /// Signs a digest under a context, with random bytes of the operating system's generator. Takes `stack::SIGN` bytes of stack.
     ///
     /// # Errors
     /// As `try_hash_sign_with_rng`.
@@ -198,7 +212,7 @@ pub trait Signer {
 
     /// Signs a digest under a context, with 32 bytes of a generator, which is asked once. `hash_oid` is the object identifier,
     /// in DER, of the function that made the digest: one of [`pre_hash`](crate::pre_hash), whose digests have one length, or
-    /// another one, with a digest of at most 1024 bytes.
+    /// another one, with a digest of at most 1024 bytes. Takes `stack::SIGN` bytes of stack.
     ///
     /// # Errors
     /// In this order: the context has more than 255 bytes, the identifier is empty or not in DER, the digest has more than
@@ -227,7 +241,7 @@ pub trait Signer {
         hash_oid: &[u8],
     ) -> Result<Self::Signature, &'static str>;
 
-    /// Signs a digest under a context, with these random bytes.
+    /// Signs a digest under a context, with these random bytes. Takes `stack::SIGN` bytes of stack.
     ///
     /// # Errors
     /// Those of `try_hash_sign_with_rng`, without a generator's.
@@ -257,7 +271,10 @@ pub trait Signer {
         self.try_hash_sign_with_rng(&mut fixed(seed), hash, ctx, hash_oid)
     }
 
-    /// The public key that belongs to the private one.
+    /// The public key that belongs to the private one. Takes `stack::PUBLIC_KEY` bytes of stack.
+    ///
+    /// # Panics
+    /// The key was wiped; or rejection sampling reached its limit, for which no key is known.
     ///
     /// ```
     /// # #[cfg(feature = "ml-dsa-65")] {
@@ -278,7 +295,8 @@ pub trait Verifier {
     /// A signature.
     type Signature;
 
-    /// Whether the key accepts the signature of a message under a context. False for a context of more than 255 bytes.
+    /// Whether the key accepts the signature of a message under a context. False for a context of more than 255 bytes. Takes
+    /// `stack::VERIFY` bytes of stack.
     ///
     /// ```
     /// # #[cfg(feature = "ml-dsa-65")] {
@@ -296,7 +314,7 @@ pub trait Verifier {
     fn verify(&self, message: &[u8], signature: &Self::Signature, ctx: &[u8]) -> bool;
 
     /// Whether the key accepts the signature of a digest under a context. False where signing would refuse context, identifier
-    /// or digest.
+    /// or digest. Takes `stack::VERIFY` bytes of stack.
     ///
     /// ```
     /// # #[cfg(feature = "ml-dsa-65")] {
@@ -326,7 +344,7 @@ pub trait SerDes {
     /// The array of a key.
     type ByteArray;
 
-    /// The bytes of the key.
+    /// The bytes of the key. Takes no stack but the array's.
     ///
     /// ```
     /// # #[cfg(feature = "ml-dsa-65")] {
@@ -341,7 +359,7 @@ pub trait SerDes {
     /// ```
     fn into_bytes(self) -> Self::ByteArray;
 
-    /// The key that has these bytes.
+    /// The key that has these bytes. Takes `stack::CHECK` bytes of stack for a private key.
     ///
     /// # Errors
     /// No private key has them. (Every array of the right length is a public key.)

@@ -1,26 +1,125 @@
-//! Bytes that are overwritten when they are dropped.
+//! Bytes that are overwritten when they are dropped, and that no call takes once they were.
 #![allow(dead_code)] // no set may be chosen
 
+use core::borrow::BorrowMut;
 use core::sync::atomic::{Ordering, compiler_fence};
 
+/// Where the bytes of a private key lie: with the feature `alloc` in a place of their own, so that they are not copied when the key
+/// is moved.
+#[cfg(feature = "alloc")]
+type Place<const N: usize> = alloc::boxed::Box<[u8; N]>;
+#[cfg(not(feature = "alloc"))]
+type Place<const N: usize> = [u8; N];
+
+/// A place of zeros. None is on the stack where the place is not.
+#[cfg(feature = "alloc")]
+fn place<const N: usize>() -> Place<N> {
+    match alloc::vec![0; N].into_boxed_slice().try_into() {
+        Ok(place) => place,
+        Err(_) => unreachable!("it has N bytes"),
+    }
+}
+#[cfg(not(feature = "alloc"))]
+fn place<const N: usize>() -> Place<N> {
+    [0; N]
+}
+
+/// Overwrites bytes with zeros, in a way that a compiler keeps.
+pub(crate) fn wipe(bytes: &mut [u8]) {
+    for byte in bytes {
+        // SAFETY: the reference may be written.
+        unsafe { core::ptr::write_volatile(byte, 0) }
+    }
+    compiler_fence(Ordering::SeqCst);
+}
+
 /// An array that is overwritten with zeros when it is dropped.
-#[derive(Clone)]
-pub(crate) struct Wiped<const N: usize>(pub(crate) [u8; N]);
+pub(crate) struct Wiped<const N: usize, P: BorrowMut<[u8; N]> = [u8; N]> {
+    place: P,
+    is_wiped: bool,
+}
+
+/// A `Wiped` that leaves no copy where it was when it is moved, with the feature `alloc`.
+pub(crate) type Held<const N: usize> = Wiped<N, Place<N>>;
 
 impl<const N: usize> Wiped<N> {
-    /// Overwrites the array with zeros.
-    pub(crate) fn wipe(&mut self) {
-        for byte in &mut self.0 {
-            // SAFETY: the reference may be written.
-            unsafe { core::ptr::write_volatile(byte, 0) }
+    /// An array of zeros.
+    pub(crate) const fn zeros() -> Self {
+        Wiped {
+            place: [0; N],
+            is_wiped: false,
         }
-        compiler_fence(Ordering::SeqCst);
     }
 }
 
-impl<const N: usize> Drop for Wiped<N> {
+/// An array of zeros, in a place of its own.
+pub(crate) fn held<const N: usize>() -> Held<N> {
+    Wiped {
+        place: place(),
+        is_wiped: false,
+    }
+}
+
+impl<const N: usize, P: BorrowMut<[u8; N]>> Wiped<N, P> {
+    /// The array.
+    pub(crate) fn array(&self) -> &[u8; N] {
+        self.place.borrow()
+    }
+
+    /// The array, to be written.
+    pub(crate) fn array_mut(&mut self) -> &mut [u8; N] {
+        self.place.borrow_mut()
+    }
+
+    /// What a call of the library is given to read: no bytes once they were wiped, which each call refuses.
+    pub(crate) fn given(&self) -> &[u8] {
+        if self.is_wiped { &[] } else { self.array() }
+    }
+
+    /// What a call of the library is given to read and write.
+    pub(crate) fn given_mut(&mut self) -> &mut [u8] {
+        if self.is_wiped {
+            &mut []
+        } else {
+            self.array_mut()
+        }
+    }
+
+    /// The first `count` of the bytes that a call is given.
+    pub(crate) fn front(&self, count: usize) -> &[u8] {
+        self.given().get(..count).unwrap_or(&[])
+    }
+
+    /// Overwrites the array with zeros.
+    pub(crate) fn wipe(&mut self) {
+        wipe(self.array_mut());
+        self.is_wiped = true;
+    }
+
+    /// Writes a copy over another one of the same kind, byte by byte from place to place.
+    fn copied_to(&self, mut copy: Self) -> Self {
+        copy.array_mut().copy_from_slice(self.array());
+        copy.is_wiped = self.is_wiped;
+        copy
+    }
+}
+
+impl<const N: usize, P: BorrowMut<[u8; N]>> Drop for Wiped<N, P> {
     fn drop(&mut self) {
         self.wipe();
+    }
+}
+
+#[cfg(feature = "alloc")]
+impl<const N: usize> Clone for Held<N> {
+    fn clone(&self) -> Self {
+        self.copied_to(held())
+    }
+}
+
+impl<const N: usize> Clone for Wiped<N> {
+    fn clone(&self) -> Self {
+        self.copied_to(Self::zeros())
     }
 }
 
@@ -34,6 +133,7 @@ macro_rules! shows_nothing {
             }
         }
 
+        /// Overwrites the bytes with zeros, which stand for no value of this type: from then on each call refuses it.
         #[cfg(feature = "zeroize")]
         impl $(<$(const $length: usize),+>)? zeroize::Zeroize for $name $(<$($length),+>)? {
             fn zeroize(&mut self) {
@@ -49,19 +149,45 @@ pub(crate) use shows_nothing;
 
 #[cfg(test)]
 mod tests {
-    use super::Wiped;
+    use super::{Wiped, held};
     use core::mem::ManuallyDrop;
 
     /// Where the array was there are zeros once it is dropped.
     #[test]
     fn dropping_overwrites() {
-        let mut place = ManuallyDrop::new(Wiped([7u8; 100]));
-        let bytes = place.0.as_ptr();
+        let mut place = ManuallyDrop::new(Wiped::<100>::zeros());
+        place.array_mut().fill(7);
+        let bytes = place.array().as_ptr();
         // SAFETY: the value is dropped once, and its place is still there to be read.
         let left = unsafe {
             ManuallyDrop::drop(&mut place);
             core::slice::from_raw_parts(bytes, 100)
         };
         assert!(left.iter().all(|byte| *byte == 0));
+    }
+
+    /// No call is given what was wiped, nor a copy of it.
+    #[test]
+    fn wiped_is_given_to_no_call() {
+        let mut value = held::<5>();
+        value.array_mut().fill(7);
+        assert_eq!((value.given(), value.front(2)), (&[7; 5][..], &[7; 2][..]));
+        value.wipe();
+        assert_eq!(value.array(), &[0; 5]);
+        let mut copy = value.clone();
+        for it in [&mut value, &mut copy] {
+            assert_eq!((it.given(), it.front(2)), (&[][..], &[][..]));
+            assert!(it.given_mut().is_empty());
+        }
+    }
+
+    /// A value that is moved has its bytes where they were.
+    #[cfg(feature = "alloc")]
+    #[test]
+    fn moving_copies_nothing() {
+        let value = held::<5>();
+        let place = value.array().as_ptr();
+        let moved = std::boxed::Box::new(Some(value));
+        assert_eq!(moved.map(|it| it.array().as_ptr()), Some(place));
     }
 }

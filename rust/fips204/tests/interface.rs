@@ -124,15 +124,15 @@ macro_rules! interface {
             let mut asked_once = Counted::new(Some(9));
             let mu = private.message_hasher(b"c").unwrap().finalize();
             assert_eq!(
-                private.try_sign_mu_with_rng(&mut asked_once, &mu),
-                private.try_sign_with_seed(&[9; 32], b"", b"c")
+                private.try_sign_mu_with_rng(&mut asked_once, &mu).unwrap(),
+                private.try_sign_with_seed(&[9; 32], b"", b"c").unwrap()
             );
             assert_eq!(asked_once.asked, [32]);
             for begun in [
                 private.message_hasher(&[0; 256]),
                 public.message_hasher(&[0; 256]),
             ] {
-                assert_eq!(begun.err(), Some("ML-DSA.Sign: ctx too long"));
+                assert_eq!(begun.unwrap_err().as_str(), "ML-DSA.Sign: ctx too long");
             }
 
             // A generator that fails has its own error at each call.
@@ -148,7 +148,11 @@ macro_rules! interface {
                     Some("HashML-DSA.Sign: random number generator failed")
                 ]
             );
-            assert_eq!(failing.asked, [32, 32, 32]);
+            assert_eq!(
+                private.try_sign_mu_with_rng(&mut failing, &mu),
+                Err("ML-DSA.Sign_internal: random number generator failed".into())
+            );
+            assert_eq!(failing.asked, [32, 32, 32, 32]);
 
             // What is refused beforehand does not ask.
             let mut unasked = Counted::new(None);
@@ -244,8 +248,7 @@ macro_rules! interface {
                 }
                 assert_eq!(is_wiped(private.clone()).into_bytes(), [0; $set::SK_LEN]);
                 assert_eq!(is_wiped(public.clone()).into_bytes(), [0; $set::PK_LEN]);
-                let mu = hasher.clone().finalize();
-                assert_ne!(is_wiped(hasher).finalize(), mu);
+                is_wiped(hasher);
                 is_wiped(public.prepare());
                 is_wiped(private.prepare());
             }
@@ -265,6 +268,13 @@ macro_rules! interface {
                     .try_hash_sign(&digest, b"", &pre_hash::SHAKE_128)
                     .unwrap();
                 assert!(public.hash_verify(&digest, &signature, b"", &pre_hash::SHAKE_128));
+                let mu = [6; 64];
+                let (first, second) = (
+                    private.try_sign_mu(&mu).unwrap(),
+                    private.prepare().try_sign_mu(&mu).unwrap(),
+                );
+                assert_ne!(first, second);
+                assert!(public.verify_mu(&mu, &first) && public.verify_mu(&mu, &second));
             }
 
             #[cfg(feature = "acvp-internal")]

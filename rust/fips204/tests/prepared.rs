@@ -3,8 +3,9 @@
 macro_rules! tests_of_a_set {
     ($name:ident, $set:ident) => {
         mod $name {
+            use fips204::FillRng;
             use fips204::pre_hash::SHA2_256;
-            use fips204::traits::{KeyGen, SerDes, Signer, Verifier};
+            use fips204::traits::{KeyGen, Signer, Verifier};
             use fips204::$set::{KG, PreparedPrivateKey, PreparedPublicKey, SIG_LEN};
 
             /// Signatures and verdicts are those of the plain keys: of a message, a digest and a hash mu.
@@ -48,7 +49,32 @@ macro_rules! tests_of_a_set {
                 );
                 assert!(checks.verify_mu(&mu, &signature));
                 assert!(!checks.verify_mu(&[7; 64], &signature));
-                assert_eq!(signs.get_public_key().into_bytes(), public.into_bytes());
+                assert_eq!(signs.get_public_key(), public);
+                let mut fixed = FillRng(|out: &mut [u8]| {
+                    out.fill(9);
+                    true
+                });
+                let drawn = signs.try_sign_mu_with_rng(&mut fixed, &mu).unwrap();
+                assert_eq!(drawn, signature);
+                assert_eq!(checks.key(), public);
+                assert_eq!(signs.key().as_bytes(), private.as_bytes());
+            }
+
+            /// Pieces of a message have the hash that the plain keys give them.
+            #[test]
+            fn hash_as_the_plain_keys() {
+                let (public, private) = KG::keygen_from_seed(&[3; 32]);
+                let mut hashers = [
+                    public.message_hasher(b"c").unwrap(),
+                    private.message_hasher(b"c").unwrap(),
+                    public.prepare().message_hasher(b"c").unwrap(),
+                    private.prepare().message_hasher(b"c").unwrap(),
+                ];
+                hashers.iter_mut().for_each(|it| it.update(b"a message"));
+                let [first, others @ ..] = hashers.map(|it| it.finalize());
+                assert_eq!(others, [first; 3]);
+                assert!(public.prepare().message_hasher(&[0; 256]).is_err());
+                assert!(private.prepare().message_hasher(&[0; 256]).is_err());
             }
 
             /// Errors are those of the plain keys.

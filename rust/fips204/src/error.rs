@@ -1,0 +1,57 @@
+//! Why a call was refused.
+
+/// The error of the calls that the crate fips204 does not have. Those that it has return its `&'static str`; `?` turns either into
+/// the other, and this one into a `Box<dyn Error>` and its like.
+///
+/// ```
+/// # #[cfg(feature = "ml-dsa-65")] {
+/// use fips204::ml_dsa_65::{KG, PrivateKey};
+/// use fips204::traits::{KeyGen, Signer};
+///
+/// fn signed(stored: &[u8]) -> Result<[u8; 3309], fips204::Error> {
+///     let private = PrivateKey::try_from(stored)?; // an `Error`
+///     Ok(private.try_sign_with_seed(&[0; 32], b"a message", b"")?) // a `&'static str`
+/// }
+///
+/// let (_, private) = KG::keygen_from_seed(&[7; 32]); // a seed is secret, and random
+/// assert!(signed(private.as_bytes()).is_ok());
+/// assert_eq!(signed(b"short").unwrap_err().to_string(), "an array has the wrong length");
+/// # }
+/// ```
+#[derive(Clone, Copy, Debug, PartialEq, Eq, Hash)]
+pub struct Error(&'static str);
+
+impl Error {
+    /// The text of the error, which is that of `mldsa_text` in C where the library refused a call.
+    ///
+    /// ```
+    /// # #[cfg(feature = "ml-dsa-65")] {
+    /// let refused = fips204::ml_dsa_65::PublicKey::try_from(&[0; 7][..]);
+    /// assert_eq!(refused.unwrap_err().as_str(), "an array has the wrong length");
+    /// # }
+    /// ```
+    #[must_use]
+    pub const fn as_str(&self) -> &'static str {
+        self.0
+    }
+}
+
+impl core::fmt::Display for Error {
+    fn fmt(&self, f: &mut core::fmt::Formatter<'_>) -> core::fmt::Result {
+        f.write_str(self.0)
+    }
+}
+
+impl core::error::Error for Error {}
+
+impl From<&'static str> for Error {
+    fn from(text: &'static str) -> Self {
+        Error(text)
+    }
+}
+
+impl From<Error> for &'static str {
+    fn from(error: Error) -> Self {
+        error.0
+    }
+}
