@@ -6,7 +6,9 @@ use Rattle.fips204.specs.Refusals.{generated}
 use Rattle.fips204.specs.Sets.{named_set}
 use Rattle.fips204.specs.declared.sets.SetName.{SetName}
 use Rattle.fips204_bytes.specs.Bytes as bytes
+use Rattle.fips204_base.specs.declared.fault.Fault.TheVariants.{KeyRange}
 use Rattle.fips204_bytes.specs.declared.refusal.Refusal.{Refusal}
+use Rattle.fips204_bytes.specs.declared.refusal.Refusal.TheVariants.{Library}
 use Rattle.fips204_der.specs.Keys.{PrivateParts, Seed, Expanded, Both, private_parts, public_length, private_length, public_file_length, private_file_length, IsPublicFile, IsPrivateFile}
 use Rattle.fips204_der.specs.Reading.{public_at, private_at}
 use Rattle.fips204_der.specs.declared.fault.DerFault.{DerFault}
@@ -35,10 +37,15 @@ abbrev pub IfGenerated : ParameterSet → List ℕ → (List ℕ → Type 0) →
 IfGenerated p seed uses refuses =
     MatchResult (generated p shake256_front shake128_front seed) (λ pair. uses (private_key_bytes p.eta pair.1)) (λ fault. refuses (status_of fault))
 
+-- why a private key is not one of a pair: bytes that are no key at all have no parts that belong together either
+abbrev pub status_of_pair : Refusal → ℕ
+status_of_pair (Library KeyRange) = 25
+status_of_pair why = refusal_status why
+
 -- a private key and the public key that belongs to it are a pair, or the call refuses
 abbrev pub IfPair : ParameterSet → List ℕ → Type 0 → (ℕ → Type 0) → Type 0
 IfPair p key fits refuses = (answer : Result Bool Refusal) × bytes.ChecksPair p shake256_front shake128_front key answer
-    × MatchResult answer (λ pair. MatchBool pair fits (refuses 25)) (λ why. refuses (refusal_status why))
+    × MatchResult answer (λ pair. MatchBool pair fits (refuses 25)) (λ why. refuses (status_of_pair why))
 
 -- a private key in DER has keys, and the expanded one is used, or the call refuses: the seed generates it, and it is the one beside
 -- the seed; or an expanded key alone is one of a pair

@@ -11,7 +11,7 @@ ghost use Rattle.mldsa_c.specs.Der.{status_of_der, IfGenerated, IfPair, IfSame, 
 use crate::statuses::{DONE, WRONG_LENGTH, status_of_refusal};
 use fips204_bytes::array_of;
 use fips204_der::{DerFault, PrivateKey, read_private, read_public, write_private, write_public};
-use fips204_shake::{MlDsa, SetName};
+use fips204_shake::{Fault, MlDsa, Refusal, SetName};
 
 /// The key is one of another parameter set.
 const OTHER_SET: u32 = 24;
@@ -61,7 +61,7 @@ fn check_pair(set: SetName, private_key: &[u8]) -> Result<(), u32>
 {
     match MlDsa::is_pair(set, private_key) {
         Ok(true) => Ok(()),
-        Ok(false) => Err(INCONSISTENT),
+        Ok(false) | Err(Refusal::Library(Fault::KeyRange)) => Err(INCONSISTENT),
         Err(refusal) => Err(status_of_refusal(refusal)),
     }
 }

@@ -60,8 +60,8 @@ pub extern "C" fn mldsa65_private_key_from_der(
 
 /// Reads the seed of a private key in DER.
 #[unsafe(no_mangle)]
-pub extern "C" fn mldsa65_seed_from_der(both_der: &[u8], seed: &mut [u8]) -> u32
-    ensures { SeedFromDer MlDsa65 both_der.now seed.old seed.new result }
+pub extern "C" fn mldsa65_seed_from_der(seed_der: &[u8], seed: &mut [u8]) -> u32
+    ensures { SeedFromDer MlDsa65 seed_der.now seed.old seed.new result }
 {
-    der::seed_from_der(SetName::MlDsa65, both_der, seed)
+    der::seed_from_der(SetName::MlDsa65, seed_der, seed)
 }
