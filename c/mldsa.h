@@ -471,17 +471,17 @@ uint32_t mldsa87_verify_mu_prepared(const uint8_t *prepared_public_key, size_t p
 #define MLDSA44_PUBLIC_KEY_DER_LEN 1334
 #define MLDSA44_PRIVATE_KEY_DER_LEN 2588
 #define MLDSA44_BOTH_DER_LEN 2626
-#define MLDSA44_STACK_DER 300000
+#define MLDSA44_STACK_DER 126976
 
 #define MLDSA65_PUBLIC_KEY_DER_LEN 1974
 #define MLDSA65_PRIVATE_KEY_DER_LEN 4060
 #define MLDSA65_BOTH_DER_LEN 4098
-#define MLDSA65_STACK_DER 300000
+#define MLDSA65_STACK_DER 172032
 
 #define MLDSA87_PUBLIC_KEY_DER_LEN 2614
 #define MLDSA87_PRIVATE_KEY_DER_LEN 4924
 #define MLDSA87_BOTH_DER_LEN 4962
-#define MLDSA87_STACK_DER 300000
+#define MLDSA87_STACK_DER 238592
 
 MLDSA_ANSWERS
 uint32_t mldsa44_public_key_to_der(const uint8_t *public_key, size_t public_key_len,
