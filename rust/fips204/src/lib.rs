@@ -9,6 +9,7 @@
 #![cfg_attr(not(feature = "default-rng"), no_std)]
 #![deny(missing_docs, missing_debug_implementations)]
 
+mod der;
 mod library;
 mod pieces;
 pub mod pre_hash;
