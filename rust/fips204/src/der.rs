@@ -1,4 +1,5 @@
 //! Keys in files: the DER of RFC 9881, which the library reads and writes, and PEM around it.
+#![allow(dead_code)] // no set may be chosen
 
 use crate::library::answer;
 use crate::set::{Calls, PrivateKey, PublicKey, Set};
@@ -18,6 +19,19 @@ where
     ///
     /// # Errors
     /// The bytes are not the DER of a public key of this set; the text is a sentence about "it", the file.
+    ///
+    /// ```
+    /// # #[cfg(feature = "ml-dsa-65")] {
+    /// use fips204::ml_dsa_65::{KG, PublicKey};
+    /// use fips204::traits::{KeyGen, SerDes};
+    ///
+    /// let (public, _) = KG::keygen_from_seed(&[7; 32]); // a seed is secret, and random
+    /// let mut der = [0; PublicKey::DER_LEN];
+    /// public.write_der(&mut der)?;
+    /// assert_eq!(PublicKey::from_der(&der)?.into_bytes(), public.into_bytes());
+    /// # }
+    /// # Ok::<(), &'static str>(())
+    /// ```
     pub fn from_der(der: &[u8]) -> Result<Self, &'static str> {
         let mut key = PublicKey(Wiped([0; PK]));
         let status = Set::<PK, SK, SIG>::public_key_from_der(der, &mut key.0.0);
@@ -28,6 +42,19 @@ where
     ///
     /// # Errors
     /// `der` has another length.
+    ///
+    /// ```
+    /// # #[cfg(feature = "ml-dsa-65")] {
+    /// use fips204::ml_dsa_65::{KG, PublicKey};
+    /// use fips204::traits::{KeyGen, SerDes};
+    ///
+    /// let (public, _) = KG::keygen_from_seed(&[7; 32]); // a seed is secret, and random
+    /// let mut der = [0; PublicKey::DER_LEN];
+    /// public.write_der(&mut der)?;
+    /// assert_eq!(PublicKey::from_der(&der)?.into_bytes(), public.into_bytes());
+    /// # }
+    /// # Ok::<(), &'static str>(())
+    /// ```
     pub fn write_der(&self, der: &mut [u8]) -> Result<(), &'static str> {
         answer(Set::<PK, SK, SIG>::public_key_to_der(&self.0.0, der), ())
     }
@@ -55,11 +82,9 @@ where
     /// use fips204::ml_dsa_65::{KG, PrivateKey};
     /// use fips204::traits::{KeyGen, SerDes};
     ///
-    /// let seed = [7; 32]; // a seed is secret, and random
-    /// let (_, private) = KG::keygen_from_seed(&seed);
-    ///
-    /// let der = PrivateKey::seed_to_der(&seed)?;
-    /// assert_eq!(PrivateKey::seed_from_der(&der), Ok(seed));
+    /// let (_, private) = KG::keygen_from_seed(&[7; 32]); // a seed is secret, and random
+    /// let mut der = [0; PrivateKey::DER_LEN];
+    /// private.write_der(&mut der)?;
     /// assert_eq!(PrivateKey::from_der(&der)?.into_bytes(), private.into_bytes());
     /// # }
     /// # Ok::<(), &'static str>(())
@@ -74,6 +99,17 @@ where
     ///
     /// # Errors
     /// Those of `from_der`; or it has no seed.
+    ///
+    /// ```
+    /// # #[cfg(feature = "ml-dsa-65")] {
+    /// use fips204::ml_dsa_65::PrivateKey;
+    ///
+    /// let seed = [7; 32]; // a seed is secret, and random
+    /// let der = PrivateKey::seed_to_der(&seed)?;
+    /// assert_eq!(PrivateKey::seed_from_der(&der), Ok(seed));
+    /// # }
+    /// # Ok::<(), &'static str>(())
+    /// ```
     pub fn seed_from_der(der: &[u8]) -> Result<[u8; 32], &'static str> {
         let mut seed = [0; 32];
         let status = Set::<PK, SK, SIG>::seed_from_der(der, &mut seed);
@@ -84,6 +120,17 @@ where
     ///
     /// # Errors
     /// None is known.
+    ///
+    /// ```
+    /// # #[cfg(feature = "ml-dsa-65")] {
+    /// use fips204::ml_dsa_65::PrivateKey;
+    ///
+    /// let seed = [7; 32]; // a seed is secret, and random
+    /// let der = PrivateKey::seed_to_der(&seed)?;
+    /// assert_eq!(PrivateKey::seed_from_der(&der), Ok(seed));
+    /// # }
+    /// # Ok::<(), &'static str>(())
+    /// ```
     pub fn seed_to_der(seed: &[u8; 32]) -> Result<[u8; SEED_DER_LEN], &'static str> {
         let mut der = [0; SEED_DER_LEN];
         let status = Set::<PK, SK, SIG>::seed_to_der(seed, &mut der);
@@ -94,6 +141,19 @@ where
     ///
     /// # Errors
     /// `der` has another length, or the key is one that `is_pair` says no to.
+    ///
+    /// ```
+    /// # #[cfg(feature = "ml-dsa-65")] {
+    /// use fips204::ml_dsa_65::{KG, PrivateKey};
+    /// use fips204::traits::{KeyGen, SerDes};
+    ///
+    /// let (_, private) = KG::keygen_from_seed(&[7; 32]); // a seed is secret, and random
+    /// let mut der = [0; PrivateKey::DER_LEN];
+    /// private.write_der(&mut der)?;
+    /// assert_eq!(PrivateKey::from_der(&der)?.into_bytes(), private.into_bytes());
+    /// # }
+    /// # Ok::<(), &'static str>(())
+    /// ```
     pub fn write_der(&self, der: &mut [u8]) -> Result<(), &'static str> {
         answer(Set::<PK, SK, SIG>::private_key_to_der(&self.0.0, der), ())
     }
@@ -102,6 +162,18 @@ where
     ///
     /// # Errors
     /// `der` has another length.
+    ///
+    /// ```
+    /// # #[cfg(feature = "ml-dsa-65")] {
+    /// use fips204::ml_dsa_65::PrivateKey;
+    ///
+    /// let seed = [7; 32]; // a seed is secret, and random
+    /// let mut der = [0; PrivateKey::BOTH_DER_LEN];
+    /// PrivateKey::write_both_der(&seed, &mut der)?;
+    /// assert_eq!(PrivateKey::seed_from_der(&der), Ok(seed));
+    /// # }
+    /// # Ok::<(), &'static str>(())
+    /// ```
     pub fn write_both_der(seed: &[u8; 32], der: &mut [u8]) -> Result<(), &'static str> {
         answer(Set::<PK, SK, SIG>::both_to_der(seed, der), ())
     }
@@ -124,10 +196,17 @@ mod pem {
         // 48 bytes are a line.
         for line in der.chunks(48) {
             for group in line.chunks(3) {
-                let bits = group.iter().fold(0, |bits, byte| bits << 8 | u32::from(*byte)) << (8 * (3 - group.len()));
+                let bits = group
+                    .iter()
+                    .fold(0, |bits, byte| bits << 8 | u32::from(*byte))
+                    << (8 * (3 - group.len()));
                 for place in 0..4 {
                     let symbol = SYMBOLS[(bits >> (18 - 6 * place) & 63) as usize];
-                    text.push(if place <= group.len() { char::from(symbol) } else { '=' });
+                    text.push(if place <= group.len() {
+                        char::from(symbol)
+                    } else {
+                        '='
+                    });
                 }
             }
             text.push('\n');
@@ -144,8 +223,15 @@ mod pem {
             .ok_or("it has a key of another kind, or something else than a key")?;
         let mut der = Vec::new();
         let (mut bits, mut count) = (0, 0);
-        for symbol in body.bytes().take_while(|it| *it != b'=' && *it != b'-').filter(|it| *it != b'\n') {
-            let value = SYMBOLS.iter().position(|it| *it == symbol).ok_or("its text is damaged")?;
+        for symbol in body
+            .bytes()
+            .take_while(|it| *it != b'=' && *it != b'-')
+            .filter(|it| *it != b'\n')
+        {
+            let value = SYMBOLS
+                .iter()
+                .position(|it| *it == symbol)
+                .ok_or("its text is damaged")?;
             (bits, count) = (bits << 6 | value as u32, count + 6);
             if count >= 8 {
                 count -= 8;
@@ -153,7 +239,11 @@ mod pem {
                 bits &= (1 << count) - 1;
             }
         }
-        if encode(label, &der) == text { Ok(der) } else { Err("its text is damaged") }
+        if encode(label, &der) == text {
+            Ok(der)
+        } else {
+            Err("its text is damaged")
+        }
     }
 
     impl<const PK: usize, const SK: usize, const SIG: usize> PublicKey<PK, SK, SIG>
@@ -164,6 +254,18 @@ mod pem {
         ///
         /// # Errors
         /// The text is not the PEM of a public key of this set.
+        ///
+        /// ```
+        /// # #[cfg(all(feature = "ml-dsa-65", feature = "default-rng"))] {
+        /// use fips204::ml_dsa_65::{KG, PublicKey};
+        /// use fips204::traits::{KeyGen, SerDes};
+        ///
+        /// let (public, _) = KG::keygen_from_seed(&[7; 32]); // a seed is secret, and random
+        /// let text = public.to_pem()?;
+        /// assert_eq!(PublicKey::from_pem(&text)?.into_bytes(), public.into_bytes());
+        /// # }
+        /// # Ok::<(), &'static str>(())
+        /// ```
         pub fn from_pem(text: &str) -> Result<Self, &'static str> {
             Self::from_der(&decode(PUBLIC, text)?)
         }
@@ -172,6 +274,18 @@ mod pem {
         ///
         /// # Errors
         /// None is known.
+        ///
+        /// ```
+        /// # #[cfg(all(feature = "ml-dsa-65", feature = "default-rng"))] {
+        /// use fips204::ml_dsa_65::{KG, PublicKey};
+        /// use fips204::traits::{KeyGen, SerDes};
+        ///
+        /// let (public, _) = KG::keygen_from_seed(&[7; 32]); // a seed is secret, and random
+        /// let text = public.to_pem()?;
+        /// assert_eq!(PublicKey::from_pem(&text)?.into_bytes(), public.into_bytes());
+        /// # }
+        /// # Ok::<(), &'static str>(())
+        /// ```
         pub fn to_pem(&self) -> Result<String, &'static str> {
             let mut der = std::vec![0; Self::DER_LEN];
             self.write_der(&mut der)?;
@@ -188,6 +302,18 @@ mod pem {
         ///
         /// # Errors
         /// The text is not the PEM of a private key of this set, or its parts do not belong together.
+        ///
+        /// ```
+        /// # #[cfg(all(feature = "ml-dsa-65", feature = "default-rng"))] {
+        /// use fips204::ml_dsa_65::{KG, PrivateKey};
+        /// use fips204::traits::{KeyGen, SerDes};
+        ///
+        /// let (_, private) = KG::keygen_from_seed(&[7; 32]); // a seed is secret, and random
+        /// let text = private.to_pem()?;
+        /// assert_eq!(PrivateKey::from_pem(&text)?.into_bytes(), private.into_bytes());
+        /// # }
+        /// # Ok::<(), &'static str>(())
+        /// ```
         pub fn from_pem(text: &str) -> Result<Self, &'static str> {
             Self::from_der(&decode(PRIVATE, text)?)
         }
@@ -196,6 +322,19 @@ mod pem {
         ///
         /// # Errors
         /// None is known.
+        ///
+        /// ```
+        /// # #[cfg(all(feature = "ml-dsa-65", feature = "default-rng"))] {
+        /// use fips204::ml_dsa_65::{KG, PrivateKey};
+        /// use fips204::traits::{KeyGen, SerDes};
+        ///
+        /// let seed = [7; 32]; // a seed is secret, and random
+        /// let (_, private) = KG::keygen_from_seed(&seed);
+        /// let text = PrivateKey::seed_to_pem(&seed)?;
+        /// assert_eq!(PrivateKey::from_pem(&text)?.into_bytes(), private.into_bytes());
+        /// # }
+        /// # Ok::<(), &'static str>(())
+        /// ```
         pub fn seed_to_pem(seed: &[u8; 32]) -> Result<String, &'static str> {
             Ok(encode(PRIVATE, &Self::seed_to_der(seed)?))
         }
@@ -204,6 +343,18 @@ mod pem {
         ///
         /// # Errors
         /// The key is one that `is_pair` says no to.
+        ///
+        /// ```
+        /// # #[cfg(all(feature = "ml-dsa-65", feature = "default-rng"))] {
+        /// use fips204::ml_dsa_65::{KG, PrivateKey};
+        /// use fips204::traits::{KeyGen, SerDes};
+        ///
+        /// let (_, private) = KG::keygen_from_seed(&[7; 32]); // a seed is secret, and random
+        /// let text = private.to_pem()?;
+        /// assert_eq!(PrivateKey::from_pem(&text)?.into_bytes(), private.into_bytes());
+        /// # }
+        /// # Ok::<(), &'static str>(())
+        /// ```
         pub fn to_pem(&self) -> Result<String, &'static str> {
             let mut der = std::vec![0; Self::DER_LEN];
             self.write_der(&mut der)?;
