@@ -1,5 +1,5 @@
 -- What was read of DER, and what is done with it.
-use Rattle.std.proofs.Common.{◌≡◌, ◌≢◌, ℕ, List, length, Result, Ok, Err, refl, subst}
+use Rattle.std.proofs.Common.{◌≡◌, ℕ, List, length, Result, Ok, Err, refl, subst}
 use Rattle.fips204.specs.declared.sets.SetName.{SetName}
 use Rattle.fips204_der.specs.Keys.{PrivateParts, private_parts, IsPrivateFile}
 use Rattle.fips204_der.specs.Reading.{private_at}

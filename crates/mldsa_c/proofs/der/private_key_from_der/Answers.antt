@@ -1,4 +1,4 @@
-use Rattle.std.proofs.Common.{◌≡◌, refl, ◌∙◌}
+use Rattle.std.proofs.Common.{refl, ◌∙◌}
 use Rattle.fips204.specs.Sets.{named_set}
 use Rattle.fips204_der.specs.Keys.{private_length}
 use Rattle.mldsa_c.specs.Der.{IfConsistent, Has}

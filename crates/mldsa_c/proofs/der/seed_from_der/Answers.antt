@@ -1,4 +1,4 @@
-use Rattle.std.proofs.Common.{◌≡◌, refl}
+use Rattle.std.proofs.Common.{refl}
 use Rattle.fips204.specs.Sets.{named_set}
 use Rattle.mldsa_c.specs.Der.{IfSeed, Has}
 use Rattle.mldsa_c.specs.Pieces.{Keeps}
