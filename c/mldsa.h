@@ -75,6 +75,25 @@
  *                      nobody signed; and a prepared private key as secret as the private key, and where nobody can change it,
  *                      since what a changed one signs may tell the key. [as the calls without _prepared, but
  *                      MLDSA_NOT_PREPARED, of verifying too, and not MLDSA_KEY_RANGE]
+ *  public_key_to_der, public_key_from_der
+ *                      write and read a public key as files have it: the DER of a SubjectPublicKeyInfo (RFC 9881, section 4), of
+ *                      MLDSA*_PUBLIC_KEY_DER_LEN bytes. DER has one form, and what is read may have any length: every other file is
+ *                      answered by its first fault. [public_key_from_der: MLDSA_DER_CUT_SHORT, MLDSA_DER_TRAILING,
+ *                      MLDSA_DER_DAMAGED, MLDSA_DER_ALGORITHM, MLDSA_DER_KEY_LENGTH, MLDSA_OTHER_SET]
+ *  seed_to_der, private_key_to_der, both_to_der
+ *                      write a private key as files have it, not encrypted: the DER of a OneAsymmetricKey of version 0 (RFC 9881,
+ *                      section 6; also called PKCS #8), with the seed, of MLDSA_SEED_DER_LEN bytes; with the expanded key, of
+ *                      MLDSA*_PRIVATE_KEY_DER_LEN; or with the seed and the expanded key that it generates, of MLDSA*_BOTH_DER_LEN.
+ *                      An expanded key alone has to be one that is_pair says yes to. [private_key_to_der:
+ *                      MLDSA_INCONSISTENT, MLDSA_SAMPLING_LIMIT; both_to_der: MLDSA_SAMPLING_LIMIT]
+ *  private_key_from_der, seed_from_der
+ *                      read a private key in any of the three forms, of any length, and write the expanded key, or the seed where
+ *                      there is one. Refused is an expanded key that the seed beside it does not generate, or to which is_pair,
+ *                      where it is alone, does not say yes. To load a key, ask for its seed, and where the answer is MLDSA_NO_SEED
+ *                      for its expanded key; where the set is not known, ask at each as long as the answer is MLDSA_OTHER_SET.
+ *                      [private_key_from_der: MLDSA_DER_CUT_SHORT, MLDSA_DER_TRAILING, MLDSA_DER_DAMAGED, MLDSA_DER_VERSION,
+ *                      MLDSA_DER_ALGORITHM, MLDSA_DER_KEY_LENGTH, MLDSA_OTHER_SET, MLDSA_INCONSISTENT, MLDSA_SAMPLING_LIMIT;
+ *                      seed_from_der: MLDSA_NO_SEED too]
  */
 #ifndef MLDSA_H
 #define MLDSA_H
@@ -153,13 +172,23 @@ enum mldsa_status {
     MLDSA_KEY_RANGE = 14,             /* the bytes are no private key */
     MLDSA_SAMPLING_LIMIT = 15,        /* rejection sampling reached its limit; no such input is known */
     MLDSA_BROKEN_STATE = 16,          /* mldsa_mu_update, mldsa_mu_finish: the last byte of the state is 0 or above 136 */
-    MLDSA_NOT_PREPARED = 17           /* a value of this prepared key is out of range, so no call has written it */
+    MLDSA_NOT_PREPARED = 17,          /* a value of this prepared key is out of range, so no call has written it */
+    MLDSA_DER_CUT_SHORT = 18,         /* an element of the DER is longer than what holds it */
+    MLDSA_DER_TRAILING = 19,          /* something follows an element of the DER where nothing may */
+    MLDSA_DER_DAMAGED = 20,           /* the DER has another element than is expected, or a length in another form */
+    MLDSA_DER_VERSION = 21,           /* the version of the private key is not 0 */
+    MLDSA_DER_ALGORITHM = 22,         /* the algorithm is none of the three, or has parameters */
+    MLDSA_DER_KEY_LENGTH = 23,        /* the seed or key has another length than its algorithm's */
+    MLDSA_OTHER_SET = 24,             /* the key is one of another parameter set */
+    MLDSA_INCONSISTENT = 25,          /* the parts of the private key do not belong together */
+    MLDSA_NO_SEED = 26                /* seed_from_der: the private key has no seed */
 };
 
 #define MLDSA_SEED_LEN 32
 #define MLDSA_RANDOM_LEN 32
 #define MLDSA_MU_LEN 64
 #define MLDSA_STATE_LEN 337
+#define MLDSA_SEED_DER_LEN 54
 
 /* The stack that each call of a set needs, in bytes:
  *
@@ -172,6 +201,7 @@ enum mldsa_status {
  *  MLDSA*_STACK_PREPARE_PUBLIC_KEY   prepare_public_key, and _PREPARE_PRIVATE_KEY prepare_private_key
  *  MLDSA*_STACK_SIGN_PREPARED        sign_prepared, hash_sign_prepared, sign_mu_prepared
  *  MLDSA*_STACK_VERIFY_PREPARED      verify_prepared, hash_verify_prepared, verify_mu_prepared
+ *  MLDSA*_STACK_DER                  the calls on keys in DER, whose names end in _der
  *  MLDSA_STACK_MU                    mu_begin, mu_begin_private, mldsa_mu_update, mldsa_mu_finish
  *
  * glibc gives a thread what `ulimit -s` says, mostly 8 MiB. musl gives it 128 KiB, on which keygen, sign and others end the program
@@ -474,6 +504,80 @@ MLDSA_ANSWERS MLDSA_ARRAYS(3, 0) /* stack: MLDSA87_STACK_VERIFY_PREPARED */
 uint32_t mldsa87_verify_mu_prepared(const uint8_t *prepared_public_key, size_t prepared_public_key_len,
                                     const uint8_t *mu, size_t mu_len, const uint8_t *signature, size_t signature_len);
 
+/* Keys in DER, at each set. */
+
+#define MLDSA44_PUBLIC_KEY_DER_LEN 1334
+#define MLDSA44_PRIVATE_KEY_DER_LEN 2588
+#define MLDSA44_BOTH_DER_LEN 2626
+#define MLDSA44_STACK_DER 126976
+
+#define MLDSA65_PUBLIC_KEY_DER_LEN 1974
+#define MLDSA65_PRIVATE_KEY_DER_LEN 4060
+#define MLDSA65_BOTH_DER_LEN 4098
+#define MLDSA65_STACK_DER 172032
+
+#define MLDSA87_PUBLIC_KEY_DER_LEN 2614
+#define MLDSA87_PRIVATE_KEY_DER_LEN 4924
+#define MLDSA87_BOTH_DER_LEN 4962
+#define MLDSA87_STACK_DER 238592
+
+MLDSA_ANSWERS MLDSA_ARRAYS(1, 1) /* stack: MLDSA44_STACK_DER */
+uint32_t mldsa44_public_key_to_der(const uint8_t *public_key, size_t public_key_len,
+                                   uint8_t *public_key_der, size_t public_key_der_len);
+MLDSA_ANSWERS MLDSA_ARRAYS(1, 1) /* stack: MLDSA44_STACK_DER */
+uint32_t mldsa44_public_key_from_der(const uint8_t *public_key_der, size_t public_key_der_len,
+                                     uint8_t *public_key, size_t public_key_len);
+MLDSA_ANSWERS MLDSA_ARRAYS(1, 1) /* stack: MLDSA44_STACK_DER */
+uint32_t mldsa44_seed_to_der(const uint8_t *seed, size_t seed_len, uint8_t *seed_der, size_t seed_der_len);
+MLDSA_ANSWERS MLDSA_ARRAYS(1, 1) /* stack: MLDSA44_STACK_DER */
+uint32_t mldsa44_private_key_to_der(const uint8_t *private_key, size_t private_key_len,
+                                    uint8_t *private_key_der, size_t private_key_der_len);
+MLDSA_ANSWERS MLDSA_ARRAYS(1, 1) /* stack: MLDSA44_STACK_DER */
+uint32_t mldsa44_both_to_der(const uint8_t *seed, size_t seed_len, uint8_t *both_der, size_t both_der_len);
+MLDSA_ANSWERS MLDSA_ARRAYS(1, 1) /* stack: MLDSA44_STACK_DER */
+uint32_t mldsa44_private_key_from_der(const uint8_t *private_key_der, size_t private_key_der_len,
+                                      uint8_t *private_key, size_t private_key_len);
+MLDSA_ANSWERS MLDSA_ARRAYS(1, 1) /* stack: MLDSA44_STACK_DER */
+uint32_t mldsa44_seed_from_der(const uint8_t *seed_der, size_t seed_der_len, uint8_t *seed, size_t seed_len);
+
+MLDSA_ANSWERS MLDSA_ARRAYS(1, 1) /* stack: MLDSA65_STACK_DER */
+uint32_t mldsa65_public_key_to_der(const uint8_t *public_key, size_t public_key_len,
+                                   uint8_t *public_key_der, size_t public_key_der_len);
+MLDSA_ANSWERS MLDSA_ARRAYS(1, 1) /* stack: MLDSA65_STACK_DER */
+uint32_t mldsa65_public_key_from_der(const uint8_t *public_key_der, size_t public_key_der_len,
+                                     uint8_t *public_key, size_t public_key_len);
+MLDSA_ANSWERS MLDSA_ARRAYS(1, 1) /* stack: MLDSA65_STACK_DER */
+uint32_t mldsa65_seed_to_der(const uint8_t *seed, size_t seed_len, uint8_t *seed_der, size_t seed_der_len);
+MLDSA_ANSWERS MLDSA_ARRAYS(1, 1) /* stack: MLDSA65_STACK_DER */
+uint32_t mldsa65_private_key_to_der(const uint8_t *private_key, size_t private_key_len,
+                                    uint8_t *private_key_der, size_t private_key_der_len);
+MLDSA_ANSWERS MLDSA_ARRAYS(1, 1) /* stack: MLDSA65_STACK_DER */
+uint32_t mldsa65_both_to_der(const uint8_t *seed, size_t seed_len, uint8_t *both_der, size_t both_der_len);
+MLDSA_ANSWERS MLDSA_ARRAYS(1, 1) /* stack: MLDSA65_STACK_DER */
+uint32_t mldsa65_private_key_from_der(const uint8_t *private_key_der, size_t private_key_der_len,
+                                      uint8_t *private_key, size_t private_key_len);
+MLDSA_ANSWERS MLDSA_ARRAYS(1, 1) /* stack: MLDSA65_STACK_DER */
+uint32_t mldsa65_seed_from_der(const uint8_t *seed_der, size_t seed_der_len, uint8_t *seed, size_t seed_len);
+
+MLDSA_ANSWERS MLDSA_ARRAYS(1, 1) /* stack: MLDSA87_STACK_DER */
+uint32_t mldsa87_public_key_to_der(const uint8_t *public_key, size_t public_key_len,
+                                   uint8_t *public_key_der, size_t public_key_der_len);
+MLDSA_ANSWERS MLDSA_ARRAYS(1, 1) /* stack: MLDSA87_STACK_DER */
+uint32_t mldsa87_public_key_from_der(const uint8_t *public_key_der, size_t public_key_der_len,
+                                     uint8_t *public_key, size_t public_key_len);
+MLDSA_ANSWERS MLDSA_ARRAYS(1, 1) /* stack: MLDSA87_STACK_DER */
+uint32_t mldsa87_seed_to_der(const uint8_t *seed, size_t seed_len, uint8_t *seed_der, size_t seed_der_len);
+MLDSA_ANSWERS MLDSA_ARRAYS(1, 1) /* stack: MLDSA87_STACK_DER */
+uint32_t mldsa87_private_key_to_der(const uint8_t *private_key, size_t private_key_len,
+                                    uint8_t *private_key_der, size_t private_key_der_len);
+MLDSA_ANSWERS MLDSA_ARRAYS(1, 1) /* stack: MLDSA87_STACK_DER */
+uint32_t mldsa87_both_to_der(const uint8_t *seed, size_t seed_len, uint8_t *both_der, size_t both_der_len);
+MLDSA_ANSWERS MLDSA_ARRAYS(1, 1) /* stack: MLDSA87_STACK_DER */
+uint32_t mldsa87_private_key_from_der(const uint8_t *private_key_der, size_t private_key_der_len,
+                                      uint8_t *private_key, size_t private_key_len);
+MLDSA_ANSWERS MLDSA_ARRAYS(1, 1) /* stack: MLDSA87_STACK_DER */
+uint32_t mldsa87_seed_from_der(const uint8_t *seed_der, size_t seed_der_len, uint8_t *seed, size_t seed_len);
+
 /* The same for every set.
  *
  * Pieces of a message: mldsa_mu_update adds one to the message of a state that mu_begin or mu_begin_private wrote, and
@@ -514,6 +618,15 @@ static inline const char *mldsa_text(uint32_t status)
     case MLDSA_SAMPLING_LIMIT: return "sampling limit reached";
     case MLDSA_BROKEN_STATE: return "the state of a message in pieces is broken";
     case MLDSA_NOT_PREPARED: return "no call has written this prepared key";
+    case MLDSA_DER_CUT_SHORT: return "its DER is cut short";
+    case MLDSA_DER_TRAILING: return "more follows behind the end of its DER";
+    case MLDSA_DER_DAMAGED: return "its DER is damaged";
+    case MLDSA_DER_VERSION: return "it has a private key of another version";
+    case MLDSA_DER_ALGORITHM: return "its key is not one of ML-DSA-44, ML-DSA-65 or ML-DSA-87";
+    case MLDSA_DER_KEY_LENGTH: return "its key has a wrong length";
+    case MLDSA_OTHER_SET: return "its key is one of another parameter set";
+    case MLDSA_INCONSISTENT: return "the private key is not consistent";
+    case MLDSA_NO_SEED: return "it has no seed: its seed cannot be had of its expanded key";
     default: return "no answer of this library";
     }
 }

@@ -14,6 +14,8 @@ const RANDOM_LENGTH = 32;
 const MU_LENGTH = 64;
 const STATE_LENGTH = 337;
 const LONGEST_CONTEXT = 255;
+/** How much longer the DER of a key is than the key: of a public one, a seed, an expanded one, and a seed beside it. */
+const FRAMES = { public: 22, seed: 22, private: 28, both: 66 };
 /** Of a message in pieces so many bytes are gathered, and so many at most hashed by one call. */
 const GATHERED = 1 << 16;
 const AT_ONCE = 1 << 20;
@@ -36,6 +38,15 @@ const TEXTS = {
     15: "sampling limit reached",
     16: "the state of a message in pieces is broken",
     17: "no call has written this prepared key",
+    18: "its DER is cut short",
+    19: "more follows behind the end of its DER",
+    20: "its DER is damaged",
+    21: "it has a private key of another version",
+    22: "its key is not one of ML-DSA-44, ML-DSA-65 or ML-DSA-87",
+    23: "its key has a wrong length",
+    24: "its key is one of another parameter set",
+    25: "the private key is not consistent",
+    26: "it has no seed: its seed cannot be had of its expanded key",
 };
 
 /** The array to which a status belongs, and the longest that it may be where that is one number. */
@@ -398,6 +409,44 @@ class MlDsa {
     isWhole(privateKey) {
         atMost("isWhole", arguments, 1);
         return answer(this.#call("is_whole", [this.#fixed("privateKey", privateKey)]));
+    }
+
+    publicKeyToDer(publicKey) {
+        atMost("publicKeyToDer", arguments, 1);
+        const length = this.lengths.publicKey + FRAMES.public;
+        return done(this.#call("public_key_to_der", [this.#fixed("publicKey", publicKey)], [length]))[0];
+    }
+
+    publicKeyFromDer(der) {
+        atMost("publicKeyFromDer", arguments, 1);
+        return done(this.#call("public_key_from_der", [bytes("der", der)], [this.lengths.publicKey]))[0];
+    }
+
+    seedToDer(seed) {
+        atMost("seedToDer", arguments, 1);
+        return done(this.#call("seed_to_der", [this.#fixed("seed", seed)], [SEED_LENGTH + FRAMES.seed]))[0];
+    }
+
+    privateKeyToDer(privateKey) {
+        atMost("privateKeyToDer", arguments, 1);
+        const length = this.lengths.privateKey + FRAMES.private;
+        return done(this.#call("private_key_to_der", [this.#fixed("privateKey", privateKey)], [length]))[0];
+    }
+
+    bothToDer(seed) {
+        atMost("bothToDer", arguments, 1);
+        const length = this.lengths.privateKey + FRAMES.both;
+        return done(this.#call("both_to_der", [this.#fixed("seed", seed)], [length]))[0];
+    }
+
+    privateKeyFromDer(der) {
+        atMost("privateKeyFromDer", arguments, 1);
+        return done(this.#call("private_key_from_der", [bytes("der", der)], [this.lengths.privateKey]))[0];
+    }
+
+    seedFromDer(der) {
+        atMost("seedFromDer", arguments, 1);
+        return done(this.#call("seed_from_der", [bytes("der", der)], [SEED_LENGTH]))[0];
     }
 }
 

@@ -1,7 +1,12 @@
-/** Why a file is no public key. `message` is a sentence about "it", the file. */
+import type { MlDsa } from "./mldsa.js";
+
+/** Why a file is no key. `message` is a sentence about "it", the file. */
 export class KeyFileError extends Error {
     readonly name: "KeyFileError";
 }
+
+/** What `load` gives. */
+export type Sets = Readonly<Record<"mlDsa44" | "mlDsa65" | "mlDsa87", MlDsa>>;
 
 /**
  * Reads a public key as `mlsign` and OpenSSL write it, PEM of a SubjectPublicKeyInfo (RFC 9881, RFC 7468): the bytes of
@@ -10,7 +15,21 @@ export class KeyFileError extends Error {
  * readPublicKey(text).set; // 65
  * @throws `KeyFileError` for anything else.
  */
-export function readPublicKey(file: Uint8Array | string): { set: 44 | 65 | 87; publicKey: Uint8Array };
+export function readPublicKey(sets: Sets, file: Uint8Array | string): { set: 44 | 65 | 87; publicKey: Uint8Array };
+
+/**
+ * Reads a private key in the same way, of a OneAsymmetricKey (PKCS #8) that is not encrypted: with its seed, its expanded
+ * key, or both, which have to belong together. `seed` is undefined where the file has none.
+ */
+export function readPrivateKey(
+    sets: Sets, file: Uint8Array | string,
+): { set: 44 | 65 | 87; seed: Uint8Array | undefined; publicKey: Uint8Array; privateKey: Uint8Array };
+
+/** The text of a public key's file, as `mlsign` and OpenSSL write it. */
+export function writePublicKey(mlDsa: MlDsa, publicKey: Uint8Array): string;
+
+/** The text of a private key's file, not encrypted: of its seed of 32 bytes, or of its expanded key. */
+export function writePrivateKey(mlDsa: MlDsa, key: Uint8Array): string;
 
 /**
  * The fingerprint of a public key's file, as `mlsign show` prints it: `SHA256:` and the SHA-256 of its DER in base64.
@@ -18,4 +37,4 @@ export function readPublicKey(file: Uint8Array | string): { set: 44 | 65 | 87; p
  * (await fingerprint(text)).slice(0, 7); // "SHA256:"
  * @throws `KeyFileError` as of `readPublicKey`; `Error` without `crypto.subtle`, as in a page that came over http.
  */
-export function fingerprint(file: Uint8Array | string): Promise<string>;
+export function fingerprint(sets: Sets, file: Uint8Array | string): Promise<string>;

@@ -4,7 +4,7 @@
  */
 export class MlDsaError extends Error {
     readonly name: "MlDsaError";
-    /** 2, or 4 to 17: MLDSA_WRONG_LENGTH and so on in c/mldsa.h. */
+    /** 2, or 4 to 26: MLDSA_WRONG_LENGTH and so on in c/mldsa.h. */
     readonly status: number;
 }
 
@@ -173,6 +173,20 @@ export interface MlDsa {
      * @throws `MlDsaError` as of `isPair`.
      */
     isWhole(privateKey: Uint8Array): boolean;
+    /** The DER of a public key (RFC 9881), as files have it; `mldsa/keys` puts PEM around it. */
+    publicKeyToDer(publicKey: Uint8Array): Uint8Array;
+    /** The public key of its DER. Throws for any other bytes, with status 24 for a key of another set. */
+    publicKeyFromDer(der: Uint8Array): Uint8Array;
+    /** The DER of a private key by its seed, which is all that has to be stored. */
+    seedToDer(seed: Uint8Array): Uint8Array;
+    /** The DER of a private key by its expanded key. Throws for one that `isPair` says no to. */
+    privateKeyToDer(privateKey: Uint8Array): Uint8Array;
+    /** The DER of a private key by its seed and the expanded key that it generates. */
+    bothToDer(seed: Uint8Array): Uint8Array;
+    /** The expanded key of a private key in DER, in any of the three forms. Throws for one whose parts don't belong together. */
+    privateKeyFromDer(der: Uint8Array): Uint8Array;
+    /** Its seed. Throws with status 26 where it has none. */
+    seedFromDer(der: Uint8Array): Uint8Array;
 }
 
 /** A compiled module, where the types of WebAssembly are known. */

@@ -42,11 +42,11 @@ async function bytesOf(file, from, to) {
 }
 
 /** The set, the bytes and the fingerprint of a public key's file, or null and why not. */
-async function keyOf(file) {
+async function keyOf(sets, file) {
     const content = await bytesOf(file, 0, LONGEST_KEY_FILE);
     try {
-        const key = readPublicKey(content);
-        return [{ ...key, mark: await fingerprint(content).catch((error) => `not known, since ${error.message}`) }, ""];
+        const key = readPublicKey(sets, content);
+        return [{ ...key, mark: await fingerprint(sets, content).catch((error) => `not known, since ${error.message}`) }, ""];
     } catch (error) {
         if (error instanceof KeyFileError) {
             return [null, error.message];
@@ -57,7 +57,8 @@ async function keyOf(file) {
 
 /** Whether a signature is valid and, where it is not, why: null where `isStale` before that is known. */
 async function judge(library, { message, signature, key }, context, isStale) {
-    const [read, fault] = await keyOf(key);
+    const sets = await library;
+    const [read, fault] = await keyOf(sets, key);
     if (!read) {
         return ["unknown", "No answer", [named(key), ` is not a public key that can be read: ${fault}.`]];
     }
@@ -75,7 +76,7 @@ async function judge(library, { message, signature, key }, context, isStale) {
         return ["invalid", "Not valid", [fault], owner];
     }
     const signed = await bytesOf(signature);
-    const mlDsa = (await library)[`mlDsa${set}`];
+    const mlDsa = sets[`mlDsa${set}`];
     const hasher = mlDsa.messageHasher(publicKey, { context });
     for (let from = 0; from < message.size; from += PIECE) {
         hasher.update(await bytesOf(message, from, from + PIECE));

@@ -24,12 +24,22 @@ IS(MLDSA_KEY_RANGE, 14);
 IS(MLDSA_SAMPLING_LIMIT, 15);
 IS(MLDSA_BROKEN_STATE, 16);
 IS(MLDSA_NOT_PREPARED, 17);
+IS(MLDSA_DER_CUT_SHORT, 18);
+IS(MLDSA_DER_TRAILING, 19);
+IS(MLDSA_DER_DAMAGED, 20);
+IS(MLDSA_DER_VERSION, 21);
+IS(MLDSA_DER_ALGORITHM, 22);
+IS(MLDSA_DER_KEY_LENGTH, 23);
+IS(MLDSA_OTHER_SET, 24);
+IS(MLDSA_INCONSISTENT, 25);
+IS(MLDSA_NO_SEED, 26);
 
 IS(MLDSA_SEED_LEN, 32);
 IS(MLDSA_RANDOM_LEN, 32);
 IS(MLDSA_MU_LEN, 64);
 IS(MLDSA_STATE_LEN, 337);
 IS(MLDSA_OID_LEN, 11);
+IS(MLDSA_SEED_DER_LEN, 54);
 
 #define SET(n, public_key, private_key, signature, prepared_public_key, prepared_private_key)                  \
     IS(MLDSA##n##_PUBLIC_KEY_LEN, public_key);                                                                 \
@@ -61,6 +71,22 @@ IS(MLDSA_OID_LEN, 11);
 SET(44, 1312, 2560, 2420, 17760, 18944);
 SET(65, 1952, 4032, 3309, 32736, 34752);
 SET(87, 2592, 4896, 4627, 60000, 62240);
+
+#define DER(n, public_key, private_key, both)                                                                  \
+    IS(MLDSA##n##_PUBLIC_KEY_DER_LEN, public_key);                                                             \
+    IS(MLDSA##n##_PRIVATE_KEY_DER_LEN, private_key);                                                           \
+    IS(MLDSA##n##_BOTH_DER_LEN, both);                                                                         \
+    HAS(mldsa##n##_public_key_to_der, IN, OUT);                                                                \
+    HAS(mldsa##n##_public_key_from_der, IN, OUT);                                                              \
+    HAS(mldsa##n##_seed_to_der, IN, OUT);                                                                      \
+    HAS(mldsa##n##_private_key_to_der, IN, OUT);                                                               \
+    HAS(mldsa##n##_both_to_der, IN, OUT);                                                                      \
+    HAS(mldsa##n##_private_key_from_der, IN, OUT);                                                             \
+    HAS(mldsa##n##_seed_from_der, IN, OUT)
+DER(44, 1334, 2588, 2626);
+DER(65, 1974, 4060, 4098);
+DER(87, 2614, 4924, 4962);
+
 HAS(mldsa_mu_update, IN, OUT);
 HAS(mldsa_mu_finish, IN, OUT);
 HAS(mldsa_check_pre_hash, IN, IN);

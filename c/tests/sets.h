@@ -9,7 +9,7 @@
 #include <string.h>
 
 enum { LONGEST_KEY = MLDSA87_PRIVATE_KEY_LEN, LONGEST_SIGNATURE = MLDSA87_SIGNATURE_LEN };
-enum { LONGEST_PREPARED_KEY = MLDSA87_PREPARED_PRIVATE_KEY_LEN };
+enum { LONGEST_PREPARED_KEY = MLDSA87_PREPARED_PRIVATE_KEY_LEN, LONGEST_DER = MLDSA87_BOTH_DER_LEN };
 
 typedef const uint8_t *in;
 struct set {
@@ -39,6 +39,14 @@ struct set {
     uint32_t (*sign_prepared)(in, size_t, in, size_t, in, size_t, in, size_t, uint8_t *, size_t);
     uint32_t (*hash_sign_prepared)(in, size_t, in, size_t, in, size_t, in, size_t, in, size_t, uint8_t *, size_t);
     uint32_t (*sign_mu_prepared)(in, size_t, in, size_t, in, size_t, uint8_t *, size_t);
+    size_t public_key_der_len, private_key_der_len, both_der_len, stack_der;
+    uint32_t (*public_key_to_der)(in, size_t, uint8_t *, size_t);
+    uint32_t (*public_key_from_der)(in, size_t, uint8_t *, size_t);
+    uint32_t (*seed_to_der)(in, size_t, uint8_t *, size_t);
+    uint32_t (*private_key_to_der)(in, size_t, uint8_t *, size_t);
+    uint32_t (*both_to_der)(in, size_t, uint8_t *, size_t);
+    uint32_t (*private_key_from_der)(in, size_t, uint8_t *, size_t);
+    uint32_t (*seed_from_der)(in, size_t, uint8_t *, size_t);
 };
 
 #define SET(N)                                                                                                 \
@@ -54,7 +62,11 @@ struct set {
             MLDSA##N##_STACK_VERIFY_PREPARED, MLDSA##N##_STACK_PREPARE_PRIVATE_KEY,                            \
             MLDSA##N##_STACK_SIGN_PREPARED, mldsa##N##_prepare_public_key, mldsa##N##_verify_prepared,         \
             mldsa##N##_hash_verify_prepared, mldsa##N##_verify_mu_prepared, mldsa##N##_prepare_private_key,    \
-            mldsa##N##_sign_prepared, mldsa##N##_hash_sign_prepared, mldsa##N##_sign_mu_prepared               \
+            mldsa##N##_sign_prepared, mldsa##N##_hash_sign_prepared, mldsa##N##_sign_mu_prepared,              \
+            MLDSA##N##_PUBLIC_KEY_DER_LEN, MLDSA##N##_PRIVATE_KEY_DER_LEN, MLDSA##N##_BOTH_DER_LEN,            \
+            MLDSA##N##_STACK_DER, mldsa##N##_public_key_to_der, mldsa##N##_public_key_from_der,                \
+            mldsa##N##_seed_to_der, mldsa##N##_private_key_to_der, mldsa##N##_both_to_der,                     \
+            mldsa##N##_private_key_from_der, mldsa##N##_seed_from_der                                          \
     }
 static const struct set SETS[3] = {SET(44), SET(65), SET(87)};
 

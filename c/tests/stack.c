@@ -71,6 +71,19 @@ static void verify_mu_prepared(void)
 {
     answer = s->verify_mu_prepared(checks, s->prepared_public_key_len, seed, 64, signature, s->signature_len);
 }
+static void der(void)
+{
+    static uint8_t file[LONGEST_DER];
+    answer = s->public_key_to_der(public_key, s->public_key_len, file, s->public_key_der_len)
+        + s->public_key_from_der(file, s->public_key_der_len, public_key, s->public_key_len)
+        + s->private_key_to_der(private_key, s->private_key_len, file, s->private_key_der_len)
+        + s->private_key_from_der(file, s->private_key_der_len, private_key, s->private_key_len)
+        + s->seed_to_der(seed, 32, file, MLDSA_SEED_DER_LEN)
+        + s->private_key_from_der(file, MLDSA_SEED_DER_LEN, private_key, s->private_key_len)
+        + s->seed_from_der(file, MLDSA_SEED_DER_LEN, seed, 32) + s->both_to_der(seed, 32, file, s->both_der_len)
+        + s->private_key_from_der(file, s->both_der_len, private_key, s->private_key_len)
+        + s->seed_from_der(file, s->both_der_len, seed, 32);
+}
 static void nothing(void) { answer = 0; }
 
 /* What the system puts on the stack begins with the description of the signal. It is asked for, so that `nothing` is seen to take
@@ -110,7 +123,7 @@ int main(int count, char **words)
         {"VERIFY", hash_verify}, {"VERIFY", verify}, {"PUBLIC_KEY", derive}, {"CHECK", check}, {"WHOLE", whole}, {"PAIR", pair},
         {"PREPARE_PUBLIC_KEY", prepare_public}, {"PREPARE_PRIVATE_KEY", prepare_private}, {"SIGN_PREPARED", sign_prepared},
         {"VERIFY_PREPARED", verify_prepared}, {"SIGN_PREPARED", hash_sign_prepared}, {"VERIFY_PREPARED", hash_verify_prepared},
-        {"SIGN_PREPARED", sign_mu_prepared}, {"VERIFY_PREPARED", verify_mu_prepared}, {"MU", pieces}};
+        {"SIGN_PREPARED", sign_mu_prepared}, {"VERIFY_PREPARED", verify_mu_prepared}, {"MU", pieces}, {"DER", der}};
     enum { COUNT = sizeof CALLS / sizeof *CALLS };
     int measure = count > 1 && strcmp(words[1], "measure") == 0;
     struct sigaction action;
@@ -128,7 +141,7 @@ int main(int count, char **words)
                                        s->stack_verify, s->stack_verify, s->stack_public_key, s->stack_check, s->stack_whole,
                                        s->stack_pair, s->stack_prepare_public_key, s->stack_prepare_private_key, s->stack_sign_prepared,
                                        s->stack_verify_prepared, s->stack_sign_prepared, s->stack_verify_prepared, s->stack_sign_prepared,
-                                       s->stack_verify_prepared, MLDSA_STACK_MU};
+                                       s->stack_verify_prepared, MLDSA_STACK_MU, s->stack_der};
             size_t took;
             /* What is verified was signed by the call of its name. */
             if (CALLS[i].run == verify)

@@ -1,9 +1,9 @@
-// Public keys in files.
+// Keys in files.
 import assert from "node:assert/strict";
 import { createHash } from "node:crypto";
 import test from "node:test";
-import { KeyFileError, fingerprint, readPublicKey } from "../out/keys.js";
-import { SEED, ofOpenssl, utf8 } from "./shared.js";
+import { KeyFileError, fingerprint, readPrivateKey, readPublicKey, writePrivateKey, writePublicKey } from "../out/keys.js";
+import { SEED, ofOpenssl, text, utf8 } from "./shared.js";
 import { load } from "../out/mldsa.js";
 
 const sets = await load();
@@ -28,7 +28,7 @@ test("keys that OpenSSL wrote", () => {
         const { pem: text } = ofOpenssl(number);
         const { publicKey } = sets[`mlDsa${number}`].keygen(SEED);
         for (const file of [text, utf8(text), text.replaceAll("\n", "\r\n")]) {
-            assert.deepEqual(readPublicKey(file), { set: number, publicKey });
+            assert.deepEqual(readPublicKey(sets, file), { set: number, publicKey });
         }
         assert.equal(pem(info({ 44: 17, 65: 18, 87: 19 }[number], publicKey)), text);
     }
@@ -36,9 +36,9 @@ test("keys that OpenSSL wrote", () => {
 
 test("each cut and each changed byte of a file is refused, or is another key", () => {
     const { pem: text } = ofOpenssl(44);
-    const { publicKey } = readPublicKey(text);
+    const { publicKey } = readPublicKey(sets, text);
     for (let end = 0; end < text.length; end++) {
-        assert.throws(() => readPublicKey(text.slice(0, end)), says("it is cut short"));
+        assert.throws(() => readPublicKey(sets, text.slice(0, end)), says("it is cut short"));
     }
     const bytes = utf8(text);
     for (let at = 0; at < bytes.length; at++) {
@@ -50,7 +50,7 @@ test("each cut and each changed byte of a file is refused, or is another key", (
             }
             let read;
             try {
-                read = readPublicKey(changed);
+                read = readPublicKey(sets, changed);
             } catch (error) {
                 assert.ok(error instanceof KeyFileError);
                 continue;
@@ -97,7 +97,7 @@ test("why a file is refused", () => {
         [pem(info(17, [])), "its key has a wrong length"],
     ];
     for (const [file, message] of rows) {
-        assert.throws(() => readPublicKey(file), says(message), message);
+        assert.throws(() => readPublicKey(sets, file), says(message), message);
     }
 });
 
@@ -106,8 +106,32 @@ test("the fingerprint is that of the DER, as mlsign prints it", async () => {
         const { pem: text } = ofOpenssl(number);
         const der = Buffer.from(text.split("\n").slice(1, -2).join(""), "base64");
         const wanted = `SHA256:${createHash("sha256").update(der).digest("base64").replace(/=/g, "")}`;
-        assert.equal(await fingerprint(text), wanted);
-        assert.equal(await fingerprint(utf8(text)), wanted);
-        await assert.rejects(fingerprint(text.slice(1)), KeyFileError);
+        assert.equal(await fingerprint(sets, text), wanted);
+        assert.equal(await fingerprint(sets, utf8(text)), wanted);
+        await assert.rejects(fingerprint(sets, text.slice(1)), KeyFileError);
+    }
+});
+
+test("private keys that OpenSSL wrote, in each form, and those that are refused", () => {
+    for (const number of [44, 65, 87]) {
+        const mlDsa = sets[`mlDsa${number}`];
+        const file = text(`crates/mlsign_session/data/private-${number}.pem`);
+        const pair = mlDsa.keygen(SEED);
+        assert.deepEqual(readPrivateKey(sets, file), { set: number, seed: SEED, ...pair });
+        assert.equal(writePrivateKey(mlDsa, SEED), file);
+        assert.equal(writePublicKey(mlDsa, pair.publicKey), ofOpenssl(number).pem);
+        const expanded = text(`crates/mlsign_session/data/expanded-${number}.pem`);
+        assert.equal(writePrivateKey(mlDsa, pair.privateKey), expanded);
+        assert.deepEqual(readPrivateKey(sets, utf8(expanded)), { set: number, seed: undefined, ...pair });
+        const both = mlDsa.bothToDer(SEED);
+        assert.deepEqual(readPrivateKey(sets, pem(both, "\n", "PRIVATE KEY")), { set: number, seed: SEED, ...pair });
+        both[both.length - 1] ^= 1;
+        assert.throws(() => readPrivateKey(sets, pem(both, "\n", "PRIVATE KEY")), says("the private key is not consistent"));
+        assert.throws(() => readPrivateKey(sets, ofOpenssl(number).pem), says("it has a key of another kind, or something else than a key"));
+        assert.throws(() => mlDsa.privateKeyToDer(new Uint8Array(pair.privateKey.length).fill(255)), { name: "MlDsaError", status: 25 });
+        assert.throws(() => mlDsa.seedFromDer(mlDsa.privateKeyToDer(pair.privateKey)), { name: "MlDsaError", status: 26 });
+        for (const other of [44, 65, 87].filter((it) => it !== number)) {
+            assert.throws(() => sets[`mlDsa${other}`].publicKeyFromDer(mlDsa.publicKeyToDer(pair.publicKey)), { status: 24 });
+        }
     }
 });

@@ -77,7 +77,7 @@ for (const number in ACCUMULATED) {
 test("keys and signatures of OpenSSL", () => {
     for (const number of [44, 65, 87]) {
         const { pem, signature } = ofOpenssl(number);
-        const read = readPublicKey(pem);
+        const read = readPublicKey(sets, pem);
         assert.equal(read.set, number);
         assert.deepEqual(of(number).keygen(SEED).publicKey, read.publicKey);
         assert.equal(of(number).verify(read.publicKey, utf8("message"), signature, { context: utf8("context") }), true);
@@ -101,7 +101,7 @@ test("lengths and texts are those of the header", () => {
             assert.equal(new MlDsaError(Number(status)).message, TEXTS[status]);
         }
     }
-    assert.equal(Object.keys(TEXTS).length, 14);
+    assert.equal(Object.keys(TEXTS).length, 23);
 });
 
 test("each array of a wrong length is refused by its name, but a signature is not valid", () => {
@@ -207,6 +207,13 @@ function everyCall(set) {
         checkPrivateKey: [[privateKey]],
         isPair: [[privateKey]],
         isWhole: [[privateKey]],
+        publicKeyToDer: [[publicKey]],
+        publicKeyFromDer: [[set.publicKeyToDer(publicKey)]],
+        seedToDer: [[SEED]],
+        privateKeyToDer: [[privateKey]],
+        bothToDer: [[SEED]],
+        privateKeyFromDer: [[set.seedToDer(SEED)]],
+        seedFromDer: [[set.seedToDer(SEED)]],
     };
 }
 

@@ -31,10 +31,10 @@ function node(name, source, ...flags) {
  * and what it signed itself. */
 const { pem, signature } = ofOpenssl(65);
 const BODY = `
-    const key = readPublicKey(${JSON.stringify(pem)}).publicKey;
     const signature = Uint8Array.from(${JSON.stringify([...signature])});
     const bytes = (words) => new TextEncoder().encode(words);
-    const answers = ({ mlDsa65 }) => {
+    const answers = ({ mlDsa65, ...others }) => {
+        const key = readPublicKey({ mlDsa65, ...others }, ${JSON.stringify(pem)}).publicKey;
         const { publicKey, privateKey } = mlDsa65.keygen();
         const own = mlDsa65.verify(publicKey, key, mlDsa65.sign(privateKey, key));
         const [message, context] = [bytes("message"), bytes("context")];

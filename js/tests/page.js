@@ -211,15 +211,16 @@ function program(entry, keys) {
         import { load } from "${entry}";
         import { fingerprint, readPublicKey } from "${keys}";
         const pem = ${JSON.stringify(pem)};
-        const key = readPublicKey(pem).publicKey;
         const signature = Uint8Array.from(${JSON.stringify([...signature])});
         const bytes = (words) => new TextEncoder().encode(words);
         const frame = document.body.appendChild(document.createElement("iframe"));
-        load().then(async ({ mlDsa87 }) => {
+        load().then(async (sets) => {
+            const { mlDsa87 } = sets;
+            const key = readPublicKey(sets, pem).publicKey;
             const { publicKey, privateKey } = mlDsa87.keygen();
             const own = mlDsa87.verify(publicKey, key, mlDsa87.sign(privateKey, new frame.contentWindow.Uint8Array(key)));
             const answers = [mlDsa87.verify(key, bytes("message"), signature, { context: bytes("context") }), mlDsa87.verify(key, bytes("message"), signature), own];
-            document.title = [...answers, await fingerprint(pem)].join(" ");
+            document.title = [...answers, await fingerprint(sets, pem)].join(" ");
         }).catch((error) => { document.title = String(error); });
     `;
 }

@@ -2,17 +2,20 @@
 import { MlDsaError, isSupported, load, oids } from "mldsa";
 import type { MlDsa, KeyPair, MessageHasher, Source } from "mldsa";
 import * as inline from "mldsa/inline";
-import { KeyFileError, fingerprint, readPublicKey } from "mldsa/keys";
+import { KeyFileError, fingerprint, readPrivateKey, readPublicKey, writePrivateKey, writePublicKey } from "mldsa/keys";
 
 export async function uses(bytes: Uint8Array, source: Source): Promise<boolean> {
-    const { mlDsa44, mlDsa65, mlDsa87 } = await load();
+    const loaded = await load();
+    const { mlDsa44, mlDsa65, mlDsa87 } = loaded;
     const sets: MlDsa[] = [mlDsa44, mlDsa65, mlDsa87, (await inline.load(bytes)).mlDsa44, (await load(source)).mlDsa65];
     const pair: KeyPair = sets[0].keygen();
     const signature: Uint8Array = mlDsa44.sign(pair.privateKey, bytes, { context: bytes, random: bytes });
     const hasher: MessageHasher = mlDsa44.messageHasher(pair.publicKey, { context: bytes }).update(bytes);
-    const mark: string = await fingerprint("text");
-    const { set, publicKey } = readPublicKey(bytes);
+    const mark: string = await fingerprint(loaded, writePublicKey(mlDsa44, pair.publicKey));
+    const { set, publicKey } = readPublicKey(loaded, bytes);
     const which: 44 | 65 | 87 = set;
+    const { seed } = readPrivateKey(loaded, writePrivateKey(mlDsa44, pair.privateKey));
+    const again: Uint8Array = seed ?? publicKey;
     const error: Error = new KeyFileError(mark);
     await load({ href: "https://localhost/mldsa.wasm" });
     await load({ ok: true, arrayBuffer: async () => new ArrayBuffer(which) });

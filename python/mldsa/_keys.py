@@ -14,7 +14,7 @@ from typing import (
 from . import _files, _library
 from ._errors import InvalidSignature, KeyFileError, SigningError
 from ._interface import OIDS
-from ._library import DONE, MU, NO, RANDOM, SEED, SETS, STATE, ParameterSet
+from ._library import DONE, MU, NO, NO_SEED, OTHER_SET, RANDOM, SEED, SEED_DER, SETS, STATE, ParameterSet
 
 if TYPE_CHECKING:
     from _typeshed import ReadableBuffer as Buffer
@@ -385,7 +385,7 @@ class PublicKey(_Verifier):
             >>> load_der_public_key(public.to_der()) == public
             True
         """
-        return _files.encode_public(self._set.number, self._plain)
+        return _public_der(self._set, self._plain)
 
     def to_pem(self) -> bytes:
         """The key in PEM, as `mlsign` and OpenSSL write it.
@@ -434,8 +434,14 @@ class PublicKey(_Verifier):
         return self
 
 
+def _public_der(set_: ParameterSet, public: bytes) -> bytes:
+    der = _library.room(set_.public_key_der)
+    _done(set_.calls["public_key_to_der"](public, der))
+    return der.raw
+
+
 def _fingerprint(set_: ParameterSet, public: bytes) -> str:
-    digest = hashlib.sha256(_files.encode_public(set_.number, public)).digest()
+    digest = hashlib.sha256(_public_der(set_, public)).digest()
     return "SHA256:" + base64.b64encode(digest).decode().rstrip("=")
 
 
@@ -543,9 +549,14 @@ class PrivateKey(_Signer, _Unique):
         chosen = ("expanded" if self._seed is None else "seed") if parts is None else parts
         if chosen not in ("seed", "expanded", "both"):
             raise ValueError(f"parts is seed, expanded or both, and not {parts!r}")
-        seed = None if chosen == "expanded" else self.private_bytes_raw()
-        expanded = None if chosen == "seed" else self._plain
-        return _files.encode_private(_files.PrivateParts(self._set.number, seed, expanded))
+        call, size = {
+            "seed": ("seed_to_der", SEED_DER),
+            "expanded": ("private_key_to_der", self._set.private_key_der),
+            "both": ("both_to_der", self._set.both_der),
+        }[chosen]
+        der = _library.room(size)
+        _done(self._set.calls[call](self._plain if chosen == "expanded" else self.private_bytes_raw(), der))
+        return der.raw
 
     def to_pem(self, parts: Optional[str] = None) -> bytes:
         """The same in PEM, as `mlsign` and OpenSSL write it. Errors as of `to_der`.
@@ -626,6 +637,18 @@ _PRIVATE: Dict[int, Type[PrivateKey]] = {44: MLDSA44PrivateKey, 65: MLDSA65Priva
 _PUBLIC: Dict[int, Type[PublicKey]] = {44: MLDSA44PublicKey, 65: MLDSA65PublicKey, 87: MLDSA87PublicKey}
 
 
+def _of_der(call: str, der: bytes, sizes: Dict[int, int]) -> Tuple[int, Optional[bytes]]:
+    """What a call reads of a key in DER, and the number of the key's set; nothing of a private key without a seed."""
+    for number, size in sizes.items():
+        made = _library.room(size)
+        status = SETS[number].calls[call](der, made)
+        if status != OTHER_SET:
+            break
+    if status not in (DONE, NO_SEED):
+        raise KeyFileError(_library.text(status))
+    return number, made.raw if status == DONE else None
+
+
 def load_der_private_key(data: Buffer) -> PrivateKey:
     """The private key of a file in DER, of any parameter set: its seed, its expanded key, or both.
 
@@ -633,17 +656,12 @@ def load_der_private_key(data: Buffer) -> PrivateKey:
 
     TypeError if it is not bytes-like; KeyFileError, a ValueError, if it is no such key or is not consistent.
     """
-    parts = _files.decode_private(_bytes("the file", data))
-    kind = _PRIVATE[parts.number]
-    try:
-        if parts.seed is None:
-            return kind.from_expanded_bytes(parts.expanded or b"")
-    except ValueError as error:
-        raise KeyFileError(str(error)) from None
-    made = kind.from_seed_bytes(parts.seed)
-    if parts.expanded is not None and not secrets.compare_digest(made.expanded_bytes(), parts.expanded):
-        raise KeyFileError("the private key is not consistent")
-    return made
+    der = _bytes("the file", data)
+    number, seed = _of_der("seed_from_der", der, dict.fromkeys(SETS, SEED))
+    if seed is not None:
+        return _PRIVATE[number].from_seed_bytes(seed)
+    _, expanded = _of_der("private_key_from_der", der, {number: SETS[number].private_key})
+    return _PRIVATE[number].from_expanded_bytes(expanded or b"")
 
 
 def load_pem_private_key(data: Buffer) -> PrivateKey:
@@ -663,8 +681,9 @@ def load_der_public_key(data: Buffer) -> PublicKey:
 
     TypeError if it is not bytes-like; KeyFileError, a ValueError, if it is no such key.
     """
-    number, key = _files.decode_public(_bytes("the file", data))
-    return _PUBLIC[number].from_public_bytes(key)
+    sizes = {number: set_.public_key for number, set_ in SETS.items()}
+    number, key = _of_der("public_key_from_der", _bytes("the file", data), sizes)
+    return _PUBLIC[number].from_public_bytes(key or b"")
 
 
 def load_pem_public_key(data: Buffer) -> PublicKey:

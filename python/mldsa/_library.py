@@ -13,6 +13,7 @@ from ._interface import CALLS, NUMBERS, TEXTS, VERSION, VERSION_TEXT
 Array = Union[bytes, "ctypes.Array[ctypes.c_char]"]
 
 DONE, NO, KEY_RANGE = 0, 1, NUMBERS["MLDSA_KEY_RANGE"]
+OTHER_SET, NO_SEED = NUMBERS["MLDSA_OTHER_SET"], NUMBERS["MLDSA_NO_SEED"]
 # Every call of Python itself takes as much stack.
 _SMALL = 4096
 
@@ -70,6 +71,8 @@ def _needed(number: int, name: str) -> int:
     stack = f"MLDSA{number}_STACK_"
     if name.startswith("mu_"):
         return NUMBERS["MLDSA_STACK_MU"]
+    if name.endswith("_der"):
+        return NUMBERS[f"{stack}DER"]
     short = {"check_private_key": "check", "is_whole": "whole", "is_pair": "pair"}.get(name, name)
     return NUMBERS[stack + short.replace("hash_", "").replace("_mu", "").upper()]
 
@@ -85,8 +88,13 @@ class ParameterSet:
             NUMBERS[f"MLDSA{number}_{it}_LEN"]
             for it in ("PUBLIC_KEY", "PRIVATE_KEY", "SIGNATURE", "PREPARED_PUBLIC_KEY", "PREPARED_PRIVATE_KEY")
         )
+        self.public_key_der, self.private_key_der, self.both_der = (
+            NUMBERS[f"MLDSA{number}_{it}_DER_LEN"] for it in ("PUBLIC_KEY", "PRIVATE_KEY", "BOTH")
+        )
 
 
-SEED, RANDOM, MU, STATE = (NUMBERS[f"MLDSA_{it}_LEN"] for it in ("SEED", "RANDOM", "MU", "STATE"))
+SEED, RANDOM, MU, STATE, SEED_DER = (
+    NUMBERS[f"MLDSA_{it}_LEN"] for it in ("SEED", "RANDOM", "MU", "STATE", "SEED_DER")
+)
 SETS = {number: ParameterSet(number) for number in (44, 65, 87)}
 mu_update, mu_finish = (Call(f"mldsa_mu_{it}", NUMBERS["MLDSA_STACK_MU"]) for it in ("update", "finish"))

@@ -2,3 +2,4 @@ pub mod Calls
 pub mod Statuses
 pub mod Pieces
 pub mod Prepared
+pub mod Der

@@ -5,6 +5,10 @@
 #![tactic(auto)]
 
 pub mod callers;
+mod der;
+mod der_44;
+mod der_65;
+mod der_87;
 mod ml_dsa_44;
 mod ml_dsa_65;
 mod ml_dsa_87;

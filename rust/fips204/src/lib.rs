@@ -14,6 +14,7 @@ extern crate alloc;
 #[cfg(all(test, not(feature = "default-rng")))]
 extern crate std;
 
+mod der;
 mod error;
 mod library;
 mod pieces;

@@ -24,6 +24,15 @@ pub(crate) fn error(status: u32) -> &'static str {
         15 => "sampling limit reached",
         16 => "the state of a message in pieces is broken",
         17 => "no call has written this prepared key",
+        18 => "its DER is cut short",
+        19 => "more follows behind the end of its DER",
+        20 => "its DER is damaged",
+        21 => "it has a private key of another version",
+        22 => "its key is not one of ML-DSA-44, ML-DSA-65 or ML-DSA-87",
+        23 => "its key has a wrong length",
+        24 => "its key is one of another parameter set",
+        25 => "the private key is not consistent",
+        26 => "it has no seed: its seed cannot be had of its expanded key",
         _ => "no answer of this library",
     }
 }
@@ -94,6 +103,13 @@ macro_rules! calls_of_a_set {
             sign_prepared(prepared_private_key, message, context, random) => (signature);
             hash_sign_prepared(prepared_private_key, digest, context, oid, random) => (signature);
             sign_mu_prepared(prepared_private_key, mu, random) => (signature);
+            public_key_to_der(public_key) => (public_key_der);
+            public_key_from_der(public_key_der) => (public_key);
+            seed_to_der(seed) => (seed_der);
+            private_key_to_der(private_key) => (private_key_der);
+            both_to_der(seed) => (both_der);
+            private_key_from_der(private_key_der) => (private_key);
+            seed_from_der(seed_der) => (seed);
         }
     };
 }

@@ -1,0 +1,3 @@
+pub mod Der
+pub mod Keys
+pub mod Reading

@@ -1,0 +1,364 @@
+//! Keys in files: the DER of RFC 9881, which the library reads and writes, and PEM around it.
+#![allow(dead_code)] // no set may be chosen
+
+use crate::library::answer;
+use crate::set::{Calls, PrivateKey, PublicKey, Set};
+use crate::wiped::Wiped;
+
+/// How many bytes the DER of a seed has, at every set.
+const SEED_DER_LEN: usize = 54;
+
+impl<const PK: usize, const SK: usize, const SIG: usize> PublicKey<PK, SK, SIG>
+where
+    Set<PK, SK, SIG>: Calls,
+{
+    /// How many bytes the key's DER has.
+    pub const DER_LEN: usize = PK + 22;
+
+    /// The key of a SubjectPublicKeyInfo in DER (RFC 9881, section 4).
+    ///
+    /// # Errors
+    /// The bytes are not the DER of a public key of this set; the text is a sentence about "it", the file.
+    ///
+    /// ```
+    /// # #[cfg(feature = "ml-dsa-65")] {
+    /// use fips204::ml_dsa_65::{KG, PublicKey};
+    /// use fips204::traits::{KeyGen, SerDes};
+    ///
+    /// let (public, _) = KG::keygen_from_seed(&[7; 32]); // a seed is secret, and random
+    /// let mut der = [0; PublicKey::DER_LEN];
+    /// public.write_der(&mut der)?;
+    /// assert_eq!(PublicKey::from_der(&der)?.into_bytes(), public.into_bytes());
+    /// # }
+    /// # Ok::<(), &'static str>(())
+    /// ```
+    pub fn from_der(der: &[u8]) -> Result<Self, &'static str> {
+        let mut key = PublicKey(Wiped([0; PK]));
+        let status = Set::<PK, SK, SIG>::public_key_from_der(der, &mut key.0.0);
+        answer(status, key)
+    }
+
+    /// Writes the key as a SubjectPublicKeyInfo in DER, of `DER_LEN` bytes.
+    ///
+    /// # Errors
+    /// `der` has another length.
+    ///
+    /// ```
+    /// # #[cfg(feature = "ml-dsa-65")] {
+    /// use fips204::ml_dsa_65::{KG, PublicKey};
+    /// use fips204::traits::{KeyGen, SerDes};
+    ///
+    /// let (public, _) = KG::keygen_from_seed(&[7; 32]); // a seed is secret, and random
+    /// let mut der = [0; PublicKey::DER_LEN];
+    /// public.write_der(&mut der)?;
+    /// assert_eq!(PublicKey::from_der(&der)?.into_bytes(), public.into_bytes());
+    /// # }
+    /// # Ok::<(), &'static str>(())
+    /// ```
+    pub fn write_der(&self, der: &mut [u8]) -> Result<(), &'static str> {
+        answer(Set::<PK, SK, SIG>::public_key_to_der(&self.0.0, der), ())
+    }
+}
+
+impl<const PK: usize, const SK: usize, const SIG: usize> PrivateKey<PK, SK, SIG>
+where
+    Set<PK, SK, SIG>: Calls,
+{
+    /// How many bytes the key's DER has.
+    pub const DER_LEN: usize = SK + 28;
+
+    /// How many bytes the DER of a seed and its key has.
+    pub const BOTH_DER_LEN: usize = SK + 66;
+
+    /// The key of a OneAsymmetricKey (PKCS #8) in DER (RFC 9881, section 6), which is not encrypted: that of its seed, or
+    /// its expanded key.
+    ///
+    /// # Errors
+    /// The bytes are not the DER of a private key of this set, or its parts do not belong together; the text is a sentence
+    /// about "it", the file.
+    ///
+    /// ```
+    /// # #[cfg(feature = "ml-dsa-65")] {
+    /// use fips204::ml_dsa_65::{KG, PrivateKey};
+    /// use fips204::traits::{KeyGen, SerDes};
+    ///
+    /// let (_, private) = KG::keygen_from_seed(&[7; 32]); // a seed is secret, and random
+    /// let mut der = [0; PrivateKey::DER_LEN];
+    /// private.write_der(&mut der)?;
+    /// assert_eq!(PrivateKey::from_der(&der)?.into_bytes(), private.into_bytes());
+    /// # }
+    /// # Ok::<(), &'static str>(())
+    /// ```
+    pub fn from_der(der: &[u8]) -> Result<Self, &'static str> {
+        let mut key = PrivateKey(Wiped([0; SK]));
+        let status = Set::<PK, SK, SIG>::private_key_from_der(der, &mut key.0.0);
+        answer(status, key)
+    }
+
+    /// The seed of a private key in DER, of which `keygen_from_seed` makes it.
+    ///
+    /// # Errors
+    /// Those of `from_der`; or it has no seed.
+    ///
+    /// ```
+    /// # #[cfg(feature = "ml-dsa-65")] {
+    /// use fips204::ml_dsa_65::PrivateKey;
+    ///
+    /// let seed = [7; 32]; // a seed is secret, and random
+    /// let der = PrivateKey::seed_to_der(&seed)?;
+    /// assert_eq!(PrivateKey::seed_from_der(&der), Ok(seed));
+    /// # }
+    /// # Ok::<(), &'static str>(())
+    /// ```
+    pub fn seed_from_der(der: &[u8]) -> Result<[u8; 32], &'static str> {
+        let mut seed = [0; 32];
+        let status = Set::<PK, SK, SIG>::seed_from_der(der, &mut seed);
+        answer(status, seed)
+    }
+
+    /// A private key in DER by its seed, which is all that has to be stored.
+    ///
+    /// # Errors
+    /// None is known.
+    ///
+    /// ```
+    /// # #[cfg(feature = "ml-dsa-65")] {
+    /// use fips204::ml_dsa_65::PrivateKey;
+    ///
+    /// let seed = [7; 32]; // a seed is secret, and random
+    /// let der = PrivateKey::seed_to_der(&seed)?;
+    /// assert_eq!(PrivateKey::seed_from_der(&der), Ok(seed));
+    /// # }
+    /// # Ok::<(), &'static str>(())
+    /// ```
+    pub fn seed_to_der(seed: &[u8; 32]) -> Result<[u8; SEED_DER_LEN], &'static str> {
+        let mut der = [0; SEED_DER_LEN];
+        let status = Set::<PK, SK, SIG>::seed_to_der(seed, &mut der);
+        answer(status, der)
+    }
+
+    /// Writes the key as a OneAsymmetricKey in DER by its expanded key, of `DER_LEN` bytes.
+    ///
+    /// # Errors
+    /// `der` has another length, or the key is one that `is_pair` says no to.
+    ///
+    /// ```
+    /// # #[cfg(feature = "ml-dsa-65")] {
+    /// use fips204::ml_dsa_65::{KG, PrivateKey};
+    /// use fips204::traits::{KeyGen, SerDes};
+    ///
+    /// let (_, private) = KG::keygen_from_seed(&[7; 32]); // a seed is secret, and random
+    /// let mut der = [0; PrivateKey::DER_LEN];
+    /// private.write_der(&mut der)?;
+    /// assert_eq!(PrivateKey::from_der(&der)?.into_bytes(), private.into_bytes());
+    /// # }
+    /// # Ok::<(), &'static str>(())
+    /// ```
+    pub fn write_der(&self, der: &mut [u8]) -> Result<(), &'static str> {
+        answer(Set::<PK, SK, SIG>::private_key_to_der(&self.0.0, der), ())
+    }
+
+    /// Writes a private key in DER by its seed and the expanded key that it generates, of `BOTH_DER_LEN` bytes.
+    ///
+    /// # Errors
+    /// `der` has another length.
+    ///
+    /// ```
+    /// # #[cfg(feature = "ml-dsa-65")] {
+    /// use fips204::ml_dsa_65::PrivateKey;
+    ///
+    /// let seed = [7; 32]; // a seed is secret, and random
+    /// let mut der = [0; PrivateKey::BOTH_DER_LEN];
+    /// PrivateKey::write_both_der(&seed, &mut der)?;
+    /// assert_eq!(PrivateKey::seed_from_der(&der), Ok(seed));
+    /// # }
+    /// # Ok::<(), &'static str>(())
+    /// ```
+    pub fn write_both_der(seed: &[u8; 32], der: &mut [u8]) -> Result<(), &'static str> {
+        answer(Set::<PK, SK, SIG>::both_to_der(seed, der), ())
+    }
+}
+
+/// PEM in the strict form of RFC 7468, as `mlsign` and OpenSSL write it.
+#[cfg(feature = "default-rng")]
+mod pem {
+    use super::{Calls, PrivateKey, PublicKey, Set};
+    use std::string::String;
+    use std::vec::Vec;
+
+    const PUBLIC: &str = "PUBLIC KEY";
+    const PRIVATE: &str = "PRIVATE KEY";
+    const SYMBOLS: &[u8; 64] = b"ABCDEFGHIJKLMNOPQRSTUVWXYZabcdefghijklmnopqrstuvwxyz0123456789+/";
+
+    /// The text of these bytes, in lines of 64 characters.
+    fn encode(label: &str, der: &[u8]) -> String {
+        let mut text = String::from("-----BEGIN ") + label + "-----\n";
+        // 48 bytes are a line.
+        for line in der.chunks(48) {
+            for group in line.chunks(3) {
+                let bits = group
+                    .iter()
+                    .fold(0, |bits, byte| bits << 8 | u32::from(*byte))
+                    << (8 * (3 - group.len()));
+                for place in 0..4 {
+                    let symbol = SYMBOLS[(bits >> (18 - 6 * place) & 63) as usize];
+                    text.push(if place <= group.len() {
+                        char::from(symbol)
+                    } else {
+                        '='
+                    });
+                }
+            }
+            text.push('\n');
+        }
+        text + "-----END " + label + "-----\n"
+    }
+
+    /// The bytes of a text: what spells none, or is another than their text, is refused.
+    fn decode(label: &str, text: &str) -> Result<Vec<u8>, &'static str> {
+        let text = text.replace("\r\n", "\n");
+        let front = String::from("-----BEGIN ") + label + "-----\n";
+        let body = text
+            .strip_prefix(front.as_str())
+            .ok_or("it has a key of another kind, or something else than a key")?;
+        let mut der = Vec::new();
+        let (mut bits, mut count) = (0, 0);
+        for symbol in body
+            .bytes()
+            .take_while(|it| *it != b'=' && *it != b'-')
+            .filter(|it| *it != b'\n')
+        {
+            let value = SYMBOLS
+                .iter()
+                .position(|it| *it == symbol)
+                .ok_or("its text is damaged")?;
+            (bits, count) = (bits << 6 | value as u32, count + 6);
+            if count >= 8 {
+                count -= 8;
+                der.push((bits >> count) as u8);
+                bits &= (1 << count) - 1;
+            }
+        }
+        if encode(label, &der) == text {
+            Ok(der)
+        } else {
+            Err("its text is damaged")
+        }
+    }
+
+    impl<const PK: usize, const SK: usize, const SIG: usize> PublicKey<PK, SK, SIG>
+    where
+        Set<PK, SK, SIG>: Calls,
+    {
+        /// The key of a file in PEM, as `mlsign` and OpenSSL write it.
+        ///
+        /// # Errors
+        /// The text is not the PEM of a public key of this set.
+        ///
+        /// ```
+        /// # #[cfg(all(feature = "ml-dsa-65", feature = "default-rng"))] {
+        /// use fips204::ml_dsa_65::{KG, PublicKey};
+        /// use fips204::traits::{KeyGen, SerDes};
+        ///
+        /// let (public, _) = KG::keygen_from_seed(&[7; 32]); // a seed is secret, and random
+        /// let text = public.to_pem()?;
+        /// assert_eq!(PublicKey::from_pem(&text)?.into_bytes(), public.into_bytes());
+        /// # }
+        /// # Ok::<(), &'static str>(())
+        /// ```
+        pub fn from_pem(text: &str) -> Result<Self, &'static str> {
+            Self::from_der(&decode(PUBLIC, text)?)
+        }
+
+        /// The text of the key's file.
+        ///
+        /// # Errors
+        /// None is known.
+        ///
+        /// ```
+        /// # #[cfg(all(feature = "ml-dsa-65", feature = "default-rng"))] {
+        /// use fips204::ml_dsa_65::{KG, PublicKey};
+        /// use fips204::traits::{KeyGen, SerDes};
+        ///
+        /// let (public, _) = KG::keygen_from_seed(&[7; 32]); // a seed is secret, and random
+        /// let text = public.to_pem()?;
+        /// assert_eq!(PublicKey::from_pem(&text)?.into_bytes(), public.into_bytes());
+        /// # }
+        /// # Ok::<(), &'static str>(())
+        /// ```
+        pub fn to_pem(&self) -> Result<String, &'static str> {
+            let mut der = std::vec![0; Self::DER_LEN];
+            self.write_der(&mut der)?;
+            Ok(encode(PUBLIC, &der))
+        }
+    }
+
+    impl<const PK: usize, const SK: usize, const SIG: usize> PrivateKey<PK, SK, SIG>
+    where
+        Set<PK, SK, SIG>: Calls,
+    {
+        /// The key of a file in PEM, which is not encrypted, as `mlsign` and OpenSSL write it. The DER that is made on the
+        /// way is not wiped.
+        ///
+        /// # Errors
+        /// The text is not the PEM of a private key of this set, or its parts do not belong together.
+        ///
+        /// ```
+        /// # #[cfg(all(feature = "ml-dsa-65", feature = "default-rng"))] {
+        /// use fips204::ml_dsa_65::{KG, PrivateKey};
+        /// use fips204::traits::{KeyGen, SerDes};
+        ///
+        /// let (_, private) = KG::keygen_from_seed(&[7; 32]); // a seed is secret, and random
+        /// let text = private.to_pem()?;
+        /// assert_eq!(PrivateKey::from_pem(&text)?.into_bytes(), private.into_bytes());
+        /// # }
+        /// # Ok::<(), &'static str>(())
+        /// ```
+        pub fn from_pem(text: &str) -> Result<Self, &'static str> {
+            Self::from_der(&decode(PRIVATE, text)?)
+        }
+
+        /// The text of a private key's file by its seed, not encrypted.
+        ///
+        /// # Errors
+        /// None is known.
+        ///
+        /// ```
+        /// # #[cfg(all(feature = "ml-dsa-65", feature = "default-rng"))] {
+        /// use fips204::ml_dsa_65::{KG, PrivateKey};
+        /// use fips204::traits::{KeyGen, SerDes};
+        ///
+        /// let seed = [7; 32]; // a seed is secret, and random
+        /// let (_, private) = KG::keygen_from_seed(&seed);
+        /// let text = PrivateKey::seed_to_pem(&seed)?;
+        /// assert_eq!(PrivateKey::from_pem(&text)?.into_bytes(), private.into_bytes());
+        /// # }
+        /// # Ok::<(), &'static str>(())
+        /// ```
+        pub fn seed_to_pem(seed: &[u8; 32]) -> Result<String, &'static str> {
+            Ok(encode(PRIVATE, &Self::seed_to_der(seed)?))
+        }
+
+        /// The text of the key's file by its expanded key, not encrypted.
+        ///
+        /// # Errors
+        /// The key is one that `is_pair` says no to.
+        ///
+        /// ```
+        /// # #[cfg(all(feature = "ml-dsa-65", feature = "default-rng"))] {
+        /// use fips204::ml_dsa_65::{KG, PrivateKey};
+        /// use fips204::traits::{KeyGen, SerDes};
+        ///
+        /// let (_, private) = KG::keygen_from_seed(&[7; 32]); // a seed is secret, and random
+        /// let text = private.to_pem()?;
+        /// assert_eq!(PrivateKey::from_pem(&text)?.into_bytes(), private.into_bytes());
+        /// # }
+        /// # Ok::<(), &'static str>(())
+        /// ```
+        pub fn to_pem(&self) -> Result<String, &'static str> {
+            let mut der = std::vec![0; Self::DER_LEN];
+            self.write_der(&mut der)?;
+            Ok(encode(PRIVATE, &der))
+        }
+    }
+}
