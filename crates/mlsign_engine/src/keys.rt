@@ -212,11 +212,7 @@ pub enum AnyKey {
 }
 
 /// The bytes of both keys of a seed.
-fn generated(
-    alloc: Global,
-    set: SetName,
-    seed: &[u8],
-) -> Result<(Vec<u8>, Vec<u8>), CommandFault>
+fn generated(alloc: Global, set: SetName, seed: &[u8]) -> Result<(Vec<u8>, Vec<u8>), CommandFault>
     requires { length seed.now ≡ 32 }
     ensures bytes { IfOk result (λ x. HasBytes (named_set set) (Seed seed.now) x.0.items x.1.items) }
     ensures fault { IfErr result (HasNoKeysOrMemory (named_set set) (Seed seed.now)) }

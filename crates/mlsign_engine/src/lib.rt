@@ -15,4 +15,4 @@ pub use fault::CommandFault;
 pub use forms::{Form, Parts, read_key, read_private_key, read_public_key};
 pub use keys::{AnyKey, KeyPair, PublicKey};
 pub use prepared::{SigningKey, VerifyingKey};
-pub use source::Source;
+pub use source::{Reader, Source};

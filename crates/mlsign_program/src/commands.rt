@@ -21,7 +21,7 @@ use base64::engine::general_purpose::STANDARD_NO_PAD;
 use clap::ArgMatches;
 use either::Either;
 use mlsign_engine::{
-    AnyKey, CommandFault, Form, KeyFiles, KeyPair, Parts, PublicKey, SigningKey, Source,
+    AnyKey, CommandFault, Form, KeyFiles, KeyPair, Parts, PublicKey, Reader, SigningKey, Source,
 };
 use mlsign_files::SetName;
 use mlsign_files::pem::Kind;
@@ -211,12 +211,12 @@ fn sign_message(
     message: &str,
     ids: &[FileId],
 ) -> Result<(), Error> {
-    let mut input = open(rt, words, message)?;
+    let mut input = Reader::new(open(rt, words, message)?);
     let path = signature_path(rt.alloc(), words, "out", message)?;
     let output = Output::find(rt, signature_at(words, path.as_str()), ids)?;
     let random = random_of(rt, words)?;
     let signature = match sign_input(rt.alloc(), words, key, &random, &mut input) {
-        Err(CommandFault::Message) => return Err(input.fault(message)),
+        Err(CommandFault::Message) => return Err(input.reader.fault(message)),
         signature => file.name(signature)?,
     };
     output.write(rt, signature.as_slice())
@@ -277,7 +277,10 @@ pub(crate) fn convert(rt: &HostRuntime, words: &ArgMatches<'_>) -> Result<(), Er
     match key.key(rt.alloc())? {
         AnyKey::Public(public) => {
             let output = Output::find(rt, target(words, "out", Content::PublicKey)?, &[])?;
-            output.write(rt, public_file(rt.alloc(), words, &key, &public)?.as_slice())
+            output.write(
+                rt,
+                public_file(rt.alloc(), words, &key, &public)?.as_slice(),
+            )
         }
         AnyKey::Private(pair) => {
             let output = Output::find(rt, target(words, "out", Content::PrivateKey)?, &[])?;

@@ -3,6 +3,7 @@
 
 ghost use Rattle.std.specs.Prelude.{◌≡◌, ℕ, List, IfOk};
 ghost use Rattle.mlsign_engine.specs.Commands.{Judges};
+ghost use Rattle.mlsign_engine.specs.Forms.{HasPublic};
 ghost use Rattle.mlsign_engine.specs.Messages.{GivesAll};
 ghost use Rattle.mlsign_program.specs.Outputs.{context_of};
 
@@ -16,7 +17,7 @@ use crate::sums::verify_sums;
 use crate::text::printable;
 use anyhow::{Context, Error, bail};
 use clap::ArgMatches;
-use mlsign_engine::{CommandFault, Source};
+use mlsign_engine::{CommandFault, Reader, Source};
 use mlsign_files::SetName;
 use mlsign_files::pem::Kind;
 use std::alloc::Global;
@@ -148,7 +149,10 @@ fn key_of<'a>(
     rt: &HostRuntime,
     words: &ArgMatches<'_>,
     path: &'a str,
-) -> Result<VerifyingKey<'a>, Error> {
+) -> Result<VerifyingKey<'a>, Error>
+    // What verifies is the key of the file's bytes.
+    ensures { IfOk result (λ key. HasPublic key.file.form key.file.set key.file.bytes.items key.key.algorithm key.key.bytes) }
+{
     let file = KeyFile::read(rt, words, path, Some(Kind::Public))?;
     let key = file.verifying_key(rt.alloc())?;
     let set = key.key().algorithm();
@@ -257,9 +261,9 @@ fn accepts(
     ensures judged { IfOk result (λ valid. (bytes : List ℕ)
         × Judges key.now.key signature.now (context_of words.now) bytes valid) }
 {
-    let mut input = open(rt, words, message)?;
+    let mut input = Reader::new(open(rt, words, message)?);
     match verify_input(words, &key.key, signature, &mut input) {
-        Err(CommandFault::Message) => Err(input.fault(message)),
+        Err(CommandFault::Message) => Err(input.reader.fault(message)),
         valid => key.file.name(valid),
     }
 }
@@ -271,8 +275,9 @@ pub(crate) fn accepts_list(
     signature: &[u8],
     list: &[u8],
 ) -> Result<bool, Error> {
-    let mut input = list;
-    key.file.name(verify_input(words, &key.key, signature, &mut input))
+    let mut input = Reader::new(list);
+    key.file
+        .name(verify_input(words, &key.key, signature, &mut input))
 }
 
 /// Judges the signature of what is read, under the context that the words say.

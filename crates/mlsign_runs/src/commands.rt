@@ -7,12 +7,13 @@ use crate::recorded::{
 use base64::engine::general_purpose::STANDARD;
 use fips204_shake::Fault;
 use mlsign_engine::{
-    AnyKey, CommandFault, Form, KeyPair, Parts, PublicKey, SigningKey, VerifyingKey, keygen,
-    read_key, read_private_key, read_public_key, sign, verify,
+    AnyKey, CommandFault, Form, KeyPair, Parts, PublicKey, Reader, SigningKey, VerifyingKey,
+    keygen, read_key, read_private_key, read_public_key, sign, verify,
 };
 use mlsign_files::{FileFault, PrivateKey, SetName, write_private};
 use sha2::{Digest, Sha256};
 use std::alloc::Global;
+use std::io::{self, ErrorKind, Read};
 use std::test::*;
 
 /// The hashes of the recorded public keys, in hex.
@@ -51,7 +52,7 @@ fn answer(
         return Err(CommandFault::Message);
     };
     let key = verifying(alloc, public)?;
-    let mut input = message;
+    let mut input = Reader::new(message);
     verify(&key, signature.as_slice(), context, &mut input)
 }
 
@@ -99,10 +100,33 @@ fn faults(rt: HostRuntime) {
     );
 }
 
+/// A reader whose calls fail.
+#[derive(Drop)]
+struct Broken;
+
+impl Read for Broken {
+    fn read(&mut self, _: &mut [u8]) -> io::Result<usize> {
+        Err(io::Error::from(ErrorKind::BrokenPipe))
+    }
+}
+
+/// A message that is not read is told, and the call that failed is noted; of one that is read no call is.
+#[test]
+fn failing_reader(rt: HostRuntime) -> Result<(), Fail> {
+    let key = verifying(rt.alloc(), PUBLIC_44)?;
+    let mut input = Reader::new(Broken);
+    assert_eq!(rt; verify(&key, b"", b"", &mut input), Err(CommandFault::Message));
+    assert!(rt; input.failed);
+    let mut input = Reader::new(b"message".as_slice());
+    assert_eq!(rt; verify(&key, b"", b"", &mut input), Ok(false));
+    assert!(rt; !input.failed);
+    Ok(())
+}
+
 /// Whether the signature of an empty message under the empty context, over 32 zeros, has this SHA-256.
 fn has_hash(alloc: Global, text: &[u8], wanted: &str) -> Result<bool, Fail> {
     let key = SigningKey::new(alloc, private(alloc, text)?)?;
-    let mut input = b"".as_slice();
+    let mut input = Reader::new(b"".as_slice());
     let signature = sign(alloc, &key, &[0; 32], b"", &mut input)?;
     let hash = Sha256::digest(signature.as_slice());
     let wanted = hex::decode(alloc, wanted)?;
@@ -153,14 +177,14 @@ fn keys_of_openssl(rt: HostRuntime) -> Result<(), Fail> {
 /// Whether the public key in a text accepts two signatures by the private one in another, which is read and prepared once.
 fn are_signed(alloc: Global, text: &[u8], public: &[u8]) -> Result<(bool, bool), CommandFault> {
     let key = SigningKey::new(alloc, private(alloc, text)?)?;
-    let mut input = b"message".as_slice();
+    let mut input = Reader::new(b"message".as_slice());
     let first = sign(alloc, &key, &[1; 32], b"context", &mut input)?;
-    let mut input = b"another".as_slice();
+    let mut input = Reader::new(b"another".as_slice());
     let second = sign(alloc, &key, &[2; 32], b"", &mut input)?;
     let key = verifying(alloc, public)?;
-    let mut input = b"message".as_slice();
+    let mut input = Reader::new(b"message".as_slice());
     let one = verify(&key, first.as_slice(), b"context", &mut input)?;
-    let mut input = b"another".as_slice();
+    let mut input = Reader::new(b"another".as_slice());
     let two = verify(&key, second.as_slice(), b"", &mut input)?;
     Ok((one, two))
 }
@@ -258,11 +282,7 @@ fn is_key(
     let (found, key) = of_either(alloc, text)?;
     let wanted = hex::decode(alloc, hash)?;
     let hash = key.hash();
-    Ok(
-        found == is_private
-            && key.algorithm() == algorithm
-            && wanted.as_slice() == hash.as_slice(),
-    )
+    Ok(found == is_private && key.algorithm() == algorithm && wanted.as_slice() == hash.as_slice())
 }
 
 /// Both keys of each recorded pair have the hash that Python's `hashlib` gives of the public one.
