@@ -333,4 +333,4 @@ signed_valid pair random context message signature valid has signs judges =
     let same : signs.pk ≡ has.pk = one_public p pair.parts signs.pk has.pk signs.sk has.sk signs.keys has.keys in
     let decoded : IsPublicKeyOf shake256_front p.k pair.public has.pk =
     subst (λ (key : List ℕ). IsPublicKeyOf shake256_front p.k key has.pk) (sym has.public_is) ((has.keys.pair.public_decoded has.pk).1 refl) in
-    judges.1 (has.pk, decoded, subst (λ (pk : PublicParts). IsValid p pk signature context message) same signs.accepted)
+    judges.answer.1 (has.pk, decoded, subst (λ (pk : PublicParts). IsValid p pk signature context message) same signs.accepted)

@@ -41,8 +41,8 @@ abbrev pub IsValidUnder : ParameterSet → List ℕ → List ℕ → List ℕ �
 IsValidUnder p key signature context message = (pk : PublicParts) × IsPublicKeyOf shake256_front p.k key pk × IsValid p pk signature context message
 
 -- `verify`: the answer is whether the key accepts the signature
-abbrev pub Judges : PublicValue → List ℕ → List ℕ → List ℕ → Bool → Type 0
-Judges public signature context message valid = IsTrue valid ↔ IsValidUnder (named_set public.algorithm) public.bytes signature context message
+pub record Judges (public : PublicValue) (signature context message : List ℕ) (valid : Bool) : Type 0 where
+  pub answer : IsTrue valid ↔ IsValidUnder (named_set public.algorithm) public.bytes signature context message
 
 -- the library refuses to make the keys of a private key in a file: those of its seed, or the public key of the expanded one
 abbrev pub IsRefused : ParameterSet → FileParts → Fault → Type 0

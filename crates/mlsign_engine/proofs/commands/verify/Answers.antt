@@ -13,7 +13,7 @@ returns-in-Ok-clause-judged g c =
     let hash = hashed.2 ∙ ap (λ (tr : List ℕ). representative shake256_front tr (plain hashed.0 c.args.context.now)) c.tr.ensures.tr in
     let told = verdict_told p (c.key_bytes.ensures p (known_set key.algorithm)) key.bytes c.args.signature.now c.args.context.now hashed.0 c.in_ok-mu.mu c.judge_mu.result
     c.tr.ensures.size c.if-context-gt-LONGEST.false hash c.judge_mu.ensures in
-    (hashed.0, hashed.1, rw c.in-Ok.is at told)
+    (hashed.0, hashed.1, record { answer = rw c.in-Ok.is at told })
 
 pub returns-in-Err-clause-judged : goal.returns-in-Err-clause-judged
 returns-in-Err-clause-judged g c =
@@ -24,4 +24,4 @@ returns-in-Err-clause-judged g c =
     let told = verdict_told p (c.key_bytes.ensures p (known_set key.algorithm)) key.bytes c.args.signature.now c.args.context.now hashed.0 c.in_ok-mu.mu c.judge_mu.result
     c.tr.ensures.size c.if-context-gt-LONGEST.false hash c.judge_mu.ensures in
     let never = rw c.in-Err.is at told in
-    (hashed.0, hashed.1, (λ yes. absurd cc, λ valid. absurd (never valid)))
+    (hashed.0, hashed.1, record { answer = (λ yes. absurd cc, λ valid. absurd (never valid)) })
