@@ -1,106 +1,113 @@
--- A text has the key that a file has, and a file what is wanted of a text's.
-use Rattle.std.proofs.Common.{◌≡◌, ℕ, List, length, Result, Ok, Err, IfOk, Vec, Global, refl, sym, ap, subst, ◌∙◌, ◌⊎◌, inl, inr, arith}
+-- What is read of a file is the key that it has, and what is written is read again.
+use Rattle.std.proofs.Common.{◌≡◌, ℕ, List, length, Bool, true, false, eqb, Result, Ok, Err, IfErr, refl, sym, ap, subst, ◌∙◌, arith}
+use Rattle.std.proofs.lemmas.Bool.{eq-eqb, eqb-true}
 use Rattle.fips204.specs.Packing.{bit_length}
+use Rattle.fips204.specs.Sets.{named_set}
 use Rattle.fips204.specs.declared.sets.SetName.{SetName}
 use Rattle.fips204.specs.declared.sets.SetName.TheVariants.{MlDsa44, MlDsa65, MlDsa87}
-use Rattle.mlsign_files.specs.Keys.{PrivateParts as FileParts, Seed, Expanded, Both, HasPrivateSizes, IsPublicFile, IsPrivateFile, public_length, private_length}
+use Rattle.mlsign_files.specs.Keys.{PrivateParts as FileParts, Seed, Expanded, Both, HasPrivateSizes, public_length, private_length}
 use Rattle.mlsign_files.specs.Lax.{strict_form}
-use Rattle.mlsign_files.specs.Pem.{IsPem}
+use Rattle.mlsign_files.specs.Pem.{pem, IsPem}
 use Rattle.mlsign_files.specs.declared.fault.FileFault.{FileFault}
 use Rattle.mlsign_files.specs.declared.pem.Kind.{Kind}
 use Rattle.mlsign_files.specs.declared.pem.Kind.TheVariants.{Public, Private}
+use Rattle.mlsign_files.specs.declared.pem.LineEnd.TheVariants.{Lf}
 use Rattle.mlsign_files.proofs.Elements.{ok_is}
+use Rattle.mlsign_files.proofs.KeyFiles.{public_of_file, private_of_file}
+use Rattle.mlsign_files.proofs.LaxTexts.{strict_of_text}
 use Rattle.mlsign_files.proofs.PemFiles.{pem_of_text}
-use Rattle.mlsign_engine.specs.Commands.{IsPublicText, IsPrivateText, IsRaw}
-use Rattle.mlsign_engine.specs.Forms.{ReadsAs, HasPublic, HasPrivate}
+use Rattle.mlsign_engine.specs.Commands.{FailsPrivate, IsSigned, Judges, FilesBelong, MadeFilesBelong}
+use Rattle.mlsign_engine.specs.Forms.{IsRaw, IsPublicIn, IsPrivateIn, HasPublic, HasPrivate, public_in, private_in}
+use Rattle.mlsign_engine.specs.InnerSteps.{HasNoKeysOrMemory}
+use Rattle.mlsign_engine.specs.Keys.{PublicValue, PairValue}
+use Rattle.mlsign_engine.specs.declared.fault.CommandFault.{CommandFault}
+use Rattle.mlsign_engine.specs.declared.fault.CommandFault.TheVariants.{Key, Inconsistent, Library, Context, Memory, Message, NoSeed, TwoParts}
+use Rattle.mlsign_engine.specs.declared.forms.Form.{Form}
 use Rattle.mlsign_engine.specs.declared.forms.Form.TheVariants.{Pem, Der, Raw}
-use Rattle.mlsign_engine.proofs.KeyPairs.{read_public, read_private}
+use Rattle.mlsign_engine.proofs.KeyPairs.{signed_valid}
 
--- ---- what is read
+-- ---- the key of a file is what is read of it
 
-pub reads_text : (set : SetName) (kind : Kind) (file text : List ℕ) → text ≡ strict_form kind file → ReadsAs Pem set kind file text
-reads_text set Public file text is = λ algorithm bytes. (
-  λ has. (subst (λ (z : List ℕ). IsPublicText z algorithm bytes) is has, tt),
-  λ has. subst (λ (z : List ℕ). IsPublicText z algorithm bytes) (sym is) has.0,
-)
-reads_text set Private file text is = λ algorithm parts. (
-  λ has. (subst (λ (z : List ℕ). IsPrivateText z algorithm parts) is has, tt),
-  λ has. subst (λ (z : List ℕ). IsPrivateText z algorithm parts) (sym is) has.0,
-)
+raw_public : (set : SetName) (file : List ℕ) → length file ≡ public_length set → public_in Raw set file ≡ Ok (set, file)
+raw_public set file size = rw (eq-eqb _ _ size) refl
 
--- a text spells one DER
-one_der : (kind : Kind) (text a b : List ℕ) → IsPem text kind a → IsPem text kind b → a ≡ b
-one_der kind text a b first second = ok_is a b (sym (pem_of_text text kind a first) ∙ pem_of_text text kind b second)
-
-pub reads_der : (set : SetName) (kind : Kind) (file text : List ℕ) → IsPem text kind file → ReadsAs Der set kind file text
-reads_der set Public file text is = λ algorithm bytes. (
-  λ has. (subst (λ (z : List ℕ). IsPublicFile z algorithm bytes) (one_der Public text has.der file has.spelled is) has.file, tt),
-  λ has. record { der = file; spelled = is; file = has.0 },
-)
-reads_der set Private file text is = λ algorithm parts. (
-  λ has. (subst (λ (z : List ℕ). IsPrivateFile z algorithm parts) (one_der Private text has.der file has.spelled is) has.file, tt),
-  λ has. record { der = file; spelled = is; file = has.0 },
-)
-
-pub reads_raw_public : (set : SetName) (file text : List ℕ) → IsPublicText text set file → length file ≡ public_length set → ReadsAs Raw set Public file text
-reads_raw_public set file text is size = λ algorithm bytes. (
-  λ has.
-      let same = ok_is (set, file) (algorithm, bytes) (sym (read_public text (set, file) is) ∙ read_public text (algorithm, bytes) has) in
-      subst (λ (x : SetName × List ℕ). HasPublic Raw set file x.0 x.1) same ((size, refl), refl),
-  λ has.
-      subst (λ (a : SetName). IsPublicText text a bytes) (sym has.1) (subst (λ (z : List ℕ). IsPublicText text set z) has.0.1 is),
-)
+pub reads_public : (form : Form) (set : SetName) (file : List ℕ) (x : SetName × List ℕ) → HasPublic form set file x.0 x.1 → public_in form set file ≡ Ok x
+reads_public Pem set file x (has, _) = rw (pem_of_text (strict_form Public file) Public has.der has.spelled) (public_of_file has.der x.0 x.1 has.file)
+reads_public Der set file x (has, _) = public_of_file file x.0 x.1 has
+reads_public Raw set file x ((size, is), at) =
+    raw_public set file (ap length is ∙ size ∙ ap public_length at)
+    ∙ ap (λ (y : SetName × List ℕ). Ok y) (ap (λ (algorithm : SetName). (algorithm, file)) (sym at) ∙ ap (λ (bytes : List ℕ). (x.0, bytes)) is)
 
 -- a seed is no expanded key
-no_seed : (set : SetName) → 32 ≡ private_length set → ⊥
+no_seed : (set : SetName) → private_length set ≡ 32 → ⊥
 unfolding bit_length
 no_seed MlDsa44 e = absurd (omega (arith, e))
 no_seed MlDsa65 e = absurd (omega (arith, e))
 no_seed MlDsa87 e = absurd (omega (arith, e))
 
--- raw bytes are of one private key
-one_raw : (set : SetName) (a b : FileParts) (file : List ℕ) → HasPrivateSizes (private_length set) a → HasPrivateSizes (private_length set) b → IsRaw a file → IsRaw b file → a ≡ b
-one_raw set (Seed s) (Seed t) file first second is other = ap Seed (sym is ∙ other)
-one_raw set (Expanded s) (Expanded t) file first second is other = ap Expanded (sym is ∙ other)
-one_raw set (Seed s) (Expanded t) file first second is other = absurd (no_seed set (sym first ∙ ap length (sym is ∙ other) ∙ second))
-one_raw set (Expanded s) (Seed t) file first second is other = absurd (no_seed set (sym second ∙ ap length (sym other ∙ is) ∙ first))
-one_raw set (Both s e) b file first second is other = absurd is
-one_raw set a (Both s e) file first second is other = absurd other
+raw_private : (set : SetName) (file : List ℕ) (parts : FileParts) → HasPrivateSizes (private_length set) parts → IsRaw parts file → private_in Raw set file ≡ Ok (set, parts)
+raw_private set file (Seed seed) size is = rw (is, eq-eqb _ _ size) refl
+raw_private set file (Expanded expanded) size is =
+    let other : eqb (length expanded) 32 ≡ false = decided (eqb (length expanded) 32) (λ yes. no_seed set (sym size ∙ eqb-true _ _ yes)) in
+    rw (is, other, eq-eqb _ _ size) refl
+  where
+    decided : (b : Bool) → ¬ (b ≡ true) → b ≡ false
+    decided true never = absurd (never refl)
+    decided false never = refl
+raw_private set file (Both seed expanded) size is = absurd is
 
-pub reads_raw_private : (set : SetName) (parts : FileParts) (file text : List ℕ) → IsPrivateText text set parts → HasPrivateSizes (private_length set) parts → IsRaw parts file
-    → ReadsAs Raw set Private file text
-reads_raw_private set parts file text is sizes raw = λ algorithm other. (
-  λ has.
-      let same = ok_is (set, parts) (algorithm, other) (sym (read_private text (set, parts) is) ∙ read_private text (algorithm, other) has) in
-      subst (λ (x : SetName × FileParts). HasPrivate Raw set file x.0 x.1) same ((sizes, raw), refl),
-  λ has.
-      let here : HasPrivateSizes (private_length set) other = subst (λ (a : SetName). HasPrivateSizes (private_length a) other) has.1 has.0.0 in
-      subst (λ (a : SetName). IsPrivateText text a other) (sym has.1)
-      (subst (λ (p : FileParts). IsPrivateText text set p) (one_raw set parts other file sizes here raw has.0.1) is),
-)
+pub reads_private : (form : Form) (set : SetName) (file : List ℕ) (x : SetName × FileParts) → HasPrivate form set file x.0 x.1 → private_in form set file ≡ Ok x
+reads_private Pem set file x (has, _) = rw (pem_of_text (strict_form Private file) Private has.der has.spelled) (private_of_file has.der x.0 x.1 has.file)
+reads_private Der set file x (has, _) = private_of_file file x.0 x.1 has
+reads_private Raw set file x ((sizes, is), at) =
+    raw_private set file x.1 (subst (λ (algorithm : SetName). HasPrivateSizes (private_length algorithm) x.1) at sizes) is
+    ∙ ap (λ (algorithm : SetName). Ok (algorithm, x.1)) (sym at)
 
-pub no_raw_public : (set : SetName) (file : List ℕ) → ¬ (length file ≡ public_length set) → (algorithm : SetName) (bytes : List ℕ) → ¬ (HasPublic Raw set file algorithm bytes)
-no_raw_public set file never algorithm bytes has = never (ap length has.0.1 ∙ has.0.0 ∙ ap public_length has.1)
+-- why the key of a file has no keys is why none is had of the file
+pub no_keys_of_file : (form : Form) (set algorithm : SetName) (file : List ℕ) (parts : FileParts) (fault : CommandFault) → HasPrivate form set file algorithm parts
+    → HasNoKeysOrMemory (named_set algorithm) parts fault → FailsPrivate form set file fault
+no_keys_of_file form set algorithm file parts (Key why) has never = absurd never
+no_keys_of_file form set algorithm file parts Inconsistent has never = (algorithm, parts, has, never)
+no_keys_of_file form set algorithm file parts (Library why) has never = (algorithm, parts, has, never)
+no_keys_of_file form set algorithm file parts Context has never = absurd never
+no_keys_of_file form set algorithm file parts Memory has never = tt
+no_keys_of_file form set algorithm file parts Message has never = absurd never
+no_keys_of_file form set algorithm file parts NoSeed has never = absurd never
+no_keys_of_file form set algorithm file parts TwoParts has never = absurd never
 
-raw_size : (set : SetName) (parts : FileParts) (file : List ℕ) → HasPrivateSizes (private_length set) parts → IsRaw parts file → (length file ≡ 32) ⊎ (length file ≡ private_length set)
-raw_size set (Seed s) file size is = inl (ap length is ∙ size)
-raw_size set (Expanded s) file size is = inr (ap length is ∙ size)
-raw_size set (Both s e) file size is = absurd is
+pub if_no_keys : {A : Type 0} (form : Form) (set algorithm : SetName) (file : List ℕ) (parts : FileParts) (r : Result A CommandFault)
+    → HasPrivate form set file algorithm parts → IfErr r (HasNoKeysOrMemory (named_set algorithm) parts) → IfErr r (FailsPrivate form set file)
+if_no_keys form set algorithm file parts (Ok x) has never = tt
+if_no_keys form set algorithm file parts (Err fault) has never = no_keys_of_file form set algorithm file parts fault has never
 
-pub no_raw_private : (set : SetName) (file : List ℕ) → ¬ ((length file ≡ 32) ⊎ (length file ≡ private_length set)) → (algorithm : SetName) (parts : FileParts)
-    → ¬ (HasPrivate Raw set file algorithm parts)
-no_raw_private set file never algorithm parts has =
-    never (raw_size set parts file (subst (λ (a : SetName). HasPrivateSizes (private_length a) parts) has.1 has.0.0) has.0.1)
+-- ---- what is written is read again
 
--- ---- what a function returned
+strict_is : (kind : Kind) (text der : List ℕ) → IsPem text kind der → IsPem (strict_form kind text) kind der
+strict_is kind text der is = record { ending = Lf; bytes = is.bytes; is = strict_of_text kind text der is }
 
-pub if_reads_public : (set : SetName) (file : List ℕ) (r : Result (Vec ℕ Global) FileFault) → IfOk r (λ text. IsPublicText text.items set file)
-    → IfOk r (λ _. length file ≡ public_length set) → IfOk r (λ text. ReadsAs Raw set Public file text.items)
-if_reads_public set file (Ok text) is size = reads_raw_public set file text.items is size
-if_reads_public set file (Err fault) is size = tt
+public_again : (form : Form) (algorithm : SetName) (file bytes : List ℕ) → IsPublicIn form file algorithm bytes → HasPublic form algorithm file algorithm bytes
+public_again Pem algorithm file bytes is = (record { der = is.der; spelled = strict_is Public file is.der is.spelled; file = is.file }, tt)
+public_again Der algorithm file bytes is = (is, tt)
+public_again Raw algorithm file bytes is = (is, refl)
 
-pub if_reads_private : (set : SetName) (file : List ℕ) (r : Result (Vec ℕ Global) FileFault)
-    → IfOk r (λ text. (parts : FileParts) × IsPrivateText text.items set parts × HasPrivateSizes (private_length set) parts × IsRaw parts file)
-    → IfOk r (λ text. ReadsAs Raw set Private file text.items)
-if_reads_private set file (Ok text) (parts, is, sizes, raw) = reads_raw_private set parts file text.items is sizes raw
-if_reads_private set file (Err fault) is = tt
+private_again : (form : Form) (algorithm : SetName) (file : List ℕ) (parts : FileParts) → IsPrivateIn form file algorithm parts → HasPrivate form algorithm file algorithm parts
+private_again Pem algorithm file parts is = (record { der = is.der; spelled = strict_is Private file is.der is.spelled; file = is.file }, tt)
+private_again Der algorithm file parts is = (is, tt)
+private_again Raw algorithm file parts is = (is, refl)
+
+pub files_belong : FilesBelong
+files_belong form pair public file random context message signature valid consistent written read signs judges =
+    let same : (pair.algorithm, pair.public) ≡ (public.algorithm, public.bytes) =
+    ok_is _ _ (sym (reads_public form pair.algorithm file (pair.algorithm, pair.public) (public_again form pair.algorithm file pair.public written))
+    ∙ reads_public form pair.algorithm file (public.algorithm, public.bytes) read) in
+    signed_valid pair random context message signature valid consistent signs
+    (subst (λ (x : SetName × List ℕ). Judges (let key : PublicValue = record { algorithm = x.0; bytes = x.1 } in key) signature context message valid) (sym same) judges)
+
+pub made_files_belong : MadeFilesBelong
+made_files_belong form algorithm pair public seed private_file public_file random context message signature valid made has read signs judges =
+    let same : (pair.algorithm, pair.parts) ≡ (algorithm, Seed seed) =
+    ok_is _ _ (sym (reads_private form algorithm private_file (pair.algorithm, pair.parts) has)
+    ∙ reads_private form algorithm private_file (algorithm, Seed seed) (private_again form algorithm private_file (Seed seed) made.private_file)) in
+    let own : PairValue = record { algorithm = algorithm; parts = Seed seed; public = made.public_bytes; private = made.private_bytes } in
+    files_belong form own public public_file random context message signature valid made.keys made.public_file read
+    (subst (λ (x : SetName × FileParts). IsSigned (named_set x.0) x.1 random context message signature) same signs) judges

@@ -2,33 +2,35 @@
 use Rattle.std.proofs.Common.{◌≡◌, ℕ, ◌<◌, ◌≤◌, List, ◌++◌, length, take, drop, Bool, true, false, not, ltb, nat_eq, Result, Ok, Err, refl, sym, ap, subst, ◌∙◌, append_assoc, arith, IsTrue, inl, inr, ◌↔◌, None}
 use Rattle.std.proofs.lemmas.Bool.{le-ltb, not-false, eq-eqb, eqb-true}
 use Rattle.std.proofs.lemmas.List.{take_at, drop_at, length-append}
-use Rattle.std.specs.Prelude.{MatchBool, MatchResult, ⊤}
+use Rattle.std.specs.Prelude.{MatchBool, MatchResult, ⊤, Option, Some, ok_or, option_map}
 use Rattle.std.specs.Str.{bytes_eq}
 use Rattle.std.proofs.lemmas.Slice.Eq.{bytes_eq-Decides}
 use Rattle.fips204.specs.fault.Fault.{Fault}
+use Rattle.fips204.specs.fault.Fault.TheVariants.{SamplingLimit}
 use Rattle.fips204.specs.Framing.{plain, represented, representative}
 use Rattle.fips204.specs.Keys.{DecodesPrivate}
 use Rattle.fips204.specs.Encodings.{PublicParts, PrivateParts, ArePrivateParts, IsPublicKeyOf, IsPrivateKeyOf, public_key_bytes, private_key_bytes, vector_bytes}
 use Rattle.fips204.specs.Acceptance.{Verifies}
 use Rattle.fips204.specs.Completeness.{SignedIsAccepted, AcceptsSigned, IsPair, TellsPair, BytesTellKeys}
 use Rattle.fips204.specs.ParameterSets.{ParameterSet, public_key_length, private_key_length, signature_length, IsSet}
+use Rattle.fips204.specs.Prepared.{PreparedPublic, PreparedPrivate, prepared_public, prepared_private}
+use Rattle.fips204.specs.PreparedBytes.{prepared_public_bytes, prepared_private_bytes, prepared_public_length, prepared_private_length}
 use Rattle.fips204.specs.Refusals.{generated, derived, input_fault, sign_input, VerifiesInput}
+use Rattle.fips204.specs.Sampling.{sampled_matrix}
 use Rattle.fips204.specs.Signing.{sign}
 use Rattle.fips204.specs.Sets.{named_set}
 use Rattle.fips204.specs.declared.sets.SetName.{SetName}
 use Rattle.fips204.specs.declared.sets.SetName.TheVariants.{MlDsa44, MlDsa65, MlDsa87}
 use Rattle.fips204_bytes.specs.Bytes as bytes
+use Rattle.fips204_bytes.specs.Prepared.{PreparesPublic, PreparesPrivate}
 use Rattle.fips204_bytes.specs.declared.refusal.Array.TheVariants.{Signature}
 use Rattle.fips204_bytes.specs.declared.refusal.Refusal.{Refusal}
 use Rattle.fips204_bytes.specs.declared.refusal.Refusal.TheVariants as refusal
 use Rattle.fips204_shake.specs.Fronts.{shake256_front, shake128_front, length-shake256_front}
-use Rattle.mlsign_files.specs.Keys.{PrivateParts as FileParts, Seed, Expanded, Both}
-use Rattle.mlsign_files.specs.declared.pem.Kind.TheVariants.{Public, Private}
-use Rattle.mlsign_files.proofs.Elements.{ok_is}
-use Rattle.mlsign_files.proofs.PemFiles.{pem_of_text}
-use Rattle.mlsign_files.proofs.KeyFiles.{public_of_file, private_of_file}
-use Rattle.mlsign_engine.specs.Commands.{HasKeys, HasNoKeys, IsRefused, FailsToGenerate, IsValid, HasPublicBytes, IsPublicText, IsPrivateText, SignsByText, JudgesByText, PublishedIsValid, SignedIsValid, public_text_at, private_text_at}
+use Rattle.mlsign_files.specs.Keys.{PrivateParts as FileParts, Seed, Expanded, Both, HasPrivateSizes}
+use Rattle.mlsign_engine.specs.Commands.{HasNoKeys, IsRefused, FailsToGenerate, IsValid, IsValidUnder, IsSigned, CannotSign, Judges, HasNoMatrix, SignedIsValid}
 use Rattle.mlsign_engine.specs.InnerSteps.{HasPrivateBytes, HasNoKeysOrMemory}
+use Rattle.mlsign_engine.specs.Keys.{PublicValue, HasKeys, HasBytes, IsConsistent}
 use Rattle.mlsign_engine.specs.declared.fault.CommandFault.TheVariants.{Key, Inconsistent, Library, Context, Memory, Message, NoSeed, TwoParts}
 use Rattle.mlsign_engine.specs.declared.fault.CommandFault.{CommandFault}
 
@@ -72,31 +74,48 @@ RefusedBy P why = (fault : Fault) × (why ≡ refusal.Library fault) × P fault
 
 -- keygen writes the keys of a seed
 pub seed_written : (p : ParameterSet) (law : SignedIsAccepted) → IsSet p → (seed public public' private private' : List ℕ) (answer : Result ⊤ Refusal)
-    → length public ≡ public_key_length p → length private ≡ private_key_length p → length private' ≡ private_key_length p
+    → length seed ≡ 32 → length public ≡ public_key_length p → length private ≡ private_key_length p
+    → length public' ≡ public_key_length p → length private' ≡ private_key_length p
     → bytes.Generates p shake256_front shake128_front seed public public' private private' answer
-    → MatchResult answer (λ _. HasPrivateBytes p (Seed seed) private') (RefusedBy (IsRefused p (Seed seed)))
-seed_written p law known seed public public' private private' answer first second size told =
+    → MatchResult answer (λ _. HasBytes p (Seed seed) public' private') (RefusedBy (IsRefused p (Seed seed)))
+seed_written p law known seed public public' private private' answer seed_size first second public_size private_size told =
     case_of (generated p shake256_front shake128_front seed) refl (sized _ _ private second (sized _ _ public first told))
   where
     case_of : (made : Result (PublicParts × PrivateParts) Fault) → generated p shake256_front shake128_front seed ≡ made
         → MatchResult made (λ pair. (public' ≡ bytes.bytes_of_public pair.0) × (private' ≡ private_key_bytes p.eta pair.1) × (answer ≡ Ok tt))
         (λ fault. (public' ≡ public) × bytes.Leaves private private' answer (refusal.Library fault))
-        → MatchResult answer (λ _. HasPrivateBytes p (Seed seed) private') (RefusedBy (IsRefused p (Seed seed)))
-    case_of (Ok (pk, sk)) is (_, same, done) = rw done (record { pk = pk; sk = sk; keys = keys_of_seed p law known seed pk sk is; is = same; size = size })
+        → MatchResult answer (λ _. HasBytes p (Seed seed) public' private') (RefusedBy (IsRefused p (Seed seed)))
+    case_of (Ok (pk, sk)) is (public_is, private_is, done) = rw done (record {
+      pk = pk;
+      sk = sk;
+      keys = keys_of_seed p law known seed pk sk is;
+      sizes = seed_size;
+      public_is = public_is;
+      public_size = public_size;
+      private_is = private_is;
+      private_size = private_size;
+    })
     case_of (Err fault) is (_, (_, failed)) = rw failed (fault, refl, is)
 
--- the keys of a seed whose private one has the bytes beside it, and that has others
-pub keys_of_both : (p : ParameterSet) (seed expanded private : List ℕ) → HasPrivateBytes p (Seed seed) private → private ≡ expanded
-    → HasPrivateBytes p (Both seed expanded) private
-keys_of_both p seed expanded private has same =
-    record { pk = has.pk; sk = has.sk; keys = record { stands = (has.keys.stands, sym same ∙ has.is); pair = has.keys.pair }; is = has.is; size = has.size }
+-- the keys of a seed are those of both parts where its own bytes stand beside it, and of none where others do
+pub keys_of_both : (p : ParameterSet) (seed public private : List ℕ) → HasBytes p (Seed seed) public private → HasBytes p (Both seed private) public private
+keys_of_both p seed public private has = record {
+  pk = has.pk;
+  sk = has.sk;
+  keys = record { stands = (has.keys.stands, has.private_is); pair = has.keys.pair };
+  sizes = (has.sizes, has.private_size);
+  public_is = has.public_is;
+  public_size = has.public_size;
+  private_is = has.private_is;
+  private_size = has.private_size;
+}
 
-pub others_beside : (p : ParameterSet) (seed expanded private : List ℕ) → HasPrivateBytes p (Seed seed) private → ¬ (private ≡ expanded)
+pub others_beside : (p : ParameterSet) (seed expanded public private : List ℕ) → HasBytes p (Seed seed) public private → ¬ (private ≡ expanded)
     → HasNoKeys p (Both seed expanded) Inconsistent
-others_beside p seed expanded private has differ = (
+others_beside p seed expanded public private has differ = (
   λ pk sk keys.
       let same = library_is (has.pk, has.sk) (pk, sk) _ has.keys.stands keys.stands.0 in
-      differ (has.is ∙ ap (λ (pair : PublicParts × PrivateParts). private_key_bytes p.eta pair.1) same ∙ sym keys.stands.1),
+      differ (has.private_is ∙ ap (λ (pair : PublicParts × PrivateParts). private_key_bytes p.eta pair.1) same ∙ sym keys.stands.1),
   λ fault refused. made_or_refused (has.pk, has.sk) fault _ has.keys.stands refused,
 )
 
@@ -148,6 +167,9 @@ not_a_pair p law expanded answer size told answered = case_of (sized _ _ expande
 
 -- ---- what is done with the bytes of a file's private key
 
+pub private_of : (p : ParameterSet) (parts : FileParts) (public private : List ℕ) → HasBytes p parts public private → HasPrivateBytes p parts private
+private_of p parts public private has = record { pk = has.pk; sk = has.sk; keys = has.keys; is = has.private_is; size = has.private_size }
+
 decodes_own : (p : ParameterSet) (pk : PublicParts) (sk : PrivateParts) → IsPair p shake256_front shake128_front pk sk → (decoded : Result PrivateParts Fault)
     → DecodesPrivate p.eta p.k p.l (private_key_bytes p.eta sk) decoded → decoded ≡ Ok sk
 decodes_own p pk sk pair (Ok other) is = ap Ok ((pair.private_decoded other).0 is)
@@ -182,18 +204,6 @@ same_input p parts key random context message mu has short hashed =
     hashed ∙ ap (λ (z : List ℕ). representative shake256_front z (plain message context)) tr in
     rw (short_context message context short) (ap (λ (z : List ℕ). sign p shake256_front shake128_front has.sk z random) hash)
 
--- the signature is that of the message, and valid
-pub record IsSigned (p : ParameterSet) (parts : FileParts) (random context message signature : List ℕ) : Type 0 where
-  pub pk : PublicParts
-  pub sk : PrivateParts
-  pub keys : HasKeys p parts pk sk
-  pub signed : sign_input p shake256_front shake128_front sk random (plain message context) ≡ Ok signature
-  pub accepted : IsValid p pk signature context message
-
-abbrev pub CannotSign : ParameterSet → FileParts → List ℕ → List ℕ → List ℕ → Fault → Type 0
-CannotSign p parts random context message fault = (pk : PublicParts) × (sk : PrivateParts) × HasKeys p parts pk sk
-    × (sign_input p shake256_front shake128_front sk random (plain message context) ≡ Err fault)
-
 pub signature_written : (p : ParameterSet) (law : SignedIsAccepted) → IsSet p → (parts : FileParts) (key random context message mu old new : List ℕ) (answer : Result ⊤ Refusal)
     → HasPrivateBytes p parts key → length old ≡ signature_length p → length new ≡ signature_length p
     → length context ≤ 255 → mu ≡ representative shake256_front (take 64 (drop 64 key)) (plain message context)
@@ -220,34 +230,59 @@ pub other_fault : {A : Type 0} (r : Result A CommandFault) (fault : Fault) (cont
     → (r ≡ Err Context) ↔ (255 < length context)
 other_fault r fault context is short = (λ e. absurd cc, λ long. absurd (omega (arith, long, short)))
 
-pub signs_of : (algorithm : SetName) (parts : FileParts) (private random context message signature : List ℕ) → IsPrivateText private algorithm parts
-    → IsSigned (named_set algorithm) parts random context message signature → SignsByText private random context message signature
-signs_of algorithm parts private random context message signature text is = record {
-  algorithm = algorithm;
-  parts = parts;
-  text = text;
-  pk = is.pk;
-  sk = is.sk;
-  keys = is.keys;
-  signed = is.signed;
-  accepted = is.accepted;
-}
-
 -- the public key of a file's private one is written
 pub public_written : (p : ParameterSet) (parts : FileParts) (key old new : List ℕ) (answer : Result ⊤ Refusal)
-    → HasPrivateBytes p parts key → length old ≡ public_key_length p
-    → bytes.Derives p shake128_front key old new answer → HasPublicBytes p parts new × (answer ≡ Ok tt)
-public_written p parts key old new answer has second told =
+    → HasPrivateBytes p parts key → HasPrivateSizes (private_key_length p) parts → length old ≡ public_key_length p → length new ≡ public_key_length p
+    → bytes.Derives p shake128_front key old new answer → HasBytes p parts new key × (answer ≡ Ok tt)
+public_written p parts key old new answer has sizes second size told =
     let derives : bytes.Writes bytes.bytes_of_public (derived p shake128_front has.sk) old new answer =
     uses_own p parts key has (λ sk. bytes.Writes bytes.bytes_of_public (derived p shake128_front sk) old new answer) (bytes.Leaves old new answer)
     (sized _ _ old second (sized _ _ key has.size told)) in
-    let done : (new ≡ bytes.bytes_of_public has.pk) × (answer ≡ Ok tt) = rw has.keys.pair.derives at derives in
-    (record { pk = has.pk; sk = has.sk; keys = has.keys; is = done.0 }, done.1)
+    let done : (new ≡ bytes.bytes_of_public has.pk) × (answer ≡ Ok tt) = rw has.keys.pair.derives at derives in (
+      record {
+        pk = has.pk;
+        sk = has.sk;
+        keys = has.keys;
+        sizes = sizes;
+        public_is = done.0;
+        public_size = size;
+        private_is = has.is;
+        private_size = has.size;
+      },
+      done.1,
+    )
+
+-- ---- what is prepared
+
+-- where a public key is derived, the private key is prepared: both take the matrix
+both_made : {A : Type 0} (matrix : Option A) (f : A → PublicParts) (g : A → PreparedPrivate) (bytes_of : PreparedPrivate → List ℕ) (pk : PublicParts) (old new : List ℕ)
+    (answer : Result ⊤ Refusal) → ok_or (option_map f matrix) SamplingLimit ≡ Ok pk → bytes.Writes bytes_of (ok_or (option_map g matrix) SamplingLimit) old new answer
+    → answer ≡ Ok tt
+both_made (Some a) f g bytes_of pk old new answer made written = written.1
+both_made None f g bytes_of pk old new answer made written = absurd cc
+
+pub private_prepared : (p : ParameterSet) (parts : FileParts) (key old new : List ℕ) (answer : Result ⊤ Refusal)
+    → HasPrivateBytes p parts key → length old ≡ prepared_private_length p
+    → PreparesPrivate p shake128_front key old new answer → answer ≡ Ok tt
+unfolding derived
+private_prepared p parts key old new answer has second told =
+    both_made (sampled_matrix shake128_front has.sk.rho p.k p.l) _ _ (λ prepared. prepared_private_bytes p.eta prepared) has.pk old new answer has.keys.pair.derives
+    (uses_own p parts key has (λ sk. bytes.Writes (λ prepared. prepared_private_bytes p.eta prepared) (prepared_private p shake128_front sk) old new answer)
+    (bytes.Leaves old new answer) (sized _ _ old second (sized _ _ key has.size told)))
+
+pub public_prepared : (p : ParameterSet) (key old new : List ℕ) (answer : Result ⊤ Refusal) → length key ≡ public_key_length p → length old ≡ prepared_public_length p
+    → PreparesPublic p shake256_front shake128_front key old new answer
+    → MatchResult answer (λ _. ⊤) (RefusedBy (λ fault. (pk : PublicParts) × IsPublicKeyOf shake256_front p.k key pk × (prepared_public p shake128_front pk ≡ Err fault)))
+public_prepared p key old new answer first second told =
+    let (pk, is, written) = sized _ _ old second (sized _ _ key first told) in case_of pk is (prepared_public p shake128_front pk) refl written
+  where
+    case_of : (pk : PublicParts) → IsPublicKeyOf shake256_front p.k key pk → (made : Result PreparedPublic Fault) → prepared_public p shake128_front pk ≡ made
+        → bytes.Writes prepared_public_bytes made old new answer
+        → MatchResult answer (λ _. ⊤) (RefusedBy (λ fault. (pk : PublicParts) × IsPublicKeyOf shake256_front p.k key pk × (prepared_public p shake128_front pk ≡ Err fault)))
+    case_of pk is (Ok ready) made (_, done) = rw done tt
+    case_of pk is (Err fault) made (_, failed) = rw failed (fault, refl, (pk, is, made))
 
 -- ---- what is accepted by the public key that has these bytes
-
-abbrev pub IsValidUnder : ParameterSet → List ℕ → List ℕ → List ℕ → List ℕ → Type 0
-IsValidUnder p key signature context message = (pk : PublicParts) × IsPublicKeyOf shake256_front p.k key pk × IsValid p pk signature context message
 
 pub verdict_told : (p : ParameterSet) (law : BytesTellKeys p) (key signature context message mu : List ℕ) (answer : Result Bool Refusal)
     → length key ≡ public_key_length p → length context ≤ 255
@@ -279,23 +314,7 @@ verdict_told p law key signature context message mu answer size short hashed tol
     )
     case_of false fits failed = rw failed (λ (_, _, (size, _)). let true_is = eq-eqb _ _ size in cc)
 
--- ---- what keygen wrote, sign reads, and verify reads
-
-pub read_public : (text : List ℕ) (x : SetName × List ℕ) → IsPublicText text x.0 x.1 → public_text_at text ≡ Ok x
-read_public text x has = rw (pem_of_text text Public has.der has.spelled) (public_of_file has.der x.0 x.1 has.file)
-
-pub read_private : (text : List ℕ) (x : SetName × FileParts) → IsPrivateText text x.0 x.1 → private_text_at text ≡ Ok x
-read_private text x has = rw (pem_of_text text Private has.der has.spelled) (private_of_file has.der x.0 x.1 has.file)
-
--- what a public key accepts is valid for the text that has its bytes
-judged_valid : (algorithm : SetName) (pk : PublicParts) (public signature context message : List ℕ) (valid : Bool)
-    → IsPublicKeyOf shake256_front (named_set algorithm).k (public_key_bytes pk.rho pk.t1) pk
-    → IsPublicText public algorithm (public_key_bytes pk.rho pk.t1) → JudgesByText public signature context message valid
-    → IsValid (named_set algorithm) pk signature context message → IsTrue valid
-judged_valid algorithm pk public signature context message valid decoded text judges accepted =
-    let key : List ℕ = public_key_bytes pk.rho pk.t1 in
-    let e = ok_is _ _ (sym (read_public public (judges.algorithm, judges.bytes) judges.text) ∙ read_public public (algorithm, key) text) in
-    (subst (λ (x : SetName × List ℕ). IsTrue valid ↔ IsValidUnder (named_set x.0) x.1 signature context message) e judges.answer).1 (pk, decoded, accepted)
+-- ---- what is signed is valid
 
 -- a file has one public key
 one_public : (p : ParameterSet) (parts : FileParts) (x y : PublicParts) (a b : PrivateParts) → HasKeys p parts x a → HasKeys p parts y b → x ≡ y
@@ -308,21 +327,10 @@ one_public p (Expanded expanded) x y a b first second =
     let same : a ≡ b = (second.pair.private_decoded a).0 moved in
     library_is x y _ first.pair.derives (ap (derived p shake128_front) same ∙ second.pair.derives)
 
-pub published_valid : PublishedIsValid
-published_valid private public random context message signature valid published signs judges =
-    let algorithm = published.0 in
-    let parts = published.2.0 in
-    let made = published.2.2 in
-    let e = ok_is _ _ (sym (read_private private (signs.algorithm, signs.parts) signs.text) ∙ read_private private (algorithm, parts) published.2.1) in
-    let moved : HasKeys (named_set algorithm) parts signs.pk signs.sk × IsValid (named_set algorithm) signs.pk signature context message =
-    subst (λ (x : SetName × FileParts). HasKeys (named_set x.0) x.1 signs.pk signs.sk × IsValid (named_set x.0) signs.pk signature context message) e
-    (signs.keys, signs.accepted) in
-    let same : signs.pk ≡ made.pk = one_public (named_set algorithm) parts signs.pk made.pk signs.sk made.sk moved.0 made.keys in
-    judged_valid algorithm made.pk public signature context message valid ((made.keys.pair.public_decoded made.pk).1 refl)
-    (subst (λ (bytes : List ℕ). IsPublicText public algorithm bytes) made.is published.3) judges
-    (subst (λ (pk : PublicParts). IsValid (named_set algorithm) pk signature context message) same moved.1)
-
 pub signed_valid : SignedIsValid
-signed_valid algorithm seed private public random context message signature valid made signs judges =
-    published_valid private public random context message signature valid
-    (algorithm, made.bytes, (Seed seed, made.private_file, made.keys), made.public_file) signs judges
+signed_valid pair random context message signature valid has signs judges =
+    let p : ParameterSet = named_set pair.algorithm in
+    let same : signs.pk ≡ has.pk = one_public p pair.parts signs.pk has.pk signs.sk has.sk signs.keys has.keys in
+    let decoded : IsPublicKeyOf shake256_front p.k pair.public has.pk =
+    subst (λ (key : List ℕ). IsPublicKeyOf shake256_front p.k key has.pk) (sym has.public_is) ((has.keys.pair.public_decoded has.pk).1 refl) in
+    judges.answer.1 (has.pk, decoded, subst (λ (pk : PublicParts). IsValid p pk signature context message) same signs.accepted)

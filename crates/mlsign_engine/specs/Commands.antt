@@ -1,29 +1,29 @@
--- What the commands answer, by the files that they are given and the message that is read.
-use Rattle.std.specs.Prelude.{◌≡◌, ◌<◌, ◌↔◌, ◌⊎◌, ℕ, List, length, take, Bool, IsTrue, Option, Result, Ok, Err}
+-- What the commands answer, by the files and keys that they are given and the message that is read.
+use Rattle.std.specs.Prelude.{◌≡◌, ◌<◌, ◌↔◌, ◌⊎◌, ℕ, List, length, Bool, IsTrue, Option, Ok, Err}
 use Rattle.fips204.specs.fault.Fault.{Fault}
-use Rattle.fips204.specs.Encodings.{PublicParts, PrivateParts, IsPublicKeyOf, IsPrivateKeyOf, public_key_bytes, private_key_bytes}
-use Rattle.fips204.specs.Completeness.{IsPair}
+use Rattle.fips204.specs.Encodings.{PublicParts, PrivateParts, IsPublicKeyOf, IsPrivateKeyOf}
 use Rattle.fips204.specs.ParameterSets.{ParameterSet, signature_length}
 use Rattle.fips204.specs.Sets.{named_set}
 use Rattle.fips204.specs.Refusals.{generated, derived, sign_input, VerifiesInput}
 use Rattle.fips204.specs.Framing.{plain}
+use Rattle.fips204.specs.Prepared.{prepared_public}
 use Rattle.fips204.specs.declared.sets.SetName.{SetName}
 use Rattle.fips204_bytes.specs.declared.refusal.Refusal.{Refusal}
 use Rattle.fips204_bytes.specs.declared.refusal.Refusal.TheVariants as refusal
 use Rattle.fips204_shake.specs.Fronts.{shake256_front, shake128_front}
+use Rattle.mlsign_engine.specs.Forms.{IsPublicIn, IsPrivateIn, HasPublic, HasPrivate, public_in, private_in}
+use Rattle.mlsign_engine.specs.Keys.{PublicValue, PairValue, HasKeys, HasBytes, IsConsistent, public_of_pair}
 use Rattle.mlsign_engine.specs.Messages.{GivesAll, FailsToGive}
 use Rattle.mlsign_engine.specs.declared.fault.CommandFault.{CommandFault}
 use Rattle.mlsign_engine.specs.declared.fault.CommandFault.TheVariants.{Key, Inconsistent, Library, Context, Memory, Message}
 use Rattle.mlsign_engine.specs.declared.forms.Form.{Form}
-use Rattle.mlsign_engine.specs.declared.forms.Form.TheVariants.{Pem, Der, Raw}
-use Rattle.mlsign_files.specs.Keys.{IsPublicFile, IsPrivateFile, PrivateParts as FileParts, Seed, Expanded, Both, HasPrivateSizes, public_length, private_length}
-use Rattle.mlsign_files.specs.Pem.{IsPem}
-use Rattle.mlsign_files.specs.PemReading.{pem_at, FailsLike}
-use Rattle.mlsign_files.specs.Reading.{◌>>=◌, public_at, private_at}
+use Rattle.mlsign_engine.specs.declared.forms.Form.TheVariants.{Pem}
+use Rattle.mlsign_engine.specs.declared.keys.AnyKey.{AnyKey}
+use Rattle.mlsign_engine.specs.declared.keys.AnyKey.TheVariants as key
+use Rattle.mlsign_files.specs.Keys.{PrivateParts as FileParts, Seed, Expanded, Both}
+use Rattle.mlsign_files.specs.PemReading.{FailsLike}
 use Rattle.mlsign_files.specs.declared.fault.FileFault.{FileFault}
 use Rattle.mlsign_files.specs.declared.fault.FileFault.TheVariants.{OtherKind}
-use Rattle.mlsign_files.specs.declared.pem.Kind.{Kind}
-use Rattle.mlsign_files.specs.declared.pem.Kind.TheVariants.{Public, Private}
 
 -- a refusal of the calls over bytes as a fault; a wrong length is that of a key which belongs to no set
 abbrev pub fault_of : Refusal → CommandFault
@@ -31,69 +31,18 @@ fault_of (refusal.Library fault) = Library fault
 fault_of (refusal.Length which) = Inconsistent
 fault_of refusal.NotPrepared = Inconsistent
 
--- reading a public key out of the text of a file: the key, or the first fault
-abbrev pub public_text_at : List ℕ → Result (SetName × List ℕ) FileFault
-public_text_at text = pem_at Public text >>= public_at
-
--- the text of a file has this public key
-pub record IsPublicText (text : List ℕ) (algorithm : SetName) (bytes : List ℕ) : Type 0 where
-  pub der : List ℕ
-  pub spelled : IsPem text Public der
-  pub file : IsPublicFile der algorithm bytes
-
 -- the public key accepts these bytes as a signature of the message
 abbrev pub IsValid : ParameterSet → PublicParts → List ℕ → List ℕ → List ℕ → Type 0
 IsValid p key signature context message =
     (length signature ≡ signature_length p) × VerifiesInput p shake256_front shake128_front key signature (plain message context)
 
--- `verify`: the file has a public key, and the answer is whether the key with these bytes accepts the signature
-pub record JudgesByText (public signature context message : List ℕ) (valid : Bool) : Type 0 where
-  pub algorithm : SetName
-  pub bytes : List ℕ
-  pub text : IsPublicText public algorithm bytes
-  pub answer : IsTrue valid ↔ ((key : PublicParts) × IsPublicKeyOf shake256_front (named_set algorithm).k bytes key
-      × IsValid (named_set algorithm) key signature context message)
+-- so does the public key with these bytes
+abbrev pub IsValidUnder : ParameterSet → List ℕ → List ℕ → List ℕ → List ℕ → Type 0
+IsValidUnder p key signature context message = (pk : PublicParts) × IsPublicKeyOf shake256_front p.k key pk × IsValid p pk signature context message
 
--- reading a private key out of the text of a file: the key, or the first fault
-abbrev pub private_text_at : List ℕ → Result (SetName × FileParts) FileFault
-private_text_at text = pem_at Private text >>= private_at
-
--- the text of a file has this private key
-pub record IsPrivateText (text : List ℕ) (algorithm : SetName) (parts : FileParts) : Type 0 where
-  pub der : List ℕ
-  pub spelled : IsPem text Private der
-  pub file : IsPrivateFile der algorithm parts
-
--- these bytes are this public key in this form: a text in the strict form, DER, or its raw bytes
-abbrev pub IsPublicIn : Form → List ℕ → SetName → List ℕ → Type 0
-IsPublicIn Pem file algorithm bytes = IsPublicText file algorithm bytes
-IsPublicIn Der file algorithm bytes = IsPublicFile file algorithm bytes
-IsPublicIn Raw file algorithm bytes = (length bytes ≡ public_length algorithm) × (file ≡ bytes)
-
--- the raw bytes of a private key of one part
-abbrev pub IsRaw : FileParts → List ℕ → Type 0
-IsRaw (Seed seed) file = file ≡ seed
-IsRaw (Expanded expanded) file = file ≡ expanded
-IsRaw (Both seed expanded) file = ⊥
-
--- these bytes are this private key in this form
-abbrev pub IsPrivateIn : Form → List ℕ → SetName → FileParts → Type 0
-IsPrivateIn Pem file algorithm parts = IsPrivateText file algorithm parts
-IsPrivateIn Der file algorithm parts = IsPrivateFile file algorithm parts
-IsPrivateIn Raw file algorithm parts = HasPrivateSizes (private_length algorithm) parts × IsRaw parts file
-
--- these keys are what a private key in a file stands for: what its seed generates, whose bytes an expanded key beside it is; or
--- what an expanded key alone decodes to
-abbrev pub StandsFor : ParameterSet → FileParts → PublicParts → PrivateParts → Type 0
-StandsFor p (Seed seed) pk sk = generated p shake256_front shake128_front seed ≡ Ok (pk, sk)
-StandsFor p (Expanded expanded) pk sk = IsPrivateKeyOf p.eta p.k p.l expanded sk
-StandsFor p (Both seed expanded) pk sk = (generated p shake256_front shake128_front seed ≡ Ok (pk, sk)) × (expanded ≡ private_key_bytes p.eta sk)
-
--- these keys are those of a file, and consistent: the private one is whole, the public one is derived of it, and both have the hash
--- of the public key's bytes
-pub record HasKeys (p : ParameterSet) (parts : FileParts) (pk : PublicParts) (sk : PrivateParts) : Type 0 where
-  pub stands : StandsFor p parts pk sk
-  pub pair : IsPair p shake256_front shake128_front pk sk
+-- `verify`: the answer is whether the key accepts the signature
+pub record Judges (public : PublicValue) (signature context message : List ℕ) (valid : Bool) : Type 0 where
+  pub answer : IsTrue valid ↔ IsValidUnder (named_set public.algorithm) public.bytes signature context message
 
 -- the library refuses to make the keys of a private key in a file: those of its seed, or the public key of the expanded one
 abbrev pub IsRefused : ParameterSet → FileParts → Fault → Type 0
@@ -108,60 +57,73 @@ HasNoKeys p parts Inconsistent = ((pk : PublicParts) (sk : PrivateParts) → ¬ 
 HasNoKeys p parts (Library fault) = IsRefused p parts fault
 HasNoKeys p parts fault = ⊥
 
--- the text of a file has a private key of which this is so
-abbrev pub HasPrivateKey : List ℕ → (ParameterSet → FileParts → Type 0) → Type 0
-HasPrivateKey private P = (algorithm : SetName) × (parts : FileParts) × IsPrivateText private algorithm parts × P (named_set algorithm) parts
+-- why a file's private key is not had: the file's first fault, or why the key in it has no keys; memory may run out of itself
+abbrev pub FailsPrivate : Form → SetName → List ℕ → CommandFault → Type 0
+FailsPrivate form set file (Key fault) = FailsLike fault (private_in form set file)
+FailsPrivate form set file Memory = Unit {0}
+FailsPrivate form set file fault =
+    (algorithm : SetName) × (parts : FileParts) × HasPrivate form set file algorithm parts × HasNoKeys (named_set algorithm) parts fault
 
--- why a private key is not had of a text: the text's first fault, or why the key in it has no keys; memory may run out of itself
-abbrev pub FailsPrivate : List ℕ → CommandFault → Type 0
-FailsPrivate private (Key fault) = FailsLike fault (private_text_at private)
-FailsPrivate private Memory = Unit {0}
-FailsPrivate private fault = HasPrivateKey private (λ p parts. HasNoKeys p parts fault)
+-- a file has this key, of either kind
+abbrev pub HasKey : Form → SetName → List ℕ → AnyKey → Type 0
+HasKey form set file (key.Public public) = HasPublic form set file public.algorithm public.bytes
+HasKey form set file (key.Private pair) = HasPrivate form set file pair.algorithm pair.parts × IsConsistent pair
 
--- `sign`: the file has a consistent private key, and these bytes are its signature of the message, over these random bytes, which
--- the public key accepts
-pub record SignsByText (private random context message signature : List ℕ) : Type 0 where
-  pub algorithm : SetName
-  pub parts : FileParts
-  pub text : IsPrivateText private algorithm parts
-  pub pk : PublicParts
-  pub sk : PrivateParts
-  pub keys : HasKeys (named_set algorithm) parts pk sk
-  pub signed : sign_input (named_set algorithm) shake256_front shake128_front sk random (plain message context) ≡ Ok signature
-  pub accepted : IsValid (named_set algorithm) pk signature context message
+-- a public key has no matrix: rejection sampling reaches its limit
+abbrev pub HasNoMatrix : PublicValue → Fault → Type 0
+HasNoMatrix public fault = (pk : PublicParts) × IsPublicKeyOf shake256_front (named_set public.algorithm).k public.bytes pk
+    × (prepared_public (named_set public.algorithm) shake128_front pk ≡ Err fault)
 
--- why `sign` has no signature: the context is too long; no private key is had; the message was not read, or the library refuses to sign
--- it, with the keys of the text
-abbrev pub FailsToSign : {S : Type 0} → (S → Option ℕ → List ℕ → S → Type 0) → (S → Option (List ℕ)) → S → S → List ℕ → List ℕ → List ℕ → CommandFault → Type 0
-FailsToSign gives remaining old new private random context Context = 255 < length context
-FailsToSign gives remaining old new private random context Message =
-    HasPrivateKey private (λ p parts. (pk : PublicParts) × (sk : PrivateParts) × HasKeys p parts pk sk) × FailsToGive gives old new
-FailsToSign gives remaining old new private random context (Library fault) =
-    FailsPrivate private (Library fault) ⊎ ((message : List ℕ) × GivesAll gives remaining old new message
-    × HasPrivateKey private (λ p parts. (pk : PublicParts) × (sk : PrivateParts) × HasKeys p parts pk sk
-    × (sign_input p shake256_front shake128_front sk random (plain message context) ≡ Err fault)))
-FailsToSign gives remaining old new private random context fault = FailsPrivate private fault
+-- why a public key is not prepared: it has no matrix; memory may run out of itself
+abbrev pub FailsToPrepare : PublicValue → CommandFault → Type 0
+FailsToPrepare public (Library fault) = HasNoMatrix public fault
+FailsToPrepare public Memory = Unit {0}
+FailsToPrepare public fault = ⊥
 
--- why `verify` has no answer: the context is too long, the text's first fault, or the message was not read
-abbrev pub FailsToJudge : {S : Type 0} → (S → Option ℕ → List ℕ → S → Type 0) → S → S → List ℕ → List ℕ → CommandFault → Type 0
-FailsToJudge gives old new public context Context = 255 < length context
-FailsToJudge gives old new public context (Key fault) = FailsLike fault (public_text_at public)
-FailsToJudge gives old new public context Message = ((algorithm : SetName) × (bytes : List ℕ) × IsPublicText public algorithm bytes) × FailsToGive gives old new
-FailsToJudge gives old new public context fault = ⊥
+-- why a file's key of either kind is not had: the first fault of a text as a public key's, unless it has a key of another kind; or why no
+-- private key is had of it
+abbrev pub FailsToHaveKey : Form → SetName → List ℕ → CommandFault → Type 0
+FailsToHaveKey form set file fault =
+    ((why : FileFault) × (fault ≡ Key why) × FailsLike why (public_in form set file) × (form ≡ Pem) × ¬ (why ≡ OtherKind))
+    ⊎ (((why : FileFault) × FailsLike why (public_in form set file) × (form ≡ Pem → why ≡ OtherKind)) × FailsPrivate form set file fault)
 
--- a file's private key is consistent, and its public key has these bytes
-pub record HasPublicBytes (p : ParameterSet) (parts : FileParts) (bytes : List ℕ) : Type 0 where
+-- `sign`: the keys are those of a file, and consistent, and these bytes are the private one's signature of the message, over these random
+-- bytes, which the public one accepts
+pub record IsSigned (p : ParameterSet) (parts : FileParts) (random context message signature : List ℕ) : Type 0 where
   pub pk : PublicParts
   pub sk : PrivateParts
   pub keys : HasKeys p parts pk sk
-  pub is : bytes ≡ public_key_bytes pk.rho pk.t1
+  pub signed : sign_input p shake256_front shake128_front sk random (plain message context) ≡ Ok signature
+  pub accepted : IsValid p pk signature context message
+
+-- the library refuses to sign the message with the private key
+abbrev pub CannotSign : ParameterSet → FileParts → List ℕ → List ℕ → List ℕ → Fault → Type 0
+CannotSign p parts random context message fault = (pk : PublicParts) × (sk : PrivateParts) × HasKeys p parts pk sk
+    × (sign_input p shake256_front shake128_front sk random (plain message context) ≡ Err fault)
+
+-- why `sign` has no signature: the context is too long; the message was not read, or the library refuses to sign it; memory may run out
+-- of itself
+abbrev pub FailsToSign : {S : Type 0} → (S → Option ℕ → List ℕ → S → Type 0) → (S → Option (List ℕ)) → S → S → PairValue → List ℕ → List ℕ → CommandFault → Type 0
+FailsToSign gives remaining old new pair random context Context = 255 < length context
+FailsToSign gives remaining old new pair random context Message = FailsToGive gives old new
+FailsToSign gives remaining old new pair random context (Library fault) =
+    (message : List ℕ) × GivesAll gives remaining old new message × CannotSign (named_set pair.algorithm) pair.parts random context message fault
+FailsToSign gives remaining old new pair random context Memory = Unit {0}
+FailsToSign gives remaining old new pair random context fault = ⊥
+
+-- why `verify` has no answer: the context is too long, or the message was not read
+abbrev pub FailsToJudge : {S : Type 0} → (S → Option ℕ → List ℕ → S → Type 0) → S → S → List ℕ → CommandFault → Type 0
+FailsToJudge gives old new context Context = 255 < length context
+FailsToJudge gives old new context Message = FailsToGive gives old new
+FailsToJudge gives old new context fault = ⊥
 
 -- `keygen`: the files have both keys of a seed in this form; that of the private one has the seed
 pub record MakesTexts (form : Form) (algorithm : SetName) (seed private public : List ℕ) : Type 0 where
-  pub bytes : List ℕ
-  pub keys : HasPublicBytes (named_set algorithm) (Seed seed) bytes
+  pub public_bytes : List ℕ
+  pub private_bytes : List ℕ
+  pub keys : HasBytes (named_set algorithm) (Seed seed) public_bytes private_bytes
   pub private_file : IsPrivateIn form private algorithm (Seed seed)
-  pub public_file : IsPublicIn form public algorithm bytes
+  pub public_file : IsPublicIn form public algorithm public_bytes
 
 -- why `keygen` has no keys: the library's refusal; memory may run out of itself
 abbrev pub FailsToGenerate : SetName → List ℕ → CommandFault → Type 0
@@ -169,40 +131,24 @@ FailsToGenerate algorithm seed (Library fault) = IsRefused (named_set algorithm)
 FailsToGenerate algorithm seed Memory = Unit {0}
 FailsToGenerate algorithm seed fault = ⊥
 
--- the text of a file has a public key with these bytes, or a consistent private key whose public key has them
-abbrev pub HasPublicKey : Kind → List ℕ → SetName → List ℕ → Type 0
-HasPublicKey Public text algorithm bytes = IsPublicText text algorithm bytes
-HasPublicKey Private text algorithm bytes =
-    (parts : FileParts) × IsPrivateText text algorithm parts × HasPublicBytes (named_set algorithm) parts bytes
-
--- `public`: the text has a consistent private key, and the file its public key in this form
-abbrev pub Publishes : Form → List ℕ → List ℕ → Type 0
-Publishes form private public =
-    (algorithm : SetName) × (bytes : List ℕ) × HasPublicKey Private private algorithm bytes × IsPublicIn form public algorithm bytes
-
--- `show`: the file has a key of this kind, and this is the hash of the public key's bytes
-abbrev pub Shows : List ℕ → Kind → SetName → List ℕ → Type 0
-Shows text kind algorithm hash = (bytes : List ℕ) × HasPublicKey kind text algorithm bytes × (hash ≡ take 64 (shake256_front bytes))
-
--- a fault of a key's file of either kind: of a public key's, or, where the file has another kind, of a private key's
-abbrev pub IsKeyFault : List ℕ → FileFault → Type 0
-IsKeyFault text fault =
-    (FailsLike fault (public_text_at text) × ¬ (fault ≡ OtherKind)) ⊎ ((public_text_at text ≡ Err OtherKind) × FailsLike fault (private_text_at text))
-
--- why `show` has no answer: that, or why a private key is not had of the text
-abbrev pub FailsToShow : List ℕ → CommandFault → Type 0
-FailsToShow text (Key fault) = IsKeyFault text fault
-FailsToShow text fault = FailsPrivate text fault
-
--- what `sign` wrote with a private file, `verify` accepts with the public file that `public` made of it
-abbrev pub PublishedIsValid : Type 0
-PublishedIsValid =
-    (private public random context message signature : List ℕ) (valid : Bool)
-    → Publishes Pem private public → SignsByText private random context message signature → JudgesByText public signature context message valid → IsTrue valid
-
--- the same of the two files that `keygen` wrote
+-- what a consistent private key signed, its public key accepts
 abbrev pub SignedIsValid : Type 0
 SignedIsValid =
-    (algorithm : SetName) (seed private public random context message signature : List ℕ) (valid : Bool)
-    → MakesTexts Pem algorithm seed private public → SignsByText private random context message signature → JudgesByText public signature context message valid
-    → IsTrue valid
+    (pair : PairValue) (random context message signature : List ℕ) (valid : Bool) → IsConsistent pair
+    → IsSigned (named_set pair.algorithm) pair.parts random context message signature
+    → Judges (public_of_pair pair) signature context message valid → IsTrue valid
+
+-- what is signed with the private key of a file, is accepted with the public key of a file that has that key's public one, and with that of
+-- the file that `keygen` wrote beside it; both are in one form, and raw bytes are read at the key's set
+abbrev pub FilesBelong : Type 0
+FilesBelong =
+    (form : Form) (pair : PairValue) (public : PublicValue) (file random context message signature : List ℕ) (valid : Bool) → IsConsistent pair
+    → IsPublicIn form file pair.algorithm pair.public → HasPublic form pair.algorithm file public.algorithm public.bytes
+    → IsSigned (named_set pair.algorithm) pair.parts random context message signature → Judges public signature context message valid → IsTrue valid
+
+abbrev pub MadeFilesBelong : Type 0
+MadeFilesBelong =
+    (form : Form) (algorithm : SetName) (pair : PairValue) (public : PublicValue) (seed private_file public_file random context message signature : List ℕ) (valid : Bool)
+    → MakesTexts form algorithm seed private_file public_file
+    → HasPrivate form algorithm private_file pair.algorithm pair.parts → HasPublic form algorithm public_file public.algorithm public.bytes
+    → IsSigned (named_set pair.algorithm) pair.parts random context message signature → Judges public signature context message valid → IsTrue valid

@@ -1,23 +1,54 @@
--- Keys in files of each form: what is read, and what is written of it.
-use Rattle.std.specs.Prelude.{◌≡◌, ◌↔◌, ℕ, List, Option, Some, None}
+-- Keys in files of each form: what is read, and what is written.
+use Rattle.std.specs.Prelude.{◌≡◌, ℕ, ◌==◌, List, length, Option, Some, None, Result, Ok, Err, if◌then◌else◌}
 use Rattle.fips204.specs.Encodings.{PublicParts, PrivateParts}
 use Rattle.fips204.specs.Sets.{named_set}
 use Rattle.fips204.specs.declared.sets.SetName.{SetName}
-use Rattle.mlsign_engine.specs.Commands.{IsPublicText, IsPrivateText, IsPublicIn, IsPrivateIn, HasKeys, HasPrivateKey, FailsPrivate}
+use Rattle.mlsign_engine.specs.Keys.{PairValue, HasKeys}
 use Rattle.mlsign_engine.specs.declared.fault.CommandFault.{CommandFault}
-use Rattle.mlsign_engine.specs.declared.fault.CommandFault.TheVariants.{NoSeed, TwoParts}
+use Rattle.mlsign_engine.specs.declared.fault.CommandFault.TheVariants.{NoSeed, TwoParts, Memory}
 use Rattle.mlsign_engine.specs.declared.forms.Form.{Form}
 use Rattle.mlsign_engine.specs.declared.forms.Form.TheVariants.{Pem, Der, Raw}
 use Rattle.mlsign_engine.specs.declared.forms.Parts.{Parts}
 use Rattle.mlsign_engine.specs.declared.forms.Parts.TheVariants as part
-use Rattle.mlsign_files.specs.Keys.{PrivateParts as FileParts, Seed, Expanded, Both}
+use Rattle.mlsign_files.specs.Keys.{IsPublicFile, IsPrivateFile, PrivateParts as FileParts, Seed, Expanded, Both, HasPrivateSizes, public_length, private_length, seed_length}
 use Rattle.mlsign_files.specs.Lax.{strict_form}
-use Rattle.mlsign_files.specs.Pem.{pem}
+use Rattle.mlsign_files.specs.Pem.{IsPem}
+use Rattle.mlsign_files.specs.PemReading.{pem_at}
+use Rattle.mlsign_files.specs.Reading.{◌>>=◌, sized_at, public_at, private_at}
 use Rattle.mlsign_files.specs.declared.fault.FileFault.{FileFault}
-use Rattle.mlsign_files.specs.declared.fault.FileFault.TheVariants.{KeyLength, Memory}
+use Rattle.mlsign_files.specs.declared.fault.FileFault.TheVariants.{KeyLength}
 use Rattle.mlsign_files.specs.declared.pem.Kind.{Kind}
 use Rattle.mlsign_files.specs.declared.pem.Kind.TheVariants.{Public, Private}
-use Rattle.mlsign_files.specs.declared.pem.LineEnd.TheVariants.{Lf}
+
+-- a text in the strict form has this public key
+pub record IsPublicText (text : List ℕ) (algorithm : SetName) (bytes : List ℕ) : Type 0 where
+  pub der : List ℕ
+  pub spelled : IsPem text Public der
+  pub file : IsPublicFile der algorithm bytes
+
+-- or this private key
+pub record IsPrivateText (text : List ℕ) (algorithm : SetName) (parts : FileParts) : Type 0 where
+  pub der : List ℕ
+  pub spelled : IsPem text Private der
+  pub file : IsPrivateFile der algorithm parts
+
+-- these bytes are this public key in this form: a text in the strict form, DER, or its raw bytes
+abbrev pub IsPublicIn : Form → List ℕ → SetName → List ℕ → Type 0
+IsPublicIn Pem file algorithm bytes = IsPublicText file algorithm bytes
+IsPublicIn Der file algorithm bytes = IsPublicFile file algorithm bytes
+IsPublicIn Raw file algorithm bytes = (length bytes ≡ public_length algorithm) × (file ≡ bytes)
+
+-- the raw bytes of a private key of one part
+abbrev pub IsRaw : FileParts → List ℕ → Type 0
+IsRaw (Seed seed) file = file ≡ seed
+IsRaw (Expanded expanded) file = file ≡ expanded
+IsRaw (Both seed expanded) file = ⊥
+
+-- these bytes are this private key in this form
+abbrev pub IsPrivateIn : Form → List ℕ → SetName → FileParts → Type 0
+IsPrivateIn Pem file algorithm parts = IsPrivateText file algorithm parts
+IsPrivateIn Der file algorithm parts = IsPrivateFile file algorithm parts
+IsPrivateIn Raw file algorithm parts = HasPrivateSizes (private_length algorithm) parts × IsRaw parts file
 
 -- a text is read in the lax form, and other bytes as they are
 abbrev pub read_as : Form → Kind → List ℕ → List ℕ
@@ -38,24 +69,22 @@ HasPublic form set file algorithm bytes = IsPublicIn form (read_as form Public f
 abbrev pub HasPrivate : Form → SetName → List ℕ → SetName → FileParts → Type 0
 HasPrivate form set file algorithm parts = IsPrivateIn form (read_as form Private file) algorithm parts × IsAt form set algorithm
 
--- a text has a key of this kind if and only if the file has it in this form
-abbrev pub ReadsAs : Form → SetName → Kind → List ℕ → List ℕ → Type 0
-ReadsAs form set Public file text = (algorithm : SetName) (bytes : List ℕ) → IsPublicText text algorithm bytes ↔ HasPublic form set file algorithm bytes
-ReadsAs form set Private file text = (algorithm : SetName) (parts : FileParts) → IsPrivateText text algorithm parts ↔ HasPrivate form set file algorithm parts
+-- reading a file in this form: its key, or its first fault. Of raw bytes the length is all that there is to read.
+abbrev pub public_in : Form → SetName → List ℕ → Result (SetName × List ℕ) FileFault
+public_in Pem set file = pem_at Public (strict_form Public file) >>= public_at
+public_in Der set file = public_at file
+public_in Raw set file = sized_at (public_length set) file >>= (λ bytes. Ok (set, bytes))
 
--- a text that stands for a file: its strict form, or the text of its DER, whether or not it has a key; so its first fault is the file's.
--- Of raw bytes a text is made only where they are those of a key.
-abbrev pub IsTextOf : Form → Kind → List ℕ → List ℕ → Type 0
-IsTextOf Pem kind file text = text ≡ strict_form kind file
-IsTextOf Der kind file text = text ≡ pem kind Lf file
-IsTextOf Raw kind file text = Unit {0}
+abbrev pub raw_private_at : SetName → List ℕ → Result (SetName × FileParts) FileFault
+raw_private_at set file =
+    if length file == seed_length then Ok (set, Seed file)
+    else if length file == private_length set then Ok (set, Expanded file)
+    else Err KeyLength
 
--- why there is no such text: raw bytes are those of no key; memory may run out of itself
-abbrev pub FailsToRead : Form → SetName → Kind → List ℕ → FileFault → Type 0
-FailsToRead Raw set Public file KeyLength = (algorithm : SetName) (bytes : List ℕ) → ¬ (HasPublic Raw set file algorithm bytes)
-FailsToRead Raw set Private file KeyLength = (algorithm : SetName) (parts : FileParts) → ¬ (HasPrivate Raw set file algorithm parts)
-FailsToRead form set kind file Memory = Unit {0}
-FailsToRead form set kind file fault = ⊥
+abbrev pub private_in : Form → SetName → List ℕ → Result (SetName × FileParts) FileFault
+private_in Pem set file = pem_at Private (strict_form Private file) >>= private_at
+private_in Der set file = private_at file
+private_in Raw set file = raw_private_at set file
 
 -- a private key of both parts has no raw bytes
 abbrev pub CanBe : FileParts → Form → Type 0
@@ -77,34 +106,20 @@ parts_as part.Kept parts expanded = Some parts
 parts_as part.Seed parts expanded = seed_alone parts
 parts_as part.Expanded parts expanded = Some (Expanded expanded)
 
--- the file has, in this form, the public key of the text
-abbrev pub ConvertsPublic : Form → List ℕ → List ℕ → Type 0
-ConvertsPublic form text file = (algorithm : SetName) × (bytes : List ℕ) × IsPublicText text algorithm bytes × IsPublicIn form file algorithm bytes
-
--- the file has, in this form, what is wanted of the private key of the text, which is consistent; both stand for the same keys
-pub record ConvertsPrivate (form : Form) (wanted : Parts) (text file : List ℕ) : Type 0 where
-  pub algorithm : SetName
-  pub parts : FileParts
-  pub read : IsPrivateText text algorithm parts
+-- the file has, in this form, what is wanted of a private key; both stand for the same keys
+pub record ConvertsPrivate (form : Form) (wanted : Parts) (pair : PairValue) (file : List ℕ) : Type 0 where
   pub pk : PublicParts
   pub sk : PrivateParts
-  pub keys : HasKeys (named_set algorithm) parts pk sk
-  pub expanded : List ℕ
+  pub keys : HasKeys (named_set pair.algorithm) pair.parts pk sk
   pub written : FileParts
-  pub are : parts_as wanted parts expanded ≡ Some written
-  pub same : HasKeys (named_set algorithm) written pk sk
-  pub has : IsPrivateIn form file algorithm written
+  pub are : parts_as wanted pair.parts pair.private ≡ Some written
+  pub same : HasKeys (named_set pair.algorithm) written pk sk
+  pub has : IsPrivateIn form file pair.algorithm written
 
--- why nothing is written of a private key: its seed is wanted, and it has none; or raw bytes of both parts are
-abbrev pub FailsToChoose : Form → Parts → FileParts → CommandFault → Type 0
-FailsToChoose form wanted parts NoSeed = (wanted ≡ part.Seed) × (seed_alone parts ≡ None)
-FailsToChoose form wanted parts TwoParts = (wanted ≡ part.Kept) × ¬ (CanBe parts form)
-FailsToChoose form wanted parts fault = ⊥
-
--- why a private key is not converted: that, or why none is had of the text
-abbrev pub FailsToConvert : Form → Parts → List ℕ → CommandFault → Type 0
-FailsToConvert form wanted text NoSeed =
-    HasPrivateKey text (λ p parts. ((pk : PublicParts) × (sk : PrivateParts) × HasKeys p parts pk sk) × FailsToChoose form wanted parts NoSeed)
-FailsToConvert form wanted text TwoParts =
-    HasPrivateKey text (λ p parts. ((pk : PublicParts) × (sk : PrivateParts) × HasKeys p parts pk sk) × FailsToChoose form wanted parts TwoParts)
-FailsToConvert form wanted text fault = FailsPrivate text fault
+-- why nothing is written of a private key: its seed is wanted, and it has none; or raw bytes of both parts are; memory may run out of
+-- itself
+abbrev pub FailsToConvert : Form → Parts → FileParts → CommandFault → Type 0
+FailsToConvert form wanted parts NoSeed = (wanted ≡ part.Seed) × (seed_alone parts ≡ None)
+FailsToConvert form wanted parts TwoParts = (wanted ≡ part.Kept) × ¬ (CanBe parts form)
+FailsToConvert form wanted parts Memory = Unit {0}
+FailsToConvert form wanted parts fault = ⊥

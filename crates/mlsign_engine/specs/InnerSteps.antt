@@ -2,12 +2,11 @@
 use Rattle.std.specs.Prelude.{◌≡◌, List, ℕ, length}
 use Rattle.fips204.specs.Encodings.{PublicParts, PrivateParts, private_key_bytes}
 use Rattle.fips204.specs.ParameterSets.{ParameterSet, private_key_length}
-use Rattle.mlsign_engine.specs.Commands.{HasKeys, HasNoKeys}
+use Rattle.mlsign_engine.specs.Commands.{HasNoKeys}
+use Rattle.mlsign_engine.specs.Keys.{HasKeys}
 use Rattle.mlsign_engine.specs.declared.fault.CommandFault.{CommandFault}
 use Rattle.mlsign_engine.specs.declared.fault.CommandFault.TheVariants.{Memory}
 use Rattle.mlsign_files.specs.Keys.{PrivateParts as FileParts}
-use Rattle.mlsign_files.specs.declared.fault.FileFault.{FileFault}
-use Rattle.mlsign_files.specs.declared.fault.FileFault.TheVariants as file
 
 -- the bytes are those of the private one of a file's keys
 pub record HasPrivateBytes (p : ParameterSet) (parts : FileParts) (bytes : List ℕ) : Type 0 where
@@ -21,9 +20,3 @@ pub record HasPrivateBytes (p : ParameterSet) (parts : FileParts) (bytes : List 
 abbrev pub HasNoKeysOrMemory : ParameterSet → FileParts → CommandFault → Type 0
 HasNoKeysOrMemory p parts Memory = Unit {0}
 HasNoKeysOrMemory p parts fault = HasNoKeys p parts fault
-
--- raw bytes are those of no key, of which this would be so, or memory ran out
-abbrev pub HasNoRawKey : Type 0 → FileFault → Type 0
-HasNoRawKey Fits file.KeyLength = ¬ Fits
-HasNoRawKey Fits file.Memory = Unit {0}
-HasNoRawKey Fits fault = ⊥

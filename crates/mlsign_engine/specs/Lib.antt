@@ -1,4 +1,5 @@
 pub mod Messages
-pub mod Commands
+pub mod Keys
 pub mod Forms
+pub mod Commands
 pub mod InnerSteps

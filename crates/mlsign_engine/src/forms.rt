@@ -1,22 +1,23 @@
 //! Keys in files: in PEM, in DER, and in raw bytes.
 #![tactic(auto)]
 
-ghost use Rattle.std.specs.Prelude.{◌≡◌, ◌⊎◌, ℕ, List, length, Some, IfOk, IfErr};
-ghost use Rattle.mlsign_files.specs.Keys.{PrivateParts, HasPrivateSizes, private_length, private_parts, public_length};
-ghost use Rattle.mlsign_files.specs.PemReading.{FailsLike};
-ghost use Rattle.mlsign_engine.specs.Commands.{IsPublicText, IsPrivateText, IsPublicIn, IsPrivateIn, IsRaw, public_text_at};
-ghost use Rattle.mlsign_engine.specs.Forms.{ReadsAs, IsTextOf, FailsToRead, parts_as, CanBe, FailsToChoose};
-ghost use Rattle.mlsign_engine.specs.Forms.{ConvertsPublic, ConvertsPrivate, FailsToConvert};
-ghost use Rattle.mlsign_engine.specs.InnerSteps.{HasNoRawKey};
+ghost use Rattle.std.specs.Prelude.{◌≡◌, length, Some, IfOk, IfErr};
+ghost use Rattle.mlsign_files.specs.Keys.{HasPrivateSizes, IsPublicFile, private_length, private_parts, public_length};
+ghost use Rattle.mlsign_files.specs.PemReading.{GivesOrFails};
+ghost use Rattle.mlsign_files.specs.Reading.{Gives, public_at};
+ghost use Rattle.mlsign_engine.specs.Commands.{FailsPrivate, HasKey, FailsToHaveKey};
+ghost use Rattle.mlsign_engine.specs.Forms.{HasPublic, HasPrivate, IsPublicIn, IsPrivateIn, IsRaw, public_in, raw_private_at};
+ghost use Rattle.mlsign_engine.specs.Forms.{parts_as, CanBe, ConvertsPrivate, FailsToConvert};
+ghost use Rattle.mlsign_engine.specs.Keys.{IsConsistent};
+ghost use Rattle.mlsign_engine.specs.declared.fault.CommandFault.TheVariants.{Memory};
 ghost use Rattle.mlsign_engine.specs.declared.forms.Form.TheVariants.{Raw};
 
-use crate::commands::public_of_text;
 use crate::fault::CommandFault;
-use crate::keys::private_key;
+use crate::keys::{AnyKey, KeyPair, PublicKey};
 use mlsign_files::pem::{self, Kind};
 use mlsign_files::{
-    FileFault, PrivateKey, SEED_LENGTH, SetName, read_private, strict_form, write_private,
-    write_public,
+    FileFault, PrivateKey, SEED_LENGTH, SetName, read_private, read_public, strict_form,
+    write_private, write_public,
 };
 use std::alloc::{AllocError, Global};
 
@@ -42,61 +43,103 @@ pub enum Parts {
     Expanded,
 }
 
-/// The text of the key of this kind that a file has in this form, which the commands take. A text is read in the lax form of RFC 7468
-/// (`strict_form`). The set is that of raw bytes, which a seed does not tell.
+/// The public key that a file has in this form. A text is read in the lax form of RFC 7468 (`strict_form`). The set is that of raw bytes.
 ///
-/// Errors: `KeyLength` if raw bytes are not as many as a key has, and for no other form; `Memory`. Whether the file has a key the
-/// commands say: their first fault of the text is the file's.
-pub fn key_text(
+/// Errors: the file's first, or `Memory`. Of raw bytes that is `KeyLength`, if they are not as many as a key of the set has.
+pub fn read_public_key(
     alloc: Global,
     form: Form,
     set: SetName,
-    kind: Kind,
     file: &[u8],
-) -> Result<Vec<u8>, FileFault>
-    // The text has the key that the file has.
-    ensures read { IfOk result (λ text. ReadsAs form set kind file.now text.items) }
-    ensures text { IfOk result (λ text. IsTextOf form kind file.now text.items) }
-    ensures fault { IfErr result (FailsToRead form set kind file.now) }
+) -> Result<PublicKey, FileFault>
+    // What is read is what the file has.
+    ensures found { IfOk result (λ key. HasPublic form set file.now key.algorithm key.bytes) }
+    // Which fault it is. The key of a file is read (`laws::keys_are_read`).
+    ensures exact { GivesOrFails (λ key. (key.algorithm, key.bytes)) result (public_in form set file.now) }
 {
     match form {
-        Form::Pem => Ok(strict_form(alloc, kind, file)?),
-        Form::Der => Ok(pem::encode(alloc, kind, file)?),
-        Form::Raw => match kind {
-            Kind::Public => raw_public(alloc, set, file),
-            Kind::Private => raw_private(alloc, set, file),
-        },
+        Form::Pem => {
+            let text = strict_form(alloc, Kind::Public, file)?;
+            let der = pem::decode(alloc, Kind::Public, text.as_slice())?;
+            public_of_der(alloc, der.as_slice())
+        }
+        Form::Der => public_of_der(alloc, file),
+        Form::Raw => {
+            if file.len() != set.public_key_len() {
+                return Err(FileFault::KeyLength);
+            }
+            Ok(PublicKey::new(set, Vec::from_slice(alloc, file)?))
+        }
     }
 }
 
-/// The text of the public key with these bytes.
-fn raw_public(alloc: Global, set: SetName, bytes: &[u8]) -> Result<Vec<u8>, FileFault>
-    ensures found { IfOk result (λ text. IsPublicText text.items set bytes.now) }
-    ensures size { IfOk result (λ _. length bytes.now ≡ public_length set) }
-    ensures fault { IfErr result (HasNoRawKey (length bytes.now ≡ public_length set)) }
+/// The public key of a file in DER.
+fn public_of_der(alloc: Global, der: &[u8]) -> Result<PublicKey, FileFault>
+    ensures found { IfOk result (λ key. IsPublicFile der.now key.algorithm key.bytes) }
+    ensures exact { GivesOrFails (λ key. (key.algorithm, key.bytes)) result (public_at der.now) }
 {
-    if bytes.len() != set.public_key_len() {
-        return Err(FileFault::KeyLength);
-    }
-    Ok(public_file(alloc, Form::Pem, set, bytes)?)
+    let (algorithm, bytes) = read_public(der)?;
+    Ok(PublicKey::new(algorithm, Vec::from_slice(alloc, bytes)?))
 }
 
-/// The text of the private key with these bytes.
-fn raw_private(alloc: Global, set: SetName, bytes: &[u8]) -> Result<Vec<u8>, FileFault>
-    ensures found { IfOk result (λ text. (parts : PrivateParts) × IsPrivateText text.items set parts
-        × HasPrivateSizes (private_length set) parts × IsRaw parts bytes.now) }
-    ensures fault { IfErr result (HasNoRawKey ((length bytes.now ≡ 32) ⊎ (length bytes.now ≡ private_length set))) }
+/// The private key that a file has in this form, which is first checked to be consistent. A text is read in the lax form of RFC 7468
+/// (`strict_form`). The set is that of raw bytes, which a seed does not tell.
+///
+/// Errors, in this order: `Key` with the file's first fault, of raw bytes `KeyLength` alone; `Inconsistent` if the parts of the key do not
+/// belong together; and `Library` or `Memory` where they arise.
+pub fn read_private_key(
+    alloc: Global,
+    form: Form,
+    set: SetName,
+    file: &[u8],
+) -> Result<KeyPair, CommandFault>
+    ensures found { IfOk result (λ pair. HasPrivate form set file.now pair.algorithm pair.parts) }
+    ensures consistent { IfOk result IsConsistent }
+    ensures fault { IfErr result (FailsPrivate form set file.now) }
 {
-    let key = raw_parts(set, bytes)?;
-    let der = write_private(alloc, set, key)?;
-    Ok(pem::encode(alloc, Kind::Private, der.as_slice())?)
+    match form {
+        Form::Pem => {
+            let text = strict_form(alloc, Kind::Private, file)?;
+            let der = pem::decode(alloc, Kind::Private, text.as_slice())?;
+            let (set, key) = read_private(der.as_slice())?;
+            KeyPair::of_parts(alloc, set, key)
+        }
+        Form::Der => {
+            let (set, key) = read_private(file)?;
+            KeyPair::of_parts(alloc, set, key)
+        }
+        Form::Raw => KeyPair::of_parts(alloc, set, raw_parts(set, file)?),
+    }
+}
+
+/// The key of either kind that a file has in this form: the public one, or else the private one.
+///
+/// Errors: of a text that has no key of another kind, its first as a public key's; else those of `read_private_key`.
+pub fn read_key(
+    alloc: Global,
+    form: Form,
+    set: SetName,
+    file: &[u8],
+) -> Result<AnyKey, CommandFault>
+    ensures found { IfOk result (HasKey form set file.now) }
+    ensures fault { IfErr result (FailsToHaveKey form set file.now) }
+{
+    match read_public_key(alloc, form, set, file) {
+        Ok(key) => Ok(AnyKey::Public(key)),
+        Err(fault) => {
+            if form == Form::Pem && fault != FileFault::OtherKind {
+                return Err(CommandFault::Key(fault));
+            }
+            Ok(AnyKey::Private(read_private_key(alloc, form, set, file)?))
+        }
+    }
 }
 
 /// The private key with these bytes.
 fn raw_parts(set: SetName, bytes: &[u8]) -> Result<PrivateKey<'_>, FileFault>
     ensures sizes { IfOk result (λ key. HasPrivateSizes (private_length set) (private_parts key)) }
     ensures raw { IfOk result (λ key. IsRaw (private_parts key) bytes.now) }
-    ensures fault { IfErr result (HasNoRawKey ((length bytes.now ≡ 32) ⊎ (length bytes.now ≡ private_length set))) }
+    ensures exact { Gives (λ key. (set, private_parts key)) result (raw_private_at set bytes.now) }
 {
     if bytes.len() == SEED_LENGTH {
         return Ok(PrivateKey::Seed(bytes));
@@ -159,35 +202,29 @@ pub(crate) fn private_file(
     pem::encode(alloc, Kind::Private, der.as_slice())
 }
 
-/// The file in this form of the public key in this text.
-///
-/// Errors: `Key` if the text has no public key; `Memory`.
-pub fn convert_public(alloc: Global, text: &[u8], form: Form) -> Result<Vec<u8>, FileFault>
-    ensures converted { IfOk result (λ file. ConvertsPublic form text.now file.items) }
-    ensures fault { IfErr result (λ fault. FailsLike fault (public_text_at text.now)) }
-{
-    let (algorithm, bytes) = public_of_text(alloc, text)?;
-    Ok(public_file(alloc, form, algorithm, bytes.as_slice())?)
+impl PublicKey {
+    /// Its file in this form.
+    ///
+    /// Errors: `Memory`.
+    pub fn file(&self, alloc: Global, form: Form) -> Result<Vec<u8>, CommandFault>
+        ensures written { IfOk result (λ file. IsPublicIn form file.items self.now.algorithm self.now.bytes) }
+        ensures fault { IfErr result (λ fault. fault ≡ Memory) }
+    {
+        Ok(public_file(alloc, form, self.algorithm(), self.bytes())?)
+    }
 }
 
-/// The file in this form of the private key in this text, which is first checked to be consistent.
-///
-/// Errors, in this order: `Key` if the text has no private key; `Inconsistent` if its parts do not belong together; `NoSeed` if it has no
-/// seed, and the seed is wanted; `TwoParts` if raw bytes are wanted of both parts; and `Library` or `Memory` where they arise.
-pub fn convert_private(
-    alloc: Global,
-    text: &[u8],
-    form: Form,
-    parts: Parts,
-) -> Result<Vec<u8>, CommandFault>
-    ensures converted { IfOk result (λ file. ConvertsPrivate form parts text.now file.items) }
-    ensures fault { IfErr result (FailsToConvert form parts text.now) }
-{
-    let der = pem::decode(alloc, Kind::Private, text)?;
-    let (set, key) = read_private(der.as_slice())?;
-    let expanded = private_key(alloc, set, key)?;
-    let chosen = chosen(form, parts, key, expanded.as_slice())?;
-    Ok(private_file(alloc, form, set, chosen)?)
+impl KeyPair {
+    /// The file of the private key in this form, with these parts.
+    ///
+    /// Errors: `NoSeed` if it has no seed, and the seed is wanted; `TwoParts` if raw bytes are wanted of both parts; `Memory`.
+    pub fn file(&self, alloc: Global, form: Form, parts: Parts) -> Result<Vec<u8>, CommandFault>
+        ensures converted { IfOk result (λ file. ConvertsPrivate form parts self.now file.items) }
+        ensures fault { IfErr result (FailsToConvert form parts self.now.parts) }
+    {
+        let chosen = chosen(form, parts, self.parts(), self.private())?;
+        Ok(private_file(alloc, form, self.algorithm(), chosen)?)
+    }
 }
 
 /// The private key that is written of one with this expanded key.
@@ -199,7 +236,7 @@ fn chosen<'a>(
 ) -> Result<PrivateKey<'a>, CommandFault>
     ensures parts { IfOk result (λ chosen. parts_as parts (private_parts key.entry) expanded.now ≡ Some (private_parts chosen)) }
     ensures form { IfOk result (λ chosen. CanBe (private_parts chosen) form) }
-    ensures fault { IfErr result (FailsToChoose form parts (private_parts key.entry)) }
+    ensures fault { IfErr result (FailsToConvert form parts (private_parts key.entry)) }
 {
     match parts {
         Parts::Expanded => Ok(PrivateKey::Expanded(expanded)),

@@ -7,9 +7,12 @@ mod forms;
 mod keys;
 pub mod laws;
 mod message;
+mod prepared;
 mod source;
 
-pub use commands::{KeyFiles, Shown, keygen, public, show, sign, verify};
+pub use commands::{KeyFiles, keygen, sign, verify};
 pub use fault::CommandFault;
-pub use forms::{Form, Parts, convert_private, convert_public, key_text};
-pub use source::Source;
+pub use forms::{Form, Parts, read_key, read_private_key, read_public_key};
+pub use keys::{AnyKey, KeyPair, PublicKey};
+pub use prepared::{SigningKey, VerifyingKey};
+pub use source::{Reader, Source};

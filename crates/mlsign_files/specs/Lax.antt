@@ -17,6 +17,10 @@ from_first front (byte ∷ rest) = if begins front (byte ∷ rest) then byte ∷
 abbrev pub beginning : List ℕ
 beginning = codes "-----BEGIN "
 
+-- a text from there on, or all of it
+abbrev pub from_beginning : List ℕ → List ℕ
+from_beginning text = let begun = from_first beginning text in if length begun == 0 then text else begun
+
 -- a character that is no white space
 abbrev pub is_black : ℕ → Bool
 is_black byte = not (is_ascii_whitespace byte)

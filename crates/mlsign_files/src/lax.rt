@@ -4,7 +4,7 @@
 ghost use Rattle.std.specs.Prelude.{◌≡◌, ◌≤◌, ◌++◌, ℕ, List, length, IfOk, OnOk};
 ghost use Rattle.mlsign_files.specs.Pem.{begin_line, pem, IsPem};
 ghost use Rattle.mlsign_files.specs.PemReading.{begins};
-ghost use Rattle.mlsign_files.specs.Lax.{beginning, from_first, strict_closing, rewrapped, strict_form, kind_of_text};
+ghost use Rattle.mlsign_files.specs.Lax.{beginning, from_first, from_beginning, strict_closing, rewrapped, strict_form, kind_of_text};
 ghost use Rattle.mlsign_files.specs.declared.pem.LineEnd.TheVariants.{Lf};
 
 use crate::pem::{Kind, first_dash, put_wrapped};
@@ -91,6 +91,17 @@ pub fn strict_form(alloc: Global, kind: Kind, text: &[u8]) -> Result<Vec<u8>, Al
     ensures kept { (der : List ℕ) → IsPem text.now kind der → IfOk result (λ out. out.items ≡ pem kind Lf der) }
 {
     made_strict(alloc, kind, text)
+}
+
+/// A text from the place on where a key's may begin, or all of it.
+pub fn from_beginning(text: &[u8]) -> &[u8]
+    ensures { result.now ≡ from_beginning text.now }
+{
+    let begun = begun(text);
+    if begun.is_empty() {
+        return text;
+    }
+    begun
 }
 
 /// The kind that the first line of a text says, or else `Public`.

@@ -10,4 +10,4 @@ pub mod pem;
 pub use fault::FileFault;
 pub use fips204::SetName;
 pub use keys::{PrivateKey, SEED_LENGTH, read_private, read_public, write_private, write_public};
-pub use lax::{kind_of_text, strict_form};
+pub use lax::{from_beginning, kind_of_text, strict_form};

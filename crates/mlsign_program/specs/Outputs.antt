@@ -4,7 +4,8 @@ use Rattle.clap.specs.Matches.{found_of, first_value, one_text}
 use Rattle.clap.specs.declared.parser.matches.ArgMatches.{ArgMatches}
 use Rattle.fips204.specs.ParameterSets.{signature_length}
 use Rattle.fips204.specs.Sets.{named_set}
-use Rattle.mlsign_engine.specs.Commands.{MakesTexts, IsPrivateIn, IsPublicIn}
+use Rattle.mlsign_engine.specs.Commands.{MakesTexts}
+use Rattle.mlsign_engine.specs.Forms.{IsPrivateIn, IsPublicIn}
 use Rattle.mlsign_files.specs.Keys.{PrivateParts}
 use Rattle.fips204.specs.declared.sets.SetName.{SetName}
 use Rattle.fips204.specs.declared.sets.SetName.TheVariants.{MlDsa44, MlDsa65, MlDsa87}

@@ -2,10 +2,11 @@
 #![tactic(auto)]
 
 ghost use Rattle.std.specs.Prelude.{◌≡◌, ℕ, List, IfOk, replicate, codes, Ok};
-ghost use Rattle.mlsign_engine.specs.Commands.{SignsByText};
+ghost use Rattle.fips204.specs.Sets.{named_set};
+ghost use Rattle.mlsign_engine.specs.Commands.{IsSigned};
 ghost use Rattle.mlsign_engine.specs.Messages.{GivesAll};
 ghost use Rattle.mlsign_program.specs.declared.places.Content.TheVariants.{Signature};
-ghost use Rattle.mlsign_engine.specs.Forms.{ConvertsPublic, ConvertsPrivate};
+ghost use Rattle.mlsign_engine.specs.Forms.{IsPublicIn, ConvertsPrivate};
 ghost use Rattle.mlsign_engine.specs.declared.forms.Form.{Form};
 ghost use Rattle.mlsign_engine.specs.declared.forms.Parts.{Parts};
 ghost use Rattle.mlsign_program.specs.Outputs.{HasWord, HasFlag, context_of, GeneratesAt, form_word, IsPartsWord};
@@ -19,9 +20,11 @@ use anyhow::{Context, Error, bail};
 use base64::engine::general_purpose::STANDARD_NO_PAD;
 use clap::ArgMatches;
 use either::Either;
-use mlsign_engine::{CommandFault, Form, KeyFiles, Parts, Source};
+use mlsign_engine::{
+    AnyKey, CommandFault, Form, KeyFiles, KeyPair, Parts, PublicKey, Reader, SigningKey, Source,
+};
 use mlsign_files::SetName;
-use mlsign_files::pem::{self, Kind};
+use mlsign_files::pem::Kind;
 use sha2::{Digest, Sha256};
 use std::alloc::Global;
 use std::fs::{File, OpenFile};
@@ -78,8 +81,9 @@ pub(crate) fn public(rt: &HostRuntime, words: &ArgMatches<'_>) -> Result<(), Err
     let private = word(words, "private")?;
     let output = Output::find(rt, target(words, "public", Content::PublicKey)?, &[])?;
     let key = KeyFile::read(rt, words, private, Some(Kind::Private))?;
-    let public = mlsign_engine::public(rt.alloc(), form(words), key.text.as_slice());
-    output.write(rt, key.name(public)?.as_slice())?;
+    let public = key.name(key.pair(rt.alloc())?.public_key(rt.alloc()))?;
+    let file = key.name(public.file(rt.alloc(), form(words)))?;
+    output.write(rt, file.as_slice())?;
     note_read(rt, private);
     Ok(())
 }
@@ -178,8 +182,9 @@ pub(crate) fn sign(rt: &HostRuntime, words: &ArgMatches<'_>) -> Result<(), Error
             let _ = Output::find(rt, signature_at(words, path.as_str()), ids)?;
         }
     }
+    let signing = key.signing_key(rt.alloc())?;
     for message in messages {
-        sign_message(rt, words, &key, message, ids)?;
+        sign_message(rt, words, &key, &signing, message, ids)?;
     }
     note_read(rt, private);
     Ok(())
@@ -197,22 +202,22 @@ fn signature_at<'a>(words: &ArgMatches<'_>, path: &'a str) -> Target<'a>
     }
 }
 
-/// Signs a message.
+/// Signs a message with the key of this file.
 fn sign_message(
     rt: &HostRuntime,
     words: &ArgMatches<'_>,
-    key: &KeyFile<'_>,
+    file: &KeyFile<'_>,
+    key: &SigningKey,
     message: &str,
     ids: &[FileId],
 ) -> Result<(), Error> {
-    let mut input = open(rt, words, message)?;
+    let mut input = Reader::new(open(rt, words, message)?);
     let path = signature_path(rt.alloc(), words, "out", message)?;
     let output = Output::find(rt, signature_at(words, path.as_str()), ids)?;
     let random = random_of(rt, words)?;
-    let text = key.text.as_slice();
-    let signature = match sign_input(rt.alloc(), words, text, &random, &mut input) {
-        Err(CommandFault::Message) => return Err(input.fault(message)),
-        signature => key.name(signature)?,
+    let signature = match sign_input(rt.alloc(), words, key, &random, &mut input) {
+        Err(CommandFault::Message) => return Err(input.reader.fault(message)),
+        signature => file.name(signature)?,
     };
     output.write(rt, signature.as_slice())
 }
@@ -238,13 +243,13 @@ pub(crate) fn context<'a>(words: &ArgMatches<'a>) -> &'a [u8]
 fn sign_input<I: Source>(
     alloc: Global,
     words: &ArgMatches<'_>,
-    key: &[u8],
+    key: &SigningKey,
     random: &[u8; 32],
     input: &mut I,
 ) -> Result<Vec<u8>, CommandFault>
     ensures signed { IfOk result (λ signature. (message : List ℕ)
         × GivesAll I.gives I.remaining input.old input.new message
-        × SignsByText key.now random.now (context_of words.now) message signature.items) }
+        × IsSigned (named_set key.now.algorithm) key.now.parts random.now (context_of words.now) message signature.items) }
 {
     mlsign_engine::sign(alloc, key, random, context(words), input)
 }
@@ -253,15 +258,13 @@ fn sign_input<I: Source>(
 pub(crate) fn show(rt: &HostRuntime, words: &ArgMatches<'_>) -> Result<(), Error> {
     let file = word(words, "file")?;
     let key = KeyFile::read(rt, words, file, None)?;
-    let text = key.text.as_slice();
-    let shown = key.name(mlsign_engine::show(rt.alloc(), text))?;
-    let (kind, fingerprint) = match shown.kind {
-        Kind::Public => ("public key", fingerprint_of(rt.alloc(), text)),
-        Kind::Private => ("private key", private_fingerprint(rt.alloc(), text)),
+    let (kind, public) = match key.key(rt.alloc())? {
+        AnyKey::Public(public) => ("public key", public),
+        AnyKey::Private(pair) => ("private key", key.name(pair.public_key(rt.alloc()))?),
     };
-    let fingerprint = key.name(fingerprint)?;
-    let set = name_of(shown.algorithm);
-    let hash = hex::encode(rt.alloc(), &shown.hash).map_err(io::Error::from)?;
+    let fingerprint = key.name(fingerprint_of(rt.alloc(), &public))?;
+    let set = name_of(public.algorithm());
+    let hash = hex::encode(rt.alloc(), &public.hash()).map_err(io::Error::from)?;
     println!(rt;
         "kind: {kind}\nset: {set}\nfingerprint: {fingerprint}\nhash of the public key: {hash}"
     ).context("standard output")
@@ -271,39 +274,51 @@ pub(crate) fn show(rt: &HostRuntime, words: &ArgMatches<'_>) -> Result<(), Error
 pub(crate) fn convert(rt: &HostRuntime, words: &ArgMatches<'_>) -> Result<(), Error> {
     let path = word(words, "file")?;
     let key = KeyFile::read_converted(rt, words, path)?;
-    match key.kind {
-        Kind::Public => {
+    match key.key(rt.alloc())? {
+        AnyKey::Public(public) => {
             let output = Output::find(rt, target(words, "out", Content::PublicKey)?, &[])?;
-            output.write(rt, public_file(rt.alloc(), words, &key)?.as_slice())
+            output.write(
+                rt,
+                public_file(rt.alloc(), words, &key, &public)?.as_slice(),
+            )
         }
-        Kind::Private => {
+        AnyKey::Private(pair) => {
             let output = Output::find(rt, target(words, "out", Content::PrivateKey)?, &[])?;
-            output.write(rt, private_file(rt.alloc(), words, &key)?.as_slice())?;
+            output.write(rt, private_file(rt.alloc(), words, &key, &pair)?.as_slice())?;
             note_read(rt, path);
             Ok(())
         }
     }
 }
 
-/// The file of a public key in the form that the words say.
-fn public_file(alloc: Global, words: &ArgMatches<'_>, key: &KeyFile<'_>) -> Result<Vec<u8>, Error>
+/// The file of this public key of a file, in the form that the words say.
+fn public_file(
+    alloc: Global,
+    words: &ArgMatches<'_>,
+    file: &KeyFile<'_>,
+    key: &PublicKey,
+) -> Result<Vec<u8>, Error>
     ensures { IfOk result (λ file. (form : Form) × HasWord words.now (codes "to") (form_word form)
-        × ConvertsPublic form key.now.text.items file.items) }
+        × IsPublicIn form file.items key.now.algorithm key.now.bytes) }
 {
     if words.get_str("parts").is_some() {
         bail!("--parts is for private keys");
     }
-    let file = mlsign_engine::convert_public(alloc, key.text.as_slice(), form_of(words, "to")?);
-    key.name(file.map_err(CommandFault::Key))
+    file.name(key.file(alloc, form_of(words, "to")?))
 }
 
-/// The file of a private key in the form that the words say, with the parts that they say.
-fn private_file(alloc: Global, words: &ArgMatches<'_>, key: &KeyFile<'_>) -> Result<Vec<u8>, Error>
+/// The file of this private key of a file, in the form that the words say, with the parts that they say.
+fn private_file(
+    alloc: Global,
+    words: &ArgMatches<'_>,
+    file: &KeyFile<'_>,
+    pair: &KeyPair,
+) -> Result<Vec<u8>, Error>
     ensures { IfOk result (λ file. (form : Form) × (parts : Parts) × HasWord words.now (codes "to") (form_word form)
-        × IsPartsWord words.now parts × ConvertsPrivate form parts key.now.text.items file.items) }
+        × IsPartsWord words.now parts × ConvertsPrivate form parts pair.now file.items) }
 {
     let (form, parts) = (form_of(words, "to")?, parts(words)?);
-    key.name(mlsign_engine::convert_private(alloc, key.text.as_slice(), form, parts))
+    file.name(pair.file(alloc, form, parts))
 }
 
 /// Which parts of a private key the words want.
@@ -318,19 +333,13 @@ fn parts(words: &ArgMatches<'_>) -> Result<Parts, Error>
     }
 }
 
-/// The fingerprint of the public key in this text: `SHA256:` and SHA-256 of its DER, in base64 without padding.
-pub(crate) fn fingerprint_of(alloc: Global, public: &[u8]) -> Result<String, CommandFault> {
-    let der = pem::decode(alloc, Kind::Public, public)?;
+/// The fingerprint of a public key: `SHA256:` and SHA-256 of its DER, in base64 without padding.
+pub(crate) fn fingerprint_of(alloc: Global, key: &PublicKey) -> Result<String, CommandFault> {
+    let der = key.file(alloc, Form::Der)?;
     let mut text = String::from_str(alloc, "SHA256:")?;
     let digest = Sha256::digest(der.as_slice());
     text.push_str(STANDARD_NO_PAD.encode(alloc, digest.as_slice())?.as_str())?;
     Ok(text)
-}
-
-/// The fingerprint of the public key that belongs to the private key in this text.
-fn private_fingerprint(alloc: Global, private: &[u8]) -> Result<String, CommandFault> {
-    let public = mlsign_engine::public(alloc, Form::Pem, private)?;
-    fingerprint_of(alloc, public.as_slice())
 }
 
 /// The name of a set.

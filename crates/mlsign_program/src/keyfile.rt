@@ -2,7 +2,9 @@
 #![tactic(auto)]
 
 ghost use Rattle.std.specs.Prelude.{◌≡◌, ℕ, List, Ok, IfOk, codes};
-ghost use Rattle.mlsign_engine.specs.Forms.{ReadsAs, IsTextOf};
+ghost use Rattle.mlsign_engine.specs.Commands.{HasKey};
+ghost use Rattle.mlsign_engine.specs.Forms.{HasPublic, HasPrivate};
+ghost use Rattle.mlsign_engine.specs.Keys.{IsConsistent};
 ghost use Rattle.mlsign_engine.specs.declared.forms.Form.TheVariants.{Pem, Der};
 ghost use Rattle.mlsign_program.specs.Outputs.{HasWord, HasFlag, LacksFlag, form_word, set_word};
 
@@ -10,9 +12,9 @@ use crate::files::read_key;
 use crate::hints::hint;
 use anyhow::{Context, Error, bail};
 use clap::ArgMatches;
-use mlsign_engine::{CommandFault, Form, key_text};
+use mlsign_engine::{AnyKey, CommandFault, Form, KeyPair, PublicKey, SigningKey, VerifyingKey};
 use mlsign_files::pem::Kind;
-use mlsign_files::{SEED_LENGTH, SetName, kind_of_text, read_public};
+use mlsign_files::{SEED_LENGTH, SetName, from_beginning};
 use std::alloc::Global;
 
 /// The word of a call that has this name.
@@ -72,60 +74,33 @@ fn raw_set(words: &ArgMatches<'_>, size: usize) -> Result<SetName, Error> {
     }
 }
 
-/// The kind of the key that a file has in this form, at this set if it is raw bytes, as far as the file tells.
-fn kind_of(form: Form, set: SetName, file: &[u8]) -> Kind {
-    let is_public = match form {
-        Form::Pem => return kind_of_text(file),
-        Form::Der => read_public(file).is_ok(),
-        Form::Raw => file.len() == set.public_key_len(),
-    };
-    if is_public {
-        Kind::Public
-    } else {
-        Kind::Private
-    }
-}
-
-/// The text of the key of this kind that these bytes are in this form, at this set if they are raw.
-fn text_of(
-    alloc: Global,
-    path: &str,
-    form: Form,
-    set: SetName,
-    kind: Kind,
-    bytes: &[u8],
-) -> Result<Vec<u8>, Error>
-    ensures read { IfOk result (λ text. ReadsAs form set kind bytes.now text.items) }
-    ensures text { IfOk result (λ text. IsTextOf form kind bytes.now text.items) }
-{
-    match key_text(alloc, form, set, kind, bytes) {
-        Ok(text) => Ok(text),
-        Err(fault) => Err(fault).context(path),
-    }
-}
-
 /// A key's file that was read.
 #[derive(Drop)]
 pub(crate) struct KeyFile<'a> {
     path: &'a str,
     form: Form,
-    /// The kind of key that is wanted of it.
-    pub kind: Kind,
+    /// The set of raw bytes.
+    set: SetName,
+    /// The kind of key that is wanted of it, if it is to be of one kind.
+    kind: Option<Kind>,
     bytes: Vec<u8>,
-    /// The text of its key, which the library takes.
-    pub text: Vec<u8>,
 }
 
 impl<'a> KeyFile<'a> {
-    /// Reads a key's file: of this kind, or of the one that it seems to have.
+    /// Reads a key's file, of which a key of this kind is wanted, or of either.
     pub(crate) fn read(
         rt: &HostRuntime,
         words: &ArgMatches<'_>,
         path: &'a str,
         kind: Option<Kind>,
     ) -> Result<KeyFile<'a>, Error> {
-        let bytes = read_key(rt, path)?;
-        KeyFile::new(rt.alloc(), path, form(words), SetName::MlDsa65, kind, bytes)
+        Ok(KeyFile {
+            path,
+            form: form(words),
+            set: SetName::MlDsa65,
+            kind,
+            bytes: read_key(rt, path)?,
+        })
     }
 
     /// Reads a key's file that is to be converted.
@@ -140,35 +115,52 @@ impl<'a> KeyFile<'a> {
             Form::Raw => raw_set(words, bytes.len()).context(path)?,
             _ => SetName::MlDsa65,
         };
-        KeyFile::new(rt.alloc(), path, form, set, None, bytes)
-    }
-
-    /// The file with these bytes, in this form, whose set is that of raw bytes.
-    fn new(
-        alloc: Global,
-        path: &'a str,
-        form: Form,
-        set: SetName,
-        kind: Option<Kind>,
-        bytes: Vec<u8>,
-    ) -> Result<KeyFile<'a>, Error>
-        // The text has the key of the bytes.
-        ensures bytes { IfOk result (λ file. file.bytes ≡ bytes) }
-        ensures read { IfOk result (λ file. ReadsAs file.form set file.kind file.bytes.items file.text.items) }
-        ensures text { IfOk result (λ file. IsTextOf file.form file.kind file.bytes.items file.text.items) }
-    {
-        let kind = match kind {
-            Some(kind) => kind,
-            None => kind_of(form, set, bytes.as_slice()),
-        };
-        let text = text_of(alloc, path, form, set, kind, bytes.as_slice())?;
         Ok(KeyFile {
             path,
             form,
-            kind,
+            set,
+            kind: None,
             bytes,
-            text,
         })
+    }
+
+    /// The public key that it has.
+    fn public(&self, alloc: Global) -> Result<PublicKey, Error>
+        ensures { IfOk result (λ key. HasPublic self.now.form self.now.set self.now.bytes.items key.algorithm key.bytes) }
+    {
+        let bytes = self.bytes.as_slice();
+        let key = mlsign_engine::read_public_key(alloc, self.form, self.set, bytes);
+        self.name(key.map_err(CommandFault::Key))
+    }
+
+    /// The private key that it has, and the public key that belongs to it.
+    pub(crate) fn pair(&self, alloc: Global) -> Result<KeyPair, Error>
+        ensures { IfOk result (λ pair. HasPrivate self.now.form self.now.set self.now.bytes.items pair.algorithm pair.parts × IsConsistent pair) }
+    {
+        let bytes = self.bytes.as_slice();
+        self.name(mlsign_engine::read_private_key(alloc, self.form, self.set, bytes))
+    }
+
+    /// The key that it has, of either kind.
+    pub(crate) fn key(&self, alloc: Global) -> Result<AnyKey, Error>
+        ensures { IfOk result (HasKey self.now.form self.now.set self.now.bytes.items) }
+    {
+        let bytes = self.bytes.as_slice();
+        self.name(mlsign_engine::read_key(alloc, self.form, self.set, bytes))
+    }
+
+    /// The private key that it has, for many messages.
+    pub(crate) fn signing_key(&self, alloc: Global) -> Result<SigningKey, Error>
+        ensures { IfOk result (λ key. HasPrivate self.now.form self.now.set self.now.bytes.items key.algorithm key.parts × IsConsistent key) }
+    {
+        self.name(SigningKey::new(alloc, self.pair(alloc)?))
+    }
+
+    /// The public key that it has, for many messages.
+    pub(crate) fn verifying_key(&self, alloc: Global) -> Result<VerifyingKey, Error>
+        ensures { IfOk result (λ key. HasPublic self.now.form self.now.set self.now.bytes.items key.algorithm key.bytes) }
+    {
+        self.name(VerifyingKey::new(alloc, self.public(alloc)?))
     }
 
     /// An answer, or its fault with the name of this file, if it is about the key.
@@ -188,10 +180,11 @@ impl<'a> KeyFile<'a> {
 
     /// What the file seems to be, if it has no key of the kind that is wanted.
     fn hint(&self) -> Option<&'static str> {
-        let read = match self.form {
-            Form::Pem => self.text.as_slice(),
-            _ => self.bytes.as_slice(),
-        };
-        hint(read, self.form, self.kind)
+        let bytes = self.bytes.as_slice();
+        match self.form {
+            Form::Pem => hint(from_beginning(bytes), self.form, self.kind),
+            Form::Der => hint(bytes, self.form, self.kind),
+            Form::Raw => None,
+        }
     }
 }

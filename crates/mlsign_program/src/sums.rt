@@ -41,7 +41,7 @@ pub(crate) fn verify_sums(
     let list = read_list(rt, words, path)?;
     let list = list.as_slice();
     for key in keys.iter_mut() {
-        if accepts_list(rt, words, key, signature, list)? {
+        if accepts_list(words, key, signature, list)? {
             key.accept();
             say_valid(rt, words, key, path, true)?;
             tell_keys(rt, words, keys)?;

@@ -2,7 +2,8 @@
 #![tactic(auto)]
 
 ghost use Rattle.std.specs.Prelude.{◌≡◌, ℕ, List, IfOk};
-ghost use Rattle.mlsign_engine.specs.Commands.{JudgesByText};
+ghost use Rattle.mlsign_engine.specs.Commands.{Judges};
+ghost use Rattle.mlsign_engine.specs.Forms.{HasPublic};
 ghost use Rattle.mlsign_engine.specs.Messages.{GivesAll};
 ghost use Rattle.mlsign_program.specs.Outputs.{context_of};
 
@@ -16,7 +17,7 @@ use crate::sums::verify_sums;
 use crate::text::printable;
 use anyhow::{Context, Error, bail};
 use clap::ArgMatches;
-use mlsign_engine::{CommandFault, Source};
+use mlsign_engine::{CommandFault, Reader, Source};
 use mlsign_files::SetName;
 use mlsign_files::pem::Kind;
 use std::alloc::Global;
@@ -27,6 +28,7 @@ use std::io;
 pub(crate) struct VerifyingKey<'a> {
     path: &'a str,
     file: KeyFile<'a>,
+    key: mlsign_engine::VerifyingKey,
     set: SetName,
     fingerprint: String,
     /// Whether it accepted a signature.
@@ -147,14 +149,18 @@ fn key_of<'a>(
     rt: &HostRuntime,
     words: &ArgMatches<'_>,
     path: &'a str,
-) -> Result<VerifyingKey<'a>, Error> {
+) -> Result<VerifyingKey<'a>, Error>
+    // What verifies is the key of the file's bytes.
+    ensures { IfOk result (λ key. HasPublic key.file.form key.file.set key.file.bytes.items key.key.algorithm key.key.bytes) }
+{
     let file = KeyFile::read(rt, words, path, Some(Kind::Public))?;
-    let text = file.text.as_slice();
-    let set = file.name(mlsign_engine::show(rt.alloc(), text))?.algorithm;
-    let fingerprint = file.name(fingerprint_of(rt.alloc(), text))?;
+    let key = file.verifying_key(rt.alloc())?;
+    let set = key.key().algorithm();
+    let fingerprint = file.name(fingerprint_of(rt.alloc(), key.key()))?;
     Ok(VerifyingKey {
         path,
         file,
+        key,
         set,
         fingerprint,
         accepted: false,
@@ -253,42 +259,39 @@ fn accepts(
     message: &str,
 ) -> Result<bool, Error>
     ensures judged { IfOk result (λ valid. (bytes : List ℕ)
-        × JudgesByText key.now.file.text.items signature.now (context_of words.now) bytes valid) }
+        × Judges key.now.key signature.now (context_of words.now) bytes valid) }
 {
-    let mut input = open(rt, words, message)?;
-    let text = key.file.text.as_slice();
-    match verify_input(rt.alloc(), words, text, signature, &mut input) {
-        Err(CommandFault::Message) => Err(input.fault(message)),
+    let mut input = Reader::new(open(rt, words, message)?);
+    match verify_input(words, &key.key, signature, &mut input) {
+        Err(CommandFault::Message) => Err(input.reader.fault(message)),
         valid => key.file.name(valid),
     }
 }
 
 /// Whether a key accepts these bytes as the signature of a list that was read.
 pub(crate) fn accepts_list(
-    rt: &HostRuntime,
     words: &ArgMatches<'_>,
     key: &VerifyingKey<'_>,
     signature: &[u8],
     list: &[u8],
 ) -> Result<bool, Error> {
-    let mut input = list;
-    let text = key.file.text.as_slice();
-    key.file.name(verify_input(rt.alloc(), words, text, signature, &mut input))
+    let mut input = Reader::new(list);
+    key.file
+        .name(verify_input(words, &key.key, signature, &mut input))
 }
 
 /// Judges the signature of what is read, under the context that the words say.
 fn verify_input<I: Source>(
-    alloc: Global,
     words: &ArgMatches<'_>,
-    key: &[u8],
+    key: &mlsign_engine::VerifyingKey,
     signature: &[u8],
     input: &mut I,
 ) -> Result<bool, CommandFault>
     ensures judged { IfOk result (λ valid. (message : List ℕ)
         × GivesAll I.gives I.remaining input.old input.new message
-        × JudgesByText key.now signature.now (context_of words.now) message valid) }
+        × Judges key.now signature.now (context_of words.now) message valid) }
 {
-    mlsign_engine::verify(alloc, key, signature, context(words), input)
+    mlsign_engine::verify(key, signature, context(words), input)
 }
 
 /// What stands before what is said of a message: its name, if there are others.

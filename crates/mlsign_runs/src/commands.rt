@@ -7,13 +7,13 @@ use crate::recorded::{
 use base64::engine::general_purpose::STANDARD;
 use fips204_shake::Fault;
 use mlsign_engine::{
-    CommandFault, Form, Parts, convert_private, convert_public, key_text, keygen, public, show,
-    sign, verify,
+    AnyKey, CommandFault, Form, KeyPair, Parts, PublicKey, Reader, SigningKey, VerifyingKey,
+    keygen, read_key, read_private_key, read_public_key, sign, verify,
 };
-use mlsign_files::pem::{self, Kind};
 use mlsign_files::{FileFault, PrivateKey, SetName, write_private};
 use sha2::{Digest, Sha256};
 use std::alloc::Global;
+use std::io::{self, ErrorKind, Read};
 use std::test::*;
 
 /// The hashes of the recorded public keys, in hex.
@@ -29,6 +29,17 @@ const HASH_87: &str = "\
     89886750b57c24db3fc012e61ede59753337374fa7124991549af243496d0637\
     cb3be05a5948235bf79875f896d8fe0cab30c84948db4d6315aaaf160ac62436";
 
+/// The private key in this text.
+fn private(alloc: Global, text: &[u8]) -> Result<KeyPair, CommandFault> {
+    read_private_key(alloc, Form::Pem, SetName::MlDsa65, text)
+}
+
+/// The public key in this text, which verifies.
+fn verifying(alloc: Global, text: &[u8]) -> Result<VerifyingKey, CommandFault> {
+    let key = read_public_key(alloc, Form::Pem, SetName::MlDsa65, text)?;
+    VerifyingKey::new(alloc, key)
+}
+
 /// What `verify` answers of a signature in base64.
 fn answer(
     alloc: Global,
@@ -40,8 +51,9 @@ fn answer(
     let Ok(signature) = STANDARD.decode(alloc, signature) else {
         return Err(CommandFault::Message);
     };
-    let mut input = message;
-    verify(alloc, public, signature.as_slice(), context, &mut input)
+    let key = verifying(alloc, public)?;
+    let mut input = Reader::new(message);
+    verify(&key, signature.as_slice(), context, &mut input)
 }
 
 /// At each set the key accepts the signature, and not of another message, under another context, or of another set.
@@ -88,19 +100,43 @@ fn faults(rt: HostRuntime) {
     );
 }
 
+/// A reader whose calls fail.
+#[derive(Drop)]
+struct Broken;
+
+impl Read for Broken {
+    fn read(&mut self, _: &mut [u8]) -> io::Result<usize> {
+        Err(io::Error::from(ErrorKind::BrokenPipe))
+    }
+}
+
+/// A message that is not read is told, and the call that failed is noted; of one that is read no call is.
+#[test]
+fn failing_reader(rt: HostRuntime) -> Result<(), Fail> {
+    let key = verifying(rt.alloc(), PUBLIC_44)?;
+    let mut input = Reader::new(Broken);
+    assert_eq!(rt; verify(&key, b"", b"", &mut input), Err(CommandFault::Message));
+    assert!(rt; input.failed);
+    let mut input = Reader::new(b"message".as_slice());
+    assert_eq!(rt; verify(&key, b"", b"", &mut input), Ok(false));
+    assert!(rt; !input.failed);
+    Ok(())
+}
+
 /// Whether the signature of an empty message under the empty context, over 32 zeros, has this SHA-256.
-fn has_hash(alloc: Global, private: &[u8], text: &str) -> Result<bool, Fail> {
-    let mut input = b"".as_slice();
-    let signature = sign(alloc, private, &[0; 32], b"", &mut input)?;
+fn has_hash(alloc: Global, text: &[u8], wanted: &str) -> Result<bool, Fail> {
+    let key = SigningKey::new(alloc, private(alloc, text)?)?;
+    let mut input = Reader::new(b"".as_slice());
+    let signature = sign(alloc, &key, &[0; 32], b"", &mut input)?;
     let hash = Sha256::digest(signature.as_slice());
-    let wanted = hex::decode(alloc, text)?;
+    let wanted = hex::decode(alloc, wanted)?;
     Ok(wanted.as_slice() == hash.as_slice())
 }
 
 /// At each set the deterministic signature is that of an independent model.
 #[test]
 fn signatures_of_a_model(rt: HostRuntime) -> Result<(), Fail> {
-    for (private, hash) in [
+    for (text, hash) in [
         (
             PRIVATE_44,
             "4f1602550ef34012149cbeaaf73a9e98d9a0aac0f904adb683d5cea86d595471",
@@ -114,7 +150,7 @@ fn signatures_of_a_model(rt: HostRuntime) -> Result<(), Fail> {
             "8f5ae0a451cd6875159d4d39667b53e9e1a162ce69d3078aad356dc704ccdbf8",
         ),
     ] {
-        let same = has_hash(rt.alloc(), private, hash)?;
+        let same = has_hash(rt.alloc(), text, hash)?;
         assert!(rt; same);
     }
     Ok(())
@@ -124,35 +160,38 @@ fn signatures_of_a_model(rt: HostRuntime) -> Result<(), Fail> {
 #[test]
 fn keys_of_openssl(rt: HostRuntime) -> Result<(), Fail> {
     let alloc = rt.alloc();
-    for (algorithm, private, public) in [
+    for (algorithm, wanted, public) in [
         (SetName::MlDsa44, PRIVATE_44, PUBLIC_44),
         (SetName::MlDsa65, PRIVATE_65, PUBLIC_65),
         (SetName::MlDsa87, PRIVATE_87, PUBLIC_87),
     ] {
         let keys = keygen(alloc, Form::Pem, algorithm, &SEED)?;
-        assert!(rt; keys.private.as_slice() == private);
+        assert!(rt; keys.private.as_slice() == wanted);
         assert!(rt; keys.public.as_slice() == public);
-        let mut input = b"message".as_slice();
-        let signature = sign(
-            alloc,
-            keys.private.as_slice(),
-            &[1; 32],
-            b"context",
-            &mut input,
-        )?;
-        let mut input = b"message".as_slice();
-        let valid = verify(alloc, public, signature.as_slice(), b"context", &mut input)?;
-        assert!(rt; valid);
+        let (one, two) = are_signed(alloc, keys.private.as_slice(), public)?;
+        assert!(rt; one && two);
     }
     Ok(())
 }
 
-/// What `sign` answers with the file of this private key of ML-DSA-44.
-fn fault_of(alloc: Global, der: &[u8]) -> Result<bool, CommandFault> {
-    let text = pem::encode(alloc, Kind::Private, der)?;
-    let mut input = b"".as_slice();
-    let signature = sign(alloc, text.as_slice(), &[0; 32], b"", &mut input)?;
-    Ok(signature.is_empty())
+/// Whether the public key in a text accepts two signatures by the private one in another, which is read and prepared once.
+fn are_signed(alloc: Global, text: &[u8], public: &[u8]) -> Result<(bool, bool), CommandFault> {
+    let key = SigningKey::new(alloc, private(alloc, text)?)?;
+    let mut input = Reader::new(b"message".as_slice());
+    let first = sign(alloc, &key, &[1; 32], b"context", &mut input)?;
+    let mut input = Reader::new(b"another".as_slice());
+    let second = sign(alloc, &key, &[2; 32], b"", &mut input)?;
+    let key = verifying(alloc, public)?;
+    let mut input = Reader::new(b"message".as_slice());
+    let one = verify(&key, first.as_slice(), b"context", &mut input)?;
+    let mut input = Reader::new(b"another".as_slice());
+    let two = verify(&key, second.as_slice(), b"", &mut input)?;
+    Ok((one, two))
+}
+
+/// Why no private key is had of this DER.
+fn fault_of(alloc: Global, der: &[u8]) -> Option<CommandFault> {
+    read_private_key(alloc, Form::Der, SetName::MlDsa44, der).err()
 }
 
 /// A seed beside an expanded key that is not its own, and an expanded key that is not whole.
@@ -168,12 +207,12 @@ fn inconsistent_keys(rt: HostRuntime) -> Result<(), Fail> {
     let der = write_private(alloc, SetName::MlDsa44, both)?;
     assert_eq!(rt;
         fault_of(alloc, der.as_slice()),
-        Err(CommandFault::Inconsistent)
+        Some(CommandFault::Inconsistent)
     );
     let der = write_private(alloc, SetName::MlDsa44, PrivateKey::Expanded(&expanded))?;
     assert_eq!(rt;
         fault_of(alloc, der.as_slice()),
-        Err(CommandFault::Inconsistent)
+        Some(CommandFault::Inconsistent)
     );
     Ok(())
 }
@@ -181,13 +220,14 @@ fn inconsistent_keys(rt: HostRuntime) -> Result<(), Fail> {
 /// The public key of each recorded seed is that of OpenSSL.
 #[test]
 fn public_keys_of_openssl(rt: HostRuntime) -> Result<(), Fail> {
-    for (private, wanted) in [
+    let alloc = rt.alloc();
+    for (text, wanted) in [
         (PRIVATE_44, PUBLIC_44),
         (PRIVATE_65, PUBLIC_65),
         (PRIVATE_87, PUBLIC_87),
     ] {
-        let text = public(rt.alloc(), Form::Pem, private)?;
-        assert!(rt; text.as_slice() == wanted);
+        let key = private(alloc, text)?.public_key(alloc)?;
+        assert!(rt; key.file(alloc, Form::Pem)?.as_slice() == wanted);
     }
     Ok(())
 }
@@ -223,24 +263,29 @@ fn sentences(rt: HostRuntime) -> Result<(), Fail> {
     Ok(())
 }
 
-/// Whether this key of either kind is shown as such, of this set, with this hash of its public key.
-fn is_shown(
+/// Whether the text has a private key, and its public key.
+fn of_either(alloc: Global, text: &[u8]) -> Result<(bool, PublicKey), CommandFault> {
+    match read_key(alloc, Form::Pem, SetName::MlDsa65, text)? {
+        AnyKey::Public(key) => Ok((false, key)),
+        AnyKey::Private(pair) => Ok((true, pair.public_key(alloc)?)),
+    }
+}
+
+/// Whether this text has a key of this kind, of this set, with this hash of its public key.
+fn is_key(
     alloc: Global,
     text: &[u8],
-    kind: Kind,
+    is_private: bool,
     algorithm: SetName,
     hash: &str,
 ) -> Result<bool, Fail> {
-    let shown = show(alloc, text)?;
+    let (found, key) = of_either(alloc, text)?;
     let wanted = hex::decode(alloc, hash)?;
-    Ok(
-        shown.kind == kind
-            && shown.algorithm == algorithm
-            && wanted.as_slice() == shown.hash.as_slice(),
-    )
+    let hash = key.hash();
+    Ok(found == is_private && key.algorithm() == algorithm && wanted.as_slice() == hash.as_slice())
 }
 
-/// Both keys of each recorded pair are shown with the hash that Python's `hashlib` gives of the public one.
+/// Both keys of each recorded pair have the hash that Python's `hashlib` gives of the public one.
 #[test]
 fn recorded_keys(rt: HostRuntime) -> Result<(), Fail> {
     for (algorithm, private, public, hash) in [
@@ -249,21 +294,23 @@ fn recorded_keys(rt: HostRuntime) -> Result<(), Fail> {
         (SetName::MlDsa87, PRIVATE_87, PUBLIC_87, HASH_87),
     ] {
         let alloc = rt.alloc();
-        assert!(rt; is_shown(alloc, public, Kind::Public, algorithm, hash)?);
-        assert!(rt; is_shown(alloc, private, Kind::Private, algorithm, hash)?);
+        assert!(rt; is_key(alloc, public, false, algorithm, hash)?);
+        assert!(rt; is_key(alloc, private, true, algorithm, hash)?);
     }
     Ok(())
 }
 
-/// The text of a public key from its file in this form, which is made of the recorded text.
+/// The text of a public key that was written in this form and read again.
 fn public_through(
     alloc: Global,
     form: Form,
     set: SetName,
     text: &[u8],
-) -> Result<Vec<u8>, FileFault> {
-    let file = convert_public(alloc, text, form)?;
-    key_text(alloc, form, set, Kind::Public, file.as_slice())
+) -> Result<Vec<u8>, CommandFault> {
+    let key = read_public_key(alloc, Form::Pem, set, text)?;
+    let file = key.file(alloc, form)?;
+    let again = read_public_key(alloc, form, set, file.as_slice())?;
+    again.file(alloc, Form::Pem)
 }
 
 /// The same of a private key.
@@ -273,8 +320,9 @@ fn private_through(
     set: SetName,
     text: &[u8],
 ) -> Result<Vec<u8>, CommandFault> {
-    let file = convert_private(alloc, text, form, Parts::Kept)?;
-    Ok(key_text(alloc, form, set, Kind::Private, file.as_slice())?)
+    let file = private(alloc, text)?.file(alloc, form, Parts::Kept)?;
+    let again = read_private_key(alloc, form, set, file.as_slice())?;
+    again.file(alloc, Form::Pem, Parts::Kept)
 }
 
 /// The recorded keys, through each form and back.
@@ -299,18 +347,14 @@ fn keys_through_each_form(rt: HostRuntime) -> Result<(), Fail> {
 #[test]
 fn parts_of_a_private_key(rt: HostRuntime) -> Result<(), Fail> {
     let alloc = rt.alloc();
-    let seed = convert_private(alloc, PRIVATE_44, Form::Raw, Parts::Seed)?;
+    let pair = private(alloc, PRIVATE_44)?;
+    let seed = pair.file(alloc, Form::Raw, Parts::Seed)?;
     assert!(rt; seed.as_slice() == SEED.as_slice());
-    let expanded = convert_private(alloc, PRIVATE_44, Form::Raw, Parts::Expanded)?;
-    let text = key_text(
-        alloc,
-        Form::Raw,
-        SetName::MlDsa44,
-        Kind::Private,
-        expanded.as_slice(),
-    )?;
-    assert!(rt; public(alloc, Form::Pem, text.as_slice())?.as_slice() == PUBLIC_44);
-    let none = convert_private(alloc, text.as_slice(), Form::Pem, Parts::Seed).err();
+    let expanded = pair.file(alloc, Form::Raw, Parts::Expanded)?;
+    let pair = read_private_key(alloc, Form::Raw, SetName::MlDsa44, expanded.as_slice())?;
+    let public = pair.public_key(alloc)?.file(alloc, Form::Pem)?;
+    assert!(rt; public.as_slice() == PUBLIC_44);
+    let none = pair.file(alloc, Form::Pem, Parts::Seed).err();
     assert!(rt; none == Some(CommandFault::NoSeed));
     Ok(())
 }
@@ -320,19 +364,14 @@ fn parts_of_a_private_key(rt: HostRuntime) -> Result<(), Fail> {
 fn raw_bytes_of_no_key(rt: HostRuntime) {
     let alloc = rt.alloc();
     let bytes = [0; 2592];
-    for (kind, size) in [
-        (Kind::Public, 0),
-        (Kind::Public, 1311),
-        (Kind::Public, 1313),
-        (Kind::Public, 1952),
-        (Kind::Private, 31),
-        (Kind::Private, 33),
-        (Kind::Private, 1312),
-        (Kind::Private, 2559),
-        (Kind::Private, 2561),
-    ] {
+    for size in [0, 1311, 1313, 1952] {
         let bytes = bytes.get(..size).unwrap_or(&[]);
-        let text = key_text(alloc, Form::Raw, SetName::MlDsa44, kind, bytes);
-        assert!(rt; text.err() == Some(FileFault::KeyLength));
+        let key = read_public_key(alloc, Form::Raw, SetName::MlDsa44, bytes);
+        assert!(rt; key.err() == Some(FileFault::KeyLength));
+    }
+    for size in [31, 33, 1312, 2559, 2561] {
+        let bytes = bytes.get(..size).unwrap_or(&[]);
+        let key = read_private_key(alloc, Form::Raw, SetName::MlDsa44, bytes);
+        assert!(rt; key.err() == Some(CommandFault::Key(FileFault::KeyLength)));
     }
 }
