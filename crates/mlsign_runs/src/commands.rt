@@ -115,7 +115,10 @@ impl Read for Broken {
 fn failing_reader(rt: HostRuntime) -> Result<(), Fail> {
     let key = verifying(rt.alloc(), PUBLIC_44)?;
     let mut input = Reader::new(Broken);
-    assert_eq!(rt; verify(&key, b"", b"", &mut input), Err(CommandFault::Message));
+    assert_eq!(rt;
+        verify(&key, b"", b"", &mut input),
+        Err(CommandFault::Message)
+    );
     assert!(rt; input.failed);
     let mut input = Reader::new(b"message".as_slice());
     assert_eq!(rt; verify(&key, b"", b"", &mut input), Ok(false));
