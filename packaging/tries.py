@@ -417,7 +417,7 @@ class Tries(unittest.TestCase):
                  if line.startswith("    ")]
         no_npm = lacks("npm") or not room.has_node
         skipped = {"sudo", *(["npm"] if no_npm else []), *missing("cargo"),
-                    *(["openssl"] if openssl_version() < (3, 5) else [])}
+                   *(["openssl"] if openssl_version() < (3, 5) else [])}
         expect("the lines of README that are not run", [it for it in lines if it.startswith("sudo")], lines[-1:])
         run = [line for line in lines if line.split()[0] not in skipped]
         run += [] if lacks("man") else ["man -w mlsign mldsa65_sign"]
