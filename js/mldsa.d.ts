@@ -173,19 +173,52 @@ export interface MlDsa {
      * @throws `MlDsaError` as of `isPair`.
      */
     isWhole(privateKey: Uint8Array): boolean;
-    /** The DER of a public key (RFC 9881), as files have it; `mldsa/keys` puts PEM around it. */
+    /**
+     * The DER of a public key (RFC 9881), as files have it; `mldsa/keys` puts PEM around it.
+     * @example
+     * mlDsa65.publicKeyToDer(publicKey).length; // 1974
+     */
     publicKeyToDer(publicKey: Uint8Array): Uint8Array;
-    /** The public key of its DER. Throws for any other bytes, with status 24 for a key of another set. */
+    /**
+     * The public key of its DER.
+     * @example
+     * mlDsa65.publicKeyFromDer(mlDsa65.publicKeyToDer(publicKey)).length; // 1952
+     * @throws `MlDsaError` 18 to 23 for other bytes, 24 for a key of another set.
+     */
     publicKeyFromDer(der: Uint8Array): Uint8Array;
-    /** The DER of a private key by its seed, which is all that has to be stored. */
+    /**
+     * The DER of a private key by its seed, which is all that has to be stored.
+     * @example
+     * mlDsa65.seedToDer(new Uint8Array(32).fill(7)).length; // 54
+     */
     seedToDer(seed: Uint8Array): Uint8Array;
-    /** The DER of a private key by its expanded key. Throws for one that `isPair` says no to. */
+    /**
+     * The DER of a private key by its expanded key.
+     * @example
+     * mlDsa65.privateKeyToDer(privateKey).length; // 4060
+     * @throws `MlDsaError` 25 for one that `isPair` says no to, 15.
+     */
     privateKeyToDer(privateKey: Uint8Array): Uint8Array;
-    /** The DER of a private key by its seed and the expanded key that it generates. */
+    /**
+     * The DER of a private key by its seed and the expanded key that it generates.
+     * @example
+     * mlDsa65.bothToDer(new Uint8Array(32).fill(7)).length; // 4098
+     * @throws `MlDsaError` 15.
+     */
     bothToDer(seed: Uint8Array): Uint8Array;
-    /** The expanded key of a private key in DER, in any of the three forms. Throws for one whose parts don't belong together. */
+    /**
+     * The expanded key of a private key in DER, in any of the three forms.
+     * @example
+     * mlDsa65.privateKeyFromDer(mlDsa65.privateKeyToDer(privateKey)).length; // 4032
+     * @throws `MlDsaError` 18 to 23 for other bytes, 24 for a key of another set, 25 where its parts don't belong together, 15.
+     */
     privateKeyFromDer(der: Uint8Array): Uint8Array;
-    /** Its seed. Throws with status 26 where it has none. */
+    /**
+     * The seed of a private key in DER.
+     * @example
+     * mlDsa65.seedFromDer(mlDsa65.seedToDer(new Uint8Array(32).fill(7)))[31]; // 7
+     * @throws `MlDsaError` as of `privateKeyFromDer`, 26 where it has no seed.
+     */
     seedFromDer(der: Uint8Array): Uint8Array;
 }
 

@@ -22,15 +22,16 @@ function examples(name) {
 }
 
 test("each call in the types has an example, which runs", async () => {
-    const { mlDsa65 } = await all.load();
+    const sets = await all.load();
+    const { mlDsa65 } = sets;
     const pair = mlDsa65.keygen();
     const [message, context, digest] = [utf8("a message"), utf8("a context"), hex(sha256(utf8("a message")))];
     const signature = mlDsa65.sign(pair.privateKey, message, { context });
-    const names = { assert, ...all, ...keys, mlDsa65, ...pair, message, context, digest, signature, text: ofOpenssl(65).pem };
+    const names = { assert, ...all, ...keys, sets, mlDsa65, ...pair, message, context, digest, signature, text: ofOpenssl(65).pem };
     const found = [...examples("js/mldsa.d.ts"), ...examples("js/keys.d.ts")];
     assert.deepEqual(found.filter(([, lines]) => lines === undefined).map(([call]) => call), []);
     const methods = Object.getOwnPropertyNames(Object.getPrototypeOf(mlDsa65)).filter((it) => it !== "constructor");
-    for (const call of [...methods, "update", "mu", "load", "isSupported", "oids", "readPublicKey", "fingerprint"]) {
+    for (const call of [...methods, "update", "mu", "load", "isSupported", "oids", ...Object.keys(keys).filter((it) => it !== "KeyFileError")]) {
         assert.ok(found.some(([declared]) => declared === call), `${call} has no example`);
     }
     const Run = (async () => {}).constructor;

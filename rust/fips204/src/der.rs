@@ -1,9 +1,10 @@
 //! Keys in files: the DER of RFC 9881, which the library reads and writes, and PEM around it.
 #![allow(dead_code)] // no set may be chosen
 
+use crate::error::Error;
 use crate::library::answer;
 use crate::set::{Calls, PrivateKey, PublicKey, Set};
-use crate::wiped::Wiped;
+use crate::wiped::{Wiped, held};
 
 /// How many bytes the DER of a seed has, at every set.
 const SEED_DER_LEN: usize = 54;
@@ -32,10 +33,10 @@ where
     /// # }
     /// # Ok::<(), &'static str>(())
     /// ```
-    pub fn from_der(der: &[u8]) -> Result<Self, &'static str> {
-        let mut key = PublicKey(Wiped([0; PK]));
-        let status = Set::<PK, SK, SIG>::public_key_from_der(der, &mut key.0.0);
-        answer(status, key)
+    pub fn from_der(der: &[u8]) -> Result<Self, Error> {
+        let mut key = PublicKey(Wiped::zeros());
+        let status = Set::<PK, SK, SIG>::public_key_from_der(der, key.0.array_mut());
+        Ok(answer(status, key)?)
     }
 
     /// Writes the key as a SubjectPublicKeyInfo in DER, of `DER_LEN` bytes.
@@ -55,8 +56,8 @@ where
     /// # }
     /// # Ok::<(), &'static str>(())
     /// ```
-    pub fn write_der(&self, der: &mut [u8]) -> Result<(), &'static str> {
-        answer(Set::<PK, SK, SIG>::public_key_to_der(&self.0.0, der), ())
+    pub fn write_der(&self, der: &mut [u8]) -> Result<(), Error> {
+        Ok(answer(Set::<PK, SK, SIG>::public_key_to_der(self.0.given(), der), ())?)
     }
 }
 
@@ -89,10 +90,10 @@ where
     /// # }
     /// # Ok::<(), &'static str>(())
     /// ```
-    pub fn from_der(der: &[u8]) -> Result<Self, &'static str> {
-        let mut key = PrivateKey(Wiped([0; SK]));
-        let status = Set::<PK, SK, SIG>::private_key_from_der(der, &mut key.0.0);
-        answer(status, key)
+    pub fn from_der(der: &[u8]) -> Result<Self, Error> {
+        let mut key = PrivateKey(held());
+        let status = Set::<PK, SK, SIG>::private_key_from_der(der, key.0.array_mut());
+        Ok(answer(status, key)?)
     }
 
     /// The seed of a private key in DER, of which `keygen_from_seed` makes it.
@@ -110,10 +111,10 @@ where
     /// # }
     /// # Ok::<(), &'static str>(())
     /// ```
-    pub fn seed_from_der(der: &[u8]) -> Result<[u8; 32], &'static str> {
+    pub fn seed_from_der(der: &[u8]) -> Result<[u8; 32], Error> {
         let mut seed = [0; 32];
         let status = Set::<PK, SK, SIG>::seed_from_der(der, &mut seed);
-        answer(status, seed)
+        Ok(answer(status, seed)?)
     }
 
     /// A private key in DER by its seed, which is all that has to be stored.
@@ -131,10 +132,10 @@ where
     /// # }
     /// # Ok::<(), &'static str>(())
     /// ```
-    pub fn seed_to_der(seed: &[u8; 32]) -> Result<[u8; SEED_DER_LEN], &'static str> {
+    pub fn seed_to_der(seed: &[u8; 32]) -> Result<[u8; SEED_DER_LEN], Error> {
         let mut der = [0; SEED_DER_LEN];
         let status = Set::<PK, SK, SIG>::seed_to_der(seed, &mut der);
-        answer(status, der)
+        Ok(answer(status, der)?)
     }
 
     /// Writes the key as a OneAsymmetricKey in DER by its expanded key, of `DER_LEN` bytes.
@@ -154,8 +155,8 @@ where
     /// # }
     /// # Ok::<(), &'static str>(())
     /// ```
-    pub fn write_der(&self, der: &mut [u8]) -> Result<(), &'static str> {
-        answer(Set::<PK, SK, SIG>::private_key_to_der(&self.0.0, der), ())
+    pub fn write_der(&self, der: &mut [u8]) -> Result<(), Error> {
+        Ok(answer(Set::<PK, SK, SIG>::private_key_to_der(self.0.given(), der), ())?)
     }
 
     /// Writes a private key in DER by its seed and the expanded key that it generates, of `BOTH_DER_LEN` bytes.
@@ -174,15 +175,15 @@ where
     /// # }
     /// # Ok::<(), &'static str>(())
     /// ```
-    pub fn write_both_der(seed: &[u8; 32], der: &mut [u8]) -> Result<(), &'static str> {
-        answer(Set::<PK, SK, SIG>::both_to_der(seed, der), ())
+    pub fn write_both_der(seed: &[u8; 32], der: &mut [u8]) -> Result<(), Error> {
+        Ok(answer(Set::<PK, SK, SIG>::both_to_der(seed, der), ())?)
     }
 }
 
 /// PEM in the strict form of RFC 7468, as `mlsign` and OpenSSL write it.
 #[cfg(feature = "default-rng")]
 mod pem {
-    use super::{Calls, PrivateKey, PublicKey, Set};
+    use super::{Calls, Error, PrivateKey, PublicKey, Set};
     use std::string::String;
     use std::vec::Vec;
 
@@ -266,7 +267,7 @@ mod pem {
         /// # }
         /// # Ok::<(), &'static str>(())
         /// ```
-        pub fn from_pem(text: &str) -> Result<Self, &'static str> {
+        pub fn from_pem(text: &str) -> Result<Self, Error> {
             Self::from_der(&decode(PUBLIC, text)?)
         }
 
@@ -286,7 +287,7 @@ mod pem {
         /// # }
         /// # Ok::<(), &'static str>(())
         /// ```
-        pub fn to_pem(&self) -> Result<String, &'static str> {
+        pub fn to_pem(&self) -> Result<String, Error> {
             let mut der = std::vec![0; Self::DER_LEN];
             self.write_der(&mut der)?;
             Ok(encode(PUBLIC, &der))
@@ -314,7 +315,7 @@ mod pem {
         /// # }
         /// # Ok::<(), &'static str>(())
         /// ```
-        pub fn from_pem(text: &str) -> Result<Self, &'static str> {
+        pub fn from_pem(text: &str) -> Result<Self, Error> {
             Self::from_der(&decode(PRIVATE, text)?)
         }
 
@@ -335,7 +336,7 @@ mod pem {
         /// # }
         /// # Ok::<(), &'static str>(())
         /// ```
-        pub fn seed_to_pem(seed: &[u8; 32]) -> Result<String, &'static str> {
+        pub fn seed_to_pem(seed: &[u8; 32]) -> Result<String, Error> {
             Ok(encode(PRIVATE, &Self::seed_to_der(seed)?))
         }
 
@@ -355,7 +356,7 @@ mod pem {
         /// # }
         /// # Ok::<(), &'static str>(())
         /// ```
-        pub fn to_pem(&self) -> Result<String, &'static str> {
+        pub fn to_pem(&self) -> Result<String, Error> {
             let mut der = std::vec![0; Self::DER_LEN];
             self.write_der(&mut der)?;
             Ok(encode(PRIVATE, &der))
