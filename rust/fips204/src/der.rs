@@ -17,6 +17,7 @@ where
     pub const DER_LEN: usize = PK + 22;
 
     /// The key of a SubjectPublicKeyInfo in DER (RFC 9881, section 4).
+    /// Takes `stack::DER` bytes of stack.
     ///
     /// # Errors
     /// The bytes are not the DER of a public key of this set; the text is a sentence about "it", the file.
@@ -40,6 +41,7 @@ where
     }
 
     /// Writes the key as a SubjectPublicKeyInfo in DER, of `DER_LEN` bytes.
+    /// Takes `stack::DER` bytes of stack.
     ///
     /// # Errors
     /// `der` has another length.
@@ -73,6 +75,7 @@ where
 
     /// The key of a OneAsymmetricKey (PKCS #8) in DER (RFC 9881, section 6), which is not encrypted: that of its seed, or
     /// its expanded key.
+    /// Takes `stack::DER` bytes of stack.
     ///
     /// # Errors
     /// The bytes are not the DER of a private key of this set, or its parts do not belong together; the text is a sentence
@@ -97,6 +100,7 @@ where
     }
 
     /// The seed of a private key in DER, of which `keygen_from_seed` makes it.
+    /// Takes `stack::DER` bytes of stack.
     ///
     /// # Errors
     /// Those of `from_der`; or it has no seed.
@@ -118,6 +122,7 @@ where
     }
 
     /// A private key in DER by its seed, which is all that has to be stored.
+    /// Takes `stack::DER` bytes of stack.
     ///
     /// # Errors
     /// None is known.
@@ -139,6 +144,7 @@ where
     }
 
     /// Writes the key as a OneAsymmetricKey in DER by its expanded key, of `DER_LEN` bytes.
+    /// Takes `stack::DER` bytes of stack.
     ///
     /// # Errors
     /// `der` has another length, or the key is one that `is_pair` says no to.
@@ -160,6 +166,7 @@ where
     }
 
     /// Writes a private key in DER by its seed and the expanded key that it generates, of `BOTH_DER_LEN` bytes.
+    /// Takes `stack::DER` bytes of stack.
     ///
     /// # Errors
     /// `der` has another length.
@@ -252,6 +259,7 @@ mod pem {
         Set<PK, SK, SIG>: Calls,
     {
         /// The key of a file in PEM, as `mlsign` and OpenSSL write it.
+        /// Takes `stack::DER` bytes of stack.
         ///
         /// # Errors
         /// The text is not the PEM of a public key of this set.
@@ -272,6 +280,7 @@ mod pem {
         }
 
         /// The text of the key's file.
+        /// Takes `stack::DER` bytes of stack.
         ///
         /// # Errors
         /// None is known.
@@ -300,6 +309,7 @@ mod pem {
     {
         /// The key of a file in PEM, which is not encrypted, as `mlsign` and OpenSSL write it. The DER that is made on the
         /// way is not wiped.
+        /// Takes `stack::DER` bytes of stack.
         ///
         /// # Errors
         /// The text is not the PEM of a private key of this set, or its parts do not belong together.
@@ -320,6 +330,7 @@ mod pem {
         }
 
         /// The text of a private key's file by its seed, not encrypted.
+        /// Takes `stack::DER` bytes of stack.
         ///
         /// # Errors
         /// None is known.
@@ -341,6 +352,7 @@ mod pem {
         }
 
         /// The text of the key's file by its expanded key, not encrypted.
+        /// Takes `stack::DER` bytes of stack.
         ///
         /// # Errors
         /// The key is one that `is_pair` says no to.

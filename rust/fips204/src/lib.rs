@@ -52,6 +52,7 @@ pub mod ml_dsa_44 {
         VERIFY_PREPARED: 58_368,
         PREPARE_PRIVATE_KEY: 108_544,
         SIGN_PREPARED: 135_168,
+        DER: 126_976,
     );
 }
 
@@ -72,6 +73,7 @@ pub mod ml_dsa_65 {
         VERIFY_PREPARED: 70_656,
         PREPARE_PRIVATE_KEY: 147_456,
         SIGN_PREPARED: 176_128,
+        DER: 172_032,
     );
 }
 
@@ -92,5 +94,6 @@ pub mod ml_dsa_87 {
         VERIFY_PREPARED: 86_016,
         PREPARE_PRIVATE_KEY: 204_800,
         SIGN_PREPARED: 240_640,
+        DER: 238_592,
     );
 }
