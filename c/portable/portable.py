@@ -15,6 +15,7 @@ HEAD = """\
  *
  * Made by scripts/archive from a WebAssembly module whose source is proved (docs/SPEC.md): {tools}.
  * No line of it is for reading or changing. Licence: MIT OR Apache-2.0. */
+#define MLDSA_IS_PORTABLE /* it copies what it may leave as it was */
 #include "mldsa_portable.h"
 
 """
