@@ -45,11 +45,11 @@ VERSION_TEXT: str = "{text}"
 CALLS: Dict[str, Tuple[bool, ...]] = {{
 {calls}}}
 
-# Lengths, stacks and answers.
+# Lengths, stacks and results.
 NUMBERS: Dict[str, int] = {{
 {numbers}}}
 
-# The text of each answer.
+# The text of each result.
 TEXTS: Dict[int, str] = {{
 {texts}}}
 

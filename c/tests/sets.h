@@ -74,7 +74,7 @@ static const struct set SETS[3] = {SET(44), SET(65), SET(87)};
 static const uint8_t SHA256_OID[11] __attribute__((unused)) = {0x06, 0x09, 0x60, 0x86, 0x48, 0x01, 0x65, 0x03, 0x04, 0x02, 0x01};
 
 static int failures __attribute__((unused));
-/* Counts an answer that is another one than wanted. */
+/* Counts a result that is another one than wanted. */
 #define WANT(got, wanted)                                                                                      \
     do {                                                                                                       \
         unsigned long got_ = (got), wanted_ = (wanted);                                                        \

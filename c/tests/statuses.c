@@ -1,4 +1,4 @@
-/* Each answer of each call at each set, and what is in the arrays afterwards. */
+/* Each result of each call at each set, and what is in the arrays afterwards. */
 #include "sets.h"
 
 static uint8_t public_key[LONGEST_KEY + 1], private_key[LONGEST_KEY + 1], signature[LONGEST_SIGNATURE + 1];

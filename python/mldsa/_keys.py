@@ -79,7 +79,7 @@ def _digest(given: Buffer, hash_name: str) -> Tuple[bytes, bytes]:
 
 
 def _done(status: int) -> None:
-    """Raises for an answer that no argument can cause."""
+    """Raises for a status that no argument can cause."""
     if status != DONE:
         raise RuntimeError(f"mldsa: {_library.text(status)}")
 

@@ -1,5 +1,5 @@
 /* Makes the calls that standard input asks for, a line each: the number of a set, the name of a call, and its arrays in hex, with a tab between.
- * Prints a line for each: what was written in hex, with a tab between; yes or no; or the text of another answer. */
+ * Prints a line for each: what was written in hex, with a tab between; yes or no; or the text of another result. */
 #define _POSIX_C_SOURCE 200809L
 #include "../../c/tests/sets.h"
 

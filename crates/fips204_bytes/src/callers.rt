@@ -1,4 +1,4 @@
-//! Callers for wrong bodies: what each part of the laws and of the definitions says, so that one which says less is refused
+//! Callers for mutations: what each part of the laws and of the definitions says, so that one which says less is refused
 //! here. No code calls them.
 #![tactic(auto)]
 
@@ -24,7 +24,7 @@ use crate::laws::{
     pair_accepts_written, prepared_stands_for_plain, signature_binds,
 };
 
-/// Which keys belong together, and what is answered of such keys.
+/// Which keys belong together, and what is returned of such keys.
 pub(crate) fn pair_parts()
     ensures generated { (p : ParameterSet) (H G : XOF) (seed v pk s sk : Bytes) → IsSet p → ((x : Bytes) → 4096 ≤ length (H x))
         → Generates p H G seed v pk s sk (Ok tt) → BelongTogether p H G pk sk }
@@ -43,7 +43,7 @@ pub(crate) fn pair_parts()
     pair_accepts_written();
 }
 
-/// What is answered of the mu and of the framed message of an input.
+/// What is returned of the mu and of the framed message of an input.
 pub(crate) fn mu_parts()
     ensures signed { (p : ParameterSet) (H G : XOF) (sk random : Bytes) (input : Input) (old new : Bytes) (answer : Result ⊤ Refusal) → input_fault input ≡ None
         → Signs p H G sk random (represented (representative H (take 64 (drop 64 sk)) input)) old new answer ↔ Signs p H G sk random input old new answer }
@@ -74,7 +74,7 @@ pub(crate) fn binding_parts()
     signature_binds();
 }
 
-/// What is answered of the bytes that preparing a key wrote.
+/// What is returned of the bytes that preparing a key wrote.
 pub(crate) fn prepared_parts()
     ensures judged { (p : ParameterSet) (H G : XOF) (key old prepared : Bytes) (input : Input) (signature : Bytes) (answer : Result Bool Refusal) → IsSet p
         → PreparesPublic p H G key old prepared (Ok tt) → JudgesPrepared p H prepared input signature answer

@@ -20,7 +20,7 @@ use fips204::types::{KG, PreparedPrivateKey, PreparedPublicKey, PrivateKey, Publ
 use fips204::xof::Xof;
 use std::marker::PhantomData;
 
-/// ML-DSA (FIPS 204) over bytes at one parameter set: the one whose matrix has `K` rows and `L` columns, over the streams `H`
+/// ML-DSA (FIPS 204) over bytes at one parameter set: the one whose matrix has `K` rows and `L` columns, over the XOFs `H`
 /// and `G` (SHAKE256 and SHAKE128 in the standard), of plain and of prepared keys.
 ///
 /// In contracts `S.set` is the set's row of the standard's tables. The calls make no value of this type.
@@ -201,7 +201,7 @@ where
         Ok(())
     }
 
-    /// Tells whether a private key is whole: whether its t0 belongs to its s1 and s2.
+    /// Tells whether a private key is consistent: whether its t0 belongs to its s1 and s2.
     ///
     /// Errors: the length of `private_key`; then `Fault::KeyRange` if no private key has these bytes; then those of
     /// `PrivateKey::is_whole`.
@@ -218,7 +218,7 @@ where
         }
     }
 
-    /// Tells whether a private key and the public key that belongs to it are a pair: whether it is whole, and its `tr` is the
+    /// Tells whether a private key and the public key that belongs to it are a pair: whether it is consistent, and its `tr` is the
     /// hash of that key's bytes.
     ///
     /// Errors: the length of `private_key`; then `Fault::KeyRange` if no private key has these bytes; then those of

@@ -45,7 +45,7 @@ pub fn signature_binds()
     key_bytes();
 }
 
-/// With the bytes that preparing a key has written, verifying and signing answer what they answer with the key itself, for every
+/// With the bytes that preparing a key has written, verifying and signing return what they return with the key itself, for every
 /// input, every signature and all random bytes.
 pub fn prepared_stands_for_plain()
     ensures { (p : ParameterSet) (H G : XOF) → IsSet p → PreparedStandsForPlain p H G }
@@ -59,7 +59,7 @@ pub fn errors_leave_arrays()
     ensures { (p : ParameterSet) (H G : XOF) → ErrorsLeave p H G }
 {}
 
-/// `check_private_key` answers `Fault::KeyRange` of an array of the right length if and only if a field of s1 or s2 in it is
+/// `check_private_key` returns `Fault::KeyRange` of an array of the right length if and only if a field of s1 or s2 in it is
 /// above 2 eta.
 pub fn key_range()
     ensures { (p : ParameterSet) → IsSet p → RangeIsOfFields p }

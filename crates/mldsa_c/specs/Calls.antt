@@ -1,4 +1,4 @@
--- What the exported calls answer: the statuses of the calls over bytes, over SHAKE256 and SHAKE128. A last status is the answer.
+-- What the exported calls return: the statuses of the calls over bytes, over SHAKE256 and SHAKE128. A last status is the result.
 use Rattle.std.specs.Prelude.{◌≡◌, ◌≢◌, ◌⊎◌, ℕ, Bool, List, length, Result, MatchOption, ⊤}
 use Rattle.fips204.specs.Framing.{Input, pre_hash_fault, represented}
 use Rattle.fips204.specs.ParameterSets.{ParameterSet}
@@ -7,7 +7,7 @@ use Rattle.fips204_bytes.specs.declared.refusal.Refusal.{Refusal}
 use Rattle.fips204_shake.specs.Fronts.{shake256_front, shake128_front}
 use Rattle.mldsa_c.specs.Statuses.{status_of, done_status, answer_status}
 
--- the status is that of what a call over bytes answers: of one that writes, and of a question
+-- the status is that of what a call over bytes returns: of one that writes, and of a question
 abbrev pub Done : (Result ⊤ Refusal → Type 0) → ℕ → Type 0
 Done answers status = (answer : Result ⊤ Refusal) × answers answer × (status ≡ done_status answer)
 

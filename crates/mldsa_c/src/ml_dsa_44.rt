@@ -124,7 +124,7 @@ pub extern "C" fn mldsa44_check_private_key(private_key: &[u8]) -> u32
     status(MlDsa44::check_private_key(private_key))
 }
 
-/// Tells whether a private key is whole.
+/// Tells whether a private key is consistent.
 #[unsafe(no_mangle)]
 pub extern "C" fn mldsa44_is_whole(private_key: &[u8]) -> u32
     ensures { IsWholeAnswers set_44 private_key.now result }

@@ -124,7 +124,7 @@ pub extern "C" fn mldsa65_check_private_key(private_key: &[u8]) -> u32
     status(MlDsa65::check_private_key(private_key))
 }
 
-/// Tells whether a private key is whole.
+/// Tells whether a private key is consistent.
 #[unsafe(no_mangle)]
 pub extern "C" fn mldsa65_is_whole(private_key: &[u8]) -> u32
     ensures { IsWholeAnswers set_65 private_key.now result }

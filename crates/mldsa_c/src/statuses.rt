@@ -1,4 +1,4 @@
-//! The numbers that the exports answer.
+//! The numbers that the exports return.
 #![tactic(auto)]
 
 ghost use Rattle.std.specs.Prelude.{◌≡◌};
@@ -54,7 +54,7 @@ pub(crate) fn status_of(fault: Fault) -> u32
     }
 }
 
-/// The status of a refusal.
+/// The status of an error.
 pub(crate) fn status_of_refusal(refusal: Refusal) -> u32
     ensures { result ≡ refusal_status refusal }
 {
@@ -75,7 +75,7 @@ pub(crate) fn status(answer: Result<(), Refusal>) -> u32
     }
 }
 
-/// The status of an answer to a question.
+/// The status of a result of a question.
 pub(crate) fn verdict_status(answer: Result<bool, Refusal>) -> u32
     ensures { result ≡ answer_status answer }
 {

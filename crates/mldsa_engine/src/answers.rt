@@ -49,7 +49,7 @@ pub(crate) fn execute<H: Xof, G: Xof, I: Read>(
     }
 }
 
-/// The commands at the set whose matrix has `K` rows and `L` columns, over the streams `H` and `G`.
+/// The commands at the set whose matrix has `K` rows and `L` columns, over the XOFs `H` and `G`.
 ///
 /// A command is not inlined, so that its keys stand in the stack alone.
 struct AtSet<const K: usize, const L: usize, H, G>(PhantomData<(H, G)>);
@@ -138,7 +138,7 @@ where
         two_lines(alloc, &key.into_bytes(), &tr)
     }
 
-    /// The keys of a seed, as lines of hex, or the refusal.
+    /// The keys of a seed, as lines of hex, or the error.
     #[inline(never)]
     fn keygen(alloc: Global, seed: &[u8; 32]) -> Result<Output, RunFault>
         ensures given { IfOk result (λ output. TellsKeys S.set H.front G.front seed.now output.text.items output.success) }
@@ -150,7 +150,7 @@ where
         }
     }
 
-    /// The signature by the private key that has these bytes, as a line of hex, or the refusal; that of the key's
+    /// The signature by the private key that has these bytes, as a line of hex, or the error; that of the key's
     /// bytes stands first.
     #[inline(never)]
     fn sign(
@@ -185,7 +185,7 @@ where
         Self::decode(key).verify(message, &array_of(signature), context)
     }
 
-    /// Whether the pair of a seed verifies what it signs, as a word and a truth value, or the first refusal.
+    /// Whether the pair of a seed verifies what it signs, as a word and a truth value, or the first error.
     #[inline(never)]
     fn check(
         alloc: Global,

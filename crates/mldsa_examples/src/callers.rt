@@ -188,7 +188,7 @@ pub fn checked_at_87<H: Xof, G: Xof>(xi: &[u8; 32], rnd: &[u8; 32]) -> Result<bo
     pairwise_check::<ml_dsa_87::KG<H, G>>(xi, rnd, b"a message", &[])
 }
 
-/// Whether the public key that is derived of a whole private key, of whatever origin, accepts what this signs: yes,
+/// Whether the public key that is derived of a consistent private key, of whatever origin, accepts what this signs: yes,
 /// wherever nothing is refused, by the clause `accepted` alone.
 pub fn accepts_what_it_signs<H: Xof, G: Xof>(
     sk: &ml_dsa_44::PrivateKey<H, G>,
@@ -204,7 +204,7 @@ pub fn accepts_what_it_signs<H: Xof, G: Xof>(
     Ok(pk.verify(message, &signature, ctx))
 }
 
-/// The same of prepared keys: the public key that belongs to a whole prepared private key accepts what this signs.
+/// The same of prepared keys: the public key that belongs to a consistent prepared private key accepts what this signs.
 pub fn accepts_what_it_signs_prepared<H: Xof>(
     sk: &ml_dsa_44::PreparedPrivateKey<H>,
     pk: &ml_dsa_44::PreparedPublicKey<H>,

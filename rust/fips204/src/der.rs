@@ -147,7 +147,7 @@ where
     /// Takes `stack::DER` bytes of stack.
     ///
     /// # Errors
-    /// `der` has another length, or the key is one that `is_pair` says no to.
+    /// `der` has another length, or `is_pair` of the key is false.
     ///
     /// ```
     /// # #[cfg(feature = "ml-dsa-65")] {
@@ -355,7 +355,7 @@ mod pem {
         /// Takes `stack::DER` bytes of stack.
         ///
         /// # Errors
-        /// The key is one that `is_pair` says no to.
+        /// `is_pair` of the key is false.
         ///
         /// ```
         /// # #[cfg(all(feature = "ml-dsa-65", feature = "default-rng"))] {

@@ -1,5 +1,5 @@
 //! Makes the calls that standard input asks for, a line each: the number of a set, the name of a call, and its arrays in hex, with a tab between.
-//! Prints a line for each: what was made in hex, with a tab between; yes or no; or the text of a refusal.
+//! Prints a line for each: what was made in hex, with a tab between; yes or no; or the text of an error.
 
 use std::io::{self, BufRead, Write};
 
