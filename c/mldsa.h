@@ -12,8 +12,9 @@
  * of an array that is shorter than the length behind it says, as that of another set is. A test for null stays in a program,
  * wherever it stands.
  *
- * These are the declarations of libmldsa_c.a, whose code is proved: each call returns what FIPS 204 says, reads and writes
- * nothing but the arrays that it is given, and ends. docs/SPEC.md says what that rests on.
+ * These are the declarations of libmldsa_c.a, whose code in Rattle is proved: each call returns what FIPS 204 says, reads and
+ * writes nothing but the arrays that it is given, and ends. docs/SPEC.md says what that rests on. On x86-64 some lines of C, which
+ * are tested, choose between two compilations of that code.
  *
  * An array is a pointer and, right after it, its length in bytes. A wrong length is safe: the call returns
  * MLDSA_WRONG_LENGTH and writes nothing. The arrays that a call writes are those without const; they come last. They are
@@ -26,7 +27,8 @@
  *  - the thread has as many bytes of stack left as MLDSA*_STACK_* says (ask for them where you start a thread);
  *  - seed and random are secret, drawn from a good generator, and used once.
  *
- * The calls keep no state, allocate nothing, call nothing but memcpy, memmove and memset, and may run in any number of threads.
+ * The calls keep no state but, on x86-64, the processor's level, allocate nothing, call nothing but memcpy, memmove and memset, and
+ * may run in any number of threads.
  * They leave secrets on the stack below the caller's frame, and are not claimed to run in constant time.
  *
  * A program for each group of calls is among the examples and on the group's page of the manual: message.c, digest.c, pieces.c,

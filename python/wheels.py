@@ -45,11 +45,11 @@ VERSION_TEXT: str = "{text}"
 CALLS: Dict[str, Tuple[bool, ...]] = {{
 {calls}}}
 
-# Lengths, stacks and results.
+# Lengths, stacks and answers.
 NUMBERS: Dict[str, int] = {{
 {numbers}}}
 
-# The text of each result.
+# The text of each answer.
 TEXTS: Dict[int, str] = {{
 {texts}}}
 

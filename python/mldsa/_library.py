@@ -19,7 +19,7 @@ _SMALL = 4096
 
 
 def text(status: int) -> str:
-    """The text of a status."""
+    """The text of an answer."""
     return TEXTS.get(status, f"{status} is no answer of this library")
 
 

@@ -40,7 +40,7 @@ fn answers<
     ])
 }
 
-/// Prepared keys of ML-DSA-44 return what the plain ones do.
+/// Prepared keys of ML-DSA-44 answer as the plain ones.
 #[test]
 fn prepared_44(rt: HostRuntime) -> Result<(), Fail> {
     let found = answers::<
@@ -54,7 +54,7 @@ fn prepared_44(rt: HostRuntime) -> Result<(), Fail> {
     Ok(())
 }
 
-/// Prepared keys of ML-DSA-65 return what the plain ones do.
+/// Prepared keys of ML-DSA-65 answer as the plain ones.
 #[test]
 fn prepared_65(rt: HostRuntime) -> Result<(), Fail> {
     let found = answers::<
@@ -68,7 +68,7 @@ fn prepared_65(rt: HostRuntime) -> Result<(), Fail> {
     Ok(())
 }
 
-/// Prepared keys of ML-DSA-87 return what the plain ones do.
+/// Prepared keys of ML-DSA-87 answer as the plain ones.
 #[test]
 fn prepared_87(rt: HostRuntime) -> Result<(), Fail> {
     let found = answers::<

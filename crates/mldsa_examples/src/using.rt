@@ -12,7 +12,7 @@ use fips204::{Fault, ml_dsa_65, ml_dsa_87};
 use sha2::{Digest, Sha256};
 use std::test::Fail;
 
-/// The pairs of ML-DSA-44 over two XOFs.
+/// The pairs of ML-DSA-44 over two streams.
 type Keys = ml_dsa_44::KG<Sha256Ctr, Sha512Ctr>;
 
 /// The public key of such a pair.
@@ -82,7 +82,7 @@ fn three(
 }
 
 /// Signs a message with a stored key of any of the three sets, and verifies the signature under the public key
-/// derived from it. The signature of a consistent key is accepted.
+/// derived from it. The signature of a whole key is accepted.
 fn stands<K, const SK: usize, const SIG: usize>(
     key: [u8; SK],
     random: &[u8; 32],
@@ -100,7 +100,7 @@ where
 }
 
 /// Makes the pair of a seed at any of the three sets, keeps both keys as bytes, reads them back, signs with the one and
-/// verifies with the other. Keeping them adds no error, and the result is never false.
+/// verifies with the other. Keeping them adds no error, and the answer is never false.
 fn stands_when_stored<K, const PK: usize, const SK: usize, const SIG: usize>(
     seed: &[u8; 32],
     random: &[u8; 32],
@@ -170,7 +170,7 @@ fn of_files() -> Result<[bool; 3], Fault> {
     ])
 }
 
-/// What `three` returns of three messages, one of them empty, under the public key of this seed.
+/// What `three` answers of three messages, one of them empty, under the public key of this seed.
 fn of_messages(seed: &[u8; 32]) -> Result<[bool; 3], Fault> {
     let (public, _) = Keys::keygen_from_seed(seed)?;
     let (_, private) = Keys::keygen_from_seed(&[7; 32])?;
@@ -203,7 +203,7 @@ fn three_messages(rt: HostRuntime) {
     assert!(rt; [of_messages(&[7; 32]), of_messages(&[8; 32])] == [Ok([true; 3]), Ok([false; 3])]);
 }
 
-/// A key whose t0 has other bits in its first polynomial is not consistent, and this signature of it is not accepted.
+/// A key whose t0 has other bits in its first polynomial is not whole, and this signature of it is not accepted.
 #[test]
 fn a_key_that_is_not_whole(rt: HostRuntime) -> Result<(), Fail> {
     let mut key = private_bytes::<Keys>(&[7; 32])?;

@@ -40,7 +40,7 @@ fn verifying(alloc: Global, text: &[u8]) -> Result<VerifyingKey, CommandFault> {
     VerifyingKey::new(alloc, key)
 }
 
-/// What `verify` returns of a signature in base64.
+/// What `verify` answers of a signature in base64.
 fn answer(
     alloc: Global,
     public: &[u8],
@@ -197,7 +197,7 @@ fn fault_of(alloc: Global, der: &[u8]) -> Option<CommandFault> {
     read_private_key(alloc, Form::Der, SetName::MlDsa44, der).err()
 }
 
-/// A seed beside an expanded key that is not its own, and an expanded key that is not consistent.
+/// A seed beside an expanded key that is not its own, and an expanded key that is not whole.
 #[test]
 #[tactic(auto, unfolding(fips204_base::specs::Packing::bit_length))]
 fn inconsistent_keys(rt: HostRuntime) -> Result<(), Fail> {

@@ -1,4 +1,4 @@
-//! Key pairs and signatures over the counter XOFs, at each set, with plain and with prepared keys; and how a message
+//! Key pairs and signatures over the counter streams, at each set, with plain and with prepared keys; and how a message
 //! and a digest are framed.
 #![tactic(auto)]
 
@@ -92,7 +92,7 @@ impl Suite for Bytes {
     }
 }
 
-/// Key pairs and signatures of a message and a digest over both kinds of counter XOFs, byte for byte or by SHA-256,
+/// Key pairs and signatures of a message and a digest over both kinds of counter streams, byte for byte or by SHA-256,
 /// with seeds of 32 bytes 00 given or drawn, by plain and prepared keys; another message, context or bit is rejected.
 #[test]
 fn bytes_of_each_set(rt: HostRuntime) -> Result<(), Fail> {
@@ -104,7 +104,7 @@ fn bytes_of_each_set(rt: HostRuntime) -> Result<(), Fail> {
 }
 
 /// Whether the message `00` is signed with the generator's next answer as this text says, by SHA-256; or, without a text,
-/// whether the generator's error is the answer.
+/// whether the generator's refusal is the answer.
 fn signs_next<S: TestSet, K: Keys<S::Signature>>(
     alloc: Global,
     keys: &K,
@@ -121,7 +121,7 @@ fn signs_next<S: TestSet, K: Keys<S::Signature>>(
     }
 }
 
-/// Whether three calls sign in turn with the answers of a list that has an error at this place, and the list is then
+/// Whether three calls sign in turn with the answers of a list that has a refusal at this place, and the list is then
 /// used up.
 fn signs_in_turn<S: TestSet, K: Keys<S::Signature>>(
     alloc: Global,
@@ -157,7 +157,7 @@ fn signs_in_turn<S: TestSet, K: Keys<S::Signature>>(
     Ok(found)
 }
 
-/// What `signs_in_turn` finds with an error at this place, with plain and with prepared keys.
+/// What `signs_in_turn` finds with a refusal at this place, with plain and with prepared keys.
 #[derive(Drop)]
 struct InTurn(Global, usize);
 
@@ -305,7 +305,7 @@ impl Suite for Framed {
     }
 }
 
-/// The framed message `00 02 61 62 63`, and the 47 bytes of a framed digest, by the hooks over the counter XOFs, with
+/// The framed message `00 02 61 62 63`, and the 47 bytes of a framed digest, by the hooks over the counter streams, with
 /// plain and prepared keys.
 #[test]
 fn hooks_take_framed_messages(rt: HostRuntime) -> Result<(), Fail> {

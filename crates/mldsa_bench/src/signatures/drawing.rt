@@ -56,7 +56,7 @@ impl CryptoRngCore for RefusesAt {
     }
 }
 
-/// A generator that answers from a list, one entry a call: 32 bytes, or an error. It refuses every call that asks for
+/// A generator that answers from a list, one entry a call: 32 bytes, or a refusal. It refuses every call that asks for
 /// another number of bytes, and every call after the list. It counts the calls that the list answers.
 #[derive(Drop)]
 pub struct Listed<'a> {
@@ -88,7 +88,7 @@ impl CryptoRngCore for Listed<'_> {
     }
 }
 
-/// What is signed with drawn bytes, and the error that stands for the generator's.
+/// What is signed with drawn bytes, and the refusal that stands for the generator's.
 static DRAWN: [(Input, Fault); 6] = [
     (Input::Message(b"abc", &[]), Fault::SignRng),
     (Input::Message(b"abc", &[1; 255]), Fault::SignRng),
@@ -152,7 +152,7 @@ impl Suite for RefusesAt {
 }
 
 /// At each set every drawing call, plain and prepared, with a generator that fails at its first, second or third of four
-/// calls: that call's error; the others sign as over constant XOFs. It is asked four times, with zeros to fill.
+/// calls: that call's error; the others sign as over constant streams. It is asked four times, with zeros to fill.
 #[test]
 fn refusing_generators(rt: HostRuntime) -> Result<(), Fail> {
     for call in 0..3u8 {

@@ -24,7 +24,7 @@ fn signs(file: &[u8], signature: &[u8; SIG_LEN]) -> Result<bool, LoadFault> {
     Ok(signed(&key) == Ok(*signature))
 }
 
-/// What loading returns of a file, of it without its first byte, with a coefficient out of range, then with another
+/// What loading answers of a file, of it without its first byte, with a coefficient out of range, then with another
 /// set, then with another version.
 fn loads(file: &[u8; FILE_LEN], signature: &[u8; SIG_LEN]) -> [Result<bool, LoadFault>; 5] {
     let mut range = *file;
@@ -67,7 +67,7 @@ fn check<G: Xof>(owner: &PrivateKey<Sha256Ctr, G>, file: &[u8]) -> Option<LoadFa
     checked_public(owner, file).err()
 }
 
-/// What the check returns of the file of a private key's public key, of another key's, and of its own with another
+/// What the check answers of the file of a private key's public key, of another key's, and of its own with another
 /// last bit.
 fn checks_of_files() -> Result<[Option<LoadFault>; 3], Fault> {
     let (other, _) = pair(8)?;
@@ -83,7 +83,7 @@ fn checks_of_files() -> Result<[Option<LoadFault>; 3], Fault> {
     ])
 }
 
-/// What the check returns beside a key with no matrix, of a changed file, one of another set, and then of another
+/// What the check answers beside a key with no matrix, of a changed file, one of another set, and then of another
 /// version.
 fn checks_without_a_matrix(
     owner: [u8; FILE_LEN - 2],
@@ -103,7 +103,7 @@ fn checks_without_a_matrix(
     ])
 }
 
-/// What the check returns beside a key of another `tr`, of the file and of it without its first byte.
+/// What the check answers beside a key of another `tr`, of the file and of it without its first byte.
 fn checks_of_another_hash(
     mut owner: [u8; FILE_LEN - 2],
     file: &[u8; PUBLIC_FILE_LEN],
@@ -113,7 +113,7 @@ fn checks_of_another_hash(
     Ok([check(&owner, file), check(&owner, &file[1..])])
 }
 
-/// What the check returns beside a key with no matrix, and beside a key of another `tr`.
+/// What the check answers beside a key with no matrix, and beside a key of another `tr`.
 fn checks_of_owners() -> Result<([Option<LoadFault>; 3], [Option<LoadFault>; 2]), Fault> {
     let (key, owner) = pair(7)?;
     let file = stored_public(key);

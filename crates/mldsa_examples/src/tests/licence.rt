@@ -37,7 +37,7 @@ fn answers(key: &Key, token: &Token, signature: &[u8; SIG_LEN]) -> [bool; 9] {
     ]
 }
 
-/// The results about a token that is signed under a context.
+/// The answers about a token that is signed under a context.
 fn signed_under(context: &[u8]) -> Result<[bool; 9], Fault> {
     let token = Token {
         product: 17,
