@@ -25,7 +25,7 @@ COUNTS = {
 }
 PUBLISHED = ("public_key_sha256", "private_key_sha256", "signature_sha256", "accepted")
 # Of the cases with a key in a file: how many there are, in how many files, and how many files are refused.
-IN_FILES = {"public": (239, 41, 6), "private": (176, 25, 0)}
+IN_FILES = {"public keys": (239, 41, 6), "seeds": (176, 25, 0), "expanded keys": (190, 39, 12)}
 # Bytes of a public key (FIPS 204, Table 2).
 PUBLIC_KEY_LENGTHS = {"44": 1312, "65": 1952, "87": 2592}
 
@@ -92,24 +92,29 @@ def cases(*forms):
 
 
 def keys_in_files(chosen, form):
-    """The cases with a key in DER, in a file of a form: the key is read, used, and written again as it was. A file is
-    refused where its public key has another length than the set's."""
-    found, files = [], {"public": [], "private": []}
+    """Wycheproof's cases with a key in a file of a form, which is read, used, and written again as it was: the public
+    keys and seeds that it has in DER, and its expanded keys, which are put into DER here. A file is refused where its
+    public key has another length than the set's, or where nothing but its expanded key can be why none signs."""
+    found, files = [], {kind: [] for kind in IN_FILES}
     for case in chosen:
-        given = dict(case.given)
-        if "public_key_der" in given:
-            kind, key, name, file = "public", given.pop("public_key"), "public_key", given.pop("public_key_der")
-        elif "private_key_pkcs8" in given:
-            kind, key, name, file = "private", given.pop("seed"), "seed", given.pop("private_key_pkcs8")
+        g, label = case.given, "PRIVATE KEY"
+        if "public_key_der" in g:
+            kind, part, file, label = "public keys", "public_key", g["public_key_der"], "PUBLIC KEY"
+            is_key = len(g[part]) == PUBLIC_KEY_LENGTHS[case.set]
+        elif "private_key_pkcs8" in g:
+            kind, part, file, is_key = "seeds", "seed", g["private_key_pkcs8"], True
+        elif case.of == "Wycheproof sign":
+            kind, part, file = "expanded keys", "private_key", keyfiles.private_der(case.set, g["private_key"])
+            is_key = not case.is_refusal or len(g["context"]) > 255
         else:
             continue
         if form == "PEM":
-            file = keyfiles.pem(f"{kind.upper()} KEY", file)
-        is_key = kind == "private" or len(key) == PUBLIC_KEY_LENGTHS[case.set]
-        sums = {f"{name}_sha256": sha256(key) if is_key else None, "file_sha256": sha256(file) if is_key else None}
+            file = keyfiles.pem(label, file)
+        sums = {f"{part}_sha256": sha256(g[part]) if is_key else None, "file_sha256": sha256(file) if is_key else None}
         files[kind].append((file, is_key))
-        found.append(Case(f"{kind} keys in {form}", case.place, case.set, form.lower(), {**given, "file": file},
-                          {**case.published, **sums}))
+        given = {name: g[name] for name in ("message", "context", "random", "signature") if name in g}
+        found.append(Case(f"{kind} in {form}", case.place, case.set, f"{part}_in_{form.lower()}",
+                          {**given, "file": file}, {**case.published, **sums}))
     counts = {kind: (len(it), len({*it}), sum(not is_key for _, is_key in {*it})) for kind, it in files.items()}
     if counts != IN_FILES:
         raise ValueError(f"there are {counts} keys in files, not {IN_FILES}")
@@ -125,18 +130,16 @@ def sum_of(answer):
     return None if isinstance(answer, Refused) else sha256(answer[0])
 
 
-def calls_of_file(form, g):
-    """What `calls` does for a case whose key is in a file of a form."""
-    of_key = "public_key" if "signature" in g else "seed"
-    key = yield f"{of_key}_from_{form}", g["file"]
-    file = key if isinstance(key, Refused) else (yield f"{of_key}_to_{form}", *key)
-    found = {f"{of_key}_sha256": sum_of(key), "file_sha256": sum_of(file)}
-    if of_key == "seed":
+def calls_of_file(part, form, g):
+    """What `calls` does for a case with this part of a key in a file of a form."""
+    key = yield f"{part}_from_{form}", g["file"]
+    file = key if isinstance(key, Refused) else (yield f"{part}_to_{form}", *key)
+    found = {f"{part}_sha256": sum_of(key), "file_sha256": sum_of(file)}
+    if part == "seed":
         key = yield f"private_key_from_{form}", g["file"]
-        used = key if isinstance(key, Refused) else (yield "sign", *key, g["message"], g["context"], g["random"])
-        return {**found, "signature_sha256": sum_of(used)}
-    used = key if isinstance(key, Refused) else (yield "verify", *key, g["message"], g["context"], g["signature"])
-    return {**found, "accepted": used is True}
+    call, more = ("verify", g["signature"]) if part == "public_key" else ("sign", g["random"])
+    used = key if isinstance(key, Refused) else (yield call, *key, g["message"], g["context"], more)
+    return {**found, **({"accepted": used is True} if call == "verify" else {"signature_sha256": sum_of(used)})}
 
 
 def calls(case):
@@ -144,7 +147,8 @@ def calls(case):
     of bytes, a truth value, or `Refused`), and returns what came out of all, by the names of what was published."""
     g = case.given
     if "file" in g:
-        return (yield from calls_of_file(case.do, g))
+        part, form = case.do.split("_in_")
+        return (yield from calls_of_file(part, form, g))
     if case.do == "verify":
         return {"accepted": (yield "verify", g["public_key"], g["message"], g["context"], g["signature"]) is True}
     if case.do == "verify_internal":

@@ -113,7 +113,7 @@ class Published(unittest.TestCase):
             outcomes = (published.outcomes(it, Asked()) for it in (chosen, other))
             fine = published.judged("Python", chosen, next(outcomes), other, next(outcomes))
         self.assertTrue(fine, said.getvalue())
-        self.assertEqual(len(chosen), 1205 + 2 * 415)
+        self.assertEqual(len(chosen), 1205 + 2 * 605)
 
     def test_accumulated(self):
         seeds = hashlib.shake_128(b"").digest(3200)
