@@ -273,11 +273,12 @@ def with_a_bit_changed(chosen):
 
 def counted(chosen):
     """How many cases of each kind there are, as a text."""
-    said = []
-    for of in dict.fromkeys(case.of for case in chosen):
-        files = [case.given.get("file") for case in chosen if case.of == of]
-        said.append(f"{of} {len(files)}" + (f" of {len({*files})} files" if all(files) else ""))
-    return ", ".join(said)
+    kinds = {}
+    for case in chosen:
+        of = f"keys in {case.of.split()[-1]}" if "file" in case.given else case.of
+        kinds.setdefault(of, []).append(case.given.get("file"))
+    return ", ".join(f"{of} {len(files)}" + (f" of {len({*files})} files" if all(files) else "")
+                     for of, files in kinds.items())
 
 
 def judged(name, chosen, found, other, of_other, each=False):
