@@ -28,13 +28,18 @@ def der_of(text):
     return base64.b64decode(b"".join(text.split(b"\n")[1:-2]))
 
 
-def private_text(number, expanded, seed=None):
-    """The text of a private key of a set: of the expanded key alone, or of both (RFC 9881, section 6)."""
+def private_der(number, expanded, seed=None):
+    """The DER of a private key of a set: of the expanded key alone, or of both (RFC 9881, section 6)."""
     algorithm = element(SEQUENCE, element(IDENTIFIER, bytes([96, 134, 72, 1, 101, 3, 4, 3, LAST_ARC[number]])))
     choice = element(OCTETS, expanded)
     if seed is not None:
         choice = element(SEQUENCE, element(OCTETS, seed) + choice)
-    return pem("PRIVATE KEY", element(SEQUENCE, element(INTEGER, b"\0") + algorithm + element(OCTETS, choice)))
+    return element(SEQUENCE, element(INTEGER, b"\0") + algorithm + element(OCTETS, choice))
+
+
+def private_text(number, expanded, seed=None):
+    """The text of that."""
+    return pem("PRIVATE KEY", private_der(number, expanded, seed))
 
 
 def fingerprint(public):

@@ -8,9 +8,8 @@ import tempfile
 import unittest
 from typing import Any
 
-from shared import LENGTHS, MLSIGN, NUMBERS, PRIVATE, PUBLIC, SEED, of_openssl
+from shared import MLSIGN, NUMBERS, PRIVATE, PUBLIC, SEED, of_openssl
 
-import published
 from mldsa import KeyFileError, load_der_private_key, load_der_public_key, load_pem_private_key, load_pem_public_key
 
 KEYS = {number: PRIVATE[number].from_seed_bytes(SEED) for number in NUMBERS}
@@ -93,30 +92,6 @@ class Written(unittest.TestCase):
             self.assertEqual(load_pem_private_key(private).private_bytes_raw(), SEED)
             self.assertEqual(load_pem_public_key(public), key.public_key())
             load_pem_public_key(public).verify(signature, b"message", b"context")
-
-    def test_wycheproof(self):
-        """The keys in DER of the published vectors: each that has its length is read, and written again the same."""
-        public = {(case.set, case.given["public_key_der"], case.given["public_key"])
-                  for case in published.cases() if "public_key_der" in case.given}
-        private = {(case.set, case.given["private_key_pkcs8"], case.given["seed"])
-                   for case in published.cases() if "private_key_pkcs8" in case.given}
-        self.assertTrue(len(public) > 3 and len(private) > 3, (len(public), len(private)))
-        for number, der, key in public:
-            if len(key) != LENGTHS[int(number)][0]:
-                with self.assertRaises(KeyFileError):
-                    load_der_public_key(der)
-                continue
-            read = load_der_public_key(der)
-            self.assertEqual([read.public_bytes_raw(), read.to_der()], [key, der])
-            self.assertIs(type(read), PUBLIC[int(number)])
-        for number, der, seed in private:
-            if len(seed) != len(SEED):
-                with self.assertRaises(KeyFileError):
-                    load_der_private_key(der)
-                continue
-            read_private = load_der_private_key(der)
-            self.assertEqual([read_private.private_bytes_raw(), read_private.to_der()], [seed, der])
-            self.assertIs(type(read_private), PRIVATE[int(number)])
 
     def test_each_form(self):
         for number, key in KEYS.items():
