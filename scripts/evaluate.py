@@ -13,46 +13,15 @@ import re
 from specs import files
 
 TOKEN = re.compile(r'\s*(?:("[^"]*")|(0x[0-9A-Fa-f]+|\d+)|([^\W\d][\w\']*)|(\.(?=\w)|[+\-*≤<]ℤ|\+\+|&&|\|\||\S))')
-LEVELS = [
-    ("→",),
-    ("↔",),
-    ("⊎",),
-    ("×",),
-    ("≡", "≢"),
-    ("||",),
-    ("&&",),
-    ("<", "≤", "<ℤ", "≤ℤ"),
-    ("∷", "++"),
-    ("+", "-", "+ℤ", "-ℤ", "⊕"),
-]
+LEVELS = [("→",), ("↔",), ("⊎",), ("×",), ("≡", "≢"), ("||",), ("&&",), ("<", "≤", "<ℤ", "≤ℤ"), ("∷", "++"),
+          ("+", "-", "+ℤ", "-ℤ", "⊕")]
 LEVELS += [("*", "/", "%", "*ℤ"), ("^",)]
 RIGHT = {"∷", "++", "^", "&&", "||", "→", "⊎", "×"}
-OPERATOR = {
-    "→": "(not {} or {})",
-    "↔": "({} == {})",
-    "⊎": "({} or {})",
-    "×": "({} and {})",
-    "≢": "(not same({}, {}))",
-    "≡": "same({}, {})",
-    "||": "({} or {})",
-    "&&": "({} and {})",
-    "<": "({} < {})",
-    "≤": "({} <= {})",
-    "<ℤ": "({} < {})",
-    "≤ℤ": "({} <= {})",
-    "∷": "(({},) + listed({}))",
-    "++": "(listed({}) + listed({}))",
-    "+": "({} + {})",
-    "-": "less({}, {})",
-    "+ℤ": "({} + {})",
-    "-ℤ": "({} - {})",
-    "*": "({} * {})",
-    "*ℤ": "({} * {})",
-    "/": "over({}, {})",
-    "%": "modulo({}, {})",
-    "^": "({} ** {})",
-    "⊕": "({} ^ {})",
-}
+OPERATOR = {"→": "(not {} or {})", "↔": "({} == {})", "⊎": "({} or {})", "×": "({} and {})", "≢": "(not same({}, {}))",
+            "≡": "same({}, {})", "||": "({} or {})", "&&": "({} and {})", "<": "({} < {})", "≤": "({} <= {})",
+            "<ℤ": "({} < {})", "≤ℤ": "({} <= {})", "∷": "(({},) + listed({}))", "++": "(listed({}) + listed({}))",
+            "+": "({} + {})", "-": "less({}, {})", "+ℤ": "({} + {})", "-ℤ": "({} - {})", "*": "({} * {})",
+            "*ℤ": "({} * {})", "/": "over({}, {})", "%": "modulo({}, {})", "^": "({} ** {})", "⊕": "({} ^ {})"}
 
 
 class Unparsed(Exception):
@@ -130,11 +99,8 @@ class Parser:
     def quantified(self):
         """Whether names with their type stand here, as `(i j : ℕ)`."""
         ahead = 1
-        while (
-            self.peek() == "("
-            and self.place + ahead < len(self.tokens)
-            and self.tokens[self.place + ahead][0] == "name"
-        ):
+        while (self.peek() == "(" and self.place + ahead < len(self.tokens)
+               and self.tokens[self.place + ahead][0] == "name"):
             ahead += 1
         return ahead > 1 and self.peek(ahead) == ":"
 
@@ -173,11 +139,8 @@ class Parser:
         while True:
             if self.peek() == "{":
                 self.skipped()
-            elif (
-                self.kind() in ("number", "text")
-                or self.peek() in ("(", "[")
-                or (self.kind() == "name" and self.peek() not in ("in", "then", "else"))
-            ):
+            elif (self.kind() in ("number", "text") or self.peek() in ("(", "[")
+                  or (self.kind() == "name" and self.peek() not in ("in", "then", "else"))):
                 arguments.append(self.atom())
             elif self.peek() == "λ":
                 arguments.append(self.function())
@@ -220,13 +183,9 @@ class Parser:
             tree = parts[0] if len(parts) == 1 else ("pair", parts)
         else:
             raise Unparsed(word)
-        while (
-            self.peek() == "."
-            and self.tokens[self.place][0] == "sign"
-            and self.place + 1 < len(self.tokens)
-            and self.tokens[self.place + 1][2] == self.tokens[self.place][2] + 1
-            and self.tokens[self.place][2] == self.end(self.place - 1)
-        ):
+        while (self.peek() == "." and self.tokens[self.place][0] == "sign" and self.place + 1 < len(self.tokens)
+               and self.tokens[self.place + 1][2] == self.tokens[self.place][2] + 1
+               and self.tokens[self.place][2] == self.end(self.place - 1)):
             self.take()
             tree = ("field", tree, self.take())
         return tree
@@ -482,21 +441,8 @@ CONSTRUCTORS = {"Some": 1, "Ok": 1, "Err": 1, "None": 0}
 # Arguments of definitions that are computed when they are asked for, since where they are not, they need not have a
 # value that computes.
 LATER = {"refused_or": {1}}
-FAULTS = (
-    "KeyGenRng",
-    "SignCtx",
-    "SignRng",
-    "HashCtx",
-    "OidEmpty",
-    "OidNotDer",
-    "DigestTooLong",
-    "DigestLength",
-    "HashRng",
-    "InternalRng",
-    "TooManyAttempts",
-    "KeyRange",
-    "SamplingLimit",
-)
+FAULTS = ("KeyGenRng", "SignCtx", "SignRng", "HashCtx", "OidEmpty", "OidNotDer", "DigestTooLong", "DigestLength",
+          "HashRng", "InternalRng", "TooManyAttempts", "KeyRange", "SamplingLimit")
 CONSTRUCTORS.update({name: 0 for name in FAULTS})
 
 
@@ -540,11 +486,9 @@ class Existence:
 
     def __init__(self, program, name, parameters, found, values=()):
         self.program, self.name, self.parameters, self.found, self.code = program, name, parameters, found, {}
-        self.values = values or [
-            name
-            for place, (name, _) in enumerate(found)
-            if any(name in names_in(tree) for _, tree in found[place + 1 :])
-        ]
+        self.values = values or [name
+                                 for place, (name, _) in enumerate(found)
+                                 if any(name in names_in(tree) for _, tree in found[place + 1 :])]
         self.facts = [tree for name, tree in found if name not in self.values]
         self.uses = [names_in(tree) for tree in self.facts]
 
@@ -579,13 +523,8 @@ class Existence:
             left = []
             for place in waiting:
                 open_names = self.uses[place] & unknown
-                bound = (
-                    self.bound(self.facts[place], known, open_names)
-                    if open_names
-                    else {}
-                    if self.truth(self.facts[place], known)
-                    else None
-                )
+                bound = (self.bound(self.facts[place], known, open_names) if open_names else {}
+                         if self.truth(self.facts[place], known) else None)
                 if bound is None:
                     return None
                 if open_names and not bound:
@@ -636,11 +575,8 @@ def clauses(definition):
         return []
     found, here = [], None
     for line in definition.lines[0:]:
-        if (
-            line.startswith(definition.name + " ")
-            and " = " in line + " "
-            and not line.startswith(definition.name + " :")
-        ):
+        if (line.startswith(definition.name + " ") and " = " in line + " "
+            and not line.startswith(definition.name + " :")):
             here = [line]
             found.append(here)
         elif here is not None:
@@ -670,12 +606,8 @@ class Program:
         self.space = dict(globals())
         self.arity, self.trees, self.made = {}, {}, dict(CONSTRUCTORS)
         # functions from numbers to numbers, whose values are kept
-        self.numeric = {
-            definition.name
-            for file in all_files
-            for definition in file.definitions
-            if definition.lines[0].endswith(f"{definition.name} : ℕ → ℕ")
-        }
+        self.numeric = {definition.name for file in all_files for definition in file.definitions
+                        if definition.lines[0].endswith(f"{definition.name} : ℕ → ℕ")}
         for name, (arity, code) in LIBRARY.items():
             self.arity[name] = arity
             self.space[mangled(name)] = code
@@ -684,9 +616,8 @@ class Program:
                 if definition.kind == "data":
                     for line in definition.lines[1:]:
                         names, _, kind = line.partition(" : ")
-                        arrows = sum(
-                            len(part.split(" :")[0].split()) for part in re.findall(r"\(([^()]*:[^()]*)\)", kind)
-                        ) or kind.count("→")
+                        arrows = sum(len(part.split(" :")[0].split())
+                                     for part in re.findall(r"\(([^()]*:[^()]*)\)", kind)) or kind.count("→")
                         self.made[names.strip()] = arrows
         for file in all_files:
             for definition in file.definitions:
@@ -719,9 +650,8 @@ class Program:
     def record(self, record):
         """Makes the proposition anew that values exist of which the facts of this record hold."""
         self.exist[record.name] = record
-        self.space[mangled(record.name)] = (
-            lambda *given: record.solved(dict(zip(record.parameters, given))) is not None
-        )
+        self.space[mangled(record.name)] = (lambda *given: record.solved(dict(zip(record.parameters,
+                                                                                  given))) is not None)
 
     def define(self, name, trees):
         """Makes the function of a name anew from these equations."""
@@ -808,9 +738,8 @@ class Program:
             return f"(lambda v_{clean(tree[1])}: {inside})({self.later(tree[2], scope)})"
         if kind == "lambda":
             inside = {**scope, **{name: False for name in tree[1]}}
-            names = ", ".join(
-                f"v_{clean(name)}" if name != "_" else f"unused{place}" for place, name in enumerate(tree[1])
-            )
+            names = ", ".join(f"v_{clean(name)}" if name != "_" else f"unused{place}"
+                              for place, name in enumerate(tree[1]))
             return f"Function(lambda {names}: {self.code(tree[2], inside)}, {len(tree[1])})"
         if kind == "all":
             return self.every(tree, scope)
@@ -827,10 +756,8 @@ class Program:
             return self.name(tree[1], scope)
         head, arguments = tree[1], tree[2]
         late = LATER.get(head[1], ()) if head[0] == "name" and head[1] not in scope else ()
-        given = [
-            self.later(argument, scope) if place in late else self.code(argument, scope)
-            for place, argument in enumerate(arguments)
-        ]
+        given = [self.later(argument, scope) if place in late else self.code(argument, scope)
+                 for place, argument in enumerate(arguments)]
         if head[0] == "name" and head[1] not in scope:
             word = head[1]
             if word in self.made and self.made[word] == len(given):
@@ -854,14 +781,9 @@ class Program:
                 premises.append(tree[2])
             tree = tree[3]
         for name, kind in kinds.items():
-            bound = next(
-                (
-                    premise
-                    for premise in premises
-                    if premise[0] == "binary" and premise[1] in ("<", "≤") and premise[2] == ("name", name)
-                ),
-                None,
-            )
+            bound = next((premise for premise in premises
+                          if premise[0] == "binary" and premise[1] in ("<", "≤") and premise[2] == ("name", name)),
+                         None)
             if kind == "ℕ" and bound:
                 premises.remove(bound)
                 loops += (
@@ -883,19 +805,13 @@ class Program:
         if word in self.made:
             arity = self.made[word]
             names = ", ".join(f"x{place}" for place in range(arity))
-            return (
-                f"Function(lambda {names}: Made({word!r}, ({names},)), {arity}, (), {word!r})"
-                if arity
-                else f"Made({word!r}, ())"
-            )
+            return (f"Function(lambda {names}: Made({word!r}, ({names},)), {arity}, (), {word!r})" if arity
+                    else f"Made({word!r}, ())")
         if word in self.arity:
             arity = self.arity[word]
             names = ", ".join(f"x{place}" for place in range(arity))
-            return (
-                f"Function(lambda {names}: {mangled(word)}({names}), {arity}, (), {word!r})"
-                if arity
-                else f"{mangled(word)}()"
-            )
+            return (f"Function(lambda {names}: {mangled(word)}({names}), {arity}, (), {word!r})" if arity
+                    else f"{mangled(word)}()")
         raise Unparsed(word)
 
     def value(self, name, *arguments):

@@ -53,9 +53,8 @@ def tabulated(program):
             inverses[name] = [8347681 * sum(map(operator.mul, xs, row)) % Q for row in powers]
         return inverses[name][j]
 
-    program.space.update(
-        {evaluate.mangled("product"): product, evaluate.mangled("inverse_transform"): inverse_transform}
-    )
+    program.space.update({evaluate.mangled("product"): product,
+                          evaluate.mangled("inverse_transform"): inverse_transform})
 
     def clear():
         products.clear()
@@ -87,9 +86,8 @@ def scheme(program, name):
 def hashes(program, row):
     """The hashes of both keys and the signature of a row, and whether the signature is accepted and the rest holds."""
     name, seed, random, context, text = row[:5]
-    seed, random, context, text, oid = (
-        tuple(bytes.fromhex(part)) for part in (seed, random, context, text, "".join(row[8:]))
-    )
+    seed, random, context, text, oid = (tuple(bytes.fromhex(part))
+                                        for part in (seed, random, context, text, "".join(row[8:])))
     said = scheme(program, name)
     said("p", text=text, context=context, oid=oid, xi=seed, rnd=random)
     said("p", input=said("hashed text context oid" if oid else "plain text context"))
@@ -111,33 +109,20 @@ def answer(program, number, call, *arguments):
         pair = said("generated p H G xi", xi=given[0])
         if pair.name == "Err":
             return Refused(pair.parts[0].name)
-        return tuple(
-            bytes(listed(now(it)))
-            for it in (
-                said("public_key_bytes pk.rho pk.t1", pk=pair.parts[0].get("0")),
-                said("private_key_bytes p.eta sk", sk=pair.parts[0].get("1")),
-            )
-        )
+        return tuple(bytes(listed(now(it)))
+                     for it in (said("public_key_bytes pk.rho pk.t1", pk=pair.parts[0].get("0")),
+                                said("private_key_bytes p.eta sk", sk=pair.parts[0].get("1"))))
     key, *parts, last = given
-    form = {
-        "sign": "plain",
-        "verify": "plain",
-        "hash_sign": "hashed",
-        "hash_verify": "hashed",
-        "sign_internal": "framed",
-        "verify_internal": "framed",
-    }[call]
+    form = {"sign": "plain", "verify": "plain", "hash_sign": "hashed", "hash_verify": "hashed",
+            "sign_internal": "framed", "verify_internal": "framed"}[call]
     names = ("text", "context", "oid")[: len(parts)]
     said("p", **dict(zip(names, parts)))
     said("p", input=said(f"{form} {' '.join(names)}"))
     parameters = {name: said(f"p.{name}") for name in ("eta", "k", "l")}
     if "verify" in call:
         read = program.exist["IsPublicKeyOf"].read({"H": said("H"), "k": parameters["k"], "bytes": key})
-        return (
-            said("VerifiesInput p H G pk signature input", pk=read["pk"], signature=last)
-            if read
-            else Refused("no public key has these bytes")
-        )
+        return (said("VerifiesInput p H G pk signature input", pk=read["pk"], signature=last) if read
+                else Refused("no public key has these bytes"))
     read = program.exist["IsPrivateKeyOf"].read({**parameters, "bytes": key})
     if not read:
         return Refused("no private key has these bytes")
@@ -162,11 +147,9 @@ def private_parts(program, given):
     """The one candidate for the parts of a private key with these bytes."""
     data, eta, k, columns = given["bytes"], given["eta"], given["k"], given["l"]
     size = 32 * program.value("bit_length", 2 * eta)
-    vectors = {
-        "s1": polynomials(program, eta, eta, data[128:], columns),
-        "s2": polynomials(program, eta, eta, data[128 + size * columns :], k),
-        "t0": polynomials(program, 4095, 4096, data[128 + size * (k + columns) :], k),
-    }
+    vectors = {"s1": polynomials(program, eta, eta, data[128:], columns),
+               "s2": polynomials(program, eta, eta, data[128 + size * columns :], k),
+               "t0": polynomials(program, 4095, 4096, data[128 + size * (k + columns) :], k)}
     return {"sk": Record({"rho": data[:32], "key": data[32:64], "tr": data[64:128], **vectors})}
 
 
@@ -177,9 +160,8 @@ def signature_parts(program, given):
     size = 32 * program.value("bit_length", 2 * gamma1 - 1)
     hint = data[n + size * l :]
     ends = (0, *hint[omega : omega + k])
-    h = tuple(
-        Record({"0": tuple(int(place in hint[start:end]) for place in PLACES)}) for start, end in zip(ends, ends[1:])
-    )
+    h = tuple(Record({"0": tuple(int(place in hint[start:end]) for place in PLACES)})
+              for start, end in zip(ends, ends[1:]))
     return {"c_tilde": data[:n], "z": polynomials(program, gamma1 - 1, gamma1, data[n:], l), "h": h}
 
 
@@ -191,16 +173,9 @@ def others(said, pk, sk, signature):
     """Whether derived and prepared keys are right, and the set is that of its own numbers."""
     prepared, public = said("prepared_private p G sk", sk=sk).parts[0], said("prepared_public p G pk", pk=pk).parts[0]
     known = dict(pk=pk, sk=sk, prepared=prepared, public=public, signature=signature)
-    return all(
-        said(text, **known)
-        for text in (
-            "derived p G sk ≡ Ok pk",
-            "sign_prepared p H prepared rnd input ≡ Ok signature",
-            "IsWholePrepared p prepared",
-            "public_of_prepared p prepared ≡ public",
-            "set_of p ≡ p",
-        )
-    )
+    return all(said(text, **known)
+               for text in ("derived p G sk ≡ Ok pk", "sign_prepared p H prepared rnd input ≡ Ok signature",
+                            "IsWholePrepared p prepared", "public_of_prepared p prepared ≡ public", "set_of p ≡ p"))
 
 
 def sponge_stands():

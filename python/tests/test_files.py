@@ -55,12 +55,10 @@ def forms(number):
     yield "both", asymmetric(ARC[number], element(48, element(4, seed), element(4, expanded)))
 
 
-LOADS = {
-    (False, False): load_der_public_key,
-    (False, True): load_pem_public_key,
-    (True, False): load_der_private_key,
-    (True, True): load_pem_private_key,
-}
+LOADS = {(False, False): load_der_public_key,
+         (False, True): load_pem_public_key,
+         (True, False): load_der_private_key,
+         (True, True): load_pem_private_key}
 
 
 def changed(draw, file):
@@ -68,9 +66,8 @@ def changed(draw, file):
     given = bytearray(file)
     for _ in range(draw.randrange(3)):
         size, kind = len(given), draw.randrange(4)
-        place = draw.choice(
-            [draw.randrange(size), draw.randrange(min(60, size)), size - 1 - draw.randrange(min(40, size))]
-        )
+        place = draw.choice([draw.randrange(size), draw.randrange(min(60, size)),
+                             size - 1 - draw.randrange(min(40, size))])
         if kind == 0:
             given[place] = draw.choice([draw.randrange(256), 10, 13, 32, 45, 61, 65])
         elif kind == 1:
@@ -127,20 +124,16 @@ class Written(unittest.TestCase):
             self.assertIs(type(load_der_public_key(der)), PUBLIC[number])
             for parts, der in forms(number):
                 self.assertEqual([key.to_der(parts), key.to_pem(parts)], [der, pem(der, "PRIVATE KEY")])
-                for read in (
-                    load_der_private_key(der),
-                    load_pem_private_key(pem(der, "PRIVATE KEY")),
-                    load_pem_private_key(bytearray(key.to_pem(parts))),
-                ):
+                for read in (load_der_private_key(der), load_pem_private_key(pem(der, "PRIVATE KEY")),
+                             load_pem_private_key(bytearray(key.to_pem(parts)))):
                     self.assertIs(type(read), PRIVATE[number])
                     self.assertEqual(read.public_key(), public)
                     self.assertEqual(read.sign(b"m", deterministic=True), key.sign(b"m", deterministic=True))
                     if parts == "expanded":
                         self.assertEqual([read.to_der(), read.to_der("expanded")], [der, der])
                         for wanted in ("seed", "both"):
-                            with self.assertRaisesRegex(
-                                ValueError, "^it has no seed: its seed cannot be had of its expanded key$"
-                            ):
+                            with self.assertRaisesRegex(ValueError,
+                                                        "^it has no seed: its seed cannot be had of its expanded key$"):
                                 read.to_pem(wanted)
                     else:
                         self.assertEqual(read.private_bytes_raw(), SEED)
@@ -249,10 +242,8 @@ class Refused(unittest.TestCase):
 
     def test_each_cut(self):
         for number in NUMBERS:
-            for load, der in (
-                (load_der_public_key, KEYS[number].public_key().to_der()),
-                (load_der_private_key, KEYS[number].to_der("both")),
-            ):
+            for load, der in ((load_der_public_key, KEYS[number].public_key().to_der()),
+                              (load_der_private_key, KEYS[number].to_der("both"))):
                 for end in [*range(60), *range(60, len(der), 97), len(der) - 1]:
                     self.refuses(load, der[:end], "its DER is cut short")
         text = KEYS[44].to_pem()
@@ -282,29 +273,17 @@ class Lax(unittest.TestCase):
     """Text around a key, and white space within (RFC 7468, section 2 and figure 2)."""
 
     def test_what_counts_for_nothing(self):
-        for load, text, key in (
-            (load_pem_public_key, KEYS[65].public_key().to_pem(), lambda it: it.public_bytes_raw()),
-            (load_pem_private_key, KEYS[65].to_pem(), lambda it: it.private_bytes_raw()),
-        ):
+        for load, text, key in ((load_pem_public_key, KEYS[65].public_key().to_pem(), lambda it: it.public_bytes_raw()),
+                                (load_pem_private_key, KEYS[65].to_pem(), lambda it: it.private_bytes_raw())):
             wanted = key(load(text))
             first, *lines, last, _ = text.split(b"\n")
             symbols = b"".join(lines)
-            for lax in (
-                text[:-1],
-                text.replace(b"\n", b"\r\n"),
-                text.replace(b"\n", b"\r"),
-                b"\n\n" + text,
-                b"Subject: me\r\n" + text,
-                b"\xff\0" + text,
-                text + b"\0\xff more",
-                text + b"-----END",
-                b"-----BEGIN" + text,
-                b" \t" + text.replace(b"\n", b"\n \t"),
-                b"\n".join([first, symbols, last]),
-                first + symbols + last,
-                text.replace(b"=", b" = "),
-                first + b"\f \t\r\n" + b" ".join(symbols[it:it + 1] for it in range(len(symbols))) + b"\n" + last,
-            ):
+            for lax in (text[:-1], text.replace(b"\n", b"\r\n"), text.replace(b"\n", b"\r"), b"\n\n" + text,
+                        b"Subject: me\r\n" + text, b"\xff\0" + text, text + b"\0\xff more", text + b"-----END",
+                        b"-----BEGIN" + text, b" \t" + text.replace(b"\n", b"\n \t"),
+                        b"\n".join([first, symbols, last]), first + symbols + last, text.replace(b"=", b" = "),
+                        first + b"\f \t\r\n" + b" ".join(symbols[it:it + 1]
+                                                         for it in range(len(symbols))) + b"\n" + last):
                 self.assertEqual(key(load(lax)), wanted)
 
 
@@ -319,28 +298,23 @@ class BesideMlsign(unittest.TestCase):
             for number in NUMBERS:
                 (pathlib.Path(room) / "signature").write_bytes(KEYS[number].sign(b"message"))
                 (pathlib.Path(room) / "message").write_bytes(b"message")
-                for is_private, der in (
-                    (False, KEYS[number].public_key().to_der()),
-                    *((True, der) for _, der in forms(number)),
-                ):
+                for is_private, der in ((False, KEYS[number].public_key().to_der()),
+                                        *((True, der) for _, der in forms(number))):
                     for turn in range(60):
                         is_text = turn % 2 == 0
                         label = "PRIVATE KEY" if is_private else "PUBLIC KEY"
                         given = changed(draw, pem(der, label) if is_text else der)
                         seen.add(self.said(room, given, is_private, is_text))
-        self.assertTrue(
-            {"read", "it is cut short", "its text is damaged", "its DER is cut short", "its DER is damaged"} <= seen,
-            seen,
-        )
+        self.assertTrue({"read", "it is cut short", "its text is damaged", "its DER is cut short",
+                         "its DER is damaged"} <= seen, seen)
 
     def said(self, room, given, is_private, is_text):
         """What both say of a file: `read`, or the sentence."""
         (pathlib.Path(room) / "key").write_bytes(given)
         # Of a private key that others can read there is a note.
         (pathlib.Path(room) / "key").chmod(0o600)
-        words = (
-            ["public", "-k", "key", "-p", "-"] if is_private else ["verify", "-p", "key", "-s", "signature", "message"]
-        )
+        words = (["public", "-k", "key", "-p", "-"] if is_private
+                 else ["verify", "-p", "key", "-s", "signature", "message"])
         words += [] if is_text else ["--der"]
         done = subprocess.run([MLSIGN, *words], cwd=room, capture_output=True, check=False)
         load: Any = LOADS[is_private, is_text]

@@ -27,20 +27,8 @@ SIGNATURE = KEY.sign(b"message", b"context", deterministic=True)
 MU = KEY.hasher().mu()
 DIGEST = hashlib.sha256(b"message").digest()
 # The hash functions of FIPS 204, section 5.4, by their names in hashlib: the last bytes of their object identifiers.
-HASHES = {
-    "sha256": 1,
-    "sha384": 2,
-    "sha512": 3,
-    "sha224": 4,
-    "sha512_224": 5,
-    "sha512_256": 6,
-    "sha3_224": 7,
-    "sha3_256": 8,
-    "sha3_384": 9,
-    "sha3_512": 10,
-    "shake_128": 11,
-    "shake_256": 12,
-}
+HASHES = {"sha256": 1, "sha384": 2, "sha512": 3, "sha224": 4, "sha512_224": 5, "sha512_256": 6, "sha3_224": 7,
+          "sha3_256": 8, "sha3_384": 9, "sha3_512": 10, "shake_128": 11, "shake_256": 12}
 
 
 def digest_of(name, message=b"message"):
@@ -58,18 +46,15 @@ class Signatures(unittest.TestCase):
             key = PRIVATE[number].generate()
             public, other = key.public_key(), PRIVATE[number].generate().public_key()
             signature = key.sign(b"message", b"context")
-            self.assertEqual(
-                [len(public.public_bytes_raw()), len(key.expanded_bytes()), len(signature)], list(LENGTHS[number])
-            )
+            self.assertEqual([len(public.public_bytes_raw()), len(key.expanded_bytes()), len(signature)],
+                             list(LENGTHS[number]))
             self.assertIsNone(public.verify(signature, b"message", b"context"))
-            refused = [
-                (public, signature, b"massage", b"context"),
-                (public, signature, b"message", b"contest"),
-                (public, signature, b"message", None),
-                (public, signature[:-1] + bytes([signature[-1] ^ 1]), b"message", b"context"),
-                (other, signature, b"message", b"context"),
-                (public, bytes(len(signature)), b"message", b"context"),
-            ]
+            refused = [(public, signature, b"massage", b"context"),
+                       (public, signature, b"message", b"contest"),
+                       (public, signature, b"message", None),
+                       (public, signature[:-1] + bytes([signature[-1] ^ 1]), b"message", b"context"),
+                       (other, signature, b"message", b"context"),
+                       (public, bytes(len(signature)), b"message", b"context")]
             for judge, *given in refused:
                 for verifier in (judge, judge.prepare()):
                     with self.assertRaisesRegex(InvalidSignature, "^the signature is invalid$"):
@@ -78,9 +63,8 @@ class Signatures(unittest.TestCase):
     def test_of_another_set(self):
         for number in NUMBERS:
             for wrong in (LENGTHS[number][2] - 1, LENGTHS[number][2] + 1, 0):
-                with self.assertRaisesRegex(
-                    InvalidSignature, f"^the signature has {wrong} bytes, and not {LENGTHS[number][2]}$"
-                ):
+                with self.assertRaisesRegex(InvalidSignature,
+                                            f"^the signature has {wrong} bytes, and not {LENGTHS[number][2]}$"):
                     KEYS[number].public_key().verify(bytes(wrong), b"message")
 
     def test_random_bytes_are_drawn(self):
@@ -100,18 +84,11 @@ class Signatures(unittest.TestCase):
         self.assertEqual(KEY.sign(b"m", deterministic=True), KEY.sign(b"m", b"", deterministic=True))
         longest = bytes(255)
         PUB.verify(KEY.sign(b"m", longest), b"m", longest)
-        calls = [
-            lambda it: KEY.sign(b"m", it),
-            lambda it: PUB.verify(SIGNATURE, b"m", it),
-            lambda it: KEY.sign_digest(DIGEST, "sha256", it),
-            lambda it: PUB.verify_digest(SIGNATURE, DIGEST, "sha256", it),
-            KEY.hasher,
-            PUB.hasher,
-            lambda it: KEY.sign_file(io.BytesIO(), it),
-            lambda it: PUB.verify_file(SIGNATURE, io.BytesIO(), it),
-            lambda it: KEY.prepare().sign(b"m", it),
-            lambda it: PUB.prepare().verify(SIGNATURE, b"m", it),
-        ]
+        calls = [lambda it: KEY.sign(b"m", it), lambda it: PUB.verify(SIGNATURE, b"m", it),
+                 lambda it: KEY.sign_digest(DIGEST, "sha256", it),
+                 lambda it: PUB.verify_digest(SIGNATURE, DIGEST, "sha256", it), KEY.hasher, PUB.hasher,
+                 lambda it: KEY.sign_file(io.BytesIO(), it), lambda it: PUB.verify_file(SIGNATURE, io.BytesIO(), it),
+                 lambda it: KEY.prepare().sign(b"m", it), lambda it: PUB.prepare().verify(SIGNATURE, b"m", it)]
         for call in calls:
             with self.assertRaisesRegex(ValueError, "^the context has 256 bytes, and may have 255 at most$"):
                 call(bytes(256))
@@ -121,20 +98,14 @@ class Signatures(unittest.TestCase):
     def test_prepared(self):
         for number, key in KEYS.items():
             prepared, public = key.prepare(), key.public_key().prepare()
-            for one, two in (
-                (key.sign(b"m", b"c", deterministic=True), prepared.sign(b"m", b"c", deterministic=True)),
-                (key.sign_mu(MU, deterministic=True), prepared.sign_mu(MU, deterministic=True)),
-                (
-                    key.sign_digest(DIGEST, "sha256", deterministic=True),
-                    prepared.sign_digest(DIGEST, "sha256", deterministic=True),
-                ),
-                (
-                    key.sign_file(io.BytesIO(b"m"), deterministic=True),
-                    prepared.sign_file(io.BytesIO(b"m"), deterministic=True),
-                ),
-                (key.hasher(b"c").mu(), prepared.hasher(b"c").mu()),
-                (key.hasher(b"c").mu(), public.hasher(b"c").mu()),
-            ):
+            for one, two in ((key.sign(b"m", b"c", deterministic=True), prepared.sign(b"m", b"c", deterministic=True)),
+                             (key.sign_mu(MU, deterministic=True), prepared.sign_mu(MU, deterministic=True)),
+                             (key.sign_digest(DIGEST, "sha256", deterministic=True),
+                              prepared.sign_digest(DIGEST, "sha256", deterministic=True)),
+                             (key.sign_file(io.BytesIO(b"m"), deterministic=True),
+                              prepared.sign_file(io.BytesIO(b"m"), deterministic=True)),
+                             (key.hasher(b"c").mu(), prepared.hasher(b"c").mu()),
+                             (key.hasher(b"c").mu(), public.hasher(b"c").mu())):
                 self.assertEqual(one, two)
             public.verify(prepared.sign(b"m", b"c"), b"m", b"c")
             public.verify_mu(prepared.sign_mu(MU), MU)
@@ -148,11 +119,9 @@ class Signatures(unittest.TestCase):
 
     def test_answers_are_never_a_yes(self):
         """An answer that the library does not give is no acceptance and no signature."""
-        for status, text in (
-            (13, "ML-DSA.Sign: too many attempts"),
-            (15, "sampling limit reached"),
-            (2, "an array has the wrong length"),
-        ):
+        for status, text in ((13, "ML-DSA.Sign: too many attempts"),
+                             (15, "sampling limit reached"),
+                             (2, "an array has the wrong length")):
             with mock.patch.dict(KEY._set.calls, sign=lambda *_, status=status: status):
                 with self.assertRaisesRegex(SigningError, text):
                     KEY.sign(b"m")
@@ -174,19 +143,16 @@ class Digests(unittest.TestCase):
             formatted = b"\1" + bytes([7]) + b"context" + bytes([6, 9, 96, 134, 72, 1, 101, 3, 4, 2, last]) + digest
             mu = shake(shake(PUB.public_bytes_raw(), 64) + formatted, 64)
             self.assertEqual(KEY.sign_mu(mu, deterministic=True), signature)
-            for other, given, context in (
-                ("sha256", DIGEST, b"context"),
-                (name, digest_of(name, b"massage"), b"context"),
-                (name, digest, b""),
-            ):
+            for other, given, context in (("sha256", DIGEST, b"context"),
+                                          (name, digest_of(name, b"massage"), b"context"),
+                                          (name, digest, b"")):
                 if (other, given, context) != (name, digest, b"context"):
                     with self.assertRaises(InvalidSignature):
                         PUB.verify_digest(signature, given, other, context)
             with self.assertRaises(InvalidSignature):
                 PUB.verify(signature, b"message", b"context")
-            with self.assertRaisesRegex(
-                ValueError, f"^the digest of {name} has {len(digest) + 1} bytes, and not {len(digest)}$"
-            ):
+            with self.assertRaisesRegex(ValueError,
+                                        f"^the digest of {name} has {len(digest) + 1} bytes, and not {len(digest)}$"):
                 KEY.sign_digest(digest + b"x", name)
 
     def test_names(self):
@@ -205,16 +171,9 @@ class Arguments(unittest.TestCase):
         message, wide = b"message" * 8, array.array("Q", bytes(range(64)))
         mapped = mmap.mmap(-1, len(message))
         mapped.write(message)
-        kinds = [
-            message,
-            bytearray(message),
-            memoryview(message),
-            memoryview(b"x" + message)[1:],
-            mapped,
-            (ctypes.c_char * len(message)).from_buffer_copy(message),
-            type("Own", (bytes,), {})(message),
-            memoryview(message[::-1])[::-1],
-        ]
+        kinds = [message, bytearray(message), memoryview(message), memoryview(b"x" + message)[1:], mapped,
+                 (ctypes.c_char * len(message)).from_buffer_copy(message), type("Own", (bytes,), {})(message),
+                 memoryview(message[::-1])[::-1]]
         wanted = KEY.sign(message, message, deterministic=True)
         for kind in kinds:
             self.assertEqual(KEY.sign(kind, kind, deterministic=True), wanted)
@@ -229,33 +188,23 @@ class Arguments(unittest.TestCase):
     def test_types(self):
         calls = {
             "the message": [KEY.sign, lambda it: PUB.verify(SIGNATURE, it), KEY.prepare().sign],
-            "the signature": [
-                lambda it: PUB.verify(it, b""),
-                lambda it: PUB.verify_mu(it, MU),
-                lambda it: PUB.prepare().verify(it, b""),
-            ],
+            "the signature": [lambda it: PUB.verify(it, b""), lambda it: PUB.verify_mu(it, MU),
+                              lambda it: PUB.prepare().verify(it, b"")],
             "the seed": [PRIVATE[44].from_seed_bytes],
             "the private key": [PRIVATE[65].from_expanded_bytes],
             "the public key": [PUBLIC[87].from_public_bytes],
             "mu": [KEY.sign_mu, lambda it: PUB.verify_mu(SIGNATURE, it)],
-            "the digest of sha256": [
-                lambda it: KEY.sign_digest(it, "sha256"),
-                lambda it: PUB.verify_digest(SIGNATURE, it, "sha256"),
-            ],
+            "the digest of sha256": [lambda it: KEY.sign_digest(it, "sha256"),
+                                     lambda it: PUB.verify_digest(SIGNATURE, it, "sha256")],
             "the piece": [KEY.hasher().update],
-            "the file": [
-                mldsa.load_pem_private_key,
-                mldsa.load_pem_public_key,
-                mldsa.load_der_private_key,
-                mldsa.load_der_public_key,
-            ],
+            "the file": [mldsa.load_pem_private_key, mldsa.load_pem_public_key, mldsa.load_der_private_key,
+                         mldsa.load_der_public_key],
         }
         for what, those in calls.items():
             for call in those:
                 for given in ("text", 7, None, [1], object()):
-                    with self.assertRaisesRegex(
-                        TypeError, f"^{what} has to be bytes-like, and not {type(given).__name__}$"
-                    ):
+                    with self.assertRaisesRegex(TypeError,
+                                                f"^{what} has to be bytes-like, and not {type(given).__name__}$"):
                         call(given)
 
     def test_lengths(self):
@@ -266,11 +215,8 @@ class Arguments(unittest.TestCase):
                 ("the private key", PRIVATE[number].from_expanded_bytes, private),
                 ("the public key", PUBLIC[number].from_public_bytes, public),
                 ("mu", KEYS[number].sign_mu, 64),
-                (
-                    "mu",
-                    lambda it, number=number: KEYS[number].public_key().verify_mu(bytes(LENGTHS[number][2]), it),
-                    64,
-                ),
+                ("mu", lambda it, number=number: KEYS[number].public_key().verify_mu(bytes(LENGTHS[number][2]), it),
+                 64),
             ):
                 for wrong in (0, right - 1, right + 1):
                     with self.assertRaisesRegex(ValueError, f"^{what} has {wrong} bytes, and not {right}$"):
@@ -349,13 +295,8 @@ class Keys(unittest.TestCase):
         self.assertTrue(copy.copy(PUB) == copy.deepcopy(PUB) == PUB)
 
     def test_constructors(self):
-        for kind in (
-            *PRIVATE.values(),
-            *PUBLIC.values(),
-            mldsa.PreparedPrivateKey,
-            mldsa.PreparedPublicKey,
-            mldsa.MessageHasher,
-        ):
+        for kind in (*PRIVATE.values(), *PUBLIC.values(), mldsa.PreparedPrivateKey, mldsa.PreparedPublicKey,
+                     mldsa.MessageHasher):
             with self.assertRaisesRegex(TypeError, "is made by"):
                 kind()
         for number in NUMBERS:

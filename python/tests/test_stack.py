@@ -69,9 +69,8 @@ thread.join()
 def printed(code, *words, limit=None):
     """What a program prints; with a limit in KiB for the stack of its first thread."""
     front = ["sh", "-c", f'ulimit -s {limit}; exec "$@"', "sh"] if limit else []
-    done = subprocess.run(
-        [*front, *PYTHON, "-c", code, *map(str, words)], cwd="/", capture_output=True, text=True, check=False
-    )
+    done = subprocess.run([*front, *PYTHON, "-c", code, *map(str, words)], cwd="/", capture_output=True, text=True,
+                          check=False)
     return done.stdout.strip() or f"status {done.returncode}: {done.stderr}"
 
 
@@ -99,9 +98,8 @@ class Stacks(unittest.TestCase):
 
     def test_where_it_cannot_be_known(self):
         key = PRIVATE[44].from_seed_bytes(SEED)
-        with mock.patch.object(_stack, "left", return_value=0), mock.patch.object(
-            _stack, "on_own_thread", wraps=_stack.on_own_thread
-        ) as own:
+        with mock.patch.object(_stack, "left", return_value=0), mock.patch.object(_stack, "on_own_thread",
+                                                                                  wraps=_stack.on_own_thread) as own:
             signature = key.sign(b"m", deterministic=True)
             key.public_key().verify(signature, b"m")
             wanted = [_library.NUMBERS[f"MLDSA44_STACK_{call}"] for call in ("SIGN", "VERIFY")]
