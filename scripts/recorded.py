@@ -64,10 +64,6 @@ def tabulated(program):
     return clear
 
 
-def sha256(xs):
-    return hashlib.sha256(bytes(listed(xs))).hexdigest()
-
-
 def scheme(program, name):
     """What evaluates a text of definitions at a set over SHAKE, with values by their names; the names stay known."""
     shake256 = Function(lambda xs: tuple(hashlib.shake_256(bytes(listed(xs))).digest(4096)), 1, (), "H")
@@ -83,6 +79,12 @@ def scheme(program, name):
     return said
 
 
+def encoded(said, pk, sk):
+    """The bytes of a public and of a private key."""
+    both = said("public_key_bytes pk.rho pk.t1", pk=pk), said("private_key_bytes p.eta sk", sk=sk)
+    return tuple(bytes(listed(now(it))) for it in both)
+
+
 def hashes(program, row):
     """The hashes of both keys and the signature of a row, and whether the signature is accepted and the rest holds."""
     name, seed, random, context, text = row[:5]
@@ -93,13 +95,11 @@ def hashes(program, row):
     said("p", input=said("hashed text context oid" if oid else "plain text context"))
     pair = said("generated p H G xi").parts[0]
     pk, sk = pair.get("0"), pair.get("1")
-    public = said("public_key_bytes pk.rho pk.t1", pk=pk)
-    private = said("private_key_bytes p.eta sk", sk=sk)
+    both = encoded(said, pk, sk)
     signature = listed(now(said("sign_input p H G sk rnd input").parts[0]))
     accepted = said("VerifiesInput p H G pk signature input", signature=signature)
-    return [sha256(part) for part in (public, private, signature)], accepted and others(
-        said, pk, sk, signature
-    ) and fronts(said, text)
+    stands = accepted and others(said, pk, sk, signature) and fronts(said, text)
+    return [hashlib.sha256(part).hexdigest() for part in (*both, bytes(signature))], stands
 
 
 def answer(program, number, call, *arguments):
@@ -107,11 +107,8 @@ def answer(program, number, call, *arguments):
     said, given = scheme(program, number), [tuple(it) for it in arguments]
     if call == "keygen":
         pair = said("generated p H G xi", xi=given[0])
-        if pair.name == "Err":
-            return Refused(pair.parts[0].name)
-        return tuple(bytes(listed(now(it)))
-                     for it in (said("public_key_bytes pk.rho pk.t1", pk=pair.parts[0].get("0")),
-                                said("private_key_bytes p.eta sk", sk=pair.parts[0].get("1"))))
+        found = pair.parts[0]
+        return Refused(found.name) if pair.name == "Err" else encoded(said, found.get("0"), found.get("1"))
     key, *parts, last = given
     form = {"sign": "plain", "verify": "plain", "hash_sign": "hashed", "hash_verify": "hashed",
             "sign_internal": "framed", "verify_internal": "framed"}[call]
@@ -182,10 +179,9 @@ def sponge_stands():
     """Whether the definitions of `crates/shake` give the bytes of `hashlib`, for messages and outputs about the ends of
     blocks."""
     program = evaluate.program("shake")
-    cases = [(size, 40) for size in (0, 1, 7, 8, 34, 66)] + [
-        (size, 1) for size in (135, 136, 137, 167, 168, 169, 271, 272, 273, 336, 337)
-    ]
-    cases += [(34, size) for size in (0, 1, 135, 136, 137, 167, 168, 169, 272, 505)]
+    cases = [*((size, 40) for size in (0, 1, 7, 8, 34, 66)),
+             *((size, 1) for size in (135, 136, 137, 167, 168, 169, 271, 272, 273, 336, 337)),
+             *((34, size) for size in (0, 1, 135, 136, 137, 167, 168, 169, 272, 505))]
     for size, wanted in cases:
         message = bytes((73 * place + 5 * size) % 256 for place in range(size))
         for name, hash_ in (("shake128", hashlib.shake_128), ("shake256", hashlib.shake_256)):
@@ -203,9 +199,8 @@ def attempts_stand(program):
 
     def refuses(kept):
         seed = bytes(64) + kept.to_bytes(2, "little")
-        program.space.update(
-            v_sk=sk, v_H=Function(lambda xs: tuple(zero if bytes(listed(xs)) == seed else bytes(576)), 1, (), "H")
-        )
+        stream = Function(lambda xs: tuple(zero if bytes(listed(xs)) == seed else bytes(576)), 1, (), "H")
+        program.space.update(v_sk=sk, v_H=stream)
         text = "sign_with (record set_44 { tau = 0; k = 0; l = 1 }) H [] sk [] [] ≡ Err TooManyAttempts"
         return program.evaluated(Parser(text).term(), ("H", "sk"))
 
