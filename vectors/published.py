@@ -104,7 +104,7 @@ def keys_in_files(chosen, form):
         elif "private_key_pkcs8" in g:
             kind, part, file, is_key = "seeds", "seed", g["private_key_pkcs8"], True
         elif case.of == "Wycheproof sign":
-            kind, part, file = "expanded keys", "private_key", keyfiles.private_der(case.set, g["private_key"])
+            kind, part, file = "expanded keys", "private_key", keyfiles.key_der(case.set, g["private_key"])
             is_key = not case.is_refusal or len(g["context"]) > 255
         else:
             continue

@@ -88,13 +88,10 @@ class ParameterSet:
             NUMBERS[f"MLDSA{number}_{it}_LEN"]
             for it in ("PUBLIC_KEY", "PRIVATE_KEY", "SIGNATURE", "PREPARED_PUBLIC_KEY", "PREPARED_PRIVATE_KEY")
         )
-        self.public_key_der, self.private_key_der, self.both_der = (
-            NUMBERS[f"MLDSA{number}_{it}_DER_LEN"] for it in ("PUBLIC_KEY", "PRIVATE_KEY", "BOTH")
-        )
+        self.public_key_der, self.private_key_der, self.both_der = (NUMBERS[f"MLDSA{number}_{it}_DER_LEN"]
+                                                                    for it in ("PUBLIC_KEY", "PRIVATE_KEY", "BOTH"))
 
 
-SEED, RANDOM, MU, STATE, SEED_DER = (
-    NUMBERS[f"MLDSA_{it}_LEN"] for it in ("SEED", "RANDOM", "MU", "STATE", "SEED_DER")
-)
+SEED, RANDOM, MU, STATE, SEED_DER = (NUMBERS[f"MLDSA_{it}_LEN"] for it in ("SEED", "RANDOM", "MU", "STATE", "SEED_DER"))
 SETS = {number: ParameterSet(number) for number in (44, 65, 87)}
 mu_update, mu_finish = (Call(f"mldsa_mu_{it}", NUMBERS["MLDSA_STACK_MU"]) for it in ("update", "finish"))

@@ -54,13 +54,8 @@ class Package(unittest.TestCase):
         self.assertEqual(sorted(mldsa.__all__), mldsa.__all__)
         for name in mldsa.__all__:
             self.assertTrue(getattr(mldsa, name).__doc__, name)
-        for kind in (
-            *shared.PRIVATE.values(),
-            *shared.PUBLIC.values(),
-            mldsa.PreparedPrivateKey,
-            mldsa.PreparedPublicKey,
-            mldsa.MessageHasher,
-        ):
+        for kind in (*shared.PRIVATE.values(), *shared.PUBLIC.values(), mldsa.PreparedPrivateKey,
+                     mldsa.PreparedPublicKey, mldsa.MessageHasher):
             for name in dir(kind):
                 if not name.startswith("_"):
                     self.assertTrue(getattr(kind, name).__doc__, f"{kind.__name__}.{name}")

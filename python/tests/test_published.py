@@ -6,30 +6,19 @@ import re
 import sys
 import unittest
 
-from shared import PRIVATE, PUBLIC, random, sha256
+from shared import FUNCTIONS, PRIVATE, PUBLIC, random, sha256
 
 import common
 import mldsa
 import published
 from mldsa import InvalidSignature
 
-# How hashlib calls the hash functions with the object identifiers 2.16.840.1.101.3.4.2.1 to .12.
-FUNCTIONS = (
-    "sha256 sha384 sha512 sha224 sha512_224 sha512_256 sha3_224 sha3_256 sha3_384 sha3_512 shake_128 shake_256".split()
-)
 NAMES = {f"060960864801650304020{last:x}": name for last, name in enumerate(FUNCTIONS, 1)}
 # What a file has of a key: of which classes it is, and what makes a key of its bytes and gives them.
 PARTS = {
     "public_key": (PUBLIC, "from_public_bytes", "public_bytes_raw"),
     "private_key": (PRIVATE, "from_expanded_bytes", "expanded_bytes"),
     "seed": (PRIVATE, "from_seed_bytes", "private_bytes_raw"),
-}
-# What C2SP publishes (CCTV, "accumulated"): the SHAKE128 of 100 public keys and signatures of each set. The seeds are
-# the output of SHAKE128 for no message; each key signs the empty message, without a context and random bytes.
-ACCUMULATED = {
-    44: "d51148e1f9f4fa1a723a6cf42e25f2a99eb5c1b378b3d2dbbd561b1203beeae4",
-    65: "8358a1843220194417cadbc2651295cd8fc65125b5a5c1a239a16dc8b57ca199",
-    87: "8c3ad714777622b8f21ce31bb35f71394f23bc0fcf3c78ace5d608990f3b061b",
 }
 
 
@@ -117,10 +106,10 @@ class Published(unittest.TestCase):
 
     def test_accumulated(self):
         seeds = hashlib.shake_128(b"").digest(3200)
-        for number, wanted in ACCUMULATED.items():
-            made = hashlib.shake_128()
+        for number, wanted in common.ACCUMULATED.items():
+            made, kind = hashlib.shake_128(), PRIVATE[int(number)]
             for at in range(0, 3200, 32):
-                key = PRIVATE[number].from_seed_bytes(seeds[at:at + 32])
+                key = kind.from_seed_bytes(seeds[at:at + 32])
                 made.update(key.public_key().public_bytes_raw() + key.sign(b"", deterministic=True))
             self.assertEqual(made.hexdigest(32), wanted)
 
