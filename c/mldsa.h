@@ -44,6 +44,8 @@
  *                      [MLDSA_KEY_RANGE, MLDSA_CONTEXT_TOO_LONG, MLDSA_SAMPLING_LIMIT, MLDSA_TOO_MANY_ATTEMPTS]
  *  verify              whether the public key accepts the signature of the message under the context. A context of more
  *                      than 255 bytes is not accepted. [MLDSA_NO]
+ *  accepts             tells by 1 that verify says yes, and by 0 all else, a wrong length too: for languages in which 0 is false.
+ *                      Never compare it with MLDSA_YES. [1 or 0]
  *  hash_sign           signs the digest of a message that a hash function made. oid is the function's object identifier
  *  hash_verify         in DER, as MLDSA_OID_SHA2_256; the digest of one of the twelve functions that FIPS 204 names must have
  *                      that function's length, and any other at most 1024 bytes. [hash_sign: MLDSA_KEY_RANGE,
@@ -196,7 +198,7 @@ enum mldsa_status {
  *
  *  MLDSA*_STACK_KEYGEN               keygen
  *  MLDSA*_STACK_SIGN                 sign, hash_sign, sign_mu
- *  MLDSA*_STACK_VERIFY               verify, hash_verify, verify_mu
+ *  MLDSA*_STACK_VERIFY               verify, accepts, hash_verify, verify_mu
  *  MLDSA*_STACK_PUBLIC_KEY           public_key
  *  MLDSA*_STACK_CHECK                check_private_key
  *  MLDSA*_STACK_WHOLE, _PAIR         is_whole, is_pair
@@ -204,7 +206,8 @@ enum mldsa_status {
  *  MLDSA*_STACK_SIGN_PREPARED        sign_prepared, hash_sign_prepared, sign_mu_prepared
  *  MLDSA*_STACK_VERIFY_PREPARED      verify_prepared, hash_verify_prepared, verify_mu_prepared
  *  MLDSA*_STACK_DER                  the calls on keys in DER, whose names end in _der
- *  MLDSA_STACK_MU                    mu_begin, mu_begin_private, mldsa_mu_update, mldsa_mu_finish
+ *  MLDSA_STACK_MU                    mu_begin, mu_begin_private, mldsa_mu_update, mldsa_mu_finish; it is enough for mldsa_version,
+ *                                    mldsa_check_pre_hash and mldsa_text_of too
  *
  * glibc gives a thread what `ulimit -s` says, mostly 8 MiB. musl gives it 128 KiB, on which keygen, sign and others end the program
  * by SIGSEGV: there give a thread more when it is made, with these attributes.
@@ -263,6 +266,9 @@ uint32_t mldsa44_sign(const uint8_t *private_key, size_t private_key_len, const 
 MLDSA_ANSWERS MLDSA_ARRAYS(4, 0) /* stack: MLDSA44_STACK_VERIFY */
 uint32_t mldsa44_verify(const uint8_t *public_key, size_t public_key_len, const uint8_t *message, size_t message_len,
                         const uint8_t *context, size_t context_len, const uint8_t *signature, size_t signature_len);
+MLDSA_ANSWERS MLDSA_ARRAYS(4, 0) /* stack: MLDSA44_STACK_VERIFY */
+uint32_t mldsa44_accepts(const uint8_t *public_key, size_t public_key_len, const uint8_t *message, size_t message_len,
+                         const uint8_t *context, size_t context_len, const uint8_t *signature, size_t signature_len);
 MLDSA_ANSWERS MLDSA_ARRAYS(5, 1) /* stack: MLDSA44_STACK_SIGN */
 uint32_t mldsa44_hash_sign(const uint8_t *private_key, size_t private_key_len,
                            const uint8_t *digest, size_t digest_len, const uint8_t *context, size_t context_len,
@@ -354,6 +360,9 @@ uint32_t mldsa65_sign(const uint8_t *private_key, size_t private_key_len, const 
 MLDSA_ANSWERS MLDSA_ARRAYS(4, 0) /* stack: MLDSA65_STACK_VERIFY */
 uint32_t mldsa65_verify(const uint8_t *public_key, size_t public_key_len, const uint8_t *message, size_t message_len,
                         const uint8_t *context, size_t context_len, const uint8_t *signature, size_t signature_len);
+MLDSA_ANSWERS MLDSA_ARRAYS(4, 0) /* stack: MLDSA65_STACK_VERIFY */
+uint32_t mldsa65_accepts(const uint8_t *public_key, size_t public_key_len, const uint8_t *message, size_t message_len,
+                         const uint8_t *context, size_t context_len, const uint8_t *signature, size_t signature_len);
 MLDSA_ANSWERS MLDSA_ARRAYS(5, 1) /* stack: MLDSA65_STACK_SIGN */
 uint32_t mldsa65_hash_sign(const uint8_t *private_key, size_t private_key_len,
                            const uint8_t *digest, size_t digest_len, const uint8_t *context, size_t context_len,
@@ -445,6 +454,9 @@ uint32_t mldsa87_sign(const uint8_t *private_key, size_t private_key_len, const 
 MLDSA_ANSWERS MLDSA_ARRAYS(4, 0) /* stack: MLDSA87_STACK_VERIFY */
 uint32_t mldsa87_verify(const uint8_t *public_key, size_t public_key_len, const uint8_t *message, size_t message_len,
                         const uint8_t *context, size_t context_len, const uint8_t *signature, size_t signature_len);
+MLDSA_ANSWERS MLDSA_ARRAYS(4, 0) /* stack: MLDSA87_STACK_VERIFY */
+uint32_t mldsa87_accepts(const uint8_t *public_key, size_t public_key_len, const uint8_t *message, size_t message_len,
+                         const uint8_t *context, size_t context_len, const uint8_t *signature, size_t signature_len);
 MLDSA_ANSWERS MLDSA_ARRAYS(5, 1) /* stack: MLDSA87_STACK_SIGN */
 uint32_t mldsa87_hash_sign(const uint8_t *private_key, size_t private_key_len,
                            const uint8_t *digest, size_t digest_len, const uint8_t *context, size_t context_len,
@@ -602,7 +614,11 @@ uint32_t mldsa_version(void);
 MLDSA_ANSWERS MLDSA_ARRAYS(2, 0)
 uint32_t mldsa_check_pre_hash(const uint8_t *digest, size_t digest_len, const uint8_t *oid, size_t oid_len);
 
-/* The text of an answer. */
+/* The text of an answer, or of another number. mldsa_text_of writes the same into an array of MLDSA_TEXT_LEN bytes, with zeros
+ * behind it, for languages that load the library and read no header. [mldsa_text_of: MLDSA_WRONG_LENGTH] */
+#define MLDSA_TEXT_LEN 64
+MLDSA_ANSWERS MLDSA_ARRAY(write_only, 2, 3)
+uint32_t mldsa_text_of(uint32_t status, uint8_t *text, size_t text_len);
 static inline const char *mldsa_text(uint32_t status)
 {
     switch (status) {

@@ -214,7 +214,9 @@ def stack(family, header):
     rows: dict[tuple[str, str], list[str]] = {}
     beside = {name: constant for constant, name in
               re.findall(r"/\* stack: (\w+) \*/\n\w+ mldsa65_(\w+)\(", header)}
-    for name in [name for name in family.names if family.of_set and name in beside]:
+    for name in family.names if family.of_set else []:
+        if name not in beside:
+            sys.exit(f"c/mldsa.h does not say what stack {name} needs")
         constant = beside[name]
         at_sets = [constant.replace("65", number) for number in SETS] if "65" in constant else [constant]
         said = ", ".join(f"`{it}`" for it in dict.fromkeys(at_sets))
@@ -261,9 +263,14 @@ def answers(family, header):
         return f"{head}{named('The results are those of ' + family.answers.removeprefix('as ') + '.')}\n\n"
     if family.answers == "as is_pair":
         said |= {"MLDSA_NO", "MLDSA_KEY_RANGE", "MLDSA_SAMPLING_LIMIT"}
+    if re.fullmatch(r"\d or \d", family.answers):
+        return f"{head}{family.answers}.\n\n"
     if not said:
         return ""
-    said |= {"MLDSA_YES" if "MLDSA_NO" in said else "MLDSA_DONE", "MLDSA_WRONG_LENGTH"}
+    said.add("MLDSA_YES" if "MLDSA_NO" in said else "MLDSA_DONE")
+    # Where every array may have any length, none is wrong.
+    if not all(size.startswith("any") for _, size in lengths(family, header)):
+        said.add("MLDSA_WRONG_LENGTH")
     if "MLDSA_NO" in said and len(family.names) > 1:
         said.add("MLDSA_DONE")
     which = f"{named(f'By call: {family.answers}.')}\n\n" if ":" in family.answers else ""

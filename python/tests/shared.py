@@ -21,6 +21,10 @@ PUBLIC = {number: getattr(mldsa, f"MLDSA{number}PublicKey") for number in NUMBER
 # Bytes of a public key, a private key and a signature (FIPS 204, Table 2).
 LENGTHS = {44: (1312, 2560, 2420), 65: (1952, 4032, 3309), 87: (2592, 4896, 4627)}
 SEED = bytes(range(32))
+# How hashlib calls the hash functions of FIPS 204, section 5.4, whose object identifiers are 2.16.840.1.101.3.4.2.1 to
+# .12.
+FUNCTIONS = ("sha256", "sha384", "sha512", "sha224", "sha512_224", "sha512_256", "sha3_224", "sha3_256", "sha3_384",
+             "sha3_512", "shake_128", "shake_256")
 # The words that start this interpreter, which an emulator may run.
 PYTHON = shlex.split(os.environ.get("MLDSA_PYTHON", sys.executable))
 # A program `mlsign`, if there is one.

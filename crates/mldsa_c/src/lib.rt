@@ -18,3 +18,4 @@ mod prepared_44;
 mod prepared_65;
 mod prepared_87;
 mod statuses;
+mod texts;

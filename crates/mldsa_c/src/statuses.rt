@@ -2,7 +2,7 @@
 #![tactic(auto)]
 
 ghost use Rattle.std.specs.Prelude.{◌≡◌};
-ghost use Rattle.mldsa_c.specs.Statuses.{status_of, refusal_status, done_status, answer_status};
+ghost use Rattle.mldsa_c.specs.Statuses.{status_of, refusal_status, done_status, answer_status, accepted};
 
 use fips204_bytes::{Fault, Refusal};
 
@@ -84,4 +84,11 @@ pub(crate) fn verdict_status(answer: Result<bool, Refusal>) -> u32
         Ok(false) => NO,
         Err(refusal) => status_of_refusal(refusal),
     }
+}
+
+/// 1 for the status of the answer yes, and 0 for every other one.
+pub(crate) fn accepted(status: u32) -> u32
+    ensures { result ≡ accepted status }
+{
+    if status == DONE { 1 } else { 0 }
 }
