@@ -62,10 +62,7 @@ def emulator(processor):
 
 def archives(*processors):
     """The static library for each of the processors, which is built first where it is not current."""
-    done = subprocess.run([TOP / "scripts/archive", *processors], stdout=subprocess.PIPE, text=True, check=False)
-    if done.returncode:
-        sys.exit(f"the library for {', '.join(processors)} was not built")
-    return [pathlib.Path(line) for line in done.stdout.splitlines()]
+    return [pathlib.Path(line) for line in command(TOP / "scripts/archive", *processors, stderr=None).splitlines()]
 
 
 def note_of(file):

@@ -3,10 +3,18 @@
 import base64
 import hashlib
 
+from common import TOP
+
 # The last number of each set's object identifier.
 ARC = {"44": 17, "65": 18, "87": 19}
 # The tags of an integer, a string of bits, one of bytes, an object identifier and a sequence, and of a seed.
 INTEGER, BITS, OCTETS, IDENTIFIER, SEQUENCE, SEED = 2, 3, 4, 6, 48, 128
+
+
+def recorded(name):
+    """What OpenSSL 4.0.0 wrote of the seed 00 01 .. 1F: keys in PEM, and the signature of `message` under the context
+    `context`; and of an expanded key, which a model made."""
+    return (TOP / "crates/mlsign_session/data" / name).read_bytes()
 
 
 def element(tag, *parts):

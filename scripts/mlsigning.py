@@ -1,4 +1,4 @@
-"""Runs of the program `mlsign` in a folder of files, as tests make them, and what is recorded for it."""
+"""Runs of the program `mlsign` in a folder of files, as tests make them."""
 import contextlib
 import os
 import re
@@ -13,11 +13,6 @@ from common import TOP, command
 PATIENCE = 60
 # The end of a name that a run gives to a file of its own.
 LEFT = re.compile(r"\.[0-9a-f]{16}\.(new|old)$")
-
-
-def recorded(name):
-    """A key or a signature as OpenSSL wrote it."""
-    return (TOP / "crates/mlsign_session/data" / name).read_bytes()
 
 
 class Room(unittest.TestCase):

@@ -105,17 +105,8 @@ class _Unique:
 
     __slots__ = ()
 
-    def _refused(self) -> NoReturn:
-        raise TypeError(f"{type(self).__name__} is not copied or pickled")
-
     def __reduce_ex__(self, protocol: Any) -> NoReturn:
-        self._refused()
-
-    def __copy__(self) -> NoReturn:
-        self._refused()
-
-    def __deepcopy__(self, memo: Any) -> NoReturn:
-        self._refused()
+        raise TypeError(f"{type(self).__name__} is not copied or pickled")
 
 
 class MessageHasher(_Unique):

@@ -1,10 +1,8 @@
 """What the tests share: the parameter sets, and recorded values of the repository."""
-import base64
 import contextlib
 import hashlib
 import os
 import pathlib
-import re
 import shlex
 import sys
 from unittest import mock
@@ -45,15 +43,3 @@ def random(given):
     with mock.patch("secrets.token_bytes", return_value=given) as drawn:
         yield
     drawn.assert_called_once_with(len(given))
-
-
-def of_openssl(number):
-    """What OpenSSL 4.0.0 wrote of the seed 00 01 .. 1f: a private key and its public key as PEM, and the signature of
-    `message` under the context `context`."""
-    source = (TOP / "crates/mlsign_runs/src/recorded.rt").read_text(encoding="utf-8")
-
-    def found(name):
-        text = re.search(rf'pub static {name}_{number}: &\[u8\] = b"\\\n(.*?)";', source, re.S)[1]
-        return re.sub(r"\\\n *", "", text).strip(" ").replace("\\n", "\n").encode()
-
-    return found("PRIVATE"), found("PUBLIC"), base64.b64decode(found("SIGNATURE"))

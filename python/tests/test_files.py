@@ -7,7 +7,7 @@ import tempfile
 import unittest
 from typing import Any
 
-from shared import MLSIGN, NUMBERS, PRIVATE, PUBLIC, SEED, of_openssl
+from shared import MLSIGN, NUMBERS, PRIVATE, PUBLIC, SEED
 
 import keyfiles
 from keyfiles import algorithm, element, private_der, public_der
@@ -61,11 +61,11 @@ class Written(unittest.TestCase):
 
     def test_openssl(self):
         for number, key in KEYS.items():
-            private, public, signature = of_openssl(number)
+            private, public = keyfiles.recorded(f"private-{number}.pem"), keyfiles.recorded(f"public-{number}.pem")
             self.assertEqual([key.to_pem(), key.public_key().to_pem()], [private, public])
             self.assertEqual(load_pem_private_key(private).private_bytes_raw(), SEED)
             self.assertEqual(load_pem_public_key(public), key.public_key())
-            load_pem_public_key(public).verify(signature, b"message", b"context")
+            load_pem_public_key(public).verify(keyfiles.recorded(f"signature-{number}"), b"message", b"context")
 
     def test_each_form(self):
         for number, key in KEYS.items():

@@ -5,6 +5,7 @@ import io
 import re
 import sys
 import unittest
+from typing import Any, Callable, Dict
 
 from shared import FUNCTIONS, PRIVATE, PUBLIC, random, sha256
 
@@ -20,75 +21,67 @@ PARTS = {
     "private_key": (PRIVATE, "from_expanded_bytes", "expanded_bytes"),
     "seed": (PRIVATE, "from_seed_bytes", "private_bytes_raw"),
 }
+# How each call of the published cases is made by the package, of a key and what is given besides.
+SIGNS: Dict[str, Callable[..., Any]] = {
+    "sign": lambda it, message, context: it.sign(message, context),
+    "hash_sign": lambda it, digest, context, oid: it.sign_digest(digest, NAMES[oid.hex()], context),
+    "sign_mu": lambda it, mu: it.sign_mu(mu),
+}
+VERIFIES: Dict[str, Callable[..., Any]] = {
+    "verify": lambda it, signature, message, context: it.verify(signature, message, context),
+    "hash_verify": lambda it, signature, digest, context, oid: it.verify_digest(
+        signature, digest, NAMES[oid.hex()], context),
+    "verify_mu": lambda it, signature, mu: it.verify_mu(signature, mu),
+}
 
 
-class Asked:
-    """The calls that the published cases make, by the package: with the plain and with the prepared key."""
-
-    @staticmethod
-    def keygen(number, seed):
-        key = PRIVATE[number].from_seed_bytes(seed)
-        return key.public_key().public_bytes_raw(), key.expanded_bytes()
-
-    @staticmethod
-    def signed(number, private, drawn, sign):
-        key, made = PRIVATE[number].from_expanded_bytes(private), set()
-        for signer in (key, key.prepare()):
-            with random(drawn):
-                made.add(sign(signer))
+def answer(number, name, key, *arguments):
+    """The answer of the package to a call, with the plain and with the prepared key."""
+    if name == "keygen":
+        private = PRIVATE[number].from_seed_bytes(key)
+        return private.public_key().public_bytes_raw(), private.expanded_bytes()
+    *given, last = arguments
+    if name in SIGNS:
+        private, made = PRIVATE[number].from_expanded_bytes(key), set()
+        for signer in (private, private.prepare()):
+            with random(last):
+                made.add(SIGNS[name](signer, *given))
         return tuple(made)
+    public, verdicts = PUBLIC[number].from_public_bytes(key), set()
+    for verifier in (public, public.prepare()):
+        try:
+            verdicts.add(VERIFIES[name](verifier, last, *given) is None)
+        except InvalidSignature:
+            verdicts.add(False)
+    return verdicts == {True} if len(verdicts) == 1 else verdicts
 
-    @staticmethod
-    def verified(number, public, verify):
-        key, verdicts = PUBLIC[number].from_public_bytes(public), set()
-        for verifier in (key, key.prepare()):
-            try:
-                verdicts.add(verify(verifier) is None)
-            except InvalidSignature:
-                verdicts.add(False)
-        return verdicts == {True} if len(verdicts) == 1 else verdicts
 
-    def sign(self, number, private, message, context, drawn):
-        return self.signed(number, private, drawn, lambda it: it.sign(message, context))
+def in_file(number, part, way, form, given):
+    """The file of a part of a key, or the part of a file's key, which has to be of the set."""
+    classes, make, bytes_of = PARTS[part]
+    if way == "to":
+        return (getattr(getattr(classes[number], make)(given), f"to_{form}")(),)
+    key = getattr(mldsa, f"load_{form}_{'public' if classes is PUBLIC else 'private'}_key")(given)
+    if type(key) is not classes[number]:
+        raise AssertionError(f"{key} is not of ML-DSA-{number}")
+    return (getattr(key, bytes_of)(),)
 
-    def verify(self, number, public, message, context, signature):
-        return self.verified(number, public, lambda it: it.verify(signature, message, context))
 
-    def hash_sign(self, number, private, digest, context, oid, drawn):
-        return self.signed(number, private, drawn, lambda it: it.sign_digest(digest, NAMES[oid.hex()], context))
-
-    def hash_verify(self, number, public, digest, context, oid, signature):
-        name = NAMES[oid.hex()]
-        return self.verified(number, public, lambda it: it.verify_digest(signature, digest, name, context))
-
-    def sign_mu(self, number, private, mu, drawn):
-        return self.signed(number, private, drawn, lambda it: it.sign_mu(mu))
-
-    def verify_mu(self, number, public, mu, signature):
-        return self.verified(number, public, lambda it: it.verify_mu(signature, mu))
-
-    @staticmethod
-    def in_file(number, part, way, form, given):
-        """The file of a part of a key, or the part of a file's key, which has to be of the set."""
-        classes, make, bytes_of = PARTS[part]
-        if way == "to":
-            return (getattr(getattr(classes[number], make)(given), f"to_{form}")(),)
-        key = getattr(mldsa, f"load_{form}_{'public' if classes is PUBLIC else 'private'}_key")(given)
-        if type(key) is not classes[number]:
-            raise AssertionError(f"{key} is not of ML-DSA-{number}")
-        return (getattr(key, bytes_of)(),)
-
-    def __call__(self, asked):
-        found = []
-        for number, call in asked:
-            name, *arguments = published.by_mu(*call)
-            file = re.fullmatch(r"(\w+)_(from|to)_(der|pem)", name)
-            ask, front = (self.in_file, file.groups()) if file else (getattr(self, name), ())
-            try:
-                found.append(ask(int(number), *front, *arguments))
-            except ValueError as error:
-                found.append(published.Refused(str(error)))
-        return found
+def answers(asked):
+    """The answers to the calls of the published cases; a key or an argument that the package does not take is
+    refused."""
+    found = []
+    for number, call in asked:
+        name, *arguments = published.by_mu(*call)
+        file = re.fullmatch(r"(\w+)_(from|to)_(der|pem)", name)
+        try:
+            if file:
+                found.append(in_file(int(number), *file.groups(), *arguments))
+            else:
+                found.append(answer(int(number), name, *arguments))
+        except ValueError as error:
+            found.append(published.Refused(str(error)))
+    return found
 
 
 class Published(unittest.TestCase):
@@ -99,8 +92,8 @@ class Published(unittest.TestCase):
         chosen, said = published.cases("DER", "PEM"), io.StringIO()
         other = published.with_a_bit_changed(chosen)
         with contextlib.redirect_stdout(said):
-            outcomes = (published.outcomes(it, Asked()) for it in (chosen, other))
-            fine = published.judged("Python", chosen, next(outcomes), other, next(outcomes))
+            fine = published.judged("Python", chosen, published.outcomes(chosen, answers), other,
+                                    published.outcomes(other, answers))
         self.assertTrue(fine, said.getvalue())
         self.assertEqual(len(chosen), 1205 + 2 * 605)
 
@@ -120,14 +113,9 @@ class Published(unittest.TestCase):
         for row in rows:
             number, (seed, drawn, context, message) = int(row[0]), map(bytes.fromhex, row[1:5])
             key = PRIVATE[number].from_seed_bytes(seed)
+            front, given = "hash_" if row[8:] else "", (message, context, *map(bytes.fromhex, row[8:]))
             with random(drawn):
-                if len(row) == 8:
-                    signature = key.sign(message, context)
-                else:
-                    signature = key.sign_digest(message, NAMES[row[8]], context)
+                signature = SIGNS[f"{front}sign"](key, *given)
             made = (key.public_key().public_bytes_raw(), key.expanded_bytes(), signature)
             self.assertEqual([sha256(it) for it in made], row[5:8])
-            if len(row) == 8:
-                key.public_key().verify(signature, message, context)
-            else:
-                key.public_key().verify_digest(signature, message, NAMES[row[8]], context)
+            VERIFIES[f"{front}verify"](key.public_key(), signature, *given)

@@ -10,8 +10,11 @@ ghost use Rattle.fips204_bytes.specs.KeyRange.{RangeIsOfFields};
 ghost use Rattle.fips204_bytes.specs.Mu.{MuStandsForInput, FramedStandsForInput};
 ghost use Rattle.fips204_bytes.specs.Pairs.{PairsBelong};
 ghost use Rattle.fips204_bytes.specs.Prepared.{PreparedStandsForPlain};
+ghost use Rattle.fips204_bytes.specs.Spellings.{HasOneSpelling};
 
-use fips204::laws::{binding, key_bytes, prepared_bytes, prepared_keys, signed_is_accepted};
+use fips204::laws::{
+    binding, key_bytes, prepared_bytes, prepared_keys, signature_spelling, signed_is_accepted,
+};
 
 /// The keys that one call of `keygen` wrote belong together, and so do a private key of which `is_pair` says yes and the
 /// public key that `public_key` wrote of it: `verify` says yes to what `sign` wrote, `check_private_key`, `is_whole` and
@@ -64,3 +67,12 @@ pub fn errors_leave_arrays()
 pub fn key_range()
     ensures { (p : ParameterSet) → IsSet p → RangeIsOfFields p }
 {}
+
+/// Signatures, public keys and private keys have one spelling each: bytes that decode are as many as the set's, what they decode to
+/// encodes to them, no other array decodes to it, and they decode to nothing else.
+pub fn one_spelling()
+    ensures { (p : ParameterSet) (H : XOF) → IsSet p → HasOneSpelling p H }
+{
+    signature_spelling();
+    key_bytes();
+}
