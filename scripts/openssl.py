@@ -18,7 +18,7 @@ def named(words):
 
 
 def command():
-    """The words that start one with ML-DSA, as OPENSSL names them (`chroot FOLDER openssl`); None where there is none."""
+    """The words that start one with ML-DSA, as OPENSSL has them (`chroot FOLDER openssl`); None where there is none."""
     words = shlex.split(os.environ.get("OPENSSL", "openssl"))
     numbers = [int(it) for it in re.findall(r"\d+", named(words))]
     return words if numbers >= [3, 5] else None
