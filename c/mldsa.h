@@ -35,7 +35,7 @@
  * keys.c, prepared.c and der.c.
  *
  * A set's calls are these, with its number in the name (mldsa44_keygen, mldsa65_keygen, mldsa87_keygen). Behind each stand
- * the results that it has beside 0 and MLDSA_WRONG_LENGTH. MLDSA_SAMPLING_LIMIT stands for inputs that nobody knows.
+ * the results that it has beside 0 and MLDSA_WRONG_LENGTH. No input is known to return MLDSA_SAMPLING_LIMIT.
  *
  *  keygen              writes the key pair of a seed of MLDSA_SEED_LEN bytes. Whoever has the seed has the key.
  *                      [MLDSA_SAMPLING_LIMIT]
@@ -614,7 +614,7 @@ uint32_t mldsa_version(void);
 MLDSA_ANSWERS MLDSA_ARRAYS(2, 0)
 uint32_t mldsa_check_pre_hash(const uint8_t *digest, size_t digest_len, const uint8_t *oid, size_t oid_len);
 
-/* The text of an answer, or of another number. mldsa_text_of writes the same into an array of MLDSA_TEXT_LEN bytes, with zeros
+/* The text of a result, or of another number. mldsa_text_of writes the same into an array of MLDSA_TEXT_LEN bytes, with zeros
  * behind it, for languages that load the library and read no header. [mldsa_text_of: MLDSA_WRONG_LENGTH] */
 #define MLDSA_TEXT_LEN 64
 MLDSA_ANSWERS MLDSA_ARRAY(write_only, 2, 3)
