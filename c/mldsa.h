@@ -1,23 +1,24 @@
 /* mldsa.h - ML-DSA (FIPS 204) at the parameter sets 44, 65 and 87, over SHAKE
  *
- * Read an answer as 0 or not 0. verify answers 0 (MLDSA_YES) if the signature is accepted, and every other answer is a
+ * Read a result as 0 or not 0. verify returns 0 (MLDSA_YES) if the signature is accepted, and every other result is a
  * rejection, that of a wrong length too. The one right test is
  *
  *     if (mldsa65_verify(..) == MLDSA_YES)
  *         .. accepted ..
  *
  * and likewise for is_whole and is_pair. A pointer is never null, also where its length is 0: for an empty array pass
- * MLDSA_NOTHING, 0. An array may begin at any address: none has to be aligned. gcc and clang warn where an answer is not used;
+ * MLDSA_NOTHING, 0. An array may begin at any address: none has to be aligned. gcc and clang warn where a result is not used;
  * where they do not optimize, of a null pointer that they see, and gcc otherwise too, if its length is not 0; and gcc from 10 on
  * of an array that is shorter than the length behind it says, as that of another set is. A test for null stays in a program,
  * wherever it stands.
  *
- * These are the declarations of libmldsa_c.a, whose code is proved: each call answers what FIPS 204 says, reads and writes
- * nothing but the arrays that it is given, and ends. docs/SPEC.md says what that rests on.
+ * These are the declarations of libmldsa_c.a, whose code in Rattle is proved: each call returns what FIPS 204 says, reads and
+ * writes nothing but the arrays that it is given, and ends. docs/SPEC.md says what that rests on. On x86-64 some lines of C, which
+ * are tested, choose between two compilations of that code.
  *
- * An array is a pointer and, right after it, its length in bytes. A wrong length is safe: the call answers
+ * An array is a pointer and, right after it, its length in bytes. A wrong length is safe: the call returns
  * MLDSA_WRONG_LENGTH and writes nothing. The arrays that a call writes are those without const; they come last. They are
- * written only if the answer is MLDSA_DONE, and are as they were after every other one.
+ * written only if the result is MLDSA_DONE, and are as they were after every other one.
  *
  * The caller owes, and nothing checks:
  *  - a pointer is not null, and points to as many bytes as its length says;
@@ -26,14 +27,15 @@
  *  - the thread has as many bytes of stack left as MLDSA*_STACK_* says (ask for them where you start a thread);
  *  - seed and random are secret, drawn from a good generator, and used once.
  *
- * The calls keep no state, allocate nothing, call nothing but memcpy, memmove and memset, and may run in any number of threads.
+ * The calls keep no state but, on x86-64, the processor's level, allocate nothing, call nothing but memcpy, memmove and memset, and
+ * may run in any number of threads.
  * They leave secrets on the stack below the caller's frame, and are not claimed to run in constant time.
  *
  * A program for each group of calls is among the examples and on the group's page of the manual: message.c, digest.c, pieces.c,
- * keys.c and prepared.c.
+ * keys.c, prepared.c and der.c.
  *
  * A set's calls are these, with its number in the name (mldsa44_keygen, mldsa65_keygen, mldsa87_keygen). Behind each stand
- * the answers that it has beside 0 and MLDSA_WRONG_LENGTH. MLDSA_SAMPLING_LIMIT stands for inputs that nobody knows.
+ * the results that it has beside 0 and MLDSA_WRONG_LENGTH. MLDSA_SAMPLING_LIMIT stands for inputs that nobody knows.
  *
  *  keygen              writes the key pair of a seed of MLDSA_SEED_LEN bytes. Whoever has the seed has the key.
  *                      [MLDSA_SAMPLING_LIMIT]
@@ -42,6 +44,8 @@
  *                      [MLDSA_KEY_RANGE, MLDSA_CONTEXT_TOO_LONG, MLDSA_SAMPLING_LIMIT, MLDSA_TOO_MANY_ATTEMPTS]
  *  verify              whether the public key accepts the signature of the message under the context. A context of more
  *                      than 255 bytes is not accepted. [MLDSA_NO]
+ *  accepts             tells by 1 that verify says yes, and by 0 all else, a wrong length too: for languages in which 0 is false.
+ *                      Never compare it with MLDSA_YES. [1 or 0]
  *  hash_sign           signs the digest of a message that a hash function made. oid is the function's object identifier
  *  hash_verify         in DER, as MLDSA_OID_SHA2_256; the digest of one of the twelve functions that FIPS 204 names must have
  *                      that function's length, and any other at most 1024 bytes. [hash_sign: MLDSA_KEY_RANGE,
@@ -57,8 +61,8 @@
  *  public_key          writes the public key that belongs to a private one. [MLDSA_KEY_RANGE, MLDSA_SAMPLING_LIMIT]
  *  check_private_key   whether the bytes are a private key at all, which each call with a private key checks too.
  *                      [MLDSA_KEY_RANGE]
- *  is_pair             whether the parts of a private key from elsewhere belong together. After a yes, whatever it signs is
- *                      accepted under the public key that public_key writes; keygen makes no other keys. After a no its t0 or tr
+ *  is_pair             whether the parts of a private key from elsewhere belong together. If so, whatever it signs is
+ *                      accepted under the public key that public_key writes; keygen makes no other keys. If not, its t0 or tr
  *                      is not its own, and what it signs may be accepted or not. [MLDSA_NO, MLDSA_KEY_RANGE,
  *                      MLDSA_SAMPLING_LIMIT]
  *  is_whole            the same without a look at tr: whether the part t0 of the key belongs to its parts s1 and s2. [as is_pair]
@@ -66,8 +70,8 @@
  *  prepare_private_key bytes of the key, and behind them what each call would compute of them anew. [MLDSA_SAMPLING_LIMIT;
  *                      prepare_private_key: MLDSA_KEY_RANGE too]
  *  verify_prepared, hash_verify_prepared, verify_mu_prepared, sign_prepared, hash_sign_prepared, sign_mu_prepared
- *                      answer with a prepared key what the calls without _prepared answer with the key that it was made of, and
- *                      take less time. Any bytes are safe in a prepared key. MLDSA_NOT_PREPARED is the answer where a value of
+ *                      return with a prepared key what the calls without _prepared return with the key that it was made of, and
+ *                      take less time. Any bytes are safe in a prepared key. MLDSA_NOT_PREPARED is the result where a value of
  *                      its matrix is 8380417 or more, or, in a private key, a coefficient of s1 or s2 is out of range.
  *                      Every other array of the right length gets a verdict or a signature, one whose matrix or tr is another
  *                      key's too, which no call writes: that means nothing, since nothing checks that its parts belong
@@ -78,7 +82,7 @@
  *  public_key_to_der, public_key_from_der
  *                      write and read a public key as files have it: the DER of a SubjectPublicKeyInfo (RFC 9881, section 4), of
  *                      MLDSA*_PUBLIC_KEY_DER_LEN bytes. DER has one form, and what is read may have any length: every other file is
- *                      answered by its first fault. [public_key_from_der: MLDSA_DER_CUT_SHORT, MLDSA_DER_TRAILING,
+ *                      reported by its first fault. [public_key_from_der: MLDSA_DER_CUT_SHORT, MLDSA_DER_TRAILING,
  *                      MLDSA_DER_DAMAGED, MLDSA_DER_ALGORITHM, MLDSA_DER_KEY_LENGTH, MLDSA_OTHER_SET]
  *  seed_to_der, private_key_to_der, both_to_der
  *                      write a private key as files have it, not encrypted: the DER of a OneAsymmetricKey of version 0 (RFC 9881,
@@ -89,8 +93,8 @@
  *  private_key_from_der, seed_from_der
  *                      read a private key in any of the three forms, of any length, and write the expanded key, or the seed where
  *                      there is one. Refused is an expanded key that the seed beside it does not generate, or to which is_pair,
- *                      where it is alone, does not say yes. To load a key, ask for its seed, and where the answer is MLDSA_NO_SEED
- *                      for its expanded key; where the set is not known, ask at each as long as the answer is MLDSA_OTHER_SET.
+ *                      where it is alone, does not say yes. To load a key, ask for its seed, and where the result is MLDSA_NO_SEED
+ *                      for its expanded key; where the set is not known, ask at each as long as the result is MLDSA_OTHER_SET.
  *                      [private_key_from_der: MLDSA_DER_CUT_SHORT, MLDSA_DER_TRAILING, MLDSA_DER_DAMAGED, MLDSA_DER_VERSION,
  *                      MLDSA_DER_ALGORITHM, MLDSA_DER_KEY_LENGTH, MLDSA_OTHER_SET, MLDSA_INCONSISTENT, MLDSA_SAMPLING_LIMIT;
  *                      seed_from_der: MLDSA_NO_SEED too]
@@ -105,11 +109,11 @@
 extern "C" {
 #endif
 
-/* The version of this header; mldsa_version answers that of the library, as 65536 * major + 256 * minor + patch.
+/* The version of this header; mldsa_version returns that of the library, as 65536 * major + 256 * minor + patch.
  *
  * A program that was compiled with this header runs with every library of the same major and minor number whose patch is as high
  * or higher. In all of them the calls that this header declares have the same names, parameters and lengths (_LEN), take and write
- * the same keys and signatures, and answer the same numbers. What a higher one may add are calls, and answers for what only these
+ * the same keys and signatures, and return the same numbers. What a higher one may add are calls, and results for what only these
  * take. Another minor number may change any of that; keys and signatures are those of FIPS 204 in every version.
  *
  * In every version may change: the stack that a call needs (_STACK_), so take the header that came with the library; the texts of
@@ -117,7 +121,7 @@ extern "C" {
 #define MLDSA_VERSION 0x000200
 #define MLDSA_VERSION_TEXT "0.2.0"
 
-/* No pointer is null, and the answer of a call is to be looked at. A compiler that optimizes is not told the first, since it would
+/* No pointer is null, and the result of a call is to be looked at. A compiler that optimizes is not told the first, since it would
  * leave out a program's own test for null behind a call. */
 #if defined(__GNUC__) && !defined(__OPTIMIZE__)
 #define MLDSA_POINTERS __attribute__((nonnull))
@@ -156,11 +160,11 @@ extern "C" {
 #define MLDSA_WRITES_1_BEHIND_5 MLDSA_ARRAY(write_only, 11, 12)
 #define MLDSA_WRITES_2_BEHIND_1 MLDSA_WRITES_1_BEHIND_1 MLDSA_ARRAY(write_only, 5, 6)
 
-/* What a call answers. mldsa_text has a text for each. */
+/* What a call returns. mldsa_text has a text for each. */
 enum mldsa_status {
     MLDSA_DONE = 0,                   /* done, and the arrays are written */
-    MLDSA_YES = 0,                    /* the answer to a question is yes */
-    MLDSA_NO = 1,                     /* the answer to a question is no */
+    MLDSA_YES = 0,                    /* the result of a question is yes */
+    MLDSA_NO = 1,                     /* the result of a question is no */
     MLDSA_WRONG_LENGTH = 2,           /* an array has the wrong length */
     MLDSA_CONTEXT_TOO_LONG = 4,       /* sign: the context has more than 255 bytes */
     MLDSA_HASH_CONTEXT_TOO_LONG = 6,  /* hash_sign: the context has more than 255 bytes */
@@ -168,7 +172,7 @@ enum mldsa_status {
     MLDSA_OID_NOT_DER = 8,            /* hash_sign: the object identifier is not in DER */
     MLDSA_DIGEST_TOO_LONG = 9,        /* hash_sign: the digest has more than 1024 bytes */
     MLDSA_DIGEST_LENGTH = 10,         /* hash_sign: the digest has not the length of the function's digests */
-    MLDSA_TOO_MANY_ATTEMPTS = 13,     /* signing: all 814 attempts were rejected, as with a key that is not whole */
+    MLDSA_TOO_MANY_ATTEMPTS = 13,     /* signing: all 814 attempts were rejected, as with an inconsistent key */
     MLDSA_KEY_RANGE = 14,             /* the bytes are no private key */
     MLDSA_SAMPLING_LIMIT = 15,        /* rejection sampling reached its limit; no such input is known */
     MLDSA_BROKEN_STATE = 16,          /* mldsa_mu_update, mldsa_mu_finish: the last byte of the state is 0 or above 136 */
@@ -194,7 +198,7 @@ enum mldsa_status {
  *
  *  MLDSA*_STACK_KEYGEN               keygen
  *  MLDSA*_STACK_SIGN                 sign, hash_sign, sign_mu
- *  MLDSA*_STACK_VERIFY               verify, hash_verify, verify_mu
+ *  MLDSA*_STACK_VERIFY               verify, accepts, hash_verify, verify_mu
  *  MLDSA*_STACK_PUBLIC_KEY           public_key
  *  MLDSA*_STACK_CHECK                check_private_key
  *  MLDSA*_STACK_WHOLE, _PAIR         is_whole, is_pair
@@ -202,7 +206,8 @@ enum mldsa_status {
  *  MLDSA*_STACK_SIGN_PREPARED        sign_prepared, hash_sign_prepared, sign_mu_prepared
  *  MLDSA*_STACK_VERIFY_PREPARED      verify_prepared, hash_verify_prepared, verify_mu_prepared
  *  MLDSA*_STACK_DER                  the calls on keys in DER, whose names end in _der
- *  MLDSA_STACK_MU                    mu_begin, mu_begin_private, mldsa_mu_update, mldsa_mu_finish
+ *  MLDSA_STACK_MU                    mu_begin, mu_begin_private, mldsa_mu_update, mldsa_mu_finish; it is enough for mldsa_version,
+ *                                    mldsa_check_pre_hash and mldsa_text_of too
  *
  * glibc gives a thread what `ulimit -s` says, mostly 8 MiB. musl gives it 128 KiB, on which keygen, sign and others end the program
  * by SIGSEGV: there give a thread more when it is made, with these attributes.
@@ -261,6 +266,9 @@ uint32_t mldsa44_sign(const uint8_t *private_key, size_t private_key_len, const 
 MLDSA_ANSWERS MLDSA_ARRAYS(4, 0) /* stack: MLDSA44_STACK_VERIFY */
 uint32_t mldsa44_verify(const uint8_t *public_key, size_t public_key_len, const uint8_t *message, size_t message_len,
                         const uint8_t *context, size_t context_len, const uint8_t *signature, size_t signature_len);
+MLDSA_ANSWERS MLDSA_ARRAYS(4, 0) /* stack: MLDSA44_STACK_VERIFY */
+uint32_t mldsa44_accepts(const uint8_t *public_key, size_t public_key_len, const uint8_t *message, size_t message_len,
+                         const uint8_t *context, size_t context_len, const uint8_t *signature, size_t signature_len);
 MLDSA_ANSWERS MLDSA_ARRAYS(5, 1) /* stack: MLDSA44_STACK_SIGN */
 uint32_t mldsa44_hash_sign(const uint8_t *private_key, size_t private_key_len,
                            const uint8_t *digest, size_t digest_len, const uint8_t *context, size_t context_len,
@@ -352,6 +360,9 @@ uint32_t mldsa65_sign(const uint8_t *private_key, size_t private_key_len, const 
 MLDSA_ANSWERS MLDSA_ARRAYS(4, 0) /* stack: MLDSA65_STACK_VERIFY */
 uint32_t mldsa65_verify(const uint8_t *public_key, size_t public_key_len, const uint8_t *message, size_t message_len,
                         const uint8_t *context, size_t context_len, const uint8_t *signature, size_t signature_len);
+MLDSA_ANSWERS MLDSA_ARRAYS(4, 0) /* stack: MLDSA65_STACK_VERIFY */
+uint32_t mldsa65_accepts(const uint8_t *public_key, size_t public_key_len, const uint8_t *message, size_t message_len,
+                         const uint8_t *context, size_t context_len, const uint8_t *signature, size_t signature_len);
 MLDSA_ANSWERS MLDSA_ARRAYS(5, 1) /* stack: MLDSA65_STACK_SIGN */
 uint32_t mldsa65_hash_sign(const uint8_t *private_key, size_t private_key_len,
                            const uint8_t *digest, size_t digest_len, const uint8_t *context, size_t context_len,
@@ -443,6 +454,9 @@ uint32_t mldsa87_sign(const uint8_t *private_key, size_t private_key_len, const 
 MLDSA_ANSWERS MLDSA_ARRAYS(4, 0) /* stack: MLDSA87_STACK_VERIFY */
 uint32_t mldsa87_verify(const uint8_t *public_key, size_t public_key_len, const uint8_t *message, size_t message_len,
                         const uint8_t *context, size_t context_len, const uint8_t *signature, size_t signature_len);
+MLDSA_ANSWERS MLDSA_ARRAYS(4, 0) /* stack: MLDSA87_STACK_VERIFY */
+uint32_t mldsa87_accepts(const uint8_t *public_key, size_t public_key_len, const uint8_t *message, size_t message_len,
+                         const uint8_t *context, size_t context_len, const uint8_t *signature, size_t signature_len);
 MLDSA_ANSWERS MLDSA_ARRAYS(5, 1) /* stack: MLDSA87_STACK_SIGN */
 uint32_t mldsa87_hash_sign(const uint8_t *private_key, size_t private_key_len,
                            const uint8_t *digest, size_t digest_len, const uint8_t *context, size_t context_len,
@@ -582,7 +596,7 @@ uint32_t mldsa87_seed_from_der(const uint8_t *seed_der, size_t seed_der_len, uin
  *
  * Pieces of a message: mldsa_mu_update adds one to the message of a state that mu_begin or mu_begin_private wrote, and
  * mldsa_mu_finish writes mu of it, of MLDSA_MU_LEN bytes; the state stays as it is, so that more can be added. A state is no
- * secret beyond its message, and may be copied. Any bytes are safe in it. MLDSA_BROKEN_STATE is the answer where its last byte is
+ * secret beyond its message, and may be copied. Any bytes are safe in it. MLDSA_BROKEN_STATE is the result where its last byte is
  * 0, as in the zeros that a forgotten mu_begin leaves, or above 136, which no call writes; any other array gives mu of something. */
 #define MLDSA_STACK_MU 3328
 MLDSA_ANSWERS MLDSA_ARRAYS(1, 0) MLDSA_ARRAY(read_write, 3, 4)
@@ -595,12 +609,16 @@ MLDSA_ANSWERS
 uint32_t mldsa_version(void);
 
 /* Whether a digest and the object identifier of its hash function can be signed: MLDSA_DONE, or
- * what hash_sign would answer of them. Takes next to no time, so ask before you draw random bytes.
+ * what hash_sign would return of them. Takes next to no time, so ask before you draw random bytes.
  * [MLDSA_OID_EMPTY, MLDSA_OID_NOT_DER, MLDSA_DIGEST_TOO_LONG, MLDSA_DIGEST_LENGTH] */
 MLDSA_ANSWERS MLDSA_ARRAYS(2, 0)
 uint32_t mldsa_check_pre_hash(const uint8_t *digest, size_t digest_len, const uint8_t *oid, size_t oid_len);
 
-/* The text of an answer. */
+/* The text of an answer, or of another number. mldsa_text_of writes the same into an array of MLDSA_TEXT_LEN bytes, with zeros
+ * behind it, for languages that load the library and read no header. [mldsa_text_of: MLDSA_WRONG_LENGTH] */
+#define MLDSA_TEXT_LEN 64
+MLDSA_ANSWERS MLDSA_ARRAY(write_only, 2, 3)
+uint32_t mldsa_text_of(uint32_t status, uint8_t *text, size_t text_len);
 static inline const char *mldsa_text(uint32_t status)
 {
     switch (status) {

@@ -2,7 +2,7 @@
  *
  * `scripts/archive x86-64` puts two compilations of the same proved code into one library: for the level x86-64-v2, which
  * every call needs, and for x86-64-v3 (AVX2, BMI1 and 2, FMA, F16C, LZCNT, MOVBE, with the system saving the wide
- * registers), which is faster. Both give the same answers. A program needs nothing of this header: the first call asks the
+ * registers), which is faster. Both give the same results. A program needs nothing of this header: the first call asks the
  * processor, and from then on calls take the code of the highest level that it has.
  */
 #ifndef MLDSA_X86_64_H

@@ -219,7 +219,7 @@ function done([status, ...written], named = {}) {
     throw new MlDsaError(status, named[name] && `${name} has ${named[name].length} bytes${limit}`);
 }
 
-/** The answer to a question. */
+/** The result of a question. */
 function answer([status]) {
     if (status > NO) {
         throw new MlDsaError(status);

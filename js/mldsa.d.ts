@@ -196,7 +196,7 @@ export interface MlDsa {
      * The DER of a private key by its expanded key.
      * @example
      * mlDsa65.privateKeyToDer(privateKey).length; // 4060
-     * @throws `MlDsaError` 25 for one that `isPair` says no to, 15.
+     * @throws `MlDsaError` 25 for one of which `isPair` is false, 15.
      */
     privateKeyToDer(privateKey: Uint8Array): Uint8Array;
     /**

@@ -4,6 +4,7 @@ import email.utils
 import json
 import pathlib
 import re
+import sys
 
 import completions
 import exports
@@ -17,6 +18,8 @@ HERE = pathlib.Path(__file__).resolve().parent
 X86, ARM = "x86_64", "aarch64"
 MULTIARCH = "x86_64-linux-gnu"
 PAGES = ("CHANGELOG.md", "LICENSE", "README.md", "SECURITY.md")
+# What pages say of a checkout, and what is true of a release.
+RELEASED = {"README.md": ("; none is published yet", ""), "CHANGELOG.md": (", not released yet", ", {day}")}
 
 
 class Facts:
@@ -162,7 +165,7 @@ def archive_x86(facts, library, shared, program, provenance):
     development(tree, facts, "lib")
     manual_of_library(tree, facts, "share/man/man3")
     of_program(tree, facts, program)
-    documents(tree, provenance)
+    documents(tree, facts, provenance)
     examples(tree, "share/doc/mldsa")
     marks = {
         "SYSTEM": "Linux on x86-64, with AVX2 where the processor has it", "LIBRARIES": f"libmldsa.a and {shared.name}",
@@ -182,7 +185,7 @@ def archive_arm(facts, library, provenance):
     manual_of_library(tree, facts, "share/man/man3")
     for name in [name for name in tree.paths() if "mldsa_x86_64" in name]:
         tree.files.pop(name, None)
-    documents(tree, provenance)
+    documents(tree, facts, provenance)
     examples(tree, "share/doc/mldsa")
     marks = {"SYSTEM": "Linux on 64-bit ARM", "LIBRARIES": "libmldsa.a", "PROGRAM": "", "COMPLETIONS": "",
              "TARGETS": "mldsa::static"}
@@ -210,9 +213,28 @@ def examples(tree, folder):
         tree.take(f"{folder}/{file.name}", file)
 
 
-def documents(tree, provenance, folder="share/doc/mldsa"):
+def page(facts, name):
+    """A page as a package has it: it says what is true of a release, its links lead to the Web or to a page beside it,
+    and it has no pictures."""
+    before, after = RELEASED.get(name, ("", ""))
+    said = text(name)
+    if before not in said:
+        sys.exit(f"{name} no longer says '{before}', which no package may say: mend RELEASED of packaging/contents.py")
+
+    def link(found):
+        words, to = found.groups()
+        file = to.partition("#")[0]
+        if "://" in to or file in PAGES:
+            return found[0]
+        return f"`{file}` of the source" if words == file.rpartition("/")[2] else f"{words} (`{file}` of the source)"
+
+    said = re.sub(r"^!\[.*\]\(.*\)\n\n", "", said.replace(before, after.format(day=facts.day)), flags=re.M)
+    return re.sub(r"\[([^][]*)\]\(([^()]*)\)", link, said)
+
+
+def documents(tree, facts, provenance, folder="share/doc/mldsa"):
     for name in PAGES:
-        tree.take(f"{folder}/{name}", TOP / name)
+        tree.put(f"{folder}/{name}", page(facts, name))
     tree.put(f"{folder}/PROVENANCE", provenance)
 
 

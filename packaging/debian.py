@@ -2,7 +2,7 @@
 
 import contents
 import pack
-from common import TOP, text
+from common import text
 
 LIBRARY = f"usr/lib/{contents.MULTIARCH}"
 # Debian's amd64 has processors below x86-64-v2: this package installs on none of them.
@@ -52,9 +52,9 @@ def packages(facts, library, shared, program, provenance):
     def package(name, section, first, more, tree, **fields):
         tree.put(f"usr/share/doc/{name}/copyright", copyright_text())
         tree.put(f"usr/share/doc/{name}/changelog.Debian.gz", pack.gzipped(changes.encode()))
-        tree.put(f"usr/share/doc/{name}/changelog.gz", pack.gzipped((TOP / "CHANGELOG.md").read_bytes()))
+        for page, place in (("CHANGELOG.md", "changelog"), ("README.md", "README.md"), ("SECURITY.md", "SECURITY.md")):
+            tree.put(f"usr/share/doc/{name}/{place}.gz", pack.gzipped(contents.page(facts, page).encode()))
         tree.put(f"usr/share/doc/{name}/PROVENANCE", provenance)
-        tree.put(f"usr/share/doc/{name}/README.md.gz", pack.gzipped((TOP / "README.md").read_bytes()))
         lines = {
             "Package": name, "Source": "mldsa", "Version": version, "Architecture": "amd64",
             "Maintainer": facts.maintainer, **homepage,

@@ -95,7 +95,7 @@ def summary(said):
 
 
 class Family:
-    """Calls that one text describes: their names, the text, and the answers that the text names in brackets. `stack` is
+    """Calls that one text describes: their names, the text, and the results that the text names in brackets. `stack` is
     the constant of their stack, where a declaration has none of its own."""
 
     def __init__(self, names, said, header=HEADER, stack=None):
@@ -153,7 +153,7 @@ def singles(source, header):
 
 
 def statuses(header):
-    """The answers: their names in order, with numbers and texts."""
+    """The results: their names in order, with numbers and texts."""
     inside = re.search(r"enum mldsa_status \{(.*?)\};", header, re.S)[1]
     return re.findall(r"(MLDSA_\w+) = (\d+),?\s*/\* (.*?) \*/", inside)
 
@@ -214,7 +214,9 @@ def stack(family, header):
     rows: dict[tuple[str, str], list[str]] = {}
     beside = {name: constant for constant, name in
               re.findall(r"/\* stack: (\w+) \*/\n\w+ mldsa65_(\w+)\(", header)}
-    for name in [name for name in family.names if family.of_set and name in beside]:
+    for name in family.names if family.of_set else []:
+        if name not in beside:
+            sys.exit(f"c/mldsa.h does not say what stack {name} needs")
         constant = beside[name]
         at_sets = [constant.replace("65", number) for number in SETS] if "65" in constant else [constant]
         said = ", ".join(f"`{it}`" for it in dict.fromkeys(at_sets))
@@ -251,19 +253,24 @@ def lengths(family, header):
 
 
 def answers(family, header):
-    """The section on what a family's calls answer."""
+    """The section on what a family's calls return."""
     known = {name: (value, words) for name, value, words in statuses(header)} if family.header == HEADER else {}
     said = known.keys() & {*re.findall(r"MLDSA_[A-Z_]+", f"{family.answers} {family.text}")}
     said |= {name for name, (_, words) in known.items()
              if any(re.search(rf"\b{call}\b", words) for call in family.names)}
     head = "## RETURN VALUE\n\n"
     if family.answers.startswith("as the calls "):
-        return f"{head}{named('The answers are those of ' + family.answers.removeprefix('as ') + '.')}\n\n"
+        return f"{head}{named('The results are those of ' + family.answers.removeprefix('as ') + '.')}\n\n"
     if family.answers == "as is_pair":
         said |= {"MLDSA_NO", "MLDSA_KEY_RANGE", "MLDSA_SAMPLING_LIMIT"}
+    if re.fullmatch(r"\d or \d", family.answers):
+        return f"{head}{family.answers}.\n\n"
     if not said:
         return ""
-    said |= {"MLDSA_YES" if "MLDSA_NO" in said else "MLDSA_DONE", "MLDSA_WRONG_LENGTH"}
+    said.add("MLDSA_YES" if "MLDSA_NO" in said else "MLDSA_DONE")
+    # Where every array may have any length, none is wrong.
+    if not all(size.startswith("any") for _, size in lengths(family, header)):
+        said.add("MLDSA_WRONG_LENGTH")
     if "MLDSA_NO" in said and len(family.names) > 1:
         said.add("MLDSA_DONE")
     which = f"{named(f'By call: {family.answers}.')}\n\n" if ":" in family.answers else ""

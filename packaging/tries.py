@@ -2,6 +2,7 @@
 fresh HOME, a PATH of /usr/bin and /bin, and, where this may be done, with the folders of the repository and of the kit
 hidden."""
 import functools
+import gzip
 import hashlib
 import os
 import pathlib
@@ -350,9 +351,20 @@ class Tries(unittest.TestCase):
         top = room.unpacked("mldsa-*-x86_64-linux.tar.gz", "manual")
         if "sign and verify files" not in room.run("man", "-M", top / "share/man", "1", "mlsign"):
             raise Failed("man mlsign shows no page")
-        for name in ("mldsa65_sign", "mldsa44_hash_verify", "mldsa_mu_finish", "mldsa"):
-            if "#include <mldsa.h>" not in room.run("man", "-M", top / "share/man", "3", name):
-                raise Failed(f"man {name} shows no page")
+        # Of some pages what they have to say: the targets of CMake, what musl's threads want, each answer.
+        wanted: dict[str, list[str]] = {
+            "mldsa65_sign": [], "mldsa44_hash_verify": [], "mldsa_mu_finish": [], "mldsa_text": ["mldsa_text_of"],
+            "mldsa": ["mldsa::static", "mldsa::shared", "pthread_attr_setstacksize"],
+            "mldsa65_accepts": ["1 or 0", "MLDSA65_STACK_VERIFY"],
+        }
+        for name, words in wanted.items():
+            said = room.run("man", "-M", top / "share/man", "3", name)
+            for word in ["#include <mldsa.h>", *words]:
+                if word not in said:
+                    raise Failed(f"man {name} does not show {word}")
+        said = room.run("man", "-M", top / "share/man", "3", "mldsa_check_pre_hash")
+        expect("the answers of mldsa_check_pre_hash(3)", re.findall(r"^ +MLDSA_\w+ \((\d+)\)$", said, re.M),
+               ["0", "7", "8", "9", "10"])
         pages = sorted(page for page in (top / "share/man").rglob("*.[13]") if not page.is_symlink())
         for page in pages:
             said = room.run("sh", "-c", 'man --warnings -E UTF-8 -l "$1" 2>&1 > /dev/null', "sh", page)
@@ -461,6 +473,31 @@ class Tries(unittest.TestCase):
             if not said.endswith(wanted):
                 raise Failed(f"the lines of {name}/README.md do not print {wanted!r}:\n{said}")
 
+    @wants("tar", "dpkg-deb")
+    def test_in_links(self, room):
+        """No page in a package has a link that leads nowhere, or says what is true of a checkout alone."""
+        folder, found = room.folder("in-links"), 0
+        unpack = {".deb": ["dpkg-deb", "--extract"], ".whl": ["python3", "-m", "zipfile", "-e"]}
+        for file in (it for ending in ("gz", "crate", "deb", "whl") for it in room.dist.glob(f"*{ending}")):
+            own = folder / file.name
+            own.mkdir()
+            words = [*unpack[file.suffix], file] if file.suffix in unpack else ["tar", "-xzf", file, "-C"]
+            room.run(*words, own)
+            pages = [it for it in own.rglob("*") if re.search(r"\.md(\.gz)?$|/(changelog\.gz|METADATA)$", str(it))]
+            for page in pages:
+                content = page.read_bytes()
+                said = (gzip.decompress(content) if page.suffix == ".gz" else content).decode()
+                # What stands in code is no link.
+                prose = re.sub(r"^```.*?^```$|^    [^\n]*$|`[^`\n]*`", "", said, flags=re.M | re.S)
+                links = re.findall(r"\]\(([^()#]+)[^()]*\)", prose)
+                dead = [it for it in links if "://" not in it
+                        and not any((page.parent / f"{it}{more}").exists() for more in ("", ".gz"))]
+                expect(f"dead links of {page.relative_to(folder)}", dead, [])
+                stale = re.findall(r"none is published yet|not released yet", said)
+                expect(f"what {page.relative_to(folder)} says of a checkout", stale, [])
+                found += 1
+        expect("that there are pages", found > 9, True)
+
     @wants()
     def test_in_and_out(self, room):
         """The archive is installed and taken out again, and nothing is left; a program finds what is installed."""
@@ -468,6 +505,8 @@ class Tries(unittest.TestCase):
         prefix = room.path / "a new folder/of several" / "levels"
         room.run(top / "install", "--prefix", prefix)
         expect("mlsign --version", room.run(prefix / "bin/mlsign", "--version").strip(), room.said_version)
+        summed = re.search(r"^(\w{64})  mlsign$", (room.dist / "PROVENANCE").read_text(encoding="utf-8"), re.M)[1]
+        expect("the sum of mlsign", hashlib.sha256((prefix / "bin/mlsign").read_bytes()).hexdigest(), summed)
         made = {path for path in all_paths(top) if not path.startswith(("install", "README"))}
         expect("what is not installed", made - set(all_paths(prefix)), set())
         room.run(top / "install", "--prefix", prefix)

@@ -41,17 +41,13 @@ from typing import Dict, Tuple
 VERSION: int = {version:#08x}
 VERSION_TEXT: str = "{text}"
 
-# Of each call over arrays alone: of each of them, whether it is written.
-CALLS: Dict[str, Tuple[bool, ...]] = {{
+# Of each call, how many numbers stand before its arrays; and of each of these, whether it is written.
+CALLS: Dict[str, Tuple[int, Tuple[bool, ...]]] = {{
 {calls}}}
 
-# Lengths, stacks and answers.
+# Lengths, stacks and results.
 NUMBERS: Dict[str, int] = {{
 {numbers}}}
-
-# The text of each answer.
-TEXTS: Dict[int, str] = {{
-{texts}}}
 
 # The object identifiers of hash functions in DER.
 OIDS: Dict[str, bytes] = {{
@@ -62,14 +58,14 @@ OIDS: Dict[str, bytes] = {{
 def interface():
     """The module that says what c/mldsa.h says."""
     header = text("c/mldsa.h")
-    calls = {it.name: it.arrays() for it in exports.exports() if it.arrays() is not None}
+    calls = {it.name: (int(bool(it.number())), tuple(written for _, written in it.arrays()))
+             for it in exports.exports()}
     numbers = dict(re.findall(r"^#define (MLDSA\w*_(?:LEN|STACK_\w+)) (\d+)$", header, re.M))
     statuses = dict(re.findall(r"^    (MLDSA_\w+) = (\d+),? +/\*", header, re.M))
-    texts = {int(statuses[name]): text for name, text in re.findall(r'case (MLDSA_\w+): return "(.*)";', header)}
     front = re.search(r'^#define MLDSA_OID\(n\) \(\(const uint8_t \*\)"(.*)" n\)$', header, re.M)[1]
     oids = re.findall(r'^#define MLDSA_OID_(\w+) MLDSA_OID\("(.*)"\)$', header, re.M)
-    if len(texts) != len(set(statuses.values())) or len(oids) != 12:
-        sys.exit("c/mldsa.h: its answers or object identifiers are not read here")
+    if len(oids) != 12:
+        sys.exit("c/mldsa.h: its object identifiers are not read here")
 
     def written(rows):
         return "".join(f"    {name!r}: {value},\n" for name, value in rows).replace("'", '"')
@@ -77,9 +73,8 @@ def interface():
     return INTERFACE.format(
         version=int(re.search(r"^#define MLDSA_VERSION (\w+)$", header, re.M)[1], 16),
         text=re.search(r'^#define MLDSA_VERSION_TEXT "(.*)"$', header, re.M)[1],
-        calls=written((name, tuple(written for _, written in arrays)) for name, arrays in calls.items()),
+        calls=written(calls.items()),
         numbers=written({**numbers, **statuses}.items()),
-        texts="".join(f'    {status}: "{text}",\n' for status, text in sorted(texts.items())),
         oids="".join(f'    "{name}": b"{front}{last}",\n' for name, last in oids),
     )
 

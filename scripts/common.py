@@ -1,13 +1,24 @@
-"""What the scripts share: places of the repository, commands that have to succeed, the crates and their order, recorded
-values."""
+"""What the scripts share: places of the repository, commands that have to succeed, processors, the crates and their
+order, recorded and published values."""
 import hashlib
+import os
 import pathlib
+import platform
 import shutil
 import subprocess
 import sys
 
 TOP = pathlib.Path(__file__).resolve().parent.parent
 SETS = ("44", "65", "87")
+# The kind of processor that this machine has.
+NATIVE = "aarch64" if platform.machine() in ("aarch64", "arm64") else "x86-64"
+# What C2SP publishes (CCTV, "accumulated"): the SHAKE128 of 100 public keys and signatures of each set. The seeds are
+# the output of SHAKE128 for no message; each key signs the empty message under the empty context with 32 bytes 00.
+ACCUMULATED = {
+    "44": "d51148e1f9f4fa1a723a6cf42e25f2a99eb5c1b378b3d2dbbd561b1203beeae4",
+    "65": "8358a1843220194417cadbc2651295cd8fc65125b5a5c1a239a16dc8b57ca199",
+    "87": "8c3ad714777622b8f21ce31bb35f71394f23bc0fcf3c78ace5d608990f3b061b",
+}
 
 
 def text(name):
@@ -38,12 +49,20 @@ def missing(*tools, path=None):
     return [tool for tool in tools if not shutil.which(tool, path=path)]
 
 
+def emulator(processor):
+    """The words before a program for another kind of processor than this machine's; none before one for its own."""
+    arm = processor == "aarch64"
+    if arm == (NATIVE == "aarch64"):
+        return []
+    # Debian has the C library of the other kind in one of two places; a loader and a library of both do not fit.
+    loader = "/lib/ld-linux-aarch64.so.1" if arm else "/lib64/ld-linux-x86-64.so.2"
+    kind = "aarch64" if arm else "x86_64"
+    return [f"qemu-{kind}", *([] if os.path.exists(loader) else ["-L", f"/usr/{kind}-linux-gnu"])]
+
+
 def archives(*processors):
     """The static library for each of the processors, which is built first where it is not current."""
-    done = subprocess.run([TOP / "scripts/archive", *processors], stdout=subprocess.PIPE, text=True, check=False)
-    if done.returncode:
-        sys.exit(f"the library for {', '.join(processors)} was not built")
-    return [pathlib.Path(line) for line in done.stdout.splitlines()]
+    return [pathlib.Path(line) for line in command(TOP / "scripts/archive", *processors, stderr=None).splitlines()]
 
 
 def note_of(file):

@@ -12,63 +12,23 @@ import re
 
 from specs import files
 
-TOKEN = re.compile(r'\s*(?:("[^"]*")|(0x[0-9A-Fa-f]+|\d+)|([^\W\d][\w\']*)|(\.(?=\w)|[+\-*≤<]ℤ|\+\+|&&|\|\||\S))')
-LEVELS = [
-    ("→",),
-    ("↔",),
-    ("⊎",),
-    ("×",),
-    ("≡", "≢"),
-    ("||",),
-    ("&&",),
-    ("<", "≤", "<ℤ", "≤ℤ"),
-    ("∷", "++"),
-    ("+", "-", "+ℤ", "-ℤ", "⊕"),
-]
+TOKEN = re.compile(
+    r'\s*(?:(?P<text>"[^"]*")|(?P<number>0x[0-9A-Fa-f]+|\d+)|(?P<name>[^\W\d][\w\']*)|(?P<field>(?<=\S)\.(?=\w))'
+    r"|(?P<sign>[+\-*≤<]ℤ|\+\+|&&|\|\||\S))")
+LEVELS = [("→",), ("↔",), ("⊎",), ("×",), ("≡", "≢"), ("||",), ("&&",), ("<", "≤", "<ℤ", "≤ℤ"), ("∷", "++"),
+          ("+", "-", "+ℤ", "-ℤ", "⊕")]
 LEVELS += [("*", "/", "%", "*ℤ"), ("^",)]
+KEYWORDS = ("in", "then", "else")
 RIGHT = {"∷", "++", "^", "&&", "||", "→", "⊎", "×"}
-OPERATOR = {
-    "→": "(not {} or {})",
-    "↔": "({} == {})",
-    "⊎": "({} or {})",
-    "×": "({} and {})",
-    "≢": "(not same({}, {}))",
-    "≡": "same({}, {})",
-    "||": "({} or {})",
-    "&&": "({} and {})",
-    "<": "({} < {})",
-    "≤": "({} <= {})",
-    "<ℤ": "({} < {})",
-    "≤ℤ": "({} <= {})",
-    "∷": "(({},) + listed({}))",
-    "++": "(listed({}) + listed({}))",
-    "+": "({} + {})",
-    "-": "less({}, {})",
-    "+ℤ": "({} + {})",
-    "-ℤ": "({} - {})",
-    "*": "({} * {})",
-    "*ℤ": "({} * {})",
-    "/": "over({}, {})",
-    "%": "modulo({}, {})",
-    "^": "({} ** {})",
-    "⊕": "({} ^ {})",
-}
+OPERATOR = {"→": "(not {} or {})", "↔": "({} == {})", "⊎": "({} or {})", "×": "({} and {})", "≢": "(not same({}, {}))",
+            "≡": "same({}, {})", "||": "({} or {})", "&&": "({} and {})", "<": "({} < {})", "≤": "({} <= {})",
+            "<ℤ": "({} < {})", "≤ℤ": "({} <= {})", "∷": "(({},) + listed({}))", "++": "(listed({}) + listed({}))",
+            "+": "({} + {})", "-": "less({}, {})", "+ℤ": "({} + {})", "-ℤ": "({} - {})", "*": "({} * {})",
+            "*ℤ": "({} * {})", "/": "over({}, {})", "%": "modulo({}, {})", "^": "({} ** {})", "⊕": "({} ^ {})"}
 
 
 class Unparsed(Exception):
     """A text that is no plain definition: a type, a proposition that cannot be decided, or a proof."""
-
-
-def tokens(text):
-    text = re.sub(r"--.*", "", text)
-    found, place = [], 0
-    text = text.rstrip()
-    while place < len(text):
-        match = TOKEN.match(text, place)
-        kind = ("text", "number", "name", "sign")[[bool(part) for part in match.groups()].index(True)]
-        found.append((kind, match.group(match.lastindex), match.start(match.lastindex)))
-        place = match.end()
-    return found
 
 
 class Parser:
@@ -76,24 +36,43 @@ class Parser:
     `lambda`, `all`, `record`, `pair`, `field` or `list`."""
 
     def __init__(self, text):
-        self.tokens, self.place = tokens(text), 0
+        found = TOKEN.finditer(re.sub(r"--.*", "", text))
+        self.tokens, self.place = [(token.lastgroup, token[token.lastgroup]) for token in found], 0
+
+    def token(self, ahead=0):
+        """The kind and the word of a token, both empty behind the end."""
+        return self.tokens[self.place + ahead] if self.place + ahead < len(self.tokens) else ("", "")
 
     def peek(self, ahead=0):
-        return self.tokens[self.place + ahead][1] if self.place + ahead < len(self.tokens) else ""
-
-    def kind(self):
-        return self.tokens[self.place][0] if self.place < len(self.tokens) else ""
+        return self.token(ahead)[1]
 
     def take(self, wanted=None):
-        if self.place >= len(self.tokens) or (wanted and self.peek() != wanted):
-            raise Unparsed(f"{wanted} for {self.peek()}")
+        kind, word = self.token()
+        if not kind or (wanted and word != wanted):
+            raise Unparsed(f"{wanted} for {word}")
         self.place += 1
-        return self.tokens[self.place - 1][1]
+        return word
 
-    def skipped(self, opening="{", closing="}"):
+    def whole(self):
+        """A term to the end of the text."""
+        tree = self.term()
+        if self.peek():
+            raise Unparsed(self.peek())
+        return tree
+
+    def until(self, wanted):
+        """The words before one that is wanted, which goes too."""
+        words = []
+        while self.peek() != wanted:
+            words.append(self.take())
+        self.take()
+        return words
+
+    def skipped(self):
+        """Passes over braces."""
         depth = 0
         while True:
-            depth += {opening: 1, closing: -1}.get(self.take(), 0)
+            depth += {"{": 1, "}": -1}.get(self.take(), 0)
             if depth == 0:
                 return
 
@@ -104,21 +83,16 @@ class Parser:
             return self.all()
         if self.peek() == "let":
             self.take()
-            name = self.take()
-            if self.peek() == ":":
-                while self.peek() != "=":
-                    self.take()
-            self.take("=")
+            name, _ = self.take(), self.until("=")
             value = self.term()
             self.take("in")
             return ("let", name, value, self.term())
         if self.peek() == "if":
-            self.take()
-            test = self.term()
-            self.take("then")
-            one = self.term()
-            self.take("else")
-            return ("if", test, one, self.term())
+            parts = []
+            for word in ("if", "then", "else"):
+                self.take(word)
+                parts.append(self.term())
+            return ("if", *parts)
         if level == len(LEVELS):
             return self.application()
         left = self.term(level + 1)
@@ -130,23 +104,13 @@ class Parser:
     def quantified(self):
         """Whether names with their type stand here, as `(i j : ℕ)`."""
         ahead = 1
-        while (
-            self.peek() == "("
-            and self.place + ahead < len(self.tokens)
-            and self.tokens[self.place + ahead][0] == "name"
-        ):
+        while self.token(ahead)[0] == "name":
             ahead += 1
-        return ahead > 1 and self.peek(ahead) == ":"
+        return self.peek() == "(" and ahead > 1 and self.peek(ahead) == ":"
 
     def all(self):
         self.take("(")
-        names, words = [], []
-        while self.peek() != ":":
-            names.append(self.take())
-        self.take(":")
-        while self.peek() != ")":
-            words.append(self.take())
-        self.take(")")
+        names, words = self.until(":"), self.until(")")
         if not self.quantified():
             self.take("→")
         return ("all", names, " ".join(words), self.term())
@@ -157,59 +121,49 @@ class Parser:
         while self.peek() != ".":
             if self.peek() == "(":
                 self.take()
-                while self.peek() != ":":
-                    names.append(self.take())
-                while self.peek() != ")":
-                    self.take()
-                self.take()
+                names += self.until(":")
+                self.until(")")
             else:
                 names.append(self.take())
-        self.take(".")
+        self.take()
         return ("lambda", names, self.term())
 
     def application(self):
         head = self.atom()
         arguments = []
         while True:
-            if self.peek() == "{":
+            kind, word = self.token()
+            if word == "{":
                 self.skipped()
-            elif (
-                self.kind() in ("number", "text")
-                or self.peek() in ("(", "[")
-                or (self.kind() == "name" and self.peek() not in ("in", "then", "else"))
-            ):
+            elif kind in ("number", "text") or word in ("(", "[") or kind == "name" and word not in KEYWORDS:
                 arguments.append(self.atom())
-            elif self.peek() == "λ":
+            elif word == "λ":
                 arguments.append(self.function())
             else:
                 return ("apply", head, arguments) if arguments else head
 
     def atom(self):
-        kind, word = self.kind(), self.take()
+        kind, word = self.token()[0], self.take()
         tree: tuple
         if kind == "number":
             tree = ("number", int(word, 0))
         elif kind == "text":
             tree = ("text", word[1:-1])
         elif word == "record":
-            base = None if self.peek() == "{" else self.atom()
+            base, fields = None if self.peek() == "{" else self.atom(), []
             self.take("{")
-            fields = []
             while self.peek() != "}":
-                name = self.take()
-                self.take("=")
+                name, _ = self.take(), self.take("=")
                 fields.append((name, self.term()))
                 if self.peek() == ";":
                     self.take()
-            self.take("}")
+            self.take()
             tree = ("record", base, fields)
-        elif kind == "name":
+        elif kind == "name" or word == "⊥":
             tree = ("name", word)
         elif word == "[":
             self.take("]")
             tree = ("list",)
-        elif word == "⊥":
-            tree = ("name", word)
         elif word == "(":
             parts = [self.term()]
             while self.peek() == ",":
@@ -220,19 +174,10 @@ class Parser:
             tree = parts[0] if len(parts) == 1 else ("pair", parts)
         else:
             raise Unparsed(word)
-        while (
-            self.peek() == "."
-            and self.tokens[self.place][0] == "sign"
-            and self.place + 1 < len(self.tokens)
-            and self.tokens[self.place + 1][2] == self.tokens[self.place][2] + 1
-            and self.tokens[self.place][2] == self.end(self.place - 1)
-        ):
+        while self.token()[0] == "field":
             self.take()
             tree = ("field", tree, self.take())
         return tree
-
-    def end(self, place):
-        return self.tokens[place][2] + len(self.tokens[place][1])
 
 
 # ---- Values
@@ -384,11 +329,11 @@ def whole(n):
     return n
 
 
+NOTHING = Made("None", ())
+
+
 def some(x):
     return Made("Some", (x,))
-
-
-NOTHING = Made("None", ())
 
 
 def option_and_then(f, x):
@@ -478,25 +423,14 @@ LIBRARY = {
     "sha512": (1, lambda xs: tuple(hashlib.sha512(bytes(listed(xs))).digest())),
 }
 CONSTANTS = {"zero": 0, "true": True, "false": False, "⊥": False, "w16": 2, "w32": 4, "w64": 8, "None": NOTHING}
+# The constructors of numbers: when a number is of one, and of what.
+NUMBERS = {"suc": ("> 0", "({} - 1)"), "pos": (">= 0", "{}"), "negsuc": ("< 0", "(-{} - 1)")}
 CONSTRUCTORS = {"Some": 1, "Ok": 1, "Err": 1, "None": 0}
 # Arguments of definitions that are computed when they are asked for, since where they are not, they need not have a
 # value that computes.
 LATER = {"refused_or": {1}}
-FAULTS = (
-    "KeyGenRng",
-    "SignCtx",
-    "SignRng",
-    "HashCtx",
-    "OidEmpty",
-    "OidNotDer",
-    "DigestTooLong",
-    "DigestLength",
-    "HashRng",
-    "InternalRng",
-    "TooManyAttempts",
-    "KeyRange",
-    "SamplingLimit",
-)
+FAULTS = ("KeyGenRng", "SignCtx", "SignRng", "HashCtx", "OidEmpty", "OidNotDer", "DigestTooLong", "DigestLength",
+          "HashRng", "InternalRng", "TooManyAttempts", "KeyRange", "SamplingLimit")
 CONSTRUCTORS.update({name: 0 for name in FAULTS})
 
 
@@ -506,13 +440,7 @@ CONSTRUCTORS.update({name: 0 for name in FAULTS})
 def fields(definition):
     """The parameters of a record of facts, and its fields as names and trees."""
     head, *lines = definition.text.split("\n  pub ")
-    found = []
-    for line in lines:
-        name, _, text = line.partition(" : ")
-        parser = Parser(text)
-        found.append((name, parser.term()))
-        if parser.peek():
-            raise Unparsed(parser.peek())
+    found = [(name, Parser(text).whole()) for name, _, text in (line.partition(" : ") for line in lines)]
     return [name for names in re.findall(r"\(([\w' ]+) : ", head) for name in names.split()], found
 
 
@@ -540,11 +468,8 @@ class Existence:
 
     def __init__(self, program, name, parameters, found, values=()):
         self.program, self.name, self.parameters, self.found, self.code = program, name, parameters, found, {}
-        self.values = values or [
-            name
-            for place, (name, _) in enumerate(found)
-            if any(name in names_in(tree) for _, tree in found[place + 1 :])
-        ]
+        self.values = values or [name for place, (name, _) in enumerate(found)
+                                 if any(name in names_in(tree) for _, tree in found[place + 1 :])]
         self.facts = [tree for name, tree in found if name not in self.values]
         self.uses = [names_in(tree) for tree in self.facts]
 
@@ -579,13 +504,10 @@ class Existence:
             left = []
             for place in waiting:
                 open_names = self.uses[place] & unknown
-                bound = (
-                    self.bound(self.facts[place], known, open_names)
-                    if open_names
-                    else {}
-                    if self.truth(self.facts[place], known)
-                    else None
-                )
+                if open_names:
+                    bound = self.bound(self.facts[place], known, open_names)
+                else:
+                    bound = {} if self.truth(self.facts[place], known) else None
                 if bound is None:
                     return None
                 if open_names and not bound:
@@ -634,32 +556,23 @@ def clauses(definition):
         return facts(definition)
     if definition.kind:
         return []
-    found, here = [], None
-    for line in definition.lines[0:]:
-        if (
-            line.startswith(definition.name + " ")
-            and " = " in line + " "
-            and not line.startswith(definition.name + " :")
-        ):
-            here = [line]
-            found.append(here)
-        elif here is not None:
-            here.append(line)
+    found, name = [], definition.name
+    for line in definition.lines:
+        if line.startswith(f"{name} ") and " = " in f"{line} " and not line.startswith(f"{name} :"):
+            found.append([])
+        if found:
+            found[-1].append(line)
     trees = []
     for lines in found:
-        parser = Parser("\n".join(lines))
-        parser.take(definition.name)
-        patterns = []
+        parser, patterns = Parser("\n".join(lines)), []
+        parser.take(name)
         while parser.peek() != "=":
             if parser.peek() == "{":
                 parser.skipped()
             else:
                 patterns.append(parser.atom())
-        parser.take("=")
-        tree = parser.term()
-        if parser.peek():
-            raise Unparsed(parser.peek())
-        trees.append((patterns, tree))
+        parser.take()
+        trees.append((patterns, parser.whole()))
     return trees
 
 
@@ -669,43 +582,32 @@ class Program:
     def __init__(self, all_files):
         self.space = dict(globals())
         self.arity, self.trees, self.made = {}, {}, dict(CONSTRUCTORS)
+        every = [definition for file in all_files for definition in file.definitions]
         # functions from numbers to numbers, whose values are kept
-        self.numeric = {
-            definition.name
-            for file in all_files
-            for definition in file.definitions
-            if definition.lines[0].endswith(f"{definition.name} : ℕ → ℕ")
-        }
+        self.numeric = {it.name for it in every if it.lines[0].endswith(f"{it.name} : ℕ → ℕ")}
         for name, (arity, code) in LIBRARY.items():
             self.arity[name] = arity
             self.space[mangled(name)] = code
-        for file in all_files:
-            for definition in file.definitions:
-                if definition.kind == "data":
-                    for line in definition.lines[1:]:
-                        names, _, kind = line.partition(" : ")
-                        arrows = sum(
-                            len(part.split(" :")[0].split()) for part in re.findall(r"\(([^()]*:[^()]*)\)", kind)
-                        ) or kind.count("→")
-                        self.made[names.strip()] = arrows
-        for file in all_files:
-            for definition in file.definitions:
-                try:
-                    trees = clauses(definition)
-                except (Unparsed, IndexError):
-                    continue
-                if trees:
-                    self.trees[definition.name] = trees
-                    self.arity[definition.name] = len(trees[0][0])
+        for line in (line for definition in every if definition.kind == "data" for line in definition.lines[1:]):
+            names, _, kind = line.partition(" : ")
+            given = [part.split(" :")[0] for part in re.findall(r"\(([^()]*:[^()]*)\)", kind)]
+            self.made[names.strip()] = len(" ".join(given).split()) or kind.count("→")
+        for definition in every:
+            try:
+                trees = clauses(definition)
+            except (Unparsed, IndexError):
+                continue
+            if trees:
+                self.trees[definition.name] = trees
+                self.arity[definition.name] = len(trees[0][0])
         # Records that state that values exist, and what reads the values of some from bytes.
         self.exist, self.readers = {}, {}
-        for file in all_files:
-            for definition in file.definitions:
-                if definition.kind == "record" and definition.name in self.trees:
-                    record = Existence(self, definition.name, *fields(definition))
-                    if record.is_determined():
-                        self.exist[definition.name] = record
-                    if record.is_determined() and record.values:
+        for definition in every:
+            if definition.kind == "record" and definition.name in self.trees:
+                record = Existence(self, definition.name, *fields(definition))
+                if record.is_determined():
+                    self.exist[definition.name] = record
+                    if record.values:
                         del self.trees[definition.name]
                         self.record(record)
         known = None
@@ -718,14 +620,13 @@ class Program:
 
     def record(self, record):
         """Makes the proposition anew that values exist of which the facts of this record hold."""
-        self.exist[record.name] = record
-        self.space[mangled(record.name)] = (
-            lambda *given: record.solved(dict(zip(record.parameters, given))) is not None
-        )
+        def holds(*given):
+            return record.solved(dict(zip(record.parameters, given))) is not None
+
+        self.exist[record.name], self.space[mangled(record.name)] = record, holds
 
     def define(self, name, trees):
         """Makes the function of a name anew from these equations."""
-        self.space["counter"] = 0
         try:
             source = self.source(name, trees)
         except Unparsed:
@@ -769,15 +670,10 @@ class Program:
             tests.append(f"len({value}) > 0")
             self.match(f"{value}[0]", pattern[2], tests, binds)
             self.match(f"run({value}, 1, len({value}))", pattern[3], tests, binds)
-        elif kind == "apply" and pattern[1] == ("name", "suc"):
-            tests.append(f"{value} > 0")
-            self.match(f"({value} - 1)", pattern[2][0], tests, binds)
-        elif kind == "apply" and pattern[1] == ("name", "pos"):
-            tests.append(f"{value} >= 0")
-            self.match(value, pattern[2][0], tests, binds)
-        elif kind == "apply" and pattern[1] == ("name", "negsuc"):
-            tests.append(f"{value} < 0")
-            self.match(f"(-{value} - 1)", pattern[2][0], tests, binds)
+        elif kind == "apply" and pattern[1][1] in NUMBERS:
+            test, of = NUMBERS[pattern[1][1]]
+            tests.append(f"{value} {test}")
+            self.match(of.format(value), pattern[2][0], tests, binds)
         elif kind == "apply" and pattern[1][1] in self.made:
             tests.append(f"{value}.name == {pattern[1][1]!r}")
             for place, part in enumerate(pattern[2]):
@@ -808,9 +704,8 @@ class Program:
             return f"(lambda v_{clean(tree[1])}: {inside})({self.later(tree[2], scope)})"
         if kind == "lambda":
             inside = {**scope, **{name: False for name in tree[1]}}
-            names = ", ".join(
-                f"v_{clean(name)}" if name != "_" else f"unused{place}" for place, name in enumerate(tree[1])
-            )
+            names = ", ".join(f"v_{clean(name)}" if name != "_" else f"unused{place}"
+                              for place, name in enumerate(tree[1]))
             return f"Function(lambda {names}: {self.code(tree[2], inside)}, {len(tree[1])})"
         if kind == "all":
             return self.every(tree, scope)
@@ -827,10 +722,8 @@ class Program:
             return self.name(tree[1], scope)
         head, arguments = tree[1], tree[2]
         late = LATER.get(head[1], ()) if head[0] == "name" and head[1] not in scope else ()
-        given = [
-            self.later(argument, scope) if place in late else self.code(argument, scope)
-            for place, argument in enumerate(arguments)
-        ]
+        given = [self.later(argument, scope) if place in late else self.code(argument, scope)
+                 for place, argument in enumerate(arguments)]
         if head[0] == "name" and head[1] not in scope:
             word = head[1]
             if word in self.made and self.made[word] == len(given):
@@ -854,19 +747,11 @@ class Program:
                 premises.append(tree[2])
             tree = tree[3]
         for name, kind in kinds.items():
-            bound = next(
-                (
-                    premise
-                    for premise in premises
-                    if premise[0] == "binary" and premise[1] in ("<", "≤") and premise[2] == ("name", name)
-                ),
-                None,
-            )
-            if kind == "ℕ" and bound:
-                premises.remove(bound)
-                loops += (
-                    f" for v_{clean(name)} in range({self.code(bound[3], inside)}{' + 1' if bound[1] == '≤' else ''})"
-                )
+            bounds = [it for it in premises if it[0] == "binary" and it[1] in ("<", "≤") and it[2] == ("name", name)]
+            if kind == "ℕ" and bounds:
+                premises.remove(bounds[0])
+                _, sign, _, bound = bounds[0]
+                loops += f" for v_{clean(name)} in range({self.code(bound, inside)}{' + 1' * (sign == '≤')})"
             elif re.fullmatch(r"(List )*V", kind):
                 loops += f" for v_{clean(name)} in ((),)"
             else:
@@ -880,23 +765,12 @@ class Program:
             return f"now(v_{clean(word)})" if scope[word] else f"v_{clean(word)}"
         if word in CONSTANTS:
             return {"None": "NOTHING"}.get(word, str(CONSTANTS[word]))
-        if word in self.made:
-            arity = self.made[word]
-            names = ", ".join(f"x{place}" for place in range(arity))
-            return (
-                f"Function(lambda {names}: Made({word!r}, ({names},)), {arity}, (), {word!r})"
-                if arity
-                else f"Made({word!r}, ())"
-            )
-        if word in self.arity:
-            arity = self.arity[word]
-            names = ", ".join(f"x{place}" for place in range(arity))
-            return (
-                f"Function(lambda {names}: {mangled(word)}({names}), {arity}, (), {word!r})"
-                if arity
-                else f"{mangled(word)}()"
-            )
-        raise Unparsed(word)
+        arity = self.made.get(word, self.arity.get(word))
+        if arity is None:
+            raise Unparsed(word)
+        names = ", ".join(f"x{place}" for place in range(arity))
+        call = f"Made({word!r}, ({names}{',' * (arity > 0)}))" if word in self.made else f"{mangled(word)}({names})"
+        return f"Function(lambda {names}: {call}, {arity}, (), {word!r})" if arity else call
 
     def value(self, name, *arguments):
         return self.space[mangled(name)](*arguments)

@@ -24,14 +24,19 @@ class Export:
         """The parameters as a declaration has them."""
         return ", ".join(f"{kind} {name}".replace("* ", "*") for kind, name in self.parameters) or "void"
 
+    def number(self):
+        """The name of the number that stands before the arrays; else None."""
+        return next((name for kind, name in self.parameters[:1] if kind == "uint32_t"), None)
+
     def arrays(self):
-        """The parameters as (name, whether it is written), where each is an array with its length; else None."""
-        found = []
-        for (kind, array), length in zip(self.parameters[::2], self.parameters[1::2]):
+        """The parameters behind a number as (name, whether it is written), where each is an array with its length; else
+        None."""
+        found, given = [], self.parameters[bool(self.number()):]
+        for (kind, array), length in zip(given[::2], given[1::2]):
             if kind not in ("const uint8_t *", "uint8_t *") or length != ("size_t", f"{array}_len"):
                 return None
             found.append((array, kind == "uint8_t *"))
-        return None if len(self.parameters) % 2 else found
+        return None if len(given) % 2 else found
 
 
 def exports():
@@ -81,8 +86,8 @@ def cases(found):
     names = {}
     for export in found:
         if export.arrays() is None:
-            sys.exit(f"mldsa.h: {export.name} takes something else than arrays and their lengths: write how "
-                     "c/tests/levels.c calls it")
+            sys.exit(f"mldsa.h: {export.name} takes something else than a number, and arrays with their lengths: write "
+                     "how c/tests/levels.c calls it")
         names |= {name: lengths(name) for name, _ in export.arrays()}
     rooms = {name: max(512, *(length + 1 for length in sizes)) for name, sizes in names.items()}
     lines = [f"enum {{ ARRAYS = {len(names)}, EXPORTS = {len(found)} }};\n"]
@@ -92,15 +97,17 @@ def cases(found):
     lines += [f'    {{"{name}", {{{", ".join(map(str, names[name]))}}}, {rooms[name]}}},\n' for name in names]
     lines += ["};\n"]
     for export in found:
-        given = ", ".join(f"a[ARRAY_{name}].at, a[ARRAY_{name}].len" for name, _ in export.arrays())
-        call = f"{export.name}({given})"
-        lines.append(f"static uint32_t call_{export.name}(struct array *a) {{ (void)a; return {call}; }}\n")
-    lines += ["struct export { const char *name; int set; uint32_t (*call)(struct array *); int count, "
+        given = ["number"] if export.number() else []
+        given += [f"a[ARRAY_{name}].at, a[ARRAY_{name}].len" for name, _ in export.arrays()]
+        lines += [f"static uint32_t call_{export.name}(struct array *a, uint32_t number)\n{{\n",
+                  f"    (void)a, (void)number;\n    return {export.name}({', '.join(given)});\n}}\n"]
+    # `done` is the answer of a call that is done, or the answer yes.
+    lines += ["struct export { const char *name; int set; uint32_t (*call)(struct array *, uint32_t), done; int count, "
               "arrays[ARRAYS], written[ARRAYS]; };\n", "static const struct export CALLS[EXPORTS] = {\n"]
     for export in found:
         number = re.match(r"mldsa(\d*)", export.name)[1] or "0"
         used = ", ".join(f"ARRAY_{name}" for name, _ in export.arrays()) or "0"
         written = ", ".join(str(int(is_written)) for _, is_written in export.arrays()) or "0"
-        count = len(export.arrays())
-        lines.append(f'    {{"{export.name}", {number}, call_{export.name}, {count}, {{{used}}}, {{{written}}}}},\n')
+        numbers = f"{int(export.name.endswith('_accepts'))}, {len(export.arrays())}"
+        lines.append(f'    {{"{export.name}", {number}, call_{export.name}, {numbers}, {{{used}}}, {{{written}}}}},\n')
     return "".join([*lines, "};\n"])

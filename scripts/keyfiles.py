@@ -3,17 +3,41 @@
 import base64
 import hashlib
 
+from common import TOP
+
 # The last number of each set's object identifier.
-LAST_ARC = {"44": 17, "65": 18, "87": 19}
-# The tags of an integer, of bytes and of a sequence.
-INTEGER, OCTETS, IDENTIFIER, SEQUENCE = 2, 4, 6, 48
+ARC = {"44": 17, "65": 18, "87": 19}
+# The tags of an integer, a string of bits, one of bytes, an object identifier and a sequence, and of a seed.
+INTEGER, BITS, OCTETS, IDENTIFIER, SEQUENCE, SEED = 2, 3, 4, 6, 48, 128
 
 
-def element(tag, contents):
+def recorded(name):
+    """What OpenSSL 4.0.0 wrote of the seed 00 01 .. 1F: keys in PEM, and the signature of `message` under the context
+    `context`; and of an expanded key, which a model made."""
+    return (TOP / "crates/mlsign_session/data" / name).read_bytes()
+
+
+def element(tag, *parts):
     """An element of DER."""
+    contents = b"".join(parts)
     size = len(contents)
-    length = bytes([size]) if size < 128 else bytes([129, size]) if size < 256 else bytes([130, size >> 8, size & 255])
-    return bytes([tag]) + length + contents
+    number = size.to_bytes((size.bit_length() + 7) // 8 or 1, "big")
+    return bytes([tag]) + (number if size < 128 else bytes([128 + len(number)]) + number) + contents
+
+
+def algorithm(arc):
+    """An AlgorithmIdentifier of NIST's signatures (RFC 9881, section 2)."""
+    return element(SEQUENCE, element(IDENTIFIER, bytes([96, 134, 72, 1, 101, 3, 4, 3, arc])))
+
+
+def public_der(arc, key, unused=0):
+    """A SubjectPublicKeyInfo (RFC 9881, section 4)."""
+    return element(SEQUENCE, algorithm(arc), element(BITS, bytes([unused]), key))
+
+
+def private_der(arc, choice, version=0, more=b""):
+    """A OneAsymmetricKey (RFC 5958, and RFC 9881, section 6)."""
+    return element(SEQUENCE, element(INTEGER, bytes([version])), algorithm(arc), element(OCTETS, choice), more)
 
 
 def pem(label, der):
@@ -28,13 +52,16 @@ def der_of(text):
     return base64.b64decode(b"".join(text.split(b"\n")[1:-2]))
 
 
-def private_text(number, expanded, seed=None):
-    """The text of a private key of a set: of the expanded key alone, or of both (RFC 9881, section 6)."""
-    algorithm = element(SEQUENCE, element(IDENTIFIER, bytes([96, 134, 72, 1, 101, 3, 4, 3, LAST_ARC[number]])))
+def key_der(number, expanded, seed=None):
+    """The DER of a private key of a set: of the expanded key alone, or of both."""
     choice = element(OCTETS, expanded)
-    if seed is not None:
-        choice = element(SEQUENCE, element(OCTETS, seed) + choice)
-    return pem("PRIVATE KEY", element(SEQUENCE, element(INTEGER, b"\0") + algorithm + element(OCTETS, choice)))
+    choice = choice if seed is None else element(SEQUENCE, element(OCTETS, seed), choice)
+    return private_der(ARC[number], choice)
+
+
+def private_text(number, expanded, seed=None):
+    """The text of that."""
+    return pem("PRIVATE KEY", key_der(number, expanded, seed))
 
 
 def fingerprint(public):

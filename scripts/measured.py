@@ -60,6 +60,28 @@ def processors():
     return f"{count} processors, {found[1] if found else os.uname().machine}"
 
 
+def read(path):
+    return pathlib.Path(path).read_text(encoding="utf-8", errors="replace")
+
+
+def instructions(run, out):
+    """The instructions of what `run` runs behind the words of a tool, as callgrind counts them into a file."""
+    run("valgrind", "--tool=callgrind", f"--callgrind-out-file={out}")
+    return int(re.search(r"^(?:summary|totals): (\d+)", read(out), re.M)[1])
+
+
+def stack(run, out):
+    """Its largest stack in bytes, by massif."""
+    run("valgrind", "--tool=massif", "--stacks=yes", "--heap=no", f"--massif-out-file={out}")
+    return max(map(int, re.findall(r"^mem_stacks_B=(\d+)", read(out), re.M)))
+
+
+def memory(run, out):
+    """The most memory that it held, in kB, by GNU time."""
+    run("/usr/bin/time", "-f", "%M", "-o", out)
+    return int(read(out).split()[-1])
+
+
 def load():
     return f"{os.getloadavg()[0]:.1f}"
 

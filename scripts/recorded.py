@@ -53,9 +53,8 @@ def tabulated(program):
             inverses[name] = [8347681 * sum(map(operator.mul, xs, row)) % Q for row in powers]
         return inverses[name][j]
 
-    program.space.update(
-        {evaluate.mangled("product"): product, evaluate.mangled("inverse_transform"): inverse_transform}
-    )
+    program.space.update({evaluate.mangled("product"): product,
+                          evaluate.mangled("inverse_transform"): inverse_transform})
 
     def clear():
         products.clear()
@@ -63,10 +62,6 @@ def tabulated(program):
         evaluate.KEPT.clear()
 
     return clear
-
-
-def sha256(xs):
-    return hashlib.sha256(bytes(listed(xs))).hexdigest()
 
 
 def scheme(program, name):
@@ -84,24 +79,27 @@ def scheme(program, name):
     return said
 
 
+def encoded(said, pk, sk):
+    """The bytes of a public and of a private key."""
+    both = said("public_key_bytes pk.rho pk.t1", pk=pk), said("private_key_bytes p.eta sk", sk=sk)
+    return tuple(bytes(listed(now(it))) for it in both)
+
+
 def hashes(program, row):
     """The hashes of both keys and the signature of a row, and whether the signature is accepted and the rest holds."""
     name, seed, random, context, text = row[:5]
-    seed, random, context, text, oid = (
-        tuple(bytes.fromhex(part)) for part in (seed, random, context, text, "".join(row[8:]))
-    )
+    seed, random, context, text, oid = (tuple(bytes.fromhex(part))
+                                        for part in (seed, random, context, text, "".join(row[8:])))
     said = scheme(program, name)
     said("p", text=text, context=context, oid=oid, xi=seed, rnd=random)
     said("p", input=said("hashed text context oid" if oid else "plain text context"))
     pair = said("generated p H G xi").parts[0]
     pk, sk = pair.get("0"), pair.get("1")
-    public = said("public_key_bytes pk.rho pk.t1", pk=pk)
-    private = said("private_key_bytes p.eta sk", sk=sk)
+    both = encoded(said, pk, sk)
     signature = listed(now(said("sign_input p H G sk rnd input").parts[0]))
     accepted = said("VerifiesInput p H G pk signature input", signature=signature)
-    return [sha256(part) for part in (public, private, signature)], accepted and others(
-        said, pk, sk, signature
-    ) and fronts(said, text)
+    stands = accepted and others(said, pk, sk, signature) and fronts(said, text)
+    return [hashlib.sha256(part).hexdigest() for part in (*both, bytes(signature))], stands
 
 
 def answer(program, number, call, *arguments):
@@ -109,35 +107,19 @@ def answer(program, number, call, *arguments):
     said, given = scheme(program, number), [tuple(it) for it in arguments]
     if call == "keygen":
         pair = said("generated p H G xi", xi=given[0])
-        if pair.name == "Err":
-            return Refused(pair.parts[0].name)
-        return tuple(
-            bytes(listed(now(it)))
-            for it in (
-                said("public_key_bytes pk.rho pk.t1", pk=pair.parts[0].get("0")),
-                said("private_key_bytes p.eta sk", sk=pair.parts[0].get("1")),
-            )
-        )
+        found = pair.parts[0]
+        return Refused(found.name) if pair.name == "Err" else encoded(said, found.get("0"), found.get("1"))
     key, *parts, last = given
-    form = {
-        "sign": "plain",
-        "verify": "plain",
-        "hash_sign": "hashed",
-        "hash_verify": "hashed",
-        "sign_internal": "framed",
-        "verify_internal": "framed",
-    }[call]
+    form = {"sign": "plain", "verify": "plain", "hash_sign": "hashed", "hash_verify": "hashed",
+            "sign_internal": "framed", "verify_internal": "framed"}[call]
     names = ("text", "context", "oid")[: len(parts)]
     said("p", **dict(zip(names, parts)))
     said("p", input=said(f"{form} {' '.join(names)}"))
     parameters = {name: said(f"p.{name}") for name in ("eta", "k", "l")}
     if "verify" in call:
         read = program.exist["IsPublicKeyOf"].read({"H": said("H"), "k": parameters["k"], "bytes": key})
-        return (
-            said("VerifiesInput p H G pk signature input", pk=read["pk"], signature=last)
-            if read
-            else Refused("no public key has these bytes")
-        )
+        return (said("VerifiesInput p H G pk signature input", pk=read["pk"], signature=last) if read
+                else Refused("no public key has these bytes"))
     read = program.exist["IsPrivateKeyOf"].read({**parameters, "bytes": key})
     if not read:
         return Refused("no private key has these bytes")
@@ -162,11 +144,9 @@ def private_parts(program, given):
     """The one candidate for the parts of a private key with these bytes."""
     data, eta, k, columns = given["bytes"], given["eta"], given["k"], given["l"]
     size = 32 * program.value("bit_length", 2 * eta)
-    vectors = {
-        "s1": polynomials(program, eta, eta, data[128:], columns),
-        "s2": polynomials(program, eta, eta, data[128 + size * columns :], k),
-        "t0": polynomials(program, 4095, 4096, data[128 + size * (k + columns) :], k),
-    }
+    vectors = {"s1": polynomials(program, eta, eta, data[128:], columns),
+               "s2": polynomials(program, eta, eta, data[128 + size * columns :], k),
+               "t0": polynomials(program, 4095, 4096, data[128 + size * (k + columns) :], k)}
     return {"sk": Record({"rho": data[:32], "key": data[32:64], "tr": data[64:128], **vectors})}
 
 
@@ -177,9 +157,8 @@ def signature_parts(program, given):
     size = 32 * program.value("bit_length", 2 * gamma1 - 1)
     hint = data[n + size * l :]
     ends = (0, *hint[omega : omega + k])
-    h = tuple(
-        Record({"0": tuple(int(place in hint[start:end]) for place in PLACES)}) for start, end in zip(ends, ends[1:])
-    )
+    h = tuple(Record({"0": tuple(int(place in hint[start:end]) for place in PLACES)})
+              for start, end in zip(ends, ends[1:]))
     return {"c_tilde": data[:n], "z": polynomials(program, gamma1 - 1, gamma1, data[n:], l), "h": h}
 
 
@@ -191,26 +170,18 @@ def others(said, pk, sk, signature):
     """Whether derived and prepared keys are right, and the set is that of its own numbers."""
     prepared, public = said("prepared_private p G sk", sk=sk).parts[0], said("prepared_public p G pk", pk=pk).parts[0]
     known = dict(pk=pk, sk=sk, prepared=prepared, public=public, signature=signature)
-    return all(
-        said(text, **known)
-        for text in (
-            "derived p G sk ≡ Ok pk",
-            "sign_prepared p H prepared rnd input ≡ Ok signature",
-            "IsWholePrepared p prepared",
-            "public_of_prepared p prepared ≡ public",
-            "set_of p ≡ p",
-        )
-    )
+    return all(said(text, **known)
+               for text in ("derived p G sk ≡ Ok pk", "sign_prepared p H prepared rnd input ≡ Ok signature",
+                            "IsWholePrepared p prepared", "public_of_prepared p prepared ≡ public", "set_of p ≡ p"))
 
 
 def sponge_stands():
     """Whether the definitions of `crates/shake` give the bytes of `hashlib`, for messages and outputs about the ends of
     blocks."""
     program = evaluate.program("shake")
-    cases = [(size, 40) for size in (0, 1, 7, 8, 34, 66)] + [
-        (size, 1) for size in (135, 136, 137, 167, 168, 169, 271, 272, 273, 336, 337)
-    ]
-    cases += [(34, size) for size in (0, 1, 135, 136, 137, 167, 168, 169, 272, 505)]
+    cases = [*((size, 40) for size in (0, 1, 7, 8, 34, 66)),
+             *((size, 1) for size in (135, 136, 137, 167, 168, 169, 271, 272, 273, 336, 337)),
+             *((34, size) for size in (0, 1, 135, 136, 137, 167, 168, 169, 272, 505))]
     for size, wanted in cases:
         message = bytes((73 * place + 5 * size) % 256 for place in range(size))
         for name, hash_ in (("shake128", hashlib.shake_128), ("shake256", hashlib.shake_256)):
@@ -228,9 +199,8 @@ def attempts_stand(program):
 
     def refuses(kept):
         seed = bytes(64) + kept.to_bytes(2, "little")
-        program.space.update(
-            v_sk=sk, v_H=Function(lambda xs: tuple(zero if bytes(listed(xs)) == seed else bytes(576)), 1, (), "H")
-        )
+        stream = Function(lambda xs: tuple(zero if bytes(listed(xs)) == seed else bytes(576)), 1, (), "H")
+        program.space.update(v_sk=sk, v_H=stream)
         text = "sign_with (record set_44 { tau = 0; k = 0; l = 1 }) H [] sk [] [] ≡ Err TooManyAttempts"
         return program.evaluated(Parser(text).term(), ("H", "sk"))
 

@@ -10,6 +10,8 @@ import json
 import lzma
 import pathlib
 
+import keyfiles
+
 FILE = pathlib.Path(__file__).with_name("cases.jsonl.xz")
 # How many cases of each kind there are.
 COUNTS = {
@@ -22,6 +24,10 @@ COUNTS = {
     "HashML-DSA": 120,
 }
 PUBLISHED = ("public_key_sha256", "private_key_sha256", "signature_sha256", "accepted")
+# Of the cases with a key in a file: how many there are, in how many files, and how many files are refused.
+IN_FILES = {"public keys": (239, 41, 6), "seeds": (176, 25, 0), "expanded keys": (190, 39, 12)}
+# Bytes of a public key (FIPS 204, Table 2).
+PUBLIC_KEY_LENGTHS = {"44": 1312, "65": 1952, "87": 2592}
 
 
 class Refused:
@@ -61,8 +67,8 @@ class Case:
         )
 
 
-def cases():
-    """Every case, in the order of the file."""
+def cases(*forms):
+    """Every case, in the order of the file; and then those with a key in a file of each of these forms, DER and PEM."""
     found, places = [], dict.fromkeys(COUNTS, 0)
     with lzma.open(FILE, "rt", encoding="utf-8") as lines:
         for line in lines:
@@ -82,6 +88,36 @@ def cases():
             )
     if places != COUNTS:
         raise ValueError(f"there are {places} cases, not {COUNTS}")
+    return found + [case for form in forms for case in keys_in_files(found, form)]
+
+
+def keys_in_files(chosen, form):
+    """Wycheproof's cases with a key in a file of a form, which is read, used, and written again as it was: the public
+    keys and seeds that it has in DER, and its expanded keys, which are put into DER here. A file is refused where its
+    public key has another length than the set's, or where nothing but its expanded key can be why none signs."""
+    found, files = [], {kind: [] for kind in IN_FILES}
+    for case in chosen:
+        g, label = case.given, "PRIVATE KEY"
+        if "public_key_der" in g:
+            kind, part, file, label = "public keys", "public_key", g["public_key_der"], "PUBLIC KEY"
+            is_key = len(g[part]) == PUBLIC_KEY_LENGTHS[case.set]
+        elif "private_key_pkcs8" in g:
+            kind, part, file, is_key = "seeds", "seed", g["private_key_pkcs8"], True
+        elif case.of == "Wycheproof sign":
+            kind, part, file = "expanded keys", "private_key", keyfiles.key_der(case.set, g["private_key"])
+            is_key = not case.is_refusal or len(g["context"]) > 255
+        else:
+            continue
+        if form == "PEM":
+            file = keyfiles.pem(label, file)
+        sums = {f"{part}_sha256": sha256(g[part]) if is_key else None, "file_sha256": sha256(file) if is_key else None}
+        files[kind].append((file, is_key))
+        given = {name: g[name] for name in ("message", "context", "random", "signature") if name in g}
+        found.append(Case(f"{kind} in {form}", case.place, case.set, f"{part}_in_{form.lower()}",
+                          {**given, "file": file}, {**case.published, **sums}))
+    counts = {kind: (len(it), len({*it}), sum(not is_key for _, is_key in {*it})) for kind, it in files.items()}
+    if counts != IN_FILES:
+        raise ValueError(f"there are {counts} keys in files, not {IN_FILES}")
     return found
 
 
@@ -89,17 +125,37 @@ def sha256(data):
     return hashlib.sha256(data).hexdigest()
 
 
+def sum_of(answer):
+    """The sum of the first array of an answer, and None of a refusal."""
+    return None if isinstance(answer, Refused) else sha256(answer[0])
+
+
+def calls_of_file(part, form, g):
+    """What `calls` does for a case with this part of a key in a file of a form."""
+    key = yield f"{part}_from_{form}", g["file"]
+    file = key if isinstance(key, Refused) else (yield f"{part}_to_{form}", *key)
+    found = {f"{part}_sha256": sum_of(key), "file_sha256": sum_of(file)}
+    if part == "seed":
+        key = yield f"private_key_from_{form}", g["file"]
+    call, more = ("verify", g["signature"]) if part == "public_key" else ("sign", g["random"])
+    used = key if isinstance(key, Refused) else (yield call, *key, g["message"], g["context"], more)
+    return {**found, **({"accepted": used is True} if call == "verify" else {"signature_sha256": sum_of(used)})}
+
+
 def calls(case):
     """Makes the calls of a case, one after another: yields each as its name and arguments, is sent its answer (a tuple
     of bytes, a truth value, or `Refused`), and returns what came out of all, by the names of what was published."""
     g = case.given
+    if "file" in g:
+        part, form = case.do.split("_in_")
+        return (yield from calls_of_file(part, form, g))
     if case.do == "verify":
         return {"accepted": (yield "verify", g["public_key"], g["message"], g["context"], g["signature"]) is True}
     if case.do == "verify_internal":
         return {"accepted": (yield "verify_internal", g["public_key"], g["message"], g["signature"]) is True}
     if case.do == "sign_internal":
         signature = yield "sign_internal", g["private_key"], g["message"], g["random"]
-        return {"signature_sha256": None if isinstance(signature, Refused) else sha256(signature[0])}
+        return {"signature_sha256": sum_of(signature)}
     public, private, found = None, g.get("private_key"), {}
     if "seed" in g:
         pair = yield "keygen", g["seed"]
@@ -189,10 +245,9 @@ def changes(chosen, found):
                 seen.add((case.of, name, value is False))
                 other = not value if isinstance(value, bool) else changed(value)
                 tried.append((case, f"a bit of {name}", wrong(case.but(published={name: other}), outcome)))
-        if case.is_refusal:
-            name = "accepted" if "accepted" in case.published else "signature_sha256"
-            accepted = True if name == "accepted" else "00" * 32
-            tried.append((case, "that it was refused", wrong(case, {**outcome, name: accepted})))
+            if value is None or value is False:
+                accepted = True if value is False else "00" * 32
+                tried.append((case, "that it was refused", wrong(case, {**outcome, name: accepted})))
     return tried
 
 
@@ -205,9 +260,10 @@ def with_a_bit_changed(chosen):
             first.setdefault((case.of, case.set), case)
     found = []
     for case in first.values():
-        name = next(it for it in ("signature", "digest", "message", "seed") if it in case.given and case.given[it])
-        value = case.given[name]
-        more = {name: bytes([value[0] ^ 1]) + value[1:]}
+        names = "file", "signature", "digest", "message", "seed"
+        name = next(it for it in names if it in case.given and case.given[it])
+        value, at = case.given[name], len(case.given[name]) // 2
+        more = {name: value[:at] + bytes([value[at] ^ 1]) + value[at + 1:]}
         if name == "digest":
             # (the digest has to be that of the message)
             more = {"context": case.given["context"] + b"\1"} if len(case.given["context"]) < 255 else {"context": b""}
@@ -217,8 +273,12 @@ def with_a_bit_changed(chosen):
 
 def counted(chosen):
     """How many cases of each kind there are, as a text."""
-    numbers = {of: sum(case.of == of for case in chosen) for of in COUNTS}
-    return ", ".join(f"{of} {number}" for of, number in numbers.items() if number)
+    kinds = {}
+    for case in chosen:
+        of = f"keys in {case.of.split()[-1]}" if "file" in case.given else case.of
+        kinds.setdefault(of, []).append(case.given.get("file"))
+    return ", ".join(f"{of} {len(files)}" + (f" of {len({*files})} files" if all(files) else "")
+                     for of, files in kinds.items())
 
 
 def judged(name, chosen, found, other, of_other, each=False):

@@ -47,51 +47,18 @@ def cases(sets):
             def entries(count):
                 return lines_of([public, b"", count.to_bytes(2, "big"), *[signature, b"\0"] * count])
 
-            given = [
-                ("id", "id", lines_of([public]), None),
-                ("keygen", "keygen", lines_of([ZEROS]), None),
-                ("sign", "sign", signs(b"\0"), None),
-                ("verify", "verify", verifies(b"\0"), None),
-                ("check", "check", lines_of([ZEROS, ZEROS, b"", b"\0"]), None),
-                ("batch", "batch of 32", entries(32), None),
-            ]
+            given = [("id", "id", lines_of([public]), None),
+                     ("keygen", "keygen", lines_of([ZEROS]), None),
+                     ("sign", "sign", signs(b"\0"), None),
+                     ("verify", "verify", verifies(b"\0"), None),
+                     ("check", "check", lines_of([ZEROS, ZEROS, b"", b"\0"]), None),
+                     ("batch", "batch of 32", entries(32), None)]
             if streams == "sha2":
-                given += [
-                    ("sign", "sign 1 MiB", signs(bytes(2**20)), signs(b"\0")),
-                    ("verify", "verify 1 MiB", verifies(bytes(2**20)), verifies(b"\0")),
-                    ("batch", "batch of 2000", entries(2000), entries(32)),
-                ]
+                given += [("sign", "sign 1 MiB", signs(bytes(2**20)), signs(b"\0")),
+                          ("verify", "verify 1 MiB", verifies(bytes(2**20)), verifies(b"\0")),
+                          ("batch", "batch of 2000", entries(2000), entries(32))]
             for command, name, data, short in given:
                 yield f"{streams} {name} {parameters}", [streams, command, parameters], data, short or data
-
-
-def under(tool, command, path):
-    """Runs a command under a tool, from a file."""
-    with open(path, "rb") as file:
-        subprocess.run([*tool, *command], stdin=file, capture_output=True, check=False)
-
-
-def read(path):
-    return pathlib.Path(path).read_text(encoding="utf-8", errors="replace")
-
-
-def instructions(command, path, room):
-    out = f"{room}/calls"
-    under(["valgrind", "--tool=callgrind", f"--callgrind-out-file={out}"], command, path)
-    return int(re.search(r"^(?:summary|totals): (\d+)", read(out), re.M)[1])
-
-
-def stack(command, path, room):
-    out = f"{room}/stack"
-    under(["valgrind", "--tool=massif", "--stacks=yes", "--heap=no", f"--massif-out-file={out}"], command, path)
-    return max(map(int, re.findall(r"^mem_stacks_B=(\d+)", read(out), re.M)))
-
-
-def memory(command, path, room):
-    """The largest resident set, in bytes."""
-    out = f"{room}/memory"
-    under(["/usr/bin/time", "-f", "%M", "-o", out], command, path)
-    return 1024 * int(read(out).split()[-1])
 
 
 def seconds(command, path, piped):
@@ -122,13 +89,19 @@ def row(programs, words, data, short, runs, room):
     for name, content in ((path, data), (short_path, short)):
         pathlib.Path(name).write_bytes(content)
     commands = [[program, *words] for program in programs]
-    return [
-        [instructions(command, path, room) / 1e6 for command in commands],
-        [memory(command, path, room) / 1024 for command in commands],
-        [stack(command, short_path, room) / 1024 for command in commands],
-        [1000 * taken for taken in times(commands, path, False, runs)],
-        [1000 * taken for taken in times(commands, path, True, runs)],
-    ]
+
+    def under(command, given):
+        """What runs a command under a tool, from a file."""
+        def run(*tool):
+            with open(given, "rb") as file:
+                subprocess.run([*tool, *command], stdin=file, capture_output=True, check=False)
+        return run
+
+    return [[measured.instructions(under(command, path), f"{room}/calls") / 1e6 for command in commands],
+            [measured.memory(under(command, path), f"{room}/memory") for command in commands],
+            [measured.stack(under(command, short_path), f"{room}/stack") / 1024 for command in commands],
+            [1000 * taken for taken in times(commands, path, False, runs)],
+            [1000 * taken for taken in times(commands, path, True, runs)]]
 
 
 def table(programs, sets, runs, room, lines):

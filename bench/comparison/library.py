@@ -200,14 +200,11 @@ def times(program, number, runs):
 
 def instructions(program, number, call, which, room):
     """The instructions of one call, as the difference of a run with twenty and one with none."""
-    counts = []
-    for count in ("20", "0"):
-        out = f"{room}/calls"
-        words = ["valgrind", "--tool=callgrind", f"--callgrind-out-file={out}", program, number, call, which, count]
-        subprocess.run(words, capture_output=True, check=True)
-        counts.append(int(re.search(r"^(?:summary|totals): (\d+)", pathlib.Path(out).read_text(errors="replace"),
-                                    re.M)[1]))
-    return (counts[0] - counts[1]) / 20
+    def runs(count):
+        words = [program, number, call, which, count]
+        return lambda *tool: subprocess.run([*tool, *words], capture_output=True, check=True)
+
+    return (measured.instructions(runs("20"), f"{room}/calls") - measured.instructions(runs("0"), f"{room}/calls")) / 20
 
 
 def costs(folder, room, runs, cpu, write):

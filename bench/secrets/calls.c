@@ -2,7 +2,7 @@
  * address that depends on one: calls SET
  *
  * Secret are the seed of a pair, the random bytes, and of a private key all but rho and tr. What the standard makes public is
- * declared so where the library has handed it out: public keys, signatures, and the answers. */
+ * declared so where the library has handed it out: public keys, signatures, and the results. */
 #include "../../c/tests/sets.h"
 
 #include <valgrind/memcheck.h>

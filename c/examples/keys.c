@@ -12,7 +12,7 @@ int main(void)
 
     if (answer == MLDSA_DONE)
         answer = mldsa65_check_private_key(private_key, sizeof private_key);
-    /* The question to ask of a key before it is used: after a yes what it signs is accepted. */
+    /* The question to ask of a key before it is used: if so, what it signs is accepted. */
     if (answer == MLDSA_DONE)
         answer = mldsa65_is_pair(private_key, sizeof private_key);
     /* Weaker, without a look at the hash of the public key that the private key has. */

@@ -61,6 +61,8 @@ static SELDOM u32 answered(module_t *m, u32 (*run)(module_t *))
     return answer;
 }
 
+#define TAKES(given_number) (m.w2c_memory.number = (given_number))
+#define NUMBER m->w2c_memory.number
 #define READS(array) place(&m.w2c_memory, array, NULL, array##_len)
 #define WRITES(array) place(&m.w2c_memory, array, array, array##_len)
 #define ARRAY(i) m->w2c_memory.arrays[i].begin, m->w2c_memory.arrays[i].len

@@ -1,7 +1,7 @@
 /* mldsa_portable.h - what mldsa.c has beside the calls of mldsa.h
  *
- * mldsa.c is the library as C99, made from its WebAssembly module. It has the calls of mldsa.h with the same answers,
- * and one answer more, MLDSA_NO_ANSWER. It uses no files, no threads and no malloc, and of the C library memcpy,
+ * mldsa.c is the library as C99, made from its WebAssembly module. It has the calls of mldsa.h with the same results,
+ * and one result more, MLDSA_NO_ANSWER. It uses no files, no threads and no malloc, and of the C library memcpy,
  * memmove, memset, setjmp and longjmp alone. The code of the module works in a memory of its own, of MLDSA_MEMORY_LEN
  * bytes, and checks each address: what is neither there nor in an array of the call ends the call. After each call this
  * memory is wiped.
@@ -14,7 +14,7 @@
  *                               call.
  *   -DMLDSA_THREAD_LOCAL=       for a program of one thread, where the compiler knows no threads.
  *   -DMLDSA_MODULE_STACK=n      of the memory n bytes are the stack of the module's code, in place of all that any call
- *                               needs. A call that needs more answers MLDSA_NO_ANSWER. README.md says how much each
+ *                               needs. A call that needs more returns MLDSA_NO_ANSWER. README.md says how much each
  *                               needs.
  *   -DMLDSA_WIPE(at,len)=f      f wipes memory, in place of memset.
  */
@@ -27,10 +27,10 @@
 extern "C" {
 #endif
 
-/* The answer where the module's code had too little memory or none, where it stopped itself, where the call was made
+/* The result where the module's code had too little memory or none, where it stopped itself, where the call was made
  * within another of the same thread (as by a handler of signals), or where the arrays of a call have more than about
  * 4 GiB together (hash a longer message in pieces). Arrays that the call writes may then hold anything. Of verifying it
- * is a rejection, as each answer but MLDSA_YES. */
+ * is a rejection, as each result but MLDSA_YES. */
 #define MLDSA_NO_ANSWER 255u
 
 /* The whole stack of the module's code, and what follows it in the memory: constants. */

@@ -59,10 +59,11 @@ def calls(found):
     for it in found:
         arrays = it.arrays()
         if arrays is None or it.result != "uint32_t":
-            sys.exit(f"mldsa.h: {it.name} takes or gives something else than arrays with their lengths and a number")
-        given = "".join(f", ARRAY({place})" for place in range(len(arrays)))
+            sys.exit(f"mldsa.h: {it.name} takes or gives something else than a number and arrays with their lengths")
+        given = ", NUMBER" * bool(it.number()) + "".join(f", ARRAY({place})" for place in range(len(arrays)))
         lines += [f"static u32 run_{it.name}(module_t *m)\n{{\n    return w2c_{it.name}(m{given});\n}}\n"]
         lines += [f"{it.result} {it.name}({it.declared()})\n{{\n    module_t m;\n    begin(&m);\n"]
+        lines += [f"    TAKES({it.number()});\n"] if it.number() else []
         lines += [f"    {'WRITES' if written else 'READS'}({name});\n" for name, written in arrays]
         lines += [f"    return answered(&m, run_{it.name});\n}}\n"]
     return "".join(lines)

@@ -56,6 +56,7 @@ typedef struct {
     u8 *data;
     struct array arrays[@ARRAYS@];
     int count;
+    u32 number;
     u64 end;
     jmp_buf stopped;
 } memory_t;

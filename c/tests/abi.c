@@ -40,6 +40,7 @@ IS(MLDSA_MU_LEN, 64);
 IS(MLDSA_STATE_LEN, 337);
 IS(MLDSA_OID_LEN, 11);
 IS(MLDSA_SEED_DER_LEN, 54);
+IS(MLDSA_TEXT_LEN, 64);
 
 #define SET(n, public_key, private_key, signature, prepared_public_key, prepared_private_key)                  \
     IS(MLDSA##n##_PUBLIC_KEY_LEN, public_key);                                                                 \
@@ -50,6 +51,7 @@ IS(MLDSA_SEED_DER_LEN, 54);
     HAS(mldsa##n##_keygen, IN, OUT, OUT);                                                                      \
     HAS(mldsa##n##_sign, IN, IN, IN, IN, OUT);                                                                 \
     HAS(mldsa##n##_verify, IN, IN, IN, IN);                                                                    \
+    HAS(mldsa##n##_accepts, IN, IN, IN, IN);                                                                   \
     HAS(mldsa##n##_hash_sign, IN, IN, IN, IN, IN, OUT);                                                        \
     HAS(mldsa##n##_hash_verify, IN, IN, IN, IN, IN);                                                           \
     HAS(mldsa##n##_sign_mu, IN, IN, IN, OUT);                                                                  \
@@ -91,6 +93,7 @@ HAS(mldsa_mu_update, IN, OUT);
 HAS(mldsa_mu_finish, IN, OUT);
 HAS(mldsa_check_pre_hash, IN, IN);
 HAS(mldsa_version, void);
+HAS(mldsa_text_of, uint32_t, OUT);
 
 IS(MLDSA_VERSION >> 8, 2);
 

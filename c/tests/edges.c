@@ -76,7 +76,7 @@ static uint32_t made(const struct export *call, int at_end)
         arrays[i].len = lengths[i];
         arrays[i].at = put(i, at_end, call->written[k]);
     }
-    answer = call->call(arrays);
+    answer = call->call(arrays, (uint32_t)(draw() % 32));
     for (int k = 0; k < call->count; k++) {
         int i = call->arrays[k];
         if ((answer || !call->written[k]) && memcmp(arrays[i].at, held[i], lengths[i])) {
@@ -144,7 +144,7 @@ int main(int count, char **words)
         for (int k = 0; k < EXPORTS; k++) {
             if (CALLS[k].count == 0 || (CALLS[k].set && CALLS[k].set != number))
                 continue;
-            done[k] += made(&CALLS[k], i % 2 == 0) == 0;
+            done[k] += made(&CALLS[k], i % 2 == 0) == CALLS[k].done;
             for (int variant = 0; variant < VARIANTS; variant++)
                 changed(&CALLS[k], variant, i % 2 == 0);
         }

@@ -1,7 +1,7 @@
-/* Each call at both levels of x86-64: equal answers, and equal bytes in every array afterwards.
+/* Each call at both levels of x86-64: equal results, and equal bytes in every array afterwards.
  *
  *   levels SET COUNT        so many cases of a set, 44, 65 or 87; each call with an array also with something changed, and each
- *                           of these has to be done, or answered by yes, at least once
+ *                           of these has to be done, or yes, at least once
  *   levels SET COUNT LEVEL  the calls at one level alone, 2 or 3
  *   levels                  prints the level of this processor, after a call
  *
@@ -51,18 +51,18 @@ static void change(struct array *one, struct array *other, const struct export *
         other[i].at[bit / 8] = one[i].at[bit / 8] ^= (uint8_t)(1 << bit % 8);
 }
 
-/* Makes the call at both levels, or at one, and gives its answer. */
+/* Makes the call at both levels, or at one, and gives its result. */
 static uint32_t call_at(int level, const struct export *call, struct array *one, struct array *other, const char *how)
 {
-    uint32_t answer, another;
+    uint32_t answer, another, number = (uint32_t)(draw() % 32);
     if (level) {
         WANT(mldsa_x86_64_level(level), level);
-        return call->call(one);
+        return call->call(one, number);
     }
     WANT(mldsa_x86_64_level(2), 2);
-    answer = call->call(one);
+    answer = call->call(one, number);
     WANT(mldsa_x86_64_level(3), 3);
-    another = call->call(other);
+    another = call->call(other, number);
     if (answer != another) {
         printf("%s%s: %u at level 2, %u at level 3\n", call->name, how, answer, another);
         failures++;
@@ -94,7 +94,7 @@ int main(int count, char **words)
         for (int k = 0; k < EXPORTS; k++) {
             if (CALLS[k].set && CALLS[k].set != number)
                 continue;
-            done[k] += call_at(level, &CALLS[k], first, second, "") == 0;
+            done[k] += call_at(level, &CALLS[k], first, second, "") == CALLS[k].done;
             if (CALLS[k].count == 0)
                 continue;
             copy(first_changed, first);

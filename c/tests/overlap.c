@@ -1,4 +1,4 @@
-/* Arrays that a call only reads may overlap: what it answers and writes is the same as with arrays apart. */
+/* Arrays that a call only reads may overlap: what it returns and writes is the same as with arrays apart. */
 #include "sets.h"
 
 static uint8_t public_key[LONGEST_KEY], private_key[LONGEST_KEY], copy[LONGEST_KEY];

@@ -1,5 +1,5 @@
 /* Each call of the library with the code of two levels hands every argument on in its place, to the level that is taken, and
- * gives back the answer. Functions that note what they are given stand in for the code of both levels; stubs.h, which c/test
+ * gives back the result. Functions that note what they are given stand in for the code of both levels; stubs.h, which c/test
  * makes of mldsa.h, has a line for each call. */
 #include "sets.h"
 #include "mldsa_x86_64.h"

@@ -109,7 +109,7 @@ static void refusals(const struct set *s)
     WANT(memcmp(mu, was, sizeof was), 0);
 }
 
-/* States of any bytes: an answer, and nothing beside the state is written. */
+/* States of any bytes: a result, and nothing beside the state is written. */
 static void any_bytes(void)
 {
     uint32_t drawn = 1;

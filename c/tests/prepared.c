@@ -1,4 +1,4 @@
-/* Prepared keys: each call answers as the plain one does; what is refused; and keys of any bytes.
+/* Prepared keys: each call returns what the plain one does; what is refused; and keys of any bytes.
  *
  *   prepared [COUNT]    so many keys of random bytes at each set, 1000 without it
  *
@@ -141,7 +141,7 @@ static void answers(const struct set *s, int entries)
     release(k);
 }
 
-/* Wrong lengths are answered, and nothing is written. */
+/* Wrong lengths are errors, and nothing is written. */
 static void lengths(const struct set *s, int entries)
 {
     struct keys k = keys_of(s, entries);
@@ -206,7 +206,7 @@ static void ranges(const struct set *s, int entries)
     release(k);
 }
 
-/* Keys of any bytes: an answer. In every second one the words are below q, so that it is used. */
+/* Keys of any bytes: a result. In every second one the words are below q, so that it is used. */
 static void any_bytes(const struct set *s, int entries, int count)
 {
     struct keys k = keys_of(s, entries);

@@ -19,6 +19,7 @@ struct set {
     uint32_t (*keygen)(in, size_t, uint8_t *, size_t, uint8_t *, size_t);
     uint32_t (*sign)(in, size_t, in, size_t, in, size_t, in, size_t, uint8_t *, size_t);
     uint32_t (*verify)(in, size_t, in, size_t, in, size_t, in, size_t);
+    uint32_t (*accepts)(in, size_t, in, size_t, in, size_t, in, size_t);
     uint32_t (*hash_sign)(in, size_t, in, size_t, in, size_t, in, size_t, in, size_t, uint8_t *, size_t);
     uint32_t (*hash_verify)(in, size_t, in, size_t, in, size_t, in, size_t, in, size_t);
     uint32_t (*sign_mu)(in, size_t, in, size_t, in, size_t, uint8_t *, size_t);
@@ -54,7 +55,7 @@ struct set {
         N, MLDSA##N##_PUBLIC_KEY_LEN, MLDSA##N##_PRIVATE_KEY_LEN, MLDSA##N##_SIGNATURE_LEN,                    \
             MLDSA##N##_STACK_KEYGEN, MLDSA##N##_STACK_SIGN, MLDSA##N##_STACK_VERIFY,                           \
             MLDSA##N##_STACK_PUBLIC_KEY, MLDSA##N##_STACK_CHECK, MLDSA##N##_STACK_WHOLE,                       \
-            MLDSA##N##_STACK_PAIR, mldsa##N##_keygen, mldsa##N##_sign, mldsa##N##_verify,                      \
+            MLDSA##N##_STACK_PAIR, mldsa##N##_keygen, mldsa##N##_sign, mldsa##N##_verify, mldsa##N##_accepts,  \
             mldsa##N##_hash_sign, mldsa##N##_hash_verify, mldsa##N##_sign_mu, mldsa##N##_verify_mu,            \
             mldsa##N##_public_key, mldsa##N##_check_private_key, mldsa##N##_is_whole, mldsa##N##_is_pair,      \
             mldsa##N##_mu_begin, mldsa##N##_mu_begin_private, MLDSA##N##_PREPARED_PUBLIC_KEY_LEN,              \
@@ -74,7 +75,7 @@ static const struct set SETS[3] = {SET(44), SET(65), SET(87)};
 static const uint8_t SHA256_OID[11] __attribute__((unused)) = {0x06, 0x09, 0x60, 0x86, 0x48, 0x01, 0x65, 0x03, 0x04, 0x02, 0x01};
 
 static int failures __attribute__((unused));
-/* Counts an answer that is another one than wanted. */
+/* Counts a result that is another one than wanted. */
 #define WANT(got, wanted)                                                                                      \
     do {                                                                                                       \
         unsigned long got_ = (got), wanted_ = (wanted);                                                        \

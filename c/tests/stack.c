@@ -18,6 +18,10 @@ static uint32_t answer;
 static void keygen(void) { answer = s->keygen(seed, 32, public_key, s->public_key_len, private_key, s->private_key_len); }
 static void sign(void) { answer = s->sign(private_key, s->private_key_len, seed, 32, seed, 9, seed, 32, signature, s->signature_len); }
 static void verify(void) { answer = s->verify(public_key, s->public_key_len, seed, 32, seed, 9, signature, s->signature_len); }
+static void accepts(void)
+{
+    answer = s->accepts(public_key, s->public_key_len, seed, 32, seed, 9, signature, s->signature_len) != 1;
+}
 static void hash_sign(void)
 {
     answer = s->hash_sign(private_key, s->private_key_len, seed, 32, seed, 9, SHA256_OID, 11, seed, 32, signature, s->signature_len);
@@ -38,6 +42,12 @@ static void pieces(void)
     answer = s->mu_begin(public_key, s->public_key_len, seed, 9, state, sizeof state)
         + s->mu_begin_private(private_key, s->private_key_len, seed, 9, state, sizeof state)
         + mldsa_mu_update(seed, 64, state, sizeof state) + mldsa_mu_finish(state, sizeof state, seed, 64);
+}
+static void small(void)
+{
+    static uint8_t text[MLDSA_TEXT_LEN];
+    answer = mldsa_text_of(MLDSA_NO_SEED, text, sizeof text) + mldsa_check_pre_hash(seed, 32, SHA256_OID, 11)
+        + (mldsa_version() != MLDSA_VERSION);
 }
 static void prepare_public(void)
 {
@@ -120,7 +130,7 @@ int main(int count, char **words)
 {
     static const struct { const char *name; void (*run)(void); } CALLS[] = {
         {"KEYGEN", keygen}, {"SIGN", sign}, {"SIGN", hash_sign}, {"SIGN", sign_mu}, {"VERIFY", verify_mu},
-        {"VERIFY", hash_verify}, {"VERIFY", verify}, {"PUBLIC_KEY", derive}, {"CHECK", check}, {"WHOLE", whole}, {"PAIR", pair},
+        {"VERIFY", hash_verify}, {"VERIFY", verify}, {"VERIFY", accepts}, {"PUBLIC_KEY", derive}, {"CHECK", check}, {"WHOLE", whole}, {"PAIR", pair},
         {"PREPARE_PUBLIC_KEY", prepare_public}, {"PREPARE_PRIVATE_KEY", prepare_private}, {"SIGN_PREPARED", sign_prepared},
         {"VERIFY_PREPARED", verify_prepared}, {"SIGN_PREPARED", hash_sign_prepared}, {"VERIFY_PREPARED", hash_verify_prepared},
         {"SIGN_PREPARED", sign_mu_prepared}, {"VERIFY_PREPARED", verify_mu_prepared}, {"MU", pieces}, {"DER", der}};
@@ -138,7 +148,7 @@ int main(int count, char **words)
     for (s = SETS; s < SETS + 3; s++)
         for (int i = 0; i < COUNT; i++) {
             const size_t stated[COUNT] = {s->stack_keygen, s->stack_sign, s->stack_sign, s->stack_sign, s->stack_verify,
-                                       s->stack_verify, s->stack_verify, s->stack_public_key, s->stack_check, s->stack_whole,
+                                       s->stack_verify, s->stack_verify, s->stack_verify, s->stack_public_key, s->stack_check, s->stack_whole,
                                        s->stack_pair, s->stack_prepare_public_key, s->stack_prepare_private_key, s->stack_sign_prepared,
                                        s->stack_verify_prepared, s->stack_sign_prepared, s->stack_verify_prepared, s->stack_sign_prepared,
                                        s->stack_verify_prepared, MLDSA_STACK_MU, s->stack_der};
@@ -159,5 +169,7 @@ int main(int count, char **words)
                 failures++;
             }
         }
+    if (!measure)
+        used(small, MLDSA_STACK_MU + own, 1);
     return failures != 0;
 }

@@ -1,4 +1,4 @@
-/* Each answer of each call at each set, and what is in the arrays afterwards. */
+/* Each result of each call at each set, and what is in the arrays afterwards. */
 #include "sets.h"
 
 static uint8_t public_key[LONGEST_KEY + 1], private_key[LONGEST_KEY + 1], signature[LONGEST_SIGNATURE + 1];
@@ -70,6 +70,13 @@ static void keys(const struct set *s, int which)
         WANT(memcmp(signature, was, sizeof signature), 0);                                                     \
     } while (0)
 
+/* verify, and accepts of the same. */
+#define JUDGED(status, ...)                                                                                    \
+    do {                                                                                                       \
+        WANT(s->verify(__VA_ARGS__), status);                                                                  \
+        WANT(s->accepts(__VA_ARGS__), (status) == MLDSA_YES ? 1 : 0);                                          \
+    } while (0)
+
 static void messages(const struct set *s)
 {
     size_t pk = s->public_key_len, sk = s->private_key_len, sig = s->signature_len;
@@ -84,27 +91,27 @@ static void messages(const struct set *s)
 
     WANT(s->sign(private_key, sk, message, M, context, C, random_bytes, 32, signature, sig), MLDSA_DONE);
     WANT(signature[sig], 0xA5);
-    WANT(s->verify(public_key, pk, message, M, context, C, signature, sig), MLDSA_YES);
-    WANT(s->verify(public_key, pk, message, M - 1, context, C, signature, sig), MLDSA_NO);
-    WANT(s->verify(public_key, pk, message, M, context, C - 1, signature, sig), MLDSA_NO);
-    WANT(s->verify(public_key, pk, context, C, message, M, signature, sig), MLDSA_NO);
-    WANT(s->verify(public_key, pk, message, M, context, 256, signature, sig), MLDSA_NO);
-    WANT(s->verify(public_key, pk - 1, message, M, context, C, signature, sig), MLDSA_WRONG_LENGTH);
-    WANT(s->verify(public_key, pk, message, M, context, C, signature, sig - 1), MLDSA_WRONG_LENGTH);
-    WANT(s->verify(public_key, pk, message, M, context, C, signature, 0), MLDSA_WRONG_LENGTH);
+    JUDGED(MLDSA_YES, public_key, pk, message, M, context, C, signature, sig);
+    JUDGED(MLDSA_NO, public_key, pk, message, M - 1, context, C, signature, sig);
+    JUDGED(MLDSA_NO, public_key, pk, message, M, context, C - 1, signature, sig);
+    JUDGED(MLDSA_NO, public_key, pk, context, C, message, M, signature, sig);
+    JUDGED(MLDSA_NO, public_key, pk, message, M, context, 256, signature, sig);
+    JUDGED(MLDSA_WRONG_LENGTH, public_key, pk - 1, message, M, context, C, signature, sig);
+    JUDGED(MLDSA_WRONG_LENGTH, public_key, pk, message, M, context, C, signature, sig - 1);
+    JUDGED(MLDSA_WRONG_LENGTH, public_key, pk, message, M, context, C, signature, 0);
     WANT(s->hash_verify(public_key, pk, message, M, context, C, SHA256_OID, 11, signature, sig), MLDSA_NO);
     for (size_t bit = 0; bit < 8 * sig; bit += 997) {
         signature[bit / 8] ^= (uint8_t)(1 << bit % 8);
-        WANT(s->verify(public_key, pk, message, M, context, C, signature, sig), MLDSA_NO);
+        JUDGED(MLDSA_NO, public_key, pk, message, M, context, C, signature, sig);
         signature[bit / 8] ^= (uint8_t)(1 << bit % 8);
     }
     public_key[40] ^= 1;
-    WANT(s->verify(public_key, pk, message, M, context, C, signature, sig), MLDSA_NO);
+    JUDGED(MLDSA_NO, public_key, pk, message, M, context, C, signature, sig);
     public_key[40] ^= 1;
     WANT(s->sign(private_key, sk, MLDSA_NOTHING, 0, MLDSA_NOTHING, 0, random_bytes, 32, signature, sig), MLDSA_DONE);
-    WANT(s->verify(public_key, pk, MLDSA_NOTHING, 0, MLDSA_NOTHING, 0, signature, sig), MLDSA_YES);
+    JUDGED(MLDSA_YES, public_key, pk, MLDSA_NOTHING, 0, MLDSA_NOTHING, 0, signature, sig);
     WANT(s->sign(private_key, sk, message, M, context, 255, random_bytes, 32, signature, sig), MLDSA_DONE);
-    WANT(s->verify(public_key, pk, message, M, context, 255, signature, sig), MLDSA_YES);
+    JUDGED(MLDSA_YES, public_key, pk, message, M, context, 255, signature, sig);
 }
 
 /* hash_sign, and check_pre_hash of the same digest. */
@@ -120,7 +127,7 @@ static void messages(const struct set *s)
 
 static void digests(const struct set *s)
 {
-    static const uint8_t OTHER_OID[5] = {0x06, 0x03, 0x2A, 0x03, 0x04};
+    static const uint8_t OTHER_OID[5] = {0x06, 0x03, 0x2A, 0x03, 0x04}, SHA1_OID[7] = {0x06, 0x05, 0x2B, 0x0E, 0x03, 0x02, 0x1A};
     size_t pk = s->public_key_len, sk = s->private_key_len, sig = s->signature_len;
     WANT(s->hash_sign(private_key, sk, digest, 32, context, C, SHA256_OID, 11, random_bytes, 32, signature, sig), MLDSA_DONE);
     WANT(s->hash_verify(public_key, pk, digest, 32, context, C, SHA256_OID, 11, signature, sig), MLDSA_YES);
@@ -134,6 +141,7 @@ static void digests(const struct set *s)
     DIGEST(32, SHA256_OID, 2, MLDSA_OID_NOT_DER);
     DIGEST(32, MLDSA_NOTHING, 0, MLDSA_OID_EMPTY);
     DIGEST(1025, OTHER_OID, 5, MLDSA_DIGEST_TOO_LONG);
+    WANT(mldsa_check_pre_hash(digest, 20, SHA1_OID, 7), MLDSA_DONE);
     memcpy(was, signature, sizeof signature);
     REFUSED(s->hash_sign(private_key, sk, digest, 32, context, 256, SHA256_OID, 11, random_bytes, 32, signature, sig),
             MLDSA_HASH_CONTEXT_TOO_LONG);
@@ -181,8 +189,33 @@ static void identifiers(void)
     }
 }
 
+/* The text of each number is the header's, with zeros behind it; and an array of another length stays as it is. */
+static void texts(void)
+{
+    uint8_t text[MLDSA_TEXT_LEN + 1], old[sizeof text];
+    char wanted[MLDSA_TEXT_LEN];
+    memset(old, 0xA5, sizeof old);
+    for (uint32_t number = 0; number <= 300; number++) {
+        uint32_t told = number == 300 ? UINT32_MAX : number;
+        memset(text, 0xA5, sizeof text);
+        memset(wanted, 0, sizeof wanted);
+        WANT(strlen(mldsa_text(told)) < sizeof wanted, 1);
+        memcpy(wanted, mldsa_text(told), strlen(mldsa_text(told)));
+        for (size_t length = 0; length <= sizeof text; length++) {
+            if (length == MLDSA_TEXT_LEN)
+                continue;
+            WANT(mldsa_text_of(told, text, length), MLDSA_WRONG_LENGTH);
+            WANT(memcmp(text, old, sizeof old), 0);
+        }
+        WANT(mldsa_text_of(told, text, MLDSA_TEXT_LEN), MLDSA_DONE);
+        WANT(memcmp(text, wanted, sizeof wanted), 0);
+        WANT(text[MLDSA_TEXT_LEN], 0xA5);
+    }
+}
+
 int main(void)
 {
+    texts();
     identifiers();
     for (int which = 0; which < 3; which++) {
         keys(&SETS[which], which);

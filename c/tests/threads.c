@@ -1,4 +1,4 @@
-/* Four threads at once, each with its own keys: every answer is as if it were alone. */
+/* Four threads at once, each with its own keys: every result is as if it were alone. */
 #include "sets.h"
 
 #include <pthread.h>

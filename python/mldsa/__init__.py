@@ -11,42 +11,11 @@ Each call may raise OSError where the thread has too little stack, and no other 
 """
 from ._errors import InvalidSignature, KeyFileError, SigningError
 from ._interface import VERSION_TEXT as __version__
-from ._keys import (
-    MessageHasher,
-    MLDSA44PrivateKey,
-    MLDSA44PublicKey,
-    MLDSA65PrivateKey,
-    MLDSA65PublicKey,
-    MLDSA87PrivateKey,
-    MLDSA87PublicKey,
-    PreparedPrivateKey,
-    PreparedPublicKey,
-    PrivateKey,
-    PublicKey,
-    load_der_private_key,
-    load_der_public_key,
-    load_pem_private_key,
-    load_pem_public_key,
-)
+from ._keys import (MessageHasher, MLDSA44PrivateKey, MLDSA44PublicKey, MLDSA65PrivateKey, MLDSA65PublicKey,
+                    MLDSA87PrivateKey, MLDSA87PublicKey, PreparedPrivateKey, PreparedPublicKey, PrivateKey, PublicKey,
+                    load_der_private_key, load_der_public_key, load_pem_private_key, load_pem_public_key)
 
-__all__ = [
-    "InvalidSignature",
-    "KeyFileError",
-    "MLDSA44PrivateKey",
-    "MLDSA44PublicKey",
-    "MLDSA65PrivateKey",
-    "MLDSA65PublicKey",
-    "MLDSA87PrivateKey",
-    "MLDSA87PublicKey",
-    "MessageHasher",
-    "PreparedPrivateKey",
-    "PreparedPublicKey",
-    "PrivateKey",
-    "PublicKey",
-    "SigningError",
-    "__version__",
-    "load_der_private_key",
-    "load_der_public_key",
-    "load_pem_private_key",
-    "load_pem_public_key",
-]
+__all__ = ["InvalidSignature", "KeyFileError", "MLDSA44PrivateKey", "MLDSA44PublicKey", "MLDSA65PrivateKey",
+           "MLDSA65PublicKey", "MLDSA87PrivateKey", "MLDSA87PublicKey", "MessageHasher", "PreparedPrivateKey",
+           "PreparedPublicKey", "PrivateKey", "PublicKey", "SigningError", "__version__", "load_der_private_key",
+           "load_der_public_key", "load_pem_private_key", "load_pem_public_key"]

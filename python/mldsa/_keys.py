@@ -7,9 +7,8 @@ import hashlib
 import os
 import secrets
 import threading
-from typing import (
-    TYPE_CHECKING, Any, ClassVar, Dict, Iterator, NoReturn, Optional, Protocol, Tuple, Type, TypeVar, Union,
-)
+from typing import (TYPE_CHECKING, Any, ClassVar, Dict, Iterator, NoReturn, Optional, Protocol, Tuple, Type, TypeVar,
+                    Union)
 
 from . import _files, _library
 from ._errors import InvalidSignature, KeyFileError, SigningError
@@ -79,7 +78,7 @@ def _digest(given: Buffer, hash_name: str) -> Tuple[bytes, bytes]:
 
 
 def _done(status: int) -> None:
-    """Raises for an answer that no argument can cause."""
+    """Raises for a status that no argument can cause."""
     if status != DONE:
         raise RuntimeError(f"mldsa: {_library.text(status)}")
 
@@ -106,17 +105,8 @@ class _Unique:
 
     __slots__ = ()
 
-    def _refused(self) -> NoReturn:
-        raise TypeError(f"{type(self).__name__} is not copied or pickled")
-
     def __reduce_ex__(self, protocol: Any) -> NoReturn:
-        self._refused()
-
-    def __copy__(self) -> NoReturn:
-        self._refused()
-
-    def __deepcopy__(self, memo: Any) -> NoReturn:
-        self._refused()
+        raise TypeError(f"{type(self).__name__} is not copied or pickled")
 
 
 class MessageHasher(_Unique):
@@ -243,9 +233,8 @@ class _Signer(_Key):
         """
         return self._signed("sign", deterministic, _bytes("the message", data), _context(context))
 
-    def sign_digest(
-        self, digest: Buffer, hash_name: str, context: Optional[Buffer] = None, *, deterministic: bool = False
-    ) -> bytes:
+    def sign_digest(self, digest: Buffer, hash_name: str, context: Optional[Buffer] = None, *,
+                    deterministic: bool = False) -> bytes:
         """The signature (HashML-DSA, Algorithm 4) of a digest by the hash function with this name in hashlib.
 
             >>> digest = hashlib.sha512(b"a message").digest()
@@ -304,9 +293,8 @@ class _Verifier(_Key):
         """
         self._verified("verify", signature, _bytes("the message", data), _context(context))
 
-    def verify_digest(
-        self, signature: Buffer, digest: Buffer, hash_name: str, context: Optional[Buffer] = None
-    ) -> None:
+    def verify_digest(self, signature: Buffer, digest: Buffer, hash_name: str,
+                      context: Optional[Buffer] = None) -> None:
         """Returns if the signature (HashML-DSA, Algorithm 5) is one of this digest by this function of hashlib.
 
             >>> digest = hashlib.sha512(b"a message").digest()
@@ -549,11 +537,9 @@ class PrivateKey(_Signer, _Unique):
         chosen = ("expanded" if self._seed is None else "seed") if parts is None else parts
         if chosen not in ("seed", "expanded", "both"):
             raise ValueError(f"parts is seed, expanded or both, and not {parts!r}")
-        call, size = {
-            "seed": ("seed_to_der", SEED_DER),
-            "expanded": ("private_key_to_der", self._set.private_key_der),
-            "both": ("both_to_der", self._set.both_der),
-        }[chosen]
+        call, size = {"seed": ("seed_to_der", SEED_DER),
+                      "expanded": ("private_key_to_der", self._set.private_key_der),
+                      "both": ("both_to_der", self._set.both_der)}[chosen]
         der = _library.room(size)
         _done(self._set.calls[call](self._plain if chosen == "expanded" else self.private_bytes_raw(), der))
         return der.raw

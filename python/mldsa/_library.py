@@ -7,7 +7,7 @@ import platform
 from typing import Any, Dict, List, Union
 
 from . import _stack
-from ._interface import CALLS, NUMBERS, TEXTS, VERSION, VERSION_TEXT
+from ._interface import CALLS, NUMBERS, VERSION, VERSION_TEXT
 
 # Bytes are read, the others written.
 Array = Union[bytes, "ctypes.Array[ctypes.c_char]"]
@@ -19,8 +19,10 @@ _SMALL = 4096
 
 
 def text(status: int) -> str:
-    """The text of an answer."""
-    return TEXTS.get(status, f"{status} is no answer of this library")
+    """The text of a status."""
+    array = room(NUMBERS["MLDSA_TEXT_LEN"])
+    _LIBRARY.mldsa_text_of(status, array, len(array))
+    return array.value.decode()
 
 
 def room(length: int) -> "ctypes.Array[ctypes.c_char]":
@@ -35,10 +37,11 @@ def _loaded() -> ctypes.CDLL:
     except OSError as error:
         here = f"{platform.system()} on {platform.machine()}"
         raise ImportError(f"the shared library of mldsa is not for {here}: {error}", path=path) from error
-    for name, arrays in CALLS.items():
+    for name, (numbers, arrays) in CALLS.items():
         function = getattr(library, name)
         pointers = [ctypes.POINTER(ctypes.c_char) if written else ctypes.c_char_p for written in arrays]
-        function.argtypes = [it for pointer in pointers for it in (pointer, ctypes.c_size_t)]
+        words = [it for pointer in pointers for it in (pointer, ctypes.c_size_t)]
+        function.argtypes = [*[ctypes.c_uint32] * numbers, *words]
         function.restype = ctypes.c_uint32
     found = library.mldsa_version()
     if found >> 8 != VERSION >> 8 or found < VERSION:
@@ -73,7 +76,7 @@ def _needed(number: int, name: str) -> int:
         return NUMBERS["MLDSA_STACK_MU"]
     if name.endswith("_der"):
         return NUMBERS[f"{stack}DER"]
-    short = {"check_private_key": "check", "is_whole": "whole", "is_pair": "pair"}.get(name, name)
+    short = {"accepts": "verify", "check_private_key": "check", "is_whole": "whole", "is_pair": "pair"}.get(name, name)
     return NUMBERS[stack + short.replace("hash_", "").replace("_mu", "").upper()]
 
 
@@ -88,13 +91,10 @@ class ParameterSet:
             NUMBERS[f"MLDSA{number}_{it}_LEN"]
             for it in ("PUBLIC_KEY", "PRIVATE_KEY", "SIGNATURE", "PREPARED_PUBLIC_KEY", "PREPARED_PRIVATE_KEY")
         )
-        self.public_key_der, self.private_key_der, self.both_der = (
-            NUMBERS[f"MLDSA{number}_{it}_DER_LEN"] for it in ("PUBLIC_KEY", "PRIVATE_KEY", "BOTH")
-        )
+        self.public_key_der, self.private_key_der, self.both_der = (NUMBERS[f"MLDSA{number}_{it}_DER_LEN"]
+                                                                    for it in ("PUBLIC_KEY", "PRIVATE_KEY", "BOTH"))
 
 
-SEED, RANDOM, MU, STATE, SEED_DER = (
-    NUMBERS[f"MLDSA_{it}_LEN"] for it in ("SEED", "RANDOM", "MU", "STATE", "SEED_DER")
-)
+SEED, RANDOM, MU, STATE, SEED_DER = (NUMBERS[f"MLDSA_{it}_LEN"] for it in ("SEED", "RANDOM", "MU", "STATE", "SEED_DER"))
 SETS = {number: ParameterSet(number) for number in (44, 65, 87)}
 mu_update, mu_finish = (Call(f"mldsa_mu_{it}", NUMBERS["MLDSA_STACK_MU"]) for it in ("update", "finish"))

@@ -102,7 +102,7 @@ _routine = _ROUTINE(_run)
 
 
 def on_own_thread(needed: int, function: Callable[..., Any], words: List[Any]) -> Any:
-    """What a function answers that runs on a thread of its own, with this much stack and what Python needs."""
+    """What a function returns that runs on a thread of its own, with this much stack and what Python needs."""
     job, attributes, thread = _Job(function, words), (ctypes.c_uint64 * _ATTRIBUTES)(), ctypes.c_ulong()
     _jobs[id(job)] = job
     try:

@@ -1,10 +1,8 @@
 """What the tests share: the parameter sets, and recorded values of the repository."""
-import base64
 import contextlib
 import hashlib
 import os
 import pathlib
-import re
 import shlex
 import sys
 from unittest import mock
@@ -21,6 +19,10 @@ PUBLIC = {number: getattr(mldsa, f"MLDSA{number}PublicKey") for number in NUMBER
 # Bytes of a public key, a private key and a signature (FIPS 204, Table 2).
 LENGTHS = {44: (1312, 2560, 2420), 65: (1952, 4032, 3309), 87: (2592, 4896, 4627)}
 SEED = bytes(range(32))
+# How hashlib calls the hash functions of FIPS 204, section 5.4, whose object identifiers are 2.16.840.1.101.3.4.2.1 to
+# .12.
+FUNCTIONS = ("sha256", "sha384", "sha512", "sha224", "sha512_224", "sha512_256", "sha3_224", "sha3_256", "sha3_384",
+             "sha3_512", "shake_128", "shake_256")
 # The words that start this interpreter, which an emulator may run.
 PYTHON = shlex.split(os.environ.get("MLDSA_PYTHON", sys.executable))
 # A program `mlsign`, if there is one.
@@ -41,15 +43,3 @@ def random(given):
     with mock.patch("secrets.token_bytes", return_value=given) as drawn:
         yield
     drawn.assert_called_once_with(len(given))
-
-
-def of_openssl(number):
-    """What OpenSSL 4.0.0 wrote of the seed 00 01 .. 1f: a private key and its public key as PEM, and the signature of
-    `message` under the context `context`."""
-    source = (TOP / "crates/mlsign_runs/src/recorded.rt").read_text(encoding="utf-8")
-
-    def found(name):
-        text = re.search(rf'pub static {name}_{number}: &\[u8\] = b"\\\n(.*?)";', source, re.S)[1]
-        return re.sub(r"\\\n *", "", text).strip(" ").replace("\\n", "\n").encode()
-
-    return found("PRIVATE"), found("PUBLIC"), base64.b64decode(found("SIGNATURE"))

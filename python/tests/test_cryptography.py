@@ -1,10 +1,11 @@
-"""Beside OpenSSL, through Python's `cryptography`."""
+"""Beside OpenSSL, through Python's `cryptography`, and its command."""
 import random
 import unittest
 
 from shared import NUMBERS, PRIVATE, PUBLIC
 
 import mldsa
+import openssl
 
 try:
     from cryptography.exceptions import InvalidSignature
@@ -79,3 +80,21 @@ class BesideOpenssl(unittest.TestCase):
             ):
                 names = {it for it in vars(getattr(theirs, kind)) if not it.startswith("_")} - own - {"register"}
                 self.assertEqual({it for it in names if not hasattr(here, it)}, set())
+
+
+@unittest.skipUnless(openssl.command(), openssl.MISSING)
+class BesideTheCommand(unittest.TestCase):
+    """Keys in files in each form, read and written by the command of OpenSSL."""
+
+    def test_files(self):
+        words = openssl.command()
+        for number in NUMBERS:
+            key = PRIVATE[number].generate()
+            public = key.public_key()
+            for form in ("DER", "PEM"):
+                files = {parts: getattr(key, f"to_{form.lower()}")(parts) for parts in openssl.FORMATS}
+                files["public"] = getattr(public, f"to_{form.lower()}")()
+                for parts, file in files.items():
+                    self.assertIsNone(openssl.wrong(words, parts, form, file, public.to_der()))
+            other = PRIVATE[number].generate().public_key().to_der()
+            self.assertIsNotNone(openssl.wrong(words, "seed", "DER", key.to_der(), other))

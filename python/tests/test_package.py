@@ -40,10 +40,9 @@ class Package(unittest.TestCase):
     def test_each_call_is_declared(self):
         """With as many arguments as the header has, so that none is passed in 32 bits."""
         for it in exports.exports():
-            if it.arrays() is not None:
-                function = getattr(_library._LIBRARY, it.name)
-                self.assertEqual(len(function.argtypes or ()), len(it.parameters), it.name)
-                self.assertEqual(function.restype.__name__, "c_uint", it.name)
+            function = getattr(_library._LIBRARY, it.name)
+            self.assertEqual(len(function.argtypes or ()), len(it.parameters), it.name)
+            self.assertEqual(function.restype.__name__, "c_uint", it.name)
 
     def test_lengths(self):
         for number, (public, private, signature) in shared.LENGTHS.items():
@@ -54,13 +53,8 @@ class Package(unittest.TestCase):
         self.assertEqual(sorted(mldsa.__all__), mldsa.__all__)
         for name in mldsa.__all__:
             self.assertTrue(getattr(mldsa, name).__doc__, name)
-        for kind in (
-            *shared.PRIVATE.values(),
-            *shared.PUBLIC.values(),
-            mldsa.PreparedPrivateKey,
-            mldsa.PreparedPublicKey,
-            mldsa.MessageHasher,
-        ):
+        for kind in (*shared.PRIVATE.values(), *shared.PUBLIC.values(), mldsa.PreparedPrivateKey,
+                     mldsa.PreparedPublicKey, mldsa.MessageHasher):
             for name in dir(kind):
                 if not name.startswith("_"):
                     self.assertTrue(getattr(kind, name).__doc__, f"{kind.__name__}.{name}")

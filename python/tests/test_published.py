@@ -2,84 +2,86 @@
 import contextlib
 import hashlib
 import io
+import re
 import sys
 import unittest
+from typing import Any, Callable, Dict
 
-from shared import LENGTHS, PRIVATE, PUBLIC, random, sha256
+from shared import FUNCTIONS, PRIVATE, PUBLIC, random, sha256
 
 import common
 import mldsa
 import published
 from mldsa import InvalidSignature
 
-# How hashlib calls the hash functions with the object identifiers 2.16.840.1.101.3.4.2.1 to .12.
-FUNCTIONS = (
-    "sha256 sha384 sha512 sha224 sha512_224 sha512_256 sha3_224 sha3_256 sha3_384 sha3_512 shake_128 shake_256".split()
-)
 NAMES = {f"060960864801650304020{last:x}": name for last, name in enumerate(FUNCTIONS, 1)}
-# What C2SP publishes (CCTV, "accumulated"): the SHAKE128 of 100 public keys and signatures of each set. The seeds are
-# the output of SHAKE128 for no message; each key signs the empty message, without a context and random bytes.
-ACCUMULATED = {
-    44: "d51148e1f9f4fa1a723a6cf42e25f2a99eb5c1b378b3d2dbbd561b1203beeae4",
-    65: "8358a1843220194417cadbc2651295cd8fc65125b5a5c1a239a16dc8b57ca199",
-    87: "8c3ad714777622b8f21ce31bb35f71394f23bc0fcf3c78ace5d608990f3b061b",
+# What a file has of a key: of which classes it is, and what makes a key of its bytes and gives them.
+PARTS = {
+    "public_key": (PUBLIC, "from_public_bytes", "public_bytes_raw"),
+    "private_key": (PRIVATE, "from_expanded_bytes", "expanded_bytes"),
+    "seed": (PRIVATE, "from_seed_bytes", "private_bytes_raw"),
+}
+# How each call of the published cases is made by the package, of a key and what is given besides.
+SIGNS: Dict[str, Callable[..., Any]] = {
+    "sign": lambda it, message, context: it.sign(message, context),
+    "hash_sign": lambda it, digest, context, oid: it.sign_digest(digest, NAMES[oid.hex()], context),
+    "sign_mu": lambda it, mu: it.sign_mu(mu),
+}
+VERIFIES: Dict[str, Callable[..., Any]] = {
+    "verify": lambda it, signature, message, context: it.verify(signature, message, context),
+    "hash_verify": lambda it, signature, digest, context, oid: it.verify_digest(
+        signature, digest, NAMES[oid.hex()], context),
+    "verify_mu": lambda it, signature, mu: it.verify_mu(signature, mu),
 }
 
 
-class Asked:
-    """The calls that the published cases make, by the package: with the plain and with the prepared key."""
-
-    @staticmethod
-    def keygen(number, seed):
-        key = PRIVATE[number].from_seed_bytes(seed)
-        return key.public_key().public_bytes_raw(), key.expanded_bytes()
-
-    @staticmethod
-    def signed(number, private, drawn, sign):
-        key, made = PRIVATE[number].from_expanded_bytes(private), set()
-        for signer in (key, key.prepare()):
-            with random(drawn):
-                made.add(sign(signer))
+def answer(number, name, key, *arguments):
+    """The answer of the package to a call, with the plain and with the prepared key."""
+    if name == "keygen":
+        private = PRIVATE[number].from_seed_bytes(key)
+        return private.public_key().public_bytes_raw(), private.expanded_bytes()
+    *given, last = arguments
+    if name in SIGNS:
+        private, made = PRIVATE[number].from_expanded_bytes(key), set()
+        for signer in (private, private.prepare()):
+            with random(last):
+                made.add(SIGNS[name](signer, *given))
         return tuple(made)
+    public, verdicts = PUBLIC[number].from_public_bytes(key), set()
+    for verifier in (public, public.prepare()):
+        try:
+            verdicts.add(VERIFIES[name](verifier, last, *given) is None)
+        except InvalidSignature:
+            verdicts.add(False)
+    return verdicts == {True} if len(verdicts) == 1 else verdicts
 
-    @staticmethod
-    def verified(number, public, verify):
-        key, verdicts = PUBLIC[number].from_public_bytes(public), set()
-        for verifier in (key, key.prepare()):
-            try:
-                verdicts.add(verify(verifier) is None)
-            except InvalidSignature:
-                verdicts.add(False)
-        return verdicts == {True} if len(verdicts) == 1 else verdicts
 
-    def sign(self, number, private, message, context, drawn):
-        return self.signed(number, private, drawn, lambda it: it.sign(message, context))
+def in_file(number, part, way, form, given):
+    """The file of a part of a key, or the part of a file's key, which has to be of the set."""
+    classes, make, bytes_of = PARTS[part]
+    if way == "to":
+        return (getattr(getattr(classes[number], make)(given), f"to_{form}")(),)
+    key = getattr(mldsa, f"load_{form}_{'public' if classes is PUBLIC else 'private'}_key")(given)
+    if type(key) is not classes[number]:
+        raise AssertionError(f"{key} is not of ML-DSA-{number}")
+    return (getattr(key, bytes_of)(),)
 
-    def verify(self, number, public, message, context, signature):
-        return self.verified(number, public, lambda it: it.verify(signature, message, context))
 
-    def hash_sign(self, number, private, digest, context, oid, drawn):
-        return self.signed(number, private, drawn, lambda it: it.sign_digest(digest, NAMES[oid.hex()], context))
-
-    def hash_verify(self, number, public, digest, context, oid, signature):
-        name = NAMES[oid.hex()]
-        return self.verified(number, public, lambda it: it.verify_digest(signature, digest, name, context))
-
-    def sign_mu(self, number, private, mu, drawn):
-        return self.signed(number, private, drawn, lambda it: it.sign_mu(mu))
-
-    def verify_mu(self, number, public, mu, signature):
-        return self.verified(number, public, lambda it: it.verify_mu(signature, mu))
-
-    def __call__(self, asked):
-        found = []
-        for number, call in asked:
-            name, *arguments = published.by_mu(*call)
-            try:
-                found.append(getattr(self, name)(int(number), *arguments))
-            except ValueError as error:
-                found.append(published.Refused(str(error)))
-        return found
+def answers(asked):
+    """The answers to the calls of the published cases; a key or an argument that the package does not take is
+    refused."""
+    found = []
+    for number, call in asked:
+        name, *arguments = published.by_mu(*call)
+        file = re.fullmatch(r"(\w+)_(from|to)_(der|pem)", name)
+        try:
+            if file:
+                found.append(in_file(int(number), *file.groups(), *arguments))
+            else:
+                found.append(answer(int(number), name, *arguments))
+        except ValueError as error:
+            found.append(published.Refused(str(error)))
+    return found
 
 
 class Published(unittest.TestCase):
@@ -87,41 +89,20 @@ class Published(unittest.TestCase):
 
     @unittest.skipIf(sys.version_info < (3, 10), "vectors/published.py wants Python 3.10 or later")
     def test_vectors(self):
-        chosen, said = published.cases(), io.StringIO()
+        chosen, said = published.cases("DER", "PEM"), io.StringIO()
         other = published.with_a_bit_changed(chosen)
         with contextlib.redirect_stdout(said):
-            outcomes = (published.outcomes(it, Asked()) for it in (chosen, other))
-            fine = published.judged("Python", chosen, next(outcomes), other, next(outcomes))
+            fine = published.judged("Python", chosen, published.outcomes(chosen, answers), other,
+                                    published.outcomes(other, answers))
         self.assertTrue(fine, said.getvalue())
-        self.assertEqual(len(chosen), 1205)
-
-    def test_keys_in_files(self):
-        """Wycheproof's keys in DER: those of public keys of a wrong length are none."""
-        counts = {"private": 0, "public": 0, "refused": 0}
-        for case in published.cases():
-            number, given = int(case.set), case.given
-            if "private_key_pkcs8" in given:
-                read = mldsa.load_der_private_key(given["private_key_pkcs8"])
-                self.assertIs(type(read), PRIVATE[number])
-                self.assertEqual((read.private_bytes_raw(), read.to_der()), (given["seed"], given["private_key_pkcs8"]))
-                counts["private"] += 1
-            elif "public_key_der" in given and len(given["public_key"]) == LENGTHS[number][0]:
-                public = mldsa.load_der_public_key(given["public_key_der"])
-                self.assertEqual(public, PUBLIC[number].from_public_bytes(given["public_key"]))
-                self.assertEqual(public.to_der(), given["public_key_der"])
-                counts["public"] += 1
-            elif "public_key_der" in given:
-                with self.assertRaisesRegex(mldsa.KeyFileError, "^its key has a wrong length$"):
-                    mldsa.load_der_public_key(given["public_key_der"])
-                counts["refused"] += 1
-        self.assertEqual(counts, {"private": 176, "public": 233, "refused": 6})
+        self.assertEqual(len(chosen), 1205 + 2 * 605)
 
     def test_accumulated(self):
         seeds = hashlib.shake_128(b"").digest(3200)
-        for number, wanted in ACCUMULATED.items():
-            made = hashlib.shake_128()
+        for number, wanted in common.ACCUMULATED.items():
+            made, kind = hashlib.shake_128(), PRIVATE[int(number)]
             for at in range(0, 3200, 32):
-                key = PRIVATE[number].from_seed_bytes(seeds[at:at + 32])
+                key = kind.from_seed_bytes(seeds[at:at + 32])
                 made.update(key.public_key().public_bytes_raw() + key.sign(b"", deterministic=True))
             self.assertEqual(made.hexdigest(32), wanted)
 
@@ -132,14 +113,9 @@ class Published(unittest.TestCase):
         for row in rows:
             number, (seed, drawn, context, message) = int(row[0]), map(bytes.fromhex, row[1:5])
             key = PRIVATE[number].from_seed_bytes(seed)
+            front, given = "hash_" if row[8:] else "", (message, context, *map(bytes.fromhex, row[8:]))
             with random(drawn):
-                if len(row) == 8:
-                    signature = key.sign(message, context)
-                else:
-                    signature = key.sign_digest(message, NAMES[row[8]], context)
+                signature = SIGNS[f"{front}sign"](key, *given)
             made = (key.public_key().public_bytes_raw(), key.expanded_bytes(), signature)
             self.assertEqual([sha256(it) for it in made], row[5:8])
-            if len(row) == 8:
-                key.public_key().verify(signature, message, context)
-            else:
-                key.public_key().verify_digest(signature, message, NAMES[row[8]], context)
+            VERIFIES[f"{front}verify"](key.public_key(), signature, *given)

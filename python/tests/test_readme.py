@@ -43,9 +43,7 @@ class Page(unittest.TestCase):
         self.assertGreaterEqual(len(BLOCKS), 2)
         for number, block in enumerate(BLOCKS):
             with self.subTest(number=number), tempfile.TemporaryDirectory() as room:
-                done = subprocess.run(
-                    [*PYTHON, "-c", block], cwd=room, capture_output=True, text=True, check=False
-                )
+                done = subprocess.run([*PYTHON, "-c", block], cwd=room, capture_output=True, text=True, check=False)
                 self.assertEqual((done.returncode, done.stderr), (0, ""))
                 if number == 0:
                     self.assertEqual(done.stdout, "the signature is invalid\n")
@@ -59,19 +57,10 @@ class Page(unittest.TestCase):
             for number, block in enumerate([*BLOCKS, TYPES, wrong]):
                 file = pathlib.Path(room) / f"block{number}.py"
                 file.write_text(block, encoding="utf-8")
-                environment = {
-                    "PATH": "/usr/bin:/bin",
-                    "MYPYPATH": str(pathlib.Path(mldsa.__file__).parent.parent),
-                    "HOME": room,
-                }
-                done = subprocess.run(
-                    [mypy, "--strict", file.name],
-                    cwd=room,
-                    env=environment,
-                    capture_output=True,
-                    text=True,
-                    check=False,
-                )
+                environment = {"PATH": "/usr/bin:/bin", "MYPYPATH": str(pathlib.Path(mldsa.__file__).parent.parent),
+                               "HOME": room}
+                done = subprocess.run([mypy, "--strict", file.name], cwd=room, env=environment, capture_output=True,
+                                      text=True, check=False)
                 self.assertEqual(done.returncode, int(block is wrong), done.stdout)
 
     def test_stack(self):

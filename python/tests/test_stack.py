@@ -66,12 +66,21 @@ thread.join()
 """
 
 
+# The calls that need each of the stacks that c/mldsa.h states.
+CALLS_OF_STACK = {
+    "KEYGEN": "keygen", "SIGN": "sign hash_sign sign_mu", "VERIFY": "verify hash_verify verify_mu",
+    "PUBLIC_KEY": "public_key", "CHECK": "check_private_key", "WHOLE": "is_whole", "PAIR": "is_pair",
+    "PREPARE_PUBLIC_KEY": "prepare_public_key", "PREPARE_PRIVATE_KEY": "prepare_private_key",
+    "SIGN_PREPARED": "sign_prepared hash_sign_prepared sign_mu_prepared",
+    "VERIFY_PREPARED": "verify_prepared hash_verify_prepared verify_mu_prepared",
+}
+
+
 def printed(code, *words, limit=None):
     """What a program prints; with a limit in KiB for the stack of its first thread."""
     front = ["sh", "-c", f'ulimit -s {limit}; exec "$@"', "sh"] if limit else []
-    done = subprocess.run(
-        [*front, *PYTHON, "-c", code, *map(str, words)], cwd="/", capture_output=True, text=True, check=False
-    )
+    done = subprocess.run([*front, *PYTHON, "-c", code, *map(str, words)], cwd="/", capture_output=True, text=True,
+                          check=False)
     return done.stdout.strip() or f"status {done.returncode}: {done.stderr}"
 
 
@@ -99,9 +108,8 @@ class Stacks(unittest.TestCase):
 
     def test_where_it_cannot_be_known(self):
         key = PRIVATE[44].from_seed_bytes(SEED)
-        with mock.patch.object(_stack, "left", return_value=0), mock.patch.object(
-            _stack, "on_own_thread", wraps=_stack.on_own_thread
-        ) as own:
+        watched = mock.patch.object(_stack, "on_own_thread", wraps=_stack.on_own_thread)
+        with mock.patch.object(_stack, "left", return_value=0), watched as own:
             signature = key.sign(b"m", deterministic=True)
             key.public_key().verify(signature, b"m")
             wanted = [_library.NUMBERS[f"MLDSA44_STACK_{call}"] for call in ("SIGN", "VERIFY")]
@@ -111,13 +119,12 @@ class Stacks(unittest.TestCase):
     def test_no_thread_can_be_started(self):
         key = PRIVATE[44].from_seed_bytes(SEED)
         with mock.patch.object(_stack, "left", return_value=0), mock.patch.object(_stack, "_create", return_value=11):
-            with self.assertRaisesRegex(OSError, "too little stack, and no thread with .* bytes could be started"):
-                key.sign(b"m")
+            self.assertRaisesRegex(OSError, "too little stack, and no thread with .* bytes could be started", key.sign,
+                                   b"m")
         self.assertEqual(_stack._jobs, {})
 
     def test_faults_of_another_thread(self):
-        with self.assertRaises(ZeroDivisionError):
-            _stack.on_own_thread(0, lambda: 1 // 0, [])
+        self.assertRaises(ZeroDivisionError, _stack.on_own_thread, 0, lambda: 1 // 0, [])
         self.assertEqual(_stack.on_own_thread(0, lambda one, two: one + two, [1, 2]), 3)
         self.assertEqual(_stack._jobs, {})
 
@@ -125,25 +132,6 @@ class Stacks(unittest.TestCase):
         numbers = _library.NUMBERS
         for number in NUMBERS:
             calls = _library.SETS[number].calls
-            for name, constant in (
-                ("keygen", "KEYGEN"),
-                ("sign", "SIGN"),
-                ("hash_sign", "SIGN"),
-                ("sign_mu", "SIGN"),
-                ("verify", "VERIFY"),
-                ("hash_verify", "VERIFY"),
-                ("verify_mu", "VERIFY"),
-                ("public_key", "PUBLIC_KEY"),
-                ("check_private_key", "CHECK"),
-                ("is_whole", "WHOLE"),
-                ("is_pair", "PAIR"),
-                ("prepare_public_key", "PREPARE_PUBLIC_KEY"),
-                ("prepare_private_key", "PREPARE_PRIVATE_KEY"),
-                ("sign_prepared", "SIGN_PREPARED"),
-                ("hash_sign_prepared", "SIGN_PREPARED"),
-                ("sign_mu_prepared", "SIGN_PREPARED"),
-                ("verify_prepared", "VERIFY_PREPARED"),
-                ("hash_verify_prepared", "VERIFY_PREPARED"),
-                ("verify_mu_prepared", "VERIFY_PREPARED"),
-            ):
-                self.assertEqual(calls[name]._needed, numbers[f"MLDSA{number}_STACK_{constant}"], name)
+            for constant, names in CALLS_OF_STACK.items():
+                for name in names.split():
+                    self.assertEqual(calls[name]._needed, numbers[f"MLDSA{number}_STACK_{constant}"], name)

@@ -1,5 +1,5 @@
 /* Makes the calls that standard input asks for, a line each: the number of a set, the name of a call, and its arrays in hex, with a tab between.
- * Prints a line for each: what was written in hex, with a tab between; yes or no; or the text of another answer. */
+ * Prints a line for each: what was written in hex, with a tab between; yes or no; or the text of another result. */
 #define _POSIX_C_SOURCE 200809L
 #include "../../c/tests/sets.h"
 
@@ -53,7 +53,7 @@ static void answer(uint32_t status, const uint8_t *first, size_t first_len, cons
 
 int main(void)
 {
-    static uint8_t public_key[LONGEST_KEY], private_key[LONGEST_KEY], signature[LONGEST_SIGNATURE];
+    static uint8_t public_key[LONGEST_KEY], private_key[LONGEST_KEY], signature[LONGEST_SIGNATURE], file[LONGEST_DER];
     char *line = NULL, call[32];
     size_t room = 0;
     int number;
@@ -74,7 +74,7 @@ int main(void)
         for (int i = 0; i < MOST; i++)
             if (!arrays[i])
                 (void)read_hex("", i);
-        size_t pk = s->public_key_len, sk = s->private_key_len, sig = s->signature_len;
+        size_t pk = s->public_key_len, sk = s->private_key_len, sig = s->signature_len, der = s->public_key_der_len;
         if (strcmp(call, "keygen") == 0)
             answer(s->keygen(ARRAY(0), public_key, pk, private_key, sk), public_key, pk, private_key, sk);
         else if (strcmp(call, "sign") == 0)
@@ -89,6 +89,20 @@ int main(void)
             answer(s->sign_mu(ARRAY(0), ARRAY(1), ARRAY(2), signature, sig), signature, sig, NULL, 0);
         else if (strcmp(call, "verify_mu") == 0)
             answer(s->verify_mu(ARRAY(0), ARRAY(1), ARRAY(2)), NULL, 0, NULL, 0);
+        else if (strcmp(call, "public_key_from_der") == 0)
+            answer(s->public_key_from_der(ARRAY(0), public_key, pk), public_key, pk, NULL, 0);
+        else if (strcmp(call, "public_key_to_der") == 0)
+            answer(s->public_key_to_der(ARRAY(0), file, der), file, der, NULL, 0);
+        else if (strcmp(call, "private_key_from_der") == 0)
+            answer(s->private_key_from_der(ARRAY(0), private_key, sk), private_key, sk, NULL, 0);
+        else if (strcmp(call, "seed_from_der") == 0)
+            answer(s->seed_from_der(ARRAY(0), private_key, MLDSA_SEED_LEN), private_key, MLDSA_SEED_LEN, NULL, 0);
+        else if (strcmp(call, "private_key_to_der") == 0)
+            answer(s->private_key_to_der(ARRAY(0), file, s->private_key_der_len), file, s->private_key_der_len, NULL, 0);
+        else if (strcmp(call, "seed_to_der") == 0)
+            answer(s->seed_to_der(ARRAY(0), file, MLDSA_SEED_DER_LEN), file, MLDSA_SEED_DER_LEN, NULL, 0);
+        else if (strcmp(call, "both_to_der") == 0)
+            answer(s->both_to_der(ARRAY(0), file, s->both_der_len), file, s->both_der_len, NULL, 0);
         else
             return 2;
     }

@@ -2,7 +2,7 @@
 
 pub use real_sha3::{digest, Shake128, Shake256, Shake256Core};
 
-/// The streams of a process, which the command line still names.
+/// The XOFs of a process, which the command line still names.
 #[derive(Clone, Copy)]
 pub enum Streams {
     /// The first name.

@@ -1,6 +1,6 @@
 /* The memory of portable C, which this program hands in: each call wipes it, also where it is refused or cannot be
  * made. `memory measure` prints how much of the module's stack each call uses: SET NAME BYTES. Compiled with a
- * MLDSA_MODULE_STACK that is too small for some calls, these answer MLDSA_NO_ANSWER, and the others as ever. */
+ * MLDSA_MODULE_STACK that is too small for some calls, these return MLDSA_NO_ANSWER, and the others as ever. */
 #define MLDSA_MEMORY_FROM_CALLER
 #include <stddef.h>
 static void noted(unsigned char *at, size_t len);
@@ -42,7 +42,7 @@ static void is_clean(void)
 static int measure;
 /* Whether each call of a set was done so far: where one was not, what the others read is missing. */
 static int whole;
-/* An answer that is to be had, or, where the stack is small, may be had: gives whether it was. */
+/* A result that is to be had, or, where the stack is small, may be had: gives whether it was. */
 static int got(int set, const char *name, uint32_t answer, uint32_t wanted)
 {
     /* An eighth of the whole stack stays free. */

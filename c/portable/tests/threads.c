@@ -1,4 +1,4 @@
-/* Four threads at once, each with its own keys and the memory that is its own: every answer is as if it were alone. */
+/* Four threads at once, each with its own keys and the memory that is its own: every result is as if it were alone. */
 #include "mldsa_portable.h"
 #include "sets.h"
 

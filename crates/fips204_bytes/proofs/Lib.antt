@@ -5,3 +5,4 @@ mod Binding
 mod PreparedKeys
 mod Errors
 mod KeyRange
+mod Spellings

@@ -34,12 +34,12 @@ pub taken : {P : Type 0} (Q : Type 0) (b : Bool) → b ≡ true → MatchBool b 
 taken Q true is p = p
 taken Q false is q = absurd cc
 
--- an answer whose refusals are refuted
+-- an answer whose errors are refuted
 pub answered : {A E : Type 0} (r : Result A E) (P : A → Type 0) (Q : E → Type 0) → MatchResult r P Q → ((e : E) → ¬ (Q e)) → (a : A) × (r ≡ Ok a) × P a
 answered (Ok a) P Q p never = (a, refl, p)
 answered (Err e) P Q q never = absurd (never e q)
 
--- success is no refusal
+-- success is no error
 pub not_done : {A : Type 0} (a : A) (why : Refusal) → ¬ (Path (Result A Refusal) (Ok a) (Err why))
 not_done a why e = absurd cc
 

@@ -30,7 +30,7 @@ with_only : {A : Type 0} (has uses : A → Type 0) (refuses : Refusal → Type 0
 with_only has uses refuses key own only (Some other, is, used) = subst uses (only other is) used
 with_only has uses refuses key own only (None, none, refused) = absurd (none key own)
 
--- no answer of success is a refusal
+-- no answer of success is an error
 unrefused : (old new : List ℕ) (why : Refusal) → ¬ (Leaves old new (Ok tt) why)
 unrefused old new why (_, is) = not_done tt why is
 

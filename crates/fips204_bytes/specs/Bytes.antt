@@ -1,4 +1,4 @@
--- What the calls do with arrays of any length (FIPS 204), over streams H and G. A last answer is what the call returns.
+-- What the calls do with arrays of any length (FIPS 204), over XOFs H and G. A last result is what the call returns.
 use Rattle.std.specs.Prelude.{◌≡◌, ◌↔◌, ℕ, Bool, IsTrue, MatchBool, length, nat_eq, Result, Ok, Err, MatchResult, ⊤}
 use Rattle.fips204_base.specs.declared.fault.Fault.{Fault}
 use Rattle.fips204_base.specs.Encodings.{PublicParts, PrivateParts, IsPublicKeyOf, public_key_bytes, private_key_bytes}
@@ -21,12 +21,12 @@ IfSized wanted which bytes fits refuses = MatchBool (nat_eq (length bytes) wante
 abbrev pub Leaves : Bytes → Bytes → Result ⊤ Refusal → Refusal → Type 0
 Leaves old new answer why = (new ≡ old) × (answer ≡ Err why)
 
--- an array is written: it has the bytes of what was made; or it is as it was, and the answer says why
+-- an array is written: it has the bytes of what was made; or it is as it was, and the result says why
 abbrev pub Writes : {A : Type 0} → (A → Bytes) → Result A Fault → Bytes → Bytes → Result ⊤ Refusal → Type 0
 Writes bytes_of made old new answer =
     MatchResult made (λ value. (new ≡ bytes_of value) × (answer ≡ Ok tt)) (λ fault. Leaves old new answer (Library fault))
 
--- a question is answered as this
+-- a question has this result
 abbrev pub Tells : Result Bool Fault → Result Bool Refusal → Type 0
 Tells told answer = MatchResult told (λ yes. answer ≡ Ok yes) (λ fault. answer ≡ Err (Library fault))
 

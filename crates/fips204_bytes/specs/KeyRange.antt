@@ -20,7 +20,7 @@ small_polynomial_at p key i =
 abbrev pub HasFieldAbove : ParameterSet → Bytes → Type 0
 HasFieldAbove p key = (i : ℕ) × (i < p.l + p.k) × Any (λ x. x <ℤ (pos 0 -ℤ pos p.eta)) (small_polynomial_at p key i).0
 
--- these arrays are those of which check_private_key answers KeyRange
+-- these arrays are those of which check_private_key returns KeyRange
 abbrev pub RangeIsOfFields : ParameterSet → Type 0
 RangeIsOfFields p = (key : Bytes) (answer : Result ⊤ Refusal) → All (λ byte. byte < 256) key → length key ≡ private_key_length p → Checks p key answer
     → (answer ≡ Err (Library KeyRange)) ↔ HasFieldAbove p key

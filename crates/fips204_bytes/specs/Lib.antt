@@ -5,3 +5,4 @@ pub mod Binding
 pub mod Prepared
 pub mod Errors
 pub mod KeyRange
+pub mod Spellings

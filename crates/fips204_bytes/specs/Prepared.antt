@@ -1,4 +1,4 @@
--- What the calls with prepared keys do with arrays of any length, over streams H and G. A last answer is what the call returns.
+-- What the calls with prepared keys do with arrays of any length, over XOFs H and G. A last result is what the call returns.
 use Rattle.std.specs.Prelude.{◌≡◌, ◌↔◌, Bool, IsTrue, Option, MatchOption, Result, Ok, Err, ⊤}
 use Rattle.fips204_base.specs.Encodings.{PublicParts, IsPublicKeyOf}
 use Rattle.fips204_base.specs.Streams.{Bytes, XOF}
@@ -55,8 +55,8 @@ SignsPrepared p H key rnd input old new answer =
     IfSized (prepared_private_length p) PreparedPrivateKey key (IfSized (signature_length p) Signature old
     (WritesPreparedSignature p H key rnd input old new answer) (Leaves old new answer)) (Leaves old new answer)
 
--- with the bytes that preparing a key has written, verifying and signing answer what they answer with the key, for every input; of
--- other bytes nothing more is stated than the answers of the key and the matrix in them
+-- with the bytes that preparing a key has written, verifying and signing return what they return with the key, for every input; of
+-- other bytes nothing more is stated than the results of the key and the matrix in them
 pub record PreparedStandsForPlain (p : ParameterSet) (H G : XOF) : Type 0 where
   pub judged : (key old prepared : Bytes) (input : Input) (signature : Bytes) (answer : Result Bool Refusal)
       → PreparesPublic p H G key old prepared (Ok tt) → JudgesPrepared p H prepared input signature answer → Judges p H G key input signature answer

@@ -23,7 +23,7 @@ macro_rules! of_set {
     };
 }
 
-/// ML-DSA (FIPS 204) over bytes, over the streams `H` and `G`, for those who know the parameter set only when the program runs:
+/// ML-DSA (FIPS 204) over bytes, over the XOFs `H` and `G`, for those who know the parameter set only when the program runs:
 /// each call does what the call of `Calls` does at the set of this name.
 pub struct ByName<H, G>(PhantomData<(H, G)>);
 

@@ -20,7 +20,7 @@ use fips204::types::{KG, PreparedPrivateKey, PreparedPublicKey, PrivateKey, Publ
 use fips204::xof::Xof;
 use std::marker::PhantomData;
 
-/// ML-DSA (FIPS 204) over bytes at one parameter set: the one whose matrix has `K` rows and `L` columns, over the streams `H`
+/// ML-DSA (FIPS 204) over bytes at one parameter set: the one whose matrix has `K` rows and `L` columns, over the XOFs `H`
 /// and `G` (SHAKE256 and SHAKE128 in the standard), of plain and of prepared keys.
 ///
 /// In contracts `S.set` is the set's row of the standard's tables. The calls make no value of this type.
@@ -121,12 +121,15 @@ where
         requires lengths { (length private_key.now ≡ SK_LEN) × (length signature.old ≡ SIG_LEN) }
         ensures { WritesSignature S.set H.front G.front private_key.now random.now (input_of input.now) signature.old signature.new result }
     {
-        match &PrivateKey::<K, L, H, G>::try_from_bytes(array_of(private_key)) {
+        match &PrivateKey::<K, L, H, G>::try_from_bytes(*array_of(private_key)) {
             Err(fault) => Err(Refusal::Library(*fault)),
-            Ok(key) => {
-                signature.copy_from_slice(&key.sign_input(random, input)?);
-                Ok(())
-            }
+            Ok(key) => match &key.sign_input(random, input) {
+                Err(fault) => Err(Refusal::Library(*fault)),
+                Ok(made) => {
+                    signature.copy_from_slice(made);
+                    Ok(())
+                }
+            },
         }
     }
 
@@ -151,9 +154,9 @@ where
         requires lengths { (length public_key.now ≡ PK_LEN) × (length signature.now ≡ SIG_LEN) }
         ensures { TellsVerdict S.set H.front G.front public_key.now (input_of input.now) signature.now result }
     {
-        match &PublicKey::<K, L, H, G>::try_from_bytes(array_of(public_key)) {
+        match &PublicKey::<K, L, H, G>::try_from_bytes(*array_of(public_key)) {
             Err(fault) => Err(Refusal::Library(*fault)),
-            Ok(key) => Ok(key.accepts_input(input, &array_of(signature))),
+            Ok(key) => Ok(key.accepts_input(input, array_of(signature))),
         }
     }
 
@@ -178,7 +181,7 @@ where
         requires lengths { (length private_key.now ≡ SK_LEN) × (length public_key.old ≡ PK_LEN) }
         ensures { WritesPublic S.set G.front private_key.now public_key.old public_key.new result }
     {
-        match &PrivateKey::<K, L, H, G>::try_from_bytes(array_of(private_key)) {
+        match &PrivateKey::<K, L, H, G>::try_from_bytes(*array_of(private_key)) {
             Err(fault) => Err(Refusal::Library(*fault)),
             Ok(key) => {
                 public_key.copy_from_slice(&key.get_public_key()?.into_bytes());
@@ -197,11 +200,13 @@ where
         if private_key.len() != SK_LEN {
             return Err(Refusal::Length(Array::PrivateKey));
         }
-        PrivateKey::<K, L, H, G>::try_from_bytes(array_of(private_key))?;
-        Ok(())
+        match &PrivateKey::<K, L, H, G>::try_from_bytes(*array_of(private_key)) {
+            Err(fault) => Err(Refusal::Library(*fault)),
+            Ok(_) => Ok(()),
+        }
     }
 
-    /// Tells whether a private key is whole: whether its t0 belongs to its s1 and s2.
+    /// Tells whether a private key is consistent: whether its t0 belongs to its s1 and s2.
     ///
     /// Errors: the length of `private_key`; then `Fault::KeyRange` if no private key has these bytes; then those of
     /// `PrivateKey::is_whole`.
@@ -212,13 +217,13 @@ where
         if private_key.len() != SK_LEN {
             return Err(Refusal::Length(Array::PrivateKey));
         }
-        match &PrivateKey::<K, L, H, G>::try_from_bytes(array_of(private_key)) {
+        match &PrivateKey::<K, L, H, G>::try_from_bytes(*array_of(private_key)) {
             Err(fault) => Err(Refusal::Library(*fault)),
             Ok(key) => Ok(key.is_whole()?),
         }
     }
 
-    /// Tells whether a private key and the public key that belongs to it are a pair: whether it is whole, and its `tr` is the
+    /// Tells whether a private key and the public key that belongs to it are a pair: whether it is consistent, and its `tr` is the
     /// hash of that key's bytes.
     ///
     /// Errors: the length of `private_key`; then `Fault::KeyRange` if no private key has these bytes; then those of
@@ -230,7 +235,7 @@ where
         if private_key.len() != SK_LEN {
             return Err(Refusal::Length(Array::PrivateKey));
         }
-        match &PrivateKey::<K, L, H, G>::try_from_bytes(array_of(private_key)) {
+        match &PrivateKey::<K, L, H, G>::try_from_bytes(*array_of(private_key)) {
             Err(fault) => Err(Refusal::Library(*fault)),
             Ok(key) => Ok(key.is_pair()?),
         }
@@ -272,7 +277,7 @@ where
         requires lengths { (length public_key.now ≡ PK_LEN) × (length prepared.old ≡ prepared_public_length S.set) }
         ensures { WritesPreparedPublic S.set H.front G.front public_key.now prepared.old prepared.new result }
     {
-        match &PublicKey::<K, L, H, G>::try_from_bytes(array_of(public_key)) {
+        match &PublicKey::<K, L, H, G>::try_from_bytes(*array_of(public_key)) {
             Err(fault) => Err(Refusal::Library(*fault)),
             Ok(key) => Ok(key.write_prepared(prepared)?),
         }
@@ -308,8 +313,7 @@ where
         requires lengths { (length prepared.now ≡ prepared_public_length S.set) × (length signature.now ≡ SIG_LEN) }
         ensures { TellsPreparedVerdict S.set H.front prepared.now (input_of input.now) signature.now result }
     {
-        let signature = array_of(signature);
-        match PreparedPublicKey::<K, L, H>::accepts_by_bytes(prepared, input, &signature) {
+        match PreparedPublicKey::<K, L, H>::accepts_by_bytes(prepared, input, array_of(signature)) {
             None => Err(Refusal::NotPrepared),
             Some(verdict) => Ok(verdict),
         }
@@ -337,7 +341,7 @@ where
         requires lengths { (length private_key.now ≡ SK_LEN) × (length prepared.old ≡ prepared_private_length S.set) }
         ensures { WritesPreparedPrivate S.set G.front private_key.now prepared.old prepared.new result }
     {
-        match &PrivateKey::<K, L, H, G>::try_from_bytes(array_of(private_key)) {
+        match &PrivateKey::<K, L, H, G>::try_from_bytes(*array_of(private_key)) {
             Err(fault) => Err(Refusal::Library(*fault)),
             Ok(key) => Ok(key.write_prepared(prepared)?),
         }

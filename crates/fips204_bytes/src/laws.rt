@@ -10,8 +10,11 @@ ghost use Rattle.fips204_bytes.specs.KeyRange.{RangeIsOfFields};
 ghost use Rattle.fips204_bytes.specs.Mu.{MuStandsForInput, FramedStandsForInput};
 ghost use Rattle.fips204_bytes.specs.Pairs.{PairsBelong};
 ghost use Rattle.fips204_bytes.specs.Prepared.{PreparedStandsForPlain};
+ghost use Rattle.fips204_bytes.specs.Spellings.{HasOneSpelling};
 
-use fips204::laws::{binding, key_bytes, prepared_bytes, prepared_keys, signed_is_accepted};
+use fips204::laws::{
+    binding, key_bytes, prepared_bytes, prepared_keys, signature_spelling, signed_is_accepted,
+};
 
 /// The keys that one call of `keygen` wrote belong together, and so do a private key of which `is_pair` says yes and the
 /// public key that `public_key` wrote of it: `verify` says yes to what `sign` wrote, `check_private_key`, `is_whole` and
@@ -45,7 +48,7 @@ pub fn signature_binds()
     key_bytes();
 }
 
-/// With the bytes that preparing a key has written, verifying and signing answer what they answer with the key itself, for every
+/// With the bytes that preparing a key has written, verifying and signing return what they return with the key itself, for every
 /// input, every signature and all random bytes.
 pub fn prepared_stands_for_plain()
     ensures { (p : ParameterSet) (H G : XOF) → IsSet p → PreparedStandsForPlain p H G }
@@ -59,8 +62,17 @@ pub fn errors_leave_arrays()
     ensures { (p : ParameterSet) (H G : XOF) → ErrorsLeave p H G }
 {}
 
-/// `check_private_key` answers `Fault::KeyRange` of an array of the right length if and only if a field of s1 or s2 in it is
+/// `check_private_key` returns `Fault::KeyRange` of an array of the right length if and only if a field of s1 or s2 in it is
 /// above 2 eta.
 pub fn key_range()
     ensures { (p : ParameterSet) → IsSet p → RangeIsOfFields p }
 {}
+
+/// Signatures, public keys and private keys have one spelling each: bytes that decode are as many as the set's, what they decode to
+/// encodes to them, no other array decodes to it, and they decode to nothing else.
+pub fn one_spelling()
+    ensures { (p : ParameterSet) (H : XOF) → IsSet p → HasOneSpelling p H }
+{
+    signature_spelling();
+    key_bytes();
+}

@@ -3,12 +3,10 @@
 
 ghost use Rattle.std.specs.Prelude.{◌≡◌, length};
 
-/// Bytes of a known number as an array.
-pub fn array_of<const N: usize>(bytes: &[u8]) -> [u8; N]
+/// Bytes of a known number as an array, where they lie.
+pub fn array_of<const N: usize>(bytes: &[u8]) -> &[u8; N]
     requires { length bytes.now ≡ N }
-    ensures { result ≡ bytes.now }
+    ensures { result.now ≡ bytes.now }
 {
-    let mut array = [0; N];
-    array.copy_from_slice(bytes);
-    array
+    bytes.as_array::<N>().unwrap()
 }

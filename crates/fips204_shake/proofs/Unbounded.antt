@@ -1,4 +1,4 @@
--- The fronts are the beginning of SHAKE's output.
+-- The bounded outputs are the beginning of SHAKE's output.
 use Rattle.std.proofs.Common.{rules, ◌≡◌, ◌<◌, ◌≤◌, ◌*◌, ℕ, List, length, take, ◌∙◌, arith}
 use Rattle.std.proofs.lemmas.List.{take-take}
 use Rattle.std.specs.Int.{div_ceil}

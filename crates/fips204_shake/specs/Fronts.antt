@@ -1,4 +1,4 @@
--- The fronts of the streams, and their lengths.
+-- The outputs of the XOFs, and their lengths.
 use Rattle.std.specs.Prelude.{◌≡◌, ℕ, List, length}
 use Rattle.std.proofs.Common.{rules}
 use Rattle.shake.specs.Shake.{shake128, shake256}

@@ -1,4 +1,4 @@
--- What it changes that the output of the streams has an end here, and none in the standard (FIPS 202, 6.2; FIPS 204, 3.7).
+-- What it changes that the output of the XOFs has an end here, and none in the standard (FIPS 202, 6.2; FIPS 204, 3.7).
 use Rattle.std.specs.Prelude.{◌≤◌, ℕ}
 use Rattle.fips204_base.specs.Streams.{XOF, ArePrefixes}
 use Rattle.fips204.specs.LongerFronts.{SamplesStay, AnswersStay, AcceptanceStays}
@@ -13,8 +13,8 @@ first_256 d input = shake256 input d
 abbrev pub first_128 : ℕ → XOF
 first_128 d input = shake128 input d
 
--- however much of the output there is, the fronts are its beginning; and over the longer output, as over the standard's, which has no end, no sampler
--- gives another value, no call another answer unless it was `SamplingLimit`, and no signature another verdict where that is decided
+-- however much of the output there is, the bounded outputs are its beginning; and over the longer output, as over the standard's, which has no end, no sampler
+-- gives another value, no call another result unless it was `SamplingLimit`, and no signature another verdict where that is decided
 pub record EndsAlone (d e : ℕ) : Type 0 where
   pub h : ArePrefixes shake256_front (first_256 d)
   pub g : ArePrefixes shake128_front (first_128 e)

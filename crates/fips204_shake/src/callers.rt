@@ -1,4 +1,4 @@
-//! Callers for wrong bodies: what the aliases and the lengths of this crate stand for, by what goes through them, and what its
+//! Callers for mutations: what the aliases and the lengths of this crate stand for, by what goes through them, and what its
 //! law says. No code calls them.
 #![tactic(auto)]
 
@@ -206,7 +206,7 @@ pub(crate) fn generated_at_87(
     MlDsa87::keygen(seed, public_key, private_key)
 }
 
-/// What stays the same over more of the output than the fronts have.
+/// What stays the same over more of the output than the bounded ones have.
 pub(crate) fn limit_parts()
     ensures fronts { (d e : ℕ) → 1048576 ≤ d → 1048576 ≤ e → ArePrefixes shake256_front (λ x. shake256 x d) × ArePrefixes shake128_front (λ x. shake128 x e) }
     ensures samples { (d e : ℕ) → 1048576 ≤ d → 1048576 ≤ e → SamplesStay shake256_front shake128_front (λ x. shake256 x d) (λ x. shake128 x e) }

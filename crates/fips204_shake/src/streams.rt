@@ -1,4 +1,4 @@
-//! SHAKE256 and SHAKE128 as the streams of `fips204`.
+//! SHAKE256 and SHAKE128 as the XOFs of `fips204`.
 #![tactic(auto)]
 
 ghost use Rattle.std.specs.Prelude.{◌≡◌, ℕ, List};
@@ -14,11 +14,11 @@ use fips204::xof::{Xof, XofReader};
 use shake::{Shake, ShakeReader};
 use std::marker::Model;
 
-/// The number of bytes of the fronts here: as many as `Xof` allows. What is not read of a front costs nothing. The limits of
+/// The number of bytes of the outputs here: as many as `Xof` allows. What is not read of an output costs nothing. The limits of
 /// sampling, a quarter of it, lie far above those that Appendix C of FIPS 204 asks for at least.
 pub const FRONT: usize = 1_048_576;
 
-/// A reader of a front: so many bytes of SHAKE with blocks of `R` bytes.
+/// A reader of an output: so many bytes of SHAKE with blocks of `R` bytes.
 #[derive(Drop)]
 pub struct SpongeReader<const R: usize> {
     output: ShakeReader<R>,
@@ -35,7 +35,7 @@ impl<const R: usize> Model for SpongeReader<R> {
 }
 
 impl<const R: usize> SpongeReader<R> {
-    /// A reader of the front of the joined parts.
+    /// A reader of the output of the joined parts.
     fn open(parts: &[&[u8]]) -> SpongeReader<R>
         requires { IsRate R }
         ensures { result ≡ shake R (flat_map (λ part. part.now) parts.now) 1048576 }
@@ -136,9 +136,9 @@ impl Xof for Shake128Stream {
     }
 }
 
-/// That the output of the streams ends changes nothing but the error which says so: a law, which computes nothing. The
-/// loops of FIPS 204 read as much of SHAKE256 and SHAKE128 as they need. What a call answers here, unless it is
-/// `Fault::SamplingLimit`, it answers over any longer part of that output too; so does verifying with a yes, and with a no
+/// That the output of the XOFs ends changes nothing but the error which says so: a law, which computes nothing. The
+/// loops of FIPS 204 read as much of SHAKE256 and SHAKE128 as they need. What a call returns here, unless it is
+/// `Fault::SamplingLimit`, it returns over any longer part of that output too; so does verifying with a yes, and with a no
 /// where a matrix and a challenge are there, or where signature, context, identifier or digest are malformed.
 pub fn only_limits_differ()
     ensures { OnlyLimitsDiffer }

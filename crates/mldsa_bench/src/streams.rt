@@ -1,4 +1,4 @@
-//! Streams of the tests, and what the library reads of streams.
+//! XOFs of the tests, and what the library reads of XOFs.
 #![tactic(auto)]
 
 pub mod fronts;

@@ -30,7 +30,7 @@ not_done TooManyAttempts = λ e. absurd cc
 not_done KeyRange = λ e. absurd cc
 not_done SamplingLimit = λ e. absurd cc
 
--- nor has a refusal
+-- nor has an error
 done : (answer : Result ⊤ Refusal) → 0 ≡ done_status answer → answer ≡ Ok tt
 done (Ok tt) e = refl
 done (Err (Length which)) e = absurd cc

@@ -1,13 +1,13 @@
--- What the exported calls answer: the statuses of the calls over bytes, over SHAKE256 and SHAKE128. A last status is the answer.
+-- What the exported calls return: the statuses of the calls over bytes, over SHAKE256 and SHAKE128. A last status is the result.
 use Rattle.std.specs.Prelude.{◌≡◌, ◌≢◌, ◌⊎◌, ℕ, Bool, List, length, Result, MatchOption, ⊤}
 use Rattle.fips204.specs.Framing.{Input, pre_hash_fault, represented}
 use Rattle.fips204.specs.ParameterSets.{ParameterSet}
 use Rattle.fips204_bytes.specs.Bytes as bytes
 use Rattle.fips204_bytes.specs.declared.refusal.Refusal.{Refusal}
 use Rattle.fips204_shake.specs.Fronts.{shake256_front, shake128_front}
-use Rattle.mldsa_c.specs.Statuses.{status_of, done_status, answer_status}
+use Rattle.mldsa_c.specs.Statuses.{status_of, done_status, answer_status, accepted}
 
--- the status is that of what a call over bytes answers: of one that writes, and of a question
+-- the status is that of what a call over bytes returns: of one that writes, and of a question
 abbrev pub Done : (Result ⊤ Refusal → Type 0) → ℕ → Type 0
 Done answers status = (answer : Result ⊤ Refusal) × answers answer × (status ≡ done_status answer)
 
@@ -36,6 +36,10 @@ SignMuAnswers p key mu random old new status = IfSized 64 mu (SignAnswers p key 
 -- verify and hash_verify
 abbrev pub VerifyAnswers : ParameterSet → List ℕ → Input → List ℕ → ℕ → Type 0
 VerifyAnswers p key input signature status = Told (bytes.Judges p shake256_front shake128_front key input signature) status
+
+-- accepts: 1 if verify answers yes, and 0 if it answers anything else
+abbrev pub AcceptsAnswers : ParameterSet → List ℕ → Input → List ℕ → ℕ → Type 0
+AcceptsAnswers p key input signature answer = (status : ℕ) × VerifyAnswers p key input signature status × (answer ≡ accepted status)
 
 -- verify_mu, with 64 bytes of mu
 abbrev pub VerifyMuAnswers : ParameterSet → List ℕ → List ℕ → List ℕ → ℕ → Type 0

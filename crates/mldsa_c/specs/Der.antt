@@ -1,4 +1,4 @@
--- What the exported calls on keys in DER answer (RFC 9881). A last status is the answer.
+-- What the exported calls on keys in DER return (RFC 9881). A last status is the result.
 use Rattle.std.specs.Prelude.{◌≡◌, ◌≢◌, ℕ, Bool, List, [], length, Result, MatchBool, MatchResult}
 use Rattle.fips204.specs.ParameterSets.{ParameterSet}
 use Rattle.fips204.specs.Encodings.{private_key_bytes}

@@ -1,5 +1,6 @@
 pub mod Calls
 pub mod Statuses
+pub mod Texts
 pub mod Pieces
 pub mod Prepared
 pub mod Der

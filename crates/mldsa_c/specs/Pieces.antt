@@ -1,4 +1,4 @@
--- What the exported calls on a message in pieces answer. A state is a hasher in 337 bytes, and a last status is the answer.
+-- What the exported calls on a message in pieces return. A state is a hasher in 337 bytes, and a last status is the result.
 use Rattle.std.specs.Prelude.{◌≡◌, ◌<◌, ◌≤◌, ℕ, List, [], ◌∷◌, ◌++◌, length}
 use Rattle.fips204.specs.Framing.{plain, representative}
 use Rattle.fips204_shake.specs.Fronts.{shake256_front}
@@ -17,7 +17,7 @@ Begins wanted key tr context old new status =
     (((length context ≤ 255) → HashesSaved new tr context [] × (status ≡ 0)) × ((255 < length context) → Keeps old new status 4))
     (Keeps old new status 2)) (Keeps old new status 2)
 
--- a state whose last byte is from 1 to 136 is used; any other, as zeros, is answered by 16
+-- a state whose last byte is from 1 to 136 is used; any other, as zeros, gives 16
 abbrev pub IfState : List ℕ → Type 0 → (ℕ → Type 0) → Type 0
 IfState state uses refuses =
     IfSized 337 state ((CanBeSaved 136 state → uses) × (¬ (CanBeSaved 136 state) → refuses 16)) (refuses 2)

@@ -1,4 +1,4 @@
--- What the exported calls with prepared keys answer, over SHAKE256 and SHAKE128. A last status is the answer.
+-- What the exported calls with prepared keys return, over SHAKE256 and SHAKE128. A last status is the result.
 use Rattle.std.specs.Prelude.{◌≡◌, ℕ, List}
 use Rattle.fips204.specs.Framing.{Input, represented}
 use Rattle.fips204.specs.ParameterSets.{ParameterSet}

@@ -1,5 +1,5 @@
--- The numbers that the exported calls answer: 0 says done or yes, 1 says no, and 2 that an array has the wrong length.
-use Rattle.std.specs.Prelude.{ℕ, Bool, true, false, Result, Ok, Err, ⊤}
+-- The numbers that the exported calls return: 0 says done or yes, 1 says no, and 2 that an array has the wrong length.
+use Rattle.std.specs.Prelude.{ℕ, Bool, true, false, Result, Ok, Err, ⊤, nat_eq, if◌then◌else◌}
 use Rattle.fips204_base.specs.declared.fault.Fault.{Fault}
 use Rattle.fips204_base.specs.declared.fault.Fault.TheVariants.{KeyGenRng, SignCtx, SignRng, HashCtx, OidEmpty, OidNotDer, DigestTooLong, DigestLength, HashRng, InternalRng, TooManyAttempts, KeyRange, SamplingLimit}
 use Rattle.fips204_bytes.specs.declared.refusal.Refusal.{Refusal}
@@ -21,7 +21,7 @@ status_of TooManyAttempts = 13
 status_of KeyRange = 14
 status_of SamplingLimit = 15
 
--- the status of a refusal, of a call that writes, and of a question
+-- the status of an error, of a call that writes, and of a question
 abbrev pub refusal_status : Refusal → ℕ
 refusal_status (Length which) = 2
 refusal_status (Library fault) = status_of fault
@@ -35,3 +35,7 @@ abbrev pub answer_status : Result Bool Refusal → ℕ
 answer_status (Ok true) = 0
 answer_status (Ok false) = 1
 answer_status (Err refusal) = refusal_status refusal
+
+-- 1 where a status says yes, and else 0
+abbrev pub accepted : ℕ → ℕ
+accepted status = if nat_eq status 0 then 1 else 0

@@ -1,4 +1,4 @@
-//! Callers of the laws over bytes, which show that they hold of what the exports answer, at each set. No code calls them.
+//! Callers of the laws over bytes, which show that they hold of what the exports return, at each set. No code calls them.
 #![tactic(auto)]
 
 ghost use Rattle.std.specs.Prelude.{◌≡◌, ◌≢◌, ◌<◌, ◌↔◌, ◌⊎◌, ℕ, IsTrue, List, None, Some, length, replicate};
@@ -84,7 +84,7 @@ pub fn message_in_pieces()
     laws::mu_stands_for_input();
 }
 
-/// An array that a call would write is as it was after every status but 0; and what a digest that can't be signed is answered by.
+/// An array that a call would write is as it was after every status but 0; and what is returned of a digest that can't be signed.
 pub fn arrays_after_errors()
     ensures pairs { (p : ParameterSet) (seed v pk s sk : List ℕ) (status : ℕ) → status ≢ 0 → KeygenAnswers p seed v pk s sk status → (pk ≡ v) × (sk ≡ s) }
     ensures signatures { (p : ParameterSet) (key : List ℕ) (input : Input) (random old new : List ℕ) (status : ℕ) → status ≢ 0

@@ -87,7 +87,7 @@ fn write_expanded(set: SetName, key: PrivateKey<'_>, private_key: &mut [u8]) -> 
     ensures { IfConsistent (named_set set) (private_parts key.entry) (Has private_key.new result) (Keeps private_key.old private_key.new result) }
 {
     match key {
-        PrivateKey::Seed(seed) => match generate(set, &array_of(seed), private_key) {
+        PrivateKey::Seed(seed) => match generate(set, array_of(seed), private_key) {
             Ok(()) => DONE,
             Err(status) => status,
         },
@@ -98,7 +98,7 @@ fn write_expanded(set: SetName, key: PrivateKey<'_>, private_key: &mut [u8]) -> 
             }
             Err(status) => status,
         },
-        PrivateKey::Both { seed, expanded } => match check_both(set, &array_of(seed), expanded) {
+        PrivateKey::Both { seed, expanded } => match check_both(set, array_of(seed), expanded) {
             Ok(()) => {
                 private_key.copy_from_slice(expanded);
                 DONE
@@ -119,7 +119,7 @@ fn write_seed(set: SetName, key: PrivateKey<'_>, out: &mut [u8]) -> u32
             DONE
         }
         PrivateKey::Expanded(_) => NO_SEED,
-        PrivateKey::Both { seed, expanded } => match check_both(set, &array_of(seed), expanded) {
+        PrivateKey::Both { seed, expanded } => match check_both(set, array_of(seed), expanded) {
             Ok(()) => {
                 out.copy_from_slice(seed);
                 DONE
@@ -235,7 +235,7 @@ pub(crate) fn both_to_der(set: SetName, seed: &[u8], der: &mut [u8]) -> u32
     }
     let mut made = [0; PRIVATE_KEY];
     let expanded = &mut made[..size];
-    match generate(set, &array_of(seed), expanded) {
+    match generate(set, array_of(seed), expanded) {
         Ok(()) => {
             write_private(set, PrivateKey::Both { seed, expanded }, der);
             DONE

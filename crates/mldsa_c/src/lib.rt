@@ -1,7 +1,7 @@
 //! ML-DSA (FIPS 204) for C: the calls of `fips204_bytes` over SHAKE, once for each parameter set.
 //!
-//! No export has a `requires`: every array may have any length, and a wrong one is answered by the status 2. An array
-//! that a call writes is as it was after every status but 0. `c/mldsa.h` declares the exports and says what they answer.
+//! No export has a `requires`: every array may have any length, and a wrong one gives the status 2. An array
+//! that a call writes is as it was after every status but 0. `c/mldsa.h` declares the exports and says what they return.
 #![tactic(auto)]
 
 pub mod callers;
@@ -18,3 +18,4 @@ mod prepared_44;
 mod prepared_65;
 mod prepared_87;
 mod statuses;
+mod texts;

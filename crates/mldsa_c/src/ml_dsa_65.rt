@@ -3,14 +3,14 @@
 
 ghost use Rattle.fips204.specs.Framing.{plain, hashed};
 ghost use Rattle.fips204.specs.ParameterSets.{set_65};
-ghost use Rattle.mldsa_c.specs.Calls.{KeygenAnswers, SignAnswers, VerifyAnswers, SignMuAnswers, VerifyMuAnswers, PublicKeyAnswers, CheckPrivateKeyAnswers, IsWholeAnswers, IsPairAnswers};
+ghost use Rattle.mldsa_c.specs.Calls.{KeygenAnswers, SignAnswers, VerifyAnswers, AcceptsAnswers, SignMuAnswers, VerifyMuAnswers, PublicKeyAnswers, CheckPrivateKeyAnswers, IsWholeAnswers, IsPairAnswers};
 ghost use Rattle.mldsa_c.specs.Pieces.{Begins};
 ghost use Rattle.fips204_bytes.specs.Mu.{tr_of_private, tr_of_public};
 ghost use Rattle.fips204_shake.specs.Fronts.{shake256_front};
 ghost use Rattle.fips204.specs.ParameterSets.{public_key_length, private_key_length};
 
 use crate::pieces;
-use crate::statuses::{WRONG_LENGTH, array_of, status, verdict_status};
+use crate::statuses::{WRONG_LENGTH, accepted, array_of, status, verdict_status};
 use fips204_shake::{Input, MlDsa65, SetName};
 
 /// Makes the key pair of a seed of 32 bytes.
@@ -50,6 +50,19 @@ pub extern "C" fn mldsa65_verify(
 {
     let signed = Input::Message(message, context);
     verdict_status(MlDsa65::verify(public_key, &signed, signature))
+}
+
+/// Tells the same as `mldsa65_verify` by 1 for yes and 0 for everything else.
+#[unsafe(no_mangle)]
+pub extern "C" fn mldsa65_accepts(
+    public_key: &[u8],
+    message: &[u8],
+    context: &[u8],
+    signature: &[u8],
+) -> u32
+    ensures { AcceptsAnswers set_65 public_key.now (plain message.now context.now) signature.now result }
+{
+    accepted(mldsa65_verify(public_key, message, context, signature))
 }
 
 /// Signs a digest under a context, from 32 random bytes; `oid` names its hash function.
@@ -124,7 +137,7 @@ pub extern "C" fn mldsa65_check_private_key(private_key: &[u8]) -> u32
     status(MlDsa65::check_private_key(private_key))
 }
 
-/// Tells whether a private key is whole.
+/// Tells whether a private key is consistent.
 #[unsafe(no_mangle)]
 pub extern "C" fn mldsa65_is_whole(private_key: &[u8]) -> u32
     ensures { IsWholeAnswers set_65 private_key.now result }

@@ -1,8 +1,8 @@
-//! The numbers that the exports answer.
+//! The numbers that the exports return.
 #![tactic(auto)]
 
 ghost use Rattle.std.specs.Prelude.{◌≡◌};
-ghost use Rattle.mldsa_c.specs.Statuses.{status_of, refusal_status, done_status, answer_status};
+ghost use Rattle.mldsa_c.specs.Statuses.{status_of, refusal_status, done_status, answer_status, accepted};
 
 use fips204_bytes::{Fault, Refusal};
 
@@ -54,7 +54,7 @@ pub(crate) fn status_of(fault: Fault) -> u32
     }
 }
 
-/// The status of a refusal.
+/// The status of an error.
 pub(crate) fn status_of_refusal(refusal: Refusal) -> u32
     ensures { result ≡ refusal_status refusal }
 {
@@ -75,7 +75,7 @@ pub(crate) fn status(answer: Result<(), Refusal>) -> u32
     }
 }
 
-/// The status of an answer to a question.
+/// The status of a result of a question.
 pub(crate) fn verdict_status(answer: Result<bool, Refusal>) -> u32
     ensures { result ≡ answer_status answer }
 {
@@ -84,4 +84,11 @@ pub(crate) fn verdict_status(answer: Result<bool, Refusal>) -> u32
         Ok(false) => NO,
         Err(refusal) => status_of_refusal(refusal),
     }
+}
+
+/// 1 for the status of the answer yes, and 0 for every other one.
+pub(crate) fn accepted(status: u32) -> u32
+    ensures { result ≡ accepted status }
+{
+    if status == DONE { 1 } else { 0 }
 }

@@ -142,7 +142,7 @@ pub judges_told : {W E : Type 0} (output : W → List ℕ) (success : W → Bool
 judges_told output success p H G key signature context message answer (Err fault) now told = told
 judges_told output success p H G key signature context message answer (Ok it) (pk, is, now) told = rw told.1 (pk, is, now, told.0)
 
--- what is told of a signature by the key that bytes spell, or of a refusal, is what `sign` writes
+-- what is told of a signature by the key that bytes spell, or of an error, is what `sign` writes
 pub signs_told : {W E : Type 0} (output : W → List ℕ) (success : W → Bool) (p : ParameterSet) (H G : List ℕ → List ℕ)
     (key seed context message : List ℕ) (decoded : Result PrivateParts Fault) (result : Result W E)
     → DecodesPrivate p.eta p.k p.l key decoded

@@ -8,7 +8,7 @@ use Rattle.mldsa_engine.specs.declared.call.Task.TheVariants.{Id, Keygen, Sign, 
 use Rattle.fips204.specs.declared.sets.SetName.{SetName}
 use Rattle.fips204.specs.declared.sets.SetName.TheVariants.{MlDsa44, MlDsa65, MlDsa87}
 
--- the word that names the streams
+-- the word that names the XOFs
 abbrev pub streams_word : Streams → List ℕ
 streams_word Sha2 = codes "sha2"
 streams_word Fill00 = codes "fill00"
@@ -43,14 +43,14 @@ abbrev pub AreCall : List (List ℕ) → (Streams → Task → SetName → Type 
 AreCall words holds = (streams : Streams) × ((task : Task) × ((set : SetName) × (words ≡ call_words streams task set)
     × holds streams task set))
 
--- the stream that stands for H
+-- the XOF that stands for H
 abbrev pub first_stream : Streams → List ℕ → List ℕ
 first_stream Sha2 input = sha256_front input
 first_stream Fill00 input = replicate 4096 0x00
 first_stream Fill55 input = replicate 4096 0x55
 first_stream FillFf input = replicate 4096 0xFF
 
--- the stream that stands for G
+-- the XOF that stands for G
 abbrev pub second_stream : Streams → List ℕ → List ℕ
 second_stream Sha2 input = sha512_front input
 second_stream Fill00 input = replicate 4096 0x00

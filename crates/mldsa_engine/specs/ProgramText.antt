@@ -1,4 +1,4 @@
--- The program's text: what a run answers and writes, by what its input spells.
+-- The program's text: what a run returns and writes, by what its input spells.
 use Rattle.std.specs.Prelude.{◌≡◌, ◌<◌, ◌↔◌, ℕ, zero, suc, ◌+◌, ◌*◌, Bool, true, false, IsTrue, List, [], ◌∷◌, ◌++◌, length, get_or, map, take, All, codes, Option, Some, None, Result, Ok, Err, MatchResult, IfOk, IfErr}
 use Rattle.std.specs.List.{flat_map}
 use Rattle.std.specs.Io.KnownBytes.{Appends}
@@ -72,16 +72,16 @@ text lines = flat_map (λ line. line ++ 10 ∷ []) lines
 abbrev pub hex_text : List (List ℕ) → List ℕ
 hex_text lines = text (map encode_lower lines)
 
--- a refusal is its words, and false
+-- an error is its words, and false
 abbrev pub Refuses : Fault → List ℕ → Bool → Type 0
 Refuses fault output answer = (output ≡ text (words fault ∷ [])) × (answer ≡ false)
 
--- what is told of a call: lines that spell what it answered, and true, or its refusal
+-- what is told of a call: lines that spell what it returned, and true, or its error
 abbrev pub Tells : {A : Type 0} → (A → List (List ℕ)) → Result A Fault → List ℕ → Bool → Type 0
 Tells lines (Ok value) output answer = (output ≡ hex_text (lines value)) × (answer ≡ true)
 Tells lines (Err fault) output answer = Refuses fault output answer
 
--- what is told of bytes that spell a key or are refused: what is told of the key, or the refusal
+-- what is told of bytes that spell a key or are refused: what is told of the key, or the error
 abbrev pub TellsOfKey : {K : Type 0} → (Result K Fault → Type 0) → (K → List ℕ → Bool → Type 0) → List ℕ → Bool → Type 0
 TellsOfKey {K} decodes tells output answer = (decoded : Result K Fault) × decodes decoded
     × MatchResult decoded (λ key. tells key output answer) (λ fault. Refuses fault output answer)
@@ -92,13 +92,13 @@ TellsKeys p H G seed output answer =
     Tells (λ keys. public_key_bytes keys.0.rho keys.0.t1 ∷ private_key_bytes p.eta keys.1 ∷ [])
     (generated p H G seed) output answer
 
--- `sign`: the signature by the private key that has these bytes, or the refusal; that of the bytes stands first
+-- `sign`: the signature by the private key that has these bytes, or the error; that of the bytes stands first
 abbrev pub TellsSignature : ParameterSet → (List ℕ → List ℕ) → (List ℕ → List ℕ) → List ℕ → List ℕ → List ℕ → List ℕ → List ℕ → Bool → Type 0
 TellsSignature p H G key seed context message output answer =
     TellsOfKey (DecodesPrivate p.eta p.k p.l key) (λ sk. Tells (λ signature. signature ∷ []) (sign_input p H G sk seed (plain message context)))
     output answer
 
--- the word for an answer
+-- the word for a result
 abbrev pub answer_word : Bool → List ℕ
 answer_word true = codes "yes"
 answer_word false = codes "no"
@@ -110,7 +110,7 @@ TellsVerdict p H G key signature context message output answer = (pk : PublicPar
     × (IsTrue answer ↔ VerifiesInput p H G pk signature (plain message context))
     × (output ≡ text (answer_word answer ∷ []))
 
--- `check`: yes where the seed's pair signs the message, which its public key then accepts, or the first refusal
+-- `check`: yes where the seed's pair signs the message, which its public key then accepts, or the first error
 abbrev pub TellsCheck : ParameterSet → (List ℕ → List ℕ) → (List ℕ → List ℕ) → List ℕ → List ℕ → List ℕ → List ℕ → List ℕ → Bool → Type 0
 TellsCheck p H G xi rnd context message output answer =
     MatchResult (generated p H G xi)
@@ -119,13 +119,13 @@ TellsCheck p H G xi rnd context message output answer =
     (λ fault. Refuses fault output answer))
     (λ fault. Refuses fault output answer)
 
--- the answer to each entry, a signature and a message, is whether it is accepted
+-- the result of each entry, a signature and a message, is whether it is accepted
 abbrev pub AnswersEach : (List ℕ → List ℕ → Type 0) → List (List ℕ) → List Bool → Type 0
 AnswersEach accepts entries answers = (length entries ≡ 2 * length answers)
     × ((entry : ℕ) → entry < length answers → IsTrue (get_or answers entry false)
     ↔ accepts (get_or entries (2 * entry) []) (get_or entries (2 * entry + 1) []))
 
--- answers are written as a word each, and are true together where none is `no`
+-- results are written as a word each, and are true together where none is `no`
 abbrev pub TellsAll : List Bool → List ℕ → Bool → Type 0
 TellsAll answers output answer = (output ≡ text (map answer_word answers)) × (IsTrue answer ↔ All IsTrue answers)
 
@@ -135,7 +135,7 @@ TellsVerdicts p H G key context entries output answer = (pk : PublicParts) × Is
     × ((answers : List Bool) × AnswersEach (λ signature message. VerifiesInput p H G pk signature (plain message context)) entries answers
     × TellsAll answers output answer)
 
--- what a command writes and answers, given the bytes of its lines, over the streams H and G; `id` writes the public key and
+-- what a command writes and returns, given the bytes of its lines, over the XOFs H and G; `id` writes the public key and
 -- its hash
 abbrev pub Answers : (List ℕ → List ℕ) → (List ℕ → List ℕ) → Task → ParameterSet → List (List ℕ) → List ℕ → Bool → Type 0
 Answers H G Id p lines output answer = (key : List ℕ) × (lines ≡ key ∷ [])
@@ -153,14 +153,14 @@ Answers H G Batch p lines output answer = (key context count : List ℕ)
     × (length entries ≡ 2 * two_bytes count)
     × TellsVerdicts p H G key context entries output answer)
 
--- a command was carried out over the streams H and G: its reader gave the wanted lines and has left what follows them, and this is
--- what the command writes and answers for them
+-- a command was carried out over the XOFs H and G: its reader gave the wanted lines and has left what follows them, and this is
+-- what the command writes and returns for them
 abbrev pub Executes : (List ℕ → List ℕ) → (List ℕ → List ℕ) → Task → ParameterSet → Option (List ℕ) → Option (List ℕ) → List ℕ → Bool
     → Type 0
 Executes H G task p given left output answer = (lines : List (List ℕ)) × TakesLines 1 (input_lines task p given) given left lines
     × Answers H G task p lines output answer
 
--- a run over the streams H and G ended with this answer: the command was carried out, and the writer got what it writes, and
+-- a run over the XOFs H and G ended with this result: the command was carried out, and the writer got what it writes, and
 -- nothing else
 abbrev pub Runs : (List ℕ → List ℕ) → (List ℕ → List ℕ) → Task → SetName → Option (List ℕ) → Option (List ℕ) → Option (List ℕ)
     → Option (List ℕ) → Bool → Type 0
@@ -194,13 +194,13 @@ RunInTurn task set remaining given left =
 abbrev pub CallInTurn : {I : Type 0} → List (List ℕ) → (I → Option (List ℕ)) → MarkedDevice I → MarkedDevice I → Type 0
 CallInTurn words remaining given left = AreCall words (λ streams task set. RunInTurn task set remaining given left)
 
--- the exit status of an answer, true being done or `yes`, and false `no` or a refusal; a fault has one status, whichever it is
+-- the exit status of a result, true being done or `yes`, and false `no` or an error; a fault has one status, whichever it is
 abbrev pub status_of : Result Bool RunFault → ℕ
 status_of (Ok true) = 0
 status_of (Ok false) = 1
 status_of (Err fault) = 2
 
--- how a call is answered: with its usage where the words are none, else as the command is carried out, or with the first fault of
+-- how a call ends: with its usage where the words are none, else as the command is carried out, or with the first fault of
 -- the lines that it wants; and but for a failed write a fault has written nothing
 abbrev pub AnswersCall : {I O : Type 0} → List (List ℕ) → (I → Option (List ℕ)) → MarkedDevice I → MarkedDevice I
     → (O → Option (List ℕ)) → MarkedDevice O → MarkedDevice O → Result Bool RunFault → Type 0

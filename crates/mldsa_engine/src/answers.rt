@@ -49,7 +49,7 @@ pub(crate) fn execute<H: Xof, G: Xof, I: Read>(
     }
 }
 
-/// The commands at the set whose matrix has `K` rows and `L` columns, over the streams `H` and `G`.
+/// The commands at the set whose matrix has `K` rows and `L` columns, over the XOFs `H` and `G`.
 ///
 /// A command is not inlined, so that its keys stand in the stack alone.
 struct AtSet<const K: usize, const L: usize, H, G>(PhantomData<(H, G)>);
@@ -87,10 +87,10 @@ where
         let lines = lines.as_slice();
         match task {
             Task::Id => Self::identify(alloc, lines[0].as_slice()),
-            Task::Keygen => Self::keygen(alloc, &array_of(lines[0].as_slice())),
+            Task::Keygen => Self::keygen(alloc, array_of(lines[0].as_slice())),
             Task::Sign => {
                 let [key, seed, context, message] = fields(lines);
-                Self::sign(alloc, key, &array_of(seed), context, message)
+                Self::sign(alloc, key, array_of(seed), context, message)
             }
             Task::Verify => {
                 let [key, signature, context, message] = fields(lines);
@@ -98,7 +98,7 @@ where
             }
             Task::Check => {
                 let [xi, rnd, context, message] = fields(lines);
-                Self::check(alloc, &array_of(xi), &array_of(rnd), context, message)
+                Self::check(alloc, array_of(xi), array_of(rnd), context, message)
             }
             Task::Batch => {
                 let count = number_of(lines[2].as_slice());
@@ -138,7 +138,7 @@ where
         two_lines(alloc, &key.into_bytes(), &tr)
     }
 
-    /// The keys of a seed, as lines of hex, or the refusal.
+    /// The keys of a seed, as lines of hex, or the error.
     #[inline(never)]
     fn keygen(alloc: Global, seed: &[u8; 32]) -> Result<Output, RunFault>
         ensures given { IfOk result (λ output. TellsKeys S.set H.front G.front seed.now output.text.items output.success) }
@@ -150,7 +150,7 @@ where
         }
     }
 
-    /// The signature by the private key that has these bytes, as a line of hex, or the refusal; that of the key's
+    /// The signature by the private key that has these bytes, as a line of hex, or the error; that of the key's
     /// bytes stands first.
     #[inline(never)]
     fn sign(
@@ -165,7 +165,7 @@ where
             key.now seed.now context.now message.now output.text.items output.success) }
         ensures memory { IfErr result (λ fault. fault ≡ RunFault.Memory) }
     {
-        match PrivateKey::<K, L, H, G>::try_from_bytes(array_of(key)) {
+        match PrivateKey::<K, L, H, G>::try_from_bytes(*array_of(key)) {
             Ok(key) => match key.try_sign_with_seed(seed, message, context) {
                 Ok(signature) => one_line(alloc, &signature),
                 Err(fault) => refuse(alloc, fault),
@@ -182,10 +182,10 @@ where
         ensures { (pk : PublicParts) × IsPublicKeyOf H.front S.set.k key.now pk
             × (IsTrue result ↔ VerifiesInput S.set H.front G.front pk signature.now (plain message.now context.now)) }
     {
-        Self::decode(key).verify(message, &array_of(signature), context)
+        Self::decode(key).verify(message, array_of(signature), context)
     }
 
-    /// Whether the pair of a seed verifies what it signs, as a word and a truth value, or the first refusal.
+    /// Whether the pair of a seed verifies what it signs, as a word and a truth value, or the first error.
     #[inline(never)]
     fn check(
         alloc: Global,
@@ -268,7 +268,7 @@ where
             let lines = read_lines(alloc, 4 + 2 * entry, &[Some(SIG_LEN), None], input)?;
             let signature = array_of(lines[0].as_slice());
             let message = lines[1].as_slice();
-            let accepted = Self::is_accepted(key, message, &signature, context);
+            let accepted = Self::is_accepted(key, message, signature, context);
             output.add_answer(accepted)?;
         }
         Ok(output)
@@ -280,7 +280,7 @@ where
         requires key { length key.now ≡ PK_LEN }
         ensures { IsPublicKeyOf H.front S.set.k key.now result }
     {
-        PublicKey::<K, L, H, G>::try_from_bytes(array_of(key)).unwrap()
+        PublicKey::<K, L, H, G>::try_from_bytes(*array_of(key)).unwrap()
     }
 
     /// Whether a prepared key accepts a signature; false if the key has no matrix.

@@ -6,7 +6,7 @@ ghost use Rattle.mldsa_engine.specs.Calls.{streams_word, task_word, set_word, ca
 
 use fips204::SetName;
 
-/// The streams of a run: what stands for `H` and for `G`.
+/// The XOFs of a run: what stands for `H` and for `G`.
 #[derive(Debug, Clone, Copy, PartialEq, Eq)]
 pub enum Streams {
     /// `Sha256Ctr` and `Sha512Ctr`.
@@ -36,7 +36,7 @@ pub enum Task {
     Batch,
 }
 
-/// The streams that a word names.
+/// The XOFs that a word names.
 fn streams_of(word: &str) -> Option<Streams>
     ensures named { IfSome result (λ streams. word.now ≡ streams_word streams) }
     ensures unnamed { IfNone result ((streams : Streams) → ¬ (word.now ≡ streams_word streams)) }

@@ -1,4 +1,4 @@
-//! The program `mldsa` as a library, generic over the streams, the reader and the writer.
+//! The program `mldsa` as a library, generic over the XOFs, the reader and the writer.
 #![tactic(auto)]
 
 ghost use Rattle.std.specs.Prelude.{◌≡◌, ◌↔◌, false, Err, IsTrue, IfOk, IfErr, map, string_bytes};

@@ -20,13 +20,13 @@ file_fault size file =
     if nat_eq (length file) size then (if nat_eq (slice_index file 0) 1 then (if nat_eq (slice_index file 1) 44 then None else Some WrongSet) else Some WrongHeader)
     else Some WrongLength
 
--- what reading the header answers: the bytes after it, or the first of these refusals
+-- what reading the header returns: the bytes after it, or the first of these errors
 abbrev pub HasBytes : ℕ → List ℕ → Result (List ℕ) LoadFault → Type 0
 HasBytes size file answer = MatchResult answer
     (λ bytes. (file_fault size file ≡ None) × (file ≡ 1 ∷ 44 ∷ bytes))
     (λ fault. file_fault size file ≡ Some fault)
 
--- what loading answers: the key whose bytes stand after the header, or the first refusal
+-- what loading returns: the key whose bytes stand after the header, or the first error
 abbrev pub LoadsAs : List ℕ → Result PrivateParts LoadFault → Type 0
 LoadsAs file answer = MatchResult answer
     (λ key. (file_fault 2562 file ≡ None) × IsPrivateKeyOf 2 4 4 (drop 2 file) key)
@@ -44,8 +44,8 @@ pub record IsFileOf (H : List ℕ → List ℕ) (key : PublicParts) (file : List
   pub spelled : file ≡ public_file_of key
   pub hashed : key.tr ≡ take 64 (H (drop 2 file))
 
--- what the check of a public key's file answers beside the private key: the public key that is derived of it, whose file it is,
--- or the first refusal
+-- what the check of a public key's file returns beside the private key: the public key that is derived of it, whose file it is,
+-- or the first error
 abbrev pub ChecksAs : (List ℕ → List ℕ) → (List ℕ → List ℕ) → PrivateParts → List ℕ → Result PublicParts LoadFault → Type 0
 ChecksAs H G sk file answer = MatchResult answer
     (λ key. (file_fault 1314 file ≡ None) × (derived set_44 G sk ≡ Ok key) × IsFileOf H key file)

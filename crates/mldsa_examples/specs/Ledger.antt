@@ -44,7 +44,7 @@ FitsPrepared H key context ledger place = Fits (λ message signature. VerifiesPr
 abbrev pub StandsPrepared : (List ℕ → List ℕ) → PreparedPublic → List ℕ → List Entry → Type 0
 StandsPrepared H key context ledger = (place : ℕ) → place < length ledger → FitsPrepared H key context ledger place
 
--- if the owner's key is whole, and the old ledger stood under its public key, the new one stands under it
+-- if the owner's key is consistent, and the old ledger stood under its public key, the new one stands under it
 abbrev pub StaysStanding : (List ℕ → List ℕ) → (List ℕ → List ℕ) → PrivateParts → List ℕ → List Entry → List Entry → Type 0
 StaysStanding H G owner context old new =
     (key : PublicParts) → IsWhole set_44 G owner → derived set_44 G owner ≡ Ok key → Stands H G key context old → Stands H G key context new
@@ -55,7 +55,7 @@ pub record IsNext (H G : List ℕ → List ℕ) (owner : PrivateParts) (context 
   pub recorded : entry.payload ≡ payload
   pub signed : sign_input set_44 H G owner random (plain (entry.previous ++ entry.payload) context) ≡ Ok entry.signature
 
--- what appending answers: one entry more; or the ledger as it was, where the key does not sign, or there is no memory
+-- what appending returns: one entry more; or the ledger as it was, where the key does not sign, or there is no memory
 abbrev pub AppendsAs : (List ℕ → List ℕ) → (List ℕ → List ℕ) → PrivateParts → List ℕ → List ℕ → List ℕ → List Entry → List Entry → Result Unit AppendFault → Type 0
 AppendsAs H G owner context random payload old new answer = MatchResult answer
     (λ _. (entry : Entry) × IsNext H G owner context random payload old entry × (new ≡ old ++ entry ∷ []))

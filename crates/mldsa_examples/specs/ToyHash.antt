@@ -1,4 +1,4 @@
--- A toy hash, for the streams of an example: a number below a prime, made of one byte after the other. It hides nothing.
+-- A toy hash, for the XOFs of an example: a number below a prime, made of one byte after the other. It hides nothing.
 use Rattle.std.specs.Prelude.{◌≡◌, ℕ, ◌+◌, ◌*◌, ◌%◌, List, length}
 use Rattle.std.specs.List.{fold}
 use Rattle.std.specs.Int.{w32, to_le_bytes}

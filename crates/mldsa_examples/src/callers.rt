@@ -1,9 +1,9 @@
 //! Functions that call the library at one set, with clauses in the words of the definitions. They are proved by search;
-//! `accepts_what_it_signs` has a file with its answer, which is found without it in ten seconds, and the last two cite
-//! laws of traits.
+//! those that ask whether a key accepts what another signs have files with their answers (`accepts_what_it_signs` is found
+//! without it in ten seconds), and the last two cite laws of traits.
 #![tactic(auto)]
 
-ghost use Rattle.std.specs.Prelude.{◌≡◌, ◌↔◌, ◌<◌, [], true, length, None, Ok, Err, IsTrue, IfOk};
+ghost use Rattle.std.specs.Prelude.{◌≡◌, ◌≢◌, ◌↔◌, ◌<◌, [], true, length, None, Ok, Err, IsTrue, IfOk};
 ghost use Rattle.fips204.specs.Completeness.{AcceptedIfWhole};
 ghost use Rattle.fips204.specs.Keys.{IsWhole, DecodesPrivate};
 ghost use Rattle.fips204.specs.ParameterSets.{set_44, set_65, set_87};
@@ -11,9 +11,12 @@ ghost use Rattle.fips204.specs.Prepared.{prepared_private, prepared_public, IsWh
 ghost use Rattle.fips204.specs.Refusals.{generated, derived, OnlySamplingLimit, DrawsIf, input_fault, sign_input, VerifiesInput};
 ghost use Rattle.fips204.specs.Signing.{sign};
 ghost use Rattle.fips204.specs.Framing.{plain, hashed, represented};
-ghost use Rattle.fips204_base.specs.Encodings.{public_key_bytes};
+ghost use Rattle.fips204_base.specs.Encodings.{ArePublicParts, ArePrivateParts, public_key_bytes};
+ghost use Rattle.fips204_base.specs.Vectors.{MatrixWithin};
 
-use fips204::traits::{CryptoRngCore, KeyGen, SerDes, Signer, Verifier, pairwise_check};
+use fips204::traits::{
+    CryptoRngCore, DummyRng, KeyGen, RngError, SerDes, Signer, Verifier, pairwise_check,
+};
 use fips204::xof::Xof;
 use fips204::{Fault, laws, ml_dsa_44, ml_dsa_65, ml_dsa_87};
 
@@ -188,7 +191,7 @@ pub fn checked_at_87<H: Xof, G: Xof>(xi: &[u8; 32], rnd: &[u8; 32]) -> Result<bo
     pairwise_check::<ml_dsa_87::KG<H, G>>(xi, rnd, b"a message", &[])
 }
 
-/// Whether the public key that is derived of a whole private key, of whatever origin, accepts what this signs: yes,
+/// Whether the public key that is derived of a consistent private key, of whatever origin, accepts what this signs: yes,
 /// wherever nothing is refused, by the clause `accepted` alone.
 pub fn accepts_what_it_signs<H: Xof, G: Xof>(
     sk: &ml_dsa_44::PrivateKey<H, G>,
@@ -204,7 +207,7 @@ pub fn accepts_what_it_signs<H: Xof, G: Xof>(
     Ok(pk.verify(message, &signature, ctx))
 }
 
-/// The same of prepared keys: the public key that belongs to a whole prepared private key accepts what this signs.
+/// The same of prepared keys: the public key that belongs to a consistent prepared private key accepts what this signs.
 pub fn accepts_what_it_signs_prepared<H: Xof>(
     sk: &ml_dsa_44::PreparedPrivateKey<H>,
     pk: &ml_dsa_44::PreparedPublicKey<H>,
@@ -218,6 +221,94 @@ pub fn accepts_what_it_signs_prepared<H: Xof>(
 {
     let signature = sk.try_sign_with_seed(rnd, message, ctx)?;
     Ok(pk.verify(message, &signature, ctx))
+}
+
+/// The same of digests.
+pub fn accepts_digest_it_signs_prepared<H: Xof>(
+    sk: &ml_dsa_44::PreparedPrivateKey<H>,
+    pk: &ml_dsa_44::PreparedPublicKey<H>,
+    rnd: &[u8; 32],
+    digest: &[u8],
+    ctx: &[u8],
+    oid: &[u8],
+) -> Result<bool, Fault>
+    requires whole { IsWholePrepared set_44 sk.now }
+    requires pair { pk.now ≡ public_of_prepared set_44 sk.now }
+    ensures { IfOk result (λ answer. answer ≡ true) }
+{
+    let signature = sk.try_hash_sign_with_seed(rnd, digest, ctx, oid)?;
+    Ok(pk.hash_verify(digest, &signature, ctx, oid))
+}
+
+/// The same of framed messages.
+pub fn accepts_framed_it_signs_prepared<H: Xof, R: CryptoRngCore>(
+    sk: &ml_dsa_44::PreparedPrivateKey<H>,
+    pk: &ml_dsa_44::PreparedPublicKey<H>,
+    rng: &mut R,
+    m: &[u8],
+) -> Result<bool, Fault>
+    requires whole { IsWholePrepared set_44 sk.now }
+    requires pair { pk.now ≡ public_of_prepared set_44 sk.now }
+    ensures { IfOk result (λ answer. answer ≡ true) }
+{
+    let signature = sk.sign_internal(rng, m, true)?;
+    Ok(pk.verify_internal(m, &signature))
+}
+
+/// The same of the hashes of framed messages.
+pub fn accepts_hash_it_signs_prepared<H: Xof, R: CryptoRngCore>(
+    sk: &ml_dsa_44::PreparedPrivateKey<H>,
+    pk: &ml_dsa_44::PreparedPublicKey<H>,
+    rng: &mut R,
+    mu: &[u8; 64],
+) -> Result<bool, Fault>
+    requires whole { IsWholePrepared set_44 sk.now }
+    requires pair { pk.now ≡ public_of_prepared set_44 sk.now }
+    ensures { IfOk result (λ answer. answer ≡ true) }
+{
+    let signature = sk.sign_mu(rng, mu, true)?;
+    Ok(pk.verify_mu(mu, &signature))
+}
+
+/// The hash that a public key of set 65 keeps; the parts of the key are in range, as those of each key.
+pub fn hash_of_public<H: Xof, G: Xof>(key: &ml_dsa_65::PublicKey<H, G>) -> [u8; 64]
+    ensures hash { result ≡ key.now.tr }
+    ensures parts { ArePublicParts 6 key.now }
+{
+    *key.tr()
+}
+
+/// The same of a private key.
+pub fn hash_of_private<H: Xof, G: Xof>(key: &ml_dsa_65::PrivateKey<H, G>) -> [u8; 64]
+    ensures hash { result ≡ key.now.tr }
+    ensures parts { ArePrivateParts 4 6 5 key.now }
+{
+    *key.tr()
+}
+
+/// The same of a prepared public key, whose matrix is in range too.
+pub fn hash_of_prepared_public<H: Xof>(key: &ml_dsa_65::PreparedPublicKey<H>) -> [u8; 64]
+    ensures hash { result ≡ key.now.parts.tr }
+    ensures parts { ArePublicParts 6 key.now.parts }
+    ensures matrix { MatrixWithin 8380416 key.now.matrix }
+{
+    *key.tr()
+}
+
+/// The same of a prepared private key.
+pub fn hash_of_prepared_private<H: Xof>(key: &ml_dsa_65::PreparedPrivateKey<H>) -> [u8; 64]
+    ensures hash { result ≡ key.now.parts.tr }
+    ensures parts { ArePrivateParts 4 6 5 key.now.parts }
+    ensures matrix { MatrixWithin 8380416 key.now.matrix }
+{
+    *key.tr()
+}
+
+/// Asks `DummyRng` for bytes. Those of another number than 32 stay as they were.
+pub fn asked_of_dummy(rng: &mut DummyRng, out: &mut [u8]) -> Result<(), RngError>
+    ensures { length out.old ≢ 32 → out.new ≡ out.old }
+{
+    rng.try_fill_bytes(out)
 }
 
 /// Signs under a context with any key that signs. Every key refuses a context of more than 255 bytes, and with this error.

@@ -64,7 +64,7 @@ pub fn signed_bytes(previous: &[u8; 32], payload: &[u8; 32]) -> [u8; 64]
     bytes
 }
 
-/// Appends an entry that the owner signs. On an error the ledger stays as it was. If the key is whole and the
+/// Appends an entry that the owner signs. On an error the ledger stays as it was. If the key is consistent and the
 /// ledger stood under its public key, it stands.
 pub fn append<H: Xof, G: Xof>(
     ledger: &mut Vec<Entry>,

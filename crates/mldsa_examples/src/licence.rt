@@ -60,7 +60,7 @@ pub fn licence_valid<H: Xof, G: Xof>(
     today <= token.last_day && key.verify(&spelled(token), signature, CONTEXT)
 }
 
-/// Whether one signature is accepted for two tokens. If the tokens differ, that is a collision of the stream
+/// Whether one signature is accepted for two tokens. If the tokens differ, that is a collision of the XOF
 /// `H`, and the clause names the pair: its inputs come from the tokens, the key and the signature.
 pub fn accepted_for_both<H: Xof, G: Xof>(
     key: &PublicKey<H, G>,

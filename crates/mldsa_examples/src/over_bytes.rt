@@ -1,4 +1,4 @@
-//! The calls over bytes, as docs/USING.md shows them: over SHAKE, with no type of a key and no stream.
+//! The calls over bytes, as docs/USING.md shows them: over SHAKE, with no type of a key and no XOF.
 #![tactic(auto)]
 
 use fips204_shake::ml_dsa_65::{PK_LEN, SIG_LEN, SK_LEN};

@@ -1,4 +1,4 @@
-//! The tests of the modules beside this folder, over the pairs of two streams.
+//! The tests of the modules beside this folder, over the pairs of two XOFs.
 #![tactic(auto)]
 
 mod generators;

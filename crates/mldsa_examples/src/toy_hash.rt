@@ -1,4 +1,4 @@
-//! A toy hash, for the streams of `toy_stream`. Nothing here names the crate `fips204`.
+//! A toy hash, for the XOFs of `toy_stream`. Nothing here names the crate `fips204`.
 #![tactic(auto)]
 
 ghost use Rattle.std.specs.Prelude.{◌≡◌};

@@ -1,4 +1,4 @@
-//! Streams of one's own, as docs/STREAMS.md shows them: a hash in counter mode, a front that a function fills, and a reader that
+//! XOFs of one's own, as docs/STREAMS.md shows them: a hash in counter mode, an output that a function fills, and a reader that
 //! wraps another.
 #![tactic(auto)]
 
@@ -48,7 +48,7 @@ impl Xof for ToyCtr {
     }
 }
 
-/// The whole front of `ToySpread` over the joined parts.
+/// The whole output of `ToySpread` over the joined parts.
 fn filled(parts: &[&[u8]]) -> [u8; 4096]
     ensures { result ≡ spread_front (flat_map (λ part. part.now) parts.now) }
 {
@@ -60,7 +60,7 @@ fn filled(parts: &[&[u8]]) -> [u8; 4096]
     front
 }
 
-/// The stream whose front one function fills.
+/// The XOF whose output one function fills.
 pub struct ToySpread;
 
 impl Xof for ToySpread {

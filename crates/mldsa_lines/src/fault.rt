@@ -4,7 +4,7 @@
 use std::alloc::{AllocError, AllocFailed};
 use thiserror::Error;
 
-/// Why a run ended without an answer. `Display` gives the text that the program prints.
+/// Why a run ended without a result. `Display` gives the text that the program prints.
 #[derive(Debug, Clone, Copy, PartialEq, Eq, Error)]
 pub enum RunFault {
     /// The words after the program's name are not a valid command line.

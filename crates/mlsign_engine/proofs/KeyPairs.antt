@@ -68,7 +68,7 @@ made_or_refused x fault r made refused = cc
 pub sized : {X : Type 0} (Y : Type 0) (wanted : ℕ) (array : List ℕ) → length array ≡ wanted → MatchBool (nat_eq (length array) wanted) X Y → X
 sized {X} Y wanted array is told = subst (λ (b : Bool). MatchBool b X Y) (eq-eqb _ _ is) told
 
--- a refusal of the library, of which this is so
+-- an error of the library, of which this is so
 abbrev pub RefusedBy : (Fault → Type 0) → Refusal → Type 0
 RefusedBy P why = (fault : Fault) × (why ≡ refusal.Library fault) × P fault
 

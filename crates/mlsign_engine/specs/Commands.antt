@@ -1,4 +1,4 @@
--- What the commands answer, by the files and keys that they are given and the message that is read.
+-- What the commands return, by the files and keys that they are given and the message that is read.
 use Rattle.std.specs.Prelude.{◌≡◌, ◌<◌, ◌↔◌, ◌⊎◌, ℕ, List, length, Bool, IsTrue, Option, Ok, Err}
 use Rattle.fips204.specs.fault.Fault.{Fault}
 use Rattle.fips204.specs.Encodings.{PublicParts, PrivateParts, IsPublicKeyOf, IsPrivateKeyOf}
@@ -25,7 +25,7 @@ use Rattle.mlsign_files.specs.PemReading.{FailsLike}
 use Rattle.mlsign_files.specs.declared.fault.FileFault.{FileFault}
 use Rattle.mlsign_files.specs.declared.fault.FileFault.TheVariants.{OtherKind}
 
--- a refusal of the calls over bytes as a fault; a wrong length is that of a key which belongs to no set
+-- an error of the calls over bytes as a fault; a wrong length is that of a key which belongs to no set
 abbrev pub fault_of : Refusal → CommandFault
 fault_of (refusal.Library fault) = Library fault
 fault_of (refusal.Length which) = Inconsistent
@@ -40,7 +40,7 @@ IsValid p key signature context message =
 abbrev pub IsValidUnder : ParameterSet → List ℕ → List ℕ → List ℕ → List ℕ → Type 0
 IsValidUnder p key signature context message = (pk : PublicParts) × IsPublicKeyOf shake256_front p.k key pk × IsValid p pk signature context message
 
--- `verify`: the answer is whether the key accepts the signature
+-- `verify`: the result is whether the key accepts the signature
 pub record Judges (public : PublicValue) (signature context message : List ℕ) (valid : Bool) : Type 0 where
   pub answer : IsTrue valid ↔ IsValidUnder (named_set public.algorithm) public.bytes signature context message
 
@@ -51,7 +51,7 @@ IsRefused p (Expanded expanded) fault =
     (sk : PrivateParts) × IsPrivateKeyOf p.eta p.k p.l expanded sk × (derived p shake128_front sk ≡ Err fault)
 IsRefused p (Both seed expanded) fault = generated p shake256_front shake128_front seed ≡ Err fault
 
--- why a private key in a file has no keys: none belong to it, though the library refuses none, or the library's refusal
+-- why a private key in a file has no keys: none belong to it, though the library refuses none, or the library's error
 abbrev pub HasNoKeys : ParameterSet → FileParts → CommandFault → Type 0
 HasNoKeys p parts Inconsistent = ((pk : PublicParts) (sk : PrivateParts) → ¬ (HasKeys p parts pk sk)) × ((fault : Fault) → ¬ (IsRefused p parts fault))
 HasNoKeys p parts (Library fault) = IsRefused p parts fault
@@ -111,7 +111,7 @@ FailsToSign gives remaining old new pair random context (Library fault) =
 FailsToSign gives remaining old new pair random context Memory = Unit {0}
 FailsToSign gives remaining old new pair random context fault = ⊥
 
--- why `verify` has no answer: the context is too long, or the message was not read
+-- why `verify` has no result: the context is too long, or the message was not read
 abbrev pub FailsToJudge : {S : Type 0} → (S → Option ℕ → List ℕ → S → Type 0) → S → S → List ℕ → CommandFault → Type 0
 FailsToJudge gives old new context Context = 255 < length context
 FailsToJudge gives old new context Message = FailsToGive gives old new
@@ -125,7 +125,7 @@ pub record MakesTexts (form : Form) (algorithm : SetName) (seed private public :
   pub private_file : IsPrivateIn form private algorithm (Seed seed)
   pub public_file : IsPublicIn form public algorithm public_bytes
 
--- why `keygen` has no keys: the library's refusal; memory may run out of itself
+-- why `keygen` has no keys: the library's error; memory may run out of itself
 abbrev pub FailsToGenerate : SetName → List ℕ → CommandFault → Type 0
 FailsToGenerate algorithm seed (Library fault) = IsRefused (named_set algorithm) (Seed seed) fault
 FailsToGenerate algorithm seed Memory = Unit {0}

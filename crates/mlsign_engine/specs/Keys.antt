@@ -40,7 +40,7 @@ StandsFor p (Seed seed) pk sk = generated p shake256_front shake128_front seed �
 StandsFor p (Expanded expanded) pk sk = IsPrivateKeyOf p.eta p.k p.l expanded sk
 StandsFor p (Both seed expanded) pk sk = (generated p shake256_front shake128_front seed ≡ Ok (pk, sk)) × (expanded ≡ private_key_bytes p.eta sk)
 
--- these keys are those of a file, and consistent: the private one is whole, the public one is derived of it, and both have the hash
+-- these keys are those of a file, and consistent: the private one is `IsWhole`, the public one is derived of it, and both have the hash
 -- of the public key's bytes
 pub record HasKeys (p : ParameterSet) (parts : FileParts) (pk : PublicParts) (sk : PrivateParts) : Type 0 where
   pub stands : StandsFor p parts pk sk

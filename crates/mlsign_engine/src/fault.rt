@@ -1,4 +1,4 @@
-//! Why a command ends without an answer.
+//! Why a command ends without a result.
 #![tactic(auto)]
 
 ghost use Rattle.std.specs.Prelude.{◌≡◌};
@@ -10,7 +10,7 @@ use mlsign_files::FileFault;
 use std::alloc::AllocError;
 use thiserror::Error;
 
-/// Why a command ended without an answer. `Display` gives a sentence.
+/// Why a command ended without a result. `Display` gives a sentence.
 #[derive(Debug, Clone, Copy, PartialEq, Eq, Error)]
 pub enum CommandFault {
     /// The file of a key could not be read.

@@ -65,7 +65,7 @@ Holds PrivateKey file = (form : Form) × (algorithm : SetName) × (parts : Priva
 Holds PublicKey file = (form : Form) × (algorithm : SetName) × (bytes : List ℕ) × IsPublicIn form file algorithm bytes
 Holds Signature bytes = (algorithm : SetName) × (length bytes ≡ signature_length (named_set algorithm))
 
--- the exit status of an answer: 0 for what was done, 1 for an invalid signature, 2 for an error
+-- the exit status of a result: 0 for what was done, 1 for an invalid signature, 2 for an error
 abbrev pub status_of : {E : Type 0} → Result Bool E → ℕ
 status_of (Ok valid) = if valid then 0 else 1
 status_of (Err _) = 2

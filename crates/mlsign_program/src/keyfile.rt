@@ -163,7 +163,7 @@ impl<'a> KeyFile<'a> {
         self.name(VerifyingKey::new(alloc, self.public(alloc)?))
     }
 
-    /// An answer, or its fault with the name of this file, if it is about the key.
+    /// A result, or its fault with the name of this file, if it is about the key.
     pub(crate) fn name<T>(&self, answer: Result<T, CommandFault>) -> Result<T, Error>
         ensures { IfOk result (λ value. answer ≡ Ok value) }
     {

@@ -32,7 +32,7 @@ pub fn run(rt: &HostRuntime) -> ExitCode {
     ExitCode::from(status(&answer))
 }
 
-/// The exit status of an answer.
+/// The exit status of a result.
 fn status(answer: &Result<bool, Error>) -> u8
     ensures { result ≡ status_of answer.now }
 {

@@ -1,4 +1,4 @@
-//! Tests of the program `mlsign`: answers the calls that the lines of standard input make, one after another, and prints how
+//! Tests of the program `mlsign`: carries out the calls that the lines of standard input make, one after another, and prints how
 //! each ended.
 #![tactic(auto)]
 

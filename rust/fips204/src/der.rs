@@ -147,7 +147,7 @@ where
     /// Takes `stack::DER` bytes of stack.
     ///
     /// # Errors
-    /// `der` has another length, or the key is one that `is_pair` says no to.
+    /// `der` has another length, or `is_pair` of the key is false.
     ///
     /// ```
     /// # #[cfg(feature = "ml-dsa-65")] {
@@ -329,6 +329,26 @@ mod pem {
             Self::from_der(&decode(PRIVATE, text)?)
         }
 
+        /// The seed of a private key in PEM, of which `keygen_from_seed` makes it.
+        /// Takes `stack::DER` bytes of stack.
+        ///
+        /// # Errors
+        /// Those of `from_pem`; or it has no seed.
+        ///
+        /// ```
+        /// # #[cfg(all(feature = "ml-dsa-65", feature = "default-rng"))] {
+        /// use fips204::ml_dsa_65::PrivateKey;
+        ///
+        /// let seed = [7; 32]; // a seed is secret, and random
+        /// let text = PrivateKey::seed_to_pem(&seed)?;
+        /// assert_eq!(PrivateKey::seed_from_pem(&text), Ok(seed));
+        /// # }
+        /// # Ok::<(), &'static str>(())
+        /// ```
+        pub fn seed_from_pem(text: &str) -> Result<[u8; 32], Error> {
+            Self::seed_from_der(&decode(PRIVATE, text)?)
+        }
+
         /// The text of a private key's file by its seed, not encrypted.
         /// Takes `stack::DER` bytes of stack.
         ///
@@ -355,7 +375,7 @@ mod pem {
         /// Takes `stack::DER` bytes of stack.
         ///
         /// # Errors
-        /// The key is one that `is_pair` says no to.
+        /// `is_pair` of the key is false.
         ///
         /// ```
         /// # #[cfg(all(feature = "ml-dsa-65", feature = "default-rng"))] {

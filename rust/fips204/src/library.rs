@@ -1,7 +1,7 @@
 //! The calls of the static library, as safe functions over slices.
 #![allow(dead_code)] // a set may be left out
 
-/// Done, or the answer to a question is yes.
+/// Done, or the result of a question is yes.
 pub(crate) const DONE: u32 = 0;
 /// Of a question: no.
 pub(crate) const NO: u32 = 1;

@@ -56,7 +56,7 @@ impl MessageHasher {
     /// # Ok::<(), &'static str>(())
     /// ```
     pub fn update(&mut self, piece: &[u8]) {
-        // The library wrote the state, and answers no other status for such a one.
+        // The library wrote the state, and returns no other status for such a one.
         let status = library::mu_update(piece, self.0.given_mut());
         library::answer(status, ()).unwrap();
     }

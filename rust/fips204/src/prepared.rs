@@ -5,14 +5,15 @@
 #[cfg(any(feature = "ml-dsa-44", feature = "ml-dsa-65", feature = "ml-dsa-87"))]
 macro_rules! prepared_keys {
     ($name:literal, $calls:ident, $public_len:literal, $private_len:literal) => {
-        /// A public key with its matrix, which verifies in less than half of the time, and is wiped when it is dropped. Its calls
-        /// answer what those of the key answer that it was made of. It has some ten times the bytes of the key, which are where those
-        /// of a private key are.
+        /// A public key with its matrix, which verifies in less time, and is wiped when it is dropped. Its calls return what those of
+        /// the key return that it was made of.
+        #[doc = concat!("It has ", stringify!($public_len), " bytes, which are where those of a private key are.")]
         #[derive(Clone)]
         pub struct PreparedPublicKey(Held<{ $public_len }>);
 
-        /// A private key with its matrix, which signs in less time, and is wiped when it is dropped. Its calls answer what those of
-        /// the key answer that it was made of. It has some ten times the bytes of the key.
+        /// A private key with its matrix, which signs in less time, and is wiped when it is dropped. Its calls return what those of
+        /// the key return that it was made of.
+        #[doc = concat!("It has ", stringify!($private_len), " bytes.")]
         #[derive(Clone)]
         pub struct PreparedPrivateKey(Held<{ $private_len }>);
 

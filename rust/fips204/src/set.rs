@@ -14,7 +14,7 @@ pub struct Set<const PK: usize, const SK: usize, const SIG: usize>;
 /// Declares a trait of calls. A slice before the arrow is read, and one after it is written.
 macro_rules! trait_of_calls {
     ($trait:ident: $($name:ident($($read:ident),*) => ($($written:ident),*);)*) => {
-        /// The calls of the library for a set. Each answers a status.
+        /// The calls of the library for a set. Each returns a status.
         pub trait $trait {
             $(fn $name($($read: &[u8],)* $($written: &mut [u8],)*) -> u32;)*
         }
@@ -77,7 +77,7 @@ where
     answer(status, (public, private))
 }
 
-/// The answer to a question of the library.
+/// The result of a question of the library.
 pub(crate) fn yes(status: u32) -> Result<bool, Error> {
     match status {
         library::NO => Ok(false),

@@ -49,6 +49,8 @@ macro_rules! tests_of_a_set {
                 assert_eq!(lines(&private_pem), wanted);
                 let read = PublicKey::from_pem(&public_pem).unwrap();
                 assert_eq!(read.into_bytes(), public.into_bytes());
+                assert_eq!(PrivateKey::seed_from_pem(&seed_pem), Ok(seed()));
+                assert!(PrivateKey::seed_from_pem(&private_pem).is_err());
                 let bytes = private.into_bytes();
                 for text in [
                     seed_pem.clone(),

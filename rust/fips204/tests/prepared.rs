@@ -1,4 +1,4 @@
-//! Prepared keys answer as the keys that they were made of.
+//! Prepared keys return what the keys do that they were made of.
 
 macro_rules! tests_of_a_set {
     ($name:ident, $set:ident) => {
@@ -94,7 +94,7 @@ macro_rules! tests_of_a_set {
                 );
             }
 
-            /// The types have names, as a struct of one's own needs them, and copies answer alike.
+            /// The types have names, as a struct of one's own needs them, and copies are alike.
             #[test]
             fn are_kept_and_copied() {
                 struct Kept {

@@ -1,6 +1,6 @@
 //! What key generation, signing and verifying cost in both crates.
 //!
-//! `costs SET FIRST N` makes the calls of the N inputs from number FIRST on, the crates in turn, and compares what they answer.
+//! `costs SET FIRST N` makes the calls of the N inputs from number FIRST on, the crates in turn, and compares what they return.
 //! It prints a line for each: the seed, the public key, the message, the signature, and then the nanoseconds of each call, of the
 //! original and of ours. `costs SET CALL original|ours N` makes N calls alone, to be counted by callgrind (N of 0 makes what the
 //! calls need, and no call).

@@ -49,7 +49,7 @@ fn answer(command: &str, set: &Set, input: &mut impl BufRead) -> Result<Answer, 
     })
 }
 
-/// Runs the words of a process. True is done or `yes`, false is `no` or a refusal.
+/// Runs the words of a process. True is done or `yes`, false is `no` or an error.
 fn run() -> Result<bool, Fault> {
     let mut words = Vec::new();
     for word in std::env::args_os().skip(1) {

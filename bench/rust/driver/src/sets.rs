@@ -28,12 +28,12 @@ fn array<const N: usize>(bytes: &[u8]) -> [u8; N] {
     bytes.try_into().expect("a line of the wanted length")
 }
 
-/// The words of a refusal.
+/// The words of an error.
 fn refusal(words: &str) -> Answer {
     (format!("{words}\n").into_bytes(), false)
 }
 
-/// Lines of hex, or the words of a refusal.
+/// Lines of hex, or the words of an error.
 fn told(given: Result<Vec<Vec<u8>>, &'static str>) -> Answer {
     match given {
         Ok(lines) => {

@@ -1,7 +1,7 @@
-//! A stand-in for the crate `sha3`: what fips204 0.5.0 calls of it, over the four streams of `mldsa`.
+//! A stand-in for the crate `sha3`: what fips204 0.5.0 calls of it, over the four XOFs of `mldsa`.
 //!
-//! `Shake256` is the stream `H`, and `Shake128` the stream `G`. None of them is SHAKE. The process chooses its streams
-//! once, by [`choose`]. Streams have no end, and nothing is wiped.
+//! `Shake256` is the XOF `H`, and `Shake128` the XOF `G`. None of them is SHAKE. The process chooses its XOFs
+//! once, by [`choose`]. XOFs have no end, and nothing is wiped.
 
 use core::sync::atomic::{AtomicU8, Ordering};
 pub use sha2::digest;
@@ -14,7 +14,7 @@ use digest::core_api::{
 use digest::{Digest, ExtendableOutput, Output, Update, XofReader};
 use sha2::{Sha256, Sha512};
 
-/// The streams of a process: what stands for `H` and for `G`.
+/// The XOFs of a process: what stands for `H` and for `G`.
 #[derive(Clone, Copy, PartialEq, Eq)]
 #[repr(u8)]
 pub enum Streams {
@@ -30,12 +30,12 @@ pub enum Streams {
 
 static CHOSEN: AtomicU8 = AtomicU8::new(Streams::Sha2 as u8);
 
-/// Chooses the streams of all that is hashed from now on.
+/// Chooses the XOFs of all that is hashed from now on.
 pub fn choose(streams: Streams) {
     CHOSEN.store(streams as u8, Ordering::Relaxed);
 }
 
-/// A digest of the crate `sha2` in the place of one of the two streams.
+/// A digest of the crate `sha2` in the place of one of the two XOFs.
 pub trait Place: Digest + Clone {
     /// The bytes of this place under `fill00`, `fill55` and `fillff`.
     const FILLS: [u8; 3];
@@ -49,19 +49,19 @@ impl Place for Sha512 {
     const FILLS: [u8; 3] = [0x00, 0x00, 0xff];
 }
 
-/// A stream that absorbs its input. A constant one drops it.
+/// An XOF that absorbs its input. A constant one drops it.
 #[derive(Clone)]
 pub enum Absorbing<D> {
-    /// The constant stream of a byte.
+    /// The constant XOF of a byte.
     Fill(u8),
     /// Counter mode over a digest.
     Counter(D),
 }
 
-/// The stream `H`.
+/// The XOF `H`.
 pub type Shake256 = Absorbing<Sha256>;
 
-/// The stream `G`.
+/// The XOF `G`.
 pub type Shake128 = Absorbing<Sha512>;
 
 impl<D: Place> Default for Absorbing<D> {
@@ -97,11 +97,11 @@ impl<D: Place> ExtendableOutput for Absorbing<D> {
     }
 }
 
-/// A stream that gives its bytes. A block is made when a byte of it is asked for: block `i` is the digest of the seed and
+/// An XOF that gives its bytes. A block is made when a byte of it is asked for: block `i` is the digest of the seed and
 /// of `i` as four bytes, the lowest first.
 #[derive(Clone)]
 pub enum Squeezing<D: Digest> {
-    /// The constant stream of a byte.
+    /// The constant XOF of a byte.
     Fill(u8),
     /// Counter mode over a digest.
     Counter {
@@ -138,7 +138,7 @@ impl<D: Digest> XofReader for Squeezing<D> {
     }
 }
 
-/// The stream `H` as fips204 takes it for secrets: input and output in blocks of 136 bytes, as of SHAKE256, which are not
+/// The XOF `H` as fips204 takes it for secrets: input and output in blocks of 136 bytes, as of SHAKE256, which are not
 /// those of the digest. So the last block that is asked for may make more of the digest's than are used.
 #[derive(Clone, Default)]
 pub struct Shake256Core(Shake256);

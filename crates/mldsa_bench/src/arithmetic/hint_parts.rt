@@ -132,7 +132,7 @@ fn slow_hint<const K: usize>(omega: usize, part: &[u8]) -> Option<[[i32; 256]; K
     (&spelling[..omega + K] == part).then_some(hint)
 }
 
-/// Whether a part spells a hint; none where the library and the slow decoder answer differently.
+/// Whether a part spells a hint; none where the library and the slow decoder return differently.
 fn spells<const K: usize>(omega: i32, part: &[u8]) -> Option<bool>
     requires { (pos 1 ≤ℤ omega) × (nat_abs omega + K < 256) × (length part.now ≡ nat_abs omega + K) }
 {
@@ -157,7 +157,7 @@ fn accepts(key: &Public44, signature: &mut [u8; 2420], part: &[u8]) -> bool {
 }
 
 /// How many parts spell a hint: this one, and each that differs from it in one byte. None where the library and the
-/// slow decoder answer one differently, or the key accepts its signature and it spells none, or the other way round.
+/// slow decoder return one differently, or the key accepts its signature and it spells none, or the other way round.
 fn spelled_about<const K: usize, const N: usize>(
     omega: i32,
     part: [u8; N],

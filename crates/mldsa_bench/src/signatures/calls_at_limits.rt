@@ -1,4 +1,4 @@
-//! Every call of a set over streams at their limits and past them, and the masks and responses of attempts.
+//! Every call of a set over XOFs at their limits and past them, and the masks and responses of attempts.
 #![tactic(auto)]
 
 ghost use Rattle.std.specs.Prelude.{◌≡◌, ◌≤◌, ◌+◌, ◌⊎◌, ◌≤ℤ◌, pos};
@@ -17,30 +17,30 @@ use fips204::types::R;
 use fips204::xof::{Fill, Sha256Ctr, Xof};
 use std::test::Fail;
 
-/// The streams whose matrix entries keep their last coefficient from the last triple.
+/// The XOFs whose matrix entries keep their last coefficient from the last triple.
 type LastTriple = Patterned<FourthTriples<0>>;
 
-/// The streams whose matrix entries keep one coefficient fewer.
+/// The XOFs whose matrix entries keep one coefficient fewer.
 type PastLastTriple = Patterned<FourthTriples<12>>;
 
 /// What the calls of a set return.
 #[derive(Clone, Copy, PartialEq, Debug)]
 pub struct Answers {
-    /// Whether the pair of a seed is that over constant streams.
+    /// Whether the pair of a seed is that over constant XOFs.
     pub pair: Result<bool, Fault>,
     /// Whether the public key of the private one is.
     pub derived: Result<bool, Fault>,
-    /// Whether the private key comes back from its bytes and is whole.
+    /// Whether the private key comes back from its bytes and is consistent.
     pub read: Result<bool, Fault>,
-    /// The refusals to prepare the public key and the private key.
+    /// The errors of preparing the public key and the private key.
     pub unprepared: [Option<Fault>; 2],
-    /// Whether plain keys sign as over constant streams, and accept that signature.
+    /// Whether plain keys sign as over constant XOFs, and accept that signature.
     pub plain: [Result<bool, Fault>; 2],
     /// The same of prepared keys.
     pub prepared: [Result<bool, Fault>; 2],
 }
 
-/// What keys over constant streams answer.
+/// What keys over constant XOFs return.
 pub const ALL: Answers = Answers {
     pair: Ok(true),
     derived: Ok(true),
@@ -50,7 +50,7 @@ pub const ALL: Answers = Answers {
     prepared: [Ok(true); 2],
 };
 
-/// What keys answer that have no matrix.
+/// What keys return that have no matrix.
 const NO_MATRIX: Answers = Answers {
     pair: LIMIT,
     derived: LIMIT,
@@ -95,7 +95,7 @@ impl Suite for Calls {
 }
 
 /// Every fourth triple 0 and the rest FF at each set: key generation, deriving, preparing, signing and
-/// verifying return what they return over constant streams.
+/// verifying return what they return over constant XOFs.
 #[test]
 fn calls_whose_matrix_ends_at_its_last_triple(rt: HostRuntime) -> Result<(), Fail> {
     at_each_set::<Fill<0x55>, LastTriple, Calls>(&rt, &Calls(7), &[ALL; 3])
@@ -148,7 +148,7 @@ fn signing_faults<S: TestSet>(keys: &S::Plain) -> Result<[Option<Fault>; 2], Fau
     Ok([plain, prepared.seeded(&[0; 32], text).err()])
 }
 
-/// The refusals of a signature by the keys of 32 bytes 00, plain and prepared.
+/// The errors of a signature by the keys of 32 bytes 00, plain and prepared.
 struct FaultsOfPair;
 
 impl Suite for FaultsOfPair {
@@ -159,7 +159,7 @@ impl Suite for FaultsOfPair {
     }
 }
 
-/// Both streams of bytes 00, each set: `TooManyAttempts`, with plain and prepared keys.
+/// Both XOFs of bytes 00, each set: `TooManyAttempts`, with plain and prepared keys.
 #[test]
 fn keys_that_never_sign(rt: HostRuntime) -> Result<(), Fail> {
     let wanted = [[Some(Fault::TooManyAttempts); 2]; 3];
@@ -167,7 +167,7 @@ fn keys_that_never_sign(rt: HostRuntime) -> Result<(), Fail> {
 }
 
 /// Coefficient 255 of the product of the challenge with another first polynomial of t0; and with it, what refuses to
-/// sign, and whether the public key is derived as over constant streams.
+/// sign, and whether the public key is derived as over constant XOFs.
 fn with_large_low_parts() -> Result<(i32, [Option<Fault>; 2], bool), Fault> {
     let R(c) = sample_in_ball::<Fill<0x55>>(39, &[0x55; 32])?;
     let (mut low, mut fields) = ([2i32; 256], [4094; 256]);
@@ -215,7 +215,7 @@ fn smallest_response<H: Xof>(gamma1: i64, tau: i32, eta: i32) -> Result<i64, Fau
 }
 
 /// `H` of bytes 00 over the masks of attempt 0 and else 55, set 44: that attempt is rejected, and attempt 1
-/// signs as over constant streams.
+/// signs as over constant XOFs.
 #[test]
 fn first_attempts_that_are_rejected(rt: HostRuntime) -> Result<(), Fail> {
     let first = masks_are::<4, Second>(131072, 0, 131072);

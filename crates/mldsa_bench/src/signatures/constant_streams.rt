@@ -1,4 +1,4 @@
-//! Every call that signs or verifies over constant streams, at each set, with plain and with prepared keys.
+//! Every call that signs or verifies over constant XOFs, at each set, with plain and with prepared keys.
 #![tactic(auto)]
 
 use crate::keys::sets::{Keys, Suite, TestSet, at_each_set, is_same};
@@ -10,7 +10,7 @@ use fips204::pre_hash::{SHA2_256, SHA2_512};
 use fips204::xof::Fill;
 use std::test::Fail;
 
-/// What has the signature over constant streams, whatever is signed; and what is neither signed nor accepted for its
+/// What has the signature over constant XOFs, whatever is signed; and what is neither signed nor accepted for its
 /// context, and why.
 static INPUTS: [(Input, Option<Fault>); 20] = [
     (Input::Message(b"", &[]), None),
@@ -58,7 +58,7 @@ fn answers<S: PartialEq + Drop, K: Keys<S>>(
     signed == [wanted; 4] && accepted == fault.is_none() && rng.asked == draws
 }
 
-/// The first input, and else the first refused digest, that is not answered so: the table and the row.
+/// The first input, and else the first refused digest, that has another result: the table and the row.
 fn first_wrong<S: PartialEq + Drop, K: Keys<S>>(keys: &K, signature: &S) -> Option<(u8, usize)> {
     for (row, (input, fault)) in INPUTS.iter().enumerate() {
         if !answers(keys, (input, *fault), signature) {
@@ -86,7 +86,7 @@ impl Suite for FirstWrong {
     }
 }
 
-/// The signature of each set over constant streams, byte for byte, by every call of plain and prepared keys,
+/// The signature of each set over constant XOFs, byte for byte, by every call of plain and prepared keys,
 /// with given and drawn bytes; contexts of 255 to 257 bytes; each condition on a digest.
 #[test]
 fn signatures_of_each_set(rt: HostRuntime) -> Result<(), Fail> {

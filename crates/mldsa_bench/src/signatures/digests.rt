@@ -1,4 +1,4 @@
-//! Identifiers of hashes, the conditions on digests, and the words of the refusals.
+//! Identifiers of hashes, the conditions on digests, and the words of the errors.
 #![tactic(auto)]
 
 use fips204::Fault::{
@@ -85,7 +85,7 @@ fn digests_that_are_refused(rt: HostRuntime) {
     }
 }
 
-/// The refusals and their texts.
+/// The errors and their texts.
 static WORDS: [(Fault, &str); 13] = [
     (KeyGenRng, "KeyGen: Random number generator failed"),
     (SignCtx, "ML-DSA.Sign: ctx too long"),

@@ -1,4 +1,4 @@
-//! Signatures of set 44 over constant streams with another field of z, or another hint part, under a plain public key
+//! Signatures of set 44 over constant XOFs with another field of z, or another hint part, under a plain public key
 //! and under a prepared one.
 #![tactic(auto)]
 
@@ -29,7 +29,7 @@ pub fn short<'a>() -> Input<'a> {
     Input::Message(b"abc", &[])
 }
 
-/// Whether the plain public key over constant streams accepts a signature, and whether the prepared one.
+/// Whether the plain public key over constant XOFs accepts a signature, and whether the prepared one.
 pub fn accepted<S: TestSet>(bytes: &S::Signature) -> Result<[bool; 2], Fault> {
     let input = &short();
     let (keys, _) = S::constant()?;
@@ -66,7 +66,7 @@ fn hints_of_signatures(rt: HostRuntime) {
     assert_eq!(rt; found, [yes, no, yes, no, yes, no, no, no]);
 }
 
-/// z begins with `53 55 4D` at set 44 and with `56 55 65 55 55` at set 65 over constant streams.
+/// z begins with `53 55 4D` at set 44 and with `56 55 65 55 55` at set 65 over constant XOFs.
 #[test]
 fn first_bytes_of_z(rt: HostRuntime) {
     let (first, second) = (signature_44(), signature_65());

@@ -1,4 +1,4 @@
-//! The fronts of the streams. The expected bytes were computed with Python's `hashlib`.
+//! The outputs of the XOFs. The expected bytes were computed with Python's `hashlib`.
 #![tactic(auto)]
 
 ghost use Rattle.std.specs.Prelude.{◌≤◌};
@@ -19,7 +19,7 @@ fn front<H: Xof, const N: usize>(parts: &[&[u8]]) -> [u8; N]
     out
 }
 
-/// Whether the front of `abc`, of `N` bytes, whole and cut in three, begins and ends with these bytes and has this
+/// Whether the output of `abc`, of `N` bytes, whole and cut in three, begins and ends with these bytes and has this
 /// SHA-256, all in hex.
 fn has_front<H: Xof, const N: usize>(alloc: Global, text: [&str; 3]) -> Result<bool, FromHexError>
     requires { N ≤ H.FRONT }
@@ -32,7 +32,7 @@ fn has_front<H: Xof, const N: usize>(alloc: Global, text: [&str; 3]) -> Result<b
     Ok(cut == whole && starts && ends && same)
 }
 
-/// Whether a reader gives the front of `abc`, of `N` bytes, in pieces of each of these sizes, and then has none left.
+/// Whether a reader gives the output of `abc`, of `N` bytes, in pieces of each of these sizes, and then has none left.
 fn comes_in_pieces<H: Xof, const N: usize>(sizes: &[usize]) -> bool
     requires { N ≤ H.FRONT }
 {
@@ -53,7 +53,7 @@ fn comes_in_pieces<H: Xof, const N: usize>(sizes: &[usize]) -> bool
     true
 }
 
-/// SHA-256 of `abc`, which the counter streams start from, and the fronts of these streams over `abc`, whole and cut in
+/// SHA-256 of `abc`, which the counter XOFs start from, and the outputs of these XOFs over `abc`, whole and cut in
 /// three: first and last block, and the SHA-256 of all 4096 bytes and of all 16384, from Python.
 #[test]
 fn sha256_counter_fronts(rt: HostRuntime) {
@@ -69,7 +69,7 @@ fn sha256_counter_fronts(rt: HostRuntime) {
     assert_eq!(rt; [start, short, long], [Ok(true), Ok(true), Ok(true)]);
 }
 
-/// The same of SHA-512 and its counter streams.
+/// The same of SHA-512 and its counter XOFs.
 #[test]
 fn sha512_counter_fronts(rt: HostRuntime) {
     let digest = "ddaf35a193617abacc417349ae20413112e6fa4e89a97ea20a9eeee64b55d39a\
@@ -88,8 +88,8 @@ e10d54b4f6907338d720d91ea01fd33a596bd7424b730c69cad720339e2a8839";
     assert_eq!(rt; [start, short, long], [Ok(true), Ok(true), Ok(true)]);
 }
 
-/// A constant stream is 4096 times its byte. In pieces of several sizes, around each block length and up to the whole, a
-/// front has the same bytes, and none are left. A reader of an array gives its bytes in turn.
+/// A constant XOF is 4096 times its byte. In pieces of several sizes, around each block length and up to the whole, a
+/// output has the same bytes, and none are left. A reader of an array gives its bytes in turn.
 #[test]
 fn fronts_in_pieces(rt: HostRuntime) {
     let sizes = [1, 7, 31, 32, 33, 63, 64, 65, 100, 200, 4095, 4096].as_slice();

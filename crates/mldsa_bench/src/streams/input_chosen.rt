@@ -1,4 +1,4 @@
-//! Streams whose whole front is one byte, which the input chooses.
+//! XOFs whose whole output is one byte, which the input chooses.
 #![tactic(auto)]
 
 ghost use Rattle.std.specs.Prelude.{◌≡◌, ◌<◌, ◌+◌, ◌*◌, ◌&&◌, ℕ, List, length, take, replicate, slice_index, nat_eq, nat_lt, IfSome, MatchOption, if◌then◌else◌};
@@ -7,7 +7,7 @@ ghost use Rattle.std.proofs.Common.{rules};
 
 use fips204::xof::{FrontReader, Xof};
 
-/// The stream whose front is 4096 times the byte that its input chooses.
+/// The XOF whose output is 4096 times the byte that its input chooses.
 pub struct Chosen<const SIZE: u8, const BELOW: u32, const BYTE: u8>;
 
 /// Bytes FF where the input has 32 bytes, as that of a challenge of set 44, and else 55.

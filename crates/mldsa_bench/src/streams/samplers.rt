@@ -1,4 +1,4 @@
-//! Samplers: over fronts of 4096, 4097, 4100, 5000 and 8192 bytes, which their limits follow, and over the counter streams.
+//! Samplers: over outputs of 4096, 4097, 4100, 5000 and 8192 bytes, which their limits follow, and over the counter XOFs.
 #![tactic(auto)]
 
 ghost use Rattle.std.specs.Prelude.{◌<◌};
@@ -47,7 +47,7 @@ fn challenge_with(place: usize, odd: i32) -> [i32; 256]
     wanted
 }
 
-/// An entry whose 256th value comes from the last triple that a quarter of the front allows is there, and from the next
+/// An entry whose 256th value comes from the last triple that a quarter of the output allows is there, and from the next
 /// one it is not; past the limit of 4096 bytes it is there over 4100, whose limit is one triple more, and over 8192.
 #[test]
 fn entries_of_longer_fronts(rt: HostRuntime) {
@@ -143,7 +143,7 @@ fn entries_of_a_matrix(rt: HostRuntime) -> Result<(), Fail> {
     Ok(())
 }
 
-/// Whether the last polynomial of a mask of seven is unpacked from the front over `rho` and 5697 in two bytes.
+/// Whether the last polynomial of a mask of seven is unpacked from the output over `rho` and 5697 in two bytes.
 #[tactic(auto, unfolding(fips204_base::specs::Packing::bit_length))]
 fn last_mask<H: Xof>(rho: &[u8; 64]) -> bool {
     let mask = expand_mask::<7, H>(524288, rho, 5691);

@@ -1,4 +1,4 @@
-//! Streams whose fronts are written out.
+//! XOFs whose outputs are written out.
 #![tactic(auto)]
 
 ghost use Rattle.std.specs.Prelude.{◌≡◌, ◌≤◌, ◌+◌, ℕ, map};
@@ -8,7 +8,7 @@ ghost use Rattle.std.proofs.Common.{rules};
 use fips204::xof::{Xof, XofReader};
 use std::marker::PhantomData;
 
-/// A byte for each place of a front.
+/// A byte for each place of an output.
 pub trait Pattern {
     ghost byte: { ℕ → ℕ };
 
@@ -17,7 +17,7 @@ pub trait Pattern {
         ensures { result ≡ byte place };
 }
 
-/// The stream whose front has the bytes of a pattern, 4096 and `MORE`, whatever its input; it is its own reader.
+/// The XOF whose output has the bytes of a pattern, 4096 and `MORE`, whatever its input; it is its own reader.
 #[derive(Drop)]
 pub struct PatternedBy<P: Pattern, const MORE: u16> {
     pattern: PhantomData<P>,
@@ -25,7 +25,7 @@ pub struct PatternedBy<P: Pattern, const MORE: u16> {
     ghost within: { given ≤ 4096 + MORE },
 }
 
-/// The same with a front of 4096 bytes.
+/// The same with an output of 4096 bytes.
 pub type Patterned<P> = PatternedBy<P, 0>;
 
 impl<P: Pattern, const MORE: u16> XofReader for PatternedBy<P, MORE> {

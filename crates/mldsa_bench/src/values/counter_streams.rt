@@ -1,4 +1,4 @@
-//! The key pairs and signatures over the counter streams, with seeds of 32 bytes 00, an empty context and the message
+//! The key pairs and signatures over the counter XOFs, with seeds of 32 bytes 00, an empty context and the message
 //! `00`, as an independent model gives them.
 #![tactic(auto)]
 

@@ -13,12 +13,12 @@ use std::alloc::Global;
 pub(crate) struct Output {
     /// What is written.
     pub(crate) text: Vec<u8>,
-    /// Whether the command succeeded or its answer is `yes`.
+    /// Whether the command succeeded or its result is `yes`.
     pub(crate) success: bool,
 }
 
 impl Output {
-    /// Adds the word for an answer on a line. The output is a success as long as no answer is `no`.
+    /// Adds the word for a result on a line. The output is a success as long as no result is `no`.
     pub(super) fn add_answer(&mut self, answer: bool) -> Result<(), RunFault>
         ensures text { OnOk result (self.new.text.items ≡ self.old.text.items ++ (answer_word answer ++ 10 ∷ [])) }
         ensures success { IsTrue self.new.success ↔ IsTrue self.old.success × IsTrue answer }
@@ -29,7 +29,7 @@ impl Output {
     }
 }
 
-/// The words of a refusal on a line, and no success.
+/// The words of an error on a line, and no success.
 pub(super) fn refuse(alloc: Global, fault: Fault) -> Result<Output, RunFault>
     ensures given { IfOk result (λ output. Refuses fault output.text.items output.success) }
     ensures memory { IfErr result (λ fault. fault ≡ RunFault.Memory) }
@@ -37,7 +37,7 @@ pub(super) fn refuse(alloc: Global, fault: Fault) -> Result<Output, RunFault>
     word_line(alloc, fault.as_str(), false)
 }
 
-/// The word for an answer on a line, which is a success if it is `yes`.
+/// The word for a result on a line, which is a success if it is `yes`.
 pub(super) fn tell(alloc: Global, answer: bool) -> Result<Output, RunFault>
     ensures given { IfOk result (λ output. (output.text.items ≡ text (answer_word answer ∷ [])) × (output.success ≡ answer)) }
     ensures memory { IfErr result (λ fault. fault ≡ RunFault.Memory) }
@@ -45,7 +45,7 @@ pub(super) fn tell(alloc: Global, answer: bool) -> Result<Output, RunFault>
     word_line(alloc, word_of(answer), answer)
 }
 
-/// The word for an answer.
+/// The word for a result.
 fn word_of(answer: bool) -> &'static str
     ensures { result.now ≡ answer_word answer }
 {

@@ -1,4 +1,4 @@
-//! The toy streams give the bytes that Python computes, sign and verify, and give four fronts at once.
+//! The toy XOFs give the bytes that Python computes, sign and verify, and give four outputs at once.
 #![tactic(auto)]
 
 use crate::toy_stream::{ToyCtr, ToySpread, ToyWide};
@@ -6,14 +6,14 @@ use fips204::ml_dsa_44::KG;
 use fips204::traits::pairwise_check;
 use fips204::xof::{Xof, XofReader};
 
-/// The first 4096 bytes of a stream over the joined parts.
+/// The first 4096 bytes of an XOF over the joined parts.
 fn front_of<H: Xof>(parts: &[&[u8]]) -> [u8; 4096] {
     let mut front = [0u8; 4096];
     H::open(parts).read(&mut front);
     front
 }
 
-/// Whether a stream over `abc` begins and ends with these bytes, and gives the same where the input comes
+/// Whether an XOF over `abc` begins and ends with these bytes, and gives the same where the input comes
 /// in three parts.
 fn has_ends<H: Xof>(first: [u8; 16], last: [u8; 8]) -> bool {
     let front = front_of::<H>(&[b"abc"]);
@@ -21,7 +21,7 @@ fn has_ends<H: Xof>(first: [u8; 16], last: [u8; 8]) -> bool {
     front.starts_with(&first) && front.ends_with(&last) && front == cut
 }
 
-/// The first 16 bytes and the last 8 of both toy fronts over `abc`, whole and in three parts, computed with
+/// The first 16 bytes and the last 8 of both toy outputs over `abc`, whole and in three parts, computed with
 /// Python from the two definitions.
 #[test]
 fn toy_fronts(rt: HostRuntime) {
@@ -34,7 +34,7 @@ fn toy_fronts(rt: HostRuntime) {
     assert!(rt; [of_ctr, of_spread, has_ends::<ToyWide>(first, last)] == [true; 3]);
 }
 
-/// A pair over the toy streams signs, and the signature is accepted.
+/// A pair over the toy XOFs signs, and the signature is accepted.
 #[test]
 fn toy_signatures(rt: HostRuntime) {
     let one = pairwise_check::<KG<ToyCtr, ToyCtr>>(&[1; 32], &[2; 32], b"a message", b"");
@@ -43,7 +43,7 @@ fn toy_signatures(rt: HostRuntime) {
     assert!(rt; [one, two, three] == [Ok(true); 3]);
 }
 
-/// The first 4096 bytes of a stream over each of four inputs, read at once.
+/// The first 4096 bytes of an XOF over each of four inputs, read at once.
 fn fronts_at_once<H: Xof>(a: &[u8], b: &[u8], c: &[u8], d: &[u8]) -> [[u8; 4096]; 4] {
     let mut of_a = [0u8; 4096];
     let mut of_b = [0u8; 4096];
@@ -62,7 +62,7 @@ fn fronts_at_once<H: Xof>(a: &[u8], b: &[u8], c: &[u8], d: &[u8]) -> [[u8; 4096]
     [of_a, of_b, of_c, of_d]
 }
 
-/// Four fronts that are read at once are as each is alone.
+/// Four outputs that are read at once are as each is alone.
 #[test]
 fn toy_fours(rt: HostRuntime) {
     let at_once = fronts_at_once::<ToyWide>(b"a", b"b", b"c", b"abc");

@@ -7,7 +7,7 @@ use std::test::Fail;
 
 /// `yes` and `no` in the order of the entries, and status 0 if all are `yes`. With a context of 256 bytes and over a
 /// key without a matrix each is `no`. Count `0000`: no output, status 0, and what follows stays unread. Faults come
-/// before answers: counts of no byte, one and three, and a signature of 2419 bytes in the last entry.
+/// before results: counts of no byte, one and three, and a signature of 2419 bytes in the last entry.
 #[test]
 fn answers_in_the_order_of_the_entries(rt: HostRuntime) -> Result<(), Fail> {
     let cases = "\

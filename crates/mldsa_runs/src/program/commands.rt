@@ -49,8 +49,8 @@ verify | public,good,00,00, | other,
 batch | public,,0002,good,00,good,00, | yes,yes,
 batch | public,,0003,good,00,good,01,good,00, | yes,other,yes,";
 
-/// Each command at each set, over the counter streams, and over constant ones, where any message has the same signature:
-/// byte for byte, with its reads and writes counted and what follows unread. Over the counter streams `no` with another
+/// Each command at each set, over the counter XOFs, and over constant ones, where any message has the same signature:
+/// byte for byte, with its reads and writes counted and what follows unread. Over the counter XOFs `no` with another
 /// message or context.
 #[test]
 fn each_command_at_each_set(rt: HostRuntime) -> Result<(), Fail> {

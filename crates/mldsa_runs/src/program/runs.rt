@@ -19,7 +19,7 @@ pub struct Ended {
     pub calls: [usize; 2],
 }
 
-/// A run of a call, which is its streams, its command and its set, on these bytes, with a reader and a writer of these
+/// A run of a call, which is its XOFs, its command and its set, on these bytes, with a reader and a writer of these
 /// paces; and what it wrote.
 pub fn run_of(
     alloc: Global,

@@ -1,4 +1,4 @@
-//! What the Rust crate fips204 0.5.0 returned in 20 cases of each command at each set, over the same streams.
+//! What the Rust crate fips204 0.5.0 returned in 20 cases of each command at each set, over the same XOFs.
 #![tactic(auto)]
 
 use crate::program::devices::WHOLE;
@@ -62,7 +62,7 @@ fn digest_of(alloc: Global, set: &str, number: u8, made: &mut String) -> Result<
     run(alloc, &mut all, [streams, "id", set], input)?;
     let input = format!(in alloc; "{private}\n{random}\n{context}\n{message}\n")?;
     let signed = run(alloc, &mut all, [streams, "sign", set], input)?;
-    // A refusal is shorter than a key.
+    // An error is shorter than a key.
     if signed.len() > public.len() {
         *made = String::from_str(alloc, signed.trim_end())?;
     }
@@ -86,7 +86,7 @@ fn digest_of(alloc: Global, set: &str, number: u8, made: &mut String) -> Result<
 }
 
 /// 20 cases of each command and set: the SHA-256 of the output and the status that fips204 0.5.0 gave over
-/// the same streams.
+/// the same XOFs.
 #[test]
 fn answers_of_the_rust_crate(rt: HostRuntime) -> Result<(), Fail> {
     for (set, recorded) in [("44", ANSWERS_44), ("65", ANSWERS_65), ("87", ANSWERS_87)] {

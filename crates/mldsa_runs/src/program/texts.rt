@@ -8,7 +8,7 @@ use mldsa_bench::values::constant_streams::{
 use mldsa_bench::values::recorded;
 use std::alloc::{AllocError, Global};
 
-/// What a word names at a set over the counter streams, in hex or as an answer. Any other word is itself.
+/// What a word names at a set over the counter XOFs, in hex or as a result. Any other word is itself.
 fn counted<'a>(set: &str, word: &'a str) -> &'a str {
     let number = match set {
         "44" => 0,
@@ -27,7 +27,7 @@ fn counted<'a>(set: &str, word: &'a str) -> &'a str {
     }
 }
 
-/// What a word names at a set over constant streams, in hex or as an answer. Any other word is itself.
+/// What a word names at a set over constant XOFs, in hex or as a result. Any other word is itself.
 fn constant(alloc: Global, set: &str, word: &str) -> Result<String, AllocError> {
     match (word, set) {
         ("public", "44") => hex::encode(alloc, &public_44()),

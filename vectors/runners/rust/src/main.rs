@@ -1,5 +1,5 @@
 //! Makes the calls that standard input asks for, a line each: the number of a set, the name of a call, and its arrays in hex, with a tab between.
-//! Prints a line for each: what was made in hex, with a tab between; yes or no; or the text of a refusal.
+//! Prints a line for each: what was made in hex, with a tab between; yes or no; or the text of an error.
 
 use std::io::{self, BufRead, Write};
 
@@ -26,11 +26,16 @@ fn array<const LEN: usize>(bytes: &[u8]) -> Result<[u8; LEN], &'static str> {
     bytes.try_into().map_err(|_| WRONG_LENGTH)
 }
 
+/// The text of a file.
+fn text(bytes: &[u8]) -> Result<&str, &'static str> {
+    std::str::from_utf8(bytes).map_err(|_| "it is no text")
+}
+
 /// The calls of a parameter set.
 macro_rules! calls {
     ($set:ident) => {
         mod $set {
-            use crate::{array, hex, word};
+            use crate::{array, hex, text, word};
             use fips204::traits::{KeyGen, SerDes, Signer, Verifier};
             use fips204::$set::{KG, PrivateKey, PublicKey};
 
@@ -61,6 +66,33 @@ macro_rules! calls {
                         hex(&private()?.try_sign_mu_with_seed(&array(&a[2])?, &array(&a[1])?)?)
                     }
                     "verify_mu" => word(public()?.verify_mu(&array(&a[1])?, &array(&a[2])?)),
+                    "public_key_from_der" => hex(&PublicKey::from_der(&a[0])?.into_bytes()),
+                    "public_key_from_pem" => hex(&PublicKey::from_pem(text(&a[0])?)?.into_bytes()),
+                    "public_key_to_der" => {
+                        let mut der = [0; PublicKey::DER_LEN];
+                        public()?.write_der(&mut der)?;
+                        hex(&der)
+                    }
+                    "public_key_to_pem" => hex(public()?.to_pem()?.as_bytes()),
+                    "private_key_from_der" => hex(&PrivateKey::from_der(&a[0])?.into_bytes()),
+                    "private_key_from_pem" => {
+                        hex(&PrivateKey::from_pem(text(&a[0])?)?.into_bytes())
+                    }
+                    "private_key_to_der" => {
+                        let mut der = [0; PrivateKey::DER_LEN];
+                        private()?.write_der(&mut der)?;
+                        hex(&der)
+                    }
+                    "private_key_to_pem" => hex(private()?.to_pem()?.as_bytes()),
+                    "both_to_der" => {
+                        let mut der = [0; PrivateKey::BOTH_DER_LEN];
+                        PrivateKey::write_both_der(&array(&a[0])?, &mut der)?;
+                        hex(&der)
+                    }
+                    "seed_from_der" => hex(&PrivateKey::seed_from_der(&a[0])?),
+                    "seed_from_pem" => hex(&PrivateKey::seed_from_pem(text(&a[0])?)?),
+                    "seed_to_der" => hex(&PrivateKey::seed_to_der(&array(&a[0])?)?),
+                    "seed_to_pem" => hex(PrivateKey::seed_to_pem(&array(&a[0])?)?.as_bytes()),
                     _ => panic!("there is no call {call}"),
                 })
             }
