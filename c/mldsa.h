@@ -614,7 +614,7 @@ uint32_t mldsa_version(void);
 MLDSA_ANSWERS MLDSA_ARRAYS(2, 0)
 uint32_t mldsa_check_pre_hash(const uint8_t *digest, size_t digest_len, const uint8_t *oid, size_t oid_len);
 
-/* The text of an answer, or of another number. mldsa_text_of writes the same into an array of MLDSA_TEXT_LEN bytes, with zeros
+/* The text of a result, or of another number. mldsa_text_of writes the same into an array of MLDSA_TEXT_LEN bytes, with zeros
  * behind it, for languages that load the library and read no header. [mldsa_text_of: MLDSA_WRONG_LENGTH] */
 #define MLDSA_TEXT_LEN 64
 MLDSA_ANSWERS MLDSA_ARRAY(write_only, 2, 3)

@@ -101,7 +101,7 @@ def cases(found):
         given += [f"a[ARRAY_{name}].at, a[ARRAY_{name}].len" for name, _ in export.arrays()]
         lines += [f"static uint32_t call_{export.name}(struct array *a, uint32_t number)\n{{\n",
                   f"    (void)a, (void)number;\n    return {export.name}({', '.join(given)});\n}}\n"]
-    # `done` is the answer of a call that is done, or the answer yes.
+    # `done` is the result of a call that is done, or the result yes.
     lines += ["struct export { const char *name; int set; uint32_t (*call)(struct array *, uint32_t), done; int count, "
               "arrays[ARRAYS], written[ARRAYS]; };\n", "static const struct export CALLS[EXPORTS] = {\n"]
     for export in found:
