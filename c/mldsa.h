@@ -35,7 +35,7 @@
  * keys.c, prepared.c and der.c.
  *
  * A set's calls are these, with its number in the name (mldsa44_keygen, mldsa65_keygen, mldsa87_keygen). Behind each stand
- * the results that it has beside 0 and MLDSA_WRONG_LENGTH. MLDSA_SAMPLING_LIMIT stands for inputs that nobody knows.
+ * the results that it has beside 0 and MLDSA_WRONG_LENGTH. No input is known to return MLDSA_SAMPLING_LIMIT.
  *
  *  keygen              writes the key pair of a seed of MLDSA_SEED_LEN bytes. Whoever has the seed has the key.
  *                      [MLDSA_SAMPLING_LIMIT]

@@ -6,21 +6,22 @@ import subprocess
 
 from common import printed
 
-MISSING = "there is no openssl of version 3.5 or later: the variable OPENSSL may name one, as `chroot FOLDER openssl`"
+MISSING = "there is no openssl of version 3.5 or later, and the variable OPENSSL names none"
 # What it is told to write of a private key.
 FORMATS = {"seed": "seed-only", "expanded": "priv-only", "both": "seed-priv"}
 
 
-def version(words):
-    """The version of an OpenSSL, as two numbers."""
-    found = re.match(r"OpenSSL (\d+)\.(\d+)", printed(*words, "version"))
-    return (int(found[1]), int(found[2])) if found else (0, 0)
+def named(words):
+    """The version of an OpenSSL, or an empty text."""
+    found = re.match(r"OpenSSL (\d+\.\d+\S*)", printed(*words, "version"))
+    return found[1] if found else ""
 
 
 def command():
-    """The words that start one with ML-DSA, and None where there is none."""
+    """The words that start one with ML-DSA, as OPENSSL has them (`chroot FOLDER openssl`); None where there is none."""
     words = shlex.split(os.environ.get("OPENSSL", "openssl"))
-    return words if version(words) >= (3, 5) else None
+    numbers = [int(it) for it in re.findall(r"\d+", named(words))]
+    return words if numbers >= [3, 5] else None
 
 
 def wrong(words, parts, form, file, public):

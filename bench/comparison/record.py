@@ -75,7 +75,5 @@ def write(driver):
                 kind = answer[:-1].decode().strip() if len(answer) < 200 else "hex"
                 kinds[kind] = kinds.get(kind, 0) + 1
         print(f"{parameters}: {kinds}")
-        lines = [digests[at : at + 128] for at in range(0, len(digests), 128)]
-        text += f'\n/// Set {parameters}, in hex.\npub const ANSWERS_{parameters}: &str = "\\\n'
-        text += "\\\n".join(lines) + '";\n'
+        text += f'\n/// Set {parameters}, in hex.\npub const ANSWERS_{parameters}: &str =\n    "{digests}";\n'
     FILE.write_text(text, encoding="utf-8")

@@ -3,7 +3,6 @@ use Rattle.std.proofs.Common.{◌≡◌, ℕ, ◌+◌, ◌*◌, ◌/◌, ◌%◌
 use Rattle.std.proofs.lemmas.Bool.{cases_lt, ltb-false, le-ltb, ltb-true, eqb-true}
 use Rattle.std.proofs.lemmas.Bool.Decides.{nat_tests}
 use Rattle.std.proofs.lemmas.List.{take_at, drop_at, take-append-drop, length-append, length-take, append-nil, nil_from_length}
-use Rattle.fips204_der.specs.declared.fault.DerFault.{DerFault}
 use Rattle.fips204_der.specs.declared.fault.DerFault.TheVariants.{Short, Behind, Element}
 use Rattle.fips204_der.specs.Der.{length_bytes, element}
 use Rattle.std.specs.Prelude.{IfOk}
@@ -12,7 +11,7 @@ use Rattle.std.proofs.lemmas.Slice.Eq.{bytes_eq-Decides}
 use Rattle.fips204_der.specs.Reading.{◌>>=◌, Gives, spelled_at, one_byte_at, two_bytes_at, length_at, contents_at, tagged_at, element_at, whole_at}
 
 -- the value of a step that did not fail, and what was made of it
-pub bind_ok : {A B : Type 0} (read : Result A DerFault) (then : A → Result B DerFault) (y : B) → (read >>= then) ≡ Ok y
+pub bind_ok : {A B E : Type 0} (read : Result A E) (then : A → Result B E) (y : B) → (read >>= then) ≡ Ok y
     → (x : A) × (read ≡ Ok x) × (then x ≡ Ok y)
 bind_ok (Ok x) then y e = (x, refl, e)
 bind_ok (Err fault) then y e = absurd cc
@@ -22,18 +21,18 @@ pub chosen : {A : Type 0} (b : Bool) (x y z : A) → cond b x y ≡ z → ((b �
 chosen true x y z e = inl (refl, e)
 chosen false x y z e = inr (refl, e)
 
-abbrev found : {A : Type 0} → A → Result A DerFault
+abbrev found : {A E : Type 0} → A → Result A E
 found x = Ok x
 
-pub ok_is : {A : Type 0} (x y : A) → found x ≡ found y → x ≡ y
+pub ok_is : {A E : Type 0} (x y : A) → found {E = E} x ≡ found y → x ≡ y
 ok_is x y e = cc
 
 -- a test that fails where it is true, or where it is false
-pub passed : {A : Type 0} (b : Bool) (fault : DerFault) (x y : A) → cond b (Err fault) (Ok x) ≡ Ok y → (b ≡ false) × (x ≡ y)
+pub passed : {A E : Type 0} (b : Bool) (fault : E) (x y : A) → cond b (Err fault) (Ok x) ≡ Ok y → (b ≡ false) × (x ≡ y)
 passed true fault x y e = absurd cc
 passed false fault x y e = (refl, cc)
 
-pub met : {A : Type 0} (b : Bool) (fault : DerFault) (x y : A) → cond b (Ok x) (Err fault) ≡ Ok y → (b ≡ true) × (x ≡ y)
+pub met : {A E : Type 0} (b : Bool) (fault : E) (x y : A) → cond b (Ok x) (Err fault) ≡ Ok y → (b ≡ true) × (x ≡ y)
 met true fault x y e = (refl, cc)
 met false fault x y e = absurd cc
 
@@ -41,12 +40,12 @@ pub same_bytes : (a b : List ℕ) → bytes_eq a b ≡ true → a ≡ b
 same_bytes a b e = (bytes_eq-Decides a b).0 e
 
 -- what a function returned, where reading gives as much or gives this
-pub gives_found : {X Y : Type 0} (view : X → Y) (r : Result X DerFault) (read : Result Y DerFault) (P : Y → Type 0)
+pub gives_found : {X Y E : Type 0} (view : X → Y) (r : Result X E) (read : Result Y E) (P : Y → Type 0)
     → Gives view r read → ((y : Y) → read ≡ Ok y → P y) → IfOk r (λ x. P (view x))
 gives_found view (Ok x) read P gives found = found (view x) gives
 gives_found view (Err fault) read P gives found = tt
 
-pub gives_only : {X Y : Type 0} (view : X → Y) (r : Result X DerFault) (read again : Result Y DerFault) → Gives view r read → read ≡ again → Gives view r again
+pub gives_only : {X Y E : Type 0} (view : X → Y) (r : Result X E) (read again : Result Y E) → Gives view r read → read ≡ again → Gives view r again
 gives_only view r read again gives e = subst (Gives view r) e gives
 
 -- ---- lengths
@@ -112,7 +111,7 @@ length_again n rest small =
                 let whole : 256 * (n / 256) + n % 256 ≡ n = omega arith in
                 ap (λ (z : List ℕ). length_at (z ++ rest)) is
                 ∙ spelled_again (256 * (n / 256) + n % 256) (130 ∷ n / 256 ∷ n % 256 ∷ []) rest (ap length_bytes whole ∙ is)
-                ∙ ap (λ (k : ℕ). found (k, rest)) whole
+                ∙ ap (λ (k : ℕ). Ok (k, rest)) whole
           ]
     ]
 

@@ -5,15 +5,15 @@ use Rattle.fips204.specs.Packing.{bit_length}
 use Rattle.fips204.specs.Sets.{named_set}
 use Rattle.fips204.specs.declared.sets.SetName.{SetName}
 use Rattle.fips204.specs.declared.sets.SetName.TheVariants.{MlDsa44, MlDsa65, MlDsa87}
-use Rattle.mlsign_files.specs.Keys.{PrivateParts as FileParts, Seed, Expanded, Both, HasPrivateSizes, public_length, private_length}
+use Rattle.fips204_der.specs.Keys.{PrivateParts as FileParts, Seed, Expanded, Both, HasPrivateSizes, public_length, private_length}
 use Rattle.mlsign_files.specs.Lax.{strict_form}
 use Rattle.mlsign_files.specs.Pem.{pem, IsPem}
-use Rattle.mlsign_files.specs.declared.fault.FileFault.{FileFault}
+use Rattle.mlsign_files.specs.Faults.{of_der}
 use Rattle.mlsign_files.specs.declared.pem.Kind.{Kind}
 use Rattle.mlsign_files.specs.declared.pem.Kind.TheVariants.{Public, Private}
 use Rattle.mlsign_files.specs.declared.pem.LineEnd.TheVariants.{Lf}
-use Rattle.mlsign_files.proofs.Elements.{ok_is}
-use Rattle.mlsign_files.proofs.KeyFiles.{public_of_file, private_of_file}
+use Rattle.fips204_der.proofs.Elements.{ok_is}
+use Rattle.fips204_der.proofs.KeyFiles.{public_of_file, private_of_file}
 use Rattle.mlsign_files.proofs.LaxTexts.{strict_of_text}
 use Rattle.mlsign_files.proofs.PemFiles.{pem_of_text}
 use Rattle.mlsign_engine.specs.Commands.{FailsPrivate, IsSigned, Judges, FilesBelong, MadeFilesBelong}
@@ -32,8 +32,8 @@ raw_public : (set : SetName) (file : List ℕ) → length file ≡ public_length
 raw_public set file size = rw (eq-eqb _ _ size) refl
 
 pub reads_public : (form : Form) (set : SetName) (file : List ℕ) (x : SetName × List ℕ) → HasPublic form set file x.0 x.1 → public_in form set file ≡ Ok x
-reads_public Pem set file x (has, _) = rw (pem_of_text (strict_form Public file) Public has.der has.spelled) (public_of_file has.der x.0 x.1 has.file)
-reads_public Der set file x (has, _) = public_of_file file x.0 x.1 has
+reads_public Pem set file x (has, _) = rw (pem_of_text (strict_form Public file) Public has.der has.spelled) (ap of_der (public_of_file has.der x.0 x.1 has.file))
+reads_public Der set file x (has, _) = ap of_der (public_of_file file x.0 x.1 has)
 reads_public Raw set file x ((size, is), at) =
     raw_public set file (ap length is ∙ size ∙ ap public_length at)
     ∙ ap (λ (y : SetName × List ℕ). Ok y) (ap (λ (algorithm : SetName). (algorithm, file)) (sym at) ∙ ap (λ (bytes : List ℕ). (x.0, bytes)) is)
@@ -57,8 +57,8 @@ raw_private set file (Expanded expanded) size is =
 raw_private set file (Both seed expanded) size is = absurd is
 
 pub reads_private : (form : Form) (set : SetName) (file : List ℕ) (x : SetName × FileParts) → HasPrivate form set file x.0 x.1 → private_in form set file ≡ Ok x
-reads_private Pem set file x (has, _) = rw (pem_of_text (strict_form Private file) Private has.der has.spelled) (private_of_file has.der x.0 x.1 has.file)
-reads_private Der set file x (has, _) = private_of_file file x.0 x.1 has
+reads_private Pem set file x (has, _) = rw (pem_of_text (strict_form Private file) Private has.der has.spelled) (ap of_der (private_of_file has.der x.0 x.1 has.file))
+reads_private Der set file x (has, _) = ap of_der (private_of_file file x.0 x.1 has)
 reads_private Raw set file x ((sizes, is), at) =
     raw_private set file x.1 (subst (λ (algorithm : SetName). HasPrivateSizes (private_length algorithm) x.1) at sizes) is
     ∙ ap (λ (algorithm : SetName). Ok (algorithm, x.1)) (sym at)

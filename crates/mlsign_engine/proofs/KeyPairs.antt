@@ -27,7 +27,7 @@ use Rattle.fips204_bytes.specs.declared.refusal.Array.TheVariants.{Signature}
 use Rattle.fips204_bytes.specs.declared.refusal.Refusal.{Refusal}
 use Rattle.fips204_bytes.specs.declared.refusal.Refusal.TheVariants as refusal
 use Rattle.fips204_shake.specs.Fronts.{shake256_front, shake128_front, length-shake256_front}
-use Rattle.mlsign_files.specs.Keys.{PrivateParts as FileParts, Seed, Expanded, Both, HasPrivateSizes}
+use Rattle.fips204_der.specs.Keys.{PrivateParts as FileParts, Seed, Expanded, Both, HasPrivateSizes}
 use Rattle.mlsign_engine.specs.Commands.{HasNoKeys, IsRefused, FailsToGenerate, IsValid, IsValidUnder, IsSigned, CannotSign, Judges, HasNoMatrix, SignedIsValid}
 use Rattle.mlsign_engine.specs.InnerSteps.{HasPrivateBytes, HasNoKeysOrMemory}
 use Rattle.mlsign_engine.specs.Keys.{PublicValue, HasKeys, HasBytes, IsConsistent}

@@ -20,7 +20,7 @@ use Rattle.mlsign_engine.specs.declared.forms.Form.{Form}
 use Rattle.mlsign_engine.specs.declared.forms.Form.TheVariants.{Pem}
 use Rattle.mlsign_engine.specs.declared.keys.AnyKey.{AnyKey}
 use Rattle.mlsign_engine.specs.declared.keys.AnyKey.TheVariants as key
-use Rattle.mlsign_files.specs.Keys.{PrivateParts as FileParts, Seed, Expanded, Both}
+use Rattle.fips204_der.specs.Keys.{PrivateParts as FileParts, Seed, Expanded, Both}
 use Rattle.mlsign_files.specs.PemReading.{FailsLike}
 use Rattle.mlsign_files.specs.declared.fault.FileFault.{FileFault}
 use Rattle.mlsign_files.specs.declared.fault.FileFault.TheVariants.{OtherKind}

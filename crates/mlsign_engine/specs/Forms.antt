@@ -10,13 +10,15 @@ use Rattle.mlsign_engine.specs.declared.forms.Form.{Form}
 use Rattle.mlsign_engine.specs.declared.forms.Form.TheVariants.{Pem, Der, Raw}
 use Rattle.mlsign_engine.specs.declared.forms.Parts.{Parts}
 use Rattle.mlsign_engine.specs.declared.forms.Parts.TheVariants as part
-use Rattle.mlsign_files.specs.Keys.{IsPublicFile, IsPrivateFile, PrivateParts as FileParts, Seed, Expanded, Both, HasPrivateSizes, public_length, private_length, seed_length}
+use Rattle.fips204_der.specs.Keys.{IsPublicFile, IsPrivateFile, PrivateParts as FileParts, Seed, Expanded, Both, HasPrivateSizes, public_length, private_length, seed_length}
 use Rattle.mlsign_files.specs.Lax.{strict_form}
 use Rattle.mlsign_files.specs.Pem.{IsPem}
 use Rattle.mlsign_files.specs.PemReading.{pem_at}
-use Rattle.mlsign_files.specs.Reading.{◌>>=◌, sized_at, public_at, private_at}
+use Rattle.fips204_der.specs.Reading.{◌>>=◌, sized_at, public_at, private_at}
+use Rattle.fips204_der.specs.declared.fault.DerFault.TheVariants.{KeyLength}
+use Rattle.mlsign_files.specs.Faults.{of_der}
 use Rattle.mlsign_files.specs.declared.fault.FileFault.{FileFault}
-use Rattle.mlsign_files.specs.declared.fault.FileFault.TheVariants.{KeyLength}
+use Rattle.mlsign_files.specs.declared.fault.FileFault.TheVariants as fault
 use Rattle.mlsign_files.specs.declared.pem.Kind.{Kind}
 use Rattle.mlsign_files.specs.declared.pem.Kind.TheVariants.{Public, Private}
 
@@ -71,19 +73,19 @@ HasPrivate form set file algorithm parts = IsPrivateIn form (read_as form Privat
 
 -- reading a file in this form: its key, or its first fault. Of raw bytes the length is all that there is to read.
 abbrev pub public_in : Form → SetName → List ℕ → Result (SetName × List ℕ) FileFault
-public_in Pem set file = pem_at Public (strict_form Public file) >>= public_at
-public_in Der set file = public_at file
-public_in Raw set file = sized_at (public_length set) file >>= (λ bytes. Ok (set, bytes))
+public_in Pem set file = pem_at Public (strict_form Public file) >>= (λ der. of_der (public_at der))
+public_in Der set file = of_der (public_at file)
+public_in Raw set file = of_der (sized_at (public_length set) file) >>= (λ bytes. Ok (set, bytes))
 
 abbrev pub raw_private_at : SetName → List ℕ → Result (SetName × FileParts) FileFault
 raw_private_at set file =
     if length file == seed_length then Ok (set, Seed file)
     else if length file == private_length set then Ok (set, Expanded file)
-    else Err KeyLength
+    else Err (fault.Der KeyLength)
 
 abbrev pub private_in : Form → SetName → List ℕ → Result (SetName × FileParts) FileFault
-private_in Pem set file = pem_at Private (strict_form Private file) >>= private_at
-private_in Der set file = private_at file
+private_in Pem set file = pem_at Private (strict_form Private file) >>= (λ der. of_der (private_at der))
+private_in Der set file = of_der (private_at file)
 private_in Raw set file = raw_private_at set file
 
 -- a private key of both parts has no raw bytes

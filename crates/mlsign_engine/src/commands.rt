@@ -12,8 +12,8 @@ use crate::keys::KeyPair;
 use crate::message::message_mu;
 use crate::prepared::{SigningKey, VerifyingKey};
 use crate::source::Source;
-use fips204::laws;
-use mlsign_files::{PrivateKey, SetName};
+use fips204::{SetName, laws};
+use fips204_der::PrivateKey;
 use std::alloc::Global;
 
 /// The most bytes of a context.

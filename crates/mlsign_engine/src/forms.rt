@@ -2,9 +2,11 @@
 #![tactic(auto)]
 
 ghost use Rattle.std.specs.Prelude.{◌≡◌, length, Some, IfOk, IfErr};
-ghost use Rattle.mlsign_files.specs.Keys.{HasPrivateSizes, IsPublicFile, private_length, private_parts, public_length};
+ghost use Rattle.fips204_der.specs.Keys.{HasPrivateSizes, IsPublicFile, IsPrivateFile, private_length, private_parts, public_length};
+ghost use Rattle.fips204_der.specs.Keys.{private_file_length};
+ghost use Rattle.fips204_der.specs.Reading.{Gives, public_at};
+ghost use Rattle.mlsign_files.specs.Faults.{of_der};
 ghost use Rattle.mlsign_files.specs.PemReading.{GivesOrFails};
-ghost use Rattle.mlsign_files.specs.Reading.{Gives, public_at};
 ghost use Rattle.mlsign_engine.specs.Commands.{FailsPrivate, HasKey, FailsToHaveKey};
 ghost use Rattle.mlsign_engine.specs.Forms.{HasPublic, HasPrivate, IsPublicIn, IsPrivateIn, IsRaw, public_in, raw_private_at};
 ghost use Rattle.mlsign_engine.specs.Forms.{parts_as, CanBe, ConvertsPrivate, FailsToConvert};
@@ -14,11 +16,12 @@ ghost use Rattle.mlsign_engine.specs.declared.forms.Form.TheVariants.{Raw};
 
 use crate::fault::CommandFault;
 use crate::keys::{AnyKey, KeyPair, PublicKey};
-use mlsign_files::pem::{self, Kind};
-use mlsign_files::{
-    FileFault, PrivateKey, SEED_LENGTH, SetName, read_private, read_public, strict_form,
-    write_private, write_public,
+use fips204_der::{
+    DerFault, PrivateKey, SEED_LENGTH, SetName, read_private, read_public, write_private,
+    write_public,
 };
+use mlsign_files::pem::{self, Kind};
+use mlsign_files::{FileFault, strict_form};
 use std::alloc::{AllocError, Global};
 
 /// How a file has a key.
@@ -45,7 +48,7 @@ pub enum Parts {
 
 /// The public key that a file has in this form. A text is read in the lax form of RFC 7468 (`strict_form`). The set is that of raw bytes.
 ///
-/// Errors: the file's first, or `Memory`. Of raw bytes that is `KeyLength`, if they are not as many as a key of the set has.
+/// Errors: the file's first, or `Memory`. Of raw bytes that is `Der(KeyLength)`, if they are not as many as a key of the set has.
 pub fn read_public_key(
     alloc: Global,
     form: Form,
@@ -66,7 +69,7 @@ pub fn read_public_key(
         Form::Der => public_of_der(alloc, file),
         Form::Raw => {
             if file.len() != set.public_key_len() {
-                return Err(FileFault::KeyLength);
+                return Err(FileFault::Der(DerFault::KeyLength));
             }
             Ok(PublicKey::new(set, Vec::from_slice(alloc, file)?))
         }
@@ -76,16 +79,16 @@ pub fn read_public_key(
 /// The public key of a file in DER.
 fn public_of_der(alloc: Global, der: &[u8]) -> Result<PublicKey, FileFault>
     ensures found { IfOk result (λ key. IsPublicFile der.now key.algorithm key.bytes) }
-    ensures exact { GivesOrFails (λ key. (key.algorithm, key.bytes)) result (public_at der.now) }
+    ensures exact { GivesOrFails (λ key. (key.algorithm, key.bytes)) result (of_der (public_at der.now)) }
 {
-    let (algorithm, bytes) = read_public(der)?;
+    let (algorithm, bytes) = read_public(der).map_err(FileFault::Der)?;
     Ok(PublicKey::new(algorithm, Vec::from_slice(alloc, bytes)?))
 }
 
 /// The private key that a file has in this form, which is first checked to be consistent. A text is read in the lax form of RFC 7468
 /// (`strict_form`). The set is that of raw bytes, which a seed does not tell.
 ///
-/// Errors, in this order: `Key` with the file's first fault, of raw bytes `KeyLength` alone; `Inconsistent` if the parts of the key do not
+/// Errors, in this order: `Key` with the file's first fault, of raw bytes `Der(KeyLength)` alone; `Inconsistent` if the parts of the key do not
 /// belong together; and `Library` or `Memory` where they arise.
 pub fn read_private_key(
     alloc: Global,
@@ -101,11 +104,11 @@ pub fn read_private_key(
         Form::Pem => {
             let text = strict_form(alloc, Kind::Private, file)?;
             let der = pem::decode(alloc, Kind::Private, text.as_slice())?;
-            let (set, key) = read_private(der.as_slice())?;
+            let (set, key) = read_private(der.as_slice()).map_err(FileFault::Der)?;
             KeyPair::of_parts(alloc, set, key)
         }
         Form::Der => {
-            let (set, key) = read_private(file)?;
+            let (set, key) = read_private(file).map_err(FileFault::Der)?;
             KeyPair::of_parts(alloc, set, key)
         }
         Form::Raw => KeyPair::of_parts(alloc, set, raw_parts(set, file)?),
@@ -147,7 +150,17 @@ fn raw_parts(set: SetName, bytes: &[u8]) -> Result<PrivateKey<'_>, FileFault>
     if bytes.len() == set.private_key_len() {
         return Ok(PrivateKey::Expanded(bytes));
     }
-    Err(FileFault::KeyLength)
+    Err(FileFault::Der(DerFault::KeyLength))
+}
+
+/// The file in DER of the public key with these bytes.
+fn public_der(alloc: Global, algorithm: SetName, bytes: &[u8]) -> Result<Vec<u8>, AllocError>
+    requires { length bytes.now ≡ public_length algorithm }
+    ensures { IfOk result (λ der. IsPublicFile der.items algorithm bytes.now) }
+{
+    let mut der = vec![in alloc; 0; algorithm.public_key_len() + 22]?;
+    write_public(algorithm, bytes, der.as_mut_slice());
+    Ok(der)
 }
 
 /// The file in this form of the public key with these bytes.
@@ -163,7 +176,7 @@ pub(crate) fn public_file(
     if form == Form::Raw {
         return Vec::from_slice(alloc, bytes);
     }
-    let der = write_public(alloc, algorithm, bytes)?;
+    let der = public_der(alloc, algorithm, bytes)?;
     if form == Form::Der {
         return Ok(der);
     }
@@ -181,6 +194,33 @@ fn raw_of(alloc: Global, key: PrivateKey<'_>) -> Result<Vec<u8>, AllocError>
     }
 }
 
+/// How many bytes the file in DER of a private key has.
+#[tactic(auto, using(fips204_der::proofs::KeyFiles::private_small))]
+fn private_file_len(algorithm: SetName, key: PrivateKey<'_>) -> usize
+    ensures { result ≡ private_file_length (private_length algorithm) (private_parts key.entry) }
+{
+    let size = algorithm.private_key_len();
+    match key {
+        PrivateKey::Seed(_) => 54,
+        PrivateKey::Expanded(_) => size + 28,
+        PrivateKey::Both { .. } => size + 66,
+    }
+}
+
+/// The file in DER of a private key.
+fn private_der(
+    alloc: Global,
+    algorithm: SetName,
+    key: PrivateKey<'_>,
+) -> Result<Vec<u8>, AllocError>
+    requires { HasPrivateSizes (private_length algorithm) (private_parts key) }
+    ensures { IfOk result (λ der. IsPrivateFile der.items algorithm (private_parts key.entry)) }
+{
+    let mut der = vec![in alloc; 0; private_file_len(algorithm, key)]?;
+    write_private(algorithm, key, der.as_mut_slice());
+    Ok(der)
+}
+
 /// The file in this form of a private key, which has one part if they are raw bytes.
 pub(crate) fn private_file(
     alloc: Global,
@@ -195,7 +235,7 @@ pub(crate) fn private_file(
     if form == Form::Raw {
         return raw_of(alloc, key);
     }
-    let der = write_private(alloc, algorithm, key)?;
+    let der = private_der(alloc, algorithm, key)?;
     if form == Form::Der {
         return Ok(der);
     }

@@ -1,6 +1,4 @@
-pub mod Der
-pub mod Keys
+pub mod Faults
 pub mod Pem
-pub mod Reading
 pub mod PemReading
 pub mod Lax

@@ -4,6 +4,7 @@
 ghost use Rattle.std.specs.Prelude.{◌≡◌};
 ghost use Rattle.mlsign_files.specs.declared.fault.FileFault.TheVariants.{Memory};
 
+use fips204_der::DerFault;
 use std::alloc::AllocError;
 use thiserror::Error;
 
@@ -25,24 +26,9 @@ pub enum FileFault {
     /// The lines between are not base64 in lines of 64 characters.
     #[error("its text is damaged")]
     Text,
-    /// An element of DER is longer than what holds it.
-    #[error("its DER is cut short")]
-    Short,
-    /// Something follows the last element of DER.
-    #[error("more follows behind the end of its DER")]
-    Behind,
-    /// Another element of DER is expected, or a length has another form.
-    #[error("its DER is damaged")]
-    Element,
-    /// The version of a private key is not 0.
-    #[error("it has a private key of another version")]
-    Version,
-    /// The algorithm is none of the three.
-    #[error("its key is not one of ML-DSA-44, ML-DSA-65 or ML-DSA-87")]
-    OtherAlgorithm,
-    /// A seed or key has another length than those of its algorithm.
-    #[error("its key has a wrong length")]
-    KeyLength,
+    /// Its DER is no key's.
+    #[error("{}", sentence(*.0))]
+    Der(DerFault),
     /// A memory allocation failed.
     #[error("out of memory")]
     Memory,
@@ -53,5 +39,17 @@ impl From<AllocError> for FileFault {
 
     fn from(_: AllocError) -> FileFault {
         FileFault::Memory
+    }
+}
+
+/// The sentence about a file with this fault in its DER.
+fn sentence(fault: DerFault) -> &'static str {
+    match fault {
+        DerFault::Short => "its DER is cut short",
+        DerFault::Behind => "more follows behind the end of its DER",
+        DerFault::Element => "its DER is damaged",
+        DerFault::Version => "it has a private key of another version",
+        DerFault::OtherAlgorithm => "its key is not one of ML-DSA-44, ML-DSA-65 or ML-DSA-87",
+        DerFault::KeyLength => "its key has a wrong length",
     }
 }

@@ -1,13 +1,9 @@
-//! Keys in files: DER as RFC 9881 has it, in the text of RFC 7468.
+//! The text of a key's file: PEM (RFC 7468), in its strict and its lax form, and what is wrong with a file.
 #![tactic(auto)]
 
-mod der;
 mod fault;
-mod keys;
 mod lax;
 pub mod pem;
 
 pub use fault::FileFault;
-pub use fips204::SetName;
-pub use keys::{PrivateKey, SEED_LENGTH, read_private, read_public, write_private, write_public};
 pub use lax::{from_beginning, kind_of_text, strict_form};

@@ -5,12 +5,13 @@ use crate::recorded::{
     SIGNATURE_65, SIGNATURE_87,
 };
 use base64::engine::general_purpose::STANDARD;
+use fips204_der::{DerFault, PrivateKey, SetName, write_private};
 use fips204_shake::Fault;
 use mlsign_engine::{
     AnyKey, CommandFault, Form, KeyPair, Parts, PublicKey, Reader, SigningKey, VerifyingKey,
     keygen, read_key, read_private_key, read_public_key, sign, verify,
 };
-use mlsign_files::{FileFault, PrivateKey, SetName, write_private};
+use mlsign_files::FileFault;
 use sha2::{Digest, Sha256};
 use std::alloc::Global;
 use std::io::{self, ErrorKind, Read};
@@ -200,24 +201,19 @@ fn fault_of(alloc: Global, der: &[u8]) -> Option<CommandFault> {
 /// A seed beside an expanded key that is not its own, and an expanded key that is not whole.
 #[test]
 #[tactic(auto, unfolding(fips204_base::specs::Packing::bit_length))]
-fn inconsistent_keys(rt: HostRuntime) -> Result<(), Fail> {
+fn inconsistent_keys(rt: HostRuntime) {
     let alloc = rt.alloc();
     let expanded = [0; 2560];
     let both = PrivateKey::Both {
         seed: &[0; 32],
         expanded: &expanded,
     };
-    let der = write_private(alloc, SetName::MlDsa44, both)?;
-    assert_eq!(rt;
-        fault_of(alloc, der.as_slice()),
-        Some(CommandFault::Inconsistent)
-    );
-    let der = write_private(alloc, SetName::MlDsa44, PrivateKey::Expanded(&expanded))?;
-    assert_eq!(rt;
-        fault_of(alloc, der.as_slice()),
-        Some(CommandFault::Inconsistent)
-    );
-    Ok(())
+    let mut der = [0; 2626];
+    write_private(SetName::MlDsa44, both, &mut der);
+    assert_eq!(rt; fault_of(alloc, &der), Some(CommandFault::Inconsistent));
+    let mut der = [0; 2588];
+    write_private(SetName::MlDsa44, PrivateKey::Expanded(&expanded), &mut der);
+    assert_eq!(rt; fault_of(alloc, &der), Some(CommandFault::Inconsistent));
 }
 
 /// The public key of each recorded seed is that of OpenSSL.
@@ -370,11 +366,12 @@ fn raw_bytes_of_no_key(rt: HostRuntime) {
     for size in [0, 1311, 1313, 1952] {
         let bytes = bytes.get(..size).unwrap_or(&[]);
         let key = read_public_key(alloc, Form::Raw, SetName::MlDsa44, bytes);
-        assert!(rt; key.err() == Some(FileFault::KeyLength));
+        assert!(rt; key.err() == Some(FileFault::Der(DerFault::KeyLength)));
     }
     for size in [31, 33, 1312, 2559, 2561] {
         let bytes = bytes.get(..size).unwrap_or(&[]);
         let key = read_private_key(alloc, Form::Raw, SetName::MlDsa44, bytes);
-        assert!(rt; key.err() == Some(CommandFault::Key(FileFault::KeyLength)));
+        let wanted = CommandFault::Key(FileFault::Der(DerFault::KeyLength));
+        assert!(rt; key.err() == Some(wanted));
     }
 }
