@@ -10,6 +10,8 @@ import sys
 
 TOP = pathlib.Path(__file__).resolve().parent.parent
 SETS = ("44", "65", "87")
+# Bytes of a public key, a private key and a signature (FIPS 204, Table 2).
+LENGTHS = {"44": (1312, 2560, 2420), "65": (1952, 4032, 3309), "87": (2592, 4896, 4627)}
 # The kind of processor that this machine has.
 NATIVE = "aarch64" if platform.machine() in ("aarch64", "arm64") else "x86-64"
 # What C2SP publishes (CCTV, "accumulated"): the SHAKE128 of 100 public keys and signatures of each set. The seeds are
@@ -47,6 +49,12 @@ def printed(*words):
 def missing(*tools, path=None):
     """Those of the tools that are not there."""
     return [tool for tool in tools if not shutil.which(tool, path=path)]
+
+
+def need(names, what=""):
+    """Ends where something is missing."""
+    if names:
+        sys.exit(f"missing{what}: {', '.join(names)}")
 
 
 def emulator(processor):

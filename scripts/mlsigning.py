@@ -1,6 +1,7 @@
 """Runs of the program `mlsign` in a folder of files, as tests make them."""
 import contextlib
 import os
+import pathlib
 import re
 import stat
 import subprocess
@@ -42,21 +43,19 @@ class Room(unittest.TestCase):
         self.room = room.name
 
     def path(self, name):
-        return os.path.join(self.room, name)
+        return pathlib.Path(self.room, name)
 
     def put(self, name, bytes_, mode=0o644):
-        with open(self.path(name), "wb") as file:
-            file.write(bytes_)
-        os.chmod(self.path(name), mode)
+        self.path(name).write_bytes(bytes_)
+        self.path(name).chmod(mode)
 
     def read(self, name):
-        with open(self.path(name), "rb") as file:
-            return file.read()
+        return self.path(name).read_bytes()
 
     def files(self):
         """The bytes and rights of each regular file, by its name."""
-        names = [name for name in os.listdir(self.room) if os.path.isfile(self.path(name))]
-        return {name: (self.read(name), stat.S_IMODE(os.stat(self.path(name)).st_mode)) for name in names}
+        files = [file for file in pathlib.Path(self.room).iterdir() if file.is_file()]
+        return {file.name: (file.read_bytes(), stat.S_IMODE(file.stat().st_mode)) for file in files}
 
     def same_files(self, what, found, wanted):
         """Two folders are the same, or it says which files differ."""

@@ -1,8 +1,8 @@
 """The definitions of specs/, as text: each with its comment, its lines, and the names that its file imports."""
-import pathlib
 import re
 
-ROOT = pathlib.Path(__file__).resolve().parent.parent
+from common import TOP
+
 NAME = r"[^\s(){}\[\],;:.λ→]+"
 HEAD = re.compile(rf"(?:(abbrev|unfoldable) )?(?:pub )?(?:(record|data) )?({NAME})")
 IMPORT = re.compile(r"(?:ghost )?use (\S+?)\.\{([^}]*)\};?$")
@@ -60,7 +60,7 @@ def imported(lines):
 
 def files(crates=("fips204_base", "fips204"), part="specs/*"):
     """The files of definitions of these crates, without `Lib`."""
-    paths = [path for crate in crates for path in sorted((ROOT / "crates" / crate).glob(f"{part}.antt"))]
+    paths = [path for crate in crates for path in sorted((TOP / "crates" / crate).glob(f"{part}.antt"))]
     return [File(path) for path in paths if path.stem != "Lib"]
 
 

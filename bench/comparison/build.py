@@ -8,7 +8,7 @@ import subprocess
 import sys
 import tempfile
 
-from common import TOP, command, missing as missing_tools
+from common import TOP, command, missing as missing_tools, need
 
 OURS = f"{TOP}/crates/mldsa/out/mldsa"
 REGISTRY = "/usr/share/cargo/registry"
@@ -82,9 +82,7 @@ def lay_out(folder, room):
 
 def built(folder, room, program):
     """Builds both programs, and gives their paths. Ours is `program`, if that is given."""
-    names = missing()
-    if names:
-        sys.exit(f"missing: {', '.join(names)}")
+    need(missing())
     lay_out(folder, room)
     command("cargo", "build", "--release", "--offline", cwd=f"{room}/rust")
     if program is None:

@@ -2,11 +2,9 @@
 import ctypes
 import os
 
-from common import TOP, command, missing as missing_tools
+from common import LENGTHS, TOP, command, missing as missing_tools
 
 CRATE = f"{TOP}/crates/mldsa_c"
-# Bytes of a public key, a private key and a signature (FIPS 204, Table 2).
-LENGTHS = {"44": (1312, 2560, 2420), "65": (1952, 4032, 3309), "87": (2592, 4896, 4627)}
 DONE, NO = 0, 1
 
 

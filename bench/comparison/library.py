@@ -11,7 +11,7 @@ import textwrap
 import time
 
 import measured
-from common import SETS, TOP, archives, missing as missing_tools
+from common import SETS, TOP, archives, missing as missing_tools, need
 
 from comparison.build import lay_out_sources, missing_crates, source
 from comparison.costs import machine
@@ -111,9 +111,7 @@ def results(done):
 
 def tests(folder, room, long):
     """Runs the original's tests over our crate. Gives how many failed."""
-    names = missing()
-    if names:
-        sys.exit(f"missing: {', '.join(names)}")
+    need(missing())
     place = lay_out(folder, room)
     files, modules = original_tests(folder)
     page, count = examples(folder)
@@ -127,16 +125,14 @@ def tests(folder, room, long):
         file.write("pub mod examples {}\n")
     total = [0, 0, 0]
     print("| tests | passed | failed | ignored |\n|---|---|---|---|", flush=True)
-    rows = [(name, ["--test", name.removesuffix(".rs")])
-            for name in sorted(files)] + [(f"{count} examples, and that of our page",
-                                           ["--doc", "--", "examples", "README.md"])]
+    rows = [*((name, ["--test", name.removesuffix(".rs")]) for name in sorted(files)),
+            (f"{count} examples, and that of our page", ["--doc", "--", "examples", "README.md"])]
     if long:
         rows.append(("accumulated.rs, 10,000 pairs and signatures a set", ["--release", "--test", "accumulated"]))
     for name, words in rows:
         done = cargo(place, "x86-64-v2", "test", "--offline", "-p", "fips204", *words)
         row = results(done)
-        if done.returncode and not row[1]:
-            row[1] = 1
+        row[1] = row[1] or int(done.returncode != 0)
         print(f"| {name} | {' | '.join(map(str, row))} |", flush=True)
         if done.returncode:
             print(done.stdout[-6000:] + done.stderr[-6000:])
@@ -216,9 +212,7 @@ def instructions(program, number, call, which, room):
 def costs(folder, room, runs, cpu, write):
     """Prints the table of what the three calls cost at each set: the original, our crate, and OpenSSL."""
     counted = cpu == "x86-64-v2"
-    names = missing() + (missing_tools("valgrind") if counted else [])
-    if names:
-        sys.exit(f"missing: {', '.join(names)}")
+    need(missing() + (missing_tools("valgrind") if counted else []))
     place = lay_out(folder, room)
     done = cargo(place, cpu, "build", "--offline", "--release", "-p", "costs")
     if done.returncode:
@@ -226,11 +220,8 @@ def costs(folder, room, runs, cpu, write):
     program = f"{place}/target/release/costs"
     version = openssl()[0]
     other = f"{version} through Python, with random bytes of its own" if version else "no OpenSSL, or one before 3.5"
-    lines = [
-        "`bench/against-rust FOLDER --calls`: `rust/fips204` beside the original fips204 0.5.0 over `sha3`, the least "
-        f"of three medians of {runs} calls in turns; {other}. {' '.join(machine(cpu))}"
-    ]
-    lines.append("")
+    lines = ["`bench/against-rust FOLDER --calls`: `rust/fips204` beside the original fips204 0.5.0 over `sha3`, the "
+             f"least of three medians of {runs} calls in turns; {other}. {' '.join(machine(cpu))}", ""]
     head = ["set", "call", "microseconds: original", "ours", "ours / original", "OpenSSL"]
     head += ["millions of instructions: original", "ours", "ours / original"] if counted else []
     lines += [f"| {' | '.join(head)} |", "|---" * len(head) + "|"]

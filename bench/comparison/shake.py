@@ -1,9 +1,8 @@
 """Compares what the Rust crate answers over the crate sha3 with what our library over SHAKE answers."""
 import random
 import shutil
-import sys
 
-from common import TOP, command
+from common import TOP, command, need
 
 from comparison import build, calls
 
@@ -23,9 +22,7 @@ def driver(folder, room):
 
 def table(folder, room, library, sets, count, seed):
     """Prints for each set in how many cases both answer the same. Gives how many differ."""
-    names = missing(library)
-    if names:
-        sys.exit(f"missing: {', '.join(names)}")
+    need(missing(library))
     program, loaded = driver(folder, room), calls.loaded(library, room)
 
     def rust(command, number, *fields):
@@ -46,8 +43,8 @@ def table(folder, room, library, sets, count, seed):
             equal[1] += rust("sign", number, private, drawn, context, message) == (0, [signature])
             for place, given in ((2, signature), (3, spoiled)):
                 good = ours.accepts(public, message, context, given)
-                equal[place] += good == (place == 2) and rust("verify", number, public, given, context,
-                                                              message)[0] == (0 if good else 1)
+                verdict = rust("verify", number, public, given, context, message)[0]
+                equal[place] += good == (place == 2) and verdict == (0 if good else 1)
         print(f"| {number} | {count} | {' | '.join(map(str, equal))} |", flush=True)
         different += sum(count - number for number in equal)
     return different

@@ -11,13 +11,13 @@ TOP = pathlib.Path(__file__).resolve().parent.parent.parent
 sys.dont_write_bytecode = True
 sys.path[:0] = [str(TOP / "scripts"), str(TOP / "vectors")]
 
+import common
 import mldsa
 
 NUMBERS = (44, 65, 87)
 PRIVATE = {number: getattr(mldsa, f"MLDSA{number}PrivateKey") for number in NUMBERS}
 PUBLIC = {number: getattr(mldsa, f"MLDSA{number}PublicKey") for number in NUMBERS}
-# Bytes of a public key, a private key and a signature (FIPS 204, Table 2).
-LENGTHS = {44: (1312, 2560, 2420), 65: (1952, 4032, 3309), 87: (2592, 4896, 4627)}
+LENGTHS = {number: common.LENGTHS[str(number)] for number in NUMBERS}
 SEED = bytes(range(32))
 # How hashlib calls the hash functions of FIPS 204, section 5.4, whose object identifiers are 2.16.840.1.101.3.4.2.1 to
 # .12.

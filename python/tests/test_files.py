@@ -57,8 +57,6 @@ def changed(draw, file):
 
 
 class Written(unittest.TestCase):
-    """Files that are written and read again."""
-
     def test_openssl(self):
         for number, key in KEYS.items():
             private, public = keyfiles.recorded(f"private-{number}.pem"), keyfiles.recorded(f"public-{number}.pem")
@@ -95,8 +93,6 @@ class Written(unittest.TestCase):
 
 
 class Refused(unittest.TestCase):
-    """Files that are no key."""
-
     def refuses(self, load, file, sentence):
         with self.assertRaises(KeyFileError) as caught:
             load(file)

@@ -147,8 +147,6 @@ class Digests(unittest.TestCase):
 
 
 class Arguments(unittest.TestCase):
-    """Types and lengths."""
-
     def test_buffers(self):
         message, wide = b"message" * 8, array.array("Q", bytes(range(64)))
         mapped = mmap.mmap(-1, len(message))
@@ -204,8 +202,6 @@ class Arguments(unittest.TestCase):
 
 
 class Keys(unittest.TestCase):
-    """Keys as values."""
-
     def test_raw_bytes(self):
         for number, key in KEYS.items():
             self.assertEqual(key.private_bytes_raw(), SEED)
@@ -272,8 +268,6 @@ class Keys(unittest.TestCase):
 
 
 class Pieces(unittest.TestCase):
-    """Files, and messages in pieces."""
-
     def test_mu(self):
         message = bytes(range(256)) * 3
         for number, key in KEYS.items():
@@ -324,8 +318,6 @@ class Pieces(unittest.TestCase):
 
 
 class Threads(unittest.TestCase):
-    """Calls beside each other."""
-
     def test_the_lock_is_released(self):
         """While a thread hashes for long, this one goes on."""
         times, hasher, message = [], KEY.hasher(), bytes(64 << 20)

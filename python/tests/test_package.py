@@ -17,8 +17,6 @@ HEADER = (shared.TOP / "c/mldsa.h").read_text(encoding="utf-8")
 
 
 class Package(unittest.TestCase):
-    """What it says of itself and of the library."""
-
     def test_version(self):
         wanted = re.search(r'^#define MLDSA_VERSION_TEXT "(.*)"$', HEADER, re.M)[1]
         self.assertEqual([mldsa.__version__, importlib.metadata.version("mldsa")], [wanted, wanted])

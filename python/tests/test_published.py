@@ -85,8 +85,6 @@ def answers(asked):
 
 
 class Published(unittest.TestCase):
-    """Each published case."""
-
     @unittest.skipIf(sys.version_info < (3, 10), "vectors/published.py wants Python 3.10 or later")
     def test_vectors(self):
         chosen, said = published.cases("DER", "PEM"), io.StringIO()

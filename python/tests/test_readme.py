@@ -37,8 +37,6 @@ narrow.verify(bytearray(), memoryview(b""))
 
 
 class Page(unittest.TestCase):
-    """python/README.md."""
-
     def test_blocks(self):
         self.assertGreaterEqual(len(BLOCKS), 2)
         for number, block in enumerate(BLOCKS):
@@ -69,8 +67,6 @@ class Page(unittest.TestCase):
 
 
 class Docstrings(unittest.TestCase):
-    """The examples of docstrings."""
-
     def test_examples(self):
         key = mldsa.MLDSA65PrivateKey.generate()
         names = {"hashlib": hashlib, "key": key, "public": key.public_key()}

@@ -85,8 +85,6 @@ def printed(code, *words, limit=None):
 
 
 class Stacks(unittest.TestCase):
-    """What a call finds of stack."""
-
     def test_small_threads(self):
         for size in (65536, 131072, 163840, 262144, 393216, 1 << 20):
             with self.subTest(size=size):

@@ -134,73 +134,54 @@ where
     Ok(private.into_bytes())
 }
 
-/// Whether the signature of a stored key is accepted for its message, and for another; and whether a generator signs as
-/// the call with the bytes that it returns, and as that with zeros.
-fn read_back() -> Result<[Result<bool, Fault>; 4], Fault> {
-    let (public, private) = stored(&[7; 32])?;
-    let signature = signed(private, &[9; 32], b"a message")?;
-    let drawn = signed_at_random(private, &mut DummyRng { bytes: [9; 32] }, b"a message");
-    let of_zeros = signed(private, &[0; 32], b"a message");
-    Ok([
-        verified(public, b"a message", &signature),
-        verified(public, b"another", &signature),
-        Ok(drawn == Ok(signature)),
-        Ok(drawn == of_zeros),
-    ])
-}
-
-/// Whether the signature of a message is accepted under the context of this page, and under the empty one.
-fn under_contexts() -> Result<[bool; 2], Fault> {
-    let (public, private) = Keys::keygen_from_seed(&[7; 32])?;
-    let signature = signed(private.into_bytes(), &[0; 32], b"a message")?;
-    Ok([
-        public.verify(b"a message", &signature, b"a page of documentation"),
-        public.verify(b"a message", &signature, b""),
-    ])
-}
-
-/// Whether the signature of a file is accepted for it, for another, and for an empty one.
-fn of_files() -> Result<[bool; 3], Fault> {
-    let (public, private) = Keys::keygen_from_seed(&[7; 32])?;
-    let signature = signed_file(&private, &[0; 32], b"a file")?;
-    Ok([
-        verified_file(&public, b"a file", &signature),
-        verified_file(&public, b"another", &signature),
-        verified_file(&public, b"", &signature),
-    ])
-}
-
-/// What `three` answers of three messages, one of them empty, under the public key of this seed.
-fn of_messages(seed: &[u8; 32]) -> Result<[bool; 3], Fault> {
-    let (public, _) = Keys::keygen_from_seed(seed)?;
-    let (_, private) = Keys::keygen_from_seed(&[7; 32])?;
-    let seeds = [[1; 32], [2; 32], [3; 32]];
-    three(&public, &private, &seeds, &[b"one", b"two", b""])
-}
-
 /// A signature under a key read back from its bytes is accepted, and rejected for another message; a generator signs as
 /// its bytes do, and as no others.
 #[test]
-fn a_stored_pair(rt: HostRuntime) {
-    assert!(rt; read_back() == Ok([Ok(true), Ok(false), Ok(true), Ok(false)]));
+fn a_stored_pair(rt: HostRuntime) -> Result<(), Fail> {
+    let (public, private) = stored(&[7; 32])?;
+    let signature = signed(private, &[9; 32], b"a message")?;
+    let drawn = signed_at_random(private, &mut DummyRng { bytes: [9; 32] }, b"a message")?;
+    assert!(rt; verified(public, b"a message", &signature)?);
+    assert!(rt; !verified(public, b"another", &signature)?);
+    assert!(rt; drawn == signature && drawn != signed(private, &[0; 32], b"a message")?);
+    Ok(())
 }
 
 /// What is signed here is signed under the context of the page.
 #[test]
-fn a_context(rt: HostRuntime) {
-    assert!(rt; under_contexts() == Ok([true, false]));
+fn a_context(rt: HostRuntime) -> Result<(), Fail> {
+    let (public, private) = Keys::keygen_from_seed(&[7; 32])?;
+    let signature = signed(private.into_bytes(), &[0; 32], b"a message")?;
+    assert!(rt; public.verify(b"a message", &signature, b"a page of documentation"));
+    assert!(rt; !public.verify(b"a message", &signature, b""));
+    Ok(())
 }
 
 /// The signature of a file's digest is accepted, and rejected for another file and for an empty one.
 #[test]
-fn a_signed_file(rt: HostRuntime) {
-    assert!(rt; of_files() == Ok([true, false, false]));
+fn a_signed_file(rt: HostRuntime) -> Result<(), Fail> {
+    let (public, private) = Keys::keygen_from_seed(&[7; 32])?;
+    let signature = signed_file(&private, &[0; 32], b"a file")?;
+    assert!(rt; verified_file(&public, b"a file", &signature));
+    assert!(rt; !verified_file(&public, b"another", &signature));
+    assert!(rt; !verified_file(&public, b"", &signature));
+    Ok(())
 }
 
 /// Three messages under prepared keys, one of them empty, are accepted, and rejected under another public key.
 #[test]
-fn three_messages(rt: HostRuntime) {
-    assert!(rt; [of_messages(&[7; 32]), of_messages(&[8; 32])] == [Ok([true; 3]), Ok([false; 3])]);
+fn three_messages(rt: HostRuntime) -> Result<(), Fail> {
+    let ((public, private), (other, _)) = (
+        Keys::keygen_from_seed(&[7; 32])?,
+        Keys::keygen_from_seed(&[8; 32])?,
+    );
+    let (seeds, messages) = (
+        &[[1; 32], [2; 32], [3; 32]],
+        &[b"one".as_slice(), b"two", b""],
+    );
+    assert!(rt; three(&public, &private, seeds, messages)? == [true; 3]);
+    assert!(rt; three(&other, &private, seeds, messages)? == [false; 3]);
+    Ok(())
 }
 
 /// A key whose t0 has other bits in its first polynomial is not whole, and this signature of it is not accepted.

@@ -7,7 +7,7 @@ use Rattle.fips204.specs.declared.sets.SetName.{SetName}
 use Rattle.fips204.specs.declared.sets.SetName.TheVariants.{MlDsa44, MlDsa65, MlDsa87}
 use Rattle.fips204_der.specs.Keys.{PrivateParts as FileParts, Seed, Expanded, Both, HasPrivateSizes, public_length, private_length}
 use Rattle.mlsign_files.specs.Lax.{strict_form}
-use Rattle.mlsign_files.specs.Pem.{pem, IsPem}
+use Rattle.mlsign_files.specs.Pem.{IsPem}
 use Rattle.mlsign_files.specs.Faults.{of_der}
 use Rattle.mlsign_files.specs.declared.pem.Kind.{Kind}
 use Rattle.mlsign_files.specs.declared.pem.Kind.TheVariants.{Public, Private}

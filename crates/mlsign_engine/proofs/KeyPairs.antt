@@ -9,7 +9,7 @@ use Rattle.fips204.specs.fault.Fault.{Fault}
 use Rattle.fips204.specs.fault.Fault.TheVariants.{SamplingLimit}
 use Rattle.fips204.specs.Framing.{plain, represented, representative}
 use Rattle.fips204.specs.Keys.{DecodesPrivate}
-use Rattle.fips204.specs.Encodings.{PublicParts, PrivateParts, ArePrivateParts, IsPublicKeyOf, IsPrivateKeyOf, public_key_bytes, private_key_bytes, vector_bytes}
+use Rattle.fips204.specs.Encodings.{PublicParts, PrivateParts, ArePrivateParts, IsPublicKeyOf, IsPrivateKeyOf, private_key_bytes, vector_bytes}
 use Rattle.fips204.specs.Acceptance.{Verifies}
 use Rattle.fips204.specs.Completeness.{SignedIsAccepted, AcceptsSigned, IsPair, TellsPair, BytesTellKeys}
 use Rattle.fips204.specs.ParameterSets.{ParameterSet, public_key_length, private_key_length, signature_length, IsSet}
@@ -28,9 +28,9 @@ use Rattle.fips204_bytes.specs.declared.refusal.Refusal.{Refusal}
 use Rattle.fips204_bytes.specs.declared.refusal.Refusal.TheVariants as refusal
 use Rattle.fips204_shake.specs.Fronts.{shake256_front, shake128_front, length-shake256_front}
 use Rattle.fips204_der.specs.Keys.{PrivateParts as FileParts, Seed, Expanded, Both, HasPrivateSizes}
-use Rattle.mlsign_engine.specs.Commands.{HasNoKeys, IsRefused, FailsToGenerate, IsValid, IsValidUnder, IsSigned, CannotSign, Judges, HasNoMatrix, SignedIsValid}
+use Rattle.mlsign_engine.specs.Commands.{HasNoKeys, IsRefused, FailsToGenerate, IsValid, IsValidUnder, IsSigned, CannotSign, SignedIsValid}
 use Rattle.mlsign_engine.specs.InnerSteps.{HasPrivateBytes, HasNoKeysOrMemory}
-use Rattle.mlsign_engine.specs.Keys.{PublicValue, HasKeys, HasBytes, IsConsistent}
+use Rattle.mlsign_engine.specs.Keys.{HasKeys, HasBytes}
 use Rattle.mlsign_engine.specs.declared.fault.CommandFault.TheVariants.{Key, Inconsistent, Library, Context, Memory, Message, NoSeed, TwoParts}
 use Rattle.mlsign_engine.specs.declared.fault.CommandFault.{CommandFault}
 

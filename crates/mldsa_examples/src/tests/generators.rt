@@ -60,27 +60,19 @@ fn signs<R: CryptoRngCore>(rng: &mut R) -> Result<[bool; 2], Fault> {
     ])
 }
 
-/// A generator over a source of the kit signs as the call with the bytes that the source returned.
+/// A generator over a source of the kit signs as the call with the bytes that the source returned, and one over a generator
+/// of the kit as the call with the bytes that this gave.
 #[test]
 fn a_source_that_gives(rt: HostRuntime) {
-    let source = Constant { byte: Some(3) };
+    let (source, generator) = (Constant { byte: Some(3) }, Constant { byte: Some(3) });
     assert!(rt; signs(&mut FromSource { source }) == Ok([true; 2]));
+    assert!(rt; signs(&mut FromGenerator { generator }) == Ok([true; 2]));
 }
 
-/// A source that reports an error: `SignRng`.
+/// A source and a generator that report an error: `SignRng`.
 #[test]
 fn a_source_that_refuses(rt: HostRuntime) {
-    let source = Constant { byte: None };
+    let (source, generator) = (Constant { byte: None }, Constant { byte: None });
     assert!(rt; signs(&mut FromSource { source }) == Err(Fault::SignRng));
-}
-
-/// A generator of the kit signs as the call with the bytes that it gave, and where it reports an error: `SignRng`.
-#[test]
-fn a_generator_of_the_kit(rt: HostRuntime) {
-    let mut rng = FromGenerator {
-        generator: Constant { byte: Some(3) },
-    };
-    let given = signs(&mut rng);
-    rng.generator.byte = None;
-    assert!(rt; [given, signs(&mut rng)] == [Ok([true; 2]), Err(Fault::SignRng)]);
+    assert!(rt; signs(&mut FromGenerator { generator }) == Err(Fault::SignRng));
 }

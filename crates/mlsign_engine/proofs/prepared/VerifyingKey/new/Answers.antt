@@ -1,4 +1,4 @@
-use Rattle.std.proofs.Common.{◌≡◌, Ok, Err, length, ◌∙◌, ap, rules}
+use Rattle.std.proofs.Common.{◌≡◌, Err, length, ◌∙◌, ap, rules}
 use Rattle.std.proofs.lemmas.List.{take_at}
 use Rattle.fips204.specs.PreparedBytes.{prepared_public_length}
 use Rattle.fips204.specs.Sets.{named_set}
