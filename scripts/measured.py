@@ -52,10 +52,12 @@ def stamp():
     return f"{datetime.date.today()}, commit {commit}, code {code()}"
 
 
-def processor():
-    """The kind of this machine's processor."""
+def processors():
+    """How many processors this machine has, of which kind, and how many of them this run may use."""
     found = re.search(r"^model name\s*: (.*)$", pathlib.Path("/proc/cpuinfo").read_text(encoding="utf-8"), re.M)
-    return found[1] if found else os.uname().machine
+    own, there = len(os.sched_getaffinity(0)), os.cpu_count()
+    count = f"{there}" if own == there else f"{own} of {there}"
+    return f"{count} processors, {found[1] if found else os.uname().machine}"
 
 
 def read(path):

@@ -25,7 +25,7 @@ def machine(cpu="x86-64-v2"):
     return [
         f"{stamp}, {printed('rt', 'version')};",
         f"{printed('rustc', '-V')} (release, {cpu}), {', '.join(crates)}; {printed('valgrind', '--version')};",
-        f"{os.cpu_count()} processors, {measured.processor()}, {'with' if has_sha else 'without'} SHA instructions; "
+        f"{measured.processors()}, {'with' if has_sha else 'without'} SHA instructions; "
         f"load {measured.load()} at the start.",
     ]
 

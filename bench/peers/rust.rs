@@ -4,7 +4,8 @@ use std::time::Instant;
 
 #[cfg(feature = "rustcrypto")]
 mod peer {
-    use ml_dsa::{B32, EncodedSignature, EncodedVerifyingKey, MlDsaParams, Signature, SigningKey, VerifyingKey};
+    use ml_dsa::{B32, EncodedSignature, EncodedVerifyingKey, Keypair, MlDsaParams, Signature, Signer, SigningKey};
+    use ml_dsa::{Verifier, VerifyingKey};
 
     pub struct Key<P: MlDsaParams>(SigningKey<P>);
 
