@@ -1,22 +1,23 @@
-//! Callers of the laws, and of clauses of `mlsign_files` which say that a key of a file is read: no code calls them.
+//! Callers of the laws, and of clauses of `mlsign_files` and `fips204_der` which say that a key of a file is read: no code calls them.
 #![tactic(auto)]
 
 ghost use Rattle.std.specs.Prelude.{◌≡◌, ℕ, List, Bool, IfOk, IsTrue, Ok};
 ghost use Rattle.fips204.specs.Sets.{named_set};
 ghost use Rattle.fips204.specs.declared.sets.SetName.{SetName as Name};
+ghost use Rattle.fips204_der.specs.Keys.{IsPrivateFile, IsPublicFile, PrivateParts, private_parts};
+ghost use Rattle.fips204_der.specs.Reading.{Gives};
 ghost use Rattle.mlsign_engine.specs.Commands.{IsSigned, Judges, MakesTexts};
 ghost use Rattle.mlsign_engine.specs.Forms.{HasPrivate, HasPublic, IsPublicIn, public_in, private_in};
 ghost use Rattle.mlsign_engine.specs.Keys.{IsConsistent, PairValue, PublicValue, public_of_pair};
 ghost use Rattle.mlsign_engine.specs.declared.forms.Form.{Form};
-ghost use Rattle.mlsign_files.specs.Keys.{IsPrivateFile, IsPublicFile, PrivateParts, private_parts};
 ghost use Rattle.mlsign_files.specs.Pem.{IsPem, pem};
 ghost use Rattle.mlsign_files.specs.PemReading.{GivesOrFails};
-ghost use Rattle.mlsign_files.specs.Reading.{Gives};
 ghost use Rattle.mlsign_files.specs.declared.pem.LineEnd.TheVariants.{Lf};
 
 use crate::laws::{keys_are_read, signed_is_valid};
+use fips204_der::{DerFault, PrivateKey, SetName, read_private, read_public};
 use mlsign_files::pem::{self, Kind};
-use mlsign_files::{FileFault, PrivateKey, SetName, read_private, read_public, strict_form};
+use mlsign_files::{FileFault, strict_form};
 use std::alloc::{AllocError, Global};
 
 /// Which keys accept what is signed with the private key of a file, and which keys files have.
@@ -44,7 +45,7 @@ pub(crate) fn valid_parts()
 }
 
 /// The public key that DER has is read.
-pub(crate) fn public_key_of(der: &[u8]) -> Result<(SetName, &[u8]), FileFault>
+pub(crate) fn public_key_of(der: &[u8]) -> Result<(SetName, &[u8]), DerFault>
     ensures { (set : Name) (bytes : List ℕ) → IsPublicFile der.now set bytes
         → Gives {Y = Name × List ℕ} (λ x. (x.0, x.1.now)) result (Ok (set, bytes)) }
 {
@@ -52,7 +53,7 @@ pub(crate) fn public_key_of(der: &[u8]) -> Result<(SetName, &[u8]), FileFault>
 }
 
 /// The private key that DER has is read.
-pub(crate) fn private_key_of(der: &[u8]) -> Result<(SetName, PrivateKey<'_>), FileFault>
+pub(crate) fn private_key_of(der: &[u8]) -> Result<(SetName, PrivateKey<'_>), DerFault>
     ensures { (set : Name) (parts : PrivateParts) → IsPrivateFile der.now set parts
         → Gives {Y = Name × PrivateParts} (λ x. (x.0, private_parts x.1)) result (Ok (set, parts)) }
 {

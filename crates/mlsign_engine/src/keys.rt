@@ -125,7 +125,7 @@ impl KeyPair {
                 let (public, private) = generated(alloc, set, seed)?;
                 Ok(KeyPair {
                     algorithm: set,
-                    held: Held::Seed(array_of(seed)),
+                    held: Held::Seed(*array_of(seed)),
                     public,
                     private,
                 })
@@ -143,7 +143,7 @@ impl KeyPair {
                 }
                 Ok(KeyPair {
                     algorithm: set,
-                    held: Held::Both(array_of(seed)),
+                    held: Held::Both(*array_of(seed)),
                     public,
                     private,
                 })
