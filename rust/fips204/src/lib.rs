@@ -31,6 +31,7 @@ pub use error::Error;
 pub use pieces::MessageHasher;
 pub use rand_core::{CryptoRng, Error as RngError, RngCore};
 pub use rng::FillRng;
+pub use set::{PrivateKey, PublicKey};
 
 /// How many bytes of stack the calls of a [`MessageHasher`] take at most, and those that begin one.
 pub const STACK_MU: usize = 3_328;
