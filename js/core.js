@@ -1,7 +1,7 @@
 // ML-DSA (FIPS 204) at the parameter sets 44, 65 and 87, over a WebAssembly module whose code is proved (docs/SPEC.md).
 // This file is ordinary JavaScript over it: it copies arrays into the module's memory and back, and is tested, not
 // proved. It says nothing of where the module is: that do mldsa.js and inline.js.
-import { isNode, ofNode, webCrypto } from "./engine.js";
+import { atMost, isBytes, isNode, ofNode, webCrypto } from "./engine.js";
 
 /** The lengths of a set's arrays in bytes. */
 const LENGTHS = {
@@ -49,14 +49,25 @@ const TEXTS = {
     26: "it has no seed: its seed cannot be had of its expanded key",
 };
 
-/** The array to which a status belongs, and the longest that it may be where that is one number. */
+/** NIST's hash functions: the last byte of the object identifier of each, and the length of its digests. */
+const FUNCTIONS = [
+    ["SHA-224", 4, 28], ["SHA-256", 1, 32], ["SHA-384", 2, 48], ["SHA-512", 3, 64],
+    ["SHA-512/224", 5, 28], ["SHA-512/256", 6, 32],
+    ["SHA3-224", 7, 28], ["SHA3-256", 8, 32], ["SHA3-384", 9, 48], ["SHA3-512", 10, 64],
+    ["SHAKE128", 11, 32], ["SHAKE256", 12, 64],
+];
+
+const atMostBytes = (most) => () => `at most ${most} are allowed`;
+
+/** The array to which a status belongs, and which lengths it may have, where that is known. */
 const ABOUT = {
-    4: ["context", LONGEST_CONTEXT],
-    6: ["context", LONGEST_CONTEXT],
+    4: ["context", atMostBytes(LONGEST_CONTEXT)],
+    6: ["context", atMostBytes(LONGEST_CONTEXT)],
     7: ["oid"],
     8: ["oid"],
-    9: ["digest", 1024],
-    10: ["digest"],
+    9: ["digest", atMostBytes(1024)],
+    // The library answers this for FUNCTIONS alone.
+    10: ["digest", ({ oid }) => `not ${FUNCTIONS.find(([, arc]) => arc === oid[oid.length - 1])[2]}`],
 };
 
 const UNSUPPORTED =
@@ -83,7 +94,7 @@ export function isSupported() {
     return typeof WebAssembly === "object" && typeof BigInt === "function" && WebAssembly.validate(PROBE);
 }
 
-/** The object identifiers of NIST's hash functions but for their last byte: 2.16.840.1.101.3.4.2. */
+/** The object identifiers of FUNCTIONS but for their last byte: 2.16.840.1.101.3.4.2. */
 const HASHES = [0x06, 0x09, 0x60, 0x86, 0x48, 0x01, 0x65, 0x03, 0x04, 0x02];
 
 /** Object identifiers of hash functions in DER, as `hashSign` and `hashVerify` take them: each time a new array. */
@@ -91,10 +102,7 @@ export const oids = Object.freeze(
     Object.defineProperties(
         {},
         Object.fromEntries(
-            [
-                ["SHA-224", 4], ["SHA-256", 1], ["SHA-384", 2], ["SHA-512", 3], ["SHA-512/224", 5], ["SHA-512/256", 6],
-                ["SHA3-224", 7], ["SHA3-256", 8], ["SHA3-384", 9], ["SHA3-512", 10], ["SHAKE128", 11], ["SHAKE256", 12],
-            ].map(([name, arc]) => [name, { enumerable: true, get: () => Uint8Array.of(...HASHES, arc) }]),
+            FUNCTIONS.map(([name, arc]) => [name, { enumerable: true, get: () => Uint8Array.of(...HASHES, arc) }]),
         ),
     ),
 );
@@ -159,25 +167,16 @@ class Library {
 }
 
 const NOTHING = new Uint8Array(0);
-const tagOf = Object.getOwnPropertyDescriptor(Object.getPrototypeOf(Uint8Array.prototype), Symbol.toStringTag).get;
 
-/** The array, if it is one of bytes, of this realm or another, and has its length where it is to have one. */
+/** The array, if it is one of bytes, and has its length where it is to have one. */
 function bytes(name, value, length = value?.length) {
-    if (tagOf.call(value) !== "Uint8Array") {
+    if (!isBytes(value)) {
         throw new TypeError(`${name} is not a Uint8Array`);
     }
     if (value.length !== length) {
         throw new MlDsaError(WRONG_LENGTH, `${name} has ${value.length} bytes, and not ${length}`);
     }
     return value;
-}
-
-/** Refuses more arguments than a call takes. */
-function atMost(call, words, count) {
-    if (words.length > count) {
-        const most = `${count} argument${count === 1 ? "" : "s"}`;
-        throw new TypeError(`${call} takes at most ${most}, and was given ${words.length}`);
-    }
 }
 
 /** Whether a value is an object as `{}` makes it, in this realm or another. */
@@ -214,9 +213,9 @@ function done([status, ...written], named = {}) {
     if (status === DONE) {
         return written;
     }
-    const [name, most] = ABOUT[status] ?? [];
-    const limit = most === undefined ? "" : `, and at most ${most} are allowed`;
-    throw new MlDsaError(status, named[name] && `${name} has ${named[name].length} bytes${limit}`);
+    const [name, allowed] = ABOUT[status] ?? [];
+    const limit = () => (allowed === undefined ? "" : `, and ${allowed(named)}`);
+    throw new MlDsaError(status, named[name] && `${name} has ${named[name].length} bytes${limit()}`);
 }
 
 /** The result of a question. */

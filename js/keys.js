@@ -1,7 +1,7 @@
 // Keys in files, as `mlsign` and OpenSSL write them: PEM in the strict form of RFC 7468, around the DER that the library
 // reads and writes (RFC 9881). What is read has one spelling: another text, however near, is refused, and by the
-// sentences of `mlsign`.
-import { webCrypto } from "./engine.js";
+// sentences of `mlsign` but where what was found is named.
+import { atMost, isBytes, webCrypto } from "./engine.js";
 
 const PUBLIC = "PUBLIC KEY";
 const PRIVATE = "PRIVATE KEY";
@@ -9,12 +9,39 @@ const LINE = 64;
 /** Statuses of c/mldsa.h: a key of another set, and a private key without a seed. */
 const OTHER_SET = 24;
 const NO_SEED = 26;
+const NUMBERS = [44, 65, 87];
+/** What reads the DER of each kind. */
+const BY_DER = { [PUBLIC]: "publicKeyFromDer", [PRIVATE]: "privateKeyFromDer or seedFromDer" };
 
 /** Why a file is no key. `message` is a sentence about "it", the file. */
 export class KeyFileError extends Error {
     constructor(message) {
         super(message);
         this.name = "KeyFileError";
+    }
+}
+
+/** Refuses other arguments than what `load` gives, and a file. */
+function checkReading(call, words) {
+    const [sets, file] = words;
+    atMost(call, words, 2);
+    if (!NUMBERS.every((it) => sets?.[`mlDsa${it}`]?.name === `ML-DSA-${it}`)) {
+        throw new TypeError("sets is not what load gives: await load()");
+    }
+    if (typeof file !== "string" && !isBytes(file)) {
+        throw new TypeError("file is neither a Uint8Array nor a string");
+    }
+}
+
+/** Refuses other arguments than a parameter set, and a key. */
+function checkWriting(call, words, name) {
+    const [mlDsa, key] = words;
+    atMost(call, words, 2);
+    if (!NUMBERS.some((it) => mlDsa?.name === `ML-DSA-${it}`)) {
+        throw new TypeError("mlDsa is not a parameter set, as mlDsa65");
+    }
+    if (!isBytes(key)) {
+        throw new TypeError(`${name} is not a Uint8Array`);
     }
 }
 
@@ -26,13 +53,22 @@ function refuse(message) {
 const CUT = "it is cut short";
 const DAMAGED = "its text is damaged";
 
+/** Why a text that begins as PEM does is not of this kind. */
+function otherKind(text, label) {
+    const found = text.match(/^-----BEGIN ([A-Z][A-Z0-9 ]{0,39})-----/)?.[1];
+    const a = (name) => `${/^[AEIORX]/.test(name) ? "an" : "a"} ${name}`;
+    return found
+        ? `it has ${a(found)}, and not ${a(label)}`
+        : "it has a key of another kind, or something else than a key";
+}
+
 /** The lines of a PEM text between its first and its last one, joined. */
 function symbolsOf(text, label) {
     const [begin, end] = [`-----BEGIN ${label}-----`, `-----END ${label}-----`];
     if (!text.startsWith(begin)) {
         refuse(
             begin.startsWith(text) ? CUT
-            : text.startsWith("-----BEGIN ") ? "it has a key of another kind, or something else than a key"
+            : text.startsWith("-----BEGIN ") ? otherKind(text, label)
             : "it is not in PEM: no line -----BEGIN comes first",
         );
     }
@@ -65,8 +101,19 @@ function decoded(symbols) {
     return Uint8Array.from(binary, (character) => character.charCodeAt(0));
 }
 
+/** Whether bytes begin as the DER of a key does: a sequence, longer than 127 bytes or of all of them. */
+function isDer(bytes) {
+    return bytes[0] === 0x30 && ([129, 130].includes(bytes[1]) || bytes[1] === bytes.length - 2);
+}
+
 /** The DER in a file: its bytes or its text. */
 function derOf(file, label) {
+    if (file.length === 0) {
+        refuse("it is empty");
+    }
+    if (isDer(file)) {
+        refuse(`it seems to be DER: ${BY_DER[label]} of a set reads it`);
+    }
     const text = () => Array.from(file, (byte) => String.fromCharCode(byte)).join("");
     return decoded(symbolsOf(typeof file === "string" ? file : text(), label));
 }
@@ -80,7 +127,7 @@ function pemOf(der, label) {
 
 /** What a call reads of DER, at the set whose key it is: the set's number and the bytes. */
 function readBy(sets, call, der) {
-    for (const set of [44, 65, 87]) {
+    for (const set of NUMBERS) {
         try {
             return [set, sets[`mlDsa${set}`][call](der)];
         } catch (error) {
@@ -101,12 +148,14 @@ function readBy(sets, call, der) {
 /** Reads a public key: the bytes of a PEM file, or its text. Gives the number of its set and the key's bytes, or throws
  * a `KeyFileError`. */
 export function readPublicKey(sets, file) {
+    checkReading("readPublicKey", arguments);
     const [set, publicKey] = readBy(sets, "publicKeyFromDer", derOf(file, PUBLIC));
     return { set, publicKey };
 }
 
 /** Reads a private key in the same way: its expanded key, its public key, and its seed where it has one. */
 export function readPrivateKey(sets, file) {
+    checkReading("readPrivateKey", arguments);
     const der = derOf(file, PRIVATE);
     const [set, seed] = readBy(sets, "seedFromDer", der);
     const mlDsa = sets[`mlDsa${set}`];
@@ -119,17 +168,29 @@ export function readPrivateKey(sets, file) {
 
 /** The text of a public key's file. */
 export function writePublicKey(mlDsa, publicKey) {
+    checkWriting("writePublicKey", arguments, "publicKey");
     return pemOf(mlDsa.publicKeyToDer(publicKey), PUBLIC);
 }
 
 /** The text of a private key's file, not encrypted: of its seed, or of its expanded key. */
 export function writePrivateKey(mlDsa, key) {
-    const isSeed = key.length === mlDsa.lengths.seed;
-    return pemOf(isSeed ? mlDsa.seedToDer(key) : mlDsa.privateKeyToDer(key), PRIVATE);
+    checkWriting("writePrivateKey", arguments, "key");
+    const { seed, privateKey } = mlDsa.lengths;
+    try {
+        return pemOf(key.length === seed ? mlDsa.seedToDer(key) : mlDsa.privateKeyToDer(key), PRIVATE);
+    } catch (error) {
+        if ([seed, privateKey].includes(key.length)) {
+            throw error;
+        }
+        // It has the class of errors of this set's library.
+        const detail = `key has ${key.length} bytes, and neither ${seed}, as a seed, nor ${privateKey}`;
+        throw new error.constructor(error.status, detail);
+    }
 }
 
 /** The fingerprint of a public key's file: SHA-256 of its DER, as `mlsign show` prints it. */
 export async function fingerprint(sets, file) {
+    checkReading("fingerprint", arguments);
     readPublicKey(sets, file);
     const subtle = (await webCrypto())?.subtle;
     if (!subtle) {

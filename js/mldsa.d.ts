@@ -108,7 +108,7 @@ export interface MlDsa {
      * the functions in `oids` a digest has its length, 32 bytes for SHAKE128 and 64 for SHAKE256; of others at most
      * 1,024 bytes.
      * @example
-     * const signature = mlDsa65.hashSign(privateKey, digest, oids["SHA-256"], { context });
+     * const signature = mlDsa65.hashSign(privateKey, digest, oids["SHA-384"], { context });
      * @throws `MlDsaError` 6 if the context has more than 255 bytes, 7 or 8 if `oid` is empty or not DER, 9 or 10 if
      * the digest is too long or has another length, 14 if the bytes are no private key, 13 or 15; `Error` as of `sign`.
      */
@@ -117,8 +117,8 @@ export interface MlDsa {
      * Whether the public key accepts the signature of the digest under the context (Algorithm 5): false too where
      * `hashSign` would throw for the digest, `oid` or the context.
      * @example
-     * const own = mlDsa65.hashSign(privateKey, digest, oids["SHA-256"]);
-     * mlDsa65.hashVerify(publicKey, digest, oids["SHA-256"], own); // true
+     * const own = mlDsa65.hashSign(privateKey, digest, oids["SHA-384"]);
+     * mlDsa65.hashVerify(publicKey, digest, oids["SHA-384"], own); // true
      */
     hashVerify(
         publicKey: Uint8Array, digest: Uint8Array, oid: Uint8Array, signature: Uint8Array, options?: Context,

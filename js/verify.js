@@ -49,7 +49,8 @@ async function keyOf(sets, file) {
         return [{ ...key, mark: await fingerprint(sets, content).catch((error) => `not known, since ${error.message}`) }, ""];
     } catch (error) {
         if (error instanceof KeyFileError) {
-            return [null, error.message];
+            // What reads DER is not on this page.
+            return [null, error.message.replace(/ DER: .*/, " DER, and not PEM")];
         }
         throw error;
     }

@@ -264,8 +264,7 @@ def npm(facts, folder, provenance):
     tree.put("package.json", json.dumps(described | facts.links(), indent=2, ensure_ascii=False) + "\n")
     for name in described["files"]:
         tree.take(name, folder / name)
-    # Its code begins with the module beside it, and not in the folder in which js/build makes it.
-    tree.put("README.md", text("js/README.md").replace('"./out/mldsa.js"', f'"{described["name"]}"'))
+    tree.take("README.md", TOP / "js/README.md")
     tree.take("LICENSE", TOP / "LICENSE")
     tree.put("PROVENANCE", provenance)
     return f"{described['name']}-{described['version']}", tree

@@ -464,8 +464,7 @@ class Tries(unittest.TestCase):
             shutil.copytree(room.dist, folder)
             if place:
                 code = folder / "the-code"
-                said = re.search(r"^```\w+\n(.*?)^```$", page, re.M | re.S)[1].replace("./out/mldsa.js", "mldsa")
-                code.write_text(said, encoding="utf-8")
+                code.write_text(re.search(r"^```\w+\n(.*?)^```$", page, re.M | re.S)[1], encoding="utf-8")
                 lines.insert(-1, f"cp {code} {place}")
             # pip asks no registry, and puts the package into the folder that is HOME here.
             more = {"PIP_NO_INDEX": "1", "PIP_USER": "1", "PIP_BREAK_SYSTEM_PACKAGES": "1"}

@@ -164,7 +164,7 @@ test("what signing refuses otherwise", () => {
         assert.throws(() => set.hashSign(privateKey, digest, new Uint8Array(0)), refused(7, "oid has 0 bytes"));
         assert.throws(() => set.hashSign(privateKey, digest, oid.subarray(1)), refused(8, "oid has 10 bytes"));
         assert.throws(() => set.hashSign(privateKey, new Uint8Array(1025), new Uint8Array([6, 1, 42])), refused(9, "digest has 1025 bytes, and at most 1024 are allowed"));
-        assert.throws(() => set.hashSign(privateKey, digest.subarray(1), oid), refused(10, "digest has 31 bytes"));
+        assert.throws(() => set.hashSign(privateKey, digest.subarray(1), oid), refused(10, "digest has 31 bytes, and not 32"));
         const damaged = privateKey.slice();
         damaged[128] = 255; // a coefficient of s1 above eta
         assert.throws(() => set.sign(damaged, digest), refused(14));
@@ -319,7 +319,7 @@ test("digests of each hash function", () => {
         assert.equal(set.hashVerify(publicKey, digest, oids[name], signature, { context: utf8(name) }), true);
         assert.equal(set.hashVerify(publicKey, digest, oids[name], signature), false);
         assert.equal(set.verify(publicKey, digest, signature, { context: utf8(name) }), false);
-        assert.throws(() => set.hashSign(privateKey, new Uint8Array(size + 1), oids[name]), refused(10, `digest has ${size + 1} bytes`));
+        assert.throws(() => set.hashSign(privateKey, new Uint8Array(size + 1), oids[name]), refused(10, `digest has ${size + 1} bytes, and not ${size}`));
         // M' of FIPS 204, Algorithm 4.
         const tr = shake("shake256", publicKey, 64);
         const mu = shake("shake256", Buffer.concat([tr, Buffer.from([1, name.length]), utf8(name), oids[name], digest]), 64);

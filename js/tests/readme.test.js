@@ -1,12 +1,14 @@
 // The example of the README, and those at each call in the types.
 import assert from "node:assert/strict";
+import { createHash } from "node:crypto";
 import test from "node:test";
 import * as keys from "../out/keys.js";
 import * as all from "../out/mldsa.js";
-import { ofOpenssl, sha256, text, utf8, hex } from "./shared.js";
+import { ofOpenssl, text, utf8 } from "./shared.js";
 
 test("the example is a file, and prints that the signature is valid", async (t) => {
-    assert.equal(text("js/README.md").match(/^```js\n(.*?)^```$/ms)[1], text("js/example.js"));
+    const shown = text("js/README.md").match(/^```js\n(.*?)^```$/ms)[1];
+    assert.equal(shown.replace('"mldsa"', '"./out/mldsa.js"'), text("js/example.js"));
     const printed = t.mock.method(console, "log", () => {});
     await import("../example.js");
     assert.deepEqual(printed.mock.calls.map((call) => call.arguments), [[true]]);
@@ -21,11 +23,22 @@ function examples(name) {
     });
 }
 
+test("examples sign digests that are as strong as their set", () => {
+    const strong = { 44: /256|384|512/, 65: /384|512/, 87: /512/ };
+    const pages = ["js/mldsa.d.ts", "js/README.md"].map(text).join("\n");
+    const lines = pages.split("\n").filter((line) => /hash(Sign|Verify)\b.*oids\["/.test(line));
+    assert.equal(lines.length, 4);
+    for (const line of lines) {
+        assert.match(line.match(/oids\["(.*?)"\]/)[1], strong[line.match(/mlDsa(\d\d)/)?.[1] ?? 65], line);
+    }
+});
+
 test("each call in the types has an example, which runs", async () => {
     const sets = await all.load();
     const { mlDsa65 } = sets;
     const pair = mlDsa65.keygen();
-    const [message, context, digest] = [utf8("a message"), utf8("a context"), hex(sha256(utf8("a message")))];
+    const [message, context] = [utf8("a message"), utf8("a context")];
+    const digest = new Uint8Array(createHash("sha384").update(message).digest());
     const signature = mlDsa65.sign(pair.privateKey, message, { context });
     const names = { assert, ...all, ...keys, sets, mlDsa65, ...pair, message, context, digest, signature, text: ofOpenssl(65).pem };
     const found = [...examples("js/mldsa.d.ts"), ...examples("js/keys.d.ts")];

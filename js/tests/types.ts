@@ -14,6 +14,7 @@ export async function uses(bytes: Uint8Array, source: Source): Promise<boolean> 
     const mark: string = await fingerprint(loaded, writePublicKey(mlDsa44, pair.publicKey));
     const { set, publicKey } = readPublicKey(loaded, bytes);
     const which: 44 | 65 | 87 = set;
+    const own: MlDsa = loaded[`mlDsa${set}`];
     const { seed } = readPrivateKey(loaded, writePrivateKey(mlDsa44, pair.privateKey));
     const again: Uint8Array = seed ?? publicKey;
     const error: Error = new KeyFileError(mark);
@@ -32,8 +33,16 @@ export async function uses(bytes: Uint8Array, source: Source): Promise<boolean> 
     oids["SHA-1"];
     // @ts-expect-error: it is read only
     oids["SHA-256"] = bytes;
+    // @ts-expect-error: no promise of the sets
+    readPublicKey(load(), bytes);
+    // @ts-expect-error: not one set
+    readPrivateKey(mlDsa44, bytes);
+    // @ts-expect-error: not all sets
+    writePublicKey(loaded, bytes);
+    // @ts-expect-error: no buffer
+    readPublicKey(loaded, new ArrayBuffer(5));
     // @ts-expect-error: no number is a place
     await load(5);
 
-    return isSupported() && error instanceof MlDsaError && mlDsa44.verifyMu(publicKey, hasher.mu(), signature);
+    return isSupported() && error instanceof MlDsaError && own.verifyMu(publicKey, hasher.mu(), signature);
 }
