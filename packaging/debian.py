@@ -53,7 +53,10 @@ def packages(facts, library, shared, program, provenance):
         tree.put(f"usr/share/doc/{name}/copyright", copyright_text())
         tree.put(f"usr/share/doc/{name}/changelog.Debian.gz", pack.gzipped(changes.encode()))
         for page, place in (("CHANGELOG.md", "changelog"), ("README.md", "README.md"), ("SECURITY.md", "SECURITY.md")):
-            tree.put(f"usr/share/doc/{name}/{place}.gz", pack.gzipped(contents.page(facts, page).encode()))
+            # These two pages have other names here.
+            said = contents.page(facts, page).replace("](CHANGELOG.md)", "](changelog.gz)")
+            said = said.replace("](LICENSE)", "](copyright)")
+            tree.put(f"usr/share/doc/{name}/{place}.gz", pack.gzipped(said.encode()))
         tree.put(f"usr/share/doc/{name}/PROVENANCE", provenance)
         lines = {
             "Package": name, "Source": "mldsa", "Version": version, "Architecture": "amd64",
