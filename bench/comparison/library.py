@@ -220,8 +220,9 @@ def costs(folder, room, runs, cpu, write):
     program = f"{place}/target/release/costs"
     version = openssl()[0]
     other = f"{version} through Python, with random bytes of its own" if version else "no OpenSSL, or one before 3.5"
-    lines = ["`bench/against-rust FOLDER --calls`: `rust/fips204` beside the original fips204 0.5.0 over `sha3`, the "
-             f"least of three medians of {runs} calls in turns; {other}. {' '.join(machine(cpu))}", ""]
+    how = ("`bench/against-rust FOLDER --calls`: `rust/fips204` beside the original fips204 0.5.0 over `sha3`, the "
+           f"least of three medians of {runs} calls in turns" if counted else "As above")
+    lines = [f"{how}; {other}. {' '.join(machine(cpu))}", ""]
     head = ["set", "call", "microseconds: original", "ours", "ours / original", "OpenSSL"]
     head += ["millions of instructions: original", "ours", "ours / original"] if counted else []
     lines += [f"| {' | '.join(head)} |", "|---" * len(head) + "|"]
