@@ -1,12 +1,13 @@
 -- What was read of DER, and what is done with it.
 use Rattle.std.proofs.Common.{◌≡◌, ℕ, List, length, Result, Ok, Err, refl, subst}
 use Rattle.fips204.specs.declared.sets.SetName.{SetName}
-use Rattle.fips204_der.specs.Keys.{PrivateParts, private_parts, IsPrivateFile}
+use Rattle.fips204_der.specs.Keys.{PrivateParts, Seed, private_parts, private_length, private_file_length, public_length, public_file_length, IsPublicFile, IsPrivateFile}
 use Rattle.fips204_der.specs.Reading.{private_at}
 use Rattle.fips204_der.specs.declared.fault.DerFault.{DerFault}
 use Rattle.fips204_der.specs.declared.keys.PrivateKey.{PrivateKey}
 use Rattle.fips204_der.proofs.KeyFiles.{private_of_file}
-use Rattle.mldsa_c.specs.Der.{Reads, IsKey, FromPrivateDer}
+use Rattle.mldsa_c.specs.Der.{Reads, IsKey, FromPrivateDer, PublicKeyToDer, SeedToDer}
+use Rattle.mldsa_c.proofs.ByStatus.{sized}
 
 -- what holds of a key that is read, or of a status
 reads_as : (read : Result (SetName × PrivateParts) DerFault) (set : SetName) (P Q : PrivateParts → Type 0) (S T : ℕ → Type 0)
@@ -53,3 +54,12 @@ of_status set wanted der old read status writes keeps size is kept told =
     let read_as : Reads (private_at der) set (λ parts. IsKey (ErrKey status) parts) (λ why. ErrKey status ≡ Err why) = rw is at told in
     from_file set wanted der old writes keeps size (reads_as (private_at der) set (λ parts. IsKey (ErrKey status) parts) writes (λ why. ErrKey status ≡ Err why) keeps
     (λ parts none. absurd none) (λ why e. subst keeps (one_status status why e) kept) read_as)
+
+-- what was written is a file
+pub public_file : (set : SetName) (key none der : List ℕ) → PublicKeyToDer set key none der 0 → IsPublicFile der set key
+public_file set key none der writes =
+    (sized (public_file_length set) none (sized (public_length set) key writes (λ (_, two). absurd cc)) (λ (_, two). absurd cc)).0
+
+pub seed_file : (set : SetName) (seed none der : List ℕ) → SeedToDer set seed none der 0 → IsPrivateFile der set (Seed seed)
+seed_file set seed none der writes =
+    (sized (private_file_length (private_length set) (Seed seed)) none (sized 32 seed writes (λ (_, two). absurd cc)) (λ (_, two). absurd cc)).0

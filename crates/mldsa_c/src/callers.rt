@@ -7,12 +7,15 @@ ghost use Rattle.fips204.specs.Framing.{Input, plain, pre_hash_fault, representa
 ghost use Rattle.fips204.specs.ParameterSets.{ParameterSet, IsSet, public_key_length, private_key_length};
 ghost use Rattle.fips204.specs.Refusals.{input_fault};
 ghost use Rattle.fips204.specs.SchemeLaws.{AreFramedAlike, NamesCollision, NamesHashCollision, NamesKeyCollision, has_context};
+ghost use Rattle.fips204.specs.declared.sets.SetName.{SetName};
 ghost use Rattle.fips204_base.specs.declared.fault.Fault.TheVariants.{DigestLength};
 ghost use Rattle.fips204_bytes.specs.Binding.{OfKey};
 ghost use Rattle.fips204_bytes.specs.Mu.{tr_of_private, tr_of_public};
+ghost use Rattle.fips204_der.specs.Keys.{public_length};
 ghost use Rattle.fips204_shake.specs.Fronts.{shake256_front, shake128_front};
 ghost use Rattle.fips204_shake.specs.Pieces.{HashesSaved};
 ghost use Rattle.mldsa_c.specs.Calls.{KeygenAnswers, SignAnswers, VerifyAnswers, SignMuAnswers, VerifyMuAnswers, PublicKeyAnswers, CheckPrivateKeyAnswers, IsWholeAnswers, IsPairAnswers, CheckPreHashAnswers, ArePair};
+ghost use Rattle.mldsa_c.specs.Der.{PublicKeyToDer, PublicKeyFromDer, SeedToDer, SeedFromDer, Has};
 ghost use Rattle.mldsa_c.specs.Pieces.{Begins, Updates, Finishes, Takes};
 ghost use Rattle.mldsa_c.specs.Prepared.{PreparePublicKeyAnswers, PreparePrivateKeyAnswers, VerifyPreparedAnswers, VerifyMuPreparedAnswers, SignPreparedAnswers, SignMuPreparedAnswers};
 
@@ -99,4 +102,13 @@ pub fn arrays_after_errors()
         → ((status ≡ 0) ↔ (pre_hash_fault digest oid ≡ None)) × (pre_hash_fault digest oid ≡ Some DigestLength → status ≡ 10) }
 {
     laws::errors_leave_arrays();
+}
+
+/// A key that was written in DER is read again: a public key, and a seed.
+pub fn written_keys_are_read()
+    ensures public { (set : SetName) (key none der old new : List ℕ) (status : ℕ) → PublicKeyToDer set key none der 0
+        → length old ≡ public_length set → PublicKeyFromDer set der old new status → Has new status key }
+    ensures seed { (set : SetName) (seed none der old new : List ℕ) (status : ℕ) → SeedToDer set seed none der 0 → length old ≡ 32
+        → SeedFromDer set der old new status → Has new status seed }
+{
 }
