@@ -32,7 +32,7 @@ use std::io::{self, IsTerminal, Stdin};
 use std::random::RandomSource;
 
 /// A message that is read.
-type Message<'a> = Progress<'a, Either<File, Stdin>>;
+pub(crate) type Message<'a> = Progress<'a, Either<File, Stdin>>;
 
 /// Random bytes of the system.
 fn random(rt: &HostRuntime) -> Result<[u8; 32], Error> {
@@ -88,12 +88,9 @@ pub(crate) fn public(rt: &HostRuntime, words: &ArgMatches<'_>) -> Result<(), Err
     Ok(())
 }
 
-/// Whether the call has more than one message.
-pub(crate) fn has_several(words: &ArgMatches<'_>) -> bool {
-    match words.get_strs("message") {
-        Some(messages) => messages.len() > 1,
-        None => false,
-    }
+/// Whether the call has more than one word with this name.
+pub(crate) fn has_several(words: &ArgMatches<'_>, name: &str) -> bool {
+    words.get_strs(name).is_some_and(|found| found.len() > 1)
 }
 
 /// Opens a message: a file, or standard input under the name `-`. A bar is shown if standard error is a terminal, unless the call
@@ -151,7 +148,7 @@ pub(crate) fn signature_path(
     message: &str,
 ) -> Result<String, Error> {
     let path = match words.get_str(name) {
-        Some(_) if has_several(words) => bail!("--{name} is for one message"),
+        Some(_) if has_several(words, "message") => bail!("--{name} is for one message"),
         Some(path) => String::from_str(alloc, path),
         None if message == STANDARD => bail!(
             "--{name} has to name the signature of standard input"

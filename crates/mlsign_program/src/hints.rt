@@ -6,6 +6,9 @@ use mlsign_files::pem::Kind;
 
 /// What a file seems to be that has no key of this kind in this form, or of either, and what to do about it.
 pub(crate) fn hint(file: &[u8], form: Form, wanted: Option<Kind>) -> Option<&'static str> {
+    if file.is_empty() {
+        return Some("it is empty");
+    }
     if form != Form::Pem && file.starts_with(b"-----BEGIN ") {
         return Some("it seems to be PEM, which is read if the call does not say another form");
     }

@@ -8,7 +8,7 @@ ghost use Rattle.mlsign_engine.specs.Messages.{GivesAll};
 ghost use Rattle.mlsign_program.specs.Outputs.{context_of};
 
 use crate::commands::{
-    check_apart, context, fingerprint_of, has_several, name_of, open, signature_path,
+    Message, check_apart, context, fingerprint_of, has_several, name_of, open, signature_path,
 };
 use crate::files::{metadata, read_start};
 use crate::keyfile::KeyFile;
@@ -16,6 +16,7 @@ use crate::process::line_of;
 use crate::sums::verify_sums;
 use crate::text::printable;
 use anyhow::{Context, Error, bail};
+use base64::engine::general_purpose::STANDARD_NO_PAD;
 use clap::ArgMatches;
 use fips204::SetName;
 use mlsign_engine::{CommandFault, Reader, Source};
@@ -86,7 +87,7 @@ impl Ends {
     pub(crate) fn worst(&self) -> Result<bool, Error> {
         if self.failed > 0 {
             let (failed, all) = (self.failed, self.all);
-            bail!("{failed} of {all} could not be verified");
+            bail!("{failed} of {all} files could not be checked");
         }
         Ok(self.invalid == 0)
     }
@@ -122,6 +123,7 @@ fn keys_of<'a>(
     words: &ArgMatches<'a>,
     messages: &[&str],
 ) -> Result<Vec<VerifyingKey<'a>>, Error> {
+    let wanted = fingerprint(words)?;
     let paths = words.get_strs("public").context("a word is missing")?;
     let mut keys = Vec::new(rt.alloc());
     for (place, path) in paths.iter().enumerate() {
@@ -130,18 +132,30 @@ fn keys_of<'a>(
         }
         check_key_apart(rt, words, path, messages)?;
         let key = key_of(rt, words, path)?;
-        if words
-            .get_str("fingerprint")
-            .is_none_or(|wanted| key.fingerprint.as_str() == wanted)
-        {
+        if wanted.is_none_or(|wanted| key.fingerprint.as_str() == wanted) {
             keys.push(key).map_err(io::Error::from)?;
         }
     }
     if keys.is_empty() {
-        let wanted = words.get_str("fingerprint").unwrap_or("");
+        let wanted = wanted.unwrap_or("");
         bail!("{wanted}: no public key of this call has this fingerprint");
     }
     Ok(keys)
+}
+
+/// The fingerprint that the words say, if they say one.
+fn fingerprint<'a>(words: &ArgMatches<'a>) -> Result<Option<&'a str>, Error> {
+    let Some(text) = words.get_str("fingerprint") else {
+        return Ok(None);
+    };
+    let digest = text.strip_prefix("SHA256:").unwrap_or("");
+    match STANDARD_NO_PAD.decode_slice(digest.as_bytes(), &mut [0; 32]) {
+        Ok(32) => Ok(Some(text)),
+        // (behind a long text there is no room for the rest of a message)
+        _ => Err(Error::msg("it is no fingerprint, which is SHA256: and 43 characters").context(
+            text,
+        )),
+    }
 }
 
 /// The public key in this file.
@@ -197,22 +211,10 @@ pub(crate) fn tell_keys(
             continue;
         }
         let fingerprint = key.fingerprint.as_str();
-        if has_several_keys(words) {
-            let path = printable(rt.alloc(), key.path).map_err(io::Error::from)?;
-            println!(rt; "key: {fingerprint} {path}").context("standard output")?;
-        } else {
-            println!(rt; "key: {fingerprint}").context("standard output")?;
-        }
+        let path = named(rt.alloc(), has_several(words, "public"), " ", key.path, "")?;
+        println!(rt; "key: {fingerprint}{path}").context("standard output")?;
     }
     Ok(())
-}
-
-/// Whether a call has more than one public key.
-fn has_several_keys(words: &ArgMatches<'_>) -> bool {
-    match words.get_strs("public") {
-        Some(keys) => keys.len() > 1,
-        None => false,
-    }
 }
 
 /// Whether one of the keys accepts the signature of a message, which is noted in it, and said.
@@ -227,9 +229,10 @@ fn verify_message(
     if keys.len() > 1 && !metadata(rt, message).context(message)?.is_file() {
         bail!("{message}: it can be read only once, so it is verified by one public key");
     }
-    let shown = has_several(words);
+    let shown = has_several(words, "message");
     for key in keys.iter_mut() {
-        if accepts(rt, words, key, signature, message)? {
+        let mut input = Reader::new(open(rt, words, message)?);
+        if accepts(words, key, signature, &mut input, message)? {
             key.accept();
             say_valid(rt, words, key, message, shown)?;
             return Ok(true);
@@ -250,19 +253,19 @@ pub(crate) fn read_signature(
     read_start(rt, path.as_str())
 }
 
-/// Whether a key accepts these bytes as the signature of a message.
+/// Whether a key accepts these bytes as the signature of the message with this name, which is read.
 fn accepts(
-    rt: &HostRuntime,
     words: &ArgMatches<'_>,
     key: &VerifyingKey<'_>,
     signature: &[u8],
+    input: &mut Reader<Message<'_>>,
     message: &str,
 ) -> Result<bool, Error>
-    ensures judged { IfOk result (λ valid. (bytes : List ℕ)
-        × Judges key.now.key signature.now (context_of words.now) bytes valid) }
+    ensures judged { IfOk result (λ valid. (given : List ℕ)
+        × GivesAll ⟦<Reader<Message<'static>> as Source>⟧.gives ⟦<Reader<Message<'static>> as Source>⟧.remaining input.old input.new given
+        × Judges key.now.key signature.now (context_of words.now) given valid) }
 {
-    let mut input = Reader::new(open(rt, words, message)?);
-    match verify_input(words, &key.key, signature, &mut input) {
+    match verify_input(words, &key.key, signature, input) {
         Err(CommandFault::Message) => Err(input.reader.fault(message)),
         valid => key.file.name(valid),
     }
@@ -274,7 +277,9 @@ pub(crate) fn accepts_list(
     key: &VerifyingKey<'_>,
     signature: &[u8],
     list: &[u8],
-) -> Result<bool, Error> {
+) -> Result<bool, Error>
+    ensures judged { IfOk result (Judges key.now.key signature.now (context_of words.now) list.now) }
+{
     let mut input = Reader::new(list);
     key.file
         .name(verify_input(words, &key.key, signature, &mut input))
@@ -294,13 +299,13 @@ fn verify_input<I: Source>(
     mlsign_engine::verify(key, signature, context(words), input)
 }
 
-/// What stands before what is said of a message: its name, if there are others.
-fn front(alloc: Global, message: &str, shown: bool) -> Result<String, Error> {
+/// The name of a file between these texts, or nothing if it is not shown.
+fn named(alloc: Global, shown: bool, front: &str, name: &str, end: &str) -> Result<String, Error> {
     if !shown {
         return Ok(String::new(alloc));
     }
-    let message = printable(alloc, message).map_err(io::Error::from)?;
-    Ok(format!(in alloc; "{message}: ")?)
+    let name = printable(alloc, name).map_err(io::Error::from)?;
+    Ok(format!(in alloc; "{front}{name}{end}")?)
 }
 
 /// Says that a key accepts the signature of a message, whose name is shown if there are others.
@@ -314,12 +319,10 @@ pub(crate) fn say_valid(
     if words.get_flag("quiet") {
         return Ok(());
     }
-    let front = front(rt.alloc(), message, shown)?;
-    if has_several_keys(words) {
-        let path = printable(rt.alloc(), key.path).map_err(io::Error::from)?;
-        return println!(rt; "{front}valid, by {path}").context("standard output");
-    }
-    println!(rt; "{front}valid").context("standard output")
+    let front = named(rt.alloc(), shown, "", message, ": ")?;
+    let several = has_several(words, "public");
+    let by = named(rt.alloc(), several, ", by ", key.path, "")?;
+    println!(rt; "{front}valid{by}").context("standard output")
 }
 
 /// Says that no key accepts a signature of so many bytes, and what can be known of why.
@@ -330,7 +333,7 @@ pub(crate) fn say_invalid(
     shown: bool,
     size: usize,
 ) -> Result<(), Error> {
-    let front = front(rt.alloc(), message, shown)?;
+    let front = named(rt.alloc(), shown, "", message, ": ")?;
     let _ = match keys {
         [key] if key.set.signature_len() != size => {
             let (wanted, set) = (key.set.signature_len(), name_of(key.set));
@@ -349,9 +352,10 @@ pub(crate) fn say_invalid(
     Ok(())
 }
 
-/// Which set's signatures have so many bytes.
+/// What else is known of a signature with so many bytes.
 fn other_set(size: usize) -> &'static str {
     match size {
+        0 => ": it is empty",
         2420 => ", but those of ML-DSA-44",
         3309 => ", but those of ML-DSA-65",
         4627 => ", but those of ML-DSA-87",

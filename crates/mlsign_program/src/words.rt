@@ -74,7 +74,7 @@ fn verify<'a>(alloc: Global) -> Result<Command<'a>, AllocError> {
         .arg(context(alloc))?
         .arg(arg!(in alloc; -s --signature <FILE> "The signature, if not MESSAGE.sig"))?
         .arg(sums)?
-        .arg(missing)?
+        .arg(missing.requires_arg("sums")?)?
         .arg(quiet(alloc))?
         .arg(messages(alloc))
 }
