@@ -110,5 +110,4 @@ pub fn written_keys_are_read()
         → length old ≡ public_length set → PublicKeyFromDer set der old new status → Has new status key }
     ensures seed { (set : SetName) (seed none der old new : List ℕ) (status : ℕ) → SeedToDer set seed none der 0 → length old ≡ 32
         → SeedFromDer set der old new status → Has new status seed }
-{
-}
+{}
